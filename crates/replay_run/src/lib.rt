@@ -1,0 +1,5 @@
+//! The replay of a record.
+#![tactic(auto)]
+
+mod buffer;
+mod stored;
