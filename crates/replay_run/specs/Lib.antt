@@ -1,2 +1,5 @@
 pub mod Kept
 pub mod Buffers
+pub mod Turns
+pub mod Stands
+pub mod Reported

@@ -26,8 +26,7 @@ impl Model for EntryBuffer {
 }
 
 impl EntryBuffer {
-    ghost use Rattle.std.specs.Prelude.{◌≡◌, ◌≤◌, ◌<◌, ◌+◌, ◌-◌, [], length, slice_get, OnOk, OnErr};
-    ghost use Rattle.std.specs.Option.{option_copied};
+    ghost use Rattle.std.specs.Prelude.{◌≡◌, ◌≤◌, ◌<◌, ◌+◌, ◌-◌, [], length, slice_get, Some, OnOk, OnErr};
     ghost use Rattle.replay_run.specs.Buffers.{after_entry, after_purge};
 
     /// An empty buffer of a capacity in octets.
@@ -91,11 +90,12 @@ impl EntryBuffer {
         self.newest
     }
 
-    /// An entry by its number; none exactly where it isn't retained.
-    pub fn entry(&self, number: u64) -> Option<&Stored>
-        requires { self.now.front < number }
-        ensures { option_copied result ≡ slice_get self.now.entries (number - self.now.front - 1) }
+    /// A retained entry by its number.
+    pub fn entry(&self, number: u64) -> &Stored
+        requires above { self.now.front < number }
+        requires there { number ≤ self.now.newest }
+        ensures { slice_get self.now.entries (number - self.now.front - 1) ≡ Some result.now }
     {
-        self.stored.get((number - self.front - 1) as usize)
+        &self.stored[(number - self.front - 1) as usize]
     }
 }

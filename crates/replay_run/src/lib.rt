@@ -1,5 +1,8 @@
 //! The replay of a record.
 #![tactic(auto)]
 
+mod bay;
 mod buffer;
+mod data;
+mod reports;
 mod stored;

@@ -35,11 +35,11 @@ impl Model for Stored {
 }
 
 impl Stored {
-    ghost use Rattle.std.specs.Prelude.{◌≡◌, ◌≤◌, length};
+    ghost use Rattle.std.specs.Prelude.{◌≡◌, ◌≤◌, length, map};
     ghost use Rattle.std.specs.List.{All};
     ghost use Rattle.bay_model.specs.Retained.{size as size_of};
     ghost use Rattle.replay_run.specs.declared.stored.StoredMember.{StoredMember};
-    ghost use Rattle.replay_run.specs.Kept.{entry_by};
+    ghost use Rattle.replay_run.specs.Kept.{entry_by, kept_of};
 
     /// An entry with these members, which came to be at a step.
     pub fn new(moment: Moment, step: u64, members: Vec<StoredMember>) -> Stored
@@ -72,5 +72,12 @@ impl Stored {
         ensures { result ≡ self.now.moment }
     {
         self.moment
+    }
+
+    /// Its members, in the order of the data set.
+    pub fn members(&self) -> &[StoredMember]
+        ensures { map kept_of result.now ≡ self.now.members }
+    {
+        &self.members
     }
 }
