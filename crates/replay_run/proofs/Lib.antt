@@ -3,4 +3,7 @@ pub mod Shortest
 pub mod Selects
 pub mod Quiet
 pub mod Outcomes
+pub mod Buffered
 pub mod Steps
+pub mod Replies
+pub mod Takes

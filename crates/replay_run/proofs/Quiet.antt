@@ -37,6 +37,7 @@ holds-quiet b p past same kept holds = record {
   newest = holds.newest ∙ ap length (sym same);
   front = holds.front ∙ sym (front-quiet b.capacity p past same kept);
   entries = holds.entries ∙ ap (drop b.front) (sym same);
+  within = holds.within;
 }
 
 -- the moment of a step, before anything comes of it

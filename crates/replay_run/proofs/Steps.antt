@@ -1,18 +1,18 @@
 -- What the state stands for after one more step.
-use Rattle.std.proofs.Common.{◌≡◌, ◌∷◌, [], ◌++◌, ◌%◌, ◌^◌, ◌<◌, ◌≤◌, ℕ, suc, ◌+◌, max, min, List, Bool, true, false, not, length, drop, refl, arith, sym, ◌∙◌, ap, inl, inr, slice_index_or, slice_set, get_or-set_same, get_or-set_other}
+use Rattle.std.proofs.Common.{◌≡◌, ◌∷◌, [], ◌++◌, ◌%◌, ◌^◌, ◌<◌, ◌≤◌, ℕ, suc, ◌+◌, max, min, List, Bool, true, false, not, length, drop, refl, arith, sym, ◌∙◌, ap, inl, inr, slice_index_or, slice_set, get_or-set_same, get_or-set_other, subst}
 use Rattle.std.specs.Prelude.{Option, None, Some, is_some, is_none, nat_lt, ◌==◌, ◌||◌, if◌then◌else◌, ℤ, ◌&&◌}
 use Rattle.std.specs.Option.{option_map, option_map_or}
 use Rattle.std.specs.Ordering.{int_eq}
-use Rattle.std.proofs.lemmas.Bool.Decides.{eqb_tells}
+use Rattle.std.proofs.lemmas.Bool.Decides.{eqb_tells, Decides-int_eq}
 use Rattle.sv_base.specs.Data.{data_of}
 use Rattle.sv_base.specs.declared.value.Value.TheVariants as kinds
 use Rattle.sv_base.specs.declared.numbers.AssocNo.{AssocNo}
 use Rattle.bay_model.specs.declared.step.Comp.TheVariants.{RptEna, EntryID, PurgeBuf}
 use Rattle.bay_model.specs.Points.{Past, Point, Deed, opened, wrote, reported, lost, nothing, valued, now as now_at}
 use Rattle.bay_model.specs.Values.{value_at}
-use Rattle.bay_model.specs.Entries.{selected, appended, last_number}
+use Rattle.bay_model.specs.Entries.{Entry, selected, appended, last_number}
 use Rattle.bay_model.specs.Retained.{front as front_at, purged, least_dropped}
-use Rattle.bay_model.specs.Blocks.{enabler as enabler_at, sent as sent_at, entry_id}
+use Rattle.bay_model.specs.Blocks.{enabler as enabler_at, sent as sent_at, cursor as cursor_at, entry_id}
 use Rattle.bay_model.specs.Associations.{Ends, ends}
 use Rattle.bay_model.specs.Waiting.{waiting}
 use Rattle.bay_model.specs.Example.{example, block}
@@ -21,7 +21,8 @@ use Rattle.replay_run.specs.Stands.{StandsAt, IsPlain, Holds, ends_if}
 use Rattle.replay_run.specs.Reported.{power_entry, change_of_data}
 use Rattle.replay_run.specs.declared.bay.Core.{Core}
 use Rattle.replay_run.proofs.Quiet.{plain-quiet, holds-quiet, front-quiet, none_waits}
-use Rattle.replay_run.proofs.Selects.{selected-quiet, setting, note-same}
+use Rattle.replay_run.proofs.Selects.{selected-quiet, setting, note-same, note-other, selected-event, gathered-event}
+use Rattle.replay_run.proofs.Buffered.{holds-purged, holds-event}
 
 -- the flags of the associations after one is opened or lost
 ends_then : (flags : List Bool) (a k : ℕ) (on : Bool) (was : Option Ends) → a < length flags → was ≡ ends_if (slice_index_or flags k false) k
@@ -30,6 +31,13 @@ ends_then flags a k on was h s = elim (eqb_tells a k) [
   | inl t ↦ rw (t.0, ← t.1, get_or-set_same flags a on false h) refl
   | inr t ↦ rw (t.0, get_or-set_other flags a k on false (λ q. t.1 (sym q))) s
 ]
+
+-- two numbers that aren't equal
+pub int_eq-differ : (x y : ℤ) → (x ≡ y → ⊥) → int_eq x y ≡ false
+int_eq-differ x y n = decided (int_eq x y) (Decides-int_eq x y).0 where
+  decided : (b : Bool) → (b ≡ true → x ≡ y) → b ≡ false
+  decided true d = absurd (n (d refl))
+  decided false d = refl
 
 module _ (core : Core) (past : Past) (n m now : ℕ) (later : now ≡ max core.latest m) (s : StandsAt core n past) where
   abbrev pub at : Deed → Point
@@ -159,6 +167,68 @@ module _ (core : Core) (past : Past) (n m now : ℕ) (later : now ≡ max core.l
         plain = plain-quiet core.buffer.capacity p past s.plain refl refl refl refl s.plain.waiting;
         buffer = holds-quiet core.buffer p past (selected-quiet core.buffer.capacity p past s.plain refl refl) refl s.buffer;
         cursor = s.cursor;
+        sent = s.sent;
+        enabler = s.enabler;
+        opened = s.opened;
+      }
+
+  -- PurgeBuf TRUE
+  pub stands-purged : (a : ℕ) (b : Buffer) → b ≡ after_purge core.buffer → StandsAt (record core { steps = core.steps + 1; latest = now; buffer = b }) (suc n) (at (wrote a 0 PurgeBuf (kinds.Bool true)) ∷ past)
+  stands-purged a b is = rw is (
+    let p : Point = at (wrote a 0 PurgeBuf (kinds.Bool true)) in
+    let same = selected-quiet core.buffer.capacity p past s.plain refl refl in
+    record {
+      steps = omega (arith, s.steps);
+      latest = omega (arith, later, s.latest);
+      value = s.value;
+      plain = plain-quiet core.buffer.capacity p past s.plain refl refl refl refl s.plain.waiting;
+      buffer = holds-purged core.buffer p past same refl s.buffer;
+      cursor = s.cursor;
+      sent = s.sent;
+      enabler = s.enabler;
+      opened = s.opened;
+    })
+
+  -- the power is set to what it was
+  pub stands-set_same : (z : ℤ) → int_eq z core.value ≡ true → z ≡ core.value → StandsAt (record core { steps = core.steps + 1; latest = now }) (suc n) (setting m n z ∷ past)
+  stands-set_same z same is =
+      let none = note-same core.buffer.capacity m n core.value z past s.plain s.value same in
+      record {
+        steps = omega (arith, s.steps);
+        latest = omega (arith, later, s.latest);
+        value = ap kinds.Int is;
+        plain = plain-quiet core.buffer.capacity (setting m n z) past s.plain none refl refl refl s.plain.waiting;
+        buffer = holds-quiet core.buffer (setting m n z) past (selected-quiet core.buffer.capacity (setting m n z) past s.plain none refl) refl s.buffer;
+        cursor = s.cursor;
+        sent = s.sent;
+        enabler = s.enabler;
+        opened = s.opened;
+      }
+
+  -- the power is set to another value
+  pub stands-set_other : (z : ℤ) (e : Entry) (b : Buffer) → int_eq z core.value ≡ false → e ≡ power_entry now core.steps z → b ≡ after_entry core.buffer e → b.capacity ≡ core.buffer.capacity
+      → StandsAt (record core { steps = core.steps + 1; latest = now; value = z; buffer = b }) (suc n) (setting m n z ∷ past)
+  stands-set_other z e b other is new same =
+      let p : Point = setting m n z in
+      let note = note-other core.buffer.capacity m n core.value z past s.plain s.value other in
+      let time : now ≡ max m (now_at past) = omega (arith, later, s.latest) in
+      let entry : e ≡ record { moment = max m (now_at past); step = n; members = record { number = 3; reasons = change_of_data; octets = data_of (kinds.Int z) } ∷ [] } = is ∙ rw (time, s.steps) refl in
+      let brought = selected-event core.buffer.capacity p past s.plain (record { number = 3; reasons = change_of_data; octets = data_of (kinds.Int z) }) [] note refl in
+      let holds : Holds (after_entry core.buffer e) (p ∷ past) = holds-event core.buffer p past e (rw entry brought) refl s.buffer in
+      let plain : IsPlain core.buffer.capacity (p ∷ past) = record {
+        parameters = s.plain.parameters;
+        revision = s.plain.revision;
+        sets = s.plain.sets;
+        gathered = gathered-event core.buffer.capacity p past s.plain (record { number = 3; reasons = change_of_data; octets = data_of (kinds.Int z) }) [] note;
+        waiting = s.plain.waiting;
+      } in
+      record {
+        steps = omega (arith, s.steps);
+        latest = time;
+        value = refl;
+        plain = subst (λ k. IsPlain k (p ∷ past)) (sym same) plain;
+        buffer = subst (λ k. Holds k (p ∷ past)) (sym new) holds;
+        cursor = subst (λ k. core.cursor ≡ cursor_at (example k) 0 past) (sym same) s.cursor;
         sent = s.sent;
         enabler = s.enabler;
         opened = s.opened;

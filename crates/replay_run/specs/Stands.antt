@@ -1,5 +1,5 @@
 -- What the kept state of the bay stands for: a history, by one equation for each part.
-use Rattle.std.specs.Prelude.{◌≡◌, ℕ, ◌<◌, ◌+◌, ◌%◌, ◌^◌, Bool, false, [], List, length, drop, Option, None, Some, slice_index_or, if◌then◌else◌}
+use Rattle.std.specs.Prelude.{◌≡◌, ℕ, ◌<◌, ◌≤◌, ◌+◌, ◌%◌, ◌^◌, Bool, false, [], List, length, drop, Option, None, Some, slice_index_or, if◌then◌else◌}
 use Rattle.std.specs.Option.{option_map}
 use Rattle.sv_base.specs.declared.value.Value.TheVariants as kinds
 use Rattle.sv_base.specs.declared.numbers.AssocNo.{AssocNo}
@@ -23,6 +23,7 @@ pub record Holds (buffer : Buffer) (past : Past) : Type 0 where
   pub newest : buffer.newest ≡ length (selected (example buffer.capacity) 0 past)
   pub front : buffer.front ≡ front_at (example buffer.capacity) 0 past
   pub entries : buffer.entries ≡ drop buffer.front (selected (example buffer.capacity) 0 past)
+  pub within : buffer.front ≤ buffer.newest
 
 -- an association is opened by itself, and takes for itself
 abbrev pub ends_if : Bool → ℕ → Option Ends

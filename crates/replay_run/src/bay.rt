@@ -113,11 +113,14 @@ impl Core {
         ensures unchanged { OnErr result (self.new ≡ self.old) }
     {
         let now = self.latest.later(moment);
-        if value != self.value {
-            let entry = self.entry_of_change(alloc, now, value)?;
-            self.buffer.append(entry)?;
-            self.value = value;
+        if value == self.value {
+            self.latest = now;
+            self.steps += 1;
+            return Ok(());
         }
+        let entry = self.entry_of_change(alloc, now, value)?;
+        self.buffer.append(entry)?;
+        self.value = value;
         self.latest = now;
         self.steps += 1;
         Ok(())

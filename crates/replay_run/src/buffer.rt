@@ -47,6 +47,7 @@ impl EntryBuffer {
     pub fn append(&mut self, entry: Stored) -> Result<(), AllocError>
         ensures appended { OnOk result (self.new ≡ after_entry self.old entry) }
         ensures unchanged { OnErr result (self.new ≡ self.old) }
+        ensures capacity { self.new.capacity ≡ self.old.capacity }
     {
         if self.newest == u64::MAX {
             return Ok(());
@@ -69,7 +70,8 @@ impl EntryBuffer {
 
     /// Discards all entries. Numbers go on.
     pub fn purge(&mut self)
-        ensures { self.new ≡ after_purge self.old }
+        ensures purged { self.new ≡ after_purge self.old }
+        ensures capacity { self.new.capacity ≡ self.old.capacity }
     {
         self.stored.clear();
         self.total = 0;

@@ -1,20 +1,22 @@
-use Rattle.std.proofs.Common.{rules, ◌≡◌, ◌∷◌, [], ◌<◌, ◌≤◌, ◌^◌, ◌==◌, not, ◌||◌, ◌&&◌, nat_lt, nat_le, min, length, None, false, is_none, is_some, IfOk, OnOk, OnErr, if◌then◌else◌, ℕ, ◌+◌, ◌-◌, ◌*◌, ◌/◌, ◌%◌, Bool, true, nat_eq, List, ◌++◌, slice_index_or, slice_set, bit_and, bit_or, Fits, w8, w32, w64, Bor, MutBor}
-use Rattle.std.specs.Option.{option_map_or}
-use Rattle.bay_model.specs.declared.answer.Answer.TheVariants.{Wrote}
-use Rattle.bay_model.specs.Example.{example}
-use Rattle.bay_model.specs.Associations.{ends}
-use Rattle.bay_model.specs.Answers.{History}
-use Rattle.bay_model.specs.Answers.{answer as answer_of}
+use Rattle.std.proofs.Common.{◌≡◌, ◌∙◌, sym, true, false, length}
+use Rattle.std.specs.Prelude.{Some, None, if◌then◌else◌}
 use Rattle.bay_model.specs.Answers.{points}
-use Rattle.replay_run.specs.Turns.{open_turn, set_turn, take_turn, enable_turn, lost_turn, resume_turn, purge_turn}
-use Rattle.replay_run.specs.Stands.{Stands, IsOneMore}
-use Rattle.replay_run.specs.Reported.{power_entry, next_to}
+use Rattle.bay_model.specs.Example.{example}
+use Rattle.replay_run.proofs.Steps.{stands-nothing, stands-enabled}
+use Rattle.replay_run.proofs.Replies.{enable_outcome}
+use Rattle.replay_run.proofs.bay.Core.enable.Goals.{then-on, else-on}
 use Rattle.replay_run.proofs.bay.Core.enable.Goals as goal
 
--- src/bay.rt:157:13
 pub returns-then-is_held-clause-stands : goal.returns-then-is_held-clause-stands
-returns-then-is_held-clause-stands c = ?
+returns-then-is_held-clause-stands c = λ h s.
+    let past = points (example c.args.self.now.buffer.capacity) h in
+    let held = sym c.is_held.ensures ∙ c.if-is_held.true in
+    rw (enable_outcome c.args.self.now (length h) c.args.moment c.args.a.0 past s c.args.on, held) (stands-nothing c.args.self.now past (length h) c.args.moment c.later-self.result c.later-self.ensures s)
 
--- src/bay.rt:148:5
 pub returns-clause-stands : goal.returns-clause-stands
-returns-clause-stands c = ?
+returns-clause-stands c = λ h s.
+    let chosen : c.if-on.self ≡ (if c.args.on then Some c.args.a else None) = elim c.if-on.branch [ then-on w ↦ cc | else-on w ↦ cc ] in
+    let past = points (example c.args.self.now.buffer.capacity) h in
+    let held = sym c.is_held.ensures ∙ c.if-is_held.false in
+    rw (enable_outcome c.args.self.now (length h) c.args.moment c.args.a.0 past s c.args.on, held)
+    (stands-enabled c.args.self.now past (length h) c.args.moment c.later-self.result c.later-self.ensures s c.args.a c.args.on c.sent_after-sent.result c.if-on.self c.sent_after-sent.ensures chosen)

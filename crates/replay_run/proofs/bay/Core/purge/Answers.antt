@@ -1,24 +1,30 @@
-use Rattle.std.proofs.Common.{rules, ◌≡◌, ◌∷◌, [], ◌<◌, ◌≤◌, ◌^◌, ◌==◌, not, ◌||◌, ◌&&◌, nat_lt, nat_le, min, length, None, false, is_none, is_some, IfOk, OnOk, OnErr, if◌then◌else◌, ℕ, ◌+◌, ◌-◌, ◌*◌, ◌/◌, ◌%◌, Bool, true, nat_eq, List, ◌++◌, slice_index_or, slice_set, bit_and, bit_or, Fits, w8, w32, w64, Bor, MutBor}
-use Rattle.std.specs.Option.{option_map_or}
-use Rattle.bay_model.specs.declared.answer.Answer.TheVariants.{Wrote}
+use Rattle.std.proofs.Common.{◌≡◌, ◌∙◌, ◌+◌, suc, sym, subst, true, false, length}
+use Rattle.bay_model.specs.Answers.{points, turned}
 use Rattle.bay_model.specs.Example.{example}
-use Rattle.bay_model.specs.Associations.{ends}
-use Rattle.bay_model.specs.Answers.{History}
-use Rattle.bay_model.specs.Answers.{answer as answer_of}
-use Rattle.bay_model.specs.Answers.{points}
-use Rattle.replay_run.specs.Turns.{open_turn, set_turn, take_turn, enable_turn, lost_turn, resume_turn, purge_turn}
-use Rattle.replay_run.specs.Stands.{Stands, IsOneMore}
-use Rattle.replay_run.specs.Reported.{power_entry, next_to}
+use Rattle.replay_run.specs.Turns.{purge_turn}
+use Rattle.replay_run.specs.Stands.{StandsAt}
+use Rattle.replay_run.proofs.Steps.{stands-nothing, stands-purged, stands-not_purged}
+use Rattle.replay_run.proofs.Replies.{purge_outcome}
 use Rattle.replay_run.proofs.bay.Core.purge.Goals as goal
 
--- src/bay.rt:175:13
 pub returns-then-is_some-clause-stands : goal.returns-then-is_some-clause-stands
-returns-then-is_some-clause-stands c = ?
+returns-then-is_some-clause-stands c = λ h s.
+    let past = points (example c.args.self.now.buffer.capacity) h in
+    let held = sym c.is_some.ensures ∙ c.if-is_some.true in
+    rw (purge_outcome c.args.self.now (length h) c.args.moment c.args.a.0 past s c.args.on, held) (stands-nothing c.args.self.now past (length h) c.args.moment c.later-self.result c.later-self.ensures s)
 
--- src/bay.rt:166:5
 pub returns-then-on-clause-stands : goal.returns-then-on-clause-stands
-returns-then-on-clause-stands c = ?
+returns-then-on-clause-stands c = λ h s.
+    let past = points (example c.args.self.now.buffer.capacity) h in
+    let held = sym c.is_some.ensures ∙ c.if-is_some.false in
+    subst (λ k. StandsAt (record c.args.self.now { steps = c.args.self.now.steps + 1; latest = c.later-self.result; buffer = c.purge.new.self }) (suc (length h))
+    (turned (example k) (length h) (purge_turn c.args.moment c.args.a.0 c.args.on) (points (example k) h))) (sym c.purge.ensures.capacity)
+    (rw (purge_outcome c.args.self.now (length h) c.args.moment c.args.a.0 past s c.args.on, held, c.if-on.true)
+    (stands-purged c.args.self.now past (length h) c.args.moment c.later-self.result c.later-self.ensures s c.args.a.0 c.purge.new.self c.purge.ensures.purged))
 
--- src/bay.rt:166:5
 pub returns-else-on-clause-stands : goal.returns-else-on-clause-stands
-returns-else-on-clause-stands c = ?
+returns-else-on-clause-stands c = λ h s.
+    let past = points (example c.args.self.now.buffer.capacity) h in
+    let held = sym c.is_some.ensures ∙ c.if-is_some.false in
+    rw (purge_outcome c.args.self.now (length h) c.args.moment c.args.a.0 past s c.args.on, held, c.if-on.false)
+    (stands-not_purged c.args.self.now past (length h) c.args.moment c.later-self.result c.later-self.ensures s c.args.a.0)

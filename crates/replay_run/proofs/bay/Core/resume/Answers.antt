@@ -1,32 +1,46 @@
-use Rattle.std.proofs.Common.{rules, ◌≡◌, ◌∷◌, [], ◌<◌, ◌≤◌, ◌^◌, ◌==◌, not, ◌||◌, ◌&&◌, nat_lt, nat_le, min, length, None, false, is_none, is_some, IfOk, OnOk, OnErr, if◌then◌else◌, ℕ, ◌+◌, ◌-◌, ◌*◌, ◌/◌, ◌%◌, Bool, true, nat_eq, List, ◌++◌, slice_index_or, slice_set, bit_and, bit_or, Fits, w8, w32, w64, Bor, MutBor}
-use Rattle.std.specs.Option.{option_map_or}
-use Rattle.bay_model.specs.declared.answer.Answer.TheVariants.{Wrote}
+use Rattle.std.proofs.Common.{◌≡◌, ◌∙◌, sym, ap, true, false, refl, length, rules}
+use Rattle.std.specs.Prelude.{Ok, Err}
+use Rattle.bay_model.specs.Answers.{points, answer}
+use Rattle.bay_model.specs.Blocks.{entry_id}
+use Rattle.bay_model.specs.Outcomes.{code_of}
 use Rattle.bay_model.specs.Example.{example}
-use Rattle.bay_model.specs.Associations.{ends}
-use Rattle.bay_model.specs.Answers.{History}
-use Rattle.bay_model.specs.Answers.{answer as answer_of}
-use Rattle.bay_model.specs.Answers.{points}
-use Rattle.replay_run.specs.Turns.{open_turn, set_turn, take_turn, enable_turn, lost_turn, resume_turn, purge_turn}
-use Rattle.replay_run.specs.Stands.{Stands, IsOneMore}
-use Rattle.replay_run.specs.Reported.{power_entry, next_to}
+use Rattle.bay_model.specs.declared.answer.Answer.TheVariants.{Wrote}
+use Rattle.replay_run.proofs.Steps.{stands-nothing, stands-resumed}
+use Rattle.replay_run.proofs.Replies.{resume_outcome, may_resume_at}
 use Rattle.replay_run.proofs.bay.Core.resume.Goals as goal
 
--- src/bay.rt:211:13
 pub returns-then-is_some-clause-stands : goal.returns-then-is_some-clause-stands
-returns-then-is_some-clause-stands c = ?
+returns-then-is_some-clause-stands c = λ h s.
+    let past = points (example c.args.self.now.buffer.capacity) h in
+    let held = sym c.is_some.ensures ∙ c.if-is_some.true in
+    rw (resume_outcome c.args.self.now (length h) c.args.moment c.args.a.0 past s c.args.id.now (search rules), held) (stands-nothing c.args.self.now past (length h) c.args.moment c.later-self.result c.later-self.ensures s)
 
--- src/bay.rt:215:13
 pub returns-then-not-may_resume-clause-answer : goal.returns-then-not-may_resume-clause-answer
-returns-then-not-may_resume-clause-answer c = ?
+returns-then-not-may_resume-clause-answer c = λ h s.
+    let past = points (example c.args.self.now.buffer.capacity) h in
+    let held = sym c.is_some.ensures ∙ c.if-is_some.false in
+    let may = sym c.may_resume.ensures ∙ c.if-not-may_resume.true in
+    rw (resume_outcome c.args.self.now (length h) c.args.moment c.args.a.0 past s c.args.id.now (search rules), held, ← c.from_be_bytes-number.ensures, may) refl
 
--- src/bay.rt:215:13
 pub returns-then-not-may_resume-clause-stands : goal.returns-then-not-may_resume-clause-stands
-returns-then-not-may_resume-clause-stands c = ?
+returns-then-not-may_resume-clause-stands c = λ h s.
+    let past = points (example c.args.self.now.buffer.capacity) h in
+    let held = sym c.is_some.ensures ∙ c.if-is_some.false in
+    let may = sym c.may_resume.ensures ∙ c.if-not-may_resume.true in
+    rw (resume_outcome c.args.self.now (length h) c.args.moment c.args.a.0 past s c.args.id.now (search rules), held, ← c.from_be_bytes-number.ensures, may)
+    (stands-nothing c.args.self.now past (length h) c.args.moment c.later-self.result c.later-self.ensures s)
 
--- src/bay.rt:202:5
 pub returns-clause-answer : goal.returns-clause-answer
-returns-clause-answer c = ?
+returns-clause-answer c = λ h s.
+    let past = points (example c.args.self.now.buffer.capacity) h in
+    let held = sym c.is_some.ensures ∙ c.if-is_some.false in
+    let may = sym c.may_resume.ensures ∙ c.if-not-may_resume.false in
+    rw (resume_outcome c.args.self.now (length h) c.args.moment c.args.a.0 past s c.args.id.now (search rules), held, ← c.from_be_bytes-number.ensures, may) refl
 
--- src/bay.rt:202:5
 pub returns-clause-stands : goal.returns-clause-stands
-returns-clause-stands c = ?
+returns-clause-stands c = λ h s.
+    let past = points (example c.args.self.now.buffer.capacity) h in
+    let held = sym c.is_some.ensures ∙ c.if-is_some.false in
+    let may = sym c.may_resume.ensures ∙ c.if-not-may_resume.false in
+    rw (resume_outcome c.args.self.now (length h) c.args.moment c.args.a.0 past s c.args.id.now (search rules), held, ← c.from_be_bytes-number.ensures, may)
+    (stands-resumed c.args.self.now past (length h) c.args.moment c.later-self.result c.later-self.ensures s c.args.a.0 c.resumed-cursor.result c.args.id.now (rw (← c.from_be_bytes-number.ensures) c.resumed-cursor.ensures))

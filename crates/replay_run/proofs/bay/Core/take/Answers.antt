@@ -1,32 +1,45 @@
-use Rattle.std.proofs.Common.{rules, ◌≡◌, ◌∷◌, [], ◌<◌, ◌≤◌, ◌^◌, ◌==◌, not, ◌||◌, ◌&&◌, nat_lt, nat_le, min, length, None, false, is_none, is_some, IfOk, OnOk, OnErr, if◌then◌else◌, ℕ, ◌+◌, ◌-◌, ◌*◌, ◌/◌, ◌%◌, Bool, true, nat_eq, List, ◌++◌, slice_index_or, slice_set, bit_and, bit_or, Fits, w8, w32, w64, Bor, MutBor}
-use Rattle.std.specs.Option.{option_map_or}
-use Rattle.bay_model.specs.declared.answer.Answer.TheVariants.{Wrote}
+use Rattle.std.proofs.Common.{◌≡◌, ◌∙◌, ◌<◌, ◌+◌, ◌%◌, ap, sym, true, false, refl, length, arith}
+use Rattle.std.specs.Prelude.{Option, None, Some}
+use Rattle.bay_model.specs.declared.answer.Answer.TheVariants.{Taken}
+use Rattle.bay_model.specs.declared.answer.Output.TheVariants.{Report}
+use Rattle.bay_model.specs.Answers.{History, points}
+use Rattle.bay_model.specs.Takes.{Given}
+use Rattle.bay_model.specs.Associations.{Ends, ends}
 use Rattle.bay_model.specs.Example.{example}
-use Rattle.bay_model.specs.Associations.{ends}
-use Rattle.bay_model.specs.Answers.{History}
-use Rattle.bay_model.specs.Answers.{answer as answer_of}
-use Rattle.bay_model.specs.Answers.{points}
-use Rattle.replay_run.specs.Turns.{open_turn, set_turn, take_turn, enable_turn, lost_turn, resume_turn, purge_turn}
-use Rattle.replay_run.specs.Stands.{Stands, IsOneMore}
-use Rattle.replay_run.specs.Reported.{power_entry, next_to}
+use Rattle.replay_run.specs.Stands.{Stands, ends_if}
+use Rattle.replay_run.proofs.Steps.{stands-nothing, stands-reported}
+use Rattle.replay_run.proofs.Takes.{take-closed, take-none, take-next, next-above}
 use Rattle.replay_run.proofs.bay.Core.take.Goals as goal
 
--- src/bay.rt:257:13
 pub returns-then-not-self-a-clause-stands : goal.returns-then-not-self-a-clause-stands
-returns-then-not-self-a-clause-stands c = ?
+returns-then-not-self-a-clause-stands c = λ h s.
+    let past = points (example c.args.self.now.buffer.capacity) h in
+    let shut : ends c.args.a.0 past ≡ None = s.opened c.args.a.0 c.requires.number ∙ ap (λ t. ends_if t c.args.a.0) c.if-not-self-a.true in
+    rw (take-closed c.args.self.now (length h) c.args.moment c.args.a past s shut) (stands-nothing c.args.self.now past (length h) c.args.moment c.later-now.result c.later-now.ensures s)
 
--- src/bay.rt:262:13
 pub returns-in_default-clause-answer : goal.returns-in_default-clause-answer
-returns-in_default-clause-answer c = ?
+returns-in_default-clause-answer c = λ h s.
+    let past = points (example c.args.self.now.buffer.capacity) h in
+    let there = s.opened c.args.a.0 c.requires.number ∙ ap (λ t. ends_if t c.args.a.0) c.if-not-self-a.false in
+    sym (ap (λ (g : Given). g.answer) (take-none c.args.self.now (length h) c.args.moment c.args.a past s (record { opener = c.args.a.0; writer = c.args.a.0 }) there (sym c.in_default.ensures)))
 
--- src/bay.rt:262:13
 pub returns-in_default-clause-stands : goal.returns-in_default-clause-stands
-returns-in_default-clause-stands c = ?
+returns-in_default-clause-stands c = λ h s.
+    let past = points (example c.args.self.now.buffer.capacity) h in
+    let there = s.opened c.args.a.0 c.requires.number ∙ ap (λ t. ends_if t c.args.a.0) c.if-not-self-a.false in
+    rw (take-none c.args.self.now (length h) c.args.moment c.args.a past s (record { opener = c.args.a.0; writer = c.args.a.0 }) there (sym c.in_default.ensures))
+    (stands-nothing c.args.self.now past (length h) c.args.moment c.later-now.result c.later-now.ensures s)
 
--- src/bay.rt:245:5
 pub returns-clause-answer : goal.returns-clause-answer
-returns-clause-answer c = ?
+returns-clause-answer c = λ h s.
+    let past = points (example c.args.self.now.buffer.capacity) h in
+    let there = s.opened c.args.a.0 c.requires.number ∙ ap (λ t. ends_if t c.args.a.0) c.if-not-self-a.false in
+    ap (λ r. Taken (Report r)) (rw c.front.ensures at c.in_ok-report.ensures) ∙ sym (ap (λ (g : Given). g.answer) (take-next c.args.self.now (length h) c.args.moment c.args.a past s (record { opener = c.args.a.0; writer = c.args.a.0 })
+    c.in-Some.number c.entry.result.now there (sym c.in-Some.ensures) (next-above c.args.self.now.enabler c.args.a c.args.self.now.cursor c.args.self.now.buffer c.in-Some.number (sym c.in-Some.ensures)) c.entry.ensures))
 
--- src/bay.rt:245:5
 pub returns-clause-stands : goal.returns-clause-stands
-returns-clause-stands c = ?
+returns-clause-stands c = λ h s.
+    let past = points (example c.args.self.now.buffer.capacity) h in
+    let there = s.opened c.args.a.0 c.requires.number ∙ ap (λ t. ends_if t c.args.a.0) c.if-not-self-a.false in
+    rw (take-next c.args.self.now (length h) c.args.moment c.args.a past s (record { opener = c.args.a.0; writer = c.args.a.0 }) c.in-Some.number c.entry.result.now there (sym c.in-Some.ensures) (next-above c.args.self.now.enabler c.args.a c.args.self.now.cursor c.args.self.now.buffer c.in-Some.number (sym c.in-Some.ensures)) c.entry.ensures)
+    (stands-reported c.args.self.now past (length h) c.args.moment c.later-now.result c.later-now.ensures s c.args.a.0 c.in-Some.number ((c.args.self.now.sent + 1) % 65536) refl)
