@@ -1,2 +1,5 @@
 pub mod GetLaws
 pub mod RowLaws
+pub mod SizeLaws
+pub mod LengthLaws
+pub mod DataFacts
