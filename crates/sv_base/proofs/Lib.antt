@@ -3,3 +3,4 @@ pub mod RowLaws
 pub mod SizeLaws
 pub mod LengthLaws
 pub mod DataFacts
+pub mod FieldLaws
