@@ -1,5 +1,5 @@
 -- What is read from the front of octets in memory, and what is written piece by piece.
-use Rattle.std.proofs.Common.{◌≡◌, ◌≤◌, ◌<◌, ◌+◌, ◌-◌, ℕ, List, [], ◌++◌, length, take, drop, refl, ap, sym, ◌∙◌, arith, length-take, length-drop, length-append, min, append_assoc, subst}
+use Rattle.std.proofs.Common.{◌≡◌, ◌≤◌, ◌<◌, ◌+◌, ◌-◌, ℕ, List, [], ◌++◌, length, take, drop, ap, sym, ◌∙◌, arith, length-take, length-drop, length-append, min, append_assoc, subst}
 use Rattle.std.proofs.lemmas.List.{drop-drop, take-append-drop, take_all, nil_from_length}
 use Rattle.std.proofs.Math.Seq.{take-append_seam, take-add}
 use Rattle.std.specs.Prelude.{Option, None, Some}

@@ -1,6 +1,5 @@
 -- What contracts see of a source and a sink in memory.
-use Rattle.std.specs.Prelude.{◌≡◌, ℕ, List, Result, MatchResult, Contains}
-use Rattle.sv_io.specs.Causes.{counted, Rose}
+use Rattle.std.specs.Prelude.{ℕ, List}
 
 pub record Reading : Type 0 where
   pub left : List ℕ  -- what reads will give

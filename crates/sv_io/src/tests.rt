@@ -93,9 +93,9 @@ fn a_source_in_memory_fails_at_the_listed_reads(rt: HostRuntime) -> Result<(), F
 fn a_sink_in_memory_fails_at_the_listed_writes(rt: HostRuntime) -> Result<(), Fail> {
     let alloc = rt.alloc();
     for (fails, want, octets, faults) in [
-        ([].as_slice(), "++++", "onetwothree", 0),
-        ([2].as_slice(), "+!++", "onethree", 1),
-        ([4, 1, 9].as_slice(), "!++!", "two", 2),
+        ([].as_slice(), "++++", b"onetwothree".as_slice(), 0),
+        ([2].as_slice(), "+!++", b"onethree".as_slice(), 1),
+        ([4, 1, 9].as_slice(), "!++!", b"two".as_slice(), 2),
     ] {
         let fails = Calls::from_vec(Vec::from_slice(alloc, fails)?);
         let mut sink = MemSink::new(alloc, fails);
@@ -103,7 +103,7 @@ fn a_sink_in_memory_fails_at_the_listed_writes(rt: HostRuntime) -> Result<(), Fa
             written(alloc, &mut sink, &[b"one", b"two", b"", b"three"])?.as_str(),
             want
         );
-        assert_eq!(rt; sink.octets(), octets.as_bytes(), "{want}");
+        assert_eq!(rt; sink.octets(), octets, "{want}");
         assert_eq!(rt; sink.faults(), faults, "{want}");
         assert_eq!(rt; sink.calls(), 4);
         assert_eq!(rt; sink.wants(), 0);

@@ -1,4 +1,4 @@
-use Rattle.std.proofs.Common.{◌≡◌, ◌≤◌, drop, length, min, arith, ap, sym, ◌∙◌}
+use Rattle.std.proofs.Common.{◌≡◌, drop, length, min, arith, ap, sym, ◌∙◌}
 use Rattle.sv_io.specs.Memory.{Reading}
 use Rattle.sv_io.proofs.Front.{reads, ended, whole, room}
 use Rattle.sv_io.proofs.mem_source.MemSourceSource.read.Goals as goal

@@ -1,4 +1,4 @@
-use Rattle.std.proofs.Common.{refl, rules, arith}
+use Rattle.std.proofs.Common.{refl}
 use Rattle.sv_io.proofs.Front.{written_more}
 use Rattle.sv_io.proofs.outside.WriteSinkSink.write_all.Goals as goal
 
