@@ -1,0 +1,4 @@
+pub mod Fronts
+pub mod Texts
+pub mod Writes
+pub mod Unlisted
