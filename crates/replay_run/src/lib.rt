@@ -4,5 +4,10 @@
 mod bay;
 mod buffer;
 mod data;
+mod heading;
+mod line;
+mod numbers;
+mod reading;
 mod reports;
+mod scan;
 mod stored;

@@ -1,0 +1,1 @@
+//! The heading of a record.

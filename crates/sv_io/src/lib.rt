@@ -1,0 +1,18 @@
+//! The ends of the server: what it reads octets from and writes them to.
+//!
+//! Each end counts its faults, and a call answers [`Failed`] only where that count rose.
+#![tactic(auto)]
+
+pub mod calls;
+pub mod mem_sink;
+pub mod mem_source;
+pub mod outside;
+#[cfg(test)]
+mod tests;
+pub mod traits;
+
+pub use calls::Calls;
+pub use mem_sink::MemSink;
+pub use mem_source::MemSource;
+pub use outside::{ReadSource, WriteSink};
+pub use traits::{Failed, Sink, Source};

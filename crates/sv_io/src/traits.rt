@@ -1,0 +1,39 @@
+ghost use Rattle.std.specs.Prelude.{ℕ, ◌<◌, List, Option, length, OnOk, OnErr};
+ghost use Rattle.std.specs.Io.{ReadsAtMost};
+ghost use Rattle.std.specs.Io.KnownBytes.{ReadConsumes, Appends};
+ghost use Rattle.sv_io.specs.Causes.{HasCause, GrowsByFront};
+
+/// A read or a write failed.
+#[derive(Clone, Copy, Debug)]
+pub struct Failed;
+
+/// What octets are read from.
+pub trait Source {
+    /// The octets that reads will give from here on, where they are told.
+    ghost left: { Self → Option (List ℕ) };
+
+    /// How many reads have failed. At 2^64 - 1 it stays.
+    ghost faults: { Self → ℕ };
+
+    /// Reads some octets to the front of the buffer, and answers how many. Zero is the end of the input.
+    fn read(&mut self, buf: &mut [u8]) -> Result<usize, Failed>
+        requires { 0 < length buf.old }
+        ensures bound { ReadsAtMost result buf.new }
+        ensures bytes { ReadConsumes (left self.old) (left self.new) result buf.new }
+        ensures cause { HasCause (faults self.old) (faults self.new) result };
+}
+
+/// What octets are written to.
+pub trait Sink {
+    /// The octets that were taken, where they are told.
+    ghost taken: { Self → Option (List ℕ) };
+
+    /// How many writes have failed. At 2^64 - 1 it stays.
+    ghost faults: { Self → ℕ };
+
+    /// Writes the whole piece. After a failure a front of it was taken.
+    fn write_all(&mut self, piece: &[u8]) -> Result<(), Failed>
+        ensures ok { OnOk result (Appends (taken self.old) (taken self.new) piece.now) }
+        ensures err { OnErr result (GrowsByFront (taken self.old) (taken self.new) piece.now) }
+        ensures cause { HasCause (faults self.old) (faults self.new) result };
+}
