@@ -54,4 +54,9 @@ pub mod EntryLaws
 pub mod CursorLaws
 pub mod SettingLaw
 -- the example bay
+pub mod ExampleNodes
 pub mod Example
+pub mod ExampleTurns
+pub mod ExampleAnswers
+pub mod WorkedReports
+pub mod WorkedResumes
