@@ -68,6 +68,7 @@ set_powers n (suc count) = at n (set_power n) ∷ set_powers (suc n) count
 abbrev pub tick : Turn
 tick = turn 0 steps.Tick
 
+-- what further steps are answered, and whether they are accepted; h is a history, the newest step first
 abbrev pub answers_after : Model → History → List Turn → List Answer
 answers_after c h [] = []
 answers_after c h (t ∷ ts) = answer c h t ∷ answers_after c (t ∷ h) ts
@@ -76,6 +77,6 @@ abbrev pub are_accepted : Model → History → List Turn → Bool
 are_accepted c h [] = true
 are_accepted c h (t ∷ ts) = is_none (fault c h t) && are_accepted c (t ∷ h) ts
 
--- after the first steps the later ones are accepted, and answered so; all in their order
+-- after the first steps the later ones are answered so, and all are accepted; each list is in the order of the steps
 abbrev pub Answered : Model → List Turn → List Turn → List Answer → Type 0
-Answered c first later answers = (are_accepted c (reverse first) later ≡ true) × (answers_after c (reverse first) later ≡ answers)
+Answered c first later answers = (are_accepted c [] (first ++ later) ≡ true) × (answers_after c (reverse first) later ≡ answers)

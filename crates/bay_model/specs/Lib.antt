@@ -60,3 +60,9 @@ pub mod ExampleTurns
 pub mod ExampleAnswers
 pub mod WorkedReports
 pub mod WorkedResumes
+pub mod ExampleRequests
+pub mod ExampleControl
+pub mod WorkedControls
+pub mod ExampleSettings
+pub mod WorkedSettings
+pub mod WorkedRequests
