@@ -2,8 +2,8 @@
 use Rattle.std.specs.Prelude.{ℕ, suc, ◌+◌, Bool, false, not, ◌&&◌, ◌||◌, ◌==◌, List, [], ◌∷◌, ◌++◌, length, is_some, is_none, if◌then◌else◌}
 use Rattle.std.specs.Str.{bytes_eq}
 use Rattle.bay_model.specs.declared.request.SetName.{SetName}
-use Rattle.bay_model.specs.declared.answer.Reply.{Reply}
-use Rattle.bay_model.specs.declared.answer.Reply.TheVariants as replies
+use Rattle.bay_model.specs.declared.reply.Reply.{Reply}
+use Rattle.bay_model.specs.declared.reply.Reply.TheVariants as replies
 use Rattle.bay_model.specs.Model.{Model, DataSet, Block}
 use Rattle.bay_model.specs.Lookups.{reference_of}
 use Rattle.bay_model.specs.Points.{Past, Change, unchanged, deleted}

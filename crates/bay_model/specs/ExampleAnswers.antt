@@ -3,8 +3,8 @@ use Rattle.std.specs.Prelude.{ℕ, ◌+◌, Bool, true, false, List, [], ◌∷�
 use Rattle.bay_model.specs.declared.answer.Answer.{Answer}
 use Rattle.bay_model.specs.declared.answer.Answer.TheVariants as answers
 use Rattle.bay_model.specs.declared.answer.Output.TheVariants as outputs
-use Rattle.bay_model.specs.declared.answer.Member.{Member}
-use Rattle.bay_model.specs.declared.answer.Reasons.{Reasons}
+use Rattle.bay_model.specs.declared.report.Member.{Member}
+use Rattle.bay_model.specs.declared.report.Reasons.{Reasons}
 use Rattle.bay_model.specs.Points.{least_moment}
 use Rattle.bay_model.specs.Notes.{no_reason}
 use Rattle.bay_model.specs.Example.{options}

@@ -4,7 +4,7 @@ use Rattle.std.specs.Prelude.{ℕ, suc, Bool, false, not, ◌&&◌, ◌||◌, Li
 use Rattle.std.specs.Option.{option_map_or}
 use Rattle.sv_base.specs.Same.{is_same}
 use Rattle.sv_base.specs.Data.{data_of}
-use Rattle.bay_model.specs.declared.answer.Reasons.{Reasons}
+use Rattle.bay_model.specs.declared.report.Reasons.{Reasons}
 use Rattle.bay_model.specs.Model.{Model}
 use Rattle.bay_model.specs.Lookups.{attr_of, node_of}
 use Rattle.bay_model.specs.Points.{Deed, valued, put, activated, confirmed, Point, Past}

@@ -6,7 +6,7 @@ use Rattle.sv_base.specs.declared.value.Value.{Value}
 use Rattle.sv_base.specs.declared.value.Value.TheVariants as kinds
 use Rattle.bay_model.specs.declared.answer.Output.{Output}
 use Rattle.bay_model.specs.declared.answer.Output.TheVariants as outputs
-use Rattle.bay_model.specs.declared.answer.ApplError.{ApplError}
+use Rattle.bay_model.specs.declared.control.ApplError.{ApplError}
 use Rattle.bay_model.specs.Model.{Model, Call, select, operate, cancel}
 use Rattle.bay_model.specs.Lookups.{control_of}
 use Rattle.bay_model.specs.Points.{Past}

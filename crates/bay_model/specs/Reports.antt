@@ -2,8 +2,8 @@
 -- the order among blocks is this profile's own).
 use Rattle.std.specs.Prelude.{ℕ, suc, ◌-◌, List, [], ◌∷◌, length, map, Option, None, Some, slice_get, nat_le, if◌then◌else◌}
 use Rattle.std.specs.Option.{option_map, option_map_or, option_and_then}
-use Rattle.bay_model.specs.declared.answer.Report.{Report}
-use Rattle.bay_model.specs.declared.answer.Member.{Member}
+use Rattle.bay_model.specs.declared.report.Report.{Report}
+use Rattle.bay_model.specs.declared.report.Member.{Member}
 use Rattle.bay_model.specs.Model.{Model, Block}
 use Rattle.bay_model.specs.Lookups.{block_of, node_of, reference_of}
 use Rattle.bay_model.specs.Points.{Past}

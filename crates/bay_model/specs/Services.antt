@@ -4,9 +4,9 @@ use Rattle.std.specs.Option.{option_map_or}
 use Rattle.sv_base.specs.Same.{values_of}
 use Rattle.sv_base.specs.Tree.{Row}
 use Rattle.sv_base.specs.declared.numbers.NodeId.{NodeId}
-use Rattle.bay_model.specs.declared.answer.Asked.TheVariants as asked
-use Rattle.bay_model.specs.declared.answer.Reply.{Reply}
-use Rattle.bay_model.specs.declared.answer.Reply.TheVariants as replies
+use Rattle.bay_model.specs.declared.reply.Asked.TheVariants as asked
+use Rattle.bay_model.specs.declared.reply.Reply.{Reply}
+use Rattle.bay_model.specs.declared.reply.Reply.TheVariants as replies
 use Rattle.bay_model.specs.declared.request.Service.{Service}
 use Rattle.bay_model.specs.declared.request.Service.TheVariants as services
 use Rattle.bay_model.specs.declared.request.SetName.{SetName}

@@ -5,9 +5,9 @@ use Rattle.sv_base.specs.declared.value.Value.TheVariants as kinds
 use Rattle.bay_model.specs.declared.answer.Answer.{Answer}
 use Rattle.bay_model.specs.declared.answer.Answer.TheVariants as answers
 use Rattle.bay_model.specs.declared.answer.Answer.TheVariants.{Went, Empty, Opened, Asked}
-use Rattle.bay_model.specs.declared.answer.ApplError.{ApplError}
+use Rattle.bay_model.specs.declared.control.ApplError.{ApplError}
 use Rattle.bay_model.specs.declared.answer.Output.TheVariants as outputs
-use Rattle.bay_model.specs.declared.answer.Reply.TheVariants as replies
+use Rattle.bay_model.specs.declared.reply.Reply.TheVariants as replies
 use Rattle.bay_model.specs.declared.step.Step.TheVariants as steps
 use Rattle.bay_model.specs.Answers.{Turn}
 use Rattle.bay_model.specs.ExampleTurns.{turn, at, open_direct, lost, take, Answered}

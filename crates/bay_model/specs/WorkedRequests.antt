@@ -3,7 +3,7 @@
 use Rattle.std.specs.Prelude.{◌≡◌, ℕ, zero, suc, true, false, List, [], ◌∷◌, ◌++◌, reverse, Some, None, codes}
 use Rattle.sv_base.specs.declared.value.Value.TheVariants as kinds
 use Rattle.bay_model.specs.declared.answer.Answer.TheVariants.{Asked, Empty}
-use Rattle.bay_model.specs.declared.answer.Reply.TheVariants as replies
+use Rattle.bay_model.specs.declared.reply.Reply.TheVariants as replies
 use Rattle.bay_model.specs.declared.request.Scope.TheVariants as scopes
 use Rattle.bay_model.specs.declared.request.Service.{Service}
 use Rattle.bay_model.specs.declared.request.Service.TheVariants as services
