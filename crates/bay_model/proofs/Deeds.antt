@@ -1,6 +1,6 @@
--- Facts of each deed that a single read or write comes to.
+-- A fact of each deed that a single read or write comes to.
 use Rattle.std.proofs.Common.{not, ◌≡◌, ℕ, Bool, true, false, List, [], ◌∷◌, refl}
-use Rattle.std.specs.Prelude.{Result, Ok, Err, if◌then◌else◌}
+use Rattle.std.specs.Prelude.{Result, Ok, Err, ◌||◌, if◌then◌else◌}
 use Rattle.sv_base.specs.declared.value.Value.{Value}
 use Rattle.sv_base.specs.declared.value.Value.TheVariants as kinds
 use Rattle.bay_model.specs.declared.step.Comp.{Comp}
@@ -8,16 +8,18 @@ use Rattle.bay_model.specs.Model as model
 use Rattle.bay_model.specs.Model.{Model, Access, Role, Block, Part, Call, Tree, single, selecting, calling, several, ActSG, EditSG, CnfEdit}
 use Rattle.bay_model.specs.Lookups.{attr_of, node_of, control_of}
 use Rattle.bay_model.specs.Points.{Deed, wrote, put, copied, activated, edited, called, nothing, confirmed, selected_control, Past}
+use Rattle.bay_model.specs.Kinds.{is_kind, is_in_range, comp_kind}
+use Rattle.bay_model.specs.Blocks.{is_held}
 use Rattle.bay_model.specs.Calls.{Went, accepted, mistyped, barred, went, can_select}
 use Rattle.bay_model.specs.Outcomes.{gave, deed_of, first_code, refused}
 use Rattle.bay_model.specs.Reads.{read_role, read_tree, outcome_of_read}
-use Rattle.bay_model.specs.Writes.{component_refusals, act_refusals, edit_refusals, confirm_refusals, attribute_refusals, holds_edit, write_role, write_part, write_attribute, write_component, outcome_of_call}
+use Rattle.bay_model.specs.Writes.{is_written, contradicts, names_nothing, act_refusals, edit_refusals, confirm_refusals, attribute_refusals, holds_edit, write_role, write_part, write_attribute, write_component, outcome_of_call}
 use Rattle.bay_model.specs.Singles.{Single, reads, writes, fails, outcome_of}
 
--- a fact of each deed that a single read or write comes to
-pub record OfSingles (c : Model) (G : Deed → Type 0) : Type 0 where
+-- the fact of each such deed; past ends with the arrival of the single, and an accepted write of a component wasn't held
+pub record OfSingles (c : Model) (past : Past) (G : Deed → Type 0) : Type 0 where
   pub of_nothing : G nothing
-  pub of_wrote : (a b : ℕ) (comp : Comp) (v : Value) → G (wrote a b comp v)
+  pub of_wrote : (a b : ℕ) (comp : Comp) (v : Value) → is_held b a comp v past ≡ false → G (wrote a b comp v)
   pub of_put : (a x : ℕ) (v : Value) → (attr_of c x).access ≡ model.writable → G (put a x v)
   pub of_copied : (a x : ℕ) (v : Value) → G (copied a x v)
   pub of_activated : (a d n : ℕ) → G (activated a d n)
@@ -26,7 +28,7 @@ pub record OfSingles (c : Model) (G : Deed → Type 0) : Type 0 where
   pub of_called : (a k : ℕ) (j : Call) (v : Value) → G (called a k j v)
   pub of_selected : (a k : ℕ) → G (selected_control a k)
 
-module _ (c : Model) (G : Deed → Type 0) (g : OfSingles c G) where
+module _ (c : Model) (past : Past) (G : Deed → Type 0) (g : OfSingles c past G) where
   code : (ts : List (Bool × ℕ)) (d : Deed) → G d → G (deed_of (first_code ts d))
   code [] d u = u
   code (t ∷ ts) d u = either t.0 (code ts d u) where
@@ -34,51 +36,61 @@ module _ (c : Model) (G : Deed → Type 0) (g : OfSingles c G) where
     either true u = g.of_nothing
     either false u = u
 
-  part : (a d : ℕ) (k : Part) (v : Value) (past : Past) → G (deed_of (write_part c a d k v past))
-  part a d ActSG (kinds.Uint n) past = code (act_refusals c d n) (activated a d n) (g.of_activated a d n)
-  part a d EditSG (kinds.Uint n) past = code (edit_refusals c a d n past) (edited a d n) (g.of_edited a d n)
-  part a d CnfEdit (kinds.Bool on) past = code (confirm_refusals a d past) (if on then confirmed a d else nothing) (either on) where
+  part : (a d : ℕ) (k : Part) (v : Value) → G (deed_of (write_part c a d k v past))
+  part a d ActSG (kinds.Uint n) = code (act_refusals c d n) (activated a d n) (g.of_activated a d n)
+  part a d EditSG (kinds.Uint n) = code (edit_refusals c a d n past) (edited a d n) (g.of_edited a d n)
+  part a d CnfEdit (kinds.Bool on) = code (confirm_refusals a d past) (if on then confirmed a d else nothing) (either on) where
     either : (b : Bool) → G (if b then confirmed a d else nothing)
     either true = g.of_confirmed a d
     either false = g.of_nothing
-  part a d _ v past = g.of_nothing
+  part a d _ v = g.of_nothing
 
-  attribute_ : (a x : ℕ) (v : Value) (k : Access) (past : Past) → (attr_of c x).access ≡ k → G (deed_of (write_attribute c a x v k past))
-  attribute_ a x v model.writable past e = code (attribute_refusals c x v false) (put a x v) (g.of_put a x v e)
-  attribute_ a x v model.edited past e = code (attribute_refusals c x v (not (holds_edit a (attr_of c x).domain past))) (copied a (attr_of c x).original v) (g.of_copied a (attr_of c x).original v)
-  attribute_ a x v _ past e = g.of_nothing
+  attribute_ : (a x : ℕ) (v : Value) (k : Access) → (attr_of c x).access ≡ k → G (deed_of (write_attribute c a x v k past))
+  attribute_ a x v model.writable e = code (attribute_refusals c x v false) (put a x v) (g.of_put a x v e)
+  attribute_ a x v model.edited e = code (attribute_refusals c x v (not (holds_edit a (attr_of c x).domain past))) (copied a (attr_of c x).original v) (g.of_copied a (attr_of c x).original v)
+  attribute_ a x v _ e = g.of_nothing
 
   call : (a k : ℕ) (j : Call) (v : Value) (w : Went) → G (deed_of (outcome_of_call c a k j v w))
   call a k j v accepted = g.of_called a k j v
   call a k j v mistyped = g.of_nothing
   call a k j v (barred cause) = g.of_nothing
 
-  pub component_ : (a b : ℕ) (comp : Comp) (v : Value) (past : Past) → G (deed_of (write_component c a b comp v past))
-  component_ a b comp v past = code (component_refusals c a b comp v past) (wrote a b comp v) (g.of_wrote a b comp v)
+  -- the refusals of a component's write behind that of one which is held
+  abbrev refusals_further : (a b : ℕ) → Comp → Value → List (Bool × ℕ)
+  refusals_further a b comp v = (contradicts c b comp v past, 8) ∷ (not (is_in_range (comp_kind comp) v) || names_nothing c b comp v past, 11) ∷ []
 
-  write : (a : ℕ) (r : Role) (v : Value) (past : Past) → G (deed_of (write_role c a r v past))
-  write a (single (model.attribute x)) v past = attribute_ a x v (attr_of c x).access past refl
-  write a (single (model.component b comp)) v past = component_ a b comp v past
-  write a (single (model.setting d k)) v past = part a d k v past
-  write a (single model.withheld) v past = g.of_nothing
-  write a (selecting k) v past = g.of_nothing
-  write a (calling k j) v past = call a k j v (went c k j a v past)
-  write a several v past = g.of_nothing
+  pub component_ : (a b : ℕ) (comp : Comp) (v : Value) → G (deed_of (write_component c a b comp v past))
+  component_ a b comp v = either (not (is_kind (comp_kind comp) v)) (not (is_written comp)) (is_held b a comp v past) refl where
+    either : (x y z : Bool) → is_held b a comp v past ≡ z
+        → G (deed_of (if x then refused 7 else (if y then refused 3 else (if z then refused 2 else first_code (refusals_further a b comp v) (wrote a b comp v)))))
+    either true y z e = g.of_nothing
+    either false true z e = g.of_nothing
+    either false false true e = g.of_nothing
+    either false false false e = code (refusals_further a b comp v) (wrote a b comp v) (g.of_wrote a b comp v e)
+
+  write : (a : ℕ) (r : Role) (v : Value) → G (deed_of (write_role c a r v past))
+  write a (single (model.attribute x)) v = attribute_ a x v (attr_of c x).access refl
+  write a (single (model.component b comp)) v = component_ a b comp v
+  write a (single (model.setting d k)) v = part a d k v
+  write a (single model.withheld) v = g.of_nothing
+  write a (selecting k) v = g.of_nothing
+  write a (calling k j) v = call a k j v (went c k j a v past)
+  write a several v = g.of_nothing
 
   read_result : (r : Result Value ℕ) → G (deed_of (outcome_of_read r))
   read_result (Ok v) = g.of_nothing
   read_result (Err code) = g.of_nothing
 
-  read : (a : ℕ) (r : Role) (tree : Tree) (past : Past) → G (deed_of (read_role c a r tree past))
-  read a (single l) tree past = read_result (read_tree c past tree)
-  read a (selecting k) tree past = either (can_select c k past) where
+  read : (a : ℕ) (r : Role) (tree : Tree) → G (deed_of (read_role c a r tree past))
+  read a (single l) tree = read_result (read_tree c past tree)
+  read a (selecting k) tree = either (can_select c k past) where
     either : (b : Bool) → G (deed_of (if b then gave (kinds.Text (control_of c k).reference) (selected_control a k) else gave (kinds.Text []) nothing))
     either true = g.of_selected a k
     either false = g.of_nothing
-  read a (calling k j) tree past = read_result (read_tree c past tree)
-  read a several tree past = read_result (read_tree c past tree)
+  read a (calling k j) tree = read_result (read_tree c past tree)
+  read a several tree = read_result (read_tree c past tree)
 
-  pub outcome : (a : ℕ) (s : Single) (past : Past) → G (deed_of (outcome_of c a s past))
-  outcome a (reads n) past = read a (node_of c n).role (node_of c n).tree past
-  outcome a (writes n v) past = write a (node_of c n).role v past
-  outcome a (fails k) past = g.of_nothing
+  pub outcome : (a : ℕ) (s : Single) → G (deed_of (outcome_of c a s past))
+  outcome a (reads n) = read a (node_of c n).role (node_of c n).tree
+  outcome a (writes n v) = write a (node_of c n).role v
+  outcome a (fails k) = g.of_nothing

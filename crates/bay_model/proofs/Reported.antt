@@ -1,104 +1,58 @@
 -- Each report of a history is of the next entry of its block: no other deed is a report.
-use Rattle.std.proofs.Common.{◌≡◌, ℕ, suc, Bool, true, false, List, [], ◌∷◌, length, refl, ◌-◌}
-use Rattle.std.specs.Prelude.{⊤, Option, None, Some, if◌then◌else◌, is_none, nat_le, slice_get}
-use Rattle.std.specs.Option.{option_map, option_and_then}
-use Rattle.bay_model.specs.declared.step.Step.{Step}
-use Rattle.bay_model.specs.declared.step.Step.TheVariants as steps
-use Rattle.bay_model.specs.Model.{Model, Block}
-use Rattle.bay_model.specs.Points.{Deed, reported, nothing, Point, Past}
-use Rattle.bay_model.specs.Entries.{Entry, selected}
-use Rattle.bay_model.specs.Blocks.{next, is_enabled_by}
-use Rattle.bay_model.specs.Associations.{ends}
-use Rattle.bay_model.specs.Waiting.{Waiting, reply, ending, waiting}
-use Rattle.bay_model.specs.declared.answer.Answer.TheVariants as answers
-use Rattle.bay_model.specs.Outcomes.{deed_of}
-use Rattle.bay_model.specs.Writes.{write_component}
-use Rattle.bay_model.specs.Singles.{after_single, Single, arrival, outcome_of, after_singles}
-use Rattle.bay_model.specs.Services.{singles_of}
-use Rattle.bay_model.specs.Reports.{Offer, offer, earlier, first_offer}
-use Rattle.bay_model.specs.Takes.{taken, given_by, given_report}
-use Rattle.bay_model.specs.Answers.{Turn, History, points, deed_at, singles_after}
+use Rattle.std.proofs.Common.{◌≡◌, ℕ, suc, ◌≤◌, ◌<◌, Bool, true, false, [], ◌∷◌, length, sym, ap, ◌∙◌, subst, ◌⊎◌, inl, inr}
+use Rattle.std.specs.Prelude.{Option, None, Some, nat_le, if◌then◌else◌}
+use Rattle.std.proofs.lemmas.Bool.Decides.{leb_tells}
+use Rattle.bay_model.specs.Model.{Model}
+use Rattle.bay_model.specs.Points.{Point, Past}
+use Rattle.bay_model.specs.Entries.{selected}
+use Rattle.bay_model.specs.Blocks.{next, next_number}
+use Rattle.bay_model.specs.Answers.{History, points}
 use Rattle.bay_model.specs.Successors.{IsNext, AllNext}
-use Rattle.bay_model.proofs.Deeds.{OfSingles, outcome, component_}
+use Rattle.bay_model.proofs.EveryPoint.{Every, OfPoints, every-point}
 
-abbrev Unreported : Deed → Type 0
-Unreported (reported a b n) = ⊥
-Unreported _ = ⊤
+abbrev Next : Model → Point → Past → Type 0
+Next c p before = IsNext c p before p.deed
 
-next-if : (c : Model) (p : Point) (before : Past) (d : Deed) → Unreported d → IsNext c p before d
-next-if c p before (reported a b n) u = absurd u
-next-if c p before _ u = tt
-
-unreported : (c : Model) → OfSingles c Unreported
-unreported c = record {
-  of_nothing = tt;
-  of_wrote = λ a b comp v. tt;
-  of_put = λ a x v e. tt;
-  of_copied = λ a x v. tt;
-  of_activated = λ a d n. tt;
-  of_edited = λ a d n. tt;
-  of_confirmed = λ a d. tt;
-  of_called = λ a k j v. tt;
-  of_selected = λ a k. tt;
+facts : (c : Model) → OfPoints c (Next c)
+facts c = record {
+  of_single = λ n m past. record {
+    of_nothing = tt;
+    of_wrote = λ a b comp v h. tt;
+    of_put = λ a x v e. tt;
+    of_copied = λ a x v. tt;
+    of_activated = λ a d n. tt;
+    of_edited = λ a d n. tt;
+    of_confirmed = λ a d. tt;
+    of_called = λ a k j v. tt;
+    of_selected = λ a k. tt;
+  };
+  of_opened = λ n m past a o w. tt;
+  of_lost = λ n m past a. tt;
+  of_valued = λ n m past s. tt;
+  of_finished = λ n m past k good. tt;
+  of_blocked = λ n m past k flag. tt;
+  of_answered = λ n m past a o ch. tt;
+  of_took = λ n m past a. tt;
+  of_terminated = λ n m past a k. tt;
+  of_reported = λ n m past a b i h. h;
+  of_nothing = λ n m past. tt;
 }
 
-singles : (c : Model) (a n m : ℕ) (ss : List Single) (past : Past) → AllNext c past → AllNext c (after_singles c a n m ss past)
-singles c a n m [] past h = h
-singles c a n m (s ∷ ss) past h = singles c a n m ss (after_single c a n m s past) (h, next-if c (arrival n m) past (deed_of (outcome_of c a s (arrival n m ∷ past))) (outcome c Unreported (unreported c) a s (arrival n m ∷ past)))
-
--- an offer is of the next entry
-abbrev IsOffer : Model → Past → Option Offer → Type 0
-IsOffer c past None = ⊤
-IsOffer c past (Some o) = next c o.block past ≡ Some o.id
-
-offered : (c : Model) (b : ℕ) (past : Past) → IsOffer c past (offer c b past)
-offered c b past = either (next c b past) refl where
-  either : (n : Option ℕ) → next c b past ≡ n → IsOffer c past (option_and_then (λ n. option_map (λ (e : Entry). record { block = b; id = n; entry = e }) (slice_get (selected c b past) (n - 1))) n)
-  either None is = tt
-  either (Some n) is = found (slice_get (selected c b past) (n - 1)) where
-    found : (e : Option Entry) → IsOffer c past (option_map (λ (e : Entry). record { block = b; id = n; entry = e }) e)
-    found None = tt
-    found (Some e) = is
-
-earlier_ : (c : Model) (past : Past) (x y : Option Offer) → IsOffer c past x → IsOffer c past y → IsOffer c past (earlier x y)
-earlier_ c past None y h i = i
-earlier_ c past (Some x) None h i = h
-earlier_ c past (Some x) (Some y) h i = either (nat_le x.entry.step y.entry.step) where
-  either : (b : Bool) → IsOffer c past (if b then Some x else Some y)
-  either true = h
-  either false = i
-
-first_ : (c : Model) (a : ℕ) (past : Past) (b : ℕ) (ds : List Block) → IsOffer c past (first_offer c a past b ds)
-first_ c a past b [] = tt
-first_ c a past b (d ∷ ds) = earlier_ c past (if is_enabled_by b a past then offer c b past else None) (first_offer c a past (suc b) ds) (either (is_enabled_by b a past)) (first_ c a past (suc b) ds) where
-  either : (t : Bool) → IsOffer c past (if t then offer c b past else None)
-  either true = offered c b past
-  either false = tt
-
-take_ : (c : Model) (a n m : ℕ) (past : Past) (p : Point) → p.step ≡ n → p.moment ≡ m → IsNext c p past (taken c a (arrival n m ∷ past)).deed
-take_ c a n m past p s t = either (is_none (ends a (arrival n m ∷ past))) (waiting c a (arrival n m ∷ past)) where
-  report : (o : Option Offer) → IsOffer c (arrival n m ∷ past) o → IsNext c p past (given_report c a (arrival n m ∷ past) o).deed
-  report None h = tt
-  report (Some o) h = rw (s, t) h
-
-  either : (x : Bool) (ws : List Waiting) → IsNext c p past (if x then record { answer = answers.Closed; deed = nothing } else given_by c a (arrival n m ∷ past) ws).deed
-  either true ws = tt
-  either false [] = report (first_offer c a (arrival n m ∷ past) 0 c.blocks) (first_ c a (arrival n m ∷ past) 0 c.blocks)
-  either false (reply o ∷ ws) = tt
-  either false (ending k good ∷ ws) = tt
-
-step : (c : Model) (n : ℕ) (t : Turn) (past : Past) (s : Step) → AllNext c past
-    → AllNext c (record { moment = t.moment; step = n; deed = deed_at c n t past s } ∷ singles_after c n t past s)
-step c n t past (steps.Open a size writer) h = (h, tt)
-step c n t past (steps.Ask a r) h = (singles c a.0 n t.moment (singles_of c past r.service) past h, tt)
-step c n t past (steps.Write a b comp v) h = (h, next-if c (record { moment = t.moment; step = n; deed = nothing }) past (deed_of (write_component c a.0 b.0 comp v (arrival n t.moment ∷ past))) (component_ c Unreported (unreported c) a.0 b.0 comp v (arrival n t.moment ∷ past)))
-step c n t past (steps.Take a) h = (h, take_ c a.0 n t.moment past (record { moment = t.moment; step = n; deed = (taken c a.0 (arrival n t.moment ∷ past)).deed }) refl refl)
-step c n t past (steps.Lost a) h = (h, tt)
-step c n t past (steps.Value settings) h = (h, tt)
-step c n t past (steps.Done k good) h = (h, tt)
-step c n t past (steps.Block k flag) h = (h, tt)
-step c n t past steps.Tick h = (h, tt)
+all : (c : Model) (past : Past) → Every (Next c) past → AllNext c past
+all c [] h = tt
+all c (p ∷ before) h = (all c before h.0, h.1)
 
 pub reports_are_next : (c : Model) (h : History) → AllNext c (points c h)
-reports_are_next c [] = tt
-reports_are_next c (t ∷ h) = step c (length h) t (points c h) t.step (reports_are_next c h)
+reports_are_next c h = all c (points c h) (every-point c (Next c) (facts c) h)
+
+some-inj : (x y : ℕ) → Some x ≡ Some y → x ≡ y
+some-inj x y h = ap (λ (o : Option ℕ). elim o [ None ↦ x | Some z ↦ z ]) h
+
+-- the next entry is there, and of the least number above the cursor and the front
+pub next-is : (c : Model) (b : ℕ) (past : Past) (n : ℕ) → next c b past ≡ Some n → (n ≡ next_number c b past) × (n ≤ length (selected c b past))
+next-is c b past n h = found (next_number c b past) (length (selected c b past)) n h where
+  found : (N L n : ℕ) → (if nat_le N L then Some N else None) ≡ Some n → (n ≡ N) × (n ≤ L)
+  found N L n h = either (leb_tells N L) where
+    either : ((nat_le N L ≡ true) × (N ≤ L)) ⊎ ((nat_le N L ≡ false) × (L < N)) → (n ≡ N) × (n ≤ L)
+    either (inl a) = let e : N ≡ n = some-inj N n (sym (ap (λ t. if t then Some N else None) a.0) ∙ h) in (sym e, subst (λ x. x ≤ L) e a.1)
+    either (inr a) = let e : None ≡ Some n = sym (ap (λ t. if t then Some N else None) a.0) ∙ h in cc

@@ -1,7 +1,7 @@
 -- After an accepted EntryID the reports are of its successors.
 use Rattle.std.proofs.Common.{◌≡◌, ℕ, suc, max, ◌≤◌, ◌<◌, Bool, true, false, not, List, [], ◌∷◌, ◌++◌, length, refl, sym, ap, ◌∙◌, subst, ◌⊎◌, inl, inr}
-use Rattle.std.specs.Prelude.{Option, None, Some, if◌then◌else◌, ◌==◌, ◌&&◌, nat_le}
-use Rattle.std.proofs.lemmas.Bool.Decides.{leb_tells, Decides-eqb}
+use Rattle.std.specs.Prelude.{Some, if◌then◌else◌, ◌==◌, ◌&&◌, nat_lt}
+use Rattle.std.proofs.lemmas.Bool.Decides.{Decides-eqb}
 use Rattle.sv_base.specs.declared.value.Value.TheVariants as kinds
 use Rattle.bay_model.specs.declared.step.Comp.TheVariants.{EntryID}
 use Rattle.bay_model.specs.Model.{Model}
@@ -12,7 +12,7 @@ use Rattle.bay_model.specs.Blocks.{cursor, cursor_after, entry_id, next, next_nu
 use Rattle.bay_model.specs.Singles.{arrival}
 use Rattle.bay_model.specs.Answers.{History, points}
 use Rattle.bay_model.specs.Successors.{IsNext, AllNext, is_resumption, none_resumes, sent_number, last_sent, IsSuccessor, AreSuccessors}
-use Rattle.bay_model.proofs.Reported.{reports_are_next}
+use Rattle.bay_model.proofs.Reported.{reports_are_next, next-is}
 
 kept : (b : ℕ) (d : Deed) (f was : ℕ) → is_resumption b d ≡ false → cursor_after b d f was ≡ sent_number b d was
 kept b (wrote a k EntryID (kinds.Octets o)) f was h = rw h refl
@@ -23,25 +23,20 @@ both false true h = (refl, refl)
 both false false h = (refl, h)
 both true y h = cc
 
-some-inj : (x y : ℕ) → Some x ≡ Some y → x ≡ y
-some-inj x y h = ap (λ (o : Option ℕ). elim o [ None ↦ x | Some z ↦ z ]) h
-
 module _ (c : Model) (b k : ℕ) (from : Past) (starts : cursor c b from ≡ k) where
   cursor-since : (ps : List Point) → none_resumes b ps ≡ true → cursor c b (ps ++ from) ≡ last_sent b k ps
   cursor-since [] h = starts
   cursor-since (p ∷ ps) h = kept b p.deed (front c b (p ∷ (ps ++ from))) (cursor c b (ps ++ from)) (both (is_resumption b p.deed) (none_resumes b ps) h).0
       ∙ ap (sent_number b p.deed) (cursor-since ps (both (is_resumption b p.deed) (none_resumes b ps) h).1)
 
-  found : (N L n : ℕ) → (if nat_le N L then Some N else None) ≡ Some n → (n ≡ N) × (n ≤ L)
-  found N L n h = either (leb_tells N L) where
-    either : ((nat_le N L ≡ true) × (N ≤ L)) ⊎ ((nat_le N L ≡ false) × (L < N)) → (n ≡ N) × (n ≤ L)
-    either (inl a) = let e : N ≡ n = some-inj N n (sym (ap (λ t. if t then Some N else None) a.0) ∙ h) in (sym e, subst (λ x. x ≤ L) e a.1)
-    either (inr a) = let e : None ≡ Some n = sym (ap (λ t. if t then Some N else None) a.0) ∙ h in cc
-
   successor : (p : Point) (ps : List Point) (d : Deed) → cursor c b (ps ++ from) ≡ last_sent b k ps → IsNext c p (ps ++ from) d → IsSuccessor c b p (last_sent b k ps) (ps ++ from) d
   successor p ps (reported a j n) is h = λ e. let f : (n ≡ next_number c b (arrival p.step p.moment ∷ (ps ++ from))) × (n ≤ length (selected c b (arrival p.step p.moment ∷ (ps ++ from)))) =
-      found (next_number c b (arrival p.step p.moment ∷ (ps ++ from))) (length (selected c b (arrival p.step p.moment ∷ (ps ++ from)))) n (subst (λ j. next c j (arrival p.step p.moment ∷ (ps ++ from)) ≡ Some n) e h)
-      in (f.0 ∙ ap (λ w. suc (max w (front c b (arrival p.step p.moment ∷ (ps ++ from))))) is, f.1)
+      next-is c b (arrival p.step p.moment ∷ (ps ++ from)) n (subst (λ j. next c j (arrival p.step p.moment ∷ (ps ++ from)) ≡ Some n) e h)
+      in (
+        f.0 ∙ ap (λ w. suc (max w (front c b (arrival p.step p.moment ∷ (ps ++ from))))) is,
+        f.1,
+        ap (λ w. nat_lt w (front c b (arrival p.step p.moment ∷ (ps ++ from)))) is,
+      )
   successor p ps _ is h = tt
 
   successors : (ps : List Point) → none_resumes b ps ≡ true → AllNext c (ps ++ from) → AreSuccessors c b k from ps

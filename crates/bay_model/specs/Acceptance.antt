@@ -1,5 +1,5 @@
--- Which steps are accepted, and why one is refused (IEC 61850-7-2, the associations of a server; who may step is this
--- profile's own).
+-- Which steps are accepted, and why one is refused (IEC 61850-7-2, the application association model; that an
+-- association has an opener and a writer, and room for 16 replies, is this profile's own).
 use Rattle.std.specs.Prelude.{◌≡◌, ⊤, ℕ, Bool, ◌||◌, ◌==◌, nat_le, [], ◌∷◌, Option, None, Some, is_some, if◌then◌else◌}
 use Rattle.std.specs.Option.{option_map_or}
 use Rattle.bay_model.specs.declared.step.Step.{Step}
@@ -10,7 +10,8 @@ use Rattle.bay_model.specs.Associations.{Ends, ends}
 use Rattle.bay_model.specs.Waiting.{waiting_replies}
 use Rattle.bay_model.specs.Answers.{Turn, History, points}
 
--- why a step is refused and makes no history
+-- why a step is refused: the association is open already; it isn't open; the actor isn't the one who may make the step;
+-- 16 replies wait
 pub data Fault : Type 0 where
   IsOpen : (a : ℕ) → Fault
   NotOpen : (a : ℕ) → Fault
@@ -24,6 +25,7 @@ abbrev pub if_open : Option Ends → ℕ → (Ends → Bool) → Option Fault �
 if_open None a yours fault = Some (NotOpen a)
 if_open (Some e) a yours fault = if_yours (yours e) a fault
 
+-- the fault of an actor's step after past, where it has one
 abbrev pub fault_at : Model → ℕ → Past → Step → Option Fault
 fault_at c actor past (steps.Open a size writer) = if is_some (ends a.0 past) then Some (IsOpen a.0) else None
 fault_at c actor past (steps.Ask a r) = if_open (ends a.0 past) a.0 (λ e. actor == e.opener) (if nat_le 16 (waiting_replies c a.0 past) then Some (QueueFull a.0) else None)
@@ -35,7 +37,7 @@ fault_at c actor past _ = None
 abbrev pub fault : Model → History → Turn → Option Fault
 fault c h t = fault_at c t.actor (points c h) t.step
 
--- each step is accepted after those before it
+-- a history of accepted steps: each is accepted after those before it
 abbrev pub IsHistory : Model → History → Type 0
 IsHistory c [] = ⊤
 IsHistory c (t ∷ h) = IsHistory c h × (fault c h t ≡ None)

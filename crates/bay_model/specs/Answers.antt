@@ -1,4 +1,4 @@
--- A history with its points, and what each of its steps is answered.
+-- A history with its points, and what each of its steps is answered (the steps are this profile's own).
 use Rattle.std.specs.Prelude.{ℕ, List, [], ◌∷◌, length}
 use Rattle.std.specs.List.{filter_map}
 use Rattle.sv_base.specs.declared.value.Value.{Value}
@@ -24,23 +24,23 @@ pub record Turn : Type 0 where
   pub actor : ℕ
   pub step : Step
 
--- the turns so far, the newest first
+-- the steps so far, the newest first
 abbrev pub History : Type 0
 History = List Turn
 
--- what comes of the single reads and writes of a request
+-- what comes of the single reads and writes of a's request, which is step n
 abbrev pub outcomes_of : Model → ℕ → ℕ → ℕ → Request → Past → List Outcome
 outcomes_of c n moment a r past = outcomes c a n moment (singles_of c past r.service) past
 
--- the reply with the errors before it
+-- its reply, with the LastApplErrors before it
 abbrev pub output_for : Model → ℕ → ℕ → ℕ → Request → Past → Output
 output_for c n moment a r past = outputs.Reply (filter_map error_in (outcomes_of c n moment a r past)) r.invoke (reply c past r.service (outcomes_of c n moment a r past))
 
--- the outcome of a Write step, at its moment
+-- what comes of a Write step, at its moment
 abbrev pub outcome_of_write : Model → ℕ → ℕ → ℕ → ℕ → Comp → Value → Past → Outcome
 outcome_of_write c n moment a b comp v past = write_component c a b comp v (arrival n moment ∷ past)
 
--- what comes of a step, an Ask aside; n is its number, from 0
+-- what came of a step at its own point, which for an Ask is that of its reply; n is its number, from 0
 abbrev pub deed_at : Model → ℕ → Turn → Past → Step → Deed
 deed_at c n t past (steps.Open a size writer) = opened a.0 t.actor writer.0
 deed_at c n t past (steps.Ask a r) = answered a.0 (output_for c n t.moment a.0 r past) (change_of c past r.service)
@@ -52,16 +52,16 @@ deed_at c n t past (steps.Done k good) = finished k.0 good
 deed_at c n t past (steps.Block k flag) = blocked k.0 flag
 deed_at c n t past steps.Tick = nothing
 
--- the points of the single reads and writes of a step
+-- the points of the single reads and writes of an Ask
 abbrev pub singles_after : Model → ℕ → Turn → Past → Step → Past
 singles_after c n t past (steps.Ask a r) = after_singles c a.0 n t.moment (singles_of c past r.service) past
 singles_after c n t past _ = past
 
--- the points after one step more: those of its single reads and writes, and then its own
+-- the points after one step more
 abbrev pub turned : Model → ℕ → Turn → Past → Past
 turned c n t past = record { moment = t.moment; step = n; deed = deed_at c n t past t.step } ∷ singles_after c n t past t.step
 
--- the points of a history
+-- the points of a history, the newest first
 abbrev pub points : Model → History → Past
 points c [] = []
 points c (t ∷ h) = turned c (length h) t (points c h)
@@ -77,6 +77,6 @@ answer_at c n t past (steps.Done k good) = answers.Went
 answer_at c n t past (steps.Block k flag) = answers.Went
 answer_at c n t past steps.Tick = answers.Went
 
--- answer: the answer of a step after a history
+-- what a step is answered after a history
 abbrev pub answer : Model → History → Turn → Answer
 answer c h t = answer_at c (length h) t (points c h) t.step

@@ -1,5 +1,5 @@
--- Who has enabled a block, and where its reports stand (IEC 61850-7-2, RptEna, EntryID, SqNum; the cursor is this
--- profile's own).
+-- Who has enabled a block, and where its reports stand (IEC 61850-7-2, BRCB attributes RptEna, EntryID and SqNum, and
+-- BufOvfl of a report; the cursor is this profile's own).
 use Rattle.std.specs.Prelude.{ℕ, suc, ◌%◌, max, min, Bool, false, not, ◌==◌, ◌&&◌, nat_le, nat_lt, List, [], ◌∷◌, length, Option, None, Some, is_none, is_some, if◌then◌else◌}
 use Rattle.std.specs.Option.{option_map_or}
 use Rattle.std.specs.Int.{from_be_bytes, w64}
@@ -23,13 +23,16 @@ abbrev pub enabler : ℕ → Past → Option ℕ
 enabler b [] = None
 enabler b (p ∷ before) = enabler_after b p.deed (enabler b before)
 
+-- association a has enabled block b
 abbrev pub is_enabled_by : ℕ → ℕ → Past → Bool
 is_enabled_by b a past = option_map_or (λ e. e == a) (enabler b past) false
 
+-- another association than a has
 abbrev pub is_enabled_by_another : ℕ → ℕ → Past → Bool
 is_enabled_by_another b a past = option_map_or (λ e. not (e == a)) (enabler b past) false
 
--- a's write is held
+-- a's write of a component is held, for who has enabled the block: RptEna where another has, GI TRUE where a hasn't, GI
+-- FALSE where another has, every other component where anyone has
 abbrev pub is_held : ℕ → ℕ → Comp → Value → Past → Bool
 is_held b a RptEna v past = is_enabled_by_another b a past
 is_held b a GI (kinds.Bool on) past = if on then not (is_enabled_by b a past) else is_enabled_by_another b a past
@@ -40,11 +43,13 @@ sent_after b (wrote a k RptEna (kinds.Bool on)) idle was = if (k == b) && (on &&
 sent_after b (reported a k n) idle was = if k == b then suc was else was
 sent_after b _ idle was = was
 
--- the reports of block b since its last enabling
+-- how many reports of block b there were since its last enabling: the last accepted RptEna TRUE at which nobody had
+-- enabled it
 abbrev pub sent : ℕ → Past → ℕ
 sent b [] = 0
 sent b (p ∷ before) = sent_after b p.deed (is_none (enabler b before)) (sent b before)
 
+-- SqNum
 abbrev pub sq_num : ℕ → Past → ℕ
 sq_num b past = sent b past % 65536
 
@@ -63,13 +68,14 @@ abbrev pub cursor : Model → ℕ → Past → ℕ
 cursor c b [] = 0
 cursor c b (p ∷ before) = cursor_after b p.deed (front c b (p ∷ before)) (cursor c b before)
 
+-- the least number above the cursor and the front
 abbrev pub next_number : Model → ℕ → Past → ℕ
 next_number c b past = suc (max (cursor c b past) (front c b past))
 
--- the entry that is to be reported next, where there is one
+-- the number of the entry that is to be reported next, where that entry is there
 abbrev pub next : Model → ℕ → Past → Option ℕ
 next c b past = if nat_le (next_number c b past) (length (selected c b past)) then Some (next_number c b past) else None
 
--- entries before it, not sent, are discarded
+-- BufOvfl: entries that weren't sent were discarded before the next one
 abbrev pub is_overflown : Model → ℕ → Past → Bool
 is_overflown c b past = nat_lt (cursor c b past) (front c b past)

@@ -1,5 +1,5 @@
--- What a command of a control says, and whether its value is of the type of its node (IEC 61850-7-2, Select, Operate
--- and Cancel).
+-- What a command of a control says, and whether its value is of the type of its node (IEC 61850-7-2, the parameters of
+-- SelectWithValue, Operate and Cancel; IEC 61850-8-1, SBOw, Oper and Cancel).
 use Rattle.std.specs.Prelude.{ℕ, ℤ, Bool, true, false, not, ◌&&◌, ◌==◌, nat_le, nat_lt, int_le, pos, neg_ℤ, List, length, Option, None, Some}
 use Rattle.std.specs.Option.{option_map_or}
 use Rattle.std.specs.Ordering.{int_eq}
@@ -20,6 +20,7 @@ pub record Command : Type 0 where
   pub test : Bool
   pub rest : Row
 
+-- the command of a structure of ctlVal, origin (orCat, orIdent), ctlNum, T, Test and what follows
 abbrev pub command_of : Value → Option Command
 command_of (kinds.Struct (more v (more (structure (more (plain (int cat)) (more (plain (octets ident)) none))) (more (plain (uint n)) (more (plain (time s f q)) (more (plain (truth test)) rest))))))
     = Some (record { value = v; or_cat = cat; or_ident = ident; ctl_num = n; test = test; rest = rest })
@@ -32,12 +33,13 @@ is_rest select (more (plain (bits b)) none) = length b == 2
 is_rest operate (more (plain (bits b)) none) = length b == 2
 is_rest _ _ = false
 
--- the value is of the node's type, range and length included
+-- the value is of the node's type, range and length included; kind is that of ctlVal
 abbrev pub is_command : Kind → Call → Option Command → Bool
 is_command kind call None = false
 is_command kind call (Some m) = is_kind kind (value_of m.value) && is_in_range kind (value_of m.value) && int_le (neg_ℤ (pos 128)) m.or_cat && int_le m.or_cat (pos 127)
     && nat_le (length m.or_ident) 64 && nat_lt m.ctl_num 256 && is_rest call m.rest
 
+-- a test operate
 abbrev pub is_test : Value → Bool
 is_test v = option_map_or (λ (m : Command). m.test) (command_of v) false
 

@@ -1,5 +1,5 @@
 -- What the components of report blocks and of setting group blocks read (IEC 61850-7-2, GetBRCBValues and
--- GetSGCBValues).
+-- GetSGCBValues; what EntryID, TimeofEntry, GI, PurgeBuf and CnfEdit read is this profile's own).
 use Rattle.std.specs.Prelude.{ℕ, ◌-◌, ◌*◌, ◌/◌, ◌%◌, ◌^◌, false, List, [], ◌∷◌, length, is_some}
 use Rattle.std.specs.Option.{option_map_or}
 use Rattle.std.specs.Int.{to_be_bytes, w64}
@@ -17,26 +17,27 @@ use Rattle.bay_model.specs.Entries.{Entry, selected}
 use Rattle.bay_model.specs.Blocks.{enabler, sq_num}
 use Rattle.bay_model.specs.Settings.{active, activation, Edit, edit}
 
--- milliseconds of the day, and days since 1 January 1984
+-- EntryTime of a moment: milliseconds of the day, and days since 1 January 1984
 abbrev pub stamp_of : ℕ → Stamp
 stamp_of moment = record { ms = moment % 86400000; days = moment / 86400000 - 5113 }
 
 abbrev pub no_stamp : Stamp
 no_stamp = record { ms = 0; days = 0 }
 
--- seconds, the fraction of the rest in 24 bits, and the quality 0A
+-- TimeStamp of a moment: seconds, the fraction of the rest in 24 bits, and the quality 0A, ten bits of accuracy
 abbrev pub utc_of : ℕ → Utc
 utc_of moment = record { secs = moment / 1000; frac = (moment % 1000) * 2 ^ 24 / 1000; quality = 10 }
 
 abbrev pub no_utc : Utc
 no_utc = record { secs = 0; frac = 0; quality = 0 }
 
--- of entries, the newest one's moment
+-- the time of the newest of the entries, retained or not
 abbrev pub time_of_newest : List Entry → Stamp
 time_of_newest [] = no_stamp
 time_of_newest (e ∷ []) = stamp_of e.moment
 time_of_newest (e ∷ f ∷ es) = time_of_newest (f ∷ es)
 
+-- component comp of block b
 abbrev pub read_component : Model → ℕ → Comp → Past → Value
 read_component c b comps.RptID past = kinds.Text (parameters_at c b past).rpt_id
 read_component c b comps.RptEna past = kinds.Bool (is_some (enabler b past))
@@ -52,6 +53,7 @@ read_component c b comps.PurgeBuf past = kinds.Bool false
 read_component c b comps.EntryID past = kinds.Octets (to_be_bytes w64 (length (selected c b past)))
 read_component c b comps.TimeofEntry past = kinds.Stamp (time_of_newest (selected c b past))
 
+-- a component of the setting group block of domain d
 abbrev pub read_setting : Model → ℕ → Part → Past → Value
 read_setting c d NumOfSG past = kinds.Uint (groups_of c d).count
 read_setting c d ActSG past = kinds.Uint (active c d past)

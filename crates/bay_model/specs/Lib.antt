@@ -1,36 +1,68 @@
+-- The definitions of a bay, in the order in which they stand on each other. In all of them c is the model; a is the
+-- number of an association, b of a report block, k of a control, d of a domain, x of an attribute, n of a node; p is a
+-- point, before are the points before it, and past ends with the point that is spoken of.
+
+-- what a bay is configured with
 pub mod Roles
 pub mod Model
 pub mod Lookups
-pub mod Example
+-- a history's points, and the values and parameters at each
 pub mod Points
 pub mod Settings
 pub mod Values
 pub mod Parameters
 pub mod Sets
+-- from events to entries
 pub mod Notes
 pub mod Breaks
+pub mod Events
 pub mod Groups
 pub mod Entries
 pub mod Retained
+-- from entries to reports
 pub mod Blocks
+pub mod Reports
+-- controls
 pub mod Kinds
 pub mod Commands
 pub mod Controls
+pub mod Selections
 pub mod Calls
+-- associations, and what waits for them
 pub mod Associations
 pub mod Waiting
 pub mod Outputs
+-- single reads and writes
 pub mod Outcomes
 pub mod Components
 pub mod Reads
+pub mod BlockWrites
+pub mod SettingWrites
 pub mod Writes
 pub mod Singles
+-- requests and steps
 pub mod Names
 pub mod Definitions
+pub mod Deletions
 pub mod Services
-pub mod Reports
 pub mod Takes
 pub mod Answers
 pub mod Acceptance
+-- laws of every history
 pub mod Successors
+pub mod EntryLaws
+pub mod CursorLaws
 pub mod SettingLaw
+-- the example bay
+pub mod ExampleNodes
+pub mod Example
+pub mod ExampleTurns
+pub mod ExampleAnswers
+pub mod WorkedReports
+pub mod WorkedResumes
+pub mod ExampleRequests
+pub mod ExampleControl
+pub mod WorkedControls
+pub mod ExampleSettings
+pub mod WorkedSettings
+pub mod WorkedRequests

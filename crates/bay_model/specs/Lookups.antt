@@ -1,5 +1,5 @@
--- The parts of a configuration by their numbers and names. Numbers and names that are handed in are there; what is
--- given else is of no account.
+-- The parts of a model by their numbers. Each number that is handed in is that of a part which is there; what a number
+-- of none gives is of no account.
 use Rattle.std.specs.Prelude.{ℕ, false, List, [], ◌∷◌, ◌++◌, slice_get, unwrap_or}
 use Rattle.bay_model.specs.Model.{Model, Attr, Node, Block, Control, Groups, Parameters, reported, truth, several, structure, none}
 
@@ -24,6 +24,6 @@ control_of c k = unwrap_or (slice_get c.controls k) (record { reference = []; mo
 abbrev pub groups_of : Model → ℕ → Groups
 groups_of c d = unwrap_or (slice_get c.groups d) (record { count = 0; active = 0 })
 
--- `LD/item`
+-- the reference `LD/item` of an item of a domain (IEC 61850-7-2, ObjectReference; the item as IEC 61850-8-1 has it)
 abbrev pub reference_of : List ℕ → List ℕ → List ℕ
 reference_of domain item = domain ++ 47 ∷ item

@@ -1,10 +1,10 @@
--- The note of a point: which members of a block's data set it is an event of, and why (IEC 61850-7-2, TrgOps and
--- ReasonForInclusion).
+-- The note of a point: the members of a block's data set that it is an event of, and why (IEC 61850-7-2,
+-- TriggerConditions, TrgOps and ReasonForInclusion).
 use Rattle.std.specs.Prelude.{ℕ, suc, Bool, false, not, ◌&&◌, ◌||◌, List, [], ◌∷◌, ◌++◌, is_some, if◌then◌else◌}
 use Rattle.std.specs.Option.{option_map_or}
 use Rattle.sv_base.specs.Same.{is_same}
 use Rattle.sv_base.specs.Data.{data_of}
-use Rattle.bay_model.specs.declared.answer.Reasons.{Reasons}
+use Rattle.bay_model.specs.declared.report.Reasons.{Reasons}
 use Rattle.bay_model.specs.Model.{Model}
 use Rattle.bay_model.specs.Lookups.{attr_of, node_of}
 use Rattle.bay_model.specs.Points.{Deed, valued, put, activated, confirmed, Point, Past}
@@ -12,14 +12,16 @@ use Rattle.bay_model.specs.Values.{value_at, gives, whole}
 use Rattle.bay_model.specs.Parameters.{parameters_at, bit}
 use Rattle.bay_model.specs.Sets.{members}
 
--- the point changed the attribute: it gives it another value than it had before
+-- the point changed attribute x: it gives it another value than it had before
 abbrev pub is_changed : Model → ℕ → Deed → Past → Bool
 is_changed c x deed before = option_map_or (λ v. not (is_same v (value_at c x before))) (gives c x deed before) false
 
 abbrev pub no_reason : Reasons
 no_reason = record { dchg = false; qchg = false; dupd = false; intg = false; gi = false }
 
--- the reasons that one attribute gives under the options trg
+-- The reasons that attribute x gives under TrgOps: data-change where it is flagged dchg and was changed, quality-change
+-- where it is flagged qchg and was changed, data-update where it is flagged dupd and was set, each with its bit of
+-- TrgOps set.
 abbrev pub reasons_of : Model → List Bool → Deed → Past → ℕ → Reasons
 reasons_of c trg deed before x = record {
   dchg = (attr_of c x).dchg && bit 1 trg && is_changed c x deed before;
@@ -29,6 +31,7 @@ reasons_of c trg deed before x = record {
   gi = false;
 }
 
+-- a member has the reasons of all its attributes
 abbrev pub union : Reasons → Reasons → Reasons
 union r s = record { dchg = r.dchg || s.dchg; qchg = r.qchg || s.qchg; dupd = r.dupd || s.dupd; intg = r.intg || s.intg; gi = r.gi || s.gi }
 
@@ -39,13 +42,13 @@ abbrev pub union_of : Model → List Bool → Deed → Past → List ℕ → Rea
 union_of c trg deed before [] = no_reason
 union_of c trg deed before (x ∷ xs) = union (reasons_of c trg deed before x) (union_of c trg deed before xs)
 
--- a member of the set by its number, with its reasons and its Data
+-- a member of a data set by its number from 1, with its reasons and the MMS Data of its whole value
 pub record Kept : Type 0 where
   pub number : ℕ
   pub reasons : Reasons
   pub octets : List ℕ
 
--- members from number i on, with the values of past
+-- of the nodes, numbered from i on, those that have a reason, with their values after past
 abbrev pub noted : Model → (ℕ → Reasons) → Past → ℕ → List ℕ → List Kept
 noted c reasons past i [] = []
 noted c reasons past i (n ∷ ns) =
@@ -55,7 +58,7 @@ noted c reasons past i (n ∷ ns) =
 abbrev pub note_by : Model → ℕ → Point → Past → List Kept
 note_by c b p before = noted c (λ n. union_of c (parameters_at c b before).trg_ops p.deed before (node_of c n).attrs) (p ∷ before) 1 (members c b before)
 
--- note: the members of the block's set that the point is an event of. Only some deeds set attributes.
+-- the same by the deed: only four kinds set attributes, and any other has an empty note
 abbrev pub note_at : Model → ℕ → Point → Past → Deed → List Kept
 note_at c b p before (valued settings) = note_by c b p before
 note_at c b p before (put a x v) = note_by c b p before
@@ -63,9 +66,11 @@ note_at c b p before (activated a d n) = note_by c b p before
 note_at c b p before (confirmed a d) = note_by c b p before
 note_at c b p before _ = []
 
+-- the note of point p for block b, in the order of its data set: each member that it is an event of, with the union of
+-- its reasons and its whole value at p
 abbrev pub note : Model → ℕ → Point → Past → List Kept
 note c b p before = note_at c b p before p.deed
 
--- all members for one reason, with the values of past
+-- all members for one reason, with their values after past
 abbrev pub all_members : Model → ℕ → Reasons → Past → Past → List Kept
 all_members c b reasons before past = noted c (λ n. reasons) past 1 (members c b before)

@@ -1,12 +1,12 @@
--- Why a command was refused, and the output that is given for one that waits (IEC 61850-8-1, LastApplError;
--- IEC 61850-7-2, CommandTermination).
-use Rattle.std.specs.Prelude.{ℕ, pos, List, [], ◌∷◌, ◌++◌, None, if◌then◌else◌}
+-- The LastApplError of a refused command, and the output that is given for one that waits (IEC 61850-8-1, LastApplError
+-- and CommandTermination).
+use Rattle.std.specs.Prelude.{ℕ, pos, List, [], ◌++◌, None, codes, if◌then◌else◌}
 use Rattle.std.specs.Option.{option_map_or, option_map}
 use Rattle.sv_base.specs.declared.value.Value.{Value}
 use Rattle.sv_base.specs.declared.value.Value.TheVariants as kinds
 use Rattle.bay_model.specs.declared.answer.Output.{Output}
 use Rattle.bay_model.specs.declared.answer.Output.TheVariants as outputs
-use Rattle.bay_model.specs.declared.answer.ApplError.{ApplError}
+use Rattle.bay_model.specs.declared.control.ApplError.{ApplError}
 use Rattle.bay_model.specs.Model.{Model, Call, select, operate, cancel}
 use Rattle.bay_model.specs.Lookups.{control_of}
 use Rattle.bay_model.specs.Points.{Past}
@@ -14,15 +14,16 @@ use Rattle.bay_model.specs.Controls.{Execution, execution}
 use Rattle.bay_model.specs.Commands.{Command, command_of}
 use Rattle.bay_model.specs.Waiting.{Waiting, reply, ending}
 
+-- the end of the name of the variable that is written
 abbrev pub name_of_call : Call → List ℕ
-name_of_call select = 36 ∷ 83 ∷ 66 ∷ 79 ∷ 119 ∷ []
-name_of_call operate = 36 ∷ 79 ∷ 112 ∷ 101 ∷ 114 ∷ []
-name_of_call cancel = 36 ∷ 67 ∷ 97 ∷ 110 ∷ 99 ∷ 101 ∷ 108 ∷ []
+name_of_call select = codes "$SBOw"
+name_of_call operate = codes "$Oper"
+name_of_call cancel = codes "$Cancel"
 
 abbrev pub no_command : ApplError
 no_command = record { object = []; or_cat = pos 0; or_ident = []; ctl_num = 0; cause = 0 }
 
--- LastApplError of a call of control k
+-- the LastApplError of a call of control k: the written variable, origin and ctlNum of the command, and the AddCause
 abbrev pub error_of : Model → ℕ → Call → Value → ℕ → ApplError
 error_of c k call v cause = option_map_or (λ (m : Command). record {
   object = (control_of c k).reference ++ name_of_call call;
@@ -32,7 +33,8 @@ error_of c k call v cause = option_map_or (λ (m : Command). record {
   cause = cause;
 }) (command_of v) no_command
 
--- the output that is given for one that waits; past ends with the moment of the Take
+-- the output that is given for one that waits; past ends with the moment of the Take. A negative termination has the
+-- AddCause 16, time-limit-over.
 abbrev pub output_of : Model → Past → Waiting → Output
 output_of c past (reply output) = output
 output_of c past (ending k good) = outputs.Termination (record {

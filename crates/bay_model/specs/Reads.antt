@@ -1,4 +1,4 @@
--- What a single read gives (IEC 61850-7-2, GetDataValues; IEC 61850-8-1, SBO).
+-- What a single read gives (IEC 61850-7-2, GetDataValues, GetBRCBValues, GetSGCBValues, GetEditSGValue and Select).
 use Rattle.std.specs.Prelude.{ℕ, [], is_some, Result, Ok, Err, if◌then◌else◌}
 use Rattle.sv_base.specs.Tree.{Row, none, more}
 use Rattle.sv_base.specs.Seen.{seen_of}
@@ -14,11 +14,12 @@ use Rattle.bay_model.specs.Calls.{can_select}
 use Rattle.bay_model.specs.Outcomes.{Outcome, gave, refused}
 use Rattle.bay_model.specs.Components.{read_component, read_setting}
 
--- under SE the copy, or 2 where there is none
+-- under SE the edit copy, for every association, or code 2 where nobody holds the edit; else the value
 abbrev pub read_attribute : Model → Access → ℕ → Past → Result Value ℕ
 read_attribute c model.edited x past = if is_some (edit (attr_of c x).domain past) then Ok (stored c (attr_of c x).original past copy) else Err 2
 read_attribute c _ x past = Ok (value_at c x past)
 
+-- what stands under CO gives code 3
 abbrev pub read_leaf : Model → Past → Leaf → Result Value ℕ
 read_leaf c past (model.attribute x) = read_attribute c (attr_of c x).access x past
 read_leaf c past (model.component b comp) = Ok (read_component c b comp past)
@@ -48,7 +49,7 @@ abbrev pub outcome_of_read : Result Value ℕ → Outcome
 outcome_of_read (Ok v) = gave v nothing
 outcome_of_read (Err code) = refused code
 
--- a read of SBO selects and gives the control's reference, or it gives the empty text
+-- a read of SBO selects the control and gives its reference, or it gives the empty text
 abbrev pub read_role : Model → ℕ → Role → Tree → Past → Outcome
 read_role c a (selecting k) tree past = if can_select c k past then gave (kinds.Text (control_of c k).reference) (selected_control a k) else gave (kinds.Text []) nothing
 read_role c a _ tree past = outcome_of_read (read_tree c past tree)

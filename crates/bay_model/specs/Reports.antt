@@ -1,9 +1,9 @@
--- The report of an entry, and which entry is reported next (IEC 61850-7-2, the Report service; the order among
--- blocks is this profile's own).
+-- The report of an entry, and which entry is reported next (IEC 61850-7-2, the Report service and its report format;
+-- the order among blocks is this profile's own).
 use Rattle.std.specs.Prelude.{ℕ, suc, ◌-◌, List, [], ◌∷◌, length, map, Option, None, Some, slice_get, nat_le, if◌then◌else◌}
 use Rattle.std.specs.Option.{option_map, option_map_or, option_and_then}
-use Rattle.bay_model.specs.declared.answer.Report.{Report}
-use Rattle.bay_model.specs.declared.answer.Member.{Member}
+use Rattle.bay_model.specs.declared.report.Report.{Report}
+use Rattle.bay_model.specs.declared.report.Member.{Member}
 use Rattle.bay_model.specs.Model.{Model, Block}
 use Rattle.bay_model.specs.Lookups.{block_of, node_of, reference_of}
 use Rattle.bay_model.specs.Points.{Past}
@@ -19,6 +19,7 @@ pub record Offer : Type 0 where
   pub id : ℕ
   pub entry : Entry
 
+-- the next entry of block b
 abbrev pub offer : Model → ℕ → Past → Option Offer
 offer c b past = option_and_then (λ n. option_map (λ (e : Entry). record { block = b; id = n; entry = e }) (slice_get (selected c b past) (n - 1))) (next c b past)
 
@@ -28,17 +29,20 @@ earlier None y = y
 earlier (Some x) None = Some x
 earlier (Some x) (Some y) = if nat_le x.entry.step y.entry.step then Some x else Some y
 
--- the offer of the blocks from number b on that a has enabled
+-- of the next entries of those blocks that a has enabled, from number b on, the one that came to be at the earliest
+-- step, at a tie that of the lowest number
 abbrev pub first_offer : Model → ℕ → Past → ℕ → List Block → Option Offer
 first_offer c a past b [] = None
 first_offer c a past b (d ∷ ds) = earlier (if is_enabled_by b a past then offer c b past else None) (first_offer c a past (suc b) ds)
 
+-- the reference of node n
 abbrev pub reference_at : Model → ℕ → List ℕ
 reference_at c n = reference_of (node_of c n).domain (node_of c n).item
 
 abbrev pub no_reference : List ℕ
 no_reference = []
 
+-- a kept member of a data set of these nodes, as a report has it
 abbrev pub member_of : Model → List ℕ → Kept → Member
 member_of c nodes k = record {
   number = record { 0 = k.number };
@@ -47,11 +51,13 @@ member_of c nodes k = record {
   reasons = k.reasons;
 }
 
+-- an empty RptID is sent as the block's reference
 abbrev pub report_id : List ℕ → List ℕ → List ℕ
 report_id [] reference = reference
 report_id (o ∷ os) reference = o ∷ os
 
--- past ends with the moment of the Take
+-- the report of an entry: the block's parameters, SqNum, ConfRev and overflow mark at the Take, with whose moment past
+-- ends, and the entry's own number, time and members
 abbrev pub report_of : Model → Past → Offer → Report
 report_of c past o = record {
   block = record { 0 = o.block };

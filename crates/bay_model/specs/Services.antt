@@ -1,12 +1,12 @@
--- The reply to a request by its service (ISO 9506-1; IEC 61850-8-1).
+-- The reply to a request by its service (ISO 9506-2, the confirmed services; IEC 61850-8-1, their use).
 use Rattle.std.specs.Prelude.{ℕ, Bool, ◌==◌, List, [], map, length, Option, None, Some, is_none, if◌then◌else◌}
 use Rattle.std.specs.Option.{option_map_or}
 use Rattle.sv_base.specs.Same.{values_of}
 use Rattle.sv_base.specs.Tree.{Row}
 use Rattle.sv_base.specs.declared.numbers.NodeId.{NodeId}
-use Rattle.bay_model.specs.declared.answer.Asked.TheVariants as asked
-use Rattle.bay_model.specs.declared.answer.Reply.{Reply}
-use Rattle.bay_model.specs.declared.answer.Reply.TheVariants as replies
+use Rattle.bay_model.specs.declared.reply.Asked.TheVariants as asked
+use Rattle.bay_model.specs.declared.reply.Reply.{Reply}
+use Rattle.bay_model.specs.declared.reply.Reply.TheVariants as replies
 use Rattle.bay_model.specs.declared.request.Service.{Service}
 use Rattle.bay_model.specs.declared.request.Service.TheVariants as services
 use Rattle.bay_model.specs.declared.request.SetName.{SetName}
@@ -18,7 +18,8 @@ use Rattle.bay_model.specs.Sets.{sets, set_named}
 use Rattle.bay_model.specs.Outcomes.{Outcome, result_of, code_of}
 use Rattle.bay_model.specs.Singles.{Single, reads, read_of, write_of, writes_of}
 use Rattle.bay_model.specs.Names.{names_reply}
-use Rattle.bay_model.specs.Definitions.{definition_reply, definition_change, deletion_reply, deletion_change}
+use Rattle.bay_model.specs.Definitions.{definition_reply, definition_change}
+use Rattle.bay_model.specs.Deletions.{deletion_reply, deletion_change}
 
 abbrev pub set_found : Model → Past → SetName → Option DataSet
 set_found c past n = set_named n (sets c past)
@@ -26,10 +27,11 @@ set_found c past n = set_named n (sets c past)
 abbrev pub set_name : List ℕ → List ℕ → SetName
 set_name domain item = record { domain = domain; item = item }
 
+-- the writes of a set's members, where there are as many values
 abbrev pub written_set : DataSet → Row → List Single
 written_set s r = if length s.nodes == length (values_of r) then writes_of s.nodes (values_of r) else []
 
--- the single reads and writes of a service
+-- the single reads and writes of a service, in order
 abbrev pub singles_of : Model → Past → Service → List Single
 singles_of c past (services.Read ts spec) = map read_of ts
 singles_of c past (services.ReadSet domain item spec) = option_map_or (λ (s : DataSet). map reads s.nodes) (set_found c past (set_name domain item)) []
@@ -37,6 +39,7 @@ singles_of c past (services.WriteVars ws) = map write_of ws
 singles_of c past (services.WriteSet domain item vs) = option_map_or (λ s. written_set s vs) (set_found c past (set_name domain item)) []
 singles_of c past _ = []
 
+-- GetVariableAccessAttributes
 abbrev pub type_reply : Target → Reply
 type_reply (targets.Node n name) = replies.TypeOfNode n
 type_reply _ = replies.Error 7 2
@@ -44,6 +47,7 @@ type_reply _ = replies.Error 7 2
 abbrev pub node_number : ℕ → NodeId
 node_number n = record { 0 = n }
 
+-- GetNamedVariableListAttributes: a set that a client defined is deletable
 abbrev pub set_reply : Model → SetName → Option DataSet → Reply
 set_reply c n None = replies.Error 7 2
 set_reply c n (Some s) = replies.SetOf (is_none (set_named n c.sets)) (map node_number s.nodes)
@@ -52,12 +56,12 @@ abbrev pub read_set_reply : SetName → Bool → List Outcome → Option DataSet
 read_set_reply n spec os None = replies.Error 7 2
 read_set_reply n spec os (Some s) = replies.Read (if spec then asked.Set n else asked.No) (map result_of os)
 
--- a set that is there, with another count of values than members, is refused as Argument
+-- another count of values than members is refused as invalid arguments
 abbrev pub write_set_reply : Row → List Outcome → Option DataSet → Reply
 write_set_reply r os None = replies.Error 7 2
 write_set_reply r os (Some s) = if length s.nodes == length (values_of r) then replies.Wrote (map code_of os) else replies.Reject 3
 
--- reply: past is what came before the request, os what came of its single reads and writes
+-- the reply to a service; past is what came before the request, os what came of its single reads and writes
 abbrev pub reply : Model → Past → Service → List Outcome → Reply
 reply c past services.Status os = replies.Status
 reply c past services.Identify os = replies.Identify
@@ -73,6 +77,7 @@ reply c past (services.SetOf domain item) os = set_reply c (set_name domain item
 reply c past (services.Delete scope names) os = deletion_reply c past scope names
 reply c past (services.Reject n) os = replies.Reject n
 
+-- what comes of the data sets
 abbrev pub change_of : Model → Past → Service → Change
 change_of c past (services.Define domain item members) = definition_change c past (set_name domain item) members
 change_of c past (services.Delete scope names) = deletion_change c past scope names

@@ -1,4 +1,5 @@
--- The data sets that are there: the configured and the dynamic ones (IEC 61850-7-2, DATA-SET).
+-- The data sets that are there: the configured ones and those that clients defined (IEC 61850-7-2, DATA-SET;
+-- ISO 9506-2, named variable lists).
 use Rattle.std.specs.Prelude.{ℕ, Bool, not, ◌&&◌, List, [], ◌∷◌, ◌++◌, Option, unwrap_or}
 use Rattle.std.specs.Option.{option_map}
 use Rattle.std.specs.List.{find, filter}
@@ -12,6 +13,7 @@ use Rattle.bay_model.specs.Parameters.{parameters_at}
 abbrev pub is_named : SetName → DataSet → Bool
 is_named n s = bytes_eq n.domain s.domain && bytes_eq n.item s.item
 
+-- the sets but the one of this name
 abbrev pub without : SetName → List DataSet → List DataSet
 without n sets = filter (λ (s : DataSet). not (is_named n s)) sets
 
@@ -28,21 +30,23 @@ abbrev pub sets_after : Deed → List DataSet → List DataSet
 sets_after (answered a output change) was = sets_changed change was
 sets_after _ was = was
 
--- the dynamic sets: those whose last accepted define has no accepted delete after it
+-- the dynamic sets, in the order in which they were defined: those whose last accepted definition is followed by no
+-- accepted deletion
 abbrev pub dynamic : Past → List DataSet
 dynamic [] = []
 dynamic (p ∷ before) = sets_after p.deed (dynamic before)
 
+-- all sets that are there
 abbrev pub sets : Model → Past → List DataSet
 sets c past = c.sets ++ dynamic past
 
 abbrev pub set_named : SetName → List DataSet → Option DataSet
 set_named n all = find (is_named n) all
 
--- the set of a reference
+-- the set that a DatSet names, by its reference `LD/LN$NAME`
 abbrev pub set_referred : List ℕ → List DataSet → Option DataSet
 set_referred reference all = find (λ (s : DataSet). bytes_eq reference (reference_of s.domain s.item)) all
 
--- the nodes of the data set that a block reports; none where its DatSet is empty
+-- the nodes of the data set that block b reports; none where its DatSet is empty
 abbrev pub members : Model → ℕ → Past → List ℕ
 members c b past = unwrap_or (option_map (λ (s : DataSet). s.nodes) (set_referred (parameters_at c b past).dat_set (sets c past))) []

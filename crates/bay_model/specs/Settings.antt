@@ -1,4 +1,5 @@
--- Setting groups: which is active, who edits one, and what each holds (IEC 61850-7-2, SGCB).
+-- Setting groups: which is active, who edits one, and what each holds (IEC 61850-7-2, SETTING-GROUP-CONTROL-BLOCK:
+-- ActSG, EditSG, CnfEdit and LActTm).
 use Rattle.std.specs.Prelude.{ℕ, ◌-◌, Bool, false, ◌&&◌, ◌==◌, nat_lt, List, [], ◌∷◌, Option, None, Some, unwrap_or, slice_get, if◌then◌else◌}
 use Rattle.std.specs.Option.{option_or, option_map_or}
 use Rattle.sv_base.specs.declared.value.Value.{Value}
@@ -21,7 +22,7 @@ abbrev pub activation_after : ℕ → ℕ → Deed → Option ℕ → Option ℕ
 activation_after d moment (activated a e n) was = if e == d then Some moment else was
 activation_after d moment _ was = was
 
--- the moment of the last accepted ActSG
+-- LActTm: `now` at the last accepted ActSG, where there is one
 abbrev pub activation : ℕ → Past → Option ℕ
 activation d [] = None
 activation d (p ∷ before) = activation_after d (now (p ∷ before)) p.deed (activation d before)
@@ -42,21 +43,23 @@ abbrev pub edit : ℕ → Past → Option Edit
 edit d [] = None
 edit d (p ∷ before) = edit_after d p.deed (edit d before)
 
--- what settings give an attribute: the last one of it counts
+-- what the settings of a process step give attribute x: the last one of it counts
 abbrev pub set_to : ℕ → List Setting → Option Value
 set_to x [] = None
 set_to x (s ∷ later) = option_or (set_to x later) (if s.attr.0 == x then Some s.value else None)
 
--- where a value of an SG attribute stands: in the copy, or in a group
+-- where a value of an SG attribute is stored: in the edit copy, or in group g
 pub data Place : Type 0 where
   copy : Place
   group : ℕ → Place
 
+-- group g of domain d is the one that is edited
 abbrev pub is_edited : ℕ → ℕ → Past → Bool
 is_edited d g past = option_map_or (λ (e : Edit). e.group == g) (edit d past) false
 
--- Of the copy: the last accepted SE write, else the value in the group at its EditSG. Of group g: the last of an
--- accepted CnfEdit TRUE of the group, which gives the copy, and of a Value step while the group is active.
+-- What the copy holds: the last SE write that was accepted since the holder's EditSG, else what the group held at that
+-- EditSG. What group g holds is given by the last of: an accepted CnfEdit TRUE of the group, which gives the copy; a
+-- process step that sets x while the group is active; else the configuration.
 abbrev pub stored_after : Model → ℕ → Deed → Past → Place → (Place → Value) → Value
 stored_after c x (copied a y v) before copy was = if y == x then v else was copy
 stored_after c x (edited a d n) before copy was = if (d == (attr_of c x).domain) && nat_lt 0 n then was (group n) else was copy
@@ -68,6 +71,7 @@ abbrev pub configured_at : Model → ℕ → Place → Value
 configured_at c x copy = kinds.Other
 configured_at c x (group g) = unwrap_or (slice_get (attr_of c x).initial (g - 1)) kinds.Other
 
+-- the value of SG attribute x at a place
 abbrev pub stored : Model → ℕ → Past → Place → Value
 stored c x [] place = configured_at c x place
 stored c x (p ∷ before) place = stored_after c x p.deed before place (stored c x before)

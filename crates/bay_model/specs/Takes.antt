@@ -1,4 +1,5 @@
--- What a Take gives: the oldest output that waits, else the next report (the order of outputs is this profile's own).
+-- What a Take gives: the oldest output that waits, else the next report, else nothing (that outputs are taken, and their
+-- order, are this profile's own).
 use Rattle.std.specs.Prelude.{ℕ, List, [], ◌∷◌, Option, None, Some, is_none, if◌then◌else◌}
 use Rattle.bay_model.specs.declared.answer.Answer.{Answer}
 use Rattle.bay_model.specs.declared.answer.Answer.TheVariants as answers
@@ -19,6 +20,7 @@ abbrev pub deed_of_waiting : ℕ → Waiting → Deed
 deed_of_waiting a (reply output) = took a
 deed_of_waiting a (ending k good) = terminated a k
 
+-- no output waits: the report of an offer
 abbrev pub given_report : Model → ℕ → Past → Option Offer → Given
 given_report c a past None = record { answer = answers.Empty; deed = nothing }
 given_report c a past (Some o) = record { answer = answers.Taken (outputs.Report (report_of c past o)); deed = reported a o.block o.id }
@@ -27,5 +29,6 @@ abbrev pub given_by : Model → ℕ → Past → List Waiting → Given
 given_by c a past [] = given_report c a past (first_offer c a past 0 c.blocks)
 given_by c a past (w ∷ ws) = record { answer = answers.Taken (output_of c past w); deed = deed_of_waiting a w }
 
+-- a Take for a; past ends with its moment
 abbrev pub taken : Model → ℕ → Past → Given
 taken c a past = if is_none (ends a past) then record { answer = answers.Closed; deed = nothing } else given_by c a past (waiting c a past)

@@ -1,4 +1,4 @@
--- The value of an attribute at a point (IEC 61850-7-2, DataAttribute).
+-- The value of a data attribute (IEC 61850-7-2, DataAttribute; GetDataValues and SetDataValues).
 use Rattle.std.specs.Prelude.{ℕ, ◌-◌, Bool, true, false, ◌&&◌, ◌==◌, [], ◌∷◌, Option, None, Some, unwrap_or, slice_get, if◌then◌else◌}
 use Rattle.sv_base.specs.declared.value.Value.{Value}
 use Rattle.sv_base.specs.declared.value.Value.TheVariants as kinds
@@ -18,7 +18,9 @@ is_active_setting _ = false
 abbrev pub is_setting_of : Model → ℕ → ℕ → Bool
 is_setting_of c d x = is_active_setting (attr_of c x).access && ((attr_of c x).domain == d)
 
--- what a point gives an attribute, where it sets it
+-- What a deed gives attribute x, where it sets it: the process step's last setting of it; an accepted client write of
+-- it; for every SG attribute of the domain, at ActSG n its value in group n, and at CnfEdit TRUE of the active group
+-- the edit copy.
 abbrev pub gives : Model → ℕ → Deed → Past → Option Value
 gives c x (valued settings) before = set_to x settings
 gives c x (put a y v) before = if y == x then Some v else None
@@ -34,7 +36,7 @@ configured_by c _ x = unwrap_or (slice_get (attr_of c x).initial 0) kinds.Other
 abbrev pub configured : Model → ℕ → Value
 configured c x = configured_by c (attr_of c x).access x
 
--- the value of an attribute: what the last point that sets it gives it, else the configured one
+-- the value of attribute x: what the last point that sets it gives it, else the configured one
 abbrev pub value_at : Model → ℕ → Past → Value
 value_at c x [] = configured c x
 value_at c x (p ∷ before) = unwrap_or (gives c x p.deed before) (value_at c x before)
@@ -43,7 +45,7 @@ abbrev pub leaf_value : Model → Past → Leaf → Value
 leaf_value c past (attribute x) = value_at c x past
 leaf_value c past _ = kinds.Other
 
--- the whole value of a member
+-- the whole value of what a node holds, as of a member of a data set
 abbrev mutual
   pub whole : Model → Past → Tree → Value
   whole c past (model.leaf l) = leaf_value c past l

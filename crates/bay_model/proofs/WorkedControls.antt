@@ -1,0 +1,21 @@
+-- The worked histories of controls, by computation.
+use Rattle.std.proofs.Common.{refl}
+use Rattle.bay_model.specs.WorkedControls.{RefusedOpers, ActAndTermination, NegativeTermination, TestOperate, CancelledSelection, BlockedAndLost}
+
+pub refused_opers : RefusedOpers
+refused_opers = (refl, refl)
+
+pub act_and_termination : ActAndTermination
+act_and_termination = (refl, refl)
+
+pub negative_termination : NegativeTermination
+negative_termination = (refl, refl)
+
+pub test_operate : TestOperate
+test_operate = (refl, refl)
+
+pub cancelled_selection : CancelledSelection
+cancelled_selection = (refl, refl)
+
+pub blocked_and_lost : BlockedAndLost
+blocked_and_lost = (refl, refl)

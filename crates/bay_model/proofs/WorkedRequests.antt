@@ -1,0 +1,18 @@
+-- The worked histories of requests, by computation.
+use Rattle.std.proofs.Common.{refl}
+use Rattle.bay_model.specs.WorkedRequests.{RepliesInOrder, EnabledByRequest, DefinedSet, WaitingRepliesFull, RefusedSteps}
+
+pub replies_in_order : RepliesInOrder
+replies_in_order = (refl, refl)
+
+pub enabled_by_request : EnabledByRequest
+enabled_by_request = (refl, refl)
+
+pub defined_set : DefinedSet
+defined_set = (refl, refl)
+
+pub waiting_replies_full : WaitingRepliesFull
+waiting_replies_full = (refl, refl)
+
+pub refused_steps : RefusedSteps
+refused_steps = (refl, refl, refl)

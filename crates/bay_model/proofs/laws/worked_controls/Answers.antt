@@ -1,0 +1,20 @@
+use Rattle.bay_model.proofs.WorkedControls.{refused_opers, act_and_termination, negative_termination, test_operate, cancelled_selection, blocked_and_lost}
+use Rattle.bay_model.proofs.laws.worked_controls.Goals as goal
+
+pub returns-clause-refused_opers : goal.returns-clause-refused_opers
+returns-clause-refused_opers c = refused_opers
+
+pub returns-clause-act_and_termination : goal.returns-clause-act_and_termination
+returns-clause-act_and_termination c = act_and_termination
+
+pub returns-clause-negative_termination : goal.returns-clause-negative_termination
+returns-clause-negative_termination c = negative_termination
+
+pub returns-clause-test_operate : goal.returns-clause-test_operate
+returns-clause-test_operate c = test_operate
+
+pub returns-clause-cancelled_selection : goal.returns-clause-cancelled_selection
+returns-clause-cancelled_selection c = cancelled_selection
+
+pub returns-clause-blocked_and_lost : goal.returns-clause-blocked_and_lost
+returns-clause-blocked_and_lost c = blocked_and_lost

@@ -1,0 +1,11 @@
+use Rattle.bay_model.proofs.WorkedSettings.{active_group, edited_group, held_edit}
+use Rattle.bay_model.proofs.laws.worked_settings.Goals as goal
+
+pub returns-clause-active_group : goal.returns-clause-active_group
+returns-clause-active_group c = active_group
+
+pub returns-clause-edited_group : goal.returns-clause-edited_group
+returns-clause-edited_group c = edited_group
+
+pub returns-clause-held_edit : goal.returns-clause-held_edit
+returns-clause-held_edit c = held_edit

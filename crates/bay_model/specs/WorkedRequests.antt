@@ -1,0 +1,57 @@
+-- Worked histories: requests, their replies, data sets that a client defines, and steps that are refused (ISO 9506-2, the
+-- confirmed services; that 16 replies of an association may wait is this profile's own).
+use Rattle.std.specs.Prelude.{◌≡◌, ℕ, zero, suc, true, false, List, [], ◌∷◌, ◌++◌, reverse, Some, None, codes}
+use Rattle.sv_base.specs.declared.value.Value.TheVariants as kinds
+use Rattle.bay_model.specs.declared.answer.Answer.TheVariants.{Asked, Empty}
+use Rattle.bay_model.specs.declared.reply.Reply.TheVariants as replies
+use Rattle.bay_model.specs.declared.request.Scope.TheVariants as scopes
+use Rattle.bay_model.specs.declared.request.Service.{Service}
+use Rattle.bay_model.specs.declared.request.Service.TheVariants as services
+use Rattle.bay_model.specs.declared.step.Comp.TheVariants as comps
+use Rattle.bay_model.specs.Answers.{Turn}
+use Rattle.bay_model.specs.Acceptance.{Fault, IsOpen, NotOpen, NotYours, QueueFull, fault}
+use Rattle.bay_model.specs.ExampleNodes.{domain}
+use Rattle.bay_model.specs.Example.{example}
+use Rattle.bay_model.specs.ExampleTurns.{at, open_direct, lost, take, enable, write, set_power, Answered}
+use Rattle.bay_model.specs.ExampleAnswers.{ok, refused, report, unmarked, changed, power}
+use Rattle.bay_model.specs.ExampleRequests.{ask, target, write_to, replied, wrote}
+
+-- Replies wait, and are taken in their order.
+abbrev pub RepliesInOrder : Type 0
+RepliesInOrder = Answered (example 200) (open_direct 1 ∷ ask 1 1 services.Status ∷ ask 1 2 (services.Reject 2) ∷ ask 1 0 services.Conclude ∷ [])
+    (take 1 ∷ take 1 ∷ take 1 ∷ take 1 ∷ [])
+    (replied 1 replies.Status ∷ replied 2 (replies.Reject 2) ∷ replied 0 replies.Conclude ∷ Empty ∷ [])
+
+-- A block that is enabled by a request: the reply comes first, and then the report.
+abbrev pub EnabledByRequest : Type 0
+EnabledByRequest = Answered (example 200) (open_direct 1 ∷ at 10 (set_power 5) ∷ at 10 (write_to 1 1 (target 4 (codes "LLN0$BR$brcbEv01$RptEna")) (kinds.Bool true)) ∷ [])
+    (at 10 (take 1) ∷ at 10 (take 1) ∷ [])
+    (wrote 1 ∷ report 0 1 10 unmarked (power 5 changed ∷ []) ∷ [])
+
+abbrev pub define : Service
+define = services.Define domain (codes "LLN0$Own") (target 32 (codes "MMXU1$MX$TotW$mag$i") ∷ [])
+
+abbrev pub delete : Service
+delete = services.Delete 0 (record { domain = domain; item = codes "LLN0$Own" } ∷ [])
+
+-- A data set that was defined can be defined once, is listed, and isn't deleted while the block names it.
+abbrev pub DefinedSet : Type 0
+DefinedSet = Answered (example 200) (open_direct 1 ∷ ask 1 1 define ∷ ask 1 2 define ∷ ask 1 3 (services.Names 2 (scopes.Domain domain) None) ∷ write 1 comps.DatSet (kinds.Text (codes "BAY1/LLN0$Own")) ∷ ask 1 4 delete ∷ write 1 comps.DatSet (kinds.Text []) ∷ ask 1 5 delete ∷ [])
+    (take 1 ∷ take 1 ∷ take 1 ∷ take 1 ∷ take 1 ∷ enable 1 ∷ [])
+    (replied 1 replies.Defined ∷ replied 2 (replies.Error 2 5) ∷ replied 3 (replies.Names (codes "LLN0$Events" ∷ codes "LLN0$Own" ∷ [])) ∷ replied 4 (replies.Deleted 1 0) ∷ replied 5 (replies.Deleted 1 1) ∷ refused 8 ∷ [])
+
+-- requests of a, one after another
+abbrev pub asks : ℕ → ℕ → List Turn
+asks a zero = []
+asks a (suc count) = ask a count services.Status ∷ asks a count
+
+-- A request is refused while 16 replies wait, and accepted once one of them was taken.
+abbrev pub WaitingRepliesFull : Type 0
+WaitingRepliesFull = (fault (example 200) (reverse (open_direct 1 ∷ asks 1 16)) (ask 1 16 services.Status) ≡ Some (QueueFull 1))
+    × (fault (example 200) (reverse (open_direct 1 ∷ (asks 1 16 ++ take 1 ∷ []))) (ask 1 16 services.Status) ≡ None)
+
+-- Refused steps: an association that is open, one that isn't, and another's.
+abbrev pub RefusedSteps : Type 0
+RefusedSteps = (fault (example 200) (open_direct 1 ∷ []) (open_direct 1) ≡ Some (IsOpen 1))
+    × (fault (example 200) (lost 1 ∷ open_direct 1 ∷ []) (enable 1) ≡ Some (NotOpen 1))
+    × (fault (example 200) (open_direct 1 ∷ []) (record (take 1) { actor = 2 }) ≡ Some (NotYours 1))

@@ -1,0 +1,45 @@
+-- Worked histories: setting groups that are activated and edited (IEC 61850-7-2, SGCB: SelectActiveSG, SelectEditSG,
+-- SetEditSGValue, ConfirmEditSGValues and GetEditSGValue).
+use Rattle.std.specs.Prelude.{ℕ, true, pos, [], ◌∷◌, codes}
+use Rattle.sv_base.specs.declared.value.Value.TheVariants as kinds
+use Rattle.bay_model.specs.Answers.{Turn}
+use Rattle.bay_model.specs.ExampleTurns.{open_direct, lost, take, Answered}
+use Rattle.bay_model.specs.ExampleRequests.{target, read, write_to, gave, gave_none, wrote, wrote_none}
+use Rattle.bay_model.specs.ExampleSettings.{example_settings}
+
+abbrev pub activate : (a invoke n : ℕ) → Turn
+activate a invoke n = write_to a invoke (target 36 (codes "LLN0$SP$SGCB$ActSG")) (kinds.Uint n)
+
+abbrev pub edit : (a invoke n : ℕ) → Turn
+edit a invoke n = write_to a invoke (target 37 (codes "LLN0$SP$SGCB$EditSG")) (kinds.Uint n)
+
+abbrev pub confirm : (a invoke : ℕ) → Turn
+confirm a invoke = write_to a invoke (target 38 (codes "LLN0$SP$SGCB$CnfEdit")) (kinds.Bool true)
+
+abbrev pub read_setting : (a invoke : ℕ) → Turn
+read_setting a invoke = read a invoke (target 42 (codes "MMXU1$SG$StrVal$setMag"))
+
+abbrev pub read_edited : (a invoke : ℕ) → Turn
+read_edited a invoke = read a invoke (target 45 (codes "MMXU1$SE$StrVal$setMag"))
+
+abbrev pub write_edited : (a invoke n : ℕ) → Turn
+write_edited a invoke n = write_to a invoke (target 45 (codes "MMXU1$SE$StrVal$setMag")) (kinds.Int (pos n))
+
+-- Under SG the setting is that of the active group; a group that isn't there can't be activated.
+abbrev pub ActiveGroup : Type 0
+ActiveGroup = Answered example_settings (open_direct 1 ∷ read_setting 1 1 ∷ activate 1 2 3 ∷ activate 1 3 2 ∷ read_setting 1 4 ∷ [])
+    (take 1 ∷ take 1 ∷ take 1 ∷ take 1 ∷ [])
+    (gave 1 (kinds.Int (pos 10)) ∷ wrote_none 2 11 ∷ wrote 3 ∷ gave 4 (kinds.Int (pos 20)) ∷ [])
+
+-- A group that was edited and confirmed has the new value once it is active; without an edit there is no copy to read.
+abbrev pub EditedGroup : Type 0
+EditedGroup = Answered example_settings (open_direct 1 ∷ activate 1 1 2 ∷ read_edited 1 2 ∷ edit 1 3 1 ∷ write_edited 1 4 15 ∷ confirm 1 5 ∷ activate 1 6 1 ∷ read_setting 1 7 ∷ [])
+    (take 1 ∷ take 1 ∷ take 1 ∷ take 1 ∷ take 1 ∷ take 1 ∷ take 1 ∷ [])
+    (wrote 1 ∷ gave_none 2 2 ∷ wrote 3 ∷ wrote 4 ∷ wrote 5 ∷ wrote 6 ∷ gave 7 (kinds.Int (pos 15)) ∷ [])
+
+-- One association holds the edit: every other may read the copy, and neither write it nor begin another. Its loss drops
+-- the copy.
+abbrev pub HeldEdit : Type 0
+HeldEdit = Answered example_settings (open_direct 1 ∷ open_direct 2 ∷ edit 1 1 2 ∷ write_edited 1 2 15 ∷ read_edited 2 1 ∷ write_edited 2 2 16 ∷ edit 2 3 1 ∷ confirm 2 4 ∷ lost 1 ∷ read_edited 2 5 ∷ edit 2 6 2 ∷ read_edited 2 7 ∷ [])
+    (take 2 ∷ take 2 ∷ take 2 ∷ take 2 ∷ take 2 ∷ take 2 ∷ take 2 ∷ [])
+    (gave 1 (kinds.Int (pos 15)) ∷ wrote_none 2 2 ∷ wrote_none 3 2 ∷ wrote_none 4 2 ∷ gave_none 5 2 ∷ wrote 6 ∷ gave 7 (kinds.Int (pos 20)) ∷ [])
