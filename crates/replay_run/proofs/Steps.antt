@@ -175,19 +175,19 @@ module _ (core : Core) (past : Past) (n m now : ℕ) (later : now ≡ max core.l
   -- PurgeBuf TRUE
   pub stands-purged : (a : ℕ) (b : Buffer) → b ≡ after_purge core.buffer → StandsAt (record core { steps = core.steps + 1; latest = now; buffer = b }) (suc n) (at (wrote a 0 PurgeBuf (kinds.Bool true)) ∷ past)
   stands-purged a b is = rw is (
-    let p : Point = at (wrote a 0 PurgeBuf (kinds.Bool true)) in
-    let same = selected-quiet core.buffer.capacity p past s.plain refl refl in
-    record {
-      steps = omega (arith, s.steps);
-      latest = omega (arith, later, s.latest);
-      value = s.value;
-      plain = plain-quiet core.buffer.capacity p past s.plain refl refl refl refl s.plain.waiting;
-      buffer = holds-purged core.buffer p past same refl s.buffer;
-      cursor = s.cursor;
-      sent = s.sent;
-      enabler = s.enabler;
-      opened = s.opened;
-    })
+      let p : Point = at (wrote a 0 PurgeBuf (kinds.Bool true)) in
+      let same = selected-quiet core.buffer.capacity p past s.plain refl refl in
+      record {
+        steps = omega (arith, s.steps);
+        latest = omega (arith, later, s.latest);
+        value = s.value;
+        plain = plain-quiet core.buffer.capacity p past s.plain refl refl refl refl s.plain.waiting;
+        buffer = holds-purged core.buffer p past same refl s.buffer;
+        cursor = s.cursor;
+        sent = s.sent;
+        enabler = s.enabler;
+        opened = s.opened;
+      })
 
   -- the power is set to what it was
   pub stands-set_same : (z : ℤ) → int_eq z core.value ≡ true → z ≡ core.value → StandsAt (record core { steps = core.steps + 1; latest = now }) (suc n) (setting m n z ∷ past)

@@ -52,12 +52,19 @@ module _ (core : Core) (n m : ℕ) (a : AssocNo) (past : Past) (s : StandsAt cor
 
   -- the number of the next entry, where a has enabled the block
   next-same : (if is_enabled_by 0 a.0 past then next (example core.buffer.capacity) 0 (arrival n m ∷ past) else None) ≡ next_to core.enabler a core.cursor core.buffer
-  next-same = rw (enabled-same a.0 core.enabler (enabler 0 past) s.enabler, front-arrival core.buffer.capacity n m past s.plain, selected-arrival core.buffer.capacity n m past s.plain,
-    ← s.cursor, ← s.buffer.front, ← s.buffer.newest, is_below) (either (option_map_or (λ (e : AssocNo). e.0 == a.0) core.enabler false)) where
-      either : (t : Bool) → (if t then (if nat_lt (max core.cursor core.buffer.front) core.buffer.newest then Some (suc (max core.cursor core.buffer.front)) else None) else None)
-          ≡ (if t && nat_lt (max core.cursor core.buffer.front) core.buffer.newest then Some (suc (max core.cursor core.buffer.front)) else None)
-      either true = refl
-      either false = refl
+  next-same = rw (
+    enabled-same a.0 core.enabler (enabler 0 past) s.enabler,
+    front-arrival core.buffer.capacity n m past s.plain,
+    selected-arrival core.buffer.capacity n m past s.plain,
+    ← s.cursor,
+    ← s.buffer.front,
+    ← s.buffer.newest,
+    is_below,
+  ) (either (option_map_or (λ (e : AssocNo). e.0 == a.0) core.enabler false)) where
+    either : (t : Bool) → (if t then (if nat_lt (max core.cursor core.buffer.front) core.buffer.newest then Some (suc (max core.cursor core.buffer.front)) else None) else None)
+        ≡ (if t && nat_lt (max core.cursor core.buffer.front) core.buffer.newest then Some (suc (max core.cursor core.buffer.front)) else None)
+    either true = refl
+    either false = refl
 
   abbrev offered : ℕ → Option Offer
   offered i = option_map (λ (e : Entry). record { block = 0; id = i; entry = e }) (slice_get (selected (example core.buffer.capacity) 0 (arrival n m ∷ past)) (i - 1))
@@ -79,7 +86,7 @@ module _ (core : Core) (n m : ℕ) (a : AssocNo) (past : Past) (s : StandsAt cor
       let place : core.buffer.front + (i - core.buffer.front - 1) ≡ i - 1 = omega (arith, above) in
       let at : slice_get (selected (example core.buffer.capacity) 0 (arrival n m ∷ past)) (i - 1) ≡ Some entry =
       ap (λ es. slice_get es (i - 1)) (selected-arrival core.buffer.capacity n m past s.plain) ∙ (ap (slice_get (selected (example core.buffer.capacity) 0 past)) (sym place)
-          ∙ (sym (slice_get-drop core.buffer.front (i - core.buffer.front - 1) (selected (example core.buffer.capacity) 0 past)) ∙ (ap (λ es. slice_get es (i - core.buffer.front - 1)) (sym s.buffer.entries) ∙ found))) in
+      ∙ (sym (slice_get-drop core.buffer.front (i - core.buffer.front - 1) (selected (example core.buffer.capacity) 0 past)) ∙ (ap (λ es. slice_get es (i - core.buffer.front - 1)) (sym s.buffer.entries) ∙ found))) in
       rw (opened, s.plain.waiting a.0, first-offer, is, at) (shown i entry) where
         shown : (i : ℕ) (entry : Entry) → ◌≡◌ {A = Given} (record { answer = answers.Taken (outputs.Report (report_of (example core.buffer.capacity) (arrival n m ∷ past) (record { block = 0; id = i; entry = entry }))); deed = reported a.0 0 i })
             (record { answer = answers.Taken (outputs.Report (report_for entry core.sent i (nat_lt core.cursor core.buffer.front))); deed = reported a.0 0 i })

@@ -4,3 +4,4 @@ pub mod Buffers
 pub mod Turns
 pub mod Stands
 pub mod Reported
+pub mod Texts

@@ -4,8 +4,8 @@ use Rattle.std.specs.Option.{option_map_or}
 use Rattle.sv_base.specs.Data.{data_of}
 use Rattle.sv_base.specs.declared.value.Value.TheVariants as kinds
 use Rattle.sv_base.specs.declared.numbers.AssocNo.{AssocNo}
-use Rattle.bay_model.specs.declared.answer.Reasons.{Reasons}
-use Rattle.bay_model.specs.declared.answer.Report.{Report}
+use Rattle.bay_model.specs.declared.report.Reasons.{Reasons}
+use Rattle.bay_model.specs.declared.report.Report.{Report}
 use Rattle.bay_model.specs.Notes.{no_reason}
 use Rattle.bay_model.specs.Entries.{Entry}
 use Rattle.bay_model.specs.Reports.{member_of}

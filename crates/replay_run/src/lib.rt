@@ -11,3 +11,4 @@ mod reading;
 mod reports;
 mod scan;
 mod stored;
+mod text;

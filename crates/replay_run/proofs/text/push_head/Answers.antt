@@ -1,0 +1,18 @@
+use Rattle.std.proofs.Common.{◌≡◌, ◌++◌, refl, append_assoc}
+use Rattle.replay_run.proofs.text.push_head.Goals as goal
+
+pub returns : goal.returns
+returns c = rw (
+  c.in_ok-push_flag.ensures,
+  c.in_ok-extend_from_slice-4.ensures.items,
+  c.in_ok-push_number-4.ensures,
+  c.in_ok-extend_from_slice-3.ensures.items,
+  c.in_ok-push_number-3.ensures,
+  c.in_ok-extend_from_slice-2.ensures.items,
+  c.in_ok-push_number-2.ensures,
+  c.in_ok-extend_from_slice.ensures.items,
+  c.in_ok-push_number.ensures,
+  c.ms.ensures.value,
+  c.from-2.ensures,
+  c.from.ensures,
+) (simp append_assoc refl)

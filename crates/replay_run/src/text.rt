@@ -1,0 +1,152 @@
+ghost use Rattle.std.specs.Prelude.{◌≡◌, ◌++◌, [], codes, decimal, OnOk, if◌then◌else◌};
+ghost use Rattle.std.specs.List.{flat_map};
+ghost use Rattle.hex.specs.Hex.{encode_lower};
+ghost use Rattle.replay_run.specs.Texts.{answer_lines, report_head, report_text, member_text, reason_letters, letter_if};
+ghost use Rattle.bay_model.specs.declared.answer.Answer.TheVariants.{Wrote};
+
+use bay_model::{Answer, Member, Output, Reasons, Report};
+use itoa::Buffer;
+use std::alloc::{AllocError, Global};
+use sv_base::AssocNo;
+
+/// Writes a number in decimal.
+fn push_number(out: &mut Vec<u8>, n: u64) -> Result<(), AllocError>
+    ensures { OnOk result (out.new.items ≡ out.old.items ++ decimal n) }
+{
+    out.extend_from_slice(Buffer::new().format(n).as_bytes())
+}
+
+/// Writes a letter where a reason is there.
+fn push_letter(out: &mut Vec<u8>, there: bool, letter: u8) -> Result<(), AllocError>
+    ensures { OnOk result (out.new.items ≡ out.old.items ++ letter_if there letter) }
+{
+    if there {
+        out.push(letter)?;
+    }
+    Ok(())
+}
+
+/// Writes the letters of the reasons that are there.
+fn push_reasons(out: &mut Vec<u8>, reasons: &Reasons) -> Result<(), AllocError>
+    ensures { OnOk result (out.new.items ≡ out.old.items ++ reason_letters reasons.now) }
+{
+    push_letter(out, reasons.dchg, b'd')?;
+    push_letter(out, reasons.qchg, b'q')?;
+    push_letter(out, reasons.dupd, b'u')?;
+    push_letter(out, reasons.intg, b'i')?;
+    push_letter(out, reasons.gi, b'g')
+}
+
+/// Writes octets in lower-case hexadecimal.
+fn push_hex(alloc: Global, out: &mut Vec<u8>, octets: &[u8]) -> Result<(), AllocError>
+    ensures { OnOk result (out.new.items ≡ out.old.items ++ encode_lower octets.now) }
+{
+    let text = hex::encode(alloc, octets)?;
+    out.extend_from_slice(text.as_bytes())
+}
+
+/// Writes a member of a report.
+fn push_member(alloc: Global, out: &mut Vec<u8>, member: &Member) -> Result<(), AllocError>
+    ensures { OnOk result (out.new.items ≡ out.old.items ++ member_text member.now) }
+{
+    out.push(b' ')?;
+    push_number(out, u64::from(member.number.0))?;
+    out.push(b'=')?;
+    push_reasons(out, &member.reasons)?;
+    out.push(b':')?;
+    push_hex(alloc, out, member.octets.as_slice())
+}
+
+/// Writes the members of a report.
+fn push_members(alloc: Global, out: &mut Vec<u8>, members: &[Member]) -> Result<(), AllocError>
+    ensures { OnOk result (out.new.items ≡ out.old.items ++ flat_map member_text members.now) }
+{
+    for member in members {
+        push_member(alloc, out, member)?;
+    }
+    Ok(())
+}
+
+/// Writes 1 for true and 0 for false.
+fn push_flag(out: &mut Vec<u8>, on: bool) -> Result<(), AllocError>
+    ensures { OnOk result (out.new.items ≡ out.old.items ++ (if on then codes "1" else codes "0")) }
+{
+    out.extend_from_slice(if on { b"1" } else { b"0" })
+}
+
+/// Writes the fields of a report, before its members.
+fn push_head(out: &mut Vec<u8>, a: AssocNo, report: &Report) -> Result<(), AllocError>
+    ensures { OnOk result (out.new.items ≡ out.old.items ++ report_head a.0 report.now) }
+{
+    push_number(out, u64::from(a.0))?;
+    out.extend_from_slice(b" report BAY1/LLN0$BR$brcbEv01 sq ")?;
+    push_number(out, u64::from(report.sq))?;
+    out.extend_from_slice(b" id ")?;
+    push_number(out, report.id)?;
+    out.extend_from_slice(b" time ")?;
+    push_number(out, report.time.ms())?;
+    out.extend_from_slice(b" ovfl ")?;
+    push_flag(out, report.ovfl)?;
+    Ok(())
+}
+
+/// Writes a report.
+fn push_report(
+    alloc: Global,
+    out: &mut Vec<u8>,
+    a: AssocNo,
+    report: &Report,
+) -> Result<(), AllocError>
+    ensures { OnOk result (out.new.items ≡ out.old.items ++ report_text a.0 report.now) }
+{
+    push_head(out, a, report)?;
+    push_members(alloc, out, report.members.as_slice())?;
+    out.push(b'\n')?;
+    Ok(())
+}
+
+/// Writes the outcome of a write.
+pub fn push_outcome(
+    out: &mut Vec<u8>,
+    a: AssocNo,
+    outcome: Result<(), u8>,
+) -> Result<(), AllocError>
+    ensures { OnOk result (out.new.items ≡ out.old.items ++ answer_lines a.0 (Wrote outcome)) }
+{
+    push_number(out, u64::from(a.0))?;
+    match outcome {
+        Ok(()) => out.extend_from_slice(b" ok\n"),
+        Err(code) => {
+            out.extend_from_slice(b" refused ")?;
+            push_number(out, u64::from(code))?;
+            out.push(b'\n')?;
+            Ok(())
+        }
+    }
+}
+
+/// Writes the lines of an answer to a direct association.
+pub fn push_answer(
+    alloc: Global,
+    out: &mut Vec<u8>,
+    a: AssocNo,
+    answer: &Answer,
+) -> Result<(), AllocError>
+    ensures { OnOk result (out.new.items ≡ out.old.items ++ answer_lines a.0 answer.now) }
+{
+    match answer {
+        Answer::Wrote(outcome) => push_outcome(out, a, *outcome),
+        Answer::Empty => push_word(out, a, b" empty\n"),
+        Answer::Closed => push_word(out, a, b" closed\n"),
+        Answer::Taken(Output::Report(report)) => push_report(alloc, out, a, report),
+        _ => Ok(()),
+    }
+}
+
+/// Writes an answer of one word.
+fn push_word(out: &mut Vec<u8>, a: AssocNo, word: &[u8]) -> Result<(), AllocError>
+    ensures { OnOk result (out.new.items ≡ out.old.items ++ (decimal a.0 ++ word.now)) }
+{
+    push_number(out, u64::from(a.0))?;
+    out.extend_from_slice(word)
+}
