@@ -1,6 +1,10 @@
 pub mod Buffered
 pub mod Discards
 pub mod Fronts
+pub mod Joined
+pub mod OneHeading
+pub mod OneLine
+pub mod OneRecord
 pub mod Outcomes
 pub mod Quiet
 pub mod Replies
@@ -11,3 +15,4 @@ pub mod Takes
 pub mod Texts
 pub mod Unlisted
 pub mod Writes
+pub mod ReadingOn

@@ -5,3 +5,6 @@ pub mod Turns
 pub mod Stands
 pub mod Reported
 pub mod Texts
+pub mod Heading
+pub mod Record
+pub mod Sessions

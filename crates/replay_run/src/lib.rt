@@ -10,5 +10,6 @@ mod numbers;
 mod reading;
 mod reports;
 mod scan;
+mod session;
 mod stored;
 mod text;

@@ -20,3 +20,16 @@ pub enum Line {
     /// The association is lost.
     Lost(AssocNo),
 }
+
+/// Why the reading of a record stops.
+#[derive(Clone, Copy, Debug, PartialEq, Eq)]
+pub enum Stop {
+    /// The last line is there.
+    End,
+    /// The step of a line is refused.
+    Refused,
+    /// A line is none of the listed ones.
+    NotListed,
+    /// The octets end before a line is whole.
+    NoEnd,
+}

@@ -1,0 +1,35 @@
+use Rattle.std.proofs.Common.{◌≡◌, ◌≤◌, ◌<◌, [], ◌∷◌, ◌++◌, List, ℕ, sym, ap, ◌∙◌, refl, arith, true, false}
+use Rattle.bay_model.specs.Example.{example}
+use Rattle.replay_run.specs.Lines.{newline}
+use Rattle.replay_run.specs.Record.{start, after_all, text_from, line_text}
+use Rattle.replay_run.specs.declared.line.Stop.TheVariants as stops
+use Rattle.replay_run.proofs.Joined.{append-nil}
+use Rattle.replay_run.proofs.ReadingOn.{reads-step, stops-next}
+use Rattle.replay_run.proofs.session.Session.read_step.Goals as goal
+
+pub returns-in_default-clause-moves : goal.returns-in_default-clause-moves
+returns-in_default-clause-moves c = λ so_far written r. record {
+  added = [];
+  out = sym (append-nil c.args.out.now.items);
+  goes = stops-next stops.NotListed c.args.self.now so_far written (c.args.line.now ++ newline) [] r
+      (c.args.line.now, [], refl, c.requires.whole, (λ h. absurd (omega (arith, h, c.requires.behind))), (λ h. (c.if-is_end.ensures, c.in_default.ensures))) (λ k. refl);
+}
+
+pub returns-then-refuses-clause-moves : goal.returns-then-refuses-clause-moves
+returns-then-refuses-clause-moves c = λ so_far written r. record {
+  added = [];
+  out = sym (append-nil c.args.out.now.items);
+  goes = stops-next stops.Refused c.args.self.now so_far written (c.args.line.now ++ newline) [] r
+      (omega (arith, c.requires.behind, r.begins.within), c.args.line.now, [], c.in-Some.step, refl, c.in-Some.ensures.0, c.in-Some.ensures.1, sym (c.if-refuses.ensures (after_all start r.steps) r.plays)) (λ k. refl);
+}
+
+pub returns-clause-moves : goal.returns-clause-moves
+returns-clause-moves c = λ so_far written r.
+    let s = after_all start r.steps in
+    let on = c.in_ok-play.ensures in
+    record {
+      added = line_text (example c.args.self.now.bay.buffer.capacity) s c.in-Some.step;
+      out = on.answered s r.plays;
+      goes = reads-step c.args.self.now c.play.new.self so_far written c.args.line.now (line_text (example c.args.self.now.bay.buffer.capacity) s c.in-Some.step) c.in-Some.step c.requires.behind
+          c.in-Some.ensures.0 c.in-Some.ensures.1 r (sym (c.if-refuses.ensures s r.plays)) on.capacity on.place (on.plays s r.plays) refl;
+    }
