@@ -16,3 +16,4 @@ pub mod Texts
 pub mod Unlisted
 pub mod Writes
 pub mod ReadingOn
+pub mod Feeding

@@ -86,13 +86,23 @@ reads-capacity old new octets written line capacity nine place moment is stands 
       written_is = nothing_written (example old.bay.buffer.capacity) r.steps written none r.written_is;
     }
 
--- the next line stops the reading
-pub stops-next : (stop : Stop) (old : Session) (octets written tail closing : List ℕ) (r : Reads old octets written) → StopsAt stop (example old.bay.buffer.capacity) old.place (after_all start r.steps) tail
-    → ((capacity : ℕ) → text capacity r.steps stop ≡ text_from (example capacity) start r.steps ++ closing) → Stopped stop (octets ++ tail) (written ++ closing)
-stops-next stop old octets written tail closing r s closes = record {
+-- the next line stops the reading, whatever follows it
+pub stops-next : (stop : Stop) (old : Session) (octets written line closing : List ℕ) (r : Reads old octets written)
+    → ((rest : List ℕ) → StopsAt (Some stop) (example old.bay.buffer.capacity) old.place (after_all start r.steps) (line ++ 10 ∷ rest))
+    → ((capacity : ℕ) → text capacity r.steps (Some stop) ≡ text_from (example capacity) start r.steps ++ closing)
+    → (more : List ℕ) → Stopped (Some stop) ((octets ++ (line ++ newline)) ++ more) (written ++ closing)
+stops-next stop old octets written line closing r s closes more = record {
   capacity = old.bay.buffer.capacity;
   steps = r.steps;
-  judged = record { place = old.place; front = octets; tail = tail; whole = refl; begins = r.begins; accepted = r.accepted; stops = s };
+  judged = record {
+    place = old.place;
+    front = octets;
+    tail = line ++ 10 ∷ more;
+    whole = append_assoc octets (line ++ newline) more ∙ ap (λ o. octets ++ o) (append_assoc line newline more);
+    begins = r.begins;
+    accepted = r.accepted;
+    stops = s more;
+  };
   written_is = ap (λ t. t ++ closing) r.written_is ∙ sym (closes old.bay.buffer.capacity);
 }
 

@@ -77,16 +77,16 @@ pub record Begins (octets : List ℕ) (place capacity : ℕ) (steps : List Line)
   pub early : place < 21 → steps ≡ []
   pub range : IsCapacity capacity
 
--- why reading stops at these octets, which follow so many lines of the heading and what was played:
--- the record ends; the step of the next line is refused; the next line is none of the listed ones; no whole line is there
-abbrev pub StopsAt : Stop → Model → ℕ → Played → List ℕ → Type 0
-StopsAt stops.End c place s tail = (place ≡ 21) × (rest : List ℕ) × (tail ≡ codes "end" ++ 10 ∷ rest)
-StopsAt stops.Refused c place s tail = (place ≡ 21) × (line : List ℕ) × (rest : List ℕ) × (l : Line) × (tail ≡ line ++ 10 ∷ rest) × IsLine l × Spells line l × (is_refused c s l ≡ true)
-StopsAt stops.NotListed c place s tail = (line : List ℕ) × (rest : List ℕ) × (tail ≡ line ++ 10 ∷ rest) × NoNewline line × (place < 21 → IsHeadingLine place line → ⊥) × (place ≡ 21 → IsUnlisted line)
-StopsAt stops.NoEnd c place s tail = NoNewline tail
+-- Why reading stops at these octets, which follow so many lines of the heading and what was played: the record ends; the
+-- step of the next line is refused; the next line is none of the listed ones; or there is no whole line.
+abbrev pub StopsAt : Option Stop → Model → ℕ → Played → List ℕ → Type 0
+StopsAt (Some stops.End) c place s tail = (place ≡ 21) × (rest : List ℕ) × (tail ≡ codes "end" ++ 10 ∷ rest)
+StopsAt (Some stops.Refused) c place s tail = (place ≡ 21) × (line : List ℕ) × (rest : List ℕ) × (l : Line) × (tail ≡ line ++ 10 ∷ rest) × IsLine l × Spells line l × (is_refused c s l ≡ true)
+StopsAt (Some stops.NotListed) c place s tail = (line : List ℕ) × (rest : List ℕ) × (tail ≡ line ++ 10 ∷ rest) × NoNewline line × (place < 21 → IsHeadingLine place line → ⊥) × (place ≡ 21 → IsUnlisted line)
+StopsAt None c place s tail = NoNewline tail
 
 -- these are the steps of the octets up to where reading stops, each accepted after those before it
-pub record Judged (octets : List ℕ) (capacity : ℕ) (steps : List Line) (stop : Stop) : Type 0 where
+pub record Judged (octets : List ℕ) (capacity : ℕ) (steps : List Line) (stop : Option Stop) : Type 0 where
   pub place : ℕ
   pub front : List ℕ
   pub tail : List ℕ
@@ -96,10 +96,10 @@ pub record Judged (octets : List ℕ) (capacity : ℕ) (steps : List Line) (stop
   pub stops : StopsAt stop (example capacity) place (after_all start steps) tail
 
 -- the last line is answered by its word
-abbrev pub closing : Stop → List ℕ
-closing stops.End = codes "end\n"
+abbrev pub closing : Option Stop → List ℕ
+closing (Some stops.End) = codes "end\n"
 closing _ = []
 
 -- the answer text of the lines up to where reading stops
-abbrev pub text : ℕ → List Line → Stop → List ℕ
+abbrev pub text : ℕ → List Line → Option Stop → List ℕ
 text capacity steps stop = text_from (example capacity) start steps ++ closing stop

@@ -7,6 +7,7 @@ use Rattle.replay_run.specs.Record.{Played, start, after, after_all, line_text, 
 use Rattle.replay_run.specs.declared.line.Line.{Line}
 use Rattle.replay_run.specs.declared.line.Stop.{Stop}
 use Rattle.replay_run.specs.declared.session.Session.{Session}
+use Rattle.replay_run.specs.declared.reader.Reader.{Reader}
 
 -- the bay and the moment are those of what was played
 pub record Plays (session : Session) (s : Played) : Type 0 where
@@ -21,17 +22,17 @@ pub record Reads (session : Session) (octets written : List ℕ) : Type 0 where
   pub accepted : all_accepted (example session.bay.buffer.capacity) start steps ≡ true
   pub written_is : written ≡ text_from (example session.bay.buffer.capacity) start steps
 
--- the reading of the octets stops, and this is what was written to them
-pub record Stopped (stop : Stop) (octets written : List ℕ) : Type 0 where
+-- the reading of the octets stops, or they end, and this is what was written to them
+pub record Stopped (stop : Option Stop) (octets written : List ℕ) : Type 0 where
   pub capacity : ℕ
   pub steps : List Line
   pub judged : Judged octets capacity steps stop
   pub written_is : written ≡ text capacity steps stop
 
--- the session goes on, or it stops
+-- the session goes on, or it stops, whatever octets follow
 abbrev pub GoesOn : Option Stop → Session → List ℕ → List ℕ → Type 0
 GoesOn None session octets written = Reads session octets written
-GoesOn (Some stop) session octets written = Stopped stop octets written
+GoesOn (Some stop) session octets written = (more : List ℕ) → Stopped (Some stop) (octets ++ more) written
 
 -- after the octets so far, something more was written, and the session goes on or stops
 pub record MovesTo (stop : Option Stop) (new : Session) (octets written before now : List ℕ) : Type 0 where
@@ -50,3 +51,29 @@ pub record PlaysOn (old new : Session) (line : Line) (before now : List ℕ) : T
   pub capacity : new.bay.buffer.capacity ≡ old.bay.buffer.capacity
   pub place : new.place ≡ old.place
   pub few : new.bay.steps ≤ old.bay.steps + 1
+
+-- of these octets the whole lines at the front were read, up to one that stops the reading, and this is the rest
+pub record LinesRead (stop : Option Stop) (rest : List ℕ) (old new : Session) (octets before now : List ℕ) : Type 0 where
+  pub done : List ℕ
+  pub split : octets ≡ done ++ rest
+  pub part : stop ≡ None → NoNewline rest
+  pub moves : Moves stop old new done before now
+
+-- the octets are whole lines that were read, and a part of a line that is held back
+pub record Fed (reader : Reader) (octets written : List ℕ) : Type 0 where
+  pub whole : List ℕ
+  pub split : octets ≡ whole ++ reader.held.items
+  pub reads : Reads reader.session whole written
+
+abbrev pub FeedsOn : Option Stop → Reader → List ℕ → List ℕ → Type 0
+FeedsOn None reader octets written = Fed reader octets written
+FeedsOn (Some stop) reader octets written = (more : List ℕ) → Stopped (Some stop) (octets ++ more) written
+
+-- a piece is fed, and something more was written
+pub record FeedsTo (stop : Option Stop) (new : Reader) (octets written before now : List ℕ) : Type 0 where
+  pub added : List ℕ
+  pub out : now ≡ before ++ added
+  pub goes : FeedsOn stop new octets (written ++ added)
+
+abbrev pub Feeds : Option Stop → Reader → Reader → List ℕ → List ℕ → List ℕ → Type 0
+Feeds stop old new piece before now = (so_far written : List ℕ) → Fed old so_far written → FeedsTo stop new (so_far ++ piece) written before now

@@ -7,6 +7,7 @@ mod data;
 mod heading;
 mod line;
 mod numbers;
+mod reader;
 mod reading;
 mod reports;
 mod scan;

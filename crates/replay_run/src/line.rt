@@ -21,7 +21,7 @@ pub enum Line {
     Lost(AssocNo),
 }
 
-/// Why the reading of a record stops.
+/// Why the reading of a record stops at a line.
 #[derive(Clone, Copy, Debug, PartialEq, Eq)]
 pub enum Stop {
     /// The last line is there.
@@ -30,6 +30,4 @@ pub enum Stop {
     Refused,
     /// A line is none of the listed ones.
     NotListed,
-    /// The octets end before a line is whole.
-    NoEnd,
 }

@@ -24,6 +24,6 @@ pub returns-in-None-clause-moves : goal.returns-in-None-clause-moves
 returns-in-None-clause-moves c = λ before so_far written r. record {
   added = [];
   out = sym (append-nil before);
-  goes = stops-next stops.NotListed c.args.self.now so_far written (c.args.line.now ++ newline) [] r
-      (c.args.line.now, [], refl, c.requires.whole, (λ h. c.in-None.ensures), (λ h. absurd (omega (arith, h, c.requires.within)))) (λ k. refl);
+  goes = stops-next stops.NotListed c.args.self.now so_far written c.args.line.now [] r
+      (λ rest. (c.args.line.now, rest, refl, c.requires.whole, (λ h. c.in-None.ensures), (λ h. absurd (omega (arith, h, c.requires.within))))) (λ k. refl);
 }
