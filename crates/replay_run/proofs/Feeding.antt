@@ -44,3 +44,71 @@ read-more stop old mid new octets rest line after before between now h is g = (
   h.split ∙ (ap (λ o. h.done ++ o) (is ∙ sym (append_assoc line newline after)) ∙ sym (append_assoc h.done (line ++ newline) after)),
   moves-then stop old mid new h.done (line ++ newline) before between now h.moves g,
 )
+
+stopped-at : (whole done rest more so_far piece : List ℕ) → so_far ≡ whole → piece ≡ done ++ rest → (whole ++ done) ++ (rest ++ more) ≡ (so_far ++ piece) ++ more
+stopped-at whole done rest more so_far piece e f = rw (e, f) (simp append_assoc refl)
+
+-- nothing is held back: what is fed is lines and the rest of them
+pub feeds-lines : (stop : Option Stop) (old new : Reader) (piece rest before now : List ℕ) → old.held.items ≡ [] → LinesRead stop rest old.session new.session piece before now → (stop ≡ None → new.held.items ≡ rest)
+    → Feeds stop old new piece before now
+feeds-lines None old new piece rest before now none read held = λ so_far written f.
+    let whole : so_far ≡ f.whole = f.split ∙ (ap (λ h. f.whole ++ h) none ∙ append-nil f.whole) in
+    let m = read.moves f.whole written f.reads in
+    record {
+      added = m.added;
+      out = m.out;
+      goes = record {
+        whole = f.whole ++ read.done;
+        split = ap (λ o. o ++ piece) whole ∙ (ap (λ p. f.whole ++ p) read.split ∙ (sym (append_assoc f.whole read.done rest) ∙ ap (λ h. (f.whole ++ read.done) ++ h) (sym (held refl))));
+        reads = m.goes;
+      };
+    }
+feeds-lines (Some stop) old new piece rest before now none read held = λ so_far written f.
+    let whole : so_far ≡ f.whole = f.split ∙ (ap (λ h. f.whole ++ h) none ∙ append-nil f.whole) in
+    let m = read.moves f.whole written f.reads in
+    record {
+      added = m.added;
+      out = m.out;
+      goes = λ more. subst (λ o. Stopped (Some stop) o (written ++ m.added)) (stopped-at f.whole read.done rest more so_far piece whole read.split) (m.goes (rest ++ more));
+    }
+
+-- a line that ends in the piece stops the reading, or the rest of the piece is fed
+pub holds-on : (old new : Reader) (piece before : List ℕ) → new.session ≡ old.session → new.held.items ≡ old.held.items ++ piece → Feeds None old new piece before before
+holds-on old new piece before same held = λ so_far written f. record {
+  added = [];
+  out = sym (append-nil before);
+  goes = record {
+    whole = f.whole;
+    split = ap (λ o. o ++ piece) f.split ∙ (append_assoc f.whole old.held.items piece ∙ ap (λ h. f.whole ++ h) (sym held));
+    reads = subst (λ s. Reads s f.whole (written ++ [])) (sym same) (as_written old.session f.whole written f.reads);
+  };
+}
+
+held-at : (whole held end after more so_far piece : List ℕ) → so_far ≡ whole ++ held → piece ≡ end ++ 10 ∷ after → (whole ++ ((held ++ end) ++ newline)) ++ (after ++ more) ≡ (so_far ++ piece) ++ more
+held-at whole held end after more so_far piece e f = rw (e, f) (simp append_assoc refl)
+
+then-at : (whole held end after so_far piece : List ℕ) → so_far ≡ whole ++ held → piece ≡ end ++ 10 ∷ after → (whole ++ ((held ++ end) ++ newline)) ++ after ≡ so_far ++ piece
+then-at whole held end after so_far piece e f = rw (e, f) (simp append_assoc refl)
+
+feeds-same : (stop : Option Stop) (new : Reader) (a b w v : List ℕ) → a ≡ b → w ≡ v → FeedsOn stop new a w → FeedsOn stop new b v
+feeds-same stop new a b w v e f g = subst (λ o. FeedsOn stop new o v) e (subst (FeedsOn stop new a) f g)
+
+-- the line that was held back ends in the piece, and stops the reading
+pub feeds-stop : (stop : Stop) (old new : Reader) (piece end after before now : List ℕ) → piece ≡ end ++ 10 ∷ after → Moves (Some stop) old.session new.session ((old.held.items ++ end) ++ newline) before now
+    → Feeds (Some stop) old new piece before now
+feeds-stop stop old new piece end after before now is g = λ so_far written f.
+    let m = g f.whole written f.reads in
+    record { added = m.added; out = m.out; goes = λ more. subst (λ o. Stopped (Some stop) o (written ++ m.added)) (held-at f.whole old.held.items end after more so_far piece f.split is) (m.goes (after ++ more)) }
+
+-- it is read, and what follows it is fed
+pub feeds-then : (stop : Option Stop) (old mid new : Reader) (piece end after before between now : List ℕ) → piece ≡ end ++ 10 ∷ after → Moves None old.session mid.session ((old.held.items ++ end) ++ newline) before between
+    → mid.held.items ≡ [] → Feeds stop mid new after between now → Feeds stop old new piece before now
+feeds-then stop old mid new piece end after before between now is g none next = λ so_far written f.
+    let m = g f.whole written f.reads in
+    let whole : f.whole ++ ((old.held.items ++ end) ++ newline) ≡ (f.whole ++ ((old.held.items ++ end) ++ newline)) ++ mid.held.items = sym (ap (λ h. (f.whole ++ ((old.held.items ++ end) ++ newline)) ++ h) none ∙ append-nil (f.whole ++ ((old.held.items ++ end) ++ newline))) in
+    let n = next (f.whole ++ ((old.held.items ++ end) ++ newline)) (written ++ m.added) (record { whole = f.whole ++ ((old.held.items ++ end) ++ newline); split = whole; reads = m.goes }) in
+    record {
+      added = m.added ++ n.added;
+      out = n.out ∙ (ap (λ o. o ++ n.added) m.out ∙ append_assoc before m.added n.added);
+      goes = feeds-same stop new _ _ _ _ (then-at f.whole old.held.items end after so_far piece f.split is) (append_assoc written m.added n.added) n.goes;
+    }

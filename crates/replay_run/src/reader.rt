@@ -66,10 +66,13 @@ impl Reader {
         ensures few { OnOk result (self.new.session.bay.steps ≤ self.old.session.bay.steps + length piece.now) }
     {
         let (stop, rest) = read_lines(alloc, &mut self.session, out, piece)?;
-        if stop.is_none() {
-            self.held.extend_from_slice(rest)?;
+        match stop {
+            Some(stop) => Ok(Some(stop)),
+            None => {
+                self.held.extend_from_slice(rest)?;
+                Ok(None)
+            }
         }
-        Ok(stop)
     }
 
     /// Feeds a piece: the answers to the lines that end in it are written, up to one that stops the reading.
@@ -93,11 +96,10 @@ impl Reader {
             return Ok(None);
         };
         self.held.extend_from_slice(end)?;
-        let stop = self.session.read(alloc, out, &self.held)?;
-        self.held.clear();
-        if stop.is_some() {
-            return Ok(stop);
+        if let Some(stop) = self.session.read(alloc, out, &self.held)? {
+            return Ok(Some(stop));
         }
+        self.held.clear();
         self.feed_lines(alloc, out, after)
     }
 }

@@ -1,0 +1,27 @@
+use Rattle.std.proofs.Common.{◌≡◌, ◌+◌, ◌++◌, ◌∷◌, [], length, refl, arith, ap, length-append}
+use Rattle.std.specs.Prelude.{None, Some}
+use Rattle.replay_run.specs.Sessions.{Moves, LinesRead}
+use Rattle.replay_run.specs.Lines.{newline}
+use Rattle.replay_run.proofs.Feeding.{read-none, read-more}
+use Rattle.replay_run.proofs.reader.read_lines.Goals as goal
+
+pub loop-line-init : goal.loop-line-init
+loop-line-init c = record { read = read-none c.args.session.now c.args.octets.now c.args.out.now.items; few = omega arith }
+
+pub returns-in-Some-2-clause-read : goal.returns-in-Some-2-clause-read
+returns-in-Some-2-clause-read c =
+    let moves = rw c.in-Some-2.is at c.in_ok-stop.ensures.moves in
+    let more = read-more (Some c.in-Some-2.stop) c.args.session.now c.loop-line.session c.read.new.self c.args.octets.now c.loop-line.rest.now c.in-Some.line.now c.in-Some.after.now c.args.out.now.items c.loop-line.out.items c.read.new.out.items
+    c.loop-line.invariant.read c.in-Some.ensures.0 moves in
+    record { done = more.0; split = more.1; part = λ e. cc; moves = more.2 }
+
+pub loop-line-preserved : goal.loop-line-preserved
+loop-line-preserved c =
+    let moves = rw c.in_default-2.is at c.in_ok-stop.ensures.moves in
+    let more = read-more None c.args.session.now c.loop-line.session c.read.new.self c.args.octets.now c.loop-line.rest.now c.in-Some.line.now c.in-Some.after.now c.args.out.now.items c.loop-line.out.items c.read.new.out.items
+    c.loop-line.invariant.read c.in-Some.ensures.0 moves in
+    let shorter : length c.loop-line.rest.now ≡ length (c.in-Some.line.now ++ 10 ∷ c.in-Some.after.now) = ap length c.in-Some.ensures.0 in
+    record {
+      read = record { done = more.0; split = more.1; moves = more.2 };
+      few = omega (arith, c.loop-line.invariant.few, c.in_ok-stop.ensures.few, shorter, length-append c.in-Some.line.now (10 ∷ c.in-Some.after.now));
+    }
