@@ -1,5 +1,5 @@
 -- The lines of a record, and the octets that spell them.
-use Rattle.std.specs.Prelude.{◌≡◌, ◌≢◌, ◌⊎◌, ℕ, ◌≤◌, ℤ, pos, Bool, true, false, List, [], ◌∷◌, ◌++◌, length, FitsSigned, codes, All, Some, slice_get, flat_map, take}
+use Rattle.std.specs.Prelude.{◌≡◌, ◌≢◌, ◌⊎◌, ℕ, ◌≤◌, ℤ, pos, Bool, true, false, List, [], ◌∷◌, ◌++◌, length, FitsSigned, codes, All, flat_map}
 use Rattle.std.specs.Int.{w32}
 use Rattle.std.specs.Fmt.{decimal, signed_decimal}
 use Rattle.hex.specs.Hex.{encode_lower, IsBytes}
@@ -66,6 +66,10 @@ IsUnlisted octets = (octets ≢ codes "end") × ((l : Line) → IsLine l → Spe
 abbrev pub IsCapacity : ℕ → Type 0
 IsCapacity n = (1 ≤ n) × (n ≤ 1048576)
 
+-- the line of the report control block, whose last number is the capacity of its buffer
+abbrev pub block_line : ℕ → List ℕ
+block_line capacity = codes "brcb brcbEv01 'Ev1 'BAY1/LLN0$Events 1 0111001110 0 011001 0 " ++ decimal capacity
+
 -- the lines before the step lines: the first of all, and the configuration
 abbrev pub heading_lines : ℕ → List (List ℕ)
 heading_lines capacity =
@@ -78,7 +82,7 @@ heading_lines capacity =
     ∷ codes "member BAY1/XCBR1$ST$Pos"
     ∷ codes "member BAY1/GGIO1$ST$Ind1"
     ∷ codes "member BAY1/MMXU1$MX$TotW$mag$i"
-    ∷ (codes "brcb brcbEv01 'Ev1 'BAY1/LLN0$Events 1 0111001110 0 011001 0 " ++ decimal capacity)
+    ∷ block_line capacity
     ∷ codes "ln XCBR1"
     ∷ codes "attr ST Pos$stVal dbpos d 01"
     ∷ codes "attr ST Pos$q quality q 0000000000000"
@@ -91,7 +95,3 @@ heading_lines capacity =
     ∷ codes "attr MX TotW$mag$i int32 d 0"
     ∷ codes "end"
     ∷ []
-
--- the octets are the line at that place of the heading, counted from 0, at some capacity
-abbrev pub IsHeadingLine : ℕ → List ℕ → Type 0
-IsHeadingLine place octets = (capacity : ℕ) × IsCapacity capacity × (slice_get (heading_lines capacity) place ≡ Some octets)
