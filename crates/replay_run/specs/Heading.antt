@@ -1,6 +1,6 @@
 -- The lines of a heading, place by place.
-use Rattle.std.specs.Prelude.{◌≡◌, ◌≢◌, ℕ, List, ◌++◌, Some, slice_get, flat_map, take}
-use Rattle.replay_run.specs.Lines.{heading_lines, IsCapacity, newline}
+use Rattle.std.specs.Prelude.{◌≡◌, ◌≢◌, ℕ, List, Some, slice_get, take}
+use Rattle.replay_run.specs.Lines.{heading_lines, IsCapacity, joined}
 use Rattle.replay_run.specs.declared.heading.HeadingLine.{HeadingLine}
 use Rattle.replay_run.specs.declared.heading.HeadingLine.TheVariants as kinds
 
@@ -16,10 +16,6 @@ IsHeadingLine place octets = (capacity : ℕ) × IsCapacity capacity × IsAt cap
 abbrev pub IsToldBy : HeadingLine → ℕ → List ℕ → Type 0
 IsToldBy kinds.Fixed place octets = (place ≢ 9) × ((capacity : ℕ) → IsAt capacity place octets)
 IsToldBy (kinds.Capacity capacity) place octets = (place ≡ 9) × IsCapacity capacity × IsAt capacity place octets
-
--- lines, each with its newline
-abbrev pub joined : List (List ℕ) → List ℕ
-joined lines = flat_map (λ l. l ++ newline) lines
 
 -- the octets of the first lines of the heading
 abbrev pub heading_front : ℕ → ℕ → List ℕ

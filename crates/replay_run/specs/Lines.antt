@@ -59,6 +59,16 @@ abbrev pub Spells : List ℕ → Line → Type 0
 Spells octets (lines.Set z) = (number : List ℕ) × (octets ≡ codes "set BAY1/MMXU1$MX$TotW$mag$i " ++ number) × SpellsInt number z
 Spells octets l = octets ≡ spelled l
 
+-- the texts spell the lines, one by one
+abbrev pub AreSpelled : List (List ℕ) → List Line → Type 0
+AreSpelled [] [] = Unit {0}
+AreSpelled (t ∷ ts) (l ∷ ls) = IsLine l × Spells t l × AreSpelled ts ls
+AreSpelled _ _ = ⊥
+
+-- the texts of lines, each with its newline
+abbrev pub joined : List (List ℕ) → List ℕ
+joined lines = flat_map (λ l. l ++ newline) lines
+
 -- neither the last line nor a step line
 abbrev pub IsUnlisted : List ℕ → Type 0
 IsUnlisted octets = (octets ≢ codes "end") × ((l : Line) → IsLine l → Spells octets l → ⊥)

@@ -17,8 +17,8 @@ pub fn number(octets: &[u8]) -> Option<u64>
         return None;
     };
     let mut buffer = Buffer::new();
-    let again = buffer.format(n);
-    if again == text {
+    let digits = buffer.format(n);
+    if digits == text {
         return Some(n);
     }
     None

@@ -15,8 +15,8 @@ pub fn split_line(octets: &[u8]) -> Option<(&[u8], &[u8])>
 pub fn split_word(octets: &[u8]) -> Option<(&[u8], &[u8])>
     ensures { MatchOption result (NoSpace octets.now) (λ r. (octets.now ≡ r.0.now ++ 32 ∷ r.1.now) × NoSpace r.0.now) }
 {
-    let at = octets.iter().position(|b| *b == b' ')?;
-    Some((&octets[..at], &octets[at + 1..]))
+    let space = octets.iter().position(|b| *b == b' ')?;
+    Some((&octets[..space], &octets[space + 1..]))
 }
 
 /// What follows a front.

@@ -18,6 +18,6 @@ pub returns : goal.returns
 returns c = λ n lt e.
     let parsed : c.parse.result ≡ Ok n = parse-decimal 64 n c.in-Ok.text.now c.parse.result lt lt (c.in-Ok.ensures.cases.0 ∙ sym e) c.parse.ensures.value.0 in
     let number : c.in-Ok-parse.n ≡ n = cc c.in-Ok-parse.is in
-    let same : c.format-again.result.now ≡ c.in-Ok.text.now = c.format-again.ensures.text ∙ (ap decimal number ∙ (e ∙ sym c.in-Ok.ensures.cases.0)) in
-    let equal : c.eq.result ≡ true = c.eq.ensures ∙ (bytes_eq-Decides c.format-again.result.now c.in-Ok.text.now).1 same in
+    let same : c.format-digits.result.now ≡ c.in-Ok.text.now = c.format-digits.ensures.text ∙ (ap decimal number ∙ (e ∙ sym c.in-Ok.ensures.cases.0)) in
+    let equal : c.eq.result ≡ true = c.eq.ensures ∙ (bytes_eq-Decides c.format-digits.result.now c.in-Ok.text.now).1 same in
     cc c.if-eq.false
