@@ -1,6 +1,6 @@
 -- Lines that are joined, each with its newline.
 use Rattle.std.proofs.Common.{◌≡◌, ℕ, zero, suc, List, [], ◌∷◌, ◌++◌, ap, sym, ◌∙◌, refl, append_assoc, inl, inr, take, drop, length, subst, Bool, true, false, not}
-use Rattle.std.specs.Prelude.{◌⊎◌, ◌==◌, ◌&&◌, Option, Some, slice_get}
+use Rattle.std.specs.Prelude.{◌⊎◌, ◌==◌, ◌&&◌, Some, slice_get}
 use Rattle.std.specs.List.{AllByRecursion, list_all}
 use Rattle.std.proofs.lemmas.List.Concat.{flat_map-append}
 use Rattle.replay_run.specs.Lines.{newline, joined, IsLine, Spells, AreSpelled}
@@ -48,9 +48,9 @@ front_without (suc n) (x ∷ xs) h p =
     let parts = both (list_all (λ b. not (b == 10)) x) (list_all (λ l. list_all (λ b. not (b == 10)) l) (take n xs)) h in
     (without_test 10 x parts.0, front_without n xs parts.1 p)
   where
-  both : (a b : Bool) → (a && b) ≡ true → (a ≡ true) × (b ≡ true)
-  both true b h = (refl, h)
-  both false b h = cc
+    both : (a b : Bool) → (a && b) ≡ true → (a ≡ true) × (b ≡ true)
+    both true b h = (refl, h)
+    both false b h = cc
 
 pub some_same : (x y : List ℕ) → Some x ≡ Some y → x ≡ y
 some_same x y e = cc

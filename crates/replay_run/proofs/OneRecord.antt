@@ -1,12 +1,12 @@
 -- A record has one reading.
-use Rattle.std.proofs.Common.{◌≡◌, ◌≤◌, ◌<◌, ℕ, zero, suc, List, [], ◌∷◌, ◌++◌, ap, sym, subst, ◌∙◌, refl, arith, inl, inr}
+use Rattle.std.proofs.Common.{◌≡◌, ◌≤◌, ◌<◌, ℕ, List, [], ◌∷◌, ◌++◌, ap, sym, subst, ◌∙◌, refl, arith, inl, inr}
 use Rattle.std.specs.Prelude.{codes, ◌⊎◌}
 use Rattle.replay_run.specs.Lines.{NoNewline, joined, IsLine, Spells, AreSpelled, IsUnlisted, IsCapacity}
 use Rattle.replay_run.specs.Heading.{heading_front}
 use Rattle.replay_run.specs.declared.line.Line.{Line}
-use Rattle.replay_run.proofs.Texts.{Without, one_split, no_split, without-all, without_test}
+use Rattle.replay_run.proofs.Texts.{one_split, no_split, without-all, without_test}
 use Rattle.replay_run.proofs.OneLine.{spelled_same, spells_without, end_is_no_line}
-use Rattle.replay_run.proofs.Joined.{AreWithout, GoesOn, joined-cons, one_goes_on, append-nil}
+use Rattle.replay_run.proofs.Joined.{AreWithout, joined-cons, one_goes_on, append-nil}
 use Rattle.replay_run.proofs.OneHeading.{NoHeadingLine, heading_same, whole_heading}
 
 -- these octets go on with no step line
@@ -47,11 +47,11 @@ stays ts us ms a b q none (z ∷ zs) on rest =
     let l = spelled_in ts z zs ms (subst (λ us. AreSpelled us ms) on q) in
     absurd (none l.0 z (joined zs ++ b) l.1 l.2 (rest ∙ joined-cons z zs b))
   where
-  spelled_in : (ts : List (List ℕ)) (z : List ℕ) (zs : List (List ℕ)) (ms : List Line) → AreSpelled (ts ++ z ∷ zs) ms → (l : Line) × IsLine l × Spells z l
-  spelled_in [] z zs [] h = absurd h
-  spelled_in [] z zs (m ∷ ms) h = (m, h.0, h.1)
-  spelled_in (t ∷ ts) z zs [] h = absurd h
-  spelled_in (t ∷ ts) z zs (m ∷ ms) h = spelled_in ts z zs ms h.2
+    spelled_in : (ts : List (List ℕ)) (z : List ℕ) (zs : List (List ℕ)) (ms : List Line) → AreSpelled (ts ++ z ∷ zs) ms → (l : Line) × IsLine l × Spells z l
+    spelled_in [] z zs [] h = absurd h
+    spelled_in [] z zs (m ∷ ms) h = (m, h.0, h.1)
+    spelled_in (t ∷ ts) z zs [] h = absurd h
+    spelled_in (t ∷ ts) z zs (m ∷ ms) h = spelled_in ts z zs ms h.2
 
 -- the octets have one row of step lines and one rest
 pub lines_same : (ts us : List (List ℕ)) (ls ms : List Line) (a b : List ℕ) → AreSpelled ts ls → AreSpelled us ms → NoStepLine a → NoStepLine b

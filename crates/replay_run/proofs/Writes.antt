@@ -1,6 +1,6 @@
 -- The writes of an association to the block.
-use Rattle.std.proofs.Common.{◌≡◌, ◌≤◌, ◌<◌, ◌^◌, ◌+◌, ℕ, suc, List, [], ◌∷◌, ◌++◌, ap, sym, ◌∙◌, refl, arith, Bool, true, false, subst}
-use Rattle.std.specs.Prelude.{codes, length, Ok}
+use Rattle.std.proofs.Common.{◌≡◌, ◌<◌, ◌^◌, ℕ, List, [], ◌∷◌, ◌++◌, ap, sym, refl, arith, Bool, true, false}
+use Rattle.std.specs.Prelude.{codes}
 use Rattle.std.specs.Fmt.{decimal}
 use Rattle.std.proofs.lemmas.Fmt.{decimal_injective}
 use Rattle.hex.specs.Hex.{encode_lower, decode_of, IsBytes}
@@ -19,7 +19,7 @@ assoc_same a b i j e = ap (λ n. record { 0 = n }) (decimal_injective a.0 b.0 (f
 pub write_same : (a b : AssocNo) (x y : List ℕ) → IsAssoc a → IsAssoc b → block_write a x ≡ block_write b y → (a ≡ b) × (x ≡ y)
 write_same a b x y i j e =
     let parts = one_split 32 (decimal a.0) (decimal b.0) (codes "BAY1/LLN0$BR$brcbEv01 " ++ x) (codes "BAY1/LLN0$BR$brcbEv01 " ++ y)
-        (digits_without 32 a.0 (omega arith) (fits a i)) (digits_without 32 b.0 (omega arith) (fits b j)) e in
+    (digits_without 32 a.0 (omega arith) (fits a i)) (digits_without 32 b.0 (omega arith) (fits b j)) e in
     (assoc_same a b i j parts.0, front_same (codes "BAY1/LLN0$BR$brcbEv01 ") x y parts.1)
 
 -- the part before the first space are the digits

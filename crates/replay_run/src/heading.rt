@@ -51,7 +51,10 @@ fn fixed_line(place: usize) -> Option<&'static [u8]>
 fn capacity_of(line: &[u8]) -> Option<u32>
     ensures { MatchOption result ((capacity : ℕ) → IsCapacity capacity → block_line capacity ≢ line.now) (λ capacity. IsCapacity capacity × (block_line capacity ≡ line.now)) }
 {
-    let Some(digits) = after_front(line, b"brcb brcbEv01 'Ev1 'BAY1/LLN0$Events 1 0111001110 0 011001 0 ") else {
+    let Some(digits) = after_front(
+        line,
+        b"brcb brcbEv01 'Ev1 'BAY1/LLN0$Events 1 0111001110 0 011001 0 ",
+    ) else {
         return None;
     };
     let Some(n) = number(digits) else {
