@@ -3,6 +3,8 @@
 
 mod heading;
 mod line;
+#[cfg(test)]
+mod line_tests;
 mod numbers;
 mod reading;
 mod scan;
