@@ -1,5 +1,6 @@
 pub mod Buffered
 pub mod Discards
+pub mod Feeding
 pub mod Fronts
 pub mod Joined
 pub mod OneHeading
@@ -7,6 +8,7 @@ pub mod OneLine
 pub mod OneRecord
 pub mod Outcomes
 pub mod Quiet
+pub mod ReadingOn
 pub mod Replies
 pub mod Selects
 pub mod Shortest
@@ -15,5 +17,3 @@ pub mod Takes
 pub mod Texts
 pub mod Unlisted
 pub mod Writes
-pub mod ReadingOn
-pub mod Feeding

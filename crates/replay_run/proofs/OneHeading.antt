@@ -1,13 +1,13 @@
 -- The heading of a record has one reading.
-use Rattle.std.proofs.Common.{◌≡◌, ◌≤◌, ◌<◌, ◌^◌, ◌+◌, min, ℕ, zero, suc, List, [], ◌∷◌, ◌++◌, ap, sym, subst, ◌∙◌, refl, arith, append_assoc, inl, inr, take, drop, length, get_or, length-take, length-append, take-take}
-use Rattle.std.specs.Prelude.{◌⊎◌, codes, Option, Some, slice_get}
+use Rattle.std.proofs.Common.{◌≡◌, ◌≤◌, ◌<◌, ◌+◌, ℕ, suc, List, [], ◌∷◌, ◌++◌, ap, sym, ◌∙◌, refl, arith, inl, inr, take, drop, length, get_or, length-take, take-take}
+use Rattle.std.specs.Prelude.{codes, Some, slice_get}
 use Rattle.std.specs.Fmt.{decimal}
 use Rattle.std.proofs.lemmas.Fmt.{decimal_injective}
 use Rattle.std.proofs.lemmas.List.{get_or-take}
 use Rattle.replay_run.specs.Lines.{NoNewline, newline, joined, block_line, heading_lines, IsCapacity}
 use Rattle.replay_run.specs.Heading.{IsAt, IsHeadingLine, heading_front}
 use Rattle.replay_run.proofs.Texts.{Without, without-append, without_test, digits_without, front_same, all-without}
-use Rattle.replay_run.proofs.Joined.{AreWithout, GoesOn, joined-cons, joined-append, joined_more, one_goes_on, next_line, all_take, at_place, front_without, some_same, append-nil, next_taken}
+use Rattle.replay_run.proofs.Joined.{AreWithout, joined-cons, joined_more, one_goes_on, next_line, all_take, at_place, front_without, append-nil, next_taken}
 
 block_without : (capacity : ℕ) → IsCapacity capacity → Without 10 (block_line capacity)
 block_without capacity i = without-append 10 (codes "brcb brcbEv01 'Ev1 'BAY1/LLN0$Events 1 0111001110 0 011001 0 ") (decimal capacity)

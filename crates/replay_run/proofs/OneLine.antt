@@ -1,5 +1,5 @@
 -- A text spells one line.
-use Rattle.std.proofs.Common.{◌≡◌, ◌≤◌, ◌<◌, ◌^◌, ◌+◌, ℕ, suc, List, [], ◌∷◌, ◌++◌, ap, sym, subst, ◌∙◌, refl, arith, Bool, true, false, get_or, inl, inr}
+use Rattle.std.proofs.Common.{◌≡◌, ◌<◌, ◌^◌, ℕ, suc, List, ◌++◌, ap, sym, subst, ◌∙◌, refl, arith, Bool, true, false, get_or, inl, inr}
 use Rattle.std.specs.Prelude.{◌==◌, codes, ℤ, pos, negsuc, FitsSigned}
 use Rattle.std.specs.Int.{w32}
 use Rattle.std.specs.Fmt.{decimal, signed_decimal}

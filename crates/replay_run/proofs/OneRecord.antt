@@ -1,12 +1,12 @@
 -- A record has one reading.
-use Rattle.std.proofs.Common.{◌≡◌, ◌≤◌, ◌<◌, ℕ, zero, suc, List, [], ◌∷◌, ◌++◌, ap, sym, subst, ◌∙◌, refl, arith, inl, inr}
+use Rattle.std.proofs.Common.{◌≡◌, ◌≤◌, ◌<◌, ℕ, List, [], ◌∷◌, ◌++◌, ap, sym, subst, ◌∙◌, refl, arith, inl, inr}
 use Rattle.std.specs.Prelude.{codes, ◌⊎◌}
 use Rattle.replay_run.specs.Lines.{NoNewline, joined, IsLine, Spells, AreSpelled, IsUnlisted, IsCapacity}
 use Rattle.replay_run.specs.Heading.{heading_front}
 use Rattle.replay_run.specs.declared.line.Line.{Line}
-use Rattle.replay_run.proofs.Texts.{Without, one_split, no_split, without-all, without_test}
+use Rattle.replay_run.proofs.Texts.{one_split, no_split, without-all, without_test}
 use Rattle.replay_run.proofs.OneLine.{spelled_same, spells_without, end_is_no_line}
-use Rattle.replay_run.proofs.Joined.{AreWithout, GoesOn, joined-cons, one_goes_on, append-nil}
+use Rattle.replay_run.proofs.Joined.{AreWithout, joined-cons, one_goes_on, append-nil}
 use Rattle.replay_run.proofs.OneHeading.{NoHeadingLine, heading_same, whole_heading}
 
 -- these octets go on with no step line

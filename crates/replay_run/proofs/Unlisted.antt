@@ -1,12 +1,12 @@
 -- Octets that are no text of a step line.
-use Rattle.std.proofs.Common.{◌≡◌, ◌++◌, ◌∷◌, [], List, ℕ, sym, ap, ◌∙◌, refl, Bool, true, false, length}
+use Rattle.std.proofs.Common.{◌≡◌, ◌++◌, List, ℕ, sym, ◌∙◌, refl, Bool, true, false, length}
 use Rattle.std.specs.Prelude.{codes, ◌≢◌}
-use Rattle.std.specs.Fmt.{decimal, signed_decimal}
+use Rattle.std.specs.Fmt.{decimal}
 use Rattle.std.specs.Str.{bytes_eq}
 use Rattle.std.proofs.lemmas.Slice.Eq.{bytes_eq-Decides}
 use Rattle.hex.specs.Hex.{encode_lower, IsBytes}
 use Rattle.sv_base.specs.declared.numbers.AssocNo.{AssocNo}
-use Rattle.replay_run.specs.Lines.{block_write, truth, spelled, Spells, IsLine, IsAssoc}
+use Rattle.replay_run.specs.Lines.{block_write, truth, Spells, IsLine, IsAssoc}
 use Rattle.replay_run.specs.declared.line.Line.{Line}
 use Rattle.replay_run.specs.declared.line.Line.TheVariants as lines
 use Rattle.replay_run.proofs.Texts.{apart, front_same}

@@ -1,10 +1,10 @@
 pub mod Lines
+pub mod Heading
 pub mod Kept
 pub mod Buffers
 pub mod Turns
 pub mod Stands
 pub mod Reported
 pub mod Texts
-pub mod Heading
 pub mod Record
 pub mod Sessions

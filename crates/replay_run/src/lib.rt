@@ -6,6 +6,8 @@ mod buffer;
 mod data;
 mod heading;
 mod line;
+#[cfg(test)]
+mod line_tests;
 mod numbers;
 mod reader;
 mod reading;

@@ -1,6 +1,6 @@
-use Rattle.std.proofs.Common.{◌≡◌, ◌<◌, ◌*◌, ◌∙◌, sym, ap, refl, arith, ℕ, List, length, true, false}
+use Rattle.std.proofs.Common.{◌≡◌, ◌∙◌, sym, ap, arith, ℕ, List, length, true, false}
 use Rattle.std.specs.Prelude.{Ok, Err, Result, MatchResult, OnOk, IsOk, is_err, is_ok}
-use Rattle.hex.specs.Hex.{encode_lower, IsBytes, decode_sized, decode_of}
+use Rattle.hex.specs.Hex.{encode_lower, IsBytes, decode_sized}
 use Rattle.hex.specs.declared.error.FromHexError.{FromHexError}
 use Rattle.hex.proofs.HexLemmas.{decode_sized-encode_lower, decode_sized-ok, decode_sized-twice, decode_of-ok}
 use Rattle.std.proofs.lemmas.Slice.Eq.{bytes_eq-Decides}

@@ -1,7 +1,4 @@
-use Rattle.std.proofs.Common.{◌≡◌, ◌++◌, sym, ◌∙◌, List, ℕ}
-use Rattle.std.specs.Prelude.{codes, All, ◌≢◌}
-use Rattle.sv_base.specs.declared.numbers.AssocNo.{AssocNo}
-use Rattle.replay_run.specs.Lines.{block_write, IsAssoc}
+use Rattle.std.proofs.Common.{◌∙◌}
 use Rattle.replay_run.proofs.Texts.{without-all}
 use Rattle.replay_run.proofs.Writes.{write_digits, no_write}
 use Rattle.replay_run.proofs.reading.read_block_write.Goals as goal

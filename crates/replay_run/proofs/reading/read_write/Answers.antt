@@ -1,5 +1,5 @@
-use Rattle.std.proofs.Common.{◌≡◌, ◌++◌, List, ℕ, sym, ap, ◌∙◌, refl}
-use Rattle.std.specs.Prelude.{codes, ◌≢◌}
+use Rattle.std.proofs.Common.{◌++◌, sym, ap, ◌∙◌}
+use Rattle.std.specs.Prelude.{codes}
 use Rattle.hex.specs.Hex.{encode_lower}
 use Rattle.replay_run.specs.Lines.{block_write}
 use Rattle.replay_run.proofs.Texts.{front_same}
