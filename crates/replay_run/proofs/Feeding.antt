@@ -69,7 +69,7 @@ feeds-lines (Some stop) old new piece rest before now none read held = λ so_far
     record {
       added = m.added;
       out = m.out;
-      goes = λ more. subst (λ o. Stopped (Some stop) o (written ++ m.added)) (stopped-at f.whole read.done rest more so_far piece whole read.split) (m.goes (rest ++ more));
+      goes = λ more. subst (λ o. Stopped (Some stop) new.session.lines o (written ++ m.added)) (stopped-at f.whole read.done rest more so_far piece whole read.split) (m.goes (rest ++ more));
     }
 
 -- a line that ends in the piece stops the reading, or the rest of the piece is fed
@@ -98,7 +98,7 @@ pub feeds-stop : (stop : Stop) (old new : Reader) (piece end after before now : 
     → Feeds (Some stop) old new piece before now
 feeds-stop stop old new piece end after before now is g = λ so_far written f.
     let m = g f.whole written f.reads in
-    record { added = m.added; out = m.out; goes = λ more. subst (λ o. Stopped (Some stop) o (written ++ m.added)) (held-at f.whole old.held.items end after more so_far piece f.split is) (m.goes (after ++ more)) }
+    record { added = m.added; out = m.out; goes = λ more. subst (λ o. Stopped (Some stop) new.session.lines o (written ++ m.added)) (held-at f.whole old.held.items end after more so_far piece f.split is) (m.goes (after ++ more)) }
 
 -- it is read, and what follows it is fed
 pub feeds-then : (stop : Option Stop) (old mid new : Reader) (piece end after before between now : List ℕ) → piece ≡ end ++ 10 ∷ after → Moves None old.session mid.session ((old.held.items ++ end) ++ newline) before between

@@ -1,5 +1,5 @@
 -- One line more: what was read so far goes on, or stops.
-use Rattle.std.proofs.Common.{◌≡◌, ◌≤◌, ◌<◌, ◌+◌, ℕ, suc, zero, Bool, true, false, not, List, [], ◌∷◌, ◌++◌, length, refl, sym, ap, subst, ◌∙◌, append_assoc, arith}
+use Rattle.std.proofs.Common.{◌≡◌, ◌≤◌, ◌<◌, ◌+◌, ℕ, suc, zero, Bool, true, false, not, List, [], ◌∷◌, ◌++◌, length, refl, sym, ap, subst, ◌∙◌, append_assoc, arith, length-append}
 use Rattle.std.specs.Prelude.{◌&&◌, codes, Option, None, Some, slice_get}
 use Rattle.bay_model.specs.Model.{Model}
 use Rattle.bay_model.specs.Example.{example}
@@ -61,7 +61,7 @@ nothing_written : (c : Model) (steps : List Line) (written : List ℕ) → steps
 nothing_written c steps written none is = is ∙ ap (text_from c start) none
 
 pub reads-fixed : (old : Session) (octets written line : List ℕ) → old.place < 21 → ((capacity : ℕ) → IsAt capacity old.place line) → Reads old octets written
-    → Reads (record old { place = old.place + 1 }) (octets ++ (line ++ newline)) written
+    → Reads (record old { place = old.place + 1; lines = old.lines + 1 }) (octets ++ (line ++ newline)) written
 reads-fixed old octets written line few at r =
     let none = r.begins.early few in
     record {
@@ -70,11 +70,12 @@ reads-fixed old octets written line few at r =
       plays = let p = subst (λ ls. Plays old (after_all start ls)) none r.plays in record { moment = p.moment; bay = p.bay };
       accepted = refl;
       written_is = nothing_written (example old.bay.buffer.capacity) r.steps written none r.written_is;
+      count = omega (arith, r.count, ap length none);
     }
 
-pub reads-capacity : (old new : Session) (octets written line : List ℕ) (capacity : ℕ) → old.place ≡ 9 → new.place ≡ old.place + 1 → new.moment ≡ old.moment → new.bay.buffer.capacity ≡ capacity → Stands new.bay []
+pub reads-capacity : (old new : Session) (octets written line : List ℕ) (capacity : ℕ) → old.place ≡ 9 → new.place ≡ old.place + 1 → new.lines ≡ old.lines + 1 → new.moment ≡ old.moment → new.bay.buffer.capacity ≡ capacity → Stands new.bay []
     → IsCapacity capacity → IsAt capacity old.place line → Reads old octets written → Reads new (octets ++ (line ++ newline)) written
-reads-capacity old new octets written line capacity nine place moment is stands range at r =
+reads-capacity old new octets written line capacity nine place lines moment is stands range at r =
     let few : old.place < 21 = omega (arith, nine) in
     let none = r.begins.early few in
     record {
@@ -84,13 +85,14 @@ reads-capacity old new octets written line capacity nine place moment is stands 
       plays = record { moment = moment ∙ (subst (λ ls. Plays old (after_all start ls)) none r.plays).moment; bay = stands };
       accepted = refl;
       written_is = nothing_written (example old.bay.buffer.capacity) r.steps written none r.written_is;
+      count = omega (arith, r.count, ap length none, place, lines);
     }
 
 -- the next line stops the reading, whatever follows it
 pub stops-next : (stop : Stop) (old : Session) (octets written line closing : List ℕ) (r : Reads old octets written)
     → ((rest : List ℕ) → StopsAt (Some stop) (example old.bay.buffer.capacity) old.place (after_all start r.steps) (line ++ 10 ∷ rest))
     → ((capacity : ℕ) → text capacity r.steps (Some stop) ≡ text_from (example capacity) start r.steps ++ closing)
-    → (more : List ℕ) → Stopped (Some stop) ((octets ++ (line ++ newline)) ++ more) (written ++ closing)
+    → (more : List ℕ) → Stopped (Some stop) old.lines ((octets ++ (line ++ newline)) ++ more) (written ++ closing)
 stops-next stop old octets written line closing r s closes more = record {
   capacity = old.bay.buffer.capacity;
   steps = r.steps;
@@ -104,14 +106,15 @@ stops-next stop old octets written line closing r s closes more = record {
     stops = s more;
   };
   written_is = ap (λ t. t ++ closing) r.written_is ∙ sym (closes old.bay.buffer.capacity);
+  count = r.count;
 }
 
 -- a step line is played
 pub reads-step : (old new : Session) (octets written line added : List ℕ) (l : Line) → 21 ≤ old.place → IsLine l → Spells line l → (r : Reads old octets written)
-    → is_refused (example old.bay.buffer.capacity) (after_all start r.steps) l ≡ false → new.bay.buffer.capacity ≡ old.bay.buffer.capacity → new.place ≡ old.place
+    → is_refused (example old.bay.buffer.capacity) (after_all start r.steps) l ≡ false → new.bay.buffer.capacity ≡ old.bay.buffer.capacity → new.place ≡ old.place → new.lines ≡ old.lines + 1
     → Plays new (after (after_all start r.steps) l) → added ≡ line_text (example old.bay.buffer.capacity) (after_all start r.steps) l
     → Reads new (octets ++ (line ++ newline)) (written ++ added)
-reads-step old new octets written line added l behind is spells r fine capacity place plays answered =
+reads-step old new octets written line added l behind is spells r fine capacity place lines plays answered =
     let c = example old.bay.buffer.capacity in
     let b = r.begins in
     record {
@@ -129,6 +132,7 @@ reads-step old new octets written line added l behind is spells r fine capacity 
       accepted = subst (λ k. all_accepted (example k) start (r.steps ++ l ∷ []) ≡ true) (sym capacity) (all_accepted-more c start r.steps l r.accepted fine);
       written_is = subst (λ k. written ++ added ≡ text_from (example k) start (r.steps ++ l ∷ [])) (sym capacity)
           (ap (λ t. t ++ added) r.written_is ∙ (ap (λ t. text_from c start r.steps ++ t) answered ∙ sym (text_from-more c start r.steps l)));
+      count = omega (arith, r.count, place, lines, length-append r.steps (l ∷ []));
     }
 
 -- with nothing more written

@@ -21,18 +21,20 @@ pub record Reads (session : Session) (octets written : List ℕ) : Type 0 where
   pub plays : Plays session (after_all start steps)
   pub accepted : all_accepted (example session.bay.buffer.capacity) start steps ≡ true
   pub written_is : written ≡ text_from (example session.bay.buffer.capacity) start steps
+  pub count : session.lines ≡ session.place + length steps
 
--- the reading of the octets stops, or they end, and this is what was written to them
-pub record Stopped (stop : Option Stop) (octets written : List ℕ) : Type 0 where
+-- the reading of the octets stops behind so many lines, or they end, and this is what was written to them
+pub record Stopped (stop : Option Stop) (lines : ℕ) (octets written : List ℕ) : Type 0 where
   pub capacity : ℕ
   pub steps : List Line
   pub judged : Judged octets capacity steps stop
   pub written_is : written ≡ text capacity steps stop
+  pub count : lines ≡ judged.place + length steps
 
 -- the session goes on, or it stops, whatever octets follow
 abbrev pub GoesOn : Option Stop → Session → List ℕ → List ℕ → Type 0
 GoesOn None session octets written = Reads session octets written
-GoesOn (Some stop) session octets written = (more : List ℕ) → Stopped (Some stop) (octets ++ more) written
+GoesOn (Some stop) session octets written = (more : List ℕ) → Stopped (Some stop) session.lines (octets ++ more) written
 
 -- after the octets so far, something more was written, and the session goes on or stops
 pub record MovesTo (stop : Option Stop) (new : Session) (octets written before now : List ℕ) : Type 0 where
@@ -50,6 +52,7 @@ pub record PlaysOn (old new : Session) (line : Line) (before now : List ℕ) : T
   pub answered : (s : Played) → Plays old s → now ≡ before ++ line_text (example old.bay.buffer.capacity) s line
   pub capacity : new.bay.buffer.capacity ≡ old.bay.buffer.capacity
   pub place : new.place ≡ old.place
+  pub lines : new.lines ≡ old.lines + 1
   pub few : new.bay.steps ≤ old.bay.steps + 1
 
 -- of these octets the whole lines at the front were read, up to one that stops the reading, and this is the rest
@@ -67,7 +70,7 @@ pub record Fed (reader : Reader) (octets written : List ℕ) : Type 0 where
 
 abbrev pub FeedsOn : Option Stop → Reader → List ℕ → List ℕ → Type 0
 FeedsOn None reader octets written = Fed reader octets written
-FeedsOn (Some stop) reader octets written = (more : List ℕ) → Stopped (Some stop) (octets ++ more) written
+FeedsOn (Some stop) reader octets written = (more : List ℕ) → Stopped (Some stop) reader.session.lines (octets ++ more) written
 
 -- a piece is fed, and something more was written
 pub record FeedsTo (stop : Option Stop) (new : Reader) (octets written before now : List ℕ) : Type 0 where

@@ -14,9 +14,11 @@ fn read_lines<'a>(
     out: &mut Vec<u8>,
     octets: &'a [u8],
 ) -> Result<(Option<Stop>, &'a [u8]), AllocError>
-    requires { session.old.bay.steps + length octets.now < 2 ^ 62 }
+    requires few { session.old.bay.steps + length octets.now < 2 ^ 62 }
+    requires lines { session.old.lines + length octets.now < 2 ^ 62 }
     ensures read { IfOk result (λ r. LinesRead r.0 r.1.now session.old session.new octets.now out.old.items out.new.items) }
     ensures few { IfOk result (λ r. session.new.bay.steps + length r.1.now ≤ session.old.bay.steps + length octets.now) }
+    ensures lines { IfOk result (λ r. session.new.lines + length r.1.now ≤ session.old.lines + length octets.now) }
 {
     let mut rest = octets;
     while let Some((line, after)) = split_line(rest) {
@@ -40,11 +42,19 @@ impl Reader {
     ghost use Rattle.replay_run.specs.Lines.{NoNewline};
     ghost use Rattle.replay_run.specs.Sessions.{Fed, Feeds};
 
+    /// How many lines were read, none of which stopped the reading.
+    pub fn lines(&self) -> u64
+        ensures { result ≡ self.now.session.lines }
+    {
+        self.session.lines()
+    }
+
     /// Nothing is read yet.
     pub fn new(alloc: Global) -> Reader
         ensures fed { Fed result [] [] }
         ensures part { NoNewline result.held.items }
         ensures steps { result.session.bay.steps ≡ 0 }
+        ensures lines { result.session.lines ≡ 0 }
     {
         Reader {
             session: Session::new(alloc),
@@ -60,10 +70,12 @@ impl Reader {
         piece: &[u8],
     ) -> Result<Option<Stop>, AllocError>
         requires few { self.old.session.bay.steps + length piece.now < 2 ^ 62 }
+        requires lines { self.old.session.lines + length piece.now < 2 ^ 62 }
         requires none { self.old.held.items ≡ [] }
         ensures feeds { IfOk result (λ stop. Feeds stop self.old self.new piece.now out.old.items out.new.items) }
         ensures part { OnOk result (NoNewline self.new.held.items) }
         ensures few { OnOk result (self.new.session.bay.steps ≤ self.old.session.bay.steps + length piece.now) }
+        ensures lines { OnOk result (self.new.session.lines ≤ self.old.session.lines + length piece.now) }
     {
         let (stop, rest) = read_lines(alloc, &mut self.session, out, piece)?;
         match stop {
@@ -83,10 +95,12 @@ impl Reader {
         piece: &[u8],
     ) -> Result<Option<Stop>, AllocError>
         requires few { self.old.session.bay.steps + length piece.now < 2 ^ 62 }
+        requires lines { self.old.session.lines + length piece.now < 2 ^ 62 }
         requires part { NoNewline self.old.held.items }
         ensures feeds { IfOk result (λ stop. Feeds stop self.old self.new piece.now out.old.items out.new.items) }
         ensures part { OnOk result (NoNewline self.new.held.items) }
         ensures few { OnOk result (self.new.session.bay.steps ≤ self.old.session.bay.steps + length piece.now) }
+        ensures lines { OnOk result (self.new.session.lines ≤ self.old.session.lines + length piece.now) }
     {
         if self.held.is_empty() {
             return self.feed_lines(alloc, out, piece);

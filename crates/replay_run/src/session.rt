@@ -12,9 +12,11 @@ use sv_base::{AssocNo, Moment};
 /// The lines before the first step line.
 const HEADING_LINES: usize = 21;
 
-/// What has been read of a record, line by line: how much of its heading, the bay, and the moment of the next line.
+/// What has been read of a record, line by line: how many lines, how many of the heading, the bay, and the moment of the
+/// next line.
 #[derive(Drop)]
 pub struct Session {
+    lines: u64,
     place: usize,
     bay: Core,
     moment: Moment,
@@ -28,12 +30,21 @@ impl Session {
     ghost use Rattle.replay_run.specs.Record.{Played, is_refused};
     ghost use Rattle.replay_run.specs.Sessions.{Reads, Plays, Moves, PlaysOn};
 
+    /// How many lines were read, none of which stopped the reading.
+    pub fn lines(&self) -> u64
+        ensures { result ≡ self.now.lines }
+    {
+        self.lines
+    }
+
     /// Nothing is read yet.
     pub fn new(alloc: Global) -> Session
         ensures reads { Reads result [] [] }
         ensures steps { result.bay.steps ≡ 0 }
+        ensures lines { result.lines ≡ 0 }
     {
         Session {
+            lines: 0,
             place: 0,
             bay: Core::new(alloc, 1),
             moment: Moment::first(),
@@ -43,17 +54,21 @@ impl Session {
     /// Reads a line of the heading.
     fn read_heading(&mut self, alloc: Global, line: &[u8]) -> Option<Stop>
         requires within { self.old.place < 21 }
+        requires lines { self.old.lines < 2 ^ 62 }
         requires whole { NoNewline line.now }
         ensures moves { (before : List ℕ) → Moves result self.old self.new (line.now ++ newline) before before }
         ensures few { self.new.bay.steps ≤ self.old.bay.steps + 1 }
+        ensures lines { self.new.lines ≤ self.old.lines + 1 }
     {
         match read_heading(self.place, line) {
             Some(HeadingLine::Fixed) => {
                 self.place += 1;
+                self.lines += 1;
                 None
             }
             Some(HeadingLine::Capacity(capacity)) => {
                 self.place += 1;
+                self.lines += 1;
                 self.bay = Core::new(alloc, capacity);
                 None
             }
@@ -76,64 +91,80 @@ impl Session {
     }
 
     fn play_at(&mut self, out: &Vec<u8>, moment: Moment)
+        requires { self.old.lines < 2 ^ 62 }
         ensures { PlaysOn self.old self.new (lines.At moment) out.now.items out.now.items }
     {
+        self.lines += 1;
         self.moment = moment;
     }
 
     fn play_open(&mut self, out: &Vec<u8>, a: AssocNo)
         requires few { self.old.bay.steps < 2 ^ 62 }
+        requires lines { self.old.lines < 2 ^ 62 }
         requires number { IsAssoc a }
         ensures { PlaysOn self.old self.new (lines.Open a) out.now.items out.now.items }
     {
+        self.lines += 1;
         self.bay.open(self.moment, a);
     }
 
     fn play_loss(&mut self, out: &Vec<u8>, a: AssocNo)
         requires few { self.old.bay.steps < 2 ^ 62 }
+        requires lines { self.old.lines < 2 ^ 62 }
         requires number { IsAssoc a }
         ensures { PlaysOn self.old self.new (lines.Lost a) out.now.items out.now.items }
     {
+        self.lines += 1;
         self.bay.lose(self.moment, a);
     }
 
     fn play_set(&mut self, alloc: Global, out: &Vec<u8>, value: i32) -> Result<(), AllocError>
         requires few { self.old.bay.steps < 2 ^ 62 }
+        requires lines { self.old.lines < 2 ^ 62 }
         ensures { OnOk result (PlaysOn self.old self.new (lines.Set value) out.now.items out.now.items) }
     {
+        self.lines += 1;
         self.bay.set(alloc, self.moment, i64::from(value))?;
         Ok(())
     }
 
     fn play_enable(&mut self, out: &mut Vec<u8>, a: AssocNo, on: bool) -> Result<(), AllocError>
         requires few { self.old.bay.steps < 2 ^ 62 }
+        requires lines { self.old.lines < 2 ^ 62 }
         ensures { OnOk result (PlaysOn self.old self.new (lines.Enable a on) out.old.items out.new.items) }
     {
+        self.lines += 1;
         let outcome = self.bay.enable(self.moment, a, on);
         push_outcome(out, a, outcome)
     }
 
     fn play_purge(&mut self, out: &mut Vec<u8>, a: AssocNo, on: bool) -> Result<(), AllocError>
         requires few { self.old.bay.steps < 2 ^ 62 }
+        requires lines { self.old.lines < 2 ^ 62 }
         ensures { OnOk result (PlaysOn self.old self.new (lines.Purge a on) out.old.items out.new.items) }
     {
+        self.lines += 1;
         let outcome = self.bay.purge(self.moment, a, on);
         push_outcome(out, a, outcome)
     }
 
     fn play_resume(&mut self, out: &mut Vec<u8>, a: AssocNo, id: &[u8; 8]) -> Result<(), AllocError>
         requires few { self.old.bay.steps < 2 ^ 62 }
+        requires lines { self.old.lines < 2 ^ 62 }
         ensures { OnOk result (PlaysOn self.old self.new (lines.Resume a id.now) out.old.items out.new.items) }
     {
+        self.lines += 1;
         let outcome = self.bay.resume(self.moment, a, id);
         push_outcome(out, a, outcome)
     }
 
     fn play_take(&mut self, alloc: Global, out: &mut Vec<u8>, a: AssocNo) -> Result<(), AllocError>
         requires few { self.old.bay.steps < 2 ^ 62 }
+        requires lines { self.old.lines < 2 ^ 62 }
         requires number { IsAssoc a }
         ensures { OnOk result (PlaysOn self.old self.new (lines.Take a) out.old.items out.new.items) }
     {
+        self.lines += 1;
         let answer = self.bay.take(alloc, self.moment, a)?;
         push_answer(alloc, out, a, &answer)
     }
@@ -141,6 +172,7 @@ impl Session {
     /// Plays a step line, and writes its answer.
     fn play(&mut self, alloc: Global, out: &mut Vec<u8>, line: &Line) -> Result<(), AllocError>
         requires few { self.old.bay.steps < 2 ^ 62 }
+        requires lines { self.old.lines < 2 ^ 62 }
         requires line { IsLine line.now }
         ensures { OnOk result (PlaysOn self.old self.new line.now out.old.items out.new.items) }
     {
@@ -165,10 +197,12 @@ impl Session {
         line: &[u8],
     ) -> Result<Option<Stop>, AllocError>
         requires few { self.old.bay.steps < 2 ^ 62 }
+        requires lines { self.old.lines < 2 ^ 62 }
         requires behind { 21 ≤ self.old.place }
         requires whole { NoNewline line.now }
         ensures moves { IfOk result (λ stop. Moves stop self.old self.new (line.now ++ newline) out.old.items out.new.items) }
-        ensures few { IfOk result (λ _. self.new.bay.steps ≤ self.old.bay.steps + 1) }
+        ensures few { OnOk result (self.new.bay.steps ≤ self.old.bay.steps + 1) }
+        ensures lines { OnOk result (self.new.lines ≤ self.old.lines + 1) }
     {
         if is_end(line) {
             out.extend_from_slice(b"end\n")?;
@@ -192,9 +226,11 @@ impl Session {
         line: &[u8],
     ) -> Result<Option<Stop>, AllocError>
         requires few { self.old.bay.steps < 2 ^ 62 }
+        requires lines { self.old.lines < 2 ^ 62 }
         requires whole { NoNewline line.now }
         ensures moves { IfOk result (λ stop. Moves stop self.old self.new (line.now ++ newline) out.old.items out.new.items) }
-        ensures few { IfOk result (λ _. self.new.bay.steps ≤ self.old.bay.steps + 1) }
+        ensures few { OnOk result (self.new.bay.steps ≤ self.old.bay.steps + 1) }
+        ensures lines { OnOk result (self.new.lines ≤ self.old.lines + 1) }
     {
         if self.place < HEADING_LINES {
             return Ok(self.read_heading(alloc, line));

@@ -6,6 +6,7 @@ use Rattle.replay_run.proofs.reader.read_lines.Given as goal
 abbrev pub invariant-loop-line : goal.invariant-loop-line
 invariant-loop-line l = record {
   read : HasRead l.fn.session l.session l.octets l.rest l.fn.out.items l.out.items;
+  lines : l.session.lines + length l.rest ≤ l.fn.session.lines + length l.octets;
   few : l.session.bay.steps + length l.rest ≤ l.fn.session.bay.steps + length l.octets;
 }
 

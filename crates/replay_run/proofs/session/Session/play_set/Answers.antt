@@ -20,5 +20,6 @@ returns c =
       answered = λ s p. sym (append-nil c.args.out.now.items);
       capacity = c.in_ok-set.ensures.kept.capacity;
       place = refl;
+      lines = refl;
       few = omega (arith, c.in_ok-set.ensures.kept.steps);
     }

@@ -17,7 +17,7 @@ returns-in-Some-Capacity-clause-moves c = λ before so_far written r.
     record {
       added = [];
       out = sym (append-nil before);
-      goes = reads-capacity c.args.self.now _ so_far (written ++ []) c.args.line.now c.in-Some-Capacity.capacity told.0 refl refl c.new.ensures.capacity c.new.ensures.stands told.1 told.2 (as_written c.args.self.now so_far written r);
+      goes = reads-capacity c.args.self.now _ so_far (written ++ []) c.args.line.now c.in-Some-Capacity.capacity told.0 refl refl refl c.new.ensures.capacity c.new.ensures.stands told.1 told.2 (as_written c.args.self.now so_far written r);
     }
 
 pub returns-in-None-clause-moves : goal.returns-in-None-clause-moves

@@ -40,5 +40,5 @@ returns-clause-moves c = λ so_far written r.
       added = line_text (example c.args.self.now.bay.buffer.capacity) s c.in-Some.step;
       out = on.answered s r.plays;
       goes = reads-step c.args.self.now c.play.new.self so_far written c.args.line.now (line_text (example c.args.self.now.bay.buffer.capacity) s c.in-Some.step) c.in-Some.step c.requires.behind
-          c.in-Some.ensures.0 c.in-Some.ensures.1 r (sym (c.if-refuses.ensures s r.plays)) on.capacity on.place (on.plays s r.plays) refl;
+          c.in-Some.ensures.0 c.in-Some.ensures.1 r (sym (c.if-refuses.ensures s r.plays)) on.capacity on.place on.lines (on.plays s r.plays) refl;
     }
