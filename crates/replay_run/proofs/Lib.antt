@@ -17,3 +17,4 @@ pub mod Takes
 pub mod Texts
 pub mod Unlisted
 pub mod Writes
+pub mod OneReading

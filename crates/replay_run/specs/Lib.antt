@@ -8,3 +8,4 @@ pub mod Reported
 pub mod Texts
 pub mod Record
 pub mod Sessions
+pub mod Tool

@@ -14,5 +14,6 @@ mod reading;
 mod reports;
 mod scan;
 mod session;
+pub mod status;
 mod stored;
 mod text;
