@@ -1,6 +1,6 @@
 -- The worked histories of setting groups, by computation.
 use Rattle.std.proofs.Common.{refl}
-use Rattle.bay_model.specs.WorkedSettings.{ActiveGroup, EditedGroup, HeldEdit}
+use Rattle.bay_model.specs.WorkedSettings.{ActiveGroup, EditedGroup, HeldEdit, LastActivation}
 
 pub active_group : ActiveGroup
 active_group = (refl, refl)
@@ -10,3 +10,6 @@ edited_group = (refl, refl)
 
 pub held_edit : HeldEdit
 held_edit = (refl, refl)
+
+pub last_activation : LastActivation
+last_activation = (refl, refl)

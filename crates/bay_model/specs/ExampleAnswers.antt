@@ -1,5 +1,5 @@
 -- Answers of worked histories over the example bay: reports of its block, with the members of its data set.
-use Rattle.std.specs.Prelude.{ℕ, ◌+◌, Bool, true, false, List, [], ◌∷◌, Result, Ok, Err, codes}
+use Rattle.std.specs.Prelude.{ℕ, ◌+◌, Bool, true, false, List, [], ◌∷◌, Ok, Err, codes}
 use Rattle.bay_model.specs.declared.answer.Answer.{Answer}
 use Rattle.bay_model.specs.declared.answer.Answer.TheVariants as answers
 use Rattle.bay_model.specs.declared.answer.Output.TheVariants as outputs
@@ -23,10 +23,10 @@ marked = true
 abbrev pub unmarked : Bool
 unmarked = false
 
--- a report of the block: SqNum, EntryID, time after the least moment, BufOvfl and members
-abbrev pub report : (sq id ms : ℕ) → Bool → List Member → Answer
-report sq id ms ovfl members = answers.Taken (outputs.Report (record {
-  block = record { 0 = 0 };
+-- a report of block b: SqNum, EntryID, time after the least moment, BufOvfl and members
+abbrev pub report_of : (b sq id ms : ℕ) → Bool → List Member → Answer
+report_of b sq id ms ovfl members = answers.Taken (outputs.Report (record {
+  block = record { 0 = b };
   rpt_id = codes "Ev1";
   opt_flds = options.opt_flds;
   sq = sq;
@@ -38,6 +38,10 @@ report sq id ms ovfl members = answers.Taken (outputs.Report (record {
   total = 3;
   members = members;
 }))
+
+-- a report of the one block of the example
+abbrev pub report : (sq id ms : ℕ) → Bool → List Member → Answer
+report sq id ms ovfl members = report_of 0 sq id ms ovfl members
 
 abbrev pub changed : Reasons
 changed = record no_reason { dchg = true }

@@ -53,16 +53,20 @@ pub mod Successors
 pub mod EntryLaws
 pub mod CursorLaws
 pub mod SettingLaw
--- the example bay
+-- the example bay, its variants, and histories over them
 pub mod ExampleNodes
 pub mod Example
 pub mod ExampleTurns
 pub mod ExampleAnswers
-pub mod WorkedReports
-pub mod WorkedResumes
 pub mod ExampleRequests
 pub mod ExampleControl
-pub mod WorkedControls
 pub mod ExampleSettings
+pub mod WorkedReports
+pub mod WorkedBreaks
+pub mod WorkedResumes
+pub mod WorkedBlocks
+pub mod WorkedReads
+pub mod WorkedControls
+pub mod WorkedSelections
 pub mod WorkedSettings
 pub mod WorkedRequests

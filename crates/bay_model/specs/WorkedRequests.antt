@@ -1,19 +1,19 @@
 -- Worked histories: requests, their replies, data sets that a client defines, and steps that are refused (ISO 9506-2, the
 -- confirmed services; that 16 replies of an association may wait is this profile's own).
-use Rattle.std.specs.Prelude.{◌≡◌, ℕ, zero, suc, true, false, List, [], ◌∷◌, ◌++◌, reverse, Some, None, codes}
+use Rattle.std.specs.Prelude.{◌≡◌, ℕ, zero, suc, true, List, [], ◌∷◌, ◌++◌, reverse, Some, None, codes}
 use Rattle.sv_base.specs.declared.value.Value.TheVariants as kinds
-use Rattle.bay_model.specs.declared.answer.Answer.TheVariants.{Asked, Empty}
+use Rattle.bay_model.specs.declared.answer.Answer.TheVariants.{Empty}
 use Rattle.bay_model.specs.declared.reply.Reply.TheVariants as replies
 use Rattle.bay_model.specs.declared.request.Scope.TheVariants as scopes
 use Rattle.bay_model.specs.declared.request.Service.{Service}
 use Rattle.bay_model.specs.declared.request.Service.TheVariants as services
 use Rattle.bay_model.specs.declared.step.Comp.TheVariants as comps
 use Rattle.bay_model.specs.Answers.{Turn}
-use Rattle.bay_model.specs.Acceptance.{Fault, IsOpen, NotOpen, NotYours, QueueFull, fault}
+use Rattle.bay_model.specs.Acceptance.{IsOpen, NotOpen, NotYours, QueueFull, fault}
 use Rattle.bay_model.specs.ExampleNodes.{domain}
 use Rattle.bay_model.specs.Example.{example}
 use Rattle.bay_model.specs.ExampleTurns.{at, open_direct, lost, take, enable, write, set_power, Answered}
-use Rattle.bay_model.specs.ExampleAnswers.{ok, refused, report, unmarked, changed, power}
+use Rattle.bay_model.specs.ExampleAnswers.{refused, report, unmarked, changed, power}
 use Rattle.bay_model.specs.ExampleRequests.{ask, target, write_to, replied, wrote}
 
 -- Replies wait, and are taken in their order.

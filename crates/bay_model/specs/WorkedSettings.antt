@@ -3,7 +3,7 @@
 use Rattle.std.specs.Prelude.{ℕ, true, pos, [], ◌∷◌, codes}
 use Rattle.sv_base.specs.declared.value.Value.TheVariants as kinds
 use Rattle.bay_model.specs.Answers.{Turn}
-use Rattle.bay_model.specs.ExampleTurns.{open_direct, lost, take, Answered}
+use Rattle.bay_model.specs.ExampleTurns.{at, open_direct, lost, take, Answered}
 use Rattle.bay_model.specs.ExampleRequests.{target, read, write_to, gave, gave_none, wrote, wrote_none}
 use Rattle.bay_model.specs.ExampleSettings.{example_settings}
 
@@ -25,6 +25,9 @@ read_edited a invoke = read a invoke (target 45 (codes "MMXU1$SE$StrVal$setMag")
 abbrev pub write_edited : (a invoke n : ℕ) → Turn
 write_edited a invoke n = write_to a invoke (target 45 (codes "MMXU1$SE$StrVal$setMag")) (kinds.Int (pos n))
 
+abbrev pub read_last : (a invoke : ℕ) → Turn
+read_last a invoke = read a invoke (target 39 (codes "LLN0$SP$SGCB$LActTm"))
+
 -- Under SG the setting is that of the active group; a group that isn't there can't be activated.
 abbrev pub ActiveGroup : Type 0
 ActiveGroup = Answered example_settings (open_direct 1 ∷ read_setting 1 1 ∷ activate 1 2 3 ∷ activate 1 3 2 ∷ read_setting 1 4 ∷ [])
@@ -43,3 +46,9 @@ abbrev pub HeldEdit : Type 0
 HeldEdit = Answered example_settings (open_direct 1 ∷ open_direct 2 ∷ edit 1 1 2 ∷ write_edited 1 2 15 ∷ read_edited 2 1 ∷ write_edited 2 2 16 ∷ edit 2 3 1 ∷ confirm 2 4 ∷ lost 1 ∷ read_edited 2 5 ∷ edit 2 6 2 ∷ read_edited 2 7 ∷ [])
     (take 2 ∷ take 2 ∷ take 2 ∷ take 2 ∷ take 2 ∷ take 2 ∷ take 2 ∷ [])
     (gave 1 (kinds.Int (pos 15)) ∷ wrote_none 2 2 ∷ wrote_none 3 2 ∷ wrote_none 4 2 ∷ gave_none 5 2 ∷ wrote 6 ∷ gave 7 (kinds.Int (pos 20)) ∷ [])
+
+-- LActTm is the moment of the last activation, and zero before the first.
+abbrev pub LastActivation : Type 0
+LastActivation = Answered example_settings (open_direct 1 ∷ read_last 1 1 ∷ at 1500 (activate 1 2 1) ∷ at 2000 (read_last 1 3) ∷ [])
+    (take 1 ∷ take 1 ∷ take 1 ∷ [])
+    (gave 1 (kinds.Time (record { secs = 0; frac = 0; quality = 0 })) ∷ wrote 2 ∷ gave 3 (kinds.Time (record { secs = 441763201; frac = 8388608; quality = 10 })) ∷ [])

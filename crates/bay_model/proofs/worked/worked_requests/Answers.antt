@@ -1,5 +1,5 @@
 use Rattle.bay_model.proofs.WorkedRequests.{replies_in_order, enabled_by_request, defined_set, waiting_replies_full, refused_steps}
-use Rattle.bay_model.proofs.laws.worked_requests.Goals as goal
+use Rattle.bay_model.proofs.worked.worked_requests.Goals as goal
 
 pub returns-clause-replies_in_order : goal.returns-clause-replies_in_order
 returns-clause-replies_in_order c = replies_in_order

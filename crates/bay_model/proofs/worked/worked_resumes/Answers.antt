@@ -1,5 +1,5 @@
 use Rattle.bay_model.proofs.WorkedResumes.{resume_at_newest, resume_below_front, refused_entry_ids, holding, purge_of_unsent, purge_of_sent, loss_and_resume, enabled_twice}
-use Rattle.bay_model.proofs.laws.worked_resumes.Goals as goal
+use Rattle.bay_model.proofs.worked.worked_resumes.Goals as goal
 
 pub returns-clause-resume_at_newest : goal.returns-clause-resume_at_newest
 returns-clause-resume_at_newest c = resume_at_newest

@@ -1,5 +1,5 @@
-use Rattle.bay_model.proofs.WorkedSettings.{active_group, edited_group, held_edit}
-use Rattle.bay_model.proofs.laws.worked_settings.Goals as goal
+use Rattle.bay_model.proofs.WorkedSettings.{active_group, edited_group, held_edit, last_activation}
+use Rattle.bay_model.proofs.worked.worked_settings.Goals as goal
 
 pub returns-clause-active_group : goal.returns-clause-active_group
 returns-clause-active_group c = active_group
@@ -9,3 +9,6 @@ returns-clause-edited_group c = edited_group
 
 pub returns-clause-held_edit : goal.returns-clause-held_edit
 returns-clause-held_edit c = held_edit
+
+pub returns-clause-last_activation : goal.returns-clause-last_activation
+returns-clause-last_activation c = last_activation

@@ -1,5 +1,5 @@
 use Rattle.bay_model.proofs.WorkedControls.{refused_opers, act_and_termination, negative_termination, test_operate, cancelled_selection, blocked_and_lost}
-use Rattle.bay_model.proofs.laws.worked_controls.Goals as goal
+use Rattle.bay_model.proofs.worked.worked_controls.Goals as goal
 
 pub returns-clause-refused_opers : goal.returns-clause-refused_opers
 returns-clause-refused_opers c = refused_opers

@@ -1,5 +1,5 @@
 use Rattle.bay_model.proofs.WorkedReports.{one_value, update_flag, two_members_in_one_window, two_windows, repeated_member, integrity_period, interrogation, refused_components, gap_mark, oversized_entry}
-use Rattle.bay_model.proofs.laws.worked_reports.Goals as goal
+use Rattle.bay_model.proofs.worked.worked_reports.Goals as goal
 
 pub returns-clause-one_value : goal.returns-clause-one_value
 returns-clause-one_value c = one_value
