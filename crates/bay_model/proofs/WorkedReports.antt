@@ -1,6 +1,6 @@
 -- The worked histories of reports, by computation.
 use Rattle.std.proofs.Common.{refl}
-use Rattle.bay_model.specs.WorkedReports.{OneValue, UpdateFlag, TwoMembersInOneWindow, TwoWindows, RepeatedMember, IntegrityPeriod, Interrogation, RefusedComponents, GapMark, OversizedEntry}
+use Rattle.bay_model.specs.WorkedReports.{OneValue, UpdateFlag, TwoMembersInOneWindow, TwoWindows, RepeatedMember, IntegrityPeriod, Interrogation, RefusedComponents, GapMark, OversizedEntry, ExactCapacity, MomentBelow, TriggerBits}
 
 pub one_value : OneValue
 one_value = (refl, refl)
@@ -31,3 +31,12 @@ gap_mark = (refl, refl)
 
 pub oversized_entry : OversizedEntry
 oversized_entry = (refl, refl)
+
+pub exact_capacity : ExactCapacity
+exact_capacity = ((refl, refl), (refl, refl))
+
+pub moment_below : MomentBelow
+moment_below = (refl, refl)
+
+pub trigger_bits : TriggerBits
+trigger_bits = ((refl, refl), (refl, refl))

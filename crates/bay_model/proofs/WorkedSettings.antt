@@ -1,6 +1,6 @@
 -- The worked histories of setting groups, by computation.
 use Rattle.std.proofs.Common.{refl}
-use Rattle.bay_model.specs.WorkedSettings.{ActiveGroup, EditedGroup, HeldEdit, LastActivation}
+use Rattle.bay_model.specs.WorkedSettings.{ActiveGroup, EditedGroup, HeldEdit, LastActivation, DroppedEdit, SetByProcess}
 
 pub active_group : ActiveGroup
 active_group = (refl, refl)
@@ -13,3 +13,9 @@ held_edit = (refl, refl)
 
 pub last_activation : LastActivation
 last_activation = (refl, refl)
+
+pub dropped_edit : DroppedEdit
+dropped_edit = (refl, refl)
+
+pub set_by_process : SetByProcess
+set_by_process = (refl, refl)

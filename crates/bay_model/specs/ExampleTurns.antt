@@ -57,6 +57,10 @@ interrogate a = write a comps.GI (kinds.Bool true)
 abbrev pub set_position : List Bool → Turn
 set_position bits = turn 0 (steps.Value (record { attr = record { 0 = 0 }; value = kinds.Bits bits } ∷ []))
 
+-- the quality of the position
+abbrev pub set_quality : List Bool → Turn
+set_quality bits = turn 0 (steps.Value (record { attr = record { 0 = 1 }; value = kinds.Bits bits } ∷ []))
+
 abbrev pub set_indication : Bool → Turn
 set_indication b = turn 0 (steps.Value (record { attr = record { 0 = 3 }; value = kinds.Bool b } ∷ []))
 

@@ -1,6 +1,7 @@
 -- The definitions of a bay, in the order in which they stand on each other. In all of them c is the model; a is the
 -- number of an association, b of a report block, k of a control, d of a domain, x of an attribute, n of a node; p is a
 -- point, before are the points before it, and past ends with the point that is spoken of.
+-- `f_after` says what one more deed makes of f.
 
 -- what a bay is configured with
 pub mod Roles

@@ -89,3 +89,21 @@ abbrev pub BlockedAndLost : Type 0
 BlockedAndLost = Answered example_control (open_direct 1 ∷ open_direct 2 ∷ select_with 1 1 1 false ∷ take 1 ∷ block true ∷ [])
     (operate_with 1 2 1 false ∷ take 1 ∷ block false ∷ lost 1 ∷ select_with 2 1 1 false ∷ take 2 ∷ [])
     (Asked [] ∷ barred oper 2 1 9 ∷ Went ∷ Went ∷ Asked [] ∷ wrote 1 ∷ [])
+
+-- The loss of another association leaves the control selected.
+abbrev pub SelectedBesideLoss : Type 0
+SelectedBesideLoss = Answered example_control (open_direct 1 ∷ open_direct 2 ∷ select_with 1 1 1 false ∷ take 1 ∷ lost 2 ∷ [])
+    (operate_with 1 2 1 false ∷ take 1 ∷ [])
+    (acts ∷ wrote 2 ∷ [])
+
+-- An execution whose association was lost runs until Done, and has no termination.
+abbrev pub LostExecution : Type 0
+LostExecution = Answered example_control (open_direct 1 ∷ select_with 1 1 1 false ∷ operate_with 1 2 1 false ∷ lost 1 ∷ open_direct 1 ∷ [])
+    (select_with 1 3 1 false ∷ take 1 ∷ done true ∷ take 1 ∷ select_with 1 4 1 false ∷ take 1 ∷ [])
+    (Asked [] ∷ barred (codes "SBOw") 3 1 12 ∷ Went ∷ Empty ∷ Asked [] ∷ wrote 4 ∷ [])
+
+-- The control runs until its termination is taken; a loss after Done ends it, and drops the termination.
+abbrev pub LostTermination : Type 0
+LostTermination = Answered example_control (open_direct 1 ∷ select_with 1 1 1 false ∷ operate_with 1 2 1 false ∷ take 1 ∷ take 1 ∷ done true ∷ open_direct 2 ∷ [])
+    (select_with 2 1 1 false ∷ take 2 ∷ lost 1 ∷ open_direct 1 ∷ take 1 ∷ select_with 2 2 1 false ∷ take 2 ∷ select_with 1 3 1 false ∷ take 1 ∷ [])
+    (Asked [] ∷ barred (codes "SBOw") 1 1 12 ∷ Went ∷ Opened ∷ Empty ∷ Asked [] ∷ wrote 2 ∷ Asked [] ∷ barred (codes "SBOw") 3 1 19 ∷ [])

@@ -1,13 +1,13 @@
 -- Worked histories: which entries come to be, and how they are reported (IEC 61850-7-2, TrgOps, BufTm, IntgPd and GI).
-use Rattle.std.specs.Prelude.{true, [], ◌∷◌, ◌++◌, codes}
+use Rattle.std.specs.Prelude.{true, false, replicate, [], ◌∷◌, ◌++◌, codes}
 use Rattle.sv_base.specs.declared.value.Value.TheVariants as kinds
 use Rattle.bay_model.specs.declared.step.Comp.TheVariants as comps
 use Rattle.bay_model.specs.declared.answer.Answer.TheVariants.{Went, Empty}
 use Rattle.bay_model.specs.Model.{Model}
 use Rattle.bay_model.specs.ExampleNodes as nodes
 use Rattle.bay_model.specs.Example.{example, example_with, options, bits_of}
-use Rattle.bay_model.specs.ExampleTurns.{at, open_direct, take, enable, disable, interrogate, set_position, set_indication, set_power, set_powers, tick, write, Answered}
-use Rattle.bay_model.specs.ExampleAnswers.{ok, refused, report, marked, unmarked, changed, updated, changed_and_updated, by_integrity, by_interrogation, position, indication, power}
+use Rattle.bay_model.specs.ExampleTurns.{at, open_direct, take, enable, disable, interrogate, set_position, set_quality, set_indication, set_power, set_powers, tick, write, Answered}
+use Rattle.bay_model.specs.ExampleAnswers.{ok, refused, report, marked, unmarked, changed, changed_in_quality, updated, changed_and_updated, by_integrity, by_interrogation, position, position_of, indication, power}
 
 -- A value that was set before the enabling is reported once; setting the same value again is no event.
 abbrev pub OneValue : Type 0
@@ -75,3 +75,22 @@ abbrev pub OversizedEntry : Type 0
 OversizedEntry = Answered (example 31) (open_direct 1 ∷ at 1 (set_power 300) ∷ at 2 (set_power 1) ∷ at 2 (enable 1) ∷ [])
     (at 2 (take 1) ∷ at 2 (take 1) ∷ [])
     (report 0 2 2 marked (power 1 changed ∷ []) ∷ Empty ∷ [])
+
+-- Two entries of 31 octets fit 62 octets, and one of them 61.
+abbrev pub ExactCapacity : Type 0
+ExactCapacity = (Answered (example 62) (open_direct 1 ∷ set_powers 1 2) (at 2 (enable 1) ∷ at 2 (take 1) ∷ []) (ok ∷ report 0 1 1 unmarked (power 1 changed ∷ []) ∷ []))
+    × (Answered (example 61) (open_direct 1 ∷ set_powers 1 2) (at 2 (enable 1) ∷ at 2 (take 1) ∷ []) (ok ∷ report 0 2 2 marked (power 2 changed ∷ []) ∷ []))
+
+-- A moment that lies below an earlier one is taken as that.
+abbrev pub MomentBelow : Type 0
+MomentBelow = Answered (example 200) (open_direct 1 ∷ at 10 (set_power 5) ∷ at 4 (set_power 6) ∷ enable 1 ∷ [])
+    (take 1 ∷ take 1 ∷ [])
+    (report 0 1 10 unmarked (power 5 changed ∷ []) ∷ report 1 2 10 unmarked (power 6 changed ∷ []) ∷ [])
+
+-- With quality-change triggered alone, a change of a value is no event; one of quality is, and the report has the whole
+-- member. With data-change triggered alone it is the other way.
+abbrev pub TriggerBits : Type 0
+TriggerBits = (Answered (example_with (record options { trg_ops = bits_of (codes "001001") }) 200) (open_direct 1 ∷ enable 1 ∷ set_power 5 ∷ set_quality (true ∷ replicate 12 false) ∷ [])
+        (take 1 ∷ take 1 ∷ []) (report 0 1 0 unmarked (position_of 0x40 0x80 changed_in_quality ∷ []) ∷ Empty ∷ []))
+    × (Answered (example_with (record options { trg_ops = bits_of (codes "010001") }) 200) (open_direct 1 ∷ enable 1 ∷ set_quality (true ∷ replicate 12 false) ∷ set_power 5 ∷ [])
+        (take 1 ∷ take 1 ∷ []) (report 0 1 0 unmarked (power 5 changed ∷ []) ∷ Empty ∷ []))

@@ -1,9 +1,10 @@
 -- Worked histories: setting groups that are activated and edited (IEC 61850-7-2, SGCB: SelectActiveSG, SelectEditSG,
 -- SetEditSGValue, ConfirmEditSGValues and GetEditSGValue).
-use Rattle.std.specs.Prelude.{ℕ, true, pos, [], ◌∷◌, codes}
+use Rattle.std.specs.Prelude.{ℕ, true, false, pos, [], ◌∷◌, codes}
 use Rattle.sv_base.specs.declared.value.Value.TheVariants as kinds
+use Rattle.bay_model.specs.declared.step.Step.TheVariants as steps
 use Rattle.bay_model.specs.Answers.{Turn}
-use Rattle.bay_model.specs.ExampleTurns.{at, open_direct, lost, take, Answered}
+use Rattle.bay_model.specs.ExampleTurns.{turn, at, open_direct, lost, take, Answered}
 use Rattle.bay_model.specs.ExampleRequests.{target, read, write_to, gave, gave_none, wrote, wrote_none}
 use Rattle.bay_model.specs.ExampleSettings.{example_settings}
 
@@ -52,3 +53,15 @@ abbrev pub LastActivation : Type 0
 LastActivation = Answered example_settings (open_direct 1 ∷ read_last 1 1 ∷ at 1500 (activate 1 2 1) ∷ at 2000 (read_last 1 3) ∷ [])
     (take 1 ∷ take 1 ∷ take 1 ∷ [])
     (gave 1 (kinds.Time (record { secs = 0; frac = 0; quality = 0 })) ∷ wrote 2 ∷ gave 3 (kinds.Time (record { secs = 441763201; frac = 8388608; quality = 10 })) ∷ [])
+
+-- CnfEdit FALSE does nothing, and EditSG 0 drops the copy.
+abbrev pub DroppedEdit : Type 0
+DroppedEdit = Answered example_settings (open_direct 1 ∷ edit 1 1 2 ∷ write_to 1 2 (target 38 (codes "LLN0$SP$SGCB$CnfEdit")) (kinds.Bool false) ∷ read_edited 1 3 ∷ edit 1 4 0 ∷ read_edited 1 5 ∷ activate 1 6 0 ∷ [])
+    (take 1 ∷ take 1 ∷ take 1 ∷ take 1 ∷ take 1 ∷ take 1 ∷ [])
+    (wrote 1 ∷ wrote 2 ∷ gave 3 (kinds.Int (pos 20)) ∷ wrote 4 ∷ gave_none 5 2 ∷ wrote_none 6 11 ∷ [])
+
+-- What the process sets is of the active group alone.
+abbrev pub SetByProcess : Type 0
+SetByProcess = Answered example_settings (open_direct 1 ∷ turn 0 (steps.Value (record { attr = record { 0 = 7 }; value = kinds.Int (pos 11) } ∷ [])) ∷ activate 1 1 2 ∷ read_setting 1 2 ∷ activate 1 3 1 ∷ read_setting 1 4 ∷ [])
+    (take 1 ∷ take 1 ∷ take 1 ∷ take 1 ∷ [])
+    (wrote 1 ∷ gave 2 (kinds.Int (pos 20)) ∷ wrote 3 ∷ gave 4 (kinds.Int (pos 11)) ∷ [])

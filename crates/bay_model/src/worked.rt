@@ -1,14 +1,14 @@
 //! Worked histories over the example bay, each with what its steps are answered. A slip in a definition is refused here.
 
-ghost use Rattle.bay_model.specs.WorkedReports.{OneValue, UpdateFlag, TwoMembersInOneWindow, TwoWindows, RepeatedMember, IntegrityPeriod, Interrogation, RefusedComponents, GapMark, OversizedEntry};
+ghost use Rattle.bay_model.specs.WorkedReports.{OneValue, UpdateFlag, TwoMembersInOneWindow, TwoWindows, RepeatedMember, IntegrityPeriod, Interrogation, RefusedComponents, GapMark, OversizedEntry, ExactCapacity, MomentBelow, TriggerBits};
 ghost use Rattle.bay_model.specs.WorkedBreaks.{PurgeClosesEntry, InterrogationClosesEntry, IntegrityBeforeEffect, PeriodsBeginAnew};
-ghost use Rattle.bay_model.specs.WorkedResumes.{ResumeAtNewest, ResumeBelowFront, RefusedEntryIDs, Holding, PurgeOfUnsent, PurgeOfSent, LossAndResume, EnabledTwice};
+ghost use Rattle.bay_model.specs.WorkedResumes.{ResumeAtNewest, ResumeBelowFront, RefusedEntryIDs, Holding, PurgeOfUnsent, PurgeOfSent, LossAndResume, EnabledTwice, LossOfAnother, PurgingChanges, RefusalsInOrder};
 ghost use Rattle.bay_model.specs.WorkedBlocks.{TieOfBlocks, EarliestStep};
 ghost use Rattle.bay_model.specs.WorkedReads.{ReadsOfNewestEntry, CountedChanges, ReadOfStructure, RefusedAccess};
-ghost use Rattle.bay_model.specs.WorkedControls.{RefusedOpers, ActAndTermination, NegativeTermination, TestOperate, CancelledSelection, BlockedAndLost};
+ghost use Rattle.bay_model.specs.WorkedControls.{RefusedOpers, ActAndTermination, NegativeTermination, TestOperate, CancelledSelection, BlockedAndLost, SelectedBesideLoss, LostExecution, LostTermination};
 ghost use Rattle.bay_model.specs.WorkedSelections.{SelectedBySBO, OperatedMany, DirectControl};
-ghost use Rattle.bay_model.specs.WorkedSettings.{ActiveGroup, EditedGroup, HeldEdit, LastActivation};
-ghost use Rattle.bay_model.specs.WorkedRequests.{RepliesInOrder, EnabledByRequest, DefinedSet, WaitingRepliesFull, RefusedSteps};
+ghost use Rattle.bay_model.specs.WorkedSettings.{ActiveGroup, EditedGroup, HeldEdit, LastActivation, DroppedEdit, SetByProcess};
+ghost use Rattle.bay_model.specs.WorkedRequests.{RepliesInOrder, EnabledByRequest, DefinedSet, NamesAndDeletions, WaitingRepliesFull, TerminationsNotCounted, RefusedSteps};
 
 /// Worked histories of reports: what entries come to be, and how they are reported.
 pub fn worked_reports()
@@ -22,6 +22,9 @@ pub fn worked_reports()
     ensures refused_components { RefusedComponents }
     ensures gap_mark { GapMark }
     ensures oversized_entry { OversizedEntry }
+    ensures exact_capacity { ExactCapacity }
+    ensures moment_below { MomentBelow }
+    ensures trigger_bits { TriggerBits }
 {}
 
 /// Worked histories of what closes the entry that is being gathered.
@@ -42,6 +45,9 @@ pub fn worked_resumes()
     ensures purge_of_sent { PurgeOfSent }
     ensures loss_and_resume { LossAndResume }
     ensures enabled_twice { EnabledTwice }
+    ensures loss_of_another { LossOfAnother }
+    ensures purging_changes { PurgingChanges }
+    ensures refusals_in_order { RefusalsInOrder }
 {}
 
 /// Worked histories of two blocks of one association.
@@ -66,6 +72,9 @@ pub fn worked_controls()
     ensures test_operate { TestOperate }
     ensures cancelled_selection { CancelledSelection }
     ensures blocked_and_lost { BlockedAndLost }
+    ensures selected_beside_loss { SelectedBesideLoss }
+    ensures lost_execution { LostExecution }
+    ensures lost_termination { LostTermination }
 {}
 
 /// Worked histories of a control with normal security.
@@ -81,6 +90,8 @@ pub fn worked_settings()
     ensures edited_group { EditedGroup }
     ensures held_edit { HeldEdit }
     ensures last_activation { LastActivation }
+    ensures dropped_edit { DroppedEdit }
+    ensures set_by_process { SetByProcess }
 {}
 
 /// Worked histories of requests, data sets and refused steps.
@@ -88,6 +99,8 @@ pub fn worked_requests()
     ensures replies_in_order { RepliesInOrder }
     ensures enabled_by_request { EnabledByRequest }
     ensures defined_set { DefinedSet }
+    ensures names_and_deletions { NamesAndDeletions }
     ensures waiting_replies_full { WaitingRepliesFull }
+    ensures terminations_not_counted { TerminationsNotCounted }
     ensures refused_steps { RefusedSteps }
 {}

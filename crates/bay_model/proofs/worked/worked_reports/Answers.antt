@@ -1,4 +1,4 @@
-use Rattle.bay_model.proofs.WorkedReports.{one_value, update_flag, two_members_in_one_window, two_windows, repeated_member, integrity_period, interrogation, refused_components, gap_mark, oversized_entry}
+use Rattle.bay_model.proofs.WorkedReports.{one_value, update_flag, two_members_in_one_window, two_windows, repeated_member, integrity_period, interrogation, refused_components, gap_mark, oversized_entry, exact_capacity, moment_below, trigger_bits}
 use Rattle.bay_model.proofs.worked.worked_reports.Goals as goal
 
 pub returns-clause-one_value : goal.returns-clause-one_value
@@ -30,3 +30,12 @@ returns-clause-gap_mark c = gap_mark
 
 pub returns-clause-oversized_entry : goal.returns-clause-oversized_entry
 returns-clause-oversized_entry c = oversized_entry
+
+pub returns-clause-exact_capacity : goal.returns-clause-exact_capacity
+returns-clause-exact_capacity c = exact_capacity
+
+pub returns-clause-moment_below : goal.returns-clause-moment_below
+returns-clause-moment_below c = moment_below
+
+pub returns-clause-trigger_bits : goal.returns-clause-trigger_bits
+returns-clause-trigger_bits c = trigger_bits

@@ -1,4 +1,4 @@
-use Rattle.bay_model.proofs.WorkedSettings.{active_group, edited_group, held_edit, last_activation}
+use Rattle.bay_model.proofs.WorkedSettings.{active_group, edited_group, held_edit, last_activation, dropped_edit, set_by_process}
 use Rattle.bay_model.proofs.worked.worked_settings.Goals as goal
 
 pub returns-clause-active_group : goal.returns-clause-active_group
@@ -12,3 +12,9 @@ returns-clause-held_edit c = held_edit
 
 pub returns-clause-last_activation : goal.returns-clause-last_activation
 returns-clause-last_activation c = last_activation
+
+pub returns-clause-dropped_edit : goal.returns-clause-dropped_edit
+returns-clause-dropped_edit c = dropped_edit
+
+pub returns-clause-set_by_process : goal.returns-clause-set_by_process
+returns-clause-set_by_process c = set_by_process
