@@ -1,6 +1,15 @@
--- The worked histories of breaks, by computation.
+-- The worked histories of gathering, by computation.
 use Rattle.std.proofs.Common.{refl}
-use Rattle.bay_model.specs.WorkedBreaks.{PurgeClosesEntry, InterrogationClosesEntry, IntegrityBeforeEffect, PeriodsBeginAnew}
+use Rattle.bay_model.specs.WorkedBreaks.{TwoMembersInOneWindow, TwoWindows, RepeatedMember, PurgeClosesEntry, InterrogationClosesEntry, IntegrityBeforeEffect, PeriodsBeginAnew}
+
+pub two_members_in_one_window : TwoMembersInOneWindow
+two_members_in_one_window = (refl, refl)
+
+pub two_windows : TwoWindows
+two_windows = (refl, refl)
+
+pub repeated_member : RepeatedMember
+repeated_member = (refl, refl)
 
 pub purge_closes_entry : PurgeClosesEntry
 purge_closes_entry = (refl, refl)

@@ -61,10 +61,13 @@ pub mod ExampleTurns
 pub mod ExampleAnswers
 pub mod ExampleRequests
 pub mod ExampleControl
+pub mod ExampleCommands
 pub mod ExampleSettings
 pub mod WorkedReports
 pub mod WorkedBreaks
+pub mod WorkedBuffer
 pub mod WorkedResumes
+pub mod WorkedHolding
 pub mod WorkedBlocks
 pub mod WorkedReads
 pub mod WorkedControls

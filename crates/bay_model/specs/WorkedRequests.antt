@@ -15,7 +15,7 @@ use Rattle.bay_model.specs.Example.{example}
 use Rattle.bay_model.specs.ExampleTurns.{at, open_direct, lost, take, enable, write, set_power, Answered}
 use Rattle.bay_model.specs.ExampleAnswers.{refused, report, unmarked, changed, power}
 use Rattle.bay_model.specs.ExampleControl.{example_control}
-use Rattle.bay_model.specs.WorkedControls.{select_with, operate_with, done}
+use Rattle.bay_model.specs.ExampleCommands.{select_with, operate_with, done}
 use Rattle.bay_model.specs.ExampleRequests.{ask, target, write_to, replied, wrote}
 
 -- Replies wait, and are taken in their order.

@@ -10,7 +10,7 @@ use Rattle.bay_model.specs.ExampleNodes.{domain, nodes}
 use Rattle.bay_model.specs.ExampleTurns.{at, open_direct, take, Answered}
 use Rattle.bay_model.specs.ExampleRequests.{target, read, gave, wrote}
 use Rattle.bay_model.specs.ExampleControl.{control_nodes}
-use Rattle.bay_model.specs.WorkedControls.{operate_with, barred, oper, acts}
+use Rattle.bay_model.specs.ExampleCommands.{operate_with, barred, oper, acts}
 
 abbrev pub sbo_node : Node
 sbo_node = record { domain = domain; item = codes "CSWI1$CO$Pos$SBO"; role = selecting 0; tree = leaf withheld; attrs = []; allowed = false }

@@ -1,8 +1,10 @@
 //! Worked histories over the example bay, each with what its steps are answered. A slip in a definition is refused here.
 
-ghost use Rattle.bay_model.specs.WorkedReports.{OneValue, UpdateFlag, TwoMembersInOneWindow, TwoWindows, RepeatedMember, IntegrityPeriod, Interrogation, RefusedComponents, GapMark, OversizedEntry, ExactCapacity, MomentBelow, TriggerBits};
-ghost use Rattle.bay_model.specs.WorkedBreaks.{PurgeClosesEntry, InterrogationClosesEntry, IntegrityBeforeEffect, PeriodsBeginAnew};
-ghost use Rattle.bay_model.specs.WorkedResumes.{ResumeAtNewest, ResumeBelowFront, RefusedEntryIDs, Holding, PurgeOfUnsent, PurgeOfSent, LossAndResume, EnabledTwice, LossOfAnother, PurgingChanges, RefusalsInOrder};
+ghost use Rattle.bay_model.specs.WorkedReports.{OneValue, UpdateFlag, TriggerBits, IntegrityPeriod, Interrogation, MomentBelow};
+ghost use Rattle.bay_model.specs.WorkedBreaks.{TwoMembersInOneWindow, TwoWindows, RepeatedMember, PurgeClosesEntry, InterrogationClosesEntry, IntegrityBeforeEffect, PeriodsBeginAnew};
+ghost use Rattle.bay_model.specs.WorkedBuffer.{GapMark, OversizedEntry, ExactCapacity, PurgeOfUnsent, PurgeOfSent, PurgingChanges};
+ghost use Rattle.bay_model.specs.WorkedResumes.{ResumeAtNewest, ResumeBelowFront, RefusedEntryIDs, LossAndResume, EnabledTwice};
+ghost use Rattle.bay_model.specs.WorkedHolding.{Holding, LossOfAnother, RefusedComponents, RefusalsInOrder};
 ghost use Rattle.bay_model.specs.WorkedBlocks.{TieOfBlocks, EarliestStep};
 ghost use Rattle.bay_model.specs.WorkedReads.{ReadsOfNewestEntry, CountedChanges, ReadOfStructure, RefusedAccess};
 ghost use Rattle.bay_model.specs.WorkedControls.{RefusedOpers, ActAndTermination, NegativeTermination, TestOperate, CancelledSelection, BlockedAndLost, SelectedBesideLoss, LostExecution, LostTermination};
@@ -10,43 +12,51 @@ ghost use Rattle.bay_model.specs.WorkedSelections.{SelectedBySBO, OperatedMany, 
 ghost use Rattle.bay_model.specs.WorkedSettings.{ActiveGroup, EditedGroup, HeldEdit, LastActivation, DroppedEdit, SetByProcess};
 ghost use Rattle.bay_model.specs.WorkedRequests.{RepliesInOrder, EnabledByRequest, DefinedSet, NamesAndDeletions, WaitingRepliesFull, TerminationsNotCounted, RefusedSteps};
 
-/// Worked histories of reports: what entries come to be, and how they are reported.
+/// Worked histories of events, and of what is reported of them.
 pub fn worked_reports()
     ensures one_value { OneValue }
     ensures update_flag { UpdateFlag }
+    ensures trigger_bits { TriggerBits }
+    ensures integrity_period { IntegrityPeriod }
+    ensures interrogation { Interrogation }
+    ensures moment_below { MomentBelow }
+{}
+
+/// Worked histories of how events are gathered, and what closes the open entry.
+pub fn worked_breaks()
     ensures two_members_in_one_window { TwoMembersInOneWindow }
     ensures two_windows { TwoWindows }
     ensures repeated_member { RepeatedMember }
-    ensures integrity_period { IntegrityPeriod }
-    ensures interrogation { Interrogation }
-    ensures refused_components { RefusedComponents }
-    ensures gap_mark { GapMark }
-    ensures oversized_entry { OversizedEntry }
-    ensures exact_capacity { ExactCapacity }
-    ensures moment_below { MomentBelow }
-    ensures trigger_bits { TriggerBits }
-{}
-
-/// Worked histories of what closes the entry that is being gathered.
-pub fn worked_breaks()
     ensures purge_closes_entry { PurgeClosesEntry }
     ensures interrogation_closes_entry { InterrogationClosesEntry }
     ensures integrity_before_effect { IntegrityBeforeEffect }
     ensures periods_begin_anew { PeriodsBeginAnew }
 {}
 
-/// Worked histories of a block that changes hands: holding, purging and resuming.
+/// Worked histories of what the buffer retains, and when a report is marked.
+pub fn worked_buffer()
+    ensures gap_mark { GapMark }
+    ensures oversized_entry { OversizedEntry }
+    ensures exact_capacity { ExactCapacity }
+    ensures purge_of_unsent { PurgeOfUnsent }
+    ensures purge_of_sent { PurgeOfSent }
+    ensures purging_changes { PurgingChanges }
+{}
+
+/// Worked histories of where the reports of a block go on.
 pub fn worked_resumes()
     ensures resume_at_newest { ResumeAtNewest }
     ensures resume_below_front { ResumeBelowFront }
     ensures refused_entry_ids { RefusedEntryIDs }
-    ensures holding { Holding }
-    ensures purge_of_unsent { PurgeOfUnsent }
-    ensures purge_of_sent { PurgeOfSent }
     ensures loss_and_resume { LossAndResume }
     ensures enabled_twice { EnabledTwice }
+{}
+
+/// Worked histories of whose writes of a block are refused.
+pub fn worked_holding()
+    ensures holding { Holding }
     ensures loss_of_another { LossOfAnother }
-    ensures purging_changes { PurgingChanges }
+    ensures refused_components { RefusedComponents }
     ensures refusals_in_order { RefusalsInOrder }
 {}
 
