@@ -1,6 +1,6 @@
 -- The worked histories of controls, by computation.
 use Rattle.std.proofs.Common.{refl}
-use Rattle.bay_model.specs.WorkedControls.{RefusedOpers, ActAndTermination, NegativeTermination, TestOperate, CancelledSelection, BlockedAndLost, SelectedBesideLoss, LostExecution, LostTermination}
+use Rattle.bay_model.specs.WorkedControls.{RefusedOpers, ActAndTermination, NegativeTermination, TestOperate, CancelledSelection, BlockedAndLost, SelectedBesideLoss, LostExecution, LostTermination, RefusedSelects}
 
 pub refused_opers : RefusedOpers
 refused_opers = (refl, refl)
@@ -28,3 +28,6 @@ lost_execution = (refl, refl)
 
 pub lost_termination : LostTermination
 lost_termination = (refl, refl)
+
+pub refused_selects : RefusedSelects
+refused_selects = (refl, refl)

@@ -6,7 +6,7 @@ pub reads_of_newest_entry : ReadsOfNewestEntry
 reads_of_newest_entry = (refl, refl)
 
 pub counted_changes : CountedChanges
-counted_changes = (refl, refl)
+counted_changes = ((refl, refl), (refl, refl))
 
 pub read_of_structure : ReadOfStructure
 read_of_structure = (refl, refl)

@@ -1,6 +1,6 @@
 -- The worked histories of selections, by computation.
 use Rattle.std.proofs.Common.{refl}
-use Rattle.bay_model.specs.WorkedSelections.{SelectedBySBO, OperatedMany, DirectControl}
+use Rattle.bay_model.specs.WorkedSelections.{SelectedBySBO, OperatedMany, DirectControl, BlockedSBO}
 
 pub selected_by_sbo : SelectedBySBO
 selected_by_sbo = (refl, refl)
@@ -10,3 +10,6 @@ operated_many = (refl, refl)
 
 pub direct_control : DirectControl
 direct_control = ((refl, refl), (refl, refl))
+
+pub blocked_sbo : BlockedSBO
+blocked_sbo = (refl, refl)

@@ -1,12 +1,15 @@
 -- The worked histories of setting groups, by computation.
 use Rattle.std.proofs.Common.{refl}
-use Rattle.bay_model.specs.WorkedSettings.{ActiveGroup, EditedGroup, HeldEdit, LastActivation, DroppedEdit, SetByProcess}
+use Rattle.bay_model.specs.WorkedSettings.{ActiveGroup, EditedGroup, ConfirmedActive, HeldEdit, LastActivation, DroppedEdit, SetByProcess}
 
 pub active_group : ActiveGroup
 active_group = (refl, refl)
 
 pub edited_group : EditedGroup
 edited_group = (refl, refl)
+
+pub confirmed_active : ConfirmedActive
+confirmed_active = (refl, refl)
 
 pub held_edit : HeldEdit
 held_edit = (refl, refl)

@@ -7,12 +7,12 @@ use Rattle.bay_model.specs.ExampleRequests.{wrote}
 use Rattle.bay_model.specs.ExampleControl.{example_control}
 use Rattle.bay_model.specs.ExampleCommands.{select_with, operate_with, cancel_with, done, block, barred, oper, ended_well, ended_badly, acts}
 
--- An Oper is refused where another has selected the control (27), where it differs from the select (26), and where the
--- selection's time is over (18).
+-- An Oper is refused where another has selected the control (27), where it differs from the select in ctlNum or in Test
+-- (26), and where the selection's time is over (18).
 abbrev pub RefusedOpers : Type 0
 RefusedOpers = Answered example_control (open_direct 1 ∷ open_direct 2 ∷ select_with 1 1 1 false ∷ take 1 ∷ [])
-    (operate_with 2 5 1 false ∷ take 2 ∷ operate_with 1 2 2 false ∷ take 1 ∷ at 5000 (operate_with 1 3 1 false) ∷ at 5000 (take 1) ∷ [])
-    (Asked [] ∷ barred oper 5 1 27 ∷ Asked [] ∷ barred oper 2 2 26 ∷ Asked [] ∷ barred oper 3 1 18 ∷ [])
+    (operate_with 2 5 1 false ∷ take 2 ∷ operate_with 1 2 2 false ∷ take 1 ∷ operate_with 1 4 1 true ∷ take 1 ∷ at 5000 (operate_with 1 3 1 false) ∷ at 5000 (take 1) ∷ [])
+    (Asked [] ∷ barred oper 5 1 27 ∷ Asked [] ∷ barred oper 2 2 26 ∷ Asked [] ∷ barred oper 4 1 26 ∷ Asked [] ∷ barred oper 3 1 18 ∷ [])
 
 -- In the last millisecond of the selection the Oper acts; its termination comes by Done.
 abbrev pub ActAndTermination : Type 0
@@ -62,3 +62,12 @@ abbrev pub LostTermination : Type 0
 LostTermination = Answered example_control (open_direct 1 ∷ select_with 1 1 1 false ∷ operate_with 1 2 1 false ∷ take 1 ∷ take 1 ∷ done true ∷ open_direct 2 ∷ [])
     (select_with 2 1 1 false ∷ take 2 ∷ lost 1 ∷ open_direct 1 ∷ take 1 ∷ select_with 2 2 1 false ∷ take 2 ∷ select_with 1 3 1 false ∷ take 1 ∷ [])
     (Asked [] ∷ barred (codes "SBOw") 1 1 12 ∷ Went ∷ Opened ∷ Empty ∷ Asked [] ∷ wrote 2 ∷ Asked [] ∷ barred (codes "SBOw") 3 1 19 ∷ [])
+
+-- A select is refused while anyone has selected the control, the selecting association too (19), and while the control is
+-- blocked (9) or running (12); a Cancel too while it is running.
+abbrev pub RefusedSelects : Type 0
+RefusedSelects = Answered example_control (open_direct 1 ∷ open_direct 2 ∷ select_with 1 1 1 false ∷ take 1 ∷ [])
+    (select_with 1 2 1 false ∷ take 1 ∷ select_with 2 1 1 false ∷ take 2 ∷ cancel_with 1 3 1 false ∷ block true ∷ take 1 ∷ select_with 1 4 1 false ∷ take 1 ∷ block false
+    ∷ select_with 1 5 1 false ∷ operate_with 1 6 1 false ∷ take 1 ∷ take 1 ∷ cancel_with 1 7 1 false ∷ take 1 ∷ select_with 2 2 1 false ∷ take 2 ∷ [])
+    (Asked [] ∷ barred (codes "SBOw") 2 1 19 ∷ Asked [] ∷ barred (codes "SBOw") 1 1 19 ∷ Asked [] ∷ Went ∷ wrote 3 ∷ Asked [] ∷ barred (codes "SBOw") 4 1 9 ∷ Went
+    ∷ Asked [] ∷ acts ∷ wrote 5 ∷ wrote 6 ∷ Asked [] ∷ barred (codes "Cancel") 7 1 12 ∷ Asked [] ∷ barred (codes "SBOw") 2 1 12 ∷ [])

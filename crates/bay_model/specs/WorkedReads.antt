@@ -6,7 +6,7 @@ use Rattle.bay_model.specs.declared.request.ObjName.TheVariants as names
 use Rattle.bay_model.specs.declared.request.Target.TheVariants as targets
 use Rattle.bay_model.specs.declared.step.Comp.TheVariants as comps
 use Rattle.bay_model.specs.Answers.{Turn}
-use Rattle.bay_model.specs.Example.{example, bits_of}
+use Rattle.bay_model.specs.Example.{example, block, bits_of}
 use Rattle.bay_model.specs.ExampleNodes.{domain}
 use Rattle.bay_model.specs.ExampleTurns.{at, open_direct, take, write, set_position, set_power, Answered}
 use Rattle.bay_model.specs.ExampleRequests.{target, read, write_to, gave, gave_none, wrote_none}
@@ -25,11 +25,12 @@ ReadsOfNewestEntry = Answered (example 200) (open_direct 1 ∷ read_entry_id 1 �
     (gave 1 (kinds.Octets (0 ∷ 0 ∷ 0 ∷ 0 ∷ 0 ∷ 0 ∷ 0 ∷ 0 ∷ [])) ∷ gave 2 (kinds.Stamp (record { ms = 0; days = 0 }))
     ∷ gave 3 (kinds.Octets (0 ∷ 0 ∷ 0 ∷ 0 ∷ 0 ∷ 0 ∷ 0 ∷ 1 ∷ [])) ∷ gave 4 (kinds.Stamp (record { ms = 1; days = 1 })) ∷ [])
 
--- ConfRev counts the changes of DatSet; writing the same is none.
+-- ConfRev counts the changes of DatSet, where writing the same is none; 1 follows its greatest number.
 abbrev pub CountedChanges : Type 0
-CountedChanges = Answered (example 200) (open_direct 1 ∷ write 1 comps.DatSet (kinds.Text []) ∷ write 1 comps.DatSet (kinds.Text []) ∷ write 1 comps.DatSet (kinds.Text (codes "BAY1/LLN0$Events")) ∷ read 1 1 (target 6 (codes "LLN0$BR$brcbEv01$ConfRev")) ∷ [])
+CountedChanges = (Answered (example 200) (open_direct 1 ∷ write 1 comps.DatSet (kinds.Text []) ∷ write 1 comps.DatSet (kinds.Text []) ∷ write 1 comps.DatSet (kinds.Text (codes "BAY1/LLN0$Events")) ∷ read 1 1 (target 6 (codes "LLN0$BR$brcbEv01$ConfRev")) ∷ [])
     (take 1 ∷ [])
-    (gave 1 (kinds.Uint 3) ∷ [])
+    (gave 1 (kinds.Uint 3) ∷ []))
+    × (Answered (record (example 200) { blocks = record (block 200) { conf_rev = 4294967295 } ∷ [] }) (open_direct 1 ∷ write 1 comps.DatSet (kinds.Text []) ∷ read 1 1 (target 6 (codes "LLN0$BR$brcbEv01$ConfRev")) ∷ []) (take 1 ∷ []) (gave 1 (kinds.Uint 1) ∷ []))
 
 -- A structure gives its parts in order.
 abbrev pub ReadOfStructure : Type 0

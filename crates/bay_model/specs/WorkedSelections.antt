@@ -1,8 +1,8 @@
 -- Worked histories: a control that is selected by SBO, operated once or many times, or not selected at all (IEC 61850-7-2,
 -- ctlModel 1 and 2, sboTimeout and sboClass).
-use Rattle.std.specs.Prelude.{ℕ, false, [], ◌∷◌, ◌++◌, codes}
+use Rattle.std.specs.Prelude.{ℕ, true, false, [], ◌∷◌, ◌++◌, codes}
 use Rattle.sv_base.specs.declared.value.Value.TheVariants as kinds
-use Rattle.bay_model.specs.declared.answer.Answer.TheVariants.{Asked}
+use Rattle.bay_model.specs.declared.answer.Answer.TheVariants.{Asked, Went}
 use Rattle.bay_model.specs.Model.{Model, Node, leaf, withheld, selecting, truth}
 use Rattle.bay_model.specs.Answers.{Turn}
 use Rattle.bay_model.specs.Example.{example}
@@ -10,7 +10,7 @@ use Rattle.bay_model.specs.ExampleNodes.{domain, nodes}
 use Rattle.bay_model.specs.ExampleTurns.{at, open_direct, take, Answered}
 use Rattle.bay_model.specs.ExampleRequests.{target, read, gave, wrote}
 use Rattle.bay_model.specs.ExampleControl.{control_nodes}
-use Rattle.bay_model.specs.ExampleCommands.{operate_with, barred, oper, acts}
+use Rattle.bay_model.specs.ExampleCommands.{block, operate_with, barred, oper, acts}
 
 abbrev pub sbo_node : Node
 sbo_node = record { domain = domain; item = codes "CSWI1$CO$Pos$SBO"; role = selecting 0; tree = leaf withheld; attrs = []; allowed = false }
@@ -41,3 +41,9 @@ OperatedMany = Answered (controlled 2 1) (open_direct 1 ∷ read_sbo 1 1 ∷ tak
 abbrev pub DirectControl : Type 0
 DirectControl = (Answered (controlled 1 0) (open_direct 1 ∷ []) (operate_with 1 1 1 false ∷ take 1 ∷ operate_with 1 2 1 false ∷ take 1 ∷ []) (acts ∷ wrote 1 ∷ acts ∷ wrote 2 ∷ []))
     × (Answered (controlled 0 0) (open_direct 1 ∷ []) (operate_with 1 1 1 false ∷ take 1 ∷ []) (Asked [] ∷ barred oper 1 1 1 ∷ []))
+
+-- A read of SBO gives the empty text while the control is blocked.
+abbrev pub BlockedSBO : Type 0
+BlockedSBO = Answered (controlled 2 0) (open_direct 1 ∷ block true ∷ [])
+    (read_sbo 1 1 ∷ take 1 ∷ block false ∷ read_sbo 1 2 ∷ take 1 ∷ [])
+    (Asked [] ∷ gave 1 (kinds.Text []) ∷ Went ∷ Asked [] ∷ gave 2 (kinds.Text (codes "BAY1/CSWI1$CO$Pos")) ∷ [])

@@ -35,11 +35,18 @@ ActiveGroup = Answered example_settings (open_direct 1 ∷ read_setting 1 1 ∷ 
     (take 1 ∷ take 1 ∷ take 1 ∷ take 1 ∷ [])
     (gave 1 (kinds.Int (pos 10)) ∷ wrote_none 2 11 ∷ wrote 3 ∷ gave 4 (kinds.Int (pos 20)) ∷ [])
 
--- A group that was edited and confirmed has the new value once it is active; without an edit there is no copy to read.
+-- A group that was edited and confirmed has the new value once it is active; before the edit and after it there is no copy
+-- to read.
 abbrev pub EditedGroup : Type 0
-EditedGroup = Answered example_settings (open_direct 1 ∷ activate 1 1 2 ∷ read_edited 1 2 ∷ edit 1 3 1 ∷ write_edited 1 4 15 ∷ confirm 1 5 ∷ activate 1 6 1 ∷ read_setting 1 7 ∷ [])
-    (take 1 ∷ take 1 ∷ take 1 ∷ take 1 ∷ take 1 ∷ take 1 ∷ take 1 ∷ [])
-    (wrote 1 ∷ gave_none 2 2 ∷ wrote 3 ∷ wrote 4 ∷ wrote 5 ∷ wrote 6 ∷ gave 7 (kinds.Int (pos 15)) ∷ [])
+EditedGroup = Answered example_settings (open_direct 1 ∷ activate 1 1 2 ∷ read_edited 1 2 ∷ edit 1 3 1 ∷ write_edited 1 4 15 ∷ confirm 1 5 ∷ read_edited 1 6 ∷ activate 1 7 1 ∷ read_setting 1 8 ∷ [])
+    (take 1 ∷ take 1 ∷ take 1 ∷ take 1 ∷ take 1 ∷ take 1 ∷ take 1 ∷ take 1 ∷ [])
+    (wrote 1 ∷ gave_none 2 2 ∷ wrote 3 ∷ wrote 4 ∷ wrote 5 ∷ gave_none 6 2 ∷ wrote 7 ∷ gave 8 (kinds.Int (pos 15)) ∷ [])
+
+-- The active group has its new value at once when it is confirmed, and not before.
+abbrev pub ConfirmedActive : Type 0
+ConfirmedActive = Answered example_settings (open_direct 1 ∷ edit 1 1 1 ∷ write_edited 1 2 15 ∷ read_setting 1 3 ∷ confirm 1 4 ∷ read_setting 1 5 ∷ [])
+    (take 1 ∷ take 1 ∷ take 1 ∷ take 1 ∷ take 1 ∷ [])
+    (wrote 1 ∷ wrote 2 ∷ gave 3 (kinds.Int (pos 10)) ∷ wrote 4 ∷ gave 5 (kinds.Int (pos 15)) ∷ [])
 
 -- One association holds the edit: every other may read the copy, and neither write it nor begin another. Its loss drops
 -- the copy.

@@ -7,9 +7,9 @@ ghost use Rattle.bay_model.specs.WorkedResumes.{ResumeAtNewest, ResumeBelowFront
 ghost use Rattle.bay_model.specs.WorkedHolding.{Holding, LossOfAnother, RefusedComponents, RefusalsInOrder};
 ghost use Rattle.bay_model.specs.WorkedBlocks.{TieOfBlocks, EarliestStep};
 ghost use Rattle.bay_model.specs.WorkedReads.{ReadsOfNewestEntry, CountedChanges, ReadOfStructure, RefusedAccess};
-ghost use Rattle.bay_model.specs.WorkedControls.{RefusedOpers, ActAndTermination, NegativeTermination, TestOperate, CancelledSelection, BlockedAndLost, SelectedBesideLoss, LostExecution, LostTermination};
-ghost use Rattle.bay_model.specs.WorkedSelections.{SelectedBySBO, OperatedMany, DirectControl};
-ghost use Rattle.bay_model.specs.WorkedSettings.{ActiveGroup, EditedGroup, HeldEdit, LastActivation, DroppedEdit, SetByProcess};
+ghost use Rattle.bay_model.specs.WorkedControls.{RefusedOpers, ActAndTermination, NegativeTermination, TestOperate, CancelledSelection, BlockedAndLost, SelectedBesideLoss, LostExecution, LostTermination, RefusedSelects};
+ghost use Rattle.bay_model.specs.WorkedSelections.{SelectedBySBO, OperatedMany, DirectControl, BlockedSBO};
+ghost use Rattle.bay_model.specs.WorkedSettings.{ActiveGroup, EditedGroup, ConfirmedActive, HeldEdit, LastActivation, DroppedEdit, SetByProcess};
 ghost use Rattle.bay_model.specs.WorkedRequests.{RepliesInOrder, EnabledByRequest, DefinedSet, NamesAndDeletions, WaitingRepliesFull, TerminationsNotCounted, RefusedSteps};
 
 /// Worked histories of events, and of what is reported of them.
@@ -85,6 +85,7 @@ pub fn worked_controls()
     ensures selected_beside_loss { SelectedBesideLoss }
     ensures lost_execution { LostExecution }
     ensures lost_termination { LostTermination }
+    ensures refused_selects { RefusedSelects }
 {}
 
 /// Worked histories of a control with normal security.
@@ -92,12 +93,14 @@ pub fn worked_selections()
     ensures selected_by_sbo { SelectedBySBO }
     ensures operated_many { OperatedMany }
     ensures direct_control { DirectControl }
+    ensures blocked_sbo { BlockedSBO }
 {}
 
 /// Worked histories of setting groups.
 pub fn worked_settings()
     ensures active_group { ActiveGroup }
     ensures edited_group { EditedGroup }
+    ensures confirmed_active { ConfirmedActive }
     ensures held_edit { HeldEdit }
     ensures last_activation { LastActivation }
     ensures dropped_edit { DroppedEdit }

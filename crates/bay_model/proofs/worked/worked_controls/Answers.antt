@@ -1,4 +1,4 @@
-use Rattle.bay_model.proofs.WorkedControls.{refused_opers, act_and_termination, negative_termination, test_operate, cancelled_selection, blocked_and_lost, selected_beside_loss, lost_execution, lost_termination}
+use Rattle.bay_model.proofs.WorkedControls.{refused_opers, act_and_termination, negative_termination, test_operate, cancelled_selection, blocked_and_lost, selected_beside_loss, lost_execution, lost_termination, refused_selects}
 use Rattle.bay_model.proofs.worked.worked_controls.Goals as goal
 
 pub returns-clause-refused_opers : goal.returns-clause-refused_opers
@@ -27,3 +27,6 @@ returns-clause-lost_execution c = lost_execution
 
 pub returns-clause-lost_termination : goal.returns-clause-lost_termination
 returns-clause-lost_termination c = lost_termination
+
+pub returns-clause-refused_selects : goal.returns-clause-refused_selects
+returns-clause-refused_selects c = refused_selects

@@ -1,4 +1,4 @@
-use Rattle.bay_model.proofs.WorkedSettings.{active_group, edited_group, held_edit, last_activation, dropped_edit, set_by_process}
+use Rattle.bay_model.proofs.WorkedSettings.{active_group, edited_group, confirmed_active, held_edit, last_activation, dropped_edit, set_by_process}
 use Rattle.bay_model.proofs.worked.worked_settings.Goals as goal
 
 pub returns-clause-active_group : goal.returns-clause-active_group
@@ -6,6 +6,9 @@ returns-clause-active_group c = active_group
 
 pub returns-clause-edited_group : goal.returns-clause-edited_group
 returns-clause-edited_group c = edited_group
+
+pub returns-clause-confirmed_active : goal.returns-clause-confirmed_active
+returns-clause-confirmed_active c = confirmed_active
 
 pub returns-clause-held_edit : goal.returns-clause-held_edit
 returns-clause-held_edit c = held_edit
