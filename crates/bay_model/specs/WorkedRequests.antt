@@ -42,10 +42,10 @@ DefinedSet = Answered (example 200) (open_direct 1 ∷ ask 1 1 define ∷ ask 1 
     (take 1 ∷ take 1 ∷ take 1 ∷ take 1 ∷ take 1 ∷ enable 1 ∷ [])
     (replied 1 replies.Defined ∷ replied 2 (replies.Error 2 5) ∷ replied 3 (replies.Names (codes "LLN0$Alarms" ∷ codes "LLN0$Events" ∷ [])) ∷ replied 4 (replies.Deleted 1 0) ∷ replied 5 (replies.Deleted 1 1) ∷ refused 8 ∷ [])
 
--- Names come in the order of their octets, those after a name that need not be there; a configured set isn't deleted, and
--- a domain that isn't there has none.
+-- Names come in the order of their octets, those after a name that need not be there; a configured set isn't
+-- deleted though no block names it, and a domain that isn't there has none.
 abbrev pub NamesAndDeletions : Type 0
-NamesAndDeletions = Answered (example 200) (open_direct 1 ∷ ask 1 1 define ∷ ask 1 2 (services.Names 2 (scopes.Domain domain) (Some (codes "LLN0$Alarms"))) ∷ ask 1 3 (services.Names 2 (scopes.Domain domain) (Some (codes "LLN0$A")))
+NamesAndDeletions = Answered (example 200) (open_direct 1 ∷ write 1 comps.DatSet (kinds.Text []) ∷ ask 1 1 define ∷ ask 1 2 (services.Names 2 (scopes.Domain domain) (Some (codes "LLN0$Alarms"))) ∷ ask 1 3 (services.Names 2 (scopes.Domain domain) (Some (codes "LLN0$A")))
     ∷ ask 1 4 (services.Names 9 scopes.Vmd None) ∷ ask 1 5 (services.Names 9 (scopes.Domain (codes "BAY2")) None) ∷ ask 1 6 (services.Delete 0 (record { domain = domain; item = codes "LLN0$Events" } ∷ record { domain = domain; item = codes "LLN0$Alarms" } ∷ record { domain = domain; item = codes "LLN0$Alarms" } ∷ []))
     ∷ ask 1 7 (services.Delete 1 []) ∷ ask 1 8 (services.Define domain (codes "LLN0$9") (target 32 (codes "MMXU1$MX$TotW$mag$i") ∷ [])) ∷ [])
     (take 1 ∷ take 1 ∷ take 1 ∷ take 1 ∷ take 1 ∷ take 1 ∷ take 1 ∷ take 1 ∷ [])
