@@ -1,3 +1,5 @@
+//! What comes of controls: acts, LastApplErrors and terminations (IEC 61850-7-2, the control class model).
+
 use std::marker::Model;
 use sv_base::{AssocNo, CtlNo, Octs, Value};
 

@@ -1,3 +1,5 @@
+//! Replies to requests (ISO 9506-2, the responses of the confirmed services).
+
 use crate::request::{SetName, Targets};
 use crate::results::{Codes, Names, Nodes, Results};
 use sv_base::NodeId;

@@ -1,3 +1,5 @@
+//! Reports of a block's entries (IEC 61850-7-2, the Report service and its report format).
+
 use std::marker::Model;
 use sv_base::{Bits, BlockNo, MemberNo, Moment, Octs};
 

@@ -1,3 +1,5 @@
+//! The lists that a reply has: names, results of reads, outcomes of writes, nodes.
+
 use std::marker::Model;
 use sv_base::{NodeId, Octs, Value};
 
