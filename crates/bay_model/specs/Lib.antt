@@ -7,6 +7,7 @@
 pub mod Roles
 pub mod Model
 pub mod Lookups
+pub mod Configured
 -- a history's points, and the values and parameters at each
 pub mod Points
 pub mod Settings

@@ -13,7 +13,7 @@ pub enum Asked {
 }
 
 /// The reply to a request (ISO 9506-2, the responses and errors of the confirmed services).
-#[derive(Drop)]
+#[derive(Debug, Drop)]
 pub enum Reply {
     Status,
     Identify,

@@ -89,7 +89,7 @@ impl Members {
 }
 
 /// A report of one entry of a block (IEC 61850-7-2, the report format).
-#[derive(Drop)]
+#[derive(Debug, Drop)]
 pub struct Report {
     pub block: BlockNo,
     pub rpt_id: Octs,
