@@ -1,16 +1,20 @@
-ghost use Rattle.std.specs.Prelude.{◌≡◌, ◌<◌, ◌^◌, ◌≤◌, ◌+◌, ℕ, List, length, pos, negsuc};
+ghost use Rattle.std.specs.Prelude.{◌≡◌, ◌<◌, ◌^◌, ◌≤◌, ◌+◌, ℕ, List, length, pos, negsuc, IfOk};
 ghost use Rattle.ber_grammar.specs.Reader.{Gives, Reads};
 ghost use Rattle.ber_grammar.specs.Content.{IsText, IsTextRefused, IsUint, IsUintRefused, IsInt, IsIntRefused};
-ghost use Rattle.ber_grammar.specs.Element.{big_endian};
+ghost use Rattle.ber_grammar.specs.Octets.{big_endian};
+ghost use Rattle.ber_grammar.specs.Place.{IsSliceAt};
 ghost use Rattle.ber_grammar.specs.Reading.{lack, positive, negative, uint_at, int_at, text_at};
 
 use ber_grammar::BerFault;
 
-/// The octets of a visible string.
+/// The octets of a visible string (X.690, 8.23), which are `content` itself.
+///
+/// Fails with `BadText` where an octet is outside 0x20 to 0x7E.
 #[tactic(auto, unfolding(ber_grammar::specs::Reading::text_at))]
 pub fn text(content: &[u8]) -> Result<&[u8], BerFault>
     ensures reads { Reads (λ x. x.now) result (IsText content.now) (IsTextRefused content.now) }
     ensures exact { Gives (λ x. x.now) result (text_at content.now) }
+    ensures places { IfOk result (λ x. IsSliceAt content.entry 0 x) }
 {
     for b in content {
         if *b < 0x20 || *b > 0x7e {
@@ -68,7 +72,10 @@ fn read_uint(content: &[u8]) -> Result<u64, BerFault>
     }
 }
 
-/// An unsigned number.
+/// An unsigned number of at most 64 bits, from one to nine octets in two's complement (X.690, 8.3).
+///
+/// Fails with `BadNumber` at no octet, at more than nine, and where the number is negative or above
+/// 18446744073709551615.
 pub fn uint(content: &[u8]) -> Result<u64, BerFault>
     ensures reads { Reads (λ x. x) result (IsUint content.now) (IsUintRefused content.now) }
     ensures exact { Gives (λ x. x) result (uint_at content.now) }
@@ -119,7 +126,9 @@ fn read_int(content: &[u8]) -> Result<i64, BerFault>
     }
 }
 
-/// A signed number.
+/// A signed number of at most 64 bits, from one to nine octets in two's complement (X.690, 8.3).
+///
+/// Fails with `BadNumber` at no octet, at more than nine, and where the number is no `i64`.
 pub fn int(content: &[u8]) -> Result<i64, BerFault>
     ensures reads { Reads (λ x. x) result (IsInt content.now) (IsIntRefused content.now) }
     ensures exact { Gives (λ x. x) result (int_at content.now) }

@@ -1,5 +1,6 @@
 ghost use Rattle.std.specs.Prelude.{◌≡◌, ℕ, ◌+◌, ◌<◌, ◌≤◌, List, length, IfOk, Ok};
-ghost use Rattle.ber_grammar.specs.Element.{Element, big_endian, Begins, IsRefused, IsAt};
+ghost use Rattle.ber_grammar.specs.Octets.{big_endian};
+ghost use Rattle.ber_grammar.specs.Element.{Element, Begins, IsRefused};
 ghost use Rattle.ber_grammar.specs.Reader.{Gives, Reads};
 ghost use Rattle.ber_grammar.specs.Reading.{tag_at, second_at, third_at, length_at, number_at, first_at};
 ghost use Rattle.ber_grammar.specs.Place.{IsEndOf, IsSliceAt};
@@ -7,11 +8,14 @@ ghost use Rattle.ber_view.specs.View.{element};
 
 use ber_grammar::BerFault;
 
-/// One element: its tag as one big-endian number, how many octets stand before its content, and its content.
+/// One element (X.690, 8.1): tag, length and content.
 #[derive(Clone, Copy, Debug)]
 pub struct Tlv<'a> {
+    /// The octets of the tag, one to three, as one big-endian number.
     pub tag: u32,
+    /// How many octets stand before the content.
     pub head: usize,
+    /// The octets of the content, a slice of the input.
     pub content: &'a [u8],
 }
 
@@ -127,7 +131,13 @@ fn read_first(bytes: &[u8]) -> Result<(Tlv<'_>, &[u8]), BerFault>
     Ok((Tlv { tag, head, content }, &after[len..]))
 }
 
-/// The first element, and the octets after it.
+/// The first element, and the octets after it, both slices of `bytes`.
+///
+/// A tag has at most three octets, and a length at most five in all. Both may be longer than needed.
+///
+/// Fails at the first octet at which no element goes on: with `Short` where `bytes` end inside an element, `LongLength`
+/// where more than four octets of a length follow, `Indefinite` at the length 0x80, `BadTag` where a tag goes on after
+/// three octets.
 pub fn first(bytes: &[u8]) -> Result<(Tlv<'_>, &[u8]), BerFault>
     // An element where the input begins with one, else the refusal that the input earns.
     ensures reads { Reads {Y = Element × List ℕ} (λ x. (element x.0, x.1.now)) result (λ y. Begins bytes.now y.0 y.1) (IsRefused bytes.now) }

@@ -1,13 +1,19 @@
-// A library with one function.
+//! BER elements and the contents of the plain kinds (ITU-T X.690), read without copying.
+//!
+//! [`first`] reads one element and [`parts`] a row of them; [`int`], [`uint`], [`bits`] and [`text`] read the content
+//! of one. Whatever is given back is a slice of the input. Tags and lengths may be spelled longer than needed.
 #![tactic(auto)]
 
-ghost use Rattle.std.specs.Prelude.{◌≡◌};
-ghost use Rattle.ber_view.specs.Echo.{echo_of};
+mod bit_view;
+mod content;
+mod element;
+mod elements;
 
-// The `ensures` clause is the contract: what `echo` returns is `echo_of` of its argument, a definition
-// in `specs/Echo.antt`, which a caller's clause can cite too.
-pub fn echo(x: usize) -> usize
-    ensures { result ≡ echo_of x }
-{
-    x
-}
+pub use ber_grammar::BerFault;
+pub use bit_view::{BitView, bits};
+pub use content::{int, text, uint};
+pub use element::{Tlv, first};
+pub use elements::{Elements, parts};
+
+#[cfg(test)]
+mod tests;

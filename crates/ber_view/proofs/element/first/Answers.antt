@@ -1,4 +1,5 @@
-use Rattle.ber_grammar.proofs.ElementLaws.{first_reads, first_slices, first_shortens}
+use Rattle.ber_grammar.proofs.ElementLaws.{first_reads, first_shortens}
+use Rattle.ber_view.proofs.SliceLaws.{first_slices}
 use Rattle.ber_view.specs.View.{element}
 use Rattle.ber_view.proofs.element.first.Goals as goal
 
