@@ -1,14 +1,15 @@
 -- What is read is spelled so, what is spelled so is read, and each refusal is where no spelling goes on.
-use Rattle.std.proofs.Common.{◌≡◌, ℕ, ◌+◌, ◌-◌, ◌*◌, ◌%◌, ◌<◌, ◌≤◌, false, cond, eqb, ltb, List, [], ◌∷◌, ◌++◌, length, take, drop, replicate, Result, Ok, Err, refl, sym, ap, subst, ◌∙◌, append_assoc, arith}
+use Rattle.std.proofs.Common.{◌≡◌, ℕ, ◌+◌, ◌-◌, ◌*◌, ◌%◌, ◌^◌, ◌<◌, ◌≤◌, false, cond, eqb, ltb, List, [], ◌∷◌, ◌++◌, length, take, drop, replicate, Result, Ok, Err, refl, sym, ap, subst, ◌∙◌, append_assoc, arith}
 use Rattle.std.specs.Prelude.{IfOk}
 use Rattle.std.proofs.lemmas.Bool.{eqb-true, eqb-false, ltb-true, ltb-false, eq-eqb, ne_eqb, lt-ltb, le-ltb, cond_both}
 use Rattle.std.proofs.lemmas.List.{take_at, drop_at, take-append-drop, length-append, length-take, length-replicate, append-nil}
 use Rattle.ber_grammar.specs.declared.fault.BerFault.{BerFault}
 use Rattle.ber_grammar.specs.declared.fault.BerFault.TheVariants.{Short, LongLength, Indefinite, BadTag, BadNumber, BadText}
-use Rattle.ber_grammar.specs.Octets.{big_endian, IsAt}
+use Rattle.ber_grammar.specs.Octets.{big_endian, IsAt, IsBytes}
 use Rattle.ber_grammar.specs.Element.{Element, IsTag, IsLength, Spells, Begins, IsRefused}
 use Rattle.ber_grammar.specs.Reader.{◌>>=◌, Gives, Reads}
 use Rattle.ber_grammar.specs.Reading.{third_at, second_at, tag_at, number_at, length_at, first_at}
+use Rattle.ber_grammar.proofs.OctetLaws.{Begins-below}
 use Rattle.ber_grammar.proofs.ReaderLaws.{exact_from, ok_is, reads_from}
 
 -- ---- what is spelled so is read
@@ -279,3 +280,7 @@ first_shortens view (Err f) bytes g = tt
 pub Begins-length : (bytes : List ℕ) (e : Element) (rest : List ℕ) → Begins bytes e rest → length bytes ≡ (e.head + length e.content) + length rest
 Begins-length bytes e rest (front, s, p) =
     omega (arith, ap length p, length-append front rest, ap length s.whole, length-append s.tag (s.len ++ e.content), length-append s.len e.content, s.head)
+
+pub first_below : {X : Type 0} (view : X → Element × List ℕ) (r : Result X BerFault) (bytes : List ℕ) → IsBytes bytes → Gives view r (first_at bytes) → IfOk r (λ x. length (view x).0.content < 2 ^ 32)
+first_below view (Ok x) bytes fits g = Begins-below bytes (view x).0 (view x).1 fits (subst (λ (r : Result (Element × List ℕ) BerFault). FirstTells bytes r) g (first_tells bytes))
+first_below view (Err f) bytes fits g = tt

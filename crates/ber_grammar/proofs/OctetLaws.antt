@@ -1,10 +1,11 @@
 -- Lists of octets, and the numbers that they are.
-use Rattle.std.proofs.Common.{◌≡◌, ℕ, zero, suc, ◌+◌, ◌*◌, ◌^◌, ◌<◌, List, [], ◌∷◌, ◌++◌, length, inl, inr, refl, sym, subst, ap, ◌∙◌, zero-add, arith}
+use Rattle.std.proofs.Common.{◌≡◌, ℕ, zero, suc, ◌+◌, ◌*◌, ◌^◌, ◌<◌, ◌≤◌, List, [], ◌∷◌, ◌++◌, length, inl, inr, refl, sym, subst, ap, ◌∙◌, zero-add, arith}
 use Rattle.std.specs.Prelude.{fold}
-use Rattle.std.proofs.Math.Nat.{pow-suc, suc-mul, mul-le-mul_right}
+use Rattle.std.proofs.Math.Nat.{pow-suc, suc-mul, mul-le-mul_right, pow-le-pow_right}
+use Rattle.std.proofs.lemmas.List.{length-append}
 use Rattle.std.proofs.lemmas.Bool.{cases_order}
 use Rattle.ber_grammar.specs.Octets.{big_endian, IsBytes}
-use Rattle.ber_grammar.specs.Element.{Element, Spells, Begins, IsRow}
+use Rattle.ber_grammar.specs.Element.{Element, IsLength, Spells, Begins, IsRow}
 
 -- ---- parts of octets are octets
 
@@ -91,3 +92,33 @@ big_endian-same (x ∷ xs) (y ∷ ys) fx fy len e =
     sym (big_endian-cons x xs) ∙ e ∙ big_endian-cons y ys ∙ ap (λ (p : ℕ). y * p + big_endian ys) power in
     let parts = same_parts x y (256 ^ length xs) (big_endian xs) (big_endian ys) (big_endian-below xs (IsBytes-rest x xs fx)) fit at in
     rw (parts.0, big_endian-same xs ys (IsBytes-rest x xs fx) (IsBytes-rest y ys fy) same parts.1) refl
+
+-- ---- how long contents are
+
+length-below : (l : List ℕ) (n : ℕ) → IsBytes l → IsLength l n → n < 2 ^ 32
+length-below [] n fits h = absurd h
+length-below (a ∷ []) n fits h = omega (arith, h.0, h.1)
+length-below (a ∷ b ∷ more) n fits h =
+    let small : 256 ^ length (b ∷ more) ≤ 256 ^ 4 = pow-le-pow_right {n = 256} (omega arith) {i = length (b ∷ more)} {j = 4} h.1 in
+    omega (arith, h.2, big_endian-below (b ∷ more) (IsBytes-rest a (b ∷ more) fits), small)
+
+-- a content has at most 4294967295 octets
+pub Spells-below : (octets : List ℕ) (e : Element) → IsBytes octets → Spells octets e → length e.content < 2 ^ 32
+Spells-below octets e fits s = length-below s.len (length e.content) (IsBytes-front s.len e.content (IsBytes-back s.tag (s.len ++ e.content) (subst IsBytes s.whole fits))) s.is_length
+
+pub Begins-below : (octets : List ℕ) (e : Element) (rest : List ℕ) → IsBytes octets → Begins octets e rest → length e.content < 2 ^ 32
+Begins-below octets e rest fits (front, s, p) = Spells-below front e (IsBytes-front front rest (subst IsBytes p fits)) s
+
+-- the elements of a row are within it
+abbrev pub AllWithin : ℕ → List Element → Type 0
+AllWithin n [] = Unit {0}
+AllWithin n (e ∷ es) = (length e.content ≤ n) × AllWithin n es
+
+pub IsRow-within : (n : ℕ) (octets : List ℕ) (es : List Element) → IsRow octets es → length octets ≤ n → AllWithin n es
+IsRow-within n octets [] row le = tt
+IsRow-within n octets (e ∷ es) (front, rest, s, p, row) le =
+    let whole = ap length p in
+    let parts = ap length s.whole in (
+      omega (arith, le, whole, parts, length-append front rest, length-append s.tag (s.len ++ e.content), length-append s.len e.content),
+      IsRow-within n rest es row (omega (arith, le, whole, length-append front rest)),
+    )

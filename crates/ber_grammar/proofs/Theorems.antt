@@ -5,7 +5,7 @@ use Rattle.std.proofs.lemmas.List.{append-nil}
 use Rattle.ber_grammar.specs.declared.fault.BerFault.{BerFault}
 use Rattle.ber_grammar.specs.Octets.{IsBytes}
 use Rattle.ber_grammar.specs.Element.{Element, Spells, Begins, IsRefused, IsRow}
-use Rattle.ber_grammar.specs.Content.{IsInt, IsUint, IsBits}
+use Rattle.ber_grammar.specs.Content.{IsBoolean, IsInt, IsUint, IsBits}
 use Rattle.ber_grammar.specs.Reading.{first_at}
 use Rattle.ber_grammar.proofs.ReaderLaws.{ok_is, err_is}
 use Rattle.ber_grammar.proofs.ElementLaws.{FirstTells, first_tells, first_again, refused_again}
@@ -13,6 +13,8 @@ use Rattle.ber_grammar.proofs.PartsLaws.{row_again}
 use Rattle.ber_grammar.proofs.IntLaws.{int_again}
 use Rattle.ber_grammar.proofs.UintLaws.{uint_again}
 use Rattle.ber_grammar.proofs.BitLaws.{bits_again}
+use Rattle.ber_grammar.proofs.BooleanLaws.{boolean_again}
+use Rattle.ber_grammar.specs.declared.fault.BerFault.TheVariants.{BadNumber}
 
 begins_again : (input : List ℕ) (e : Element) (rest : List ℕ) → Begins input e rest → first_at input ≡ Ok (e, rest)
 begins_again input e rest (front, s, p) = ap first_at p ∙ first_again front rest e s
@@ -54,3 +56,6 @@ one_uint content m n p q = ok_is {F = BerFault} m n (sym (uint_again content m p
 
 pub one_bits : (content : List ℕ) (bs cs : List Bool) → IsBits content bs → IsBits content cs → bs ≡ cs
 one_bits content bs cs p q = ok_is {F = BerFault} bs cs (sym (bits_again content bs p) ∙ bits_again content cs q)
+
+pub one_boolean : (content : List ℕ) (b c : Bool) → IsBoolean content b → IsBoolean content c → b ≡ c
+one_boolean content b c p q = ok_is {F = BerFault} b c (sym (boolean_again BadNumber content b p) ∙ boolean_again BadNumber content c q)

@@ -1,10 +1,10 @@
 -- A row of elements, each of which is read further.
-use Rattle.std.specs.Prelude.{ℕ, zero, suc, List, [], ◌∷◌, length, Result, Ok, Err}
+use Rattle.std.specs.Prelude.{ℕ, zero, suc, List, [], ◌∷◌, length, Option, Some, None, Result, Ok, Err}
 use Rattle.std.specs.Result.{result_unwrap_or}
 use Rattle.ber_grammar.specs.declared.fault.BerFault.{BerFault}
 use Rattle.ber_grammar.specs.declared.fault.BerFault.TheVariants.{Short}
 use Rattle.ber_grammar.specs.Element.{Element}
-use Rattle.ber_grammar.specs.Reader.{◌>>=◌, with_fault}
+use Rattle.ber_grammar.specs.Reader.{◌>>=◌, with_fault, and_then, kept}
 use Rattle.ber_grammar.specs.Reading.{first_at}
 
 module _ {A F : Type 0} (read : Element → Result A F) (broken : BerFault → F) where
@@ -30,3 +30,13 @@ parts_at octets = row_at (λ e. Ok e) (λ f. f) octets
 -- the elements of a row, and of other octets none
 unfoldable pub row_of : List ℕ → List Element
 row_of octets = result_unwrap_or (parts_at octets) []
+
+-- the only element of a list
+abbrev pub single : {A : Type 0} → List A → Option A
+single [] = None
+single (e ∷ []) = Some e
+single (e ∷ d ∷ es) = None
+
+-- the only element of a content
+unfoldable pub only_at : List ℕ → Option Element
+only_at content = and_then (kept (parts_at content)) single

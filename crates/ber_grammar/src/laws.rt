@@ -2,7 +2,7 @@ ghost use Rattle.std.specs.Prelude.{◌≡◌, ℕ, ℤ, Bool, ◌⊎◌, ◌++�
 ghost use Rattle.ber_grammar.specs.declared.fault.BerFault.{BerFault};
 ghost use Rattle.ber_grammar.specs.Octets.{IsBytes};
 ghost use Rattle.ber_grammar.specs.Element.{Element, Spells, Begins, IsRefused, IsRow};
-ghost use Rattle.ber_grammar.specs.Content.{IsInt, IsUint, IsBits};
+ghost use Rattle.ber_grammar.specs.Content.{IsBoolean, IsInt, IsUint, IsBits};
 
 /// Each input begins with one element, or is refused for one cause, and never both.
 pub fn each_input_begins_one_element()
@@ -27,8 +27,9 @@ pub fn rows_join()
     ensures { (front rest : List ℕ) (ds es : List Element) → IsRow front ds → IsRow rest es → IsRow (front ++ rest) (ds ++ es) }
 {}
 
-/// A content spells one signed number at most, one unsigned number, and one bit string.
+/// A content spells one boolean at most, one signed number, one unsigned number, and one bit string.
 pub fn each_content_spells_one_value()
+    ensures booleans { (content : List ℕ) (b c : Bool) → IsBoolean content b → IsBoolean content c → b ≡ c }
     ensures signed { (content : List ℕ) (v w : ℤ) → IsBytes content → IsInt content v → IsInt content w → v ≡ w }
     ensures unsigned { (content : List ℕ) (m n : ℕ) → IsUint content m → IsUint content n → m ≡ n }
     ensures bits { (content : List ℕ) (bs cs : List Bool) → IsBits content bs → IsBits content cs → bs ≡ cs }

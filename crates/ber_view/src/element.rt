@@ -1,4 +1,4 @@
-ghost use Rattle.std.specs.Prelude.{◌≡◌, ℕ, ◌+◌, ◌<◌, ◌≤◌, List, length, IfOk, Ok};
+ghost use Rattle.std.specs.Prelude.{◌≡◌, ℕ, ◌+◌, ◌<◌, ◌^◌, ◌≤◌, List, length, IfOk, Ok};
 ghost use Rattle.ber_grammar.specs.Octets.{big_endian};
 ghost use Rattle.ber_grammar.specs.Element.{Element, Begins, IsRefused};
 ghost use Rattle.ber_grammar.specs.Reader.{Gives, Reads};
@@ -143,6 +143,7 @@ pub fn first(bytes: &[u8]) -> Result<(Tlv<'_>, &[u8]), BerFault>
     ensures reads { Reads {Y = Element × List ℕ} (λ x. (element x.0, x.1.now)) result (λ y. Begins bytes.now y.0 y.1) (IsRefused bytes.now) }
     ensures exact { Gives (λ x. (element x.0, x.1.now)) result (first_at bytes.now) }
     ensures shorter { IfOk result (λ x. length x.1.now < length bytes.now) }
+    ensures bound { IfOk result (λ x. length x.0.content.now < 2 ^ 32) }
     // Both are slices of the input.
     ensures places { IfOk result (λ x. IsSliceAt bytes.entry x.0.head x.0.content × IsSliceAt bytes.entry (x.0.head + length x.0.content.now) x.1) }
 {
