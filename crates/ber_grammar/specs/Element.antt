@@ -10,7 +10,8 @@ pub record Element : Type 0 where
   pub head : ℕ
   pub content : List ℕ
 
--- One octet, unless its low five bits are all set. Then one more below 128, or one from 128 on and one below.
+-- One octet, unless its low five bits are all set. Then one more below 128, or one from 128 on and one below. A small tag
+-- number in a long form is a tag too.
 abbrev pub IsTag : List ℕ → ℕ → Type 0
 IsTag [] tag = ⊥
 IsTag (a ∷ []) tag = (a % 32 ≢ 31) × (tag ≡ a)
@@ -46,7 +47,7 @@ IsRefused input Short = (more : List ℕ) × (e : Element) × (0 < length more) 
 IsRefused input BadTag = (a b c : ℕ) × (rest : List ℕ) × (a % 32 ≡ 31) × (128 ≤ b) × (128 ≤ c) × (input ≡ a ∷ b ∷ c ∷ rest)
 -- behind a tag stands 128
 IsRefused input Indefinite = (octets : List ℕ) × (tag : ℕ) × (rest : List ℕ) × IsTag octets tag × (input ≡ octets ++ 128 ∷ rest)
--- behind a tag stands an octet that says that more than four follow
+-- behind a tag stands an octet that says that more than four follow (four spell no length above 4294967295)
 IsRefused input LongLength = (octets : List ℕ) × (tag a : ℕ) × (rest : List ℕ) × IsTag octets tag × (132 < a) × (input ≡ octets ++ a ∷ rest)
 -- no other refusal is of an element
 IsRefused input BadNumber = ⊥

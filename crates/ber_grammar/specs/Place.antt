@@ -25,3 +25,17 @@ placed from (e ∷ es) = record { element = e; block = from.0; place = from.1 + 
 -- the elements alone
 abbrev pub elements : List Spot → List Element
 elements spots = map (λ s. s.element) spots
+
+-- Octets and where they lie, as of a name or a content that a reader gives back.
+pub record Piece : Type 0 where
+  pub octets : List ℕ
+  pub block : ℕ
+  pub place : ℕ
+
+-- a slice of the program
+abbrev pub piece : Bor (List ℕ) → Piece
+piece part = record { octets = part.now; block = part.ref_ptr.0; place = part.ref_ptr.1 }
+
+-- the content of an element of a row
+abbrev pub content_piece : Spot → Piece
+content_piece spot = record { octets = spot.element.content; block = spot.block; place = spot.place }

@@ -19,7 +19,8 @@ pub struct Tlv<'a> {
     pub content: &'a [u8],
 }
 
-fn third_of(a: u8, b: u8, bytes: &[u8]) -> Result<(u32, &[u8]), BerFault>
+/// The last octet of a tag behind two.
+fn read_third(a: u8, b: u8, bytes: &[u8]) -> Result<(u32, &[u8]), BerFault>
     ensures exact { Gives (λ x. (x.0, x.1.now)) result (third_at a b bytes.now) }
     ensures place { IfOk result (λ x. IsEndOf x.1 bytes.entry) }
 {
@@ -37,7 +38,8 @@ fn third_of(a: u8, b: u8, bytes: &[u8]) -> Result<(u32, &[u8]), BerFault>
     }
 }
 
-fn second_of(a: u8, bytes: &[u8]) -> Result<(u32, &[u8]), BerFault>
+/// The second octet of a tag, and what follows.
+fn read_second(a: u8, bytes: &[u8]) -> Result<(u32, &[u8]), BerFault>
     ensures exact { Gives (λ x. (x.0, x.1.now)) result (second_at a bytes.now) }
     ensures place { IfOk result (λ x. IsEndOf x.1 bytes.entry) }
 {
@@ -45,15 +47,16 @@ fn second_of(a: u8, bytes: &[u8]) -> Result<(u32, &[u8]), BerFault>
         [] => Err(BerFault::Short),
         [b, rest @ ..] => {
             if *b >= 128 {
-                return third_of(a, *b, rest);
+                return read_third(a, *b, rest);
             }
             Ok((u32::from(a) * 256 + u32::from(*b), rest))
         }
     }
 }
 
+/// A tag, and the octets after it.
 #[tactic(auto, unfolding(ber_grammar::specs::Reading::tag_at))]
-fn tag_of(bytes: &[u8]) -> Result<(u32, &[u8]), BerFault>
+fn read_tag(bytes: &[u8]) -> Result<(u32, &[u8]), BerFault>
     ensures exact { Gives (λ x. (x.0, x.1.now)) result (tag_at bytes.now) }
     ensures place { IfOk result (λ x. IsEndOf x.1 bytes.entry) }
 {
@@ -61,7 +64,7 @@ fn tag_of(bytes: &[u8]) -> Result<(u32, &[u8]), BerFault>
         [] => Err(BerFault::Short),
         [a, rest @ ..] => {
             if *a % 32 == 31 {
-                return second_of(*a, rest);
+                return read_second(*a, rest);
             }
             Ok((u32::from(*a), rest))
         }
@@ -80,8 +83,9 @@ fn big_endian_of(bytes: &[u8]) -> u32
     n
 }
 
+/// A length in `count` octets, and the octets after them.
 #[tactic(auto, unfolding(ber_grammar::specs::Reading::number_at))]
-fn number_of(count: usize, bytes: &[u8]) -> Result<(u32, &[u8]), BerFault>
+fn read_long_length(count: usize, bytes: &[u8]) -> Result<(u32, &[u8]), BerFault>
     requires { count ≤ 4 }
     ensures exact { Gives (λ x. (x.0, x.1.now)) result (number_at count bytes.now) }
     ensures place { IfOk result (λ x. IsEndOf x.1 bytes.entry) }
@@ -92,8 +96,9 @@ fn number_of(count: usize, bytes: &[u8]) -> Result<(u32, &[u8]), BerFault>
     Ok((big_endian_of(&bytes[..count]), &bytes[count..]))
 }
 
+/// A length, and the octets after it.
 #[tactic(auto, unfolding(ber_grammar::specs::Reading::length_at))]
-fn length_of(bytes: &[u8]) -> Result<(u32, &[u8]), BerFault>
+fn read_length(bytes: &[u8]) -> Result<(u32, &[u8]), BerFault>
     ensures exact { Gives (λ x. (x.0, x.1.now)) result (length_at bytes.now) }
     ensures place { IfOk result (λ x. IsEndOf x.1 bytes.entry) }
 {
@@ -109,7 +114,7 @@ fn length_of(bytes: &[u8]) -> Result<(u32, &[u8]), BerFault>
             if *a > 132 {
                 return Err(BerFault::LongLength);
             }
-            number_of(usize::from(*a - 128), rest)
+            read_long_length(usize::from(*a - 128), rest)
         }
     }
 }
@@ -120,8 +125,8 @@ fn read_first(bytes: &[u8]) -> Result<(Tlv<'_>, &[u8]), BerFault>
     ensures rest { IfOk result (λ x. IsEndOf x.1 bytes.entry) }
     ensures content { IfOk result (λ x. (x.0.content.ref_ptr.0 ≡ bytes.entry.ref_ptr.0) × (x.0.content.ref_ptr.1 ≡ bytes.entry.ref_ptr.1 + x.0.head)) }
 {
-    let (tag, after) = tag_of(bytes)?;
-    let (len, after) = length_of(after)?;
+    let (tag, after) = read_tag(bytes)?;
+    let (len, after) = read_length(after)?;
     let len = len as usize;
     if after.len() < len {
         return Err(BerFault::Short);
