@@ -1,6 +1,6 @@
 -- The cursor of an enabled block rises only by reports.
-use Rattle.std.proofs.Common.{◌≡◌, ◌≢◌, ℕ, suc, max, ◌≤◌, ◌<◌, Bool, true, false, List, [], ◌∷◌, ◌++◌, length, refl, sym, ap, ◌∙◌, subst, ◌⊎◌, inl, inr, arith}
-use Rattle.std.specs.Prelude.{⊤, Some, is_some, if◌then◌else◌, ◌==◌}
+use Rattle.std.proofs.Common.{◌≡◌, ◌≢◌, ℕ, suc, max, ◌<◌, true, false, List, ◌∷◌, ◌++◌, refl, ap, ◌∙◌, subst, ◌⊎◌, inl, inr, arith}
+use Rattle.std.specs.Prelude.{⊤, is_some, ◌==◌}
 use Rattle.std.proofs.lemmas.Bool.Decides.{eqb_tells, Decides-eqb}
 use Rattle.sv_base.specs.declared.value.Value.{Value}
 use Rattle.sv_base.specs.declared.value.Value.TheVariants as kinds
@@ -8,9 +8,8 @@ use Rattle.bay_model.specs.declared.step.Comp.{Comp}
 use Rattle.bay_model.specs.declared.step.Comp.TheVariants.{EntryID}
 use Rattle.bay_model.specs.Model.{Model}
 use Rattle.bay_model.specs.Points.{Deed, wrote, reported, Point, Past}
-use Rattle.bay_model.specs.Entries.{selected}
 use Rattle.bay_model.specs.Retained.{front}
-use Rattle.bay_model.specs.Blocks.{enabler, enabler_after, is_held, cursor, cursor_after, next, next_number}
+use Rattle.bay_model.specs.Blocks.{enabler, enabler_after, is_held, cursor, cursor_after}
 use Rattle.bay_model.specs.Singles.{arrival}
 use Rattle.bay_model.specs.Answers.{History, points}
 use Rattle.bay_model.specs.CursorLaws.{is_report}

@@ -1,5 +1,5 @@
 -- Entries are never renumbered, and the front never falls, as points come.
-use Rattle.std.proofs.Common.{◌≡◌, ℕ, ◌≤◌, max, Bool, true, false, List, [], ◌∷◌, ◌++◌, length, sym, ap, ◌∙◌, subst, append-nil, append_assoc, length-append, arith}
+use Rattle.std.proofs.Common.{ℕ, zero, suc, ◌+◌, drop, ◌≤◌, max, Bool, true, false, List, [], ◌∷◌, ◌++◌, length, sym, ap, ◌∙◌, subst, append-nil, append_assoc, length-append, arith}
 use Rattle.std.specs.Prelude.{if◌then◌else◌, nat_lt}
 use Rattle.bay_model.specs.Model.{Model}
 use Rattle.bay_model.specs.Lookups.{block_of}
@@ -8,9 +8,9 @@ use Rattle.bay_model.specs.Parameters.{purges}
 use Rattle.bay_model.specs.Notes.{note}
 use Rattle.bay_model.specs.Groups.{open_group}
 use Rattle.bay_model.specs.Entries.{Entry, selected, appended, last_number, closed_entry, integrity_entry, general_entry, own_entry}
-use Rattle.bay_model.specs.Retained.{least_dropped, purged, front}
+use Rattle.bay_model.specs.Retained.{size, sizes, least_dropped, purged, front}
 use Rattle.bay_model.specs.EntryLaws.{BeginsWith}
-use Rattle.bay_model.proofs.FrontLaws.{front_never_falls}
+use Rattle.bay_model.proofs.FrontLaws.{front_is_least, front_never_falls}
 
 pub appended-begins : (s es : List Entry) → BeginsWith (appended s es) s
 appended-begins s [] = ([], sym (append-nil s))
@@ -70,3 +70,32 @@ front_rises c b [] before = omega arith
 front_rises c b (p ∷ ps) before = past_two (front c b before) (front c b (ps ++ before)) (front c b (p ∷ (ps ++ before))) (front_rises c b ps before) (front-rises c b p (ps ++ before)) where
   past_two : (x y z : ℕ) → x ≤ y → y ≤ z → x ≤ z
   past_two x y z h i = omega (arith, h, i)
+
+pub front_is_within : (c : Model) (b : ℕ) (past : Past) → front c b past ≤ length (selected c b past)
+front_is_within c b past = lesser (purged c b past) (least_dropped (block_of c b).capacity (selected c b past)) (length (selected c b past)) (purged-within c b past) (front_is_least (block_of c b).capacity (selected c b past)).1 where
+  lesser : (x y z : ℕ) → x ≤ z → y ≤ z → max x y ≤ z
+  lesser x y z h i = omega (arith, h, i)
+
+more-size : (a b c : ℕ) → b ≤ c → b ≤ a + c
+more-size a b c h = omega (arith, h)
+
+less : (es : List Entry) (n : ℕ) → sizes (drop n es) ≤ sizes es
+less es zero = omega arith
+less [] (suc n) = omega arith
+less (e ∷ es) (suc n) = more-size (size e) (sizes (drop n es)) (sizes es) (less es n)
+
+fewer : (es : List Entry) (m n : ℕ) → m ≤ n → sizes (drop n es) ≤ sizes (drop m es)
+fewer es zero n h = less es n
+fewer es (suc m) zero h = absurd (omega (arith, h))
+fewer [] (suc m) (suc n) h = omega arith
+fewer (e ∷ es) (suc m) (suc n) h = fewer es m n (omega (arith, h))
+
+pub retained_fit : (c : Model) (b : ℕ) (past : Past) → sizes (drop (front c b past) (selected c b past)) ≤ (block_of c b).capacity
+retained_fit c b past = through (sizes (drop (front c b past) (selected c b past))) (sizes (drop (least_dropped (block_of c b).capacity (selected c b past)) (selected c b past))) (block_of c b).capacity
+    (fewer (selected c b past) (least_dropped (block_of c b).capacity (selected c b past)) (front c b past) (upper (purged c b past) (least_dropped (block_of c b).capacity (selected c b past))))
+    (front_is_least (block_of c b).capacity (selected c b past)).0 where
+      through : (x y z : ℕ) → x ≤ y → y ≤ z → x ≤ z
+      through x y z h i = omega (arith, h, i)
+
+      upper : (x y : ℕ) → y ≤ max x y
+      upper x y = omega arith

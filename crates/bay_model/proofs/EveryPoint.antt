@@ -13,8 +13,7 @@ use Rattle.bay_model.specs.Entries.{Entry, selected}
 use Rattle.bay_model.specs.Blocks.{next, is_enabled_by}
 use Rattle.bay_model.specs.Associations.{ends}
 use Rattle.bay_model.specs.Waiting.{Waiting, reply, ending, waiting}
-use Rattle.bay_model.specs.Outcomes.{deed_of}
-use Rattle.bay_model.specs.Singles.{Single, arrival, outcome_of, after_single, after_singles}
+use Rattle.bay_model.specs.Singles.{Single, arrival, after_single, after_singles}
 use Rattle.bay_model.specs.Services.{singles_of}
 use Rattle.bay_model.specs.Reports.{Offer, offer, earlier, first_offer}
 use Rattle.bay_model.specs.Takes.{taken, given_by, given_report}

@@ -1,6 +1,6 @@
 -- The worked histories of resuming, by computation.
 use Rattle.std.proofs.Common.{refl}
-use Rattle.bay_model.specs.WorkedResumes.{ResumeAtNewest, ResumeBelowFront, RefusedEntryIDs, Holding, PurgeOfUnsent, PurgeOfSent, LossAndResume, EnabledTwice}
+use Rattle.bay_model.specs.WorkedResumes.{ResumeAtNewest, ResumeBelowFront, RefusedEntryIDs, LossAndResume, EnabledTwice}
 
 pub resume_at_newest : ResumeAtNewest
 resume_at_newest = (refl, refl)
@@ -10,15 +10,6 @@ resume_below_front = (refl, refl)
 
 pub refused_entry_ids : RefusedEntryIDs
 refused_entry_ids = (refl, refl)
-
-pub holding : Holding
-holding = (refl, refl)
-
-pub purge_of_unsent : PurgeOfUnsent
-purge_of_unsent = (refl, refl)
-
-pub purge_of_sent : PurgeOfSent
-purge_of_sent = (refl, refl)
 
 pub loss_and_resume : LossAndResume
 loss_and_resume = (refl, refl)

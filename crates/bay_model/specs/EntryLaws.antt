@@ -2,6 +2,7 @@
 -- falls (IEC 61850-7-2, BRCB attribute EntryID; the front is this profile's own).
 use Rattle.std.specs.Prelude.{◌≡◌, ◌≤◌, ◌<◌, ℕ, List, [], ◌∷◌, ◌++◌, length, drop}
 use Rattle.bay_model.specs.Model.{Model}
+use Rattle.bay_model.specs.Lookups.{block_of}
 use Rattle.bay_model.specs.Points.{Point, Past}
 use Rattle.bay_model.specs.Entries.{Entry, selected}
 use Rattle.bay_model.specs.Retained.{sizes, least_dropped, front}
@@ -27,3 +28,10 @@ DroppedNeverFalls = (capacity : ℕ) (es : List Entry) (e : Entry) → least_dro
 -- The front never falls as more points come.
 abbrev pub FrontNeverFalls : Type 0
 FrontNeverFalls = (c : Model) (b : ℕ) (ps : List Point) (before : Past) → front c b before ≤ front c b (ps ++ before)
+
+-- It is at most the number of the newest entry, and what is retained fits the capacity.
+abbrev pub FrontIsWithin : Type 0
+FrontIsWithin = (c : Model) (b : ℕ) (past : Past) → front c b past ≤ length (selected c b past)
+
+abbrev pub RetainedFit : Type 0
+RetainedFit = (c : Model) (b : ℕ) (past : Past) → sizes (drop (front c b past) (selected c b past)) ≤ (block_of c b).capacity

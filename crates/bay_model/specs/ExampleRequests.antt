@@ -1,5 +1,5 @@
 -- Requests of worked histories over the example bay, and their replies (ISO 9506-2, Read and Write).
-use Rattle.std.specs.Prelude.{ℕ, Bool, false, List, [], ◌∷◌, Result, Ok, Err}
+use Rattle.std.specs.Prelude.{ℕ, false, List, [], ◌∷◌, Ok, Err}
 use Rattle.sv_base.specs.declared.value.Value.{Value}
 use Rattle.bay_model.specs.declared.answer.Answer.{Answer}
 use Rattle.bay_model.specs.declared.answer.Answer.TheVariants as answers

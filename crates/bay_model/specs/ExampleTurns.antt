@@ -31,9 +31,12 @@ lost a = turn a (steps.Lost (record { 0 = a }))
 abbrev pub take : ℕ → Turn
 take a = turn a (steps.Take (record { 0 = a }))
 
--- a's write of a component of the block
+-- a's write of a component of block b, and of the one block of the example
+abbrev pub write_block : ℕ → ℕ → Comp → Value → Turn
+write_block b a comp v = turn a (steps.Write (record { 0 = a }) (record { 0 = b }) comp v)
+
 abbrev pub write : ℕ → Comp → Value → Turn
-write a comp v = turn a (steps.Write (record { 0 = a }) (record { 0 = 0 }) comp v)
+write a comp v = write_block 0 a comp v
 
 abbrev pub enable : ℕ → Turn
 enable a = write a comps.RptEna (kinds.Bool true)
@@ -53,6 +56,10 @@ interrogate a = write a comps.GI (kinds.Bool true)
 
 abbrev pub set_position : List Bool → Turn
 set_position bits = turn 0 (steps.Value (record { attr = record { 0 = 0 }; value = kinds.Bits bits } ∷ []))
+
+-- the quality of the position
+abbrev pub set_quality : List Bool → Turn
+set_quality bits = turn 0 (steps.Value (record { attr = record { 0 = 1 }; value = kinds.Bits bits } ∷ []))
 
 abbrev pub set_indication : Bool → Turn
 set_indication b = turn 0 (steps.Value (record { attr = record { 0 = 3 }; value = kinds.Bool b } ∷ []))

@@ -1,11 +1,13 @@
 -- The definitions of a bay, in the order in which they stand on each other. In all of them c is the model; a is the
 -- number of an association, b of a report block, k of a control, d of a domain, x of an attribute, n of a node; p is a
 -- point, before are the points before it, and past ends with the point that is spoken of.
+-- `f_after` says what one more deed makes of f.
 
 -- what a bay is configured with
 pub mod Roles
 pub mod Model
 pub mod Lookups
+pub mod Configured
 -- a history's points, and the values and parameters at each
 pub mod Points
 pub mod Settings
@@ -53,16 +55,23 @@ pub mod Successors
 pub mod EntryLaws
 pub mod CursorLaws
 pub mod SettingLaw
--- the example bay
+-- the example bay, its variants, and histories over them
 pub mod ExampleNodes
 pub mod Example
 pub mod ExampleTurns
 pub mod ExampleAnswers
-pub mod WorkedReports
-pub mod WorkedResumes
 pub mod ExampleRequests
 pub mod ExampleControl
-pub mod WorkedControls
+pub mod ExampleCommands
 pub mod ExampleSettings
+pub mod WorkedReports
+pub mod WorkedBreaks
+pub mod WorkedBuffer
+pub mod WorkedResumes
+pub mod WorkedHolding
+pub mod WorkedBlocks
+pub mod WorkedReads
+pub mod WorkedControls
+pub mod WorkedSelections
 pub mod WorkedSettings
 pub mod WorkedRequests

@@ -1,63 +1,18 @@
 -- Worked histories: a control that is selected, operated and ended (IEC 61850-7-2, the control class model, AddCause and
 -- CommandTermination).
-use Rattle.std.specs.Prelude.{ℕ, Bool, true, false, pos, List, [], ◌∷◌, ◌++◌, None, Some, Err, codes}
-use Rattle.sv_base.specs.declared.value.Value.TheVariants as kinds
-use Rattle.bay_model.specs.declared.answer.Answer.{Answer}
-use Rattle.bay_model.specs.declared.answer.Answer.TheVariants as answers
+use Rattle.std.specs.Prelude.{true, false, [], ◌∷◌, codes}
 use Rattle.bay_model.specs.declared.answer.Answer.TheVariants.{Went, Empty, Opened, Asked}
-use Rattle.bay_model.specs.declared.control.ApplError.{ApplError}
-use Rattle.bay_model.specs.declared.answer.Output.TheVariants as outputs
-use Rattle.bay_model.specs.declared.reply.Reply.TheVariants as replies
-use Rattle.bay_model.specs.declared.step.Step.TheVariants as steps
-use Rattle.bay_model.specs.Answers.{Turn}
-use Rattle.bay_model.specs.ExampleTurns.{turn, at, open_direct, lost, take, Answered}
-use Rattle.bay_model.specs.ExampleRequests.{target, write_to, wrote}
-use Rattle.bay_model.specs.ExampleControl.{example_control, command, cancellation}
+use Rattle.bay_model.specs.ExampleTurns.{at, open_direct, lost, take, Answered}
+use Rattle.bay_model.specs.ExampleRequests.{wrote}
+use Rattle.bay_model.specs.ExampleControl.{example_control}
+use Rattle.bay_model.specs.ExampleCommands.{select_with, operate_with, cancel_with, done, block, barred, oper, ended_well, ended_badly, acts}
 
--- a's SBOw, Oper and Cancel, with ctlNum and Test
-abbrev pub select_with : (a invoke number : ℕ) → Bool → Turn
-select_with a invoke number test = write_to a invoke (target 36 (codes "CSWI1$CO$Pos$SBOw")) (command number test)
-
-abbrev pub operate_with : (a invoke number : ℕ) → Bool → Turn
-operate_with a invoke number test = write_to a invoke (target 45 (codes "CSWI1$CO$Pos$Oper")) (command number test)
-
-abbrev pub cancel_with : (a invoke number : ℕ) → Bool → Turn
-cancel_with a invoke number test = write_to a invoke (target 54 (codes "CSWI1$CO$Pos$Cancel")) (cancellation number test)
-
-abbrev pub done : Bool → Turn
-done good = turn 0 (steps.Done (record { 0 = 0 }) good)
-
-abbrev pub block : Bool → Turn
-block flag = turn 0 (steps.Block (record { 0 = 0 }) flag)
-
--- the LastApplError of a refused command, which was written to this variable
-abbrev pub error_of : List ℕ → (number cause : ℕ) → ApplError
-error_of name number cause = record { object = codes "BAY1/CSWI1$CO$Pos$" ++ name; or_cat = pos 2; or_ident = []; ctl_num = number; cause = cause }
-
--- a command is refused by an AddCause
-abbrev pub barred : List ℕ → (invoke number cause : ℕ) → Answer
-barred name invoke number cause = answers.Taken (outputs.Reply (error_of name number cause ∷ []) invoke (replies.Wrote (Err 3 ∷ [])))
-
-abbrev pub oper : List ℕ
-oper = codes "Oper"
-
--- a termination, positive or negative
-abbrev pub ended_well : (number : ℕ) → Bool → Answer
-ended_well number test = answers.Taken (outputs.Termination (record { control = record { 0 = 0 }; oper = command number test; error = None }))
-
-abbrev pub ended_badly : (number : ℕ) → Answer
-ended_badly number = answers.Taken (outputs.Termination (record { control = record { 0 = 0 }; oper = command number false; error = Some (error_of oper number 16) }))
-
--- an act of association 1, with its ctlVal
-abbrev pub acts : Answer
-acts = Asked (record { control = record { 0 = 0 }; value = kinds.Bool true; by = record { 0 = 1 } } ∷ [])
-
--- An Oper is refused where another has selected the control (27), where it differs from the select (26), and where the
--- selection's time is over (18).
+-- An Oper is refused where another has selected the control (27), where it differs from the select in ctlNum or in Test
+-- (26), and where the selection's time is over (18).
 abbrev pub RefusedOpers : Type 0
 RefusedOpers = Answered example_control (open_direct 1 ∷ open_direct 2 ∷ select_with 1 1 1 false ∷ take 1 ∷ [])
-    (operate_with 2 5 1 false ∷ take 2 ∷ operate_with 1 2 2 false ∷ take 1 ∷ at 5000 (operate_with 1 3 1 false) ∷ at 5000 (take 1) ∷ [])
-    (Asked [] ∷ barred oper 5 1 27 ∷ Asked [] ∷ barred oper 2 2 26 ∷ Asked [] ∷ barred oper 3 1 18 ∷ [])
+    (operate_with 2 5 1 false ∷ take 2 ∷ operate_with 1 2 2 false ∷ take 1 ∷ operate_with 1 4 1 true ∷ take 1 ∷ at 5000 (operate_with 1 3 1 false) ∷ at 5000 (take 1) ∷ [])
+    (Asked [] ∷ barred oper 5 1 27 ∷ Asked [] ∷ barred oper 2 2 26 ∷ Asked [] ∷ barred oper 4 1 26 ∷ Asked [] ∷ barred oper 3 1 18 ∷ [])
 
 -- In the last millisecond of the selection the Oper acts; its termination comes by Done.
 abbrev pub ActAndTermination : Type 0
@@ -89,3 +44,30 @@ abbrev pub BlockedAndLost : Type 0
 BlockedAndLost = Answered example_control (open_direct 1 ∷ open_direct 2 ∷ select_with 1 1 1 false ∷ take 1 ∷ block true ∷ [])
     (operate_with 1 2 1 false ∷ take 1 ∷ block false ∷ lost 1 ∷ select_with 2 1 1 false ∷ take 2 ∷ [])
     (Asked [] ∷ barred oper 2 1 9 ∷ Went ∷ Went ∷ Asked [] ∷ wrote 1 ∷ [])
+
+-- The loss of another association leaves the control selected.
+abbrev pub SelectedBesideLoss : Type 0
+SelectedBesideLoss = Answered example_control (open_direct 1 ∷ open_direct 2 ∷ select_with 1 1 1 false ∷ take 1 ∷ lost 2 ∷ [])
+    (operate_with 1 2 1 false ∷ take 1 ∷ [])
+    (acts ∷ wrote 2 ∷ [])
+
+-- An execution whose association was lost runs until Done, and has no termination.
+abbrev pub LostExecution : Type 0
+LostExecution = Answered example_control (open_direct 1 ∷ select_with 1 1 1 false ∷ operate_with 1 2 1 false ∷ lost 1 ∷ open_direct 1 ∷ [])
+    (select_with 1 3 1 false ∷ take 1 ∷ done true ∷ take 1 ∷ select_with 1 4 1 false ∷ take 1 ∷ [])
+    (Asked [] ∷ barred (codes "SBOw") 3 1 12 ∷ Went ∷ Empty ∷ Asked [] ∷ wrote 4 ∷ [])
+
+-- The control runs until its termination is taken; a loss after Done ends it, and drops the termination.
+abbrev pub LostTermination : Type 0
+LostTermination = Answered example_control (open_direct 1 ∷ select_with 1 1 1 false ∷ operate_with 1 2 1 false ∷ take 1 ∷ take 1 ∷ done true ∷ open_direct 2 ∷ [])
+    (select_with 2 1 1 false ∷ take 2 ∷ lost 1 ∷ open_direct 1 ∷ take 1 ∷ select_with 2 2 1 false ∷ take 2 ∷ select_with 1 3 1 false ∷ take 1 ∷ [])
+    (Asked [] ∷ barred (codes "SBOw") 1 1 12 ∷ Went ∷ Opened ∷ Empty ∷ Asked [] ∷ wrote 2 ∷ Asked [] ∷ barred (codes "SBOw") 3 1 19 ∷ [])
+
+-- A select is refused while anyone has selected the control, the selecting association too (19), and while the control is
+-- blocked (9) or running (12); a Cancel too while it is running.
+abbrev pub RefusedSelects : Type 0
+RefusedSelects = Answered example_control (open_direct 1 ∷ open_direct 2 ∷ select_with 1 1 1 false ∷ take 1 ∷ [])
+    (select_with 1 2 1 false ∷ take 1 ∷ select_with 2 1 1 false ∷ take 2 ∷ cancel_with 1 3 1 false ∷ block true ∷ take 1 ∷ select_with 1 4 1 false ∷ take 1 ∷ block false
+    ∷ select_with 1 5 1 false ∷ operate_with 1 6 1 false ∷ take 1 ∷ take 1 ∷ cancel_with 1 7 1 false ∷ take 1 ∷ select_with 2 2 1 false ∷ take 2 ∷ [])
+    (Asked [] ∷ barred (codes "SBOw") 2 1 19 ∷ Asked [] ∷ barred (codes "SBOw") 1 1 19 ∷ Asked [] ∷ Went ∷ wrote 3 ∷ Asked [] ∷ barred (codes "SBOw") 4 1 9 ∷ Went
+    ∷ Asked [] ∷ acts ∷ wrote 5 ∷ wrote 6 ∷ Asked [] ∷ barred (codes "Cancel") 7 1 12 ∷ Asked [] ∷ barred (codes "SBOw") 2 1 12 ∷ [])

@@ -1,8 +1,8 @@
--- Worked histories: who may write a block, and where its reports go on (IEC 61850-7-2, RptEna, EntryID and PurgeBuf).
+-- Worked histories: where the reports of a block go on (IEC 61850-7-2, EntryID and SqNum).
 use Rattle.std.specs.Prelude.{[], ◌∷◌, ◌++◌}
 use Rattle.bay_model.specs.declared.answer.Answer.TheVariants.{Went, Empty}
 use Rattle.bay_model.specs.Example.{example}
-use Rattle.bay_model.specs.ExampleTurns.{at, open_direct, lost, take, enable, disable, resume_at, purge, set_power, set_powers, Answered}
+use Rattle.bay_model.specs.ExampleTurns.{at, open_direct, take, enable, set_power, set_powers, Answered, lost, resume_at}
 use Rattle.bay_model.specs.ExampleAnswers.{ok, refused, report, marked, unmarked, changed, power}
 
 -- After the EntryID of the newest entry nothing is sent until the next value.
@@ -22,24 +22,6 @@ abbrev pub RefusedEntryIDs : Type 0
 RefusedEntryIDs = Answered (example 200) (open_direct 1 ∷ set_powers 1 9)
     (at 9 (resume_at 1 3) ∷ at 9 (resume_at 1 10) ∷ at 9 (resume_at 1 0) ∷ at 9 (enable 1) ∷ at 9 (take 1) ∷ [])
     (refused 11 ∷ refused 11 ∷ ok ∷ ok ∷ report 0 4 4 marked (power 4 changed ∷ []) ∷ [])
-
--- While an association has enabled the block, EntryID is refused to all, and RptEna to every other.
-abbrev pub Holding : Type 0
-Holding = Answered (example 200) (open_direct 1 ∷ open_direct 2 ∷ enable 1 ∷ [])
-    (resume_at 1 0 ∷ resume_at 2 0 ∷ disable 2 ∷ [])
-    (refused 2 ∷ refused 2 ∷ refused 2 ∷ [])
-
--- A purge of an entry that wasn't sent: the next report is marked, and has the next number.
-abbrev pub PurgeOfUnsent : Type 0
-PurgeOfUnsent = Answered (example 200) (open_direct 1 ∷ set_power 1 ∷ [])
-    (purge 1 ∷ set_power 2 ∷ enable 1 ∷ take 1 ∷ [])
-    (ok ∷ Went ∷ ok ∷ report 0 2 0 marked (power 2 changed ∷ []) ∷ [])
-
--- A purge of entries that were all sent: the next report is not marked; its SqNum begins anew by the enabling.
-abbrev pub PurgeOfSent : Type 0
-PurgeOfSent = Answered (example 200) (open_direct 1 ∷ set_power 1 ∷ enable 1 ∷ take 1 ∷ [])
-    (disable 1 ∷ purge 1 ∷ set_power 2 ∷ enable 1 ∷ take 1 ∷ [])
-    (ok ∷ ok ∷ Went ∷ ok ∷ report 0 2 0 unmarked (power 2 changed ∷ []) ∷ [])
 
 -- A lost association leaves the block to another, which resumes at the last entry that was sent.
 abbrev pub LossAndResume : Type 0

@@ -1,3 +1,5 @@
+//! What comes of controls: acts, LastApplErrors and terminations (IEC 61850-7-2, the control class model).
+
 use std::marker::Model;
 use sv_base::{AssocNo, CtlNo, Octs, Value};
 
@@ -75,7 +77,7 @@ impl ApplErrors {
 
 /// The end of a control with enhanced security (IEC 61850-7-2, CommandTermination): positive without an error, else
 /// negative.
-#[derive(Drop)]
+#[derive(Debug, Drop)]
 pub struct Termination {
     pub control: CtlNo,
     /// the value of the Oper that ended
@@ -84,7 +86,7 @@ pub struct Termination {
 }
 
 /// A control that acts: the ctlVal of its Oper, and who asked.
-#[derive(Drop)]
+#[derive(Debug, Drop)]
 pub struct Act {
     pub control: CtlNo,
     pub value: Value,
@@ -92,7 +94,7 @@ pub struct Act {
 }
 
 /// The acts of one step, in order.
-#[derive(Drop)]
+#[derive(Debug, Drop)]
 pub struct Acts {
     items: Vec<Act>,
 }

@@ -1,3 +1,5 @@
+//! Replies to requests (ISO 9506-2, the responses of the confirmed services).
+
 use crate::request::{SetName, Targets};
 use crate::results::{Codes, Names, Nodes, Results};
 use sv_base::NodeId;
@@ -11,7 +13,7 @@ pub enum Asked {
 }
 
 /// The reply to a request (ISO 9506-2, the responses and errors of the confirmed services).
-#[derive(Drop)]
+#[derive(Debug, Drop)]
 pub enum Reply {
     Status,
     Identify,

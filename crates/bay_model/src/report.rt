@@ -1,3 +1,5 @@
+//! Reports of a block's entries (IEC 61850-7-2, the Report service and its report format).
+
 use std::marker::Model;
 use sv_base::{Bits, BlockNo, MemberNo, Moment, Octs};
 
@@ -87,7 +89,7 @@ impl Members {
 }
 
 /// A report of one entry of a block (IEC 61850-7-2, the report format).
-#[derive(Drop)]
+#[derive(Debug, Drop)]
 pub struct Report {
     pub block: BlockNo,
     pub rpt_id: Octs,

@@ -1,3 +1,5 @@
+//! The lists that a reply has: names, results of reads, outcomes of writes, nodes.
+
 use std::marker::Model;
 use sv_base::{NodeId, Octs, Value};
 
@@ -62,7 +64,7 @@ impl Names {
 }
 
 /// What was read: for each variable its value, or a code of access (ISO 9506-2, DataAccessError).
-#[derive(Drop)]
+#[derive(Debug, Drop)]
 pub struct Results {
     items: Vec<Result<Value, u8>>,
 }

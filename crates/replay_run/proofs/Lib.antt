@@ -18,3 +18,5 @@ pub mod Texts
 pub mod Unlisted
 pub mod Writes
 pub mod OneReading
+pub mod OneWord
+pub mod Judging

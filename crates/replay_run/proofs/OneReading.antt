@@ -31,9 +31,9 @@ stops_steps (Some stops.Refused) c s tail h l line rest is spells at fine =
     let one : h.3 ≡ l = spelled_same line h.3 l h.5 is (subst (λ o. Spells o h.3) same.0 h.6) spells in
     differ (is_refused c s l) (subst (λ k. is_refused c s k ≡ true) one h.7) fine
   where
-  differ : (b : Bool) → b ≡ true → b ≡ false → ⊥
-  differ true e f = cc
-  differ false e f = cc
+    differ : (b : Bool) → b ≡ true → b ≡ false → ⊥
+    differ true e f = cc
+    differ false e f = cc
 stops_steps (Some stops.NotListed) c s tail h l line rest is spells at fine =
     let same = one_split 10 h.0 line h.1 rest (without-all 10 h.0 h.3) (spells_without line l is spells) (sym h.2 ∙ at) in
     (h.5 refl).1 l is (subst (λ o. Spells o l) (sym same.0) spells)

@@ -9,3 +9,4 @@ pub mod Texts
 pub mod Record
 pub mod Sessions
 pub mod Tool
+pub mod Runs

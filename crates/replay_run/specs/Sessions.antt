@@ -1,5 +1,6 @@
 -- What a reading stands for: the octets so far, and the answers that were written to them.
 use Rattle.std.specs.Prelude.{◌≡◌, ◌≤◌, ◌+◌, true, ℕ, List, [], ◌++◌, length, Option, None, Some}
+use Rattle.std.specs.Io.KnownBytes.{Appends}
 use Rattle.bay_model.specs.Example.{example}
 use Rattle.replay_run.specs.Stands.{Stands}
 use Rattle.replay_run.specs.Lines.{NoNewline}
@@ -80,3 +81,12 @@ pub record FeedsTo (stop : Option Stop) (new : Reader) (octets written before no
 
 abbrev pub Feeds : Option Stop → Reader → Reader → List ℕ → List ℕ → List ℕ → Type 0
 Feeds stop old new piece before now = (so_far written : List ℕ) → Fed old so_far written → FeedsTo stop new (so_far ++ piece) written before now
+
+-- a piece is fed, and the sink took the answers
+pub record TakesTo (stop : Option Stop) (new : Reader) (octets written : List ℕ) (before now : Option (List ℕ)) : Type 0 where
+  pub added : List ℕ
+  pub taken : Appends before now added
+  pub goes : FeedsOn stop new octets (written ++ added)
+
+abbrev pub Takes : Option Stop → Reader → Reader → List ℕ → Option (List ℕ) → Option (List ℕ) → Type 0
+Takes stop old new piece before now = (so_far written : List ℕ) → Fed old so_far written → TakesTo stop new (so_far ++ piece) written before now

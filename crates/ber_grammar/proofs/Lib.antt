@@ -1,0 +1,13 @@
+pub mod ReaderLaws
+pub mod OptionLaws
+pub mod OctetLaws
+pub mod ElementLaws
+pub mod RowLaws
+pub mod PartsLaws
+pub mod PlaceLaws
+pub mod UintLaws
+pub mod IntLaws
+pub mod TextLaws
+pub mod BitLaws
+pub mod BooleanLaws
+pub mod Theorems

@@ -1,0 +1,5 @@
+use Rattle.ber_grammar.proofs.Theorems as theorems
+use Rattle.ber_grammar.proofs.laws.rows_join.Goals as goal
+
+pub returns : goal.returns
+returns c = theorems.rows_join

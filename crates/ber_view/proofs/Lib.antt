@@ -1,0 +1,3 @@
+pub mod SliceLaws
+pub mod SpotLaws
+pub mod BitLaws

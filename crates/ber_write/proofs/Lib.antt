@@ -1,0 +1,4 @@
+pub mod ElementLaws
+pub mod NumberLaws
+pub mod ShortestLaws
+pub mod BitLaws

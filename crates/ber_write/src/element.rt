@@ -1,0 +1,125 @@
+ghost use Rattle.std.specs.Prelude.{◌≡◌, ◌<◌, ◌^◌, ◌++◌, length, take, OnOk, OnErr};
+ghost use Rattle.ber_write.specs.Minimal.{tag_octets, length_octets, head_octets, octets_of, CanBeTag};
+
+use std::alloc::AllocError;
+
+/// How many octets the shortest length field of a content of `n` octets has, 1 to 5 (X.690, 8.1.3).
+pub fn length_of(n: u32) -> u32
+    ensures { result ≡ length (length_octets n) }
+{
+    if n < 128 {
+        return 1;
+    }
+    if n < 256 {
+        return 2;
+    }
+    if n < 65536 {
+        return 3;
+    }
+    if n < 16777216 {
+        return 4;
+    }
+    5
+}
+
+fn put_tag(out: &mut Vec<u8>, tag: u32) -> Result<(), AllocError>
+    requires { tag < 2 ^ 24 }
+    ensures ok { OnOk result (out.new.items ≡ out.old.items ++ tag_octets tag) }
+    ensures err { OnErr result (out.new.items ≡ out.old.items) }
+{
+    if tag < 256 {
+        return out.extend_from_slice(&[tag as u8]);
+    }
+    if tag < 65536 {
+        return out.extend_from_slice(&[(tag / 256) as u8, (tag % 256) as u8]);
+    }
+    out.extend_from_slice(&[
+        (tag / 65536 % 256) as u8,
+        (tag / 256 % 256) as u8,
+        (tag % 256) as u8,
+    ])
+}
+
+fn put_length(out: &mut Vec<u8>, n: u32) -> Result<(), AllocError>
+    ensures ok { OnOk result (out.new.items ≡ out.old.items ++ length_octets n) }
+    ensures err { OnErr result (out.new.items ≡ out.old.items) }
+{
+    if n < 128 {
+        return out.extend_from_slice(&[n as u8]);
+    }
+    if n < 256 {
+        return out.extend_from_slice(&[129, n as u8]);
+    }
+    if n < 65536 {
+        return out.extend_from_slice(&[130, (n / 256) as u8, (n % 256) as u8]);
+    }
+    if n < 16777216 {
+        return out.extend_from_slice(&[
+            131,
+            (n / 65536) as u8,
+            (n / 256 % 256) as u8,
+            (n % 256) as u8,
+        ]);
+    }
+    out.extend_from_slice(&[
+        132,
+        (n / 16777216) as u8,
+        (n / 65536 % 256) as u8,
+        (n / 256 % 256) as u8,
+        (n % 256) as u8,
+    ])
+}
+
+fn put_both(out: &mut Vec<u8>, tag: u32, len: u32) -> Result<(), AllocError>
+    requires { tag < 2 ^ 24 }
+    ensures ok { OnOk result (out.new.items ≡ out.old.items ++ head_octets tag len) }
+    ensures err { OnErr result (take (length out.old.items) out.new.items ≡ out.old.items) }
+{
+    put_tag(out, tag)?;
+    put_length(out, len)
+}
+
+/// Adds what stands before a content of `len` octets: the tag, and the length in as few octets as can be. The caller
+/// then adds the content.
+///
+/// Without memory `out` stays as it was.
+pub fn put_head(out: &mut Vec<u8>, tag: u32, len: u32) -> Result<(), AllocError>
+    requires { CanBeTag tag }
+    ensures ok { OnOk result (out.new.items ≡ out.old.items ++ head_octets tag len) }
+    ensures err { OnErr result (out.new.items ≡ out.old.items) }
+{
+    let before = out.len();
+    let done = put_both(out, tag, len);
+    if done.is_err() {
+        out.truncate(before);
+    }
+    done
+}
+
+fn put_parts(out: &mut Vec<u8>, tag: u32, content: &[u8]) -> Result<(), AllocError>
+    requires tag { tag < 2 ^ 24 }
+    requires len { length content.now < 2 ^ 32 }
+    ensures ok { OnOk result (out.new.items ≡ out.old.items ++ octets_of tag content.now) }
+    ensures err { OnErr result (take (length out.old.items) out.new.items ≡ out.old.items) }
+{
+    put_tag(out, tag)?;
+    put_length(out, content.len() as u32)?;
+    out.extend_from_slice(content)
+}
+
+/// Adds the element with this tag, as one big-endian number, and this content. The length takes as few octets as can be.
+///
+/// Without memory `out` stays as it was.
+pub fn put(out: &mut Vec<u8>, tag: u32, content: &[u8]) -> Result<(), AllocError>
+    requires tag { CanBeTag tag }
+    requires len { length content.now < 2 ^ 32 }
+    ensures ok { OnOk result (out.new.items ≡ out.old.items ++ octets_of tag content.now) }
+    ensures err { OnErr result (out.new.items ≡ out.old.items) }
+{
+    let before = out.len();
+    let done = put_parts(out, tag, content);
+    if done.is_err() {
+        out.truncate(before);
+    }
+    done
+}

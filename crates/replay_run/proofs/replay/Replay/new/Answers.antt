@@ -1,0 +1,15 @@
+use Rattle.std.proofs.Common.{◌≡◌, ◌≤◌, [], length, arith, refl, rules}
+use Rattle.replay_run.proofs.Judging.{run-none}
+use Rattle.replay_run.proofs.replay.Replay.new.Goals as goal
+
+pub returns-clause-run : goal.returns-clause-run
+returns-clause-run c = λ left taken. run-none c.new.result left taken c.new.ensures.fed
+
+pub returns-clause-ready : goal.returns-clause-ready
+returns-clause-ready c = record {
+  part = c.new.ensures.part;
+  few = omega (arith, c.new.ensures.steps);
+  lines = omega (arith, c.new.ensures.lines);
+  within = omega arith;
+  empty = c.new-2.ensures.items;
+}

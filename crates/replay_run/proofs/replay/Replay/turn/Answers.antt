@@ -1,0 +1,33 @@
+use Rattle.std.proofs.Common.{◌≡◌, ◌≤◌, ◌+◌, [], List, ℕ, length, take, ap, sym, subst, ◌∙◌, refl, arith, rules, length-take, false}
+use Rattle.std.specs.Prelude.{Option, None, Some}
+use Rattle.std.specs.Io.KnownBytes.{Consumes}
+use Rattle.replay_run.specs.Sessions.{Takes}
+use Rattle.replay_run.specs.Runs.{Run}
+use Rattle.replay_run.specs.Tool.{status_by}
+use Rattle.replay_run.specs.declared.status.Status.TheVariants as statuses
+use Rattle.replay_run.proofs.Judging.{run-more, run-stops, run-ends}
+use Rattle.replay_run.proofs.replay.Replay.turn.Goals as goal
+
+pub returns-then-length-eq0-clause-turns : goal.returns-then-length-eq0-clause-turns
+returns-then-length-eq0-clause-turns g c = λ left taken r j.
+    let none : Consumes (g.S.Source.left c.args.source.now) (g.S.Source.left c.read_piece.new.source) [] = subst (λ n. Consumes (g.S.Source.left c.args.source.now) (g.S.Source.left c.read_piece.new.source) (take n c.read_piece.new.buf)) c.if-length-eq0.true c.in-Ok.ensures.bytes.0 in
+    run-ends c.args.self.now.reader left (g.S.Source.left c.args.source.now) (g.S.Source.left c.read_piece.new.source) taken (g.K.Sink.taken c.args.sink.now) c.args.self.now.count _ r none
+    (c.in-Ok.ensures.bytes.1 c.if-length-eq0.true) c.requires.ready.part c.requires.ready.within (ap (λ n. statuses.Record n 7) c.next_line-line.ensures)
+
+pub returns-in-Ok-None-clause-turns : goal.returns-in-Ok-None-clause-turns
+returns-in-Ok-None-clause-turns g c = λ left taken r.
+    let eaten : Consumes (g.S.Source.left c.args.source.now) (g.S.Source.left c.read_piece.new.source) (take c.in-Ok.length c.read_piece.new.buf) = c.in-Ok.ensures.bytes.0 in
+    let count : length (take c.in-Ok.length c.read_piece.new.buf) ≡ c.in-Ok.length = rw length-take (omega (arith, c.read_piece.auto.buf, c.in-Ok.ensures.bound, c.min-room.ensures)) in
+    let takes = rw c.in-Ok-None.field-0-is at c.in-Ok-None.ensures.takes in
+    subst (λ n. Run c.take_piece.new.reader left (g.S.Source.left c.read_piece.new.source) taken (g.K.Sink.taken c.take_piece.new.sink) (c.args.self.now.count + n)) count
+    (run-more c.args.self.now.reader c.take_piece.new.reader left (g.S.Source.left c.args.source.now) (g.S.Source.left c.read_piece.new.source) taken (g.K.Sink.taken c.args.sink.now) (g.K.Sink.taken c.take_piece.new.sink)
+    c.args.self.now.count (take c.in-Ok.length c.read_piece.new.buf) r eaten takes)
+
+pub returns-in-Ok-Some-clause-turns : goal.returns-in-Ok-Some-clause-turns
+returns-in-Ok-Some-clause-turns g c = λ left taken r j.
+    let eaten : Consumes (g.S.Source.left c.args.source.now) (g.S.Source.left c.read_piece.new.source) (take c.in-Ok.length c.read_piece.new.buf) = c.in-Ok.ensures.bytes.0 in
+    let short : length (take c.in-Ok.length c.read_piece.new.buf) ≤ c.in-Ok.length = rw length-take (omega arith) in
+    let takes = rw c.in-Ok-Some.field-0-is at c.in-Ok-Some.ensures.takes in
+    run-stops c.args.self.now.reader c.take_piece.new.reader left (g.S.Source.left c.args.source.now) (g.S.Source.left c.read_piece.new.source) taken (g.K.Sink.taken c.args.sink.now) (g.K.Sink.taken c.take_piece.new.sink)
+    c.args.self.now.count (take c.in-Ok.length c.read_piece.new.buf) c.in-Ok-Some.stop c.stopped.result r eaten takes (omega (arith, short, c.in-Ok.ensures.bound, c.min-room.ensures, c.requires.room))
+    (c.stopped.ensures ∙ ap (λ n. status_by false n (Some c.in-Ok-Some.stop)) c.next_line.ensures)

@@ -1,0 +1,199 @@
+ghost use Rattle.std.specs.Prelude.{◌≡◌, ◌≤◌, ◌<◌, ◌+◌, ◌^◌, [], suc, false, length, take, Some, IfOk, OnOk};
+ghost use Rattle.std.specs.Io.KnownBytes.{Appends, Consumes, IsAtEnd};
+ghost use Rattle.sv_io.specs.Causes.{HasCause, Rose};
+ghost use Rattle.replay_run.specs.Lines.{NoNewline};
+ghost use Rattle.replay_run.specs.Sessions.{Takes};
+ghost use Rattle.replay_run.specs.Tool.{status_by};
+
+use crate::line::Stop;
+use crate::reader::Reader;
+use crate::status::Status;
+use std::alloc::{AllocError, Global};
+use sv_io::{Failed, Sink, Source};
+
+/// The most octets of a record.
+const LIMIT: usize = 67108864;
+
+/// The status where reading stops at a line.
+fn stopped(stop: Stop, line: u32) -> Status
+    ensures { result ≡ status_by false line (Some stop) }
+{
+    match stop {
+        Stop::End => Status::Ok,
+        Stop::Refused => Status::Record { line, kind: 5 },
+        Stop::NotListed => Status::Record { line, kind: 9 },
+    }
+}
+
+/// Hands what was written to the sink.
+fn flush<K: Sink>(out: &mut Vec<u8>, sink: &mut K) -> Result<(), Failed>
+    ensures taken { OnOk result (Appends (K.taken sink.old) (K.taken sink.new) out.old.items) }
+    ensures empty { OnOk result (out.new.items ≡ []) }
+    ensures cause { HasCause (K.faults sink.old) (K.faults sink.new) result }
+{
+    if out.is_empty() {
+        return Ok(());
+    }
+    match sink.write_all(out) {
+        Ok(()) => {
+            out.clear();
+            Ok(())
+        }
+        Err(Failed) => Err(Failed),
+    }
+}
+
+/// Why a replay is broken off.
+#[derive(Clone, Copy, Debug)]
+enum Halt {
+    Memory,
+    Write,
+}
+
+/// The line behind those that a reader has read, counted from 1.
+fn next_line(reader: &Reader) -> u32
+    requires { reader.now.session.lines < 2 ^ 31 }
+    ensures { result ≡ suc reader.now.session.lines }
+{
+    (reader.lines() + 1) as u32
+}
+
+/// Feeds a piece, and hands the answers to the sink.
+fn take_piece<K: Sink>(
+    alloc: Global,
+    reader: &mut Reader,
+    out: &mut Vec<u8>,
+    piece: &[u8],
+    sink: &mut K,
+) -> Result<Option<Stop>, Halt>
+    requires few { reader.old.session.bay.steps + length piece.now < 2 ^ 62 }
+    requires lines { reader.old.session.lines + length piece.now < 2 ^ 62 }
+    requires part { NoNewline reader.old.held.items }
+    requires empty { out.old.items ≡ [] }
+    ensures takes { IfOk result (λ stop. Takes stop reader.old reader.new piece.now (K.taken sink.old) (K.taken sink.new)) }
+    ensures part { OnOk result (NoNewline reader.new.held.items) }
+    ensures few { OnOk result (reader.new.session.bay.steps ≤ reader.old.session.bay.steps + length piece.now) }
+    ensures lines { OnOk result (reader.new.session.lines ≤ reader.old.session.lines + length piece.now) }
+    ensures empty { OnOk result (out.new.items ≡ []) }
+    ensures later { K.faults sink.old ≤ K.faults sink.new }
+    ensures cause { result ≡ Err Halt.Write → Rose (K.faults sink.old) (K.faults sink.new) }
+{
+    match reader.feed(alloc, out, piece) {
+        Ok(stop) => match flush(out, sink) {
+            Ok(()) => Ok(stop),
+            Err(Failed) => Err(Halt::Write),
+        },
+        Err(AllocError) => Err(Halt::Memory),
+    }
+}
+
+/// Reads at most so many octets to the front of the buffer; none where the source has ended.
+fn read_piece<S: Source>(source: &mut S, buf: &mut [u8], room: usize) -> Result<usize, Failed>
+    requires some { 0 < room }
+    requires fits { room ≤ length buf.old }
+    ensures bound { IfOk result (λ n. n ≤ room) }
+    ensures bytes { IfOk result (λ n. Consumes (S.left source.old) (S.left source.new) (take n buf.new) × (n ≡ 0 → IsAtEnd (S.left source.new))) }
+    ensures cause { HasCause (S.faults source.old) (S.faults source.new) result }
+{
+    source.read(&mut buf[..room])
+}
+
+/// A replay of a record: what was read, how many octets, and room for the answers to a piece.
+#[derive(Drop)]
+pub struct Replay {
+    reader: Reader,
+    count: usize,
+    out: Vec<u8>,
+}
+
+impl Replay {
+    ghost use Rattle.std.specs.Prelude.{◌≡◌, ◌≢◌, ◌≤◌, ◌<◌, ℕ, List, Option, None, length, IfNone, IfSome};
+    ghost use Rattle.std.specs.Bool.{MatchBool};
+    ghost use Rattle.sv_io.specs.Causes.{Rose};
+    ghost use Rattle.replay_run.specs.Runs.{IsReady, Run, Turns};
+    ghost use Rattle.replay_run.specs.Tool.{IsJudgement, Answers};
+    ghost use Rattle.replay_run.specs.declared.status.Status.TheVariants as statuses;
+
+    /// Nothing is read yet.
+    pub fn new(alloc: Global) -> Replay
+        ensures ready { IsReady result }
+        ensures run { (left taken : Option (List ℕ)) → Run result.reader left left taken taken result.count }
+    {
+        Replay {
+            reader: Reader::new(alloc),
+            count: 0,
+            out: Vec::new(alloc),
+        }
+    }
+
+    /// The limit of octets isn't reached.
+    pub fn has_room(&self) -> bool
+        ensures { MatchBool result (self.now.count < 67108864) (67108864 ≤ self.now.count) }
+    {
+        self.count < LIMIT
+    }
+
+    /// Reads a piece and answers the lines that end in it, below the limit of octets; gives the status where that is
+    /// decided.
+    pub fn turn<S: Source, K: Sink>(
+        &mut self,
+        alloc: Global,
+        source: &mut S,
+        sink: &mut K,
+        piece: &mut [u8],
+    ) -> Option<Status>
+        requires ready { IsReady self.old }
+        requires some { 0 < length piece.old }
+        requires room { self.old.count < 67108864 }
+        ensures turns { Turns result self.old self.new (S.left source.old) (S.left source.new) (K.taken sink.old) (K.taken sink.new) }
+        ensures ready { IfNone result (IsReady self.new) }
+        ensures further { IfNone result (self.old.count < self.new.count) }
+        ensures words { result ≢ Some statuses.Words }
+        ensures read { result ≡ Some statuses.ReadFault → Rose (S.faults source.old) (S.faults source.new) }
+        ensures write { result ≡ Some statuses.WriteFault → Rose (K.faults sink.old) (K.faults sink.new) }
+        ensures later { (S.faults source.old ≤ S.faults source.new) × (K.faults sink.old ≤ K.faults sink.new) }
+    {
+        let room = (LIMIT - self.count).min(piece.len());
+        let length = match read_piece(source, piece, room) {
+            Ok(length) => length,
+            Err(Failed) => return Some(Status::ReadFault),
+        };
+        if length == 0 {
+            let line = next_line(&self.reader);
+            return Some(Status::Record { line, kind: 7 });
+        }
+        match take_piece(
+            alloc,
+            &mut self.reader,
+            &mut self.out,
+            &piece[..length],
+            sink,
+        ) {
+            Ok(None) => {
+                self.count += length;
+                None
+            }
+            Ok(Some(stop)) => Some(stopped(stop, next_line(&self.reader))),
+            Err(Halt::Memory) => Some(Status::Memory),
+            Err(Halt::Write) => Some(Status::WriteFault),
+        }
+    }
+
+    /// The status where the limit of octets is reached, with no whole line behind those that were read.
+    pub fn at_limit<S: Source>(&self, source: &mut S) -> Status
+        requires ready { IsReady self.now }
+        requires full { 67108864 ≤ self.now.count }
+        ensures told { (left taken told : Option (List ℕ)) → Run self.now.reader left (S.left source.old) taken told self.now.count → IsJudgement result → IfSome left (λ b. Answers b result taken told) }
+        ensures words { result ≢ statuses.Words }
+        ensures read { result ≡ statuses.ReadFault → Rose (S.faults source.old) (S.faults source.new) }
+        ensures write { result ≢ statuses.WriteFault }
+        ensures later { S.faults source.old ≤ S.faults source.new }
+    {
+        let line = next_line(&self.reader);
+        match read_piece(source, &mut [0u8; 1], 1) {
+            Ok(0) => Status::Record { line, kind: 7 },
+            Ok(_) => Status::Limit { which: 3, line },
+            Err(Failed) => Status::ReadFault,
+        }
+    }
+}
