@@ -10,3 +10,4 @@ pub mod Record
 pub mod Sessions
 pub mod Tool
 pub mod Runs
+pub mod Statuses

@@ -1,3 +1,5 @@
+use std::fmt::{Display, Error, Formatter, Write};
+
 /// How a run of the program ended.
 #[derive(Clone, Copy, Debug, PartialEq, Eq)]
 pub enum Status {
@@ -15,4 +17,43 @@ pub enum Status {
     ReadFault,
     /// The sink failed.
     WriteFault,
+}
+
+impl Status {
+    ghost use Rattle.std.specs.Prelude.{◌≡◌};
+    ghost use Rattle.replay_run.specs.Statuses.{number_of};
+
+    /// The number that the program ends with.
+    pub fn number(self) -> u8
+        ensures { result ≡ number_of self }
+    {
+        match self {
+            Status::Ok => 0,
+            Status::Words => 1,
+            Status::Record { .. } => 2,
+            Status::Limit { .. } => 4,
+            Status::Memory => 5,
+            Status::ReadFault => 6,
+            Status::WriteFault => 7,
+        }
+    }
+}
+
+impl Display for Status {
+    ghost use Rattle.std.specs.Prelude.{Some};
+    ghost use Rattle.replay_run.specs.Statuses.{words_of};
+
+    ghost output = { λ s. Some (words_of s) };
+
+    fn fmt<W: Write>(&self, f: &mut Formatter<W>) -> Result<(), Error> {
+        match self {
+            Status::Ok => write!(f, "ok"),
+            Status::Words => write!(f, "words"),
+            Status::Record { line, kind } => write!(f, "record line {line} kind {kind}"),
+            Status::Limit { which, line } => write!(f, "limit {which} line {line}"),
+            Status::Memory => write!(f, "memory"),
+            Status::ReadFault => write!(f, "read"),
+            Status::WriteFault => write!(f, "write"),
+        }
+    }
 }
