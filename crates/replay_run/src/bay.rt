@@ -177,9 +177,10 @@ impl Core {
         if self.enabler.is_some() {
             return Err(2);
         }
-        if on {
-            self.buffer.purge();
+        if !on {
+            return Ok(());
         }
+        self.buffer.purge();
         Ok(())
     }
 
@@ -210,7 +211,8 @@ impl Core {
     {
         self.latest = self.latest.later(moment);
         self.steps += 1;
-        if self.enabler.is_some() {
+        let enabled = self.enabler.is_some();
+        if enabled {
             return Err(2);
         }
         let number = u64::from_be_bytes(*id);

@@ -19,3 +19,5 @@ pub mod status;
 mod stored;
 mod text;
 pub mod tool;
+#[cfg(test)]
+mod tool_tests;

@@ -1,0 +1,180 @@
+use crate::status::Status;
+use crate::tool::tool;
+use std::alloc::{AllocError, Global};
+use std::test::Fail;
+use sv_base::Octs;
+use sv_io::{Calls, MemSink, MemSource};
+
+/// The lines of the heading before the capacity, and behind it.
+const BEFORE: &str =
+    "record 1\nconfig 1\nserver Demo Bay 1\nld BAY1\nln LLN0\nset Events\nmember BAY1/XCBR1$ST$Pos\nmember BAY1/GGIO1$ST$Ind1\nmember BAY1/MMXU1$MX$TotW$mag$i\nbrcb brcbEv01 'Ev1 'BAY1/LLN0$Events 1 0111001110 0 011001 0 ";
+
+const BEHIND: &str =
+    "\nln XCBR1\nattr ST Pos$stVal dbpos d 01\nattr ST Pos$q quality q 0000000000000\nattr ST Pos$t time - 0000000000000000\nln GGIO1\nattr ST Ind1$stVal bool d F\nattr ST Ind1$q quality q 0000000000000\nattr ST Ind1$t time - 0000000000000000\nln MMXU1\nattr MX TotW$mag$i int32 d 0\nend\n";
+
+/// A record: its name, the capacity, its step lines, and the answer.
+type Row = (&'static str, &'static str, &'static str, &'static str);
+
+const ROWS: [Row; 12] = [
+    ("nothing", "200", "open 1 direct\nend\n", "end\n"),
+    (
+        "one value",
+        "200",
+        "open 1 direct\nat 441763200010\nset BAY1/MMXU1$MX$TotW$mag$i 5\nwrite 1 BAY1/LLN0$BR$brcbEv01 RptEna T\ntake 1\nend\n",
+        "1 ok\n1 report BAY1/LLN0$BR$brcbEv01 sq 0 id 1 time 441763200010 ovfl 0 3=d:850105\nend\n",
+    ),
+    (
+        "nothing after",
+        "200",
+        "open 1 direct\nat 441763200010\nset BAY1/MMXU1$MX$TotW$mag$i 5\nwrite 1 BAY1/LLN0$BR$brcbEv01 RptEna T\ntake 1\nset BAY1/MMXU1$MX$TotW$mag$i 5\ntake 1\nend\n",
+        "1 ok\n1 report BAY1/LLN0$BR$brcbEv01 sq 0 id 1 time 441763200010 ovfl 0 3=d:850105\n1 empty\nend\n",
+    ),
+    (
+        "the gap mark",
+        "200",
+        "open 1 direct\nat 441763200001\nset BAY1/MMXU1$MX$TotW$mag$i 1\nat 441763200002\nset BAY1/MMXU1$MX$TotW$mag$i 2\nat 441763200003\nset BAY1/MMXU1$MX$TotW$mag$i 3\nat 441763200004\nset BAY1/MMXU1$MX$TotW$mag$i 4\nat 441763200005\nset BAY1/MMXU1$MX$TotW$mag$i 5\nat 441763200006\nset BAY1/MMXU1$MX$TotW$mag$i 6\nat 441763200007\nset BAY1/MMXU1$MX$TotW$mag$i 7\nat 441763200008\nset BAY1/MMXU1$MX$TotW$mag$i 8\nat 441763200009\nset BAY1/MMXU1$MX$TotW$mag$i 9\nwrite 1 BAY1/LLN0$BR$brcbEv01 RptEna T\ntake 1\ntake 1\nend\n",
+        "1 ok\n1 report BAY1/LLN0$BR$brcbEv01 sq 0 id 4 time 441763200004 ovfl 1 3=d:850104\n1 report BAY1/LLN0$BR$brcbEv01 sq 1 id 5 time 441763200005 ovfl 0 3=d:850105\nend\n",
+    ),
+    (
+        "resume at the newest, and the next value",
+        "200",
+        "open 1 direct\nat 441763200001\nset BAY1/MMXU1$MX$TotW$mag$i 1\nat 441763200002\nset BAY1/MMXU1$MX$TotW$mag$i 2\nat 441763200003\nset BAY1/MMXU1$MX$TotW$mag$i 3\nat 441763200004\nset BAY1/MMXU1$MX$TotW$mag$i 4\nat 441763200005\nset BAY1/MMXU1$MX$TotW$mag$i 5\nat 441763200006\nset BAY1/MMXU1$MX$TotW$mag$i 6\nat 441763200007\nset BAY1/MMXU1$MX$TotW$mag$i 7\nat 441763200008\nset BAY1/MMXU1$MX$TotW$mag$i 8\nat 441763200009\nset BAY1/MMXU1$MX$TotW$mag$i 9\nwrite 1 BAY1/LLN0$BR$brcbEv01 EntryID x0000000000000009\nwrite 1 BAY1/LLN0$BR$brcbEv01 RptEna T\ntake 1\nat 441763200010\nset BAY1/MMXU1$MX$TotW$mag$i 10\ntake 1\nend\n",
+        "1 ok\n1 ok\n1 empty\n1 report BAY1/LLN0$BR$brcbEv01 sq 0 id 10 time 441763200010 ovfl 0 3=d:85010a\nend\n",
+    ),
+    (
+        "resume with the front above",
+        "200",
+        "open 1 direct\nat 441763200001\nset BAY1/MMXU1$MX$TotW$mag$i 1\nat 441763200002\nset BAY1/MMXU1$MX$TotW$mag$i 2\nat 441763200003\nset BAY1/MMXU1$MX$TotW$mag$i 3\nat 441763200004\nset BAY1/MMXU1$MX$TotW$mag$i 4\nat 441763200005\nset BAY1/MMXU1$MX$TotW$mag$i 5\nat 441763200006\nset BAY1/MMXU1$MX$TotW$mag$i 6\nat 441763200007\nset BAY1/MMXU1$MX$TotW$mag$i 7\nat 441763200008\nset BAY1/MMXU1$MX$TotW$mag$i 8\nat 441763200009\nset BAY1/MMXU1$MX$TotW$mag$i 9\nat 441763200010\nset BAY1/MMXU1$MX$TotW$mag$i 10\nat 441763200011\nset BAY1/MMXU1$MX$TotW$mag$i 11\nat 441763200012\nset BAY1/MMXU1$MX$TotW$mag$i 12\nwrite 1 BAY1/LLN0$BR$brcbEv01 EntryID x0000000000000007\nat 441763200013\nset BAY1/MMXU1$MX$TotW$mag$i 13\nat 441763200014\nset BAY1/MMXU1$MX$TotW$mag$i 14\nwrite 1 BAY1/LLN0$BR$brcbEv01 RptEna T\ntake 1\nend\n",
+        "1 ok\n1 ok\n1 report BAY1/LLN0$BR$brcbEv01 sq 0 id 9 time 441763200009 ovfl 1 3=d:850109\nend\n",
+    ),
+    (
+        "entries that are not retained, and zero",
+        "200",
+        "open 1 direct\nat 441763200001\nset BAY1/MMXU1$MX$TotW$mag$i 1\nat 441763200002\nset BAY1/MMXU1$MX$TotW$mag$i 2\nat 441763200003\nset BAY1/MMXU1$MX$TotW$mag$i 3\nat 441763200004\nset BAY1/MMXU1$MX$TotW$mag$i 4\nat 441763200005\nset BAY1/MMXU1$MX$TotW$mag$i 5\nat 441763200006\nset BAY1/MMXU1$MX$TotW$mag$i 6\nat 441763200007\nset BAY1/MMXU1$MX$TotW$mag$i 7\nat 441763200008\nset BAY1/MMXU1$MX$TotW$mag$i 8\nat 441763200009\nset BAY1/MMXU1$MX$TotW$mag$i 9\nwrite 1 BAY1/LLN0$BR$brcbEv01 EntryID x0000000000000003\nwrite 1 BAY1/LLN0$BR$brcbEv01 EntryID x000000000000000a\nwrite 1 BAY1/LLN0$BR$brcbEv01 EntryID x0000000000000000\nwrite 1 BAY1/LLN0$BR$brcbEv01 RptEna T\ntake 1\nend\n",
+        "1 refused 11\n1 refused 11\n1 ok\n1 ok\n1 report BAY1/LLN0$BR$brcbEv01 sq 0 id 4 time 441763200004 ovfl 1 3=d:850104\nend\n",
+    ),
+    (
+        "held by another",
+        "200",
+        "open 1 direct\nopen 2 direct\nwrite 1 BAY1/LLN0$BR$brcbEv01 RptEna T\nwrite 1 BAY1/LLN0$BR$brcbEv01 EntryID x0000000000000000\nwrite 2 BAY1/LLN0$BR$brcbEv01 EntryID x0000000000000000\nwrite 2 BAY1/LLN0$BR$brcbEv01 RptEna F\nend\n",
+        "1 ok\n1 refused 2\n2 refused 2\n2 refused 2\nend\n",
+    ),
+    (
+        "a purge of unsent entries",
+        "200",
+        "open 1 direct\nset BAY1/MMXU1$MX$TotW$mag$i 1\nwrite 1 BAY1/LLN0$BR$brcbEv01 PurgeBuf T\nset BAY1/MMXU1$MX$TotW$mag$i 2\nwrite 1 BAY1/LLN0$BR$brcbEv01 RptEna T\ntake 1\nend\n",
+        "1 ok\n1 ok\n1 report BAY1/LLN0$BR$brcbEv01 sq 0 id 2 time 441763200000 ovfl 1 3=d:850102\nend\n",
+    ),
+    (
+        "a purge of sent entries",
+        "200",
+        "open 1 direct\nset BAY1/MMXU1$MX$TotW$mag$i 1\nwrite 1 BAY1/LLN0$BR$brcbEv01 RptEna T\ntake 1\nwrite 1 BAY1/LLN0$BR$brcbEv01 RptEna F\nwrite 1 BAY1/LLN0$BR$brcbEv01 PurgeBuf T\nset BAY1/MMXU1$MX$TotW$mag$i 2\nwrite 1 BAY1/LLN0$BR$brcbEv01 RptEna T\ntake 1\nend\n",
+        "1 ok\n1 report BAY1/LLN0$BR$brcbEv01 sq 0 id 1 time 441763200000 ovfl 0 3=d:850101\n1 ok\n1 ok\n1 ok\n1 report BAY1/LLN0$BR$brcbEv01 sq 0 id 2 time 441763200000 ovfl 0 3=d:850102\nend\n",
+    ),
+    (
+        "loss, and resume by a second association",
+        "200",
+        "open 1 direct\nat 441763200001\nset BAY1/MMXU1$MX$TotW$mag$i 1\nat 441763200002\nset BAY1/MMXU1$MX$TotW$mag$i 2\nat 441763200003\nset BAY1/MMXU1$MX$TotW$mag$i 3\nwrite 1 BAY1/LLN0$BR$brcbEv01 RptEna T\ntake 1\nlost 1\nopen 2 direct\nwrite 2 BAY1/LLN0$BR$brcbEv01 EntryID x0000000000000001\nwrite 2 BAY1/LLN0$BR$brcbEv01 RptEna T\ntake 2\ntake 2\ntake 2\nend\n",
+        "1 ok\n1 report BAY1/LLN0$BR$brcbEv01 sq 0 id 1 time 441763200001 ovfl 0 3=d:850101\n2 ok\n2 ok\n2 report BAY1/LLN0$BR$brcbEv01 sq 0 id 2 time 441763200002 ovfl 0 3=d:850102\n2 report BAY1/LLN0$BR$brcbEv01 sq 1 id 3 time 441763200003 ovfl 0 3=d:850103\n2 empty\nend\n",
+    ),
+    (
+        "an entry larger than the buffer",
+        "31",
+        "open 1 direct\nat 441763200001\nset BAY1/MMXU1$MX$TotW$mag$i 300\nat 441763200002\nset BAY1/MMXU1$MX$TotW$mag$i 1\nwrite 1 BAY1/LLN0$BR$brcbEv01 RptEna T\ntake 1\nend\n",
+        "1 ok\n1 report BAY1/LLN0$BR$brcbEv01 sq 0 id 2 time 441763200002 ovfl 1 3=d:850101\nend\n",
+    ),
+];
+
+fn record(alloc: Global, capacity: &str, steps: &str) -> Result<Octs, AllocError> {
+    let mut octets = Vec::new(alloc);
+    octets.extend_from_slice(BEFORE.as_bytes())?;
+    octets.extend_from_slice(capacity.as_bytes())?;
+    octets.extend_from_slice(BEHIND.as_bytes())?;
+    octets.extend_from_slice(steps.as_bytes())?;
+    Ok(Octs::from_vec(octets))
+}
+
+/// The words of a command line of one word.
+fn one_word(alloc: Global, word: &str) -> Result<Vec<String>, AllocError> {
+    let mut words = Vec::new(alloc);
+    words.push(String::from_str(alloc, word)?)?;
+    Ok(words)
+}
+
+fn no_calls(alloc: Global) -> Calls {
+    Calls::from_vec(Vec::new(alloc))
+}
+
+fn first_call(alloc: Global) -> Result<Calls, AllocError> {
+    let mut calls = Vec::new(alloc);
+    calls.push(1)?;
+    Ok(Calls::from_vec(calls))
+}
+
+#[test]
+fn records_are_answered_as_the_rules_say(rt: HostRuntime) -> Result<(), Fail> {
+    let alloc = rt.alloc();
+    let words = one_word(alloc, "replay")?;
+    for (name, capacity, steps, answer) in &ROWS {
+        let mut source = MemSource::new(record(alloc, capacity, steps)?, no_calls(alloc));
+        let mut sink = MemSink::new(alloc, no_calls(alloc));
+        let status = tool(alloc, &words, &mut source, &mut sink);
+        assert_eq!(rt; status, Status::Ok, "{name}");
+        assert_eq!(rt; sink.octets(), answer.as_bytes(), "{name}");
+    }
+    Ok(())
+}
+
+#[test]
+fn a_status_says_why_a_replay_ended(rt: HostRuntime) -> Result<(), Fail> {
+    let alloc = rt.alloc();
+    let replay = one_word(alloc, "replay")?;
+    let table = [
+        ("", Status::Record { line: 22, kind: 7 }, ""),
+        ("open 1 direct\n", Status::Record { line: 23, kind: 7 }, ""),
+        (
+            "open 1 direct\nend",
+            Status::Record { line: 23, kind: 7 },
+            "",
+        ),
+        (
+            "open 1 direct\ntake 1\nopen 1 direct\nend\n",
+            Status::Record { line: 24, kind: 5 },
+            "1 empty\n",
+        ),
+        ("lost 2\nend\n", Status::Record { line: 22, kind: 5 }, ""),
+        (
+            "take 1\ntick\nend\n",
+            Status::Record { line: 23, kind: 9 },
+            "1 closed\n",
+        ),
+        ("end\nno line\n", Status::Ok, "end\n"),
+    ];
+    for (steps, wanted, answer) in &table {
+        let mut source = MemSource::new(record(alloc, "200", steps)?, no_calls(alloc));
+        let mut sink = MemSink::new(alloc, no_calls(alloc));
+        let status = tool(alloc, &replay, &mut source, &mut sink);
+        assert_eq!(rt; status, *wanted, "{steps}");
+        assert_eq!(rt; sink.octets(), answer.as_bytes(), "{steps}");
+    }
+    Ok(())
+}
+
+#[test]
+fn words_and_faults_have_a_status(rt: HostRuntime) -> Result<(), Fail> {
+    let alloc = rt.alloc();
+    let replay = one_word(alloc, "replay")?;
+    let other = one_word(alloc, "replays")?;
+    let mut sink = MemSink::new(alloc, first_call(alloc)?);
+    let mut source = MemSource::new(record(alloc, "200", "end\n")?, first_call(alloc)?);
+    assert_eq!(rt; tool(alloc, &other, &mut source, &mut sink), Status::Words);
+    assert_eq!(rt;
+        tool(alloc, &replay, &mut source, &mut sink),
+        Status::ReadFault
+    );
+    assert_eq!(rt;
+        tool(alloc, &replay, &mut source, &mut sink),
+        Status::WriteFault
+    );
+    Ok(())
+}
