@@ -1,6 +1,9 @@
 //! Replays a record: reads it from standard input, and writes the answers to its lines to standard output.
 #![tactic(auto)]
 
+#[cfg(test)]
+mod stored_records;
+
 use replay_run::status::Status;
 use replay_run::tool::tool;
 use std::process::ExitCode;
