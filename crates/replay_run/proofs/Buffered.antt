@@ -1,12 +1,12 @@
 -- What a buffer holds after an entry came to be, and after a purge.
-use Rattle.std.proofs.Common.{◌≡◌, ◌∷◌, [], ◌++◌, ℕ, zero, suc, ◌≤◌, ◌<◌, ◌+◌, max, List, Bool, true, false, length, drop, refl, arith, ap, ◌∙◌, sym, inl, inr, add-one, length-append, length-drop}
+use Rattle.std.proofs.Common.{◌≡◌, ◌∷◌, [], ◌++◌, ℕ, zero, suc, ◌≤◌, ◌+◌, max, List, Bool, true, false, length, drop, arith, ap, ◌∙◌, sym, inl, inr, length-append}
 use Rattle.std.specs.Prelude.{nat_lt, if◌then◌else◌}
 use Rattle.std.proofs.lemmas.Bool.Decides.{leb_tells}
 use Rattle.std.proofs.lemmas.List.{drop-append-le, drop-drop, drop_all}
 use Rattle.bay_model.specs.Points.{Past, Point}
 use Rattle.bay_model.specs.Parameters.{purges}
 use Rattle.bay_model.specs.Entries.{Entry, selected, last_number}
-use Rattle.bay_model.specs.Retained.{sizes, least_dropped, front as front_at, purged}
+use Rattle.bay_model.specs.Retained.{sizes, least_dropped}
 use Rattle.bay_model.specs.Example.{example}
 use Rattle.bay_model.proofs.FrontLaws.{front_is_least, front_never_falls}
 use Rattle.replay_run.specs.Buffers.{Buffer, fitted, after_entry, after_purge}

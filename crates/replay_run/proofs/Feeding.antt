@@ -1,8 +1,8 @@
 -- Lines one after the other, and pieces of them.
-use Rattle.std.proofs.Common.{◌≡◌, ◌≢◌, ℕ, List, [], ◌∷◌, ◌++◌, length, refl, sym, ap, subst, ◌∙◌, append_assoc, arith}
+use Rattle.std.proofs.Common.{◌≡◌, ℕ, List, [], ◌∷◌, ◌++◌, refl, sym, ap, subst, ◌∙◌, append_assoc}
 use Rattle.std.specs.Prelude.{Option, None, Some}
-use Rattle.replay_run.specs.Lines.{NoNewline, newline}
-use Rattle.replay_run.specs.Sessions.{Reads, Stopped, GoesOn, MovesTo, Moves, LinesRead, Fed, FeedsOn, FeedsTo, Feeds}
+use Rattle.replay_run.specs.Lines.{newline}
+use Rattle.replay_run.specs.Sessions.{Reads, Stopped, GoesOn, Moves, LinesRead, FeedsOn, Feeds}
 use Rattle.replay_run.specs.declared.line.Stop.{Stop}
 use Rattle.replay_run.specs.declared.session.Session.{Session}
 use Rattle.replay_run.specs.declared.reader.Reader.{Reader}

@@ -7,16 +7,14 @@ use Rattle.std.proofs.lemmas.Bool.Decides.{leb_tells}
 use Rattle.std.proofs.lemmas.List.{take_all, take-append-le}
 use Rattle.bay_model.specs.Example.{example}
 use Rattle.replay_run.specs.Lines.{NoNewline}
-use Rattle.replay_run.specs.Record.{Judged, text, text_from, start, StopsAt}
-use Rattle.replay_run.specs.Sessions.{Reads, Stopped, Fed, FeedsOn, TakesTo, Takes}
+use Rattle.replay_run.specs.Record.{text, text_from, start}
+use Rattle.replay_run.specs.Sessions.{Stopped, Fed, Takes}
 use Rattle.replay_run.specs.Runs.{Run}
-use Rattle.replay_run.specs.Tool.{limit, Answers, IsJudgement, status_by}
-use Rattle.replay_run.specs.declared.line.Line.{Line}
+use Rattle.replay_run.specs.Tool.{limit, Answers, status_by}
 use Rattle.replay_run.specs.declared.line.Stop.{Stop}
 use Rattle.replay_run.specs.declared.line.Stop.TheVariants as stops
 use Rattle.replay_run.specs.declared.reader.Reader.{Reader}
 use Rattle.replay_run.specs.declared.status.Status.{Status}
-use Rattle.replay_run.specs.declared.status.Status.TheVariants as statuses
 use Rattle.replay_run.proofs.Joined.{append-nil}
 use Rattle.replay_run.proofs.OneReading.{one_reading}
 

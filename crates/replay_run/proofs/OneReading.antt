@@ -1,10 +1,10 @@
 -- The octets of a record have one reading.
-use Rattle.std.proofs.Common.{◌≡◌, ◌≤◌, ◌<◌, ◌+◌, ℕ, zero, suc, Bool, true, false, not, List, [], ◌∷◌, ◌++◌, length, ap, sym, subst, ◌∙◌, refl, arith, append_assoc, ◌⊎◌, inl, inr}
+use Rattle.std.proofs.Common.{◌≡◌, ◌≤◌, ◌<◌, ◌+◌, ℕ, suc, Bool, true, false, not, List, [], ◌∷◌, ◌++◌, length, ap, sym, subst, ◌∙◌, refl, arith, append_assoc, ◌⊎◌, inl, inr}
 use Rattle.std.specs.Prelude.{codes, ◌&&◌, Option, None, Some}
 use Rattle.std.proofs.lemmas.Bool.Decides.{leb_tells}
 use Rattle.bay_model.specs.Model.{Model}
 use Rattle.bay_model.specs.Example.{example}
-use Rattle.replay_run.specs.Lines.{NoNewline, joined, IsLine, Spells, AreSpelled, IsUnlisted, IsCapacity}
+use Rattle.replay_run.specs.Lines.{joined, IsLine, Spells, AreSpelled}
 use Rattle.replay_run.specs.Heading.{heading_front, IsHeadingLine}
 use Rattle.replay_run.specs.Record.{Played, start, after, after_all, is_refused, all_accepted, Begins, StopsAt, Judged, text}
 use Rattle.replay_run.specs.declared.line.Line.{Line}
@@ -12,7 +12,7 @@ use Rattle.replay_run.specs.declared.line.Stop.{Stop}
 use Rattle.replay_run.specs.declared.line.Stop.TheVariants as stops
 use Rattle.replay_run.proofs.Texts.{Without, one_split, no_split, without-all, without_test}
 use Rattle.replay_run.proofs.OneLine.{spelled_same, spells_without, end_is_no_line}
-use Rattle.replay_run.proofs.Joined.{AreWithout, joined-cons, append-nil}
+use Rattle.replay_run.proofs.Joined.{joined-cons}
 use Rattle.replay_run.proofs.OneHeading.{NoHeadingLine, heading_same, whole_heading, no_newline_in_heading}
 
 -- no step that is accepted goes on here

@@ -1,5 +1,5 @@
 -- What comes of the writes of a record.
-use Rattle.std.proofs.Common.{◌≡◌, ◌∷◌, [], ℕ, Bool, true, false, not, length, List, refl, ap}
+use Rattle.std.proofs.Common.{◌≡◌, ℕ, Bool, true, false, not, length, List, refl}
 use Rattle.std.specs.Prelude.{nat_lt, nat_le, ◌==◌, ◌||◌, ◌&&◌, is_some}
 use Rattle.std.specs.Option.{option_map_or}
 use Rattle.sv_base.specs.declared.value.Value.TheVariants as kinds

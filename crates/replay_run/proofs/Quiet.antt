@@ -1,13 +1,13 @@
 -- A point at which no attribute is set, of the example bay: what stays as it was.
-use Rattle.std.proofs.Common.{◌≡◌, ◌∷◌, [], ℕ, List, max, Bool, true, false, length, drop, refl, ap, ◌∙◌, sym}
+use Rattle.std.proofs.Common.{◌≡◌, ◌∷◌, [], ℕ, List, Bool, true, false, length, drop, refl, ap, ◌∙◌, sym}
 use Rattle.std.specs.Prelude.{if◌then◌else◌}
-use Rattle.bay_model.specs.Points.{Past, Point, Deed, nothing}
-use Rattle.bay_model.specs.Parameters.{parameters_at, conf_rev, purges, is_interrogation}
+use Rattle.bay_model.specs.Points.{Past, Point}
+use Rattle.bay_model.specs.Parameters.{parameters_at, conf_rev, purges}
 use Rattle.bay_model.specs.Sets.{dynamic}
 use Rattle.bay_model.specs.Notes.{note}
 use Rattle.bay_model.specs.Entries.{selected}
-use Rattle.bay_model.specs.Retained.{front, purged, least_dropped}
-use Rattle.bay_model.specs.Waiting.{waiting, Waiting, extended}
+use Rattle.bay_model.specs.Retained.{front}
+use Rattle.bay_model.specs.Waiting.{waiting, Waiting}
 use Rattle.bay_model.specs.Example.{example}
 use Rattle.bay_model.specs.Singles.{arrival}
 use Rattle.replay_run.specs.Buffers.{Buffer}

@@ -1,16 +1,15 @@
 -- One line more: what was read so far goes on, or stops.
-use Rattle.std.proofs.Common.{◌≡◌, ◌≤◌, ◌<◌, ◌+◌, ℕ, suc, zero, Bool, true, false, not, List, [], ◌∷◌, ◌++◌, length, refl, sym, ap, subst, ◌∙◌, append_assoc, arith, length-append}
-use Rattle.std.specs.Prelude.{◌&&◌, codes, Option, None, Some, slice_get}
+use Rattle.std.proofs.Common.{◌≡◌, ◌≤◌, ◌<◌, ◌+◌, ℕ, suc, Bool, true, false, not, List, [], ◌∷◌, ◌++◌, length, refl, sym, ap, subst, ◌∙◌, append_assoc, arith, length-append}
+use Rattle.std.specs.Prelude.{◌&&◌, Some}
 use Rattle.bay_model.specs.Model.{Model}
 use Rattle.bay_model.specs.Example.{example}
-use Rattle.replay_run.specs.Lines.{NoNewline, newline, joined, IsLine, Spells, AreSpelled, IsUnlisted, IsCapacity}
-use Rattle.replay_run.specs.Heading.{heading_front, IsAt, IsHeadingLine}
+use Rattle.replay_run.specs.Lines.{newline, joined, IsLine, Spells, AreSpelled, IsCapacity}
+use Rattle.replay_run.specs.Heading.{heading_front, IsAt}
 use Rattle.replay_run.specs.Stands.{Stands}
-use Rattle.replay_run.specs.Record.{Played, start, after, after_all, is_refused, line_text, text_from, all_accepted, Begins, StopsAt, Judged, text}
-use Rattle.replay_run.specs.Sessions.{Plays, Reads, Stopped, GoesOn, MovesTo, PlaysOn}
+use Rattle.replay_run.specs.Record.{Played, start, after, after_all, is_refused, line_text, text_from, all_accepted, Begins, StopsAt, text}
+use Rattle.replay_run.specs.Sessions.{Plays, Reads, Stopped}
 use Rattle.replay_run.specs.declared.line.Line.{Line}
 use Rattle.replay_run.specs.declared.line.Stop.{Stop}
-use Rattle.replay_run.specs.declared.line.Stop.TheVariants as stops
 use Rattle.replay_run.specs.declared.session.Session.{Session}
 use Rattle.replay_run.proofs.Joined.{joined_more, append-nil}
 use Rattle.replay_run.proofs.OneHeading.{heading_more, heading_any}

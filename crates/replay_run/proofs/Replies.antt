@@ -1,15 +1,13 @@
 -- What the writes of a record come to, by the kept state.
-use Rattle.std.proofs.Common.{◌≡◌, ◌∷◌, [], ℕ, Bool, true, false, not, length, List, refl, sym, ap, ◌∙◌}
+use Rattle.std.proofs.Common.{◌≡◌, ℕ, Bool, true, false, not, length, List, refl, sym, ap, ◌∙◌}
 use Rattle.std.specs.Prelude.{Option, None, Some, nat_lt, nat_le, ◌==◌, ◌||◌, ◌&&◌, is_some, if◌then◌else◌}
 use Rattle.std.specs.Option.{option_map, option_map_or}
 use Rattle.sv_base.specs.declared.value.Value.TheVariants as kinds
 use Rattle.sv_base.specs.declared.numbers.AssocNo.{AssocNo}
 use Rattle.bay_model.specs.declared.step.Comp.TheVariants as comps
 use Rattle.bay_model.specs.Points.{Past, wrote}
-use Rattle.bay_model.specs.Entries.{selected}
-use Rattle.bay_model.specs.Retained.{front}
 use Rattle.bay_model.specs.Blocks.{enabler, entry_id}
-use Rattle.bay_model.specs.Outcomes.{Outcome, refused, did}
+use Rattle.bay_model.specs.Outcomes.{refused, did}
 use Rattle.bay_model.specs.Answers.{outcome_of_write}
 use Rattle.bay_model.specs.Example.{example}
 use Rattle.replay_run.specs.Stands.{StandsAt}

@@ -1,5 +1,5 @@
 -- What a point of the example bay brings to its block: nothing, or the entry of one change.
-use Rattle.std.proofs.Common.{◌≡◌, ◌∷◌, [], ◌++◌, ℕ, ◌+◌, ◌≤◌, max, List, Bool, true, false, length, refl, arith, inl, inr, ap, ◌∙◌, sym}
+use Rattle.std.proofs.Common.{◌≡◌, ◌∷◌, [], ℕ, ◌+◌, ◌≤◌, max, List, true, false, refl, arith, inl, inr, ap, ◌∙◌}
 use Rattle.std.specs.Prelude.{ℤ, nat_le}
 use Rattle.std.specs.Ordering.{int_eq}
 use Rattle.std.proofs.lemmas.Bool.Decides.{leb_tells}
@@ -8,15 +8,14 @@ use Rattle.sv_base.specs.declared.value.Value.TheVariants as kinds
 use Rattle.bay_model.specs.Points.{Past, Point, valued, now}
 use Rattle.bay_model.specs.Values.{value_at}
 use Rattle.bay_model.specs.Parameters.{parameters_at, is_interrogation}
-use Rattle.bay_model.specs.Sets.{dynamic}
 use Rattle.bay_model.specs.Notes.{note, Kept}
-use Rattle.bay_model.specs.Breaks.{integrity, breaks, is_empty}
-use Rattle.bay_model.specs.Groups.{open_group, if_open}
-use Rattle.bay_model.specs.Entries.{Entry, selected, appended}
+use Rattle.bay_model.specs.Breaks.{integrity, is_empty}
+use Rattle.bay_model.specs.Groups.{open_group}
+use Rattle.bay_model.specs.Entries.{selected, appended}
 use Rattle.bay_model.specs.Example.{example, block}
 use Rattle.bay_model.proofs.OpenGroup.{open_group-quiet, open_group-event}
 use Rattle.replay_run.specs.Stands.{IsPlain}
-use Rattle.replay_run.specs.Reported.{change_of_data, power_entry}
+use Rattle.replay_run.specs.Reported.{change_of_data}
 
 integrity-none : (capacity : ℕ) (p : Point) (past : Past) → parameters_at (example capacity) 0 past ≡ (block capacity).initial → integrity (example capacity) 0 p past ≡ false
 integrity-none capacity p [] is = refl

@@ -1,6 +1,6 @@
 -- What the state stands for after one more step.
-use Rattle.std.proofs.Common.{◌≡◌, ◌∷◌, [], ◌++◌, ◌%◌, ◌^◌, ◌<◌, ◌≤◌, ℕ, suc, ◌+◌, max, min, List, Bool, true, false, not, length, drop, refl, arith, sym, ◌∙◌, ap, inl, inr, slice_index_or, slice_set, get_or-set_same, get_or-set_other, subst}
-use Rattle.std.specs.Prelude.{Option, None, Some, is_some, is_none, nat_lt, ◌==◌, ◌||◌, if◌then◌else◌, ℤ, ◌&&◌}
+use Rattle.std.proofs.Common.{◌≡◌, ◌∷◌, [], ◌%◌, ◌^◌, ◌<◌, ℕ, suc, ◌+◌, max, min, List, Bool, true, false, length, refl, arith, sym, ◌∙◌, ap, inl, inr, slice_index_or, slice_set, get_or-set_same, get_or-set_other, subst}
+use Rattle.std.specs.Prelude.{Option, None, Some, is_none, ◌==◌, if◌then◌else◌, ℤ, ◌&&◌}
 use Rattle.std.specs.Option.{option_map, option_map_or}
 use Rattle.std.specs.Ordering.{int_eq}
 use Rattle.std.proofs.lemmas.Bool.Decides.{eqb_tells, Decides-int_eq}
@@ -8,14 +8,12 @@ use Rattle.sv_base.specs.Data.{data_of}
 use Rattle.sv_base.specs.declared.value.Value.TheVariants as kinds
 use Rattle.sv_base.specs.declared.numbers.AssocNo.{AssocNo}
 use Rattle.bay_model.specs.declared.step.Comp.TheVariants.{RptEna, EntryID, PurgeBuf}
-use Rattle.bay_model.specs.Points.{Past, Point, Deed, opened, wrote, reported, lost, nothing, valued, now as now_at}
-use Rattle.bay_model.specs.Values.{value_at}
-use Rattle.bay_model.specs.Entries.{Entry, selected, appended, last_number}
-use Rattle.bay_model.specs.Retained.{front as front_at, purged, least_dropped}
+use Rattle.bay_model.specs.Points.{Past, Point, Deed, opened, wrote, reported, lost, nothing, now as now_at}
+use Rattle.bay_model.specs.Entries.{Entry}
 use Rattle.bay_model.specs.Blocks.{enabler as enabler_at, sent as sent_at, cursor as cursor_at, entry_id}
 use Rattle.bay_model.specs.Associations.{Ends, ends}
 use Rattle.bay_model.specs.Waiting.{waiting}
-use Rattle.bay_model.specs.Example.{example, block}
+use Rattle.bay_model.specs.Example.{example}
 use Rattle.replay_run.specs.Buffers.{Buffer, after_purge, after_entry}
 use Rattle.replay_run.specs.Stands.{StandsAt, IsPlain, Holds, ends_if}
 use Rattle.replay_run.specs.Reported.{power_entry, change_of_data}

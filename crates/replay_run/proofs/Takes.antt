@@ -1,23 +1,20 @@
 -- What a Take is answered, by the kept state.
-use Rattle.std.proofs.Common.{◌≡◌, ◌∷◌, [], ◌++◌, ℕ, zero, suc, ◌+◌, ◌-◌, ◌%◌, ◌≤◌, ◌<◌, max, Bool, true, false, List, length, drop, map, refl, sym, ap, ◌∙◌, arith, inl, inr, add-one}
-use Rattle.std.specs.Prelude.{Option, None, Some, nat_lt, nat_le, ◌==◌, ◌&&◌, is_some, is_none, slice_get, if◌then◌else◌}
+use Rattle.std.proofs.Common.{◌≡◌, ◌∷◌, [], ℕ, zero, suc, ◌+◌, ◌-◌, ◌<◌, max, Bool, true, false, List, drop, refl, sym, ap, ◌∙◌, arith}
+use Rattle.std.specs.Prelude.{Option, None, Some, nat_lt, nat_le, ◌==◌, ◌&&◌, slice_get, if◌then◌else◌}
 use Rattle.std.specs.Option.{option_map, option_map_or, option_and_then}
-use Rattle.std.proofs.lemmas.Bool.Decides.{leb_tells}
-use Rattle.std.proofs.lemmas.Bool.{lt-ltb}
 use Rattle.sv_base.specs.declared.numbers.AssocNo.{AssocNo}
 use Rattle.bay_model.specs.declared.answer.Answer.TheVariants as answers
 use Rattle.bay_model.specs.declared.answer.Output.TheVariants as outputs
 use Rattle.bay_model.specs.Points.{Past, reported, nothing}
 use Rattle.bay_model.specs.Entries.{Entry, selected}
-use Rattle.bay_model.specs.Retained.{front}
-use Rattle.bay_model.specs.Blocks.{enabler, cursor, next, is_enabled_by}
+use Rattle.bay_model.specs.Blocks.{enabler, next, is_enabled_by}
 use Rattle.bay_model.specs.Associations.{Ends, ends}
 use Rattle.bay_model.specs.Reports.{Offer, offer, earlier, report_of}
 use Rattle.bay_model.specs.Singles.{arrival}
 use Rattle.bay_model.specs.Takes.{Given, taken}
 use Rattle.bay_model.specs.Example.{example}
 use Rattle.replay_run.specs.Buffers.{Buffer}
-use Rattle.replay_run.specs.Stands.{StandsAt, ends_if}
+use Rattle.replay_run.specs.Stands.{StandsAt}
 use Rattle.replay_run.specs.Reported.{report_for, next_to}
 use Rattle.replay_run.specs.declared.bay.Core.{Core}
 use Rattle.replay_run.proofs.Quiet.{selected-arrival, front-arrival}

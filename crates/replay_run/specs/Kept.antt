@@ -1,6 +1,5 @@
 -- The entry of the model that a stored one is.
 use Rattle.std.specs.Prelude.{ℕ, List, map}
-use Rattle.sv_base.specs.declared.moment.Moment.{Moment}
 use Rattle.bay_model.specs.Notes.{Kept}
 use Rattle.bay_model.specs.Entries.{Entry}
 use Rattle.replay_run.specs.declared.stored.StoredMember.{StoredMember}

@@ -1,5 +1,5 @@
 -- A record: the history of its lines, the answers to them, and what its octets are read as.
-use Rattle.std.specs.Prelude.{◌≡◌, ◌≢◌, ◌≤◌, ◌<◌, ℕ, Bool, true, false, not, ◌&&◌, List, [], ◌∷◌, ◌++◌, codes, length, Option, None, Some, is_some, if◌then◌else◌}
+use Rattle.std.specs.Prelude.{◌≡◌, ◌≤◌, ◌<◌, ℕ, Bool, true, false, not, ◌&&◌, List, [], ◌∷◌, ◌++◌, codes, Option, None, Some, is_some}
 use Rattle.std.specs.Option.{option_map_or}
 use Rattle.bay_model.specs.Model.{Model}
 use Rattle.bay_model.specs.Example.{example}

@@ -1,5 +1,5 @@
 -- The entries and the reports of the example bay.
-use Rattle.std.specs.Prelude.{ℕ, suc, Bool, true, false, List, [], ◌∷◌, map, max, nat_lt, ◌&&◌, ◌==◌, codes, ℤ, Option, None, Some, if◌then◌else◌}
+use Rattle.std.specs.Prelude.{ℕ, suc, Bool, true, false, [], ◌∷◌, map, max, nat_lt, ◌&&◌, ◌==◌, ℤ, Option, None, Some, if◌then◌else◌}
 use Rattle.std.specs.Option.{option_map_or}
 use Rattle.sv_base.specs.Data.{data_of}
 use Rattle.sv_base.specs.declared.value.Value.TheVariants as kinds

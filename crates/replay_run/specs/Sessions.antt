@@ -1,5 +1,5 @@
 -- What a reading stands for: the octets so far, and the answers that were written to them.
-use Rattle.std.specs.Prelude.{◌≡◌, ◌≤◌, ◌+◌, true, ℕ, List, [], ◌++◌, length, Option, None, Some}
+use Rattle.std.specs.Prelude.{◌≡◌, ◌≤◌, ◌+◌, true, ℕ, List, ◌++◌, length, Option, None, Some}
 use Rattle.std.specs.Io.KnownBytes.{Appends}
 use Rattle.bay_model.specs.Example.{example}
 use Rattle.replay_run.specs.Stands.{Stands}

@@ -1,7 +1,5 @@
-use Rattle.std.proofs.Common.{◌≡◌, ◌+◌, ◌++◌, ◌∷◌, [], length, refl, arith, ap, length-append}
+use Rattle.std.proofs.Common.{◌≡◌, ◌++◌, ◌∷◌, length, arith, ap, length-append}
 use Rattle.std.specs.Prelude.{None, Some}
-use Rattle.replay_run.specs.Sessions.{Moves, LinesRead}
-use Rattle.replay_run.specs.Lines.{newline}
 use Rattle.replay_run.proofs.Feeding.{read-none, read-more}
 use Rattle.replay_run.proofs.reader.read_lines.Goals as goal
 

@@ -1,5 +1,4 @@
 use Rattle.std.proofs.Common.{◌≤◌, ◌+◌, length}
-use Rattle.std.specs.Prelude.{None}
 use Rattle.replay_run.proofs.Feeding.{HasRead}
 use Rattle.replay_run.proofs.reader.read_lines.Given as goal
 

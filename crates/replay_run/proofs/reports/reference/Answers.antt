@@ -1,4 +1,4 @@
-use Rattle.std.proofs.Common.{◌≡◌, ◌≤◌, ◌-◌, ◌∷◌, [], ℕ, List, length, arith, refl}
+use Rattle.std.proofs.Common.{◌-◌, ◌∷◌, [], ℕ, arith, refl}
 use Rattle.std.proofs.lemmas.Option.{slice_get_past}
 use Rattle.replay_run.proofs.reports.reference.Goals as goal
 

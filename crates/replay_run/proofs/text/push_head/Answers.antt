@@ -1,4 +1,4 @@
-use Rattle.std.proofs.Common.{◌≡◌, ◌++◌, refl, append_assoc}
+use Rattle.std.proofs.Common.{refl, append_assoc}
 use Rattle.replay_run.proofs.text.push_head.Goals as goal
 
 pub returns : goal.returns

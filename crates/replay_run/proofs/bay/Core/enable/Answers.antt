@@ -1,4 +1,4 @@
-use Rattle.std.proofs.Common.{◌≡◌, ◌∙◌, sym, true, false, length}
+use Rattle.std.proofs.Common.{◌≡◌, ◌∙◌, sym, length}
 use Rattle.std.specs.Prelude.{Some, None, if◌then◌else◌}
 use Rattle.bay_model.specs.Answers.{points}
 use Rattle.bay_model.specs.Example.{example}

@@ -1,4 +1,4 @@
-use Rattle.std.proofs.Common.{◌≡◌, ◌∙◌, ◌+◌, suc, sym, subst, true, false, length}
+use Rattle.std.proofs.Common.{◌∙◌, ◌+◌, suc, sym, subst, length}
 use Rattle.bay_model.specs.Answers.{points, turned}
 use Rattle.bay_model.specs.Example.{example}
 use Rattle.replay_run.specs.Turns.{purge_turn}

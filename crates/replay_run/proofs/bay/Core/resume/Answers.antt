@@ -1,12 +1,8 @@
-use Rattle.std.proofs.Common.{◌≡◌, ◌∙◌, sym, ap, true, false, refl, length, rules}
-use Rattle.std.specs.Prelude.{Ok, Err}
-use Rattle.bay_model.specs.Answers.{points, answer}
-use Rattle.bay_model.specs.Blocks.{entry_id}
-use Rattle.bay_model.specs.Outcomes.{code_of}
+use Rattle.std.proofs.Common.{◌∙◌, sym, refl, length, rules}
+use Rattle.bay_model.specs.Answers.{points}
 use Rattle.bay_model.specs.Example.{example}
-use Rattle.bay_model.specs.declared.answer.Answer.TheVariants.{Wrote}
 use Rattle.replay_run.proofs.Steps.{stands-nothing, stands-resumed}
-use Rattle.replay_run.proofs.Replies.{resume_outcome, may_resume_at}
+use Rattle.replay_run.proofs.Replies.{resume_outcome}
 use Rattle.replay_run.proofs.bay.Core.resume.Goals as goal
 
 pub returns-then-enabled-clause-stands : goal.returns-then-enabled-clause-stands

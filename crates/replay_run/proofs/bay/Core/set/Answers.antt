@@ -1,4 +1,4 @@
-use Rattle.std.proofs.Common.{◌≡◌, arith, rules, w64, ◌∙◌, true, false, refl, length, ℤ, ◌+◌, suc, Bool, subst, sym}
+use Rattle.std.proofs.Common.{◌≡◌, arith, rules, w64, true, false, length, ◌+◌, suc, subst, sym}
 use mir.Val.{SFits}
 use Rattle.std.specs.Ordering.{int_eq}
 use Rattle.std.proofs.lemmas.Int.{ints, to_z-of_z}

@@ -1,12 +1,12 @@
-use Rattle.std.proofs.Common.{◌≡◌, ◌∙◌, ◌<◌, ◌+◌, ◌%◌, ap, sym, true, false, refl, length, arith}
-use Rattle.std.specs.Prelude.{Option, None, Some}
+use Rattle.std.proofs.Common.{◌≡◌, ◌∙◌, ◌+◌, ◌%◌, ap, sym, refl, length}
+use Rattle.std.specs.Prelude.{None}
 use Rattle.bay_model.specs.declared.answer.Answer.TheVariants.{Taken}
 use Rattle.bay_model.specs.declared.answer.Output.TheVariants.{Report}
-use Rattle.bay_model.specs.Answers.{History, points}
+use Rattle.bay_model.specs.Answers.{points}
 use Rattle.bay_model.specs.Takes.{Given}
-use Rattle.bay_model.specs.Associations.{Ends, ends}
+use Rattle.bay_model.specs.Associations.{ends}
 use Rattle.bay_model.specs.Example.{example}
-use Rattle.replay_run.specs.Stands.{Stands, ends_if}
+use Rattle.replay_run.specs.Stands.{ends_if}
 use Rattle.replay_run.proofs.Steps.{stands-nothing, stands-reported}
 use Rattle.replay_run.proofs.Takes.{take-closed, take-none, take-next, next-above}
 use Rattle.replay_run.proofs.bay.Core.take.Goals as goal

@@ -1,5 +1,4 @@
-use Rattle.std.proofs.Common.{rules, ◌≡◌, ◌≤◌, ◌<◌, ◌+◌, ◌∷◌, [], length, arith, refl, subst}
-use Rattle.bay_model.specs.Entries.{last_number}
+use Rattle.std.proofs.Common.{◌≡◌, arith, refl, subst}
 use Rattle.replay_run.specs.Buffers.{Buffer, after_entry}
 use Rattle.replay_run.proofs.Discards.{sizes-append, appended_is}
 use Rattle.replay_run.proofs.buffer.EntryBuffer.append.Goals as goal

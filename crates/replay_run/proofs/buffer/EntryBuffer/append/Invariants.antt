@@ -1,4 +1,4 @@
-use Rattle.std.proofs.Common.{◌≡◌, ◌≤◌, ◌+◌, length}
+use Rattle.std.proofs.Common.{◌≡◌, ◌+◌, length}
 use Rattle.bay_model.specs.Retained.{sizes}
 use Rattle.replay_run.proofs.Discards.{IsAsBefore}
 use Rattle.replay_run.proofs.buffer.EntryBuffer.append.Given as goal

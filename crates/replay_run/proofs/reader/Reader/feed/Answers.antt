@@ -1,7 +1,7 @@
-use Rattle.std.proofs.Common.{◌≡◌, ◌++◌, [], refl, ap, sym, subst, ◌∙◌}
-use Rattle.std.specs.Prelude.{None, Some, IfOk}
+use Rattle.std.proofs.Common.{◌++◌, refl, subst, ◌∙◌}
+use Rattle.std.specs.Prelude.{None, Some}
 use Rattle.replay_run.specs.Lines.{newline}
-use Rattle.replay_run.specs.Sessions.{Moves, Feeds}
+use Rattle.replay_run.specs.Sessions.{Moves}
 use Rattle.replay_run.proofs.Feeding.{holds-on, feeds-stop, feeds-then}
 use Rattle.std.proofs.lemmas.Result.{IfOk-weaker}
 use Rattle.replay_run.proofs.reader.Reader.feed.Goals as goal

@@ -1,4 +1,4 @@
-use Rattle.std.proofs.Common.{◌≡◌, ◌++◌, [], refl, ap, ◌∙◌}
+use Rattle.std.proofs.Common.{◌++◌, ap, ◌∙◌}
 use Rattle.std.specs.Prelude.{None, Some}
 use Rattle.replay_run.proofs.Feeding.{feeds-lines}
 use Rattle.replay_run.proofs.reader.Reader.feed_lines.Goals as goal

@@ -1,5 +1,4 @@
-use Rattle.std.proofs.Common.{◌≡◌, ◌≤◌, ◌<◌, [], List, ℕ, length, take, ap, sym, subst, ◌∙◌, refl, arith, rules, length-take, true, false}
-use Rattle.std.specs.Prelude.{Option, None, Some}
+use Rattle.std.proofs.Common.{◌≡◌, ◌<◌, [], length, take, ap, subst, arith, rules, length-take}
 use Rattle.std.specs.Io.KnownBytes.{Consumes}
 use Rattle.replay_run.specs.declared.status.Status.TheVariants as statuses
 use Rattle.replay_run.proofs.Judging.{run-ends, run-passes}

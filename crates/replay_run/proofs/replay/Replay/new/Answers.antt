@@ -1,4 +1,4 @@
-use Rattle.std.proofs.Common.{◌≡◌, ◌≤◌, [], length, arith, refl, rules}
+use Rattle.std.proofs.Common.{arith}
 use Rattle.replay_run.proofs.Judging.{run-none}
 use Rattle.replay_run.proofs.replay.Replay.new.Goals as goal
 

@@ -1,7 +1,6 @@
-use Rattle.std.proofs.Common.{◌≡◌, ◌≤◌, ◌+◌, [], List, ℕ, length, take, ap, sym, subst, ◌∙◌, refl, arith, rules, length-take, false}
-use Rattle.std.specs.Prelude.{Option, None, Some}
+use Rattle.std.proofs.Common.{◌≡◌, ◌≤◌, ◌+◌, [], length, take, ap, subst, ◌∙◌, arith, length-take, false}
+use Rattle.std.specs.Prelude.{Some}
 use Rattle.std.specs.Io.KnownBytes.{Consumes}
-use Rattle.replay_run.specs.Sessions.{Takes}
 use Rattle.replay_run.specs.Runs.{Run}
 use Rattle.replay_run.specs.Tool.{status_by}
 use Rattle.replay_run.specs.declared.status.Status.TheVariants as statuses

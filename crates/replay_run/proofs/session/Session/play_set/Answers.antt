@@ -1,4 +1,4 @@
-use Rattle.std.proofs.Common.{◌≡◌, ◌∷◌, sym, subst, refl, arith, w32, w64, rules}
+use Rattle.std.proofs.Common.{◌∷◌, sym, subst, refl, arith, w32, w64, rules}
 use mir.Val.{SFits}
 use Rattle.std.proofs.lemmas.Int.{to_z-of_z}
 use Rattle.replay_run.specs.Turns.{set_turn}

@@ -1,6 +1,4 @@
-use Rattle.std.proofs.Common.{◌≡◌, ◌≤◌, ◌<◌, [], ◌++◌, List, ℕ, sym, ap, ◌∙◌, refl, arith}
-use Rattle.replay_run.specs.Lines.{newline}
-use Rattle.replay_run.specs.Record.{text_from}
+use Rattle.std.proofs.Common.{[], ◌++◌, sym, refl, arith}
 use Rattle.replay_run.specs.declared.line.Stop.TheVariants as stops
 use Rattle.replay_run.proofs.Joined.{append-nil}
 use Rattle.replay_run.proofs.ReadingOn.{reads-fixed, reads-capacity, stops-next, as_written}

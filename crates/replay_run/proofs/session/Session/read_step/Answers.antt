@@ -1,8 +1,7 @@
-use Rattle.std.proofs.Common.{◌≡◌, ◌≤◌, ◌<◌, [], ◌∷◌, ◌++◌, List, ℕ, sym, ap, ◌∙◌, refl, arith, true, false}
+use Rattle.std.proofs.Common.{[], ◌∷◌, ◌++◌, sym, ap, refl, arith}
 use Rattle.std.specs.Prelude.{codes}
 use Rattle.bay_model.specs.Example.{example}
-use Rattle.replay_run.specs.Lines.{newline}
-use Rattle.replay_run.specs.Record.{start, after_all, text_from, line_text}
+use Rattle.replay_run.specs.Record.{start, after_all, line_text}
 use Rattle.replay_run.specs.declared.line.Stop.TheVariants as stops
 use Rattle.replay_run.proofs.Joined.{append-nil}
 use Rattle.replay_run.proofs.ReadingOn.{reads-step, stops-next}

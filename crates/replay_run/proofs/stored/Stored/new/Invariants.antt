@@ -1,4 +1,4 @@
-use Rattle.std.proofs.Common.{◌≡◌, ◌≤◌, ◌+◌, ◌*◌, length, map, take}
+use Rattle.std.proofs.Common.{◌≡◌, ◌≤◌, ◌+◌, ◌*◌, take}
 use Rattle.bay_model.specs.Retained.{size as size_of}
 use Rattle.replay_run.specs.Kept.{entry_by}
 use Rattle.replay_run.proofs.stored.Stored.new.Given as goal
