@@ -18,9 +18,19 @@ fn ended(rt: &HostRuntime, status: Status) -> ExitCode {
     ExitCode::from(status.number())
 }
 
+/// The status where the words can't be had: there is no memory, or one of them isn't UTF-8.
+fn without_words(error: &io::Error) -> Status {
+    if error.kind() == io::ErrorKind::OutOfMemory {
+        Status::Memory
+    } else {
+        Status::Words
+    }
+}
+
 fn main(rt: HostRuntime) -> ExitCode {
-    let Ok(args) = env::args(&rt) else {
-        return ended(&rt, Status::Words);
+    let args = match env::args(&rt) {
+        Ok(args) => args,
+        Err(error) => return ended(&rt, without_words(&error)),
     };
     let mut words = Vec::new(rt.alloc());
     for word in args.skip(1) {
