@@ -1,0 +1,60 @@
+-- What the components of report blocks and of setting group blocks read (IEC 61850-7-2, GetBRCBValues and
+-- GetSGCBValues).
+use Rattle.std.specs.Prelude.{ℕ, ◌-◌, ◌*◌, ◌/◌, ◌%◌, ◌^◌, false, List, [], ◌∷◌, length, is_some}
+use Rattle.std.specs.Option.{option_map_or}
+use Rattle.std.specs.Int.{to_be_bytes, w64}
+use Rattle.sv_base.specs.declared.value.Value.{Value}
+use Rattle.sv_base.specs.declared.value.Value.TheVariants as kinds
+use Rattle.sv_base.specs.declared.value.Stamp.{Stamp}
+use Rattle.sv_base.specs.declared.value.Utc.{Utc}
+use Rattle.bay_model.specs.declared.step.Comp.{Comp}
+use Rattle.bay_model.specs.declared.step.Comp.TheVariants as comps
+use Rattle.bay_model.specs.Model.{Model, Part, NumOfSG, ActSG, EditSG, CnfEdit, LActTm}
+use Rattle.bay_model.specs.Lookups.{groups_of}
+use Rattle.bay_model.specs.Points.{Past}
+use Rattle.bay_model.specs.Parameters.{parameters_at, conf_rev}
+use Rattle.bay_model.specs.Entries.{Entry, selected}
+use Rattle.bay_model.specs.Blocks.{enabler, sq_num}
+use Rattle.bay_model.specs.Settings.{active, activation, Edit, edit}
+
+-- milliseconds of the day, and days since 1 January 1984
+abbrev pub stamp_of : ℕ → Stamp
+stamp_of moment = record { ms = moment % 86400000; days = moment / 86400000 - 5113 }
+
+abbrev pub no_stamp : Stamp
+no_stamp = record { ms = 0; days = 0 }
+
+-- seconds, the fraction of the rest in 24 bits, and the quality 0A
+abbrev pub utc_of : ℕ → Utc
+utc_of moment = record { secs = moment / 1000; frac = (moment % 1000) * 2 ^ 24 / 1000; quality = 10 }
+
+abbrev pub no_utc : Utc
+no_utc = record { secs = 0; frac = 0; quality = 0 }
+
+-- of entries, the newest one's moment
+abbrev pub time_of_newest : List Entry → Stamp
+time_of_newest [] = no_stamp
+time_of_newest (e ∷ []) = stamp_of e.moment
+time_of_newest (e ∷ f ∷ es) = time_of_newest (f ∷ es)
+
+abbrev pub read_component : Model → ℕ → Comp → Past → Value
+read_component c b comps.RptID past = kinds.Text (parameters_at c b past).rpt_id
+read_component c b comps.RptEna past = kinds.Bool (is_some (enabler b past))
+read_component c b comps.DatSet past = kinds.Text (parameters_at c b past).dat_set
+read_component c b comps.ConfRev past = kinds.Uint (conf_rev c b past)
+read_component c b comps.OptFlds past = kinds.Bits (parameters_at c b past).opt_flds
+read_component c b comps.BufTm past = kinds.Uint (parameters_at c b past).buf_tm
+read_component c b comps.SqNum past = kinds.Uint (sq_num b past)
+read_component c b comps.TrgOps past = kinds.Bits (parameters_at c b past).trg_ops
+read_component c b comps.IntgPd past = kinds.Uint (parameters_at c b past).intg_pd
+read_component c b comps.GI past = kinds.Bool false
+read_component c b comps.PurgeBuf past = kinds.Bool false
+read_component c b comps.EntryID past = kinds.Octets (to_be_bytes w64 (length (selected c b past)))
+read_component c b comps.TimeofEntry past = kinds.Stamp (time_of_newest (selected c b past))
+
+abbrev pub read_setting : Model → ℕ → Part → Past → Value
+read_setting c d NumOfSG past = kinds.Uint (groups_of c d).count
+read_setting c d ActSG past = kinds.Uint (active c d past)
+read_setting c d EditSG past = kinds.Uint (option_map_or (λ (e : Edit). e.group) (edit d past) 0)
+read_setting c d CnfEdit past = kinds.Bool false
+read_setting c d LActTm past = kinds.Time (option_map_or utc_of (activation d past) no_utc)

@@ -1,0 +1,6 @@
+pub mod GetLaws
+pub mod RowLaws
+pub mod SizeLaws
+pub mod LengthLaws
+pub mod DataFacts
+pub mod FieldLaws
