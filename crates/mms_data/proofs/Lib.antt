@@ -1,3 +1,5 @@
 pub mod ContentLaws
 pub mod DataLaws
 pub mod GrammarLaws
+pub mod MinimalLaws
+pub mod WritingLaws
