@@ -3,3 +3,5 @@ pub mod DataLaws
 pub mod GrammarLaws
 pub mod MinimalLaws
 pub mod WritingLaws
+pub mod ReadBackLaws
+pub mod ShortestLaws
