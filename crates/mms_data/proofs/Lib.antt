@@ -5,3 +5,4 @@ pub mod MinimalLaws
 pub mod WritingLaws
 pub mod ReadBackLaws
 pub mod ShortestLaws
+pub mod TypeLaws
