@@ -13,9 +13,9 @@ one_bit_more all grown view b h got push =
     let count : length grown ≡ length all + 1 = ap (λ (x : List Bool). length x) push ∙ length-append all (b ∷ []) in (
       omega (arith, within, count),
       push
-      ∙ ap (λ (x : List Bool). x ++ b ∷ []) h
-      ∙ sym (take_more view (length all) b within ∙ ap (λ (x : Bool). take (length all) view ++ x ∷ []) (get_or_from_slice_get view (length all) b b got))
-      ∙ ap (λ (n : ℕ). take n view) (sym count),
+          ∙ ap (λ (x : List Bool). x ++ b ∷ []) h
+          ∙ sym (take_more view (length all) b within ∙ ap (λ (x : Bool). take (length all) view ++ x ∷ []) (get_or_from_slice_get view (length all) b b got))
+          ∙ ap (λ (n : ℕ). take n view) (sym count),
     )
 
 pub no_bit_more : (all view : List Bool) → length all ≤ length view → all ≡ take (length all) view → slice_get view (length all) ≡ None → all ≡ view

@@ -6,3 +6,5 @@ pub mod WritingLaws
 pub mod ReadBackLaws
 pub mod ShortestLaws
 pub mod TypeLaws
+pub mod FitLaws
+pub mod TypeElementLaws

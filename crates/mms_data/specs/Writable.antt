@@ -52,3 +52,24 @@ abbrev mutual
   pub RowIsOfTypes : Row → Type 0
   RowIsOfTypes none = Unit {0}
   RowIsOfTypes (more s r) = SeenIsOfTypes s × RowIsOfTypes r
+
+-- the fraction of a second is one of three octets
+abbrev pub IsFraction : Plain → Type 0
+IsFraction (truth b) = Unit {0}
+IsFraction (int z) = Unit {0}
+IsFraction (uint n) = Unit {0}
+IsFraction (bits bs) = Unit {0}
+IsFraction (time secs frac quality) = frac < 2 ^ 24
+IsFraction (stamp ms days) = Unit {0}
+IsFraction (text t) = Unit {0}
+IsFraction (octets o) = Unit {0}
+IsFraction other = Unit {0}
+
+abbrev mutual
+  pub SeenHasFractions : Seen → Type 0
+  SeenHasFractions (plain p) = IsFraction p
+  SeenHasFractions (structure r) = RowHasFractions r
+
+  pub RowHasFractions : Row → Type 0
+  RowHasFractions none = Unit {0}
+  RowHasFractions (more s r) = SeenHasFractions s × RowHasFractions r

@@ -12,8 +12,10 @@ mod type_writing;
 mod writing;
 
 pub use fault::DataFault;
-pub use laws::{data_is_minimal, data_is_read_back};
+pub use laws::{data_is_minimal, data_is_read_back, short_ones_fit, types_are_elements};
 pub use reading::read_data;
 pub use type_writing::write_type;
 pub use writing::write_data;
 
+#[cfg(test)]
+mod tests;

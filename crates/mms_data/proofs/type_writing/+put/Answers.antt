@@ -10,7 +10,7 @@ pub put_part-returns-clause-err : goal.put_part-returns-clause-err
 put_part-returns-clause-err t c =
     on_err_weaker c.put_type.result
     (λ (h : take (length c.put_head-2.new.out.items) c.put_type.new.out.items ≡ c.put_head-2.new.out.items).
-        keeps_after _ _ _ _ c.in_ok-put_head.ensures.ok (keeps_after _ _ _ _ c.in_ok-put.ensures.ok (keeps_after _ _ _ _ c.in_ok-put_head-2.ensures.ok h)))
+    keeps_after _ _ _ _ c.in_ok-put_head.ensures.ok (keeps_after _ _ _ _ c.in_ok-put.ensures.ok (keeps_after _ _ _ _ c.in_ok-put_head-2.ensures.ok h)))
     c.put_type.ensures.err
 
 pub put_type-put_parts-requires : goal.put_type-put_parts-requires
@@ -23,7 +23,7 @@ pub put_type-returns-in_ok-put_head-in-Struct-2-clause-err : goal.put_type-retur
 put_type-returns-in_ok-put_head-in-Struct-2-clause-err t c =
     on_err_weaker c.put_parts.result
     (λ (h : take (length c.put_head-in-Struct.new.out.items) c.put_parts.new.out.items ≡ c.put_head-in-Struct.new.out.items).
-        keeps_after _ _ _ _ c.in_ok-put_head-in-Struct.ensures.ok (keeps_after _ _ _ _ c.in_ok-put_head-in-Struct-2.ensures.ok h))
+    keeps_after _ _ _ _ c.in_ok-put_head-in-Struct.ensures.ok (keeps_after _ _ _ _ c.in_ok-put_head-in-Struct-2.ensures.ok h))
     c.put_parts.ensures.err
 
 pub put_parts-put_part-requires : goal.put_parts-put_part-requires
