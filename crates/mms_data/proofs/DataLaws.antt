@@ -8,13 +8,13 @@ use Rattle.ber_grammar.specs.Reader.{Gives, GivesOrMemory}
 use Rattle.ber_grammar.specs.Reading.{first_at}
 use Rattle.ber_grammar.specs.Rows.{row_at}
 use Rattle.ber_grammar.proofs.RowLaws.{Goes, Goes-more, Goes-refused}
-use Rattle.sv_base.specs.Tree.{Seen, Row, none, more, structure}
+use Rattle.sv_base.specs.Tree.{Seen, Row, more, structure}
 use Rattle.sv_base.specs.Seen.{seen_of, row_of}
 use Rattle.sv_base.specs.declared.value.Value.{Value}
 use Rattle.mms_data.specs.declared.fault.DataFault.{DataFault}
 use Rattle.mms_data.specs.declared.fault.DataFault.TheVariants.{Tag, Length, Depth, Memory}
 use Rattle.mms_data.specs.Grammar.{is_context}
-use Rattle.mms_data.specs.Reading.{fault_of, malformed, packed, plain_at, struct_at, data_at}
+use Rattle.mms_data.specs.Reading.{fault_of, malformed, in_row, plain_at, struct_at, data_at}
 
 pub gives_or_memory : {X Y : Type 0} (view : X → Y) (r : Result X DataFault) (read : Result Y DataFault) → Gives view r read → GivesOrMemory fault_of view r read
 gives_or_memory view (Ok x) read g = g
@@ -43,12 +43,12 @@ unfolding data_at
 data_at-plain zero e p h t = absurd (omega (arith, p))
 data_at-plain (suc n) e p h t = rw (h, t) refl
 
-pub packed-seen : (vs : List Value) → packed (map seen_of vs) ≡ row_of vs
-packed-seen [] = refl
-packed-seen (v ∷ vs) = ap (λ (r : Row). more (seen_of v) r) (packed-seen vs)
+pub in_row-seen : (vs : List Value) → in_row (map seen_of vs) ≡ row_of vs
+in_row-seen [] = refl
+in_row-seen (v ∷ vs) = ap (λ (r : Row). more (seen_of v) r) (in_row-seen vs)
 
 pub struct_at-ok : (read : Element → Result Seen DataFault) (content : List ℕ) (vs : List Value) (r : Row) → row_at read malformed content ≡ Ok (map seen_of vs) → r ≡ row_of vs → struct_at read content ≡ Ok (structure r)
-struct_at-ok read content vs r h is = rw h (ap (λ (x : Row). Ok (structure x)) (packed-seen vs ∙ sym is))
+struct_at-ok read content vs r h is = rw h (ap (λ (x : Row). Ok (structure x)) (in_row-seen vs ∙ sym is))
 
 -- the loop over the parts
 module _ (read : Element → Result Seen DataFault) where

@@ -22,9 +22,9 @@ use Rattle.ber_grammar.proofs.RowLaws.{AllRead, StopsAt, RowTells, row_tells, ro
 use Rattle.sv_base.specs.Tree.{Plain, Seen, Row, plain, structure, none, more, truth, int, uint, bits, time, stamp, text, octets, other}
 use Rattle.sv_base.specs.Depth.{depth_seen, depth_row}
 use Rattle.mms_data.specs.declared.fault.DataFault.{DataFault}
-use Rattle.mms_data.specs.declared.fault.DataFault.TheVariants.{Tag, Length, Depth, Memory}
-use Rattle.mms_data.specs.Grammar.{is_context, is_kind, IsStamp, IsTime, IsPlain, IsData, AreData, IsWithin, IsRefusedData, IsSpelled, IsDataRefused}
-use Rattle.mms_data.specs.Reading.{malformed, no_element, truth_at, bit_string_at, integer_at, unsigned_at, string_at, stamp_at, time_at, plain_at, packed, struct_at, data_at, read_at}
+use Rattle.mms_data.specs.declared.fault.DataFault.TheVariants.{Tag, Length, Depth}
+use Rattle.mms_data.specs.Grammar.{is_context, is_kind, IsPlain, IsData, AreData, IsWithin, IsRefusedData, IsSpelled, IsDataRefused}
+use Rattle.mms_data.specs.Reading.{malformed, no_element, truth_at, bit_string_at, integer_at, unsigned_at, string_at, stamp_at, time_at, plain_at, in_row, struct_at, data_at, read_at}
 use Rattle.mms_data.proofs.DataLaws.{data_at-outside, data_at-deep, data_at-struct, data_at-plain}
 
 -- ---- plain values
@@ -160,7 +160,7 @@ Below n = (e : Element) → IsBytes e.content → DataTells n e (data_at n e)
 told : (n : ℕ) (e : Element) (r : Result Seen DataFault) → Below n → IsBytes e.content → data_at n e ≡ r → DataTells n e r
 told n e r ih fits h = subst (λ (r : Result Seen DataFault). DataTells n e r) h (ih e fits)
 
-parts_told : (n : ℕ) (content : List ℕ) (es : List Element) (ss : List Seen) → Below n → IsBytes content → IsRow content es → AllRead (data_at n) malformed es ss → AreData (packed ss) es × (depth_row (packed ss) ≤ n)
+parts_told : (n : ℕ) (content : List ℕ) (es : List Element) (ss : List Seen) → Below n → IsBytes content → IsRow content es → AllRead (data_at n) malformed es ss → AreData (in_row ss) es × (depth_row (in_row ss) ≤ n)
 parts_told n content [] [] ih fits row all = (tt, omega arith)
 parts_told n content [] (s ∷ ss) ih fits row all = absurd all
 parts_told n content (e ∷ es) [] ih fits row all = absurd all
@@ -178,14 +178,14 @@ stops n rest f ih fits (inr (d, after, first, this)) =
     inr (d, after, b, told n d (Err f) ih (Begins-bytes rest d after fits b).0 this)
 
 struct_tells : (n : ℕ) (e : Element) (r : Result (List Seen) DataFault) → Below n → IsBytes e.content → is_context e.tag ≡ true → e.tag ≡ 162 → RowTells (data_at n) malformed e.content r
-    → DataTells (suc n) e (r >>= λ ss. Ok (structure (packed ss)))
+    → DataTells (suc n) e (r >>= λ ss. Ok (structure (in_row ss)))
 struct_tells n e (Ok ss) ih fits context tag (es, row, all) =
     let told = parts_told n e.content es ss ih fits row all in
     ((tag, es, row, told.0), omega (arith, told.1))
 struct_tells n e (Err f) ih fits context tag (es, ss, front, rest, row, all, p, some, stop) =
     let whole : IsBytes (front ++ rest) = subst IsBytes p fits in
     let told = parts_told n front es ss ih (IsBytes-front front rest whole) row all in
-    inr (context, inr (tag, (es, packed ss, front, rest, row, told.0, told.1, p, some, stops n rest f ih (IsBytes-back front rest whole) stop)))
+    inr (context, inr (tag, (es, in_row ss, front, rest, row, told.0, told.1, p, some, stops n rest f ih (IsBytes-back front rest whole) stop)))
 
 plain_never : (e : Element) (s : Seen) (f : DataFault) → IsBytes e.content → plain_at e ≡ Err f → (e.tag ≡ 162 → ⊥) → IsData s e → ⊥
 plain_never e (plain p) f fits same ne is = let again = plain_again e p fits is in cc
@@ -208,13 +208,13 @@ data_tells (suc n) e fits =
 
 -- ---- what is a value is read
 
-abbrev unpacked : Row → List Seen
-unpacked none = []
-unpacked (more s r) = s ∷ unpacked r
+abbrev from_row : Row → List Seen
+from_row none = []
+from_row (more s r) = s ∷ from_row r
 
-packed-unpacked : (r : Row) → packed (unpacked r) ≡ r
-packed-unpacked none = refl
-packed-unpacked (more s r) = ap (λ (x : Row). more s x) (packed-unpacked r)
+in_row-from_row : (r : Row) → in_row (from_row r) ≡ r
+in_row-from_row none = refl
+in_row-from_row (more s r) = ap (λ (x : Row). more s x) (in_row-from_row r)
 
 depth_some : (s : Seen) → 1 ≤ depth_seen s
 depth_some (plain p) = omega arith
@@ -235,7 +235,7 @@ plain_context e other h = h.0
 abbrev Again : ℕ → Type 0
 Again n = (e : Element) (s : Seen) → IsBytes e.content → IsWithin n e s → data_at n e ≡ Ok s
 
-parts_again : (n : ℕ) (content : List ℕ) (es : List Element) (r : Row) → Again n → IsBytes content → IsRow content es → AreData r es → depth_row r ≤ n → AllRead (data_at n) malformed es (unpacked r)
+parts_again : (n : ℕ) (content : List ℕ) (es : List Element) (r : Row) → Again n → IsBytes content → IsRow content es → AreData r es → depth_row r ≤ n → AllRead (data_at n) malformed es (from_row r)
 parts_again n content [] none ih fits row are le = tt
 parts_again n content (e ∷ es) none ih fits row are le = absurd are
 parts_again n content [] (more s r) ih fits row are le = absurd are
@@ -247,9 +247,9 @@ level_again : (n : ℕ) (e : Element) (s : Seen) → Again n → IsBytes e.conte
 level_again n e (structure r) ih fits h =
     let tag = h.0.0 in
     let all = parts_again n e.content h.0.1 r ih fits h.0.2 h.0.3 (omega (arith, h.1)) in
-    let read : row_at (data_at n) malformed e.content ≡ Ok (unpacked r) = row_again (data_at n) malformed e.content h.0.1 (unpacked r) h.0.2 all in
+    let read : row_at (data_at n) malformed e.content ≡ Ok (from_row r) = row_again (data_at n) malformed e.content h.0.1 (from_row r) h.0.2 all in
     data_at-struct (suc n) e (omega arith) (rw tag refl) tag
-    ∙ (let k : suc n - 1 ≡ n = omega arith in rw (k, read, packed-unpacked r) refl)
+    ∙ (let k : suc n - 1 ≡ n = omega arith in rw (k, read, in_row-from_row r) refl)
 level_again n e (plain p) ih fits h = data_at-plain (suc n) e (omega arith) (plain_context e p h.0) (ne_eqb e.tag 162 (λ q. plain_tag e p h.0 q)) ∙ plain_again e p fits h.0
 
 pub data_again : (n : ℕ) (e : Element) (s : Seen) → IsBytes e.content → IsWithin n e s → data_at n e ≡ Ok s
@@ -277,7 +277,7 @@ refused_again (suc n) e f fits (inr (context, inl (ne, same, never))) =
 refused_again (suc n) e f fits (inr (context, inr (tag, (es, r, front, rest, row, are, le, p, some, stop)))) =
     let whole : IsBytes (front ++ rest) = subst IsBytes p fits in
     let all = parts_again n front es r (data_again n) (IsBytes-front front rest whole) row are le in
-    let read : row_at (data_at n) malformed e.content ≡ Err f = row_refused (data_at n) malformed e.content f es (unpacked r) front rest row all p some (stops_again n rest f (refused_again n) (IsBytes-back front rest whole) stop) in
+    let read : row_at (data_at n) malformed e.content ≡ Err f = row_refused (data_at n) malformed e.content f es (from_row r) front rest row all p some (stops_again n rest f (refused_again n) (IsBytes-back front rest whole) stop) in
     data_at-struct (suc n) e (omega arith) context tag ∙ (let k : suc n - 1 ≡ n = omega arith in rw (k, read) refl)
 
 -- ---- all of the octets

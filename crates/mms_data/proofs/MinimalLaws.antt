@@ -1,11 +1,11 @@
 -- The octets that ber_write writes are those of sv_base's definition of Data.
-use Rattle.std.proofs.Common.{◌≡◌, ◌≢◌, ℕ, ◌+◌, ◌-◌, ◌*◌, ◌/◌, ◌%◌, ◌^◌, ◌<◌, ◌≤◌, Bool, true, false, ◌||◌, ◌&&◌, cond, eqb, ltb, leb, List, [], ◌∷◌, ◌++◌, length, drop, Result, Ok, Err, refl, sym, ap, ap₂, ◌∙◌, arith}
+use Rattle.std.proofs.Common.{◌≡◌, ◌≢◌, ℕ, ◌+◌, ◌-◌, ◌*◌, ◌/◌, ◌%◌, ◌^◌, ◌<◌, ◌≤◌, Bool, ◌||◌, ◌&&◌, cond, eqb, ltb, List, [], ◌∷◌, ◌++◌, length, drop, Result, Ok, Err, refl, sym, ap, ap₂, ◌∙◌, arith}
 use Rattle.std.specs.Prelude.{ℤ, pos, negsuc, OnOk}
 use lib.Signed.{mag}
 use Rattle.std.specs.Int.{w32, w64, to_be_bytes, cast_unsigned}
 use Rattle.std.proofs.lemmas.Bool.{lt-ltb, le-ltb, le-leb, ltb-true, ltb-false, eq-eqb, ne_eqb, cond_both}
-use Rattle.ber_write.specs.Minimal.{length_octets, octets_of, is_spare, strip, strip_from, int_octets, uint_octets, nine_octets, IsWord}
-use Rattle.ber_write.specs.BitString.{octet, weigh, packed as packed_octets, bit_octets}
+use Rattle.ber_write.specs.Minimal.{length_octets, octets_of, is_spare, strip, int_octets, uint_octets, IsWord}
+use Rattle.ber_write.specs.BitString.{packed as packed_octets, bit_octets}
 use Rattle.ber_write.proofs.NumberLaws.{length-int_octets, length-uint_octets}
 use Rattle.ber_write.proofs.BitLaws.{length_of_bit_octets}
 use Rattle.sv_base.specs.Data.{without_zeros, length_field, element, shortest, packed, data_plain}

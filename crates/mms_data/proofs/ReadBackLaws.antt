@@ -1,5 +1,5 @@
 -- What is written is read back.
-use Rattle.std.proofs.Common.{◌≡◌, ℕ, ◌+◌, ◌*◌, ◌/◌, ◌%◌, ◌^◌, ◌<◌, ◌≤◌, max, Bool, true, false, List, [], ◌∷◌, ◌++◌, length, Ok, refl, sym, ap, subst, ◌∙◌, arith}
+use Rattle.std.proofs.Common.{◌≡◌, ℕ, ◌/◌, ◌%◌, ◌^◌, ◌<◌, ◌≤◌, max, Bool, true, false, List, [], ◌∷◌, ◌++◌, length, refl, sym, subst, ◌∙◌, arith}
 use Rattle.std.specs.Prelude.{if◌then◌else◌}
 use Rattle.std.specs.Int.{w16, w32, to_be_bytes}
 use Rattle.std.proofs.lemmas.Nat.{from_be_bytes-to_be_bytes_2, from_be_bytes-to_be_bytes_4}
@@ -16,8 +16,7 @@ use Rattle.sv_base.specs.Tree.{Plain, Seen, Row, plain, structure, none, more, t
 use Rattle.sv_base.specs.Data.{element, data_plain, data_seen, data_row}
 use Rattle.sv_base.specs.Depth.{depth_seen, IsNotOther, SeenHasNoOther, RowHasNoOther}
 use Rattle.mms_data.specs.declared.fault.DataFault.{DataFault}
-use Rattle.mms_data.specs.Grammar.{IsStamp, IsTime, IsPlain, IsData, AreData, IsWithin, IsSpelled}
-use Rattle.mms_data.specs.Reading.{data_at}
+use Rattle.mms_data.specs.Grammar.{IsPlain, IsData, AreData, IsWithin, IsSpelled}
 use Rattle.mms_data.specs.Writable.{FitsPlain, FitsSeen, FitsRow, IsOfTypes, SeenIsOfTypes, RowIsOfTypes}
 use Rattle.mms_data.proofs.MinimalLaws.{octets-element, bits_written, word_written, uint_written}
 use Rattle.mms_data.proofs.GrammarLaws.{data_again}

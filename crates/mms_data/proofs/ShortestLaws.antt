@@ -1,5 +1,5 @@
 -- No spelling of a value is shorter than the one that is written.
-use Rattle.std.proofs.Common.{◌≡◌, ℕ, ◌+◌, ◌-◌, ◌*◌, ◌/◌, ◌%◌, ◌^◌, ◌<◌, ◌≤◌, cond, ltb, Bool, true, false, List, [], ◌∷◌, ◌++◌, length, refl, sym, ap, subst, ◌∙◌, inl, inr, arith}
+use Rattle.std.proofs.Common.{◌≡◌, ℕ, ◌+◌, ◌-◌, ◌*◌, ◌/◌, ◌%◌, ◌^◌, ◌<◌, ◌≤◌, cond, ltb, Bool, List, [], ◌∷◌, ◌++◌, length, ap, subst, ◌∙◌, inl, inr, arith}
 use Rattle.std.specs.Prelude.{ℤ, pos, negsuc, if◌then◌else◌}
 use Rattle.std.specs.Int.{w16, w32, to_be_bytes}
 use Rattle.std.proofs.lemmas.Bool.{ltb-true, ltb-false, cond_both, cases_lt}
@@ -11,11 +11,10 @@ use Rattle.ber_grammar.proofs.OctetLaws.{IsBytes-front, IsBytes-back, Spells-byt
 use Rattle.ber_write.specs.Minimal.{tag_octets, length_octets, octets_of, IsWord, int_octets, uint_octets}
 use Rattle.ber_write.specs.BitString.{bit_octets}
 use Rattle.ber_write.proofs.ElementLaws.{is_minimal}
-use Rattle.ber_write.proofs.NumberLaws.{length-int_octets, length-uint_octets}
 use Rattle.ber_write.proofs.BitLaws.{bits_as_long, length_of_bit_octets}
 use Rattle.ber_write.proofs.ShortestLaws.{int_shortest, uint_shortest}
 use Rattle.sv_base.specs.Tree.{Plain, Seen, Row, plain, structure, none, more, truth, int, uint, bits, time, stamp, text, octets, other}
-use Rattle.sv_base.specs.Data.{element, data_plain, data_seen, data_row}
+use Rattle.sv_base.specs.Data.{data_plain, data_seen, data_row}
 use Rattle.sv_base.specs.Depth.{IsNotOther, SeenHasNoOther, RowHasNoOther}
 use Rattle.mms_data.specs.Grammar.{IsPlain, IsData, AreData}
 use Rattle.mms_data.proofs.MinimalLaws.{octets-element, bits_written, word_written, uint_written}

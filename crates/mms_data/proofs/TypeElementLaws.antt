@@ -1,5 +1,5 @@
 -- The octets of a type are one element.
-use Rattle.std.proofs.Common.{◌≡◌, ℕ, zero, suc, ◌<◌, ◌≤◌, ◌^◌, List, [], ◌∷◌, ◌++◌, length, refl, arith}
+use Rattle.std.proofs.Common.{ℕ, List, [], ◌∷◌, ◌++◌, refl, arith}
 use Rattle.std.specs.Prelude.{pos}
 use Rattle.ber_grammar.specs.Element.{Element, Spells, Begins}
 use Rattle.ber_write.specs.Minimal.{octets_of, int_octets, uint_octets}

@@ -2,7 +2,7 @@
 use Rattle.std.proofs.Common.{◌≡◌, ℕ, ◌+◌, zero, suc, ◌<◌, ◌≤◌, List, [], ◌∷◌, ◌++◌, length, take, get_or, refl, sym, ap, subst, ◌∙◌, append_assoc, arith}
 use denote.Param.Weighed.{most}
 use Rattle.std.proofs.lemmas.List.{append-nil, length-append, take_at, take-take}
-use Rattle.sv_base.specs.Seen.{seen_of, row_of}
+use Rattle.sv_base.specs.Seen.{row_of}
 use Rattle.sv_base.specs.Data.{data_of, data_row}
 use Rattle.sv_base.specs.Depth.{HasNoOther, RowHasNoOther}
 use Rattle.sv_base.specs.declared.value.Values.TheDeep.{size-Value}

@@ -6,7 +6,7 @@ use Rattle.ber_grammar.specs.Element.{Element}
 use Rattle.ber_grammar.specs.Reader.{◌>>=◌, with_fault}
 use Rattle.ber_grammar.specs.Reading.{first_at, boolean_at, int_at, uint_at, text_at, bits_at}
 use Rattle.ber_grammar.specs.Rows.{row_at}
-use Rattle.sv_base.specs.Tree.{Plain, Seen, Row, plain, structure, none, more, truth, int, uint, bits, time, stamp, text, octets, other}
+use Rattle.sv_base.specs.Tree.{Seen, Row, plain, structure, none, more, truth, int, uint, bits, time, stamp, text, octets, other}
 use Rattle.mms_data.specs.declared.fault.DataFault.{DataFault}
 use Rattle.mms_data.specs.declared.fault.DataFault.TheVariants.{Tag, Length, Depth, Memory}
 use Rattle.mms_data.specs.Grammar.{is_context}
@@ -60,13 +60,13 @@ plain_at e =
     else Ok (plain other)
 
 -- the row of these
-abbrev pub packed : List Seen → Row
-packed [] = none
-packed (s ∷ ss) = more s (packed ss)
+abbrev pub in_row : List Seen → Row
+in_row [] = none
+in_row (s ∷ ss) = more s (in_row ss)
 
 -- a structure whose parts are read so
 abbrev pub struct_at : (Element → Result Seen DataFault) → List ℕ → Result Seen DataFault
-struct_at read content = row_at read malformed content >>= λ ss. Ok (structure (packed ss))
+struct_at read content = row_at read malformed content >>= λ ss. Ok (structure (in_row ss))
 
 -- an element, at most so deep
 unfoldable pub data_at : ℕ → Element → Result Seen DataFault

@@ -1,5 +1,5 @@
 -- What the writer of Data asks of a value, and what makes a value one that can be read again.
-use Rattle.std.specs.Prelude.{ℕ, ◌-◌, ◌*◌, ◌^◌, ◌<◌, ◌≤◌, List, length, slice_index}
+use Rattle.std.specs.Prelude.{ℕ, ◌-◌, ◌*◌, ◌^◌, ◌<◌, ◌≤◌, length, slice_index}
 use Rattle.ber_grammar.specs.Content.{IsVisible}
 use Rattle.ber_write.specs.Minimal.{IsWord}
 use Rattle.sv_base.specs.Tree.{Plain, Seen, Row, plain, structure, none, more, truth, int, uint, bits, time, stamp, text, octets, other}

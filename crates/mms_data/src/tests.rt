@@ -57,38 +57,39 @@ const UNIVERSAL_DEEP: [u8; 22] = [
     4, 0xa2, 2, 0x05, 0,
 ];
 
+const REFUSALS: [(&[u8], DataFault); 25] = [
+    (&[0x83, 2, 0xff, 0xff], DataFault::Length),
+    (&[0x83, 0], DataFault::Length),
+    (&[0x02, 1, 5], DataFault::Tag),
+    (&[0x85, 1, 5, 0], DataFault::Tag),
+    (&[], DataFault::Tag),
+    (&[0x85, 2, 5], DataFault::Tag),
+    (&[0x85, 0x80, 0, 0], DataFault::Tag),
+    (&[0x1f, 0x85, 0], DataFault::Tag),
+    (&[0xff, 0x85, 0, 0], DataFault::Tag),
+    (&[0x85, 0], DataFault::Length),
+    (&[0x85, 10, 0, 0, 0, 0, 0, 0, 0, 0, 0, 1], DataFault::Length),
+    (&[0x85, 9, 0, 0x80, 0, 0, 0, 0, 0, 0, 0], DataFault::Length),
+    (&[0x86, 1, 0xff], DataFault::Length),
+    (&[0x84, 0], DataFault::Length),
+    (&[0x84, 2, 8, 0], DataFault::Length),
+    (&[0x84, 1, 1], DataFault::Length),
+    (&[0x8a, 1, 0x7f], DataFault::Length),
+    (&[0x8c, 4, 0, 0, 0, 0], DataFault::Length),
+    (&[0x8c, 5, 0, 0, 0, 0, 0], DataFault::Length),
+    (&[0x91, 7, 0, 0, 0, 0, 0, 0, 0], DataFault::Length),
+    // a part that is no whole element, and one outside the class
+    (&[0xa2, 2, 0x85, 1], DataFault::Length),
+    (&[0xa2, 3, 0x02, 1, 5], DataFault::Tag),
+    // the first of two
+    (&[0xa2, 5, 0x83, 0, 0x02, 1, 5], DataFault::Length),
+    (&ELEVEN, DataFault::Depth),
+    (&UNIVERSAL_DEEP, DataFault::Tag),
+];
+
 #[test]
 fn refusals(rt: HostRuntime) {
-    let table: [(&[u8], DataFault); 25] = [
-        (&[0x83, 2, 0xff, 0xff], DataFault::Length),
-        (&[0x83, 0], DataFault::Length),
-        (&[0x02, 1, 5], DataFault::Tag),
-        (&[0x85, 1, 5, 0], DataFault::Tag),
-        (&[], DataFault::Tag),
-        (&[0x85, 2, 5], DataFault::Tag),
-        (&[0x85, 0x80, 0, 0], DataFault::Tag),
-        (&[0x1f, 0x85, 0], DataFault::Tag),
-        (&[0xff, 0x85, 0, 0], DataFault::Tag),
-        (&[0x85, 0], DataFault::Length),
-        (&[0x85, 10, 0, 0, 0, 0, 0, 0, 0, 0, 0, 1], DataFault::Length),
-        (&[0x85, 9, 0, 0x80, 0, 0, 0, 0, 0, 0, 0], DataFault::Length),
-        (&[0x86, 1, 0xff], DataFault::Length),
-        (&[0x84, 0], DataFault::Length),
-        (&[0x84, 2, 8, 0], DataFault::Length),
-        (&[0x84, 1, 1], DataFault::Length),
-        (&[0x8a, 1, 0x7f], DataFault::Length),
-        (&[0x8c, 4, 0, 0, 0, 0], DataFault::Length),
-        (&[0x8c, 5, 0, 0, 0, 0, 0], DataFault::Length),
-        (&[0x91, 7, 0, 0, 0, 0, 0, 0, 0], DataFault::Length),
-        // a part that is no whole element, and one outside the class
-        (&[0xa2, 2, 0x85, 1], DataFault::Length),
-        (&[0xa2, 3, 0x02, 1, 5], DataFault::Tag),
-        // the first of two
-        (&[0xa2, 5, 0x83, 0, 0x02, 1, 5], DataFault::Length),
-        (&ELEVEN, DataFault::Depth),
-        (&UNIVERSAL_DEEP, DataFault::Tag),
-    ];
-    for (octets, fault) in table {
+    for (octets, fault) in REFUSALS {
         assert_eq!(rt;
             read_data(rt.alloc(), octets).err(),
             Some(fault),
@@ -98,68 +99,69 @@ fn refusals(rt: HostRuntime) {
     assert!(rt; read_data(rt.alloc(), &NESTED).is_ok());
 }
 
+const READINGS: [(&[u8], &str); 22] = [
+    (&[0x83, 1, 0], "Bool(false)"),
+    (&[0x83, 1, 0xff], "Bool(true)"),
+    (&[0x83, 1, 0x01], "Bool(true)"),
+    // a length and a number longer than needed
+    (&[0x85, 0x84, 0, 0, 0, 2, 1, 0x2c], "Int(300)"),
+    (
+        &[
+            0x85, 9, 0xff, 0xff, 0xff, 0xff, 0xff, 0xff, 0xff, 0xff, 0xfe,
+        ],
+        "Int(-2)",
+    ),
+    (
+        &[0x86, 9, 0, 0xff, 0xff, 0xff, 0xff, 0xff, 0xff, 0xff, 0xff],
+        "Uint(18446744073709551615)",
+    ),
+    (
+        &[0x91, 8, 0, 0, 0, 1, 0x80, 0, 0, 0x0a],
+        "Time(Utc { secs: 1, frac: 8388608, quality: 10 })",
+    ),
+    // other tags of the class
+    (&[0xa1, 3, 0x02, 1, 5], "Other"),
+    (&[0x87, 5, 8, 0, 0, 0, 0], "Other"),
+    (&[0x90, 0], "Other"),
+    (&[0xbf, 0x4d, 1, 0], "Other"),
+    (&[0x82, 0], "Other"),
+    // the results of a report: RptID, OptFlds, SqNum, TimeofEntry, BufOvfl, EntryID, ConfRev, inclusion, value, reason
+    (
+        &[0x8a, 3, 0x45, 0x76, 0x31],
+        "Text(Octs { octets: [69, 118, 49] })",
+    ),
+    (
+        &[0x84, 3, 6, 0x73, 0x80],
+        "Bits(Bits { bits: [false, true, true, true, false, false, true, true, true, false] })",
+    ),
+    (&[0x86, 1, 0], "Uint(0)"),
+    (
+        &[0x8c, 6, 0, 0, 0, 0x0a, 0, 0],
+        "Stamp(Stamp { ms: 10, days: 0 })",
+    ),
+    (
+        &[0x89, 8, 0, 0, 0, 0, 0, 0, 0, 1],
+        "Octets(Octs { octets: [0, 0, 0, 0, 0, 0, 0, 1] })",
+    ),
+    (&[0x86, 1, 1], "Uint(1)"),
+    (
+        &[0x84, 2, 5, 0x20],
+        "Bits(Bits { bits: [false, false, true] })",
+    ),
+    (&[0x85, 1, 5], "Int(5)"),
+    (
+        &[0x84, 2, 1, 0x40],
+        "Bits(Bits { bits: [false, true, false, false, false, false, false] })",
+    ),
+    (
+        &[0xa2, 5, 0x85, 1, 2, 0x89, 0],
+        "Struct(Values { items: [Int(2), Octets(Octs { octets: [] })] })",
+    ),
+];
+
 #[test]
 fn readings(rt: HostRuntime) -> Result<(), Fail> {
-    let table: [(&[u8], &str); 22] = [
-        (&[0x83, 1, 0], "Bool(false)"),
-        (&[0x83, 1, 0xff], "Bool(true)"),
-        (&[0x83, 1, 0x01], "Bool(true)"),
-        // a length and a number longer than needed
-        (&[0x85, 0x84, 0, 0, 0, 2, 1, 0x2c], "Int(300)"),
-        (
-            &[
-                0x85, 9, 0xff, 0xff, 0xff, 0xff, 0xff, 0xff, 0xff, 0xff, 0xfe,
-            ],
-            "Int(-2)",
-        ),
-        (
-            &[0x86, 9, 0, 0xff, 0xff, 0xff, 0xff, 0xff, 0xff, 0xff, 0xff],
-            "Uint(18446744073709551615)",
-        ),
-        (
-            &[0x91, 8, 0, 0, 0, 1, 0x80, 0, 0, 0x0a],
-            "Time(Utc { secs: 1, frac: 8388608, quality: 10 })",
-        ),
-        // other tags of the class
-        (&[0xa1, 3, 0x02, 1, 5], "Other"),
-        (&[0x87, 5, 8, 0, 0, 0, 0], "Other"),
-        (&[0x90, 0], "Other"),
-        (&[0xbf, 0x4d, 1, 0], "Other"),
-        (&[0x82, 0], "Other"),
-        // the results of a report: RptID, OptFlds, SqNum, TimeofEntry, BufOvfl, EntryID, ConfRev, inclusion, value, reason
-        (
-            &[0x8a, 3, 0x45, 0x76, 0x31],
-            "Text(Octs { octets: [69, 118, 49] })",
-        ),
-        (
-            &[0x84, 3, 6, 0x73, 0x80],
-            "Bits(Bits { bits: [false, true, true, true, false, false, true, true, true, false] })",
-        ),
-        (&[0x86, 1, 0], "Uint(0)"),
-        (
-            &[0x8c, 6, 0, 0, 0, 0x0a, 0, 0],
-            "Stamp(Stamp { ms: 10, days: 0 })",
-        ),
-        (
-            &[0x89, 8, 0, 0, 0, 0, 0, 0, 0, 1],
-            "Octets(Octs { octets: [0, 0, 0, 0, 0, 0, 0, 1] })",
-        ),
-        (&[0x86, 1, 1], "Uint(1)"),
-        (
-            &[0x84, 2, 5, 0x20],
-            "Bits(Bits { bits: [false, false, true] })",
-        ),
-        (&[0x85, 1, 5], "Int(5)"),
-        (
-            &[0x84, 2, 1, 0x40],
-            "Bits(Bits { bits: [false, true, false, false, false, false, false] })",
-        ),
-        (
-            &[0xa2, 5, 0x85, 1, 2, 0x89, 0],
-            "Struct(Values { items: [Int(2), Octets(Octs { octets: [] })] })",
-        ),
-    ];
-    for (octets, want) in table {
+    for (octets, want) in READINGS {
         let value = read_data(rt.alloc(), octets);
         let text = format!(in rt.alloc(); "{value:?}")?;
         let want = format!(in rt.alloc(); "Ok({want})")?;
