@@ -122,12 +122,14 @@ fn put_parts(parts: &[Part1], out: &mut Vec<u8>) -> Result<(), AllocError>
 /// count of bits, a text and an octet string by the greatest length with its sign turned round, an EntryID as an octet
 /// string of 8, a structure by the names and types of its components.
 ///
-/// Without memory `out` stays as it was.
+/// Without memory `out` stays as it was; so it does where the type has 4294967295 octets or more.
 pub fn write_type(kind: &TypeOf, out: &mut Vec<u8>) -> Result<(), AllocError>
-    requires { FitsType kind.now }
     ensures ok { OnOk result (out.new.items ≡ out.old.items ++ type_of kind.now) }
     ensures err { OnErr result (out.new.items ≡ out.old.items) }
 {
+    if type_len(kind) == u32::MAX {
+        return Err(AllocError);
+    }
     let before = out.len();
     let done = put_type(kind, out);
     if done.is_err() {

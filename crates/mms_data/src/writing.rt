@@ -1,10 +1,10 @@
 ghost use Rattle.std.specs.Prelude.{◌≡◌, ◌+◌, ◌<◌, ◌≤◌, ◌-◌, ◌*◌, ◌^◌, ◌++◌, length, take, min, OnOk, OnErr};
 ghost use Rattle.ber_write.specs.Minimal.{CanBeTag};
 ghost use Rattle.sv_base.specs.Tree.{int as int_of, uint as uint_of, bits as bits_of, time as time_of, stamp as stamp_of};
-ghost use Rattle.sv_base.specs.Seen.{row_of};
+ghost use Rattle.sv_base.specs.Seen.{row_of, seen_of};
 ghost use Rattle.sv_base.specs.Data.{element, data_plain, data_of, data_row};
 ghost use Rattle.sv_base.specs.Depth.{depth, HasNoOther, RowHasNoOther};
-ghost use Rattle.mms_data.specs.Writable.{Fits, FitsRow};
+ghost use Rattle.mms_data.specs.Writable.{Fits, FitsRow, SeenHasFractions};
 
 use ber_write::{put, put_bits, put_head, put_int, put_uint};
 use std::alloc::AllocError;
@@ -116,16 +116,20 @@ fn put_row(values: &[Value], out: &mut Vec<u8>) -> Result<(), AllocError>
 }
 
 /// Adds the Data of a value in its one minimal spelling (ISO 9506-2, Data; X.690, 8.1.3 and 8.3.2). Unused bits of a bit
-/// string are written as 0, true as FF.
+/// string are written as 0, true as FF. The value has no `Other` in it, is at most ten deep, and a fraction of a second
+/// in it is below 2^24.
 ///
-/// Without memory `out` stays as it was.
+/// Without memory `out` stays as it was; so it does where the Data has 4294967295 octets or more.
 pub fn write_data(value: &Value, out: &mut Vec<u8>) -> Result<(), AllocError>
     requires no_other { HasNoOther value.now }
     requires depth { depth value.now ≤ 10 }
-    requires fits { Fits value.now }
+    requires fractions { SeenHasFractions (seen_of value.now) }
     ensures ok { OnOk result (out.new.items ≡ out.old.items ++ data_of value.now) }
     ensures err { OnErr result (out.new.items ≡ out.old.items) }
 {
+    if data_len(value) == u32::MAX {
+        return Err(AllocError);
+    }
     let before = out.len();
     let done = put_value(value, out);
     if done.is_err() {
