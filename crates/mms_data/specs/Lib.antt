@@ -1,0 +1,4 @@
+pub mod Grammar
+pub mod Reading
+pub mod Writable
+pub mod TypeOctets

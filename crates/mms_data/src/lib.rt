@@ -1,0 +1,21 @@
+//! MMS Data and types (ISO 9506-2, Data and TypeDescription; encoded by ITU-T X.690).
+//!
+//! [`read_data`] reads the one element that octets are, however long its lengths and numbers are spelled; [`write_data`]
+//! adds the minimal spelling of a value, and [`write_type`] that of a type. The laws are functions that run nothing.
+#![tactic(auto)]
+
+mod content;
+mod fault;
+mod laws;
+mod reading;
+mod type_writing;
+mod writing;
+
+pub use fault::DataFault;
+pub use laws::{data_is_minimal, data_is_read_back, short_ones_fit, types_are_elements};
+pub use reading::read_data;
+pub use type_writing::write_type;
+pub use writing::write_data;
+
+#[cfg(test)]
+mod tests;
