@@ -1,0 +1,5 @@
+pub mod Octets
+pub mod Packet
+pub mod Parameters
+pub mod Tpdu
+pub mod Stream
