@@ -1,3 +1,4 @@
 pub mod PacketLaws
 pub mod ParameterLaws
 pub mod StreamLaws
+pub mod WrittenLaws

@@ -3,3 +3,4 @@ pub mod Packet
 pub mod Parameters
 pub mod Tpdu
 pub mod Stream
+pub mod Written

@@ -12,9 +12,13 @@ mod parameters;
 mod state;
 mod transport;
 mod tsdus;
+mod writing;
 
 // What is read.
 pub use fault::TpFault;
 pub use transport::TransportIn;
 pub use tsdus::{Cr, Tsdu, Tsdus};
+
+// What is written.
+pub use writing::{call, confirm, tsdu};
 
