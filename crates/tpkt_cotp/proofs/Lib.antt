@@ -1,4 +1,5 @@
 pub mod PacketLaws
 pub mod ParameterLaws
 pub mod StreamLaws
+pub mod TpduLaws
 pub mod WrittenLaws

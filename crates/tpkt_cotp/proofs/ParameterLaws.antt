@@ -130,7 +130,7 @@ first_none None = refl
 abbrev pub unsaid : ℕ → Cr
 unsaid src = record { src = src; size = None; calling = None; called = None }
 
-over_unsaid : (src : ℕ) (ps : List Parameter) → over (unsaid src) ps ≡ said src ps
+pub over_unsaid : (src : ℕ) (ps : List Parameter) → over (unsaid src) ps ≡ said src ps
 over_unsaid src ps = cr_is src _ _ _ _ _ _ (first_none (exponent_of (last_of 192 ps))) (first_none (last_of 193 ps)) (first_none (last_of 194 ps))
 
 -- ---- one parameter is put
@@ -167,3 +167,95 @@ put_tells cr code value =
 abbrev pub ParametersTell : Cr → List ℕ → Result Cr TpFault → Type 0
 ParametersTell cr octets (Ok next) = (ps : List Parameter) × (octets ≡ flat_map spelled ps) × AllByRecursion IsAllowed ps × (next ≡ over cr ps)
 ParametersTell cr octets (Err f) = (f ≡ Tpdu) × ((ps : List Parameter) → AllByRecursion IsAllowed ps → octets ≢ flat_map spelled ps)
+
+parts : (code len : ℕ) (more : List ℕ) (p : Parameter) (ps : List Parameter) → code ∷ len ∷ more ≡ flat_map spelled (p ∷ ps)
+    → (p ≡ (let q : Parameter = record { code = code; value = take len more } in q)) × (drop len more ≡ flat_map spelled ps) × (len ≤ length more)
+parts code len more p ps e =
+    let whole : code ∷ len ∷ more ≡ p.code ∷ length p.value ∷ (p.value ++ flat_map spelled ps) = e ∙ flat_map-cons spelled p ps in
+    let same_code : code ≡ p.code = cc (whole) in
+    let same_len : len ≡ length p.value = cc (whole) in
+    let same_more : more ≡ p.value ++ flat_map spelled ps = cc (whole) in
+    let value : take len more ≡ p.value = rw (same_more, same_len) (take_at p.value (flat_map spelled ps) (length p.value) refl) in
+    let after : drop len more ≡ flat_map spelled ps = rw (same_more, same_len) (drop_at p.value (flat_map spelled ps) (length p.value) refl) in
+    (rw (value, same_code) refl, after, omega (arith, same_len, ap length same_more, length-append p.value (flat_map spelled ps)))
+
+none_spelled : (code len : ℕ) (more : List ℕ) → code ∷ len ∷ more ≡ flat_map spelled [] → ⊥
+none_spelled code len more e = let long : length (code ∷ len ∷ more) ≡ 0 = ap length e in omega (arith, long)
+
+lone_spelled : (code : ℕ) (ps : List Parameter) → code ∷ [] ≡ flat_map spelled ps → ⊥
+lone_spelled code [] e = let long : length (code ∷ []) ≡ 0 = ap length e in omega (arith, long)
+lone_spelled code (p ∷ ps) e =
+    let long : length (code ∷ []) ≡ length (p.code ∷ length p.value ∷ (p.value ++ flat_map spelled ps)) = ap length (e ∙ flat_map-cons spelled p ps) in omega (arith, long)
+
+short_spelled : (code len : ℕ) (more : List ℕ) → length more < len → (ps : List Parameter) → code ∷ len ∷ more ≡ flat_map spelled ps → ⊥
+short_spelled code len more lt [] e = none_spelled code len more e
+short_spelled code len more lt (p ∷ ps) e = omega (arith, lt, (parts code len more p ps e).2)
+
+bad_spelled : (code len : ℕ) (more : List ℕ) → ¬ IsAllowed (record { code = code; value = take len more }) → (ps : List Parameter) → AllByRecursion IsAllowed ps → code ∷ len ∷ more ≡ flat_map spelled ps → ⊥
+bad_spelled code len more bad [] all e = none_spelled code len more e
+bad_spelled code len more bad (p ∷ ps) all e = bad (subst IsAllowed (parts code len more p ps e).0 all.0)
+
+rest_spelled : (code len : ℕ) (more : List ℕ) → ((ps : List Parameter) → AllByRecursion IsAllowed ps → drop len more ≢ flat_map spelled ps) → (ps : List Parameter) → AllByRecursion IsAllowed ps → code ∷ len ∷ more ≡ flat_map spelled ps → ⊥
+rest_spelled code len more bad [] all e = none_spelled code len more e
+rest_spelled code len more bad (p ∷ ps) all e = bad ps all.1 (parts code len more p ps e).1
+
+-- the first parameter and then what follows it
+then_tells : (cr next : Cr) (code len : ℕ) (more : List ℕ) (r : Result Cr TpFault) → len ≤ length more → next ≡ over_one cr (record { code = code; value = take len more }) → IsAllowed (record { code = code; value = take len more })
+    → ParametersTell next (drop len more) r → ParametersTell cr (code ∷ len ∷ more) r
+then_tells cr next code len more (Ok final) le is allowed (ps, whole, all, says) =
+    let p : Parameter = record { code = code; value = take len more } in
+    let count : len ≡ length (take len more) = omega (arith, length-take len more) in
+    let body : more ≡ take len more ++ flat_map spelled ps = sym (take-append-drop len more) ∙ ap (λ (x : List ℕ). take len more ++ x) whole in
+    (p ∷ ps, ap (λ (n : ℕ). code ∷ n ∷ more) count ∙ ap (λ (x : List ℕ). code ∷ length (take len more) ∷ x) body ∙ sym (flat_map-cons spelled p ps), (allowed, all), says ∙ ap (λ (x : Cr). over x ps) is ∙ over_more cr p ps)
+then_tells cr next code len more (Err f) le is allowed (same, bad) = (same, rest_spelled code len more bad)
+
+bind_tells : (n : ℕ) (cr : Cr) (code len : ℕ) (more : List ℕ) (r : Result Cr TpFault) → len ≤ length more → ((next : Cr) → ParametersTell next (drop len more) (parameters_at n next (drop len more)))
+    → PutTells cr code (take len more) r → ParametersTell cr (code ∷ len ∷ more) (r >>= λ next. parameters_at n next (drop len more))
+bind_tells n cr code len more (Ok next) le rest h = then_tells cr next code len more (parameters_at n next (drop len more)) le h.0 h.1 (rest next)
+bind_tells n cr code len more (Err f) le rest h = (h.0, bad_spelled code len more h.1)
+
+parameters_tell_at : (n : ℕ) (cr : Cr) (octets : List ℕ) → length octets ≤ n → ParametersTell cr octets (parameters_at n cr octets)
+parameters_tell_at zero cr [] le = ([], refl, tt, refl)
+parameters_tell_at zero cr (code ∷ more) le = absurd (omega arith)
+parameters_tell_at (suc n) cr [] le = ([], refl, tt, refl)
+parameters_tell_at (suc n) cr (code ∷ []) le = (refl, λ ps all. lone_spelled code ps)
+parameters_tell_at (suc n) cr (code ∷ len ∷ more) le =
+    cond_both (ltb (length more) len) (Err Tpdu) (put_at cr code (take len more) >>= λ next. parameters_at n next (drop len more)) (λ r. ParametersTell cr (code ∷ len ∷ more) r)
+    (λ e. (refl, λ ps all. short_spelled code len more (ltb-true (length more) len e) ps))
+    (λ e. bind_tells n cr code len more (put_at cr code (take len more)) (ltb-false (length more) len e) (λ next. parameters_tell_at n next (drop len more) (omega (arith, length-drop len more))) (put_tells cr code (take len more)))
+
+pub parameters_tell : (cr : Cr) (octets : List ℕ) → ParametersTell cr octets (parameters_of cr octets)
+unfolding parameters_of
+parameters_tell cr octets = parameters_tell_at (length octets) cr octets (omega arith)
+
+-- octets are one list of parameters
+one_list : (ps qs : List Parameter) → flat_map spelled ps ≡ flat_map spelled qs → ps ≡ qs
+one_list [] [] e = refl
+one_list [] (q ∷ qs) e =
+    let long : 0 ≡ length (q.code ∷ length q.value ∷ (q.value ++ flat_map spelled qs)) = ap length (e ∙ flat_map-cons spelled q qs) in absurd (omega (arith, long))
+one_list (p ∷ ps) [] e =
+    let long : 0 ≡ length (p.code ∷ length p.value ∷ (p.value ++ flat_map spelled ps)) = ap length (sym e ∙ flat_map-cons spelled p ps) in absurd (omega (arith, long))
+one_list (p ∷ ps) (q ∷ qs) e =
+    let cut = parts p.code (length p.value) (p.value ++ flat_map spelled ps) q qs (sym (flat_map-cons spelled p ps) ∙ e) in
+    let value : take (length p.value) (p.value ++ flat_map spelled ps) ≡ p.value = take_at p.value (flat_map spelled ps) (length p.value) refl in
+    let after : drop (length p.value) (p.value ++ flat_map spelled ps) ≡ flat_map spelled ps = drop_at p.value (flat_map spelled ps) (length p.value) refl in
+    let head : q ≡ p = cut.0 ∙ ap (λ (x : List ℕ). let y : Parameter = record { code = p.code; value = x } in y) value in
+    let tail : ps ≡ qs = one_list ps qs (sym after ∙ cut.1) in
+    ap (λ (x : Parameter). x ∷ ps) (sym head) ∙ ap (λ (x : List Parameter). q ∷ x) tail
+
+again_by : (cr : Cr) (ps : List Parameter) (r : Result Cr TpFault) → AllByRecursion IsAllowed ps → ParametersTell cr (flat_map spelled ps) r → r ≡ Ok (over cr ps)
+again_by cr ps (Ok next) all (qs, e, others, says) = ap (λ (x : Cr). let y : Result Cr TpFault = Ok x in y) (says ∙ ap (λ (x : List Parameter). over cr x) (sym (one_list ps qs e)))
+again_by cr ps (Err f) all (same, bad) = absurd (bad ps all refl)
+
+-- parameters that are spelled are read
+pub parameters_again : (cr : Cr) (ps : List Parameter) → AllByRecursion IsAllowed ps → parameters_of cr (flat_map spelled ps) ≡ Ok (over cr ps)
+parameters_again cr ps all = again_by cr ps (parameters_of cr (flat_map spelled ps)) all (parameters_tell cr (flat_map spelled ps))
+
+broken_by : (cr : Cr) (octets : List ℕ) (r : Result Cr TpFault) → ((ps : List Parameter) → AllByRecursion IsAllowed ps → octets ≢ flat_map spelled ps) → ParametersTell cr octets r → r ≡ Err Tpdu
+broken_by cr octets (Ok next) bad (ps, e, all, says) = absurd (bad ps all e)
+broken_by cr octets (Err f) bad (same, others) = ap (λ (x : TpFault). let y : Result Cr TpFault = Err x in y) same
+
+-- octets that spell none are refused
+pub parameters_refused : (cr : Cr) (octets : List ℕ) → ((ps : List Parameter) → AllByRecursion IsAllowed ps → octets ≢ flat_map spelled ps) → parameters_of cr octets ≡ Err Tpdu
+parameters_refused cr octets bad = broken_by cr octets (parameters_of cr octets) bad (parameters_tell cr octets)
+
