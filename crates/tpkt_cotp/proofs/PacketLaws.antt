@@ -85,7 +85,7 @@ packet_again tpdu after is =
     let four : length tpdu + 4 - 4 ≡ length tpdu = omega arith in
     rw (len, le-ltb (length tpdu + 4) 7 (omega (arith, is.0)), four, le-ltb (length (tpdu ++ after)) (length tpdu) (omega (arith, length-append tpdu after)), take_at tpdu after (length tpdu) refl, drop_at tpdu after (length tpdu) refl) refl
 
-bad_again : (input : List ℕ) (f : TpFault) → IsBad input f → packet_at input ≡ Err f
+pub bad_again : (input : List ℕ) (f : TpFault) → IsBad input f → packet_at input ≡ Err f
 unfolding packet_at
 bad_again input f (inl (same, a, rest, p, ne)) = rw (p, ne_eqb a 3 ne, same) refl
 bad_again input f (inr (inl (same, b, rest, p, ne))) = rw (p, ne_eqb b 0 ne, same) refl

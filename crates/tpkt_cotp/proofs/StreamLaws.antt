@@ -14,7 +14,7 @@ use Rattle.tpkt_cotp.specs.Octets.{Fails}
 use Rattle.tpkt_cotp.specs.Tpdu.{tpdu_at}
 use Rattle.tpkt_cotp.specs.Stream.{start, Runs, Takes, Took, TookAll, Adds, Completes, Stops, StopsAt, StandsAt, IsRefused, GoesOn, Refuses}
 use Rattle.tpkt_cotp.specs.declared.transport.TransportIn.{TransportIn}
-use Rattle.tpkt_cotp.proofs.PacketLaws.{packet_whole, packet_partial, packet_bad, packet_again, stays_bad, partial_again, found_is, Topped, topped_all, topped_none, topped_some}
+use Rattle.tpkt_cotp.proofs.PacketLaws.{packet_whole, packet_partial, packet_bad, packet_again, bad_again, stays_bad, partial_again, found_is, Topped, topped_all, topped_none, topped_some}
 
 pub IsBytes-back : (xs ys : List ℕ) → IsBytes (xs ++ ys) → IsBytes ys
 IsBytes-back [] ys h i = h i
@@ -49,7 +49,7 @@ Takes-then s t u b piece held rest es more p q = record {
   runs = Runs-append s t u p.tpdus q.tpdus es more p.runs q.runs;
 }
 
-Takes-one : (t u : State) (rest tpdu after : List ℕ) (first : Option Tsdu) → IsTpdu tpdu → rest ≡ packet tpdu ++ after → tpdu_at t tpdu ≡ Ok (u, first) → Takes t rest (option_to_list first) u after
+pub Takes-one : (t u : State) (rest tpdu after : List ℕ) (first : Option Tsdu) → IsTpdu tpdu → rest ≡ packet tpdu ++ after → tpdu_at t tpdu ≡ Ok (u, first) → Takes t rest (option_to_list first) u after
 Takes-one t u rest tpdu after first is whole step = record {
   tpdus = tpdu ∷ [];
   whole = whole ∙ ap (λ (x : List ℕ). x ++ after) (sym (append-nil (packet tpdu)) ∙ sym (flat_map-cons packet tpdu []));
@@ -231,18 +231,57 @@ went x = Ok x
 went_is : (x y : State × Option Tsdu) → went x ≡ went y → x ≡ y
 went_is x y e = cc
 
-one_reading : (s t u : State) (octets rest other : List ℕ) (ps qs : List (List ℕ)) (es ds : List Tsdu) → IsBytes octets → IsPartial rest → IsPartial other
-    → octets ≡ flat_map packet ps ++ rest → AllByRecursion IsTpdu ps → Runs s ps es t → octets ≡ flat_map packet qs ++ other → AllByRecursion IsTpdu qs → Runs s qs ds u → (es ≡ ds) × (t ≡ u) × (rest ≡ other)
-one_reading s t u octets rest other [] [] es ds fits pr po w all runs v also runs2 = (runs.0 ∙ sym runs2.0, runs.1 ∙ sym runs2.1, sym w ∙ v)
-one_reading s t u octets rest other [] (q ∷ qs) es ds fits pr po w all runs v also runs2 =
-    let none : packet_at octets ≡ Ok None = ap packet_at w ∙ partial_again rest (subst IsBytes w fits) pr in
-    let some : packet_at octets ≡ Ok (Some (q, flat_map packet qs ++ other)) = first_packet octets q qs other v also.0 in
-    absurd cc
-one_reading s t u octets rest other (p ∷ ps) [] es ds fits pr po w all runs v also runs2 =
-    let none : packet_at octets ≡ Ok None = ap packet_at v ∙ partial_again other (subst IsBytes v fits) po in
-    let some : packet_at octets ≡ Ok (Some (p, flat_map packet ps ++ rest)) = first_packet octets p ps rest w all.0 in
-    absurd cc
-one_reading s t u octets rest other (p ∷ ps) (q ∷ qs) es ds fits pr po w all (mid, first, others, step, split, runs) v also (mid2, first2, others2, step2, split2, runs2) =
+-- how a stream ends: with the beginning of a TPKT, or refused
+abbrev pub Ends : State → List ℕ → Option TpFault → Type 0
+Ends s rest None = IsPartial rest
+Ends s rest (Some f) = Stops s rest f
+
+abbrev EndReads : State → List ℕ → Option TpFault → Type 0
+EndReads s rest None = packet_at rest ≡ Ok None
+EndReads s rest (Some f) = (packet_at rest ≡ Err f) ⊎ ((tpdu after : List ℕ) × (packet_at rest ≡ Ok (Some (tpdu, after))) × (tpdu_at s tpdu ≡ Err f))
+
+end_reads : (s : State) (rest : List ℕ) (e : Option TpFault) → IsBytes rest → Ends s rest e → EndReads s rest e
+end_reads s rest None fits h = partial_again rest fits h
+end_reads s rest (Some f) fits (inl bad) = inl (bad_again rest f bad)
+end_reads s rest (Some f) fits (inr (tpdu, more, is, whole, step)) = inr (tpdu, more, ap packet_at whole ∙ packet_again tpdu more is, step)
+
+same_end : (s : State) (rest : List ℕ) (e g : Option TpFault) → EndReads s rest e → EndReads s rest g → e ≡ g
+same_end s rest None None a b = refl
+same_end s rest None (Some g) a (inl b) = absurd cc
+same_end s rest None (Some g) a (inr (tpdu, after, b, step)) = absurd cc
+same_end s rest (Some f) None (inl a) b = absurd cc
+same_end s rest (Some f) None (inr (tpdu, after, a, step)) b = absurd cc
+same_end s rest (Some f) (Some g) (inl a) (inl b) = let same : f ≡ g = cc (a, b) in ap (λ (x : TpFault). let y : Option TpFault = Some x in y) same
+same_end s rest (Some f) (Some g) (inl a) (inr (tpdu, after, b, step)) = absurd cc
+same_end s rest (Some f) (Some g) (inr (tpdu, after, a, step)) (inl b) = absurd cc
+same_end s rest (Some f) (Some g) (inr (tpdu, after, a, step)) (inr (other, others, b, stop)) =
+    let one : tpdu ≡ other = ap (λ (x : List ℕ × List ℕ). x.0) (found_is (tpdu, after) (other, others) (sym a ∙ b)) in
+    let both : tpdu_at s tpdu ≡ Err g = ap (λ (x : List ℕ). tpdu_at s x) one ∙ stop in
+    let same : f ≡ g = cc (step, both) in
+    ap (λ (x : TpFault). let y : Option TpFault = Some x in y) same
+
+no_step : (s : State) (rest p after : List ℕ) (x : State × Option Tsdu) (e : Option TpFault) → EndReads s rest e → packet_at rest ≡ Ok (Some (p, after)) → tpdu_at s p ≡ went x → ⊥
+no_step s rest p after x None a one step = cc
+no_step s rest p after x (Some f) (inl a) one step = cc
+no_step s rest p after x (Some f) (inr (tpdu, others, a, stop)) one step =
+    let same : tpdu ≡ p = ap (λ (x : List ℕ × List ℕ). x.0) (found_is (tpdu, others) (p, after) (sym a ∙ one)) in
+    let both : tpdu_at s p ≡ Err f = ap (λ (x : List ℕ). tpdu_at s x) (sym same) ∙ stop in
+    cc
+
+one_end : (s t u : State) (octets rest other : List ℕ) (ps qs : List (List ℕ)) (es ds : List Tsdu) (e g : Option TpFault) → IsBytes octets → Ends t rest e → Ends u other g
+    → octets ≡ flat_map packet ps ++ rest → AllByRecursion IsTpdu ps → Runs s ps es t → octets ≡ flat_map packet qs ++ other → AllByRecursion IsTpdu qs → Runs s qs ds u
+    → (es ≡ ds) × (t ≡ u) × (rest ≡ other) × (e ≡ g)
+one_end s t u octets rest other [] [] es ds e g fits a b w all runs v also runs2 =
+    let here : EndReads s octets e = end_reads s octets e fits (subst (λ (x : State). Ends x octets e) runs.1 (subst (λ (x : List ℕ). Ends t x e) (sym w) a)) in
+    let there : EndReads s octets g = end_reads s octets g fits (subst (λ (x : State). Ends x octets g) runs2.1 (subst (λ (x : List ℕ). Ends u x g) (sym v) b)) in
+    (runs.0 ∙ sym runs2.0, runs.1 ∙ sym runs2.1, sym w ∙ v, same_end s octets e g here there)
+one_end s t u octets rest other [] (q ∷ qs) es ds e g fits a b w all runs v also (mid, first, others, step, split, runs2) =
+    let here : EndReads s octets e = end_reads s octets e fits (subst (λ (x : State). Ends x octets e) runs.1 (subst (λ (x : List ℕ). Ends t x e) (sym w) a)) in
+    absurd (no_step s octets q (flat_map packet qs ++ other) (mid, first) e here (first_packet octets q qs other v also.0) step)
+one_end s t u octets rest other (p ∷ ps) [] es ds e g fits a b w all (mid, first, others, step, split, runs) v also runs2 =
+    let there : EndReads s octets g = end_reads s octets g fits (subst (λ (x : State). Ends x octets g) runs2.1 (subst (λ (x : List ℕ). Ends u x g) (sym v) b)) in
+    absurd (no_step s octets p (flat_map packet ps ++ rest) (mid, first) g there (first_packet octets p ps rest w all.0) step)
+one_end s t u octets rest other (p ∷ ps) (q ∷ qs) es ds e g fits ends ends2 w all (mid, first, others, step, split, runs) v also (mid2, first2, others2, step2, split2, runs2) =
     let a : packet_at octets ≡ Ok (Some (p, flat_map packet ps ++ rest)) = first_packet octets p ps rest w all.0 in
     let b : packet_at octets ≡ Ok (Some (q, flat_map packet qs ++ other)) = first_packet octets q qs other v also.0 in
     let same = found_is (p, flat_map packet ps ++ rest) (q, flat_map packet qs ++ other) (sym a ∙ b) in
@@ -251,10 +290,50 @@ one_reading s t u octets rest other (p ∷ ps) (q ∷ qs) es ds fits pr po w all
     let went = went_is (mid, first) (mid2, first2) (sym step ∙ ap (λ (x : List ℕ). tpdu_at s x) one ∙ step2) in
     let mids : mid ≡ mid2 = ap (λ (x : State × Option Tsdu). x.0) went in
     let firsts : first ≡ first2 = ap (λ (x : State × Option Tsdu). x.1) went in
-    let later = one_reading mid t u (flat_map packet ps ++ rest) rest other ps qs others others2 (after_fits octets p (flat_map packet ps ++ rest) fits a) pr po refl all.1 runs left also.1 (subst (λ (x : State). Runs x qs others2 u) (sym mids) runs2) in
-    (split ∙ ap (λ (x : Option Tsdu). option_to_list x ++ others) firsts ∙ ap (λ (x : List Tsdu). option_to_list first2 ++ x) later.0 ∙ sym split2, later.1, later.2)
+    let later = one_end mid t u (flat_map packet ps ++ rest) rest other ps qs others others2 e g (after_fits octets p (flat_map packet ps ++ rest) fits a) ends ends2 refl all.1 runs left also.1 (subst (λ (x : State). Runs x qs others2 u) (sym mids) runs2) in
+    (split ∙ ap (λ (x : Option Tsdu). option_to_list x ++ others) firsts ∙ ap (λ (x : List Tsdu). option_to_list first2 ++ x) later.0 ∙ sym split2, later.1, later.2, later.3)
 
 -- A stream stands for one list of gifts, one state and one rest, however it was cut.
 pub one_stream : (dialled : Bool) (t u : State) (rest other octets : List ℕ) (es ds : List Tsdu) → StandsAt dialled t rest octets es → StandsAt dialled u other octets ds → (es ≡ ds) × (t ≡ u) × (rest ≡ other)
 one_stream dialled t u rest other octets es ds a b =
-    one_reading (start dialled) t u octets rest other a.takes.tpdus b.takes.tpdus es ds a.fits a.partial b.partial a.takes.whole a.takes.each a.takes.runs b.takes.whole b.takes.each b.takes.runs
+    let one = one_end (start dialled) t u octets rest other a.takes.tpdus b.takes.tpdus es ds None None a.fits a.partial b.partial a.takes.whole a.takes.each a.takes.runs b.takes.whole b.takes.each b.takes.runs in
+    (one.0, one.1, one.2)
+
+abbrev no_fault : Option TpFault
+no_fault = None
+
+abbrev some_fault : TpFault → Option TpFault
+some_fault x = Some x
+
+-- A stream that is refused is refused for one reason, behind one list of gifts.
+pub one_refusal : (dialled : Bool) (octets : List ℕ) (es ds : List Tsdu) (f g : TpFault) → IsRefused dialled octets es f → IsRefused dialled octets ds g → (es ≡ ds) × (f ≡ g)
+one_refusal dialled octets es ds f g a b =
+    let one = one_end (start dialled) a.state b.state octets a.bad b.bad a.takes.tpdus b.takes.tpdus es ds (Some f) (Some g) a.fits a.stops b.stops a.takes.whole a.takes.each a.takes.runs b.takes.whole b.takes.each b.takes.runs in
+    let both : some_fault f ≡ some_fault g = one.3 in
+    (one.0, cc (both))
+
+-- No object stands for it.
+pub never_both : (dialled : Bool) (t : State) (rest octets : List ℕ) (es ds : List Tsdu) (f : TpFault) → StandsAt dialled t rest octets es → IsRefused dialled octets ds f → ⊥
+never_both dialled t rest octets es ds f a b =
+    let one = one_end (start dialled) t b.state octets rest b.bad a.takes.tpdus b.takes.tpdus es ds None (Some f) a.fits a.partial b.stops a.takes.whole a.takes.each a.takes.runs b.takes.whole b.takes.each b.takes.runs in
+    let both : no_fault ≡ some_fault f = one.3 in
+    cc
+
+stops_still : (s : State) (rest more : List ℕ) (f : TpFault) → Stops s rest f → Stops s (rest ++ more) f
+stops_still s rest more f (inl bad) = inl (stays_bad rest more f bad)
+stops_still s rest more f (inr (tpdu, after, is, whole, step)) = inr (tpdu, after ++ more, is, ap (λ (x : List ℕ). x ++ more) whole ∙ append_assoc (packet tpdu) after more, step)
+
+-- And more of it changes nothing.
+pub refused_still : (dialled : Bool) (octets more : List ℕ) (es : List Tsdu) (f : TpFault) → IsBytes more → IsRefused dialled octets es f → IsRefused dialled (octets ++ more) es f
+refused_still dialled octets more es f fits a = record {
+  fits = IsBytes-append octets more a.fits fits;
+  state = a.state;
+  bad = a.bad ++ more;
+  takes = record {
+    tpdus = a.takes.tpdus;
+    whole = ap (λ (x : List ℕ). x ++ more) a.takes.whole ∙ append_assoc (flat_map packet a.takes.tpdus) a.bad more;
+    each = a.takes.each;
+    runs = a.takes.runs;
+  };
+  stops = stops_still a.state a.bad more f a.stops;
+}

@@ -2,6 +2,8 @@
 use Rattle.std.specs.Prelude.{◌≡◌, ℕ, zero, suc, ◌+◌, ◌-◌, ◌*◌, ◌/◌, ◌%◌, ◌^◌, ◌<◌, ◌≤◌, List, [], ◌∷◌, ◌++◌, length, take, drop, min, Option, Some, None, ◌⊎◌, MatchOption}
 use Rattle.std.specs.List.{flat_map}
 use Rattle.tpkt_cotp.specs.declared.tsdus.Cr.{Cr}
+use Rattle.tpkt_cotp.specs.declared.tsdus.Tsdu.{Tsdu}
+use Rattle.tpkt_cotp.specs.declared.tsdus.Tsdu.TheVariants.{Connect, Data, Disconnect}
 use Rattle.tpkt_cotp.specs.Packet.{packet}
 
 -- ---- a connection
@@ -22,6 +24,12 @@ parameters_for cr = size_parameter cr.size ++ (selector 194 cr.called ++ selecto
 abbrev pub IsCr : Cr → Type 0
 IsCr cr = MatchOption cr.size (Unit {0}) (λ e. (7 ≤ e) × (e ≤ 13)) × (length (parameters_for cr) ≤ 249)
 
+-- what can be given: what a CC can confirm, and a TSDU within the limit
+abbrev pub Fits : Tsdu → Type 0
+Fits (Connect cr) = IsCr cr
+Fits (Data octets) = length octets ≤ 70000
+Fits Disconnect = Unit {0}
+
 -- a CR or a CC of class 0
 abbrev pub connection : ℕ → ℕ → ℕ → List ℕ → List ℕ
 connection code dst src parameters = (6 + length parameters) ∷ code ∷ dst / 256 ∷ dst % 256 ∷ src / 256 ∷ src % 256 ∷ 0 ∷ parameters
@@ -29,6 +37,10 @@ connection code dst src parameters = (6 + length parameters) ∷ code ∷ dst / 
 -- the CC for what a CR said, in its TPKT
 unfoldable pub confirm_of : Cr → List ℕ
 confirm_of cr = packet (connection 208 cr.src 1 (parameters_for cr))
+
+-- what that CC says: the reference of this side, and the rest as the CR had it
+abbrev pub confirmed : Cr → Cr
+confirmed cr = record { src = 1; size = cr.size; calling = cr.calling; called = cr.called }
 
 -- what a CR says that is written
 abbrev pub called_with : ℕ → Cr
