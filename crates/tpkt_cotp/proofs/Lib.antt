@@ -1,6 +1,7 @@
 pub mod PacketLaws
 pub mod ParameterLaws
 pub mod StreamLaws
+pub mod ObjectLaws
 pub mod KeptLaws
 pub mod ReadBackLaws
 pub mod TpduLaws

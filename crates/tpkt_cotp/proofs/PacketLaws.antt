@@ -1,5 +1,6 @@
 -- What a reader of TPKTs tells of the input.
 use Rattle.std.proofs.Common.{◌≡◌, ℕ, suc, ◌+◌, ◌-◌, ◌*◌, ◌/◌, ◌%◌, ◌<◌, ◌≤◌, cond, eqb, ltb, List, [], ◌∷◌, ◌++◌, length, take, drop, min, replicate, Option, Some, None, Result, Ok, Err, refl, sym, ap, subst, ◌∙◌, inl, inr, append_assoc, arith}
+use Rattle.std.specs.Prelude.{MatchOption, MatchResult}
 use Rattle.std.proofs.lemmas.Bool.{eqb-true, eqb-false, ltb-true, ltb-false, lt-ltb, le-ltb, ne_eqb, cond_both}
 use Rattle.std.proofs.lemmas.List.{append-nil, length-append, length-take, length-replicate, length-drop, take-append-drop, take_at, drop_at}
 use Rattle.tpkt_cotp.specs.Octets.{IsBytes}
@@ -43,8 +44,8 @@ body_tells c d rest hc hd =
 length_tells : (rest : List ℕ) → IsBytes rest → PacketTells (3 ∷ 0 ∷ rest) (length_at rest)
 length_tells [] fits = (0 ∷ 0 ∷ 0 ∷ [], 0 ∷ 7 ∷ 0 ∷ 0 ∷ 0 ∷ [], (omega arith, omega arith), omega arith, refl)
 length_tells (c ∷ []) fits =
-    let tpdu = replicate (c * 256 + 251) 0 in
-    let count = length-replicate {A = ℕ} (c * 256 + 251) 0 in
+    let tpdu : List ℕ = replicate (c * 256 + 251) 0 in
+    let count : length tpdu ≡ c * 256 + 251 = length-replicate {A = ℕ} (c * 256 + 251) 0 in
     let len : length tpdu + 4 ≡ c * 256 + 255 = omega (arith, count) in
     (tpdu, 255 ∷ tpdu, (omega (arith, len), omega (arith, len, fits 0)), omega arith, packet_is c 255 tpdu (fits 0) (omega arith) len)
 length_tells (c ∷ d ∷ rest) fits = body_tells c d rest (fits 0) (fits 1)
@@ -231,3 +232,19 @@ topped_some held piece held1 behind held2 rest tpdu after t before is p =
     let whole = some_total held2 tpdu after is p in
     empty_is after (numbers_some (length held) (length piece) _ (length held1) (length behind) _ (length held2) (length after) (total_at held) (total_at held1) (total_at held2)
     refl one.0 one.1 refl two.0 (total_small held) (λ le. ap total_at t.first ∙ total_front held _ le) (total_small held1) (λ le. ap total_at t.second ∙ total_front held1 _ le) (none_under held before) whole.0 whole.1)
+
+-- ---- the whole
+
+matches : (input : List ℕ) (r : Result (Option (List ℕ × List ℕ)) TpFault) → PacketTells input r → MatchResult r (λ o. MatchOption o (IsPartial input) (λ p. IsTpdu p.0 × (input ≡ packet p.0 ++ p.1))) (λ f. IsBad input f)
+matches input (Ok None) h = h
+matches input (Ok (Some x)) h = h
+matches input (Err f) h = h
+
+pub packet_matches : (input : List ℕ) → IsBytes input → MatchResult (packet_at input) (λ o. MatchOption o (IsPartial input) (λ p. IsTpdu p.0 × (input ≡ packet p.0 ++ p.1))) (λ f. IsBad input f)
+packet_matches input fits = matches input (packet_at input) (packet_tells input fits)
+
+-- no TPKT begins another
+pub packet_free : (tpdu after other more : List ℕ) → IsTpdu tpdu → IsTpdu other → packet tpdu ++ after ≡ packet other ++ more → (tpdu ≡ other) × (after ≡ more)
+packet_free tpdu after other more is also e =
+    let same = found_is (tpdu, after) (other, more) (sym (packet_again tpdu after is) ∙ ap packet_at e ∙ packet_again other more also) in
+    (ap (λ (x : List ℕ × List ℕ). x.0) same, ap (λ (x : List ℕ × List ℕ). x.1) same)

@@ -1,5 +1,6 @@
 -- What reading tells of a TPDU, and what is spelled is read.
 use Rattle.std.proofs.Common.{◌≡◌, ◌≢◌, ℕ, suc, ◌+◌, ◌*◌, ◌≤◌, ◌<◌, ◌⊎◌, Bool, true, false, cond, eqb, ltb, List, [], ◌∷◌, ◌++◌, length, Option, Some, None, Result, Ok, Err, refl, sym, ap, subst, ◌∙◌, inl, inr, arith}
+use Rattle.std.specs.Prelude.{MatchResult}
 use Rattle.std.specs.List.{flat_map, AllByRecursion}
 use Rattle.std.proofs.lemmas.Bool.{eqb-true, eqb-false, ltb-true, ltb-false, lt-ltb, le-ltb, ne_eqb, eq-eqb, cond_both}
 use Rattle.std.proofs.lemmas.List.{length-append}
@@ -276,3 +277,12 @@ refused_again s [] f h = nothing_again s f h
 refused_again s (li ∷ []) f h = lone_again s li f h
 refused_again s (li ∷ code ∷ rest) f (inl (same, none)) = rw same (no_header_again s li code rest none)
 refused_again s (li ∷ code ∷ rest) f (inr (header, h)) = header_again s li code rest header ∙ coded_again s li code rest f h
+
+-- ---- the whole
+
+matches : (s : State) (tpdu : List ℕ) (r : Result (State × Option Tsdu) TpFault) → TpduTells s tpdu r → MatchResult r (λ x. IsTaken s tpdu x.0 x.1) (λ f. IsRefusedTpdu s tpdu f)
+matches s tpdu (Ok x) h = h
+matches s tpdu (Err f) h = h
+
+pub tpdu_matches : (s : State) (tpdu : List ℕ) → MatchResult (tpdu_at s tpdu) (λ x. IsTaken s tpdu x.0 x.1) (λ f. IsRefusedTpdu s tpdu f)
+tpdu_matches s tpdu = matches s tpdu (tpdu_at s tpdu) (tpdu_tells s tpdu)

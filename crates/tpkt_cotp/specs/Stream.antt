@@ -1,5 +1,5 @@
 -- What the TPKTs of a stream give, in order.
-use Rattle.std.specs.Prelude.{◌≡◌, ◌≢◌, ℕ, Bool, true, false, List, [], ◌∷◌, ◌++◌, Option, Some, None, Result, Ok, Err, ◌⊎◌}
+use Rattle.std.specs.Prelude.{◌≡◌, ◌≢◌, ℕ, ◌≤◌, Bool, true, false, List, [], ◌∷◌, ◌++◌, length, Option, Some, None, Result, Ok, Err, ◌⊎◌}
 use Rattle.std.specs.Option.{option_to_list}
 use Rattle.std.specs.List.{flat_map, AllByRecursion}
 use Rattle.tpkt_cotp.specs.declared.fault.TpFault.{TpFault}
@@ -75,6 +75,14 @@ StandsFor t dialled octets given = (t.refused ≡ None) × StandsAt dialled t.st
 -- it answered this refusal
 abbrev pub HasRefused : TransportIn → TpFault → Type 0
 HasRefused t f = t.refused ≡ Some f
+
+-- A connection is there, and nothing is held and no TSDU open.
+abbrev pub IsOpen : TransportIn → Type 0
+IsOpen t = (t.held ≡ []) × (t.state.connected ≡ true) × (t.state.tsdu ≡ [])
+
+-- it holds at most so many octets of a TPKT, and so many of an open TSDU
+abbrev pub Keeps : TransportIn → ℕ → ℕ → Type 0
+Keeps t held open_tsdu = (length t.held ≤ held) × (length t.state.tsdu ≤ open_tsdu)
 
 -- Behind whole TPKTs, which gave this, the stream goes on in no legal way.
 pub record IsRefused (dialled : Bool) (octets : List ℕ) (given : List Tsdu) (f : TpFault) : Type 0 where

@@ -6,6 +6,7 @@
 #![tactic(auto)]
 
 mod fault;
+mod laws;
 mod octets;
 mod packet;
 mod parameters;
@@ -13,6 +14,12 @@ mod state;
 mod transport;
 mod tsdus;
 mod writing;
+
+// What is promised of all streams.
+pub use laws::{
+    a_connection_is_read_back, a_stream_gives_one_list, a_tsdu_is_read_back, little_is_kept,
+    tpdus_are_read_as_spelled, tpkts_are_read_as_spelled,
+};
 
 // What is read.
 pub use fault::TpFault;
@@ -22,3 +29,6 @@ pub use tsdus::{Cr, Tsdu, Tsdus};
 // What is written.
 pub use writing::{call, confirm, tsdu};
 
+
+#[cfg(test)]
+mod tests;
