@@ -84,8 +84,8 @@ said_fits : (src : ℕ) (ps : List Parameter) → AllByRecursion IsAllowed ps �
 said_fits src ps all few =
     let size = size_weight (last_of 192 ps) (last_value ps all) in
     let one : length (parameters_for (said src ps)) ≡ length (size_parameter (exponent_of (last_of 192 ps))) + (length (selector 194 (last_of 194 ps)) + length (selector 193 (last_of 193 ps))) =
-        length-append (size_parameter (exponent_of (last_of 192 ps))) (selector 194 (last_of 194 ps) ++ selector 193 (last_of 193 ps))
-        ∙ ap (λ (n : ℕ). length (size_parameter (exponent_of (last_of 192 ps))) + n) (length-append (selector 194 (last_of 194 ps)) (selector 193 (last_of 193 ps))) in
+    length-append (size_parameter (exponent_of (last_of 192 ps))) (selector 194 (last_of 194 ps) ++ selector 193 (last_of 193 ps))
+    ∙ ap (λ (n : ℕ). length (size_parameter (exponent_of (last_of 192 ps))) + n) (length-append (selector 194 (last_of 194 ps)) (selector 193 (last_of 193 ps))) in
     (size.0, omega (arith, one, size.1, selector_weight 194 (last_of 194 ps), selector_weight 193 (last_of 193 ps), last_weight ps, few))
 
 -- what a CR or a CC says whose LI is an octet

@@ -258,4 +258,3 @@ broken_by cr octets (Err f) bad (same, others) = ap (λ (x : TpFault). let y : R
 -- octets that spell none are refused
 pub parameters_refused : (cr : Cr) (octets : List ℕ) → ((ps : List Parameter) → AllByRecursion IsAllowed ps → octets ≢ flat_map spelled ps) → parameters_of cr octets ≡ Err Tpdu
 parameters_refused cr octets bad = broken_by cr octets (parameters_of cr octets) bad (parameters_tell cr octets)
-

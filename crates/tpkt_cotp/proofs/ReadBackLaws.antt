@@ -30,9 +30,14 @@ segments_run (suc n) most octets s there few =
     let front : List ℕ = take most octets in
     let whole : (s.tsdu ++ front) ++ drop most octets ≡ s.tsdu ++ octets = append_assoc s.tsdu front (drop most octets) ∙ ap (λ (x : List ℕ). s.tsdu ++ x) (take-append-drop most octets) in
     let some : length (s.tsdu ++ front) ≤ 70000 = omega (arith, few, ap length whole, length-append (s.tsdu ++ front) (drop most octets)) in
-    let rest = segments_run n most (drop most octets) (with_tsdu s (s.tsdu ++ front)) refl (subst (λ (x : List ℕ). length x ≤ 70000) (sym whole) few) in
-    (with_tsdu s (s.tsdu ++ front), None, Data (s.tsdu ++ octets) ∷ [], taken_again s (with_tsdu s (s.tsdu ++ front)) (2 ∷ 240 ∷ 0 ∷ front) None (there, 0, front, refl, omega arith, some, refl), refl,
-      subst (λ (x : List ℕ). Runs (with_tsdu s (s.tsdu ++ front)) (segments_at n most (drop most octets)) (Data x ∷ []) (with_tsdu s [])) whole rest)
+    let rest = segments_run n most (drop most octets) (with_tsdu s (s.tsdu ++ front)) refl (subst (λ (x : List ℕ). length x ≤ 70000) (sym whole) few) in (
+      with_tsdu s (s.tsdu ++ front),
+      None,
+      Data (s.tsdu ++ octets) ∷ [],
+      taken_again s (with_tsdu s (s.tsdu ++ front)) (2 ∷ 240 ∷ 0 ∷ front) None (there, 0, front, refl, omega arith, some, refl),
+      refl,
+      subst (λ (x : List ℕ). Runs (with_tsdu s (s.tsdu ++ front)) (segments_at n most (drop most octets)) (Data x ∷ []) (with_tsdu s [])) whole rest,
+    )
 
 segments_fit : (n most : ℕ) (octets : List ℕ) → most ≤ 65528 → length octets ≤ most * suc n → AllByRecursion IsTpdu (segments_at n most octets)
 segments_fit zero most octets few le = ((omega arith, omega (arith, le)), tt)

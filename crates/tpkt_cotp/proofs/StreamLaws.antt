@@ -186,8 +186,8 @@ stops_then f s t octets held behind before mid now a none b = record {
 pub all_held : (s t : State) (octets held behind : List ℕ) (before mid : List Tsdu) → Completes s octets before t held behind mid → held ≢ [] → TookAll s octets before t held mid
 all_held s t octets held behind before mid a some =
     elim a.one [
-      inl none ↦ absurd (some none)
-    | inr none ↦ (subst (λ (x : List ℕ). Took s octets before t x mid) (ap (λ (x : List ℕ). held ++ x) none ∙ append-nil held) a.took, a.partial)
+      | inl none ↦ absurd (some none)
+      | inr none ↦ (subst (λ (x : List ℕ). Took s octets before t x mid) (ap (λ (x : List ℕ). held ++ x) none ∙ append-nil held) a.took, a.partial)
     ]
 
 -- without memory for the rest

@@ -59,9 +59,15 @@ are_at (suc zero) most xs some high low =
     let len : length xs ≡ length (take most xs) + length (drop most xs) = omega (arith, length-take most xs, length-drop most xs) in
     (take most xs, drop most xs, sym (take-append-drop most xs), omega (arith, length-take most xs, low, high), omega (arith, length-drop most xs, low, high), refl, are_at zero most (drop most xs) some (omega (arith, length-drop most xs, high)) (omega arith))
 are_at (suc (suc n)) most xs some high low =
-    let more : most * suc n ≤ most * suc (suc n) - most = omega arith in
-    (take most xs, drop most xs, sym (take-append-drop most xs), omega (arith, length-take most xs, low, high), omega (arith, length-drop most xs, low, high), refl,
-      are_at (suc n) most (drop most xs) some (omega (arith, length-drop most xs, high)) (omega (arith, length-drop most xs, low)))
+    let more : most * suc n ≤ most * suc (suc n) - most = omega arith in (
+      take most xs,
+      drop most xs,
+      sym (take-append-drop most xs),
+      omega (arith, length-take most xs, low, high),
+      omega (arith, length-drop most xs, low, high),
+      refl,
+      are_at (suc n) most (drop most xs) some (omega (arith, length-drop most xs, high)) (omega (arith, length-drop most xs, low)),
+    )
 
 pub segments_are : (most : ℕ) (xs : List ℕ) → 0 < most → AreSegments most xs (segments_of most xs)
 unfolding segments_of

@@ -29,6 +29,5 @@ pub use tsdus::{Cr, Tsdu, Tsdus};
 // What is written.
 pub use writing::{call, confirm, tsdu};
 
-
 #[cfg(test)]
 mod tests;

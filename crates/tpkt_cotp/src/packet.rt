@@ -45,12 +45,18 @@ fn wanted(held: &[u8]) -> usize
         [_] => 3,
         [_, _] => 2,
         [_, _, _] => 1,
-        [_, _, c, d, rest @ ..] => (usize::from(*c) * 256 + usize::from(*d)).saturating_sub(4 + rest.len()),
+        [_, _, c, d, rest @ ..] => (usize::from(*c) * 256 + usize::from(*d)).saturating_sub(
+            4 + rest.len(),
+        ),
     }
 }
 
 /// Moves to the held octets what their TPKT wants next, as far as the piece has it, and gives the rest of the piece.
-pub fn top_up<'a>(alloc: Global, held: &mut Gathered, piece: &'a [u8]) -> Result<&'a [u8], AllocError>
+pub fn top_up<'a>(
+    alloc: Global,
+    held: &mut Gathered,
+    piece: &'a [u8],
+) -> Result<&'a [u8], AllocError>
     ensures { IfOk result (λ rest. let count = min (wanted_at held.old) (length piece.now) in (held.new ≡ held.old ++ take count piece.now) × (rest.now ≡ drop count piece.now)) }
 {
     let count = wanted(held.as_slice()).min(piece.len());

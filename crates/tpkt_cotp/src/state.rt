@@ -84,12 +84,7 @@ fn take_segment(alloc: Global, state: &mut State, rest: &[u8]) -> Result<Option<
     }
 }
 
-fn take_data(
-    alloc: Global,
-    state: &mut State,
-    li: u8,
-    rest: &[u8],
-) -> Result<Option<Tsdu>, TpFault>
+fn take_data(alloc: Global, state: &mut State, li: u8, rest: &[u8]) -> Result<Option<Tsdu>, TpFault>
     ensures { Steps result state.new (data_at state.old li rest.now) }
 {
     if !state.connected {
@@ -122,11 +117,7 @@ fn take_coded(
 
 /// Takes one TPDU (ISO 8073, "Structure and encoding of TPDUs").
 #[tactic(auto, unfolding(crate::specs::Tpdu::tpdu_at))]
-pub fn take_tpdu(
-    alloc: Global,
-    state: &mut State,
-    tpdu: &[u8],
-) -> Result<Option<Tsdu>, TpFault>
+pub fn take_tpdu(alloc: Global, state: &mut State, tpdu: &[u8]) -> Result<Option<Tsdu>, TpFault>
     ensures { Steps result state.new (tpdu_at state.old tpdu.now) }
 {
     match tpdu {

@@ -51,9 +51,9 @@ returns c fits was =
     } in
     let bytes = topped_fits _ _ _ _ _ _ t fits (λ i. omega (arith, c.type_inv.piece i)) in
     elim c.match-branch-4.branch [
-      in-Some+in_ok-add w ↦
-      let one : packet_at c.as_slice-2.result.now ≡ Ok (Some (w.in-Some.tpdu.now, w.in-Some.field-0-1.now)) = rw w.in-Some.is at c.in_ok-tpdu.ensures in
-      rw (w.held-is, w.state-is, w.out-is, w.clear.ensures) (completes_some _ _ _ _ _ _ _ _ _ _ _ _ t was bytes (ap packet_at (sym c.as_slice-2.ensures) ∙ one) w.in_ok-add.ensures.ok)
-    | in_default w ↦
-      rw (w.held-is, w.state-is, w.out-is) (completes_none _ _ _ _ _ _ _ _ t was bytes (ap packet_at (sym c.as_slice-2.ensures) ∙ rw w.in_default.is at c.in_ok-tpdu.ensures))
+      | in-Some+in_ok-add w ↦
+          let one : packet_at c.as_slice-2.result.now ≡ Ok (Some (w.in-Some.tpdu.now, w.in-Some.field-0-1.now)) = rw w.in-Some.is at c.in_ok-tpdu.ensures in
+          rw (w.held-is, w.state-is, w.out-is, w.clear.ensures) (completes_some _ _ _ _ _ _ _ _ _ _ _ _ t was bytes (ap packet_at (sym c.as_slice-2.ensures) ∙ one) w.in_ok-add.ensures.ok)
+      | in_default w ↦
+          rw (w.held-is, w.state-is, w.out-is) (completes_none _ _ _ _ _ _ _ _ t was bytes (ap packet_at (sym c.as_slice-2.ensures) ∙ rw w.in_default.is at c.in_ok-tpdu.ensures))
     ]
