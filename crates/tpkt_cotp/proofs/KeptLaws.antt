@@ -1,6 +1,6 @@
 -- What an object keeps, and what it gives, has bounds.
-use Rattle.std.proofs.Common.{◌≡◌, ◌≢◌, ℕ, zero, suc, ◌+◌, ◌*◌, ◌≤◌, ◌<◌, Bool, true, false, cond, eqb, List, [], ◌∷◌, ◌++◌, length, min, Option, Some, None, Ok, refl, sym, ap, subst, ◌∙◌, append_assoc, arith}
-use Rattle.std.specs.Prelude.{MatchOption, slice_index}
+use Rattle.std.proofs.Common.{◌≡◌, ℕ, suc, ◌+◌, ◌*◌, ◌≤◌, ◌<◌, Bool, true, false, eqb, List, [], ◌∷◌, ◌++◌, length, Option, Some, None, Ok, refl, sym, ap, subst, ◌∙◌, arith}
+use Rattle.std.specs.Prelude.{MatchOption}
 use Rattle.std.specs.Option.{option_to_list}
 use Rattle.std.specs.List.{flat_map, AllByRecursion}
 use Rattle.std.proofs.lemmas.Bool.{eqb-true, cond_both}
@@ -11,9 +11,9 @@ use Rattle.tpkt_cotp.specs.declared.tsdus.Cr.{Cr}
 use Rattle.tpkt_cotp.specs.declared.tsdus.Tsdu.{Tsdu}
 use Rattle.tpkt_cotp.specs.declared.tsdus.Tsdu.TheVariants.{Connect, Data, Disconnect}
 use Rattle.tpkt_cotp.specs.Octets.{IsBytes}
-use Rattle.tpkt_cotp.specs.Packet.{packet, IsTpdu, IsPartial}
+use Rattle.tpkt_cotp.specs.Packet.{packet, IsPartial}
 use Rattle.tpkt_cotp.specs.Parameters.{Parameter, spelled, IsAllowed, first_of_two, last_of, exponent_of, said}
-use Rattle.tpkt_cotp.specs.Tpdu.{awaited, IsConnection, IsTaken, tpdu_at}
+use Rattle.tpkt_cotp.specs.Tpdu.{IsConnection, IsTaken, tpdu_at}
 use Rattle.tpkt_cotp.specs.Stream.{start, Runs, StandsAt}
 use Rattle.tpkt_cotp.specs.Written.{size_parameter, selector, parameters_for, IsCr, Fits}
 use Rattle.tpkt_cotp.proofs.ParameterLaws.{if_code}

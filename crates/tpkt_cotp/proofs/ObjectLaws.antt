@@ -1,5 +1,5 @@
 -- The laws of streams, told of the objects that stand for them.
-use Rattle.std.proofs.Common.{◌≡◌, ℕ, ◌<◌, ◌≤◌, Bool, true, false, List, [], ◌∷◌, ◌++◌, length, Option, None, refl, sym, subst, ◌∙◌, arith}
+use Rattle.std.proofs.Common.{◌≡◌, ℕ, ◌+◌, ◌≤◌, Bool, true, false, List, [], ◌∷◌, ◌++◌, length, Option, refl, sym, subst, ◌∙◌, arith}
 use Rattle.std.specs.List.{AllByRecursion}
 use Rattle.tpkt_cotp.specs.declared.fault.TpFault.{TpFault}
 use Rattle.tpkt_cotp.specs.declared.state.State.{State}
@@ -7,11 +7,12 @@ use Rattle.tpkt_cotp.specs.declared.transport.TransportIn.{TransportIn}
 use Rattle.tpkt_cotp.specs.declared.tsdus.Cr.{Cr}
 use Rattle.tpkt_cotp.specs.declared.tsdus.Tsdu.{Tsdu}
 use Rattle.tpkt_cotp.specs.declared.tsdus.Tsdu.TheVariants.{Connect, Data}
+use Rattle.tpkt_cotp.specs.Tpdu.{IsConnection}
 use Rattle.tpkt_cotp.specs.Stream.{StandsFor, StandsAt, IsRefused, IsOpen, Keeps}
-use Rattle.tpkt_cotp.specs.Written.{IsCr, IsExponent, Fits, room, AreSegments, segments_of, tsdu_of, confirm_of, confirmed, call_of, called_with}
+use Rattle.tpkt_cotp.specs.Written.{IsCr, IsExponent, Fits, room, AreSegments, segments_of, tsdu_of, parameters_for, confirm_of, confirmed, call_of, called_with}
 use Rattle.tpkt_cotp.proofs.StreamLaws.{one_stream, never_both}
 use Rattle.tpkt_cotp.proofs.WrittenLaws.{room_bounds, segments_are, segments_only}
-use Rattle.tpkt_cotp.proofs.ReadBackLaws.{tsdu_read, confirm_read, call_read}
+use Rattle.tpkt_cotp.proofs.ReadBackLaws.{is_connection, tsdu_read, confirm_read, call_read}
 use Rattle.tpkt_cotp.proofs.KeptLaws as bounds
 
 object_is : (held other : List ℕ) (s t : State) (f g : Option TpFault) → held ≡ other → s ≡ t → f ≡ g → (let x : TransportIn = record { held = held; state = s; refused = f } in x) ≡ (let y : TransportIn = record { held = other; state = t; refused = g } in y)
@@ -49,3 +50,6 @@ call a src es x = let r = call_read a.state a.held src es x.1 in (r.0, (r.1, r.2
 
 pub confirm : (a : TransportIn) (cr : Cr) (es : List Tsdu) → IsCr cr → StandsFor a true (confirm_of cr) es → (es ≡ Connect (confirmed cr) ∷ []) × IsOpen a
 confirm a cr es is x = let r = confirm_read a.state a.held cr es is x.1 in (r.0, (r.1, r.2, r.3))
+
+pub said : (cr : Cr) → IsCr cr → (li : ℕ) × (rest : List ℕ) × (li ≤ 255) × IsConnection li rest cr
+said cr is = (6 + length (parameters_for cr), _, omega (arith, is.1), is_connection 0 cr.src cr refl is)

@@ -1,13 +1,13 @@
 -- Parameters, one after another.
-use Rattle.std.proofs.Common.{◌≡◌, ◌≢◌, ℕ, zero, suc, ◌+◌, ◌≤◌, ◌<◌, Bool, true, false, cond, eqb, ltb, List, [], ◌∷◌, ◌++◌, length, take, drop, min, Option, Some, None, Result, Ok, Err, refl, sym, ap, subst, ◌∙◌, arith}
+use Rattle.std.proofs.Common.{◌≡◌, ◌≢◌, ℕ, zero, suc, ◌≤◌, ◌<◌, Bool, cond, eqb, ltb, List, [], ◌∷◌, ◌++◌, length, take, drop, min, Option, Some, None, Result, Ok, Err, refl, sym, ap, subst, ◌∙◌, arith}
 use Rattle.std.specs.List.{flat_map, AllByRecursion}
-use Rattle.std.proofs.lemmas.Bool.{eqb-true, eqb-false, ltb-true, ltb-false, lt-ltb, le-ltb, ne_eqb, cond_both}
-use Rattle.std.proofs.lemmas.List.{append-nil, length-append, take_at, drop_at, length-drop, length-take, take-append-drop}
-use Rattle.std.proofs.lemmas.List.Concat.{flat_map-append, flat_map-cons}
+use Rattle.std.proofs.lemmas.Bool.{eqb-true, eqb-false, ltb-true, ltb-false, cond_both}
+use Rattle.std.proofs.lemmas.List.{length-append, take_at, drop_at, length-drop, length-take, take-append-drop}
+use Rattle.std.proofs.lemmas.List.Concat.{flat_map-cons}
 use Rattle.tpkt_cotp.specs.declared.fault.TpFault.{TpFault}
-use Rattle.tpkt_cotp.specs.declared.fault.TpFault.TheVariants.{Tpdu, Memory}
+use Rattle.tpkt_cotp.specs.declared.fault.TpFault.TheVariants.{Tpdu}
 use Rattle.tpkt_cotp.specs.declared.tsdus.Cr.{Cr}
-use Rattle.tpkt_cotp.specs.Octets.{◌>>=◌, Fails}
+use Rattle.tpkt_cotp.specs.Octets.{◌>>=◌}
 use Rattle.tpkt_cotp.specs.Parameters.{Parameter, spelled, IsAllowed, first_of_two, last_of, exponent_of, said, size_at, put_at, parameter_at, parameters_at, parameters_of}
 
 -- ---- the number of parameters that are allowed for does not count

@@ -9,9 +9,9 @@ use Rattle.tpkt_cotp.specs.declared.state.State.{State}
 use Rattle.tpkt_cotp.specs.declared.tsdus.Cr.{Cr}
 use Rattle.tpkt_cotp.specs.declared.tsdus.Tsdu.{Tsdu}
 use Rattle.tpkt_cotp.specs.declared.tsdus.Tsdu.TheVariants.{Connect, Data}
-use Rattle.tpkt_cotp.specs.Packet.{packet, IsTpdu, IsPartial}
+use Rattle.tpkt_cotp.specs.Packet.{packet, IsTpdu}
 use Rattle.tpkt_cotp.specs.Parameters.{Parameter, spelled, IsAllowed, said}
-use Rattle.tpkt_cotp.specs.Tpdu.{IsConnection, IsTaken, awaited, tpdu_at}
+use Rattle.tpkt_cotp.specs.Tpdu.{IsConnection, awaited, tpdu_at}
 use Rattle.tpkt_cotp.specs.Stream.{start, Runs, Takes, StandsAt}
 use Rattle.tpkt_cotp.specs.Written.{size_parameter, selector, parameters_for, IsCr, connection, confirm_of, called_with, confirmed, call_of, IsExponent, room, segments_at, segments_of, tsdu_of}
 use Rattle.tpkt_cotp.proofs.TpduLaws.{taken_again}

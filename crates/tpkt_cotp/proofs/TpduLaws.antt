@@ -1,7 +1,7 @@
 -- What reading tells of a TPDU, and what is spelled is read.
-use Rattle.std.proofs.Common.{◌≡◌, ◌≢◌, ℕ, suc, ◌+◌, ◌*◌, ◌≤◌, ◌<◌, ◌⊎◌, Bool, true, false, cond, eqb, ltb, List, [], ◌∷◌, ◌++◌, length, Option, Some, None, Result, Ok, Err, refl, sym, ap, subst, ◌∙◌, inl, inr, arith}
+use Rattle.std.proofs.Common.{◌≡◌, ◌≢◌, ℕ, ◌+◌, ◌*◌, ◌≤◌, ◌<◌, ◌⊎◌, Bool, true, false, cond, eqb, ltb, List, [], ◌∷◌, ◌++◌, length, Option, Some, None, Result, Ok, Err, refl, sym, ap, subst, ◌∙◌, inl, inr, arith}
 use Rattle.std.specs.Prelude.{MatchResult}
-use Rattle.std.specs.List.{flat_map, AllByRecursion}
+use Rattle.std.specs.List.{flat_map}
 use Rattle.std.proofs.lemmas.Bool.{eqb-true, eqb-false, ltb-true, ltb-false, lt-ltb, le-ltb, ne_eqb, eq-eqb, cond_both}
 use Rattle.std.proofs.lemmas.List.{length-append}
 use Rattle.tpkt_cotp.specs.declared.fault.TpFault.{TpFault}
@@ -11,7 +11,7 @@ use Rattle.tpkt_cotp.specs.declared.tsdus.Cr.{Cr}
 use Rattle.tpkt_cotp.specs.declared.tsdus.Tsdu.{Tsdu}
 use Rattle.tpkt_cotp.specs.declared.tsdus.Tsdu.TheVariants.{Connect, Data, Disconnect}
 use Rattle.tpkt_cotp.specs.Octets.{◌>>=◌}
-use Rattle.tpkt_cotp.specs.Parameters.{Parameter, spelled, IsAllowed, said, parameters_of}
+use Rattle.tpkt_cotp.specs.Parameters.{spelled, parameters_of}
 use Rattle.tpkt_cotp.specs.Tpdu.{awaited, HasHeader, IsConnection, IsTaken, IsMalformed, IsKnown, IsOutOfTurn, IsCodeRefused, IsRefusedTpdu, connection_at, connect_at, segment_at, data_at, coded_at, tpdu_at}
 use Rattle.tpkt_cotp.proofs.ParameterLaws.{ParametersTell, unsaid, over_unsaid, parameters_tell, parameters_again, parameters_refused}
 

@@ -1,11 +1,11 @@
 -- What is written.
-use Rattle.std.proofs.Common.{◌≡◌, ◌≢◌, ℕ, zero, suc, ◌+◌, ◌-◌, ◌*◌, ◌/◌, ◌%◌, ◌^◌, ◌<◌, ◌≤◌, List, [], ◌∷◌, ◌++◌, length, take, drop, min, refl, sym, ap, subst, ◌∙◌, inl, inr, append_assoc, arith}
-use Rattle.std.specs.List.{flat_map, AllByRecursion}
+use Rattle.std.proofs.Common.{◌≡◌, ℕ, zero, suc, ◌+◌, ◌-◌, ◌*◌, ◌/◌, ◌%◌, ◌^◌, ◌<◌, ◌≤◌, List, [], ◌∷◌, ◌++◌, length, take, drop, refl, sym, ap, ◌∙◌, inl, inr, append_assoc, arith}
+use Rattle.std.specs.List.{flat_map}
 use Rattle.std.proofs.Math.Nat.{div-eq_of_lt, div-mul-le_self, pow-le-pow_right, lt-mul-div-succ}
 use Rattle.std.proofs.lemmas.Nat.{div-add-mod', div-mul-add}
 use Rattle.std.proofs.lemmas.List.{append-nil, length-append, length-take, length-drop, take-append-drop, take_at, drop_at}
 use Rattle.std.proofs.lemmas.List.Concat.{flat_map-cons}
-use Rattle.tpkt_cotp.specs.Packet.{packet, IsTpdu}
+use Rattle.tpkt_cotp.specs.Packet.{packet}
 use Rattle.tpkt_cotp.specs.Written.{IsExponent, room, AreSegments, segments_at, segments_of, tsdu_of}
 
 pub exponent_bounds : (e : ℕ) → IsExponent e → (128 ≤ 2 ^ e) × (2 ^ e ≤ 65536)

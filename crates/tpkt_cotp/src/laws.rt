@@ -8,7 +8,7 @@ ghost use Rattle.tpkt_cotp.specs.declared.tsdus.Tsdu.{Tsdu};
 ghost use Rattle.tpkt_cotp.specs.declared.tsdus.Tsdu.TheVariants.{Connect, Data};
 ghost use Rattle.tpkt_cotp.specs.Octets.{IsBytes};
 ghost use Rattle.tpkt_cotp.specs.Packet.{packet, packet_at, IsTpdu, IsPartial, IsBad};
-ghost use Rattle.tpkt_cotp.specs.Tpdu.{tpdu_at, IsTaken, IsRefusedTpdu};
+ghost use Rattle.tpkt_cotp.specs.Tpdu.{tpdu_at, IsConnection, IsTaken, IsRefusedTpdu};
 ghost use Rattle.tpkt_cotp.specs.Stream.{StandsFor, IsRefused, IsOpen, Keeps};
 ghost use Rattle.tpkt_cotp.specs.Written.{IsCr, IsExponent, Fits, room, AreSegments, segments_of, tsdu_of, confirm_of, confirmed, call_of, called_with};
 
@@ -54,6 +54,12 @@ pub fn a_tsdu_is_read_back()
     ensures only { (exponent : ℕ) (octets : List ℕ) (tpdus : List (List ℕ)) → IsExponent exponent → AreSegments (room exponent) octets tpdus → tpdus ≡ segments_of (room exponent) octets }
     ensures read { (a b : TransportIn) (dialled : Bool) (before octets : List ℕ) (exponent : ℕ) (es ds : List Tsdu) → IsExponent exponent → length octets ≤ 70000
         → StandsFor a dialled before es → IsOpen a → StandsFor b dialled (before ++ tsdu_of exponent octets) ds → (ds ≡ es ++ Data octets ∷ []) × IsOpen b }
+{}
+
+/// What `confirm` asks for is what a CR can say: whatever a CR says it can be asked for, and some CR says it.
+pub fn what_a_cr_says_is_confirmed()
+    ensures asked { (li : ℕ) (rest : List ℕ) (cr : Cr) → li ≤ 255 → IsConnection li rest cr → IsCr cr }
+    ensures said { (cr : Cr) → IsCr cr → (li : ℕ) × (rest : List ℕ) × (li ≤ 255) × IsConnection li rest cr }
 {}
 
 /// The CR that `call` writes and the CC that `confirm` writes are read by the other side, in whatever pieces they come, and

@@ -18,7 +18,7 @@ mod writing;
 // What is promised of all streams.
 pub use laws::{
     a_connection_is_read_back, a_stream_gives_one_list, a_tsdu_is_read_back, little_is_kept,
-    tpdus_are_read_as_spelled, tpkts_are_read_as_spelled,
+    tpdus_are_read_as_spelled, tpkts_are_read_as_spelled, what_a_cr_says_is_confirmed,
 };
 
 // What is read.

@@ -1,4 +1,4 @@
-use Rattle.std.proofs.Common.{◌≡◌, Ok, Some, refl}
+use Rattle.std.proofs.Common.{◌≡◌, Ok, Some}
 use Rattle.std.proofs.lemmas.Result.{err_from_is_err_and}
 use Rattle.tpkt_cotp.specs.Packet.{packet_at}
 use Rattle.tpkt_cotp.proofs.PacketLaws.{packet_partial}

@@ -1,4 +1,4 @@
-use Rattle.std.proofs.Common.{◌≡◌, ◌^◌, min, ◌∙◌, ap, arith}
+use Rattle.std.proofs.Common.{◌≡◌, ◌^◌, ◌∙◌, ap, arith}
 use Rattle.tpkt_cotp.proofs.WrittenLaws.{exponent_bounds}
 use Rattle.tpkt_cotp.proofs.writing.room_of.Goals as goal
 

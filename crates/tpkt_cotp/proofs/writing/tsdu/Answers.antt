@@ -1,4 +1,4 @@
-use Rattle.std.proofs.Common.{◌≡◌, List, ℕ, ◌∷◌, ◌++◌, take, ap, ◌∙◌, arith}
+use Rattle.std.proofs.Common.{List, ℕ, ◌∷◌, ◌++◌, ap, ◌∙◌, arith}
 use Rattle.tpkt_cotp.specs.Packet.{packet}
 use Rattle.tpkt_cotp.proofs.WrittenLaws.{begun, written_more, written_last}
 use Rattle.tpkt_cotp.proofs.writing.tsdu.Goals as goal
