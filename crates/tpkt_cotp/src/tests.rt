@@ -113,45 +113,47 @@ fn a_cr_and_a_cc_are_written(rt: HostRuntime) -> Result<(), Fail> {
     Ok(())
 }
 
+/// Streams and why they are refused.
+const REFUSED: [(&[u8], TpFault); 16] = [
+    (&[4], TpFault::Version),
+    (&[3, 1], TpFault::Version),
+    (&[3, 0, 0, 6], TpFault::Length),
+    // a DT before the connection, and a CC that was not awaited
+    (&[3, 0, 0, 7, 2, 0xf0, 0x80], TpFault::Sequence),
+    (&[3, 0, 0, 11, 6, 0xd0, 0, 0, 0, 1, 0], TpFault::Sequence),
+    // LI 0, LI behind the end, an unknown code
+    (&[3, 0, 0, 7, 0, 0xf0, 0x80], TpFault::Tpdu),
+    (&[3, 0, 0, 7, 3, 0x80, 0], TpFault::Tpdu),
+    (&[3, 0, 0, 7, 2, 0x90, 0], TpFault::Tpdu),
+    // CRs: class 4, too short, with data, an exponent of 6, a size of two octets, a bad size before a good one
+    (&[3, 0, 0, 11, 6, 0xe0, 0, 0, 0, 1, 0x40], TpFault::Class),
+    (&[3, 0, 0, 10, 5, 0xe0, 0, 0, 0, 1], TpFault::Tpdu),
+    (&[3, 0, 0, 12, 6, 0xe0, 0, 0, 0, 1, 0, 9], TpFault::Tpdu),
+    (
+        &[3, 0, 0, 14, 9, 0xe0, 0, 0, 0, 1, 0, 0xc0, 1, 6],
+        TpFault::Tpdu,
+    ),
+    (
+        &[3, 0, 0, 15, 10, 0xe0, 0, 0, 0, 1, 0, 0xc0, 2, 7, 7],
+        TpFault::Tpdu,
+    ),
+    (
+        &[
+            3, 0, 0, 17, 12, 0xe0, 0, 0, 0, 1, 0, 0xc0, 1, 6, 0xc0, 1, 10,
+        ],
+        TpFault::Tpdu,
+    ),
+    // parameters that end inside one
+    (&[3, 0, 0, 12, 7, 0xe0, 0, 0, 0, 1, 0, 0xc1], TpFault::Tpdu),
+    (
+        &[3, 0, 0, 14, 9, 0xe0, 0, 0, 0, 1, 0, 0xc1, 2, 1],
+        TpFault::Tpdu,
+    ),
+];
+
 #[test]
 fn refused_streams(rt: HostRuntime) -> Result<(), Fail> {
-    let table: [(&[u8], TpFault); 16] = [
-        (&[4], TpFault::Version),
-        (&[3, 1], TpFault::Version),
-        (&[3, 0, 0, 6], TpFault::Length),
-        // a DT before the connection, and a CC that was not awaited
-        (&[3, 0, 0, 7, 2, 0xf0, 0x80], TpFault::Sequence),
-        (&[3, 0, 0, 11, 6, 0xd0, 0, 0, 0, 1, 0], TpFault::Sequence),
-        // LI 0, LI behind the end, an unknown code
-        (&[3, 0, 0, 7, 0, 0xf0, 0x80], TpFault::Tpdu),
-        (&[3, 0, 0, 7, 3, 0x80, 0], TpFault::Tpdu),
-        (&[3, 0, 0, 7, 2, 0x90, 0], TpFault::Tpdu),
-        // CRs: class 4, too short, with data, an exponent of 6, a size of two octets, a bad size before a good one
-        (&[3, 0, 0, 11, 6, 0xe0, 0, 0, 0, 1, 0x40], TpFault::Class),
-        (&[3, 0, 0, 10, 5, 0xe0, 0, 0, 0, 1], TpFault::Tpdu),
-        (&[3, 0, 0, 12, 6, 0xe0, 0, 0, 0, 1, 0, 9], TpFault::Tpdu),
-        (
-            &[3, 0, 0, 14, 9, 0xe0, 0, 0, 0, 1, 0, 0xc0, 1, 6],
-            TpFault::Tpdu,
-        ),
-        (
-            &[3, 0, 0, 15, 10, 0xe0, 0, 0, 0, 1, 0, 0xc0, 2, 7, 7],
-            TpFault::Tpdu,
-        ),
-        (
-            &[
-                3, 0, 0, 17, 12, 0xe0, 0, 0, 0, 1, 0, 0xc0, 1, 6, 0xc0, 1, 10,
-            ],
-            TpFault::Tpdu,
-        ),
-        // parameters that end inside one
-        (&[3, 0, 0, 12, 7, 0xe0, 0, 0, 0, 1, 0, 0xc1], TpFault::Tpdu),
-        (
-            &[3, 0, 0, 14, 9, 0xe0, 0, 0, 0, 1, 0, 0xc1, 2, 1],
-            TpFault::Tpdu,
-        ),
-    ];
-    for (octets, fault) in table {
+    for (octets, fault) in REFUSED {
         let mut stream = TransportIn::new();
         let mut out = nothing(&rt);
         let found = stream.feed(rt.alloc(), octets, &mut out);
@@ -169,33 +171,34 @@ fn refused_streams(rt: HostRuntime) -> Result<(), Fail> {
     Ok(())
 }
 
+/// CRs, with the size and the calling selector's length that are read.
+const LENIENT: [(&[u8], Option<u8>, Option<usize>); 5] = [
+    (&[3, 0, 0, 11, 6, 0xe0, 0, 0, 0, 1, 0x0f], None, None),
+    (
+        &[3, 0, 0, 14, 9, 0xe0, 0, 0, 0, 1, 0, 0xc0, 1, 0x0e],
+        Some(13),
+        None,
+    ),
+    (
+        &[3, 0, 0, 14, 9, 0xe0, 0, 0, 0, 1, 0, 0xc0, 1, 7],
+        Some(7),
+        None,
+    ),
+    (
+        &[3, 0, 0, 16, 11, 0xe0, 0, 0, 0, 1, 0, 0xc1, 1, 5, 0xc1, 0],
+        None,
+        Some(0),
+    ),
+    (
+        &[3, 0, 0, 17, 12, 0xe0, 0, 0, 0, 1, 0, 0x85, 1, 5, 0xc1, 1, 4],
+        None,
+        Some(1),
+    ),
+];
+
 #[test]
 fn lenient_spellings(rt: HostRuntime) -> Result<(), Fail> {
-    // the size and the calling selector's length that are read
-    let table: [(&[u8], Option<u8>, Option<usize>); 5] = [
-        (&[3, 0, 0, 11, 6, 0xe0, 0, 0, 0, 1, 0x0f], None, None),
-        (
-            &[3, 0, 0, 14, 9, 0xe0, 0, 0, 0, 1, 0, 0xc0, 1, 0x0e],
-            Some(13),
-            None,
-        ),
-        (
-            &[3, 0, 0, 14, 9, 0xe0, 0, 0, 0, 1, 0, 0xc0, 1, 7],
-            Some(7),
-            None,
-        ),
-        (
-            &[3, 0, 0, 16, 11, 0xe0, 0, 0, 0, 1, 0, 0xc1, 1, 5, 0xc1, 0],
-            None,
-            Some(0),
-        ),
-        (
-            &[3, 0, 0, 17, 12, 0xe0, 0, 0, 0, 1, 0, 0x85, 1, 5, 0xc1, 1, 4],
-            None,
-            Some(1),
-        ),
-    ];
-    for (octets, size, calling) in table {
+    for (octets, size, calling) in LENIENT {
         let mut stream = TransportIn::new();
         let mut out = nothing(&rt);
         stream.feed(rt.alloc(), octets, &mut out)?;
