@@ -135,6 +135,11 @@ impl TransportIn {
     /// A TPKT whose first octet is not 3 or whose second is not 0 is refused as soon as that octet is there, and a length
     /// below 7 as soon as the four octets of the header are; all else when the TPKT is whole. What the TPKTs before a
     /// refused one give is added. From then on each call answers the same refusal and changes nothing.
+    ///
+    /// Of a whole TPDU the first that is wrong counts: LI, which is 0 or passes the end (`Tpdu`); the code, which is unknown
+    /// (`Tpdu`) or out of turn (`Sequence`); then what follows. Of a CR or a CC that is LI, which counts all its octets
+    /// (`Tpdu`), the class (`Class`) and the parameters (`Tpdu`); of a DT its LI, which is 2 (`Tpdu`), and the limit of the
+    /// TSDU (`TsduLimit`).
     pub fn feed(&mut self, alloc: Global, piece: &[u8], out: &mut Tsdus) -> Result<(), TpFault>
         // However the stream was cut before: the object stands for it with this piece, or the stream is refused.
         ensures stands { (dialled : Bool) (octets : List ℕ) (so_far : List Tsdu) → StandsFor self.old dialled octets so_far → MatchResult result
