@@ -1,0 +1,133 @@
+-- What an object keeps, and what it gives, has bounds.
+use Rattle.std.proofs.Common.{◌≡◌, ℕ, suc, ◌+◌, ◌*◌, ◌≤◌, ◌<◌, Bool, true, false, eqb, List, [], ◌∷◌, ◌++◌, length, Option, Some, None, Ok, refl, sym, ap, subst, ◌∙◌, arith}
+use Rattle.std.specs.Prelude.{MatchOption}
+use Rattle.std.specs.Option.{option_to_list}
+use Rattle.std.specs.List.{flat_map, AllByRecursion}
+use Rattle.std.proofs.lemmas.Bool.{eqb-true, cond_both}
+use Rattle.std.proofs.lemmas.List.{length-append}
+use Rattle.std.proofs.lemmas.List.Concat.{flat_map-cons}
+use Rattle.tpkt_cotp.specs.declared.state.State.{State}
+use Rattle.tpkt_cotp.specs.declared.tsdus.Cr.{Cr}
+use Rattle.tpkt_cotp.specs.declared.tsdus.Tsdu.{Tsdu}
+use Rattle.tpkt_cotp.specs.declared.tsdus.Tsdu.TheVariants.{Connect, Data, Disconnect}
+use Rattle.tpkt_cotp.specs.Octets.{IsBytes}
+use Rattle.tpkt_cotp.specs.Packet.{packet, IsPartial}
+use Rattle.tpkt_cotp.specs.Parameters.{Parameter, spelled, IsAllowed, first_of_two, last_of, exponent_of, said}
+use Rattle.tpkt_cotp.specs.Tpdu.{IsConnection, IsTaken, tpdu_at}
+use Rattle.tpkt_cotp.specs.Stream.{start, Runs, StandsAt}
+use Rattle.tpkt_cotp.specs.Written.{size_parameter, selector, parameters_for, IsCr, Fits}
+use Rattle.tpkt_cotp.proofs.ParameterLaws.{if_code}
+use Rattle.tpkt_cotp.proofs.TpduLaws.{TpduTells, tpdu_tells}
+use Rattle.tpkt_cotp.proofs.StreamLaws.{IsBytes-front, IsBytes-back}
+
+-- ---- what a CR says fits a CC
+
+-- a TPDU size that was allowed
+abbrev IsSizeValue : Option (List ℕ) → Type 0
+IsSizeValue None = Unit {0}
+IsSizeValue (Some v) = (e : ℕ) × (v ≡ e ∷ []) × (7 ≤ e)
+
+first_value : (a b : Option (List ℕ)) → IsSizeValue a → IsSizeValue b → IsSizeValue (first_of_two a b)
+first_value None b p q = q
+first_value (Some v) b p q = p
+
+one_value : (p : Parameter) → IsAllowed p → IsSizeValue (if_code 192 p)
+one_value p allowed = cond_both (eqb p.code 192) (Some p.value) None (λ r. IsSizeValue r) (λ e. allowed (eqb-true p.code 192 e)) (λ e. tt)
+
+last_value : (ps : List Parameter) → AllByRecursion IsAllowed ps → IsSizeValue (last_of 192 ps)
+last_value [] all = tt
+last_value (p ∷ ps) all = first_value (last_of 192 ps) (if_code 192 p) (last_value ps all.1) (one_value p all.0)
+
+-- how many octets a parameter of this value has
+abbrev weight : Option (List ℕ) → ℕ
+weight None = 0
+weight (Some v) = 2 + length v
+
+size_weight : (o : Option (List ℕ)) → IsSizeValue o → MatchOption (exponent_of o) (Unit {0}) (λ e. (7 ≤ e) × (e ≤ 13)) × (length (size_parameter (exponent_of o)) ≡ weight o)
+size_weight None is = (tt, refl)
+size_weight (Some v) (e, same, low) = rw same ((omega (arith, low), omega arith), refl)
+
+selector_weight : (code : ℕ) (o : Option (List ℕ)) → length (selector code o) ≡ weight o
+selector_weight code None = refl
+selector_weight code (Some v) = omega arith
+
+first_weight : (a b : Option (List ℕ)) → weight (first_of_two a b) ≤ weight a + weight b
+first_weight None b = omega arith
+first_weight (Some v) b = omega arith
+
+abbrev weights : Parameter → ℕ
+weights p = weight (if_code 192 p) + weight (if_code 194 p) + weight (if_code 193 p)
+
+none_weight : (p : Parameter) (a b : Bool) → eqb p.code 192 ≡ a → eqb p.code 194 ≡ b → weights p ≤ 2 + length p.value
+none_weight p true b e f = let is : p.code ≡ 192 = eqb-true p.code 192 e in rw is (omega arith)
+none_weight p false true e f = let is : p.code ≡ 194 = eqb-true p.code 194 f in rw is (omega arith)
+none_weight p false false e f = rw (e, f) (cond_both (eqb p.code 193) (Some p.value) None (λ r. 0 + 0 + weight r ≤ 2 + length p.value) (λ g. omega arith) (λ g. omega arith))
+
+one_weight : (p : Parameter) → weights p ≤ length (spelled p)
+one_weight p = omega (arith, none_weight p (eqb p.code 192) (eqb p.code 194) refl refl)
+
+last_weight : (ps : List Parameter) → weight (last_of 192 ps) + weight (last_of 194 ps) + weight (last_of 193 ps) ≤ length (flat_map spelled ps)
+last_weight [] = omega arith
+last_weight (p ∷ ps) =
+    let whole : length (flat_map spelled (p ∷ ps)) ≡ length (spelled p) + length (flat_map spelled ps) = ap length (flat_map-cons spelled p ps) ∙ length-append (spelled p) (flat_map spelled ps) in
+    omega (
+      arith,
+      whole,
+      one_weight p,
+      last_weight ps,
+      first_weight (last_of 192 ps) (if_code 192 p),
+      first_weight (last_of 194 ps) (if_code 194 p),
+      first_weight (last_of 193 ps) (if_code 193 p),
+    )
+
+said_fits : (src : ℕ) (ps : List Parameter) → AllByRecursion IsAllowed ps → length (flat_map spelled ps) ≤ 249 → IsCr (said src ps)
+said_fits src ps all few =
+    let size = size_weight (last_of 192 ps) (last_value ps all) in
+    let one : length (parameters_for (said src ps)) ≡ length (size_parameter (exponent_of (last_of 192 ps))) + (length (selector 194 (last_of 194 ps)) + length (selector 193 (last_of 193 ps))) =
+    length-append (size_parameter (exponent_of (last_of 192 ps))) (selector 194 (last_of 194 ps) ++ selector 193 (last_of 193 ps))
+    ∙ ap (λ (n : ℕ). length (size_parameter (exponent_of (last_of 192 ps))) + n) (length-append (selector 194 (last_of 194 ps)) (selector 193 (last_of 193 ps))) in
+    (size.0, omega (arith, one, size.1, selector_weight 194 (last_of 194 ps), selector_weight 193 (last_of 193 ps), last_weight ps, few))
+
+-- what a CR or a CC says whose LI is an octet
+pub connection_fits : (li : ℕ) (rest : List ℕ) (cr : Cr) → li ≤ 255 → IsConnection li rest cr → IsCr cr
+connection_fits li rest cr le is = subst IsCr (sym is.says) (said_fits (is.src_high * 256 + is.src_low) is.parameters is.each (omega (arith, is.header, le)))
+
+-- ---- a run keeps within bounds
+
+taken_fits : (s t : State) (tpdu : List ℕ) (e : Option Tsdu) → IsBytes tpdu → length s.tsdu ≤ 70000 → IsTaken s tpdu t e → (length t.tsdu ≤ 70000) × AllByRecursion Fits (option_to_list e)
+taken_fits s t tpdu (Some (Connect cr)) bytes few (none, li, rest, whole, is, to) =
+    let low : li < 256 = subst IsBytes whole bytes 0 in
+    (rw to few, (connection_fits li rest cr (omega arith) is, tt))
+taken_fits s t tpdu (Some (Data octets)) bytes few (there, nr, more, whole, end, is, count, to) = (rw to (omega arith), (count, tt))
+taken_fits s t tpdu (Some Disconnect) bytes few (li, code, rest, whole, header, is, to) = (rw to few, (tt, tt))
+taken_fits s t tpdu None bytes few (there, nr, more, whole, not_end, count, to) = (rw to count, tt)
+
+step_taken : (s t : State) (tpdu : List ℕ) (e : Option Tsdu) → tpdu_at s tpdu ≡ Ok (t, e) → IsTaken s tpdu t e
+step_taken s t tpdu e h = subst (λ r. TpduTells s tpdu r) h (tpdu_tells s tpdu)
+
+all_both : (xs ys : List Tsdu) → AllByRecursion Fits xs → AllByRecursion Fits ys → AllByRecursion Fits (xs ++ ys)
+all_both [] ys p q = q
+all_both (x ∷ xs) ys p q = (p.0, all_both xs ys p.1 q)
+
+runs_fit : (s t : State) (tpdus : List (List ℕ)) (es : List Tsdu) → IsBytes (flat_map packet tpdus) → length s.tsdu ≤ 70000 → Runs s tpdus es t → (length t.tsdu ≤ 70000) × AllByRecursion Fits es
+runs_fit s t [] es bytes few (none, same) = (rw same few, rw none tt)
+runs_fit s t (tpdu ∷ tpdus) es bytes few (mid, first, others, step, split, runs) =
+    let all : IsBytes (packet tpdu ++ flat_map packet tpdus) = subst IsBytes (flat_map-cons packet tpdu tpdus) bytes in
+    let header : IsBytes (packet tpdu) = IsBytes-front (packet tpdu) (flat_map packet tpdus) all in
+    let one = taken_fits s mid tpdu first (λ i. header (suc (suc (suc (suc i))))) few (step_taken s mid tpdu first step) in
+    let rest = runs_fit mid t tpdus others (IsBytes-back (packet tpdu) (flat_map packet tpdus) all) one.0 runs in
+    (rest.0, rw split (all_both (option_to_list first) others one.1 rest.1))
+
+-- Less than a TPKT is held, and of an open TSDU no more than one may have.
+pub kept : (dialled : Bool) (t : State) (rest octets : List ℕ) (es : List Tsdu) → StandsAt dialled t rest octets es → (length rest < 65535) × (length t.tsdu ≤ 70000)
+kept dialled t rest octets es a =
+    let bytes : IsBytes (flat_map packet a.takes.tpdus) = IsBytes-front (flat_map packet a.takes.tpdus) rest (subst IsBytes a.takes.whole a.fits) in
+    (part a.partial, (runs_fit (start dialled) t a.takes.tpdus es bytes (omega arith) a.takes.runs).0)
+  where
+    part : IsPartial rest → length rest < 65535
+    part (tpdu, more, is, some, whole) = omega (arith, is.1, some, ap length whole, length-append rest more)
+
+pub all_fit : (dialled : Bool) (t : State) (rest octets : List ℕ) (es : List Tsdu) → StandsAt dialled t rest octets es → AllByRecursion Fits es
+all_fit dialled t rest octets es a =
+    let bytes : IsBytes (flat_map packet a.takes.tpdus) = IsBytes-front (flat_map packet a.takes.tpdus) rest (subst IsBytes a.takes.whole a.fits) in
+    (runs_fit (start dialled) t a.takes.tpdus es bytes (omega arith) a.takes.runs).1

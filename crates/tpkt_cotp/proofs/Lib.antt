@@ -1,0 +1,8 @@
+pub mod PacketLaws
+pub mod ParameterLaws
+pub mod StreamLaws
+pub mod ObjectLaws
+pub mod KeptLaws
+pub mod ReadBackLaws
+pub mod TpduLaws
+pub mod WrittenLaws

@@ -1,0 +1,5 @@
+use Rattle.tpkt_cotp.proofs.ObjectLaws as laws
+use Rattle.tpkt_cotp.proofs.laws.a_tsdu_is_read_back.Goals as goal
+
+pub returns : goal.returns
+returns c = record { segments = laws.segments; only = laws.only; read = laws.tsdu }

@@ -1,0 +1,5 @@
+use Rattle.tpkt_cotp.proofs.ObjectLaws as laws
+use Rattle.tpkt_cotp.proofs.laws.little_is_kept.Goals as goal
+
+pub returns : goal.returns
+returns c = record { kept = laws.keeps; fit = laws.fit }

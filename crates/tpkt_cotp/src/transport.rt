@@ -1,0 +1,161 @@
+ghost use Rattle.std.specs.Prelude.{◌≡◌, ℕ, Bool, true, false, List, [], ◌∷◌, ◌++◌, ◌≢◌, Some, None, Ok, Err, IfErr, OnOk, OnErr, MatchResult, MatchOption};
+ghost use Rattle.std.specs.Option.{option_to_list};
+ghost use Rattle.tpkt_cotp.specs.declared.fault.TpFault.{TpFault};
+ghost use Rattle.tpkt_cotp.specs.declared.tsdus.Tsdu.{Tsdu};
+ghost use Rattle.tpkt_cotp.specs.Octets.{Fails, IsBytes};
+ghost use Rattle.tpkt_cotp.specs.Packet.{IsPartial};
+ghost use Rattle.tpkt_cotp.specs.Tpdu.{tpdu_at};
+ghost use Rattle.tpkt_cotp.specs.Stream.{TookAll, Took, StopsAt, StandsFor, HasRefused, GoesOn, Refuses, Adds, Completes};
+
+use crate::fault::TpFault;
+use crate::octets::Gathered;
+use crate::packet::{packet_of, top_up};
+use crate::state::{State, take_tpdu};
+use crate::tsdus::Tsdus;
+use std::alloc::Global;
+
+/// Takes a TPDU and adds what it gives.
+fn add(alloc: Global, state: &mut State, tpdu: &[u8], out: &mut Tsdus) -> Result<(), TpFault>
+    ensures ok { OnOk result (Adds state.old tpdu.now state.new out.old out.new) }
+    ensures err { IfErr result (λ f. Fails f (tpdu_at state.old tpdu.now)) }
+    ensures same { OnErr result (out.new ≡ out.old) }
+{
+    if let Some(tsdu) = take_tpdu(alloc, state, tpdu)? {
+        out.push(tsdu)?;
+    }
+    Ok(())
+}
+
+/// Takes the whole TPKTs at the front, and gives what follows them.
+fn take_whole<'a>(
+    alloc: Global,
+    state: &mut State,
+    input: &'a [u8],
+    out: &mut Tsdus,
+) -> Result<&'a [u8], TpFault>
+    ensures { MatchResult result
+        (λ rest. TookAll state.old input.now out.old state.new rest.now out.new)
+        (λ f. StopsAt f state.old input.now out.old out.new) }
+{
+    let mut rest = input;
+    while let Some((tpdu, after)) = packet_of(rest)? {
+        add(alloc, state, tpdu, out)?;
+        rest = after;
+    }
+    Ok(rest)
+}
+
+/// Completes the TPKT that is held, as far as the piece has it, and gives the rest of the piece.
+fn complete<'a>(
+    alloc: Global,
+    held: &mut Gathered,
+    state: &mut State,
+    piece: &'a [u8],
+    out: &mut Tsdus,
+) -> Result<&'a [u8], TpFault>
+    ensures { IsBytes held.old → IsPartial held.old → MatchResult result
+        (λ rest. Completes state.old (held.old ++ piece.now) out.old state.new held.new rest.now out.new)
+        (λ f. StopsAt f state.old (held.old ++ piece.now) out.old out.new) }
+{
+    if held.as_slice().is_empty() {
+        return Ok(piece);
+    }
+    let behind = top_up(alloc, held, piece)?;
+    let rest = top_up(alloc, held, behind)?;
+    if let Some((tpdu, _)) = packet_of(held.as_slice())? {
+        add(alloc, state, tpdu, out)?;
+        held.clear();
+    }
+    Ok(rest)
+}
+
+/// Takes the next piece, behind what is held.
+fn take_piece(
+    alloc: Global,
+    held: &mut Gathered,
+    state: &mut State,
+    piece: &[u8],
+    out: &mut Tsdus,
+) -> Result<(), TpFault>
+    ensures { IsBytes held.old → IsPartial held.old → MatchResult result
+        (λ _. TookAll state.old (held.old ++ piece.now) out.old state.new held.new out.new)
+        (λ f. StopsAt f state.old (held.old ++ piece.now) out.old out.new) }
+{
+    let behind = complete(alloc, held, state, piece, out)?;
+    if !held.as_slice().is_empty() {
+        return Ok(());
+    }
+    let rest = take_whole(alloc, state, behind, out)?;
+    held.append(alloc, rest)?;
+    Ok(())
+}
+
+/// What has come of a stream of TPKTs (RFC 1006) on one connection. It keeps at most one TPKT that is not whole and the
+/// TSDU whose last DT has not come.
+///
+/// Contracts say what it stands for: the octets that it was fed, and what it gave for them.
+#[derive(Debug, Drop)]
+pub struct TransportIn {
+    held: Gathered,
+    state: State,
+    refused: Option<TpFault>,
+}
+
+impl TransportIn {
+    fn opened(dialled: bool) -> TransportIn
+        ensures { StandsFor result dialled [] [] }
+    {
+        TransportIn {
+            held: Gathered::new(),
+            state: State {
+                dialled,
+                connected: false,
+                tsdu: Gathered::new(),
+            },
+            refused: None,
+        }
+    }
+
+    /// Nothing has come, on a connection that the other side dialled: a CR comes first.
+    pub fn new() -> TransportIn
+        ensures { StandsFor result false [] [] }
+    {
+        TransportIn::opened(false)
+    }
+
+    /// Nothing has come, on a connection that this side dialled: a CC comes first.
+    pub fn dialled() -> TransportIn
+        ensures { StandsFor result true [] [] }
+    {
+        TransportIn::opened(true)
+    }
+
+    /// Takes the next piece of the stream, and adds what the whole TPKTs in it give.
+    ///
+    /// A TPKT whose first octet is not 3 or whose second is not 0 is refused as soon as that octet is there, and a length
+    /// below 7 as soon as the four octets of the header are; all else when the TPKT is whole. What the TPKTs before a
+    /// refused one give is added. From then on each call answers the same refusal and changes nothing.
+    ///
+    /// Of a whole TPDU the first that is wrong counts: LI, which is 0 or passes the end (`Tpdu`); the code, which is unknown
+    /// (`Tpdu`) or out of turn (`Sequence`); then what follows. Of a CR or a CC that is LI, which counts all its octets
+    /// (`Tpdu`), the class (`Class`) and the parameters (`Tpdu`); of a DT its LI, which is 2 (`Tpdu`), and the limit of the
+    /// TSDU (`TsduLimit`).
+    pub fn feed(&mut self, alloc: Global, piece: &[u8], out: &mut Tsdus) -> Result<(), TpFault>
+        // However the stream was cut before: the object stands for it with this piece, or the stream is refused.
+        ensures stands { (dialled : Bool) (octets : List ℕ) (so_far : List Tsdu) → StandsFor self.old dialled octets so_far → MatchResult result
+            (λ _. GoesOn self.new dialled (octets ++ piece.now) so_far out.old out.new)
+            (λ f. Refuses f dialled (octets ++ piece.now) so_far out.old out.new) }
+        // What it refuses with it answers again.
+        ensures refuses { IfErr result (λ f. HasRefused self.new f) }
+        ensures again { (f : TpFault) → HasRefused self.old f → (result ≡ Err f) × (self.new ≡ self.old) × (out.new ≡ out.old) }
+    {
+        if let Some(fault) = self.refused {
+            return Err(fault);
+        }
+        let done = take_piece(alloc, &mut self.held, &mut self.state, piece, out);
+        if let Err(fault) = done {
+            self.refused = Some(fault);
+        }
+        done
+    }
+}
