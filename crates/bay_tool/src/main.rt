@@ -2,6 +2,8 @@
 #![tactic(auto)]
 
 #[cfg(test)]
+mod statuses;
+#[cfg(test)]
 mod stored_records;
 
 use replay_run::status::Status;
