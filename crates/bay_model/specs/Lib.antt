@@ -3,6 +3,8 @@
 -- point, before are the points before it, and past ends with the point that is spoken of.
 -- `f_after` says what one more deed makes of f.
 
+-- room that was made before
+pub mod Rooms
 -- what a bay is configured with
 pub mod Roles
 pub mod Model
