@@ -11,8 +11,6 @@ use Rattle.sv_base.specs.declared.config.LnDef.{LnDef}
 use Rattle.sv_base.specs.declared.config.AttrDef.{AttrDef}
 use Rattle.sv_base.specs.declared.config.SetDef.{SetDef}
 use Rattle.sv_base.specs.declared.config.BlockDef.{BlockDef}
-use Rattle.sv_base.specs.declared.config.CtlDef.{CtlDef}
-use Rattle.sv_base.specs.declared.config.SgDef.{SgDef}
 use Rattle.bay_model.specs.Example.{bits_of}
 
 abbrev pub ln : ℕ → List ℕ → List ℕ → LnDef
@@ -39,7 +37,9 @@ block = record { line = 9; domain = bay; ln = codes "LLN0"; name = codes "brcbEv
 
 abbrev pub example_config : Config
 example_config = record {
-  vendor = codes "Demo"; model = codes "Bay"; revision = codes "1";
+  vendor = codes "Demo";
+  model = codes "Bay";
+  revision = codes "1";
   nodes = ln 4 bay (codes "LLN0") ∷ ln 10 bay (codes "XCBR1") ∷ ln 14 bay (codes "GGIO1") ∷ ln 18 bay (codes "MMXU1") ∷ [];
   attrs = status 11 (codes "XCBR1") (codes "Pos") (types.Bits 2) (kinds.Bits (false ∷ true ∷ [])) ++ (status 15 (codes "GGIO1") (codes "Ind1") types.Bool (kinds.Bool false)
       ++ attr 19 bay (codes "MMXU1") (codes "MX") (codes "TotW$mag$i") (types.Int 32) true false (kinds.Int (pos 0) ∷ []) ∷ []);
@@ -60,7 +60,9 @@ control_config = record example_config {
 -- of the control comes before an attribute of it
 abbrev pub varied_config : Config
 varied_config = record {
-  vendor = codes "Demo"; model = codes "Bay"; revision = codes "1";
+  vendor = codes "Demo";
+  model = codes "Bay";
+  revision = codes "1";
   nodes = ln 4 bay (codes "GGIO1") ∷ ln 8 (codes "SET1") (codes "LLN0") ∷ ln 12 (codes "SET1") (codes "PTOC1") ∷ [];
   attrs = attr 5 bay (codes "GGIO1") (codes "ST") (codes "B$v") (types.Text 255) true false (kinds.Text [] ∷ [])
       ∷ attr 6 bay (codes "GGIO1") (codes "ST") (codes "A$v") (types.Uint 16) false false (kinds.Uint 7 ∷ [])

@@ -10,7 +10,7 @@ use Rattle.sv_base.specs.declared.types.TypeOf.{TypeOf}
 use Rattle.sv_base.specs.declared.types.TypeOf.TheVariants as types
 use Rattle.bay_model.specs.declared.step.Comp.{Comp}
 use Rattle.bay_model.specs.declared.step.Comp.TheVariants as comps
-use Rattle.bay_model.specs.Model.{Kind, truth, int, uint, bits, time, stamp, text, octets, entry_id, Part, NumOfSG, ActSG, EditSG, CnfEdit, LActTm, Call, select, operate, cancel, Leaf, attribute, component, setting, withheld, Role, single, selecting, calling, several}
+use Rattle.bay_model.specs.Model.{Kind, truth, int, uint, bits, time, stamp, text, octets, entry_id, Part, NumOfSG, ActSG, EditSG, CnfEdit, LActTm, Call, select, operate, cancel, Leaf, attribute, component, setting, withheld, Role, single, selecting, calling}
 use Rattle.bay_model.specs.Kinds.{comp_kind, part_kind}
 
 -- an item that is named, what it is, and its type where it has no parts

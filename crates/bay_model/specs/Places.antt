@@ -9,7 +9,7 @@ use Rattle.sv_base.specs.Types.{Shape, Fields, simple, composed, no_field, field
 use Rattle.sv_base.specs.Fields.{shape_of}
 use Rattle.sv_base.specs.declared.types.TypeOf.{TypeOf}
 use Rattle.sv_base.specs.declared.types.TypeOf.TheVariants as types
-use Rattle.bay_model.specs.Model.{Node, Tree, Trees, leaf, structure, none, more, Role, single, selecting, calling, several, Leaf, attribute, component, setting, withheld}
+use Rattle.bay_model.specs.Model.{Node, Tree, Trees, leaf, structure, none, more, Role, single, selecting, several, attribute, withheld}
 use Rattle.bay_model.specs.NameTree.{Forest, nothing, named}
 
 -- a node with its type, and whether it holds attributes alone
