@@ -36,6 +36,13 @@ pub mod Calls
 pub mod Associations
 pub mod Waiting
 pub mod Outputs
+-- the tree of names
+pub mod Generated
+pub mod NamedLines
+pub mod Attributes
+pub mod NameTree
+pub mod Places
+pub mod Named
 -- single reads and writes
 pub mod Outcomes
 pub mod Components
@@ -66,6 +73,8 @@ pub mod ExampleRequests
 pub mod ExampleControl
 pub mod ExampleCommands
 pub mod ExampleSettings
+pub mod ExampleConfig
+pub mod WorkedNames
 pub mod WorkedReports
 pub mod WorkedBreaks
 pub mod WorkedBuffer

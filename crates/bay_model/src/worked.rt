@@ -1,5 +1,6 @@
-//! Worked histories over the example bay, each with what its steps are answered. A slip in a definition is refused here.
+//! Worked histories over the example bay, each with what its steps are answered, and worked trees of names. A slip in a definition is refused here.
 
+ghost use Rattle.bay_model.specs.WorkedNames.{ExampleNamed, FirstNamed, GeneratedNamed, AttributesNumbered, MembersAllowed, TypesNamed};
 ghost use Rattle.bay_model.specs.WorkedReports.{OneValue, UpdateFlag, TriggerBits, IntegrityPeriod, Interrogation, MomentBelow};
 ghost use Rattle.bay_model.specs.WorkedBreaks.{TwoMembersInOneWindow, TwoWindows, RepeatedMember, PurgeClosesEntry, InterrogationClosesEntry, IntegrityBeforeEffect, PeriodsBeginAnew};
 ghost use Rattle.bay_model.specs.WorkedBuffer.{GapMark, OversizedEntry, ExactCapacity, PurgeOfUnsent, PurgeOfSent, PurgingChanges};
@@ -116,4 +117,14 @@ pub fn worked_requests()
     ensures waiting_replies_full { WaitingRepliesFull }
     ensures terminations_not_counted { TerminationsNotCounted }
     ensures refused_steps { RefusedSteps }
+{}
+
+/// Worked trees of names.
+pub fn worked_names()
+    ensures example_named { ExampleNamed }
+    ensures first_named { FirstNamed }
+    ensures generated_named { GeneratedNamed }
+    ensures attributes_numbered { AttributesNumbered }
+    ensures members_allowed { MembersAllowed }
+    ensures types_named { TypesNamed }
 {}

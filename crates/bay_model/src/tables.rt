@@ -1,0 +1,218 @@
+//! The nodes and the data sets of a configuration, as the parts of a bay are given them.
+
+use crate::{Nodes, SetName};
+use std::marker::Model;
+use sv_base::{AttrId, NodeId, TypeOf};
+
+/// The attributes of a node, in the order of its type.
+#[derive(Debug, Drop)]
+pub struct AttrIds {
+    items: Vec<AttrId>,
+}
+
+impl Model for AttrIds {
+    ghost use Rattle.std.specs.Prelude.{List};
+    ghost use Rattle.sv_base.specs.declared.numbers.AttrId.{AttrId};
+
+    ghost Value = { List AttrId };
+
+    ghost view = { λ l. l.items.items };
+}
+
+impl AttrIds {
+    ghost use Rattle.std.specs.Prelude.{◌≡◌, ◌==◌, length, slice_get, option_copied};
+
+    /// The row of these attributes. It takes no memory.
+    pub fn from_vec(items: Vec<AttrId>) -> Self
+        ensures { result ≡ items.items }
+    {
+        AttrIds { items }
+    }
+
+    /// The attributes. It takes no memory.
+    pub fn into_vec(self) -> Vec<AttrId>
+        ensures { result.items ≡ self }
+    {
+        self.items
+    }
+
+    /// How many attributes there are.
+    pub fn len(&self) -> usize
+        ensures { result ≡ length self.now }
+    {
+        self.items.len()
+    }
+
+    /// There is no attribute.
+    pub fn is_empty(&self) -> bool
+        ensures { result ≡ (length self.now == 0) }
+    {
+        self.items.is_empty()
+    }
+
+    /// The attribute at a place, counted from 0; none exactly where the row is no longer than that.
+    pub fn get(&self, i: usize) -> Option<&AttrId>
+        ensures { option_copied result ≡ slice_get self.now i }
+    {
+        self.items.get(i)
+    }
+
+    /// The attributes, borrowed.
+    pub fn as_slice(&self) -> &[AttrId]
+        ensures { result.now ≡ self.now }
+    {
+        &self.items
+    }
+}
+
+/// What a member of a data set is: its node, the type of its Data, and the attributes that it is made of.
+#[derive(Debug, Drop)]
+pub struct MemberShape {
+    pub node: NodeId,
+    pub kind: TypeOf,
+    pub attrs: AttrIds,
+}
+
+/// A node of the tree of names.
+#[derive(Debug, Drop)]
+pub struct NodeRow {
+    /// Whether it may be a member of a data set, however large its Data is (IEC 61850-7-2, DATA-SET).
+    pub allowed: bool,
+    /// The octets of its largest Data, 4294967295 where there are more.
+    pub octets: u32,
+    pub shape: MemberShape,
+}
+
+/// The nodes by their numbers.
+#[derive(Debug, Drop)]
+pub struct NodeTable {
+    items: Vec<NodeRow>,
+}
+
+impl Model for NodeTable {
+    ghost use Rattle.std.specs.Prelude.{List};
+    ghost use Rattle.bay_model.specs.declared.tables.NodeRow.{NodeRow};
+
+    ghost Value = { List NodeRow };
+
+    ghost use Rattle.std.specs.Coded.{codes};
+    ghost use Rattle.sv_base.specs.Types.{fields_code};
+
+    ghost coded = { Prim.hlevel (codes, fields_code) };
+
+    ghost view = { λ l. l.items.items };
+}
+
+impl NodeTable {
+    ghost use Rattle.std.specs.Prelude.{◌≡◌, ◌==◌, length, slice_get, option_copied};
+
+    /// The row of these nodes. It takes no memory.
+    pub fn from_vec(items: Vec<NodeRow>) -> Self
+        ensures { result ≡ items.items }
+    {
+        NodeTable { items }
+    }
+
+    /// The nodes. It takes no memory.
+    pub fn into_vec(self) -> Vec<NodeRow>
+        ensures { result.items ≡ self }
+    {
+        self.items
+    }
+
+    /// How many nodes there are.
+    pub fn len(&self) -> usize
+        ensures { result ≡ length self.now }
+    {
+        self.items.len()
+    }
+
+    /// There is no node.
+    pub fn is_empty(&self) -> bool
+        ensures { result ≡ (length self.now == 0) }
+    {
+        self.items.is_empty()
+    }
+
+    /// The node at a place, counted from 0; none exactly where the row is no longer than that.
+    pub fn get(&self, i: usize) -> Option<&NodeRow>
+        ensures { option_copied result ≡ slice_get self.now i }
+    {
+        self.items.get(i)
+    }
+
+    /// The nodes, borrowed.
+    pub fn as_slice(&self) -> &[NodeRow]
+        ensures { result.now ≡ self.now }
+    {
+        &self.items
+    }
+}
+
+/// A data set: its name and the nodes that are its members.
+#[derive(Debug, Drop)]
+pub struct SetRow {
+    pub name: SetName,
+    pub nodes: Nodes,
+}
+
+/// The configured data sets, in the order of the configuration.
+#[derive(Debug, Drop)]
+pub struct SetTable {
+    items: Vec<SetRow>,
+}
+
+impl Model for SetTable {
+    ghost use Rattle.std.specs.Prelude.{List};
+    ghost use Rattle.bay_model.specs.declared.tables.SetRow.{SetRow};
+
+    ghost Value = { List SetRow };
+
+    ghost view = { λ l. l.items.items };
+}
+
+impl SetTable {
+    ghost use Rattle.std.specs.Prelude.{◌≡◌, ◌==◌, length, slice_get, option_copied};
+
+    /// The row of these data sets. It takes no memory.
+    pub fn from_vec(items: Vec<SetRow>) -> Self
+        ensures { result ≡ items.items }
+    {
+        SetTable { items }
+    }
+
+    /// The data sets. It takes no memory.
+    pub fn into_vec(self) -> Vec<SetRow>
+        ensures { result.items ≡ self }
+    {
+        self.items
+    }
+
+    /// How many data sets there are.
+    pub fn len(&self) -> usize
+        ensures { result ≡ length self.now }
+    {
+        self.items.len()
+    }
+
+    /// There is no data set.
+    pub fn is_empty(&self) -> bool
+        ensures { result ≡ (length self.now == 0) }
+    {
+        self.items.is_empty()
+    }
+
+    /// The data set at a place, counted from 0; none exactly where the row is no longer than that.
+    pub fn get(&self, i: usize) -> Option<&SetRow>
+        ensures { option_copied result ≡ slice_get self.now i }
+    {
+        self.items.get(i)
+    }
+
+    /// The data sets, borrowed.
+    pub fn as_slice(&self) -> &[SetRow]
+        ensures { result.now ≡ self.now }
+    {
+        &self.items
+    }
+}
