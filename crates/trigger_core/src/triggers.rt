@@ -1,0 +1,96 @@
+ghost use Rattle.std.specs.Prelude.{◌≡◌, ◌≤◌, ◌<◌, ◌^◌, length, unwrap_or};
+ghost use Rattle.std.specs.Option.{option_map};
+ghost use Rattle.bay_model.specs.Notes.{no_reason, union as union_of, is_any as is_any_of};
+ghost use Rattle.trigger_core.specs.Noted.{change_of as change_in, reasons_by as reasons_under, reasons_in as reasons_among, noted};
+
+use bay_model::{Change, MemberShape, Mention, Note, Reasons, SetView, Trg};
+use sv_base::{AttrId, MemberNo};
+
+/// No reason.
+const NO_REASON: Reasons = Reasons {
+    dchg: false,
+    qchg: false,
+    dupd: false,
+    intg: false,
+    gi: false,
+};
+
+/// The reasons of both.
+fn union(one: Reasons, other: Reasons) -> Reasons
+    ensures { result ≡ union_of one other }
+{
+    Reasons {
+        dchg: one.dchg || other.dchg,
+        qchg: one.qchg || other.qchg,
+        dupd: one.dupd || other.dupd,
+        intg: one.intg || other.intg,
+        gi: one.gi || other.gi,
+    }
+}
+
+/// There is a reason.
+fn is_any(reasons: Reasons) -> bool
+    ensures { result ≡ is_any_of reasons }
+{
+    reasons.dchg || reasons.qchg || reasons.dupd || reasons.intg || reasons.gi
+}
+
+/// The reasons that a change gives under the trigger options.
+fn reasons_by(trg: Trg, change: Change) -> Reasons
+    ensures { result ≡ reasons_under trg change }
+{
+    Reasons {
+        dchg: change.flags.dchg && trg.dchg && change.differs,
+        qchg: change.flags.qchg && trg.qchg && change.differs,
+        dupd: change.flags.dupd && trg.dupd,
+        intg: false,
+        gi: false,
+    }
+}
+
+/// The reasons that an attribute gives: none where the point didn't set it.
+fn reasons_of(changes: &[Change], trg: Trg, attr: AttrId) -> Reasons
+    ensures { result ≡ unwrap_or (option_map (reasons_under trg) (change_in changes.now attr)) no_reason }
+{
+    match changes.iter().find(|change| change.attr.0 == attr.0) {
+        Some(change) => reasons_by(trg, *change),
+        None => NO_REASON,
+    }
+}
+
+/// The reasons of all attributes.
+fn reasons_in(changes: &[Change], trg: Trg, attrs: &[AttrId]) -> Reasons
+    ensures { result ≡ reasons_among changes.now trg attrs.now }
+{
+    match attrs {
+        [] => NO_REASON,
+        [first, rest @ ..] => union(
+            reasons_of(changes, trg, *first),
+            reasons_in(changes, trg, rest),
+        ),
+    }
+}
+
+/// Fills the note of a point with the members of a data set that the point is an event of, in the order of the set:
+/// each that has an attribute which the point set, and which triggers under the block's trigger options. A member has
+/// the reasons of all its attributes (IEC 61850-7-2, ReasonForInclusion).
+///
+/// `changes` are the attributes that the point set, each once. What stood in `out` goes; it takes no memory.
+pub fn note(changes: &[Change], set: &SetView<'_>, trg: Trg, out: &mut Note)
+    requires counted { length set.now.members.now < 2 ^ 32 }
+    requires room { length set.now.members.now ≤ out.old.room }
+    ensures { out.new ≡ record { items = noted changes.now trg 1 set.now.members.now; room = out.old.room } }
+{
+    out.clear();
+    let mut number = 0;
+    for member in set.members {
+        number += 1;
+        let reasons = reasons_in(changes, trg, member.attrs.as_slice());
+        if is_any(reasons) {
+            out.push(Mention {
+                member: MemberNo(number),
+                reasons,
+            });
+        }
+    }
+}
