@@ -3,7 +3,7 @@
 use crate::moment::{FIRST_MS, LAST_MS};
 use crate::{
     AttrDef, AttrDefs, Bits, Moment, Octs, OctsList, Part1, Parts, Stamp, TypeOf, Utc, Value,
-    Values, data_len,
+    Values, copy_type, copy_value, data_len,
 };
 use std::alloc::{AllocError, Global};
 use std::test::Fail;
@@ -212,5 +212,26 @@ fn a_configuration_keeps_its_lines(rt: HostRuntime) -> Result<(), Fail> {
     assert_eq!(rt; attrs.get(0).map(|attr| attr.line), Some(5));
     assert!(rt; attrs.get(1).is_none());
     assert_eq!(rt; attrs.into_vec().len(), 1);
+    Ok(())
+}
+
+#[test]
+fn copies_are_the_same(rt: HostRuntime) -> Result<(), Fail> {
+    let alloc = rt.alloc();
+    let name = Value::Text(octs(alloc, b"Pos")?);
+    let nested = vec![in alloc; status(alloc)?, name, Value::Other]?;
+    let copy = copy_value(alloc, &Value::Struct(Values::from_vec(nested)))?;
+    // a2 1b, the status of 20 octets, 8a 03 'Pos'
+    assert_eq!(rt; data_len(&copy), 27);
+
+    let quality = Part1 {
+        name: octs(alloc, b"q")?,
+        kind: TypeOf::Bits(13),
+    };
+    let parts = Parts::from_vec(vec![in alloc; quality]?);
+    match copy_type(alloc, &TypeOf::Struct(parts))? {
+        TypeOf::Struct(parts) => assert_eq!(rt; parts.get(0).map(bits_of), Some(13)),
+        _ => assert!(rt; false, "a structure"),
+    }
     Ok(())
 }
