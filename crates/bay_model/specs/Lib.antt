@@ -28,6 +28,7 @@ pub mod Blocks
 pub mod Reports
 -- controls
 pub mod Kinds
+pub mod Slots
 pub mod Commands
 pub mod Controls
 pub mod Selections
