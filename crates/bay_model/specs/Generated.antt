@@ -106,9 +106,11 @@ pub record Parameter : Type 0 where
   pub kind : TypeOf
   pub value : Value
 
+abbrev pub selection : CtlDef → List Parameter
+selection c = record { name = codes "sboTimeout"; kind = types.Uint 32; value = kinds.Uint c.timeout } ∷ record { name = codes "sboClass"; kind = types.Int 8; value = kinds.Int (pos c.class) } ∷ []
+
 abbrev pub parameters : CtlDef → List Parameter
-parameters c = record { name = codes "ctlModel"; kind = types.Int 8; value = kinds.Int (pos c.model) }
-    ∷ (if is_selected c then record { name = codes "sboTimeout"; kind = types.Uint 32; value = kinds.Uint c.timeout } ∷ record { name = codes "sboClass"; kind = types.Int 8; value = kinds.Int (pos c.class) } ∷ [] else [])
+parameters c = record { name = codes "ctlModel"; kind = types.Int 8; value = kinds.Int (pos c.model) } ∷ (if is_selected c then selection c else [])
 
 -- at `LN$CF$DO`, the first being attribute x
 abbrev pub parameter_names : ℕ → List ℕ → List Parameter → List Named

@@ -1,0 +1,3 @@
+pub mod References
+pub mod Numbers
+pub mod Indexes
