@@ -2,6 +2,10 @@
 //! and controls.
 #![tactic(auto)]
 
+mod copies;
 mod index;
+mod lines;
 mod model;
+mod named;
+mod numbers;
 mod references;
