@@ -75,30 +75,46 @@ abbrev pub block_names : ℕ → List ℕ → List Named
 block_names b item = map (λ k. end_named (within item (comp_name k)) (component b k) (type_of (comp_kind k))) components
 
 -- of the setting group block of domain d
-abbrev pub setting_names : ℕ → List Named
-setting_names d = map (λ k. end_named (codes "LLN0$SP$SGCB$" ++ part_name k) (setting d k) (type_of (part_kind k))) parts
+abbrev pub setting_named : ℕ → Part → Named
+setting_named d k = end_named (within (codes "LLN0$SP$SGCB") (part_name k)) (setting d k) (type_of (part_kind k))
 
--- SBOw and Oper end with Check, Cancel with Test
+abbrev pub setting_names : ℕ → List Named
+setting_names d = map (setting_named d) parts
+
+-- the parts of a command: ctlVal and origin; ctlNum, T and Test; at SBOw and Oper, Check
+abbrev pub value_names : TypeOf → List ℕ → List Named
+value_names kind item = end_named (within item (codes "ctlVal")) withheld kind ∷ end_named (within item (codes "origin$orCat")) withheld (types.Int 8) ∷ end_named (within item (codes "origin$orIdent")) withheld (types.Octets 64) ∷ []
+
+abbrev pub number_names : List ℕ → List Named
+number_names item = end_named (within item (codes "ctlNum")) withheld (types.Uint 8) ∷ end_named (within item (codes "T")) withheld types.Time ∷ end_named (within item (codes "Test")) withheld types.Bool ∷ []
+
 abbrev pub check_names : Call → List ℕ → List Named
 check_names cancel item = []
 check_names _ item = end_named (within item (codes "Check")) withheld (types.Bits 2) ∷ []
 
 -- SBOw, Oper or Cancel of control k, whose ctlVal is of the type
 abbrev pub command_names : ℕ → TypeOf → List ℕ → Call → List Named
-command_names k kind item call = structure_named item (calling k call)
-    ∷ end_named (within item (codes "ctlVal")) withheld kind ∷ end_named (within item (codes "origin$orCat")) withheld (types.Int 8) ∷ end_named (within item (codes "origin$orIdent")) withheld (types.Octets 64)
-    ∷ end_named (within item (codes "ctlNum")) withheld (types.Uint 8) ∷ end_named (within item (codes "T")) withheld types.Time ∷ end_named (within item (codes "Test")) withheld types.Bool ∷ check_names call item
+command_names k kind item call = structure_named item (calling k call) ∷ (value_names kind item ++ (number_names item ++ check_names call item))
 
 -- models 2 and 4 select before they operate
 abbrev pub is_selected : CtlDef → Bool
 is_selected k = (k.model == 2) || (k.model == 4)
 
 -- what control k has at `LN$CO$DO`: model 2 SBO, model 4 SBOw, each Oper, models 2 and 4 Cancel
+abbrev pub sbo_names : ℕ → CtlDef → List ℕ → List Named
+sbo_names k c item = if c.model == 2 then record { item = within item (codes "SBO"); role = selecting k; kind = types.Text 129 } ∷ [] else []
+
+abbrev pub sbow_names : ℕ → CtlDef → List ℕ → List Named
+sbow_names k c item = if c.model == 4 then command_names k c.kind (within item (codes "SBOw")) select else []
+
+abbrev pub oper_names : ℕ → CtlDef → List ℕ → List Named
+oper_names k c item = command_names k c.kind (within item (codes "Oper")) operate
+
+abbrev pub cancel_names : ℕ → CtlDef → List ℕ → List Named
+cancel_names k c item = if is_selected c then command_names k c.kind (within item (codes "Cancel")) cancel else []
+
 abbrev pub control_names : ℕ → CtlDef → List ℕ → List Named
-control_names k c item = (if c.model == 2 then record { item = within item (codes "SBO"); role = selecting k; kind = types.Text 129 } ∷ [] else [])
-    ++ ((if c.model == 4 then command_names k c.kind (within item (codes "SBOw")) select else [])
-    ++ (command_names k c.kind (within item (codes "Oper")) operate
-    ++ (if is_selected c then command_names k c.kind (within item (codes "Cancel")) cancel else [])))
+control_names k c item = sbo_names k c item ++ (sbow_names k c item ++ (oper_names k c item ++ cancel_names k c item))
 
 -- a CF attribute of a control: its name, its type and its value
 pub record Parameter : Type 0 where
@@ -106,11 +122,13 @@ pub record Parameter : Type 0 where
   pub kind : TypeOf
   pub value : Value
 
+abbrev pub selection : CtlDef → List Parameter
+selection c = record { name = codes "sboTimeout"; kind = types.Uint 32; value = kinds.Uint c.timeout } ∷ record { name = codes "sboClass"; kind = types.Int 8; value = kinds.Int (pos c.class) } ∷ []
+
 abbrev pub parameters : CtlDef → List Parameter
-parameters c = record { name = codes "ctlModel"; kind = types.Int 8; value = kinds.Int (pos c.model) }
-    ∷ (if is_selected c then record { name = codes "sboTimeout"; kind = types.Uint 32; value = kinds.Uint c.timeout } ∷ record { name = codes "sboClass"; kind = types.Int 8; value = kinds.Int (pos c.class) } ∷ [] else [])
+parameters c = record { name = codes "ctlModel"; kind = types.Int 8; value = kinds.Int (pos c.model) } ∷ (if is_selected c then selection c else [])
 
 -- at `LN$CF$DO`, the first being attribute x
 abbrev pub parameter_names : ℕ → List ℕ → List Parameter → List Named
 parameter_names x item [] = []
-parameter_names x item (p ∷ ps) = end_named (within item p.name) (attribute x) p.kind ∷ parameter_names (1 + x) item ps
+parameter_names x item (p ∷ ps) = end_named (within item p.name) (attribute x) p.kind ∷ parameter_names (x + 1) item ps

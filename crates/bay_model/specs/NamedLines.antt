@@ -32,19 +32,34 @@ abbrev pub attribute_names : ℕ → ℕ → AttrDef → List Named
 attribute_names x twin a = end_named (path_item a.ln a.fc a.path) (attribute x) a.kind
     ∷ (if is_setting a then end_named (path_item a.ln (codes "SE") a.path) (attribute twin) a.kind ∷ [] else [])
 
+abbrev pub attribute_line : ℕ → ℕ → AttrDef → Line
+attribute_line x twin a = record { line = a.line; domain = a.domain; names = attribute_names x twin a }
+
 abbrev pub attribute_lines : ℕ → ℕ → List AttrDef → List Line
 attribute_lines x twin [] = []
-attribute_lines x twin (a ∷ rest) = record { line = a.line; domain = a.domain; names = attribute_names x twin a } ∷ attribute_lines (1 + x) (if is_setting a then 1 + twin else twin) rest
+attribute_lines x twin (a ∷ rest) = attribute_line x twin a ∷ attribute_lines (x + 1) (if is_setting a then twin + 1 else twin) rest
+
+abbrev pub node_line : LnDef → Line
+node_line n = record { line = n.line; domain = n.domain; names = structure_named n.ln several ∷ [] }
+
+abbrev pub block_line : ℕ → BlockDef → Line
+block_line b d = record { line = d.line; domain = d.domain; names = block_names b (path_item d.ln (codes "BR") d.name) }
 
 abbrev pub block_lines : ℕ → List BlockDef → List Line
 block_lines b [] = []
-block_lines b (d ∷ rest) = record { line = d.line; domain = d.domain; names = block_names b (path_item d.ln (codes "BR") d.name) } ∷ block_lines (1 + b) rest
+block_lines b (d ∷ rest) = block_line b d ∷ block_lines (b + 1) rest
 
 -- a control's first CF attribute is number x
+abbrev pub control_line : ℕ → ℕ → CtlDef → Line
+control_line k x c = record { line = c.line; domain = c.domain; names = control_names k c (path_item c.ln (codes "CO") c.path) ++ parameter_names x (path_item c.ln (codes "CF") c.path) (parameters c) }
+
 abbrev pub control_lines : ℕ → ℕ → List CtlDef → List Line
 control_lines k x [] = []
-control_lines k x (c ∷ rest) = record { line = c.line; domain = c.domain; names = control_names k c (path_item c.ln (codes "CO") c.path) ++ parameter_names x (path_item c.ln (codes "CF") c.path) (parameters c) }
-    ∷ control_lines (1 + k) (x + length (parameters c)) rest
+control_lines k x (c ∷ rest) = control_line k x c ∷ control_lines (k + 1) (x + length (parameters c)) rest
+
+-- the setting group block of domain d
+abbrev pub group_line : ℕ → SgDef → Line
+group_line d g = record { line = g.line; domain = g.domain; names = setting_names d }
 
 abbrev pub domains : Config → List (List ℕ)
 domains c = domains_after [] c.nodes
@@ -57,11 +72,11 @@ abbrev pub generated : Config → List Parameter
 generated c = flat_map parameters c.controls
 
 abbrev pub lines : Config → List Line
-lines c = map (λ (n : LnDef). record { line = n.line; domain = n.domain; names = structure_named n.ln several ∷ [] }) c.nodes
+lines c = map node_line c.nodes
     ++ (attribute_lines 0 (length c.attrs + length (generated c)) c.attrs
     ++ (block_lines 0 c.blocks
     ++ (control_lines 0 (length c.attrs) c.controls
-    ++ map (λ (g : SgDef). record { line = g.line; domain = g.domain; names = setting_names (domain_number c g.domain) }) c.groups)))
+    ++ map (λ (g : SgDef). group_line (domain_number c g.domain) g) c.groups)))
 
 -- in the order of their numbers
 abbrev pub insert_line : Line → List Line → List Line

@@ -73,6 +73,21 @@ pub struct MemberShape {
     pub attrs: AttrIds,
 }
 
+impl MemberShape {
+    ghost use Rattle.std.specs.Prelude.{◌≡◌, IfOk};
+
+    /// The same shape again.
+    pub fn copy(&self, alloc: Global) -> Result<MemberShape, AllocError>
+        ensures { IfOk result (λ m. m ≡ self.now) }
+    {
+        Ok(MemberShape {
+            node: self.node,
+            kind: copy_type(alloc, &self.kind)?,
+            attrs: AttrIds::from_vec(Vec::from_slice(alloc, self.attrs.as_slice())?),
+        })
+    }
+}
+
 /// A node of the tree of names.
 #[derive(Debug, Drop)]
 pub struct NodeRow {

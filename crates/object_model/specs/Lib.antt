@@ -1,0 +1,4 @@
+pub mod Seen
+pub mod References
+pub mod Numbers
+pub mod Indexes

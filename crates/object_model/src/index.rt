@@ -1,0 +1,59 @@
+//! Names with their numbers.
+
+ghost use Rattle.std.specs.Prelude.{◌≡◌, ℕ, List, IfOk, OnOk};
+ghost use Rattle.std.specs.Str.{bytes_eq};
+ghost use Rattle.indexmap.specs.IndexMap.{get_by};
+ghost use Rattle.object_model.specs.Numbers.{number_or};
+
+use indexmap::IndexMap;
+use std::alloc::{AllocError, Global};
+use sv_base::Octs;
+
+/// Names, each with its number: its place in a list, of two that are the same the first one's.
+#[derive(Drop)]
+pub struct Index {
+    numbers: IndexMap<Vec<u8>, u32>,
+}
+
+/// Gives a name a number, where it has none.
+fn add(
+    alloc: Global,
+    numbers: &mut IndexMap<Vec<u8>, u32>,
+    name: &[u8],
+    number: u32,
+) -> Result<(), AllocError>
+    ensures { OnOk result ((other : List ℕ) → get_by (λ k. bytes_eq other k.items) numbers.new ≡ number_or (get_by (λ k. bytes_eq other k.items) numbers.old) (bytes_eq other name.now) number) }
+{
+    if numbers.contains_key(name) {
+        return Ok(());
+    }
+    let mut key = Vec::new(alloc);
+    key.extend_from_slice(name)?;
+    numbers.insert(key, number)?;
+    Ok(())
+}
+
+impl Index {
+    ghost use Rattle.object_model.specs.Indexes.{Indexes, found};
+
+    /// The places of these names.
+    pub fn of(alloc: Global, names: &[Octs]) -> Result<Self, AllocError>
+        ensures { IfOk result (λ index. Indexes index names.now) }
+    {
+        let mut numbers = IndexMap::new(alloc);
+        for (i, name) in names.iter().enumerate() {
+            if i > 0xffff_ffff {
+                return Err(AllocError);
+            }
+            add(alloc, &mut numbers, name.as_slice(), i as u32)?;
+        }
+        Ok(Index { numbers })
+    }
+
+    /// The number of a name; none exactly where it is not there.
+    pub fn number_of(&self, name: &[u8]) -> Option<u32>
+        ensures { result ≡ found self.now name.now }
+    {
+        self.numbers.get(name).copied()
+    }
+}

@@ -1,0 +1,276 @@
+//! The lines of a configuration with the items that each names, in the order of their numbers.
+
+ghost use Rattle.std.specs.Prelude.{◌≡◌, ◌∷◌, ◌++◌, ◌+◌, [], map, codes, length, IfOk, OnOk, MatchOption, List, ℕ, position, unwrap_or, if◌then◌else◌};
+ghost use Rattle.bay_model.specs.Configured.{domains_after};
+ghost use Rattle.bay_model.specs.Generated.{structure_named, block_names, setting_names, parameters, parameter_names, control_names, end_named};
+ghost use Rattle.bay_model.specs.NamedLines.{attribute_line, attribute_lines, block_line, block_lines, control_line, control_lines, node_line, group_line, attribute_names, domains as domains_of, domain_number, lines as lines_of, in_order, path_item, is_setting as is_setting_line};
+ghost use Rattle.bay_model.specs.Model.{attribute};
+ghost use Rattle.object_model.specs.Seen.{role_seen};
+
+use crate::copies::{copy_octets, copy_type};
+use crate::named::{
+    Named, What, push_block, push_control, push_parameters, push_settings, push_structure,
+};
+use crate::numbers::{count, plus};
+use crate::references::{is_selected, is_setting, item_at};
+use std::alloc::{AllocError, Global};
+use std::marker::Model;
+use sv_base::{AttrDef, BlockDef, Config, CtlDef, LnDef, Octs, SgDef};
+
+/// A line, by its number, with the items of its domain that it names.
+#[derive(Drop)]
+pub struct Line {
+    pub number: u32,
+    pub domain: Octs,
+    pub names: Vec<Named>,
+}
+
+impl Model for Line {
+    ghost use Rattle.bay_model.specs.NamedLines.{Line};
+
+    ghost Value = { Line };
+
+    ghost use Rattle.std.specs.Coded.{codes};
+    ghost use Rattle.sv_base.specs.Types.{fields_code};
+
+    ghost coded = { Prim.hlevel (codes, fields_code) };
+
+    ghost view = { λ l. record { line = l.number; domain = l.domain; names = l.names.items } };
+}
+
+fn push_node(alloc: Global, out: &mut Vec<Line>, node: &LnDef) -> Result<(), AllocError>
+    ensures { OnOk result (out.new.items ≡ out.old.items ++ node_line node.now ∷ []) }
+{
+    let mut names = Vec::new(alloc);
+    push_structure(alloc, &mut names, node.ln.as_slice(), What::Structure)?;
+    let domain = copy_octets(alloc, node.domain.as_slice())?;
+    out.push(Line {
+        number: node.line,
+        domain,
+        names,
+    })?;
+    Ok(())
+}
+
+fn push_end(
+    alloc: Global,
+    out: &mut Vec<Named>,
+    attr: &AttrDef,
+    fc: &[u8],
+    number: u32,
+) -> Result<(), AllocError>
+    ensures { OnOk result (out.new.items ≡ out.old.items ++ end_named (path_item attr.now.ln fc.now attr.now.path) (attribute number) attr.now.kind ∷ []) }
+{
+    let item = item_at(alloc, attr.ln.as_slice(), fc, attr.path.as_slice())?;
+    let kind = copy_type(alloc, &attr.kind)?;
+    out.push(Named {
+        item: Octs::from_vec(item),
+        what: What::Attribute(number),
+        kind,
+    })?;
+    Ok(())
+}
+
+fn push_attr_names(
+    alloc: Global,
+    out: &mut Vec<Named>,
+    attr: &AttrDef,
+    number: u32,
+    twin: u32,
+) -> Result<(), AllocError>
+    ensures { OnOk result (out.new.items ≡ out.old.items ++ attribute_names number twin attr.now) }
+{
+    push_end(alloc, out, attr, attr.fc.as_slice(), number)?;
+    if is_setting(attr) {
+        push_end(alloc, out, attr, b"SE", twin)?;
+    }
+    Ok(())
+}
+
+fn push_attr(
+    alloc: Global,
+    out: &mut Vec<Line>,
+    attr: &AttrDef,
+    number: u32,
+    twin: u32,
+) -> Result<(), AllocError>
+    ensures { OnOk result (out.new.items ≡ out.old.items ++ attribute_line number twin attr.now ∷ []) }
+{
+    let mut names = Vec::new(alloc);
+    push_attr_names(alloc, &mut names, attr, number, twin)?;
+    let domain = copy_octets(alloc, attr.domain.as_slice())?;
+    out.push(Line {
+        number: attr.line,
+        domain,
+        names,
+    })?;
+    Ok(())
+}
+
+fn push_block_names(
+    alloc: Global,
+    out: &mut Vec<Named>,
+    block: &BlockDef,
+    number: u32,
+) -> Result<(), AllocError>
+    ensures { OnOk result (out.new.items ≡ out.old.items ++ block_names number (path_item block.now.ln (codes "BR") block.now.name)) }
+{
+    let item = item_at(alloc, block.ln.as_slice(), b"BR", block.name.as_slice())?;
+    push_block(alloc, out, number, &item)
+}
+
+fn push_block_line(
+    alloc: Global,
+    out: &mut Vec<Line>,
+    block: &BlockDef,
+    number: u32,
+) -> Result<(), AllocError>
+    ensures { OnOk result (out.new.items ≡ out.old.items ++ block_line number block.now ∷ []) }
+{
+    let mut names = Vec::new(alloc);
+    push_block_names(alloc, &mut names, block, number)?;
+    let domain = copy_octets(alloc, block.domain.as_slice())?;
+    out.push(Line {
+        number: block.line,
+        domain,
+        names,
+    })?;
+    Ok(())
+}
+
+fn push_group(
+    alloc: Global,
+    out: &mut Vec<Line>,
+    group: &SgDef,
+    domain_number: u32,
+) -> Result<(), AllocError>
+    ensures { OnOk result (out.new.items ≡ out.old.items ++ group_line domain_number group.now ∷ []) }
+{
+    let mut names = Vec::new(alloc);
+    push_settings(alloc, &mut names, domain_number)?;
+    let domain = copy_octets(alloc, group.domain.as_slice())?;
+    out.push(Line {
+        number: group.line,
+        domain,
+        names,
+    })?;
+    Ok(())
+}
+
+fn push_control_names(
+    alloc: Global,
+    out: &mut Vec<Named>,
+    control: &CtlDef,
+    number: u32,
+) -> Result<(), AllocError>
+    ensures { OnOk result (out.new.items ≡ out.old.items ++ control_names number control.now (path_item control.now.ln (codes "CO") control.now.path)) }
+{
+    let item = item_at(alloc, control.ln.as_slice(), b"CO", control.path.as_slice())?;
+    push_control(alloc, out, number, control, &item)
+}
+
+fn push_parameter_names(
+    alloc: Global,
+    out: &mut Vec<Named>,
+    control: &CtlDef,
+    first: u32,
+) -> Result<(), AllocError>
+    ensures { OnOk result (out.new.items ≡ out.old.items ++ parameter_names first (path_item control.now.ln (codes "CF") control.now.path) (parameters control.now)) }
+{
+    let item = item_at(alloc, control.ln.as_slice(), b"CF", control.path.as_slice())?;
+    push_parameters(alloc, out, first, control, &item)
+}
+
+fn push_control_line(
+    alloc: Global,
+    out: &mut Vec<Line>,
+    control: &CtlDef,
+    number: u32,
+    first: u32,
+) -> Result<(), AllocError>
+    ensures { OnOk result (out.new.items ≡ out.old.items ++ control_line number first control.now ∷ []) }
+{
+    let mut names = Vec::new(alloc);
+    push_control_names(alloc, &mut names, control, number)?;
+    push_parameter_names(alloc, &mut names, control, first)?;
+    let domain = copy_octets(alloc, control.domain.as_slice())?;
+    out.push(Line {
+        number: control.line,
+        domain,
+        names,
+    })?;
+    Ok(())
+}
+
+fn push_nodes(alloc: Global, out: &mut Vec<Line>, nodes: &[LnDef]) -> Result<(), AllocError>
+    ensures { OnOk result (out.new.items ≡ out.old.items ++ map node_line nodes.now) }
+{
+    for node in nodes {
+        push_node(alloc, out, node)?;
+    }
+    Ok(())
+}
+
+/// The number of the next twin.
+fn next_twin(attr: &AttrDef, twin: u32) -> Result<u32, AllocError>
+    ensures { IfOk result (λ next. next ≡ (if is_setting_line attr.now then twin + 1 else twin)) }
+{
+    if is_setting(attr) {
+        return plus(twin, 1);
+    }
+    Ok(twin)
+}
+
+fn push_attrs(
+    alloc: Global,
+    out: &mut Vec<Line>,
+    attrs: &[AttrDef],
+    first_twin: u32,
+) -> Result<(), AllocError>
+    ensures { OnOk result (out.new.items ≡ out.old.items ++ attribute_lines 0 first_twin attrs.now) }
+{
+    let mut number = 0;
+    let mut twin = first_twin;
+    for attr in attrs {
+        push_attr(alloc, out, attr, number, twin)?;
+        number = plus(number, 1)?;
+        twin = next_twin(attr, twin)?;
+    }
+    Ok(())
+}
+
+fn push_blocks(alloc: Global, out: &mut Vec<Line>, blocks: &[BlockDef]) -> Result<(), AllocError>
+    ensures { OnOk result (out.new.items ≡ out.old.items ++ block_lines 0 blocks.now) }
+{
+    let mut number = 0;
+    for block in blocks {
+        push_block_line(alloc, out, block, number)?;
+        number = plus(number, 1)?;
+    }
+    Ok(())
+}
+
+/// How many CF attributes a control has.
+fn parameter_count(control: &CtlDef) -> u32
+    ensures { result ≡ length (parameters control.now) }
+{
+    if is_selected(control) { 3 } else { 1 }
+}
+
+fn push_controls(
+    alloc: Global,
+    out: &mut Vec<Line>,
+    controls: &[CtlDef],
+    first: u32,
+) -> Result<(), AllocError>
+    ensures { OnOk result (out.new.items ≡ out.old.items ++ control_lines 0 first controls.now) }
+{
+    let mut number = 0;
+    let mut attr = first;
+    for control in controls {
+        push_control_line(alloc, out, control, number, attr)?;
+        number = plus(number, 1)?;
+        attr = plus(attr, parameter_count(control))?;
+    }
+    Ok(())
+}
