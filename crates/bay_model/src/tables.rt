@@ -1,8 +1,9 @@
 //! The nodes and the data sets of a configuration, as the parts of a bay are given them.
 
 use crate::{Nodes, SetName};
+use std::alloc::{AllocError, Global};
 use std::marker::Model;
-use sv_base::{AttrId, NodeId, TypeOf};
+use sv_base::{AttrId, NodeId, TypeOf, copy_type};
 
 /// The attributes of a node, in the order of its type.
 #[derive(Debug, Drop)]

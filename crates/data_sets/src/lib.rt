@@ -1,0 +1,11 @@
+//! The data sets that are there (IEC 61850-7-2, DATA-SET; ISO 9506-2, named variable lists).
+#![tactic(auto)]
+
+mod book;
+mod laws;
+
+pub use book::SetBook;
+pub use laws::sets_are_the_definition;
+
+#[cfg(test)]
+mod tests;
