@@ -358,6 +358,25 @@ impl Slot {
         })
     }
 
+    /// Whether a value is of the slot's kind, and a bit string of its length.
+    pub fn is_kind(&self, value: &Value) -> bool
+        ensures { result ≡ is_kind self.now.kind value.now }
+    {
+        match &self.cell {
+            Cell::Bool(_) => matches!(value, Value::Bool(_)),
+            Cell::Int(_) => matches!(value, Value::Int(_)),
+            Cell::Uint(_) => matches!(value, Value::Uint(_)),
+            Cell::Bits(old) => match value {
+                Value::Bits(new) => new.len() == old.len(),
+                _ => false,
+            },
+            Cell::Time(_) => matches!(value, Value::Time(_)),
+            Cell::Stamp(_) => matches!(value, Value::Stamp(_)),
+            Cell::Text(_) => matches!(value, Value::Text(_)),
+            Cell::Octets(_) => matches!(value, Value::Octets(_)),
+        }
+    }
+
     /// Sets the value; tells whether it was another. It takes no memory. A value that is refused leaves the one before.
     pub fn set(&mut self, value: &Value) -> Result<bool, Misfit>
         ensures answer { result ≡ set_over self.old value.now }

@@ -1,0 +1,74 @@
+use crate::fault::SetFault;
+use bay_model::{Misfit, Slot, ValueRef};
+use sv_base::{AttrId, Value};
+
+/// An attribute: its value, and whether clients may write it.
+#[derive(Debug, Drop)]
+pub(crate) struct Cell {
+    pub(crate) slot: Slot,
+    pub(crate) is_writable: bool,
+}
+
+/// What comes of a setting: whether the value is another than before.
+#[derive(Clone, Copy, Debug, PartialEq, Eq)]
+pub struct Changed {
+    pub differs: bool,
+}
+
+/// The values of all attributes, by their numbers.
+#[derive(Debug, Drop)]
+pub struct Store {
+    pub(crate) cells: Vec<Cell>,
+}
+
+impl Cell {
+    ghost use Rattle.std.specs.Prelude.{◌≡◌, OnOk, OnErr};
+    ghost use Rattle.value_store.specs.Stored.{stored, outcome, with_value};
+
+    /// Sets the value.
+    fn set(&mut self, value: &Value, by_client: bool) -> Result<Changed, SetFault>
+        ensures answer { result ≡ outcome (stored self.old) value.now by_client }
+        ensures set { OnOk result (stored self.new ≡ with_value value.now (stored self.old)) }
+        ensures kept { OnErr result (self.new ≡ self.old) }
+    {
+        if by_client && !self.is_writable {
+            return Err(if self.slot.is_kind(value) {
+                SetFault::ReadOnly
+            } else {
+                SetFault::Kind
+            });
+        }
+        match self.slot.set(value) {
+            Ok(differs) => Ok(Changed { differs }),
+            Err(Misfit::Kind) => Err(SetFault::Kind),
+            Err(Misfit::Range) => Err(SetFault::TooLong),
+        }
+    }
+}
+
+impl Store {
+    ghost use Rattle.std.specs.Prelude.{◌≡◌, ◌<◌, OnOk, OnErr, length, map, slice_set};
+    ghost use Rattle.bay_model.specs.Slots.{lent};
+    ghost use Rattle.value_store.specs.Stored.{stored, attribute, outcome, with_value};
+
+    /// The value of an attribute, lent.
+    pub fn get(&self, attr: AttrId) -> ValueRef<'_>
+        requires { attr.0 < length self.now.cells.items }
+        ensures { lent result ≡ (attribute (map stored self.now.cells.items) attr.0).held.value }
+    {
+        self.cells[attr.0 as usize].slot.get()
+    }
+
+    /// Sets the value of an attribute, as the process does or a client: tells whether it was another. It takes no memory.
+    ///
+    /// Refuses, in this order, a value of another kind, a client's write of what clients may not write, and a value out of
+    /// the type's range or above its greatest length. A refusal leaves the value as it was.
+    pub fn set(&mut self, attr: AttrId, value: &Value, by_client: bool) -> Result<Changed, SetFault>
+        requires { attr.0 < length self.old.cells.items }
+        ensures answer { result ≡ outcome (attribute (map stored self.old.cells.items) attr.0) value.now by_client }
+        ensures set { OnOk result (map stored self.new.cells.items ≡ slice_set (map stored self.old.cells.items) attr.0 (with_value value.now (attribute (map stored self.old.cells.items) attr.0))) }
+        ensures kept { OnErr result (map stored self.new.cells.items ≡ map stored self.old.cells.items) }
+    {
+        self.cells[attr.0 as usize].set(value, by_client)
+    }
+}
