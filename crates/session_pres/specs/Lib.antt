@@ -6,3 +6,5 @@ pub mod UserData
 pub mod ContextList
 pub mod Presentation
 pub mod PresentationReading
+pub mod View
+pub mod ViewOfContexts

@@ -81,5 +81,9 @@ abbrev pub all_cut : List Parameter → Bool
 all_cut [] = true
 all_cut (p ∷ ps) = is_cut p && all_cut ps
 
+-- the user data, with one parameter more
+abbrev pub if_user : Parameter → Option Piece → Option Piece
+if_user p user = first_of_two (if p.code == 193 then Some p.value else None) user
+
 unfoldable pub user_at : Piece → Option (Option Piece)
 user_at input = and_then (parameters_at input) (λ ps. if all_cut ps then Some (last_of 193 ps) else None)
