@@ -1,1 +1,3 @@
 pub mod ParameterLaws
+pub mod PlaceLaws
+pub mod ContextLaws

@@ -97,10 +97,26 @@ definitions_at (s ∷ ss) = and_then (definition_at s) (λ d. and_then (definiti
 unfoldable pub context_list_at : Piece → Option (List Context)
 context_list_at content = and_then (elements_at content) definitions_at
 
+-- the same one place further on
+abbrev pub further : ℕ × Context → ℕ × Context
+further x = (suc x.0, x.1)
+
 -- the first of this syntax, and its place
 abbrev pub first_of : List ℕ → List Context → Option (ℕ × Context)
 first_of syntax [] = None
-first_of syntax (c ∷ cs) = if bytes_eq c.syntax syntax then Some (0, c) else option_map (λ x. (suc x.0, x.1)) (first_of syntax cs)
+first_of syntax (c ∷ cs) = if bytes_eq c.syntax syntax then Some (0, c) else option_map further (first_of syntax cs)
+
+abbrev pub chosen_of : Option (ℕ × Context) → Option Chosen
+chosen_of found = and_then found (λ x. if x.1.has_ber then Some (record { place = x.0; number = x.1.number }) else None)
 
 abbrev pub chosen_at : List ℕ → List Context → Option Chosen
-chosen_at syntax contexts = and_then (first_of syntax contexts) (λ x. if x.1.has_ber then Some (record { place = x.0; number = x.1.number }) else None)
+chosen_at syntax contexts = chosen_of (first_of syntax contexts)
+
+-- what is to be known of a list: how many there are, and the first of each abstract syntax
+pub record Offered : Type 0 where
+  pub count : ℕ
+  pub acse : Option (ℕ × Context)
+  pub mms : Option (ℕ × Context)
+
+abbrev pub offered : List Context → Offered
+offered contexts = record { count = length contexts; acse = first_of acse contexts; mms = first_of mms contexts }

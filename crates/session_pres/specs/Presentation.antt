@@ -9,10 +9,6 @@ use Rattle.session_pres.specs.Units.{HasData, IsDataRefused}
 use Rattle.session_pres.specs.UserData.{IsPdvList}
 use Rattle.session_pres.specs.ContextList.{Context, Chosen, IsContextList, IsChosen, ber, acse, mms, flags_from}
 
--- one SET, 49, of these elements
-abbrev pub IsSet : Piece → List Spot → Type 0
-IsSet input fields = (content : Piece) × IsOnly 49 input content × AreElements content fields
-
 -- the content of the first element of this tag
 abbrev pub IsTagged : ℕ → List Spot → Piece → Type 0
 IsTagged tag fields content = tagged tag fields ≡ Some content
@@ -35,23 +31,24 @@ pub record Request : Type 0 where
 abbrev pub request : List Context → Chosen → Chosen → Piece → Request
 request contexts a m user = record { acse = a.number; mms = m.number; list = flags_from 0 (length contexts) a.place m.place; user = user }
 
--- A SET that has the normal mode, and its parameters in [2], 162: their elements. Other elements are passed over.
-abbrev pub HasFields : Piece → List Spot → Type 0
-HasFields input = Then (IsSet input) (λ set. Then (IsNormal set) (λ mode. Then (IsTagged 162 set) AreElements))
+-- One SET, 49, has the normal mode, and its parameters in [2], 162. Other elements are passed over.
+abbrev pub HasParameters : Piece → Piece → Type 0
+HasParameters input = Then (IsOnly 49 input) (λ content. Then (AreElements content) (λ set. Then (IsNormal set) (λ mode. IsTagged 162 set)))
 
 -- the refusals of each step, in their order
-abbrev pub AreFieldsRefused : Piece → SpFault → Type 0
-AreFieldsRefused input = Else faults.Parameter (IsSet input) (λ set. Else faults.Mode (IsNormal set) (λ mode.
-    Else faults.NoAcseContext (IsTagged 162 set) (λ parameters. IsLacking faults.Parameter (AreElements parameters))))
+abbrev pub AreParametersRefused : Piece → SpFault → Type 0
+AreParametersRefused input = Else faults.Parameter (IsOnly 49 input) (λ content. Else faults.Parameter (AreElements content) (λ set.
+    Else faults.Mode (IsNormal set) (λ mode. IsLacking faults.NoAcseContext (IsTagged 162 set))))
 
 -- A CP has the context definition list in [4], 164, and the user data in the context of ACSE.
 abbrev pub IsCp : Piece → Request → Type 0
-IsCp input = Then (HasFields input) (λ fields. Then (IsTagged 164 fields) (λ content. Then (IsContextList content) (λ contexts.
-    Then (IsChosen acse contexts) (λ a. Then (IsChosen mms contexts) (λ m. Then (IsUser fields a.number) (λ user cp. cp ≡ request contexts a m user))))))
+IsCp input = Then (HasParameters input) (λ parameters. Then (AreElements parameters) (λ fields. Then (IsTagged 164 fields) (λ content. Then (IsContextList content) (λ contexts.
+    Then (IsChosen acse contexts) (λ a. Then (IsChosen mms contexts) (λ m. Then (IsUser fields a.number) (λ user cp. cp ≡ request contexts a m user)))))))
 
 abbrev pub IsCpRefused : Piece → SpFault → Type 0
-IsCpRefused input = Or (AreFieldsRefused input) (HasFields input) (λ fields. Else faults.NoAcseContext (IsTagged 164 fields) (λ content. Else faults.Parameter (IsContextList content) (λ contexts.
-    Else faults.NoAcseContext (IsChosen acse contexts) (λ a. Else faults.NoMmsContext (IsChosen mms contexts) (λ m. IsLacking faults.Pdv (IsUser fields a.number))))))
+IsCpRefused input = Or (AreParametersRefused input) (HasParameters input) (λ parameters. Else faults.Parameter (AreElements parameters) (λ fields.
+    Else faults.NoAcseContext (IsTagged 164 fields) (λ content. Else faults.Parameter (IsContextList content) (λ contexts.
+    Else faults.NoAcseContext (IsChosen acse contexts) (λ a. Else faults.NoMmsContext (IsChosen mms contexts) (λ m. IsLacking faults.Pdv (IsUser fields a.number)))))))
 
 -- ---- CPA
 
@@ -75,12 +72,13 @@ IsAccepted found s = (found ≡ Some s) × IsAcceptance s
 -- A CPA has the results in [5], 165: the first of the context of ACSE, whose number is 1, and the second of that of MMS.
 -- What further results say is disregarded.
 abbrev pub IsCpa : Piece → Piece → Type 0
-IsCpa input = Then (HasFields input) (λ fields. Then (IsTagged 165 fields) (λ content. Then (AreElements content) (λ results.
-    Then (IsAccepted (first_in results)) (λ a. Then (IsAccepted (second_in results)) (λ m. IsUser fields 1)))))
+IsCpa input = Then (HasParameters input) (λ parameters. Then (AreElements parameters) (λ fields. Then (IsTagged 165 fields) (λ content. Then (AreElements content) (λ results.
+    Then (IsAccepted (first_in results)) (λ a. Then (IsAccepted (second_in results)) (λ m. IsUser fields 1))))))
 
 abbrev pub IsCpaRefused : Piece → SpFault → Type 0
-IsCpaRefused input = Or (AreFieldsRefused input) (HasFields input) (λ fields. Else faults.NoAcseContext (IsTagged 165 fields) (λ content. Else faults.Parameter (AreElements content) (λ results.
-    Else faults.NoAcseContext (IsAccepted (first_in results)) (λ a. Else faults.NoMmsContext (IsAccepted (second_in results)) (λ m. IsLacking faults.Pdv (IsUser fields 1))))))
+IsCpaRefused input = Or (AreParametersRefused input) (HasParameters input) (λ parameters. Else faults.Parameter (AreElements parameters) (λ fields.
+    Else faults.NoAcseContext (IsTagged 165 fields) (λ content. Else faults.Parameter (AreElements content) (λ results.
+    Else faults.NoAcseContext (IsAccepted (first_in results)) (λ a. Else faults.NoMmsContext (IsAccepted (second_in results)) (λ m. IsLacking faults.Pdv (IsUser fields 1)))))))
 
 -- an ACCEPT, 14, whose user data are a CPA
 abbrev pub IsAc : Piece → Piece → Type 0

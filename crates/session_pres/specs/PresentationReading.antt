@@ -16,19 +16,15 @@ abbrev pub if_octets : List ℕ → Option Piece → Option Piece
 if_octets octets None = None
 if_octets octets (Some part) = if bytes_eq part.octets octets then Some part else None
 
-unfoldable pub set_at : Piece → Option (List Spot)
-set_at input = and_then (only_at 49 input) elements_at
-
 unfoldable pub normal_at : List Spot → Option Piece
 normal_at fields = if_octets (128 ∷ 1 ∷ 1 ∷ []) (tagged 160 fields)
 
--- the elements of the parameters
-unfoldable pub fields_at : Piece → Result (List Spot) SpFault
-fields_at input =
-    required faults.Parameter (set_at input) >>= λ set.
+unfoldable pub parameters_in : Piece → Result Piece SpFault
+parameters_in input =
+    required faults.Parameter (only_at 49 input) >>= λ content.
+    required faults.Parameter (elements_at content) >>= λ set.
     required faults.Mode (normal_at set) >>= λ mode.
-    required faults.NoAcseContext (tagged 162 set) >>= λ parameters.
-    required faults.Parameter (elements_at parameters)
+    required faults.NoAcseContext (tagged 162 set)
 
 -- the user data, where it stands in this context
 abbrev pub if_context : ℕ → Option (ℕ × Piece) → Option Piece
@@ -40,7 +36,8 @@ user_in fields number = if_context number (and_then (tagged 97 fields) pdv_list_
 
 unfoldable pub cp_at : Piece → Result Request SpFault
 cp_at input =
-    fields_at input >>= λ fields.
+    parameters_in input >>= λ parameters.
+    required faults.Parameter (elements_at parameters) >>= λ fields.
     required faults.NoAcseContext (tagged 164 fields) >>= λ content.
     required faults.Parameter (context_list_at content) >>= λ contexts.
     required faults.NoAcseContext (chosen_at acse contexts) >>= λ a.
@@ -54,7 +51,8 @@ accepted_at (Some s) = if s.element.tag == 48 then and_then (elements_at (conten
 
 unfoldable pub cpa_at : Piece → Result Piece SpFault
 cpa_at input =
-    fields_at input >>= λ fields.
+    parameters_in input >>= λ parameters.
+    required faults.Parameter (elements_at parameters) >>= λ fields.
     required faults.NoAcseContext (tagged 165 fields) >>= λ content.
     required faults.Parameter (elements_at content) >>= λ results.
     required faults.NoAcseContext (accepted_at (first_in results)) >>= λ a.

@@ -3,8 +3,8 @@ ghost use Rattle.std.specs.Option.{option_map};
 ghost use Rattle.ber_grammar.specs.Place.{piece, content_piece};
 ghost use Rattle.ber_view.specs.View.{spot};
 ghost use Rattle.session_pres.specs.Places.{elements_at};
-ghost use Rattle.session_pres.specs.ContextList.{Context, has_ber, fields_at, definition_at, definitions_at, context_list_at, ber, acse as acse_syntax, mms as mms_syntax, first_of, chosen_at, flags_from};
-ghost use Rattle.session_pres.specs.ViewOfContexts.{context};
+ghost use Rattle.session_pres.specs.ContextList.{Context, has_ber, fields_at, definition_at, chosen_of, offered, context_list_at, flags_from};
+ghost use Rattle.session_pres.specs.ViewOfContexts.{context, candidate, offer, chosen, if_first};
 
 use crate::pdv::context_of;
 use crate::row::elements_of;
@@ -75,4 +75,103 @@ fn definition_of<'a>(element: &Tlv<'a>) -> Option<Definition<'a>>
         return None;
     }
     context_of_fields(elements_of(element.content)?)
+}
+
+/// A context, and its place in the list, from 0.
+pub type Candidate<'a> = (usize, Definition<'a>);
+
+/// What is to be known of a list: how many contexts there are, and the first of each abstract syntax.
+#[derive(Clone, Copy)]
+pub struct Offer<'a> {
+    pub count: usize,
+    pub acse: Option<Candidate<'a>>,
+    pub mms: Option<Candidate<'a>>,
+}
+
+/// The first context of an abstract syntax, with one more context of the list.
+fn earlier<'a>(
+    syntax: &[u8],
+    found: Option<Candidate<'a>>,
+    next: Candidate<'a>,
+) -> Option<Candidate<'a>>
+    ensures { option_map candidate result ≡ if_first syntax.now (option_map candidate found.entry) (candidate next.entry) }
+{
+    if found.is_some() {
+        return found;
+    }
+    if next.1.syntax == syntax {
+        Some(next)
+    } else {
+        None
+    }
+}
+
+/// The contexts of a definition list (ISO 8823-1, "Presentation-context-definition-list").
+pub fn offer_of(content: &[u8]) -> Option<Offer<'_>>
+    ensures { option_map offer result ≡ option_map offered (context_list_at (piece content.entry)) }
+{
+    let mut elements = elements_of(content)?;
+    let mut count = 0;
+    let mut acse = None;
+    let mut mms = None;
+    while let Some(element) = elements.next() {
+        let definition = definition_of(&element)?;
+        acse = earlier(&[0x52, 1, 0, 1], acse, (count, definition));
+        mms = earlier(&[0x28, 0xca, 0x22, 2, 1], mms, (count, definition));
+        count += 1;
+    }
+    Some(Offer { count, acse, mms })
+}
+
+/// A context that is chosen: its place, and its number. None where BER isn't one of its transfer syntaxes.
+pub fn choice(found: Option<Candidate<'_>>) -> Option<(usize, u32)>
+    ensures { option_map chosen result ≡ chosen_of (option_map candidate found.entry) }
+{
+    let (place, definition) = found?;
+    if !definition.has_ber {
+        return None;
+    }
+    Some((place, definition.number))
+}
+
+fn is_one_of(place: usize, acse: usize, mms: usize) -> bool
+    ensures { result ≡ (place == acse || place == mms) }
+{
+    place == acse || place == mms
+}
+
+impl Contexts {
+    ghost use Rattle.std.specs.Prelude.{◌≡◌, ◌==◌, length, slice_get};
+    ghost use Rattle.session_pres.specs.ContextList.{flags_from};
+
+    /// So many contexts, of which those at two places are accepted.
+    pub fn accepting(count: usize, acse: usize, mms: usize) -> Self
+        ensures { result ≡ flags_from 0 count acse mms }
+    {
+        Contexts { count, acse, mms }
+    }
+
+    /// How many contexts there are.
+    pub fn len(&self) -> usize
+        ensures { result ≡ length self.now }
+    {
+        self.count
+    }
+
+    /// Whether there is none.
+    pub fn is_empty(&self) -> bool
+        ensures { result ≡ (length self.now == 0) }
+    {
+        self.count == 0
+    }
+
+    /// Whether the context at `place`, from 0, is accepted; none behind the last.
+    pub fn get(&self, place: usize) -> Option<bool>
+        ensures { result ≡ slice_get self.now place }
+    {
+        if place >= self.count {
+            return None;
+        }
+        Some(is_one_of(place, self.acse, self.mms))
+    }
 }
