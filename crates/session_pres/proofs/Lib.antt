@@ -1,3 +1,6 @@
+pub mod StepLaws
 pub mod ParameterLaws
 pub mod PlaceLaws
 pub mod ContextLaws
+pub mod UserDataLaws
+pub mod ListLaws
