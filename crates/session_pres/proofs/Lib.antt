@@ -4,3 +4,5 @@ pub mod PlaceLaws
 pub mod ContextLaws
 pub mod UserDataLaws
 pub mod ListLaws
+pub mod UnitLaws
+pub mod PresentationLaws

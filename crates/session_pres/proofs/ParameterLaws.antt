@@ -211,7 +211,7 @@ cut_at p true e h = let inner = h (eqb-true p.code 5 e) in rw (parameters_again 
 pub cut_again : (p : Parameter) → IsCut p → is_cut p ≡ true
 cut_again p h = cut_at p (eqb p.code 5) refl h
 
-both_true : (a b : Bool) → (a && b) ≡ true → (a ≡ true) × (b ≡ true)
+pub both_true : (a b : Bool) → (a && b) ≡ true → (a ≡ true) × (b ≡ true)
 both_true true b e = (refl, e)
 both_true false b e = absurd cc
 

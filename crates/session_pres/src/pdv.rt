@@ -4,8 +4,8 @@ ghost use Rattle.ber_grammar.specs.Place.{Piece, piece};
 ghost use Rattle.ber_grammar.specs.Reader.{Gives, Reads};
 ghost use Rattle.ber_view.specs.View.{spot};
 ghost use Rattle.session_pres.specs.declared.fault.SpFault.TheVariants as faults;
-ghost use Rattle.session_pres.specs.Steps.{required};
-ghost use Rattle.session_pres.specs.UserData.{context_at, pair_at, pdv_at, pdv_list_at, user_data_at};
+ghost use Rattle.session_pres.specs.Steps.{IsLacking, required};
+ghost use Rattle.session_pres.specs.UserData.{IsUserData, context_at, pair_at, pdv_at, pdv_list_at, user_data_at};
 ghost use Rattle.session_pres.specs.View.{pdv};
 
 use crate::fault::SpFault;
@@ -67,8 +67,20 @@ fn user_data_of(octets: &[u8]) -> Option<(u32, &[u8])>
     pdv_list_of(only(0x61, octets)?)
 }
 
-pub fn read_data(octets: &[u8]) -> Result<(u32, &[u8]), SpFault>
-    ensures exact { Gives {Y = ℕ × Piece} pdv result (required faults.Pdv (user_data_at (piece octets.entry))) }
+fn data_of(octets: &[u8]) -> Result<(u32, &[u8]), SpFault>
+    ensures { Gives {Y = ℕ × Piece} pdv result (required faults.Pdv (user_data_at (piece octets.entry))) }
 {
     user_data_of(octets).ok_or(SpFault::Pdv)
+}
+
+/// The number of the context in which fully encoded user data stand, and their value, which is one element (ISO 8823-1,
+/// "User-data"): an element 61 that holds one SEQUENCE, of an OBJECT IDENTIFIER that may be there, an INTEGER of 32 bits,
+/// and A0 with the value.
+///
+/// Fails with `Pdv` where the octets are of another form.
+pub fn read_data(octets: &[u8]) -> Result<(u32, &[u8]), SpFault>
+    ensures reads { Reads {Y = ℕ × Piece} pdv result (IsUserData (piece octets.entry)) (IsLacking faults.Pdv (IsUserData (piece octets.entry))) }
+    ensures exact { Gives {Y = ℕ × Piece} pdv result (required faults.Pdv (user_data_at (piece octets.entry))) }
+{
+    data_of(octets)
 }

@@ -97,7 +97,15 @@ fn cp_of(ppdu: &[u8]) -> Result<Cp<'_>, SpFault>
     })
 }
 
+/// What a CP says (ISO 8823-1, "CP-type"): the contexts of ACSE and of MMS, each the first of its abstract syntax in the
+/// definition list, and the APDU in the user data. Selectors and other elements are passed over.
+///
+/// Fails, in this order, with `Parameter` where it isn't one SET of elements, `Mode` where its mode isn't the normal one,
+/// `Parameter` where the parameters of the normal mode or the definition list aren't of their form, `NoAcseContext` where
+/// there are none of them, or no context of ACSE, or BER isn't one of its transfer syntaxes, `NoMmsContext` where it is so
+/// with the context of MMS, and `Pdv` where the user data aren't one PDV of the context of ACSE.
 pub fn read_cp(ppdu: &[u8]) -> Result<Cp<'_>, SpFault>
+    ensures reads { Reads request_of result (IsCp (piece ppdu.entry)) (IsCpRefused (piece ppdu.entry)) }
     ensures exact { Gives request_of result (cp_at (piece ppdu.entry)) }
 {
     cp_of(ppdu)
@@ -141,7 +149,14 @@ fn ac_of(spdu: &[u8]) -> Result<&[u8], SpFault>
     cpa_of(connect_data_of(ACCEPT, spdu)?)
 }
 
+/// The APDU in the user data of an ACCEPT (ISO 8327-1), whose CPA (ISO 8823-1, "CPA-PPDU") accepts with BER the two
+/// contexts that were proposed: 1, of ACSE, and 3, of MMS.
+///
+/// Fails with `Spdu` where it isn't an ACCEPT whose length is that of all that follows, `Parameter` where its parameters
+/// don't cut or it has no user data, then as [`read_cp`] does, with `NoAcseContext` where the first context, and
+/// `NoMmsContext` where the second, wasn't accepted.
 pub fn read_ac(spdu: &[u8]) -> Result<&[u8], SpFault>
+    ensures reads { Reads piece result (IsAc (piece spdu.entry)) (IsAcRefused (piece spdu.entry)) }
     ensures exact { Gives piece result (ac_at (piece spdu.entry)) }
 {
     ac_of(spdu)

@@ -108,13 +108,26 @@ fn spdu_of(spdu: &[u8]) -> Result<Spdu<'_>, SpFault>
     transferred(spdu).ok_or(SpFault::Spdu)
 }
 
+/// What an SPDU brings to the side that was called (ISO 8327-1). A FINISH may have user data, a CONNECT must; of user data
+/// that are repeated the last count, and parameters of other codes are skipped, but cut.
+///
+/// Fails with `Spdu` where the code is none of CONNECT, FINISH and ABORT, or the length isn't that of all that follows, or
+/// is in three octets where one does; user data stand behind `01 00 01 00` alone. Fails with `Parameter` where the
+/// parameters, those of a connect/accept item too, don't cut into whole ones, and where a CONNECT has no user data.
 pub fn read_spdu(spdu: &[u8]) -> Result<Spdu<'_>, SpFault>
+    // What the octets spell, with the places of its parts, else the refusal that the octets earn.
+    ensures reads { Reads seen result (IsSpdu (piece spdu.entry)) (IsSpduRefused (piece spdu.entry)) }
     ensures exact { Gives seen result (spdu_at (piece spdu.entry)) }
 {
     spdu_of(spdu)
 }
 
+/// The user data of a DISCONNECT (ISO 8327-1), the answer to a FINISH, or none where it has none.
+///
+/// Fails with `Spdu` where it isn't a DISCONNECT, or the length isn't that of all that follows, and with `Parameter` where
+/// the parameters don't cut into whole ones.
 pub fn read_dn(spdu: &[u8]) -> Result<Option<&[u8]>, SpFault>
+    ensures reads { Reads (λ user. option_map piece user) result (HasUser 10 (piece spdu.entry)) (IsUserRefused 10 (piece spdu.entry)) }
     ensures exact { Gives (λ user. option_map piece user) result (user_of 10 (piece spdu.entry)) }
 {
     user_data_of(DISCONNECT, spdu)
