@@ -6,3 +6,4 @@ pub mod UserDataLaws
 pub mod ListLaws
 pub mod UnitLaws
 pub mod PresentationLaws
+pub mod WritingLaws

@@ -6,5 +6,6 @@ pub mod UserData
 pub mod ContextList
 pub mod Presentation
 pub mod PresentationReading
+pub mod Written
 pub mod View
 pub mod ViewOfContexts

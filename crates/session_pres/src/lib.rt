@@ -8,6 +8,7 @@ mod pdv;
 mod presentation;
 mod row;
 mod spdu;
+mod writing;
 
 pub use contexts::Contexts;
 pub use fault::SpFault;
