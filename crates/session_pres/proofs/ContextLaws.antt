@@ -84,9 +84,12 @@ offered-more : (before : List Context) (d : Context) → with_next (offered befo
 offered-more before d = rw (first_of-more acse before d, first_of-more mms before d, length-append before (d ∷ [])) refl
 
 pub ListGoes-more : (all rest after : List Spot) (s : Spot) (d : Context) (known : Offered) → ListGoes all rest known → rest ≡ s ∷ after → definition_at s ≡ Some d → ListGoes all after (with_next known d)
-ListGoes-more all rest after s d known (before, h, is, count) step this =
-    (before ++ d ∷ [], h ∙ ap (λ (r : Option (List Context)). and_then r (λ ds. Some (before ++ ds))) (ap definitions_at step ∙ ap (λ (r : Option Context). and_then r (λ d. and_then (definitions_at after) (λ ds. Some (d ∷ ds)))) this) ∙ one_before before d (definitions_at after),
-    ap (λ (o : Offered). with_next o d) is ∙ offered-more before d, omega (arith, count, ap (λ (x : List Spot). length x) step, length-append before (d ∷ [])))
+ListGoes-more all rest after s d known (before, h, is, count) step this = (
+  before ++ d ∷ [],
+  h ∙ ap (λ (r : Option (List Context)). and_then r (λ ds. Some (before ++ ds))) (ap definitions_at step ∙ ap (λ (r : Option Context). and_then r (λ d. and_then (definitions_at after) (λ ds. Some (d ∷ ds)))) this) ∙ one_before before d (definitions_at after),
+  ap (λ (o : Offered). with_next o d) is ∙ offered-more before d,
+  omega (arith, count, ap (λ (x : List Spot). length x) step, length-append before (d ∷ [])),
+)
 
 pub ListGoes-same : (all rest : List Spot) (known : Offered) (a m : Option (ℕ × Context)) → ListGoes all rest known → a ≡ known.acse → m ≡ known.mms → ListGoes all rest (record { count = known.count; acse = a; mms = m })
 ListGoes-same all rest known a m h p q = rw (p, q) h

@@ -16,3 +16,6 @@ pub use pdv::read_data;
 pub use presentation::{Cp, read_ac, read_cp};
 pub use spdu::{Spdu, read_dn, read_spdu};
 pub use writing::{write_ac, write_cn, write_cpa, write_data, write_dn, write_fn};
+
+#[cfg(test)]
+mod tests;

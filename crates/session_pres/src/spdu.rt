@@ -23,9 +23,13 @@ pub enum Spdu<'a> {
 
 /// Codes of SPDUs (ISO 8327-1, "SPDU identifiers and associated parameter fields").
 pub const FINISH: u8 = 0x09;
+
 pub const DISCONNECT: u8 = 0x0a;
+
 pub const CONNECT: u8 = 0x0d;
+
 pub const ACCEPT: u8 = 0x0e;
+
 pub const ABORT: u8 = 0x19;
 
 /// Whether an SPDU has this code.

@@ -72,12 +72,7 @@ fn with_user_data(
 }
 
 /// Octets in a new vector, and behind them a code, the length of a value, and the value.
-fn with_field(
-    alloc: Global,
-    head: &[u8],
-    code: u8,
-    value: &[u8],
-) -> Result<Vec<u8>, AllocError>
+fn with_field(alloc: Global, head: &[u8], code: u8, value: &[u8]) -> Result<Vec<u8>, AllocError>
     requires { length value.now ≤ 65535 }
     ensures { IfOk result (λ v. v.items ≡ head.now ++ field code value.now) }
 {
@@ -200,9 +195,9 @@ pub fn write_cn(alloc: Global, aarq: &[u8]) -> Result<Octs, AllocError>
     let parameters = with_user_data(
         alloc,
         &[
-            0x81, 4, 0, 0, 0, 1, 0x82, 4, 0, 0, 0, 1, 0xa4, 0x23, 0x30, 0x0f, 2, 1, 1, 6, 4, 0x52, 1,
-            0, 1, 0x30, 4, 6, 2, 0x51, 1, 0x30, 0x10, 2, 1, 3, 6, 5, 0x28, 0xca, 0x22, 2, 1, 0x30, 4, 6,
-            2, 0x51, 1,
+            0x81, 4, 0, 0, 0, 1, 0x82, 4, 0, 0, 0, 1, 0xa4, 0x23, 0x30, 0x0f, 2, 1, 1, 6, 4, 0x52,
+            1, 0, 1, 0x30, 4, 6, 2, 0x51, 1, 0x30, 0x10, 2, 1, 3, 6, 5, 0x28, 0xca, 0x22, 2, 1,
+            0x30, 4, 6, 2, 0x51, 1,
         ],
         1,
         aarq,
