@@ -77,3 +77,10 @@ abbrev pub IsAareRefused : Piece → AcFault → Type 0
 IsAareRefused input Apdu = (content : Piece) → IsApdu 97 input content → ¬ IsAccepted content
 IsAareRefused input ContextName = (content : Piece) × IsApdu 97 input content × IsAccepted content × ¬ NamesMms content
 IsAareRefused input NoUserInformation = (content : Piece) × IsApdu 97 input content × IsAccepted content × NamesMms content × ((pdu : Piece) → ¬ Carries content pdu)
+
+-- RLRQ, [APPLICATION 2], and RLRE, [APPLICATION 3], by the tag: what whole fields they have is not looked into.
+abbrev pub IsRelease : ℕ → Piece → Type 0
+IsRelease tag input = (content : Piece) × IsApdu tag input content
+
+abbrev pub IsReleaseRefused : ℕ → Piece → AcFault → Type 0
+IsReleaseRefused tag input f = (f ≡ Apdu) × ¬ IsRelease tag input

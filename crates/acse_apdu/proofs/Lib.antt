@@ -1,0 +1,5 @@
+pub mod FieldLaws
+pub mod ContentLaws
+pub mod ApduLaws
+pub mod AnywhereLaws
+pub mod ReadBackLaws
