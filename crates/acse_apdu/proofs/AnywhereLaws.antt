@@ -8,7 +8,7 @@ use Rattle.ber_grammar.specs.Reading.{first_at, uint_at}
 use Rattle.ber_grammar.specs.Rows.{parts_at}
 use Rattle.acse_apdu.specs.declared.fault.AcFault.{AcFault}
 use Rattle.acse_apdu.specs.declared.fault.AcFault.TheVariants.{Apdu, ContextName, NoUserInformation}
-use Rattle.acse_apdu.specs.Reading.{fields_at, with_fields, whole_at, apdu_at, first_with, field_at, with_tag, alone, only_at, is_mms_name, names_mms, is_zero, result_at, is_accepted, is_word, is_context, value_of, behind_reference, external_of, pdu_at, or_fault, association_at, aarq_at, aare_at, release_at, anywhere, octets_in, pdu_of_aarq, pdu_of_aare}
+use Rattle.acse_apdu.specs.Reading.{fields_at, with_fields, whole_at, apdu_at, first_with, field_at, with_tag, alone, only_at, is_mms_name, names_mms, is_zero, result_at, is_accepted, is_word, is_context, value_of, behind_reference, external_of, pdu_at, or_fault, association_at, aarq_at, aare_at, release_at, anywhere, octets_in, pdu_of_aarq, pdu_of_aare, rlrq_of, rlre_of}
 
 -- ---- the same octets, and the same elements
 
@@ -234,3 +234,11 @@ pdu_given view (Err f) read again e g = sym e ∙ ap octets_in g
 pub release_given : (r : Result (Unit {0}) AcFault) (read again : Result (Unit {0}) AcFault) → read ≡ again → Gives (λ (x : Unit {0}). x) r read → Gives (λ (x : Unit {0}). x) r again
 release_given (Ok x) read again e g = sym e ∙ g
 release_given (Err f) read again e g = sym e ∙ g
+
+pub rlrq-anywhere : (input : Piece) → release_at 98 input ≡ rlrq_of input.octets
+unfolding rlrq_of
+rlrq-anywhere input = release-anywhere 98 input
+
+pub rlre-anywhere : (input : Piece) → release_at 99 input ≡ rlre_of input.octets
+unfolding rlre_of
+rlre-anywhere input = release-anywhere 99 input

@@ -3,7 +3,7 @@ ghost use Rattle.std.specs.Option.{option_map};
 ghost use Rattle.ber_grammar.specs.Place.{piece};
 ghost use Rattle.ber_grammar.specs.Reader.{Gives, Reads};
 ghost use Rattle.ber_view.specs.View.{spot};
-ghost use Rattle.acse_apdu.specs.Grammar.{IsApdu, IsAarq, IsAarqRefused, IsAare, IsAareRefused};
+ghost use Rattle.acse_apdu.specs.Grammar.{IsAarq, IsAarqRefused, IsAare, IsAareRefused, IsRelease, IsReleaseRefused};
 ghost use Rattle.acse_apdu.specs.Reading.{names_mms, result_at, is_zero, is_accepted, is_context, value_of, external_of, pdu_at, association_at, aarq_at, aare_at, release_at, pdu_of_aarq, pdu_of_aare, rlrq_of, rlre_of};
 
 use crate::fault::AcFault;
@@ -113,4 +113,56 @@ fn release(bytes: &[u8], tag: u32) -> Result<(), AcFault>
 {
     apdu(bytes, tag).ok_or(AcFault::Apdu)?;
     Ok(())
+}
+
+/// The value that an AARQ, association request, carries (ISO 8650-1, 9.1), which for MMS is an initiate request: the
+/// content of the encoding of its EXTERNAL, a slice of `bytes`.
+///
+/// Of the fields the first application context name and the first user information count, and others are skipped. The
+/// EXTERNAL may have a direct reference, and its number of a presentation context is below 2^32.
+///
+/// Fails with the first of these: `Apdu` where `bytes` are not one whole AARQ that is cut into whole fields,
+/// `ContextName` where it doesn't name the application context of MMS, `NoUserInformation` where its user information
+/// isn't one EXTERNAL.
+pub fn read_aarq(bytes: &[u8]) -> Result<&[u8], AcFault>
+    // The octets and where they lie, where the input spells that, else the refusal that the input earns.
+    ensures reads { Reads piece result (IsAarq (piece bytes.entry)) (IsAarqRefused (piece bytes.entry)) }
+    ensures exact { Gives (λ x. x.now) result (pdu_of_aarq bytes.now) }
+{
+    aarq(bytes)
+}
+
+/// The value that an AARE, association response, carries (ISO 8650-1, 9.1), which for MMS is an initiate response: the
+/// content of the encoding of its EXTERNAL, a slice of `bytes`.
+///
+/// Of the fields the first of each kind counts, and others are skipped, the diagnostic too.
+///
+/// Fails with the first of these: `Apdu` where `bytes` are not one whole AARE that is cut into whole fields, or its
+/// result isn't 0, accepted; `ContextName` where it doesn't name the application context of MMS; `NoUserInformation`
+/// where its user information isn't one EXTERNAL.
+pub fn read_aare(bytes: &[u8]) -> Result<&[u8], AcFault>
+    ensures reads { Reads piece result (IsAare (piece bytes.entry)) (IsAareRefused (piece bytes.entry)) }
+    ensures exact { Gives (λ x. x.now) result (pdu_of_aare bytes.now) }
+{
+    aare(bytes)
+}
+
+/// Takes an RLRQ, release request (ISO 8650-1, 9.3), whatever whole fields it has.
+///
+/// Fails with `Apdu` where `bytes` are not one whole RLRQ that is cut into whole fields.
+pub fn read_rlrq(bytes: &[u8]) -> Result<(), AcFault>
+    ensures reads { Reads (λ x. x) result (λ x. IsRelease 98 (piece bytes.entry)) (IsReleaseRefused 98 (piece bytes.entry)) }
+    ensures exact { Gives (λ x. x) result (rlrq_of bytes.now) }
+{
+    release(bytes, 0x62)
+}
+
+/// Takes an RLRE, release response (ISO 8650-1, 9.4), whatever whole fields it has.
+///
+/// Fails with `Apdu` where `bytes` are not one whole RLRE that is cut into whole fields.
+pub fn read_rlre(bytes: &[u8]) -> Result<(), AcFault>
+    ensures reads { Reads (λ x. x) result (λ x. IsRelease 99 (piece bytes.entry)) (IsReleaseRefused 99 (piece bytes.entry)) }
+    ensures exact { Gives (λ x. x) result (rlre_of bytes.now) }
+{
+    release(bytes, 0x63)
 }
