@@ -3,3 +3,4 @@ pub mod ContentLaws
 pub mod ApduLaws
 pub mod AnywhereLaws
 pub mod ReadBackLaws
+pub mod ShortestLaws
