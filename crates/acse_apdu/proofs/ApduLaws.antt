@@ -3,7 +3,7 @@ use Rattle.std.proofs.Common.{◌≡◌, ℕ, Bool, true, false, cond, List, Opt
 use Rattle.ber_grammar.specs.Octets.{IsBytes}
 use Rattle.ber_grammar.specs.Place.{Piece}
 use Rattle.ber_grammar.specs.Reader.{◌>>=◌, Gives, Reads}
-use Rattle.ber_grammar.proofs.ReaderLaws.{exact_from, reads_from}
+use Rattle.ber_grammar.proofs.ReaderLaws.{exact_from, reads_from, ok_is, err_is}
 use Rattle.acse_apdu.specs.declared.fault.AcFault.{AcFault}
 use Rattle.acse_apdu.specs.declared.fault.AcFault.TheVariants.{Apdu, ContextName, NoUserInformation}
 use Rattle.acse_apdu.specs.Grammar.{IsApdu, NamesMms, IsAccepted, Carries, IsAarq, IsAarqRefused, IsAare, IsAareRefused, IsRelease, IsReleaseRefused}
@@ -180,3 +180,23 @@ aare_reads view r input fits g = reads_from view r (aare_at input) (IsAare input
 
 pub release_reads : (tag : ℕ) (r : Result (Unit {0}) AcFault) (input : Piece) → Gives (λ (x : Unit {0}). x) r (release_at tag input) → Reads (λ (x : Unit {0}). x) r (λ x. IsRelease tag input) (IsReleaseRefused tag input)
 release_reads tag r input g = reads_from (λ (x : Unit {0}). x) r (release_at tag input) (λ x. IsRelease tag input) (IsReleaseRefused tag input) (release_exact tag input) g
+
+-- ---- one way
+
+pub one_aarq : (input p q : Piece) → IsAarq input p → IsAarq input q → p ≡ q
+one_aarq input p q h k = ok_is {F = AcFault} p q (sym (aarq_again input p h) ∙ aarq_again input q k)
+
+pub one_aare : (input p q : Piece) → IsAare input p → IsAare input q → p ≡ q
+one_aare input p q h k = ok_is {F = AcFault} p q (sym (aare_again input p h) ∙ aare_again input q k)
+
+pub one_aarq_cause : (input : Piece) (f g : AcFault) → IsBytes input.octets → IsAarqRefused input f → IsAarqRefused input g → f ≡ g
+one_aarq_cause input f g fits h k = err_is {Y = Piece} f g (sym (aarq_refused input f fits h) ∙ aarq_refused input g fits k)
+
+pub one_aare_cause : (input : Piece) (f g : AcFault) → IsBytes input.octets → IsAareRefused input f → IsAareRefused input g → f ≡ g
+one_aare_cause input f g fits h k = err_is {Y = Piece} f g (sym (aare_refused input f fits h) ∙ aare_refused input g fits k)
+
+pub aarq_not_both : (input p : Piece) (f : AcFault) → IsBytes input.octets → IsAarq input p → IsAarqRefused input f → ⊥
+aarq_not_both input p f fits h k = let one = aarq_again input p h in let two = aarq_refused input f fits k in cc
+
+pub aare_not_both : (input p : Piece) (f : AcFault) → IsBytes input.octets → IsAare input p → IsAareRefused input f → ⊥
+aare_not_both input p f fits h k = let one = aare_again input p h in let two = aare_refused input f fits k in cc

@@ -10,10 +10,11 @@ use Rattle.ber_grammar.specs.Reader.{◌>>=◌}
 use Rattle.ber_grammar.proofs.Theorems.{rows_join}
 use Rattle.ber_write.specs.Minimal.{octets_of, written, CanBeTag, tag_octets, length_octets, uint_octets}
 use Rattle.ber_write.proofs.ElementLaws.{is_spelling}
-use Rattle.ber_write.proofs.NumberLaws.{unsigned_written}
+use Rattle.ber_write.proofs.NumberLaws.{unsigned_written, length-uint_octets}
 use Rattle.acse_apdu.specs.declared.fault.AcFault.{AcFault}
 use Rattle.acse_apdu.specs.Grammar.{AreFields, IsApdu, IsFirst, IsField, IsOnly, mms_context, NamesMms, IsAccepted, IsContext, IsEncoding, IsExternal, Carries, IsAarq, IsAare, IsRelease}
 use Rattle.acse_apdu.specs.Reading.{anywhere, octets_in, pdu_of_aarq, pdu_of_aare, rlrq_of, rlre_of}
+use Rattle.acse_apdu.specs.Plain.{HoldsName, HoldsResult, HoldsExternal, IsPlainAarq, IsPlainAare, IsPlainRelease}
 use Rattle.acse_apdu.specs.Written.{name_field, result_fields, external_content, information_content, aarq_content, aare_content, aarq_octets, aare_octets, release_octets}
 use Rattle.acse_apdu.proofs.ApduLaws.{aarq_again, aare_again, release_again}
 
@@ -179,3 +180,69 @@ few_in_length n = grind (arith, nat_tests)
 few_in_head : (tag : ℕ) (content : List ℕ) → tag < 256 → length (octets_of tag content) ≤ 6 + length content
 few_in_head tag content lt =
     rw (lt-ltb tag 256 lt) (omega (arith, few_in_length (length content), length-append (length_octets (length content)) content))
+
+-- ---- it has exactly the fields that are written
+
+name_plain : HoldsName (written 161 (octets_of 6 mms_context))
+name_plain = (written 6 mms_context, record { is_tag = refl; row = one 6 mms_context (search rules) (omega arith) }, refl, refl)
+
+zero_plain : IsRow (octets_of 2 (0 ∷ [])) (written 2 (0 ∷ []) ∷ [])
+zero_plain = one 2 (0 ∷ []) (search rules) (omega arith)
+
+result_plain : HoldsResult (written 162 (octets_of 2 (0 ∷ []))) (written 163 (octets_of 161 (octets_of 2 (0 ∷ []))))
+result_plain =
+    let zero : IsUint (0 ∷ []) 0 = (omega arith, omega arith, refl, omega arith) in
+    (written 2 (0 ∷ []), written 161 (octets_of 2 (0 ∷ [])), written 2 (0 ∷ []), record { is_tag = refl; row = zero_plain },
+      record { is_tag = refl; row = one 161 (octets_of 2 (0 ∷ [])) (search rules) (omega arith) }, record { is_tag = refl; row = zero_plain }, refl, zero, refl, zero)
+
+external_plain : (context : ℕ) (pdu : List ℕ) → Fits context pdu → HoldsExternal (written 190 (information_content context pdu)) context pdu
+external_plain context pdu f =
+    (written 40 (external_content context pdu), written 6 (81 ∷ 1 ∷ []), written 2 (uint_octets context), written 160 pdu,
+      record { is_tag = refl; row = one 40 (external_content context pdu) (search rules) (external_fits context pdu f) }, record { is_tag = refl; row = external_row context pdu f },
+      refl, refl, refl, (unsigned_written context (omega (arith, f.word))).0, refl, refl)
+
+pub aarq_plain : (context : ℕ) (pdu : List ℕ) → context < 2 ^ 32 → length (aarq_content context pdu) < 2 ^ 32 → IsPlainAarq (aarq_octets context pdu) context pdu
+unfolding aarq_octets
+aarq_plain context pdu word small =
+    let fits : Fits context pdu = record { word = word; information = omega (arith, small, length-append name_field (octets_of 190 (information_content context pdu)), inner 190 (information_content context pdu)) } in
+    let name = written 161 (octets_of 6 mms_context) in
+    let information = written 190 (information_content context pdu) in
+    let row : IsRow (aarq_content context pdu) (name ∷ information ∷ []) = name_row (octets_of 190 (information_content context pdu)) (information ∷ []) (one 190 (information_content context pdu) (search rules) fits.information) in
+    (written 96 (aarq_content context pdu), name, information, is_spelling 96 (aarq_content context pdu) (search rules) small, record { is_tag = refl; row = row }, name_plain, external_plain context pdu fits)
+
+pub aare_plain : (context : ℕ) (pdu : List ℕ) → context < 2 ^ 32 → length (aare_content context pdu) < 2 ^ 32 → IsPlainAare (aare_octets context pdu) context pdu
+unfolding aare_octets
+aare_plain context pdu word small =
+    let fits : Fits context pdu = record { word = word; information = omega (arith, small, length-append name_field (result_fields ++ octets_of 190 (information_content context pdu)), length-append result_fields (octets_of 190 (information_content context pdu)), inner 190 (information_content context pdu)) } in
+    let name = written 161 (octets_of 6 mms_context) in
+    let result = written 162 (octets_of 2 (0 ∷ [])) in
+    let diagnostic = written 163 (octets_of 161 (octets_of 2 (0 ∷ []))) in
+    let information = written 190 (information_content context pdu) in
+    let last : IsRow (octets_of 190 (information_content context pdu)) (information ∷ []) = one 190 (information_content context pdu) (search rules) fits.information in
+    let row : IsRow (aare_content context pdu) (name ∷ result ∷ diagnostic ∷ information ∷ []) =
+    name_row (result_fields ++ octets_of 190 (information_content context pdu)) (result ∷ diagnostic ∷ information ∷ []) (result_row (octets_of 190 (information_content context pdu)) (information ∷ []) last) in
+    (written 97 (aare_content context pdu), name, result, diagnostic, information, is_spelling 97 (aare_content context pdu) (search rules) small, record { is_tag = refl; row = row }, name_plain, result_plain, external_plain context pdu fits)
+
+pub release_plain : (tag : ℕ) → CanBeTag tag → IsPlainRelease tag (release_octets tag)
+release_plain tag is_tag =
+    (written tag (octets_of 128 (0 ∷ [])), written 128 (0 ∷ []), is_spelling tag (octets_of 128 (0 ∷ [])) is_tag (omega arith), record { is_tag = refl; row = one 128 (0 ∷ []) (search rules) (omega arith) },
+      refl, (omega arith, omega arith, refl, omega arith))
+
+pub rlrq_plain : IsPlainRelease 98 (release_octets 98)
+rlrq_plain = release_plain 98 (search rules)
+
+pub rlre_plain : IsPlainRelease 99 (release_octets 99)
+rlre_plain = release_plain 99 (search rules)
+
+-- ---- a PDU that is not very long fits
+
+information_short : (context : ℕ) (pdu : List ℕ) → length pdu ≤ 4294967000 → length (octets_of 190 (information_content context pdu)) ≤ 59 + length pdu
+information_short context pdu le =
+    omega (arith, few_in_head 190 (information_content context pdu) (omega arith), few_in_head 40 (external_content context pdu) (omega arith), few_in_head 160 pdu (omega arith), few_in_head 2 (uint_octets context) (omega arith), length-uint_octets context,
+      length-append (octets_of 6 (81 ∷ 1 ∷ [])) (octets_of 2 (uint_octets context) ++ octets_of 160 pdu), length-append (octets_of 2 (uint_octets context)) (octets_of 160 pdu))
+
+pub aarq_fits : (context : ℕ) (pdu : List ℕ) → length pdu ≤ 4294967000 → length (aarq_content context pdu) < 2 ^ 32
+aarq_fits context pdu le = omega (arith, information_short context pdu le, length-append name_field (octets_of 190 (information_content context pdu)))
+
+pub aare_fits : (context : ℕ) (pdu : List ℕ) → length pdu ≤ 4294967000 → length (aare_content context pdu) < 2 ^ 32
+aare_fits context pdu le = omega (arith, information_short context pdu le, length-append name_field (result_fields ++ octets_of 190 (information_content context pdu)), length-append result_fields (octets_of 190 (information_content context pdu)))

@@ -6,9 +6,22 @@
 
 mod fault;
 mod fields;
+mod laws;
 mod reading;
 mod writing;
 
+// What is promised of all APDUs.
+pub use laws::{
+    an_apdu_is_read_in_one_way, associations_are_read_as_spelled, associations_are_read_back,
+    releases_are_read_back, short_pdus_fit, written_apdus_are_minimal,
+};
+
+// What is read.
 pub use fault::AcFault;
 pub use reading::{read_aare, read_aarq, read_rlre, read_rlrq};
+
+// What is written.
 pub use writing::{write_aare, write_aarq, write_rlre, write_rlrq};
+
+#[cfg(test)]
+mod tests;
