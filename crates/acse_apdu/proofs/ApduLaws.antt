@@ -112,10 +112,10 @@ aare_result : (input content : Piece) (b : Bool) → is_accepted content ≡ b �
 aare_result input content true h fits at = aare_inside input content (association_at content) (apdu_found 97 input content at) (accepted_found content fits h) (association_tells content fits)
 aare_result input content false h fits at =
     λ other apdu accepts.
-        let some = apdu_again 97 input other apdu in
-        let same : content ≡ other = cc in
-        let accepted = accepted_again content (subst IsAccepted (sym same) accepts) in
-        cc
+    let some = apdu_again 97 input other apdu in
+    let same : content ≡ other = cc in
+    let accepted = accepted_again content (subst IsAccepted (sym same) accepts) in
+    cc
 
 aare_found : (input : Piece) (o : Option Piece) → apdu_at 97 input ≡ o → IsBytes input.octets → AareTells input (or_fault Apdu o >>= λ content. cond (is_accepted content) (association_at content) (Err Apdu))
 aare_found input (Some content) h fits = aare_result input content (is_accepted content) refl (apdu-holds 97 input content fits (apdu_found 97 input content h)) h

@@ -36,8 +36,8 @@ unfolding apdu_at
 apdu_again tag input content (e, fields, spelled, is_tag, at, row) =
     let first : first_at input.octets ≡ Ok (e, []) = ap first_at (sym (append-nil input.octets)) ∙ first_again input.octets [] e spelled in
     rw (first, eq-eqb e.tag tag is_tag) (
-      let all : fields_at (record { octets = e.content; block = input.block; place = input.place + e.head }) ≡ Some fields = ap fields_at (sym at) ∙ fields_again content fields row in
-      rw all (ap (λ (x : Piece). Some x) (sym at)))
+    let all : fields_at (record { octets = e.content; block = input.block; place = input.place + e.head }) ≡ Some fields = ap fields_at (sym at) ∙ fields_again content fields row in
+    rw all (ap (λ (x : Piece). Some x) (sym at)))
 
 whole_found : (tag : ℕ) (input content : Piece) (e : Element) (rest : List ℕ) → first_at input.octets ≡ Ok (e, rest) → whole_at tag input (e, rest) ≡ Some content → IsApdu tag input content
 whole_found tag input content e rest first h =

@@ -58,7 +58,10 @@ at_front content tag inside = content_piece (record { element = written tag insi
 only_written : (content : Piece) (tag : ℕ) (inside : List ℕ) → CanBeTag tag → length inside < 2 ^ 32 → content.octets ≡ octets_of tag inside → IsOnly tag content (at_front content tag inside)
 only_written content tag inside is_tag small e = (
   record { element = written tag inside; block = content.block; place = content.place + (written tag inside).head },
-  (written tag inside ∷ [], subst (λ (x : List ℕ). IsRow x (written tag inside ∷ [])) (sym e) (one tag inside is_tag small), refl), refl, refl)
+  (written tag inside ∷ [], subst (λ (x : List ℕ). IsRow x (written tag inside ∷ [])) (sym e) (one tag inside is_tag small), refl),
+  refl,
+  refl,
+)
 
 name_row : (rest : List ℕ) (es : List Element) → IsRow rest es → IsRow (name_field ++ rest) (written 161 (octets_of 6 mms_context) ∷ es)
 name_row rest es row = front 161 (octets_of 6 mms_context) rest es (search rules) (omega arith) row
@@ -84,9 +87,19 @@ carries_written : (context : ℕ) (pdu : List ℕ) (content : Piece) (fields : L
     → (p : Piece) × Carries content p × (p.octets ≡ pdu)
 carries_written context pdu content fields information f row first e =
     let external = at_front information 40 (external_content context pdu) in
-    let value : Spot = record { element = written 160 pdu; block = external.block; place = external.place + ((written 6 (81 ∷ 1 ∷ [])).head + length (written 6 (81 ∷ 1 ∷ [])).content) + ((written 2 (uint_octets context)).head + length (written 2 (uint_octets context)).content) + (written 160 pdu).head } in
-    (content_piece value, (information, external, placed (external.block, external.place) (external_elements context pdu), (fields, row, first), only_written information 40 (external_content context pdu) (search rules) (external_fits context pdu f) e,
-      (external_elements context pdu, external_row context pdu f, refl), (refl, (refl, context, (unsigned_written context (omega (arith, f.word))).0, f.word), (refl, refl))), refl)
+    let value : Spot = record { element = written 160 pdu; block = external.block; place = external.place + ((written 6 (81 ∷ 1 ∷ [])).head + length (written 6 (81 ∷ 1 ∷ [])).content) + ((written 2 (uint_octets context)).head + length (written 2 (uint_octets context)).content) + (written 160 pdu).head } in (
+      content_piece value,
+      (
+        information,
+        external,
+        placed (external.block, external.place) (external_elements context pdu),
+        (fields, row, first),
+        only_written information 40 (external_content context pdu) (search rules) (external_fits context pdu f) e,
+        (external_elements context pdu, external_row context pdu f, refl),
+        (refl, (refl, context, (unsigned_written context (omega (arith, f.word))).0, f.word), (refl, refl)),
+      ),
+      refl,
+    )
 
 -- ---- APDUs
 
@@ -142,11 +155,19 @@ aare_written input context pdu word small e =
     let content = at_front input 97 (aare_content context pdu) in
     let fields = placed (content.block, content.place) es in
     let place = content.place + ((written 161 (octets_of 6 mms_context)).head + length (octets_of 6 mms_context)) + ((written 162 (octets_of 2 (0 ∷ []))).head + length (octets_of 2 (0 ∷ [])))
-        + ((written 163 (octets_of 161 (octets_of 2 (0 ∷ [])))).head + length (octets_of 161 (octets_of 2 (0 ∷ [])))) + (written 190 (information_content context pdu)).head in
+    + ((written 163 (octets_of 161 (octets_of 2 (0 ∷ [])))).head + length (octets_of 161 (octets_of 2 (0 ∷ [])))) + (written 190 (information_content context pdu)).head in
     let information : Piece = record { octets = information_content context pdu; block = content.block; place = place } in
-    let a = carries_written context pdu content fields information fits (es, row, refl) (inr (name_is_other, inr (result_is_other, inr (diagnostic_is_other, inl (refl, refl))))) refl in
-    (a.0, (content, apdu_written 97 (aare_content context pdu) es input (search rules) small row e, accepted_written content (written 163 (octets_of 161 (octets_of 2 (0 ∷ []))) ∷ written 190 (information_content context pdu) ∷ []) row,
-      names_written content (response_elements context pdu) row, a.1), a.2)
+    let a = carries_written context pdu content fields information fits (es, row, refl) (inr (name_is_other, inr (result_is_other, inr (diagnostic_is_other, inl (refl, refl))))) refl in (
+      a.0,
+      (
+        content,
+        apdu_written 97 (aare_content context pdu) es input (search rules) small row e,
+        accepted_written content (written 163 (octets_of 161 (octets_of 2 (0 ∷ []))) ∷ written 190 (information_content context pdu) ∷ []) row,
+        names_written content (response_elements context pdu) row,
+        a.1,
+      ),
+      a.2,
+    )
 
 pub aarq_read_back : (context : ℕ) (pdu : List ℕ) → context < 2 ^ 32 → length (aarq_content context pdu) < 2 ^ 32 → pdu_of_aarq (aarq_octets context pdu) ≡ Ok pdu
 unfolding pdu_of_aarq
@@ -191,15 +212,34 @@ zero_plain = one 2 (0 ∷ []) (search rules) (omega arith)
 
 result_plain : HoldsResult (written 162 (octets_of 2 (0 ∷ []))) (written 163 (octets_of 161 (octets_of 2 (0 ∷ []))))
 result_plain =
-    let zero : IsUint (0 ∷ []) 0 = (omega arith, omega arith, refl, omega arith) in
-    (written 2 (0 ∷ []), written 161 (octets_of 2 (0 ∷ [])), written 2 (0 ∷ []), record { is_tag = refl; row = zero_plain },
-      record { is_tag = refl; row = one 161 (octets_of 2 (0 ∷ [])) (search rules) (omega arith) }, record { is_tag = refl; row = zero_plain }, refl, zero, refl, zero)
+    let zero : IsUint (0 ∷ []) 0 = (omega arith, omega arith, refl, omega arith) in (
+      written 2 (0 ∷ []),
+      written 161 (octets_of 2 (0 ∷ [])),
+      written 2 (0 ∷ []),
+      record { is_tag = refl; row = zero_plain },
+      record { is_tag = refl; row = one 161 (octets_of 2 (0 ∷ [])) (search rules) (omega arith) },
+      record { is_tag = refl; row = zero_plain },
+      refl,
+      zero,
+      refl,
+      zero,
+    )
 
 external_plain : (context : ℕ) (pdu : List ℕ) → Fits context pdu → HoldsExternal (written 190 (information_content context pdu)) context pdu
-external_plain context pdu f =
-    (written 40 (external_content context pdu), written 6 (81 ∷ 1 ∷ []), written 2 (uint_octets context), written 160 pdu,
-      record { is_tag = refl; row = one 40 (external_content context pdu) (search rules) (external_fits context pdu f) }, record { is_tag = refl; row = external_row context pdu f },
-      refl, refl, refl, (unsigned_written context (omega (arith, f.word))).0, refl, refl)
+external_plain context pdu f = (
+  written 40 (external_content context pdu),
+  written 6 (81 ∷ 1 ∷ []),
+  written 2 (uint_octets context),
+  written 160 pdu,
+  record { is_tag = refl; row = one 40 (external_content context pdu) (search rules) (external_fits context pdu f) },
+  record { is_tag = refl; row = external_row context pdu f },
+  refl,
+  refl,
+  refl,
+  (unsigned_written context (omega (arith, f.word))).0,
+  refl,
+  refl,
+)
 
 pub aarq_plain : (context : ℕ) (pdu : List ℕ) → context < 2 ^ 32 → length (aarq_content context pdu) < 2 ^ 32 → IsPlainAarq (aarq_octets context pdu) context pdu
 unfolding aarq_octets
@@ -224,9 +264,14 @@ aare_plain context pdu word small =
     (written 97 (aare_content context pdu), name, result, diagnostic, information, is_spelling 97 (aare_content context pdu) (search rules) small, record { is_tag = refl; row = row }, name_plain, result_plain, external_plain context pdu fits)
 
 pub release_plain : (tag : ℕ) → CanBeTag tag → IsPlainRelease tag (release_octets tag)
-release_plain tag is_tag =
-    (written tag (octets_of 128 (0 ∷ [])), written 128 (0 ∷ []), is_spelling tag (octets_of 128 (0 ∷ [])) is_tag (omega arith), record { is_tag = refl; row = one 128 (0 ∷ []) (search rules) (omega arith) },
-      refl, (omega arith, omega arith, refl, omega arith))
+release_plain tag is_tag = (
+  written tag (octets_of 128 (0 ∷ [])),
+  written 128 (0 ∷ []),
+  is_spelling tag (octets_of 128 (0 ∷ [])) is_tag (omega arith),
+  record { is_tag = refl; row = one 128 (0 ∷ []) (search rules) (omega arith) },
+  refl,
+  (omega arith, omega arith, refl, omega arith),
+)
 
 pub rlrq_plain : IsPlainRelease 98 (release_octets 98)
 rlrq_plain = release_plain 98 (search rules)
@@ -238,8 +283,16 @@ rlre_plain = release_plain 99 (search rules)
 
 information_short : (context : ℕ) (pdu : List ℕ) → length pdu ≤ 4294967000 → length (octets_of 190 (information_content context pdu)) ≤ 59 + length pdu
 information_short context pdu le =
-    omega (arith, few_in_head 190 (information_content context pdu) (omega arith), few_in_head 40 (external_content context pdu) (omega arith), few_in_head 160 pdu (omega arith), few_in_head 2 (uint_octets context) (omega arith), length-uint_octets context,
-      length-append (octets_of 6 (81 ∷ 1 ∷ [])) (octets_of 2 (uint_octets context) ++ octets_of 160 pdu), length-append (octets_of 2 (uint_octets context)) (octets_of 160 pdu))
+    omega (
+      arith,
+      few_in_head 190 (information_content context pdu) (omega arith),
+      few_in_head 40 (external_content context pdu) (omega arith),
+      few_in_head 160 pdu (omega arith),
+      few_in_head 2 (uint_octets context) (omega arith),
+      length-uint_octets context,
+      length-append (octets_of 6 (81 ∷ 1 ∷ [])) (octets_of 2 (uint_octets context) ++ octets_of 160 pdu),
+      length-append (octets_of 2 (uint_octets context)) (octets_of 160 pdu),
+    )
 
 pub aarq_fits : (context : ℕ) (pdu : List ℕ) → length pdu ≤ 4294967000 → length (aarq_content context pdu) < 2 ^ 32
 aarq_fits context pdu le = omega (arith, information_short context pdu le, length-append name_field (octets_of 190 (information_content context pdu)))

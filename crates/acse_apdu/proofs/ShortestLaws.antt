@@ -96,8 +96,15 @@ aare_shortest octets context pdu fits (e, name, result, diagnostic, information,
     let all = name ∷ result ∷ diagnostic ∷ information ∷ [] in
     let bytes = IsRow-bytes e.content all inside holds.row in
     let short : length (aare_content context pdu) ≤ length e.content =
-    omega (arith, row_least e.content all inside holds.row, name_least name bytes.0 named, result_least result diagnostic bytes.1.0 bytes.1.1.0 accepts, information_least information context pdu bytes.1.1.1.0 carries,
-      length-append name_field (result_fields ++ octets_of 190 (information_content context pdu)), length-append result_fields (octets_of 190 (information_content context pdu))) in
+    omega (
+      arith,
+      row_least e.content all inside holds.row,
+      name_least name bytes.0 named,
+      result_least result diagnostic bytes.1.0 bytes.1.1.0 accepts,
+      information_least information context pdu bytes.1.1.1.0 carries,
+      length-append name_field (result_fields ++ octets_of 190 (information_content context pdu)),
+      length-append result_fields (octets_of 190 (information_content context pdu)),
+    ) in
     element_least 97 octets (aare_content context pdu) e fits spelled holds.is_tag short
 
 pub release_shortest : (tag : ℕ) (octets : List ℕ) → IsBytes octets → IsPlainRelease tag octets → length (release_octets tag) ≤ length octets
