@@ -1,6 +1,5 @@
 -- What is read of octets doesn't depend on where they lie.
-use Rattle.std.proofs.Common.{◌≡◌, ℕ, ◌+◌, Bool, true, false, cond, eqb, ◌&&◌, List, [], ◌∷◌, length, Option, Some, None, Result, Ok, Err, refl, sym, ap, subst, ◌∙◌}
-use Rattle.ber_grammar.specs.declared.fault.BerFault.{BerFault}
+use Rattle.std.proofs.Common.{◌≡◌, ℕ, ◌+◌, Bool, true, false, cond, eqb, ◌&&◌, List, [], ◌∷◌, length, Option, Some, None, Result, Ok, Err, refl, sym, ap, ◌∙◌}
 use Rattle.ber_grammar.specs.Element.{Element}
 use Rattle.ber_grammar.specs.Place.{Piece, Spot, placed, content_piece}
 use Rattle.ber_grammar.specs.Reader.{◌>>=◌, Gives, and_then, kept}

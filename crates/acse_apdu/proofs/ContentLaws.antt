@@ -1,15 +1,14 @@
 -- What the content of an APDU says: the application context, the result, and the user information.
-use Rattle.std.proofs.Common.{◌≡◌, ◌≢◌, ℕ, ◌^◌, ◌<◌, Bool, true, false, cond, ◌&&◌, eqb, ltb, ◌⊎◌, inl, inr, List, [], ◌∷◌, length, Option, Some, None, Result, Ok, Err, refl, sym, ap, subst, ◌∙◌, arith}
-use Rattle.std.proofs.lemmas.Bool.{eqb-true, eqb-false, eq-eqb, ne_eqb, ltb-true, lt-ltb, and_parts, and_from}
+use Rattle.std.proofs.Common.{◌≡◌, ℕ, ◌^◌, ◌<◌, true, ◌&&◌, eqb, inl, inr, List, [], ◌∷◌, Option, Some, None, Result, Ok, Err, refl, sym, ap, subst, arith}
+use Rattle.std.proofs.lemmas.Bool.{eqb-true, eq-eqb, ne_eqb, ltb-true, lt-ltb, and_parts}
 use Rattle.ber_grammar.specs.declared.fault.BerFault.{BerFault}
 use Rattle.ber_grammar.specs.Octets.{IsBytes}
-use Rattle.ber_grammar.specs.Content.{IsUint}
-use Rattle.ber_grammar.specs.Place.{Piece, Spot, content_piece}
+use Rattle.ber_grammar.specs.Place.{Piece, Spot}
 use Rattle.ber_grammar.specs.Reader.{and_then, kept}
 use Rattle.ber_grammar.specs.Reading.{uint_at}
-use Rattle.ber_grammar.proofs.OptionLaws.{some_is, kept_some, then_some, chosen, sides}
+use Rattle.ber_grammar.proofs.OptionLaws.{kept_some, then_some, chosen, sides}
 use Rattle.ber_grammar.proofs.UintLaws.{uint_again, uint_found}
-use Rattle.acse_apdu.specs.Grammar.{AreFields, IsField, IsOnly, mms_context, NamesMms, IsAccepted, IsContext, IsEncoding, IsExternal, Carries}
+use Rattle.acse_apdu.specs.Grammar.{mms_context, NamesMms, IsAccepted, IsContext, IsEncoding, IsExternal, Carries}
 use Rattle.acse_apdu.specs.Reading.{fields_at, field_at, with_tag, only_at, is_mms, is_mms_name, names_mms, is_zero, result_at, is_accepted, is_word, is_context, value_of, behind_reference, external_of, pdu_at}
 use Rattle.acse_apdu.proofs.FieldLaws.{fields_again, fields_found, field_again, field_found, with_tag-again, with_tag-found, only_again, only_found, HoldOctets, fields-hold, field-holds, only-holds}
 

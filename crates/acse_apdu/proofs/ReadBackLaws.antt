@@ -1,19 +1,16 @@
 -- What one side writes the other reads.
-use Rattle.std.proofs.Common.{◌≡◌, ◌≢◌, ℕ, ◌+◌, ◌^◌, ◌<◌, ◌≤◌, ◌⊎◌, inl, inr, List, [], ◌∷◌, ◌++◌, length, Result, Ok, Err, refl, sym, ap, subst, ◌∙◌, append_assoc, arith, rules}
+use Rattle.std.proofs.Common.{◌≡◌, ◌≢◌, ℕ, ◌+◌, ◌^◌, ◌<◌, ◌≤◌, inl, inr, List, [], ◌∷◌, ◌++◌, length, Ok, refl, sym, ap, subst, arith, rules}
 use Rattle.std.proofs.lemmas.List.{length-append, append-nil}
 use Rattle.std.proofs.lemmas.Bool.{lt-ltb}
 use Rattle.std.proofs.lemmas.Bool.Decides.{nat_tests}
 use Rattle.ber_grammar.specs.Element.{Element, Spells, IsRow}
 use Rattle.ber_grammar.specs.Content.{IsUint}
 use Rattle.ber_grammar.specs.Place.{Piece, Spot, placed, content_piece}
-use Rattle.ber_grammar.specs.Reader.{◌>>=◌}
-use Rattle.ber_grammar.proofs.Theorems.{rows_join}
 use Rattle.ber_write.specs.Minimal.{octets_of, written, CanBeTag, tag_octets, length_octets, uint_octets}
 use Rattle.ber_write.proofs.ElementLaws.{is_spelling}
 use Rattle.ber_write.proofs.NumberLaws.{unsigned_written, length-uint_octets}
-use Rattle.acse_apdu.specs.declared.fault.AcFault.{AcFault}
-use Rattle.acse_apdu.specs.Grammar.{AreFields, IsApdu, IsFirst, IsField, IsOnly, mms_context, NamesMms, IsAccepted, IsContext, IsEncoding, IsExternal, Carries, IsAarq, IsAare, IsRelease}
-use Rattle.acse_apdu.specs.Reading.{anywhere, octets_in, pdu_of_aarq, pdu_of_aare, rlrq_of, rlre_of}
+use Rattle.acse_apdu.specs.Grammar.{AreFields, IsApdu, IsFirst, IsOnly, mms_context, NamesMms, IsAccepted, Carries, IsAarq, IsAare, IsRelease}
+use Rattle.acse_apdu.specs.Reading.{anywhere, pdu_of_aarq, pdu_of_aare, rlrq_of, rlre_of}
 use Rattle.acse_apdu.specs.Plain.{HoldsName, HoldsResult, HoldsExternal, IsPlainAarq, IsPlainAare, IsPlainRelease}
 use Rattle.acse_apdu.specs.Written.{name_field, result_fields, external_content, information_content, aarq_content, aare_content, aarq_octets, aare_octets, release_octets}
 use Rattle.acse_apdu.proofs.ApduLaws.{aarq_again, aare_again, release_again}

@@ -1,8 +1,12 @@
 //! Octets of associations, made by hand from ISO 8650-1, 9.1 to 9.4, and ITU-T X.690, 8.18: what is read, what is
 //! refused, and what is written.
 
+ghost use Rattle.std.specs.Prelude.{◌≤◌, length};
+
 use super::*;
+use std::alloc::{AllocError, Global};
 use std::test::*;
+use sv_base::Octs;
 
 // an initiate request and an initiate response of MMS (ISO 9506-2)
 const REQUEST: [u8; 40] = [
@@ -588,14 +592,28 @@ fn what_an_aare_answers_with(rt: HostRuntime) -> Result<(), Fail> {
     Ok(())
 }
 
+#[tactic(auto, using(crate::proofs::ReadBackLaws::aarq_fits))]
+fn asked_with(alloc: Global, context: u32, pdu: &[u8]) -> Result<Octs, AllocError>
+    requires { length pdu.now ≤ 300 }
+{
+    write_aarq(alloc, context, pdu)
+}
+
+#[tactic(auto, using(crate::proofs::ReadBackLaws::aare_fits))]
+fn answered_with(alloc: Global, context: u32, pdu: &[u8]) -> Result<Octs, AllocError>
+    requires { length pdu.now ≤ 300 }
+{
+    write_aare(alloc, context, pdu)
+}
+
 #[test]
 fn what_is_written(rt: HostRuntime) -> Result<(), Fail> {
-    let asked = write_aarq(rt.alloc(), 3, &REQUEST)?;
+    let asked = asked_with(rt.alloc(), 3, &REQUEST)?;
     assert_eq!(rt; asked.as_slice(), AARQ.as_slice());
-    let answered = write_aare(rt.alloc(), 3, &RESPONSE)?;
+    let answered = answered_with(rt.alloc(), 3, &RESPONSE)?;
     assert_eq!(rt; answered.as_slice(), AARE.as_slice());
     // a number of a context with its first bit set has a zero octet before it, and the lengths grow
-    let wide = write_aarq(rt.alloc(), 0x8000_0000, &SHORT)?;
+    let wide = asked_with(rt.alloc(), 0x8000_0000, &SHORT)?;
     assert_eq!(rt;
         wide.as_slice(),
         [
@@ -606,7 +624,7 @@ fn what_is_written(rt: HostRuntime) -> Result<(), Fail> {
     );
     assert_eq!(rt; read_aarq(wide.as_slice())?, SHORT.as_slice());
     let long = [7u8; 300];
-    let asked = write_aarq(rt.alloc(), 1, &long)?;
+    let asked = asked_with(rt.alloc(), 1, &long)?;
     assert!(rt;
         asked
             .as_slice()
