@@ -7,7 +7,9 @@ use Rattle.ber_grammar.specs.Reading.{first_at, uint_at}
 use Rattle.ber_grammar.specs.Rows.{parts_at}
 use Rattle.acse_apdu.specs.declared.fault.AcFault.{AcFault}
 use Rattle.acse_apdu.specs.declared.fault.AcFault.TheVariants.{Apdu, ContextName, NoUserInformation}
-use Rattle.acse_apdu.specs.Reading.{fields_at, with_fields, whole_at, apdu_at, first_with, field_at, with_tag, alone, only_at, is_mms_name, names_mms, is_zero, result_at, is_accepted, is_word, is_context, value_of, behind_reference, external_of, pdu_at, or_fault, association_at, aarq_at, aare_at, release_at, anywhere, octets_in, pdu_of_aarq, pdu_of_aare, rlrq_of, rlre_of}
+use Rattle.acse_apdu.specs.Fields.{fields_at, with_fields, whole_at, apdu_at, first_with, field_at, with_tag, alone, only_at}
+use Rattle.acse_apdu.specs.Contents.{is_mms_name, names_mms, is_zero, result_at, is_accepted, is_word, is_context, value_of, behind_reference, external_of, pdu_at}
+use Rattle.acse_apdu.specs.Reading.{or_fault, association_at, aarq_at, aare_at, release_at, anywhere, octets_in, pdu_of_aarq, pdu_of_aare, rlrq_of, rlre_of}
 
 -- ---- the same octets, and the same elements
 

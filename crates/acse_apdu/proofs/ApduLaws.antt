@@ -7,7 +7,9 @@ use Rattle.ber_grammar.proofs.ReaderLaws.{exact_from, reads_from, ok_is, err_is}
 use Rattle.acse_apdu.specs.declared.fault.AcFault.{AcFault}
 use Rattle.acse_apdu.specs.declared.fault.AcFault.TheVariants.{Apdu, ContextName, NoUserInformation}
 use Rattle.acse_apdu.specs.Grammar.{IsApdu, NamesMms, IsAccepted, Carries, IsAarq, IsAarqRefused, IsAare, IsAareRefused, IsRelease, IsReleaseRefused}
-use Rattle.acse_apdu.specs.Reading.{apdu_at, names_mms, is_accepted, pdu_at, or_fault, association_at, aarq_at, aare_at, release_at}
+use Rattle.acse_apdu.specs.Fields.{apdu_at}
+use Rattle.acse_apdu.specs.Contents.{names_mms, is_accepted, pdu_at}
+use Rattle.acse_apdu.specs.Reading.{or_fault, association_at, aarq_at, aare_at, release_at}
 use Rattle.acse_apdu.proofs.FieldLaws.{apdu_again, apdu_found, apdu-holds}
 use Rattle.acse_apdu.proofs.ContentLaws.{names_again, names_found, accepted_again, accepted_found, pdu_again, pdu_found}
 

@@ -9,7 +9,8 @@ use Rattle.ber_grammar.specs.Reading.{uint_at}
 use Rattle.ber_grammar.proofs.OptionLaws.{kept_some, then_some, chosen, sides}
 use Rattle.ber_grammar.proofs.UintLaws.{uint_again, uint_found}
 use Rattle.acse_apdu.specs.Grammar.{mms_context, NamesMms, IsAccepted, IsContext, IsEncoding, IsExternal, Carries}
-use Rattle.acse_apdu.specs.Reading.{fields_at, field_at, with_tag, only_at, is_mms, is_mms_name, names_mms, is_zero, result_at, is_accepted, is_word, is_context, value_of, behind_reference, external_of, pdu_at}
+use Rattle.acse_apdu.specs.Fields.{fields_at, field_at, with_tag, only_at}
+use Rattle.acse_apdu.specs.Contents.{is_mms, is_mms_name, names_mms, is_zero, result_at, is_accepted, is_word, is_context, value_of, behind_reference, external_of, pdu_at}
 use Rattle.acse_apdu.proofs.FieldLaws.{fields_again, fields_found, field_again, field_found, with_tag-again, with_tag-found, only_again, only_found, HoldOctets, fields-hold, field-holds, only-holds}
 
 -- ---- the application context

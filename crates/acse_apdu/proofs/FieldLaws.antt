@@ -14,7 +14,7 @@ use Rattle.ber_grammar.proofs.OctetLaws.{Spells-bytes, IsRow-bytes, AllBytes}
 use Rattle.ber_grammar.proofs.ElementLaws.{FirstTells, first_tells, first_again}
 use Rattle.ber_grammar.proofs.PartsLaws.{PartsTells, parts_tells, row_again}
 use Rattle.acse_apdu.specs.Grammar.{AreFields, IsApdu, IsFirst, IsField, IsOnly}
-use Rattle.acse_apdu.specs.Reading.{fields_at, with_fields, whole_at, apdu_at, first_with, field_at, with_tag, alone, only_at}
+use Rattle.acse_apdu.specs.Fields.{fields_at, with_fields, whole_at, apdu_at, first_with, field_at, with_tag, alone, only_at}
 
 -- ---- all fields
 

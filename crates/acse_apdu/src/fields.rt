@@ -2,12 +2,12 @@ ghost use Rattle.std.specs.Prelude.{◌≡◌};
 ghost use Rattle.std.specs.Option.{option_map};
 ghost use Rattle.ber_grammar.specs.Place.{piece};
 ghost use Rattle.ber_view.specs.View.{spot};
-ghost use Rattle.acse_apdu.specs.Reading.{fields_at, apdu_at, first_with, field_at, with_tag, alone, only_at};
+ghost use Rattle.acse_apdu.specs.Fields.{fields_at, apdu_at, first_with, field_at, with_tag, alone, only_at};
 
 use ber_view::{Elements, Tlv, first, parts};
 
 /// The elements of a content.
-#[tactic(auto, unfolding(crate::specs::Reading::fields_at))]
+#[tactic(auto, unfolding(crate::specs::Fields::fields_at))]
 pub(crate) fn fields(content: &[u8]) -> Option<Elements<'_>>
     ensures { result ≡ fields_at (piece content.entry) }
 {
@@ -15,7 +15,7 @@ pub(crate) fn fields(content: &[u8]) -> Option<Elements<'_>>
 }
 
 /// The content of the APDU with this tag, which is all of `bytes`.
-#[tactic(auto, unfolding(crate::specs::Reading::apdu_at))]
+#[tactic(auto, unfolding(crate::specs::Fields::apdu_at))]
 pub(crate) fn apdu(bytes: &[u8], tag: u32) -> Option<&[u8]>
     ensures { option_map piece result ≡ apdu_at tag (piece bytes.entry) }
 {
@@ -40,7 +40,7 @@ fn first_of<'a>(mut fields: Elements<'a>, tag: u32) -> Option<&'a [u8]>
 }
 
 /// The content of the first field with this tag.
-#[tactic(auto, unfolding(crate::specs::Reading::field_at))]
+#[tactic(auto, unfolding(crate::specs::Fields::field_at))]
 pub(crate) fn field(content: &[u8], tag: u32) -> Option<&[u8]>
     ensures { option_map piece result ≡ field_at tag (piece content.entry) }
 {
@@ -58,7 +58,7 @@ pub(crate) fn tagged<'a>(field: &Tlv<'a>, tag: u32) -> Option<&'a [u8]>
 }
 
 /// The content of the only field, if it has this tag.
-#[tactic(auto, unfolding(crate::specs::Reading::only_at))]
+#[tactic(auto, unfolding(crate::specs::Fields::only_at))]
 pub(crate) fn only(content: &[u8], tag: u32) -> Option<&[u8]>
     ensures { option_map piece result ≡ only_at tag (piece content.entry) }
 {

@@ -4,14 +4,15 @@ ghost use Rattle.ber_grammar.specs.Place.{piece};
 ghost use Rattle.ber_grammar.specs.Reader.{Gives, Reads};
 ghost use Rattle.ber_view.specs.View.{spot};
 ghost use Rattle.acse_apdu.specs.Grammar.{IsAarq, IsAarqRefused, IsAare, IsAareRefused, IsRelease, IsReleaseRefused};
-ghost use Rattle.acse_apdu.specs.Reading.{names_mms, result_at, is_zero, is_accepted, is_context, value_of, external_of, pdu_at, association_at, aarq_at, aare_at, release_at, pdu_of_aarq, pdu_of_aare, rlrq_of, rlre_of};
+ghost use Rattle.acse_apdu.specs.Contents.{names_mms, result_at, is_zero, is_accepted, is_context, value_of, external_of, pdu_at};
+ghost use Rattle.acse_apdu.specs.Reading.{association_at, aarq_at, aare_at, release_at, pdu_of_aarq, pdu_of_aare, rlrq_of, rlre_of};
 
 use crate::fault::AcFault;
 use crate::fields::{apdu, field, fields, only, tagged};
 use ber_view::{Elements, Tlv, uint};
 
 /// Whether the application context is that of MMS, 1.0.9506.2.3.
-#[tactic(auto, unfolding(crate::specs::Reading::names_mms))]
+#[tactic(auto, unfolding(crate::specs::Contents::names_mms))]
 fn has_mms_name(content: &[u8]) -> bool
     ensures { result ≡ names_mms (piece content.entry) }
 {
@@ -22,7 +23,7 @@ fn has_mms_name(content: &[u8]) -> bool
 }
 
 /// The result of an AARE.
-#[tactic(auto, unfolding(crate::specs::Reading::result_at))]
+#[tactic(auto, unfolding(crate::specs::Contents::result_at))]
 fn result_of(content: &[u8]) -> Option<u64>
     ensures { result ≡ result_at (piece content.entry) }
 {
@@ -68,7 +69,7 @@ fn value_in<'a>(mut fields: Elements<'a>) -> Option<&'a [u8]>
 }
 
 /// The value in the user information.
-#[tactic(auto, unfolding(crate::specs::Reading::pdu_at))]
+#[tactic(auto, unfolding(crate::specs::Contents::pdu_at))]
 fn user_data(content: &[u8]) -> Option<&[u8]>
     ensures { option_map piece result ≡ pdu_at (piece content.entry) }
 {

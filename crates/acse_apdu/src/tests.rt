@@ -463,7 +463,7 @@ const ANSWERED_WRONG: [(&str, &[u8], AcFault); 13] = [
         AcFault::Apdu,
     ),
     (
-        "rejected for now",
+        "rejected this time",
         &[
             0x61, 0x27, 0xa1, 7, 6, 5, 0x28, 0xca, 0x22, 2, 3, 0xa2, 3, 2, 1, 2, 0xa3, 5, 0xa1, 3,
             2, 1, 0, 0xbe, 0x10, 0x28, 0x0e, 6, 2, 0x51, 1, 2, 1, 3, 0xa0, 5, 0xa8, 3, 0x80, 1,

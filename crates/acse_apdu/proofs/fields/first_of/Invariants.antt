@@ -1,5 +1,5 @@
 use Rattle.std.proofs.Common.{◌≡◌}
-use Rattle.acse_apdu.specs.Reading.{first_with}
+use Rattle.acse_apdu.specs.Fields.{first_with}
 use Rattle.acse_apdu.proofs.fields.first_of.Given as goal
 
 abbrev pub invariant-loop-field : goal.invariant-loop-field
