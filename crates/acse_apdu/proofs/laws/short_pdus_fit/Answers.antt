@@ -1,0 +1,5 @@
+use Rattle.acse_apdu.proofs.ReadBackLaws.{aarq_fits, aare_fits}
+use Rattle.acse_apdu.proofs.laws.short_pdus_fit.Goals as goal
+
+pub returns : goal.returns
+returns c = record { aarq = aarq_fits; aare = aare_fits }

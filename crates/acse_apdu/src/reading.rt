@@ -1,0 +1,169 @@
+ghost use Rattle.std.specs.Prelude.{◌≡◌, IfOk};
+ghost use Rattle.std.specs.Option.{option_map};
+ghost use Rattle.ber_grammar.specs.Place.{piece};
+ghost use Rattle.ber_grammar.specs.Reader.{Gives, Reads};
+ghost use Rattle.ber_view.specs.View.{spot};
+ghost use Rattle.acse_apdu.specs.Grammar.{IsAarq, IsAarqRefused, IsAare, IsAareRefused, IsRelease, IsReleaseRefused};
+ghost use Rattle.acse_apdu.specs.Contents.{names_mms, result_at, is_zero, is_accepted, is_context, value_of, external_of, pdu_at};
+ghost use Rattle.acse_apdu.specs.Reading.{association_at, aarq_at, aare_at, release_at, pdu_of_aarq, pdu_of_aare, rlrq_of, rlre_of};
+
+use crate::fault::AcFault;
+use crate::fields::{apdu, field, fields, only, tagged};
+use ber_view::{Elements, Tlv, uint};
+
+/// Whether the application context is that of MMS, 1.0.9506.2.3.
+#[tactic(auto, unfolding(crate::specs::Contents::names_mms))]
+fn has_mms_name(content: &[u8]) -> bool
+    ensures { result ≡ names_mms (piece content.entry) }
+{
+    let Some(field) = field(content, 0xa1) else {
+        return false;
+    };
+    matches!(only(field, 0x06), Some([0x28, 0xca, 0x22, 2, 3]))
+}
+
+/// The result of an AARE.
+#[tactic(auto, unfolding(crate::specs::Contents::result_at))]
+fn result_of(content: &[u8]) -> Option<u64>
+    ensures { result ≡ result_at (piece content.entry) }
+{
+    let field = field(content, 0xa2)?;
+    uint(only(field, 0x02)?).ok()
+}
+
+/// Whether the association was accepted.
+fn has_accepted(content: &[u8]) -> bool
+    ensures { result ≡ is_accepted (piece content.entry) }
+{
+    result_of(content) == Some(0)
+}
+
+/// Whether a field is the number of a presentation context.
+fn has_context(field: &Tlv<'_>) -> bool
+    ensures { result ≡ is_context (spot field.now) }
+{
+    field.tag == 0x02 && uint(field.content).is_ok_and(|n| n <= u64::from(u32::MAX))
+}
+
+/// What follows the number of a context.
+fn value_behind<'a>(context: &Tlv<'a>, mut fields: Elements<'a>) -> Option<&'a [u8]>
+    ensures { option_map piece result ≡ value_of (spot context.now) fields.entry }
+{
+    let value = fields.next()?;
+    if fields.next().is_some() || !has_context(context) {
+        return None;
+    }
+    tagged(&value, 0xa0)
+}
+
+/// The value of an EXTERNAL, whose direct reference may be left out.
+fn value_in<'a>(mut fields: Elements<'a>) -> Option<&'a [u8]>
+    ensures { option_map piece result ≡ external_of fields.entry }
+{
+    let first = fields.next()?;
+    if first.tag == 0x06 {
+        let context = fields.next()?;
+        return value_behind(&context, fields);
+    }
+    value_behind(&first, fields)
+}
+
+/// The value in the user information.
+#[tactic(auto, unfolding(crate::specs::Contents::pdu_at))]
+fn user_data(content: &[u8]) -> Option<&[u8]>
+    ensures { option_map piece result ≡ pdu_at (piece content.entry) }
+{
+    let information = field(content, 0xbe)?;
+    let external = only(information, 0x28)?;
+    value_in(fields(external)?)
+}
+
+/// What the content of an AARQ, or of an AARE that accepts, carries.
+fn association(content: &[u8]) -> Result<&[u8], AcFault>
+    ensures { Gives piece result (association_at (piece content.entry)) }
+{
+    if !has_mms_name(content) {
+        return Err(AcFault::ContextName);
+    }
+    user_data(content).ok_or(AcFault::NoUserInformation)
+}
+
+#[tactic(auto, unfolding(crate::specs::Reading::aarq_at))]
+fn aarq(bytes: &[u8]) -> Result<&[u8], AcFault>
+    ensures { Gives piece result (aarq_at (piece bytes.entry)) }
+{
+    let content = apdu(bytes, 0x60).ok_or(AcFault::Apdu)?;
+    association(content)
+}
+
+#[tactic(auto, unfolding(crate::specs::Reading::aare_at))]
+fn aare(bytes: &[u8]) -> Result<&[u8], AcFault>
+    ensures { Gives piece result (aare_at (piece bytes.entry)) }
+{
+    let content = apdu(bytes, 0x61).ok_or(AcFault::Apdu)?;
+    if !has_accepted(content) {
+        return Err(AcFault::Apdu);
+    }
+    association(content)
+}
+
+/// An RLRQ or an RLRE, by its tag.
+#[tactic(auto, unfolding(crate::specs::Reading::release_at))]
+fn release(bytes: &[u8], tag: u32) -> Result<(), AcFault>
+    ensures { Gives (λ x. x) result (release_at tag (piece bytes.entry)) }
+{
+    apdu(bytes, tag).ok_or(AcFault::Apdu)?;
+    Ok(())
+}
+
+/// The value that an AARQ, association request, carries (ISO 8650-1, 9.1), which for MMS is an initiate request: the
+/// content of the encoding of its EXTERNAL, a slice of `bytes`.
+///
+/// Of the fields the first application context name and the first user information count, and others are skipped. The
+/// EXTERNAL may have a direct reference, and its number of a presentation context is below 2^32.
+///
+/// Fails with the first of these: `Apdu` where `bytes` are not one whole AARQ that is cut into whole fields,
+/// `ContextName` where it doesn't name the application context of MMS, `NoUserInformation` where its user information
+/// isn't one EXTERNAL.
+pub fn read_aarq(bytes: &[u8]) -> Result<&[u8], AcFault>
+    // The octets and where they lie, where the input spells that, else the refusal that the input earns.
+    ensures reads { Reads piece result (IsAarq (piece bytes.entry)) (IsAarqRefused (piece bytes.entry)) }
+    ensures exact { Gives (λ x. x.now) result (pdu_of_aarq bytes.now) }
+{
+    aarq(bytes)
+}
+
+/// The value that an AARE, association response, carries (ISO 8650-1, 9.1), which for MMS is an initiate response: the
+/// content of the encoding of its EXTERNAL, a slice of `bytes`.
+///
+/// Of the fields the first of each kind counts, and others are skipped, the diagnostic too.
+///
+/// Fails with the first of these: `Apdu` where `bytes` are not one whole AARE that is cut into whole fields, or its
+/// result isn't 0, accepted; `ContextName` where it doesn't name the application context of MMS; `NoUserInformation`
+/// where its user information isn't one EXTERNAL.
+pub fn read_aare(bytes: &[u8]) -> Result<&[u8], AcFault>
+    ensures reads { Reads piece result (IsAare (piece bytes.entry)) (IsAareRefused (piece bytes.entry)) }
+    ensures exact { Gives (λ x. x.now) result (pdu_of_aare bytes.now) }
+{
+    aare(bytes)
+}
+
+/// Takes an RLRQ, release request (ISO 8650-1, 9.3), whatever whole fields it has.
+///
+/// Fails with `Apdu` where `bytes` are not one whole RLRQ that is cut into whole fields.
+pub fn read_rlrq(bytes: &[u8]) -> Result<(), AcFault>
+    ensures reads { Reads (λ x. x) result (λ x. IsRelease 98 (piece bytes.entry)) (IsReleaseRefused 98 (piece bytes.entry)) }
+    ensures exact { Gives (λ x. x) result (rlrq_of bytes.now) }
+{
+    release(bytes, 0x62)
+}
+
+/// Takes an RLRE, release response (ISO 8650-1, 9.4), whatever whole fields it has.
+///
+/// Fails with `Apdu` where `bytes` are not one whole RLRE that is cut into whole fields.
+pub fn read_rlre(bytes: &[u8]) -> Result<(), AcFault>
+    ensures reads { Reads (λ x. x) result (λ x. IsRelease 99 (piece bytes.entry)) (IsReleaseRefused 99 (piece bytes.entry)) }
+    ensures exact { Gives (λ x. x) result (rlre_of bytes.now) }
+{
+    release(bytes, 0x63)
+}
