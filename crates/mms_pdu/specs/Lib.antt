@@ -1,0 +1,6 @@
+-- what is in a PDU, and which elements spell it
+pub mod Fields
+pub mod ObjectName
+pub mod Invoke
+pub mod Variable
+pub mod Datum
