@@ -4,3 +4,5 @@ pub mod ObjectName
 pub mod Invoke
 pub mod Variable
 pub mod Datum
+-- what the program gives, as what is in a PDU
+pub mod View
