@@ -4,5 +4,12 @@ pub mod ObjectName
 pub mod Invoke
 pub mod Variable
 pub mod Datum
+-- what is asked
+pub mod Service
+pub mod NameList
+pub mod Access
+pub mod VariableLists
+pub mod Services
+pub mod Request
 -- what the program gives, as what is in a PDU
 pub mod View

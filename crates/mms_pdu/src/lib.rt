@@ -1,13 +1,21 @@
 //! MMS PDUs (ISO 9506-2, MMSpdu; encoded by ITU-T X.690).
 #![tactic(auto)]
 
+mod access;
 mod data_list;
 mod fault;
 mod fields;
+mod name_list;
+mod number;
 mod object_name;
+mod request;
+mod service;
 mod variable;
+mod variable_lists;
 
 pub use data_list::DataList;
 pub use fault::PduFault;
 pub use object_name::{NameList, NameView};
+pub use request::RequestView;
+pub use service::{ScopeView, ServiceView};
 pub use variable::{VariableList, VariableView};
