@@ -2,6 +2,7 @@
 #![tactic(auto)]
 
 mod access;
+mod confirmed;
 mod data_list;
 mod fault;
 mod fields;
