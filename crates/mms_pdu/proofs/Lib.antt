@@ -1,1 +1,5 @@
 pub mod FieldLaws
+pub mod ObjectNameLaws
+pub mod VariableLaws
+pub mod DatumLaws
+pub mod NameListLaws
