@@ -3,3 +3,7 @@ pub mod ObjectNameLaws
 pub mod VariableLaws
 pub mod DatumLaws
 pub mod NameListLaws
+pub mod AccessLaws
+pub mod VariableListLaws
+pub mod ServiceLaws
+pub mod RequestLaws
