@@ -1,5 +1,5 @@
 -- A confirmed service: what is read is what is spelled, and what is spelled is read.
-use Rattle.std.proofs.Common.{◌≡◌, ℕ, Bool, true, cond, eqb, List, [], ◌∷◌, length, Option, Some, None, refl, sym, ap, subst, ◌∙◌}
+use Rattle.std.proofs.Common.{◌≡◌, ℕ, eqb, List, length, Option, Some, refl, subst}
 use Rattle.std.proofs.lemmas.Bool.{eqb-true}
 use Rattle.std.proofs.lemmas.List.{nil_from_length}
 use Rattle.ber_grammar.specs.Element.{Element, IsRow}
@@ -10,7 +10,7 @@ use Rattle.ber_grammar.proofs.OctetLaws.{AllBytes, IsRow-bytes}
 use Rattle.ber_grammar.proofs.OptionLaws.{some_is, then_some, chosen}
 use Rattle.sv_base.specs.Tree.{Seen}
 use Rattle.mms_pdu.specs.Fields.{fields_in, only_in}
-use Rattle.mms_pdu.specs.ObjectName.{name_octets, name_at}
+use Rattle.mms_pdu.specs.ObjectName.{name_at}
 use Rattle.mms_pdu.specs.Variable.{named_at}
 use Rattle.mms_pdu.specs.Service.{Service, service_octets}
 use Rattle.mms_pdu.specs.Service as services
