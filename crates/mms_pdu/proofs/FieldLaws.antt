@@ -1,0 +1,69 @@
+-- The one element that octets are, and numbers under a tag.
+use Rattle.std.proofs.Common.{◌≡◌, ℕ, ◌^◌, ◌<◌, true, false, Bool, cond, ltb, eqb, ◌++◌, List, [], ◌∷◌, length, Option, Some, None, Result, Ok, Err, refl, sym, ap, subst, ◌∙◌, arith}
+use Rattle.std.proofs.lemmas.Bool.{eqb-true, eq-eqb, ltb-true, lt-ltb}
+use Rattle.std.proofs.lemmas.List.{nil_from_length, append-nil}
+use Rattle.ber_grammar.specs.declared.fault.BerFault.{BerFault}
+use Rattle.ber_grammar.specs.Octets.{IsBytes}
+use Rattle.ber_grammar.specs.Element.{Element, Spells, Begins, IsRow}
+use Rattle.ber_grammar.specs.Content.{IsUint}
+use Rattle.ber_grammar.specs.Reader.{and_then, kept}
+use Rattle.ber_grammar.specs.Reading.{first_at, uint_at}
+use Rattle.ber_grammar.specs.Rows.{parts_at}
+use Rattle.ber_grammar.proofs.OptionLaws.{some_is, kept_some, then_some, chosen}
+use Rattle.ber_grammar.proofs.OctetLaws.{Spells-bytes}
+use Rattle.ber_grammar.proofs.ElementLaws.{FirstTells, first_tells, first_again}
+use Rattle.ber_grammar.proofs.PartsLaws.{PartsTells, parts_tells, row_again}
+use Rattle.ber_grammar.proofs.UintLaws.{uint_again, uint_found}
+use Rattle.mms_pdu.specs.Initiate.{IsNumber, small, number_at, content_at}
+
+-- ---- a number
+
+pub number_again : (tag : ℕ) (e : Element) (n : ℕ) → IsNumber tag e n → number_at tag e ≡ Some n
+unfolding number_at
+number_again tag e n h = rw (eq-eqb e.tag tag h.0, uint_again e.content n h.1, lt-ltb n (2 ^ 32) h.2) refl
+
+pub number_found : (tag : ℕ) (e : Element) (n : ℕ) → IsBytes e.content → number_at tag e ≡ Some n → IsNumber tag e n
+unfolding number_at
+number_found tag e n fits h =
+    let a = chosen (eqb e.tag tag) (and_then (kept (uint_at e.content)) small) n h in
+    let b = then_some (kept (uint_at e.content)) small n a.1 in
+    let c = chosen (ltb b.0 (2 ^ 32)) (Some b.0) n b.2 in
+    let is = uint_found e.content fits b.0 (kept_some (uint_at e.content) b.0 b.1) in
+    let same : b.0 ≡ n = some_is b.0 n c.1 in
+    (eqb-true e.tag tag a.0, subst (λ (x : ℕ). IsUint e.content x) same is, subst (λ (x : ℕ). x < 2 ^ 32) same (ltb-true b.0 (2 ^ 32) c.0))
+
+-- ---- the one element
+
+pub first_whole : (input : List ℕ) (e : Element) → Spells input e → first_at input ≡ Ok (e, [])
+first_whole input e s = ap first_at (sym (append-nil input)) ∙ first_again input [] e s
+
+pub whole_first : (input : List ℕ) (e : Element) → first_at input ≡ Ok (e, []) → Spells input e
+whole_first input e h =
+    let b : Begins input e [] = subst (λ (r : Result (Element × List ℕ) BerFault). FirstTells input r) h (first_tells input) in
+    whole_of input e b
+  where
+    whole_of : (input : List ℕ) (e : Element) → Begins input e [] → Spells input e
+    whole_of input e (front, s, p) = subst (λ (x : List ℕ). Spells x e) (sym (p ∙ append-nil front)) s
+
+pub content_again : (tag : ℕ) (input : List ℕ) (e : Element) → Spells input e → e.tag ≡ tag → content_at tag input ≡ Some e.content
+unfolding content_at
+content_again tag input e s t = rw (first_whole input e s, eq-eqb e.tag tag t) refl
+
+pub content_found : (tag : ℕ) (input content : List ℕ) → content_at tag input ≡ Some content → (e : Element) × Spells input e × (e.tag ≡ tag) × (e.content ≡ content)
+unfolding content_at
+content_found tag input content h =
+    let step = λ (x : Element × List ℕ). cond (eqb (length x.1) 0) (cond (eqb x.0.tag tag) (Some x.0.content) None) None in
+    let a = then_some (kept (first_at input)) step content h in
+    let b = chosen (eqb (length a.0.1) 0) (cond (eqb a.0.0.tag tag) (Some a.0.0.content) None) content a.2 in
+    let c = chosen (eqb a.0.0.tag tag) (Some a.0.0.content) content b.1 in
+    let none : a.0.1 ≡ [] = nil_from_length a.0.1 (eqb-true (length a.0.1) 0 b.0) in
+    let one : first_at input ≡ Ok (a.0.0, []) = kept_some (first_at input) a.0 a.1 ∙ ap (λ (x : List ℕ). Ok (a.0.0, x)) none in
+    (a.0.0, whole_first input a.0.0 one, eqb-true a.0.0.tag tag c.0, some_is a.0.0.content content c.1)
+
+-- ---- a row
+
+pub row_found : (octets : List ℕ) (es : List Element) → kept (parts_at octets) ≡ Some es → IsRow octets es
+row_found octets es h = subst (λ (r : Result (List Element) BerFault). PartsTells octets r) (kept_some (parts_at octets) es h) (parts_tells octets)
+
+pub row_kept : (octets : List ℕ) (es : List Element) → IsRow octets es → kept (parts_at octets) ≡ Some es
+row_kept octets es row = rw (row_again octets es row) refl
