@@ -1,36 +1,46 @@
 -- The one element that octets are, and numbers under a tag.
-use Rattle.std.proofs.Common.{◌≡◌, ℕ, ◌^◌, ◌<◌, true, false, Bool, cond, ltb, eqb, ◌++◌, List, [], ◌∷◌, length, Option, Some, None, Result, Ok, Err, refl, sym, ap, subst, ◌∙◌, arith}
+use Rattle.std.proofs.Common.{◌≡◌, ℕ, ◌^◌, ◌<◌, cond, ltb, eqb, List, [], length, Some, None, Result, Ok, refl, sym, ap, subst, ◌∙◌}
 use Rattle.std.proofs.lemmas.Bool.{eqb-true, eq-eqb, ltb-true, lt-ltb}
 use Rattle.std.proofs.lemmas.List.{nil_from_length, append-nil}
 use Rattle.ber_grammar.specs.declared.fault.BerFault.{BerFault}
 use Rattle.ber_grammar.specs.Octets.{IsBytes}
 use Rattle.ber_grammar.specs.Element.{Element, Spells, Begins, IsRow}
 use Rattle.ber_grammar.specs.Content.{IsUint}
-use Rattle.ber_grammar.specs.Reader.{and_then, kept}
+use Rattle.ber_grammar.specs.Reader.{kept}
 use Rattle.ber_grammar.specs.Reading.{first_at, uint_at}
 use Rattle.ber_grammar.specs.Rows.{parts_at}
 use Rattle.ber_grammar.proofs.OptionLaws.{some_is, kept_some, then_some, chosen}
-use Rattle.ber_grammar.proofs.OctetLaws.{Spells-bytes}
 use Rattle.ber_grammar.proofs.ElementLaws.{FirstTells, first_tells, first_again}
 use Rattle.ber_grammar.proofs.PartsLaws.{PartsTells, parts_tells, row_again}
 use Rattle.ber_grammar.proofs.UintLaws.{uint_again, uint_found}
-use Rattle.mms_pdu.specs.Initiate.{IsNumber, small, number_at, content_at}
+use Rattle.mms_pdu.specs.Invoke.{below_at}
+use Rattle.mms_pdu.specs.Initiate.{IsNumber, number_at, content_at}
 
 -- ---- a number
 
+pub below_again : (bound : ℕ) (content : List ℕ) (n : ℕ) → IsUint content n → n < bound → below_at bound content ≡ Some n
+unfolding below_at
+below_again bound content n is lt = rw (uint_again content n is, lt-ltb n bound lt) refl
+
+pub below_found : (bound : ℕ) (content : List ℕ) (n : ℕ) → IsBytes content → below_at bound content ≡ Some n → IsUint content n × (n < bound)
+unfolding below_at
+below_found bound content n fits h =
+    let step = λ (m : ℕ). cond (ltb m bound) (Some m) None in
+    let b = then_some (kept (uint_at content)) step n h in
+    let c = chosen (ltb b.0 bound) (Some b.0) n b.2 in
+    let is = uint_found content fits b.0 (kept_some (uint_at content) b.0 b.1) in
+    let same : b.0 ≡ n = some_is b.0 n c.1 in
+    (subst (λ (x : ℕ). IsUint content x) same is, subst (λ (x : ℕ). x < bound) same (ltb-true b.0 bound c.0))
+
 pub number_again : (tag : ℕ) (e : Element) (n : ℕ) → IsNumber tag e n → number_at tag e ≡ Some n
 unfolding number_at
-number_again tag e n h = rw (eq-eqb e.tag tag h.0, uint_again e.content n h.1, lt-ltb n (2 ^ 32) h.2) refl
+number_again tag e n h = rw (eq-eqb e.tag tag h.0) (below_again (2 ^ 32) e.content n h.1.0 h.1.1)
 
 pub number_found : (tag : ℕ) (e : Element) (n : ℕ) → IsBytes e.content → number_at tag e ≡ Some n → IsNumber tag e n
 unfolding number_at
 number_found tag e n fits h =
-    let a = chosen (eqb e.tag tag) (and_then (kept (uint_at e.content)) small) n h in
-    let b = then_some (kept (uint_at e.content)) small n a.1 in
-    let c = chosen (ltb b.0 (2 ^ 32)) (Some b.0) n b.2 in
-    let is = uint_found e.content fits b.0 (kept_some (uint_at e.content) b.0 b.1) in
-    let same : b.0 ≡ n = some_is b.0 n c.1 in
-    (eqb-true e.tag tag a.0, subst (λ (x : ℕ). IsUint e.content x) same is, subst (λ (x : ℕ). x < 2 ^ 32) same (ltb-true b.0 (2 ^ 32) c.0))
+    let a = chosen (eqb e.tag tag) (below_at (2 ^ 32) e.content) n h in
+    (eqb-true e.tag tag a.0, below_found (2 ^ 32) e.content n fits a.1)
 
 -- ---- the one element
 

@@ -1,8 +1,8 @@
 -- What is read of an initiate is what it spells, and what it spells is read.
-use Rattle.std.proofs.Common.{◌≡◌, ℕ, ◌^◌, ◌<◌, ◌≤◌, ◌⊎◌, inl, inr, true, false, ◌&&◌, Bool, cond, ltb, eqb, ◌++◌, List, [], ◌∷◌, length, Option, Some, None, Result, Ok, Err, refl, sym, ap, subst, ◌∙◌, arith}
+use Rattle.std.proofs.Common.{◌≡◌, ℕ, ◌<◌, inl, inr, true, ◌&&◌, cond, ltb, eqb, ◌++◌, List, [], ◌∷◌, Option, Some, None, Result, Ok, Err, refl, sym, ap, subst, ◌∙◌, arith}
 use Rattle.std.proofs.lemmas.Bool.{eqb-true, eq-eqb, ne_eqb, ltb-true, ltb-false, lt-ltb, le-ltb, and_parts, cond_both}
 use Rattle.ber_grammar.specs.Octets.{IsBytes}
-use Rattle.ber_grammar.specs.Element.{Element, Spells, IsRow}
+use Rattle.ber_grammar.specs.Element.{Element, IsRow}
 use Rattle.ber_grammar.specs.Reader.{Gives, Reads, and_then, kept}
 use Rattle.ber_grammar.specs.Rows.{parts_at}
 use Rattle.ber_grammar.proofs.OptionLaws.{some_is, then_some, chosen, sides}
@@ -56,6 +56,9 @@ fields_again es i f =
 
 pub proposal_again : (tag : ℕ) (input : List ℕ) (i : Initiate) → IsInitiate tag input i → proposal_at tag input ≡ Some i
 proposal_again tag input i (e, es, s, t, row, f) = rw (content_again tag input e s t, row_kept e.content es row) (fields_again es i f)
+
+pub one_initiate : (tag : ℕ) (input : List ℕ) (i j : Initiate) → IsInitiate tag input i → IsInitiate tag input j → i ≡ j
+one_initiate tag input i j is also = some_is i j (sym (proposal_again tag input i is) ∙ proposal_again tag input j also)
 
 -- ---- what is read is spelled
 
@@ -175,7 +178,8 @@ judged_tells tag input (Some i) fits h =
     let is = proposal_found tag input i fits h in
     cond_both (ltb i.size 1024) (Err (SmallSize i.size)) (Ok i) (Tells tag input) (λ e. (i, is, refl, ltb-true i.size 1024 e)) (λ e. (is, ltb-false i.size 1024 e))
 
-accepted_again : (tag : ℕ) (input : List ℕ) (i : Initiate) → IsAccepted tag input i → judged (proposal_at tag input) ≡ Ok i
+pub accepted_again : (tag : ℕ) (input : List ℕ) (i : Initiate) → IsAccepted tag input i → initiate_at tag input ≡ Ok i
+unfolding initiate_at
 accepted_again tag input i h = rw (proposal_again tag input i h.0, le-ltb i.size 1024 h.1) refl
 
 refused_again : (tag : ℕ) (input : List ℕ) (f : PduFault) → IsBytes input → IsInitiateRefused tag input f → judged (proposal_at tag input) ≡ Err f

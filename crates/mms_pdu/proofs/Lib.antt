@@ -1,2 +1,4 @@
 pub mod FieldLaws
 pub mod InitiateLaws
+pub mod WrittenLaws
+pub mod InitiateOctetsLaws

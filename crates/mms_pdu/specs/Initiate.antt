@@ -1,17 +1,17 @@
--- Initiate-RequestPDU and Initiate-ResponsePDU (ISO 9506-2, 8.2): tags 168 and 169.
-use Rattle.std.specs.Prelude.{◌≡◌, ℕ, ◌^◌, ◌<◌, ◌≤◌, ◌==◌, ◌&&◌, nat_lt, Bool, true, false, List, [], ◌∷◌, ◌++◌, length, Option, Some, None, Result, Ok, Err, if◌then◌else◌}
+-- Initiate-RequestPDU and Initiate-ResponsePDU (ISO 9506-2), under the tags 168 and 169.
+use Rattle.std.specs.Prelude.{◌≡◌, ℕ, ◌^◌, ◌<◌, ◌≤◌, ◌==◌, ◌&&◌, nat_lt, Bool, false, List, [], ◌∷◌, ◌++◌, length, Option, Some, None, Result, Ok, Err, if◌then◌else◌}
 use Rattle.ber_grammar.specs.Element.{Element, Spells, IsRow}
-use Rattle.ber_grammar.specs.Content.{IsUint}
 use Rattle.ber_grammar.specs.Reader.{and_then, kept}
-use Rattle.ber_grammar.specs.Reading.{first_at, uint_at}
+use Rattle.ber_grammar.specs.Reading.{first_at}
 use Rattle.ber_grammar.specs.Rows.{parts_at}
+use Rattle.mms_pdu.specs.Invoke.{IsUnsigned32, below_at}
 use Rattle.mms_pdu.specs.declared.fault.PduFault.{PduFault}
 use Rattle.mms_pdu.specs.declared.fault.PduFault.TheVariants.{UnknownPdu, UnknownService, Argument, Invalid, SmallSize}
 use Rattle.mms_pdu.specs.declared.initiate.Initiate.{Initiate}
 
 -- a number of 32 bits under a tag
 abbrev pub IsNumber : ℕ → Element → ℕ → Type 0
-IsNumber tag e n = (e.tag ≡ tag) × IsUint e.content n × (n < 2 ^ 32)
+IsNumber tag e n = (e.tag ≡ tag) × IsUnsigned32 e.content n
 
 -- a number that may be left out, and what it counts as then
 abbrev pub IsOptional : ℕ → ℕ → List Element → ℕ → Type 0
@@ -61,11 +61,8 @@ IsInitiateRefused tag input (Argument invoke) = ⊥
 
 -- ---- reading from left to right
 
-abbrev pub small : ℕ → Option ℕ
-small n = if nat_lt n (2 ^ 32) then Some n else None
-
 unfoldable pub number_at : ℕ → Element → Option ℕ
-number_at tag e = if e.tag == tag then and_then (kept (uint_at e.content)) small else None
+number_at tag e = if e.tag == tag then below_at (2 ^ 32) e.content else None
 
 abbrev pub are_details : List Element → Bool
 are_details [] = false

@@ -1,1 +1,9 @@
+-- what is in a PDU, and which elements spell it
+pub mod Fields
+pub mod ObjectName
+pub mod Invoke
+pub mod Variable
+pub mod Datum
+-- how an association begins
 pub mod Initiate
+pub mod InitiateOctets

@@ -1,14 +1,15 @@
-/// Why octets are not the PDU that is read.
+/// Why octets are no PDU that is expected, in the order of the tests.
 #[derive(Clone, Copy, Debug, PartialEq, Eq)]
 pub enum PduFault {
-    /// No PDU begins with this tag.
+    /// The first octet begins no PDU (ISO 9506-2, MMSpdu) that is known here, as that of a cancel request.
     UnknownPdu,
-    /// The request with this invoke number asks for a service that is not known.
+    /// Behind this invoke number stands a service (ISO 9506-2, ConfirmedServiceRequest) that is not known here.
     UnknownService(u32),
-    /// The fields of the PDU with this invoke number are not of its form.
+    /// The request of a known service with this invoke number has fields outside its grammar, or values of another
+    /// number than variables.
     Argument(u32),
-    /// The input is not one whole PDU, has no invoke number where it needs one, or is a PDU that is not awaited.
+    /// The octets are not one whole PDU, there is no invoke number, or the PDU does not belong where it came.
     Invalid,
-    /// The size of this initiate is below 1024.
+    /// An initiate PDU proposes this greatest size of a PDU, in octets, which is below 1024.
     SmallSize(u32),
 }

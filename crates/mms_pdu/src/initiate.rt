@@ -22,7 +22,7 @@ pub struct Initiate {
 }
 
 /// A number of 32 bits under this tag.
-#[tactic(auto, unfolding(crate::specs::Initiate::number_at))]
+#[tactic(auto, unfolding(crate::specs::Initiate::number_at, crate::specs::Invoke::below_at))]
 fn number_of(tag: u32, field: &Tlv<'_>) -> Option<u32>
     ensures { result ≡ number_at tag (element field.now) }
 {

@@ -1,4 +1,4 @@
-//! MMS PDUs (ISO 9506-2, encoded by ITU-T X.690), read without copying and written.
+//! MMS PDUs (ISO 9506-2, MMSpdu; encoded by ITU-T X.690), read without copying and written.
 //!
 //! The server reads an initiate by [`read_initiate`] and accepts it by [`write_initiate_answer`]; the client asks by
 //! [`write_initiate_request`] and reads the answer by [`read_initiate_answer`].
@@ -6,13 +6,17 @@
 
 mod fault;
 mod initiate;
+mod initiate_writing;
+mod laws;
 
 pub use fault::PduFault;
 
-// The initiate.
-pub use initiate::{
-    Initiate,
-};
+// How an association begins.
+pub use initiate::{Initiate, read_initiate, read_initiate_answer};
+pub use initiate_writing::{write_initiate_answer, write_initiate_request};
 
+// What is promised of all of it.
+pub use laws::initiates_are_read_back;
 
-
+#[cfg(test)]
+mod tests;
