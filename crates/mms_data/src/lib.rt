@@ -5,12 +5,14 @@
 #![tactic(auto)]
 
 mod content;
+mod data_view;
 mod fault;
 mod laws;
 mod reading;
 mod type_writing;
 mod writing;
 
+pub use data_view::{DataView, view_data};
 pub use fault::DataFault;
 pub use laws::{data_is_minimal, data_is_read_back, short_ones_fit, types_are_elements};
 pub use reading::read_data;
