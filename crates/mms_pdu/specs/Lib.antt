@@ -7,3 +7,6 @@ pub mod Datum
 -- how an association begins
 pub mod Initiate
 pub mod InitiateOctets
+
+-- what a server sends
+pub mod ReplyOctets

@@ -1,9 +1,10 @@
-ghost use Rattle.std.specs.Prelude.{◌≡◌, ◌≤◌, ◌<◌, ◌^◌, length, min, max, IfOk, OnOk};
+ghost use Rattle.std.specs.Prelude.{◌≡◌, ◌≤◌, min, max, IfOk};
 ghost use Rattle.ber_write.specs.Minimal.{octets_of, CanBeTag};
 ghost use Rattle.mms_pdu.specs.InitiateOctets.{initiate_content, answer_details, request_details, accepted, proposed, initiate_answer, initiate_request};
 
+use crate::element::{add, enclosed};
 use crate::initiate::Initiate;
-use ber_write::{put, put_uint};
+use ber_write::put_uint;
 use std::alloc::{AllocError, Global};
 use sv_base::Octs;
 
@@ -19,7 +20,6 @@ const ANSWER_DETAILS: [u8; 22] = [
 
 /// The fields of an initiate, each in its minimal spelling.
 fn content_of(alloc: Global, numbers: &Initiate, details: &[u8]) -> Result<Vec<u8>, AllocError>
-    requires { length details.now ≡ 22 }
     ensures { IfOk result (λ v. v.items ≡ initiate_content numbers.now details.now) }
 {
     let mut out = Vec::new(alloc);
@@ -27,19 +27,8 @@ fn content_of(alloc: Global, numbers: &Initiate, details: &[u8]) -> Result<Vec<u
     put_uint(&mut out, 0x81, u64::from(numbers.calling))?;
     put_uint(&mut out, 0x82, u64::from(numbers.called))?;
     put_uint(&mut out, 0x83, u64::from(numbers.nesting))?;
-    put(&mut out, 0xa4, details)?;
+    add(&mut out, 0xa4, details)?;
     Ok(out)
-}
-
-/// The element with this tag and this content.
-fn enclosed(alloc: Global, tag: u32, content: &[u8]) -> Result<Octs, AllocError>
-    requires tag { CanBeTag tag }
-    requires len { length content.now < 2 ^ 32 }
-    ensures { IfOk result (λ o. o ≡ octets_of tag content.now) }
-{
-    let mut out = Vec::new(alloc);
-    put(&mut out, tag, content)?;
-    Ok(Octs::from_vec(out))
 }
 
 fn write_initiate(
@@ -48,12 +37,11 @@ fn write_initiate(
     numbers: &Initiate,
     details: &[u8],
 ) -> Result<Octs, AllocError>
-    requires tag { CanBeTag tag }
-    requires len { length details.now ≡ 22 }
+    requires { CanBeTag tag }
     ensures { IfOk result (λ o. o ≡ octets_of tag (initiate_content numbers.now details.now)) }
 {
     let content = content_of(alloc, numbers, details)?;
-    enclosed(alloc, tag, &content)
+    Ok(Octs::from_vec(enclosed(alloc, tag, &content)?))
 }
 
 /// The lesser of what is asked and of `most`, and at least 1.
