@@ -14,7 +14,7 @@ use Rattle.ber_grammar.proofs.ElementLaws.{FirstTells, first_tells, first_again}
 use Rattle.ber_grammar.proofs.PartsLaws.{PartsTells, parts_tells, row_again}
 use Rattle.ber_grammar.proofs.UintLaws.{uint_again, uint_found}
 use Rattle.mms_pdu.specs.Invoke.{below_at}
-use Rattle.mms_pdu.specs.Initiate.{IsNumber, number_at, content_at}
+use Rattle.mms_pdu.specs.Tagged.{IsNumber, number_at, whole_at}
 
 -- ---- a number
 
@@ -55,20 +55,19 @@ whole_first input e h =
     whole_of : (input : List ℕ) (e : Element) → Begins input e [] → Spells input e
     whole_of input e (front, s, p) = subst (λ (x : List ℕ). Spells x e) (sym (p ∙ append-nil front)) s
 
-pub content_again : (tag : ℕ) (input : List ℕ) (e : Element) → Spells input e → e.tag ≡ tag → content_at tag input ≡ Some e.content
-unfolding content_at
-content_again tag input e s t = rw (first_whole input e s, eq-eqb e.tag tag t) refl
+pub whole_again : (input : List ℕ) (e : Element) → Spells input e → whole_at input ≡ Some e
+unfolding whole_at
+whole_again input e s = rw (first_whole input e s) refl
 
-pub content_found : (tag : ℕ) (input content : List ℕ) → content_at tag input ≡ Some content → (e : Element) × Spells input e × (e.tag ≡ tag) × (e.content ≡ content)
-unfolding content_at
-content_found tag input content h =
-    let step = λ (x : Element × List ℕ). cond (eqb (length x.1) 0) (cond (eqb x.0.tag tag) (Some x.0.content) None) None in
-    let a = then_some (kept (first_at input)) step content h in
-    let b = chosen (eqb (length a.0.1) 0) (cond (eqb a.0.0.tag tag) (Some a.0.0.content) None) content a.2 in
-    let c = chosen (eqb a.0.0.tag tag) (Some a.0.0.content) content b.1 in
+pub whole_found : (input : List ℕ) (e : Element) → whole_at input ≡ Some e → Spells input e
+unfolding whole_at
+whole_found input e h =
+    let step = λ (x : Element × List ℕ). cond (eqb (length x.1) 0) (Some x.0) None in
+    let a = then_some (kept (first_at input)) step e h in
+    let b = chosen (eqb (length a.0.1) 0) (Some a.0.0) e a.2 in
     let none : a.0.1 ≡ [] = nil_from_length a.0.1 (eqb-true (length a.0.1) 0 b.0) in
     let one : first_at input ≡ Ok (a.0.0, []) = kept_some (first_at input) a.0 a.1 ∙ ap (λ (x : List ℕ). Ok (a.0.0, x)) none in
-    (a.0.0, whole_first input a.0.0 one, eqb-true a.0.0.tag tag c.0, some_is a.0.0.content content c.1)
+    subst (λ (x : Element). Spells input x) (some_is a.0.0 e b.1) (whole_first input a.0.0 one)
 
 -- ---- a row
 

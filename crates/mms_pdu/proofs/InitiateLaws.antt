@@ -11,8 +11,9 @@ use Rattle.ber_grammar.proofs.ReaderLaws.{exact_from, reads_from}
 use Rattle.mms_pdu.specs.declared.fault.PduFault.{PduFault}
 use Rattle.mms_pdu.specs.declared.fault.PduFault.TheVariants.{UnknownPdu, UnknownService, Argument, Invalid, SmallSize}
 use Rattle.mms_pdu.specs.declared.initiate.Initiate.{Initiate}
-use Rattle.mms_pdu.specs.Initiate.{IsNumber, IsOptional, AreDetails, AreFields, IsInitiate, IsAccepted, IsInitiateRefused, number_at, are_details, detail_at, nesting_at, calls_at, fields_at, content_at, proposal_at, judged, initiate_at}
-use Rattle.mms_pdu.proofs.FieldLaws.{number_again, number_found, content_again, content_found, row_found, row_kept}
+use Rattle.mms_pdu.specs.Initiate.{IsOptional, AreDetails, AreFields, IsInitiate, IsAccepted, IsInitiateRefused, are_details, detail_at, nesting_at, calls_at, fields_at, tagged_at, proposal_at, judged, initiate_at}
+use Rattle.mms_pdu.specs.Tagged.{IsNumber, number_at, whole_at}
+use Rattle.mms_pdu.proofs.FieldLaws.{number_again, number_found, whole_again, whole_found, row_found, row_kept}
 
 abbrev made : ℕ → ℕ → ℕ → ℕ → Initiate
 made size calling called nesting = record { size = size; calling = calling; called = called; nesting = nesting }
@@ -55,7 +56,7 @@ fields_again es i f =
     ∙ nesting_again i.size i.calling i.called f.nesting i.nesting f.detail f.details f.is_nesting f.is_detail f.row f.are_details
 
 pub proposal_again : (tag : ℕ) (input : List ℕ) (i : Initiate) → IsInitiate tag input i → proposal_at tag input ≡ Some i
-proposal_again tag input i (e, es, s, t, row, f) = rw (content_again tag input e s t, row_kept e.content es row) (fields_again es i f)
+proposal_again tag input i (e, es, s, t, row, f) = rw (whole_again input e s, eq-eqb e.tag tag t, row_kept e.content es row) (fields_again es i f)
 
 pub one_initiate : (tag : ℕ) (input : List ℕ) (i j : Initiate) → IsInitiate tag input i → IsInitiate tag input j → i ≡ j
 one_initiate tag input i j is also = some_is i j (sym (proposal_again tag input i is) ∙ proposal_again tag input j also)
@@ -156,12 +157,12 @@ fields_found (e ∷ es) i fits h =
 
 pub proposal_found : (tag : ℕ) (input : List ℕ) (i : Initiate) → IsBytes input → proposal_at tag input ≡ Some i → IsInitiate tag input i
 proposal_found tag input i fits h =
-    let a = then_some (content_at tag input) (λ content. and_then (kept (parts_at content)) fields_at) i h in
-    let b = then_some (kept (parts_at a.0)) fields_at i a.2 in
-    let c = content_found tag input a.0 a.1 in
-    let row : IsRow a.0 b.0 = row_found a.0 b.0 b.1 in
-    let inside : IsBytes a.0 = subst IsBytes c.3 (Spells-bytes input c.0 fits c.1) in
-    (c.0, b.0, c.1, c.2, subst (λ (x : List ℕ). IsRow x b.0) (sym c.3) row, fields_found b.0 i (IsRow-bytes a.0 b.0 inside row) b.2)
+    let a = then_some (whole_at input) (tagged_at tag) i h in
+    let b = chosen (eqb a.0.tag tag) (and_then (kept (parts_at a.0.content)) fields_at) i a.2 in
+    let c = then_some (kept (parts_at a.0.content)) fields_at i b.1 in
+    let s = whole_found input a.0 a.1 in
+    let row : IsRow a.0.content c.0 = row_found a.0.content c.0 c.1 in
+    (a.0, c.0, s, eqb-true a.0.tag tag b.0, row, fields_found c.0 i (IsRow-bytes a.0.content c.0 (Spells-bytes input a.0 fits s) row) c.2)
 
 -- ---- the readers
 

@@ -4,14 +4,10 @@ use Rattle.ber_grammar.specs.Element.{Element, Spells, IsRow}
 use Rattle.ber_grammar.specs.Reader.{and_then, kept}
 use Rattle.ber_grammar.specs.Reading.{first_at}
 use Rattle.ber_grammar.specs.Rows.{parts_at}
-use Rattle.mms_pdu.specs.Invoke.{IsUnsigned32, below_at}
+use Rattle.mms_pdu.specs.Tagged.{IsNumber, number_at, whole_at}
 use Rattle.mms_pdu.specs.declared.fault.PduFault.{PduFault}
 use Rattle.mms_pdu.specs.declared.fault.PduFault.TheVariants.{UnknownPdu, UnknownService, Argument, Invalid, SmallSize}
 use Rattle.mms_pdu.specs.declared.initiate.Initiate.{Initiate}
-
--- a number of 32 bits under a tag
-abbrev pub IsNumber : ℕ → Element → ℕ → Type 0
-IsNumber tag e n = (e.tag ≡ tag) × IsUnsigned32 e.content n
 
 -- a number that may be left out, and what it counts as then
 abbrev pub IsOptional : ℕ → ℕ → List Element → ℕ → Type 0
@@ -61,9 +57,6 @@ IsInitiateRefused tag input (Argument invoke) = ⊥
 
 -- ---- reading from left to right
 
-unfoldable pub number_at : ℕ → Element → Option ℕ
-number_at tag e = if e.tag == tag then below_at (2 ^ 32) e.content else None
-
 abbrev pub are_details : List Element → Bool
 are_details [] = false
 are_details (a ∷ []) = false
@@ -92,12 +85,12 @@ unfoldable pub fields_at : List Element → Option Initiate
 fields_at [] = None
 fields_at (e ∷ es) = if e.tag == 128 then and_then (number_at 128 e) (λ size. calls_at size es) else calls_at 65000 (e ∷ es)
 
--- the content of the one element with this tag that the octets are
-unfoldable pub content_at : ℕ → List ℕ → Option (List ℕ)
-content_at tag input = and_then (kept (first_at input)) (λ x. if length x.1 == 0 then (if x.0.tag == tag then Some x.0.content else None) else None)
+-- the fields of an element with this tag
+abbrev pub tagged_at : ℕ → Element → Option Initiate
+tagged_at tag e = if e.tag == tag then and_then (kept (parts_at e.content)) fields_at else None
 
 abbrev pub proposal_at : ℕ → List ℕ → Option Initiate
-proposal_at tag input = and_then (content_at tag input) (λ content. and_then (kept (parts_at content)) fields_at)
+proposal_at tag input = and_then (whole_at input) (tagged_at tag)
 
 abbrev pub judged : Option Initiate → Result Initiate PduFault
 judged None = Err Invalid

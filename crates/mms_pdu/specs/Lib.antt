@@ -2,11 +2,11 @@
 pub mod Fields
 pub mod ObjectName
 pub mod Invoke
+pub mod Tagged
 pub mod Variable
 pub mod Datum
 -- how an association begins
 pub mod Initiate
 pub mod InitiateOctets
-
 -- what a server sends
 pub mod ReplyOctets

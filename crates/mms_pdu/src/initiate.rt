@@ -1,12 +1,12 @@
 ghost use Rattle.std.specs.Prelude.{◌≡◌, ◌∷◌, IfSome, Some, List};
-ghost use Rattle.std.specs.Option.{option_map};
 ghost use Rattle.ber_grammar.specs.Place.{elements};
 ghost use Rattle.ber_grammar.specs.Reader.{Gives, Reads};
 ghost use Rattle.ber_view.specs.View.{element};
-ghost use Rattle.mms_pdu.specs.Initiate.{IsAccepted, IsInitiateRefused, number_at, are_details, detail_at, nesting_at, calls_at, fields_at, content_at, proposal_at, judged, initiate_at};
+ghost use Rattle.mms_pdu.specs.Initiate.{IsAccepted, IsInitiateRefused, are_details, detail_at, nesting_at, calls_at, fields_at, proposal_at, judged, initiate_at};
 
 use crate::fault::PduFault;
-use ber_view::{Elements, Tlv, first, parts, uint};
+use crate::tagged::{number_of, whole_of};
+use ber_view::{Elements, Tlv, parts};
 
 /// What an initiate proposes, or what its answer accepts (ISO 9506-2, Initiate-RequestPDU and Initiate-ResponsePDU).
 #[derive(Clone, Copy, Debug, PartialEq, Eq)]
@@ -19,18 +19,6 @@ pub struct Initiate {
     pub called: u32,
     /// How deep a structure may lie in another; 10 where nothing was said.
     pub nesting: u32,
-}
-
-/// A number of 32 bits under this tag.
-#[tactic(auto, unfolding(crate::specs::Initiate::number_at, crate::specs::Invoke::below_at))]
-fn number_of(tag: u32, field: &Tlv<'_>) -> Option<u32>
-    ensures { result ≡ number_at tag (element field.now) }
-{
-    if field.tag != tag {
-        return None;
-    }
-    let number = uint(field.content).ok()?;
-    u32::try_from(number).ok()
 }
 
 /// Whether these are a version, parameters and services.
@@ -114,22 +102,14 @@ fn fields_of(mut fields: Elements<'_>) -> Option<Initiate>
     with_calls(size, &calling, fields)
 }
 
-/// The content of the one element with this tag that the octets are.
-#[tactic(auto, unfolding(crate::specs::Initiate::content_at))]
-fn content_of(tag: u32, bytes: &[u8]) -> Option<&[u8]>
-    ensures { option_map (λ x. x.now) result ≡ content_at tag bytes.now }
-{
-    let (element, rest) = first(bytes).ok()?;
-    if !rest.is_empty() || element.tag != tag {
-        return None;
-    }
-    Some(element.content)
-}
-
 fn proposal_of(tag: u32, bytes: &[u8]) -> Option<Initiate>
     ensures { result ≡ proposal_at tag bytes.now }
 {
-    fields_of(parts(content_of(tag, bytes)?).ok()?)
+    let element = whole_of(bytes)?;
+    if element.tag != tag {
+        return None;
+    }
+    fields_of(parts(element.content).ok()?)
 }
 
 /// The proposal, where its size is not too small.

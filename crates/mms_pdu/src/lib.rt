@@ -12,6 +12,7 @@ mod initiate_writing;
 mod laws;
 mod reject;
 mod report;
+mod tagged;
 
 pub use fault::PduFault;
 
