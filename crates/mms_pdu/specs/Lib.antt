@@ -9,4 +9,10 @@ pub mod Datum
 pub mod Initiate
 pub mod InitiateOctets
 -- what a server sends
+pub mod Answer
+pub mod Reply
+pub mod ReplyReading
 pub mod ReplyOctets
+-- what the program gives, as what is in a PDU
+pub mod View
+pub mod ReplyView

@@ -4,25 +4,38 @@
 //! [`write_initiate_request`] and reads the answer by [`read_initiate_answer`].
 #![tactic(auto)]
 
+mod answer;
+mod data_list;
 mod element;
 mod error;
 mod fault;
+mod fields;
 mod initiate;
 mod initiate_writing;
 mod laws;
+mod object_name;
 mod reject;
+mod reply;
 mod report;
 mod tagged;
+mod variable;
 
 pub use fault::PduFault;
+
+// What is in a PDU.
+pub use data_list::DataList;
+pub use object_name::{NameList, NameView};
+pub use variable::{VariableList, VariableView};
 
 // How an association begins.
 pub use initiate::{Initiate, read_initiate, read_initiate_answer};
 pub use initiate_writing::{write_initiate_answer, write_initiate_request};
 
-// What a server sends.
+// What a server sends, and how a client reads it.
+pub use answer::write_answer;
 pub use error::write_error;
 pub use reject::write_reject;
+pub use reply::{ReplyView, reply};
 pub use report::write_report;
 
 // What is promised of all of it.
