@@ -35,7 +35,7 @@ pub use initiate_writing::{write_initiate_answer, write_initiate_request};
 pub use answer::write_answer;
 pub use error::write_error;
 pub use reject::write_reject;
-pub use reply::{ReplyView, reply};
+pub use reply::ReplyView;
 pub use report::write_report;
 
 // What is promised of all of it.
