@@ -1,4 +1,4 @@
-pub mod FieldLaws
+pub mod TaggedLaws
 pub mod InitiateLaws
 pub mod WrittenLaws
 pub mod InitiateOctetsLaws
