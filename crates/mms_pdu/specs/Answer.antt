@@ -4,12 +4,12 @@ use Rattle.std.specs.List.{AllByRecursion, list_all}
 use Rattle.ber_grammar.specs.Element.{Element, IsRow}
 use Rattle.ber_grammar.specs.Content.{IsUint}
 use Rattle.ber_grammar.specs.Place.{Spot, Piece, content_piece}
+use Rattle.ber_grammar.specs.Reader.{and_then}
 use Rattle.sv_base.specs.Tree.{Seen}
 use Rattle.mms_data.specs.Grammar.{IsWithin}
-use Rattle.mms_pdu.specs.Fields.{fields_in, only_in, each_in}
-use Rattle.mms_pdu.specs.ObjectName.{Name, IsOnlyName}
+use Rattle.mms_pdu.specs.Fields.{fields_in, only_in}
 use Rattle.mms_pdu.specs.Invoke.{below_at}
-use Rattle.mms_pdu.specs.Variable.{Variable, AreVariables, variable_at, named_at}
+use Rattle.mms_pdu.specs.Access.{Access, IsAccess, access_at}
 use Rattle.mms_pdu.specs.Datum.{datum_at}
 
 -- DataAccessError, a number of 8 bits under 128
@@ -28,13 +28,9 @@ IsWritten e = IsFailed e ⊎ ((e.tag ≡ 129) × (e.content ≡ []))
 abbrev pub AreAll : (Element → Type 0) → List ℕ → Type 0
 AreAll Is content = (es : List Element) × IsRow content es × AllByRecursion Is es
 
--- VariableAccessSpecification: 160 listOfVariable, 161 variableListName
-abbrev pub IsAccess : Element → Type 0
-IsAccess e = ((e.tag ≡ 160) × (vs : List (Variable (List ℕ))) × AreVariables e.content vs) ⊎ ((e.tag ≡ 161) × (n : Name (List ℕ)) × IsOnlyName e.content n)
-
 -- what was read, 160
 abbrev pub IsSpecification : Element → Type 0
-IsSpecification e = (e.tag ≡ 160) × (k : Element) × IsRow e.content (k ∷ []) × IsAccess k
+IsSpecification e = (e.tag ≡ 160) × (k : Element) × IsRow e.content (k ∷ []) × (access : Access (List ℕ)) × IsAccess k access
 
 -- listOfAccessResult, 161
 abbrev pub AreResults : Element → Type 0
@@ -67,11 +63,8 @@ is_result s = if s.element.tag == 128 then is_failed s else is_some (datum_at s)
 unfoldable pub is_written : Spot → Bool
 is_written s = if s.element.tag == 128 then is_failed s else s.element.tag == 129 && length s.element.content == 0
 
-unfoldable pub is_access : Spot → Bool
-is_access s = if s.element.tag == 160 then is_some (each_in variable_at (content_piece s)) else is_some (named_at 161 s)
-
 unfoldable pub is_specification : Spot → Bool
-is_specification s = s.element.tag == 160 && holds is_access (only_in (content_piece s))
+is_specification s = s.element.tag == 160 && is_some (and_then (only_in (content_piece s)) access_at)
 
 unfoldable pub are_results : Spot → Bool
 are_results s = s.element.tag == 161 && holds (list_all is_result) (fields_in (content_piece s))

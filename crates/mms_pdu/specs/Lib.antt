@@ -8,6 +8,13 @@ pub mod Datum
 -- how an association begins
 pub mod Initiate
 pub mod InitiateOctets
+-- what is asked
+pub mod Service
+pub mod NameList
+pub mod Access
+pub mod VariableLists
+pub mod Services
+pub mod Request
 -- what a server sends
 pub mod Answer
 pub mod Reply

@@ -5,6 +5,7 @@ use Rattle.ber_grammar.specs.Content.{IsUint}
 use Rattle.ber_grammar.specs.Place.{Piece}
 use Rattle.mms_pdu.specs.declared.fault.PduFault.{PduFault}
 use Rattle.mms_pdu.specs.declared.fault.PduFault.TheVariants.{UnknownPdu, UnknownService, Argument, Invalid, SmallSize}
+use Rattle.mms_pdu.specs.Request.{is_pdu, MayBegin}
 use Rattle.mms_pdu.specs.Tagged.{IsNumbered}
 use Rattle.mms_pdu.specs.Answer.{IsAnswerBody}
 use Rattle.mms_pdu.specs.ReplyOctets.{class_tag}
@@ -59,17 +60,9 @@ IsReply input r = (e : Element) × Spells input e × IsReplyOf input e r
 
 -- ---- what is refused
 
--- those, and 160 confirmed-RequestPDU, 168 initiate-RequestPDU, 169 initiate-ResponsePDU, 139 conclude-RequestPDU
+-- the tags of those
 abbrev pub is_sent : ℕ → Bool
-is_sent a = a == 161 || a == 162 || a == 163 || a == 164 || a == 140
-
-abbrev pub is_pdu : ℕ → Bool
-is_pdu a = is_sent a || a == 160 || a == 168 || a == 169 || a == 139
-
--- the octets begin with one for which this is true, or there is none
-abbrev pub MayBegin : (ℕ → Bool) → List ℕ → Type 0
-MayBegin test [] = Unit {0}
-MayBegin test (a ∷ rest) = test a ≡ true
+is_sent tag = tag == 161 || tag == 162 || tag == 163 || tag == 164 || tag == 140
 
 -- behind the invoke number stands what is not of the form
 abbrev pub IsMalformed : Element → ℕ → Type 0

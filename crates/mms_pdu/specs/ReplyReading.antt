@@ -7,13 +7,10 @@ use Rattle.mms_pdu.specs.declared.fault.PduFault.{PduFault}
 use Rattle.mms_pdu.specs.declared.fault.PduFault.TheVariants.{UnknownPdu, Argument, Invalid}
 use Rattle.mms_pdu.specs.Fields.{only_in}
 use Rattle.mms_pdu.specs.Invoke.{below_at}
+use Rattle.mms_pdu.specs.Request.{is_pdu, may_begin, or_fault}
 use Rattle.mms_pdu.specs.Tagged.{whole_at, whole_in, numbered_in}
 use Rattle.mms_pdu.specs.Answer.{is_answer_body}
-use Rattle.mms_pdu.specs.Reply.{Reply, answer, error, reject, concluded, information, is_pdu}
-
-abbrev pub or_fault : {A : Type 0} → PduFault → Option A → Result A PduFault
-or_fault fault None = Err fault
-or_fault fault (Some x) = Ok x
+use Rattle.mms_pdu.specs.Reply.{Reply, answer, error, reject, concluded, information}
 
 -- the tag and the content of the service's element
 unfoldable pub service_in : Piece → Option (ℕ × Piece)
@@ -21,8 +18,8 @@ service_in p = and_then (whole_in p) (λ s. if is_answer_body s.element.tag (con
 
 unfoldable pub answer_in : Piece → Result (Reply Piece) PduFault
 answer_in p = do
-  x ← or_fault Invalid (numbered_in 2 p)
-  s ← or_fault (Argument x.0) (service_in x.1)
+  x ← or_fault (numbered_in 2 p) Invalid
+  s ← or_fault (service_in x.1) (Argument x.0)
   Ok (answer x.0 s.0 s.1)
 
 -- the number of a tag of the context class that is spelled in the fewest octets, where it is below 256
@@ -45,16 +42,16 @@ service_error_in p = and_then (whole_in p) (λ s. if s.element.tag == 162 then a
 
 unfoldable pub error_in : Piece → Result (Reply Piece) PduFault
 error_in p = do
-  x ← or_fault Invalid (numbered_in 128 p)
-  f ← or_fault (Argument x.0) (service_error_in x.1)
+  x ← or_fault (numbered_in 128 p) Invalid
+  f ← or_fault (service_error_in x.1) (Argument x.0)
   Ok (error x.0 f.0 f.1)
 
 unfoldable pub reason_at : List ℕ → Option ℕ
 reason_at octets = and_then (whole_at octets) (λ e. if nat_le 129 e.tag && nat_le e.tag 139 then below_at 256 e.content else None)
 
 abbrev pub rejected : Piece → Option (ℕ × Piece) → Result (Reply Piece) PduFault
-rejected p None = or_fault Invalid (reason_at p.octets) >>= λ code. Ok (reject None code)
-rejected p (Some x) = or_fault (Argument x.0) (reason_at x.1.octets) >>= λ code. Ok (reject (Some x.0) code)
+rejected p None = or_fault (reason_at p.octets) Invalid >>= λ code. Ok (reject None code)
+rejected p (Some x) = or_fault (reason_at x.1.octets) (Argument x.0) >>= λ code. Ok (reject (Some x.0) code)
 
 unfoldable pub reject_in : Piece → Result (Reply Piece) PduFault
 reject_in p = rejected p (numbered_in 128 p)
@@ -69,9 +66,5 @@ pdu_in p s =
     else if s.element.tag == 140 then (if length s.element.content == 0 then Ok concluded else Err Invalid)
     else Err Invalid
 
-abbrev pub may_begin : (ℕ → Bool) → List ℕ → Bool
-may_begin test [] = true
-may_begin test (a ∷ rest) = test a
-
 unfoldable pub reply_in : Piece → Result (Reply Piece) PduFault
-reply_in p = if may_begin is_pdu p.octets then (or_fault Invalid (whole_in p) >>= pdu_in p) else Err UnknownPdu
+reply_in p = if may_begin is_pdu p.octets then (or_fault (whole_in p) Invalid >>= pdu_in p) else Err UnknownPdu

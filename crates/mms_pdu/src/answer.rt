@@ -1,15 +1,18 @@
 ghost use Rattle.std.specs.Prelude.{◌≡◌, is_some, IfOk};
 ghost use Rattle.std.specs.List.{list_all};
 ghost use Rattle.ber_grammar.specs.Place.{piece};
+ghost use Rattle.ber_grammar.specs.Reader.{and_then};
 ghost use Rattle.ber_view.specs.View.{spot};
 ghost use Rattle.ber_write.specs.Minimal.{CanBeTag};
-ghost use Rattle.mms_pdu.specs.Answer.{IsAnswerBody, is_result, is_written, is_access, is_specification, are_results, is_read_answer, is_answer_body};
+ghost use Rattle.mms_pdu.specs.Access.{access_at};
+ghost use Rattle.mms_pdu.specs.Fields.{only_in};
+ghost use Rattle.mms_pdu.specs.Answer.{IsAnswerBody, is_result, is_written, is_specification, are_results, is_read_answer, is_answer_body};
 ghost use Rattle.mms_pdu.specs.ReplyOctets.{answer_octets};
 
+use crate::access::access_of;
 use crate::element::{add, enclosed};
 use crate::fields::{fields_of, only_of};
 use crate::tagged::octet_of;
-use crate::variable::{named_of, variables_of};
 use ber_view::{Elements, Tlv};
 use ber_write::put_uint;
 use mms_data::view_data;
@@ -50,15 +53,14 @@ fn are_write_results(mut fields: Elements<'_>) -> bool
     fields.all(|field| is_write_result(&field))
 }
 
-/// Whether an element names variables or a list of them.
-#[tactic(auto, unfolding(crate::specs::Answer::is_access))]
-fn names_variables(field: &Tlv<'_>) -> bool
-    ensures { result ≡ is_access (spot field.now) }
+/// What was read, by the content of its element.
+fn access_in(content: &[u8]) -> bool
+    ensures { result ≡ is_some (and_then (only_in (piece content.entry)) access_at) }
 {
-    if field.tag == 0xa0 {
-        return variables_of(field.content).is_some();
+    match only_of(content) {
+        Some(access) => access_of(&access).is_some(),
+        None => false,
     }
-    named_of(0xa1, field).is_some()
 }
 
 /// Whether an element says what was read.
@@ -66,13 +68,7 @@ fn names_variables(field: &Tlv<'_>) -> bool
 fn specifies(field: &Tlv<'_>) -> bool
     ensures { result ≡ is_specification (spot field.now) }
 {
-    if field.tag != 0xa0 {
-        return false;
-    }
-    match only_of(field.content) {
-        Some(access) => names_variables(&access),
-        None => false,
-    }
+    field.tag == 0xa0 && access_in(field.content)
 }
 
 /// Whether an element holds the results of a read.

@@ -4,6 +4,7 @@
 //! [`write_initiate_request`] and reads the answer by [`read_initiate_answer`].
 #![tactic(auto)]
 
+mod access;
 mod answer;
 mod data_list;
 mod element;
@@ -13,12 +14,17 @@ mod fields;
 mod initiate;
 mod initiate_writing;
 mod laws;
+mod name_list;
+mod number;
 mod object_name;
 mod reject;
 mod reply;
 mod report;
+mod request;
+mod service;
 mod tagged;
 mod variable;
+mod variable_lists;
 
 pub use fault::PduFault;
 
@@ -26,6 +32,10 @@ pub use fault::PduFault;
 pub use data_list::DataList;
 pub use object_name::{NameList, NameView};
 pub use variable::{VariableList, VariableView};
+
+// What a client asks.
+pub use request::RequestView;
+pub use service::{ScopeView, ServiceView};
 
 // How an association begins.
 pub use initiate::{Initiate, read_initiate, read_initiate_answer};

@@ -3,8 +3,9 @@ ghost use Rattle.std.specs.Option.{option_map};
 ghost use Rattle.ber_grammar.specs.Place.{piece};
 ghost use Rattle.ber_grammar.specs.Reader.{Gives, Reads};
 ghost use Rattle.ber_view.specs.View.{spot};
-ghost use Rattle.mms_pdu.specs.Reply.{reply_octets, is_pdu, IsReply, IsReplyRefused};
-ghost use Rattle.mms_pdu.specs.ReplyReading.{service_in, answer_in, class_at, class_in, error_class_in, service_error_in, error_in, reason_at, reject_in, pdu_in, may_begin, reply_in};
+ghost use Rattle.mms_pdu.specs.Request.{is_pdu, may_begin};
+ghost use Rattle.mms_pdu.specs.Reply.{reply_octets, IsReply, IsReplyRefused};
+ghost use Rattle.mms_pdu.specs.ReplyReading.{service_in, answer_in, class_at, class_in, error_class_in, service_error_in, error_in, reason_at, reject_in, pdu_in, reply_in};
 ghost use Rattle.mms_pdu.specs.ReplyView.{reply_of};
 
 use crate::answer::has_form;
