@@ -2,3 +2,6 @@ pub mod TaggedLaws
 pub mod InitiateLaws
 pub mod WrittenLaws
 pub mod InitiateOctetsLaws
+pub mod AnswerLaws
+pub mod ReplyPartLaws
+pub mod ReplyLaws
