@@ -5,3 +5,4 @@ pub mod InitiateOctetsLaws
 pub mod AnswerLaws
 pub mod ReplyPartLaws
 pub mod ReplyLaws
+pub mod ReplyAgainLaws
