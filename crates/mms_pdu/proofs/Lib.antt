@@ -6,3 +6,8 @@ pub mod AnswerLaws
 pub mod ReplyPartLaws
 pub mod ReplyLaws
 pub mod ReplyAgainLaws
+pub mod FieldLaws
+pub mod ObjectNameLaws
+pub mod VariableLaws
+pub mod DatumLaws
+pub mod NameListLaws

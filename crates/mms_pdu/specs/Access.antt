@@ -6,7 +6,7 @@ use Rattle.ber_grammar.specs.Place.{Spot, Piece, content_piece}
 use Rattle.ber_grammar.specs.Reader.{and_then, kept}
 use Rattle.ber_grammar.specs.Reading.{boolean_at}
 use Rattle.sv_base.specs.Tree.{Seen}
-use Rattle.mms_pdu.specs.Fields.{only_in, each_in}
+use Rattle.mms_pdu.specs.Fields.{fields_in, only_in, each_in}
 use Rattle.mms_pdu.specs.ObjectName.{Name, IsOnlyName}
 use Rattle.mms_pdu.specs.Variable.{Variable, AreVariables, variable_at, named_at}
 use Rattle.mms_pdu.specs.Datum.{AreData, datum_at}
@@ -63,10 +63,14 @@ read_at (s ∷ []) = read_access_at false s
 read_at (s ∷ t ∷ []) = if s.element.tag == 128 then and_then (truth_at s.element.content) (λ spec. read_access_at spec t) else None
 read_at (s ∷ t ∷ u ∷ more) = None
 
+-- whether two elements hold as many
+unfoldable pub counts_agree_at : Spot → Spot → Option Bool
+counts_agree_at s t = and_then (fields_in (content_piece s)) (λ ss. and_then (fields_in (content_piece t)) (λ ts. Some (length ss == length ts)))
+
 -- as many values as variables
-abbrev pub to_write : Access Piece → List Spot → Option (Service Piece Spot)
-to_write (variables vs) ds = if length vs == length ds then Some (services.write_vars vs ds) else None
-to_write (named n) ds = Some (services.write_set n ds)
+abbrev pub to_write : Spot → Spot → Access Piece → List Spot → Option (Service Piece Spot)
+to_write s t (variables vs) ds = and_then (counts_agree_at s t) (λ agree. if agree then Some (services.write_vars vs ds) else None)
+to_write s t (named n) ds = Some (services.write_set n ds)
 
 unfoldable pub data_list_at : Spot → Option (List Spot)
 data_list_at s = if s.element.tag == 160 then each_in datum_at (content_piece s) else None
@@ -74,5 +78,5 @@ data_list_at s = if s.element.tag == 160 then each_in datum_at (content_piece s)
 unfoldable pub write_at : List Spot → Option (Service Piece Spot)
 write_at [] = None
 write_at (s ∷ []) = None
-write_at (s ∷ t ∷ []) = and_then (access_at s) (λ access. and_then (data_list_at t) (λ ds. to_write access ds))
+write_at (s ∷ t ∷ []) = and_then (access_at s) (λ access. and_then (data_list_at t) (λ ds. to_write s t access ds))
 write_at (s ∷ t ∷ u ∷ more) = None

@@ -3,11 +3,11 @@
 ghost use Rattle.std.specs.Prelude.{◌≡◌, ◌==◌, length};
 ghost use Rattle.std.specs.Option.{option_map};
 ghost use Rattle.ber_view.specs.View.{spot};
-ghost use Rattle.mms_pdu.specs.Access.{access_at, to_read, read_access_at, read_at, to_write, data_list_at, write_at};
+ghost use Rattle.mms_pdu.specs.Access.{access_at, to_read, read_access_at, read_at, counts_agree_at, to_write, data_list_at, write_at};
 ghost use Rattle.mms_pdu.specs.View.{access, service};
 
 use crate::data_list::{DataList, data_of};
-use crate::fields::only_of;
+use crate::fields::{fields_of, only_of};
 use crate::number::truth_of;
 use crate::object_name::NameView;
 use crate::service::ServiceView;
@@ -57,4 +57,57 @@ pub(crate) fn read_of<'a>(mut fields: Elements<'a>) -> Option<ServiceView<'a>>
     }
     let spec = truth_of(first.content)?;
     read_access_of(spec, &second)
+}
+
+/// Whether as many elements are left of the one as of the other.
+fn are_as_many(mut first: Elements<'_>, mut second: Elements<'_>) -> bool
+    ensures { result ≡ (length first.entry == length second.entry) }
+{
+    while first.next().is_some() {
+        if second.next().is_none() {
+            return false;
+        }
+    }
+    second.next().is_none()
+}
+
+#[tactic(auto, unfolding(crate::specs::Access::counts_agree_at))]
+fn counts_agree(first: &Tlv<'_>, second: &Tlv<'_>) -> Option<bool>
+    ensures { result ≡ counts_agree_at (spot first.now) (spot second.now) }
+{
+    let first = fields_of(first.content)?;
+    let second = fields_of(second.content)?;
+    Some(are_as_many(first, second))
+}
+
+#[tactic(auto, unfolding(crate::specs::Access::data_list_at))]
+fn data_list_of<'a>(field: &Tlv<'a>) -> Option<DataList<'a>>
+    ensures { result ≡ data_list_at (spot field.now) }
+{
+    if field.tag != 0xa0 {
+        return None;
+    }
+    data_of(field.content)
+}
+
+#[tactic(auto, unfolding(crate::specs::Access::write_at))]
+pub(crate) fn write_of<'a>(mut fields: Elements<'a>) -> Option<ServiceView<'a>>
+    ensures { option_map service result ≡ write_at fields.entry }
+{
+    let first = fields.next()?;
+    let second = fields.next()?;
+    if fields.next().is_some() {
+        return None;
+    }
+    let access = access_of(&first)?;
+    let values = data_list_of(&second)?;
+    match access {
+        AccessView::Variables(variables) => {
+            if !counts_agree(&first, &second)? {
+                return None;
+            }
+            Some(ServiceView::WriteVars { variables, values })
+        }
+        AccessView::Named(name) => Some(ServiceView::WriteSet { name, values }),
+    }
 }

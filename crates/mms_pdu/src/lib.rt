@@ -6,6 +6,7 @@
 
 mod access;
 mod answer;
+mod confirmed;
 mod data_list;
 mod element;
 mod error;

@@ -35,3 +35,48 @@ pub(crate) fn define_of<'a>(mut fields: Elements<'a>) -> Option<ServiceView<'a>>
     let members = variable_list_of(&second)?;
     Some(ServiceView::Define { name, members })
 }
+
+/// The names of a list that is absent.
+fn no_names<'a>() -> NameList<'a>
+    ensures { result ≡ [] }
+{
+    match names_of(&[]) {
+        Some(names) => names,
+        None => unreachable!(),
+    }
+}
+
+#[tactic(auto, unfolding(crate::specs::VariableLists::names_at))]
+fn list_of<'a>(mut fields: Elements<'a>) -> Option<NameList<'a>>
+    ensures { result ≡ names_at fields.entry }
+{
+    let Some(field) = fields.next() else {
+        return Some(no_names());
+    };
+    if field.tag != 0xa1 || fields.next().is_some() {
+        return None;
+    }
+    names_of(field.content)
+}
+
+#[tactic(auto, unfolding(crate::specs::VariableLists::delete_at, crate::specs::VariableLists::names_at))]
+pub(crate) fn delete_of<'a>(mut fields: Elements<'a>) -> Option<ServiceView<'a>>
+    ensures { option_map service result ≡ delete_at fields.entry }
+{
+    let Some(first) = fields.next() else {
+        return Some(ServiceView::Delete {
+            scope: 0,
+            names: no_names(),
+        });
+    };
+    if first.tag == 0x80 {
+        let scope = octet_of(0x80, &first)?;
+        let names = list_of(fields)?;
+        return Some(ServiceView::Delete { scope, names });
+    }
+    if first.tag != 0xa1 || fields.next().is_some() {
+        return None;
+    }
+    let names = names_of(first.content)?;
+    Some(ServiceView::Delete { scope: 0, names })
+}
