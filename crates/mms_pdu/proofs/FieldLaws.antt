@@ -1,5 +1,5 @@
 -- The elements of a content, and what is read of each.
-use Rattle.std.proofs.Common.{◌≡◌, ℕ, ◌+◌, Bool, true, false, cond, List, [], ◌∷◌, map, Option, Some, None, Result, refl, sym, ap, subst, ◌∙◌}
+use Rattle.std.proofs.Common.{◌≡◌, ℕ, suc, ◌+◌, Bool, true, false, cond, List, [], ◌∷◌, length, map, Option, Some, None, Result, refl, sym, ap, subst, ◌∙◌}
 use Rattle.std.specs.Prelude.{is_some}
 use Rattle.std.specs.List.{filter_map, cons_option}
 use Rattle.std.proofs.lemmas.Bool.{and_parts}
@@ -114,3 +114,20 @@ module _ {A B : Type 0} (read : Spot → Option A) (Is : Element → B → Type 
   each_again again p es ys fits row h =
       let all = all_again again (spots p es) ys (in_place AllBytes p es (IsRow-bytes p.octets es fits row)) (in_place (λ x. Each Is x ys) p es h) in
       (filter_map read (spots p es), rw (fields_again p es row, all.0) refl, all.1)
+
+all_length : {A : Type 0} (read : Spot → Option A) (ss : List Spot) → are_read read ss ≡ true → length (filter_map read ss) ≡ length ss
+all_length read [] h = refl
+all_length {A} read (s ∷ ss) h =
+    let p = and_parts (is_read read s) (are_read read ss) h in
+    counted (read s) (filter_map read ss) (length ss) p.0 (all_length read ss p.1)
+  where
+    counted : {A : Type 0} (o : Option A) (xs : List A) (n : ℕ) → is_some o ≡ true → length xs ≡ n → length (cons_option o xs) ≡ suc n
+    counted (Some x) xs n h e = ap suc e
+    counted None xs n h e = absurd cc
+
+-- as much is read as there are elements
+pub each_fields : {A : Type 0} (read : Spot → Option A) (p : Piece) (xs : List A) → each_in read p ≡ Some xs → (ss : List Spot) × (fields_in p ≡ Some ss) × (length ss ≡ length xs)
+each_fields read p xs h =
+    let a = then_some (fields_in p) (each_at read) xs h in
+    let b = chosen (are_read read a.0) (Some (filter_map read a.0)) xs a.2 in
+    (a.0, a.1, sym (all_length read a.0 b.0) ∙ ap length (some_is (filter_map read a.0) xs b.1))
