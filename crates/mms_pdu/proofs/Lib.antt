@@ -12,3 +12,4 @@ pub mod AnswerLaws
 pub mod ReplyPartLaws
 pub mod ReplyLaws
 pub mod ReplyAgainLaws
+pub mod ReplyPlaceLaws

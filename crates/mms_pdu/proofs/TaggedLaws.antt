@@ -97,7 +97,7 @@ pub numbered_again : (tag : ℕ) (p : Piece) (n : ℕ) (rest : List ℕ) → IsN
 unfolding numbered_in
 numbered_again tag p n rest (e, b, is) = (behind p e rest, rw (first_in_again p e rest b, number_again tag e n is) refl, refl)
 
-begins_of : (p : Piece) (x : Element × List ℕ) → first_at p.octets ≡ Ok x → Begins p.octets x.0 x.1
+pub begins_of : (p : Piece) (x : Element × List ℕ) → first_at p.octets ≡ Ok x → Begins p.octets x.0 x.1
 begins_of p x h = subst (λ (r : Result (Element × List ℕ) BerFault). FirstTells p.octets r) h (first_tells p.octets)
 
 pub numbered_found : (tag : ℕ) (p : Piece) (n : ℕ) (q : Piece) → IsBytes p.octets → numbered_in tag p ≡ Some (n, q) → IsNumbered tag p.octets n q.octets

@@ -19,7 +19,7 @@ mod name_list;
 mod number;
 mod object_name;
 mod reject;
-mod reply;
+mod reply_view;
 mod report;
 mod request;
 mod service;
@@ -46,7 +46,7 @@ pub use initiate_writing::{write_initiate_answer, write_initiate_request};
 pub use answer::write_answer;
 pub use error::write_error;
 pub use reject::write_reject;
-pub use reply::ReplyView;
+pub use reply_view::{ReplyView, reply};
 pub use report::write_report;
 
 // What is promised of all of it.
