@@ -1,20 +1,20 @@
 -- Read-Request and Write-Request: what is read is what is spelled, and what is spelled is read.
-use Rattle.std.proofs.Common.{◌≡◌, ℕ, ◌+◌, Bool, true, false, cond, eqb, List, [], ◌∷◌, length, map, Option, Some, None, Result, Ok, Err, refl, sym, ap, subst, ◌∙◌, arith}
+use Rattle.std.proofs.Common.{◌≡◌, ℕ, Bool, true, false, cond, eqb, List, [], ◌∷◌, length, map, Some, None, refl, sym, ap, subst, ◌∙◌, arith}
 use Rattle.std.proofs.lemmas.Bool.{eqb-true, eq-eqb, ne_eqb}
 use Rattle.std.proofs.lemmas.List.{length-map}
 use Rattle.ber_grammar.specs.Content.{IsBoolean}
-use Rattle.ber_grammar.specs.Element.{Element, IsRow}
+use Rattle.ber_grammar.specs.Element.{Element}
 use Rattle.ber_grammar.specs.Octets.{IsBytes}
 use Rattle.ber_grammar.specs.Place.{Spot, Piece, content_piece, elements}
-use Rattle.ber_grammar.specs.Reader.{and_then, kept}
+use Rattle.ber_grammar.specs.Reader.{and_then}
 use Rattle.ber_grammar.specs.Reading.{boolean_at}
 use Rattle.ber_grammar.proofs.BooleanLaws.{boolean_again, boolean_found}
 use Rattle.ber_grammar.proofs.OctetLaws.{AllBytes}
 use Rattle.ber_grammar.proofs.OptionLaws.{some_is, kept_some, then_some, chosen}
 use Rattle.sv_base.specs.Tree.{Seen}
-use Rattle.mms_pdu.specs.Fields.{fields_in, only_in, each_in}
-use Rattle.mms_pdu.specs.ObjectName.{Name, name_octets, IsOnlyName}
-use Rattle.mms_pdu.specs.Variable.{Variable, variable_octets, AreVariables, variable_at, named_at}
+use Rattle.mms_pdu.specs.Fields.{only_in, each_in}
+use Rattle.mms_pdu.specs.ObjectName.{Name, name_octets}
+use Rattle.mms_pdu.specs.Variable.{Variable, variable_octets, variable_at, named_at}
 use Rattle.mms_pdu.specs.Datum.{AreData, datum_at, value_at}
 use Rattle.mms_pdu.specs.Service.{Service, service_octets}
 use Rattle.mms_pdu.specs.Service as services

@@ -4,6 +4,9 @@ pub mod VariableLaws
 pub mod DatumLaws
 pub mod NameListLaws
 pub mod AccessLaws
+pub mod VariableListLaws
+pub mod ServiceLaws
+pub mod RequestLaws
 pub mod TaggedLaws
 pub mod WrittenLaws
 pub mod InitiateLaws

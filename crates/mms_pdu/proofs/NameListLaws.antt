@@ -120,7 +120,7 @@ name_list_found (a ∷ b ∷ more) service fits h =
     let y = then_some (scope_at b) (λ scope. and_then (after_at more) (λ after. Some (services.names x.0 scope after))) service x.2 in
     let z = then_some (after_at more) (λ after. Some (services.names x.0 y.0 after)) service y.2 in
     let scope = scope_found b y.0 y.1 in
-    subst (λ (w : Service Piece Spot). NamesAre (elements (a ∷ b ∷ more)) (service_octets w)) (some_is (services.names x.0 y.0 z.0) service z.2)
+    subst (λ (w : Service Piece Spot). NamesAre (elements (a ∷ b ∷ more)) (service_octets w)) {x = services.names x.0 y.0 z.0} (some_is (services.names x.0 y.0 z.0) service z.2)
     (class_found a x.0 fits.0 x.1, scope.0, scope.1, scope.2, scope.3, after_found more z.0 z.1)
 
 pub name_list_again : (ss : List Spot) (class : ℕ) (scope : Scope (List ℕ)) (after : Option (List ℕ)) → IsNameList (elements ss) class scope after

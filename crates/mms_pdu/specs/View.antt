@@ -10,8 +10,8 @@ use Rattle.mms_pdu.specs.declared.service.ServiceView.{ServiceView}
 use Rattle.mms_pdu.specs.declared.service.ServiceView.TheVariants as views
 use Rattle.mms_pdu.specs.declared.access.AccessView.{AccessView}
 use Rattle.mms_pdu.specs.declared.access.AccessView.TheVariants as accesses
-use Rattle.mms_pdu.specs.declared.request.RequestView.{RequestView}
-use Rattle.mms_pdu.specs.declared.request.RequestView.TheVariants as requests
+use Rattle.mms_pdu.specs.declared.reading.RequestView.{RequestView}
+use Rattle.mms_pdu.specs.declared.reading.RequestView.TheVariants as requests
 use Rattle.mms_pdu.specs.ObjectName.{Name, vmd, domain, association}
 use Rattle.mms_pdu.specs.Variable.{Variable}
 use Rattle.mms_pdu.specs.Service.{Scope, of_vmd, of_domain, of_association, Service}
@@ -50,7 +50,7 @@ service (views.Define n vs) = services.define (name n) vs
 service (views.SetOf n) = services.set_of (name n)
 service (views.Delete s ns) = services.delete s ns
 
-abbrev pub request : RequestView → Request Piece Spot
-request (requests.Confirmed invoke s) = confirmed invoke (service s)
-request requests.Conclude = conclude
-request requests.Disregard = disregarded
+abbrev pub asked : RequestView → Request Piece Spot
+asked (requests.Confirmed invoke s) = confirmed invoke (service s)
+asked requests.Conclude = conclude
+asked requests.Disregard = disregarded

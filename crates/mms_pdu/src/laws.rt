@@ -1,13 +1,13 @@
-ghost use Rattle.std.specs.Prelude.{◌≡◌, ℕ, ◌≤◌, List, Ok};
-ghost use Rattle.mms_pdu.specs.declared.initiate.Initiate.{Initiate};
-ghost use Rattle.mms_pdu.specs.Initiate.{IsInitiate, initiate_at};
-ghost use Rattle.mms_pdu.specs.InitiateOctets.{accepted, proposed, initiate_answer, initiate_request};
+ghost use Rattle.std.specs.Prelude.{◌≡◌, ◌⊎◌, List, ℕ};
+ghost use Rattle.ber_grammar.specs.Octets.{IsBytes};
+ghost use Rattle.sv_base.specs.Tree.{Seen};
+ghost use Rattle.mms_pdu.specs.declared.fault.PduFault.{PduFault};
+ghost use Rattle.mms_pdu.specs.Request.{Request, IsRequest, IsRequestRefused};
 
-/// The initiate and its answer are read back by the other side, and an input spells one initiate.
-pub fn initiates_are_read_back()
-    ensures answer { (asked : Initiate) → 1024 ≤ asked.size → IsInitiate 169 (initiate_answer asked) (accepted asked) }
-    ensures answer_again { (asked : Initiate) → 1024 ≤ asked.size → initiate_at 169 (initiate_answer asked) ≡ Ok (accepted asked) }
-    ensures request { (size : ℕ) → 1024 ≤ size → size ≤ 65000 → IsInitiate 168 (initiate_request size) (proposed size) }
-    ensures request_again { (size : ℕ) → 1024 ≤ size → size ≤ 65000 → initiate_at 168 (initiate_request size) ≡ Ok (proposed size) }
-    ensures one { (tag : ℕ) (input : List ℕ) (i j : Initiate) → IsInitiate tag input i → IsInitiate tag input j → i ≡ j }
+/// Each input asks one thing, or is refused for one cause, and never both.
+pub fn each_input_asks_one_thing()
+    ensures answered { (input : List ℕ) → IsBytes input → ((x : Request (List ℕ) Seen) × IsRequest input x) ⊎ ((f : PduFault) × IsRequestRefused input f) }
+    ensures unique { (input : List ℕ) (x y : Request (List ℕ) Seen) → IsBytes input → IsRequest input x → IsRequest input y → x ≡ y }
+    ensures one_cause { (input : List ℕ) (f g : PduFault) → IsBytes input → IsRequestRefused input f → IsRequestRefused input g → f ≡ g }
+    ensures not_both { (input : List ℕ) (x : Request (List ℕ) Seen) (f : PduFault) → IsBytes input → IsRequest input x → IsRequestRefused input f → ⊥ }
 {}

@@ -1,7 +1,8 @@
 //! MMS PDUs (ISO 9506-2, MMSpdu; encoded by ITU-T X.690), read without copying and written.
 //!
-//! The server reads an initiate by [`read_initiate`] and accepts it by [`write_initiate_answer`]; the client asks by
-//! [`write_initiate_request`] and reads the answer by [`read_initiate_answer`].
+//! The server reads an initiate by [`read_initiate`] and accepts it by [`write_initiate_answer`]; then it reads what is
+//! asked by [`request`], and sends answers, errors, rejects and reports. The client asks by the other writers, and reads
+//! what comes by [`read_initiate_answer`] and [`reply`]. The laws are functions that run nothing.
 #![tactic(auto)]
 
 mod access;
@@ -18,10 +19,11 @@ mod laws;
 mod name_list;
 mod number;
 mod object_name;
+mod read_back;
+mod reading;
 mod reject;
 mod reply_view;
 mod report;
-mod request;
 mod service;
 mod tagged;
 mod variable;
@@ -34,15 +36,15 @@ pub use data_list::DataList;
 pub use object_name::{NameList, NameView};
 pub use variable::{VariableList, VariableView};
 
-// What a client asks.
-pub use request::RequestView;
-pub use service::{ScopeView, ServiceView};
-
 // How an association begins.
 pub use initiate::{Initiate, read_initiate, read_initiate_answer};
 pub use initiate_writing::{write_initiate_answer, write_initiate_request};
 
-// What a server sends, and how a client reads it.
+// What a client asks.
+pub use reading::{RequestView, request};
+pub use service::{ScopeView, ServiceView};
+
+// What a server sends.
 pub use answer::write_answer;
 pub use error::write_error;
 pub use reject::write_reject;
@@ -50,7 +52,8 @@ pub use reply_view::{ReplyView, reply};
 pub use report::write_report;
 
 // What is promised of all of it.
-pub use laws::initiates_are_read_back;
+pub use laws::each_input_asks_one_thing;
+pub use read_back::initiates_are_read_back;
 
 #[cfg(test)]
 mod tests;

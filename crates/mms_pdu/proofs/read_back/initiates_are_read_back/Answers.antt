@@ -1,6 +1,6 @@
 use Rattle.mms_pdu.proofs.InitiateOctetsLaws as laws
 use Rattle.mms_pdu.proofs.InitiateLaws.{one_initiate}
-use Rattle.mms_pdu.proofs.laws.initiates_are_read_back.Goals as goal
+use Rattle.mms_pdu.proofs.read_back.initiates_are_read_back.Goals as goal
 
 pub returns : goal.returns
 returns c = record {

@@ -1,11 +1,11 @@
 ghost use Rattle.std.specs.Prelude.{◌≡◌};
 ghost use Rattle.std.specs.Option.{option_map};
 ghost use Rattle.ber_grammar.specs.Place.{piece};
-ghost use Rattle.ber_grammar.specs.Reader.{Gives};
+ghost use Rattle.ber_grammar.specs.Reader.{Gives, Reads};
 ghost use Rattle.ber_view.specs.View.{spot};
-ghost use Rattle.mms_pdu.specs.Request.{is_disregarded, is_pdu, may_begin, invoke_in, service_in, pdu_at, request_in};
+ghost use Rattle.mms_pdu.specs.Request.{IsRequest, IsRequestRefused, request_octets, is_disregarded, is_pdu, may_begin, invoke_in, service_in, pdu_at, request_in, request_at};
 ghost use Rattle.mms_pdu.specs.Services.{is_service};
-ghost use Rattle.mms_pdu.specs.View.{request};
+ghost use Rattle.mms_pdu.specs.View.{asked};
 
 use crate::confirmed::service_of;
 use crate::fault::PduFault;
@@ -74,7 +74,7 @@ fn invoke_of(content: &[u8]) -> Option<(u32, &[u8])>
 /// What the octets behind an invoke number ask.
 #[tactic(auto, unfolding(crate::specs::Request::service_in))]
 fn confirmed_of(invoke: u32, bytes: &[u8]) -> Result<RequestView<'_>, PduFault>
-    ensures { Gives request result (service_in invoke (piece bytes.entry)) }
+    ensures { Gives asked result (service_in invoke (piece bytes.entry)) }
 {
     if !may_begin_service(bytes) {
         return Err(PduFault::UnknownService(invoke));
@@ -91,7 +91,7 @@ fn confirmed_of(invoke: u32, bytes: &[u8]) -> Result<RequestView<'_>, PduFault>
 /// What an element asks that is a PDU.
 #[tactic(auto, unfolding(crate::specs::Request::pdu_at))]
 fn pdu_of<'a>(pdu: &Tlv<'a>) -> Result<RequestView<'a>, PduFault>
-    ensures { Gives request result (pdu_at (spot pdu.now)) }
+    ensures { Gives asked result (pdu_at (spot pdu.now)) }
 {
     if pdu.tag == 0xa0 {
         return match invoke_of(pdu.content) {
@@ -110,7 +110,7 @@ fn pdu_of<'a>(pdu: &Tlv<'a>) -> Result<RequestView<'a>, PduFault>
 
 #[tactic(auto, unfolding(crate::specs::Request::request_in))]
 fn read_request(bytes: &[u8]) -> Result<RequestView<'_>, PduFault>
-    ensures { Gives request result (request_in (piece bytes.entry)) }
+    ensures { Gives asked result (request_in (piece bytes.entry)) }
 {
     if !may_begin_pdu(bytes) {
         return Err(PduFault::UnknownPdu);
@@ -119,4 +119,27 @@ fn read_request(bytes: &[u8]) -> Result<RequestView<'_>, PduFault>
         Some(pdu) => pdu_of(&pdu),
         None => Err(PduFault::Invalid),
     }
+}
+
+/// What `bytes` ask, which a client sent on a connection (ISO 9506-2, MMSpdu): a confirmed service with its invoke
+/// number, to conclude, or nothing.
+///
+/// The names and Data are slices of `bytes`. Lengths may be longer than needed, a boolean is true at any octet but 0,
+/// and a number has one to nine octets. An invoke number is 0 to 4294967295; an object class and a scope of deletion
+/// are 0 to 255. Lists may be empty. It takes no memory.
+///
+/// Fails with `UnknownPdu` where the first octet begins no PDU that is known; then with `Invalid` where `bytes` are not
+/// one whole element, where no invoke number begins a confirmed request, where a conclude request has a content, and at
+/// an initiate request; then with `UnknownService` where the first octet behind the invoke number begins no service
+/// that is known; and then with `Argument` where what stands there is not one whole element of the service's form, has
+/// Data that [`read_data`](mms_data::read_data) refuses for another cause than want of memory, or has values of
+/// another number than variables.
+pub fn request(bytes: &[u8]) -> Result<RequestView<'_>, PduFault>
+    // What the input spells, else the refusal that it earns.
+    ensures reads { Reads (λ x. request_octets (asked x)) result (IsRequest bytes.now) (IsRequestRefused bytes.now) }
+    ensures exact { Gives (λ x. request_octets (asked x)) result (request_at bytes.now) }
+    // Names and Data lie in the input, each where the grammar has it.
+    ensures places { Gives asked result (request_in (piece bytes.entry)) }
+{
+    read_request(bytes)
 }
