@@ -7,6 +7,7 @@
 
 mod access;
 mod answer;
+mod asking;
 mod confirmed;
 mod data_list;
 mod element;
@@ -41,6 +42,7 @@ pub use initiate::{Initiate, read_initiate, read_initiate_answer};
 pub use initiate_writing::{write_initiate_answer, write_initiate_request};
 
 // What a client asks.
+pub use asking::{write_conclude_request, write_read_request, write_write_request};
 pub use reading::{RequestView, request};
 pub use service::{ScopeView, ServiceView};
 

@@ -3,7 +3,6 @@ ghost use Rattle.std.specs.Option.{option_map};
 ghost use Rattle.ber_grammar.specs.Place.{piece};
 ghost use Rattle.ber_grammar.specs.Reader.{Gives, Reads};
 ghost use Rattle.ber_view.specs.View.{spot};
-ghost use Rattle.mms_pdu.specs.Request.{is_pdu, may_begin};
 ghost use Rattle.mms_pdu.specs.Reply.{reply_octets, IsReply, IsReplyRefused};
 ghost use Rattle.mms_pdu.specs.ReplyReading.{service_in, answer_in, class_at, class_in, error_class_in, service_error_in, error_in, reason_at, reject_in, pdu_in, reply_in};
 ghost use Rattle.mms_pdu.specs.ReplyView.{reply_of, IsPlaced};
@@ -11,6 +10,7 @@ ghost use Rattle.mms_pdu.specs.ReplyView.{reply_of, IsPlaced};
 use crate::answer::has_form;
 use crate::fault::PduFault;
 use crate::fields::only_of;
+use crate::reading::may_begin_pdu;
 use crate::tagged::{numbered_of, octet_of, whole_of};
 use ber_view::Tlv;
 
@@ -155,24 +155,11 @@ fn pdu_of<'a>(bytes: &'a [u8], element: &Tlv<'a>) -> Result<ReplyView<'a>, PduFa
     }
 }
 
-/// Whether the octets begin as a PDU does, or there is none.
-fn may_be_pdu(bytes: &[u8]) -> bool
-    ensures { result ≡ may_begin is_pdu bytes.now }
-{
-    match bytes {
-        [] => true,
-        [tag, ..] => matches!(
-            *tag,
-            0xa0 | 0xa1 | 0xa2 | 0xa3 | 0xa4 | 0xa8 | 0xa9 | 0x8b | 0x8c
-        ),
-    }
-}
-
 #[tactic(auto, unfolding(crate::specs::ReplyReading::reply_in))]
 fn read_reply(bytes: &[u8]) -> Result<ReplyView<'_>, PduFault>
     ensures { Gives reply_of result (reply_in (piece bytes.entry)) }
 {
-    if !may_be_pdu(bytes) {
+    if !may_begin_pdu(bytes) {
         return Err(PduFault::UnknownPdu);
     }
     let element = whole_of(bytes).ok_or(PduFault::Invalid)?;
