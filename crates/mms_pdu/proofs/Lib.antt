@@ -16,3 +16,5 @@ pub mod ReplyPartLaws
 pub mod ReplyLaws
 pub mod ReplyAgainLaws
 pub mod ReplyPlaceLaws
+pub mod ReplyOctetsLaws
+pub mod AskingLaws

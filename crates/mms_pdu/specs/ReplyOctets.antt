@@ -1,6 +1,6 @@
 -- The octets of what a server sends, in the minimal spelling of each element (ISO 9506-2, MMSpdu).
 use Rattle.std.specs.Prelude.{◌≡◌, ℕ, ◌+◌, ◌-◌, ◌<◌, ◌≤◌, ◌^◌, ◌==◌, ◌||◌, nat_lt, Bool, List, [], ◌∷◌, ◌++◌, length, Option, Some, None, is_some, if◌then◌else◌}
-use Rattle.ber_grammar.specs.Element.{Element, Spells}
+use Rattle.ber_grammar.specs.Element.{Element, Spells, IsRow}
 use Rattle.ber_write.specs.Minimal.{octets_of, uint_octets}
 
 -- Confirmed-ResponsePDU, 161: the invoke number and the element of the service
@@ -55,3 +55,7 @@ IsSpecificationElement names = (e : Element) × Spells names e × (160 ≤ e.tag
 -- Conclude-ResponsePDU, 140, a NULL
 abbrev pub concluded_octets : List ℕ
 concluded_octets = 140 ∷ 0 ∷ []
+
+-- the octets are an informationReport of these variables and these results
+abbrev pub IsReport : List ℕ → List ℕ → List ℕ → Type 0
+IsReport input names results = (e k v r : Element) × Spells input e × (e.tag ≡ 163) × IsRow e.content (k ∷ []) × (k.tag ≡ 160) × IsRow k.content (v ∷ r ∷ []) × Spells names v × (r.tag ≡ 160) × (r.content ≡ results)
