@@ -11,6 +11,7 @@ use Rattle.sv_base.specs.Depth.{depth, HasNoOther}
 use Rattle.sv_base.specs.declared.value.Value.{Value}
 use Rattle.mms_data.specs.Grammar.{IsWithin}
 use Rattle.mms_data.specs.Writable.{Fits, SeenHasFractions, SeenIsOfTypes}
+use Rattle.mms_data.proofs.FitLaws.{seen_fits}
 use Rattle.mms_data.proofs.ReadBackLaws.{read_back}
 use Rattle.mms_pdu.specs.ObjectName.{Name, domain, IsName}
 use Rattle.mms_pdu.specs.Variable.{Variable, IsVariable, AreVariables}
@@ -94,10 +95,10 @@ read_spelled invoke d i small vd vi fits =
     confirmed_spelled invoke 164 body (services.read (named_variable d i ∷ []) false) small (omega arith) (λ e. omega (arith, e)) fits
     (refl, written 161 (one_variable d i) ∷ [], row, (refl, (refl, written 160 (octets_of 48 (octets_of 160 (domain_name d i))), inner, variable_spelled d i vd vi access)))
 
-pub write_spelled : (invoke : ℕ) (d i : List ℕ) (v : Value) → invoke < 2 ^ 32 → AreVisible d → AreVisible i → HasNoOther v → depth v ≤ 10 → Fits v → SeenIsOfTypes (seen_of v) → length (write_request invoke d i v) < 2 ^ 32
+pub write_spelled : (invoke : ℕ) (d i : List ℕ) (v : Value) → invoke < 2 ^ 32 → AreVisible d → AreVisible i → HasNoOther v → depth v ≤ 10 → SeenHasFractions (seen_of v) → SeenIsOfTypes (seen_of v) → length (write_request invoke d i v) < 2 ^ 32
     → IsRequest (write_request invoke d i v) (confirmed invoke (services.write_vars (named_variable d i ∷ []) (seen_of v ∷ [])))
 unfolding write_request
-write_spelled invoke d i v small vd vi known deep fit of_types fits =
+write_spelled invoke d i v small vd vi known deep fractions of_types fits =
     let body : List ℕ = one_variable d i ++ octets_of 160 (data_of v) in
     let whole : length body < 2 ^ 32 = body_small invoke 165 body fits in
     let sum = length-append (one_variable d i) (octets_of 160 (data_of v)) in
@@ -106,7 +107,7 @@ write_spelled invoke d i v small vd vi known deep fit of_types fits =
     let k : List ℕ = octets_of 48 (octets_of 160 (domain_name d i)) in
     let row : IsRow body (written 160 k ∷ written 160 (data_of v) ∷ []) =
     written_more 160 k (octets_of 160 (data_of v)) (written 160 (data_of v) ∷ []) (one_octet 160 (omega arith) (λ e. omega (arith, e))) (inside 160 k access) (last 160 (data_of v) (omega arith) (λ e. omega (arith, e)) data_field) in
-    let value = read_back (seen_of v) known deep fit of_types in
+    let value = read_back (seen_of v) known deep (seen_fits (seen_of v) (inside 160 (data_of v) data_field) fractions) of_types in
     let data_row : IsRow (data_of v) (value.0 ∷ []) = (data_of v, [], value.1, sym (append-nil (data_of v)), refl) in
     confirmed_spelled invoke 165 body (services.write_vars (named_variable d i ∷ []) (seen_of v ∷ [])) small (omega arith) (λ e. omega (arith, e)) fits
     (refl, written 160 k ∷ written 160 (data_of v) ∷ [], row, (variable_spelled d i vd vi access, refl, (value.0 ∷ [], data_row, (value.2, tt))), refl)

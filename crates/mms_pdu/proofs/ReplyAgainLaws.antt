@@ -7,7 +7,7 @@ use Rattle.ber_grammar.specs.Element.{Element, Spells}
 use Rattle.ber_grammar.specs.Place.{Spot, Piece, content_piece}
 use Rattle.ber_grammar.specs.Reader.{◌>>=◌, Gives, Reads}
 use Rattle.ber_grammar.proofs.OctetLaws.{Spells-bytes}
-use Rattle.ber_grammar.proofs.ReaderLaws.{exact_from, reads_from}
+use Rattle.ber_grammar.proofs.ReaderLaws.{exact_from, reads_from, ok_is, err_is}
 use Rattle.ber_grammar.proofs.Theorems.{one_element}
 use Rattle.mms_pdu.specs.declared.fault.PduFault.{PduFault}
 use Rattle.mms_pdu.specs.declared.fault.PduFault.TheVariants.{UnknownPdu, UnknownService, Argument, Invalid, SmallSize}
@@ -259,3 +259,25 @@ reply_reads view r p fits g =
     (λ y h. reply_again p y fits h)
     (λ f h. refused_again p f fits h))
     (plain_gives view r (reply_in p) g)
+
+-- ---- one thing or one cause
+
+-- the octets, somewhere
+abbrev somewhere : List ℕ → Piece
+somewhere octets = record { octets = octets; block = 0; place = 0 }
+
+pub one_reply : (input : List ℕ) (x y : Reply (List ℕ)) → IsBytes input → IsReply input x → IsReply input y → x ≡ y
+one_reply input x y fits p q = ok_is {F = PduFault} x y (sym (reply_again (somewhere input) x fits p) ∙ reply_again (somewhere input) y fits q)
+
+pub one_fault : (input : List ℕ) (f g : PduFault) → IsBytes input → IsReplyRefused input f → IsReplyRefused input g → f ≡ g
+one_fault input f g fits p q = err_is {Y = Reply (List ℕ)} f g (sym (refused_again (somewhere input) f fits p) ∙ refused_again (somewhere input) g fits q)
+
+pub not_both : (input : List ℕ) (x : Reply (List ℕ)) (f : PduFault) → IsBytes input → IsReply input x → IsReplyRefused input f → ⊥
+not_both input x f fits p q = let one = reply_again (somewhere input) x fits p in let two = refused_again (somewhere input) f fits q in cc
+
+pub read_or_refused : (input : List ℕ) → IsBytes input → ((x : Reply (List ℕ)) × IsReply input x) ⊎ ((f : PduFault) × IsReplyRefused input f)
+read_or_refused input fits = either (reply_in (somewhere input)) (reply_tells (somewhere input) fits)
+  where
+    either : (r : Result (Reply Piece) PduFault) → Tells input r → ((x : Reply (List ℕ)) × IsReply input x) ⊎ ((f : PduFault) × IsReplyRefused input f)
+    either (Ok r) h = inl (reply_octets r, h)
+    either (Err f) h = inr (f, h)

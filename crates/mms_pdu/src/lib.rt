@@ -55,7 +55,9 @@ pub use report::write_report;
 
 // What is promised of all of it.
 pub use laws::each_input_asks_one_thing;
-pub use read_back::initiates_are_read_back;
+pub use read_back::{
+    each_input_is_one_reply, initiates_are_read_back, replies_are_read_back, requests_are_read_back,
+};
 
 #[cfg(test)]
 mod tests;
