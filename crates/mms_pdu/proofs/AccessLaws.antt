@@ -23,13 +23,13 @@ use Rattle.mms_pdu.proofs.FieldLaws.{either_way, only_found, only_again, only_by
 use Rattle.mms_pdu.proofs.VariableLaws.{named_found, named_again, variables_found, variables_again}
 use Rattle.mms_pdu.proofs.DatumLaws.{data_found, list_again}
 
-abbrev access_octets : Access Piece → Access (List ℕ)
+abbrev pub access_octets : Access Piece → Access (List ℕ)
 access_octets (variables vs) = variables (map variable_octets vs)
 access_octets (named n) = named (name_octets n)
 
 -- ---- variables, or a list of them
 
-access_found : (s : Spot) (a : Access Piece) → IsBytes s.element.content → access_at s ≡ Some a → IsAccess s.element (access_octets a)
+pub access_found : (s : Spot) (a : Access Piece) → IsBytes s.element.content → access_at s ≡ Some a → IsAccess s.element (access_octets a)
 unfolding access_at
 access_found s a fits h =
     let listed = and_then (each_in variable_at (content_piece s)) (λ vs. Some (variables vs)) in
@@ -53,7 +53,7 @@ named_access s n h =
     let x = named_again 161 s n h.0 h.1 in
     (x.0, rw (ne_eqb s.element.tag 160 (λ e. omega (arith, e, h.0)), x.1) refl, x.2)
 
-access_again : (s : Spot) (a : Access (List ℕ)) → IsBytes s.element.content → IsAccess s.element a → (x : Access Piece) × (access_at s ≡ Some x) × (access_octets x ≡ a)
+pub access_again : (s : Spot) (a : Access (List ℕ)) → IsBytes s.element.content → IsAccess s.element a → (x : Access Piece) × (access_at s ≡ Some x) × (access_octets x ≡ a)
 access_again s (variables vs) fits h = let x = variables_access s vs fits h in (variables x.0, x.1, ap (λ (y : List (Variable (List ℕ))). variables y) x.3)
 access_again s (named n) fits h = let x = named_access s n h in (named x.0, x.1, ap (λ (y : Name (List ℕ)). named y) x.2)
 

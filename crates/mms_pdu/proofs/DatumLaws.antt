@@ -16,7 +16,7 @@ use Rattle.mms_pdu.specs.Fields.{each_in}
 use Rattle.mms_pdu.specs.Datum.{AreData, datum_at, value_at}
 use Rattle.mms_pdu.proofs.FieldLaws.{each_found, each_again}
 
-datum_found : (s d : Spot) → IsBytes s.element.content → datum_at s ≡ Some d → IsWithin 10 s.element (value_at d)
+pub datum_found : (s d : Spot) → IsBytes s.element.content → datum_at s ≡ Some d → IsWithin 10 s.element (value_at d)
 unfolding view_at value_at
 datum_found s d fits h =
     let a = bind_ok (data_at 10 s.element) (λ value. Ok s) d (kept_some (view_at s) d h) in
@@ -25,7 +25,7 @@ datum_found s d fits h =
     let value : a.0 ≡ result_unwrap_or (data_at 10 d.element) (plain other) = ap (λ (r : Result Seen DataFault). result_unwrap_or r (plain other)) (sym a.1) ∙ ap (λ (x : Spot). result_unwrap_or (data_at 10 x.element) (plain other)) same in
     subst (λ (x : Seen). IsWithin 10 s.element x) value is
 
-datum_again : (s : Spot) (v : Seen) → IsBytes s.element.content → IsWithin 10 s.element v → (d : Spot) × (datum_at s ≡ Some d) × (value_at d ≡ v)
+pub datum_again : (s : Spot) (v : Seen) → IsBytes s.element.content → IsWithin 10 s.element v → (d : Spot) × (datum_at s ≡ Some d) × (value_at d ≡ v)
 unfolding view_at value_at
 datum_again s v fits h =
     let read = data_again 10 s.element v fits h in

@@ -7,3 +7,14 @@ pub mod AccessLaws
 pub mod VariableListLaws
 pub mod ServiceLaws
 pub mod RequestLaws
+pub mod TaggedLaws
+pub mod WrittenLaws
+pub mod InitiateLaws
+pub mod InitiateOctetsLaws
+pub mod AnswerLaws
+pub mod ReplyPartLaws
+pub mod ReplyLaws
+pub mod ReplyAgainLaws
+pub mod ReplyPlaceLaws
+pub mod ReplyOctetsLaws
+pub mod AskingLaws

@@ -2,8 +2,12 @@
 pub mod Fields
 pub mod ObjectName
 pub mod Invoke
+pub mod Tagged
 pub mod Variable
 pub mod Datum
+-- how an association begins
+pub mod Initiate
+pub mod InitiateOctets
 -- what is asked
 pub mod Service
 pub mod NameList
@@ -11,5 +15,12 @@ pub mod Access
 pub mod VariableLists
 pub mod Services
 pub mod Request
+pub mod AskingOctets
+-- what a server sends
+pub mod Answer
+pub mod Reply
+pub mod ReplyReading
+pub mod ReplyOctets
 -- what the program gives, as what is in a PDU
 pub mod View
+pub mod ReplyView

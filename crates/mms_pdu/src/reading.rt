@@ -35,7 +35,7 @@ fn is_disregarded_tag(tag: u32) -> bool
 }
 
 /// Whether no PDU that is known begins otherwise.
-fn may_begin_pdu(bytes: &[u8]) -> bool
+pub(crate) fn may_begin_pdu(bytes: &[u8]) -> bool
     ensures { result ≡ may_begin is_pdu bytes.now }
 {
     match bytes {
