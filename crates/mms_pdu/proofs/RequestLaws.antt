@@ -20,7 +20,8 @@ use Rattle.mms_pdu.specs.Invoke.{IsInvoked, below_at}
 use Rattle.mms_pdu.specs.Service.{Service, service_octets}
 use Rattle.mms_pdu.specs.Service as services
 use Rattle.mms_pdu.specs.Services.{IsService, is_service, service_at}
-use Rattle.mms_pdu.specs.Request.{Request, confirmed, conclude, disregarded, request_octets, is_disregarded, is_pdu, IsRequest, MayBegin, IsOutOfPlace, IsRequestRefused, may_begin, behind, invoke_in, or_fault, service_in, invoked, pdu_at, whole, request_in, without_places, request_at}
+use Rattle.mms_pdu.specs.Request.{Request, confirmed, conclude, disregarded, request_octets, is_disregarded, is_pdu, IsRequest, MayBegin, IsOutOfPlace, IsRequestRefused, may_begin, or_fault}
+use Rattle.mms_pdu.specs.RequestReading.{behind, invoke_in, service_in, invoked, pdu_at, whole, request_in, without_places, request_at}
 use Rattle.mms_pdu.proofs.FieldLaws.{only_found, only_again, only_bytes, spot_in}
 use Rattle.mms_pdu.proofs.NameListLaws.{below_found, below_again}
 use Rattle.mms_pdu.proofs.ServiceLaws.{service_found, service_again}

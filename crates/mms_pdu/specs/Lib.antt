@@ -15,6 +15,7 @@ pub mod Access
 pub mod VariableLists
 pub mod Services
 pub mod Request
+pub mod RequestReading
 pub mod AskingOctets
 -- what a server sends
 pub mod Answer

@@ -1,16 +1,13 @@
 -- ISO 9506-2, MMSpdu: what a client may send once it is connected.
-use Rattle.std.specs.Prelude.{◌≡◌, ◌≢◌, ℕ, ◌+◌, ◌-◌, ◌^◌, Bool, true, false, ◌||◌, List, [], ◌∷◌, length, Option, Some, None, Result, Ok, Err, ◌⊎◌, ◌==◌, if◌then◌else◌}
+use Rattle.std.specs.Prelude.{◌≡◌, ◌≢◌, ℕ, Bool, true, false, ◌||◌, List, [], ◌∷◌, Option, Some, None, Result, Ok, Err, ◌⊎◌, ◌==◌}
 use Rattle.ber_grammar.specs.Element.{Element, Spells}
-use Rattle.ber_grammar.specs.Place.{Spot, Piece, content_piece}
-use Rattle.ber_grammar.specs.Reader.{and_then, kept}
-use Rattle.ber_grammar.specs.Reading.{first_at}
+use Rattle.ber_grammar.specs.Place.{Spot, Piece}
 use Rattle.sv_base.specs.Tree.{Seen}
 use Rattle.mms_pdu.specs.declared.fault.PduFault.{PduFault}
 use Rattle.mms_pdu.specs.declared.fault.PduFault.TheVariants as faults
-use Rattle.mms_pdu.specs.Fields.{only_in}
-use Rattle.mms_pdu.specs.Invoke.{IsInvoked, below_at}
+use Rattle.mms_pdu.specs.Invoke.{IsInvoked}
 use Rattle.mms_pdu.specs.Service.{Service, service_octets}
-use Rattle.mms_pdu.specs.Services.{IsService, is_service, service_at}
+use Rattle.mms_pdu.specs.Services.{IsService, is_service}
 
 pub data Request (N D : Type 0) : Type 0 where
   -- a confirmed service, by its invoke number
@@ -45,6 +42,11 @@ abbrev pub MayBegin : (ℕ → Bool) → List ℕ → Type 0
 MayBegin test [] = Unit {0}
 MayBegin test (a ∷ rest) = test a ≡ true
 
+-- whether they do
+abbrev pub may_begin : (ℕ → Bool) → List ℕ → Bool
+may_begin test [] = true
+may_begin test (a ∷ rest) = test a
+
 -- the element is no PDU that may come here
 abbrev pub IsOutOfPlace : Element → Type 0
 IsOutOfPlace e = (e.tag ≡ 168) ⊎ ((e.tag ≡ 139) × (e.content ≢ []))
@@ -64,53 +66,7 @@ IsRequestRefused input (faults.Argument i) = (e : Element) × Spells input e × 
 -- no other refusal is of a request
 IsRequestRefused input (faults.SmallSize n) = ⊥
 
--- ---- reading
-
-abbrev pub may_begin : (ℕ → Bool) → List ℕ → Bool
-may_begin test [] = true
-may_begin test (a ∷ rest) = test a
-
--- the octets behind a piece's first element
-abbrev pub behind : Piece → List ℕ → Piece
-behind p rest = record { octets = rest; block = p.block; place = p.place + (length p.octets - length rest) }
-
--- the invoke number, and the octets of the service
-unfoldable pub invoke_in : Piece → Option (ℕ × Piece)
-invoke_in p = and_then (kept (first_at p.octets)) (λ first. if first.0.tag == 2 then and_then (below_at (2 ^ 32) first.0.content) (λ invoke. Some (invoke, behind p first.1)) else None)
-
+-- what is there, or the fault of what is not
 abbrev pub or_fault : {A : Type 0} → Option A → PduFault → Result A PduFault
 or_fault (Some x) fault = Ok x
 or_fault None fault = Err fault
-
-unfoldable pub service_in : ℕ → Piece → Result (Request Piece Spot) PduFault
-service_in invoke p =
-    if may_begin is_service p.octets
-    then or_fault (and_then (and_then (only_in p) service_at) (λ s. Some (confirmed invoke s))) (faults.Argument invoke)
-    else Err (faults.UnknownService invoke)
-
-abbrev pub invoked : Option (ℕ × Piece) → Result (Request Piece Spot) PduFault
-invoked (Some x) = service_in x.0 x.1
-invoked None = Err faults.Invalid
-
-unfoldable pub pdu_at : Spot → Result (Request Piece Spot) PduFault
-pdu_at s =
-    if s.element.tag == 160 then invoked (invoke_in (content_piece s))
-    else if s.element.tag == 139 then (if length s.element.content == 0 then Ok conclude else Err faults.Invalid)
-    else if is_disregarded s.element.tag then Ok disregarded
-    else Err faults.Invalid
-
-abbrev pub whole : Option Spot → Result (Request Piece Spot) PduFault
-whole (Some s) = pdu_at s
-whole None = Err faults.Invalid
-
--- what is asked, with where it lies
-unfoldable pub request_in : Piece → Result (Request Piece Spot) PduFault
-request_in p = if may_begin is_pdu p.octets then whole (only_in p) else Err faults.UnknownPdu
-
-abbrev pub without_places : Result (Request Piece Spot) PduFault → Result (Request (List ℕ) Seen) PduFault
-without_places (Ok r) = Ok (request_octets r)
-without_places (Err f) = Err f
-
--- what is asked
-unfoldable pub request_at : List ℕ → Result (Request (List ℕ) Seen) PduFault
-request_at input = without_places (request_in (record { octets = input; block = 0; place = 0 }))

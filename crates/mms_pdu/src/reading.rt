@@ -3,7 +3,8 @@ ghost use Rattle.std.specs.Option.{option_map};
 ghost use Rattle.ber_grammar.specs.Place.{piece};
 ghost use Rattle.ber_grammar.specs.Reader.{Gives, Reads};
 ghost use Rattle.ber_view.specs.View.{spot};
-ghost use Rattle.mms_pdu.specs.Request.{IsRequest, IsRequestRefused, request_octets, is_disregarded, is_pdu, may_begin, invoke_in, service_in, pdu_at, request_in, request_at};
+ghost use Rattle.mms_pdu.specs.Request.{IsRequest, IsRequestRefused, request_octets, is_disregarded, is_pdu, may_begin};
+ghost use Rattle.mms_pdu.specs.RequestReading.{invoke_in, service_in, pdu_at, request_in, request_at};
 ghost use Rattle.mms_pdu.specs.Services.{is_service};
 ghost use Rattle.mms_pdu.specs.View.{asked};
 
@@ -59,7 +60,7 @@ fn may_begin_service(bytes: &[u8]) -> bool
 }
 
 /// The invoke number, an INTEGER of 32 bits without sign, and the octets behind it.
-#[tactic(auto, unfolding(crate::specs::Request::invoke_in, crate::specs::Invoke::below_at))]
+#[tactic(auto, unfolding(crate::specs::RequestReading::invoke_in, crate::specs::Invoke::below_at))]
 fn invoke_of(content: &[u8]) -> Option<(u32, &[u8])>
     ensures { option_map (λ x. (x.0, piece x.1)) result ≡ invoke_in (piece content.entry) }
 {
@@ -72,7 +73,7 @@ fn invoke_of(content: &[u8]) -> Option<(u32, &[u8])>
 }
 
 /// What the octets behind an invoke number ask.
-#[tactic(auto, unfolding(crate::specs::Request::service_in))]
+#[tactic(auto, unfolding(crate::specs::RequestReading::service_in))]
 fn confirmed_of(invoke: u32, bytes: &[u8]) -> Result<RequestView<'_>, PduFault>
     ensures { Gives asked result (service_in invoke (piece bytes.entry)) }
 {
@@ -89,7 +90,7 @@ fn confirmed_of(invoke: u32, bytes: &[u8]) -> Result<RequestView<'_>, PduFault>
 }
 
 /// What an element asks that is a PDU.
-#[tactic(auto, unfolding(crate::specs::Request::pdu_at))]
+#[tactic(auto, unfolding(crate::specs::RequestReading::pdu_at))]
 fn pdu_of<'a>(pdu: &Tlv<'a>) -> Result<RequestView<'a>, PduFault>
     ensures { Gives asked result (pdu_at (spot pdu.now)) }
 {
@@ -108,7 +109,7 @@ fn pdu_of<'a>(pdu: &Tlv<'a>) -> Result<RequestView<'a>, PduFault>
     Err(PduFault::Invalid)
 }
 
-#[tactic(auto, unfolding(crate::specs::Request::request_in))]
+#[tactic(auto, unfolding(crate::specs::RequestReading::request_in))]
 fn read_request(bytes: &[u8]) -> Result<RequestView<'_>, PduFault>
     ensures { Gives asked result (request_in (piece bytes.entry)) }
 {
