@@ -332,3 +332,7 @@ read_exact input fits = exact_from (read_at input) (IsSpelled input) (IsDataRefu
 
 pub data_exact : (n : ℕ) (e : Element) → IsBytes e.content → Reads (λ (s : Seen). s) (data_at n e) (IsWithin n e) (IsRefusedData n e)
 data_exact n e fits = exact_from (data_at n e) (IsWithin n e) (IsRefusedData n e) (DataTells n e) (λ s h. h) (λ f h. h) (data_tells n e fits) (λ s h. data_again n e s fits h) (λ f h. refused_again n e f fits h)
+
+pub read_is_data : (input : List ℕ) (e : Element) → Spells input e → read_at input ≡ data_at 10 e
+unfolding read_at
+read_is_data input e s = rw (spelled_first input e s) refl

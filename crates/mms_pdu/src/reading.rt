@@ -143,3 +143,6 @@ pub fn request(bytes: &[u8]) -> Result<RequestView<'_>, PduFault>
 {
     read_request(bytes)
 }
+
+#[cfg(test)]
+mod tests;
