@@ -100,5 +100,15 @@ fn reports_are_written(rt: HostRuntime) -> Result<(), Fail> {
     let alloc = rt.alloc();
     let report = write_report(alloc, &[0xa1, 5, 0x80, 3, 0x52, 0x50, 0x54], &REPORT[13..])?;
     assert_eq!(rt; report.as_slice(), REPORT.as_slice());
+    // a list of the one variable LastApplError
+    let refused = write_report(
+        alloc,
+        &[
+            0xa0, 19, 0x30, 17, 0xa0, 15, 0x80, 13, 0x4c, 0x61, 0x73, 0x74, 0x41, 0x70, 0x70, 0x6c,
+            0x45, 0x72, 0x72, 0x6f, 0x72,
+        ],
+        &LAST_APPL_ERROR[27..],
+    )?;
+    assert_eq!(rt; refused.as_slice(), LAST_APPL_ERROR.as_slice());
     Ok(())
 }
