@@ -6,7 +6,7 @@ ghost use Rattle.sv_base.specs.Seen.{row_of};
 use crate::{Bits, Octs, Value};
 
 /// The octets without the zeros in front.
-fn without_zeros(octets: &[u8]) -> &[u8]
+pub fn without_zeros(octets: &[u8]) -> &[u8]
     ensures value { result.now ≡ without_zeros_of octets.now }
     ensures shorter { length result.now ≤ length octets.now }
 {
@@ -16,8 +16,9 @@ fn without_zeros(octets: &[u8]) -> &[u8]
     }
 }
 
-/// The octets of a number without those in front that say no more than the sign of the next one.
-fn shortest(octets: &[u8]) -> &[u8]
+/// The octets of a number in two's complement without those in front that say no more than the sign of the next one
+/// (ITU-T X.690, 8.3.2).
+pub fn shortest(octets: &[u8]) -> &[u8]
     ensures value { result.now ≡ shortest_of octets.now }
     ensures shorter { length result.now ≤ length octets.now }
 {

@@ -1,0 +1,6 @@
+use Rattle.std.proofs.Common.{arith}
+use Rattle.sv_base.proofs.LengthLaws.{length-packed}
+use Rattle.value_store.proofs.octets.bits_len.Goals as goal
+
+pub returns : goal.returns
+returns c = omega (arith, length-packed 0 c.args.bits.now)

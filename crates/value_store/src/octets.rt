@@ -1,0 +1,139 @@
+//! MMS Data in its minimal spelling (ISO 9506-2, Data; ITU-T X.690), into room that was made before.
+
+ghost use Rattle.std.specs.Prelude.{suc, ◌≡◌, ◌≤◌, ◌<◌, ◌^◌, ◌+◌, ◌*◌, ◌∷◌, [], length};
+ghost use Rattle.std.specs.Int.{to_be_bytes, cast_unsigned, w64};
+ghost use Rattle.sv_base.specs.Data.{length_field, element as element_of, packed, data_of, shortest as shortest_of};
+ghost use Rattle.bay_model.specs.Slots.{lent};
+ghost use Rattle.value_store.specs.Written.{adds, IsShort};
+ghost use Rattle.sv_base.specs.declared.value.Value.TheVariants as values;
+
+use bay_model::{Fixed, ValueRef};
+use sv_base::{Stamp, Utc, shortest, without_zeros};
+
+/// The octets of a length.
+fn put_length(out: &mut Fixed, content: u32)
+    requires { length out.old.items + length (length_field content) ≤ out.old.room }
+    ensures { out.new ≡ adds out.old (length_field content) }
+{
+    if content < 128 {
+        out.push(&[content as u8]);
+    } else {
+        let octets = content.to_be_bytes();
+        let short = without_zeros(&octets);
+        out.push(&[128 + short.len() as u8]);
+        out.push(short);
+    }
+}
+
+/// An element of this tag and this content.
+fn put_element(out: &mut Fixed, tag: u8, content: &[u8])
+    requires small { length content.now < 2 ^ 32 }
+    requires room { length out.old.items + length (element_of tag content.now) ≤ out.old.room }
+    ensures { out.new ≡ adds out.old (element_of tag content.now) }
+{
+    out.push(&[tag]);
+    put_length(out, content.len() as u32);
+    out.push(content);
+}
+
+/// The octets of bits, the first bit the highest. `weight` is that of the next bit, 128 down to 1, and `sum` those of the
+/// bits before it in its octet.
+fn put_packed(out: &mut Fixed, weight: u8, sum: u8, bits: &[bool])
+    requires weight { (0 < weight) × (sum + 2 * weight ≤ 256) }
+    requires room { length out.old.items + length (packed weight sum bits.now) ≤ out.old.room }
+    ensures { out.new ≡ adds out.old (packed weight sum bits.now) }
+{
+    match bits {
+        [] => {
+            if weight < 128 {
+                out.push(&[sum]);
+            }
+        }
+        [bit, rest @ ..] => {
+            let sum = if *bit { sum + weight } else { sum };
+            if weight == 1 {
+                out.push(&[sum]);
+                put_packed(out, 128, 0, rest);
+            } else {
+                put_packed(out, weight / 2, sum, rest);
+            }
+        }
+    }
+}
+
+/// How many octets the content of a bit string has.
+fn bits_len(bits: &[bool]) -> u32
+    requires { length bits.now < 2 ^ 32 }
+    ensures { result ≡ suc (length (packed 128 0 bits.now)) }
+{
+    (bits.len().div_ceil(8) + 1) as u32
+}
+
+/// A bit string.
+fn put_bits(out: &mut Fixed, bits: &[bool])
+    requires small { length bits.now < 2 ^ 32 }
+    requires room { length out.old.items + length (data_of (values.Bits bits.now)) ≤ out.old.room }
+    ensures { out.new ≡ adds out.old (data_of (values.Bits bits.now)) }
+{
+    out.push(&[0x84]);
+    put_length(out, bits_len(bits));
+    out.push(&[((8 - bits.len() % 8) % 8) as u8]);
+    put_packed(out, 128, 0, bits);
+}
+
+/// A signed number.
+fn put_int(out: &mut Fixed, value: i64)
+    requires { length out.old.items + length (data_of (values.Int value)) ≤ out.old.room }
+    ensures { out.new ≡ adds out.old (data_of (values.Int value)) }
+{
+    put_element(out, 0x85, shortest(&value.to_be_bytes()));
+}
+
+/// An unsigned number.
+fn put_uint(out: &mut Fixed, value: u64)
+    requires { length out.old.items + length (data_of (values.Uint value)) ≤ out.old.room }
+    ensures { out.new ≡ adds out.old (data_of (values.Uint value)) }
+{
+    let [a, b, c, d, e, f, g, h] = value.to_be_bytes();
+    put_element(out, 0x86, shortest(&[0, a, b, c, d, e, f, g, h]));
+}
+
+/// A UTC time.
+fn put_time(out: &mut Fixed, time: Utc)
+    requires frac { time.frac < 2 ^ 24 }
+    requires room { length out.old.items + length (data_of (values.Time time)) ≤ out.old.room }
+    ensures { out.new ≡ adds out.old (data_of (values.Time time)) }
+{
+    let [a, b, c, d] = time.secs.to_be_bytes();
+    let frac = time.frac;
+    let (e, f, g) = ((frac / 65536) as u8, (frac / 256 % 256) as u8, (frac % 256) as u8);
+    put_element(out, 0x91, &[a, b, c, d, e, f, g, time.quality]);
+}
+
+/// A binary time.
+fn put_stamp(out: &mut Fixed, stamp: Stamp)
+    requires { length out.old.items + length (data_of (values.Stamp stamp)) ≤ out.old.room }
+    ensures { out.new ≡ adds out.old (data_of (values.Stamp stamp)) }
+{
+    let [a, b, c, d] = stamp.ms.to_be_bytes();
+    let [e, f] = stamp.days.to_be_bytes();
+    put_element(out, 0x8c, &[a, b, c, d, e, f]);
+}
+
+/// The Data of a value, whose text, octets or bits are below 2^32.
+pub(crate) fn put_value(out: &mut Fixed, value: ValueRef<'_>)
+    requires small { IsShort (lent value) }
+    requires room { length out.old.items + length (data_of (lent value)) ≤ out.old.room }
+    ensures { out.new ≡ adds out.old (data_of (lent value.entry)) }
+{
+    match value {
+        ValueRef::Bool(b) => out.push(&[0x83, 1, if b { 255 } else { 0 }]),
+        ValueRef::Int(z) => put_int(out, z),
+        ValueRef::Uint(n) => put_uint(out, n),
+        ValueRef::Bits(bits) => put_bits(out, bits),
+        ValueRef::Time(time) => put_time(out, time),
+        ValueRef::Stamp(stamp) => put_stamp(out, stamp),
+        ValueRef::Text(text) => put_element(out, 0x8a, text),
+        ValueRef::Octets(octets) => put_element(out, 0x89, octets),
+    }
+}
