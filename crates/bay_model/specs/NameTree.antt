@@ -1,7 +1,7 @@
 -- The tree of names of a domain: below a logical node the items `LN$FC`, `LN$FC$DO` and so on down to the attributes and the
 -- components, side by side in the order in which the lines of the configuration first name them (IEC 61850-8-1, the names of
 -- MMS variables; ISO 9506-2, their types).
-use Rattle.std.specs.Prelude.{ℕ, zero, suc, max, Bool, not, ◌==◌, List, [], ◌∷◌, ◌++◌, map, length, fold, unwrap_or, if◌then◌else◌}
+use Rattle.std.specs.Prelude.{ℕ, zero, suc, max, Bool, not, ◌&&◌, ◌==◌, List, [], ◌∷◌, ◌++◌, map, length, fold, unwrap_or, if◌then◌else◌}
 use Rattle.std.specs.Option.{option_map}
 use Rattle.std.specs.List.{filter, find, list_any, before_first, after_first}
 use Rattle.std.specs.Str.{bytes_eq}
@@ -23,12 +23,12 @@ first_name n = before_first (λ o. o == 36) n.item
 abbrev pub rest_of : Named → Named
 rest_of n = record n { item = after_first (λ o. o == 36) n.item }
 
--- what stands below a name, and the name itself as the empty item
-abbrev pub below : List ℕ → List Named → List Named
-below name ns = map rest_of (filter (λ (n : Named). bytes_eq name (first_name n)) ns)
-
 abbrev pub is_itself : Named → Bool
 is_itself n = length n.item == 0
+
+-- what stands below a name, with the name itself as the empty item
+abbrev pub below : List ℕ → List Named → List Named
+below name ns = map rest_of (filter (λ (n : Named). not (is_itself n) && bytes_eq name (first_name n)) ns)
 
 -- each first name once, in the order in which they first stand
 abbrev pub with_name : List (List ℕ) → List ℕ → List (List ℕ)

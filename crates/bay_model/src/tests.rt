@@ -1,12 +1,13 @@
 //! Each list once: it keeps what it is given, in order.
 
 use crate::{
-    Act, Acts, ApplError, ApplErrors, Codes, Member, Members, Names, Nodes, ObjName, Reasons,
-    Results, SetName, SetNames, Sets, Setting, Target, Targets, Write, Writes,
+    Act, Acts, ApplError, ApplErrors, AttrIds, Codes, Member, MemberShape, Members, Names, NodeRow,
+    NodeTable, Nodes, ObjName, Reasons, Results, SetName, SetNames, SetRow, SetTable, Sets,
+    Setting, Target, Targets, Write, Writes,
 };
 use std::alloc::{AllocError, Global};
 use std::test::Fail;
-use sv_base::{AssocNo, AttrId, CtlNo, MemberNo, NodeId, Octs, Value};
+use sv_base::{AssocNo, AttrId, CtlNo, MemberNo, NodeId, Octs, TypeOf, Value};
 
 fn octs(alloc: Global, octets: &[u8]) -> Result<Octs, AllocError> {
     Ok(Octs::from_vec(octets.to_vec(alloc)?))
@@ -165,5 +166,48 @@ fn settings_keep_their_order(rt: HostRuntime) -> Result<(), Fail> {
     assert_eq!(rt; sets.as_slice().len(), 2);
     assert_eq!(rt; sets.into_vec().len(), 2);
     assert!(rt; Sets::from_vec(Vec::new(alloc)).is_empty());
+    Ok(())
+}
+
+#[test]
+fn tables_keep_their_order(rt: HostRuntime) -> Result<(), Fail> {
+    let alloc = rt.alloc();
+    let attrs = AttrIds::from_vec(vec![in alloc; AttrId(4), AttrId(2)]?);
+    assert_eq!(rt; attrs.len(), 2);
+    assert!(rt; !attrs.is_empty());
+    assert!(rt; attrs.get(1) == Some(&AttrId(2)));
+    assert!(rt; attrs.get(2).is_none());
+    assert_eq!(rt; attrs.as_slice().len(), 2);
+    let row = NodeRow {
+        allowed: true,
+        octets: 6,
+        shape: MemberShape {
+            node: NodeId(9),
+            kind: TypeOf::Int(32),
+            attrs,
+        },
+    };
+    let nodes = NodeTable::from_vec(vec![in alloc; row]?);
+    assert_eq!(rt; nodes.len(), 1);
+    assert!(rt; !nodes.is_empty());
+    assert_eq!(rt; nodes.get(0).map(|row| row.octets), Some(6));
+    assert!(rt; nodes.get(1).is_none());
+    assert_eq!(rt; nodes.as_slice().len(), 1);
+    assert_eq!(rt; nodes.into_vec().len(), 1);
+    let set = SetRow {
+        name: SetName {
+            domain: octs(alloc, b"BAY1")?,
+            item: octs(alloc, b"LLN0$Events")?,
+        },
+        nodes: Nodes::from_vec(vec![in alloc; NodeId(9)]?),
+    };
+    let sets = SetTable::from_vec(vec![in alloc; set]?);
+    assert_eq!(rt; sets.len(), 1);
+    assert!(rt; !sets.is_empty());
+    assert_eq!(rt; sets.get(0).map(|set| set.nodes.len()), Some(1));
+    assert!(rt; sets.get(1).is_none());
+    assert_eq!(rt; sets.as_slice().len(), 1);
+    assert_eq!(rt; sets.into_vec().len(), 1);
+    assert_eq!(rt; AttrIds::from_vec(Vec::new(alloc)).into_vec().len(), 0);
     Ok(())
 }

@@ -2,3 +2,4 @@ pub mod ListLaws
 pub mod NumberLaws
 pub mod SortLaws
 pub mod LineLaws
+pub mod GroupLaws

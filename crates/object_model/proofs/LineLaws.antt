@@ -1,10 +1,12 @@
 -- The lines in the order of their numbers, as a stable sort leaves them.
-use Rattle.std.proofs.Common.{◌≡◌, ℕ, ◌≤◌, ◌<◌, Bool, true, false, cond, List, [], ◌∷◌, filter, refl, sym, ap, ◌∙◌, nat_le, nat_eq, arith}
+use Rattle.std.proofs.Common.{◌≡◌, ℕ, ◌+◌, ◌≤◌, ◌<◌, Bool, true, false, cond, List, [], ◌∷◌, ◌++◌, length, get_or, drop, filter, refl, sym, ap, ◌∙◌, append_assoc, nat_le, nat_eq, arith}
+use Rattle.std.proofs.lemmas.List.{drop_more}
+use Rattle.sv_base.specs.declared.config.BlockDef.{BlockDef}
 use Rattle.std.proofs.lemmas.Bool.Decides.{nat_tests}
 use Rattle.std.proofs.lemmas.List.Sorted.{IsNonDecreasingBy-from_sort}
 use Rattle.std.specs.Ordering.{nat_cmp}
 use Rattle.std.specs.List.Sorted.{IsSortedByKey, IsStableByKey}
-use Rattle.bay_model.specs.NamedLines.{Line, insert_line, in_order}
+use Rattle.bay_model.specs.NamedLines.{Line, insert_line, in_order, block_line, block_lines}
 use Rattle.object_model.proofs.SortLaws.{Above, Rising, at, Alike, below_above, only_one, rising-from, alike-from}
 
 abbrev number : Line → ℕ
@@ -53,3 +55,9 @@ alike_in_order k (l ∷ ls) = alike_insert k l (in_order ls) ∙ ap (λ fs. cond
 
 pub sorted_is : (ls os : List Line) → IsSortedByKey number nat_cmp os → IsStableByKey number nat_cmp ls os → os ≡ in_order ls
 sorted_is ls os s t = only_one number os (in_order ls) (rising-from number os (IsNonDecreasingBy-from_sort number os s)) (rising_in_order ls) (λ z. alike-from number ls os t z ∙ sym (alike_in_order z.line ls))
+
+-- one more line of a block
+pub blocks_more : (xs : List BlockDef) (i b n : ℕ) (d : BlockDef) (out next all : List Line) → i < length xs → d ≡ get_or xs i d → next ≡ out ++ block_line b d ∷ [] → n ≡ b + 1 → out ++ block_lines b (drop i xs) ≡ all
+    → next ++ block_lines n (drop (i + 1) xs) ≡ all
+blocks_more xs i b n d out next all h e f g k = ap (λ l. l ++ block_lines n (drop (i + 1) xs)) f ∙ (append_assoc out (block_line b d ∷ []) (block_lines n (drop (i + 1) xs))
+    ∙ (ap (λ m. out ++ (block_line b d ∷ block_lines m (drop (i + 1) xs))) g ∙ (ap (λ l. out ++ block_lines b l) (ap (λ z. z ∷ drop (i + 1) xs) e ∙ sym (drop_more xs i d h)) ∙ k)))

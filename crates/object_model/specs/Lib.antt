@@ -1,3 +1,4 @@
+pub mod Groups
 pub mod Seen
 pub mod References
 pub mod Numbers

@@ -3,6 +3,7 @@
 #![tactic(auto)]
 
 mod copies;
+mod growing;
 mod index;
 mod lines;
 mod model;

@@ -1,13 +1,16 @@
 //! The lines of a configuration with the items that each names, in the order of their numbers.
 
-ghost use Rattle.std.specs.Prelude.{◌≡◌, ◌∷◌, ◌++◌, ◌+◌, [], map, codes, length, IfOk, OnOk, MatchOption, List, ℕ, position, unwrap_or, if◌then◌else◌};
-ghost use Rattle.bay_model.specs.Configured.{domains_after};
+ghost use Rattle.std.specs.Prelude.{◌≡◌, ◌∷◌, ◌++◌, ◌+◌, [], map, codes, length, IfOk, OnOk, MatchOption, List, ℕ, position, unwrap_or, flat_map, if◌then◌else◌};
+ghost use Rattle.std.specs.List.{list_any};
+ghost use Rattle.std.specs.Str.{bytes_eq};
+ghost use Rattle.bay_model.specs.Configured.{domains_after, with_domain};
 ghost use Rattle.bay_model.specs.Generated.{structure_named, block_names, setting_names, parameters, parameter_names, control_names, end_named};
 ghost use Rattle.bay_model.specs.NamedLines.{attribute_line, attribute_lines, block_line, block_lines, control_line, control_lines, node_line, group_line, attribute_names, domains as domains_of, domain_number, lines as lines_of, in_order, path_item, is_setting as is_setting_line};
 ghost use Rattle.bay_model.specs.Model.{attribute};
-ghost use Rattle.object_model.specs.Seen.{role_seen};
+ghost use Rattle.object_model.specs.Indexes.{Indexes};
 
 use crate::copies::{copy_octets, copy_type};
+use crate::index::Index;
 use crate::named::{
     Named, What, push_block, push_control, push_parameters, push_settings, push_structure,
 };
@@ -273,4 +276,101 @@ fn push_controls(
         attr = plus(attr, parameter_count(control))?;
     }
     Ok(())
+}
+
+/// The domains, in the order in which logical nodes first name them.
+pub fn domains(alloc: Global, nodes: &[LnDef]) -> Result<Vec<Octs>, AllocError>
+    ensures { IfOk result (λ v. v.items ≡ domains_after [] nodes.now) }
+{
+    let mut domains = Vec::new(alloc);
+    for node in nodes {
+        push_domain(alloc, &mut domains, node.domain.as_slice())?;
+    }
+    Ok(domains)
+}
+
+fn push_domain(alloc: Global, domains: &mut Vec<Octs>, domain: &[u8]) -> Result<(), AllocError>
+    ensures { OnOk result (domains.new.items ≡ with_domain domains.old.items domain.now) }
+{
+    if !has_domain(domains, domain) {
+        domains.push(copy_octets(alloc, domain)?)?;
+    }
+    Ok(())
+}
+
+fn has_domain(domains: &[Octs], domain: &[u8]) -> bool
+    ensures { result ≡ list_any (bytes_eq domain.now) domains.now }
+{
+    for other in domains {
+        if domain == other.as_slice() {
+            return true;
+        }
+    }
+    false
+}
+
+fn push_groups(
+    alloc: Global,
+    out: &mut Vec<Line>,
+    groups: &[SgDef],
+    domains: &[Octs],
+    index: &Index,
+) -> Result<(), AllocError>
+    requires { Indexes index.now domains.now }
+    ensures { OnOk result (out.new.items ≡ out.old.items ++ map (λ g. group_line (unwrap_or (position (bytes_eq g.domain) domains.now) 0) g) groups.now) }
+{
+    for group in groups {
+        let number = index.number_of(group.domain.as_slice()).unwrap_or(0);
+        push_group(alloc, out, group, number)?;
+    }
+    Ok(())
+}
+
+/// How many CF attributes the controls have.
+fn generated_count(controls: &[CtlDef]) -> Result<u32, AllocError>
+    ensures { IfOk result (λ n. n ≡ length (flat_map parameters controls.now)) }
+{
+    let mut sum = 0;
+    for control in controls {
+        sum = plus(sum, parameter_count(control))?;
+    }
+    Ok(sum)
+}
+
+fn push_all(
+    alloc: Global,
+    out: &mut Vec<Line>,
+    config: &Config,
+    domains: &[Octs],
+    index: &Index,
+) -> Result<(), AllocError>
+    requires indexed { Indexes index.now domains.now }
+    requires domains { domains.now ≡ domains_of config.now }
+    ensures { OnOk result (out.new.items ≡ out.old.items ++ lines_of config.now) }
+{
+    let attr_count = count(config.attrs.len())?;
+    let first_twin = plus(attr_count, generated_count(config.controls.as_slice())?)?;
+    push_nodes(alloc, out, config.nodes.as_slice())?;
+    push_attrs(alloc, out, config.attrs.as_slice(), first_twin)?;
+    push_blocks(alloc, out, config.blocks.as_slice())?;
+    push_controls(alloc, out, config.controls.as_slice(), attr_count)?;
+    push_groups(alloc, out, config.groups.as_slice(), domains, index)?;
+    Ok(())
+}
+
+/// The lines in the order of their numbers.
+pub fn ordered_lines(
+    alloc: Global,
+    config: &Config,
+    domains: &[Octs],
+    index: &Index,
+) -> Result<Vec<Line>, AllocError>
+    requires indexed { Indexes index.now domains.now }
+    requires domains { domains.now ≡ domains_of config.now }
+    ensures { IfOk result (λ v. v.items ≡ in_order (lines_of config.now)) }
+{
+    let mut lines = Vec::new(alloc);
+    push_all(alloc, &mut lines, config, domains, index)?;
+    lines.sort_by_key(|line| line.number)?;
+    Ok(lines)
 }

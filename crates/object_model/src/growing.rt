@@ -1,0 +1,100 @@
+//! The tree of names of a domain: what is named, name by name, in the order in which lines first name it.
+
+ghost use Rattle.std.specs.Prelude.{◌≡◌, ◌==◌, ◌<◌, ◌≤◌, length, get_or, set, OnOk};
+ghost use Rattle.std.specs.List.{position_or_len};
+ghost use Rattle.bay_model.specs.NameTree.{first_name, rest_of};
+ghost use Rattle.object_model.specs.Groups.{Group, with_cut};
+
+use crate::named::Named;
+use std::alloc::AllocError;
+use std::marker::Model;
+
+/// What is named by the rest of an item, below some of its names.
+#[derive(Drop)]
+pub struct Cut<'a> {
+    rest: &'a [u8],
+    named: &'a Named,
+}
+
+impl<'a> Model for Cut<'a> {
+    ghost use Rattle.bay_model.specs.Generated.{Named};
+
+    ghost Value = { Named };
+
+    ghost use Rattle.std.specs.Coded.{codes};
+    ghost use Rattle.sv_base.specs.Types.{fields_code};
+
+    ghost coded = { Prim.hlevel (codes, fields_code) };
+
+    ghost view = { λ c. record { item = c.rest.now; role = c.named.now.role; kind = c.named.now.kind } };
+}
+
+/// The place of the first `$`, and of the end where there is none.
+fn name_len(rest: &[u8]) -> usize
+    ensures value { result ≡ position_or_len (λ o. o == 36) rest.now }
+    ensures within { result ≤ length rest.now }
+{
+    for (i, octet) in rest.iter().enumerate() {
+        if *octet == b'$' {
+            return i;
+        }
+    }
+    rest.len()
+}
+
+/// The name up to the first `$`.
+fn name_of<'a>(cut: &Cut<'a>) -> &'a [u8]
+    ensures { result.now ≡ first_name cut.now }
+{
+    &cut.rest[..name_len(cut.rest)]
+}
+
+/// What is named behind the first `$`.
+fn below<'a>(cut: &Cut<'a>) -> Cut<'a>
+    ensures { result ≡ rest_of cut.now }
+{
+    let len = name_len(cut.rest);
+    let rest = if len < cut.rest.len() {
+        &cut.rest[len + 1..]
+    } else {
+        &cut.rest[len..]
+    };
+    Cut {
+        rest,
+        named: cut.named,
+    }
+}
+
+/// A first name, with what stands below it.
+#[derive(Drop)]
+pub struct Group<'a> {
+    name: &'a [u8],
+    cuts: Vec<Cut<'a>>,
+}
+
+impl<'a> Model for Group<'a> {
+    ghost use Rattle.object_model.specs.Groups.{Group};
+
+    ghost Value = { Group };
+
+    ghost use Rattle.std.specs.Coded.{codes};
+    ghost use Rattle.sv_base.specs.Types.{fields_code};
+
+    ghost coded = { Prim.hlevel (codes, fields_code) };
+
+    ghost view = { λ g. record { name = g.name.now; names = g.cuts.items } };
+}
+
+fn push_cut<'a>(group: &mut Group<'a>, cut: Cut<'a>) -> Result<(), AllocError>
+    ensures { OnOk result (group.new ≡ with_cut group.old cut.entry) }
+{
+    group.cuts.push(cut)?;
+    Ok(())
+}
+
+fn push_into<'a>(groups: &mut Vec<Group<'a>>, place: usize, cut: Cut<'a>) -> Result<(), AllocError>
+    requires { place < length groups.old.items }
+    ensures { OnOk result ((d : Group) → groups.new.items ≡ set groups.old.items place (with_cut (get_or groups.old.items place d) cut.entry)) }
+{
+    push_cut(&mut groups[place], cut)
+}
