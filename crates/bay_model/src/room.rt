@@ -25,7 +25,7 @@ impl Model for Fixed {
 }
 
 impl Fixed {
-    ghost use Rattle.std.specs.Prelude.{◌≡◌, ◌==◌, ◌<◌, ◌≤◌, ◌+◌, ◌++◌, ◌∷◌, [], length, IfOk};
+    ghost use Rattle.std.specs.Prelude.{◌≡◌, ◌==◌, ◌<◌, ◌≤◌, ◌+◌, ◌++◌, ◌∷◌, [], length, take, drop, IfOk};
 
     /// No octets, and room for so many.
     pub fn new(alloc: Global, room: u32) -> Result<Fixed, AllocError>
@@ -50,6 +50,16 @@ impl Fixed {
         ensures { self.new ≡ record { items = self.old.items ++ octets.now; room = self.old.room } }
     {
         let _ = self.octets.extend_from_slice(octets);
+    }
+
+    /// Puts octets in front of those from a place on. It takes no memory.
+    pub fn insert(&mut self, at: usize, octets: &[u8])
+        requires place { at ≤ length self.old.items }
+        requires room { length self.old.items + length octets.now ≤ self.old.room }
+        ensures { self.new ≡ record { items = take at self.old.items ++ (octets.now ++ drop at self.old.items); room = self.old.room } }
+    {
+        let _ = self.octets.extend_from_slice(octets);
+        self.octets[at..].rotate_right(octets.len());
     }
 
     /// How many octets there are.
