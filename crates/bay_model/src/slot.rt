@@ -187,8 +187,9 @@ fn set_time(old: &mut Utc, value: &Value) -> Result<bool, Misfit>
 {
     match value {
         Value::Time(new) => {
-            let differs =
-                new.secs != old.secs || new.frac != old.frac || new.quality != old.quality;
+            let differs = new.secs != old.secs
+                || new.frac != old.frac
+                || new.quality != old.quality;
             *old = *new;
             Ok(differs)
         }

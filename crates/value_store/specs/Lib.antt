@@ -1,3 +1,4 @@
+pub mod Written
 pub mod Stored
 pub mod Opened
-pub mod Written
+pub mod Members

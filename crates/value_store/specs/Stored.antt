@@ -1,5 +1,5 @@
 -- The values of attributes by their numbers, and what comes of setting one (IEC 61850-7-2, SetDataValues).
-use Rattle.std.specs.Prelude.{ℕ, Bool, false, not, ◌&&◌, List, Result, Ok, Err, slice_index_or, if◌then◌else◌}
+use Rattle.std.specs.Prelude.{ℕ, ◌<◌, length, Bool, false, not, ◌&&◌, List, Result, Ok, Err, slice_index_or, if◌then◌else◌}
 use Rattle.sv_base.specs.Same.{is_same}
 use Rattle.sv_base.specs.declared.value.Value.{Value}
 use Rattle.sv_base.specs.declared.value.Value.TheVariants as kinds
@@ -10,6 +10,9 @@ use Rattle.value_store.specs.declared.fault.SetFault.{SetFault}
 use Rattle.value_store.specs.declared.fault.SetFault.TheVariants as faults
 use Rattle.value_store.specs.declared.store.Changed.{Changed}
 use Rattle.value_store.specs.declared.store.Cell.{Cell}
+use Rattle.value_store.specs.Written.{IsShort}
+use Rattle.sv_base.specs.declared.numbers.AttrId.{AttrId}
+use Rattle.std.specs.List.{All}
 
 -- an attribute: its value, its kind, and whether clients may write it
 pub record Stored : Type 0 where
@@ -37,3 +40,10 @@ outcome s v by_client =
 -- the attribute with another value
 abbrev pub with_value : Value → Stored → Stored
 with_value v s = record { held = record { value = v; kind = s.held.kind }; is_writable = s.is_writable }
+
+-- the number is that of an attribute, whose value is short enough to be spelled
+abbrev pub IsStored : List Stored → AttrId → Type 0
+IsStored all x = (x.0 < length all) × IsShort (attribute all x.0).held.value
+
+abbrev pub AreStored : List Stored → List AttrId → Type 0
+AreStored all attrs = All (IsStored all) attrs

@@ -2,6 +2,7 @@
 #![tactic(auto)]
 
 mod fault;
+mod members;
 mod octets;
 mod opening;
 mod store;

@@ -1,6 +1,6 @@
 //! MMS Data in its minimal spelling (ISO 9506-2, Data; ITU-T X.690), into room that was made before.
 
-ghost use Rattle.std.specs.Prelude.{suc, ◌≡◌, ◌≤◌, ◌<◌, ◌^◌, ◌+◌, ◌*◌, ◌∷◌, [], length};
+ghost use Rattle.std.specs.Prelude.{suc, ◌≡◌, ◌≤◌, ◌<◌, ◌^◌, ◌+◌, ◌-◌, ◌*◌, ◌++◌, ◌∷◌, [], length, take, drop};
 ghost use Rattle.std.specs.Int.{to_be_bytes, cast_unsigned, w64};
 ghost use Rattle.sv_base.specs.Data.{length_field, element as element_of, packed, data_of, shortest as shortest_of};
 ghost use Rattle.bay_model.specs.Slots.{lent};
@@ -22,6 +22,24 @@ fn put_length(out: &mut Fixed, content: u32)
         let short = without_zeros(&octets);
         out.push(&[128 + short.len() as u8]);
         out.push(short);
+    }
+}
+
+/// The head of a structure whose content begins at a place, put in front of it.
+pub(crate) fn put_head(out: &mut Fixed, at: usize)
+    requires place { at ≤ length out.old.items }
+    requires small { length out.old.items - at < 2 ^ 32 }
+    requires room { at + length (element_of 162 (drop at out.old.items)) ≤ out.old.room }
+    ensures { out.new ≡ record { items = take at out.old.items ++ element_of 162 (drop at out.old.items); room = out.old.room } }
+{
+    let content = (out.len() - at) as u32;
+    if content < 128 {
+        out.insert(at, &[0xa2, content as u8]);
+    } else {
+        let octets = content.to_be_bytes();
+        let short = without_zeros(&octets);
+        out.insert(at, short);
+        out.insert(at, &[0xa2, 128 + short.len() as u8]);
     }
 }
 
@@ -106,7 +124,11 @@ fn put_time(out: &mut Fixed, time: Utc)
 {
     let [a, b, c, d] = time.secs.to_be_bytes();
     let frac = time.frac;
-    let (e, f, g) = ((frac / 65536) as u8, (frac / 256 % 256) as u8, (frac % 256) as u8);
+    let (e, f, g) = (
+        (frac / 65536) as u8,
+        (frac / 256 % 256) as u8,
+        (frac % 256) as u8,
+    );
     put_element(out, 0x91, &[a, b, c, d, e, f, g, time.quality]);
 }
 
