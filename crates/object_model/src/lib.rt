@@ -1,12 +1,19 @@
-//! The names of a configuration: its tree of names with what stands at each, and the numbers of its nodes, attributes, blocks
-//! and controls.
+//! The names of a configuration, and the numbers of its attributes, blocks and controls.
 #![tactic(auto)]
 
-mod copies;
+// the names that lines give, and the tree that they grow into
 mod growing;
-mod index;
 mod lines;
-mod model;
 mod named;
+
+// the references of numbered parts, and what finds a number
+mod copies;
+mod index;
+mod model;
 mod numbers;
 mod references;
+
+pub use model::Model;
+
+#[cfg(test)]
+mod tests;
