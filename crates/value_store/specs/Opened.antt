@@ -1,5 +1,5 @@
 -- The values that a configuration gives its attributes (IEC 61850-7-2, DataAttribute; SELECT-ACTIVE-SG for those under SG).
-use Rattle.std.specs.Prelude.{◌≡◌, ◌≤◌, ℕ, ◌-◌, Bool, true, false, List, ◌++◌, map, flat_map, slice_get, unwrap_or, Some, if◌then◌else◌}
+use Rattle.std.specs.Prelude.{◌≡◌, ◌≤◌, ℕ, ◌-◌, Bool, true, false, List, ◌++◌, map, flat_map, slice_get, unwrap_or, is_some, position, Some, if◌then◌else◌}
 use Rattle.std.specs.List.{filter, All}
 use Rattle.sv_base.specs.Same.{values_of}
 use Rattle.sv_base.specs.declared.config.Config.{Config}
@@ -13,7 +13,8 @@ use Rattle.bay_model.specs.Attributes.{access_of}
 use Rattle.bay_model.specs.Configured.{kind_of, groups_defined}
 use Rattle.bay_model.specs.Generated.{Parameter, parameters}
 use Rattle.bay_model.specs.Kinds.{is_kind, is_in_range}
-use Rattle.bay_model.specs.NamedLines.{is_setting}
+use Rattle.bay_model.specs.NamedLines.{is_setting, domains}
+use Rattle.std.specs.Str.{bytes_eq}
 use Rattle.bay_model.specs.Slots.{IsSettable}
 use Rattle.value_store.specs.Stored.{Stored}
 
@@ -64,3 +65,7 @@ pub record IsStorable (c : Config) : Type 0 where
   pub lines : All (λ a. HasValue a (place_in c a)) c.attrs
   pub twins : All (λ a. HasValue a 0) c.attrs
   pub controls : All (λ (k : CtlDef). (k.model ≤ 4) × (k.class ≤ 1)) c.controls
+
+-- the domain of each line is one of the configuration's
+abbrev pub HasDomains : Config → Type 0
+HasDomains c = All (λ (a : AttrDef). is_some (position (bytes_eq a.domain) (domains c)) ≡ true) c.attrs

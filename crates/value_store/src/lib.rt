@@ -9,3 +9,6 @@ mod store;
 
 pub use fault::SetFault;
 pub use store::{Changed, Store};
+
+#[cfg(test)]
+mod tests;
