@@ -122,7 +122,7 @@ pdu_tells p s here =
     (λ b. cond_both (eqb tag 163) (Ok (information p)) (beyond_164 s) (Tells p.octets) (λ e. (s.element, here.spells, (eqb-true tag 163 e, refl)))
     (λ c. cond_both (eqb tag 164) (reject_in (content_piece s)) (beyond_140 s) (Tells p.octets) (λ e. reject_tells p.octets s here (eqb-true tag 164 e))
     (λ d. cond_both (eqb tag 140) (cond (eqb (length s.element.content) 0) (Ok concluded) (Err Invalid)) (Err Invalid) (Tells p.octets) (λ e. concluded_tells p.octets s here (eqb-true tag 140 e))
-    (λ e. unusable p.octets s here (inr (inr (inr (inr (not_sent tag a b c d e)))))))))) 
+    (λ e. unusable p.octets s here (inr (inr (inr (inr (not_sent tag a b c d e))))))))))
 
 begins_so : (octets : List ℕ) → may_begin is_pdu octets ≡ true → MayBegin is_pdu octets
 begins_so [] h = tt

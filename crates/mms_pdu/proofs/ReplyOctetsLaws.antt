@@ -64,8 +64,7 @@ failure_spelled class code small few =
     let f : List ℕ = octets_of (class_tag class) (uint_octets code) in
     let k : List ℕ = octets_of 160 f in
     let one = octets_short (class_tag class) (uint_octets code) in
-    let two = octets_short 160 f in
-    (
+    let two = octets_short 160 f in (
       written 162 k,
       written 160 f,
       written (class_tag class) (uint_octets code),
@@ -89,8 +88,7 @@ error_spelled invoke class code small low few =
     let two = octets_short 160 f in
     let three = octets_short 162 (octets_of 160 f) in
     let four = octets_short 128 (uint_octets invoke) in
-    let all : length content < 2 ^ 32 = omega (arith, one, two, three, four, length-uint_octets code, length-uint_octets invoke, length-append (octets_of 128 (uint_octets invoke)) rest) in
-    (
+    let all : length content < 2 ^ 32 = omega (arith, one, two, three, four, length-uint_octets code, length-uint_octets invoke, length-append (octets_of 128 (uint_octets invoke)) rest) in (
       written 162 content,
       is_spelling 162 content (one_octet 162 (omega arith) (λ e. omega (arith, e))) all,
       (refl, rest, numbered_written 128 invoke rest (omega arith) (λ e. omega (arith, e)) small, failure_spelled class code low few),
@@ -109,8 +107,7 @@ reason_octets refusal = octets_of (reason_tag refusal) (uint_octets (reason_code
 
 reason_spelled : (refusal : ℕ) → IsReason (reason_octets refusal) (reason_code refusal)
 reason_spelled refusal =
-    let b = reason_bounds refusal in
-    (
+    let b = reason_bounds refusal in (
       written (reason_tag refusal) (uint_octets (reason_code refusal)),
       is_spelling (reason_tag refusal) (uint_octets (reason_code refusal)) (one_octet (reason_tag refusal) (omega (arith, b.1)) (λ e. omega (arith, e, b.0, b.1))) (uint_short (reason_code refusal)),
       b.0,
@@ -127,8 +124,7 @@ reject_spelled (Some invoke) refusal small =
     let content : List ℕ = octets_of 128 (uint_octets invoke) ++ reason_octets refusal in
     let one = octets_short (reason_tag refusal) (uint_octets (reason_code refusal)) in
     let two = octets_short 128 (uint_octets invoke) in
-    let all : length content < 2 ^ 32 = omega (arith, one, two, length-uint_octets (reason_code refusal), length-uint_octets invoke, length-append (octets_of 128 (uint_octets invoke)) (reason_octets refusal)) in
-    (
+    let all : length content < 2 ^ 32 = omega (arith, one, two, length-uint_octets (reason_code refusal), length-uint_octets invoke, length-append (octets_of 128 (uint_octets invoke)) (reason_octets refusal)) in (
       written 164 content,
       is_spelling 164 content (one_octet 164 (omega arith) (λ e. omega (arith, e))) all,
       (refl, reason_octets refusal, numbered_written 128 invoke (reason_octets refusal) (omega arith) (λ e. omega (arith, e)) small, reason_spelled refusal),
@@ -153,8 +149,7 @@ report_spelled names results (v, s, least, most) fits =
     let all : length content < 2 ^ 32 = omega (arith, fits, octets_longer 163 content) in
     let inner : length fields < 2 ^ 32 = omega (arith, all, octets_longer 160 fields) in
     let last : length results < 2 ^ 32 = omega (arith, inner, length-append names (octets_of 160 results), octets_longer 160 results) in
-    let whole = is_spelling 163 content (one_octet 163 (omega arith) (λ e. omega (arith, e))) all in
-    (
+    let whole = is_spelling 163 content (one_octet 163 (omega arith) (λ e. omega (arith, e))) all in (
       (
         written 163 content,
         written 160 fields,

@@ -25,9 +25,16 @@ pub enum ReplyView<'a> {
         body: &'a [u8],
     },
     /// An error that answers the request with this invoke number: the number of its class and its code.
-    Error { invoke: u32, class: u8, code: u8 },
+    Error {
+        invoke: u32,
+        class: u8,
+        code: u8,
+    },
     /// A reject, with the invoke number of what is rejected where it says one, and the code in its reason.
-    Reject { invoke: Option<u32>, code: u8 },
+    Reject {
+        invoke: Option<u32>,
+        code: u8,
+    },
     /// The association is concluded.
     Concluded,
     /// An unconfirmed PDU, whole, as of a report.
