@@ -1,19 +1,18 @@
 -- The body of an answer is found to be of its form exactly where it is.
-use Rattle.std.proofs.Common.{◌≡◌, ◌≢◌, ℕ, ◌<◌, ◌&&◌, inl, inr, true, false, Bool, cond, eqb, List, [], ◌∷◌, length, Option, Some, None, refl, sym, ap, subst, ◌∙◌, arith}
+use Rattle.std.proofs.Common.{◌≡◌, ℕ, ◌&&◌, inl, inr, true, Bool, cond, eqb, List, [], ◌∷◌, length, Option, Some, None, refl, sym, ◌∙◌, arith}
 use Rattle.std.specs.Prelude.{is_some}
 use Rattle.std.specs.List.{AllByRecursion, list_all}
 use Rattle.std.proofs.lemmas.Bool.{eqb-true, eqb-false, eq-eqb, ne_eqb, and_parts, and_from, cond_both}
 use Rattle.std.proofs.lemmas.List.{nil_from_length}
 use Rattle.ber_grammar.specs.Octets.{IsBytes}
 use Rattle.ber_grammar.specs.Element.{Element, IsRow}
-use Rattle.ber_grammar.specs.Content.{IsUint}
 use Rattle.ber_grammar.specs.Place.{Spot, Piece, elements, content_piece}
 use Rattle.ber_grammar.specs.Reader.{and_then}
 use Rattle.ber_grammar.proofs.OptionLaws.{then_some}
 use Rattle.ber_grammar.proofs.OctetLaws.{AllBytes, IsRow-bytes}
 use Rattle.mms_pdu.specs.Fields.{fields_in, only_in}
 use Rattle.mms_pdu.specs.Invoke.{below_at}
-use Rattle.mms_pdu.specs.Access.{Access, IsAccess, access_at}
+use Rattle.mms_pdu.specs.Access.{access_at}
 use Rattle.mms_pdu.specs.Datum.{datum_at, value_at}
 use Rattle.mms_pdu.specs.Answer.{IsFailed, IsResult, IsWritten, AreAll, IsSpecification, AreResults, IsReadAnswer, IsAnswerBody, holds, is_failed, is_result, is_written, is_specification, are_results, is_read_answer, is_answer_body}
 use Rattle.mms_pdu.proofs.FieldLaws.{spots, fields_found, fields_again, in_place, only_found, only_again, only_bytes, spot_in, either_way}

@@ -1,7 +1,7 @@
 -- What a client asks is read back by the server.
-use Rattle.std.proofs.Common.{◌≡◌, ℕ, ◌+◌, ◌%◌, ◌^◌, ◌<◌, ◌≤◌, false, List, [], ◌∷◌, ◌++◌, length, refl, sym, arith}
+use Rattle.std.proofs.Common.{◌≡◌, ℕ, ◌%◌, ◌^◌, ◌<◌, ◌≤◌, false, List, [], ◌∷◌, ◌++◌, length, refl, sym, arith}
 use Rattle.std.proofs.lemmas.List.{length-append, append-nil}
-use Rattle.ber_grammar.specs.Element.{Element, Spells, IsRow}
+use Rattle.ber_grammar.specs.Element.{IsRow}
 use Rattle.ber_write.specs.Minimal.{octets_of, written, uint_octets}
 use Rattle.ber_write.proofs.ElementLaws.{is_spelling}
 use Rattle.sv_base.specs.Tree.{Seen}
@@ -9,18 +9,16 @@ use Rattle.sv_base.specs.Seen.{seen_of}
 use Rattle.sv_base.specs.Data.{data_of}
 use Rattle.sv_base.specs.Depth.{depth, HasNoOther}
 use Rattle.sv_base.specs.declared.value.Value.{Value}
-use Rattle.mms_data.specs.Grammar.{IsWithin}
-use Rattle.mms_data.specs.Writable.{Fits, SeenHasFractions, SeenIsOfTypes}
+use Rattle.mms_data.specs.Writable.{SeenHasFractions, SeenIsOfTypes}
 use Rattle.mms_data.proofs.FitLaws.{seen_fits}
 use Rattle.mms_data.proofs.ReadBackLaws.{read_back}
-use Rattle.mms_pdu.specs.ObjectName.{Name, domain, IsName}
-use Rattle.mms_pdu.specs.Variable.{Variable, IsVariable, AreVariables}
-use Rattle.mms_pdu.specs.Datum.{AreData}
+use Rattle.mms_pdu.specs.ObjectName.{domain, IsName}
+use Rattle.mms_pdu.specs.Variable.{IsVariable}
 use Rattle.mms_pdu.specs.Access.{variables, IsAccess}
 use Rattle.mms_pdu.specs.Service as services
 use Rattle.mms_pdu.specs.Services.{IsService}
 use Rattle.mms_pdu.specs.Service.{Service}
-use Rattle.mms_pdu.specs.Request.{Request, confirmed, conclude, IsRequest}
+use Rattle.mms_pdu.specs.Request.{confirmed, conclude, IsRequest}
 use Rattle.mms_pdu.specs.AskingOctets.{AreVisible, domain_name, one_variable, confirmed_octets, read_request, write_request, conclude_request, named_variable}
 use Rattle.mms_pdu.proofs.WrittenLaws.{octets_longer, written_more, written_last, one_octet}
 use Rattle.mms_pdu.proofs.ReplyOctetsLaws.{numbered_written}

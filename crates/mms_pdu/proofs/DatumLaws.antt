@@ -16,6 +16,11 @@ use Rattle.mms_pdu.specs.Fields.{each_in}
 use Rattle.mms_pdu.specs.Datum.{AreData, datum_at, value_at}
 use Rattle.mms_pdu.proofs.FieldLaws.{each_found, each_again}
 
+-- a value that was read of an element is the one that it stands for
+pub value_is : (s : Spot) (v : Seen) → data_at 10 s.element ≡ Ok v → value_at s ≡ v
+unfolding value_at
+value_is s v read = rw read refl
+
 pub datum_found : (s d : Spot) → IsBytes s.element.content → datum_at s ≡ Some d → IsWithin 10 s.element (value_at d)
 unfolding view_at value_at
 datum_found s d fits h =

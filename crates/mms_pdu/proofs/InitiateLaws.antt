@@ -11,7 +11,8 @@ use Rattle.ber_grammar.proofs.ReaderLaws.{exact_from, reads_from}
 use Rattle.mms_pdu.specs.declared.fault.PduFault.{PduFault}
 use Rattle.mms_pdu.specs.declared.fault.PduFault.TheVariants.{UnknownPdu, UnknownService, Argument, Invalid, SmallSize}
 use Rattle.mms_pdu.specs.declared.initiate.Initiate.{Initiate}
-use Rattle.mms_pdu.specs.Initiate.{IsOptional, AreDetails, AreFields, IsInitiate, IsAccepted, IsInitiateRefused, are_details, detail_at, nesting_at, calls_at, fields_at, tagged_at, proposal_at, judged, initiate_at}
+use Rattle.mms_pdu.specs.Initiate.{IsOptional, AreDetails, AreFields, IsInitiate, IsAccepted, IsInitiateRefused}
+use Rattle.mms_pdu.specs.InitiateReading.{are_details, detail_at, nesting_at, calls_at, fields_at, tagged_at, proposal_at, judged, initiate_at}
 use Rattle.mms_pdu.specs.Tagged.{IsNumber, number_at, whole_at}
 use Rattle.mms_pdu.proofs.TaggedLaws.{number_again, number_found, whole_again, whole_found, row_found, row_kept}
 

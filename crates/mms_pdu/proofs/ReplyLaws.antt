@@ -1,21 +1,19 @@
 -- What is read of what a server sends is what it spells, and so for each refusal.
-use Rattle.std.proofs.Common.{◌≡◌, ◌≢◌, ℕ, ◌<◌, ◌⊎◌, ◌||◌, inl, inr, true, false, Bool, cond, eqb, List, [], ◌∷◌, length, Option, Some, None, Result, Ok, Err, refl, sym, ap, subst, ◌∙◌, arith}
-use Rattle.std.proofs.lemmas.Bool.{eqb-true, eqb-false, eq-eqb, ne_eqb, cond_both, both_ways}
-use Rattle.std.proofs.lemmas.List.{nil_from_length, append-nil}
+use Rattle.std.proofs.Common.{◌≡◌, ℕ, inl, inr, true, false, cond, eqb, List, [], ◌∷◌, length, Option, Some, None, Result, Ok, Err, refl, sym, ap, ◌∙◌}
+use Rattle.std.proofs.lemmas.Bool.{eqb-true, eqb-false, cond_both}
+use Rattle.std.proofs.lemmas.List.{nil_from_length}
 use Rattle.ber_grammar.specs.Octets.{IsBytes}
-use Rattle.ber_grammar.specs.Element.{Element, Spells}
+use Rattle.ber_grammar.specs.Element.{Spells}
 use Rattle.ber_grammar.specs.Place.{Spot, Piece, content_piece}
-use Rattle.ber_grammar.specs.Reader.{◌>>=◌, Gives, Reads}
+use Rattle.ber_grammar.specs.Reader.{◌>>=◌}
 use Rattle.ber_grammar.proofs.OctetLaws.{Spells-bytes}
-use Rattle.ber_grammar.proofs.ReaderLaws.{exact_from, reads_from}
-use Rattle.ber_grammar.proofs.Theorems.{one_element}
 use Rattle.mms_pdu.specs.declared.fault.PduFault.{PduFault}
-use Rattle.mms_pdu.specs.declared.fault.PduFault.TheVariants.{UnknownPdu, UnknownService, Argument, Invalid, SmallSize}
+use Rattle.mms_pdu.specs.declared.fault.PduFault.TheVariants.{UnknownPdu, Argument, Invalid}
 use Rattle.mms_pdu.specs.Request.{is_pdu, MayBegin, may_begin, or_fault}
 use Rattle.mms_pdu.specs.Tagged.{IsNumbered, spot_in, whole_in, numbered_in}
-use Rattle.mms_pdu.specs.Reply.{Reply, answer, error, reject, concluded, information, reply_octets, IsService, IsServiceError, IsReason, IsReplyOf, IsReply, is_sent, IsMalformed, IsUnusable, IsReplyRefused}
+use Rattle.mms_pdu.specs.Reply.{Reply, answer, error, reject, concluded, information, reply_octets, IsReply, is_sent, IsUnusable, IsReplyRefused}
 use Rattle.mms_pdu.specs.ReplyReading.{service_in, answer_in, service_error_in, error_in, reason_at, rejected, reject_in, pdu_in, reply_in}
-use Rattle.mms_pdu.proofs.TaggedLaws.{whole_in_again, whole_in_found, numbered_again, numbered_found, numbered_none, numbered_bytes, first_octet}
+use Rattle.mms_pdu.proofs.TaggedLaws.{whole_in_again, whole_in_found, numbered_found, numbered_none, numbered_bytes}
 use Rattle.mms_pdu.proofs.ReplyPartLaws.{service_again, service_found, service_error_again, service_error_found, reason_again, reason_found}
 
 -- without where the octets lie

@@ -1,16 +1,16 @@
 -- What a server sends is read back by the client.
-use Rattle.std.proofs.Common.{◌≡◌, ℕ, ◌+◌, ◌/◌, ◌%◌, ◌^◌, ◌<◌, ◌≤◌, ◌||◌, cond, ltb, eqb, true, Bool, List, [], ◌∷◌, ◌++◌, length, Option, Some, None, refl, sym, subst, arith}
+use Rattle.std.proofs.Common.{◌≡◌, ℕ, ◌+◌, ◌%◌, ◌^◌, ◌<◌, ◌≤◌, ◌||◌, cond, ltb, eqb, List, [], ◌∷◌, ◌++◌, length, Option, Some, None, refl, arith}
 use Rattle.std.specs.Prelude.{IfSome}
 use Rattle.std.proofs.lemmas.Bool.{lt-ltb, le-ltb, ltb-true, ltb-false, cond_both}
-use Rattle.std.proofs.lemmas.List.{append-nil, length-append}
+use Rattle.std.proofs.lemmas.List.{length-append}
 use Rattle.ber_grammar.specs.Element.{Element, Spells, IsRow}
 use Rattle.ber_write.specs.Minimal.{octets_of, written, CanBeTag, uint_octets}
 use Rattle.ber_write.proofs.ElementLaws.{is_spelling}
 use Rattle.ber_write.proofs.NumberLaws.{uint_octets-spell, length-uint_octets}
 use Rattle.mms_pdu.specs.Tagged.{IsNumbered}
 use Rattle.mms_pdu.specs.Answer.{IsAnswerBody}
-use Rattle.mms_pdu.specs.Reply.{Reply, answer, error, reject, concluded, information, IsOctet, IsServiceError, IsReason, IsReply}
-use Rattle.mms_pdu.specs.ReplyOctets.{answer_content, answer_octets, class_tag, error_octets, invoke_octets, reason_tag, reason_code, reject_octets, report_fields, report_octets, IsSpecificationElement, IsReport}
+use Rattle.mms_pdu.specs.Reply.{answer, error, reject, concluded, information, IsOctet, IsServiceError, IsReason, IsReply}
+use Rattle.mms_pdu.specs.ReplyOctets.{answer_content, answer_octets, class_tag, error_octets, reason_tag, reason_code, reject_octets, report_fields, report_octets, IsSpecificationElement, IsReport}
 use Rattle.mms_pdu.proofs.WrittenLaws.{octets_short, octets_longer, written_last, one_octet}
 
 -- ---- numbers

@@ -1,9 +1,8 @@
 -- What is read of the parts of what a server sends is what they spell, and what they spell is read.
-use Rattle.std.proofs.Common.{◌≡◌, ℕ, ◌+◌, ◌-◌, ◌*◌, ◌%◌, ◌<◌, ◌≤◌, ◌&&◌, ◌⊎◌, inl, inr, true, false, Bool, cond, ltb, leb, eqb, List, [], ◌∷◌, length, Option, Some, None, refl, sym, ap, subst, ◌∙◌, arith}
-use Rattle.std.proofs.lemmas.Bool.{eqb-true, eq-eqb, le-leb, lt-leb, leb-true, leb-false, ltb-true, lt-ltb, le-ltb, and_parts, and_from, and_left, and_right}
+use Rattle.std.proofs.Common.{◌≡◌, ℕ, ◌+◌, ◌-◌, ◌<◌, ◌≤◌, ◌&&◌, inl, inr, true, cond, leb, eqb, List, [], ◌∷◌, Some, None, refl, sym, ap, subst, ◌∙◌, arith}
+use Rattle.std.proofs.lemmas.Bool.{eqb-true, eq-eqb, le-leb, leb-true, lt-ltb, le-ltb, and_parts}
 use Rattle.ber_grammar.specs.Octets.{IsBytes}
-use Rattle.ber_grammar.specs.Element.{Element, Spells, IsRow}
-use Rattle.ber_grammar.specs.Content.{IsUint}
+use Rattle.ber_grammar.specs.Element.{Element, IsRow}
 use Rattle.ber_grammar.specs.Place.{Spot, Piece, placed, elements, content_piece}
 use Rattle.ber_grammar.specs.Reader.{and_then, kept}
 use Rattle.ber_grammar.specs.Rows.{parts_at, single}
@@ -14,7 +13,7 @@ use Rattle.mms_pdu.specs.Fields.{fields_in, only_in}
 use Rattle.mms_pdu.specs.Invoke.{below_at}
 use Rattle.mms_pdu.specs.Tagged.{spot_in, whole_at, whole_in}
 use Rattle.mms_pdu.specs.Answer.{IsAnswerBody, is_answer_body}
-use Rattle.mms_pdu.specs.Reply.{IsOctet, IsService, IsServiceError, IsReason}
+use Rattle.mms_pdu.specs.Reply.{IsService, IsServiceError, IsReason}
 use Rattle.mms_pdu.specs.ReplyOctets.{class_tag}
 use Rattle.mms_pdu.specs.ReplyReading.{service_in, class_at, class_in, error_class_in, service_error_in, reason_at}
 use Rattle.mms_pdu.proofs.TaggedLaws.{below_again, below_found, row_found, row_kept, whole_again, whole_found, whole_in_again, whole_in_found}

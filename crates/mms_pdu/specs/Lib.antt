@@ -7,6 +7,7 @@ pub mod Variable
 pub mod Datum
 -- how an association begins
 pub mod Initiate
+pub mod InitiateReading
 pub mod InitiateOctets
 -- what is asked
 pub mod Service

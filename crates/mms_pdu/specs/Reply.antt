@@ -1,5 +1,5 @@
 -- What a server sends to a client that is connected (ISO 9506-2, MMSpdu).
-use Rattle.std.specs.Prelude.{◌≡◌, ◌≢◌, ℕ, ◌<◌, ◌≤◌, ◌==◌, ◌||◌, ◌⊎◌, Bool, true, false, List, [], ◌∷◌, length, Option, Some, None}
+use Rattle.std.specs.Prelude.{◌≡◌, ◌≢◌, ℕ, ◌<◌, ◌≤◌, ◌==◌, ◌||◌, ◌⊎◌, Bool, false, List, [], ◌∷◌, Option, Some, None}
 use Rattle.ber_grammar.specs.Element.{Element, Spells, IsRow}
 use Rattle.ber_grammar.specs.Content.{IsUint}
 use Rattle.ber_grammar.specs.Place.{Piece}

@@ -5,8 +5,8 @@ pub enum PduFault {
     UnknownPdu,
     /// Behind this invoke number stands a service (ISO 9506-2, ConfirmedServiceRequest) that is not known here.
     UnknownService(u32),
-    /// The request of a known service with this invoke number has fields outside its grammar, or values of another
-    /// number than variables.
+    /// Behind this invoke number stand fields outside the grammar of the service, of the error or of the reject, or
+    /// values of another number than variables.
     Argument(u32),
     /// The octets are not one whole PDU, there is no invoke number, or the PDU does not belong where it came.
     Invalid,

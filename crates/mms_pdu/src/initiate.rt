@@ -2,7 +2,8 @@ ghost use Rattle.std.specs.Prelude.{◌≡◌, ◌∷◌, IfSome, Some, List};
 ghost use Rattle.ber_grammar.specs.Place.{elements};
 ghost use Rattle.ber_grammar.specs.Reader.{Gives, Reads};
 ghost use Rattle.ber_view.specs.View.{element};
-ghost use Rattle.mms_pdu.specs.Initiate.{IsAccepted, IsInitiateRefused, are_details, detail_at, nesting_at, calls_at, fields_at, proposal_at, judged, initiate_at};
+ghost use Rattle.mms_pdu.specs.Initiate.{IsAccepted, IsInitiateRefused};
+ghost use Rattle.mms_pdu.specs.InitiateReading.{are_details, detail_at, nesting_at, calls_at, fields_at, proposal_at, judged, initiate_at};
 
 use crate::fault::PduFault;
 use crate::tagged::{number_of, whole_of};
@@ -38,7 +39,7 @@ fn has_details(mut fields: Elements<'_>) -> bool
 }
 
 /// The proposal, where the field is the last and of its form.
-#[tactic(auto, unfolding(crate::specs::Initiate::detail_at))]
+#[tactic(auto, unfolding(crate::specs::InitiateReading::detail_at))]
 fn with_detail(proposal: Initiate, field: &Tlv<'_>, mut fields: Elements<'_>) -> Option<Initiate>
     ensures { result ≡ detail_at proposal (element field.now ∷ elements fields.entry) }
 {
@@ -53,7 +54,7 @@ fn with_detail(proposal: Initiate, field: &Tlv<'_>, mut fields: Elements<'_>) ->
 }
 
 /// The proposal of these numbers, with the nesting and the detail that follow.
-#[tactic(auto, unfolding(crate::specs::Initiate::nesting_at, crate::specs::Initiate::detail_at))]
+#[tactic(auto, unfolding(crate::specs::InitiateReading::nesting_at, crate::specs::InitiateReading::detail_at))]
 fn with_nesting(size: u32, calling: u32, called: u32, mut fields: Elements<'_>) -> Option<Initiate>
     ensures { result ≡ nesting_at size calling called (elements fields.entry) }
 {
@@ -79,7 +80,7 @@ fn with_nesting(size: u32, calling: u32, called: u32, mut fields: Elements<'_>) 
 }
 
 /// The proposal of this size, with the fields from this one on.
-#[tactic(auto, unfolding(crate::specs::Initiate::calls_at))]
+#[tactic(auto, unfolding(crate::specs::InitiateReading::calls_at))]
 fn with_calls(size: u32, field: &Tlv<'_>, mut fields: Elements<'_>) -> Option<Initiate>
     ensures { result ≡ calls_at size (element field.now ∷ elements fields.entry) }
 {
@@ -89,7 +90,7 @@ fn with_calls(size: u32, field: &Tlv<'_>, mut fields: Elements<'_>) -> Option<In
     with_nesting(size, calling, called, fields)
 }
 
-#[tactic(auto, unfolding(crate::specs::Initiate::fields_at, crate::specs::Initiate::calls_at))]
+#[tactic(auto, unfolding(crate::specs::InitiateReading::fields_at, crate::specs::InitiateReading::calls_at))]
 fn fields_of(mut fields: Elements<'_>) -> Option<Initiate>
     ensures { result ≡ fields_at (elements fields.entry) }
 {
@@ -127,7 +128,7 @@ fn judge(proposal: Option<Initiate>) -> Result<Initiate, PduFault>
     }
 }
 
-#[tactic(auto, unfolding(crate::specs::Initiate::initiate_at))]
+#[tactic(auto, unfolding(crate::specs::InitiateReading::initiate_at))]
 fn read_tagged(tag: u32, bytes: &[u8]) -> Result<Initiate, PduFault>
     ensures { Gives (λ x. x) result (initiate_at tag bytes.now) }
 {
