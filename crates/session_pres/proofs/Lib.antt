@@ -7,3 +7,4 @@ pub mod ListLaws
 pub mod UnitLaws
 pub mod PresentationLaws
 pub mod WritingLaws
+pub mod FitLaws

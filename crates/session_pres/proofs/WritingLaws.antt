@@ -44,10 +44,10 @@ flat-one_more (c ∷ bs) (suc i) lt = ap (λ (x : List ℕ). result_octets c ++ 
 
 -- ---- the parts fit where the whole does
 
-within : (tag : ℕ) (content : List ℕ) → length content ≤ length (octets_of tag content)
+pub within : (tag : ℕ) (content : List ℕ) → length content ≤ length (octets_of tag content)
 within tag content = omega (arith, length-append (tag_octets tag) (length_octets (length content) ++ content), length-append (length_octets (length content)) content)
 
-field_within : (code : ℕ) (value : List ℕ) → length value ≤ length (field code value)
+pub field_within : (code : ℕ) (value : List ℕ) → length value ≤ length (field code value)
 unfolding field
 field_within code value = omega (arith, length-append (length_field (length value)) value)
 

@@ -3,6 +3,7 @@
 
 mod contexts;
 mod fault;
+mod laws;
 mod parameters;
 mod pdv;
 mod presentation;
@@ -12,6 +13,7 @@ mod writing;
 
 pub use contexts::Contexts;
 pub use fault::SpFault;
+pub use laws::short_ones_fit;
 pub use pdv::read_data;
 pub use presentation::{Cp, read_ac, read_cp};
 pub use spdu::{Spdu, read_dn, read_spdu};
