@@ -1,5 +1,5 @@
 -- Reading a CP and a CPA from left to right.
-use Rattle.std.specs.Prelude.{◌≡◌, ℕ, Bool, true, false, List, [], ◌∷◌, Option, Some, None, Result, Ok, Err, bytes_eq, ◌==◌, if◌then◌else◌}
+use Rattle.std.specs.Prelude.{ℕ, List, [], ◌∷◌, Option, Some, None, Result, Ok, bytes_eq, ◌==◌, if◌then◌else◌}
 use Rattle.ber_grammar.specs.Place.{Spot, Piece, content_piece}
 use Rattle.ber_grammar.specs.Reader.{◌>>=◌, and_then}
 use Rattle.session_pres.specs.declared.fault.SpFault.{SpFault}

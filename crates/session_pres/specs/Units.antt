@@ -1,5 +1,5 @@
 -- SPDUs (ISO 8327-1, "SPDU identifiers and associated parameter fields").
-use Rattle.std.specs.Prelude.{◌≡◌, ℕ, ◌+◌, Bool, true, false, List, [], ◌∷◌, ◌++◌, length, Option, Some, None, Result, Ok, Err, ◌⊎◌, ◌==◌, ◌&&◌, if◌then◌else◌}
+use Rattle.std.specs.Prelude.{◌≡◌, ℕ, ◌+◌, Bool, true, false, List, [], ◌∷◌, ◌++◌, length, Option, Some, None, Result, Ok, ◌⊎◌, ◌==◌, ◌&&◌, if◌then◌else◌}
 use Rattle.ber_grammar.specs.Place.{Piece}
 use Rattle.ber_grammar.specs.Reader.{◌>>=◌, and_then}
 use Rattle.session_pres.specs.declared.fault.SpFault.{SpFault}
