@@ -8,3 +8,6 @@ pub mod UnitLaws
 pub mod PresentationLaws
 pub mod WritingLaws
 pub mod FitLaws
+pub mod FieldLaws
+pub mod ReadBackLaws
+pub mod PpduLaws

@@ -1,6 +1,7 @@
 -- What is written: each SPDU and PPDU in one form.
 use Rattle.std.specs.Prelude.{ℕ, ◌+◌, ◌/◌, ◌%◌, Bool, true, false, List, [], ◌∷◌, ◌++◌, length, nat_lt, if◌then◌else◌}
 use Rattle.std.specs.List.{flat_map}
+use Rattle.ber_grammar.specs.Element.{Element, IsRow}
 use Rattle.ber_write.specs.Minimal.{length_octets, octets_of, uint_octets}
 
 -- ---- user data (ISO 8823-1, "User-data")
@@ -87,3 +88,7 @@ connect_parameters aarq = connect_item ++ field 193 (cp_octets aarq)
 
 unfoldable pub connect_spdu : List ℕ → List ℕ
 connect_spdu aarq = field 13 (connect_parameters aarq)
+
+-- one whole element, as each APDU is
+abbrev pub IsOneElement : List ℕ → Type 0
+IsOneElement octets = (e : Element) × IsRow octets (e ∷ [])
