@@ -11,3 +11,4 @@ pub mod FitLaws
 pub mod FieldLaws
 pub mod ReadBackLaws
 pub mod PpduLaws
+pub mod RequestLaws

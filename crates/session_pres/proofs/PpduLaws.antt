@@ -16,7 +16,7 @@ use Rattle.session_pres.proofs.ReadBackLaws.{plain_tag, row_more, row_last, only
 
 -- ---- the parameters of a PPDU
 
-parameters_of : (input : Piece) (parameters : List ℕ) → length (set_content parameters) < 2 ^ 32 → input.octets ≡ ppdu parameters → (part : Piece) × HasParameters input part × (part.octets ≡ parameters)
+pub parameters_of : (input : Piece) (parameters : List ℕ) → length (set_content parameters) < 2 ^ 32 → input.octets ≡ ppdu parameters → (part : Piece) × HasParameters input part × (part.octets ≡ parameters)
 unfolding ppdu set_content
 parameters_of input parameters fits p =
     let only = only_of input 49 (normal_mode ++ octets_of 162 parameters) (plain_tag 49 (omega arith) (λ q. omega (arith, q))) fits p in
@@ -39,9 +39,17 @@ acceptance s t p =
     let es : List Element = written 128 (0 ∷ []) ∷ written 129 ber ∷ [] in
     let row : IsRow result_content es =
     row_more 128 (0 ∷ []) (octets_of 129 ber) (written 129 ber ∷ []) (plain_tag 128 (omega arith) (λ q. omega (arith, q))) (omega arith)
-    (row_last 129 ber (plain_tag 129 (omega arith) (λ q. omega (arith, q))) (omega arith)) in
-    (t, placed (s.block, s.place) es, elements_of (content_piece s) result_content es p row,
-    record { octets = 0 ∷ []; block = s.block; place = s.place + 2 }, record { octets = ber; block = s.block; place = s.place + 3 + 2 }, refl, refl, refl, refl)
+    (row_last 129 ber (plain_tag 129 (omega arith) (λ q. omega (arith, q))) (omega arith)) in (
+      t,
+      placed (s.block, s.place) es,
+      elements_of (content_piece s) result_content es p row,
+      record { octets = 0 ∷ []; block = s.block; place = s.place + 2 },
+      record { octets = ber; block = s.block; place = s.place + 3 + 2 },
+      refl,
+      refl,
+      refl,
+      refl,
+    )
 
 abbrev both : List ℕ
 both = flat_map result_octets (true ∷ true ∷ [])
@@ -66,10 +74,27 @@ cpa_back input aare one fits p =
     (row_last 48 result_content (plain_tag 48 (omega arith) (λ q. omega (arith, q))) (omega arith)) in
     let first : Spot = record { element = written 48 result_content; block = content.block; place = content.place + 2 } in
     let second : Spot = record { element = written 48 result_content; block = content.block; place = content.place + (2 + 7) + 2 } in
-    let pdv = pdv_of values 1 aare (omega arith) one fit.1 refl in
-    (pdv.0, (at, parameters.1, (fields, elements_of at (octets_of 165 both ++ octets_of 97 (pdv_list 1 aare)) es parameters.2 row,
-    (content, refl, (placed (content.block, content.place) rs, elements_of content both rs refl rows,
-    (first, (refl, acceptance first refl refl), (second, (refl, acceptance second refl refl), (values, refl, pdv.1))))))), pdv.2)
+    let pdv = pdv_of values 1 aare (omega arith) one fit.1 refl in (
+      pdv.0,
+      (
+        at,
+        parameters.1,
+        (
+          fields,
+          elements_of at (octets_of 165 both ++ octets_of 97 (pdv_list 1 aare)) es parameters.2 row,
+          (
+            content,
+            refl,
+            (
+              placed (content.block, content.place) rs,
+              elements_of content both rs refl rows,
+              (first, (refl, acceptance first refl refl), (second, (refl, acceptance second refl refl), (values, refl, pdv.1))),
+            ),
+          ),
+        ),
+      ),
+      pdv.2,
+    )
 
 set_fits : (aare : List ℕ) → length (cpa_octets (true ∷ true ∷ []) 1 aare) ≤ 65535 → length (set_content (cpa_parameters (true ∷ true ∷ []) 1 aare)) < 2 ^ 32
 unfolding cpa_octets ppdu
