@@ -1,8 +1,9 @@
 -- SPDUs that are written are read back.
-use Rattle.std.proofs.Common.{◌≡◌, ℕ, ◌+◌, ◌*◌, ◌/◌, ◌%◌, ◌<◌, ◌≤◌, cond, eqb, ltb, List, [], ◌∷◌, ◌++◌, length, map, Option, Some, None, refl, sym, ap, subst, ◌∙◌, append_assoc, append-nil, arith}
+use Rattle.std.proofs.Common.{◌≡◌, ℕ, ◌+◌, ◌/◌, ◌%◌, ◌<◌, ◌≤◌, cond, eqb, ltb, List, [], ◌∷◌, ◌++◌, length, map, Option, Some, None, refl, sym, ap, subst, ◌∙◌, append_assoc, arith}
 use Rattle.std.specs.List.{AllByRecursion}
 use Rattle.std.specs.Option.{option_map}
-use Rattle.std.proofs.lemmas.Bool.{ltb-true, ltb-false, cond_both}
+use Rattle.std.proofs.lemmas.Bool.{ltb-true, ltb-false, lt-ltb, le-ltb, cond_both}
+use Rattle.ber_grammar.specs.Octets.{IsBytes}
 use Rattle.ber_grammar.specs.Place.{Piece}
 use Rattle.session_pres.specs.Parameters.{IsLength, Parameter, BeginsWith, AreParameters, IsCut, IsUserOf, first_of_two, last_of}
 use Rattle.session_pres.specs.Units.{IsUnit}
@@ -85,3 +86,15 @@ unfolding field
 unit_of_field code input body fit p =
     let len = length_field (length body) in
     (record { octets = body; block = input.block; place = input.place + (length len + 1) }, record { len = len; is_length = length_field_is (length body) fit; whole = p; place = (refl, refl) }, refl)
+
+-- a length has one form
+pub one_length : (octets : List ℕ) (n : ℕ) → IsBytes octets → IsLength octets n → octets ≡ length_field n
+one_length [] n fits h = absurd h
+one_length (a ∷ []) n fits h = rw (h.1, lt-ltb a 255 h.0) refl
+one_length (a ∷ b ∷ []) n fits h = absurd h
+one_length (a ∷ b ∷ c ∷ []) n fits h =
+    let low : c < 256 = fits 2 in
+    let high : n / 256 ≡ b = omega (arith, h.1) in
+    let rest : n % 256 ≡ c = omega (arith, h.1) in
+    rw (h.0, le-ltb n 255 h.2, high, rest) refl
+one_length (a ∷ b ∷ c ∷ d ∷ more) n fits h = absurd h

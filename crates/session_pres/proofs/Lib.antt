@@ -12,3 +12,4 @@ pub mod FieldLaws
 pub mod ReadBackLaws
 pub mod PpduLaws
 pub mod RequestLaws
+pub mod ShortestLaws

@@ -1,16 +1,14 @@
 -- A CP and a CPA that are written are read back.
-use Rattle.std.proofs.Common.{◌≡◌, ◌≢◌, ℕ, ◌+◌, ◌%◌, ◌<◌, ◌≤◌, ◌^◌, true, List, [], ◌∷◌, ◌++◌, length, Some, refl, sym, ap, ◌∙◌, append-nil, arith}
+use Rattle.std.proofs.Common.{◌≡◌, ℕ, ◌+◌, ◌<◌, ◌≤◌, ◌^◌, true, List, [], ◌∷◌, ◌++◌, length, Some, refl, sym, ap, ◌∙◌, append-nil, arith}
 use Rattle.std.specs.List.{flat_map}
 use Rattle.std.proofs.lemmas.List.{length-append}
 use Rattle.ber_grammar.specs.Element.{Element, IsRow}
 use Rattle.ber_grammar.specs.Place.{Spot, Piece, placed, content_piece}
-use Rattle.ber_write.specs.Minimal.{CanBeTag, written, octets_of}
-use Rattle.session_pres.specs.Places.{AreElements, IsOnly}
-use Rattle.session_pres.specs.Units.{HasData, IsSpdu, connect}
-use Rattle.session_pres.specs.ContextList.{Context, Chosen, ber, acse, mms, AreFields, IsDefinition, IsContextList, IsChosen}
-use Rattle.session_pres.specs.Presentation.{IsUser, Request, request, HasParameters, IsCp, IsAcceptance, IsCpa, IsAc}
-use Rattle.session_pres.specs.Written.{pdv_list, user_octets, field, accept_item, accept_parameters, accept_spdu, connect_item, normal_mode, set_content, ppdu, result_octets, cpa_parameters, cpa_octets, cp_head, cp_octets, connect_parameters, connect_spdu, IsOneElement}
-use Rattle.session_pres.proofs.WritingLaws.{within, field_fits, accept_fits, connect_fits, cpa_fits}
+use Rattle.ber_write.specs.Minimal.{written, octets_of}
+use Rattle.session_pres.specs.ContextList.{ber}
+use Rattle.session_pres.specs.Presentation.{HasParameters, IsAcceptance, IsCpa, IsAc}
+use Rattle.session_pres.specs.Written.{pdv_list, user_octets, field, accept_item, accept_parameters, accept_spdu, normal_mode, set_content, ppdu, result_octets, cpa_parameters, cpa_octets, IsOneElement}
+use Rattle.session_pres.proofs.WritingLaws.{within, accept_fits, cpa_fits}
 use Rattle.session_pres.proofs.FieldLaws.{Field, user_of_fields, unit_of_field}
 use Rattle.session_pres.proofs.ReadBackLaws.{plain_tag, row_more, row_last, only_of, elements_of, pdv_of}
 

@@ -1,22 +1,18 @@
 -- What is written is read by the other side.
-use Rattle.std.proofs.Common.{◌≡◌, ◌≢◌, ℕ, ◌+◌, ◌%◌, ◌<◌, ◌≤◌, ◌^◌, true, List, [], ◌∷◌, ◌++◌, length, drop, Option, Some, refl, sym, ap, subst, ◌∙◌, append-nil, arith}
-use Rattle.std.specs.List.{flat_map}
+use Rattle.std.proofs.Common.{◌≡◌, ◌≢◌, ℕ, ◌+◌, ◌%◌, ◌<◌, ◌≤◌, ◌^◌, List, [], ◌∷◌, ◌++◌, length, Some, refl, sym, subst, ◌∙◌, append-nil, arith}
 use Rattle.std.proofs.lemmas.Bool.{lt-ltb}
 use Rattle.std.proofs.lemmas.List.{length-append}
 use Rattle.ber_grammar.specs.Element.{Element, IsRow}
-use Rattle.ber_grammar.specs.Content.{IsUint}
 use Rattle.ber_grammar.specs.Place.{Spot, Piece, placed, content_piece}
 use Rattle.ber_write.specs.Minimal.{CanBeTag, written, octets_of, uint_octets}
 use Rattle.ber_write.proofs.ElementLaws.{is_spelling}
 use Rattle.ber_write.proofs.NumberLaws.{uint_octets-spell}
-use Rattle.session_pres.specs.Places.{AreElements, IsOnly, behind}
-use Rattle.session_pres.specs.Units.{HasUser, HasData, IsSpdu, Seen, connect, transfer, finish, IsTransfer}
+use Rattle.session_pres.specs.Places.{AreElements, IsOnly}
+use Rattle.session_pres.specs.Units.{HasUser, IsSpdu, transfer}
 use Rattle.session_pres.specs.UserData.{IsPdvList, IsUserData}
-use Rattle.session_pres.specs.ContextList.{Context, Chosen, ber, acse, mms, IsDefinition, IsContextList, IsChosen}
-use Rattle.session_pres.specs.Presentation.{IsUser, Request, request, HasParameters, IsCp, IsAcceptance, IsCpa, IsAc}
-use Rattle.session_pres.specs.Written.{pdv_fields, pdv_list, user_octets, field, data_spdu, release_spdu, accept_item, accept_parameters, accept_spdu, connect_item, normal_mode, set_content, ppdu, result_octets, cpa_parameters, cpa_octets, cp_head, cp_octets, connect_parameters, connect_spdu, IsOneElement}
-use Rattle.session_pres.proofs.WritingLaws.{within, field_within, value_fits, field_fits, release_fits, accept_fits, connect_fits, cpa_fits}
-use Rattle.session_pres.proofs.FieldLaws.{Field, fields, AllFit, AllCut, last_field, user_of_fields, unit_of_field}
+use Rattle.session_pres.specs.Written.{pdv_fields, pdv_list, user_octets, field, data_spdu, release_spdu, IsOneElement}
+use Rattle.session_pres.proofs.WritingLaws.{within, field_fits, release_fits}
+use Rattle.session_pres.proofs.FieldLaws.{Field, user_of_fields, unit_of_field}
 
 -- ---- elements
 

@@ -1,11 +1,10 @@
 -- A CONNECT that is written is read back.
-use Rattle.std.proofs.Common.{◌≡◌, ◌≢◌, ℕ, ◌+◌, ◌%◌, ◌<◌, ◌≤◌, ◌^◌, true, List, [], ◌∷◌, ◌++◌, length, Some, inl, refl, sym, ap, ◌∙◌, append-nil, arith}
-use Rattle.std.proofs.lemmas.List.{length-append}
+use Rattle.std.proofs.Common.{◌≡◌, ℕ, ◌+◌, ◌<◌, ◌≤◌, ◌^◌, true, List, [], ◌∷◌, ◌++◌, length, Some, inl, refl, sym, ap, ◌∙◌, append-nil, arith}
 use Rattle.ber_grammar.specs.Element.{Element, IsRow}
 use Rattle.ber_grammar.specs.Place.{Spot, Piece, placed, content_piece}
 use Rattle.ber_write.specs.Minimal.{written, octets_of}
 use Rattle.session_pres.specs.Units.{IsSpdu, connect}
-use Rattle.session_pres.specs.ContextList.{Context, Chosen, ber, acse, mms, AreFields, IsDefinition, IsContextList, IsChosen}
+use Rattle.session_pres.specs.ContextList.{Context, Chosen, ber, acse, mms, IsDefinition, IsContextList, IsChosen}
 use Rattle.session_pres.specs.Presentation.{Request, request, IsCp}
 use Rattle.session_pres.specs.Written.{pdv_list, user_octets, field, connect_item, set_content, ppdu, cp_head, cp_octets, connect_parameters, connect_spdu, IsOneElement}
 use Rattle.session_pres.proofs.WritingLaws.{connect_fits}

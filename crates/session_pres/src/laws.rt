@@ -1,9 +1,11 @@
 ghost use Rattle.std.specs.Prelude.{◌≡◌, ℕ, ◌+◌, ◌*◌, ◌<◌, ◌≤◌, ◌^◌, Bool, true, List, [], ◌∷◌, length, Some};
+ghost use Rattle.ber_grammar.specs.Octets.{IsBytes};
 ghost use Rattle.ber_grammar.specs.Place.{Piece};
+ghost use Rattle.session_pres.specs.Parameters.{IsLength};
 ghost use Rattle.session_pres.specs.Units.{HasUser, IsSpdu, connect, transfer, finish};
 ghost use Rattle.session_pres.specs.UserData.{IsUserData};
 ghost use Rattle.session_pres.specs.Presentation.{Request, IsCp, IsAc};
-ghost use Rattle.session_pres.specs.Written.{pdv_list, user_octets, field, data_spdu, release_spdu, accept_parameters, accept_spdu, connect_parameters, connect_spdu, set_content, cpa_parameters, cpa_octets, IsOneElement};
+ghost use Rattle.session_pres.specs.Written.{pdv_list, user_octets, field, data_spdu, release_spdu, length_field, accept_parameters, accept_spdu, connect_parameters, connect_spdu, set_content, cpa_parameters, cpa_octets, IsOneElement};
 
 /// The CONNECT that is written asks for the contexts 1 and 3, and brings its APDU; the ACCEPT that is written for it is
 /// accepted, and brings its APDU.
@@ -18,6 +20,13 @@ pub fn a_connection_is_read_back()
 pub fn data_are_read_back()
     ensures { (input : Piece) (context : ℕ) (pdu : List ℕ) → context < 2 ^ 32 → IsOneElement pdu → length (pdv_list context pdu) < 2 ^ 32 → input.octets ≡ data_spdu context pdu
         → (user value : Piece) × IsSpdu input (transfer user) × IsUserData user (context, value) × (value.octets ≡ pdu) }
+{}
+
+/// No user data that bring this context and this value are shorter than what is written, and neither is the length of a
+/// parameter or an SPDU, which has one form.
+pub fn user_data_are_minimal()
+    ensures least { (input : Piece) (context : ℕ) (user : Piece) → IsBytes input.octets → IsUserData input (context, user) → length (user_octets context user.octets) ≤ length input.octets }
+    ensures lengths { (octets : List ℕ) (n : ℕ) → IsBytes octets → IsLength octets n → octets ≡ length_field n }
 {}
 
 /// A FINISH and a DISCONNECT that are written bring their context and their APDU.
