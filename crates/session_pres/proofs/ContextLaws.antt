@@ -10,7 +10,8 @@ use Rattle.ber_grammar.specs.Reader.{and_then}
 use Rattle.ber_grammar.proofs.ElementLaws.{Begins-shorter}
 use Rattle.session_pres.specs.Places.{elements_at}
 use Rattle.session_pres.specs.Parameters.{first_of_two}
-use Rattle.session_pres.specs.ContextList.{Context, acse, mms, definition_at, definitions_at, context_list_at, first_of, further, flags_from, Offered, offered}
+use Rattle.session_pres.specs.ContextList.{Context, acse, mms, flags_from}
+use Rattle.session_pres.specs.ContextReading.{definition_at, definitions_at, context_list_at, first_of, further, Offered, offered}
 use Rattle.session_pres.proofs.PlaceLaws.{elements_found}
 use Rattle.session_pres.specs.ViewOfContexts.{if_first}
 

@@ -6,7 +6,8 @@ use Rattle.std.proofs.lemmas.List.{length-append}
 use Rattle.ber_grammar.specs.Content.{IsUint}
 use Rattle.ber_write.specs.Minimal.{length_octets, octets_of, uint_octets}
 use Rattle.ber_write.proofs.NumberLaws.{uint_octets-spell}
-use Rattle.session_pres.specs.Written.{element_length, pdv_fields, pdv_list, user_octets, length_field, field, accept_item, accept_parameters, connect_item, set_content, ppdu, result_octets, cpa_parameters, cpa_octets, cp_head, cp_octets, connect_parameters}
+use Rattle.session_pres.specs.Written.{element_length, pdv_fields, pdv_list, user_octets, length_field, field, accept_item, accept_parameters, connect_item}
+use Rattle.session_pres.specs.WrittenPpdu.{set_content, ppdu, result_octets, cpa_parameters, cpa_octets, cp_head, cp_octets, connect_parameters}
 use Rattle.session_pres.proofs.WritingLaws.{length-octets_of}
 
 number_few : (octets : List ℕ) (n : ℕ) → IsUint octets n → length octets ≤ 9

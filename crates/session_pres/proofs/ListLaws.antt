@@ -9,7 +9,8 @@ use Rattle.ber_grammar.specs.Reader.{and_then}
 use Rattle.ber_grammar.proofs.OptionLaws.{then_some, some_is, chosen, sides}
 use Rattle.session_pres.specs.Places.{elements_at}
 use Rattle.session_pres.specs.UserData.{context_at}
-use Rattle.session_pres.specs.ContextList.{Context, Chosen, ber, HasBer, SaysBer, AreFields, IsDefinition, AreDefinitions, IsContextList, IsFirst, IsChosen, has_ber, fields_at, definition_at, definitions_at, context_list_at, further, first_of, chosen_at}
+use Rattle.session_pres.specs.ContextList.{Context, Chosen, ber, HasBer, SaysBer, AreFields, IsDefinition, AreDefinitions, IsContextList, IsFirst, IsChosen}
+use Rattle.session_pres.specs.ContextReading.{has_ber, fields_at, definition_at, definitions_at, context_list_at, further, first_of, chosen_at}
 use Rattle.session_pres.proofs.PlaceLaws.{map_some, elements_found, elements_again}
 use Rattle.session_pres.proofs.UserDataLaws.{context_found, context_again}
 

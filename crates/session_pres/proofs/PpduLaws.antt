@@ -7,7 +7,8 @@ use Rattle.ber_grammar.specs.Place.{Spot, Piece, placed, content_piece}
 use Rattle.ber_write.specs.Minimal.{written, octets_of}
 use Rattle.session_pres.specs.ContextList.{ber}
 use Rattle.session_pres.specs.Presentation.{HasParameters, IsAcceptance, IsCpa, IsAc}
-use Rattle.session_pres.specs.Written.{pdv_list, user_octets, field, accept_item, accept_parameters, accept_spdu, normal_mode, set_content, ppdu, result_octets, cpa_parameters, cpa_octets, IsOneElement}
+use Rattle.session_pres.specs.Written.{pdv_list, user_octets, field, accept_item, accept_parameters, accept_spdu, IsOneElement}
+use Rattle.session_pres.specs.WrittenPpdu.{normal_mode, set_content, ppdu, result_octets, cpa_parameters, cpa_octets}
 use Rattle.session_pres.proofs.WritingLaws.{within, accept_fits, cpa_fits}
 use Rattle.session_pres.proofs.FieldLaws.{Field, user_of_fields, unit_of_field}
 use Rattle.session_pres.proofs.ReadBackLaws.{plain_tag, row_more, row_last, only_of, elements_of, pdv_of}

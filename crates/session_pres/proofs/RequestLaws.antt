@@ -6,7 +6,8 @@ use Rattle.ber_write.specs.Minimal.{written, octets_of}
 use Rattle.session_pres.specs.Units.{IsSpdu, connect}
 use Rattle.session_pres.specs.ContextList.{Context, Chosen, ber, acse, mms, IsDefinition, IsContextList, IsChosen}
 use Rattle.session_pres.specs.Presentation.{Request, request, IsCp}
-use Rattle.session_pres.specs.Written.{pdv_list, user_octets, field, connect_item, set_content, ppdu, cp_head, cp_octets, connect_parameters, connect_spdu, IsOneElement}
+use Rattle.session_pres.specs.Written.{pdv_list, user_octets, field, connect_item, IsOneElement}
+use Rattle.session_pres.specs.WrittenPpdu.{set_content, ppdu, cp_head, cp_octets, connect_parameters, connect_spdu}
 use Rattle.session_pres.proofs.WritingLaws.{connect_fits}
 use Rattle.session_pres.proofs.FieldLaws.{Field, user_of_fields, unit_of_field}
 use Rattle.session_pres.proofs.ReadBackLaws.{plain_tag, row_more, row_last, elements_of, pdv_of}

@@ -6,7 +6,8 @@ use Rattle.std.specs.declared.alloc.AllocError.{AllocError}
 use Rattle.std.proofs.lemmas.Bool.{lt-ltb}
 use Rattle.std.proofs.lemmas.List.{length-append}
 use Rattle.ber_write.specs.Minimal.{tag_octets, length_octets, head_octets, octets_of, uint_octets}
-use Rattle.session_pres.specs.Written.{element_length, pdv_fields, pdv_list, user_octets, length_field, field, accept_item, accept_parameters, connect_item, normal_mode, set_content, ppdu, result_octets, cpa_parameters, cp_head, cp_octets, connect_parameters}
+use Rattle.session_pres.specs.Written.{element_length, pdv_fields, pdv_list, user_octets, length_field, field, accept_item, accept_parameters, connect_item}
+use Rattle.session_pres.specs.WrittenPpdu.{normal_mode, set_content, ppdu, result_octets, cpa_parameters, cp_head, cp_octets, connect_parameters}
 
 pub length-octets_of : (tag : ℕ) (content : List ℕ) → tag < 256 → length (octets_of tag content) ≡ element_length (length content)
 unfolding element_length

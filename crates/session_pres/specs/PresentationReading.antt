@@ -6,9 +6,10 @@ use Rattle.session_pres.specs.declared.fault.SpFault.{SpFault}
 use Rattle.session_pres.specs.declared.fault.SpFault.TheVariants as faults
 use Rattle.session_pres.specs.Steps.{required}
 use Rattle.session_pres.specs.Places.{elements_at, only_at, tagged}
-use Rattle.session_pres.specs.Units.{data_of}
+use Rattle.session_pres.specs.UnitReading.{data_of}
 use Rattle.session_pres.specs.UserData.{pdv_list_at}
-use Rattle.session_pres.specs.ContextList.{ber, acse, mms, context_list_at, chosen_at}
+use Rattle.session_pres.specs.ContextList.{ber, acse, mms}
+use Rattle.session_pres.specs.ContextReading.{context_list_at, chosen_at}
 use Rattle.session_pres.specs.Presentation.{Request, request, first_in, second_in}
 
 -- the part, where it has these octets

@@ -5,7 +5,8 @@ ghost use Rattle.session_pres.specs.Parameters.{IsLength};
 ghost use Rattle.session_pres.specs.Units.{HasUser, IsSpdu, connect, transfer, finish};
 ghost use Rattle.session_pres.specs.UserData.{IsUserData};
 ghost use Rattle.session_pres.specs.Presentation.{Request, IsCp, IsAc};
-ghost use Rattle.session_pres.specs.Written.{pdv_list, user_octets, field, data_spdu, release_spdu, length_field, accept_parameters, accept_spdu, connect_parameters, connect_spdu, set_content, cpa_parameters, cpa_octets, IsOneElement};
+ghost use Rattle.session_pres.specs.Written.{pdv_list, user_octets, field, data_spdu, release_spdu, length_field, accept_parameters, accept_spdu, IsOneElement};
+ghost use Rattle.session_pres.specs.WrittenPpdu.{connect_parameters, connect_spdu, set_content, cpa_parameters, cpa_octets};
 
 /// The CONNECT that is written asks for the contexts 1 and 3, and brings its APDU; the ACCEPT that is written for it is
 /// accepted, and brings its APDU.

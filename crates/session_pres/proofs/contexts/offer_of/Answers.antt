@@ -1,6 +1,7 @@
 use Rattle.std.proofs.Common.{List, Option, sym, ap, ◌∙◌, arith, refl}
 use Rattle.std.specs.Option.{option_map}
-use Rattle.session_pres.specs.ContextList.{Context, offered}
+use Rattle.session_pres.specs.ContextList.{Context}
+use Rattle.session_pres.specs.ContextReading.{offered}
 use Rattle.session_pres.proofs.ContextLaws.{ListGoes-more, ListGoes-refused, ListGoes-all, ListGoes-room, ListGoes-same, elements_few, list_none, list_at}
 use Rattle.session_pres.proofs.contexts.offer_of.Goals as goal
 
