@@ -1,5 +1,5 @@
 -- The context definition list.
-use Rattle.std.proofs.Common.{◌≡◌, ◌≢◌, ℕ, zero, suc, ◌+◌, ◌-◌, ◌<◌, ◌≤◌, Bool, true, false, cond, eqb, List, [], ◌∷◌, ◌++◌, length, Option, Some, None, refl, sym, ap, subst, ◌∙◌, append_assoc, append-nil, arith}
+use Rattle.std.proofs.Common.{◌≡◌, ℕ, zero, suc, ◌+◌, ◌<◌, ◌≤◌, Bool, true, false, cond, eqb, List, [], ◌∷◌, ◌++◌, length, Option, Some, None, refl, sym, ap, ◌∙◌, append_assoc, append-nil, arith}
 use Rattle.std.specs.Prelude.{bytes_eq, ◌||◌, slice_get}
 use Rattle.std.specs.Option.{option_map}
 use Rattle.std.proofs.lemmas.List.{length-append}
@@ -10,7 +10,8 @@ use Rattle.ber_grammar.specs.Reader.{and_then}
 use Rattle.ber_grammar.proofs.ElementLaws.{Begins-shorter}
 use Rattle.session_pres.specs.Places.{elements_at}
 use Rattle.session_pres.specs.Parameters.{first_of_two}
-use Rattle.session_pres.specs.ContextList.{Context, acse, mms, definition_at, definitions_at, context_list_at, first_of, further, flags_from, Offered, offered}
+use Rattle.session_pres.specs.ContextList.{Context, acse, mms, flags_from}
+use Rattle.session_pres.specs.ContextReading.{definition_at, definitions_at, context_list_at, first_of, further, Offered, offered}
 use Rattle.session_pres.proofs.PlaceLaws.{elements_found}
 use Rattle.session_pres.specs.ViewOfContexts.{if_first}
 

@@ -7,3 +7,9 @@ pub mod ListLaws
 pub mod UnitLaws
 pub mod PresentationLaws
 pub mod WritingLaws
+pub mod FitLaws
+pub mod FieldLaws
+pub mod ReadBackLaws
+pub mod PpduLaws
+pub mod RequestLaws
+pub mod ShortestLaws

@@ -1,5 +1,5 @@
 -- What a context definition list says, and what is chosen of it.
-use Rattle.std.proofs.Common.{◌≡◌, ◌≢◌, ℕ, zero, suc, Bool, true, false, cond, eqb, ◌⊎◌, inl, inr, List, [], ◌∷◌, length, Option, Some, None, refl, sym, ap, subst, ◌∙◌}
+use Rattle.std.proofs.Common.{◌≡◌, ◌≢◌, ℕ, zero, suc, Bool, true, false, cond, eqb, ◌⊎◌, inl, inr, List, [], ◌∷◌, Option, Some, None, refl, sym, subst}
 use Rattle.std.specs.Prelude.{bytes_eq}
 use Rattle.std.specs.Option.{option_map}
 use Rattle.std.proofs.lemmas.Bool.{eqb-true, eq-eqb, cond_both}
@@ -7,9 +7,10 @@ use Rattle.std.proofs.lemmas.Slice.Eq.{bytes_eq-Decides}
 use Rattle.ber_grammar.specs.Place.{Spot, Piece, content_piece}
 use Rattle.ber_grammar.specs.Reader.{and_then}
 use Rattle.ber_grammar.proofs.OptionLaws.{then_some, some_is, chosen, sides}
-use Rattle.session_pres.specs.Places.{AreElements, elements_at}
-use Rattle.session_pres.specs.UserData.{IsContext, context_at}
-use Rattle.session_pres.specs.ContextList.{Context, Chosen, ber, HasBer, SaysBer, AreFields, IsDefinition, AreDefinitions, IsContextList, IsFirst, IsChosen, has_ber, fields_at, definition_at, definitions_at, context_list_at, further, first_of, chosen_of, chosen_at}
+use Rattle.session_pres.specs.Places.{elements_at}
+use Rattle.session_pres.specs.UserData.{context_at}
+use Rattle.session_pres.specs.ContextList.{Context, Chosen, ber, HasBer, SaysBer, AreFields, IsDefinition, AreDefinitions, IsContextList, IsFirst, IsChosen}
+use Rattle.session_pres.specs.ContextReading.{has_ber, fields_at, definition_at, definitions_at, context_list_at, further, first_of, chosen_at}
 use Rattle.session_pres.proofs.PlaceLaws.{map_some, elements_found, elements_again}
 use Rattle.session_pres.proofs.UserDataLaws.{context_found, context_again}
 

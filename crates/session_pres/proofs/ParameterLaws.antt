@@ -1,15 +1,16 @@
 -- The parameters of an SPDU, one after another.
-use Rattle.std.proofs.Common.{◌≡◌, ◌≢◌, ℕ, zero, suc, ◌+◌, ◌-◌, ◌*◌, ◌<◌, ◌≤◌, Bool, true, false, cond, eqb, ltb, List, [], ◌∷◌, ◌++◌, length, take, drop, Option, Some, None, refl, sym, ap, subst, ◌∙◌, append_assoc, arith}
+use Rattle.std.proofs.Common.{◌≡◌, ℕ, zero, suc, ◌+◌, ◌*◌, ◌<◌, ◌≤◌, Bool, true, false, cond, eqb, ltb, List, [], ◌∷◌, ◌++◌, length, take, drop, Option, Some, None, refl, sym, ap, subst, ◌∙◌, append_assoc, arith}
 use Rattle.std.specs.Prelude.{is_some, ◌&&◌}
 use Rattle.std.specs.List.{AllByRecursion}
 use Rattle.std.specs.Option.{option_map}
-use Rattle.std.proofs.lemmas.Bool.{eqb-true, eqb-false, ltb-true, ltb-false, lt-ltb, le-ltb, eq-eqb, ne_eqb, cond_both}
-use Rattle.std.proofs.lemmas.List.{length-append, take_at, drop_at, length-drop, length-take, take-append-drop, append-nil, nil_from_length}
+use Rattle.std.proofs.lemmas.Bool.{eqb-true, ltb-true, ltb-false, lt-ltb, le-ltb, eq-eqb, ne_eqb, cond_both}
+use Rattle.std.proofs.lemmas.List.{length-append, take_at, drop_at, length-take, take-append-drop, append-nil, nil_from_length}
 use Rattle.ber_grammar.specs.Place.{Piece}
 use Rattle.ber_grammar.specs.Reader.{and_then}
 use Rattle.ber_grammar.proofs.OptionLaws.{then_some, some_is, chosen}
-use Rattle.session_pres.specs.Places.{IsPart, front, behind}
-use Rattle.session_pres.specs.Parameters.{IsLength, Parameter, BeginsWith, AreParameters, IsCut, IsUserOf, first_of_two, last_of, length_at, head_at, parameter_at, bounded_parameters, parameters_at, is_cut, all_cut, if_user, user_at}
+use Rattle.session_pres.specs.Places.{front, behind}
+use Rattle.session_pres.specs.Parameters.{IsLength, Parameter, BeginsWith, AreParameters, IsCut, IsUserOf, first_of_two, last_of}
+use Rattle.session_pres.specs.ParameterReading.{length_at, head_at, parameter_at, bounded_parameters, parameters_at, is_cut, all_cut, if_user, user_at}
 
 -- ---- a length
 

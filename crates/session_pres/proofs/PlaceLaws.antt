@@ -1,11 +1,11 @@
 -- Elements with their places.
-use Rattle.std.proofs.Common.{◌≡◌, ℕ, ◌+◌, Bool, true, false, cond, eqb, List, [], ◌∷◌, length, Option, Some, None, Result, Ok, Err, refl, sym, ap, subst, ◌∙◌, arith}
+use Rattle.std.proofs.Common.{◌≡◌, ℕ, eqb, List, [], ◌∷◌, Option, Some, None, Result, refl, sym, subst}
 use Rattle.std.specs.Option.{option_map}
 use Rattle.std.proofs.lemmas.Bool.{eqb-true, eq-eqb}
 use Rattle.ber_grammar.specs.declared.fault.BerFault.{BerFault}
-use Rattle.ber_grammar.specs.Element.{Element, IsRow}
+use Rattle.ber_grammar.specs.Element.{Element}
 use Rattle.ber_grammar.specs.Place.{Spot, Piece, placed, content_piece}
-use Rattle.ber_grammar.specs.Reader.{and_then, kept}
+use Rattle.ber_grammar.specs.Reader.{kept}
 use Rattle.ber_grammar.specs.Rows.{parts_at, single}
 use Rattle.ber_grammar.proofs.OptionLaws.{then_some, some_is, kept_some, chosen}
 use Rattle.ber_grammar.proofs.PartsLaws.{PartsTells, parts_tells, row_again}

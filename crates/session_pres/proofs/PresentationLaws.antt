@@ -1,5 +1,5 @@
 -- CP and CPA are read as they are spelled.
-use Rattle.std.proofs.Common.{◌≡◌, ℕ, Bool, true, false, cond, eqb, List, [], ◌∷◌, length, Option, Some, None, Result, Ok, Err, refl, sym, ap, subst, ◌∙◌}
+use Rattle.std.proofs.Common.{◌≡◌, ℕ, eqb, List, [], ◌∷◌, Option, Some, None, Result, refl, ap, subst, ◌∙◌}
 use Rattle.std.specs.Prelude.{bytes_eq}
 use Rattle.std.proofs.lemmas.Bool.{eqb-true, eq-eqb}
 use Rattle.ber_grammar.specs.Place.{Spot, Piece, content_piece}
@@ -8,11 +8,13 @@ use Rattle.ber_grammar.proofs.OptionLaws.{then_some, some_is, chosen}
 use Rattle.ber_grammar.proofs.ReaderLaws.{reads_from}
 use Rattle.session_pres.specs.declared.fault.SpFault.{SpFault}
 use Rattle.session_pres.specs.declared.fault.SpFault.TheVariants as faults
-use Rattle.session_pres.specs.Steps.{Then, Or, Else, IsLacking, required}
+use Rattle.session_pres.specs.Steps.{IsLacking, required}
 use Rattle.session_pres.specs.Places.{AreElements, IsOnly, elements_at, only_at, tagged}
-use Rattle.session_pres.specs.Units.{HasData, IsDataRefused, data_of}
-use Rattle.session_pres.specs.UserData.{IsPdvList, pdv_list_at}
-use Rattle.session_pres.specs.ContextList.{Context, Chosen, IsContextList, IsChosen, ber, acse, mms, context_list_at, chosen_at}
+use Rattle.session_pres.specs.Units.{HasData, IsDataRefused}
+use Rattle.session_pres.specs.UnitReading.{data_of}
+use Rattle.session_pres.specs.UserData.{pdv_list_at}
+use Rattle.session_pres.specs.ContextList.{IsContextList, IsChosen, ber, acse, mms}
+use Rattle.session_pres.specs.ContextReading.{context_list_at, chosen_at}
 use Rattle.session_pres.specs.Presentation.{IsTagged, IsNormal, IsUser, Request, request, HasParameters, AreParametersRefused, IsCp, IsCpRefused, IsAcceptance, first_in, second_in, IsAccepted, IsCpa, IsCpaRefused, IsAc, IsAcRefused}
 use Rattle.session_pres.specs.PresentationReading.{if_octets, normal_at, parameters_in, if_context, user_in, cp_at, accepted_at, cpa_at, ac_at}
 use Rattle.session_pres.proofs.PlaceLaws.{elements_found, elements_again, only_found, only_again}

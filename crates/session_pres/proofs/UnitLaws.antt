@@ -1,18 +1,20 @@
 -- SPDUs are read as they are spelled.
-use Rattle.std.proofs.Common.{◌≡◌, ℕ, ◌+◌, ◌<◌, ◌≤◌, Bool, true, false, cond, eqb, List, [], ◌∷◌, ◌++◌, length, drop, Option, Some, None, Result, Ok, Err, ◌⊎◌, inl, inr, refl, sym, ap, subst, ◌∙◌, append-nil, arith}
+use Rattle.std.proofs.Common.{◌≡◌, ℕ, ◌+◌, true, false, cond, eqb, List, [], ◌∷◌, ◌++◌, length, drop, Option, Some, None, Result, Ok, Err, inl, inr, refl, sym, ap, subst, ◌∙◌, arith}
 use Rattle.std.specs.Prelude.{◌&&◌}
 use Rattle.std.proofs.lemmas.Bool.{eqb-true, eq-eqb, cond_both}
 use Rattle.std.proofs.lemmas.List.{length-append, drop_at}
 use Rattle.ber_grammar.specs.Place.{Piece}
-use Rattle.ber_grammar.specs.Reader.{◌>>=◌, and_then, Gives, Reads}
+use Rattle.ber_grammar.specs.Reader.{◌>>=◌, Gives, Reads}
 use Rattle.ber_grammar.proofs.OptionLaws.{then_some, some_is, chosen}
 use Rattle.ber_grammar.proofs.ReaderLaws.{reads_from}
 use Rattle.session_pres.specs.declared.fault.SpFault.{SpFault}
 use Rattle.session_pres.specs.declared.fault.SpFault.TheVariants as faults
-use Rattle.session_pres.specs.Steps.{Then, Or, Else, IsLacking, required}
+use Rattle.session_pres.specs.Steps.{Then, IsLacking, required}
 use Rattle.session_pres.specs.Places.{behind}
-use Rattle.session_pres.specs.Parameters.{IsLength, IsUserOf, length_at, user_at}
-use Rattle.session_pres.specs.Units.{IsUnit, HasUser, IsUserRefused, HasData, IsDataRefused, Seen, connect, transfer, finish, abort, IsTransfer, IsSpdu, begins, HasCode, IsSpduRefused, counted_at, unit_at, user_of, data_of, is_transfer, transfer_at, spdu_at}
+use Rattle.session_pres.specs.Parameters.{IsLength, IsUserOf}
+use Rattle.session_pres.specs.ParameterReading.{length_at, user_at}
+use Rattle.session_pres.specs.Units.{IsUnit, HasUser, IsUserRefused, HasData, IsDataRefused, Seen, connect, transfer, finish, abort, IsTransfer, IsSpdu, begins, HasCode, IsSpduRefused}
+use Rattle.session_pres.specs.UnitReading.{counted_at, unit_at, user_of, data_of, is_transfer, transfer_at, spdu_at}
 use Rattle.session_pres.proofs.ParameterLaws.{LengthTells, length_tells, length_again, both_true, user_found, user_again, piece_is}
 use Rattle.session_pres.proofs.StepLaws.{Exact, then_exact, step_exact, required_exact, made_exact}
 

@@ -1,5 +1,5 @@
 -- User data of the presentation layer.
-use Rattle.std.proofs.Common.{◌≡◌, ℕ, zero, suc, ◌<◌, ◌≤◌, ◌^◌, Bool, true, false, cond, eqb, ltb, List, [], ◌∷◌, length, Option, Some, None, Result, Ok, Err, refl, sym, ap, subst, ◌∙◌, arith}
+use Rattle.std.proofs.Common.{◌≡◌, ℕ, zero, suc, ◌<◌, ◌^◌, cond, eqb, ltb, List, [], ◌∷◌, length, Some, None, Result, Ok, Err, refl, sym, subst, arith}
 use Rattle.std.proofs.lemmas.Bool.{eqb-true, eq-eqb, ltb-true, ltb-false, lt-ltb, cond_both}
 use Rattle.ber_grammar.specs.declared.fault.BerFault.{BerFault}
 use Rattle.ber_grammar.specs.declared.fault.BerFault.TheVariants.{BadNumber}
@@ -14,7 +14,7 @@ use Rattle.ber_grammar.proofs.UintLaws.{uint_again}
 use Rattle.session_pres.specs.declared.fault.SpFault.{SpFault}
 use Rattle.session_pres.specs.declared.fault.SpFault.TheVariants as faults
 use Rattle.session_pres.specs.Steps.{IsLacking, required}
-use Rattle.session_pres.specs.Places.{AreElements, IsOnly, elements_at, single_at, only_at}
+use Rattle.session_pres.specs.Places.{elements_at, single_at, only_at}
 use Rattle.session_pres.specs.UserData.{IsContext, IsPair, IsPdv, IsPdvList, IsUserData, context_at, pair_at, pdv_at, pdv_list_at, user_data_at}
 use Rattle.session_pres.proofs.PlaceLaws.{elements_found, elements_again, single_at_found, single_at_again, only_found, only_again}
 use Rattle.session_pres.proofs.StepLaws.{required_exact}

@@ -1,12 +1,13 @@
 -- What is written, part by part.
-use Rattle.std.proofs.Common.{◌≡◌, ℕ, zero, suc, ◌+◌, ◌<◌, ◌≤◌, ◌^◌, Bool, false, cond, ltb, List, [], ◌∷◌, ◌++◌, length, take, Option, Some, Result, Ok, Err, refl, sym, ap, ◌∙◌, append_assoc, append-nil, arith}
+use Rattle.std.proofs.Common.{◌≡◌, ℕ, zero, suc, ◌+◌, ◌<◌, ◌≤◌, ◌^◌, Bool, false, List, [], ◌∷◌, ◌++◌, length, take, Option, Result, Ok, Err, refl, sym, ap, ◌∙◌, append_assoc, append-nil, arith}
 use Rattle.std.specs.Prelude.{OnOk, slice_get, unwrap_or}
 use Rattle.std.specs.List.{flat_map}
 use Rattle.std.specs.declared.alloc.AllocError.{AllocError}
 use Rattle.std.proofs.lemmas.Bool.{lt-ltb}
 use Rattle.std.proofs.lemmas.List.{length-append}
 use Rattle.ber_write.specs.Minimal.{tag_octets, length_octets, head_octets, octets_of, uint_octets}
-use Rattle.session_pres.specs.Written.{element_length, pdv_fields, pdv_list, user_octets, length_field, field, accept_item, accept_parameters, connect_item, normal_mode, set_content, ppdu, result_octets, cpa_parameters, cp_head, cp_octets, connect_parameters}
+use Rattle.session_pres.specs.Written.{element_length, pdv_fields, pdv_list, user_octets, length_field, field, accept_item, accept_parameters, connect_item}
+use Rattle.session_pres.specs.WrittenPpdu.{normal_mode, set_content, ppdu, result_octets, cpa_parameters, cp_head, cp_octets, connect_parameters}
 
 pub length-octets_of : (tag : ℕ) (content : List ℕ) → tag < 256 → length (octets_of tag content) ≡ element_length (length content)
 unfolding element_length
@@ -44,10 +45,10 @@ flat-one_more (c ∷ bs) (suc i) lt = ap (λ (x : List ℕ). result_octets c ++ 
 
 -- ---- the parts fit where the whole does
 
-within : (tag : ℕ) (content : List ℕ) → length content ≤ length (octets_of tag content)
+pub within : (tag : ℕ) (content : List ℕ) → length content ≤ length (octets_of tag content)
 within tag content = omega (arith, length-append (tag_octets tag) (length_octets (length content) ++ content), length-append (length_octets (length content)) content)
 
-field_within : (code : ℕ) (value : List ℕ) → length value ≤ length (field code value)
+pub field_within : (code : ℕ) (value : List ℕ) → length value ≤ length (field code value)
 unfolding field
 field_within code value = omega (arith, length-append (length_field (length value)) value)
 

@@ -1,5 +1,5 @@
 -- The PPDUs that make a connection: CP, the request, and CPA, the acceptance (ISO 8823-1, "CP-type" and "CPA-PPDU").
-use Rattle.std.specs.Prelude.{◌≡◌, ℕ, Bool, true, List, [], ◌∷◌, length, Option, Some, None}
+use Rattle.std.specs.Prelude.{◌≡◌, ℕ, Bool, List, [], ◌∷◌, length, Option, Some, None}
 use Rattle.ber_grammar.specs.Place.{Spot, Piece, content_piece}
 use Rattle.session_pres.specs.declared.fault.SpFault.{SpFault}
 use Rattle.session_pres.specs.declared.fault.SpFault.TheVariants as faults

@@ -1,14 +1,15 @@
 -- Reading a CP and a CPA from left to right.
-use Rattle.std.specs.Prelude.{◌≡◌, ℕ, Bool, true, false, List, [], ◌∷◌, Option, Some, None, Result, Ok, Err, bytes_eq, ◌==◌, if◌then◌else◌}
+use Rattle.std.specs.Prelude.{ℕ, List, [], ◌∷◌, Option, Some, None, Result, Ok, bytes_eq, ◌==◌, if◌then◌else◌}
 use Rattle.ber_grammar.specs.Place.{Spot, Piece, content_piece}
 use Rattle.ber_grammar.specs.Reader.{◌>>=◌, and_then}
 use Rattle.session_pres.specs.declared.fault.SpFault.{SpFault}
 use Rattle.session_pres.specs.declared.fault.SpFault.TheVariants as faults
 use Rattle.session_pres.specs.Steps.{required}
 use Rattle.session_pres.specs.Places.{elements_at, only_at, tagged}
-use Rattle.session_pres.specs.Units.{data_of}
+use Rattle.session_pres.specs.UnitReading.{data_of}
 use Rattle.session_pres.specs.UserData.{pdv_list_at}
-use Rattle.session_pres.specs.ContextList.{ber, acse, mms, context_list_at, chosen_at}
+use Rattle.session_pres.specs.ContextList.{ber, acse, mms}
+use Rattle.session_pres.specs.ContextReading.{context_list_at, chosen_at}
 use Rattle.session_pres.specs.Presentation.{Request, request, first_in, second_in}
 
 -- the part, where it has these octets

@@ -1,12 +1,11 @@
 -- SPDUs (ISO 8327-1, "SPDU identifiers and associated parameter fields").
-use Rattle.std.specs.Prelude.{◌≡◌, ℕ, ◌+◌, Bool, true, false, List, [], ◌∷◌, ◌++◌, length, Option, Some, None, Result, Ok, Err, ◌⊎◌, ◌==◌, ◌&&◌, if◌then◌else◌}
+use Rattle.std.specs.Prelude.{◌≡◌, ℕ, ◌+◌, Bool, true, false, List, [], ◌∷◌, ◌++◌, length, Option, Some, ◌⊎◌, ◌==◌}
 use Rattle.ber_grammar.specs.Place.{Piece}
-use Rattle.ber_grammar.specs.Reader.{◌>>=◌, and_then}
 use Rattle.session_pres.specs.declared.fault.SpFault.{SpFault}
 use Rattle.session_pres.specs.declared.fault.SpFault.TheVariants as faults
-use Rattle.session_pres.specs.Steps.{Then, Or, Else, IsLacking, required}
-use Rattle.session_pres.specs.Places.{IsPart, behind}
-use Rattle.session_pres.specs.Parameters.{IsLength, IsUserOf, length_at, user_at}
+use Rattle.session_pres.specs.Steps.{Then, Or, Else, IsLacking}
+use Rattle.session_pres.specs.Places.{IsPart}
+use Rattle.session_pres.specs.Parameters.{IsLength, IsUserOf}
 
 -- A code, a length that counts all that follows it, and the parameters.
 pub record IsUnit (code : ℕ) (input parameters : Piece) : Type 0 where
@@ -60,32 +59,3 @@ IsSpduRefused input f = (HasCode 13 input × IsDataRefused 13 input f)
     ⊎ (HasCode 9 input × IsUserRefused 9 input f)
     ⊎ (HasCode 25 input × IsUserRefused 25 input f)
     ⊎ ((f ≡ faults.Spdu) × ¬ HasCode 13 input × ¬ HasCode 9 input × ¬ HasCode 25 input × ((user : Piece) → ¬ IsTransfer input user))
-
--- ---- reading
-
--- what is behind a length that counts it all
-unfoldable pub counted_at : Piece → Option Piece
-counted_at input = and_then (length_at input.octets) (λ len. if length input.octets == len.1 + len.0 then Some (behind len.1 input) else None)
-
-unfoldable pub unit_at : ℕ → Piece → Option Piece
-unit_at code input = if begins code input.octets then counted_at (behind 1 input) else None
-
-unfoldable pub user_of : ℕ → Piece → Result (Option Piece) SpFault
-user_of code input = required faults.Spdu (unit_at code input) >>= λ parameters. required faults.Parameter (user_at parameters)
-
-unfoldable pub data_of : ℕ → Piece → Result Piece SpFault
-data_of code input = user_of code input >>= λ user. required faults.Parameter user
-
-abbrev pub is_transfer : List ℕ → Bool
-is_transfer (a ∷ b ∷ c ∷ d ∷ rest) = a == 1 && b == 0 && c == 1 && d == 0
-is_transfer _ = false
-
-unfoldable pub transfer_at : Piece → Option Seen
-transfer_at input = if is_transfer input.octets then Some (transfer (behind 4 input)) else None
-
-unfoldable pub spdu_at : Piece → Result Seen SpFault
-spdu_at input =
-    if begins 13 input.octets then (data_of 13 input >>= λ given. Ok (connect given))
-    else if begins 9 input.octets then (user_of 9 input >>= λ user. Ok (finish user))
-    else if begins 25 input.octets then (user_of 25 input >>= λ user. Ok abort)
-    else required faults.Spdu (transfer_at input)

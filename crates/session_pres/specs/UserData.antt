@@ -1,14 +1,10 @@
 -- User data of the presentation layer (ISO 8823-1, "User-data"): fully encoded, one PDV.
-use Rattle.std.specs.Prelude.{◌≡◌, ℕ, ◌<◌, ◌^◌, List, [], ◌∷◌, Option, Some, None, Result, nat_lt, is_some, ◌==◌, if◌then◌else◌}
+use Rattle.std.specs.Prelude.{◌≡◌, ℕ, ◌<◌, ◌^◌, List, [], ◌∷◌, Option, Some, None, nat_lt, ◌==◌, if◌then◌else◌}
 use Rattle.ber_grammar.specs.Content.{IsUint}
-use Rattle.ber_grammar.specs.Element.{Element, IsRow}
 use Rattle.ber_grammar.specs.Place.{Spot, Piece, content_piece}
 use Rattle.ber_grammar.specs.Reader.{and_then, kept}
 use Rattle.ber_grammar.specs.Reading.{uint_at}
-use Rattle.session_pres.specs.declared.fault.SpFault.{SpFault}
-use Rattle.session_pres.specs.declared.fault.SpFault.TheVariants as faults
 use Rattle.session_pres.specs.Places.{AreElements, IsOnly, elements_at, single_at, only_at}
-use Rattle.session_pres.specs.Steps.{required, IsLacking}
 
 -- A presentation context is known by a number of 32 bits.
 abbrev pub IsContext : List ℕ → ℕ → Type 0

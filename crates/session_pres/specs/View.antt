@@ -1,5 +1,5 @@
 -- What the program's values are seen as.
-use Rattle.std.specs.Prelude.{ℕ, List, Option, Some, None}
+use Rattle.std.specs.Prelude.{ℕ, List}
 use Rattle.std.specs.Option.{option_map}
 use Rattle.std.specs.Borrow.{Bor}
 use Rattle.ber_grammar.specs.Place.{Piece, piece}

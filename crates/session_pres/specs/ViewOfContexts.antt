@@ -4,7 +4,8 @@ use Rattle.std.specs.Option.{option_map}
 use Rattle.session_pres.specs.declared.contexts.Definition.{Definition}
 use Rattle.session_pres.specs.declared.contexts.Offer.{Offer}
 use Rattle.session_pres.specs.Parameters.{first_of_two}
-use Rattle.session_pres.specs.ContextList.{Context, Chosen, Offered}
+use Rattle.session_pres.specs.ContextList.{Context, Chosen}
+use Rattle.session_pres.specs.ContextReading.{Offered}
 
 abbrev pub context : Definition → Context
 context d = record { number = d.number; syntax = d.syntax.now; has_ber = d.has_ber }

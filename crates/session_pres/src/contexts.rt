@@ -3,7 +3,8 @@ ghost use Rattle.std.specs.Option.{option_map};
 ghost use Rattle.ber_grammar.specs.Place.{piece, content_piece};
 ghost use Rattle.ber_view.specs.View.{spot};
 ghost use Rattle.session_pres.specs.Places.{elements_at};
-ghost use Rattle.session_pres.specs.ContextList.{Context, has_ber, fields_at, definition_at, chosen_of, offered, context_list_at, flags_from};
+ghost use Rattle.session_pres.specs.ContextList.{Context, flags_from};
+ghost use Rattle.session_pres.specs.ContextReading.{has_ber, fields_at, definition_at, chosen_of, offered, context_list_at};
 ghost use Rattle.session_pres.specs.ViewOfContexts.{context, candidate, offer, chosen, if_first};
 
 use crate::pdv::context_of;
@@ -49,7 +50,7 @@ fn lists_ber(mut syntaxes: Elements<'_>) -> bool
 }
 
 /// The context of three fields.
-#[tactic(auto, unfolding(crate::specs::ContextList::fields_at))]
+#[tactic(auto, unfolding(crate::specs::ContextReading::fields_at))]
 fn context_of_fields<'a>(mut fields: Elements<'a>) -> Option<Definition<'a>>
     ensures { option_map context result ≡ fields_at fields.entry }
 {
@@ -67,7 +68,7 @@ fn context_of_fields<'a>(mut fields: Elements<'a>) -> Option<Definition<'a>>
 }
 
 /// The context that an element of the list is.
-#[tactic(auto, unfolding(crate::specs::ContextList::definition_at))]
+#[tactic(auto, unfolding(crate::specs::ContextReading::definition_at))]
 fn definition_of<'a>(element: &Tlv<'a>) -> Option<Definition<'a>>
     ensures { option_map context result ≡ definition_at (spot element.now) }
 {

@@ -3,6 +3,7 @@
 
 mod contexts;
 mod fault;
+mod laws;
 mod parameters;
 mod pdv;
 mod presentation;
@@ -12,6 +13,9 @@ mod writing;
 
 pub use contexts::Contexts;
 pub use fault::SpFault;
+pub use laws::{
+    a_connection_is_read_back, a_release_is_read_back, data_are_read_back, short_ones_fit,
+};
 pub use pdv::read_data;
 pub use presentation::{Cp, read_ac, read_cp};
 pub use spdu::{Spdu, read_dn, read_spdu};

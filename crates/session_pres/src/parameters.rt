@@ -1,13 +1,13 @@
 ghost use Rattle.std.specs.Prelude.{◌≡◌, ◌≤◌, ◌+◌, ◌==◌, length, is_some, Option, Some, None, IfSome, MatchOption};
 ghost use Rattle.std.specs.Option.{option_map};
 ghost use Rattle.ber_grammar.specs.Place.{piece};
-ghost use Rattle.session_pres.specs.Parameters.{length_at, head_at, parameter_at, parameters_at, is_cut, if_user, user_at};
+ghost use Rattle.session_pres.specs.ParameterReading.{length_at, head_at, parameter_at, parameters_at, is_cut, if_user, user_at};
 ghost use Rattle.session_pres.specs.View.{parameter, parameter_of};
 
 use std::marker::Model;
 
 /// A length, and how many octets it takes (ISO 8327-1, "Structure of SPDUs", LI).
-#[tactic(auto, unfolding(crate::specs::Parameters::length_at))]
+#[tactic(auto, unfolding(crate::specs::ParameterReading::length_at))]
 pub fn length_of(octets: &[u8]) -> Option<(usize, usize)>
     ensures value { result ≡ length_at octets.now }
     ensures bound { IfSome result (λ x. (x.0 ≤ 65535) × (x.1 ≤ 3)) }
@@ -24,7 +24,7 @@ pub fn length_of(octets: &[u8]) -> Option<(usize, usize)>
 }
 
 /// A parameter's code, how many octets stand before its value, and how many the value has.
-#[tactic(auto, unfolding(crate::specs::Parameters::head_at))]
+#[tactic(auto, unfolding(crate::specs::ParameterReading::head_at))]
 fn head_of(octets: &[u8]) -> Option<(u8, usize, usize)>
     ensures value { result ≡ head_at octets.now }
     ensures within { IfSome result (λ h. h.1 + h.2 ≤ length octets.now) }
@@ -40,7 +40,7 @@ fn head_of(octets: &[u8]) -> Option<(u8, usize, usize)>
 }
 
 /// The first parameter's code and value, and what follows it.
-#[tactic(auto, unfolding(crate::specs::Parameters::parameter_at))]
+#[tactic(auto, unfolding(crate::specs::ParameterReading::parameter_at))]
 fn first_parameter(octets: &[u8]) -> Option<(u8, &[u8], &[u8])>
     ensures { option_map parameter result ≡ parameter_at (piece octets.entry) }
 {

@@ -2,7 +2,8 @@ ghost use Rattle.std.specs.Prelude.{◌≡◌, Bool, Option};
 ghost use Rattle.std.specs.Option.{option_map};
 ghost use Rattle.ber_grammar.specs.Place.{piece};
 ghost use Rattle.ber_grammar.specs.Reader.{Gives, Reads};
-ghost use Rattle.session_pres.specs.Units.{begins, counted_at, unit_at, user_of, data_of, transfer_at, spdu_at, IsSpdu, IsSpduRefused, HasUser, IsUserRefused};
+ghost use Rattle.session_pres.specs.Units.{begins, IsSpdu, IsSpduRefused, HasUser, IsUserRefused};
+ghost use Rattle.session_pres.specs.UnitReading.{counted_at, unit_at, user_of, data_of, transfer_at, spdu_at};
 ghost use Rattle.session_pres.specs.View.{seen};
 
 use crate::fault::SpFault;
@@ -43,7 +44,7 @@ fn has_code(code: u8, spdu: &[u8]) -> bool
 }
 
 /// What is behind a length that counts all of it.
-#[tactic(auto, unfolding(crate::specs::Units::counted_at))]
+#[tactic(auto, unfolding(crate::specs::UnitReading::counted_at))]
 fn counted(octets: &[u8]) -> Option<&[u8]>
     ensures { option_map piece result ≡ counted_at (piece octets.entry) }
 {
@@ -55,7 +56,7 @@ fn counted(octets: &[u8]) -> Option<&[u8]>
 }
 
 /// The parameters of an SPDU, if it has this code.
-#[tactic(auto, unfolding(crate::specs::Units::unit_at))]
+#[tactic(auto, unfolding(crate::specs::UnitReading::unit_at))]
 fn parameters_of(code: u8, spdu: &[u8]) -> Option<&[u8]>
     ensures { option_map piece result ≡ unit_at code (piece spdu.entry) }
 {
@@ -66,7 +67,7 @@ fn parameters_of(code: u8, spdu: &[u8]) -> Option<&[u8]>
 }
 
 /// The user data that an SPDU of this code may have.
-#[tactic(auto, unfolding(crate::specs::Units::user_of))]
+#[tactic(auto, unfolding(crate::specs::UnitReading::user_of))]
 pub fn user_data_of(code: u8, spdu: &[u8]) -> Result<Option<&[u8]>, SpFault>
     ensures { Gives (λ user. option_map piece user) result (user_of code (piece spdu.entry)) }
 {
@@ -77,7 +78,7 @@ pub fn user_data_of(code: u8, spdu: &[u8]) -> Result<Option<&[u8]>, SpFault>
 }
 
 /// The user data that an SPDU of this code must have.
-#[tactic(auto, unfolding(crate::specs::Units::data_of))]
+#[tactic(auto, unfolding(crate::specs::UnitReading::data_of))]
 pub fn connect_data_of(code: u8, spdu: &[u8]) -> Result<&[u8], SpFault>
     ensures { Gives piece result (data_of code (piece spdu.entry)) }
 {
@@ -85,7 +86,7 @@ pub fn connect_data_of(code: u8, spdu: &[u8]) -> Result<&[u8], SpFault>
 }
 
 /// What is behind an empty GIVE TOKENS and an empty DATA TRANSFER.
-#[tactic(auto, unfolding(crate::specs::Units::transfer_at))]
+#[tactic(auto, unfolding(crate::specs::UnitReading::transfer_at))]
 fn transferred(spdu: &[u8]) -> Option<Spdu<'_>>
     ensures { option_map seen result ≡ transfer_at (piece spdu.entry) }
 {
@@ -95,7 +96,7 @@ fn transferred(spdu: &[u8]) -> Option<Spdu<'_>>
     }
 }
 
-#[tactic(auto, unfolding(crate::specs::Units::spdu_at))]
+#[tactic(auto, unfolding(crate::specs::UnitReading::spdu_at))]
 fn spdu_of(spdu: &[u8]) -> Result<Spdu<'_>, SpFault>
     ensures { Gives seen result (spdu_at (piece spdu.entry)) }
 {

@@ -1,7 +1,8 @@
 ghost use Rattle.std.specs.Prelude.{◌≡◌, ◌+◌, ◌<◌, ◌≤◌, ◌^◌, ◌++◌, length, OnOk, IfOk};
 ghost use Rattle.std.specs.List.{flat_map};
 ghost use Rattle.ber_write.specs.Minimal.{octets_of, uint_octets};
-ghost use Rattle.session_pres.specs.Written.{pdv_fields, pdv_list, user_octets, element_length, length_field, field, data_spdu, release_spdu, accept_parameters, accept_spdu, connect_item, set_content, ppdu, result_octets, cpa_parameters, cpa_octets, cp_head, cp_octets, connect_parameters, connect_spdu};
+ghost use Rattle.session_pres.specs.Written.{pdv_fields, pdv_list, user_octets, element_length, length_field, field, data_spdu, release_spdu, accept_parameters, accept_spdu, connect_item};
+ghost use Rattle.session_pres.specs.WrittenPpdu.{set_content, ppdu, result_octets, cpa_parameters, cpa_octets, cp_head, cp_octets, connect_parameters, connect_spdu};
 
 use crate::contexts::Contexts;
 use crate::presentation::Cp;
@@ -82,7 +83,7 @@ fn with_field(alloc: Global, head: &[u8], code: u8, value: &[u8]) -> Result<Vec<
 }
 
 /// A SET with the normal mode and its parameters.
-#[tactic(auto, unfolding(crate::specs::Written::ppdu, crate::specs::Written::set_content))]
+#[tactic(auto, unfolding(crate::specs::WrittenPpdu::ppdu, crate::specs::WrittenPpdu::set_content))]
 fn ppdu_of(alloc: Global, parameters: &[u8]) -> Result<Vec<u8>, AllocError>
     requires { length (set_content parameters.now) < 2 ^ 32 }
     ensures { IfOk result (λ v. v.items ≡ ppdu parameters.now) }
@@ -116,7 +117,8 @@ fn put_results(out: &mut Vec<u8>, contexts: &Contexts) -> Result<(), AllocError>
     Ok(())
 }
 
-/// User data in a SPDU that carries data (ISO 8327-1, "DATA TRANSFER"): one PDV with this value in this context.
+/// An SPDU that carries data (ISO 8327-1, "DATA TRANSFER"): its user data are one PDV, with this value in this context. No
+/// content of an element in it is above 4294967295 octets.
 #[tactic(auto, unfolding(crate::specs::Written::data_spdu))]
 pub fn write_data(alloc: Global, context: u32, pdu: &[u8]) -> Result<Octs, AllocError>
     requires { length (pdv_list context pdu.now) < 2 ^ 32 }
@@ -171,7 +173,7 @@ pub fn write_ac(alloc: Global, cpa: &[u8]) -> Result<Octs, AllocError>
 
 /// The CPA (ISO 8823-1, "CPA-PPDU") that answers a CP: a result for each of the client's contexts in its place, BER for the
 /// two that are accepted, and this APDU in the context of ACSE.
-#[tactic(auto, unfolding(crate::specs::Written::cpa_octets, crate::specs::Written::cpa_parameters))]
+#[tactic(auto, unfolding(crate::specs::WrittenPpdu::cpa_octets, crate::specs::WrittenPpdu::cpa_parameters))]
 pub fn write_cpa(alloc: Global, cp: &Cp<'_>, aare: &[u8]) -> Result<Octs, AllocError>
     requires { length (set_content (cpa_parameters cp.now.list cp.now.acse aare.now)) < 2 ^ 32 }
     ensures { IfOk result (λ o. o ≡ cpa_octets cp.now.list cp.now.acse aare.now) }
@@ -187,7 +189,7 @@ pub fn write_cpa(alloc: Global, cp: &Cp<'_>, aare: &[u8]) -> Result<Octs, AllocE
 /// A CONNECT (ISO 8327-1) with version 2, the duplex functional unit, both session selectors 1, and a CP (ISO 8823-1,
 /// "CP-type") that offers with BER the contexts 1, of ACSE, and 3, of MMS, and has this APDU in the first. Its length is at
 /// most 65535.
-#[tactic(auto, unfolding(crate::specs::Written::connect_spdu, crate::specs::Written::connect_parameters, crate::specs::Written::cp_octets))]
+#[tactic(auto, unfolding(crate::specs::WrittenPpdu::connect_spdu, crate::specs::WrittenPpdu::connect_parameters, crate::specs::WrittenPpdu::cp_octets))]
 pub fn write_cn(alloc: Global, aarq: &[u8]) -> Result<Octs, AllocError>
     requires { length (connect_parameters aarq.now) ≤ 65535 }
     ensures { IfOk result (λ o. o ≡ connect_spdu aarq.now) }

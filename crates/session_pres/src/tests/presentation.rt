@@ -1,6 +1,6 @@
 use super::super::*;
 use super::octets::{ACCEPT, CONNECT, DATA, OTHER_CONNECT};
-use super::{are, ends};
+use super::{ac, are, cn, cpa, disconnect, ends, finish, sent};
 use std::test::*;
 
 fn connected<'a>(spdu: &'a [u8]) -> Option<&'a [u8]> {
@@ -25,11 +25,11 @@ fn a_connection_of_one_client(rt: HostRuntime) -> Result<(), Fail> {
     );
     assert!(rt; !cp.list.is_empty());
     assert!(rt; ends(&CONNECT, cp.user, 64));
-    assert!(rt; are(&write_cn(rt.alloc(), cp.user)?, &CONNECT));
+    assert!(rt; are(&cn(&rt, cp.user)?, &CONNECT));
     let aare = &ACCEPT[54..];
-    let cpa = write_cpa(rt.alloc(), &cp, aare)?;
-    assert!(rt; are(&cpa, &ACCEPT[16..]));
-    assert!(rt; are(&write_ac(rt.alloc(), cpa.as_slice())?, &ACCEPT));
+    let answer = cpa(&rt, &cp, aare)?;
+    assert!(rt; are(&answer, &ACCEPT[16..]));
+    assert!(rt; are(&ac(&rt, answer.as_slice())?, &ACCEPT));
     assert!(rt; ends(&ACCEPT, read_ac(&ACCEPT)?, 76));
     Ok(())
 }
@@ -49,10 +49,10 @@ fn a_connection_of_another_client(rt: HostRuntime) -> Result<(), Fail> {
     );
     assert!(rt; ends(&OTHER_CONNECT, cp.user, 40));
     // the answer names the client's number, and a result for each context in its place
-    let cpa = write_cpa(rt.alloc(), &cp, &[0x61, 0])?;
+    let answer = cpa(&rt, &cp, &[0x61, 0])?;
     assert!(rt;
         are(
-            &cpa,
+            &answer,
             &[
                 0x31, 0x2c, 0xa0, 3, 0x80, 1, 1, 0xa2, 0x25, 0xa5, 0x17, 0x30, 7, 0x80, 1, 0, 0x81,
                 2, 0x51, 1, 0x30, 7, 0x80, 1, 0, 0x81, 2, 0x51, 1, 0x30, 3, 0x80, 1, 1, 0x61, 0x0a,
@@ -72,7 +72,7 @@ fn data_both_ways(rt: HostRuntime) -> Result<(), Fail> {
     let (context, report) = read_data(user)?;
     assert_eq!(rt; context, 3);
     assert!(rt; ends(&DATA, report, 61));
-    assert!(rt; are(&write_data(rt.alloc(), 3, report)?, &DATA));
+    assert!(rt; are(&sent(&rt, 3, report)?, &DATA));
     // a transfer syntax is skipped, and a context may have any number of 32 bits
     let other = [
         0x61, 0x12, 0x30, 0x10, 6, 2, 0x51, 1, 2, 5, 0, 255, 255, 255, 255, 0xa0, 3, 0xa0, 1, 0,
@@ -91,8 +91,8 @@ fn a_release_both_ways(rt: HostRuntime) -> Result<(), Fail> {
     let answer = [
         10, 0x10, 0xc1, 0x0e, 0x61, 0x0c, 0x30, 0x0a, 2, 1, 1, 0xa0, 5, 0x63, 3, 0x80, 1, 0,
     ];
-    assert!(rt; are(&write_fn(rt.alloc(), 1, &[0x62, 3, 0x80, 1, 0])?, &asked));
-    assert!(rt; are(&write_dn(rt.alloc(), 1, &[0x63, 3, 0x80, 1, 0])?, &answer));
+    assert!(rt; are(&finish(&rt, 1, &[0x62, 3, 0x80, 1, 0])?, &asked));
+    assert!(rt; are(&disconnect(&rt, 1, &[0x63, 3, 0x80, 1, 0])?, &answer));
     assert!(rt;
         matches!(read_spdu(&asked), Ok(Spdu::Finish(Some(user))) if ends(&asked, user, 14))
     );

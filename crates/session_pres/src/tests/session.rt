@@ -1,5 +1,5 @@
 use super::super::*;
-use super::ends;
+use super::{ends, finish};
 use std::alloc::AllocError;
 use std::test::*;
 
@@ -98,7 +98,7 @@ fn long_lengths(rt: HostRuntime) -> Result<(), Fail> {
     }
     // an APDU of 300 octets, written with long lengths in both layers
     let apdu = finish_of(&rt, &[0x62, 0x82, 1, 0x28], 296)?;
-    let written = write_fn(rt.alloc(), 1, &apdu)?;
+    let written = finish(&rt, 1, &apdu)?;
     let head = [
         9, 255, 1, 63, 0xc1, 255, 1, 59, 0x61, 0x82, 1, 55, 0x30, 0x82, 1, 51, 2, 1, 1, 0xa0, 0x82,
         1, 44,

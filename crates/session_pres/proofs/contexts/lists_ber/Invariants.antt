@@ -1,5 +1,5 @@
 use Rattle.std.proofs.Common.{◌≡◌}
-use Rattle.session_pres.specs.ContextList.{has_ber}
+use Rattle.session_pres.specs.ContextReading.{has_ber}
 use Rattle.session_pres.proofs.contexts.lists_ber.Given as goal
 
 abbrev pub invariant-loop-syntax : goal.invariant-loop-syntax

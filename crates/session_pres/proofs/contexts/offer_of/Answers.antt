@@ -1,7 +1,8 @@
-use Rattle.std.proofs.Common.{List, Option, Some, sym, ap, ◌∙◌, arith, refl}
+use Rattle.std.proofs.Common.{List, Option, sym, ap, ◌∙◌, arith, refl}
 use Rattle.std.specs.Option.{option_map}
-use Rattle.session_pres.specs.ContextList.{Context, offered, Offered}
-use Rattle.session_pres.proofs.ContextLaws.{ListGoes-none, ListGoes-more, ListGoes-refused, ListGoes-all, ListGoes-room, ListGoes-same, elements_few, list_none, list_at}
+use Rattle.session_pres.specs.ContextList.{Context}
+use Rattle.session_pres.specs.ContextReading.{offered}
+use Rattle.session_pres.proofs.ContextLaws.{ListGoes-more, ListGoes-refused, ListGoes-all, ListGoes-room, ListGoes-same, elements_few, list_none, list_at}
 use Rattle.session_pres.proofs.contexts.offer_of.Goals as goal
 
 pub returns-in_err-elements : goal.returns-in_err-elements

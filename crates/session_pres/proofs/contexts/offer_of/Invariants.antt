@@ -1,5 +1,4 @@
 use Rattle.std.specs.Option.{option_map}
-use Rattle.session_pres.specs.ContextList.{Offered}
 use Rattle.session_pres.specs.ViewOfContexts.{candidate}
 use Rattle.session_pres.proofs.ContextLaws.{ListGoes}
 use Rattle.session_pres.proofs.contexts.offer_of.Given as goal

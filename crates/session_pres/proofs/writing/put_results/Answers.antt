@@ -1,6 +1,4 @@
-use Rattle.std.proofs.Common.{List, ℕ, ◌++◌, sym, ap, ◌∙◌, append_assoc, take, arith}
-use Rattle.std.specs.List.{flat_map}
-use Rattle.session_pres.specs.Written.{result_octets}
+use Rattle.std.proofs.Common.{arith}
 use Rattle.session_pres.proofs.WritingLaws.{results_more}
 use Rattle.session_pres.proofs.writing.put_results.Goals as goal
 

@@ -1,6 +1,6 @@
 use Rattle.std.proofs.Common.{◌≡◌, ◌++◌, take}
 use Rattle.std.specs.List.{flat_map}
-use Rattle.session_pres.specs.Written.{result_octets}
+use Rattle.session_pres.specs.WrittenPpdu.{result_octets}
 use Rattle.session_pres.proofs.writing.put_results.Given as goal
 
 abbrev pub invariant-loop-place : goal.invariant-loop-place

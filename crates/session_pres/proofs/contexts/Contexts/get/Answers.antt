@@ -1,4 +1,4 @@
-use Rattle.std.proofs.Common.{List, Bool, Some, sym, ap, ◌∙◌, zero-add, refl}
+use Rattle.std.proofs.Common.{List, Bool, sym, ap, ◌∙◌, zero-add, refl}
 use Rattle.std.specs.Prelude.{slice_get}
 use Rattle.session_pres.proofs.ContextLaws.{flag_there, no_flag}
 use Rattle.session_pres.proofs.contexts.Contexts.get.Goals as goal

@@ -1,0 +1,5 @@
+use Rattle.session_pres.proofs.ReadBackLaws.{release_back}
+use Rattle.session_pres.proofs.laws.a_release_is_read_back.Goals as goal
+
+pub returns : goal.returns
+returns c = record { finish = release_back 9; disconnect = release_back 10 }

@@ -1,0 +1,5 @@
+use Rattle.session_pres.proofs.ReadBackLaws.{data_back}
+use Rattle.session_pres.proofs.laws.data_are_read_back.Goals as goal
+
+pub returns : goal.returns
+returns c = data_back

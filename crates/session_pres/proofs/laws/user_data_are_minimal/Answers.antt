@@ -1,0 +1,6 @@
+use Rattle.session_pres.proofs.ShortestLaws.{user_least}
+use Rattle.session_pres.proofs.FieldLaws.{one_length}
+use Rattle.session_pres.proofs.laws.user_data_are_minimal.Goals as goal
+
+pub returns : goal.returns
+returns c = record { least = user_least; lengths = one_length }
