@@ -1,0 +1,104 @@
+-- What is written, part by part.
+use Rattle.std.proofs.Common.{◌≡◌, ℕ, zero, suc, ◌+◌, ◌<◌, ◌≤◌, ◌^◌, Bool, false, cond, ltb, List, [], ◌∷◌, ◌++◌, length, take, Option, Some, Result, Ok, Err, refl, sym, ap, ◌∙◌, append_assoc, append-nil, arith}
+use Rattle.std.specs.Prelude.{OnOk, slice_get, unwrap_or}
+use Rattle.std.specs.List.{flat_map}
+use Rattle.std.specs.declared.alloc.AllocError.{AllocError}
+use Rattle.std.proofs.lemmas.Bool.{lt-ltb}
+use Rattle.std.proofs.lemmas.List.{length-append}
+use Rattle.ber_write.specs.Minimal.{tag_octets, length_octets, head_octets, octets_of, uint_octets}
+use Rattle.session_pres.specs.Written.{element_length, pdv_fields, pdv_list, user_octets, length_field, field, accept_item, accept_parameters, connect_item, normal_mode, set_content, ppdu, result_octets, cpa_parameters, cp_head, cp_octets, connect_parameters}
+
+pub length-octets_of : (tag : ℕ) (content : List ℕ) → tag < 256 → length (octets_of tag content) ≡ element_length (length content)
+unfolding element_length
+length-octets_of tag content lt =
+    let one : tag_octets tag ≡ tag ∷ [] = rw (lt-ltb tag 256 lt) refl in
+    let count : length (tag_octets tag) ≡ 1 = ap (λ (x : List ℕ). length x) one in
+    omega (arith, count, length-append (tag_octets tag) (length_octets (length content) ++ content), length-append (length_octets (length content)) content)
+
+-- an element is its head, and its content
+octets_of-head : (tag : ℕ) (content : List ℕ) → octets_of tag content ≡ head_octets tag (length content) ++ content
+octets_of-head tag content = sym (append_assoc (tag_octets tag) (length_octets (length content)) content)
+
+regroup : (old a b c d : List ℕ) → (((old ++ a) ++ b) ++ c) ++ d ≡ old ++ (a ++ (b ++ (c ++ d)))
+regroup old a b c d = simp append_assoc
+
+user_is : (context : ℕ) (value : List ℕ) (len total : ℕ) → len ≡ length (pdv_fields context value) → total ≡ element_length len
+    → head_octets 97 total ++ (head_octets 48 len ++ (octets_of 2 (uint_octets context) ++ octets_of 160 value)) ≡ user_octets context value
+unfolding user_octets pdv_list pdv_fields
+user_is context value len total p q =
+    let count : total ≡ length (pdv_list context value) = q ∙ ap element_length p ∙ sym (length-octets_of 48 (pdv_fields context value) (omega arith)) in
+    rw (count, p) (ap (λ (x : List ℕ). head_octets 97 (length (pdv_list context value)) ++ x) (sym (octets_of-head 48 (pdv_fields context value))) ∙ sym (octets_of-head 97 (pdv_list context value)))
+
+pub user_written : {A : Type 0} (r : Result A AllocError) (old a b c new value : List ℕ) (n context len total : ℕ) → a ≡ old ++ head_octets 97 total → b ≡ a ++ head_octets 48 len → c ≡ b ++ octets_of 2 (uint_octets n)
+    → n ≡ context → len ≡ length (pdv_fields context value) → total ≡ element_length len → OnOk r (new ≡ c ++ octets_of 160 value) → OnOk r (new ≡ old ++ user_octets context value)
+user_written (Ok x) old a b c new value n context len total p q s same count all h =
+    h ∙ rw (s, q, p, same) (regroup old (head_octets 97 total) (head_octets 48 len) (octets_of 2 (uint_octets context)) (octets_of 160 value) ∙ ap (λ (x : List ℕ). old ++ x) (user_is context value len total count all))
+user_written (Err f) old a b c new value n context len total p q s same count all h = h
+
+-- ---- one result more
+
+pub flat-one_more : (bs : List Bool) (i : ℕ) → i < length bs → flat_map result_octets (take (suc i) bs) ≡ flat_map result_octets (take i bs) ++ result_octets (unwrap_or (slice_get bs i) false)
+flat-one_more [] i lt = absurd (omega (arith, lt))
+flat-one_more (c ∷ bs) zero lt = append-nil (result_octets c)
+flat-one_more (c ∷ bs) (suc i) lt = ap (λ (x : List ℕ). result_octets c ++ x) (flat-one_more bs i (omega (arith, lt))) ∙ sym (append_assoc (result_octets c) (flat_map result_octets (take i bs)) (result_octets (unwrap_or (slice_get bs i) false)))
+
+-- ---- the parts fit where the whole does
+
+within : (tag : ℕ) (content : List ℕ) → length content ≤ length (octets_of tag content)
+within tag content = omega (arith, length-append (tag_octets tag) (length_octets (length content) ++ content), length-append (length_octets (length content)) content)
+
+field_within : (code : ℕ) (value : List ℕ) → length value ≤ length (field code value)
+unfolding field
+field_within code value = omega (arith, length-append (length_field (length value)) value)
+
+user_within : (context : ℕ) (value : List ℕ) → length (pdv_list context value) ≤ length (user_octets context value)
+unfolding user_octets
+user_within context value = within 97 (pdv_list context value)
+
+pub field_fits : (code : ℕ) (value : List ℕ) → length (field code value) ≤ 65535 → length value ≤ 65535
+field_fits code value fits = omega (arith, field_within code value)
+
+pub release_fits : (context : ℕ) (value : List ℕ) → length (field 193 (user_octets context value)) ≤ 65535 → length (pdv_list context value) < 2 ^ 32
+release_fits context value fits = omega (arith, field_within 193 (user_octets context value), user_within context value)
+
+pub accept_fits : (cpa : List ℕ) → length (accept_parameters cpa) ≤ 65535 → length cpa ≤ 65535
+unfolding accept_parameters
+accept_fits cpa fits = omega (arith, length-append accept_item (field 193 cpa), field_within 193 cpa)
+
+ppdu_within : (parameters : List ℕ) → length (set_content parameters) ≤ length (ppdu parameters)
+unfolding ppdu
+ppdu_within parameters = within 49 (set_content parameters)
+
+set_within : (parameters : List ℕ) → length parameters ≤ length (set_content parameters)
+unfolding set_content
+set_within parameters = omega (arith, length-append normal_mode (octets_of 162 parameters), within 162 parameters)
+
+pub connect_fits : (aarq : List ℕ) → length (connect_parameters aarq) ≤ 65535 → (length (ppdu (cp_head ++ user_octets 1 aarq)) ≤ 65535) × (length (set_content (cp_head ++ user_octets 1 aarq)) < 2 ^ 32) × (length (pdv_list 1 aarq) < 2 ^ 32) × (length (connect_item ++ field 193 (ppdu (cp_head ++ user_octets 1 aarq))) ≤ 65535)
+unfolding connect_parameters cp_octets
+connect_fits aarq fits =
+    let user = cp_head ++ user_octets 1 aarq in
+    let cp : length (ppdu user) ≤ 65535 = omega (arith, length-append connect_item (field 193 (ppdu user)), field_within 193 (ppdu user)) in
+    (cp, omega (arith, cp, ppdu_within user), omega (arith, cp, ppdu_within user, set_within user, length-append cp_head (user_octets 1 aarq), user_within 1 aarq), fits)
+
+pub cpa_fits : (list : List Bool) (context : ℕ) (aare : List ℕ) → length (set_content (cpa_parameters list context aare)) < 2 ^ 32 → (length (flat_map result_octets list) < 2 ^ 32) × (length (pdv_list context aare) < 2 ^ 32)
+unfolding cpa_parameters
+cpa_fits list context aare fits =
+    let parts = length-append (octets_of 165 (flat_map result_octets list)) (user_octets context aare) in
+    let whole = set_within (octets_of 165 (flat_map result_octets list) ++ user_octets context aare) in
+    (omega (arith, fits, whole, parts, within 165 (flat_map result_octets list)), omega (arith, fits, whole, parts, user_within context aare))
+
+pub pdv_list-length : (context : ℕ) (value : List ℕ) → length (pdv_list context value) ≡ element_length (length (pdv_fields context value))
+unfolding pdv_list
+pdv_list-length context value = length-octets_of 48 (pdv_fields context value) (omega arith)
+
+pub value_fits : (context : ℕ) (value : List ℕ) → length (pdv_list context value) < 2 ^ 32 → length value < 2 ^ 32
+unfolding pdv_list pdv_fields
+value_fits context value fits = omega (arith, fits, within 48 (octets_of 2 (uint_octets context) ++ octets_of 160 value), length-append (octets_of 2 (uint_octets context)) (octets_of 160 value), within 160 value)
+
+-- the loop over the results
+pub results_more : (bs : List Bool) (i : ℕ) (found : Option Bool) (b : Bool) (before old new : List ℕ) (octets : List ℕ) → i < length bs → old ≡ before ++ flat_map result_octets (take i bs)
+    → found ≡ slice_get bs i → b ≡ unwrap_or found false → octets ≡ result_octets b → new ≡ old ++ octets → new ≡ before ++ flat_map result_octets (take (i + 1) bs)
+results_more bs i found b before old new octets lt h at is said all =
+    let one : suc i ≡ i + 1 = omega arith in
+    all ∙ rw (h, said, is, at) (append_assoc before (flat_map result_octets (take i bs)) (result_octets (unwrap_or (slice_get bs i) false))
+    ∙ ap (λ (x : List ℕ). before ++ x) (sym (flat-one_more bs i lt)) ∙ ap (λ (n : ℕ). before ++ flat_map result_octets (take n bs)) one)

@@ -1,0 +1,8 @@
+use Rattle.std.proofs.Common.{List, ℕ, ◌++◌, sym, ap, ◌∙◌, append_assoc, take, arith}
+use Rattle.std.specs.List.{flat_map}
+use Rattle.session_pres.specs.Written.{result_octets}
+use Rattle.session_pres.proofs.WritingLaws.{results_more}
+use Rattle.session_pres.proofs.writing.put_results.Goals as goal
+
+pub loop-place-preserved : goal.loop-place-preserved
+loop-place-preserved c = results_more _ _ _ _ _ _ _ _ (omega arith) c.loop-place.invariant c.get.ensures c.unwrap_or-accepted.ensures c.result_of.ensures c.in_ok-extend_from_slice.ensures.items

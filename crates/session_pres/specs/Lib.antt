@@ -1,0 +1,11 @@
+pub mod Steps
+pub mod Places
+pub mod Parameters
+pub mod Units
+pub mod UserData
+pub mod ContextList
+pub mod Presentation
+pub mod PresentationReading
+pub mod Written
+pub mod View
+pub mod ViewOfContexts
