@@ -329,3 +329,10 @@ read_refused input fits f (inr (e, s, h)) = rw (spelled_first input e s, refused
 
 pub read_exact : (input : List ℕ) → IsBytes input → Reads (λ (s : Seen). s) (read_at input) (IsSpelled input) (IsDataRefused input)
 read_exact input fits = exact_from (read_at input) (IsSpelled input) (IsDataRefused input) (ReadTells input) (λ s h. h) (λ f h. h) (read_tells input fits) (read_again input fits) (read_refused input fits)
+
+pub data_exact : (n : ℕ) (e : Element) → IsBytes e.content → Reads (λ (s : Seen). s) (data_at n e) (IsWithin n e) (IsRefusedData n e)
+data_exact n e fits = exact_from (data_at n e) (IsWithin n e) (IsRefusedData n e) (DataTells n e) (λ s h. h) (λ f h. h) (data_tells n e fits) (λ s h. data_again n e s fits h) (λ f h. refused_again n e f fits h)
+
+pub read_is_data : (input : List ℕ) (e : Element) → Spells input e → read_at input ≡ data_at 10 e
+unfolding read_at
+read_is_data input e s = rw (spelled_first input e s) refl

@@ -1,5 +1,6 @@
 pub mod ContentLaws
 pub mod DataLaws
+pub mod ViewLaws
 pub mod GrammarLaws
 pub mod MinimalLaws
 pub mod WritingLaws

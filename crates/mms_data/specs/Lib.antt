@@ -1,4 +1,5 @@
 pub mod Grammar
 pub mod Reading
+pub mod View
 pub mod Writable
 pub mod TypeOctets

@@ -7,6 +7,7 @@ ghost use Rattle.sv_base.specs.Data.{data_of, data_seen};
 ghost use Rattle.sv_base.specs.Depth.{depth, HasNoOther, SeenHasNoOther};
 ghost use Rattle.sv_base.specs.declared.value.Value.{Value};
 ghost use Rattle.mms_data.specs.Grammar.{IsData, IsWithin, IsSpelled};
+ghost use Rattle.mms_data.specs.Reading.{data_at, read_at};
 ghost use Rattle.sv_base.specs.declared.types.TypeOf.{TypeOf};
 ghost use Rattle.mms_data.specs.TypeOctets.{type_of, FitsType};
 ghost use Rattle.mms_data.specs.Writable.{Fits, SeenHasFractions, SeenIsOfTypes};
@@ -35,4 +36,9 @@ pub fn types_are_elements()
 pub fn short_ones_fit()
     ensures values { (v : Value) → length (data_of v) < 2 ^ 32 → SeenHasFractions (seen_of v) → Fits v }
     ensures types { (t : TypeOf) → length (type_of t) < 2 ^ 32 → FitsType t }
+{}
+
+/// Octets that are one element are read as the element is, so that they have a view where they have a value.
+pub fn elements_are_read_as_octets_are()
+    ensures { (octets : List ℕ) (e : Element) → Spells octets e → read_at octets ≡ data_at 10 e }
 {}

@@ -13,7 +13,7 @@ use std::alloc::Global;
 use sv_base::{Value, Values};
 
 /// Whether the class of a tag is context-specific (X.690, 8.1.2.2).
-fn has_context(tag: u32) -> bool
+pub(crate) fn has_context(tag: u32) -> bool
     ensures { result ≡ is_context tag }
 {
     let octet = if tag < 256 {
@@ -27,7 +27,7 @@ fn has_context(tag: u32) -> bool
 }
 
 #[cycle(data)]
-fn value_of(alloc: Global, depth: u8, part: &Tlv<'_>) -> Result<Value, DataFault>
+pub(crate) fn value_of(alloc: Global, depth: u8, part: &Tlv<'_>) -> Result<Value, DataFault>
     ensures { GivesOrMemory fault_of seen_of result (data_at depth (element part.now)) }
 {
     if !has_context(part.tag) {

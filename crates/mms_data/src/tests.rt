@@ -6,6 +6,7 @@ ghost use Rattle.sv_base.specs.Seen.{seen_of};
 ghost use Rattle.mms_data.specs.Writable.{SeenHasFractions};
 
 use super::*;
+use ber_view::first;
 use std::alloc::{AllocError, Global};
 use std::test::Fail;
 use sv_base::{Bits, Octs, Part1, Parts, Stamp, TypeOf, Utc, Value, Values};
@@ -165,6 +166,26 @@ fn readings(rt: HostRuntime) -> Result<(), Fail> {
         let want = format!(in rt.alloc(); "Ok({want})")?;
         assert_eq!(rt; text, want);
     }
+    Ok(())
+}
+
+#[test]
+fn views(rt: HostRuntime) -> Result<(), Fail> {
+    for (octets, want) in READINGS {
+        let (part, _) = first(octets)?;
+        let view = view_data(&part)?;
+        let value = view.value(rt.alloc())?;
+        let text = format!(in rt.alloc(); "{value:?}")?;
+        assert!(rt; text.as_str() == want, "{octets:?}");
+    }
+    // what is one whole element is refused as its octets are
+    for (octets, fault) in REFUSALS {
+        if let Ok((part, [])) = first(octets) {
+            assert_eq!(rt; view_data(&part).err(), Some(fault), "{octets:?}");
+        }
+    }
+    let (part, _) = first(&NESTED)?;
+    assert!(rt; view_data(&part).is_ok());
     Ok(())
 }
 

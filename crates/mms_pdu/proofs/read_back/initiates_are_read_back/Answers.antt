@@ -1,0 +1,12 @@
+use Rattle.mms_pdu.proofs.InitiateOctetsLaws as laws
+use Rattle.mms_pdu.proofs.InitiateLaws.{one_initiate}
+use Rattle.mms_pdu.proofs.read_back.initiates_are_read_back.Goals as goal
+
+pub returns : goal.returns
+returns c = record {
+  answer = λ asked least. laws.answer_spelled asked;
+  answer_again = laws.answer_again;
+  request = λ size least most. laws.request_spelled size most;
+  request_again = laws.request_again;
+  one = one_initiate;
+}

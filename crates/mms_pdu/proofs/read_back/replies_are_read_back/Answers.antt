@@ -1,0 +1,11 @@
+use Rattle.mms_pdu.proofs.ReplyOctetsLaws as laws
+use Rattle.mms_pdu.proofs.read_back.replies_are_read_back.Goals as goal
+
+pub returns : goal.returns
+returns c = record {
+  answer = laws.answer_spelled;
+  error = laws.error_spelled;
+  reject = λ invoke refusal small can. laws.reject_spelled invoke refusal small;
+  report = laws.report_spelled;
+  concluded = laws.concluded_spelled;
+}

@@ -1,0 +1,130 @@
+ghost use Rattle.std.specs.Prelude.{◌≡◌, is_some, IfOk};
+ghost use Rattle.std.specs.List.{list_all};
+ghost use Rattle.ber_grammar.specs.Place.{piece};
+ghost use Rattle.ber_grammar.specs.Reader.{and_then};
+ghost use Rattle.ber_view.specs.View.{spot};
+ghost use Rattle.ber_write.specs.Minimal.{CanBeTag};
+ghost use Rattle.mms_pdu.specs.Access.{access_at};
+ghost use Rattle.mms_pdu.specs.Fields.{only_in};
+ghost use Rattle.mms_pdu.specs.Answer.{IsAnswerBody, is_result, is_written, is_specification, are_results, is_read_answer, is_answer_body};
+ghost use Rattle.mms_pdu.specs.ReplyOctets.{answer_octets};
+
+use crate::access::access_of;
+use crate::element::{add, enclosed};
+use crate::fields::{fields_of, only_of};
+use crate::tagged::octet_of;
+use ber_view::{Elements, Tlv};
+use ber_write::put_uint;
+use mms_data::view_data;
+use std::alloc::{AllocError, Global};
+use sv_base::Octs;
+
+/// Whether an element is the result of a read variable: a failure or Data.
+#[tactic(auto, unfolding(crate::specs::Answer::is_result))]
+fn is_read_result(field: &Tlv<'_>) -> bool
+    ensures { result ≡ is_result (spot field.now) }
+{
+    if field.tag == 0x80 {
+        return octet_of(field.content).is_some();
+    }
+    view_data(field).is_ok()
+}
+
+/// Whether an element is the result of a written variable: a failure or success.
+#[tactic(auto, unfolding(crate::specs::Answer::is_written))]
+fn is_write_result(field: &Tlv<'_>) -> bool
+    ensures { result ≡ is_written (spot field.now) }
+{
+    if field.tag == 0x80 {
+        return octet_of(field.content).is_some();
+    }
+    field.tag == 0x81 && field.content.is_empty()
+}
+
+fn are_read_results(mut fields: Elements<'_>) -> bool
+    ensures { result ≡ list_all is_result fields.entry }
+{
+    fields.all(|field| is_read_result(&field))
+}
+
+fn are_write_results(mut fields: Elements<'_>) -> bool
+    ensures { result ≡ list_all is_written fields.entry }
+{
+    fields.all(|field| is_write_result(&field))
+}
+
+/// What was read, by the content of its element.
+fn access_in(content: &[u8]) -> bool
+    ensures { result ≡ is_some (and_then (only_in (piece content.entry)) access_at) }
+{
+    match only_of(content) {
+        Some(access) => access_of(&access).is_some(),
+        None => false,
+    }
+}
+
+/// Whether an element says what was read.
+#[tactic(auto, unfolding(crate::specs::Answer::is_specification))]
+fn specifies(field: &Tlv<'_>) -> bool
+    ensures { result ≡ is_specification (spot field.now) }
+{
+    field.tag == 0xa0 && access_in(field.content)
+}
+
+/// Whether an element holds the results of a read.
+#[tactic(auto, unfolding(crate::specs::Answer::are_results))]
+fn holds_results(field: &Tlv<'_>) -> bool
+    ensures { result ≡ are_results (spot field.now) }
+{
+    if field.tag != 0xa1 {
+        return false;
+    }
+    match fields_of(field.content) {
+        Some(results) => are_read_results(results),
+        None => false,
+    }
+}
+
+fn answers_read(mut fields: Elements<'_>) -> bool
+    ensures { result ≡ is_read_answer fields.entry }
+{
+    let Some(first) = fields.next() else {
+        return false;
+    };
+    let Some(second) = fields.next() else {
+        return holds_results(&first);
+    };
+    fields.next().is_none() && specifies(&first) && holds_results(&second)
+}
+
+/// Whether a body is of the form that belongs to its tag.
+#[tactic(auto, unfolding(crate::specs::Answer::is_answer_body))]
+pub(crate) fn has_form(tag: u32, body: &[u8]) -> bool
+    ensures { result ≡ is_answer_body tag (piece body.entry) }
+{
+    if tag != 0xa4 && tag != 0xa5 {
+        return true;
+    }
+    let Some(fields) = fields_of(body) else {
+        return false;
+    };
+    if tag == 0xa4 {
+        answers_read(fields)
+    } else {
+        are_write_results(fields)
+    }
+}
+
+/// The answer to a request (ISO 9506-2, Confirmed-ResponsePDU, tag A1): the invoke number, and the element of the service
+/// with this tag and this content. That of a read, A4, and of a write, A5, is of its form.
+#[tactic(auto, unfolding(crate::specs::ReplyOctets::answer_octets))]
+pub fn write_answer(alloc: Global, invoke: u32, tag: u32, body: &[u8]) -> Result<Octs, AllocError>
+    requires tag { CanBeTag tag }
+    requires body { IsAnswerBody tag body.now }
+    ensures { IfOk result (λ o. o ≡ answer_octets invoke tag body.now) }
+{
+    let mut content = Vec::new(alloc);
+    put_uint(&mut content, 0x02, u64::from(invoke))?;
+    add(&mut content, tag, body)?;
+    Ok(Octs::from_vec(enclosed(alloc, 0xa1, &content)?))
+}

@@ -1,0 +1,63 @@
+//! MMS PDUs (ISO 9506-2, MMSpdu; encoded by ITU-T X.690), read without copying and written.
+//!
+//! The server reads an initiate by [`read_initiate`] and accepts it by [`write_initiate_answer`]; then it reads what is
+//! asked by [`request`], and sends answers, errors, rejects and reports. The client asks by the other writers, and reads
+//! what comes by [`read_initiate_answer`] and [`reply`]. The laws are functions that run nothing.
+#![tactic(auto)]
+
+mod access;
+mod answer;
+mod asking;
+mod confirmed;
+mod data_list;
+mod element;
+mod error;
+mod fault;
+mod fields;
+mod initiate;
+mod initiate_writing;
+mod laws;
+mod name_list;
+mod number;
+mod object_name;
+mod read_back;
+mod reading;
+mod reject;
+mod reply_view;
+mod report;
+mod service;
+mod tagged;
+mod variable;
+mod variable_lists;
+
+pub use fault::PduFault;
+
+// What is in a PDU.
+pub use data_list::DataList;
+pub use object_name::{NameList, NameView};
+pub use variable::{VariableList, VariableView};
+
+// How an association begins.
+pub use initiate::{Initiate, read_initiate, read_initiate_answer};
+pub use initiate_writing::{write_initiate_answer, write_initiate_request};
+
+// What a client asks.
+pub use asking::{write_conclude_request, write_read_request, write_write_request};
+pub use reading::{RequestView, request};
+pub use service::{ScopeView, ServiceView};
+
+// What a server sends.
+pub use answer::write_answer;
+pub use error::write_error;
+pub use reject::write_reject;
+pub use reply_view::{ReplyView, reply};
+pub use report::write_report;
+
+// What is promised of all of it.
+pub use laws::each_input_asks_one_thing;
+pub use read_back::{
+    each_input_is_one_reply, initiates_are_read_back, replies_are_read_back, requests_are_read_back,
+};
+
+#[cfg(test)]
+mod tests;

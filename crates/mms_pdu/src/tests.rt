@@ -1,0 +1,4 @@
+mod asking;
+mod initiate;
+mod replies;
+mod replying;
