@@ -1,16 +1,16 @@
 -- A stream comes to one list of events, or is refused for one cause behind one list.
-use Rattle.std.proofs.Common.{◌≡◌, ◌≢◌, ℕ, Bool, true, false, List, [], ◌∷◌, ◌++◌, length, Option, Some, None, Result, Ok, Err, ◌⊎◌, inl, inr, refl, sym, ap, subst, ◌∙◌, append_assoc}
+use Rattle.std.proofs.Common.{◌≡◌, ℕ, Bool, true, false, List, [], ◌∷◌, ◌++◌, Option, Some, None, Result, Ok, Err, ◌⊎◌, inl, inr, refl, sym, ap, subst, ◌∙◌, append_assoc}
 use Rattle.std.specs.Option.{option_to_list}
 use Rattle.std.specs.List.{flat_map, AllByRecursion}
 use Rattle.std.proofs.lemmas.List.Concat.{flat_map-cons}
 use Rattle.tpkt_cotp.specs.declared.fault.TpFault.{TpFault}
 use Rattle.tpkt_cotp.specs.Octets.{IsBytes}
 use Rattle.tpkt_cotp.specs.Packet.{packet, IsTpdu, IsPartial, packet_at}
-use Rattle.tpkt_cotp.proofs.PacketLaws.{packet_again, bad_again, stays_bad, partial_again, found_is}
-use Rattle.tpkt_cotp.proofs.StreamLaws.{IsBytes-append, after_fits}
+use Rattle.tpkt_cotp.proofs.PacketLaws.{packet_again, bad_again, partial_again, found_is}
+use Rattle.tpkt_cotp.proofs.StreamLaws.{after_fits}
 use Rattle.osi_stack.specs.declared.events.Event.{Event}
 use Rattle.osi_stack.specs.Causes.{Cause, of_transport}
-use Rattle.osi_stack.specs.Stream.{Stand, opening, has_ended, step_at, Runs, Takes, count_of, StandsAt, Stops, IsRefused}
+use Rattle.osi_stack.specs.Stream.{Stand, opening, has_ended, step_at, Runs, count_of, StandsAt, Stops, IsRefused}
 
 -- how a stream ends: with the beginning of a TPKT, behind the end with anything, or refused
 abbrev pub Ends : Stand → List ℕ → Option Cause → Type 0

@@ -2,12 +2,10 @@
 use Rattle.std.specs.Prelude.{ℕ, min, List, Option, Some, None, Result, Ok, Err, ◌==◌, if◌then◌else◌}
 use Rattle.ber_grammar.specs.Place.{Piece}
 use Rattle.ber_grammar.specs.Reader.{◌>>=◌, with_fault}
-use Rattle.tpkt_cotp.specs.declared.tsdus.Cr.{Cr}
 use Rattle.tpkt_cotp.specs.declared.tsdus.Tsdu.{Tsdu}
 use Rattle.tpkt_cotp.specs.declared.tsdus.Tsdu.TheVariants.{Connect, Data, Disconnect}
 use Rattle.tpkt_cotp.specs.declared.fault.TpFault.TheVariants as transport
 use Rattle.tpkt_cotp.specs.Written.{confirm_of, tsdu_of}
-use Rattle.session_pres.specs.declared.fault.SpFault.{SpFault}
 use Rattle.session_pres.specs.declared.fault.SpFault.TheVariants as session
 use Rattle.session_pres.specs.Steps.{required}
 use Rattle.session_pres.specs.Units.{Seen, connect, transfer, finish, abort, spdu_at}

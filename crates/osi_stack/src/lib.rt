@@ -4,16 +4,16 @@
 
 mod events;
 mod fault;
-mod sending;
 mod laws;
 mod phase;
+mod sending;
 
 // What comes.
 pub use events::{Event, Events, Line};
 pub use fault::StackFault;
 
 // What is promised of all streams.
-pub use laws::a_stream_gives_one_list;
+pub use laws::{a_stream_gives_one_list, short_pdus_fit};
 
 // What is sent.
 pub use sending::frames;
