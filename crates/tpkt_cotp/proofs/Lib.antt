@@ -6,3 +6,4 @@ pub mod KeptLaws
 pub mod ReadBackLaws
 pub mod TpduLaws
 pub mod WrittenLaws
+pub mod StepLaws

@@ -6,6 +6,7 @@ use Rattle.tpkt_cotp.specs.declared.fault.TpFault.{TpFault}
 use Rattle.tpkt_cotp.specs.declared.fault.TpFault.TheVariants as faults
 use Rattle.tpkt_cotp.specs.declared.state.State.{State}
 use Rattle.tpkt_cotp.specs.declared.tsdus.Tsdu.{Tsdu}
+use Rattle.tpkt_cotp.specs.declared.tsdus.Taken.{Taken}
 use Rattle.tpkt_cotp.specs.declared.transport.TransportIn.{TransportIn}
 use Rattle.tpkt_cotp.specs.Octets.{IsBytes}
 use Rattle.tpkt_cotp.specs.Packet.{packet, IsTpdu, IsPartial, IsBad}
@@ -105,3 +106,38 @@ GoesOn t dialled octets given before now = (more : List Tsdu) × (now ≡ before
 -- some of them give was added.
 abbrev pub Refuses : TpFault → Bool → List ℕ → List Tsdu → List Tsdu → List Tsdu → Type 0
 Refuses f dialled octets given before now = (more : List Tsdu) × (now ≡ before ++ more) × Gave dialled octets (given ++ more) × (f ≢ faults.Memory → IsRefused dialled octets (given ++ more) f)
+
+-- ---- one TPKT at a time
+
+-- Behind what is held the piece completes a TPKT, which gives this and leads to another state, or all of it is held.
+abbrev pub Advances : State → List ℕ → List ℕ → State → List ℕ → Option Taken → List ℕ → Type 0
+Advances s held piece t now None rest = (rest ≡ []) × (now ≡ held ++ piece) × (t ≡ s) × IsPartial now
+Advances s held piece t now (Some taken) rest = (tpdu front : List ℕ) × IsTpdu tpdu × (piece ≡ front ++ rest) × (packet tpdu ≡ held ++ front) × (taken.octets ≡ length (packet tpdu)) × (tpdu_at s tpdu ≡ Ok (t, taken.tsdu)) × (now ≡ [])
+
+-- it can't, as no legal TPKT stands there, or for want of memory
+abbrev pub FailsAt : TpFault → State → List ℕ → Type 0
+FailsAt f s input = f ≢ faults.Memory → Stops s input f
+
+-- what a TPKT that was completed gave, if one was
+abbrev pub gift : Option Taken → Option Tsdu
+gift None = None
+gift (Some taken) = taken.tsdu
+
+-- it refused nothing yet, and less than a TPKT is held
+pub record IsReady (t : TransportIn) : Type 0 where
+  pub fine : t.refused ≡ None
+  pub fits : IsBytes t.held
+  pub partial : IsPartial t.held
+
+-- The object took octets of the piece up to the end of a TPKT, or all, and is ready for what follows.
+abbrev pub StepsFrom : TransportIn → TransportIn → List ℕ → Option Taken → List ℕ → Type 0
+StepsFrom t u piece taken rest = Advances t.state t.held piece u.state u.held taken rest × IsReady u
+
+abbrev pub StepFails : TpFault → TransportIn → List ℕ → Type 0
+StepFails f t piece = FailsAt f t.state (t.held ++ piece)
+
+-- the octets of the piece that were taken, and what the object stands for with them
+pub record StepsOn (u : TransportIn) (dialled : Bool) (octets : List ℕ) (so_far : List Tsdu) (piece : List ℕ) (taken : Option Taken) (rest : List ℕ) : Type 0 where
+  pub front : List ℕ
+  pub cut : piece ≡ front ++ rest
+  pub stands : StandsFor u dialled (octets ++ front) (so_far ++ option_to_list (gift taken))

@@ -24,7 +24,7 @@ pub use laws::{
 // What is read.
 pub use fault::TpFault;
 pub use transport::TransportIn;
-pub use tsdus::{Cr, Tsdu, Tsdus};
+pub use tsdus::{Cr, Taken, Tsdu, Tsdus};
 
 // What is written.
 pub use writing::{call, confirm, tsdu};

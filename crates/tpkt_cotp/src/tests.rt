@@ -286,3 +286,40 @@ fn the_limit_of_a_tsdu(rt: HostRuntime) -> Result<(), Fail> {
     assert_eq!(rt; out.len(), 0);
     Ok(())
 }
+
+#[test]
+fn one_tpkt_at_a_time(rt: HostRuntime) -> Result<(), Fail> {
+    // a CR, and two DTs of one TSDU
+    let stream = [
+        3, 0, 0, 22, 0x11, 0xe0, 0, 0, 0, 1, 0, 0xc0, 1, 13, 0xc2, 2, 0, 1, 0xc1, 2, 0, 1, 3, 0, 0,
+        9, 2, 0xf0, 0, 1, 2, 3, 0, 0, 8, 2, 0xf0, 0x80, 3,
+    ];
+    for place in 0..40usize {
+        let (front, back) = stream.split_at(place);
+        let mut transport = TransportIn::new();
+        let mut lengths = Vec::new(rt.alloc());
+        let mut gave = Vec::new(rt.alloc());
+        for piece in [front, back] {
+            let mut rest = piece;
+            for _ in 0..4 {
+                let (taken, after) = transport.step(rt.alloc(), rest)?;
+                if let Some(taken) = taken {
+                    lengths.push(taken.octets)?;
+                    gave.push(taken.tsdu.is_some())?;
+                }
+                rest = after;
+            }
+            assert!(rt; rest.is_empty(), "cut at {place}");
+        }
+        assert_eq!(rt; lengths.as_slice(), [22, 9, 8].as_slice(), "cut at {place}");
+        assert_eq!(rt;
+            gave.as_slice(),
+            [true, false, true].as_slice(),
+            "cut at {place}"
+        );
+    }
+    let mut transport = TransportIn::new();
+    assert!(rt; matches!(transport.step(rt.alloc(), &[4]), Err(TpFault::Version)));
+    assert!(rt; matches!(transport.step(rt.alloc(), &stream), Err(TpFault::Version)));
+    Ok(())
+}

@@ -1,17 +1,18 @@
-ghost use Rattle.std.specs.Prelude.{◌≡◌, ℕ, Bool, true, false, List, [], ◌∷◌, ◌++◌, ◌≢◌, Some, None, Ok, Err, IfErr, OnOk, OnErr, MatchResult, MatchOption};
+ghost use Rattle.std.specs.Prelude.{◌≡◌, ℕ, Bool, true, false, List, [], ◌∷◌, ◌++◌, ◌≢◌, length, Some, None, Ok, Err, IfErr, OnOk, OnErr, MatchResult, MatchOption};
 ghost use Rattle.std.specs.Option.{option_to_list};
 ghost use Rattle.tpkt_cotp.specs.declared.fault.TpFault.{TpFault};
+ghost use Rattle.tpkt_cotp.specs.declared.fault.TpFault.TheVariants.{Memory};
 ghost use Rattle.tpkt_cotp.specs.declared.tsdus.Tsdu.{Tsdu};
 ghost use Rattle.tpkt_cotp.specs.Octets.{Fails, IsBytes};
-ghost use Rattle.tpkt_cotp.specs.Packet.{IsPartial};
+ghost use Rattle.tpkt_cotp.specs.Packet.{packet, IsPartial};
 ghost use Rattle.tpkt_cotp.specs.Tpdu.{tpdu_at};
-ghost use Rattle.tpkt_cotp.specs.Stream.{TookAll, Took, StopsAt, StandsFor, HasRefused, GoesOn, Refuses, Adds, Completes};
+ghost use Rattle.tpkt_cotp.specs.Stream.{TookAll, Took, StopsAt, StandsFor, HasRefused, GoesOn, Refuses, Adds, Completes, Advances, FailsAt, IsReady, StepsFrom, StepFails, StepsOn, IsRefused};
 
 use crate::fault::TpFault;
 use crate::octets::Gathered;
 use crate::packet::{packet_of, top_up};
 use crate::state::{State, take_tpdu};
-use crate::tsdus::Tsdus;
+use crate::tsdus::{Taken, Tsdus};
 use std::alloc::Global;
 
 /// Takes a TPDU and adds what it gives.
@@ -90,6 +91,77 @@ fn take_piece(
     Ok(())
 }
 
+/// Takes the TPDU of a whole TPKT.
+fn taken_of(alloc: Global, state: &mut State, tpdu: &[u8]) -> Result<Taken, TpFault>
+    ensures { MatchResult result
+        (λ x. (x.octets ≡ length (packet tpdu.now)) × (tpdu_at state.old tpdu.now ≡ Ok (state.new, x.tsdu)))
+        (λ f. Fails f (tpdu_at state.old tpdu.now)) }
+{
+    let tsdu = take_tpdu(alloc, state, tpdu)?;
+    Ok(Taken {
+        octets: 4 + tpdu.len(),
+        tsdu,
+    })
+}
+
+/// Takes the TPKT at the front of the piece, or holds the piece where none is whole there.
+fn begin<'a>(
+    alloc: Global,
+    held: &mut Gathered,
+    state: &mut State,
+    piece: &'a [u8],
+) -> Result<(Option<Taken>, &'a [u8]), TpFault>
+    requires { held.old ≡ [] }
+    ensures { MatchResult result
+        (λ x. Advances state.old held.old piece.now state.new held.new x.0 x.1.now)
+        (λ f. FailsAt f state.old (held.old ++ piece.now)) }
+{
+    let Some((tpdu, rest)) = packet_of(piece)? else {
+        held.append(alloc, piece)?;
+        return Ok((None, &[]));
+    };
+    let taken = taken_of(alloc, state, tpdu)?;
+    Ok((Some(taken), rest))
+}
+
+/// Completes the TPKT that is held, as far as the piece has it.
+fn go_on<'a>(
+    alloc: Global,
+    held: &mut Gathered,
+    state: &mut State,
+    piece: &'a [u8],
+) -> Result<(Option<Taken>, &'a [u8]), TpFault>
+    ensures { IsBytes held.old → IsPartial held.old → MatchResult result
+        (λ x. Advances state.old held.old piece.now state.new held.new x.0 x.1.now)
+        (λ f. FailsAt f state.old (held.old ++ piece.now)) }
+{
+    let behind = top_up(alloc, held, piece)?;
+    let rest = top_up(alloc, held, behind)?;
+    let Some((tpdu, _)) = packet_of(held.as_slice())? else {
+        return Ok((None, rest));
+    };
+    let taken = taken_of(alloc, state, tpdu)?;
+    held.clear();
+    Ok((Some(taken), rest))
+}
+
+/// Takes octets up to the end of a TPKT.
+fn advance<'a>(
+    alloc: Global,
+    held: &mut Gathered,
+    state: &mut State,
+    piece: &'a [u8],
+) -> Result<(Option<Taken>, &'a [u8]), TpFault>
+    ensures { IsBytes held.old → IsPartial held.old → MatchResult result
+        (λ x. Advances state.old held.old piece.now state.new held.new x.0 x.1.now)
+        (λ f. FailsAt f state.old (held.old ++ piece.now)) }
+{
+    if held.as_slice().is_empty() {
+        return begin(alloc, held, state, piece);
+    }
+    go_on(alloc, held, state, piece)
+}
+
 /// What has come of a stream of TPKTs (RFC 1006) on one connection. It keeps at most one TPKT that is not whole and the
 /// TSDU whose last DT has not come.
 ///
@@ -155,6 +227,36 @@ impl TransportIn {
         let done = take_piece(alloc, &mut self.held, &mut self.state, piece, out);
         if let Err(fault) = done {
             self.refused = Some(fault);
+        }
+        done
+    }
+
+    /// Takes the next piece of the stream up to the end of the TPKT that it goes on or begins, and gives the TPKT, if it
+    /// is whole now, and the rest of the piece. What is refused, and when, is as [`TransportIn::feed`] has it.
+    ///
+    /// At each call with an octet at least one octet is taken.
+    pub fn step<'a>(
+        &mut self,
+        alloc: Global,
+        piece: &'a [u8],
+    ) -> Result<(Option<Taken>, &'a [u8]), TpFault>
+        // Of an object that refused nothing: a TPKT was taken, or all of the piece is held, or no legal TPKT stands there.
+        ensures one { IsReady self.old → MatchResult result
+            (λ x. StepsFrom self.old self.new piece.now x.0 x.1.now)
+            (λ f. StepFails f self.old piece.now) }
+        // However the stream was cut before: the object stands for it with what was taken, or the stream is refused.
+        ensures stands { (dialled : Bool) (octets : List ℕ) (so_far : List Tsdu) → StandsFor self.old dialled octets so_far → MatchResult result
+            (λ x. StepsOn self.new dialled octets so_far piece.now x.0 x.1.now)
+            (λ f. f ≢ Memory → IsRefused dialled (octets ++ piece.now) so_far f) }
+        ensures refuses { IfErr result (λ f. HasRefused self.new f) }
+        ensures again { (f : TpFault) → HasRefused self.old f → (result ≡ Err f) × (self.new ≡ self.old) }
+    {
+        if let Some(fault) = self.refused {
+            return Err(fault);
+        }
+        let done = advance(alloc, &mut self.held, &mut self.state, piece);
+        if let Err(why) = done {
+            self.refused = Some(why);
         }
         done
     }

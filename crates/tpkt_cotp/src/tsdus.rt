@@ -26,6 +26,15 @@ pub enum Tsdu {
     Disconnect,
 }
 
+/// A TPKT that came whole.
+#[derive(Debug, Drop)]
+pub struct Taken {
+    /// How many octets it has, 7 to 65535, with those of its header.
+    pub octets: usize,
+    /// What it gave: a DT that doesn't end its TSDU gives nothing.
+    pub tsdu: Option<Tsdu>,
+}
+
 /// What TPKTs gave, in order, seen by contracts as the list of it.
 #[derive(Debug, Drop)]
 pub struct Tsdus {

@@ -1,0 +1,5 @@
+use Rattle.osi_stack.proofs.FitLaws.{pdv_fits}
+use Rattle.osi_stack.proofs.laws.short_pdus_fit.Goals as goal
+
+pub returns : goal.returns
+returns c = pdv_fits

@@ -1,0 +1,5 @@
+pub mod Lines
+pub mod Framed
+pub mod Causes
+pub mod Machine
+pub mod Stream
