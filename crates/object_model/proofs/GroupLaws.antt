@@ -17,7 +17,7 @@ apart : (a b : List ℕ) → bytes_eq a b ≡ false → bytes_eq b a ≡ false
 apart a b h = by (bytes_eq b a) refl
   where
     by : (r : Bool) → bytes_eq b a ≡ r → r ≡ false
-    by true e = absurd (true≢false (sym (ap (λ x. bytes_eq x b) (same b a e) ∙ (bytes_decides b b).1 refl) ∙ h))
+    by true e = absurd (true≢false (sym (ap (λ x. bytes_eq a x) (same b a e) ∙ (bytes_decides a a).1 refl) ∙ h))
     by false e = refl
 
 -- a fold goes on
