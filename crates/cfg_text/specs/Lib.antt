@@ -1,0 +1,6 @@
+pub mod Kinds
+pub mod Words
+pub mod Names
+pub mod Numbers
+pub mod Types
+pub mod Values

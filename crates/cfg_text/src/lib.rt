@@ -1,0 +1,11 @@
+//! The configuration of a server as a text, read and written.
+#![tactic(auto)]
+
+mod fault;
+mod kinds;
+mod names;
+mod numbers;
+mod values;
+mod words;
+
+pub use fault::{CfgFault, Kind};
