@@ -4,3 +4,4 @@ pub mod Names
 pub mod Numbers
 pub mod Types
 pub mod Values
+pub mod Taken

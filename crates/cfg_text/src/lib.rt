@@ -5,6 +5,7 @@ mod fault;
 mod kinds;
 mod names;
 mod numbers;
+mod taken;
 mod values;
 mod words;
 
