@@ -1,3 +1,4 @@
 pub mod OptionLaws
 pub mod NumberLaws
 pub mod TakenLaws
+pub mod PathLaws

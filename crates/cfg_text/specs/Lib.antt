@@ -5,3 +5,6 @@ pub mod Numbers
 pub mod Types
 pub mod Values
 pub mod Taken
+pub mod Paths
+pub mod Before
+pub mod Claims

@@ -3,6 +3,7 @@
 
 mod fault;
 mod kinds;
+mod line;
 mod names;
 mod numbers;
 mod taken;

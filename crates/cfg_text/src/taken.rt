@@ -18,7 +18,7 @@ impl Model for Keys {
 
 impl Keys {
     ghost use Rattle.std.specs.Prelude.{◌≡◌, ◌||◌, List, ℕ, [], OnOk};
-    ghost use Rattle.cfg_text.specs.Taken.{is_among};
+    ghost use Rattle.cfg_text.specs.Taken.{is_among, added};
     ghost use Rattle.std.specs.Str.{bytes_eq};
 
     /// There is none.
@@ -39,10 +39,102 @@ impl Keys {
 
     /// Adds a key, which may be there already.
     pub fn add(&mut self, alloc: Global, key: &[u8]) -> Result<(), AllocError>
-        ensures { OnOk result ((q : List ℕ) → is_among self.new q ≡ (bytes_eq q key.now || is_among self.old q)) }
+        ensures among { OnOk result ((q : List ℕ) → is_among self.new q ≡ (bytes_eq q key.now || is_among self.old q)) }
+        ensures items { OnOk result (self.new ≡ added self.old key.now) }
     {
         let key = Vec::from_slice(alloc, key)?;
         self.keys.insert(key)?;
         Ok(())
+    }
+}
+
+impl Keys {
+    ghost use Rattle.std.specs.Prelude.{◌≡◌, ◌||◌, List, ℕ, [], OnOk};
+    ghost use Rattle.std.specs.List.{list_any};
+    ghost use Rattle.cfg_text.specs.Taken.{is_among};
+    ghost use Rattle.cfg_text.specs.Paths.{above};
+
+    /// A structure above the path is there.
+    fn has_above(&self, path: &[u8]) -> bool
+        ensures { result ≡ list_any (λ front. is_among self.now front) (above path.now) }
+    {
+        for (i, octet) in path.iter().enumerate() {
+            if *octet == b'$' && self.has(&path[..i]) {
+                return true;
+            }
+        }
+        false
+    }
+
+    /// Adds the structures above a path.
+    fn add_above(&mut self, alloc: Global, path: &[u8]) -> Result<(), AllocError>
+        ensures { OnOk result ((q : List ℕ) → is_among self.new q ≡ (is_among (above path.now) q || is_among self.old q)) }
+    {
+        for (i, octet) in path.iter().enumerate() {
+            if *octet == b'$' {
+                self.add(alloc, &path[..i])?;
+            }
+        }
+        Ok(())
+    }
+}
+
+/// The paths that are taken, and the structures above them; seen by contracts as the list of the paths.
+#[derive(Drop)]
+pub struct Names {
+    paths: Keys,
+    structures: Keys,
+}
+
+impl Model for Names {
+    ghost use Rattle.std.specs.Prelude.{◌≡◌, List, ℕ};
+    ghost use Rattle.cfg_text.specs.Taken.{is_among};
+    ghost use Rattle.cfg_text.specs.Paths.{is_structure};
+
+    ghost Value = { List (List ℕ) };
+
+    ghost view = { λ n. n.paths };
+
+    ghost invariant = { λ n. (q : List ℕ) → is_among n.structures q ≡ is_structure n.paths q };
+}
+
+impl Names {
+    ghost use Rattle.std.specs.Prelude.{◌≡◌, ◌||◌, List, ℕ, [], IfOk};
+    ghost use Rattle.cfg_text.specs.Paths.{clashes, is_taken as is_taken_by};
+
+    /// None is taken.
+    pub fn new(alloc: Global) -> Names
+        ensures { result ≡ [] }
+    {
+        Names {
+            paths: Keys::new(alloc),
+            structures: Keys::new(alloc),
+        }
+    }
+
+    /// The path, or one that it has as a structure above it or below it, is taken.
+    pub fn is_taken(&self, path: &[u8]) -> bool
+        ensures { result ≡ is_taken_by self.now path.now }
+    {
+        if self.paths.has(path) {
+            return true;
+        }
+        if self.structures.has(path) {
+            return true;
+        }
+        self.paths.has_above(path)
+    }
+
+    /// With one more path, which is taken from now on.
+    pub fn with(self, alloc: Global, path: &[u8]) -> Result<Names, AllocError>
+        ensures { IfOk result (λ n. (q : List ℕ) → is_taken_by n q ≡ (clashes q path.now || is_taken_by self q)) }
+    {
+        let Names {
+            mut paths,
+            mut structures,
+        } = self;
+        paths.add(alloc, path)?;
+        structures.add_above(alloc, path)?;
+        Ok(Names { paths, structures })
     }
 }
