@@ -8,3 +8,4 @@ pub mod Taken
 pub mod Paths
 pub mod Before
 pub mod Claims
+pub mod Known

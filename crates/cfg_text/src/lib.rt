@@ -6,6 +6,7 @@ mod kinds;
 mod line;
 mod names;
 mod numbers;
+mod reading;
 mod taken;
 mod values;
 mod words;
