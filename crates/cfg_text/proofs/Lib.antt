@@ -2,3 +2,4 @@ pub mod OptionLaws
 pub mod NumberLaws
 pub mod TakenLaws
 pub mod PathLaws
+pub mod KnownLaws

@@ -13,12 +13,12 @@ use Rattle.cfg_text.proofs.TakenLaws.{turned}
 pub above-found : (p : List ℕ → Bool) (path : List ℕ) (n i : ℕ) → i < n → get_or path i 0 ≡ 36 → p (take i path) ≡ true → list_any p (above_within n path) ≡ true
 above-found p path zero i lt is passes = absurd (omega (arith, lt))
 above-found p path (suc n) i lt is passes = elim (cases_eq i n) [
-    | inl e ↦ ap (list_any p) (cond-true _ (take n path ∷ above_within n path) (above_within n path) (eq-eqb _ _ (sym (ap (λ k. get_or path k 0) e) ∙ is)))
-        ∙ ap (λ b. b || list_any p (above_within n path)) (sym (ap (λ k. p (take k path)) e) ∙ passes)
-    | inr ne ↦
-        let rest = above-found p path n i (omega (arith, lt, ne)) is passes in
-        cond_both _ (take n path ∷ above_within n path) (above_within n path) (λ fronts. list_any p fronts ≡ true) (λ e. or_right (p (take n path)) _ rest) (λ e. rest)
-  ]
+  | inl e ↦ ap (list_any p) (cond-true _ (take n path ∷ above_within n path) (above_within n path) (eq-eqb _ _ (sym (ap (λ k. get_or path k 0) e) ∙ is)))
+      ∙ ap (λ b. b || list_any p (above_within n path)) (sym (ap (λ k. p (take k path)) e) ∙ passes)
+  | inr ne ↦
+      let rest = above-found p path n i (omega (arith, lt, ne)) is passes in
+      cond_both _ (take n path ∷ above_within n path) (above_within n path) (λ fronts. list_any p fronts ≡ true) (λ e. or_right (p (take n path)) _ rest) (λ e. rest)
+]
 
 shuffled : (a b c d : Bool) → ((a || b) || (c || d)) ≡ ((a || c) || (b || d))
 shuffled true b c d = refl

@@ -7,10 +7,7 @@ use Rattle.std.specs.Str.{bytes_eq}
 use Rattle.std.proofs.lemmas.Bool.{cond_both, cond-true, cond-false}
 use Rattle.std.proofs.lemmas.Slice.Eq.{bytes_eq-Decides}
 use Rattle.indexmap.specs.IndexSet.{insert_key}
-use Rattle.cfg_text.specs.Taken.{is_among, added}
-
-abbrev pub octets_of : Vec ℕ Global → List ℕ
-octets_of v = v.items
+use Rattle.cfg_text.specs.Taken.{is_among, added, octets_of}
 
 abbrev pub same : Vec ℕ Global → Vec ℕ Global → Bool
 same v w = bytes_eq v.items w.items
@@ -59,3 +56,12 @@ pub items-inserted : (ks : List (Vec ℕ Global)) (v : Vec ℕ Global) → map o
 items-inserted ks v = cond_both (list_any (same v) ks) ks (ks ++ v ∷ []) (λ new. map octets_of new ≡ added (map octets_of ks) v.items)
     (λ e. sym (cond-true _ _ _ (sym (any-items v.items ks) ∙ e)))
     (λ e. map-last ks v ∙ sym (cond-false _ _ _ (sym (any-items v.items ks) ∙ e)))
+
+pub any-map : {X Y : Type 0} (p : Y → Bool) (f : X → Y) (xs : List X) → list_any p (map f xs) ≡ list_any (λ x. p (f x)) xs
+any-map p f [] = refl
+any-map p f (x ∷ xs) = ap (λ b. p (f x) || b) (any-map p f xs)
+
+pub shifted : (a b c : Bool) → (c || (a || b)) ≡ ((a || c) || b)
+shifted true b true = refl
+shifted true b false = refl
+shifted false b c = refl

@@ -1,5 +1,5 @@
 -- The names that lines take. The last line is the first of the list.
-use Rattle.std.specs.Prelude.{ℕ, ◌==◌, ◌||◌, List, [], ◌∷◌, ◌++◌, map, codes, if◌then◌else◌}
+use Rattle.std.specs.Prelude.{ℕ, ◌==◌, List, [], ◌∷◌, ◌++◌, map, codes, if◌then◌else◌}
 use Rattle.cfg_text.specs.Paths.{below, node_key, item_key}
 use Rattle.cfg_text.specs.declared.line.Line.{Line}
 use Rattle.cfg_text.specs.declared.line.Line.TheVariants as lines
@@ -34,7 +34,9 @@ operations model = if model == 2 then codes "Oper" ∷ codes "SBO" ∷ codes "Ca
     else codes "Oper" ∷ []
 
 abbrev pub settings : ℕ → List (List ℕ)
-settings model = if (model == 2) || (model == 4) then codes "ctlModel" ∷ codes "sboTimeout" ∷ codes "sboClass" ∷ [] else codes "ctlModel" ∷ []
+settings model = if model == 2 then codes "ctlModel" ∷ codes "sboTimeout" ∷ codes "sboClass" ∷ []
+    else if model == 4 then codes "ctlModel" ∷ codes "sboTimeout" ∷ codes "sboClass" ∷ []
+    else codes "ctlModel" ∷ []
 
 abbrev pub control_keys : List ℕ → List ℕ → List ℕ → ℕ → List (List ℕ)
 control_keys domain node path model = map (λ part. below (item_key domain node (codes "CO") path) part) (operations model)

@@ -1,7 +1,9 @@
 //! The configuration of a server as a text, read and written.
 #![tactic(auto)]
 
+mod claiming;
 mod fault;
+mod keys;
 mod kinds;
 mod line;
 mod names;

@@ -25,9 +25,7 @@ pub fn is_name(word: &[u8]) -> bool
     ensures { result ≡ names word.now }
 {
     match word {
-        [first, rest @ ..] => {
-            is_letter(*first) && all_name_octets(rest) && rest.len() <= 31
-        }
+        [first, rest @ ..] => { is_letter(*first) && all_name_octets(rest) && rest.len() <= 31 }
         [] => false,
     }
 }

@@ -100,6 +100,9 @@ impl Model for Names {
 
 impl Names {
     ghost use Rattle.std.specs.Prelude.{◌≡◌, ◌||◌, List, ℕ, [], IfOk};
+    ghost use Rattle.std.specs.Prelude.{map};
+    ghost use Rattle.std.specs.List.{list_any};
+    ghost use Rattle.cfg_text.specs.Taken.{octets_of};
     ghost use Rattle.cfg_text.specs.Paths.{clashes, is_taken as is_taken_by};
 
     /// None is taken.
@@ -136,5 +139,28 @@ impl Names {
         paths.add(alloc, path)?;
         structures.add_above(alloc, path)?;
         Ok(Names { paths, structures })
+    }
+
+    /// With more paths.
+    pub fn with_all(self, alloc: Global, paths: &[Vec<u8>]) -> Result<Names, AllocError>
+        ensures { IfOk result (λ n. (q : List ℕ) → is_taken_by n q ≡ (is_taken_by (map octets_of paths.now) q || is_taken_by self q)) }
+    {
+        let mut names = self;
+        for path in paths {
+            names = names.with(alloc, path)?;
+        }
+        Ok(names)
+    }
+
+    /// One of the paths can't stand beside those that are taken.
+    pub fn is_one_taken(&self, paths: &[Vec<u8>]) -> bool
+        ensures { result ≡ list_any (λ path. is_taken_by self.now path) (map octets_of paths.now) }
+    {
+        for path in paths {
+            if self.is_taken(path) {
+                return true;
+            }
+        }
+        false
     }
 }

@@ -1,4 +1,4 @@
-ghost use Rattle.std.specs.Prelude.{◌≡◌, ◌==◌, ◌≤◌, IfOk, length, map, option_copied};
+ghost use Rattle.std.specs.Prelude.{◌≡◌, ◌==◌, [], ◌≤◌, IfOk, length, map, option_copied};
 ghost use Rattle.cfg_text.specs.Values.{truth_at, bits_at, text_at, hex_at, octets_at, utc_of as utc_of_octets, time_at, value_at, is_hex as hex_digit, is_graphic as graphic, is_binary as binary, option_items};
 ghost use Rattle.std.specs.List.{list_all};
 ghost use Rattle.cfg_text.specs.Numbers.{number_within, greatest};
@@ -13,6 +13,13 @@ pub fn owned(alloc: Global, octets: &[u8]) -> Result<Octs, AllocError>
     ensures { IfOk result (λ o. o ≡ octets.now) }
 {
     Ok(Octs::from_vec(Vec::from_slice(alloc, octets)?))
+}
+
+/// No octets.
+pub fn empty(alloc: Global) -> Octs
+    ensures { result ≡ [] }
+{
+    Octs::from_vec(Vec::new(alloc))
 }
 
 fn truth(word: &[u8]) -> Option<bool>
