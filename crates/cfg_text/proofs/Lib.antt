@@ -3,3 +3,4 @@ pub mod NumberLaws
 pub mod TakenLaws
 pub mod PathLaws
 pub mod KnownLaws
+pub mod ValueLaws

@@ -9,3 +9,5 @@ pub mod Paths
 pub mod Before
 pub mod Claims
 pub mod Known
+pub mod Reader
+pub mod Contents

@@ -1,6 +1,6 @@
 -- Names, and what is made of them (IEC 61850-7-2, ObjectName and ObjectReference).
-use Rattle.std.specs.Prelude.{ℕ, ◌==◌, ◌&&◌, ◌||◌, nat_le, Bool, true, false, List, [], ◌∷◌, length}
-use Rattle.std.specs.List.{slice_split, list_all, list_any, before_first, after_first, count_by}
+use Rattle.std.specs.Prelude.{ℕ, ◌==◌, ◌&&◌, ◌||◌, nat_le, Bool, true, false, List, [], ◌∷◌, length, if◌then◌else◌}
+use Rattle.std.specs.List.{slice_split, list_all, count_by}
 
 abbrev pub is_letter : ℕ → Bool
 is_letter octet = (nat_le 65 octet && nat_le octet 90) || (nat_le 97 octet && nat_le octet 122)
@@ -27,7 +27,16 @@ is_name (octet ∷ octets) = is_letter octet && list_all is_name_octet octets &&
 abbrev pub is_path : List ℕ → Bool
 is_path path = list_all is_name (slice_split is_dollar path)
 
--- a domain, `/`, and a path of three names or more: the logical node, the functional constraint and the path below it
+-- a domain, and a path of three names or more: the logical node, the functional constraint and what is below it
+abbrev pub are_member : List (List ℕ) → Bool
+are_member (domain ∷ item ∷ []) = is_name domain && is_path item && nat_le 2 (count_by is_dollar item)
+are_member _ = false
+
+-- the two with a `/` between them
 abbrev pub is_member : List ℕ → Bool
-is_member reference = list_any is_slash reference && is_name (before_first is_slash reference)
-    && is_path (after_first is_slash reference) && nat_le 2 (count_by is_dollar (after_first is_slash reference))
+is_member reference = are_member (slice_split is_slash reference)
+
+-- what stands behind the first `/`
+abbrev pub item_of : List ℕ → List ℕ
+item_of [] = []
+item_of (octet ∷ octets) = if octet == 47 then octets else item_of octets

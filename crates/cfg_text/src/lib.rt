@@ -2,6 +2,7 @@
 #![tactic(auto)]
 
 mod claiming;
+mod contents;
 mod fault;
 mod keys;
 mod kinds;

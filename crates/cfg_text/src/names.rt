@@ -1,6 +1,10 @@
-ghost use Rattle.std.specs.Prelude.{◌≡◌};
-ghost use Rattle.cfg_text.specs.Names.{is_name_octet as names_octet, is_letter as letter_at, is_name as names, is_path as joins_names, is_member as refers, is_dollar};
+ghost use Rattle.std.specs.Prelude.{◌≡◌, IfOk};
+ghost use Rattle.cfg_text.specs.Names.{is_name_octet as names_octet, is_letter as letter_at, is_name as names, is_path as joins_names, is_member as refers, are_member as refer, item_of as item_of_reference, is_dollar};
+ghost use Rattle.cfg_text.specs.Words.{texts};
 ghost use Rattle.std.specs.List.{count_by, list_all};
+
+use crate::words::parts_of;
+use std::alloc::{AllocError, Global};
 
 fn is_letter(octet: u8) -> bool
     ensures { result ≡ letter_at octet }
@@ -42,4 +46,32 @@ pub fn dollars(path: &[u8]) -> usize
     ensures { result ≡ count_by is_dollar path.now }
 {
     path.iter().filter(|octet| **octet == b'$').count()
+}
+
+/// A domain, `/`, and a path of three names or more.
+pub fn is_member(alloc: Global, reference: &[u8]) -> Result<bool, AllocError>
+    ensures { IfOk result (λ r. r ≡ refers reference.now) }
+{
+    let parts = parts_of(alloc, reference, b'/')?;
+    Ok(are_member(&parts))
+}
+
+fn are_member(parts: &[&[u8]]) -> bool
+    ensures { result ≡ refer (texts parts.now) }
+{
+    match parts {
+        [domain, item] => is_name(domain) && is_path(item) && dollars(item) >= 2,
+        _ => false,
+    }
+}
+
+/// The octets behind the first `/`, none where there is none.
+pub fn item_of(reference: &[u8]) -> &[u8]
+    ensures { result.now ≡ item_of_reference reference.now }
+{
+    match reference {
+        [b'/', item @ ..] => item,
+        [_, rest @ ..] => item_of(rest),
+        [] => reference,
+    }
 }

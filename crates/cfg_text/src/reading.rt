@@ -70,7 +70,9 @@ impl Reading {
     ghost use Rattle.std.specs.Prelude.{◌≡◌, ◌≤◌, ◌<◌, ◌∷◌, [], length, IfOk};
     ghost use Rattle.cfg_text.specs.declared.line.Line.TheVariants.{Skip, Config, Server, Ld, Ln, Attr, Set, Member, Brcb, Ctl, Sgcb, End};
     ghost use Rattle.cfg_text.specs.Before.{number_of, place_of, domain_of, node_of, groups_of, has_settings as has_settings_before, domains as domains_before, nodes as nodes_before, attributes as attributes_before, sets as sets_before, members as members_before, blocks as blocks_before, controls as controls_before};
-    ghost use Rattle.cfg_text.specs.Taken.{is_among};
+    ghost use Rattle.std.specs.Prelude.{map};
+    ghost use Rattle.std.specs.List.{list_any};
+    ghost use Rattle.cfg_text.specs.Taken.{is_among, octets_of};
     ghost use Rattle.cfg_text.specs.Paths.{is_taken as is_taken_by};
     ghost use Rattle.cfg_text.specs.Claims.{heads as heads_before, sets as set_keys_before, claims};
 
@@ -108,6 +110,13 @@ impl Reading {
         ensures few { result ≤ 20000 }
     {
         self.kept.lines.len()
+    }
+
+    /// The number of the next line.
+    pub fn number(&self) -> u32
+        ensures { result ≡ number_of self.now }
+    {
+        self.len() as u32 + 1
     }
 
     /// Where the next line stands.
@@ -177,6 +186,13 @@ impl Reading {
         ensures { result ≡ is_taken_by (claims self.now) path.now }
     {
         self.kept.names.is_taken(path)
+    }
+
+    /// One of the paths can't stand beside those that are taken.
+    pub fn is_one_taken(&self, paths: &[Vec<u8>]) -> bool
+        ensures { result ≡ list_any (λ path. is_taken_by (claims self.now) path) (map octets_of paths.now) }
+    {
+        self.kept.names.is_one_taken(paths)
     }
 
     fn with_skip(self) -> Result<Reading, AllocError>

@@ -66,7 +66,7 @@ fn uint(word: &[u8], bits: u8) -> Option<u64>
 }
 
 /// So many digits 0 and 1, the first bit first.
-fn bits(alloc: Global, word: &[u8], count: u16) -> Result<Option<Bits>, AllocError>
+pub fn bits(alloc: Global, word: &[u8], count: u16) -> Result<Option<Bits>, AllocError>
     ensures { IfOk result (λ r. r ≡ bits_at count word.now) }
 {
     if word.len() == usize::from(count) && all_binary(word) {
@@ -88,7 +88,7 @@ fn all_graphic(octets: &[u8]) -> bool
 }
 
 /// `'` and at most so many visible octets.
-fn text(alloc: Global, word: &[u8], most: u16) -> Result<Option<Octs>, AllocError>
+pub fn text(alloc: Global, word: &[u8], most: u16) -> Result<Option<Octs>, AllocError>
     ensures { IfOk result (λ r. r ≡ text_at most word.now) }
 {
     match word {

@@ -1,5 +1,6 @@
-ghost use Rattle.std.specs.Prelude.{◌≡◌, IfOk, option_copied};
-ghost use Rattle.cfg_text.specs.Words.{behind, keyword_at, words_of, texts};
+ghost use Rattle.std.specs.Prelude.{◌≡◌, ◌==◌, IfOk, option_copied};
+ghost use Rattle.cfg_text.specs.Words.{behind, keyword_at, texts};
+ghost use Rattle.std.specs.List.{slice_split};
 
 use std::alloc::{AllocError, Global};
 
@@ -51,11 +52,15 @@ pub fn keyword_of(word: &[u8]) -> Option<Keyword>
     Some(found)
 }
 
-/// What stands between the spaces of a line.
-pub fn words_in<'a>(alloc: Global, line: &'a [u8]) -> Result<Vec<&'a [u8]>, AllocError>
-    ensures { IfOk result (λ v. texts v.items ≡ words_of line.now) }
+/// What stands between the separators.
+pub fn parts_of<'a>(
+    alloc: Global,
+    octets: &'a [u8],
+    separator: u8,
+) -> Result<Vec<&'a [u8]>, AllocError>
+    ensures { IfOk result (λ v. texts v.items ≡ slice_split (λ b. b == separator) octets.now) }
 {
-    line.split(|octet| *octet == b' ').collect(alloc)
+    octets.split(|octet| *octet == separator).collect(alloc)
 }
 
 /// What stands behind a front.
