@@ -91,37 +91,54 @@ attribute_at before fc path kind flags values =
       else Err kinds.Name)
     else Err kinds.Name
 
--- the numbers and values of a report control block, behind its name
-unfoldable pub block_fields_at : List Line → List (List ℕ) → Result Line Kind
-block_fields_at before (w ∷ name ∷ rpt_id ∷ dat_set ∷ conf_rev ∷ opt_flds ∷ buf_tm ∷ trg_ops ∷ intg_pd ∷ capacity ∷ []) = do
+-- RptID and DatSet
+abbrev pub block_texts_at : List ℕ → List ℕ → Result (List ℕ × List ℕ) Kind
+block_texts_at rpt_id dat_set = do
   i ← given kinds.Value (text_at 129 rpt_id)
   d ← given kinds.Value (text_at 1000 dat_set)
+  Ok (i, d)
+
+-- ConfRev, OptFlds and BufTm
+abbrev pub block_options_at : List ℕ → List ℕ → List ℕ → Result (ℕ × List Bool × ℕ) Kind
+block_options_at conf_rev opt_flds buf_tm = do
   r ← given kinds.Number (number_within 1 4294967295 conf_rev)
   o ← given kinds.Value (bits_at 10 opt_flds)
   b ← given kinds.Number (number_within 0 4294967295 buf_tm)
+  Ok (r, o, b)
+
+-- TrgOps, IntgPd and the capacity
+abbrev pub block_triggers_at : List ℕ → List ℕ → List ℕ → Result (List Bool × ℕ × ℕ) Kind
+block_triggers_at trg_ops intg_pd capacity = do
   t ← given kinds.Value (bits_at 6 trg_ops)
   p ← given kinds.Number (number_within 0 4294967295 intg_pd)
   c ← given kinds.Number (number_within 1 1048576 capacity)
+  Ok (t, p, c)
+
+-- the numbers and values of a report control block, behind its name
+unfoldable pub block_fields_at : List Line → (name rpt_id dat_set conf_rev opt_flds buf_tm trg_ops intg_pd capacity : List ℕ) → Result Line Kind
+block_fields_at before name rpt_id dat_set conf_rev opt_flds buf_tm trg_ops intg_pd capacity = do
+  ids ← block_texts_at rpt_id dat_set
+  options ← block_options_at conf_rev opt_flds buf_tm
+  triggers ← block_triggers_at trg_ops intg_pd capacity
   Ok (lines.Brcb (record {
     line = number_of before;
     domain = domain_of before;
     ln = node_of before;
     name = name;
-    rpt_id = i;
-    dat_set = d;
-    conf_rev = r;
-    opt_flds = o;
-    buf_tm = b;
-    trg_ops = t;
-    intg_pd = p;
-    capacity = c;
+    rpt_id = ids.0;
+    dat_set = ids.1;
+    conf_rev = options.0;
+    opt_flds = options.1;
+    buf_tm = options.2;
+    trg_ops = triggers.0;
+    intg_pd = triggers.1;
+    capacity = triggers.2;
   }))
-block_fields_at before _ = Err kinds.Word
 
-unfoldable pub block_at : List Line → List ℕ → List (List ℕ) → Result Line Kind
-block_at before name words =
+unfoldable pub block_at : List Line → (name rpt_id dat_set conf_rev opt_flds buf_tm trg_ops intg_pd capacity : List ℕ) → Result Line Kind
+block_at before name rpt_id dat_set conf_rev opt_flds buf_tm trg_ops intg_pd capacity =
     if is_name name then (if is_taken (claims before) (item_key (domain_of before) (node_of before) (codes "BR") name) then Err kinds.Duplicate
-      else block_fields_at before words)
+      else block_fields_at before name rpt_id dat_set conf_rev opt_flds buf_tm trg_ops intg_pd capacity)
     else Err kinds.Name
 
 abbrev pub control_type_at : List ℕ → Option TypeOf

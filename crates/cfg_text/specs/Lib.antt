@@ -11,3 +11,4 @@ pub mod Claims
 pub mod Known
 pub mod Reader
 pub mod Contents
+pub mod Judging
