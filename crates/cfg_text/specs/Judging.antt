@@ -119,7 +119,7 @@ may_stand before keywords.Set words = is_in_node (place_of before)
 may_stand before keywords.Member words = is_in_set (place_of before)
 may_stand before keywords.Brcb words = is_in_node (place_of before)
 may_stand before keywords.Ctl words = is_in_node (place_of before)
-may_stand before keywords.Sgcb words = is_in_node (place_of before) && bytes_eq (node_of before) (codes "LLN0") && not (has_settings before)
+may_stand before keywords.Sgcb words = (is_in_node (place_of before) && bytes_eq (node_of before) (codes "LLN0")) && not (has_settings before)
 may_stand before keywords.End words = is_open (place_of before)
 
 -- the first word's path has more than eight names

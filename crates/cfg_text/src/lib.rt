@@ -4,6 +4,7 @@
 mod claiming;
 mod contents;
 mod fault;
+mod judging;
 mod keys;
 mod kinds;
 mod line;
