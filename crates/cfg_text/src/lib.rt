@@ -12,6 +12,7 @@ mod names;
 mod numbers;
 mod reading;
 mod taken;
+mod telling;
 mod values;
 mod words;
 
