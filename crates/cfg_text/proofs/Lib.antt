@@ -4,3 +4,4 @@ pub mod TakenLaws
 pub mod PathLaws
 pub mod KnownLaws
 pub mod ValueLaws
+pub mod TextLaws

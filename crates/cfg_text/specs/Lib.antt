@@ -12,3 +12,4 @@ pub mod Known
 pub mod Reader
 pub mod Contents
 pub mod Judging
+pub mod Text

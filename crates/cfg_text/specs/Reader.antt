@@ -2,6 +2,8 @@
 use Rattle.std.specs.Prelude.{◌≡◌, Option, Some, None, Result, Ok, Err}
 use Rattle.cfg_text.specs.declared.fault.Kind.{Kind}
 use Rattle.cfg_text.specs.declared.fault.LineFault.{LineFault}
+use Rattle.cfg_text.specs.declared.fault.CfgFault.{CfgFault}
+use Rattle.cfg_text.specs.declared.fault.CfgFault.TheVariants as faults
 use Rattle.cfg_text.specs.declared.fault.LineFault.TheVariants.{Refused, Memory}
 
 -- what a function returned is what is read; of want of memory nothing is said
@@ -19,3 +21,9 @@ abbrev pub ◌>>=◌ : {A B : Type 0} → Result A Kind → (A → Result B Kind
 abbrev pub given : {A : Type 0} → Kind → Option A → Result A Kind
 given kind None = Err kind
 given kind (Some x) = Ok x
+
+-- the same of a whole text
+abbrev pub GivesText : {A : Type 0} → Result A CfgFault → Result A CfgFault → Type 0
+GivesText (Ok x) read = read ≡ Ok x
+GivesText (Err (faults.Refused line kind)) read = read ≡ Err (faults.Refused line kind)
+GivesText (Err faults.Memory) read = Unit {0}

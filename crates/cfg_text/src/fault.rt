@@ -63,6 +63,26 @@ pub enum CfgFault {
     Memory,
 }
 
+impl From<AllocError> for CfgFault {
+    ghost use Rattle.cfg_text.specs.declared.fault.CfgFault.TheVariants.{Memory};
+
+    ghost from_gives = { λ _ e. e ≡ Memory };
+
+    fn from(_error: AllocError) -> CfgFault {
+        CfgFault::Memory
+    }
+}
+
+impl<T: Drop> From<AllocFailed<T>> for CfgFault {
+    ghost use Rattle.cfg_text.specs.declared.fault.CfgFault.TheVariants.{Memory};
+
+    ghost from_gives = { λ _ e. e ≡ Memory };
+
+    fn from(_error: AllocFailed<T>) -> CfgFault {
+        CfgFault::Memory
+    }
+}
+
 /// Why a line can't be told.
 #[derive(Clone, Copy, Debug, PartialEq, Eq)]
 pub enum LineFault {

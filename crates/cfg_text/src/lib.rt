@@ -8,6 +8,7 @@ mod judging;
 mod keys;
 mod kinds;
 mod line;
+mod lines;
 mod names;
 mod numbers;
 mod reading;
