@@ -5,3 +5,4 @@ pub mod PathLaws
 pub mod KnownLaws
 pub mod ValueLaws
 pub mod TextLaws
+pub mod ConfigLaws

@@ -13,3 +13,4 @@ pub mod Reader
 pub mod Contents
 pub mod Judging
 pub mod Text
+pub mod Configs

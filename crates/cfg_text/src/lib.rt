@@ -3,6 +3,7 @@
 
 mod claiming;
 mod contents;
+mod draft;
 mod fault;
 mod judging;
 mod keys;
