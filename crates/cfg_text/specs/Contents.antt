@@ -34,13 +34,13 @@ domain_at before name =
 unfoldable pub node_at : List Line → List ℕ → Result Line Kind
 node_at before name =
     if is_name name then (if is_among (heads before) (node_key (domain_of before) name) then Err kinds.Duplicate
-      else Ok (lines.Ln (record { line = number_of before; domain = domain_of before; ln = name })))
+    else Ok (lines.Ln (record { line = number_of before; domain = domain_of before; ln = name })))
     else Err kinds.Name
 
 unfoldable pub set_at : List Line → List ℕ → Result Line Kind
 set_at before name =
     if is_name name then (if is_among (sets before) (set_key (domain_of before) (node_of before) name) then Err kinds.Duplicate
-      else Ok (lines.Set (record { line = number_of before; domain = domain_of before; ln = node_of before; name = name; members = [] })))
+    else Ok (lines.Set (record { line = number_of before; domain = domain_of before; ln = node_of before; name = name; members = [] })))
     else Err kinds.Name
 
 abbrev pub member_at : List ℕ → Result Line Kind
@@ -87,8 +87,8 @@ typed_at before fc path kind flags values = do
 unfoldable pub attribute_at : List Line → List ℕ → List ℕ → List ℕ → List ℕ → List (List ℕ) → Result Line Kind
 attribute_at before fc path kind flags values =
     if is_fc fc then (if is_path path then (if is_taken (claims before) (item_key (domain_of before) (node_of before) fc path) then Err kinds.Duplicate
-      else typed_at before fc path kind flags values)
-      else Err kinds.Name)
+    else typed_at before fc path kind flags values)
+    else Err kinds.Name)
     else Err kinds.Name
 
 -- RptID and DatSet
@@ -138,7 +138,7 @@ block_fields_at before name rpt_id dat_set conf_rev opt_flds buf_tm trg_ops intg
 unfoldable pub block_at : List Line → (name rpt_id dat_set conf_rev opt_flds buf_tm trg_ops intg_pd capacity : List ℕ) → Result Line Kind
 block_at before name rpt_id dat_set conf_rev opt_flds buf_tm trg_ops intg_pd capacity =
     if is_name name then (if is_taken (claims before) (item_key (domain_of before) (node_of before) (codes "BR") name) then Err kinds.Duplicate
-      else block_fields_at before name rpt_id dat_set conf_rev opt_flds buf_tm trg_ops intg_pd capacity)
+    else block_fields_at before name rpt_id dat_set conf_rev opt_flds buf_tm trg_ops intg_pd capacity)
     else Err kinds.Name
 
 abbrev pub control_type_at : List ℕ → Option TypeOf
@@ -168,7 +168,7 @@ model_of model = unwrap_or (number_within 0 4 model) 0
 unfoldable pub control_at : List Line → List ℕ → List ℕ → List ℕ → List ℕ → List ℕ → Result Line Kind
 control_at before path model timeout class kind =
     if is_path path then (if list_any (λ key. is_taken (claims before) key) (control_keys (domain_of before) (node_of before) path (model_of model)) then Err kinds.Duplicate
-      else control_fields_at before path model timeout class kind)
+    else control_fields_at before path model timeout class kind)
     else Err kinds.Name
 
 unfoldable pub group_fields_at : List Line → List ℕ → List ℕ → Result Line Kind

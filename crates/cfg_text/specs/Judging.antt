@@ -168,8 +168,8 @@ content_at before _ _ = Err kinds.Word
 unfoldable pub keyed_at : List Line → Keyword → List (List ℕ) → Result Line Kind
 keyed_at before keyword words =
     if counts before keyword words then (if may_stand before keyword words then (if is_full before || has_many before keyword words then Err kinds.Many
-      else content_at before keyword words)
-      else Err kinds.Order)
+    else content_at before keyword words)
+    else Err kinds.Order)
     else Err kinds.Word
 
 abbrev pub known_at : List Line → Option Keyword → List (List ℕ) → Result Line Kind

@@ -12,7 +12,9 @@ use crate::numbers::number_between;
 use crate::reading::Reading;
 use crate::values::{bits, owned, text, value};
 use std::alloc::{AllocError, Global};
-use sv_base::{AttrDef, Bits, BlockDef, CtlDef, LnDef, Octs, OctsList, SetDef, SgDef, TypeOf, Value, Values};
+use sv_base::{
+    AttrDef, Bits, BlockDef, CtlDef, LnDef, Octs, OctsList, SetDef, SgDef, TypeOf, Value, Values,
+};
 
 /// `config` and its version.
 pub fn config_line(version: &[u8]) -> Result<Line, LineFault>
@@ -249,18 +251,22 @@ pub struct BlockWords<'a> {
 
 /// The numbers and values of a report control block.
 #[tactic(auto, unfolding(crate::specs::Contents::block_fields_at))]
-fn block_fields(
-    alloc: Global,
-    before: &Reading,
-    words: BlockWords<'_>,
-) -> Result<Line, LineFault>
+fn block_fields(alloc: Global, before: &Reading, words: BlockWords<'_>) -> Result<Line, LineFault>
     ensures { Gives result (block_fields_at before.now words.entry.name.now words.entry.rpt_id.now words.entry.dat_set.now words.entry.conf_rev.now words.entry.opt_flds.now words.entry.buf_tm.now words.entry.trg_ops.now words.entry.intg_pd.now words.entry.capacity.now) }
 {
     let (rpt_id, dat_set) = block_texts(alloc, words.rpt_id, words.dat_set)?;
-    let (conf_rev, opt_flds, buf_tm) =
-        block_options(alloc, words.conf_rev, words.opt_flds, words.buf_tm)?;
-    let (trg_ops, intg_pd, capacity) =
-        block_triggers(alloc, words.trg_ops, words.intg_pd, words.capacity)?;
+    let (conf_rev, opt_flds, buf_tm) = block_options(
+        alloc,
+        words.conf_rev,
+        words.opt_flds,
+        words.buf_tm,
+    )?;
+    let (trg_ops, intg_pd, capacity) = block_triggers(
+        alloc,
+        words.trg_ops,
+        words.intg_pd,
+        words.capacity,
+    )?;
     Ok(Line::Brcb(BlockDef {
         line: before.number(),
         domain: owned(alloc, before.domain())?,
@@ -279,11 +285,7 @@ fn block_fields(
 
 /// `brcb` and what describes a report control block.
 #[tactic(auto, unfolding(crate::specs::Contents::block_at))]
-pub fn block_line(
-    alloc: Global,
-    before: &Reading,
-    words: BlockWords<'_>,
-) -> Result<Line, LineFault>
+pub fn block_line(alloc: Global, before: &Reading, words: BlockWords<'_>) -> Result<Line, LineFault>
     ensures { Gives result (block_at before.now words.entry.name.now words.entry.rpt_id.now words.entry.dat_set.now words.entry.conf_rev.now words.entry.opt_flds.now words.entry.buf_tm.now words.entry.trg_ops.now words.entry.intg_pd.now words.entry.capacity.now) }
 {
     if !is_name(words.name) {

@@ -19,3 +19,6 @@ mod values;
 mod words;
 
 pub use fault::{CfgFault, Kind};
+
+#[cfg(test)]
+mod tests;

@@ -2,12 +2,13 @@ ghost use Rattle.std.specs.Prelude.{◌≡◌, true, codes, if◌then◌else◌}
 ghost use Rattle.std.specs.Str.{bytes_eq};
 
 use crate::claiming::{add_node, add_set, with_attribute, with_block, with_control, with_groups};
+use crate::draft::config_of;
 use crate::line::{Line, Place};
 use crate::taken::{Keys, Names};
 use crate::values::{empty, owned};
 use std::alloc::{AllocError, Global};
 use std::marker::Model;
-use sv_base::{AttrDef, BlockDef, CtlDef, LnDef, Octs, SetDef, SgDef};
+use sv_base::{AttrDef, BlockDef, Config, CtlDef, LnDef, Octs, SetDef, SgDef};
 
 /// The functional constraint is SG, or there was one.
 fn is_settings(fc: &[u8], before: bool) -> bool
@@ -74,6 +75,7 @@ impl Reading {
     ghost use Rattle.std.specs.List.{list_any};
     ghost use Rattle.cfg_text.specs.Taken.{is_among, octets_of};
     ghost use Rattle.cfg_text.specs.Paths.{is_taken as is_taken_by};
+    ghost use Rattle.cfg_text.specs.Configs.{config_of as config_of_lines};
     ghost use Rattle.cfg_text.specs.Claims.{heads as heads_before, sets as set_keys_before, claims};
 
     /// No line was read.
@@ -363,5 +365,14 @@ impl Reading {
             Line::Sgcb(groups) => self.with_groups(alloc, groups),
             Line::End => self.with_end(),
         }
+    }
+
+    /// The configuration that the lines make.
+    pub fn into_config(self, alloc: Global) -> Result<Config, AllocError>
+        ensures { IfOk result (λ c. c ≡ config_of_lines self) }
+    {
+        let Reading { kept } = self;
+        let config = config_of(alloc, kept.lines)?;
+        Ok(config)
     }
 }

@@ -56,7 +56,17 @@ fn content(
         (Keyword::Member, [reference]) => member_line(alloc, reference),
         (
             Keyword::Brcb,
-            [name, rpt_id, dat_set, conf_rev, opt_flds, buf_tm, trg_ops, intg_pd, capacity],
+            [
+                name,
+                rpt_id,
+                dat_set,
+                conf_rev,
+                opt_flds,
+                buf_tm,
+                trg_ops,
+                intg_pd,
+                capacity,
+            ],
         ) => block_line(
             alloc,
             before,
@@ -106,12 +116,7 @@ fn keyed(
 
 /// A line of words.
 #[tactic(auto, unfolding(crate::specs::Judging::tell_at))]
-fn tell(
-    alloc: Global,
-    before: &Reading,
-    text: &[u8],
-    words: &[&[u8]],
-) -> Result<Line, LineFault>
+fn tell(alloc: Global, before: &Reading, text: &[u8], words: &[&[u8]]) -> Result<Line, LineFault>
     ensures told { Gives result (tell_at before.now text.now (texts words.now)) }
     ensures room { IfOk result (λ _. length before.now < 20000) }
 {
