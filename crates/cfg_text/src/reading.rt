@@ -69,7 +69,7 @@ impl Model for Reading {
 
 impl Reading {
     ghost use Rattle.std.specs.Prelude.{◌≡◌, ◌≤◌, ◌<◌, ◌∷◌, [], length, IfOk};
-    ghost use Rattle.cfg_text.specs.declared.line.Line.TheVariants.{Skip, Config, Server, Ld, Ln, Attr, Set, Member, Brcb, Ctl, Sgcb, End};
+    ghost use Rattle.cfg_text.specs.declared.line.Line.TheVariants.{Skip, Config as ConfigLine, Server, Ld, Ln, Attr, Set, Member, Brcb, Ctl, Sgcb, End};
     ghost use Rattle.cfg_text.specs.Before.{number_of, place_of, domain_of, node_of, groups_of, has_settings as has_settings_before, domains as domains_before, nodes as nodes_before, attributes as attributes_before, sets as sets_before, members as members_before, blocks as blocks_before, controls as controls_before};
     ghost use Rattle.std.specs.Prelude.{map};
     ghost use Rattle.std.specs.List.{list_any};
@@ -208,7 +208,7 @@ impl Reading {
 
     fn with_config(self) -> Result<Reading, AllocError>
         requires few { length self < 20000 }
-        ensures { IfOk result (λ r. r ≡ Config ∷ self) }
+        ensures { IfOk result (λ r. r ≡ ConfigLine ∷ self) }
     {
         let Reading { mut kept } = self;
         kept.place = Place::Configured;
