@@ -1,5 +1,5 @@
 -- The configuration that lines make, from the first line on and from the last.
-use Rattle.std.proofs.Common.{◌≡◌, ℕ, List, [], ◌∷◌, ◌++◌, length, reverse, refl, sym, ap, ◌∙◌, arith, append_assoc, length-append}
+use Rattle.std.proofs.Common.{◌≡◌, ℕ, List, [], ◌∷◌, ◌++◌, reverse, refl, sym, ap, ◌∙◌}
 use Rattle.std.proofs.lemmas.List.{reverse-append}
 use Rattle.sv_base.specs.declared.config.Config.{Config}
 use Rattle.sv_base.specs.declared.config.SetDef.{SetDef}

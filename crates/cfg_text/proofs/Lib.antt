@@ -6,3 +6,4 @@ pub mod KnownLaws
 pub mod ValueLaws
 pub mod TextLaws
 pub mod ConfigLaws
+pub mod NodeFacts

@@ -1,13 +1,12 @@
 -- Which paths are taken.
-use Rattle.std.proofs.Common.{◌≡◌, ℕ, zero, suc, ◌+◌, ◌<◌, Bool, true, false, ◌||◌, List, [], ◌∷◌, ◌++◌, length, take, get_or, cond, refl, sym, ap, ◌∙◌, arith, inl, inr}
+use Rattle.std.proofs.Common.{◌≡◌, ℕ, zero, suc, ◌<◌, Bool, true, false, ◌||◌, List, [], ◌∷◌, take, get_or, refl, sym, ap, ◌∙◌, arith, inl, inr}
 use Rattle.std.specs.List.{list_any}
 use Rattle.std.specs.Str.{bytes_eq}
 use Rattle.std.proofs.lemmas.Bool.{cond_both, cases_eq, cond-true, eq-eqb, or_right}
 use Rattle.std.proofs.lemmas.Bool.Decides.{same_from_decides}
 use Rattle.std.proofs.lemmas.Slice.Eq.{bytes_eq-Decides}
-use Rattle.cfg_text.specs.Taken.{is_among, added}
-use Rattle.cfg_text.specs.Paths.{above_within, above, clashes, is_structure, is_taken}
-use Rattle.cfg_text.proofs.TakenLaws.{turned}
+use Rattle.cfg_text.specs.Taken.{is_among}
+use Rattle.cfg_text.specs.Paths.{above_within, above, is_structure, is_taken}
 
 -- a structure above the path passes the test
 pub above-found : (p : List ℕ → Bool) (path : List ℕ) (n i : ℕ) → i < n → get_or path i 0 ≡ 36 → p (take i path) ≡ true → list_any p (above_within n path) ≡ true

@@ -1,6 +1,6 @@
 -- What a line tells, word by word, with the first word that is refused.
 use Rattle.std.specs.declared.alloc.Global.{Global}
-use Rattle.std.specs.Prelude.{Vec, ℕ, ◌+◌, ◌||◌, Bool, true, false, List, [], ◌∷◌, length, codes, Option, Some, None, Result, Ok, Err, if◌then◌else◌, unwrap_or}
+use Rattle.std.specs.Prelude.{Vec, ℕ, Bool, List, [], ◌∷◌, codes, Option, Some, None, Result, Ok, Err, if◌then◌else◌, unwrap_or}
 use Rattle.std.specs.List.{list_any}
 use Rattle.std.specs.Str.{bytes_eq}
 use Rattle.sv_base.specs.Seen.{row_of}
@@ -15,12 +15,12 @@ use Rattle.cfg_text.specs.declared.line.Line.{Line}
 use Rattle.cfg_text.specs.declared.line.Line.TheVariants as lines
 use Rattle.cfg_text.specs.Reader.{◌>>=◌, given}
 use Rattle.cfg_text.specs.Names.{is_name, is_path, is_member}
-use Rattle.cfg_text.specs.Numbers.{number_at, number_within}
+use Rattle.cfg_text.specs.Numbers.{number_within}
 use Rattle.cfg_text.specs.Types.{type_at, flags_at}
 use Rattle.cfg_text.specs.Values.{value_at, text_at, bits_at}
 use Rattle.cfg_text.specs.Taken.{is_among}
 use Rattle.cfg_text.specs.Paths.{node_key, item_key, is_taken}
-use Rattle.cfg_text.specs.Before.{number_of, domain_of, node_of, groups_of}
+use Rattle.cfg_text.specs.Before.{number_of, domain_of, node_of}
 use Rattle.cfg_text.specs.Claims.{heads, sets, set_key, claims, control_keys, group_key}
 
 abbrev pub config_at : List ℕ → Result Line Kind

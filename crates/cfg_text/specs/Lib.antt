@@ -14,3 +14,5 @@ pub mod Contents
 pub mod Judging
 pub mod Text
 pub mod Configs
+pub mod Nodes
+pub mod Looking

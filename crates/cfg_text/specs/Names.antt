@@ -1,5 +1,5 @@
 -- Names, and what is made of them (IEC 61850-7-2, ObjectName and ObjectReference).
-use Rattle.std.specs.Prelude.{ℕ, ◌==◌, ◌&&◌, ◌||◌, nat_le, Bool, true, false, List, [], ◌∷◌, length, if◌then◌else◌}
+use Rattle.std.specs.Prelude.{ℕ, ◌==◌, ◌&&◌, ◌||◌, nat_le, Bool, false, List, [], ◌∷◌, length, if◌then◌else◌}
 use Rattle.std.specs.List.{slice_split, list_all, count_by}
 
 abbrev pub is_letter : ℕ → Bool

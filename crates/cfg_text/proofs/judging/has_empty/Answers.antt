@@ -1,5 +1,5 @@
 use Rattle.std.proofs.Common.{List, ℕ, length, rules, tests, sym, ◌∙◌}
-use Rattle.std.specs.Prelude.{nat_lt, ◌==◌}
+use Rattle.std.specs.Prelude.{◌==◌}
 use Rattle.std.specs.Borrow.{Bor}
 use Rattle.std.proofs.lemmas.Iterator.{YieldsList-from_slice}
 use Rattle.std.proofs.lemmas.Iterator.Search.{any_from_yields_List}

@@ -1,7 +1,4 @@
-use Rattle.std.proofs.Common.{◌||◌, true, if◌then◌else◌, arith, ap, length, reverse, ◌∙◌}
-use Rattle.std.specs.Prelude.{codes}
-use Rattle.std.specs.Str.{bytes_eq}
-use Rattle.cfg_text.specs.Taken.{is_among}
+use Rattle.std.proofs.Common.{arith, ap, length, reverse}
 use Rattle.cfg_text.proofs.KnownLaws.{known-set, sets-le}
 use Rattle.cfg_text.proofs.reading.Reading.with_set.Goals as goal
 

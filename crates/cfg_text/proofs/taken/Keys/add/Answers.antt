@@ -1,4 +1,4 @@
-use Rattle.std.proofs.Common.{◌∙◌, ap, ◌||◌, map}
+use Rattle.std.proofs.Common.{◌∙◌, ap, map}
 use Rattle.std.specs.Str.{bytes_eq}
 use Rattle.cfg_text.specs.Taken.{is_among, added, octets_of}
 use Rattle.cfg_text.proofs.TakenLaws.{items-inserted, any-added}
