@@ -1,0 +1,9 @@
+pub mod OptionLaws
+pub mod NumberLaws
+pub mod TakenLaws
+pub mod PathLaws
+pub mod KnownLaws
+pub mod ValueLaws
+pub mod TextLaws
+pub mod ConfigLaws
+pub mod NodeFacts

@@ -1,0 +1,30 @@
+//! The configuration of a server as a text, read line by line up to its `end`. What its lines name is not looked up yet.
+#![tactic(auto)]
+
+mod claiming;
+mod contents;
+mod draft;
+mod fault;
+mod judging;
+mod keys;
+mod kinds;
+mod line;
+mod lines;
+mod names;
+mod numbers;
+mod reading;
+mod taken;
+mod telling;
+mod values;
+mod words;
+
+// the lines of a configuration, and what they make
+pub use line::{Line, Place};
+pub use lines::read_lines;
+pub use reading::Reading;
+
+// why a text is no configuration
+pub use fault::{CfgFault, Kind};
+
+#[cfg(test)]
+mod tests;

@@ -1,0 +1,85 @@
+ghost use Rattle.std.specs.Prelude.{◌≡◌, ◌≤◌};
+ghost use Rattle.cfg_text.specs.Numbers.{number_at, number_within, int_at, negatives as negatives_of, minus as minus_of, positive_at, negative_at};
+
+use crate::words::after_front;
+use itoa::Buffer;
+use std::str;
+
+/// The number below 2^64 that the octets spell in decimal, without leading zeros.
+pub fn number(octets: &[u8]) -> Option<u64>
+    ensures { result ≡ number_at octets.now }
+{
+    let Ok(text) = str::from_utf8(octets) else {
+        return None;
+    };
+    let Ok(n) = text.parse::<u64>() else {
+        return None;
+    };
+    let mut buffer = Buffer::new();
+    if buffer.format(n) == text {
+        return Some(n);
+    }
+    None
+}
+
+/// The number, if it is within these bounds.
+pub fn number_between(octets: &[u8], least: u32, most: u32) -> Option<u32>
+    ensures { result ≡ number_within least most octets.now }
+{
+    match number(octets) {
+        Some(n) if n >= u64::from(least) && n <= u64::from(most) => Some(n as u32),
+        _ => None,
+    }
+}
+
+/// How many numbers of so many bits, 8, 16, 32 or 64, are negative.
+fn negatives(bits: u8) -> u64
+    ensures value { result ≡ negatives_of bits }
+    ensures few { result ≤ 9223372036854775808 }
+{
+    match bits {
+        8 => 128,
+        16 => 32768,
+        32 => 2147483648,
+        _ => 9223372036854775808,
+    }
+}
+
+/// The number with its sign turned round.
+fn minus(n: u64) -> i64
+    requires { n ≤ 9223372036854775808 }
+    ensures { result ≡ minus_of n }
+{
+    if n == 0 { 0 } else { -1 - (n - 1) as i64 }
+}
+
+fn positive(octets: &[u8], negatives: u64) -> Option<i64>
+    requires { negatives ≤ 9223372036854775808 }
+    ensures { result ≡ positive_at negatives (number_at octets.now) }
+{
+    match number(octets) {
+        Some(n) if n < negatives => Some(n as i64),
+        _ => None,
+    }
+}
+
+fn negative(digits: &[u8], negatives: u64) -> Option<i64>
+    requires { negatives ≤ 9223372036854775808 }
+    ensures { result ≡ negative_at negatives (number_at digits.now) }
+{
+    match number(digits) {
+        Some(n) if n <= negatives => Some(minus(n)),
+        _ => None,
+    }
+}
+
+/// The number of so many bits that the octets spell, with `-` where it is negative; 0 may have one too.
+pub fn int(octets: &[u8], bits: u8) -> Option<i64>
+    ensures { result ≡ int_at bits octets.now }
+{
+    let negatives = negatives(bits);
+    match after_front(octets, b"-") {
+        Some(digits) => negative(digits, negatives),
+        None => positive(octets, negatives),
+    }
+}
