@@ -1,1 +1,4 @@
 pub mod MemberLaws
+pub mod WholeLaws
+pub mod StandLaws
+pub mod OpenedLaws

@@ -2,3 +2,4 @@ pub mod Written
 pub mod Stored
 pub mod Opened
 pub mod Members
+pub mod Wholes

@@ -2,12 +2,14 @@
 #![tactic(auto)]
 
 mod fault;
+mod laws;
 mod members;
 mod octets;
 mod opening;
 mod store;
 
 pub use fault::SetFault;
+pub use laws::{a_write_stands, members_are_whole_values, opened_as_configured, settings_stand};
 pub use store::{Changed, Store};
 
 #[cfg(test)]
