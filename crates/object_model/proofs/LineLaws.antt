@@ -1,5 +1,5 @@
 -- The lines in the order of their numbers, as a stable sort leaves them.
-use Rattle.std.proofs.Common.{◌≡◌, ℕ, ◌+◌, ◌≤◌, ◌<◌, Bool, true, false, cond, List, [], ◌∷◌, ◌++◌, length, get_or, drop, filter, refl, sym, ap, ◌∙◌, append_assoc, nat_le, nat_eq, arith}
+use Rattle.std.proofs.Common.{◌≡◌, ℕ, ◌+◌, ◌≤◌, ◌<◌, Bool, true, false, cond, List, [], ◌∷◌, ◌++◌, length, get_or, drop, filter, refl, sym, ap, ◌∙◌, append_assoc, nat_le, arith}
 use Rattle.std.proofs.lemmas.List.{drop_more}
 use Rattle.sv_base.specs.declared.config.BlockDef.{BlockDef}
 use Rattle.std.proofs.lemmas.Bool.Decides.{nat_tests}
@@ -7,7 +7,7 @@ use Rattle.std.proofs.lemmas.List.Sorted.{IsNonDecreasingBy-from_sort}
 use Rattle.std.specs.Ordering.{nat_cmp}
 use Rattle.std.specs.List.Sorted.{IsSortedByKey, IsStableByKey}
 use Rattle.bay_model.specs.NamedLines.{Line, insert_line, in_order, block_line, block_lines}
-use Rattle.object_model.proofs.SortLaws.{Above, Rising, at, Alike, below_above, only_one, rising-from, alike-from}
+use Rattle.object_model.proofs.SortLaws.{Above, Rising, at, below_above, only_one, rising-from, alike-from}
 
 abbrev number : Line → ℕ
 number l = l.line

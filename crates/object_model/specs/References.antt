@@ -1,10 +1,9 @@
 -- The references of a configuration's blocks, controls and attributes, each list in the order of their numbers
 -- (IEC 61850-7-2, ObjectReference; IEC 61850-8-1, the names of BRCB, of controls and of data attributes).
-use Rattle.std.specs.Prelude.{ℕ, List, [], ◌++◌, map, flat_map, filter, codes}
+use Rattle.std.specs.Prelude.{ℕ, List, ◌++◌, map, flat_map, filter, codes}
 use Rattle.sv_base.specs.declared.config.Config.{Config}
 use Rattle.sv_base.specs.declared.config.AttrDef.{AttrDef}
 use Rattle.sv_base.specs.declared.config.CtlDef.{CtlDef}
-use Rattle.bay_model.specs.Model.{Block, Control}
 use Rattle.bay_model.specs.Lookups.{reference_of}
 use Rattle.bay_model.specs.Configured.{block_defined, control_defined}
 use Rattle.bay_model.specs.Generated.{within, Parameter, parameters}

@@ -1,5 +1,4 @@
 -- What the names of the code are in the model's words.
-use Rattle.std.specs.Prelude.{ℕ, List}
 use Rattle.bay_model.specs.Model as model
 use Rattle.bay_model.specs.Model.{Role, single, selecting, calling, several, attribute, component, setting, withheld}
 use Rattle.object_model.specs.declared.named.What.{What}

@@ -7,7 +7,6 @@ mod lines;
 mod named;
 
 // the references of numbered parts, and what finds a number
-mod copies;
 mod index;
 mod model;
 mod numbers;

@@ -9,7 +9,6 @@ ghost use Rattle.bay_model.specs.NamedLines.{attribute_line, attribute_lines, bl
 ghost use Rattle.bay_model.specs.Model.{attribute};
 ghost use Rattle.object_model.specs.Indexes.{Indexes};
 
-use crate::copies::{copy_octets, copy_type};
 use crate::index::Index;
 use crate::named::{
     Named, What, push_block, push_control, push_parameters, push_settings, push_structure,
@@ -18,7 +17,7 @@ use crate::numbers::{count, plus};
 use crate::references::{is_selected, is_setting, item_at};
 use std::alloc::{AllocError, Global};
 use std::marker::Model;
-use sv_base::{AttrDef, BlockDef, Config, CtlDef, LnDef, Octs, SgDef};
+use sv_base::{AttrDef, BlockDef, Config, CtlDef, LnDef, Octs, SgDef, copy_type};
 
 /// A line, by its number, with the items of its domain that it names.
 #[derive(Drop)]
@@ -46,7 +45,7 @@ fn push_node(alloc: Global, out: &mut Vec<Line>, node: &LnDef) -> Result<(), All
 {
     let mut names = Vec::new(alloc);
     push_structure(alloc, &mut names, node.ln.as_slice(), What::Structure)?;
-    let domain = copy_octets(alloc, node.domain.as_slice())?;
+    let domain = node.domain.copy(alloc)?;
     out.push(Line {
         number: node.line,
         domain,
@@ -101,7 +100,7 @@ fn push_attr(
 {
     let mut names = Vec::new(alloc);
     push_attr_names(alloc, &mut names, attr, number, twin)?;
-    let domain = copy_octets(alloc, attr.domain.as_slice())?;
+    let domain = attr.domain.copy(alloc)?;
     out.push(Line {
         number: attr.line,
         domain,
@@ -132,7 +131,7 @@ fn push_block_line(
 {
     let mut names = Vec::new(alloc);
     push_block_names(alloc, &mut names, block, number)?;
-    let domain = copy_octets(alloc, block.domain.as_slice())?;
+    let domain = block.domain.copy(alloc)?;
     out.push(Line {
         number: block.line,
         domain,
@@ -151,7 +150,7 @@ fn push_group(
 {
     let mut names = Vec::new(alloc);
     push_settings(alloc, &mut names, domain_number)?;
-    let domain = copy_octets(alloc, group.domain.as_slice())?;
+    let domain = group.domain.copy(alloc)?;
     out.push(Line {
         number: group.line,
         domain,
@@ -196,7 +195,7 @@ fn push_control_line(
     let mut names = Vec::new(alloc);
     push_control_names(alloc, &mut names, control, number)?;
     push_parameter_names(alloc, &mut names, control, first)?;
-    let domain = copy_octets(alloc, control.domain.as_slice())?;
+    let domain = control.domain.copy(alloc)?;
     out.push(Line {
         number: control.line,
         domain,
@@ -293,7 +292,7 @@ fn push_domain(alloc: Global, domains: &mut Vec<Octs>, domain: &[u8]) -> Result<
     ensures { OnOk result (domains.new.items ≡ with_domain domains.old.items domain.now) }
 {
     if !has_domain(domains, domain) {
-        domains.push(copy_octets(alloc, domain)?)?;
+        domains.push(Octs::from_vec(Vec::from_slice(alloc, domain)?))?;
     }
     Ok(())
 }

@@ -6,13 +6,12 @@ ghost use Rattle.bay_model.specs.Model.{withheld};
 ghost use Rattle.bay_model.specs.Kinds.{comp_kind, part_kind};
 ghost use Rattle.object_model.specs.Seen.{role_seen, part_seen, call_seen};
 
-use crate::copies::{copy_octets, copy_type};
 use crate::numbers::plus;
 use crate::references::{is_selected, joined};
 use bay_model::Comp;
 use std::alloc::{AllocError, Global};
 use std::marker::Model;
-use sv_base::{CtlDef, Octs, Parts, TypeOf};
+use sv_base::{CtlDef, Octs, Parts, TypeOf, copy_type};
 
 /// A component of a setting group block (IEC 61850-7-2, SGCB attributes).
 #[derive(Clone, Copy)]
@@ -265,7 +264,7 @@ pub fn push_structure(
 ) -> Result<(), AllocError>
     ensures { OnOk result (out.new.items ≡ out.old.items ++ structure_named item.now (role_seen what) ∷ []) }
 {
-    let item = copy_octets(alloc, item)?;
+    let item = Octs::from_vec(Vec::from_slice(alloc, item)?);
     let kind = TypeOf::Struct(Parts::from_vec(Vec::new(alloc)));
     out.push(Named { item, what, kind })?;
     Ok(())

@@ -1,7 +1,7 @@
-use Rattle.std.proofs.Common.{rules, ◌≡◌, ap, sym, ◌∙◌, [], ◌++◌}
+use Rattle.std.proofs.Common.{ap, sym, ◌∙◌, ◌++◌}
 use Rattle.std.specs.Map.{lookup}
 use Rattle.std.specs.Str.{bytes_eq}
-use Rattle.object_model.proofs.NumberLaws.{added_as, kept}
+use Rattle.object_model.proofs.NumberLaws.{added_as}
 use Rattle.object_model.proofs.index.add.Goals as goal
 
 pub returns : goal.returns

@@ -1,4 +1,4 @@
-use Rattle.std.proofs.Common.{ℕ, rules, ap, ◌∙◌, [], ◌++◌}
+use Rattle.std.proofs.Common.{ℕ, rules, ap, ◌∙◌, ◌++◌}
 use Rattle.std.proofs.lemmas.List.Sorted.{answers_always}
 use Rattle.bay_model.specs.NamedLines.{Line, lines, in_order}
 use Rattle.object_model.proofs.LineLaws.{sorted_is}

@@ -1,7 +1,5 @@
-use Rattle.std.proofs.Common.{◌≡◌, ◌++◌, map, flat_map, filter, take}
-use Rattle.bay_model.specs.Configured.{block_defined, control_defined}
-use Rattle.bay_model.specs.NamedLines.{is_setting}
-use Rattle.object_model.specs.References.{line_reference, twin_reference, parameter_references}
+use Rattle.std.proofs.Common.{◌≡◌, map, take}
+use Rattle.bay_model.specs.Configured.{block_defined}
 use Rattle.object_model.proofs.references.block_references.Given as goal
 
 abbrev pub invariant-loop-block : goal.invariant-loop-block

@@ -1,7 +1,6 @@
-use Rattle.std.proofs.Common.{◌≡◌, ◌++◌, map, flat_map, filter, take}
-use Rattle.bay_model.specs.Configured.{block_defined, control_defined}
+use Rattle.std.proofs.Common.{◌≡◌, ◌++◌, map, filter, take}
 use Rattle.bay_model.specs.NamedLines.{is_setting}
-use Rattle.object_model.specs.References.{line_reference, twin_reference, parameter_references}
+use Rattle.object_model.specs.References.{twin_reference}
 use Rattle.object_model.proofs.references.push_twins.Given as goal
 
 abbrev pub invariant-loop-attr : goal.invariant-loop-attr

@@ -1,5 +1,4 @@
-use Rattle.std.proofs.Common.{rules, ◌≡◌, ap, sym, ◌∙◌, [], ◌++◌}
-use Rattle.std.specs.Map.{lookup}
+use Rattle.std.proofs.Common.{ap, sym, ◌∙◌}
 use Rattle.std.specs.Str.{bytes_eq}
 use Rattle.object_model.specs.Numbers.{number_or}
 use Rattle.object_model.proofs.NumberLaws.{number-more}
