@@ -101,8 +101,8 @@ fn reasons_by_trigger(rt: HostRuntime) -> Result<(), Fail> {
         (&[change(2, UPDATE, false)], update, "2u 3u "),
         (&[change(4, UPDATE, true)], all, ""),
     ];
-    let mut out = Note::new(rt.alloc(), 3)?;
     for (changes, trg, wanted) in table {
+        let mut out = Note::new(rt.alloc(), 3)?;
         note(changes, &set, trg, &mut out);
         assert_eq!(rt; told(&rt, &out)?.as_str(), wanted, "note");
     }
