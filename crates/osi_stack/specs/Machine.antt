@@ -8,15 +8,17 @@ use Rattle.tpkt_cotp.specs.declared.fault.TpFault.TheVariants as transport
 use Rattle.tpkt_cotp.specs.Written.{confirm_of, tsdu_of}
 use Rattle.session_pres.specs.declared.fault.SpFault.TheVariants as session
 use Rattle.session_pres.specs.Steps.{required}
-use Rattle.session_pres.specs.Units.{Seen, connect, transfer, finish, abort, spdu_at}
+use Rattle.session_pres.specs.Units.{Seen, connect, transfer, finish, abort}
+use Rattle.session_pres.specs.UnitReading.{spdu_at}
 use Rattle.session_pres.specs.UserData.{user_data_at}
 use Rattle.session_pres.specs.Presentation.{Request}
 use Rattle.session_pres.specs.PresentationReading.{cp_at}
-use Rattle.session_pres.specs.Written.{accept_spdu, cpa_octets, release_spdu}
+use Rattle.session_pres.specs.Written.{accept_spdu, release_spdu}
+use Rattle.session_pres.specs.WrittenPpdu.{cpa_octets}
 use Rattle.acse_apdu.specs.Reading.{anywhere, pdu_of_aarq, rlrq_of}
 use Rattle.acse_apdu.specs.Written.{aare_octets, release_octets}
 use Rattle.mms_pdu.specs.declared.initiate.Initiate.{Initiate}
-use Rattle.mms_pdu.specs.Initiate.{initiate_at}
+use Rattle.mms_pdu.specs.InitiateReading.{initiate_at}
 use Rattle.mms_pdu.specs.InitiateOctets.{initiate_answer}
 use Rattle.osi_stack.specs.declared.events.Event.{Event}
 use Rattle.osi_stack.specs.declared.events.Event.TheVariants.{Answer, Connected, Pdu, Released, Aborted}
