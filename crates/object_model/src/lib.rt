@@ -13,6 +13,3 @@ mod numbers;
 mod references;
 
 pub use model::Model;
-
-#[cfg(test)]
-mod tests;
