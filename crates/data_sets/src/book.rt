@@ -5,6 +5,7 @@ ghost use Rattle.data_sets.specs.Booked.{Booked, is_name as is_named, AreThere, 
 
 use bay_model::{MemberShape, NodeRow, NodeTable, SetName, SetRow, SetTable, SetView};
 use std::alloc::{AllocError, Global};
+use std::marker::Model;
 use sv_base::NodeId;
 
 /// A data set: its name, and the shapes of its members.
@@ -14,10 +15,24 @@ struct Entry {
     members: Vec<MemberShape>,
 }
 
-/// The data sets that are there, the configured ones in the order of the configuration.
+/// The data sets that are there, the configured ones in the order of the configuration. Contracts see the list of them.
 #[derive(Debug, Drop)]
 pub struct SetBook {
     entries: Vec<Entry>,
+}
+
+impl Model for SetBook {
+    ghost use Rattle.std.specs.Prelude.{List, map};
+    ghost use Rattle.data_sets.specs.Booked.{Booked, seen};
+
+    ghost Value = { List Booked };
+
+    ghost use Rattle.std.specs.Coded.{codes};
+    ghost use Rattle.sv_base.specs.Types.{fields_code};
+
+    ghost coded = { Prim.hlevel (codes, fields_code) };
+
+    ghost view = { λ b. map seen b.entries.items };
 }
 
 /// Whether the two names are the same.
@@ -89,7 +104,7 @@ impl SetBook {
     /// The configured data sets, with the shapes of their nodes. The table of the nodes has each node that a set names.
     pub fn open(alloc: Global, sets: &SetTable, nodes: &NodeTable) -> Result<SetBook, AllocError>
         requires { AllThere (length nodes.now) sets.now }
-        ensures { IfOk result (λ book. map seen book.entries.items ≡ map (booked nodes.now) sets.now) }
+        ensures { IfOk result (λ book. book ≡ map (booked nodes.now) sets.now) }
     {
         let rows = nodes.as_slice();
         let mut entries = Vec::new(alloc);
@@ -101,7 +116,7 @@ impl SetBook {
 
     /// The members of the data set of this name; none exactly where no such set is there.
     pub fn find(&self, name: &SetName) -> Option<SetView<'_>>
-        ensures { option_map (λ (v : SetView). v.members.now) result ≡ found name.now (map seen self.now.entries.items) }
+        ensures { option_map (λ (v : SetView). v.members.now) result ≡ found name.now self.now }
     {
         let entry = entry_named(&self.entries, name)?;
         Some(SetView {

@@ -6,3 +6,6 @@ mod laws;
 
 pub use book::SetBook;
 pub use laws::sets_are_the_definition;
+
+#[cfg(test)]
+mod tests;

@@ -11,3 +11,6 @@ mod store;
 pub use fault::SetFault;
 pub use laws::{a_write_stands, members_are_whole_values, opened_as_configured, settings_stand};
 pub use store::{Changed, Store};
+
+#[cfg(test)]
+mod tests;

@@ -16,11 +16,11 @@ use sv_base::{AttrId, Part1, TypeOf};
 /// Adds the Data of a type, with the values of the first attributes; gives the other attributes.
 #[cycle(put)]
 fn put_kind<'a>(store: &Store, kind: &TypeOf, attrs: &'a [AttrId], out: &mut Fixed) -> &'a [AttrId]
-    requires there { AreStored (map stored store.now.cells.items) attrs.now }
+    requires there { AreStored store.now attrs.now }
     requires enough { leaves (shape_of kind.now) ≤ length attrs.now }
-    requires small { length (member_octets (map stored store.now.cells.items) kind.now attrs.now) < 2 ^ 32 }
-    requires room { length out.old.items + length (member_octets (map stored store.now.cells.items) kind.now attrs.now) ≤ out.old.room }
-    ensures written { out.new ≡ adds out.old (member_octets (map stored store.now.cells.items) kind.now attrs.now) }
+    requires small { length (member_octets store.now kind.now attrs.now) < 2 ^ 32 }
+    requires room { length out.old.items + length (member_octets store.now kind.now attrs.now) ≤ out.old.room }
+    ensures written { out.new ≡ adds out.old (member_octets store.now kind.now attrs.now) }
     ensures rest { result.now ≡ drop (leaves (shape_of kind.now)) attrs.now }
 {
     match kind {
@@ -47,11 +47,11 @@ fn put_parts<'a>(
     attrs: &'a [AttrId],
     out: &mut Fixed,
 ) -> &'a [AttrId]
-    requires there { AreStored (map stored store.now.cells.items) attrs.now }
+    requires there { AreStored store.now attrs.now }
     requires enough { leaves_in (fields_of parts.now) ≤ length attrs.now }
-    requires small { length (data_row (row_with (fields_of parts.now) (values_at (map stored store.now.cells.items) attrs.now))) < 2 ^ 32 }
-    requires room { length out.old.items + length (data_row (row_with (fields_of parts.now) (values_at (map stored store.now.cells.items) attrs.now))) ≤ out.old.room }
-    ensures written { out.new ≡ adds out.old (data_row (row_with (fields_of parts.now) (values_at (map stored store.now.cells.items) attrs.now))) }
+    requires small { length (data_row (row_with (fields_of parts.now) (values_at store.now attrs.now))) < 2 ^ 32 }
+    requires room { length out.old.items + length (data_row (row_with (fields_of parts.now) (values_at store.now attrs.now))) ≤ out.old.room }
+    ensures written { out.new ≡ adds out.old (data_row (row_with (fields_of parts.now) (values_at store.now attrs.now))) }
     ensures rest { result.now ≡ drop (leaves_in (fields_of parts.now)) attrs.now }
 {
     let mut rest = attrs;
@@ -70,12 +70,12 @@ impl Store {
 
     /// Adds the Data of a member to octets in room that was made before; gives how many these are. It takes no memory.
     pub fn member_bytes(&self, shape: &MemberShape, out: &mut Fixed) -> u32
-        requires there { AreStored (map stored self.now.cells.items) shape.now.attrs }
+        requires there { AreStored self.now shape.now.attrs }
         requires whole { leaves (shape_of shape.now.kind) ≡ length shape.now.attrs }
-        requires small { length (member_octets (map stored self.now.cells.items) shape.now.kind shape.now.attrs) < 2 ^ 32 }
-        requires room { length out.old.items + length (member_octets (map stored self.now.cells.items) shape.now.kind shape.now.attrs) ≤ out.old.room }
-        ensures written { out.new ≡ adds out.old (member_octets (map stored self.now.cells.items) shape.now.kind shape.now.attrs) }
-        ensures count { result ≡ length (member_octets (map stored self.now.cells.items) shape.now.kind shape.now.attrs) }
+        requires small { length (member_octets self.now shape.now.kind shape.now.attrs) < 2 ^ 32 }
+        requires room { length out.old.items + length (member_octets self.now shape.now.kind shape.now.attrs) ≤ out.old.room }
+        ensures written { out.new ≡ adds out.old (member_octets self.now shape.now.kind shape.now.attrs) }
+        ensures count { result ≡ length (member_octets self.now shape.now.kind shape.now.attrs) }
     {
         let start = out.len();
         put_kind(self, &shape.kind, shape.attrs.as_slice(), out);

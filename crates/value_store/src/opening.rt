@@ -185,7 +185,7 @@ impl Store {
     /// The configured values. Each attribute has room for the largest value of its type.
     pub fn open(alloc: Global, config: &Config) -> Result<Store, AllocError>
         requires { IsStorable config.now }
-        ensures { IfOk result (λ s. map stored s.cells.items ≡ opened config.now) }
+        ensures { IfOk result (λ s. s ≡ opened config.now) }
     {
         let mut cells = Vec::new(alloc);
         push_lines(alloc, &mut cells, config, config.attrs.as_slice())?;

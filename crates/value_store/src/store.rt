@@ -1,5 +1,6 @@
 use crate::fault::SetFault;
 use bay_model::{Misfit, Slot, ValueRef};
+use std::marker::Model;
 use sv_base::{AttrId, Value};
 
 /// An attribute: its value, and whether clients may write it.
@@ -15,10 +16,24 @@ pub struct Changed {
     pub differs: bool,
 }
 
-/// The values of all attributes, by their numbers.
+/// The values of all attributes, by their numbers. Contracts see the list of them.
 #[derive(Debug, Drop)]
 pub struct Store {
     pub(crate) cells: Vec<Cell>,
+}
+
+impl Model for Store {
+    ghost use Rattle.std.specs.Prelude.{List, map};
+    ghost use Rattle.value_store.specs.Stored.{Stored, stored};
+
+    ghost Value = { List Stored };
+
+    ghost use Rattle.std.specs.Coded.{codes};
+    ghost use Rattle.sv_base.specs.Tree.{row_code};
+
+    ghost coded = { Prim.hlevel (codes, row_code) };
+
+    ghost view = { λ s. map stored s.cells.items };
 }
 
 impl Cell {
@@ -47,14 +62,28 @@ impl Cell {
 }
 
 impl Store {
-    ghost use Rattle.std.specs.Prelude.{◌≡◌, ◌<◌, OnOk, OnErr, length, map, slice_set};
+    ghost use Rattle.std.specs.Prelude.{◌≡◌, ◌<◌, ◌==◌, OnOk, OnErr, length, slice_set};
     ghost use Rattle.bay_model.specs.Slots.{lent};
-    ghost use Rattle.value_store.specs.Stored.{stored, attribute, outcome, with_value};
+    ghost use Rattle.value_store.specs.Stored.{attribute, outcome, with_value};
+
+    /// How many attributes there are.
+    pub fn len(&self) -> usize
+        ensures { result ≡ length self.now }
+    {
+        self.cells.len()
+    }
+
+    /// There is no attribute.
+    pub fn is_empty(&self) -> bool
+        ensures { result ≡ (length self.now == 0) }
+    {
+        self.cells.is_empty()
+    }
 
     /// The value of an attribute, lent.
     pub fn get(&self, attr: AttrId) -> ValueRef<'_>
-        requires { attr.0 < length self.now.cells.items }
-        ensures { lent result ≡ (attribute (map stored self.now.cells.items) attr.0).held.value }
+        requires { attr.0 < length self.now }
+        ensures { lent result ≡ (attribute self.now attr.0).held.value }
     {
         self.cells[attr.0 as usize].slot.get()
     }
@@ -64,10 +93,10 @@ impl Store {
     /// Refuses, in this order, a value of another kind, a client's write of what clients may not write, and a value out of
     /// the type's range or above its greatest length. A refusal leaves the value as it was.
     pub fn set(&mut self, attr: AttrId, value: &Value, by_client: bool) -> Result<Changed, SetFault>
-        requires { attr.0 < length self.old.cells.items }
-        ensures answer { result ≡ outcome (attribute (map stored self.old.cells.items) attr.0) value.now by_client }
-        ensures set { OnOk result (map stored self.new.cells.items ≡ slice_set (map stored self.old.cells.items) attr.0 (with_value value.now (attribute (map stored self.old.cells.items) attr.0))) }
-        ensures kept { OnErr result (map stored self.new.cells.items ≡ map stored self.old.cells.items) }
+        requires { attr.0 < length self.old }
+        ensures answer { result ≡ outcome (attribute self.old attr.0) value.now by_client }
+        ensures set { OnOk result (self.new ≡ slice_set self.old attr.0 (with_value value.now (attribute self.old attr.0))) }
+        ensures kept { OnErr result (self.new ≡ self.old) }
     {
         self.cells[attr.0 as usize].set(value, by_client)
     }

@@ -15,7 +15,7 @@ use Rattle.value_store.proofs.members.+put.Goals as goal
 
 pub put_kind-put_parts-rest-requires : goal.put_kind-put_parts-rest-requires
 put_kind-put_parts-rest-requires t c =
-    let all = map stored c.args.store.now.cells.items in
+    let all = c.args.store.now in
     let within = inside c.args.kind.now c.in-Struct.parts c.as_slice.result.now (values_at all c.args.attrs.now) c.in-Struct.is c.as_slice.ensures.fields in
     let content = data_row (row_with (fields_of c.as_slice.result.now) (values_at all c.args.attrs.now)) in (
       omega (arith, c.decreases, ap size-TypeOf c.in-Struct.is, most-parts-size-lt c.as_slice.result.now c.in-Struct.parts c.as_slice.ensures.fields),
@@ -33,7 +33,7 @@ put_kind-put_parts-rest-requires t c =
 
 pub put_parts-put_kind-rest-requires : goal.put_parts-put_kind-rest-requires
 put_parts-put_kind-rest-requires t c =
-    let all = map stored c.args.store.now.cells.items in
+    let all = c.args.store.now in
     let before = take c.loop-part.part-index c.args.parts.now in
     let values = values_at all c.args.attrs.now in
     let part = part_within c.args.parts.now c.loop-part.part-index c.part-item.result values c.loop-part-test.true c.part-item.is in
@@ -57,7 +57,7 @@ put_parts-put_kind-rest-requires t c =
 
 pub put_parts-loop-part-preserved : goal.put_parts-loop-part-preserved
 put_parts-loop-part-preserved t c =
-    let all = map stored c.args.store.now.cells.items in
+    let all = c.args.store.now in
     let before = take c.loop-part.part-index c.args.parts.now in
     let values = values_at all c.args.attrs.now in
     let next : c.loop-part.part-index + 1 ≡ suc c.loop-part.part-index = omega arith in

@@ -9,5 +9,5 @@ use Rattle.value_store.proofs.members.+put.Given as goal
 abbrev pub invariant-put_parts-loop-part : goal.invariant-put_parts-loop-part
 invariant-put_parts-loop-part l = record {
   rest : l.rest ≡ drop (leaves_in (fields_of (take l.part-index l.parts))) l.fn.attrs;
-  written : l.out ≡ adds l.fn.out (data_row (row_with (fields_of (take l.part-index l.parts)) (values_at (map stored l.fn.store.cells.items) l.fn.attrs)));
+  written : l.out ≡ adds l.fn.out (data_row (row_with (fields_of (take l.part-index l.parts)) (values_at l.fn.store l.fn.attrs)));
 }

@@ -1,12 +1,15 @@
-use Rattle.std.proofs.Common.{◌≡◌, ap, sym, ◌∙◌, map, slice_set}
-use Rattle.std.proofs.lemmas.List.{map-set, get_or-map}
+use Rattle.std.proofs.Common.{◌≡◌, ◌<◌, OnOk, ap, sym, subst, ◌∙◌, arith, List, length, map, slice_set}
+use Rattle.std.proofs.lemmas.List.{map-set, get_or-map, length-map}
 use Rattle.std.proofs.lemmas.Result.{on_ok_weaker}
 use Rattle.value_store.specs.Stored.{Stored, stored, attribute, no_attribute, with_value}
 use Rattle.value_store.proofs.store.Store.set.Goals as goal
 
 pub returns-clause-set : goal.returns-clause-set
 returns-clause-set c =
-    let at : stored c.index_mut.result.now ≡ attribute (map stored c.args.self.now.cells.items) c.args.attr.0
-    = ap stored c.index_mut.ensures.value ∙ sym (get_or-map stored c.args.self.now.cells.items c.args.attr.0 c.index_mut.result.now no_attribute c.requires) in
-    on_ok_weaker _ (λ is. map-set stored c.args.self.now.cells.items c.args.attr.0 c.set.new.self
-    ∙ ap (λ (s : Stored). slice_set (map stored c.args.self.now.cells.items) c.args.attr.0 s) (is ∙ ap (with_value c.args.value.now) at)) c.set.ensures.set
+    let cells = c.self.inside.cells.items in
+    let there : c.args.attr.0 < length cells = omega (arith, c.requires, ap length c.self.view_is, length-map cells stored) in
+    let at : stored c.index_mut.result.now ≡ attribute (map stored cells) c.args.attr.0
+    = ap stored c.index_mut.ensures.value ∙ sym (get_or-map stored cells c.args.attr.0 c.index_mut.result.now no_attribute there) in
+    subst (λ (all : List Stored). OnOk c.set.result (map stored (slice_set cells c.args.attr.0 c.set.new.self) ≡ slice_set all c.args.attr.0 (with_value c.args.value.now (attribute all c.args.attr.0)))) c.self.view_is
+    (on_ok_weaker _ (λ is. map-set stored cells c.args.attr.0 c.set.new.self
+    ∙ ap (λ (s : Stored). slice_set (map stored cells) c.args.attr.0 s) (is ∙ ap (with_value c.args.value.now) at)) c.set.ensures.set)
