@@ -3,18 +3,19 @@ ghost use Rattle.std.specs.List.{All};
 ghost use Rattle.std.specs.Str.{bytes_eq};
 ghost use Rattle.sv_base.specs.declared.config.Config.{Config as ConfigSeen};
 ghost use Rattle.sv_base.specs.declared.config.CtlDef.{CtlDef};
+ghost use Rattle.sv_base.specs.declared.types.TypeOf.TheVariants as types;
 ghost use Rattle.bay_model.specs.Configured.{kind_of};
 ghost use Rattle.bay_model.specs.Kinds.{is_kind, is_in_range};
 ghost use Rattle.bay_model.specs.Slots.{IsSettable};
 ghost use Rattle.value_store.specs.Opened.{HasValue, IsStorable, place_in};
 
 use super::*;
-use bay_model::ValueRef;
+use bay_model::{AttrIds, Fixed, MemberShape, ValueRef};
 use std::alloc::{AllocError, Global};
 use std::test::*;
 use sv_base::{
-    AttrDef, AttrDefs, AttrId, BlockDefs, Config, CtlDef, CtlDefs, LnDefs, Octs, SetDefs, SgDefs,
-    TypeOf, Value, Values,
+    AttrDef, AttrDefs, AttrId, BlockDefs, Config, CtlDef, CtlDefs, LnDefs, NodeId, Octs, Part1,
+    Parts, SetDefs, SgDefs, TypeOf, Value, Values,
 };
 
 fn octs(alloc: Global, octets: &[u8]) -> Result<Octs, AllocError>
@@ -154,5 +155,38 @@ fn sets_in_the_order_of_refusals(rt: HostRuntime) -> Result<(), Fail> {
     for (attr, wanted) in [(0, 8), (1, 0), (2, 0), (5, 1)] {
         assert_eq!(rt; number(&store, attr), wanted, "afterwards");
     }
+    Ok(())
+}
+
+fn part(alloc: Global, name: &[u8]) -> Result<Part1, AllocError>
+    ensures { IfOk result (λ p. p.kind ≡ types.Bool) }
+{
+    Ok(Part1 {
+        name: octs(alloc, name)?,
+        kind: TypeOf::Bool,
+    })
+}
+
+// ISO 9506-2, Data: a structure is `A2`, a boolean `83`.
+#[test]
+fn writes_members_in_the_order_of_their_type(rt: HostRuntime) -> Result<(), Fail> {
+    let alloc = rt.alloc();
+    let store = Store::open(alloc, &config(alloc)?)?;
+    assert!(rt; 2 < store.len());
+    assert!(rt; matches!(store.get(AttrId(1)), ValueRef::Bool(_)));
+    assert!(rt; matches!(store.get(AttrId(2)), ValueRef::Bool(_)));
+    let parts = vec![in alloc; part(alloc, b"general")?, part(alloc, b"phsA")?]?;
+    let shape = MemberShape {
+        node: NodeId(3),
+        kind: TypeOf::Struct(Parts::from_vec(parts)),
+        attrs: AttrIds::from_vec(vec![in alloc; AttrId(2), AttrId(1)]?),
+    };
+    let mut out = Fixed::new(alloc, 8)?;
+    let count = store.member_bytes(&shape, &mut out);
+    assert_eq!(rt; count, 8);
+    assert_eq!(rt;
+        out.as_slice(),
+        [0xa2, 6, 0x83, 1, 0, 0x83, 1, 0xff].as_slice()
+    );
     Ok(())
 }
