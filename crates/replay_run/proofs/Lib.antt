@@ -16,6 +16,7 @@ pub mod Steps
 pub mod Takes
 pub mod Texts
 pub mod Unlisted
+pub mod ReadWhole
 pub mod Writes
 pub mod OneReading
 pub mod OneWord

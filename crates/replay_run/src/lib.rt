@@ -9,6 +9,7 @@ mod line;
 #[cfg(test)]
 mod line_tests;
 mod numbers;
+mod pieces;
 mod reader;
 mod reading;
 mod replay;
@@ -21,3 +22,4 @@ mod text;
 pub mod tool;
 #[cfg(test)]
 mod tool_tests;
+mod whole;

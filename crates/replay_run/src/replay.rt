@@ -6,6 +6,7 @@ ghost use Rattle.replay_run.specs.Sessions.{Takes};
 ghost use Rattle.replay_run.specs.Tool.{status_by};
 
 use crate::line::Stop;
+use crate::pieces::read_piece;
 use crate::reader::Reader;
 use crate::status::Status;
 use std::alloc::{AllocError, Global};
@@ -85,17 +86,6 @@ fn take_piece<K: Sink>(
         },
         Err(AllocError) => Err(Halt::Memory),
     }
-}
-
-/// Reads at most so many octets to the front of the buffer; none where the source has ended.
-fn read_piece<S: Source>(source: &mut S, buf: &mut [u8], room: usize) -> Result<usize, Failed>
-    requires some { 0 < room }
-    requires fits { room ≤ length buf.old }
-    ensures bound { IfOk result (λ n. n ≤ room) }
-    ensures bytes { IfOk result (λ n. Consumes (S.left source.old) (S.left source.new) (take n buf.new) × (n ≡ 0 → IsAtEnd (S.left source.new))) }
-    ensures cause { HasCause (S.faults source.old) (S.faults source.new) result }
-{
-    source.read(&mut buf[..room])
 }
 
 /// A replay of a record: what was read, how many octets, and room for the answers to a piece.
