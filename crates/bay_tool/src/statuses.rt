@@ -2,12 +2,17 @@ use replay_run::status::Status;
 use std::test::Fail;
 
 /// A status, its exit number, and its words on standard error.
-const STATUSES: [(Status, u8, &str); 6] = [
+const STATUSES: [(Status, u8, &str); 7] = [
     (Status::Words, 1, "words"),
     (
         Status::Record { line: 23, kind: 7 },
         2,
         "record line 23 kind 7",
+    ),
+    (
+        Status::Config { line: 10, kind: 8 },
+        3,
+        "config line 10 kind 8",
     ),
     (Status::Limit { which: 3, line: 22 }, 4, "limit 3 line 22"),
     (Status::Memory, 5, "memory"),

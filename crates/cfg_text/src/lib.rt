@@ -20,7 +20,7 @@ mod words;
 
 // the lines of a configuration, and what they make
 pub use line::{Line, Place};
-pub use lines::read_lines;
+pub use lines::{read_config, read_lines};
 pub use reading::Reading;
 
 // why a text is no configuration

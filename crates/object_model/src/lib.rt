@@ -12,4 +12,5 @@ mod model;
 mod numbers;
 mod references;
 
+pub use lines::domains;
 pub use model::Model;

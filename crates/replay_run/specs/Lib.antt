@@ -11,3 +11,4 @@ pub mod Sessions
 pub mod Tool
 pub mod Runs
 pub mod Statuses
+pub mod Checked

@@ -1,5 +1,5 @@
 -- What the program answers.
-use Rattle.std.specs.Prelude.{◌≡◌, ℕ, suc, ◌+◌, Bool, true, false, List, [], ◌∷◌, length, take, map, nat_lt, codes, Option, None, Some, String}
+use Rattle.std.specs.Prelude.{◌≡◌, ℕ, suc, ◌+◌, Bool, true, false, List, [], ◌∷◌, length, take, map, nat_lt, codes, Option, None, Some, String, ◌⊎◌}
 use Rattle.std.specs.String.{string_bytes}
 use Rattle.std.specs.declared.alloc.Global.{Global}
 use Rattle.std.specs.Io.KnownBytes.{Appends}
@@ -14,9 +14,24 @@ use Rattle.replay_run.specs.declared.status.Status.TheVariants as statuses
 abbrev pub limit : ℕ
 limit = 67108864
 
--- the words are the one word
+-- the words are this one word
+abbrev pub IsWord : List ℕ → List (String Global) → Type 0
+IsWord word words = map string_bytes words ≡ word ∷ []
+
 abbrev pub IsReplay : List (String Global) → Type 0
-IsReplay words = map string_bytes words ≡ codes "replay" ∷ []
+IsReplay words = IsWord (codes "replay") words
+
+abbrev pub IsCheck : List (String Global) → Type 0
+IsCheck words = IsWord (codes "check") words
+
+abbrev pub IsCommand : List (String Global) → Type 0
+IsCommand words = IsReplay words ⊎ IsCheck words
+
+-- a status of a record
+abbrev pub IsOfReplay : Status → Type 0
+IsOfReplay statuses.Words = ⊥
+IsOfReplay (statuses.Config line kind) = ⊥
+IsOfReplay _ = Unit {0}
 
 -- a status that the record's octets decide
 abbrev pub IsJudgement : Status → Type 0

@@ -3,6 +3,7 @@
 
 mod bay;
 mod buffer;
+mod check;
 mod data;
 mod heading;
 mod line;

@@ -101,7 +101,7 @@ impl Replay {
     ghost use Rattle.std.specs.Bool.{MatchBool};
     ghost use Rattle.sv_io.specs.Causes.{Rose};
     ghost use Rattle.replay_run.specs.Runs.{IsReady, Run, Turns};
-    ghost use Rattle.replay_run.specs.Tool.{IsJudgement, Answers};
+    ghost use Rattle.replay_run.specs.Tool.{IsJudgement, IsOfReplay, Answers};
     ghost use Rattle.replay_run.specs.declared.status.Status.TheVariants as statuses;
 
     /// Nothing is read yet.
@@ -138,7 +138,7 @@ impl Replay {
         ensures turns { Turns result self.old self.new (S.left source.old) (S.left source.new) (K.taken sink.old) (K.taken sink.new) }
         ensures ready { IfNone result (IsReady self.new) }
         ensures further { IfNone result (self.old.count < self.new.count) }
-        ensures words { result ≢ Some statuses.Words }
+        ensures listed { IfSome result IsOfReplay }
         ensures read { result ≡ Some statuses.ReadFault → Rose (S.faults source.old) (S.faults source.new) }
         ensures write { result ≡ Some statuses.WriteFault → Rose (K.faults sink.old) (K.faults sink.new) }
         ensures later { (S.faults source.old ≤ S.faults source.new) × (K.faults sink.old ≤ K.faults sink.new) }
@@ -174,7 +174,7 @@ impl Replay {
         requires ready { IsReady self.now }
         requires full { 67108864 ≤ self.now.count }
         ensures told { (left taken told : Option (List ℕ)) → Run self.now.reader left (S.left source.old) taken told self.now.count → IsJudgement result → IfSome left (λ b. Answers b result taken told) }
-        ensures words { result ≢ statuses.Words }
+        ensures listed { IsOfReplay result }
         ensures read { result ≡ statuses.ReadFault → Rose (S.faults source.old) (S.faults source.new) }
         ensures write { result ≢ statuses.WriteFault }
         ensures later { S.faults source.old ≤ S.faults source.new }

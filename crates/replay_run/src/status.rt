@@ -9,6 +9,8 @@ pub enum Status {
     Words,
     /// A line of the record is refused.
     Record { line: u32, kind: u8 },
+    /// A line of the configuration is refused.
+    Config { line: u32, kind: u8 },
     /// A limit is passed in a line of the record: 3 for its octets.
     Limit { which: u8, line: u32 },
     /// There was no memory left.
@@ -31,6 +33,7 @@ impl Status {
             Status::Ok => 0,
             Status::Words => 1,
             Status::Record { .. } => 2,
+            Status::Config { .. } => 3,
             Status::Limit { .. } => 4,
             Status::Memory => 5,
             Status::ReadFault => 6,
@@ -50,6 +53,7 @@ impl Display for Status {
             Status::Ok => write!(f, "ok"),
             Status::Words => write!(f, "words"),
             Status::Record { line, kind } => write!(f, "record line {line} kind {kind}"),
+            Status::Config { line, kind } => write!(f, "config line {line} kind {kind}"),
             Status::Limit { which, line } => write!(f, "limit {which} line {line}"),
             Status::Memory => write!(f, "memory"),
             Status::ReadFault => write!(f, "read"),

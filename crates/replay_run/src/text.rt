@@ -10,7 +10,7 @@ use std::alloc::{AllocError, Global};
 use sv_base::AssocNo;
 
 /// Writes a number in decimal.
-fn push_number(out: &mut Vec<u8>, n: u64) -> Result<(), AllocError>
+pub fn push_number(out: &mut Vec<u8>, n: u64) -> Result<(), AllocError>
     ensures { OnOk result (out.new.items ≡ out.old.items ++ decimal n) }
 {
     out.extend_from_slice(Buffer::new().format(n).as_bytes())

@@ -1,18 +1,20 @@
 ghost use Rattle.std.specs.Prelude.{◌≡◌, ◌≢◌, ◌≤◌, ◌↔◌, IfSome, IsTrue};
 ghost use Rattle.sv_io.specs.Causes.{Rose};
-ghost use Rattle.replay_run.specs.Tool.{IsReplay, IsJudgement, Answers};
+ghost use Rattle.replay_run.specs.Checked.{IsChecked, IsOfCheck, Checks};
+ghost use Rattle.replay_run.specs.Tool.{IsWord, IsReplay, IsCheck, IsCommand, IsJudgement, IsOfReplay, Answers};
 
+use crate::check::check;
 use crate::replay::Replay;
 use crate::status::Status;
 use std::alloc::Global;
 use sv_io::{Sink, Source};
 
-/// The words of the command line are the one word of a replay.
-fn is_replay(words: &[String]) -> bool
-    ensures { IsTrue result ↔ IsReplay words.now }
+/// The words of the command line are this one word.
+fn is_word(words: &[String], wanted: &str) -> bool
+    ensures { IsTrue result ↔ IsWord wanted.now words.now }
 {
     match words {
-        [word] => word.as_str() == "replay",
+        [word] => word.as_str() == wanted,
         _ => false,
     }
 }
@@ -20,7 +22,7 @@ fn is_replay(words: &[String]) -> bool
 /// Replays a record: each line is answered before the next is judged.
 fn replay<S: Source, K: Sink>(alloc: Global, source: &mut S, sink: &mut K) -> Status
     ensures told { IsJudgement result → IfSome (S.left source.old) (λ b. Answers b result (K.taken sink.old) (K.taken sink.new)) }
-    ensures words { result ≢ Status.Words }
+    ensures listed { IsOfReplay result }
     ensures read { result ≡ Status.ReadFault → Rose (S.faults source.old) (S.faults source.new) }
     ensures write { result ≡ Status.WriteFault → Rose (K.faults sink.old) (K.faults sink.new) }
     ensures later { (S.faults source.old ≤ S.faults source.new) × (K.faults sink.old ≤ K.faults sink.new) }
@@ -35,27 +37,35 @@ fn replay<S: Source, K: Sink>(alloc: Global, source: &mut S, sink: &mut K) -> St
     replay.at_limit(source)
 }
 
-/// Does all that the program does: with the word `replay` it reads a record from the source, and writes the answers to
-/// its lines to the sink.
+/// Does all that the program does. With the word `replay` it reads a record from the source, and writes the answers to its
+/// lines to the sink; with the word `check` it reads a configuration, and writes what it counts in it.
 pub fn tool<S: Source, K: Sink>(
     alloc: Global,
     words: &[String],
     source: &mut S,
     sink: &mut K,
 ) -> Status
-    // Words exactly where the words aren't the one word.
-    ensures words { (result ≡ Status.Words) ↔ (IsReplay words.now → ⊥) }
+    // Words exactly where the words are neither the one word nor the other.
+    ensures words { (result ≡ Status.Words) ↔ (IsCommand words.now → ⊥) }
 
     // Every status of the record, and the answers to its lines, by the record's octets.
-    ensures told { IsJudgement result → IfSome (S.left source.old) (λ b. Answers b result (K.taken sink.old) (K.taken sink.new)) }
+    ensures told { IsReplay words.now → IsJudgement result → IfSome (S.left source.old) (λ b. Answers b result (K.taken sink.old) (K.taken sink.new)) }
+    ensures replays { IsReplay words.now → IsOfReplay result }
+
+    // The counts of a configuration, or its first refused line, by the configuration's octets.
+    ensures checked { IsCheck words.now → IsChecked result → IfSome (S.left source.old) (λ b. Checks b result (K.taken sink.old) (K.taken sink.new)) }
+    ensures checks { IsCheck words.now → IsOfCheck result }
 
     // Faults have their causes.
     ensures read { result ≡ Status.ReadFault → Rose (S.faults source.old) (S.faults source.new) }
     ensures write { result ≡ Status.WriteFault → Rose (K.faults sink.old) (K.faults sink.new) }
     ensures later { (S.faults source.old ≤ S.faults source.new) × (K.faults sink.old ≤ K.faults sink.new) }
 {
-    if !is_replay(words) {
-        return Status::Words;
+    if is_word(words, "replay") {
+        return replay(alloc, source, sink);
     }
-    replay(alloc, source, sink)
+    if is_word(words, "check") {
+        return check(alloc, source, sink);
+    }
+    Status::Words
 }

@@ -178,3 +178,42 @@ fn words_and_faults_have_a_status(rt: HostRuntime) -> Result<(), Fail> {
     );
     Ok(())
 }
+
+/// The configuration of a record alone, with a capacity.
+fn configuration(alloc: Global, capacity: &str) -> Result<Octs, AllocError> {
+    let mut octets = Vec::new(alloc);
+    let before = BEFORE.as_bytes().strip_prefix(b"record 1\n").unwrap_or(&[]);
+    octets.extend_from_slice(before)?;
+    octets.extend_from_slice(capacity.as_bytes())?;
+    octets.extend_from_slice(BEHIND.as_bytes())?;
+    Ok(Octs::from_vec(octets))
+}
+
+#[test]
+fn a_configuration_is_counted_or_refused(rt: HostRuntime) -> Result<(), Fail> {
+    let alloc = rt.alloc();
+    let check = one_word(alloc, "check")?;
+    let table = [
+        ("200", Status::Ok, "ok 1 4 7 1 1 0\n"),
+        ("0", Status::Config { line: 9, kind: 8 }, ""),
+        ("200 ", Status::Config { line: 9, kind: 1 }, ""),
+    ];
+    for (capacity, wanted, answer) in &table {
+        let mut source = MemSource::new(configuration(alloc, capacity)?, no_calls(alloc));
+        let mut sink = MemSink::new(alloc, no_calls(alloc));
+        let status = tool(alloc, &check, &mut source, &mut sink);
+        assert_eq!(rt; status, *wanted, "{capacity}");
+        assert_eq!(rt; sink.octets(), answer.as_bytes(), "{capacity}");
+    }
+    let mut source = MemSource::new(configuration(alloc, "200")?, first_call(alloc)?);
+    let mut sink = MemSink::new(alloc, first_call(alloc)?);
+    assert_eq!(rt;
+        tool(alloc, &check, &mut source, &mut sink),
+        Status::ReadFault
+    );
+    assert_eq!(rt;
+        tool(alloc, &check, &mut source, &mut sink),
+        Status::WriteFault
+    );
+    Ok(())
+}

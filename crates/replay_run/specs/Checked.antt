@@ -1,0 +1,52 @@
+-- What is answered to a configuration.
+use Rattle.std.specs.Prelude.{◌≡◌, ℕ, List, [], ◌++◌, length, take, codes, decimal, Option, Result, Ok, Err}
+use Rattle.std.specs.Io.KnownBytes.{Appends}
+use Rattle.sv_base.specs.declared.config.Config.{Config}
+use Rattle.bay_model.specs.NamedLines.{domains}
+use Rattle.cfg_text.specs.declared.fault.CfgFault.{CfgFault}
+use Rattle.cfg_text.specs.declared.fault.CfgFault.TheVariants as faults
+use Rattle.cfg_text.specs.Kinds.{number_of}
+use Rattle.cfg_text.specs.Looking.{config_at}
+use Rattle.replay_run.specs.declared.status.Status.{Status}
+use Rattle.replay_run.specs.declared.status.Status.TheVariants as statuses
+
+-- the most octets that are read of a configuration, more than any has
+abbrev pub most : ℕ
+most = 67108865
+
+abbrev pub count : ℕ → List ℕ
+count n = codes " " ++ decimal n
+
+-- how many domains, logical nodes, attributes with a line of their own, data sets, report control blocks and controls
+abbrev pub counts : Config → List ℕ
+counts c = codes "ok" ++ count (length (domains c)) ++ count (length c.nodes) ++ count (length c.attrs) ++ count (length c.sets) ++ count (length c.blocks) ++ count (length c.controls) ++ codes "\n"
+
+-- a status that the configuration's octets decide
+abbrev pub IsChecked : Status → Type 0
+IsChecked statuses.Ok = Unit {0}
+IsChecked (statuses.Config line kind) = Unit {0}
+IsChecked _ = ⊥
+
+-- a status of a configuration
+abbrev pub IsOfCheck : Status → Type 0
+IsOfCheck statuses.Words = ⊥
+IsOfCheck (statuses.Record line kind) = ⊥
+IsOfCheck (statuses.Limit which line) = ⊥
+IsOfCheck _ = Unit {0}
+
+-- a status of writing the counts
+abbrev pub IsOfTelling : Status → Type 0
+IsOfTelling statuses.Ok = Unit {0}
+IsOfTelling statuses.Memory = Unit {0}
+IsOfTelling statuses.WriteFault = Unit {0}
+IsOfTelling _ = ⊥
+
+-- the counts are written, or the first refused line is told and nothing is written
+abbrev pub Tells : Result Config CfgFault → Status → Option (List ℕ) → Option (List ℕ) → Type 0
+Tells (Ok config) outcome old new = (outcome ≡ statuses.Ok) × Appends old new (counts config)
+Tells (Err (faults.Refused line kind)) outcome old new = (outcome ≡ statuses.Config line (number_of kind)) × Appends old new []
+Tells (Err faults.Memory) outcome old new = ⊥
+
+-- the status and what the sink took are those of the configuration that the octets are
+abbrev pub Checks : List ℕ → Status → Option (List ℕ) → Option (List ℕ) → Type 0
+Checks octets outcome old new = Tells (config_at (take most octets)) outcome old new
