@@ -7,3 +7,7 @@ pub mod ValueLaws
 pub mod TextLaws
 pub mod ConfigLaws
 pub mod NodeFacts
+pub mod NodeLaws
+pub mod IndexLaws
+pub mod PartLaws
+pub mod OctetLaws
