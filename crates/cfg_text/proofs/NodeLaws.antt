@@ -8,7 +8,7 @@ use Rattle.cfg_text.specs.Claims.{operations}
 use Rattle.cfg_text.specs.Nodes.{leaves, leaves_by, with_parts, operation_parts, operations_below, closed, closed_by}
 use Rattle.cfg_text.specs.declared.line.Line.{Line}
 
-reversed-more : (lines : List Line) (i : ℕ) (d : Line) → i < length lines → reverse (take (i + 1) lines) ≡ get_or lines i d ∷ reverse (take i lines)
+pub reversed-more : (lines : List Line) (i : ℕ) (d : Line) → i < length lines → reverse (take (i + 1) lines) ≡ get_or lines i d ∷ reverse (take i lines)
 reversed-more lines i d lt = ap reverse (take_more lines i d lt) ∙ reverse-append (take i lines) (get_or lines i d ∷ [])
 
 pub leaves_more : (lines : List Line) (i : ℕ) (d : Line) → i < length lines → leaves (reverse (take (i + 1) lines)) ≡ leaves (reverse (take i lines)) ++ leaves_by (get_or lines i d)

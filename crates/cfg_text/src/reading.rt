@@ -116,7 +116,8 @@ impl Reading {
 
     /// The lines, from the first to the last.
     pub fn lines(&self) -> &[Line]
-        ensures { reverse result.now ≡ self.now }
+        ensures value { reverse result.now ≡ self.now }
+        ensures few { length result.now ≤ 20000 }
     {
         &self.kept.lines
     }
