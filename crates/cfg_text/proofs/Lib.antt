@@ -7,3 +7,8 @@ pub mod ValueLaws
 pub mod TextLaws
 pub mod ConfigLaws
 pub mod NodeFacts
+pub mod NodeLaws
+pub mod IndexLaws
+pub mod PartLaws
+pub mod OctetLaws
+pub mod LookLaws

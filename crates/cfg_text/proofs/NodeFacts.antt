@@ -1,8 +1,10 @@
 -- The octets of nodes by example, so that a slip in the definitions is refused.
-use Rattle.std.proofs.Common.{◌≡◌, List, [], ◌∷◌, true, false, refl}
+use Rattle.std.proofs.Common.{◌≡◌, map, List, [], ◌∷◌, true, false, refl}
 use Rattle.std.specs.Prelude.{codes}
 use Rattle.sv_base.specs.declared.types.TypeOf.TheVariants as types
-use Rattle.cfg_text.specs.Nodes.{Leaf, most_octets, octets_of, reaches}
+use Rattle.cfg_text.specs.declared.leaf.Leaf.{Leaf}
+use Rattle.cfg_text.specs.Sizes.{most_octets, leaf_octets, children, octets_of}
+use Rattle.cfg_text.specs.Nodes.{reaches}
 
 int_32-octets : most_octets (types.Int 32) ≡ 6
 int_32-octets = refl
@@ -21,15 +23,15 @@ status : List Leaf
 status = record { name = codes "A/B$ST$Pos$stVal"; octets = 4 } ∷ record { name = codes "A/B$ST$Pos$q"; octets = 5 } ∷ record { name = codes "A/B$ST$Pos$t"; octets = 10 }
     ∷ record { name = codes "A/B$MX$W$mag$i"; octets = 6 } ∷ []
 
-pos-octets : octets_of 10 status (codes "A/B$ST$Pos") ≡ 21
+pos-octets : octets_of 10 (leaf_octets status) (children (map (λ leaf. leaf.name) status)) (codes "A/B$ST$Pos") ≡ 21
 unfolding octets_of status
 pos-octets = refl
 
-magnitude-octets : octets_of 10 status (codes "A/B$MX$W") ≡ 10
+magnitude-octets : octets_of 10 (leaf_octets status) (children (map (λ leaf. leaf.name) status)) (codes "A/B$MX$W") ≡ 10
 unfolding octets_of status
 magnitude-octets = refl
 
-time-octets : octets_of 10 status (codes "A/B$ST$Pos$t") ≡ 10
+time-octets : octets_of 10 (leaf_octets status) (children (map (λ leaf. leaf.name) status)) (codes "A/B$ST$Pos$t") ≡ 10
 unfolding octets_of status
 time-octets = refl
 

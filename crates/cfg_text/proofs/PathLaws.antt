@@ -37,7 +37,7 @@ any-none : {X : Type 0} (xs : List X) → list_any (λ x. false) xs ≡ false
 any-none [] = refl
 any-none (x ∷ xs) = any-none xs
 
-bytes_eq-turned : (a b : List ℕ) → bytes_eq a b ≡ bytes_eq b a
+pub bytes_eq-turned : (a b : List ℕ) → bytes_eq a b ≡ bytes_eq b a
 bytes_eq-turned a b = same_from_decides (bytes_eq a b) (bytes_eq b a) (bytes_eq-Decides a b) (λ e. sym ((bytes_eq-Decides b a).0 e), λ e. (bytes_eq-Decides b a).1 (sym e))
 
 -- one of those is among these, where one of these is among those

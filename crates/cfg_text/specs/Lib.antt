@@ -14,5 +14,7 @@ pub mod Contents
 pub mod Judging
 pub mod Text
 pub mod Configs
+pub mod Sizes
 pub mod Nodes
+pub mod Indexed
 pub mod Looking

@@ -2,33 +2,46 @@ ghost use Rattle.std.specs.Prelude.{◌≡◌};
 ghost use Rattle.cfg_text.specs.Kinds.{number_of};
 
 use std::alloc::{AllocError, AllocFailed};
+use thiserror::Error;
 
 /// Why a line is refused.
-#[derive(Clone, Copy, Debug, PartialEq, Eq)]
+#[derive(Clone, Copy, Debug, PartialEq, Eq, Error)]
 pub enum Kind {
     /// Another first word or count of words, an empty word, or an octet outside 20 to 7E.
+    #[error("no line begins so, or not with so many words, or there is an octet outside 20 to 7E")]
     Word,
     /// A line that is not allowed there, or an input that ends before `end`.
+    #[error("not allowed here, or the text ends before `end`")]
     Order,
     /// A word that is not the name, path or reference that stands there.
+    #[error("a word that is not the name, path or reference that stands there")]
     Name,
     /// A name that is taken.
+    #[error("a name that is taken")]
     Duplicate,
     /// A word that is no type.
+    #[error("a word that is no type")]
     TypeName,
     /// A word that is no row of trigger options.
+    #[error("a word that is no row of trigger options")]
     Flags,
     /// A word that is no value of the type.
+    #[error("a word that is no value of the type")]
     Value,
     /// A word that is no number, or one out of range.
+    #[error("a word that is no number, or one out of range")]
     Number,
     /// The name of a set or of a node that is not there.
+    #[error("the name of a data set or node that is not there")]
     Unknown,
     /// A line, a word, an item name or a reference that is too long.
+    #[error("a line, word, item name or reference that is too long")]
     Long,
     /// One more than there may be.
+    #[error("one more than there may be")]
     Many,
     /// A member that no data set may have, or whose Data may be too long.
+    #[error("a member that no data set may have, or whose Data may be above 500 octets")]
     Member,
 }
 
@@ -55,11 +68,13 @@ impl Kind {
 }
 
 /// Why a text is no configuration.
-#[derive(Clone, Copy, Debug, PartialEq, Eq)]
+#[derive(Clone, Copy, Debug, PartialEq, Eq, Error)]
 pub enum CfgFault {
     /// The first line that is refused, counted from 1, and why.
+    #[error("line {line}: {kind}")]
     Refused { line: u32, kind: Kind },
     /// There was no memory.
+    #[error("no memory")]
     Memory,
 }
 

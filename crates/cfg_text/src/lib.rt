@@ -1,18 +1,25 @@
-//! The configuration of a server as a text, read line by line up to its `end`. What its lines name is not looked up yet.
+//! The configuration of a server as a text: its lines up to `end`, and what they name.
 #![tactic(auto)]
 
 mod claiming;
+mod closed;
 mod contents;
 mod draft;
 mod fault;
 mod judging;
 mod keys;
 mod kinds;
+mod leaf;
+mod leaves;
 mod line;
 mod lines;
+mod looking;
 mod names;
+mod nodes;
 mod numbers;
+mod parts;
 mod reading;
+mod sizes;
 mod taken;
 mod telling;
 mod values;
@@ -20,7 +27,8 @@ mod words;
 
 // the lines of a configuration, and what they make
 pub use line::{Line, Place};
-pub use lines::{read_config, read_lines};
+pub use lines::read_lines;
+pub use looking::read_config;
 pub use reading::Reading;
 
 // why a text is no configuration

@@ -1,7 +1,6 @@
 ghost use Rattle.std.specs.Prelude.{◌≡◌, ◌∷◌, ◌++◌, ◌==◌, ◌<◌, false, length, MatchOption};
 ghost use Rattle.std.specs.List.{All};
 ghost use Rattle.cfg_text.specs.Reader.{GivesText};
-ghost use Rattle.cfg_text.specs.Looking.{config_at};
 ghost use Rattle.cfg_text.specs.Text.{lines_at, ended_at, next_at, fault_at};
 
 use crate::fault::{CfgFault, Kind, LineFault};
@@ -9,7 +8,6 @@ use crate::line::Place;
 use crate::reading::Reading;
 use crate::telling;
 use memchr::memchr;
-use sv_base::Config;
 use std::alloc::Global;
 
 /// The octets before the first newline, and those after it.
@@ -74,10 +72,4 @@ pub fn read_lines(alloc: Global, text: &[u8]) -> Result<Reading, CfgFault>
         rest = after;
     }
     finish(reading, rest)
-}
-
-pub fn read_config(alloc: Global, text: &[u8]) -> Result<Config, CfgFault>
-    ensures { GivesText result (config_at text.now) }
-{
-    Err(CfgFault::Memory)
 }

@@ -71,7 +71,7 @@ impl Reading {
     ghost use Rattle.std.specs.Prelude.{◌≡◌, ◌≤◌, ◌<◌, ◌∷◌, [], length, IfOk};
     ghost use Rattle.cfg_text.specs.declared.line.Line.TheVariants.{Skip, Config as ConfigLine, Server, Ld, Ln, Attr, Set, Member, Brcb, Ctl, Sgcb, End};
     ghost use Rattle.cfg_text.specs.Before.{number_of, place_of, domain_of, node_of, groups_of, has_settings as has_settings_before, domains as domains_before, nodes as nodes_before, attributes as attributes_before, sets as sets_before, members as members_before, blocks as blocks_before, controls as controls_before};
-    ghost use Rattle.std.specs.Prelude.{map};
+    ghost use Rattle.std.specs.Prelude.{map, reverse};
     ghost use Rattle.std.specs.List.{list_any};
     ghost use Rattle.cfg_text.specs.Taken.{is_among, octets_of};
     ghost use Rattle.cfg_text.specs.Paths.{is_taken as is_taken_by};
@@ -112,6 +112,14 @@ impl Reading {
         ensures few { result ≤ 20000 }
     {
         self.kept.lines.len()
+    }
+
+    /// The lines, from the first to the last.
+    pub fn lines(&self) -> &[Line]
+        ensures value { reverse result.now ≡ self.now }
+        ensures few { length result.now ≤ 20000 }
+    {
+        &self.kept.lines
     }
 
     /// The number of the next line.

@@ -79,6 +79,28 @@ impl Keys {
     }
 }
 
+impl Keys {
+    ghost use Rattle.std.specs.Prelude.{◌≡◌, ◌||◌, List, ℕ, map, OnOk};
+    ghost use Rattle.std.specs.Str.{bytes_eq};
+    ghost use Rattle.cfg_text.specs.Taken.{is_among, octets_of};
+    ghost use Rattle.cfg_text.specs.Paths.{above};
+
+    /// Adds a path and the structures above it.
+    pub fn add_with_above(&mut self, alloc: Global, path: &[u8]) -> Result<(), AllocError>
+        ensures { OnOk result ((q : List ℕ) → is_among self.new q ≡ ((bytes_eq q path.now || is_among (above path.now) q) || is_among self.old q)) }
+    {
+        self.add_above(alloc, path)?;
+        self.add(alloc, path)
+    }
+
+    /// The rows, in the order in which they were added.
+    pub fn rows(&self) -> &[Vec<u8>]
+        ensures { map octets_of result.now ≡ self.now }
+    {
+        self.keys.as_slice()
+    }
+}
+
 /// The paths that are taken, and the structures above them; seen by contracts as the list of the paths.
 #[derive(Drop)]
 pub struct Names {

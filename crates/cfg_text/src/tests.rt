@@ -1,9 +1,7 @@
-//! Lines of configurations, accepted and refused; the kinds and their order are those of the format's description.
+//! Configurations, accepted and refused; the kinds, their order and the limits are those of the format's description.
 
 use super::*;
-use crate::lines::read_lines;
 use std::alloc::{AllocError, Global};
-use std::str;
 use std::test::Fail;
 use sv_base::{Config, TypeOf, Value};
 
@@ -31,107 +29,402 @@ end
 
 const HEAD: &[u8] = b"config 1\nserver Demo Bay 1\nld A\nln LLN0\n";
 
-/// Behind four lines that begin a logical node these lines, the line that is refused, and the kind's number.
-const REFUSALS: [(&[u8], u32, u8); 40] = [
-    (b"open\n", 5, 1),
-    (b"attr ST a bool d\n", 5, 1),
-    (b"attr ST a bool  d T\n", 5, 1),
-    (b"#\x7f\n", 5, 1),
-    (b"attr ST a bool d T \n", 5, 1),
-    (b"config 1\n", 5, 2),
-    (b"member A/LLN0$ST$a\n", 5, 2),
-    (b"ld B\nend\n", 6, 2),
-    (b"set S\nend\n", 6, 2),
-    (b"# no end\n", 6, 2),
-    (b"end", 5, 2),
-    (b"attr SG a bool d T\n", 5, 2),
-    (b"attr SG a bool d\n", 5, 1),
-    (b"sgcb 2 1\nattr SG a bool d T F\nsgcb 2 1\n", 7, 2),
-    (b"end\nend\n", 6, 2),
-    (b"attr XX a bool d T\n", 5, 3),
-    (b"attr ST 1a bool d T\n", 5, 3),
-    (b"attr ST a$ bool d T\n", 5, 3),
-    (b"ln 1\n", 5, 3),
-    (b"set S\nmember A/LLN0$ST\n", 6, 3),
-    (b"ln LLN0\n", 5, 4),
-    (b"attr ST a bool d T\nattr ST a bool d T\n", 6, 4),
-    (b"attr ST a$b bool d T\nattr ST a bool d T\n", 6, 4),
-    (b"attr ST a bool d T\nattr ST a$b bool d T\n", 6, 4),
-    (b"ctl Pos 2 1 0 bool\nattr CF Pos$sboClass int8 - 0\n", 6, 4),
-    (b"ctl Pos 1 1 0 bool\nctl Pos$Oper 1 1 0 bool\n", 6, 4),
-    (b"attr ST a int7 d T\n", 5, 5),
-    (b"attr ST a bits65 d T\n", 5, 5),
-    (b"ctl Pos 1 1 0 int8\n", 5, 5),
-    (b"attr ST a bool qd T\n", 5, 6),
-    (b"attr ST a bool d t\n", 5, 7),
-    (b"attr ST a int8 d 128\n", 5, 7),
-    (b"attr ST a uint8 d 01\n", 5, 7),
-    (b"attr ST a text1 d 'ab\n", 5, 7),
-    (b"attr ST a octets1 d xAB\n", 5, 7),
-    (b"ctl Pos 5 1 0 bool\n", 5, 8),
-    (b"ctl Pos 1 0 0 bool\n", 5, 8),
-    (b"sgcb 2 3\n", 5, 8),
-    (b"attr ST a$b$c$d$e$f$g$h$i bool d T\n", 5, 11),
-    (b"sgcb 1 1\nattr SP SGCB$a bool d T\n", 6, 4),
+/// What is refused of a text, by the numbers of its line and of its kind.
+type Refused = Option<(u32, u8)>;
+
+/// Lines behind four that begin a logical node. One refused text a kind and more; the order of kinds on one line.
+const LINES: [(&[u8], Refused); 49] = [
+    (b"open\n", Some((5, 1))),
+    (b"attr ST a bool d\n", Some((5, 1))),
+    (b"attr ST a bool  d T\n", Some((5, 1))),
+    (b"#\x7f\n", Some((5, 1))),
+    (b"attr ST a bool d T \n", Some((5, 1))),
+    (b"config 1\n", Some((5, 2))),
+    (b"member A/LLN0$ST$a\n", Some((5, 2))),
+    (b"ld B\nend\n", Some((6, 2))),
+    (b"set S\nend\n", Some((6, 2))),
+    (b"# no end\n", Some((6, 2))),
+    (b"end", Some((5, 2))),
+    (b"attr SG a bool d T\n", Some((5, 2))),
+    (b"attr SG a bool d\n", Some((5, 1))),
+    (b"sgcb 2 1\nattr SG a bool d T F\nsgcb 2 1\n", Some((7, 2))),
+    (b"end\nend\n", Some((6, 2))),
+    (b"attr XX a bool d T\n", Some((5, 3))),
+    (b"attr ST 1a bool d T\n", Some((5, 3))),
+    (b"attr ST a$ bool d T\n", Some((5, 3))),
+    (b"ln 1\n", Some((5, 3))),
+    (b"set S\nmember A/LLN0$ST\n", Some((6, 3))),
+    (b"ln LLN0\n", Some((5, 4))),
+    (b"attr ST a bool d T\nattr ST a bool d T\n", Some((6, 4))),
+    (b"attr ST a$b bool d T\nattr ST a bool d T\n", Some((6, 4))),
+    (b"attr ST a bool d T\nattr ST a$b bool d T\n", Some((6, 4))),
+    (
+        b"ctl Pos 2 1 0 bool\nattr CF Pos$sboClass int8 - 0\n",
+        Some((6, 4)),
+    ),
+    (
+        b"ctl Pos 1 1 0 bool\nctl Pos$Oper 1 1 0 bool\n",
+        Some((6, 4)),
+    ),
+    (b"attr ST a int7 d T\n", Some((5, 5))),
+    (b"attr ST a bits65 d T\n", Some((5, 5))),
+    (b"ctl Pos 1 1 0 int8\n", Some((5, 5))),
+    (b"attr ST a bool qd T\n", Some((5, 6))),
+    (b"attr ST a bool d t\n", Some((5, 7))),
+    (b"attr ST a int8 d 128\n", Some((5, 7))),
+    (b"attr ST a uint8 d 01\n", Some((5, 7))),
+    (b"attr ST a text1 d 'ab\n", Some((5, 7))),
+    (b"attr ST a octets1 d xAB\n", Some((5, 7))),
+    (b"ctl Pos 5 1 0 bool\n", Some((5, 8))),
+    (b"ctl Pos 1 0 0 bool\n", Some((5, 8))),
+    (b"sgcb 2 3\n", Some((5, 8))),
+    (b"attr ST a$b$c$d$e$f$g$h$i bool d T\n", Some((5, 11))),
+    (b"sgcb 1 1\nattr SP SGCB$a bool d T\n", Some((6, 4))),
+    (
+        b"server aaaaaaaaaaaaaaaaaaaaaaaaaaaaaaaaaaaaaaaaaaaaaaaaaaaaaaaaaaaaaaaaa Bay\n",
+        Some((5, 10)),
+    ),
+    (
+        b"attr ST aaaaaaaaaaaaaaaaaaaaaaaaaaaaaaaa$bbbbbbbbbbbbbbbbbbbbbbbbbbbbbbbb\n",
+        Some((5, 10)),
+    ),
+    (b"config 1 1\n", Some((5, 1))),
+    (b"member A/LLN0$ST$a$b$c$d$e$f$g$h$i\n", Some((5, 2))),
+    (b"attr XX 1$b$c$d$e$f$g$h$i int7 x t\n", Some((5, 11))),
+    (b"attr XX 1a int7 qd t\n", Some((5, 3))),
+    (b"attr ST 1a int7 qd t\n", Some((5, 3))),
+    (b"attr ST a int7 qd t\n", Some((5, 5))),
+    (b"attr ST a bool qd t\n", Some((5, 6))),
 ];
 
-fn refusal(alloc: Global, head: &[u8], tail: &[u8]) -> Result<Option<(u32, u8)>, AllocError> {
-    let mut text = Vec::from_slice(alloc, head)?;
-    text.extend_from_slice(tail)?;
-    match read_lines(alloc, &text) {
+/// Lines that name sets and nodes, up to `end`. The Data of W is 500 octets at most, or 501.
+const NAMED: [(&[u8], Refused); 22] = [
+    (
+        b"set S\nmember A/LLN0$ST$a\nattr ST a bool d T\nend\n",
+        None,
+    ),
+    (
+        b"set S\nmember A/LLN0$ST$b\nattr ST a bool d T\nend\n",
+        Some((6, 9)),
+    ),
+    (
+        b"set S\nmember B/LLN0$ST$a\nattr ST a bool d T\nend\n",
+        Some((6, 9)),
+    ),
+    (
+        b"set S\nmember A/LLN0$ST$a$b\nattr ST a bool d T\nend\n",
+        Some((6, 9)),
+    ),
+    (
+        b"set S\nmember A/LLN0$ST$b\nattr ST a bool d t\nend\n",
+        Some((7, 7)),
+    ),
+    (b"brcb b 'x ' 1 0000000000 0 000000 0 1\nend\n", None),
+    (
+        b"brcb b 'x 'A/LLN0$S 1 0000000000 0 000000 0 1\nend\n",
+        Some((5, 9)),
+    ),
+    (
+        b"brcb b 'x 'A/LLN0$S 1 0000000000 0 000000 0 1\nset S\nmember A/LLN0$ST$a\nattr ST a bool d T\nend\n",
+        None,
+    ),
+    (
+        b"brcb b 'x 'A/LLN0$T 1 0000000000 0 000000 0 1\nset S\nmember A/LLN0$BR$b\nend\n",
+        Some((5, 9)),
+    ),
+    (
+        b"set S\nmember A/LLN0$BR$b\nbrcb b 'x 'A/LLN0$T 1 0000000000 0 000000 0 1\nend\n",
+        Some((6, 12)),
+    ),
+    (
+        b"set S\nmember A/LLN0$BR$b$RptID\nbrcb b 'x ' 1 0000000000 0 000000 0 1\nend\n",
+        Some((6, 12)),
+    ),
+    (
+        b"ctl Pos 1 1 0 bool\nset S\nmember A/LLN0$CF$Pos\nend\n",
+        None,
+    ),
+    (
+        b"ctl Pos 1 1 0 bool\nset S\nmember A/LLN0$CF$Pos$sboClass\nend\n",
+        Some((7, 9)),
+    ),
+    (
+        b"ctl Pos 1 1 0 bool\nset S\nmember A/LLN0$CO$Pos\nend\n",
+        Some((7, 12)),
+    ),
+    (
+        b"ctl Pos 1 1 0 bool\nset S\nmember A/LLN0$CO$Pos$SBO\nend\n",
+        Some((7, 9)),
+    ),
+    (
+        b"ctl Pos 2 1 0 bool\nset S\nmember A/LLN0$CO$Pos$SBO\nend\n",
+        Some((7, 12)),
+    ),
+    (
+        b"sgcb 1 1\nattr SP a bool - T\nset S\nmember A/LLN0$SP$a\nmember A/LLN0$SP$SGCB\nend\n",
+        Some((9, 12)),
+    ),
+    (
+        b"sgcb 1 1\nattr SG a bool - T\nset S\nmember A/LLN0$SG$a\nmember A/LLN0$SE$a\nend\n",
+        Some((9, 12)),
+    ),
+    (
+        b"attr ST W$a text255 - '\nattr ST W$b text235 - '\nset S\nmember A/LLN0$ST$W\nend\n",
+        None,
+    ),
+    (
+        b"attr ST W$a text255 - '\nattr ST W$b text236 - '\nset S\nmember A/LLN0$ST$W\nend\n",
+        Some((8, 12)),
+    ),
+    (
+        b"attr ST W$a uint32 - 0\nattr ST W$b octets255 - x\nattr ST W$c$d text225 - '\nset S\nmember A/LLN0$ST$W\nend\n",
+        None,
+    ),
+    (
+        b"attr ST W$a uint32 - 0\nattr ST W$b octets255 - x\nattr ST W$c$d text226 - '\nset S\nmember A/LLN0$ST$W\nend\n",
+        Some((9, 12)),
+    ),
+];
+
+/// So many lines between others, each with its number, from 0.
+struct Many {
+    first: &'static [u8],
+    before: &'static [u8],
+    after: &'static [u8],
+    count: u32,
+    refused: Refused,
+}
+
+/// As many as there may be, and one more.
+const LIMITS: [Many; 17] = [
+    Many {
+        first: b"attr ST a bool - F\n",
+        before: b"ld D",
+        after: b"\nln L\n",
+        count: 15,
+        refused: None,
+    },
+    Many {
+        first: b"attr ST a bool - F\n",
+        before: b"ld D",
+        after: b"\nln L\n",
+        count: 16,
+        refused: Some((36, 11)),
+    },
+    Many {
+        first: b"",
+        before: b"ln N",
+        after: b"\n",
+        count: 255,
+        refused: None,
+    },
+    Many {
+        first: b"",
+        before: b"ln N",
+        after: b"\n",
+        count: 256,
+        refused: Some((260, 11)),
+    },
+    Many {
+        first: b"",
+        before: b"attr ST a",
+        after: b" bool - F\n",
+        count: 10000,
+        refused: None,
+    },
+    Many {
+        first: b"",
+        before: b"attr ST a",
+        after: b" bool - F\n",
+        count: 10001,
+        refused: Some((10005, 11)),
+    },
+    Many {
+        first: b"attr ST a bool - F\n",
+        before: b"set S",
+        after: b"\nmember A/LLN0$ST$a\n",
+        count: 128,
+        refused: None,
+    },
+    Many {
+        first: b"attr ST a bool - F\n",
+        before: b"set S",
+        after: b"\nmember A/LLN0$ST$a\n",
+        count: 129,
+        refused: Some((262, 11)),
+    },
+    Many {
+        first: b"attr ST a bool - F\nset S\n",
+        before: b"member A/LLN0$ST$a\n#",
+        after: b"\n",
+        count: 256,
+        refused: None,
+    },
+    Many {
+        first: b"attr ST a bool - F\nset S\n",
+        before: b"member A/LLN0$ST$a\n#",
+        after: b"\n",
+        count: 257,
+        refused: Some((519, 11)),
+    },
+    Many {
+        first: b"",
+        before: b"brcb b",
+        after: b" 'x ' 1 0000000000 0 000000 0 1\n",
+        count: 32,
+        refused: None,
+    },
+    Many {
+        first: b"",
+        before: b"brcb b",
+        after: b" 'x ' 1 0000000000 0 000000 0 1\n",
+        count: 33,
+        refused: Some((37, 11)),
+    },
+    Many {
+        first: b"",
+        before: b"ctl c",
+        after: b" 1 1 0 bool\n",
+        count: 64,
+        refused: None,
+    },
+    Many {
+        first: b"",
+        before: b"ctl c",
+        after: b" 1 1 0 bool\n",
+        count: 65,
+        refused: Some((69, 11)),
+    },
+    Many {
+        first: b"",
+        before: b"#",
+        after: b"\n",
+        count: 19994,
+        refused: None,
+    },
+    Many {
+        first: b"",
+        before: b"#",
+        after: b"\n",
+        count: 19997,
+        refused: Some((20001, 11)),
+    },
+    Many {
+        first: b"#",
+        before: b"x",
+        after: b"",
+        count: 400,
+        refused: Some((5, 10)),
+    },
+];
+
+fn answer(alloc: Global, text: &[u8]) -> Result<Refused, AllocError> {
+    match read_config(alloc, text) {
         Ok(_) => Ok(None),
         Err(CfgFault::Refused { line, kind }) => Ok(Some((line, kind.number()))),
         Err(CfgFault::Memory) => Err(AllocError),
     }
 }
 
-/// The configuration of the lines, or a failed test.
-fn read(alloc: Global, text: &[u8]) -> Result<Option<Config>, AllocError> {
-    match read_lines(alloc, text) {
-        Ok(reading) => Ok(Some(reading.into_config(alloc)?)),
-        Err(_) => Ok(None),
+/// The place in a table of the first text that is answered otherwise.
+fn first_wrong(alloc: Global, table: &[(&[u8], Refused)]) -> Result<Option<usize>, AllocError> {
+    for (i, (tail, refused)) in table.iter().enumerate() {
+        let mut text = Vec::from_slice(alloc, HEAD)?;
+        text.extend_from_slice(tail)?;
+        if answer(alloc, &text)? != *refused {
+            return Ok(Some(i));
+        }
+    }
+    Ok(None)
+}
+
+fn text_of(alloc: Global, many: &Many) -> Result<Vec<u8>, AllocError> {
+    let mut text = Vec::from_slice(alloc, HEAD)?;
+    text.extend_from_slice(many.first)?;
+    for i in 0..many.count {
+        let number = format!(in alloc; "{i}")?;
+        text.extend_from_slice(many.before)?;
+        text.extend_from_slice(number.as_bytes())?;
+        text.extend_from_slice(many.after)?;
+    }
+    text.extend_from_slice(b"\nend\n")?;
+    Ok(text)
+}
+
+fn first_wrong_limit(alloc: Global, table: &[Many]) -> Result<Option<usize>, AllocError> {
+    for (i, many) in table.iter().enumerate() {
+        let text = text_of(alloc, many)?;
+        if answer(alloc, &text)? != many.refused {
+            return Ok(Some(i));
+        }
+    }
+    Ok(None)
+}
+
+fn is_bay(config: &Config) -> bool {
+    let [_, _, _, node] = config.nodes.as_slice() else {
+        return false;
+    };
+    let [pos, .., total] = config.attrs.as_slice() else {
+        return false;
+    };
+    let [set] = config.sets.as_slice() else {
+        return false;
+    };
+    let [block] = config.blocks.as_slice() else {
+        return false;
+    };
+    node.line == 18
+        && node.ln.as_slice() == b"MMXU1".as_slice()
+        && pos.line == 11
+        && pos.dchg
+        && !pos.qchg
+        && matches!(pos.kind, TypeOf::Bits(2))
+        && pos.path.as_slice() == b"Pos$stVal".as_slice()
+        && total.line == 19
+        && matches!(total.values.as_slice(), [Value::Int(0)])
+        && set.line == 5
+        && set.members.len() == 3
+        && block.capacity == 200
+        && block.dat_set.as_slice() == b"BAY1/LLN0$Events".as_slice()
+}
+
+#[test]
+fn a_bay_is_read(rt: HostRuntime) {
+    match read_config(rt.alloc(), BAY) {
+        Ok(config) => assert!(rt; is_bay(&config)),
+        Err(fault) => assert!(rt; false, "{fault}"),
     }
 }
 
 #[test]
-fn a_bay_is_read(rt: HostRuntime) -> Result<(), Fail> {
-    let alloc = rt.alloc();
-    let config = read(alloc, BAY)?;
-    let Some(config) = config else {
-        assert!(rt; false);
-        return Ok(());
-    };
-    assert!(rt; config.vendor.as_slice() == b"Demo".as_slice());
-    assert!(rt; config.revision.as_slice() == b"1".as_slice());
-    let nodes = config.nodes.as_slice();
-    assert!(rt; nodes.len() == 4 && nodes[3].line == 18);
-    assert!(rt; nodes[3].ln.as_slice() == b"MMXU1".as_slice());
-    let attrs = config.attrs.as_slice();
-    assert!(rt; attrs.len() == 7 && attrs[0].line == 11 && attrs[6].line == 19);
-    assert!(rt; attrs[0].path.as_slice() == b"Pos$stVal".as_slice() && attrs[0].dchg);
-    assert!(rt; matches!(attrs[0].kind, TypeOf::Bits(2)));
-    assert!(rt; matches!(attrs[6].values.as_slice(), [Value::Int(0)]));
-    let sets = config.sets.as_slice();
-    assert!(rt; sets.len() == 1 && sets[0].line == 5 && sets[0].members.len() == 3);
-    let blocks = config.blocks.as_slice();
-    assert!(rt; blocks.len() == 1 && blocks[0].capacity == 200 && blocks[0].conf_rev == 1);
-    assert!(rt; blocks[0].dat_set.as_slice() == b"BAY1/LLN0$Events".as_slice());
-    assert!(rt; config.controls.is_empty() && config.groups.is_empty());
+fn lines_are_told(rt: HostRuntime) -> Result<(), Fail> {
+    assert_eq!(rt; first_wrong(rt.alloc(), &LINES)?, None);
     Ok(())
 }
 
 #[test]
-fn refused_lines_have_their_kinds(rt: HostRuntime) -> Result<(), Fail> {
-    let alloc = rt.alloc();
-    for (tail, line, kind) in REFUSALS {
-        let found = refusal(alloc, HEAD, tail)?;
-        let text = format!(in alloc; "{found:?} {}", str::from_utf8(tail).unwrap_or(""))?;
-        let want = format!(in alloc;
-            "{:?} {}",
-            Some((line, kind)),
-            str::from_utf8(tail).unwrap_or("")
-        )?;
-        assert_eq!(rt; text, want);
-    }
+fn names_are_looked_up(rt: HostRuntime) -> Result<(), Fail> {
+    assert_eq!(rt; first_wrong(rt.alloc(), &NAMED)?, None);
+    Ok(())
+}
+
+#[test]
+fn limits_are_kept(rt: HostRuntime) -> Result<(), Fail> {
+    assert_eq!(rt; first_wrong_limit(rt.alloc(), &LIMITS)?, None);
+    Ok(())
+}
+
+#[test]
+fn faults_tell_their_line(rt: HostRuntime) -> Result<(), Fail> {
+    let fault = CfgFault::Refused {
+        line: 7,
+        kind: Kind::Name,
+    };
+    let text = format!(in rt.alloc(); "{fault}")?;
+    assert_eq!(rt;
+        text.as_str(),
+        "line 7: a word that is not the name, path or reference that stands there"
+    );
     Ok(())
 }

@@ -1,0 +1,12 @@
+use Rattle.std.proofs.Common.{ap, sym, ◌∙◌, ◌++◌}
+use Rattle.std.specs.Map.{lookup}
+use Rattle.std.specs.Str.{bytes_eq}
+use Rattle.cfg_text.proofs.IndexLaws.{added_as, kept}
+use Rattle.cfg_text.proofs.sizes.add.Goals as goal
+
+pub returns : goal.returns
+returns c = λ other. ap (lookup (λ k. bytes_eq other k.items)) c.in_ok-insert.ensures.entries
+    ∙ added_as (λ k. k.items) c.args.octets.now.entries c.extend_from_slice.new.self c.args.count c.args.name.now other (c.in_ok-extend_from_slice.ensures.items ∙ ap (λ l. l ++ c.args.name.now) c.new-key.ensures.items) (sym c.contains_key.ensures ∙ c.if-contains_key.false)
+
+pub returns-then-contains_key : goal.returns-then-contains_key
+returns-then-contains_key c = λ other. kept (λ k. k.items) c.args.octets.now.entries c.args.count c.args.name.now other (sym c.contains_key.ensures ∙ c.if-contains_key.true)
