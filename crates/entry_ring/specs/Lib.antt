@@ -1,0 +1,7 @@
+pub mod Held
+pub mod Entries
+pub mod Places
+pub mod Rows
+pub mod Rooms
+pub mod Fitting
+pub mod Ringed

@@ -1,0 +1,11 @@
+//! The buffer of a report control block: its retained entries, in room that is made at once (IEC 61850-7-2, the buffer of a
+//! BRCB).
+#![tactic(auto)]
+
+mod entry;
+mod places;
+mod ring;
+mod room;
+
+pub use entry::Entry;
+pub use ring::Ring;
