@@ -1,3 +1,4 @@
 pub mod RowLaws
 pub mod RoomLaws
 pub mod FitLaws
+pub mod HoldLaws

@@ -1,9 +1,9 @@
 -- A room with one more entry.
-use Rattle.std.proofs.Common.{◌≡◌, ◌≤◌, ℕ, suc, ◌+◌, ◌-◌, ◌*◌, List, [], ◌∷◌, ◌++◌, length, take, drop, refl, sym, ap, ◌∙◌, arith, length-append}
+use Rattle.std.proofs.Common.{◌≡◌, ◌≤◌, ℕ, ◌+◌, ◌-◌, List, [], ◌∷◌, ◌++◌, length, take, drop, refl, sym, ap, ◌∙◌, arith, length-append}
 use Rattle.std.specs.Prelude.{Option, Some, slice_get}
 use Rattle.circular_buffer.specs.Buffer.{Buffer, buffer, keep_last}
 use Rattle.entry_ring.specs.declared.room.Place.{Place}
-use Rattle.entry_ring.specs.Held.{Held, sizes}
+use Rattle.entry_ring.specs.Held.{Held}
 use Rattle.entry_ring.specs.Places.{behind, offset}
 use Rattle.entry_ring.specs.Rows.{held_in}
 use Rattle.entry_ring.specs.Rooms.{IsRoom}

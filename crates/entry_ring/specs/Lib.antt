@@ -5,3 +5,4 @@ pub mod Rows
 pub mod Rooms
 pub mod Fitting
 pub mod Ringed
+pub mod Standing

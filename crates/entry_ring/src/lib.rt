@@ -3,9 +3,14 @@
 #![tactic(auto)]
 
 mod entry;
+mod laws;
 mod places;
 mod ring;
 mod room;
 
 pub use entry::Entry;
+pub use laws::retained_entries_are_held;
 pub use ring::Ring;
+
+#[cfg(test)]
+mod tests;

@@ -1,7 +1,6 @@
-use Rattle.std.proofs.Common.{◌≡◌, ◌++◌, List, ℕ, take, drop, length, length-append, ap, sym, ◌∙◌, arith}
+use Rattle.std.proofs.Common.{◌≡◌, ◌++◌, take, drop, length, length-append, ap, sym, ◌∙◌, arith}
 use Rattle.std.specs.Prelude.{Some, slice_get, option_copied, option_map}
-use Rattle.entry_ring.specs.declared.entry.Entry.{Entry}
-use Rattle.entry_ring.specs.Held.{Held, Roomed}
+use Rattle.entry_ring.specs.Held.{Roomed}
 use Rattle.entry_ring.specs.Entries.{held_of}
 use Rattle.entry_ring.proofs.RowLaws.{found-none}
 use Rattle.entry_ring.proofs.RoomLaws.{is_found}

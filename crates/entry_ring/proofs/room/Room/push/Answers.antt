@@ -1,4 +1,4 @@
-use Rattle.std.proofs.Common.{◌≡◌, ◌≤◌, ◌+◌, ◌++◌, ◌∷◌, [], length, ap, sym, ◌∙◌, subst, arith, refl}
+use Rattle.std.proofs.Common.{◌≤◌, ◌+◌, ◌++◌, ◌∷◌, [], length, ap, ◌∙◌, arith, refl}
 use Rattle.entry_ring.specs.declared.room.Place.{Place}
 use Rattle.entry_ring.specs.Held.{Held, Roomed, sizes}
 use Rattle.entry_ring.proofs.RowLaws.{laid-sizes, end-within}
