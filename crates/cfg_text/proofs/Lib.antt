@@ -7,3 +7,7 @@ pub mod ValueLaws
 pub mod TextLaws
 pub mod ConfigLaws
 pub mod NodeFacts
+mod SortLaws
+mod OrderLaws
+mod JoinLaws
+mod TextOfLaws

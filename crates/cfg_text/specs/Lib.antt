@@ -16,3 +16,6 @@ pub mod Text
 pub mod Configs
 pub mod Nodes
 pub mod Looking
+pub mod Spelled
+pub mod Written
+pub mod Objects

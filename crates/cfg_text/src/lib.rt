@@ -13,15 +13,20 @@ mod lines;
 mod names;
 mod numbers;
 mod reading;
+mod spelling;
 mod taken;
 mod telling;
 mod values;
 mod words;
+mod writing;
 
 // the lines of a configuration, and what they make
 pub use line::{Line, Place};
 pub use lines::read_lines;
 pub use reading::Reading;
+
+// the text of a configuration
+pub use writing::write_config;
 
 // why a text is no configuration
 pub use fault::{CfgFault, Kind};
