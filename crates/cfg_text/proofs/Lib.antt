@@ -11,3 +11,10 @@ mod SortLaws
 mod OrderLaws
 mod JoinLaws
 mod TextOfLaws
+mod WordLaws
+mod SpellLaws
+mod NameLaws
+mod LineLaws
+mod TellLaws
+mod ToldLaws
+mod WholeLaws

@@ -19,3 +19,6 @@ pub mod Looking
 pub mod Spelled
 pub mod Written
 pub mod Objects
+pub mod Grammar
+pub mod Follows
+pub mod Texts

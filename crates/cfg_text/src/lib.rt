@@ -8,6 +8,7 @@ mod fault;
 mod judging;
 mod keys;
 mod kinds;
+mod laws;
 mod line;
 mod lines;
 mod names;
