@@ -18,3 +18,8 @@ mod LineLaws
 mod TellLaws
 mod ToldLaws
 mod WholeLaws
+mod FreshLaws
+mod AgainLaws
+mod PlacedLaws
+mod KeptLaws
+mod RewriteLaws

@@ -1,14 +1,13 @@
 -- A line that is spelled, and that may stand there, is read as it is.
-use Rattle.std.proofs.Common.{◌≡◌, ℕ, zero, suc, ◌+◌, ◌^◌, ◌<◌, ◌≤◌, ◌⊎◌, inl, inr, Bool, true, false, cond, ◌&&◌, ◌||◌, not, List, [], ◌∷◌, ◌++◌, length, length-append, map, nat_lt, nat_le, ◌==◌, refl, sym, ap, ap₂, subst, ◌∙◌, arith}
-use Rattle.std.specs.Prelude.{Option, Some, None, Result, Ok, Err, codes, if◌then◌else◌, unwrap_or}
+use Rattle.std.proofs.Common.{◌≡◌, ℕ, zero, suc, ◌+◌, ◌^◌, ◌<◌, ◌≤◌, ◌⊎◌, inl, inr, Bool, true, false, cond, List, [], ◌∷◌, length, length-append, nat_lt, nat_le, ◌==◌, refl, sym, ap, subst, ◌∙◌, arith}
+use Rattle.std.specs.Prelude.{Option, Some, Result, Ok, codes, if◌then◌else◌, unwrap_or}
 use Rattle.std.specs.Fmt.{digits, decimal}
-use Rattle.std.specs.List.{list_all, list_any, count_by, join_with_byte}
+use Rattle.std.specs.List.{list_any, join_with_byte}
 use Rattle.std.specs.Str.{bytes_eq}
 use Rattle.std.proofs.lemmas.Bool.{and_from, and_right, or_from, cond-true, cond-false, le-ltb, lt-ltb, lt-leb, eq-eqb, not_from_false}
 use Rattle.std.proofs.lemmas.Bool.Decides.{nat_tests}
 use Rattle.std.proofs.lemmas.Slice.Eq.{bytes_eq-Decides}
 use Rattle.sv_base.proofs.RowLaws.{row-values}
-use Rattle.sv_base.specs.Seen.{row_of}
 use Rattle.sv_base.specs.Same.{values_of}
 use Rattle.sv_base.specs.declared.types.TypeOf.{TypeOf}
 use Rattle.sv_base.specs.declared.types.TypeOf.TheVariants as types
@@ -26,17 +25,15 @@ use Rattle.cfg_text.specs.declared.words.Keyword.TheVariants as keywords
 use Rattle.cfg_text.specs.Types.{type_at}
 use Rattle.cfg_text.specs.Reader.{◌>>=◌, given}
 use Rattle.cfg_text.specs.Words.{keyword_at, words_of}
-use Rattle.cfg_text.specs.Names.{is_dollar, is_name, item_of}
 use Rattle.cfg_text.specs.Numbers.{number_within}
-use Rattle.cfg_text.specs.Values.{is_graphic}
 use Rattle.cfg_text.specs.Paths.{below, is_taken}
 use Rattle.cfg_text.specs.Before.{number_of, place_of, domain_of, node_of, groups_of}
 use Rattle.cfg_text.specs.Claims.{control_keys, claims}
 use Rattle.cfg_text.specs.Contents.{domain_at, node_at, set_at, typed_at, attribute_at, block_texts_at, block_options_at, block_triggers_at, block_fields_at, block_at, control_type_at, control_fields_at, control_at, group_fields_at, groups_at}
-use Rattle.cfg_text.specs.Judging.{is_printable, is_skipped, is_long_item, control_octets, attribute_counts, has_groups, has_long, counts, is_in_node, is_open, is_in_domain, is_in_set, is_start, is_configured, may_stand, is_full, has_many, content_at, skip_at, tell_at, line_at}
+use Rattle.cfg_text.specs.Judging.{is_skipped, is_long_item, control_octets, attribute_counts, has_groups, has_long, counts, is_in_node, is_open, is_in_domain, is_in_set, is_start, is_configured, may_stand, is_full, has_many, content_at, skip_at, tell_at, line_at}
 use Rattle.cfg_text.specs.Spelled.{words, text_word, bits_word, type_word, flags_word}
-use Rattle.cfg_text.specs.Grammar.{IsType, AreOfType, SpellsType, SpellValues, IsSkipped}
-use Rattle.cfg_text.specs.Follows.{IsInNode, IsBetween, IsInDomain, IsInSet, IsItem, IsIdentity, value_count, longest_part, IsNode, IsAttribute, IsSet, IsMember, IsBlock, IsControl, IsGroups, IsLine}
+use Rattle.cfg_text.specs.Grammar.{IsType, SpellsType, IsSkipped}
+use Rattle.cfg_text.specs.Follows.{IsInNode, IsBetween, IsInDomain, IsInSet, IsIdentity, value_count, longest_part, IsBlock, IsLine}
 use Rattle.cfg_text.proofs.WordLaws.{IsWord, AreWords, line-keyed, keyed}
 use Rattle.cfg_text.proofs.SpellLaws.{number-within, decimal-word, type-read, flags-read, bits-read, text-read}
 use Rattle.cfg_text.proofs.NameLaws.{name-word, path-word, member-word, fc-word, type-is-word, flags-is-word, bits-is-word, text-is-word, values-read, values-are-words, values-as-many}

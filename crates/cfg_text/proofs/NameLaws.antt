@@ -1,7 +1,7 @@
 -- What a line is made of are words.
-use Rattle.std.proofs.Common.{◌≡◌, ℕ, zero, suc, ◌+◌, ◌*◌, ◌^◌, ◌<◌, ◌≤◌, ◌⊎◌, inl, inr, Bool, true, false, cond, ◌&&◌, ◌||◌, List, [], ◌∷◌, ◌++◌, length, length-append, map, nat_lt, nat_le, ◌==◌, ℤ, pos, negsuc, refl, sym, ap, subst, ◌∙◌, arith}
-use Rattle.std.specs.Prelude.{Option, Some, None, codes}
-use Rattle.std.specs.Fmt.{digits, decimal, signed_decimal}
+use Rattle.std.proofs.Common.{◌≡◌, ℕ, suc, ◌<◌, inl, inr, Bool, true, false, ◌&&◌, List, [], ◌∷◌, length, length-append, nat_le, pos, negsuc, refl, sym, ap, subst, ◌∙◌, arith}
+use Rattle.std.specs.Prelude.{Some, codes}
+use Rattle.std.specs.Fmt.{digits}
 use Rattle.std.specs.List.{list_all, list_any, count_by, slice_split, join_with_byte}
 use Rattle.std.specs.Str.{bytes_eq}
 use Rattle.std.proofs.lemmas.Bool.{and_parts, and_from, or_cases, cond-true, le-leb}
@@ -9,18 +9,18 @@ use Rattle.std.proofs.lemmas.Bool.Decides.{nat_tests}
 use Rattle.std.proofs.lemmas.List.Folds.{list_all-append}
 use Rattle.std.proofs.lemmas.List.Splits.{join_with_byte-slice_split, length-slice_split}
 use Rattle.std.proofs.lemmas.Slice.Eq.{bytes_eq-Decides}
-use Rattle.hex.specs.Hex.{lower_digits, encode_lower, IsBytes}
+use Rattle.hex.specs.Hex.{lower_digits, encode_lower}
 use Rattle.hex.proofs.HexLemmas.{length-encode_with}
 use Rattle.sv_base.specs.declared.value.Value.{Value}
 use Rattle.sv_base.specs.declared.value.Value.TheVariants as values
 use Rattle.sv_base.specs.declared.types.TypeOf.{TypeOf}
 use Rattle.sv_base.specs.declared.types.TypeOf.TheVariants as types
 use Rattle.cfg_text.specs.Names.{is_letter, is_name_octet, is_name, is_path, is_dollar, is_slash, are_member, is_member}
-use Rattle.cfg_text.specs.Numbers.{negatives, greatest, number_at, int_at, negative_at}
+use Rattle.cfg_text.specs.Numbers.{negatives, negative_at}
 use Rattle.cfg_text.specs.Contents.{is_fc, one_more, values_at}
 use Rattle.cfg_text.specs.Values.{is_graphic, is_hex, value_at, read_as}
 use Rattle.cfg_text.specs.Spelled.{bits_word, text_word, time_octets, value_word, type_word, flags_word}
-use Rattle.cfg_text.specs.Grammar.{IsType, FitsInt, IsOfType, AreOfType, SpellsValue, SpellValues}
+use Rattle.cfg_text.specs.Grammar.{IsType, IsOfType, AreOfType, SpellsValue, SpellValues}
 use Rattle.cfg_text.proofs.NumberLaws.{number_at-decimal}
 use Rattle.cfg_text.proofs.WordLaws.{IsWord, AreWords}
 use Rattle.cfg_text.proofs.SpellLaws.{decimal-word, hex-lower, length-bits, few-negatives, few-greatest, value-read, time-bytes}

@@ -1,21 +1,21 @@
 -- What is spelled for numbers, types, trigger options and values, and that it reads as the same.
-use Rattle.std.proofs.Common.{◌≡◌, ℕ, zero, suc, ◌+◌, ◌*◌, ◌/◌, ◌%◌, ◌^◌, ◌<◌, ◌≤◌, ◌⊎◌, inl, inr, Bool, true, false, cond, ◌&&◌, not, List, [], ◌∷◌, ◌++◌, length, map, get_or, slice_index, nat_lt, nat_le, ◌==◌, ℤ, pos, negsuc, refl, sym, ap, ap₂, subst, ◌∙◌, arith, All}
-use Rattle.std.specs.Prelude.{Option, Some, None, Result, Ok, Err, codes}
+use Rattle.std.proofs.Common.{◌≡◌, ℕ, zero, suc, ◌+◌, ◌*◌, ◌/◌, ◌%◌, ◌^◌, ◌<◌, ◌≤◌, inl, inr, Bool, true, false, List, [], ◌∷◌, ◌++◌, length, map, slice_index, ◌==◌, ℤ, pos, negsuc, refl, sym, ap, ap₂, subst, ◌∙◌, arith}
+use Rattle.std.specs.Prelude.{Some, None, codes}
 use Rattle.std.specs.Fmt.{digits, decimal, signed_decimal}
 use Rattle.std.specs.List.{list_all}
-use Rattle.std.proofs.lemmas.Bool.{and_parts, and_from, cond-true, cond-false, cond_both, le-leb, lt-ltb, eq-eqb, and_left, agree_below_at}
+use Rattle.std.proofs.lemmas.Bool.{and_from, cond-true, cond-false, cond_both, le-leb, lt-ltb, eq-eqb, and_left, agree_below_at}
 use Rattle.std.proofs.lemmas.Bool.Decides.{nat_tests}
 use Rattle.std.proofs.lemmas.List.Folds.{list_all-append}
 use Rattle.std.proofs.lemmas.Fmt.{decimal_by_steps, decimal_nonempty}
-use Rattle.hex.specs.Hex.{lower_digits, encode_with, encode_lower, IsBytes, decode_of}
+use Rattle.hex.specs.Hex.{lower_digits, encode_with, encode_lower, IsBytes}
 use Rattle.hex.proofs.HexLemmas.{decode_of-encode_lower, length-encode_with}
 use Rattle.sv_base.specs.declared.value.Utc.{Utc}
 use Rattle.sv_base.specs.declared.value.Value.{Value}
 use Rattle.sv_base.specs.declared.value.Value.TheVariants as values
 use Rattle.sv_base.specs.declared.types.TypeOf.{TypeOf}
 use Rattle.sv_base.specs.declared.types.TypeOf.TheVariants as types
-use Rattle.cfg_text.specs.Numbers.{number_at, within, number_within, negatives, greatest, int_at, signed_at, positive_at, negative_at}
-use Rattle.cfg_text.specs.Types.{made, sized, sized_type_at, type_at, flags_at, flags}
+use Rattle.cfg_text.specs.Numbers.{within, number_within, negatives, greatest, int_at, signed_at, positive_at, negative_at}
+use Rattle.cfg_text.specs.Types.{made, sized_type_at, type_at, flags_at, flags}
 use Rattle.cfg_text.specs.Values.{is_graphic, is_binary, bits_at, text_at, is_hex, hex_at, decoded, octets_at, utc_of, utc_read, time_at, read_as, value_at}
 use Rattle.cfg_text.specs.Words.{behind}
 use Rattle.cfg_text.specs.Spelled.{bits_word, text_word, time_octets, value_word, type_word, flags_word}

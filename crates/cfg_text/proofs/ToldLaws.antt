@@ -1,24 +1,20 @@
 -- A line that is read is spelled, and may stand there.
-use Rattle.std.proofs.Common.{◌≡◌, ℕ, zero, suc, ◌+◌, ◌^◌, ◌<◌, ◌≤◌, ◌⊎◌, inl, inr, Bool, true, false, cond, ◌&&◌, ◌||◌, not, List, [], ◌∷◌, ◌++◌, length, map, nat_lt, nat_le, ◌==◌, refl, sym, ap, ap₂, subst, ◌∙◌, arith}
+use Rattle.std.proofs.Common.{◌≡◌, ℕ, suc, ◌+◌, ◌<◌, ◌≤◌, ◌⊎◌, inl, inr, Bool, true, false, cond, ◌&&◌, ◌||◌, not, List, [], ◌∷◌, length, nat_lt, nat_le, ◌==◌, refl, sym, ap, ap₂, subst, ◌∙◌, arith}
 use Rattle.std.specs.Prelude.{Option, Some, None, Result, Ok, Err, codes, if◌then◌else◌, unwrap_or}
 use Rattle.std.specs.Fmt.{digits, decimal}
-use Rattle.std.specs.List.{list_all, list_any, slice_split, onto_first, count_by, join_with_byte}
+use Rattle.std.specs.List.{list_all, list_any, onto_first, count_by, join_with_byte}
 use Rattle.std.specs.Str.{bytes_eq}
-use Rattle.std.proofs.lemmas.Bool.{and_parts, cond-false, and_cases, or_parts, not-true, ltb-true, ltb-false, leb-true, leb-false, eqb-true, cond_both, true≢false}
+use Rattle.std.proofs.lemmas.Bool.{and_parts, cond-false, and_cases, or_parts, not-true, ltb-true, ltb-false, leb-false, eqb-true}
 use Rattle.std.proofs.lemmas.Bool.Decides.{nat_tests}
 use Rattle.std.proofs.lemmas.List.Splits.{join_with_byte-slice_split}
 use Rattle.std.proofs.lemmas.Slice.Eq.{bytes_eq-Decides}
 use Rattle.sv_base.proofs.RowLaws.{values-row}
-use Rattle.sv_base.specs.Seen.{row_of}
-use Rattle.sv_base.specs.Same.{values_of}
 use Rattle.sv_base.specs.declared.config.BlockDef.{BlockDef}
 use Rattle.sv_base.specs.declared.config.CtlDef.{CtlDef}
 use Rattle.sv_base.specs.declared.types.TypeOf.{TypeOf}
 use Rattle.sv_base.specs.declared.types.TypeOf.TheVariants as types
 use Rattle.sv_base.specs.declared.value.Value.{Value}
 use Rattle.cfg_text.specs.declared.fault.Kind.{Kind}
-use Rattle.cfg_text.specs.declared.fault.Kind.TheVariants as kinds
-use Rattle.cfg_text.specs.declared.kinds.Flags.{Flags}
 use Rattle.cfg_text.specs.declared.line.Line.{Line}
 use Rattle.cfg_text.specs.declared.line.Line.TheVariants as lines
 use Rattle.cfg_text.specs.declared.line.Place.{Place}
@@ -38,11 +34,11 @@ use Rattle.cfg_text.specs.Claims.{heads, set_key, control_keys, group_key, claim
 use Rattle.cfg_text.specs.Claims as claimed
 use Rattle.cfg_text.specs.Contents.{is_fc, values_at, attr_of, domain_at, node_at, set_at, typed_at, attribute_at, block_texts_at, block_options_at, block_triggers_at, block_fields_at, block_at, control_type_at, model_of, control_fields_at, control_at, group_fields_at, groups_at}
 use Rattle.cfg_text.specs.Judging.{is_printable, is_skipped, is_long_item, control_octets, attribute_counts, has_groups, has_long, counts, is_in_node, is_open, is_in_domain, is_in_set, is_start, is_configured, may_stand, is_full, has_many, content_at, keyed_at, known_at, skip_at, tell_at, line_at}
-use Rattle.cfg_text.specs.Spelled.{words, text_word, bits_word, type_word, flags_word}
-use Rattle.cfg_text.specs.Grammar.{IsType, AreOfType, SpellsType, SpellValues, IsSkipped, Spells}
-use Rattle.cfg_text.specs.Follows.{IsInNode, IsBetween, IsInDomain, IsInSet, IsItem, IsPath, IsIdentity, value_count, longest_part, IsNode, IsAttribute, IsSet, IsMember, IsBlock, IsControl, IsGroups, Follows, IsLine}
+use Rattle.cfg_text.specs.Spelled.{words, text_word, bits_word, type_word}
+use Rattle.cfg_text.specs.Grammar.{AreOfType, SpellValues, IsSkipped}
+use Rattle.cfg_text.specs.Follows.{longest_part, IsLine}
 use Rattle.cfg_text.proofs.OptionLaws.{some_is}
-use Rattle.cfg_text.proofs.WordLaws.{IsWord, AreWords}
+use Rattle.cfg_text.proofs.WordLaws.{AreWords}
 use Rattle.cfg_text.proofs.TellLaws.{number-tells, type-tells, flags-tell, bits-tell, text-tells, values-tell}
 use Rattle.cfg_text.proofs.LineLaws.{item-length, below-length, longest}
 

@@ -1,12 +1,11 @@
 -- A text is read as the configuration that it spells, and as no other.
-use Rattle.std.proofs.Common.{◌≡◌, ℕ, zero, suc, ◌<◌, ◌≤◌, ◌⊎◌, inl, inr, Bool, true, false, cond, ◌&&◌, ◌||◌, not, List, [], ◌∷◌, ◌++◌, length, get_or, nat_lt, ◌==◌, append-nil, append_assoc, refl, sym, ap, subst, ◌∙◌, arith}
+use Rattle.std.proofs.Common.{◌≡◌, ℕ, zero, suc, ◌<◌, inl, inr, Bool, true, false, cond, ◌&&◌, ◌||◌, not, List, [], ◌∷◌, ◌++◌, length, nat_lt, ◌==◌, append-nil, append_assoc, refl, sym, ap, subst, ◌∙◌, arith}
 use Rattle.std.specs.Prelude.{Result, Ok, Err}
 use Rattle.std.specs.List.{All, list_all, list_any, join_with_byte}
-use Rattle.std.proofs.lemmas.Bool.{and_parts, or_cases, cond-true, cond-false, eqb-true, eq-eqb, or_left, or_right}
+use Rattle.std.proofs.lemmas.Bool.{and_parts, or_cases, cond-true, eqb-true, eq-eqb, or_left, or_right}
 use Rattle.std.proofs.lemmas.Bool.Decides.{nat_tests}
 use Rattle.std.proofs.lemmas.List.Splits.{join_with_byte-slice_split}
 use Rattle.sv_base.specs.declared.config.Config.{Config}
-use Rattle.sv_base.specs.declared.config.LnDef.{LnDef}
 use Rattle.cfg_text.specs.declared.fault.Kind.{Kind}
 use Rattle.cfg_text.specs.declared.fault.CfgFault.{CfgFault}
 use Rattle.cfg_text.specs.declared.fault.CfgFault.TheVariants as faults
@@ -21,10 +20,10 @@ use Rattle.cfg_text.specs.Before.{number_of, place_of, node_of}
 use Rattle.cfg_text.specs.Claims.{sets}
 use Rattle.cfg_text.specs.Nodes.{is_node, is_member_node}
 use Rattle.cfg_text.specs.Configs.{config_of}
-use Rattle.cfg_text.specs.Judging.{is_printable, is_skipped, has_long, is_in_node, known_at, skip_at, tell_at, line_at}
+use Rattle.cfg_text.specs.Judging.{is_printable, is_skipped, has_long, is_in_node, skip_at, tell_at, line_at}
 use Rattle.cfg_text.specs.Text.{pieces, numbered, is_ended, ended_at, told_at, lines_at}
 use Rattle.cfg_text.specs.Looking.{look_at, looked_at, config_at, ◌>>=◌}
-use Rattle.cfg_text.specs.Follows.{IsInNode, IsInSet, IsLine}
+use Rattle.cfg_text.specs.Follows.{IsInNode, IsInSet}
 use Rattle.cfg_text.specs.Texts.{AreLines, IsFound, AreFound, SpellsConfig}
 use Rattle.cfg_text.proofs.TextLaws.{told-line}
 use Rattle.cfg_text.proofs.NameLaws.{name-word}

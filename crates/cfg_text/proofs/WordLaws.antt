@@ -1,11 +1,11 @@
 -- A line's text and its words.
-use Rattle.std.proofs.Common.{◌≡◌, ℕ, zero, suc, ◌<◌, ◌≤◌, Bool, true, false, cond, ◌&&◌, not, List, [], ◌∷◌, ◌++◌, length, get_or, nat_lt, nat_le, ◌==◌, refl, sym, ap, subst, ◌∙◌, arith}
-use Rattle.std.specs.Prelude.{Option, Some, None, Result, Ok, Err, codes}
-use Rattle.std.specs.List.{All, slice_split, onto_first, list_all, list_any, join_with_byte}
-use Rattle.std.proofs.lemmas.Bool.{and_parts, and_from, cond-true, cond-false, cond_both, or_from, not_from_false}
+use Rattle.std.proofs.Common.{◌≡◌, ℕ, zero, suc, ◌<◌, ◌≤◌, Bool, true, false, List, [], ◌∷◌, length, nat_lt, ◌==◌, refl, ap, ◌∙◌, arith}
+use Rattle.std.specs.Prelude.{Some, Result}
+use Rattle.std.specs.List.{All, list_all, list_any, join_with_byte}
+use Rattle.std.proofs.lemmas.Bool.{and_parts, and_from, cond-true, cond-false, or_from, not_from_false}
 use Rattle.std.proofs.lemmas.Bool.Decides.{nat_tests}
 use Rattle.std.proofs.lemmas.List.Folds.{list_all-append}
-use Rattle.std.proofs.lemmas.List.Splits.{slice_split_at, slice_split_none, join_with_byte-slice_split}
+use Rattle.std.proofs.lemmas.List.Splits.{slice_split_at, slice_split_none}
 use Rattle.cfg_text.specs.declared.fault.Kind.{Kind}
 use Rattle.cfg_text.specs.declared.line.Line.{Line}
 use Rattle.cfg_text.specs.declared.words.Keyword.{Keyword}

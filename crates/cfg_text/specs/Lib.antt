@@ -22,3 +22,4 @@ pub mod Objects
 pub mod Grammar
 pub mod Follows
 pub mod Texts
+pub mod Numbered

@@ -4,7 +4,9 @@ ghost use Rattle.cfg_text.specs.declared.line.Line.{Line};
 ghost use Rattle.cfg_text.specs.Judging.{line_at};
 ghost use Rattle.cfg_text.specs.Follows.{IsLine};
 ghost use Rattle.cfg_text.specs.Looking.{config_at};
+ghost use Rattle.cfg_text.specs.Numbered.{unnumbered};
 ghost use Rattle.cfg_text.specs.Texts.{AreLines, SpellsConfig};
+ghost use Rattle.cfg_text.specs.Written.{written};
 
 /// Behind lines of the format a line is read as what it tells exactly where it is a line of the format that may stand there.
 pub fn lines_are_read_as_the_format_has_them()
@@ -15,4 +17,9 @@ pub fn lines_are_read_as_the_format_has_them()
 /// A text is read as a configuration exactly where it spells it.
 pub fn texts_are_read_as_the_format_has_them()
     ensures { (text : List ℕ) (config : Config) → (config_at text ≡ Ok config) ↔ SpellsConfig text config }
+{}
+
+/// What is written of a configuration that a text spells reads as the same configuration up to the numbers of lines.
+pub fn written_configurations_read_as_the_same()
+    ensures { (text : List ℕ) (config : Config) → SpellsConfig text config → (again : Config) × (config_at (written config) ≡ Ok again) × (unnumbered again ≡ unnumbered config) }
 {}
