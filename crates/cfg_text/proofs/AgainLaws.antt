@@ -144,7 +144,7 @@ values-shorter least word (w ∷ ws) (v ∷ vs) le spelled =
 same-length : (text : List ℕ) (line : Line) → text ≡ spelled line → length (spelled line) ≤ length text
 same-length text line e = omega (arith, ap length e)
 
-shorter : (text : List ℕ) (line : Line) → Spells text line → length (spelled line) ≤ length text
+pub shorter : (text : List ℕ) (line : Line) → Spells text line → length (spelled line) ≤ length text
 unfolding words
 shorter text lines.Skip is = omega arith
 shorter text lines.Config is = same-length text lines.Config (is.1 ∙ ap (join_with_byte 32) is.2)

@@ -1,5 +1,5 @@
 -- Words that are joined by spaces.
-use Rattle.std.proofs.Common.{◌≡◌, ℕ, List, [], ◌∷◌, ◌++◌, map, refl, ap, append-nil, append_assoc, sym, ◌∙◌}
+use Rattle.std.proofs.Common.{◌≡◌, ℕ, List, [], ◌∷◌, ◌++◌, map, ap, append-nil, append_assoc, sym, ◌∙◌}
 use Rattle.std.specs.List.{flat_map, join_with_byte}
 use Rattle.sv_base.specs.declared.value.Value.{Value}
 use Rattle.cfg_text.specs.Spelled.{spaced, value_word}

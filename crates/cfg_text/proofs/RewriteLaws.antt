@@ -1,6 +1,5 @@
 -- What is written of a configuration that a text spells reads as the same but for the numbers of lines.
-use Rattle.std.proofs.Common.{◌≡◌, ℕ, inl, inr, not, ◌&&◌, ◌||◌, List, [], ◌∷◌, ◌++◌, map, nat_lt, append-nil, refl, sym, ap, ap₂, subst, ◌∙◌}
-use Rattle.std.specs.Prelude.{Ok}
+use Rattle.std.proofs.Common.{◌≡◌, ◌≤◌, ℕ, inl, inr, List, [], ◌∷◌, ◌++◌, length, length-append, map, append-nil, refl, sym, ap, subst, ◌∙◌, arith}
 use Rattle.std.proofs.lemmas.List.{map-append}
 use Rattle.sv_base.specs.declared.config.Config.{Config}
 use Rattle.sv_base.specs.declared.config.LnDef.{LnDef}
@@ -14,15 +13,14 @@ use Rattle.cfg_text.specs.declared.line.Line.TheVariants as lines
 use Rattle.cfg_text.specs.Taken.{is_among}
 use Rattle.cfg_text.specs.Before.{number_of}
 use Rattle.cfg_text.specs.Configs.{with_member, with_line, config_of}
-use Rattle.cfg_text.specs.Nodes.{Leaf, is_node, is_member_node, reaches, octets_of}
+use Rattle.cfg_text.specs.Nodes.{is_node, is_member_node}
 use Rattle.cfg_text.specs.Spelled.{spelled}
 use Rattle.cfg_text.specs.Written.{line_text, text_of, lines_of, written}
-use Rattle.cfg_text.specs.Numbered.{unnumbered}
-use Rattle.cfg_text.specs.Looking.{config_at}
+use Rattle.cfg_text.specs.Numbered.{unnumbered, ReadsAs}
 use Rattle.cfg_text.specs.Texts.{AreLines, IsFound, AreFound, SpellsConfig}
 use Rattle.cfg_text.proofs.TextOfLaws.{text-append}
 use Rattle.cfg_text.proofs.FreshLaws.{renumbered, fresh, place-fresh, set-keys-fresh, leaves-fresh, closed-fresh}
-use Rattle.cfg_text.proofs.AgainLaws.{again}
+use Rattle.cfg_text.proofs.AgainLaws.{shorter, again}
 use Rattle.cfg_text.proofs.KeptLaws.{kept, lines-kept}
 use Rattle.cfg_text.proofs.WholeLaws.{config-read}
 
@@ -45,12 +43,33 @@ again-lines text (lines.Ctl control ∷ before) are = (text_of (kept before), sp
 again-lines text (lines.Sgcb groups ∷ before) are = (text_of (kept before), spelled (lines.Sgcb groups), text-kept before (lines.Sgcb groups), again-lines are.0 before are.3, again before are.1 (lines.Sgcb groups) are.4)
 again-lines text (lines.End ∷ before) are = (text_of (kept before), spelled lines.End, text-kept before lines.End, again-lines are.0 before are.3, again before are.1 lines.End are.4)
 
+-- no spelling is shorter
+line-shorter : (before : List Line) (line : Line) (text front last : List ℕ) → text ≡ front ++ (last ++ 10 ∷ []) → length (text_of (kept before)) ≤ length front → length (spelled line) ≤ length last
+    → length (text_of (kept before ++ line ∷ [])) ≤ length text
+line-shorter before line text front last is front_le last_le =
+    omega (arith, ap length is, ap length (text-kept before line), length-append (text_of (kept before)) (spelled line ++ 10 ∷ []), length-append (spelled line) (10 ∷ []), length-append front (last ++ 10 ∷ []), length-append last (10 ∷ []), front_le, last_le)
+
+lines-shorter : (text : List ℕ) (told : List Line) → AreLines text told → length (text_of (kept told)) ≤ length text
+lines-shorter text [] are = omega arith
+lines-shorter text (lines.Skip ∷ before) are = omega (arith, ap length are.2, length-append are.0 (are.1 ++ 10 ∷ []), lines-shorter are.0 before are.3)
+lines-shorter text (lines.Config ∷ before) are = line-shorter before lines.Config text are.0 are.1 are.2 (lines-shorter are.0 before are.3) (shorter are.1 lines.Config are.4.spelled)
+lines-shorter text (lines.Server vendor model revision ∷ before) are = line-shorter before (lines.Server vendor model revision) text are.0 are.1 are.2 (lines-shorter are.0 before are.3) (shorter are.1 (lines.Server vendor model revision) are.4.spelled)
+lines-shorter text (lines.Ld name ∷ before) are = line-shorter before (lines.Ld name) text are.0 are.1 are.2 (lines-shorter are.0 before are.3) (shorter are.1 (lines.Ld name) are.4.spelled)
+lines-shorter text (lines.Ln node ∷ before) are = line-shorter before (lines.Ln node) text are.0 are.1 are.2 (lines-shorter are.0 before are.3) (shorter are.1 (lines.Ln node) are.4.spelled)
+lines-shorter text (lines.Attr attr ∷ before) are = line-shorter before (lines.Attr attr) text are.0 are.1 are.2 (lines-shorter are.0 before are.3) (shorter are.1 (lines.Attr attr) are.4.spelled)
+lines-shorter text (lines.Set set ∷ before) are = line-shorter before (lines.Set set) text are.0 are.1 are.2 (lines-shorter are.0 before are.3) (shorter are.1 (lines.Set set) are.4.spelled)
+lines-shorter text (lines.Member reference ∷ before) are = line-shorter before (lines.Member reference) text are.0 are.1 are.2 (lines-shorter are.0 before are.3) (shorter are.1 (lines.Member reference) are.4.spelled)
+lines-shorter text (lines.Brcb block ∷ before) are = line-shorter before (lines.Brcb block) text are.0 are.1 are.2 (lines-shorter are.0 before are.3) (shorter are.1 (lines.Brcb block) are.4.spelled)
+lines-shorter text (lines.Ctl control ∷ before) are = line-shorter before (lines.Ctl control) text are.0 are.1 are.2 (lines-shorter are.0 before are.3) (shorter are.1 (lines.Ctl control) are.4.spelled)
+lines-shorter text (lines.Sgcb groups ∷ before) are = line-shorter before (lines.Sgcb groups) text are.0 are.1 are.2 (lines-shorter are.0 before are.3) (shorter are.1 (lines.Sgcb groups) are.4.spelled)
+lines-shorter text (lines.End ∷ before) are = line-shorter before lines.End text are.0 are.1 are.2 (lines-shorter are.0 before are.3) (shorter are.1 lines.End are.4.spelled)
+
 -- what they name
 node-again : (all : List Line) (node : List ℕ) → is_node (fresh all) node ≡ is_node all node
-node-again all node = ap₂ (λ (ls : List Leaf) cs. reaches (map (λ leaf. leaf.name) ls) node || reaches cs node) (leaves-fresh all) (closed-fresh all)
+node-again all node = rw (leaves-fresh all, closed-fresh all) refl
 
 member-again : (all : List Line) (node : List ℕ) → is_member_node (fresh all) node ≡ is_member_node all node
-member-again all node = ap₂ (λ (ls : List Leaf) cs. not (reaches cs node) && not (nat_lt 500 (octets_of 10 ls node))) (leaves-fresh all) (closed-fresh all)
+member-again all node = rw (leaves-fresh all, closed-fresh all) refl
 
 found-again : (all before : List Line) → AreFound all before → AreFound (fresh all) (fresh before)
 found-again all [] found = tt
@@ -127,7 +146,7 @@ same-config (lines.Ctl control ∷ before) = same-line (number_of (fresh before)
 same-config (lines.Sgcb groups ∷ before) = same-line (number_of (fresh before)) (lines.Sgcb groups) (config_of (fresh before)) (config_of before) (same-config before)
 same-config (lines.End ∷ before) = same-line (number_of (fresh before)) lines.End (config_of (fresh before)) (config_of before) (same-config before)
 
-pub rewritten : (text : List ℕ) (config : Config) → SpellsConfig text config → (again : Config) × (config_at (written config) ≡ Ok again) × (unnumbered again ≡ unnumbered config)
+pub rewritten : (text : List ℕ) (config : Config) → SpellsConfig text config → ReadsAs (written config) config
 unfolding written
 rewritten text config is =
     let all = fresh is.told in
@@ -141,3 +160,9 @@ rewritten text config is =
       makes = refl;
     } in
     (config_of all, config-read (written config) (config_of all) spells, same-config is.told ∙ ap unnumbered (sym is.makes))
+
+pub shortest : (text : List ℕ) (config : Config) → SpellsConfig text config → length (written config) ≤ length text
+unfolding written
+shortest text config is =
+    let whole : written config ≡ text_of (kept is.told) = ap (λ c. text_of (lines_of c)) is.makes ∙ ap text_of (lines-kept text is.told is.are is.ended) in
+    omega (arith, ap length whole, lines-shorter text is.told is.are)

@@ -1,10 +1,10 @@
-ghost use Rattle.std.specs.Prelude.{◌≡◌, ◌↔◌, List, ℕ, Ok};
+ghost use Rattle.std.specs.Prelude.{◌≡◌, ◌≤◌, ◌↔◌, List, ℕ, length, Ok};
 ghost use Rattle.sv_base.specs.declared.config.Config.{Config};
 ghost use Rattle.cfg_text.specs.declared.line.Line.{Line};
 ghost use Rattle.cfg_text.specs.Judging.{line_at};
 ghost use Rattle.cfg_text.specs.Follows.{IsLine};
 ghost use Rattle.cfg_text.specs.Looking.{config_at};
-ghost use Rattle.cfg_text.specs.Numbered.{unnumbered};
+ghost use Rattle.cfg_text.specs.Numbered.{ReadsAs};
 ghost use Rattle.cfg_text.specs.Texts.{AreLines, SpellsConfig};
 ghost use Rattle.cfg_text.specs.Written.{written};
 
@@ -19,7 +19,9 @@ pub fn texts_are_read_as_the_format_has_them()
     ensures { (text : List ℕ) (config : Config) → (config_at text ≡ Ok config) ↔ SpellsConfig text config }
 {}
 
-/// What is written of a configuration that a text spells reads as the same configuration up to the numbers of lines.
+/// What is written of a configuration that a text spells reads as the same configuration up to the numbers of lines, and no
+/// text that spells it is shorter.
 pub fn written_configurations_read_as_the_same()
-    ensures { (text : List ℕ) (config : Config) → SpellsConfig text config → (again : Config) × (config_at (written config) ≡ Ok again) × (unnumbered again ≡ unnumbered config) }
+    ensures again { (text : List ℕ) (config : Config) → SpellsConfig text config → ReadsAs (written config) config }
+    ensures shortest { (text : List ℕ) (config : Config) → SpellsConfig text config → length (written config) ≤ length text }
 {}

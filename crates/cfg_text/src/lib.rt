@@ -34,3 +34,5 @@ pub use fault::{CfgFault, Kind};
 
 #[cfg(test)]
 mod tests;
+#[cfg(test)]
+mod writing_tests;

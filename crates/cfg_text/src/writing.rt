@@ -1,7 +1,9 @@
-ghost use Rattle.std.specs.Prelude.{◌≡◌, ◌++◌, [], map, IfOk, OnOk};
+ghost use Rattle.std.specs.Prelude.{◌≡◌, ◌++◌, List, ℕ, [], map, IfOk, OnOk};
 ghost use Rattle.cfg_text.specs.declared.line.Line.TheVariants.{Ln, Attr, Set, Brcb, Ctl, Sgcb};
 ghost use Rattle.cfg_text.specs.Written.{number, domain as domain_of, objects as objects_of, in_order, with_members, heading, with_domains, text_of, written};
 ghost use Rattle.cfg_text.specs.Objects.{line_of};
+ghost use Rattle.cfg_text.specs.Numbered.{ReadsAs};
+ghost use Rattle.cfg_text.specs.Texts.{SpellsConfig};
 
 use crate::spelling::{
     push_attribute, push_block, push_control, push_domain, push_end, push_groups, push_heading,
@@ -162,13 +164,9 @@ fn ordered_objects<'a>(alloc: Global, config: &'a Config) -> Result<Vec<Object<'
     Ok(objects)
 }
 
-/// The text of a configuration: its lines in the order of their numbers, each in its shortest spelling, without empty lines
-/// and remarks.
-///
-/// A domain's `ld` stands before the first of its logical nodes. The text reads as the same configuration up to the numbers
-/// of lines, for every configuration that a text spells. Fails for want of memory alone.
+/// The text that is written for a configuration.
 #[tactic(auto, unfolding(crate::specs::Written::written))]
-pub fn write_config(alloc: Global, config: &Config) -> Result<Octs, AllocError>
+fn written_text(alloc: Global, config: &Config) -> Result<Octs, AllocError>
     ensures { IfOk result (λ o. o ≡ written config.now) }
 {
     let objects = ordered_objects(alloc, config)?;
@@ -182,4 +180,17 @@ pub fn write_config(alloc: Global, config: &Config) -> Result<Octs, AllocError>
     push_all(alloc, &mut out, &objects)?;
     push_end(&mut out)?;
     Ok(Octs::from_vec(out))
+}
+
+/// The text of a configuration: its lines in the order of their numbers, each in its shortest spelling, without empty lines
+/// and remarks. A domain's `ld` stands before the first of its logical nodes.
+///
+/// Of a configuration that a text spells the written text reads as the same up to the numbers of lines. Fails for want of
+/// memory alone.
+pub fn write_config(alloc: Global, config: &Config) -> Result<Octs, AllocError>
+    ensures text { IfOk result (λ o. o ≡ written config.now) }
+    ensures again { IfOk result (λ o. (text : List ℕ) → SpellsConfig text config.now → ReadsAs o config.now) }
+{
+    let text = written_text(alloc, config)?;
+    Ok(text)
 }
