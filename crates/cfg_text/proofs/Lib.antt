@@ -12,3 +12,19 @@ pub mod IndexLaws
 pub mod PartLaws
 pub mod OctetLaws
 pub mod LookLaws
+mod SortLaws
+mod OrderLaws
+mod JoinLaws
+mod TextOfLaws
+mod WordLaws
+mod SpellLaws
+mod NameLaws
+mod LineLaws
+mod TellLaws
+mod ToldLaws
+mod WholeLaws
+mod FreshLaws
+mod AgainLaws
+mod PlacedLaws
+mod KeptLaws
+mod RewriteLaws

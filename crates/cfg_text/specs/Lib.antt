@@ -18,3 +18,10 @@ pub mod Sizes
 pub mod Nodes
 pub mod Indexed
 pub mod Looking
+pub mod Spelled
+pub mod Written
+pub mod Objects
+pub mod Grammar
+pub mod Follows
+pub mod Texts
+pub mod Numbered

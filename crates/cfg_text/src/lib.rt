@@ -9,6 +9,7 @@ mod fault;
 mod judging;
 mod keys;
 mod kinds;
+mod laws;
 mod leaf;
 mod leaves;
 mod line;
@@ -20,10 +21,12 @@ mod numbers;
 mod parts;
 mod reading;
 mod sizes;
+mod spelling;
 mod taken;
 mod telling;
 mod values;
 mod words;
+mod writing;
 
 // the lines of a configuration, and what they make
 pub use line::{Line, Place};
@@ -31,8 +34,13 @@ pub use lines::read_lines;
 pub use looking::read_config;
 pub use reading::Reading;
 
+// the text of a configuration
+pub use writing::write_config;
+
 // why a text is no configuration
 pub use fault::{CfgFault, Kind};
 
 #[cfg(test)]
 mod tests;
+#[cfg(test)]
+mod writing_tests;
