@@ -20,7 +20,7 @@ at_most_five n = grind (arith, nat_tests)
 at_most_three : (n : ℕ) → length (length_field n) ≤ 3
 at_most_three n = grind (arith, nat_tests)
 
-element_few : (tag : ℕ) (content : List ℕ) → tag < 256 → length (octets_of tag content) ≤ 6 + length content
+pub element_few : (tag : ℕ) (content : List ℕ) → tag < 256 → length (octets_of tag content) ≤ 6 + length content
 unfolding element_length
 element_few tag content lt = omega (arith, length-octets_of tag content lt, at_most_five (length content))
 
@@ -38,15 +38,15 @@ list_few : (context : ℕ) (value : List ℕ) → context < 2 ^ 32 → length (p
 unfolding pdv_list
 list_few context value small = omega (arith, fields_few context value small, element_few 48 (pdv_fields context value) (omega arith))
 
-user_few : (context : ℕ) (value : List ℕ) → context < 2 ^ 32 → length (user_octets context value) ≤ 33 + length value
+pub user_few : (context : ℕ) (value : List ℕ) → context < 2 ^ 32 → length (user_octets context value) ≤ 33 + length value
 unfolding user_octets
 user_few context value small = omega (arith, list_few context value small, element_few 97 (pdv_list context value) (omega arith))
 
-set_few : (parameters : List ℕ) → length (set_content parameters) ≤ 11 + length parameters
+pub set_few : (parameters : List ℕ) → length (set_content parameters) ≤ 11 + length parameters
 unfolding set_content
 set_few parameters = omega (arith, element_few 162 parameters (omega arith))
 
-ppdu_few : (parameters : List ℕ) → length (ppdu parameters) ≤ 17 + length parameters
+pub ppdu_few : (parameters : List ℕ) → length (ppdu parameters) ≤ 17 + length parameters
 unfolding ppdu
 ppdu_few parameters = omega (arith, element_few 49 (set_content parameters) (omega arith), set_few parameters)
 
