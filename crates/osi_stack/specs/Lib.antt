@@ -1,5 +1,7 @@
 pub mod Lines
 pub mod Framed
 pub mod Causes
+pub mod Called
+pub mod Calling
 pub mod Machine
 pub mod Stream

@@ -2,6 +2,9 @@
 //! (ISO 8823-1), association control (ISO 8650-1) and the initiate of MMS (ISO 9506-2).
 #![tactic(auto)]
 
+mod called;
+mod calling;
+mod cause;
 mod events;
 mod fault;
 mod laws;

@@ -1,5 +1,5 @@
 -- The answer to a CP that came in one TSDU fits an SPDU: each context of its list takes more octets than its result does.
-use Rattle.std.proofs.Common.{◌≡◌, ℕ, zero, suc, ◌+◌, ◌-◌, ◌*◌, ◌<◌, ◌≤◌, ◌^◌, Bool, true, false, cond, eqb, List, [], ◌∷◌, length, Option, Some, Result, Ok, Err, refl, sym, subst, arith}
+use Rattle.std.proofs.Common.{◌≡◌, ℕ, zero, suc, ◌+◌, ◌-◌, ◌*◌, ◌<◌, ◌≤◌, ◌^◌, Bool, true, false, cond, eqb, List, [], ◌∷◌, length, ◌++◌, Option, Some, None, Result, Ok, Err, refl, sym, ap, ◌∙◌, ◌⊎◌, inl, inr, arith}
 use Rattle.std.specs.Prelude.{min, MatchResult, ◌||◌}
 use Rattle.std.specs.List.{flat_map}
 use Rattle.std.proofs.lemmas.Bool.{eqb-true}
@@ -14,9 +14,13 @@ use Rattle.session_pres.specs.Places.{AreElements, IsOnly, tagged}
 use Rattle.session_pres.specs.ContextList.{Context, AreFields, AreDefinitions, IsContextList, flags_from}
 use Rattle.session_pres.specs.Presentation.{Request, HasParameters, IsCp, IsCpRefused}
 use Rattle.session_pres.specs.PresentationReading.{cp_at}
-use Rattle.session_pres.specs.Plain.{anywhere, Asked, asked, cp_from}
+use Rattle.session_pres.specs.Plain.{anywhere, told, connects, Asked, asked, spdu_from, cp_from}
 use Rattle.session_pres.specs.Written.{user_octets, accept_parameters}
 use Rattle.session_pres.specs.WrittenPpdu.{set_content, result_octets, cpa_parameters, cpa_octets}
+use Rattle.session_pres.specs.Parameters.{Parameter, first_of_two, last_of, AreParameters}
+use Rattle.session_pres.specs.Units.{Seen, HasData, IsSpdu, IsSpduRefused, connect, transfer, finish, abort}
+use Rattle.session_pres.specs.UnitReading.{spdu_at}
+use Rattle.session_pres.proofs.UnitLaws.{spdu_exact}
 use Rattle.session_pres.proofs.PresentationLaws.{cp_exact}
 use Rattle.session_pres.proofs.FitLaws.{accept_short, element_few, user_few, set_few, ppdu_few}
 
@@ -92,33 +96,67 @@ results_weigh place (suc n) a b =
 
 -- ---- the answer
 
-answer_fits : (list : List Bool) (context count : ℕ) (aare : List ℕ) → context < 2 ^ 32 → 8 * count ≤ 70000 → length (flat_map result_octets list) ≤ 5 * count + 8 → length aare ≤ 16384
+answer_fits : (list : List Bool) (context count : ℕ) (aare : List ℕ) → 8 * count ≤ 70000 → length (flat_map result_octets list) ≤ 5 * count + 8 → length aare ≤ 16384
     → (length (set_content (cpa_parameters list context aare)) < 2 ^ 32) × (length (accept_parameters (cpa_octets list context aare)) ≤ 65535)
 unfolding cpa_parameters cpa_octets
-answer_fits list context count aare small few results short =
+answer_fits list context count aare few results short =
     let most : length (cpa_parameters list context aare) ≤ 45000 + 16384 = omega (
       arith,
       few,
       results,
       short,
       element_few 165 (flat_map result_octets list) (omega arith),
-      user_few context aare small,
+      user_few context aare,
       length-append (octets_of 165 (flat_map result_octets list)) (user_octets context aare),
     ) in
     (omega (arith, most, set_few (cpa_parameters list context aare)), accept_short (cpa_octets list context aare) (omega (arith, most, ppdu_few (cpa_parameters list context aare))))
 
-request_fits : (input : Piece) (cp : Request) (aare : List ℕ) → IsCp input cp → cp.acse < 2 ^ 32 → length input.octets ≤ 70000 → length aare ≤ 16384
+request_fits : (input : Piece) (cp : Request) (aare : List ℕ) → IsCp input cp → length input.octets ≤ 70000 → length aare ≤ 16384
     → (length (set_content (cpa_parameters cp.list cp.acse aare)) < 2 ^ 32) × (length (accept_parameters (cpa_octets cp.list cp.acse aare)) ≤ 65535)
-request_fits input cp aare (parameters, has, (fields, are, (content, is, (contexts, list, (a, chosen_a, (m, chosen_m, (user, has_user, same))))))) small few short =
-    answer_fits cp.list cp.acse (length contexts) aare small (omega (arith, few, parameters_within input parameters has, elements_weigh parameters fields are, tagged_within 164 fields content is, contexts_few content contexts list))
+request_fits input cp aare (parameters, has, (fields, are, (content, is, (contexts, list, (a, chosen_a, (m, chosen_m, (user, has_user, same))))))) few short =
+    answer_fits cp.list cp.acse (length contexts) aare (omega (arith, few, parameters_within input parameters has, elements_weigh parameters fields are, tagged_within 164 fields content is, contexts_few content contexts list))
     (rw same (omega (arith, results_weigh 0 (length contexts) a.place m.place))) short
 
-read_fits : (input : Piece) (r : Result Request SpFault) (cp : Asked) (aare : List ℕ) → MatchResult r (IsCp input) (IsCpRefused input) → (r >>= λ x. Ok (asked x)) ≡ Ok cp → cp.acse < 2 ^ 32 → length input.octets ≤ 70000 → length aare ≤ 16384
+read_fits : (input : Piece) (r : Result Request SpFault) (cp : Asked) (aare : List ℕ) → MatchResult r (IsCp input) (IsCpRefused input) → (r >>= λ x. Ok (asked x)) ≡ Ok cp → length input.octets ≤ 70000 → length aare ≤ 16384
     → (length (set_content (cpa_parameters cp.list cp.acse aare)) < 2 ^ 32) × (length (accept_parameters (cpa_octets cp.list cp.acse aare)) ≤ 65535)
-read_fits input (Ok x) cp aare tells e small few short = let is : asked x ≡ cp = cc (e) in rw (sym is) (request_fits input x aare tells (subst (λ (y : Asked). y.acse < 2 ^ 32) (sym is) small) few short)
-read_fits input (Err f) cp aare tells e small few short = absurd cc
+read_fits input (Ok x) cp aare tells e few short = let is : asked x ≡ cp = cc (e) in rw (sym is) (request_fits input x aare tells few short)
+read_fits input (Err f) cp aare tells e few short = absurd cc
 
-pub fits_anyone : (ppdu : List ℕ) (cp : Asked) (aare : List ℕ) → cp_from ppdu ≡ Ok cp → cp.acse < 2 ^ 32 → length ppdu ≤ 70000 → length aare ≤ 16384
+pub fits_anyone : (ppdu : List ℕ) (cp : Asked) (aare : List ℕ) → cp_from ppdu ≡ Ok cp → length ppdu ≤ 70000 → length aare ≤ 16384
     → (length (set_content (cpa_parameters cp.list cp.acse aare)) < 2 ^ 32) × (length (accept_parameters (cpa_octets cp.list cp.acse aare)) ≤ 65535)
 unfolding cp_from
-fits_anyone ppdu cp aare e small few short = read_fits (anywhere ppdu) (cp_at (anywhere ppdu)) cp aare (cp_exact (anywhere ppdu)).tells e small few short
+fits_anyone ppdu cp aare e few short = read_fits (anywhere ppdu) (cp_at (anywhere ppdu)) cp aare (cp_exact (anywhere ppdu)).tells e few short
+
+-- ---- user data are no longer than their SPDU
+
+first_is : (a b : Option Piece) (v : Piece) → first_of_two a b ≡ Some v → (a ≡ Some v) ⊎ (b ≡ Some v)
+first_is (Some x) b v h = inl h
+first_is None b v h = inr h
+
+value_is : (b : Bool) (x v : Piece) → cond b (Some x) None ≡ Some v → length v.octets ≡ length x.octets
+value_is true x v h = let is : x ≡ v = cc (h) in rw (sym is) refl
+value_is false x v h = absurd cc
+
+value_within : (input : Piece) (ps : List Parameter) (v : Piece) → AreParameters input ps → last_of 193 ps ≡ Some v → length v.octets ≤ length input.octets
+value_within input [] v are h = absurd cc
+value_within input (p ∷ ps) v (rest, begun, are) h =
+    let whole : length input.octets ≡ 1 + (length begun.len + (length p.value.octets + length rest.octets)) = omega (arith, ap (λ (x : List ℕ). length x) begun.whole, length-append begun.len (p.value.octets ++ rest.octets), length-append p.value.octets rest.octets) in
+    elim (first_is (last_of 193 ps) (cond (eqb p.code 193) (Some p.value) None) v h) [
+      | inl later ↦ omega (arith, whole, value_within rest ps v are later)
+      | inr here ↦ omega (arith, whole, value_is (eqb p.code 193) p.value v here)
+    ]
+
+data_within : (code : ℕ) (input user : Piece) → HasData code input user → length user.octets ≤ length input.octets
+data_within code input user (given, (parameters, unit, (ps, are, cut, last)), is) =
+    omega (arith, value_within parameters ps user are (sym last ∙ is), ap (λ (x : List ℕ). length x) unit.whole, length-append unit.len parameters.octets)
+
+told_within : (input : Piece) (r : Result Seen SpFault) (user : List ℕ) → MatchResult r (IsSpdu input) (IsSpduRefused input) → (r >>= λ x. Ok (told x)) ≡ Ok (connects user) → length user ≤ length input.octets
+told_within input (Ok (connect p)) user tells e = let is : p.octets ≡ user = cc (e) in rw (sym is) (data_within 13 input p tells)
+told_within input (Ok (transfer p)) user tells e = absurd cc
+told_within input (Ok (finish p)) user tells e = absurd cc
+told_within input (Ok abort) user tells e = absurd cc
+told_within input (Err f) user tells e = absurd cc
+
+pub connect_within : (input user : List ℕ) → spdu_from input ≡ Ok (connects user) → length user ≤ length input
+unfolding spdu_from
+connect_within input user e = told_within (anywhere input) (spdu_at (anywhere input)) user (spdu_exact (anywhere input)).tells e
