@@ -1,2 +1,3 @@
 pub mod StreamLaws
 pub mod FitLaws
+pub mod ConnectionLaws

@@ -5,3 +5,4 @@ pub mod Called
 pub mod Calling
 pub mod Machine
 pub mod Stream
+pub mod Going

@@ -42,10 +42,13 @@ has_ended Ended = true
 abbrev pub stand_of : State → Phase × Option Event → Stand × Option Event
 stand_of t x = (record { transport = t; phase = x.0 }, x.1)
 
--- what the transport gave is taken by the phase
+-- what the transport gave, taken by the phase
+abbrev pub gifts_at : Phase → Option Tsdu → Result (Phase × Option Event) Cause
+gifts_at phase None = Ok (phase, None)
+gifts_at phase (Some tsdu) = tsdu_at phase tsdu
+
 abbrev pub given_at : Phase → State × Option Tsdu → Result (Stand × Option Event) Cause
-given_at phase (t, None) = Ok (record { transport = t; phase = phase }, None)
-given_at phase (t, Some tsdu) = tsdu_at phase tsdu >>= λ x. Ok (stand_of t x)
+given_at phase (t, given) = gifts_at phase given >>= λ x. Ok (stand_of t x)
 
 -- one TPDU
 unfoldable pub step_at : Stand → List ℕ → Result (Stand × Option Event) Cause

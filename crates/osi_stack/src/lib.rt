@@ -5,11 +5,13 @@
 mod called;
 mod calling;
 mod cause;
+mod connection;
 mod events;
 mod fault;
 mod laws;
 mod phase;
 mod sending;
+mod taking;
 
 // What comes.
 pub use events::{Event, Events, Line};
