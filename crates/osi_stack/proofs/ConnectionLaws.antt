@@ -1,18 +1,15 @@
 -- What a connection keeps, one TPKT more and one piece more.
-use Rattle.std.proofs.Common.{◌≡◌, ◌≢◌, ℕ, ◌+◌, ◌-◌, ◌^◌, ◌<◌, ◌≤◌, ◌⊎◌, inl, inr, Bool, true, false, List, [], ◌∷◌, ◌++◌, length, Option, Some, None, Result, Ok, Err, refl, sym, ap, subst, ◌∙◌, append_assoc, append-nil, arith}
-use Rattle.std.specs.Prelude.{min}
+use Rattle.std.proofs.Common.{◌≡◌, ℕ, ◌≤◌, inl, inr, false, List, [], ◌∷◌, ◌++◌, length, Option, Some, None, Ok, Err, refl, sym, ap, subst, ◌∙◌, append_assoc, append-nil, arith}
 use Rattle.std.specs.Option.{option_to_list}
 use Rattle.std.specs.List.{flat_map, AllByRecursion}
 use Rattle.std.proofs.lemmas.List.{length-append}
 use Rattle.std.proofs.lemmas.List.Concat.{flat_map-append, flat_map-cons}
-use Rattle.ber_grammar.specs.Reader.{◌>>=◌, with_fault}
 use Rattle.tpkt_cotp.specs.declared.fault.TpFault.{TpFault}
 use Rattle.tpkt_cotp.specs.declared.fault.TpFault.TheVariants as transport
 use Rattle.tpkt_cotp.specs.declared.state.State.{State}
 use Rattle.tpkt_cotp.specs.declared.tsdus.Taken.{Taken}
 use Rattle.tpkt_cotp.specs.declared.tsdus.Tsdu.{Tsdu}
-use Rattle.tpkt_cotp.specs.Octets.{IsBytes}
-use Rattle.tpkt_cotp.specs.Packet.{packet, IsTpdu, IsPartial}
+use Rattle.tpkt_cotp.specs.Packet.{packet, IsTpdu}
 use Rattle.tpkt_cotp.specs.Tpdu.{tpdu_at}
 use Rattle.tpkt_cotp.specs.Stream.{IsReady, StepsFrom, Advances, FailsAt, Stops as TransportStops}
 use Rattle.osi_stack.specs.declared.cause.Cause.{Cause}
@@ -20,12 +17,11 @@ use Rattle.osi_stack.specs.declared.cause.Stop.{Stop}
 use Rattle.osi_stack.specs.declared.cause.Stop.TheVariants as stops
 use Rattle.osi_stack.specs.declared.connection.Link.{Link}
 use Rattle.osi_stack.specs.declared.events.Event.{Event}
-use Rattle.osi_stack.specs.declared.fault.StackFault.{StackFault}
 use Rattle.osi_stack.specs.declared.phase.Phase.{Phase}
-use Rattle.osi_stack.specs.Causes.{of_transport, transport_stop, IsStop}
-use Rattle.osi_stack.specs.Lines.{HasLine, IsSound}
-use Rattle.osi_stack.specs.Stream.{Stand, stand_of, gifts_at, given_at, step_at, has_ended, Runs, Takes, Stops}
-use Rattle.osi_stack.specs.Going.{stand, IsUsable, fault_at, Adds, AddsTaken, StaysTaken, counted, held_with, Went, HaltsAt, IsHalted, WentAll, Why, Halts}
+use Rattle.osi_stack.specs.Causes.{of_transport, transport_stop}
+use Rattle.osi_stack.specs.Lines.{HasLine}
+use Rattle.osi_stack.specs.Stream.{Stand, gifts_at, step_at, has_ended, Runs, Takes, Stops}
+use Rattle.osi_stack.specs.Going.{stand, IsUsable, fault_at, Adds, AddsTaken, StaysTaken, counted, held_with, Went, HaltsAt, Why, Halts}
 
 -- ---- two goes are one
 
@@ -34,7 +30,7 @@ Runs-append s t u [] qs a b p q = rw (p.0) (subst (λ (x : Stand). Runs x qs b u
 Runs-append s t u (x ∷ ps) qs a b (on, mid, first, others, step, split, p) q =
     (on, mid, first, others ++ b, step, ap (λ (y : List Event). y ++ b) split ∙ append_assoc (option_to_list first) others b, Runs-append mid t u ps qs others b p q)
 
-All-append : {A : Type 0} (P : A → Type 0) (xs ys : List A) → AllByRecursion P xs → AllByRecursion P ys → AllByRecursion P (xs ++ ys)
+pub All-append : {A : Type 0} (P : A → Type 0) (xs ys : List A) → AllByRecursion P xs → AllByRecursion P ys → AllByRecursion P (xs ++ ys)
 All-append P [] ys p q = q
 All-append P (x ∷ xs) ys p q = (p.0, All-append P xs ys p.1 q)
 

@@ -1,3 +1,4 @@
 pub mod StreamLaws
 pub mod FitLaws
 pub mod ConnectionLaws
+pub mod StandingLaws

@@ -1,5 +1,5 @@
 -- What SPDUs do to a connection on the side that called.
-use Rattle.std.specs.Prelude.{ℕ, min, List, [], Option, Some, None, Result, Ok, Err, if◌then◌else◌}
+use Rattle.std.specs.Prelude.{ℕ, min, List, [], Option, Some, None, Ok, Err, if◌then◌else◌}
 use Rattle.ber_grammar.specs.Reader.{◌>>=◌, with_fault}
 use Rattle.session_pres.specs.declared.fault.SpFault.TheVariants as session
 use Rattle.session_pres.specs.Units.{begins}

@@ -6,3 +6,5 @@ pub mod Calling
 pub mod Machine
 pub mod Stream
 pub mod Going
+pub mod Standing
+pub mod Sides

@@ -23,12 +23,7 @@ use tpkt_cotp::tsdu;
 
 /// The ACCEPT for a CP and the initiate in it, in its TPKTs.
 #[tactic(auto, unfolding(crate::specs::Called::acceptance))]
-fn accept(
-    alloc: Global,
-    exponent: u8,
-    cp: &Cp<'_>,
-    asked: &Initiate,
-) -> Result<Octs, AllocError>
+fn accept(alloc: Global, exponent: u8, cp: &Cp<'_>, asked: &Initiate) -> Result<Octs, AllocError>
     requires exponent { IsExponent exponent }
     requires size { 1024 ≤ asked.now.size }
     requires fits { CanBeAccepted (asked_of cp.now) asked.now }

@@ -20,6 +20,7 @@ use tpkt_cotp::tsdu;
 
 /// The number of the presentation context of association control, and that of MMS, which a caller proposes.
 const ACSE: u32 = 1;
+
 const MMS: u32 = 3;
 
 /// The CONNECT that proposes PDUs of at most this size, in its TPKTs.

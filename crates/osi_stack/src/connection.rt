@@ -13,6 +13,7 @@ use crate::fault::StackFault;
 use crate::phase::Phase;
 use crate::taking::take;
 use std::alloc::Global;
+use std::marker::Model;
 use tpkt_cotp::{Taken, TransportIn, Tsdu};
 
 /// What a connection keeps of its stream between two pieces.
@@ -134,4 +135,89 @@ pub fn take_piece(
         };
     }
     Ok(())
+}
+
+/// What has come of a stream on one connection, and the refusal that it was answered with, seen by contracts as the two.
+#[derive(Debug, Drop)]
+pub struct Connection {
+    link: Link,
+    refused: Option<StackFault>,
+}
+
+impl Model for Connection {
+    ghost use Rattle.std.specs.Prelude.{◌≡◌, Option, None};
+    ghost use Rattle.osi_stack.specs.declared.connection.Link.{Link};
+    ghost use Rattle.osi_stack.specs.declared.fault.StackFault.{StackFault};
+    ghost use Rattle.osi_stack.specs.Going.{IsUsable};
+
+    ghost Value = { Link × Option StackFault };
+
+    ghost view = { λ c. (c.link, c.refused) };
+
+    ghost invariant = { λ c. c.refused ≡ None → IsUsable c.link };
+}
+
+impl Connection {
+    ghost use Rattle.std.specs.Prelude.{◌≡◌, ℕ, true, false, List, [], ◌++◌, Some, Err, IfErr, MatchResult};
+    ghost use Rattle.std.specs.List.{AllByRecursion};
+    ghost use Rattle.tpkt_cotp.specs.Stream.{StandsFor};
+    ghost use Rattle.osi_stack.specs.declared.events.Event.{Event};
+    ghost use Rattle.osi_stack.specs.declared.fault.StackFault.{StackFault};
+    ghost use Rattle.osi_stack.specs.declared.phase.Phase.TheVariants.{Idle, Calling};
+    ghost use Rattle.osi_stack.specs.Lines.{HasLine, IsProposal};
+    ghost use Rattle.osi_stack.specs.Stream.{Stand, called, calling};
+    ghost use Rattle.osi_stack.specs.Standing.{IsAt, HasStopped, MovesOn, StopsAt};
+
+    /// Nothing has come, on the side that was called.
+    pub fn called() -> Connection
+        ensures { IsAt result called [] [] }
+    {
+        Connection {
+            link: Link {
+                transport: TransportIn::new(),
+                phase: Phase::Idle,
+                octets: 0,
+            },
+            refused: None,
+        }
+    }
+
+    /// Nothing has come, on the side that calls and will propose PDUs of at most this size.
+    pub fn calling(size: u32) -> Connection
+        requires { IsProposal size }
+        ensures { IsAt result (calling size) [] [] }
+    {
+        Connection {
+            link: Link {
+                transport: TransportIn::dialled(),
+                phase: Phase::Calling(size),
+                octets: 0,
+            },
+            refused: None,
+        }
+    }
+
+    /// Takes the next piece of the stream, and adds what the whole TPKTs in it come to.
+    pub fn feed(
+        &mut self,
+        alloc: Global,
+        piece: &[u8],
+        events: &mut Events,
+    ) -> Result<(), StackFault>
+        ensures stands { (from : Stand) (octets : List ℕ) (so_far : List Event) → IsAt self.old from octets so_far → MatchResult result
+            (λ _. MovesOn self.new from (octets ++ piece.now) so_far events.old events.new)
+            (λ f. StopsAt f from (octets ++ piece.now) so_far events.old events.new) }
+        ensures lines { AllByRecursion HasLine events.old → AllByRecursion HasLine events.new }
+        ensures refuses { IfErr result (λ f. HasStopped self.new f) }
+        ensures again { (f : StackFault) → HasStopped self.old f → (result ≡ Err f) × (self.new ≡ self.old) × (events.new ≡ events.old) }
+    {
+        if let Some(fault) = self.refused {
+            return Err(fault);
+        }
+        let done = take_piece(alloc, &mut self.link, piece, events);
+        if let Err(fault) = done {
+            self.refused = Some(fault);
+        }
+        done
+    }
 }

@@ -3,6 +3,7 @@
 #![tactic(auto)]
 
 mod called;
+mod caller;
 mod calling;
 mod cause;
 mod connection;
@@ -12,13 +13,18 @@ mod laws;
 mod phase;
 mod sending;
 mod taking;
+mod upper;
 
 // What comes.
 pub use events::{Event, Events, Line};
 pub use fault::StackFault;
+pub use upper::Upper;
 
 // What is promised of all streams.
 pub use laws::{a_stream_gives_one_list, short_pdus_fit};
+
+// The side that calls.
+pub use caller::Caller;
 
 // What is sent.
 pub use sending::frames;
