@@ -64,7 +64,7 @@ Takes-one s t octets tpdu after e on is whole step = record {
 
 -- ---- one TPKT
 
-step_is : (s : Stand) (t : State) (tpdu : List ℕ) (given : Option Tsdu) (next : Phase) (e : Option Event) → tpdu_at s.transport tpdu ≡ Ok (t, given) → gifts_at s.phase given ≡ Ok (next, e)
+pub step_is : (s : Stand) (t : State) (tpdu : List ℕ) (given : Option Tsdu) (next : Phase) (e : Option Event) → tpdu_at s.transport tpdu ≡ Ok (t, given) → gifts_at s.phase given ≡ Ok (next, e)
     → step_at s tpdu ≡ Ok ((let u : Stand = record { transport = t; phase = next } in u), e)
 unfolding step_at
 step_is s t tpdu given next e step gift = rw (step, gift) refl

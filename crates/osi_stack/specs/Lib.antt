@@ -8,3 +8,4 @@ pub mod Stream
 pub mod Going
 pub mod Standing
 pub mod Sides
+pub mod Open

@@ -21,7 +21,7 @@ pub use fault::StackFault;
 pub use upper::Upper;
 
 // What is promised of all streams.
-pub use laws::{a_stream_gives_one_list, short_pdus_fit};
+pub use laws::{a_stream_gives_one_list, frames_are_read_back, short_pdus_fit};
 
 // The side that calls.
 pub use caller::Caller;
