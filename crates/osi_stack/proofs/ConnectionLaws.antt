@@ -21,7 +21,7 @@ use Rattle.osi_stack.specs.declared.phase.Phase.{Phase}
 use Rattle.osi_stack.specs.Causes.{of_transport, transport_stop}
 use Rattle.osi_stack.specs.Lines.{HasLine}
 use Rattle.osi_stack.specs.Stream.{Stand, gifts_at, step_at, has_ended, Runs, Takes, Stops}
-use Rattle.osi_stack.specs.Going.{stand, IsUsable, fault_at, Adds, AddsTaken, StaysTaken, counted, held_with, Went, HaltsAt, Why, Halts}
+use Rattle.osi_stack.specs.Going.{stand, IsUsable, Adds, AddsTaken, StaysTaken, counted, held_with, Went, HaltsAt}
 
 -- ---- two goes are one
 
@@ -141,16 +141,6 @@ taken_halts a t held piece rest (Some taken) before now (stops.Refused cause) (t
 
 -- ---- a piece
 
-pub went_first : (a : Link) (piece : List ℕ) (now : List Event) → IsUsable a → Went a a piece piece now now
-went_first a piece now usable = record {
-  given = [];
-  takes = Takes-none (stand a) (stand a) (held_with a piece) (held_with a piece) refl refl;
-  grew = sym (append-nil now);
-  lines = tt;
-  counts = omega (arith, usable.count);
-  usable = usable;
-}
-
 pub went_then : (a b c : Link) (piece mid rest : List ℕ) (before half now : List Event) → Went a b piece mid before half → Went b c mid rest half now → Went a c piece rest before now
 went_then a b c piece mid rest before half now p q = record {
   given = p.given ++ q.given;
@@ -159,20 +149,4 @@ went_then a b c piece mid rest before half now p q = record {
   lines = All-append HasLine p.given q.given p.lines q.lines;
   counts = omega (arith, p.counts, q.counts, Takes-less (stand a) (stand b) (held_with a piece) (held_with b mid) p.given p.takes, Takes-less (stand b) (stand c) (held_with b mid) (held_with c rest) q.given q.takes);
   usable = q.usable;
-}
-
-why_there : (s : Stop) (at : Stand) (input : List ℕ) (count wanted : ℕ) → has_ended at.phase ≡ false → HaltsAt s at input → count ≡ wanted → Why (fault_at s count) at input wanted
-why_there stops.Memory at input count wanted on h same = tt
-why_there (stops.Refused cause) at input count wanted on h same = (on, h, same)
-
-pub halts_then : (s : Stop) (a b : Link) (piece mid : List ℕ) (before half now : List Event) (count : ℕ) → Went a b piece mid before half → has_ended b.phase ≡ false → now ≡ half → count ≡ b.octets → HaltsAt s (stand b) (held_with b mid)
-    → Halts (fault_at s count) a piece before now
-halts_then s a b piece mid before half now count p on same counted h = record {
-  stand_there = stand b;
-  bad = held_with b mid;
-  given = p.given;
-  takes = p.takes;
-  grew = same ∙ p.grew;
-  lines = p.lines;
-  why = why_there s (stand b) (held_with b mid) count _ on h (counted ∙ p.counts);
 }
