@@ -3,3 +3,4 @@ pub mod NumberLaws
 pub mod SortLaws
 pub mod LineLaws
 pub mod GroupLaws
+pub mod PutLaws

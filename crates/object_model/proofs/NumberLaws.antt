@@ -18,7 +18,7 @@ place false m n = by (nat_lt m n) refl
     by true h = grind (arith, nat_tests)
     by false h = grind (arith, nat_tests)
 
-place-cons : {X : Type 0} (p : X → Bool) (x : X) (xs : List X) → position p (x ∷ xs) ≡ cond (p x) (Some 0) (option_map (λ n. n + 1) (position p xs))
+pub place-cons : {X : Type 0} (p : X → Bool) (x : X) (xs : List X) → position p (x ∷ xs) ≡ cond (p x) (Some 0) (option_map (λ n. n + 1) (position p xs))
 place-cons p x xs = place (p x) _ (length xs)
 
 one_more : (b t : Bool) (r : Option ℕ) (n : ℕ) → cond b (Some 0) (option_map (λ i. i + 1) (number_or r t n)) ≡ number_or (cond b (Some 0) (option_map (λ i. i + 1) r)) t (suc n)

@@ -16,7 +16,7 @@ pub struct Index {
 }
 
 /// Gives a name a number, where it has none.
-fn add(
+pub fn add(
     alloc: Global,
     numbers: &mut IndexMap<Vec<u8>, u32>,
     name: &[u8],

@@ -2,6 +2,7 @@
 #![tactic(auto)]
 
 // the names that lines give, and the tree that they grow into
+mod grouping;
 mod growing;
 mod lines;
 mod named;
