@@ -4,3 +4,4 @@ pub mod SortLaws
 pub mod LineLaws
 pub mod GroupLaws
 pub mod PutLaws
+pub mod GrowLaws

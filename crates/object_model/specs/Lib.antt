@@ -1,4 +1,5 @@
 pub mod Groups
+pub mod Grown
 pub mod Seen
 pub mod References
 pub mod Numbers

@@ -4,6 +4,7 @@
 // the names that lines give, and the tree that they grow into
 mod grouping;
 mod growing;
+mod growth;
 mod lines;
 mod named;
 
