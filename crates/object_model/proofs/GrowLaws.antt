@@ -10,7 +10,7 @@ use Rattle.std.proofs.lemmas.Bool.Decides.{nat_tests}
 use Rattle.sv_base.specs.Fields.{fields_of, parts_of, shape_of, type_of}
 use Rattle.sv_base.proofs.FieldLaws.{type-shape, fields-parts}
 use Rattle.bay_model.specs.Generated.{Named}
-use Rattle.bay_model.specs.NameTree.{Forest, named, role_of, own_type, grown, below, side_by_side, first_names}
+use Rattle.bay_model.specs.NameTree.{Forest, longest, tree_of, named, role_of, own_type, grown, below, side_by_side, first_names}
 use Rattle.bay_model.specs.Places.{Place, place, places, fields, attrs_in, are_data, type_with, attrs_of_role, is_data_role}
 use Rattle.object_model.specs.Groups.{Group, group_at, groups}
 use Rattle.object_model.specs.Grown.{IsGrown, attr_id, spot, spot_with, forest_of}
@@ -102,3 +102,7 @@ parts_grown b before l g front names e n p = subst (λ f. IsGrown b f (grown l g
 -- all groups
 pub whole : (b : Grown) (before : List ℕ) (levels : ℕ) (ns : List Named) (gs : List Group) (i : ℕ) → 0 < levels → length gs ≤ i → gs ≡ groups ns → IsGrown b before (forest_of (levels - 1) (take i gs)) → IsGrown b before (grown levels ns)
 whole b before levels ns gs i h l e p = subst (λ f. IsGrown b before f) (ap (forest_of (levels - 1)) (take_all i gs l ∙ e) ∙ sym (grown-groups levels ns h)) p
+
+-- as many levels as the tree has
+pub all-levels : (levels : ℕ) (ns ms most : List Named) → levels ≡ suc (longest most) → most ≡ ns → ms ≡ ns → map spot (places [] (grown levels ms)) ≡ map spot (places [] (tree_of ns))
+all-levels levels ns ms most e f g = ap (λ l. map spot (places [] (grown l ms))) (e ∙ ap (λ l. suc (longest l)) f) ∙ ap (λ l. map spot (places [] (grown (suc (longest ns)) l))) g

@@ -5,3 +5,4 @@ pub mod LineLaws
 pub mod GroupLaws
 pub mod PutLaws
 pub mod GrowLaws
+pub mod LargestLaws

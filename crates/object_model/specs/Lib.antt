@@ -1,5 +1,6 @@
 pub mod Groups
 pub mod Grown
+pub mod Nodes
 pub mod Seen
 pub mod References
 pub mod Numbers

@@ -42,7 +42,7 @@ impl<'a> Cut<'a> {
 }
 
 /// The place of the first `$`, and of the end where there is none.
-fn name_len(rest: &[u8]) -> usize
+pub fn name_len(rest: &[u8]) -> usize
     ensures value { result ≡ position_or_len (λ o. o == 36) rest.now }
     ensures within { result ≤ length rest.now }
 {

@@ -5,8 +5,10 @@
 mod grouping;
 mod growing;
 mod growth;
+mod largest;
 mod lines;
 mod named;
+mod nodes;
 
 // the references of numbered parts, and what finds a number
 mod index;
