@@ -6,3 +6,4 @@ pub mod GroupLaws
 pub mod PutLaws
 pub mod GrowLaws
 pub mod LargestLaws
+pub mod ListingLaws

@@ -7,6 +7,7 @@ mod growing;
 mod growth;
 mod largest;
 mod lines;
+mod listing;
 mod named;
 mod nodes;
 
