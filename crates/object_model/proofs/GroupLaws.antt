@@ -83,7 +83,7 @@ distinct-more : (f : List ℕ) (ns : List (List ℕ)) → Distinct ns → list_a
 distinct-more f [] d h = (tt, tt)
 distinct-more f (n ∷ ns) d h = (absent-more n f ns d.0 (none_left (bytes_eq f n) (list_any (bytes_eq f) ns) h), distinct-more f ns d.1 (none_right (bytes_eq f n) (list_any (bytes_eq f) ns) h))
 
-distinct-with : (ns : List (List ℕ)) (f : List ℕ) → Distinct ns → Distinct (with_name ns f)
+pub distinct-with : (ns : List (List ℕ)) (f : List ℕ) → Distinct ns → Distinct (with_name ns f)
 distinct-with ns f d = by (list_any (bytes_eq f) ns) refl
   where
     by : (b : Bool) → list_any (bytes_eq f) ns ≡ b → Distinct (if b then ns else ns ++ f ∷ [])

@@ -7,3 +7,5 @@ pub mod PutLaws
 pub mod GrowLaws
 pub mod LargestLaws
 pub mod ListingLaws
+pub mod ResolveLaws
+pub mod TableLaws

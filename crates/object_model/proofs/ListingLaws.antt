@@ -1,5 +1,6 @@
 -- What one more domain does to what is listed.
 use Rattle.std.proofs.Common.{◌≡◌, ℕ, zero, suc, ◌+◌, ◌<◌, List, [], ◌∷◌, ◌++◌, map, flat_map, length, take, get_or, refl, sym, ap, subst, ◌∙◌, append_assoc, append-nil, arith, length-append}
+use Rattle.std.proofs.Math.Seq.{take-length}
 use Rattle.std.proofs.lemmas.List.{take_more, get_or_default}
 use Rattle.sv_base.specs.declared.config.Config.{Config}
 use Rattle.bay_model.specs.declared.tables.NodeRow.{NodeRow}
@@ -9,7 +10,7 @@ use Rattle.object_model.specs.declared.listing.Directory.{Directory}
 use Rattle.object_model.specs.declared.listing.Listing.{Listing}
 use Rattle.object_model.specs.declared.nodes.NodeName.{NodeName}
 use Rattle.object_model.specs.Indexes.{IndexesFrom}
-use Rattle.object_model.specs.Nodes.{spots_in, row, rows_from, name_at}
+use Rattle.object_model.specs.Nodes.{spots_in, row, rows_from, name_at, node_rows, node_names}
 use Rattle.object_model.specs.Listed.{items_of, spots_from, domain_at, first_of, IsDirectory, AllFrom, IsListed, IsOneMore}
 
 pub rows-append : (n : ℕ) (as_ bs : List Spot) → rows_from n (as_ ++ bs) ≡ rows_from n as_ ++ rows_from (n + length as_) bs
@@ -55,3 +56,12 @@ listed-next c ds ls i domain item old new d k h e q l m =
     let lt : i < length (domains c) = subst (λ x. i < length x) d h in
     let is : domain ≡ get_or (domains c) i [] = q ∙ (e ∙ (ap (λ x. get_or x i item) d ∙ get_or_default (domains c) i item [] lt)) in
     listed-more c i domain old new lt is l (subst (λ x. IsOneMore old new domain (spots_from x domain)) k m)
+
+pub directory-at : (c : Config) (ds all : List Directory) (k : ℕ) (d : Directory) → AllFrom (IsDirectory c) 0 all → ds ≡ all → k < length ds → d ≡ get_or ds k d → IsDirectory c k d
+directory-at c ds all k d a s h e = subst (λ n. IsDirectory c n d) (omega arith) (all-at (IsDirectory c) 0 ds k d (subst (AllFrom (IsDirectory c) 0) (sym s) a) h e)
+
+pub all-rows : (c : Config) (l : Listing) → IsListed c (length (domains c)) l → l.rows.items ≡ node_rows c
+all-rows c l h = h.rows ∙ ap (λ ds. rows_from 0 (flat_map (spots_in c) ds)) (take-length (domains c))
+
+pub all-names : (c : Config) (l : Listing) → IsListed c (length (domains c)) l → l.names.items ≡ node_names c
+all-names c l h = h.names ∙ ap (flat_map (λ domain. map (name_at domain) (spots_in c domain))) (take-length (domains c))

@@ -2,6 +2,7 @@ pub mod Groups
 pub mod Grown
 pub mod Nodes
 pub mod Listed
+pub mod Tables
 pub mod Seen
 pub mod References
 pub mod Numbers

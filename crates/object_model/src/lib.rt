@@ -16,5 +16,6 @@ mod index;
 mod model;
 mod numbers;
 mod references;
+mod tables;
 
 pub use model::Model;
