@@ -9,3 +9,4 @@ pub mod LargestLaws
 pub mod ListingLaws
 pub mod ResolveLaws
 pub mod TableLaws
+pub mod FlagLaws
