@@ -14,7 +14,7 @@ use Rattle.bay_model.specs.NameTree.{first_name, rest_of, is_itself, below, with
 same : (a b : List ℕ) → bytes_eq a b ≡ true → a ≡ b
 same a b h = (bytes_decides a b).0 h
 
-apart : (a b : List ℕ) → bytes_eq a b ≡ false → bytes_eq b a ≡ false
+pub apart : (a b : List ℕ) → bytes_eq a b ≡ false → bytes_eq b a ≡ false
 apart a b h = by (bytes_eq b a) refl
   where
     by : (r : Bool) → bytes_eq b a ≡ r → r ≡ false

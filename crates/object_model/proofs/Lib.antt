@@ -10,3 +10,4 @@ pub mod ListingLaws
 pub mod ResolveLaws
 pub mod TableLaws
 pub mod FlagLaws
+pub mod NameSort

@@ -4,6 +4,7 @@ use Rattle.std.proofs.Math.Seq.{take-length}
 use Rattle.std.proofs.lemmas.List.{take_more, get_or_default}
 use Rattle.sv_base.specs.declared.config.Config.{Config}
 use Rattle.bay_model.specs.declared.tables.NodeRow.{NodeRow}
+use Rattle.bay_model.specs.Names.{sorted}
 use Rattle.bay_model.specs.NamedLines.{Line, domains, lines, in_order}
 use Rattle.object_model.specs.declared.growth.Spot.{Spot}
 use Rattle.object_model.specs.declared.listing.Directory.{Directory}
@@ -44,7 +45,7 @@ listed-more c i domain old new h e l m =
       names = m.names ∙ (ap (λ x. x ++ map (name_at domain) (spots_in c domain)) l.names
           ∙ sym (ap (flat_map (λ d. map (name_at d) (spots_in c d))) next ∙ flat-more (λ d. map (name_at d) (spots_in c d)) (take i (domains c)) domain));
       directories = subst (AllFrom (IsDirectory c) 0) (sym m.directories) (all-more (IsDirectory c) 0 old.directories.items m.directory l.directories
-          (subst (λ k. IsDirectory c k m.directory) (sym l.count ∙ omega arith) (record { numbers = subst (λ d. IndexesFrom m.directory.numbers (first_of c i) (items_of (spots_in c d))) e (subst (λ n. IndexesFrom m.directory.numbers n (items_of (spots_in c domain))) first m.numbers) })));
+          (subst (λ k. IsDirectory c k m.directory) (sym l.count ∙ omega arith) (record { numbers = subst (λ d. IndexesFrom m.directory.numbers (first_of c i) (items_of (spots_in c d))) e (subst (λ n. IndexesFrom m.directory.numbers n (items_of (spots_in c domain))) first m.numbers); ascending = m.ascending ∙ ap (λ d. sorted (items_of (spots_in c d))) e })));
       count = ap length m.directories ∙ (length-append old.directories.items (m.directory ∷ []) ∙ omega (arith, l.count));
     }
 

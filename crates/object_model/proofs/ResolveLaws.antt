@@ -3,7 +3,10 @@ use Rattle.std.proofs.Common.{◌≡◌, ℕ, zero, suc, ◌+◌, ◌<◌, Bool,
 use Rattle.std.specs.Str.{bytes_eq}
 use Rattle.std.specs.Option.{option_map, option_or}
 use Rattle.std.specs.Cmp.Lexicographic.{bytes_decides}
-use Rattle.std.proofs.lemmas.List.{length-map}
+use Rattle.std.proofs.lemmas.List.{length-map, map-append}
+use Rattle.std.proofs.lemmas.List.Elements.{filter-append}
+use Rattle.std.proofs.Common.{filter, append-nil}
+use Rattle.object_model.specs.Sorting.{names_above, variables_after}
 use Rattle.sv_base.specs.declared.config.Config.{Config}
 use Rattle.sv_base.specs.declared.config.LnDef.{LnDef}
 use Rattle.bay_model.specs.Model.{Node}
@@ -19,7 +22,7 @@ use Rattle.object_model.specs.Listed.{items_of, domain_at, first_of}
 use Rattle.object_model.specs.Tables.{node_named}
 use Rattle.object_model.proofs.NumberLaws.{place-cons}
 use Rattle.object_model.proofs.PutLaws.{not_some}
-use Rattle.object_model.proofs.GroupLaws.{Absent, Distinct, distinct-with}
+use Rattle.object_model.proofs.GroupLaws.{apart, Absent, Distinct, distinct-with}
 
 -- the first place in two lists, one after the other
 shift-or : (b : Bool) (r s : Option ℕ) (n : ℕ) → cond b (Some 0) (option_map (λ i. i + 1) (option_or r (option_map (λ i. n + i) s))) ≡ option_or (cond b (Some 0) (option_map (λ i. i + 1) r)) (option_map (λ i. suc n + i) s)
@@ -117,6 +120,67 @@ module _ (places_of : List ℕ → List Place) (domain item : List ℕ) where
       by go true e o q r = first k e (some 0 k r)
       by go false e (Some x) q r = later k x e (some (x + 1) k r) (go x q)
       by go false e None q r = absurd (not_some k (sym r))
+
+-- the items of a domain
+module _ (places_of : List ℕ → List Place) (domain : List ℕ) where
+  abbrev all_nodes : List (List ℕ) → List Node
+  all_nodes ds = flat_map (λ d. map (node_at d) (places_of d)) ds
+
+  abbrev is_in : Node → Bool
+  is_in n = bytes_eq n.domain domain
+
+  abbrev items_in : List Node → List (List ℕ)
+  items_in ns = map (λ (n : Node). n.item) (filter is_in ns)
+
+  items-one : (d : List ℕ) (ds : List (List ℕ)) → items_in (all_nodes (d ∷ ds)) ≡ items_in (map (node_at d) (places_of d)) ++ items_in (all_nodes ds)
+  items-one d ds = ap (map (λ (n : Node). n.item)) (filter-append is_in (map (node_at d) (places_of d)) (all_nodes ds)) ∙ map-append (λ (n : Node). n.item) (filter is_in (map (node_at d) (places_of d))) (filter is_in (all_nodes ds))
+
+  items-here : (d : List ℕ) (ps : List Place) → bytes_eq d domain ≡ true → items_in (map (node_at d) ps) ≡ items_of (map spot ps)
+  items-here d [] h = refl
+  items-here d (p ∷ ps) h = ap (λ b. map (λ (n : Node). n.item) (cond b (node_at d p ∷ filter is_in (map (node_at d) ps)) (filter is_in (map (node_at d) ps)))) h ∙ ap (λ l. p.item ∷ l) (items-here d ps h)
+
+  items-other : (d : List ℕ) (ps : List Place) → bytes_eq d domain ≡ false → items_in (map (node_at d) ps) ≡ []
+  items-other d [] h = refl
+  items-other d (p ∷ ps) h = ap (λ b. map (λ (n : Node). n.item) (cond b (node_at d p ∷ filter is_in (map (node_at d) ps)) (filter is_in (map (node_at d) ps)))) h ∙ items-other d ps h
+
+  items-none : (ds : List (List ℕ)) → number_in ds domain ≡ None → items_in (all_nodes ds) ≡ []
+  items-none [] h = refl
+  items-none (d ∷ ds) h = items-one d ds ∙ by (items-none ds) (bytes_eq domain d) refl (number_in ds domain) refl (sym (place-cons (bytes_eq domain) d ds) ∙ h)
+    where
+      by : (number_in ds domain ≡ None → items_in (all_nodes ds) ≡ []) → (b : Bool) → bytes_eq domain d ≡ b → (o : Option ℕ) → number_in ds domain ≡ o → cond b (Some 0) (option_map (λ i. i + 1) o) ≡ None → items_in (map (node_at d) (places_of d)) ++ items_in (all_nodes ds) ≡ []
+      by go true e o q r = absurd (not_some 0 r)
+      by go false e (Some x) q r = absurd (not_some (x + 1) r)
+      by go false e None q r = ap (λ l. l ++ items_in (all_nodes ds)) (items-other d (places_of d) (apart domain d e)) ∙ go q
+
+  items-some : (ds : List (List ℕ)) (k : ℕ) → Distinct ds → number_in ds domain ≡ Some k → items_in (all_nodes ds) ≡ items_of (map spot (places_of (get_or ds k [])))
+  items-some [] k u h = absurd (not_some k (sym h))
+  items-some (d ∷ ds) k u h = items-one d ds ∙ by (λ j. items-some ds j u.1) (bytes_eq domain d) refl (number_in ds domain) refl (sym (place-cons (bytes_eq domain) d ds) ∙ h)
+    where
+      some : (q r : ℕ) → Some q ≡ Some r → q ≡ r
+      some q r e = cc
+
+      first : (q : ℕ) → bytes_eq domain d ≡ true → 0 ≡ q → items_in (map (node_at d) (places_of d)) ++ items_in (all_nodes ds) ≡ items_of (map spot (places_of (get_or (d ∷ ds) q [])))
+      first zero e z = let is : domain ≡ d = (bytes_decides domain d).0 e in
+          ap (λ l. l ++ items_in (all_nodes ds)) (items-here d (places_of d) ((bytes_decides d domain).1 (sym is)))
+          ∙ (ap (λ l. items_of (map spot (places_of d)) ++ l) (items-none ds (absent-none places_of domain [] d ds is u.0)) ∙ append-nil (items_of (map spot (places_of d))))
+      first (suc q) e z = absurd (omega (arith, z))
+
+      later : (q r : ℕ) → bytes_eq domain d ≡ false → r + 1 ≡ q → items_in (all_nodes ds) ≡ items_of (map spot (places_of (get_or ds r []))) → items_in (map (node_at d) (places_of d)) ++ items_in (all_nodes ds) ≡ items_of (map spot (places_of (get_or (d ∷ ds) q [])))
+      later zero r e z g = absurd (omega (arith, z))
+      later (suc q) r e z g = let s : r ≡ q = omega (arith, z) in
+          ap (λ l. l ++ items_in (all_nodes ds)) (items-other d (places_of d) (apart domain d e)) ∙ (g ∙ ap (λ n. items_of (map spot (places_of (get_or ds n [])))) s)
+
+      by : ((j : ℕ) → number_in ds domain ≡ Some j → items_in (all_nodes ds) ≡ items_of (map spot (places_of (get_or ds j [])))) → (b : Bool) → bytes_eq domain d ≡ b → (o : Option ℕ) → number_in ds domain ≡ o → cond b (Some 0) (option_map (λ i. i + 1) o) ≡ Some k
+          → items_in (map (node_at d) (places_of d)) ++ items_in (all_nodes ds) ≡ items_of (map spot (places_of (get_or (d ∷ ds) k [])))
+      by go true e o q r = first k e (some 0 k r)
+      by go false e (Some x) q r = later k x e (some (x + 1) k r) (go x q)
+      by go false e None q r = absurd (not_some k (sym r))
+
+pub no_variables : (c : Config) (domain after : List ℕ) → number_in (domains c) domain ≡ None → variables_after c domain after ≡ []
+no_variables c domain after h = ap (λ l. names_above l after) (items-none (places_in c) domain (domains c) h)
+
+pub variables : (c : Config) (domain after : List ℕ) (k : ℕ) → number_in (domains c) domain ≡ Some k → variables_after c domain after ≡ names_above (items_of (spots_in c (domain_at c k))) after
+variables c domain after k h = ap (λ l. names_above l after) (items-some (places_in c) domain (domains c) k (distinct-domains [] c.nodes tt) h)
 
 pub unresolved : (c : Config) (domain item : List ℕ) → number_in (domains c) domain ≡ None → node_named (nodes c) domain item ≡ None
 unresolved c domain item h = no_domain (places_in c) domain item (domains c) h

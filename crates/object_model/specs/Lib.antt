@@ -3,6 +3,7 @@ pub mod Grown
 pub mod Nodes
 pub mod Listed
 pub mod Tables
+pub mod Sorting
 pub mod Seen
 pub mod References
 pub mod Numbers

@@ -4,6 +4,7 @@ use Rattle.std.specs.Str.{bytes_eq}
 use Rattle.sv_base.specs.declared.config.Config.{Config}
 use Rattle.bay_model.specs.NameTree.{tree_of}
 use Rattle.bay_model.specs.Places.{places}
+use Rattle.bay_model.specs.Names.{sorted}
 use Rattle.bay_model.specs.NamedLines.{Line, domains}
 use Rattle.object_model.specs.declared.growth.Spot.{Spot}
 use Rattle.object_model.specs.declared.listing.Directory.{Directory}
@@ -29,6 +30,7 @@ first_of c k = length (flat_map (spots_in c) (take k (domains c)))
 -- the names of domain k
 pub record IsDirectory (c : Config) (k : ℕ) (d : Directory) : Type 0 where
   pub numbers : IndexesFrom d.numbers (first_of c k) (items_of (spots_in c (domain_at c k)))
+  pub ascending : d.ascending.items ≡ sorted (items_of (spots_in c (domain_at c k)))
 
 -- each at its place, the first at place n
 abbrev pub AllFrom : (ℕ → Directory → Type 0) → ℕ → List Directory → Type 0
@@ -49,3 +51,4 @@ pub record IsOneMore (old new : Listing) (domain : List ℕ) (spots : List Spot)
   pub directory : Directory
   pub directories : new.directories.items ≡ old.directories.items ++ directory ∷ []
   pub numbers : IndexesFrom directory.numbers (length old.rows.items) (items_of spots)
+  pub ascending : directory.ascending.items ≡ sorted (items_of spots)

@@ -16,6 +16,7 @@ mod index;
 mod model;
 mod numbers;
 mod references;
+mod sorting;
 mod tables;
 
 pub use model::Model;

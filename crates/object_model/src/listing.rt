@@ -9,14 +9,16 @@ use crate::index::Index;
 use crate::lines::Line;
 use crate::nodes::{NodeName, push_node_names, push_rows, spots_of};
 use crate::numbers::count;
+use crate::sorting::sorted;
 use bay_model::NodeRow;
 use std::alloc::{AllocError, Global};
 use sv_base::{Config, Octs};
 
-/// The names of a domain: the numbers of its items.
+/// The names of a domain: the numbers of its items, and the items ascending by their octets.
 #[derive(Drop)]
 pub struct Directory {
     pub numbers: Index,
+    pub ascending: Vec<Octs>,
 }
 
 /// The nodes by their numbers: their rows and their names; and the names of each domain.
@@ -50,7 +52,8 @@ fn push_domain(
     let first = count(listing.rows.as_slice().len())?;
     let items = items_of(alloc, &spots)?;
     let numbers = Index::from(alloc, first, &items)?;
-    listing.directories.push(Directory { numbers })?;
+    let ascending = sorted(alloc, &items)?;
+    listing.directories.push(Directory { numbers, ascending })?;
     push_node_names(alloc, &mut listing.names, domain, &spots)?;
     push_rows(&mut listing.rows, spots)?;
     Ok(())

@@ -3,7 +3,7 @@
 use crate::index::Index;
 use crate::references::{attr_references, block_references, control_references};
 use crate::tables::Tables;
-use bay_model::{Flags, NodeTable, SetTable};
+use bay_model::{Flags, Names, NodeTable, SetTable};
 use std::alloc::{AllocError, Global};
 use sv_base::{AttrId, BlockNo, Config, CtlNo, NodeId, TypeOf};
 
@@ -44,6 +44,7 @@ impl Model {
     ghost use Rattle.bay_model.specs.Attributes.{attributes};
     ghost use Rattle.bay_model.specs.Named.{configured_model, nodes as nodes_of};
     ghost use Rattle.object_model.specs.Nodes.{node_rows};
+    ghost use Rattle.object_model.specs.Sorting.{variables_after};
     ghost use Rattle.object_model.specs.Tables.{node_named, node_type, set_rows, flags_of};
     ghost use Rattle.object_model.specs.Numbers.{number_in};
     ghost use Rattle.object_model.specs.References.{block_references as blocks_of, control_references as controls_of, attr_references as attrs_of};
@@ -160,5 +161,19 @@ impl Model {
         ensures { result.now ≡ node_rows self.now }
     {
         &self.tables.nodes
+    }
+
+    /// The names of a domain's variables that come after a name, known or not, ascending by their octets (ISO 9506-2,
+    /// GetNameList with continueAfter).
+    pub fn names_after(
+        &self,
+        alloc: Global,
+        domain: &[u8],
+        after: &[u8],
+    ) -> Result<Names, AllocError>
+        ensures { IfOk result (λ names. names ≡ variables_after self.now domain.now after.now) }
+    {
+        let names = self.tables.names_after(alloc, domain, after)?;
+        Ok(Names::from_vec(names))
     }
 }

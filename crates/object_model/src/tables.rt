@@ -7,6 +7,7 @@ ghost use Rattle.bay_model.specs.NamedLines.{is_setting as is_setting_line};
 ghost use Rattle.bay_model.specs.Named.{set_defined, nodes as nodes_of};
 ghost use Rattle.object_model.specs.Indexes.{Indexes};
 ghost use Rattle.object_model.specs.Nodes.{node_names};
+ghost use Rattle.object_model.specs.Sorting.{variables_after};
 ghost use Rattle.object_model.specs.Tables.{IsTables, set_row, set_rows as set_rows_of, attr_flags as attr_flags_of, line_flags, control_flags, no_flags, node_named, name_references, member_in, row_in};
 
 use crate::index::Index;
@@ -14,6 +15,7 @@ use crate::lines::{domains, ordered_lines};
 use crate::listing::{Directory, list};
 use crate::nodes::NodeName;
 use crate::references::{is_selected, is_setting, joined};
+use crate::sorting::names_after;
 use bay_model::{Flags, NodeTable, Nodes, SetName, SetRow, SetTable};
 use std::alloc::{AllocError, Global};
 use sv_base::{AttrDef, Config, CtlDef, NodeId, Octs, SetDef};
@@ -200,6 +202,27 @@ impl Tables {
             Some(number) => match self.directories.get(number as usize) {
                 None => None,
                 Some(directory) => directory.numbers.number_of(item),
+            },
+        }
+    }
+
+    /// The items of a domain that come after a name, ascending by their octets.
+    pub fn names_after(
+        &self,
+        alloc: Global,
+        domain: &[u8],
+        after: &[u8],
+    ) -> Result<Vec<Octs>, AllocError>
+        ensures { IfOk result (λ v. (c : ModelConfig) → IsTables c self.now → v.items ≡ variables_after c domain.now after.now) }
+    {
+        match self.domains.number_of(domain) {
+            None => Ok(Vec::new(alloc)),
+            Some(number) => match self.directories.get(number as usize) {
+                None => Ok(Vec::new(alloc)),
+                Some(directory) => {
+                    let names = names_after(alloc, &directory.ascending, after)?;
+                    Ok(names)
+                }
             },
         }
     }
