@@ -12,6 +12,7 @@ mod named;
 mod nodes;
 
 // the references of numbered parts, and what finds a number
+mod copies;
 mod index;
 mod model;
 mod numbers;

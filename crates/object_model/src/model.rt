@@ -1,5 +1,6 @@
 //! The model of a configuration.
 
+use crate::copies::copy_config;
 use crate::index::Index;
 use crate::references::{attr_references, block_references, control_references};
 use crate::tables::Tables;
@@ -64,6 +65,15 @@ impl Model {
             attrs,
             tables,
         })
+    }
+
+    /// The same model again.
+    pub fn copy(&self, alloc: Global) -> Result<Self, AllocError>
+        ensures { IfOk result (λ m. m ≡ self.now) }
+    {
+        let config = copy_config(alloc, &self.config)?;
+        let model = Model::build(alloc, config)?;
+        Ok(model)
     }
 
     /// The configuration.
