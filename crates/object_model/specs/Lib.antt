@@ -1,4 +1,9 @@
 pub mod Groups
+pub mod Grown
+pub mod Nodes
+pub mod Listed
+pub mod Tables
+pub mod Sorting
 pub mod Seen
 pub mod References
 pub mod Numbers

@@ -2,15 +2,23 @@
 #![tactic(auto)]
 
 // the names that lines give, and the tree that they grow into
+mod grouping;
 mod growing;
+mod growth;
+mod largest;
 mod lines;
+mod listing;
 mod named;
+mod nodes;
 
 // the references of numbered parts, and what finds a number
+mod copies;
 mod index;
 mod model;
 mod numbers;
 mod references;
+mod sorting;
+mod tables;
 
 pub use lines::domains;
 pub use model::Model;
