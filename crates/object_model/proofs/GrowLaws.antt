@@ -1,8 +1,6 @@
 -- What one more group grows.
 use Rattle.std.proofs.Common.{◌≡◌, ℕ, zero, suc, ◌+◌, ◌-◌, ◌<◌, ◌≤◌, ◌==◌, subst, take_all, Bool, true, false, ◌&&◌, List, [], ◌∷◌, ◌++◌, map, length, get_or, take, refl, sym, ap, ◌∙◌, append_assoc, append-nil, arith}
 use Rattle.std.proofs.lemmas.List.{map-append, take_more}
-use Rattle.sv_base.specs.declared.numbers.AttrId.{AttrId}
-use Rattle.sv_base.specs.declared.types.Part1.{Part1}
 use Rattle.sv_base.specs.Types.{Fields, no_field, field}
 use Rattle.sv_base.specs.declared.types.TypeOf.{TypeOf}
 use Rattle.sv_base.specs.declared.types.TypeOf.TheVariants as types
@@ -10,11 +8,10 @@ use Rattle.std.proofs.lemmas.Bool.Decides.{nat_tests}
 use Rattle.sv_base.specs.Fields.{fields_of, parts_of, shape_of, type_of}
 use Rattle.sv_base.proofs.FieldLaws.{type-shape, fields-parts}
 use Rattle.bay_model.specs.Generated.{Named}
-use Rattle.bay_model.specs.NameTree.{Forest, longest, tree_of, named, role_of, own_type, grown, below, side_by_side, first_names}
+use Rattle.bay_model.specs.NameTree.{longest, tree_of, named, role_of, own_type, grown, below, side_by_side, first_names}
 use Rattle.bay_model.specs.Places.{Place, place, places, fields, attrs_in, are_data, type_with, attrs_of_role, is_data_role}
 use Rattle.object_model.specs.Groups.{Group, group_at, groups}
 use Rattle.object_model.specs.Grown.{IsGrown, attr_id, spot, spot_with, forest_of}
-use Rattle.object_model.specs.declared.growth.Spot.{Spot}
 use Rattle.object_model.specs.declared.growth.Grown.{Grown}
 
 side : (l : ℕ) (ns : List Named) (names : List (List ℕ)) → side_by_side (λ name others. named name (role_of (below name ns)) (own_type (below name ns)) (grown l (below name ns)) others) names ≡ forest_of l (map (group_at ns) names)

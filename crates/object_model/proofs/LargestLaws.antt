@@ -1,6 +1,6 @@
 -- The largest Data of one more part.
 use Rattle.std.proofs.Common.{◌≡◌, ℕ, zero, suc, ◌+◌, ◌<◌, List, [], ◌∷◌, length, take, get_or, arith, ap}
-use Rattle.sv_base.specs.Fields.{fields_of, shape_of}
+use Rattle.sv_base.specs.Fields.{fields_of}
 use Rattle.sv_base.specs.declared.types.Part1.{Part1}
 use Rattle.bay_model.specs.Places.{largest_fields, largest}
 

@@ -11,3 +11,4 @@ pub mod ResolveLaws
 pub mod TableLaws
 pub mod FlagLaws
 pub mod NameSort
+pub mod KindLaws

@@ -3,16 +3,14 @@ use Rattle.std.proofs.Common.{◌≡◌, ℕ, zero, suc, ◌+◌, ◌<◌, List,
 use Rattle.std.proofs.Math.Seq.{take-length}
 use Rattle.std.proofs.lemmas.List.{take_more, get_or_default}
 use Rattle.sv_base.specs.declared.config.Config.{Config}
-use Rattle.bay_model.specs.declared.tables.NodeRow.{NodeRow}
 use Rattle.bay_model.specs.Names.{sorted}
 use Rattle.bay_model.specs.NamedLines.{Line, domains, lines, in_order}
 use Rattle.object_model.specs.declared.growth.Spot.{Spot}
 use Rattle.object_model.specs.declared.listing.Directory.{Directory}
 use Rattle.object_model.specs.declared.listing.Listing.{Listing}
-use Rattle.object_model.specs.declared.nodes.NodeName.{NodeName}
 use Rattle.object_model.specs.Indexes.{IndexesFrom}
 use Rattle.object_model.specs.Nodes.{spots_in, row, rows_from, name_at, node_rows, node_names}
-use Rattle.object_model.specs.Listed.{items_of, spots_from, domain_at, first_of, IsDirectory, AllFrom, IsListed, IsOneMore}
+use Rattle.object_model.specs.Listed.{items_of, spots_from, first_of, IsDirectory, AllFrom, IsListed, IsOneMore}
 
 pub rows-append : (n : ℕ) (as_ bs : List Spot) → rows_from n (as_ ++ bs) ≡ rows_from n as_ ++ rows_from (n + length as_) bs
 rows-append n [] bs = ap (λ m. rows_from m bs) (omega arith)

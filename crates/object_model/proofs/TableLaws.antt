@@ -1,5 +1,5 @@
 -- The tables of a configuration beside the model of it.
-use Rattle.std.proofs.Common.{◌≡◌, ℕ, zero, suc, ◌+◌, ◌<◌, Bool, cond, List, [], ◌∷◌, ◌++◌, map, flat_map, filter, length, get_or, position, Option, Some, unwrap_or, slice_get, refl, sym, ap, ◌∙◌, arith}
+use Rattle.std.proofs.Common.{◌≡◌, ℕ, zero, suc, ◌+◌, ◌<◌, Bool, cond, List, [], ◌∷◌, ◌++◌, map, flat_map, length, get_or, position, Some, unwrap_or, slice_get, refl, sym, ap, ◌∙◌, arith}
 use Rattle.std.specs.Option.{option_map}
 use Rattle.std.specs.Str.{bytes_eq}
 use Rattle.std.proofs.Common.{false}
@@ -25,7 +25,7 @@ use Rattle.object_model.specs.declared.index.Index.{Index}
 use Rattle.object_model.specs.declared.nodes.NodeName.{NodeName}
 use Rattle.object_model.specs.Grown.{spot, attr_id}
 use Rattle.object_model.specs.Numbers.{number_in}
-use Rattle.object_model.specs.Indexes.{Indexes, found}
+use Rattle.object_model.specs.Indexes.{Indexes}
 use Rattle.object_model.specs.Nodes.{spots_in, name_at, node_names, row, rows_from, node_rows}
 use Rattle.object_model.specs.Tables.{node_id, node_types, node_type, set_row, set_rows, name_references, member_in, row_in}
 use Rattle.object_model.proofs.NumberLaws.{place-cons}

@@ -1,7 +1,6 @@
 -- What grows out of what is named: the nodes of names side by side, and what these are as parts of a structure.
 use Rattle.std.specs.Prelude.{◌≡◌, ℕ, List, [], ◌∷◌, ◌++◌, ◌&&◌, Bool, map}
 use Rattle.sv_base.specs.declared.numbers.AttrId.{AttrId}
-use Rattle.sv_base.specs.declared.types.TypeOf.{TypeOf}
 use Rattle.sv_base.specs.Types.{Fields}
 use Rattle.sv_base.specs.Fields.{parts_of}
 use Rattle.bay_model.specs.NameTree.{Forest, nothing, named, role_of, own_type, grown}

@@ -2,6 +2,7 @@ pub mod Groups
 pub mod Grown
 pub mod Nodes
 pub mod Listed
+pub mod Fits
 pub mod Tables
 pub mod Sorting
 pub mod Seen

@@ -1,11 +1,10 @@
 -- The nodes of a configuration as the parts of a bay are given them: each with its domain, its type and its largest Data.
-use Rattle.std.specs.Prelude.{ℕ, suc, Bool, ◌&&◌, List, [], ◌∷◌, map, flat_map, min}
+use Rattle.std.specs.Prelude.{ℕ, suc, ◌&&◌, List, [], ◌∷◌, map, flat_map, min}
 use Rattle.std.specs.List.{list_any}
 use Rattle.std.specs.Str.{bytes_eq}
 use Rattle.sv_base.specs.declared.config.Config.{Config}
-use Rattle.sv_base.specs.declared.types.TypeOf.{TypeOf}
 use Rattle.bay_model.specs.declared.tables.NodeRow.{NodeRow}
-use Rattle.bay_model.specs.Places.{Place, largest, constraint, member_constraints}
+use Rattle.bay_model.specs.Places.{largest, constraint, member_constraints}
 use Rattle.bay_model.specs.NamedLines.{domains}
 use Rattle.bay_model.specs.Named.{places_in}
 use Rattle.object_model.specs.declared.growth.Spot.{Spot}

@@ -1,5 +1,5 @@
 -- What is found in a configuration: its nodes by their names, its data sets, and the trigger conditions of its attributes.
-use Rattle.std.specs.Prelude.{◌≡◌, ℕ, false, ◌&&◌, List, [], ◌∷◌, ◌++◌, map, flat_map, filter, position, length, Option, unwrap_or, slice_index_or}
+use Rattle.std.specs.Prelude.{◌≡◌, ℕ, false, ◌&&◌, List, ◌++◌, map, flat_map, filter, position, length, Option, unwrap_or, slice_index_or}
 use Rattle.std.specs.Str.{bytes_eq}
 use Rattle.sv_base.specs.declared.config.Config.{Config}
 use Rattle.sv_base.specs.declared.config.AttrDef.{AttrDef}
@@ -12,7 +12,6 @@ use Rattle.sv_base.specs.Types.{no_field}
 use Rattle.bay_model.specs.declared.flags.Flags.{Flags}
 use Rattle.bay_model.specs.declared.tables.SetRow.{SetRow}
 use Rattle.bay_model.specs.Model.{Node, DataSet, Attr}
-use Rattle.bay_model.specs.Configured.{NameTree}
 use Rattle.bay_model.specs.Lookups.{reference_of}
 use Rattle.bay_model.specs.Generated.{Parameter, parameters, within}
 use Rattle.bay_model.specs.Places.{Place}
@@ -22,6 +21,7 @@ use Rattle.object_model.specs.declared.tables.Tables.{Tables}
 use Rattle.object_model.specs.declared.index.Index.{Index}
 use Rattle.object_model.specs.declared.nodes.NodeName.{NodeName}
 use Rattle.object_model.specs.Indexes.{Indexes, found}
+use Rattle.object_model.specs.Fits.{attr_types}
 use Rattle.object_model.specs.Nodes.{node_rows, node_names}
 use Rattle.object_model.specs.Listed.{AllFrom, IsDirectory}
 
@@ -70,6 +70,7 @@ pub record IsTables (c : Config) (t : Tables) : Type 0 where
   pub nodes : t.nodes ≡ node_rows c
   pub sets : t.sets ≡ set_rows c
   pub flags : t.flags.items ≡ attr_flags c
+  pub kinds : t.kinds.items ≡ attr_types c
 
 -- ---- for the code
 

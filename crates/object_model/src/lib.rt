@@ -13,6 +13,7 @@ mod nodes;
 
 // the references of numbered parts, and what finds a number
 mod copies;
+mod fitting;
 mod index;
 mod model;
 mod numbers;

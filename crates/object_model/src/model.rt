@@ -1,10 +1,11 @@
 //! The model of a configuration.
 
 use crate::copies::copy_config;
+use crate::fitting::{Counts, step_fits};
 use crate::index::Index;
 use crate::references::{attr_references, block_references, control_references};
 use crate::tables::Tables;
-use bay_model::{Flags, Names, NodeTable, SetTable};
+use bay_model::{Flags, Names, NodeTable, SetTable, Step};
 use std::alloc::{AllocError, Global};
 use sv_base::{AttrId, BlockNo, Config, CtlNo, NodeId, TypeOf};
 
@@ -34,9 +35,12 @@ impl std::marker::Model for Model {
 
     ghost use Rattle.object_model.specs.Indexes.{Indexes};
     ghost use Rattle.object_model.specs.References.{block_references, control_references, attr_references};
+    ghost use Rattle.std.specs.List.{All};
+    ghost use Rattle.sv_base.specs.declared.config.AttrDef.{AttrDef};
+    ghost use Rattle.bay_model.specs.Slots.{IsSettable};
     ghost use Rattle.object_model.specs.Tables.{IsTables};
 
-    ghost invariant = { λ m. Indexes m.blocks (block_references m.config) × Indexes m.controls (control_references m.config) × Indexes m.attrs (attr_references m.config) × IsTables m.config m.tables };
+    ghost invariant = { λ m. Indexes m.blocks (block_references m.config) × Indexes m.controls (control_references m.config) × Indexes m.attrs (attr_references m.config) × IsTables m.config m.tables × All (λ (a : AttrDef). IsSettable a.kind) m.config.attrs };
 }
 
 impl Model {
@@ -44,14 +48,19 @@ impl Model {
     ghost use Rattle.bay_model.specs.Lookups.{node_of, attr_of};
     ghost use Rattle.bay_model.specs.Attributes.{attributes};
     ghost use Rattle.bay_model.specs.Named.{configured_model, nodes as nodes_of};
+    ghost use Rattle.std.specs.List.{All};
+    ghost use Rattle.sv_base.specs.declared.config.AttrDef.{AttrDef as AttrLine};
+    ghost use Rattle.bay_model.specs.Slots.{IsSettable};
+    ghost use Rattle.object_model.specs.Fits.{fits as fits_in};
     ghost use Rattle.object_model.specs.Nodes.{node_rows};
     ghost use Rattle.object_model.specs.Sorting.{variables_after};
     ghost use Rattle.object_model.specs.Tables.{node_named, node_type, set_rows, flags_of};
     ghost use Rattle.object_model.specs.Numbers.{number_in};
     ghost use Rattle.object_model.specs.References.{block_references as blocks_of, control_references as controls_of, attr_references as attrs_of};
 
-    /// The model of a configuration.
+    /// The model of a configuration, whose attributes are of the types that an `attr` line may have.
     pub fn build(alloc: Global, config: Config) -> Result<Self, AllocError>
+        requires { All (λ (a : AttrLine). IsSettable a.kind) config.attrs }
         ensures { IfOk result (λ m. m ≡ config) }
     {
         let blocks = Index::of(alloc, &block_references(alloc, &config)?)?;
@@ -185,5 +194,19 @@ impl Model {
     {
         let names = self.tables.names_after(alloc, domain, after)?;
         Ok(Names::from_vec(names))
+    }
+
+    /// Whether a step fits the configuration: each number in it is in range, each setting of its attribute's type and size;
+    /// and octets 20 to 7E alone stand in its texts, in the domain-specific names of its variables and in the names of
+    /// domains' data sets.
+    pub fn fits(&self, step: &Step) -> bool
+        ensures { result ≡ fits_in self.now step.now }
+    {
+        let counts = Counts {
+            nodes: self.tables.nodes.len(),
+            blocks: self.config.blocks.len(),
+            controls: self.config.controls.len(),
+        };
+        step_fits(counts, self.tables.kinds.as_slice(), step)
     }
 }

@@ -6,6 +6,7 @@ ghost use Rattle.bay_model.specs.Generated.{parameters};
 ghost use Rattle.bay_model.specs.NamedLines.{is_setting as is_setting_line};
 ghost use Rattle.bay_model.specs.Named.{set_defined, nodes as nodes_of};
 ghost use Rattle.object_model.specs.Indexes.{Indexes};
+ghost use Rattle.object_model.specs.Fits.{attr_types as attr_types_of};
 ghost use Rattle.object_model.specs.Nodes.{node_names};
 ghost use Rattle.object_model.specs.Sorting.{variables_after};
 ghost use Rattle.object_model.specs.Tables.{IsTables, set_row, set_rows as set_rows_of, attr_flags as attr_flags_of, line_flags, control_flags, no_flags, node_named, name_references, member_in, row_in};
@@ -18,7 +19,7 @@ use crate::references::{is_selected, is_setting, joined};
 use crate::sorting::names_after;
 use bay_model::{Flags, NodeTable, Nodes, SetName, SetRow, SetTable};
 use std::alloc::{AllocError, Global};
-use sv_base::{AttrDef, Config, CtlDef, NodeId, Octs, SetDef};
+use sv_base::{AttrDef, Config, CtlDef, NodeId, Octs, SetDef, TypeOf, copy_type};
 
 /// The numbers of the domains and, for each, of its items; the nodes, their names, the data sets and the trigger conditions,
 /// by their numbers.
@@ -30,6 +31,7 @@ pub struct Tables {
     pub nodes: NodeTable,
     pub sets: SetTable,
     pub flags: Vec<Flags>,
+    pub kinds: Vec<TypeOf>,
 }
 
 /// The references `LD/item` of nodes.
@@ -173,6 +175,72 @@ fn attr_flags(alloc: Global, config: &Config) -> Result<Vec<Flags>, AllocError>
     Ok(flags)
 }
 
+fn push_line_types(
+    alloc: Global,
+    out: &mut Vec<TypeOf>,
+    attrs: &[AttrDef],
+) -> Result<(), AllocError>
+    ensures { OnOk result (out.new.items ≡ out.old.items ++ map (λ a. a.kind) attrs.now) }
+{
+    for attr in attrs {
+        out.push(copy_type(alloc, &attr.kind)?)?;
+    }
+    Ok(())
+}
+
+fn push_control_types(out: &mut Vec<TypeOf>, control: &CtlDef) -> Result<(), AllocError>
+    ensures { OnOk result (out.new.items ≡ out.old.items ++ map (λ p. p.kind) (parameters control.now)) }
+{
+    out.push(TypeOf::Int(8))?;
+    if is_selected(control) {
+        out.push(TypeOf::Uint(32))?;
+        out.push(TypeOf::Int(8))?;
+    }
+    Ok(())
+}
+
+fn push_generated_types(out: &mut Vec<TypeOf>, controls: &[CtlDef]) -> Result<(), AllocError>
+    ensures { OnOk result (out.new.items ≡ out.old.items ++ flat_map (λ k. map (λ p. p.kind) (parameters k)) controls.now) }
+{
+    for control in controls {
+        push_control_types(out, control)?;
+    }
+    Ok(())
+}
+
+fn push_twin_type(alloc: Global, out: &mut Vec<TypeOf>, attr: &AttrDef) -> Result<(), AllocError>
+    ensures { OnOk result (out.new.items ≡ out.old.items ++ map (λ a. a.kind) (filter is_setting_line (attr.now ∷ []))) }
+{
+    if is_setting(attr) {
+        out.push(copy_type(alloc, &attr.kind)?)?;
+    }
+    Ok(())
+}
+
+fn push_twins_types(
+    alloc: Global,
+    out: &mut Vec<TypeOf>,
+    attrs: &[AttrDef],
+) -> Result<(), AllocError>
+    ensures { OnOk result (out.new.items ≡ out.old.items ++ map (λ a. a.kind) (filter is_setting_line attrs.now)) }
+{
+    for attr in attrs {
+        push_twin_type(alloc, out, attr)?;
+    }
+    Ok(())
+}
+
+/// The types of the attributes, by their numbers.
+fn attr_types(alloc: Global, config: &Config) -> Result<Vec<TypeOf>, AllocError>
+    ensures { IfOk result (λ v. v.items ≡ attr_types_of config.now) }
+{
+    let mut kinds = Vec::new(alloc);
+    push_line_types(alloc, &mut kinds, config.attrs.as_slice())?;
+    push_generated_types(&mut kinds, config.controls.as_slice())?;
+    push_twins_types(alloc, &mut kinds, config.attrs.as_slice())?;
+    Ok(kinds)
+}
+
 impl Tables {
     /// The tables of a configuration.
     pub fn of(alloc: Global, config: &Config) -> Result<Self, AllocError>
@@ -190,6 +258,7 @@ impl Tables {
             nodes: NodeTable::from_vec(listing.rows),
             sets,
             flags: attr_flags(alloc, config)?,
+            kinds: attr_types(alloc, config)?,
         })
     }
 

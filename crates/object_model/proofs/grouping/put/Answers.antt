@@ -1,8 +1,8 @@
-use Rattle.std.proofs.Common.{◌≡◌, ◌++◌, ◌∷◌, [], map, ap, sym, ◌∙◌, Some, None, length, rules}
+use Rattle.std.proofs.Common.{◌∷◌, [], map, ap, sym, ◌∙◌}
 use Rattle.std.specs.Str.{bytes_eq}
 use Rattle.object_model.specs.Groups.{Group, group_name}
 use Rattle.object_model.specs.Numbers.{number_in, number_or}
-use Rattle.object_model.proofs.PutLaws.{place_of, put-at, put-none, names-stay, names-more}
+use Rattle.object_model.proofs.PutLaws.{put-at, put-none, names-stay, names-more}
 use Rattle.object_model.proofs.grouping.put.Goals as goal
 
 pub push_into-requires : goal.push_into-requires

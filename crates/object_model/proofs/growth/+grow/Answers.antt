@@ -1,9 +1,6 @@
-use Rattle.std.proofs.Common.{◌≡◌, ◌++◌, ◌∷◌, [], ◌-◌, ◌<◌, ap, sym, ◌∙◌, subst, arith, ℕ, List}
-use Rattle.bay_model.specs.Generated.{Named}
-use Rattle.bay_model.specs.NameTree.{Forest, grown}
+use Rattle.std.proofs.Common.{◌≡◌, ◌++◌, ◌∷◌, [], ◌-◌, ap, sym, ◌∙◌, arith}
 use Rattle.object_model.specs.Groups.{Group}
-use Rattle.object_model.specs.Grown.{IsGrown, forest_of}
-use Rattle.object_model.proofs.GrowLaws.{grown-groups, grown-more, whole, parts_grown}
+use Rattle.object_model.proofs.GrowLaws.{grown-more, whole, parts_grown}
 use Rattle.object_model.proofs.growth.+grow.Goals as goal
 
 pub loop-group-preserved : goal.loop-group-preserved

@@ -1,5 +1,4 @@
-use Rattle.std.proofs.Common.{ap, sym, ◌∙◌, subst, length, arith}
-use Rattle.bay_model.specs.NamedLines.{domains}
+use Rattle.std.proofs.Common.{ap, subst, length, arith}
 use Rattle.object_model.specs.Listed.{IsListed}
 use Rattle.object_model.proofs.ListingLaws.{listed-next, listed-none}
 use Rattle.object_model.proofs.listing.list.Goals as goal

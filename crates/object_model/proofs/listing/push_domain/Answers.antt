@@ -1,4 +1,4 @@
-use Rattle.std.proofs.Common.{ap, sym, ◌∙◌, subst, ◌++◌, map, length}
+use Rattle.std.proofs.Common.{ap, ◌∙◌, subst, ◌++◌, map, length}
 use Rattle.object_model.specs.Indexes.{IndexesFrom}
 use Rattle.bay_model.specs.Names.{sorted}
 use Rattle.object_model.specs.Nodes.{rows_from, name_at}

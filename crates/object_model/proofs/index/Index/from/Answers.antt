@@ -1,6 +1,4 @@
-use Rattle.std.proofs.Common.{ap, sym, ◌∙◌, arith}
-use Rattle.std.specs.Str.{bytes_eq}
-use Rattle.object_model.specs.Numbers.{number_or}
+use Rattle.std.proofs.Common.{◌∙◌, arith}
 use Rattle.object_model.proofs.NumberLaws.{number-next}
 use Rattle.object_model.proofs.index.Index.from.Goals as goal
 

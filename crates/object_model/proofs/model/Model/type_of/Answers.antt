@@ -1,4 +1,4 @@
-use Rattle.std.proofs.Common.{◌∙◌, ap, map, sym}
+use Rattle.std.proofs.Common.{◌∙◌, ap, sym}
 use Rattle.object_model.proofs.TableLaws.{within-rows, row-of}
 use Rattle.bay_model.specs.declared.tables.NodeRow.{NodeRow}
 use Rattle.object_model.proofs.model.Model.type_of.Goals as goal

@@ -1,4 +1,4 @@
-use Rattle.std.proofs.Common.{◌∙◌, subst, sym, ap, length, []}
+use Rattle.std.proofs.Common.{◌∙◌, subst, ap, []}
 use Rattle.bay_model.specs.Configured.{domains_after}
 use Rattle.object_model.specs.Indexes.{Indexes}
 use Rattle.object_model.proofs.ListingLaws.{all-rows, all-names}
@@ -13,4 +13,5 @@ returns c = record {
   nodes = c.from_vec.ensures ∙ all-rows c.args.config.now c.in_ok-listing.listing c.in_ok-listing.ensures;
   sets = c.in_ok-sets.ensures;
   flags = c.in_ok-attr_flags.ensures;
+  kinds = c.in_ok-attr_types.ensures;
 }
