@@ -6,11 +6,11 @@ use Rattle.std.proofs.lemmas.List.{length-append}
 use Rattle.ber_write.specs.Minimal.{octets_of, length_octets, uint_octets}
 use Rattle.ber_write.proofs.NumberLaws.{length-uint_octets}
 use Rattle.session_pres.specs.Plain.{Asked, cp_from}
-use Rattle.session_pres.specs.Written.{pdv_fields, pdv_list}
+use Rattle.session_pres.specs.Written.{pdv_fields, pdv_list, user_octets, length_field, field}
 use Rattle.session_pres.specs.WrittenPpdu.{connect_parameters}
 use Rattle.session_pres.proofs.AnswerLaws.{fits_anyone}
-use Rattle.session_pres.proofs.FitLaws.{connect_short}
-use Rattle.acse_apdu.specs.Written.{name_field, result_fields, external_content, information_content, aarq_content, aare_content, aarq_octets, aare_octets}
+use Rattle.session_pres.proofs.FitLaws.{connect_short, user_few}
+use Rattle.acse_apdu.specs.Written.{name_field, result_fields, external_content, information_content, aarq_content, aare_content, aarq_octets, aare_octets, release_octets}
 use Rattle.mms_pdu.specs.declared.initiate.Initiate.{Initiate}
 use Rattle.mms_pdu.specs.InitiateOctets.{initiate_content, answer_details, request_details, accepted, proposed, initiate_answer, initiate_request}
 use Rattle.osi_stack.specs.Called.{CanBeAccepted, aare_for}
@@ -109,3 +109,17 @@ pub connect_fits : (size : ℕ) → length (connect_parameters (aarq_octets 3 (i
 unfolding aarq_octets
 connect_fits size =
     connect_short (octets_of 96 (aarq_content 3 (initiate_request size))) (omega (arith, few_in_head 96 (aarq_content 3 (initiate_request size)) (omega arith), aarq_few 3 (initiate_request size), request_few size))
+
+-- ---- a release
+
+few_in_field : (n : ℕ) → length (length_field n) ≤ 3
+few_in_field n = grind (arith, nat_tests)
+
+release_few : (tag : ℕ) → length (release_octets tag) ≤ 16
+release_few tag = grind (arith, nat_tests)
+
+pub release_fits : (context tag : ℕ) → length (field 193 (user_octets context (release_octets tag))) ≤ 65535
+unfolding field
+release_fits context tag =
+    let user = user_octets context (release_octets tag) in
+    omega (arith, user_few context (release_octets tag), few_in_field (length user), length-append (length_field (length user)) user, release_few tag)
