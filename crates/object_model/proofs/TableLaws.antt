@@ -18,7 +18,7 @@ use Rattle.sv_base.specs.declared.numbers.AttrId.{AttrId}
 use Rattle.object_model.specs.declared.growth.Spot.{Spot}
 use Rattle.object_model.proofs.ListingLaws.{length-rows}
 use Rattle.bay_model.specs.Generated.{within}
-use Rattle.bay_model.specs.Places.{Place, node_at}
+use Rattle.bay_model.specs.Places.{Place, node_at, may_be_member, largest, constraint, member_constraints}
 use Rattle.bay_model.specs.NamedLines.{domains}
 use Rattle.bay_model.specs.Named.{nodes, places_in, member_number, set_defined, configured_model}
 use Rattle.object_model.specs.declared.index.Index.{Index}
@@ -27,7 +27,12 @@ use Rattle.object_model.specs.Grown.{spot, attr_id}
 use Rattle.object_model.specs.Numbers.{number_in}
 use Rattle.object_model.specs.Indexes.{Indexes}
 use Rattle.object_model.specs.Nodes.{spots_in, name_at, node_names, row, rows_from, node_rows}
-use Rattle.object_model.specs.Tables.{node_id, node_types, node_type, set_row, set_rows, name_references, member_in, row_in}
+use Rattle.std.specs.List.{list_any}
+use Rattle.std.proofs.Common.{◌&&◌, nat_le, min}
+use Rattle.std.proofs.lemmas.Bool.Decides.{nat_tests}
+use Rattle.object_model.specs.Rows.{IsRowOf}
+use Rattle.object_model.proofs.PutLaws.{not_some}
+use Rattle.object_model.specs.Tables.{node_id, node_types, set_row, set_rows, name_references, member_in, row_in}
 use Rattle.object_model.proofs.NumberLaws.{place-cons}
 
 pub position-map : {X Y : Type 0} (p : Y → Bool) (f : X → Y) (xs : List X) → position p (map f xs) ≡ position (λ x. p (f x)) xs
@@ -123,12 +128,7 @@ rows-are c index (s ∷ ss) h = ap (λ l. record { name = record { domain = s.do
 pub sets-are : (c : Config) (index : Index) (names : List NodeName) (references : List (List ℕ)) (ss : List SetDef) (rows : List SetRow) → names ≡ node_names c → references ≡ name_references names → Indexes index references → ss ≡ c.sets → rows ≡ map (row_in index) ss → rows ≡ set_rows c
 sets-are c index names references ss rows n r h s e = e ∙ (ap (map (row_in index)) s ∙ rows-are c index c.sets (λ name. h name ∙ ap (λ l. number_in l name) (r ∙ ap name_references n)))
 
--- what the row of node n says
-pub record RowAt (c : Config) (n : ℕ) (r : NodeRow) : Type 0 where
-  pub kind : r.shape.kind ≡ node_type c n
-  pub attrs : map (λ (x : AttrId). x.0) r.shape.attrs ≡ (node_of (configured_model c) n).attrs
-  pub node : r.shape.node.0 ≡ n
-
+-- the row of node n
 type-there : (ks : List TypeOf) (ss : List Spot) (n : ℕ) (s : Spot) (k : TypeOf) → map (λ (s : Spot). s.kind) ss ≡ ks → n < length ss → (get_or ss n s).kind ≡ get_or ks n k
 type-there ks ss n s k e h = sym (get_or-map ss n s h) ∙ ap (λ l. get_or l n k) e
   where
@@ -140,7 +140,13 @@ type-there ks ss n s k e h = sym (get_or-map ss n s h) ∙ ap (λ l. get_or l n 
 self-at : (ss : List Spot) (n : ℕ) (s : Spot) → n < length ss → get_or ss n s ≡ get_or ss n (get_or ss n s)
 self-at ss n s h = get_or_default ss n s (get_or ss n s) h
 
-pub row-is : (c : Config) (n : ℕ) (r : NodeRow) → n < length (nodes c) → r ≡ get_or (node_rows c) n r → RowAt c n r
+within-limit : (x : ℕ) → nat_le (min x 4294967295) 500 ≡ nat_le x 500
+within-limit x = grind (arith, nat_tests)
+
+abbrev is_member : Spot → Bool
+is_member s = (s.is_data && list_any (bytes_eq (constraint s.item)) member_constraints) && nat_le (min (largest s.kind) 4294967295) 500
+
+pub row-is : (c : Config) (n : ℕ) (r : NodeRow) → n < length (nodes c) → r ≡ get_or (node_rows c) n r → IsRowOf c n r
 row-is c n r h e =
     let none : Spot = record { item = []; kind = types.Struct no_field; attrs = []; is_data = false } in
     let lt : n < length (all_spots c) = omega (arith, h, count-rows c, length-rows 0 (all_spots c)) in
@@ -148,6 +154,7 @@ row-is c n r h e =
     record {
       kind = ap (λ (r : NodeRow). r.shape.kind) is ∙ type-there (node_types c) (all_spots c) n none _ (spots-types c) lt;
       attrs = ap (λ (r : NodeRow). map (λ (x : AttrId). x.0) r.shape.attrs) is ∙ there (λ (s : Spot). map (λ (x : AttrId). x.0) s.attrs) (λ (n : Node). n.attrs) (all_spots c) (nodes c) n (get_or (all_spots c) n none) none _ (spots-nodes (λ s. map (λ (x : AttrId). x.0) s.attrs) (λ (n : Node). n.attrs) (λ d p. ids-back p.attrs) c) h (self-at (all_spots c) n none lt);
+      allowed = ap (λ (r : NodeRow). r.allowed && nat_le r.octets 500) is ∙ there is_member (λ (n : Node). n.allowed) (all_spots c) (nodes c) n (get_or (all_spots c) n none) none _ (spots-nodes is_member (λ (n : Node). n.allowed) (λ d p. ap (λ b. may_be_member p && b) (within-limit (largest p.kind))) c) h (self-at (all_spots c) n none lt);
       node = ap (λ (r : NodeRow). r.shape.node.0) is ∙ omega arith;
     }
 
@@ -161,5 +168,21 @@ name-of c model names n x v e h is = name-at model n x h (is ∙ ap (λ l. get_o
 pub within-rows : (c model : Config) (rows : List NodeRow) (n : ℕ) → c ≡ model → rows ≡ node_rows c → n < length (nodes model) → n < length rows
 within-rows c model rows n v e h = omega (arith, h, ap length e, ap (λ m. length (node_rows m)) v, count-rows model)
 
-pub row-of : (c model : Config) (rows : List NodeRow) (n : ℕ) (r : NodeRow) → c ≡ model → rows ≡ node_rows c → n < length (nodes model) → r ≡ get_or rows n r → RowAt model n r
+pub row-of : (c model : Config) (rows : List NodeRow) (n : ℕ) (r : NodeRow) → c ≡ model → rows ≡ node_rows c → n < length (nodes model) → r ≡ get_or rows n r → IsRowOf model n r
 row-of c model rows n r v e h is = row-is model n r h (is ∙ ap (λ l. get_or l n r) (e ∙ ap node_rows v))
+
+some-there : (rs : List NodeRow) (n : ℕ) (r : NodeRow) → slice_get rs n ≡ Some r → r ≡ get_or rs n r
+some-there [] n r e = refl
+some-there (x ∷ rs) zero r e = some r x (sym e)
+  where
+    some : (y z : NodeRow) → Some y ≡ Some z → y ≡ z
+    some y z h = cc
+some-there (x ∷ rs) (suc n) r e = some-there rs n r e
+
+some-within : (rs : List NodeRow) (n : ℕ) (r : NodeRow) → slice_get rs n ≡ Some r → n < length rs
+some-within [] n r e = absurd (not_some r (sym e))
+some-within (x ∷ rs) zero r e = omega arith
+some-within (x ∷ rs) (suc n) r e = omega (arith, some-within rs n r e)
+
+pub rows-are-nodes : (c : Config) (n : ℕ) (r : NodeRow) → slice_get (node_rows c) n ≡ Some r → IsRowOf c n r
+rows-are-nodes c n r e = row-is c n r (omega (arith, some-within (node_rows c) n r e, count-rows c)) (some-there (node_rows c) n r e)

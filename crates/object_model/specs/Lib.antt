@@ -4,6 +4,7 @@ pub mod Nodes
 pub mod Listed
 pub mod Fits
 pub mod Tables
+pub mod Rows
 pub mod Sorting
 pub mod Seen
 pub mod References

@@ -15,11 +15,13 @@ mod nodes;
 mod copies;
 mod fitting;
 mod index;
+mod laws;
 mod model;
 mod numbers;
 mod references;
 mod sorting;
 mod tables;
 
+pub use laws::rows_are_the_nodes;
 pub use lines::domains;
 pub use model::Model;
