@@ -25,3 +25,6 @@ mod tables;
 pub use laws::rows_are_the_nodes;
 pub use lines::domains;
 pub use model::Model;
+
+#[cfg(test)]
+mod tests;
