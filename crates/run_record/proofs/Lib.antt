@@ -1,0 +1,4 @@
+pub mod WordLaws
+pub mod ReadLaws
+pub mod ToldLaws
+pub mod WrittenLaws
