@@ -2,3 +2,4 @@ pub mod WordLaws
 pub mod ReadLaws
 pub mod ToldLaws
 pub mod WrittenLaws
+pub mod RefusedLaws

@@ -24,29 +24,33 @@ use Rattle.run_record.specs.declared.line.RecLine.{RecLine}
 use Rattle.run_record.specs.declared.line.RecLine.TheVariants as lines
 use Rattle.run_record.proofs.WordLaws.{are-words, not-skipped}
 
-none-empty : (ws : List (List ℕ)) → AreWords ws → list_any (λ w. length w == 0) ws ≡ false
+pub none-empty : (ws : List (List ℕ)) → AreWords ws → list_any (λ w. length w == 0) ws ≡ false
 none-empty [] are = refl
 none-empty (w ∷ ws) are = let some : (length w == 0) ≡ false = grind (arith, nat_tests, are.0.0) in or_from _ _ some (none-empty ws are.1)
 
 not-long : (text : List ℕ) → length text ≤ 140100 → list_all is_printable text ≡ true → is_long text ≡ false
 not-long text short all = or_from _ _ (le-ltb 140100 (length text) short) (ap not all)
 
-from-words : (text : List ℕ) (line : RecLine) (octet : ℕ) (octets : List ℕ) (more : List (List ℕ)) (keyword : Keyword) → Spells text line → words line ≡ (octet ∷ octets) ∷ more → text ≡ spelled line
-    → keyword_at (octet ∷ octets) ≡ Some keyword → (octet == 35) ≡ false → content_at keyword more ≡ Ok line → line_at text ≡ Ok line
+-- a line of words is what the words behind the first tell
+pub read-words : (octet : ℕ) (octets : List ℕ) (more : List (List ℕ)) (keyword : Keyword) → length (join_with_byte 32 ((octet ∷ octets) ∷ more)) ≤ 140100 → list_all is_word ((octet ∷ octets) ∷ more) ≡ true
+    → keyword_at (octet ∷ octets) ≡ Some keyword → (octet == 35) ≡ false → line_at (join_with_byte 32 ((octet ∷ octets) ∷ more)) ≡ content_at keyword more
 unfolding line_at tell_at
-from-words text line octet octets more keyword s has is key_is other content =
+read-words octet octets more keyword short all key_is other =
     let key = octet ∷ octets in
-    let joined = join_with_byte 32 (key ∷ more) in
-    let same : text ≡ joined = is ∙ ap (join_with_byte 32) has in
-    let are = are-words (key ∷ more) (ap (list_all is_word) (sym has) ∙ s.words_) in
-    ap line_at same
-    ∙ (cond-false _ _ _ (not-long joined (subst (λ t. length t ≤ 140100) same s.short) (joined-printable (key ∷ more) are))
+    let are = are-words (key ∷ more) all in
+    cond-false _ _ _ (not-long (join_with_byte 32 (key ∷ more)) short (joined-printable (key ∷ more) are))
     ∙ (cond-false _ _ _ (not-skipped octet octets more other)
     ∙ (ap tell_at (split-joined key more are)
     ∙ (cond-false _ _ _ (none-empty (key ∷ more) are)
-    ∙ (ap (λ k. known_at k more) key_is ∙ content)))))
+    ∙ ap (λ k. known_at k more) key_is)))
 
-skip-read : (text : List ℕ) → length text ≤ 140100 → IsSkipped text → line_at text ≡ Ok lines.Skip
+from-words : (text : List ℕ) (line : RecLine) (octet : ℕ) (octets : List ℕ) (more : List (List ℕ)) (keyword : Keyword) → Spells text line → words line ≡ (octet ∷ octets) ∷ more → text ≡ spelled line
+    → keyword_at (octet ∷ octets) ≡ Some keyword → (octet == 35) ≡ false → content_at keyword more ≡ Ok line → line_at text ≡ Ok line
+from-words text line octet octets more keyword s has is key_is other content =
+    let same : text ≡ join_with_byte 32 ((octet ∷ octets) ∷ more) = is ∙ ap (join_with_byte 32) has in
+    ap line_at same ∙ (read-words octet octets more keyword (subst (λ t. length t ≤ 140100) same s.short) (ap (list_all is_word) (sym has) ∙ s.words_) key_is other ∙ content)
+
+pub skip-read : (text : List ℕ) → length text ≤ 140100 → IsSkipped text → line_at text ≡ Ok lines.Skip
 unfolding line_at
 skip-read text short (inl is) = ap line_at is
 skip-read text short (inr (rest, is, all)) = ap line_at is ∙ cond-false _ _ _ (not-long (35 ∷ rest) (subst (λ t. length t ≤ 140100) is short) all)
@@ -71,7 +75,7 @@ even-words : (pairs : List Pair) → length (flat_map pair_words pairs) ≡ leng
 even-words [] = refl
 even-words (pair ∷ pairs) = omega (arith, even-words pairs)
 
-set-read : (pairs : List Pair) → 1 ≤ length pairs → set_at (flat_map pair_words pairs) ≡ Ok (lines.Set pairs)
+pub set-read : (pairs : List Pair) → 1 ≤ length pairs → set_at (flat_map pair_words pairs) ≡ Ok (lines.Set pairs)
 set-read pairs some =
     let count = even-words pairs in
     let there : 0 < length (flat_map pair_words pairs) = omega (arith, count, some) in

@@ -96,7 +96,7 @@ sized-tells size form e = by (number_within 1024 65000 size) refl e
     by (Some n) is found = let told = number-tells 1024 65000 size n is in
         subst (Names (codes "mms" ∷ size ∷ [])) (ok_is (forms.Mms n) form found) (ap (λ w. codes "mms" ∷ w ∷ []) told.0, (told.1, told.2))
 
-form-tells : (told : List (List ℕ)) (form : OpenForm) → form_at told ≡ Ok form → Names told form
+pub form-tells : (told : List (List ℕ)) (form : OpenForm) → form_at told ≡ Ok form → Names told form
 form-tells [] form e = absurd cc e
 form-tells (word ∷ []) form e = by-word (Names (word ∷ [])) word (codes "direct") _ _ form (λ is found. subst (Names (word ∷ [])) (ok_is forms.Direct form found) (ap (λ w. w ∷ []) is, tt))
     (by-word (Names (word ∷ [])) word (codes "wire") _ _ form (λ is found. subst (Names (word ∷ [])) (ok_is forms.Wire form found) (ap (λ w. w ∷ []) is, tt)) (refused kinds.Word form (Names (word ∷ []) form))) e
@@ -139,7 +139,7 @@ set-told told line e =
     subst (Says (codes "set" ∷ told)) (ok_is (lines.Set (paired told)) line test.1) (ap (λ ws. codes "set" ∷ ws) (paired-back told even), some-pair told (ltb-true 0 (length told) both.0) even)
 
 -- the first word
-abbrev word_of : Keyword → List ℕ
+abbrev pub word_of : Keyword → List ℕ
 word_of keywords.At = codes "at"
 word_of keywords.Open = codes "open"
 word_of keywords.Write = codes "write"
@@ -163,7 +163,7 @@ key-step word known here there rest of other is = by (bytes_eq word known) refl 
 none-some : (there : Keyword) (Q : Type 0) → None ≡ Some there → Q
 none-some there Q is = absurd cc
 
-key-is : (word : List ℕ) (key : Keyword) → keyword_at word ≡ Some key → word ≡ word_of key
+pub key-is : (word : List ℕ) (key : Keyword) → keyword_at word ≡ Some key → word ≡ word_of key
 key-is word key =
     key-step word (codes "at") keywords.At key _ refl (key-step word (codes "open") keywords.Open key _ refl (key-step word (codes "write") keywords.Write key _ refl
     (key-step word (codes "pdu") keywords.Pdu key _ refl (key-step word (codes "in") keywords.Piece key _ refl (key-step word (codes "take") keywords.Take key _ refl
@@ -173,43 +173,18 @@ key-is word key =
 content-told : (key : Keyword) (more : List (List ℕ)) (line : RecLine) → content_at key more ≡ Ok line → Says (word_of key ∷ more) line
 unfolding content_at words
 content-told keywords.At (word ∷ []) line e = at-told word line e
-content-told keywords.At [] line e = absurd cc e
-content-told keywords.At (a ∷ b ∷ more) line e = absurd cc e
 content-told keywords.Open (a ∷ form) line e = open-told a form line e
-content-told keywords.Open [] line e = absurd cc e
 content-told keywords.Write (a ∷ block ∷ comp ∷ value ∷ []) line e = assoc-told (codes "write") a (block ∷ comp ∷ value ∷ []) (λ n. lines.Write n block comp value) line (λ n is. (refl, is)) e
-content-told keywords.Write [] line e = absurd cc e
-content-told keywords.Write (a ∷ []) line e = absurd cc e
-content-told keywords.Write (a ∷ b ∷ []) line e = absurd cc e
-content-told keywords.Write (a ∷ b ∷ c ∷ []) line e = absurd cc e
-content-told keywords.Write (a ∷ b ∷ c ∷ d ∷ f ∷ more) line e = absurd cc e
 content-told keywords.Pdu (a ∷ hex ∷ []) line e = assoc-told (codes "pdu") a (hex ∷ []) (λ n. lines.Pdu n hex) line (λ n is. (refl, is)) e
-content-told keywords.Pdu [] line e = absurd cc e
-content-told keywords.Pdu (a ∷ []) line e = absurd cc e
-content-told keywords.Pdu (a ∷ b ∷ c ∷ more) line e = absurd cc e
 content-told keywords.Piece (a ∷ hex ∷ []) line e = assoc-told (codes "in") a (hex ∷ []) (λ n. lines.Piece n hex) line (λ n is. (refl, is)) e
-content-told keywords.Piece [] line e = absurd cc e
-content-told keywords.Piece (a ∷ []) line e = absurd cc e
-content-told keywords.Piece (a ∷ b ∷ c ∷ more) line e = absurd cc e
 content-told keywords.Take (a ∷ []) line e = assoc-told (codes "take") a [] lines.Take line (λ n is. (refl, is)) e
-content-told keywords.Take [] line e = absurd cc e
-content-told keywords.Take (a ∷ b ∷ more) line e = absurd cc e
 content-told keywords.Lost (a ∷ []) line e = assoc-told (codes "lost") a [] lines.Lost line (λ n is. (refl, is)) e
-content-told keywords.Lost [] line e = absurd cc e
-content-told keywords.Lost (a ∷ b ∷ more) line e = absurd cc e
 content-told keywords.Set more line e = set-told more line e
 content-told keywords.Done (control ∷ well ∷ []) line e = truth-told (codes "done") control well (lines.Done control) line (λ b. (refl, tt)) e
-content-told keywords.Done [] line e = absurd cc e
-content-told keywords.Done (a ∷ []) line e = absurd cc e
-content-told keywords.Done (a ∷ b ∷ c ∷ more) line e = absurd cc e
 content-told keywords.Block (control ∷ on ∷ []) line e = truth-told (codes "block") control on (lines.Block control) line (λ b. (refl, tt)) e
-content-told keywords.Block [] line e = absurd cc e
-content-told keywords.Block (a ∷ []) line e = absurd cc e
-content-told keywords.Block (a ∷ b ∷ c ∷ more) line e = absurd cc e
 content-told keywords.Tick [] line e = subst (Says (codes "tick" ∷ [])) (ok_is lines.Tick line e) (refl, tt)
-content-told keywords.Tick (a ∷ more) line e = absurd cc e
 content-told keywords.End [] line e = subst (Says (codes "end" ∷ [])) (ok_is lines.End line e) (refl, tt)
-content-told keywords.End (a ∷ more) line e = absurd cc e
+content-told _ _ line e = absurd cc e
 
 -- a line that has words is spelled by them
 text-is : (text key : List ℕ) (more : List (List ℕ)) (line : RecLine) → words line ≡ key ∷ more → text ≡ spelled line → IsText text line
