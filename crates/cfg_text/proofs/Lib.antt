@@ -16,12 +16,12 @@ mod SortLaws
 mod OrderLaws
 mod JoinLaws
 mod TextOfLaws
-mod WordLaws
-mod SpellLaws
+pub mod WordLaws
+pub mod SpellLaws
 mod NameLaws
 mod LineLaws
-mod TellLaws
-mod ToldLaws
+pub mod TellLaws
+pub mod ToldLaws
 mod WholeLaws
 mod FreshLaws
 mod AgainLaws

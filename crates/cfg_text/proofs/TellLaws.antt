@@ -279,7 +279,7 @@ int-tells bits word None z e is = let told = positive-tells bits word (number_at
 int-tells bits word (Some digits) z e is =
     subst (λ w. FitsInt bits z × ((w ≡ signed_decimal z) ⊎ ((w ≡ codes "-0") × (z ≡ pos 0)))) (sym (behind-tells (codes "-") word digits e)) (negative-tells bits digits (number_at digits) z refl is)
 
-truth-tells : (word : List ℕ) (b : Bool) → truth_at word ≡ Some b → word ≡ truth_word b
+pub truth-tells : (word : List ℕ) (b : Bool) → truth_at word ≡ Some b → word ≡ truth_word b
 truth-tells word b = by-word (λ b. word ≡ truth_word b) word (codes "T") true b _ (λ e. e) (by-word (λ b. word ≡ truth_word b) word (codes "F") false b _ (λ e. e) (none-some b (word ≡ truth_word b)))
 
 abbrev Tells : TypeOf → List ℕ → Value → Type 0

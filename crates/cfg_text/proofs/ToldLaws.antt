@@ -126,7 +126,7 @@ configured-place places.InMembers e = absurd cc
 configured-place places.Ended e = absurd cc
 
 -- words
-split-words : (text : List ℕ) → list_all is_printable text ≡ true → list_all (λ word. list_all is_graphic word) (words_of text) ≡ true
+pub split-words : (text : List ℕ) → list_all is_printable text ≡ true → list_all (λ word. list_all is_graphic word) (words_of text) ≡ true
 split-words [] e = refl
 split-words (octet ∷ octets) e = by (octet == 32) refl (split-words octets (and_parts _ _ e).1)
   where
@@ -141,7 +141,7 @@ split-words (octet ∷ octets) e = by (octet == 32) refl (split-words octets (an
     by true at more = more
     by false at more = onto octet (words_of octets) (visible octet (and_parts _ _ e).0 at) more
 
-are-words : (ws : List (List ℕ)) → list_all (λ word. list_all is_graphic word) ws ≡ true → list_any (λ w. length w == 0) ws ≡ false → AreWords ws
+pub are-words : (ws : List (List ℕ)) → list_all (λ word. list_all is_graphic word) ws ≡ true → list_any (λ w. length w == 0) ws ≡ false → AreWords ws
 are-words [] e none = tt
 are-words (w ∷ ws) e none =
     let some = or_parts (length w == 0) (list_any (λ w. length w == 0) ws) none in

@@ -37,6 +37,14 @@ pub use reading::Reading;
 // the text of a configuration
 pub use writing::write_config;
 
+// what other texts are made of too: words, numbers and truth values
+pub use judging::{are_printable, has_empty};
+pub use numbers::{number, number_between};
+pub use spelling::{push_number, push_word};
+pub use telling::is_skipped;
+pub use values::{owned, truth};
+pub use words::parts_of;
+
 // why a text is no configuration
 pub use fault::{CfgFault, Kind};
 

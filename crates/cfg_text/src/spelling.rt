@@ -12,7 +12,7 @@ use std::alloc::{AllocError, Global};
 use sv_base::{AttrDef, BlockDef, CtlDef, LnDef, Octs, SetDef, SgDef, TypeOf, Utc, Value};
 
 /// Adds a space and a word.
-fn push_word(out: &mut Vec<u8>, word: &[u8]) -> Result<(), AllocError>
+pub fn push_word(out: &mut Vec<u8>, word: &[u8]) -> Result<(), AllocError>
     ensures { OnOk result (out.new.items ≡ out.old.items ++ spaced word.now) }
 {
     out.push(b' ')?;
@@ -20,7 +20,7 @@ fn push_word(out: &mut Vec<u8>, word: &[u8]) -> Result<(), AllocError>
 }
 
 /// Adds a space and a number.
-fn push_number(out: &mut Vec<u8>, n: u64) -> Result<(), AllocError>
+pub fn push_number(out: &mut Vec<u8>, n: u64) -> Result<(), AllocError>
     ensures { OnOk result (out.new.items ≡ out.old.items ++ spaced (decimal n)) }
 {
     push_word(out, Buffer::new().format(n).as_bytes())

@@ -137,7 +137,7 @@ fn tell(alloc: Global, before: &Reading, text: &[u8], words: &[&[u8]]) -> Result
 }
 
 /// The line is empty or a remark.
-fn is_skipped(text: &[u8]) -> bool
+pub fn is_skipped(text: &[u8]) -> bool
     ensures { result ≡ is_skipped_line text.now }
 {
     match text {

@@ -22,7 +22,8 @@ pub fn empty(alloc: Global) -> Octs
     Octs::from_vec(Vec::new(alloc))
 }
 
-fn truth(word: &[u8]) -> Option<bool>
+/// The truth value that `T` or `F` spells.
+pub fn truth(word: &[u8]) -> Option<bool>
     ensures { result ≡ truth_at word.now }
 {
     if word == b"T".as_slice() {

@@ -1,0 +1,5 @@
+pub mod WordLaws
+pub mod ReadLaws
+pub mod ToldLaws
+pub mod WrittenLaws
+pub mod RefusedLaws

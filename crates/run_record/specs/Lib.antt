@@ -1,0 +1,4 @@
+pub mod Spelled
+pub mod Grammar
+pub mod Judging
+pub mod Refused

@@ -1,0 +1,27 @@
+//! The lines of a record: the steps of a server's clients and of its process, as texts.
+//!
+//! A line is judged by its octets, its words and its numbers alone. Names, hexadecimal and values stay texts: what they name
+//! and spell is a matter of the configuration.
+#![tactic(auto)]
+
+mod fault;
+mod keyword;
+mod laws;
+mod line;
+mod pairs;
+mod reading;
+mod writing;
+
+// what a line tells
+pub use line::{OpenForm, RecLine};
+pub use pairs::{Pair, Pairs};
+
+// reading and writing
+pub use reading::read_line;
+pub use writing::write_line;
+
+// why a line is refused
+pub use fault::{Kind, RecFault};
+
+#[cfg(test)]
+mod tests;
