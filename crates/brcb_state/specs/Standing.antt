@@ -1,0 +1,2 @@
+-- What a block stands for.
+use Rattle.std.specs.Prelude.{ℕ}
