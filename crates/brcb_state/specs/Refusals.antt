@@ -31,11 +31,19 @@ contradicts _ v s = false
 abbrev pub is_retained_or_zero : Kept → ℕ → Bool
 is_retained_or_zero kept n = (n == 0) || (nat_lt kept.front n && nat_le n kept.len)
 
--- a DatSet that is neither empty nor that of a set, or an EntryID that is neither zero nor of a retained entry; known says
--- whether a DatSet names a set
+-- a DatSet that is neither empty nor, as known says, that of a set
+abbrev pub is_no_set : Bool → Value → Bool
+is_no_set known (kinds.Text t) = not (is_empty t) && not known
+is_no_set known _ = false
+
+-- an EntryID that is neither zero nor that of a retained entry
+abbrev pub is_no_entry : Kept → Value → Bool
+is_no_entry kept (kinds.Octets o) = not (is_retained_or_zero kept (entry_id o))
+is_no_entry kept _ = false
+
 abbrev pub names_nothing : Kept → Bool → Comp → Value → Bool
-names_nothing kept known comps.DatSet (kinds.Text t) = not (is_empty t) && not known
-names_nothing kept known comps.EntryID (kinds.Octets o) = not (is_retained_or_zero kept (entry_id o))
+names_nothing kept known comps.DatSet v = is_no_set known v
+names_nothing kept known comps.EntryID v = is_no_entry kept v
 names_nothing kept known _ v = false
 
 -- the refusals in order, each with its test; at last whether the value names nothing
@@ -51,3 +59,7 @@ first_of (t ∷ ts) effect = if t.0 then Err t.1 else first_of ts effect
 
 abbrev pub answer_to : AssocNo → Comp → Value → Bool → Block → Result Effect ℕ
 answer_to a comp v nothing s = first_of (refusals a comp v nothing s) (effect_of comp v s)
+
+-- who writes, where that is of no account
+abbrev pub anyone : AssocNo
+anyone = record { 0 = 0 }

@@ -2,6 +2,7 @@
 
 ghost use Rattle.std.specs.Prelude.{◌≡◌, IfOk};
 ghost use Rattle.bay_model.specs.Configured.{block_defined};
+ghost use Rattle.bay_model.specs.Parameters.{bit as bit_of};
 
 use crate::kept::{Kept, Next};
 use crate::options::Options;
@@ -21,6 +22,13 @@ pub struct Block {
     pub(crate) cursor: u64,
     /// How many reports there were since it was enabled, modulo 65536.
     pub(crate) count: u16,
+}
+
+/// A bit of TrgOps or OptFlds, the first being bit 0.
+pub fn bit(i: usize, bits: &[bool]) -> bool
+    ensures { result ≡ bit_of i bits.now }
+{
+    matches!(bits.get(i), Some(true))
 }
 
 /// `LD/LN$BR$NAME`.

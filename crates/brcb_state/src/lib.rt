@@ -4,7 +4,11 @@
 
 mod block;
 mod kept;
+mod laws;
+mod option_writes;
 mod options;
+mod writes;
 
 pub use block::Block;
 pub use kept::{Effect, Kept, Next};
+pub use laws::{blocks_stand, next_reports_are_told, writes_are_answered};
