@@ -1,5 +1,5 @@
 -- What a block stands for: a report block of the model, up to the last point of a past.
-use Rattle.std.specs.Prelude.{◌≡◌, ℕ, Bool, List, [], ◌∷◌, length, is_some, Option, None, Some, false, Result, Ok, Err, if◌then◌else◌, ◌==◌}
+use Rattle.std.specs.Prelude.{◌≡◌, ℕ, Bool, List, [], ◌∷◌, length, is_none, is_some, ◌&&◌, true, Option, None, Some, false, Result, Ok, Err, if◌then◌else◌, ◌==◌}
 use Rattle.std.specs.Option.{option_map}
 use Rattle.sv_base.specs.declared.numbers.AssocNo.{AssocNo}
 use Rattle.sv_base.specs.declared.value.Value.{Value}
@@ -8,8 +8,8 @@ use Rattle.bay_model.specs.declared.step.Comp.{Comp}
 use Rattle.bay_model.specs.declared.step.Comp.TheVariants as comps
 use Rattle.bay_model.specs.Model.{Model}
 use Rattle.bay_model.specs.Lookups.{block_of}
-use Rattle.bay_model.specs.Points.{Deed, wrote, lost, reported, Past}
-use Rattle.bay_model.specs.Parameters.{parameters_at, conf_rev}
+use Rattle.bay_model.specs.Points.{Deed, wrote, lost, reported, Point, Past}
+use Rattle.bay_model.specs.Parameters.{parameters_at, conf_rev, purges, is_purging_change, is_interrogation}
 use Rattle.bay_model.specs.Sets.{sets, set_referred}
 use Rattle.bay_model.specs.Entries.{Entry, selected}
 use Rattle.bay_model.specs.Retained.{front}
@@ -18,6 +18,7 @@ use Rattle.bay_model.specs.Outcomes.{Outcome, did, refused}
 use Rattle.brcb_state.specs.declared.block.Block.{Block}
 use Rattle.brcb_state.specs.declared.kept.Kept.{Kept}
 use Rattle.brcb_state.specs.declared.kept.Effect.{Effect}
+use Rattle.brcb_state.specs.declared.kept.Effect.TheVariants as effects
 use Rattle.brcb_state.specs.Changes.{written, after_report, after_loss}
 
 pub record Stands (s : Block) (c : Model) (b : ℕ) (past : Past) : Type 0 where
@@ -54,3 +55,32 @@ abbrev pub newest_of : List Entry → Option ℕ
 newest_of [] = None
 newest_of (e ∷ []) = Some e.moment
 newest_of (e ∷ f ∷ es) = newest_of (f ∷ es)
+
+abbrev pub is_purging : Effect → Bool
+is_purging effects.Purge = true
+is_purging effects.PurgingChange = true
+is_purging _ = false
+
+abbrev pub is_change : Effect → Bool
+is_change effects.PurgingChange = true
+is_change _ = false
+
+abbrev pub is_general : Effect → Bool
+is_general effects.General = true
+is_general _ = false
+
+abbrev pub is_enabling : Effect → Bool
+is_enabling effects.Enabled = true
+is_enabling _ = false
+
+abbrev pub is_disabling : Effect → Bool
+is_disabling effects.Disabled = true
+is_disabling _ = false
+
+-- the effect tells what point p is for block b
+pub record Tells (e : Effect) (c : Model) (b : ℕ) (p : Point) (before : Past) : Type 0 where
+  pub purge : is_purging e ≡ purges c b p.deed before
+  pub change : is_change e ≡ is_purging_change c b p.deed before
+  pub general : is_general e ≡ is_interrogation b p.deed
+  pub enabled : is_enabling e ≡ (is_none (enabler b before) && is_some (enabler b (p ∷ before)))
+  pub disabled : is_disabling e ≡ (is_some (enabler b before) && is_none (enabler b (p ∷ before)))

@@ -6,6 +6,7 @@ ghost use Rattle.bay_model.specs.Parameters.{bit as bit_of};
 
 use crate::kept::{Kept, Next};
 use crate::options::Options;
+use bay_model::Trg;
 use std::alloc::{AllocError, Global};
 use sv_base::{AssocNo, BlockDef, Octs};
 
@@ -45,10 +46,11 @@ fn reference_of(alloc: Global, def: &BlockDef) -> Result<Octs, AllocError>
 }
 
 impl Block {
-    ghost use Rattle.std.specs.Prelude.{◌≡◌, IfOk};
+    ghost use Rattle.std.specs.Prelude.{◌≡◌, length, IfOk};
+    ghost use Rattle.bay_model.specs.Reports.{report_id};
     ghost use Rattle.bay_model.specs.Configured.{block_defined};
     ghost use Rattle.brcb_state.specs.Changes.{configured, is_by, is_by_another, next_to, after_report, after_loss};
-    ghost use Rattle.brcb_state.specs.Components.{IsInRange};
+    ghost use Rattle.brcb_state.specs.Components.{IsInRange, trg_of};
 
     /// A block as it is configured, enabled by nobody.
     pub fn open(alloc: Global, def: &BlockDef) -> Result<Block, AllocError>
@@ -116,5 +118,65 @@ impl Block {
         if self.is_enabled_by(a) {
             self.enabler = None;
         }
+    }
+
+    /// Bits 1 to 5 of TrgOps.
+    pub fn trg(&self) -> Trg
+        ensures { result ≡ trg_of self.now.options.trg_ops }
+    {
+        let bits = self.options.trg_ops();
+        Trg {
+            dchg: bit(1, bits),
+            qchg: bit(2, bits),
+            dupd: bit(3, bits),
+            intg: bit(4, bits),
+            gi: bit(5, bits),
+        }
+    }
+
+    /// BufTm in milliseconds.
+    pub fn buf_tm(&self) -> u32
+        ensures { result ≡ self.now.options.buf_tm }
+    {
+        self.options.buf_tm()
+    }
+
+    /// IntgPd in milliseconds; 0 for none.
+    pub fn period(&self) -> u32
+        ensures { result ≡ self.now.options.intg_pd }
+    {
+        self.options.intg_pd()
+    }
+
+    /// DatSet, the reference of its data set; empty for none.
+    pub fn dat_set(&self) -> &[u8]
+        ensures { result.now ≡ self.now.options.dat_set }
+    {
+        self.options.dat_set()
+    }
+
+    /// The RptID of its reports: RptID, or where that is empty the block's reference.
+    pub fn report_id(&self) -> &[u8]
+        ensures { result.now ≡ report_id self.now.options.rpt_id self.now.reference }
+    {
+        match self.options.rpt_id() {
+            [] => self.reference.as_slice(),
+            id => id,
+        }
+    }
+
+    /// OptFlds, ten bits.
+    pub fn opt_flds(&self) -> &[bool]
+        ensures value { result.now ≡ self.now.options.opt_flds }
+        ensures ten { length result.now ≡ 10 }
+    {
+        self.options.opt_flds()
+    }
+
+    /// ConfRev.
+    pub fn conf_rev(&self) -> u32
+        ensures { result ≡ self.now.revision }
+    {
+        self.revision
     }
 }

@@ -7,8 +7,11 @@ mod kept;
 mod laws;
 mod option_writes;
 mod options;
+mod reads;
 mod writes;
 
 pub use block::Block;
 pub use kept::{Effect, Kept, Next};
-pub use laws::{blocks_stand, next_reports_are_told, writes_are_answered};
+pub use laws::{
+    blocks_stand, components_are_read, effects_are_told, next_reports_are_told, writes_are_answered,
+};
