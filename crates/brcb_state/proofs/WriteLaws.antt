@@ -9,7 +9,7 @@ use Rattle.sv_base.specs.declared.value.Value.TheVariants as kinds
 use Rattle.bay_model.specs.declared.step.Comp.{Comp}
 use Rattle.bay_model.specs.declared.step.Comp.TheVariants as comps
 use Rattle.bay_model.specs.Model.{Model}
-use Rattle.bay_model.specs.Points.{Deed, wrote, Point, Past}
+use Rattle.bay_model.specs.Points.{wrote, Point, Past}
 use Rattle.bay_model.specs.Retained.{front}
 use Rattle.bay_model.specs.Singles.{arrival}
 use Rattle.brcb_state.specs.declared.block.Block.{Block}

@@ -1,6 +1,6 @@
 -- What writes, reports and losses make of a report block, and which of its entries is reported next (IEC 61850-7-2, BRCB
 -- attributes).
-use Rattle.std.specs.Prelude.{ℕ, suc, ◌+◌, ◌%◌, max, min, Bool, false, not, ◌==◌, ◌&&◌, nat_lt, List, Option, None, Some, is_none, is_some, if◌then◌else◌}
+use Rattle.std.specs.Prelude.{ℕ, suc, ◌+◌, ◌%◌, max, min, Bool, false, not, ◌==◌, ◌&&◌, nat_lt, Option, None, Some, is_none, is_some, if◌then◌else◌}
 use Rattle.std.specs.Option.{option_map_or}
 use Rattle.sv_base.specs.declared.numbers.AssocNo.{AssocNo}
 use Rattle.sv_base.specs.declared.value.Value.{Value}

@@ -1,9 +1,7 @@
--- What a configuration gives a report block, and what its components read (IEC 61850-7-2, BRCB attributes and
--- GetBRCBValues).
-use Rattle.std.specs.Prelude.{◌≡◌, ◌≤◌, ℕ, Bool, false, List, length, Option, is_some}
+-- What a report block's components read (IEC 61850-7-2, GetBRCBValues).
+use Rattle.std.specs.Prelude.{ℕ, Bool, false, List, Option, is_some}
 use Rattle.std.specs.Option.{option_map_or}
 use Rattle.std.specs.Int.{to_be_bytes, w64}
-use Rattle.sv_base.specs.declared.config.BlockDef.{BlockDef}
 use Rattle.sv_base.specs.declared.value.Value.{Value}
 use Rattle.sv_base.specs.declared.value.Value.TheVariants as kinds
 use Rattle.bay_model.specs.declared.step.Comp.{Comp}
@@ -13,13 +11,6 @@ use Rattle.bay_model.specs.Parameters.{bit}
 use Rattle.bay_model.specs.Components.{stamp_of, no_stamp}
 use Rattle.brcb_state.specs.declared.block.Block.{Block}
 use Rattle.brcb_state.specs.declared.kept.Kept.{Kept}
-
--- the lengths of its types: texts of at most 129 octets, ten bits and six bits
-pub record IsInRange (b : BlockDef) : Type 0 where
-  pub rpt_id : length b.rpt_id ≤ 129
-  pub dat_set : length b.dat_set ≤ 129
-  pub opt_flds : length b.opt_flds ≡ 10
-  pub trg_ops : length b.trg_ops ≡ 6
 
 -- bits 1 to 5 of TrgOps
 abbrev pub trg_of : List Bool → Trg

@@ -4,8 +4,6 @@ use Rattle.std.specs.Option.{option_map}
 use Rattle.sv_base.specs.declared.numbers.AssocNo.{AssocNo}
 use Rattle.sv_base.specs.declared.value.Value.{Value}
 use Rattle.sv_base.specs.declared.value.Value.TheVariants as kinds
-use Rattle.bay_model.specs.declared.step.Comp.{Comp}
-use Rattle.bay_model.specs.declared.step.Comp.TheVariants as comps
 use Rattle.bay_model.specs.Model.{Model}
 use Rattle.bay_model.specs.Lookups.{block_of}
 use Rattle.bay_model.specs.Points.{Deed, wrote, lost, reported, Point, Past}

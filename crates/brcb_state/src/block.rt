@@ -50,11 +50,12 @@ impl Block {
     ghost use Rattle.bay_model.specs.Reports.{report_id};
     ghost use Rattle.bay_model.specs.Configured.{block_defined};
     ghost use Rattle.brcb_state.specs.Changes.{configured, is_by, is_by_another, next_to, after_report, after_loss};
-    ghost use Rattle.brcb_state.specs.Components.{IsInRange, trg_of};
+    ghost use Rattle.brcb_state.specs.Components.{trg_of};
 
-    /// A block as it is configured, enabled by nobody.
+    /// A block as it is configured, enabled by nobody. It takes all the memory that its writes need.
     pub fn open(alloc: Global, def: &BlockDef) -> Result<Block, AllocError>
-        requires { IsInRange def.now }
+        requires opt_flds { length def.now.opt_flds ≡ 10 }
+        requires trg_ops { length def.now.trg_ops ≡ 6 }
         ensures { IfOk result (λ s. s ≡ configured (block_defined def.now)) }
     {
         Ok(Block {

@@ -37,7 +37,7 @@ impl Block {
         if self.enabler.is_some() {
             return Err(HELD);
         }
-        if text.len() > MOST as usize {
+        if text.len() > MOST {
             return Err(INVALID);
         }
         let differs = self.options.set_rpt_id(text);
@@ -76,7 +76,7 @@ impl Block {
         if self.enabler.is_some() {
             return Err(HELD);
         }
-        if text.len() > MOST as usize || !(is_empty(text) || known) {
+        if text.len() > MOST || !(is_empty(text) || known) {
             return Err(INVALID);
         }
         let differs = self.options.set_dat_set(text);

@@ -10,7 +10,7 @@ use std::marker::Model;
 use sv_base::BlockDef;
 
 /// The greatest length of RptID and of DatSet in octets.
-pub const MOST: u32 = 129;
+pub const MOST: usize = 129;
 
 /// Whether two rows of bits are the same.
 fn are_same(one: &[bool], other: &[bool]) -> bool
@@ -25,14 +25,16 @@ fn are_same(one: &[bool], other: &[bool]) -> bool
     }
 }
 
-/// Octets with room for the greatest length.
+/// Octets with room for the greatest length at least.
 fn roomy(alloc: Global, octets: &[u8]) -> Result<Fixed, AllocError>
-    requires { length octets.now ≤ 129 }
-    ensures { IfOk result (λ f. f ≡ record { items = octets.now; room = 129 }) }
+    ensures { IfOk result (λ f. (f.items ≡ octets.now) × (129 ≤ f.room)) }
 {
-    let mut room = Fixed::new(alloc, MOST)?;
-    room.push(octets);
-    Ok(room)
+    let Ok(room) = u32::try_from(octets.len().max(MOST)) else {
+        return Err(AllocError);
+    };
+    let mut text = Fixed::new(alloc, room)?;
+    text.push(octets);
+    Ok(text)
 }
 
 /// Puts octets in the place of others, within their room; tells whether they were others.
@@ -70,14 +72,14 @@ pub struct Options {
 }
 
 impl Model for Options {
-    ghost use Rattle.std.specs.Prelude.{◌≡◌, length};
+    ghost use Rattle.std.specs.Prelude.{◌≡◌, ◌≤◌, length};
     ghost use Rattle.bay_model.specs.Model.{Parameters};
 
     ghost Value = { Parameters };
 
     ghost view = { λ o. record { rpt_id = o.rpt_id.items; dat_set = o.dat_set.items; opt_flds = o.opt_flds.items; buf_tm = o.buf_tm; trg_ops = o.trg_ops.items; intg_pd = o.intg_pd } };
 
-    ghost invariant = { λ o. (o.rpt_id.room ≡ 129) × (o.dat_set.room ≡ 129) × (length o.opt_flds.items ≡ 10) × (length o.trg_ops.items ≡ 6) };
+    ghost invariant = { λ o. (129 ≤ o.rpt_id.room) × (129 ≤ o.dat_set.room) × (length o.opt_flds.items ≡ 10) × (length o.trg_ops.items ≡ 6) };
 }
 
 impl Options {
@@ -85,11 +87,11 @@ impl Options {
     ghost use Rattle.std.specs.Str.{bytes_eq};
     ghost use Rattle.sv_base.specs.Same.{is_same_bits};
     ghost use Rattle.bay_model.specs.Configured.{block_defined};
-    ghost use Rattle.brcb_state.specs.Components.{IsInRange};
 
     /// As a block is configured.
     pub fn new(alloc: Global, def: &BlockDef) -> Result<Options, AllocError>
-        requires { IsInRange def.now }
+        requires opt_flds { length def.now.opt_flds ≡ 10 }
+        requires trg_ops { length def.now.trg_ops ≡ 6 }
         ensures { IfOk result (λ o. o ≡ (block_defined def.now).initial) }
     {
         Ok(Options {
