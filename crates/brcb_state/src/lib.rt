@@ -15,3 +15,6 @@ pub use kept::{Effect, Kept, Next};
 pub use laws::{
     blocks_stand, components_are_read, effects_are_told, next_reports_are_told, writes_are_answered,
 };
+
+#[cfg(test)]
+mod tests;
