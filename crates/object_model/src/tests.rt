@@ -129,80 +129,115 @@ fn config(alloc: Global) -> Result<Config, AllocError>
 
 // A node stands before its parts, and names in the order in which lines first name them: LLN0 with 15 nodes of its block,
 // then XCBR1 with ST, CO and CF, then MMXU1; the second domain behind the first.
-#[test]
-fn nodes_are_found_by_domain_and_item(rt: HostRuntime) -> Result<(), Fail> {
-    let alloc = rt.alloc();
-    let built = Model::build(alloc, config(alloc)?)?;
-    let model = built.copy(alloc)?;
-    let table: [(&[u8], &[u8], Option<u32>); 10] = [
-        (b"BAY1", b"LLN0", Some(0)),
-        (b"BAY1", b"LLN0$BR$brcb1$TimeofEntry", Some(15)),
-        (b"BAY1", b"XCBR1$ST$Pos", Some(18)),
-        (b"BAY1", b"XCBR1$CO$Pos$Oper$origin$orIdent", Some(26)),
-        (b"BAY1", b"XCBR1$CF$Pos$ctlModel", Some(33)),
-        (b"BAY1", b"MMXU1$MX$TotW$mag$i", Some(38)),
-        (b"BAY2", b"MMXU1$MX$TotW$mag$i", Some(43)),
-        (b"BAY2", b"XCBR1$ST$Pos", None),
-        (b"BAY1", b"XCBR1$ST$Po", None),
-        (b"BAY", b"LLN0", None),
-    ];
-    for (domain, item, wanted) in table {
-        assert_eq!(rt; model.resolve(domain, item).map(|node| node.0), wanted);
-    }
-    Ok(())
+const NODES: [(&[u8], &[u8], Option<u32>); 10] = [
+    (b"BAY1", b"LLN0", Some(0)),
+    (b"BAY1", b"LLN0$BR$brcb1$TimeofEntry", Some(15)),
+    (b"BAY1", b"XCBR1$ST$Pos", Some(18)),
+    (b"BAY1", b"XCBR1$CO$Pos$Oper$origin$orIdent", Some(26)),
+    (b"BAY1", b"XCBR1$CF$Pos$ctlModel", Some(33)),
+    (b"BAY1", b"MMXU1$MX$TotW$mag$i", Some(38)),
+    (b"BAY2", b"MMXU1$MX$TotW$mag$i", Some(43)),
+    (b"BAY2", b"XCBR1$ST$Pos", None),
+    (b"BAY1", b"XCBR1$ST$Po", None),
+    (b"BAY", b"LLN0", None),
+];
+
+const ATTRS: [(&[u8], Option<u32>); 5] = [
+    (b"BAY1/XCBR1$ST$Pos$stVal", Some(0)),
+    (b"BAY1/MMXU1$MX$TotW$mag$i", Some(1)),
+    (b"BAY2/MMXU1$MX$TotW$mag$i", Some(2)),
+    (b"BAY1/XCBR1$CF$Pos$ctlModel", Some(3)),
+    (b"BAY1/XCBR1$ST$Pos", None),
+];
+
+/// A domain, a name, and the names behind it, each with a space.
+const NAMES: [(&[u8], &[u8], &str); 5] = [
+    (
+        b"BAY2",
+        b"MMXU1$MX",
+        "MMXU1$MX$TotW MMXU1$MX$TotW$mag MMXU1$MX$TotW$mag$i ",
+    ),
+    (b"BAY2", b"MMXU1$MX$TotW$mag$i", ""),
+    (b"BAY2", b"MMXU1$MX$TotW$mag!", "MMXU1$MX$TotW$mag$i "),
+    (b"BAY1", b"XCBR1$ST", "XCBR1$ST$Pos XCBR1$ST$Pos$stVal "),
+    (b"BAY3", b"", ""),
+];
+
+fn node_number(model: &Model, domain: &[u8], item: &[u8]) -> Option<u32> {
+    model.resolve(domain, item).map(|node| node.0)
 }
 
-#[test]
-fn references_have_the_numbers_of_their_lines(rt: HostRuntime) -> Result<(), Fail> {
-    let alloc = rt.alloc();
-    let model = Model::build(alloc, config(alloc)?)?;
-    let table: [(&[u8], Option<u32>); 5] = [
-        (b"BAY1/XCBR1$ST$Pos$stVal", Some(0)),
-        (b"BAY1/MMXU1$MX$TotW$mag$i", Some(1)),
-        (b"BAY2/MMXU1$MX$TotW$mag$i", Some(2)),
-        (b"BAY1/XCBR1$CF$Pos$ctlModel", Some(3)),
-        (b"BAY1/XCBR1$ST$Pos", None),
-    ];
-    for (reference, wanted) in table {
-        assert_eq!(rt; model.attr(reference).map(|attr| attr.0), wanted);
-    }
-    assert_eq!(rt;
-        model.block(b"BAY1/LLN0$BR$brcb1").map(|block| block.0),
-        Some(0)
-    );
-    assert_eq!(rt;
-        model.control(b"BAY1/XCBR1$CO$Pos").map(|control| control.0),
-        Some(0)
-    );
-    assert!(rt; model.control(b"BAY2/XCBR1$CO$Pos").is_none());
-    assert!(rt; model.fits(&Step::Take(AssocNo(16))));
-    assert!(rt; !model.fits(&Step::Take(AssocNo(17))));
-    Ok(())
+fn attr_number(model: &Model, reference: &[u8]) -> Option<u32> {
+    model.attr(reference).map(|attr| attr.0)
 }
 
-#[test]
-fn names_go_on_behind_a_name(rt: HostRuntime) -> Result<(), Fail> {
-    let alloc = rt.alloc();
-    let model = Model::build(alloc, config(alloc)?)?;
-    let table: [(&[u8], &[u8], &str); 5] = [
-        (
-            b"BAY2",
-            b"MMXU1$MX",
-            "MMXU1$MX$TotW MMXU1$MX$TotW$mag MMXU1$MX$TotW$mag$i ",
-        ),
-        (b"BAY2", b"MMXU1$MX$TotW$mag$i", ""),
-        (b"BAY2", b"MMXU1$MX$TotW$mag!", "MMXU1$MX$TotW$mag$i "),
-        (b"BAY1", b"XCBR1$ST", "XCBR1$ST$Pos XCBR1$ST$Pos$stVal "),
-        (b"BAY3", b"", ""),
-    ];
-    for (domain, after, wanted) in table {
-        let mut text = Vec::new(alloc);
-        let names = model.names_after(alloc, domain, after)?;
-        for name in names.as_slice() {
-            text.extend_from_slice(name.as_slice())?;
-            text.push(b' ')?;
+fn names_behind(
+    alloc: Global,
+    model: &Model,
+    domain: &[u8],
+    after: &[u8],
+) -> Result<Vec<u8>, AllocError> {
+    let mut text = Vec::new(alloc);
+    let names = model.names_after(alloc, domain, after)?;
+    for name in names.as_slice() {
+        text.extend_from_slice(name.as_slice())?;
+        text.push(b' ')?;
+    }
+    Ok(text)
+}
+
+/// The place of the first row of a table that is answered otherwise.
+fn first_wrong_node(model: &Model) -> Option<usize> {
+    for (i, (domain, item, wanted)) in NODES.iter().enumerate() {
+        if node_number(model, domain, item) != *wanted {
+            return Some(i);
         }
-        assert_eq!(rt; text.as_slice(), wanted.as_bytes());
     }
+    None
+}
+
+fn first_wrong_attr(model: &Model) -> Option<usize> {
+    for (i, (reference, wanted)) in ATTRS.iter().enumerate() {
+        if attr_number(model, reference) != *wanted {
+            return Some(i);
+        }
+    }
+    None
+}
+
+fn first_wrong_names(alloc: Global, model: &Model) -> Result<Option<usize>, AllocError> {
+    for (i, (domain, after, wanted)) in NAMES.iter().enumerate() {
+        let names = names_behind(alloc, model, domain, after)?;
+        if names.as_slice() != wanted.as_bytes() {
+            return Ok(Some(i));
+        }
+    }
+    Ok(None)
+}
+
+fn has_block(model: &Model, reference: &[u8]) -> bool {
+    model.block(reference).is_some()
+}
+
+fn has_control(model: &Model, reference: &[u8]) -> bool {
+    model.control(reference).is_some()
+}
+
+fn fits_a_take(model: &Model, a: u32) -> bool {
+    model.fits(&Step::Take(AssocNo(a)))
+}
+
+#[test]
+fn a_configuration_has_its_names(rt: HostRuntime) -> Result<(), Fail> {
+    let built = Model::build(rt.alloc(), config(rt.alloc())?)?;
+    let model = built.copy(rt.alloc())?;
+    assert_eq!(rt; first_wrong_node(&model), None);
+    assert_eq!(rt; first_wrong_attr(&model), None);
+    assert_eq!(rt; first_wrong_names(rt.alloc(), &model)?, None);
+    assert!(rt; has_block(&model, b"BAY1/LLN0$BR$brcb1"));
+    assert!(rt; has_control(&model, b"BAY1/XCBR1$CO$Pos"));
+    assert!(rt; !has_control(&model, b"BAY2/XCBR1$CO$Pos"));
+    assert!(rt; fits_a_take(&model, 16));
+    assert!(rt; !fits_a_take(&model, 17));
     Ok(())
 }
