@@ -19,7 +19,8 @@ use Rattle.cfg_text.proofs.TellLaws.{number-tells, truth-tells}
 use Rattle.cfg_text.proofs.ToldLaws.{split-words, are-words}
 use Rattle.run_record.specs.Spelled.{form_words, pair_words, words, spelled}
 use Rattle.run_record.specs.Grammar.{IsAssoc, IsForm, IsLine, is_word, IsText, Spells}
-use Rattle.run_record.specs.Judging.{keyword_at, numbered, assoc_of, assoc_at, sized_form, form_at, opened, paired, set_at, truth_line, content_at, known_at, tell_at, is_long, line_at}
+use Rattle.run_record.specs.Contents.{numbered, assoc_of, assoc_at, sized_form, form_at, opened, paired, set_at, truth_line, content_at}
+use Rattle.run_record.specs.Judging.{keyword_at, known_at, tell_at, is_long, line_at}
 use Rattle.run_record.specs.declared.fault.Kind.{Kind}
 use Rattle.run_record.specs.declared.fault.Kind.TheVariants as kinds
 use Rattle.run_record.specs.declared.keyword.Keyword.{Keyword}
