@@ -90,7 +90,7 @@ fn open_line(a: &[u8], words: &[&[u8]]) -> Result<RecLine, RecFault>
     }
 }
 
-fn write_line(
+fn component_line(
     alloc: Global,
     a: &[u8],
     block: &[u8],
@@ -197,7 +197,7 @@ fn content(alloc: Global, keyword: Keyword, words: &[&[u8]]) -> Result<RecLine, 
     match (keyword, words) {
         (Keyword::At, [moment]) => at_line(moment),
         (Keyword::Open, [a, form @ ..]) => open_line(a, form),
-        (Keyword::Write, [a, block, comp, value]) => write_line(alloc, a, block, comp, value),
+        (Keyword::Write, [a, block, comp, value]) => component_line(alloc, a, block, comp, value),
         (Keyword::Pdu, [a, hex]) => pdu_line(alloc, a, hex),
         (Keyword::Piece, [a, hex]) => piece_line(alloc, a, hex),
         (Keyword::Take, [a]) => take_line(a),
