@@ -1,5 +1,5 @@
 -- What a line is made of are words.
-use Rattle.std.proofs.Common.{◌≡◌, ℕ, suc, ◌<◌, inl, inr, Bool, true, false, ◌&&◌, List, [], ◌∷◌, length, length-append, nat_le, pos, negsuc, refl, sym, ap, subst, ◌∙◌, arith}
+use Rattle.std.proofs.Common.{◌≡◌, ℕ, suc, ◌<◌, inl, inr, Bool, true, false, ◌&&◌, List, [], ◌∷◌, ◌++◌, length, length-append, nat_le, pos, negsuc, refl, sym, ap, subst, ◌∙◌, arith}
 use Rattle.std.specs.Prelude.{Some, codes}
 use Rattle.std.specs.Fmt.{digits}
 use Rattle.std.specs.List.{list_all, list_any, count_by, slice_split, join_with_byte}
@@ -40,6 +40,9 @@ name-word (octet ∷ octets) e = let front = (and_parts (is_letter octet && list
     letter : (octet : ℕ) → is_letter octet ≡ true → is_graphic octet ≡ true
     letter octet e = grind (arith, nat_tests)
 
+some-length : (word : List ℕ) (octet : ℕ) (rest : List ℕ) → 0 < length (word ++ octet ∷ rest)
+some-length word octet rest = omega (arith, length-append word (octet ∷ rest))
+
 -- names joined by an octet that may stand in a word
 joined-word : (octet : ℕ) → is_graphic octet ≡ true → (words : List (List ℕ)) → 0 < length words → list_all is_name words ≡ true → IsWord (join_with_byte octet words)
 joined-word octet visible [] some e = absurd (omega (arith, some))
@@ -47,7 +50,7 @@ joined-word octet visible (word ∷ []) some e = name-word word (and_parts _ _ e
 joined-word octet visible (word ∷ next ∷ more) some e =
     let first : IsWord word = name-word word (and_parts _ _ e).0 in
     let rest : IsWord (join_with_byte octet (next ∷ more)) = joined-word octet visible (next ∷ more) (omega arith) (and_parts _ _ e).1 in
-    (omega (arith, length-append word (octet ∷ join_with_byte octet (next ∷ more))), list_all-append is_graphic word (octet ∷ join_with_byte octet (next ∷ more)) ∙ and_from _ _ first.1 (and_from _ _ visible rest.1))
+    (some-length word octet (join_with_byte octet (next ∷ more)), list_all-append is_graphic word (octet ∷ join_with_byte octet (next ∷ more)) ∙ and_from _ _ first.1 (and_from _ _ visible rest.1))
 
 pub path-word : (path : List ℕ) → is_path path ≡ true → IsWord path
 path-word path e = subst IsWord (join_with_byte-slice_split 36 path) (joined-word 36 refl (slice_split is_dollar path) (omega (arith, length-slice_split is_dollar path)) e)
@@ -59,7 +62,7 @@ member-parts (domain ∷ item ∷ []) e =
     let front = (and_parts (is_name domain && is_path item) (nat_le 2 (count_by is_dollar item)) e).0 in
     let first : IsWord domain = name-word domain (and_parts _ _ front).0 in
     let rest : IsWord item = path-word item (and_parts _ _ front).1 in
-    (omega (arith, length-append domain (47 ∷ item)), list_all-append is_graphic domain (47 ∷ item) ∙ and_from _ _ first.1 rest.1)
+    (some-length domain 47 item, list_all-append is_graphic domain (47 ∷ item) ∙ and_from _ _ first.1 rest.1)
 member-parts (a ∷ b ∷ d ∷ more) e = absurd cc
 
 pub member-word : (reference : List ℕ) → is_member reference ≡ true → IsWord reference
@@ -80,10 +83,6 @@ fc-word fc e = among-words fc fcs are-words e
 
     are-words : AreWords fcs
     are-words = ((omega arith, refl), ((omega arith, refl), ((omega arith, refl), ((omega arith, refl), ((omega arith, refl), ((omega arith, refl), ((omega arith, refl), ((omega arith, refl), tt))))))))
-
--- a word behind a front of visible octets
-longer-word : (octet : ℕ) (word : List ℕ) → is_graphic octet ≡ true → list_all is_graphic word ≡ true → IsWord (octet ∷ word)
-longer-word octet word visible e = (omega arith, and_from _ _ visible e)
 
 pub type-is-word : (kind : TypeOf) → IsType kind → IsWord (type_word kind)
 unfolding type_word digits

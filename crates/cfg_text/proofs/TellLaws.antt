@@ -45,14 +45,14 @@ behind-tells front word rest is =
     sym (take-append-drop (length front) word) ∙ ap₂ (λ a b. a ++ b) ((bytes_eq-Decides (take (length front) word) front).0 parts.0) (some_is (drop (length front) word) rest parts.1)
 
 -- a word that is compared with one after another
-by-word : {A : Type 0} (Q : A → Type 0) (word known : List ℕ) (here there : A) (rest : Option A) → (word ≡ known → Q here) → (rest ≡ Some there → Q there) → cond (bytes_eq word known) (Some here) rest ≡ Some there → Q there
+pub by-word : {A : Type 0} (Q : A → Type 0) (word known : List ℕ) (here there : A) (rest : Option A) → (word ≡ known → Q here) → (rest ≡ Some there → Q there) → cond (bytes_eq word known) (Some here) rest ≡ Some there → Q there
 by-word Q word known here there rest one other is = by (bytes_eq word known) refl is
   where
     by : (b : Bool) → bytes_eq word known ≡ b → cond b (Some here) rest ≡ Some there → Q there
     by true e found = subst Q (some_is here there found) (one ((bytes_eq-Decides word known).0 e))
     by false e found = other found
 
-none-some : {A : Type 0} (x : A) (Q : Type 0) → None ≡ Some x → Q
+pub none-some : {A : Type 0} (x : A) (Q : Type 0) → None ≡ Some x → Q
 none-some x Q is = absurd cc
 
 abbrev Names : List ℕ → TypeOf → Type 0

@@ -1,5 +1,5 @@
 -- A line that is read is spelled, and may stand there.
-use Rattle.std.proofs.Common.{◌≡◌, ℕ, suc, ◌+◌, ◌<◌, ◌≤◌, ◌⊎◌, inl, inr, Bool, true, false, cond, ◌&&◌, ◌||◌, not, List, [], ◌∷◌, length, nat_lt, nat_le, ◌==◌, refl, sym, ap, ap₂, subst, ◌∙◌, arith}
+use Rattle.std.proofs.Common.{◌≡◌, ℕ, ◌+◌, ◌<◌, ◌≤◌, ◌⊎◌, inl, inr, Bool, true, false, cond, ◌&&◌, ◌||◌, not, List, [], ◌∷◌, length, nat_lt, nat_le, ◌==◌, refl, sym, ap, ap₂, subst, ◌∙◌, arith}
 use Rattle.std.specs.Prelude.{Option, Some, None, Result, Ok, Err, codes, if◌then◌else◌, unwrap_or}
 use Rattle.std.specs.Fmt.{digits, decimal}
 use Rattle.std.specs.List.{list_all, list_any, onto_first, count_by, join_with_byte}
@@ -13,7 +13,6 @@ use Rattle.sv_base.specs.declared.config.BlockDef.{BlockDef}
 use Rattle.sv_base.specs.declared.config.CtlDef.{CtlDef}
 use Rattle.sv_base.specs.declared.types.TypeOf.{TypeOf}
 use Rattle.sv_base.specs.declared.types.TypeOf.TheVariants as types
-use Rattle.sv_base.specs.declared.value.Value.{Value}
 use Rattle.cfg_text.specs.declared.fault.Kind.{Kind}
 use Rattle.cfg_text.specs.declared.line.Line.{Line}
 use Rattle.cfg_text.specs.declared.line.Line.TheVariants as lines
@@ -37,9 +36,9 @@ use Rattle.cfg_text.specs.Judging.{is_printable, is_skipped, is_long_item, contr
 use Rattle.cfg_text.specs.Spelled.{words, text_word, bits_word, type_word}
 use Rattle.cfg_text.specs.Grammar.{AreOfType, SpellValues, IsSkipped}
 use Rattle.cfg_text.specs.Follows.{longest_part, IsLine}
-use Rattle.cfg_text.proofs.OptionLaws.{some_is}
 use Rattle.cfg_text.proofs.WordLaws.{AreWords}
-use Rattle.cfg_text.proofs.TellLaws.{number-tells, type-tells, flags-tell, bits-tell, text-tells, values-tell}
+use Rattle.cfg_text.proofs.TellLaws.{by-word, none-some, number-tells, type-tells, flags-tell, bits-tell, text-tells, values-tell}
+use Rattle.cfg_text.proofs.NameLaws.{values-as-many}
 use Rattle.cfg_text.proofs.LineLaws.{item-length, below-length, longest}
 
 abbrev ok_of : {A : Type 0} → A → Result A Kind
@@ -167,22 +166,23 @@ word_of keywords.Ctl = codes "ctl"
 word_of keywords.Sgcb = codes "sgcb"
 word_of keywords.End = codes "end"
 
-key-step : (word known : List ℕ) (here there : Keyword) (rest : Option Keyword) → word_of here ≡ known → (rest ≡ Some there → word ≡ word_of there) → cond (bytes_eq word known) (Some here) rest ≡ Some there → word ≡ word_of there
-key-step word known here there rest of other is = by (bytes_eq word known) refl is
-  where
-    by : (b : Bool) → bytes_eq word known ≡ b → cond b (Some here) rest ≡ Some there → word ≡ word_of there
-    by true e found = (bytes_eq-Decides word known).0 e ∙ (sym of ∙ ap word_of (some_is here there found))
-    by false e found = other found
-
-none-some : (there : Keyword) (Q : Type 0) → None ≡ Some there → Q
-none-some there Q is = absurd cc
+abbrev Spelled : List ℕ → Keyword → Type 0
+Spelled word key = word ≡ word_of key
 
 key-is : (word : List ℕ) (key : Keyword) → keyword_at word ≡ Some key → word ≡ word_of key
 key-is word key =
-    key-step word (codes "config") keywords.Config key _ refl (key-step word (codes "server") keywords.Server key _ refl (key-step word (codes "ld") keywords.Ld key _ refl
-    (key-step word (codes "ln") keywords.Ln key _ refl (key-step word (codes "attr") keywords.Attr key _ refl (key-step word (codes "set") keywords.Set key _ refl
-    (key-step word (codes "member") keywords.Member key _ refl (key-step word (codes "brcb") keywords.Brcb key _ refl (key-step word (codes "ctl") keywords.Ctl key _ refl
-    (key-step word (codes "sgcb") keywords.Sgcb key _ refl (key-step word (codes "end") keywords.End key _ refl (none-some key (word ≡ word_of key))))))))))))
+    by-word (Spelled word) word (codes "config") keywords.Config key _ (λ e. e)
+    (by-word (Spelled word) word (codes "server") keywords.Server key _ (λ e. e)
+    (by-word (Spelled word) word (codes "ld") keywords.Ld key _ (λ e. e)
+    (by-word (Spelled word) word (codes "ln") keywords.Ln key _ (λ e. e)
+    (by-word (Spelled word) word (codes "attr") keywords.Attr key _ (λ e. e)
+    (by-word (Spelled word) word (codes "set") keywords.Set key _ (λ e. e)
+    (by-word (Spelled word) word (codes "member") keywords.Member key _ (λ e. e)
+    (by-word (Spelled word) word (codes "brcb") keywords.Brcb key _ (λ e. e)
+    (by-word (Spelled word) word (codes "ctl") keywords.Ctl key _ (λ e. e)
+    (by-word (Spelled word) word (codes "sgcb") keywords.Sgcb key _ (λ e. e)
+    (by-word (Spelled word) word (codes "end") keywords.End key _ (λ e. e)
+    (none-some key (word ≡ word_of key))))))))))))
 
 -- a line of words that was told
 pub record Told (before : List Line) (text : List ℕ) (key : Keyword) (ws : List (List ℕ)) (line : Line) : Type 0 where
@@ -207,32 +207,19 @@ not-long before behind some e = by (and_cases _ _ e)
     by (inl none) = absurd (omega (arith, some, ltb-false 0 (length (node_of before)) none))
     by (inr short) = ltb-false 63 (length (node_of before) + behind) short
 
-as-many : (ws : List (List ℕ)) (vs : List Value) → SpellValues ws vs → length vs ≡ length ws
-as-many [] [] spelled = refl
-as-many [] (v ∷ vs) spelled = absurd spelled
-as-many (word ∷ ws) [] spelled = absurd spelled
-as-many (word ∷ ws) (v ∷ vs) spelled = ap suc (as-many ws vs spelled.1)
-
 same-block : (name a b d e f g h i a2 b2 d2 e2 f2 g2 h2 i2 : List ℕ) → a ≡ a2 → b ≡ b2 → d ≡ d2 → e ≡ e2 → f ≡ f2 → g ≡ g2 → h ≡ h2 → i ≡ i2
     → codes "brcb" ∷ name ∷ a ∷ b ∷ d ∷ e ∷ f ∷ g ∷ h ∷ i ∷ [] ≡ codes "brcb" ∷ name ∷ a2 ∷ b2 ∷ d2 ∷ e2 ∷ f2 ∷ g2 ∷ h2 ∷ i2 ∷ []
 same-block name a b d e f g h i a2 b2 d2 e2 f2 g2 h2 i2 p q r s t u v w = cc
-
-control-step : (word known : List ℕ) (here there : TypeOf) (rest : Option TypeOf) (Q : TypeOf → Type 0) → (word ≡ known → Q here) → (rest ≡ Some there → Q there) → cond (bytes_eq word known) (Some here) rest ≡ Some there → Q there
-control-step word known here there rest Q one other is = by (bytes_eq word known) refl is
-  where
-    by : (b : Bool) → bytes_eq word known ≡ b → cond b (Some here) rest ≡ Some there → Q there
-    by true e found = subst Q (some_is here there found) (one ((bytes_eq-Decides word known).0 e))
-    by false e found = other found
-
-none-type : (there : TypeOf) (Q : Type 0) → None ≡ Some there → Q
-none-type there Q is = absurd cc
 
 abbrev Controls : List ℕ → TypeOf → Type 0
 Controls word kind = ((kind ≡ types.Bool) ⊎ (kind ≡ types.Int 32)) × (word ≡ type_word kind)
 
 control-type-told : (word : List ℕ) (kind : TypeOf) → control_type_at word ≡ Some kind → Controls word kind
 unfolding type_word digits
-control-type-told word kind = control-step word (codes "bool") types.Bool kind _ (Controls word) (λ e. (inl refl, e)) (control-step word (codes "int32") (types.Int 32) kind _ (Controls word) (λ e. (inr refl, e)) (none-type kind (Controls word kind)))
+control-type-told word kind =
+    by-word (Controls word) word (codes "bool") types.Bool kind _ (λ e. (inl refl, e))
+    (by-word (Controls word) word (codes "int32") (types.Int 32) kind _ (λ e. (inr refl, e))
+    (none-some kind (Controls word kind)))
 
 module _ (before : List Line) (text : List ℕ) (line : Line) (named : HasName before) where
   abbrev pub Goes : Keyword → List (List ℕ) → Type 0
@@ -407,7 +394,7 @@ module _ (before : List Line) (text : List ℕ) (line : Line) (named : HasName b
           new = new.0;
           type_ = of_type.0;
           values = subst (AreOfType k.0) (sym same) of_values.0;
-          count = (many.0, ap length same ∙ omega (arith, many.1, as-many vs v.0 of_values.1));
+          count = (many.0, ap length same ∙ omega (arith, many.1, values-as-many vs v.0 of_values.1));
         };
       })
   attribute-told [] t = absurd cc t.content

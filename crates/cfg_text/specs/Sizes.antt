@@ -1,5 +1,5 @@
 -- The most octets of the Data of nodes (ISO 9506-2, Data), by those of the nodes without parts.
-use Rattle.std.specs.Prelude.{ℕ, zero, suc, ◌+◌, ◌/◌, ◌==◌, nat_lt, List, [], ◌∷◌, length, take, slice_index, fold, if◌then◌else◌, Option, Some, None, unwrap_or}
+use Rattle.std.specs.Prelude.{ℕ, zero, suc, ◌+◌, ◌/◌, ◌==◌, List, [], ◌∷◌, length, take, slice_index, fold, if◌then◌else◌, Option, Some, None, unwrap_or}
 use Rattle.std.specs.List.{sum_by}
 use Rattle.std.specs.Str.{bytes_eq}
 use Rattle.sv_base.specs.Data.{length_field}

@@ -42,6 +42,9 @@ impl Keys {
         ensures among { OnOk result ((q : List ℕ) → is_among self.new q ≡ (bytes_eq q key.now || is_among self.old q)) }
         ensures items { OnOk result (self.new ≡ added self.old key.now) }
     {
+        if self.has(key) {
+            return Ok(());
+        }
         let key = Vec::from_slice(alloc, key)?;
         self.keys.insert(key)?;
         Ok(())

@@ -62,6 +62,10 @@ fn written_again(alloc: Global, text: &[u8]) -> Result<Option<Octs>, AllocError>
 #[test]
 fn a_configuration_is_written(rt: HostRuntime) -> Result<(), Fail> {
     let again = written_again(rt.alloc(), READ)?;
-    assert!(rt; matches!(again, Some(text) if text.as_slice() == WRITTEN));
+    let Some(text) = again else {
+        assert!(rt; false);
+        return Ok(());
+    };
+    assert!(rt; text.as_slice() == WRITTEN);
     Ok(())
 }

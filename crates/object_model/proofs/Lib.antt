@@ -3,3 +3,12 @@ pub mod NumberLaws
 pub mod SortLaws
 pub mod LineLaws
 pub mod GroupLaws
+pub mod PutLaws
+pub mod GrowLaws
+pub mod LargestLaws
+pub mod ListingLaws
+pub mod ResolveLaws
+pub mod TableLaws
+pub mod FlagLaws
+pub mod NameSort
+pub mod KindLaws

@@ -18,7 +18,7 @@ place false m n = by (nat_lt m n) refl
     by true h = grind (arith, nat_tests)
     by false h = grind (arith, nat_tests)
 
-place-cons : {X : Type 0} (p : X → Bool) (x : X) (xs : List X) → position p (x ∷ xs) ≡ cond (p x) (Some 0) (option_map (λ n. n + 1) (position p xs))
+pub place-cons : {X : Type 0} (p : X → Bool) (x : X) (xs : List X) → position p (x ∷ xs) ≡ cond (p x) (Some 0) (option_map (λ n. n + 1) (position p xs))
 place-cons p x xs = place (p x) _ (length xs)
 
 one_more : (b t : Bool) (r : Option ℕ) (n : ℕ) → cond b (Some 0) (option_map (λ i. i + 1) (number_or r t n)) ≡ number_or (cond b (Some 0) (option_map (λ i. i + 1) r)) t (suc n)
@@ -72,3 +72,18 @@ module _ {K : Type 0} (items : K → List ℕ) where
       by (Some x) b e q = refl
       by None false e q = refl
       by None true e q = absurd (true≢false (sym h ∙ ap (λ m. is_some (lookup (named m) es)) (sym ((bytes_decides other name).0 q)) ∙ ap is_some e))
+
+-- numbers that are counted from one of their own
+shifted : (f n : ℕ) (r : Option ℕ) (t : Bool) → option_map (λ i. f + i) (number_or r t n) ≡ number_or (option_map (λ i. f + i) r) t (f + n)
+shifted f n (Some x) t = refl
+shifted f n None true = refl
+shifted f n None false = refl
+
+pub number-next : (names : List (List ℕ)) (f i n : ℕ) (name other d : List ℕ) (r more : Option ℕ) → i < length names → name ≡ get_or names i d → n ≡ f + i → r ≡ option_map (λ j. f + j) (number_in (take i names) other) → more ≡ number_or r (bytes_eq other name) n
+    → more ≡ option_map (λ j. f + j) (number_in (take (i + 1) names) other)
+number-next names f i n name other d r more h e k q m = m ∙ (ap (λ r. number_or r (bytes_eq other name) n) q ∙ (ap (number_or (option_map (λ j. f + j) (number_in (take i names) other)) (bytes_eq other name)) k
+    ∙ sym (ap (option_map (λ j. f + j)) (number-more names i name other d h e) ∙ shifted f i (number_in (take i names) other) (bytes_eq other name))))
+
+pub from-first : (r : Option ℕ) → option_map (λ i. 0 + i) r ≡ r
+from-first (Some x) = ap Some (omega arith)
+from-first None = refl

@@ -1,12 +1,16 @@
 -- What is named, in groups by the first name.
-use Rattle.std.specs.Prelude.{ℕ, List, [], ◌∷◌, ◌++◌, map}
+use Rattle.std.specs.Prelude.{ℕ, List, [], ◌∷◌, ◌++◌, map, if◌then◌else◌}
+use Rattle.std.specs.Str.{bytes_eq}
 use Rattle.bay_model.specs.Generated.{Named}
-use Rattle.bay_model.specs.NameTree.{first_names, below}
+use Rattle.bay_model.specs.NameTree.{first_names, first_name, rest_of, is_itself, below}
 
 -- a first name, with what stands below it
 pub record Group : Type 0 where
   pub name : List ℕ
   pub names : List Named
+
+abbrev pub group_name : Group → List ℕ
+group_name g = g.name
 
 abbrev pub group_at : List Named → List ℕ → Group
 group_at ns name = record { name = name; names = below name ns }
@@ -17,3 +21,12 @@ groups ns = map (group_at ns) (first_names ns)
 
 abbrev pub with_cut : Group → Named → Group
 with_cut g n = record { name = g.name; names = g.names ++ n ∷ [] }
+
+-- in the group of a name, which is the last where there was none
+abbrev pub put : List Group → List ℕ → Named → List Group
+put [] name rest = record { name = name; names = rest ∷ [] } ∷ []
+put (g ∷ gs) name rest = if bytes_eq name g.name then with_cut g rest ∷ gs else g ∷ put gs name rest
+
+-- one more that is named
+abbrev pub with_named : List Group → Named → List Group
+with_named gs n = if is_itself n then gs else put gs (first_name n) (rest_of n)

@@ -1,4 +1,11 @@
 pub mod Groups
+pub mod Grown
+pub mod Nodes
+pub mod Listed
+pub mod Fits
+pub mod Tables
+pub mod Rows
+pub mod Sorting
 pub mod Seen
 pub mod References
 pub mod Numbers

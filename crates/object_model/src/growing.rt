@@ -12,8 +12,8 @@ use std::marker::Model;
 /// What is named by the rest of an item, below some of its names.
 #[derive(Drop)]
 pub struct Cut<'a> {
-    rest: &'a [u8],
-    named: &'a Named,
+    pub rest: &'a [u8],
+    pub named: &'a Named,
 }
 
 impl<'a> Model for Cut<'a> {
@@ -29,8 +29,20 @@ impl<'a> Model for Cut<'a> {
     ghost view = { λ c. record { item = c.rest.now; role = c.named.now.role; kind = c.named.now.kind } };
 }
 
+impl<'a> Cut<'a> {
+    ghost use Rattle.std.specs.Prelude.{◌≡◌};
+    ghost use Rattle.bay_model.specs.NameTree.{is_itself as is_itself_in};
+
+    /// Whether nothing is left of the item: it is the name itself.
+    pub fn is_itself(&self) -> bool
+        ensures { result ≡ is_itself_in self.now }
+    {
+        self.rest.is_empty()
+    }
+}
+
 /// The place of the first `$`, and of the end where there is none.
-fn name_len(rest: &[u8]) -> usize
+pub fn name_len(rest: &[u8]) -> usize
     ensures value { result ≡ position_or_len (λ o. o == 36) rest.now }
     ensures within { result ≤ length rest.now }
 {
@@ -43,14 +55,14 @@ fn name_len(rest: &[u8]) -> usize
 }
 
 /// The name up to the first `$`.
-fn name_of<'a>(cut: &Cut<'a>) -> &'a [u8]
+pub fn name_of<'a>(cut: &Cut<'a>) -> &'a [u8]
     ensures { result.now ≡ first_name cut.now }
 {
     &cut.rest[..name_len(cut.rest)]
 }
 
 /// What is named behind the first `$`.
-fn below<'a>(cut: &Cut<'a>) -> Cut<'a>
+pub fn below<'a>(cut: &Cut<'a>) -> Cut<'a>
     ensures { result ≡ rest_of cut.now }
 {
     let len = name_len(cut.rest);
@@ -68,8 +80,8 @@ fn below<'a>(cut: &Cut<'a>) -> Cut<'a>
 /// A first name, with what stands below it.
 #[derive(Drop)]
 pub struct Group<'a> {
-    name: &'a [u8],
-    cuts: Vec<Cut<'a>>,
+    pub name: &'a [u8],
+    pub cuts: Vec<Cut<'a>>,
 }
 
 impl<'a> Model for Group<'a> {
@@ -92,7 +104,12 @@ fn push_cut<'a>(group: &mut Group<'a>, cut: Cut<'a>) -> Result<(), AllocError>
     Ok(())
 }
 
-fn push_into<'a>(groups: &mut Vec<Group<'a>>, place: usize, cut: Cut<'a>) -> Result<(), AllocError>
+/// Adds what is named to the group at a place.
+pub fn push_into<'a>(
+    groups: &mut Vec<Group<'a>>,
+    place: usize,
+    cut: Cut<'a>,
+) -> Result<(), AllocError>
     requires { place < length groups.old.items }
     ensures { OnOk result ((d : Group) → groups.new.items ≡ set groups.old.items place (with_cut (get_or groups.old.items place d) cut.entry)) }
 {

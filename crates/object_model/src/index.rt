@@ -5,6 +5,7 @@ ghost use Rattle.std.specs.Str.{bytes_eq};
 ghost use Rattle.indexmap.specs.IndexMap.{get_by};
 ghost use Rattle.object_model.specs.Numbers.{number_or};
 
+use crate::numbers::plus;
 use indexmap::IndexMap;
 use std::alloc::{AllocError, Global};
 use sv_base::Octs;
@@ -16,7 +17,7 @@ pub struct Index {
 }
 
 /// Gives a name a number, where it has none.
-fn add(
+pub fn add(
     alloc: Global,
     numbers: &mut IndexMap<Vec<u8>, u32>,
     name: &[u8],
@@ -34,20 +35,27 @@ fn add(
 }
 
 impl Index {
-    ghost use Rattle.object_model.specs.Indexes.{Indexes, found};
+    ghost use Rattle.object_model.specs.Indexes.{Indexes, IndexesFrom, found};
+
+    /// The numbers of these names, counted from the first one's.
+    pub fn from(alloc: Global, first: u32, names: &[Octs]) -> Result<Self, AllocError>
+        ensures { IfOk result (λ index. IndexesFrom index first names.now) }
+    {
+        let mut numbers = IndexMap::new(alloc);
+        let mut number = first;
+        for name in names {
+            add(alloc, &mut numbers, name.as_slice(), number)?;
+            number = plus(number, 1)?;
+        }
+        Ok(Index { numbers })
+    }
 
     /// The places of these names.
     pub fn of(alloc: Global, names: &[Octs]) -> Result<Self, AllocError>
         ensures { IfOk result (λ index. Indexes index names.now) }
     {
-        let mut numbers = IndexMap::new(alloc);
-        for (i, name) in names.iter().enumerate() {
-            if i > 0xffff_ffff {
-                return Err(AllocError);
-            }
-            add(alloc, &mut numbers, name.as_slice(), i as u32)?;
-        }
-        Ok(Index { numbers })
+        let index = Index::from(alloc, 0, names)?;
+        Ok(index)
     }
 
     /// The number of a name; none exactly where it is not there.

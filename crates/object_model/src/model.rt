@@ -1,9 +1,13 @@
 //! The model of a configuration.
 
+use crate::copies::copy_config;
+use crate::fitting::{Counts, step_fits};
 use crate::index::Index;
 use crate::references::{attr_references, block_references, control_references};
+use crate::tables::Tables;
+use bay_model::{Flags, Names, NodeTable, SetTable, Step};
 use std::alloc::{AllocError, Global};
-use sv_base::{AttrId, BlockNo, Config, CtlNo};
+use sv_base::{AttrId, BlockNo, Config, CtlNo, NodeId, TypeOf};
 
 /// What a configuration names (IEC 61850-7-2, the information model), with its nodes, attributes, blocks and controls by
 /// their numbers. Contracts see it as its configuration.
@@ -13,6 +17,7 @@ pub struct Model {
     blocks: Index,
     controls: Index,
     attrs: Index,
+    tables: Tables,
 }
 
 impl std::marker::Model for Model {
@@ -30,28 +35,54 @@ impl std::marker::Model for Model {
 
     ghost use Rattle.object_model.specs.Indexes.{Indexes};
     ghost use Rattle.object_model.specs.References.{block_references, control_references, attr_references};
+    ghost use Rattle.std.specs.List.{All};
+    ghost use Rattle.sv_base.specs.declared.config.AttrDef.{AttrDef};
+    ghost use Rattle.bay_model.specs.Slots.{IsSettable};
+    ghost use Rattle.object_model.specs.Tables.{IsTables};
 
-    ghost invariant = { λ m. Indexes m.blocks (block_references m.config) × Indexes m.controls (control_references m.config) × Indexes m.attrs (attr_references m.config) };
+    ghost invariant = { λ m. Indexes m.blocks (block_references m.config) × Indexes m.controls (control_references m.config) × Indexes m.attrs (attr_references m.config) × IsTables m.config m.tables × All (λ (a : AttrDef). IsSettable a.kind) m.config.attrs };
 }
 
 impl Model {
-    ghost use Rattle.std.specs.Prelude.{◌≡◌, IfOk, option_map};
+    ghost use Rattle.std.specs.Prelude.{◌≡◌, ◌<◌, length, map, IfOk, option_map};
+    ghost use Rattle.bay_model.specs.Lookups.{node_of, attr_of};
+    ghost use Rattle.bay_model.specs.Attributes.{attributes};
+    ghost use Rattle.bay_model.specs.Named.{configured_model, nodes as nodes_of};
+    ghost use Rattle.std.specs.List.{All};
+    ghost use Rattle.sv_base.specs.declared.config.AttrDef.{AttrDef as AttrLine};
+    ghost use Rattle.bay_model.specs.Slots.{IsSettable};
+    ghost use Rattle.object_model.specs.Fits.{fits as fits_in};
+    ghost use Rattle.object_model.specs.Nodes.{node_rows};
+    ghost use Rattle.object_model.specs.Sorting.{variables_after};
+    ghost use Rattle.object_model.specs.Tables.{node_named, node_type, set_rows, flags_of};
     ghost use Rattle.object_model.specs.Numbers.{number_in};
     ghost use Rattle.object_model.specs.References.{block_references as blocks_of, control_references as controls_of, attr_references as attrs_of};
 
-    /// The model of a configuration.
+    /// The model of a configuration, whose attributes are of the types that an `attr` line may have.
     pub fn build(alloc: Global, config: Config) -> Result<Self, AllocError>
+        requires { All (λ (a : AttrLine). IsSettable a.kind) config.attrs }
         ensures { IfOk result (λ m. m ≡ config) }
     {
         let blocks = Index::of(alloc, &block_references(alloc, &config)?)?;
         let controls = Index::of(alloc, &control_references(alloc, &config)?)?;
         let attrs = Index::of(alloc, &attr_references(alloc, &config)?)?;
+        let tables = Tables::of(alloc, &config)?;
         Ok(Model {
             config,
             blocks,
             controls,
             attrs,
+            tables,
         })
+    }
+
+    /// The same model again.
+    pub fn copy(&self, alloc: Global) -> Result<Self, AllocError>
+        ensures { IfOk result (λ m. m ≡ self.now) }
+    {
+        let config = copy_config(alloc, &self.config)?;
+        let model = Model::build(alloc, config)?;
+        Ok(model)
     }
 
     /// The configuration.
@@ -80,5 +111,102 @@ impl Model {
         ensures { option_map (λ x. x.0) result ≡ number_in (attrs_of self.now) reference.now }
     {
         self.attrs.number_of(reference).map(AttrId)
+    }
+
+    /// The node of an item of a domain (ISO 9506-2, a domain-specific name); none exactly where it is not there. It takes no
+    /// memory.
+    pub fn resolve(&self, domain: &[u8], item: &[u8]) -> Option<NodeId>
+        ensures { option_map (λ n. n.0) result ≡ node_named (nodes_of self.now) domain.now item.now }
+    {
+        self.tables.resolve(domain, item).map(NodeId)
+    }
+
+    /// The domain of a node.
+    pub fn domain_of(&self, node: NodeId) -> &[u8]
+        requires { node.0 < length (nodes_of self.now) }
+        ensures { result.now ≡ (node_of (configured_model self.now) node.0).domain }
+    {
+        self.tables.names.as_slice()[node.0 as usize]
+            .domain
+            .as_slice()
+    }
+
+    /// The item of a node.
+    pub fn item_of(&self, node: NodeId) -> &[u8]
+        requires { node.0 < length (nodes_of self.now) }
+        ensures { result.now ≡ (node_of (configured_model self.now) node.0).item }
+    {
+        self.tables.names.as_slice()[node.0 as usize]
+            .item
+            .as_slice()
+    }
+
+    /// The type of a node's Data (ISO 9506-2, TypeSpecification).
+    pub fn type_of(&self, node: NodeId) -> &TypeOf
+        requires { node.0 < length (nodes_of self.now) }
+        ensures { result.now ≡ node_type self.now node.0 }
+    {
+        &self.tables.nodes.as_slice()[node.0 as usize].shape.kind
+    }
+
+    /// The attributes of a node, in the order of its type.
+    pub fn attrs_of(&self, node: NodeId) -> &[AttrId]
+        requires { node.0 < length (nodes_of self.now) }
+        ensures { map (λ x. x.0) result.now ≡ (node_of (configured_model self.now) node.0).attrs }
+    {
+        self.tables.nodes.as_slice()[node.0 as usize]
+            .shape
+            .attrs
+            .as_slice()
+    }
+
+    /// The trigger conditions of an attribute (IEC 61850-7-2, TriggerConditions).
+    pub fn flags(&self, attr: AttrId) -> Flags
+        requires { attr.0 < length (attributes self.now) }
+        ensures { result ≡ flags_of (attr_of (configured_model self.now) attr.0) }
+    {
+        self.tables.flags.as_slice()[attr.0 as usize]
+    }
+
+    /// The configured data sets, with the numbers of their members.
+    pub fn sets(&self) -> &SetTable
+        ensures { result.now ≡ set_rows self.now }
+    {
+        &self.tables.sets
+    }
+
+    /// The nodes by their numbers.
+    pub fn nodes(&self) -> &NodeTable
+        ensures { result.now ≡ node_rows self.now }
+    {
+        &self.tables.nodes
+    }
+
+    /// The names of a domain's variables that come after a name, known or not, ascending by their octets (ISO 9506-2,
+    /// GetNameList with continueAfter).
+    pub fn names_after(
+        &self,
+        alloc: Global,
+        domain: &[u8],
+        after: &[u8],
+    ) -> Result<Names, AllocError>
+        ensures { IfOk result (λ names. names ≡ variables_after self.now domain.now after.now) }
+    {
+        let names = self.tables.names_after(alloc, domain, after)?;
+        Ok(Names::from_vec(names))
+    }
+
+    /// Whether a step fits the configuration: each number in it is in range, each setting of its attribute's type and size;
+    /// and octets 20 to 7E alone stand in its texts, in the domain-specific names of its variables and in the names of
+    /// domains' data sets.
+    pub fn fits(&self, step: &Step) -> bool
+        ensures { result ≡ fits_in self.now step.now }
+    {
+        let counts = Counts {
+            nodes: self.tables.nodes.len(),
+            blocks: self.config.blocks.len(),
+            controls: self.config.controls.len(),
+        };
+        step_fits(counts, self.tables.kinds.as_slice(), step)
     }
 }

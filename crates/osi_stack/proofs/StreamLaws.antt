@@ -9,8 +9,9 @@ use Rattle.tpkt_cotp.specs.Packet.{packet, IsTpdu, IsPartial, packet_at}
 use Rattle.tpkt_cotp.proofs.PacketLaws.{packet_again, bad_again, partial_again, found_is}
 use Rattle.tpkt_cotp.proofs.StreamLaws.{after_fits}
 use Rattle.osi_stack.specs.declared.events.Event.{Event}
-use Rattle.osi_stack.specs.Causes.{Cause, of_transport}
-use Rattle.osi_stack.specs.Stream.{Stand, opening, has_ended, step_at, Runs, count_of, StandsAt, Stops, IsRefused}
+use Rattle.osi_stack.specs.declared.cause.Cause.{Cause}
+use Rattle.osi_stack.specs.Causes.{of_transport}
+use Rattle.osi_stack.specs.Stream.{Stand, has_ended, step_at, Runs, count_of, StandsAt, Stops, IsRefused}
 
 -- how a stream ends: with the beginning of a TPKT, behind the end with anything, or refused
 abbrev pub Ends : Stand → List ℕ → Option Cause → Type 0
@@ -104,19 +105,19 @@ one_end s t u octets rest other (p ∷ ps) (q ∷ qs) es ds e g fits ends ends2 
     let later = one_end mid t u (flat_map packet ps ++ rest) rest other ps qs others others2 e g (after_fits octets p (flat_map packet ps ++ rest) fits a) ends ends2 refl all.1 runs left also.1 (subst (λ (x : Stand). Runs x qs others2 u) (sym mids) runs2) in
     (split ∙ ap (λ (x : Option Event). option_to_list x ++ others) firsts ∙ ap (λ (x : List Event). option_to_list first2 ++ x) later.0 ∙ sym split2, later.1, later.2, later.3)
 
-pub one_stream : (t u : Stand) (rest other octets : List ℕ) (es ds : List Event) → StandsAt t rest octets es → StandsAt u other octets ds → (es ≡ ds) × (t ≡ u) × (rest ≡ other)
-one_stream t u rest other octets es ds a b =
-    let one = one_end opening t u octets rest other a.takes.tpdus b.takes.tpdus es ds None None a.fits a.left b.left a.takes.whole a.takes.each a.takes.runs b.takes.whole b.takes.each b.takes.runs in
+pub one_stream : (from t u : Stand) (rest other octets : List ℕ) (es ds : List Event) → StandsAt from t rest octets es → StandsAt from u other octets ds → (es ≡ ds) × (t ≡ u) × (rest ≡ other)
+one_stream from t u rest other octets es ds a b =
+    let one = one_end from t u octets rest other a.takes.tpdus b.takes.tpdus es ds None None a.fits a.left b.left a.takes.whole a.takes.each a.takes.runs b.takes.whole b.takes.each b.takes.runs in
     (one.0, one.1, one.2)
 
-pub one_refusal : (octets : List ℕ) (es ds : List Event) (c d : Cause) (m n : ℕ) → IsRefused octets es c m → IsRefused octets ds d n → (es ≡ ds) × (c ≡ d) × (m ≡ n)
-one_refusal octets es ds c d m n a b =
-    let one = one_end opening a.stand b.stand octets a.bad b.bad a.takes.tpdus b.takes.tpdus es ds (Some c) (Some d) a.fits (a.on, a.stops) (b.on, b.stops) a.takes.whole a.takes.each a.takes.runs b.takes.whole b.takes.each b.takes.runs in
+pub one_refusal : (from : Stand) (octets : List ℕ) (es ds : List Event) (c d : Cause) (m n : ℕ) → IsRefused from octets es c m → IsRefused from octets ds d n → (es ≡ ds) × (c ≡ d) × (m ≡ n)
+one_refusal from octets es ds c d m n a b =
+    let one = one_end from a.stand b.stand octets a.bad b.bad a.takes.tpdus b.takes.tpdus es ds (Some c) (Some d) a.fits (a.on, a.stops) (b.on, b.stops) a.takes.whole a.takes.each a.takes.runs b.takes.whole b.takes.each b.takes.runs in
     let both : cause_of c ≡ cause_of d = one.3 in
     (one.0, cc (both), a.is_count ∙ ap (λ (x : List ℕ). count_of octets x) one.2 ∙ sym b.is_count)
 
-pub never_both : (t : Stand) (rest octets : List ℕ) (es ds : List Event) (c : Cause) (n : ℕ) → StandsAt t rest octets es → IsRefused octets ds c n → ⊥
-never_both t rest octets es ds c n a b =
-    let one = one_end opening t b.stand octets rest b.bad a.takes.tpdus b.takes.tpdus es ds None (Some c) a.fits a.left (b.on, b.stops) a.takes.whole a.takes.each a.takes.runs b.takes.whole b.takes.each b.takes.runs in
+pub never_both : (from t : Stand) (rest octets : List ℕ) (es ds : List Event) (c : Cause) (n : ℕ) → StandsAt from t rest octets es → IsRefused from octets ds c n → ⊥
+never_both from t rest octets es ds c n a b =
+    let one = one_end from t b.stand octets rest b.bad a.takes.tpdus b.takes.tpdus es ds None (Some c) a.fits a.left (b.on, b.stops) a.takes.whole a.takes.each a.takes.runs b.takes.whole b.takes.each b.takes.runs in
     let both : no_cause ≡ cause_of c = one.3 in
     cc

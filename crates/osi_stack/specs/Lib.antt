@@ -1,5 +1,11 @@
 pub mod Lines
 pub mod Framed
 pub mod Causes
+pub mod Called
+pub mod Calling
 pub mod Machine
 pub mod Stream
+pub mod Going
+pub mod Standing
+pub mod Sides
+pub mod Open

@@ -8,6 +8,8 @@ use std::alloc::{AllocError, Global};
 use std::test::*;
 use sv_base::Octs;
 
+mod streams;
+
 /// A report of a buffered block: RptID, OptFlds, SqNum, TimeofEntry, BufOvfl, EntryID, ConfRev, inclusion, value, reason.
 const REPORT: [u8; 61] = [
     0xa3, 0x3b, 0xa0, 0x39, 0xa1, 5, 0x80, 3, 0x52, 0x50, 0x54, 0xa0, 0x30, 0x8a, 3, 0x45, 0x76,

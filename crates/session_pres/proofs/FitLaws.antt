@@ -3,16 +3,11 @@ use Rattle.std.proofs.Common.{ℕ, ◌+◌, ◌*◌, ◌<◌, ◌≤◌, ◌^◌
 use Rattle.std.specs.List.{flat_map}
 use Rattle.std.proofs.lemmas.Bool.Decides.{nat_tests}
 use Rattle.std.proofs.lemmas.List.{length-append}
-use Rattle.ber_grammar.specs.Content.{IsUint}
 use Rattle.ber_write.specs.Minimal.{length_octets, octets_of, uint_octets}
-use Rattle.ber_write.proofs.NumberLaws.{uint_octets-spell}
+use Rattle.ber_write.proofs.NumberLaws.{length-uint_octets}
 use Rattle.session_pres.specs.Written.{element_length, pdv_fields, pdv_list, user_octets, length_field, field, accept_item, accept_parameters, connect_item}
 use Rattle.session_pres.specs.WrittenPpdu.{set_content, ppdu, result_octets, cpa_parameters, cpa_octets, cp_head, cp_octets, connect_parameters}
 use Rattle.session_pres.proofs.WritingLaws.{length-octets_of}
-
-number_few : (octets : List ℕ) (n : ℕ) → IsUint octets n → length octets ≤ 9
-number_few [] n h = absurd h
-number_few (a ∷ rest) n h = h.0
 
 at_most_five : (n : ℕ) → length (length_octets n) ≤ 5
 at_most_five n = grind (arith, nat_tests)
@@ -20,7 +15,7 @@ at_most_five n = grind (arith, nat_tests)
 at_most_three : (n : ℕ) → length (length_field n) ≤ 3
 at_most_three n = grind (arith, nat_tests)
 
-element_few : (tag : ℕ) (content : List ℕ) → tag < 256 → length (octets_of tag content) ≤ 6 + length content
+pub element_few : (tag : ℕ) (content : List ℕ) → tag < 256 → length (octets_of tag content) ≤ 6 + length content
 unfolding element_length
 element_few tag content lt = omega (arith, length-octets_of tag content lt, at_most_five (length content))
 
@@ -28,25 +23,24 @@ field_few : (code : ℕ) (value : List ℕ) → length (field code value) ≤ 4 
 unfolding field
 field_few code value = omega (arith, length-append (length_field (length value)) value, at_most_three (length value))
 
-fields_few : (context : ℕ) (value : List ℕ) → context < 2 ^ 32 → length (pdv_fields context value) ≤ 21 + length value
+fields_few : (context : ℕ) (value : List ℕ) → length (pdv_fields context value) ≤ 21 + length value
 unfolding pdv_fields
-fields_few context value small =
-    let number = number_few (uint_octets context) context (uint_octets-spell context (omega (arith, small))).0 in
-    omega (arith, number, element_few 2 (uint_octets context) (omega arith), element_few 160 value (omega arith), length-append (octets_of 2 (uint_octets context)) (octets_of 160 value))
+fields_few context value =
+    omega (arith, length-uint_octets context, element_few 2 (uint_octets context) (omega arith), element_few 160 value (omega arith), length-append (octets_of 2 (uint_octets context)) (octets_of 160 value))
 
-list_few : (context : ℕ) (value : List ℕ) → context < 2 ^ 32 → length (pdv_list context value) ≤ 27 + length value
+list_few : (context : ℕ) (value : List ℕ) → length (pdv_list context value) ≤ 27 + length value
 unfolding pdv_list
-list_few context value small = omega (arith, fields_few context value small, element_few 48 (pdv_fields context value) (omega arith))
+list_few context value = omega (arith, fields_few context value, element_few 48 (pdv_fields context value) (omega arith))
 
-user_few : (context : ℕ) (value : List ℕ) → context < 2 ^ 32 → length (user_octets context value) ≤ 33 + length value
+pub user_few : (context : ℕ) (value : List ℕ) → length (user_octets context value) ≤ 33 + length value
 unfolding user_octets
-user_few context value small = omega (arith, list_few context value small, element_few 97 (pdv_list context value) (omega arith))
+user_few context value = omega (arith, list_few context value, element_few 97 (pdv_list context value) (omega arith))
 
-set_few : (parameters : List ℕ) → length (set_content parameters) ≤ 11 + length parameters
+pub set_few : (parameters : List ℕ) → length (set_content parameters) ≤ 11 + length parameters
 unfolding set_content
 set_few parameters = omega (arith, element_few 162 parameters (omega arith))
 
-ppdu_few : (parameters : List ℕ) → length (ppdu parameters) ≤ 17 + length parameters
+pub ppdu_few : (parameters : List ℕ) → length (ppdu parameters) ≤ 17 + length parameters
 unfolding ppdu
 ppdu_few parameters = omega (arith, element_few 49 (set_content parameters) (omega arith), set_few parameters)
 
@@ -55,18 +49,18 @@ results_few [] = omega arith
 results_few (true ∷ list) = omega (arith, results_few list)
 results_few (false ∷ list) = omega (arith, results_few list)
 
-answer_few : (list : List Bool) (context : ℕ) (aare : List ℕ) → context < 2 ^ 32 → length (cpa_parameters list context aare) ≤ 39 + 9 * length list + length aare
+answer_few : (list : List Bool) (context : ℕ) (aare : List ℕ) → length (cpa_parameters list context aare) ≤ 39 + 9 * length list + length aare
 unfolding cpa_parameters
-answer_few list context aare small =
-    omega (arith, results_few list, element_few 165 (flat_map result_octets list) (omega arith), user_few context aare small, length-append (octets_of 165 (flat_map result_octets list)) (user_octets context aare))
+answer_few list context aare =
+    omega (arith, results_few list, element_few 165 (flat_map result_octets list) (omega arith), user_few context aare, length-append (octets_of 165 (flat_map result_octets list)) (user_octets context aare))
 
 -- ---- the conditions of the writers
 
 pub data_short : (context : ℕ) (pdu : List ℕ) → context < 2 ^ 32 → length pdu + 64 ≤ 2 ^ 32 → length (pdv_list context pdu) < 2 ^ 32
-data_short context pdu small short = omega (arith, list_few context pdu small)
+data_short context pdu small short = omega (arith, list_few context pdu)
 
 pub release_short : (context : ℕ) (apdu : List ℕ) → context < 2 ^ 32 → length apdu + 64 ≤ 65535 → length (field 193 (user_octets context apdu)) ≤ 65535
-release_short context apdu small short = omega (arith, user_few context apdu small, field_few 193 (user_octets context apdu))
+release_short context apdu small short = omega (arith, user_few context apdu, field_few 193 (user_octets context apdu))
 
 pub accept_short : (cpa : List ℕ) → length cpa + 16 ≤ 65535 → length (accept_parameters cpa) ≤ 65535
 unfolding accept_parameters
@@ -75,11 +69,11 @@ accept_short cpa short = omega (arith, field_few 193 cpa, length-append accept_i
 pub connect_short : (aarq : List ℕ) → length aarq + 128 ≤ 65535 → length (connect_parameters aarq) ≤ 65535
 unfolding connect_parameters cp_octets
 connect_short aarq short =
-    omega (arith, user_few 1 aarq (omega arith), ppdu_few (cp_head ++ user_octets 1 aarq), field_few 193 (ppdu (cp_head ++ user_octets 1 aarq)), length-append cp_head (user_octets 1 aarq), length-append connect_item (field 193 (ppdu (cp_head ++ user_octets 1 aarq))))
+    omega (arith, user_few 1 aarq, ppdu_few (cp_head ++ user_octets 1 aarq), field_few 193 (ppdu (cp_head ++ user_octets 1 aarq)), length-append cp_head (user_octets 1 aarq), length-append connect_item (field 193 (ppdu (cp_head ++ user_octets 1 aarq))))
 
 pub answer_short : (list : List Bool) (context : ℕ) (aare : List ℕ) → context < 2 ^ 32 → 9 * length list + length aare + 64 ≤ 2 ^ 32 → length (set_content (cpa_parameters list context aare)) < 2 ^ 32
-answer_short list context aare small short = omega (arith, answer_few list context aare small, set_few (cpa_parameters list context aare))
+answer_short list context aare small short = omega (arith, answer_few list context aare, set_few (cpa_parameters list context aare))
 
 pub answer_length : (list : List Bool) (context : ℕ) (aare : List ℕ) → context < 2 ^ 32 → length (cpa_octets list context aare) ≤ 9 * length list + length aare + 64
 unfolding cpa_octets
-answer_length list context aare small = omega (arith, answer_few list context aare small, ppdu_few (cpa_parameters list context aare))
+answer_length list context aare small = omega (arith, answer_few list context aare, ppdu_few (cpa_parameters list context aare))

@@ -13,3 +13,5 @@ pub mod ReadBackLaws
 pub mod PpduLaws
 pub mod RequestLaws
 pub mod ShortestLaws
+pub mod AnywhereLaws
+pub mod AnswerLaws

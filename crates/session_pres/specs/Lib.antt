@@ -13,3 +13,4 @@ pub mod Written
 pub mod WrittenPpdu
 pub mod View
 pub mod ViewOfContexts
+pub mod Plain

@@ -1,4 +1,4 @@
-ghost use Rattle.std.specs.Prelude.{◌≡◌, ℕ, ◌+◌, ◌*◌, ◌<◌, ◌≤◌, ◌^◌, Bool, true, List, [], ◌∷◌, length, Some};
+ghost use Rattle.std.specs.Prelude.{◌≡◌, ℕ, ◌+◌, ◌*◌, ◌<◌, ◌≤◌, ◌^◌, Bool, true, List, [], ◌∷◌, length, Some, Ok};
 ghost use Rattle.ber_grammar.specs.Octets.{IsBytes};
 ghost use Rattle.ber_grammar.specs.Place.{Piece};
 ghost use Rattle.session_pres.specs.Parameters.{IsLength};
@@ -7,6 +7,7 @@ ghost use Rattle.session_pres.specs.UserData.{IsUserData};
 ghost use Rattle.session_pres.specs.Presentation.{Request, IsCp, IsAc};
 ghost use Rattle.session_pres.specs.Written.{pdv_list, user_octets, field, data_spdu, release_spdu, length_field, accept_parameters, accept_spdu, IsOneElement};
 ghost use Rattle.session_pres.specs.WrittenPpdu.{connect_parameters, connect_spdu, set_content, cpa_parameters, cpa_octets};
+ghost use Rattle.session_pres.specs.Plain.{Asked, connects, spdu_from, cp_from};
 
 /// The CONNECT that is written asks for the contexts 1 and 3, and brings its APDU; the ACCEPT that is written for it is
 /// accepted, and brings its APDU.
@@ -47,4 +48,12 @@ pub fn short_ones_fit()
     ensures answer { (list : List Bool) (context : ℕ) (aare : List ℕ) → context < 2 ^ 32 → 9 * length list + length aare + 64 ≤ 2 ^ 32
         → length (set_content (cpa_parameters list context aare)) < 2 ^ 32 }
     ensures answer_length { (list : List Bool) (context : ℕ) (aare : List ℕ) → context < 2 ^ 32 → length (cpa_octets list context aare) ≤ 9 * length list + length aare + 64 }
+{}
+
+/// The answer to any CP that is no longer than a TSDU can be written, with an AARE of at most 16384 octets: each context
+/// of the CP's list takes eight octets or more, its result nine if it is one of the two that are accepted, and else five.
+pub fn an_answer_fits()
+    ensures fits { (ppdu : List ℕ) (cp : Asked) (aare : List ℕ) → cp_from ppdu ≡ Ok cp → length ppdu ≤ 70000 → length aare ≤ 16384
+        → (length (set_content (cpa_parameters cp.list cp.acse aare)) < 2 ^ 32) × (length (accept_parameters (cpa_octets cp.list cp.acse aare)) ≤ 65535) }
+    ensures within { (input ppdu : List ℕ) → spdu_from input ≡ Ok (connects ppdu) → length ppdu ≤ length input }
 {}

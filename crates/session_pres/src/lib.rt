@@ -14,7 +14,8 @@ mod writing;
 pub use contexts::Contexts;
 pub use fault::SpFault;
 pub use laws::{
-    a_connection_is_read_back, a_release_is_read_back, data_are_read_back, short_ones_fit,
+    a_connection_is_read_back, a_release_is_read_back, an_answer_fits, data_are_read_back,
+    short_ones_fit,
 };
 pub use pdv::read_data;
 pub use presentation::{Cp, read_ac, read_cp};

@@ -7,6 +7,7 @@ ghost use Rattle.session_pres.specs.declared.fault.SpFault.TheVariants as faults
 ghost use Rattle.session_pres.specs.Steps.{IsLacking, required};
 ghost use Rattle.session_pres.specs.UserData.{IsUserData, context_at, pair_at, pdv_at, pdv_list_at, user_data_at};
 ghost use Rattle.session_pres.specs.View.{pdv};
+ghost use Rattle.session_pres.specs.Plain.{pdv_now, pdv_from};
 
 use crate::fault::SpFault;
 use crate::row::{elements_of, only, single};
@@ -81,6 +82,7 @@ fn data_of(octets: &[u8]) -> Result<(u32, &[u8]), SpFault>
 pub fn read_data(octets: &[u8]) -> Result<(u32, &[u8]), SpFault>
     ensures reads { Reads {Y = ℕ × Piece} pdv result (IsUserData (piece octets.entry)) (IsLacking faults.Pdv (IsUserData (piece octets.entry))) }
     ensures exact { Gives {Y = ℕ × Piece} pdv result (required faults.Pdv (user_data_at (piece octets.entry))) }
+    ensures plain { Gives {Y = ℕ × List ℕ} pdv_now result (pdv_from octets.now) }
 {
     data_of(octets)
 }

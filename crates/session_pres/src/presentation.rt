@@ -7,6 +7,7 @@ ghost use Rattle.session_pres.specs.Places.{elements_at, tagged};
 ghost use Rattle.session_pres.specs.Presentation.{Request, IsCp, IsCpRefused, IsAc, IsAcRefused};
 ghost use Rattle.session_pres.specs.PresentationReading.{if_octets, normal_at, parameters_in, if_context, user_in, cp_at, accepted_at, cpa_at, ac_at};
 ghost use Rattle.session_pres.specs.View.{request_of};
+ghost use Rattle.session_pres.specs.Plain.{asked_of, cp_from, ac_from};
 
 use crate::contexts::{Contexts, choice, offer_of};
 use crate::fault::SpFault;
@@ -107,6 +108,7 @@ fn cp_of(ppdu: &[u8]) -> Result<Cp<'_>, SpFault>
 pub fn read_cp(ppdu: &[u8]) -> Result<Cp<'_>, SpFault>
     ensures reads { Reads request_of result (IsCp (piece ppdu.entry)) (IsCpRefused (piece ppdu.entry)) }
     ensures exact { Gives request_of result (cp_at (piece ppdu.entry)) }
+    ensures plain { Gives asked_of result (cp_from ppdu.now) }
 {
     cp_of(ppdu)
 }
@@ -158,6 +160,7 @@ fn ac_of(spdu: &[u8]) -> Result<&[u8], SpFault>
 pub fn read_ac(spdu: &[u8]) -> Result<&[u8], SpFault>
     ensures reads { Reads piece result (IsAc (piece spdu.entry)) (IsAcRefused (piece spdu.entry)) }
     ensures exact { Gives piece result (ac_at (piece spdu.entry)) }
+    ensures plain { Gives (λ apdu. apdu.now) result (ac_from spdu.now) }
 {
     ac_of(spdu)
 }

@@ -5,6 +5,7 @@ ghost use Rattle.ber_grammar.specs.Reader.{Gives, Reads};
 ghost use Rattle.session_pres.specs.Units.{begins, IsSpdu, IsSpduRefused, HasUser, IsUserRefused};
 ghost use Rattle.session_pres.specs.UnitReading.{counted_at, unit_at, user_of, data_of, transfer_at, spdu_at};
 ghost use Rattle.session_pres.specs.View.{seen};
+ghost use Rattle.session_pres.specs.Plain.{brought, user_now, spdu_from, dn_from};
 
 use crate::fault::SpFault;
 use crate::parameters::{length_of, user_data};
@@ -123,6 +124,8 @@ pub fn read_spdu(spdu: &[u8]) -> Result<Spdu<'_>, SpFault>
     // What the octets spell, with the places of its parts, else the refusal that the octets earn.
     ensures reads { Reads seen result (IsSpdu (piece spdu.entry)) (IsSpduRefused (piece spdu.entry)) }
     ensures exact { Gives seen result (spdu_at (piece spdu.entry)) }
+    // The octets that it brings don't depend on where the input lies.
+    ensures plain { Gives brought result (spdu_from spdu.now) }
 {
     spdu_of(spdu)
 }
@@ -134,6 +137,7 @@ pub fn read_spdu(spdu: &[u8]) -> Result<Spdu<'_>, SpFault>
 pub fn read_dn(spdu: &[u8]) -> Result<Option<&[u8]>, SpFault>
     ensures reads { Reads (λ user. option_map piece user) result (HasUser 10 (piece spdu.entry)) (IsUserRefused 10 (piece spdu.entry)) }
     ensures exact { Gives (λ user. option_map piece user) result (user_of 10 (piece spdu.entry)) }
+    ensures plain { Gives user_now result (dn_from spdu.now) }
 {
     user_data_of(DISCONNECT, spdu)
 }

@@ -14,11 +14,13 @@ use Rattle.tpkt_cotp.specs.Octets.{IsBytes}
 use Rattle.tpkt_cotp.specs.Packet.{packet, IsPartial}
 use Rattle.tpkt_cotp.specs.Parameters.{Parameter, spelled, IsAllowed, first_of_two, last_of, exponent_of, said}
 use Rattle.tpkt_cotp.specs.Tpdu.{IsConnection, IsTaken, tpdu_at}
-use Rattle.tpkt_cotp.specs.Stream.{start, Runs, StandsAt}
+use Rattle.tpkt_cotp.specs.declared.tsdus.Taken.{Taken}
+use Rattle.tpkt_cotp.specs.declared.transport.TransportIn.{TransportIn}
+use Rattle.tpkt_cotp.specs.Stream.{start, Runs, StandsAt, IsReady, StepsFrom, gift}
 use Rattle.tpkt_cotp.specs.Written.{size_parameter, selector, parameters_for, IsCr, Fits}
 use Rattle.tpkt_cotp.proofs.ParameterLaws.{if_code}
 use Rattle.tpkt_cotp.proofs.TpduLaws.{TpduTells, tpdu_tells}
-use Rattle.tpkt_cotp.proofs.StreamLaws.{IsBytes-front, IsBytes-back}
+use Rattle.tpkt_cotp.proofs.StreamLaws.{IsBytes-front, IsBytes-back, IsBytes-append}
 
 -- ---- what a CR says fits a CC
 
@@ -94,16 +96,25 @@ connection_fits li rest cr le is = subst IsCr (sym is.says) (said_fits (is.src_h
 
 -- ---- a run keeps within bounds
 
-taken_fits : (s t : State) (tpdu : List ℕ) (e : Option Tsdu) → IsBytes tpdu → length s.tsdu ≤ 70000 → IsTaken s tpdu t e → (length t.tsdu ≤ 70000) × AllByRecursion Fits (option_to_list e)
-taken_fits s t tpdu (Some (Connect cr)) bytes few (none, li, rest, whole, is, to) =
+given_fits : (s t : State) (tpdu : List ℕ) (e : Option Tsdu) → IsBytes tpdu → IsTaken s tpdu t e → AllByRecursion Fits (option_to_list e)
+given_fits s t tpdu (Some (Connect cr)) bytes (none, li, rest, whole, is, to) =
     let low : li < 256 = subst IsBytes whole bytes 0 in
-    (rw to few, (connection_fits li rest cr (omega arith) is, tt))
-taken_fits s t tpdu (Some (Data octets)) bytes few (there, nr, more, whole, end, is, count, to) = (rw to (omega arith), (count, tt))
-taken_fits s t tpdu (Some Disconnect) bytes few (li, code, rest, whole, header, is, to) = (rw to few, (tt, tt))
-taken_fits s t tpdu None bytes few (there, nr, more, whole, not_end, count, to) = (rw to count, tt)
+    (connection_fits li rest cr (omega arith) is, tt)
+given_fits s t tpdu (Some (Data octets)) bytes (there, nr, more, whole, end, is, count, to) = (count, tt)
+given_fits s t tpdu (Some Disconnect) bytes h = (tt, tt)
+given_fits s t tpdu None bytes h = tt
+
+taken_few : (s t : State) (tpdu : List ℕ) (e : Option Tsdu) → length s.tsdu ≤ 70000 → IsTaken s tpdu t e → length t.tsdu ≤ 70000
+taken_few s t tpdu (Some (Connect cr)) few (none, li, rest, whole, is, to) = rw to few
+taken_few s t tpdu (Some (Data octets)) few (there, nr, more, whole, end, is, count, to) = rw to (omega arith)
+taken_few s t tpdu (Some Disconnect) few (li, code, rest, whole, header, is, to) = rw to few
+taken_few s t tpdu None few (there, nr, more, whole, not_end, count, to) = rw to count
 
 step_taken : (s t : State) (tpdu : List ℕ) (e : Option Tsdu) → tpdu_at s tpdu ≡ Ok (t, e) → IsTaken s tpdu t e
 step_taken s t tpdu e h = subst (λ r. TpduTells s tpdu r) h (tpdu_tells s tpdu)
+
+of_packet : (tpdu : List ℕ) → IsBytes (packet tpdu) → IsBytes tpdu
+of_packet tpdu bytes i = bytes (suc (suc (suc (suc i))))
 
 all_both : (xs ys : List Tsdu) → AllByRecursion Fits xs → AllByRecursion Fits ys → AllByRecursion Fits (xs ++ ys)
 all_both [] ys p q = q
@@ -113,10 +124,10 @@ runs_fit : (s t : State) (tpdus : List (List ℕ)) (es : List Tsdu) → IsBytes 
 runs_fit s t [] es bytes few (none, same) = (rw same few, rw none tt)
 runs_fit s t (tpdu ∷ tpdus) es bytes few (mid, first, others, step, split, runs) =
     let all : IsBytes (packet tpdu ++ flat_map packet tpdus) = subst IsBytes (flat_map-cons packet tpdu tpdus) bytes in
-    let header : IsBytes (packet tpdu) = IsBytes-front (packet tpdu) (flat_map packet tpdus) all in
-    let one = taken_fits s mid tpdu first (λ i. header (suc (suc (suc (suc i))))) few (step_taken s mid tpdu first step) in
-    let rest = runs_fit mid t tpdus others (IsBytes-back (packet tpdu) (flat_map packet tpdus) all) one.0 runs in
-    (rest.0, rw split (all_both (option_to_list first) others one.1 rest.1))
+    let taken = step_taken s mid tpdu first step in
+    let one = given_fits s mid tpdu first (of_packet tpdu (IsBytes-front (packet tpdu) (flat_map packet tpdus) all)) taken in
+    let rest = runs_fit mid t tpdus others (IsBytes-back (packet tpdu) (flat_map packet tpdus) all) (taken_few s mid tpdu first few taken) runs in
+    (rest.0, rw split (all_both (option_to_list first) others one rest.1))
 
 -- Less than a TPKT is held, and of an open TSDU no more than one may have.
 pub kept : (dialled : Bool) (t : State) (rest octets : List ℕ) (es : List Tsdu) → StandsAt dialled t rest octets es → (length rest < 65535) × (length t.tsdu ≤ 70000)
@@ -131,3 +142,10 @@ pub all_fit : (dialled : Bool) (t : State) (rest octets : List ℕ) (es : List T
 all_fit dialled t rest octets es a =
     let bytes : IsBytes (flat_map packet a.takes.tpdus) = IsBytes-front (flat_map packet a.takes.tpdus) rest (subst IsBytes a.takes.whole a.fits) in
     (runs_fit (start dialled) t a.takes.tpdus es bytes (omega arith) a.takes.runs).1
+
+-- what one step gives
+pub step_fits : (t u : TransportIn) (piece rest : List ℕ) (taken : Option Taken) → IsBytes piece → IsReady t → StepsFrom t u piece taken rest → AllByRecursion Fits (option_to_list (gift taken))
+step_fits t u piece rest None bytes ready h = tt
+step_fits t u piece rest (Some taken) bytes ready ((tpdu, front, is, cut, whole, count, step, none), after) =
+    let all : IsBytes (t.held ++ front) = IsBytes-append t.held front ready.fits (IsBytes-front front rest (subst IsBytes cut bytes)) in
+    given_fits t.state u.state tpdu taken.tsdu (of_packet tpdu (subst IsBytes (sym whole) all)) (step_taken t.state u.state tpdu taken.tsdu step)

@@ -54,7 +54,7 @@ segments_give : (most : ℕ) (octets : List ℕ) (s : State) → s.connected ≡
 unfolding segments_of
 segments_give most octets s there few = segments_run ((length octets - 1) / most) most octets s there few
 
-tsdu_takes : (e : ℕ) (octets : List ℕ) (s : State) → IsExponent e → s.connected ≡ true → length (s.tsdu ++ octets) ≤ 70000 → Takes s (tsdu_of e octets) (Data (s.tsdu ++ octets) ∷ []) (with_tsdu s []) []
+pub tsdu_takes : (e : ℕ) (octets : List ℕ) (s : State) → IsExponent e → s.connected ≡ true → length (s.tsdu ++ octets) ≤ 70000 → Takes s (tsdu_of e octets) (Data (s.tsdu ++ octets) ∷ []) (with_tsdu s []) []
 unfolding tsdu_of
 tsdu_takes e octets s is there few =
     let b = room_bounds e is in

@@ -1,15 +1,17 @@
 ghost use Rattle.std.specs.Prelude.{◌≡◌, ◌≢◌, ℕ, ◌<◌, ◌≤◌, Bool, true, false, List, [], ◌∷◌, ◌++◌, length, Option, Some, None, Ok, Err, MatchOption, MatchResult};
+ghost use Rattle.std.specs.Option.{option_to_list};
 ghost use Rattle.std.specs.List.{AllByRecursion};
 ghost use Rattle.tpkt_cotp.specs.declared.fault.TpFault.{TpFault};
 ghost use Rattle.tpkt_cotp.specs.declared.state.State.{State};
 ghost use Rattle.tpkt_cotp.specs.declared.transport.TransportIn.{TransportIn};
 ghost use Rattle.tpkt_cotp.specs.declared.tsdus.Cr.{Cr};
+ghost use Rattle.tpkt_cotp.specs.declared.tsdus.Taken.{Taken};
 ghost use Rattle.tpkt_cotp.specs.declared.tsdus.Tsdu.{Tsdu};
 ghost use Rattle.tpkt_cotp.specs.declared.tsdus.Tsdu.TheVariants.{Connect, Data};
 ghost use Rattle.tpkt_cotp.specs.Octets.{IsBytes};
 ghost use Rattle.tpkt_cotp.specs.Packet.{packet, packet_at, IsTpdu, IsPartial, IsBad};
 ghost use Rattle.tpkt_cotp.specs.Tpdu.{tpdu_at, IsConnection, IsTaken, IsRefusedTpdu};
-ghost use Rattle.tpkt_cotp.specs.Stream.{StandsFor, IsRefused, IsOpen, Keeps};
+ghost use Rattle.tpkt_cotp.specs.Stream.{StandsFor, IsRefused, IsOpen, Keeps, IsReady, StepsFrom, gift};
 ghost use Rattle.tpkt_cotp.specs.Written.{IsCr, IsExponent, Fits, room, AreSegments, segments_of, tsdu_of, confirm_of, confirmed, call_of, called_with};
 
 /// TPKTs are read as RFC 1006 spells them: what reading gives is what the input spells, and the other way round. No TPKT
@@ -45,6 +47,7 @@ pub fn a_stream_gives_one_list()
 pub fn little_is_kept()
     ensures kept { (a : TransportIn) (dialled : Bool) (octets : List ℕ) (es : List Tsdu) → StandsFor a dialled octets es → Keeps a 65534 70000 }
     ensures fit { (a : TransportIn) (dialled : Bool) (octets : List ℕ) (es : List Tsdu) → StandsFor a dialled octets es → AllByRecursion Fits es }
+    ensures step { (a b : TransportIn) (piece rest : List ℕ) (taken : Option Taken) → IsBytes piece → IsReady a → StepsFrom a b piece taken rest → AllByRecursion Fits (option_to_list (gift taken)) }
 {}
 
 /// The DTs that `tsdu` writes are the only ones that carry the octets with each but the last full. Behind any stream that

@@ -1,5 +1,4 @@
-use Rattle.std.proofs.Common.{◌+◌, ap, sym, subst, ◌∙◌}
-use Rattle.std.specs.Prelude.{Err}
+use Rattle.std.proofs.Common.{◌+◌, subst}
 use Rattle.cfg_text.specs.Reader.{GivesText}
 use Rattle.cfg_text.specs.Looking.{look_at, looked_at}
 use Rattle.cfg_text.proofs.LookLaws.{err_of, passed-on, line-refused}

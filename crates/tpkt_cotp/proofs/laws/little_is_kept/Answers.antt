@@ -1,5 +1,6 @@
 use Rattle.tpkt_cotp.proofs.ObjectLaws as laws
+use Rattle.tpkt_cotp.proofs.KeptLaws as kept
 use Rattle.tpkt_cotp.proofs.laws.little_is_kept.Goals as goal
 
 pub returns : goal.returns
-returns c = record { kept = laws.keeps; fit = laws.fit }
+returns c = record { kept = laws.keeps; fit = laws.fit; step = kept.step_fits }

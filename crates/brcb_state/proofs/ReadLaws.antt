@@ -1,0 +1,39 @@
+-- What a component reads.
+use Rattle.std.proofs.Common.{◌≡◌, ℕ, List, [], ◌∷◌, refl, ap, ◌∙◌}
+use Rattle.std.specs.Prelude.{Option, None, Some, is_some}
+use Rattle.std.specs.Option.{option_map, option_map_or}
+use Rattle.sv_base.specs.declared.numbers.AssocNo.{AssocNo}
+use Rattle.sv_base.specs.declared.value.Value.TheVariants as kinds
+use Rattle.bay_model.specs.declared.step.Comp.{Comp}
+use Rattle.bay_model.specs.declared.step.Comp.TheVariants as comps
+use Rattle.bay_model.specs.Model.{Model, Parameters}
+use Rattle.bay_model.specs.Points.{Past}
+use Rattle.bay_model.specs.Entries.{Entry, selected}
+use Rattle.bay_model.specs.Components.{stamp_of, no_stamp, time_of_newest, read_component}
+use Rattle.brcb_state.specs.declared.block.Block.{Block}
+use Rattle.brcb_state.specs.Components.{read_of}
+use Rattle.brcb_state.specs.Standing.{Stands, kept_at, newest_of}
+
+newest-time : (es : List Entry) → option_map_or stamp_of (newest_of es) no_stamp ≡ time_of_newest es
+newest-time [] = refl
+newest-time (e ∷ []) = refl
+newest-time (e ∷ f ∷ es) = newest-time (f ∷ es)
+
+enabled-same : (e : Option AssocNo) → is_some e ≡ is_some (option_map (λ (a : AssocNo). a.0) e)
+enabled-same None = refl
+enabled-same (Some a) = refl
+
+pub reads : (c : Model) (b : ℕ) (comp : Comp) (past : Past) (s : Block) → Stands s c b past → read_of comp (kept_at c b past) (newest_of (selected c b past)) s ≡ read_component c b comp past
+reads c b comps.RptID past s st = ap (λ (o : Parameters). kinds.Text o.rpt_id) st.options
+reads c b comps.RptEna past s st = ap kinds.Bool (enabled-same s.enabler ∙ ap is_some st.enabler)
+reads c b comps.DatSet past s st = ap (λ (o : Parameters). kinds.Text o.dat_set) st.options
+reads c b comps.ConfRev past s st = ap kinds.Uint st.revision
+reads c b comps.OptFlds past s st = ap (λ (o : Parameters). kinds.Bits o.opt_flds) st.options
+reads c b comps.BufTm past s st = ap (λ (o : Parameters). kinds.Uint o.buf_tm) st.options
+reads c b comps.SqNum past s st = ap kinds.Uint st.count
+reads c b comps.TrgOps past s st = ap (λ (o : Parameters). kinds.Bits o.trg_ops) st.options
+reads c b comps.IntgPd past s st = ap (λ (o : Parameters). kinds.Uint o.intg_pd) st.options
+reads c b comps.GI past s st = refl
+reads c b comps.PurgeBuf past s st = refl
+reads c b comps.EntryID past s st = refl
+reads c b comps.TimeofEntry past s st = ap kinds.Stamp (newest-time (selected c b past))

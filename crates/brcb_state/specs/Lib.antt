@@ -1,0 +1,4 @@
+pub mod Changes
+pub mod Refusals
+pub mod Components
+pub mod Standing

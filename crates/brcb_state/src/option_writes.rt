@@ -1,0 +1,201 @@
+//! Writes of the components that a client sets once for many reports (IEC 61850-7-2, SetBRCBValues).
+
+ghost use Rattle.std.specs.Prelude.{◌≡◌, if◌then◌else◌};
+ghost use Rattle.brcb_state.specs.declared.kept.Effect.TheVariants as effects;
+
+use crate::block::Block;
+use crate::kept::Effect;
+use crate::options::MOST;
+use crate::writes::{HELD, INVALID, MISTYPED, is_empty};
+use sv_base::Value;
+
+/// What an accepted write brings about, where it is or isn't a change.
+fn purging(differs: bool) -> Effect
+    ensures { result ≡ (if differs then effects.PurgingChange else effects.Nothing) }
+{
+    if differs {
+        Effect::PurgingChange
+    } else {
+        Effect::Nothing
+    }
+}
+
+impl Block {
+    ghost use Rattle.std.specs.Prelude.{◌≡◌, ◌==◌, ◌&&◌, ◌||◌, ◌^◌, ◌<◌, not, nat_lt, nat_le, length, ℕ, Bool, false, is_none, is_some, Result, Ok, Err, OnOk, OnErr, if◌then◌else◌};
+    ghost use Rattle.sv_base.specs.declared.value.Value.TheVariants as kinds;
+    ghost use Rattle.bay_model.specs.declared.step.Comp.TheVariants as comps;
+    ghost use Rattle.bay_model.specs.Parameters.{next_revision};
+    ghost use Rattle.brcb_state.specs.declared.kept.Effect.TheVariants as effects;
+    ghost use Rattle.brcb_state.specs.Changes.{written, effect_of};
+    ghost use Rattle.brcb_state.specs.Refusals.{answer_to, is_no_set, anyone};
+
+    fn set_rpt_id(&mut self, text: &[u8]) -> Result<Effect, u8>
+        ensures answer { result ≡ answer_to anyone comps.RptID (kinds.Text text.now) false self.old }
+        ensures written { OnOk result (self.new ≡ written anyone comps.RptID (kinds.Text text.now) 0 self.old) }
+        ensures unchanged { OnErr result (self.new ≡ self.old) }
+    {
+        if self.enabler.is_some() {
+            return Err(HELD);
+        }
+        if text.len() > MOST {
+            return Err(INVALID);
+        }
+        let differs = self.options.set_rpt_id(text);
+        Ok(purging(differs))
+    }
+
+    pub(crate) fn write_rpt_id(&mut self, value: &Value) -> Result<Effect, u8>
+        ensures answer { result ≡ answer_to anyone comps.RptID value.now false self.old }
+        ensures written { OnOk result (self.new ≡ written anyone comps.RptID value.now 0 self.old) }
+        ensures unchanged { OnErr result (self.new ≡ self.old) }
+    {
+        match value {
+            Value::Text(text) => self.set_rpt_id(text.as_slice()),
+            _ => Err(MISTYPED),
+        }
+    }
+
+    /// ConfRev after a write of DatSet.
+    fn revision_after(&self, differs: bool) -> u32
+        ensures { result ≡ (if differs then next_revision self.now.revision else self.now.revision) }
+    {
+        if !differs {
+            self.revision
+        } else if self.revision == u32::MAX {
+            1
+        } else {
+            self.revision + 1
+        }
+    }
+
+    fn set_dat_set(&mut self, text: &[u8], known: bool) -> Result<Effect, u8>
+        ensures answer { result ≡ answer_to anyone comps.DatSet (kinds.Text text.now) (is_no_set known (kinds.Text text.now)) self.old }
+        ensures written { OnOk result (self.new ≡ written anyone comps.DatSet (kinds.Text text.now) 0 self.old) }
+        ensures unchanged { OnErr result (self.new ≡ self.old) }
+    {
+        if self.enabler.is_some() {
+            return Err(HELD);
+        }
+        if text.len() > MOST || !(is_empty(text) || known) {
+            return Err(INVALID);
+        }
+        let differs = self.options.set_dat_set(text);
+        self.revision = self.revision_after(differs);
+        Ok(purging(differs))
+    }
+
+    pub(crate) fn write_dat_set(&mut self, value: &Value, known: bool) -> Result<Effect, u8>
+        ensures answer { result ≡ answer_to anyone comps.DatSet value.now (is_no_set known value.now) self.old }
+        ensures written { OnOk result (self.new ≡ written anyone comps.DatSet value.now 0 self.old) }
+        ensures unchanged { OnErr result (self.new ≡ self.old) }
+    {
+        match value {
+            Value::Text(text) => self.set_dat_set(text.as_slice(), known),
+            _ => Err(MISTYPED),
+        }
+    }
+
+    fn set_opt_flds(&mut self, bits: &[bool]) -> Result<Effect, u8>
+        ensures answer { result ≡ answer_to anyone comps.OptFlds (kinds.Bits bits.now) false self.old }
+        ensures written { OnOk result (self.new ≡ written anyone comps.OptFlds (kinds.Bits bits.now) 0 self.old) }
+        ensures unchanged { OnErr result (self.new ≡ self.old) }
+    {
+        if bits.len() != 10 {
+            return Err(MISTYPED);
+        }
+        if self.enabler.is_some() {
+            return Err(HELD);
+        }
+        self.options.set_opt_flds(bits);
+        Ok(Effect::Nothing)
+    }
+
+    pub(crate) fn write_opt_flds(&mut self, value: &Value) -> Result<Effect, u8>
+        ensures answer { result ≡ answer_to anyone comps.OptFlds value.now false self.old }
+        ensures written { OnOk result (self.new ≡ written anyone comps.OptFlds value.now 0 self.old) }
+        ensures unchanged { OnErr result (self.new ≡ self.old) }
+    {
+        match value {
+            Value::Bits(bits) => self.set_opt_flds(bits.as_slice()),
+            _ => Err(MISTYPED),
+        }
+    }
+
+    fn set_trg_ops(&mut self, bits: &[bool]) -> Result<Effect, u8>
+        ensures answer { result ≡ answer_to anyone comps.TrgOps (kinds.Bits bits.now) false self.old }
+        ensures written { OnOk result (self.new ≡ written anyone comps.TrgOps (kinds.Bits bits.now) 0 self.old) }
+        ensures unchanged { OnErr result (self.new ≡ self.old) }
+    {
+        if bits.len() != 6 {
+            return Err(MISTYPED);
+        }
+        if self.enabler.is_some() {
+            return Err(HELD);
+        }
+        let differs = self.options.set_trg_ops(bits);
+        Ok(purging(differs))
+    }
+
+    pub(crate) fn write_trg_ops(&mut self, value: &Value) -> Result<Effect, u8>
+        ensures answer { result ≡ answer_to anyone comps.TrgOps value.now false self.old }
+        ensures written { OnOk result (self.new ≡ written anyone comps.TrgOps value.now 0 self.old) }
+        ensures unchanged { OnErr result (self.new ≡ self.old) }
+    {
+        match value {
+            Value::Bits(bits) => self.set_trg_ops(bits.as_slice()),
+            _ => Err(MISTYPED),
+        }
+    }
+
+    fn set_buf_tm(&mut self, n: u64) -> Result<Effect, u8>
+        ensures answer { result ≡ answer_to anyone comps.BufTm (kinds.Uint n) false self.old }
+        ensures written { OnOk result (self.new ≡ written anyone comps.BufTm (kinds.Uint n) 0 self.old) }
+        ensures unchanged { OnErr result (self.new ≡ self.old) }
+    {
+        if self.enabler.is_some() {
+            return Err(HELD);
+        }
+        if n > u32::MAX as u64 {
+            return Err(INVALID);
+        }
+        let differs = self.options.set_buf_tm(n as u32);
+        Ok(purging(differs))
+    }
+
+    pub(crate) fn write_buf_tm(&mut self, value: &Value) -> Result<Effect, u8>
+        ensures answer { result ≡ answer_to anyone comps.BufTm value.now false self.old }
+        ensures written { OnOk result (self.new ≡ written anyone comps.BufTm value.now 0 self.old) }
+        ensures unchanged { OnErr result (self.new ≡ self.old) }
+    {
+        match value {
+            Value::Uint(n) => self.set_buf_tm(*n),
+            _ => Err(MISTYPED),
+        }
+    }
+
+    fn set_intg_pd(&mut self, n: u64) -> Result<Effect, u8>
+        ensures answer { result ≡ answer_to anyone comps.IntgPd (kinds.Uint n) false self.old }
+        ensures written { OnOk result (self.new ≡ written anyone comps.IntgPd (kinds.Uint n) 0 self.old) }
+        ensures unchanged { OnErr result (self.new ≡ self.old) }
+    {
+        if self.enabler.is_some() {
+            return Err(HELD);
+        }
+        if n > u32::MAX as u64 {
+            return Err(INVALID);
+        }
+        let differs = self.options.set_intg_pd(n as u32);
+        Ok(purging(differs))
+    }
+
+    pub(crate) fn write_intg_pd(&mut self, value: &Value) -> Result<Effect, u8>
+        ensures answer { result ≡ answer_to anyone comps.IntgPd value.now false self.old }
+        ensures written { OnOk result (self.new ≡ written anyone comps.IntgPd value.now 0 self.old) }
+        ensures unchanged { OnErr result (self.new ≡ self.old) }
+    {
+        match value {
+            Value::Uint(n) => self.set_intg_pd(*n),
+            _ => Err(MISTYPED),
+        }
+    }
+}

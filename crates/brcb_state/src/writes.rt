@@ -1,0 +1,254 @@
+//! Writes of a block's components (IEC 61850-7-2, SetBRCBValues).
+
+ghost use Rattle.std.specs.Prelude.{◌≡◌, ℕ, not, if◌then◌else◌};
+ghost use Rattle.bay_model.specs.Model.{uint, stamp};
+ghost use Rattle.bay_model.specs.Kinds.{is_kind};
+ghost use Rattle.sv_base.specs.declared.value.Value.TheVariants as kinds;
+ghost use Rattle.bay_model.specs.Breaks.{is_empty as is_empty_list};
+ghost use Rattle.brcb_state.specs.declared.kept.Effect.TheVariants as effects;
+ghost use Rattle.brcb_state.specs.Refusals.{is_retained_or_zero};
+
+use crate::block::{Block, bit};
+use crate::kept::{Effect, Kept};
+use bay_model::Comp;
+use sv_base::{AssocNo, Value};
+
+/// The write is held.
+pub const HELD: u8 = 2;
+/// The component isn't writable.
+pub const READ_ONLY: u8 = 3;
+/// The value is of another type.
+pub const MISTYPED: u8 = 7;
+/// The value contradicts another component.
+pub const CONTRADICTING: u8 = 8;
+/// The value is out of its range, or names nothing.
+pub const INVALID: u8 = 11;
+
+pub fn is_empty(octets: &[u8]) -> bool
+    ensures { result ≡ is_empty_list octets.now }
+{
+    matches!(octets, [])
+}
+
+/// The entry of a number is retained, or the number is zero.
+fn is_retained_or_zero(kept: Kept, n: u64) -> bool
+    ensures { result ≡ is_retained_or_zero kept n }
+{
+    n == 0 || (kept.front < n && n <= kept.len)
+}
+
+/// What a number that isn't writable refuses a value by.
+fn number_refusal(value: &Value) -> u8
+    ensures revision { result ≡ (if not (is_kind (uint 32) value.now) then 7 else 3) }
+    ensures count { result ≡ (if not (is_kind (uint 16) value.now) then 7 else 3) }
+{
+    match value {
+        Value::Uint(_) => READ_ONLY,
+        _ => MISTYPED,
+    }
+}
+
+/// What a time that isn't writable refuses a value by.
+fn stamp_refusal(value: &Value) -> u8
+    ensures { result ≡ (if not (is_kind stamp value.now) then 7 else 3) }
+{
+    match value {
+        Value::Stamp(_) => READ_ONLY,
+        _ => MISTYPED,
+    }
+}
+
+impl Block {
+    ghost use Rattle.sv_base.specs.declared.numbers.AssocNo.{AssocNo};
+    ghost use Rattle.std.specs.Prelude.{◌≡◌, ◌==◌, ◌&&◌, ℕ, Bool, false, is_none, is_some, min, Result, Ok, Err, OnOk, OnErr, if◌then◌else◌};
+    ghost use Rattle.sv_base.specs.declared.value.Value.TheVariants as kinds;
+    ghost use Rattle.bay_model.specs.declared.step.Comp.TheVariants as comps;
+    ghost use Rattle.brcb_state.specs.declared.kept.Kept.{Kept};
+    ghost use Rattle.brcb_state.specs.declared.kept.Effect.TheVariants as effects;
+    ghost use Rattle.brcb_state.specs.Changes.{written, effect_of};
+    ghost use Rattle.brcb_state.specs.Refusals.{answer_to, names_nothing, is_no_entry, is_retained_or_zero, anyone};
+
+    /// The count of reports after RptEna.
+    fn count_after(&self, on: bool) -> u16
+        ensures { result ≡ (if on && is_none self.now.enabler then 0 else self.now.count) }
+    {
+        if on && self.enabler.is_none() {
+            0
+        } else {
+            self.count
+        }
+    }
+
+    /// What an accepted RptEna brings about.
+    fn effect_of_enabling(&self, on: bool) -> Effect
+        ensures { result ≡ effect_of comps.RptEna (kinds.Bool on) self.now }
+    {
+        match (on, self.enabler.is_some()) {
+            (true, false) => Effect::Enabled,
+            (false, true) => Effect::Disabled,
+            _ => Effect::Nothing,
+        }
+    }
+
+    fn enable(&mut self, a: AssocNo, on: bool) -> Result<Effect, u8>
+        ensures answer { result ≡ answer_to a comps.RptEna (kinds.Bool on) false self.old }
+        ensures written { OnOk result (self.new ≡ written a comps.RptEna (kinds.Bool on) 0 self.old) }
+        ensures unchanged { OnErr result (self.new ≡ self.old) }
+    {
+        if self.is_enabled_by_another(a) {
+            return Err(HELD);
+        }
+        if on && is_empty(self.options.dat_set()) {
+            return Err(CONTRADICTING);
+        }
+        let effect = self.effect_of_enabling(on);
+        self.count = self.count_after(on);
+        self.enabler = if on { Some(a) } else { None };
+        Ok(effect)
+    }
+
+    fn write_rpt_ena(&mut self, a: AssocNo, value: &Value) -> Result<Effect, u8>
+        ensures answer { result ≡ answer_to a comps.RptEna value.now false self.old }
+        ensures written { OnOk result ((front : ℕ) → self.new ≡ written a comps.RptEna value.now front self.old) }
+        ensures unchanged { OnErr result (self.new ≡ self.old) }
+    {
+        match value {
+            Value::Bool(on) => self.enable(a, *on),
+            _ => Err(MISTYPED),
+        }
+    }
+
+    /// The cursor after an accepted EntryID.
+    fn resumed(&self, n: u64, front: u64) -> u64
+        ensures { result ≡ (if n == 0 then min self.now.cursor front else n) }
+    {
+        if n == 0 { self.cursor.min(front) } else { n }
+    }
+
+    fn resume(&mut self, n: u64, kept: Kept) -> Result<Effect, u8>
+        ensures answer { result ≡ (if is_some self.old.enabler then Err 2 else (if is_retained_or_zero kept n then Ok effects.Nothing else Err 11)) }
+        ensures written { OnOk result (self.new ≡ record self.old { cursor = if n == 0 then min self.old.cursor kept.front else n }) }
+        ensures unchanged { OnErr result (self.new ≡ self.old) }
+    {
+        if self.enabler.is_some() {
+            return Err(HELD);
+        }
+        if !is_retained_or_zero(kept, n) {
+            return Err(INVALID);
+        }
+        self.cursor = self.resumed(n, kept.front);
+        Ok(Effect::Nothing)
+    }
+
+    fn resume_at(&mut self, a: AssocNo, octets: &[u8], kept: Kept) -> Result<Effect, u8>
+        ensures answer { result ≡ answer_to a comps.EntryID (kinds.Octets octets.now) (is_no_entry kept (kinds.Octets octets.now)) self.old }
+        ensures written { OnOk result (self.new ≡ written a comps.EntryID (kinds.Octets octets.now) kept.front self.old) }
+        ensures unchanged { OnErr result (self.new ≡ self.old) }
+    {
+        match octets.as_array::<8>() {
+            Some(id) => self.resume(u64::from_be_bytes(*id), kept),
+            None => Err(MISTYPED),
+        }
+    }
+
+    fn write_entry_id(&mut self, a: AssocNo, value: &Value, kept: Kept) -> Result<Effect, u8>
+        ensures answer { result ≡ answer_to a comps.EntryID value.now (is_no_entry kept value.now) self.old }
+        ensures written { OnOk result (self.new ≡ written a comps.EntryID value.now kept.front self.old) }
+        ensures unchanged { OnErr result (self.new ≡ self.old) }
+    {
+        match value {
+            Value::Octets(octets) => self.resume_at(a, octets.as_slice(), kept),
+            _ => Err(MISTYPED),
+        }
+    }
+
+    fn purge(&self, on: bool) -> Result<Effect, u8>
+        ensures { result ≡ answer_to anyone comps.PurgeBuf (kinds.Bool on) false self.now }
+    {
+        if self.enabler.is_some() {
+            return Err(HELD);
+        }
+        if on {
+            Ok(Effect::Purge)
+        } else {
+            Ok(Effect::Nothing)
+        }
+    }
+
+    fn write_purge_buf(&self, value: &Value) -> Result<Effect, u8>
+        ensures { result ≡ answer_to anyone comps.PurgeBuf value.now false self.now }
+    {
+        match value {
+            Value::Bool(on) => self.purge(*on),
+            _ => Err(MISTYPED),
+        }
+    }
+
+    fn interrogate(&self, a: AssocNo, on: bool) -> Result<Effect, u8>
+        ensures { result ≡ answer_to a comps.GI (kinds.Bool on) false self.now }
+    {
+        if !on {
+            return if self.is_enabled_by_another(a) {
+                Err(HELD)
+            } else {
+                Ok(Effect::Nothing)
+            };
+        }
+        if !self.is_enabled_by(a) {
+            return Err(HELD);
+        }
+        if !bit(5, self.options.trg_ops()) {
+            return Err(CONTRADICTING);
+        }
+        Ok(Effect::General)
+    }
+
+    fn write_gi(&self, a: AssocNo, value: &Value) -> Result<Effect, u8>
+        ensures { result ≡ answer_to a comps.GI value.now false self.now }
+    {
+        match value {
+            Value::Bool(on) => self.interrogate(a, *on),
+            _ => Err(MISTYPED),
+        }
+    }
+
+    /// Writes a component for an association; tells what that brings about besides, or the code of the first refusal:
+    ///
+    /// - 7 where the value is of another type, a bit string of another length, or an EntryID not of eight octets;
+    /// - 3 where the component is ConfRev, SqNum or TimeofEntry;
+    /// - 2 where it is held: RptEna where another association has enabled the block, GI TRUE where the writer hasn't, GI
+    ///   FALSE where another has, all else where any has;
+    /// - 8 for RptEna TRUE with an empty DatSet, and for GI TRUE where bit 5 of TrgOps is unset;
+    /// - 11 where a number is above 4294967295 or a text longer than 129 octets, for a DatSet that is neither empty nor
+    ///   `known`, which says that it names a set, and for an EntryID that is neither zero nor of a retained entry.
+    ///
+    /// `kept` tells which entries are retained. A refused write changes nothing. It takes no memory.
+    pub fn write(
+        &mut self,
+        a: AssocNo,
+        comp: Comp,
+        value: &Value,
+        kept: Kept,
+        known: bool,
+    ) -> Result<Effect, u8>
+        ensures answer { result ≡ answer_to a comp value.now (names_nothing kept known comp value.now) self.old }
+        ensures written { OnOk result (self.new ≡ written a comp value.now kept.front self.old) }
+        ensures unchanged { OnErr result (self.new ≡ self.old) }
+    {
+        match comp {
+            Comp::RptID => self.write_rpt_id(value),
+            Comp::RptEna => self.write_rpt_ena(a, value),
+            Comp::DatSet => self.write_dat_set(value, known),
+            Comp::ConfRev => Err(number_refusal(value)),
+            Comp::OptFlds => self.write_opt_flds(value),
+            Comp::BufTm => self.write_buf_tm(value),
+            Comp::SqNum => Err(number_refusal(value)),
+            Comp::TrgOps => self.write_trg_ops(value),
+            Comp::IntgPd => self.write_intg_pd(value),
+            Comp::GI => self.write_gi(a, value),
+            Comp::PurgeBuf => self.write_purge_buf(value),
+            Comp::EntryID => self.write_entry_id(a, value, kept),
+            Comp::TimeofEntry => Err(stamp_refusal(value)),
+        }
+    }
+}

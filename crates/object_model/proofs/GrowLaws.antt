@@ -1,0 +1,105 @@
+-- What one more group grows.
+use Rattle.std.proofs.Common.{◌≡◌, ℕ, zero, suc, ◌+◌, ◌-◌, ◌<◌, ◌≤◌, ◌==◌, subst, take_all, Bool, true, false, ◌&&◌, List, [], ◌∷◌, ◌++◌, map, length, get_or, take, refl, sym, ap, ◌∙◌, append_assoc, append-nil, arith}
+use Rattle.std.proofs.lemmas.List.{map-append, take_more}
+use Rattle.sv_base.specs.Types.{Fields, no_field, field}
+use Rattle.sv_base.specs.declared.types.TypeOf.{TypeOf}
+use Rattle.sv_base.specs.declared.types.TypeOf.TheVariants as types
+use Rattle.std.proofs.lemmas.Bool.Decides.{nat_tests}
+use Rattle.sv_base.specs.Fields.{fields_of, parts_of, shape_of, type_of}
+use Rattle.sv_base.proofs.FieldLaws.{type-shape, fields-parts}
+use Rattle.bay_model.specs.Generated.{Named}
+use Rattle.bay_model.specs.NameTree.{longest, tree_of, named, role_of, own_type, grown, below, side_by_side, first_names}
+use Rattle.bay_model.specs.Places.{Place, place, places, fields, attrs_in, are_data, type_with, attrs_of_role, is_data_role}
+use Rattle.object_model.specs.Groups.{Group, group_at, groups}
+use Rattle.object_model.specs.Grown.{IsGrown, attr_id, spot, spot_with, forest_of}
+use Rattle.object_model.specs.declared.growth.Grown.{Grown}
+
+side : (l : ℕ) (ns : List Named) (names : List (List ℕ)) → side_by_side (λ name others. named name (role_of (below name ns)) (own_type (below name ns)) (grown l (below name ns)) others) names ≡ forest_of l (map (group_at ns) names)
+side l ns [] = refl
+side l ns (n ∷ names) = ap (λ o. named n (role_of (below n ns)) (own_type (below n ns)) (grown l (below n ns)) o) (side l ns names)
+
+pub grown-groups : (levels : ℕ) (ns : List Named) → 0 < levels → grown levels ns ≡ forest_of (levels - 1) (groups ns)
+grown-groups zero ns h = absurd (omega (arith, h))
+grown-groups (suc l) ns h = side l ns (first_names ns) ∙ ap (λ n. forest_of n (groups ns)) (omega arith)
+
+-- the node of a group, and the nodes of its parts
+abbrev node : List ℕ → ℕ → Group → Place
+node before l g = place (before ++ g.name) (role_of g.names) (own_type g.names) (grown l g.names)
+
+abbrev parts_in : List ℕ → ℕ → Group → List Place
+parts_in before l g = places (before ++ g.name ++ 36 ∷ []) (grown l g.names)
+
+places-more : (before : List ℕ) (l : ℕ) (gs : List Group) (g : Group) → places before (forest_of l (gs ++ g ∷ [])) ≡ places before (forest_of l gs) ++ (node before l g ∷ parts_in before l g)
+places-more before l [] g = ap (λ ps. node before l g ∷ ps) (append-nil (parts_in before l g))
+places-more before l (h ∷ hs) g = ap (λ ps. node before l h ∷ (parts_in before l h ++ ps)) (places-more before l hs g)
+    ∙ ap (λ ps. node before l h ∷ ps) (sym (append_assoc (parts_in before l h) (places before (forest_of l hs)) (node before l g ∷ parts_in before l g)))
+
+parts-more : (l : ℕ) (gs : List Group) (g : Group) → parts_of (fields (forest_of l (gs ++ g ∷ []))) ≡ parts_of (fields (forest_of l gs)) ++ record { name = g.name; kind = type_with (own_type g.names) (fields (grown l g.names)) } ∷ []
+parts-more l [] g = ap (λ k. record { name = g.name; kind = k } ∷ []) (type-shape (type_with (own_type g.names) (fields (grown l g.names))))
+parts-more l (h ∷ hs) g = ap (λ ps. record { name = h.name; kind = type_of (shape_of (type_with (own_type h.names) (fields (grown l h.names)))) } ∷ ps) (parts-more l hs g)
+
+attrs-more : (l : ℕ) (gs : List Group) (g : Group) → attrs_in (forest_of l (gs ++ g ∷ [])) ≡ attrs_in (forest_of l gs) ++ (attrs_of_role (role_of g.names) ++ attrs_in (grown l g.names))
+attrs-more l [] g = append-nil (attrs_of_role (role_of g.names) ++ attrs_in (grown l g.names))
+attrs-more l (h ∷ hs) g = ap (λ as_. (attrs_of_role (role_of h.names) ++ attrs_in (grown l h.names)) ++ as_) (attrs-more l hs g)
+    ∙ sym (append_assoc (attrs_of_role (role_of h.names) ++ attrs_in (grown l h.names)) (attrs_in (forest_of l hs)) (attrs_of_role (role_of g.names) ++ attrs_in (grown l g.names)))
+
+both : (a b : Bool) → a && b && true ≡ a && b
+both true true = refl
+both true false = refl
+both false b = refl
+
+regroup : (a b c d : Bool) → a && b && (c && d) ≡ (a && b && c) && d
+regroup true true c d = refl
+regroup true false c d = refl
+regroup false b c d = refl
+
+data-more : (l : ℕ) (gs : List Group) (g : Group) → are_data (forest_of l (gs ++ g ∷ [])) ≡ are_data (forest_of l gs) && (is_data_role (role_of g.names) && are_data (grown l g.names))
+data-more l [] g = both (is_data_role (role_of g.names)) (are_data (grown l g.names))
+data-more l (h ∷ hs) g = ap (λ b. is_data_role (role_of h.names) && are_data (grown l h.names) && b) (data-more l hs g)
+    ∙ regroup (is_data_role (role_of h.names)) (are_data (grown l h.names)) (are_data (forest_of l hs)) (is_data_role (role_of g.names) && are_data (grown l g.names))
+
+-- the code's node of a group whose parts have grown
+spot-is : (before : List ℕ) (l : ℕ) (g : Group) (b : Grown) → IsGrown b (before ++ g.name ++ 36 ∷ []) (grown l g.names) → spot_with (before ++ g.name) g (fields_of b.parts.items) b.attrs.items b.is_data ≡ spot (node before l g)
+spot-is before l g b h = ap (λ fs. spot_with (before ++ g.name) g fs b.attrs.items b.is_data) (ap fields_of h.parts ∙ fields-parts (fields (grown l g.names)))
+    ∙ (ap (λ as_. record { item = before ++ g.name; kind = type_with (own_type g.names) (fields (grown l g.names)); attrs = as_; is_data = is_data_role (role_of g.names) && b.is_data })
+    (ap (λ as_. map attr_id (attrs_of_role (role_of g.names)) ++ as_) h.attrs ∙ sym (map-append attr_id (attrs_of_role (role_of g.names)) (attrs_in (grown l g.names))))
+    ∙ ap (λ d. record { item = before ++ g.name; kind = type_with (own_type g.names) (fields (grown l g.names)); attrs = map attr_id (attrs_of_role (role_of g.names) ++ attrs_in (grown l g.names)); is_data = is_data_role (role_of g.names) && d }) h.is_data)
+
+-- what adding a group does
+pub record Added (old new : Grown) (before : List ℕ) (g : Group) (b : Grown) : Type 0 where
+  pub spots : new.spots.items ≡ old.spots.items ++ (spot_with (before ++ g.name) g (fields_of b.parts.items) b.attrs.items b.is_data ∷ b.spots.items)
+  pub parts : new.parts.items ≡ old.parts.items ++ record { name = g.name; kind = type_with (own_type g.names) (fields_of b.parts.items) } ∷ []
+  pub attrs : new.attrs.items ≡ old.attrs.items ++ (map attr_id (attrs_of_role (role_of g.names)) ++ b.attrs.items)
+  pub is_data : new.is_data ≡ old.is_data && (is_data_role (role_of g.names) && b.is_data)
+
+pub grown-more : (before : List ℕ) (l : ℕ) (gs : List Group) (i : ℕ) (g : Group) (old new b : Grown) → i < length gs → g ≡ get_or gs i g → IsGrown old before (forest_of l (take i gs)) → IsGrown b (before ++ g.name ++ 36 ∷ []) (grown l g.names) → Added old new before g b
+    → IsGrown new before (forest_of l (take (i + 1) gs))
+grown-more before l gs i g old new b h e o p a = let next : take (i + 1) gs ≡ take i gs ++ g ∷ [] = take_more gs i g h ∙ ap (λ x. take i gs ++ x ∷ []) (sym e) in record {
+  spots = a.spots ∙ (ap (λ x. old.spots.items ++ (x ∷ b.spots.items)) (spot-is before l g b p) ∙ (ap (λ x. old.spots.items ++ (spot (node before l g) ∷ x)) p.spots ∙ (ap (λ x. x ++ (spot (node before l g) ∷ map spot (parts_in before l g))) o.spots
+      ∙ sym (ap (λ x. map spot (places before (forest_of l x))) next ∙ (ap (map spot) (places-more before l (take i gs) g) ∙ map-append spot (places before (forest_of l (take i gs))) (node before l g ∷ parts_in before l g))))));
+  parts = a.parts ∙ (ap (λ fs. old.parts.items ++ record { name = g.name; kind = type_with (own_type g.names) fs } ∷ []) (ap fields_of p.parts ∙ fields-parts (fields (grown l g.names)))
+      ∙ (ap (λ x. x ++ record { name = g.name; kind = type_with (own_type g.names) (fields (grown l g.names)) } ∷ []) o.parts ∙ sym (ap (λ x. parts_of (fields (forest_of l x))) next ∙ parts-more l (take i gs) g)));
+  attrs = a.attrs ∙ (ap (λ x. old.attrs.items ++ (map attr_id (attrs_of_role (role_of g.names)) ++ x)) p.attrs ∙ (ap (λ x. old.attrs.items ++ x) (sym (map-append attr_id (attrs_of_role (role_of g.names)) (attrs_in (grown l g.names))))
+      ∙ (ap (λ x. x ++ map attr_id (attrs_of_role (role_of g.names) ++ attrs_in (grown l g.names))) o.attrs ∙ sym (ap (λ x. map attr_id (attrs_in (forest_of l x))) next ∙ (ap (map attr_id) (attrs-more l (take i gs) g) ∙ map-append attr_id (attrs_in (forest_of l (take i gs))) (attrs_of_role (role_of g.names) ++ attrs_in (grown l g.names)))))));
+  is_data = a.is_data ∙ (ap (λ x. old.is_data && (is_data_role (role_of g.names) && x)) p.is_data ∙ (ap (λ x. x && (is_data_role (role_of g.names) && are_data (grown l g.names))) o.is_data ∙ sym (ap (λ x. are_data (forest_of l x)) next ∙ data-more l (take i gs) g)));
+}
+
+-- a type with parts and one without
+pub with_parts : (own : TypeOf) (fs : Fields) → (length (parts_of fs) == 0) ≡ false → type_with own fs ≡ types.Struct fs
+with_parts own no_field h = absurd (grind (arith, nat_tests))
+with_parts own (field n s fs) h = refl
+
+pub without_parts : (own : TypeOf) (fs : Fields) → (length (parts_of fs) == 0) ≡ true → type_with own fs ≡ own
+without_parts own no_field h = refl
+without_parts own (field n s fs) h = absurd (grind (arith, nat_tests))
+
+pub parts_grown : (b : Grown) (before : List ℕ) (l : ℕ) (g : Group) (front : List ℕ) (names : List Named) → front ≡ before ++ g.name ++ 36 ∷ [] → names ≡ g.names → IsGrown b front (grown l names) → IsGrown b (before ++ g.name ++ 36 ∷ []) (grown l g.names)
+parts_grown b before l g front names e n p = subst (λ f. IsGrown b f (grown l g.names)) e (subst (λ ns. IsGrown b front (grown l ns)) n p)
+
+-- all groups
+pub whole : (b : Grown) (before : List ℕ) (levels : ℕ) (ns : List Named) (gs : List Group) (i : ℕ) → 0 < levels → length gs ≤ i → gs ≡ groups ns → IsGrown b before (forest_of (levels - 1) (take i gs)) → IsGrown b before (grown levels ns)
+whole b before levels ns gs i h l e p = subst (λ f. IsGrown b before f) (ap (forest_of (levels - 1)) (take_all i gs l ∙ e) ∙ sym (grown-groups levels ns h)) p
+
+-- as many levels as the tree has
+pub all-levels : (levels : ℕ) (ns ms most : List Named) → levels ≡ suc (longest most) → most ≡ ns → ms ≡ ns → map spot (places [] (grown levels ms)) ≡ map spot (places [] (tree_of ns))
+all-levels levels ns ms most e f g = ap (λ l. map spot (places [] (grown l ms))) (e ∙ ap (λ l. suc (longest l)) f) ∙ ap (λ l. map spot (places [] (grown (suc (longest ns)) l))) g

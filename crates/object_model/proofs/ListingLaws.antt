@@ -1,0 +1,66 @@
+-- What one more domain does to what is listed.
+use Rattle.std.proofs.Common.{◌≡◌, ℕ, zero, suc, ◌+◌, ◌<◌, List, [], ◌∷◌, ◌++◌, map, flat_map, length, take, get_or, refl, sym, ap, subst, ◌∙◌, append_assoc, append-nil, arith, length-append}
+use Rattle.std.proofs.Math.Seq.{take-length}
+use Rattle.std.proofs.lemmas.List.{take_more, get_or_default}
+use Rattle.sv_base.specs.declared.config.Config.{Config}
+use Rattle.bay_model.specs.Names.{sorted}
+use Rattle.bay_model.specs.NamedLines.{Line, domains, lines, in_order}
+use Rattle.object_model.specs.declared.growth.Spot.{Spot}
+use Rattle.object_model.specs.declared.listing.Directory.{Directory}
+use Rattle.object_model.specs.declared.listing.Listing.{Listing}
+use Rattle.object_model.specs.Indexes.{IndexesFrom}
+use Rattle.object_model.specs.Nodes.{spots_in, row, rows_from, name_at, node_rows, node_names}
+use Rattle.object_model.specs.Listed.{items_of, spots_from, first_of, IsDirectory, AllFrom, IsListed, IsOneMore}
+
+pub rows-append : (n : ℕ) (as_ bs : List Spot) → rows_from n (as_ ++ bs) ≡ rows_from n as_ ++ rows_from (n + length as_) bs
+rows-append n [] bs = ap (λ m. rows_from m bs) (omega arith)
+rows-append n (a ∷ as_) bs = ap (λ l. row n a ∷ l) (rows-append (suc n) as_ bs ∙ ap (λ m. rows_from (suc n) as_ ++ rows_from m bs) (omega arith))
+
+pub length-rows : (n : ℕ) (ss : List Spot) → length (rows_from n ss) ≡ length ss
+length-rows n [] = refl
+length-rows n (s ∷ ss) = ap suc (length-rows (suc n) ss)
+
+flat-more : {X Y : Type 0} (f : X → List Y) (xs : List X) (x : X) → flat_map f (xs ++ x ∷ []) ≡ flat_map f xs ++ f x
+flat-more f [] x = append-nil (f x)
+flat-more f (y ∷ ys) x = ap (λ l. f y ++ l) (flat-more f ys x) ∙ sym (append_assoc (f y) (flat_map f ys) (f x))
+
+pub all-more : (P : ℕ → Directory → Type 0) (n : ℕ) (ds : List Directory) (d : Directory) → AllFrom P n ds → P (n + length ds) d → AllFrom P n (ds ++ d ∷ [])
+all-more P n [] d a p = (subst (λ k. P k d) (omega arith) p, tt)
+all-more P n (e ∷ es) d a p = (a.0, all-more P (suc n) es d a.1 (subst (λ k. P k d) (omega arith) p))
+
+pub all-at : (P : ℕ → Directory → Type 0) (n : ℕ) (ds : List Directory) (k : ℕ) (d : Directory) → AllFrom P n ds → k < length ds → d ≡ get_or ds k d → P (n + k) d
+all-at P n [] k d a h e = absurd (omega (arith, h))
+all-at P n (x ∷ xs) zero d a h e = subst (λ m. P m d) (omega arith) (subst (λ y. P n y) (sym e) a.0)
+all-at P n (x ∷ xs) (suc k) d a h e = subst (λ m. P m d) (omega arith) (all-at P (suc n) xs k d a.1 (omega (arith, h)) e)
+
+pub listed-more : (c : Config) (i : ℕ) (domain : List ℕ) (old new : Listing) → i < length (domains c) → domain ≡ get_or (domains c) i [] → IsListed c i old → IsOneMore old new domain (spots_in c domain) → IsListed c (i + 1) new
+listed-more c i domain old new h e l m =
+    let next : take (i + 1) (domains c) ≡ take i (domains c) ++ domain ∷ [] = take_more (domains c) i [] h ∙ ap (λ x. take i (domains c) ++ x ∷ []) (sym e) in
+    let first : length old.rows.items ≡ first_of c i = ap length l.rows ∙ length-rows 0 (flat_map (spots_in c) (take i (domains c))) in
+    record {
+      rows = m.rows ∙ (ap (λ n. old.rows.items ++ rows_from n (spots_in c domain)) (first ∙ omega arith) ∙ (ap (λ x. x ++ rows_from (0 + first_of c i) (spots_in c domain)) l.rows
+          ∙ sym (ap (λ x. rows_from 0 (flat_map (spots_in c) x)) next ∙ (ap (rows_from 0) (flat-more (spots_in c) (take i (domains c)) domain) ∙ rows-append 0 (flat_map (spots_in c) (take i (domains c))) (spots_in c domain)))));
+      names = m.names ∙ (ap (λ x. x ++ map (name_at domain) (spots_in c domain)) l.names
+          ∙ sym (ap (flat_map (λ d. map (name_at d) (spots_in c d))) next ∙ flat-more (λ d. map (name_at d) (spots_in c d)) (take i (domains c)) domain));
+      directories = subst (AllFrom (IsDirectory c) 0) (sym m.directories) (all-more (IsDirectory c) 0 old.directories.items m.directory l.directories
+          (subst (λ k. IsDirectory c k m.directory) (sym l.count ∙ omega arith) (record { numbers = subst (λ d. IndexesFrom m.directory.numbers (first_of c i) (items_of (spots_in c d))) e (subst (λ n. IndexesFrom m.directory.numbers n (items_of (spots_in c domain))) first m.numbers); ascending = m.ascending ∙ ap (λ d. sorted (items_of (spots_in c d))) e })));
+      count = ap length m.directories ∙ (length-append old.directories.items (m.directory ∷ []) ∙ omega (arith, l.count));
+    }
+
+pub listed-none : (c : Config) (l : Listing) → l.rows.items ≡ [] → l.names.items ≡ [] → l.directories.items ≡ [] → IsListed c 0 l
+listed-none c l r n d = record { rows = r; names = n; directories = subst (AllFrom (IsDirectory c) 0) (sym d) tt; count = ap length d }
+
+pub listed-next : (c : Config) (ds : List (List ℕ)) (ls : List Line) (i : ℕ) (domain item : List ℕ) (old new : Listing) → ds ≡ domains c → ls ≡ in_order (lines c) → i < length ds → item ≡ get_or ds i item → domain ≡ item → IsListed c i old → IsOneMore old new domain (spots_from ls domain) → IsListed c (i + 1) new
+listed-next c ds ls i domain item old new d k h e q l m =
+    let lt : i < length (domains c) = subst (λ x. i < length x) d h in
+    let is : domain ≡ get_or (domains c) i [] = q ∙ (e ∙ (ap (λ x. get_or x i item) d ∙ get_or_default (domains c) i item [] lt)) in
+    listed-more c i domain old new lt is l (subst (λ x. IsOneMore old new domain (spots_from x domain)) k m)
+
+pub directory-at : (c : Config) (ds all : List Directory) (k : ℕ) (d : Directory) → AllFrom (IsDirectory c) 0 all → ds ≡ all → k < length ds → d ≡ get_or ds k d → IsDirectory c k d
+directory-at c ds all k d a s h e = subst (λ n. IsDirectory c n d) (omega arith) (all-at (IsDirectory c) 0 ds k d (subst (AllFrom (IsDirectory c) 0) (sym s) a) h e)
+
+pub all-rows : (c : Config) (l : Listing) → IsListed c (length (domains c)) l → l.rows.items ≡ node_rows c
+all-rows c l h = h.rows ∙ ap (λ ds. rows_from 0 (flat_map (spots_in c) ds)) (take-length (domains c))
+
+pub all-names : (c : Config) (l : Listing) → IsListed c (length (domains c)) l → l.names.items ≡ node_names c
+all-names c l h = h.names ∙ ap (flat_map (λ domain. map (name_at domain) (spots_in c domain))) (take-length (domains c))

@@ -1,0 +1,18 @@
+use Rattle.std.proofs.Common.{ap, ◌∙◌, subst, ◌++◌, map, length}
+use Rattle.object_model.specs.Indexes.{IndexesFrom}
+use Rattle.bay_model.specs.Names.{sorted}
+use Rattle.object_model.specs.Nodes.{rows_from, name_at}
+use Rattle.object_model.specs.Listed.{items_of}
+use Rattle.object_model.proofs.listing.push_domain.Goals as goal
+
+pub returns : goal.returns
+returns c = record {
+  rows = c.in_ok-push_rows.ensures ∙ ap (λ l. c.args.listing.now.rows.items ++ rows_from (length c.args.listing.now.rows.items) l) c.in_ok-spots.ensures;
+  names = c.in_ok-push_node_names.ensures ∙ ap (λ l. c.args.listing.now.names.items ++ map (name_at c.args.domain.now) l) (c.deref-4.ensures.value ∙ c.in_ok-spots.ensures);
+  directory = record { numbers = c.in_ok-numbers.numbers; ascending = c.in_ok-ascending.ascending };
+  directories = c.in_ok-push.ensures.items;
+  numbers = subst (λ l. IndexesFrom c.in_ok-numbers.numbers (length c.args.listing.now.rows.items) (items_of l)) (c.deref.ensures.value ∙ c.in_ok-spots.ensures)
+      (subst (λ l. IndexesFrom c.in_ok-numbers.numbers (length c.args.listing.now.rows.items) l) (c.deref-2.ensures.value ∙ c.in_ok-items.ensures)
+      (subst (λ n. IndexesFrom c.in_ok-numbers.numbers n c.deref-2.result.now) (c.in_ok-first.ensures ∙ ap length c.as_slice.ensures.value) c.in_ok-numbers.ensures));
+  ascending = c.in_ok-ascending.ensures ∙ ap sorted (c.deref-3.ensures.value ∙ (c.in_ok-items.ensures ∙ ap items_of (c.deref.ensures.value ∙ c.in_ok-spots.ensures)));
+}

@@ -1,0 +1,11 @@
+use Rattle.std.proofs.Common.{◌∙◌, ap, map, sym}
+use Rattle.sv_base.specs.declared.numbers.AttrId.{AttrId}
+use Rattle.object_model.proofs.TableLaws.{within-rows, row-of}
+use Rattle.bay_model.specs.declared.tables.NodeRow.{NodeRow}
+use Rattle.object_model.proofs.model.Model.attrs_of.Goals as goal
+
+pub bounds-as_slice-node : goal.bounds-as_slice-node
+bounds-as_slice-node c = within-rows c.self.inside.config c.args.self.now c.as_slice.result.now c.args.node.0 c.self.view_is (c.as_slice.ensures ∙ c.self.invariant.3.nodes) c.requires
+
+pub returns : goal.returns
+returns c = ap (map (λ (x : AttrId). x.0)) c.as_slice-2.ensures ∙ (ap (λ (r : NodeRow). map (λ (x : AttrId). x.0) r.shape.attrs) (sym c.index-as_slice-node.is) ∙ (row-of c.self.inside.config c.args.self.now c.as_slice.result.now c.args.node.0 c.index-as_slice-node.result c.self.view_is (c.as_slice.ensures ∙ c.self.invariant.3.nodes) c.requires c.index-as_slice-node.is).attrs)

@@ -1,0 +1,86 @@
+-- What is found in a configuration: its nodes by their names, its data sets, and the trigger conditions of its attributes.
+use Rattle.std.specs.Prelude.{◌≡◌, ℕ, false, ◌&&◌, List, ◌++◌, map, flat_map, filter, position, length, Option, unwrap_or, slice_index_or}
+use Rattle.std.specs.Str.{bytes_eq}
+use Rattle.sv_base.specs.declared.config.Config.{Config}
+use Rattle.sv_base.specs.declared.config.AttrDef.{AttrDef}
+use Rattle.sv_base.specs.declared.config.CtlDef.{CtlDef}
+use Rattle.sv_base.specs.declared.config.SetDef.{SetDef}
+use Rattle.sv_base.specs.declared.numbers.NodeId.{NodeId}
+use Rattle.sv_base.specs.declared.types.TypeOf.{TypeOf}
+use Rattle.sv_base.specs.declared.types.TypeOf.TheVariants as types
+use Rattle.sv_base.specs.Types.{no_field}
+use Rattle.bay_model.specs.declared.flags.Flags.{Flags}
+use Rattle.bay_model.specs.declared.tables.SetRow.{SetRow}
+use Rattle.bay_model.specs.Model.{Node, DataSet, Attr}
+use Rattle.bay_model.specs.Lookups.{reference_of}
+use Rattle.bay_model.specs.Generated.{Parameter, parameters, within}
+use Rattle.bay_model.specs.Places.{Place}
+use Rattle.bay_model.specs.NamedLines.{domains, is_setting}
+use Rattle.bay_model.specs.Named.{name_tree, places_in}
+use Rattle.object_model.specs.declared.tables.Tables.{Tables}
+use Rattle.object_model.specs.declared.index.Index.{Index}
+use Rattle.object_model.specs.declared.nodes.NodeName.{NodeName}
+use Rattle.object_model.specs.Indexes.{Indexes, found}
+use Rattle.object_model.specs.Fits.{attr_types}
+use Rattle.object_model.specs.Nodes.{node_rows, node_names}
+use Rattle.object_model.specs.Listed.{AllFrom, IsDirectory}
+
+-- the number of the node of an item of a domain
+abbrev pub node_named : List Node → List ℕ → List ℕ → Option ℕ
+node_named ns domain item = position (λ (n : Node). bytes_eq domain n.domain && bytes_eq item n.item) ns
+
+-- the types of the nodes, by their numbers
+abbrev pub node_types : Config → List TypeOf
+node_types c = flat_map (λ domain. map (λ (p : Place). p.kind) (places_in c domain)) (domains c)
+
+abbrev pub node_type : Config → ℕ → TypeOf
+node_type c n = slice_index_or (node_types c) n (types.Struct no_field)
+
+abbrev pub node_id : ℕ → NodeId
+node_id n = record { 0 = n }
+
+abbrev pub set_row : DataSet → SetRow
+set_row s = record { name = record { domain = s.domain; item = s.item }; nodes = map node_id s.nodes }
+
+-- the configured data sets, with the numbers of their members
+abbrev pub set_rows : Config → List SetRow
+set_rows c = map set_row (name_tree c).sets
+
+abbrev pub flags_of : Attr → Flags
+flags_of a = record { dchg = a.dchg; qchg = a.qchg; dupd = a.dupd }
+
+abbrev pub line_flags : AttrDef → Flags
+line_flags a = record { dchg = a.dchg; qchg = a.qchg; dupd = a.dupd }
+
+abbrev pub no_flags : Flags
+no_flags = record { dchg = false; qchg = false; dupd = false }
+
+abbrev pub control_flags : CtlDef → List Flags
+control_flags k = map (λ (p : Parameter). no_flags) (parameters k)
+
+-- by the numbers of the attributes: those of the lines, none for those that controls generate, those of the twins
+abbrev pub attr_flags : Config → List Flags
+attr_flags c = map line_flags c.attrs ++ (flat_map control_flags c.controls ++ map line_flags (filter is_setting c.attrs))
+
+pub record IsTables (c : Config) (t : Tables) : Type 0 where
+  pub domain_numbers : Indexes t.domains (domains c)
+  pub directories : AllFrom (IsDirectory c) 0 t.directories.items
+  pub count : length t.directories.items ≡ length (domains c)
+  pub names : t.names.items ≡ node_names c
+  pub nodes : t.nodes ≡ node_rows c
+  pub sets : t.sets ≡ set_rows c
+  pub flags : t.flags.items ≡ attr_flags c
+  pub kinds : t.kinds.items ≡ attr_types c
+
+-- ---- for the code
+
+-- the references `LD/item` of names
+abbrev pub name_references : List NodeName → List (List ℕ)
+name_references names = map (λ (n : NodeName). reference_of n.domain n.item) names
+
+abbrev pub member_in : Index → List ℕ → ℕ
+member_in index reference = unwrap_or (found index reference) 0
+
+-- the row of a data set by an index of the references of the nodes
+abbrev pub row_in : Index → SetDef → SetRow
+row_in index s = record { name = record { domain = s.domain; item = within s.ln s.name }; nodes = map (λ r. node_id (member_in index r)) s.members }

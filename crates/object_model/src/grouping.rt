@@ -1,0 +1,83 @@
+//! What is named, in groups by the first name.
+
+ghost use Rattle.std.specs.Prelude.{◌≡◌, ◌++◌, ◌∷◌, [], map, List, ℕ, IfOk, OnOk};
+ghost use Rattle.std.specs.Str.{bytes_eq};
+ghost use Rattle.indexmap.specs.IndexMap.{get_by};
+ghost use Rattle.object_model.specs.Groups.{groups as groups_in, group_name, put as put_in, with_named};
+ghost use Rattle.object_model.specs.Numbers.{number_in};
+
+use crate::growing::{Cut, Group, below, name_of, push_into};
+use crate::index::add;
+use crate::numbers::count;
+use indexmap::IndexMap;
+use std::alloc::{AllocError, Global};
+
+fn push_group<'a>(
+    alloc: Global,
+    groups: &mut Vec<Group<'a>>,
+    name: &'a [u8],
+    cut: Cut<'a>,
+) -> Result<(), AllocError>
+    ensures { OnOk result (groups.new.items ≡ groups.old.items ++ record { name = name.now; names = cut.entry ∷ [] } ∷ []) }
+{
+    let mut cuts = Vec::new(alloc);
+    cuts.push(cut)?;
+    groups.push(Group { name, cuts })?;
+    Ok(())
+}
+
+/// Adds what stands below a name to its group, by the places of the names.
+fn put<'a>(
+    alloc: Global,
+    places: &mut IndexMap<Vec<u8>, u32>,
+    groups: &mut Vec<Group<'a>>,
+    name: &'a [u8],
+    cut: Cut<'a>,
+) -> Result<(), AllocError>
+    requires { (other : List ℕ) → get_by (λ k. bytes_eq other k.items) places.old ≡ number_in (map group_name groups.old.items) other }
+    ensures placed { OnOk result ((other : List ℕ) → get_by (λ k. bytes_eq other k.items) places.new ≡ number_in (map group_name groups.new.items) other) }
+    ensures groups { OnOk result (groups.new.items ≡ put_in groups.old.items name.now cut.entry) }
+{
+    let place = places.get(name).copied();
+    match place {
+        Some(place) => {
+            push_into(groups, place as usize, cut)?;
+            Ok(())
+        }
+        None => {
+            let number = count(groups.len())?;
+            add(alloc, places, name, number)?;
+            push_group(alloc, groups, name, cut)?;
+            Ok(())
+        }
+    }
+}
+
+/// Adds what is named to its group; the name itself has none.
+fn put_cut<'a>(
+    alloc: Global,
+    places: &mut IndexMap<Vec<u8>, u32>,
+    groups: &mut Vec<Group<'a>>,
+    cut: &Cut<'a>,
+) -> Result<(), AllocError>
+    requires { (other : List ℕ) → get_by (λ k. bytes_eq other k.items) places.old ≡ number_in (map group_name groups.old.items) other }
+    ensures placed { OnOk result ((other : List ℕ) → get_by (λ k. bytes_eq other k.items) places.new ≡ number_in (map group_name groups.new.items) other) }
+    ensures groups { OnOk result (groups.new.items ≡ with_named groups.old.items cut.now) }
+{
+    if cut.is_itself() {
+        return Ok(());
+    }
+    put(alloc, places, groups, name_of(cut), below(cut))
+}
+
+/// One group for each first name, in the order in which they first stand.
+pub fn groups<'a>(alloc: Global, cuts: &[Cut<'a>]) -> Result<Vec<Group<'a>>, AllocError>
+    ensures { IfOk result (λ v. v.items ≡ groups_in cuts.now) }
+{
+    let mut places = IndexMap::new(alloc);
+    let mut groups = Vec::new(alloc);
+    for cut in cuts {
+        put_cut(alloc, &mut places, &mut groups, cut)?;
+    }
+    Ok(groups)
+}

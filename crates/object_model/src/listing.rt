@@ -1,0 +1,82 @@
+//! The nodes of a configuration, listed domain by domain.
+
+ghost use Rattle.std.specs.Prelude.{◌≡◌, length, map, IfOk, OnOk};
+ghost use Rattle.bay_model.specs.NamedLines.{domains as domains_of, lines as lines_of, in_order};
+ghost use Rattle.object_model.specs.Listed.{IsListed, IsOneMore, items_of as items_in, spots_from};
+
+use crate::growth::Spot;
+use crate::index::Index;
+use crate::lines::Line;
+use crate::nodes::{NodeName, push_node_names, push_rows, spots_of};
+use crate::numbers::count;
+use crate::sorting::sorted;
+use bay_model::NodeRow;
+use std::alloc::{AllocError, Global};
+use sv_base::{Config, Octs};
+
+/// The names of a domain: the numbers of its items, and the items ascending by their octets.
+#[derive(Drop)]
+pub struct Directory {
+    pub numbers: Index,
+    pub ascending: Vec<Octs>,
+}
+
+/// The nodes by their numbers: their rows and their names; and the names of each domain.
+#[derive(Drop)]
+pub struct Listing {
+    pub rows: Vec<NodeRow>,
+    pub names: Vec<NodeName>,
+    pub directories: Vec<Directory>,
+}
+
+fn items_of(alloc: Global, spots: &[Spot]) -> Result<Vec<Octs>, AllocError>
+    ensures { IfOk result (λ v. v.items ≡ items_in spots.now) }
+{
+    let mut items = Vec::new(alloc);
+    for spot in spots {
+        items.push(spot.item.copy(alloc)?)?;
+    }
+    Ok(items)
+}
+
+/// Adds the nodes of a domain.
+fn push_domain(
+    alloc: Global,
+    listing: &mut Listing,
+    lines: &[Line],
+    domain: &[u8],
+) -> Result<(), AllocError>
+    ensures { OnOk result (IsOneMore listing.old listing.new domain.now (spots_from lines.now domain.now)) }
+{
+    let spots = spots_of(alloc, lines, domain)?;
+    let first = count(listing.rows.as_slice().len())?;
+    let items = items_of(alloc, &spots)?;
+    let numbers = Index::from(alloc, first, &items)?;
+    let ascending = sorted(alloc, &items)?;
+    listing.directories.push(Directory { numbers, ascending })?;
+    push_node_names(alloc, &mut listing.names, domain, &spots)?;
+    push_rows(&mut listing.rows, spots)?;
+    Ok(())
+}
+
+/// The nodes of the domains, whose lines stand in their order.
+pub fn list(
+    alloc: Global,
+    config: &Config,
+    domains: &[Octs],
+    lines: &[Line],
+) -> Result<Listing, AllocError>
+    requires domains { domains.now ≡ domains_of config.now }
+    requires lines { lines.now ≡ in_order (lines_of config.now) }
+    ensures { IfOk result (λ l. IsListed config.now (length (domains_of config.now)) l) }
+{
+    let mut listing = Listing {
+        rows: Vec::new(alloc),
+        names: Vec::new(alloc),
+        directories: Vec::new(alloc),
+    };
+    for domain in domains {
+        push_domain(alloc, &mut listing, lines, domain.as_slice())?;
+    }
+    Ok(listing)
+}

@@ -1,0 +1,164 @@
+//! The nodes of a configuration by their numbers.
+
+ghost use Rattle.std.specs.Prelude.{◌≡◌, ◌++◌, ◌∷◌, [], ◌&&◌, ◌==◌, map, filter, flat_map, length, suc, IfOk, OnOk};
+ghost use Rattle.std.specs.List.{list_any, after_first};
+ghost use Rattle.std.specs.Str.{bytes_eq};
+ghost use Rattle.bay_model.specs.NamedLines.{Line as ModelLine};
+ghost use Rattle.bay_model.specs.NameTree.{longest as longest_of, tree_of};
+ghost use Rattle.bay_model.specs.Places.{constraint as constraint_of, member_constraints, places};
+ghost use Rattle.object_model.specs.Grown.{spot};
+ghost use Rattle.object_model.specs.Nodes.{row, rows_from, name_at};
+
+use crate::growing::{Cut, name_len};
+use crate::growth::{Spot, grow};
+use crate::largest::largest;
+use crate::lines::Line;
+use crate::named::Named;
+use crate::numbers::count;
+use bay_model::{MemberShape, NodeRow};
+use std::alloc::{AllocError, Global};
+use sv_base::{NodeId, Octs};
+
+/// The name of a node: its domain and its item.
+#[derive(Drop)]
+pub struct NodeName {
+    pub domain: Octs,
+    pub item: Octs,
+}
+
+fn push_names<'a>(out: &mut Vec<Cut<'a>>, names: &'a [Named]) -> Result<(), AllocError>
+    ensures { OnOk result (out.new.items ≡ out.old.items ++ names.now) }
+{
+    for named in names {
+        out.push(Cut {
+            rest: named.item.as_slice(),
+            named,
+        })?;
+    }
+    Ok(())
+}
+
+fn push_line<'a>(out: &mut Vec<Cut<'a>>, line: &'a Line, domain: &[u8]) -> Result<(), AllocError>
+    ensures { OnOk result (out.new.items ≡ out.old.items ++ flat_map (λ (l : ModelLine). l.names) (filter (λ (l : ModelLine). bytes_eq l.domain domain.now) (line.now ∷ []))) }
+{
+    if line.domain.as_slice() == domain {
+        push_names(out, &line.names)?;
+    }
+    Ok(())
+}
+
+/// What the lines of a domain name.
+fn names_of<'a>(alloc: Global, lines: &'a [Line], domain: &[u8]) -> Result<Vec<Cut<'a>>, AllocError>
+    ensures { IfOk result (λ v. v.items ≡ flat_map (λ (l : ModelLine). l.names) (filter (λ (l : ModelLine). bytes_eq l.domain domain.now) lines.now)) }
+{
+    let mut cuts = Vec::new(alloc);
+    for line in lines {
+        push_line(&mut cuts, line, domain)?;
+    }
+    Ok(cuts)
+}
+
+/// How many octets the longest item has.
+fn longest(cuts: &[Cut<'_>]) -> usize
+    ensures { result ≡ longest_of cuts.now }
+{
+    let mut most = 0;
+    for cut in cuts {
+        most = most.max(cut.rest.len());
+    }
+    most
+}
+
+/// How many levels the tree has at most.
+fn levels_of(cuts: &[Cut<'_>]) -> Result<usize, AllocError>
+    ensures { IfOk result (λ n. n ≡ suc (longest_of cuts.now)) }
+{
+    longest(cuts).checked_add(1).ok_or(AllocError)
+}
+
+/// The nodes of a domain, each before its parts.
+pub fn spots_of(alloc: Global, lines: &[Line], domain: &[u8]) -> Result<Vec<Spot>, AllocError>
+    ensures { IfOk result (λ v. v.items ≡ map spot (places [] (tree_of (flat_map (λ (l : ModelLine). l.names) (filter (λ (l : ModelLine). bytes_eq l.domain domain.now) lines.now))))) }
+{
+    let cuts = names_of(alloc, lines, domain)?;
+    let levels = levels_of(&cuts)?;
+    let grown = grow(alloc, b"", &cuts, levels)?;
+    Ok(grown.spots)
+}
+
+/// What stands behind the first `$`.
+fn behind(item: &[u8]) -> &[u8]
+    ensures { result.now ≡ after_first (λ o. o == 36) item.now }
+{
+    let len = name_len(item);
+    if len < item.len() {
+        &item[len + 1..]
+    } else {
+        &item[len..]
+    }
+}
+
+/// The functional constraint of an item, its second name (IEC 61850-8-1).
+fn constraint(item: &[u8]) -> &[u8]
+    ensures { result.now ≡ constraint_of item.now }
+{
+    let rest = behind(item);
+    &rest[..name_len(rest)]
+}
+
+/// Whether the members of data sets are of this functional constraint.
+fn is_member_constraint(fc: &[u8]) -> bool
+    ensures { result ≡ list_any (bytes_eq fc.now) member_constraints }
+{
+    fc == b"ST".as_slice()
+        || fc == b"MX".as_slice()
+        || fc == b"SG".as_slice()
+        || fc == b"CF".as_slice()
+        || fc == b"DC".as_slice()
+        || fc == b"SV".as_slice()
+        || fc == b"SP".as_slice()
+        || fc == b"EX".as_slice()
+}
+
+/// The row of a node.
+fn row_of(spot: Spot, number: u32) -> NodeRow
+    ensures { result ≡ row number spot }
+{
+    NodeRow {
+        allowed: spot.is_data && is_member_constraint(constraint(spot.item.as_slice())),
+        octets: largest(&spot.kind),
+        shape: MemberShape {
+            node: NodeId(number),
+            kind: spot.kind,
+            attrs: spot.attrs,
+        },
+    }
+}
+
+/// Adds the rows of nodes, the first of them numbered as the next.
+pub fn push_rows(rows: &mut Vec<NodeRow>, spots: Vec<Spot>) -> Result<(), AllocError>
+    ensures { OnOk result (rows.new.items ≡ rows.old.items ++ rows_from (length rows.old.items) spots.items) }
+{
+    for spot in spots {
+        let number = count(rows.len())?;
+        rows.push(row_of(spot, number))?;
+    }
+    Ok(())
+}
+
+/// Adds the names of the nodes of a domain.
+pub fn push_node_names(
+    alloc: Global,
+    names: &mut Vec<NodeName>,
+    domain: &[u8],
+    spots: &[Spot],
+) -> Result<(), AllocError>
+    ensures { OnOk result (names.new.items ≡ names.old.items ++ map (name_at domain.now) spots.now) }
+{
+    for spot in spots {
+        let domain = Octs::from_vec(Vec::from_slice(alloc, domain)?);
+        let item = spot.item.copy(alloc)?;
+        names.push(NodeName { domain, item })?;
+    }
+    Ok(())
+}
