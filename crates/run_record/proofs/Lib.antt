@@ -3,3 +3,4 @@ pub mod ReadLaws
 pub mod ToldLaws
 pub mod WrittenLaws
 pub mod RefusedLaws
+pub mod AnswerLaws

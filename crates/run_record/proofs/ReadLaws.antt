@@ -14,7 +14,8 @@ use Rattle.cfg_text.proofs.WordLaws.{AreWords, split-joined, joined-printable}
 use Rattle.cfg_text.proofs.SpellLaws.{number-within}
 use Rattle.run_record.specs.Spelled.{form_words, pair_words, words, spelled}
 use Rattle.run_record.specs.Grammar.{IsAssoc, IsForm, is_word, Spells}
-use Rattle.run_record.specs.Judging.{keyword_at, numbered, assoc_of, assoc_at, sized_form, form_at, opened, paired, set_at, truth_line, content_at, known_at, tell_at, is_long, line_at}
+use Rattle.run_record.specs.Contents.{numbered, assoc_of, assoc_at, sized_form, form_at, opened, paired, set_at, truth_line, content_at}
+use Rattle.run_record.specs.Judging.{keyword_at, known_at, tell_at, is_long, line_at}
 use Rattle.run_record.specs.declared.keyword.Keyword.{Keyword}
 use Rattle.run_record.specs.declared.keyword.Keyword.TheVariants as keywords
 use Rattle.run_record.specs.declared.pairs.Pair.{Pair}

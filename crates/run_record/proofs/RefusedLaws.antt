@@ -1,7 +1,6 @@
 -- A line is refused exactly for the causes of the format.
 use Rattle.std.proofs.Common.{◌≡◌, ℕ, ◌≤◌, ◌⊎◌, inl, inr, Bool, true, false, cond, ◌&&◌, ◌||◌, not, ◌%◌, List, [], ◌∷◌, length, nat_lt, ◌==◌, refl, sym, ap, subst, ◌∙◌}
 use Rattle.std.specs.Prelude.{Option, Some, None, Result, Ok, Err, codes}
-use Rattle.std.specs.Fmt.{decimal}
 use Rattle.std.specs.List.{list_all, list_any, flat_map, join_with_byte}
 use Rattle.std.specs.Str.{bytes_eq}
 use Rattle.std.proofs.lemmas.Bool.{or_parts, cond-true, ltb-true, ltb-false, lt-ltb, not-false}
@@ -15,10 +14,11 @@ use Rattle.cfg_text.specs.Values.{truth_at, is_graphic}
 use Rattle.cfg_text.specs.Words.{words_of}
 use Rattle.cfg_text.specs.Spelled.{truth_word}
 use Rattle.cfg_text.proofs.ToldLaws.{split-words, are-words as words-are}
-use Rattle.run_record.specs.Spelled.{form_words, pair_words, words}
+use Rattle.run_record.specs.Spelled.{pair_words, form_with, form_words, form_size, words_with, number_word, size_word, words, spelled}
 use Rattle.run_record.specs.Grammar.{is_word, Spells}
-use Rattle.run_record.specs.Judging.{keyword_at, numbered, assoc_at, sized_form, form_at, opened, paired, set_at, truth_line, content_at, known_at, tell_at, is_long, line_at}
-use Rattle.run_record.specs.Refused.{form_with, words_with, IsWhole, HasForm, IsLong, IsUnformed, IsUnnumbered}
+use Rattle.run_record.specs.Contents.{numbered, assoc_at, sized_form, form_at, opened, paired, set_at, truth_line, content_at}
+use Rattle.run_record.specs.Judging.{keyword_at, known_at, tell_at, is_long, line_at}
+use Rattle.run_record.specs.Refused.{IsWhole, HasForm, IsLong, IsUnformed, IsUnnumbered}
 use Rattle.run_record.specs.declared.fault.Kind.{Kind}
 use Rattle.run_record.specs.declared.fault.Kind.TheVariants as kinds
 use Rattle.run_record.specs.declared.keyword.Keyword.{Keyword}
@@ -101,7 +101,7 @@ set-not-word : (pairs : List Pair) → 1 ≤ length pairs → set_at (flat_map p
 set-not-word pairs some e = let read = sym (set-read pairs some) ∙ e in absurd cc read
 
 formed : (number size : List ℕ) (line : RecLine) → IsWhole line → Formed (words_with number size line)
-unfolding words_with content_at
+unfolding content_at
 formed number size lines.Skip whole = absurd whole
 formed number size (lines.At moment) whole = record { octet = _; octets = _; more = _; keyword = keywords.At; has = refl; key_is = refl; other = refl; real = number-not-word _ lines.At }
 formed number size (lines.Open a form) whole = record { octet = _; octets = _; more = _; keyword = keywords.Open; has = refl; key_is = refl; other = refl; real = form-not-word (assoc_at number) size form }
@@ -163,9 +163,7 @@ abbrev Sized : List (List ℕ) → Type 0
 Sized told = (size : List ℕ) × (form : OpenForm) × (form_with size form ≡ told)
 
 sized : (form : OpenForm) → Sized (form_words form)
-sized forms.Direct = ([], forms.Direct, refl)
-sized (forms.Mms size) = (decimal size, forms.Mms size, refl)
-sized forms.Wire = ([], forms.Wire, refl)
+sized form = (form_size form, form, refl)
 
 form-refused : (told : List (List ℕ)) (kind : Kind) → form_at told ≡ err_of OpenForm kind → (kind ≡ kinds.Word) ⊎ ((kind ≡ kinds.Number) × Sized told)
 form-refused (word ∷ []) kind e = inl (by (bytes_eq word (codes "direct")) (bytes_eq word (codes "wire")) e)
@@ -183,7 +181,6 @@ form-refused (word ∷ size ∷ []) kind e = by (bytes_eq word (codes "mms")) (n
 form-refused _ kind e = inl (word-is kind e)
 
 open-refused : (a : List ℕ) (told : List (List ℕ)) (kind : Kind) → opened (assoc_at a) (form_at told) ≡ refused kind → Refuses (codes "open" ∷ a ∷ told) kind
-unfolding words_with
 open-refused a told kind e = by (form_at told) refl e
   where
     shape : Sized told → Shape (codes "open" ∷ a ∷ told)
@@ -198,7 +195,7 @@ open-refused a told kind e = by (form_at told) refl e
     by (Ok form) is e = inr (numbered-refused (assoc_at a) (λ n. lines.Open n form) kind e, shape (subst Sized (sym (form-tells told form is).0) (sized form)))
 
 content-refused : (key : Keyword) (more : List (List ℕ)) (kind : Kind) → content_at key more ≡ refused kind → Refuses (word_of key ∷ more) kind
-unfolding content_at words_with
+unfolding content_at
 content-refused keywords.At (word ∷ []) kind e = inr (numbered-refused (number_within 441763200000 4294967295999 word) lines.At kind e, record { line = lines.At 0; number = word; size = []; whole = tt; has = refl })
 content-refused keywords.Open (a ∷ form) kind e = open-refused a form kind e
 content-refused keywords.Write (a ∷ block ∷ comp ∷ value ∷ []) kind e = inr (numbered-refused (assoc_at a) (λ n. lines.Write n block comp value) kind e, record { line = lines.Write someone block comp value; number = a; size = []; whole = tt; has = refl })
@@ -256,24 +253,26 @@ cause text kind e = by (is_long text) (is_skipped text) refl e
     by false true long e = absurd cc e
     by false false long e = inr (tell-refused text (words_of text) kind refl (printable text long) e)
 
+own : {text : List ℕ} (line : RecLine) → IsWhole line → text ≡ spelled line → Spells text line → HasForm text
+unfolding words
+own line whole is s = record { line = line; number = number_word line; size = size_word line; whole = whole; words_ = s.words_; text_ = is }
+
 -- a line that is read has its form
 spelled-form : (text : List ℕ) (line : RecLine) → Spells text line → IsSkipped text ⊎ HasForm text
-unfolding words words_with
+unfolding words
 spelled-form text lines.Skip s = inl s.text_
-spelled-form text (lines.At moment) s = inr (record { line = lines.At moment; number = decimal moment; size = []; whole = tt; words_ = s.words_; text_ = s.text_ })
-spelled-form text (lines.Open a form) s = let m = sized form in
-    let are : words_with (decimal a.0) m.0 (lines.Open a m.1) ≡ words (lines.Open a form) = ap (λ ws. codes "open" ∷ decimal a.0 ∷ ws) m.2 in
-    inr (record { line = lines.Open a m.1; number = decimal a.0; size = m.0; whole = tt; words_ = ap (list_all is_word) are ∙ s.words_; text_ = s.text_ ∙ ap (join_with_byte 32) (sym are) })
-spelled-form text (lines.Write a block comp value) s = inr (record { line = lines.Write a block comp value; number = decimal a.0; size = []; whole = tt; words_ = s.words_; text_ = s.text_ })
-spelled-form text (lines.Pdu a hex) s = inr (record { line = lines.Pdu a hex; number = decimal a.0; size = []; whole = tt; words_ = s.words_; text_ = s.text_ })
-spelled-form text (lines.Piece a hex) s = inr (record { line = lines.Piece a hex; number = decimal a.0; size = []; whole = tt; words_ = s.words_; text_ = s.text_ })
-spelled-form text (lines.Take a) s = inr (record { line = lines.Take a; number = decimal a.0; size = []; whole = tt; words_ = s.words_; text_ = s.text_ })
-spelled-form text (lines.Lost a) s = inr (record { line = lines.Lost a; number = decimal a.0; size = []; whole = tt; words_ = s.words_; text_ = s.text_ })
-spelled-form text (lines.Set pairs) s = inr (record { line = lines.Set pairs; number = []; size = []; whole = s.ranges; words_ = s.words_; text_ = s.text_ })
-spelled-form text (lines.Done control well) s = inr (record { line = lines.Done control well; number = []; size = []; whole = tt; words_ = s.words_; text_ = s.text_ })
-spelled-form text (lines.Block control on) s = inr (record { line = lines.Block control on; number = []; size = []; whole = tt; words_ = s.words_; text_ = s.text_ })
-spelled-form text lines.Tick s = inr (record { line = lines.Tick; number = []; size = []; whole = tt; words_ = s.words_; text_ = s.text_ })
-spelled-form text lines.End s = inr (record { line = lines.End; number = []; size = []; whole = tt; words_ = s.words_; text_ = s.text_ })
+spelled-form text (lines.At moment) s = inr (own (lines.At moment) tt s.text_ s)
+spelled-form text (lines.Open a form) s = inr (own (lines.Open a form) tt s.text_ s)
+spelled-form text (lines.Write a block comp value) s = inr (own (lines.Write a block comp value) tt s.text_ s)
+spelled-form text (lines.Pdu a hex) s = inr (own (lines.Pdu a hex) tt s.text_ s)
+spelled-form text (lines.Piece a hex) s = inr (own (lines.Piece a hex) tt s.text_ s)
+spelled-form text (lines.Take a) s = inr (own (lines.Take a) tt s.text_ s)
+spelled-form text (lines.Lost a) s = inr (own (lines.Lost a) tt s.text_ s)
+spelled-form text (lines.Set pairs) s = inr (own (lines.Set pairs) s.ranges s.text_ s)
+spelled-form text (lines.Done control well) s = inr (own (lines.Done control well) tt s.text_ s)
+spelled-form text (lines.Block control on) s = inr (own (lines.Block control on) tt s.text_ s)
+spelled-form text lines.Tick s = inr (own lines.Tick tt s.text_ s)
+spelled-form text lines.End s = inr (own lines.End tt s.text_ s)
 
 -- the laws
 pub long-told : (text : List ℕ) → line_at text ≡ Err kinds.Long → IsLong text

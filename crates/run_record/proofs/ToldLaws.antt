@@ -15,11 +15,12 @@ use Rattle.cfg_text.specs.Values.{is_graphic, truth_at}
 use Rattle.cfg_text.specs.Words.{words_of}
 use Rattle.cfg_text.specs.Spelled.{truth_word}
 use Rattle.cfg_text.proofs.OptionLaws.{some_is}
-use Rattle.cfg_text.proofs.TellLaws.{number-tells, truth-tells}
+use Rattle.cfg_text.proofs.TellLaws.{by-word, none-some, number-tells, truth-tells}
 use Rattle.cfg_text.proofs.ToldLaws.{split-words, are-words}
 use Rattle.run_record.specs.Spelled.{form_words, pair_words, words, spelled}
 use Rattle.run_record.specs.Grammar.{IsAssoc, IsForm, IsLine, is_word, IsText, Spells}
-use Rattle.run_record.specs.Judging.{keyword_at, numbered, assoc_of, assoc_at, sized_form, form_at, opened, paired, set_at, truth_line, content_at, known_at, tell_at, is_long, line_at}
+use Rattle.run_record.specs.Contents.{numbered, assoc_of, assoc_at, sized_form, form_at, opened, paired, set_at, truth_line, content_at}
+use Rattle.run_record.specs.Judging.{keyword_at, known_at, tell_at, is_long, line_at}
 use Rattle.run_record.specs.declared.fault.Kind.{Kind}
 use Rattle.run_record.specs.declared.fault.Kind.TheVariants as kinds
 use Rattle.run_record.specs.declared.keyword.Keyword.{Keyword}
@@ -78,8 +79,8 @@ abbrev Names : List (List ℕ) → OpenForm → Type 0
 Names told form = (told ≡ form_words form) × IsForm form
 
 -- a word that is compared with a known one
-by-word : {A : Type 0} (Q : A → Type 0) (word known : List ℕ) (here rest : Result A Kind) (there : A) → (word ≡ known → here ≡ Ok there → Q there) → (rest ≡ Ok there → Q there) → cond (bytes_eq word known) here rest ≡ Ok there → Q there
-by-word Q word known here rest there one other is = by (bytes_eq word known) refl is
+compared : {A : Type 0} (Q : A → Type 0) (word known : List ℕ) (here rest : Result A Kind) (there : A) → (word ≡ known → here ≡ Ok there → Q there) → (rest ≡ Ok there → Q there) → cond (bytes_eq word known) here rest ≡ Ok there → Q there
+compared Q word known here rest there one other is = by (bytes_eq word known) refl is
   where
     by : (b : Bool) → bytes_eq word known ≡ b → cond b here rest ≡ Ok there → Q there
     by true e found = one ((bytes_eq-Decides word known).0 e) found
@@ -98,9 +99,9 @@ sized-tells size form e = by (number_within 1024 65000 size) refl e
 
 pub form-tells : (told : List (List ℕ)) (form : OpenForm) → form_at told ≡ Ok form → Names told form
 form-tells [] form e = absurd cc e
-form-tells (word ∷ []) form e = by-word (Names (word ∷ [])) word (codes "direct") _ _ form (λ is found. subst (Names (word ∷ [])) (ok_is forms.Direct form found) (ap (λ w. w ∷ []) is, tt))
-    (by-word (Names (word ∷ [])) word (codes "wire") _ _ form (λ is found. subst (Names (word ∷ [])) (ok_is forms.Wire form found) (ap (λ w. w ∷ []) is, tt)) (refused kinds.Word form (Names (word ∷ []) form))) e
-form-tells (word ∷ size ∷ []) form e = by-word (Names (word ∷ size ∷ [])) word (codes "mms") _ _ form (λ is found. subst (λ w. Names (w ∷ size ∷ []) form) (sym is) (sized-tells size form found))
+form-tells (word ∷ []) form e = compared (Names (word ∷ [])) word (codes "direct") _ _ form (λ is found. subst (Names (word ∷ [])) (ok_is forms.Direct form found) (ap (λ w. w ∷ []) is, tt))
+    (compared (Names (word ∷ [])) word (codes "wire") _ _ form (λ is found. subst (Names (word ∷ [])) (ok_is forms.Wire form found) (ap (λ w. w ∷ []) is, tt)) (refused kinds.Word form (Names (word ∷ []) form))) e
+form-tells (word ∷ size ∷ []) form e = compared (Names (word ∷ size ∷ [])) word (codes "mms") _ _ form (λ is found. subst (λ w. Names (w ∷ size ∷ []) form) (sym is) (sized-tells size form found))
     (refused kinds.Word form (Names (word ∷ size ∷ []) form)) e
 form-tells (word ∷ size ∷ next ∷ more) form e = absurd cc e
 
@@ -153,22 +154,24 @@ word_of keywords.Block = codes "block"
 word_of keywords.Tick = codes "tick"
 word_of keywords.End = codes "end"
 
-key-step : (word known : List ℕ) (here there : Keyword) (rest : Option Keyword) → word_of here ≡ known → (rest ≡ Some there → word ≡ word_of there) → cond (bytes_eq word known) (Some here) rest ≡ Some there → word ≡ word_of there
-key-step word known here there rest of other is = by (bytes_eq word known) refl is
-  where
-    by : (b : Bool) → bytes_eq word known ≡ b → cond b (Some here) rest ≡ Some there → word ≡ word_of there
-    by true e found = (bytes_eq-Decides word known).0 e ∙ (sym of ∙ ap word_of (some_is here there found))
-    by false e found = other found
-
-none-some : (there : Keyword) (Q : Type 0) → None ≡ Some there → Q
-none-some there Q is = absurd cc
+abbrev Spelled : List ℕ → Keyword → Type 0
+Spelled word key = word ≡ word_of key
 
 pub key-is : (word : List ℕ) (key : Keyword) → keyword_at word ≡ Some key → word ≡ word_of key
 key-is word key =
-    key-step word (codes "at") keywords.At key _ refl (key-step word (codes "open") keywords.Open key _ refl (key-step word (codes "write") keywords.Write key _ refl
-    (key-step word (codes "pdu") keywords.Pdu key _ refl (key-step word (codes "in") keywords.Piece key _ refl (key-step word (codes "take") keywords.Take key _ refl
-    (key-step word (codes "lost") keywords.Lost key _ refl (key-step word (codes "set") keywords.Set key _ refl (key-step word (codes "done") keywords.Done key _ refl
-    (key-step word (codes "block") keywords.Block key _ refl (key-step word (codes "tick") keywords.Tick key _ refl (key-step word (codes "end") keywords.End key _ refl (none-some key (word ≡ word_of key)))))))))))))
+    by-word (Spelled word) word (codes "at") keywords.At key _ (λ e. e)
+    (by-word (Spelled word) word (codes "open") keywords.Open key _ (λ e. e)
+    (by-word (Spelled word) word (codes "write") keywords.Write key _ (λ e. e)
+    (by-word (Spelled word) word (codes "pdu") keywords.Pdu key _ (λ e. e)
+    (by-word (Spelled word) word (codes "in") keywords.Piece key _ (λ e. e)
+    (by-word (Spelled word) word (codes "take") keywords.Take key _ (λ e. e)
+    (by-word (Spelled word) word (codes "lost") keywords.Lost key _ (λ e. e)
+    (by-word (Spelled word) word (codes "set") keywords.Set key _ (λ e. e)
+    (by-word (Spelled word) word (codes "done") keywords.Done key _ (λ e. e)
+    (by-word (Spelled word) word (codes "block") keywords.Block key _ (λ e. e)
+    (by-word (Spelled word) word (codes "tick") keywords.Tick key _ (λ e. e)
+    (by-word (Spelled word) word (codes "end") keywords.End key _ (λ e. e)
+    (none-some key (word ≡ word_of key)))))))))))))
 
 content-told : (key : Keyword) (more : List (List ℕ)) (line : RecLine) → content_at key more ≡ Ok line → Says (word_of key ∷ more) line
 unfolding content_at words

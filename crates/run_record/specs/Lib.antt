@@ -1,4 +1,6 @@
 pub mod Spelled
 pub mod Grammar
+pub mod Contents
 pub mod Judging
 pub mod Refused
+pub mod Answers

@@ -9,29 +9,55 @@ use Rattle.run_record.specs.declared.line.OpenForm.TheVariants as forms
 use Rattle.run_record.specs.declared.line.RecLine.{RecLine}
 use Rattle.run_record.specs.declared.line.RecLine.TheVariants as lines
 
-abbrev pub form_words : OpenForm → List (List ℕ)
-form_words forms.Direct = codes "direct" ∷ []
-form_words (forms.Mms size) = codes "mms" ∷ decimal size ∷ []
-form_words forms.Wire = codes "wire" ∷ []
-
 abbrev pub pair_words : Pair → List (List ℕ)
 pair_words pair = pair.name ∷ pair.value ∷ []
 
--- the words of a line; none where it is empty or a remark
+-- a form with this word for its size
+abbrev pub form_with : List ℕ → OpenForm → List (List ℕ)
+form_with size forms.Direct = codes "direct" ∷ []
+form_with size (forms.Mms most) = codes "mms" ∷ size ∷ []
+form_with size forms.Wire = codes "wire" ∷ []
+
+-- the words of a line, with these words for its numbers; none where it is empty or a remark
+abbrev pub words_with : List ℕ → List ℕ → RecLine → List (List ℕ)
+words_with number size lines.Skip = []
+words_with number size (lines.At moment) = codes "at" ∷ number ∷ []
+words_with number size (lines.Open a form) = codes "open" ∷ number ∷ form_with size form
+words_with number size (lines.Write a block comp value) = codes "write" ∷ number ∷ block ∷ comp ∷ value ∷ []
+words_with number size (lines.Pdu a hex) = codes "pdu" ∷ number ∷ hex ∷ []
+words_with number size (lines.Piece a hex) = codes "in" ∷ number ∷ hex ∷ []
+words_with number size (lines.Take a) = codes "take" ∷ number ∷ []
+words_with number size (lines.Lost a) = codes "lost" ∷ number ∷ []
+words_with number size (lines.Set pairs) = codes "set" ∷ flat_map pair_words pairs
+words_with number size (lines.Done control well) = codes "done" ∷ control ∷ truth_word well ∷ []
+words_with number size (lines.Block control on) = codes "block" ∷ control ∷ truth_word on ∷ []
+words_with number size lines.Tick = codes "tick" ∷ []
+words_with number size lines.End = codes "end" ∷ []
+
+-- its numbers are in decimal, without leading zeros: a moment or an association, and a size
+abbrev pub number_word : RecLine → List ℕ
+number_word (lines.At moment) = decimal moment
+number_word (lines.Open a form) = decimal a.0
+number_word (lines.Write a block comp value) = decimal a.0
+number_word (lines.Pdu a hex) = decimal a.0
+number_word (lines.Piece a hex) = decimal a.0
+number_word (lines.Take a) = decimal a.0
+number_word (lines.Lost a) = decimal a.0
+number_word line = []
+
+abbrev pub form_size : OpenForm → List ℕ
+form_size (forms.Mms size) = decimal size
+form_size form = []
+
+abbrev pub size_word : RecLine → List ℕ
+size_word (lines.Open a form) = form_size form
+size_word line = []
+
+abbrev pub form_words : OpenForm → List (List ℕ)
+form_words form = form_with (form_size form) form
+
 unfoldable pub words : RecLine → List (List ℕ)
-words lines.Skip = []
-words (lines.At moment) = codes "at" ∷ decimal moment ∷ []
-words (lines.Open a form) = codes "open" ∷ decimal a.0 ∷ form_words form
-words (lines.Write a block comp value) = codes "write" ∷ decimal a.0 ∷ block ∷ comp ∷ value ∷ []
-words (lines.Pdu a hex) = codes "pdu" ∷ decimal a.0 ∷ hex ∷ []
-words (lines.Piece a hex) = codes "in" ∷ decimal a.0 ∷ hex ∷ []
-words (lines.Take a) = codes "take" ∷ decimal a.0 ∷ []
-words (lines.Lost a) = codes "lost" ∷ decimal a.0 ∷ []
-words (lines.Set pairs) = codes "set" ∷ flat_map pair_words pairs
-words (lines.Done control well) = codes "done" ∷ control ∷ truth_word well ∷ []
-words (lines.Block control on) = codes "block" ∷ control ∷ truth_word on ∷ []
-words lines.Tick = codes "tick" ∷ []
-words lines.End = codes "end" ∷ []
+words line = words_with (number_word line) (size_word line) line
 
 abbrev pub spelled : RecLine → List ℕ
 spelled line = join_with_byte 32 (words line)

@@ -3,7 +3,9 @@ ghost use Rattle.cfg_text.specs.Words.{texts};
 ghost use Rattle.cfg_text.specs.Numbers.{number_within};
 ghost use Rattle.cfg_text.specs.Values.{truth_at};
 ghost use Rattle.run_record.specs.declared.line.RecLine.TheVariants.{At, Write, Pdu, Piece, Take, Lost, Done, Block};
-ghost use Rattle.run_record.specs.Judging.{Gives, assoc_at, numbered, form_at, opened, paired, set_at as set_line_at, truth_line, content_at, tell_at, is_long as is_long_text, line_at};
+ghost use Rattle.run_record.specs.Contents.{assoc_at, numbered, form_at, opened, paired, set_at as set_line_at, truth_line, content_at};
+ghost use Rattle.run_record.specs.Judging.{Gives, tell_at, is_long as is_long_text, line_at};
+ghost use Rattle.run_record.specs.Answers.{Answers};
 
 use crate::fault::{Kind, RecFault};
 use crate::keyword::{Keyword, keyword_of};
@@ -88,7 +90,7 @@ fn open_line(a: &[u8], words: &[&[u8]]) -> Result<RecLine, RecFault>
     }
 }
 
-fn write_line(
+fn component_line(
     alloc: Global,
     a: &[u8],
     block: &[u8],
@@ -188,14 +190,14 @@ fn block_line(alloc: Global, control: &[u8], on: &[u8]) -> Result<RecLine, RecFa
 }
 
 /// What the words behind the first tell.
-#[tactic(auto, unfolding(crate::specs::Judging::content_at))]
+#[tactic(auto, unfolding(crate::specs::Contents::content_at))]
 fn content(alloc: Global, keyword: Keyword, words: &[&[u8]]) -> Result<RecLine, RecFault>
     ensures { Gives result (content_at keyword (texts words.now)) }
 {
     match (keyword, words) {
         (Keyword::At, [moment]) => at_line(moment),
         (Keyword::Open, [a, form @ ..]) => open_line(a, form),
-        (Keyword::Write, [a, block, comp, value]) => write_line(alloc, a, block, comp, value),
+        (Keyword::Write, [a, block, comp, value]) => component_line(alloc, a, block, comp, value),
         (Keyword::Pdu, [a, hex]) => pdu_line(alloc, a, hex),
         (Keyword::Piece, [a, hex]) => piece_line(alloc, a, hex),
         (Keyword::Take, [a]) => take_line(a),
@@ -233,15 +235,10 @@ fn is_long(line: &[u8]) -> bool
     line.len() > 140100 || !are_printable(line)
 }
 
-/// What a line of a record tells, without its newline. The line `record` and those of the configuration are no such lines.
-///
-/// Fails with the first of these: Long for more than 140100 octets, or an octet outside 20 to 7E; Word for another first
-/// word or count of words, an empty word, or a word that is no form of an association, or neither `T` nor `F`; Number for an
-/// association that isn't 1 to 16, a moment out of its range, a size that isn't 1024 to 65000, or another spelling than
-/// decimal without leading zeros. `Memory` is want of memory.
+/// What a line tells, in the order of its judging.
 #[tactic(auto, unfolding(crate::specs::Judging::line_at))]
-pub fn read_line(alloc: Global, line: &[u8]) -> Result<RecLine, RecFault>
-    ensures told { Gives result (line_at line.now) }
+fn judge(alloc: Global, line: &[u8]) -> Result<RecLine, RecFault>
+    ensures { Gives result (line_at line.now) }
 {
     if is_long(line) {
         return Err(RecFault::Refused(Kind::Long));
@@ -251,4 +248,17 @@ pub fn read_line(alloc: Global, line: &[u8]) -> Result<RecLine, RecFault>
     }
     let words = parts_of(alloc, line, b' ')?;
     tell(alloc, &words)
+}
+
+/// What a line of a record tells, without its newline. The line `record` and those of the configuration are no such lines.
+///
+/// Fails with the first of these: Long for more than 140100 octets, or an octet outside 20 to 7E; Word for another first
+/// word or count of words, an empty word, or a word that is no form of an association, or neither `T` nor `F`; Number for an
+/// association that isn't 1 to 16, a moment out of its range, a size that isn't 1024 to 65000, or another spelling than
+/// decimal without leading zeros. `Memory` is want of memory.
+pub fn read_line(alloc: Global, line: &[u8]) -> Result<RecLine, RecFault>
+    ensures told { Gives result (line_at line.now) }
+    ensures format { Answers line.now result }
+{
+    judge(alloc, line)
 }

@@ -1,7 +1,7 @@
 use Rattle.std.proofs.Common.{◌≡◌, ℕ, ◌<◌, List, [], ◌∷◌, ◌++◌, length, append-nil, refl, sym, ap, ◌∙◌, arith}
 use Rattle.std.specs.Borrow.{Bor}
 use Rattle.cfg_text.specs.Words.{texts}
-use Rattle.run_record.specs.Judging.{paired}
+use Rattle.run_record.specs.Contents.{paired}
 use Rattle.run_record.proofs.reading.pairs_of.Goals as goal
 
 no-pair : (rest : List (Bor (List ℕ))) → length rest < 2 → paired (texts rest) ≡ []

@@ -1,6 +1,6 @@
 use Rattle.std.proofs.Common.{◌≡◌, ◌++◌, length}
 use Rattle.cfg_text.specs.Words.{texts}
-use Rattle.run_record.specs.Judging.{paired}
+use Rattle.run_record.specs.Contents.{paired}
 use Rattle.run_record.proofs.reading.pairs_of.Given as goal
 
 abbrev pub invariant-loop-rest : goal.invariant-loop-rest
