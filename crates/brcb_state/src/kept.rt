@@ -30,6 +30,8 @@ pub enum Effect {
     PurgingChange,
     /// A general interrogation: an entry of all members.
     General,
+    /// An association has enabled the block, which nobody had.
     Enabled,
+    /// Nobody enables the block any longer.
     Disabled,
 }

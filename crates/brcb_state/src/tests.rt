@@ -1,6 +1,7 @@
 use super::*;
 use bay_model::Comp;
 use std::alloc::{AllocError, Global};
+use std::process::Abort;
 use std::test::*;
 use sv_base::{AssocNo, Bits, BlockDef, Moment, Octs, Stamp, Value};
 
@@ -48,8 +49,36 @@ fn entry_id(alloc: Global, n: u64) -> Result<Value, AllocError> {
     Ok(Value::Octets(octets(alloc, &n.to_be_bytes())?))
 }
 
-fn set(block: &mut Block, a: AssocNo, comp: Comp, on: bool) -> Result<Effect, u8> {
-    block.write(a, comp, &Value::Bool(on), kept(0, 0), false)
+/// A write, and what it is to be answered.
+#[derive(Drop)]
+struct Trial {
+    a: AssocNo,
+    comp: Comp,
+    value: Value,
+    answer: Result<Effect, u8>,
+}
+
+fn row(a: AssocNo, comp: Comp, value: Value, answer: Result<Effect, u8>) -> Trial {
+    Trial {
+        a,
+        comp,
+        value,
+        answer,
+    }
+}
+
+/// RptEna.
+fn enable(a: AssocNo, on: bool, answer: Result<Effect, u8>) -> Trial {
+    row(a, Comp::RptEna, Value::Bool(on), answer)
+}
+
+/// Makes the writes in order, with these entries.
+fn write(rt: &impl Abort, block: &mut Block, kept: Kept, rows: &[Trial]) -> Result<(), Fail> {
+    for row in rows {
+        let answer = block.write(row.a, row.comp, &row.value, kept, false);
+        assert_eq!(rt; answer, row.answer, "{:?} {:?}", row.comp, row.value);
+    }
+    Ok(())
 }
 
 // What a client sets as EntryID, and the report that comes first then: by the entries that are there at its write, and
@@ -84,17 +113,12 @@ fn reports_go_on_behind_an_entry(rt: HostRuntime) -> Result<(), Fail> {
     ] {
         let mut block = block(rt.alloc())?;
         let id = entry_id(rt.alloc(), n)?;
-        assert_eq!(rt;
-            block.write(ONE, Comp::EntryID, &id, there, false),
-            answer,
-            "entry {n}"
-        );
-        assert_eq!(rt;
-            set(&mut block, ONE, Comp::RptEna, true),
-            Ok(Effect::Enabled)
-        );
+        let rows = [
+            row(ONE, Comp::EntryID, id, answer),
+            enable(ONE, true, Ok(Effect::Enabled)),
+        ];
+        write(&rt, &mut block, there, &rows)?;
         assert_eq!(rt; block.next(ONE, later), first, "entry {n}");
-        assert_eq!(rt; block.next(TWO, later), None);
     }
     Ok(())
 }
@@ -102,79 +126,54 @@ fn reports_go_on_behind_an_entry(rt: HostRuntime) -> Result<(), Fail> {
 // Two associations: the first has enabled the block, and is lost; the second resumes behind entry 1.
 #[test]
 fn an_enabled_block_is_held(rt: HostRuntime) -> Result<(), Fail> {
-    let mut block = block(rt.alloc())?;
-    let zero = entry_id(rt.alloc(), 0)?;
-    let first = entry_id(rt.alloc(), 1)?;
-    let three = kept(0, 3);
-    assert_eq!(rt;
-        set(&mut block, ONE, Comp::RptEna, true),
-        Ok(Effect::Enabled)
-    );
-    assert_eq!(rt;
-        block.write(ONE, Comp::EntryID, &zero, three, false),
-        Err(2)
-    );
-    assert_eq!(rt;
-        block.write(TWO, Comp::EntryID, &zero, three, false),
-        Err(2)
-    );
-    assert_eq!(rt; set(&mut block, TWO, Comp::RptEna, false), Err(2));
-    assert_eq!(rt; block.next(ONE, three), next(1, false, 0));
+    let alloc = rt.alloc();
+    let mut block = block(alloc)?;
+    let held = [
+        enable(ONE, true, Ok(Effect::Enabled)),
+        row(ONE, Comp::EntryID, entry_id(alloc, 0)?, Err(2)),
+        row(TWO, Comp::EntryID, entry_id(alloc, 0)?, Err(2)),
+        enable(TWO, false, Err(2)),
+        row(ONE, Comp::GI, Value::Bool(true), Ok(Effect::General)),
+    ];
+    write(&rt, &mut block, kept(0, 3), &held)?;
     block.sent(1);
     block.lost(ONE);
-    assert_eq!(rt;
-        block.write(TWO, Comp::EntryID, &first, three, false),
-        Ok(Effect::Nothing)
-    );
-    assert_eq!(rt;
-        set(&mut block, TWO, Comp::RptEna, true),
-        Ok(Effect::Enabled)
-    );
-    assert_eq!(rt; block.next(TWO, three), next(2, false, 0));
-    block.sent(2);
-    assert_eq!(rt; block.next(TWO, three), next(3, false, 1));
-    block.sent(3);
-    assert_eq!(rt; block.next(TWO, three), None);
+    let resumed = [
+        row(TWO, Comp::EntryID, entry_id(alloc, 1)?, Ok(Effect::Nothing)),
+        enable(TWO, true, Ok(Effect::Enabled)),
+    ];
+    write(&rt, &mut block, kept(0, 3), &resumed)?;
+    for (id, sq) in [(2, 0), (3, 1)] {
+        assert_eq!(rt; block.next(TWO, kept(0, 3)), next(id, false, sq));
+        block.sent(id);
+    }
+    assert_eq!(rt; block.next(TWO, kept(0, 3)), None);
     Ok(())
 }
 
-// What isn't enabled: interrogations, the purge, other types and sets.
+// Interrogation, other types and sets, and changes, where nobody has enabled the block.
 #[test]
 fn writes_to_a_disabled_block(rt: HostRuntime) -> Result<(), Fail> {
-    let mut block = block(rt.alloc())?;
-    let text = Value::Text(octets(rt.alloc(), b"BAY1/LLN0$None")?);
-    assert_eq!(rt; set(&mut block, ONE, Comp::GI, true), Err(2));
-    assert_eq!(rt;
-        set(&mut block, ONE, Comp::RptEna, false),
-        Ok(Effect::Nothing)
-    );
-    assert_eq!(rt;
-        block.write(ONE, Comp::BufTm, &text, kept(0, 0), false),
-        Err(7)
-    );
-    assert_eq!(rt;
-        block.write(ONE, Comp::SqNum, &Value::Uint(0), kept(0, 0), false),
-        Err(3)
-    );
-    assert_eq!(rt;
-        block.write(ONE, Comp::DatSet, &text, kept(0, 0), false),
-        Err(11)
-    );
-    assert_eq!(rt;
-        set(&mut block, ONE, Comp::PurgeBuf, true),
-        Ok(Effect::Purge)
-    );
-    assert_eq!(rt;
-        block.write(ONE, Comp::IntgPd, &Value::Uint(1000), kept(1, 1), false),
-        Ok(Effect::PurgingChange)
-    );
+    let alloc = rt.alloc();
+    let mut block = block(alloc)?;
+    let number = Value::Text(octets(alloc, b"x")?);
+    let set = Value::Text(octets(alloc, b"BAY1/LLN0$None")?);
+    let rows = [
+        row(ONE, Comp::GI, Value::Bool(true), Err(2)),
+        enable(ONE, false, Ok(Effect::Nothing)),
+        row(ONE, Comp::BufTm, number, Err(7)),
+        row(ONE, Comp::SqNum, Value::Uint(0), Err(3)),
+        row(ONE, Comp::DatSet, set, Err(11)),
+        row(ONE, Comp::PurgeBuf, Value::Bool(true), Ok(Effect::Purge)),
+        row(
+            ONE,
+            Comp::IntgPd,
+            Value::Uint(1000),
+            Ok(Effect::PurgingChange),
+        ),
+    ];
+    write(&rt, &mut block, kept(1, 1), &rows)?;
     assert_eq!(rt; block.period(), 1000);
-    assert_eq!(rt;
-        set(&mut block, ONE, Comp::RptEna, true),
-        Ok(Effect::Enabled)
-    );
-    assert_eq!(rt; set(&mut block, ONE, Comp::GI, true), Ok(Effect::General));
-    assert_eq!(rt; block.next(ONE, kept(1, 2)), next(2, true, 0));
     Ok(())
 }
 
