@@ -215,29 +215,43 @@ fn first_wrong_names(alloc: Global, model: &Model) -> Result<Option<usize>, Allo
     Ok(None)
 }
 
-fn has_block(model: &Model, reference: &[u8]) -> bool {
-    model.block(reference).is_some()
+/// Whether blocks and controls are found by their references, and a take by a number of 1 to 16 alone fits.
+fn has_its_parts(model: &Model) -> bool {
+    model.block(b"BAY1/LLN0$BR$brcb1").is_some()
+        && model.control(b"BAY1/XCBR1$CO$Pos").is_some()
+        && model.control(b"BAY2/XCBR1$CO$Pos").is_none()
+        && model.fits(&Step::Take(AssocNo(16)))
+        && !model.fits(&Step::Take(AssocNo(17)))
 }
 
-fn has_control(model: &Model, reference: &[u8]) -> bool {
-    model.control(reference).is_some()
+fn built(alloc: Global) -> Result<Model, AllocError> {
+    let config = config(alloc)?;
+    Model::build(alloc, config)
 }
 
-fn fits_a_take(model: &Model, a: u32) -> bool {
-    model.fits(&Step::Take(AssocNo(a)))
+fn copied(alloc: Global) -> Result<Model, AllocError> {
+    let model = built(alloc)?;
+    model.copy(alloc)
 }
 
 #[test]
-fn a_configuration_has_its_names(rt: HostRuntime) -> Result<(), Fail> {
-    let built = Model::build(rt.alloc(), config(rt.alloc())?)?;
-    let model = built.copy(rt.alloc())?;
-    assert_eq!(rt; first_wrong_node(&model), None);
-    assert_eq!(rt; first_wrong_attr(&model), None);
-    assert_eq!(rt; first_wrong_names(rt.alloc(), &model)?, None);
-    assert!(rt; has_block(&model, b"BAY1/LLN0$BR$brcb1"));
-    assert!(rt; has_control(&model, b"BAY1/XCBR1$CO$Pos"));
-    assert!(rt; !has_control(&model, b"BAY2/XCBR1$CO$Pos"));
-    assert!(rt; fits_a_take(&model, 16));
-    assert!(rt; !fits_a_take(&model, 17));
+fn nodes_are_found_by_domain_and_item(rt: HostRuntime) -> Result<(), Fail> {
+    let model = copied(rt.alloc())?;
+    assert!(rt; first_wrong_node(&model).is_none());
+    Ok(())
+}
+
+#[test]
+fn references_have_the_numbers_of_their_lines(rt: HostRuntime) -> Result<(), Fail> {
+    let model = built(rt.alloc())?;
+    assert!(rt; first_wrong_attr(&model).is_none());
+    assert!(rt; has_its_parts(&model));
+    Ok(())
+}
+
+#[test]
+fn names_go_on_behind_a_name(rt: HostRuntime) -> Result<(), Fail> {
+    let model = built(rt.alloc())?;
+    assert!(rt; first_wrong_names(rt.alloc(), &model)?.is_none());
     Ok(())
 }
