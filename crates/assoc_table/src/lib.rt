@@ -1,0 +1,15 @@
+//! The associations of a bay: which are open, by whom, and what waits to be taken for each (IEC 61850-7-2, two-party
+//! application associations).
+#![tactic(auto)]
+
+mod laws;
+mod seat;
+mod table;
+mod waiting;
+
+pub use laws::associations_stand;
+pub use table::Assocs;
+pub use waiting::{Ends, Full, Waiting};
+
+#[cfg(test)]
+mod tests;

@@ -1,0 +1,25 @@
+use bay_model::Output;
+use sv_base::{ActorNo, CtlNo};
+
+/// An output that waits to be taken: a reply with the errors before it, or the termination of a control, positive or
+/// negative.
+#[derive(Debug, Drop)]
+pub enum Waiting {
+    Reply(Output),
+    Termination(CtlNo, bool),
+}
+
+/// There are 16 replies already.
+#[derive(Clone, Copy, Debug, PartialEq, Eq)]
+pub struct Full;
+
+/// The two ends of an open association, and its greatest size of a PDU.
+#[derive(Clone, Copy, Debug)]
+pub struct Ends {
+    /// Who opened it.
+    pub opener: ActorNo,
+    /// Who takes for it.
+    pub writer: ActorNo,
+    /// In octets, 1024 to 65000.
+    pub size: u32,
+}
