@@ -23,7 +23,7 @@ pub enum Misfit {
 }
 
 /// Whether two rows of bits are the same.
-fn are_same(one: &[bool], other: &[bool]) -> bool
+pub fn are_same(one: &[bool], other: &[bool]) -> bool
     ensures { result ≡ is_same_bits one.now other.now }
 {
     match one {
@@ -92,7 +92,7 @@ fn set_bool(old: &mut bool, value: &Value) -> Result<bool, Misfit>
 }
 
 /// Whether a number is within so many bits, 8, 16, 32 or 64, in two's complement.
-fn fits_int(width: u8, value: i64) -> bool
+pub fn fits_int(width: u8, value: i64) -> bool
     requires { IsWidth width }
     ensures { result ≡ is_in_range (int width) (values.Int value) }
 {
@@ -105,7 +105,7 @@ fn fits_int(width: u8, value: i64) -> bool
 }
 
 /// Whether a number is within so many bits, 8, 16, 32 or 64.
-fn fits_uint(width: u8, value: u64) -> bool
+pub fn fits_uint(width: u8, value: u64) -> bool
     requires { IsWidth width }
     ensures { result ≡ is_in_range (uint width) (values.Uint value) }
 {
@@ -214,7 +214,7 @@ fn set_stamp(old: &mut Stamp, value: &Value) -> Result<bool, Misfit>
 }
 
 /// Puts octets in the place of others, within their room; tells whether they were others.
-fn replace(old: &mut Fixed, new: &[u8]) -> bool
+pub fn replace(old: &mut Fixed, new: &[u8]) -> bool
     requires { length new.now ≤ old.old.room }
     ensures differs { result ≡ not (bytes_eq new.now old.old.items) }
     ensures set { old.new ≡ record { items = new.now; room = old.old.room } }

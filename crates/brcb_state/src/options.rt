@@ -1,29 +1,15 @@
 //! The attributes of a block that a client sets once for many reports.
 
 ghost use Rattle.std.specs.Prelude.{◌≡◌, ◌≤◌, not, length, IfOk};
-ghost use Rattle.std.specs.Str.{bytes_eq};
 ghost use Rattle.sv_base.specs.Same.{is_same_bits};
 
-use bay_model::Fixed;
+use bay_model::{Fixed, are_same, replace};
 use std::alloc::{AllocError, Global};
 use std::marker::Model;
 use sv_base::BlockDef;
 
 /// The greatest length of RptID and of DatSet in octets.
 pub const MOST: usize = 129;
-
-/// Whether two rows of bits are the same.
-fn are_same(one: &[bool], other: &[bool]) -> bool
-    ensures { result ≡ is_same_bits one.now other.now }
-{
-    match one {
-        [] => other.is_empty(),
-        [a, one @ ..] => match other {
-            [] => false,
-            [b, other @ ..] => *a == *b && are_same(one, other),
-        },
-    }
-}
 
 /// Octets with room for the greatest length at least.
 fn roomy(alloc: Global, octets: &[u8]) -> Result<Fixed, AllocError>
@@ -35,18 +21,6 @@ fn roomy(alloc: Global, octets: &[u8]) -> Result<Fixed, AllocError>
     let mut text = Fixed::new(alloc, room)?;
     text.push(octets);
     Ok(text)
-}
-
-/// Puts octets in the place of others, within their room; tells whether they were others.
-fn replace(old: &mut Fixed, new: &[u8]) -> bool
-    requires { length new.now ≤ old.old.room }
-    ensures differs { result ≡ not (bytes_eq new.now old.old.items) }
-    ensures set { old.new ≡ record { items = new.now; room = old.old.room } }
-{
-    let differs = new != old.as_slice();
-    old.clear();
-    old.push(new);
-    differs
 }
 
 /// Puts bits in the place of as many others; tells whether they were others.

@@ -2,15 +2,13 @@
 
 ghost use Rattle.std.specs.Prelude.{◌≡◌, ◌&&◌};
 ghost use Rattle.std.specs.List.{All, list_all};
-ghost use Rattle.sv_base.specs.declared.value.Value.TheVariants as values;
 ghost use Rattle.sv_base.specs.Seen.{row_of};
-ghost use Rattle.bay_model.specs.Model.{int, uint};
 ghost use Rattle.bay_model.specs.Configured.{kind_of};
 ghost use Rattle.bay_model.specs.Kinds.{is_kind, is_in_range};
-ghost use Rattle.bay_model.specs.Slots.{IsSettable, IsWidth};
+ghost use Rattle.bay_model.specs.Slots.{IsSettable};
 ghost use Rattle.object_model.specs.Fits.{is_visible as is_visible_octets, is_sound as is_sound_value, are_sound as are_sound_row, name_fits as name_fits_in, target_fits as target_fits_in, write_fits as write_fits_in, set_fits as set_fits_in, set_name_fits, service_fits as service_fits_in, setting_fits as setting_fits_in, is_association as is_association_number, step_fits as step_fits_in};
 
-use bay_model::{ObjName, Service, SetName, Setting, Step, Target, Write};
+use bay_model::{ObjName, Service, SetName, Setting, Step, Target, Write, fits_int, fits_uint};
 use sv_base::{AssocNo, TypeOf, Value};
 
 /// How many nodes, blocks and controls there are.
@@ -148,32 +146,6 @@ fn service_fits(counts: Counts, service: &Service) -> bool
         Service::SetOf { domain, item } => set_fits(domain.as_slice(), item.as_slice()),
         Service::Delete { names, .. } => sets_fit(names.as_slice()),
         Service::Reject(number) => 1 <= *number && *number <= 4,
-        _ => true,
-    }
-}
-
-/// Whether a number is within so many bits, 8, 16, 32 or 64, in two's complement.
-fn fits_int(width: u8, value: i64) -> bool
-    requires { IsWidth width }
-    ensures { result ≡ is_in_range (int width) (values.Int value) }
-{
-    match width {
-        8 => -128 <= value && value <= 127,
-        16 => -32768 <= value && value <= 32767,
-        32 => -2147483648 <= value && value <= 2147483647,
-        _ => true,
-    }
-}
-
-/// Whether a number is within so many bits, 8, 16, 32 or 64.
-fn fits_uint(width: u8, value: u64) -> bool
-    requires { IsWidth width }
-    ensures { result ≡ is_in_range (uint width) (values.Uint value) }
-{
-    match width {
-        8 => value < 256,
-        16 => value < 65536,
-        32 => value < 4294967296,
         _ => true,
     }
 }

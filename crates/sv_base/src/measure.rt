@@ -46,8 +46,9 @@ fn length_len(content: u32) -> u32
     1 + without_zeros(&content.to_be_bytes()).len() as u32
 }
 
-/// How many octets an element has whose content has so many, and 4294967295 where there are more.
-fn element_len(content: u32) -> u32
+/// How many octets an element has whose tag has one octet and whose content has so many (ITU-T X.690, 8.1), and
+/// 4294967295 where there are more.
+pub fn element_len(content: u32) -> u32
     ensures { result ≡ min (1 + (length (length_field content) + content)) 4294967295 }
 {
     content.saturating_add(1 + length_len(content))

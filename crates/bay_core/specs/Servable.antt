@@ -1,0 +1,68 @@
+-- Which configurations a bay serves: as a configuration's text has them, without controls and setting groups, and with
+-- blocks that report at once and have no integrity period (IEC 61850-7-2, DATA-SET and BRCB attributes BufTm and IntgPd).
+use Rattle.std.specs.Prelude.{◌≡◌, ◌<◌, ◌≤◌, ℕ, true, List, [], ◌∷◌, ◌++◌, map, length, slice_index_or}
+use Rattle.std.specs.List.{All}
+use Rattle.sv_base.specs.Types.{Shape, simple, composed, Fields, no_field, field}
+use Rattle.sv_base.specs.Fields.{shape_of}
+use Rattle.sv_base.specs.Same.{values_of}
+use Rattle.sv_base.specs.declared.config.Config.{Config}
+use Rattle.sv_base.specs.declared.config.AttrDef.{AttrDef}
+use Rattle.sv_base.specs.declared.config.BlockDef.{BlockDef}
+use Rattle.sv_base.specs.declared.types.TypeOf.{TypeOf}
+use Rattle.sv_base.specs.declared.types.TypeOf.TheVariants as types
+use Rattle.bay_model.specs.Model.{DataSet}
+use Rattle.bay_model.specs.Attributes.{attributes}
+use Rattle.bay_model.specs.Lookups.{node_of}
+use Rattle.bay_model.specs.Named.{configured_model, nodes}
+use Rattle.object_model.specs.Fits.{attr_types, is_sound}
+use Rattle.object_model.specs.Tables.{node_type}
+use Rattle.value_store.specs.Opened.{IsStorable, HasDomains}
+use Rattle.value_store.specs.Wholes.{HasForm, tree_attrs}
+
+-- the basic types that a type is made of, in order
+abbrev mutual
+  pub leaf_shapes : Shape → List Shape
+  leaf_shapes (simple k) = simple k ∷ []
+  leaf_shapes (composed fs) = leaf_shapes_in fs
+
+  pub leaf_shapes_in : Fields → List Shape
+  leaf_shapes_in no_field = []
+  leaf_shapes_in (field name s fs) = leaf_shapes s ++ leaf_shapes_in fs
+
+-- the type of attribute x
+abbrev pub attr_type : Config → ℕ → TypeOf
+attr_type c x = slice_index_or (attr_types c) x types.Bool
+
+-- a node that a data set may have: it is there, and its value is made of its attributes, in the order of its type
+pub record IsMember (c : Config) (n : ℕ) : Type 0 where
+  pub there : n < length (nodes c)
+  pub allowed : (node_of (configured_model c) n).allowed ≡ true
+  pub form : HasForm (node_of (configured_model c) n).tree (shape_of (node_type c n))
+  pub attrs : (node_of (configured_model c) n).attrs ≡ tree_attrs (node_of (configured_model c) n).tree
+  pub within : All (λ x. x < length (attributes c)) (node_of (configured_model c) n).attrs
+  pub kinds : leaf_shapes (shape_of (node_type c n)) ≡ map (λ x. shape_of (attr_type c x)) (node_of (configured_model c) n).attrs
+
+pub record IsServedSet (c : Config) (s : DataSet) : Type 0 where
+  pub few : length s.nodes ≤ 256
+  pub members : All (IsMember c) s.nodes
+
+-- a block whose entries come to be at once, and whose numbers of bits are those of OptFlds and TrgOps
+pub record IsServedBlock (b : BlockDef) : Type 0 where
+  pub opt_flds : length b.opt_flds ≡ 10
+  pub trg_ops : length b.trg_ops ≡ 6
+  pub buf_tm : b.buf_tm ≡ 0
+  pub intg_pd : b.intg_pd ≡ 0
+
+-- the values of an attribute's line have parts of a second below one, and visible texts
+abbrev pub HasSoundValues : AttrDef → Type 0
+HasSoundValues a = All (λ v. is_sound v ≡ true) (values_of a.values)
+
+pub record IsServable (c : Config) : Type 0 where
+  pub controls : c.controls ≡ []
+  pub groups : c.groups ≡ []
+  pub storable : IsStorable c
+  pub sound : All HasSoundValues c.attrs
+  pub domains : HasDomains c
+  pub blocks : All IsServedBlock c.blocks
+  pub few : length c.blocks ≤ 32
+  pub sets : All (IsServedSet c) (configured_model c).sets
