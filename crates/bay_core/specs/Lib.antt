@@ -1,0 +1,4 @@
+pub mod Servable
+pub mod State
+pub mod Standing
+pub mod Turns

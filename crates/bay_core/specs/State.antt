@@ -1,0 +1,54 @@
+-- What contracts see of a bay: its configuration, how many steps it made, the newest moment, the values of attributes, its
+-- report blocks with their buffers and the members of their data sets, and its associations.
+use Rattle.std.specs.Prelude.{◌≡◌, ◌<◌, ℕ, true, List, [], map, length, Option, Some, slice_get}
+use Rattle.sv_base.specs.declared.config.Config.{Config}
+use Rattle.bay_model.specs.Rooms.{Filled}
+use Rattle.bay_model.specs.Attributes.{attributes}
+use Rattle.bay_model.specs.Configured.{kind_of}
+use Rattle.bay_model.specs.Kinds.{is_kind, is_in_range}
+use Rattle.bay_model.specs.Named.{configured_model}
+use Rattle.bay_model.specs.Sets.{members}
+use Rattle.bay_model.specs.Slots.{Held}
+use Rattle.bay_model.specs.declared.note.Mention.{Mention}
+use Rattle.bay_model.specs.declared.tables.MemberShape.{MemberShape}
+use Rattle.object_model.specs.Fits.{is_sound}
+use Rattle.object_model.specs.Nodes.{node_rows}
+use Rattle.object_model.specs.Tables.{node_id}
+use Rattle.data_sets.specs.Booked.{shapes_of}
+use Rattle.value_store.specs.Stored.{Stored, attribute}
+use Rattle.assoc_table.specs.Seats.{Row}
+use Rattle.bay_core.specs.declared.part.Part.{Part}
+use Rattle.bay_core.specs.Servable.{IsServable, attr_type}
+
+pub record State : Type 0 where
+  pub config : Config
+  pub steps : ℕ
+  pub latest : ℕ
+  pub stored : List Stored
+  pub parts : List Part
+  pub rows : List Row
+
+-- the shapes of the members of block b's data set
+abbrev pub served_members : Config → ℕ → List MemberShape
+served_members c b = shapes_of (node_rows c) (map node_id (members (configured_model c) b []))
+
+-- a value of its kind, within its range, with visible texts and parts of a second below one
+pub record IsSoundCell (h : Held) : Type 0 where
+  pub kind : is_kind h.kind h.value ≡ true
+  pub range : is_in_range h.kind h.value ≡ true
+  pub sound : is_sound h.value ≡ true
+
+-- each attribute of the configuration has a value of its type
+pub record AreHeld (c : Config) (stored : List Stored) : Type 0 where
+  pub count : length stored ≡ length (attributes c)
+  pub kinds : (x : ℕ) → x < length stored → (attribute stored x).held.kind ≡ kind_of (attr_type c x)
+  pub sound : (x : ℕ) → x < length stored → IsSoundCell (attribute stored x).held
+
+-- the parts fit the configuration, and the room that notes and entries need was made
+pub record IsFurnished (c : Config) (stored : List Stored) (parts : List Part) (note : Filled Mention) (kept : Filled ℕ) : Type 0 where
+  pub servable : IsServable c
+  pub values : AreHeld c stored
+  pub count : length parts ≡ length c.blocks
+  pub members : (b : ℕ) (part : Part) → slice_get parts b ≡ Some part → part.members.items ≡ served_members c b
+  pub note : note.room ≡ 256
+  pub kept : kept.room ≡ 129024

@@ -1,0 +1,38 @@
+-- What a step is answered, and what it makes of the bay.
+use Rattle.std.specs.Prelude.{◌≡◌, ℕ, ⊥, List, ◌∷◌, Option, None, Some, Unit, Result, Ok, Err}
+use Rattle.sv_base.specs.declared.config.Config.{Config}
+use Rattle.bay_model.specs.declared.answer.Answer.{Answer}
+use Rattle.bay_model.specs.declared.step.Comp.TheVariants as comps
+use Rattle.bay_model.specs.declared.step.Step.{Step}
+use Rattle.bay_model.specs.declared.step.Step.TheVariants as steps
+use Rattle.bay_model.specs.Named.{configured_model}
+use Rattle.bay_model.specs.Answers.{Turn, History, answer}
+use Rattle.bay_model.specs.Acceptance.{Fault, IsOpen, NotOpen, NotYours, fault}
+use Rattle.bay_core.specs.declared.fault.StepFault.{StepFault}
+use Rattle.bay_core.specs.declared.fault.StepFault.TheVariants as faults
+use Rattle.bay_core.specs.State.{State}
+use Rattle.bay_core.specs.Standing.{StandsFor}
+
+-- the steps that a bay takes: a write is one of RptEna, EntryID or PurgeBuf
+abbrev pub IsBuilt : Step → Type 0
+IsBuilt (steps.Ask a r) = ⊥
+IsBuilt (steps.Done k good) = ⊥
+IsBuilt (steps.Block k flag) = ⊥
+IsBuilt (steps.Write a b comps.RptEna v) = Unit {0}
+IsBuilt (steps.Write a b comps.EntryID v) = Unit {0}
+IsBuilt (steps.Write a b comps.PurgeBuf v) = Unit {0}
+IsBuilt (steps.Write a b comp v) = ⊥
+IsBuilt _ = Unit {0}
+
+-- the fault that a refusal names; want of memory is no fault of the step
+abbrev pub named : StepFault → Option Fault
+named (faults.IsOpen a) = Some (IsOpen a.0)
+named (faults.NotOpen a) = Some (NotOpen a.0)
+named (faults.NotYours a) = Some (NotYours a.0)
+named faults.Memory = None
+
+-- From old to new by a turn: an accepted one is answered as the definitions have it, and new stands for the longer history;
+-- a refused one has the fault that the definitions name, or wants memory where they name none, and leaves all as it was.
+abbrev pub Does : State → State → Turn → Result Answer StepFault → Type 0
+Does old new t (Ok a) = (c : Config) (h : History) → StandsFor old c h → (a ≡ answer (configured_model c) h t) × StandsFor new c (t ∷ h)
+Does old new t (Err f) = (new ≡ old) × ((c : Config) (h : History) → StandsFor old c h → named f ≡ fault (configured_model c) h t)

@@ -1,0 +1,54 @@
+//! A bay.
+
+use crate::part::Part;
+use assoc_table::Assocs;
+use bay_model::{Fixed, Note};
+use object_model::Model;
+use sv_base::Moment;
+use value_store::Store;
+
+/// A bay: its configuration and all that its steps came to. Contracts see the state that `specs/` defines.
+#[derive(Drop)]
+pub struct Bay {
+    pub(crate) model: Model,
+    pub(crate) steps: u64,
+    pub(crate) latest: Moment,
+    pub(crate) store: Store,
+    pub(crate) parts: Vec<Part>,
+    pub(crate) associations: Assocs,
+    pub(crate) note: Note,
+    pub(crate) kept: Fixed,
+}
+
+impl std::marker::Model for Bay {
+    ghost use Rattle.std.specs.Coded.{codes};
+    ghost use Rattle.sv_base.specs.Tree.{row_code};
+    ghost use Rattle.sv_base.specs.Types.{fields_code};
+    ghost use Rattle.bay_core.specs.State.{State, IsFurnished};
+
+    ghost Value = { State };
+
+    ghost coded = { Prim.hlevel (codes, row_code, fields_code) };
+
+    ghost view = { λ b. record { config = b.model; steps = b.steps; latest = b.latest; stored = b.store; parts = b.parts.items; rows = b.associations } };
+
+    ghost invariant = { λ b. IsFurnished b.model b.store b.parts.items b.note b.kept };
+}
+
+impl Bay {
+    ghost use Rattle.std.specs.Prelude.{◌≡◌};
+
+    /// How many steps were made.
+    pub fn steps(&self) -> u64
+        ensures { result ≡ self.now.steps }
+    {
+        self.steps
+    }
+
+    /// The model.
+    pub fn model(&self) -> &Model
+        ensures { result.now ≡ self.now.config }
+    {
+        &self.model
+    }
+}
