@@ -2,3 +2,4 @@ pub mod Servable
 pub mod State
 pub mod Standing
 pub mod Turns
+pub mod Offers
