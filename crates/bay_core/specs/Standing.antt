@@ -27,7 +27,7 @@ use Rattle.bay_core.specs.State.{State}
 pub record IsMemberKept (k : Kept) : Type 0 where
   pub number : (1 ≤ k.number) × (k.number ≤ 256)
   pub value : Value
-  pub data : k.octets ≡ data_of value
+  pub spelled : k.octets ≡ data_of value
   pub short : (1 ≤ length k.octets) × (length k.octets ≤ 500)
 
 abbrev pub IsReadable : Entry → Type 0

@@ -50,5 +50,5 @@ pub record IsFurnished (c : Config) (stored : List Stored) (parts : List Part) (
   pub values : AreHeld c stored
   pub count : length parts ≡ length c.blocks
   pub members : (b : ℕ) (part : Part) → slice_get parts b ≡ Some part → part.members.items ≡ served_members c b
-  pub note : note.room ≡ 256
-  pub kept : kept.room ≡ 129024
+  pub note_room : note.room ≡ 256
+  pub kept_room : kept.room ≡ 129024
