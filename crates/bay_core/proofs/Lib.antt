@@ -1,1 +1,3 @@
+pub mod QuietLaws
 pub mod MoveLaws
+pub mod StillLaws

@@ -27,12 +27,14 @@ impl Bay {
     ghost use Rattle.std.specs.Prelude.{◌≡◌, ◌<◌, ◌^◌, suc, max};
     ghost use Rattle.bay_model.specs.declared.step.Step.TheVariants as steps;
     ghost use Rattle.assoc_table.specs.Tables.{IsNumber};
+    ghost use Rattle.bay_core.specs.Servable.{IsServable};
     ghost use Rattle.bay_core.specs.Turns.{Does};
 
     /// One more step was made, at a moment.
     pub(crate) fn advance(&mut self, moment: Moment)
         requires { self.old.steps < 2 ^ 62 }
-        ensures { self.new ≡ record self.old { steps = suc self.old.steps; latest = max self.old.latest moment } }
+        ensures moved { self.new ≡ record self.old { steps = suc self.old.steps; latest = max self.old.latest moment } }
+        ensures served { IsServable self.old.config }
     {
         self.steps += 1;
         self.latest = self.latest.later(moment);
