@@ -1,3 +1,6 @@
 pub mod QuietLaws
 pub mod MoveLaws
 pub mod StillLaws
+pub mod EndLaws
+pub mod EachLaws
+pub mod FurnishLaws

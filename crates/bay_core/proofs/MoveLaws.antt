@@ -1,5 +1,5 @@
 -- The state of a bay after one more point.
-use Rattle.std.proofs.Common.{◌≡◌, ℕ, suc, ◌+◌, max, Bool, true, false, List, [], ◌∷◌, Option, None, Some, refl, ap, arith, ◌∙◌, sym}
+use Rattle.std.proofs.Common.{◌≡◌, ℕ, suc, ◌+◌, max, Bool, true, false, List, [], ◌∷◌, Option, None, Some, refl, ap, arith, ◌∙◌, sym, subst}
 use Rattle.std.specs.Prelude.{length, if◌then◌else◌}
 use Rattle.sv_base.specs.declared.config.Config.{Config}
 use Rattle.bay_model.specs.Model.{Model}
@@ -47,3 +47,8 @@ waits-none m a p past empty puts gives = rw (gives, empty, puts) (by (is_start a
   by : (t : Bool) → ◌≡◌ {A = List Waiting} (if t then [] else []) []
   by true = refl
   by false = refl
+
+-- the same of a state that is known by an equation
+pub accepted-as : (s t u : State) (c : Config) (h : History) (turn : Turn) → StandsFor s c h → fault (configured_model c) h turn ≡ None → t ≡ u
+    → StandsAt u c (suc (length h)) (turned (configured_model c) (length h) turn (points (configured_model c) h)) → StandsFor t c (turn ∷ h)
+accepted-as s t u c h turn st none is at = accepted s t c h turn st none (subst (λ v. StandsAt v c (suc (length h)) (turned (configured_model c) (length h) turn (points (configured_model c) h))) (sym is) at)

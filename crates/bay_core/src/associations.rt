@@ -11,15 +11,13 @@ use bay_model::Answer;
 use sv_base::{ActorNo, AssocNo, Moment};
 
 /// An association was lost: the blocks that it has enabled it enables no longer.
-fn lose_all(parts: &mut [Part], a: AssocNo)
-    ensures { parts.new ≡ after_loss_all a parts.old }
+fn lose_all(parts: &mut Vec<Part>, a: AssocNo)
+    ensures { parts.new.items ≡ after_loss_all a parts.old.items }
 {
-    match parts {
-        [] => (),
-        [first, rest @ ..] => {
-            first.block.lost(a);
-            lose_all(rest, a);
-        }
+    let mut place = 0;
+    while place < parts.len() {
+        parts[place].block.lost(a);
+        place += 1;
     }
 }
 
