@@ -126,3 +126,6 @@ lost-fault m past actor a opener writer is yours = rw (is, yours) refl
 
 pub yours-told : (x o w : ℕ) → (((x ≡ o) → ⊥) × (x ≡ w)) ⊎ (x ≡ o) → ((x == o) || (x == w)) ≡ true
 yours-told x o w is = grind (arith, nat_tests, is)
+
+pub open-fault : (past : Past) (a : ℕ) → is_some (ends a past) ≡ false → (if is_some (ends a past) then Some (IsOpen a) else None) ≡ None
+open-fault past a shut = rw shut refl

@@ -4,3 +4,4 @@ pub mod StillLaws
 pub mod EndLaws
 pub mod EachLaws
 pub mod FurnishLaws
+pub mod WriteLaws
