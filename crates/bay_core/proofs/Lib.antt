@@ -1,1 +1,3 @@
-
+pub mod SettingSteps
+pub mod MarkLaws
+pub mod ChangeLaws

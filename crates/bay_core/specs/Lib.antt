@@ -2,3 +2,5 @@ pub mod Servable
 pub mod State
 pub mod Standing
 pub mod Turns
+pub mod Changed
+pub mod Marked

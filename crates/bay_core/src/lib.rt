@@ -4,6 +4,7 @@
 mod bay;
 mod fault;
 mod part;
+mod values;
 
 pub use bay::Bay;
 pub use fault::StepFault;
