@@ -1,3 +1,6 @@
+pub mod QuietLaws
+pub mod MoveLaws
+pub mod StillLaws
 pub mod SettingSteps
 pub mod MarkLaws
 pub mod ChangeLaws

@@ -2,5 +2,7 @@ pub mod Servable
 pub mod State
 pub mod Standing
 pub mod Turns
+pub mod Offers
+pub mod Parting
 pub mod Changed
 pub mod Marked

@@ -1,5 +1,5 @@
 -- What a bay stands for: a history of accepted steps, by one equation for each part.
-use Rattle.std.specs.Prelude.{◌≡◌, ◌≤◌, ℕ, List, [], length, Option, Some, slice_get}
+use Rattle.std.specs.Prelude.{◌≡◌, ◌≤◌, ℕ, List, [], length, Some, slice_get}
 use Rattle.std.specs.List.{All}
 use Rattle.sv_base.specs.Data.{data_of}
 use Rattle.sv_base.specs.declared.config.Config.{Config}
@@ -27,7 +27,7 @@ use Rattle.bay_core.specs.State.{State}
 pub record IsMemberKept (k : Kept) : Type 0 where
   pub number : (1 ≤ k.number) × (k.number ≤ 256)
   pub value : Value
-  pub data : k.octets ≡ data_of value
+  pub is_data : k.octets ≡ data_of value
   pub short : (1 ≤ length k.octets) × (length k.octets ≤ 500)
 
 abbrev pub IsReadable : Entry → Type 0

@@ -1,6 +1,6 @@
 -- What contracts see of a bay: its configuration, how many steps it made, the newest moment, the values of attributes, its
 -- report blocks with their buffers and the members of their data sets, and its associations.
-use Rattle.std.specs.Prelude.{◌≡◌, ◌<◌, ℕ, true, List, [], map, length, Option, Some, slice_get}
+use Rattle.std.specs.Prelude.{◌≡◌, ◌<◌, ℕ, true, List, [], map, length, Some, slice_get}
 use Rattle.sv_base.specs.declared.config.Config.{Config}
 use Rattle.bay_model.specs.Rooms.{Filled}
 use Rattle.bay_model.specs.Attributes.{attributes}
@@ -45,10 +45,10 @@ pub record AreHeld (c : Config) (stored : List Stored) : Type 0 where
   pub sound : (x : ℕ) → x < length stored → IsSoundCell (attribute stored x).held
 
 -- the parts fit the configuration, and the room that notes and entries need was made
-pub record IsFurnished (c : Config) (stored : List Stored) (parts : List Part) (note : Filled Mention) (kept : Filled ℕ) : Type 0 where
+pub record IsFurnished (c : Config) (stored : List Stored) (parts : List Part) (mentions : Filled Mention) (octets : Filled ℕ) : Type 0 where
   pub servable : IsServable c
   pub values : AreHeld c stored
   pub count : length parts ≡ length c.blocks
   pub members : (b : ℕ) (part : Part) → slice_get parts b ≡ Some part → part.members.items ≡ served_members c b
-  pub note : note.room ≡ 256
-  pub kept : kept.room ≡ 129024
+  pub note : mentions.room ≡ 256
+  pub kept : octets.room ≡ 129024

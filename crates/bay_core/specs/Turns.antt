@@ -1,5 +1,5 @@
 -- What a step is answered, and what it makes of the bay.
-use Rattle.std.specs.Prelude.{◌≡◌, ℕ, ⊥, List, ◌∷◌, Option, None, Some, Unit, Result, Ok, Err}
+use Rattle.std.specs.Prelude.{◌≡◌, ◌∷◌, Option, None, Some, Result, Ok, Err}
 use Rattle.sv_base.specs.declared.config.Config.{Config}
 use Rattle.bay_model.specs.declared.answer.Answer.{Answer}
 use Rattle.bay_model.specs.declared.step.Comp.TheVariants as comps

@@ -1,11 +1,11 @@
 //! A bay.
 
 use crate::part::Part;
+use crate::values::Values;
 use assoc_table::Assocs;
 use bay_model::{Fixed, Note};
 use object_model::Model;
 use sv_base::Moment;
-use value_store::Store;
 
 /// A bay: its configuration and all that its steps came to. Contracts see the state that `specs/` defines.
 #[derive(Drop)]
@@ -13,7 +13,7 @@ pub struct Bay {
     pub(crate) model: Model,
     pub(crate) steps: u64,
     pub(crate) latest: Moment,
-    pub(crate) store: Store,
+    pub(crate) values: Values,
     pub(crate) parts: Vec<Part>,
     pub(crate) associations: Assocs,
     pub(crate) note: Note,
@@ -30,9 +30,9 @@ impl std::marker::Model for Bay {
 
     ghost coded = { Prim.hlevel (codes, row_code, fields_code) };
 
-    ghost view = { λ b. record { config = b.model; steps = b.steps; latest = b.latest; stored = b.store; parts = b.parts.items; rows = b.associations } };
+    ghost view = { λ b. record { config = b.model; steps = b.steps; latest = b.latest; stored = b.values; parts = b.parts.items; rows = b.associations } };
 
-    ghost invariant = { λ b. IsFurnished b.model b.store b.parts.items b.note b.kept };
+    ghost invariant = { λ b. IsFurnished b.model b.values b.parts.items b.note b.kept };
 }
 
 impl Bay {
