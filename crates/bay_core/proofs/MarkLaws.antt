@@ -2,7 +2,6 @@
 use Rattle.std.proofs.Common.{◌≡◌, refl, ap, sym, ◌∙◌, ◌<◌, ℕ, zero, suc, ◌+◌, ◌==◌, Bool, true, false, cond, List, [], ◌∷◌, length, drop, Option, Some, None, is_some, slice_set, slice_index_or, arith, if◌then◌else◌}
 use Rattle.std.specs.List.{All}
 use Rattle.std.specs.Option.{option_map}
-use Rattle.std.proofs.lemmas.Bool.Decides.{Decides-eqb}
 use Rattle.std.proofs.lemmas.List.{get_or_default, drop_more}
 use Rattle.sv_base.specs.declared.config.Config.{Config}
 use Rattle.sv_base.specs.declared.value.Value.{Value}
@@ -13,6 +12,7 @@ use Rattle.value_store.specs.Stored.{Stored}
 use Rattle.trigger_core.specs.Noted.{change_of}
 use Rattle.bay_core.specs.Changed.{change_from}
 use Rattle.bay_core.specs.Marked.{is_marked, IsBlank, AreNoted, IsDone}
+use Rattle.bay_core.proofs.Distinct.{found}
 use Rattle.bay_core.proofs.SettingSteps.{mark_at}
 
 -- a mark that is unmarked needs no change
@@ -34,16 +34,6 @@ blank_at_end marks noted = λ k d below. get_or_default marks k d false below �
     by : (b : Bool) → (b ≡ true → false ≡ true) → b ≡ false
     by true is = sym (is refl)
     by false is = refl
-
--- of each change that stands there one is found
-found : (changes : List Change) (k : ℕ) (d : Change) → k < length changes → is_some (change_of changes (slice_index_or changes k d).attr) ≡ true
-found [] k d below = absurd (omega (arith, below))
-found (ch ∷ changes) zero d below = ap (λ b. is_some (cond b (Some ch) (change_of changes ch.attr))) ((Decides-eqb ch.attr.0 ch.attr.0).1 refl)
-found (ch ∷ changes) (suc k) d below = by (ch.attr.0 == (slice_index_or changes k d).attr.0) (found changes k d (omega (arith, below)))
-  where
-    by : (b : Bool) → is_some (change_of changes (slice_index_or changes k d).attr) ≡ true → is_some (cond b (Some ch) (change_of changes (slice_index_or changes k d).attr)) ≡ true
-    by true is = refl
-    by false is = is
 
 mapped : (o : Option Value) (f : Value → Change) → is_some (option_map f o) ≡ is_some o
 mapped None f = refl

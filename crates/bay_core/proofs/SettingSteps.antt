@@ -19,6 +19,7 @@ use Rattle.value_store.proofs.StandLaws.{at_set}
 use Rattle.trigger_core.specs.Noted.{change_of}
 use Rattle.bay_core.specs.Changed.{given, change_from}
 use Rattle.bay_core.specs.Marked.{is_marked, IsDone}
+use Rattle.bay_core.proofs.Distinct.{distinct-push}
 
 -- ---- an attribute that a later setting names
 
@@ -53,6 +54,7 @@ done_passed c before after s later marks changes mark done =
       values = λ x. done.values x ∙ ap (λ o. given o (attribute before x)) (sym (passed x s later is));
       marked = λ x. done.marked x ∙ ap is_some (sym (passed x s later is));
       made = λ x. done.made x ∙ ap (option_map (change_from c before x)) (sym (passed x s later is));
+      once = done.once;
       few = omega (arith, done.few);
     }
 
@@ -102,5 +104,7 @@ done_set c before after s later marks changes mark there there_too done =
       marked = λ x. mark_at marks s.attr.0 x true there_too ∙ mark_by (s.attr.0 == x) (set_to x later) s.value (is_marked marks x) (at x) (done.marked x);
       made = λ x. find-append (λ (ch : Change). ch.attr.0 == x) changes (change_from c after s.attr.0 s.value ∷ [])
           ∙ change_by (s.attr.0 == x) (set_to x later) s.value (change_of changes (record { 0 = x })) (change_from c after s.attr.0 s.value) (change_from c before x) (at x) (λ e. change_same c before after s.attr.0 x s.value (same s.attr.0 x e) here) (done.made x);
+      once = distinct-push changes (change_from c after s.attr.0 s.value) done.once
+          (ap is_some (done.made s.attr.0 ∙ ap (option_map (change_from c before s.attr.0)) none));
       few = omega (arith, done.few, length_push changes (change_from c after s.attr.0 s.value));
     }

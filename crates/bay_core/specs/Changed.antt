@@ -1,6 +1,6 @@
 -- What a step of the process makes of the values of attributes, and what is handed on of each attribute that it set
 -- (IEC 61850-7-2, DataAttribute and TriggerConditions).
-use Rattle.std.specs.Prelude.{◌≡◌, ◌<◌, ℕ, not, true, List, length, Option, None, Some}
+use Rattle.std.specs.Prelude.{◌≡◌, ◌≢◌, ◌<◌, ℕ, not, true, List, length, slice_index_or, Option, None, Some}
 use Rattle.std.specs.Option.{option_map}
 use Rattle.std.specs.List.{All}
 use Rattle.sv_base.specs.Same.{is_same}
@@ -36,6 +36,10 @@ change_from c stored x v = record { attr = record { 0 = x }; flags = flags_of (a
 -- the changes are those of the settings: one for each attribute that they give a value
 abbrev pub AreMade : Config → List Stored → List Setting → List Change → Type 0
 AreMade c stored settings changes = (x : ℕ) → change_of changes (record { 0 = x }) ≡ option_map (change_from c stored x) (set_to x settings)
+
+-- no two changes are of one attribute
+abbrev pub AreDistinct : List Change → Type 0
+AreDistinct changes = (k j : ℕ) (d : Change) → k < j → j < length changes → (slice_index_or changes k d).attr.0 ≢ (slice_index_or changes j d).attr.0
 
 -- the setting is of an attribute that is there, of its kind and within its range
 pub record IsFit (stored : List Stored) (s : Setting) : Type 0 where

@@ -8,7 +8,7 @@ use Rattle.bay_model.specs.declared.step.Setting.{Setting}
 use Rattle.bay_model.specs.Settings.{set_to}
 use Rattle.value_store.specs.Stored.{Stored, attribute}
 use Rattle.trigger_core.specs.Noted.{change_of}
-use Rattle.bay_core.specs.Changed.{last_set, AreMade}
+use Rattle.bay_core.specs.Changed.{last_set, AreMade, AreDistinct}
 
 abbrev pub is_marked : List Bool → ℕ → Bool
 is_marked marks x = slice_index_or marks x false
@@ -27,4 +27,5 @@ pub record IsDone (c : Config) (before : List Stored) (settings : List Setting) 
   pub values : (x : ℕ) → attribute after x ≡ last_set settings x (attribute before x)
   pub marked : (x : ℕ) → is_marked marks x ≡ is_some (set_to x settings)
   pub made : AreMade c before settings changes
+  pub once : AreDistinct changes
   pub few : length changes ≤ length settings

@@ -130,7 +130,7 @@ impl Values {
     ghost use Rattle.bay_model.specs.Attributes.{attributes};
     ghost use Rattle.value_store.specs.Opened.{IsStorable, opened};
     ghost use Rattle.value_store.specs.Stored.{attribute};
-    ghost use Rattle.bay_core.specs.Changed.{last_set, AreMade, AreFit};
+    ghost use Rattle.bay_core.specs.Changed.{last_set, AreMade, AreDistinct, AreFit};
 
     /// The configured values.
     pub(crate) fn open(alloc: Global, config: &Config) -> Result<Values, AllocError>
@@ -159,6 +159,7 @@ impl Values {
         ensures set { (x : ℕ) → attribute self.new x ≡ last_set settings.now x (attribute self.old x) }
         ensures count { length self.new ≡ length self.old }
         ensures changes { AreMade model.now self.old settings.now changes.new.items }
+        ensures once { AreDistinct changes.new.items }
     {
         set_all(
             &mut self.store,
