@@ -5,3 +5,7 @@ pub mod EndLaws
 pub mod EachLaws
 pub mod FurnishLaws
 pub mod WriteLaws
+pub mod Distinct
+pub mod SettingSteps
+pub mod MarkLaws
+pub mod ChangeLaws
