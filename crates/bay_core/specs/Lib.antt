@@ -1,0 +1,2 @@
+pub mod Servable
+pub mod Kept
