@@ -1,2 +1,3 @@
 pub mod Servable
 pub mod Kept
+pub mod Again

@@ -39,12 +39,7 @@ fn put_mention(store: &Store, shape: &MemberShape, mention: Mention, kept: &mut 
 
 /// The octets that a block keeps of a note, in place of what stood there: of each member its number, its reasons and its
 /// MMS Data in the store. It takes no memory.
-pub(crate) fn put_note(
-    store: &Store,
-    shapes: &[MemberShape],
-    note: &[Mention],
-    kept: &mut Fixed,
-)
+pub(crate) fn put_note(store: &Store, shapes: &[MemberShape], note: &[Mention], kept: &mut Fixed)
     requires members { All (IsKeepable store.now shapes.now) note.now }
     requires room { 504 * length note.now ≤ kept.old.room }
     ensures { kept.new ≡ record { items = note_octets store.now shapes.now note.now; room = kept.old.room } }

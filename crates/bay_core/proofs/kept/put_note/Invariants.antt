@@ -1,5 +1,4 @@
 use Rattle.std.proofs.Common.{◌≡◌, ◌≤◌, ◌*◌, length, take}
-use Rattle.value_store.specs.Written.{adds}
 use Rattle.bay_core.specs.Kept.{note_octets}
 use Rattle.bay_core.proofs.kept.put_note.Given as goal
 
