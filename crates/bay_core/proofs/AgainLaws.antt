@@ -66,10 +66,7 @@ all_bits a b c d e = rw (dchg_back a b c d e, qchg_back a b c d e, dupd_back a b
 pub reasons_back : (r : Reasons) → reasons_in (weights r) ≡ r
 reasons_back r = all_bits r.dchg r.qchg r.dupd r.intg r.gi
 
-pub number_back : (n : ℕ) → n / 256 * 256 + n % 256 ≡ n
-number_back n = omega arith
-
-pub cut_back : (whole octets rest : List ℕ) → whole ≡ octets ++ rest → (take (length octets) whole ≡ octets) × (drop (length octets) whole ≡ rest)
+cut_back : (whole octets rest : List ℕ) → whole ≡ octets ++ rest → (take (length octets) whole ≡ octets) × (drop (length octets) whole ≡ rest)
 cut_back whole octets rest is = (ap (take (length octets)) is ∙ take-append_seam octets rest, ap (drop (length octets)) is ∙ drop-append_seam octets rest)
 
 abbrev kept_by : ℕ → Reasons → List ℕ → Kept

@@ -1,1 +1,3 @@
 pub mod AgainLaws
+pub mod OneElement
+pub mod KeptLaws
