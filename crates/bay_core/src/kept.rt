@@ -9,6 +9,7 @@ ghost use Rattle.bay_core.specs.Kept.{kept_with, note_octets, weights, IsWritabl
 use bay_model::{Fixed, MemberShape, Mention, Reasons};
 use value_store::Store;
 
+/// The weight of a reason that is one of a member's, else 0.
 fn weight_of(is_one: bool, weight: u8) -> u8
     ensures { result ≡ weight_if is_one weight }
 {
