@@ -9,3 +9,6 @@ pub mod Distinct
 pub mod SettingSteps
 pub mod MarkLaws
 pub mod ChangeLaws
+pub mod AgainLaws
+pub mod OneElement
+pub mod KeptLaws

@@ -6,3 +6,5 @@ pub mod Offers
 pub mod Parting
 pub mod Changed
 pub mod Marked
+pub mod Kept
+pub mod Again

@@ -4,6 +4,8 @@
 mod associations;
 mod bay;
 mod fault;
+mod kept;
+mod members;
 mod part;
 mod values;
 mod writing;
