@@ -12,3 +12,4 @@ pub mod ChangeLaws
 pub mod AgainLaws
 pub mod OneElement
 pub mod KeptLaws
+pub mod WroteLaws
