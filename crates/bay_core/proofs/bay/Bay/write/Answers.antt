@@ -20,8 +20,8 @@ pub invariant_of-self : goal.invariant_of-self
 invariant_of-self c = furnished-set c.self.inside.model c.self.inside.values c.self.inside.parts.items c.self.inside.note c.self.inside.kept c.self.invariant c.args.b.0 c.index_mut.result.now c.write-answer.new.self (there c)
     (ap (λ p. p.members) c.write-answer.ensures.written ∙ members-stay c.args.a c.args.comp c.args.value.now c.index_mut.result.now (write_answer c.args.a c.args.comp c.args.value.now c.index_mut.result.now))
 
-pub returns : goal.returns
-returns c = λ c' h was.
+pub returns-clause-does : goal.returns-clause-does
+returns-clause-does c = λ c' h was.
     let st = subst (λ s. StandsFor s c' h) (sym c.self.view_is) was in
     let served = subst IsServable st.1.is_config c.advance.ensures.served in
     let part = c.index_mut.result.now in
