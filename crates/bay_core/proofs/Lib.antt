@@ -1,1 +1,4 @@
 pub mod QuietLaws
+pub mod OfferLaws
+pub mod TakeLaws
+pub mod ReportedLaws

@@ -3,3 +3,4 @@ pub mod State
 pub mod Standing
 pub mod Turns
 pub mod Offers
+pub mod Reporting
