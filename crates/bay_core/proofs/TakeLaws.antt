@@ -2,7 +2,6 @@
 use Rattle.std.proofs.Common.{◌≡◌, ℕ, Bool, List, [], ◌∷◌, length, map, refl, sym, subst, ap, ◌∙◌}
 use Rattle.std.specs.Prelude.{Option, None, Some, slice_get}
 use Rattle.std.specs.Option.{option_map}
-use Rattle.std.specs.List.{All, flat_map}
 use Rattle.std.proofs.lemmas.List.{length-map}
 use Rattle.sv_base.specs.declared.numbers.AssocNo.{AssocNo}
 use Rattle.bay_model.specs.declared.answer.Answer.TheVariants as answers
@@ -16,7 +15,6 @@ use Rattle.bay_model.specs.Parameters.{parameters_at, conf_rev}
 use Rattle.bay_model.specs.Sets.{members}
 use Rattle.bay_model.specs.Notes.{Kept}
 use Rattle.bay_model.specs.Entries.{Entry}
-use Rattle.bay_model.specs.Retained.{kept_octets_of}
 use Rattle.bay_model.specs.Blocks.{sq_num, is_overflown}
 use Rattle.bay_model.specs.Associations.{Ends, ends}
 use Rattle.bay_model.specs.Waiting.{waiting}
@@ -30,10 +28,12 @@ use Rattle.brcb_state.specs.Standing.{Stands as BlockStands}
 use Rattle.entry_ring.specs.Held.{Held}
 use Rattle.entry_ring.specs.Standing.{held}
 use Rattle.bay_core.specs.declared.part.Part.{Part}
-use Rattle.bay_core.specs.Standing.{IsMemberKept, PartStands, PartsStand}
+use Rattle.bay_core.specs.Again.{AreKept}
+use Rattle.bay_core.specs.Standing.{PartStands, PartsStand}
 use Rattle.bay_core.specs.Offers.{Offered, first_offered, chosen, chosen_of}
 use Rattle.bay_core.specs.Reporting.{report_by}
 use Rattle.bay_core.proofs.QuietLaws.{AreAtOnce, part-stays}
+use Rattle.bay_core.proofs.KeptLaws.{are-kept}
 use Rattle.bay_core.proofs.OfferLaws.{IsTold, AreTold, told, told-choice}
 
 block-arrival : (s : BlockState) (m : Model) (b n moment : ℕ) (past : Past) → BlockStands s m b past → BlockStands s m b (arrival n moment ∷ past)
@@ -85,7 +85,7 @@ same-given : (a b b' id id' : ℕ) (r r' : Report) → r ≡ r' → b ≡ b' →
 same-given a b b' id id' r r' h1 h2 h3 = rw (h1, h2, h3) refl
 
 module _ (m : Model) (past : Past) (a : AssocNo) (o : Offered) (part : Part) (r : Report) (st : PartStands m o.block past part) (nodes : node_numbers part.members.items ≡ members m o.block past)
-    (is_report : (ks : List Kept) → flat_map kept_octets_of ks ≡ o.entry.kept → All IsMemberKept ks → r ≡ report_by m part o ks) where
+    (is_report : (ks : List Kept) → AreKept o.entry.kept ks → r ≡ report_by m part o ks) where
   told-report : (y : Offer) → IsTold m past y o → report_of m past y ≡ r
   told-report y is =
       let mine : PartStands m y.block past part = subst (λ b. PartStands m b past part) is.block st in
@@ -93,7 +93,7 @@ module _ (m : Model) (past : Past) (a : AssocNo) (o : Offered) (part : Part) (r 
       report-same m past y.block o.next y.entry part mine is.sq is.ovfl (subst (λ b. node_numbers part.members.items ≡ members m b past) is.block nodes) in
       let here : report_by m part (record { block = o.block; next = o.next; entry = o.entry }) y.entry.members ≡ report_by m part (record { block = y.block; next = o.next; entry = held y.entry }) y.entry.members =
       ap (λ b. report_by m part (record { block = b; next = o.next; entry = o.entry }) y.entry.members) is.block ∙ ap (λ e. report_by m part (record { block = y.block; next = o.next; entry = e }) y.entry.members) is.entry in
-      ap (λ i. report_of m past (record { block = y.block; id = i; entry = y.entry })) (sym is.id) ∙ (sym same ∙ (sym here ∙ sym (is_report y.entry.members (sym (ap (λ (e : Held). e.kept) is.entry)) is.readable)))
+      ap (λ i. report_of m past (record { block = y.block; id = i; entry = y.entry })) (sym is.id) ∙ (sym same ∙ (sym here ∙ sym (is_report y.entry.members (are-kept o.entry.kept y.entry.members (sym (ap (λ (e : Held). e.kept) is.entry)) is.readable))))
 
   told-given : (x : Option Offer) (p : Option Offered) → AreTold m past x p → p ≡ Some o → given_report m a.0 past x ≡ given_of a.0 o.block o.next.id r
   told-given None None h is = cc
@@ -125,7 +125,7 @@ module _ (m : Model) (a : AssocNo) (n moment : ℕ) (past : Past) (parts : List 
 
   pub given : (e : Ends) (o : Offered) (part : Part) (r : Report) → first_offered a 0 parts ≡ Some o → ends a.0 past ≡ Some e → waiting m a.0 past ≡ [] → slice_get parts o.block ≡ Some part
       → node_numbers part.members.items ≡ members m o.block past
-      → ((ks : List Kept) → flat_map kept_octets_of ks ≡ o.entry.kept → All IsMemberKept ks → r ≡ report_by m part o ks)
+      → ((ks : List Kept) → AreKept o.entry.kept ks → r ≡ report_by m part o ks)
       → taken m a.0 after ≡ record { answer = answers.Taken (outputs.Report r); deed = reported a.0 o.block o.next.id }
   given e o part r is opened empty there nodes is_report =
       rw (opened, empty) (told-given m after a o part r (part-arrival m o.block n moment past part (times o.block) (stand o.block part there)) nodes is_report (first_offer m a.0 after 0 m.blocks) (first_offered a 0 parts) first-told is)

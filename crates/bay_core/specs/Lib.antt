@@ -4,3 +4,5 @@ pub mod Standing
 pub mod Turns
 pub mod Offers
 pub mod Reporting
+pub mod Kept
+pub mod Again

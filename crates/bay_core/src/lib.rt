@@ -4,6 +4,7 @@
 mod bay;
 mod fault;
 mod part;
+mod taking;
 
 pub use bay::Bay;
 pub use fault::StepFault;
