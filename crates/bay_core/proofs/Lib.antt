@@ -1,7 +1,9 @@
 pub mod AgainLaws
+pub mod OneElement
+pub mod KeptLaws
+pub mod ReadableLaws
 pub mod QuietLaws
 pub mod OfferLaws
 pub mod TakeLaws
 pub mod ReportedLaws
 pub mod ServedLaws
-pub mod KeptLaws

@@ -33,7 +33,7 @@ use Rattle.bay_core.specs.Standing.{PartStands, PartsStand}
 use Rattle.bay_core.specs.Offers.{Offered, first_offered, chosen, chosen_of}
 use Rattle.bay_core.specs.Reporting.{report_by}
 use Rattle.bay_core.proofs.QuietLaws.{AreAtOnce, part-stays}
-use Rattle.bay_core.proofs.KeptLaws.{are-kept}
+use Rattle.bay_core.proofs.ReadableLaws.{are-kept}
 use Rattle.bay_core.proofs.OfferLaws.{IsTold, AreTold, told, told-choice}
 
 block-arrival : (s : BlockState) (m : Model) (b n moment : ℕ) (past : Past) → BlockStands s m b past → BlockStands s m b (arrival n moment ∷ past)

@@ -1,8 +1,7 @@
 -- Which configurations a bay serves: as a configuration's text has them, without controls and setting groups, and with
 -- blocks that report at once and have no integrity period (IEC 61850-7-2, DATA-SET and BRCB attributes BufTm and IntgPd).
-use Rattle.std.specs.Prelude.{◌≡◌, ◌<◌, ◌≤◌, ℕ, true, List, [], ◌∷◌, ◌++◌, map, length, slice_index_or}
+use Rattle.std.specs.Prelude.{◌≡◌, ◌<◌, ◌≤◌, ℕ, true, [], map, length, slice_index_or}
 use Rattle.std.specs.List.{All}
-use Rattle.sv_base.specs.Types.{Shape, simple, composed, Fields, no_field, field}
 use Rattle.sv_base.specs.Fields.{shape_of}
 use Rattle.sv_base.specs.Same.{values_of}
 use Rattle.sv_base.specs.declared.config.Config.{Config}
@@ -16,18 +15,9 @@ use Rattle.bay_model.specs.Lookups.{node_of}
 use Rattle.bay_model.specs.Named.{configured_model, nodes}
 use Rattle.object_model.specs.Fits.{attr_types, is_sound}
 use Rattle.object_model.specs.Tables.{node_type}
+use Rattle.value_store.specs.Leaves.{leaf_shapes}
 use Rattle.value_store.specs.Opened.{IsStorable, HasDomains}
 use Rattle.value_store.specs.Wholes.{HasForm, tree_attrs}
-
--- the basic types that a type is made of, in order
-abbrev mutual
-  pub leaf_shapes : Shape → List Shape
-  leaf_shapes (simple k) = simple k ∷ []
-  leaf_shapes (composed fs) = leaf_shapes_in fs
-
-  pub leaf_shapes_in : Fields → List Shape
-  leaf_shapes_in no_field = []
-  leaf_shapes_in (field name s fs) = leaf_shapes s ++ leaf_shapes_in fs
 
 -- the type of attribute x
 abbrev pub attr_type : Config → ℕ → TypeOf

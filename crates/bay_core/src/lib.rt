@@ -3,6 +3,8 @@
 
 mod bay;
 mod fault;
+mod kept;
+mod members;
 mod part;
 mod taking;
 

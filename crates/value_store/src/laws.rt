@@ -3,16 +3,21 @@ ghost use Rattle.bay_model.specs.Attributes.{attributes};
 ghost use Rattle.bay_model.specs.Lookups.{attr_of};
 ghost use Rattle.bay_model.specs.Named.{configured_model};
 ghost use Rattle.value_store.specs.Opened.{HasDomains, is_writable, opened};
-ghost use Rattle.std.specs.Prelude.{◌≡◌, ◌<◌, [], ◌∷◌, ℕ, List, map, length, slice_set};
+ghost use Rattle.std.specs.Prelude.{◌≡◌, ◌<◌, ◌≤◌, ◌^◌, true, [], ◌∷◌, ℕ, List, map, length, slice_set};
 ghost use Rattle.sv_base.specs.declared.value.Value.{Value};
 ghost use Rattle.bay_model.specs.declared.step.Setting.{Setting};
 ghost use Rattle.sv_base.specs.Data.{data_of};
 ghost use Rattle.sv_base.specs.Fields.{shape_of};
 ghost use Rattle.sv_base.specs.declared.numbers.AttrId.{AttrId};
 ghost use Rattle.sv_base.specs.declared.types.TypeOf.{TypeOf};
+ghost use Rattle.bay_model.specs.Configured.{kind_of};
+ghost use Rattle.bay_model.specs.Kinds.{is_kind, is_in_range};
 ghost use Rattle.bay_model.specs.Model.{Model, Tree};
+ghost use Rattle.bay_model.specs.Places.{largest};
+ghost use Rattle.bay_model.specs.Slots.{IsSettable};
 ghost use Rattle.bay_model.specs.Points.{Past, Point, valued, put};
 ghost use Rattle.bay_model.specs.Values.{whole};
+ghost use Rattle.value_store.specs.Leaves.{AreLeaves};
 ghost use Rattle.value_store.specs.Members.{member_octets};
 ghost use Rattle.value_store.specs.Stored.{Stored, AreStored, attribute, with_value};
 ghost use Rattle.value_store.specs.Wholes.{Stands, HasForm, tree_attrs, AreSettable, stored_after};
@@ -44,4 +49,13 @@ pub fn settings_stand()
 pub fn a_write_stands()
     ensures { (all : List Stored) (c : Model) (before : Past) (p : Point) (a x : ℕ) (v : Value)
         → Stands all c before → x < length all → p.deed ≡ put a x v → Stands (slice_set all x (with_value v (attribute all x))) c (p ∷ before) }
+{}
+
+/// The Data of a value of a type, and of a member, is no longer than the largest of the type, whose length is one that
+/// four octets spell.
+pub fn members_are_no_longer()
+    ensures leaf { (kind : TypeOf) (v : Value) → IsSettable kind → is_kind (kind_of kind) v ≡ true → is_in_range (kind_of kind) v ≡ true → largest kind < 2 ^ 32
+        → length (data_of v) ≤ largest kind }
+    ensures member { (all : List Stored) (kind : TypeOf) (attrs : List AttrId) → AreLeaves all (shape_of kind) attrs → largest kind < 2 ^ 32
+        → length (member_octets all kind attrs) ≤ largest kind }
 {}

@@ -9,7 +9,10 @@ mod opening;
 mod store;
 
 pub use fault::SetFault;
-pub use laws::{a_write_stands, members_are_whole_values, opened_as_configured, settings_stand};
+pub use laws::{
+    a_write_stands, members_are_no_longer, members_are_whole_values, opened_as_configured,
+    settings_stand,
+};
 pub use store::{Changed, Store};
 
 #[cfg(test)]

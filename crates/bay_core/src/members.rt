@@ -1,0 +1,147 @@
+//! The members of a report, from the octets that a block keeps of an entry.
+
+ghost use Rattle.std.specs.Prelude.{◌≡◌, ◌≤◌, ◌<◌, ◌++◌, ◌/◌, ◌%◌, ℕ, List, length, IfOk, IfSome, Some, option_map};
+ghost use Rattle.ber_grammar.specs.Element.{Element, Spells};
+ghost use Rattle.bay_model.specs.Named.{configured_model, nodes as nodes_of};
+ghost use Rattle.bay_model.specs.Notes.{Kept};
+ghost use Rattle.bay_model.specs.Reports.{member_of, reference_at};
+ghost use Rattle.bay_model.specs.Retained.{kept_octets_of};
+ghost use Rattle.data_sets.specs.Booked.{node_numbers};
+ghost use Rattle.bay_core.specs.Kept.{weights as weights_of};
+ghost use Rattle.bay_core.specs.Again.{IsOneElement, AreKept, AreNodes, reasons_in, reference_by, reported, front_member, front_seen};
+
+use bay_model::{Member, MemberShape, Members, Reasons};
+use ber_view::first;
+use object_model::Model;
+use std::alloc::{AllocError, Global};
+use sv_base::{MemberNo, NodeId, Octs};
+
+/// What stands in front of kept octets: a member, and the octets behind it.
+#[derive(Clone, Copy, Debug)]
+struct Front<'a> {
+    number: u32,
+    reasons: Reasons,
+    octets: &'a [u8],
+    rest: &'a [u8],
+}
+
+/// The reasons whose bits are set in an octet.
+fn reasons_of(weights: u8) -> Reasons
+    ensures { result ≡ reasons_in weights }
+{
+    Reasons {
+        dchg: weights / 64 % 2 == 1,
+        qchg: weights / 32 % 2 == 1,
+        dupd: weights / 16 % 2 == 1,
+        intg: weights / 8 % 2 == 1,
+        gi: weights / 4 % 2 == 1,
+    }
+}
+
+/// How many octets the first element has; none where the octets begin with none.
+fn element_len(octets: &[u8]) -> Option<usize>
+    ensures exact { (front rest : List ℕ) (e : Element) → Spells front e → octets.now ≡ front ++ rest → result ≡ Some (length front) }
+    ensures within { IfSome result (λ n. n ≤ length octets.now) }
+{
+    match first(octets) {
+        Ok((_, rest)) => Some(octets.len() - rest.len()),
+        Err(_) => None,
+    }
+}
+
+/// The member of a number in two octets, of reasons in one, whose Data stands in front of these octets.
+fn front_with(high: u8, low: u8, weights: u8, octets: &[u8]) -> Option<Front<'_>>
+    ensures exact { (k : Kept) (rest : List ℕ) → IsOneElement k.octets → high ≡ k.number / 256 → low ≡ k.number % 256 → weights ≡ weights_of k.reasons
+        → octets.now ≡ k.octets ++ rest → option_map front_seen result ≡ Some (k, rest) }
+    ensures within { IfSome result (λ f. length f.rest.now ≤ length octets.now) }
+{
+    match element_len(octets) {
+        Some(len) => {
+            let (octets, rest) = octets.split_at(len);
+            Some(Front {
+                number: u32::from(high) * 256 + u32::from(low),
+                reasons: reasons_of(weights),
+                octets,
+                rest,
+            })
+        }
+        None => None,
+    }
+}
+
+/// The first member, and the octets behind it.
+fn front_of(octets: &[u8]) -> Option<Front<'_>>
+    ensures exact { (k : Kept) (rest : List ℕ) → IsOneElement k.octets → octets.now ≡ kept_octets_of k ++ rest
+        → option_map front_seen result ≡ Some (k, rest) }
+    ensures shorter { IfSome result (λ f. length f.rest.now < length octets.now) }
+{
+    match octets {
+        [high, low, _, weights, rest @ ..] => front_with(*high, *low, *weights, rest),
+        _ => None,
+    }
+}
+
+/// The reference `LD/item` of a node.
+fn reference_of(alloc: Global, model: &Model, node: NodeId) -> Result<Octs, AllocError>
+    requires { node.0 < length (nodes_of model.now) }
+    ensures { IfOk result (λ o. o ≡ reference_at (configured_model model.now) node.0) }
+{
+    let mut octets = Vec::from_slice(alloc, model.domain_of(node))?;
+    octets.push(b'/')?;
+    octets.extend_from_slice(model.item_of(node))?;
+    Ok(Octs::from_vec(octets))
+}
+
+/// The reference of a member of a data set, by its number from 1.
+fn member_reference(
+    alloc: Global,
+    model: &Model,
+    shapes: &[MemberShape],
+    number: u32,
+) -> Result<Octs, AllocError>
+    requires { AreNodes model.now shapes.now }
+    ensures { IfOk result (λ o. o ≡ reference_by (configured_model model.now) (node_numbers shapes.now) number) }
+{
+    match shapes.get((number as usize).saturating_sub(1)) {
+        Some(shape) => reference_of(alloc, model, shape.node),
+        None => Ok(Octs::from_vec(Vec::new(alloc))),
+    }
+}
+
+/// The member of a report.
+fn member_from(
+    alloc: Global,
+    model: &Model,
+    shapes: &[MemberShape],
+    front: &Front<'_>,
+) -> Result<Member, AllocError>
+    requires { AreNodes model.now shapes.now }
+    ensures { IfOk result (λ m. m ≡ member_of (configured_model model.now) (node_numbers shapes.now) (front_member front.now)) }
+{
+    Ok(Member {
+        number: MemberNo(front.number),
+        reference: member_reference(alloc, model, shapes, front.number)?,
+        octets: Octs::from_vec(Vec::from_slice(alloc, front.octets)?),
+        reasons: front.reasons,
+    })
+}
+
+/// The members of a report, from the octets that a block keeps of an entry of a data set of these shapes, whose nodes are
+/// the model's. Of octets that are not kept ones nothing is said.
+pub(crate) fn members_of(
+    alloc: Global,
+    model: &Model,
+    shapes: &[MemberShape],
+    octets: &[u8],
+) -> Result<Members, AllocError>
+    requires { AreNodes model.now shapes.now }
+    ensures { IfOk result (λ members. (ks : List Kept) → AreKept octets.now ks → members ≡ reported model.now shapes.now ks) }
+{
+    let mut items = Vec::new(alloc);
+    let mut rest = octets;
+    while let Some(front) = front_of(rest) {
+        items.push(member_from(alloc, model, shapes, &front)?)?;
+        rest = front.rest;
+    }
+    Ok(Members::from_vec(items))
+}
