@@ -3,6 +3,9 @@ pub mod State
 pub mod Standing
 pub mod Turns
 pub mod Offers
-pub mod Reporting
+pub mod Parting
+pub mod Changed
+pub mod Marked
 pub mod Kept
 pub mod Again
+pub mod Reporting

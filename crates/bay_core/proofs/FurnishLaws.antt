@@ -1,0 +1,35 @@
+-- The parts fit the configuration as long as their members stay.
+use Rattle.std.proofs.Common.{◌≡◌, ℕ, List, length, Option, Some, ◌∙◌, map, ap, sym, inl, inr}
+use Rattle.std.specs.Prelude.{slice_get, slice_set}
+use Rattle.std.proofs.lemmas.List.{length-map, length-set}
+use Rattle.sv_base.specs.declared.config.Config.{Config}
+use Rattle.bay_model.specs.Rooms.{Filled}
+use Rattle.bay_model.specs.declared.note.Mention.{Mention}
+use Rattle.value_store.specs.Stored.{Stored}
+use Rattle.bay_core.specs.declared.part.Part.{Part}
+use Rattle.bay_core.specs.State.{IsFurnished}
+use Rattle.bay_core.proofs.EachLaws.{got-map, got-set}
+
+module _ (c : Config) (stored : List Stored) (parts : List Part) (mentions : Filled Mention) (octets : Filled ℕ) (old : IsFurnished c stored parts mentions octets) where
+  pub furnished-map : (f : Part → Part) → ((p : Part) → (f p).members ≡ p.members) → IsFurnished c stored (map f parts) mentions octets
+  furnished-map f same = record {
+    servable = old.servable;
+    values = old.values;
+    count = length-map parts f ∙ old.count;
+    members = λ b part there. (let was = got-map f parts b part there in ap (λ (p : Part). p.members.items) (sym was.2) ∙ (ap (λ v. v.items) (same was.0) ∙ old.members b was.0 was.1));
+    note = old.note;
+    kept = old.kept;
+  }
+
+  pub furnished-set : (i : ℕ) (x y : Part) → slice_get parts i ≡ Some x → y.members ≡ x.members → IsFurnished c stored (slice_set parts i y) mentions octets
+  furnished-set i x y there same = record {
+    servable = old.servable;
+    values = old.values;
+    count = length-set parts i y ∙ old.count;
+    members = λ b part at. elim (got-set parts i b y part at) [
+      | inl e ↦ ap (λ (p : Part). p.members.items) e.1 ∙ (ap (λ v. v.items) same ∙ old.members b x (ap (slice_get parts) e.0 ∙ there))
+      | inr e ↦ old.members b part e.1
+    ];
+    note = old.note;
+    kept = old.kept;
+  }

@@ -1,0 +1,11 @@
+use Rattle.std.proofs.Common.{◌≡◌, ◌-◌, ◌++◌, ◌≤◌, map, take, drop, length}
+use Rattle.bay_core.specs.Parting.{lost_by}
+use Rattle.bay_core.proofs.associations.lose_all.Given as goal
+
+-- the parts before this place are as they are after the loss
+abbrev pub invariant-loop-place : goal.invariant-loop-place
+invariant-loop-place l = (l.parts.items ≡ map (lost_by l.fn.a) (take l.place l.fn.parts.items) ++ drop l.place l.fn.parts.items)
+    × (l.place ≤ length l.fn.parts.items) × (l.a ≡ l.fn.a)
+
+abbrev pub decreases-loop-place : goal.decreases-loop-place
+decreases-loop-place l = length l.fn.parts.items - l.place

@@ -1,0 +1,14 @@
+use Rattle.std.proofs.Common.{arith, ap, length}
+use Rattle.bay_core.proofs.MarkLaws.{within_all}
+use Rattle.bay_core.proofs.values.Values.set.Goals as goal
+
+pub unmark-requires-clause-within : goal.unmark-requires-clause-within
+unmark-requires-clause-within c = λ k d below.
+    rw c.as_slice.ensures.value
+    (omega (
+      arith,
+      within_all c.args.model.now c.self.inside.store c.set_all.new.store c.args.settings.now c.set_all.new.marks c.set_all.new.changes.items c.set_all.ensures k d (omega (arith, below, ap length c.as_slice.ensures.value)),
+      c.set_all.auto.marks,
+      c.as_mut_slice.ensures.len,
+      c.as_mut_slice-2.ensures.len,
+    ))

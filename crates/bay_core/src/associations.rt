@@ -1,0 +1,104 @@
+//! The steps that open and end associations, and those that only pass time.
+
+ghost use Rattle.std.specs.Prelude.{◌≡◌};
+ghost use Rattle.bay_core.specs.Parting.{after_loss_all};
+
+use crate::bay::Bay;
+use crate::fault::StepFault;
+use crate::part::Part;
+use assoc_table::Ends;
+use bay_model::Answer;
+use sv_base::{ActorNo, AssocNo, Moment};
+
+/// An association was lost: the blocks that it has enabled it enables no longer.
+fn lose_all(parts: &mut Vec<Part>, a: AssocNo)
+    ensures { parts.new.items ≡ after_loss_all a parts.old.items }
+{
+    let mut place = 0;
+    while place < parts.len() {
+        parts[place].block.lost(a);
+        place += 1;
+    }
+}
+
+impl Bay {
+    ghost use Rattle.std.specs.Prelude.{◌≡◌, ◌<◌, ◌^◌, suc, max};
+    ghost use Rattle.bay_model.specs.declared.step.Step.TheVariants as steps;
+    ghost use Rattle.assoc_table.specs.Tables.{IsNumber};
+    ghost use Rattle.bay_core.specs.Servable.{IsServable};
+    ghost use Rattle.bay_core.specs.Turns.{Does};
+
+    /// One more step was made, at a moment.
+    pub(crate) fn advance(&mut self, moment: Moment)
+        requires { self.old.steps < 2 ^ 62 }
+        ensures moved { self.new ≡ record self.old { steps = suc self.old.steps; latest = max self.old.latest moment } }
+        ensures served { IsServable self.old.config }
+    {
+        self.steps += 1;
+        self.latest = self.latest.later(moment);
+    }
+
+    /// Time passes.
+    pub(crate) fn tick(&mut self, moment: Moment, actor: ActorNo) -> Result<Answer, StepFault>
+        requires { self.old.steps < 2 ^ 62 }
+        ensures { Does self.old self.new (record { moment = moment; actor = actor.0; step = steps.Tick }) result }
+    {
+        self.advance(moment);
+        Ok(Answer::Went)
+    }
+
+    /// An actor opens an association, for which `writer` takes.
+    pub(crate) fn open_association(
+        &mut self,
+        moment: Moment,
+        actor: ActorNo,
+        a: AssocNo,
+        size: u32,
+        writer: ActorNo,
+    ) -> Result<Answer, StepFault>
+        requires number { IsNumber a.0 }
+        requires few { self.old.steps < 2 ^ 62 }
+        ensures { Does self.old self.new (record { moment = moment; actor = actor.0; step = steps.Open a size writer }) result }
+    {
+        if self.associations.is_open(a) {
+            return Err(StepFault::IsOpen(a));
+        }
+        let opener = actor;
+        self.associations.start(
+            a,
+            Ends {
+                opener,
+                writer,
+                size,
+            },
+        );
+        self.advance(moment);
+        Ok(Answer::Opened)
+    }
+
+    /// An association was released, aborted or lost.
+    pub(crate) fn lose(
+        &mut self,
+        moment: Moment,
+        actor: ActorNo,
+        a: AssocNo,
+    ) -> Result<Answer, StepFault>
+        requires number { IsNumber a.0 }
+        requires few { self.old.steps < 2 ^ 62 }
+        ensures { Does self.old self.new (record { moment = moment; actor = actor.0; step = steps.Lost a }) result }
+    {
+        let Some(opener) = self.associations.opener(a) else {
+            return Err(StepFault::NotOpen(a));
+        };
+        let Some(writer) = self.associations.writer(a) else {
+            return Err(StepFault::NotOpen(a));
+        };
+        if actor.0 != opener.0 && actor.0 != writer.0 {
+            return Err(StepFault::NotYours(a));
+        }
+        self.associations.end(a);
+        lose_all(&mut self.parts, a);
+        self.advance(moment);
+        Ok(Answer::Went)
+    }
+}

@@ -1,0 +1,173 @@
+//! The values of a bay's attributes, and what a step of the process makes of them.
+
+ghost use Rattle.std.specs.Prelude.{◌≡◌, ◌≤◌, ◌<◌, ◌++◌, ◌∷◌, [], not, length, slice_set, vec_len, vec_capacity, List};
+ghost use Rattle.std.specs.List.{All};
+ghost use Rattle.sv_base.specs.Same.{is_same};
+ghost use Rattle.bay_model.specs.Attributes.{attributes};
+ghost use Rattle.value_store.specs.Stored.{Stored, attribute, with_value};
+ghost use Rattle.bay_model.specs.declared.step.Setting.{Setting as SettingValue};
+ghost use Rattle.bay_model.specs.declared.flags.Change.{Change as ChangeValue};
+ghost use Rattle.bay_core.specs.Changed.{change_from, IsFit, AreFit};
+ghost use Rattle.bay_core.specs.Marked.{IsBlank, AreNoted, IsDone};
+
+use bay_model::{Change, Setting};
+use object_model::Model;
+use std::alloc::{AllocError, Global};
+use sv_base::Config;
+use value_store::Store;
+
+/// The values of all attributes. Contracts see the list of them.
+#[derive(Drop)]
+pub(crate) struct Values {
+    store: Store,
+    /// Which attributes the step that is being made has set; none between steps.
+    marks: Vec<bool>,
+}
+
+impl std::marker::Model for Values {
+    ghost use Rattle.std.specs.Prelude.{◌≡◌, List, length};
+    ghost use Rattle.value_store.specs.Stored.{Stored};
+    ghost use Rattle.bay_core.specs.Marked.{IsBlank};
+
+    ghost Value = { List Stored };
+
+    ghost use Rattle.std.specs.Coded.{codes};
+    ghost use Rattle.sv_base.specs.Tree.{row_code};
+
+    ghost coded = { Prim.hlevel (codes, row_code) };
+
+    ghost view = { λ v. v.store };
+
+    ghost invariant = { λ v. (length v.marks.items ≡ length v.store) × IsBlank v.marks.items };
+}
+
+/// Sets the attribute of a setting; tells whether its value differs from the one before.
+fn put(store: &mut Store, setting: &Setting) -> bool
+    requires { IsFit store.old setting.now }
+    ensures differs { result ≡ not (is_same setting.now.value (attribute store.old setting.now.attr.0).held.value) }
+    ensures set { store.new ≡ slice_set store.old setting.now.attr.0 (with_value setting.now.value (attribute store.old setting.now.attr.0)) }
+{
+    match store.set(setting.attr, &setting.value, false) {
+        Ok(changed) => changed.differs,
+        Err(_) => false,
+    }
+}
+
+/// Sets the attribute of a setting, and notes the change.
+fn set_noted(store: &mut Store, model: &Model, setting: &Setting, changes: &mut Vec<Change>)
+    requires fit { IsFit store.old setting.now }
+    requires flags { length store.old ≡ length (attributes model.now) }
+    requires room { vec_len changes.old < vec_capacity changes.old }
+    ensures set { store.new ≡ slice_set store.old setting.now.attr.0 (with_value setting.now.value (attribute store.old setting.now.attr.0)) }
+    ensures noted { changes.new.items ≡ changes.old.items ++ change_from model.now store.old setting.now.attr.0 setting.now.value ∷ [] }
+    ensures room { vec_capacity changes.old ≤ vec_capacity changes.new }
+{
+    let flags = model.flags(setting.attr);
+    let differs = put(store, setting);
+    let _ = changes.push(Change {
+        attr: setting.attr,
+        flags,
+        differs,
+    });
+}
+
+/// Sets the attribute of a setting where no later one did.
+fn set_once(
+    store: &mut Store,
+    marks: &mut [bool],
+    model: &Model,
+    setting: &Setting,
+    changes: &mut Vec<Change>,
+)
+    requires fit { IsFit store.old setting.now }
+    requires marks { length marks.old ≡ length store.old }
+    requires flags { length store.old ≡ length (attributes model.now) }
+    requires room { vec_len changes.old < vec_capacity changes.old }
+    ensures done { (before : List Stored) (later : List SettingValue)
+        → IsDone model.now before later store.old marks.old changes.old.items → IsDone model.now before (setting.now ∷ later) store.new marks.new changes.new.items }
+    ensures room { vec_capacity changes.old ≤ vec_capacity changes.new }
+{
+    if !marks[setting.attr.0 as usize] {
+        set_noted(store, model, setting, changes);
+        marks[setting.attr.0 as usize] = true;
+    }
+}
+
+/// Goes through settings from the last to the first.
+fn set_all(
+    store: &mut Store,
+    marks: &mut [bool],
+    model: &Model,
+    settings: &[Setting],
+    changes: &mut Vec<Change>,
+)
+    requires fits { AreFit store.old settings.now }
+    requires marks { length marks.old ≡ length store.old }
+    requires blank { IsBlank marks.old }
+    requires flags { length store.old ≡ length (attributes model.now) }
+    requires empty { changes.old.items ≡ [] }
+    requires room { length settings.now ≤ vec_capacity changes.old }
+    ensures { IsDone model.now store.old settings.now store.new marks.new changes.new.items }
+{
+    for i in (0..settings.len()).rev() {
+        set_once(store, marks, model, &settings[i], changes);
+    }
+}
+
+/// Unmarks the attributes of changes.
+fn unmark(marks: &mut [bool], changes: &[Change])
+    requires within { All (λ (ch : ChangeValue). ch.attr.0 < length marks.old) changes.now }
+    requires noted { AreNoted changes.now marks.old }
+    ensures { IsBlank marks.new }
+{
+    for change in changes {
+        marks[change.attr.0 as usize] = false;
+    }
+}
+
+impl Values {
+    ghost use Rattle.std.specs.Prelude.{◌≡◌, ◌≤◌, [], ℕ, length, vec_capacity, IfOk};
+    ghost use Rattle.bay_model.specs.Attributes.{attributes};
+    ghost use Rattle.value_store.specs.Opened.{IsStorable, opened};
+    ghost use Rattle.value_store.specs.Stored.{attribute};
+    ghost use Rattle.bay_core.specs.Changed.{last_set, AreMade, AreDistinct, AreFit};
+
+    /// The configured values.
+    pub(crate) fn open(alloc: Global, config: &Config) -> Result<Values, AllocError>
+        requires { IsStorable config.now }
+        ensures { IfOk result (λ v. v ≡ opened config.now) }
+    {
+        let store = Store::open(alloc, config)?;
+        let marks = vec![in alloc; false; store.len()]?;
+        Ok(Values { store, marks })
+    }
+
+    /// The values, to be read.
+    pub(crate) fn store(&self) -> &Store
+        ensures { result.now ≡ self.now }
+    {
+        &self.store
+    }
+
+    /// Sets attributes as the process does, of one that is named twice the last time; adds to `changes` what became of
+    /// each, once. It takes no memory where `changes` has room for as many as there are settings.
+    pub(crate) fn set(&mut self, model: &Model, settings: &[Setting], changes: &mut Vec<Change>)
+        requires fits { AreFit self.old settings.now }
+        requires flags { length self.old ≡ length (attributes model.now) }
+        requires empty { changes.old.items ≡ [] }
+        requires room { length settings.now ≤ vec_capacity changes.old }
+        ensures set { (x : ℕ) → attribute self.new x ≡ last_set settings.now x (attribute self.old x) }
+        ensures count { length self.new ≡ length self.old }
+        ensures changes { AreMade model.now self.old settings.now changes.new.items }
+        ensures once { AreDistinct changes.new.items }
+    {
+        set_all(
+            &mut self.store,
+            self.marks.as_mut_slice(),
+            model,
+            settings,
+            changes,
+        );
+        unmark(self.marks.as_mut_slice(), changes.as_slice());
+    }
+}
