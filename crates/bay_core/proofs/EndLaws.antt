@@ -32,6 +32,9 @@ use Rattle.bay_core.proofs.MoveLaws.{moved, accepted, values-same, waits-none}
 
 -- ---- the ends of an association
 
+some-same : {A : Type 0} (x y : A) → Some x ≡ Some y → x ≡ y
+some-same x y is = cc
+
 pub open-told : (m : Model) (rows : List Row) (past : Past) (a : ℕ) → AssociationsStand rows m past → IsNumber a → is_some (row_of rows a).ends ≡ is_some (ends a past)
 open-told m rows past a st number = by (row_of rows a).ends (ends a past) (st.each a number).ends where
   by : (e : Option Ends) (f : Option model.Ends) → option_map ends_of e ≡ f → is_some e ≡ is_some f
@@ -129,3 +132,17 @@ yours-told x o w is = grind (arith, nat_tests, is)
 
 pub open-fault : (past : Past) (a : ℕ) → is_some (ends a past) ≡ false → (if is_some (ends a past) then Some (IsOpen a) else None) ≡ None
 open-fault past a shut = rw shut refl
+
+-- the opener alone may write for it
+pub opener-told : (m : Model) (rows : List Row) (past : Past) (a : ℕ) (opener : ActorNo) → AssociationsStand rows m past → IsNumber a
+    → option_map (λ (e : Ends). e.opener) (row_of rows a).ends ≡ Some opener → (e : model.Ends) × (ends a past ≡ Some e) × (e.opener ≡ opener.0)
+opener-told m rows past a opener st number one = by (row_of rows a).ends (ends a past) (st.each a number).ends one where
+  by : (e : Option Ends) (f : Option model.Ends) → option_map ends_of e ≡ f → option_map (λ (x : Ends). x.opener) e ≡ Some opener → (g : model.Ends) × (f ≡ Some g) × (g.opener ≡ opener.0)
+  by None f is one = cc
+  by (Some e) f is one = (ends_of e, sym is, ap (λ (o : ActorNo). o.0) (some-same e.opener opener one))
+
+pub opener-fault : (past : Past) (actor a : ℕ) (e : model.Ends) → ends a past ≡ Some e → (actor == e.opener) ≡ true → if_open (ends a past) a (λ f. actor == f.opener) None ≡ None
+opener-fault past actor a e is yours = rw (is, yours) refl
+
+pub same-number-told : (x y : ℕ) → x ≡ y → (x == y) ≡ true
+same-number-told x y is = grind (arith, nat_tests, is)

@@ -17,3 +17,5 @@ pub mod OfferLaws
 pub mod TakeLaws
 pub mod ReportedLaws
 pub mod ServedLaws
+pub mod TakenLaws
+pub mod WroteLaws

@@ -20,6 +20,7 @@ use Rattle.object_model.specs.Tables.{node_id}
 use Rattle.object_model.proofs.TableLaws.{count-rows, rows-are-nodes}
 use Rattle.data_sets.specs.Booked.{HasNumber, no_row, node_numbers, shape_of}
 use Rattle.data_sets.proofs.SetLaws.{numbers_of_shapes}
+use Rattle.bay_core.specs.Again.{AreNodes}
 use Rattle.bay_core.specs.Servable.{IsServable, IsServedSet, IsMember}
 use Rattle.bay_core.specs.State.{served_members}
 
@@ -77,7 +78,7 @@ module _ (c : Config) (served : IsServable c) (b : ℕ) where
   served-few = omega (arith, length-map (map node_id mine) (shape_of (node_rows c)), length-map mine node_id, members-few)
 
   -- each shape is that of a node that is there
-  pub shapes-there : All (λ (s : MemberShape). s.node.0 < length (nodes c)) (served_members c b)
+  pub shapes-there : AreNodes c (served_members c b)
   shapes-there = all-map (λ (s : MemberShape). s.node.0 < length (nodes c)) (shape_of (node_rows c)) (map node_id mine)
       (all-map (λ (n : NodeId). (shape_of (node_rows c) n).node.0 < length (nodes c)) node_id mine (all-of IsThere (λ n. (shape_of (node_rows c) (node_id n)).node.0 < length (nodes c)) (λ n h. omega (arith, h, row-number n h)) mine members-there))
 

@@ -1,7 +1,8 @@
 -- A write of RptEna, EntryID or PurgeBuf, at a block with its buffer.
-use Rattle.std.proofs.Common.{rules, ◌≡◌, ◌≢◌, ℕ, suc, ◌+◌, ◌<◌, max, Bool, true, false, List, [], ◌∷◌, Option, None, Some, Result, Ok, Err, refl, ap, arith, ◌∙◌, sym, subst, length, inl, inr}
+use Rattle.std.proofs.Common.{rules, ◌≡◌, ◌≢◌, ℕ, suc, ◌+◌, ◌<◌, max, Bool, true, false, List, [], ◌∷◌, Option, None, Some, Result, Ok, Err, refl, ap, arith, ◌∙◌, sym, subst, length, inl, inr, ap₂}
 use Rattle.std.specs.Prelude.{slice_get, slice_set, if◌then◌else◌, ◌==◌, ◌||◌}
 use Rattle.std.proofs.lemmas.Bool.Decides.{nat_tests}
+use Rattle.std.proofs.lemmas.Grind.{common_steps}
 use Rattle.sv_base.specs.declared.config.Config.{Config}
 use Rattle.sv_base.specs.declared.numbers.AssocNo.{AssocNo}
 use Rattle.sv_base.specs.declared.value.Value.{Value}
@@ -30,7 +31,8 @@ use Rattle.bay_core.specs.Offers.{kept_of}
 use Rattle.bay_core.specs.Parting.{write_answer, written_by, without_effect, after_write}
 use Rattle.bay_core.specs.Servable.{IsServable}
 use Rattle.bay_core.specs.Standing.{PartStands, PartsStand}
-use Rattle.bay_core.proofs.QuietLaws.{AreAtOnce, at_once-served, quiet-selected, quiet-front, part-quiet, part-stays}
+use Rattle.bay_core.proofs.QuietLaws.{at_once-served, quiet-selected, quiet-front, part-quiet, part-stays}
+use Rattle.bay_core.proofs.EachLaws.{got-set}
 
 -- the components that are written
 abbrev pub IsPlainComp : Comp → Type 0
@@ -74,7 +76,7 @@ told : (m : Model) (a : AssocNo) (b : ℕ) (comp : Comp) (v : Value) (n t : ℕ)
 told m a b comp v n t past s st = search rules
 
 point-told : (m : Model) (k : ℕ) (p : Point) (past : Past) (s : Block) → BlockStands s m k past → BlockStands (after_deed k p.deed (front m k (p ∷ past)) s) m k (p ∷ past)
-point-told m k p past s st = search rules
+point-told m k p past s st = grind (arith, common_steps)
 
 -- ---- what a write brings besides
 
@@ -115,3 +117,52 @@ plain-parameters m a b k comps.TimeofEntry v n t past is = absurd is
 
 other-purges : (m : Model) (a b k : ℕ) (comp : Comp) (v : Value) (past : Past) → (b == k) ≡ false → purges m k (wrote a b comp v) past ≡ false
 other-purges m a b k comp v past other = search rules
+
+-- ---- the block that is written, and the others
+
+same-number : (b : ℕ) → (b == b) ≡ true
+same-number b = grind (arith, nat_tests)
+
+other-number : (b k : ℕ) → k ≢ b → (b == k) ≡ false
+other-number b k h = grind (arith, nat_tests, h)
+
+module _ (c : Config) (served : IsServable c) (n t : ℕ) (a : AssocNo) (b : ℕ) (comp : Comp) (v : Value) (plain : IsPlainComp comp) (past : Past) where
+  abbrev m : Model
+  m = configured_model c
+
+  abbrev p : Point
+  p = writing n t a b comp v
+
+  -- it has written a component, and its buffer is purged where the write says so
+  pub part-wrote : (part : Part) (e : Effect) → PartStands m b past part → write_answer a comp v part ≡ Ok e → PartStands m b (p ∷ past) (written_by a comp v e part)
+  part-wrote part e st is =
+      let once = at_once-served c b served in
+      let e_is : e ≡ effect_of comp v part.block = effect-told (refusals a comp v (names_nothing (kept_of part) false comp v) part.block) (effect_of comp v part.block) e is in
+      let purge : is_purging e ≡ purges m b p.deed past = ap is_purging e_is ∙ (told m a b comp v n t past part.block st.block).purge in
+      let here : front m b (arrival n t ∷ past) ≡ part.ring.front = quiet-front m b (arrival n t) past part once st refl refl refl ∙ sym st.ring.front in
+      let block : BlockStands (written a comp v part.ring.front part.block) m b (p ∷ past) = subst (λ f. BlockStands (written a comp v f part.block) m b (p ∷ past)) here (stands-written m a b n t past comp v part.block st.block) in
+      subst (λ x. PartStands m b (p ∷ past) (record part { block = written a comp v part.ring.front part.block; ring = if x then after_purge part.ring else part.ring })) (sym purge)
+      (part-quiet m b p past part once st (written a comp v part.ring.front part.block) refl (plain-interrogation a.0 b b comp v plain) (plain-parameters m a.0 b b comp v n t past plain) block)
+
+  pub part-other : (k : ℕ) (part : Part) → k ≢ b → PartStands m k past part → PartStands m k (p ∷ past) part
+  part-other k part h st =
+      let other = other-number b k h in
+      let same : after_deed k p.deed (front m k (p ∷ past)) part.block ≡ part.block = rw other refl in
+      part-stays m k p past part (at_once-served c k served) st part.block refl (plain-interrogation a.0 b k comp v plain) (other-purges m a.0 b k comp v past other) (plain-parameters m a.0 b k comp v n t past plain)
+      (subst (λ s. BlockStands s m k (p ∷ past)) same (point-told m k p past part.block st.block))
+
+  pub parts-wrote : (parts : List Part) (part : Part) (e : Effect) → slice_get parts b ≡ Some part → PartsStand m past parts → write_answer a comp v part ≡ Ok e
+      → PartsStand m (p ∷ past) (slice_set parts b (written_by a comp v e part))
+  parts-wrote parts part e there st is = λ k x at. elim (got-set parts b k (written_by a comp v e part) x at) [
+    | inl i ↦ subst (λ j. PartStands m j (p ∷ past) x) (sym i.0) (subst (λ q. PartStands m b (p ∷ past) q) (sym i.1) (part-wrote part e (st b part there) is))
+    | inr i ↦ part-other k x i.0 (st k x i.1)
+  ]
+
+  -- what comes of the write is what the block answered
+  pub outcome-told : (part : Part) → PartStands m b past part → outcome_of (wrote a.0 b comp v) (write_answer a comp v part) ≡ write_component m a.0 b comp v (arrival n t ∷ past)
+  outcome-told part st =
+      let once = at_once-served c b served in
+      let there : BlockStands part.block m b (arrival n t ∷ past) = point-told m b (arrival n t) past part.block st.block in
+      let kept : kept_of part ≡ kept_at m b (arrival n t ∷ past) = ap₂ (λ f l. record { front = f; len = l }) (st.ring.front ∙ sym (quiet-front m b (arrival n t) past part once st refl refl refl)) (st.ring.newest ∙ ap length (sym (quiet-selected m b (arrival n t) past part once st refl refl))) in
+      let names : names_nothing (kept_of part) false comp v ≡ names_nothing (kept_at m b (arrival n t ∷ past)) (is_known m (arrival n t ∷ past) v) comp v = known-same m b (arrival n t ∷ past) comp v part plain ∙ ap (λ k. names_nothing k (is_known m (arrival n t ∷ past) v) comp v) kept in
+      ap (λ x. outcome_of (wrote a.0 b comp v) (answer_to a comp v x part.block)) names ∙ answered m a b comp v (arrival n t ∷ past) part.block there

@@ -1,5 +1,5 @@
 -- What a step is answered, and what it makes of the bay.
-use Rattle.std.specs.Prelude.{◌≡◌, ◌∷◌, Option, None, Some, Result, Ok, Err}
+use Rattle.std.specs.Prelude.{◌≡◌, suc, ◌∷◌, Option, None, Some, Result, Ok, Err}
 use Rattle.sv_base.specs.declared.config.Config.{Config}
 use Rattle.bay_model.specs.declared.answer.Answer.{Answer}
 use Rattle.bay_model.specs.declared.step.Comp.TheVariants as comps
@@ -36,3 +36,8 @@ named faults.Memory = None
 abbrev pub Does : State → State → Turn → Result Answer StepFault → Type 0
 Does old new t (Ok a) = (c : Config) (h : History) → StandsFor old c h → (a ≡ answer (configured_model c) h t) × StandsFor new c (t ∷ h)
 Does old new t (Err f) = (new ≡ old) × ((c : Config) (h : History) → StandsFor old c h → named f ≡ fault (configured_model c) h t)
+
+-- one step more of the same bay
+abbrev pub IsCounted : State → State → Result Answer StepFault → Type 0
+IsCounted old new (Ok a) = (new.config ≡ old.config) × (new.steps ≡ suc old.steps)
+IsCounted old new (Err f) = Unit {0}

@@ -26,7 +26,7 @@ impl Bay {
     ghost use Rattle.bay_model.specs.declared.step.Step.TheVariants as steps;
     ghost use Rattle.assoc_table.specs.Tables.{IsNumber};
     ghost use Rattle.bay_core.specs.Servable.{IsServable};
-    ghost use Rattle.bay_core.specs.Turns.{Does};
+    ghost use Rattle.bay_core.specs.Turns.{Does, IsCounted};
 
     /// One more step was made, at a moment.
     pub(crate) fn advance(&mut self, moment: Moment)
@@ -41,7 +41,8 @@ impl Bay {
     /// Time passes.
     pub(crate) fn tick(&mut self, moment: Moment, actor: ActorNo) -> Result<Answer, StepFault>
         requires { self.old.steps < 2 ^ 62 }
-        ensures { Does self.old self.new (record { moment = moment; actor = actor.0; step = steps.Tick }) result }
+        ensures does { Does self.old self.new (record { moment = moment; actor = actor.0; step = steps.Tick }) result }
+        ensures counted { IsCounted self.old self.new result }
     {
         self.advance(moment);
         Ok(Answer::Went)
@@ -58,7 +59,8 @@ impl Bay {
     ) -> Result<Answer, StepFault>
         requires number { IsNumber a.0 }
         requires few { self.old.steps < 2 ^ 62 }
-        ensures { Does self.old self.new (record { moment = moment; actor = actor.0; step = steps.Open a size writer }) result }
+        ensures does { Does self.old self.new (record { moment = moment; actor = actor.0; step = steps.Open a size writer }) result }
+        ensures counted { IsCounted self.old self.new result }
     {
         if self.associations.is_open(a) {
             return Err(StepFault::IsOpen(a));
@@ -85,7 +87,8 @@ impl Bay {
     ) -> Result<Answer, StepFault>
         requires number { IsNumber a.0 }
         requires few { self.old.steps < 2 ^ 62 }
-        ensures { Does self.old self.new (record { moment = moment; actor = actor.0; step = steps.Lost a }) result }
+        ensures does { Does self.old self.new (record { moment = moment; actor = actor.0; step = steps.Lost a }) result }
+        ensures counted { IsCounted self.old self.new result }
     {
         let Some(opener) = self.associations.opener(a) else {
             return Err(StepFault::NotOpen(a));

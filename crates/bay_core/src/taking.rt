@@ -1,6 +1,6 @@
 //! Which entry is reported next, and its report (IEC 61850-7-2, the Report service).
 
-ghost use Rattle.std.specs.Prelude.{◌≡◌, ◌≤◌, ◌+◌, ◌++◌, List, length, IfOk};
+ghost use Rattle.std.specs.Prelude.{◌≡◌, ◌<◌, ◌≤◌, ◌+◌, ◌^◌, ◌++◌, List, length, IfOk, IfSome};
 ghost use Rattle.std.specs.Option.{option_map};
 ghost use Rattle.bay_model.specs.Named.{configured_model};
 ghost use Rattle.bay_model.specs.Notes.{Kept};
@@ -8,14 +8,16 @@ ghost use Rattle.bay_core.specs.Again.{AreKept, AreNodes};
 ghost use Rattle.bay_core.specs.Offers.{offered_by, first_offered};
 ghost use Rattle.bay_core.specs.Reporting.{offered, report_by};
 
+use crate::bay::Bay;
+use crate::fault::StepFault;
 use crate::members::members_of;
 use crate::part::Part;
-use bay_model::Report;
+use bay_model::{Answer, Output, Report};
 use brcb_state::Next;
 use entry_ring::Entry;
 use object_model::Model;
 use std::alloc::{AllocError, Global};
-use sv_base::{AssocNo, Bits, BlockNo, Octs};
+use sv_base::{ActorNo, AssocNo, Bits, BlockNo, Moment, Octs};
 
 /// An entry that may be reported next: its block, how it is reported, and what is kept of it.
 #[derive(Clone, Copy, Debug)]
@@ -27,7 +29,8 @@ pub(crate) struct Offer<'a> {
 
 /// The next entry of a block where the association has enabled it.
 fn offer_of<'a>(part: &'a Part, block: usize, a: AssocNo) -> Option<Offer<'a>>
-    ensures { option_map offered result ≡ offered_by a block part.now }
+    ensures offer { option_map offered result ≡ offered_by a block part.now }
+    ensures block { IfSome result (λ o. o.block ≡ block) }
 {
     let Some(next) = part.block.next(a, part.kept()) else {
         return None;
@@ -40,8 +43,9 @@ fn offer_of<'a>(part: &'a Part, block: usize, a: AssocNo) -> Option<Offer<'a>>
 
 /// The first offer of these blocks, which are numbered from a number on.
 fn first_from<'a>(parts: &'a [Part], block: usize, a: AssocNo) -> Option<Offer<'a>>
-    requires { block + length parts.now ≤ 4294967295 }
-    ensures { option_map offered result ≡ first_offered a block parts.now }
+    requires { block + length parts.now < 2 ^ 64 }
+    ensures first { option_map offered result ≡ first_offered a block parts.now }
+    ensures within { IfSome result (λ o. o.block < block + length parts.now) }
 {
     let [part, rest @ ..] = parts else {
         return None;
@@ -62,8 +66,8 @@ fn first_from<'a>(parts: &'a [Part], block: usize, a: AssocNo) -> Option<Offer<'
 /// Of the next entries of the blocks that an association has enabled, the one that came to be at the earliest step, at a tie
 /// that of the lowest block.
 pub(crate) fn first_offer<'a>(parts: &'a [Part], a: AssocNo) -> Option<Offer<'a>>
-    requires { length parts.now ≤ 4294967295 }
-    ensures { option_map offered result ≡ first_offered a 0 parts.now }
+    ensures first { option_map offered result ≡ first_offered a 0 parts.now }
+    ensures within { IfSome result (λ o. o.block < length parts.now) }
 {
     first_from(parts, 0, a)
 }
@@ -104,4 +108,46 @@ pub(crate) fn report_of(
         total: part.members.len() as u32,
         members,
     })
+}
+
+impl Bay {
+    ghost use Rattle.std.specs.Prelude.{◌<◌, ◌^◌};
+    ghost use Rattle.bay_model.specs.declared.step.Step.TheVariants as steps;
+    ghost use Rattle.assoc_table.specs.Tables.{IsNumber};
+    ghost use Rattle.bay_core.specs.Turns.{Does, IsCounted};
+
+    /// The writer of an association takes the report that comes next.
+    pub(crate) fn take(
+        &mut self,
+        alloc: Global,
+        moment: Moment,
+        actor: ActorNo,
+        a: AssocNo,
+    ) -> Result<Answer, StepFault>
+        requires number { IsNumber a.0 }
+        requires few { self.old.steps < 2 ^ 62 }
+        ensures does { Does self.old self.new (record { moment = moment; actor = actor.0; step = steps.Take a }) result }
+        ensures counted { IsCounted self.old self.new result }
+    {
+        let Some(writer) = self.associations.writer(a) else {
+            self.advance(moment);
+            return Ok(Answer::Closed);
+        };
+        if actor.0 != writer.0 {
+            return Err(StepFault::NotYours(a));
+        }
+        let Some(offer) = first_offer(&self.parts, a) else {
+            self.advance(moment);
+            return Ok(Answer::Empty);
+        };
+        let report = match report_of(alloc, &self.model, &self.parts[offer.block], &offer) {
+            Ok(report) => report,
+            Err(_) => return Err(StepFault::Memory),
+        };
+        let block = offer.block;
+        let id = offer.next.id;
+        self.parts[block].block.sent(id);
+        self.advance(moment);
+        Ok(Answer::Taken(Output::Report(report)))
+    }
 }

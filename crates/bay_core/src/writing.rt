@@ -9,7 +9,7 @@ impl Bay {
     ghost use Rattle.std.specs.Prelude.{◌≡◌, ◌<◌, ◌^◌, length};
     ghost use Rattle.bay_model.specs.declared.step.Step.TheVariants as steps;
     ghost use Rattle.assoc_table.specs.Tables.{IsNumber};
-    ghost use Rattle.bay_core.specs.Turns.{Does, IsBuilt};
+    ghost use Rattle.bay_core.specs.Turns.{Does, IsCounted, IsBuilt};
 
     /// An association writes a component of a block.
     pub(crate) fn write(
@@ -25,7 +25,8 @@ impl Bay {
         requires block { b.0 < length self.old.config.blocks }
         requires built { IsBuilt (steps.Write a b comp value.now) }
         requires few { self.old.steps < 2 ^ 62 }
-        ensures { Does self.old self.new (record { moment = moment; actor = actor.0; step = steps.Write a b comp value.now }) result }
+        ensures does { Does self.old self.new (record { moment = moment; actor = actor.0; step = steps.Write a b comp value.now }) result }
+        ensures counted { IsCounted self.old self.new result }
     {
         let Some(opener) = self.associations.opener(a) else {
             return Err(StepFault::NotOpen(a));
