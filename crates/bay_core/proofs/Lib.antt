@@ -12,4 +12,10 @@ pub mod ChangeLaws
 pub mod AgainLaws
 pub mod OneElement
 pub mod KeptLaws
+pub mod ReadableLaws
+pub mod OfferLaws
+pub mod TakeLaws
+pub mod ReportedLaws
+pub mod ServedLaws
+pub mod TakenLaws
 pub mod WroteLaws

@@ -7,6 +7,7 @@ mod fault;
 mod kept;
 mod members;
 mod part;
+mod taking;
 mod values;
 mod writing;
 

@@ -1,0 +1,88 @@
+-- The data sets of a configuration that a bay serves: the members of a block are there, and have the shapes of their nodes.
+use Rattle.std.proofs.Common.{◌≡◌, ◌≤◌, ◌<◌, ℕ, Bool, true, false, List, [], ◌∷◌, ◌++◌, length, map, get_or, refl, sym, ap, ◌∙◌, arith}
+use Rattle.std.specs.Prelude.{Some, cond, unwrap_or}
+use Rattle.std.specs.Option.{option_map}
+use Rattle.std.specs.List.{All, find}
+use Rattle.std.proofs.lemmas.List.{length-map}
+use Rattle.std.proofs.lemmas.List.Elements.{All-nil, All-cons, All-head, All-tail, All-append}
+use Rattle.std.proofs.lemmas.Option.{slice_get-get_or}
+use Rattle.sv_base.specs.declared.config.Config.{Config}
+use Rattle.sv_base.specs.declared.numbers.NodeId.{NodeId}
+use Rattle.bay_model.specs.declared.tables.MemberShape.{MemberShape}
+use Rattle.bay_model.specs.Model.{Model, DataSet}
+use Rattle.bay_model.specs.Lookups.{block_of}
+use Rattle.bay_model.specs.Named.{configured_model, nodes}
+use Rattle.bay_model.specs.Points.{Past}
+use Rattle.bay_model.specs.Parameters.{parameters_at}
+use Rattle.bay_model.specs.Sets.{dynamic, set_referred, members}
+use Rattle.object_model.specs.Nodes.{node_rows}
+use Rattle.object_model.specs.Tables.{node_id}
+use Rattle.object_model.proofs.TableLaws.{count-rows, rows-are-nodes}
+use Rattle.data_sets.specs.Booked.{HasNumber, no_row, node_numbers, shape_of}
+use Rattle.data_sets.proofs.SetLaws.{numbers_of_shapes}
+use Rattle.bay_core.specs.Again.{AreNodes}
+use Rattle.bay_core.specs.Servable.{IsServable, IsServedSet, IsMember}
+use Rattle.bay_core.specs.State.{served_members}
+
+-- what holds of the nodes of each set, and of none, holds of those of a set that is looked up
+set-found : (P : List ℕ → Type 0) (test : DataSet → Bool) (ss : List DataSet) → P [] → All (λ (s : DataSet). P s.nodes) ss → P (unwrap_or (option_map (λ (s : DataSet). s.nodes) (find test ss)) [])
+set-found P test [] none all = none
+set-found P test (s ∷ ss) none all = either (test s) (All-head (λ (s : DataSet). P s.nodes) s ss all) (set-found P test ss none (All-tail (λ (s : DataSet). P s.nodes) s ss all)) where
+  either : (t : Bool) → P s.nodes → P (unwrap_or (option_map (λ (s : DataSet). s.nodes) (find test ss)) []) → P (unwrap_or (option_map (λ (s : DataSet). s.nodes) (cond t (Some s) (find test ss))) [])
+  either true h k = h
+  either false h k = k
+
+all-of : {A : Type 0} (P Q : A → Type 0) → ((x : A) → P x → Q x) → (xs : List A) → All P xs → All Q xs
+all-of P Q f [] all = All-nil Q
+all-of P Q f (x ∷ xs) all = All-cons Q x xs (f x (All-head P x xs all)) (all-of P Q f xs (All-tail P x xs all))
+
+all-map : {A B : Type 0} (P : B → Type 0) (f : A → B) (xs : List A) → All (λ x. P (f x)) xs → All P (map f xs)
+all-map P f [] all = All-nil P
+all-map P f (x ∷ xs) all = All-cons P (f x) (map f xs) (All-head (λ x. P (f x)) x xs all) (all-map P f xs (All-tail (λ x. P (f x)) x xs all))
+
+-- without dynamic sets, and with the parameters of its configuration, a block has the members that it began with
+pub members-initial : (m : Model) (b : ℕ) (past : Past) → parameters_at m b past ≡ (block_of m b).initial → dynamic past ≡ [] → members m b past ≡ members m b []
+members-initial m b past initial sets = ap (λ o. unwrap_or (option_map (λ (s : DataSet). s.nodes) (set_referred o.dat_set (m.sets ++ dynamic past))) []) initial
+    ∙ ap (λ ds. unwrap_or (option_map (λ (s : DataSet). s.nodes) (set_referred (block_of m b).initial.dat_set (m.sets ++ ds))) []) sets
+
+module _ (c : Config) (served : IsServable c) (b : ℕ) where
+  abbrev IsThere : ℕ → Type 0
+  IsThere n = n < length (nodes c)
+
+  abbrev mine : List ℕ
+  mine = members (configured_model c) b []
+
+  looked-up : (P : List ℕ → Type 0) → P [] → ((s : DataSet) → IsServedSet c s → P s.nodes) → P mine
+  looked-up P none each = set-found P _ ((configured_model c).sets ++ []) none
+      (All-append (λ (s : DataSet). P s.nodes) (configured_model c).sets [] (all-of (IsServedSet c) (λ (s : DataSet). P s.nodes) each (configured_model c).sets served.sets) (All-nil (λ (s : DataSet). P s.nodes)))
+
+  pub members-there : All IsThere mine
+  members-there = looked-up (All IsThere) (All-nil IsThere) (λ s is. all-of (IsMember c) IsThere (λ n h. h.there) s.nodes is.members)
+
+  pub members-few : length mine ≤ 256
+  members-few = looked-up (λ ns. length ns ≤ 256) (omega arith) (λ s is. is.few)
+
+  -- the row of a node has its number
+  row-number : (n : ℕ) → n < length (nodes c) → HasNumber (node_rows c) (node_id n)
+  row-number n h = (rows-are-nodes c n (get_or (node_rows c) n no_row) (slice_get-get_or (node_rows c) n no_row (omega (arith, h, count-rows c)))).node
+
+  ids-same : (ns : List ℕ) → map (λ (n : NodeId). n.0) (map node_id ns) ≡ ns
+  ids-same [] = refl
+  ids-same (n ∷ ns) = ap (λ l. n ∷ l) (ids-same ns)
+
+  -- the shapes of the members have their nodes
+  pub served-nodes : node_numbers (served_members c b) ≡ mine
+  served-nodes = numbers_of_shapes (node_rows c) (map node_id mine) (all-map (HasNumber (node_rows c)) node_id mine (all-of IsThere (λ n. HasNumber (node_rows c) (node_id n)) row-number mine members-there)) ∙ ids-same mine
+
+  pub served-few : length (served_members c b) ≤ 256
+  served-few = omega (arith, length-map (map node_id mine) (shape_of (node_rows c)), length-map mine node_id, members-few)
+
+  -- each shape is that of a node that is there
+  pub shapes-there : AreNodes c (served_members c b)
+  shapes-there = all-map (λ (s : MemberShape). s.node.0 < length (nodes c)) (shape_of (node_rows c)) (map node_id mine)
+      (all-map (λ (n : NodeId). (shape_of (node_rows c) n).node.0 < length (nodes c)) node_id mine (all-of IsThere (λ n. (shape_of (node_rows c) (node_id n)).node.0 < length (nodes c)) (λ n h. omega (arith, h, row-number n h)) mine members-there))
+
+  -- the members of the part are those of the block
+  pub served-now : (past : Past) (shapes : List MemberShape) → shapes ≡ served_members c b → parameters_at (configured_model c) b past ≡ (block_of (configured_model c) b).initial → dynamic past ≡ []
+      → node_numbers shapes ≡ members (configured_model c) b past
+  served-now past shapes is initial sets = ap node_numbers is ∙ (served-nodes ∙ sym (members-initial (configured_model c) b past initial sets))

@@ -1,0 +1,134 @@
+-- A bay after a Take.
+use Rattle.std.proofs.Common.{◌≡◌, ℕ, suc, max, true, List, ◌∷◌, Option, None, Some, length, refl, ap, arith, ◌∙◌, sym, subst, slice_set}
+use Rattle.std.specs.Prelude.{slice_get, ◌==◌}
+use Rattle.std.specs.Option.{option_map}
+use Rattle.std.proofs.lemmas.List.{length-map}
+use Rattle.std.proofs.lemmas.Bool.Decides.{nat_tests}
+use Rattle.sv_base.specs.declared.config.Config.{Config}
+use Rattle.sv_base.specs.declared.numbers.ActorNo.{ActorNo}
+use Rattle.sv_base.specs.declared.numbers.AssocNo.{AssocNo}
+use Rattle.bay_model.specs.declared.answer.Answer.{Answer}
+use Rattle.bay_model.specs.declared.answer.Answer.TheVariants as answers
+use Rattle.bay_model.specs.declared.answer.Output.TheVariants as outputs
+use Rattle.bay_model.specs.declared.report.Report.{Report}
+use Rattle.bay_model.specs.declared.step.Step.TheVariants as steps
+use Rattle.bay_model.specs.Acceptance.{fault}
+use Rattle.bay_model.specs.Answers.{Turn, History, answer, points}
+use Rattle.bay_model.specs.Associations as model
+use Rattle.bay_model.specs.Associations.{ends}
+use Rattle.bay_model.specs.Configured.{block_defined}
+use Rattle.bay_model.specs.Model.{Model}
+use Rattle.bay_model.specs.Named.{configured_model}
+use Rattle.bay_model.specs.Notes.{Kept}
+use Rattle.bay_model.specs.Points.{Point, Past, reported, nothing}
+use Rattle.bay_model.specs.Singles.{arrival}
+use Rattle.bay_model.specs.Takes.{Given, taken}
+use Rattle.assoc_table.specs.declared.waiting.Ends.{Ends}
+use Rattle.assoc_table.specs.Seats.{Row}
+use Rattle.assoc_table.specs.Standing.{Stands as AssociationsStand, ends_of}
+use Rattle.assoc_table.specs.Tables.{IsNumber, row_of}
+use Rattle.assoc_table.proofs.StandLaws.{stands-other}
+use Rattle.bay_core.specs.declared.part.Part.{Part}
+use Rattle.bay_core.specs.Again.{AreKept}
+use Rattle.bay_core.specs.Offers.{Offered, first_offered}
+use Rattle.bay_core.specs.Parting.{reported_by}
+use Rattle.bay_core.specs.Reporting.{report_by}
+use Rattle.bay_core.specs.Servable.{IsServable}
+use Rattle.bay_core.specs.Standing.{StandsAt, StandsFor}
+use Rattle.bay_core.specs.State.{State, served_members}
+use Rattle.bay_core.proofs.MoveLaws.{moved, accepted-as, values-same, waits-none}
+use Rattle.bay_core.proofs.QuietLaws.{at_once-served}
+use Rattle.bay_core.proofs.ReportedLaws.{stands-reported}
+use Rattle.bay_core.proofs.ServedLaws.{served-now}
+use Rattle.bay_core.proofs.StillLaws.{still}
+use Rattle.bay_core.proofs.TakeLaws.{none, given, closed}
+
+abbrev pub reporting : (n t a b id : ℕ) → Point
+reporting n t a b id = record { moment = t; step = n; deed = reported a b id }
+
+-- after the report of an entry of block b
+pub reported-at : (s : State) (c : Config) (n t a b id : ℕ) (part : Part) (past : Past) → IsServable c → slice_get s.parts b ≡ Some part → StandsAt s c n past
+    → StandsAt (record s { steps = suc s.steps; latest = max s.latest t; parts = slice_set s.parts b (reported_by id part) }) c (suc n) (reporting n t a b id ∷ past)
+reported-at s c n t a b id part past served there st = moved s (record s { steps = suc s.steps; latest = max s.latest t; parts = slice_set s.parts b (reported_by id part) }) c n (reporting n t a b id) past st refl refl refl
+    (values-same s.stored (configured_model c) (reporting n t a b id) past (λ x. refl) st.values)
+    (stands-other (configured_model c) (reporting n t a b id) past s.rows st.associations tt (λ e. refl))
+    (λ k. waits-none (configured_model c) k (reporting n t a b id) past (st.empty k) refl refl) refl
+    (stands-reported (configured_model c) a n t id past b part s.parts (λ k. at_once-served c k served) st.blocks there)
+
+-- a place has one element
+pub same-part : (parts : List Part) (b : ℕ) (x y : Part) → slice_get parts b ≡ Some x → slice_get parts b ≡ Some y → x ≡ y
+same-part parts b x y one other = cc
+
+-- ---- who takes for an association
+
+pub writer-told : (m : Model) (rows : List Row) (past : Past) (a : ℕ) (writer : ActorNo) → AssociationsStand rows m past → IsNumber a → option_map (λ (e : Ends). e.writer) (row_of rows a).ends ≡ Some writer
+    → (e : model.Ends) × (ends a past ≡ Some e) × (e.writer ≡ writer.0)
+writer-told m rows past a writer st number is = by (row_of rows a).ends (ends a past) (st.each a number).ends is where
+  by : (e : Option Ends) (f : Option model.Ends) → option_map ends_of e ≡ f → option_map (λ (x : Ends). x.writer) e ≡ Some writer → (g : model.Ends) × (f ≡ Some g) × (g.writer ≡ writer.0)
+  by None f same is = cc
+  by (Some e) f same is = (ends_of e, sym same, let one : e.writer ≡ writer = cc in ap (λ (x : ActorNo). x.0) one)
+
+pub nobody-told : (m : Model) (rows : List Row) (past : Past) (a : ℕ) → AssociationsStand rows m past → IsNumber a → option_map (λ (e : Ends). e.writer) (row_of rows a).ends ≡ None → ends a past ≡ None
+nobody-told m rows past a st number none = by (row_of rows a).ends (ends a past) (st.each a number).ends none where
+  by : (e : Option Ends) (f : Option model.Ends) → option_map ends_of e ≡ f → option_map (λ (x : Ends). x.writer) e ≡ None → f ≡ None
+  by None f same none = sym same
+  by (Some e) f same none = cc
+
+-- ---- a Take is answered, and the bay stands for it
+
+module _ (s new : State) (c : Config) (h : History) (t : ℕ) (actor : ActorNo) (a : AssocNo) (served : IsServable c) (number : IsNumber a.0) (st : StandsFor s c h) where
+  abbrev m : Model
+  m = configured_model c
+
+  abbrev past : Past
+  past = points m h
+
+  abbrev turn : Turn
+  turn = record { moment = t; actor = actor.0; step = steps.Take a }
+
+  abbrev IsDone : Answer → Type 0
+  IsDone g = (g ≡ answer m h turn) × StandsFor new c (turn ∷ h)
+
+  abbrev gave : Given → Type 0
+  gave g = taken m a.0 (arrival (length h) t ∷ past) ≡ g
+
+  count : length s.parts ≡ length c.blocks → length s.parts ≡ length m.blocks
+  count all = all ∙ sym (length-map c.blocks block_defined)
+
+  writer-may : (w : ActorNo) → option_map (λ (e : Ends). e.writer) (row_of s.rows a.0).ends ≡ Some w → actor.0 ≡ w.0 → fault m h turn ≡ None
+  writer-may w is same =
+      let e = writer-told m s.rows past a.0 w st.1.associations number is in
+      let yours : (actor.0 == e.0.writer) ≡ true = grind (arith, nat_tests, same, e.2) in
+      rw (e.1, yours) refl
+
+  nothing-came : (g : Answer) → new ≡ record s { steps = suc s.steps; latest = max s.latest t } → fault m h turn ≡ None → gave (record { answer = g; deed = nothing }) → IsDone g
+  nothing-came g is fine came = (
+    sym (ap (λ (g : Given). g.answer) came),
+    accepted-as s new (record s { steps = suc s.steps; latest = max s.latest t }) c h turn st fine is
+        (subst (λ (g : Given). StandsAt (record s { steps = suc s.steps; latest = max s.latest t }) c (suc (length h)) (record { moment = t; step = length h; deed = g.deed } ∷ past)) (sym came) (still s c (length h) t past served st.1)),
+  )
+
+  pub closed-for : new ≡ record s { steps = suc s.steps; latest = max s.latest t } → option_map (λ (e : Ends). e.writer) (row_of s.rows a.0).ends ≡ None → IsDone answers.Closed
+  closed-for is nobody =
+      let shut = nobody-told m s.rows past a.0 st.1.associations number nobody in
+      let fine : fault m h turn ≡ None = rw shut refl in
+      nothing-came answers.Closed is fine (closed m a (length h) t past shut)
+
+  pub empty-for : (w : ActorNo) → new ≡ record s { steps = suc s.steps; latest = max s.latest t } → option_map (λ (e : Ends). e.writer) (row_of s.rows a.0).ends ≡ Some w → actor.0 ≡ w.0
+      → length s.parts ≡ length c.blocks → first_offered a 0 s.parts ≡ None → IsDone answers.Empty
+  empty-for w is writer same all nothing_left =
+      let e = writer-told m s.rows past a.0 w st.1.associations number writer in
+      nothing-came answers.Empty is (writer-may w writer same) (none m a (length h) t past s.parts (λ b. at_once-served c b served) (count all) st.1.blocks e.0 nothing_left e.1 (st.1.empty a.0))
+
+  pub given-for : (w : ActorNo) (o : Offered) (part : Part) (r : Report) → new ≡ record s { steps = suc s.steps; latest = max s.latest t; parts = slice_set s.parts o.block (reported_by o.next.id part) }
+      → option_map (λ (e : Ends). e.writer) (row_of s.rows a.0).ends ≡ Some w → actor.0 ≡ w.0 → length s.parts ≡ length c.blocks → first_offered a 0 s.parts ≡ Some o → slice_get s.parts o.block ≡ Some part
+      → part.members.items ≡ served_members c o.block → ((ks : List Kept) → AreKept o.entry.kept ks → r ≡ report_by m part o ks) → IsDone (answers.Taken (outputs.Report r))
+  given-for w o part r is writer same all first there shapes is_report =
+      let e = writer-told m s.rows past a.0 w st.1.associations number writer in
+      let nodes = served-now c served o.block past part.members.items shapes (st.1.blocks o.block part there).initial st.1.sets in
+      let came = given m a (length h) t past s.parts (λ b. at_once-served c b served) (count all) st.1.blocks e.0 o part r first e.1 (st.1.empty a.0) there nodes is_report in
+      let after : State = record s { steps = suc s.steps; latest = max s.latest t; parts = slice_set s.parts o.block (reported_by o.next.id part) } in (
+        sym (ap (λ (g : Given). g.answer) came),
+        accepted-as s new after c h turn st (writer-may w writer same) is
+            (subst (λ (g : Given). StandsAt after c (suc (length h)) (record { moment = t; step = length h; deed = g.deed } ∷ past)) (sym came) (reported-at s c (length h) t a.0 o.block o.next.id part past served there st.1)),
+      )

@@ -1,0 +1,153 @@
+//! Which entry is reported next, and its report (IEC 61850-7-2, the Report service).
+
+ghost use Rattle.std.specs.Prelude.{◌≡◌, ◌<◌, ◌≤◌, ◌+◌, ◌^◌, ◌++◌, List, length, IfOk, IfSome};
+ghost use Rattle.std.specs.Option.{option_map};
+ghost use Rattle.bay_model.specs.Named.{configured_model};
+ghost use Rattle.bay_model.specs.Notes.{Kept};
+ghost use Rattle.bay_core.specs.Again.{AreKept, AreNodes};
+ghost use Rattle.bay_core.specs.Offers.{offered_by, first_offered};
+ghost use Rattle.bay_core.specs.Reporting.{offered, report_by};
+
+use crate::bay::Bay;
+use crate::fault::StepFault;
+use crate::members::members_of;
+use crate::part::Part;
+use bay_model::{Answer, Output, Report};
+use brcb_state::Next;
+use entry_ring::Entry;
+use object_model::Model;
+use std::alloc::{AllocError, Global};
+use sv_base::{ActorNo, AssocNo, Bits, BlockNo, Moment, Octs};
+
+/// An entry that may be reported next: its block, how it is reported, and what is kept of it.
+#[derive(Clone, Copy, Debug)]
+pub(crate) struct Offer<'a> {
+    pub(crate) block: usize,
+    pub(crate) next: Next,
+    pub(crate) entry: Entry<'a>,
+}
+
+/// The next entry of a block where the association has enabled it.
+fn offer_of<'a>(part: &'a Part, block: usize, a: AssocNo) -> Option<Offer<'a>>
+    ensures offer { option_map offered result ≡ offered_by a block part.now }
+    ensures block { IfSome result (λ o. o.block ≡ block) }
+{
+    let Some(next) = part.block.next(a, part.kept()) else {
+        return None;
+    };
+    match part.ring.entry(next.id) {
+        Some(entry) => Some(Offer { block, next, entry }),
+        None => None,
+    }
+}
+
+/// The first offer of these blocks, which are numbered from a number on.
+fn first_from<'a>(parts: &'a [Part], block: usize, a: AssocNo) -> Option<Offer<'a>>
+    requires { block + length parts.now < 2 ^ 64 }
+    ensures first { option_map offered result ≡ first_offered a block parts.now }
+    ensures within { IfSome result (λ o. o.block < block + length parts.now) }
+{
+    let [part, rest @ ..] = parts else {
+        return None;
+    };
+    let Some(one) = offer_of(part, block, a) else {
+        return first_from(rest, block + 1, a);
+    };
+    let Some(other) = first_from(rest, block + 1, a) else {
+        return Some(one);
+    };
+    if one.entry.step <= other.entry.step {
+        Some(one)
+    } else {
+        Some(other)
+    }
+}
+
+/// Of the next entries of the blocks that an association has enabled, the one that came to be at the earliest step, at a tie
+/// that of the lowest block.
+pub(crate) fn first_offer<'a>(parts: &'a [Part], a: AssocNo) -> Option<Offer<'a>>
+    ensures first { option_map offered result ≡ first_offered a 0 parts.now }
+    ensures within { IfSome result (λ o. o.block < length parts.now) }
+{
+    first_from(parts, 0, a)
+}
+
+/// The octets of an entry in one row.
+fn whole_of(alloc: Global, entry: &Entry<'_>) -> Result<Vec<u8>, AllocError>
+    ensures { IfOk result (λ v. v.items ≡ entry.now.first.now ++ entry.now.second.now) }
+{
+    let mut octets = Vec::from_slice(alloc, entry.first)?;
+    octets.extend_from_slice(entry.second)?;
+    Ok(octets)
+}
+
+/// The report of an offer by its block, whose data set has nodes of the model.
+pub(crate) fn report_of(
+    alloc: Global,
+    model: &Model,
+    part: &Part,
+    offer: &Offer<'_>,
+) -> Result<Report, AllocError>
+    requires block { offer.now.block ≤ 4294967295 }
+    requires few { length part.now.members.items ≤ 4294967295 }
+    requires nodes { AreNodes model.now part.now.members.items }
+    ensures { IfOk result (λ r. (ks : List Kept) → AreKept (offered offer.now).entry.kept ks → r ≡ report_by (configured_model model.now) part.now (offered offer.now) ks) }
+{
+    let octets = whole_of(alloc, &offer.entry)?;
+    let members = members_of(alloc, model, &part.members, &octets)?;
+    Ok(Report {
+        block: BlockNo(offer.block as u32),
+        rpt_id: Octs::from_vec(Vec::from_slice(alloc, part.block.report_id())?),
+        opt_flds: Bits::from_vec(Vec::from_slice(alloc, part.block.opt_flds())?),
+        sq: offer.next.sq,
+        time: offer.entry.moment,
+        dat_set: Octs::from_vec(Vec::from_slice(alloc, part.block.dat_set())?),
+        ovfl: offer.next.ovfl,
+        id: offer.next.id,
+        conf_rev: part.block.conf_rev(),
+        total: part.members.len() as u32,
+        members,
+    })
+}
+
+impl Bay {
+    ghost use Rattle.std.specs.Prelude.{◌<◌, ◌^◌};
+    ghost use Rattle.bay_model.specs.declared.step.Step.TheVariants as steps;
+    ghost use Rattle.assoc_table.specs.Tables.{IsNumber};
+    ghost use Rattle.bay_core.specs.Turns.{Does, IsCounted};
+
+    /// The writer of an association takes the report that comes next.
+    pub(crate) fn take(
+        &mut self,
+        alloc: Global,
+        moment: Moment,
+        actor: ActorNo,
+        a: AssocNo,
+    ) -> Result<Answer, StepFault>
+        requires number { IsNumber a.0 }
+        requires few { self.old.steps < 2 ^ 62 }
+        ensures does { Does self.old self.new (record { moment = moment; actor = actor.0; step = steps.Take a }) result }
+        ensures counted { IsCounted self.old self.new result }
+    {
+        let Some(writer) = self.associations.writer(a) else {
+            self.advance(moment);
+            return Ok(Answer::Closed);
+        };
+        if actor.0 != writer.0 {
+            return Err(StepFault::NotYours(a));
+        }
+        let Some(offer) = first_offer(&self.parts, a) else {
+            self.advance(moment);
+            return Ok(Answer::Empty);
+        };
+        let report = match report_of(alloc, &self.model, &self.parts[offer.block], &offer) {
+            Ok(report) => report,
+            Err(_) => return Err(StepFault::Memory),
+        };
+        let block = offer.block;
+        let id = offer.next.id;
+        self.parts[block].block.sent(id);
+        self.advance(moment);
+        Ok(Answer::Taken(Output::Report(report)))
+    }
+}
