@@ -1,7 +1,8 @@
 -- A list whose elements are changed one after another.
-use Rattle.std.proofs.Common.{◌≡◌, ◌≢◌, ℕ, zero, suc, ◌+◌, ◌<◌, List, [], ◌∷◌, ◌++◌, map, take, drop, length, refl, ap, arith, ◌∙◌, ◌≤◌, sym, Option, None, Some, ◌⊎◌, inl, inr}
-use Rattle.std.specs.Prelude.{slice_set, slice_index_or, slice_get}
+use Rattle.std.proofs.Common.{◌≡◌, ◌≢◌, ℕ, zero, suc, ◌+◌, ◌<◌, List, [], ◌∷◌, ◌++◌, map, take, drop, length, refl, ap, arith, ◌∙◌, ◌≤◌, sym, Option, None, Some, true, false, ◌⊎◌, inl, inr}
+use Rattle.std.specs.Prelude.{slice_set, slice_index_or, slice_get, ◌==◌}
 use Rattle.std.specs.Option.{option_map}
+use Rattle.std.proofs.lemmas.Bool.Decides.{nat_tests}
 use Rattle.std.proofs.lemmas.Option.{slice_get-map}
 
 pub set-next : {A : Type 0} (f : A → A) (xs : List A) (i : ℕ) (d : A) → i < length xs
@@ -48,3 +49,11 @@ got-set (y ∷ ys) zero zero x z is = inl (refl, cc)
 got-set (y ∷ ys) zero (suc j) x z is = inr (λ e. omega (arith, e), is)
 got-set (y ∷ ys) (suc i) zero x z is = inr (λ e. omega (arith, e), is)
 got-set (y ∷ ys) (suc i) (suc j) x z is = elim (got-set ys i j x z is) [ inl e ↦ inl (ap suc e.0, e.1) | inr e ↦ inr (λ k. e.0 (omega (arith, k)), e.1) ]
+
+-- ---- numbers of parts
+
+pub same-number : (b : ℕ) → (b == b) ≡ true
+same-number b = grind (arith, nat_tests)
+
+pub other-number : (b k : ℕ) → k ≢ b → (b == k) ≡ false
+other-number b k h = grind (arith, nat_tests, h)

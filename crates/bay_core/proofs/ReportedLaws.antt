@@ -11,24 +11,11 @@ use Rattle.brcb_state.specs.Standing.{Stands as BlockStands}
 use Rattle.bay_core.specs.declared.part.Part.{Part}
 use Rattle.bay_core.specs.Standing.{PartStands, PartsStand}
 use Rattle.bay_core.proofs.QuietLaws.{AreAtOnce, part-stays}
-
--- what stands at a place of a list, one of whose places was set
-pub set-tells : {A : Type 0} (xs : List A) (b k : ℕ) (x y : A) → slice_get (slice_set xs b x) k ≡ Some y → ((k ≡ b) × (y ≡ x)) ⊎ ((k ≢ b) × (slice_get xs k ≡ Some y))
-set-tells [] b k x y is = cc
-set-tells (z ∷ zs) zero zero x y is = inl (refl, cc)
-set-tells (z ∷ zs) zero (suc k) x y is = inr (grind arith, is)
-set-tells (z ∷ zs) (suc b) zero x y is = inr (grind arith, is)
-set-tells (z ∷ zs) (suc b) (suc k) x y is = elim (set-tells zs b k x y is) [ inl t ↦ inl (ap suc t.0, t.1) | inr t ↦ inr (λ e. t.0 (omega (arith, e)), t.1) ]
+use Rattle.bay_core.proofs.EachLaws.{got-set, same-number, other-number}
 
 module _ (m : Model) (a n moment id : ℕ) (past : Past) where
   abbrev at : ℕ → Point
   at b = record { moment = moment; step = n; deed = reported a b id }
-
-  own : (b : ℕ) → (b == b) ≡ true
-  own b = elim (eqb_tells b b) [ inl t ↦ t.0 | inr t ↦ absurd (t.1 refl) ]
-
-  other : (b k : ℕ) → k ≢ b → (b == k) ≡ false
-  other b k apart = elim (eqb_tells b k) [ inl t ↦ absurd (apart (sym t.1)) | inr t ↦ t.0 ]
 
   -- the block of the report
   pub block-reported : (b : ℕ) (s : BlockState) → BlockStands s m b past → BlockStands (after_report id s) m b (at b ∷ past)
@@ -37,8 +24,8 @@ module _ (m : Model) (a n moment id : ℕ) (past : Past) where
     options = st.options;
     revision = st.revision;
     enabler = st.enabler;
-    cursor = rw (own b) refl;
-    count = rw (own b) (omega (arith, st.count));
+    cursor = rw (same-number b) refl;
+    count = rw (same-number b) (omega (arith, st.count));
   }
 
   -- another block
@@ -48,13 +35,13 @@ module _ (m : Model) (a n moment id : ℕ) (past : Past) where
     options = st.options;
     revision = st.revision;
     enabler = st.enabler;
-    cursor = st.cursor ∙ rw (other b k apart) refl;
-    count = st.count ∙ rw (other b k apart) refl;
+    cursor = st.cursor ∙ rw (other-number b k apart) refl;
+    count = st.count ∙ rw (other-number b k apart) refl;
   }
 
   pub stands-reported : (b : ℕ) (part : Part) (parts : List Part) → ((k : ℕ) → AreAtOnce (block_of m k).initial) → PartsStand m past parts → slice_get parts b ≡ Some part
       → PartsStand m (at b ∷ past) (slice_set parts b (record part { block = after_report id part.block }))
-  stands-reported b part parts times stand there = λ k q is. either k q (set-tells parts b k (record part { block = after_report id part.block }) q is) where
+  stands-reported b part parts times stand there = λ k q is. either k q (got-set parts b k (record part { block = after_report id part.block }) q is) where
     either : (k : ℕ) (q : Part) → ((k ≡ b) × (q ≡ record part { block = after_report id part.block })) ⊎ ((k ≢ b) × (slice_get parts k ≡ Some q)) → PartStands m k (at b ∷ past) q
     either k q (inl t) =
         let mine = stand b part there in

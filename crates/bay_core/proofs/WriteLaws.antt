@@ -32,7 +32,7 @@ use Rattle.bay_core.specs.Parting.{write_answer, written_by, without_effect, aft
 use Rattle.bay_core.specs.Servable.{IsServable}
 use Rattle.bay_core.specs.Standing.{PartStands, PartsStand}
 use Rattle.bay_core.proofs.QuietLaws.{at_once-served, quiet-selected, quiet-front, part-quiet, part-stays}
-use Rattle.bay_core.proofs.EachLaws.{got-set}
+use Rattle.bay_core.proofs.EachLaws.{got-set, other-number}
 
 -- the components that are written
 abbrev pub IsPlainComp : Comp → Type 0
@@ -119,12 +119,6 @@ other-purges : (m : Model) (a b k : ℕ) (comp : Comp) (v : Value) (past : Past)
 other-purges m a b k comp v past other = search rules
 
 -- ---- the block that is written, and the others
-
-same-number : (b : ℕ) → (b == b) ≡ true
-same-number b = grind (arith, nat_tests)
-
-other-number : (b k : ℕ) → k ≢ b → (b == k) ≡ false
-other-number b k h = grind (arith, nat_tests, h)
 
 module _ (c : Config) (served : IsServable c) (n t : ℕ) (a : AssocNo) (b : ℕ) (comp : Comp) (v : Value) (plain : IsPlainComp comp) (past : Past) where
   abbrev m : Model
