@@ -5,6 +5,7 @@ mod associations;
 mod bay;
 mod fault;
 mod kept;
+mod laws;
 mod members;
 mod part;
 mod taking;
@@ -13,3 +14,4 @@ mod writing;
 
 pub use bay::Bay;
 pub use fault::StepFault;
+pub use laws::texts_are_served;
