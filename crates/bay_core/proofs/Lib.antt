@@ -12,3 +12,6 @@ pub mod ChangeLaws
 pub mod AgainLaws
 pub mod OneElement
 pub mod KeptLaws
+pub mod ServedLaws
+pub mod WritableLaws
+pub mod MentionLaws

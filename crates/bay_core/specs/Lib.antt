@@ -8,3 +8,4 @@ pub mod Changed
 pub mod Marked
 pub mod Kept
 pub mod Again
+pub mod Events

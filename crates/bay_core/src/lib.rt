@@ -7,6 +7,7 @@ mod fault;
 mod kept;
 mod members;
 mod part;
+mod setting;
 mod values;
 mod writing;
 
