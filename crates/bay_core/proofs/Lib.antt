@@ -15,3 +15,5 @@ pub mod KeptLaws
 pub mod ServedLaws
 pub mod WritableLaws
 pub mod MentionLaws
+pub mod EventLaws
+pub mod SetLaws

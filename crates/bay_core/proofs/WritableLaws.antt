@@ -99,7 +99,7 @@ short-of types.Time (kinds.Time t) s k r u small = omega (arith, ltb-true t.frac
 short-of types.Stamp (kinds.Stamp t) s k r u small = tt
 short-of (types.Text most) (kinds.Text t) s k r u small = omega (arith, leb-true (length t) most r, small)
 short-of (types.Octets most) (kinds.Octets o) s k r u small = omega (arith, leb-true (length o) most r, small)
-short-of kind v s k r u small = cc k
+short-of kind v s k r u small = cc
 
 -- ---- a member
 
