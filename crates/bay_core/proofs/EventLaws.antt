@@ -1,5 +1,5 @@
 -- What is kept of the events of a point is its note, as it is in the model.
-use Rattle.std.proofs.Common.{◌≡◌, ◌<◌, ◌≤◌, ◌+◌, ◌-◌, ℕ, zero, suc, Bool, true, false, List, [], ◌∷◌, ◌++◌, length, map, slice_index_or, refl, ap, sym, ◌∙◌, subst, arith, if◌then◌else◌}
+use Rattle.std.proofs.Common.{◌≡◌, ◌<◌, ◌≤◌, ◌+◌, ◌-◌, ℕ, suc, Bool, true, false, List, [], ◌∷◌, ◌++◌, length, map, slice_index_or, refl, ap, sym, ◌∙◌, subst, arith, if◌then◌else◌}
 use Rattle.std.specs.List.{All, flat_map}
 use Rattle.std.proofs.lemmas.List.{get_or-map, length-map}
 use Rattle.std.proofs.lemmas.List.Elements.{All-nil, All-cons, All-head, All-tail, All-get_or}
@@ -23,7 +23,7 @@ use Rattle.value_store.specs.Members.{member_octets}
 use Rattle.value_store.specs.Stored.{Stored}
 use Rattle.value_store.specs.Wholes.{Stands as ValuesStand, HasForm}
 use Rattle.value_store.proofs.WholeLaws.{member_is_whole}
-use Rattle.bay_core.specs.Kept.{no_shape, shape_at, kept_of, note_octets, IsWritable}
+use Rattle.bay_core.specs.Kept.{no_shape, kept_of, note_octets, IsWritable}
 use Rattle.bay_core.specs.Servable.{IsServable, IsMember}
 use Rattle.bay_core.specs.Standing.{IsMemberKept}
 use Rattle.bay_core.specs.State.{AreHeld}

@@ -1,5 +1,5 @@
 -- The members of a block's data set, where it has the configured ones: each is a node of the configuration, with its row.
-use Rattle.std.proofs.Common.{◌≡◌, ◌<◌, ◌≤◌, ◌&&◌, ℕ, zero, suc, Bool, true, false, cond, List, [], ◌∷◌, ◌++◌, length, map, slice_index_or, Option, Some, None, unwrap_or, refl, ap, ap₂, sym, ◌∙◌, subst, arith}
+use Rattle.std.proofs.Common.{◌≡◌, ◌<◌, ◌≤◌, ℕ, suc, Bool, true, false, cond, List, [], ◌∷◌, ◌++◌, length, map, slice_index_or, Option, Some, None, unwrap_or, refl, ap₂, ◌∙◌, subst, arith}
 use Rattle.std.specs.Prelude.{min, nat_le}
 use Rattle.std.specs.List.{All, find}
 use Rattle.std.specs.Option.{option_map}
@@ -12,14 +12,13 @@ use Rattle.bay_model.specs.declared.tables.MemberShape.{MemberShape}
 use Rattle.bay_model.specs.declared.tables.NodeRow.{NodeRow}
 use Rattle.bay_model.specs.Model.{Model, DataSet, Parameters}
 use Rattle.bay_model.specs.Lookups.{node_of, block_of}
-use Rattle.bay_model.specs.Named.{configured_model, nodes}
-use Rattle.bay_model.specs.NamedLines.{domains}
+use Rattle.bay_model.specs.Named.{configured_model}
 use Rattle.bay_model.specs.Parameters.{parameters_at}
 use Rattle.bay_model.specs.Places.{largest}
 use Rattle.bay_model.specs.Points.{Past}
 use Rattle.bay_model.specs.Sets.{members, dynamic, sets, set_referred}
 use Rattle.object_model.specs.declared.growth.Spot.{Spot}
-use Rattle.object_model.specs.Nodes.{node_rows, rows_from, spots_in}
+use Rattle.object_model.specs.Nodes.{node_rows, rows_from}
 use Rattle.object_model.specs.Rows.{IsRowOf}
 use Rattle.object_model.specs.Tables.{node_type, node_id}
 use Rattle.object_model.proofs.TableLaws.{count-rows, rows-are-nodes}

@@ -1,10 +1,10 @@
 -- The Data of a member can be written, where each attribute has a value of its type.
-use Rattle.std.proofs.Common.{◌≡◌, ◌<◌, ◌≤◌, ◌^◌, ◌+◌, ◌/◌, ℕ, zero, suc, Bool, true, List, [], ◌∷◌, ◌++◌, length, map, flat_map, filter, slice_index_or, refl, ap, sym, ◌∙◌, subst, arith, length-append}
+use Rattle.std.proofs.Common.{◌≡◌, ◌<◌, ◌≤◌, ℕ, zero, suc, true, List, [], ◌∷◌, ◌++◌, length, map, flat_map, filter, slice_index_or, refl, ap, sym, ◌∙◌, subst, arith, length-append}
 use Rattle.std.specs.List.{All}
 use Rattle.std.proofs.lemmas.Bool.{leb-true, ltb-true, eqb-true}
 use Rattle.std.proofs.lemmas.List.{length-map}
 use Rattle.std.proofs.lemmas.List.Elements.{All-nil, All-cons, All-head, All-tail, All-append, All-map, All-filter}
-use Rattle.ber_grammar.specs.Element.{Element, IsTag, Spells}
+use Rattle.ber_grammar.specs.Element.{IsTag}
 use Rattle.sv_base.specs.declared.config.AttrDef.{AttrDef}
 use Rattle.sv_base.specs.declared.config.Config.{Config}
 use Rattle.sv_base.specs.declared.config.CtlDef.{CtlDef}
@@ -29,9 +29,7 @@ use Rattle.object_model.specs.Fits.{attr_types, is_sound}
 use Rattle.object_model.specs.Tables.{node_type}
 use Rattle.value_store.specs.Leaves.{leaf_shapes, leaf_shapes_in, HasValueOf, AreLeaves}
 use Rattle.value_store.specs.Members.{leaves, member_octets}
-use Rattle.value_store.specs.Opened.{HasValue, place_in}
 use Rattle.value_store.specs.Stored.{Stored, attribute, IsStored}
-use Rattle.value_store.specs.Wholes.{tree_attrs}
 use Rattle.value_store.specs.Written.{IsShort}
 use Rattle.value_store.proofs.LargestLaws.{member_within}
 use Rattle.value_store.proofs.WholeLaws.{attrs_of_form}

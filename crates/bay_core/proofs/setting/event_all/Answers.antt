@@ -1,4 +1,4 @@
-use Rattle.std.proofs.Common.{rules, ◌≡◌, ◌∙◌, ap, sym, subst, ◌<◌, length, slice_set}
+use Rattle.std.proofs.Common.{rules, ◌∙◌, ap, ◌<◌, length, slice_set}
 use Rattle.bay_core.specs.Events.{after_event}
 use Rattle.bay_core.proofs.EachLaws.{one-more}
 use Rattle.bay_core.proofs.setting.event_all.Goals as goal

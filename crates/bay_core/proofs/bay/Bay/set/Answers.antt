@@ -1,4 +1,4 @@
-use Rattle.std.proofs.Common.{refl, suc, max, ap, ap₂, sym, subst, ◌∙◌, ◌≡◌, ℕ, List}
+use Rattle.std.proofs.Common.{refl, suc, max, ap, ap₂, sym, subst, ◌∙◌, ℕ, List}
 use Rattle.bay_model.specs.declared.flags.Change.{Change}
 use Rattle.bay_model.specs.declared.step.Setting.{Setting}
 use Rattle.bay_model.specs.declared.step.Step.TheVariants as steps
@@ -36,10 +36,12 @@ returns c = λ c' h was.
     let held = held-set c.args.self.now c.self.inside.model c.self.inside.values c.set.new.self c.args.sets.now c.as_slice.result.now (ap (λ (s : State). s.config) c.self.view_is) c.requires.fits c.self.invariant.values c.as_slice.ensures c.set.ensures.set c.set.ensures.count in
     let fit = ap (λ (s : State). fits s.config (steps.Value c.args.sets.now)) c.self.view_is ∙ c.requires.fits in
     let parts = c.event_all.ensures.parts ∙ (ap (λ (all : List Stored). after_events all c.as_slice-2.result.now c.later.result c.self.inside.steps c.self.inside.parts.items) c.store.ensures
-    ∙ ap₂ (λ (changes : List Change) (at : ℕ). after_events c.set.new.self changes at c.self.inside.steps c.self.inside.parts.items) c.as_slice-2.ensures.value c.later.ensures) in
-    (refl, set-for _ c.advance.new.self c' h c.args.moment c.args.actor.0 c.args.sets.now c.set.new.self c.set.new.changes.items
-    c.self.invariant.servable held (fits-settings c.self.inside.model c.self.inside.values c.args.sets.now fit c.self.invariant.values).0 c.self.invariant.members
-    (λ x. c.set.ensures.set x ∙ ap (λ (l : List Setting). last_set l x (attribute c.self.inside.values x)) c.as_slice.ensures) c.set.ensures.count
-    (subst (λ (l : List Setting). AreMade c.self.inside.model c.self.inside.values l c.set.new.changes.items) c.as_slice.ensures c.set.ensures.changes)
-    (c.advance.ensures.moved ∙ ap (λ (ps : List Part). record { config = c.self.inside.model; steps = suc c.self.inside.steps; latest = max c.self.inside.latest c.args.moment; stored = c.set.new.self; parts = ps; rows = c.self.inside.associations }) parts)
-    st)
+    ∙ ap₂ (λ (changes : List Change) (at : ℕ). after_events c.set.new.self changes at c.self.inside.steps c.self.inside.parts.items) c.as_slice-2.ensures.value c.later.ensures) in (
+      refl,
+      set-for _ c.advance.new.self c' h c.args.moment c.args.actor.0 c.args.sets.now c.set.new.self c.set.new.changes.items
+          c.self.invariant.servable held (fits-settings c.self.inside.model c.self.inside.values c.args.sets.now fit c.self.invariant.values).0 c.self.invariant.members
+          (λ x. c.set.ensures.set x ∙ ap (λ (l : List Setting). last_set l x (attribute c.self.inside.values x)) c.as_slice.ensures) c.set.ensures.count
+          (subst (λ (l : List Setting). AreMade c.self.inside.model c.self.inside.values l c.set.new.changes.items) c.as_slice.ensures c.set.ensures.changes)
+          (c.advance.ensures.moved ∙ ap (λ (ps : List Part). record { config = c.self.inside.model; steps = suc c.self.inside.steps; latest = max c.self.inside.latest c.args.moment; stored = c.set.new.self; parts = ps; rows = c.self.inside.associations }) parts)
+          st,
+    )
