@@ -120,7 +120,7 @@ stands-set s c n t settings past stored changes served held fit has set count ma
     (subst (PartsStand m (setting n t settings ∷ past)) (ap₂ (λ (at step : ℕ). after_events stored changes at step s.parts) moment (sym st.is_steps))
     (parts-set c n t settings past s.parts stored changes served held values are has st.sets st.blocks))
 
--- the same of a step that sets attributes, in the words of the bay's own configuration
+-- the same of a step of a history, with what is known of the configuration that the state has
 pub set-for : (s t : State) (c : Config) (h : History) (moment actor : ℕ) (settings : List Setting) (stored : List Stored) (changes : List Change)
     → IsServable s.config → AreHeld s.config stored → AreFit s.stored settings → ((b : ℕ) (part : Part) → slice_get s.parts b ≡ Some part → part.members.items ≡ served_members s.config b)
     → ((x : ℕ) → attribute stored x ≡ last_set settings x (attribute s.stored x)) → length stored ≡ length s.stored → AreMade s.config s.stored settings changes

@@ -20,6 +20,7 @@ mentions_of changes part = noted changes (trg_of part.block.options.trg_ops) 1 p
 abbrev pub entry_of : List Stored → ℕ → ℕ → Part → List Mention → Held
 entry_of stored moment step part note = record { moment = moment; step = step; kept = note_octets stored part.members.items note }
 
+-- with the entry of a note, where it has a member
 abbrev pub with_note : List Stored → ℕ → ℕ → Part → List Mention → Part
 with_note stored moment step part [] = part
 with_note stored moment step part (m ∷ ms) = record part { ring = after_entry part.ring (entry_of stored moment step part (m ∷ ms)) }

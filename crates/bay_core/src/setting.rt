@@ -19,7 +19,7 @@ impl Part {
     ghost use Rattle.bay_core.specs.Kept.{IsKeepable};
     ghost use Rattle.bay_core.specs.Events.{IsReady, after_event, with_note};
 
-    /// Keeps the entry of a note, if there is a member in it.
+    /// Keeps the entry of a note, if there is a member in it. It takes no memory.
     fn keep(&mut self, store: &Store, moment: Moment, step: u64, mentions: &Note, kept: &mut Fixed)
         requires members { All (IsKeepable store.now self.old.members.items) mentions.now.items }
         requires few { length mentions.now.items ≤ 256 }
@@ -59,7 +59,7 @@ impl Part {
     }
 }
 
-/// Some attributes were set: each block gets the entry of its events.
+/// Some attributes were set: each block gets the entry of its events. It takes no memory.
 fn event_all(
     parts: &mut Vec<Part>,
     store: &Store,
@@ -89,7 +89,8 @@ impl Bay {
     ghost use Rattle.object_model.specs.Fits.{fits as fits_in};
     ghost use Rattle.bay_core.specs.Turns.{Does};
 
-    /// The process sets attributes (IEC 61850-7-2, DataAttribute), and each block gets the entry of its events.
+    /// The process sets attributes (IEC 61850-7-2, DataAttribute), and each block gets the entry of its events. Only want of
+    /// memory refuses it, before any value is set.
     pub(crate) fn set(
         &mut self,
         alloc: Global,
