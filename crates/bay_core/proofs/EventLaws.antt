@@ -27,7 +27,7 @@ use Rattle.bay_core.specs.Kept.{no_shape, kept_of, note_octets, IsWritable}
 use Rattle.bay_core.specs.Servable.{IsServable, IsMember}
 use Rattle.bay_core.specs.Standing.{IsMemberKept}
 use Rattle.bay_core.specs.State.{AreHeld}
-use Rattle.bay_core.proofs.ServedLaws.{AreServed, IsShapeOf, node_shape, node_shapes, member-shape}
+use Rattle.bay_core.proofs.ShapeLaws.{AreServed, IsShapeOf, node_shape, node_shapes, member-shape}
 use Rattle.bay_core.proofs.WritableLaws.{shape-writable, shape-one, one-some}
 
 -- ---- the members of a note

@@ -12,8 +12,8 @@ pub mod ChangeLaws
 pub mod AgainLaws
 pub mod OneElement
 pub mod KeptLaws
-pub mod ServedLaws
+pub mod ShapeLaws
 pub mod WritableLaws
 pub mod MentionLaws
 pub mod EventLaws
-pub mod SetLaws
+pub mod SettingLaws

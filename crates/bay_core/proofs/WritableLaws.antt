@@ -38,7 +38,7 @@ use Rattle.bay_core.specs.Kept.{IsWritable}
 use Rattle.bay_core.specs.Servable.{IsServable, IsMember, attr_type}
 use Rattle.bay_core.specs.State.{AreHeld}
 use Rattle.bay_core.proofs.OneElement.{member_is_one}
-use Rattle.bay_core.proofs.ServedLaws.{IsShapeOf}
+use Rattle.bay_core.proofs.ShapeLaws.{IsShapeOf}
 
 -- ---- lists
 

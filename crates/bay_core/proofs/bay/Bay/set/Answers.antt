@@ -10,7 +10,7 @@ use Rattle.bay_core.specs.Events.{AreReady, after_events}
 use Rattle.bay_core.specs.State.{State, IsFurnished}
 use Rattle.bay_core.specs.Standing.{StandsFor}
 use Rattle.bay_core.proofs.ChangeLaws.{fits-settings}
-use Rattle.bay_core.proofs.SetLaws.{set-for, held-set, furnished-all, are-ready}
+use Rattle.bay_core.proofs.SettingLaws.{set-for, held-set, furnished-all, are-ready}
 use Rattle.bay_core.proofs.bay.Bay.set.Goals as goal
 
 pub set-requires-clause-fits : goal.set-requires-clause-fits

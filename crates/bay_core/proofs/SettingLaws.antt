@@ -42,7 +42,7 @@ use Rattle.bay_core.proofs.EventLaws.{note-kept, note-readable, all-writable}
 use Rattle.bay_core.proofs.FurnishLaws.{furnished-map}
 use Rattle.bay_core.proofs.MoveLaws.{moved, waits-none, accepted-as}
 use Rattle.bay_core.proofs.QuietLaws.{at_once-served, part-stays, part-event}
-use Rattle.bay_core.proofs.ServedLaws.{AreServed, node_shapes, served-nodes, members-same, are-shapes}
+use Rattle.bay_core.proofs.ShapeLaws.{AreServed, node_shapes, served-set, members-same, are-shapes}
 
 abbrev pub setting : ℕ → ℕ → List Setting → Point
 setting n t settings = record { moment = t; step = n; deed = valued settings }

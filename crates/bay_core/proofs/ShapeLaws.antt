@@ -49,8 +49,8 @@ served-of : (c : Config) (o : Option DataSet) → ((s : DataSet) → o ≡ Some 
 served-of c None is = record { few = omega arith; members = All-nil (IsMember c) }
 served-of c (Some s) is = let t = is s refl in record { few = t.few; members = t.members }
 
-pub served-nodes : (c : Config) (b : ℕ) → IsServable c → AreServed c (members (configured_model c) b [])
-served-nodes c b served =
+pub served-set : (c : Config) (b : ℕ) → IsServable c → AreServed c (members (configured_model c) b [])
+served-set c b served =
     let m = configured_model c in
     let reference = (parameters_at m b []).dat_set in
     served-of c (set_referred reference (sets m [])) (λ s is. found (IsServedSet c) _ (m.sets ++ []) (All-append (IsServedSet c) m.sets [] served.sets (All-nil (IsServedSet c))) s is)
