@@ -42,3 +42,8 @@ pub mod MemberLaws
 pub mod ReferenceLaws
 pub mod ServableLaws
 pub mod ReadLaws
+pub mod ShapeLaws
+pub mod WritableLaws
+pub mod MentionLaws
+pub mod EventLaws
+pub mod SettingLaws

@@ -9,3 +9,4 @@ pub mod Marked
 pub mod Kept
 pub mod Again
 pub mod Reporting
+pub mod Events

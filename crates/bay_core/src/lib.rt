@@ -8,6 +8,8 @@ mod kept;
 mod laws;
 mod members;
 mod part;
+mod setting;
+mod step;
 mod taking;
 mod values;
 mod writing;

@@ -1,0 +1,49 @@
+//! The steps of a bay.
+
+use crate::bay::Bay;
+use crate::fault::StepFault;
+use bay_model::{Answer, Step};
+use std::alloc::Global;
+use sv_base::{ActorNo, Moment};
+
+impl Bay {
+    ghost use Rattle.std.specs.Prelude.{◌≡◌, ◌<◌, ◌^◌, true};
+    ghost use Rattle.object_model.specs.Fits.{fits as fits_in};
+    ghost use Rattle.bay_core.specs.Turns.{Does, IsCounted, IsBuilt};
+
+    /// Makes a step at a moment; one that lies below the newest moment so far is taken as that.
+    ///
+    /// The step fits the model, and there were fewer than 2^62. Refuses, in this order, to open an association that is open
+    /// (IsOpen); a write or a loss of one that isn't open (NotOpen); a write by another than the opener, a take by another
+    /// than the writer of an open one, and a loss by neither (NotYours). A refused step changes nothing and isn't counted,
+    /// for want of memory too.
+    ///
+    /// Of the components of a block RptEna, EntryID and PurgeBuf are written.
+    pub fn step(
+        &mut self,
+        alloc: Global,
+        moment: Moment,
+        actor: ActorNo,
+        step: &Step,
+    ) -> Result<Answer, StepFault>
+        requires fits { fits_in self.old.config step.now ≡ true }
+        requires built { IsBuilt step.now }
+        requires few { self.old.steps < 2 ^ 62 }
+        // The answer is the one that the definitions give after every history that the bay stands for, and then it stands
+        // for the longer one; a refusal is the one that they name, and then the bay is as it was.
+        ensures does { Does self.old self.new (record { moment = moment; actor = actor.0; step = step.now }) result }
+        ensures counted { IsCounted self.old self.new result }
+    {
+        match step {
+            Step::Open { a, size, writer } => {
+                self.open_association(moment, actor, *a, *size, *writer)
+            }
+            Step::Write(a, b, comp, value) => self.write(moment, actor, *a, *b, *comp, value),
+            Step::Take(a) => self.take(alloc, moment, actor, *a),
+            Step::Lost(a) => self.lose(moment, actor, *a),
+            Step::Value(sets) => self.set(alloc, moment, actor, sets),
+            Step::Tick => self.tick(moment, actor),
+            Step::Ask(..) | Step::Done(..) | Step::Block(..) => unreachable!(),
+        }
+    }
+}
