@@ -1,8 +1,6 @@
 -- What is among the elements of a list, and at which place.
-use Rattle.std.proofs.Common.{◌≡◌, ℕ, zero, suc, ◌+◌, ◌<◌, Bool, true, false, cond, ◌||◌, ◌⊎◌, inl, inr, List, [], ◌∷◌, ◌++◌, map, filter, flat_map, length, Option, Some, None, slice_get, slice_index_or, unwrap_or, position, refl, sym, ap, subst, ◌∙◌, true≢false, arith, nat_lt}
-use Rattle.std.specs.Option.{option_map}
+use Rattle.std.proofs.Common.{◌≡◌, ℕ, zero, suc, ◌<◌, Bool, true, false, cond, ◌||◌, ◌⊎◌, inl, inr, List, [], ◌∷◌, ◌++◌, map, filter, flat_map, length, Some, slice_get, slice_index_or, refl, sym, ap, subst, ◌∙◌, true≢false, arith}
 use Rattle.std.specs.List.{list_any, All}
-use Rattle.std.proofs.lemmas.Bool.Decides.{nat_tests}
 use Rattle.std.proofs.lemmas.List.Elements.{All-cons, All-nil}
 
 abbrev pub Among : {X : Type 0} → X → List X → Type 0
@@ -175,3 +173,14 @@ ending x xs y i = by (either x xs (y ∷ []) i)
     by (inl j) = inl j
     by (inr (inl e)) = inr e
     by (inr (inr j)) = absurd j
+
+pub each-both : {X : Type 0} (P : X → Type 0) (xs ys : List X) → Each P xs → Each P ys → Each P (xs ++ ys)
+each-both P [] ys h k = k
+each-both P (x ∷ xs) ys h k = (h.0, each-both P xs ys h.1 k)
+
+-- the parts of lists that are the same
+pub heads : {X : Type 0} (a b : X) (p q : List X) → a ∷ p ≡ b ∷ q → a ≡ b
+heads a b p q e = cc
+
+pub tails : {X : Type 0} (a b : X) (p q : List X) → a ∷ p ≡ b ∷ q → p ≡ q
+tails a b p q e = cc

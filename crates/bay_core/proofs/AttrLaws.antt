@@ -1,10 +1,8 @@
 -- What a text tells of its attributes: each by itself, and that none stands at or above another's reference.
-use Rattle.std.proofs.Common.{◌≡◌, ℕ, ◌+◌, ◌≤◌, ◌⊎◌, ◌||◌, inl, inr, Bool, true, false, cond, List, [], ◌∷◌, ◌++◌, length, map, refl, sym, ap, subst, ◌∙◌, arith, true≢false, if◌then◌else◌}
+use Rattle.std.proofs.Common.{◌≡◌, ℕ, ◌≤◌, ◌⊎◌, ◌||◌, inl, inr, Bool, true, false, List, [], ◌∷◌, ◌++◌, length, refl, sym, ap, subst, ◌∙◌, arith, true≢false, if◌then◌else◌}
 use Rattle.std.specs.Prelude.{codes}
-use Rattle.std.specs.List.{list_any}
 use Rattle.std.specs.Str.{bytes_eq}
 use Rattle.sv_base.specs.Same.{values_of}
-use Rattle.sv_base.specs.declared.config.Config.{Config}
 use Rattle.sv_base.specs.declared.config.LnDef.{LnDef}
 use Rattle.sv_base.specs.declared.config.AttrDef.{AttrDef}
 use Rattle.cfg_text.specs.Contents.{is_fc}
@@ -14,11 +12,11 @@ use Rattle.cfg_text.specs.Before.{domain_of, node_of, groups_of}
 use Rattle.cfg_text.specs.Claims.{claims_by, claims}
 use Rattle.cfg_text.specs.Configs.{config_of}
 use Rattle.cfg_text.specs.Grammar.{IsType, AreOfType}
-use Rattle.cfg_text.specs.Follows.{IsPath, value_count, IsAttribute}
+use Rattle.cfg_text.specs.Follows.{IsPath, IsAttribute}
 use Rattle.cfg_text.specs.Texts.{AreLines}
 use Rattle.cfg_text.specs.declared.line.Line.{Line}
 use Rattle.cfg_text.specs.declared.line.Line.TheVariants as lines
-use Rattle.bay_core.proofs.AmongLaws.{Among, At, at-among, at-last, left, right, ending, passes}
+use Rattle.bay_core.proofs.AmongLaws.{Among, At, at-among, at-last, right, ending, passes}
 use Rattle.bay_core.proofs.NamedLaws.{bytes-same}
 use Rattle.bay_core.proofs.ReachLaws.{above-has}
 use Rattle.bay_core.proofs.StandLaws.{IsPlainText, no-groups, IsIn, in-more, in-node}
@@ -57,22 +55,15 @@ attribute-read before nodes attr none node h = record {
 
 pub attrs-read : (told : List Line) (text : List ℕ) → AreLines text told → IsPlainText told → (a : AttrDef) → Among a (config_of told).attrs → IsRead (config_of told).nodes a
 attrs-read [] text h p a i = absurd i
-attrs-read (lines.Skip ∷ before) text h p a i = attrs-read before h.0 h.3 p a i
-attrs-read (lines.Config ∷ before) text h p a i = attrs-read before h.0 h.3 p a i
-attrs-read (lines.Server v m r ∷ before) text h p a i = attrs-read before h.0 h.3 p a i
-attrs-read (lines.Ld name ∷ before) text h p a i = attrs-read before h.0 h.3 p a i
 attrs-read (lines.Ln node ∷ before) text h p a i = read-more (config_of before).nodes node a (attrs-read before h.0 h.3 p a i)
 attrs-read (lines.Attr attr ∷ before) text h p a i = by (ending a (config_of before).attrs attr i) (attrs-read before h.0 h.3 p a)
   where
     by : Among a (config_of before).attrs ⊎ (a ≡ attr) → (Among a (config_of before).attrs → IsRead (config_of before).nodes a) → IsRead (config_of before).nodes a
     by (inl j) go = go j
     by (inr e) go = subst (IsRead (config_of before).nodes) (sym e) (attribute-read before (config_of before).nodes attr (no-groups before p) (in-node before h.0 h.3 h.4.follows.stands) h.4.follows)
-attrs-read (lines.Set set ∷ before) text h p a i = attrs-read before h.0 h.3 p a i
-attrs-read (lines.Member reference ∷ before) text h p a i = attrs-read before h.0 h.3 p a i
-attrs-read (lines.Brcb block ∷ before) text h p a i = attrs-read before h.0 h.3 p a i
 attrs-read (lines.Ctl control ∷ before) text h p a i = absurd p
 attrs-read (lines.Sgcb groups ∷ before) text h p a i = absurd p
-attrs-read (lines.End ∷ before) text h p a i = attrs-read before h.0 h.3 p a i
+attrs-read (line ∷ before) text h p a i = attrs-read before h.0 h.3 p a i
 
 -- ---- references
 
@@ -81,22 +72,15 @@ key_of a = item_key a.domain a.ln a.fc a.path
 
 pub claimed : (told : List Line) (a : AttrDef) → Among a (config_of told).attrs → Among (key_of a) (claims told)
 claimed [] a i = absurd i
-claimed (lines.Skip ∷ before) a i = claimed before a i
-claimed (lines.Config ∷ before) a i = claimed before a i
-claimed (lines.Server v m r ∷ before) a i = claimed before a i
-claimed (lines.Ld name ∷ before) a i = claimed before a i
-claimed (lines.Ln node ∷ before) a i = claimed before a i
 claimed (lines.Attr attr ∷ before) a i = by (ending a (config_of before).attrs attr i) (claimed before a)
   where
     by : Among a (config_of before).attrs ⊎ (a ≡ attr) → (Among a (config_of before).attrs → Among (key_of a) (claims before)) → Among (key_of a) (key_of attr ∷ claims before)
     by (inl j) go = inr (go j)
     by (inr e) go = inl (ap key_of e)
-claimed (lines.Set set ∷ before) a i = claimed before a i
-claimed (lines.Member reference ∷ before) a i = claimed before a i
 claimed (lines.Brcb block ∷ before) a i = inr (claimed before a i)
 claimed (lines.Ctl control ∷ before) a i = right (key_of a) (claims_by (lines.Ctl control)) (claims before) (claimed before a i)
 claimed (lines.Sgcb groups ∷ before) a i = inr (claimed before a i)
-claimed (lines.End ∷ before) a i = claimed before a i
+claimed (line ∷ before) a i = claimed before a i
 
 -- neither is the other, nor a structure above it
 pub record AreBeside (p q : List ℕ) : Type 0 where
@@ -145,11 +129,6 @@ beside-more as_ attr old new x y a b i j apart = by (at-last x a as_ attr i) (at
 
 pub attrs-beside : (told : List Line) (text : List ℕ) → AreLines text told → AreAllBeside (config_of told).attrs
 attrs-beside [] text h = λ x y a b i j apart. absurd i
-attrs-beside (lines.Skip ∷ before) text h = attrs-beside before h.0 h.3
-attrs-beside (lines.Config ∷ before) text h = attrs-beside before h.0 h.3
-attrs-beside (lines.Server v m r ∷ before) text h = attrs-beside before h.0 h.3
-attrs-beside (lines.Ld name ∷ before) text h = attrs-beside before h.0 h.3
-attrs-beside (lines.Ln node ∷ before) text h = attrs-beside before h.0 h.3
 attrs-beside (lines.Attr attr ∷ before) text h = beside-more (config_of before).attrs attr (attrs-beside before h.0 h.3) (λ a i. beside (key_of attr) (key_of a) (not-taken (claims before) (key_of attr) (key_of a) new (claimed before a i)))
   where
     here : key_of attr ≡ item_key (domain_of before) (node_of before) attr.fc attr.path
@@ -157,9 +136,4 @@ attrs-beside (lines.Attr attr ∷ before) text h = beside-more (config_of before
 
     new : is_taken (claims before) (key_of attr) ≡ false
     new = ap (is_taken (claims before)) here ∙ h.4.follows.new
-attrs-beside (lines.Set set ∷ before) text h = attrs-beside before h.0 h.3
-attrs-beside (lines.Member reference ∷ before) text h = attrs-beside before h.0 h.3
-attrs-beside (lines.Brcb block ∷ before) text h = attrs-beside before h.0 h.3
-attrs-beside (lines.Ctl control ∷ before) text h = attrs-beside before h.0 h.3
-attrs-beside (lines.Sgcb groups ∷ before) text h = attrs-beside before h.0 h.3
-attrs-beside (lines.End ∷ before) text h = attrs-beside before h.0 h.3
+attrs-beside (line ∷ before) text h = attrs-beside before h.0 h.3

@@ -1,5 +1,5 @@
 -- Below a functional constraint of a logical node stand the attributes of it alone.
-use Rattle.std.proofs.Common.{◌≡◌, ℕ, ◌+◌, ◌<◌, ◌≤◌, ◌==◌, ◌⊎◌, inl, inr, Bool, true, false, List, [], ◌∷◌, ◌++◌, length, map, flat_map, refl, sym, ap, subst, ◌∙◌, arith, append_assoc, append-nil, suc, true≢false, length-append}
+use Rattle.std.proofs.Common.{◌≡◌, ℕ, ◌+◌, ◌≤◌, ◌==◌, ◌⊎◌, inl, inr, true, false, List, [], ◌∷◌, ◌++◌, length, map, flat_map, refl, sym, ap, subst, ◌∙◌, arith, append_assoc, append-nil, suc, true≢false, length-append}
 use Rattle.std.specs.Prelude.{codes}
 use Rattle.std.proofs.lemmas.Bool.Decides.{eqb_tells}
 use Rattle.sv_base.specs.declared.config.Config.{Config}
@@ -7,23 +7,21 @@ use Rattle.sv_base.specs.declared.config.AttrDef.{AttrDef}
 use Rattle.sv_base.specs.declared.config.BlockDef.{BlockDef}
 use Rattle.sv_base.specs.declared.types.TypeOf.{TypeOf}
 use Rattle.bay_model.specs.Attributes.{attributes, attrs_defined, attrs_generated, twins}
-use Rattle.bay_model.specs.Model.{Attr}
 use Rattle.bay_model.specs.Model.{attribute}
-use Rattle.bay_model.specs.Generated.{Named, within, end_named, comp_name}
+use Rattle.bay_model.specs.Generated.{Named, end_named, comp_name}
 use Rattle.bay_model.specs.NamedLines.{path_item}
 use Rattle.bay_model.specs.NamedLines as named
 use Rattle.bay_model.specs.NameTree.{first_name, rest_of, is_itself, below}
-use Rattle.cfg_text.specs.Names.{is_name, is_dollar}
+use Rattle.cfg_text.specs.Names.{is_name}
 use Rattle.cfg_text.specs.Contents.{is_fc}
 use Rattle.cfg_text.specs.Sizes.{children}
 use Rattle.bay_model.specs.Slots.{IsSettable}
 use Rattle.bay_core.specs.Servable.{attr_type}
 use Rattle.bay_core.proofs.AmongLaws.{Among, At, at-among, at-within, at-same}
-use Rattle.bay_core.proofs.JoinedLaws.{NoDollar, ArePlain, joined, first, rest, first-joined, rest-joined, first-alone, rest-alone, first-before, rest-before, joined-behind}
+use Rattle.bay_core.proofs.JoinedLaws.{ArePlain, joined, first, rest, first-joined, rest-joined, rest-alone, first-before, rest-before, joined-behind}
 use Rattle.bay_core.proofs.NamedLaws.{IsBelow, below-of}
-use Rattle.bay_core.proofs.EntryLaws.{Entry, entry, named_of}
+use Rattle.bay_core.proofs.EntryLaws.{Entry, entry, named_of, same-entry}
 use Rattle.bay_core.proofs.FormLaws.{IsNumber}
-use Rattle.bay_core.proofs.TreeLaws.{AreEntries}
 use Rattle.bay_core.proofs.SizeLaws.{AreBelow}
 use Rattle.bay_core.proofs.OrderLaws.{IsBare, IsNodeName, IsAttributeName, IsComponentName, named-in}
 use Rattle.bay_core.proofs.AttrLaws.{IsRead, key_of, AreBeside, AreAllBeside}
@@ -88,15 +86,18 @@ module _ (c : Config) (told : IsTold c) (domain ln fc : List ℕ) (constraint : 
       let item : n.item ≡ joined (item_names h.attr) = ap (λ (x : Named). x.item) h.is ∙ item-joined h.attr in
       let next : l.item ≡ joined (h.attr.fc ∷ names_in h.attr.path) = ap (λ (x : Named). x.item) left ∙ (ap rest item ∙ rest-joined h.attr.ln (h.attr.fc ∷ names_in h.attr.path) plain.0.1) in
       let last : rest l.item ≡ joined (names_in h.attr.path) = ap rest next ∙ rest-joined h.attr.fc (names_in h.attr.path) plain.1.0.1 in
-      let whole : m ≡ end_named (rest l.item) (attribute h.at) h.attr.kind = right ∙ ap (λ (x : Named). record x { item = rest l.item }) (left ∙ ap rest_of h.is) in
-      (entry (names_in h.attr.path) h.at, whole ∙ (ap (λ i. end_named i (attribute h.at) h.attr.kind) last ∙ ap (λ k. end_named (joined (names_in h.attr.path)) (attribute h.at) k) (sym (type-at c told.attrs told.beside h.at h.attr h.there))), record {
-        attr = h.attr;
-        at = h.there;
-        domain_is = h.domain_is;
-        ln_is = sym (is ∙ (ap first item ∙ first-joined h.attr.ln (h.attr.fc ∷ names_in h.attr.path) plain.0.1));
-        fc_is = sym (below_is ∙ (ap first next ∙ first-joined h.attr.fc (names_in h.attr.path) plain.1.0.1));
-        path = refl;
-      })
+      let whole : m ≡ end_named (rest l.item) (attribute h.at) h.attr.kind = right ∙ ap (λ (x : Named). record x { item = rest l.item }) (left ∙ ap rest_of h.is) in (
+        entry (names_in h.attr.path) h.at,
+        whole ∙ (ap (λ i. end_named i (attribute h.at) h.attr.kind) last ∙ ap (λ k. end_named (joined (names_in h.attr.path)) (attribute h.at) k) (sym (type-at c told.attrs told.beside h.at h.attr h.there))),
+        record {
+          attr = h.attr;
+          at = h.there;
+          domain_is = h.domain_is;
+          ln_is = sym (is ∙ (ap first item ∙ first-joined h.attr.ln (h.attr.fc ∷ names_in h.attr.path) plain.0.1));
+          fc_is = sym (below_is ∙ (ap first next ∙ first-joined h.attr.fc (names_in h.attr.path) plain.1.0.1));
+          path = refl;
+        },
+      )
 
   below-is : (m : Named) → Among m (below fc (below ln (named.names_in c domain))) → Is m
   below-is m i =
@@ -131,9 +132,6 @@ module _ (c : Config) (told : IsTold c) (domain ln fc : List ℕ) (constraint : 
   apart : (d e : Entry) (more : List (List ℕ)) → IsOf c domain ln fc d → IsOf c domain ln fc e → e.path ≡ d.path ++ more → d ≡ e
   apart d e more o p is = by (eqb_tells d.number e.number) more is
     where
-      both : (p q : List (List ℕ)) (x y : ℕ) → p ≡ q → x ≡ y → entry p x ≡ entry q y
-      both p q x y h k = cc
-
       goes_on : (more : List (List ℕ)) → e.path ≡ d.path ++ more → AreBeside (key_of o.attr) (key_of p.attr) → ⊥
       goes_on [] is h = h.other (key-is d o ∙ (ap (λ l. joined (front ++ l)) (sym (is ∙ append-nil d.path)) ∙ sym (key-is e p)))
       goes_on (n ∷ more) is h = h.above (joined (n ∷ more)) (key-is e p ∙ (ap (λ l. joined (front ++ l)) is ∙ (ap joined (sym (append_assoc front d.path (n ∷ more)))
@@ -141,7 +139,7 @@ module _ (c : Config) (told : IsTold c) (domain ln fc : List ℕ) (constraint : 
 
       by : ((d.number == e.number) ≡ true × (d.number ≡ e.number)) ⊎ ((d.number == e.number) ≡ false × (d.number ≡ e.number → ⊥)) → (more : List (List ℕ)) → e.path ≡ d.path ++ more → d ≡ e
       by (inl t) more is = let same : o.attr ≡ p.attr = at-same e.number o.attr p.attr c.attrs (subst (λ n. At n o.attr c.attrs) t.1 o.at) p.at in
-          both d.path e.path d.number e.number (o.path ∙ (ap (λ (a : AttrDef). names_in a.path) same ∙ sym p.path)) t.1
+          same-entry d e (o.path ∙ (ap (λ (a : AttrDef). names_in a.path) same ∙ sym p.path)) t.1
       by (inr t) more is = absurd (goes_on more is (told.beside d.number e.number o.attr p.attr o.at p.at t.1))
 
   count-attributes : (x : ℕ) (as_ : List AttrDef) → length (attrs_defined c x as_) ≡ length as_
@@ -149,8 +147,10 @@ module _ (c : Config) (told : IsTold c) (domain ln fc : List ℕ) (constraint : 
   count-attributes x (a ∷ as_) = ap suc (count-attributes (1 + x) as_)
 
   number : (e : Entry) → IsOf c domain ln fc e → IsNumber (attr_type c) (length (attributes c)) e.number
-  number e o = (omega (arith, at-within e.number o.attr c.attrs o.at, length-append (attrs_defined c 0 c.attrs) (flat_map (attrs_generated c) c.controls ++ twins c 0 c.attrs), count-attributes 0 c.attrs),
-      subst IsSettable (sym (type-at c told.attrs told.beside e.number o.attr o.at)) (settable o.attr.kind (told.attrs o.attr (at-among e.number o.attr c.attrs o.at)).type_))
+  number e o = (
+    omega (arith, at-within e.number o.attr c.attrs o.at, length-append (attrs_defined c 0 c.attrs) (flat_map (attrs_generated c) c.controls ++ twins c 0 c.attrs), count-attributes 0 c.attrs),
+    subst IsSettable (sym (type-at c told.attrs told.beside e.number o.attr o.at)) (settable o.attr.kind (told.attrs o.attr (at-among e.number o.attr c.attrs o.at)).type_),
+  )
 
   pub entries-below : (depth : ℕ) → 8 ≤ depth → (es : List Entry) → ((e : Entry) → Among e es → IsOf c domain ln fc e) → AreBelow (attr_type c) (length (attributes c)) (Known c told.attrs told.beside) (counted c told.attrs told.beside) (children (map key_of c.attrs)) (is-count c told.attrs told.beside) front depth es
   entries-below depth deep es each = record {

@@ -1,24 +1,20 @@
 -- What is counted for the references of a text's attributes, and of the structures above them.
-use Rattle.std.proofs.Common.{◌≡◌, ℕ, suc, ◌+◌, ◌<◌, ◌≤◌, ◌==◌, ◌⊎◌, inl, inr, Bool, true, false, cond, List, [], ◌∷◌, ◌++◌, length, map, Option, Some, None, unwrap_or, refl, sym, ap, subst, ◌∙◌, arith, length-append, append_assoc, true≢false, if◌then◌else◌}
+use Rattle.std.proofs.Common.{◌≡◌, ℕ, suc, ◌<◌, ◌==◌, ◌⊎◌, inl, inr, Bool, true, false, List, [], ◌∷◌, ◌++◌, length, map, Option, Some, None, unwrap_or, refl, sym, ap, subst, ◌∙◌, arith, length-append, true≢false, if◌then◌else◌}
 use Rattle.std.specs.List.{sum_by}
 use Rattle.std.specs.Str.{bytes_eq}
 use Rattle.std.proofs.lemmas.Bool.Decides.{eqb_tells}
-use Rattle.std.proofs.lemmas.List.{map-append}
-use Rattle.sv_base.specs.Data.{length_field}
 use Rattle.sv_base.specs.declared.config.Config.{Config}
 use Rattle.sv_base.specs.declared.config.AttrDef.{AttrDef}
-use Rattle.sv_base.specs.declared.types.TypeOf.{TypeOf}
 use Rattle.sv_base.specs.declared.types.TypeOf.TheVariants as types
 use Rattle.bay_model.specs.Places.{largest}
 use Rattle.object_model.specs.Fits.{attr_types}
 use Rattle.cfg_text.specs.Sizes.{most_octets, element_octets, leaf_octets, children, octets_of}
-use Rattle.cfg_text.specs.declared.leaf.Leaf.{Leaf}
 use Rattle.bay_core.specs.Servable.{attr_type}
 use Rattle.bay_core.proofs.AmongLaws.{Among, At, of-each, at-among, among-at, at-same, at-map, at-left, at-index, mapped, right}
-use Rattle.bay_core.proofs.JoinedLaws.{NoDollar, IsPlain, ArePlain, joined, joined-behind}
+use Rattle.bay_core.proofs.JoinedLaws.{NoDollar, IsPlain, joined, joined-behind}
 use Rattle.bay_core.proofs.NamedLaws.{same-bytes, bytes-same}
 use Rattle.bay_core.proofs.ReachLaws.{child-alone, child-more}
-use Rattle.bay_core.proofs.AttrLaws.{IsRead, key_of, AreBeside, AreAllBeside}
+use Rattle.bay_core.proofs.AttrLaws.{IsRead, key_of, AreAllBeside}
 use Rattle.bay_core.proofs.SetLaws.{leaf_of}
 use Rattle.bay_core.proofs.SizeLaws.{IsCount}
 use Rattle.bay_core.proofs.ValueLaws.{largest-counted}
@@ -100,16 +96,16 @@ module _ (c : Config) (read : (a : AttrDef) → Among a c.attrs → IsRead c.nod
     leaf = λ p x depth k.
         let i = at-among x k.0 c.attrs k.1 in
         let found : leaf_octets (map leaf_of c.attrs) (joined p) ≡ Some (most_octets k.0.kind) =
-            ap (leaf_octets (map leaf_of c.attrs)) (ap joined k.2 ∙ sym (key-joined k.0)) ∙ lookup-found c.attrs k.0 i (λ b j e. same-key x k.0 b k.1 j e) in
+        ap (leaf_octets (map leaf_of c.attrs)) (ap joined k.2 ∙ sym (key-joined k.0)) ∙ lookup-found c.attrs k.0 i (λ b j e. same-key x k.0 b k.1 j e) in
         omega (arith, octets-leaf depth (leaf_octets (map leaf_of c.attrs)) (children (map key_of c.attrs)) (joined p) (most_octets k.0.kind) found, ap largest (type-at x k.0 k.1), largest-counted k.0.kind (read k.0 i).type_);
     node = λ q name more x depth some k.
         octets-node depth (leaf_octets (map leaf_of c.attrs)) (children (map key_of c.attrs)) (joined q)
-            (lookup-none c.attrs (joined q) (λ b j e. never-above x k.0 b (joined (name ∷ more)) k.1 j (behind q name more k.0 some k.2 ∙ ap (λ l. l ++ 36 ∷ joined (name ∷ more)) e)));
+        (lookup-none c.attrs (joined q) (λ b j e. never-above x k.0 b (joined (name ∷ more)) k.1 j (behind q name more k.0 some k.2 ∙ ap (λ l. l ++ 36 ∷ joined (name ∷ more)) e)));
     part = λ q name more x some k.
         let i = at-among x k.0 c.attrs k.1 in
         subst (λ r. Among r (children (map key_of c.attrs) (joined q))) (sym (joined-behind q name [] some))
-            (child (joined q) name more (map key_of c.attrs) (middle NoDollar (reference_names k.0) q name more (reference-plain k.0 i) k.2)
-            (subst (λ r. Among r (map key_of c.attrs)) (behind q name more k.0 some k.2) (mapped key_of k.0 c.attrs i)));
+        (child (joined q) name more (map key_of c.attrs) (middle NoDollar (reference_names k.0) q name more (reference-plain k.0 i) k.2)
+        (subst (λ r. Among r (map key_of c.attrs)) (behind q name more k.0 some k.2) (mapped key_of k.0 c.attrs i)));
   }
     where
       child : (front name : List ℕ) (more : List (List ℕ)) (names : List (List ℕ)) → NoDollar name → Among (front ++ 36 ∷ joined (name ∷ more)) names → Among (front ++ 36 ∷ name) (children names front)

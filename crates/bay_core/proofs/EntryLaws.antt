@@ -1,14 +1,14 @@
 -- Attributes by the names of their paths: what stands below a name, and that no path goes on from where another ends.
-use Rattle.std.proofs.Common.{◌≡◌, ℕ, zero, suc, ◌+◌, ◌<◌, ◌≤◌, ◌==◌, Bool, true, false, cond, not, ◌&&◌, ◌⊎◌, inl, inr, List, [], ◌∷◌, ◌++◌, map, filter, flat_map, length, refl, sym, ap, subst, ◌∙◌, arith, append-nil, if◌then◌else◌}
+use Rattle.std.proofs.Common.{◌≡◌, ℕ, ◌<◌, ◌==◌, Bool, true, false, cond, not, ◌&&◌, inl, inr, List, [], ◌∷◌, ◌++◌, map, filter, flat_map, length, refl, sym, ap, subst, ◌∙◌, arith, if◌then◌else◌}
 use Rattle.std.specs.Str.{bytes_eq}
 use Rattle.std.proofs.lemmas.Bool.Decides.{nat_tests}
 use Rattle.sv_base.specs.declared.types.TypeOf.{TypeOf}
 use Rattle.bay_model.specs.Model.{attribute}
 use Rattle.bay_model.specs.Generated.{Named, end_named}
-use Rattle.bay_model.specs.NameTree.{first_name, rest_of, is_itself, below, first_names}
-use Rattle.bay_core.proofs.AmongLaws.{Among, Each, left, right, either, gathered, source, mapped}
-use Rattle.bay_core.proofs.JoinedLaws.{ArePlain, joined, first, rest, first-joined, rest-joined, joined-some}
-use Rattle.bay_core.proofs.NamedLaws.{same-bytes, bytes-same, first-of, is-first}
+use Rattle.bay_model.specs.NameTree.{first_name, rest_of, is_itself, below}
+use Rattle.bay_core.proofs.AmongLaws.{Among, Each, gathered, tails}
+use Rattle.bay_core.proofs.JoinedLaws.{ArePlain, joined, first, first-joined, rest-joined, joined-some}
+use Rattle.bay_core.proofs.NamedLaws.{same-bytes}
 
 pub record Entry : Type 0 where
   pub path : List (List ℕ)
@@ -79,6 +79,12 @@ under-of es name d i = let g = gathered (λ (e : Entry). cut name e.path e.numbe
 abbrev pub AreApart : List Entry → Type 0
 AreApart es = (d e : Entry) (more : List (List ℕ)) → Among d es → Among e es → e.path ≡ d.path ++ more → d ≡ e
 
+pub same-entry : (d e : Entry) → d.path ≡ e.path → d.number ≡ e.number → d ≡ e
+same-entry d e h k = both d.path e.path d.number e.number h k
+  where
+    both : (p q : List (List ℕ)) (x y : ℕ) → p ≡ q → x ≡ y → entry p x ≡ entry q y
+    both p q x y h k = cc
+
 pub apart-under : (es : List Entry) (name : List ℕ) → AreApart es → AreApart (under name es)
 apart-under es name apart d e more i j is =
     let a = under-of es name d i in
@@ -86,13 +92,7 @@ apart-under es name apart d e more i j is =
     let same : a.0 ≡ b.0 = apart a.0 b.0 more a.1.there b.1.there (b.1.path ∙ (ap (λ l. name ∷ l) is ∙ ap (λ l. l ++ more) (sym a.1.path))) in
     let paths : name ∷ d.path ≡ name ∷ e.path = sym a.1.path ∙ (ap (λ (x : Entry). x.path) same ∙ b.1.path) in
     let numbers : d.number ≡ e.number = sym a.1.number ∙ (ap (λ (x : Entry). x.number) same ∙ b.1.number) in
-    both d.path e.path d.number e.number (tails name name d.path e.path paths) numbers
-  where
-    tails : (p q : List ℕ) (ps qs : List (List ℕ)) → p ∷ ps ≡ q ∷ qs → ps ≡ qs
-    tails p q ps qs h = cc
-
-    both : (p q : List (List ℕ)) (x y : ℕ) → p ≡ q → x ≡ y → entry p x ≡ entry q y
-    both p q x y h k = cc
+    same-entry d e (tails name name d.path e.path paths) numbers
 
 pub plain-under : (es : List Entry) (name : List ℕ) → ((e : Entry) → Among e es → ArePlain e.path) → (d : Entry) → Among d (under name es) → ArePlain d.path
 plain-under es name plain d i = let a = under-of es name d i in (subst ArePlain a.1.path (plain a.0 a.1.there)).1

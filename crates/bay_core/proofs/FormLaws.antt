@@ -1,18 +1,17 @@
 -- A tree of attributes alone: the values of its nodes are made of their attributes, in the order of their types.
-use Rattle.std.proofs.Common.{◌≡◌, ℕ, ◌<◌, Bool, true, ◌&&◌, List, [], ◌∷◌, ◌++◌, map, refl, sym, ap, ap₂, subst, ◌∙◌, append-nil}
+use Rattle.std.proofs.Common.{◌≡◌, ℕ, ◌<◌, Bool, true, ◌&&◌, List, [], ◌∷◌, ◌++◌, map, refl, sym, ap, subst, ◌∙◌}
 use Rattle.std.proofs.lemmas.List.{map-append}
-use Rattle.sv_base.specs.Types.{Shape, Fields, simple, composed, no_field, field}
+use Rattle.sv_base.specs.Types.{Shape, Fields, composed, no_field, field}
 use Rattle.sv_base.specs.Fields.{shape_of}
 use Rattle.sv_base.specs.declared.types.TypeOf.{TypeOf}
 use Rattle.sv_base.specs.declared.types.TypeOf.TheVariants as types
-use Rattle.bay_model.specs.Model as model
-use Rattle.bay_model.specs.Model.{Role, single, selecting, calling, several, attribute, component, setting, withheld, leaf, structure, none, more}
+use Rattle.bay_model.specs.Model.{Role, single, selecting, calling, several, attribute, component, setting, withheld, leaf, structure}
 use Rattle.bay_model.specs.NameTree.{Forest, nothing, named}
 use Rattle.bay_model.specs.Places.{Place, place, places, type_with, fields, tree_with, trees, attrs_of_role, attrs_in, is_data_role, are_data}
 use Rattle.bay_model.specs.Slots.{IsSettable}
 use Rattle.value_store.specs.Wholes.{HasForm, HaveForms, tree_attrs, row_attrs}
 use Rattle.value_store.specs.Leaves.{leaf_shapes, leaf_shapes_in}
-use Rattle.bay_core.proofs.AmongLaws.{Each}
+use Rattle.bay_core.proofs.AmongLaws.{Each, each-both}
 
 -- attributes are numbered below n, and of these types
 module _ (kind : ℕ → TypeOf) (n : ℕ) where
@@ -95,10 +94,6 @@ module _ (kind : ℕ → TypeOf) (n : ℕ) where
   formed item (calling c call) k parts h go = absurd h
   formed item several k parts h go = subst (λ t. IsFormed (place item several t parts)) (sym h) (formed-structure item parts go)
 
-  each-append : (xs ys : List ℕ) → Each (λ x. x < n) xs → Each (λ x. x < n) ys → Each (λ x. x < n) (xs ++ ys)
-  each-append [] ys h k = k
-  each-append (x ∷ xs) ys h k = (h.0, each-append xs ys h.1 k)
-
   both-data : (a b : Bool) → a ≡ true → b ≡ true → (a && b) ≡ true
   both-data a b h k = ap (λ (x : Bool). x && b) h ∙ k
 
@@ -107,7 +102,7 @@ module _ (kind : ℕ → TypeOf) (n : ℕ) where
   beside r k parts others name h go = record {
     forms = (h.form, go.forms);
     attrs = ap (λ l. l ++ attrs_in others) h.attrs ∙ ap (λ l. tree_attrs (tree_with r (trees parts)) ++ l) go.attrs;
-    within = each-append (attrs_of_role r ++ attrs_in parts) (attrs_in others) h.within go.within;
+    within = each-both (λ x. x < n) (attrs_of_role r ++ attrs_in parts) (attrs_in others) h.within go.within;
     kinds = ap (λ l. l ++ leaf_shapes_in (fields others)) h.kinds ∙ (ap (λ l. kinds_of (attrs_of_role r ++ attrs_in parts) ++ l) go.kinds ∙ sym (map-append (λ x. shape_of (kind x)) (attrs_of_role r ++ attrs_in parts) (attrs_in others)));
     is_data = both-data (is_data_role r && are_data parts) (are_data others) h.is_data go.is_data;
   }
@@ -116,11 +111,9 @@ module _ (kind : ℕ → TypeOf) (n : ℕ) where
   are-formed nothing h = record { forms = tt; attrs = refl; within = tt; kinds = refl; is_data = refl }
   are-formed (named name r k parts others) h = beside r k parts others name (formed [] r k parts h.0 (are-formed parts h.1)) (are-formed others h.2)
 
-  each-both : (P : Place → Type 0) (xs ys : List Place) → Each P xs → Each P ys → Each P (xs ++ ys)
-  each-both P [] ys h k = k
-  each-both P (x ∷ xs) ys h k = (h.0, each-both P xs ys h.1 k)
-
   pub places-formed : (before : List ℕ) (f : Forest) → IsTree f → Each IsFormed (places before f)
   places-formed before nothing h = tt
-  places-formed before (named name r k parts others) h = (formed (before ++ name) r k parts h.0 (are-formed parts h.1),
-      each-both IsFormed (places (before ++ name ++ 36 ∷ []) parts) (places before others) (places-formed (before ++ name ++ 36 ∷ []) parts h.1) (places-formed before others h.2))
+  places-formed before (named name r k parts others) h = (
+    formed (before ++ name) r k parts h.0 (are-formed parts h.1),
+    each-both IsFormed (places (before ++ name ++ 36 ∷ []) parts) (places before others) (places-formed (before ++ name ++ 36 ∷ []) parts h.1) (places-formed before others h.2),
+  )

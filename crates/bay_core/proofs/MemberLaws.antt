@@ -1,47 +1,26 @@
 -- A member of a data set of a text is a node of the model, whose value is made of attributes and is not too large.
-use Rattle.std.proofs.Common.{◌≡◌, ℕ, zero, suc, ◌+◌, ◌<◌, ◌≤◌, ◌==◌, ◌⊎◌, inl, inr, Bool, true, false, not, ◌&&◌, ◌||◌, List, [], ◌∷◌, ◌++◌, length, map, flat_map, Some, slice_get, slice_index_or, unwrap_or, nat_le, nat_lt, refl, sym, ap, subst, ◌∙◌, arith, append_assoc, true≢false}
+use Rattle.std.proofs.Common.{◌≡◌, ℕ, zero, suc, ◌<◌, ◌≤◌, ◌⊎◌, inl, inr, true, false, List, [], ◌∷◌, ◌++◌, length, map, flat_map, unwrap_or, nat_le, refl, sym, ap, subst, ◌∙◌, arith}
 use Rattle.std.specs.List.{list_any, All}
 use Rattle.std.specs.Str.{bytes_eq}
-use Rattle.std.proofs.lemmas.Bool.{and_parts, and_from, or_cases}
+use Rattle.std.proofs.lemmas.Bool.{and_from}
 use Rattle.std.proofs.lemmas.Bool.Decides.{nat_tests}
 use Rattle.sv_base.specs.Types.{no_field}
 use Rattle.sv_base.specs.Fields.{shape_of}
 use Rattle.sv_base.specs.declared.config.Config.{Config}
-use Rattle.sv_base.specs.declared.config.AttrDef.{AttrDef}
 use Rattle.sv_base.specs.declared.types.TypeOf.{TypeOf}
 use Rattle.sv_base.specs.declared.types.TypeOf.TheVariants as types
-use Rattle.bay_model.specs.Model.{Node, attribute, structure, none, several}
-use Rattle.bay_model.specs.Lookups.{node_of, reference_of}
+use Rattle.bay_model.specs.Model.{Node, structure, none, several}
+use Rattle.bay_model.specs.Lookups.{node_of}
 use Rattle.bay_model.specs.Attributes.{attributes}
-use Rattle.bay_model.specs.Generated.{Named, end_named}
-use Rattle.bay_model.specs.NamedLines as named
-use Rattle.bay_model.specs.NameTree.{Forest, longest, tree_of, grown, below}
-use Rattle.bay_model.specs.Places.{Place, places, node_at, may_be_member, largest, constraint, member_constraints}
-use Rattle.bay_model.specs.Named.{places_in, nodes, member_number, configured_model}
+use Rattle.bay_model.specs.Places.{Place, node_at, may_be_member, largest, constraint, member_constraints}
+use Rattle.bay_model.specs.Named.{nodes, configured_model}
 use Rattle.object_model.specs.Tables.{node_type, node_types}
 use Rattle.value_store.specs.Wholes.{HasForm, tree_attrs}
-use Rattle.cfg_text.specs.Taken.{is_among}
-use Rattle.cfg_text.specs.Paths.{above}
-use Rattle.cfg_text.specs.Sizes.{children}
-use Rattle.cfg_text.specs.Contents.{is_fc}
-use Rattle.cfg_text.specs.Nodes.{reaches}
 use Rattle.value_store.specs.Leaves.{leaf_shapes}
 use Rattle.bay_core.specs.Servable.{IsMember, attr_type}
-use Rattle.bay_core.proofs.AmongLaws.{Among, At, Each, of-each, all-of, at-within, at-index, at-get, at-among, among-at, at-left, gathered, spread, mapped, source, some-passes}
-use Rattle.bay_core.proofs.JoinedLaws.{NoDollar, IsPlain, ArePlain, joined, first, rest, first-joined, rest-joined, joined-longer, same-joined}
-use Rattle.bay_core.proofs.NamedLaws.{same-bytes, bytes-same}
-use Rattle.bay_core.proofs.EntryLaws.{Entry, named_of}
-use Rattle.bay_core.proofs.FormLaws.{IsTree, IsFormed, places-formed}
-use Rattle.bay_core.proofs.TreeLaws.{grown-tree}
-use Rattle.bay_core.proofs.SizeLaws.{IsSmall, places-small}
-use Rattle.bay_core.proofs.PlaceLaws.{descend, exists}
-use Rattle.bay_core.proofs.OrderLaws.{attribute-named, within-longest}
-use Rattle.bay_core.proofs.ReachLaws.{IsAbove, above-back}
-use Rattle.bay_core.proofs.FindLaws.{IsFound, found, domain-there, domain-of}
-use Rattle.bay_core.proofs.AttrLaws.{IsRead, key_of}
-use Rattle.bay_core.proofs.PathLaws.{name-plain, NoSlash, name-whole, same-reference, fc-plain, fc-member, names_in, path-plain, path-joined, item_names, reference_names, item-joined, key-joined, joined-domain, GoOn, prefix-joined, IsReference}
-use Rattle.bay_core.proofs.CountLaws.{Known, counted, is-count}
-use Rattle.bay_core.proofs.BelowLaws.{IsTold, IsOf, Entries, all-entries, entries-below, front}
+use Rattle.bay_core.proofs.AmongLaws.{Among, At, of-each, all-of, at-within, at-index, at-get}
+use Rattle.bay_core.proofs.JoinedLaws.{rest}
+use Rattle.bay_core.proofs.FormLaws.{IsFormed}
 
 -- ---- the nodes one behind another
 
@@ -73,7 +52,7 @@ node-at-place places_of (d ∷ ds) n y h =
     kinds = flat_map (λ d. map (λ (p : Place). p.kind) (places_of d)) ds
 
     by : ((p : Place) × Among p (places_of d) × (y ≡ node_at d p) × At n p.kind (map (λ (p : Place). p.kind) (places_of d) ++ flat_map (λ d. map (λ (p : Place). p.kind) (places_of d)) ds))
-            ⊎ ((m : ℕ) × At m y (flat_map (λ d. map (node_at d) (places_of d)) ds) × ((k : TypeOf) → At m k (flat_map (λ d. map (λ (p : Place). p.kind) (places_of d)) ds) → At n k (map (λ (p : Place). p.kind) (places_of d) ++ flat_map (λ d. map (λ (p : Place). p.kind) (places_of d)) ds)))
+        ⊎ ((m : ℕ) × At m y (flat_map (λ d. map (node_at d) (places_of d)) ds) × ((k : TypeOf) → At m k (flat_map (λ d. map (λ (p : Place). p.kind) (places_of d)) ds) → At n k (map (λ (p : Place). p.kind) (places_of d) ++ flat_map (λ d. map (λ (p : Place). p.kind) (places_of d)) ds)))
         → ((m : ℕ) → At m y (flat_map (λ d. map (node_at d) (places_of d)) ds) → IsNodeAt places_of ds m y) → IsNodeAt places_of (d ∷ ds) n y
     by (inl g) go = record { domain = d; place = g.0; domain_there = inl refl; place_there = g.1; is = g.2; kind = g.3 }
     by (inr g) go = let r = go g.0 g.1 in record { domain = r.domain; place = r.place; domain_there = inr r.domain_there; place_there = r.place_there; is = r.is; kind = g.2 r.place.kind r.kind }

@@ -1,20 +1,19 @@
 -- What a configuration's lines name in a domain.
-use Rattle.std.proofs.Common.{◌≡◌, ℕ, zero, suc, ◌+◌, ◌<◌, ◌≤◌, Bool, true, false, cond, ◌⊎◌, inl, inr, List, [], ◌∷◌, ◌++◌, map, filter, flat_map, length, refl, sym, ap, subst, ◌∙◌, arith, nat_le, if◌then◌else◌, max}
+use Rattle.std.proofs.Common.{◌≡◌, ℕ, zero, suc, ◌+◌, ◌≤◌, Bool, true, false, ◌⊎◌, inl, inr, List, [], ◌∷◌, ◌++◌, map, filter, length, refl, sym, ap, subst, ◌∙◌, arith, nat_le, if◌then◌else◌}
 use Rattle.std.specs.Prelude.{codes}
 use Rattle.std.specs.Str.{bytes_eq}
 use Rattle.sv_base.specs.declared.config.Config.{Config}
 use Rattle.sv_base.specs.declared.config.LnDef.{LnDef}
 use Rattle.sv_base.specs.declared.config.AttrDef.{AttrDef}
 use Rattle.sv_base.specs.declared.config.BlockDef.{BlockDef}
-use Rattle.sv_base.specs.declared.config.CtlDef.{CtlDef}
 use Rattle.sv_base.specs.declared.config.SgDef.{SgDef}
 use Rattle.bay_model.specs.declared.step.Comp.{Comp}
 use Rattle.bay_model.specs.Model.{attribute, several, component}
-use Rattle.bay_model.specs.Generated.{Named, within, end_named, structure_named, block_names, comp_name, components, type_of}
+use Rattle.bay_model.specs.Generated.{Named, within, end_named, structure_named, comp_name, components, type_of}
 use Rattle.bay_model.specs.Kinds.{comp_kind}
 use Rattle.bay_model.specs.NamedLines.{Line, is_setting, path_item, attribute_names, attribute_line, attribute_lines, node_line, block_line, block_lines, control_lines, group_line, domain_number, generated, lines, insert_line, in_order, names_in}
 use Rattle.bay_model.specs.NameTree.{longest}
-use Rattle.bay_core.proofs.AmongLaws.{Among, At, at-among, left, right, either, mapped, source, kept, passed, spread, gathered}
+use Rattle.bay_core.proofs.AmongLaws.{Among, At, at-among, left, right, either, source, kept, passed, spread, gathered}
 use Rattle.bay_core.proofs.NamedLaws.{same-bytes, bytes-same}
 
 -- ---- the order of lines changes nothing
@@ -174,8 +173,8 @@ attribute-named c x a h =
     let here : Among (attribute_line (0 + x) s.0 a) (lines c) = right _ (map node_line c.nodes) _ (left _ (attribute_lines 0 (length c.attrs + length (generated c)) c.attrs) _ s.1) in
     let same : 0 + x ≡ x = omega arith in
     spread (λ (l : Line). l.names) (attribute_line (0 + x) s.0 a) _ (filter (λ (l : Line). bytes_eq l.domain a.domain) (in_order (lines c)))
-        (kept (λ (l : Line). bytes_eq l.domain a.domain) (attribute_line (0 + x) s.0 a) (in_order (lines c)) (ordered (lines c) _ here) (bytes-same a.domain a.domain refl))
-        (inl (ap (λ k. end_named (path_item a.ln a.fc a.path) (attribute k) a.kind) (sym same)))
+    (kept (λ (l : Line). bytes_eq l.domain a.domain) (attribute_line (0 + x) s.0 a) (in_order (lines c)) (ordered (lines c) _ here) (bytes-same a.domain a.domain refl))
+    (inl (ap (λ k. end_named (path_item a.ln a.fc a.path) (attribute k) a.kind) (sym same)))
 
 pub within-longest : (ns : List Named) (n : Named) → Among n ns → length n.item ≤ longest ns
 within-longest [] n i = absurd i

@@ -1,5 +1,5 @@
 -- The names that references are made of: a domain and a logical node, a functional constraint, and those of a path.
-use Rattle.std.proofs.Common.{◌≡◌, ℕ, ◌+◌, ◌<◌, ◌≤◌, ◌==◌, Bool, true, false, ◌&&◌, ◌||◌, inl, inr, List, [], ◌∷◌, ◌++◌, length, refl, sym, ap, subst, ◌∙◌, arith, append_assoc, true≢false, nat_le}
+use Rattle.std.proofs.Common.{◌≡◌, ℕ, ◌+◌, ◌<◌, ◌≤◌, ◌==◌, true, false, ◌&&◌, List, [], ◌∷◌, ◌++◌, length, refl, sym, ap, subst, ◌∙◌, arith, append_assoc, true≢false, nat_le}
 use Rattle.std.specs.Prelude.{codes}
 use Rattle.std.specs.List.{list_all, list_any, slice_split, count_by, join_with_byte}
 use Rattle.std.specs.Str.{bytes_eq}
@@ -11,9 +11,9 @@ use Rattle.bay_model.specs.NamedLines.{path_item}
 use Rattle.bay_model.specs.Places.{member_constraints}
 use Rattle.cfg_text.specs.Names.{is_letter, is_name_octet, is_name, is_path, is_dollar, is_slash, are_member, is_member}
 use Rattle.cfg_text.specs.Contents.{is_fc}
-use Rattle.bay_core.proofs.AmongLaws.{Among, Each, of-each, some-passes, passes}
-use Rattle.bay_core.proofs.JoinedLaws.{NoDollar, IsPlain, ArePlain, joined, first, rest, first-joined, rest-joined, joined-some, first-before, rest-before}
-use Rattle.bay_core.proofs.NamedLaws.{same-bytes, bytes-same}
+use Rattle.bay_core.proofs.AmongLaws.{Among, Each, of-each, some-passes, heads, tails}
+use Rattle.bay_core.proofs.JoinedLaws.{NoDollar, IsPlain, ArePlain, joined, first, rest, first-joined, rest-joined, first-before, rest-before}
+use Rattle.bay_core.proofs.NamedLaws.{same-bytes}
 use Rattle.bay_core.proofs.AttrLaws.{key_of}
 
 -- ---- names
@@ -56,12 +56,6 @@ name-whole (o ∷ octets) h =
 
 slash-not : (o : ℕ) → o ≡ 47 → (o == 47) ≡ false → ⊥
 slash-not o e h = true≢false (sym (ap (λ x. x == 47) e) ∙ h)
-
-heads : (a b : ℕ) (p q : List ℕ) → a ∷ p ≡ b ∷ q → a ≡ b
-heads a b p q e = cc
-
-tails : (a b : ℕ) (p q : List ℕ) → a ∷ p ≡ b ∷ q → p ≡ q
-tails a b p q e = cc
 
 -- a reference tells its domain and its item
 pub same-reference : (d e : List ℕ) (item other : List ℕ) → NoSlash d → NoSlash e → d ++ 47 ∷ item ≡ e ++ 47 ∷ other → (d ≡ e) × (item ≡ other)

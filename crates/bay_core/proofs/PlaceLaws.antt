@@ -75,5 +75,5 @@ exists (suc l) ns before (a ∷ names) more n plain some le i is = by names plai
     by [] plain le is go = (place_at before l ns a, is-placed before l ns a (there [] is), refl)
     by (b ∷ names) plains le is go =
         let down = go (below a ns) (before ++ a ++ 36 ∷ []) (b ∷ names) more (rest_of n) plains (omega arith) le
-            (is-below ns a n i (longer (b ∷ names) is) (sym (name (b ∷ names) is))) (ap rest is ∙ rest-joined a ((b ∷ names) ++ more) plain.0.1) in
+        (is-below ns a n i (longer (b ∷ names) is) (sym (name (b ∷ names) is))) (ap rest is ∙ rest-joined a ((b ∷ names) ++ more) plain.0.1) in
         (down.0, is-deeper before l ns a down.0 (there (b ∷ names) is) down.1, down.2 ∙ (append_assoc (before ++ a) (36 ∷ []) (joined (b ∷ names)) ∙ append_assoc before a (36 ∷ joined (b ∷ names))))

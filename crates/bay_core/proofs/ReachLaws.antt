@@ -1,5 +1,5 @@
 -- The structures above a reference, and what is directly below a structure.
-use Rattle.std.proofs.Common.{◌≡◌, ℕ, zero, suc, ◌+◌, ◌<◌, ◌≤◌, ◌==◌, Bool, true, false, cond, ◌⊎◌, inl, inr, List, [], ◌∷◌, ◌++◌, length, take, drop, fold, refl, sym, ap, subst, ◌∙◌, arith, length-append, append_assoc, append-nil, ◌-◌, true≢false, if◌then◌else◌}
+use Rattle.std.proofs.Common.{◌≡◌, ℕ, zero, suc, ◌+◌, ◌<◌, ◌≤◌, ◌==◌, Bool, true, false, ◌⊎◌, inl, inr, List, [], ◌∷◌, ◌++◌, length, take, drop, fold, refl, sym, ap, subst, ◌∙◌, arith, length-append, append_assoc, append-nil, ◌-◌, true≢false, if◌then◌else◌}
 use Rattle.std.specs.Prelude.{slice_index}
 use Rattle.std.specs.Str.{bytes_eq}
 use Rattle.std.proofs.lemmas.Bool.Decides.{nat_tests, eqb_tells}
@@ -7,7 +7,7 @@ use Rattle.std.proofs.lemmas.List.{take_at}
 use Rattle.cfg_text.specs.Taken.{is_among, added}
 use Rattle.cfg_text.specs.Paths.{above_within, above}
 use Rattle.cfg_text.specs.Sizes.{edges_within, edges, with_edge, with_name, children}
-use Rattle.bay_core.proofs.AmongLaws.{Among, left, right, some-passes, passes}
+use Rattle.bay_core.proofs.AmongLaws.{Among, some-passes, passes}
 use Rattle.bay_core.proofs.JoinedLaws.{NoDollar}
 use Rattle.bay_core.proofs.NamedLaws.{same-bytes, bytes-same, with-old, with-new}
 
@@ -39,7 +39,7 @@ within-has (suc n) path k h is = by (slice_index path n == 36) refl (eqb_tells k
 pub above-has : (front more : List ℕ) → is_among (above (front ++ 36 ∷ more)) front ≡ true
 above-has front more =
     let i : Among (take (length front) (front ++ 36 ∷ more)) (above (front ++ 36 ∷ more)) =
-        within-has (length (front ++ 36 ∷ more)) (front ++ 36 ∷ more) (length front) (omega (arith, length-append front (36 ∷ more))) (index-at front 36 more) in
+    within-has (length (front ++ 36 ∷ more)) (front ++ 36 ∷ more) (length front) (omega (arith, length-append front (36 ∷ more))) (index-at front 36 more) in
     passes (λ k. bytes_eq front k) front (above (front ++ 36 ∷ more)) (subst (λ l. Among l (above (front ++ 36 ∷ more))) (take_at front (36 ∷ more) (length front) refl) i) (bytes-same front front refl)
 
 pub record IsAbove (path node : List ℕ) : Type 0 where
@@ -123,7 +123,7 @@ edges-alone front name h =
     let same : front ++ 36 ∷ (name ++ []) ≡ path = ap (λ l. front ++ 36 ∷ l) (append-nil name) in
     let s : IsSpan path (length front) (length front + suc (length name)) = subst (λ p. IsSpan p (length front) (length front + suc (length name))) same (span front name [] h) in
     subst (λ f. Among (f, path) (edges path)) (take_at front (36 ∷ name) (length front) refl)
-        (edge-short (length path) path path (length front) (length front + suc (length name)) (omega (arith, length-append front (36 ∷ name))) (omega (arith, length-append front (36 ∷ name))) s)
+    (edge-short (length path) path path (length front) (length front + suc (length name)) (omega (arith, length-append front (36 ∷ name))) (omega (arith, length-append front (36 ∷ name))) s)
 
 edges-more : (front name more : List ℕ) → NoDollar name → Among (front, front ++ 36 ∷ name) (edges (front ++ 36 ∷ (name ++ 36 ∷ more)))
 edges-more front name more h =

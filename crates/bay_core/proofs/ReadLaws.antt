@@ -1,5 +1,5 @@
 -- A text that is read as a configuration spells it.
-use Rattle.std.proofs.Common.{◌≡◌, ℕ, ◌<◌, ◌⊎◌, inl, inr, Bool, true, false, cond, ◌&&◌, ◌||◌, List, [], ◌∷◌, ◌++◌, length, ◌==◌, append-nil, append_assoc, refl, sym, ap, subst, ◌∙◌, arith}
+use Rattle.std.proofs.Common.{◌≡◌, ℕ, ◌⊎◌, inl, inr, Bool, true, false, cond, ◌&&◌, ◌||◌, List, [], ◌∷◌, ◌++◌, length, ◌==◌, append-nil, append_assoc, refl, sym, ap, subst, ◌∙◌, arith}
 use Rattle.std.specs.Prelude.{Result, Ok, Err}
 use Rattle.std.specs.List.{join_with_byte}
 use Rattle.std.proofs.lemmas.Bool.{and_parts, or_cases, eqb-true}
@@ -21,7 +21,6 @@ use Rattle.cfg_text.specs.Configs.{config_of}
 use Rattle.cfg_text.specs.Judging.{is_in_node, line_at}
 use Rattle.cfg_text.specs.Text.{pieces, numbered, is_ended, ended_at, told_at, lines_at}
 use Rattle.cfg_text.specs.Looking.{look_at, looked_at, config_at, ◌>>=◌}
-use Rattle.cfg_text.specs.Follows.{IsInNode}
 use Rattle.cfg_text.specs.Texts.{AreLines, IsFound, AreFound, SpellsConfig}
 use Rattle.cfg_text.proofs.ToldLaws.{HasName, line-told}
 use Rattle.bay_core.proofs.PathLaws.{name-plain}

@@ -1,5 +1,5 @@
 -- A reference that reaches an attribute, and for which at most 500 octets are counted, is that of a node fit to be a member.
-use Rattle.std.proofs.Common.{◌≡◌, ℕ, suc, ◌+◌, ◌<◌, ◌≤◌, ◌⊎◌, inl, inr, Bool, true, false, ◌||◌, List, [], ◌∷◌, ◌++◌, length, map, flat_map, unwrap_or, refl, sym, ap, subst, ◌∙◌, arith, append_assoc, append-nil}
+use Rattle.std.proofs.Common.{◌≡◌, ℕ, suc, ◌<◌, ◌≤◌, ◌⊎◌, inl, inr, Bool, true, ◌||◌, List, [], ◌∷◌, ◌++◌, length, map, unwrap_or, refl, sym, ap, subst, ◌∙◌, arith, append_assoc, append-nil}
 use Rattle.std.specs.List.{list_any}
 use Rattle.std.specs.Str.{bytes_eq}
 use Rattle.std.proofs.lemmas.Bool.{or_cases}
@@ -11,8 +11,8 @@ use Rattle.bay_model.specs.Attributes.{attributes}
 use Rattle.bay_model.specs.Generated.{Named, end_named}
 use Rattle.bay_model.specs.NamedLines.{path_item}
 use Rattle.bay_model.specs.NamedLines as named
-use Rattle.bay_model.specs.NameTree.{longest, tree_of, grown, below}
-use Rattle.bay_model.specs.Places.{Place, places, node_at, largest, constraint, member_constraints}
+use Rattle.bay_model.specs.NameTree.{longest, grown, below}
+use Rattle.bay_model.specs.Places.{Place, places, node_at, constraint, member_constraints}
 use Rattle.bay_model.specs.Named.{places_in, nodes, member_number}
 use Rattle.cfg_text.specs.Taken.{is_among}
 use Rattle.cfg_text.specs.Paths.{above}
@@ -21,22 +21,22 @@ use Rattle.cfg_text.specs.Contents.{is_fc}
 use Rattle.cfg_text.specs.Names.{is_name}
 use Rattle.cfg_text.specs.Nodes.{reaches}
 use Rattle.bay_core.specs.Servable.{IsMember, attr_type}
-use Rattle.bay_core.proofs.AmongLaws.{Among, At, of-each, at-among, among-at, spread, mapped, source, some-passes}
-use Rattle.bay_core.proofs.JoinedLaws.{NoDollar, IsPlain, ArePlain, joined, first, rest, first-joined, rest-joined, joined-longer, same-joined}
+use Rattle.bay_core.proofs.AmongLaws.{Among, At, of-each, at-among, among-at, spread, mapped, source, some-passes, heads, tails}
+use Rattle.bay_core.proofs.JoinedLaws.{ArePlain, joined, first, rest, first-joined, rest-joined, joined-longer, same-joined}
 use Rattle.bay_core.proofs.NamedLaws.{same-bytes, bytes-same}
-use Rattle.bay_core.proofs.EntryLaws.{Entry, named_of}
+use Rattle.bay_core.proofs.EntryLaws.{named_of}
 use Rattle.bay_core.proofs.FormLaws.{IsFormed, places-formed}
 use Rattle.bay_core.proofs.TreeLaws.{grown-tree}
 use Rattle.bay_core.proofs.SizeLaws.{places-small}
 use Rattle.bay_core.proofs.PlaceLaws.{descend, exists}
 use Rattle.bay_core.proofs.OrderLaws.{attribute-named, within-longest}
-use Rattle.bay_core.proofs.ReachLaws.{IsAbove, above-back}
+use Rattle.bay_core.proofs.ReachLaws.{above-back}
 use Rattle.bay_core.proofs.FindLaws.{IsFound, found, domain-there, domain-of}
-use Rattle.bay_core.proofs.AttrLaws.{IsRead, key_of}
-use Rattle.bay_core.proofs.PathLaws.{name-plain, NoSlash, name-whole, same-reference, fc-plain, fc-member, names_in, path-plain, path-joined, item_names, reference_names, item-joined, key-joined, joined-domain, GoOn, prefix-joined, IsReference}
+use Rattle.bay_core.proofs.AttrLaws.{key_of}
+use Rattle.bay_core.proofs.PathLaws.{name-plain, NoSlash, name-whole, same-reference, fc-plain, fc-member, names_in, path-plain, path-joined, item_names, item-joined, key-joined, joined-domain, GoOn, prefix-joined, IsReference}
 use Rattle.bay_core.proofs.CountLaws.{Known, counted, is-count}
-use Rattle.bay_core.proofs.BelowLaws.{IsTold, Entries, all-entries, entries-below, front}
-use Rattle.bay_core.proofs.MemberLaws.{IsNodeAt, node-at-place, IsFit, member-of}
+use Rattle.bay_core.proofs.BelowLaws.{IsTold, all-entries, entries-below, front}
+use Rattle.bay_core.proofs.MemberLaws.{node-at-place, IsFit, member-of}
 
 module _ (c : Config) (told : IsTold c) where
   -- an attribute of a domain, whose item goes on from these names
@@ -64,7 +64,7 @@ module _ (c : Config) (told : IsTold c) where
       some a x at behind e =
           let i = at-among x a c.attrs at in
           let both = same-reference a.domain s.domain (joined (item_names a)) (s.item ++ 36 ∷ behind) (name-whole a.domain (told.attrs a i).node.domain_name) (name-whole s.domain s.domain_name)
-              (sym (key-is a) ∙ (e ∙ (ap (λ l. l ++ 36 ∷ behind) s.is ∙ append_assoc s.domain (47 ∷ s.item) (36 ∷ behind)))) in
+          (sym (key-is a) ∙ (e ∙ (ap (λ l. l ++ 36 ∷ behind) s.is ∙ append_assoc s.domain (47 ∷ s.item) (36 ∷ behind)))) in
           record {
             attr = a;
             number = x;
@@ -123,8 +123,12 @@ module _ (c : Config) (told : IsTold c) where
         formed = of-each (IsFormed (attr_type c) (length (attributes c))) (places before (grown two.0 (map (named_of (attr_type c)) all.entries))) p
             (places-formed (attr_type c) (length (attributes c)) before (grown two.0 (map (named_of (attr_type c)) all.entries)) (grown-tree (attr_type c) (length (attributes c)) two.0 all.entries under.entries)) among;
         constrained = ap (λ f. list_any (bytes_eq f) member_constraints) constraint_is ∙ fc-member fc known;
-        small = omega (arith, few, places-small (attr_type c) (length (attributes c)) (Known c told.attrs told.beside) (counted c told.attrs told.beside) (children (map key_of c.attrs)) (is-count c told.attrs told.beside)
-            two.0 10 all.entries (front c told domain ln fc known) domain before under link p among few);
+        small = omega (
+          arith,
+          few,
+          places-small (attr_type c) (length (attributes c)) (Known c told.attrs told.beside) (counted c told.attrs told.beside) (children (map key_of c.attrs)) (is-count c told.attrs told.beside)
+              two.0 10 all.entries (front c told domain ln fc known) domain before under link p among few,
+        );
       }
     where
       before : List ℕ
@@ -143,26 +147,37 @@ module _ (c : Config) (told : IsTold c) where
   third (a ∷ b ∷ d ∷ more) h = (a, b, d, more, refl)
 
   same-constraint : (a : AttrDef) (ln fc b : List ℕ) (more behind : List (List ℕ)) → item_names a ≡ (ln ∷ fc ∷ b ∷ more) ++ behind → a.fc ≡ fc
-  same-constraint a ln fc b more behind e = second a.ln ln a.fc fc (names_in a.path) ((b ∷ more) ++ behind) e
+  same-constraint a ln fc b more behind e = heads a.fc fc _ _ (tails a.ln ln (a.fc ∷ names_in a.path) ((fc ∷ b ∷ more) ++ behind) e)
+
+  abbrev has : List ℕ → Node → Bool
+  has r n = bytes_eq r (reference_of n.domain n.item)
+
+  -- a node has the reference
+  first-node : (r : List ℕ) (s : IsReference r) → IsReached s.domain (names_in s.item) → IsFound (has r) (nodes c)
+  first-node r s h =
+      let p = there s.domain (names_in s.item) (path-plain s.item s.path) (omega (arith, s.many)) h in
+      let same : r ≡ s.domain ++ 47 ∷ p.0.item = s.is ∙ ap (λ l. s.domain ++ 47 ∷ l) (sym (path-joined s.item) ∙ sym p.2) in
+      found (has r) (node_at s.domain p.0) (nodes c)
+      (spread (λ d. map (node_at d) (places_in c d)) s.domain (node_at s.domain p.0) (named.domains c) (domain-is-there s.domain (names_in s.item) h) (mapped (node_at s.domain) p.0 (places_in c s.domain) p.1))
+      (bytes-same r (s.domain ++ 47 ∷ p.0.item) same)
+
+  -- each place with the reference is fit
+  fit-at : (r : List ℕ) (s : IsReference r) → IsReached s.domain (names_in s.item) → counted c told.attrs told.beside 10 r ≤ 500 → (d : List ℕ) (p : Place) → Among d (named.domains c) → Among p (places_in c d) → r ≡ d ++ 47 ∷ p.item → IsFit c p
+  fit-at r s h few d p i j is =
+      let both = same-reference s.domain d s.item p.item (name-whole s.domain s.domain_name) (domain-whole d i) (sym s.is ∙ is) in
+      let t = third (names_in s.item) s.many in
+      by t.0 t.1 t.2 t.3 t.4 (sym both.1 ∙ sym (path-joined s.item))
     where
-      second : (x y p q : List ℕ) (ps qs : List (List ℕ)) → x ∷ p ∷ ps ≡ y ∷ q ∷ qs → p ≡ q
-      second x y p q ps qs e = cc
+      by : (ln fc b : List ℕ) (more : List (List ℕ)) → names_in s.item ≡ ln ∷ fc ∷ b ∷ more → p.item ≡ joined (names_in s.item) → IsFit c p
+      by ln fc b more e item =
+          let known : is_fc fc ≡ true = ap is_fc (sym (same-constraint h.attr ln fc b more h.go.more (h.go.is ∙ ap (λ l. l ++ h.go.more) e))) ∙ (told.attrs h.attr (at-among h.number h.attr c.attrs h.at)).constraint in
+          fit d p ln fc b more known (subst ArePlain e (path-plain s.item s.path)) j (item ∙ ap joined e) (omega (arith, few, ap (λ (x : List ℕ). counted c told.attrs told.beside 10 x) is))
 
   pub member : (r : List ℕ) → IsReference r → reaches (map key_of c.attrs) r ≡ true → counted c told.attrs told.beside 10 r ≤ 500 → IsMember c (member_number (nodes c) r)
   member r s reach few =
-      let names : List (List ℕ) = names_in s.item in
-      let plain : ArePlain names = path-plain s.item s.path in
       let h = reached r s reach in
-      let p = there s.domain names plain (omega (arith, s.many)) h in
-      let same : r ≡ s.domain ++ 47 ∷ p.0.item = s.is ∙ ap (λ l. s.domain ++ 47 ∷ l) (sym (path-joined s.item) ∙ sym p.2) in
-      let f = found (λ (n : Node). bytes_eq r (reference_of n.domain n.item)) (node_at s.domain p.0) (nodes c)
-          (spread (λ d. map (node_at d) (places_in c d)) s.domain (node_at s.domain p.0) (named.domains c) (domain-is-there s.domain names h) (mapped (node_at s.domain) p.0 (places_in c s.domain) p.1))
-          (bytes-same r (s.domain ++ 47 ∷ p.0.item) same) in
+      let f = first-node r s h in
       let at = node-at-place (places_in c) (named.domains c) f.number f.element f.at in
       let whole : r ≡ at.domain ++ 47 ∷ at.place.item = same-bytes r (reference_of f.element.domain f.element.item) f.passes ∙ ap (λ (n : Node). reference_of n.domain n.item) at.is in
-      let both = same-reference s.domain at.domain s.item at.place.item (name-whole s.domain s.domain_name) (domain-whole at.domain at.domain_there) (sym s.is ∙ whole) in
-      let t = third names s.many in
-      let known : is_fc t.1 ≡ true = ap is_fc (sym (same-constraint h.attr t.0 t.1 t.2 t.3 h.go.more (h.go.is ∙ ap (λ l. l ++ h.go.more) t.4))) ∙ (told.attrs h.attr (at-among h.number h.attr c.attrs h.at)).constraint in
-      let fits : IsFit c at.place = fit at.domain at.place t.0 t.1 t.2 t.3 known (subst ArePlain t.4 plain) at.place_there (sym both.1 ∙ (sym (path-joined s.item) ∙ ap joined t.4)) (omega (arith, few, ap (counted c told.attrs told.beside 10) whole)) in
       let number : f.number ≡ member_number (nodes c) r = sym (ap (λ o. unwrap_or o 0) f.is) in
-      subst (IsMember c) number (member-of c f.number at.domain at.place f.element f.at at.is at.kind fits)
+      subst (IsMember c) number (member-of c f.number at.domain at.place f.element f.at at.is at.kind (fit-at r s h few at.domain at.place at.domain_there at.place_there whole))

@@ -1,5 +1,5 @@
 -- What a configuration's text spells can be served by a bay.
-use Rattle.std.proofs.Common.{◌≡◌, ℕ, ◌+◌, ◌-◌, ◌<◌, ◌≤◌, ◌⊎◌, inl, inr, Bool, true, false, not, ◌&&◌, ◌||◌, List, [], ◌∷◌, ◌++◌, length, map, nat_lt, is_some, position, slice_index_or, refl, sym, ap, subst, ◌∙◌, arith, true≢false, if◌then◌else◌}
+use Rattle.std.proofs.Common.{◌≡◌, ℕ, ◌-◌, ◌≤◌, Bool, true, false, not, ◌||◌, List, [], ◌∷◌, map, nat_lt, is_some, position, refl, sym, ap, subst, ◌∙◌, arith, true≢false, if◌then◌else◌}
 use Rattle.std.specs.List.{All}
 use Rattle.std.specs.Str.{bytes_eq}
 use Rattle.std.proofs.lemmas.Bool.{and_parts}
@@ -11,14 +11,12 @@ use Rattle.sv_base.specs.declared.config.AttrDef.{AttrDef}
 use Rattle.sv_base.specs.declared.config.SetDef.{SetDef}
 use Rattle.sv_base.specs.declared.config.BlockDef.{BlockDef}
 use Rattle.sv_base.specs.declared.config.CtlDef.{CtlDef}
-use Rattle.bay_model.specs.Model.{DataSet}
 use Rattle.bay_model.specs.Configured.{groups_defined}
 use Rattle.bay_model.specs.NamedLines.{domains}
 use Rattle.bay_model.specs.Named.{nodes, member_number, set_defined, configured_model}
-use Rattle.value_store.specs.Opened.{HasValue, HasDomains, IsStorable, place_in}
-use Rattle.cfg_text.specs.Names.{is_member}
+use Rattle.value_store.specs.Opened.{HasValue, place_in}
 use Rattle.cfg_text.specs.Sizes.{leaf_octets, children, octets_of}
-use Rattle.cfg_text.specs.Nodes.{leaves, leaf_names, closed, reaches, is_node, is_member_node}
+use Rattle.cfg_text.specs.Nodes.{leaves, leaf_names, closed, reaches}
 use Rattle.cfg_text.specs.Configs.{config_of}
 use Rattle.cfg_text.specs.Texts.{AreLines, AreFound, SpellsConfig}
 use Rattle.cfg_text.specs.declared.leaf.Leaf.{Leaf}
@@ -29,8 +27,8 @@ use Rattle.bay_core.proofs.AmongLaws.{Among, all-of, among-at, at-within, at-ind
 use Rattle.bay_core.proofs.FindLaws.{found, domain-there}
 use Rattle.bay_core.proofs.NamedLaws.{bytes-same, not-not}
 use Rattle.bay_core.proofs.StandLaws.{IsPlainText, plain-text, nodes-read}
-use Rattle.bay_core.proofs.AttrLaws.{IsRead, key_of, attrs-read, attrs-beside}
-use Rattle.bay_core.proofs.SetLaws.{blocks-read, few-blocks, IsReadSet, sets-read, member-named, found-of, leaf_of, leaves-are}
+use Rattle.bay_core.proofs.AttrLaws.{key_of, attrs-read, attrs-beside}
+use Rattle.bay_core.proofs.SetLaws.{blocks-read, few-blocks, sets-read, member-named, found-of, leaf_of, leaves-are}
 use Rattle.bay_core.proofs.ValueLaws.{first-value, all-sound}
 use Rattle.bay_core.proofs.PathLaws.{reference-of}
 use Rattle.bay_core.proofs.CountLaws.{counted}
@@ -80,7 +78,7 @@ module _ (told : List Line) (text : List ℕ) (are : AreLines text told) (found_
       let apart = and_parts (not (reaches (closed told) r)) (not (nat_lt 500 (octets_of 10 (leaf_octets (leaves told)) (children (leaf_names told)) r))) is.1 in
       let reach : reaches (leaf_names told) r ≡ true = or-second (reaches (leaf_names told) r) (reaches (closed told) r) is.0 (not-not (reaches (closed told) r) apart.0) in
       member (config_of told) is-told r (reference-of r (member-named told text r are i)) (ap (λ ns. reaches ns r) (sym names-are) ∙ reach)
-          (omega (arith, count-is r, at-most (octets_of 10 (leaf_octets (leaves told)) (children (leaf_names told)) r) (not-not _ apart.1)))
+      (omega (arith, count-is r, at-most (octets_of 10 (leaf_octets (leaves told)) (children (leaf_names told)) r) (not-not _ apart.1)))
 
   set-served : (s : SetDef) → Among s (config_of told).sets → IsServedSet (config_of told) (set_defined (nodes (config_of told)) s)
   set-served s i = let h = sets-read told text are s i in record {

@@ -1,12 +1,11 @@
 -- What a text tells of its blocks and its data sets, and the leaves that its attributes make.
-use Rattle.std.proofs.Common.{◌≡◌, ℕ, ◌+◌, ◌≤◌, ◌<◌, ◌⊎◌, inl, inr, true, List, [], ◌∷◌, ◌++◌, length, map, refl, sym, ap, subst, ◌∙◌, arith, length-append, append-nil}
+use Rattle.std.proofs.Common.{◌≡◌, ℕ, ◌+◌, ◌≤◌, ◌⊎◌, inl, inr, true, List, [], ◌∷◌, ◌++◌, length, map, refl, sym, ap, subst, ◌∙◌, arith, length-append, append-nil}
 use Rattle.std.proofs.lemmas.List.{map-append}
-use Rattle.sv_base.specs.declared.config.Config.{Config}
 use Rattle.sv_base.specs.declared.config.AttrDef.{AttrDef}
 use Rattle.sv_base.specs.declared.config.SetDef.{SetDef}
 use Rattle.sv_base.specs.declared.config.BlockDef.{BlockDef}
 use Rattle.cfg_text.specs.Names.{is_name, is_member}
-use Rattle.cfg_text.specs.Before.{blocks, members, domain_of, node_of}
+use Rattle.cfg_text.specs.Before.{blocks, members}
 use Rattle.cfg_text.specs.Configs.{with_member, config_of}
 use Rattle.cfg_text.specs.Nodes.{leaves}
 use Rattle.cfg_text.specs.Sizes.{most_octets}
@@ -15,7 +14,7 @@ use Rattle.cfg_text.specs.Texts.{AreLines, IsFound, AreFound}
 use Rattle.cfg_text.specs.declared.leaf.Leaf.{Leaf}
 use Rattle.cfg_text.specs.declared.line.Line.{Line}
 use Rattle.cfg_text.specs.declared.line.Line.TheVariants as lines
-use Rattle.bay_core.proofs.AmongLaws.{Among, left, right, ending}
+use Rattle.bay_core.proofs.AmongLaws.{Among, ending}
 use Rattle.bay_core.proofs.StandLaws.{IsPlainText, in-node}
 use Rattle.bay_core.proofs.AttrLaws.{key_of}
 
@@ -28,14 +27,6 @@ pub record IsReadBlock (b : BlockDef) : Type 0 where
 
 pub blocks-read : (told : List Line) (text : List ℕ) → AreLines text told → (b : BlockDef) → Among b (config_of told).blocks → IsReadBlock b
 blocks-read [] text h b i = absurd i
-blocks-read (lines.Skip ∷ before) text h b i = blocks-read before h.0 h.3 b i
-blocks-read (lines.Config ∷ before) text h b i = blocks-read before h.0 h.3 b i
-blocks-read (lines.Server v m r ∷ before) text h b i = blocks-read before h.0 h.3 b i
-blocks-read (lines.Ld name ∷ before) text h b i = blocks-read before h.0 h.3 b i
-blocks-read (lines.Ln node ∷ before) text h b i = blocks-read before h.0 h.3 b i
-blocks-read (lines.Attr attr ∷ before) text h b i = blocks-read before h.0 h.3 b i
-blocks-read (lines.Set set ∷ before) text h b i = blocks-read before h.0 h.3 b i
-blocks-read (lines.Member reference ∷ before) text h b i = blocks-read before h.0 h.3 b i
 blocks-read (lines.Brcb block ∷ before) text h b i = by (ending b (config_of before).blocks block i) (blocks-read before h.0 h.3 b)
   where
     new : IsReadBlock block
@@ -48,24 +39,12 @@ blocks-read (lines.Brcb block ∷ before) text h b i = by (ending b (config_of b
     by : Among b (config_of before).blocks ⊎ (b ≡ block) → (Among b (config_of before).blocks → IsReadBlock b) → IsReadBlock b
     by (inl j) go = go j
     by (inr e) go = subst IsReadBlock (sym e) new
-blocks-read (lines.Ctl control ∷ before) text h b i = blocks-read before h.0 h.3 b i
-blocks-read (lines.Sgcb groups ∷ before) text h b i = blocks-read before h.0 h.3 b i
-blocks-read (lines.End ∷ before) text h b i = blocks-read before h.0 h.3 b i
+blocks-read (line ∷ before) text h b i = blocks-read before h.0 h.3 b i
 
 pub few-blocks : (told : List Line) (text : List ℕ) → AreLines text told → (length (config_of told).blocks ≡ blocks told) × (blocks told ≤ 32)
 few-blocks [] text h = (refl, omega arith)
-few-blocks (lines.Skip ∷ before) text h = few-blocks before h.0 h.3
-few-blocks (lines.Config ∷ before) text h = few-blocks before h.0 h.3
-few-blocks (lines.Server v m r ∷ before) text h = few-blocks before h.0 h.3
-few-blocks (lines.Ld name ∷ before) text h = few-blocks before h.0 h.3
-few-blocks (lines.Ln node ∷ before) text h = few-blocks before h.0 h.3
-few-blocks (lines.Attr attr ∷ before) text h = few-blocks before h.0 h.3
-few-blocks (lines.Set set ∷ before) text h = few-blocks before h.0 h.3
-few-blocks (lines.Member reference ∷ before) text h = few-blocks before h.0 h.3
 few-blocks (lines.Brcb block ∷ before) text h = let go = few-blocks before h.0 h.3 in (omega (arith, length-append (config_of before).blocks (block ∷ []), go.0), omega (arith, h.4.follows.few))
-few-blocks (lines.Ctl control ∷ before) text h = few-blocks before h.0 h.3
-few-blocks (lines.Sgcb groups ∷ before) text h = few-blocks before h.0 h.3
-few-blocks (lines.End ∷ before) text h = few-blocks before h.0 h.3
+few-blocks (line ∷ before) text h = few-blocks before h.0 h.3
 
 -- ---- data sets
 
@@ -88,18 +67,9 @@ last-member (s ∷ t ∷ u ∷ sets) reference = last-member (t ∷ u ∷ sets) 
 
 pub few-members : (told : List Line) (text : List ℕ) → AreLines text told → last_members (config_of told).sets ≤ members told
 few-members [] text h = omega arith
-few-members (lines.Skip ∷ before) text h = few-members before h.0 h.3
-few-members (lines.Config ∷ before) text h = few-members before h.0 h.3
-few-members (lines.Server v m r ∷ before) text h = few-members before h.0 h.3
-few-members (lines.Ld name ∷ before) text h = few-members before h.0 h.3
-few-members (lines.Ln node ∷ before) text h = few-members before h.0 h.3
-few-members (lines.Attr attr ∷ before) text h = few-members before h.0 h.3
 few-members (lines.Set set ∷ before) text h = omega (arith, last-set (config_of before).sets set, ap (λ (s : SetDef). length s.members) h.4.follows.here)
 few-members (lines.Member reference ∷ before) text h = omega (arith, last-member (config_of before).sets reference, few-members before h.0 h.3)
-few-members (lines.Brcb block ∷ before) text h = few-members before h.0 h.3
-few-members (lines.Ctl control ∷ before) text h = few-members before h.0 h.3
-few-members (lines.Sgcb groups ∷ before) text h = few-members before h.0 h.3
-few-members (lines.End ∷ before) text h = few-members before h.0 h.3
+few-members (line ∷ before) text h = few-members before h.0 h.3
 
 -- a set of those that have one more member: one that was there, or the last
 pub record IsGrownSet (sets : List SetDef) (reference : List ℕ) (s : SetDef) : Type 0 where
@@ -128,12 +98,6 @@ read-on told line s h = record { few = h.few; told_of = λ r i. inr (h.told_of r
 
 pub sets-read : (told : List Line) (text : List ℕ) → AreLines text told → (s : SetDef) → Among s (config_of told).sets → IsReadSet told s
 sets-read [] text h s i = absurd i
-sets-read (lines.Skip ∷ before) text h s i = read-on before lines.Skip s (sets-read before h.0 h.3 s i)
-sets-read (lines.Config ∷ before) text h s i = read-on before lines.Config s (sets-read before h.0 h.3 s i)
-sets-read (lines.Server v m r ∷ before) text h s i = read-on before (lines.Server v m r) s (sets-read before h.0 h.3 s i)
-sets-read (lines.Ld name ∷ before) text h s i = read-on before (lines.Ld name) s (sets-read before h.0 h.3 s i)
-sets-read (lines.Ln node ∷ before) text h s i = read-on before (lines.Ln node) s (sets-read before h.0 h.3 s i)
-sets-read (lines.Attr attr ∷ before) text h s i = read-on before (lines.Attr attr) s (sets-read before h.0 h.3 s i)
 sets-read (lines.Set set ∷ before) text h s i = by (ending s (config_of before).sets set i) (sets-read before h.0 h.3 s)
   where
     empty : s ≡ set → s.members ≡ []
@@ -154,10 +118,7 @@ sets-read (lines.Member reference ∷ before) text h s i = by (grown-set (config
         member : (r : List ℕ) → Among r g.old.members ⊎ (r ≡ reference) → IsReadSet before g.old → Among (lines.Member r) (lines.Member reference ∷ before)
         member r (inl k) old = inr (old.told_of r k)
         member r (inr e) old = inl (ap lines.Member e)
-sets-read (lines.Brcb block ∷ before) text h s i = read-on before (lines.Brcb block) s (sets-read before h.0 h.3 s i)
-sets-read (lines.Ctl control ∷ before) text h s i = read-on before (lines.Ctl control) s (sets-read before h.0 h.3 s i)
-sets-read (lines.Sgcb groups ∷ before) text h s i = read-on before (lines.Sgcb groups) s (sets-read before h.0 h.3 s i)
-sets-read (lines.End ∷ before) text h s i = read-on before lines.End s (sets-read before h.0 h.3 s i)
+sets-read (line ∷ before) text h s i = read-on before line s (sets-read before h.0 h.3 s i)
 
 -- what a member's line has
 pub member-named : (told : List Line) (text : List ℕ) (r : List ℕ) → AreLines text told → Among (lines.Member r) told → is_member r ≡ true
@@ -183,15 +144,7 @@ none-more before e = append-nil (leaves before) ∙ e
 
 pub leaves-are : (told : List Line) → IsPlainText told → leaves told ≡ map leaf_of (config_of told).attrs
 leaves-are [] p = refl
-leaves-are (lines.Skip ∷ before) p = none-more before (leaves-are before p)
-leaves-are (lines.Config ∷ before) p = none-more before (leaves-are before p)
-leaves-are (lines.Server v m r ∷ before) p = none-more before (leaves-are before p)
-leaves-are (lines.Ld name ∷ before) p = none-more before (leaves-are before p)
-leaves-are (lines.Ln node ∷ before) p = none-more before (leaves-are before p)
 leaves-are (lines.Attr attr ∷ before) p = ap (λ l. l ++ leaf_of attr ∷ []) (leaves-are before p) ∙ sym (map-append leaf_of (config_of before).attrs (attr ∷ []))
-leaves-are (lines.Set set ∷ before) p = none-more before (leaves-are before p)
-leaves-are (lines.Member reference ∷ before) p = none-more before (leaves-are before p)
-leaves-are (lines.Brcb block ∷ before) p = none-more before (leaves-are before p)
 leaves-are (lines.Ctl control ∷ before) p = absurd p
 leaves-are (lines.Sgcb groups ∷ before) p = absurd p
-leaves-are (lines.End ∷ before) p = none-more before (leaves-are before p)
+leaves-are (line ∷ before) p = none-more before (leaves-are before p)

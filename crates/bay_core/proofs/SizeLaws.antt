@@ -8,15 +8,15 @@ use Rattle.sv_base.specs.Types.{Fields, no_field, field}
 use Rattle.sv_base.specs.declared.types.TypeOf.{TypeOf}
 use Rattle.sv_base.specs.declared.types.TypeOf.TheVariants as types
 use Rattle.bay_model.specs.Generated.{Named}
-use Rattle.bay_model.specs.NameTree.{Forest, nothing, named, below, first_names, role_of, own_type, side_by_side, grown}
+use Rattle.bay_model.specs.NameTree.{Forest, named, below, first_names, role_of, own_type, side_by_side, grown}
 use Rattle.bay_model.specs.Places.{Place, places, type_with, fields, headed, largest, largest_fields}
 use Rattle.object_model.proofs.GroupLaws.{distinct}
-use Rattle.bay_core.proofs.AmongLaws.{Among, each-of, left, right, mapped, source}
+use Rattle.bay_core.proofs.AmongLaws.{Among, each-of, left, right, source, tails}
 use Rattle.bay_core.proofs.JoinedLaws.{joined, joined-behind}
 use Rattle.bay_core.proofs.NamedLaws.{bytes-same, place_at, deeper, IsPlaced, placed}
 use Rattle.bay_core.proofs.EntryLaws.{Entry, entry, PlainEntry, named_of, under, below-under, under-of, cut}
-use Rattle.bay_core.proofs.TreeLaws.{AreEntries, entries-under, IsEnd, IsOpen, ends-or-not, IsHead, head-of, nothing-below, type-ended, type-open}
-use Rattle.bay_core.proofs.SumLaws.{Differ, differ, differ-map, one-part, sum-among, field-grows}
+use Rattle.bay_core.proofs.TreeLaws.{AreEntries, entries-under, IsEnd, IsOpen, ends-or-not, head-of, nothing-below, type-ended, type-open}
+use Rattle.bay_core.proofs.SumLaws.{differ, differ-map, one-part, sum-among, field-grows}
 
 -- What is counted for a reference, as far down as the number says: for those that are known to be an attribute's, and for
 -- those above them, by what is directly below.
@@ -113,10 +113,7 @@ module _ (kind : ℕ → TypeOf) (n : ℕ) (Known : List (List ℕ) → ℕ → 
   side-sum l depth ns front (f ∷ fs) h = omega (arith, h f (inl refl), side-sum l depth ns front fs (λ g i. h g (inr i)), sum_by-cons (octets depth) (reference front f) (map (reference front) fs))
 
   same-reference : (front : List (List ℕ)) → 0 < length front → (a b : List ℕ) → reference front a ≡ reference front b → a ≡ b
-  same-reference front some a b e = tails 36 a b (append_cancel_left (joined front) (36 ∷ a) (36 ∷ b) (sym (joined-behind front a [] some) ∙ (e ∙ joined-behind front b [] some)))
-    where
-      tails : (o : ℕ) (p q : List ℕ) → o ∷ p ≡ o ∷ q → p ≡ q
-      tails o p q h = cc
+  same-reference front some a b e = tails 36 36 a b (append_cancel_left (joined front) (36 ∷ a) (36 ∷ b) (sym (joined-behind front a [] some) ∙ (e ∙ joined-behind front b [] some)))
 
   -- a first name is a part
   is-part : (depth : ℕ) (es : List Entry) (front : List (List ℕ)) → AreBelow front depth es → (f : List ℕ) → Among f (first_names (map (named_of kind) es)) → Among (reference front f) (parts (joined front))
@@ -134,9 +131,9 @@ module _ (kind : ℕ → TypeOf) (n : ℕ) (Known : List (List ℕ) → ℕ → 
   bounded (suc l) depth es front h name more x known few =
       let ns : List Named = map (named_of kind) es in
       let each : (f : List ℕ) → Among f (first_names ns) → largest (type_at l (below f ns)) ≤ octets depth (reference front f) =
-          λ f i. child-below l depth es front h (bounded l) f i (omega (arith, few, one-part (octets depth) (reference front f) (parts (joined front)) (is-part depth es front h f i))) in
+      λ f i. child-below l depth es front h (bounded l) f i (omega (arith, few, one-part (octets depth) (reference front f) (parts (joined front)) (is-part depth es front h f i))) in
       let among : (q : List ℕ) → Among q (map (reference front) (first_names ns)) → Among q (parts (joined front)) =
-          λ q i. let s = source (reference front) q (first_names ns) i in subst (λ z. Among z (parts (joined front))) (sym s.2) (is-part depth es front h s.0 s.1) in
+      λ q i. let s = source (reference front) q (first_names ns) i in subst (λ z. Among z (parts (joined front))) (sym s.2) (is-part depth es front h s.0 s.1) in
       omega (arith, side-sum l depth ns front (first_names ns) each, sum-among (octets depth) (map (reference front) (first_names ns)) (parts (joined front)) (differ-map (reference front) (first_names ns) (same-reference front h.some) (differ (first_names ns) (distinct ns))) among)
 
   -- all places

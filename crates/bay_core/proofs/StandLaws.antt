@@ -1,11 +1,10 @@
 -- Where the lines of a text stand: in a domain, and in one of its logical nodes.
-use Rattle.std.proofs.Common.{◌≡◌, ℕ, ◌⊎◌, inl, inr, true, false, List, [], ◌∷◌, ◌++◌, length, refl, sym, ap, subst, ◌∙◌, arith, length-append}
-use Rattle.sv_base.specs.declared.config.Config.{Config}
+use Rattle.std.proofs.Common.{◌≡◌, ℕ, ◌⊎◌, inl, inr, true, List, [], ◌∷◌, ◌++◌, length, refl, ap, subst, ◌∙◌, arith, length-append}
 use Rattle.sv_base.specs.declared.config.LnDef.{LnDef}
 use Rattle.cfg_text.specs.Names.{is_name}
 use Rattle.cfg_text.specs.Before.{place_of, domain_of, node_of, groups_of}
 use Rattle.cfg_text.specs.Configs.{config_of}
-use Rattle.cfg_text.specs.Follows.{IsInNode, IsInDomain, IsLine}
+use Rattle.cfg_text.specs.Follows.{IsInNode}
 use Rattle.cfg_text.specs.Texts.{AreLines}
 use Rattle.cfg_text.specs.declared.line.Line.{Line}
 use Rattle.cfg_text.specs.declared.line.Line.TheVariants as lines
@@ -25,33 +24,16 @@ some-left xs x e = absurd (omega (arith, ap length e, length-append xs (x ∷ []
 
 pub plain-text : (told : List Line) → (config_of told).controls ≡ [] → (config_of told).groups ≡ [] → IsPlainText told
 plain-text [] c g = tt
-plain-text (lines.Skip ∷ before) c g = plain-text before c g
-plain-text (lines.Config ∷ before) c g = plain-text before c g
-plain-text (lines.Server v m r ∷ before) c g = plain-text before c g
-plain-text (lines.Ld name ∷ before) c g = plain-text before c g
-plain-text (lines.Ln node ∷ before) c g = plain-text before c g
-plain-text (lines.Attr attr ∷ before) c g = plain-text before c g
-plain-text (lines.Set set ∷ before) c g = plain-text before c g
-plain-text (lines.Member reference ∷ before) c g = plain-text before c g
-plain-text (lines.Brcb block ∷ before) c g = plain-text before c g
 plain-text (lines.Ctl control ∷ before) c g = absurd (some-left (config_of before).controls control c)
 plain-text (lines.Sgcb groups ∷ before) c g = absurd (some-left (config_of before).groups groups g)
-plain-text (lines.End ∷ before) c g = plain-text before c g
+plain-text (line ∷ before) c g = plain-text before c g
 
 pub no-groups : (told : List Line) → IsPlainText told → groups_of told ≡ 0
 no-groups [] h = refl
-no-groups (lines.Skip ∷ before) h = no-groups before h
-no-groups (lines.Config ∷ before) h = no-groups before h
-no-groups (lines.Server v m r ∷ before) h = no-groups before h
 no-groups (lines.Ld name ∷ before) h = refl
-no-groups (lines.Ln node ∷ before) h = no-groups before h
-no-groups (lines.Attr attr ∷ before) h = no-groups before h
-no-groups (lines.Set set ∷ before) h = no-groups before h
-no-groups (lines.Member reference ∷ before) h = no-groups before h
-no-groups (lines.Brcb block ∷ before) h = no-groups before h
 no-groups (lines.Ctl control ∷ before) h = absurd h
 no-groups (lines.Sgcb groups ∷ before) h = absurd h
-no-groups (lines.End ∷ before) h = no-groups before h
+no-groups (line ∷ before) h = no-groups before h
 
 -- a logical node of these, in a domain
 pub record IsIn (nodes : List LnDef) (domain ln : List ℕ) : Type 0 where
@@ -102,13 +84,10 @@ stands (lines.Ln node ∷ before) text h = let f = h.4.follows in record {
   domain_name = domain-name (config_of before).nodes (domain_of before) (node_of before) (place_of before) (stands before h.0 h.3) f.stands;
   ln_name = f.name;
 }
-stands (lines.Attr attr ∷ before) text h = in-node-of (config_of before).nodes (domain_of before) (node_of before) (place_of before) (stands before h.0 h.3) h.4.follows.stands
-stands (lines.Set set ∷ before) text h = in-node-of (config_of before).nodes (domain_of before) (node_of before) (place_of before) (stands before h.0 h.3) h.4.follows.stands
 stands (lines.Member reference ∷ before) text h = in-set-of (config_of before).nodes (domain_of before) (node_of before) (place_of before) (stands before h.0 h.3) h.4.follows.stands
-stands (lines.Brcb block ∷ before) text h = in-node-of (config_of before).nodes (domain_of before) (node_of before) (place_of before) (stands before h.0 h.3) h.4.follows.stands
-stands (lines.Ctl control ∷ before) text h = in-node-of (config_of before).nodes (domain_of before) (node_of before) (place_of before) (stands before h.0 h.3) h.4.follows.stands
 stands (lines.Sgcb groups ∷ before) text h = in-node-of (config_of before).nodes (domain_of before) (node_of before) (place_of before) (stands before h.0 h.3) h.4.follows.stands.0
 stands (lines.End ∷ before) text h = tt
+stands (line ∷ before) text h = in-node-of (config_of before).nodes (domain_of before) (node_of before) (place_of before) (stands before h.0 h.3) h.4.follows.stands
 
 pub in-node : (told : List Line) (text : List ℕ) → AreLines text told → IsInNode told → IsIn (config_of told).nodes (domain_of told) (node_of told)
 in-node told text h i = in-node-of (config_of told).nodes (domain_of told) (node_of told) (place_of told) (stands told text h) i
@@ -116,20 +95,10 @@ in-node told text h i = in-node-of (config_of told).nodes (domain_of told) (node
 -- the logical nodes
 pub nodes-read : (told : List Line) (text : List ℕ) → AreLines text told → (n : LnDef) → Among n (config_of told).nodes → (is_name n.ln ≡ true) × (is_name n.domain ≡ true)
 nodes-read [] text h n i = absurd i
-nodes-read (lines.Skip ∷ before) text h n i = nodes-read before h.0 h.3 n i
-nodes-read (lines.Config ∷ before) text h n i = nodes-read before h.0 h.3 n i
-nodes-read (lines.Server v m r ∷ before) text h n i = nodes-read before h.0 h.3 n i
-nodes-read (lines.Ld name ∷ before) text h n i = nodes-read before h.0 h.3 n i
 nodes-read (lines.Ln node ∷ before) text h n i = by (ending n (config_of before).nodes node i) (nodes-read before h.0 h.3 n)
   where
     by : Among n (config_of before).nodes ⊎ (n ≡ node) → (Among n (config_of before).nodes → (is_name n.ln ≡ true) × (is_name n.domain ≡ true)) → (is_name n.ln ≡ true) × (is_name n.domain ≡ true)
     by (inl j) go = go j
     by (inr e) go = let f = h.4.follows in let d = domain-name (config_of before).nodes (domain_of before) (node_of before) (place_of before) (stands before h.0 h.3) f.stands in
         (ap (λ (m : LnDef). is_name m.ln) e ∙ f.name, ap (λ (m : LnDef). is_name m.domain) e ∙ (ap (λ (m : LnDef). is_name m.domain) f.here ∙ d))
-nodes-read (lines.Attr attr ∷ before) text h n i = nodes-read before h.0 h.3 n i
-nodes-read (lines.Set set ∷ before) text h n i = nodes-read before h.0 h.3 n i
-nodes-read (lines.Member reference ∷ before) text h n i = nodes-read before h.0 h.3 n i
-nodes-read (lines.Brcb block ∷ before) text h n i = nodes-read before h.0 h.3 n i
-nodes-read (lines.Ctl control ∷ before) text h n i = nodes-read before h.0 h.3 n i
-nodes-read (lines.Sgcb groups ∷ before) text h n i = nodes-read before h.0 h.3 n i
-nodes-read (lines.End ∷ before) text h n i = nodes-read before h.0 h.3 n i
+nodes-read (line ∷ before) text h n i = nodes-read before h.0 h.3 n i

@@ -1,14 +1,13 @@
 -- Sums over names that differ, and the octets of elements by their contents.
-use Rattle.std.proofs.Common.{◌≡◌, ℕ, ◌+◌, ◌≤◌, ◌<◌, ◌/◌, ◌%◌, ◌==◌, Bool, true, false, cond, inl, inr, List, [], ◌∷◌, ◌++◌, map, length, refl, sym, ap, subst, ◌∙◌, arith, true≢false, nat_lt, if◌then◌else◌}
+use Rattle.std.proofs.Common.{◌≡◌, ℕ, ◌+◌, ◌≤◌, ◌<◌, ◌==◌, Bool, true, false, inl, inr, List, [], ◌∷◌, ◌++◌, map, length, refl, sym, ap, subst, ◌∙◌, arith, true≢false, nat_lt, if◌then◌else◌}
 use Rattle.std.specs.List.{sum_by}
-use Rattle.std.specs.Str.{bytes_eq}
 use Rattle.std.specs.Int.{to_be_bytes, byte_at, w32}
 use Rattle.std.proofs.lemmas.Bool.Decides.{nat_tests}
 use Rattle.std.proofs.lemmas.Bool.{cond-true, cond-false}
 use Rattle.std.proofs.lemmas.List.Sums.{sum_by-cons, sum_by-append}
 use Rattle.sv_base.specs.Data.{length_field, without_zeros}
 use Rattle.object_model.proofs.GroupLaws.{Absent, Distinct}
-use Rattle.bay_core.proofs.AmongLaws.{Among, left, right, either, source}
+use Rattle.bay_core.proofs.AmongLaws.{Among, source}
 use Rattle.bay_core.proofs.NamedLaws.{bytes-same}
 
 -- no element stands twice

@@ -1,5 +1,5 @@
 -- The tree that grows of attributes of which no path goes on from where another ends.
-use Rattle.std.proofs.Common.{◌≡◌, ℕ, zero, suc, ◌+◌, ◌<◌, ◌≤◌, ◌==◌, Bool, true, false, cond, ◌⊎◌, inl, inr, List, [], ◌∷◌, ◌++◌, map, length, Option, Some, None, refl, sym, ap, subst, ◌∙◌, arith, true≢false, unwrap_or}
+use Rattle.std.proofs.Common.{◌≡◌, ℕ, zero, suc, ◌<◌, ◌==◌, false, cond, ◌⊎◌, inl, inr, List, [], ◌∷◌, ◌++◌, map, length, Some, None, refl, sym, ap, subst, ◌∙◌, arith, true≢false, unwrap_or}
 use Rattle.std.specs.Option.{option_map}
 use Rattle.std.specs.List.{find}
 use Rattle.std.proofs.lemmas.Bool.Decides.{nat_tests}
@@ -9,10 +9,10 @@ use Rattle.sv_base.specs.declared.types.TypeOf.TheVariants as types
 use Rattle.bay_model.specs.Model.{Role, single, several, attribute}
 use Rattle.bay_model.specs.Generated.{Named}
 use Rattle.bay_model.specs.NameTree.{Forest, nothing, named, first_name, is_itself, below, first_names, role_of, own_type, side_by_side, grown}
-use Rattle.bay_core.proofs.AmongLaws.{Among, Each, each-of, source, mapped}
+use Rattle.bay_core.proofs.AmongLaws.{Among, each-of, source}
 use Rattle.bay_core.proofs.JoinedLaws.{ArePlain, joined, first-joined, joined-some}
-use Rattle.bay_core.proofs.NamedLaws.{first-of, is-first}
-use Rattle.bay_core.proofs.EntryLaws.{Entry, entry, PlainEntry, named_of, at_path, under, below-under, under-of, AreApart, apart-under, plain-under}
+use Rattle.bay_core.proofs.NamedLaws.{first-of}
+use Rattle.bay_core.proofs.EntryLaws.{Entry, PlainEntry, named_of, at_path, under, below-under, under-of, AreApart, apart-under, plain-under}
 use Rattle.bay_core.proofs.FormLaws.{IsNumber, IsPart, IsTree}
 
 pub nil-of : {X : Type 0} (xs : List X) → ((x : X) → Among x xs → ⊥) → xs ≡ []

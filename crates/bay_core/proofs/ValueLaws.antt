@@ -1,8 +1,6 @@
 -- The values that a text gives its attributes: of their types, within their ranges, and sound.
-use Rattle.std.proofs.Common.{◌≡◌, ℕ, ◌+◌, ◌-◌, ◌^◌, ◌<◌, ◌≤◌, ◌==◌, ◌⊎◌, inl, inr, Bool, true, false, cond, ◌&&◌, List, [], ◌∷◌, length, map, Some, slice_get, pos, negsuc, ℤ, nat_le, nat_lt, refl, sym, ap, subst, ◌∙◌, arith, position, is_some, if◌then◌else◌}
-use Rattle.std.specs.Prelude.{int_le, neg_ℤ, codes}
+use Rattle.std.proofs.Common.{◌≡◌, ℕ, ◌<◌, ◌≤◌, ◌==◌, inl, inr, true, ◌&&◌, List, [], ◌∷◌, length, slice_get, pos, negsuc, ℤ, nat_le, nat_lt, refl, sym, ap, subst, arith}
 use Rattle.std.specs.List.{list_all, All}
-use Rattle.std.specs.Str.{bytes_eq}
 use Rattle.std.proofs.lemmas.Bool.{and_parts, and_from}
 use Rattle.std.proofs.lemmas.Bool.Decides.{nat_tests}
 use Rattle.std.proofs.lemmas.List.Elements.{All-cons, All-nil}
@@ -19,7 +17,7 @@ use Rattle.bay_model.specs.Places.{largest}
 use Rattle.object_model.specs.Fits.{is_sound, is_visible}
 use Rattle.value_store.specs.Opened.{HasValue}
 use Rattle.cfg_text.specs.Values.{is_graphic}
-use Rattle.cfg_text.specs.Numbers.{negatives, greatest}
+use Rattle.cfg_text.specs.Numbers.{greatest}
 use Rattle.cfg_text.specs.Grammar.{IsType, FitsInt, IsOfType, AreOfType}
 use Rattle.cfg_text.specs.Sizes.{most_octets}
 
