@@ -16,6 +16,7 @@ pub mod ReadableLaws
 pub mod OfferLaws
 pub mod TakeLaws
 pub mod ReportedLaws
+pub mod ShapeLaws
 pub mod ServedLaws
 pub mod TakenLaws
 pub mod WroteLaws
@@ -41,8 +42,6 @@ pub mod BelowLaws
 pub mod MemberLaws
 pub mod ReferenceLaws
 pub mod ServableLaws
-pub mod ReadLaws
-pub mod ShapeLaws
 pub mod WritableLaws
 pub mod MentionLaws
 pub mod EventLaws

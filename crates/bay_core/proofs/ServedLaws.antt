@@ -22,15 +22,8 @@ use Rattle.data_sets.specs.Booked.{HasNumber, no_row, node_numbers, shape_of}
 use Rattle.data_sets.proofs.SetLaws.{numbers_of_shapes}
 use Rattle.bay_core.specs.Again.{AreNodes}
 use Rattle.bay_core.specs.Servable.{IsServable, IsServedSet, IsMember}
+use Rattle.bay_core.proofs.ShapeLaws.{served-set, members-same}
 use Rattle.bay_core.specs.State.{served_members}
-
--- what holds of the nodes of each set, and of none, holds of those of a set that is looked up
-set-found : (P : List ℕ → Type 0) (test : DataSet → Bool) (ss : List DataSet) → P [] → All (λ (s : DataSet). P s.nodes) ss → P (unwrap_or (option_map (λ (s : DataSet). s.nodes) (find test ss)) [])
-set-found P test [] none all = none
-set-found P test (s ∷ ss) none all = either (test s) (All-head (λ (s : DataSet). P s.nodes) s ss all) (set-found P test ss none (All-tail (λ (s : DataSet). P s.nodes) s ss all)) where
-  either : (t : Bool) → P s.nodes → P (unwrap_or (option_map (λ (s : DataSet). s.nodes) (find test ss)) []) → P (unwrap_or (option_map (λ (s : DataSet). s.nodes) (cond t (Some s) (find test ss))) [])
-  either true h k = h
-  either false h k = k
 
 all-of : {A : Type 0} (P Q : A → Type 0) → ((x : A) → P x → Q x) → (xs : List A) → All P xs → All Q xs
 all-of P Q f [] all = All-nil Q
@@ -40,11 +33,6 @@ all-map : {A B : Type 0} (P : B → Type 0) (f : A → B) (xs : List A) → All 
 all-map P f [] all = All-nil P
 all-map P f (x ∷ xs) all = All-cons P (f x) (map f xs) (All-head (λ x. P (f x)) x xs all) (all-map P f xs (All-tail (λ x. P (f x)) x xs all))
 
--- without dynamic sets, and with the parameters of its configuration, a block has the members that it began with
-pub members-initial : (m : Model) (b : ℕ) (past : Past) → parameters_at m b past ≡ (block_of m b).initial → dynamic past ≡ [] → members m b past ≡ members m b []
-members-initial m b past initial sets = ap (λ o. unwrap_or (option_map (λ (s : DataSet). s.nodes) (set_referred o.dat_set (m.sets ++ dynamic past))) []) initial
-    ∙ ap (λ ds. unwrap_or (option_map (λ (s : DataSet). s.nodes) (set_referred (block_of m b).initial.dat_set (m.sets ++ ds))) []) sets
-
 module _ (c : Config) (served : IsServable c) (b : ℕ) where
   abbrev IsThere : ℕ → Type 0
   IsThere n = n < length (nodes c)
@@ -52,15 +40,11 @@ module _ (c : Config) (served : IsServable c) (b : ℕ) where
   abbrev mine : List ℕ
   mine = members (configured_model c) b []
 
-  looked-up : (P : List ℕ → Type 0) → P [] → ((s : DataSet) → IsServedSet c s → P s.nodes) → P mine
-  looked-up P none each = set-found P _ ((configured_model c).sets ++ []) none
-      (All-append (λ (s : DataSet). P s.nodes) (configured_model c).sets [] (all-of (IsServedSet c) (λ (s : DataSet). P s.nodes) each (configured_model c).sets served.sets) (All-nil (λ (s : DataSet). P s.nodes)))
-
   pub members-there : All IsThere mine
-  members-there = looked-up (All IsThere) (All-nil IsThere) (λ s is. all-of (IsMember c) IsThere (λ n h. h.there) s.nodes is.members)
+  members-there = all-of (IsMember c) IsThere (λ n h. h.there) mine (served-set c b served).members
 
   pub members-few : length mine ≤ 256
-  members-few = looked-up (λ ns. length ns ≤ 256) (omega arith) (λ s is. is.few)
+  members-few = (served-set c b served).few
 
   -- the row of a node has its number
   row-number : (n : ℕ) → n < length (nodes c) → HasNumber (node_rows c) (node_id n)
@@ -85,4 +69,4 @@ module _ (c : Config) (served : IsServable c) (b : ℕ) where
   -- the members of the part are those of the block
   pub served-now : (past : Past) (shapes : List MemberShape) → shapes ≡ served_members c b → parameters_at (configured_model c) b past ≡ (block_of (configured_model c) b).initial → dynamic past ≡ []
       → node_numbers shapes ≡ members (configured_model c) b past
-  served-now past shapes is initial sets = ap node_numbers is ∙ (served-nodes ∙ sym (members-initial (configured_model c) b past initial sets))
+  served-now past shapes is initial sets = ap node_numbers is ∙ (served-nodes ∙ sym (members-same (configured_model c) b past initial sets))

@@ -68,10 +68,12 @@ pub wrote-for : (s u : State) (c : Config) (h : History) (t actor : ℕ) (a : As
 wrote-for s u c h t actor a b comp v part served plain there st none is =
     let past : Past = points (configured_model c) h in
     let told = outcome-told c served (length h) t a b.0 comp v plain past part (st.1.blocks b.0 part there) in
-    let code = ap code_of (sym told) ∙ answered-code a.0 b.0 comp v (write_answer a comp v part) in
-    (ap answers.Wrote (sym code), accepted-as s u (behind s t b.0 (after_write a comp v part (write_answer a comp v part))) c h (record { moment = t; actor = actor; step = steps.Write a b comp v }) st none is
-    (subst (λ o. StandsAt (behind s t b.0 (after_write a comp v part (write_answer a comp v part))) c (suc (length h)) (record { moment = t; step = length h; deed = deed_of o } ∷ past)) told
-    (written-at s c served (length h) t a b.0 comp v plain past part there st.1 (write_answer a comp v part) refl)))
+    let code = ap code_of (sym told) ∙ answered-code a.0 b.0 comp v (write_answer a comp v part) in (
+      ap answers.Wrote (sym code),
+      accepted-as s u (behind s t b.0 (after_write a comp v part (write_answer a comp v part))) c h (record { moment = t; actor = actor; step = steps.Write a b comp v }) st none is
+          (subst (λ o. StandsAt (behind s t b.0 (after_write a comp v part (write_answer a comp v part))) c (suc (length h)) (record { moment = t; step = length h; deed = deed_of o } ∷ past)) told
+          (written-at s c served (length h) t a b.0 comp v plain past part there st.1 (write_answer a comp v part) refl)),
+    )
 
 -- the members of the data set stay
 pub members-stay : (a : AssocNo) (comp : Comp) (v : Value) (part : Part) (r : Result Effect ℕ) → (after_write a comp v part r).members ≡ part.members

@@ -22,7 +22,7 @@ mod NameLaws
 mod LineLaws
 pub mod TellLaws
 pub mod ToldLaws
-mod WholeLaws
+pub mod WholeLaws
 mod FreshLaws
 mod AgainLaws
 mod PlacedLaws

@@ -45,6 +45,12 @@ pub use telling::is_skipped;
 pub use values::{owned, truth, value};
 pub use words::parts_of;
 
+// what the format and the reading have to do with each other
+pub use laws::{
+    lines_are_read_as_the_format_has_them, texts_are_read_as_the_format_has_them,
+    written_configurations_read_as_the_same,
+};
+
 // why a text is no configuration
 pub use fault::{CfgFault, Kind};
 

@@ -20,6 +20,12 @@ pub use pairs::{Pair, Pairs};
 pub use reading::read_line;
 pub use writing::write_line;
 
+// what the format and the reading have to do with each other
+pub use laws::{
+    lines_are_read_as_the_format_has_them, lines_are_refused_as_the_format_has_them,
+    written_lines_read_as_the_same,
+};
+
 // why a line is refused
 pub use fault::{Kind, RecFault};
 

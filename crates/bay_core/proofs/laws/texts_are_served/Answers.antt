@@ -1,4 +1,4 @@
-use Rattle.bay_core.proofs.ReadLaws.{config-told}
+use Rattle.cfg_text.proofs.WholeLaws.{config-told}
 use Rattle.bay_core.proofs.ServableLaws.{texts-are-served}
 use Rattle.bay_core.proofs.laws.texts_are_served.Goals as goal
 
