@@ -9,3 +9,5 @@ pub mod Distinct
 pub mod SettingSteps
 pub mod MarkLaws
 pub mod ChangeLaws
+pub mod OpenLaws
+pub mod FirstValues

@@ -5,4 +5,5 @@ pub mod Turns
 pub mod Offers
 pub mod Parting
 pub mod Changed
+pub mod Opened
 pub mod Marked

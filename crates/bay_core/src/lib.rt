@@ -4,6 +4,7 @@
 mod associations;
 mod bay;
 mod fault;
+mod opening;
 mod part;
 mod values;
 mod writing;
