@@ -13,6 +13,7 @@ use Rattle.sv_base.specs.declared.config.Config.{Config}
 use Rattle.sv_base.specs.declared.config.BlockDef.{BlockDef}
 use Rattle.sv_base.specs.declared.numbers.NodeId.{NodeId}
 use Rattle.bay_model.specs.declared.tables.MemberShape.{MemberShape}
+use Rattle.bay_model.specs.declared.tables.NodeRow.{NodeRow}
 use Rattle.bay_model.specs.declared.tables.SetRow.{SetRow}
 use Rattle.bay_model.specs.Configured.{block_defined}
 use Rattle.bay_model.specs.Lookups.{block_of, no_parameters, reference_of}
@@ -83,6 +84,13 @@ pub sets-there : (c : Config) → IsServable c → AllThere (length (node_rows c
 sets-there c served = All-map (λ (r : SetRow). AreThere (length (node_rows c)) r.nodes) set_row (configured_model c).sets (λ k d below.
     All-map (λ (n : NodeId). n.0 < length (node_rows c)) node_id (slice_index_or (configured_model c).sets k d).nodes (λ j e within.
         omega (arith, ((served.sets k d below).members j e within).there, count-rows c)))
+
+-- and so are those of the set that a reference names
+pub referred-there : (c : Config) (table : List SetRow) (reference : List ℕ) (row : SetRow) (found : List NodeId) (rows : List NodeRow) → IsServable c → table ≡ set_rows c → row_referred reference table ≡ Some row
+    → found ≡ row.nodes → rows ≡ node_rows c → AreThere (length rows) found
+referred-there c table reference row found rows served tables is nodes all =
+    let there = found-has (λ (r : SetRow). AreThere (length (node_rows c)) r.nodes) reference table (subst (AllThere (length (node_rows c))) (sym tables) (sets-there c served)) row is in
+    subst (AreThere (length rows)) (sym nodes) (subst (λ (l : List NodeRow). AreThere (length l) row.nodes) (sym all) there)
 
 -- the nodes of a row's data set are those of the model's
 pub nodes-by : (t : Bool) (s : DataSet) (other : Option DataSet) (others : Option SetRow)
