@@ -29,7 +29,7 @@ use Rattle.bay_core.proofs.ChangeLaws.{types-count}
 
 -- ---- their kinds
 
-kind_held : Stored → Kind
+abbrev kind_held : Stored → Kind
 kind_held s = s.held.kind
 
 lines-kinds : (f : AttrDef → Stored) → ((a : AttrDef) → (f a).held.kind ≡ kind_of a.kind) → (as_ : List AttrDef) → map kind_held (map f as_) ≡ map kind_of (map (λ (a : AttrDef). a.kind) as_)

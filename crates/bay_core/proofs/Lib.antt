@@ -11,3 +11,4 @@ pub mod MarkLaws
 pub mod ChangeLaws
 pub mod OpenLaws
 pub mod FirstValues
+pub mod FirstState

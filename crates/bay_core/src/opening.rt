@@ -1,12 +1,15 @@
 //! A bay is opened.
 
-ghost use Rattle.std.specs.Prelude.{◌≡◌, ◌∷◌, IfOk, length, map, option_copied};
+ghost use Rattle.std.specs.Prelude.{◌≡◌, ◌∷◌, [], IfOk, map, option_copied, replicate};
 ghost use Rattle.std.specs.Str.{bytes_eq};
 ghost use Rattle.bay_model.specs.Lookups.{reference_of};
 ghost use Rattle.object_model.specs.Nodes.{node_rows};
 ghost use Rattle.object_model.specs.Tables.{set_rows};
 ghost use Rattle.data_sets.specs.Booked.{shapes_of as shapes};
+ghost use Rattle.assoc_table.specs.Seats.{closed};
+ghost use Rattle.value_store.specs.Opened.{opened};
 ghost use Rattle.bay_core.specs.Servable.{IsServable, IsServedBlock};
+ghost use Rattle.bay_core.specs.Standing.{StandsFor};
 ghost use Rattle.bay_core.specs.Opened.{row_referred, nodes_referred, seen, part_defined};
 
 use crate::bay::Bay;
@@ -88,6 +91,37 @@ fn parts_of(alloc: Global, model: &Model) -> Result<Vec<Part>, AllocError>
     Ok(parts)
 }
 
+/// A bay of these parts, with no step made.
+fn begun(
+    model: Model,
+    values: Values,
+    parts: Vec<Part>,
+    associations: Assocs,
+    note: Note,
+    kept: Fixed,
+) -> Bay
+    requires servable { IsServable model }
+    requires values { values ≡ opened model }
+    requires parts { map seen parts.items ≡ map (part_defined model) model.blocks }
+    requires associations { associations ≡ replicate 16 closed }
+    requires note { note.room ≡ 256 }
+    requires kept { kept.room ≡ 129024 }
+    ensures config { result.config ≡ model }
+    ensures steps { result.steps ≡ 0 }
+    ensures stands { StandsFor result model [] }
+{
+    Bay {
+        model,
+        steps: 0,
+        latest: Moment::first(),
+        values,
+        parts,
+        associations,
+        note,
+        kept,
+    }
+}
+
 impl Bay {
     ghost use Rattle.std.specs.Prelude.{◌≡◌, [], IfOk};
     ghost use Rattle.bay_core.specs.Servable.{IsServable};
@@ -105,15 +139,6 @@ impl Bay {
         let associations = Assocs::open(alloc)?;
         let note = Note::new(alloc, 256)?;
         let kept = Fixed::new(alloc, 129024)?;
-        Ok(Bay {
-            model,
-            steps: 0,
-            latest: Moment::first(),
-            values,
-            parts,
-            associations,
-            note,
-            kept,
-        })
+        Ok(begun(model, values, parts, associations, note, kept))
     }
 }
