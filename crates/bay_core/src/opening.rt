@@ -91,21 +91,42 @@ fn parts_of(alloc: Global, model: &Model) -> Result<Vec<Part>, AllocError>
     Ok(parts)
 }
 
-/// A bay of these parts, with no step made.
-fn begun(
-    model: Model,
+/// What a bay has besides its model.
+#[derive(Drop)]
+struct Made {
     values: Values,
     parts: Vec<Part>,
     associations: Assocs,
     note: Note,
     kept: Fixed,
-) -> Bay
+}
+
+/// The values and the blocks as they are configured, no open association, and the room that notes and entries need.
+fn parts_made(alloc: Global, model: &Model) -> Result<Made, AllocError>
+    requires { IsServable model.now }
+    ensures values { IfOk result (λ m. m.values ≡ opened model.now) }
+    ensures parts { IfOk result (λ m. map seen m.parts.items ≡ map (part_defined model.now) model.now.blocks) }
+    ensures associations { IfOk result (λ m. m.associations ≡ replicate 16 closed) }
+    ensures note { IfOk result (λ m. m.note.room ≡ 256) }
+    ensures kept { IfOk result (λ m. m.kept.room ≡ 129024) }
+{
+    Ok(Made {
+        values: Values::open(alloc, model.config())?,
+        parts: parts_of(alloc, model)?,
+        associations: Assocs::open(alloc)?,
+        note: Note::new(alloc, 256)?,
+        kept: Fixed::new(alloc, 129024)?,
+    })
+}
+
+/// A bay of a model and what was made for it, with no step made.
+fn begun(model: Model, made: Made) -> Bay
     requires servable { IsServable model }
-    requires values { values ≡ opened model }
-    requires parts { map seen parts.items ≡ map (part_defined model) model.blocks }
-    requires associations { associations ≡ replicate 16 closed }
-    requires note { note.room ≡ 256 }
-    requires kept { kept.room ≡ 129024 }
+    requires values { made.values ≡ opened model }
+    requires parts { map seen made.parts.items ≡ map (part_defined model) model.blocks }
+    requires associations { made.associations ≡ replicate 16 closed }
+    requires note { made.note.room ≡ 256 }
+    requires kept { made.kept.room ≡ 129024 }
     ensures config { result.config ≡ model }
     ensures steps { result.steps ≡ 0 }
     ensures stands { StandsFor result model [] }
@@ -114,11 +135,11 @@ fn begun(
         model,
         steps: 0,
         latest: Moment::first(),
-        values,
-        parts,
-        associations,
-        note,
-        kept,
+        values: made.values,
+        parts: made.parts,
+        associations: made.associations,
+        note: made.note,
+        kept: made.kept,
     }
 }
 
@@ -134,11 +155,7 @@ impl Bay {
         ensures steps { IfOk result (λ b. b.steps ≡ 0) }
         ensures stands { IfOk result (λ b. StandsFor b model []) }
     {
-        let values = Values::open(alloc, model.config())?;
-        let parts = parts_of(alloc, &model)?;
-        let associations = Assocs::open(alloc)?;
-        let note = Note::new(alloc, 256)?;
-        let kept = Fixed::new(alloc, 129024)?;
-        Ok(begun(model, values, parts, associations, note, kept))
+        let made = parts_made(alloc, &model)?;
+        Ok(begun(model, made))
     }
 }
