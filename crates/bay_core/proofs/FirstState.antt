@@ -6,7 +6,7 @@ use Rattle.bay_model.specs.Named.{configured_model}
 use Rattle.bay_model.specs.Points.{now}
 use Rattle.bay_model.specs.Rooms.{Filled}
 use Rattle.bay_model.specs.declared.note.Mention.{Mention}
-use Rattle.assoc_table.specs.Seats.{Row, closed}
+use Rattle.assoc_table.specs.Seats.{closed}
 use Rattle.assoc_table.specs.Standing.{Stands as AssociationsStand}
 use Rattle.assoc_table.proofs.StandLaws.{stands-empty}
 use Rattle.value_store.specs.Opened.{opened}
@@ -16,7 +16,7 @@ use Rattle.value_store.proofs.OpenedLaws.{opened_stands}
 use Rattle.bay_core.specs.declared.part.Part.{Part}
 use Rattle.bay_core.specs.Opened.{seen, part_defined}
 use Rattle.bay_core.specs.Servable.{IsServable}
-use Rattle.bay_core.specs.Standing.{StandsAt, StandsFor}
+use Rattle.bay_core.specs.Standing.{StandsFor}
 use Rattle.bay_core.specs.State.{State, IsFurnished, AreHeld}
 use Rattle.bay_core.proofs.FirstValues.{opened-held}
 use Rattle.bay_core.proofs.OpenLaws.{parts-members, parts-stand}
@@ -34,13 +34,16 @@ furnished-first c stored parts mentions octets served values are note kept = rec
 
 pub stands-first : (s : State) (c : Config) → IsServable c → s.config ≡ c → s.steps ≡ 0 → s.latest ≡ now [] → s.stored ≡ opened c
     → map seen s.parts ≡ map (part_defined c) c.blocks → s.rows ≡ replicate 16 closed → StandsFor s c []
-stands-first s c served config steps latest values are rows = (tt, record {
-  is_config = config;
-  is_steps = steps;
-  is_latest = latest;
-  values = subst (λ all. ValuesStand all (configured_model c) []) (sym values) (opened_stands c served.domains);
-  associations = subst (λ all. AssociationsStand all (configured_model c) []) (sym rows) (stands-empty (configured_model c));
-  empty = λ a. refl;
-  sets = refl;
-  blocks = parts-stand c s.parts are;
-})
+stands-first s c served config steps latest values are rows = (
+  tt,
+  record {
+    is_config = config;
+    is_steps = steps;
+    is_latest = latest;
+    values = subst (λ all. ValuesStand all (configured_model c) []) (sym values) (opened_stands c served.domains);
+    associations = subst (λ all. AssociationsStand all (configured_model c) []) (sym rows) (stands-empty (configured_model c));
+    empty = λ a. refl;
+    sets = refl;
+    blocks = parts-stand c s.parts are;
+  },
+)

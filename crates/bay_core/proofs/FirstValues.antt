@@ -1,6 +1,6 @@
 -- The configured values of the attributes: each is of its attribute's type, and sound.
-use Rattle.std.proofs.Common.{◌≡◌, ◌<◌, ℕ, List, [], ◌∷◌, ◌++◌, map, flat_map, filter, length, Option, Some, unwrap_or, refl, ap, ap₂, sym, ◌∙◌, subst, arith, Bool, true, false}
-use Rattle.std.specs.Prelude.{slice_get, slice_index_or}
+use Rattle.std.proofs.Common.{◌≡◌, ◌<◌, ℕ, List, [], ◌∷◌, ◌++◌, map, flat_map, filter, length, unwrap_or, refl, ap, ap₂, sym, ◌∙◌, subst, arith, Bool, false}
+use Rattle.std.specs.Prelude.{slice_index_or}
 use Rattle.std.specs.List.{All}
 use Rattle.std.proofs.lemmas.List.{map-append, get_or-map}
 use Rattle.std.proofs.lemmas.List.Elements.{All-append, All-map, All-filter, All-nil}
@@ -11,19 +11,17 @@ use Rattle.sv_base.specs.declared.config.AttrDef.{AttrDef}
 use Rattle.sv_base.specs.declared.config.CtlDef.{CtlDef}
 use Rattle.sv_base.specs.declared.types.TypeOf.{TypeOf}
 use Rattle.sv_base.specs.declared.types.TypeOf.TheVariants as types
-use Rattle.sv_base.specs.declared.value.Value.{Value}
 use Rattle.sv_base.specs.declared.value.Value.TheVariants as kinds
-use Rattle.bay_model.specs.Attributes.{attributes}
 use Rattle.bay_model.specs.Configured.{kind_of}
 use Rattle.bay_model.specs.Generated.{Parameter, parameters}
 use Rattle.bay_model.specs.Kinds.{is_kind, is_in_range}
 use Rattle.bay_model.specs.Model.{Kind}
 use Rattle.bay_model.specs.NamedLines.{is_setting}
 use Rattle.object_model.specs.Fits.{attr_types, is_sound}
-use Rattle.value_store.specs.Opened.{HasValue, IsStorable, value_in, stored_line, stored_twin, stored_control, stored_parameter, place_in, is_written, opened}
-use Rattle.value_store.specs.Stored.{Stored, attribute, no_attribute}
+use Rattle.value_store.specs.Opened.{HasValue, value_in, stored_line, stored_twin, stored_control, stored_parameter, place_in, is_written, opened}
+use Rattle.value_store.specs.Stored.{Stored, no_attribute}
 use Rattle.value_store.proofs.OpenedLaws.{length_opened}
-use Rattle.bay_core.specs.Servable.{IsServable, HasSoundValues, attr_type}
+use Rattle.bay_core.specs.Servable.{IsServable, HasSoundValues}
 use Rattle.bay_core.specs.State.{AreHeld, IsSoundCell}
 use Rattle.bay_core.proofs.ChangeLaws.{types-count}
 
@@ -76,11 +74,11 @@ line-sound a place w has sound =
 opened-sound : (c : Config) → IsServable c → All IsSoundStored (opened c)
 opened-sound c served = All-append IsSoundStored (map (λ a. stored_line a (place_in c a) (is_written a)) c.attrs) (flat_map stored_control c.controls ++ map stored_twin (filter is_setting c.attrs))
     (All-map IsSoundStored (λ a. stored_line a (place_in c a) (is_written a)) c.attrs (λ k d below.
-        line-sound (slice_index_or c.attrs k d) (place_in c (slice_index_or c.attrs k d)) (is_written (slice_index_or c.attrs k d)) (served.storable.lines k d below) (served.sound k d below)))
+    line-sound (slice_index_or c.attrs k d) (place_in c (slice_index_or c.attrs k d)) (is_written (slice_index_or c.attrs k d)) (served.storable.lines k d below) (served.sound k d below)))
     (All-append IsSoundStored (flat_map stored_control c.controls) (map stored_twin (filter is_setting c.attrs))
     (subst (λ ks. All IsSoundStored (flat_map stored_control ks)) (sym served.controls) (All-nil IsSoundStored))
     (All-map IsSoundStored stored_twin (filter is_setting c.attrs) (All-filter is_setting (λ a. IsSoundStored (stored_twin a)) c.attrs (λ k d below.
-        line-sound (slice_index_or c.attrs k d) 0 false (served.storable.twins k d below) (served.sound k d below)))))
+    line-sound (slice_index_or c.attrs k d) 0 false (served.storable.twins k d below) (served.sound k d below)))))
 
 -- the values that a configuration gives its attributes
 pub opened-held : (c : Config) → IsServable c → AreHeld c (opened c)

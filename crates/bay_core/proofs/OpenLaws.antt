@@ -1,8 +1,8 @@
 -- How a bay begins: what is found by a DatSet, and what each block stands for.
-use Rattle.std.proofs.Common.{◌≡◌, ◌≢◌, ◌<◌, ◌≤◌, ℕ, zero, suc, ◌+◌, Bool, true, false, cond, ◌&&◌, List, [], ◌∷◌, ◌++◌, map, length, drop, Option, None, Some, unwrap_or, refl, ap, ap₂, sym, ◌∙◌, subst, arith, if◌then◌else◌, ◌⊎◌, inl, inr}
+use Rattle.std.proofs.Common.{◌≡◌, ◌≢◌, ◌<◌, ℕ, ◌+◌, Bool, true, false, cond, ◌&&◌, List, [], ◌∷◌, ◌++◌, map, length, drop, Option, Some, unwrap_or, refl, ap, ap₂, sym, ◌∙◌, subst, arith}
 use Rattle.std.specs.Prelude.{slice_get, slice_index_or}
 use Rattle.std.specs.Option.{option_map}
-use Rattle.std.specs.List.{find, All}
+use Rattle.std.specs.List.{All}
 use Rattle.std.specs.Str.{bytes_eq}
 use Rattle.std.proofs.lemmas.Bool.Decides.{Decides-eqb}
 use Rattle.std.proofs.lemmas.List.{append-nil, at_drop_more}
@@ -12,27 +12,24 @@ use Rattle.std.proofs.lemmas.Slice.Eq.{bytes_eq-Decides}
 use Rattle.sv_base.specs.declared.config.Config.{Config}
 use Rattle.sv_base.specs.declared.config.BlockDef.{BlockDef}
 use Rattle.sv_base.specs.declared.numbers.NodeId.{NodeId}
-use Rattle.bay_model.specs.declared.tables.MemberShape.{MemberShape}
 use Rattle.bay_model.specs.declared.tables.NodeRow.{NodeRow}
 use Rattle.bay_model.specs.declared.tables.SetRow.{SetRow}
 use Rattle.bay_model.specs.Configured.{block_defined}
 use Rattle.bay_model.specs.Lookups.{block_of, no_parameters, reference_of}
 use Rattle.bay_model.specs.Model.{Model, Block, DataSet}
 use Rattle.bay_model.specs.Named.{configured_model}
-use Rattle.bay_model.specs.Sets.{set_referred, members}
+use Rattle.bay_model.specs.Sets.{set_referred}
 use Rattle.object_model.specs.Nodes.{node_rows}
 use Rattle.object_model.specs.Tables.{node_id, set_row, set_rows}
 use Rattle.object_model.proofs.TableLaws.{count-rows}
 use Rattle.data_sets.specs.Booked.{shapes_of, AreThere, AllThere}
 use Rattle.brcb_state.specs.Changes.{configured}
 use Rattle.brcb_state.specs.Standing.{Stands as BlockStands}
-use Rattle.brcb_state.specs.declared.block.Block.{Block as BlockState}
-use Rattle.entry_ring.specs.Ringed.{Ringed}
 use Rattle.entry_ring.specs.Standing.{Holds, empty}
 use Rattle.entry_ring.proofs.HoldLaws.{holds-opened}
 use Rattle.bay_core.specs.declared.part.Part.{Part}
 use Rattle.bay_core.specs.Opened.{is_referred, row_referred, nodes_referred, PartSeen, seen, part_defined}
-use Rattle.bay_core.specs.Servable.{IsServable, IsServedSet}
+use Rattle.bay_core.specs.Servable.{IsServable}
 use Rattle.bay_core.specs.State.{served_members}
 use Rattle.bay_core.specs.Standing.{PartStands, PartsStand, IsReadable}
 use Rattle.bay_core.proofs.EachLaws.{got-map}
@@ -83,7 +80,7 @@ found-has P reference (r ∷ rows) all row is = either (is_referred reference r)
 pub sets-there : (c : Config) → IsServable c → AllThere (length (node_rows c)) (set_rows c)
 sets-there c served = All-map (λ (r : SetRow). AreThere (length (node_rows c)) r.nodes) set_row (configured_model c).sets (λ k d below.
     All-map (λ (n : NodeId). n.0 < length (node_rows c)) node_id (slice_index_or (configured_model c).sets k d).nodes (λ j e within.
-        omega (arith, ((served.sets k d below).members j e within).there, count-rows c)))
+    omega (arith, ((served.sets k d below).members j e within).there, count-rows c)))
 
 -- and so are those of the set that a reference names
 pub referred-there : (c : Config) (table : List SetRow) (reference : List ℕ) (row : SetRow) (found : List NodeId) (rows : List NodeRow) → IsServable c → table ≡ set_rows c → row_referred reference table ≡ Some row

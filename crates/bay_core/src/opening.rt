@@ -55,11 +55,7 @@ fn referred<'a>(rows: &'a [SetRow], reference: &[u8]) -> Option<&'a SetRow>
 }
 
 /// The shapes of the members of the data set that a block's DatSet names; none where it names none.
-fn members_of(
-    alloc: Global,
-    model: &Model,
-    def: &BlockDef,
-) -> Result<Vec<MemberShape>, AllocError>
+fn members_of(alloc: Global, model: &Model, def: &BlockDef) -> Result<Vec<MemberShape>, AllocError>
     requires { IsServable model.now }
     ensures { IfOk result (λ v. v.items ≡ shapes (node_rows model.now) (nodes_referred def.now.dat_set (set_rows model.now))) }
 {

@@ -19,8 +19,10 @@ invariant_of-self c = subst (λ ps. IsFurnished c.self.inside.model c.self.insid
 pub returns : goal.returns
 returns c = λ c' h was.
     let st = subst (λ s. StandsFor s c' h) (sym c.self.view_is) was in
-    let there = ends-told (configured_model c') c.self.inside.associations (points (configured_model c') h) c.args.a.0 c.in-Some.opener c.in-Some-writer.writer st.1.associations c.requires.number (sym c.opener.ensures ∙ c.in-Some.is) (sym c.writer.ensures ∙ c.in-Some-writer.is) in
-    (refl, accepted-as _ c.advance.new.self _ c' h (record { moment = c.args.moment; actor = c.args.actor.0; step = steps.Lost c.args.a }) st
-    (lost-fault (configured_model c') (points (configured_model c') h) c.args.actor.0 c.args.a.0 c.in-Some.opener.0 c.in-Some-writer.writer.0 there (yours-told c.args.actor.0 c.in-Some.opener.0 c.in-Some-writer.writer.0 c.else-actor-opener.either))
-    (c.advance.ensures.moved ∙ ap₂ (λ ps rs. record { config = c.self.inside.model; steps = suc c.self.inside.steps; latest = max c.self.inside.latest c.args.moment; stored = c.self.inside.values; parts = ps; rows = rs }) c.lose_all.ensures c.end.ensures)
-    (lost-at _ c' _ c.args.moment c.args.a (points (configured_model c') h) (subst IsServable st.1.is_config c.advance.ensures.served) c.requires.number st.1))
+    let there = ends-told (configured_model c') c.self.inside.associations (points (configured_model c') h) c.args.a.0 c.in-Some.opener c.in-Some-writer.writer st.1.associations c.requires.number (sym c.opener.ensures ∙ c.in-Some.is) (sym c.writer.ensures ∙ c.in-Some-writer.is) in (
+      refl,
+      accepted-as _ c.advance.new.self _ c' h (record { moment = c.args.moment; actor = c.args.actor.0; step = steps.Lost c.args.a }) st
+          (lost-fault (configured_model c') (points (configured_model c') h) c.args.actor.0 c.args.a.0 c.in-Some.opener.0 c.in-Some-writer.writer.0 there (yours-told c.args.actor.0 c.in-Some.opener.0 c.in-Some-writer.writer.0 c.else-actor-opener.either))
+          (c.advance.ensures.moved ∙ ap₂ (λ ps rs. record { config = c.self.inside.model; steps = suc c.self.inside.steps; latest = max c.self.inside.latest c.args.moment; stored = c.self.inside.values; parts = ps; rows = rs }) c.lose_all.ensures c.end.ensures)
+          (lost-at _ c' _ c.args.moment c.args.a (points (configured_model c') h) (subst IsServable st.1.is_config c.advance.ensures.served) c.requires.number st.1),
+    )
