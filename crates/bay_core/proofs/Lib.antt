@@ -46,3 +46,6 @@ pub mod WritableLaws
 pub mod MentionLaws
 pub mod EventLaws
 pub mod SettingLaws
+pub mod OpenLaws
+pub mod FirstValues
+pub mod FirstState

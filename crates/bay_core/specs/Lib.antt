@@ -5,6 +5,7 @@ pub mod Turns
 pub mod Offers
 pub mod Parting
 pub mod Changed
+pub mod Opened
 pub mod Marked
 pub mod Kept
 pub mod Again

@@ -1,5 +1,5 @@
 -- What writes, reports and losses make of a block with its buffer (IEC 61850-7-2, BRCB attributes).
-use Rattle.std.specs.Prelude.{ℕ, List, [], ◌∷◌, map, false, Result, Ok, Err, if◌then◌else◌}
+use Rattle.std.specs.Prelude.{ℕ, List, map, false, Result, Ok, Err, if◌then◌else◌}
 use Rattle.sv_base.specs.declared.numbers.AssocNo.{AssocNo}
 use Rattle.sv_base.specs.declared.value.Value.{Value}
 use Rattle.bay_model.specs.declared.step.Comp.{Comp}

@@ -7,6 +7,7 @@ mod fault;
 mod kept;
 mod laws;
 mod members;
+mod opening;
 mod part;
 mod setting;
 mod step;

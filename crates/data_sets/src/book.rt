@@ -51,7 +51,7 @@ fn shape_of(alloc: Global, node: NodeId, rows: &[NodeRow]) -> Result<MemberShape
 }
 
 /// The shapes of nodes by their numbers.
-fn shapes_of(
+pub fn shapes_of(
     alloc: Global,
     nodes: &[NodeId],
     rows: &[NodeRow],

@@ -4,7 +4,7 @@
 mod book;
 mod laws;
 
-pub use book::SetBook;
+pub use book::{SetBook, shapes_of};
 pub use laws::sets_are_the_definition;
 
 #[cfg(test)]

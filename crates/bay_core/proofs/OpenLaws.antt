@@ -1,0 +1,152 @@
+-- How a bay begins: what is found by a DatSet, and what each block stands for.
+use Rattle.std.proofs.Common.{◌≡◌, ◌≢◌, ◌<◌, ℕ, ◌+◌, Bool, true, false, cond, ◌&&◌, List, [], ◌∷◌, ◌++◌, map, length, drop, Option, Some, unwrap_or, refl, ap, ap₂, sym, ◌∙◌, subst, arith}
+use Rattle.std.specs.Prelude.{slice_get, slice_index_or}
+use Rattle.std.specs.Option.{option_map}
+use Rattle.std.specs.List.{All}
+use Rattle.std.specs.Str.{bytes_eq}
+use Rattle.std.proofs.lemmas.Bool.Decides.{Decides-eqb}
+use Rattle.std.proofs.lemmas.List.{append-nil, at_drop_more}
+use Rattle.std.proofs.lemmas.List.Elements.{All-map, All-head, All-tail, All-nil}
+use Rattle.std.proofs.lemmas.Option.{slice_get-map}
+use Rattle.std.proofs.lemmas.Slice.Eq.{bytes_eq-Decides}
+use Rattle.sv_base.specs.declared.config.Config.{Config}
+use Rattle.sv_base.specs.declared.config.BlockDef.{BlockDef}
+use Rattle.sv_base.specs.declared.numbers.NodeId.{NodeId}
+use Rattle.bay_model.specs.declared.tables.NodeRow.{NodeRow}
+use Rattle.bay_model.specs.declared.tables.SetRow.{SetRow}
+use Rattle.bay_model.specs.Configured.{block_defined}
+use Rattle.bay_model.specs.Lookups.{block_of, no_parameters, reference_of}
+use Rattle.bay_model.specs.Model.{Model, Block, DataSet}
+use Rattle.bay_model.specs.Named.{configured_model}
+use Rattle.bay_model.specs.Sets.{set_referred}
+use Rattle.object_model.specs.Nodes.{node_rows}
+use Rattle.object_model.specs.Tables.{node_id, set_row, set_rows}
+use Rattle.object_model.proofs.TableLaws.{count-rows}
+use Rattle.data_sets.specs.Booked.{shapes_of, AreThere, AllThere}
+use Rattle.brcb_state.specs.Changes.{configured}
+use Rattle.brcb_state.specs.Standing.{Stands as BlockStands}
+use Rattle.entry_ring.specs.Standing.{Holds, empty}
+use Rattle.entry_ring.proofs.HoldLaws.{holds-opened}
+use Rattle.bay_core.specs.declared.part.Part.{Part}
+use Rattle.bay_core.specs.Opened.{is_referred, row_referred, nodes_referred, PartSeen, seen, part_defined}
+use Rattle.bay_core.specs.Servable.{IsServable}
+use Rattle.bay_core.specs.State.{served_members}
+use Rattle.bay_core.specs.Standing.{PartStands, PartsStand, IsReadable}
+use Rattle.bay_core.proofs.EachLaws.{got-map}
+
+-- ---- references
+
+-- what stands behind the same octets
+pub behind-same : (d xs ys : List ℕ) → bytes_eq (d ++ xs) (d ++ ys) ≡ bytes_eq xs ys
+behind-same [] xs ys = refl
+behind-same (o ∷ d) xs ys = ap₂ (λ s t. s && t) ((Decides-eqb o o).1 refl) (behind-same d xs ys)
+
+-- what begins otherwise is another
+pub behind-other : (octets d xs : List ℕ) → ((rest : List ℕ) → octets ≢ d ++ rest) → bytes_eq octets (d ++ xs) ≡ false
+behind-other octets d xs other = either (bytes_eq octets (d ++ xs)) refl where
+  either : (t : Bool) → bytes_eq octets (d ++ xs) ≡ t → t ≡ false
+  either true is = absurd (other xs (grind (arith, bytes_eq-Decides octets (d ++ xs), is)))
+  either false is = refl
+
+pub is-reference : (octets d domain i item rest : List ℕ) (t : Bool) → octets ≡ d ++ rest → d ≡ domain → i ≡ item → t ≡ bytes_eq rest (47 ∷ i) → t ≡ bytes_eq octets (reference_of domain item)
+is-reference octets d domain i item rest t begins front back told = told ∙ (ap (λ x. bytes_eq rest (47 ∷ x)) back
+    ∙ (sym (behind-same d rest (47 ∷ item)) ∙ ap₂ (λ x y. bytes_eq x (y ++ 47 ∷ item)) (sym begins) front))
+
+pub no-reference : (octets d domain item : List ℕ) → d ≡ domain → ((rest : List ℕ) → octets ≢ d ++ rest) → false ≡ bytes_eq octets (reference_of domain item)
+no-reference octets d domain item front other = sym (behind-other octets d (47 ∷ item) other) ∙ ap (λ x. bytes_eq octets (x ++ 47 ∷ item)) front
+
+-- ---- the data set of a reference
+
+-- the row found so far is none
+pub none-before : (reference : List ℕ) (rows : List SetRow) (i : ℕ) (row : SetRow) → i < length rows → row ≡ slice_index_or rows i row → is_referred reference row ≡ false
+    → row_referred reference (drop i rows) ≡ row_referred reference (drop (i + 1) rows)
+none-before reference rows i row below is other = at_drop_more (row_referred reference) rows i row below
+    ∙ ap (λ t. cond t (Some (slice_index_or rows i row)) (row_referred reference (drop (i + 1) rows))) (ap (is_referred reference) (sym is) ∙ other)
+
+pub found-here : (reference : List ℕ) (rows : List SetRow) (i : ℕ) (row : SetRow) → i < length rows → row ≡ slice_index_or rows i row → is_referred reference row ≡ true
+    → row_referred reference (drop i rows) ≡ Some row
+found-here reference rows i row below is same = at_drop_more (row_referred reference) rows i row below
+    ∙ (ap (λ t. cond t (Some (slice_index_or rows i row)) (row_referred reference (drop (i + 1) rows))) (ap (is_referred reference) (sym is) ∙ same) ∙ ap Some (sym is))
+
+-- what holds of each row holds of the one that is found
+pub found-has : (P : SetRow → Type 0) (reference : List ℕ) (rows : List SetRow) → All P rows → (row : SetRow) → row_referred reference rows ≡ Some row → P row
+found-has P reference [] all row is = cc
+found-has P reference (r ∷ rows) all row is = either (is_referred reference r) (found-has P reference rows (All-tail P r rows all) row) is where
+  either : (t : Bool) → (row_referred reference rows ≡ Some row → P row) → cond t (Some r) (row_referred reference rows) ≡ Some row → P row
+  either true later is = let same : r ≡ row = cc in subst P same (All-head P r rows all)
+  either false later is = later is
+
+-- the nodes of a configuration's data sets are among its nodes
+pub sets-there : (c : Config) → IsServable c → AllThere (length (node_rows c)) (set_rows c)
+sets-there c served = All-map (λ (r : SetRow). AreThere (length (node_rows c)) r.nodes) set_row (configured_model c).sets (λ k d below.
+    All-map (λ (n : NodeId). n.0 < length (node_rows c)) node_id (slice_index_or (configured_model c).sets k d).nodes (λ j e within.
+    omega (arith, ((served.sets k d below).members j e within).there, count-rows c)))
+
+-- and so are those of the set that a reference names
+pub referred-there : (c : Config) (table : List SetRow) (reference : List ℕ) (row : SetRow) (found : List NodeId) (rows : List NodeRow) → IsServable c → table ≡ set_rows c → row_referred reference table ≡ Some row
+    → found ≡ row.nodes → rows ≡ node_rows c → AreThere (length rows) found
+referred-there c table reference row found rows served tables is nodes all =
+    let there = found-has (λ (r : SetRow). AreThere (length (node_rows c)) r.nodes) reference table (subst (AllThere (length (node_rows c))) (sym tables) (sets-there c served)) row is in
+    subst (AreThere (length rows)) (sym nodes) (subst (λ (l : List NodeRow). AreThere (length l) row.nodes) (sym all) there)
+
+-- the nodes of a row's data set are those of the model's
+pub nodes-by : (t : Bool) (s : DataSet) (other : Option DataSet) (others : Option SetRow)
+    → map node_id (unwrap_or (option_map (λ (s : DataSet). s.nodes) other) []) ≡ unwrap_or (option_map (λ (r : SetRow). r.nodes) others) []
+    → map node_id (unwrap_or (option_map (λ (s : DataSet). s.nodes) (cond t (Some s) other)) []) ≡ unwrap_or (option_map (λ (r : SetRow). r.nodes) (cond t (Some (set_row s)) others)) []
+nodes-by true s other others same = refl
+nodes-by false s other others same = same
+
+pub nodes-same : (reference : List ℕ) (sets : List DataSet) → map node_id (unwrap_or (option_map (λ (s : DataSet). s.nodes) (set_referred reference sets)) []) ≡ nodes_referred reference (map set_row sets)
+nodes-same reference [] = refl
+nodes-same reference (s ∷ sets) = nodes-by (bytes_eq reference (reference_of s.domain s.item)) s (set_referred reference sets) (row_referred reference (map set_row sets)) (nodes-same reference sets)
+
+-- ---- a block by its number
+
+looked-up : {A B : Type 0} (f : A → B) (xs : List A) (n : ℕ) (x : A) (other : B) → slice_get xs n ≡ Some x → unwrap_or (slice_get (map f xs) n) other ≡ f x
+looked-up f xs n x other is = ap (λ o. unwrap_or o other) (slice_get-map f xs n ∙ ap (option_map f) is)
+
+pub block-defined : (c : Config) (b : ℕ) (def : BlockDef) → slice_get c.blocks b ≡ Some def → block_of (configured_model c) b ≡ block_defined def
+block-defined c b def is = looked-up block_defined c.blocks b def (record { reference = []; initial = no_parameters; conf_rev = 1; capacity = 0 }) is
+
+-- the members of its data set
+members-by : (c : Config) (k : Block) (def : BlockDef) → k ≡ block_defined def
+    → shapes_of (node_rows c) (map node_id (unwrap_or (option_map (λ (s : DataSet). s.nodes) (set_referred k.initial.dat_set ((configured_model c).sets ++ []))) [])) ≡ shapes_of (node_rows c) (nodes_referred def.dat_set (set_rows c))
+members-by c k def is = ap (λ (b : Block). shapes_of (node_rows c) (map node_id (unwrap_or (option_map (λ (s : DataSet). s.nodes) (set_referred b.initial.dat_set ((configured_model c).sets ++ []))) []))) is
+    ∙ (ap (λ sets. shapes_of (node_rows c) (map node_id (unwrap_or (option_map (λ (s : DataSet). s.nodes) (set_referred def.dat_set sets)) []))) (append-nil (configured_model c).sets)
+    ∙ ap (shapes_of (node_rows c)) (nodes-same def.dat_set (configured_model c).sets))
+
+pub members-defined : (c : Config) (b : ℕ) (def : BlockDef) → slice_get c.blocks b ≡ Some def → served_members c b ≡ shapes_of (node_rows c) (nodes_referred def.dat_set (set_rows c))
+members-defined c b def is = members-by c (block_of (configured_model c) b) def (block-defined c b def is)
+
+-- ---- the parts
+
+-- the part of a number is that of the block of this number
+pub part-at : (c : Config) (parts : List Part) → map seen parts ≡ map (part_defined c) c.blocks → (b : ℕ) (part : Part) → slice_get parts b ≡ Some part
+    → (def : BlockDef) × (slice_get c.blocks b ≡ Some def) × (part_defined c def ≡ seen part)
+part-at c parts are b part at = got-map (part_defined c) c.blocks b (seen part) (ap (λ l. slice_get l b) (sym are) ∙ (slice_get-map seen parts b ∙ ap (option_map seen) at))
+
+pub parts-members : (c : Config) (parts : List Part) → map seen parts ≡ map (part_defined c) c.blocks → (b : ℕ) (part : Part) → slice_get parts b ≡ Some part → part.members.items ≡ served_members c b
+parts-members c parts are b part at =
+    let known = part-at c parts are b part at in
+    ap (λ (s : PartSeen). s.members) (sym known.2) ∙ sym (members-defined c b known.0 known.1)
+
+block-opened : (m : Model) (b : ℕ) → BlockStands (configured (block_of m b)) m b []
+block-opened m b = record { reference = refl; options = refl; revision = refl; enabler = refl; cursor = refl; count = refl }
+
+-- a part as it is defined stands for no step
+part-opened : (m : Model) (b : ℕ) (part : Part) → part.block ≡ configured (block_of m b) → part.ring ≡ empty (block_of m b).capacity → PartStands m b [] part
+part-opened m b part block ring = record {
+  block = subst (λ s. BlockStands s m b []) (sym block) (block-opened m b);
+  ring = subst (λ r. Holds r m b []) (sym ring) (holds-opened m b);
+  initial = refl;
+  gathered = refl;
+  readable = All-nil IsReadable;
+}
+
+pub parts-stand : (c : Config) (parts : List Part) → map seen parts ≡ map (part_defined c) c.blocks → PartsStand (configured_model c) [] parts
+parts-stand c parts are = λ b part at.
+    let known = part-at c parts are b part at in
+    let is = block-defined c b known.0 known.1 in
+    part-opened (configured_model c) b part
+    (ap (λ (s : PartSeen). s.block) (sym known.2) ∙ ap configured (sym is))
+    (ap (λ (s : PartSeen). s.ring) (sym known.2) ∙ ap (λ (k : Block). empty k.capacity) (sym is))

@@ -1,0 +1,157 @@
+//! A bay is opened.
+
+ghost use Rattle.std.specs.Prelude.{◌≡◌, ◌∷◌, [], IfOk, map, option_copied, replicate};
+ghost use Rattle.std.specs.Str.{bytes_eq};
+ghost use Rattle.bay_model.specs.Lookups.{reference_of};
+ghost use Rattle.object_model.specs.Nodes.{node_rows};
+ghost use Rattle.object_model.specs.Tables.{set_rows};
+ghost use Rattle.data_sets.specs.Booked.{shapes_of as shapes};
+ghost use Rattle.assoc_table.specs.Seats.{closed};
+ghost use Rattle.value_store.specs.Opened.{opened};
+ghost use Rattle.bay_core.specs.Servable.{IsServable, IsServedBlock};
+ghost use Rattle.bay_core.specs.Standing.{StandsFor};
+ghost use Rattle.bay_core.specs.Opened.{row_referred, nodes_referred, seen, part_defined};
+
+use crate::bay::Bay;
+use crate::part::Part;
+use crate::values::Values;
+use assoc_table::Assocs;
+use bay_model::{Fixed, MemberShape, Note, SetRow};
+use data_sets::shapes_of;
+use object_model::Model;
+use std::alloc::{AllocError, Global};
+use sv_base::{BlockDef, Moment};
+
+/// Whether octets are a slash and an item.
+fn is_item(octets: &[u8], item: &[u8]) -> bool
+    ensures { result ≡ bytes_eq octets.now (47 ∷ item.now) }
+{
+    match octets {
+        [b'/', rest @ ..] => rest == item,
+        _ => false,
+    }
+}
+
+/// Whether a reference `LD/LN$NAME` is that of the data set of a row.
+fn refers(row: &SetRow, reference: &[u8]) -> bool
+    ensures { result ≡ bytes_eq reference.now (reference_of row.now.name.domain row.now.name.item) }
+{
+    match reference.strip_prefix(row.name.domain.as_slice()) {
+        Some(rest) => is_item(rest, row.name.item.as_slice()),
+        None => false,
+    }
+}
+
+/// The row of the data set of a reference; none exactly where it isn't there.
+fn referred<'a>(rows: &'a [SetRow], reference: &[u8]) -> Option<&'a SetRow>
+    ensures { option_copied result ≡ row_referred reference.now rows.now }
+{
+    for row in rows {
+        if refers(row, reference) {
+            return Some(row);
+        }
+    }
+    None
+}
+
+/// The shapes of the members of the data set that a block's DatSet names; none where it names none.
+fn members_of(alloc: Global, model: &Model, def: &BlockDef) -> Result<Vec<MemberShape>, AllocError>
+    requires { IsServable model.now }
+    ensures { IfOk result (λ v. v.items ≡ shapes (node_rows model.now) (nodes_referred def.now.dat_set (set_rows model.now))) }
+{
+    match referred(model.sets().as_slice(), def.dat_set.as_slice()) {
+        Some(row) => shapes_of(alloc, row.nodes.as_slice(), model.nodes().as_slice()),
+        None => Ok(Vec::new(alloc)),
+    }
+}
+
+/// A block with an empty buffer.
+fn part_of(alloc: Global, model: &Model, def: &BlockDef) -> Result<Part, AllocError>
+    requires servable { IsServable model.now }
+    requires served { IsServedBlock def.now }
+    ensures { IfOk result (λ p. seen p ≡ part_defined model.now def.now) }
+{
+    let members = members_of(alloc, model, def)?;
+    Part::open(alloc, def, members)
+}
+
+/// The blocks in the order of the configuration.
+fn parts_of(alloc: Global, model: &Model) -> Result<Vec<Part>, AllocError>
+    requires { IsServable model.now }
+    ensures { IfOk result (λ v. map seen v.items ≡ map (part_defined model.now) model.now.blocks) }
+{
+    let mut parts = Vec::new(alloc);
+    for def in model.config().blocks.as_slice() {
+        parts.push(part_of(alloc, model, def)?)?;
+    }
+    Ok(parts)
+}
+
+/// What a bay has besides its model.
+#[derive(Drop)]
+struct Made {
+    values: Values,
+    parts: Vec<Part>,
+    associations: Assocs,
+    note: Note,
+    kept: Fixed,
+}
+
+/// The values and the blocks as they are configured, no open association, and the room that notes and entries need.
+fn parts_made(alloc: Global, model: &Model) -> Result<Made, AllocError>
+    requires { IsServable model.now }
+    ensures values { IfOk result (λ m. m.values ≡ opened model.now) }
+    ensures parts { IfOk result (λ m. map seen m.parts.items ≡ map (part_defined model.now) model.now.blocks) }
+    ensures associations { IfOk result (λ m. m.associations ≡ replicate 16 closed) }
+    ensures note { IfOk result (λ m. m.note.room ≡ 256) }
+    ensures kept { IfOk result (λ m. m.kept.room ≡ 129024) }
+{
+    Ok(Made {
+        values: Values::open(alloc, model.config())?,
+        parts: parts_of(alloc, model)?,
+        associations: Assocs::open(alloc)?,
+        note: Note::new(alloc, 256)?,
+        kept: Fixed::new(alloc, 129024)?,
+    })
+}
+
+/// A bay of a model and what was made for it, with no step made.
+fn begun(model: Model, made: Made) -> Bay
+    requires servable { IsServable model }
+    requires values { made.values ≡ opened model }
+    requires parts { map seen made.parts.items ≡ map (part_defined model) model.blocks }
+    requires associations { made.associations ≡ replicate 16 closed }
+    requires note { made.note.room ≡ 256 }
+    requires kept { made.kept.room ≡ 129024 }
+    ensures config { result.config ≡ model }
+    ensures steps { result.steps ≡ 0 }
+    ensures stands { StandsFor result model [] }
+{
+    Bay {
+        model,
+        steps: 0,
+        latest: Moment::first(),
+        values: made.values,
+        parts: made.parts,
+        associations: made.associations,
+        note: made.note,
+        kept: made.kept,
+    }
+}
+
+impl Bay {
+    ghost use Rattle.std.specs.Prelude.{◌≡◌, [], IfOk};
+    ghost use Rattle.bay_core.specs.Servable.{IsServable};
+    ghost use Rattle.bay_core.specs.Standing.{StandsFor};
+
+    /// A bay of a model, with no step made. It takes the room that notes and entries need.
+    pub fn open(alloc: Global, model: Model) -> Result<Bay, AllocError>
+        requires { IsServable model }
+        ensures config { IfOk result (λ b. b.config ≡ model) }
+        ensures steps { IfOk result (λ b. b.steps ≡ 0) }
+        ensures stands { IfOk result (λ b. StandsFor b model []) }
+    {
+        let made = parts_made(alloc, &model)?;
+        Ok(begun(model, made))
+    }
+}
