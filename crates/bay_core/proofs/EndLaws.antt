@@ -1,6 +1,6 @@
 -- A point that opens or loses an association.
-use Rattle.std.proofs.Common.{◌≡◌, ◌≢◌, ℕ, suc, ◌+◌, ◌-◌, ◌<◌, ◌≤◌, max, Bool, true, false, List, [], ◌∷◌, map, Option, None, Some, refl, ap, arith, ◌∙◌, sym, subst, length, ◌⊎◌}
-use Rattle.std.specs.Prelude.{slice_get, if◌then◌else◌, is_some, not, ◌==◌, ◌||◌, ◌&&◌}
+use Rattle.std.proofs.Common.{◌≡◌, ℕ, suc, max, Bool, true, false, List, ◌∷◌, Option, None, Some, refl, ap, arith, ◌∙◌, sym, subst, ◌⊎◌}
+use Rattle.std.specs.Prelude.{slice_get, if◌then◌else◌, is_some, ◌==◌, ◌||◌}
 use Rattle.std.specs.Option.{option_map, option_map_or}
 use Rattle.std.proofs.lemmas.Bool.Decides.{nat_tests}
 use Rattle.std.proofs.lemmas.Option.{slice_get-map}
@@ -12,8 +12,7 @@ use Rattle.bay_model.specs.Named.{configured_model}
 use Rattle.bay_model.specs.Points.{Point, Past, opened, lost}
 use Rattle.bay_model.specs.Associations as model
 use Rattle.bay_model.specs.Associations.{ends}
-use Rattle.bay_model.specs.Answers.{Turn, History, points, turned}
-use Rattle.bay_model.specs.Acceptance.{fault, Fault, IsOpen, NotOpen, NotYours, if_open, if_yours}
+use Rattle.bay_model.specs.Acceptance.{IsOpen, if_open}
 use Rattle.brcb_state.specs.Changes.{after_loss}
 use Rattle.brcb_state.specs.Standing.{Stands as BlockStands}
 use Rattle.brcb_state.specs.declared.block.Block.{Block}
@@ -26,9 +25,9 @@ use Rattle.bay_core.specs.declared.part.Part.{Part}
 use Rattle.bay_core.specs.Parting.{lost_by, after_loss_all}
 use Rattle.bay_core.specs.Servable.{IsServable}
 use Rattle.bay_core.specs.State.{State}
-use Rattle.bay_core.specs.Standing.{PartStands, PartsStand, StandsAt, StandsFor}
+use Rattle.bay_core.specs.Standing.{PartStands, PartsStand, StandsAt}
 use Rattle.bay_core.proofs.QuietLaws.{at_once-served, part-stays}
-use Rattle.bay_core.proofs.MoveLaws.{moved, accepted, values-same, waits-none}
+use Rattle.bay_core.proofs.MoveLaws.{moved, values-same, waits-none}
 
 -- ---- the ends of an association
 

@@ -1,5 +1,5 @@
 -- The parts fit the configuration as long as their members stay.
-use Rattle.std.proofs.Common.{◌≡◌, ℕ, List, length, Option, Some, ◌∙◌, map, ap, sym, inl, inr}
+use Rattle.std.proofs.Common.{◌≡◌, ℕ, List, Some, ◌∙◌, map, ap, sym, inl, inr}
 use Rattle.std.specs.Prelude.{slice_get, slice_set}
 use Rattle.std.proofs.lemmas.List.{length-map, length-set}
 use Rattle.sv_base.specs.declared.config.Config.{Config}

@@ -1,16 +1,16 @@
 -- The state of a bay after one more point.
-use Rattle.std.proofs.Common.{◌≡◌, ℕ, suc, ◌+◌, max, Bool, true, false, List, [], ◌∷◌, Option, None, Some, refl, ap, arith, ◌∙◌, sym, subst}
+use Rattle.std.proofs.Common.{◌≡◌, ℕ, suc, max, Bool, true, false, List, [], ◌∷◌, None, refl, ap, arith, ◌∙◌, sym, subst}
 use Rattle.std.specs.Prelude.{length, if◌then◌else◌}
 use Rattle.sv_base.specs.declared.config.Config.{Config}
 use Rattle.bay_model.specs.Model.{Model}
 use Rattle.bay_model.specs.Named.{configured_model}
-use Rattle.bay_model.specs.Points.{Point, Past, now}
+use Rattle.bay_model.specs.Points.{Point, Past}
 use Rattle.bay_model.specs.Values.{gives}
 use Rattle.bay_model.specs.Sets.{dynamic}
-use Rattle.bay_model.specs.Waiting.{Waiting, waiting, put_by, is_start, is_giving, extended}
+use Rattle.bay_model.specs.Waiting.{Waiting, waiting, put_by, is_start, is_giving}
 use Rattle.bay_model.specs.Answers.{Turn, History, points, turned}
-use Rattle.bay_model.specs.Acceptance.{fault, IsHistory}
-use Rattle.value_store.specs.Stored.{Stored, attribute}
+use Rattle.bay_model.specs.Acceptance.{fault}
+use Rattle.value_store.specs.Stored.{Stored}
 use Rattle.value_store.specs.Wholes.{Stands as ValuesStand}
 use Rattle.assoc_table.specs.Standing.{Stands as AssociationsStand}
 use Rattle.bay_core.specs.State.{State}

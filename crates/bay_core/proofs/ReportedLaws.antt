@@ -1,7 +1,6 @@
 -- The parts of a bay after a report: the block that gave it has moved on, and the others are as they were.
-use Rattle.std.proofs.Common.{◌≡◌, ◌≢◌, ℕ, zero, suc, true, false, List, [], ◌∷◌, refl, sym, subst, ap, ◌∙◌, arith, inl, inr, ◌⊎◌, slice_set}
-use Rattle.std.specs.Prelude.{◌==◌, Some, slice_get}
-use Rattle.std.proofs.lemmas.Bool.Decides.{eqb_tells}
+use Rattle.std.proofs.Common.{◌≡◌, ◌≢◌, ℕ, List, ◌∷◌, refl, sym, subst, ◌∙◌, arith, inl, inr, ◌⊎◌, slice_set}
+use Rattle.std.specs.Prelude.{Some, slice_get}
 use Rattle.bay_model.specs.Model.{Model}
 use Rattle.bay_model.specs.Lookups.{block_of}
 use Rattle.bay_model.specs.Points.{Point, Past, reported}

@@ -1,27 +1,24 @@
 -- The data sets of a configuration that a bay serves: the members of a block are there, and have the shapes of their nodes.
-use Rattle.std.proofs.Common.{◌≡◌, ◌≤◌, ◌<◌, ℕ, Bool, true, false, List, [], ◌∷◌, ◌++◌, length, map, get_or, refl, sym, ap, ◌∙◌, arith}
-use Rattle.std.specs.Prelude.{Some, cond, unwrap_or}
-use Rattle.std.specs.Option.{option_map}
-use Rattle.std.specs.List.{All, find}
+use Rattle.std.proofs.Common.{◌≡◌, ◌≤◌, ◌<◌, ℕ, List, [], ◌∷◌, length, map, get_or, refl, sym, ap, ◌∙◌, arith}
+use Rattle.std.specs.List.{All}
 use Rattle.std.proofs.lemmas.List.{length-map}
-use Rattle.std.proofs.lemmas.List.Elements.{All-nil, All-cons, All-head, All-tail, All-append}
+use Rattle.std.proofs.lemmas.List.Elements.{All-nil, All-cons, All-head, All-tail}
 use Rattle.std.proofs.lemmas.Option.{slice_get-get_or}
 use Rattle.sv_base.specs.declared.config.Config.{Config}
 use Rattle.sv_base.specs.declared.numbers.NodeId.{NodeId}
 use Rattle.bay_model.specs.declared.tables.MemberShape.{MemberShape}
-use Rattle.bay_model.specs.Model.{Model, DataSet}
 use Rattle.bay_model.specs.Lookups.{block_of}
 use Rattle.bay_model.specs.Named.{configured_model, nodes}
 use Rattle.bay_model.specs.Points.{Past}
 use Rattle.bay_model.specs.Parameters.{parameters_at}
-use Rattle.bay_model.specs.Sets.{dynamic, set_referred, members}
+use Rattle.bay_model.specs.Sets.{dynamic, members}
 use Rattle.object_model.specs.Nodes.{node_rows}
 use Rattle.object_model.specs.Tables.{node_id}
 use Rattle.object_model.proofs.TableLaws.{count-rows, rows-are-nodes}
 use Rattle.data_sets.specs.Booked.{HasNumber, no_row, node_numbers, shape_of}
 use Rattle.data_sets.proofs.SetLaws.{numbers_of_shapes}
 use Rattle.bay_core.specs.Again.{AreNodes}
-use Rattle.bay_core.specs.Servable.{IsServable, IsServedSet, IsMember}
+use Rattle.bay_core.specs.Servable.{IsServable, IsMember}
 use Rattle.bay_core.proofs.ShapeLaws.{served-set, members-same}
 use Rattle.bay_core.specs.State.{served_members}
 

@@ -1,12 +1,10 @@
 -- A point that nothing came of leaves all parts as they are.
-use Rattle.std.proofs.Common.{◌≡◌, ℕ, suc, ◌+◌, max, List, [], ◌∷◌, Option, None, Some, refl, ap, arith, ◌∙◌, sym, subst, length}
-use Rattle.std.specs.Prelude.{slice_get}
-use Rattle.std.specs.List.{All}
+use Rattle.std.proofs.Common.{◌≡◌, ℕ, suc, max, List, [], ◌∷◌, None, refl, sym, subst, length}
 use Rattle.std.proofs.lemmas.List.Elements.{All-nil}
 use Rattle.sv_base.specs.declared.config.Config.{Config}
 use Rattle.bay_model.specs.Model.{Model}
 use Rattle.bay_model.specs.Named.{configured_model}
-use Rattle.bay_model.specs.Points.{Point, Past, nothing}
+use Rattle.bay_model.specs.Points.{Past}
 use Rattle.bay_model.specs.Singles.{arrival}
 use Rattle.bay_model.specs.Answers.{Turn, History, points, turned}
 use Rattle.bay_model.specs.Acceptance.{fault}

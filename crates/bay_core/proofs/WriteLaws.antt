@@ -1,7 +1,6 @@
 -- A write of RptEna, EntryID or PurgeBuf, at a block with its buffer.
-use Rattle.std.proofs.Common.{rules, ◌≡◌, ◌≢◌, ℕ, suc, ◌+◌, ◌<◌, max, Bool, true, false, List, [], ◌∷◌, Option, None, Some, Result, Ok, Err, refl, ap, arith, ◌∙◌, sym, subst, length, inl, inr, ap₂}
-use Rattle.std.specs.Prelude.{slice_get, slice_set, if◌then◌else◌, ◌==◌, ◌||◌}
-use Rattle.std.proofs.lemmas.Bool.Decides.{nat_tests}
+use Rattle.std.proofs.Common.{rules, ◌≡◌, ◌≢◌, ℕ, Bool, true, false, List, [], ◌∷◌, Some, Ok, refl, ap, arith, ◌∙◌, sym, subst, length, inl, inr, ap₂}
+use Rattle.std.specs.Prelude.{slice_get, slice_set, if◌then◌else◌, ◌==◌}
 use Rattle.std.proofs.lemmas.Grind.{common_steps}
 use Rattle.sv_base.specs.declared.config.Config.{Config}
 use Rattle.sv_base.specs.declared.numbers.AssocNo.{AssocNo}
@@ -12,11 +11,8 @@ use Rattle.bay_model.specs.Model.{Model}
 use Rattle.bay_model.specs.Named.{configured_model}
 use Rattle.bay_model.specs.Points.{Point, Past, wrote}
 use Rattle.bay_model.specs.Singles.{arrival}
-use Rattle.bay_model.specs.Notes.{note}
 use Rattle.bay_model.specs.Parameters.{parameters_at, is_interrogation, purges}
 use Rattle.bay_model.specs.Retained.{front}
-use Rattle.bay_model.specs.Entries.{selected}
-use Rattle.bay_model.specs.Outcomes.{Outcome, did, refused, deed_of, code_of}
 use Rattle.bay_model.specs.BlockWrites.{write_component}
 use Rattle.brcb_state.specs.Changes.{written, effect_of}
 use Rattle.brcb_state.specs.Refusals.{answer_to, names_nothing, first_of, refusals}
@@ -24,11 +20,10 @@ use Rattle.brcb_state.specs.Standing.{Stands as BlockStands, is_purging, outcome
 use Rattle.brcb_state.specs.declared.block.Block.{Block}
 use Rattle.brcb_state.specs.declared.kept.Effect.{Effect}
 use Rattle.brcb_state.proofs.WriteLaws.{stands-written}
-use Rattle.entry_ring.specs.Standing.{after_point}
 use Rattle.entry_ring.specs.Ringed.{after_purge}
 use Rattle.bay_core.specs.declared.part.Part.{Part}
 use Rattle.bay_core.specs.Offers.{kept_of}
-use Rattle.bay_core.specs.Parting.{write_answer, written_by, without_effect, after_write}
+use Rattle.bay_core.specs.Parting.{write_answer, written_by}
 use Rattle.bay_core.specs.Servable.{IsServable}
 use Rattle.bay_core.specs.Standing.{PartStands, PartsStand}
 use Rattle.bay_core.proofs.QuietLaws.{at_once-served, quiet-selected, quiet-front, part-quiet, part-stays}

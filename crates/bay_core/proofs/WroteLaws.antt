@@ -1,23 +1,21 @@
 -- The state of a bay after a write that was accepted, or refused by a code.
-use Rattle.std.proofs.Common.{◌≡◌, ℕ, suc, ◌+◌, ◌<◌, max, List, [], ◌∷◌, Option, None, Some, Result, Ok, Err, refl, ap, arith, ◌∙◌, sym, subst, length}
-use Rattle.std.specs.Prelude.{slice_get, slice_set, ◌==◌, slice_index_or}
+use Rattle.std.proofs.Common.{◌≡◌, ℕ, suc, ◌<◌, max, List, ◌∷◌, None, Some, Result, Ok, Err, refl, ap, ◌∙◌, sym, subst, length}
+use Rattle.std.specs.Prelude.{slice_get, slice_set, slice_index_or}
 use Rattle.std.proofs.lemmas.List.{set-get_or}
 use Rattle.std.proofs.lemmas.Option.{get_or_from_slice_get, slice_get-get_or}
 use Rattle.sv_base.specs.declared.config.Config.{Config}
 use Rattle.sv_base.specs.declared.numbers.AssocNo.{AssocNo}
 use Rattle.sv_base.specs.declared.numbers.BlockNo.{BlockNo}
 use Rattle.sv_base.specs.declared.value.Value.{Value}
-use Rattle.bay_model.specs.declared.answer.Answer.{Answer}
 use Rattle.bay_model.specs.declared.answer.Answer.TheVariants as answers
 use Rattle.bay_model.specs.declared.step.Comp.{Comp}
 use Rattle.bay_model.specs.declared.step.Comp.TheVariants as comps
 use Rattle.bay_model.specs.declared.step.Step.TheVariants as steps
-use Rattle.bay_model.specs.Model.{Model}
 use Rattle.bay_model.specs.Named.{configured_model}
-use Rattle.bay_model.specs.Points.{Point, Past, wrote}
+use Rattle.bay_model.specs.Points.{Past, wrote}
 use Rattle.bay_model.specs.Singles.{arrival}
-use Rattle.bay_model.specs.Outcomes.{Outcome, deed_of, code_of}
-use Rattle.bay_model.specs.Answers.{Turn, History, points, turned, answer}
+use Rattle.bay_model.specs.Outcomes.{deed_of, code_of}
+use Rattle.bay_model.specs.Answers.{History, points, answer}
 use Rattle.bay_model.specs.Acceptance.{fault}
 use Rattle.brcb_state.specs.Standing.{outcome_of}
 use Rattle.brcb_state.specs.declared.kept.Effect.{Effect}
@@ -27,7 +25,7 @@ use Rattle.bay_core.specs.Parting.{write_answer, written_by, without_effect, aft
 use Rattle.bay_core.specs.Servable.{IsServable}
 use Rattle.bay_core.specs.State.{State}
 use Rattle.bay_core.specs.Turns.{IsBuilt}
-use Rattle.bay_core.specs.Standing.{PartsStand, StandsAt, StandsFor}
+use Rattle.bay_core.specs.Standing.{StandsAt, StandsFor}
 use Rattle.bay_core.proofs.MoveLaws.{moved, accepted-as, values-same, waits-none}
 use Rattle.bay_core.proofs.StillLaws.{still}
 use Rattle.bay_core.proofs.WriteLaws.{IsPlainComp, writing, parts-wrote, outcome-told}

@@ -1,5 +1,4 @@
-use Rattle.std.proofs.Common.{refl, suc, max, ap, ap₂, sym, subst, true, ◌∙◌, ◌≡◌}
-use Rattle.std.specs.Prelude.{◌||◌, ◌==◌}
+use Rattle.std.proofs.Common.{refl, suc, max, ap₂, sym, subst, ◌∙◌}
 use Rattle.bay_model.specs.declared.step.Step.TheVariants as steps
 use Rattle.bay_model.specs.Answers.{points}
 use Rattle.bay_model.specs.Named.{configured_model}

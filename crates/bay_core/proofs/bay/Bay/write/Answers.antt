@@ -1,12 +1,10 @@
-use Rattle.std.proofs.Common.{refl, arith, suc, max, ap, sym, subst, true, ◌∙◌, ◌≡◌, ◌<◌, length, Some, slice_set}
-use Rattle.std.specs.Prelude.{◌==◌, slice_get}
-use Rattle.bay_model.specs.declared.step.Step.TheVariants as steps
+use Rattle.std.proofs.Common.{arith, suc, max, ap, sym, subst, ◌∙◌, ◌≡◌, ◌<◌, length, Some, slice_set}
+use Rattle.std.specs.Prelude.{slice_get}
 use Rattle.bay_model.specs.declared.answer.Answer.TheVariants as answers
 use Rattle.bay_model.specs.Answers.{points}
 use Rattle.bay_model.specs.Named.{configured_model}
 use Rattle.bay_core.specs.Parting.{write_answer}
 use Rattle.bay_core.specs.Servable.{IsServable}
-use Rattle.bay_core.specs.State.{IsFurnished}
 use Rattle.bay_core.specs.Standing.{StandsFor}
 use Rattle.bay_core.proofs.FurnishLaws.{furnished-set}
 use Rattle.bay_core.proofs.EndLaws.{opener-told, opener-fault, same-number-told}
