@@ -35,4 +35,5 @@ named faults.Memory = None
 -- a refused one has the fault that the definitions name, or wants memory where they name none, and leaves all as it was.
 abbrev pub Does : State → State → Turn → Result Answer StepFault → Type 0
 Does old new t (Ok a) = (c : Config) (h : History) → StandsFor old c h → (a ≡ answer (configured_model c) h t) × StandsFor new c (t ∷ h)
+Does old new t (Err faults.Memory) = Unit {0}
 Does old new t (Err f) = (new ≡ old) × ((c : Config) (h : History) → StandsFor old c h → named f ≡ fault (configured_model c) h t)

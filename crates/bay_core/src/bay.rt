@@ -3,9 +3,11 @@
 use crate::part::Part;
 use crate::values::Values;
 use assoc_table::Assocs;
-use bay_model::{Fixed, Note};
+use crate::fault::StepFault;
+use bay_model::{Answer, Fixed, Note, Step};
 use object_model::Model;
-use sv_base::Moment;
+use std::alloc::{AllocError, Global};
+use sv_base::{ActorNo, Moment};
 
 /// A bay: its configuration and all that its steps came to. Contracts see the state that `specs/` defines.
 #[derive(Drop)]
@@ -36,7 +38,39 @@ impl std::marker::Model for Bay {
 }
 
 impl Bay {
-    ghost use Rattle.std.specs.Prelude.{◌≡◌};
+    ghost use Rattle.std.specs.Prelude.{◌≡◌, ◌<◌, ◌^◌, suc, true, [], IfOk, OnOk};
+    ghost use Rattle.object_model.specs.Fits.{fits};
+    ghost use Rattle.bay_core.specs.Servable.{IsServable};
+    ghost use Rattle.bay_core.specs.Standing.{StandsFor};
+    ghost use Rattle.bay_core.specs.Turns.{Does, IsBuilt};
+
+    /// A bay before its first step.
+    pub fn open(alloc: Global, model: Model) -> Result<Bay, AllocError>
+        requires { IsServable model }
+        ensures config { IfOk result (λ b. b.config ≡ model) }
+        ensures steps { IfOk result (λ b. b.steps ≡ 0) }
+        ensures stands { IfOk result (λ b. StandsFor b model []) }
+    {
+        Err(AllocError)
+    }
+
+    /// A step.
+    pub fn step(
+        &mut self,
+        alloc: Global,
+        moment: Moment,
+        actor: ActorNo,
+        step: &Step,
+    ) -> Result<Answer, StepFault>
+        requires fits { fits self.old.config step.now ≡ true }
+        requires built { IsBuilt step.now }
+        requires few { self.old.steps < 2 ^ 62 }
+        ensures does { Does self.old self.new (record { moment = moment; actor = actor.0; step = step.now }) result }
+        ensures config { self.new.config ≡ self.old.config }
+        ensures counted { OnOk result (self.new.steps ≡ suc self.old.steps) }
+    {
+        Err(StepFault::Memory)
+    }
 
     /// How many steps were made.
     pub fn steps(&self) -> u64
