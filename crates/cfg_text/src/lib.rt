@@ -42,7 +42,7 @@ pub use judging::{are_printable, has_empty};
 pub use numbers::{number, number_between};
 pub use spelling::{push_number, push_word};
 pub use telling::is_skipped;
-pub use values::{owned, truth};
+pub use values::{owned, truth, value};
 pub use words::parts_of;
 
 // why a text is no configuration
