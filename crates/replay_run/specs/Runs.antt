@@ -1,9 +1,9 @@
 -- What a replay stands for: the octets that were read, and the answers that the sink took.
 use Rattle.std.specs.Prelude.{◌≡◌, ◌≤◌, ℕ, List, [], length, Option, None, Some, IfSome}
 use Rattle.std.specs.Io.KnownBytes.{Appends, Consumes}
-use Rattle.replay_run.specs.Lines.{NoNewline}
-use Rattle.replay_run.specs.Sessions.{Fed}
-use Rattle.replay_run.specs.Tool.{limit, IsJudgement, Answers}
+use Rattle.replay_run.specs.Sessions.{NoNewline, Fed, steps_in, IsEarly}
+use Rattle.replay_run.specs.Records.{limit}
+use Rattle.replay_run.specs.Tool.{IsJudgement, Answers}
 use Rattle.replay_run.specs.declared.reader.Reader.{Reader}
 use Rattle.replay_run.specs.declared.replay.Replay.{Replay}
 use Rattle.replay_run.specs.declared.status.Status.{Status}
@@ -11,7 +11,8 @@ use Rattle.replay_run.specs.declared.status.Status.{Status}
 -- between two pieces
 pub record IsReady (replay : Replay) : Type 0 where
   pub part : NoNewline replay.reader.held.items
-  pub few : replay.reader.session.bay.steps ≤ replay.count
+  pub few : steps_in replay.reader.session.stage ≤ replay.count
+  pub early : IsEarly replay.reader.session.stage
   pub lines : replay.reader.session.lines ≤ replay.count
   pub within : replay.count ≤ limit
   pub empty : replay.out.items ≡ []

@@ -1,63 +1,70 @@
 -- What a reading stands for: the octets so far, and the answers that were written to them.
-use Rattle.std.specs.Prelude.{◌≡◌, ◌≤◌, ◌+◌, true, ℕ, List, ◌++◌, length, Option, None, Some}
+use Rattle.std.specs.Prelude.{◌≡◌, ◌==◌, ◌<◌, ◌^◌, ℕ, Bool, false, List, ◌++◌, All, Option, None, Some}
 use Rattle.std.specs.Io.KnownBytes.{Appends}
-use Rattle.bay_model.specs.Example.{example}
-use Rattle.replay_run.specs.Stands.{Stands}
-use Rattle.replay_run.specs.Lines.{NoNewline}
-use Rattle.replay_run.specs.Record.{Played, start, after, after_all, line_text, text_from, all_accepted, Begins, Judged, text}
-use Rattle.replay_run.specs.declared.line.Line.{Line}
-use Rattle.replay_run.specs.declared.line.Stop.{Stop}
+use Rattle.replay_run.specs.Plays.{Plays}
+use Rattle.replay_run.specs.Moves.{Place, opening, configuring, playing, Move, goes, stops}
+use Rattle.replay_run.specs.Records.{behind, pieces, run}
+use Rattle.replay_run.specs.declared.stage.Stage.{Stage}
+use Rattle.replay_run.specs.declared.stage.Stage.TheVariants as stages
 use Rattle.replay_run.specs.declared.session.Session.{Session}
 use Rattle.replay_run.specs.declared.reader.Reader.{Reader}
+use Rattle.replay_run.specs.declared.status.Status.{Status}
 
--- the bay and the moment are those of what was played
-pub record Plays (session : Session) (s : Played) : Type 0 where
-  pub moment : session.moment ≡ s.moment
-  pub bay : Stands session.bay s.turns
+-- there is no newline among the octets
+abbrev pub NoNewline : List ℕ → Type 0
+NoNewline octets = All (λ b. (b == 10) ≡ false) octets
+
+abbrev pub IsAt : Stage → Place → Type 0
+IsAt stages.Opening opening = Unit {0}
+IsAt (stages.Configuring before text) (configuring lines octets) = (before ≡ lines) × (text.items ≡ octets)
+IsAt (stages.Playing p) (playing c s) = Plays p c s
+IsAt _ _ = ⊥
+
+-- how many steps the bay has made
+abbrev pub steps_in : Stage → ℕ
+steps_in (stages.Playing p) = p.bay.steps
+steps_in _ = 0
+
+-- the lines before a configuration are few
+abbrev pub IsEarly : Stage → Type 0
+IsEarly (stages.Configuring before text) = before < 2 ^ 62
+IsEarly _ = Unit {0}
+
+abbrev pub Advances : Option Status → Stage → Move → List ℕ → List ℕ → Type 0
+Advances None new (goes place text) before now = IsAt new place × (now ≡ before ++ text)
+Advances (Some status) new (stops told text) before now = (status ≡ told) × (now ≡ before ++ text)
+Advances _ _ _ _ _ = ⊥
+
+abbrev pub AdvancesOn : Option Status → Stage → Stage → (Place → Move) → List ℕ → List ℕ → Type 0
+AdvancesOn status old new move before now = (place : Place) → IsAt old place → Advances status new (move place) before now
 
 -- the octets are whole lines, none of which stops the reading, and this is what was written to them
 pub record Reads (session : Session) (octets written : List ℕ) : Type 0 where
-  pub steps : List Line
-  pub begins : Begins octets session.place session.bay.buffer.capacity steps
-  pub plays : Plays session (after_all start steps)
-  pub accepted : all_accepted (example session.bay.buffer.capacity) start steps ≡ true
-  pub written_is : written ≡ text_from (example session.bay.buffer.capacity) start steps
-  pub count : session.lines ≡ session.place + length steps
+  pub place : Place
+  pub is_at : IsAt session.stage place
+  pub same : (long : Bool) (more : List ℕ) → run long 0 opening (pieces (octets ++ more)) ≡ behind written (run long session.lines place (pieces more))
 
--- the reading of the octets stops behind so many lines, or they end, and this is what was written to them
-pub record Stopped (stop : Option Stop) (lines : ℕ) (octets written : List ℕ) : Type 0 where
-  pub capacity : ℕ
-  pub steps : List Line
-  pub judged : Judged octets capacity steps stop
-  pub written_is : written ≡ text capacity steps stop
-  pub count : lines ≡ judged.place + length steps
+-- the reading of the octets stops, and this is what was written to them
+abbrev pub Stopped : Status → List ℕ → List ℕ → Type 0
+Stopped status octets written = (long : Bool) (more : List ℕ) → run long 0 opening (pieces (octets ++ more)) ≡ record { status = status; text = written }
 
 -- the session goes on, or it stops, whatever octets follow
-abbrev pub GoesOn : Option Stop → Session → List ℕ → List ℕ → Type 0
+abbrev pub GoesOn : Option Status → Session → List ℕ → List ℕ → Type 0
 GoesOn None session octets written = Reads session octets written
-GoesOn (Some stop) session octets written = (more : List ℕ) → Stopped (Some stop) session.lines (octets ++ more) written
+GoesOn (Some status) session octets written = Stopped status octets written
 
 -- after the octets so far, something more was written, and the session goes on or stops
-pub record MovesTo (stop : Option Stop) (new : Session) (octets written before now : List ℕ) : Type 0 where
+pub record MovesTo (stop : Option Status) (new : Session) (octets written before now : List ℕ) : Type 0 where
   pub added : List ℕ
   pub out : now ≡ before ++ added
-  pub goes : GoesOn stop new octets (written ++ added)
+  pub on : GoesOn stop new octets (written ++ added)
 
 -- some octets more are read
-abbrev pub Moves : Option Stop → Session → Session → List ℕ → List ℕ → List ℕ → Type 0
+abbrev pub Moves : Option Status → Session → Session → List ℕ → List ℕ → List ℕ → Type 0
 Moves stop old new octets before now = (so_far written : List ℕ) → Reads old so_far written → MovesTo stop new (so_far ++ octets) written before now
 
--- a step line is played, and its answer is written
-pub record PlaysOn (old new : Session) (line : Line) (before now : List ℕ) : Type 0 where
-  pub plays : (s : Played) → Plays old s → Plays new (after s line)
-  pub answered : (s : Played) → Plays old s → now ≡ before ++ line_text (example old.bay.buffer.capacity) s line
-  pub capacity : new.bay.buffer.capacity ≡ old.bay.buffer.capacity
-  pub place : new.place ≡ old.place
-  pub lines : new.lines ≡ old.lines + 1
-  pub few : new.bay.steps ≤ old.bay.steps + 1
-
 -- of these octets the whole lines at the front were read, up to one that stops the reading, and this is the rest
-pub record LinesRead (stop : Option Stop) (rest : List ℕ) (old new : Session) (octets before now : List ℕ) : Type 0 where
+pub record LinesRead (stop : Option Status) (rest : List ℕ) (old new : Session) (octets before now : List ℕ) : Type 0 where
   pub done : List ℕ
   pub split : octets ≡ done ++ rest
   pub part : stop ≡ None → NoNewline rest
@@ -69,24 +76,24 @@ pub record Fed (reader : Reader) (octets written : List ℕ) : Type 0 where
   pub split : octets ≡ whole ++ reader.held.items
   pub reads : Reads reader.session whole written
 
-abbrev pub FeedsOn : Option Stop → Reader → List ℕ → List ℕ → Type 0
+abbrev pub FeedsOn : Option Status → Reader → List ℕ → List ℕ → Type 0
 FeedsOn None reader octets written = Fed reader octets written
-FeedsOn (Some stop) reader octets written = (more : List ℕ) → Stopped (Some stop) reader.session.lines (octets ++ more) written
+FeedsOn (Some status) reader octets written = Stopped status octets written
 
 -- a piece is fed, and something more was written
-pub record FeedsTo (stop : Option Stop) (new : Reader) (octets written before now : List ℕ) : Type 0 where
+pub record FeedsTo (stop : Option Status) (new : Reader) (octets written before now : List ℕ) : Type 0 where
   pub added : List ℕ
   pub out : now ≡ before ++ added
-  pub goes : FeedsOn stop new octets (written ++ added)
+  pub on : FeedsOn stop new octets (written ++ added)
 
-abbrev pub Feeds : Option Stop → Reader → Reader → List ℕ → List ℕ → List ℕ → Type 0
+abbrev pub Feeds : Option Status → Reader → Reader → List ℕ → List ℕ → List ℕ → Type 0
 Feeds stop old new piece before now = (so_far written : List ℕ) → Fed old so_far written → FeedsTo stop new (so_far ++ piece) written before now
 
 -- a piece is fed, and the sink took the answers
-pub record TakesTo (stop : Option Stop) (new : Reader) (octets written : List ℕ) (before now : Option (List ℕ)) : Type 0 where
+pub record TakesTo (stop : Option Status) (new : Reader) (octets written : List ℕ) (before now : Option (List ℕ)) : Type 0 where
   pub added : List ℕ
   pub taken : Appends before now added
-  pub goes : FeedsOn stop new octets (written ++ added)
+  pub on : FeedsOn stop new octets (written ++ added)
 
-abbrev pub Takes : Option Stop → Reader → Reader → List ℕ → Option (List ℕ) → Option (List ℕ) → Type 0
+abbrev pub Takes : Option Status → Reader → Reader → List ℕ → Option (List ℕ) → Option (List ℕ) → Type 0
 Takes stop old new piece before now = (so_far written : List ℕ) → Fed old so_far written → TakesTo stop new (so_far ++ piece) written before now

@@ -73,7 +73,7 @@ pub fn check<S: Source, K: Sink>(alloc: Global, source: &mut S, sink: &mut K) ->
     match read_config(alloc, &octets) {
         Ok(config) => tell(alloc, &config, sink),
         Err(CfgFault::Refused { line, kind }) => Status::Config {
-            line,
+            line: u64::from(line),
             kind: kind.number(),
         },
         Err(CfgFault::Memory) => Status::Memory,

@@ -1,26 +1,30 @@
 //! The replay of a record.
 #![tactic(auto)]
 
-mod bay;
-mod buffer;
-mod check;
-mod data;
-mod heading;
-mod line;
-#[cfg(test)]
-mod line_tests;
-mod numbers;
+// what a line tells
+mod components;
+mod settings;
+mod shapes;
+mod told;
+
+// the lines of a record, and its octets
+mod openings;
 mod pieces;
+mod playing;
 mod reader;
-mod reading;
 mod replay;
-mod reports;
 mod scan;
 mod session;
-pub mod status;
-mod stored;
+mod stage;
+mod starting;
 mod text;
+
+// a configuration alone
+mod check;
+mod whole;
+
+pub mod status;
 pub mod tool;
+
 #[cfg(test)]
 mod tool_tests;
-mod whole;

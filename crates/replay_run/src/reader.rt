@@ -1,10 +1,10 @@
-ghost use Rattle.std.specs.Prelude.{◌≡◌, ◌<◌, ◌≤◌, ◌+◌, ◌^◌, [], length, IfOk, OnOk};
-ghost use Rattle.replay_run.specs.Lines.{NoNewline};
-ghost use Rattle.replay_run.specs.Sessions.{LinesRead};
+ghost use Rattle.std.specs.Prelude.{◌≡◌, ◌<◌, ◌≤◌, ◌+◌, ◌^◌, [], length, IfOk, IfSome, OnOk};
+ghost use Rattle.replay_run.specs.Sessions.{LinesRead, steps_in, IsEarly};
+ghost use Rattle.replay_run.specs.Tool.{IsJudgement};
 
-use crate::line::Stop;
 use crate::scan::split_line;
 use crate::session::Session;
+use crate::status::Status;
 use std::alloc::{AllocError, Global};
 
 /// Reads the whole lines at the front of these octets, up to one that stops the reading, and gives the rest.
@@ -13,11 +13,14 @@ fn read_lines<'a>(
     session: &mut Session,
     out: &mut Vec<u8>,
     octets: &'a [u8],
-) -> Result<(Option<Stop>, &'a [u8]), AllocError>
-    requires few { session.old.bay.steps + length octets.now < 2 ^ 62 }
-    requires lines { session.old.lines + length octets.now < 2 ^ 62 }
+) -> Result<(Option<Status>, &'a [u8]), AllocError>
+    requires few { steps_in session.old.stage + length octets.now < 2 ^ 61 }
+    requires early { IsEarly session.old.stage }
+    requires lines { session.old.lines + length octets.now < 2 ^ 61 }
     ensures read { IfOk result (λ r. LinesRead r.0 r.1.now session.old session.new octets.now out.old.items out.new.items) }
-    ensures few { IfOk result (λ r. session.new.bay.steps + length r.1.now ≤ session.old.bay.steps + length octets.now) }
+    ensures judged { IfOk result (λ r. IfSome r.0 IsJudgement) }
+    ensures few { IfOk result (λ r. steps_in session.new.stage + length r.1.now ≤ steps_in session.old.stage + length octets.now) }
+    ensures early { OnOk result (IsEarly session.new.stage) }
     ensures lines { IfOk result (λ r. session.new.lines + length r.1.now ≤ session.old.lines + length octets.now) }
 {
     let mut rest = octets;
@@ -38,28 +41,34 @@ pub struct Reader {
 }
 
 impl Reader {
-    ghost use Rattle.std.specs.Prelude.{◌≡◌, ◌<◌, ◌≤◌, ◌+◌, ◌^◌, [], length, IfOk, OnOk};
-    ghost use Rattle.replay_run.specs.Lines.{NoNewline};
-    ghost use Rattle.replay_run.specs.Sessions.{Fed, Feeds};
-
-    /// How many lines were read, none of which stopped the reading.
-    pub fn lines(&self) -> u64
-        ensures { result ≡ self.now.session.lines }
-    {
-        self.session.lines()
-    }
+    ghost use Rattle.std.specs.Prelude.{◌≡◌, ◌<◌, ◌≤◌, ◌+◌, ◌^◌, [], suc, length, IfOk, IfSome, OnOk};
+    ghost use Rattle.replay_run.specs.Moves.{Place};
+    ghost use Rattle.replay_run.specs.Records.{ended as ended_at};
+    ghost use Rattle.replay_run.specs.Sessions.{NoNewline, Fed, Feeds, IsAt, steps_in, IsEarly};
+    ghost use Rattle.replay_run.specs.Tool.{IsJudgement};
 
     /// Nothing is read yet.
     pub fn new(alloc: Global) -> Reader
         ensures fed { Fed result [] [] }
         ensures part { NoNewline result.held.items }
-        ensures steps { result.session.bay.steps ≡ 0 }
+        ensures steps { steps_in result.session.stage ≡ 0 }
+        ensures early { IsEarly result.session.stage }
         ensures lines { result.session.lines ≡ 0 }
     {
         Reader {
-            session: Session::new(alloc),
+            session: Session::new(),
             held: Vec::new(alloc),
         }
+    }
+
+    /// The status where no whole line is left: the record passes the limit of octets, or ends.
+    pub fn ended(&self, alloc: Global, long: bool) -> Result<Status, AllocError>
+        requires early { IsEarly self.now.session.stage }
+        requires lines { self.now.session.lines < 2 ^ 61 }
+        ensures status { IfOk result (λ s. (place : Place) → IsAt self.now.session.stage place → s ≡ ended_at long (suc self.now.session.lines) place) }
+        ensures judged { IfOk result IsJudgement }
+    {
+        self.session.ended(alloc, long)
     }
 
     /// Feeds a piece behind whole lines.
@@ -68,13 +77,16 @@ impl Reader {
         alloc: Global,
         out: &mut Vec<u8>,
         piece: &[u8],
-    ) -> Result<Option<Stop>, AllocError>
-        requires few { self.old.session.bay.steps + length piece.now < 2 ^ 62 }
-        requires lines { self.old.session.lines + length piece.now < 2 ^ 62 }
+    ) -> Result<Option<Status>, AllocError>
+        requires few { steps_in self.old.session.stage + length piece.now < 2 ^ 61 }
+        requires early { IsEarly self.old.session.stage }
+        requires lines { self.old.session.lines + length piece.now < 2 ^ 61 }
         requires none { self.old.held.items ≡ [] }
         ensures feeds { IfOk result (λ stop. Feeds stop self.old self.new piece.now out.old.items out.new.items) }
+        ensures judged { IfOk result (λ stop. IfSome stop IsJudgement) }
         ensures part { OnOk result (NoNewline self.new.held.items) }
-        ensures few { OnOk result (self.new.session.bay.steps ≤ self.old.session.bay.steps + length piece.now) }
+        ensures few { OnOk result (steps_in self.new.session.stage ≤ steps_in self.old.session.stage + length piece.now) }
+        ensures early { OnOk result (IsEarly self.new.session.stage) }
         ensures lines { OnOk result (self.new.session.lines ≤ self.old.session.lines + length piece.now) }
     {
         let (stop, rest) = read_lines(alloc, &mut self.session, out, piece)?;
@@ -93,13 +105,16 @@ impl Reader {
         alloc: Global,
         out: &mut Vec<u8>,
         piece: &[u8],
-    ) -> Result<Option<Stop>, AllocError>
-        requires few { self.old.session.bay.steps + length piece.now < 2 ^ 62 }
-        requires lines { self.old.session.lines + length piece.now < 2 ^ 62 }
+    ) -> Result<Option<Status>, AllocError>
+        requires few { steps_in self.old.session.stage + length piece.now < 2 ^ 61 }
+        requires early { IsEarly self.old.session.stage }
+        requires lines { self.old.session.lines + length piece.now < 2 ^ 61 }
         requires part { NoNewline self.old.held.items }
         ensures feeds { IfOk result (λ stop. Feeds stop self.old self.new piece.now out.old.items out.new.items) }
+        ensures judged { IfOk result (λ stop. IfSome stop IsJudgement) }
         ensures part { OnOk result (NoNewline self.new.held.items) }
-        ensures few { OnOk result (self.new.session.bay.steps ≤ self.old.session.bay.steps + length piece.now) }
+        ensures few { OnOk result (steps_in self.new.session.stage ≤ steps_in self.old.session.stage + length piece.now) }
+        ensures early { OnOk result (IsEarly self.new.session.stage) }
         ensures lines { OnOk result (self.new.session.lines ≤ self.old.session.lines + length piece.now) }
     {
         if self.held.is_empty() {

@@ -1,11 +1,15 @@
-ghost use Rattle.std.specs.Prelude.{◌≡◌, ◌≤◌, ◌<◌, ◌+◌, ◌^◌, [], suc, false, length, take, Some, IfOk, OnOk};
-ghost use Rattle.std.specs.Io.KnownBytes.{Appends, Consumes, IsAtEnd};
+ghost use Rattle.std.specs.Prelude.{◌≡◌, ◌≤◌, ◌<◌, ◌+◌, ◌^◌, [], length, IfOk, IfSome, OnOk};
+ghost use Rattle.std.specs.Io.KnownBytes.{Appends};
 ghost use Rattle.sv_io.specs.Causes.{HasCause, Rose};
-ghost use Rattle.replay_run.specs.Lines.{NoNewline};
-ghost use Rattle.replay_run.specs.Sessions.{Takes};
-ghost use Rattle.replay_run.specs.Tool.{status_by};
+ghost use Rattle.replay_run.specs.Sessions.{NoNewline, Takes, steps_in, IsEarly};
+ghost use Rattle.replay_run.specs.Tool.{IsJudgement};
 
-use crate::line::Stop;
+ghost use Rattle.std.specs.Prelude.{suc};
+ghost use Rattle.replay_run.specs.Moves.{Place};
+ghost use Rattle.replay_run.specs.Records.{ended};
+ghost use Rattle.replay_run.specs.Sessions.{IsAt};
+ghost use Rattle.replay_run.specs.Tool.{IsOfEnd};
+
 use crate::pieces::read_piece;
 use crate::reader::Reader;
 use crate::status::Status;
@@ -14,17 +18,6 @@ use sv_io::{Failed, Sink, Source};
 
 /// The most octets of a record.
 const LIMIT: usize = 67108864;
-
-/// The status where reading stops at a line.
-fn stopped(stop: Stop, line: u32) -> Status
-    ensures { result ≡ status_by false line (Some stop) }
-{
-    match stop {
-        Stop::End => Status::Ok,
-        Stop::Refused => Status::Record { line, kind: 5 },
-        Stop::NotListed => Status::Record { line, kind: 9 },
-    }
-}
 
 /// Hands what was written to the sink.
 fn flush<K: Sink>(out: &mut Vec<u8>, sink: &mut K) -> Result<(), Failed>
@@ -51,14 +44,6 @@ enum Halt {
     Write,
 }
 
-/// The line behind those that a reader has read, counted from 1.
-fn next_line(reader: &Reader) -> u32
-    requires { reader.now.session.lines < 2 ^ 31 }
-    ensures { result ≡ suc reader.now.session.lines }
-{
-    (reader.lines() + 1) as u32
-}
-
 /// Feeds a piece, and hands the answers to the sink.
 fn take_piece<K: Sink>(
     alloc: Global,
@@ -66,14 +51,17 @@ fn take_piece<K: Sink>(
     out: &mut Vec<u8>,
     piece: &[u8],
     sink: &mut K,
-) -> Result<Option<Stop>, Halt>
-    requires few { reader.old.session.bay.steps + length piece.now < 2 ^ 62 }
-    requires lines { reader.old.session.lines + length piece.now < 2 ^ 62 }
+) -> Result<Option<Status>, Halt>
+    requires few { steps_in reader.old.session.stage + length piece.now < 2 ^ 61 }
+    requires early { IsEarly reader.old.session.stage }
+    requires lines { reader.old.session.lines + length piece.now < 2 ^ 61 }
     requires part { NoNewline reader.old.held.items }
     requires empty { out.old.items ≡ [] }
     ensures takes { IfOk result (λ stop. Takes stop reader.old reader.new piece.now (K.taken sink.old) (K.taken sink.new)) }
+    ensures judged { IfOk result (λ stop. IfSome stop IsJudgement) }
     ensures part { OnOk result (NoNewline reader.new.held.items) }
-    ensures few { OnOk result (reader.new.session.bay.steps ≤ reader.old.session.bay.steps + length piece.now) }
+    ensures few { OnOk result (steps_in reader.new.session.stage ≤ steps_in reader.old.session.stage + length piece.now) }
+    ensures early { OnOk result (IsEarly reader.new.session.stage) }
     ensures lines { OnOk result (reader.new.session.lines ≤ reader.old.session.lines + length piece.now) }
     ensures empty { OnOk result (out.new.items ≡ []) }
     ensures later { K.faults sink.old ≤ K.faults sink.new }
@@ -85,6 +73,19 @@ fn take_piece<K: Sink>(
             Err(Failed) => Err(Halt::Write),
         },
         Err(AllocError) => Err(Halt::Memory),
+    }
+}
+
+/// The status where no whole line is left: the record passes the limit of octets, or ends.
+fn end(alloc: Global, reader: &Reader, long: bool) -> Status
+    requires early { IsEarly reader.now.session.stage }
+    requires lines { reader.now.session.lines < 2 ^ 61 }
+    ensures status { IsJudgement result → (place : Place) → IsAt reader.now.session.stage place → result ≡ ended long (suc reader.now.session.lines) place }
+    ensures listed { IsOfEnd result }
+{
+    match reader.ended(alloc, long) {
+        Ok(status) => status,
+        Err(AllocError) => Status::Memory,
     }
 }
 
@@ -149,8 +150,7 @@ impl Replay {
             Err(Failed) => return Some(Status::ReadFault),
         };
         if length == 0 {
-            let line = next_line(&self.reader);
-            return Some(Status::Record { line, kind: 7 });
+            return Some(end(alloc, &self.reader, false));
         }
         match take_piece(
             alloc,
@@ -163,14 +163,14 @@ impl Replay {
                 self.count += length;
                 None
             }
-            Ok(Some(stop)) => Some(stopped(stop, next_line(&self.reader))),
+            Ok(Some(status)) => Some(status),
             Err(Halt::Memory) => Some(Status::Memory),
             Err(Halt::Write) => Some(Status::WriteFault),
         }
     }
 
     /// The status where the limit of octets is reached, with no whole line behind those that were read.
-    pub fn at_limit<S: Source>(&self, source: &mut S) -> Status
+    pub fn at_limit<S: Source>(&self, alloc: Global, source: &mut S) -> Status
         requires ready { IsReady self.now }
         requires full { 67108864 ≤ self.now.count }
         ensures told { (left taken told : Option (List ℕ)) → Run self.now.reader left (S.left source.old) taken told self.now.count → IsJudgement result → IfSome left (λ b. Answers b result taken told) }
@@ -179,10 +179,8 @@ impl Replay {
         ensures write { result ≢ statuses.WriteFault }
         ensures later { S.faults source.old ≤ S.faults source.new }
     {
-        let line = next_line(&self.reader);
         match read_piece(source, &mut [0u8; 1], 1) {
-            Ok(0) => Status::Record { line, kind: 7 },
-            Ok(_) => Status::Limit { which: 3, line },
+            Ok(length) => end(alloc, &self.reader, length > 0),
             Err(Failed) => Status::ReadFault,
         }
     }

@@ -8,11 +8,11 @@ pub enum Status {
     /// The words aren't those of a command.
     Words,
     /// A line of the record is refused.
-    Record { line: u32, kind: u8 },
+    Record { line: u64, kind: u8 },
     /// A line of the configuration is refused.
-    Config { line: u32, kind: u8 },
+    Config { line: u64, kind: u8 },
     /// A limit is passed in a line of the record: 3 for its octets.
-    Limit { which: u8, line: u32 },
+    Limit { which: u8, line: u64 },
     /// There was no memory left.
     Memory,
     /// The source failed.

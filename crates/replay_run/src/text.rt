@@ -1,13 +1,16 @@
 ghost use Rattle.std.specs.Prelude.{◌≡◌, ◌++◌, [], codes, decimal, OnOk, if◌then◌else◌};
 ghost use Rattle.std.specs.List.{flat_map};
 ghost use Rattle.hex.specs.Hex.{encode_lower};
-ghost use Rattle.replay_run.specs.Texts.{answer_lines, report_head, report_text, member_text, reason_letters, letter_if};
+ghost use Rattle.std.specs.Prelude.{slice_get};
+ghost use Rattle.replay_run.specs.Texts.{answer_lines, report_head, report_text, block_text, member_text, reason_letters, letter_if};
 ghost use Rattle.bay_model.specs.declared.answer.Answer.TheVariants.{Wrote};
+ghost use Rattle.sv_base.specs.declared.config.Config.{Config};
 
 use bay_model::{Answer, Member, Output, Reasons, Report};
 use itoa::Buffer;
+use object_model::Model;
 use std::alloc::{AllocError, Global};
-use sv_base::AssocNo;
+use sv_base::{ActorNo, BlockNo};
 
 /// Writes a number in decimal.
 pub fn push_number(out: &mut Vec<u8>, n: u64) -> Result<(), AllocError>
@@ -74,12 +77,33 @@ fn push_flag(out: &mut Vec<u8>, on: bool) -> Result<(), AllocError>
     out.extend_from_slice(if on { b"1" } else { b"0" })
 }
 
+/// Writes the reference of a block.
+fn push_block(out: &mut Vec<u8>, model: &Model, block: BlockNo) -> Result<(), AllocError>
+    ensures { OnOk result (out.new.items ≡ out.old.items ++ block_text (slice_get model.now.blocks block.0)) }
+{
+    if let Some(def) = model.config().blocks.get(block.0 as usize) {
+        out.extend_from_slice(def.domain.as_slice())?;
+        out.push(b'/')?;
+        out.extend_from_slice(def.ln.as_slice())?;
+        out.extend_from_slice(b"$BR$")?;
+        out.extend_from_slice(def.name.as_slice())?;
+    }
+    Ok(())
+}
+
 /// Writes the fields of a report, before its members.
-fn push_head(out: &mut Vec<u8>, a: AssocNo, report: &Report) -> Result<(), AllocError>
-    ensures { OnOk result (out.new.items ≡ out.old.items ++ report_head a.0 report.now) }
+fn push_head(
+    out: &mut Vec<u8>,
+    model: &Model,
+    a: ActorNo,
+    report: &Report,
+) -> Result<(), AllocError>
+    ensures { OnOk result (out.new.items ≡ out.old.items ++ report_head model.now a.0 report.now) }
 {
     push_number(out, u64::from(a.0))?;
-    out.extend_from_slice(b" report BAY1/LLN0$BR$brcbEv01 sq ")?;
+    out.extend_from_slice(b" report ")?;
+    push_block(out, model, report.block)?;
+    out.extend_from_slice(b" sq ")?;
     push_number(out, u64::from(report.sq))?;
     out.extend_from_slice(b" id ")?;
     push_number(out, report.id)?;
@@ -94,24 +118,25 @@ fn push_head(out: &mut Vec<u8>, a: AssocNo, report: &Report) -> Result<(), Alloc
 fn push_report(
     alloc: Global,
     out: &mut Vec<u8>,
-    a: AssocNo,
+    model: &Model,
+    a: ActorNo,
     report: &Report,
 ) -> Result<(), AllocError>
-    ensures { OnOk result (out.new.items ≡ out.old.items ++ report_text a.0 report.now) }
+    ensures { OnOk result (out.new.items ≡ out.old.items ++ report_text model.now a.0 report.now) }
 {
-    push_head(out, a, report)?;
+    push_head(out, model, a, report)?;
     push_members(alloc, out, report.members.as_slice())?;
     out.push(b'\n')?;
     Ok(())
 }
 
 /// Writes the outcome of a write.
-pub fn push_outcome(
+fn push_outcome(
     out: &mut Vec<u8>,
-    a: AssocNo,
+    a: ActorNo,
     outcome: Result<(), u8>,
 ) -> Result<(), AllocError>
-    ensures { OnOk result (out.new.items ≡ out.old.items ++ answer_lines a.0 (Wrote outcome)) }
+    ensures { (c : Config) → OnOk result (out.new.items ≡ out.old.items ++ answer_lines c a.0 (Wrote outcome)) }
 {
     push_number(out, u64::from(a.0))?;
     match outcome {
@@ -125,28 +150,29 @@ pub fn push_outcome(
     }
 }
 
-/// Writes the lines of an answer to a direct association.
+/// Writes an answer of one word.
+fn push_word(out: &mut Vec<u8>, a: ActorNo, word: &[u8]) -> Result<(), AllocError>
+    ensures { OnOk result (out.new.items ≡ out.old.items ++ (decimal a.0 ++ word.now)) }
+{
+    push_number(out, u64::from(a.0))?;
+    out.extend_from_slice(word)
+}
+
+/// Writes the lines of an answer to a step of an association's.
 pub fn push_answer(
     alloc: Global,
     out: &mut Vec<u8>,
-    a: AssocNo,
+    model: &Model,
+    a: ActorNo,
     answer: &Answer,
 ) -> Result<(), AllocError>
-    ensures { OnOk result (out.new.items ≡ out.old.items ++ answer_lines a.0 answer.now) }
+    ensures { OnOk result (out.new.items ≡ out.old.items ++ answer_lines model.now a.0 answer.now) }
 {
     match answer {
         Answer::Wrote(outcome) => push_outcome(out, a, *outcome),
         Answer::Empty => push_word(out, a, b" empty\n"),
         Answer::Closed => push_word(out, a, b" closed\n"),
-        Answer::Taken(Output::Report(report)) => push_report(alloc, out, a, report),
+        Answer::Taken(Output::Report(report)) => push_report(alloc, out, model, a, report),
         _ => Ok(()),
     }
-}
-
-/// Writes an answer of one word.
-fn push_word(out: &mut Vec<u8>, a: AssocNo, word: &[u8]) -> Result<(), AllocError>
-    ensures { OnOk result (out.new.items ≡ out.old.items ++ (decimal a.0 ++ word.now)) }
-{
-    push_number(out, u64::from(a.0))?;
-    out.extend_from_slice(word)
 }

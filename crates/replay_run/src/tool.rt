@@ -34,7 +34,7 @@ fn replay<S: Source, K: Sink>(alloc: Global, source: &mut S, sink: &mut K) -> St
             return status;
         }
     }
-    replay.at_limit(source)
+    replay.at_limit(alloc, source)
 }
 
 /// Does all that the program does. With the word `replay` it reads a record from the source, and writes the answers to its

@@ -4,7 +4,7 @@ use Rattle.replay_run.proofs.Feeding.{read-none, read-more}
 use Rattle.replay_run.proofs.reader.read_lines.Goals as goal
 
 pub loop-line-init : goal.loop-line-init
-loop-line-init c = record { read = read-none c.args.session.now c.args.octets.now c.args.out.now.items; lines = omega arith; few = omega arith }
+loop-line-init c = record { read = read-none c.args.session.now c.args.octets.now c.args.out.now.items; lines = omega arith; few = omega arith; early = c.requires.early }
 
 pub returns-in-Some-2-clause-read : goal.returns-in-Some-2-clause-read
 returns-in-Some-2-clause-read c =
@@ -23,4 +23,5 @@ loop-line-preserved c =
       read = record { done = more.0; split = more.1; moves = more.2 };
       lines = omega (arith, c.loop-line.invariant.lines, c.in_ok-stop.ensures.lines, shorter, length-append c.in-Some.line.now (10 ∷ c.in-Some.after.now));
       few = omega (arith, c.loop-line.invariant.few, c.in_ok-stop.ensures.few, shorter, length-append c.in-Some.line.now (10 ∷ c.in-Some.after.now));
+      early = c.in_ok-stop.ensures.early;
     }

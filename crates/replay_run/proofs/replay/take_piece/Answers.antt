@@ -8,5 +8,5 @@ returns-in-Ok-flush-clause-takes g c = λ so_far written f.
     record {
       added = fed.added;
       taken = subst (λ o. Appends (g.K.Sink.taken c.args.sink.now) (g.K.Sink.taken c.flush.new.sink) o) (fed.out ∙ ap (λ o. o ++ fed.added) c.requires.empty) c.in-Ok-flush.ensures.taken;
-      goes = fed.goes;
+      on = fed.on;
     }

@@ -9,6 +9,7 @@ pub returns-clause-ready : goal.returns-clause-ready
 returns-clause-ready c = record {
   part = c.new.ensures.part;
   few = omega (arith, c.new.ensures.steps);
+  early = c.new.ensures.early;
   lines = omega (arith, c.new.ensures.lines);
   within = omega arith;
   empty = c.new-2.ensures.items;

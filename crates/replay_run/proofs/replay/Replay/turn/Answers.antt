@@ -1,9 +1,6 @@
-use Rattle.std.proofs.Common.{◌≡◌, ◌≤◌, ◌+◌, [], length, take, ap, subst, ◌∙◌, arith, length-take, false}
-use Rattle.std.specs.Prelude.{Some}
+use Rattle.std.proofs.Common.{◌≡◌, ◌≤◌, ◌+◌, [], length, take, subst, arith, length-take}
 use Rattle.std.specs.Io.KnownBytes.{Consumes}
 use Rattle.replay_run.specs.Runs.{Run}
-use Rattle.replay_run.specs.Tool.{status_by}
-use Rattle.replay_run.specs.declared.status.Status.TheVariants as statuses
 use Rattle.replay_run.proofs.Judging.{run-more, run-stops, run-ends}
 use Rattle.replay_run.proofs.replay.Replay.turn.Goals as goal
 
@@ -11,7 +8,7 @@ pub returns-then-length-eq0-clause-turns : goal.returns-then-length-eq0-clause-t
 returns-then-length-eq0-clause-turns g c = λ left taken r j.
     let none : Consumes (g.S.Source.left c.args.source.now) (g.S.Source.left c.read_piece.new.source) [] = subst (λ n. Consumes (g.S.Source.left c.args.source.now) (g.S.Source.left c.read_piece.new.source) (take n c.read_piece.new.buf)) c.if-length-eq0.true c.in-Ok.ensures.bytes.0 in
     run-ends c.args.self.now.reader left (g.S.Source.left c.args.source.now) (g.S.Source.left c.read_piece.new.source) taken (g.K.Sink.taken c.args.sink.now) c.args.self.now.count _ r none
-    (c.in-Ok.ensures.bytes.1 c.if-length-eq0.true) c.requires.ready.part c.requires.ready.within (ap (λ n. statuses.Record n 7) c.next_line-line.ensures)
+    (c.in-Ok.ensures.bytes.1 c.if-length-eq0.true) c.requires.ready.part c.requires.ready.within (c.end.ensures.status j)
 
 pub returns-in-Ok-None-clause-turns : goal.returns-in-Ok-None-clause-turns
 returns-in-Ok-None-clause-turns g c = λ left taken r.
@@ -25,8 +22,7 @@ returns-in-Ok-None-clause-turns g c = λ left taken r.
 pub returns-in-Ok-Some-clause-turns : goal.returns-in-Ok-Some-clause-turns
 returns-in-Ok-Some-clause-turns g c = λ left taken r j.
     let eaten : Consumes (g.S.Source.left c.args.source.now) (g.S.Source.left c.read_piece.new.source) (take c.in-Ok.length c.read_piece.new.buf) = c.in-Ok.ensures.bytes.0 in
-    let short : length (take c.in-Ok.length c.read_piece.new.buf) ≤ c.in-Ok.length = rw length-take (omega arith) in
+    let short : length (take c.in-Ok.length c.read_piece.new.buf) ≤ c.in-Ok.length = rw length-take (omega (arith)) in
     let takes = rw c.in-Ok-Some.field-0-is at c.in-Ok-Some.ensures.takes in
     run-stops c.args.self.now.reader c.take_piece.new.reader left (g.S.Source.left c.args.source.now) (g.S.Source.left c.read_piece.new.source) taken (g.K.Sink.taken c.args.sink.now) (g.K.Sink.taken c.take_piece.new.sink)
-    c.args.self.now.count (take c.in-Ok.length c.read_piece.new.buf) c.in-Ok-Some.stop c.stopped.result r eaten takes (omega (arith, short, c.in-Ok.ensures.bound, c.min-room.ensures, c.requires.room))
-    (c.stopped.ensures ∙ ap (λ n. status_by false n (Some c.in-Ok-Some.stop)) c.next_line.ensures)
+    c.args.self.now.count (take c.in-Ok.length c.read_piece.new.buf) c.in-Ok-Some.status r eaten takes (omega (arith, short, c.in-Ok.ensures.bound, c.min-room.ensures, c.requires.room))

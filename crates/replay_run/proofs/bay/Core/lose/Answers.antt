@@ -1,9 +1,0 @@
-use Rattle.std.proofs.Common.{rules, length}
-use Rattle.bay_model.specs.Answers.{points}
-use Rattle.bay_model.specs.Example.{example}
-use Rattle.replay_run.proofs.Steps.{stands-lost}
-use Rattle.replay_run.proofs.bay.Core.lose.Goals as goal
-
-pub returns-clause-stands : goal.returns-clause-stands
-returns-clause-stands c = λ h s. stands-lost c.args.self.now (points (example c.args.self.now.buffer.capacity) h) (length h) c.args.moment c.later-self.result c.later-self.ensures s c.args.a.0
-    c.enabler_without-enabler.result (search rules) c.enabler_without-enabler.ensures
