@@ -125,37 +125,174 @@ fn records_are_answered_as_the_rules_say(rt: HostRuntime) -> Result<(), Fail> {
     Ok(())
 }
 
+/// Step lines behind the example configuration with capacity 200, the status, and what was answered.
+const ENDS: [(&str, Status, &str); 28] = [
+    ("", Status::Record { line: 22, kind: 7 }, ""),
+    ("open 1 direct\n", Status::Record { line: 23, kind: 7 }, ""),
+    (
+        "open 1 direct\nend",
+        Status::Record { line: 23, kind: 7 },
+        "",
+    ),
+    ("end\nno line\n", Status::Ok, "end\n"),
+    ("# a remark\n\ntick\nend\n", Status::Ok, "end\n"),
+    // words and numbers
+    (
+        "take 1\ntock\nend\n",
+        Status::Record { line: 23, kind: 1 },
+        "1 closed\n",
+    ),
+    ("open 17 direkt\n", Status::Record { line: 22, kind: 1 }, ""),
+    ("take  1\n", Status::Record { line: 22, kind: 1 }, ""),
+    ("take 17\n", Status::Record { line: 22, kind: 2 }, ""),
+    (
+        "at 441763199999\n",
+        Status::Record { line: 22, kind: 2 },
+        "",
+    ),
+    ("take\t1\n", Status::Record { line: 22, kind: 8 }, ""),
+    // names before the state of an association, and that before values
+    (
+        "set NO/SUCH$MX$x 1\n",
+        Status::Record { line: 22, kind: 3 },
+        "",
+    ),
+    (
+        "set BAY1/MMXU1$MX$TotW$mag$i x BAY1/MMXU1$MX$x 1\n",
+        Status::Record { line: 22, kind: 3 },
+        "",
+    ),
+    (
+        "write 1 BAY1/LLN0$BR$brcbEv02 RptEna T\n",
+        Status::Record { line: 22, kind: 3 },
+        "",
+    ),
+    (
+        "write 1 BAY1/LLN0$BR$brcbEv01 rptEna T\n",
+        Status::Record { line: 22, kind: 3 },
+        "",
+    ),
+    (
+        "done BAY1/CSWI1$CO$Pos T\n",
+        Status::Record { line: 22, kind: 3 },
+        "",
+    ),
+    (
+        "write 1 BAY1/LLN0$BR$brcbEv01 EntryID x0\n",
+        Status::Record { line: 22, kind: 5 },
+        "",
+    ),
+    ("lost 2\nend\n", Status::Record { line: 22, kind: 5 }, ""),
+    ("pdu 1 00\n", Status::Record { line: 22, kind: 5 }, ""),
+    (
+        "open 1 direct\ntake 1\nopen 1 mms 1024\n",
+        Status::Record { line: 24, kind: 5 },
+        "1 empty\n",
+    ),
+    // values
+    (
+        "set BAY1/MMXU1$MX$TotW$mag$i 2147483648\n",
+        Status::Record { line: 22, kind: 4 },
+        "",
+    ),
+    (
+        "set BAY1/GGIO1$ST$Ind1$stVal 1\n",
+        Status::Record { line: 22, kind: 4 },
+        "",
+    ),
+    (
+        "open 1 direct\nwrite 1 BAY1/LLN0$BR$brcbEv01 EntryID x000000000000000A\n",
+        Status::Record { line: 23, kind: 4 },
+        "",
+    ),
+    (
+        "open 1 direct\nwrite 1 BAY1/LLN0$BR$brcbEv01 RptEna 1\nend\n",
+        Status::Ok,
+        "1 refused 7\nend\n",
+    ),
+    (
+        "open 1 direct\nwrite 1 BAY1/LLN0$BR$brcbEv01 EntryID x00\nend\n",
+        Status::Ok,
+        "1 refused 7\nend\n",
+    ),
+    // what isn't built
+    ("open 1 wire\n", Status::Record { line: 22, kind: 9 }, ""),
+    (
+        "open 1 mms 1024\n",
+        Status::Record { line: 22, kind: 9 },
+        "",
+    ),
+    (
+        "open 1 direct\nwrite 1 BAY1/LLN0$BR$brcbEv01 GI T\n",
+        Status::Record { line: 23, kind: 9 },
+        "",
+    ),
+];
+
+/// Whole records, the status, and what was answered.
+const RECORDS: [(&str, Status, &str); 11] = [
+    ("", Status::Record { line: 1, kind: 7 }, ""),
+    ("# a remark\n", Status::Record { line: 2, kind: 7 }, ""),
+    ("open 1 direct\n", Status::Record { line: 1, kind: 1 }, ""),
+    ("record 1 1\n", Status::Record { line: 1, kind: 1 }, ""),
+    (
+        "# a remark\nrecord 2\n",
+        Status::Record { line: 2, kind: 2 },
+        "",
+    ),
+    ("record 1\n", Status::Config { line: 2, kind: 2 }, ""),
+    (
+        "\nrecord 1\nconfig 1\nserver a b\nend\n",
+        Status::Config { line: 4, kind: 1 },
+        "",
+    ),
+    (
+        "record 1\nconfig 1\nserver a b c\nend\ntake 1\nend\n",
+        Status::Ok,
+        "1 closed\nend\n",
+    ),
+    (
+        "record 1\nconfig 1\nserver a b c\nld A\nln LLN0\nbrcb b ' 'A/LLN0$S 1 0000000000 0 000000 0 100\nend\n",
+        Status::Config { line: 6, kind: 9 },
+        "",
+    ),
+    (
+        "record 1\nconfig 1\nserver a b c\nld A\nln LLN0\nbrcb b ' ' 1 0000000000 0 000000 0 100\nbrcb c ' ' 1 0000000000 5 000000 0 100\nend\n",
+        Status::Record { line: 7, kind: 9 },
+        "",
+    ),
+    (
+        "# a remark\nrecord 1\nconfig 1\nserver a b c\nld A\nln LLN0\nsgcb 2 1\nend\n",
+        Status::Record { line: 7, kind: 9 },
+        "",
+    ),
+];
+
 #[test]
 fn a_status_says_why_a_replay_ended(rt: HostRuntime) -> Result<(), Fail> {
     let alloc = rt.alloc();
     let replay = one_word(alloc, "replay")?;
-    let table = [
-        ("", Status::Record { line: 22, kind: 7 }, ""),
-        ("open 1 direct\n", Status::Record { line: 23, kind: 7 }, ""),
-        (
-            "open 1 direct\nend",
-            Status::Record { line: 23, kind: 7 },
-            "",
-        ),
-        (
-            "open 1 direct\ntake 1\nopen 1 direct\nend\n",
-            Status::Record { line: 24, kind: 5 },
-            "1 empty\n",
-        ),
-        ("lost 2\nend\n", Status::Record { line: 22, kind: 5 }, ""),
-        (
-            "take 1\ntick\nend\n",
-            Status::Record { line: 23, kind: 9 },
-            "1 closed\n",
-        ),
-        ("end\nno line\n", Status::Ok, "end\n"),
-    ];
-    for (steps, wanted, answer) in &table {
+    for (steps, wanted, answer) in &ENDS {
         let mut source = MemSource::new(record(alloc, "200", steps)?, no_calls(alloc));
         let mut sink = MemSink::new(alloc, no_calls(alloc));
         let status = tool(alloc, &replay, &mut source, &mut sink);
         assert_eq!(rt; status, *wanted, "{steps}");
         assert_eq!(rt; sink.octets(), answer.as_bytes(), "{steps}");
+    }
+    Ok(())
+}
+
+#[test]
+fn a_record_is_judged_from_its_first_line_on(rt: HostRuntime) -> Result<(), Fail> {
+    let alloc = rt.alloc();
+    let replay = one_word(alloc, "replay")?;
+    for (text, wanted, answer) in &RECORDS {
+        let octets = Octs::from_vec(Vec::from_slice(alloc, text.as_bytes())?);
+        let mut source = MemSource::new(octets, no_calls(alloc));
+        let mut sink = MemSink::new(alloc, no_calls(alloc));
+        let status = tool(alloc, &replay, &mut source, &mut sink);
+        assert_eq!(rt; status, *wanted, "{text}");
+        assert_eq!(rt; sink.octets(), answer.as_bytes(), "{text}");
     }
     Ok(())
 }
