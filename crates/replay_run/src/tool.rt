@@ -10,7 +10,7 @@ use std::alloc::Global;
 use sv_io::{Sink, Source};
 
 /// The words of the command line are this one word.
-fn is_word(words: &[String], wanted: &str) -> bool
+pub fn is_word(words: &[String], wanted: &str) -> bool
     ensures { IsTrue result ↔ IsWord wanted.now words.now }
 {
     match words {
