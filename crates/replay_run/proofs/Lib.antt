@@ -3,6 +3,7 @@ pub mod OpenLaws
 pub mod PlayLaws
 pub mod Served
 pub mod StartLaws
+pub mod StageLaws
 pub mod ReadingOn
 pub mod Feeding
 pub mod Judging

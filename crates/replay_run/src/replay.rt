@@ -1,4 +1,4 @@
-ghost use Rattle.std.specs.Prelude.{◌≡◌, ◌≤◌, ◌<◌, ◌+◌, ◌^◌, [], length, IfOk, IfSome, OnOk};
+ghost use Rattle.std.specs.Prelude.{◌≡◌, ◌≤◌, ◌<◌, ◌+◌, ◌^◌, [], length, IfOk, IfSome, IfNone, OnOk};
 ghost use Rattle.std.specs.Io.KnownBytes.{Appends};
 ghost use Rattle.sv_io.specs.Causes.{HasCause, Rose};
 ghost use Rattle.replay_run.specs.Sessions.{NoNewline, Takes, steps_in, IsEarly};
@@ -60,8 +60,8 @@ fn take_piece<K: Sink>(
     ensures takes { IfOk result (λ stop. Takes stop reader.old reader.new piece.now (K.taken sink.old) (K.taken sink.new)) }
     ensures judged { IfOk result (λ stop. IfSome stop IsJudgement) }
     ensures part { OnOk result (NoNewline reader.new.held.items) }
-    ensures few { OnOk result (steps_in reader.new.session.stage ≤ steps_in reader.old.session.stage + length piece.now) }
-    ensures early { OnOk result (IsEarly reader.new.session.stage) }
+    ensures few { IfOk result (λ stop. IfNone stop (steps_in reader.new.session.stage ≤ steps_in reader.old.session.stage + length piece.now)) }
+    ensures early { IfOk result (λ stop. IfNone stop (IsEarly reader.new.session.stage)) }
     ensures lines { OnOk result (reader.new.session.lines ≤ reader.old.session.lines + length piece.now) }
     ensures empty { OnOk result (out.new.items ≡ []) }
     ensures later { K.faults sink.old ≤ K.faults sink.new }

@@ -13,7 +13,7 @@ pub struct Session {
 }
 
 impl Session {
-    ghost use Rattle.std.specs.Prelude.{◌≡◌, ◌<◌, ◌≤◌, ◌^◌, ◌++◌, ◌∷◌, [], suc, IfOk, IfSome, OnOk};
+    ghost use Rattle.std.specs.Prelude.{◌≡◌, ◌<◌, ◌≤◌, ◌^◌, ◌++◌, ◌∷◌, [], suc, IfOk, IfSome, IfNone, OnOk};
     ghost use Rattle.replay_run.specs.Moves.{Place};
     ghost use Rattle.replay_run.specs.Records.{line_at, ended as ended_at};
     ghost use Rattle.replay_run.specs.Sessions.{NoNewline, IsAt, AdvancesOn, Reads, Moves, steps_in, IsEarly};
@@ -45,8 +45,8 @@ impl Session {
         requires lines { self.old.lines < 2 ^ 61 }
         ensures moves { IfOk result (λ s. AdvancesOn s self.old.stage self.new.stage (λ place. line_at (suc self.old.lines) place line.now) out.old.items out.new.items) }
         ensures judged { IfOk result (λ s. IfSome s IsJudgement) }
-        ensures few { OnOk result (steps_in self.new.stage ≤ suc (steps_in self.old.stage)) }
-        ensures early { OnOk result (IsEarly self.new.stage) }
+        ensures few { IfOk result (λ s. IfNone s (steps_in self.new.stage ≤ suc (steps_in self.old.stage))) }
+        ensures early { IfOk result (λ s. IfNone s (IsEarly self.new.stage)) }
         ensures lines { OnOk result (self.new.lines ≡ suc self.old.lines) }
     {
         self.lines += 1;
@@ -71,8 +71,8 @@ impl Session {
         requires whole { NoNewline line.now }
         ensures moves { IfOk result (λ s. Moves s self.old self.new (line.now ++ 10 ∷ []) out.old.items out.new.items) }
         ensures judged { IfOk result (λ s. IfSome s IsJudgement) }
-        ensures few { OnOk result (steps_in self.new.stage ≤ suc (steps_in self.old.stage)) }
-        ensures early { OnOk result (IsEarly self.new.stage) }
+        ensures few { IfOk result (λ s. IfNone s (steps_in self.new.stage ≤ suc (steps_in self.old.stage))) }
+        ensures early { IfOk result (λ s. IfNone s (IsEarly self.new.stage)) }
         ensures lines { OnOk result (self.new.lines ≤ suc self.old.lines) }
     {
         let stop = self.read_next(alloc, out, line)?;
