@@ -4,6 +4,7 @@ pub mod PlayLaws
 pub mod Served
 pub mod StartLaws
 pub mod StageLaws
+pub mod LimitLaws
 pub mod ReadingOn
 pub mod Feeding
 pub mod Judging

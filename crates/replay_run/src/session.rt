@@ -33,7 +33,7 @@ impl Session {
     }
 
     /// Reads the next line.
-    #[tactic(auto, unfolding(crate::specs::Records::line_at))]
+    #[tactic(none)]
     fn read_next(
         &mut self,
         alloc: Global,
@@ -80,7 +80,6 @@ impl Session {
     }
 
     /// The status where no whole line is left: the record passes the limit of octets, or ends.
-    #[tactic(auto, unfolding(crate::specs::Records::ended))]
     pub fn ended(&self, alloc: Global, long: bool) -> Result<Status, AllocError>
         requires early { IsEarly self.now.stage }
         requires lines { self.now.lines < 2 ^ 61 }

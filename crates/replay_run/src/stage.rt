@@ -129,7 +129,8 @@ impl Stage {
             Stage::Configuring { before, text } => {
                 refused_before(alloc, number, *before, text, status)
             }
-            Stage::Opening | Stage::Playing(_) => Ok(status),
+            Stage::Opening => Ok(status),
+            Stage::Playing(_) => Ok(status),
         }
     }
 
@@ -139,21 +140,20 @@ impl Stage {
         ensures status { IfOk result (λ s. (place : Place) → IsAt self.now place → s ≡ missing_at number place) }
         ensures judged { IfOk result IsJudgement }
     {
+        let status = Status::Record {
+            line: number,
+            kind: 7,
+        };
         match self {
-            Stage::Configuring { before, text } => refused_before(
-                alloc,
-                number,
-                *before,
-                text,
-                Status::Config {
+            Stage::Configuring { before, text } => {
+                let whole = Status::Config {
                     line: number,
                     kind: 2,
-                },
-            ),
-            Stage::Opening | Stage::Playing(_) => Ok(Status::Record {
-                line: number,
-                kind: 7,
-            }),
+                };
+                refused_before(alloc, number, *before, text, whole)
+            }
+            Stage::Opening => Ok(status),
+            Stage::Playing(_) => Ok(status),
         }
     }
 }
