@@ -33,7 +33,6 @@ impl Session {
     }
 
     /// Reads the next line.
-    #[tactic(none)]
     fn read_next(
         &mut self,
         alloc: Global,

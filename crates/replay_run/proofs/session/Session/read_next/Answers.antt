@@ -1,82 +1,29 @@
-use Rattle.std.proofs.Common.{rules, ◌≡◌, ◌<◌, ◌≤◌, ◌^◌, ◌++◌, ◌∷◌, [], suc, IfOk, IfSome, IfNone, OnOk, ℕ, ◌+◌, ◌-◌, ◌*◌, length, ◌/◌, ◌%◌, Bool, true, false, nat_eq, nat_lt, List, slice_index_or, slice_set, bit_and, bit_or, Fits, w8, w32, w64, Bor, MutBor}
-use Rattle.replay_run.specs.Moves.{Place}
-use Rattle.replay_run.specs.Records.{line_at}
-use Rattle.replay_run.specs.Records.{ended as ended_at}
-use Rattle.replay_run.specs.Sessions.{NoNewline, IsAt, AdvancesOn, Reads, Moves, steps_in, IsEarly}
-use Rattle.replay_run.specs.Tool.{IsJudgement}
+use Rattle.std.proofs.Common.{◌≡◌, ◌+◌, suc, arith, ap, subst, ◌∙◌}
+use Rattle.std.proofs.lemmas.Result.{IfOk-weaker}
+use Rattle.replay_run.specs.Records.{passed, lines_at}
+use Rattle.replay_run.specs.Sessions.{AdvancesOn}
+use Rattle.replay_run.proofs.LimitLaws.{over-lines, below-lines}
 use Rattle.replay_run.proofs.session.Session.read_next.Goals as goal
 
--- src/session.rt:52:9
-pub overflow_add-self : goal.overflow_add-self
-overflow_add-self c = ?
-
--- src/session.rt:55:26
-pub passed-requires : goal.passed-requires
-passed-requires c = ?
-
--- src/session.rt:55:26
-pub returns-in_err-status-clause-moves : goal.returns-in_err-status-clause-moves
-returns-in_err-status-clause-moves c = ?
-
--- src/session.rt:55:26
-pub returns-in_err-status-clause-judged : goal.returns-in_err-status-clause-judged
-returns-in_err-status-clause-judged c = ?
-
--- src/session.rt:55:26
-pub returns-in_err-status-clause-few : goal.returns-in_err-status-clause-few
-returns-in_err-status-clause-few c = ?
-
--- src/session.rt:55:26
-pub returns-in_err-status-clause-early : goal.returns-in_err-status-clause-early
-returns-in_err-status-clause-early c = ?
-
--- src/session.rt:55:26
-pub returns-in_err-status-clause-lines : goal.returns-in_err-status-clause-lines
-returns-in_err-status-clause-lines c = ?
-
--- src/session.rt:56:13
 pub returns-then-number-gt-MOST_LINES-clause-moves :
     goal.returns-then-number-gt-MOST_LINES-clause-moves
-returns-then-number-gt-MOST_LINES-clause-moves c = ?
+returns-then-number-gt-MOST_LINES-clause-moves c =
+    let next : c.args.self.now.lines + 1 ≡ suc c.args.self.now.lines = omega arith in
+    over-lines c.in_ok-status.status c.args.self.now.stage (suc c.args.self.now.lines) c.args.line.now c.args.out.now.items (omega (arith, c.if-number-gt-MOST_LINES.true))
+    (λ place at. c.in_ok-status.ensures.status place at ∙ ap (λ n. passed 1 n place) next)
 
--- src/session.rt:56:13
-pub returns-then-number-gt-MOST_LINES-clause-judged :
-    goal.returns-then-number-gt-MOST_LINES-clause-judged
-returns-then-number-gt-MOST_LINES-clause-judged c = ?
-
--- src/session.rt:56:13
-pub returns-then-number-gt-MOST_LINES-clause-lines :
-    goal.returns-then-number-gt-MOST_LINES-clause-lines
-returns-then-number-gt-MOST_LINES-clause-lines c = ?
-
--- src/session.rt:58:9
-pub read-requires-clause-few : goal.read-requires-clause-few
-read-requires-clause-few c = ?
-
--- src/session.rt:58:9
-pub read-requires-clause-early : goal.read-requires-clause-early
-read-requires-clause-early c = ?
-
--- src/session.rt:58:9
-pub read-requires-clause-number : goal.read-requires-clause-number
-read-requires-clause-number c = ?
-
--- src/session.rt:36:5
 pub returns-clause-moves : goal.returns-clause-moves
-returns-clause-moves c = ?
+returns-clause-moves c =
+    let next : c.args.self.now.lines + 1 ≡ suc c.args.self.now.lines = omega arith in
+    IfOk-weaker c.read.result _ _ (λ s h. below-lines s c.args.self.now.stage c.read.new.self (suc c.args.self.now.lines) c.args.line.now c.args.out.now.items c.read.new.out.items
+    (omega (arith, c.if-number-gt-MOST_LINES.false))
+    (subst (λ n. AdvancesOn s c.args.self.now.stage c.read.new.self (λ place. lines_at n place c.args.line.now) c.args.out.now.items c.read.new.out.items) next h)) c.read.ensures.moves
 
--- src/session.rt:36:5
 pub returns-clause-judged : goal.returns-clause-judged
-returns-clause-judged c = ?
+returns-clause-judged c = c.read.ensures.judged
 
--- src/session.rt:36:5
 pub returns-clause-few : goal.returns-clause-few
-returns-clause-few c = ?
+returns-clause-few c = c.read.ensures.few
 
--- src/session.rt:36:5
 pub returns-clause-early : goal.returns-clause-early
-returns-clause-early c = ?
-
--- src/session.rt:36:5
-pub returns-clause-lines : goal.returns-clause-lines
-returns-clause-lines c = ?
+returns-clause-early c = c.read.ensures.early
