@@ -7,6 +7,7 @@ pub mod StageLaws
 pub mod LimitLaws
 pub mod ReadingOn
 pub mod Feeding
+pub mod StatusLaws
 pub mod Judging
 pub mod ReadWhole
 pub mod OneWord

@@ -8,7 +8,8 @@ ghost use Rattle.std.specs.Prelude.{suc};
 ghost use Rattle.replay_run.specs.Moves.{Place};
 ghost use Rattle.replay_run.specs.Records.{ended};
 ghost use Rattle.replay_run.specs.Sessions.{IsAt};
-ghost use Rattle.replay_run.specs.Tool.{IsOfEnd};
+ghost use Rattle.std.specs.Prelude.{◌≢◌};
+ghost use Rattle.replay_run.specs.Tool.{IsOfReplay};
 
 use crate::pieces::read_piece;
 use crate::reader::Reader;
@@ -81,7 +82,9 @@ fn end(alloc: Global, reader: &Reader, long: bool) -> Status
     requires early { IsEarly reader.now.session.stage }
     requires lines { reader.now.session.lines < 2 ^ 61 }
     ensures status { IsJudgement result → (place : Place) → IsAt reader.now.session.stage place → result ≡ ended long (suc reader.now.session.lines) place }
-    ensures listed { IsOfEnd result }
+    ensures listed { IsOfReplay result }
+    ensures read { result ≢ Status.ReadFault }
+    ensures write { result ≢ Status.WriteFault }
 {
     match reader.ended(alloc, long) {
         Ok(status) => status,
@@ -180,7 +183,8 @@ impl Replay {
         ensures later { S.faults source.old ≤ S.faults source.new }
     {
         match read_piece(source, &mut [0u8; 1], 1) {
-            Ok(length) => end(alloc, &self.reader, length > 0),
+            Ok(0) => end(alloc, &self.reader, false),
+            Ok(_) => end(alloc, &self.reader, true),
             Err(Failed) => Status::ReadFault,
         }
     }
