@@ -43,7 +43,7 @@ pub read-more : (stop : Option Status) (old mid new : Session) (octets rest line
     → Moves stop mid new (line ++ 10 ∷ []) between now → (done : List ℕ) × (octets ≡ done ++ after) × Moves stop old new done before now
 read-more stop old mid new octets rest line after before between now h is g = (
   h.done ++ (line ++ 10 ∷ []),
-  h.split ∙ (ap (λ o. h.done ++ o) (is ∙ sym (append_assoc line 10 ∷ [] after)) ∙ sym (append_assoc h.done (line ++ 10 ∷ []) after)),
+  h.split ∙ (ap (λ o. h.done ++ o) (is ∙ sym (append_assoc line (10 ∷ []) after)) ∙ sym (append_assoc h.done (line ++ 10 ∷ []) after)),
   moves-then stop old mid new h.done (line ++ 10 ∷ []) before between now h.moves g,
 )
 

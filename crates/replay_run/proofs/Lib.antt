@@ -3,8 +3,11 @@ pub mod OpenLaws
 pub mod PlayLaws
 pub mod Served
 pub mod StartLaws
+pub mod StageLaws
+pub mod LimitLaws
 pub mod ReadingOn
 pub mod Feeding
+pub mod StatusLaws
 pub mod Judging
 pub mod ReadWhole
 pub mod OneWord

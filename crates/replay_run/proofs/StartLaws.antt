@@ -42,10 +42,10 @@ at_once b h = elim (eqb_tells b.buf_tm 0) [
 
 none-timed : (bs : List BlockDef) → timed_line bs ≡ None → All IsAtOnce bs
 none-timed [] h = All-nil IsAtOnce
-none-timed (b ∷ bs) h = by (is_timed b) refl h where
-  by : (t : Bool) → is_timed b ≡ t → least_of (map (λ (b : BlockDef). b.line) (if t then b ∷ filter is_timed bs else filter is_timed bs)) None ≡ None → All IsAtOnce (b ∷ bs)
-  by true is h = absurd (none-with b.line (least_of (map (λ (b : BlockDef). b.line) (filter is_timed bs)) None) h)
-  by false is h = All-cons IsAtOnce b bs (at_once b is) (none-timed bs h)
+none-timed (b ∷ bs) h = by (is_timed b) (none-timed bs) refl h where
+  by : (t : Bool) → (timed_line bs ≡ None → All IsAtOnce bs) → is_timed b ≡ t → least_of (map (λ (b : BlockDef). b.line) (if t then b ∷ filter is_timed bs else filter is_timed bs)) None ≡ None → All IsAtOnce (b ∷ bs)
+  by true more is h = absurd (none-with b.line (least_of (map (λ (b : BlockDef). b.line) (filter is_timed bs)) None) h)
+  by false more is h = All-cons IsAtOnce b bs (at_once b is) (more h)
 
 pub is_served : (text : List ℕ) (c : Config) → config_at text ≡ Ok c → unbuilt_line c ≡ None → IsServable c
 is_served text c read none =

@@ -11,6 +11,7 @@ use Rattle.replay_run.specs.Texts.{answer_lines}
 use Rattle.replay_run.specs.Played.{Played, turn_at, with_turn, is_open}
 use Rattle.replay_run.specs.Moves.{opening, configuring, playing, Move, goes, stops}
 use Rattle.replay_run.specs.Openings.{opening_at, headed}
+use Rattle.replay_run.specs.Tool.{IsJudgement}
 use Rattle.replay_run.specs.declared.openings.Opened.{Opened}
 use Rattle.replay_run.specs.declared.openings.Opened.TheVariants as openeds
 use Rattle.replay_run.specs.declared.playing.Playing.{Playing}
@@ -60,6 +61,11 @@ abbrev pub Opens : Opened → List ℕ → Type 0
 Opens opened line = (number : ℕ) → OpensTo opened number (opening_at number line)
 
 abbrev pub Starts : Started → Move → Type 0
-Starts (starteds.Plays p) (goes (playing c s) text) = Plays p c s × (p.bay.steps ≡ 0) × (text ≡ [])
+Starts (starteds.Plays p) (goes (playing c s) text) = Plays p c s × (text ≡ [])
 Starts (starteds.Refused status) (stops told text) = (status ≡ told) × (text ≡ [])
 Starts _ _ = ⊥
+
+-- no step is made yet, or a refusal is one that the octets decide
+abbrev pub IsSound : Started → Type 0
+IsSound (starteds.Plays p) = p.bay.steps ≡ 0
+IsSound (starteds.Refused status) = IsJudgement status

@@ -1,5 +1,5 @@
 -- What a reading stands for: the octets so far, and the answers that were written to them.
-use Rattle.std.specs.Prelude.{◌≡◌, ◌==◌, ◌<◌, ◌^◌, ℕ, Bool, false, List, ◌++◌, All, Option, None, Some}
+use Rattle.std.specs.Prelude.{◌≡◌, ◌==◌, ◌<◌, ◌^◌, ℕ, Bool, false, List, [], ◌++◌, All, Option, None, Some}
 use Rattle.std.specs.Io.KnownBytes.{Appends}
 use Rattle.replay_run.specs.Plays.{Plays}
 use Rattle.replay_run.specs.Moves.{Place, opening, configuring, playing, Move, goes, stops}
@@ -34,6 +34,17 @@ abbrev pub Advances : Option Status → Stage → Move → List ℕ → List ℕ
 Advances None new (goes place text) before now = IsAt new place × (now ≡ before ++ text)
 Advances (Some status) new (stops told text) before now = (status ≡ told) × (now ≡ before ++ text)
 Advances _ _ _ _ _ = ⊥
+
+-- before the configuration
+abbrev pub OpensOn : Option Status → Stage → Move → Type 0
+OpensOn None new move = (place : Place) × IsAt new place × (move ≡ goes place [])
+OpensOn (Some status) new move = move ≡ stops status []
+
+-- behind it
+abbrev pub Settles : Option Status → Stage → Move → Type 0
+Settles None new (goes place text) = IsAt new place × (text ≡ [])
+Settles (Some status) new (stops told text) = (status ≡ told) × (text ≡ [])
+Settles _ _ _ = ⊥
 
 abbrev pub AdvancesOn : Option Status → Stage → Stage → (Place → Move) → List ℕ → List ℕ → Type 0
 AdvancesOn status old new move before now = (place : Place) → IsAt old place → Advances status new (move place) before now

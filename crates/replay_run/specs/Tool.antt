@@ -33,11 +33,6 @@ IsJudgement (statuses.Config line kind) = Unit {0}
 IsJudgement (statuses.Limit which line) = Unit {0}
 IsJudgement _ = ⊥
 
--- a status where no line is left
-abbrev pub IsOfEnd : Status → Type 0
-IsOfEnd statuses.Memory = Unit {0}
-IsOfEnd status = IsJudgement status
-
 -- the status is that of the octets, and the sink took the answers to their lines up to where they end
 abbrev pub Answers : List ℕ → Status → Option (List ℕ) → Option (List ℕ) → Type 0
 Answers octets status old new = (status ≡ (outcome octets).status) × Appends old new (outcome octets).text

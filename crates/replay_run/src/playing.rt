@@ -42,7 +42,7 @@ pub struct Playing {
 }
 
 impl Playing {
-    ghost use Rattle.std.specs.Prelude.{◌≡◌, ◌≤◌, ◌<◌, ◌^◌, suc, true, false, [], IfOk, OnOk, slice_index_or, if◌then◌else◌};
+    ghost use Rattle.std.specs.Prelude.{◌≡◌, ◌≤◌, ◌<◌, ◌^◌, suc, true, false, [], IfOk, IfSome, IfNone, OnOk, slice_index_or, if◌then◌else◌};
     ghost use Rattle.object_model.specs.Fits.{fits};
     ghost use Rattle.bay_core.specs.Standing.{StandsFor};
     ghost use Rattle.bay_core.specs.Turns.{IsBuilt};
@@ -50,6 +50,7 @@ impl Playing {
     ghost use Rattle.replay_run.specs.Steps.{played, step_at};
     ghost use Rattle.replay_run.specs.Plays.{Plays, PlaysOn, flags_after, Makes};
     ghost use Rattle.replay_run.specs.Turns.{IsTurnOf};
+    ghost use Rattle.replay_run.specs.Tool.{IsJudgement};
 
     /// A bay before its first step.
     pub fn new(bay: Bay) -> Playing
@@ -126,7 +127,8 @@ impl Playing {
         requires turn { IsTurnOf self.old.bay.config told.now }
         requires few { self.old.bay.steps < 2 ^ 62 }
         ensures plays { IfOk result (λ s. PlaysOn s self.old self.new (λ c p. played number c p told.now) out.old.items out.new.items) }
-        ensures few { OnOk result (self.new.bay.steps ≤ suc self.old.bay.steps) }
+        ensures judged { IfOk result (λ s. IfSome s IsJudgement) }
+        ensures few { IfOk result (λ s. IfNone s (self.new.bay.steps ≤ suc self.old.bay.steps)) }
     {
         match told {
             Told::Skip => Ok(None),
@@ -166,7 +168,8 @@ impl Playing {
     ) -> Result<Option<Status>, AllocError>
         requires few { self.old.bay.steps < 2 ^ 62 }
         ensures plays { IfOk result (λ s. PlaysOn s self.old self.new (λ c p. step_at number c p line.now) out.old.items out.new.items) }
-        ensures few { OnOk result (self.new.bay.steps ≤ suc self.old.bay.steps) }
+        ensures judged { IfOk result (λ s. IfSome s IsJudgement) }
+        ensures few { IfOk result (λ s. IfNone s (self.new.bay.steps ≤ suc self.old.bay.steps)) }
     {
         let line = match read_line(alloc, line) {
             Ok(line) => line,

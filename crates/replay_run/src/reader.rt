@@ -1,4 +1,4 @@
-ghost use Rattle.std.specs.Prelude.{◌≡◌, ◌<◌, ◌≤◌, ◌+◌, ◌^◌, [], length, IfOk, IfSome, OnOk};
+ghost use Rattle.std.specs.Prelude.{◌≡◌, ◌<◌, ◌≤◌, ◌+◌, ◌^◌, [], length, IfOk, IfSome, IfNone, OnOk};
 ghost use Rattle.replay_run.specs.Sessions.{LinesRead, steps_in, IsEarly};
 ghost use Rattle.replay_run.specs.Tool.{IsJudgement};
 
@@ -19,8 +19,8 @@ fn read_lines<'a>(
     requires lines { session.old.lines + length octets.now < 2 ^ 61 }
     ensures read { IfOk result (λ r. LinesRead r.0 r.1.now session.old session.new octets.now out.old.items out.new.items) }
     ensures judged { IfOk result (λ r. IfSome r.0 IsJudgement) }
-    ensures few { IfOk result (λ r. steps_in session.new.stage + length r.1.now ≤ steps_in session.old.stage + length octets.now) }
-    ensures early { OnOk result (IsEarly session.new.stage) }
+    ensures few { IfOk result (λ r. IfNone r.0 (steps_in session.new.stage + length r.1.now ≤ steps_in session.old.stage + length octets.now)) }
+    ensures early { IfOk result (λ r. IfNone r.0 (IsEarly session.new.stage)) }
     ensures lines { IfOk result (λ r. session.new.lines + length r.1.now ≤ session.old.lines + length octets.now) }
 {
     let mut rest = octets;
@@ -41,7 +41,7 @@ pub struct Reader {
 }
 
 impl Reader {
-    ghost use Rattle.std.specs.Prelude.{◌≡◌, ◌<◌, ◌≤◌, ◌+◌, ◌^◌, [], suc, length, IfOk, IfSome, OnOk};
+    ghost use Rattle.std.specs.Prelude.{◌≡◌, ◌<◌, ◌≤◌, ◌+◌, ◌^◌, [], suc, length, IfOk, IfSome, IfNone, OnOk};
     ghost use Rattle.replay_run.specs.Moves.{Place};
     ghost use Rattle.replay_run.specs.Records.{ended as ended_at};
     ghost use Rattle.replay_run.specs.Sessions.{NoNewline, Fed, Feeds, IsAt, steps_in, IsEarly};
@@ -85,8 +85,8 @@ impl Reader {
         ensures feeds { IfOk result (λ stop. Feeds stop self.old self.new piece.now out.old.items out.new.items) }
         ensures judged { IfOk result (λ stop. IfSome stop IsJudgement) }
         ensures part { OnOk result (NoNewline self.new.held.items) }
-        ensures few { OnOk result (steps_in self.new.session.stage ≤ steps_in self.old.session.stage + length piece.now) }
-        ensures early { OnOk result (IsEarly self.new.session.stage) }
+        ensures few { IfOk result (λ stop. IfNone stop (steps_in self.new.session.stage ≤ steps_in self.old.session.stage + length piece.now)) }
+        ensures early { IfOk result (λ stop. IfNone stop (IsEarly self.new.session.stage)) }
         ensures lines { OnOk result (self.new.session.lines ≤ self.old.session.lines + length piece.now) }
     {
         let (stop, rest) = read_lines(alloc, &mut self.session, out, piece)?;
@@ -113,8 +113,8 @@ impl Reader {
         ensures feeds { IfOk result (λ stop. Feeds stop self.old self.new piece.now out.old.items out.new.items) }
         ensures judged { IfOk result (λ stop. IfSome stop IsJudgement) }
         ensures part { OnOk result (NoNewline self.new.held.items) }
-        ensures few { OnOk result (steps_in self.new.session.stage ≤ steps_in self.old.session.stage + length piece.now) }
-        ensures early { OnOk result (IsEarly self.new.session.stage) }
+        ensures few { IfOk result (λ stop. IfNone stop (steps_in self.new.session.stage ≤ steps_in self.old.session.stage + length piece.now)) }
+        ensures early { IfOk result (λ stop. IfNone stop (IsEarly self.new.session.stage)) }
         ensures lines { OnOk result (self.new.session.lines ≤ self.old.session.lines + length piece.now) }
     {
         if self.held.is_empty() {

@@ -1,4 +1,4 @@
-ghost use Rattle.std.specs.Prelude.{◌≡◌, ◌≤◌, ◌<◌, ◌+◌, ◌^◌, [], length, IfOk, IfSome, OnOk};
+ghost use Rattle.std.specs.Prelude.{◌≡◌, ◌≤◌, ◌<◌, ◌+◌, ◌^◌, [], length, IfOk, IfSome, IfNone, OnOk};
 ghost use Rattle.std.specs.Io.KnownBytes.{Appends};
 ghost use Rattle.sv_io.specs.Causes.{HasCause, Rose};
 ghost use Rattle.replay_run.specs.Sessions.{NoNewline, Takes, steps_in, IsEarly};
@@ -7,7 +7,8 @@ ghost use Rattle.std.specs.Prelude.{suc};
 ghost use Rattle.replay_run.specs.Moves.{Place};
 ghost use Rattle.replay_run.specs.Records.{ended};
 ghost use Rattle.replay_run.specs.Sessions.{IsAt};
-ghost use Rattle.replay_run.specs.Tool.{IsOfEnd};
+ghost use Rattle.std.specs.Prelude.{◌≢◌};
+ghost use Rattle.replay_run.specs.Tool.{IsOfReplay};
 
 use crate::pieces::read_piece;
 use crate::reader::Reader;
@@ -59,8 +60,8 @@ fn take_piece<K: Sink>(
     ensures takes { IfOk result (λ stop. Takes stop reader.old reader.new piece.now (K.taken sink.old) (K.taken sink.new)) }
     ensures judged { IfOk result (λ stop. IfSome stop IsJudgement) }
     ensures part { OnOk result (NoNewline reader.new.held.items) }
-    ensures few { OnOk result (steps_in reader.new.session.stage ≤ steps_in reader.old.session.stage + length piece.now) }
-    ensures early { OnOk result (IsEarly reader.new.session.stage) }
+    ensures few { IfOk result (λ stop. IfNone stop (steps_in reader.new.session.stage ≤ steps_in reader.old.session.stage + length piece.now)) }
+    ensures early { IfOk result (λ stop. IfNone stop (IsEarly reader.new.session.stage)) }
     ensures lines { OnOk result (reader.new.session.lines ≤ reader.old.session.lines + length piece.now) }
     ensures empty { OnOk result (out.new.items ≡ []) }
     ensures later { K.faults sink.old ≤ K.faults sink.new }
@@ -80,7 +81,9 @@ fn end(alloc: Global, reader: &Reader, long: bool) -> Status
     requires early { IsEarly reader.now.session.stage }
     requires lines { reader.now.session.lines < 2 ^ 61 }
     ensures status { IsJudgement result → (place : Place) → IsAt reader.now.session.stage place → result ≡ ended long (suc reader.now.session.lines) place }
-    ensures listed { IsOfEnd result }
+    ensures listed { IsOfReplay result }
+    ensures read { result ≢ Status.ReadFault }
+    ensures write { result ≢ Status.WriteFault }
 {
     match reader.ended(alloc, long) {
         Ok(status) => status,
@@ -179,7 +182,8 @@ impl Replay {
         ensures later { S.faults source.old ≤ S.faults source.new }
     {
         match read_piece(source, &mut [0u8; 1], 1) {
-            Ok(length) => end(alloc, &self.reader, length > 0),
+            Ok(0) => end(alloc, &self.reader, false),
+            Ok(_) => end(alloc, &self.reader, true),
             Err(Failed) => Status::ReadFault,
         }
     }

@@ -13,7 +13,7 @@ pub struct Session {
 }
 
 impl Session {
-    ghost use Rattle.std.specs.Prelude.{◌≡◌, ◌<◌, ◌≤◌, ◌^◌, ◌++◌, ◌∷◌, [], suc, IfOk, IfSome, OnOk};
+    ghost use Rattle.std.specs.Prelude.{◌≡◌, ◌<◌, ◌≤◌, ◌^◌, ◌++◌, ◌∷◌, [], suc, IfOk, IfSome, IfNone, OnOk};
     ghost use Rattle.replay_run.specs.Moves.{Place};
     ghost use Rattle.replay_run.specs.Records.{line_at, ended as ended_at};
     ghost use Rattle.replay_run.specs.Sessions.{NoNewline, IsAt, AdvancesOn, Reads, Moves, steps_in, IsEarly};
@@ -33,7 +33,6 @@ impl Session {
     }
 
     /// Reads the next line.
-    #[tactic(auto, unfolding(crate::specs::Records::line_at))]
     fn read_next(
         &mut self,
         alloc: Global,
@@ -45,8 +44,8 @@ impl Session {
         requires lines { self.old.lines < 2 ^ 61 }
         ensures moves { IfOk result (λ s. AdvancesOn s self.old.stage self.new.stage (λ place. line_at (suc self.old.lines) place line.now) out.old.items out.new.items) }
         ensures judged { IfOk result (λ s. IfSome s IsJudgement) }
-        ensures few { OnOk result (steps_in self.new.stage ≤ suc (steps_in self.old.stage)) }
-        ensures early { OnOk result (IsEarly self.new.stage) }
+        ensures few { IfOk result (λ s. IfNone s (steps_in self.new.stage ≤ suc (steps_in self.old.stage))) }
+        ensures early { IfOk result (λ s. IfNone s (IsEarly self.new.stage)) }
         ensures lines { OnOk result (self.new.lines ≡ suc self.old.lines) }
     {
         self.lines += 1;
@@ -71,8 +70,8 @@ impl Session {
         requires whole { NoNewline line.now }
         ensures moves { IfOk result (λ s. Moves s self.old self.new (line.now ++ 10 ∷ []) out.old.items out.new.items) }
         ensures judged { IfOk result (λ s. IfSome s IsJudgement) }
-        ensures few { OnOk result (steps_in self.new.stage ≤ suc (steps_in self.old.stage)) }
-        ensures early { OnOk result (IsEarly self.new.stage) }
+        ensures few { IfOk result (λ s. IfNone s (steps_in self.new.stage ≤ suc (steps_in self.old.stage))) }
+        ensures early { IfOk result (λ s. IfNone s (IsEarly self.new.stage)) }
         ensures lines { OnOk result (self.new.lines ≤ suc self.old.lines) }
     {
         let stop = self.read_next(alloc, out, line)?;
@@ -80,7 +79,6 @@ impl Session {
     }
 
     /// The status where no whole line is left: the record passes the limit of octets, or ends.
-    #[tactic(auto, unfolding(crate::specs::Records::ended))]
     pub fn ended(&self, alloc: Global, long: bool) -> Result<Status, AllocError>
         requires early { IsEarly self.now.stage }
         requires lines { self.now.lines < 2 ^ 61 }

@@ -1,10 +1,23 @@
 //! The parts of a record, one after another.
 
+ghost use Rattle.std.specs.Prelude.{◌≡◌, ◌++◌, ◌∷◌, [], codes, IfOk, OnOk};
+ghost use Rattle.std.specs.Str.{bytes_eq};
+
 use crate::openings::{Opened, open};
 use crate::playing::Playing;
 use crate::starting::{Started, refused_before, start};
 use crate::status::Status;
 use std::alloc::{AllocError, Global};
+
+/// Puts a line of the configuration behind those before it; gives whether it is the last one.
+fn gather(text: &mut Vec<u8>, line: &[u8]) -> Result<bool, AllocError>
+    ensures text { OnOk result (text.new.items ≡ text.old.items ++ (line.now ++ 10 ∷ [])) }
+    ensures end { IfOk result (λ b. b ≡ bytes_eq line.now (codes "end")) }
+{
+    text.extend_from_slice(line)?;
+    text.push(b'\n')?;
+    Ok(line == b"end".as_slice())
+}
 
 /// Where the reading of a record is.
 #[derive(Drop)]
@@ -18,11 +31,60 @@ pub enum Stage {
 }
 
 impl Stage {
-    ghost use Rattle.std.specs.Prelude.{◌≡◌, ◌<◌, ◌≤◌, ◌^◌, suc, IfOk, IfSome, OnOk};
-    ghost use Rattle.replay_run.specs.Moves.{Place};
+    ghost use Rattle.std.specs.Prelude.{◌≡◌, ◌<◌, ◌≤◌, ◌^◌, suc, IfOk, IfSome, IfNone};
+    ghost use Rattle.replay_run.specs.Moves.{Place, Move};
+    ghost use Rattle.replay_run.specs.Plays.{Starts, IsSound};
+    ghost use Rattle.replay_run.specs.Openings.{opening_at};
+    ghost use Rattle.replay_run.specs.declared.stage.Stage.TheVariants as stages;
     ghost use Rattle.replay_run.specs.Records.{lines_at, passed as passed_at, missing as missing_at};
-    ghost use Rattle.replay_run.specs.Sessions.{IsAt, AdvancesOn, steps_in, IsEarly};
+    ghost use Rattle.replay_run.specs.Sessions.{IsAt, AdvancesOn, steps_in, IsEarly, OpensOn, Settles};
     ghost use Rattle.replay_run.specs.Tool.{IsJudgement};
+
+    /// Goes on to another part.
+    fn enter(&mut self, stage: Stage)
+        ensures { self.new ≡ stage }
+    {
+        *self = stage;
+    }
+
+    /// Reads a line before the configuration.
+    fn open(&mut self, alloc: Global, number: u64, line: &[u8]) -> Result<Option<Status>, AllocError>
+        requires stage { self.old ≡ stages.Opening }
+        requires number { number < 2 ^ 62 }
+        ensures moves { IfOk result (λ s. OpensOn s self.new (opening_at number line.now)) }
+        ensures judged { IfOk result (λ s. IfSome s IsJudgement) }
+        ensures few { IfOk result (λ s. IfNone s (steps_in self.new ≡ 0)) }
+        ensures early { IfOk result (λ s. IfNone s (IsEarly self.new)) }
+    {
+        match open(alloc, line)? {
+            Opened::Skip => Ok(None),
+            Opened::Head => {
+                self.enter(Stage::Configuring {
+                    before: number,
+                    text: Vec::new(alloc),
+                });
+                Ok(None)
+            }
+            Opened::Refused(kind) => Ok(Some(Status::Record { line: number, kind })),
+        }
+    }
+
+    /// Goes on with what became of the configuration.
+    fn settle(&mut self, started: Started) -> Option<Status>
+        requires judged { IsSound started }
+        ensures settles { (move : Move) → Starts started move → Settles result self.new move }
+        ensures judged { IfSome result IsJudgement }
+        ensures few { IfNone result (steps_in self.new ≡ 0) }
+        ensures early { IfNone result (IsEarly self.new) }
+    {
+        match started {
+            Started::Plays(playing) => {
+                self.enter(Stage::Playing(playing));
+                None
+            }
+            Started::Refused(status) => Some(status),
+        }
+    }
 
     /// Reads a line, without its newline, and writes the answer to it; or gives the status with which the reading stops.
     pub fn read(
@@ -37,34 +99,17 @@ impl Stage {
         requires number { number < 2 ^ 62 }
         ensures moves { IfOk result (λ s. AdvancesOn s self.old self.new (λ place. lines_at number place line.now) out.old.items out.new.items) }
         ensures judged { IfOk result (λ s. IfSome s IsJudgement) }
-        ensures few { OnOk result (steps_in self.new ≤ suc (steps_in self.old)) }
-        ensures early { OnOk result (IsEarly self.new) }
+        ensures few { IfOk result (λ s. IfNone s (steps_in self.new ≤ suc (steps_in self.old))) }
+        ensures early { IfOk result (λ s. IfNone s (IsEarly self.new)) }
     {
         match self {
-            Stage::Opening => match open(alloc, line)? {
-                Opened::Skip => Ok(None),
-                Opened::Head => {
-                    *self = Stage::Configuring {
-                        before: number,
-                        text: Vec::new(alloc),
-                    };
-                    Ok(None)
-                }
-                Opened::Refused(kind) => Ok(Some(Status::Record { line: number, kind })),
-            },
+            Stage::Opening => self.open(alloc, number, line),
             Stage::Configuring { before, text } => {
-                text.extend_from_slice(line)?;
-                text.push(b'\n')?;
-                if line != b"end".as_slice() {
+                if !gather(text, line)? {
                     return Ok(None);
                 }
-                match start(alloc, *before, text)? {
-                    Started::Plays(playing) => {
-                        *self = Stage::Playing(playing);
-                        Ok(None)
-                    }
-                    Started::Refused(status) => Ok(Some(status)),
-                }
+                let started = start(alloc, *before, text)?;
+                Ok(self.settle(started))
             }
             Stage::Playing(playing) => playing.read(alloc, out, number, line),
         }
@@ -84,7 +129,8 @@ impl Stage {
             Stage::Configuring { before, text } => {
                 refused_before(alloc, number, *before, text, status)
             }
-            Stage::Opening | Stage::Playing(_) => Ok(status),
+            Stage::Opening => Ok(status),
+            Stage::Playing(_) => Ok(status),
         }
     }
 
@@ -94,21 +140,20 @@ impl Stage {
         ensures status { IfOk result (λ s. (place : Place) → IsAt self.now place → s ≡ missing_at number place) }
         ensures judged { IfOk result IsJudgement }
     {
+        let status = Status::Record {
+            line: number,
+            kind: 7,
+        };
         match self {
-            Stage::Configuring { before, text } => refused_before(
-                alloc,
-                number,
-                *before,
-                text,
-                Status::Config {
+            Stage::Configuring { before, text } => {
+                let whole = Status::Config {
                     line: number,
                     kind: 2,
-                },
-            ),
-            Stage::Opening | Stage::Playing(_) => Ok(Status::Record {
-                line: number,
-                kind: 7,
-            }),
+                };
+                refused_before(alloc, number, *before, text, whole)
+            }
+            Stage::Opening => Ok(status),
+            Stage::Playing(_) => Ok(status),
         }
     }
 }

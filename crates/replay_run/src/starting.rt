@@ -5,7 +5,7 @@ ghost use Rattle.sv_base.specs.declared.config.CtlDef.{CtlDef as Control};
 ghost use Rattle.sv_base.specs.declared.config.SgDef.{SgDef as Groups};
 ghost use Rattle.cfg_text.specs.Looking.{config_at};
 ghost use Rattle.replay_run.specs.Openings.{least_with, least_of, is_timed as is_timed_block, timed_line as first_timed, unbuilt_line as first_unbuilt, started};
-ghost use Rattle.replay_run.specs.Plays.{Starts};
+ghost use Rattle.replay_run.specs.Plays.{Starts, IsSound};
 ghost use Rattle.replay_run.specs.Records.{refused_before as refused_before_number};
 ghost use Rattle.replay_run.specs.Tool.{IsJudgement};
 
@@ -92,7 +92,8 @@ pub enum Started {
 /// Reads the configuration behind so many lines, and opens its bay.
 pub fn start(alloc: Global, before: u64, text: &[u8]) -> Result<Started, AllocError>
     requires { before < 2 ^ 62 }
-    ensures { IfOk result (λ s. Starts s (started before (config_at text.now))) }
+    ensures starts { IfOk result (λ s. Starts s (started before (config_at text.now))) }
+    ensures judged { IfOk result IsSound }
 {
     let config = match read_config(alloc, text) {
         Ok(config) => config,

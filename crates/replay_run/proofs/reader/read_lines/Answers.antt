@@ -18,10 +18,12 @@ loop-line-preserved c =
     let moves = rw c.in_default-2.is at c.in_ok-stop.ensures.moves in
     let more = read-more None c.args.session.now c.loop-line.session c.read.new.self c.args.octets.now c.loop-line.rest.now c.in-Some.line.now c.in-Some.after.now c.args.out.now.items c.loop-line.out.items c.read.new.out.items
     c.loop-line.invariant.read c.in-Some.ensures.0 moves in
+    let few = rw c.in_default-2.is at c.in_ok-stop.ensures.few in
+    let early = rw c.in_default-2.is at c.in_ok-stop.ensures.early in
     let shorter : length c.loop-line.rest.now ≡ length (c.in-Some.line.now ++ 10 ∷ c.in-Some.after.now) = ap length c.in-Some.ensures.0 in
     record {
       read = record { done = more.0; split = more.1; moves = more.2 };
       lines = omega (arith, c.loop-line.invariant.lines, c.in_ok-stop.ensures.lines, shorter, length-append c.in-Some.line.now (10 ∷ c.in-Some.after.now));
-      few = omega (arith, c.loop-line.invariant.few, c.in_ok-stop.ensures.few, shorter, length-append c.in-Some.line.now (10 ∷ c.in-Some.after.now));
-      early = c.in_ok-stop.ensures.early;
+      few = omega (arith, c.loop-line.invariant.few, few, shorter, length-append c.in-Some.line.now (10 ∷ c.in-Some.after.now));
+      early = early;
     }

@@ -3,5 +3,15 @@ use Rattle.std.specs.Io.KnownBytes.{Consumes}
 use Rattle.replay_run.proofs.Judging.{run-ends, run-passes}
 use Rattle.replay_run.proofs.replay.Replay.at_limit.Goals as goal
 
+pub returns-in-Ok-eq0-clause-told : goal.returns-in-Ok-eq0-clause-told
+returns-in-Ok-eq0-clause-told g c = λ left taken told r j.
+    let none : Consumes (g.S.Source.left c.args.source.now) (g.S.Source.left c.read_piece.new.source) [] = subst (λ n. Consumes (g.S.Source.left c.args.source.now) (g.S.Source.left c.read_piece.new.source) (take n c.read_piece.new.buf)) c.in-Ok-eq0.field-0-test c.in-Ok-eq0.ensures.bytes.0 in
+    run-ends c.args.self.now.reader left (g.S.Source.left c.args.source.now) (g.S.Source.left c.read_piece.new.source) taken told c.args.self.now.count _ r none
+    (c.in-Ok-eq0.ensures.bytes.1 c.in-Ok-eq0.field-0-test) c.requires.ready.part c.requires.ready.within (c.end.ensures.status j)
+
 pub returns-in-Ok-clause-told : goal.returns-in-Ok-clause-told
-returns-in-Ok-clause-told g c = λ left taken told r j. ?
+returns-in-Ok-clause-told g c = λ left taken told r j.
+    let same : length c.read_piece.new.buf ≡ 1 = search rules in
+    let some : 0 < length (take c.in-Ok.field-0 c.read_piece.new.buf) = rw length-take (omega (arith, same, c.in-Ok.field-0-test.1)) in
+    run-passes c.args.self.now.reader left (g.S.Source.left c.args.source.now) (g.S.Source.left c.read_piece.new.source) taken told c.args.self.now.count (take c.in-Ok.field-0 c.read_piece.new.buf) _ r c.in-Ok.ensures.bytes.0
+    some c.requires.ready.part (omega (arith, c.requires.full, c.requires.ready.within)) (c.end-2.ensures.status j)

@@ -2,6 +2,8 @@ use Rattle.std.proofs.Common.{◌≡◌, ◌≤◌, ◌+◌, [], length, take, s
 use Rattle.std.specs.Io.KnownBytes.{Consumes}
 use Rattle.replay_run.specs.Runs.{Run}
 use Rattle.replay_run.proofs.Judging.{run-more, run-stops, run-ends}
+use Rattle.replay_run.specs.declared.status.Status.TheVariants as statuses
+use Rattle.replay_run.proofs.StatusLaws.{judged_replay, judged_read, judged_write}
 use Rattle.replay_run.proofs.replay.Replay.turn.Goals as goal
 
 pub returns-then-length-eq0-clause-turns : goal.returns-then-length-eq0-clause-turns
@@ -26,3 +28,34 @@ returns-in-Ok-Some-clause-turns g c = λ left taken r j.
     let takes = rw c.in-Ok-Some.field-0-is at c.in-Ok-Some.ensures.takes in
     run-stops c.args.self.now.reader c.take_piece.new.reader left (g.S.Source.left c.args.source.now) (g.S.Source.left c.read_piece.new.source) taken (g.K.Sink.taken c.args.sink.now) (g.K.Sink.taken c.take_piece.new.sink)
     c.args.self.now.count (take c.in-Ok.length c.read_piece.new.buf) c.in-Ok-Some.status r eaten takes (omega (arith, short, c.in-Ok.ensures.bound, c.min-room.ensures, c.requires.room))
+
+pub returns-then-length-eq0-clause-read : goal.returns-then-length-eq0-clause-read
+returns-then-length-eq0-clause-read g c = λ e. absurd (c.end.ensures.read cc)
+
+pub returns-then-length-eq0-clause-write : goal.returns-then-length-eq0-clause-write
+returns-then-length-eq0-clause-write g c = λ e. absurd (c.end.ensures.write cc)
+
+pub returns-in-Ok-None-clause-ready : goal.returns-in-Ok-None-clause-ready
+returns-in-Ok-None-clause-ready g c =
+    let few = rw c.in-Ok-None.field-0-is at c.in-Ok-None.ensures.few in
+    let early = rw c.in-Ok-None.field-0-is at c.in-Ok-None.ensures.early in
+    let count : length (take c.in-Ok.length c.read_piece.new.buf) ≡ c.in-Ok.length = rw length-take (omega (arith, c.read_piece.auto.buf, c.in-Ok.ensures.bound, c.min-room.ensures)) in
+    record {
+      part = c.in-Ok-None.ensures.part;
+      few = omega (arith, few, count, c.requires.ready.few);
+      early = early;
+      lines = omega (arith, c.in-Ok-None.ensures.lines, count, c.requires.ready.lines);
+      within = omega (arith, c.in-Ok.ensures.bound, c.min-room.ensures, c.requires.room);
+      empty = c.in-Ok-None.ensures.empty;
+    }
+
+pub returns-in-Ok-Some-clause-listed : goal.returns-in-Ok-Some-clause-listed
+returns-in-Ok-Some-clause-listed g c = judged_replay c.in-Ok-Some.status (rw c.in-Ok-Some.field-0-is at c.in-Ok-Some.ensures.judged)
+
+pub returns-in-Ok-Some-clause-read : goal.returns-in-Ok-Some-clause-read
+returns-in-Ok-Some-clause-read g c = λ e.
+    let same : c.in-Ok-Some.status ≡ statuses.ReadFault = cc in absurd (judged_read c.in-Ok-Some.status (rw c.in-Ok-Some.field-0-is at c.in-Ok-Some.ensures.judged) same)
+
+pub returns-in-Ok-Some-clause-write : goal.returns-in-Ok-Some-clause-write
+returns-in-Ok-Some-clause-write g c = λ e.
+    let same : c.in-Ok-Some.status ≡ statuses.WriteFault = cc in absurd (judged_write c.in-Ok-Some.status (rw c.in-Ok-Some.field-0-is at c.in-Ok-Some.ensures.judged) same)
