@@ -12,3 +12,4 @@ pub mod ChangeLaws
 pub mod OpenLaws
 pub mod FirstValues
 pub mod FirstState
+pub mod PlainConfig

@@ -11,3 +11,6 @@ mod writing;
 
 pub use bay::Bay;
 pub use fault::StepFault;
+
+#[cfg(test)]
+mod tests;
