@@ -49,3 +49,4 @@ pub mod SettingLaws
 pub mod OpenLaws
 pub mod FirstValues
 pub mod FirstState
+pub mod PlainConfig

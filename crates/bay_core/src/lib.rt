@@ -18,3 +18,6 @@ mod writing;
 pub use bay::Bay;
 pub use fault::StepFault;
 pub use laws::texts_are_served;
+
+#[cfg(test)]
+mod tests;

@@ -1,0 +1,86 @@
+ghost use Rattle.std.specs.Prelude.{◌≡◌, ◌≤◌, [], IfOk, length};
+ghost use Rattle.std.specs.List.{All};
+ghost use Rattle.bay_core.specs.Servable.{IsServable, IsServedBlock};
+
+use super::*;
+use object_model::Model;
+use std::alloc::{AllocError, Global};
+use std::test::*;
+use sv_base::{
+    AttrDefs, Bits, BlockDef, BlockDefs, Config, CtlDefs, LnDef, LnDefs, Octs, SetDefs, SgDefs,
+};
+
+fn octets(alloc: Global, octets: &[u8]) -> Result<Octs, AllocError> {
+    Ok(Octs::from_vec(octets.to_vec(alloc)?))
+}
+
+/// A block that reports at once, without a data set.
+fn block(alloc: Global, line: u32, name: &[u8]) -> Result<BlockDef, AllocError>
+    ensures { IfOk result IsServedBlock }
+{
+    Ok(BlockDef {
+        line,
+        domain: octets(alloc, b"BAY1")?,
+        ln: octets(alloc, b"LLN0")?,
+        name: octets(alloc, name)?,
+        rpt_id: octets(alloc, b"")?,
+        dat_set: octets(alloc, b"")?,
+        conf_rev: 1,
+        opt_flds: Bits::from_vec(vec![in alloc; false; 10]?),
+        buf_tm: 0,
+        trg_ops: Bits::from_vec(vec![in alloc; false; 6]?),
+        intg_pd: 0,
+        capacity: 200,
+    })
+}
+
+fn blocks(alloc: Global) -> Result<BlockDefs, AllocError>
+    ensures served { IfOk result (All IsServedBlock) }
+    ensures few { IfOk result (λ b. length b ≤ 32) }
+{
+    let items = vec![in alloc; block(alloc, 5, b"brcb1")?, block(alloc, 6, b"brcb2")?]?;
+    Ok(BlockDefs::from_vec(items))
+}
+
+/// A domain with a logical node and two blocks.
+fn config(alloc: Global) -> Result<Config, AllocError>
+    ensures served { IfOk result IsServable }
+    ensures attrs { IfOk result (λ c. c.attrs ≡ []) }
+{
+    let node = LnDef {
+        line: 4,
+        domain: octets(alloc, b"BAY1")?,
+        ln: octets(alloc, b"LLN0")?,
+    };
+    Ok(Config {
+        vendor: octets(alloc, b"V")?,
+        model: octets(alloc, b"M")?,
+        revision: octets(alloc, b"1")?,
+        nodes: LnDefs::from_vec(vec![in alloc; node]?),
+        attrs: AttrDefs::from_vec(Vec::new(alloc)),
+        sets: SetDefs::from_vec(Vec::new(alloc)),
+        blocks: blocks(alloc)?,
+        controls: CtlDefs::from_vec(Vec::new(alloc)),
+        groups: SgDefs::from_vec(Vec::new(alloc)),
+    })
+}
+
+fn model(alloc: Global) -> Result<Model, AllocError>
+    ensures { IfOk result IsServable }
+{
+    let config = config(alloc)?;
+    Model::build(alloc, config)
+}
+
+/// A bay with two blocks.
+fn opened_bay(alloc: Global) -> Result<Bay, AllocError> {
+    let model = model(alloc)?;
+    Bay::open(alloc, model)
+}
+
+#[test]
+fn no_step_is_made_when_a_bay_is_opened(rt: HostRuntime) -> Result<(), Fail> {
+    let bay = opened_bay(rt.alloc())?;
+    assert_eq!(rt; bay.steps(), 0);
+    Ok(())
+}
