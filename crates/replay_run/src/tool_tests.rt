@@ -144,9 +144,46 @@ fn a_status_says_why_a_replay_ended(rt: HostRuntime) -> Result<(), Fail> {
         ),
         ("lost 2\nend\n", Status::Record { line: 22, kind: 5 }, ""),
         (
-            "take 1\ntick\nend\n",
+            "take 1\nopen 1 wire\nend\n",
             Status::Record { line: 23, kind: 9 },
             "1 closed\n",
+        ),
+        (
+            "# a remark\n\nlost 2\nend\n",
+            Status::Record { line: 24, kind: 5 },
+            "",
+        ),
+        ("pdu 1 00\nend\n", Status::Record { line: 22, kind: 5 }, ""),
+        ("open 1\nend\n", Status::Record { line: 22, kind: 1 }, ""),
+        (
+            "open 17 direct\nend\n",
+            Status::Record { line: 22, kind: 2 },
+            "",
+        ),
+        (
+            "set NO/SUCH$MX$x 1\nend\n",
+            Status::Record { line: 22, kind: 3 },
+            "",
+        ),
+        (
+            "set BAY1/MMXU1$MX$TotW$mag$i T\nend\n",
+            Status::Record { line: 22, kind: 4 },
+            "",
+        ),
+        (
+            "open 1 direct\nwrite 1 BAY1/LLN0$BR$brcbEv01 EntryID x000000000000000A\nend\n",
+            Status::Record { line: 23, kind: 4 },
+            "",
+        ),
+        (
+            "open 1 direct\nwrite 1 BAY1/LLN0$BR$brcbEv01 BufTm 100\nend\n",
+            Status::Record { line: 23, kind: 9 },
+            "",
+        ),
+        (
+            "open 1 direct\nwrite 1 BAY1/LLN0$BR$brcbEv01 RptEna 1\ntick\nend\n",
+            Status::Ok,
+            "1 refused 7\nend\n",
         ),
         ("end\nno line\n", Status::Ok, "end\n"),
     ];
@@ -156,6 +193,38 @@ fn a_status_says_why_a_replay_ended(rt: HostRuntime) -> Result<(), Fail> {
         let status = tool(alloc, &replay, &mut source, &mut sink);
         assert_eq!(rt; status, *wanted, "{steps}");
         assert_eq!(rt; sink.octets(), answer.as_bytes(), "{steps}");
+    }
+    Ok(())
+}
+
+#[test]
+fn lines_before_the_steps_are_judged(rt: HostRuntime) -> Result<(), Fail> {
+    let alloc = rt.alloc();
+    let replay = one_word(alloc, "replay")?;
+    let table = [
+        ("", Status::Record { line: 1, kind: 7 }),
+        ("records 1\n", Status::Record { line: 1, kind: 1 }),
+        ("\n# a remark\nrecord 2\n", Status::Record { line: 3, kind: 2 }),
+        ("record\t1\n", Status::Record { line: 1, kind: 8 }),
+        ("record 1\nconfig 1\n", Status::Config { line: 3, kind: 2 }),
+        ("record 1\nconfig 2\nend\n", Status::Config { line: 2, kind: 8 }),
+        (
+            "record 1\nconfig 1\nserver V M R\nld D\nln LLN0\nctl Pos 4 5000 0 bool\nend\nend\n",
+            Status::Record { line: 6, kind: 9 },
+        ),
+        (
+            "record 1\nconfig 1\nserver V M R\nld D\nln LLN0\nsgcb 2 1\nend\nend\n",
+            Status::Record { line: 6, kind: 9 },
+        ),
+    ];
+    for (text, wanted) in &table {
+        let mut octets = Vec::new(alloc);
+        octets.extend_from_slice(text.as_bytes())?;
+        let mut source = MemSource::new(Octs::from_vec(octets), no_calls(alloc));
+        let mut sink = MemSink::new(alloc, no_calls(alloc));
+        let status = tool(alloc, &replay, &mut source, &mut sink);
+        assert_eq!(rt; status, *wanted, "{text}");
+        assert!(rt; sink.octets().is_empty(), "{text}");
     }
     Ok(())
 }
