@@ -1,9 +1,8 @@
 -- Lines of records, as they are judged.
 use Rattle.std.proofs.Common.{◌≡◌, ◌∷◌, [], refl}
-use Rattle.std.specs.Prelude.{codes, None, Some, true, false, pos, negsuc}
+use Rattle.std.specs.Prelude.{codes, None, Some, true, false}
 use Rattle.sv_base.specs.declared.value.Value.TheVariants as values
 use Rattle.bay_model.specs.declared.step.Comp.TheVariants as comps
-use Rattle.cfg_text.specs.Numbers.{number_at}
 use Rattle.replay_run.specs.Components.{component_at}
 use Rattle.replay_run.specs.Shapes.{marked_at, shape_at}
 use Rattle.replay_run.specs.Moves.{goes, stops, opening, configuring}
@@ -19,10 +18,6 @@ text : shape_at comps.RptEna (codes "'a") ≡ Some (values.Text (97 ∷ []))
 unfolding shape_at marked_at
 text = refl
 
-octets : shape_at comps.EntryID (codes "x0f") ≡ Some (values.Octets (15 ∷ []))
-unfolding shape_at marked_at
-octets = refl
-
 upper_case : shape_at comps.EntryID (codes "x0F") ≡ None
 unfolding shape_at marked_at
 upper_case = refl
@@ -34,22 +29,6 @@ odd = refl
 bits : shape_at comps.TrgOps (codes "01") ≡ Some (values.Bits (false ∷ true ∷ []))
 unfolding shape_at marked_at
 bits = refl
-
-number : shape_at comps.BufTm (codes "01") ≡ None
-unfolding shape_at marked_at number_at
-number = refl
-
-unsigned : shape_at comps.BufTm (codes "10") ≡ Some (values.Uint 10)
-unfolding shape_at marked_at number_at
-unsigned = refl
-
-signed : shape_at comps.BufTm (codes "-1") ≡ Some (values.Int (negsuc 0))
-unfolding shape_at marked_at number_at
-signed = refl
-
-zero : shape_at comps.BufTm (codes "-0") ≡ Some (values.Int (pos 0))
-unfolding shape_at marked_at number_at
-zero = refl
 
 no_component : component_at (codes "Rptid") ≡ None
 no_component = refl

@@ -21,10 +21,8 @@ mod text;
 
 // a configuration alone
 mod check;
-mod whole;
-
 pub mod status;
 pub mod tool;
-
 #[cfg(test)]
 mod tool_tests;
+mod whole;

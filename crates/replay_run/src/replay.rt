@@ -3,7 +3,6 @@ ghost use Rattle.std.specs.Io.KnownBytes.{Appends};
 ghost use Rattle.sv_io.specs.Causes.{HasCause, Rose};
 ghost use Rattle.replay_run.specs.Sessions.{NoNewline, Takes, steps_in, IsEarly};
 ghost use Rattle.replay_run.specs.Tool.{IsJudgement};
-
 ghost use Rattle.std.specs.Prelude.{suc};
 ghost use Rattle.replay_run.specs.Moves.{Place};
 ghost use Rattle.replay_run.specs.Records.{ended};

@@ -131,11 +131,7 @@ fn push_report(
 }
 
 /// Writes the outcome of a write.
-fn push_outcome(
-    out: &mut Vec<u8>,
-    a: ActorNo,
-    outcome: Result<(), u8>,
-) -> Result<(), AllocError>
+fn push_outcome(out: &mut Vec<u8>, a: ActorNo, outcome: Result<(), u8>) -> Result<(), AllocError>
     ensures { (c : Config) → OnOk result (out.new.items ≡ out.old.items ++ answer_lines c a.0 (Wrote outcome)) }
 {
     push_number(out, u64::from(a.0))?;

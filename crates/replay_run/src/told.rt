@@ -147,12 +147,7 @@ fn set(alloc: Global, model: &Model, pairs: &[Pair]) -> Result<Told, AllocError>
 
 /// What a line tells, where the association that it names is open or isn't.
 #[tactic(auto, unfolding(crate::specs::Resolved::told_of))]
-pub fn tell(
-    alloc: Global,
-    model: &Model,
-    there: bool,
-    line: &RecLine,
-) -> Result<Told, AllocError>
+pub fn tell(alloc: Global, model: &Model, there: bool, line: &RecLine) -> Result<Told, AllocError>
     ensures told { IfOk result (λ t. t ≡ told_of model.now there line.now) }
     ensures turn { IfOk result (IsTurnOf model.now) }
 {

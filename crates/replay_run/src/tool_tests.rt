@@ -204,10 +204,16 @@ fn lines_before_the_steps_are_judged(rt: HostRuntime) -> Result<(), Fail> {
     let table = [
         ("", Status::Record { line: 1, kind: 7 }),
         ("records 1\n", Status::Record { line: 1, kind: 1 }),
-        ("\n# a remark\nrecord 2\n", Status::Record { line: 3, kind: 2 }),
+        (
+            "\n# a remark\nrecord 2\n",
+            Status::Record { line: 3, kind: 2 },
+        ),
         ("record\t1\n", Status::Record { line: 1, kind: 8 }),
         ("record 1\nconfig 1\n", Status::Config { line: 3, kind: 2 }),
-        ("record 1\nconfig 2\nend\n", Status::Config { line: 2, kind: 8 }),
+        (
+            "record 1\nconfig 2\nend\n",
+            Status::Config { line: 2, kind: 8 },
+        ),
         (
             "record 1\nconfig 1\nserver V M R\nld D\nln LLN0\nctl Pos 4 5000 0 bool\nend\nend\n",
             Status::Record { line: 6, kind: 9 },
