@@ -45,6 +45,7 @@ take-append-all (suc n) (x ∷ xs) ys h = let same : n - length xs ≡ suc n - s
 -- the octets up to the limit come to this
 answers-by : (b octets written : List ℕ) (long : Bool) (status : Status) (old new : Option (List ℕ)) → take limit b ≡ octets → run long 0 opening (pieces octets) ≡ record { status = status; text = written }
     → nat_lt limit (length b) ≡ long → Appends old new written → Answers b status old new
+unfolding outcome
 answers-by b octets written long status old new front mine is took = told (whole (nat_lt limit (length b)) long is)
   where
     whole : (l k : Bool) → l ≡ k → run l 0 opening (pieces (take limit b)) ≡ run k 0 opening (pieces octets)

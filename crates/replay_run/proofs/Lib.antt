@@ -8,6 +8,7 @@ pub mod LimitLaws
 pub mod ReadingOn
 pub mod Feeding
 pub mod StatusLaws
+mod WorkedLines
 pub mod Judging
 pub mod ReadWhole
 pub mod OneWord

@@ -77,38 +77,3 @@ pub plays-unmade : (old new : Playing) (number : ℕ) (actor : ActorNo) (step : 
 unfolding played
 plays-unmade old new number actor step before now makes = λ c s p.
     let m = makes c s p in subst (λ f. PlaysTo (Some (statuses.Record number 5)) new (accepted number c s (turn_at s actor.0 step) f) before now) (sym m.1) (refl, nothing-written before now m.2)
-
--- nothing is played
-pub plays-skip : (old : Playing) (number : ℕ) (before : List ℕ) → PlaysOn None old old (λ c s. played number c s tolds.Skip) before before
-unfolding played
-plays-skip old number before = λ c s p. (p, nothing-written before before refl)
-
-pub plays-at : (old new : Playing) (number moment : ℕ) (before : List ℕ) → new ≡ record old { moment = moment } → PlaysOn None old new (λ c s. played number c s (tolds.At moment)) before before
-unfolding played
-plays-at old new number moment before is = λ c s p. (rw is (record { moment = refl; stands = p.stands; opened = p.opened }), nothing-written before before refl)
-
-pub plays-refused : (old : Playing) (number kind : ℕ) (before : List ℕ) → PlaysOn (Some (statuses.Record number kind)) old old (λ c s. played number c s (tolds.Refused kind)) before before
-unfolding played
-plays-refused old number kind before = λ c s p. (refl, nothing-written before before refl)
-
-pub plays-end : (old : Playing) (number : ℕ) (before now : List ℕ) → now ≡ before ++ codes "end\n" → PlaysOn (Some statuses.Ok) old old (λ c s. played number c s tolds.End) before now
-unfolding played
-plays-end old number before now is = λ c s p. (refl, is)
-
-plays-same : (status : Option Status) (old new : Playing) (f g : Config → Played → Move) (before now : List ℕ) → ((c : Config) (s : Played) → Plays old c s → f c s ≡ g c s) → PlaysOn status old new f before now → PlaysOn status old new g before now
-plays-same status old new f g before now same plays = λ c s p. subst (λ m. PlaysTo status new m before now) (same c s p) (plays c s p)
-
--- a line is read, and does what it tells
-pub reads-told : (status : Option Status) (old new : Playing) (number : ℕ) (text : List ℕ) (line : RecLine) (told : Told) (there : Bool) (before now : List ℕ) → line_at text ≡ Ok line
-    → there ≡ slice_index_or old.opened (association_of line) false → told ≡ told_of old.bay.config there line → PlaysOn status old new (λ c s. played number c s told) before now
-    → PlaysOn status old new (λ c s. step_at number c s text) before now
-unfolding step_at
-reads-told status old new number text line told there before now read flag is plays = plays-same status old new (λ c s. played number c s told) (λ c s. step_at number c s text) before now
-    (λ c s p. ap (played number c s) (is ∙ (ap (λ k. told_of k there line) p.stands.1.is_config ∙ ap (λ b. told_of c b line) (flag ∙ sym (p.opened (association_of line))))) ∙ ap (told_at number c s) (sym read)) plays
-
--- it is refused by itself
-pub reads-refused : (old : Playing) (number : ℕ) (text : List ℕ) (kind : Kind) (before : List ℕ) → line_at text ≡ Err kind
-    → PlaysOn (Some (statuses.Record number (number_of kind))) old old (λ c s. step_at number c s text) before before
-unfolding step_at
-reads-refused old number text kind before read = λ c s p.
-    subst (λ r. PlaysTo (Some (statuses.Record number (number_of kind))) old (told_at number c s r) before before) (sym read) (refl, nothing-written before before refl)

@@ -72,5 +72,5 @@ run long count place (rest ∷ []) = record { status = ended long (suc count) pl
 run long count place (line ∷ next ∷ more) = moved (line_at (suc count) place line) (λ to. run long (suc count) to (next ∷ more))
 
 -- of a whole record
-abbrev pub outcome : List ℕ → Outcome
+unfoldable pub outcome : List ℕ → Outcome
 outcome octets = run (nat_lt limit (length octets)) 0 opening (pieces (take limit octets))

@@ -1,4 +1,4 @@
-//! The replay of a record.
+//! The replay of a record, and the check of a configuration.
 #![tactic(auto)]
 
 // what a line tells

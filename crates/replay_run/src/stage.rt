@@ -48,7 +48,12 @@ impl Stage {
     }
 
     /// Reads a line before the configuration.
-    fn open(&mut self, alloc: Global, number: u64, line: &[u8]) -> Result<Option<Status>, AllocError>
+    fn open(
+        &mut self,
+        alloc: Global,
+        number: u64,
+        line: &[u8],
+    ) -> Result<Option<Status>, AllocError>
         requires stage { self.old ≡ stages.Opening }
         requires number { number < 2 ^ 62 }
         ensures moves { IfOk result (λ s. OpensOn s self.new (opening_at number line.now)) }

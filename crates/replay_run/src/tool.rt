@@ -1,4 +1,5 @@
-ghost use Rattle.std.specs.Prelude.{◌≡◌, ◌≢◌, ◌≤◌, ◌↔◌, IfSome, IsTrue};
+ghost use Rattle.std.specs.Prelude.{◌≡◌, ◌≤◌, ◌<◌, ◌↔◌, ℕ, List, Option, length, IfSome, IsTrue};
+ghost use Rattle.replay_run.specs.Runs.{IsReady, Run};
 ghost use Rattle.sv_io.specs.Causes.{Rose};
 ghost use Rattle.replay_run.specs.Checked.{IsChecked, IsOfCheck, Checks};
 ghost use Rattle.replay_run.specs.Tool.{IsWord, IsReplay, IsCheck, IsCommand, IsJudgement, IsOfReplay, Answers};
@@ -19,6 +20,30 @@ pub fn is_word(words: &[String], wanted: &str) -> bool
     }
 }
 
+/// Reads pieces of a record until its status is decided.
+fn run<S: Source, K: Sink>(
+    alloc: Global,
+    replay: &mut Replay,
+    source: &mut S,
+    sink: &mut K,
+    piece: &mut [u8],
+) -> Status
+    requires ready { IsReady replay.old }
+    requires some { 0 < length piece.old }
+    ensures told { (left taken : Option (List ℕ)) → Run replay.old.reader left (S.left source.old) taken (K.taken sink.old) replay.old.count → IsJudgement result → IfSome left (λ b. Answers b result taken (K.taken sink.new)) }
+    ensures listed { IsOfReplay result }
+    ensures read { result ≡ Status.ReadFault → Rose (S.faults source.old) (S.faults source.new) }
+    ensures write { result ≡ Status.WriteFault → Rose (K.faults sink.old) (K.faults sink.new) }
+    ensures later { (S.faults source.old ≤ S.faults source.new) × (K.faults sink.old ≤ K.faults sink.new) }
+{
+    while replay.has_room() {
+        if let Some(status) = replay.turn(alloc, source, sink, piece) {
+            return status;
+        }
+    }
+    replay.at_limit(alloc, source)
+}
+
 /// Replays a record: each line is answered before the next is judged.
 fn replay<S: Source, K: Sink>(alloc: Global, source: &mut S, sink: &mut K) -> Status
     ensures told { IsJudgement result → IfSome (S.left source.old) (λ b. Answers b result (K.taken sink.old) (K.taken sink.new)) }
@@ -29,12 +54,7 @@ fn replay<S: Source, K: Sink>(alloc: Global, source: &mut S, sink: &mut K) -> St
 {
     let mut replay = Replay::new(alloc);
     let mut piece = [0u8; 16384];
-    while replay.has_room() {
-        if let Some(status) = replay.turn(alloc, source, sink, &mut piece) {
-            return status;
-        }
-    }
-    replay.at_limit(alloc, source)
+    run(alloc, &mut replay, source, sink, &mut piece)
 }
 
 /// Does all that the program does. With the word `replay` it reads a record from the source, and writes the answers to its

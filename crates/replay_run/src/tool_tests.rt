@@ -230,7 +230,7 @@ const ENDS: [(&str, Status, &str); 28] = [
 ];
 
 /// Whole records, the status, and what was answered.
-const RECORDS: [(&str, Status, &str); 11] = [
+const RECORDS: [(&str, Status, &str); 13] = [
     ("", Status::Record { line: 1, kind: 7 }, ""),
     ("# a remark\n", Status::Record { line: 2, kind: 7 }, ""),
     ("open 1 direct\n", Status::Record { line: 1, kind: 1 }, ""),
@@ -264,6 +264,12 @@ const RECORDS: [(&str, Status, &str); 11] = [
     (
         "# a remark\nrecord 1\nconfig 1\nserver a b c\nld A\nln LLN0\nsgcb 2 1\nend\n",
         Status::Record { line: 7, kind: 9 },
+        "",
+    ),
+    ("record\t1\n", Status::Record { line: 1, kind: 8 }, ""),
+    (
+        "record 1\nconfig 1\nserver a b c\nld A\nln LLN0\nctl Pos 4 5000 0 bool\nend\n",
+        Status::Record { line: 6, kind: 9 },
         "",
     ),
 ];

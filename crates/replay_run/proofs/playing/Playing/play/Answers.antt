@@ -1,4 +1,4 @@
-use Rattle.std.proofs.Common.{true, false, sym, subst}
+use Rattle.std.proofs.Common.{sym, subst}
 use Rattle.std.specs.Prelude.{None, Some}
 use Rattle.replay_run.specs.Steps.{played}
 use Rattle.replay_run.specs.Plays.{PlaysOn, Makes}

@@ -14,4 +14,4 @@ returns-in-Ok-clause-told g c = λ left taken told r j.
     let same : length c.read_piece.new.buf ≡ 1 = search rules in
     let some : 0 < length (take c.in-Ok.field-0 c.read_piece.new.buf) = rw length-take (omega (arith, same, c.in-Ok.field-0-test.1)) in
     run-passes c.args.self.now.reader left (g.S.Source.left c.args.source.now) (g.S.Source.left c.read_piece.new.source) taken told c.args.self.now.count (take c.in-Ok.field-0 c.read_piece.new.buf) _ r c.in-Ok.ensures.bytes.0
-    some c.requires.ready.part (omega (arith, c.requires.full, c.requires.ready.within)) (c.end-2.ensures.status j)
+    some c.requires.ready.part (omega (arith, c.requires.full, c.requires.ready.within)) (c.end-in-Ok.ensures.status j)
