@@ -21,7 +21,11 @@ fn is_printable(octet: u8) -> bool
 pub fn are_printable(line: &[u8]) -> bool
     ensures { result ≡ list_all printable line.now }
 {
-    line.iter().all(|octet| is_printable(*octet))
+    let mut all = true;
+    for octet in line {
+        all = all & is_printable(*octet);
+    }
+    all
 }
 
 /// A word is empty.

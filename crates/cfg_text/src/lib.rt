@@ -42,7 +42,7 @@ pub use judging::{are_printable, has_empty};
 pub use numbers::{number, number_between};
 pub use spelling::{push_number, push_word};
 pub use telling::is_skipped;
-pub use values::{owned, truth, value};
+pub use values::{all_binary, all_graphic, hex_octets, owned, truth, truth_values, value};
 pub use words::parts_of;
 
 // what the format and the reading have to do with each other

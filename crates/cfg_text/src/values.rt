@@ -41,14 +41,15 @@ fn is_binary(octet: u8) -> bool
     octet == b'0' || octet == b'1'
 }
 
-fn all_binary(word: &[u8]) -> bool
+/// Every octet is a digit 0 or 1.
+pub fn all_binary(word: &[u8]) -> bool
     ensures { result ≡ list_all binary word.now }
 {
     word.iter().all(|octet| is_binary(*octet))
 }
 
 /// The truth values of digits 0 and 1.
-fn truth_values(alloc: Global, word: &[u8]) -> Result<Vec<bool>, AllocError>
+pub fn truth_values(alloc: Global, word: &[u8]) -> Result<Vec<bool>, AllocError>
     ensures { IfOk result (λ v. v.items ≡ map (λ octet. octet == 49) word.now) }
 {
     word.iter().map(|octet| *octet == b'1').collect(alloc)
@@ -82,7 +83,8 @@ fn is_graphic(octet: u8) -> bool
     octet >= 0x21 && octet <= 0x7e
 }
 
-fn all_graphic(octets: &[u8]) -> bool
+/// Every octet is visible, 21 to 7E.
+pub fn all_graphic(octets: &[u8]) -> bool
     ensures { result ≡ list_all graphic octets.now }
 {
     octets.iter().all(|octet| is_graphic(*octet))
@@ -112,8 +114,8 @@ fn all_hex(digits: &[u8]) -> bool
     digits.iter().all(|octet| is_hex(*octet))
 }
 
-/// The octets of a hexadecimal text in lower case.
-fn hex_octets(alloc: Global, digits: &[u8]) -> Result<Option<Vec<u8>>, AllocError>
+/// The octets that a hexadecimal text in lower case spells; none where it is no such text.
+pub fn hex_octets(alloc: Global, digits: &[u8]) -> Result<Option<Vec<u8>>, AllocError>
     ensures { IfOk result (λ r. option_items r ≡ hex_at digits.now) }
 {
     if !all_hex(digits) {
