@@ -10,14 +10,19 @@ mod laws;
 mod line;
 mod pairs;
 mod reading;
+mod view;
+mod words;
 mod writing;
 
 // what a line tells
 pub use line::{OpenForm, RecLine};
 pub use pairs::{Pair, Pairs};
 
+// the same, with its words lent
+pub use view::{LineView, PairView, PairsView};
+
 // reading and writing
-pub use reading::read_line;
+pub use reading::{read_line, view_line};
 pub use writing::write_line;
 
 // what the format and the reading have to do with each other

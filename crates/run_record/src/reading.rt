@@ -5,12 +5,14 @@ ghost use Rattle.cfg_text.specs.Values.{truth_at};
 ghost use Rattle.run_record.specs.declared.line.RecLine.TheVariants.{At, Write, Pdu, Piece, Take, Lost, Done, Block};
 ghost use Rattle.run_record.specs.Contents.{assoc_at, numbered, form_at, opened, paired, set_at as set_line_at, truth_line, content_at};
 ghost use Rattle.run_record.specs.Judging.{Gives, tell_at, is_long as is_long_text, line_at};
+ghost use Rattle.run_record.specs.Seen.{seen};
 ghost use Rattle.run_record.specs.Answers.{Answers};
 
 use crate::fault::{Kind, RecFault};
 use crate::keyword::{Keyword, keyword_of};
 use crate::line::{OpenForm, RecLine};
 use crate::pairs::{Pair, Pairs};
+use crate::view::LineView;
 use cfg_text::{
     are_printable, has_empty, is_skipped, number, number_between, owned, parts_of, truth,
 };
@@ -248,6 +250,13 @@ fn judge(alloc: Global, line: &[u8]) -> Result<RecLine, RecFault>
     }
     let words = parts_of(alloc, line, b' ')?;
     tell(alloc, &words)
+}
+
+/// What a line of a record tells, without its newline, as `read_line` does, with its words lent. It takes no memory.
+pub fn view_line(line: &[u8]) -> Result<LineView<'_>, Kind>
+    ensures told { seen result ≡ line_at line.now }
+{
+    Err(Kind::Long)
 }
 
 /// What a line of a record tells, without its newline. The line `record` and those of the configuration are no such lines.
