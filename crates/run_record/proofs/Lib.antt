@@ -1,4 +1,5 @@
 pub mod WordLaws
+pub mod SeenLaws
 pub mod ReadLaws
 pub mod ToldLaws
 pub mod WrittenLaws

@@ -1,9 +1,10 @@
 -- What is seen in a text that is read in place: the line, with each word that is lent as its octets.
-use Rattle.std.specs.Prelude.{ℕ, List, [], Option, Some, None, Result, Ok, Err}
+use Rattle.std.specs.Prelude.{ℕ, List, [], ◌∷◌, Option, Some, None, Result, Ok, Err}
 use Rattle.std.specs.Borrow.{Bor}
 use Rattle.cfg_text.specs.Words.{words_of}
 use Rattle.run_record.specs.Contents.{paired}
 use Rattle.run_record.specs.declared.fault.Kind.{Kind}
+use Rattle.run_record.specs.declared.fault.Kind.TheVariants as kinds
 use Rattle.run_record.specs.declared.words.Words.{Words}
 use Rattle.run_record.specs.declared.view.LineView.{LineView}
 use Rattle.run_record.specs.declared.view.LineView.TheVariants as views
@@ -20,6 +21,24 @@ words_in (Some text) = words_of text.now
 
 abbrev pub words_left : Words → List (List ℕ)
 words_left words = words_in words.rest
+
+-- the words, if there are just so many
+abbrev pub one_of : List (List ℕ) → Option (List ℕ)
+one_of (word ∷ []) = Some word
+one_of _ = None
+
+abbrev pub two_of : List (List ℕ) → Option (List ℕ × List ℕ)
+two_of (word ∷ next ∷ []) = Some (word, next)
+two_of _ = None
+
+abbrev pub four_of : List (List ℕ) → Option (List ℕ × List ℕ × List ℕ × List ℕ)
+four_of (word ∷ second ∷ third ∷ fourth ∷ []) = Some (word, second, third, fourth)
+four_of _ = None
+
+-- what so many words tell, if there are just so many
+abbrev pub just : {A : Type 0} → Option A → (A → Result RecLine Kind) → Result RecLine Kind
+just None tell = Err kinds.Word
+just (Some words) tell = tell words
 
 abbrev pub pair_seen : PairView → Pair
 pair_seen pair = record { name = pair.name.now; value = pair.value.now }

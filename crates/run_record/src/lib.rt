@@ -8,6 +8,7 @@ mod fault;
 mod keyword;
 mod laws;
 mod line;
+mod octets;
 mod pairs;
 mod reading;
 mod view;

@@ -1,22 +1,22 @@
-ghost use Rattle.std.specs.Prelude.{◌≡◌, ◌∷◌, [], IfOk};
-ghost use Rattle.cfg_text.specs.Words.{texts};
+ghost use Rattle.std.specs.Prelude.{◌≡◌, ◌∷◌, []};
+ghost use Rattle.cfg_text.specs.Words.{words_of};
 ghost use Rattle.cfg_text.specs.Numbers.{number_within};
 ghost use Rattle.cfg_text.specs.Values.{truth_at};
+ghost use Rattle.run_record.specs.declared.keyword.Keyword.TheVariants.{Open, Tick, End};
 ghost use Rattle.run_record.specs.declared.line.RecLine.TheVariants.{At, Write, Pdu, Piece, Take, Lost, Done, Block};
-ghost use Rattle.run_record.specs.Contents.{assoc_at, numbered, form_at, opened, paired, set_at as set_line_at, truth_line, content_at};
+ghost use Rattle.run_record.specs.Contents.{assoc_at, numbered, form_at, set_at as set_line_at, truth_line, content_at};
 ghost use Rattle.run_record.specs.Judging.{Gives, tell_at, is_long as is_long_text, line_at};
-ghost use Rattle.run_record.specs.Seen.{seen};
+ghost use Rattle.run_record.specs.Seen.{words_left, one_of, two_of, four_of, just, seen};
 ghost use Rattle.run_record.specs.Answers.{Answers};
 
 use crate::fault::{Kind, RecFault};
 use crate::keyword::{Keyword, keyword_of};
 use crate::line::{OpenForm, RecLine};
-use crate::pairs::{Pair, Pairs};
-use crate::view::LineView;
-use cfg_text::{
-    are_printable, has_empty, is_skipped, number, number_between, owned, parts_of, truth,
-};
-use std::alloc::{AllocError, Global};
+use crate::octets::{are_printable, has_empty};
+use crate::view::{LineView, PairsView};
+use crate::words::Words;
+use cfg_text::{is_skipped, number, number_between, truth};
+use std::alloc::Global;
 use sv_base::{AssocNo, Moment};
 
 /// The association whose number the word is.
@@ -39,194 +39,235 @@ fn moment(word: &[u8]) -> Option<Moment>
     }
 }
 
-fn at_line(word: &[u8]) -> Result<RecLine, RecFault>
-    ensures { Gives result (numbered (number_within 441763200000 4294967295999 word.now) At) }
+fn at_line(words: Words<'_>) -> Result<LineView<'_>, Kind>
+    ensures { seen result ≡ just (one_of (words_left words.entry)) (λ word. numbered (number_within 441763200000 4294967295999 word) At) }
 {
+    let Some(word) = words.one() else {
+        return Err(Kind::Word);
+    };
     match moment(word) {
-        Some(moment) => Ok(RecLine::At(moment)),
-        None => Err(RecFault::Refused(Kind::Number)),
+        Some(moment) => Ok(LineView::At(moment)),
+        None => Err(Kind::Number),
+    }
+}
+
+/// A form of one word.
+fn named_form(word: &[u8]) -> Result<OpenForm, Kind>
+    ensures { result ≡ form_at (word.now ∷ []) }
+{
+    if word == b"direct".as_slice() {
+        Ok(OpenForm::Direct)
+    } else if word == b"wire".as_slice() {
+        Ok(OpenForm::Wire)
+    } else {
+        Err(Kind::Word)
     }
 }
 
 /// `mms` and its size.
-fn sized_form(word: &[u8], size: &[u8]) -> Result<OpenForm, RecFault>
-    ensures { Gives result (form_at (word.now ∷ size.now ∷ [])) }
+fn sized_form(word: &[u8], size: &[u8]) -> Result<OpenForm, Kind>
+    ensures { result ≡ form_at (word.now ∷ size.now ∷ []) }
 {
     if word != b"mms".as_slice() {
-        return Err(RecFault::Refused(Kind::Word));
+        return Err(Kind::Word);
     }
     match number_between(size, 1024, 65000) {
         Some(size) => Ok(OpenForm::Mms(size)),
-        None => Err(RecFault::Refused(Kind::Number)),
+        None => Err(Kind::Number),
     }
 }
 
 /// The form in which an association is opened.
-fn form(words: &[&[u8]]) -> Result<OpenForm, RecFault>
-    ensures { Gives result (form_at (texts words.now)) }
+fn form(words: Words<'_>) -> Result<OpenForm, Kind>
+    ensures { result ≡ form_at (words_left words.entry) }
 {
-    match words {
-        [word] => {
-            if *word == b"direct".as_slice() {
-                Ok(OpenForm::Direct)
-            } else if *word == b"wire".as_slice() {
-                Ok(OpenForm::Wire)
-            } else {
-                Err(RecFault::Refused(Kind::Word))
-            }
-        }
-        [word, size] => sized_form(word, size),
-        _ => Err(RecFault::Refused(Kind::Word)),
-    }
-}
-
-fn open_line(a: &[u8], words: &[&[u8]]) -> Result<RecLine, RecFault>
-    ensures { Gives result (opened (assoc_at a.now) (form_at (texts words.now))) }
-{
-    match form(words) {
-        Ok(form) => match association(a) {
-            Some(a) => Ok(RecLine::Open { a, form }),
-            None => Err(RecFault::Refused(Kind::Number)),
-        },
-        Err(fault) => Err(fault),
-    }
-}
-
-fn component_line(
-    alloc: Global,
-    a: &[u8],
-    block: &[u8],
-    comp: &[u8],
-    value: &[u8],
-) -> Result<RecLine, RecFault>
-    ensures { Gives result (numbered (assoc_at a.now) (λ n. Write n block.now comp.now value.now)) }
-{
-    match association(a) {
-        Some(a) => Ok(RecLine::Write {
-            a,
-            block: owned(alloc, block)?,
-            comp: owned(alloc, comp)?,
-            value: owned(alloc, value)?,
-        }),
-        None => Err(RecFault::Refused(Kind::Number)),
-    }
-}
-
-fn pdu_line(alloc: Global, a: &[u8], hex: &[u8]) -> Result<RecLine, RecFault>
-    ensures { Gives result (numbered (assoc_at a.now) (λ n. Pdu n hex.now)) }
-{
-    match association(a) {
-        Some(a) => Ok(RecLine::Pdu(a, owned(alloc, hex)?)),
-        None => Err(RecFault::Refused(Kind::Number)),
-    }
-}
-
-fn piece_line(alloc: Global, a: &[u8], hex: &[u8]) -> Result<RecLine, RecFault>
-    ensures { Gives result (numbered (assoc_at a.now) (λ n. Piece n hex.now)) }
-{
-    match association(a) {
-        Some(a) => Ok(RecLine::Piece(a, owned(alloc, hex)?)),
-        None => Err(RecFault::Refused(Kind::Number)),
-    }
-}
-
-fn take_line(a: &[u8]) -> Result<RecLine, RecFault>
-    ensures { Gives result (numbered (assoc_at a.now) Take) }
-{
-    match association(a) {
-        Some(a) => Ok(RecLine::Take(a)),
-        None => Err(RecFault::Refused(Kind::Number)),
-    }
-}
-
-fn lost_line(a: &[u8]) -> Result<RecLine, RecFault>
-    ensures { Gives result (numbered (assoc_at a.now) Lost) }
-{
-    match association(a) {
-        Some(a) => Ok(RecLine::Lost(a)),
-        None => Err(RecFault::Refused(Kind::Number)),
-    }
-}
-
-/// The words two by two.
-fn pairs_of(alloc: Global, words: &[&[u8]]) -> Result<Pairs, AllocError>
-    ensures { IfOk result (λ p. p ≡ paired (texts words.now)) }
-{
-    let mut pairs = Vec::new(alloc);
     let mut rest = words;
-    while let [name, value, more @ ..] = rest {
-        pairs.push(Pair {
-            name: owned(alloc, name)?,
-            value: owned(alloc, value)?,
-        })?;
-        rest = more;
+    let Some(word) = rest.next() else {
+        return Err(Kind::Word);
+    };
+    if rest.is_empty() {
+        return named_form(word);
     }
-    Ok(Pairs::from_vec(pairs))
+    match rest.one() {
+        Some(size) => sized_form(word, size),
+        None => Err(Kind::Word),
+    }
 }
 
-fn set_line(alloc: Global, words: &[&[u8]]) -> Result<RecLine, RecFault>
-    ensures { Gives result (set_line_at (texts words.now)) }
+#[tactic(auto, unfolding(crate::specs::Contents::content_at))]
+fn open_line(words: Words<'_>) -> Result<LineView<'_>, Kind>
+    ensures { seen result ≡ content_at Open (words_left words.entry) }
 {
-    if words.is_empty() || words.len() % 2 != 0 {
-        return Err(RecFault::Refused(Kind::Word));
+    let mut rest = words;
+    let Some(a) = rest.next() else {
+        return Err(Kind::Word);
+    };
+    match form(rest) {
+        Ok(form) => match association(a) {
+            Some(a) => Ok(LineView::Open { a, form }),
+            None => Err(Kind::Number),
+        },
+        Err(kind) => Err(kind),
     }
-    Ok(RecLine::Set(pairs_of(alloc, words)?))
 }
 
-fn done_line(alloc: Global, control: &[u8], well: &[u8]) -> Result<RecLine, RecFault>
-    ensures { Gives result (truth_line (truth_at well.now) (Done control.now)) }
+fn component_line(words: Words<'_>) -> Result<LineView<'_>, Kind>
+    ensures { seen result ≡ just (four_of (words_left words.entry)) (λ ws. numbered (assoc_at ws.0) (λ n. Write n ws.1 ws.2 ws.3)) }
 {
+    let Some((a, block, comp, value)) = words.four() else {
+        return Err(Kind::Word);
+    };
+    match association(a) {
+        Some(a) => Ok(LineView::Write {
+            a,
+            block,
+            comp,
+            value,
+        }),
+        None => Err(Kind::Number),
+    }
+}
+
+fn pdu_line(words: Words<'_>) -> Result<LineView<'_>, Kind>
+    ensures { seen result ≡ just (two_of (words_left words.entry)) (λ ws. numbered (assoc_at ws.0) (λ n. Pdu n ws.1)) }
+{
+    let Some((a, hex)) = words.two() else {
+        return Err(Kind::Word);
+    };
+    match association(a) {
+        Some(a) => Ok(LineView::Pdu(a, hex)),
+        None => Err(Kind::Number),
+    }
+}
+
+fn piece_line(words: Words<'_>) -> Result<LineView<'_>, Kind>
+    ensures { seen result ≡ just (two_of (words_left words.entry)) (λ ws. numbered (assoc_at ws.0) (λ n. Piece n ws.1)) }
+{
+    let Some((a, hex)) = words.two() else {
+        return Err(Kind::Word);
+    };
+    match association(a) {
+        Some(a) => Ok(LineView::Piece(a, hex)),
+        None => Err(Kind::Number),
+    }
+}
+
+fn take_line(words: Words<'_>) -> Result<LineView<'_>, Kind>
+    ensures { seen result ≡ just (one_of (words_left words.entry)) (λ word. numbered (assoc_at word) Take) }
+{
+    let Some(a) = words.one() else {
+        return Err(Kind::Word);
+    };
+    match association(a) {
+        Some(a) => Ok(LineView::Take(a)),
+        None => Err(Kind::Number),
+    }
+}
+
+fn lost_line(words: Words<'_>) -> Result<LineView<'_>, Kind>
+    ensures { seen result ≡ just (one_of (words_left words.entry)) (λ word. numbered (assoc_at word) Lost) }
+{
+    let Some(a) = words.one() else {
+        return Err(Kind::Word);
+    };
+    match association(a) {
+        Some(a) => Ok(LineView::Lost(a)),
+        None => Err(Kind::Number),
+    }
+}
+
+fn set_line(words: Words<'_>) -> Result<LineView<'_>, Kind>
+    ensures { seen result ≡ set_line_at (words_left words.entry) }
+{
+    if words.are_pairs() {
+        Ok(LineView::Set(PairsView::of(words)))
+    } else {
+        Err(Kind::Word)
+    }
+}
+
+fn done_line(words: Words<'_>) -> Result<LineView<'_>, Kind>
+    ensures { seen result ≡ just (two_of (words_left words.entry)) (λ ws. truth_line (truth_at ws.1) (Done ws.0)) }
+{
+    let Some((control, well)) = words.two() else {
+        return Err(Kind::Word);
+    };
     match truth(well) {
-        Some(well) => Ok(RecLine::Done(owned(alloc, control)?, well)),
-        None => Err(RecFault::Refused(Kind::Word)),
+        Some(well) => Ok(LineView::Done(control, well)),
+        None => Err(Kind::Word),
     }
 }
 
-fn block_line(alloc: Global, control: &[u8], on: &[u8]) -> Result<RecLine, RecFault>
-    ensures { Gives result (truth_line (truth_at on.now) (Block control.now)) }
+fn block_line(words: Words<'_>) -> Result<LineView<'_>, Kind>
+    ensures { seen result ≡ just (two_of (words_left words.entry)) (λ ws. truth_line (truth_at ws.1) (Block ws.0)) }
 {
+    let Some((control, on)) = words.two() else {
+        return Err(Kind::Word);
+    };
     match truth(on) {
-        Some(on) => Ok(RecLine::Block(owned(alloc, control)?, on)),
-        None => Err(RecFault::Refused(Kind::Word)),
+        Some(on) => Ok(LineView::Block(control, on)),
+        None => Err(Kind::Word),
+    }
+}
+
+#[tactic(auto, unfolding(crate::specs::Contents::content_at))]
+fn tick_line(words: Words<'_>) -> Result<LineView<'_>, Kind>
+    ensures { seen result ≡ content_at Tick (words_left words.entry) }
+{
+    if words.is_empty() {
+        Ok(LineView::Tick)
+    } else {
+        Err(Kind::Word)
+    }
+}
+
+#[tactic(auto, unfolding(crate::specs::Contents::content_at))]
+fn end_line(words: Words<'_>) -> Result<LineView<'_>, Kind>
+    ensures { seen result ≡ content_at End (words_left words.entry) }
+{
+    if words.is_empty() {
+        Ok(LineView::End)
+    } else {
+        Err(Kind::Word)
     }
 }
 
 /// What the words behind the first tell.
-#[tactic(auto, unfolding(crate::specs::Contents::content_at))]
-fn content(alloc: Global, keyword: Keyword, words: &[&[u8]]) -> Result<RecLine, RecFault>
-    ensures { Gives result (content_at keyword (texts words.now)) }
+#[tactic(auto, using(crate::proofs::SeenLaws::at_content, crate::proofs::SeenLaws::write_content, crate::proofs::SeenLaws::pdu_content, crate::proofs::SeenLaws::piece_content, crate::proofs::SeenLaws::take_content, crate::proofs::SeenLaws::lost_content, crate::proofs::SeenLaws::set_content, crate::proofs::SeenLaws::done_content, crate::proofs::SeenLaws::block_content))]
+fn content<'a>(keyword: Keyword, words: Words<'a>) -> Result<LineView<'a>, Kind>
+    ensures { seen result ≡ content_at keyword (words_left words.entry) }
 {
-    match (keyword, words) {
-        (Keyword::At, [moment]) => at_line(moment),
-        (Keyword::Open, [a, form @ ..]) => open_line(a, form),
-        (Keyword::Write, [a, block, comp, value]) => component_line(alloc, a, block, comp, value),
-        (Keyword::Pdu, [a, hex]) => pdu_line(alloc, a, hex),
-        (Keyword::Piece, [a, hex]) => piece_line(alloc, a, hex),
-        (Keyword::Take, [a]) => take_line(a),
-        (Keyword::Lost, [a]) => lost_line(a),
-        (Keyword::Set, words) => set_line(alloc, words),
-        (Keyword::Done, [control, well]) => done_line(alloc, control, well),
-        (Keyword::Block, [control, on]) => block_line(alloc, control, on),
-        (Keyword::Tick, []) => Ok(RecLine::Tick),
-        (Keyword::End, []) => Ok(RecLine::End),
-        _ => Err(RecFault::Refused(Kind::Word)),
+    match keyword {
+        Keyword::At => at_line(words),
+        Keyword::Open => open_line(words),
+        Keyword::Write => component_line(words),
+        Keyword::Pdu => pdu_line(words),
+        Keyword::Piece => piece_line(words),
+        Keyword::Take => take_line(words),
+        Keyword::Lost => lost_line(words),
+        Keyword::Set => set_line(words),
+        Keyword::Done => done_line(words),
+        Keyword::Block => block_line(words),
+        Keyword::Tick => tick_line(words),
+        Keyword::End => end_line(words),
     }
 }
 
 /// What words tell.
 #[tactic(auto, unfolding(crate::specs::Judging::tell_at))]
-fn tell(alloc: Global, words: &[&[u8]]) -> Result<RecLine, RecFault>
-    ensures { Gives result (tell_at (texts words.now)) }
+fn tell(line: &[u8]) -> Result<LineView<'_>, Kind>
+    ensures { seen result ≡ tell_at (words_of line.now) }
 {
-    if has_empty(words) {
-        return Err(RecFault::Refused(Kind::Word));
+    if has_empty(line) {
+        return Err(Kind::Word);
     }
-    let [word, more @ ..] = words else {
-        return Err(RecFault::Refused(Kind::Word));
+    let mut words = Words::of(line);
+    let Some(word) = words.next() else {
+        return Err(Kind::Word);
     };
     match keyword_of(word) {
-        Some(keyword) => content(alloc, keyword, more),
-        None => Err(RecFault::Refused(Kind::Word)),
+        Some(keyword) => content(keyword, words),
+        None => Err(Kind::Word),
     }
 }
 
@@ -237,26 +278,30 @@ fn is_long(line: &[u8]) -> bool
     line.len() > 140100 || !are_printable(line)
 }
 
-/// What a line tells, in the order of its judging.
+/// What a line of a record tells, without its newline, its words lent. It takes no memory.
+///
+/// Fails as `read_line` does.
 #[tactic(auto, unfolding(crate::specs::Judging::line_at))]
-fn judge(alloc: Global, line: &[u8]) -> Result<RecLine, RecFault>
-    ensures { Gives result (line_at line.now) }
-{
-    if is_long(line) {
-        return Err(RecFault::Refused(Kind::Long));
-    }
-    if is_skipped(line) {
-        return Ok(RecLine::Skip);
-    }
-    let words = parts_of(alloc, line, b' ')?;
-    tell(alloc, &words)
-}
-
-/// What a line of a record tells, without its newline, as `read_line` does, with its words lent. It takes no memory.
 pub fn view_line(line: &[u8]) -> Result<LineView<'_>, Kind>
     ensures told { seen result ≡ line_at line.now }
 {
-    Err(Kind::Long)
+    if is_long(line) {
+        return Err(Kind::Long);
+    }
+    if is_skipped(line) {
+        return Ok(LineView::Skip);
+    }
+    tell(line)
+}
+
+/// What a line tells, with words of its own.
+fn judge(alloc: Global, line: &[u8]) -> Result<RecLine, RecFault>
+    ensures { Gives result (line_at line.now) }
+{
+    match view_line(line) {
+        Ok(view) => Ok(view.to_line(alloc)?),
+        Err(kind) => Err(RecFault::Refused(kind)),
+    }
 }
 
 /// What a line of a record tells, without its newline. The line `record` and those of the configuration are no such lines.

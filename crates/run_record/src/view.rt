@@ -1,8 +1,7 @@
-ghost use Rattle.std.specs.Prelude.{◌≡◌, IfOk};
-ghost use Rattle.run_record.specs.Seen.{line_seen};
-
 use crate::line::{OpenForm, RecLine};
+use crate::pairs::{Pair, Pairs};
 use crate::words::Words;
+use cfg_text::owned;
 use std::alloc::{AllocError, Global};
 use sv_base::{AssocNo, Moment};
 
@@ -46,15 +45,40 @@ pub enum LineView<'a> {
 }
 
 impl<'a> PairsView<'a> {
-    ghost use Rattle.std.specs.Prelude.{◌≡◌, ◌∷◌, [], MatchOption};
-    ghost use Rattle.run_record.specs.Seen.{pair_seen, pairs_seen};
+    ghost use Rattle.std.specs.Prelude.{◌≡◌, ◌∷◌, [], MatchOption, IfNone, IfOk};
+    ghost use Rattle.run_record.specs.Contents.{paired};
+    ghost use Rattle.run_record.specs.Seen.{words_left, pair_seen, pairs_seen};
+
+    /// The words two by two.
+    pub(crate) fn of(words: Words<'a>) -> Self
+        ensures { pairs_seen result ≡ paired (words_left words.entry) }
+    {
+        PairsView { words }
+    }
 
     /// Takes the next pair; none exactly where no pair is left.
     pub fn next(&mut self) -> Option<PairView<'a>>
         ensures pair { MatchOption result (pairs_seen self.old ≡ []) (λ pair. pairs_seen self.old ≡ pair_seen pair ∷ pairs_seen self.new) }
-        ensures none { MatchOption result (pairs_seen self.new ≡ []) (λ _. Unit {0}) }
+        ensures none { IfNone result (pairs_seen self.new ≡ []) }
     {
-        None
+        let name = self.words.next()?;
+        let value = self.words.next()?;
+        Some(PairView { name, value })
+    }
+
+    /// The pairs, with words of their own.
+    pub fn to_pairs(&self, alloc: Global) -> Result<Pairs, AllocError>
+        ensures { IfOk result (λ pairs. pairs ≡ pairs_seen self.now) }
+    {
+        let mut pairs = Vec::new(alloc);
+        let mut rest = *self;
+        while let Some(pair) = rest.next() {
+            pairs.push(Pair {
+                name: owned(alloc, pair.name)?,
+                value: owned(alloc, pair.value)?,
+            })?;
+        }
+        Ok(Pairs::from_vec(pairs))
     }
 }
 
@@ -66,6 +90,31 @@ impl<'a> LineView<'a> {
     pub fn to_line(&self, alloc: Global) -> Result<RecLine, AllocError>
         ensures { IfOk result (λ line. line ≡ line_seen self.now) }
     {
-        Err(AllocError)
+        let line = match *self {
+            LineView::Skip => RecLine::Skip,
+            LineView::At(moment) => RecLine::At(moment),
+            LineView::Open { a, form } => RecLine::Open { a, form },
+            LineView::Write {
+                a,
+                block,
+                comp,
+                value,
+            } => RecLine::Write {
+                a,
+                block: owned(alloc, block)?,
+                comp: owned(alloc, comp)?,
+                value: owned(alloc, value)?,
+            },
+            LineView::Pdu(a, hex) => RecLine::Pdu(a, owned(alloc, hex)?),
+            LineView::Piece(a, hex) => RecLine::Piece(a, owned(alloc, hex)?),
+            LineView::Take(a) => RecLine::Take(a),
+            LineView::Lost(a) => RecLine::Lost(a),
+            LineView::Set(pairs) => RecLine::Set(pairs.to_pairs(alloc)?),
+            LineView::Done(control, well) => RecLine::Done(owned(alloc, control)?, well),
+            LineView::Block(control, on) => RecLine::Block(owned(alloc, control)?, on),
+            LineView::Tick => RecLine::Tick,
+            LineView::End => RecLine::End,
+        };
+        Ok(line)
     }
 }
