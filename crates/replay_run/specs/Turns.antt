@@ -1,10 +1,12 @@
 -- What is shown of steps that lines tell, beside what they are.
-use Rattle.std.specs.Prelude.{◌≡◌, true, List, Option, None, Some, Vec}
-use Rattle.std.specs.declared.alloc.Global.{Global}
+use Rattle.std.specs.Prelude.{◌≡◌, true, false, List, None, Some}
 use Rattle.sv_base.specs.declared.config.Config.{Config}
-use Rattle.bay_model.specs.declared.step.Setting.{Setting}
 use Rattle.object_model.specs.Fits.{fits}
 use Rattle.bay_core.specs.Turns.{IsBuilt}
+use Rattle.run_record.specs.declared.pairs.Pair.{Pair}
+use Rattle.replay_run.specs.Settings.{are_named, settings_at}
+use Rattle.replay_run.specs.declared.settings.Found.{Found}
+use Rattle.replay_run.specs.declared.settings.Found.TheVariants as founds
 use Rattle.replay_run.specs.declared.told.Told.{Told}
 use Rattle.replay_run.specs.declared.told.Told.TheVariants as tolds
 
@@ -13,7 +15,8 @@ abbrev pub IsTurnOf : Config → Told → Type 0
 IsTurnOf c (tolds.Turn actor step) = (fits c step ≡ true) × IsBuilt step
 IsTurnOf c _ = Unit {0}
 
--- the settings in a `Vec`, if there is one
-abbrev pub items_of : Option (Vec Setting Global) → Option (List Setting)
-items_of None = None
-items_of (Some v) = Some v.items
+-- what pairs were found to be
+abbrev pub AreFound : Config → List Pair → Found → Type 0
+AreFound c pairs (founds.Settings v) = (are_named c pairs ≡ true) × (settings_at c pairs ≡ Some v.items)
+AreFound c pairs founds.Unnamed = are_named c pairs ≡ false
+AreFound c pairs founds.Unspelled = (are_named c pairs ≡ true) × (settings_at c pairs ≡ None)

@@ -1,6 +1,7 @@
 //! The steps of a record, played on a bay.
 
 ghost use Rattle.std.specs.Prelude.{◌≡◌, ◌≢◌, OnOk};
+ghost use Rattle.run_record.specs.Seen.{line_seen};
 ghost use Rattle.replay_run.specs.Resolved.{association_of};
 
 use crate::status::Status;
@@ -8,17 +9,18 @@ use crate::text::push_answer;
 use crate::told::{Told, tell};
 use bay_core::{Bay, StepFault};
 use bay_model::Step;
-use run_record::{RecFault, RecLine, read_line};
+use run_record::{LineView, view_line};
 use std::alloc::{AllocError, Global};
 use sv_base::{ActorNo, Moment};
 
 /// The association that a line names, else 0.
-fn association(line: &RecLine) -> u32
-    ensures { result ≡ association_of line.now }
+fn association(line: &LineView<'_>) -> u32
+    ensures { result ≡ association_of (line_seen line.now) }
 {
     match line {
-        RecLine::Open { a, .. } | RecLine::Write { a, .. } => a.0,
-        RecLine::Pdu(a, _) | RecLine::Piece(a, _) | RecLine::Take(a) | RecLine::Lost(a) => a.0,
+        LineView::Open { a, .. } | LineView::Write { a, .. } => a.0,
+        LineView::Pdu(a, _) | LineView::Piece(a, _) => a.0,
+        LineView::Take(a) | LineView::Lost(a) => a.0,
         _ => 0,
     }
 }
@@ -43,6 +45,7 @@ pub struct Playing {
 
 impl Playing {
     ghost use Rattle.std.specs.Prelude.{◌≡◌, ◌≤◌, ◌<◌, ◌^◌, suc, true, false, [], IfOk, IfSome, IfNone, OnOk, slice_index_or, if◌then◌else◌};
+    ghost use Rattle.run_record.specs.Seen.{line_seen};
     ghost use Rattle.object_model.specs.Fits.{fits};
     ghost use Rattle.bay_core.specs.Standing.{StandsFor};
     ghost use Rattle.bay_core.specs.Turns.{IsBuilt};
@@ -66,8 +69,8 @@ impl Playing {
     }
 
     /// Whether the association that a line names is open.
-    fn is_open(&self, line: &RecLine) -> bool
-        ensures { result ≡ slice_index_or self.now.opened (association_of line.now) false }
+    fn is_open(&self, line: &LineView<'_>) -> bool
+        ensures { result ≡ slice_index_or self.now.opened (association_of (line_seen line.now)) false }
     {
         match self.opened.get(association(line) as usize) {
             Some(there) => *there,
@@ -105,7 +108,7 @@ impl Playing {
         match self.bay.step(alloc, self.moment, actor, step) {
             Ok(answer) => {
                 self.note(step);
-                push_answer(alloc, out, self.bay.model(), actor, &answer)?;
+                push_answer(out, self.bay.model(), actor, &answer)?;
                 Ok(true)
             }
             Err(fault) => {
@@ -171,15 +174,14 @@ impl Playing {
         ensures judged { IfOk result (λ s. IfSome s IsJudgement) }
         ensures few { IfOk result (λ s. IfNone s (self.new.bay.steps ≤ suc self.old.bay.steps)) }
     {
-        let line = match read_line(alloc, line) {
+        let line = match view_line(line) {
             Ok(line) => line,
-            Err(RecFault::Refused(kind)) => {
+            Err(kind) => {
                 return Ok(Some(Status::Record {
                     line: number,
                     kind: kind.number(),
                 }));
             }
-            Err(RecFault::Memory) => return Err(AllocError),
         };
         let there = self.is_open(&line);
         let told = tell(alloc, self.bay.model(), there, &line)?;

@@ -1,27 +1,25 @@
 //! The settings of the process, by the references of attributes.
 
-ghost use Rattle.std.specs.Prelude.{◌≡◌, IfOk, Some};
-ghost use Rattle.std.specs.Prelude.{is_some};
-ghost use Rattle.replay_run.specs.Settings.{number_at, are_named as are_all_named, typed_at, setting_at, settings_at};
-ghost use Rattle.replay_run.specs.Turns.{items_of};
+ghost use Rattle.std.specs.Prelude.{◌≡◌, IfOk};
+ghost use Rattle.run_record.specs.Seen.{pairs_seen};
+ghost use Rattle.replay_run.specs.Settings.{typed_at};
+ghost use Rattle.replay_run.specs.Turns.{AreFound};
 
 use bay_model::Setting;
 use object_model::Model;
-use run_record::Pair;
+use run_record::PairsView;
 use std::alloc::{AllocError, Global};
 use sv_base::{AttrId, Value};
 
-fn is_named(model: &Model, pair: &Pair) -> bool
-    ensures { result ≡ is_some (number_at model.now pair.now) }
-{
-    model.attr(pair.name.as_slice()).is_some()
-}
-
-/// Every reference is that of an attribute.
-pub fn are_named(model: &Model, pairs: &[Pair]) -> bool
-    ensures { result ≡ are_all_named model.now pairs.now }
-{
-    pairs.iter().all(|pair| is_named(model, pair))
+/// What the pairs of a line are: references of attributes, each with the text of a value.
+#[derive(Debug, Drop)]
+pub enum Found {
+    /// The settings of these, in their order.
+    Settings(Vec<Setting>),
+    /// Nothing, since a reference is no attribute's.
+    Unnamed,
+    /// Nothing, since a text is no value of its attribute's type, where each reference is an attribute's.
+    Unspelled,
 }
 
 /// The value that a text spells of the type of an attribute which has a line of its own.
@@ -39,33 +37,25 @@ fn typed(
     }
 }
 
-/// The setting of a pair.
-fn setting(alloc: Global, model: &Model, pair: &Pair) -> Result<Option<Setting>, AllocError>
-    ensures { IfOk result (λ r. r ≡ setting_at model.now pair.now) }
-{
-    let Some(attr) = model.attr(pair.name.as_slice()) else {
-        return Ok(None);
-    };
-    match typed(alloc, model, attr, pair.value.as_slice())? {
-        Some(value) => Ok(Some(Setting { attr, value })),
-        None => Ok(None),
-    }
-}
-
-/// The settings of pairs, in their order; none where a text is no value of its attribute's type.
-pub fn settings_of(
-    alloc: Global,
-    model: &Model,
-    pairs: &[Pair],
-) -> Result<Option<Vec<Setting>>, AllocError>
-    ensures { IfOk result (λ r. items_of r ≡ settings_at model.now pairs.now) }
+/// What pairs are.
+pub fn settings_of(alloc: Global, model: &Model, pairs: &PairsView<'_>) -> Result<Found, AllocError>
+    ensures { IfOk result (AreFound model.now (pairs_seen pairs.now)) }
 {
     let mut settings = Vec::new(alloc);
-    for pair in pairs {
-        match setting(alloc, model, pair)? {
-            Some(setting) => settings.push(setting)?,
-            None => return Ok(None),
+    let mut spelled = true;
+    let mut rest = *pairs;
+    while let Some(pair) = rest.next() {
+        let Some(attr) = model.attr(pair.name) else {
+            return Ok(Found::Unnamed);
+        };
+        match typed(alloc, model, attr, pair.value)? {
+            Some(value) => settings.push(Setting { attr, value })?,
+            None => spelled = false,
         }
     }
-    Ok(Some(settings))
+    if spelled {
+        Ok(Found::Settings(settings))
+    } else {
+        Ok(Found::Unspelled)
+    }
 }

@@ -1,14 +1,11 @@
 //! The values that clients write, read by the shapes of their texts.
 
-ghost use Rattle.std.specs.Prelude.{◌≡◌, ◌==◌, IfOk, codes, map, option_copied};
-ghost use Rattle.std.specs.List.{list_all};
+ghost use Rattle.std.specs.Prelude.{◌≡◌, IfOk, codes, option_copied};
 ghost use Rattle.cfg_text.specs.Words.{behind};
-ghost use Rattle.cfg_text.specs.Values.{is_binary as binary, is_graphic as graphic, is_hex as hex_digit, hex_at, option_items};
 ghost use Rattle.replay_run.specs.Shapes.{is_bits as is_bit_string, bits_of, number_of, text_of, marked_at, shape_at};
 
 use bay_model::Comp;
-use cfg_text::{owned, truth};
-use hex::FromHexError;
+use cfg_text::{all_binary, all_graphic, hex_octets, owned, truth, truth_values};
 use std::alloc::{AllocError, Global};
 use sv_base::{Bits, Octs, TypeOf, Value};
 
@@ -17,25 +14,6 @@ fn is_bits(comp: Comp) -> bool
     ensures { result ≡ is_bit_string comp }
 {
     matches!(comp, Comp::OptFlds | Comp::TrgOps)
-}
-
-fn is_binary(octet: u8) -> bool
-    ensures { result ≡ binary octet }
-{
-    octet == b'0' || octet == b'1'
-}
-
-fn all_binary(word: &[u8]) -> bool
-    ensures { result ≡ list_all binary word.now }
-{
-    word.iter().all(|octet| is_binary(*octet))
-}
-
-/// The truth values of digits 0 and 1.
-fn truth_values(alloc: Global, word: &[u8]) -> Result<Vec<bool>, AllocError>
-    ensures { IfOk result (λ v. v.items ≡ map (λ octet. octet == 49) word.now) }
-{
-    word.iter().map(|octet| *octet == b'1').collect(alloc)
 }
 
 /// Digits 0 and 1, the first bit first.
@@ -66,18 +44,6 @@ fn number(alloc: Global, word: &[u8]) -> Result<Option<Value>, AllocError>
     }
 }
 
-fn is_graphic(octet: u8) -> bool
-    ensures { result ≡ graphic octet }
-{
-    octet >= 0x21 && octet <= 0x7e
-}
-
-fn all_graphic(octets: &[u8]) -> bool
-    ensures { result ≡ list_all graphic octets.now }
-{
-    octets.iter().all(|octet| is_graphic(*octet))
-}
-
 /// Visible octets.
 fn text(alloc: Global, octets: &[u8]) -> Result<Option<Value>, AllocError>
     ensures { IfOk result (λ r. r ≡ text_of octets.now) }
@@ -86,32 +52,6 @@ fn text(alloc: Global, octets: &[u8]) -> Result<Option<Value>, AllocError>
         return Ok(Some(Value::Text(owned(alloc, octets)?)));
     }
     Ok(None)
-}
-
-fn is_hex(octet: u8) -> bool
-    ensures { result ≡ hex_digit octet }
-{
-    (octet >= b'0' && octet <= b'9') || (octet >= b'a' && octet <= b'f')
-}
-
-fn all_hex(digits: &[u8]) -> bool
-    ensures { result ≡ list_all hex_digit digits.now }
-{
-    digits.iter().all(|octet| is_hex(*octet))
-}
-
-/// The octets of a hexadecimal text in lower case.
-fn hex_octets(alloc: Global, digits: &[u8]) -> Result<Option<Vec<u8>>, AllocError>
-    ensures { IfOk result (λ r. option_items r ≡ hex_at digits.now) }
-{
-    if !all_hex(digits) {
-        return Ok(None);
-    }
-    match hex::decode(alloc, digits) {
-        Ok(octets) => Ok(Some(octets)),
-        Err(FromHexError::OutOfMemory) => Err(AllocError),
-        Err(_) => Ok(None),
-    }
 }
 
 /// No truth value: `'` and a text, `x` and octets in hexadecimal, or digits.

@@ -9,7 +9,7 @@ ghost use Rattle.sv_base.specs.declared.config.Config.{Config};
 use bay_model::{Answer, Member, Output, Reasons, Report};
 use itoa::Buffer;
 use object_model::Model;
-use std::alloc::{AllocError, Global};
+use std::alloc::AllocError;
 use sv_base::{ActorNo, BlockNo};
 
 /// Writes a number in decimal.
@@ -41,15 +41,22 @@ fn push_reasons(out: &mut Vec<u8>, reasons: &Reasons) -> Result<(), AllocError>
 }
 
 /// Writes octets in lower-case hexadecimal.
-fn push_hex(alloc: Global, out: &mut Vec<u8>, octets: &[u8]) -> Result<(), AllocError>
+fn push_hex(out: &mut Vec<u8>, octets: &[u8]) -> Result<(), AllocError>
     ensures { OnOk result (out.new.items ≡ out.old.items ++ encode_lower octets.now) }
 {
-    let text = hex::encode(alloc, octets)?;
-    out.extend_from_slice(text.as_bytes())
+    let start = out.len();
+    let Some(end) = start.checked_add(octets.len().saturating_mul(2)) else {
+        return Err(AllocError);
+    };
+    out.resize(end, 0)?;
+    match hex::encode_to_slice(octets, &mut out[start..]) {
+        Ok(()) => Ok(()),
+        Err(_) => Err(AllocError),
+    }
 }
 
 /// Writes a member of a report.
-fn push_member(alloc: Global, out: &mut Vec<u8>, member: &Member) -> Result<(), AllocError>
+fn push_member(out: &mut Vec<u8>, member: &Member) -> Result<(), AllocError>
     ensures { OnOk result (out.new.items ≡ out.old.items ++ member_text member.now) }
 {
     out.push(b' ')?;
@@ -57,15 +64,15 @@ fn push_member(alloc: Global, out: &mut Vec<u8>, member: &Member) -> Result<(), 
     out.push(b'=')?;
     push_reasons(out, &member.reasons)?;
     out.push(b':')?;
-    push_hex(alloc, out, member.octets.as_slice())
+    push_hex(out, member.octets.as_slice())
 }
 
 /// Writes the members of a report.
-fn push_members(alloc: Global, out: &mut Vec<u8>, members: &[Member]) -> Result<(), AllocError>
+fn push_members(out: &mut Vec<u8>, members: &[Member]) -> Result<(), AllocError>
     ensures { OnOk result (out.new.items ≡ out.old.items ++ flat_map member_text members.now) }
 {
     for member in members {
-        push_member(alloc, out, member)?;
+        push_member(out, member)?;
     }
     Ok(())
 }
@@ -116,7 +123,6 @@ fn push_head(
 
 /// Writes a report.
 fn push_report(
-    alloc: Global,
     out: &mut Vec<u8>,
     model: &Model,
     a: ActorNo,
@@ -125,7 +131,7 @@ fn push_report(
     ensures { OnOk result (out.new.items ≡ out.old.items ++ report_text model.now a.0 report.now) }
 {
     push_head(out, model, a, report)?;
-    push_members(alloc, out, report.members.as_slice())?;
+    push_members(out, report.members.as_slice())?;
     out.push(b'\n')?;
     Ok(())
 }
@@ -156,7 +162,6 @@ fn push_word(out: &mut Vec<u8>, a: ActorNo, word: &[u8]) -> Result<(), AllocErro
 
 /// Writes the lines of an answer to a step of an association's.
 pub fn push_answer(
-    alloc: Global,
     out: &mut Vec<u8>,
     model: &Model,
     a: ActorNo,
@@ -168,7 +173,7 @@ pub fn push_answer(
         Answer::Wrote(outcome) => push_outcome(out, a, *outcome),
         Answer::Empty => push_word(out, a, b" empty\n"),
         Answer::Closed => push_word(out, a, b" closed\n"),
-        Answer::Taken(Output::Report(report)) => push_report(alloc, out, model, a, report),
+        Answer::Taken(Output::Report(report)) => push_report(out, model, a, report),
         _ => Ok(()),
     }
 }

@@ -8,13 +8,14 @@ ghost use Rattle.replay_run.specs.Resolved.{is_built as is_built_component, turn
 ghost use Rattle.replay_run.specs.Shapes.{shape_at};
 ghost use Rattle.replay_run.specs.Turns.{IsTurnOf};
 ghost use Rattle.bay_core.specs.Turns.{IsBuilt};
+ghost use Rattle.run_record.specs.Seen.{line_seen, pairs_seen};
 
 use crate::components::component_of;
-use crate::settings::{are_named, settings_of};
+use crate::settings::{Found, settings_of};
 use crate::shapes::shape;
 use bay_model::{Comp, Sets, Step};
 use object_model::Model;
-use run_record::{OpenForm, Pair, RecLine};
+use run_record::{LineView, OpenForm, PairsView};
 use std::alloc::{AllocError, Global};
 use sv_base::{ActorNo, AssocNo, BlockNo, Moment};
 
@@ -132,50 +133,46 @@ fn lose(model: &Model, there: bool, a: AssocNo) -> Told
     }
 }
 
-fn set(alloc: Global, model: &Model, pairs: &[Pair]) -> Result<Told, AllocError>
-    ensures told { IfOk result (λ t. t ≡ set_as model.now pairs.now) }
+fn set(alloc: Global, model: &Model, pairs: &PairsView<'_>) -> Result<Told, AllocError>
+    ensures told { IfOk result (λ t. t ≡ set_as model.now (pairs_seen pairs.now)) }
     ensures turn { IfOk result (IsTurnOf model.now) }
 {
-    if !are_named(model, pairs) {
-        return Ok(Told::Refused(3));
-    }
-    match settings_of(alloc, model, pairs)? {
-        Some(settings) => Ok(turn(model, 0, Step::Value(Sets::from_vec(settings)))),
-        None => Ok(Told::Refused(4)),
-    }
+    let told = match settings_of(alloc, model, pairs)? {
+        Found::Settings(settings) => turn(model, 0, Step::Value(Sets::from_vec(settings))),
+        Found::Unnamed => Told::Refused(3),
+        Found::Unspelled => Told::Refused(4),
+    };
+    Ok(told)
 }
 
 /// What a line tells, where the association that it names is open or isn't.
 #[tactic(auto, unfolding(crate::specs::Resolved::told_of))]
-pub fn tell(alloc: Global, model: &Model, there: bool, line: &RecLine) -> Result<Told, AllocError>
-    ensures told { IfOk result (λ t. t ≡ told_of model.now there line.now) }
+pub fn tell(
+    alloc: Global,
+    model: &Model,
+    there: bool,
+    line: &LineView<'_>,
+) -> Result<Told, AllocError>
+    ensures told { IfOk result (λ t. t ≡ told_of model.now there (line_seen line.now)) }
     ensures turn { IfOk result (IsTurnOf model.now) }
 {
     let told = match line {
-        RecLine::Skip => Told::Skip,
-        RecLine::At(moment) => Told::At(*moment),
-        RecLine::Open { a, form } => open(model, there, *a, *form),
-        RecLine::Write {
+        LineView::Skip => Told::Skip,
+        LineView::At(moment) => Told::At(*moment),
+        LineView::Open { a, form } => open(model, there, *a, *form),
+        LineView::Write {
             a,
             block,
             comp,
             value,
-        } => write(
-            alloc,
-            model,
-            there,
-            *a,
-            block.as_slice(),
-            comp.as_slice(),
-            value.as_slice(),
-        )?,
-        RecLine::Pdu(..) | RecLine::Piece(..) => Told::Refused(5),
-        RecLine::Take(a) => turn(model, a.0, Step::Take(*a)),
-        RecLine::Lost(a) => lose(model, there, *a),
-        RecLine::Set(pairs) => set(alloc, model, pairs.as_slice())?,
-        RecLine::Done(..) | RecLine::Block(..) => Told::Refused(3),
-        RecLine::Tick => turn(model, 0, Step::Tick),
-        RecLine::End => Told::End,
+        } => write(alloc, model, there, *a, block, comp, value)?,
+        LineView::Pdu(..) | LineView::Piece(..) => Told::Refused(5),
+        LineView::Take(a) => turn(model, a.0, Step::Take(*a)),
+        LineView::Lost(a) => lose(model, there, *a),
+        LineView::Set(pairs) => set(alloc, model, pairs)?,
+        LineView::Done(..) | LineView::Block(..) => Told::Refused(3),
+        LineView::Tick => turn(model, 0, Step::Tick),
+        LineView::End => Told::End,
     };
     Ok(told)
 }

@@ -1,7 +1,7 @@
 use crate::status::Status;
 use crate::tool::tool;
 use std::alloc::{AllocError, Global};
-use std::test::Fail;
+use std::test::{Fail, HostRuntime};
 use sv_base::Octs;
 use sv_io::{Calls, MemSink, MemSource};
 
@@ -15,7 +15,8 @@ const BEHIND: &str =
 /// A record: its name, the capacity, its step lines, and the answer.
 type Row = (&'static str, &'static str, &'static str, &'static str);
 
-const ROWS: [Row; 12] = [
+/// Records of values, and the mark of a gap.
+const REPORTS: [Row; 4] = [
     ("nothing", "200", "open 1 direct\nend\n", "end\n"),
     (
         "one value",
@@ -35,6 +36,10 @@ const ROWS: [Row; 12] = [
         "open 1 direct\nat 441763200001\nset BAY1/MMXU1$MX$TotW$mag$i 1\nat 441763200002\nset BAY1/MMXU1$MX$TotW$mag$i 2\nat 441763200003\nset BAY1/MMXU1$MX$TotW$mag$i 3\nat 441763200004\nset BAY1/MMXU1$MX$TotW$mag$i 4\nat 441763200005\nset BAY1/MMXU1$MX$TotW$mag$i 5\nat 441763200006\nset BAY1/MMXU1$MX$TotW$mag$i 6\nat 441763200007\nset BAY1/MMXU1$MX$TotW$mag$i 7\nat 441763200008\nset BAY1/MMXU1$MX$TotW$mag$i 8\nat 441763200009\nset BAY1/MMXU1$MX$TotW$mag$i 9\nwrite 1 BAY1/LLN0$BR$brcbEv01 RptEna T\ntake 1\ntake 1\nend\n",
         "1 ok\n1 report BAY1/LLN0$BR$brcbEv01 sq 0 id 4 time 441763200004 ovfl 1 3=d:850104\n1 report BAY1/LLN0$BR$brcbEv01 sq 1 id 5 time 441763200005 ovfl 0 3=d:850105\nend\n",
     ),
+];
+
+/// Records of clients that name an entry.
+const RESUMES: [Row; 4] = [
     (
         "resume at the newest, and the next value",
         "200",
@@ -54,6 +59,16 @@ const ROWS: [Row; 12] = [
         "1 refused 11\n1 refused 11\n1 ok\n1 ok\n1 report BAY1/LLN0$BR$brcbEv01 sq 0 id 4 time 441763200004 ovfl 1 3=d:850104\nend\n",
     ),
     (
+        "loss, and resume by a second association",
+        "200",
+        "open 1 direct\nat 441763200001\nset BAY1/MMXU1$MX$TotW$mag$i 1\nat 441763200002\nset BAY1/MMXU1$MX$TotW$mag$i 2\nat 441763200003\nset BAY1/MMXU1$MX$TotW$mag$i 3\nwrite 1 BAY1/LLN0$BR$brcbEv01 RptEna T\ntake 1\nlost 1\nopen 2 direct\nwrite 2 BAY1/LLN0$BR$brcbEv01 EntryID x0000000000000001\nwrite 2 BAY1/LLN0$BR$brcbEv01 RptEna T\ntake 2\ntake 2\ntake 2\nend\n",
+        "1 ok\n1 report BAY1/LLN0$BR$brcbEv01 sq 0 id 1 time 441763200001 ovfl 0 3=d:850101\n2 ok\n2 ok\n2 report BAY1/LLN0$BR$brcbEv01 sq 0 id 2 time 441763200002 ovfl 0 3=d:850102\n2 report BAY1/LLN0$BR$brcbEv01 sq 1 id 3 time 441763200003 ovfl 0 3=d:850103\n2 empty\nend\n",
+    ),
+];
+
+/// Records of blocks held by another, purges and entries that do not fit.
+const HOLDS: [Row; 4] = [
+    (
         "held by another",
         "200",
         "open 1 direct\nopen 2 direct\nwrite 1 BAY1/LLN0$BR$brcbEv01 RptEna T\nwrite 1 BAY1/LLN0$BR$brcbEv01 EntryID x0000000000000000\nwrite 2 BAY1/LLN0$BR$brcbEv01 EntryID x0000000000000000\nwrite 2 BAY1/LLN0$BR$brcbEv01 RptEna F\nend\n",
@@ -70,12 +85,6 @@ const ROWS: [Row; 12] = [
         "200",
         "open 1 direct\nset BAY1/MMXU1$MX$TotW$mag$i 1\nwrite 1 BAY1/LLN0$BR$brcbEv01 RptEna T\ntake 1\nwrite 1 BAY1/LLN0$BR$brcbEv01 RptEna F\nwrite 1 BAY1/LLN0$BR$brcbEv01 PurgeBuf T\nset BAY1/MMXU1$MX$TotW$mag$i 2\nwrite 1 BAY1/LLN0$BR$brcbEv01 RptEna T\ntake 1\nend\n",
         "1 ok\n1 report BAY1/LLN0$BR$brcbEv01 sq 0 id 1 time 441763200000 ovfl 0 3=d:850101\n1 ok\n1 ok\n1 ok\n1 report BAY1/LLN0$BR$brcbEv01 sq 0 id 2 time 441763200000 ovfl 0 3=d:850102\nend\n",
-    ),
-    (
-        "loss, and resume by a second association",
-        "200",
-        "open 1 direct\nat 441763200001\nset BAY1/MMXU1$MX$TotW$mag$i 1\nat 441763200002\nset BAY1/MMXU1$MX$TotW$mag$i 2\nat 441763200003\nset BAY1/MMXU1$MX$TotW$mag$i 3\nwrite 1 BAY1/LLN0$BR$brcbEv01 RptEna T\ntake 1\nlost 1\nopen 2 direct\nwrite 2 BAY1/LLN0$BR$brcbEv01 EntryID x0000000000000001\nwrite 2 BAY1/LLN0$BR$brcbEv01 RptEna T\ntake 2\ntake 2\ntake 2\nend\n",
-        "1 ok\n1 report BAY1/LLN0$BR$brcbEv01 sq 0 id 1 time 441763200001 ovfl 0 3=d:850101\n2 ok\n2 ok\n2 report BAY1/LLN0$BR$brcbEv01 sq 0 id 2 time 441763200002 ovfl 0 3=d:850102\n2 report BAY1/LLN0$BR$brcbEv01 sq 1 id 3 time 441763200003 ovfl 0 3=d:850103\n2 empty\nend\n",
     ),
     (
         "an entry larger than the buffer",
@@ -111,11 +120,11 @@ fn first_call(alloc: Global) -> Result<Calls, AllocError> {
     Ok(Calls::from_vec(calls))
 }
 
-#[test]
-fn records_are_answered_as_the_rules_say(rt: HostRuntime) -> Result<(), Fail> {
+/// Each record is answered so.
+fn answers(rt: &HostRuntime, rows: &[Row]) -> Result<(), Fail> {
     let alloc = rt.alloc();
     let words = one_word(alloc, "replay")?;
-    for (name, capacity, steps, answer) in &ROWS {
+    for (name, capacity, steps, answer) in rows {
         let mut source = MemSource::new(record(alloc, capacity, steps)?, no_calls(alloc));
         let mut sink = MemSink::new(alloc, no_calls(alloc));
         let status = tool(alloc, &words, &mut source, &mut sink);
@@ -125,8 +134,26 @@ fn records_are_answered_as_the_rules_say(rt: HostRuntime) -> Result<(), Fail> {
     Ok(())
 }
 
+#[test]
+fn entries_are_reported_and_gaps_marked(rt: HostRuntime) -> Result<(), Fail> {
+    answers(&rt, &REPORTS)
+}
+
+#[test]
+fn clients_resume_behind_an_entry(rt: HostRuntime) -> Result<(), Fail> {
+    answers(&rt, &RESUMES)
+}
+
+#[test]
+fn blocks_are_held_and_purged(rt: HostRuntime) -> Result<(), Fail> {
+    answers(&rt, &HOLDS)
+}
+
 /// Step lines behind the example configuration with capacity 200, the status, and what was answered.
-const ENDS: [(&str, Status, &str); 28] = [
+type End = (&'static str, Status, &'static str);
+
+/// Of records that end, or don't.
+const ENDS: [End; 5] = [
     ("", Status::Record { line: 22, kind: 7 }, ""),
     ("open 1 direct\n", Status::Record { line: 23, kind: 7 }, ""),
     (
@@ -136,7 +163,10 @@ const ENDS: [(&str, Status, &str); 28] = [
     ),
     ("end\nno line\n", Status::Ok, "end\n"),
     ("# a remark\n\ntick\nend\n", Status::Ok, "end\n"),
-    // words and numbers
+];
+
+/// Of words and numbers.
+const WORDS: [End; 6] = [
     (
         "take 1\ntock\nend\n",
         Status::Record { line: 23, kind: 1 },
@@ -151,7 +181,10 @@ const ENDS: [(&str, Status, &str); 28] = [
         "",
     ),
     ("take\t1\n", Status::Record { line: 22, kind: 8 }, ""),
-    // names before the state of an association, and that before values
+];
+
+/// Of names, which come before the state of an association.
+const NAMES: [End; 5] = [
     (
         "set NO/SUCH$MX$x 1\n",
         Status::Record { line: 22, kind: 3 },
@@ -177,6 +210,10 @@ const ENDS: [(&str, Status, &str); 28] = [
         Status::Record { line: 22, kind: 3 },
         "",
     ),
+];
+
+/// Of associations that are open, or aren't; that comes before values.
+const STATES: [End; 4] = [
     (
         "write 1 BAY1/LLN0$BR$brcbEv01 EntryID x0\n",
         Status::Record { line: 22, kind: 5 },
@@ -189,7 +226,10 @@ const ENDS: [(&str, Status, &str); 28] = [
         Status::Record { line: 24, kind: 5 },
         "1 empty\n",
     ),
-    // values
+];
+
+/// Of values.
+const VALUES: [End; 5] = [
     (
         "set BAY1/MMXU1$MX$TotW$mag$i 2147483648\n",
         Status::Record { line: 22, kind: 4 },
@@ -215,7 +255,10 @@ const ENDS: [(&str, Status, &str); 28] = [
         Status::Ok,
         "1 refused 7\nend\n",
     ),
-    // what isn't built
+];
+
+/// Of what isn't built.
+const UNBUILT: [End; 3] = [
     ("open 1 wire\n", Status::Record { line: 22, kind: 9 }, ""),
     (
         "open 1 mms 1024\n",
@@ -229,8 +272,8 @@ const ENDS: [(&str, Status, &str); 28] = [
     ),
 ];
 
-/// Whole records, the status, and what was answered.
-const RECORDS: [(&str, Status, &str); 13] = [
+/// Whole records up to their first line, the status, and what was answered.
+const HEADINGS: [End; 7] = [
     ("", Status::Record { line: 1, kind: 7 }, ""),
     ("# a remark\n", Status::Record { line: 2, kind: 7 }, ""),
     ("open 1 direct\n", Status::Record { line: 1, kind: 1 }, ""),
@@ -241,6 +284,11 @@ const RECORDS: [(&str, Status, &str); 13] = [
         "",
     ),
     ("record 1\n", Status::Config { line: 2, kind: 2 }, ""),
+    ("record\t1\n", Status::Record { line: 1, kind: 8 }, ""),
+];
+
+/// Whole records with a configuration, the status, and what was answered.
+const CONFIGURATIONS: [End; 6] = [
     (
         "\nrecord 1\nconfig 1\nserver a b\nend\n",
         Status::Config { line: 4, kind: 1 },
@@ -266,7 +314,6 @@ const RECORDS: [(&str, Status, &str); 13] = [
         Status::Record { line: 7, kind: 9 },
         "",
     ),
-    ("record\t1\n", Status::Record { line: 1, kind: 8 }, ""),
     (
         "record 1\nconfig 1\nserver a b c\nld A\nln LLN0\nctl Pos 4 5000 0 bool\nend\n",
         Status::Record { line: 6, kind: 9 },
@@ -274,33 +321,80 @@ const RECORDS: [(&str, Status, &str); 13] = [
     ),
 ];
 
-#[test]
-fn a_status_says_why_a_replay_ended(rt: HostRuntime) -> Result<(), Fail> {
+/// A record ends with this status, and was answered so.
+fn ends(
+    rt: &HostRuntime,
+    octets: Octs,
+    wanted: Status,
+    answer: &str,
+    name: &str,
+) -> Result<(), Fail> {
     let alloc = rt.alloc();
-    let replay = one_word(alloc, "replay")?;
-    for (steps, wanted, answer) in &ENDS {
-        let mut source = MemSource::new(record(alloc, "200", steps)?, no_calls(alloc));
-        let mut sink = MemSink::new(alloc, no_calls(alloc));
-        let status = tool(alloc, &replay, &mut source, &mut sink);
-        assert_eq!(rt; status, *wanted, "{steps}");
-        assert_eq!(rt; sink.octets(), answer.as_bytes(), "{steps}");
+    let words = one_word(alloc, "replay")?;
+    let mut source = MemSource::new(octets, no_calls(alloc));
+    let mut sink = MemSink::new(alloc, no_calls(alloc));
+    let status = tool(alloc, &words, &mut source, &mut sink);
+    assert_eq!(rt; status, wanted, "{name}");
+    assert_eq!(rt; sink.octets(), answer.as_bytes(), "{name}");
+    Ok(())
+}
+
+/// Steps end with these statuses.
+fn steps_end(rt: &HostRuntime, rows: &[End]) -> Result<(), Fail> {
+    for (steps, wanted, answer) in rows {
+        let octets = record(rt.alloc(), "200", steps)?;
+        ends(rt, octets, *wanted, answer, steps)?;
+    }
+    Ok(())
+}
+
+/// Whole records end with these statuses.
+fn records_end(rt: &HostRuntime, rows: &[End]) -> Result<(), Fail> {
+    for (text, wanted, answer) in rows {
+        let octets = Octs::from_vec(Vec::from_slice(rt.alloc(), text.as_bytes())?);
+        ends(rt, octets, *wanted, answer, text)?;
     }
     Ok(())
 }
 
 #[test]
+fn a_record_ends_at_its_last_line(rt: HostRuntime) -> Result<(), Fail> {
+    steps_end(&rt, &ENDS)
+}
+
+#[test]
+fn words_and_numbers_are_judged_first(rt: HostRuntime) -> Result<(), Fail> {
+    steps_end(&rt, &WORDS)
+}
+
+#[test]
+fn names_are_judged_before_states(rt: HostRuntime) -> Result<(), Fail> {
+    steps_end(&rt, &NAMES)
+}
+
+#[test]
+fn states_are_judged_before_values(rt: HostRuntime) -> Result<(), Fail> {
+    steps_end(&rt, &STATES)
+}
+
+#[test]
+fn values_are_of_their_types(rt: HostRuntime) -> Result<(), Fail> {
+    steps_end(&rt, &VALUES)
+}
+
+#[test]
+fn what_is_not_built_is_refused(rt: HostRuntime) -> Result<(), Fail> {
+    steps_end(&rt, &UNBUILT)
+}
+
+#[test]
 fn a_record_is_judged_from_its_first_line_on(rt: HostRuntime) -> Result<(), Fail> {
-    let alloc = rt.alloc();
-    let replay = one_word(alloc, "replay")?;
-    for (text, wanted, answer) in &RECORDS {
-        let octets = Octs::from_vec(Vec::from_slice(alloc, text.as_bytes())?);
-        let mut source = MemSource::new(octets, no_calls(alloc));
-        let mut sink = MemSink::new(alloc, no_calls(alloc));
-        let status = tool(alloc, &replay, &mut source, &mut sink);
-        assert_eq!(rt; status, *wanted, "{text}");
-        assert_eq!(rt; sink.octets(), answer.as_bytes(), "{text}");
-    }
-    Ok(())
+    records_end(&rt, &HEADINGS)
+}
+
+#[test]
+fn a_configuration_is_judged_as_one_text(rt: HostRuntime) -> Result<(), Fail> {
+    records_end(&rt, &CONFIGURATIONS)
 }
 
 #[test]

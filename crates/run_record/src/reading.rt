@@ -12,10 +12,10 @@ ghost use Rattle.run_record.specs.Answers.{Answers};
 use crate::fault::{Kind, RecFault};
 use crate::keyword::{Keyword, keyword_of};
 use crate::line::{OpenForm, RecLine};
-use crate::octets::{are_printable, has_empty};
+use crate::octets::has_empty;
 use crate::view::{LineView, PairsView};
 use crate::words::Words;
-use cfg_text::{is_skipped, number, number_between, truth};
+use cfg_text::{are_printable, is_skipped, number, number_between, truth};
 use std::alloc::Global;
 use sv_base::{AssocNo, Moment};
 

@@ -1,7 +1,10 @@
-use Rattle.std.proofs.Common.{◌≡◌, drop}
-use Rattle.std.specs.Prelude.{Some}
-use Rattle.replay_run.specs.Settings.{settings_at, settings_from}
+use Rattle.std.proofs.Common.{length}
+use Rattle.run_record.specs.Seen.{pairs_seen}
+use Rattle.replay_run.proofs.SettingLaws.{IsOn}
 use Rattle.replay_run.proofs.settings.settings_of.Given as goal
 
 abbrev pub invariant-loop-pair : goal.invariant-loop-pair
-invariant-loop-pair l = settings_at l.model l.pairs ≡ settings_from l.model (Some l.settings.items) (drop l.pair-index l.pairs)
+invariant-loop-pair l = IsOn l.fn.model (pairs_seen l.fn.pairs) (pairs_seen l.rest) l.spelled l.settings.items
+
+abbrev pub decreases-loop-pair : goal.decreases-loop-pair
+decreases-loop-pair l = length (pairs_seen l.rest)
