@@ -14,6 +14,7 @@ pub mod OneElement
 pub mod KeptLaws
 pub mod ReadableLaws
 pub mod OfferLaws
+pub mod EarlierLaws
 pub mod TakeLaws
 pub mod ReportedLaws
 pub mod ShapeLaws

@@ -3,7 +3,7 @@
 use crate::part::Part;
 use crate::values::Values;
 use assoc_table::Assocs;
-use bay_model::{Fixed, Note};
+use bay_model::{Change, Fixed, Note};
 use object_model::Model;
 use sv_base::Moment;
 
@@ -16,6 +16,8 @@ pub struct Bay {
     pub(crate) values: Values,
     pub(crate) parts: Vec<Part>,
     pub(crate) associations: Assocs,
+    /// The changes of the step that is being made; of no account between steps, as are the note and the octets of its entry.
+    pub(crate) changes: Vec<Change>,
     pub(crate) note: Note,
     pub(crate) kept: Fixed,
 }

@@ -86,9 +86,11 @@ fn reference_of(alloc: Global, model: &Model, node: NodeId) -> Result<Octs, Allo
     requires { node.0 < length (nodes_of model.now) }
     ensures { IfOk result (λ o. o ≡ reference_at (configured_model model.now) node.0) }
 {
-    let mut octets = Vec::from_slice(alloc, model.domain_of(node))?;
+    let (domain, item) = (model.domain_of(node), model.item_of(node));
+    let mut octets = Vec::with_capacity(alloc, domain.len() + 1 + item.len())?;
+    octets.extend_from_slice(domain)?;
     octets.push(b'/')?;
-    octets.extend_from_slice(model.item_of(node))?;
+    octets.extend_from_slice(item)?;
     Ok(Octs::from_vec(octets))
 }
 
@@ -137,7 +139,8 @@ pub(crate) fn members_of(
     requires { AreNodes model.now shapes.now }
     ensures { IfOk result (λ members. (ks : List Kept) → AreKept octets.now ks → members ≡ reported model.now shapes.now ks) }
 {
-    let mut items = Vec::new(alloc);
+    // A member has at least six of the octets.
+    let mut items = Vec::with_capacity(alloc, shapes.len().min(octets.len() / 6))?;
     let mut rest = octets;
     while let Some(front) = front_of(rest) {
         items.push(member_from(alloc, model, shapes, &front)?)?;

@@ -16,7 +16,7 @@ use crate::bay::Bay;
 use crate::part::Part;
 use crate::values::Values;
 use assoc_table::Assocs;
-use bay_model::{Fixed, MemberShape, Note, SetRow};
+use bay_model::{Change, Fixed, MemberShape, Note, SetRow};
 use data_sets::shapes_of;
 use object_model::Model;
 use std::alloc::{AllocError, Global};
@@ -93,6 +93,7 @@ struct Made {
     values: Values,
     parts: Vec<Part>,
     associations: Assocs,
+    changes: Vec<Change>,
     note: Note,
     kept: Fixed,
 }
@@ -110,6 +111,7 @@ fn parts_made(alloc: Global, model: &Model) -> Result<Made, AllocError>
         values: Values::open(alloc, model.config())?,
         parts: parts_of(alloc, model)?,
         associations: Assocs::open(alloc)?,
+        changes: Vec::new(alloc),
         note: Note::new(alloc, 256)?,
         kept: Fixed::new(alloc, 129024)?,
     })
@@ -134,6 +136,7 @@ fn begun(model: Model, made: Made) -> Bay
         values: made.values,
         parts: made.parts,
         associations: made.associations,
+        changes: made.changes,
         note: made.note,
         kept: made.kept,
     }

@@ -8,7 +8,6 @@ use crate::fault::StepFault;
 use crate::kept::put_note;
 use crate::part::Part;
 use bay_model::{Answer, Change, Fixed, Note, SetView, Sets};
-use std::alloc::Global;
 use sv_base::{ActorNo, Moment};
 use trigger_core::note;
 use value_store::Store;
@@ -93,7 +92,6 @@ impl Bay {
     /// memory refuses it, before any value is set.
     pub(crate) fn set(
         &mut self,
-        alloc: Global,
         moment: Moment,
         actor: ActorNo,
         sets: &Sets,
@@ -103,14 +101,16 @@ impl Bay {
         ensures does { Does self.old self.new (record { moment = moment; actor = actor.0; step = steps.Value sets.now }) result }
         ensures counted { IsCounted self.old self.new result }
     {
-        let Ok(mut changes) = Vec::with_capacity(alloc, sets.len()) else {
+        self.changes.clear();
+        let Ok(()) = self.changes.reserve(sets.len()) else {
             return Err(StepFault::Memory);
         };
-        self.values.set(&self.model, sets.as_slice(), &mut changes);
+        self.values
+            .set(&self.model, sets.as_slice(), &mut self.changes);
         event_all(
             &mut self.parts,
             self.values.store(),
-            changes.as_slice(),
+            self.changes.as_slice(),
             self.latest.later(moment),
             self.steps,
             &mut self.note,

@@ -41,7 +41,7 @@ impl Bay {
             Step::Write(a, b, comp, value) => self.write(moment, actor, *a, *b, *comp, value),
             Step::Take(a) => self.take(alloc, moment, actor, *a),
             Step::Lost(a) => self.lose(moment, actor, *a),
-            Step::Value(sets) => self.set(alloc, moment, actor, sets),
+            Step::Value(sets) => self.set(moment, actor, sets),
             Step::Tick => self.tick(moment, actor),
             Step::Ask(..) | Step::Done(..) | Step::Block(..) => unreachable!(),
         }

@@ -1,18 +1,18 @@
 //! Which entry is reported next, and its report (IEC 61850-7-2, the Report service).
 
-ghost use Rattle.std.specs.Prelude.{◌≡◌, ◌<◌, ◌≤◌, ◌+◌, ◌^◌, ◌++◌, List, length, IfOk, IfSome};
-ghost use Rattle.std.specs.Option.{option_map};
+ghost use Rattle.std.specs.Prelude.{◌≡◌, ◌<◌, ◌≤◌, ◌++◌, nat_le, false, List, length, IfOk, IfSome};
+ghost use Rattle.std.specs.Option.{option_map, option_map_or};
 ghost use Rattle.bay_model.specs.Named.{configured_model};
 ghost use Rattle.bay_model.specs.Notes.{Kept};
-ghost use Rattle.bay_core.specs.Again.{AreKept, AreNodes};
-ghost use Rattle.bay_core.specs.Offers.{offered_by, first_offered};
+ghost use Rattle.bay_core.specs.Again.{AreKept, AreNodes, reported};
+ghost use Rattle.bay_core.specs.Offers.{Offered, offered_by, first_offered};
 ghost use Rattle.bay_core.specs.Reporting.{offered, report_by};
 
 use crate::bay::Bay;
 use crate::fault::StepFault;
 use crate::members::members_of;
 use crate::part::Part;
-use bay_model::{Answer, Output, Report};
+use bay_model::{Answer, MemberShape, Members, Output, Report};
 use brcb_state::Next;
 use entry_ring::Entry;
 use object_model::Model;
@@ -41,25 +41,13 @@ fn offer_of<'a>(part: &'a Part, block: usize, a: AssocNo) -> Option<Offer<'a>>
     }
 }
 
-/// The first offer of these blocks, which are numbered from a number on.
-fn first_from<'a>(parts: &'a [Part], block: usize, a: AssocNo) -> Option<Offer<'a>>
-    requires { block + length parts.now < 2 ^ 64 }
-    ensures first { option_map offered result ≡ first_offered a block parts.now }
-    ensures within { IfSome result (λ o. o.block < block + length parts.now) }
+/// An offer was found, and its entry came to be no later than at a step.
+fn is_no_later(found: &Option<Offer<'_>>, step: u64) -> bool
+    ensures { result ≡ option_map_or (λ (o : Offered). nat_le o.entry.step step) (option_map offered found.now) false }
 {
-    let [part, rest @ ..] = parts else {
-        return None;
-    };
-    let Some(one) = offer_of(part, block, a) else {
-        return first_from(rest, block + 1, a);
-    };
-    let Some(other) = first_from(rest, block + 1, a) else {
-        return Some(one);
-    };
-    if one.entry.step <= other.entry.step {
-        Some(one)
-    } else {
-        Some(other)
+    match found {
+        Some(one) => one.entry.step <= step,
+        None => false,
     }
 }
 
@@ -69,16 +57,42 @@ pub(crate) fn first_offer<'a>(parts: &'a [Part], a: AssocNo) -> Option<Offer<'a>
     ensures first { option_map offered result ≡ first_offered a 0 parts.now }
     ensures within { IfSome result (λ o. o.block < length parts.now) }
 {
-    first_from(parts, 0, a)
+    let mut found = None;
+    for block in 0..parts.len() {
+        if let Some(next) = offer_of(&parts[block], block, a) {
+            if !is_no_later(&found, next.entry.step) {
+                found = Some(next);
+            }
+        }
+    }
+    found
 }
 
 /// The octets of an entry in one row.
 fn whole_of(alloc: Global, entry: &Entry<'_>) -> Result<Vec<u8>, AllocError>
     ensures { IfOk result (λ v. v.items ≡ entry.now.first.now ++ entry.now.second.now) }
 {
-    let mut octets = Vec::from_slice(alloc, entry.first)?;
+    let mut octets = Vec::with_capacity(alloc, entry.first.len() + entry.second.len())?;
+    octets.extend_from_slice(entry.first)?;
     octets.extend_from_slice(entry.second)?;
     Ok(octets)
+}
+
+/// The members of the report of an entry, of a data set of these shapes. Octets that lie in one row are read where they are.
+fn members_in(
+    alloc: Global,
+    model: &Model,
+    shapes: &[MemberShape],
+    entry: &Entry<'_>,
+) -> Result<Members, AllocError>
+    requires { AreNodes model.now shapes.now }
+    ensures { IfOk result (λ members. (ks : List Kept) → AreKept (entry.now.first.now ++ entry.now.second.now) ks → members ≡ reported model.now shapes.now ks) }
+{
+    if entry.second.is_empty() {
+        return members_of(alloc, model, shapes, entry.first);
+    }
+    let octets = whole_of(alloc, entry)?;
+    members_of(alloc, model, shapes, &octets)
 }
 
 /// The report of an offer by its block, whose data set has nodes of the model.
@@ -93,8 +107,7 @@ pub(crate) fn report_of(
     requires nodes { AreNodes model.now part.now.members.items }
     ensures { IfOk result (λ r. (ks : List Kept) → AreKept (offered offer.now).entry.kept ks → r ≡ report_by (configured_model model.now) part.now (offered offer.now) ks) }
 {
-    let octets = whole_of(alloc, &offer.entry)?;
-    let members = members_of(alloc, model, &part.members, &octets)?;
+    let members = members_in(alloc, model, &part.members, &offer.entry)?;
     Ok(Report {
         block: BlockNo(offer.block as u32),
         rpt_id: Octs::from_vec(Vec::from_slice(alloc, part.block.report_id())?),

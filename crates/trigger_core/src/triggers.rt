@@ -1,4 +1,4 @@
-ghost use Rattle.std.specs.Prelude.{◌≡◌, ◌≤◌, ◌<◌, ◌^◌, length, unwrap_or};
+ghost use Rattle.std.specs.Prelude.{◌≡◌, ◌≤◌, ◌<◌, ◌^◌, length, unwrap_or, option_copied};
 ghost use Rattle.std.specs.Option.{option_map};
 ghost use Rattle.bay_model.specs.Notes.{no_reason, union as union_of, is_any as is_any_of};
 ghost use Rattle.trigger_core.specs.Noted.{change_of as change_in, reasons_by as reasons_under, reasons_in as reasons_among, noted};
@@ -48,27 +48,33 @@ fn reasons_by(trg: Trg, change: Change) -> Reasons
     }
 }
 
-/// The reasons that an attribute gives: none where the point didn't set it.
-fn reasons_of(changes: &[Change], trg: Trg, attr: AttrId) -> Reasons
-    ensures { result ≡ unwrap_or (option_map (reasons_under trg) (change_in changes.now attr)) no_reason }
+/// What the point did to an attribute; none where it didn't set it.
+fn change_of(changes: &[Change], attr: AttrId) -> Option<&Change>
+    ensures { option_copied result ≡ change_in changes.now attr }
 {
-    match changes.iter().find(|change| change.attr.0 == attr.0) {
-        Some(change) => reasons_by(trg, *change),
-        None => NO_REASON,
+    changes.iter().find(|change| change.attr.0 == attr.0)
+}
+
+/// Reasons, and those that an attribute gives: no others where the point didn't set it.
+fn with_attr(reasons: Reasons, changes: &[Change], trg: Trg, attr: AttrId) -> Reasons
+    ensures { result ≡ union_of reasons (unwrap_or (option_map (reasons_under trg) (change_in changes.now attr)) no_reason) }
+{
+    match change_of(changes, attr) {
+        Some(change) => union(reasons, reasons_by(trg, *change)),
+        None => reasons,
     }
 }
 
 /// The reasons of all attributes.
+#[tactic(auto, using(crate::proofs::ReasonLaws::one_more, crate::proofs::ReasonLaws::all_done))]
 fn reasons_in(changes: &[Change], trg: Trg, attrs: &[AttrId]) -> Reasons
     ensures { result ≡ reasons_among changes.now trg attrs.now }
 {
-    match attrs {
-        [] => NO_REASON,
-        [first, rest @ ..] => union(
-            reasons_of(changes, trg, *first),
-            reasons_in(changes, trg, rest),
-        ),
+    let mut reasons = NO_REASON;
+    for attr in attrs {
+        reasons = with_attr(reasons, changes, trg, *attr);
     }
+    reasons
 }
 
 /// Fills the note of a point with the members of a data set that the point is an event of, in the order of the set:
