@@ -1,4 +1,5 @@
 pub mod WordLaws
+pub mod NumberLaws
 pub mod SeenLaws
 pub mod ReadLaws
 pub mod ToldLaws

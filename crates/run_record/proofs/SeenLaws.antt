@@ -1,5 +1,5 @@
 -- The words of a text that is read in place.
-use Rattle.std.proofs.Common.{◌≡◌, ℕ, ◌+◌, ◌%◌, ◌<◌, ◌≤◌, nat_lt, Bool, true, false, not, ◌||◌, ◌&&◌, ◌==◌, cond, List, [], ◌∷◌, ◌++◌, length, drop, refl, sym, ap, ◌∙◌, arith}
+use Rattle.std.proofs.Common.{◌≡◌, ℕ, ◌+◌, ◌-◌, ◌%◌, ◌<◌, ◌≤◌, nat_lt, Bool, true, false, not, ◌||◌, ◌&&◌, ◌==◌, cond, List, [], ◌∷◌, ◌++◌, length, drop, get_or, refl, sym, ap, subst, ◌∙◌, arith}
 use Rattle.std.specs.Prelude.{Option, Some, None, Result}
 use Rattle.std.specs.Option.{is_some}
 use Rattle.std.specs.Borrow.{Bor}
@@ -62,8 +62,11 @@ told : (text : List ℕ) → Told text
 told [] = (refl, λ x. onto-any x [] [])
 told (b ∷ bs) = told-next b bs (b == 32) refl (told bs)
 
-pub empty-found : (found so : Bool) (text : List ℕ) (i : ℕ) → length text ≤ i → (found || empties so (drop i text)) ≡ empties true text → (found || so) ≡ list_any is_nothing (words_of text)
-empty-found found so text i all is = ap (λ rest. found || empties so rest) (sym (drop_of_length-le text all)) ∙ (is ∙ sym (told text).0)
+empty-at : (found : Bool) (text : List ℕ) (i : ℕ) → i ≡ length text → (found || empties (get_or text (i - 1) 0 == 32) (drop i text)) ≡ empties true text → (found || (get_or text (i - 1) 0 == 32)) ≡ list_any is_nothing (words_of text)
+empty-at found text i all is = ap (λ rest. found || empties (get_or text (i - 1) 0 == 32) rest) (sym (drop_of_length-le text (omega (arith, all)))) ∙ (is ∙ sym (told text).0)
+
+pub empty-found : (found : Bool) (text : List ℕ) (i : ℕ) → i ≡ length text → (found || empties (get_or text (i - 1) 0 == 32) (drop i text)) ≡ empties true text → (found || (get_or text (length text - 1) 0 == 32)) ≡ list_any is_nothing (words_of text)
+empty-found found text i all is = subst (λ n. (found || (get_or text (n - 1) 0 == 32)) ≡ list_any is_nothing (words_of text)) all (empty-at found text i all is)
 
 some-words : (text : List ℕ) → (length (words_of text) == 0) ≡ false
 some-words text = let count = length-slice_split (λ b. b == 32) text in grind (arith, nat_tests)
@@ -77,10 +80,10 @@ none-left (Some text) false e = sym (some-words text.now)
 parity : (n : ℕ) → (n % 2 == 1) ≡ (nat_lt 0 (n + 1) && ((n + 1) % 2 == 0))
 parity n = grind (arith, nat_tests)
 
-pub pairs-counted : (text : List ℕ) (spaces : ℕ) → spaces ≡ count_by (λ b. b == 32) text → (spaces % 2 == 1) ≡ (nat_lt 0 (length (words_of text)) && (length (words_of text) % 2 == 0))
-pairs-counted text spaces is =
-    let count : length (words_of text) ≡ spaces + 1 = length-slice_split (λ b. b == 32) text ∙ ap (λ n. n + 1) (sym is) in
-    parity spaces ∙ ap (λ n. nat_lt 0 n && (n % 2 == 0)) (sym count)
+pub pairs-counted : (text : List ℕ) (odd : Bool) → odd ≡ (count_by (λ b. b == 32) text % 2 == 1) → odd ≡ (nat_lt 0 (length (words_of text)) && (length (words_of text) % 2 == 0))
+pairs-counted text odd is =
+    let count : length (words_of text) ≡ count_by (λ b. b == 32) text + 1 = length-slice_split (λ b. b == 32) text in
+    is ∙ (parity (count_by (λ b. b == 32) text) ∙ ap (λ n. nat_lt 0 n && (n % 2 == 0)) (sym count))
 
 -- what is told by so many words is what the words behind a first word tell
 pub at_content : (ws : List (List ℕ)) (r : Result RecLine Kind) → r ≡ just (one_of ws) (λ word. numbered (number_within 441763200000 4294967295999 word) lines.At) → r ≡ content_at keywords.At ws

@@ -8,6 +8,7 @@ mod fault;
 mod keyword;
 mod laws;
 mod line;
+mod numbers;
 mod octets;
 mod pairs;
 mod reading;

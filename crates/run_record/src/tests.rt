@@ -196,3 +196,47 @@ fn words_are_told_in_their_places(rt: HostRuntime) {
         )
     );
 }
+
+/// The values of the pairs that a line sets, each behind its name's first octet; nothing of another line.
+fn values(alloc: Global, line: &[u8]) -> Result<Octs, AllocError> {
+    let mut out = Vec::new(alloc);
+    if let Ok(LineView::Set(pairs)) = view_line(line) {
+        let mut rest = pairs;
+        for _ in 0..line.len() {
+            if let Some(PairView { name: [first, ..], value }) = rest.next() {
+                out.push(*first)?;
+                out.extend_from_slice(value)?;
+            }
+        }
+    }
+    Ok(Octs::from_vec(out))
+}
+
+#[test]
+fn pairs_are_lent_in_order(rt: HostRuntime) -> Result<(), Fail> {
+    assert_eq!(rt; values(rt.alloc(), b"set first 17 second 'x third -4")?.as_slice(), b"f17s'xt-4".as_slice());
+    Ok(())
+}
+
+#[test]
+fn words_are_lent_in_their_places(rt: HostRuntime) {
+    assert!(rt;
+        match view_line(b"write 16 block comp 'value") {
+            Ok(
+                LineView::Write {
+                    a,
+                    block,
+                    comp,
+                    value,
+                },
+            ) => {
+                a.0 == 16
+                    && block == b"block".as_slice()
+                    && comp == b"comp".as_slice()
+                    && value == b"'value".as_slice()
+            }
+            _ => false,
+        }
+    );
+    assert!(rt; matches!(view_line(b"take 17"), Err(Kind::Number)));
+}

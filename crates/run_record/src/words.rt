@@ -1,7 +1,7 @@
 ghost use Rattle.std.specs.Prelude.{◌≡◌, ◌∷◌, ◌++◌, ◌==◌, false, MatchOption};
 ghost use Rattle.std.specs.List.{All};
 
-use crate::octets::spaces;
+use crate::octets::are_odd;
 use memchr::memchr;
 
 /// The octets before the first space, and those after it.
@@ -60,7 +60,7 @@ impl<'a> Words<'a> {
         ensures { result ≡ (nat_lt 0 (length (words_left self.now)) && (length (words_left self.now) % 2 == 0)) }
     {
         match self.rest {
-            Some(text) => spaces(text) % 2 == 1,
+            Some(text) => are_odd(text),
             None => false,
         }
     }

@@ -3,4 +3,4 @@ use Rattle.run_record.proofs.SeenLaws.{empty-found}
 use Rattle.run_record.proofs.octets.has_empty.Goals as goal
 
 pub returns : goal.returns
-returns c = empty-found c.loop-octet.found _ c.args.line.now c.loop-octet.octet-index (omega arith) c.loop-octet.invariant
+returns c = empty-found c.loop-i.found c.args.line.now c.loop-i.i (omega arith) c.loop-i.invariant
