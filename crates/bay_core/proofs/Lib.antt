@@ -50,3 +50,4 @@ pub mod OpenLaws
 pub mod FirstValues
 pub mod FirstState
 pub mod PlainConfig
+pub mod SendLaws
