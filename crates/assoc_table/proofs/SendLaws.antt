@@ -22,7 +22,7 @@ use Rattle.assoc_table.specs.contracts.waiting.Waiting as Waiting
 use Rattle.assoc_table.specs.contracts.seat.Seat as Seat
 use Rattle.assoc_table.specs.contracts.table.Assocs as Assocs
 
-value_field_send : IsSend Value.the_field.row
+pub value_field_send : IsSend Value.the_field.row
 value_field_send = search (crosses, values.crosses, sendable) depth 60
 
 value_send : IsSend Value.the_row
@@ -37,11 +37,8 @@ reply_field_send = search (results_send, names.the_send, node.the_field_send, as
 termination_field_send : IsSend Termination.the_field.row
 termination_field_send = search (value_field_send, control.the_field_send, error.the_field_send, crosses, sendable) depth 60
 
-output_field_send : IsSend Output.the_field.row
+pub output_field_send : IsSend Output.the_field.row
 output_field_send = search (reply_field_send, termination_field_send, report.the_field_send, errors.the_send, sendable) depth 60
-
-pub output_send : IsSend Output.the_row
-output_send = search (output_field_send, sendable)
 
 waiting_send : IsSend Waiting.the_row
 waiting_send = search (output_field_send, control.the_field_send, sendable) depth 60
