@@ -1,2 +1,3 @@
 pub mod SeatLaws
 pub mod StandLaws
+pub mod SendLaws

@@ -7,6 +7,8 @@ ghost use Rattle.assoc_table.specs.declared.waiting.Waiting.{Waiting};
 ghost use Rattle.assoc_table.specs.Seats.{Row, closed};
 ghost use Rattle.assoc_table.specs.Tables.{IsNumber, started, ended, extended, taken};
 ghost use Rattle.assoc_table.specs.Standing.{Stands, waiting_of, IsPlain};
+ghost use denote.Param.Send.{IsSend};
+ghost use Rattle.assoc_table.specs.contracts.table.Assocs.{the_row as associations_row};
 
 /// Where no association is open the table stands for the empty history. Where it stands for what was before a point, it
 /// stands for the past up to that point once an association is opened or ended, its oldest output is taken, or what the point
@@ -26,4 +28,9 @@ pub fn associations_stand()
         → ((e : ℕ) → e ≢ a → put_by c e p.step p.deed before ≡ []) → Stands (extended rows a items) c (p ∷ before) }
     ensures other { (c : Model) (p : Point) (before : Past) (rows : List Row)
         → Stands rows c before → IsPlain p.deed → ((e : ℕ) → put_by c e p.step p.deed before ≡ []) → Stands rows c (p ∷ before) }
+{}
+
+/// A table of associations may go to another thread.
+pub fn associations_cross_threads()
+    ensures { IsSend associations_row }
 {}

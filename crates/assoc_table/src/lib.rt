@@ -7,7 +7,7 @@ mod seat;
 mod table;
 mod waiting;
 
-pub use laws::associations_stand;
+pub use laws::{associations_cross_threads, associations_stand};
 pub use table::Assocs;
 pub use waiting::{Ends, Full, Waiting};
 

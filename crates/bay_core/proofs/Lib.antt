@@ -51,3 +51,4 @@ pub mod OpenLaws
 pub mod FirstValues
 pub mod FirstState
 pub mod PlainConfig
+pub mod SendLaws

@@ -17,7 +17,7 @@ mod writing;
 
 pub use bay::Bay;
 pub use fault::StepFault;
-pub use laws::texts_are_served;
+pub use laws::{bays_cross_threads, texts_are_served};
 
 #[cfg(test)]
 mod tests;

@@ -12,3 +12,5 @@ pub mod TableLaws
 pub mod FlagLaws
 pub mod NameSort
 pub mod KindLaws
+pub mod SendLaws
+pub mod SyncLaws

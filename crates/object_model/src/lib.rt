@@ -22,7 +22,7 @@ mod references;
 mod sorting;
 mod tables;
 
-pub use laws::rows_are_the_nodes;
+pub use laws::{models_cross_threads, rows_are_the_nodes};
 pub use lines::domains;
 pub use model::Model;
 

@@ -1,0 +1,78 @@
+-- A model may go to another thread, since each of its parts may.
+use denote.Param.Send.{IsSend, sendable}
+use Rattle.std.proofs.Crossing.{crosses}
+use Rattle.sv_base.proofs.types.Parts.TheLaws.TheKnot as types
+use Rattle.sv_base.proofs.value.Values.TheLaws.TheKnot as values
+use Rattle.sv_base.proofs.octs.Octs.TheSendSync as octs
+use Rattle.sv_base.proofs.lists.LnDefs.TheSendSync as nodes
+use Rattle.sv_base.proofs.lists.SetDefs.TheSendSync as sets
+use Rattle.sv_base.proofs.lists.BlockDefs.TheSendSync as blocks
+use Rattle.sv_base.proofs.lists.SgDefs.TheSendSync as groups
+use Rattle.sv_base.specs.contracts.types.TypeOf as TypeOf
+use Rattle.sv_base.specs.contracts.value.Values as Values
+use Rattle.sv_base.specs.contracts.config.AttrDef as AttrDef
+use Rattle.sv_base.specs.contracts.config.CtlDef as CtlDef
+use Rattle.sv_base.specs.contracts.config.Config as Config
+use Rattle.sv_base.specs.contracts.lists.AttrDefs as AttrDefs
+use Rattle.sv_base.specs.contracts.lists.CtlDefs as CtlDefs
+use Rattle.bay_model.proofs.tables.AttrIds.TheSendSync as ids
+use Rattle.bay_model.proofs.tables.SetTable.TheSendSync as set_table
+use Rattle.bay_model.proofs.flags.Flags.TheSendSync as flags
+use Rattle.bay_model.specs.contracts.tables.MemberShape as MemberShape
+use Rattle.bay_model.specs.contracts.tables.NodeRow as NodeRow
+use Rattle.bay_model.specs.contracts.tables.NodeTable as NodeTable
+use Rattle.object_model.proofs.index.Index.TheSendSync as index
+use Rattle.object_model.proofs.listing.Directory.TheSendSync as directory
+use Rattle.object_model.proofs.nodes.NodeName.TheSendSync as names
+use Rattle.object_model.specs.contracts.tables.Tables as Tables
+use Rattle.object_model.specs.contracts.model.Model as Model
+
+kind_field_send : IsSend TypeOf.the_field.row
+kind_field_send = search (crosses, types.crosses, sendable) depth 60
+
+pub kind_send : IsSend TypeOf.the_row
+kind_send = search (kind_field_send, sendable)
+
+values_send : IsSend Values.the_row
+values_send = search (crosses, values.crosses, sendable) depth 60
+
+-- what a configuration is made of
+attr_field_send : IsSend AttrDef.the_field.row
+attr_field_send = search (kind_field_send, values_send, octs.the_send, sendable) depth 60
+
+attr_send : IsSend AttrDef.the_row
+attr_send = search (attr_field_send, sendable)
+
+attrs_send : IsSend AttrDefs.the_row
+attrs_send = search (attr_send, crosses, sendable) depth 60
+
+control_send : IsSend CtlDef.the_row
+control_send = search (kind_field_send, octs.the_send, sendable) depth 60
+
+controls_send : IsSend CtlDefs.the_row
+controls_send = search (control_send, crosses, sendable) depth 60
+
+config_field_send : IsSend Config.the_field.row
+config_field_send = search (attrs_send, controls_send, octs.the_send, nodes.the_send, sets.the_send, blocks.the_send, groups.the_send, sendable) depth 60
+
+pub config_send : IsSend Config.the_row
+config_send = search (config_field_send, sendable)
+
+-- the tables of the nodes
+shape_field_send : IsSend MemberShape.the_field.row
+shape_field_send = search (kind_field_send, ids.the_send, sendable) depth 60
+
+pub shape_send : IsSend MemberShape.the_row
+shape_send = search (shape_field_send, sendable)
+
+node_send : IsSend NodeRow.the_row
+node_send = search (shape_field_send, sendable) depth 60
+
+node_table_send : IsSend NodeTable.the_row
+node_table_send = search (node_send, crosses, sendable) depth 60
+
+tables_field_send : IsSend Tables.the_field.row
+tables_field_send = search (kind_send, node_table_send, index.the_field_send, directory.the_send, names.the_send, set_table.the_send, flags.the_send, crosses, sendable) depth 60
+
+pub model_send : IsSend Model.the_row
+model_send = search (config_field_send, tables_field_send, index.the_field_send, sendable) depth 60

@@ -1,0 +1,78 @@
+-- A model may be read by several threads, since each of its parts may.
+use denote.Param.Send.{IsSync, sendable}
+use Rattle.std.proofs.Crossing.{crosses}
+use Rattle.sv_base.proofs.types.Parts.TheLaws.TheKnot as types
+use Rattle.sv_base.proofs.value.Values.TheLaws.TheKnot as values
+use Rattle.sv_base.proofs.octs.Octs.TheSendSync as octs
+use Rattle.sv_base.proofs.lists.LnDefs.TheSendSync as nodes
+use Rattle.sv_base.proofs.lists.SetDefs.TheSendSync as sets
+use Rattle.sv_base.proofs.lists.BlockDefs.TheSendSync as blocks
+use Rattle.sv_base.proofs.lists.SgDefs.TheSendSync as groups
+use Rattle.sv_base.specs.contracts.types.TypeOf as TypeOf
+use Rattle.sv_base.specs.contracts.value.Values as Values
+use Rattle.sv_base.specs.contracts.config.AttrDef as AttrDef
+use Rattle.sv_base.specs.contracts.config.CtlDef as CtlDef
+use Rattle.sv_base.specs.contracts.config.Config as Config
+use Rattle.sv_base.specs.contracts.lists.AttrDefs as AttrDefs
+use Rattle.sv_base.specs.contracts.lists.CtlDefs as CtlDefs
+use Rattle.bay_model.proofs.tables.AttrIds.TheSendSync as ids
+use Rattle.bay_model.proofs.tables.SetTable.TheSendSync as set_table
+use Rattle.bay_model.proofs.flags.Flags.TheSendSync as flags
+use Rattle.bay_model.specs.contracts.tables.MemberShape as MemberShape
+use Rattle.bay_model.specs.contracts.tables.NodeRow as NodeRow
+use Rattle.bay_model.specs.contracts.tables.NodeTable as NodeTable
+use Rattle.object_model.proofs.index.Index.TheSendSync as index
+use Rattle.object_model.proofs.listing.Directory.TheSendSync as directory
+use Rattle.object_model.proofs.nodes.NodeName.TheSendSync as names
+use Rattle.object_model.specs.contracts.tables.Tables as Tables
+use Rattle.object_model.specs.contracts.model.Model as Model
+
+kind_field_sync : IsSync TypeOf.the_field.row
+kind_field_sync = search (crosses, types.crosses, sendable) depth 60
+
+pub kind_sync : IsSync TypeOf.the_row
+kind_sync = search (kind_field_sync, sendable)
+
+values_sync : IsSync Values.the_row
+values_sync = search (crosses, values.crosses, sendable) depth 60
+
+-- what a configuration is made of
+attr_field_sync : IsSync AttrDef.the_field.row
+attr_field_sync = search (kind_field_sync, values_sync, octs.the_sync, sendable) depth 60
+
+attr_sync : IsSync AttrDef.the_row
+attr_sync = search (attr_field_sync, sendable)
+
+attrs_sync : IsSync AttrDefs.the_row
+attrs_sync = search (attr_sync, crosses, sendable) depth 60
+
+control_sync : IsSync CtlDef.the_row
+control_sync = search (kind_field_sync, octs.the_sync, sendable) depth 60
+
+controls_sync : IsSync CtlDefs.the_row
+controls_sync = search (control_sync, crosses, sendable) depth 60
+
+config_field_sync : IsSync Config.the_field.row
+config_field_sync = search (attrs_sync, controls_sync, octs.the_sync, nodes.the_sync, sets.the_sync, blocks.the_sync, groups.the_sync, sendable) depth 60
+
+pub config_sync : IsSync Config.the_row
+config_sync = search (config_field_sync, sendable)
+
+-- the tables of the nodes
+shape_field_sync : IsSync MemberShape.the_field.row
+shape_field_sync = search (kind_field_sync, ids.the_sync, sendable) depth 60
+
+pub shape_sync : IsSync MemberShape.the_row
+shape_sync = search (shape_field_sync, sendable)
+
+node_sync : IsSync NodeRow.the_row
+node_sync = search (shape_field_sync, sendable) depth 60
+
+node_table_sync : IsSync NodeTable.the_row
+node_table_sync = search (node_sync, crosses, sendable) depth 60
+
+tables_field_sync : IsSync Tables.the_field.row
+tables_field_sync = search (kind_sync, node_table_sync, index.the_field_sync, directory.the_sync, names.the_sync, set_table.the_sync, flags.the_sync, crosses, sendable) depth 60
+
+pub model_sync : IsSync Model.the_row
+model_sync = search (config_field_sync, tables_field_sync, index.the_field_sync, sendable) depth 60
