@@ -1,20 +1,8 @@
 //! What a line's octets are, looked at in place. No octet ends a look, so that many are looked at in one step.
 
 ghost use Rattle.std.specs.Prelude.{◌≡◌, ◌%◌, ◌==◌, length};
-ghost use Rattle.std.specs.List.{list_all, list_any, count_by};
-ghost use Rattle.cfg_text.specs.Judging.{is_printable as printable};
+ghost use Rattle.std.specs.List.{list_any, count_by};
 ghost use Rattle.cfg_text.specs.Words.{words_of};
-
-/// Every octet may stand in a line.
-pub fn are_printable(line: &[u8]) -> bool
-    ensures { result ≡ list_all printable line.now }
-{
-    let mut all = true;
-    for octet in line {
-        all = all & (*octet >= 0x20) & (*octet <= 0x7e);
-    }
-    all
-}
 
 /// One of the words between the spaces is empty: a space stands first, last or behind another.
 pub fn has_empty(line: &[u8]) -> bool

@@ -13,10 +13,10 @@ use crate::fault::{Kind, RecFault};
 use crate::keyword::{Keyword, keyword_of};
 use crate::line::{OpenForm, RecLine};
 use crate::numbers::{number, number_between};
-use crate::octets::{are_printable, has_empty};
+use crate::octets::has_empty;
 use crate::view::{LineView, PairsView};
 use crate::words::Words;
-use cfg_text::{is_skipped, truth};
+use cfg_text::{are_printable, is_skipped, truth};
 use std::alloc::Global;
 use sv_base::{AssocNo, Moment};
 
