@@ -203,7 +203,13 @@ fn values(alloc: Global, line: &[u8]) -> Result<Octs, AllocError> {
     if let Ok(LineView::Set(pairs)) = view_line(line) {
         let mut rest = pairs;
         for _ in 0..line.len() {
-            if let Some(PairView { name: [first, ..], value }) = rest.next() {
+            if let Some(
+                PairView {
+                    name: [first, ..],
+                    value,
+                },
+            ) = rest.next()
+            {
                 out.push(*first)?;
                 out.extend_from_slice(value)?;
             }
@@ -214,7 +220,10 @@ fn values(alloc: Global, line: &[u8]) -> Result<Octs, AllocError> {
 
 #[test]
 fn pairs_are_lent_in_order(rt: HostRuntime) -> Result<(), Fail> {
-    assert_eq!(rt; values(rt.alloc(), b"set first 17 second 'x third -4")?.as_slice(), b"f17s'xt-4".as_slice());
+    assert_eq!(rt;
+        values(rt.alloc(), b"set first 17 second 'x third -4")?.as_slice(),
+        b"f17s'xt-4".as_slice()
+    );
     Ok(())
 }
 

@@ -8,9 +8,9 @@ returns-then-octet-lt48 c =
     let word = c.args.word.now in
     let i = c.loop-octet.octet-index in
     elim c.then-octet-lt48.branch [
-      then-octet-lt48-via-then-octet-lt48 w ↦ reads-other word c.loop-octet.n i _ (omega arith) refl (inl w.if-octet-lt48.true) c.loop-octet.invariant
-    | then-octet-lt48-via-else-octet-lt48+then-octet-gt57 w ↦ reads-other word c.loop-octet.n i _ (omega arith) refl (inr (inl w.if-octet-gt57.true)) c.loop-octet.invariant
-    | then-octet-lt48-via-else-octet-lt48+else-octet-gt57+then-n-gt999999999999 w ↦ reads-other word c.loop-octet.n i _ (omega arith) refl (inr (inr w.if-n-gt999999999999.true)) c.loop-octet.invariant
+      | then-octet-lt48-via-then-octet-lt48 w ↦ reads-other word c.loop-octet.n i _ (omega arith) refl (inl w.if-octet-lt48.true) c.loop-octet.invariant
+      | then-octet-lt48-via-else-octet-lt48+then-octet-gt57 w ↦ reads-other word c.loop-octet.n i _ (omega arith) refl (inr (inl w.if-octet-gt57.true)) c.loop-octet.invariant
+      | then-octet-lt48-via-else-octet-lt48+else-octet-gt57+then-n-gt999999999999 w ↦ reads-other word c.loop-octet.n i _ (omega arith) refl (inr (inr w.if-n-gt999999999999.true)) c.loop-octet.invariant
     ]
 
 pub loop-octet-preserved : goal.loop-octet-preserved

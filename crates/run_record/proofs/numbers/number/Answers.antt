@@ -15,6 +15,6 @@ returns c =
     let word = c.args.word.now in
     let some : 0 < length word = grind (arith, nat_tests) in
     elim c.else-word-gt1.branch [
-      else-word-gt1-via-then-word-gt1+else-word-eq48 w ↦ few-told word c.digits_of.result some (λ zero. absurd (w.if-word-eq48.false zero)) c.digits_of.ensures
-    | else-word-gt1-via-else-word-gt1 w ↦ few-told word c.digits_of.result some (λ zero. omega arith) c.digits_of.ensures
+      | else-word-gt1-via-then-word-gt1+else-word-eq48 w ↦ few-told word c.digits_of.result some (λ zero. absurd (w.if-word-eq48.false zero)) c.digits_of.ensures
+      | else-word-gt1-via-else-word-gt1 w ↦ few-told word c.digits_of.result some (λ zero. omega arith) c.digits_of.ensures
     ]
