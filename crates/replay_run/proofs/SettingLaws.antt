@@ -1,5 +1,5 @@
 -- The settings of pairs, one after another.
-use Rattle.std.proofs.Common.{◌≡◌, ◌++◌, ◌∷◌, [], ℕ, List, Bool, true, false, sym, ap, refl, ◌∙◌}
+use Rattle.std.proofs.Common.{◌≡◌, ◌++◌, ◌∷◌, [], ℕ, List, Bool, true, false, sym, ap, ◌∙◌}
 use Rattle.std.specs.Prelude.{Option, None, Some, is_some, ◌&&◌}
 use Rattle.std.specs.Option.{option_map}
 use Rattle.sv_base.specs.declared.config.Config.{Config}

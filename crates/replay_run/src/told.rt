@@ -137,12 +137,11 @@ fn set(alloc: Global, model: &Model, pairs: &PairsView<'_>) -> Result<Told, Allo
     ensures told { IfOk result (λ t. t ≡ set_as model.now (pairs_seen pairs.now)) }
     ensures turn { IfOk result (IsTurnOf model.now) }
 {
-    let told = match settings_of(alloc, model, pairs)? {
-        Found::Settings(settings) => turn(model, 0, Step::Value(Sets::from_vec(settings))),
-        Found::Unnamed => Told::Refused(3),
-        Found::Unspelled => Told::Refused(4),
-    };
-    Ok(told)
+    match settings_of(alloc, model, pairs)? {
+        Found::Settings(settings) => Ok(turn(model, 0, Step::Value(Sets::from_vec(settings)))),
+        Found::Unnamed => Ok(Told::Refused(3)),
+        Found::Unspelled => Ok(Told::Refused(4)),
+    }
 }
 
 /// What a line tells, where the association that it names is open or isn't.
@@ -156,23 +155,22 @@ pub fn tell(
     ensures told { IfOk result (λ t. t ≡ told_of model.now there (line_seen line.now)) }
     ensures turn { IfOk result (IsTurnOf model.now) }
 {
-    let told = match line {
-        LineView::Skip => Told::Skip,
-        LineView::At(moment) => Told::At(*moment),
-        LineView::Open { a, form } => open(model, there, *a, *form),
+    match line {
+        LineView::Skip => Ok(Told::Skip),
+        LineView::At(moment) => Ok(Told::At(*moment)),
+        LineView::Open { a, form } => Ok(open(model, there, *a, *form)),
         LineView::Write {
             a,
             block,
             comp,
             value,
-        } => write(alloc, model, there, *a, block, comp, value)?,
-        LineView::Pdu(..) | LineView::Piece(..) => Told::Refused(5),
-        LineView::Take(a) => turn(model, a.0, Step::Take(*a)),
-        LineView::Lost(a) => lose(model, there, *a),
-        LineView::Set(pairs) => set(alloc, model, pairs)?,
-        LineView::Done(..) | LineView::Block(..) => Told::Refused(3),
-        LineView::Tick => turn(model, 0, Step::Tick),
-        LineView::End => Told::End,
-    };
-    Ok(told)
+        } => write(alloc, model, there, *a, block, comp, value),
+        LineView::Pdu(..) | LineView::Piece(..) => Ok(Told::Refused(5)),
+        LineView::Take(a) => Ok(turn(model, a.0, Step::Take(*a))),
+        LineView::Lost(a) => Ok(lose(model, there, *a)),
+        LineView::Set(pairs) => set(alloc, model, pairs),
+        LineView::Done(..) | LineView::Block(..) => Ok(Told::Refused(3)),
+        LineView::Tick => Ok(turn(model, 0, Step::Tick)),
+        LineView::End => Ok(Told::End),
+    }
 }
