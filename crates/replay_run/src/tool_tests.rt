@@ -1,7 +1,8 @@
 use crate::status::Status;
 use crate::tool::tool;
 use std::alloc::{AllocError, Global};
-use std::test::{Fail, HostRuntime};
+use std::process::Abort;
+use std::test::*;
 use sv_base::Octs;
 use sv_io::{Calls, MemSink, MemSource};
 
@@ -121,8 +122,7 @@ fn first_call(alloc: Global) -> Result<Calls, AllocError> {
 }
 
 /// Each record is answered so.
-fn answers(rt: &HostRuntime, rows: &[Row]) -> Result<(), Fail> {
-    let alloc = rt.alloc();
+fn answers(rt: &impl Abort, alloc: Global, rows: &[Row]) -> Result<(), Fail> {
     let words = one_word(alloc, "replay")?;
     for (name, capacity, steps, answer) in rows {
         let mut source = MemSource::new(record(alloc, capacity, steps)?, no_calls(alloc));
@@ -136,17 +136,17 @@ fn answers(rt: &HostRuntime, rows: &[Row]) -> Result<(), Fail> {
 
 #[test]
 fn entries_are_reported_and_gaps_marked(rt: HostRuntime) -> Result<(), Fail> {
-    answers(&rt, &REPORTS)
+    answers(&rt, rt.alloc(), &REPORTS)
 }
 
 #[test]
 fn clients_resume_behind_an_entry(rt: HostRuntime) -> Result<(), Fail> {
-    answers(&rt, &RESUMES)
+    answers(&rt, rt.alloc(), &RESUMES)
 }
 
 #[test]
 fn blocks_are_held_and_purged(rt: HostRuntime) -> Result<(), Fail> {
-    answers(&rt, &HOLDS)
+    answers(&rt, rt.alloc(), &HOLDS)
 }
 
 /// Step lines behind the example configuration with capacity 200, the status, and what was answered.
@@ -323,13 +323,13 @@ const CONFIGURATIONS: [End; 6] = [
 
 /// A record ends with this status, and was answered so.
 fn ends(
-    rt: &HostRuntime,
+    rt: &impl Abort,
+    alloc: Global,
     octets: Octs,
     wanted: Status,
     answer: &str,
     name: &str,
 ) -> Result<(), Fail> {
-    let alloc = rt.alloc();
     let words = one_word(alloc, "replay")?;
     let mut source = MemSource::new(octets, no_calls(alloc));
     let mut sink = MemSink::new(alloc, no_calls(alloc));
@@ -340,61 +340,61 @@ fn ends(
 }
 
 /// Steps end with these statuses.
-fn steps_end(rt: &HostRuntime, rows: &[End]) -> Result<(), Fail> {
+fn steps_end(rt: &impl Abort, alloc: Global, rows: &[End]) -> Result<(), Fail> {
     for (steps, wanted, answer) in rows {
-        let octets = record(rt.alloc(), "200", steps)?;
-        ends(rt, octets, *wanted, answer, steps)?;
+        let octets = record(alloc, "200", steps)?;
+        ends(rt, alloc, octets, *wanted, answer, steps)?;
     }
     Ok(())
 }
 
 /// Whole records end with these statuses.
-fn records_end(rt: &HostRuntime, rows: &[End]) -> Result<(), Fail> {
+fn records_end(rt: &impl Abort, alloc: Global, rows: &[End]) -> Result<(), Fail> {
     for (text, wanted, answer) in rows {
-        let octets = Octs::from_vec(Vec::from_slice(rt.alloc(), text.as_bytes())?);
-        ends(rt, octets, *wanted, answer, text)?;
+        let octets = Octs::from_vec(Vec::from_slice(alloc, text.as_bytes())?);
+        ends(rt, alloc, octets, *wanted, answer, text)?;
     }
     Ok(())
 }
 
 #[test]
 fn a_record_ends_at_its_last_line(rt: HostRuntime) -> Result<(), Fail> {
-    steps_end(&rt, &ENDS)
+    steps_end(&rt, rt.alloc(), &ENDS)
 }
 
 #[test]
 fn words_and_numbers_are_judged_first(rt: HostRuntime) -> Result<(), Fail> {
-    steps_end(&rt, &WORDS)
+    steps_end(&rt, rt.alloc(), &WORDS)
 }
 
 #[test]
 fn names_are_judged_before_states(rt: HostRuntime) -> Result<(), Fail> {
-    steps_end(&rt, &NAMES)
+    steps_end(&rt, rt.alloc(), &NAMES)
 }
 
 #[test]
 fn states_are_judged_before_values(rt: HostRuntime) -> Result<(), Fail> {
-    steps_end(&rt, &STATES)
+    steps_end(&rt, rt.alloc(), &STATES)
 }
 
 #[test]
 fn values_are_of_their_types(rt: HostRuntime) -> Result<(), Fail> {
-    steps_end(&rt, &VALUES)
+    steps_end(&rt, rt.alloc(), &VALUES)
 }
 
 #[test]
 fn what_is_not_built_is_refused(rt: HostRuntime) -> Result<(), Fail> {
-    steps_end(&rt, &UNBUILT)
+    steps_end(&rt, rt.alloc(), &UNBUILT)
 }
 
 #[test]
 fn a_record_is_judged_from_its_first_line_on(rt: HostRuntime) -> Result<(), Fail> {
-    records_end(&rt, &HEADINGS)
+    records_end(&rt, rt.alloc(), &HEADINGS)
 }
 
 #[test]
 fn a_configuration_is_judged_as_one_text(rt: HostRuntime) -> Result<(), Fail> {
-    records_end(&rt, &CONFIGURATIONS)
+    records_end(&rt, rt.alloc(), &CONFIGURATIONS)
 }
 
 #[test]
