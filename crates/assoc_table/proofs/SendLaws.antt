@@ -17,7 +17,8 @@ use Rattle.bay_model.specs.contracts.reply.Reply as Reply
 use Rattle.bay_model.specs.contracts.control.Termination as Termination
 use Rattle.bay_model.specs.contracts.answer.Output as Output
 use Rattle.circular_buffer.proofs.heap.HeapCircularBuffer.TheSendSync as buffer
-use Rattle.assoc_table.proofs.waiting.Ends.TheSendSync as ends
+use Rattle.sv_base.proofs.numbers.ActorNo.TheSendSync as actor
+use Rattle.assoc_table.specs.contracts.waiting.Ends as Ends
 use Rattle.assoc_table.specs.contracts.waiting.Waiting as Waiting
 use Rattle.assoc_table.specs.contracts.seat.Seat as Seat
 use Rattle.assoc_table.specs.contracts.table.Assocs as Assocs
@@ -43,8 +44,11 @@ output_field_send = search (reply_field_send, termination_field_send, report.the
 waiting_send : IsSend Waiting.the_row
 waiting_send = search (output_field_send, control.the_field_send, sendable) depth 60
 
+ends_send : IsSend Ends.the_row
+ends_send = search (actor.the_field_send, sendable) depth 60
+
 seat_send : IsSend Seat.the_row
-seat_send = search (waiting_send, ends.the_field_send, buffer.the_send, crosses, sendable) depth 60
+seat_send = search (waiting_send, ends_send, buffer.the_send, crosses, sendable) depth 60
 
 pub associations_send : IsSend Assocs.the_row
 associations_send = search (seat_send, crosses, sendable) depth 60

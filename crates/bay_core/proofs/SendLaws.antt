@@ -31,15 +31,19 @@ use Rattle.object_model.proofs.SendLaws.{model_send, shape_send}
 use Rattle.assoc_table.proofs.SendLaws.{associations_send, output_field_send, value_field_send}
 use Rattle.entry_ring.proofs.ring.Ring.TheSendSync as ring
 use Rattle.brcb_state.proofs.block.Block.TheSendSync as block
-use Rattle.bay_core.proofs.values.Values.TheSendSync as values
+use Rattle.value_store.proofs.store.Store.TheSendSync as store
+use Rattle.bay_core.specs.contracts.values.Values as HeldValues
 use Rattle.bay_core.specs.contracts.part.Part as Part
 use Rattle.bay_core.specs.contracts.bay.Bay as Bay
+
+values_send : IsSend HeldValues.the_row
+values_send = search (store.the_send, crosses, sendable) depth 60
 
 part_send : IsSend Part.the_row
 part_send = search (shape_send, ring.the_send, block.the_field_send, crosses, sendable) depth 60
 
 pub bay_send : IsSend Bay.the_row
-bay_send = search (model_send, moment.the_send, values.the_send, part_send, associations_send, note.the_send, fixed.the_send, crosses, sendable) depth 60
+bay_send = search (model_send, moment.the_send, values_send, part_send, associations_send, note.the_send, fixed.the_send, crosses, sendable) depth 60
 
 -- a step
 data_values_send : IsSend DataValues.the_row

@@ -21,9 +21,9 @@ use Rattle.bay_model.proofs.flags.Flags.TheSendSync as flags
 use Rattle.bay_model.specs.contracts.tables.MemberShape as MemberShape
 use Rattle.bay_model.specs.contracts.tables.NodeRow as NodeRow
 use Rattle.bay_model.specs.contracts.tables.NodeTable as NodeTable
-use Rattle.object_model.proofs.index.Index.TheSendSync as index
-use Rattle.object_model.proofs.listing.Directory.TheSendSync as directory
-use Rattle.object_model.proofs.nodes.NodeName.TheSendSync as names
+use Rattle.object_model.specs.contracts.index.Index as Index
+use Rattle.object_model.specs.contracts.listing.Directory as Directory
+use Rattle.object_model.specs.contracts.nodes.NodeName as NodeName
 use Rattle.object_model.specs.contracts.tables.Tables as Tables
 use Rattle.object_model.specs.contracts.model.Model as Model
 
@@ -71,8 +71,17 @@ node_send = search (shape_field_send, sendable) depth 60
 node_table_send : IsSend NodeTable.the_row
 node_table_send = search (node_send, crosses, sendable) depth 60
 
+index_field_send : IsSend Index.the_field.row
+index_field_send = search (crosses, sendable) depth 60
+
+directory_send : IsSend Directory.the_row
+directory_send = search (index_field_send, octs.the_send, crosses, sendable) depth 60
+
+name_send : IsSend NodeName.the_row
+name_send = search (octs.the_send, sendable) depth 60
+
 tables_field_send : IsSend Tables.the_field.row
-tables_field_send = search (kind_send, node_table_send, index.the_field_send, directory.the_send, names.the_send, set_table.the_send, flags.the_send, crosses, sendable) depth 60
+tables_field_send = search (kind_send, node_table_send, index_field_send, directory_send, name_send, set_table.the_send, flags.the_send, crosses, sendable) depth 60
 
 pub model_send : IsSend Model.the_row
-model_send = search (config_field_send, tables_field_send, index.the_field_send, sendable) depth 60
+model_send = search (config_field_send, tables_field_send, index_field_send, sendable) depth 60

@@ -21,9 +21,9 @@ use Rattle.bay_model.proofs.flags.Flags.TheSendSync as flags
 use Rattle.bay_model.specs.contracts.tables.MemberShape as MemberShape
 use Rattle.bay_model.specs.contracts.tables.NodeRow as NodeRow
 use Rattle.bay_model.specs.contracts.tables.NodeTable as NodeTable
-use Rattle.object_model.proofs.index.Index.TheSendSync as index
-use Rattle.object_model.proofs.listing.Directory.TheSendSync as directory
-use Rattle.object_model.proofs.nodes.NodeName.TheSendSync as names
+use Rattle.object_model.specs.contracts.index.Index as Index
+use Rattle.object_model.specs.contracts.listing.Directory as Directory
+use Rattle.object_model.specs.contracts.nodes.NodeName as NodeName
 use Rattle.object_model.specs.contracts.tables.Tables as Tables
 use Rattle.object_model.specs.contracts.model.Model as Model
 
@@ -71,8 +71,17 @@ node_sync = search (shape_field_sync, sendable) depth 60
 node_table_sync : IsSync NodeTable.the_row
 node_table_sync = search (node_sync, crosses, sendable) depth 60
 
+index_field_sync : IsSync Index.the_field.row
+index_field_sync = search (crosses, sendable) depth 60
+
+directory_sync : IsSync Directory.the_row
+directory_sync = search (index_field_sync, octs.the_sync, crosses, sendable) depth 60
+
+name_sync : IsSync NodeName.the_row
+name_sync = search (octs.the_sync, sendable) depth 60
+
 tables_field_sync : IsSync Tables.the_field.row
-tables_field_sync = search (kind_sync, node_table_sync, index.the_field_sync, directory.the_sync, names.the_sync, set_table.the_sync, flags.the_sync, crosses, sendable) depth 60
+tables_field_sync = search (kind_sync, node_table_sync, index_field_sync, directory_sync, name_sync, set_table.the_sync, flags.the_sync, crosses, sendable) depth 60
 
 pub model_sync : IsSync Model.the_row
-model_sync = search (config_field_sync, tables_field_sync, index.the_field_sync, sendable) depth 60
+model_sync = search (config_field_sync, tables_field_sync, index_field_sync, sendable) depth 60
