@@ -35,6 +35,7 @@ pub enum Told {
 }
 
 /// A step of an actor, if it fits the configuration.
+#[inline(always)] // so that the step is made where it stays
 fn turn(model: &Model, actor: u32, step: Step) -> Told
     requires { IsBuilt step }
     ensures told { result ≡ turn_of model.now actor step }
