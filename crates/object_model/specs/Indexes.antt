@@ -7,7 +7,7 @@ use Rattle.object_model.specs.declared.index.Index.{Index}
 use Rattle.object_model.specs.Numbers.{number_in}
 
 abbrev pub found : Index → List ℕ → Option ℕ
-found index name = get_by (λ k. bytes_eq name k.octets.items) index.numbers
+found index name = get_by (λ k. bytes_eq name k.items) index.numbers
 
 -- it finds each name's number in the list
 abbrev pub Indexes : Index → List (List ℕ) → Type 0

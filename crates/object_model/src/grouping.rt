@@ -7,7 +7,7 @@ ghost use Rattle.object_model.specs.Groups.{groups as groups_in, group_name, put
 ghost use Rattle.object_model.specs.Numbers.{number_in};
 
 use crate::growing::{Cut, Group, below, name_of, push_into};
-use crate::index::{Name, Wanted, add};
+use crate::index::add;
 use crate::numbers::count;
 use indexmap::IndexMap;
 use std::alloc::{AllocError, Global};
@@ -29,16 +29,16 @@ fn push_group<'a>(
 /// Adds what stands below a name to its group, by the places of the names.
 fn put<'a>(
     alloc: Global,
-    places: &mut IndexMap<Name, u32>,
+    places: &mut IndexMap<Vec<u8>, u32>,
     groups: &mut Vec<Group<'a>>,
     name: &'a [u8],
     cut: Cut<'a>,
 ) -> Result<(), AllocError>
-    requires { (other : List ℕ) → get_by (λ k. bytes_eq other k.octets.items) places.old ≡ number_in (map group_name groups.old.items) other }
-    ensures placed { OnOk result ((other : List ℕ) → get_by (λ k. bytes_eq other k.octets.items) places.new ≡ number_in (map group_name groups.new.items) other) }
+    requires { (other : List ℕ) → get_by (λ k. bytes_eq other k.items) places.old ≡ number_in (map group_name groups.old.items) other }
+    ensures placed { OnOk result ((other : List ℕ) → get_by (λ k. bytes_eq other k.items) places.new ≡ number_in (map group_name groups.new.items) other) }
     ensures groups { OnOk result (groups.new.items ≡ put_in groups.old.items name.now cut.entry) }
 {
-    let place = places.get(Wanted { octets: name }).copied();
+    let place = places.get(name).copied();
     match place {
         Some(place) => {
             push_into(groups, place as usize, cut)?;
@@ -56,12 +56,12 @@ fn put<'a>(
 /// Adds what is named to its group; the name itself has none.
 fn put_cut<'a>(
     alloc: Global,
-    places: &mut IndexMap<Name, u32>,
+    places: &mut IndexMap<Vec<u8>, u32>,
     groups: &mut Vec<Group<'a>>,
     cut: &Cut<'a>,
 ) -> Result<(), AllocError>
-    requires { (other : List ℕ) → get_by (λ k. bytes_eq other k.octets.items) places.old ≡ number_in (map group_name groups.old.items) other }
-    ensures placed { OnOk result ((other : List ℕ) → get_by (λ k. bytes_eq other k.octets.items) places.new ≡ number_in (map group_name groups.new.items) other) }
+    requires { (other : List ℕ) → get_by (λ k. bytes_eq other k.items) places.old ≡ number_in (map group_name groups.old.items) other }
+    ensures placed { OnOk result ((other : List ℕ) → get_by (λ k. bytes_eq other k.items) places.new ≡ number_in (map group_name groups.new.items) other) }
     ensures groups { OnOk result (groups.new.items ≡ with_named groups.old.items cut.now) }
 {
     if cut.is_itself() {

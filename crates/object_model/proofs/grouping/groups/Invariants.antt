@@ -7,6 +7,6 @@ use Rattle.object_model.proofs.grouping.groups.Given as goal
 
 abbrev pub invariant-loop-cut : goal.invariant-loop-cut
 invariant-loop-cut l = record {
-  placed : (other : List ℕ) → get_by (λ k. bytes_eq other k.octets.items) l.places ≡ number_in (map group_name l.groups.items) other;
+  placed : (other : List ℕ) → get_by (λ k. bytes_eq other k.items) l.places ≡ number_in (map group_name l.groups.items) other;
   groups : l.groups.items ≡ groups (take l.cut-index l.cuts);
 }

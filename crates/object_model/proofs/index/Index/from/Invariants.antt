@@ -8,5 +8,5 @@ use Rattle.object_model.proofs.index.Index.from.Given as goal
 abbrev pub invariant-loop-name : goal.invariant-loop-name
 invariant-loop-name l = record {
   number : l.number ≡ l.first + l.name-index;
-  finds : (name : List ℕ) → get_by (λ k. bytes_eq name k.octets.items) l.numbers ≡ option_map (λ i. l.first + i) (number_in (take l.name-index l.names) name);
+  finds : (name : List ℕ) → get_by (λ k. bytes_eq name k.items) l.numbers ≡ option_map (λ i. l.first + i) (number_in (take l.name-index l.names) name);
 }
