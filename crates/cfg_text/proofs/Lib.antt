@@ -1,5 +1,6 @@
 pub mod OptionLaws
 pub mod NumberLaws
+pub mod DigitLaws
 pub mod TakenLaws
 pub mod PathLaws
 pub mod KnownLaws

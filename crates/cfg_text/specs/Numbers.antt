@@ -1,9 +1,13 @@
 -- Numbers in decimal, without leading zeros.
-use Rattle.std.specs.Prelude.{ℕ, zero, suc, ◌^◌, ◌==◌, ◌&&◌, nat_lt, nat_le, ℤ, pos, negsuc, List, codes, Option, Some, None, if◌then◌else◌}
+use Rattle.std.specs.Prelude.{ℕ, zero, suc, ◌^◌, ◌<◌, ◌==◌, ◌&&◌, nat_lt, nat_le, ℤ, pos, negsuc, List, codes, Option, Some, None, if◌then◌else◌}
 use Rattle.std.specs.Fmt.{decimal}
 use Rattle.std.specs.Str.{bytes_eq}
-use Rattle.std.specs.Str.Parse.{digits_value}
+use Rattle.std.specs.Str.Parse.{AllDigits, digits_value}
 use Rattle.cfg_text.specs.Words.{behind}
+
+-- digits alone, of a number below 2^64; zeros may lead
+abbrev pub AreDigitsOf64 : List ℕ → Type 0
+AreDigitsOf64 octets = AllDigits 10 octets × (digits_value 10 octets < 2 ^ 64)
 
 -- the number that the octets spell, if it is below 2^64
 unfoldable pub number_at : List ℕ → Option ℕ

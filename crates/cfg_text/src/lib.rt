@@ -38,7 +38,7 @@ pub use reading::Reading;
 pub use writing::write_config;
 
 // what other texts are made of too: words, numbers and truth values
-pub use judging::{are_printable, has_empty};
+pub use judging::are_printable;
 pub use numbers::{number, number_between};
 pub use spelling::{push_number, push_word};
 pub use telling::is_skipped;

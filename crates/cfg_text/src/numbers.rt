@@ -1,25 +1,34 @@
-ghost use Rattle.std.specs.Prelude.{◌≡◌, ◌≤◌};
-ghost use Rattle.cfg_text.specs.Numbers.{number_at, number_within, int_at, negatives as negatives_of, minus as minus_of, positive_at, negative_at};
+ghost use Rattle.std.specs.Prelude.{◌≡◌, ◌≤◌, MatchOption};
+ghost use Rattle.std.specs.Str.Parse.{digits_value};
+ghost use Rattle.cfg_text.specs.Numbers.{AreDigitsOf64, number_at, number_within, int_at, negatives as negatives_of, minus as minus_of, positive_at, negative_at};
 
 use crate::words::after_front;
-use itoa::Buffer;
-use std::str;
+
+/// The number of these digits, if it is below 2^64; leading zeros may be among them.
+fn digits_of(word: &[u8]) -> Option<u64>
+    ensures { MatchOption result (¬ AreDigitsOf64 word.now) (λ n. AreDigitsOf64 word.now × (n ≡ digits_value 10 word.now)) }
+{
+    let mut n = 0u64;
+    for octet in word {
+        if *octet < b'0' || *octet > b'9' {
+            return None;
+        }
+        n = n.checked_mul(10)?.checked_add(u64::from(*octet - b'0'))?;
+    }
+    Some(n)
+}
 
 /// The number below 2^64 that the octets spell in decimal, without leading zeros.
 pub fn number(octets: &[u8]) -> Option<u64>
     ensures { result ≡ number_at octets.now }
 {
-    let Ok(text) = str::from_utf8(octets) else {
+    if octets.is_empty() {
         return None;
-    };
-    let Ok(n) = text.parse::<u64>() else {
-        return None;
-    };
-    let mut buffer = Buffer::new();
-    if buffer.format(n) == text {
-        return Some(n);
     }
-    None
+    if octets.len() > 1 && octets[0] == b'0' {
+        return None;
+    }
+    digits_of(octets)
 }
 
 /// The number, if it is within these bounds.

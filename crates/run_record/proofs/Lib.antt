@@ -1,5 +1,4 @@
 pub mod WordLaws
-pub mod NumberLaws
 pub mod SeenLaws
 pub mod ReadLaws
 pub mod ToldLaws

@@ -2,7 +2,6 @@ pub mod Spelled
 pub mod Grammar
 pub mod Contents
 pub mod Judging
-pub mod Numbers
 pub mod Seen
 pub mod Refused
 pub mod Answers

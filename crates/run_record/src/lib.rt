@@ -8,7 +8,6 @@ mod fault;
 mod keyword;
 mod laws;
 mod line;
-mod numbers;
 mod octets;
 mod pairs;
 mod reading;

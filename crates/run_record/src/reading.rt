@@ -12,11 +12,10 @@ ghost use Rattle.run_record.specs.Answers.{Answers};
 use crate::fault::{Kind, RecFault};
 use crate::keyword::{Keyword, keyword_of};
 use crate::line::{OpenForm, RecLine};
-use crate::numbers::{number, number_between};
 use crate::octets::has_empty;
 use crate::view::{LineView, PairsView};
 use crate::words::Words;
-use cfg_text::{are_printable, is_skipped, truth};
+use cfg_text::{are_printable, is_skipped, number, number_between, truth};
 use std::alloc::Global;
 use sv_base::{AssocNo, Moment};
 
@@ -31,7 +30,6 @@ fn association(word: &[u8]) -> Option<AssocNo>
 }
 
 /// The moment whose milliseconds since 1970 the word is.
-#[tactic(auto, using(crate::proofs::NumberLaws::bounded))]
 fn moment(word: &[u8]) -> Option<Moment>
     ensures { result ≡ number_within 441763200000 4294967295999 word.now }
 {
