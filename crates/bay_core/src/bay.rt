@@ -3,7 +3,7 @@
 use crate::part::Part;
 use crate::values::Values;
 use assoc_table::Assocs;
-use bay_model::{Change, Fixed, Note};
+use bay_model::{Answer, Change, Fixed, Note, Output, Report};
 use object_model::Model;
 use sv_base::Moment;
 
@@ -20,6 +20,8 @@ pub struct Bay {
     pub(crate) changes: Vec<Change>,
     pub(crate) note: Note,
     pub(crate) kept: Fixed,
+    /// A report that is no longer needed, in whose room the next one is written; of no account either.
+    pub(crate) spare: Option<Report>,
 }
 
 impl std::marker::Model for Bay {
@@ -52,5 +54,15 @@ impl Bay {
         ensures { result.now ≡ self.now.config }
     {
         &self.model
+    }
+
+    /// Takes back an answer that is no longer needed: the next report is written in its room, so that it takes memory only
+    /// where it is longer. Nothing else depends on it.
+    pub fn reuse(&mut self, answer: Answer)
+        ensures { self.new ≡ self.old }
+    {
+        if let Answer::Taken(Output::Report(report)) = answer {
+            self.spare = Some(report);
+        }
     }
 }

@@ -9,6 +9,7 @@ mod laws;
 mod members;
 mod opening;
 mod part;
+mod room;
 mod setting;
 mod step;
 mod taking;

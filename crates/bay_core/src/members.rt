@@ -10,6 +10,7 @@ ghost use Rattle.data_sets.specs.Booked.{node_numbers};
 ghost use Rattle.bay_core.specs.Kept.{weights as weights_of};
 ghost use Rattle.bay_core.specs.Again.{IsOneElement, AreKept, AreNodes, reasons_in, reference_by, reported, front_member, front_seen};
 
+use crate::room::{member_room, octets_in, put_member};
 use bay_model::{Member, MemberShape, Members, Reasons};
 use ber_view::first;
 use object_model::Model;
@@ -81,22 +82,24 @@ fn front_of(octets: &[u8]) -> Option<Front<'_>>
     }
 }
 
-/// The reference `LD/item` of a node.
-fn reference_of(alloc: Global, model: &Model, node: NodeId) -> Result<Octs, AllocError>
+/// The reference `LD/item` of a node, in the room of another.
+fn reference_of(room: Octs, model: &Model, node: NodeId) -> Result<Octs, AllocError>
     requires { node.0 < length (nodes_of model.now) }
     ensures { IfOk result (λ o. o ≡ reference_at (configured_model model.now) node.0) }
 {
     let (domain, item) = (model.domain_of(node), model.item_of(node));
-    let mut octets = Vec::with_capacity(alloc, domain.len() + 1 + item.len())?;
+    let mut octets = room.into_vec();
+    octets.clear();
+    octets.reserve(domain.len() + 1 + item.len())?;
     octets.extend_from_slice(domain)?;
     octets.push(b'/')?;
     octets.extend_from_slice(item)?;
     Ok(Octs::from_vec(octets))
 }
 
-/// The reference of a member of a data set, by its number from 1.
+/// The reference of a member of a data set, by its number from 1, in the room of another.
 fn member_reference(
-    alloc: Global,
+    room: Octs,
     model: &Model,
     shapes: &[MemberShape],
     number: u32,
@@ -105,14 +108,14 @@ fn member_reference(
     ensures { IfOk result (λ o. o ≡ reference_by (configured_model model.now) (node_numbers shapes.now) number) }
 {
     match shapes.get((number as usize).saturating_sub(1)) {
-        Some(shape) => reference_of(alloc, model, shape.node),
-        None => Ok(Octs::from_vec(Vec::new(alloc))),
+        Some(shape) => reference_of(room, model, shape.node),
+        None => octets_in(room, b""),
     }
 }
 
-/// The member of a report.
+/// The member of a report, in the room of another.
 fn member_from(
-    alloc: Global,
+    room: Member,
     model: &Model,
     shapes: &[MemberShape],
     front: &Front<'_>,
@@ -122,29 +125,36 @@ fn member_from(
 {
     Ok(Member {
         number: MemberNo(front.number),
-        reference: member_reference(alloc, model, shapes, front.number)?,
-        octets: Octs::from_vec(Vec::from_slice(alloc, front.octets)?),
+        reference: member_reference(room.reference, model, shapes, front.number)?,
+        octets: octets_in(room.octets, front.octets)?,
         reasons: front.reasons,
     })
 }
 
-/// The members of a report, from the octets that a block keeps of an entry of a data set of these shapes, whose nodes are
-/// the model's. Of octets that are not kept ones nothing is said.
+/// The members of a report, in the room of those of another, from the octets that a block keeps of an entry of a data set of
+/// these shapes, whose nodes are the model's. Of octets that are not kept ones nothing is said.
 pub(crate) fn members_of(
     alloc: Global,
     model: &Model,
     shapes: &[MemberShape],
     octets: &[u8],
+    room: Members,
 ) -> Result<Members, AllocError>
     requires { AreNodes model.now shapes.now }
     ensures { IfOk result (λ members. (ks : List Kept) → AreKept octets.now ks → members ≡ reported model.now shapes.now ks) }
 {
+    let mut items = room.into_vec();
     // A member has at least six of the octets.
-    let mut items = Vec::with_capacity(alloc, shapes.len().min(octets.len() / 6))?;
+    let most = shapes.len().min(octets.len() / 6);
+    items.reserve(most.saturating_sub(items.len()))?;
     let mut rest = octets;
+    let mut count = 0;
     while let Some(front) = front_of(rest) {
-        items.push(member_from(alloc, model, shapes, &front)?)?;
+        let room = member_room(alloc, &mut items, count);
+        put_member(&mut items, count, member_from(room, model, shapes, &front)?)?;
         rest = front.rest;
+        count += 1;
     }
+    items.truncate(count);
     Ok(Members::from_vec(items))
 }

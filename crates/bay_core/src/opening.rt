@@ -139,6 +139,7 @@ fn begun(model: Model, made: Made) -> Bay
         changes: made.changes,
         note: made.note,
         kept: made.kept,
+        spare: None,
     }
 }
 

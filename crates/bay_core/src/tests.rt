@@ -1,13 +1,17 @@
-ghost use Rattle.std.specs.Prelude.{◌≡◌, ◌≤◌, [], IfOk, length};
+ghost use Rattle.std.specs.Prelude.{◌≡◌, ◌≤◌, ◌<◌, ◌^◌, suc, true, [], IfOk, OnOk, length};
 ghost use Rattle.std.specs.List.{All};
+ghost use Rattle.object_model.specs.Fits.{fits};
 ghost use Rattle.bay_core.specs.Servable.{IsServable, IsServedBlock};
+ghost use Rattle.bay_core.specs.Turns.{IsBuilt};
 
 use super::*;
+use bay_model::{Answer, Step};
 use object_model::Model;
 use std::alloc::{AllocError, Global};
 use std::test::*;
 use sv_base::{
-    AttrDefs, Bits, BlockDef, BlockDefs, Config, CtlDefs, LnDef, LnDefs, Octs, SetDefs, SgDefs,
+    ActorNo, AssocNo, AttrDefs, Bits, BlockDef, BlockDefs, Config, CtlDefs, LnDef, LnDefs, Moment,
+    Octs, SetDefs, SgDefs,
 };
 
 fn octets(alloc: Global, octets: &[u8]) -> Result<Octs, AllocError> {
@@ -73,7 +77,9 @@ fn model(alloc: Global) -> Result<Model, AllocError>
 }
 
 /// A bay with two blocks.
-fn opened_bay(alloc: Global) -> Result<Bay, AllocError> {
+fn opened_bay(alloc: Global) -> Result<Bay, AllocError>
+    ensures { IfOk result (λ b. b.steps ≡ 0) }
+{
     let model = model(alloc)?;
     Bay::open(alloc, model)
 }
@@ -82,5 +88,43 @@ fn opened_bay(alloc: Global) -> Result<Bay, AllocError> {
 fn no_step_is_made_when_a_bay_is_opened(rt: HostRuntime) -> Result<(), Fail> {
     let bay = opened_bay(rt.alloc())?;
     assert_eq!(rt; bay.steps(), 0);
+    Ok(())
+}
+
+/// Makes a step of the process and hands its answer back.
+fn step_and_reuse(bay: &mut Bay, alloc: Global, step: &Step) -> Result<(), StepFault>
+    requires fits { fits bay.old.config step.now ≡ true }
+    requires built { IsBuilt step.now }
+    requires few { bay.old.steps < 2 ^ 62 }
+    ensures { OnOk result (bay.new.steps ≡ suc bay.old.steps) }
+{
+    let answer = bay.step(alloc, Moment::first(), ActorNo(0), step)?;
+    bay.reuse(answer);
+    Ok(())
+}
+
+/// Two steps; an answer is handed back before each of them.
+fn two_steps(bay: &mut Bay, alloc: Global) -> Result<(), StepFault>
+    requires { bay.old.steps ≡ 0 }
+    ensures { OnOk result (bay.new.steps ≡ 2) }
+{
+    bay.reuse(Answer::Empty);
+    step_and_reuse(bay, alloc, &Step::Tick)?;
+    step_and_reuse(bay, alloc, &Step::Take(AssocNo(1)))
+}
+
+/// That bay in a box.
+fn boxed_bay(alloc: Global) -> Result<Box<Bay>, AllocError>
+    ensures { IfOk result (λ b. b.value.steps ≡ 0) }
+{
+    let bay = opened_bay(alloc)?;
+    Ok(Box::new(alloc, bay)?)
+}
+
+#[test]
+fn steps_go_on_after_an_answer_is_handed_back(rt: HostRuntime) -> Result<(), Fail> {
+    let mut bay = boxed_bay(rt.alloc())?;
+    two_steps(&mut bay, rt.alloc())?;
+    assert_eq!(rt; bay.steps(), 2);
     Ok(())
 }

@@ -32,8 +32,8 @@ report_of-requires-clause-few c = omega (arith, ap length (shapes c), served-few
 pub report_of-requires-clause-nodes : goal.report_of-requires-clause-nodes
 report_of-requires-clause-nodes c = subst (AreNodes c.self.inside.model) (sym (shapes c)) (shapes-there c.self.inside.model c.self.invariant.servable c.in-Some-first_offer.offer.block)
 
-pub invariant_of-self : goal.invariant_of-self
-invariant_of-self c =
+pub invariant_of-self-2 : goal.invariant_of-self-2
+invariant_of-self-2 c =
     let within = subst (λ (ps : List Part). c.in-Some-first_offer.offer.block < length ps) c.deref.ensures.value c.in-Some-first_offer.ensures.within in
     furnished-set c.self.inside.model c.self.inside.values c.self.inside.parts.items c.self.inside.note c.self.inside.kept c.self.invariant c.in-Some-first_offer.offer.block c.index_mut.result.now
     (record { block = c.sent.new.self; ring = c.index_mut.result.now.ring; members = c.index_mut.result.now.members })
