@@ -3,7 +3,7 @@ use Rattle.std.proofs.Common.{◌≡◌, ℕ, List, [], ◌∷◌, ◌++◌, ref
 use Rattle.std.specs.Prelude.{Option, None, Some}
 use Rattle.replay_run.specs.Moves.{opening}
 use Rattle.replay_run.specs.Records.{pieces, run}
-use Rattle.replay_run.specs.Sessions.{Reads, Stopped, GoesOn, Moves, LinesRead, FeedsOn, Feeds}
+use Rattle.replay_run.specs.Sessions.{Reads, GoesOn, Moves, LinesRead, FeedsOn, Feeds}
 use Rattle.replay_run.specs.declared.status.Status.{Status}
 use Rattle.replay_run.specs.declared.session.Session.{Session}
 use Rattle.replay_run.specs.declared.reader.Reader.{Reader}

@@ -1,19 +1,13 @@
 -- Where a limit is passed, or a line isn't there.
-use Rattle.std.proofs.Common.{Bool, ◌≡◌, ◌≤◌, ◌<◌, inl, inr, suc, arith, ℕ, true, false, List, [], ◌∷◌, ◌++◌, sym, ap, subst, refl, ◌∙◌, append-nil}
-use Rattle.std.specs.Prelude.{Option, None, Some, IfNone, Vec, nat_lt, codes, if◌then◌else◌}
-use Rattle.std.specs.Str.{bytes_eq}
+use Rattle.std.proofs.Common.{Bool, ◌≡◌, ◌≤◌, ◌<◌, inl, inr, suc, arith, ℕ, true, false, List, [], sym, ap, subst, refl, ◌∙◌, append-nil}
+use Rattle.std.specs.Prelude.{Option, Some, Vec, nat_lt, if◌then◌else◌}
 use Rattle.std.proofs.lemmas.Bool.{lt-ltb}
 use Rattle.std.proofs.lemmas.Bool.Decides.{leb_tells}
 use Rattle.std.specs.declared.alloc.Global.{Global}
 use Rattle.cfg_text.specs.Looking.{config_at}
-use Rattle.replay_run.specs.Moves.{Place, opening, configuring, playing, Move, goes, stops}
-use Rattle.replay_run.specs.Openings.{opening_at, started, configuring_at}
-use Rattle.replay_run.specs.Steps.{step_at}
+use Rattle.replay_run.specs.Moves.{Place, opening, configuring, playing, stops}
 use Rattle.replay_run.specs.Records.{most_lines, lines_at, line_at, passed, missing, refused_before, ended}
-use Rattle.replay_run.specs.Plays.{Opens, PlaysTo, PlaysOn}
-use Rattle.replay_run.specs.Sessions.{IsAt, Advances, AdvancesOn, OpensOn, Settles}
-use Rattle.replay_run.specs.declared.openings.Opened.{Opened}
-use Rattle.replay_run.specs.declared.openings.Opened.TheVariants as openeds
+use Rattle.replay_run.specs.Sessions.{IsAt, Advances, AdvancesOn}
 use Rattle.replay_run.specs.declared.playing.Playing.{Playing}
 use Rattle.replay_run.specs.declared.stage.Stage.{Stage}
 use Rattle.replay_run.specs.declared.stage.Stage.TheVariants as stages

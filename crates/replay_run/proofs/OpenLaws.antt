@@ -1,24 +1,24 @@
 -- Which associations are open after one step more.
-use Rattle.std.proofs.Common.{◌≡◌, ◌≤◌, ◌<◌, ◌+◌, ℕ, Bool, true, false, List, [], ◌∷◌, length, slice_index_or, slice_set, get_or-set_same, get_or-set_other, sym, ap, refl, ◌∙◌, arith, inl, inr}
+use Rattle.std.proofs.Common.{◌≡◌, ◌≤◌, ◌<◌, ℕ, Bool, true, false, List, [], ◌∷◌, length, slice_index_or, slice_set, get_or-set_same, get_or-set_other, sym, ap, refl, ◌∙◌, arith, inl, inr}
 use Rattle.std.specs.Prelude.{Option, None, Some, is_some, is_none, nat_le, ◌==◌, ◌&&◌, if◌then◌else◌}
 use Rattle.std.proofs.lemmas.Bool.Decides.{eqb_tells, leb_tells}
 use Rattle.sv_base.specs.declared.config.Config.{Config}
 use Rattle.bay_model.specs.Model.{Model}
 use Rattle.bay_model.specs.Named.{configured_model}
-use Rattle.bay_model.specs.Points.{Past, Deed, nothing}
+use Rattle.bay_model.specs.Points.{Past, nothing}
 use Rattle.bay_model.specs.Singles.{arrival}
 use Rattle.bay_model.specs.Associations.{Ends, ends, ends_after}
 use Rattle.bay_model.specs.Waiting.{Waiting, reply, ending, waiting}
 use Rattle.bay_model.specs.Reports.{Offer, first_offer}
-use Rattle.bay_model.specs.Takes.{given_report, given_by, taken, deed_of_waiting}
+use Rattle.bay_model.specs.Takes.{given_report, given_by, taken}
 use Rattle.bay_model.specs.Outcomes.{deed_of}
 use Rattle.bay_model.specs.Writes.{write_component}
-use Rattle.bay_model.specs.Answers.{Turn, History, points}
+use Rattle.bay_model.specs.Answers.{History, points}
 use Rattle.bay_model.specs.declared.answer.Answer.TheVariants as answers
 use Rattle.bay_model.specs.declared.step.Comp.{Comp}
 use Rattle.bay_model.specs.declared.step.Step.{Step}
 use Rattle.bay_model.specs.declared.step.Step.TheVariants as steps
-use Rattle.bay_model.proofs.Deeds.{OfSingles, component_}
+use Rattle.bay_model.proofs.Deeds.{component_}
 use Rattle.sv_base.specs.declared.value.Value.{Value}
 use Rattle.object_model.specs.Fits.{fits, is_association}
 use Rattle.bay_core.specs.Turns.{IsBuilt}

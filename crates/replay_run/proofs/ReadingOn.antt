@@ -1,10 +1,10 @@
 -- One line more: what was read so far goes on, or stops.
-use Rattle.std.proofs.Common.{◌≡◌, ◌<◌, ◌+◌, ℕ, suc, Bool, false, List, [], ◌∷◌, ◌++◌, length, refl, sym, ap, subst, ◌∙◌, append_assoc, append-nil, arith}
+use Rattle.std.proofs.Common.{◌≡◌, ◌<◌, ℕ, suc, Bool, List, [], ◌∷◌, ◌++◌, length, refl, sym, ap, ◌∙◌, append_assoc, append-nil, arith}
 use Rattle.std.specs.Prelude.{◌==◌, Option, None, Some}
 use Rattle.std.proofs.lemmas.List.Splits.{slice_split_at, slice_split_none, length-slice_split}
 use Rattle.replay_run.specs.Moves.{Place, opening, Move, goes, stops}
 use Rattle.replay_run.specs.Records.{Outcome, behind, pieces, run, moved, ended, line_at}
-use Rattle.replay_run.specs.Sessions.{NoNewline, IsAt, Advances, AdvancesOn, Reads, Stopped, Moves, MovesTo, Fed}
+use Rattle.replay_run.specs.Sessions.{NoNewline, IsAt, Advances, AdvancesOn, Reads, Moves, MovesTo, Fed}
 use Rattle.replay_run.specs.declared.session.Session.{Session}
 use Rattle.replay_run.specs.declared.reader.Reader.{Reader}
 use Rattle.replay_run.specs.declared.status.Status.{Status}

@@ -1,15 +1,13 @@
 -- What a line makes of each part of a record.
-use Rattle.std.proofs.Common.{◌≡◌, ◌≤◌, ◌<◌, inl, inr, suc, arith, ℕ, true, false, List, [], ◌∷◌, ◌++◌, sym, ap, subst, refl, ◌∙◌, append-nil}
-use Rattle.std.specs.Prelude.{Option, None, Some, IfNone, Vec, nat_lt, codes, if◌then◌else◌}
+use Rattle.std.proofs.Common.{◌≡◌, ◌≤◌, suc, arith, ℕ, true, false, List, [], ◌∷◌, ◌++◌, sym, ap, subst, refl, ◌∙◌, append-nil}
+use Rattle.std.specs.Prelude.{Option, None, Some, IfNone, Vec, codes, if◌then◌else◌}
 use Rattle.std.specs.Str.{bytes_eq}
-use Rattle.std.proofs.lemmas.Bool.{lt-ltb}
-use Rattle.std.proofs.lemmas.Bool.Decides.{leb_tells}
 use Rattle.std.specs.declared.alloc.Global.{Global}
 use Rattle.cfg_text.specs.Looking.{config_at}
 use Rattle.replay_run.specs.Moves.{Place, opening, configuring, playing, Move, goes, stops}
 use Rattle.replay_run.specs.Openings.{opening_at, started, configuring_at}
 use Rattle.replay_run.specs.Steps.{step_at}
-use Rattle.replay_run.specs.Records.{most_lines, lines_at, line_at, passed, missing, refused_before}
+use Rattle.replay_run.specs.Records.{lines_at}
 use Rattle.replay_run.specs.Plays.{Opens, PlaysTo, PlaysOn}
 use Rattle.replay_run.specs.Sessions.{IsAt, Advances, AdvancesOn, OpensOn, Settles}
 use Rattle.replay_run.specs.declared.openings.Opened.{Opened}
@@ -18,7 +16,6 @@ use Rattle.replay_run.specs.declared.playing.Playing.{Playing}
 use Rattle.replay_run.specs.declared.stage.Stage.{Stage}
 use Rattle.replay_run.specs.declared.stage.Stage.TheVariants as stages
 use Rattle.replay_run.specs.declared.status.Status.{Status}
-use Rattle.replay_run.specs.declared.status.Status.TheVariants as statuses
 
 pub opens-head : (new : Stage) (number : ℕ) (text : Vec ℕ Global) (line : List ℕ) (opened : Opened) → new ≡ stages.Configuring number text → text.items ≡ [] → opened ≡ openeds.Head → Opens opened line
     → OpensOn None new (opening_at number line)

@@ -2,7 +2,8 @@ pub mod Components
 pub mod Shapes
 pub mod Settings
 pub mod Resolved
-pub mod Turns
+pub mod Found
+pub mod Told
 pub mod Texts
 pub mod Played
 pub mod Moves

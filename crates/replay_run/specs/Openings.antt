@@ -1,5 +1,5 @@
 -- What the lines before the steps do: the line `record 1`, and those of the configuration up to `end`.
-use Rattle.std.specs.Prelude.{ℕ, ◌+◌, ◌==◌, ◌||◌, ◌&&◌, not, Bool, true, false, List, [], ◌∷◌, ◌++◌, length, map, codes, Option, None, Some, Result, Ok, Err, min, if◌then◌else◌}
+use Rattle.std.specs.Prelude.{ℕ, ◌+◌, ◌==◌, ◌||◌, ◌&&◌, not, Bool, List, [], ◌∷◌, ◌++◌, length, map, codes, Option, None, Some, Result, Ok, Err, min, if◌then◌else◌}
 use Rattle.std.specs.List.{filter}
 use Rattle.std.specs.Str.{bytes_eq}
 use Rattle.sv_base.specs.declared.config.Config.{Config}
@@ -15,7 +15,6 @@ use Rattle.cfg_text.specs.declared.fault.CfgFault.TheVariants as faults
 use Rattle.run_record.specs.Judging.{is_long}
 use Rattle.replay_run.specs.Played.{start}
 use Rattle.replay_run.specs.Moves.{Move, goes, stops, opening, configuring, playing}
-use Rattle.replay_run.specs.declared.status.Status.{Status}
 use Rattle.replay_run.specs.declared.status.Status.TheVariants as statuses
 
 -- the words are `record 1`: another word or count of words is kind 1, another number kind 2

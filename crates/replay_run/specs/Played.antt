@@ -1,5 +1,5 @@
 -- What is played of a record: its steps so far, and the moment of the next one.
-use Rattle.std.specs.Prelude.{ℕ, Bool, List, [], ◌∷◌, is_some}
+use Rattle.std.specs.Prelude.{ℕ, Bool, [], ◌∷◌, is_some}
 use Rattle.sv_base.specs.declared.config.Config.{Config}
 use Rattle.bay_model.specs.declared.step.Step.{Step}
 use Rattle.bay_model.specs.Named.{configured_model}

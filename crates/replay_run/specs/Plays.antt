@@ -19,6 +19,11 @@ use Rattle.replay_run.specs.declared.starting.Started.{Started}
 use Rattle.replay_run.specs.declared.starting.Started.TheVariants as starteds
 use Rattle.replay_run.specs.declared.status.Status.{Status}
 use Rattle.replay_run.specs.declared.status.Status.TheVariants as statuses
+use Rattle.replay_run.specs.declared.stop.Stop.{Stop}
+use Rattle.replay_run.specs.declared.stop.Stop.TheVariants as stops_at
+use Rattle.replay_run.specs.Steps.{played}
+use Rattle.replay_run.specs.Told.{Told}
+use Rattle.std.specs.Option.{option_map}
 
 -- the bay, the moment and the open associations are those of what was played
 pub record Plays (p : Playing) (c : Config) (s : Played) : Type 0 where
@@ -48,6 +53,15 @@ PlaysTo _ _ _ _ _ = ⊥
 
 abbrev pub PlaysOn : Option Status → Playing → Playing → (Config → Played → Move) → List ℕ → List ℕ → Type 0
 PlaysOn status old new move before now = (c : Config) (s : Played) → Plays old c s → PlaysTo status new (move c s) before now
+
+-- the status with which the reading stops at the line with a number
+abbrev pub status_at : ℕ → Stop → Status
+status_at number (stops_at.Refused kind) = statuses.Record number kind
+status_at number stops_at.End = statuses.Ok
+
+-- what is told is played, whatever the number of its line is
+abbrev pub PlaysTold : Option Stop → Playing → Playing → Told → List ℕ → List ℕ → Type 0
+PlaysTold stop old new told before now = (number : ℕ) → PlaysOn (option_map (status_at number) stop) old new (λ c s. played number c s told) before now
 
 abbrev pub OpensTo : Opened → ℕ → Move → Type 0
 OpensTo openeds.Skip number move = move ≡ goes opening []

@@ -20,8 +20,7 @@ use Rattle.run_record.specs.declared.pairs.Pair.{Pair}
 use Rattle.replay_run.specs.Components.{component_at}
 use Rattle.replay_run.specs.Shapes.{shape_at}
 use Rattle.replay_run.specs.Settings.{are_named, settings_at}
-use Rattle.replay_run.specs.declared.told.Told.{Told}
-use Rattle.replay_run.specs.declared.told.Told.TheVariants as tolds
+use Rattle.replay_run.specs.Told.{Told, skip, pass_to, turn, refused, last}
 
 -- the association that a line names, else 0
 abbrev pub association_of : RecLine → ℕ
@@ -35,7 +34,7 @@ association_of _ = 0
 
 -- a step of an actor, which fits the configuration as every step does whose values are of their types
 abbrev pub turn_of : Config → ℕ → Step → Told
-turn_of c actor step = if fits c step then tolds.Turn (record { 0 = actor }) step else tolds.Refused 4
+turn_of c actor step = if fits c step then turn actor step else refused 4
 
 -- a component that clients may write is built, where it is RptEna, EntryID or PurgeBuf
 abbrev pub is_built : Comp → Bool
@@ -45,39 +44,39 @@ is_built comps.PurgeBuf = true
 is_built _ = false
 
 abbrev pub opened_as : Config → Bool → AssocNo → OpenForm → Told
-opened_as c there a forms.Direct = if there then tolds.Refused 5 else turn_of c a.0 (steps.Open a 65000 (record { 0 = a.0 }))
-opened_as c there a _ = if there then tolds.Refused 5 else tolds.Refused 9
+opened_as c there a forms.Direct = if there then refused 5 else turn_of c a.0 (steps.Open a 65000 (record { 0 = a.0 }))
+opened_as c there a _ = if there then refused 5 else refused 9
 
 abbrev pub valued_as : Config → AssocNo → ℕ → Comp → Option Value → Told
-valued_as c a b comp None = tolds.Refused 4
-valued_as c a b comp (Some v) = if is_built comp then turn_of c a.0 (steps.Write a (record { 0 = b }) comp v) else tolds.Refused 9
+valued_as c a b comp None = refused 4
+valued_as c a b comp (Some v) = if is_built comp then turn_of c a.0 (steps.Write a (record { 0 = b }) comp v) else refused 9
 
 abbrev pub written_as : Config → Bool → AssocNo → Option ℕ → Option Comp → List ℕ → Told
-written_as c there a (Some b) (Some comp) word = if there then valued_as c a b comp (shape_at comp word) else tolds.Refused 5
-written_as c there a _ _ word = tolds.Refused 3
+written_as c there a (Some b) (Some comp) word = if there then valued_as c a b comp (shape_at comp word) else refused 5
+written_as c there a _ _ word = refused 3
 
 abbrev pub lost_as : Config → Bool → AssocNo → Told
-lost_as c there a = if there then turn_of c a.0 (steps.Lost a) else tolds.Refused 5
+lost_as c there a = if there then turn_of c a.0 (steps.Lost a) else refused 5
 
 abbrev pub set_to : Config → Option (List Setting) → Told
-set_to c None = tolds.Refused 4
+set_to c None = refused 4
 set_to c (Some settings) = turn_of c 0 (steps.Value settings)
 
 abbrev pub set_as : Config → List Pair → Told
-set_as c pairs = if are_named c pairs then set_to c (settings_at c pairs) else tolds.Refused 3
+set_as c pairs = if are_named c pairs then set_to c (settings_at c pairs) else refused 3
 
 -- a line, where the association that it names is open or isn't; none is one of MMS or of a stream, and there is no control
 unfoldable pub told_of : Config → Bool → RecLine → Told
-told_of c there lines.Skip = tolds.Skip
-told_of c there (lines.At moment) = tolds.At moment
+told_of c there lines.Skip = skip
+told_of c there (lines.At moment) = pass_to moment
 told_of c there (lines.Open a form) = opened_as c there a form
 told_of c there (lines.Write a block comp value) = written_as c there a (number_in (block_references c) block) (component_at comp) value
-told_of c there (lines.Pdu a hex) = tolds.Refused 5
-told_of c there (lines.Piece a hex) = tolds.Refused 5
+told_of c there (lines.Pdu a hex) = refused 5
+told_of c there (lines.Piece a hex) = refused 5
 told_of c there (lines.Take a) = turn_of c a.0 (steps.Take a)
 told_of c there (lines.Lost a) = lost_as c there a
 told_of c there (lines.Set pairs) = set_as c pairs
-told_of c there (lines.Done control well) = tolds.Refused 3
-told_of c there (lines.Block control on) = tolds.Refused 3
+told_of c there (lines.Done control well) = refused 3
+told_of c there (lines.Block control on) = refused 3
 told_of c there lines.Tick = turn_of c 0 steps.Tick
-told_of c there lines.End = tolds.End
+told_of c there lines.End = last

@@ -12,8 +12,7 @@ use Rattle.replay_run.specs.Resolved.{association_of, told_of}
 use Rattle.replay_run.specs.Texts.{answer_lines}
 use Rattle.replay_run.specs.Moves.{Move, goes, stops, playing}
 use Rattle.replay_run.specs.declared.status.Status.TheVariants as statuses
-use Rattle.replay_run.specs.declared.told.Told.{Told}
-use Rattle.replay_run.specs.declared.told.Told.TheVariants as tolds
+use Rattle.replay_run.specs.Told.{Told, skip, pass_to, turn, refused, last}
 
 -- a step that is refused is one of an association that is open already, or isn't
 abbrev pub accepted : ℕ → Config → Played → Turn → Option Fault → Move
@@ -21,11 +20,11 @@ accepted number c s t None = goes (playing c (with_turn s t)) (answer_lines c t.
 accepted number c s t (Some fault) = stops (statuses.Record number 5) []
 
 unfoldable pub played : ℕ → Config → Played → Told → Move
-played number c s tolds.Skip = goes (playing c s) []
-played number c s (tolds.At moment) = goes (playing c (at_moment s moment)) []
-played number c s (tolds.Turn actor step) = accepted number c s (turn_at s actor.0 step) (fault (configured_model c) s.turns (turn_at s actor.0 step))
-played number c s (tolds.Refused kind) = stops (statuses.Record number kind) []
-played number c s tolds.End = stops statuses.Ok (codes "end\n")
+played number c s skip = goes (playing c s) []
+played number c s (pass_to moment) = goes (playing c (at_moment s moment)) []
+played number c s (turn actor step) = accepted number c s (turn_at s actor step) (fault (configured_model c) s.turns (turn_at s actor step))
+played number c s (refused kind) = stops (statuses.Record number kind) []
+played number c s last = stops statuses.Ok (codes "end\n")
 
 abbrev pub told_at : ℕ → Config → Played → Result RecLine Kind → Move
 told_at number c s (Err kind) = stops (statuses.Record number (number_of kind)) []

@@ -5,7 +5,6 @@
 mod components;
 mod settings;
 mod shapes;
-mod told;
 
 // the lines of a record, and its octets
 mod openings;
@@ -17,6 +16,7 @@ mod scan;
 mod session;
 mod stage;
 mod starting;
+mod stop;
 mod text;
 
 // a configuration alone

@@ -1,28 +1,25 @@
 //! The steps of a record, played on a bay.
 
 ghost use Rattle.std.specs.Prelude.{◌≡◌, ◌≢◌, OnOk};
-ghost use Rattle.run_record.specs.Seen.{line_seen};
-ghost use Rattle.replay_run.specs.Resolved.{association_of};
+ghost use Rattle.replay_run.specs.Resolved.{is_built as is_built_component};
 
+use crate::components::component_of;
+use crate::settings::{Found, settings_of};
+use crate::shapes::shape;
 use crate::status::Status;
+use crate::stop::{Stop, status_of};
 use crate::text::push_answer;
-use crate::told::{Told, tell};
 use bay_core::{Bay, StepFault};
-use bay_model::Step;
-use run_record::{LineView, view_line};
+use bay_model::{Comp, Sets, Setting, Step};
+use run_record::{LineView, OpenForm, PairsView, view_line};
 use std::alloc::{AllocError, Global};
-use sv_base::{ActorNo, Moment};
+use sv_base::{ActorNo, AssocNo, BlockNo, Moment};
 
-/// The association that a line names, else 0.
-fn association(line: &LineView<'_>) -> u32
-    ensures { result ≡ association_of (line_seen line.now) }
+/// The component is one whose writes are built.
+fn is_built(comp: Comp) -> bool
+    ensures { result ≡ is_built_component comp }
 {
-    match line {
-        LineView::Open { a, .. } | LineView::Write { a, .. } => a.0,
-        LineView::Pdu(a, _) | LineView::Piece(a, _) => a.0,
-        LineView::Take(a) | LineView::Lost(a) => a.0,
-        _ => 0,
-    }
+    matches!(comp, Comp::RptEna | Comp::EntryID | Comp::PurgeBuf)
 }
 
 /// A step is refused, unless memory is wanted.
@@ -44,15 +41,19 @@ pub struct Playing {
 }
 
 impl Playing {
-    ghost use Rattle.std.specs.Prelude.{◌≡◌, ◌≤◌, ◌<◌, ◌^◌, suc, true, false, [], IfOk, IfSome, IfNone, OnOk, slice_index_or, if◌then◌else◌};
-    ghost use Rattle.run_record.specs.Seen.{line_seen};
+    ghost use Rattle.std.specs.Prelude.{◌≡◌, ◌≤◌, ◌<◌, ◌^◌, suc, true, false, [], IfOk, IfSome, IfNone, OnOk, slice_index_or};
+    ghost use Rattle.run_record.specs.Seen.{line_seen, pairs_seen};
     ghost use Rattle.object_model.specs.Fits.{fits};
+    ghost use Rattle.object_model.specs.Numbers.{number_in};
+    ghost use Rattle.object_model.specs.References.{block_references};
     ghost use Rattle.bay_core.specs.Standing.{StandsFor};
     ghost use Rattle.bay_core.specs.Turns.{IsBuilt};
+    ghost use Rattle.replay_run.specs.Components.{component_at};
+    ghost use Rattle.replay_run.specs.Shapes.{shape_at};
+    ghost use Rattle.replay_run.specs.Resolved.{association_of, turn_of, opened_as, valued_as, written_as, lost_as, set_as, told_of};
     ghost use Rattle.replay_run.specs.Played.{Played, start};
-    ghost use Rattle.replay_run.specs.Steps.{played, step_at};
-    ghost use Rattle.replay_run.specs.Plays.{Plays, PlaysOn, flags_after, Makes};
-    ghost use Rattle.replay_run.specs.Turns.{IsTurnOf};
+    ghost use Rattle.replay_run.specs.Steps.{step_at};
+    ghost use Rattle.replay_run.specs.Plays.{Plays, PlaysOn, PlaysTold, flags_after, Makes};
     ghost use Rattle.replay_run.specs.Tool.{IsJudgement};
 
     /// A bay before its first step.
@@ -68,11 +69,11 @@ impl Playing {
         }
     }
 
-    /// Whether the association that a line names is open.
-    fn is_open(&self, line: &LineView<'_>) -> bool
-        ensures { result ≡ slice_index_or self.now.opened (association_of (line_seen line.now)) false }
+    /// Whether an association is open.
+    fn is_open(&self, a: AssocNo) -> bool
+        ensures { result ≡ slice_index_or self.now.opened a.0 false }
     {
-        match self.opened.get(association(line) as usize) {
+        match self.opened.get(a.0 as usize) {
             Some(there) => *there,
             None => false,
         }
@@ -109,6 +110,7 @@ impl Playing {
             Ok(answer) => {
                 self.note(step);
                 push_answer(out, self.bay.model(), actor, &answer)?;
+                self.bay.reuse(answer);
                 Ok(true)
             }
             Err(fault) => {
@@ -118,44 +120,192 @@ impl Playing {
         }
     }
 
-    /// Does what a line tells.
-    #[tactic(auto, unfolding(crate::specs::Steps::played))]
+    /// Makes a step, if it fits the configuration, and writes the answer to it.
+    fn make_fitting(
+        &mut self,
+        alloc: Global,
+        out: &mut Vec<u8>,
+        actor: ActorNo,
+        step: &Step,
+    ) -> Result<Option<Stop>, AllocError>
+        requires built { IsBuilt step.now }
+        requires few { self.old.bay.steps < 2 ^ 62 }
+        ensures plays { IfOk result (λ s. PlaysTold s self.old self.new (turn_of self.old.bay.config actor.0 step.now) out.old.items out.new.items) }
+        ensures few { IfOk result (λ s. IfNone s (self.new.bay.steps ≤ suc self.old.bay.steps)) }
+    {
+        if !self.bay.model().fits(step) {
+            return Ok(Some(Stop::Refused(4)));
+        }
+        if self.make(alloc, out, actor, step)? {
+            Ok(None)
+        } else {
+            Ok(Some(Stop::Refused(5)))
+        }
+    }
+
+    /// Does the same with a step of its own.
+    #[inline(always)] // so that the step is made where it stays
+    fn turn(
+        &mut self,
+        alloc: Global,
+        out: &mut Vec<u8>,
+        actor: ActorNo,
+        step: Step,
+    ) -> Result<Option<Stop>, AllocError>
+        requires built { IsBuilt step }
+        requires few { self.old.bay.steps < 2 ^ 62 }
+        ensures plays { IfOk result (λ s. PlaysTold s self.old self.new (turn_of self.old.bay.config actor.0 step) out.old.items out.new.items) }
+        ensures few { IfOk result (λ s. IfNone s (self.new.bay.steps ≤ suc self.old.bay.steps)) }
+    {
+        self.make_fitting(alloc, out, actor, &step)
+    }
+
+    fn open(
+        &mut self,
+        alloc: Global,
+        out: &mut Vec<u8>,
+        a: AssocNo,
+        form: OpenForm,
+    ) -> Result<Option<Stop>, AllocError>
+        requires few { self.old.bay.steps < 2 ^ 62 }
+        ensures plays { IfOk result (λ s. PlaysTold s self.old self.new (opened_as self.old.bay.config (slice_index_or self.old.opened a.0 false) a form) out.old.items out.new.items) }
+        ensures few { IfOk result (λ s. IfNone s (self.new.bay.steps ≤ suc self.old.bay.steps)) }
+    {
+        if self.is_open(a) {
+            return Ok(Some(Stop::Refused(5)));
+        }
+        match form {
+            OpenForm::Direct => {
+                let writer = ActorNo(a.0);
+                let size = 65000;
+                self.turn(alloc, out, writer, Step::Open { a, size, writer })
+            }
+            OpenForm::Mms(_) => Ok(Some(Stop::Refused(9))),
+            OpenForm::Wire => Ok(Some(Stop::Refused(9))),
+        }
+    }
+
+    /// Writes a component, by the text of its value.
+    fn write_text(
+        &mut self,
+        alloc: Global,
+        out: &mut Vec<u8>,
+        a: AssocNo,
+        block: BlockNo,
+        comp: Comp,
+        word: &[u8],
+    ) -> Result<Option<Stop>, AllocError>
+        requires few { self.old.bay.steps < 2 ^ 62 }
+        ensures plays { IfOk result (λ s. PlaysTold s self.old self.new (valued_as self.old.bay.config a block.0 comp (shape_at comp word.now)) out.old.items out.new.items) }
+        ensures few { IfOk result (λ s. IfNone s (self.new.bay.steps ≤ suc self.old.bay.steps)) }
+    {
+        let Some(value) = shape(alloc, comp, word)? else {
+            return Ok(Some(Stop::Refused(4)));
+        };
+        if is_built(comp) {
+            self.turn(alloc, out, ActorNo(a.0), Step::Write(a, block, comp, value))
+        } else {
+            Ok(Some(Stop::Refused(9)))
+        }
+    }
+
+    fn write(
+        &mut self,
+        alloc: Global,
+        out: &mut Vec<u8>,
+        a: AssocNo,
+        block: &[u8],
+        comp: &[u8],
+        value: &[u8],
+    ) -> Result<Option<Stop>, AllocError>
+        requires few { self.old.bay.steps < 2 ^ 62 }
+        ensures plays { IfOk result (λ s. PlaysTold s self.old self.new (written_as self.old.bay.config (slice_index_or self.old.opened a.0 false) a (number_in (block_references self.old.bay.config) block.now) (component_at comp.now) value.now) out.old.items out.new.items) }
+        ensures few { IfOk result (λ s. IfNone s (self.new.bay.steps ≤ suc self.old.bay.steps)) }
+    {
+        let Some(block) = self.bay.model().block(block) else {
+            return Ok(Some(Stop::Refused(3)));
+        };
+        let Some(comp) = component_of(comp) else {
+            return Ok(Some(Stop::Refused(3)));
+        };
+        if self.is_open(a) {
+            self.write_text(alloc, out, a, block, comp, value)
+        } else {
+            Ok(Some(Stop::Refused(5)))
+        }
+    }
+
+    fn lose(
+        &mut self,
+        alloc: Global,
+        out: &mut Vec<u8>,
+        a: AssocNo,
+    ) -> Result<Option<Stop>, AllocError>
+        requires few { self.old.bay.steps < 2 ^ 62 }
+        ensures plays { IfOk result (λ s. PlaysTold s self.old self.new (lost_as self.old.bay.config (slice_index_or self.old.opened a.0 false) a) out.old.items out.new.items) }
+        ensures few { IfOk result (λ s. IfNone s (self.new.bay.steps ≤ suc self.old.bay.steps)) }
+    {
+        if self.is_open(a) {
+            self.turn(alloc, out, ActorNo(a.0), Step::Lost(a))
+        } else {
+            Ok(Some(Stop::Refused(5)))
+        }
+    }
+
+    fn set(
+        &mut self,
+        alloc: Global,
+        out: &mut Vec<u8>,
+        pairs: &PairsView<'_>,
+    ) -> Result<Option<Stop>, AllocError>
+        requires few { self.old.bay.steps < 2 ^ 62 }
+        ensures plays { IfOk result (λ s. PlaysTold s self.old self.new (set_as self.old.bay.config (pairs_seen pairs.now)) out.old.items out.new.items) }
+        ensures few { IfOk result (λ s. IfNone s (self.new.bay.steps ≤ suc self.old.bay.steps)) }
+    {
+        match settings_of(alloc, self.bay.model(), pairs)? {
+            Found::Settings(settings) => {
+                let step = Step::Value(Sets::from_vec(settings));
+                self.turn(alloc, out, ActorNo(0), step)
+            }
+            Found::Unnamed => Ok(Some(Stop::Refused(3))),
+            Found::Unspelled => Ok(Some(Stop::Refused(4))),
+        }
+    }
+
+    /// Does what a line tells, and writes the answer to it; or gives why the reading stops.
+    #[tactic(auto, unfolding(crate::specs::Resolved::told_of, crate::specs::Steps::played))]
     fn play(
         &mut self,
         alloc: Global,
         out: &mut Vec<u8>,
-        number: u64,
-        told: &Told,
-    ) -> Result<Option<Status>, AllocError>
-        requires turn { IsTurnOf self.old.bay.config told.now }
+        line: &LineView<'_>,
+    ) -> Result<Option<Stop>, AllocError>
         requires few { self.old.bay.steps < 2 ^ 62 }
-        ensures plays { IfOk result (λ s. PlaysOn s self.old self.new (λ c p. played number c p told.now) out.old.items out.new.items) }
-        ensures judged { IfOk result (λ s. IfSome s IsJudgement) }
+        ensures plays { IfOk result (λ s. PlaysTold s self.old self.new (told_of self.old.bay.config (slice_index_or self.old.opened (association_of (line_seen line.now)) false) (line_seen line.now)) out.old.items out.new.items) }
         ensures few { IfOk result (λ s. IfNone s (self.new.bay.steps ≤ suc self.old.bay.steps)) }
     {
-        match told {
-            Told::Skip => Ok(None),
-            Told::At(moment) => {
+        match line {
+            LineView::Skip => Ok(None),
+            LineView::At(moment) => {
                 self.moment = *moment;
                 Ok(None)
             }
-            Told::Turn(actor, step) => {
-                if self.make(alloc, out, *actor, step)? {
-                    Ok(None)
-                } else {
-                    Ok(Some(Status::Record {
-                        line: number,
-                        kind: 5,
-                    }))
-                }
-            }
-            Told::Refused(kind) => Ok(Some(Status::Record {
-                line: number,
-                kind: *kind,
-            })),
-            Told::End => {
+            LineView::Open { a, form } => self.open(alloc, out, *a, *form),
+            LineView::Write {
+                a,
+                block,
+                comp,
+                value,
+            } => self.write(alloc, out, *a, block, comp, value),
+            LineView::Pdu(..) | LineView::Piece(..) => Ok(Some(Stop::Refused(5))),
+            LineView::Take(a) => self.turn(alloc, out, ActorNo(a.0), Step::Take(*a)),
+            LineView::Lost(a) => self.lose(alloc, out, *a),
+            LineView::Set(pairs) => self.set(alloc, out, pairs),
+            LineView::Done(..) | LineView::Block(..) => Ok(Some(Stop::Refused(3))),
+            LineView::Tick => self.turn(alloc, out, ActorNo(0), Step::Tick),
+            LineView::End => {
                 out.extend_from_slice(b"end\n")?;
-                Ok(Some(Status::Ok))
+                Ok(Some(Stop::End))
             }
         }
     }
@@ -174,17 +324,15 @@ impl Playing {
         ensures judged { IfOk result (λ s. IfSome s IsJudgement) }
         ensures few { IfOk result (λ s. IfNone s (self.new.bay.steps ≤ suc self.old.bay.steps)) }
     {
-        let line = match view_line(line) {
-            Ok(line) => line,
-            Err(kind) => {
-                return Ok(Some(Status::Record {
-                    line: number,
-                    kind: kind.number(),
-                }));
+        match view_line(line) {
+            Ok(line) => {
+                let stop = self.play(alloc, out, &line)?;
+                Ok(status_of(stop, number))
             }
-        };
-        let there = self.is_open(&line);
-        let told = tell(alloc, self.bay.model(), there, &line)?;
-        self.play(alloc, out, number, &told)
+            Err(kind) => Ok(Some(Status::Record {
+                line: number,
+                kind: kind.number(),
+            })),
+        }
     }
 }

@@ -3,7 +3,7 @@
 ghost use Rattle.std.specs.Prelude.{◌≡◌, IfOk};
 ghost use Rattle.run_record.specs.Seen.{pairs_seen};
 ghost use Rattle.replay_run.specs.Settings.{typed_at};
-ghost use Rattle.replay_run.specs.Turns.{AreFound};
+ghost use Rattle.replay_run.specs.Found.{AreFound};
 
 use bay_model::Setting;
 use object_model::Model;

@@ -1,4 +1,4 @@
-use Rattle.std.proofs.Common.{◌≡◌, ◌≤◌, ◌<◌, ◌-◌, ℕ, List, length}
+use Rattle.std.proofs.Common.{◌≤◌, ◌<◌, ◌-◌, ℕ, List, length}
 use Rattle.std.specs.Prelude.{Option}
 use Rattle.replay_run.specs.Runs.{IsReady, Run}
 use Rattle.replay_run.proofs.tool.run.Given as goal

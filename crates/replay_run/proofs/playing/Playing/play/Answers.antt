@@ -1,19 +1,19 @@
-use Rattle.std.proofs.Common.{sym, subst}
-use Rattle.std.specs.Prelude.{None, Some}
-use Rattle.replay_run.specs.Steps.{played}
-use Rattle.replay_run.specs.Plays.{PlaysOn, Makes}
-use Rattle.replay_run.specs.declared.status.Status.TheVariants as statuses
-use Rattle.replay_run.proofs.PlayLaws.{plays-made, plays-unmade}
+use Rattle.std.proofs.Common.{false, slice_index_or, sym, subst}
+use Rattle.std.specs.Prelude.{IfOk}
+use Rattle.run_record.specs.Seen.{line_seen}
+use Rattle.run_record.specs.declared.view.LineView.{LineView}
+use Rattle.replay_run.specs.Resolved.{association_of, told_of}
+use Rattle.replay_run.specs.Plays.{PlaysTold}
 use Rattle.replay_run.proofs.playing.Playing.play.Goals as goal
 
-pub returns-then-branch-clause-plays : goal.returns-then-branch-clause-plays
-returns-then-branch-clause-plays c =
-    subst (λ t. PlaysOn None c.args.self.now c.make.new.self (λ k s. played c.args.number k s t) c.args.out.now.items c.make.new.out.items) (sym c.in-Turn.is)
-    (plays-made c.args.self.now c.make.new.self c.args.number c.in-Turn.actor c.in-Turn.step c.args.out.now.items c.make.new.out.items
-    (subst (λ b. Makes b c.args.self.now c.make.new.self c.in-Turn.actor.0 c.in-Turn.step c.args.out.now.items c.make.new.out.items) c.if-branch.true c.in_ok-make-in-Turn.ensures.makes))
+pub returns-in-Write-clause-plays : goal.returns-in-Write-clause-plays
+unfolding told_of
+returns-in-Write-clause-plays c =
+    subst (λ (l : LineView). IfOk c.write.result (λ s. PlaysTold s c.args.self.now c.write.new.self (told_of c.args.self.now.bay.config (slice_index_or c.args.self.now.opened (association_of (line_seen l)) false) (line_seen l)) c.args.out.now.items c.write.new.out.items))
+    (sym c.in-Write.is) c.write.ensures.plays
 
-pub returns-else-branch-clause-plays : goal.returns-else-branch-clause-plays
-returns-else-branch-clause-plays c =
-    subst (λ t. PlaysOn (Some (statuses.Record c.args.number 5)) c.args.self.now c.make.new.self (λ k s. played c.args.number k s t) c.args.out.now.items c.make.new.out.items) (sym c.in-Turn.is)
-    (plays-unmade c.args.self.now c.make.new.self c.args.number c.in-Turn.actor c.in-Turn.step c.args.out.now.items c.make.new.out.items
-    (subst (λ b. Makes b c.args.self.now c.make.new.self c.in-Turn.actor.0 c.in-Turn.step c.args.out.now.items c.make.new.out.items) c.if-branch.false c.in_ok-make-in-Turn.ensures.makes))
+pub returns-in-Tick-clause-plays : goal.returns-in-Tick-clause-plays
+unfolding told_of
+returns-in-Tick-clause-plays c =
+    subst (λ (l : LineView). IfOk c.turn-in-Tick.result (λ s. PlaysTold s c.args.self.now c.turn-in-Tick.new.self (told_of c.args.self.now.bay.config (slice_index_or c.args.self.now.opened (association_of (line_seen l)) false) (line_seen l)) c.args.out.now.items c.turn-in-Tick.new.out.items))
+    (sym c.in-Tick.is) c.turn-in-Tick.ensures.plays

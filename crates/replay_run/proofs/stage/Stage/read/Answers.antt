@@ -1,9 +1,7 @@
-use Rattle.std.proofs.Common.{◌≡◌, ◌≤◌, suc, true, false, refl, sym, subst, ◌∙◌, rules}
+use Rattle.std.proofs.Common.{◌≡◌, ◌≤◌, suc, true, false, refl, sym, subst, rules}
 use Rattle.std.specs.Prelude.{codes, IfNone}
 use Rattle.std.specs.Str.{bytes_eq}
 use Rattle.std.proofs.lemmas.Result.{IfOk-weaker}
-use Rattle.cfg_text.specs.Looking.{config_at}
-use Rattle.replay_run.specs.Openings.{started}
 use Rattle.replay_run.specs.Sessions.{steps_in}
 use Rattle.replay_run.specs.declared.stage.Stage.TheVariants as stages
 use Rattle.replay_run.proofs.StageLaws.{on-opening, on-gathered, on-started, on-playing, few-none}
