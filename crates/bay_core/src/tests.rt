@@ -113,7 +113,7 @@ fn two_steps(bay: &mut Bay, alloc: Global) -> Result<(), StepFault>
     step_and_reuse(bay, alloc, &Step::Take(AssocNo(1)))
 }
 
-/// That bay in a box.
+/// A bay with two blocks, in a box.
 fn boxed_bay(alloc: Global) -> Result<Box<Bay>, AllocError>
     ensures { IfOk result (λ b. b.value.steps ≡ 0) }
 {
