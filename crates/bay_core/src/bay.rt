@@ -56,8 +56,8 @@ impl Bay {
         &self.model
     }
 
-    /// Takes back an answer that is no longer needed: the next report is written in its room, so that it takes memory only
-    /// where it is longer. Nothing else depends on it.
+    /// Takes back an answer that is no longer needed: the next report is written in its room, as far as that goes. Nothing
+    /// else depends on it.
     pub fn reuse(&mut self, answer: Answer)
         ensures { self.new ≡ self.old }
     {
