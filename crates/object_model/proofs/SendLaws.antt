@@ -84,4 +84,4 @@ tables_field_send : IsSend Tables.the_field.row
 tables_field_send = search (kind_send, node_table_send, index_field_send, directory_send, name_send, set_table.the_send, flags.the_send, crosses, sendable) depth 60
 
 pub model_send : IsSend Model.the_row
-model_send = search (config_field_send, tables_field_send, index_field_send, sendable) depth 60
+model_send = search (config_field_send, tables_field_send, index_field_send, octs.the_send, crosses, sendable) depth 60

@@ -84,4 +84,4 @@ tables_field_sync : IsSync Tables.the_field.row
 tables_field_sync = search (kind_sync, node_table_sync, index_field_sync, directory_sync, name_sync, set_table.the_sync, flags.the_sync, crosses, sendable) depth 60
 
 pub model_sync : IsSync Model.the_row
-model_sync = search (config_field_sync, tables_field_sync, index_field_sync, sendable) depth 60
+model_sync = search (config_field_sync, tables_field_sync, index_field_sync, octs.the_sync, crosses, sendable) depth 60

@@ -1,4 +1,5 @@
 pub mod Groups
+pub mod Hashing
 pub mod Grown
 pub mod Nodes
 pub mod Listed

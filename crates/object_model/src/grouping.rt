@@ -7,10 +7,11 @@ ghost use Rattle.object_model.specs.Groups.{groups as groups_in, group_name, put
 ghost use Rattle.object_model.specs.Numbers.{number_in};
 
 use crate::growing::{Cut, Group, below, name_of, push_into};
-use crate::index::add;
+use crate::index::{Numbers, add};
 use crate::numbers::count;
 use indexmap::IndexMap;
 use std::alloc::{AllocError, Global};
+use std::hash::BuildHasherDefault;
 
 fn push_group<'a>(
     alloc: Global,
@@ -29,7 +30,7 @@ fn push_group<'a>(
 /// Adds what stands below a name to its group, by the places of the names.
 fn put<'a>(
     alloc: Global,
-    places: &mut IndexMap<Vec<u8>, u32>,
+    places: &mut Numbers,
     groups: &mut Vec<Group<'a>>,
     name: &'a [u8],
     cut: Cut<'a>,
@@ -56,7 +57,7 @@ fn put<'a>(
 /// Adds what is named to its group; the name itself has none.
 fn put_cut<'a>(
     alloc: Global,
-    places: &mut IndexMap<Vec<u8>, u32>,
+    places: &mut Numbers,
     groups: &mut Vec<Group<'a>>,
     cut: &Cut<'a>,
 ) -> Result<(), AllocError>
@@ -74,7 +75,7 @@ fn put_cut<'a>(
 pub fn groups<'a>(alloc: Global, cuts: &[Cut<'a>]) -> Result<Vec<Group<'a>>, AllocError>
     ensures { IfOk result (λ v. v.items ≡ groups_in cuts.now) }
 {
-    let mut places = IndexMap::new(alloc);
+    let mut places = IndexMap::with_hasher(alloc, BuildHasherDefault::new());
     let mut groups = Vec::new(alloc);
     for cut in cuts {
         put_cut(alloc, &mut places, &mut groups, cut)?;

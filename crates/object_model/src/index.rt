@@ -5,24 +5,24 @@ ghost use Rattle.std.specs.Str.{bytes_eq};
 ghost use Rattle.indexmap.specs.IndexMap.{get_by};
 ghost use Rattle.object_model.specs.Numbers.{number_or};
 
+use crate::hashing::NameHasher;
 use crate::numbers::plus;
 use indexmap::IndexMap;
 use std::alloc::{AllocError, Global};
+use std::hash::BuildHasherDefault;
 use sv_base::Octs;
+
+/// Numbers by name.
+pub type Numbers = IndexMap<Vec<u8>, u32, BuildHasherDefault<NameHasher>>;
 
 /// Names, each with its number: its place in a list, of two that are the same the first one's.
 #[derive(Drop)]
 pub struct Index {
-    numbers: IndexMap<Vec<u8>, u32>,
+    numbers: Numbers,
 }
 
 /// Gives a name a number, where it has none.
-pub fn add(
-    alloc: Global,
-    numbers: &mut IndexMap<Vec<u8>, u32>,
-    name: &[u8],
-    number: u32,
-) -> Result<(), AllocError>
+pub fn add(alloc: Global, numbers: &mut Numbers, name: &[u8], number: u32) -> Result<(), AllocError>
     ensures { OnOk result ((other : List ℕ) → get_by (λ k. bytes_eq other k.items) numbers.new ≡ number_or (get_by (λ k. bytes_eq other k.items) numbers.old) (bytes_eq other name.now) number) }
 {
     if numbers.contains_key(name) {
@@ -41,7 +41,7 @@ impl Index {
     pub fn from(alloc: Global, first: u32, names: &[Octs]) -> Result<Self, AllocError>
         ensures { IfOk result (λ index. IndexesFrom index first names.now) }
     {
-        let mut numbers = IndexMap::new(alloc);
+        let mut numbers = IndexMap::with_hasher(alloc, BuildHasherDefault::new());
         let mut number = first;
         for name in names {
             add(alloc, &mut numbers, name.as_slice(), number)?;

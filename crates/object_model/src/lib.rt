@@ -14,6 +14,7 @@ mod nodes;
 // the references of numbered parts, and what finds a number
 mod copies;
 mod fitting;
+mod hashing;
 mod index;
 mod laws;
 mod model;

@@ -7,13 +7,14 @@ use crate::references::{attr_references, block_references, control_references};
 use crate::tables::Tables;
 use bay_model::{Flags, Names, NodeTable, SetTable, Step};
 use std::alloc::{AllocError, Global};
-use sv_base::{AttrId, BlockNo, Config, CtlNo, NodeId, TypeOf};
+use sv_base::{AttrId, BlockNo, Config, CtlNo, NodeId, Octs, TypeOf};
 
 /// What a configuration names (IEC 61850-7-2, the information model), with its nodes, attributes, blocks and controls by
 /// their numbers. Contracts see it as its configuration.
 #[derive(Drop)]
 pub struct Model {
     config: Config,
+    references: Vec<Octs>,
     blocks: Index,
     controls: Index,
     attrs: Index,
@@ -33,6 +34,7 @@ impl std::marker::Model for Model {
 
     ghost view = { λ m. m.config };
 
+    ghost use Rattle.std.specs.Prelude.{◌≡◌};
     ghost use Rattle.object_model.specs.Indexes.{Indexes};
     ghost use Rattle.object_model.specs.References.{block_references, control_references, attr_references};
     ghost use Rattle.std.specs.List.{All};
@@ -40,11 +42,11 @@ impl std::marker::Model for Model {
     ghost use Rattle.bay_model.specs.Slots.{IsSettable};
     ghost use Rattle.object_model.specs.Tables.{IsTables};
 
-    ghost invariant = { λ m. Indexes m.blocks (block_references m.config) × Indexes m.controls (control_references m.config) × Indexes m.attrs (attr_references m.config) × IsTables m.config m.tables × All (λ (a : AttrDef). IsSettable a.kind) m.config.attrs };
+    ghost invariant = { λ m. Indexes m.blocks (block_references m.config) × Indexes m.controls (control_references m.config) × Indexes m.attrs (attr_references m.config) × IsTables m.config m.tables × All (λ (a : AttrDef). IsSettable a.kind) m.config.attrs × (m.references.items ≡ block_references m.config) };
 }
 
 impl Model {
-    ghost use Rattle.std.specs.Prelude.{◌≡◌, ◌<◌, length, map, IfOk, option_map};
+    ghost use Rattle.std.specs.Prelude.{◌≡◌, ◌<◌, length, map, slice_get, IfOk, option_map};
     ghost use Rattle.bay_model.specs.Lookups.{node_of, attr_of};
     ghost use Rattle.bay_model.specs.Attributes.{attributes};
     ghost use Rattle.bay_model.specs.Named.{configured_model, nodes as nodes_of};
@@ -63,12 +65,14 @@ impl Model {
         requires { All (λ (a : AttrLine). IsSettable a.kind) config.attrs }
         ensures { IfOk result (λ m. m ≡ config) }
     {
-        let blocks = Index::of(alloc, &block_references(alloc, &config)?)?;
+        let references = block_references(alloc, &config)?;
+        let blocks = Index::of(alloc, &references)?;
         let controls = Index::of(alloc, &control_references(alloc, &config)?)?;
         let attrs = Index::of(alloc, &attr_references(alloc, &config)?)?;
         let tables = Tables::of(alloc, &config)?;
         Ok(Model {
             config,
+            references,
             blocks,
             controls,
             attrs,
@@ -87,7 +91,8 @@ impl Model {
 
     /// The configuration.
     pub fn config(&self) -> &Config
-        ensures { result.now ≡ self.now }
+        ensures same { result.now ≡ self.now }
+        ensures types { All (λ (a : AttrLine). IsSettable a.kind) self.now.attrs }
     {
         &self.config
     }
@@ -97,6 +102,15 @@ impl Model {
         ensures { option_map (λ b. b.0) result ≡ number_in (blocks_of self.now) reference.now }
     {
         self.blocks.number_of(reference).map(BlockNo)
+    }
+
+    /// The reference of a report block; none exactly where the block is not there.
+    pub fn reference_of(&self, block: BlockNo) -> Option<&[u8]>
+        ensures { option_map (λ r. r.now) result ≡ slice_get (blocks_of self.now) block.0 }
+    {
+        self.references
+            .get(block.0 as usize)
+            .map(|reference| reference.as_slice())
     }
 
     /// The control of a reference `LD/LN$CO$DO`; none exactly where it is not there.
