@@ -1,5 +1,7 @@
 pub mod WordLaws
 pub mod SeenLaws
+pub mod SpaceLaws
+pub mod OctetLaws
 pub mod ReadLaws
 pub mod ToldLaws
 pub mod WrittenLaws

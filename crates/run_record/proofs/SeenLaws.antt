@@ -1,9 +1,9 @@
 -- The words of a text that is read in place.
-use Rattle.std.proofs.Common.{◌≡◌, ℕ, ◌+◌, ◌-◌, ◌%◌, nat_lt, Bool, true, false, not, ◌||◌, ◌&&◌, ◌==◌, cond, List, [], ◌∷◌, ◌++◌, length, drop, get_or, refl, sym, ap, subst, ◌∙◌, arith}
-use Rattle.std.specs.Prelude.{Option, Some, None, Result}
+use Rattle.std.proofs.Common.{◌≡◌, ℕ, ◌+◌, ◌%◌, nat_lt, Bool, true, false, not, ◌||◌, ◌&&◌, ◌==◌, cond, List, [], ◌∷◌, ◌++◌, length, refl, sym, ap, ◌∙◌, arith}
+use Rattle.std.specs.Prelude.{Option, Some, None, Result, Err}
 use Rattle.std.specs.Option.{is_some}
 use Rattle.std.specs.Borrow.{Bor}
-use Rattle.std.proofs.Math.ListN.{drop_of_length-le}
+use Rattle.std.proofs.lemmas.Bool.{cond-true}
 use Rattle.std.proofs.lemmas.Bool.Decides.{nat_tests}
 use Rattle.std.specs.List.{All, list_any, onto_first, count_by}
 use Rattle.std.proofs.lemmas.List.Splits.{slice_split_at, slice_split_none, length-slice_split}
@@ -11,8 +11,10 @@ use Rattle.cfg_text.specs.Words.{words_of}
 use Rattle.cfg_text.specs.Numbers.{number_within}
 use Rattle.cfg_text.specs.Values.{truth_at}
 use Rattle.run_record.specs.Contents.{numbered, assoc_at, truth_line, set_at, content_at}
+use Rattle.run_record.specs.Judging.{tell_at}
 use Rattle.run_record.specs.Seen.{words_in, one_of, two_of, four_of, just}
 use Rattle.run_record.specs.declared.fault.Kind.{Kind}
+use Rattle.run_record.specs.declared.fault.Kind.TheVariants as kinds
 use Rattle.run_record.specs.declared.keyword.Keyword.TheVariants as keywords
 use Rattle.run_record.specs.declared.line.RecLine.{RecLine}
 use Rattle.run_record.specs.declared.line.RecLine.TheVariants as lines
@@ -62,11 +64,15 @@ told : (text : List ℕ) → Told text
 told [] = (refl, λ x. onto-any x [] [])
 told (b ∷ bs) = told-next b bs (b == 32) refl (told bs)
 
-empty-at : (found : Bool) (text : List ℕ) (i : ℕ) → i ≡ length text → (found || empties (get_or text (i - 1) 0 == 32) (drop i text)) ≡ empties true text → (found || (get_or text (i - 1) 0 == 32)) ≡ list_any is_nothing (words_of text)
-empty-at found text i all is = ap (λ rest. found || empties (get_or text (i - 1) 0 == 32) rest) (sym (drop_of_length-le text (omega (arith, all)))) ∙ (is ∙ sym (told text).0)
+-- a word is empty exactly where a space stands first, last or behind another
+pub empties-told : (text : List ℕ) → list_any is_nothing (words_of text) ≡ empties true text
+empties-told text = (told text).0
 
-pub empty-found : (found : Bool) (text : List ℕ) (i : ℕ) → i ≡ length text → (found || empties (get_or text (i - 1) 0 == 32) (drop i text)) ≡ empties true text → (found || (get_or text (length text - 1) 0 == 32)) ≡ list_any is_nothing (words_of text)
-empty-found found text i all is = subst (λ n. (found || (get_or text (n - 1) 0 == 32)) ≡ list_any is_nothing (words_of text)) all (empty-at found text i all is)
+-- words of which one is empty tell nothing
+pub empty-told : (ws : List (List ℕ)) → list_any is_nothing ws ≡ true → Err kinds.Word ≡ tell_at ws
+unfolding tell_at
+empty-told [] some = refl
+empty-told (w ∷ ws) some = sym (cond-true _ _ _ some)
 
 some-words : (text : List ℕ) → (length (words_of text) == 0) ≡ false
 some-words text = let count = length-slice_split (λ b. b == 32) text in grind (arith, nat_tests)

@@ -2,6 +2,7 @@ pub mod Spelled
 pub mod Grammar
 pub mod Contents
 pub mod Judging
+pub mod Octets
 pub mod Seen
 pub mod Refused
 pub mod Answers

@@ -1,4 +1,5 @@
-ghost use Rattle.std.specs.Prelude.{◌≡◌, ◌∷◌, []};
+ghost use Rattle.std.specs.Prelude.{◌≡◌, ◌==◌, ◌∷◌, [], false, length};
+ghost use Rattle.std.specs.List.{list_any};
 ghost use Rattle.cfg_text.specs.Words.{words_of};
 ghost use Rattle.cfg_text.specs.Numbers.{number_within};
 ghost use Rattle.cfg_text.specs.Values.{truth_at};
@@ -6,13 +7,14 @@ ghost use Rattle.run_record.specs.declared.keyword.Keyword.TheVariants.{Open, Ti
 ghost use Rattle.run_record.specs.declared.line.RecLine.TheVariants.{At, Write, Pdu, Piece, Take, Lost, Done, Block};
 ghost use Rattle.run_record.specs.Contents.{assoc_at, numbered, form_at, set_at as set_line_at, truth_line, content_at};
 ghost use Rattle.run_record.specs.Judging.{Gives, tell_at, is_long as is_long_text, line_at};
+ghost use Rattle.run_record.specs.Octets.{is_clear as is_clear_text};
 ghost use Rattle.run_record.specs.Seen.{words_left, one_of, two_of, four_of, just, seen};
 ghost use Rattle.run_record.specs.Answers.{Answers};
 
 use crate::fault::{Kind, RecFault};
 use crate::keyword::{Keyword, keyword_of};
 use crate::line::{OpenForm, RecLine};
-use crate::octets::has_empty;
+use crate::octets::is_clear;
 use crate::view::{LineView, PairsView};
 use crate::words::Words;
 use cfg_text::{are_printable, is_skipped, number, number_between, truth};
@@ -253,14 +255,12 @@ fn content<'a>(keyword: Keyword, words: Words<'a>) -> Result<LineView<'a>, Kind>
     }
 }
 
-/// What words tell.
+/// What words tell of which none is empty.
 #[tactic(auto, unfolding(crate::specs::Judging::tell_at))]
 fn tell(line: &[u8]) -> Result<LineView<'_>, Kind>
+    requires { list_any (λ w. length w == 0) (words_of line.now) ≡ false }
     ensures { seen result ≡ tell_at (words_of line.now) }
 {
-    if has_empty(line) {
-        return Err(Kind::Word);
-    }
     let mut words = Words::of(line);
     let Some(word) = words.next() else {
         return Err(Kind::Word);
@@ -278,6 +278,21 @@ fn is_long(line: &[u8]) -> bool
     line.len() > 140100 || !are_printable(line)
 }
 
+/// What a line tells that is too long, has an octet that no line has, or has an empty word.
+#[tactic(auto, unfolding(crate::specs::Judging::line_at))]
+fn unclear(line: &[u8]) -> Result<LineView<'_>, Kind>
+    requires { is_clear_text line.now ≡ false }
+    ensures { seen result ≡ line_at line.now }
+{
+    if is_long(line) {
+        Err(Kind::Long)
+    } else if is_skipped(line) {
+        Ok(LineView::Skip)
+    } else {
+        Err(Kind::Word)
+    }
+}
+
 /// What a line of a record tells, without its newline, its words lent. It takes no memory.
 ///
 /// Fails as `read_line` does.
@@ -285,8 +300,8 @@ fn is_long(line: &[u8]) -> bool
 pub fn view_line(line: &[u8]) -> Result<LineView<'_>, Kind>
     ensures told { seen result ≡ line_at line.now }
 {
-    if is_long(line) {
-        return Err(Kind::Long);
+    if !is_clear(line) {
+        return unclear(line);
     }
     if is_skipped(line) {
         return Ok(LineView::Skip);

@@ -1,14 +1,26 @@
 ghost use Rattle.std.specs.Prelude.{◌≡◌, ◌∷◌, ◌++◌, ◌==◌, false, MatchOption};
 ghost use Rattle.std.specs.List.{All};
+ghost use Rattle.memchr.specs.Find.{IsFirstByte, is_byte};
 
 use crate::octets::are_odd;
 use memchr::memchr;
+
+/// The place of the first space. Most words are short, so the first octets are looked at one by one.
+fn first_space(octets: &[u8]) -> Option<usize>
+    ensures { IsFirstByte (is_byte 32) octets.now result }
+{
+    let near = octets.len().min(8);
+    match octets[..near].iter().position(|octet| *octet == b' ') {
+        Some(at) => Some(at),
+        None => Some(near + memchr(b' ', &octets[near..])?),
+    }
+}
 
 /// The octets before the first space, and those after it.
 fn split_word(octets: &[u8]) -> Option<(&[u8], &[u8])>
     ensures cut { MatchOption result (All (λ b. (b == 32) ≡ false) octets.now) (λ r. (octets.now ≡ r.0.now ++ 32 ∷ r.1.now) × All (λ b. (b == 32) ≡ false) r.0.now) }
 {
-    let at = memchr(b' ', octets)?;
+    let at = first_space(octets)?;
     Some((&octets[..at], &octets[at + 1..]))
 }
 

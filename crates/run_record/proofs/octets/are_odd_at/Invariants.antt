@@ -1,0 +1,7 @@
+use Rattle.std.proofs.Common.{◌≡◌, ◌+◌}
+use Rattle.std.specs.List.{slice_range}
+use Rattle.run_record.specs.Octets.{has_odd_spaces}
+use Rattle.run_record.proofs.octets.are_odd_at.Given as goal
+
+abbrev pub invariant-loop-k : goal.invariant-loop-k
+invariant-loop-k g l = l.odd ≡ has_odd_spaces (slice_range l.text l.at (l.at + l.k))
