@@ -1,4 +1,5 @@
 pub mod SettingLaws
+pub mod FitLaws
 pub mod OpenLaws
 pub mod PlayLaws
 pub mod Served

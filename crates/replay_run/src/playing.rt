@@ -120,8 +120,29 @@ impl Playing {
         }
     }
 
-    /// Makes a step, if it fits the configuration, and writes the answer to it.
-    fn make_fitting(
+    /// Makes a step that fits the configuration, and writes the answer to it; or gives why the reading stops.
+    fn perform(
+        &mut self,
+        alloc: Global,
+        out: &mut Vec<u8>,
+        actor: ActorNo,
+        step: &Step,
+    ) -> Result<Option<Stop>, AllocError>
+        requires fits { fits self.old.bay.config step.now ≡ true }
+        requires built { IsBuilt step.now }
+        requires few { self.old.bay.steps < 2 ^ 62 }
+        ensures plays { IfOk result (λ s. PlaysTold s self.old self.new (turn_of self.old.bay.config actor.0 step.now) out.old.items out.new.items) }
+        ensures few { IfOk result (λ s. IfNone s (self.new.bay.steps ≤ suc self.old.bay.steps)) }
+    {
+        if self.make(alloc, out, actor, step)? {
+            Ok(None)
+        } else {
+            Ok(Some(Stop::Refused(5)))
+        }
+    }
+
+    /// Does the same with a step that may not fit.
+    fn perform_if_fitting(
         &mut self,
         alloc: Global,
         out: &mut Vec<u8>,
@@ -133,13 +154,10 @@ impl Playing {
         ensures plays { IfOk result (λ s. PlaysTold s self.old self.new (turn_of self.old.bay.config actor.0 step.now) out.old.items out.new.items) }
         ensures few { IfOk result (λ s. IfNone s (self.new.bay.steps ≤ suc self.old.bay.steps)) }
     {
-        if !self.bay.model().fits(step) {
-            return Ok(Some(Stop::Refused(4)));
-        }
-        if self.make(alloc, out, actor, step)? {
-            Ok(None)
+        if self.bay.model().fits(step) {
+            self.perform(alloc, out, actor, step)
         } else {
-            Ok(Some(Stop::Refused(5)))
+            Ok(Some(Stop::Refused(4)))
         }
     }
 
@@ -157,7 +175,25 @@ impl Playing {
         ensures plays { IfOk result (λ s. PlaysTold s self.old self.new (turn_of self.old.bay.config actor.0 step) out.old.items out.new.items) }
         ensures few { IfOk result (λ s. IfNone s (self.new.bay.steps ≤ suc self.old.bay.steps)) }
     {
-        self.make_fitting(alloc, out, actor, &step)
+        self.perform_if_fitting(alloc, out, actor, &step)
+    }
+
+    /// Does the same with one that fits.
+    #[inline(always)] // as above
+    fn turn_fitting(
+        &mut self,
+        alloc: Global,
+        out: &mut Vec<u8>,
+        actor: ActorNo,
+        step: Step,
+    ) -> Result<Option<Stop>, AllocError>
+        requires fits { fits self.old.bay.config step ≡ true }
+        requires built { IsBuilt step }
+        requires few { self.old.bay.steps < 2 ^ 62 }
+        ensures plays { IfOk result (λ s. PlaysTold s self.old self.new (turn_of self.old.bay.config actor.0 step) out.old.items out.new.items) }
+        ensures few { IfOk result (λ s. IfNone s (self.new.bay.steps ≤ suc self.old.bay.steps)) }
+    {
+        self.perform(alloc, out, actor, &step)
     }
 
     fn open(
@@ -265,7 +301,7 @@ impl Playing {
         match settings_of(alloc, self.bay.model(), pairs)? {
             Found::Settings(settings) => {
                 let step = Step::Value(Sets::from_vec(settings));
-                self.turn(alloc, out, ActorNo(0), step)
+                self.turn_fitting(alloc, out, ActorNo(0), step)
             }
             Found::Unnamed => Ok(Some(Stop::Refused(3))),
             Found::Unspelled => Ok(Some(Stop::Refused(4))),

@@ -3,13 +3,13 @@
 ghost use Rattle.std.specs.Prelude.{◌≡◌, IfOk};
 ghost use Rattle.run_record.specs.Seen.{pairs_seen};
 ghost use Rattle.replay_run.specs.Settings.{typed_at};
-ghost use Rattle.replay_run.specs.Found.{AreFound};
+ghost use Rattle.replay_run.specs.Found.{AreFound, IsFitting};
 
 use bay_model::Setting;
 use object_model::Model;
 use run_record::PairsView;
 use std::alloc::{AllocError, Global};
-use sv_base::{AttrId, Value};
+use sv_base::{AttrId, Config, Value};
 
 /// What the pairs of a line are: references of attributes, each with the text of a value.
 #[derive(Debug, Drop)]
@@ -25,13 +25,13 @@ pub enum Found {
 /// The value that a text spells of the type of an attribute which has a line of its own.
 fn typed(
     alloc: Global,
-    model: &Model,
+    config: &Config,
     attr: AttrId,
     word: &[u8],
 ) -> Result<Option<Value>, AllocError>
-    ensures { IfOk result (λ r. r ≡ typed_at model.now word.now attr.0) }
+    ensures { IfOk result (λ r. r ≡ typed_at config.now word.now attr.0) }
 {
-    match model.config().attrs.get(attr.0 as usize) {
+    match config.attrs.get(attr.0 as usize) {
         Some(line) => cfg_text::value(alloc, &line.kind, word),
         None => Ok(None),
     }
@@ -39,8 +39,10 @@ fn typed(
 
 /// What pairs are.
 pub fn settings_of(alloc: Global, model: &Model, pairs: &PairsView<'_>) -> Result<Found, AllocError>
-    ensures { IfOk result (AreFound model.now (pairs_seen pairs.now)) }
+    ensures found { IfOk result (AreFound model.now (pairs_seen pairs.now)) }
+    ensures fits { IfOk result (IsFitting model.now) }
 {
+    let config = model.config();
     let mut settings = Vec::new(alloc);
     let mut spelled = true;
     let mut rest = *pairs;
@@ -48,7 +50,7 @@ pub fn settings_of(alloc: Global, model: &Model, pairs: &PairsView<'_>) -> Resul
         let Some(attr) = model.attr(pair.name) else {
             return Ok(Found::Unnamed);
         };
-        match typed(alloc, model, attr, pair.value)? {
+        match typed(alloc, config, attr, pair.value)? {
             Some(value) => settings.push(Setting { attr, value })?,
             None => spelled = false,
         }

@@ -77,23 +77,19 @@ fn push_members(out: &mut Vec<u8>, members: &[Member]) -> Result<(), AllocError>
     Ok(())
 }
 
-/// Writes 1 for true and 0 for false.
-fn push_flag(out: &mut Vec<u8>, on: bool) -> Result<(), AllocError>
-    ensures { OnOk result (out.new.items ≡ out.old.items ++ (if on then codes "1" else codes "0")) }
+/// Writes whether entries were lost: 1 or 0 behind its word.
+fn push_overflow(out: &mut Vec<u8>, lost: bool) -> Result<(), AllocError>
+    ensures { OnOk result (out.new.items ≡ out.old.items ++ codes " ovfl " ++ (if lost then codes "1" else codes "0")) }
 {
-    out.extend_from_slice(if on { b"1" } else { b"0" })
+    out.extend_from_slice(if lost { b" ovfl 1" } else { b" ovfl 0" })
 }
 
 /// Writes the reference of a block.
 fn push_block(out: &mut Vec<u8>, model: &Model, block: BlockNo) -> Result<(), AllocError>
     ensures { OnOk result (out.new.items ≡ out.old.items ++ block_text (slice_get model.now.blocks block.0)) }
 {
-    if let Some(def) = model.config().blocks.get(block.0 as usize) {
-        out.extend_from_slice(def.domain.as_slice())?;
-        out.push(b'/')?;
-        out.extend_from_slice(def.ln.as_slice())?;
-        out.extend_from_slice(b"$BR$")?;
-        out.extend_from_slice(def.name.as_slice())?;
+    if let Some(reference) = model.reference_of(block) {
+        out.extend_from_slice(reference)?;
     }
     Ok(())
 }
@@ -116,8 +112,7 @@ fn push_head(
     push_number(out, report.id)?;
     out.extend_from_slice(b" time ")?;
     push_number(out, report.time.ms())?;
-    out.extend_from_slice(b" ovfl ")?;
-    push_flag(out, report.ovfl)?;
+    push_overflow(out, report.ovfl)?;
     Ok(())
 }
 

@@ -3,8 +3,7 @@ use Rattle.replay_run.proofs.text.push_head.Goals as goal
 
 pub returns : goal.returns
 returns c = rw (
-  c.in_ok-push_flag.ensures,
-  c.in_ok-extend_from_slice-5.ensures.items,
+  c.in_ok-push_overflow.ensures,
   c.in_ok-push_number-4.ensures,
   c.in_ok-extend_from_slice-4.ensures.items,
   c.in_ok-push_number-3.ensures,
