@@ -5,7 +5,7 @@ use crate::values::Values;
 use assoc_table::Assocs;
 use bay_model::{Answer, Change, Fixed, Note, Output, Report};
 use object_model::Model;
-use sv_base::Moment;
+use sv_base::{AssocNo, Moment};
 
 /// A bay: its configuration and all that its steps came to. Contracts see the state that `specs/` defines.
 #[derive(Drop)]
@@ -40,7 +40,13 @@ impl std::marker::Model for Bay {
 }
 
 impl Bay {
-    ghost use Rattle.std.specs.Prelude.{◌≡◌};
+    ghost use Rattle.std.specs.Prelude.{◌≡◌, is_some};
+    ghost use Rattle.sv_base.specs.declared.config.Config.{Config};
+    ghost use Rattle.bay_model.specs.Named.{configured_model};
+    ghost use Rattle.bay_model.specs.Answers.{History, points};
+    ghost use Rattle.bay_model.specs.Associations.{ends};
+    ghost use Rattle.assoc_table.specs.Tables.{IsNumber};
+    ghost use Rattle.bay_core.specs.Standing.{StandsFor};
 
     /// How many steps were made.
     pub fn steps(&self) -> u64
@@ -54,6 +60,14 @@ impl Bay {
         ensures { result.now ≡ self.now.config }
     {
         &self.model
+    }
+
+    /// Whether an association, of number 1 to 16, is open.
+    pub fn is_open(&self, a: AssocNo) -> bool
+        requires { IsNumber a.0 }
+        ensures { (c : Config) (h : History) → StandsFor self.now c h → result ≡ is_some (ends a.0 (points (configured_model c) h)) }
+    {
+        self.associations.is_open(a)
     }
 
     /// Takes back an answer that is no longer needed: the next report is written in its room, as far as that goes. Nothing
