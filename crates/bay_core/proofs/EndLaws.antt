@@ -23,7 +23,7 @@ use Rattle.assoc_table.specs.Standing.{Stands as AssociationsStand, ends_of}
 use Rattle.assoc_table.proofs.StandLaws.{stands-opened, stands-lost}
 use Rattle.bay_core.specs.declared.part.Part.{Part}
 use Rattle.bay_core.specs.Parting.{lost_by, after_loss_all}
-use Rattle.bay_core.specs.Servable.{IsServable}
+use Rattle.bay_config.specs.Servable.{IsServable}
 use Rattle.bay_core.specs.State.{State}
 use Rattle.bay_core.specs.Standing.{PartStands, PartsStand, StandsAt}
 use Rattle.bay_core.proofs.QuietLaws.{at_once-served, part-stays}

@@ -15,7 +15,7 @@ use Rattle.value_store.specs.Wholes.{Stands as ValuesStand}
 use Rattle.value_store.proofs.OpenedLaws.{opened_stands}
 use Rattle.bay_core.specs.declared.part.Part.{Part}
 use Rattle.bay_core.specs.Opened.{seen, part_defined}
-use Rattle.bay_core.specs.Servable.{IsServable}
+use Rattle.bay_config.specs.Servable.{IsServable}
 use Rattle.bay_core.specs.Standing.{StandsFor}
 use Rattle.bay_core.specs.State.{State, IsFurnished, AreHeld}
 use Rattle.bay_core.proofs.FirstValues.{opened-held}

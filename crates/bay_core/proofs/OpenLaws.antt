@@ -29,7 +29,7 @@ use Rattle.entry_ring.specs.Standing.{Holds, empty}
 use Rattle.entry_ring.proofs.HoldLaws.{holds-opened}
 use Rattle.bay_core.specs.declared.part.Part.{Part}
 use Rattle.bay_core.specs.Opened.{is_referred, row_referred, nodes_referred, PartSeen, seen, part_defined}
-use Rattle.bay_core.specs.Servable.{IsServable}
+use Rattle.bay_config.specs.Servable.{IsServable}
 use Rattle.bay_core.specs.State.{served_members}
 use Rattle.bay_core.specs.Standing.{PartStands, PartsStand, IsReadable}
 use Rattle.bay_core.proofs.EachLaws.{got-map}

@@ -9,7 +9,7 @@ use Rattle.sv_base.specs.declared.config.CtlDef.{CtlDef}
 use Rattle.bay_model.specs.Named.{set_defined, nodes}
 use Rattle.bay_model.specs.NamedLines.{domains}
 use Rattle.value_store.specs.Opened.{HasValue, place_in}
-use Rattle.bay_core.specs.Servable.{IsServable, IsServedBlock, IsServedSet, HasSoundValues}
+use Rattle.bay_config.specs.Servable.{IsServable, IsServedBlock, IsServedSet, HasSoundValues}
 
 none : {A : Type 0} (P : A → Type 0) (xs : List A) → xs ≡ [] → All P xs
 none P xs is = subst (All P) (sym is) (All-nil P)

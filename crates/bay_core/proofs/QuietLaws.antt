@@ -23,7 +23,7 @@ use Rattle.brcb_state.specs.Standing.{Stands as BlockStands}
 use Rattle.entry_ring.specs.Standing.{after_point}
 use Rattle.entry_ring.proofs.HoldLaws.{holds-point}
 use Rattle.bay_core.specs.declared.part.Part.{Part}
-use Rattle.bay_core.specs.Servable.{IsServable, IsServedBlock}
+use Rattle.bay_config.specs.Servable.{IsServable, IsServedBlock}
 use Rattle.bay_core.specs.Standing.{IsMemberKept, IsReadable, PartStands}
 use Rattle.bay_model.proofs.OpenGroup.{open_group-quiet, open_group-event}
 

@@ -33,7 +33,7 @@ use Rattle.bay_core.specs.declared.part.Part.{Part}
 use Rattle.bay_core.specs.Changed.{last_set, AreMade, AreFit}
 use Rattle.bay_core.specs.Events.{mentions_of, with_note, after_event, after_events, IsReady, AreReady}
 use Rattle.bay_core.specs.Kept.{note_octets, IsWritable}
-use Rattle.bay_core.specs.Servable.{IsServable}
+use Rattle.bay_config.specs.Servable.{IsServable}
 use Rattle.bay_core.specs.Standing.{IsMemberKept, PartStands, PartsStand, StandsAt, StandsFor}
 use Rattle.bay_core.specs.State.{State, AreHeld, IsFurnished, served_members}
 use Rattle.bay_core.proofs.ChangeLaws.{values-stand, are-changes, settings-there, typed-settings, held-after}

@@ -35,7 +35,7 @@ use Rattle.value_store.proofs.LargestLaws.{member_within}
 use Rattle.value_store.proofs.WholeLaws.{attrs_of_form}
 use Rattle.bay_core.specs.Again.{IsOneElement}
 use Rattle.bay_core.specs.Kept.{IsWritable}
-use Rattle.bay_core.specs.Servable.{IsServable, IsMember, attr_type}
+use Rattle.bay_config.specs.Servable.{IsServable, IsMember, attr_type}
 use Rattle.bay_core.specs.State.{AreHeld}
 use Rattle.bay_core.proofs.OneElement.{member_is_one}
 use Rattle.bay_core.proofs.ShapeLaws.{IsShapeOf}

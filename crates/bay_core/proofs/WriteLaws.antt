@@ -24,7 +24,7 @@ use Rattle.entry_ring.specs.Ringed.{after_purge}
 use Rattle.bay_core.specs.declared.part.Part.{Part}
 use Rattle.bay_core.specs.Offers.{kept_of}
 use Rattle.bay_core.specs.Parting.{write_answer, written_by}
-use Rattle.bay_core.specs.Servable.{IsServable}
+use Rattle.bay_config.specs.Servable.{IsServable}
 use Rattle.bay_core.specs.Standing.{PartStands, PartsStand}
 use Rattle.bay_core.proofs.QuietLaws.{at_once-served, quiet-selected, quiet-front, part-quiet, part-stays}
 use Rattle.bay_core.proofs.EachLaws.{got-set, other-number}

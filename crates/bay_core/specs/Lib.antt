@@ -1,4 +1,3 @@
-pub mod Servable
 pub mod State
 pub mod Standing
 pub mod Turns

@@ -18,7 +18,7 @@ use Rattle.data_sets.specs.Booked.{shapes_of}
 use Rattle.value_store.specs.Stored.{Stored, attribute}
 use Rattle.assoc_table.specs.Seats.{Row}
 use Rattle.bay_core.specs.declared.part.Part.{Part}
-use Rattle.bay_core.specs.Servable.{IsServable, attr_type}
+use Rattle.bay_config.specs.Servable.{IsServable, attr_type}
 
 pub record State : Type 0 where
   pub config : Config

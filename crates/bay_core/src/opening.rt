@@ -8,7 +8,7 @@ ghost use Rattle.object_model.specs.Tables.{set_rows};
 ghost use Rattle.data_sets.specs.Booked.{shapes_of as shapes};
 ghost use Rattle.assoc_table.specs.Seats.{closed};
 ghost use Rattle.value_store.specs.Opened.{opened};
-ghost use Rattle.bay_core.specs.Servable.{IsServable, IsServedBlock};
+ghost use Rattle.bay_config.specs.Servable.{IsServable, IsServedBlock};
 ghost use Rattle.bay_core.specs.Standing.{StandsFor};
 ghost use Rattle.bay_core.specs.Opened.{row_referred, nodes_referred, seen, part_defined};
 
@@ -145,7 +145,7 @@ fn begun(model: Model, made: Made) -> Bay
 
 impl Bay {
     ghost use Rattle.std.specs.Prelude.{◌≡◌, [], IfOk};
-    ghost use Rattle.bay_core.specs.Servable.{IsServable};
+    ghost use Rattle.bay_config.specs.Servable.{IsServable};
     ghost use Rattle.bay_core.specs.Standing.{StandsFor};
 
     /// A bay of a model, with no step made. It takes the room that notes and entries need.

@@ -10,7 +10,7 @@ use Rattle.bay_core.specs.Again.{AreKept, AreNodes}
 use Rattle.bay_core.specs.Offers.{first_offered}
 use Rattle.bay_core.specs.Parting.{reported_by}
 use Rattle.bay_core.specs.Reporting.{offered, report_by}
-use Rattle.bay_core.specs.Servable.{IsServable}
+use Rattle.bay_config.specs.Servable.{IsServable}
 use Rattle.bay_core.specs.Standing.{StandsFor}
 use Rattle.bay_core.specs.State.{State, served_members}
 use Rattle.bay_core.proofs.FurnishLaws.{furnished-set}

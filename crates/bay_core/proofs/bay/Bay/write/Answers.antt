@@ -4,7 +4,7 @@ use Rattle.bay_model.specs.declared.answer.Answer.TheVariants as answers
 use Rattle.bay_model.specs.Answers.{points}
 use Rattle.bay_model.specs.Named.{configured_model}
 use Rattle.bay_core.specs.Parting.{write_answer}
-use Rattle.bay_core.specs.Servable.{IsServable}
+use Rattle.bay_config.specs.Servable.{IsServable}
 use Rattle.bay_core.specs.Standing.{StandsFor}
 use Rattle.bay_core.proofs.FurnishLaws.{furnished-set}
 use Rattle.bay_core.proofs.EndLaws.{opener-told, opener-fault, same-number-told}

@@ -10,7 +10,7 @@ use Rattle.cfg_text.specs.declared.line.Line.{Line}
 use Rattle.cfg_text.specs.declared.line.Line.TheVariants as lines
 use Rattle.cfg_text.specs.declared.line.Place.{Place}
 use Rattle.cfg_text.specs.declared.line.Place.TheVariants as places
-use Rattle.bay_core.proofs.AmongLaws.{Among, left, right, ending}
+use Rattle.text_configs.proofs.AmongLaws.{Among, left, right, ending}
 
 -- no controls and no setting groups
 abbrev pub IsPlainText : List Line → Type 0

@@ -7,9 +7,9 @@ use Rattle.std.proofs.lemmas.List.{take_at}
 use Rattle.cfg_text.specs.Taken.{is_among, added}
 use Rattle.cfg_text.specs.Paths.{above_within, above}
 use Rattle.cfg_text.specs.Sizes.{edges_within, edges, with_edge, with_name, children}
-use Rattle.bay_core.proofs.AmongLaws.{Among, some-passes, passes}
-use Rattle.bay_core.proofs.JoinedLaws.{NoDollar}
-use Rattle.bay_core.proofs.NamedLaws.{same-bytes, bytes-same, with-old, with-new}
+use Rattle.text_configs.proofs.AmongLaws.{Among, some-passes, passes}
+use Rattle.text_configs.proofs.JoinedLaws.{NoDollar}
+use Rattle.text_configs.proofs.NamedLaws.{same-bytes, bytes-same, with-old, with-new}
 
 pub index-at : (front : List ℕ) (o : ℕ) (more : List ℕ) → slice_index (front ++ o ∷ more) (length front) ≡ o
 index-at [] o more = refl

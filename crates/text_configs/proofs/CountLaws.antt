@@ -9,16 +9,16 @@ use Rattle.sv_base.specs.declared.types.TypeOf.TheVariants as types
 use Rattle.bay_model.specs.Places.{largest}
 use Rattle.object_model.specs.Fits.{attr_types}
 use Rattle.cfg_text.specs.Sizes.{most_octets, element_octets, leaf_octets, children, octets_of}
-use Rattle.bay_core.specs.Servable.{attr_type}
-use Rattle.bay_core.proofs.AmongLaws.{Among, At, of-each, at-among, among-at, at-same, at-map, at-left, at-index, mapped, right}
-use Rattle.bay_core.proofs.JoinedLaws.{NoDollar, IsPlain, joined, joined-behind}
-use Rattle.bay_core.proofs.NamedLaws.{same-bytes, bytes-same}
-use Rattle.bay_core.proofs.ReachLaws.{child-alone, child-more}
-use Rattle.bay_core.proofs.AttrLaws.{IsRead, key_of, AreAllBeside}
-use Rattle.bay_core.proofs.SetLaws.{leaf_of}
-use Rattle.bay_core.proofs.SizeLaws.{IsCount}
-use Rattle.bay_core.proofs.ValueLaws.{largest-counted}
-use Rattle.bay_core.proofs.PathLaws.{name-plain, fc-plain, path-plain, reference_names, key-joined}
+use Rattle.bay_config.specs.Servable.{attr_type}
+use Rattle.text_configs.proofs.AmongLaws.{Among, At, of-each, at-among, among-at, at-same, at-map, at-left, at-index, mapped, right}
+use Rattle.text_configs.proofs.JoinedLaws.{NoDollar, IsPlain, joined, joined-behind}
+use Rattle.text_configs.proofs.NamedLaws.{same-bytes, bytes-same}
+use Rattle.text_configs.proofs.ReachLaws.{child-alone, child-more}
+use Rattle.text_configs.proofs.AttrLaws.{IsRead, key_of, AreAllBeside}
+use Rattle.text_configs.proofs.SetLaws.{leaf_of}
+use Rattle.text_configs.proofs.SizeLaws.{IsCount}
+use Rattle.text_configs.proofs.ValueLaws.{largest-counted}
+use Rattle.text_configs.proofs.PathLaws.{name-plain, fc-plain, path-plain, reference_names, key-joined}
 
 -- the octets of a leaf, and that there is none
 pub lookup-found : (as_ : List AttrDef) (a : AttrDef) → Among a as_ → ((b : AttrDef) → Among b as_ → key_of a ≡ key_of b → a ≡ b) → leaf_octets (map leaf_of as_) (key_of a) ≡ Some (most_octets a.kind)

@@ -17,10 +17,10 @@ use Rattle.bay_model.specs.Named.{nodes, configured_model}
 use Rattle.object_model.specs.Tables.{node_type, node_types}
 use Rattle.value_store.specs.Wholes.{HasForm, tree_attrs}
 use Rattle.value_store.specs.Leaves.{leaf_shapes}
-use Rattle.bay_core.specs.Servable.{IsMember, attr_type}
-use Rattle.bay_core.proofs.AmongLaws.{Among, At, of-each, all-of, at-within, at-index, at-get}
-use Rattle.bay_core.proofs.JoinedLaws.{rest}
-use Rattle.bay_core.proofs.FormLaws.{IsFormed}
+use Rattle.bay_config.specs.Servable.{IsMember, attr_type}
+use Rattle.text_configs.proofs.AmongLaws.{Among, At, of-each, all-of, at-within, at-index, at-get}
+use Rattle.text_configs.proofs.JoinedLaws.{rest}
+use Rattle.text_configs.proofs.FormLaws.{IsFormed}
 
 -- ---- the nodes one behind another
 

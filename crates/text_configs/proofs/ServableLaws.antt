@@ -22,18 +22,18 @@ use Rattle.cfg_text.specs.Texts.{AreLines, AreFound, SpellsConfig}
 use Rattle.cfg_text.specs.declared.leaf.Leaf.{Leaf}
 use Rattle.cfg_text.specs.declared.line.Line.{Line}
 use Rattle.cfg_text.specs.declared.line.Line.TheVariants as lines
-use Rattle.bay_core.specs.Servable.{IsMember, IsServedSet, IsServedBlock, HasSoundValues, IsServable}
-use Rattle.bay_core.proofs.AmongLaws.{Among, all-of, among-at, at-within, at-index, source}
-use Rattle.bay_core.proofs.FindLaws.{found, domain-there}
-use Rattle.bay_core.proofs.NamedLaws.{bytes-same, not-not}
-use Rattle.bay_core.proofs.StandLaws.{IsPlainText, plain-text, nodes-read}
-use Rattle.bay_core.proofs.AttrLaws.{key_of, attrs-read, attrs-beside}
-use Rattle.bay_core.proofs.SetLaws.{blocks-read, few-blocks, sets-read, member-named, found-of, leaf_of, leaves-are}
-use Rattle.bay_core.proofs.ValueLaws.{first-value, all-sound}
-use Rattle.bay_core.proofs.PathLaws.{reference-of}
-use Rattle.bay_core.proofs.CountLaws.{counted}
-use Rattle.bay_core.proofs.BelowLaws.{IsTold}
-use Rattle.bay_core.proofs.ReferenceLaws.{member}
+use Rattle.bay_config.specs.Servable.{IsMember, IsServedSet, IsServedBlock, HasSoundValues, IsServable}
+use Rattle.text_configs.proofs.AmongLaws.{Among, all-of, among-at, at-within, at-index, source}
+use Rattle.text_configs.proofs.FindLaws.{found, domain-there}
+use Rattle.text_configs.proofs.NamedLaws.{bytes-same, not-not}
+use Rattle.text_configs.proofs.StandLaws.{IsPlainText, plain-text, nodes-read}
+use Rattle.text_configs.proofs.AttrLaws.{key_of, attrs-read, attrs-beside}
+use Rattle.text_configs.proofs.SetLaws.{blocks-read, few-blocks, sets-read, member-named, found-of, leaf_of, leaves-are}
+use Rattle.text_configs.proofs.ValueLaws.{first-value, all-sound}
+use Rattle.text_configs.proofs.PathLaws.{reference-of}
+use Rattle.text_configs.proofs.CountLaws.{counted}
+use Rattle.text_configs.proofs.BelowLaws.{IsTold}
+use Rattle.text_configs.proofs.ReferenceLaws.{member}
 
 -- blocks that report at once and have no integrity period
 abbrev pub AreImmediate : List BlockDef → Type 0

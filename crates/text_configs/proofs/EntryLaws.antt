@@ -6,9 +6,9 @@ use Rattle.sv_base.specs.declared.types.TypeOf.{TypeOf}
 use Rattle.bay_model.specs.Model.{attribute}
 use Rattle.bay_model.specs.Generated.{Named, end_named}
 use Rattle.bay_model.specs.NameTree.{first_name, rest_of, is_itself, below}
-use Rattle.bay_core.proofs.AmongLaws.{Among, Each, gathered, tails}
-use Rattle.bay_core.proofs.JoinedLaws.{ArePlain, joined, first, first-joined, rest-joined, joined-some}
-use Rattle.bay_core.proofs.NamedLaws.{same-bytes}
+use Rattle.text_configs.proofs.AmongLaws.{Among, Each, gathered, tails}
+use Rattle.text_configs.proofs.JoinedLaws.{ArePlain, joined, first, first-joined, rest-joined, joined-some}
+use Rattle.text_configs.proofs.NamedLaws.{same-bytes}
 
 pub record Entry : Type 0 where
   pub path : List (List ℕ)

@@ -20,23 +20,23 @@ use Rattle.cfg_text.specs.Sizes.{children}
 use Rattle.cfg_text.specs.Contents.{is_fc}
 use Rattle.cfg_text.specs.Names.{is_name}
 use Rattle.cfg_text.specs.Nodes.{reaches}
-use Rattle.bay_core.specs.Servable.{IsMember, attr_type}
-use Rattle.bay_core.proofs.AmongLaws.{Among, At, of-each, at-among, among-at, spread, mapped, source, some-passes, heads, tails}
-use Rattle.bay_core.proofs.JoinedLaws.{ArePlain, joined, first, rest, first-joined, rest-joined, joined-longer, same-joined}
-use Rattle.bay_core.proofs.NamedLaws.{same-bytes, bytes-same}
-use Rattle.bay_core.proofs.EntryLaws.{named_of}
-use Rattle.bay_core.proofs.FormLaws.{IsFormed, places-formed}
-use Rattle.bay_core.proofs.TreeLaws.{grown-tree}
-use Rattle.bay_core.proofs.SizeLaws.{places-small}
-use Rattle.bay_core.proofs.PlaceLaws.{descend, exists}
-use Rattle.bay_core.proofs.OrderLaws.{attribute-named, within-longest}
-use Rattle.bay_core.proofs.ReachLaws.{above-back}
-use Rattle.bay_core.proofs.FindLaws.{IsFound, found, domain-there, domain-of}
-use Rattle.bay_core.proofs.AttrLaws.{key_of}
-use Rattle.bay_core.proofs.PathLaws.{name-plain, NoSlash, name-whole, same-reference, fc-plain, fc-member, names_in, path-plain, path-joined, item_names, item-joined, key-joined, joined-domain, GoOn, prefix-joined, IsReference}
-use Rattle.bay_core.proofs.CountLaws.{Known, counted, is-count}
-use Rattle.bay_core.proofs.BelowLaws.{IsTold, all-entries, entries-below, front}
-use Rattle.bay_core.proofs.MemberLaws.{node-at-place, IsFit, member-of}
+use Rattle.bay_config.specs.Servable.{IsMember, attr_type}
+use Rattle.text_configs.proofs.AmongLaws.{Among, At, of-each, at-among, among-at, spread, mapped, source, some-passes, heads, tails}
+use Rattle.text_configs.proofs.JoinedLaws.{ArePlain, joined, first, rest, first-joined, rest-joined, joined-longer, same-joined}
+use Rattle.text_configs.proofs.NamedLaws.{same-bytes, bytes-same}
+use Rattle.text_configs.proofs.EntryLaws.{named_of}
+use Rattle.text_configs.proofs.FormLaws.{IsFormed, places-formed}
+use Rattle.text_configs.proofs.TreeLaws.{grown-tree}
+use Rattle.text_configs.proofs.SizeLaws.{places-small}
+use Rattle.text_configs.proofs.PlaceLaws.{descend, exists}
+use Rattle.text_configs.proofs.OrderLaws.{attribute-named, within-longest}
+use Rattle.text_configs.proofs.ReachLaws.{above-back}
+use Rattle.text_configs.proofs.FindLaws.{IsFound, found, domain-there, domain-of}
+use Rattle.text_configs.proofs.AttrLaws.{key_of}
+use Rattle.text_configs.proofs.PathLaws.{name-plain, NoSlash, name-whole, same-reference, fc-plain, fc-member, names_in, path-plain, path-joined, item_names, item-joined, key-joined, joined-domain, GoOn, prefix-joined, IsReference}
+use Rattle.text_configs.proofs.CountLaws.{Known, counted, is-count}
+use Rattle.text_configs.proofs.BelowLaws.{IsTold, all-entries, entries-below, front}
+use Rattle.text_configs.proofs.MemberLaws.{node-at-place, IsFit, member-of}
 
 module _ (c : Config) (told : IsTold c) where
   -- an attribute of a domain, whose item goes on from these names

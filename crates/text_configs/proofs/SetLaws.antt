@@ -14,9 +14,9 @@ use Rattle.cfg_text.specs.Texts.{AreLines, IsFound, AreFound}
 use Rattle.cfg_text.specs.declared.leaf.Leaf.{Leaf}
 use Rattle.cfg_text.specs.declared.line.Line.{Line}
 use Rattle.cfg_text.specs.declared.line.Line.TheVariants as lines
-use Rattle.bay_core.proofs.AmongLaws.{Among, ending}
-use Rattle.bay_core.proofs.StandLaws.{IsPlainText, in-node}
-use Rattle.bay_core.proofs.AttrLaws.{key_of}
+use Rattle.text_configs.proofs.AmongLaws.{Among, ending}
+use Rattle.text_configs.proofs.StandLaws.{IsPlainText, in-node}
+use Rattle.text_configs.proofs.AttrLaws.{key_of}
 
 -- ---- blocks
 

@@ -11,12 +11,12 @@ use Rattle.bay_model.specs.Generated.{Named}
 use Rattle.bay_model.specs.NameTree.{Forest, named, below, first_names, role_of, own_type, side_by_side, grown}
 use Rattle.bay_model.specs.Places.{Place, places, type_with, fields, headed, largest, largest_fields}
 use Rattle.object_model.proofs.GroupLaws.{distinct}
-use Rattle.bay_core.proofs.AmongLaws.{Among, each-of, left, right, source, tails}
-use Rattle.bay_core.proofs.JoinedLaws.{joined, joined-behind}
-use Rattle.bay_core.proofs.NamedLaws.{bytes-same, place_at, deeper, IsPlaced, placed}
-use Rattle.bay_core.proofs.EntryLaws.{Entry, entry, PlainEntry, named_of, under, below-under, under-of, cut}
-use Rattle.bay_core.proofs.TreeLaws.{AreEntries, entries-under, IsEnd, IsOpen, ends-or-not, head-of, nothing-below, type-ended, type-open}
-use Rattle.bay_core.proofs.SumLaws.{differ, differ-map, one-part, sum-among, field-grows}
+use Rattle.text_configs.proofs.AmongLaws.{Among, each-of, left, right, source, tails}
+use Rattle.text_configs.proofs.JoinedLaws.{joined, joined-behind}
+use Rattle.text_configs.proofs.NamedLaws.{bytes-same, place_at, deeper, IsPlaced, placed}
+use Rattle.text_configs.proofs.EntryLaws.{Entry, entry, PlainEntry, named_of, under, below-under, under-of, cut}
+use Rattle.text_configs.proofs.TreeLaws.{AreEntries, entries-under, IsEnd, IsOpen, ends-or-not, head-of, nothing-below, type-ended, type-open}
+use Rattle.text_configs.proofs.SumLaws.{differ, differ-map, one-part, sum-among, field-grows}
 
 -- What is counted for a reference, as far down as the number says: for those that are known to be an attribute's, and for
 -- those above them, by what is directly below.

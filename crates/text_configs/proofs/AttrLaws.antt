@@ -16,10 +16,10 @@ use Rattle.cfg_text.specs.Follows.{IsPath, IsAttribute}
 use Rattle.cfg_text.specs.Texts.{AreLines}
 use Rattle.cfg_text.specs.declared.line.Line.{Line}
 use Rattle.cfg_text.specs.declared.line.Line.TheVariants as lines
-use Rattle.bay_core.proofs.AmongLaws.{Among, At, at-among, at-last, right, ending, passes}
-use Rattle.bay_core.proofs.NamedLaws.{bytes-same}
-use Rattle.bay_core.proofs.ReachLaws.{above-has}
-use Rattle.bay_core.proofs.StandLaws.{IsPlainText, no-groups, IsIn, in-more, in-node}
+use Rattle.text_configs.proofs.AmongLaws.{Among, At, at-among, at-last, right, ending, passes}
+use Rattle.text_configs.proofs.NamedLaws.{bytes-same}
+use Rattle.text_configs.proofs.ReachLaws.{above-has}
+use Rattle.text_configs.proofs.StandLaws.{IsPlainText, no-groups, IsIn, in-more, in-node}
 
 -- an attribute that was read, with one value
 pub record IsRead (nodes : List LnDef) (a : AttrDef) : Type 0 where

@@ -4,8 +4,8 @@ use Rattle.std.specs.Option.{option_map}
 use Rattle.sv_base.specs.declared.config.LnDef.{LnDef}
 use Rattle.bay_model.specs.Configured.{with_domain, domains_after}
 use Rattle.object_model.proofs.NumberLaws.{place-cons}
-use Rattle.bay_core.proofs.AmongLaws.{Among, At}
-use Rattle.bay_core.proofs.NamedLaws.{with-old, with-new, with-back}
+use Rattle.text_configs.proofs.AmongLaws.{Among, At}
+use Rattle.text_configs.proofs.NamedLaws.{with-old, with-new, with-back}
 
 pub record IsFound {X : Type 0} (p : X → Bool) (xs : List X) : Type 0 where
   pub number : ℕ

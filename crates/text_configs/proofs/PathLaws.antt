@@ -11,10 +11,10 @@ use Rattle.bay_model.specs.NamedLines.{path_item}
 use Rattle.bay_model.specs.Places.{member_constraints}
 use Rattle.cfg_text.specs.Names.{is_letter, is_name_octet, is_name, is_path, is_dollar, is_slash, are_member, is_member}
 use Rattle.cfg_text.specs.Contents.{is_fc}
-use Rattle.bay_core.proofs.AmongLaws.{Among, Each, of-each, some-passes, heads, tails}
-use Rattle.bay_core.proofs.JoinedLaws.{NoDollar, IsPlain, ArePlain, joined, first, rest, first-joined, rest-joined, first-before, rest-before}
-use Rattle.bay_core.proofs.NamedLaws.{same-bytes}
-use Rattle.bay_core.proofs.AttrLaws.{key_of}
+use Rattle.text_configs.proofs.AmongLaws.{Among, Each, of-each, some-passes, heads, tails}
+use Rattle.text_configs.proofs.JoinedLaws.{NoDollar, IsPlain, ArePlain, joined, first, rest, first-joined, rest-joined, first-before, rest-before}
+use Rattle.text_configs.proofs.NamedLaws.{same-bytes}
+use Rattle.text_configs.proofs.AttrLaws.{key_of}
 
 -- ---- names
 

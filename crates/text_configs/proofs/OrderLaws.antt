@@ -13,8 +13,8 @@ use Rattle.bay_model.specs.Generated.{Named, within, end_named, structure_named,
 use Rattle.bay_model.specs.Kinds.{comp_kind}
 use Rattle.bay_model.specs.NamedLines.{Line, is_setting, path_item, attribute_names, attribute_line, attribute_lines, node_line, block_line, block_lines, control_lines, group_line, domain_number, generated, lines, insert_line, in_order, names_in}
 use Rattle.bay_model.specs.NameTree.{longest}
-use Rattle.bay_core.proofs.AmongLaws.{Among, At, at-among, left, right, either, source, kept, passed, spread, gathered}
-use Rattle.bay_core.proofs.NamedLaws.{same-bytes, bytes-same}
+use Rattle.text_configs.proofs.AmongLaws.{Among, At, at-among, left, right, either, source, kept, passed, spread, gathered}
+use Rattle.text_configs.proofs.NamedLaws.{same-bytes, bytes-same}
 
 -- ---- the order of lines changes nothing
 inserted : (l : Line) (ms : List Line) (x : Line) → (x ≡ l) ⊎ Among x ms → Among x (insert_line l ms)

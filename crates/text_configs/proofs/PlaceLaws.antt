@@ -6,9 +6,9 @@ use Rattle.std.proofs.lemmas.List.{append_cancel_left}
 use Rattle.bay_model.specs.Generated.{Named}
 use Rattle.bay_model.specs.NameTree.{Forest, nothing, named, first_name, rest_of, is_itself, below, first_names, grown}
 use Rattle.bay_model.specs.Places.{Place, places}
-use Rattle.bay_core.proofs.AmongLaws.{Among, either}
-use Rattle.bay_core.proofs.JoinedLaws.{NoDollar, ArePlain, joined, first, rest, first-joined, rest-joined, joined-some, first-before}
-use Rattle.bay_core.proofs.NamedLaws.{first-of, is-first, is-below, place_at, deeper, placed, is-placed, is-deeper}
+use Rattle.text_configs.proofs.AmongLaws.{Among, either}
+use Rattle.text_configs.proofs.JoinedLaws.{NoDollar, ArePlain, joined, first, rest, first-joined, rest-joined, joined-some, first-before}
+use Rattle.text_configs.proofs.NamedLaws.{first-of, is-first, is-below, place_at, deeper, placed, is-placed, is-deeper}
 
 -- a first name has no `$`
 pub first-without : (item : List ℕ) → NoDollar (first item)

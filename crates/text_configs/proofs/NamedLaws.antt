@@ -7,7 +7,7 @@ use Rattle.std.proofs.lemmas.Bool.{and_parts, and_from}
 use Rattle.bay_model.specs.Generated.{Named}
 use Rattle.bay_model.specs.NameTree.{Forest, named, first_name, rest_of, is_itself, below, with_name, first_names, role_of, own_type, side_by_side, grown}
 use Rattle.bay_model.specs.Places.{Place, place, places}
-use Rattle.bay_core.proofs.AmongLaws.{Among, left, right, either, mapped, source, kept, passed, some-passes}
+use Rattle.text_configs.proofs.AmongLaws.{Among, left, right, either, mapped, source, kept, passed, some-passes}
 
 pub not-not : (b : Bool) → not b ≡ true → b ≡ false
 not-not true h = absurd (true≢false (sym h))

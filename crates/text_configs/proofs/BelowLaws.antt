@@ -16,19 +16,19 @@ use Rattle.cfg_text.specs.Names.{is_name}
 use Rattle.cfg_text.specs.Contents.{is_fc}
 use Rattle.cfg_text.specs.Sizes.{children}
 use Rattle.bay_model.specs.Slots.{IsSettable}
-use Rattle.bay_core.specs.Servable.{attr_type}
-use Rattle.bay_core.proofs.AmongLaws.{Among, At, at-among, at-within, at-same}
-use Rattle.bay_core.proofs.JoinedLaws.{ArePlain, joined, first, rest, first-joined, rest-joined, rest-alone, first-before, rest-before, joined-behind}
-use Rattle.bay_core.proofs.NamedLaws.{IsBelow, below-of}
-use Rattle.bay_core.proofs.EntryLaws.{Entry, entry, named_of, same-entry}
-use Rattle.bay_core.proofs.FormLaws.{IsNumber}
-use Rattle.bay_core.proofs.SizeLaws.{AreBelow}
-use Rattle.bay_core.proofs.OrderLaws.{IsBare, IsNodeName, IsAttributeName, IsComponentName, named-in}
-use Rattle.bay_core.proofs.AttrLaws.{IsRead, key_of, AreBeside, AreAllBeside}
-use Rattle.bay_core.proofs.SetLaws.{IsReadBlock}
-use Rattle.bay_core.proofs.ValueLaws.{settable}
-use Rattle.bay_core.proofs.PathLaws.{name-plain, fc-plain, fc-of-block, names_in, path-plain, path-count, item_names, reference_names, item-joined, key-joined}
-use Rattle.bay_core.proofs.CountLaws.{Known, counted, type-at, is-count}
+use Rattle.bay_config.specs.Servable.{attr_type}
+use Rattle.text_configs.proofs.AmongLaws.{Among, At, at-among, at-within, at-same}
+use Rattle.text_configs.proofs.JoinedLaws.{ArePlain, joined, first, rest, first-joined, rest-joined, rest-alone, first-before, rest-before, joined-behind}
+use Rattle.text_configs.proofs.NamedLaws.{IsBelow, below-of}
+use Rattle.text_configs.proofs.EntryLaws.{Entry, entry, named_of, same-entry}
+use Rattle.text_configs.proofs.FormLaws.{IsNumber}
+use Rattle.text_configs.proofs.SizeLaws.{AreBelow}
+use Rattle.text_configs.proofs.OrderLaws.{IsBare, IsNodeName, IsAttributeName, IsComponentName, named-in}
+use Rattle.text_configs.proofs.AttrLaws.{IsRead, key_of, AreBeside, AreAllBeside}
+use Rattle.text_configs.proofs.SetLaws.{IsReadBlock}
+use Rattle.text_configs.proofs.ValueLaws.{settable}
+use Rattle.text_configs.proofs.PathLaws.{name-plain, fc-plain, fc-of-block, names_in, path-plain, path-count, item_names, reference_names, item-joined, key-joined}
+use Rattle.text_configs.proofs.CountLaws.{Known, counted, type-at, is-count}
 
 -- entries of what is named, each with a fact
 pub gather : (kind : ℕ → TypeOf) (P : Entry → Type 0) (ns : List Named) → ((n : Named) → Among n ns → (e : Entry) × (n ≡ named_of kind e) × P e) → (es : List Entry) × (ns ≡ map (named_of kind) es) × ((e : Entry) → Among e es → P e)
