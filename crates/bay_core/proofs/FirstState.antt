@@ -29,7 +29,7 @@ furnished-first c stored parts mentions octets served values are note kept = rec
   count = sym (length-map parts seen) ∙ (ap length are ∙ length-map c.blocks (part_defined c));
   members = parts-members c parts are;
   note = note;
-  kept = kept;
+  entry = kept;
 }
 
 pub stands-first : (s : State) (c : Config) → IsServable c → s.config ≡ c → s.steps ≡ 0 → s.latest ≡ now [] → s.stored ≡ opened c

@@ -11,7 +11,6 @@ pub mod MarkLaws
 pub mod ChangeLaws
 pub mod AgainLaws
 pub mod OneElement
-pub mod KeptLaws
 pub mod ReadableLaws
 pub mod OfferLaws
 pub mod EarlierLaws
@@ -28,5 +27,4 @@ pub mod SettingLaws
 pub mod OpenLaws
 pub mod FirstValues
 pub mod FirstState
-pub mod PlainConfig
 pub mod SendLaws

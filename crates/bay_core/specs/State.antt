@@ -51,4 +51,4 @@ pub record IsFurnished (c : Config) (stored : List Stored) (parts : List Part) (
   pub count : length parts ≡ length c.blocks
   pub members : (b : ℕ) (part : Part) → slice_get parts b ≡ Some part → part.members.items ≡ served_members c b
   pub note : mentions.room ≡ 256
-  pub kept : octets.room ≡ 129024
+  pub entry : octets.room ≡ 129024

@@ -15,16 +15,12 @@ mod step;
 mod taking;
 mod writing;
 
-// an entry's octets, the members that a report has of them, and the room that is used again
-mod kept;
-mod members;
-mod room;
-
+// an entry's octets, the members that a report has of them, and the report whose memory is used again
+mod entry_octets;
 mod laws;
+mod members;
+mod spare;
 
 pub use bay::Bay;
 pub use fault::StepFault;
 pub use laws::bays_cross_threads;
-
-#[cfg(test)]
-mod tests;

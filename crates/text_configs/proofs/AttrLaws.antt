@@ -16,7 +16,7 @@ use Rattle.cfg_text.specs.Follows.{IsPath, IsAttribute}
 use Rattle.cfg_text.specs.Texts.{AreLines}
 use Rattle.cfg_text.specs.declared.line.Line.{Line}
 use Rattle.cfg_text.specs.declared.line.Line.TheVariants as lines
-use Rattle.text_configs.proofs.AmongLaws.{Among, At, at-among, at-last, right, ending, passes}
+use Rattle.list_laws.proofs.Among.{Among, At, at-among, at-last, right, ending, passes}
 use Rattle.text_configs.proofs.NamedLaws.{bytes-same}
 use Rattle.text_configs.proofs.ReachLaws.{above-has}
 use Rattle.text_configs.proofs.StandLaws.{IsPlainText, no-groups, IsIn, in-more, in-node}

@@ -17,7 +17,7 @@ use Rattle.cfg_text.specs.Contents.{is_fc}
 use Rattle.cfg_text.specs.Sizes.{children}
 use Rattle.bay_model.specs.Slots.{IsSettable}
 use Rattle.bay_config.specs.Servable.{attr_type}
-use Rattle.text_configs.proofs.AmongLaws.{Among, At, at-among, at-within, at-same}
+use Rattle.list_laws.proofs.Among.{Among, At, at-among, at-within, at-same}
 use Rattle.text_configs.proofs.JoinedLaws.{ArePlain, joined, first, rest, first-joined, rest-joined, rest-alone, first-before, rest-before, joined-behind}
 use Rattle.text_configs.proofs.NamedLaws.{IsBelow, below-of}
 use Rattle.text_configs.proofs.EntryLaws.{Entry, entry, named_of, same-entry}

@@ -3,6 +3,7 @@ use Rattle.std.proofs.Common.{◌≡◌, ℕ, suc, ◌<◌, ◌==◌, ◌⊎◌,
 use Rattle.std.specs.List.{sum_by}
 use Rattle.std.specs.Str.{bytes_eq}
 use Rattle.std.proofs.lemmas.Bool.Decides.{eqb_tells}
+use Rattle.list_laws.proofs.Distinct.{octets_same}
 use Rattle.sv_base.specs.declared.config.Config.{Config}
 use Rattle.sv_base.specs.declared.config.AttrDef.{AttrDef}
 use Rattle.sv_base.specs.declared.types.TypeOf.TheVariants as types
@@ -10,9 +11,9 @@ use Rattle.bay_model.specs.Places.{largest}
 use Rattle.object_model.specs.Fits.{attr_types}
 use Rattle.cfg_text.specs.Sizes.{most_octets, element_octets, leaf_octets, children, octets_of}
 use Rattle.bay_config.specs.Servable.{attr_type}
-use Rattle.text_configs.proofs.AmongLaws.{Among, At, of-each, at-among, among-at, at-same, at-map, at-left, at-index, mapped, right}
+use Rattle.list_laws.proofs.Among.{Among, At, of-each, at-among, among-at, at-same, at-map, at-left, at-index, mapped, right}
 use Rattle.text_configs.proofs.JoinedLaws.{NoDollar, IsPlain, joined, joined-behind}
-use Rattle.text_configs.proofs.NamedLaws.{same-bytes, bytes-same}
+use Rattle.text_configs.proofs.NamedLaws.{bytes-same}
 use Rattle.text_configs.proofs.ReachLaws.{child-alone, child-more}
 use Rattle.text_configs.proofs.AttrLaws.{IsRead, key_of, AreAllBeside}
 use Rattle.text_configs.proofs.SetLaws.{leaf_of}
@@ -26,7 +27,7 @@ lookup-found [] a i same = absurd i
 lookup-found (b ∷ as_) a i same = by (bytes_eq (key_of a) (key_of b)) refl i (λ j. lookup-found as_ a j (λ c k. same c (inr k)))
   where
     by : (t : Bool) → bytes_eq (key_of a) (key_of b) ≡ t → (a ≡ b) ⊎ Among a as_ → (Among a as_ → leaf_octets (map leaf_of as_) (key_of a) ≡ Some (most_octets a.kind)) → (if t then Some (most_octets b.kind) else leaf_octets (map leaf_of as_) (key_of a)) ≡ Some (most_octets a.kind)
-    by true e j go = ap (λ (c : AttrDef). Some (most_octets c.kind)) (sym (same b (inl refl) (same-bytes (key_of a) (key_of b) e)))
+    by true e j go = ap (λ (c : AttrDef). Some (most_octets c.kind)) (sym (same b (inl refl) (octets_same (key_of a) (key_of b) e)))
     by false e (inl s) go = absurd (true≢false (sym (bytes-same (key_of a) (key_of b) (ap key_of s)) ∙ e))
     by false e (inr j) go = go j
 
@@ -35,7 +36,7 @@ lookup-none [] node h = refl
 lookup-none (b ∷ as_) node h = by (bytes_eq node (key_of b)) refl (lookup-none as_ node (λ c j. h c (inr j)))
   where
     by : (t : Bool) → bytes_eq node (key_of b) ≡ t → leaf_octets (map leaf_of as_) node ≡ None → (if t then Some (most_octets b.kind) else leaf_octets (map leaf_of as_) node) ≡ None
-    by true e go = absurd (h b (inl refl) (same-bytes node (key_of b) e))
+    by true e go = absurd (h b (inl refl) (octets_same node (key_of b) e))
     by false e go = go
 
 octets-leaf : (depth : ℕ) (leaf : List ℕ → Option ℕ) (parts : List ℕ → List (List ℕ)) (node : List ℕ) (n : ℕ) → leaf node ≡ Some n → octets_of (suc depth) leaf parts node ≡ n

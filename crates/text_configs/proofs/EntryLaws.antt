@@ -2,13 +2,13 @@
 use Rattle.std.proofs.Common.{◌≡◌, ℕ, ◌<◌, ◌==◌, Bool, true, false, cond, not, ◌&&◌, inl, inr, List, [], ◌∷◌, ◌++◌, map, filter, flat_map, length, refl, sym, ap, subst, ◌∙◌, arith, if◌then◌else◌}
 use Rattle.std.specs.Str.{bytes_eq}
 use Rattle.std.proofs.lemmas.Bool.Decides.{nat_tests}
+use Rattle.list_laws.proofs.Distinct.{octets_same}
 use Rattle.sv_base.specs.declared.types.TypeOf.{TypeOf}
 use Rattle.bay_model.specs.Model.{attribute}
 use Rattle.bay_model.specs.Generated.{Named, end_named}
 use Rattle.bay_model.specs.NameTree.{first_name, rest_of, is_itself, below}
-use Rattle.text_configs.proofs.AmongLaws.{Among, Each, gathered, tails}
+use Rattle.list_laws.proofs.Among.{Among, Each, gathered, tails}
 use Rattle.text_configs.proofs.JoinedLaws.{ArePlain, joined, first, first-joined, rest-joined, joined-some}
-use Rattle.text_configs.proofs.NamedLaws.{same-bytes}
 
 pub record Entry : Type 0 where
   pub path : List (List ℕ)
@@ -62,7 +62,7 @@ uncut name [] x d i = absurd i
 uncut name (n ∷ names) x d i = by (bytes_eq name n) refl i
   where
     by : (b : Bool) → bytes_eq name n ≡ b → Among d (if b then entry names x ∷ [] else []) → (n ∷ names ≡ name ∷ d.path) × (x ≡ d.number)
-    by true e (inl is) = (ap (λ m. m ∷ names) (sym (same-bytes name n e)) ∙ ap (λ (y : Entry). name ∷ y.path) (sym is), ap (λ (y : Entry). y.number) (sym is))
+    by true e (inl is) = (ap (λ m. m ∷ names) (sym (octets_same name n e)) ∙ ap (λ (y : Entry). name ∷ y.path) (sym is), ap (λ (y : Entry). y.number) (sym is))
     by true e (inr j) = absurd j
     by false e j = absurd j
 

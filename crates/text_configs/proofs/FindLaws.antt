@@ -1,10 +1,10 @@
 -- The first element that passes a test, and the domains of a configuration.
 use Rattle.std.proofs.Common.{◌≡◌, ℕ, suc, ◌+◌, Bool, true, false, cond, ◌⊎◌, inl, inr, List, [], ◌∷◌, Some, position, refl, sym, ap, subst, ◌∙◌, arith, true≢false}
 use Rattle.std.specs.Option.{option_map}
+use Rattle.list_laws.proofs.Places.{place-cons}
 use Rattle.sv_base.specs.declared.config.LnDef.{LnDef}
 use Rattle.bay_model.specs.Configured.{with_domain, domains_after}
-use Rattle.object_model.proofs.NumberLaws.{place-cons}
-use Rattle.text_configs.proofs.AmongLaws.{Among, At}
+use Rattle.list_laws.proofs.Among.{Among, At}
 use Rattle.text_configs.proofs.NamedLaws.{with-old, with-new, with-back}
 
 pub record IsFound {X : Type 0} (p : X → Bool) (xs : List X) : Type 0 where

@@ -11,7 +11,7 @@ use Rattle.bay_model.specs.Places.{Place, place, places, type_with, fields, tree
 use Rattle.bay_model.specs.Slots.{IsSettable}
 use Rattle.value_store.specs.Wholes.{HasForm, HaveForms, tree_attrs, row_attrs}
 use Rattle.value_store.specs.Leaves.{leaf_shapes, leaf_shapes_in}
-use Rattle.text_configs.proofs.AmongLaws.{Each, each-both}
+use Rattle.list_laws.proofs.Among.{Each, each-both}
 
 -- attributes are numbered below n, and of these types
 module _ (kind : ℕ → TypeOf) (n : ℕ) where

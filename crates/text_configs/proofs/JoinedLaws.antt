@@ -1,7 +1,7 @@
 -- Names that are joined by `$`: the first of them, those behind it, and the names that a path is made of.
 use Rattle.std.proofs.Common.{◌≡◌, ℕ, suc, ◌+◌, ◌<◌, ◌≤◌, ◌==◌, false, cond, not, List, [], ◌∷◌, ◌++◌, length, take, drop, refl, sym, ap, ◌∙◌, arith, length-append, append_assoc}
 use Rattle.std.specs.List.{before_first, after_first, position_or_len, join_with_byte}
-use Rattle.text_configs.proofs.AmongLaws.{Each}
+use Rattle.list_laws.proofs.Among.{Each}
 
 abbrev pub NoDollar : List ℕ → Type 0
 NoDollar [] = Unit {0}

@@ -1,10 +1,9 @@
-pub mod AmongLaws
 pub mod JoinedLaws
 pub mod NamedLaws
 pub mod EntryLaws
 pub mod FormLaws
 pub mod TreeLaws
-pub mod SumLaws
+pub mod LengthLaws
 pub mod SizeLaws
 pub mod PlaceLaws
 pub mod OrderLaws

@@ -18,7 +18,7 @@ use Rattle.object_model.specs.Tables.{node_type, node_types}
 use Rattle.value_store.specs.Wholes.{HasForm, tree_attrs}
 use Rattle.value_store.specs.Leaves.{leaf_shapes}
 use Rattle.bay_config.specs.Servable.{IsMember, attr_type}
-use Rattle.text_configs.proofs.AmongLaws.{Among, At, of-each, all-of, at-within, at-index, at-get}
+use Rattle.list_laws.proofs.Among.{Among, At, of-each, all-of, at-within, at-index, at-get}
 use Rattle.text_configs.proofs.JoinedLaws.{rest}
 use Rattle.text_configs.proofs.FormLaws.{IsFormed}
 

@@ -4,17 +4,15 @@ use Rattle.std.specs.List.{list_any}
 use Rattle.std.specs.Str.{bytes_eq}
 use Rattle.std.specs.Cmp.Lexicographic.{bytes_decides}
 use Rattle.std.proofs.lemmas.Bool.{and_parts, and_from}
+use Rattle.list_laws.proofs.Distinct.{octets_same}
 use Rattle.bay_model.specs.Generated.{Named}
 use Rattle.bay_model.specs.NameTree.{Forest, named, first_name, rest_of, is_itself, below, with_name, first_names, role_of, own_type, side_by_side, grown}
 use Rattle.bay_model.specs.Places.{Place, place, places}
-use Rattle.text_configs.proofs.AmongLaws.{Among, left, right, either, mapped, source, kept, passed, some-passes}
+use Rattle.list_laws.proofs.Among.{Among, left, right, either, mapped, source, kept, passed, some-passes}
 
 pub not-not : (b : Bool) → not b ≡ true → b ≡ false
 not-not true h = absurd (true≢false (sym h))
 not-not false h = refl
-
-pub same-bytes : (a b : List ℕ) → bytes_eq a b ≡ true → a ≡ b
-same-bytes a b h = (bytes_decides a b).0 h
 
 pub bytes-same : (a b : List ℕ) → a ≡ b → bytes_eq a b ≡ true
 bytes-same a b h = (bytes_decides a b).1 h
@@ -43,7 +41,7 @@ pub with-new : (acc : List (List ℕ)) (m : List ℕ) → Among m (with_name acc
 with-new acc m = by (list_any (bytes_eq m) acc) refl
   where
     by : (b : Bool) → list_any (bytes_eq m) acc ≡ b → Among m (if b then acc else acc ++ m ∷ [])
-    by true e = let s = some-passes (bytes_eq m) acc e in subst (λ x. Among x acc) (sym (same-bytes m s.0 s.2)) s.1
+    by true e = let s = some-passes (bytes_eq m) acc e in subst (λ x. Among x acc) (sym (octets_same m s.0 s.2)) s.1
     by false e = right m acc (m ∷ []) (inl refl)
 
 fold-back : (f : List ℕ) (acc ms : List (List ℕ)) → Among f (fold with_name acc ms) → Among f acc ⊎ Among f ms
@@ -97,7 +95,7 @@ below-of ns name m i =
     let s = source rest_of m (filter (λ n. not (is_itself n) && bytes_eq name (first_name n)) ns) i in
     let p = passed (λ n. not (is_itself n) && bytes_eq name (first_name n)) s.0 ns s.1 in
     let both = and_parts (not (is_itself s.0)) (bytes_eq name (first_name s.0)) p.1 in
-    (s.0, record { there = p.0; longer = not-not (is_itself s.0) both.0; is = same-bytes name (first_name s.0) both.1; left = s.2 })
+    (s.0, record { there = p.0; longer = not-not (is_itself s.0) both.0; is = octets_same name (first_name s.0) both.1; left = s.2 })
 
 pub is-below : (ns : List Named) (name : List ℕ) (n : Named) → Among n ns → is_itself n ≡ false → name ≡ first_name n → Among (rest_of n) (below name ns)
 is-below ns name n i e is = mapped rest_of n _ (kept (λ n. not (is_itself n) && bytes_eq name (first_name n)) n ns i (and_from (not (is_itself n)) (bytes_eq name (first_name n)) (ap not e) (bytes-same name (first_name n) is)))

@@ -2,6 +2,7 @@
 use Rattle.std.proofs.Common.{◌≡◌, ℕ, zero, suc, ◌+◌, ◌≤◌, Bool, true, false, ◌⊎◌, inl, inr, List, [], ◌∷◌, ◌++◌, map, filter, length, refl, sym, ap, subst, ◌∙◌, arith, nat_le, if◌then◌else◌}
 use Rattle.std.specs.Prelude.{codes}
 use Rattle.std.specs.Str.{bytes_eq}
+use Rattle.list_laws.proofs.Distinct.{octets_same}
 use Rattle.sv_base.specs.declared.config.Config.{Config}
 use Rattle.sv_base.specs.declared.config.LnDef.{LnDef}
 use Rattle.sv_base.specs.declared.config.AttrDef.{AttrDef}
@@ -13,8 +14,8 @@ use Rattle.bay_model.specs.Generated.{Named, within, end_named, structure_named,
 use Rattle.bay_model.specs.Kinds.{comp_kind}
 use Rattle.bay_model.specs.NamedLines.{Line, is_setting, path_item, attribute_names, attribute_line, attribute_lines, node_line, block_line, block_lines, control_lines, group_line, domain_number, generated, lines, insert_line, in_order, names_in}
 use Rattle.bay_model.specs.NameTree.{longest}
-use Rattle.text_configs.proofs.AmongLaws.{Among, At, at-among, left, right, either, source, kept, passed, spread, gathered}
-use Rattle.text_configs.proofs.NamedLaws.{same-bytes, bytes-same}
+use Rattle.list_laws.proofs.Among.{Among, At, at-among, left, right, either, source, kept, passed, spread, gathered}
+use Rattle.text_configs.proofs.NamedLaws.{bytes-same}
 
 -- ---- the order of lines changes nothing
 inserted : (l : Line) (ms : List Line) (x : Line) → (x ≡ l) ⊎ Among x ms → Among x (insert_line l ms)
@@ -164,7 +165,7 @@ module _ (c : Config) (bare : IsBare c) where
   named-in domain n i =
       let g = gathered (λ (l : Line). l.names) n (filter (λ (l : Line). bytes_eq l.domain domain) (in_order (lines c))) i in
       let p = passed (λ (l : Line). bytes_eq l.domain domain) g.0 (in_order (lines c)) g.1 in
-      of-line domain g.0 n (from-ordered (lines c) g.0 p.0) (same-bytes g.0.domain domain p.1) g.2
+      of-line domain g.0 n (from-ordered (lines c) g.0 p.0) (octets_same g.0.domain domain p.1) g.2
 
 -- an attribute is named in its domain
 pub attribute-named : (c : Config) (x : ℕ) (a : AttrDef) → At x a c.attrs → Among (end_named (path_item a.ln a.fc a.path) (attribute x) a.kind) (names_in c a.domain)

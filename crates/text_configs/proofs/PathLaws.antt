@@ -6,14 +6,14 @@ use Rattle.std.specs.Str.{bytes_eq}
 use Rattle.std.proofs.lemmas.Bool.{and_parts}
 use Rattle.std.proofs.lemmas.Bool.Decides.{nat_tests}
 use Rattle.std.proofs.lemmas.List.Splits.{join_with_byte-slice_split, length-slice_split}
+use Rattle.list_laws.proofs.Distinct.{octets_same}
 use Rattle.sv_base.specs.declared.config.AttrDef.{AttrDef}
 use Rattle.bay_model.specs.NamedLines.{path_item}
 use Rattle.bay_model.specs.Places.{member_constraints}
 use Rattle.cfg_text.specs.Names.{is_letter, is_name_octet, is_name, is_path, is_dollar, is_slash, are_member, is_member}
 use Rattle.cfg_text.specs.Contents.{is_fc}
-use Rattle.text_configs.proofs.AmongLaws.{Among, Each, of-each, some-passes, heads, tails}
+use Rattle.list_laws.proofs.Among.{Among, Each, of-each, some-passes, heads, tails}
 use Rattle.text_configs.proofs.JoinedLaws.{NoDollar, IsPlain, ArePlain, joined, first, rest, first-joined, rest-joined, first-before, rest-before}
-use Rattle.text_configs.proofs.NamedLaws.{same-bytes}
 use Rattle.text_configs.proofs.AttrLaws.{key_of}
 
 -- ---- names
@@ -72,7 +72,7 @@ abbrev fcs : List (List ℕ)
 fcs = codes "ST" ∷ codes "MX" ∷ codes "CF" ∷ codes "DC" ∷ codes "SP" ∷ codes "SV" ∷ codes "SG" ∷ codes "EX" ∷ []
 
 fc-among : (fc : List ℕ) → is_fc fc ≡ true → Among fc fcs
-fc-among fc h = let s = some-passes (λ known. bytes_eq fc known) fcs h in subst (λ f. Among f fcs) (sym (same-bytes fc s.0 s.2)) s.1
+fc-among fc h = let s = some-passes (λ known. bytes_eq fc known) fcs h in subst (λ f. Among f fcs) (sym (octets_same fc s.0 s.2)) s.1
 
 all-plain : Each IsPlain fcs
 all-plain = ((omega arith, (refl, (refl, tt))), ((omega arith, (refl, (refl, tt))), ((omega arith, (refl, (refl, tt))), ((omega arith, (refl, (refl, tt))), ((omega arith, (refl, (refl, tt))), ((omega arith, (refl, (refl, tt))), ((omega arith, (refl, (refl, tt))), ((omega arith, (refl, (refl, tt))), tt))))))))

@@ -6,7 +6,7 @@ use Rattle.std.proofs.lemmas.List.{append_cancel_left}
 use Rattle.bay_model.specs.Generated.{Named}
 use Rattle.bay_model.specs.NameTree.{Forest, nothing, named, first_name, rest_of, is_itself, below, first_names, grown}
 use Rattle.bay_model.specs.Places.{Place, places}
-use Rattle.text_configs.proofs.AmongLaws.{Among, either}
+use Rattle.list_laws.proofs.Among.{Among, either}
 use Rattle.text_configs.proofs.JoinedLaws.{NoDollar, ArePlain, joined, first, rest, first-joined, rest-joined, joined-some, first-before}
 use Rattle.text_configs.proofs.NamedLaws.{first-of, is-first, is-below, place_at, deeper, placed, is-placed, is-deeper}
 

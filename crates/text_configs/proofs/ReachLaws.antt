@@ -4,12 +4,13 @@ use Rattle.std.specs.Prelude.{slice_index}
 use Rattle.std.specs.Str.{bytes_eq}
 use Rattle.std.proofs.lemmas.Bool.Decides.{nat_tests, eqb_tells}
 use Rattle.std.proofs.lemmas.List.{take_at}
+use Rattle.list_laws.proofs.Distinct.{octets_same}
 use Rattle.cfg_text.specs.Taken.{is_among, added}
 use Rattle.cfg_text.specs.Paths.{above_within, above}
 use Rattle.cfg_text.specs.Sizes.{edges_within, edges, with_edge, with_name, children}
-use Rattle.text_configs.proofs.AmongLaws.{Among, some-passes, passes}
+use Rattle.list_laws.proofs.Among.{Among, some-passes, passes}
 use Rattle.text_configs.proofs.JoinedLaws.{NoDollar}
-use Rattle.text_configs.proofs.NamedLaws.{same-bytes, bytes-same, with-old, with-new}
+use Rattle.text_configs.proofs.NamedLaws.{bytes-same, with-old, with-new}
 
 pub index-at : (front : List ℕ) (o : ℕ) (more : List ℕ) → slice_index (front ++ o ∷ more) (length front) ≡ o
 index-at [] o more = refl
@@ -63,7 +64,7 @@ within-back (suc n) path node h i = by (slice_index path n == 36) refl i (within
 
 pub above-back : (path node : List ℕ) → is_among (above path) node ≡ true → IsAbove path node
 above-back path node h = let s = some-passes (λ k. bytes_eq node k) (above path) h in
-    subst (IsAbove path) (sym (same-bytes node s.0 s.2)) (within-back (length path) path s.0 (omega arith) s.1)
+    subst (IsAbove path) (sym (octets_same node s.0 s.2)) (within-back (length path) path s.0 (omega arith) s.1)
 
 -- ---- directly below
 

@@ -3,6 +3,7 @@ use Rattle.std.proofs.Common.{◌≡◌, ℕ, suc, ◌<◌, ◌≤◌, ◌⊎◌
 use Rattle.std.specs.List.{list_any}
 use Rattle.std.specs.Str.{bytes_eq}
 use Rattle.std.proofs.lemmas.Bool.{or_cases}
+use Rattle.list_laws.proofs.Distinct.{octets_same}
 use Rattle.sv_base.specs.declared.config.Config.{Config}
 use Rattle.sv_base.specs.declared.config.AttrDef.{AttrDef}
 use Rattle.bay_model.specs.Model.{Node, attribute}
@@ -21,9 +22,9 @@ use Rattle.cfg_text.specs.Contents.{is_fc}
 use Rattle.cfg_text.specs.Names.{is_name}
 use Rattle.cfg_text.specs.Nodes.{reaches}
 use Rattle.bay_config.specs.Servable.{IsMember, attr_type}
-use Rattle.text_configs.proofs.AmongLaws.{Among, At, of-each, at-among, among-at, spread, mapped, source, some-passes, heads, tails}
+use Rattle.list_laws.proofs.Among.{Among, At, of-each, at-among, among-at, spread, mapped, source, some-passes, heads, tails}
 use Rattle.text_configs.proofs.JoinedLaws.{ArePlain, joined, first, rest, first-joined, rest-joined, joined-longer, same-joined}
-use Rattle.text_configs.proofs.NamedLaws.{same-bytes, bytes-same}
+use Rattle.text_configs.proofs.NamedLaws.{bytes-same}
 use Rattle.text_configs.proofs.EntryLaws.{named_of}
 use Rattle.text_configs.proofs.FormLaws.{IsFormed, places-formed}
 use Rattle.text_configs.proofs.TreeLaws.{grown-tree}
@@ -86,7 +87,7 @@ module _ (c : Config) (told : IsTold c) where
           }
 
       by : (a : AttrDef) (x : ℕ) → At x a c.attrs → (bytes_eq r (key_of a) ≡ true) ⊎ (is_among (above (key_of a)) r ≡ true) → IsReached s.domain (names_in s.item)
-      by a x at (inl e) = all a x at (sym (same-bytes r (key_of a) e))
+      by a x at (inl e) = all a x at (sym (octets_same r (key_of a) e))
       by a x at (inr e) = let b = above-back (key_of a) r e in some a x at b.more b.is
 
   -- the names before others of an attribute have a place in its domain
@@ -178,6 +179,6 @@ module _ (c : Config) (told : IsTold c) where
       let h = reached r s reach in
       let f = first-node r s h in
       let at = node-at-place (places_in c) (named.domains c) f.number f.element f.at in
-      let whole : r ≡ at.domain ++ 47 ∷ at.place.item = same-bytes r (reference_of f.element.domain f.element.item) f.passes ∙ ap (λ (n : Node). reference_of n.domain n.item) at.is in
+      let whole : r ≡ at.domain ++ 47 ∷ at.place.item = octets_same r (reference_of f.element.domain f.element.item) f.passes ∙ ap (λ (n : Node). reference_of n.domain n.item) at.is in
       let number : f.number ≡ member_number (nodes c) r = sym (ap (λ o. unwrap_or o 0) f.is) in
       subst (IsMember c) number (member-of c f.number at.domain at.place f.element f.at at.is at.kind (fit-at r s h few at.domain at.place at.domain_there at.place_there whole))

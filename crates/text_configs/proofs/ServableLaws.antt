@@ -23,7 +23,7 @@ use Rattle.cfg_text.specs.declared.leaf.Leaf.{Leaf}
 use Rattle.cfg_text.specs.declared.line.Line.{Line}
 use Rattle.cfg_text.specs.declared.line.Line.TheVariants as lines
 use Rattle.bay_config.specs.Servable.{IsMember, IsServedSet, IsServedBlock, HasSoundValues, IsServable}
-use Rattle.text_configs.proofs.AmongLaws.{Among, all-of, among-at, at-within, at-index, source}
+use Rattle.list_laws.proofs.Among.{Among, all-of, of-all, source}
 use Rattle.text_configs.proofs.FindLaws.{found, domain-there}
 use Rattle.text_configs.proofs.NamedLaws.{bytes-same, not-not}
 use Rattle.text_configs.proofs.StandLaws.{IsPlainText, plain-text, nodes-read}
@@ -38,9 +38,6 @@ use Rattle.text_configs.proofs.ReferenceLaws.{member}
 -- blocks that report at once and have no integrity period
 abbrev pub AreImmediate : List BlockDef → Type 0
 AreImmediate bs = All (λ (b : BlockDef). (b.buf_tm ≡ 0) × (b.intg_pd ≡ 0)) bs
-
-of-all : {X : Type 0} (P : X → Type 0) (xs : List X) (x : X) → All P xs → Among x xs → P x
-of-all P xs x h i = let a = among-at x xs i in subst P (at-index a.0 x x xs a.1) (h a.0 x (at-within a.0 x xs a.1))
 
 names-of : (as_ : List AttrDef) → map (λ (leaf : Leaf). leaf.name) (map leaf_of as_) ≡ map key_of as_
 names-of [] = refl

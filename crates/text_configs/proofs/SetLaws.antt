@@ -14,7 +14,7 @@ use Rattle.cfg_text.specs.Texts.{AreLines, IsFound, AreFound}
 use Rattle.cfg_text.specs.declared.leaf.Leaf.{Leaf}
 use Rattle.cfg_text.specs.declared.line.Line.{Line}
 use Rattle.cfg_text.specs.declared.line.Line.TheVariants as lines
-use Rattle.text_configs.proofs.AmongLaws.{Among, ending}
+use Rattle.list_laws.proofs.Among.{Among, ending}
 use Rattle.text_configs.proofs.StandLaws.{IsPlainText, in-node}
 use Rattle.text_configs.proofs.AttrLaws.{key_of}
 

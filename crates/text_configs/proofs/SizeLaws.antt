@@ -3,6 +3,8 @@ use Rattle.std.proofs.Common.{◌≡◌, ℕ, zero, suc, ◌+◌, ◌<◌, ◌�
 use Rattle.std.specs.List.{sum_by}
 use Rattle.std.proofs.lemmas.List.{append_cancel_left}
 use Rattle.std.proofs.lemmas.List.Sums.{sum_by-cons}
+use Rattle.list_laws.proofs.Distinct.{differ, differ-map}
+use Rattle.list_laws.proofs.Sums.{one-part, sum-among}
 use Rattle.sv_base.specs.Data.{length_field}
 use Rattle.sv_base.specs.Types.{Fields, no_field, field}
 use Rattle.sv_base.specs.declared.types.TypeOf.{TypeOf}
@@ -11,12 +13,12 @@ use Rattle.bay_model.specs.Generated.{Named}
 use Rattle.bay_model.specs.NameTree.{Forest, named, below, first_names, role_of, own_type, side_by_side, grown}
 use Rattle.bay_model.specs.Places.{Place, places, type_with, fields, headed, largest, largest_fields}
 use Rattle.object_model.proofs.GroupLaws.{distinct}
-use Rattle.text_configs.proofs.AmongLaws.{Among, each-of, left, right, source, tails}
+use Rattle.list_laws.proofs.Among.{Among, each-of, left, right, source, tails}
 use Rattle.text_configs.proofs.JoinedLaws.{joined, joined-behind}
 use Rattle.text_configs.proofs.NamedLaws.{bytes-same, place_at, deeper, IsPlaced, placed}
 use Rattle.text_configs.proofs.EntryLaws.{Entry, entry, PlainEntry, named_of, under, below-under, under-of, cut}
 use Rattle.text_configs.proofs.TreeLaws.{AreEntries, entries-under, IsEnd, IsOpen, ends-or-not, head-of, nothing-below, type-ended, type-open}
-use Rattle.text_configs.proofs.SumLaws.{differ, differ-map, one-part, sum-among, field-grows}
+use Rattle.text_configs.proofs.LengthLaws.{field-grows}
 
 -- What is counted for a reference, as far down as the number says: for those that are known to be an attribute's, and for
 -- those above them, by what is directly below.

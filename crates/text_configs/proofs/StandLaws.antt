@@ -1,5 +1,6 @@
 -- Where the lines of a text stand: in a domain, and in one of its logical nodes.
 use Rattle.std.proofs.Common.{◌≡◌, ℕ, ◌⊎◌, inl, inr, true, List, [], ◌∷◌, ◌++◌, length, refl, ap, subst, ◌∙◌, arith, length-append}
+use Rattle.list_laws.proofs.Appended.{some-left}
 use Rattle.sv_base.specs.declared.config.LnDef.{LnDef}
 use Rattle.cfg_text.specs.Names.{is_name}
 use Rattle.cfg_text.specs.Before.{place_of, domain_of, node_of, groups_of}
@@ -10,7 +11,7 @@ use Rattle.cfg_text.specs.declared.line.Line.{Line}
 use Rattle.cfg_text.specs.declared.line.Line.TheVariants as lines
 use Rattle.cfg_text.specs.declared.line.Place.{Place}
 use Rattle.cfg_text.specs.declared.line.Place.TheVariants as places
-use Rattle.text_configs.proofs.AmongLaws.{Among, left, right, ending}
+use Rattle.list_laws.proofs.Among.{Among, left, right, ending}
 
 -- no controls and no setting groups
 abbrev pub IsPlainText : List Line → Type 0
@@ -18,9 +19,6 @@ IsPlainText [] = Unit {0}
 IsPlainText (lines.Ctl control ∷ before) = ⊥
 IsPlainText (lines.Sgcb groups ∷ before) = ⊥
 IsPlainText (line ∷ before) = IsPlainText before
-
-some-left : {X : Type 0} (xs : List X) (x : X) → xs ++ x ∷ [] ≡ [] → ⊥
-some-left xs x e = absurd (omega (arith, ap length e, length-append xs (x ∷ [])))
 
 pub plain-text : (told : List Line) → (config_of told).controls ≡ [] → (config_of told).groups ≡ [] → IsPlainText told
 plain-text [] c g = tt

@@ -9,15 +9,11 @@ use Rattle.sv_base.specs.declared.types.TypeOf.TheVariants as types
 use Rattle.bay_model.specs.Model.{Role, single, several, attribute}
 use Rattle.bay_model.specs.Generated.{Named}
 use Rattle.bay_model.specs.NameTree.{Forest, nothing, named, first_name, is_itself, below, first_names, role_of, own_type, side_by_side, grown}
-use Rattle.text_configs.proofs.AmongLaws.{Among, each-of, source}
+use Rattle.list_laws.proofs.Among.{Among, each-of, source, nil-of}
 use Rattle.text_configs.proofs.JoinedLaws.{ArePlain, joined, first-joined, joined-some}
 use Rattle.text_configs.proofs.NamedLaws.{first-of}
 use Rattle.text_configs.proofs.EntryLaws.{Entry, PlainEntry, named_of, at_path, under, below-under, under-of, AreApart, apart-under, plain-under}
 use Rattle.text_configs.proofs.FormLaws.{IsNumber, IsPart, IsTree}
-
-pub nil-of : {X : Type 0} (xs : List X) → ((x : X) → Among x xs → ⊥) → xs ≡ []
-nil-of [] h = refl
-nil-of (x ∷ xs) h = absurd (h x (inl refl))
 
 -- entries that may stand in a tree
 pub record AreEntries (kind : ℕ → TypeOf) (n : ℕ) (es : List Entry) : Type 0 where

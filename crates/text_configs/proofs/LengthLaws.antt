@@ -1,67 +1,9 @@
--- Sums over names that differ, and the octets of elements by their contents.
+-- A longer content has no shorter length field.
 use Rattle.std.proofs.Common.{◌≡◌, ℕ, ◌+◌, ◌≤◌, ◌<◌, ◌==◌, Bool, true, false, inl, inr, List, [], ◌∷◌, ◌++◌, map, length, refl, sym, ap, subst, ◌∙◌, arith, true≢false, nat_lt, if◌then◌else◌}
-use Rattle.std.specs.List.{sum_by}
 use Rattle.std.specs.Int.{to_be_bytes, byte_at, w32}
 use Rattle.std.proofs.lemmas.Bool.Decides.{nat_tests}
 use Rattle.std.proofs.lemmas.Bool.{cond-true, cond-false}
-use Rattle.std.proofs.lemmas.List.Sums.{sum_by-cons, sum_by-append}
 use Rattle.sv_base.specs.Data.{length_field, without_zeros}
-use Rattle.object_model.proofs.GroupLaws.{Absent, Distinct}
-use Rattle.text_configs.proofs.AmongLaws.{Among, source}
-use Rattle.text_configs.proofs.NamedLaws.{bytes-same}
-
--- no element stands twice
-abbrev pub Differ : List (List ℕ) → Type 0
-Differ [] = Unit {0}
-Differ (x ∷ xs) = (Among x xs → ⊥) × Differ xs
-
-not-absent : (n : List ℕ) (ns : List (List ℕ)) → Absent n ns → Among n ns → ⊥
-not-absent n [] a i = i
-not-absent n (m ∷ ms) a (inl e) = true≢false (sym (bytes-same m n (sym e)) ∙ a.0)
-not-absent n (m ∷ ms) a (inr i) = not-absent n ms a.1 i
-
-pub differ : (ns : List (List ℕ)) → Distinct ns → Differ ns
-differ [] d = tt
-differ (n ∷ ns) d = (not-absent n ns d.0, differ ns d.1)
-
-pub differ-map : (g : List ℕ → List ℕ) (ns : List (List ℕ)) → ((a b : List ℕ) → g a ≡ g b → a ≡ b) → Differ ns → Differ (map g ns)
-differ-map g [] same d = tt
-differ-map g (n ∷ ns) same d = ((λ i. let s = source g (g n) ns i in d.0 (subst (λ x. Among x ns) (sym (same n s.0 s.2)) s.1)), differ-map g ns same d.1)
-
--- a list that is split at an element
-pub record IsSplit (x : List ℕ) (ys : List (List ℕ)) : Type 0 where
-  pub before : List (List ℕ)
-  pub after : List (List ℕ)
-  pub is : ys ≡ before ++ x ∷ after
-
-pub split-at : (x : List ℕ) (ys : List (List ℕ)) → Among x ys → IsSplit x ys
-split-at x [] i = absurd i
-split-at x (y ∷ ys) (inl e) = record { before = []; after = ys; is = ap (λ z. z ∷ ys) (sym e) }
-split-at x (y ∷ ys) (inr i) = let s = split-at x ys i in record { before = y ∷ s.before; after = s.after; is = ap (λ l. y ∷ l) s.is }
-
-without : (x z : List ℕ) (as_ bs : List (List ℕ)) → Among z (as_ ++ x ∷ bs) → (z ≡ x → ⊥) → Among z (as_ ++ bs)
-without x z [] bs (inl e) apart = absurd (apart e)
-without x z [] bs (inr i) apart = i
-without x z (a ∷ as_) bs (inl e) apart = inl e
-without x z (a ∷ as_) bs (inr i) apart = inr (without x z as_ bs i apart)
-
-module _ (f : List ℕ → ℕ) where
-  sum-split : (x : List ℕ) (as_ bs : List (List ℕ)) → sum_by f (as_ ++ x ∷ bs) ≡ f x + sum_by f (as_ ++ bs)
-  sum-split x as_ bs = omega (arith, sum_by-append f as_ (x ∷ bs), sum_by-append f as_ bs, sum_by-cons f x bs)
-
-  -- a part of the sum
-  pub one-part : (x : List ℕ) (ys : List (List ℕ)) → Among x ys → f x ≤ sum_by f ys
-  one-part x ys i = let s = split-at x ys i in omega (arith, ap (sum_by f) s.is, sum-split x s.before s.after)
-
-  -- elements that differ, among others
-  pub sum-among : (xs ys : List (List ℕ)) → Differ xs → ((x : List ℕ) → Among x xs → Among x ys) → sum_by f xs ≤ sum_by f ys
-  sum-among [] ys d h = omega arith
-  sum-among (x ∷ xs) ys d h =
-      let s = split-at x ys (h x (inl refl)) in
-      let rest = sum-among xs (s.before ++ s.after) d.1 (λ z i. without x z s.before s.after (subst (Among z) s.is (h z (inr i))) (λ e. d.0 (subst (λ y. Among y xs) e i))) in
-      omega (arith, ap (sum_by f) s.is, sum-split x s.before s.after, sum_by-cons f x xs, rest)
-
--- ---- octets of lengths
 
 zero-off : (a : ℕ) (rest : List ℕ) → a ≡ 0 → without_zeros (a ∷ rest) ≡ without_zeros rest
 zero-off a rest e = ap (λ b. if b == 0 then without_zeros rest else b ∷ rest) e

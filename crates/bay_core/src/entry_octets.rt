@@ -4,7 +4,7 @@ ghost use Rattle.std.specs.Prelude.{◌≡◌, ◌≤◌, ◌<◌, ◌^◌, ◌+
 ghost use Rattle.std.specs.List.{All};
 ghost use Rattle.bay_model.specs.Retained.{weight_of as weight_if, kept_octets_of};
 ghost use Rattle.value_store.specs.Written.{adds};
-ghost use Rattle.bay_core.specs.Kept.{kept_with, note_octets, weights, IsWritable, IsKeepable};
+ghost use Rattle.bay_core.specs.EntryOctets.{kept_with, note_octets, weights, IsWritable, IsKeepable};
 
 use bay_model::{Fixed, MemberShape, Mention, Reasons};
 use value_store::Store;
@@ -26,28 +26,28 @@ fn weights_of(reasons: Reasons) -> u8
 }
 
 /// Adds the octets of a member. It takes no memory.
-fn put_mention(store: &Store, shape: &MemberShape, mention: Mention, kept: &mut Fixed)
+fn put_mention(store: &Store, shape: &MemberShape, mention: Mention, octets: &mut Fixed)
     requires number { mention.member.0 < 2 ^ 16 }
     requires writable { IsWritable store.now shape.now }
-    requires room { length kept.old.items + 504 ≤ kept.old.room }
-    ensures { kept.new ≡ adds kept.old (kept_octets_of (kept_with store.now shape.now mention)) }
+    requires room { length octets.old.items + 504 ≤ octets.old.room }
+    ensures { octets.new ≡ adds octets.old (kept_octets_of (kept_with store.now shape.now mention)) }
 {
     let number = mention.member.0;
     let weights = weights_of(mention.reasons);
-    kept.push(&[(number / 256) as u8, (number % 256) as u8, 0, weights]);
-    store.member_bytes(shape, kept);
+    octets.push(&[(number / 256) as u8, (number % 256) as u8, 0, weights]);
+    store.member_bytes(shape, octets);
 }
 
 /// The octets that a block keeps of a note, in place of what stood there: of each member its number, its reasons and its
 /// MMS Data in the store. It takes no memory.
-pub(crate) fn put_note(store: &Store, shapes: &[MemberShape], note: &[Mention], kept: &mut Fixed)
+pub(crate) fn put_note(store: &Store, shapes: &[MemberShape], note: &[Mention], octets: &mut Fixed)
     requires members { All (IsKeepable store.now shapes.now) note.now }
-    requires room { 504 * length note.now ≤ kept.old.room }
-    ensures { kept.new ≡ record { items = note_octets store.now shapes.now note.now; room = kept.old.room } }
+    requires room { 504 * length note.now ≤ octets.old.room }
+    ensures { octets.new ≡ record { items = note_octets store.now shapes.now note.now; room = octets.old.room } }
 {
-    kept.clear();
+    octets.clear();
     for mention in note {
         let shape = &shapes[mention.member.0 as usize - 1];
-        put_mention(store, shape, *mention, kept);
+        put_mention(store, shape, *mention, octets);
     }
 }

@@ -1,4 +1,4 @@
-//! Values that are written in the room of earlier ones.
+//! A report that is no longer needed: the next one is written in its memory.
 
 ghost use Rattle.std.specs.Prelude.{◌≡◌, ◌≤◌, ◌<◌, ◌++◌, ◌∷◌, ◌+◌, [], take, length, IfOk, OnOk};
 
@@ -6,24 +6,14 @@ use bay_model::{Member, Members, Reasons, Report};
 use std::alloc::{AllocError, Global};
 use sv_base::{Bits, BlockNo, MemberNo, Moment, Octs};
 
-/// Octets in the room of others: memory is taken only where they are more than had room.
-pub(crate) fn octets_in(room: Octs, octets: &[u8]) -> Result<Octs, AllocError>
-    ensures { IfOk result (λ o. o ≡ octets.now) }
+/// A copy of values in the memory of others: memory is taken only where they are more than had room.
+pub(crate) fn copied_into<T: Copy>(spare: Vec<T>, values: &[T]) -> Result<Vec<T>, AllocError>
+    ensures { IfOk result (λ row. row.items ≡ values.now) }
 {
-    let mut row = room.into_vec();
+    let mut row = spare;
     row.clear();
-    row.extend_from_slice(octets)?;
-    Ok(Octs::from_vec(row))
-}
-
-/// Truth values in the room of others: memory is taken only where they are more than had room.
-pub(crate) fn bits_in(room: Bits, bits: &[bool]) -> Result<Bits, AllocError>
-    ensures { IfOk result (λ b. b ≡ bits.now) }
-{
-    let mut row = room.into_vec();
-    row.clear();
-    row.extend_from_slice(bits)?;
-    Ok(Bits::from_vec(row))
+    row.extend_from_slice(values)?;
+    Ok(row)
 }
 
 /// A member with nothing in it. It takes no memory.
@@ -59,8 +49,8 @@ pub(crate) fn empty_report(alloc: Global) -> Report {
     }
 }
 
-/// The room of the member at a place, where one is; those before it stay. It takes no memory.
-pub(crate) fn member_room(alloc: Global, items: &mut Vec<Member>, place: usize) -> Member
+/// Takes the member at a place out, where one is; those before it stay. It takes no memory.
+pub(crate) fn spare_member(alloc: Global, items: &mut Vec<Member>, place: usize) -> Member
     ensures before { take place items.new.items ≡ take place items.old.items }
     ensures count { length items.new.items ≡ length items.old.items }
 {

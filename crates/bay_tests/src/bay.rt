@@ -1,10 +1,12 @@
+//! A bay with two blocks: it is opened, and makes steps.
+
 ghost use Rattle.std.specs.Prelude.{◌≡◌, ◌≤◌, ◌<◌, ◌^◌, suc, true, [], IfOk, OnOk, length};
 ghost use Rattle.std.specs.List.{All};
 ghost use Rattle.object_model.specs.Fits.{fits};
 ghost use Rattle.bay_config.specs.Servable.{IsServable, IsServedBlock};
 ghost use Rattle.bay_core.specs.Turns.{IsBuilt};
 
-use super::*;
+use bay_core::{Bay, StepFault};
 use bay_model::{Answer, Step};
 use object_model::Model;
 use std::alloc::{AllocError, Global};
@@ -88,6 +90,7 @@ fn opened_bay(alloc: Global) -> Result<Bay, AllocError>
 fn no_step_is_made_when_a_bay_is_opened(rt: HostRuntime) -> Result<(), Fail> {
     let bay = opened_bay(rt.alloc())?;
     assert_eq!(rt; bay.steps(), 0);
+    assert!(rt; !bay.is_open(AssocNo(1)));
     Ok(())
 }
 
@@ -103,14 +106,16 @@ fn step_and_reuse(bay: &mut Bay, alloc: Global, step: &Step) -> Result<(), StepF
     Ok(())
 }
 
-/// Two steps; an answer is handed back before each of them.
-fn two_steps(bay: &mut Bay, alloc: Global) -> Result<(), StepFault>
+/// Three steps; an answer is handed back before each of them.
+fn three_steps(bay: &mut Bay, alloc: Global) -> Result<(), StepFault>
     requires { bay.old.steps ≡ 0 }
-    ensures { OnOk result (bay.new.steps ≡ 2) }
+    ensures { OnOk result (bay.new.steps ≡ 3) }
 {
+    let (a, size, writer) = (AssocNo(1), 65000, ActorNo(1));
     bay.reuse(Answer::Empty);
     step_and_reuse(bay, alloc, &Step::Tick)?;
-    step_and_reuse(bay, alloc, &Step::Take(AssocNo(1)))
+    step_and_reuse(bay, alloc, &Step::Take(a))?;
+    step_and_reuse(bay, alloc, &Step::Open { a, size, writer })
 }
 
 /// A bay with two blocks, in a box.
@@ -124,7 +129,8 @@ fn boxed_bay(alloc: Global) -> Result<Box<Bay>, AllocError>
 #[test]
 fn steps_go_on_after_an_answer_is_handed_back(rt: HostRuntime) -> Result<(), Fail> {
     let mut bay = boxed_bay(rt.alloc())?;
-    two_steps(&mut bay, rt.alloc())?;
-    assert_eq!(rt; bay.steps(), 2);
+    three_steps(&mut bay, rt.alloc())?;
+    assert_eq!(rt; bay.steps(), 3);
+    assert!(rt; bay.is_open(AssocNo(1)));
     Ok(())
 }
