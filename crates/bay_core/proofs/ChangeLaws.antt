@@ -37,7 +37,7 @@ use Rattle.value_store.specs.Wholes.{Stands}
 use Rattle.trigger_core.specs.Points as points
 use Rattle.trigger_core.specs.Points.{AreChanges, change_to}
 use Rattle.bay_core.specs.Changed.{given, last_set, change_from, AreMade, AreFit, IsValueOf, IsTyped, AreTyped}
-use Rattle.bay_core.specs.Servable.{attr_type}
+use Rattle.bay_config.specs.Servable.{attr_type}
 use Rattle.bay_core.specs.State.{AreHeld, IsSoundCell}
 
 -- the trigger conditions that the object model gives are those of notes

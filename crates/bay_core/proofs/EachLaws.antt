@@ -32,28 +32,3 @@ one-more f xs ys i x is below there =
     let within : i < length xs = omega (arith, below, ap length is, length-next f xs i) in
     let next : suc i ≡ i + 1 = omega arith in
     (ap (λ z. slice_set ys i (f z)) there ∙ (ap (λ l. slice_set l i (f (slice_index_or l i x))) is ∙ (set-next f xs i x within ∙ ap (λ n. map f (take n xs) ++ drop n xs) next)), omega (arith, within))
-
--- ---- what stands at a place
-
-got : {A B : Type 0} (f : A → B) (o : Option A) (y : B) → option_map f o ≡ Some y → (x : A) × (o ≡ Some x) × (f x ≡ y)
-got f None y is = cc
-got f (Some x) y is = (x, refl, cc)
-
-pub got-map : {A B : Type 0} (f : A → B) (xs : List A) (i : ℕ) (y : B) → slice_get (map f xs) i ≡ Some y → (x : A) × (slice_get xs i ≡ Some x) × (f x ≡ y)
-got-map f xs i y is = got f (slice_get xs i) y (sym (slice_get-map f xs i) ∙ is)
-
--- it is the element that was set, or that from before
-pub got-set : {A : Type 0} (xs : List A) (i j : ℕ) (x z : A) → slice_get (slice_set xs i x) j ≡ Some z → ((j ≡ i) × (z ≡ x)) ⊎ ((j ≢ i) × (slice_get xs j ≡ Some z))
-got-set [] i j x z is = cc
-got-set (y ∷ ys) zero zero x z is = inl (refl, cc)
-got-set (y ∷ ys) zero (suc j) x z is = inr (λ e. omega (arith, e), is)
-got-set (y ∷ ys) (suc i) zero x z is = inr (λ e. omega (arith, e), is)
-got-set (y ∷ ys) (suc i) (suc j) x z is = elim (got-set ys i j x z is) [ inl e ↦ inl (ap suc e.0, e.1) | inr e ↦ inr (λ k. e.0 (omega (arith, k)), e.1) ]
-
--- ---- numbers of parts
-
-pub same-number : (b : ℕ) → (b == b) ≡ true
-same-number b = grind (arith, nat_tests)
-
-pub other-number : (b k : ℕ) → k ≢ b → (b == k) ≡ false
-other-number b k h = grind (arith, nat_tests, h)

@@ -9,6 +9,7 @@ use Rattle.std.proofs.lemmas.List.{append-nil, at_drop_more}
 use Rattle.std.proofs.lemmas.List.Elements.{All-map, All-head, All-tail, All-nil}
 use Rattle.std.proofs.lemmas.Option.{slice_get-map}
 use Rattle.std.proofs.lemmas.Slice.Eq.{bytes_eq-Decides}
+use Rattle.list_laws.proofs.Places.{got-map}
 use Rattle.sv_base.specs.declared.config.Config.{Config}
 use Rattle.sv_base.specs.declared.config.BlockDef.{BlockDef}
 use Rattle.sv_base.specs.declared.numbers.NodeId.{NodeId}
@@ -29,10 +30,9 @@ use Rattle.entry_ring.specs.Standing.{Holds, empty}
 use Rattle.entry_ring.proofs.HoldLaws.{holds-opened}
 use Rattle.bay_core.specs.declared.part.Part.{Part}
 use Rattle.bay_core.specs.Opened.{is_referred, row_referred, nodes_referred, PartSeen, seen, part_defined}
-use Rattle.bay_core.specs.Servable.{IsServable}
+use Rattle.bay_config.specs.Servable.{IsServable}
 use Rattle.bay_core.specs.State.{served_members}
 use Rattle.bay_core.specs.Standing.{PartStands, PartsStand, IsReadable}
-use Rattle.bay_core.proofs.EachLaws.{got-map}
 
 -- ---- references
 

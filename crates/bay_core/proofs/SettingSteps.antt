@@ -5,6 +5,7 @@ use Rattle.std.proofs.lemmas.Bool.Decides.{eqb_tells}
 use Rattle.std.proofs.lemmas.List.{length-set, length_push, get_or-set_other}
 use Rattle.std.proofs.lemmas.Grind.{get_or-set_at}
 use Rattle.std.proofs.lemmas.List.Folds.{find-append}
+use Rattle.list_laws.proofs.Places.{at_set}
 use Rattle.sv_base.specs.Same.{is_same}
 use Rattle.sv_base.specs.declared.config.Config.{Config}
 use Rattle.sv_base.specs.declared.value.Value.{Value}
@@ -15,7 +16,6 @@ use Rattle.bay_model.specs.Named.{configured_model}
 use Rattle.bay_model.specs.Settings.{set_to}
 use Rattle.object_model.specs.Tables.{flags_of}
 use Rattle.value_store.specs.Stored.{Stored, attribute, no_attribute, with_value}
-use Rattle.value_store.proofs.StandLaws.{at_set}
 use Rattle.trigger_core.specs.Noted.{change_of}
 use Rattle.bay_core.specs.Changed.{given, change_from}
 use Rattle.bay_core.specs.Marked.{is_marked, IsDone}

@@ -1,4 +1,3 @@
-pub mod Servable
 pub mod State
 pub mod Standing
 pub mod Turns
@@ -7,7 +6,7 @@ pub mod Parting
 pub mod Changed
 pub mod Opened
 pub mod Marked
-pub mod Kept
+pub mod EntryOctets
 pub mod Again
 pub mod Reporting
 pub mod Events

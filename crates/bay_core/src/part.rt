@@ -43,7 +43,7 @@ impl Part {
     }
 
     /// Which entries are retained.
-    pub(crate) fn kept(&self) -> Kept
+    pub(crate) fn retained(&self) -> Kept
         ensures { result ≡ record { front = self.now.ring.front; len = self.now.ring.newest } }
     {
         Kept {
@@ -58,8 +58,8 @@ impl Part {
         ensures answer { result ≡ without_effect (write_answer a comp value.now self.old) }
         ensures written { self.new ≡ after_write a comp value.now self.old (write_answer a comp value.now self.old) }
     {
-        let kept = self.kept();
-        match self.block.write(a, comp, value, kept, false) {
+        let retained = self.retained();
+        match self.block.write(a, comp, value, retained, false) {
             Ok(effect) => {
                 self.settle(effect);
                 Ok(())
