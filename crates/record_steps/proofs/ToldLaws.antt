@@ -20,8 +20,7 @@ use Rattle.record_steps.specs.Components.{component_at}
 use Rattle.record_steps.specs.Shapes.{shape_at}
 use Rattle.record_steps.specs.Settings.{are_named, settings_at}
 use Rattle.record_steps.specs.Resolved.{association_of, turn_of, is_built, opened_as, valued_as, written_as, lost_as, set_to, set_as, told_of}
-use Rattle.record_steps.specs.Told as tells
-use Rattle.record_steps.specs.Told.{Told, turn, refused}
+use Rattle.record_steps.specs.Told.{turn, refused}
 use Rattle.record_steps.specs.Telling.{NamesNone}
 use Rattle.record_steps.specs.Own.{IsOwn}
 
@@ -52,9 +51,9 @@ module _ (c : Config) (there : Bool) (a : AssocNo) where
     pub written-closed : there ≡ false → refused 5 ≡ written_as c there a block comp word
     written-closed closed = sym (named ∙ ap (λ x. if x then valued_as c a b k (shape_at k word) else refused 5) closed)
 
-    module _ (open : there ≡ true) where
+    module _ (opened : there ≡ true) where
       valued : written_as c there a block comp word ≡ valued_as c a b k (shape_at k word)
-      valued = named ∙ ap (λ x. if x then valued_as c a b k (shape_at k word) else refused 5) open
+      valued = named ∙ ap (λ x. if x then valued_as c a b k (shape_at k word) else refused 5) opened
 
       pub written-unspelled : shape_at k word ≡ None → refused 4 ≡ written_as c there a block comp word
       written-unspelled none = sym (valued ∙ ap (valued_as c a b k) none)
@@ -118,10 +117,10 @@ module _ (c : Config) (is_open : ℕ → Bool) (actor : ℕ) (step : Step) where
     by false h = absurd cc
 
   value-own : (a : AssocNo) (b : ℕ) (comp : Comp) (o : Option Value) → is_open a.0 ≡ true → valued_as c a b comp o ≡ turn actor step → Own
-  value-own a b comp None open h = absurd cc
-  value-own a b comp (Some v) open h = by (is_built comp) refl h where
+  value-own a b comp None opened h = absurd cc
+  value-own a b comp (Some v) opened h = by (is_built comp) refl h where
     by : (t : Bool) → is_built comp ≡ t → (if t then turn_of c a.0 (steps.Write a (record { 0 = b }) comp v) else refused 9) ≡ turn actor step → Own
-    by true e h = turned c a.0 actor (steps.Write a (record { 0 = b }) comp v) step (IsOwn is_open) h (open, refl, e)
+    by true e h = turned c a.0 actor (steps.Write a (record { 0 = b }) comp v) step (IsOwn is_open) h (opened, refl, e)
     by false e h = absurd cc
 
   write-own : (a : AssocNo) (block : Option ℕ) (comp : Option Comp) (word : List ℕ) → written_as c (is_open a.0) a block comp word ≡ turn actor step → Own

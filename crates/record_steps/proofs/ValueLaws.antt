@@ -1,15 +1,13 @@
 -- The values that a text gives its attributes: of their types, within their ranges, and sound.
-use Rattle.std.proofs.Common.{◌≡◌, ℕ, ◌<◌, ◌≤◌, ◌==◌, inl, inr, true, ◌&&◌, List, [], ◌∷◌, length, slice_get, pos, negsuc, ℤ, nat_le, nat_lt, refl, sym, ap, subst, arith}
+use Rattle.std.proofs.Common.{◌≡◌, ℕ, ◌<◌, ◌≤◌, ◌==◌, inl, inr, true, ◌&&◌, List, [], ◌∷◌, length, pos, negsuc, ℤ, nat_le, nat_lt, refl, sym, subst, arith}
 use Rattle.std.specs.List.{list_all, All}
 use Rattle.std.proofs.lemmas.Bool.{and_parts, and_from}
 use Rattle.std.proofs.lemmas.Bool.Decides.{nat_tests}
 use Rattle.std.proofs.lemmas.List.Elements.{All-cons, All-nil}
-use Rattle.sv_base.specs.Same.{values_of}
 use Rattle.sv_base.specs.declared.value.Value.{Value}
 use Rattle.sv_base.specs.declared.value.Value.TheVariants as values
 use Rattle.sv_base.specs.declared.types.TypeOf.{TypeOf}
 use Rattle.sv_base.specs.declared.types.TypeOf.TheVariants as types
-use Rattle.sv_base.specs.declared.config.AttrDef.{AttrDef}
 use Rattle.bay_model.specs.Configured.{kind_of}
 use Rattle.bay_model.specs.Kinds.{is_kind, is_in_range}
 use Rattle.bay_model.specs.Slots.{IsSettable}

@@ -5,7 +5,6 @@ use Rattle.bay_model.specs.declared.step.Step.{Step}
 use Rattle.run_record.specs.declared.line.RecLine.{RecLine}
 use Rattle.run_record.specs.declared.line.RecLine.TheVariants as lines
 use Rattle.record_steps.specs.Told as tells
-use Rattle.record_steps.specs.Resolved.{association_of}
 use Rattle.record_steps.specs.declared.cause.Kind.{Kind}
 use Rattle.record_steps.specs.declared.cause.Kind.TheVariants as kinds
 use Rattle.record_steps.specs.declared.telling.Told.{Told}

@@ -3,10 +3,12 @@
 
 // what a line tells: a step in a slot that is lent, or the first cause for which there is none
 mod telling;
+
 pub use telling::{Told, association, tell};
 
 // why there is none
 mod cause;
+
 pub use cause::Kind;
 
 // the names and values of lines

@@ -35,6 +35,14 @@ pub enum Told {
     End,
 }
 
+/// Puts a step into a slot.
+#[inline(always)] // so that the step is made where it stays
+fn put(slot: &mut Step, step: Step)
+    ensures { slot.new ≡ step }
+{
+    *slot = step;
+}
+
 /// The component is one whose writes are built.
 fn is_built(comp: Comp) -> bool
     ensures { result ≡ is_built_component comp }
@@ -54,7 +62,7 @@ fn open(model: &Model, is_open: bool, a: AssocNo, form: OpenForm, step: &mut Ste
         OpenForm::Direct => {
             let writer = ActorNo(a.0);
             let size = 65000;
-            *step = Step::Open { a, size, writer };
+            put(step, Step::Open { a, size, writer });
             Told::Step(writer)
         }
         OpenForm::Mms(_) => Told::Refused(Kind::NotBuilt),
@@ -91,7 +99,7 @@ fn write(
     if !is_built(comp) {
         return Ok(Told::Refused(Kind::NotBuilt));
     }
-    *step = Step::Write(a, block, comp, value);
+    put(step, Step::Write(a, block, comp, value));
     Ok(Told::Step(ActorNo(a.0)))
 }
 
@@ -100,7 +108,7 @@ fn take(model: &Model, a: AssocNo, step: &mut Step) -> Told
     requires { IsAssoc a }
     ensures { telling result step.new ≡ turn_of model.now a.0 (steps.Take a) }
 {
-    *step = Step::Take(a);
+    put(step, Step::Take(a));
     Told::Step(ActorNo(a.0))
 }
 
@@ -110,7 +118,7 @@ fn lose(model: &Model, is_open: bool, a: AssocNo, step: &mut Step) -> Told
     ensures { telling result step.new ≡ lost_as model.now is_open a }
 {
     if is_open {
-        *step = Step::Lost(a);
+        put(step, Step::Lost(a));
         Told::Step(ActorNo(a.0))
     } else {
         Told::Refused(Kind::State)
@@ -128,7 +136,7 @@ fn set(
 {
     match settings_of(alloc, model, pairs)? {
         Found::Settings(settings) => {
-            *step = Step::Value(Sets::from_vec(settings));
+            put(step, Step::Value(Sets::from_vec(settings)));
             Ok(Told::Step(ActorNo(0)))
         }
         Found::Unnamed => Ok(Told::Refused(Kind::Name)),
@@ -158,6 +166,7 @@ pub fn association(line: &LineView<'_>) -> Option<AssocNo>
 }
 
 /// What a line tells, where the association that it names is open or isn't. A step is made in the slot, and fits the model.
+#[tactic(auto, unfolding(crate::specs::Resolved::told_of))]
 pub fn tell(
     alloc: Global,
     model: &Model,
@@ -184,7 +193,7 @@ pub fn tell(
         LineView::Set(pairs) => set(alloc, model, pairs, step),
         LineView::Done(..) | LineView::Block(..) => Ok(Told::Refused(Kind::Name)),
         LineView::Tick => {
-            *step = Step::Tick;
+            put(step, Step::Tick);
             Ok(Told::Step(ActorNo(0)))
         }
         LineView::End => Ok(Told::End),

@@ -103,16 +103,16 @@ own-accepted c h moment actor (steps.Open k size writer) own was = ap (λ b. if 
 own-accepted c h moment actor (steps.Ask k r) own was = absurd own
 own-accepted c h moment actor (steps.Write k b comp v) own was = by (ends k.0 (points (configured_model c) h)) (was k.0) own.0 where
   by : (o : Option Ends) → Owned k.0 o → is_some o ≡ true → if_open o k.0 (λ e. actor == e.opener) None ≡ None
-  by None w open = absurd cc
-  by (Some e) w open = ap (λ b. if_yours b k.0 None) (same-number actor e.opener (own.1 ∙ sym (ap (λ (e : Ends). e.opener) w)))
+  by None w there = absurd cc
+  by (Some e) w there = ap (λ b. if_yours b k.0 None) (same-number actor e.opener (own.1 ∙ sym (ap (λ (e : Ends). e.opener) w)))
 own-accepted c h moment actor (steps.Take k) own was = by (ends k.0 (points (configured_model c) h)) (was k.0) where
   by : (o : Option Ends) → Owned k.0 o → option_map_or (λ (e : Ends). if_yours (actor == e.writer) k.0 None) o None ≡ None
   by None w = refl
   by (Some e) w = ap (λ b. if_yours b k.0 None) (same-number actor e.writer (own ∙ sym (ap (λ (e : Ends). e.writer) w)))
 own-accepted c h moment actor (steps.Lost k) own was = by (ends k.0 (points (configured_model c) h)) (was k.0) own.0 where
   by : (o : Option Ends) → Owned k.0 o → is_some o ≡ true → if_open o k.0 (λ e. (actor == e.opener) || (actor == e.writer)) None ≡ None
-  by None w open = absurd cc
-  by (Some e) w open = ap (λ b. if_yours (b || (actor == e.writer)) k.0 None) (same-number actor e.opener (own.1 ∙ sym (ap (λ (e : Ends). e.opener) w)))
+  by None w there = absurd cc
+  by (Some e) w there = ap (λ b. if_yours (b || (actor == e.writer)) k.0 None) (same-number actor e.opener (own.1 ∙ sym (ap (λ (e : Ends). e.opener) w)))
 own-accepted c h moment actor (steps.Value settings) own was = refl
 own-accepted c h moment actor (steps.Done k good) own was = absurd own
 own-accepted c h moment actor (steps.Block k flag) own was = absurd own

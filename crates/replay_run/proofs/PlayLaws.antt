@@ -70,9 +70,9 @@ nothing-written before now is = is ∙ sym (append-nil before)
 
 -- a line, where the association that it names is open or isn't
 module _ (old : Playing) (number : ℕ) (line : RecLine) (there : Bool)
-    (open : (c : Config) (s : Played) → Plays old c s → told_of c there line ≡ told_of c (is_open c s.turns (association_of line)) line) where
+    (same : (c : Config) (s : Played) → Plays old c s → told_of c there line ≡ told_of c (is_open c s.turns (association_of line)) line) where
   told-is : (t : Told) → t ≡ told_of old.bay.config there line → (c : Config) (s : Played) → Plays old c s → t ≡ told_of c (is_open c s.turns (association_of line)) line
-  told-is t is c s p = is ∙ (ap (λ k. told_of k there line) p.stands.1.is_config ∙ open c s p)
+  told-is t is c s p = is ∙ (ap (λ k. told_of k there line) p.stands.1.is_config ∙ same c s p)
 
   abbrev IsTold : Told → Type 0
   IsTold t = t ≡ told_of old.bay.config there line
