@@ -14,6 +14,8 @@ use sv_base::{ActorNo, Moment};
 pub struct Playing {
     bay: Bay,
     moment: Moment,
+    /// Where the step of a line is made; of no account between lines.
+    step: Step,
 }
 
 impl Playing {
@@ -42,6 +44,7 @@ impl Playing {
         Playing {
             bay,
             moment: Moment::first(),
+            step: Step::Tick,
         }
     }
 
@@ -56,23 +59,23 @@ impl Playing {
         }
     }
 
-    /// Performs a step that a line tells, and writes the answer to it. Such a step has no fault, so memory alone may be wanting.
+    /// Performs the step that a line tells, and writes the answer to it. Such a step has no fault, so memory alone may be
+    /// wanting.
     fn perform(
         &mut self,
         alloc: Global,
         out: &mut Vec<u8>,
         actor: ActorNo,
-        step: &Step,
     ) -> Result<(), AllocError>
-        requires fits { fits self.old.bay.config step.now ≡ true }
-        requires built { IsBuilt step.now }
-        requires own { (c : Config) (s : Played) → Plays self.old c s → IsOwn (is_open_after c s.turns) actor.0 step.now }
+        requires fits { fits self.old.bay.config self.old.step ≡ true }
+        requires built { IsBuilt self.old.step }
+        requires own { (c : Config) (s : Played) → Plays self.old c s → IsOwn (is_open_after c s.turns) actor.0 self.old.step }
         requires few { self.old.bay.steps < 2 ^ 62 }
-        ensures performs { OnOk result (Performs self.old self.new actor.0 step.now out.old.items out.new.items) }
-        ensures faultless { OnErr result ((c : Config) (s : Played) → Plays self.old c s → fault (configured_model c) s.turns (turn_at s actor.0 step.now) ≡ None) }
+        ensures performs { OnOk result (Performs self.old self.new actor.0 self.old.step out.old.items out.new.items) }
+        ensures faultless { OnErr result ((c : Config) (s : Played) → Plays self.old c s → fault (configured_model c) s.turns (turn_at s actor.0 self.old.step) ≡ None) }
         ensures few { OnOk result (self.new.bay.steps ≤ suc self.old.bay.steps) }
     {
-        match self.bay.step(alloc, self.moment, actor, step) {
+        match self.bay.step(alloc, self.moment, actor, &self.step) {
             Ok(answer) => {
                 push_answer(out, self.bay.model(), actor, &answer)?;
                 self.bay.reuse(answer);
@@ -96,16 +99,15 @@ impl Playing {
         ensures judged { IfOk result (λ s. IfSome s IsJudgement) }
         ensures few { IfOk result (λ s. IfNone s (self.new.bay.steps ≤ suc self.old.bay.steps)) }
     {
-        let mut step = Step::Tick;
         let is_open = self.is_open(line);
-        match tell(alloc, self.bay.model(), is_open, line, &mut step)? {
+        match tell(alloc, self.bay.model(), is_open, line, &mut self.step)? {
             Told::Nothing => Ok(None),
             Told::At(moment) => {
                 self.moment = moment;
                 Ok(None)
             }
             Told::Step(actor) => {
-                self.perform(alloc, out, actor, &step)?;
+                self.perform(alloc, out, actor)?;
                 Ok(None)
             }
             Told::Refused(kind) => Ok(Some(Status::Record {
