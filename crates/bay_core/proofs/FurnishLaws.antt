@@ -3,7 +3,7 @@ use Rattle.std.proofs.Common.{◌≡◌, ℕ, List, Some, ◌∙◌, map, ap, sy
 use Rattle.std.specs.Prelude.{slice_get, slice_set}
 use Rattle.std.proofs.lemmas.List.{length-map, length-set}
 use Rattle.sv_base.specs.declared.config.Config.{Config}
-use Rattle.bay_model.specs.Rooms.{Filled}
+use Rattle.bay_rooms.specs.Rooms.{Filled}
 use Rattle.bay_model.specs.declared.note.Mention.{Mention}
 use Rattle.value_store.specs.Stored.{Stored}
 use Rattle.bay_core.specs.declared.part.Part.{Part}

@@ -14,7 +14,7 @@ use Rattle.bay_model.specs.Blocks.{enabler, is_enabled_by, is_overflown, sq_num,
 use Rattle.bay_model.specs.Retained.{front}
 use Rattle.bay_model.specs.Reports.{Offer, offer, first_offer}
 use Rattle.bay_model.specs.Reports as reports
-use Rattle.brcb_state.specs.declared.kept.Next.{Next}
+use Rattle.brcb_state.specs.declared.told.Next.{Next}
 use Rattle.brcb_state.specs.Changes.{is_by}
 use Rattle.entry_ring.specs.Held.{Held}
 use Rattle.entry_ring.specs.Ringed.{Ringed, entry_at}

@@ -15,7 +15,7 @@ use Rattle.bay_model.specs.Named.{configured_model}
 use Rattle.bay_model.specs.Settings.{set_to}
 use Rattle.object_model.specs.Tables.{flags_of}
 use Rattle.value_store.specs.Stored.{Stored, attribute, no_attribute, with_value}
-use Rattle.value_store.proofs.StandLaws.{at_set}
+use Rattle.list_laws.proofs.Places.{at_set}
 use Rattle.trigger_core.specs.Noted.{change_of}
 use Rattle.bay_core.specs.Changed.{given, change_from}
 use Rattle.bay_core.specs.Marked.{is_marked, IsDone}

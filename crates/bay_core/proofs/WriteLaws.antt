@@ -18,7 +18,7 @@ use Rattle.brcb_state.specs.Changes.{written, effect_of}
 use Rattle.brcb_state.specs.Refusals.{answer_to, names_nothing, first_of, refusals}
 use Rattle.brcb_state.specs.Standing.{Stands as BlockStands, is_purging, outcome_of, after_deed, kept_at, is_known, Tells}
 use Rattle.brcb_state.specs.declared.block.Block.{Block}
-use Rattle.brcb_state.specs.declared.kept.Effect.{Effect}
+use Rattle.brcb_state.specs.declared.told.Effect.{Effect}
 use Rattle.brcb_state.proofs.WriteLaws.{stands-written}
 use Rattle.entry_ring.specs.Ringed.{after_purge}
 use Rattle.bay_core.specs.declared.part.Part.{Part}

@@ -18,7 +18,7 @@ use Rattle.bay_model.specs.Outcomes.{deed_of, code_of}
 use Rattle.bay_model.specs.Answers.{History, points, answer}
 use Rattle.bay_model.specs.Acceptance.{fault}
 use Rattle.brcb_state.specs.Standing.{outcome_of}
-use Rattle.brcb_state.specs.declared.kept.Effect.{Effect}
+use Rattle.brcb_state.specs.declared.told.Effect.{Effect}
 use Rattle.assoc_table.proofs.StandLaws.{stands-other}
 use Rattle.bay_core.specs.declared.part.Part.{Part}
 use Rattle.bay_core.specs.Parting.{write_answer, written_by, without_effect, after_write}

@@ -5,8 +5,8 @@ use Rattle.std.specs.Option.{option_map, option_and_then}
 use Rattle.sv_base.specs.declared.numbers.AssocNo.{AssocNo}
 use Rattle.bay_model.specs.Reports.{Offer}
 use Rattle.brcb_state.specs.Changes.{next_to}
-use Rattle.brcb_state.specs.declared.kept.Kept.{Kept}
-use Rattle.brcb_state.specs.declared.kept.Next.{Next}
+use Rattle.brcb_state.specs.declared.told.Retained.{Retained}
+use Rattle.brcb_state.specs.declared.told.Next.{Next}
 use Rattle.entry_ring.specs.Held.{Held}
 use Rattle.entry_ring.specs.Ringed.{entry_at}
 use Rattle.entry_ring.specs.Standing.{held}
@@ -18,7 +18,7 @@ pub record Offered : Type 0 where
   pub next : Next
   pub entry : Held
 
-abbrev pub kept_of : Part → Kept
+abbrev pub kept_of : Part → Retained
 kept_of part = record { front = part.ring.front; len = part.ring.newest }
 
 abbrev pub offered_by : AssocNo → ℕ → Part → Option Offered

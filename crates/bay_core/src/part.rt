@@ -1,7 +1,7 @@
 //! One report block with its buffer and the members of its data set.
 
 use bay_model::{Comp, MemberShape};
-use brcb_state::{Block, Effect, Kept};
+use brcb_state::{Block, Effect, Retained};
 use entry_ring::Ring;
 use std::alloc::{AllocError, Global};
 use sv_base::{AssocNo, BlockDef, Value};
@@ -43,10 +43,10 @@ impl Part {
     }
 
     /// Which entries are retained.
-    pub(crate) fn kept(&self) -> Kept
+    pub(crate) fn kept(&self) -> Retained
         ensures { result ≡ record { front = self.now.ring.front; len = self.now.ring.newest } }
     {
-        Kept {
+        Retained {
             front: self.ring.front(),
             len: self.ring.len(),
         }

@@ -1,19 +1,16 @@
 -- What the lines of a configuration name in a domain, with all that control blocks and controls stand for (IEC 61850-8-1,
 -- the functional constraints BR, SP, CO and CF; IEC 61850-7-2, the attributes of BRCB and SGCB, and the control class
 -- model).
-use Rattle.std.specs.Prelude.{ℕ, ◌+◌, Bool, ◌||◌, ◌==◌, pos, List, [], ◌∷◌, ◌++◌, map, if◌then◌else◌, codes, Option}
-use Rattle.std.specs.List.{find}
-use Rattle.std.specs.Str.{bytes_eq}
+use Rattle.std.specs.Prelude.{ℕ, ◌+◌, Bool, ◌||◌, ◌==◌, pos, List, [], ◌∷◌, ◌++◌, map, if◌then◌else◌, codes}
 use Rattle.sv_base.specs.Types.{no_field}
 use Rattle.sv_base.specs.declared.value.Value.{Value}
 use Rattle.sv_base.specs.declared.value.Value.TheVariants as kinds
 use Rattle.sv_base.specs.declared.config.CtlDef.{CtlDef}
 use Rattle.sv_base.specs.declared.types.TypeOf.{TypeOf}
 use Rattle.sv_base.specs.declared.types.TypeOf.TheVariants as types
-use Rattle.bay_model.specs.declared.components.Comp.{Comp}
-use Rattle.bay_model.specs.declared.components.Comp.TheVariants as comps
-use Rattle.bay_model.specs.Model.{Kind, truth, int, uint, bits, time, stamp, text, octets, entry_id, SettingComp, NumOfSG, ActSG, EditSG, CnfEdit, LActTm, Call, select, operate, cancel, Leaf, attribute, component, setting, withheld, Role, single, selecting, calling}
-use Rattle.bay_model.specs.Kinds.{comp_kind, setting_comp_kind}
+use Rattle.bay_rooms.specs.Kinds.{type_of}
+use Rattle.bay_model.specs.Model.{SettingComp, Call, select, operate, cancel, Leaf, attribute, component, setting, withheld, Role, single, selecting, calling}
+use Rattle.bay_model.specs.ComponentTable.{components, comp_name, comp_kind, setting_components, setting_comp_name, setting_comp_kind}
 
 -- an item that is named, what it is, and its type where it has no parts
 pub record Named : Type 0 where
@@ -31,53 +28,6 @@ end_named item l kind = record { item = item; role = single l; kind = kind }
 -- an item that is a structure, its parts to be named
 abbrev pub structure_named : List ℕ → Role → Named
 structure_named item role = record { item = item; role = role; kind = types.Struct no_field }
-
-abbrev pub type_of : Kind → TypeOf
-type_of truth = types.Bool
-type_of (int w) = types.Int w
-type_of (uint w) = types.Uint w
-type_of (bits n) = types.Bits n
-type_of time = types.Time
-type_of stamp = types.Stamp
-type_of (text most) = types.Text most
-type_of (octets most) = types.Octets most
-type_of entry_id = types.EntryId
-
-abbrev pub comp_name : Comp → List ℕ
-comp_name comps.RptID = codes "RptID"
-comp_name comps.RptEna = codes "RptEna"
-comp_name comps.DatSet = codes "DatSet"
-comp_name comps.ConfRev = codes "ConfRev"
-comp_name comps.OptFlds = codes "OptFlds"
-comp_name comps.BufTm = codes "BufTm"
-comp_name comps.SqNum = codes "SqNum"
-comp_name comps.TrgOps = codes "TrgOps"
-comp_name comps.IntgPd = codes "IntgPd"
-comp_name comps.GI = codes "GI"
-comp_name comps.PurgeBuf = codes "PurgeBuf"
-comp_name comps.EntryID = codes "EntryID"
-comp_name comps.TimeofEntry = codes "TimeofEntry"
-
-abbrev pub setting_comp_name : SettingComp → List ℕ
-setting_comp_name NumOfSG = codes "NumOfSG"
-setting_comp_name ActSG = codes "ActSG"
-setting_comp_name EditSG = codes "EditSG"
-setting_comp_name CnfEdit = codes "CnfEdit"
-setting_comp_name LActTm = codes "LActTm"
-
--- the components of a report block and of a setting group block, in the order of their types
-abbrev pub components : List Comp
-components = comps.RptID ∷ comps.RptEna ∷ comps.DatSet ∷ comps.ConfRev ∷ comps.OptFlds ∷ comps.BufTm ∷ comps.SqNum ∷ comps.TrgOps ∷ comps.IntgPd ∷ comps.GI ∷ comps.PurgeBuf ∷ comps.EntryID ∷ comps.TimeofEntry ∷ []
-
-abbrev pub setting_components : List SettingComp
-setting_components = NumOfSG ∷ ActSG ∷ EditSG ∷ CnfEdit ∷ LActTm ∷ []
-
--- the component of a name, if there is one
-abbrev pub comp_named : List ℕ → Option Comp
-comp_named name = find (λ k. bytes_eq name (comp_name k)) components
-
-abbrev pub setting_comp_named : List ℕ → Option SettingComp
-setting_comp_named name = find (λ k. bytes_eq name (setting_comp_name k)) setting_components
 
 -- of report block b at `LN$BR$NAME`
 abbrev pub block_names : ℕ → List ℕ → List Named

@@ -33,8 +33,8 @@ pub enum SettingComp {
 
 impl Comp {
     ghost use Rattle.std.specs.Prelude.{◌≡◌};
-    ghost use Rattle.bay_model.specs.Generated.{type_of, comp_name, comp_named};
-    ghost use Rattle.bay_model.specs.Kinds.{comp_kind};
+    ghost use Rattle.bay_rooms.specs.Kinds.{type_of};
+    ghost use Rattle.bay_model.specs.ComponentTable.{comp_name, comp_named, comp_kind};
 
     /// All of them, in the order of the block's type.
     pub const ALL: [Comp; 13] = [
@@ -105,8 +105,8 @@ impl Comp {
 
 impl SettingComp {
     ghost use Rattle.std.specs.Prelude.{◌≡◌};
-    ghost use Rattle.bay_model.specs.Generated.{type_of, setting_comp_name, setting_comp_named};
-    ghost use Rattle.bay_model.specs.Kinds.{setting_comp_kind};
+    ghost use Rattle.bay_rooms.specs.Kinds.{type_of};
+    ghost use Rattle.bay_model.specs.ComponentTable.{setting_comp_name, setting_comp_named, setting_comp_kind};
 
     /// All of them, in the order of the block's type.
     pub const ALL: [SettingComp; 5] = [

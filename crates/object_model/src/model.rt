@@ -39,7 +39,7 @@ impl std::marker::Model for Model {
     ghost use Rattle.object_model.specs.References.{block_references, control_references, attr_references};
     ghost use Rattle.std.specs.List.{All};
     ghost use Rattle.sv_base.specs.declared.config.AttrDef.{AttrDef};
-    ghost use Rattle.bay_model.specs.Slots.{IsSettable};
+    ghost use Rattle.bay_rooms.specs.Slots.{IsSettable};
     ghost use Rattle.object_model.specs.Tables.{IsTables};
 
     ghost invariant = { λ m. Indexes m.blocks (block_references m.config) × Indexes m.controls (control_references m.config) × Indexes m.attrs (attr_references m.config) × IsTables m.config m.tables × All (λ (a : AttrDef). IsSettable a.kind) m.config.attrs × (m.references.items ≡ block_references m.config) };
@@ -52,7 +52,7 @@ impl Model {
     ghost use Rattle.bay_model.specs.Named.{configured_model, nodes as nodes_of};
     ghost use Rattle.std.specs.List.{All};
     ghost use Rattle.sv_base.specs.declared.config.AttrDef.{AttrDef as AttrLine};
-    ghost use Rattle.bay_model.specs.Slots.{IsSettable};
+    ghost use Rattle.bay_rooms.specs.Slots.{IsSettable};
     ghost use Rattle.object_model.specs.Fits.{fits as fits_in};
     ghost use Rattle.object_model.specs.Nodes.{node_rows};
     ghost use Rattle.object_model.specs.Sorting.{variables_after};

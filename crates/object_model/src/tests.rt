@@ -1,7 +1,7 @@
 ghost use Rattle.std.specs.Prelude.{◌≡◌, IfOk};
 ghost use Rattle.std.specs.List.{All};
 ghost use Rattle.sv_base.specs.declared.config.AttrDef.{AttrDef as AttrLine};
-ghost use Rattle.bay_model.specs.Slots.{IsSettable};
+ghost use Rattle.bay_rooms.specs.Slots.{IsSettable};
 
 use super::*;
 use bay_model::Step;

@@ -15,9 +15,8 @@ use Rattle.sv_base.specs.declared.value.Value.{Value}
 use Rattle.sv_base.specs.declared.value.Value.TheVariants as values
 use Rattle.bay_model.specs.declared.step.Setting.{Setting}
 use Rattle.bay_model.specs.declared.step.Step.TheVariants as steps
-use Rattle.bay_model.specs.Configured.{kind_of}
-use Rattle.bay_model.specs.Kinds.{is_in_range}
-use Rattle.bay_model.specs.Slots.{IsSettable}
+use Rattle.bay_rooms.specs.Kinds.{kind_of, is_in_range}
+use Rattle.bay_rooms.specs.Slots.{IsSettable}
 use Rattle.object_model.specs.Fits.{attr_types, is_typed, setting_fits, fits}
 use Rattle.cfg_text.specs.Numbers.{greatest}
 use Rattle.cfg_text.specs.Values.{value_at}

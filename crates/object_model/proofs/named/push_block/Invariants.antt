@@ -1,7 +1,8 @@
 use Rattle.std.proofs.Common.{◌≡◌, ◌++◌, map, take}
 use Rattle.bay_model.specs.Model.{component}
-use Rattle.bay_model.specs.Generated.{within, end_named, type_of, comp_name}
-use Rattle.bay_model.specs.Kinds.{comp_kind}
+use Rattle.bay_model.specs.Generated.{within, end_named}
+use Rattle.bay_rooms.specs.Kinds.{type_of}
+use Rattle.bay_model.specs.ComponentTable.{comp_name, comp_kind}
 use Rattle.object_model.proofs.named.push_block.Given as goal
 
 abbrev pub invariant-loop-comp : goal.invariant-loop-comp

@@ -1,7 +1,7 @@
 use Rattle.std.proofs.Common.{◌≡◌, take, None}
 use Rattle.std.specs.List.{find}
 use Rattle.std.specs.Str.{bytes_eq}
-use Rattle.bay_model.specs.Generated.{comp_name}
+use Rattle.bay_model.specs.ComponentTable.{comp_name}
 use Rattle.bay_model.proofs.components.Comp.of_name.Given as goal
 
 abbrev pub invariant-loop-comp : goal.invariant-loop-comp
