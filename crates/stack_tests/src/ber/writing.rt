@@ -1,4 +1,8 @@
-use super::*;
+//! Elements, numbers and bit strings, written.
+
+use ber_write::{
+    bits_len, int_len, length_of, put, put_bits, put_head, put_int, put_uint, uint_len,
+};
 use std::test::*;
 
 /// A new vector with `before` in it, so that each writer is seen to keep it.

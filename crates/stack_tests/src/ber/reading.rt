@@ -1,4 +1,9 @@
-use super::*;
+//! Octets of BER, read: elements, numbers, strings, rows and fields.
+
+use ber_view::{
+    BerFault, bits, fields, first, first_of, first_with, int, only, only_with, parts, tagged, text,
+    uint, whole,
+};
 use std::test::*;
 
 // The calls of the product's table of octets, then the examples of X.690: 8.3 (numbers), 8.6 (bit strings, the example
@@ -134,5 +139,52 @@ fn rows(rt: HostRuntime) -> Result<(), Fail> {
     assert!(rt; parts(&[])?.next().is_none());
     assert!(rt; matches!(parts(&[0x80, 0, 0x81]), Err(BerFault::Short)));
     assert!(rt; matches!(parts(&[0x80, 0, 0x85, 0x80]), Err(BerFault::Indefinite)));
+    Ok(())
+}
+
+// an AARQ's application context name, its result, and a field of another tag
+const FIELDS: [u8; 17] = [
+    0xa1, 7, 6, 5, 0x28, 0xca, 0x22, 2, 3, 0xa2, 3, 2, 1, 0, 0xa2, 1, 0,
+];
+
+#[test]
+fn fields_of_contents(rt: HostRuntime) -> Result<(), Fail> {
+    assert!(rt; fields(&FIELDS).is_some());
+    assert!(rt; fields(&FIELDS[..16]).is_none());
+    let name: &[u8] = &[0x28, 0xca, 0x22, 2, 3];
+    let table: [(&[u8], u32, Option<&[u8]>, Option<&[u8]>); 6] = [
+        // content, tag, the first with the tag, the only one if it has the tag
+        (&FIELDS, 0xa1, Some(&FIELDS[2..9]), None),
+        (&FIELDS, 0xa2, Some(&[2, 1, 0]), None),
+        (&FIELDS, 0xa3, None, None),
+        (&FIELDS[2..9], 6, Some(name), Some(name)),
+        (&FIELDS[2..9], 2, None, None),
+        (&FIELDS[2..8], 6, None, None),
+    ];
+    for (content, tag, first_one, only_one) in table {
+        assert_eq!(rt; first_with(content, tag), first_one, "the first {tag}");
+        assert_eq!(rt; only_with(content, tag), only_one, "the only {tag}");
+        if let Some(fields) = fields(content) {
+            assert_eq!(rt;
+                first_of(fields, tag),
+                first_one,
+                "the first of the fields, {tag}"
+            );
+        }
+        let one = only(content);
+        assert_eq!(rt;
+            one.and_then(|field| tagged(&field, tag)),
+            only_one,
+            "with {tag}"
+        );
+    }
+    assert!(rt; only(&[]).is_none());
+    assert!(rt; whole(&FIELDS).is_none());
+    assert!(rt;
+        matches!(
+            whole(&FIELDS[..9]).map(|e| (e.tag, e.content)),
+            Some((0xa1, [6, 5, ..]))
+        )
+    );
     Ok(())
 }
