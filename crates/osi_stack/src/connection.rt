@@ -14,7 +14,7 @@ use crate::phase::Phase;
 use crate::taking::take;
 use std::alloc::Global;
 use std::marker::Model;
-use tpkt_cotp::{Taken, TransportIn, Tsdu};
+use tpkt_cotp::{Tpkt, TransportIn, Tsdu};
 
 /// What a connection keeps of its stream between two pieces.
 #[derive(Debug, Drop)]
@@ -79,7 +79,7 @@ fn take_taken(
     alloc: Global,
     phase: &mut Phase,
     octets: &mut u64,
-    taken: Option<Taken>,
+    taken: Option<Tpkt>,
     events: &mut Events,
 ) -> Result<(), Stop>
     requires agreed { IsAgreed phase.old }
