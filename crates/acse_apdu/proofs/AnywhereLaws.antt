@@ -5,6 +5,7 @@ use Rattle.ber_grammar.specs.Place.{Piece, Spot, placed, content_piece}
 use Rattle.ber_grammar.specs.Reader.{◌>>=◌, Gives, and_then, kept}
 use Rattle.ber_grammar.specs.Reading.{first_at, uint_at}
 use Rattle.ber_grammar.specs.Rows.{parts_at}
+use Rattle.acse_apdu.specs.declared.codes.TheConstants.{AARQ, AARE, RLRQ, RLRE, APPLICATION_CONTEXT_NAME, RESULT, USER_INFORMATION, EXTERNAL, SINGLE_ASN1_TYPE, INTEGER, OBJECT_IDENTIFIER}
 use Rattle.acse_apdu.specs.declared.fault.AcFault.{AcFault}
 use Rattle.acse_apdu.specs.declared.fault.AcFault.TheVariants.{Apdu, ContextName, NoUserInformation}
 use Rattle.acse_apdu.specs.Fields.{fields_at, with_fields, whole_at, apdu_at, first_with, field_at, with_tag, alone, only_at}
@@ -106,8 +107,8 @@ name-alike (Some p) (Some q) h = rw h refl
 names-alike : (p q : Piece) → p.octets ≡ q.octets → names_mms p ≡ names_mms q
 unfolding names_mms
 names-alike p q e =
-    name-alike (and_then (field_at 161 p) (λ (x : Piece). only_at 6 x)) (and_then (field_at 161 q) (λ (x : Piece). only_at 6 x))
-    (then-piece (field_at 161 p) (field_at 161 q) (only_at 6) (only_at 6) (field-alike 161 p q e) (only-alike 6))
+    name-alike (and_then (field_at APPLICATION_CONTEXT_NAME p) (λ (x : Piece). only_at OBJECT_IDENTIFIER x)) (and_then (field_at APPLICATION_CONTEXT_NAME q) (λ (x : Piece). only_at OBJECT_IDENTIFIER x))
+    (then-piece (field_at APPLICATION_CONTEXT_NAME p) (field_at APPLICATION_CONTEXT_NAME q) (only_at OBJECT_IDENTIFIER) (only_at OBJECT_IDENTIFIER) (field-alike APPLICATION_CONTEXT_NAME p q e) (only-alike OBJECT_IDENTIFIER))
 
 number-alike : (o u : Option Piece) → Alike o u → and_then o (λ number. kept (uint_at number.octets)) ≡ and_then u (λ number. kept (uint_at number.octets))
 number-alike None None h = refl
@@ -115,15 +116,15 @@ number-alike None (Some q) h = absurd h
 number-alike (Some p) None h = absurd h
 number-alike (Some p) (Some q) h = rw h refl
 
-result-alike : (o u : Option Piece) → Alike o u → and_then o (λ x. and_then (only_at 2 x) (λ number. kept (uint_at number.octets))) ≡ and_then u (λ x. and_then (only_at 2 x) (λ number. kept (uint_at number.octets)))
+result-alike : (o u : Option Piece) → Alike o u → and_then o (λ x. and_then (only_at INTEGER x) (λ number. kept (uint_at number.octets))) ≡ and_then u (λ x. and_then (only_at INTEGER x) (λ number. kept (uint_at number.octets)))
 result-alike None None h = refl
 result-alike None (Some q) h = absurd h
 result-alike (Some p) None h = absurd h
-result-alike (Some p) (Some q) h = number-alike (only_at 2 p) (only_at 2 q) (only-alike 2 p q h)
+result-alike (Some p) (Some q) h = number-alike (only_at INTEGER p) (only_at INTEGER q) (only-alike INTEGER p q h)
 
 accepted-alike : (p q : Piece) → p.octets ≡ q.octets → is_accepted p ≡ is_accepted q
 unfolding result_at
-accepted-alike p q e = ap is_zero (result-alike (field_at 162 p) (field_at 162 q) (field-alike 162 p q e))
+accepted-alike p q e = ap is_zero (result-alike (field_at RESULT p) (field_at RESULT q) (field-alike RESULT p q e))
 
 -- ---- user information
 
@@ -132,7 +133,7 @@ value-alike s t [] [] e h = tt
 value-alike s t [] (b ∷ rest) e h = absurd h
 value-alike s t (a ∷ more) [] e h = absurd h
 value-alike s t (a ∷ []) (b ∷ []) e h =
-    both-alike (is_context s) (is_context t) (with_tag 160 a) (with_tag 160 b) None None (ap (λ (x : Element). eqb x.tag 2 && is_word (uint_at x.content)) e) (with_tag-alike 160 a b h.0) tt
+    both-alike (is_context s) (is_context t) (with_tag SINGLE_ASN1_TYPE a) (with_tag SINGLE_ASN1_TYPE b) None None (ap (λ (x : Element). eqb x.tag 2 && is_word (uint_at x.content)) e) (with_tag-alike SINGLE_ASN1_TYPE a b h.0) tt
 value-alike s t (a ∷ []) (b ∷ d ∷ rest) e h = absurd h.1
 value-alike s t (a ∷ c ∷ more) (b ∷ []) e h = absurd h.1
 value-alike s t (a ∷ c ∷ more) (b ∷ d ∷ rest) e h = tt
@@ -148,15 +149,15 @@ external-alike [] [] h = tt
 external-alike [] (t ∷ ts) h = absurd h
 external-alike (s ∷ ss) [] h = absurd h
 external-alike (s ∷ ss) (t ∷ ts) h =
-    both-alike (eqb s.element.tag 6) (eqb t.element.tag 6) (behind_reference ss) (behind_reference ts) (value_of s ss) (value_of t ts) (same_tag 6 s t h.0) (behind-alike ss ts h.1) (value-alike s t ss ts h.0 h.1)
+    both-alike (eqb s.element.tag OBJECT_IDENTIFIER) (eqb t.element.tag OBJECT_IDENTIFIER) (behind_reference ss) (behind_reference ts) (value_of s ss) (value_of t ts) (same_tag OBJECT_IDENTIFIER s t h.0) (behind-alike ss ts h.1) (value-alike s t ss ts h.0 h.1)
 
 pdu-alike : (p q : Piece) → p.octets ≡ q.octets → Alike (pdu_at p) (pdu_at q)
 unfolding pdu_at
 pdu-alike p q e =
     let fields_in = λ (external : Piece). and_then (fields_at external) external_of in
     let fields_alike = λ (x y : Piece) (s : x.octets ≡ y.octets). then-fields (fields_at x) (fields_at y) external_of external_of (fields-alike x y s) external-alike in
-    then-piece (field_at 190 p) (field_at 190 q) (λ information. and_then (only_at 40 information) fields_in) (λ information. and_then (only_at 40 information) fields_in) (field-alike 190 p q e)
-    (λ x y s. then-piece (only_at 40 x) (only_at 40 y) fields_in fields_in (only-alike 40 x y s) fields_alike)
+    then-piece (field_at USER_INFORMATION p) (field_at USER_INFORMATION q) (λ information. and_then (only_at EXTERNAL information) fields_in) (λ information. and_then (only_at EXTERNAL information) fields_in) (field-alike USER_INFORMATION p q e)
+    (λ x y s. then-piece (only_at EXTERNAL x) (only_at EXTERNAL y) fields_in fields_in (only-alike EXTERNAL x y s) fields_alike)
 
 -- ---- APDUs
 
@@ -200,7 +201,7 @@ aarq_inside-alike (Some p) (Some q) h = association-alike p q h
 
 pub aarq-anywhere : (input : Piece) → octets_in (aarq_at input) ≡ pdu_of_aarq input.octets
 unfolding aarq_at pdu_of_aarq
-aarq-anywhere input = aarq_inside-alike (apdu_at 96 input) (apdu_at 96 (anywhere input.octets)) (apdu-alike 96 input (anywhere input.octets) refl)
+aarq-anywhere input = aarq_inside-alike (apdu_at AARQ input) (apdu_at AARQ (anywhere input.octets)) (apdu-alike AARQ input (anywhere input.octets) refl)
 
 aare_inside-alike : (o u : Option Piece) → Alike o u
     → octets_in (or_fault Apdu o >>= λ content. cond (is_accepted content) (association_at content) (Err Apdu)) ≡ octets_in (or_fault Apdu u >>= λ content. cond (is_accepted content) (association_at content) (Err Apdu))
@@ -211,7 +212,7 @@ aare_inside-alike (Some p) (Some q) h = rw (accepted-alike p q h) (named-alike (
 
 pub aare-anywhere : (input : Piece) → octets_in (aare_at input) ≡ pdu_of_aare input.octets
 unfolding aare_at pdu_of_aare
-aare-anywhere input = aare_inside-alike (apdu_at 97 input) (apdu_at 97 (anywhere input.octets)) (apdu-alike 97 input (anywhere input.octets) refl)
+aare-anywhere input = aare_inside-alike (apdu_at AARE input) (apdu_at AARE (anywhere input.octets)) (apdu-alike AARE input (anywhere input.octets) refl)
 
 abbrev released : Option Piece → Result (Unit {0}) AcFault
 released o = or_fault Apdu o >>= λ content. Ok tt
@@ -236,10 +237,10 @@ pub release_given : (r : Result (Unit {0}) AcFault) (read again : Result (Unit {
 release_given (Ok x) read again e g = sym e ∙ g
 release_given (Err f) read again e g = sym e ∙ g
 
-pub rlrq-anywhere : (input : Piece) → release_at 98 input ≡ rlrq_of input.octets
+pub rlrq-anywhere : (input : Piece) → release_at RLRQ input ≡ rlrq_of input.octets
 unfolding rlrq_of
-rlrq-anywhere input = release-anywhere 98 input
+rlrq-anywhere input = release-anywhere RLRQ input
 
-pub rlre-anywhere : (input : Piece) → release_at 99 input ≡ rlre_of input.octets
+pub rlre-anywhere : (input : Piece) → release_at RLRE input ≡ rlre_of input.octets
 unfolding rlre_of
-rlre-anywhere input = release-anywhere 99 input
+rlre-anywhere input = release-anywhere RLRE input

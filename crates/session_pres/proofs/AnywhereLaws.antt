@@ -6,6 +6,7 @@ use Rattle.ber_grammar.specs.Element.{Element}
 use Rattle.ber_grammar.specs.Place.{Piece, Spot, placed, content_piece}
 use Rattle.ber_grammar.specs.Reader.{◌>>=◌, Gives, and_then, kept}
 use Rattle.ber_grammar.specs.Rows.{parts_at, single}
+use Rattle.session_pres.specs.declared.codes.TheConstants.{FINISH, DISCONNECT, CONNECT, ACCEPT, ABORT, USER_DATA, MODE_SELECTOR, NORMAL_MODE_PARAMETERS, CONTEXT_DEFINITION_LIST, CONTEXT_RESULT_LIST, RESULT, TRANSFER_SYNTAX, FULLY_ENCODED_DATA, SINGLE_ASN1_TYPE, INTEGER, OBJECT_IDENTIFIER, SEQUENCE, SET}
 use Rattle.session_pres.specs.declared.fault.SpFault.{SpFault}
 use Rattle.session_pres.specs.declared.fault.SpFault.TheVariants as faults
 use Rattle.session_pres.specs.Steps.{required}
@@ -157,18 +158,18 @@ tagged_alike tag (s ∷ ss) (t ∷ ts) (e, h) =
 pair_alike : (a b c d : Spot) → Spots a c → Spots b d → Maybe Values (pair_at a b) (pair_at c d)
 unfolding pair_at
 pair_alike a b c d e h =
-    let value = λ (n : ℕ). if_maybe Values (eqb d.element.tag 160) (and_then (single_at (content_piece b)) (λ s. Some (n, content_piece b))) (and_then (single_at (content_piece d)) (λ s. Some (n, content_piece d))) None None
+    let value = λ (n : ℕ). if_maybe Values (eqb d.element.tag SINGLE_ASN1_TYPE) (and_then (single_at (content_piece b)) (λ s. Some (n, content_piece b))) (and_then (single_at (content_piece d)) (λ s. Some (n, content_piece d))) None None
     (then_maybe Spots Values (single_at (content_piece b)) (single_at (content_piece d)) (λ s. Some (n, content_piece b)) (λ s. Some (n, content_piece d)) (single_alike (content_piece b) (content_piece d) (ap (λ (x : Element). x.content) h)) (λ s t k. (refl, ap (λ (x : Element). x.content) h))) tt in
-    rw (e, ap (λ (x : Element). x.tag) h) (if_maybe Values (eqb c.element.tag 2) (and_then (context_at c.element.content) (λ n. cond (eqb d.element.tag 160) (and_then (single_at (content_piece b)) (λ s. Some (n, content_piece b))) None))
-    (and_then (context_at c.element.content) (λ n. cond (eqb d.element.tag 160) (and_then (single_at (content_piece d)) (λ s. Some (n, content_piece d))) None)) None None
-    (numbered (context_at c.element.content) (λ n. cond (eqb d.element.tag 160) (and_then (single_at (content_piece b)) (λ s. Some (n, content_piece b))) None) (λ n. cond (eqb d.element.tag 160) (and_then (single_at (content_piece d)) (λ s. Some (n, content_piece d))) None) value) tt)
+    rw (e, ap (λ (x : Element). x.tag) h) (if_maybe Values (eqb c.element.tag INTEGER) (and_then (context_at c.element.content) (λ n. cond (eqb d.element.tag SINGLE_ASN1_TYPE) (and_then (single_at (content_piece b)) (λ s. Some (n, content_piece b))) None))
+    (and_then (context_at c.element.content) (λ n. cond (eqb d.element.tag SINGLE_ASN1_TYPE) (and_then (single_at (content_piece d)) (λ s. Some (n, content_piece d))) None)) None None
+    (numbered (context_at c.element.content) (λ n. cond (eqb d.element.tag SINGLE_ASN1_TYPE) (and_then (single_at (content_piece b)) (λ s. Some (n, content_piece b))) None) (λ n. cond (eqb d.element.tag SINGLE_ASN1_TYPE) (and_then (single_at (content_piece d)) (λ s. Some (n, content_piece d))) None) value) tt)
   where
     numbered : (o : Option ℕ) (f g : ℕ → Option (ℕ × Piece)) → ((n : ℕ) → Maybe Values (f n) (g n)) → Maybe Values (and_then o f) (and_then o g)
     numbered None f g h = tt
     numbered (Some n) f g h = h n
 
-third_alike : (a b c d e f : Spot) → Spots a d → Spots b e → Spots c f → Maybe Values (cond (eqb a.element.tag 6) (pair_at b c) None) (cond (eqb d.element.tag 6) (pair_at e f) None)
-third_alike a b c d e f p q r = rw p (if_maybe Values (eqb d.element.tag 6) (pair_at b c) (pair_at e f) None None (pair_alike b c e f q r) tt)
+third_alike : (a b c d e f : Spot) → Spots a d → Spots b e → Spots c f → Maybe Values (cond (eqb a.element.tag OBJECT_IDENTIFIER) (pair_at b c) None) (cond (eqb d.element.tag OBJECT_IDENTIFIER) (pair_at e f) None)
+third_alike a b c d e f p q r = rw p (if_maybe Values (eqb d.element.tag OBJECT_IDENTIFIER) (pair_at b c) (pair_at e f) None None (pair_alike b c e f q r) tt)
 
 pdv_alike : (ss ts : List Spot) → Rows ss ts → Maybe Values (pdv_at ss) (pdv_at ts)
 pdv_alike [] [] h = tt
@@ -188,12 +189,12 @@ pdv_alike (a ∷ b ∷ c ∷ x ∷ ss) (d ∷ e ∷ f ∷ y ∷ ts) h = tt
 pdv_list_alike : (p q : Piece) → Parts p q → Maybe Values (pdv_list_at p) (pdv_list_at q)
 unfolding pdv_list_at
 pdv_list_alike p q e =
-    then_maybe Parts Values (only_at 48 p) (only_at 48 q) (λ value. and_then (elements_at value) pdv_at) (λ value. and_then (elements_at value) pdv_at) (only_alike 48 p q e)
+    then_maybe Parts Values (only_at SEQUENCE p) (only_at SEQUENCE q) (λ value. and_then (elements_at value) pdv_at) (λ value. and_then (elements_at value) pdv_at) (only_alike SEQUENCE p q e)
     (λ x y h. then_maybe Rows Values (elements_at x) (elements_at y) pdv_at pdv_at (elements_alike x y h) pdv_alike)
 
 user_data_alike : (p q : Piece) → Parts p q → Maybe Values (user_data_at p) (user_data_at q)
 unfolding user_data_at
-user_data_alike p q e = then_maybe Parts Values (only_at 97 p) (only_at 97 q) pdv_list_at pdv_list_at (only_alike 97 p q e) pdv_list_alike
+user_data_alike p q e = then_maybe Parts Values (only_at FULLY_ENCODED_DATA p) (only_at FULLY_ENCODED_DATA q) pdv_list_at pdv_list_at (only_alike FULLY_ENCODED_DATA p q e) pdv_list_alike
 
 -- ---- contexts
 
@@ -217,7 +218,7 @@ fields_same (a ∷ b ∷ c ∷ ss) (d ∷ e ∷ []) (p, (q, h)) = absurd h
 fields_same (a ∷ b ∷ c ∷ []) (d ∷ e ∷ f ∷ []) (p, (q, (r, h))) =
     let syntaxes = λ (n : ℕ). then_same Rows (elements_at (content_piece c)) (elements_at (content_piece f)) (λ ss. let x : Context = record { number = n; syntax = e.element.content; has_ber = has_ber ss } in Some x)
     (λ ss. let x : Context = record { number = n; syntax = e.element.content; has_ber = has_ber ss } in Some x) (elements_alike (content_piece c) (content_piece f) (ap (λ (x : Element). x.content) r)) (λ ss ts k. rw (ber_same ss ts k) refl) in
-    rw (p, q, ap (λ (x : Element). x.tag) r) (ap (λ (o : Option Context). cond (eqb d.element.tag 2) (cond (eqb e.element.tag 6) (cond (eqb f.element.tag 48) o None) None) None) (numbered (context_at d.element.content) _ _ syntaxes))
+    rw (p, q, ap (λ (x : Element). x.tag) r) (ap (λ (o : Option Context). cond (eqb d.element.tag INTEGER) (cond (eqb e.element.tag OBJECT_IDENTIFIER) (cond (eqb f.element.tag SEQUENCE) o None) None) None) (numbered (context_at d.element.content) _ _ syntaxes))
   where
     numbered : (o : Option ℕ) (f g : ℕ → Option Context) → ((n : ℕ) → f n ≡ g n) → and_then o f ≡ and_then o g
     numbered None f g h = refl
@@ -298,8 +299,8 @@ last_alike code (p ∷ ps) (q ∷ qs) h =
 user_alike : (p q : Piece) → Parts p q → Maybe (Maybe Parts) (user_at p) (user_at q)
 unfolding user_at
 user_alike p q e =
-    then_maybe Lists (Maybe Parts) (parameters_at p) (parameters_at q) (λ ps. cond (all_cut ps) (Some (last_of 193 ps)) None) (λ ps. cond (all_cut ps) (Some (last_of 193 ps)) None) (parameters_alike p q e)
-    (λ ps qs h. rw (all_same ps qs h) (if_maybe (Maybe Parts) (all_cut qs) (Some (last_of 193 ps)) (Some (last_of 193 qs)) None None (last_alike 193 ps qs h) tt))
+    then_maybe Lists (Maybe Parts) (parameters_at p) (parameters_at q) (λ ps. cond (all_cut ps) (Some (last_of USER_DATA ps)) None) (λ ps. cond (all_cut ps) (Some (last_of USER_DATA ps)) None) (parameters_alike p q e)
+    (λ ps qs h. rw (all_same ps qs h) (if_maybe (Maybe Parts) (all_cut qs) (Some (last_of USER_DATA ps)) (Some (last_of USER_DATA qs)) None None (last_alike USER_DATA ps qs h) tt))
 
 -- ---- SPDUs
 
@@ -348,12 +349,12 @@ octets_same (Some x) (Some y) h = rw h refl
 spdu_alike : (p q : Piece) → Parts p q → Both Units (spdu_at p) (spdu_at q)
 unfolding spdu_at
 spdu_alike p q e =
-    let one = then_both Parts Units (data_of 13 p) (data_of 13 q) (λ x. Ok (connect x)) (λ x. Ok (connect x)) (data_of_alike 13 p q e) (λ x y h. rw h refl) in
-    let two = then_both (Maybe Parts) Units (user_of 9 p) (user_of 9 q) (λ x. Ok (finish x)) (λ x. Ok (finish x)) (user_of_alike 9 p q e) (λ x y h. rw (octets_same x y h) refl) in
-    let three = then_both (Maybe Parts) Units (user_of 25 p) (user_of 25 q) (λ x. Ok abort) (λ x. Ok abort) (user_of_alike 25 p q e) (λ x y h. refl) in
+    let one = then_both Parts Units (data_of CONNECT p) (data_of CONNECT q) (λ x. Ok (connect x)) (λ x. Ok (connect x)) (data_of_alike CONNECT p q e) (λ x y h. rw h refl) in
+    let two = then_both (Maybe Parts) Units (user_of FINISH p) (user_of FINISH q) (λ x. Ok (finish x)) (λ x. Ok (finish x)) (user_of_alike FINISH p q e) (λ x y h. rw (octets_same x y h) refl) in
+    let three = then_both (Maybe Parts) Units (user_of ABORT p) (user_of ABORT q) (λ x. Ok abort) (λ x. Ok abort) (user_of_alike ABORT p q e) (λ x y h. refl) in
     let four = is_required Units faults.Spdu (transfer_at p) (transfer_at q) (transfer_alike p q e) in
-    rw (ap (λ (x : List ℕ). begins 13 x) e, ap (λ (x : List ℕ). begins 9 x) e, ap (λ (x : List ℕ). begins 25 x) e)
-    (if_both Units (begins 13 q.octets) _ _ _ _ one (if_both Units (begins 9 q.octets) _ _ _ _ two (if_both Units (begins 25 q.octets) _ _ _ _ three four)))
+    rw (ap (λ (x : List ℕ). begins CONNECT x) e, ap (λ (x : List ℕ). begins FINISH x) e, ap (λ (x : List ℕ). begins ABORT x) e)
+    (if_both Units (begins CONNECT q.octets) _ _ _ _ one (if_both Units (begins FINISH q.octets) _ _ _ _ two (if_both Units (begins ABORT q.octets) _ _ _ _ three four)))
 
 -- ---- PPDUs
 
@@ -365,15 +366,15 @@ octets_if wanted (Some x) (Some y) h = both_if Parts (bytes_eq x.octets wanted) 
 
 normal_alike : (ss ts : List Spot) → Rows ss ts → Maybe Parts (normal_at ss) (normal_at ts)
 unfolding normal_at
-normal_alike ss ts h = octets_if (128 ∷ 1 ∷ 1 ∷ []) (tagged 160 ss) (tagged 160 ts) (tagged_alike 160 ss ts h)
+normal_alike ss ts h = octets_if (0x80 ∷ 0x01 ∷ 0x01 ∷ []) (tagged MODE_SELECTOR ss) (tagged MODE_SELECTOR ts) (tagged_alike MODE_SELECTOR ss ts h)
 
 parameters_in_alike : (p q : Piece) → Parts p q → Both Parts (parameters_in p) (parameters_in q)
 unfolding parameters_in
 parameters_in_alike p q e =
-    next Parts Parts faults.Parameter (only_at 49 p) (only_at 49 q) _ _ (only_alike 49 p q e) (λ x y h.
+    next Parts Parts faults.Parameter (only_at SET p) (only_at SET q) _ _ (only_alike SET p q e) (λ x y h.
     next Rows Parts faults.Parameter (elements_at x) (elements_at y) _ _ (elements_alike x y h) (λ ss ts k.
     next Parts Parts faults.Mode (normal_at ss) (normal_at ts) _ _ (normal_alike ss ts k) (λ m n j.
-    is_required Parts faults.NoAcseContext (tagged 162 ss) (tagged 162 ts) (tagged_alike 162 ss ts k))))
+    is_required Parts faults.NoAcseContext (tagged NORMAL_MODE_PARAMETERS ss) (tagged NORMAL_MODE_PARAMETERS ts) (tagged_alike NORMAL_MODE_PARAMETERS ss ts k))))
 
 context_if : (n : ℕ) (o u : Option (ℕ × Piece)) → Maybe Values o u → Maybe Parts (if_context n o) (if_context n u)
 context_if n None None h = tt
@@ -384,7 +385,7 @@ context_if n (Some x) (Some y) h = rw (h.0) (if_maybe Parts (eqb y.0 n) (Some x.
 user_in_alike : (n : ℕ) (ss ts : List Spot) → Rows ss ts → Maybe Parts (user_in ss n) (user_in ts n)
 unfolding user_in
 user_in_alike n ss ts h =
-    context_if n (and_then (tagged 97 ss) pdv_list_at) (and_then (tagged 97 ts) pdv_list_at) (then_maybe Parts Values (tagged 97 ss) (tagged 97 ts) pdv_list_at pdv_list_at (tagged_alike 97 ss ts h) pdv_list_alike)
+    context_if n (and_then (tagged FULLY_ENCODED_DATA ss) pdv_list_at) (and_then (tagged FULLY_ENCODED_DATA ts) pdv_list_at) (then_maybe Parts Values (tagged FULLY_ENCODED_DATA ss) (tagged FULLY_ENCODED_DATA ts) pdv_list_at pdv_list_at (tagged_alike FULLY_ENCODED_DATA ss ts h) pdv_list_alike)
 
 abbrev Requests : Request → Request → Type 0
 Requests x y = asked x ≡ asked y
@@ -401,7 +402,7 @@ unfolding cp_at
 cp_alike p q e =
     then_both Parts Requests (parameters_in p) (parameters_in q) _ _ (parameters_in_alike p q e) (λ x y h.
     next Rows Requests faults.Parameter (elements_at x) (elements_at y) _ _ (elements_alike x y h) (λ ss ts k.
-    next Parts Requests faults.NoAcseContext (tagged 164 ss) (tagged 164 ts) _ _ (tagged_alike 164 ss ts k) (λ v w j.
+    next Parts Requests faults.NoAcseContext (tagged CONTEXT_DEFINITION_LIST ss) (tagged CONTEXT_DEFINITION_LIST ts) _ _ (tagged_alike CONTEXT_DEFINITION_LIST ss ts k) (λ v w j.
     rw (contexts_same v w j) (others ss ts k (context_list_at w)))))
   where
     chosen : (ss ts : List Spot) → Rows ss ts → (contexts : List Context) → Both Requests
@@ -423,10 +424,10 @@ unfolding accepted_at
 accepted_alike None None h = tt
 accepted_alike None (Some t) h = absurd h
 accepted_alike (Some s) None h = absurd h
-accepted_alike (Some s) (Some t) h = both_if Spots (eqb s.element.tag 48) (eqb t.element.tag 48) _ _ None None (ap (λ (x : Element). eqb x.tag 48) h) (
+accepted_alike (Some s) (Some t) h = both_if Spots (eqb s.element.tag SEQUENCE) (eqb t.element.tag SEQUENCE) _ _ None None (ap (λ (x : Element). eqb x.tag SEQUENCE) h) (
     then_maybe Rows Spots (elements_at (content_piece s)) (elements_at (content_piece t)) _ _ (elements_alike (content_piece s) (content_piece t) (ap (λ (x : Element). x.content) h)) (λ ss ts k.
-    then_maybe Parts Spots (if_octets (0 ∷ []) (tagged 128 ss)) (if_octets (0 ∷ []) (tagged 128 ts)) _ _ (octets_if (0 ∷ []) (tagged 128 ss) (tagged 128 ts) (tagged_alike 128 ss ts k)) (λ x y i.
-    then_maybe Parts Spots (if_octets ber (tagged 129 ss)) (if_octets ber (tagged 129 ts)) _ _ (octets_if ber (tagged 129 ss) (tagged 129 ts) (tagged_alike 129 ss ts k)) (λ v w j. h)))) tt
+    then_maybe Parts Spots (if_octets (0 ∷ []) (tagged RESULT ss)) (if_octets (0 ∷ []) (tagged RESULT ts)) _ _ (octets_if (0 ∷ []) (tagged RESULT ss) (tagged RESULT ts) (tagged_alike RESULT ss ts k)) (λ x y i.
+    then_maybe Parts Spots (if_octets ber (tagged TRANSFER_SYNTAX ss)) (if_octets ber (tagged TRANSFER_SYNTAX ts)) _ _ (octets_if ber (tagged TRANSFER_SYNTAX ss) (tagged TRANSFER_SYNTAX ts) (tagged_alike TRANSFER_SYNTAX ss ts k)) (λ v w j. h)))) tt
 
 first_spot : (ss ts : List Spot) → Rows ss ts → Maybe Spots (first_in ss) (first_in ts)
 first_spot [] [] h = tt
@@ -448,7 +449,7 @@ unfolding cpa_at
 cpa_alike p q e =
     then_both Parts Parts (parameters_in p) (parameters_in q) _ _ (parameters_in_alike p q e) (λ x y h.
     next Rows Parts faults.Parameter (elements_at x) (elements_at y) _ _ (elements_alike x y h) (λ ss ts k.
-    next Parts Parts faults.NoAcseContext (tagged 165 ss) (tagged 165 ts) _ _ (tagged_alike 165 ss ts k) (λ v w j.
+    next Parts Parts faults.NoAcseContext (tagged CONTEXT_RESULT_LIST ss) (tagged CONTEXT_RESULT_LIST ts) _ _ (tagged_alike CONTEXT_RESULT_LIST ss ts k) (λ v w j.
     next Rows Parts faults.Parameter (elements_at v) (elements_at w) _ _ (elements_alike v w j) (λ rs us l.
     next Spots Parts faults.NoAcseContext (accepted_at (first_in rs)) (accepted_at (first_in us)) _ _ (accepted_alike (first_in rs) (first_in us) (first_spot rs us l)) (λ a b i.
     next Spots Parts faults.NoMmsContext (accepted_at (second_in rs)) (accepted_at (second_in us)) _ _ (accepted_alike (second_in rs) (second_in us) (second_spot rs us l)) (λ c d m.
@@ -456,7 +457,7 @@ cpa_alike p q e =
 
 ac_alike : (p q : Piece) → Parts p q → Both Parts (ac_at p) (ac_at q)
 unfolding ac_at
-ac_alike p q e = then_both Parts Parts (data_of 14 p) (data_of 14 q) cpa_at cpa_at (data_of_alike 14 p q e) cpa_alike
+ac_alike p q e = then_both Parts Parts (data_of ACCEPT p) (data_of ACCEPT q) cpa_at cpa_at (data_of_alike ACCEPT p q e) cpa_alike
 
 -- ---- the octets alone
 
@@ -472,9 +473,9 @@ pub ac_anywhere : (p : Piece) → (ac_at p >>= λ apdu. Ok apdu.octets) ≡ ac_f
 unfolding ac_from
 ac_anywhere p = plain Parts octets (ac_at p) (ac_at (anywhere p.octets)) (λ x y h. h) (ac_alike p (anywhere p.octets) refl)
 
-pub dn_anywhere : (p : Piece) → (user_of 10 p >>= λ user. Ok (option_map octets user)) ≡ dn_from p.octets
+pub dn_anywhere : (p : Piece) → (user_of DISCONNECT p >>= λ user. Ok (option_map octets user)) ≡ dn_from p.octets
 unfolding dn_from
-dn_anywhere p = plain (Maybe Parts) (option_map octets) (user_of 10 p) (user_of 10 (anywhere p.octets)) octets_same (user_of_alike 10 p (anywhere p.octets) refl)
+dn_anywhere p = plain (Maybe Parts) (option_map octets) (user_of DISCONNECT p) (user_of DISCONNECT (anywhere p.octets)) octets_same (user_of_alike DISCONNECT p (anywhere p.octets) refl)
 
 pub pdv_anywhere : (p : Piece) → (required faults.Pdv (user_data_at p) >>= λ pdv. Ok (pdv_octets pdv)) ≡ pdv_from p.octets
 unfolding pdv_from

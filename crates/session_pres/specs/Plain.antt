@@ -4,6 +4,7 @@ use Rattle.std.specs.Option.{option_map}
 use Rattle.std.specs.Borrow.{Bor}
 use Rattle.ber_grammar.specs.Place.{Piece, piece}
 use Rattle.ber_grammar.specs.Reader.{◌>>=◌}
+use Rattle.session_pres.specs.declared.codes.TheConstants.{DISCONNECT}
 use Rattle.session_pres.specs.declared.fault.SpFault.{SpFault}
 use Rattle.session_pres.specs.declared.fault.SpFault.TheVariants as faults
 use Rattle.session_pres.specs.declared.spdu.Spdu.{Spdu}
@@ -60,7 +61,7 @@ unfoldable pub ac_from : List ℕ → Result (List ℕ) SpFault
 ac_from input = ac_at (anywhere input) >>= λ apdu. Ok apdu.octets
 
 unfoldable pub dn_from : List ℕ → Result (Option (List ℕ)) SpFault
-dn_from input = user_of 10 (anywhere input) >>= λ user. Ok (option_map octets user)
+dn_from input = user_of DISCONNECT (anywhere input) >>= λ user. Ok (option_map octets user)
 
 unfoldable pub pdv_from : List ℕ → Result (ℕ × List ℕ) SpFault
 pdv_from input = required faults.Pdv (user_data_at (anywhere input)) >>= λ pdv. Ok (pdv_octets pdv)

@@ -1,3 +1,5 @@
+//! The presentation contexts that a CP offers, and which are accepted (ISO 8823-1, "Presentation-context-definition-list").
+
 ghost use Rattle.std.specs.Prelude.{◌≡◌, ◌+◌, ◌==◌, ◌||◌, List, [], ◌++◌, Bool, bytes_eq, length, Option, Some, None, slice_get, IfSome, MatchOption};
 ghost use Rattle.std.specs.Option.{option_map};
 ghost use Rattle.ber_grammar.specs.Place.{piece, content_piece};
@@ -7,6 +9,7 @@ ghost use Rattle.session_pres.specs.ContextList.{Context, flags_from};
 ghost use Rattle.session_pres.specs.ContextReading.{has_ber, fields_at, definition_at, chosen_of, offered, context_list_at};
 ghost use Rattle.session_pres.specs.ViewOfContexts.{context, candidate, offer, chosen, if_first};
 
+use crate::codes::{INTEGER, OBJECT_IDENTIFIER, SEQUENCE};
 use crate::pdv::context_of;
 use crate::row::elements_of;
 use ber_view::{Elements, Tlv};
@@ -42,7 +45,7 @@ fn lists_ber(mut syntaxes: Elements<'_>) -> bool
     ensures { result ≡ has_ber syntaxes.entry }
 {
     while let Some(syntax) = syntaxes.next() {
-        if syntax.tag == 6 && syntax.content == [0x51, 1].as_slice() {
+        if syntax.tag == OBJECT_IDENTIFIER && syntax.content == [0x51, 1].as_slice() {
             return true;
         }
     }
@@ -57,7 +60,11 @@ fn context_of_fields<'a>(mut fields: Elements<'a>) -> Option<Definition<'a>>
     let number = fields.next()?;
     let syntax = fields.next()?;
     let transfer = fields.next()?;
-    if fields.next().is_some() || number.tag != 2 || syntax.tag != 6 || transfer.tag != 0x30 {
+    if fields.next().is_some()
+        || number.tag != INTEGER
+        || syntax.tag != OBJECT_IDENTIFIER
+        || transfer.tag != SEQUENCE
+    {
         return None;
     }
     Some(Definition {
@@ -72,7 +79,7 @@ fn context_of_fields<'a>(mut fields: Elements<'a>) -> Option<Definition<'a>>
 fn definition_of<'a>(element: &Tlv<'a>) -> Option<Definition<'a>>
     ensures { option_map context result ≡ definition_at (spot element.now) }
 {
-    if element.tag != 0x30 {
+    if element.tag != SEQUENCE {
         return None;
     }
     context_of_fields(elements_of(element.content)?)

@@ -1,3 +1,5 @@
+//! The PPDUs that make a connection: CP and CPA (ISO 8823-1, "CP-type" and "CPA-PPDU").
+
 ghost use Rattle.std.specs.Prelude.{◌≡◌, ◌==◌, List, ℕ, Bool, Option, Some, None, bytes_eq, is_some};
 ghost use Rattle.std.specs.Option.{option_map};
 ghost use Rattle.ber_grammar.specs.Place.{Spot, Piece, piece};
@@ -9,11 +11,15 @@ ghost use Rattle.session_pres.specs.PresentationReading.{if_octets, normal_at, p
 ghost use Rattle.session_pres.specs.View.{request_of};
 ghost use Rattle.session_pres.specs.Plain.{asked_of, cp_from, ac_from};
 
+use crate::codes::{
+    ACCEPT, CONTEXT_DEFINITION_LIST, CONTEXT_RESULT_LIST, FULLY_ENCODED_DATA, MODE_SELECTOR,
+    NORMAL_MODE_PARAMETERS, RESULT, SEQUENCE, SET, TRANSFER_SYNTAX,
+};
 use crate::contexts::{Contexts, choice, offer_of};
 use crate::fault::SpFault;
 use crate::pdv::pdv_list_of;
 use crate::row::{content_of, elements_of, only};
-use crate::spdu::{ACCEPT, connect_data_of};
+use crate::spdu::connect_data_of;
 use ber_view::Tlv;
 
 /// What a CP says.
@@ -51,12 +57,12 @@ fn field_of(tag: u32, octets: &[u8]) -> Option<&[u8]>
 fn parameters_of(ppdu: &[u8]) -> Result<&[u8], SpFault>
     ensures { Gives piece result (parameters_in (piece ppdu.entry)) }
 {
-    let content = only(0x31, ppdu).ok_or(SpFault::Parameter)?;
+    let content = only(SET, ppdu).ok_or(SpFault::Parameter)?;
     let set = elements_of(content).ok_or(SpFault::Parameter)?;
-    if !has_octets(content_of(0xa0, set), &[0x80, 1, 1]) {
+    if !has_octets(content_of(MODE_SELECTOR, set), &[0x80, 1, 1]) {
         return Err(SpFault::Mode);
     }
-    field_of(0xa2, content).ok_or(SpFault::NoAcseContext)
+    field_of(NORMAL_MODE_PARAMETERS, content).ok_or(SpFault::NoAcseContext)
 }
 
 /// The value of a PDV, if it stands in this context.
@@ -74,7 +80,7 @@ fn value_in(context: u32, pdv: Option<(u32, &[u8])>) -> Option<&[u8]>
 fn user_of(context: u32, parameters: &[u8]) -> Option<&[u8]>
     ensures { option_map piece result ≡ and_then (elements_at (piece parameters.entry)) (λ fields. user_in fields context) }
 {
-    let values = field_of(0x61, parameters)?;
+    let values = field_of(FULLY_ENCODED_DATA, parameters)?;
     value_in(context, pdv_list_of(values))
 }
 
@@ -84,7 +90,7 @@ fn cp_of(ppdu: &[u8]) -> Result<Cp<'_>, SpFault>
 {
     let parameters = parameters_of(ppdu)?;
     let fields = elements_of(parameters).ok_or(SpFault::Parameter)?;
-    let list = content_of(0xa4, fields).ok_or(SpFault::NoAcseContext)?;
+    let list = content_of(CONTEXT_DEFINITION_LIST, fields).ok_or(SpFault::NoAcseContext)?;
     let offer = offer_of(list).ok_or(SpFault::Parameter)?;
     let (acse_place, acse) = choice(offer.acse).ok_or(SpFault::NoAcseContext)?;
     let (mms_place, mms) = choice(offer.mms).ok_or(SpFault::NoMmsContext)?;
@@ -121,9 +127,9 @@ fn is_accepted(result_of: Option<Tlv<'_>>) -> bool
     let Some(element) = result_of else {
         return false;
     };
-    element.tag == 0x30
-        && has_octets(field_of(0x80, element.content), &[0])
-        && has_octets(field_of(0x81, element.content), &[0x51, 1])
+    element.tag == SEQUENCE
+        && has_octets(field_of(RESULT, element.content), &[0])
+        && has_octets(field_of(TRANSFER_SYNTAX, element.content), &[0x51, 1])
 }
 
 /// The APDU of a CPA that accepts both contexts.
@@ -133,7 +139,7 @@ fn cpa_of(ppdu: &[u8]) -> Result<&[u8], SpFault>
 {
     let parameters = parameters_of(ppdu)?;
     let fields = elements_of(parameters).ok_or(SpFault::Parameter)?;
-    let list = content_of(0xa5, fields).ok_or(SpFault::NoAcseContext)?;
+    let list = content_of(CONTEXT_RESULT_LIST, fields).ok_or(SpFault::NoAcseContext)?;
     let mut results = elements_of(list).ok_or(SpFault::Parameter)?;
     if !is_accepted(results.next()) {
         return Err(SpFault::NoAcseContext);

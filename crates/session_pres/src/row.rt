@@ -1,3 +1,5 @@
+//! The elements of a content (ITU-T X.690, 8.1).
+
 ghost use Rattle.std.specs.Prelude.{◌≡◌, List};
 ghost use Rattle.std.specs.Option.{option_map};
 ghost use Rattle.ber_grammar.specs.Place.{piece};
