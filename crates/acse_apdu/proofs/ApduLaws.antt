@@ -1,18 +1,47 @@
 -- An APDU is read exactly where it is spelled, and refused exactly for its cause.
-use Rattle.std.proofs.Common.{◌≡◌, ℕ, Bool, true, false, cond, Option, Some, None, Result, Ok, Err, refl, sym, ap, subst, ◌∙◌}
+use Rattle.std.proofs.Common.{◌≡◌, ℕ, Bool, true, false, cond, List, Option, Some, None, Result, Ok, Err, refl, sym, ap, subst, ◌∙◌}
+use Rattle.std.proofs.lemmas.Bool.{eq-eqb}
 use Rattle.ber_grammar.specs.Octets.{IsBytes}
-use Rattle.ber_grammar.specs.Place.{Piece}
-use Rattle.ber_grammar.specs.Reader.{◌>>=◌, Gives, Reads}
+use Rattle.ber_grammar.specs.Place.{Piece, Spot, content_piece}
+use Rattle.ber_grammar.specs.Reader.{◌>>=◌, and_then, Gives, Reads}
 use Rattle.ber_grammar.proofs.ReaderLaws.{exact_from, reads_from, ok_is, err_is}
 use Rattle.acse_apdu.specs.declared.codes.TheConstants.{AARQ, AARE}
 use Rattle.acse_apdu.specs.declared.fault.AcFault.{AcFault}
 use Rattle.acse_apdu.specs.declared.fault.AcFault.TheVariants.{Apdu, ContextName, NoUserInformation}
 use Rattle.acse_apdu.specs.Grammar.{IsApdu, NamesMms, IsAccepted, Carries, IsAarq, IsAarqRefused, IsAare, IsAareRefused, IsRelease, IsReleaseRefused}
-use Rattle.acse_apdu.specs.Fields.{apdu_at}
+use Rattle.acse_apdu.specs.Apdu.{with_fields, apdu_at}
 use Rattle.acse_apdu.specs.Contents.{names_mms, is_accepted, pdu_at}
-use Rattle.acse_apdu.specs.Reading.{or_fault, association_at, aarq_at, aare_at, release_at}
-use Rattle.acse_apdu.proofs.FieldLaws.{apdu_again, apdu_found, apdu-holds}
+use Rattle.acse_apdu.specs.Reading.{association_at, aarq_at, aare_at, release_at}
+use Rattle.ber_grammar.proofs.OctetLaws.{Spells-bytes}
+use Rattle.ber_grammar.proofs.OptionLaws.{some_is, then_some}
+use Rattle.ber_grammar.proofs.FieldLaws.{fields_again, fields_found, with_tag-found, whole_again, whole_found}
+use Rattle.ber_grammar.specs.Element.{Element}
+use Rattle.ber_grammar.specs.Fields.{AreFields, spot_in, fields_in, with_tag, whole_at, whole_in}
+use Rattle.ber_grammar.specs.Steps.{required}
 use Rattle.acse_apdu.proofs.ContentLaws.{names_again, names_found, accepted_again, accepted_found, pdu_again, pdu_found}
+
+-- ---- the APDU
+
+pub apdu_again : (tag : ℕ) (input content : Piece) → IsApdu tag input content → apdu_at tag input ≡ Some content
+unfolding apdu_at
+apdu_again tag input content (e, fields, spelled, is_tag, at, row) =
+    let all : fields_in (content_piece (spot_in input e)) ≡ Some fields = ap fields_in (sym at) ∙ fields_again content fields row in
+    rw (whole_again input.octets e spelled, eq-eqb e.tag tag is_tag, all) (ap (λ (x : Piece). Some x) (sym at))
+
+pub apdu_found : (tag : ℕ) (input content : Piece) → apdu_at tag input ≡ Some content → IsApdu tag input content
+unfolding apdu_at
+apdu_found tag input content h =
+    let a = then_some (whole_in input) (λ (s : Spot). and_then (with_tag tag s) with_fields) content h in
+    let e = then_some (whole_at input.octets) (λ (e : Element). Some (spot_in input e)) a.0 a.1 in
+    let spot : spot_in input e.0 ≡ a.0 = some_is (spot_in input e.0) a.0 e.2 in
+    let b = then_some (with_tag tag a.0) with_fields content a.2 in
+    let c = with_tag-found tag a.0 b.0 b.1 in
+    let d = then_some (fields_in b.0) (λ (fields : List Spot). Some b.0) content b.2 in
+    let at : b.0 ≡ content = some_is b.0 content d.2 in
+    (e.0, d.0, whole_found input.octets e.0 e.1, ap (λ (s : Spot). s.element.tag) spot ∙ c.0, sym at ∙ c.1 ∙ ap content_piece (sym spot), subst (λ (x : Piece). AreFields x d.0) at (fields_found b.0 d.0 d.1))
+
+pub apdu-holds : (tag : ℕ) (input content : Piece) → IsBytes input.octets → IsApdu tag input content → IsBytes content.octets
+apdu-holds tag input content fits (e, fields, spelled, is_tag, at, row) = subst (λ (x : Piece). IsBytes x.octets) (sym at) (Spells-bytes input.octets e fits spelled)
 
 -- ---- which way a test went
 
@@ -44,11 +73,11 @@ AssociationTells content (Err Apdu) = ⊥
 AssociationTells content (Err ContextName) = ¬ NamesMms content
 AssociationTells content (Err NoUserInformation) = NamesMms content × ((pdu : Piece) → ¬ Carries content pdu)
 
-carried : (content : Piece) (o : Option Piece) → pdu_at content ≡ o → IsBytes content.octets → NamesMms content → AssociationTells content (or_fault NoUserInformation o)
+carried : (content : Piece) (o : Option Piece) → pdu_at content ≡ o → IsBytes content.octets → NamesMms content → AssociationTells content (required NoUserInformation o)
 carried content (Some pdu) h fits names = (names, pdu_found content pdu fits h)
 carried content None h fits names = (names, λ pdu carries. (let some = pdu_again content pdu carries in cc))
 
-named : (content : Piece) (b : Bool) → names_mms content ≡ b → IsBytes content.octets → AssociationTells content (cond b (or_fault NoUserInformation (pdu_at content)) (Err ContextName))
+named : (content : Piece) (b : Bool) → names_mms content ≡ b → IsBytes content.octets → AssociationTells content (cond b (required NoUserInformation (pdu_at content)) (Err ContextName))
 named content true h fits = carried content (pdu_at content) refl fits (names_found content h)
 named content false h fits = λ names. (let accepts = names_again content names in cc)
 
@@ -76,7 +105,7 @@ aarq_inside input content (Err Apdu) apdu h = absurd h
 aarq_inside input content (Err ContextName) apdu h = (content, apdu, h)
 aarq_inside input content (Err NoUserInformation) apdu h = (content, apdu, h.0, h.1)
 
-aarq_found : (input : Piece) (o : Option Piece) → apdu_at AARQ input ≡ o → IsBytes input.octets → AarqTells input (or_fault Apdu o >>= λ content. association_at content)
+aarq_found : (input : Piece) (o : Option Piece) → apdu_at AARQ input ≡ o → IsBytes input.octets → AarqTells input (required Apdu o >>= λ content. association_at content)
 aarq_found input (Some content) h fits =
     let apdu = apdu_found AARQ input content h in
     aarq_inside input content (association_at content) apdu (association_tells content (apdu-holds AARQ input content fits apdu))
@@ -120,7 +149,7 @@ aare_result input content false h fits at =
     let accepted = accepted_again content (subst IsAccepted (sym same) accepts) in
     cc
 
-aare_found : (input : Piece) (o : Option Piece) → apdu_at AARE input ≡ o → IsBytes input.octets → AareTells input (or_fault Apdu o >>= λ content. cond (is_accepted content) (association_at content) (Err Apdu))
+aare_found : (input : Piece) (o : Option Piece) → apdu_at AARE input ≡ o → IsBytes input.octets → AareTells input (required Apdu o >>= λ content. cond (is_accepted content) (association_at content) (Err Apdu))
 aare_found input (Some content) h fits = aare_result input content (is_accepted content) refl (apdu-holds AARE input content fits (apdu_found AARE input content h)) h
 aare_found input None h fits = λ content apdu accepts. (let some = apdu_again AARE input content apdu in cc)
 
@@ -132,7 +161,7 @@ pub aare_again : (input pdu : Piece) → IsAare input pdu → aare_at input ≡ 
 unfolding aare_at
 aare_again input pdu (content, apdu, accepts, names, carries) = rw (apdu_again AARE input content apdu, accepted_again content accepts) (association_again content pdu names carries)
 
-aare_no : (input : Piece) (o : Option Piece) → apdu_at AARE input ≡ o → IsBytes input.octets → IsAareRefused input Apdu → (or_fault Apdu o >>= λ content. cond (is_accepted content) (association_at content) (Err Apdu)) ≡ Err Apdu
+aare_no : (input : Piece) (o : Option Piece) → apdu_at AARE input ≡ o → IsBytes input.octets → IsAareRefused input Apdu → (required Apdu o >>= λ content. cond (is_accepted content) (association_at content) (Err Apdu)) ≡ Err Apdu
 aare_no input (Some content) h fits not =
     let apdu = apdu_found AARE input content h in
     rw (unaccepted content (apdu-holds AARE input content fits apdu) (not content apdu)) refl
@@ -154,7 +183,7 @@ abbrev ReleaseTells : ℕ → Piece → Result (Unit {0}) AcFault → Type 0
 ReleaseTells tag input (Ok x) = IsRelease tag input
 ReleaseTells tag input (Err f) = IsReleaseRefused tag input f
 
-release_found : (tag : ℕ) (input : Piece) (o : Option Piece) → apdu_at tag input ≡ o → ReleaseTells tag input (or_fault Apdu o >>= λ content. Ok tt)
+release_found : (tag : ℕ) (input : Piece) (o : Option Piece) → apdu_at tag input ≡ o → ReleaseTells tag input (required Apdu o >>= λ content. Ok tt)
 release_found tag input (Some content) h = (content, apdu_found tag input content h)
 release_found tag input None h = (refl, λ (content, apdu). (let some = apdu_again tag input content apdu in cc))
 

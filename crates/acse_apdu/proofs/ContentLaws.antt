@@ -10,9 +10,9 @@ use Rattle.ber_grammar.proofs.OptionLaws.{kept_some, then_some, chosen, sides}
 use Rattle.ber_grammar.proofs.UintLaws.{uint_again, uint_found}
 use Rattle.acse_apdu.specs.declared.codes.TheConstants.{APPLICATION_CONTEXT_NAME, RESULT, USER_INFORMATION, EXTERNAL, SINGLE_ASN1_TYPE, INTEGER, OBJECT_IDENTIFIER}
 use Rattle.acse_apdu.specs.Grammar.{mms_context, NamesMms, IsAccepted, IsContext, IsEncoding, IsExternal, Carries}
-use Rattle.acse_apdu.specs.Fields.{fields_at, field_at, with_tag, only_at}
+use Rattle.ber_grammar.specs.Fields.{fields_in, field_with, with_tag, only_with}
 use Rattle.acse_apdu.specs.Contents.{is_mms, is_mms_name, names_mms, is_zero, result_at, is_accepted, is_word, is_context, value_of, behind_reference, external_of, pdu_at}
-use Rattle.acse_apdu.proofs.FieldLaws.{fields_again, fields_found, field_again, field_found, with_tag-again, with_tag-found, only_again, only_found, HoldOctets, fields-hold, field-holds, only-holds}
+use Rattle.ber_grammar.proofs.FieldLaws.{fields_again, fields_found, field_with-again, field_with-found, with_tag-again, with_tag-found, only_with-again, only_with-found, HoldOctets, fields-hold, field-holds, only-holds}
 
 -- ---- the application context
 
@@ -36,14 +36,14 @@ name_found None h = absurd cc
 
 pub names_again : (content : Piece) → NamesMms content → names_mms content ≡ true
 unfolding names_mms
-names_again content (field, name, at, only, is) = rw (field_again APPLICATION_CONTEXT_NAME content field at, only_again OBJECT_IDENTIFIER field name only, is) refl
+names_again content (field, name, at, only, is) = rw (field_with-again APPLICATION_CONTEXT_NAME content field at, only_with-again OBJECT_IDENTIFIER field name only, is) refl
 
 pub names_found : (content : Piece) → names_mms content ≡ true → NamesMms content
 unfolding names_mms
 names_found content h =
-    let a = name_found (and_then (field_at APPLICATION_CONTEXT_NAME content) (λ (field : Piece). only_at OBJECT_IDENTIFIER field)) h in
-    let b = then_some (field_at APPLICATION_CONTEXT_NAME content) (λ (field : Piece). only_at OBJECT_IDENTIFIER field) a.0 a.1 in
-    (b.0, a.0, field_found APPLICATION_CONTEXT_NAME content b.0 b.1, only_found OBJECT_IDENTIFIER b.0 a.0 b.2, a.2)
+    let a = name_found (and_then (field_with APPLICATION_CONTEXT_NAME content) (λ (field : Piece). only_with OBJECT_IDENTIFIER field)) h in
+    let b = then_some (field_with APPLICATION_CONTEXT_NAME content) (λ (field : Piece). only_with OBJECT_IDENTIFIER field) a.0 a.1 in
+    (b.0, a.0, field_with-found APPLICATION_CONTEXT_NAME content b.0 b.1, only_with-found OBJECT_IDENTIFIER b.0 a.0 b.2, a.2)
 
 -- ---- the result
 
@@ -53,16 +53,16 @@ zero_found None h = absurd cc
 
 pub accepted_again : (content : Piece) → IsAccepted content → is_accepted content ≡ true
 unfolding result_at
-accepted_again content (field, number, at, only, is) = rw (field_again RESULT content field at, only_again INTEGER field number only, uint_again number.octets 0 is) refl
+accepted_again content (field, number, at, only, is) = rw (field_with-again RESULT content field at, only_with-again INTEGER field number only, uint_again number.octets 0 is) refl
 
 pub accepted_found : (content : Piece) → IsBytes content.octets → is_accepted content ≡ true → IsAccepted content
 unfolding result_at
 accepted_found content fits h =
     let number_of = λ (number : Piece). kept (uint_at number.octets) in
-    let a = then_some (field_at RESULT content) (λ (field : Piece). and_then (only_at INTEGER field) number_of) 0 (zero_found _ h) in
-    let b = then_some (only_at INTEGER a.0) number_of 0 a.2 in
-    let at = field_found RESULT content a.0 a.1 in
-    let only = only_found INTEGER a.0 b.0 b.1 in
+    let a = then_some (field_with RESULT content) (λ (field : Piece). and_then (only_with INTEGER field) number_of) 0 (zero_found _ h) in
+    let b = then_some (only_with INTEGER a.0) number_of 0 a.2 in
+    let at = field_with-found RESULT content a.0 a.1 in
+    let only = only_with-found INTEGER a.0 b.0 b.1 in
     (a.0, b.0, at, only, uint_found b.0.octets (only-holds INTEGER a.0 b.0 (field-holds RESULT content a.0 fits at) only) 0 (kept_some (uint_at b.0.octets) 0 b.2))
 
 -- ---- user information
@@ -123,17 +123,17 @@ external_found (s ∷ fields) pdu fits h =
 pub pdu_again : (content pdu : Piece) → Carries content pdu → pdu_at content ≡ Some pdu
 unfolding pdu_at
 pdu_again content pdu (information, external, fields, at, only, row, is) =
-    rw (field_again USER_INFORMATION content information at, only_again EXTERNAL information external only, fields_again external fields row) (external_again fields pdu is)
+    rw (field_with-again USER_INFORMATION content information at, only_with-again EXTERNAL information external only, fields_again external fields row) (external_again fields pdu is)
 
 pub pdu_found : (content pdu : Piece) → IsBytes content.octets → pdu_at content ≡ Some pdu → Carries content pdu
 unfolding pdu_at
 pdu_found content pdu fits h =
-    let fields_in = λ (external : Piece). and_then (fields_at external) (λ (fields : List Spot). external_of fields) in
-    let a = then_some (field_at USER_INFORMATION content) (λ (information : Piece). and_then (only_at EXTERNAL information) fields_in) pdu h in
-    let b = then_some (only_at EXTERNAL a.0) fields_in pdu a.2 in
-    let c = then_some (fields_at b.0) (λ (fields : List Spot). external_of fields) pdu b.2 in
-    let at = field_found USER_INFORMATION content a.0 a.1 in
-    let only = only_found EXTERNAL a.0 b.0 b.1 in
+    let inside = λ (external : Piece). and_then (fields_in external) (λ (fields : List Spot). external_of fields) in
+    let a = then_some (field_with USER_INFORMATION content) (λ (information : Piece). and_then (only_with EXTERNAL information) inside) pdu h in
+    let b = then_some (only_with EXTERNAL a.0) inside pdu a.2 in
+    let c = then_some (fields_in b.0) (λ (fields : List Spot). external_of fields) pdu b.2 in
+    let at = field_with-found USER_INFORMATION content a.0 a.1 in
+    let only = only_with-found EXTERNAL a.0 b.0 b.1 in
     let row = fields_found b.0 c.0 c.1 in
     let hold = fields-hold b.0 c.0 (only-holds EXTERNAL a.0 b.0 (field-holds USER_INFORMATION content a.0 fits at) only) row in
     (a.0, b.0, c.0, at, only, row, external_found c.0 pdu hold c.2)

@@ -5,13 +5,14 @@ use Rattle.std.proofs.lemmas.Bool.{lt-ltb}
 use Rattle.std.proofs.lemmas.Bool.Decides.{nat_tests}
 use Rattle.ber_grammar.specs.Element.{Element, Spells, IsRow}
 use Rattle.ber_grammar.specs.Content.{IsUint}
-use Rattle.ber_grammar.specs.Place.{Piece, Spot, placed, content_piece}
+use Rattle.ber_grammar.specs.Place.{Piece, Spot, placed, content_piece, anywhere}
 use Rattle.ber_write.specs.Minimal.{octets_of, written, CanBeTag, tag_octets, length_octets, uint_octets}
 use Rattle.ber_write.proofs.ElementLaws.{is_spelling}
 use Rattle.ber_write.proofs.NumberLaws.{unsigned_written, length-uint_octets}
 use Rattle.acse_apdu.specs.declared.codes.TheConstants.{AARQ, AARE, RLRQ, RLRE, APPLICATION_CONTEXT_NAME, RESULT, RESULT_SOURCE_DIAGNOSTIC, SERVICE_USER, USER_INFORMATION, REASON, EXTERNAL, SINGLE_ASN1_TYPE, INTEGER, OBJECT_IDENTIFIER}
-use Rattle.acse_apdu.specs.Grammar.{AreFields, IsApdu, IsFirst, IsOnly, mms_context, NamesMms, IsAccepted, Carries, IsAarq, IsAare, IsRelease}
-use Rattle.acse_apdu.specs.Reading.{anywhere, pdu_of_aarq, pdu_of_aare, rlrq_of, rlre_of}
+use Rattle.ber_grammar.specs.Fields.{AreFields, IsFirst, IsOnly}
+use Rattle.acse_apdu.specs.Grammar.{IsApdu, mms_context, NamesMms, IsAccepted, Carries, IsAarq, IsAare, IsRelease}
+use Rattle.acse_apdu.specs.Reading.{pdu_of_aarq, pdu_of_aare, rlrq_of, rlre_of}
 use Rattle.acse_apdu.specs.Plain.{HoldsName, HoldsResult, HoldsExternal, IsPlainAarq, IsPlainAare, IsPlainRelease}
 use Rattle.acse_apdu.specs.Written.{name_field, result_fields, external_content, information_content, aarq_content, aare_content, aarq_octets, aare_octets, release_octets}
 use Rattle.acse_apdu.proofs.ApduLaws.{aarq_again, aare_again, release_again}

@@ -4,8 +4,8 @@ use Rattle.ber_grammar.specs.declared.fault.BerFault.{BerFault}
 use Rattle.ber_grammar.specs.Place.{Piece, Spot}
 use Rattle.ber_grammar.specs.Reader.{and_then, kept}
 use Rattle.ber_grammar.specs.Reading.{uint_at}
+use Rattle.ber_grammar.specs.Fields.{fields_in, field_with, with_tag, only_with}
 use Rattle.acse_apdu.specs.declared.codes.TheConstants.{APPLICATION_CONTEXT_NAME, RESULT, USER_INFORMATION, EXTERNAL, SINGLE_ASN1_TYPE, INTEGER, OBJECT_IDENTIFIER}
-use Rattle.acse_apdu.specs.Fields.{fields_at, field_at, with_tag, only_at}
 
 -- ---- the application context and the result
 
@@ -18,14 +18,14 @@ is_mms_name None = false
 is_mms_name (Some name) = is_mms name.octets
 
 unfoldable pub names_mms : Piece → Bool
-names_mms content = is_mms_name (and_then (field_at APPLICATION_CONTEXT_NAME content) (λ field. only_at OBJECT_IDENTIFIER field))
+names_mms content = is_mms_name (and_then (field_with APPLICATION_CONTEXT_NAME content) (λ field. only_with OBJECT_IDENTIFIER field))
 
 abbrev pub is_zero : Option ℕ → Bool
 is_zero None = false
 is_zero (Some n) = n == 0
 
 unfoldable pub result_at : Piece → Option ℕ
-result_at content = and_then (field_at RESULT content) (λ field. and_then (only_at INTEGER field) (λ number. kept (uint_at number.octets)))
+result_at content = and_then (field_with RESULT content) (λ field. and_then (only_with INTEGER field) (λ number. kept (uint_at number.octets)))
 
 abbrev pub is_accepted : Piece → Bool
 is_accepted content = is_zero (result_at content)
@@ -54,4 +54,4 @@ external_of [] = None
 external_of (s ∷ fields) = if s.element.tag == OBJECT_IDENTIFIER then behind_reference fields else value_of s fields
 
 unfoldable pub pdu_at : Piece → Option Piece
-pdu_at content = and_then (field_at USER_INFORMATION content) (λ information. and_then (only_at EXTERNAL information) (λ external. and_then (fields_at external) (λ fields. external_of fields)))
+pdu_at content = and_then (field_with USER_INFORMATION content) (λ information. and_then (only_with EXTERNAL information) (λ external. and_then (fields_in external) (λ fields. external_of fields)))

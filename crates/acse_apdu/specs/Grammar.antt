@@ -1,33 +1,18 @@
 -- The APDUs that make and end an association, by cases on their elements (ISO 8650-1, ITU-T X.227, clause 9, "ACSE-1").
 -- A content is a piece: its octets, and where they lie.
-use Rattle.std.specs.Prelude.{◌≡◌, ◌≢◌, ℕ, ◌+◌, ◌^◌, ◌<◌, ◌⊎◌, List, [], ◌∷◌}
-use Rattle.ber_grammar.specs.Element.{Element, Spells, IsRow}
+use Rattle.std.specs.Prelude.{◌≡◌, ℕ, ◌^◌, ◌<◌, List, [], ◌∷◌}
+use Rattle.ber_grammar.specs.Element.{Element, Spells}
 use Rattle.ber_grammar.specs.Content.{IsUint}
-use Rattle.ber_grammar.specs.Place.{Piece, Spot, placed, content_piece}
+use Rattle.ber_grammar.specs.Place.{Piece, Spot, content_piece}
+use Rattle.ber_grammar.specs.Fields.{AreFields, IsField, IsOnly, spot_in}
 use Rattle.acse_apdu.specs.declared.codes.TheConstants.{AARQ, AARE, APPLICATION_CONTEXT_NAME, RESULT, USER_INFORMATION, EXTERNAL, SINGLE_ASN1_TYPE, INTEGER, OBJECT_IDENTIFIER}
 use Rattle.acse_apdu.specs.declared.fault.AcFault.{AcFault}
 use Rattle.acse_apdu.specs.declared.fault.AcFault.TheVariants.{Apdu, ContextName, NoUserInformation}
 
--- the elements of a content, each where it lies
-abbrev pub AreFields : Piece → List Spot → Type 0
-AreFields content fields = (es : List Element) × IsRow content.octets es × (fields ≡ placed (content.block, content.place) es)
-
 -- The input is one whole element with this tag, and its content is a row of whole elements.
 abbrev pub IsApdu : ℕ → Piece → Piece → Type 0
 IsApdu tag input content = (e : Element) × (fields : List Spot) × Spells input.octets e × (e.tag ≡ tag)
-    × (content ≡ record { octets = e.content; block = input.block; place = input.place + e.head }) × AreFields content fields
-
--- the content of the first field with this tag
-abbrev pub IsFirst : ℕ → List Spot → Piece → Type 0
-IsFirst tag [] inner = ⊥
-IsFirst tag (s ∷ others) inner = ((s.element.tag ≡ tag) × (inner ≡ content_piece s)) ⊎ ((s.element.tag ≢ tag) × IsFirst tag others inner)
-
-abbrev pub IsField : ℕ → Piece → Piece → Type 0
-IsField tag content inner = (fields : List Spot) × AreFields content fields × IsFirst tag fields inner
-
--- the content of the only field, which has this tag
-abbrev pub IsOnly : ℕ → Piece → Piece → Type 0
-IsOnly tag content inner = (s : Spot) × AreFields content (s ∷ []) × (s.element.tag ≡ tag) × (inner ≡ content_piece s)
+    × (content ≡ content_piece (spot_in input e)) × AreFields content fields
 
 -- 1.0.9506.2.3, the application context of MMS (ISO 9506-2, IEC 61850-8-1): the octets of an OBJECT IDENTIFIER
 abbrev pub mms_context : List ℕ

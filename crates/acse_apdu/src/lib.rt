@@ -4,9 +4,8 @@
 //! [`write_rlrq`] and [`read_rlre`] the caller's. Readers take no memory, and what they give back is a slice of the input.
 #![tactic(auto)]
 
-// The octets: tags, the fields of a content, what is read and what is written.
+// The octets: tags, what is read and what is written.
 mod codes;
-mod fields;
 mod reading;
 mod writing;
 

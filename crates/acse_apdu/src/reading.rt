@@ -6,6 +6,7 @@ ghost use Rattle.ber_grammar.specs.Place.{piece};
 ghost use Rattle.ber_grammar.specs.Reader.{Gives, Reads};
 ghost use Rattle.ber_view.specs.View.{spot};
 ghost use Rattle.acse_apdu.specs.Grammar.{IsAarq, IsAarqRefused, IsAare, IsAareRefused, IsRelease, IsReleaseRefused};
+ghost use Rattle.acse_apdu.specs.Apdu.{apdu_at};
 ghost use Rattle.acse_apdu.specs.Contents.{names_mms, result_at, is_zero, is_accepted, is_context, value_of, external_of, pdu_at};
 ghost use Rattle.acse_apdu.specs.Reading.{association_at, aarq_at, aare_at, release_at, pdu_of_aarq, pdu_of_aare, rlrq_of, rlre_of};
 
@@ -14,19 +15,29 @@ use crate::codes::{
     SINGLE_ASN1_TYPE, USER_INFORMATION,
 };
 use crate::fault::AcFault;
-use crate::fields::{apdu, field, fields, only, tagged};
-use ber_view::{Elements, Tlv, uint};
+use ber_view::{Elements, Tlv, fields, first_with, only_with, tagged, uint, whole};
+
+/// The content of the APDU with this tag, which is all of `bytes`.
+#[tactic(auto, unfolding(crate::specs::Apdu::apdu_at))]
+fn apdu(bytes: &[u8], tag: u32) -> Option<&[u8]>
+    ensures { option_map piece result ≡ apdu_at tag (piece bytes.entry) }
+{
+    let apdu = whole(bytes)?;
+    let content = tagged(&apdu, tag)?;
+    fields(content)?;
+    Some(content)
+}
 
 /// Whether the application context is that of MMS, 1.0.9506.2.3.
 #[tactic(auto, unfolding(crate::specs::Contents::names_mms))]
 fn has_mms_name(content: &[u8]) -> bool
     ensures { result ≡ names_mms (piece content.entry) }
 {
-    let Some(field) = field(content, APPLICATION_CONTEXT_NAME) else {
+    let Some(field) = first_with(content, APPLICATION_CONTEXT_NAME) else {
         return false;
     };
     matches!(
-        only(field, OBJECT_IDENTIFIER),
+        only_with(field, OBJECT_IDENTIFIER),
         Some([0x28, 0xca, 0x22, 2, 3])
     )
 }
@@ -36,8 +47,8 @@ fn has_mms_name(content: &[u8]) -> bool
 fn result_of(content: &[u8]) -> Option<u64>
     ensures { result ≡ result_at (piece content.entry) }
 {
-    let field = field(content, RESULT)?;
-    uint(only(field, INTEGER)?).ok()
+    let field = first_with(content, RESULT)?;
+    uint(only_with(field, INTEGER)?).ok()
 }
 
 /// Whether the association was accepted.
@@ -82,8 +93,8 @@ fn value_in<'a>(mut fields: Elements<'a>) -> Option<&'a [u8]>
 fn user_data(content: &[u8]) -> Option<&[u8]>
     ensures { option_map piece result ≡ pdu_at (piece content.entry) }
 {
-    let information = field(content, USER_INFORMATION)?;
-    let external = only(information, EXTERNAL)?;
+    let information = first_with(content, USER_INFORMATION)?;
+    let external = only_with(information, EXTERNAL)?;
     value_in(fields(external)?)
 }
 

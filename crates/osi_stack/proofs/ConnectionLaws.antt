@@ -21,7 +21,7 @@ use Rattle.osi_stack.specs.declared.phase.Phase.{Phase}
 use Rattle.osi_stack.specs.Causes.{of_transport, transport_stop}
 use Rattle.osi_stack.specs.Lines.{HasLine}
 use Rattle.osi_stack.specs.Stream.{Stand, gifts_at, step_at, has_ended, Runs, Takes, Stops}
-use Rattle.osi_stack.specs.Going.{stand, IsUsable, Adds, AddsTaken, StaysTaken, counted, held_with, Went, HaltsAt}
+use Rattle.osi_stack.specs.Going.{stand, IsUsable, Adds, AddsTpkt, StaysTpkt, counted, held_with, Went, HaltsAt}
 
 -- ---- two goes are one
 
@@ -110,7 +110,7 @@ went_packet a b piece rest taken before now on ready (tpdu, front, is, cut, whol
     }
 
 pub went_taken : (a b : Link) (piece rest : List ℕ) (taken : Option Tpkt) (before now : List Event) → IsUsable a → has_ended a.phase ≡ false → StepsFrom a.transport b.transport piece taken rest
-    → AddsTaken a.phase a.octets taken b.phase b.octets before now → Went a b piece rest before now
+    → AddsTpkt a.phase a.octets taken b.phase b.octets before now → Went a b piece rest before now
 went_taken a b piece rest None before now usable on (h, ready) (phase, octets, same) = subst (λ (x : List Event). Went a b piece rest before x) (sym same) (went_none a b piece rest before usable ready phase octets h)
 went_taken a b piece rest (Some taken) before now usable on (h, ready) (adds, octets) = went_packet a b piece rest taken before now on ready h adds octets
 
@@ -131,7 +131,7 @@ transport_halts transport.Sequence s input h = transport_stops transport.Sequenc
 transport_halts transport.TsduLimit s input h = transport_stops transport.TsduLimit s input (h (λ e. cc))
 
 -- what a layer above it refuses
-pub taken_halts : (a : Link) (t : State) (held piece rest : List ℕ) (taken : Option Tpkt) (before now : List Event) (s : Stop) → Advances a.transport.state a.transport.held piece t held taken rest → StaysTaken s a.phase taken before now
+pub taken_halts : (a : Link) (t : State) (held piece rest : List ℕ) (taken : Option Tpkt) (before now : List Event) (s : Stop) → Advances a.transport.state a.transport.held piece t held taken rest → StaysTpkt s a.phase taken before now
     → (now ≡ before) × HaltsAt s (stand a) (held_with a piece)
 taken_halts a t held piece rest None before now s h stays = absurd stays
 taken_halts a t held piece rest (Some taken) before now stops.Memory h stays = (stays.0, tt)

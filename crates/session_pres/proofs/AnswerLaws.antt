@@ -11,14 +11,16 @@ use Rattle.ber_grammar.proofs.ElementLaws.{IsTag-some, Begins-length}
 use Rattle.ber_write.specs.Minimal.{octets_of}
 use Rattle.session_pres.specs.declared.codes.TheConstants.{CONNECT, USER_DATA, NORMAL_MODE_PARAMETERS, CONTEXT_DEFINITION_LIST, CONTEXT_RESULT_LIST, SET}
 use Rattle.session_pres.specs.declared.fault.SpFault.{SpFault}
-use Rattle.session_pres.specs.Places.{AreElements, IsOnly, tagged}
-use Rattle.session_pres.specs.ContextList.{Context, AreFields, AreDefinitions, IsContextList, flags_from}
+use Rattle.ber_grammar.specs.Fields.{AreFields, IsOnly, first_with}
+use Rattle.session_pres.specs.ContextList.{Context, AreContextFields, AreDefinitions, IsContextList, flags_from}
 use Rattle.session_pres.specs.Presentation.{Request, HasParameters, IsCp, IsCpRefused}
 use Rattle.session_pres.specs.PresentationReading.{cp_at}
-use Rattle.session_pres.specs.Plain.{anywhere, told, connects, Asked, asked, spdu_from, cp_from}
+use Rattle.ber_grammar.specs.Place.{anywhere}
+use Rattle.session_pres.specs.Plain.{told, connects, Asked, asked, spdu_from, cp_from}
 use Rattle.session_pres.specs.Written.{user_octets, accept_parameters}
 use Rattle.session_pres.specs.WrittenPpdu.{set_content, result_octets, cpa_parameters, cpa_octets}
-use Rattle.session_pres.specs.Parameters.{Parameter, first_of_two, last_of, AreParameters}
+use Rattle.ber_grammar.specs.Reader.{first_of_two}
+use Rattle.session_pres.specs.Parameters.{Parameter, last_of, AreParameters}
 use Rattle.session_pres.specs.Units.{Seen, HasData, IsSpdu, IsSpduRefused, connect, transfer, finish, abort}
 use Rattle.session_pres.specs.UnitReading.{spdu_at}
 use Rattle.session_pres.proofs.UnitLaws.{spdu_exact}
@@ -40,7 +42,7 @@ row_weighs octets [] from row = omega arith
 row_weighs octets (e ∷ es) from (front, rest, s, p, row) =
     omega (arith, row_weighs rest es (from.0, from.1 + (e.head + length e.content)) row, Begins-length octets e rest (front, s, p), s.head, IsTag-some s.tag e.tag s.is_tag, length_some s.len (length e.content) s.is_length)
 
-elements_weigh : (content : Piece) (spots : List Spot) → AreElements content spots → weight spots ≤ length content.octets
+elements_weigh : (content : Piece) (spots : List Spot) → AreFields content spots → weight spots ≤ length content.octets
 elements_weigh content spots (es, row, is) = rw is (row_weighs content.octets es (content.block, content.place) row)
 
 only_within : (tag : ℕ) (whole content : Piece) → IsOnly tag whole content → length content.octets ≤ length whole.octets
@@ -50,13 +52,13 @@ by_tag : (b : Bool) (s : Spot) (later : Option Piece) (content : Piece) (n : ℕ
 by_tag true s later content n h step = let is : content_piece s ≡ content = cc (h) in rw (sym is) (omega arith)
 by_tag false s later content n h step = omega (arith, step h)
 
-tagged_within : (tag : ℕ) (spots : List Spot) (content : Piece) → tagged tag spots ≡ Some content → length content.octets ≤ weight spots
+tagged_within : (tag : ℕ) (spots : List Spot) (content : Piece) → first_with tag spots ≡ Some content → length content.octets ≤ weight spots
 tagged_within tag [] content h = absurd cc
-tagged_within tag (s ∷ ss) content h = by_tag (eqb s.element.tag tag) s (tagged tag ss) content (weight ss) h (tagged_within tag ss content)
+tagged_within tag (s ∷ ss) content h = by_tag (eqb s.element.tag tag) s (first_with tag ss) content (weight ss) h (tagged_within tag ss content)
 
 -- ---- how many contexts there can be
 
-fields_weigh : (fields : List Spot) (d : Context) → AreFields fields d → 6 ≤ weight fields
+fields_weigh : (fields : List Spot) (d : Context) → AreContextFields fields d → 6 ≤ weight fields
 fields_weigh [] d h = absurd h
 fields_weigh (a ∷ []) d h = absurd h
 fields_weigh (a ∷ b ∷ []) d h = absurd h

@@ -6,10 +6,11 @@ use Rattle.std.proofs.lemmas.Bool.{ltb-true, ltb-false, lt-ltb, le-ltb, cond_bot
 use Rattle.ber_grammar.specs.Octets.{IsBytes}
 use Rattle.ber_grammar.specs.Place.{Piece}
 use Rattle.session_pres.specs.declared.codes.TheConstants.{CONNECT_ACCEPT_ITEM, USER_DATA}
-use Rattle.session_pres.specs.Parameters.{IsLength, Parameter, BeginsWith, AreParameters, IsCut, IsUserOf, first_of_two, last_of}
+use Rattle.ber_grammar.specs.Reader.{first_of_two}
+use Rattle.session_pres.specs.Parameters.{IsLength, Parameter, BeginsWith, AreParameters, IsCut, IsUserOf, last_of}
 use Rattle.session_pres.specs.Units.{IsUnit}
 use Rattle.session_pres.specs.Written.{length_field, field}
-use Rattle.session_pres.proofs.PlaceLaws.{map_some}
+use Rattle.ber_grammar.proofs.OptionLaws.{map_some}
 
 length_field_is : (n : ℕ) → n ≤ 65535 → IsLength (length_field n) n
 length_field_is n le =

@@ -7,10 +7,11 @@ use Rattle.std.proofs.lemmas.Bool.{eqb-true, ltb-true, ltb-false, lt-ltb, le-ltb
 use Rattle.std.proofs.lemmas.List.{length-append, take_at, drop_at, length-take, take-append-drop, append-nil, nil_from_length}
 use Rattle.ber_grammar.specs.Place.{Piece}
 use Rattle.ber_grammar.specs.Reader.{and_then}
-use Rattle.ber_grammar.proofs.OptionLaws.{then_some, some_is, chosen}
+use Rattle.ber_grammar.proofs.OptionLaws.{then_some, some_is, chosen, first_none, first_first}
 use Rattle.session_pres.specs.declared.codes.TheConstants.{CONNECT_ACCEPT_ITEM, USER_DATA}
 use Rattle.session_pres.specs.Places.{front, behind}
-use Rattle.session_pres.specs.Parameters.{IsLength, Parameter, BeginsWith, AreParameters, IsCut, IsUserOf, first_of_two, last_of}
+use Rattle.ber_grammar.specs.Reader.{first_of_two}
+use Rattle.session_pres.specs.Parameters.{IsLength, Parameter, BeginsWith, AreParameters, IsCut, IsUserOf, last_of}
 use Rattle.session_pres.specs.ParameterReading.{length_at, head_at, parameter_at, bounded_parameters, parameters_at, is_cut, all_cut, if_user, user_at}
 
 -- ---- a length
@@ -256,17 +257,9 @@ Goes-more : (before : List Parameter) (input rest after : Piece) (p : Parameter)
 Goes-more before input rest after p h some this =
     h ∙ ap (λ (r : Option (List Parameter)). and_then r (λ ps. Some (before ++ ps))) (parameters_step rest some ∙ rw this refl) ∙ one_before before p (parameters_at after)
 
-first_none : {A : Type 0} (a : Option A) → first_of_two a None ≡ a
-first_none (Some x) = refl
-first_none None = refl
-
-first_first : {A : Type 0} (a b c : Option A) → first_of_two (first_of_two a b) c ≡ first_of_two a (first_of_two b c)
-first_first (Some x) b c = refl
-first_first None b c = refl
-
 last_of-more : (ps : List Parameter) (p : Parameter) → last_of USER_DATA (ps ++ p ∷ []) ≡ if_user p (last_of USER_DATA ps)
 last_of-more [] p = sym (first_none (cond (eqb p.code USER_DATA) (Some p.value) None))
-last_of-more (q ∷ ps) p = rw (last_of-more ps p) (first_first (cond (eqb p.code USER_DATA) (Some p.value) None) (last_of USER_DATA ps) (cond (eqb q.code USER_DATA) (Some q.value) None))
+last_of-more (q ∷ ps) p = rw (last_of-more ps p) (sym (first_first (cond (eqb p.code USER_DATA) (Some p.value) None) (last_of USER_DATA ps) (cond (eqb q.code USER_DATA) (Some q.value) None)))
 
 all_cut-more : (ps : List Parameter) (p : Parameter) → all_cut ps ≡ true → is_cut p ≡ true → all_cut (ps ++ p ∷ []) ≡ true
 all_cut-more [] p h e = rw e refl

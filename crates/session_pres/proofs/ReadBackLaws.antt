@@ -8,7 +8,7 @@ use Rattle.ber_write.specs.Minimal.{CanBeTag, written, octets_of, uint_octets}
 use Rattle.ber_write.proofs.ElementLaws.{is_spelling}
 use Rattle.ber_write.proofs.NumberLaws.{uint_octets-spell}
 use Rattle.session_pres.specs.declared.codes.TheConstants.{USER_DATA, FULLY_ENCODED_DATA, SINGLE_ASN1_TYPE, INTEGER, SEQUENCE}
-use Rattle.session_pres.specs.Places.{AreElements, IsOnly}
+use Rattle.ber_grammar.specs.Fields.{AreFields, IsOnly}
 use Rattle.session_pres.specs.Units.{HasUser, IsSpdu, transfer}
 use Rattle.session_pres.specs.UserData.{IsPdvList, IsUserData}
 use Rattle.session_pres.specs.Written.{pdv_fields, pdv_list, user_octets, field, data_spdu, release_spdu, IsOneElement}
@@ -33,7 +33,7 @@ only_of input tag content can small p =
     (content_piece s, (s, (e ∷ [], subst (λ (x : List ℕ). IsRow x (e ∷ [])) (sym p) (row_last tag content can small), refl), refl, refl), refl)
 
 -- octets that are a row, with their places
-pub elements_of : (input : Piece) (octets : List ℕ) (es : List Element) → input.octets ≡ octets → IsRow octets es → AreElements input (placed (input.block, input.place) es)
+pub elements_of : (input : Piece) (octets : List ℕ) (es : List Element) → input.octets ≡ octets → IsRow octets es → AreFields input (placed (input.block, input.place) es)
 elements_of input octets es p row = (es, subst (λ (x : List ℕ). IsRow x es) (sym p) row, refl)
 
 -- ---- user data

@@ -11,7 +11,7 @@ use Rattle.ber_write.specs.Minimal.{length_octets, octets_of, uint_octets}
 use Rattle.ber_write.proofs.ElementLaws.{is_minimal}
 use Rattle.ber_write.proofs.ShortestLaws.{uint_shortest}
 use Rattle.session_pres.specs.declared.codes.TheConstants.{FULLY_ENCODED_DATA, SINGLE_ASN1_TYPE, INTEGER, SEQUENCE}
-use Rattle.session_pres.specs.Places.{AreElements, IsOnly}
+use Rattle.ber_grammar.specs.Fields.{AreFields, IsOnly}
 use Rattle.session_pres.specs.UserData.{IsPair, IsPdv, IsUserData}
 use Rattle.session_pres.specs.Written.{element_length, pdv_fields, pdv_list, user_octets}
 use Rattle.session_pres.proofs.WritingLaws.{length-octets_of}
@@ -32,7 +32,7 @@ row_total octets (e ∷ es) fits (front, rest, s, p, row) =
 abbrev Holds : Piece → List Spot → Type 0
 Holds content spots = (total (elements spots) ≤ length content.octets) × AllBytes (elements spots)
 
-holds : (content : Piece) (spots : List Spot) → IsBytes content.octets → AreElements content spots → Holds content spots
+holds : (content : Piece) (spots : List Spot) → IsBytes content.octets → AreFields content spots → Holds content spots
 holds content spots fits (es, row, is) =
     let same : elements spots ≡ es = ap (λ (x : List Spot). elements x) is ∙ elements-placed (content.block, content.place) es in
     (subst (λ (x : List Element). total x ≤ length content.octets) (sym same) (row_total content.octets es fits row), subst AllBytes (sym same) (IsRow-bytes content.octets es fits row))

@@ -10,14 +10,14 @@ use Rattle.ber_grammar.proofs.ReaderLaws.{reads_from}
 use Rattle.session_pres.specs.declared.codes.TheConstants.{FINISH, CONNECT, ABORT}
 use Rattle.session_pres.specs.declared.fault.SpFault.{SpFault}
 use Rattle.session_pres.specs.declared.fault.SpFault.TheVariants as faults
-use Rattle.session_pres.specs.Steps.{Then, IsLacking, required}
+use Rattle.ber_grammar.specs.Steps.{Then, IsLacking, required}
 use Rattle.session_pres.specs.Places.{behind}
 use Rattle.session_pres.specs.Parameters.{IsLength, IsUserOf}
 use Rattle.session_pres.specs.ParameterReading.{length_at, user_at}
 use Rattle.session_pres.specs.Units.{IsUnit, HasUser, IsUserRefused, HasData, IsDataRefused, Seen, connect, transfer, finish, abort, IsTransfer, IsSpdu, begins, HasCode, IsSpduRefused}
 use Rattle.session_pres.specs.UnitReading.{counted_at, unit_at, user_of, data_of, is_transfer, transfer_at, spdu_at}
 use Rattle.session_pres.proofs.ParameterLaws.{LengthTells, length_tells, length_again, both_true, user_found, user_again, piece_is}
-use Rattle.session_pres.proofs.StepLaws.{Exact, then_exact, step_exact, required_exact, made_exact}
+use Rattle.ber_grammar.proofs.StepLaws.{Exact, then_exact, step_exact, required_exact, made_exact}
 
 -- ---- a code and a length
 

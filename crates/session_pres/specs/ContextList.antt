@@ -2,7 +2,7 @@
 use Rattle.std.specs.Prelude.{◌≡◌, ◌≢◌, ℕ, zero, suc, ◌+◌, Bool, true, false, ◌||◌, ◌⊎◌, List, [], ◌∷◌, ◌==◌}
 use Rattle.ber_grammar.specs.Place.{Spot, Piece, content_piece}
 use Rattle.session_pres.specs.declared.codes.TheConstants.{INTEGER, OBJECT_IDENTIFIER, SEQUENCE}
-use Rattle.session_pres.specs.Places.{AreElements}
+use Rattle.ber_grammar.specs.Fields.{AreFields}
 use Rattle.session_pres.specs.UserData.{IsContext}
 
 -- a context: its number, its abstract syntax, and whether BER is one of its transfer syntaxes
@@ -32,13 +32,13 @@ SaysBer true syntaxes = HasBer syntaxes
 SaysBer false syntaxes = ¬ HasBer syntaxes
 
 -- a SEQUENCE of INTEGER, OBJECT IDENTIFIER, and a SEQUENCE of transfer syntaxes
-abbrev pub AreFields : List Spot → Context → Type 0
-AreFields (a ∷ b ∷ c ∷ []) d = (a.element.tag ≡ INTEGER) × IsContext a.element.content d.number × (b.element.tag ≡ OBJECT_IDENTIFIER) × (d.syntax ≡ b.element.content)
-    × (c.element.tag ≡ SEQUENCE) × (syntaxes : List Spot) × AreElements (content_piece c) syntaxes × SaysBer d.has_ber syntaxes
-AreFields _ d = ⊥
+abbrev pub AreContextFields : List Spot → Context → Type 0
+AreContextFields (a ∷ b ∷ c ∷ []) d = (a.element.tag ≡ INTEGER) × IsContext a.element.content d.number × (b.element.tag ≡ OBJECT_IDENTIFIER) × (d.syntax ≡ b.element.content)
+    × (c.element.tag ≡ SEQUENCE) × (syntaxes : List Spot) × AreFields (content_piece c) syntaxes × SaysBer d.has_ber syntaxes
+AreContextFields _ d = ⊥
 
 abbrev pub IsDefinition : Spot → Context → Type 0
-IsDefinition s d = (s.element.tag ≡ SEQUENCE) × (fields : List Spot) × AreElements (content_piece s) fields × AreFields fields d
+IsDefinition s d = (s.element.tag ≡ SEQUENCE) × (fields : List Spot) × AreFields (content_piece s) fields × AreContextFields fields d
 
 abbrev pub AreDefinitions : List Spot → List Context → Type 0
 AreDefinitions [] [] = Unit {0}
@@ -47,7 +47,7 @@ AreDefinitions (s ∷ ss) [] = ⊥
 AreDefinitions (s ∷ ss) (d ∷ ds) = IsDefinition s d × AreDefinitions ss ds
 
 abbrev pub IsContextList : Piece → List Context → Type 0
-IsContextList content contexts = (spots : List Spot) × AreElements content spots × AreDefinitions spots contexts
+IsContextList content contexts = (spots : List Spot) × AreFields content spots × AreDefinitions spots contexts
 
 -- The context at this place is the first of this abstract syntax.
 abbrev pub IsFirst : List ℕ → List Context → ℕ → Context → Type 0

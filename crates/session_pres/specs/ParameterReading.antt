@@ -5,7 +5,8 @@ use Rattle.ber_grammar.specs.Place.{Piece}
 use Rattle.ber_grammar.specs.Reader.{and_then}
 use Rattle.session_pres.specs.declared.codes.TheConstants.{CONNECT_ACCEPT_ITEM, USER_DATA}
 use Rattle.session_pres.specs.Places.{front, behind}
-use Rattle.session_pres.specs.Parameters.{Parameter, first_of_two, last_of}
+use Rattle.ber_grammar.specs.Reader.{first_of_two}
+use Rattle.session_pres.specs.Parameters.{Parameter, last_of}
 
 -- a length, and how many octets it takes
 unfoldable pub length_at : List ℕ → Option (ℕ × ℕ)

@@ -2,6 +2,7 @@
 use Rattle.std.specs.Prelude.{◌≡◌, ℕ, ◌+◌, ◌*◌, ◌<◌, ◌≤◌, List, [], ◌∷◌, ◌++◌, length, Option, Some, None, ◌==◌, if◌then◌else◌}
 use Rattle.std.specs.List.{AllByRecursion}
 use Rattle.ber_grammar.specs.Place.{Piece}
+use Rattle.ber_grammar.specs.Reader.{first_of_two}
 use Rattle.session_pres.specs.declared.codes.TheConstants.{CONNECT_ACCEPT_ITEM, USER_DATA}
 use Rattle.session_pres.specs.Places.{IsPart}
 
@@ -33,11 +34,6 @@ AreParameters input (p ∷ ps) = (rest : Piece) × BeginsWith input p rest × Ar
 -- The connect/accept item is a group: its value is parameters too.
 abbrev pub IsCut : Parameter → Type 0
 IsCut p = p.code ≡ CONNECT_ACCEPT_ITEM → (inner : List Parameter) × AreParameters p.value inner
-
--- the first of two that there may be
-abbrev pub first_of_two : {A : Type 0} → Option A → Option A → Option A
-first_of_two (Some v) other = Some v
-first_of_two None other = other
 
 -- the value of the last parameter of this code
 abbrev pub last_of : ℕ → List Parameter → Option Piece

@@ -5,7 +5,7 @@ use Rattle.ber_grammar.specs.Reader.{◌>>=◌, and_then}
 use Rattle.session_pres.specs.declared.codes.TheConstants.{FINISH, CONNECT, ABORT, GIVE_TOKENS, DATA_TRANSFER}
 use Rattle.session_pres.specs.declared.fault.SpFault.{SpFault}
 use Rattle.session_pres.specs.declared.fault.SpFault.TheVariants as faults
-use Rattle.session_pres.specs.Steps.{required}
+use Rattle.ber_grammar.specs.Steps.{required}
 use Rattle.session_pres.specs.Places.{behind}
 use Rattle.session_pres.specs.ParameterReading.{length_at, user_at}
 use Rattle.session_pres.specs.Units.{Seen, begins, connect, transfer, finish, abort}

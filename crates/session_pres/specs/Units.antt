@@ -4,7 +4,7 @@ use Rattle.ber_grammar.specs.Place.{Piece}
 use Rattle.session_pres.specs.declared.codes.TheConstants.{FINISH, CONNECT, ABORT, GIVE_TOKENS, DATA_TRANSFER}
 use Rattle.session_pres.specs.declared.fault.SpFault.{SpFault}
 use Rattle.session_pres.specs.declared.fault.SpFault.TheVariants as faults
-use Rattle.session_pres.specs.Steps.{Then, Or, Else, IsLacking}
+use Rattle.ber_grammar.specs.Steps.{Then, Or, Else, IsLacking}
 use Rattle.session_pres.specs.Places.{IsPart}
 use Rattle.session_pres.specs.Parameters.{IsLength, IsUserOf}
 

@@ -2,16 +2,15 @@
 #![tactic(auto)]
 
 // SPDUs, their parameters, and what is written.
-mod codes;
+pub mod codes;
 mod parameters;
 mod spdu;
 mod writing;
 
-// PPDUs: user data, contexts, CP and CPA, and the elements that they are made of.
+// PPDUs: user data, contexts, CP and CPA.
 mod contexts;
 mod pdv;
 mod presentation;
-mod row;
 
 // Why octets are refused, and what is promised of all.
 mod fault;

@@ -3,7 +3,11 @@
 
 ghost use Rattle.std.specs.Prelude.{◌≤◌, length};
 
-use super::*;
+use crate::spelled::{Part, spelled};
+use acse_apdu::{
+    AcFault, read_aare, read_aarq, read_rlre, read_rlrq, write_aare, write_aarq, write_rlre,
+    write_rlrq,
+};
 use std::alloc::{AllocError, Global};
 use std::test::*;
 use sv_base::Octs;
@@ -37,367 +41,205 @@ const AARE: [u8; 76] = [
 // the value that the other APDUs carry, an initiate request that only says a size
 const SHORT: [u8; 5] = [0xa8, 3, 0x80, 1, 0x64];
 
+// the name of the context, and the user information with SHORT, or its EXTERNAL or value alone; the result, and the
+// diagnostic of the service user
+const PARTS: [Part; 6] = [
+    (b'N', &[0xa1, 7, 6, 5, 0x28, 0xca, 0x22, 2, 3]),
+    (
+        b'I',
+        &[
+            0xbe, 0x10, 0x28, 0x0e, 6, 2, 0x51, 1, 2, 1, 3, 0xa0, 5, 0xa8, 3, 0x80, 1, 0x64,
+        ],
+    ),
+    (
+        b'E',
+        &[
+            0x28, 0x0e, 6, 2, 0x51, 1, 2, 1, 3, 0xa0, 5, 0xa8, 3, 0x80, 1, 0x64,
+        ],
+    ),
+    (b'V', &[0xa0, 5, 0xa8, 3, 0x80, 1, 0x64]),
+    (b'R', &[0xa2, 3, 2, 1, 0]),
+    (b'D', &[0xa3, 5, 0xa1, 3, 2, 1, 0]),
+];
+
 // what is round the request, and the AARQ: each carries SHORT
 const ASKED: [(&str, &[u8]); 11] = [
     (
         "version, titles and qualifiers of both sides, a password",
-        &[
-            0x60, 0x4f, 0x80, 2, 7, 0x80, 0xa1, 7, 6, 5, 0x28, 0xca, 0x22, 2, 3, 0xa2, 6, 6, 4,
-            0x29, 1, 0x87, 0x67, 0xa3, 3, 2, 1, 0x0c, 0xa6, 7, 6, 5, 0x29, 1, 0x87, 0x67, 1, 0xa7,
-            3, 2, 1, 0x0c, 0x8a, 2, 7, 0x80, 0x8b, 3, 0x52, 3, 1, 0xac, 0x0a, 0x80, 8, 0x70, 0x61,
-            0x73, 0x73, 0x77, 0x6f, 0x72, 0x64, 0xbe, 0x10, 0x28, 0x0e, 6, 2, 0x51, 1, 2, 1, 3,
-            0xa0, 5, 0xa8, 3, 0x80, 1, 0x64,
-        ],
+        b"604f80020780Na206060429018767a30302010ca60706052901876701a70302010c8a0207808b03520301ac0a800870617373776f7264I",
     ),
     (
         "the called title by a name, invocation identifiers",
-        &[
-            0x60, 0x37, 0xa1, 7, 6, 5, 0x28, 0xca, 0x22, 2, 3, 0xa2, 0x10, 0x30, 0x0e, 0x31, 0x0c,
-            0x30, 0x0a, 6, 3, 0x55, 4, 3, 0x13, 3, 0x49, 0x45, 0x44, 0xa4, 3, 2, 1, 1, 0xa5, 3, 2,
-            1, 2, 0xbe, 0x10, 0x28, 0x0e, 6, 2, 0x51, 1, 2, 1, 3, 0xa0, 5, 0xa8, 3, 0x80, 1, 0x64,
-        ],
+        b"6037Na210300e310c300a06035504031303494544a403020101a503020102I",
     ),
-    (
-        "no direct reference",
-        &[
-            0x60, 0x17, 0xa1, 7, 6, 5, 0x28, 0xca, 0x22, 2, 3, 0xbe, 0x0c, 0x28, 0x0a, 2, 1, 3,
-            0xa0, 5, 0xa8, 3, 0x80, 1, 0x64,
-        ],
-    ),
+    ("no direct reference", b"6017Nbe0c280a020103V"),
     (
         "another direct reference, 1.0.9506.2.1",
-        &[
-            0x60, 0x1e, 0xa1, 7, 6, 5, 0x28, 0xca, 0x22, 2, 3, 0xbe, 0x13, 0x28, 0x11, 6, 5, 0x28,
-            0xca, 0x22, 2, 1, 2, 1, 3, 0xa0, 5, 0xa8, 3, 0x80, 1, 0x64,
-        ],
+        b"601eNbe132811060528ca220201020103V",
     ),
     (
         "another number of a context, in two octets",
-        &[
-            0x60, 0x1c, 0xa1, 7, 6, 5, 0x28, 0xca, 0x22, 2, 3, 0xbe, 0x11, 0x28, 0x0f, 6, 2, 0x51,
-            1, 2, 2, 1, 3, 0xa0, 5, 0xa8, 3, 0x80, 1, 0x64,
-        ],
+        b"601cNbe11280f0602510102020103V",
     ),
     (
         "the greatest number of a context",
-        &[
-            0x60, 0x1f, 0xa1, 7, 6, 5, 0x28, 0xca, 0x22, 2, 3, 0xbe, 0x14, 0x28, 0x12, 6, 2, 0x51,
-            1, 2, 5, 0, 0xff, 0xff, 0xff, 0xff, 0xa0, 5, 0xa8, 3, 0x80, 1, 0x64,
-        ],
+        b"601fNbe14281206025101020500ffffffffV",
     ),
-    (
-        "the user information before the name",
-        &[
-            0x60, 0x1b, 0xbe, 0x10, 0x28, 0x0e, 6, 2, 0x51, 1, 2, 1, 3, 0xa0, 5, 0xa8, 3, 0x80, 1,
-            0x64, 0xa1, 7, 6, 5, 0x28, 0xca, 0x22, 2, 3,
-        ],
-    ),
+    ("the user information before the name", b"601bIN"),
     (
         "a second name behind the first",
-        &[
-            0x60, 0x24, 0xa1, 7, 6, 5, 0x28, 0xca, 0x22, 2, 3, 0xa1, 7, 6, 5, 0x28, 0xca, 0x22, 2,
-            4, 0xbe, 0x10, 0x28, 0x0e, 6, 2, 0x51, 1, 2, 1, 3, 0xa0, 5, 0xa8, 3, 0x80, 1, 0x64,
-        ],
+        b"6024Na107060528ca220204I",
     ),
     (
         "a second user information behind the first",
-        &[
-            0x60, 0x2a, 0xa1, 7, 6, 5, 0x28, 0xca, 0x22, 2, 3, 0xbe, 0x10, 0x28, 0x0e, 6, 2, 0x51,
-            1, 2, 1, 3, 0xa0, 5, 0xa8, 3, 0x80, 1, 0x64, 0xbe, 0x0d, 0x28, 0x0b, 6, 2, 0x51, 1, 2,
-            1, 3, 0xa0, 2, 5, 0,
-        ],
+        b"602aNIbe0d280b06025101020103a0020500",
     ),
     (
         "implementation information, and a field of a long tag",
-        &[
-            0x60, 0x24, 0xa1, 7, 6, 5, 0x28, 0xca, 0x22, 2, 3, 0x9d, 3, 0x69, 0x65, 0x64, 0x9f,
-            0x20, 1, 0, 0xbe, 0x10, 0x28, 0x0e, 6, 2, 0x51, 1, 2, 1, 3, 0xa0, 5, 0xa8, 3, 0x80, 1,
-            0x64,
-        ],
+        b"6024N9d036965649f200100I",
     ),
     (
         "lengths longer than needed",
-        &[
-            0x60, 0x84, 0, 0, 0, 0x26, 0xa1, 0x81, 9, 6, 0x82, 0, 5, 0x28, 0xca, 0x22, 2, 3, 0xbe,
-            0x83, 0, 0, 0x15, 0x28, 0x81, 0x12, 6, 2, 0x51, 1, 2, 0x81, 1, 3, 0xa0, 0x83, 0, 0, 5,
-            0xa8, 3, 0x80, 1, 0x64,
-        ],
+        b"608400000026a181090682000528ca220203be830000152881120602510102810103a083000005a803800164",
     ),
 ];
 
 const ASKED_WRONG: [(&str, &[u8], AcFault); 37] = [
-    ("no octet", &[], AcFault::Apdu),
-    (
-        "an AARE",
-        &[
-            0x61, 0x1b, 0xa1, 7, 6, 5, 0x28, 0xca, 0x22, 2, 3, 0xbe, 0x10, 0x28, 0x0e, 6, 2, 0x51,
-            1, 2, 1, 3, 0xa0, 5, 0xa8, 3, 0x80, 1, 0x64,
-        ],
-        AcFault::Apdu,
-    ),
-    (
-        "a primitive tag",
-        &[
-            0x40, 0x1b, 0xa1, 7, 6, 5, 0x28, 0xca, 0x22, 2, 3, 0xbe, 0x10, 0x28, 0x0e, 6, 2, 0x51,
-            1, 2, 1, 3, 0xa0, 5, 0xa8, 3, 0x80, 1, 0x64,
-        ],
-        AcFault::Apdu,
-    ),
-    (
-        "an octet behind it",
-        &[
-            0x60, 0x1b, 0xa1, 7, 6, 5, 0x28, 0xca, 0x22, 2, 3, 0xbe, 0x10, 0x28, 0x0e, 6, 2, 0x51,
-            1, 2, 1, 3, 0xa0, 5, 0xa8, 3, 0x80, 1, 0x64, 0,
-        ],
-        AcFault::Apdu,
-    ),
-    (
-        "a whole element behind it",
-        &[
-            0x60, 0x1b, 0xa1, 7, 6, 5, 0x28, 0xca, 0x22, 2, 3, 0xbe, 0x10, 0x28, 0x0e, 6, 2, 0x51,
-            1, 2, 1, 3, 0xa0, 5, 0xa8, 3, 0x80, 1, 0x64, 0xbe, 0x10, 0x28, 0x0e, 6, 2, 0x51, 1, 2,
-            1, 3, 0xa0, 5, 0xa8, 3, 0x80, 1, 0x64,
-        ],
-        AcFault::Apdu,
-    ),
+    ("no octet", b"", AcFault::Apdu),
+    ("an AARE", b"611bNI", AcFault::Apdu),
+    ("a primitive tag", b"401bNI", AcFault::Apdu),
+    ("an octet behind it", b"601bNI00", AcFault::Apdu),
+    ("a whole element behind it", b"601bNII", AcFault::Apdu),
     (
         "the last octet missing",
-        &[
-            0x60, 0x1b, 0xa1, 7, 6, 5, 0x28, 0xca, 0x22, 2, 3, 0xbe, 0x10, 0x28, 0x0e, 6, 2, 0x51,
-            1, 2, 1, 3, 0xa0, 5, 0xa8, 3, 0x80, 1,
-        ],
+        b"601bNbe10280e06025101020103a005a8038001",
         AcFault::Apdu,
     ),
-    (
-        "a field cut off",
-        &[
-            0x60, 0x1d, 0xa1, 7, 6, 5, 0x28, 0xca, 0x22, 2, 3, 0xbe, 0x10, 0x28, 0x0e, 6, 2, 0x51,
-            1, 2, 1, 3, 0xa0, 5, 0xa8, 3, 0x80, 1, 0x64, 0xa2, 3,
-        ],
-        AcFault::Apdu,
-    ),
-    (
-        "an indefinite length",
-        &[
-            0x60, 0x80, 0xa1, 7, 6, 5, 0x28, 0xca, 0x22, 2, 3, 0xbe, 0x10, 0x28, 0x0e, 6, 2, 0x51,
-            1, 2, 1, 3, 0xa0, 5, 0xa8, 3, 0x80, 1, 0x64, 0, 0,
-        ],
-        AcFault::Apdu,
-    ),
+    ("a field cut off", b"601dNIa203", AcFault::Apdu),
+    ("an indefinite length", b"6080NI0000", AcFault::Apdu),
     (
         "a field of an indefinite length",
-        &[
-            0x60, 0x1d, 0xa2, 0x80, 0xa1, 7, 6, 5, 0x28, 0xca, 0x22, 2, 3, 0xbe, 0x10, 0x28, 0x0e,
-            6, 2, 0x51, 1, 2, 1, 3, 0xa0, 5, 0xa8, 3, 0x80, 1, 0x64,
-        ],
+        b"601da280NI",
         AcFault::Apdu,
     ),
-    ("no field", &[0x60, 0], AcFault::ContextName),
-    (
-        "no name",
-        &[
-            0x60, 0x12, 0xbe, 0x10, 0x28, 0x0e, 6, 2, 0x51, 1, 2, 1, 3, 0xa0, 5, 0xa8, 3, 0x80, 1,
-            0x64,
-        ],
-        AcFault::ContextName,
-    ),
+    ("no field", b"6000", AcFault::ContextName),
+    ("no name", b"6012I", AcFault::ContextName),
     (
         "another name, 1.0.9506.2.4",
-        &[
-            0x60, 0x1b, 0xa1, 7, 6, 5, 0x28, 0xca, 0x22, 2, 4, 0xbe, 0x10, 0x28, 0x0e, 6, 2, 0x51,
-            1, 2, 1, 3, 0xa0, 5, 0xa8, 3, 0x80, 1, 0x64,
-        ],
+        b"601ba107060528ca220204I",
         AcFault::ContextName,
     ),
     (
         "a name one octet short",
-        &[
-            0x60, 0x1a, 0xa1, 6, 6, 4, 0x28, 0xca, 0x22, 2, 0xbe, 0x10, 0x28, 0x0e, 6, 2, 0x51, 1,
-            2, 1, 3, 0xa0, 5, 0xa8, 3, 0x80, 1, 0x64,
-        ],
+        b"601aa106060428ca2202I",
         AcFault::ContextName,
     ),
     (
         "a name one octet long",
-        &[
-            0x60, 0x1c, 0xa1, 8, 6, 6, 0x28, 0xca, 0x22, 2, 3, 0, 0xbe, 0x10, 0x28, 0x0e, 6, 2,
-            0x51, 1, 2, 1, 3, 0xa0, 5, 0xa8, 3, 0x80, 1, 0x64,
-        ],
+        b"601ca108060628ca22020300I",
         AcFault::ContextName,
     ),
     (
         "two names in one field",
-        &[
-            0x60, 0x22, 0xa1, 0x0e, 6, 5, 0x28, 0xca, 0x22, 2, 3, 6, 5, 0x28, 0xca, 0x22, 2, 3,
-            0xbe, 0x10, 0x28, 0x0e, 6, 2, 0x51, 1, 2, 1, 3, 0xa0, 5, 0xa8, 3, 0x80, 1, 0x64,
-        ],
+        b"6022a10e060528ca220203060528ca220203I",
         AcFault::ContextName,
     ),
     (
         "a name under another tag",
-        &[
-            0x60, 0x1b, 0xa1, 7, 0x0d, 5, 0x28, 0xca, 0x22, 2, 3, 0xbe, 0x10, 0x28, 0x0e, 6, 2,
-            0x51, 1, 2, 1, 3, 0xa0, 5, 0xa8, 3, 0x80, 1, 0x64,
-        ],
+        b"601ba1070d0528ca220203I",
         AcFault::ContextName,
     ),
-    (
-        "an empty name field",
-        &[
-            0x60, 0x14, 0xa1, 0, 0xbe, 0x10, 0x28, 0x0e, 6, 2, 0x51, 1, 2, 1, 3, 0xa0, 5, 0xa8, 3,
-            0x80, 1, 0x64,
-        ],
-        AcFault::ContextName,
-    ),
+    ("an empty name field", b"6014a100I", AcFault::ContextName),
     (
         "a broken name field",
-        &[
-            0x60, 0x16, 0xa1, 2, 6, 5, 0xbe, 0x10, 0x28, 0x0e, 6, 2, 0x51, 1, 2, 1, 3, 0xa0, 5,
-            0xa8, 3, 0x80, 1, 0x64,
-        ],
+        b"6016a1020605I",
         AcFault::ContextName,
     ),
     (
         "the name in another field",
-        &[
-            0x60, 0x1b, 0xa2, 7, 6, 5, 0x28, 0xca, 0x22, 2, 3, 0xbe, 0x10, 0x28, 0x0e, 6, 2, 0x51,
-            1, 2, 1, 3, 0xa0, 5, 0xa8, 3, 0x80, 1, 0x64,
-        ],
+        b"601ba207060528ca220203I",
         AcFault::ContextName,
     ),
     (
         "the name of MMS behind another",
-        &[
-            0x60, 0x24, 0xa1, 7, 6, 5, 0x28, 0xca, 0x22, 2, 4, 0xa1, 7, 6, 5, 0x28, 0xca, 0x22, 2,
-            3, 0xbe, 0x10, 0x28, 0x0e, 6, 2, 0x51, 1, 2, 1, 3, 0xa0, 5, 0xa8, 3, 0x80, 1, 0x64,
-        ],
+        b"6024a107060528ca220204NI",
         AcFault::ContextName,
     ),
     (
         "another name and no user information",
-        &[0x60, 9, 0xa1, 7, 6, 5, 0x28, 0xca, 0x22, 2, 4],
+        b"6009a107060528ca220204",
         AcFault::ContextName,
     ),
-    (
-        "no user information",
-        &[0x60, 9, 0xa1, 7, 6, 5, 0x28, 0xca, 0x22, 2, 3],
-        AcFault::NoUserInformation,
-    ),
+    ("no user information", b"6009N", AcFault::NoUserInformation),
     (
         "empty user information",
-        &[0x60, 0x0b, 0xa1, 7, 6, 5, 0x28, 0xca, 0x22, 2, 3, 0xbe, 0],
+        b"600bNbe00",
         AcFault::NoUserInformation,
     ),
-    (
-        "two EXTERNALs",
-        &[
-            0x60, 0x2b, 0xa1, 7, 6, 5, 0x28, 0xca, 0x22, 2, 3, 0xbe, 0x20, 0x28, 0x0e, 6, 2, 0x51,
-            1, 2, 1, 3, 0xa0, 5, 0xa8, 3, 0x80, 1, 0x64, 0x28, 0x0e, 6, 2, 0x51, 1, 2, 1, 3, 0xa0,
-            5, 0xa8, 3, 0x80, 1, 0x64,
-        ],
-        AcFault::NoUserInformation,
-    ),
+    ("two EXTERNALs", b"602bNbe20EE", AcFault::NoUserInformation),
     (
         "a SEQUENCE in place of EXTERNAL",
-        &[
-            0x60, 0x17, 0xa1, 7, 6, 5, 0x28, 0xca, 0x22, 2, 3, 0xbe, 0x0c, 0x30, 0x0a, 2, 1, 3,
-            0xa0, 5, 0xa8, 3, 0x80, 1, 0x64,
-        ],
+        b"6017Nbe0c300a020103V",
         AcFault::NoUserInformation,
     ),
     (
         "a broken EXTERNAL",
-        &[
-            0x60, 0x0f, 0xa1, 7, 6, 5, 0x28, 0xca, 0x22, 2, 3, 0xbe, 4, 0x28, 2, 2, 1,
-        ],
+        b"600fNbe0428020201",
         AcFault::NoUserInformation,
     ),
     (
         "no number of a context",
-        &[
-            0x60, 0x18, 0xa1, 7, 6, 5, 0x28, 0xca, 0x22, 2, 3, 0xbe, 0x0d, 0x28, 0x0b, 6, 2, 0x51,
-            1, 0xa0, 5, 0xa8, 3, 0x80, 1, 0x64,
-        ],
+        b"6018Nbe0d280b06025101V",
         AcFault::NoUserInformation,
     ),
     (
         "a number of no octet",
-        &[
-            0x60, 0x1a, 0xa1, 7, 6, 5, 0x28, 0xca, 0x22, 2, 3, 0xbe, 0x0f, 0x28, 0x0d, 6, 2, 0x51,
-            1, 2, 0, 0xa0, 5, 0xa8, 3, 0x80, 1, 0x64,
-        ],
+        b"601aNbe0f280d060251010200V",
         AcFault::NoUserInformation,
     ),
     (
         "a negative number",
-        &[
-            0x60, 0x1b, 0xa1, 7, 6, 5, 0x28, 0xca, 0x22, 2, 3, 0xbe, 0x10, 0x28, 0x0e, 6, 2, 0x51,
-            1, 2, 1, 0xff, 0xa0, 5, 0xa8, 3, 0x80, 1, 0x64,
-        ],
+        b"601bNbe10280e060251010201ffV",
         AcFault::NoUserInformation,
     ),
     (
         "a number of 2^32",
-        &[
-            0x60, 0x1f, 0xa1, 7, 6, 5, 0x28, 0xca, 0x22, 2, 3, 0xbe, 0x14, 0x28, 0x12, 6, 2, 0x51,
-            1, 2, 5, 1, 0, 0, 0, 0, 0xa0, 5, 0xa8, 3, 0x80, 1, 0x64,
-        ],
+        b"601fNbe1428120602510102050100000000V",
         AcFault::NoUserInformation,
     ),
     (
         "no encoding",
-        &[
-            0x60, 0x14, 0xa1, 7, 6, 5, 0x28, 0xca, 0x22, 2, 3, 0xbe, 9, 0x28, 7, 6, 2, 0x51, 1, 2,
-            1, 3,
-        ],
+        b"6014Nbe09280706025101020103",
         AcFault::NoUserInformation,
     ),
     (
         "octet-aligned encoding",
-        &[
-            0x60, 0x1b, 0xa1, 7, 6, 5, 0x28, 0xca, 0x22, 2, 3, 0xbe, 0x10, 0x28, 0x0e, 6, 2, 0x51,
-            1, 2, 1, 3, 0x81, 5, 0xa8, 3, 0x80, 1, 0x64,
-        ],
+        b"601bNbe10280e060251010201038105a803800164",
         AcFault::NoUserInformation,
     ),
     (
         "a descriptor of the value",
-        &[
-            0x60, 0x20, 0xa1, 7, 6, 5, 0x28, 0xca, 0x22, 2, 3, 0xbe, 0x15, 0x28, 0x13, 6, 2, 0x51,
-            1, 2, 1, 3, 7, 3, 0x6d, 0x6d, 0x73, 0xa0, 5, 0xa8, 3, 0x80, 1, 0x64,
-        ],
+        b"6020Nbe1528130602510102010307036d6d73V",
         AcFault::NoUserInformation,
     ),
     (
         "something behind the encoding",
-        &[
-            0x60, 0x1d, 0xa1, 7, 6, 5, 0x28, 0xca, 0x22, 2, 3, 0xbe, 0x12, 0x28, 0x10, 6, 2, 0x51,
-            1, 2, 1, 3, 0xa0, 5, 0xa8, 3, 0x80, 1, 0x64, 5, 0,
-        ],
+        b"601dNbe12281006025101020103V0500",
         AcFault::NoUserInformation,
     ),
     (
         "two direct references",
-        &[
-            0x60, 0x1f, 0xa1, 7, 6, 5, 0x28, 0xca, 0x22, 2, 3, 0xbe, 0x14, 0x28, 0x12, 6, 2, 0x51,
-            1, 6, 2, 0x51, 1, 2, 1, 3, 0xa0, 5, 0xa8, 3, 0x80, 1, 0x64,
-        ],
+        b"601fNbe1428120602510106025101020103V",
         AcFault::NoUserInformation,
     ),
     (
         "the number before the reference",
-        &[
-            0x60, 0x1b, 0xa1, 7, 6, 5, 0x28, 0xca, 0x22, 2, 3, 0xbe, 0x10, 0x28, 0x0e, 2, 1, 3, 6,
-            2, 0x51, 1, 0xa0, 5, 0xa8, 3, 0x80, 1, 0x64,
-        ],
+        b"601bNbe10280e02010306025101V",
         AcFault::NoUserInformation,
     ),
     (
         "user information behind a broken one",
-        &[
-            0x60, 0x1d, 0xa1, 7, 6, 5, 0x28, 0xca, 0x22, 2, 3, 0xbe, 0, 0xbe, 0x10, 0x28, 0x0e, 6,
-            2, 0x51, 1, 2, 1, 3, 0xa0, 5, 0xa8, 3, 0x80, 1, 0x64,
-        ],
+        b"601dNbe00I",
         AcFault::NoUserInformation,
     ),
 ];
@@ -406,162 +248,51 @@ const ASKED_WRONG: [(&str, &[u8], AcFault); 37] = [
 const ANSWERED: [(&str, &[u8]); 6] = [
     (
         "the titles of the one that answers",
-        &[
-            0x61, 0x39, 0x80, 2, 7, 0x80, 0xa1, 7, 6, 5, 0x28, 0xca, 0x22, 2, 3, 0xa2, 3, 2, 1, 0,
-            0xa3, 5, 0xa1, 3, 2, 1, 0, 0xa4, 7, 6, 5, 0x29, 1, 0x87, 0x67, 1, 0xa5, 3, 2, 1, 0x0c,
-            0xbe, 0x10, 0x28, 0x0e, 6, 2, 0x51, 1, 2, 1, 3, 0xa0, 5, 0xa8, 3, 0x80, 1, 0x64,
-        ],
+        b"613980020780NRDa40706052901876701a50302010cI",
     ),
-    (
-        "the diagnostic of the service provider",
-        &[
-            0x61, 0x27, 0xa1, 7, 6, 5, 0x28, 0xca, 0x22, 2, 3, 0xa2, 3, 2, 1, 0, 0xa3, 5, 0xa2, 3,
-            2, 1, 0, 0xbe, 0x10, 0x28, 0x0e, 6, 2, 0x51, 1, 2, 1, 3, 0xa0, 5, 0xa8, 3, 0x80, 1,
-            0x64,
-        ],
-    ),
-    (
-        "no diagnostic",
-        &[
-            0x61, 0x20, 0xa1, 7, 6, 5, 0x28, 0xca, 0x22, 2, 3, 0xa2, 3, 2, 1, 0, 0xbe, 0x10, 0x28,
-            0x0e, 6, 2, 0x51, 1, 2, 1, 3, 0xa0, 5, 0xa8, 3, 0x80, 1, 0x64,
-        ],
-    ),
-    (
-        "a result of two octets",
-        &[
-            0x61, 0x28, 0xa1, 7, 6, 5, 0x28, 0xca, 0x22, 2, 3, 0xa2, 4, 2, 2, 0, 0, 0xa3, 5, 0xa1,
-            3, 2, 1, 0, 0xbe, 0x10, 0x28, 0x0e, 6, 2, 0x51, 1, 2, 1, 3, 0xa0, 5, 0xa8, 3, 0x80, 1,
-            0x64,
-        ],
-    ),
-    (
-        "no direct reference",
-        &[
-            0x61, 0x23, 0xa1, 7, 6, 5, 0x28, 0xca, 0x22, 2, 3, 0xa2, 3, 2, 1, 0, 0xa3, 5, 0xa1, 3,
-            2, 1, 0, 0xbe, 0x0c, 0x28, 0x0a, 2, 1, 3, 0xa0, 5, 0xa8, 3, 0x80, 1, 0x64,
-        ],
-    ),
-    (
-        "the result first",
-        &[
-            0x61, 0x27, 0xa2, 3, 2, 1, 0, 0xa3, 5, 0xa1, 3, 2, 1, 0, 0xa1, 7, 6, 5, 0x28, 0xca,
-            0x22, 2, 3, 0xbe, 0x10, 0x28, 0x0e, 6, 2, 0x51, 1, 2, 1, 3, 0xa0, 5, 0xa8, 3, 0x80, 1,
-            0x64,
-        ],
-    ),
+    ("the diagnostic of the service provider", b"6127NRa305RI"),
+    ("no diagnostic", b"6120NRI"),
+    ("a result of two octets", b"6128Na20402020000DI"),
+    ("no direct reference", b"6123NRDbe0c280a020103V"),
+    ("the result first", b"6127RDNI"),
 ];
 
 const ANSWERED_WRONG: [(&str, &[u8], AcFault); 13] = [
     (
         "rejected for good",
-        &[
-            0x61, 0x27, 0xa1, 7, 6, 5, 0x28, 0xca, 0x22, 2, 3, 0xa2, 3, 2, 1, 1, 0xa3, 5, 0xa1, 3,
-            2, 1, 1, 0xbe, 0x10, 0x28, 0x0e, 6, 2, 0x51, 1, 2, 1, 3, 0xa0, 5, 0xa8, 3, 0x80, 1,
-            0x64,
-        ],
+        b"6127Na203020101a305a103020101I",
         AcFault::Apdu,
     ),
-    (
-        "rejected this time",
-        &[
-            0x61, 0x27, 0xa1, 7, 6, 5, 0x28, 0xca, 0x22, 2, 3, 0xa2, 3, 2, 1, 2, 0xa3, 5, 0xa1, 3,
-            2, 1, 0, 0xbe, 0x10, 0x28, 0x0e, 6, 2, 0x51, 1, 2, 1, 3, 0xa0, 5, 0xa8, 3, 0x80, 1,
-            0x64,
-        ],
-        AcFault::Apdu,
-    ),
+    ("rejected this time", b"6127Na203020102DI", AcFault::Apdu),
     (
         "rejected for another name",
-        &[
-            0x61, 0x15, 0xa1, 7, 6, 5, 0x28, 0xca, 0x22, 2, 4, 0xa2, 3, 2, 1, 1, 0xa3, 5, 0xa1, 3,
-            2, 1, 2,
-        ],
+        b"6115a107060528ca220204a203020101a305a103020102",
         AcFault::Apdu,
     ),
-    (
-        "no result",
-        &[
-            0x61, 0x22, 0xa1, 7, 6, 5, 0x28, 0xca, 0x22, 2, 3, 0xa3, 5, 0xa1, 3, 2, 1, 0, 0xbe,
-            0x10, 0x28, 0x0e, 6, 2, 0x51, 1, 2, 1, 3, 0xa0, 5, 0xa8, 3, 0x80, 1, 0x64,
-        ],
-        AcFault::Apdu,
-    ),
-    (
-        "an empty result",
-        &[
-            0x61, 0x24, 0xa1, 7, 6, 5, 0x28, 0xca, 0x22, 2, 3, 0xa2, 0, 0xa3, 5, 0xa1, 3, 2, 1, 0,
-            0xbe, 0x10, 0x28, 0x0e, 6, 2, 0x51, 1, 2, 1, 3, 0xa0, 5, 0xa8, 3, 0x80, 1, 0x64,
-        ],
-        AcFault::Apdu,
-    ),
-    (
-        "a result of no octet",
-        &[
-            0x61, 0x26, 0xa1, 7, 6, 5, 0x28, 0xca, 0x22, 2, 3, 0xa2, 2, 2, 0, 0xa3, 5, 0xa1, 3, 2,
-            1, 0, 0xbe, 0x10, 0x28, 0x0e, 6, 2, 0x51, 1, 2, 1, 3, 0xa0, 5, 0xa8, 3, 0x80, 1, 0x64,
-        ],
-        AcFault::Apdu,
-    ),
+    ("no result", b"6122NDI", AcFault::Apdu),
+    ("an empty result", b"6124Na200DI", AcFault::Apdu),
+    ("a result of no octet", b"6126Na2020200DI", AcFault::Apdu),
     (
         "two results in one field",
-        &[
-            0x61, 0x2a, 0xa1, 7, 6, 5, 0x28, 0xca, 0x22, 2, 3, 0xa2, 6, 2, 1, 0, 2, 1, 0, 0xa3, 5,
-            0xa1, 3, 2, 1, 0, 0xbe, 0x10, 0x28, 0x0e, 6, 2, 0x51, 1, 2, 1, 3, 0xa0, 5, 0xa8, 3,
-            0x80, 1, 0x64,
-        ],
+        b"612aNa206020100020100DI",
         AcFault::Apdu,
     ),
     (
         "a result that is no INTEGER",
-        &[
-            0x61, 0x27, 0xa1, 7, 6, 5, 0x28, 0xca, 0x22, 2, 3, 0xa2, 3, 0x0a, 1, 0, 0xa3, 5, 0xa1,
-            3, 2, 1, 0, 0xbe, 0x10, 0x28, 0x0e, 6, 2, 0x51, 1, 2, 1, 3, 0xa0, 5, 0xa8, 3, 0x80, 1,
-            0x64,
-        ],
+        b"6127Na2030a0100DI",
         AcFault::Apdu,
     ),
-    (
-        "an AARQ",
-        &[
-            0x60, 0x27, 0xa1, 7, 6, 5, 0x28, 0xca, 0x22, 2, 3, 0xa2, 3, 2, 1, 0, 0xa3, 5, 0xa1, 3,
-            2, 1, 0, 0xbe, 0x10, 0x28, 0x0e, 6, 2, 0x51, 1, 2, 1, 3, 0xa0, 5, 0xa8, 3, 0x80, 1,
-            0x64,
-        ],
-        AcFault::Apdu,
-    ),
-    (
-        "an octet behind it",
-        &[
-            0x61, 0x27, 0xa1, 7, 6, 5, 0x28, 0xca, 0x22, 2, 3, 0xa2, 3, 2, 1, 0, 0xa3, 5, 0xa1, 3,
-            2, 1, 0, 0xbe, 0x10, 0x28, 0x0e, 6, 2, 0x51, 1, 2, 1, 3, 0xa0, 5, 0xa8, 3, 0x80, 1,
-            0x64, 0,
-        ],
-        AcFault::Apdu,
-    ),
+    ("an AARQ", b"6027NRDI", AcFault::Apdu),
+    ("an octet behind it", b"6127NRDI00", AcFault::Apdu),
     (
         "another name",
-        &[
-            0x61, 0x27, 0xa1, 7, 6, 5, 0x28, 0xca, 0x22, 2, 4, 0xa2, 3, 2, 1, 0, 0xa3, 5, 0xa1, 3,
-            2, 1, 0, 0xbe, 0x10, 0x28, 0x0e, 6, 2, 0x51, 1, 2, 1, 3, 0xa0, 5, 0xa8, 3, 0x80, 1,
-            0x64,
-        ],
+        b"6127a107060528ca220204RDI",
         AcFault::ContextName,
     ),
-    (
-        "no name",
-        &[
-            0x61, 0x1e, 0xa2, 3, 2, 1, 0, 0xa3, 5, 0xa1, 3, 2, 1, 0, 0xbe, 0x10, 0x28, 0x0e, 6, 2,
-            0x51, 1, 2, 1, 3, 0xa0, 5, 0xa8, 3, 0x80, 1, 0x64,
-        ],
-        AcFault::ContextName,
-    ),
+    ("no name", b"611eRDI", AcFault::ContextName),
     (
         "no user information",
-        &[
-            0x61, 0x15, 0xa1, 7, 6, 5, 0x28, 0xca, 0x22, 2, 3, 0xa2, 3, 2, 1, 0, 0xa3, 5, 0xa1, 3,
-            2, 1, 0,
-        ],
+        b"6115NRD",
         AcFault::NoUserInformation,
     ),
 ];
@@ -569,12 +300,14 @@ const ANSWERED_WRONG: [(&str, &[u8], AcFault); 13] = [
 #[test]
 fn what_an_aarq_asks_with(rt: HostRuntime) -> Result<(), Fail> {
     assert_eq!(rt; read_aarq(&AARQ)?, REQUEST.as_slice());
-    for (name, octets) in ASKED {
-        assert!(rt; read_aarq(octets) == Ok(SHORT.as_slice()), "{name}");
-        assert_eq!(rt; read_aare(octets), Err(AcFault::Apdu), "{name}");
+    for (name, text) in ASKED {
+        let octets = spelled(rt.alloc(), text, &PARTS)?;
+        assert!(rt; read_aarq(&octets) == Ok(SHORT.as_slice()), "{name}");
+        assert_eq!(rt; read_aare(&octets), Err(AcFault::Apdu), "{name}");
     }
-    for (name, octets, fault) in ASKED_WRONG {
-        assert_eq!(rt; read_aarq(octets), Err(fault), "{name}");
+    for (name, text, fault) in ASKED_WRONG {
+        let octets = spelled(rt.alloc(), text, &PARTS)?;
+        assert_eq!(rt; read_aarq(&octets), Err(fault), "{name}");
     }
     Ok(())
 }
@@ -582,24 +315,26 @@ fn what_an_aarq_asks_with(rt: HostRuntime) -> Result<(), Fail> {
 #[test]
 fn what_an_aare_answers_with(rt: HostRuntime) -> Result<(), Fail> {
     assert_eq!(rt; read_aare(&AARE)?, RESPONSE.as_slice());
-    for (name, octets) in ANSWERED {
-        assert!(rt; read_aare(octets) == Ok(SHORT.as_slice()), "{name}");
-        assert_eq!(rt; read_aarq(octets), Err(AcFault::Apdu), "{name}");
+    for (name, text) in ANSWERED {
+        let octets = spelled(rt.alloc(), text, &PARTS)?;
+        assert!(rt; read_aare(&octets) == Ok(SHORT.as_slice()), "{name}");
+        assert_eq!(rt; read_aarq(&octets), Err(AcFault::Apdu), "{name}");
     }
-    for (name, octets, fault) in ANSWERED_WRONG {
-        assert_eq!(rt; read_aare(octets), Err(fault), "{name}");
+    for (name, text, fault) in ANSWERED_WRONG {
+        let octets = spelled(rt.alloc(), text, &PARTS)?;
+        assert_eq!(rt; read_aare(&octets), Err(fault), "{name}");
     }
     Ok(())
 }
 
-#[tactic(auto, using(crate::proofs::ReadBackLaws::aarq_fits))]
+#[tactic(auto, using(acse_apdu::proofs::ReadBackLaws::aarq_fits))]
 fn asked_with(alloc: Global, context: u32, pdu: &[u8]) -> Result<Octs, AllocError>
     requires { length pdu.now ≤ 300 }
 {
     write_aarq(alloc, context, pdu)
 }
 
-#[tactic(auto, using(crate::proofs::ReadBackLaws::aare_fits))]
+#[tactic(auto, using(acse_apdu::proofs::ReadBackLaws::aare_fits))]
 fn answered_with(alloc: Global, context: u32, pdu: &[u8]) -> Result<Octs, AllocError>
     requires { length pdu.now ≤ 300 }
 {

@@ -1,9 +1,11 @@
+//! Octets of TPKTs and TPDUs (RFC 1006, ISO 8073): what is read however it is cut, refused, and written.
+
 ghost use Rattle.std.specs.Prelude.{◌≡◌, IfOk};
 
-use super::*;
 use std::alloc::AllocError;
 use std::test::*;
 use sv_base::Octs;
+use tpkt_cotp::{Cr, TpFault, TransportIn, Tsdu, Tsdus, call, confirm, tsdu};
 
 /// A CR with the TPDU size 2 ^ 13 and both selectors, as clients of IEC 61850-8-1 send it.
 const CR: [u8; 22] = [

@@ -1,11 +1,12 @@
 -- What an object keeps, and what it gives, has bounds.
 use Rattle.std.proofs.Common.{◌≡◌, ℕ, suc, ◌+◌, ◌*◌, ◌≤◌, ◌<◌, Bool, true, false, eqb, List, [], ◌∷◌, ◌++◌, length, Option, Some, None, Ok, refl, sym, ap, subst, ◌∙◌, arith}
 use Rattle.std.specs.Prelude.{MatchOption}
-use Rattle.std.specs.Option.{option_to_list, option_or}
+use Rattle.std.specs.Option.{option_to_list}
 use Rattle.std.specs.List.{flat_map, AllByRecursion}
 use Rattle.std.proofs.lemmas.Bool.{eqb-true, cond_both}
 use Rattle.std.proofs.lemmas.List.{length-append}
 use Rattle.std.proofs.lemmas.List.Concat.{flat_map-cons}
+use Rattle.ber_grammar.specs.Reader.{first_of_two}
 use Rattle.tpkt_cotp.specs.declared.codes.TheConstants.{TPDU_SIZE, CALLING, CALLED}
 use Rattle.tpkt_cotp.specs.declared.state.State.{State}
 use Rattle.tpkt_cotp.specs.declared.tsdus.Cr.{Cr}
@@ -31,7 +32,7 @@ abbrev IsSizeValue : Option (List ℕ) → Type 0
 IsSizeValue None = Unit {0}
 IsSizeValue (Some v) = (e : ℕ) × (v ≡ e ∷ []) × (7 ≤ e)
 
-first_value : (a b : Option (List ℕ)) → IsSizeValue a → IsSizeValue b → IsSizeValue (option_or a b)
+first_value : (a b : Option (List ℕ)) → IsSizeValue a → IsSizeValue b → IsSizeValue (first_of_two a b)
 first_value None b p q = q
 first_value (Some v) b p q = p
 
@@ -55,7 +56,7 @@ selector_weight : (code : ℕ) (o : Option (List ℕ)) → length (selector code
 selector_weight code None = refl
 selector_weight code (Some v) = omega arith
 
-first_weight : (a b : Option (List ℕ)) → weight (option_or a b) ≤ weight a + weight b
+first_weight : (a b : Option (List ℕ)) → weight (first_of_two a b) ≤ weight a + weight b
 first_weight None b = omega arith
 first_weight (Some v) b = omega arith
 

@@ -1,15 +1,15 @@
 -- Parameters, one after another.
 use Rattle.std.proofs.Common.{◌≡◌, ◌≢◌, ℕ, zero, suc, ◌≤◌, ◌<◌, Bool, cond, eqb, ltb, List, [], ◌∷◌, ◌++◌, length, take, drop, min, Option, Some, None, Result, Ok, Err, refl, sym, ap, subst, ◌∙◌, arith}
-use Rattle.std.specs.Option.{option_or}
 use Rattle.std.specs.List.{flat_map, AllByRecursion}
 use Rattle.std.proofs.lemmas.Bool.{eqb-true, eqb-false, ltb-true, ltb-false, cond_both}
 use Rattle.std.proofs.lemmas.List.{length-append, take_at, drop_at, length-drop, length-take, take-append-drop}
 use Rattle.std.proofs.lemmas.List.Concat.{flat_map-cons}
+use Rattle.ber_grammar.proofs.OptionLaws.{first_none, first_first}
 use Rattle.tpkt_cotp.specs.declared.codes.TheConstants.{TPDU_SIZE, CALLING, CALLED}
 use Rattle.tpkt_cotp.specs.declared.fault.TpFault.{TpFault}
 use Rattle.tpkt_cotp.specs.declared.fault.TpFault.TheVariants.{Tpdu}
 use Rattle.tpkt_cotp.specs.declared.tsdus.Cr.{Cr}
-use Rattle.ber_grammar.specs.Reader.{◌>>=◌}
+use Rattle.ber_grammar.specs.Reader.{◌>>=◌, first_of_two}
 use Rattle.tpkt_cotp.specs.Parameters.{Parameter, spelled, IsAllowed, last_of, exponent_of, said, size_at, put_at, parameter_at, parameters_at, parameters_of}
 
 -- ---- the number of parameters that are allowed for does not count
@@ -92,39 +92,31 @@ if_code code p = cond (eqb p.code code) (Some p.value) None
 abbrev pub over : Cr → List Parameter → Cr
 over cr ps = record {
   src = cr.src;
-  size = option_or (exponent_of (last_of TPDU_SIZE ps)) cr.size;
-  calling = option_or (last_of CALLING ps) cr.calling;
-  called = option_or (last_of CALLED ps) cr.called;
+  size = first_of_two (exponent_of (last_of TPDU_SIZE ps)) cr.size;
+  calling = first_of_two (last_of CALLING ps) cr.calling;
+  called = first_of_two (last_of CALLED ps) cr.called;
 }
 
 abbrev over_one : Cr → Parameter → Cr
 over_one cr p = record {
   src = cr.src;
-  size = option_or (exponent_of (if_code TPDU_SIZE p)) cr.size;
-  calling = option_or (if_code CALLING p) cr.calling;
-  called = option_or (if_code CALLED p) cr.called;
+  size = first_of_two (exponent_of (if_code TPDU_SIZE p)) cr.size;
+  calling = first_of_two (if_code CALLING p) cr.calling;
+  called = first_of_two (if_code CALLED p) cr.called;
 }
 
 cr_is : (src : ℕ) (a b : Option ℕ) (c d e f : Option (List ℕ)) → a ≡ b → c ≡ d → e ≡ f → (let x : Cr = record { src = src; size = a; calling = c; called = e } in x) ≡ (let y : Cr = record { src = src; size = b; calling = d; called = f } in y)
 cr_is src a b c d e f p q r = rw (p, q, r) refl
 
-first_first : {A : Type 0} (a b c : Option A) → option_or a (option_or b c) ≡ option_or (option_or a b) c
-first_first (Some x) b c = refl
-first_first None b c = refl
-
-exponent_first : (a b : Option (List ℕ)) → exponent_of (option_or a b) ≡ option_or (exponent_of a) (exponent_of b)
+exponent_first : (a b : Option (List ℕ)) → exponent_of (first_of_two a b) ≡ first_of_two (exponent_of a) (exponent_of b)
 exponent_first (Some x) b = refl
 exponent_first None b = refl
 
 over_more : (cr : Cr) (p : Parameter) (ps : List Parameter) → over (over_one cr p) ps ≡ over cr (p ∷ ps)
 over_more cr p ps = cr_is cr.src _ _ _ _ _ _
-    (first_first (exponent_of (last_of TPDU_SIZE ps)) (exponent_of (if_code TPDU_SIZE p)) cr.size ∙ ap (λ (x : Option ℕ). option_or x cr.size) (sym (exponent_first (last_of TPDU_SIZE ps) (if_code TPDU_SIZE p))))
+    (first_first (exponent_of (last_of TPDU_SIZE ps)) (exponent_of (if_code TPDU_SIZE p)) cr.size ∙ ap (λ (x : Option ℕ). first_of_two x cr.size) (sym (exponent_first (last_of TPDU_SIZE ps) (if_code TPDU_SIZE p))))
     (first_first (last_of CALLING ps) (if_code CALLING p) cr.calling)
     (first_first (last_of CALLED ps) (if_code CALLED p) cr.called)
-
-first_none : {A : Type 0} (a : Option A) → option_or a None ≡ a
-first_none (Some x) = refl
-first_none None = refl
 
 abbrev pub unsaid : ℕ → Cr
 unsaid src = record { src = src; size = None; calling = None; called = None }

@@ -1,12 +1,11 @@
 -- The parameters of a CR and of a CC (ISO 8073, "Connection Request (CR) TPDU", variable part): each is a code, the
 -- length of its value, and the value.
 use Rattle.std.specs.Prelude.{◌≡◌, ℕ, zero, suc, ◌≤◌, List, [], ◌∷◌, length, take, drop, min, slice_index, Option, Some, None, Result, Ok, Err, nat_lt, ◌==◌, if◌then◌else◌}
-use Rattle.std.specs.Option.{option_or}
 use Rattle.tpkt_cotp.specs.declared.codes.TheConstants.{TPDU_SIZE, CALLING, CALLED}
 use Rattle.tpkt_cotp.specs.declared.fault.TpFault.{TpFault}
 use Rattle.tpkt_cotp.specs.declared.fault.TpFault.TheVariants.{Tpdu}
 use Rattle.tpkt_cotp.specs.declared.tsdus.Cr.{Cr}
-use Rattle.ber_grammar.specs.Reader.{◌>>=◌}
+use Rattle.ber_grammar.specs.Reader.{◌>>=◌, first_of_two}
 
 pub record Parameter : Type 0 where
   pub code : ℕ
@@ -22,7 +21,7 @@ IsAllowed p = p.code ≡ TPDU_SIZE → (exponent : ℕ) × (p.value ≡ exponent
 -- the value of the last parameter of this code
 abbrev pub last_of : ℕ → List Parameter → Option (List ℕ)
 last_of code [] = None
-last_of code (p ∷ ps) = option_or (last_of code ps) (if p.code == code then Some p.value else None)
+last_of code (p ∷ ps) = first_of_two (last_of code ps) (if p.code == code then Some p.value else None)
 
 -- an exponent above 13 counts as 13
 abbrev pub exponent_of : Option (List ℕ) → Option ℕ

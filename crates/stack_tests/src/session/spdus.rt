@@ -1,5 +1,7 @@
-use super::super::*;
+//! SPDUs and their parameters: what is read, refused, and written with long lengths.
+
 use super::{ends, finish};
+use session_pres::{SpFault, Spdu, read_spdu};
 use std::alloc::AllocError;
 use std::test::*;
 

@@ -3,7 +3,7 @@
 ghost use Rattle.std.specs.Prelude.{◌≤◌, length};
 ghost use Rattle.tpkt_cotp.specs.Written.{IsExponent};
 
-use super::*;
+use osi_stack::{Line, frames};
 use std::alloc::{AllocError, Global};
 use std::test::*;
 use sv_base::Octs;
@@ -17,7 +17,7 @@ const REPORT: [u8; 61] = [
     0, 0, 0, 0, 0, 0, 1, 0x86, 1, 1, 0x84, 2, 5, 0x20, 0x85, 1, 5, 0x84, 2, 1, 0x40,
 ];
 
-#[tactic(auto, using(crate::proofs::FitLaws::pdv_fits))]
+#[tactic(auto, using(osi_stack::proofs::FitLaws::pdv_fits))]
 fn framed_on(alloc: Global, line: Line, pdu: &[u8]) -> Result<Octs, AllocError>
     requires exponent { IsExponent line.exponent }
     requires len { length pdu.now ≤ 300 }

@@ -2,8 +2,10 @@
 
 ghost use Rattle.std.specs.Prelude.{◌≢◌};
 
-use super::*;
-use crate::{Caller, Event, Events, StackFault, Upper};
+use super::{REPORT, framed_on};
+use osi_stack::{Caller, Event, Events, Line, StackFault, Upper};
+use std::alloc::{AllocError, Global};
+use std::test::*;
 
 /// A CR with the TPDU size 2 ^ 13 and both selectors.
 fn cr() -> &'static [u8] {
