@@ -18,7 +18,8 @@ use Rattle.ber_grammar.specs.Steps.{required}
 use Rattle.session_pres.specs.Units.{Seen, IsSpdu, begins, transfer}
 use Rattle.session_pres.specs.UnitReading.{spdu_at}
 use Rattle.session_pres.specs.UserData.{user_data_at}
-use Rattle.session_pres.specs.Plain.{anywhere, told, transfers, pdv_octets, spdu_from, pdv_from}
+use Rattle.ber_grammar.specs.Place.{anywhere}
+use Rattle.session_pres.specs.Plain.{told, transfers, pdv_octets, spdu_from, pdv_from}
 use Rattle.session_pres.specs.Written.{IsOneElement, pdv_list, data_spdu}
 use Rattle.session_pres.proofs.AnywhereLaws.{pdv_anywhere}
 use Rattle.session_pres.proofs.FitLaws.{user_few}

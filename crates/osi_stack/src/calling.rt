@@ -46,7 +46,12 @@ fn nothing(alloc: Global) -> Octs
 
 /// Takes the TSDU behind a CC.
 #[tactic(auto, unfolding(crate::specs::Calling::asking_at))]
-pub fn take_answer(alloc: Global, exponent: u8, size: u32, octets: &[u8]) -> Result<Transition, Stop>
+pub fn take_answer(
+    alloc: Global,
+    exponent: u8,
+    size: u32,
+    octets: &[u8],
+) -> Result<Transition, Stop>
     requires exponent { IsExponent exponent }
     requires size { IsProposal size }
     ensures comes { Comes (λ x. x) result (asking_at exponent size octets.now) }
