@@ -8,7 +8,7 @@ use Rattle.bay_model.specs.NamedLines.{Line, domains, lines, in_order}
 use Rattle.object_model.specs.declared.growth.Spot.{Spot}
 use Rattle.object_model.specs.declared.listing.Directory.{Directory}
 use Rattle.object_model.specs.declared.listing.Listing.{Listing}
-use Rattle.object_model.specs.Indexes.{IndexesFrom}
+use Rattle.object_names.specs.Indexes.{IndexesFrom}
 use Rattle.object_model.specs.Nodes.{spots_in, row, rows_from, name_at, node_rows, node_names}
 use Rattle.object_model.specs.Listed.{items_of, spots_from, first_of, IsDirectory, AllFrom, IsListed, IsOneMore}
 

@@ -5,9 +5,9 @@ use Rattle.std.specs.Option.{option_map}
 use Rattle.std.proofs.Math.Seq.{map-set_same}
 use Rattle.bay_model.specs.Generated.{Named}
 use Rattle.object_model.specs.Groups.{Group, group_name, with_cut, put}
-use Rattle.object_model.specs.Numbers.{number_in, number_or}
+use Rattle.object_names.specs.Numbers.{number_in, number_or}
 use Rattle.std.proofs.lemmas.List.{map-append, length-map}
-use Rattle.object_model.proofs.NumberLaws.{place-cons, position-push}
+use Rattle.object_names.proofs.NumberLaws.{place-cons, position-push}
 
 abbrev pub place_of : List Group → List ℕ → Option ℕ
 place_of gs name = number_in (map group_name gs) name

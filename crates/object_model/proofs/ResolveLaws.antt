@@ -16,11 +16,11 @@ use Rattle.bay_model.specs.Places.{Place, node_at}
 use Rattle.bay_model.specs.Named.{nodes, places_in}
 use Rattle.object_model.specs.declared.growth.Spot.{Spot}
 use Rattle.object_model.specs.Grown.{spot}
-use Rattle.object_model.specs.Numbers.{number_in}
+use Rattle.object_names.specs.Numbers.{number_in}
 use Rattle.object_model.specs.Nodes.{spots_in}
 use Rattle.object_model.specs.Listed.{items_of, domain_at, first_of}
 use Rattle.object_model.specs.Tables.{node_named}
-use Rattle.object_model.proofs.NumberLaws.{place-cons}
+use Rattle.object_names.proofs.NumberLaws.{place-cons}
 use Rattle.object_model.proofs.PutLaws.{not_some}
 use Rattle.object_model.proofs.GroupLaws.{apart, Absent, Distinct, distinct-with}
 

@@ -21,11 +21,11 @@ use Rattle.bay_model.specs.Generated.{within}
 use Rattle.bay_model.specs.Places.{Place, node_at, may_be_member, largest, constraint, member_constraints}
 use Rattle.bay_model.specs.NamedLines.{domains}
 use Rattle.bay_model.specs.Named.{nodes, places_in, member_number, set_defined, configured_model}
-use Rattle.object_model.specs.declared.index.Index.{Index}
+use Rattle.object_names.specs.declared.index.Index.{Index}
 use Rattle.object_model.specs.declared.nodes.NodeName.{NodeName}
 use Rattle.object_model.specs.Grown.{spot, attr_id}
-use Rattle.object_model.specs.Numbers.{number_in}
-use Rattle.object_model.specs.Indexes.{Indexes}
+use Rattle.object_names.specs.Numbers.{number_in}
+use Rattle.object_names.specs.Indexes.{Indexes}
 use Rattle.object_model.specs.Nodes.{spots_in, name_at, node_names, row, rows_from, node_rows}
 use Rattle.std.specs.List.{list_any}
 use Rattle.std.proofs.Common.{◌&&◌, nat_le, min}
@@ -33,7 +33,7 @@ use Rattle.std.proofs.lemmas.Bool.Decides.{nat_tests}
 use Rattle.object_model.specs.Rows.{IsRowOf}
 use Rattle.object_model.proofs.PutLaws.{not_some}
 use Rattle.object_model.specs.Tables.{node_id, node_types, set_row, set_rows, name_references, member_in, row_in}
-use Rattle.object_model.proofs.NumberLaws.{place-cons}
+use Rattle.object_names.proofs.NumberLaws.{place-cons}
 
 pub position-map : {X Y : Type 0} (p : Y → Bool) (f : X → Y) (xs : List X) → position p (map f xs) ≡ position (λ x. p (f x)) xs
 position-map p f [] = refl

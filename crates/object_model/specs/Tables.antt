@@ -18,10 +18,9 @@ use Rattle.bay_model.specs.Places.{Place}
 use Rattle.bay_model.specs.NamedLines.{domains, is_setting}
 use Rattle.bay_model.specs.Named.{name_tree, places_in}
 use Rattle.object_model.specs.declared.tables.Tables.{Tables}
-use Rattle.object_model.specs.declared.index.Index.{Index}
+use Rattle.object_names.specs.declared.index.Index.{Index}
 use Rattle.object_model.specs.declared.nodes.NodeName.{NodeName}
-use Rattle.object_model.specs.Indexes.{Indexes, found}
-use Rattle.object_model.specs.Fits.{attr_types}
+use Rattle.object_names.specs.Indexes.{Indexes, found}
 use Rattle.object_model.specs.Nodes.{node_rows, node_names}
 use Rattle.object_model.specs.Listed.{AllFrom, IsDirectory}
 
@@ -69,8 +68,6 @@ pub record IsTables (c : Config) (t : Tables) : Type 0 where
   pub names : t.names.items ≡ node_names c
   pub nodes : t.nodes ≡ node_rows c
   pub sets : t.sets ≡ set_rows c
-  pub flags : t.flags.items ≡ attr_flags c
-  pub kinds : t.kinds.items ≡ attr_types c
 
 -- ---- for the code
 

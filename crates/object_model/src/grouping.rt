@@ -4,12 +4,12 @@ ghost use Rattle.std.specs.Prelude.{◌≡◌, ◌++◌, ◌∷◌, [], map, Lis
 ghost use Rattle.std.specs.Str.{bytes_eq};
 ghost use Rattle.indexmap.specs.IndexMap.{get_by};
 ghost use Rattle.object_model.specs.Groups.{groups as groups_in, group_name, put as put_in, with_named};
-ghost use Rattle.object_model.specs.Numbers.{number_in};
+ghost use Rattle.object_names.specs.Numbers.{number_in};
 
 use crate::growing::{Cut, Group, below, name_of, push_into};
-use crate::index::{Numbers, add};
-use crate::numbers::count;
 use indexmap::IndexMap;
+use object_names::index::{Numbers, add};
+use object_names::numbers::count;
 use std::alloc::{AllocError, Global};
 use std::hash::BuildHasherDefault;
 

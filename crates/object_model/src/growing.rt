@@ -5,7 +5,7 @@ ghost use Rattle.std.specs.List.{position_or_len};
 ghost use Rattle.bay_model.specs.NameTree.{first_name, rest_of};
 ghost use Rattle.object_model.specs.Groups.{Group, with_cut};
 
-use crate::named::Named;
+use object_names::Named;
 use std::alloc::AllocError;
 use std::marker::Model;
 

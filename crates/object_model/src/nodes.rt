@@ -12,10 +12,9 @@ ghost use Rattle.object_model.specs.Nodes.{row, rows_from, name_at};
 use crate::growing::{Cut, name_len};
 use crate::growth::{Spot, grow};
 use crate::largest::largest;
-use crate::lines::Line;
-use crate::named::Named;
-use crate::numbers::count;
 use bay_model::{MemberShape, NodeRow};
+use object_names::numbers::count;
+use object_names::{Line, Named};
 use std::alloc::{AllocError, Global};
 use sv_base::{NodeId, Octs};
 

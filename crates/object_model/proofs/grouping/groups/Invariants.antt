@@ -2,7 +2,7 @@ use Rattle.std.proofs.Common.{◌≡◌, ℕ, List, map, take}
 use Rattle.std.specs.Str.{bytes_eq}
 use Rattle.indexmap.specs.IndexMap.{get_by}
 use Rattle.object_model.specs.Groups.{groups, group_name}
-use Rattle.object_model.specs.Numbers.{number_in}
+use Rattle.object_names.specs.Numbers.{number_in}
 use Rattle.object_model.proofs.grouping.groups.Given as goal
 
 abbrev pub invariant-loop-cut : goal.invariant-loop-cut

@@ -1,7 +1,7 @@
 use Rattle.std.proofs.Common.{◌∷◌, [], map, ap, sym, ◌∙◌}
 use Rattle.std.specs.Str.{bytes_eq}
 use Rattle.object_model.specs.Groups.{Group, group_name}
-use Rattle.object_model.specs.Numbers.{number_in, number_or}
+use Rattle.object_names.specs.Numbers.{number_in, number_or}
 use Rattle.object_model.proofs.PutLaws.{put-at, put-none, names-stay, names-more}
 use Rattle.object_model.proofs.grouping.put.Goals as goal
 
