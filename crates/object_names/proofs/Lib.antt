@@ -1,4 +1,2 @@
-pub mod ListLaws
 pub mod NumberLaws
-pub mod SortLaws
 pub mod LineLaws

@@ -4,6 +4,7 @@ use Rattle.std.specs.Prelude.{ℕ, false, List, ◌++◌, map, flat_map, filter,
 use Rattle.sv_base.specs.declared.config.Config.{Config}
 use Rattle.sv_base.specs.declared.config.AttrDef.{AttrDef}
 use Rattle.sv_base.specs.declared.config.CtlDef.{CtlDef}
+use Rattle.sv_base.specs.declared.types.TypeOf.{TypeOf}
 use Rattle.bay_model.specs.declared.flags.Flags.{Flags}
 use Rattle.bay_model.specs.Lookups.{reference_of}
 use Rattle.bay_model.specs.Generated.{within, Parameter, parameters}
@@ -33,3 +34,10 @@ control_rows k = map (parameter_row k) (parameters k)
 -- first those of the lines, then those that the controls generate, then the SE twins of the SG attributes
 abbrev pub attr_rows : Config → List AttrRow
 attr_rows c = map line_row c.attrs ++ (flat_map control_rows c.controls ++ map twin_row (filter is_setting c.attrs))
+
+-- the references and the types of rows
+abbrev pub references_of : List AttrRow → List (List ℕ)
+references_of rows = map (λ (r : AttrRow). r.reference) rows
+
+abbrev pub types_of : List AttrRow → List TypeOf
+types_of rows = map (λ (r : AttrRow). r.kind) rows

@@ -5,8 +5,11 @@ ghost use Rattle.std.specs.Prelude.{◌≡◌, ◌∷◌, ◌++◌, [], map, fil
 ghost use Rattle.bay_model.specs.Lookups.{reference_of};
 ghost use Rattle.bay_model.specs.Generated.{selection, within};
 ghost use Rattle.bay_model.specs.NamedLines.{is_setting as is_setting_line, path_item};
-ghost use Rattle.object_names.specs.Attributes.{row_at, line_row, twin_row, parameter_row, control_rows, no_flags, attr_rows as rows_of};
+ghost use Rattle.object_names.specs.Attributes.{row_at, line_row, twin_row, parameter_row, control_rows, no_flags, attr_rows as rows_of, references_of};
+ghost use Rattle.object_names.specs.Indexes.{Indexes};
 
+use crate::index::Index;
+use crate::numbers::plus;
 use crate::references::{is_selected, is_setting, item_at, joined, reference_at};
 use bay_model::Flags;
 use std::alloc::{AllocError, Global};
@@ -139,4 +142,17 @@ pub fn attr_rows(alloc: Global, config: &Config) -> Result<Vec<AttrRow>, AllocEr
     push_generated(alloc, &mut rows, config.controls.as_slice())?;
     push_twins(alloc, &mut rows, config.attrs.as_slice())?;
     Ok(rows)
+}
+
+/// The numbers of the attributes by their references.
+pub fn attr_index(alloc: Global, rows: &[AttrRow]) -> Result<Index, AllocError>
+    ensures { IfOk result (λ index. Indexes index (references_of rows.now)) }
+{
+    let mut index = Index::new(alloc);
+    let mut number = 0;
+    for row in rows {
+        index.push(alloc, row.reference.as_slice(), number)?;
+        number = plus(number, 1)?;
+    }
+    Ok(index)
 }

@@ -35,19 +35,37 @@ pub fn add(alloc: Global, numbers: &mut Numbers, name: &[u8], number: u32) -> Re
 }
 
 impl Index {
+    ghost use Rattle.std.specs.Prelude.{◌≡◌, ◌∷◌, ◌++◌, ◌+◌, [], ℕ, List, length, IfOk, OnOk};
     ghost use Rattle.object_names.specs.Indexes.{Indexes, IndexesFrom, found};
+
+    /// No names.
+    pub fn new(alloc: Global) -> Self
+        ensures { (first : ℕ) → IndexesFrom result first [] }
+    {
+        Index {
+            numbers: IndexMap::with_hasher(alloc, BuildHasherDefault::new()),
+        }
+    }
+
+    /// One more name, with the next number.
+    pub fn push(&mut self, alloc: Global, name: &[u8], number: u32) -> Result<(), AllocError>
+        ensures { OnOk result ((names : List (List ℕ)) (first : ℕ) → IndexesFrom self.old first names → number ≡ first + length names → IndexesFrom self.new first (names ++ name.now ∷ [])) }
+    {
+        add(alloc, &mut self.numbers, name, number)?;
+        Ok(())
+    }
 
     /// The numbers of these names, counted from the first one's.
     pub fn from(alloc: Global, first: u32, names: &[Octs]) -> Result<Self, AllocError>
         ensures { IfOk result (λ index. IndexesFrom index first names.now) }
     {
-        let mut numbers = IndexMap::with_hasher(alloc, BuildHasherDefault::new());
+        let mut index = Index::new(alloc);
         let mut number = first;
         for name in names {
-            add(alloc, &mut numbers, name.as_slice(), number)?;
+            index.push(alloc, name.as_slice(), number)?;
             number = plus(number, 1)?;
         }
-        Ok(Index { numbers })
+        Ok(index)
     }
 
     /// The places of these names.

@@ -15,7 +15,7 @@ pub mod references;
 // the attributes by their numbers
 pub mod attributes;
 
-pub use attributes::{AttrRow, attr_rows};
+pub use attributes::{AttrRow, attr_index, attr_rows};
 pub use index::Index;
 pub use lines::{Line, domains, ordered_lines};
 pub use named::{Call, Named, Part, What};

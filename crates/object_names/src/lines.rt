@@ -138,7 +138,8 @@ fn push_block_line(
 {
     let mut names = Vec::new(alloc);
     push_block_names(alloc, &mut names, block, number)?;
-    push_line(alloc, out, block.line, &block.domain, names)
+    push_line(alloc, out, block.line, &block.domain, names)?;
+    Ok(())
 }
 
 fn push_group(

@@ -1,4 +1,4 @@
-use Rattle.object_names.proofs.ListLaws.{two}
+use Rattle.list_laws.proofs.Appended.{two}
 use Rattle.object_names.proofs.attributes.push_selection.Goals as goal
 
 pub returns : goal.returns
