@@ -7,7 +7,7 @@ use Rattle.sv_base.specs.declared.config.LnDef.{LnDef}
 use Rattle.sv_base.specs.declared.config.AttrDef.{AttrDef}
 use Rattle.sv_base.specs.declared.config.BlockDef.{BlockDef}
 use Rattle.sv_base.specs.declared.config.SgDef.{SgDef}
-use Rattle.bay_model.specs.declared.step.Comp.{Comp}
+use Rattle.bay_model.specs.declared.components.Comp.{Comp}
 use Rattle.bay_model.specs.Model.{attribute, several, component}
 use Rattle.bay_model.specs.Generated.{Named, within, end_named, structure_named, comp_name, components, type_of}
 use Rattle.bay_model.specs.Kinds.{comp_kind}

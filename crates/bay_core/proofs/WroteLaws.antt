@@ -8,8 +8,8 @@ use Rattle.sv_base.specs.declared.numbers.AssocNo.{AssocNo}
 use Rattle.sv_base.specs.declared.numbers.BlockNo.{BlockNo}
 use Rattle.sv_base.specs.declared.value.Value.{Value}
 use Rattle.bay_model.specs.declared.answer.Answer.TheVariants as answers
-use Rattle.bay_model.specs.declared.step.Comp.{Comp}
-use Rattle.bay_model.specs.declared.step.Comp.TheVariants as comps
+use Rattle.bay_model.specs.declared.components.Comp.{Comp}
+use Rattle.bay_model.specs.declared.components.Comp.TheVariants as comps
 use Rattle.bay_model.specs.declared.step.Step.TheVariants as steps
 use Rattle.bay_model.specs.Named.{configured_model}
 use Rattle.bay_model.specs.Points.{Past, wrote}

@@ -2,7 +2,7 @@
 use Rattle.std.specs.Prelude.{ℕ, List, map, false, Result, Ok, Err, if◌then◌else◌}
 use Rattle.sv_base.specs.declared.numbers.AssocNo.{AssocNo}
 use Rattle.sv_base.specs.declared.value.Value.{Value}
-use Rattle.bay_model.specs.declared.step.Comp.{Comp}
+use Rattle.bay_model.specs.declared.components.Comp.{Comp}
 use Rattle.brcb_state.specs.Changes.{written, after_report, after_loss}
 use Rattle.brcb_state.specs.Refusals.{answer_to, names_nothing}
 use Rattle.brcb_state.specs.Standing.{is_purging}

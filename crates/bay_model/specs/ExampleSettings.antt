@@ -3,23 +3,21 @@
 use Rattle.std.specs.Prelude.{ℕ, pos, List, [], ◌∷◌, ◌++◌, false, codes}
 use Rattle.sv_base.specs.declared.value.Value.TheVariants as kinds
 use Rattle.bay_model.specs.Model as model
-use Rattle.bay_model.specs.Model.{Model, Node, Attr, Access, Part, NumOfSG, ActSG, EditSG, CnfEdit, LActTm, Trees, attribute, setting, leaf, structure, none, more, single, int}
+use Rattle.bay_model.specs.Model.{Model, Node, Attr, Access, SettingComp, NumOfSG, ActSG, EditSG, CnfEdit, LActTm, Trees, attribute, setting, leaf, structure, none, more, single, int}
+use Rattle.bay_model.specs.Generated.{setting_components}
 use Rattle.bay_model.specs.ExampleNodes.{domain, node, nodes, attrs_with, power, attribute_node, within}
 use Rattle.bay_model.specs.Example.{example}
 
-abbrev pub parts : List Part
-parts = NumOfSG ∷ ActSG ∷ EditSG ∷ CnfEdit ∷ LActTm ∷ []
-
-abbrev pub part_leaves : List Part → Trees
+abbrev pub part_leaves : List SettingComp → Trees
 part_leaves [] = none
 part_leaves (k ∷ ks) = more (leaf (setting 0 k)) (part_leaves ks)
 
-abbrev pub part_node : List ℕ → Part → Node
+abbrev pub part_node : List ℕ → SettingComp → Node
 part_node name k = record { domain = domain; item = codes "LLN0$SP$SGCB$" ++ name; role = single (setting 0 k); tree = leaf (setting 0 k); attrs = []; allowed = false }
 
 -- 36 is ActSG, 37 EditSG and 38 CnfEdit
 abbrev pub group_nodes : List Node
-group_nodes = node (codes "LLN0$SP") (within (structure (part_leaves parts))) [] false ∷ node (codes "LLN0$SP$SGCB") (structure (part_leaves parts)) [] false
+group_nodes = node (codes "LLN0$SP") (within (structure (part_leaves setting_components))) [] false ∷ node (codes "LLN0$SP$SGCB") (structure (part_leaves setting_components)) [] false
     ∷ part_node (codes "NumOfSG") NumOfSG ∷ part_node (codes "ActSG") ActSG ∷ part_node (codes "EditSG") EditSG ∷ part_node (codes "CnfEdit") CnfEdit ∷ part_node (codes "LActTm") LActTm ∷ []
 
 -- 42 is the setting under SG, 45 under SE

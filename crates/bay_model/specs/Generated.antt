@@ -1,17 +1,19 @@
 -- What the lines of a configuration name in a domain, with all that control blocks and controls stand for (IEC 61850-8-1,
 -- the functional constraints BR, SP, CO and CF; IEC 61850-7-2, the attributes of BRCB and SGCB, and the control class
 -- model).
-use Rattle.std.specs.Prelude.{ℕ, ◌+◌, Bool, ◌||◌, ◌==◌, pos, List, [], ◌∷◌, ◌++◌, map, if◌then◌else◌, codes}
+use Rattle.std.specs.Prelude.{ℕ, ◌+◌, Bool, ◌||◌, ◌==◌, pos, List, [], ◌∷◌, ◌++◌, map, if◌then◌else◌, codes, Option}
+use Rattle.std.specs.List.{find}
+use Rattle.std.specs.Str.{bytes_eq}
 use Rattle.sv_base.specs.Types.{no_field}
 use Rattle.sv_base.specs.declared.value.Value.{Value}
 use Rattle.sv_base.specs.declared.value.Value.TheVariants as kinds
 use Rattle.sv_base.specs.declared.config.CtlDef.{CtlDef}
 use Rattle.sv_base.specs.declared.types.TypeOf.{TypeOf}
 use Rattle.sv_base.specs.declared.types.TypeOf.TheVariants as types
-use Rattle.bay_model.specs.declared.step.Comp.{Comp}
-use Rattle.bay_model.specs.declared.step.Comp.TheVariants as comps
-use Rattle.bay_model.specs.Model.{Kind, truth, int, uint, bits, time, stamp, text, octets, entry_id, Part, NumOfSG, ActSG, EditSG, CnfEdit, LActTm, Call, select, operate, cancel, Leaf, attribute, component, setting, withheld, Role, single, selecting, calling}
-use Rattle.bay_model.specs.Kinds.{comp_kind, part_kind}
+use Rattle.bay_model.specs.declared.components.Comp.{Comp}
+use Rattle.bay_model.specs.declared.components.Comp.TheVariants as comps
+use Rattle.bay_model.specs.Model.{Kind, truth, int, uint, bits, time, stamp, text, octets, entry_id, SettingComp, NumOfSG, ActSG, EditSG, CnfEdit, LActTm, Call, select, operate, cancel, Leaf, attribute, component, setting, withheld, Role, single, selecting, calling}
+use Rattle.bay_model.specs.Kinds.{comp_kind, setting_comp_kind}
 
 -- an item that is named, what it is, and its type where it has no parts
 pub record Named : Type 0 where
@@ -56,30 +58,37 @@ comp_name comps.PurgeBuf = codes "PurgeBuf"
 comp_name comps.EntryID = codes "EntryID"
 comp_name comps.TimeofEntry = codes "TimeofEntry"
 
-abbrev pub part_name : Part → List ℕ
-part_name NumOfSG = codes "NumOfSG"
-part_name ActSG = codes "ActSG"
-part_name EditSG = codes "EditSG"
-part_name CnfEdit = codes "CnfEdit"
-part_name LActTm = codes "LActTm"
+abbrev pub setting_comp_name : SettingComp → List ℕ
+setting_comp_name NumOfSG = codes "NumOfSG"
+setting_comp_name ActSG = codes "ActSG"
+setting_comp_name EditSG = codes "EditSG"
+setting_comp_name CnfEdit = codes "CnfEdit"
+setting_comp_name LActTm = codes "LActTm"
 
 -- the components of a report block and of a setting group block, in the order of their types
 abbrev pub components : List Comp
 components = comps.RptID ∷ comps.RptEna ∷ comps.DatSet ∷ comps.ConfRev ∷ comps.OptFlds ∷ comps.BufTm ∷ comps.SqNum ∷ comps.TrgOps ∷ comps.IntgPd ∷ comps.GI ∷ comps.PurgeBuf ∷ comps.EntryID ∷ comps.TimeofEntry ∷ []
 
-abbrev pub parts : List Part
-parts = NumOfSG ∷ ActSG ∷ EditSG ∷ CnfEdit ∷ LActTm ∷ []
+abbrev pub setting_components : List SettingComp
+setting_components = NumOfSG ∷ ActSG ∷ EditSG ∷ CnfEdit ∷ LActTm ∷ []
+
+-- the component of a name, if there is one
+abbrev pub comp_named : List ℕ → Option Comp
+comp_named name = find (λ k. bytes_eq name (comp_name k)) components
+
+abbrev pub setting_comp_named : List ℕ → Option SettingComp
+setting_comp_named name = find (λ k. bytes_eq name (setting_comp_name k)) setting_components
 
 -- of report block b at `LN$BR$NAME`
 abbrev pub block_names : ℕ → List ℕ → List Named
 block_names b item = map (λ k. end_named (within item (comp_name k)) (component b k) (type_of (comp_kind k))) components
 
 -- of the setting group block of domain d
-abbrev pub setting_named : ℕ → Part → Named
-setting_named d k = end_named (within (codes "LLN0$SP$SGCB") (part_name k)) (setting d k) (type_of (part_kind k))
+abbrev pub setting_named : ℕ → SettingComp → Named
+setting_named d k = end_named (within (codes "LLN0$SP$SGCB") (setting_comp_name k)) (setting d k) (type_of (setting_comp_kind k))
 
 abbrev pub setting_names : ℕ → List Named
-setting_names d = map (setting_named d) parts
+setting_names d = map (setting_named d) setting_components
 
 -- the parts of a command: ctlVal and origin; ctlNum, T and Test; at SBOw and Oper, Check
 abbrev pub value_names : TypeOf → List ℕ → List Named

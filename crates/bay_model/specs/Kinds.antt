@@ -3,9 +3,9 @@
 use Rattle.std.specs.Prelude.{◌-◌, ◌^◌, Bool, true, false, ◌&&◌, ◌==◌, nat_le, nat_lt, length, int_le, pos, neg_ℤ}
 use Rattle.sv_base.specs.declared.value.Value.{Value}
 use Rattle.sv_base.specs.declared.value.Value.TheVariants as kinds
-use Rattle.bay_model.specs.declared.step.Comp.{Comp}
-use Rattle.bay_model.specs.declared.step.Comp.TheVariants as comps
-use Rattle.bay_model.specs.Model.{Kind, truth, int, uint, bits, time, stamp, text, octets, entry_id, Part, NumOfSG, ActSG, EditSG, CnfEdit, LActTm}
+use Rattle.bay_model.specs.declared.components.Comp.{Comp}
+use Rattle.bay_model.specs.declared.components.Comp.TheVariants as comps
+use Rattle.bay_model.specs.Model.{Kind, truth, int, uint, bits, time, stamp, text, octets, entry_id, SettingComp, NumOfSG, ActSG, EditSG, CnfEdit, LActTm}
 
 -- the value is of the kind; a bit string's length, and an EntryID's, belong to it
 abbrev pub is_kind : Kind → Value → Bool
@@ -45,9 +45,9 @@ comp_kind comps.EntryID = entry_id
 comp_kind comps.TimeofEntry = stamp
 
 -- the types of a setting group block's components
-abbrev pub part_kind : Part → Kind
-part_kind NumOfSG = uint 8
-part_kind ActSG = uint 8
-part_kind EditSG = uint 8
-part_kind CnfEdit = truth
-part_kind LActTm = time
+abbrev pub setting_comp_kind : SettingComp → Kind
+setting_comp_kind NumOfSG = uint 8
+setting_comp_kind ActSG = uint 8
+setting_comp_kind EditSG = uint 8
+setting_comp_kind CnfEdit = truth
+setting_comp_kind LActTm = time

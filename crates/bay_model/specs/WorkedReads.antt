@@ -4,7 +4,7 @@ use Rattle.sv_base.specs.Tree as seen
 use Rattle.sv_base.specs.declared.value.Value.TheVariants as kinds
 use Rattle.bay_model.specs.declared.request.ObjName.TheVariants as names
 use Rattle.bay_model.specs.declared.request.Target.TheVariants as targets
-use Rattle.bay_model.specs.declared.step.Comp.TheVariants as comps
+use Rattle.bay_model.specs.declared.components.Comp.TheVariants as comps
 use Rattle.bay_model.specs.Answers.{Turn}
 use Rattle.bay_model.specs.Example.{example, block, bits_of}
 use Rattle.bay_model.specs.ExampleNodes.{domain}

@@ -7,7 +7,7 @@ use Rattle.bay_model.specs.declared.reply.Reply.TheVariants as replies
 use Rattle.bay_model.specs.declared.request.Scope.TheVariants as scopes
 use Rattle.bay_model.specs.declared.request.Service.{Service}
 use Rattle.bay_model.specs.declared.request.Service.TheVariants as services
-use Rattle.bay_model.specs.declared.step.Comp.TheVariants as comps
+use Rattle.bay_model.specs.declared.components.Comp.TheVariants as comps
 use Rattle.bay_model.specs.Answers.{Turn}
 use Rattle.bay_model.specs.Acceptance.{IsOpen, NotOpen, NotYours, QueueFull, fault}
 use Rattle.bay_model.specs.ExampleNodes.{domain}

@@ -3,17 +3,8 @@ use Rattle.bay_model.specs.Model as model
 use Rattle.bay_model.specs.Model.{Role, single, selecting, calling, several, attribute, component, setting, withheld}
 use Rattle.object_names.specs.declared.named.What.{What}
 use Rattle.object_names.specs.declared.named.What.TheVariants as whats
-use Rattle.object_names.specs.declared.named.Part.{Part}
-use Rattle.object_names.specs.declared.named.Part.TheVariants as parts
 use Rattle.object_names.specs.declared.named.Call.{Call}
 use Rattle.object_names.specs.declared.named.Call.TheVariants as calls
-
-abbrev pub part_seen : Part → model.Part
-part_seen parts.NumOfSG = model.NumOfSG
-part_seen parts.ActSG = model.ActSG
-part_seen parts.EditSG = model.EditSG
-part_seen parts.CnfEdit = model.CnfEdit
-part_seen parts.LActTm = model.LActTm
 
 abbrev pub call_seen : Call → model.Call
 call_seen calls.Select = model.select
@@ -23,7 +14,7 @@ call_seen calls.Cancel = model.cancel
 abbrev pub role_seen : What → Role
 role_seen (whats.Attribute x) = single (attribute x)
 role_seen (whats.Component b k) = single (component b k)
-role_seen (whats.Setting d k) = single (setting d (part_seen k))
+role_seen (whats.Setting d k) = single (setting d k)
 role_seen whats.Withheld = single withheld
 role_seen (whats.Selecting k) = selecting k
 role_seen (whats.Calling k call) = calling k (call_seen call)

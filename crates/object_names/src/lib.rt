@@ -18,5 +18,5 @@ pub mod attributes;
 pub use attributes::{AttrRow, attr_index, attr_rows};
 pub use index::Index;
 pub use lines::{Line, domains, ordered_lines};
-pub use named::{Call, Named, Part, What};
+pub use named::{Call, Named, What};
 pub use references::{block_references, control_references};

@@ -1,27 +1,16 @@
 //! What the lines of a configuration name.
 
 ghost use Rattle.std.specs.Prelude.{◌≡◌, ◌∷◌, ◌++◌, [], codes, map, OnOk};
-ghost use Rattle.bay_model.specs.Generated.{within, type_of, comp_name as comp_name_of, part_name as part_name_of, end_named, structure_named, block_names, setting_named, setting_names, value_names, number_names, check_names, command_names, sbo_names, sbow_names, cancel_names, control_names, parameters, selection, parameter_names};
+ghost use Rattle.bay_model.specs.Generated.{within, end_named, structure_named, block_names, setting_names, value_names, number_names, check_names, command_names, sbo_names, sbow_names, cancel_names, control_names, parameters, selection, parameter_names};
 ghost use Rattle.bay_model.specs.Model.{attribute, withheld};
-ghost use Rattle.bay_model.specs.Kinds.{comp_kind, part_kind};
-ghost use Rattle.object_names.specs.Seen.{role_seen, part_seen, call_seen};
+ghost use Rattle.object_names.specs.Seen.{role_seen, call_seen};
 
 use crate::numbers::plus;
 use crate::references::{is_selected, joined};
-use bay_model::Comp;
+use bay_model::{Comp, SettingComp};
 use std::alloc::{AllocError, Global};
 use std::marker::Model;
 use sv_base::{CtlDef, Octs, Parts, TypeOf, copy_type};
-
-/// A component of a setting group block (IEC 61850-7-2, SGCB attributes).
-#[derive(Clone, Copy)]
-pub enum Part {
-    NumOfSG,
-    ActSG,
-    EditSG,
-    CnfEdit,
-    LActTm,
-}
 
 /// A service of a control that carries a value (IEC 61850-8-1, SBOw, Oper and Cancel).
 #[derive(Clone, Copy)]
@@ -37,7 +26,7 @@ pub enum Call {
 pub enum What {
     Attribute(u32),
     Component(u32, Comp),
-    Setting(u32, Part),
+    Setting(u32, SettingComp),
     Withheld,
     Selecting(u32),
     Calling(u32, Call),
@@ -67,89 +56,6 @@ impl Model for Named {
     ghost view = { λ n. record { item = n.item; role = role_seen n.what; kind = n.kind } };
 }
 
-/// The components of a report block, in the order of its type (IEC 61850-7-2, BRCB attributes).
-const COMPONENTS: [Comp; 13] = [
-    Comp::RptID,
-    Comp::RptEna,
-    Comp::DatSet,
-    Comp::ConfRev,
-    Comp::OptFlds,
-    Comp::BufTm,
-    Comp::SqNum,
-    Comp::TrgOps,
-    Comp::IntgPd,
-    Comp::GI,
-    Comp::PurgeBuf,
-    Comp::EntryID,
-    Comp::TimeofEntry,
-];
-
-/// The components of a setting group block, in the order of its type (IEC 61850-7-2, SGCB attributes).
-const PARTS: [Part; 5] = [
-    Part::NumOfSG,
-    Part::ActSG,
-    Part::EditSG,
-    Part::CnfEdit,
-    Part::LActTm,
-];
-
-fn comp_name(comp: Comp) -> &'static [u8]
-    ensures { result.now ≡ comp_name_of comp }
-{
-    match comp {
-        Comp::RptID => b"RptID",
-        Comp::RptEna => b"RptEna",
-        Comp::DatSet => b"DatSet",
-        Comp::ConfRev => b"ConfRev",
-        Comp::OptFlds => b"OptFlds",
-        Comp::BufTm => b"BufTm",
-        Comp::SqNum => b"SqNum",
-        Comp::TrgOps => b"TrgOps",
-        Comp::IntgPd => b"IntgPd",
-        Comp::GI => b"GI",
-        Comp::PurgeBuf => b"PurgeBuf",
-        Comp::EntryID => b"EntryID",
-        Comp::TimeofEntry => b"TimeofEntry",
-    }
-}
-
-fn comp_type(comp: Comp) -> TypeOf
-    ensures { result ≡ type_of (comp_kind comp) }
-{
-    match comp {
-        Comp::RptID | Comp::DatSet => TypeOf::Text(129),
-        Comp::RptEna | Comp::GI | Comp::PurgeBuf => TypeOf::Bool,
-        Comp::ConfRev | Comp::BufTm | Comp::IntgPd => TypeOf::Uint(32),
-        Comp::OptFlds => TypeOf::Bits(10),
-        Comp::SqNum => TypeOf::Uint(16),
-        Comp::TrgOps => TypeOf::Bits(6),
-        Comp::EntryID => TypeOf::EntryId,
-        Comp::TimeofEntry => TypeOf::Stamp,
-    }
-}
-
-fn part_name(part: Part) -> &'static [u8]
-    ensures { result.now ≡ part_name_of (part_seen part) }
-{
-    match part {
-        Part::NumOfSG => b"NumOfSG",
-        Part::ActSG => b"ActSG",
-        Part::EditSG => b"EditSG",
-        Part::CnfEdit => b"CnfEdit",
-        Part::LActTm => b"LActTm",
-    }
-}
-
-fn part_type(part: Part) -> TypeOf
-    ensures { result ≡ type_of (part_kind (part_seen part)) }
-{
-    match part {
-        Part::NumOfSG | Part::ActSG | Part::EditSG => TypeOf::Uint(8),
-        Part::CnfEdit => TypeOf::Bool,
-        Part::LActTm => TypeOf::Time,
-    }
-}
-
 /// Adds `ITEM$NAME`.
 fn push_within(
     alloc: Global,
@@ -175,47 +81,15 @@ pub fn push_block(
 ) -> Result<(), AllocError>
     ensures { OnOk result (out.new.items ≡ out.old.items ++ block_names number item.now) }
 {
-    for comp in &COMPONENTS {
+    for comp in &Comp::ALL {
         push_within(
             alloc,
             out,
             item,
-            comp_name(*comp),
+            comp.name(),
             What::Component(number, *comp),
-            comp_type(*comp),
+            comp.kind(),
         )?;
-    }
-    Ok(())
-}
-
-fn push_setting(
-    alloc: Global,
-    out: &mut Vec<Named>,
-    domain: u32,
-    part: Part,
-) -> Result<(), AllocError>
-    ensures { OnOk result (out.new.items ≡ out.old.items ++ setting_named domain (part_seen part) ∷ []) }
-{
-    push_within(
-        alloc,
-        out,
-        b"LLN0$SP$SGCB",
-        part_name(part),
-        What::Setting(domain, part),
-        part_type(part),
-    )
-}
-
-fn push_parts(
-    alloc: Global,
-    out: &mut Vec<Named>,
-    domain: u32,
-    parts: &[Part],
-) -> Result<(), AllocError>
-    ensures { OnOk result (out.new.items ≡ out.old.items ++ map (λ k. setting_named domain (part_seen k)) parts.now) }
-{
-    for part in parts {
-        push_setting(alloc, out, domain, *part)?;
     }
     Ok(())
 }
@@ -224,7 +98,17 @@ fn push_parts(
 pub fn push_settings(alloc: Global, out: &mut Vec<Named>, domain: u32) -> Result<(), AllocError>
     ensures { OnOk result (out.new.items ≡ out.old.items ++ setting_names domain) }
 {
-    push_parts(alloc, out, domain, &PARTS)
+    for comp in &SettingComp::ALL {
+        push_within(
+            alloc,
+            out,
+            b"LLN0$SP$SGCB",
+            comp.name(),
+            What::Setting(domain, *comp),
+            comp.kind(),
+        )?;
+    }
+    Ok(())
 }
 
 /// Adds a part of a command at `LN$CO$DO$CALL`.

@@ -2,7 +2,7 @@
 use Rattle.std.proofs.Common.{◌≡◌, ◌∷◌, [], refl}
 use Rattle.std.specs.Prelude.{codes, None, Some, true, false}
 use Rattle.sv_base.specs.declared.value.Value.TheVariants as values
-use Rattle.bay_model.specs.declared.step.Comp.TheVariants as comps
+use Rattle.bay_model.specs.declared.components.Comp.TheVariants as comps
 use Rattle.replay_run.specs.Components.{component_at}
 use Rattle.replay_run.specs.Shapes.{marked_at, shape_at}
 use Rattle.replay_run.specs.Moves.{goes, stops, opening, configuring}
