@@ -17,7 +17,7 @@ use Rattle.object_model.specs.Tables.{flags_of, line_flags, no_flags, control_fl
 use Rattle.object_model.specs.Fits.{attr_types}
 use Rattle.object_names.specs.declared.attributes.AttrRow.{AttrRow}
 use Rattle.object_names.specs.Attributes.{line_row, twin_row, parameter_row, control_rows, attr_rows, types_of}
-use Rattle.object_model.proofs.TableLaws.{there}
+use Rattle.list_laws.proofs.Places.{same_at}
 
 of_lines : (c : Config) (x : ℕ) (as_ : List AttrDef) → map flags_of (attrs_defined c x as_) ≡ map line_flags as_
 of_lines c x [] = refl
@@ -77,4 +77,4 @@ pub within-rows : (c named : Config) (rows : List AttrRow) (n : ℕ) → c ≡ n
 within-rows c named rows n v e h = omega (arith, h, ap length e, ap (λ m. length (attr_rows m)) v, length-map (attr_rows named) flags_at, ap length (rows-flags named), length-map (attributes named) flags_of)
 
 pub flags-read : (c named : Config) (rows : List AttrRow) (n : ℕ) (r : AttrRow) → c ≡ named → rows ≡ attr_rows c → n < length (attributes named) → r ≡ get_or rows n r → r.flags ≡ flags_of (attr_of (configured_model named) n)
-flags-read c named rows n r v e h is = there flags_at flags_of rows (attributes named) n r r no_attr (ap (map flags_at) (e ∙ ap attr_rows v) ∙ rows-flags named) h is
+flags-read c named rows n r v e h is = same_at flags_at flags_of rows (attributes named) n r r no_attr (ap (map flags_at) (e ∙ ap attr_rows v) ∙ rows-flags named) h is

@@ -1,6 +1,5 @@
 pub use Rattle.object_names.specs.Numbers
 pub use Rattle.object_names.specs.References
-
 pub mod Groups
 pub mod Grown
 pub mod Nodes

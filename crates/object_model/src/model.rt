@@ -182,7 +182,7 @@ impl Model {
         requires { attr.0 < length (attributes self.now) }
         ensures { result ≡ flags_of (attr_of (configured_model self.now) attr.0) }
     {
-        self.rows[attr.0 as usize].flags
+        self.rows.as_slice()[attr.0 as usize].flags
     }
 
     /// The configured data sets, with the numbers of their members.
@@ -224,6 +224,6 @@ impl Model {
             blocks: self.config.blocks.len(),
             controls: self.config.controls.len(),
         };
-        step_fits(counts, &self.rows, step)
+        step_fits(counts, self.rows.as_slice(), step)
     }
 }

@@ -13,7 +13,7 @@ use std::hash::BuildHasherDefault;
 use sv_base::Octs;
 
 /// Numbers by name.
-pub type Numbers = IndexMap<Vec<u8>, u32, BuildHasherDefault<NameHasher>>;
+type Numbers = IndexMap<Vec<u8>, u32, BuildHasherDefault<NameHasher>>;
 
 /// Names, each with its number: its place in a list, of two that are the same the first one's.
 #[derive(Drop)]
@@ -22,7 +22,7 @@ pub struct Index {
 }
 
 /// Gives a name a number, where it has none.
-pub fn add(alloc: Global, numbers: &mut Numbers, name: &[u8], number: u32) -> Result<(), AllocError>
+fn add(alloc: Global, numbers: &mut Numbers, name: &[u8], number: u32) -> Result<(), AllocError>
     ensures { OnOk result ((other : List ℕ) → get_by (λ k. bytes_eq other k.items) numbers.new ≡ number_or (get_by (λ k. bytes_eq other k.items) numbers.old) (bytes_eq other name.now) number) }
 {
     if numbers.contains_key(name) {

@@ -4,16 +4,16 @@
 
 // numbers by name
 mod hashing;
-pub mod index;
+mod index;
 pub mod numbers;
 
 // what lines name
-pub mod lines;
-pub mod named;
+mod lines;
+mod named;
 pub mod references;
 
 // the attributes by their numbers
-pub mod attributes;
+mod attributes;
 
 pub use attributes::{AttrRow, attr_index, attr_rows};
 pub use index::Index;

@@ -1,7 +1,7 @@
 //! What the lines of a configuration name.
 
 ghost use Rattle.std.specs.Prelude.{◌≡◌, ◌∷◌, ◌++◌, [], codes, map, OnOk};
-ghost use Rattle.bay_model.specs.Generated.{within, end_named, structure_named, block_names, setting_names, value_names, number_names, check_names, command_names, sbo_names, sbow_names, cancel_names, control_names, parameters, selection, parameter_names};
+ghost use Rattle.bay_model.specs.Generated.{within, end_named, structure_named, block_names, setting_named, setting_names, value_names, number_names, check_names, command_names, sbo_names, sbow_names, cancel_names, control_names, parameters, selection, parameter_names};
 ghost use Rattle.bay_model.specs.Model.{attribute, withheld};
 ghost use Rattle.object_names.specs.Seen.{role_seen, call_seen};
 
@@ -94,21 +94,43 @@ pub fn push_block(
     Ok(())
 }
 
+fn push_setting(
+    alloc: Global,
+    out: &mut Vec<Named>,
+    domain: u32,
+    comp: SettingComp,
+) -> Result<(), AllocError>
+    ensures { OnOk result (out.new.items ≡ out.old.items ++ setting_named domain comp ∷ []) }
+{
+    push_within(
+        alloc,
+        out,
+        b"LLN0$SP$SGCB",
+        comp.name(),
+        What::Setting(domain, comp),
+        comp.kind(),
+    )
+}
+
+fn push_comps(
+    alloc: Global,
+    out: &mut Vec<Named>,
+    domain: u32,
+    comps: &[SettingComp],
+) -> Result<(), AllocError>
+    ensures { OnOk result (out.new.items ≡ out.old.items ++ map (setting_named domain) comps.now) }
+{
+    for comp in comps {
+        push_setting(alloc, out, domain, *comp)?;
+    }
+    Ok(())
+}
+
 /// Adds the components of the setting group block of a domain.
 pub fn push_settings(alloc: Global, out: &mut Vec<Named>, domain: u32) -> Result<(), AllocError>
     ensures { OnOk result (out.new.items ≡ out.old.items ++ setting_names domain) }
 {
-    for comp in &SettingComp::ALL {
-        push_within(
-            alloc,
-            out,
-            b"LLN0$SP$SGCB",
-            comp.name(),
-            What::Setting(domain, *comp),
-            comp.kind(),
-        )?;
-    }
-    Ok(())
+    push_comps(alloc, out, domain, &SettingComp::ALL)
 }
 
 /// Adds a part of a command at `LN$CO$DO$CALL`.

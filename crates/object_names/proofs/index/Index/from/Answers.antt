@@ -2,6 +2,9 @@ use Rattle.std.proofs.Common.{take, ◌∙◌, arith, length-take}
 use Rattle.object_names.proofs.NumberLaws.{next}
 use Rattle.object_names.proofs.index.Index.from.Goals as goal
 
+pub loop-name-init : goal.loop-name-init
+loop-name-init c = record { number = omega arith; finds = λ name. c.new-index.ensures c.args.first name }
+
 pub loop-name-preserved : goal.loop-name-preserved
 loop-name-preserved c = record {
   number = omega (arith, c.in_ok-number.ensures, c.loop-name.invariant.number);

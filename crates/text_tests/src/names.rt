@@ -1,10 +1,12 @@
+//! The nodes, attributes and names of a configuration of two domains.
+
 ghost use Rattle.std.specs.Prelude.{◌≡◌, IfOk};
 ghost use Rattle.std.specs.List.{All};
 ghost use Rattle.sv_base.specs.declared.config.AttrDef.{AttrDef as AttrLine};
 ghost use Rattle.bay_model.specs.Slots.{IsSettable};
 
-use super::*;
 use bay_model::Step;
+use object_model::Model;
 use std::alloc::{AllocError, Global};
 use std::test::*;
 use sv_base::{
@@ -24,40 +26,56 @@ fn node(alloc: Global, line: u32, domain: &[u8], ln: &[u8]) -> Result<LnDef, All
     })
 }
 
+/// An attribute at a place: domain, logical node, functional constraint and path.
+fn attr(
+    alloc: Global,
+    line: u32,
+    place: [&[u8]; 4],
+    kind: TypeOf,
+    dupd: bool,
+) -> Result<AttrDef, AllocError>
+    requires { IsSettable kind }
+    ensures { IfOk result (λ a. IsSettable a.kind) }
+{
+    let [domain, ln, fc, path] = place;
+    Ok(AttrDef {
+        line,
+        domain: octs(alloc, domain)?,
+        ln: octs(alloc, ln)?,
+        fc: octs(alloc, fc)?,
+        path: octs(alloc, path)?,
+        kind,
+        dchg: true,
+        qchg: false,
+        dupd,
+        values: Values::from_vec(Vec::new(alloc)),
+    })
+}
+
 /// The measured power of a domain's MMXU1.
 fn power(alloc: Global, line: u32, domain: &[u8]) -> Result<AttrDef, AllocError>
     ensures { IfOk result (λ a. IsSettable a.kind) }
 {
-    Ok(AttrDef {
+    attr(
+        alloc,
         line,
-        domain: octs(alloc, domain)?,
-        ln: octs(alloc, b"MMXU1")?,
-        fc: octs(alloc, b"MX")?,
-        path: octs(alloc, b"TotW$mag$i")?,
-        kind: TypeOf::Int(32),
-        dchg: true,
-        qchg: false,
-        dupd: true,
-        values: Values::from_vec(Vec::new(alloc)),
-    })
+        [domain, b"MMXU1", b"MX", b"TotW$mag$i"],
+        TypeOf::Int(32),
+        true,
+    )
 }
 
 /// The position of BAY1's breaker.
 fn position(alloc: Global, line: u32) -> Result<AttrDef, AllocError>
     ensures { IfOk result (λ a. IsSettable a.kind) }
 {
-    Ok(AttrDef {
+    attr(
+        alloc,
         line,
-        domain: octs(alloc, b"BAY1")?,
-        ln: octs(alloc, b"XCBR1")?,
-        fc: octs(alloc, b"ST")?,
-        path: octs(alloc, b"Pos$stVal")?,
-        kind: TypeOf::Bits(2),
-        dchg: true,
-        qchg: false,
-        dupd: false,
-        values: Values::from_vec(Vec::new(alloc)),
-    })
+        [b"BAY1", b"XCBR1", b"ST", b"Pos$stVal"],
+        TypeOf::Bits(2),
+        false,
+    )
 }
 
 fn attrs(alloc: Global) -> Result<AttrDefs, AllocError>
