@@ -5,7 +5,7 @@ use Rattle.std.specs.Str.{bytes_eq}
 use Rattle.std.specs.Cmp.Lexicographic.{bytes_decides}
 use Rattle.std.proofs.lemmas.List.{map-append, take_more}
 use Rattle.std.proofs.lemmas.List.Elements.{filter-append}
-use Rattle.list_laws.proofs.Distinct.{octets_same, Absent, Distinct, none_left, none_right, distinct-more}
+use Rattle.list_laws.proofs.Distinct.{octets_same, octets_apart, Absent, Distinct, none_left, none_right, distinct-more}
 use Rattle.bay_model.specs.Generated.{Named}
 use Rattle.std.proofs.lemmas.List.Folds.{list_any-append}
 use Rattle.object_model.specs.Groups.{Group, group_at, groups, with_cut, put, with_named}
@@ -112,7 +112,7 @@ put-is ns x (m ∷ ms) h d none = by (put-is ns x ms h d.1) (bytes_eq (first_nam
     by go true e = let is = octets_same (first_name x) m e in
         ap (λ l. record { name = m; names = l } ∷ map (group_at ns) ms) (sym (ap (λ n. below n (ns ++ x ∷ [])) (sym is) ∙ (below-same ns x h ∙ ap (λ n. below n ns ++ rest_of x ∷ []) is)))
         ∙ ap (λ l. group_at (ns ++ x ∷ []) m ∷ l) (sym (others-stay ns x m ms is d.0))
-    by go false e = ap (λ l. record { name = m; names = l } ∷ put (map (group_at ns) ms) (first_name x) (rest_of x)) (sym (below-other m ns x (apart (first_name x) m e)))
+    by go false e = ap (λ l. record { name = m; names = l } ∷ put (map (group_at ns) ms) (first_name x) (rest_of x)) (sym (below-other m ns x (octets_apart (first_name x) m e)))
         ∙ (ap (λ l. group_at (ns ++ x ∷ []) m ∷ l) (go (λ n. none (ap (λ b. b || list_any (bytes_eq (first_name x)) ms) e ∙ n)))
         ∙ sym (more (list_any (bytes_eq (first_name x)) ms)))
 

@@ -17,6 +17,7 @@ use Rattle.bay_model.specs.Generated.{Parameter, parameters, within}
 use Rattle.bay_model.specs.Places.{Place}
 use Rattle.bay_model.specs.NamedLines.{domains, is_setting}
 use Rattle.bay_model.specs.Named.{name_tree, places_in}
+pub use Rattle.object_names.specs.Attributes.{line_flags, no_flags}
 use Rattle.object_model.specs.declared.tables.Tables.{Tables}
 use Rattle.object_names.specs.declared.index.Index.{Index}
 use Rattle.object_model.specs.declared.nodes.NodeName.{NodeName}
@@ -47,12 +48,6 @@ set_rows c = map set_row (name_tree c).sets
 
 abbrev pub flags_of : Attr → Flags
 flags_of a = record { dchg = a.dchg; qchg = a.qchg; dupd = a.dupd }
-
-abbrev pub line_flags : AttrDef → Flags
-line_flags a = record { dchg = a.dchg; qchg = a.qchg; dupd = a.dupd }
-
-abbrev pub no_flags : Flags
-no_flags = record { dchg = false; qchg = false; dupd = false }
 
 abbrev pub control_flags : CtlDef → List Flags
 control_flags k = map (λ (p : Parameter). no_flags) (parameters k)

@@ -1,6 +1,6 @@
 //! Whether a step fits a configuration.
 
-ghost use Rattle.std.specs.Prelude.{◌≡◌, ◌&&◌};
+ghost use Rattle.std.specs.Prelude.{◌≡◌, ◌&&◌, option_map, slice_get};
 ghost use Rattle.std.specs.List.{All, list_all};
 ghost use Rattle.sv_base.specs.Seen.{row_of};
 ghost use Rattle.bay_model.specs.Configured.{kind_of};
@@ -11,7 +11,7 @@ ghost use Rattle.object_model.specs.Fits.{is_visible as is_visible_octets, is_so
 
 use bay_model::{ObjName, Service, SetName, Setting, Step, Target, Write, fits_int, fits_uint};
 use object_names::AttrRow;
-use sv_base::{AssocNo, TypeOf, Value};
+use sv_base::{AssocNo, AttrId, TypeOf, Value};
 
 /// How many nodes, blocks and controls there are.
 #[derive(Clone, Copy)]
@@ -170,12 +170,19 @@ fn is_typed(kind: &TypeOf, value: &Value) -> bool
     }
 }
 
+/// The row of an attribute; none exactly where it is not there.
+fn row_at(rows: &[AttrRow], attr: AttrId) -> Option<&AttrRow>
+    ensures { option_map (λ r. r.now) result ≡ slice_get rows.now attr.0 }
+{
+    rows.get(attr.0 as usize)
+}
+
 /// Whether a setting names an attribute, of whose type and size its value is.
 fn setting_fits(rows: &[AttrRow], setting: &Setting) -> bool
     requires { All IsSettable (types_of rows.now) }
     ensures { result ≡ setting_fits_in (types_of rows.now) setting.now }
 {
-    match rows.get(setting.attr.0 as usize) {
+    match row_at(rows, setting.attr) {
         None => false,
         Some(row) => is_typed(&row.kind, &setting.value) && is_sound(&setting.value),
     }

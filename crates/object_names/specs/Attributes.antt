@@ -14,9 +14,12 @@ use Rattle.object_names.specs.declared.attributes.AttrRow.{AttrRow}
 abbrev pub no_flags : Flags
 no_flags = record { dchg = false; qchg = false; dupd = false }
 
+abbrev pub line_flags : AttrDef → Flags
+line_flags a = record { dchg = a.dchg; qchg = a.qchg; dupd = a.dupd }
+
 -- the attribute of a line, under a functional constraint
 abbrev pub row_at : AttrDef → List ℕ → AttrRow
-row_at a fc = record { reference = reference_of a.domain (path_item a.ln fc a.path); kind = a.kind; flags = record { dchg = a.dchg; qchg = a.qchg; dupd = a.dupd } }
+row_at a fc = record { reference = reference_of a.domain (path_item a.ln fc a.path); kind = a.kind; flags = line_flags a }
 
 abbrev pub line_row : AttrDef → AttrRow
 line_row a = row_at a a.fc

@@ -16,7 +16,7 @@ returns-in_ok-push_into-in-Some-clause-groups c = let none : Group = record { na
     c.in_ok-push_into-in-Some.ensures none ∙ (put-at c.args.groups.now.items c.args.name.now c.args.cut c.in-Some.place (sym (c.requires c.args.name.now) ∙ sym c.in-Some.ensures)).is none
 
 pub returns-in_ok-push_group-in-None-clause-placed : goal.returns-in_ok-push_group-in-None-clause-placed
-returns-in_ok-push_group-in-None-clause-placed c = names-more _ _ c.args.groups.now.items _ (record { name = c.args.name.now; names = c.args.cut ∷ [] }) _ c.requires
+returns-in_ok-push_group-in-None-clause-placed c = names-more c.args.places.now c.push.new.self c.args.groups.now.items _ (record { name = c.args.name.now; names = c.args.cut ∷ [] }) _ c.requires
     (c.in_ok-number-in-None.ensures ∙ (c.len.ensures ∙ c.args.groups.now.ok.0)) c.in_ok-push_group-in-None.ensures c.in_ok-push-in-None.ensures
 
 pub returns-in_ok-push_group-in-None-clause-groups : goal.returns-in_ok-push_group-in-None-clause-groups
