@@ -5,7 +5,6 @@ use Rattle.std.proofs.lemmas.List.Elements.{All-append, All-cons, All-nil, All-t
 use Rattle.sv_base.specs.declared.config.Config.{Config}
 use Rattle.sv_base.specs.declared.config.AttrDef.{AttrDef}
 use Rattle.sv_base.specs.declared.config.CtlDef.{CtlDef}
-use Rattle.sv_base.specs.declared.types.TypeOf.{TypeOf}
 use Rattle.bay_model.specs.Generated.{Parameter, parameters, selection, is_selected}
 use Rattle.bay_model.specs.NamedLines.{is_setting}
 use Rattle.std.specs.Prelude.{codes, pos}
@@ -18,7 +17,7 @@ use Rattle.object_names.specs.declared.attributes.AttrRow.{AttrRow}
 use Rattle.object_names.specs.Attributes.{attr_rows, types_of}
 use Rattle.object_model.proofs.AttributeLaws.{rows-types}
 use Rattle.object_model.specs.Nodes.{node_rows}
-use Rattle.object_model.specs.Fits.{attr_types, step_fits, fits}
+use Rattle.object_model.specs.Fits.{step_fits, fits}
 
 abbrev IsLine : AttrDef → Type 0
 IsLine a = IsSettable a.kind

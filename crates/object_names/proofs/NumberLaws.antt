@@ -1,5 +1,5 @@
 -- What one more name does to the numbers of names.
-use Rattle.std.proofs.Common.{◌≡◌, ℕ, ◌+◌, ◌<◌, Bool, true, false, List, [], ◌∷◌, ◌++◌, map, length, take, get_or, Option, None, Some, is_some, refl, sym, ap, subst, ◌∙◌, arith, length-take}
+use Rattle.std.proofs.Common.{◌≡◌, ℕ, ◌+◌, ◌<◌, Bool, true, false, List, [], ◌∷◌, ◌++◌, length, take, get_or, Option, None, Some, is_some, refl, sym, ap, subst, ◌∙◌, arith}
 use Rattle.std.proofs.lemmas.List.{take_more}
 use Rattle.std.specs.Str.{bytes_eq}
 use Rattle.std.specs.Option.{option_map}
@@ -9,7 +9,7 @@ use Rattle.list_laws.proofs.Indexed as indexed
 use Rattle.list_laws.proofs.Places.{position-push}
 use Rattle.object_names.specs.Numbers.{number_in, number_or}
 use Rattle.object_names.specs.declared.index.Index.{Index}
-use Rattle.object_names.specs.Indexes.{IndexesFrom, found}
+use Rattle.object_names.specs.Indexes.{IndexesFrom}
 
 module _ {K : Type 0} (items : K → List ℕ) where
   pub added_as : (es : List (K × ℕ)) (key : K) (n : ℕ) (name other : List ℕ) → items key ≡ name → is_some (lookup (λ k. bytes_eq name (items k)) es) ≡ false
