@@ -30,7 +30,7 @@ use Rattle.bay_model.specs.Settings.{set_to}
 use Rattle.bay_model.specs.Values.{value_at, gives}
 use Rattle.object_model.specs.Fits.{attr_types, is_sound, is_typed, setting_fits, fits}
 use Rattle.object_model.specs.Tables as tables
-use Rattle.object_model.proofs.FlagLaws.{flags-are}
+use Rattle.object_model.proofs.AttributeLaws.{flags-are}
 use Rattle.value_store.specs.Stored.{Stored, attribute}
 use Rattle.value_store.specs.Wholes.{Stands}
 use Rattle.trigger_core.specs.Points as points

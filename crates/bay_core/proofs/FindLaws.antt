@@ -3,7 +3,7 @@ use Rattle.std.proofs.Common.{◌≡◌, ℕ, suc, ◌+◌, Bool, true, false, c
 use Rattle.std.specs.Option.{option_map}
 use Rattle.sv_base.specs.declared.config.LnDef.{LnDef}
 use Rattle.bay_model.specs.Configured.{with_domain, domains_after}
-use Rattle.object_model.proofs.NumberLaws.{place-cons}
+use Rattle.list_laws.proofs.Places.{place-cons}
 use Rattle.bay_core.proofs.AmongLaws.{Among, At}
 use Rattle.bay_core.proofs.NamedLaws.{with-old, with-new, with-back}
 

@@ -6,7 +6,7 @@ use Rattle.std.proofs.lemmas.Bool.Decides.{nat_tests}
 use Rattle.std.proofs.lemmas.Bool.{cond-true, cond-false}
 use Rattle.std.proofs.lemmas.List.Sums.{sum_by-cons, sum_by-append}
 use Rattle.sv_base.specs.Data.{length_field, without_zeros}
-use Rattle.object_model.proofs.GroupLaws.{Absent, Distinct}
+use Rattle.list_laws.proofs.Distinct.{Absent, Distinct}
 use Rattle.bay_core.proofs.AmongLaws.{Among, source}
 use Rattle.bay_core.proofs.NamedLaws.{bytes-same}
 
