@@ -12,7 +12,7 @@ use Rattle.value_store.specs.Stored.{Stored}
 use Rattle.trigger_core.specs.Noted.{change_of}
 use Rattle.bay_core.specs.Changed.{change_from}
 use Rattle.bay_core.specs.Marked.{is_marked, IsBlank, AreNoted, IsDone}
-use Rattle.bay_core.proofs.Distinct.{found}
+use Rattle.bay_core.proofs.DistinctChanges.{found}
 use Rattle.bay_core.proofs.SettingSteps.{mark_at}
 
 -- a mark that is unmarked needs no change

@@ -19,7 +19,7 @@ use Rattle.value_store.specs.Stored.{Stored, attribute, no_attribute, with_value
 use Rattle.trigger_core.specs.Noted.{change_of}
 use Rattle.bay_core.specs.Changed.{given, change_from}
 use Rattle.bay_core.specs.Marked.{is_marked, IsDone}
-use Rattle.bay_core.proofs.Distinct.{distinct-push}
+use Rattle.bay_core.proofs.DistinctChanges.{distinct-push}
 
 -- ---- an attribute that a later setting names
 

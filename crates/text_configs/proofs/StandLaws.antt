@@ -1,5 +1,5 @@
 -- Where the lines of a text stand: in a domain, and in one of its logical nodes.
-use Rattle.std.proofs.Common.{◌≡◌, ℕ, ◌⊎◌, inl, inr, true, List, [], ◌∷◌, ◌++◌, length, refl, ap, subst, ◌∙◌, arith, length-append}
+use Rattle.std.proofs.Common.{◌≡◌, ℕ, ◌⊎◌, inl, inr, true, List, [], ◌∷◌, ◌++◌, refl, ap, subst, ◌∙◌}
 use Rattle.list_laws.proofs.Appended.{some-left}
 use Rattle.sv_base.specs.declared.config.LnDef.{LnDef}
 use Rattle.cfg_text.specs.Names.{is_name}
