@@ -23,7 +23,7 @@ use Rattle.bay_model.specs.Configured.{kind_of}
 use Rattle.bay_model.specs.Generated.{Parameter, parameters}
 use Rattle.bay_model.specs.Kinds.{is_kind, is_in_range}
 use Rattle.bay_model.specs.Lookups.{attr_of}
-use Rattle.bay_model.specs.Model.{Attr, Model}
+use Rattle.bay_model.specs.Model.{Model}
 use Rattle.bay_model.specs.Named.{configured_model}
 use Rattle.bay_model.specs.NamedLines.{is_setting}
 use Rattle.bay_model.specs.Points.{Past, Point, Deed, valued}
@@ -39,10 +39,6 @@ use Rattle.trigger_core.specs.Points.{AreChanges, change_to}
 use Rattle.bay_core.specs.Changed.{given, last_set, change_from, AreMade, AreFit, IsValueOf, IsTyped, AreTyped}
 use Rattle.bay_config.specs.Servable.{attr_type}
 use Rattle.bay_core.specs.State.{AreHeld, IsSoundCell}
-
--- the trigger conditions that the object model gives are those of notes
-pub flags-same : (a : Attr) → tables.flags_of a ≡ points.flags_of a
-flags-same a = refl
 
 -- ---- the values stand
 
