@@ -15,7 +15,7 @@ use Rattle.bay_model.specs.Notes.{Kept}
 use Rattle.bay_model.specs.Reports.{member_of}
 use Rattle.bay_model.specs.Retained.{weight_of, kept_octets_of}
 use Rattle.data_sets.specs.Booked.{node_numbers}
-use Rattle.bay_core.specs.Kept.{weights}
+use Rattle.bay_core.specs.EntryOctets.{weights}
 use Rattle.bay_core.specs.Again.{IsOneElement, AreKept, reasons_in, reported}
 
 -- so many members are read, and the octets of the others are left

@@ -22,7 +22,7 @@ use Rattle.bay_model.specs.Attributes.{attributes}
 use Rattle.bay_rooms.specs.Kinds.{kind_of, is_kind, is_in_range}
 use Rattle.bay_model.specs.Generated.{Parameter, parameters}
 use Rattle.bay_model.specs.Lookups.{attr_of}
-use Rattle.bay_model.specs.Model.{Attr, Model}
+use Rattle.bay_model.specs.Model.{Model}
 use Rattle.bay_model.specs.Named.{configured_model}
 use Rattle.bay_model.specs.NamedLines.{is_setting}
 use Rattle.bay_model.specs.Points.{Past, Point, Deed, valued}
@@ -36,12 +36,8 @@ use Rattle.value_store.specs.Wholes.{Stands}
 use Rattle.trigger_core.specs.Points as points
 use Rattle.trigger_core.specs.Points.{AreChanges, change_to}
 use Rattle.bay_core.specs.Changed.{given, last_set, change_from, AreMade, AreFit, IsValueOf, IsTyped, AreTyped}
-use Rattle.bay_core.specs.Servable.{attr_type}
+use Rattle.bay_config.specs.Servable.{attr_type}
 use Rattle.bay_core.specs.State.{AreHeld, IsSoundCell}
-
--- the trigger conditions that the object model gives are those of notes
-pub flags-same : (a : Attr) → tables.flags_of a ≡ points.flags_of a
-flags-same a = refl
 
 -- ---- the values stand
 

@@ -1,9 +1,10 @@
 -- A point that opens or loses an association.
 use Rattle.std.proofs.Common.{◌≡◌, ℕ, suc, max, Bool, true, false, List, ◌∷◌, Option, None, Some, refl, ap, arith, ◌∙◌, sym, subst, ◌⊎◌}
-use Rattle.std.specs.Prelude.{slice_get, if◌then◌else◌, is_some, ◌==◌, ◌||◌}
+use Rattle.std.specs.Prelude.{if◌then◌else◌, is_some, ◌==◌, ◌||◌}
 use Rattle.std.specs.Option.{option_map, option_map_or}
 use Rattle.std.proofs.lemmas.Bool.Decides.{nat_tests}
-use Rattle.std.proofs.lemmas.Option.{slice_get-map}
+use Rattle.list_laws.proofs.Options.{some_is}
+use Rattle.list_laws.proofs.Places.{got-map}
 use Rattle.sv_base.specs.declared.config.Config.{Config}
 use Rattle.sv_base.specs.declared.numbers.AssocNo.{AssocNo}
 use Rattle.sv_base.specs.declared.numbers.ActorNo.{ActorNo}
@@ -23,7 +24,7 @@ use Rattle.assoc_table.specs.Standing.{Stands as AssociationsStand, ends_of}
 use Rattle.assoc_table.proofs.StandLaws.{stands-opened, stands-lost}
 use Rattle.bay_core.specs.declared.part.Part.{Part}
 use Rattle.bay_core.specs.Parting.{lost_by, after_loss_all}
-use Rattle.bay_core.specs.Servable.{IsServable}
+use Rattle.bay_config.specs.Servable.{IsServable}
 use Rattle.bay_core.specs.State.{State}
 use Rattle.bay_core.specs.Standing.{PartStands, PartsStand, StandsAt}
 use Rattle.bay_core.proofs.QuietLaws.{at_once-served, part-stays}
@@ -31,20 +32,11 @@ use Rattle.bay_core.proofs.MoveLaws.{moved, values-same, waits-none}
 
 -- ---- the ends of an association
 
-some-same : {A : Type 0} (x y : A) → Some x ≡ Some y → x ≡ y
-some-same x y is = cc
-
 pub open-told : (m : Model) (rows : List Row) (past : Past) (a : ℕ) → AssociationsStand rows m past → IsNumber a → is_some (row_of rows a).ends ≡ is_some (ends a past)
 open-told m rows past a st number = by (row_of rows a).ends (ends a past) (st.each a number).ends where
   by : (e : Option Ends) (f : Option model.Ends) → option_map ends_of e ≡ f → is_some e ≡ is_some f
   by None f is = ap is_some is
   by (Some e) f is = ap is_some is
-
-pub closed-told : (m : Model) (rows : List Row) (past : Past) (a : ℕ) → AssociationsStand rows m past → IsNumber a → option_map (λ (e : Ends). e.opener) (row_of rows a).ends ≡ None → ends a past ≡ None
-closed-told m rows past a st number none = by (row_of rows a).ends (ends a past) (st.each a number).ends none where
-  by : (e : Option Ends) (f : Option model.Ends) → option_map ends_of e ≡ f → option_map (λ (x : Ends). x.opener) e ≡ None → f ≡ None
-  by None f is none = sym is
-  by (Some e) f is none = cc
 
 -- opened by the one, with the other to take for it
 pub ends-told : (m : Model) (rows : List Row) (past : Past) (a : ℕ) (opener writer : ActorNo) → AssociationsStand rows m past → IsNumber a
@@ -100,13 +92,9 @@ block-lost m b n t a past s st = record {
   count = st.count;
 }
 
-got : {A B : Type 0} (f : A → B) (o : Option A) (y : B) → option_map f o ≡ Some y → (x : A) × (o ≡ Some x) × (f x ≡ y)
-got f None y is = cc
-got f (Some x) y is = (x, refl, cc)
-
 pub parts-lost : (c : Config) (n t : ℕ) (a : AssocNo) (past : Past) (parts : List Part) → IsServable c → PartsStand (configured_model c) past parts → PartsStand (configured_model c) (losing n t a.0 ∷ past) (after_loss_all a parts)
 parts-lost c n t a past parts served st = λ b part there.
-    let was = got (lost_by a) (slice_get parts b) part (sym (slice_get-map (lost_by a) parts b) ∙ there) in
+    let was = got-map (lost_by a) parts b part there in
     subst (λ q. PartStands (configured_model c) b (losing n t a.0 ∷ past) q) was.2
     (part-stays (configured_model c) b (losing n t a.0) past was.0 (at_once-served c b served) (st b was.0 was.1) (after_loss a was.0.block) refl refl refl refl
     (block-lost (configured_model c) b n t a past was.0.block (st b was.0 was.1).block))
@@ -138,7 +126,7 @@ pub opener-told : (m : Model) (rows : List Row) (past : Past) (a : ℕ) (opener 
 opener-told m rows past a opener st number one = by (row_of rows a).ends (ends a past) (st.each a number).ends one where
   by : (e : Option Ends) (f : Option model.Ends) → option_map ends_of e ≡ f → option_map (λ (x : Ends). x.opener) e ≡ Some opener → (g : model.Ends) × (f ≡ Some g) × (g.opener ≡ opener.0)
   by None f is one = cc
-  by (Some e) f is one = (ends_of e, sym is, ap (λ (o : ActorNo). o.0) (some-same e.opener opener one))
+  by (Some e) f is one = (ends_of e, sym is, ap (λ (o : ActorNo). o.0) (some_is e.opener opener one))
 
 pub opener-fault : (past : Past) (actor a : ℕ) (e : model.Ends) → ends a past ≡ Some e → (actor == e.opener) ≡ true → if_open (ends a past) a (λ f. actor == f.opener) None ≡ None
 opener-fault past actor a e is yours = rw (is, yours) refl

@@ -23,8 +23,8 @@ use Rattle.value_store.specs.Members.{member_octets}
 use Rattle.value_store.specs.Stored.{Stored}
 use Rattle.value_store.specs.Wholes.{Stands as ValuesStand, HasForm}
 use Rattle.value_store.proofs.WholeLaws.{member_is_whole}
-use Rattle.bay_core.specs.Kept.{no_shape, kept_of, note_octets, IsWritable}
-use Rattle.bay_core.specs.Servable.{IsServable, IsMember}
+use Rattle.bay_core.specs.EntryOctets.{no_shape, kept_of, note_octets, IsWritable}
+use Rattle.bay_config.specs.Servable.{IsServable, IsMember}
 use Rattle.bay_core.specs.Standing.{IsMemberKept}
 use Rattle.bay_core.specs.State.{AreHeld}
 use Rattle.bay_core.proofs.ShapeLaws.{AreServed, IsShapeOf, node_shape, node_shapes, member-shape}

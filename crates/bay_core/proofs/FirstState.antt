@@ -15,7 +15,7 @@ use Rattle.value_store.specs.Wholes.{Stands as ValuesStand}
 use Rattle.value_store.proofs.OpenedLaws.{opened_stands}
 use Rattle.bay_core.specs.declared.part.Part.{Part}
 use Rattle.bay_core.specs.Opened.{seen, part_defined}
-use Rattle.bay_core.specs.Servable.{IsServable}
+use Rattle.bay_config.specs.Servable.{IsServable}
 use Rattle.bay_core.specs.Standing.{StandsFor}
 use Rattle.bay_core.specs.State.{State, IsFurnished, AreHeld}
 use Rattle.bay_core.proofs.FirstValues.{opened-held}
@@ -29,7 +29,7 @@ furnished-first c stored parts mentions octets served values are note kept = rec
   count = sym (length-map parts seen) ∙ (ap length are ∙ length-map c.blocks (part_defined c));
   members = parts-members c parts are;
   note = note;
-  kept = kept;
+  entry = kept;
 }
 
 pub stands-first : (s : State) (c : Config) → IsServable c → s.config ≡ c → s.steps ≡ 0 → s.latest ≡ now [] → s.stored ≡ opened c

@@ -20,7 +20,7 @@ use Rattle.object_model.specs.Fits.{attr_types, is_sound}
 use Rattle.value_store.specs.Opened.{HasValue, value_in, stored_line, stored_twin, stored_control, stored_parameter, place_in, is_written, opened}
 use Rattle.value_store.specs.Stored.{Stored, no_attribute}
 use Rattle.value_store.proofs.OpenedLaws.{length_opened}
-use Rattle.bay_core.specs.Servable.{IsServable, HasSoundValues}
+use Rattle.bay_config.specs.Servable.{IsServable, HasSoundValues}
 use Rattle.bay_core.specs.State.{AreHeld, IsSoundCell}
 use Rattle.bay_core.proofs.ChangeLaws.{types-count}
 

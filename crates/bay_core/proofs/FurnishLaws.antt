@@ -2,13 +2,13 @@
 use Rattle.std.proofs.Common.{◌≡◌, ℕ, List, Some, ◌∙◌, map, ap, sym, inl, inr}
 use Rattle.std.specs.Prelude.{slice_get, slice_set}
 use Rattle.std.proofs.lemmas.List.{length-map, length-set}
+use Rattle.list_laws.proofs.Places.{got-map, got-set}
 use Rattle.sv_base.specs.declared.config.Config.{Config}
 use Rattle.bay_rooms.specs.Rooms.{Filled}
 use Rattle.bay_model.specs.declared.note.Mention.{Mention}
 use Rattle.value_store.specs.Stored.{Stored}
 use Rattle.bay_core.specs.declared.part.Part.{Part}
 use Rattle.bay_core.specs.State.{IsFurnished}
-use Rattle.bay_core.proofs.EachLaws.{got-map, got-set}
 
 module _ (c : Config) (stored : List Stored) (parts : List Part) (mentions : Filled Mention) (octets : Filled ℕ) (old : IsFurnished c stored parts mentions octets) where
   pub furnished-map : (f : Part → Part) → ((p : Part) → (f p).members ≡ p.members) → IsFurnished c stored (map f parts) mentions octets
@@ -18,7 +18,7 @@ module _ (c : Config) (stored : List Stored) (parts : List Part) (mentions : Fil
     count = length-map parts f ∙ old.count;
     members = λ b part there. (let was = got-map f parts b part there in ap (λ (p : Part). p.members.items) (sym was.2) ∙ (ap (λ v. v.items) (same was.0) ∙ old.members b was.0 was.1));
     note = old.note;
-    kept = old.kept;
+    entry = old.entry;
   }
 
   pub furnished-set : (i : ℕ) (x y : Part) → slice_get parts i ≡ Some x → y.members ≡ x.members → IsFurnished c stored (slice_set parts i y) mentions octets
@@ -31,5 +31,5 @@ module _ (c : Config) (stored : List Stored) (parts : List Part) (mentions : Fil
       | inr e ↦ old.members b part e.1
     ];
     note = old.note;
-    kept = old.kept;
+    entry = old.entry;
   }

@@ -1,11 +1,11 @@
 -- The next entries of blocks: the one that is offered first is that of the model.
-use Rattle.std.proofs.Common.{◌≡◌, ◌≤◌, ◌<◌, ℕ, zero, suc, ◌+◌, ◌-◌, max, Bool, true, false, List, [], ◌∷◌, length, map, drop, refl, sym, subst, ap, ◌∙◌, arith, inl, inr, ◌⊎◌}
+use Rattle.std.proofs.Common.{◌≡◌, ◌≤◌, ◌<◌, ℕ, suc, ◌+◌, ◌-◌, max, Bool, true, false, List, [], ◌∷◌, length, map, drop, refl, sym, subst, ap, ◌∙◌, arith, inl, inr, ◌⊎◌}
 use Rattle.std.specs.Prelude.{if◌then◌else◌, ◌&&◌, ◌==◌, nat_le, nat_lt, slice_get, Option, None, Some}
 use Rattle.std.specs.Option.{option_map, option_map_or, option_and_then}
 use Rattle.std.specs.List.{All}
 use Rattle.std.proofs.lemmas.Bool.Decides.{leb_tells}
 use Rattle.std.proofs.lemmas.Option.{slice_get-map}
-use Rattle.std.proofs.lemmas.List.Elements.{All-head, All-tail}
+use Rattle.list_laws.proofs.Places.{slice_get-drop, all-at}
 use Rattle.sv_base.specs.declared.numbers.AssocNo.{AssocNo}
 use Rattle.bay_model.specs.Model.{Model, Block}
 use Rattle.bay_model.specs.Points.{Past}
@@ -38,12 +38,6 @@ AreTold m past (Some o) (Some p) = IsTold m past o p
 AreTold m past None (Some p) = ⊥
 AreTold m past (Some o) None = ⊥
 
--- an element behind a beginning that is dropped
-pub slice_get-drop : {A : Type 0} (f j : ℕ) (xs : List A) → slice_get (drop f xs) j ≡ slice_get xs (f + j)
-slice_get-drop zero j xs = let same : j ≡ 0 + j = omega arith in ap (slice_get xs) same
-slice_get-drop (suc f) j [] = refl
-slice_get-drop (suc f) j (x ∷ xs) = slice_get-drop f j xs ∙ (let same : suc (f + j) ≡ suc f + j = omega arith in ap (slice_get (x ∷ xs)) same)
-
 -- the entry of a number above the front
 pub entry-found : (r : Ringed) (es : List Entry) (n : ℕ) → r.entries ≡ drop r.front (map held es) → r.newest ≡ length es → r.front < n → n ≤ length es
     → entry_at r n ≡ option_map held (slice_get es (n - 1))
@@ -55,11 +49,6 @@ entry-found r es n entries newest above within =
       both (inl a) (inl b) = rw (a.0, b.0) refl
       both (inr a) x = absurd (omega (arith, a.1, above))
       both (inl a) (inr b) = absurd (omega (arith, b.1, newest, within))
-
-all-at : {A : Type 0} (P : A → Type 0) (xs : List A) (n : ℕ) (x : A) → All P xs → slice_get xs n ≡ Some x → P x
-all-at P [] n x all is = cc
-all-at P (y ∷ ys) zero x all is = let same : y ≡ x = cc in subst P same (All-head P y ys all)
-all-at P (y ∷ ys) (suc n) x all is = all-at P ys n x (All-tail P y ys all) is
 
 enabled-same : (a : AssocNo) (kept : Option AssocNo) (e : Option ℕ) → option_map (λ (a : AssocNo). a.0) kept ≡ e → is_by a kept ≡ option_map_or (λ e. e == a.0) e false
 enabled-same a None e h = ap (λ e. option_map_or (λ e. e == a.0) e false) h

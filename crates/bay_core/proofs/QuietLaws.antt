@@ -1,10 +1,11 @@
 -- Points of a block that reports at once: its buffer time and its integrity period are 0. A point without an event brings no
 -- entry, and one with an event that of its note (IEC 61850-7-2, BRCB attributes BufTm and IntgPd).
-use Rattle.std.proofs.Common.{◌≡◌, ◌≤◌, ℕ, zero, suc, ◌+◌, max, Bool, true, false, not, List, [], ◌∷◌, ◌++◌, length, map, refl, sym, subst, ap, ◌∙◌, arith, inl, inr}
-use Rattle.std.specs.Prelude.{if◌then◌else◌, ◌&&◌, ◌==◌, nat_le, nat_lt, ◌-◌, ◌/◌, unwrap_or, slice_get}
+use Rattle.std.proofs.Common.{◌≡◌, ◌≤◌, ℕ, ◌+◌, max, Bool, true, false, not, List, [], ◌∷◌, ◌++◌, length, map, refl, sym, subst, ap, ◌∙◌, arith, inl, inr}
+use Rattle.std.specs.Prelude.{if◌then◌else◌, ◌&&◌, ◌==◌, nat_le, nat_lt, ◌-◌, ◌/◌}
 use Rattle.std.specs.List.{All}
 use Rattle.std.proofs.lemmas.List.Elements.{All-append, All-nil, All-cons, All-head, All-tail}
 use Rattle.std.proofs.lemmas.Bool.Decides.{leb_tells}
+use Rattle.list_laws.proofs.Places.{get-or}
 use Rattle.sv_base.specs.declared.config.Config.{Config}
 use Rattle.sv_base.specs.declared.config.BlockDef.{BlockDef}
 use Rattle.bay_model.specs.Model.{Model, Block, Parameters}
@@ -23,7 +24,7 @@ use Rattle.brcb_state.specs.Standing.{Stands as BlockStands}
 use Rattle.entry_ring.specs.Standing.{after_point}
 use Rattle.entry_ring.proofs.HoldLaws.{holds-point}
 use Rattle.bay_core.specs.declared.part.Part.{Part}
-use Rattle.bay_core.specs.Servable.{IsServable, IsServedBlock}
+use Rattle.bay_config.specs.Servable.{IsServable, IsServedBlock}
 use Rattle.bay_core.specs.Standing.{IsMemberKept, IsReadable, PartStands}
 use Rattle.bay_model.proofs.OpenGroup.{open_group-quiet, open_group-event}
 
@@ -47,17 +48,12 @@ integrity-none c b p (q ∷ before) h = period-none (parameters_at c b (q ∷ be
 at_or_before : (n m : ℕ) → n ≤ m → nat_le n m ≡ true
 at_or_before n m h = elim (leb_tells n m) [ inl t ↦ t.0 | inr t ↦ absurd (omega (arith, t.1, h)) ]
 
-looked-up : {A : Type 0} (P : A → Type 0) (other : A) (xs : List A) (n : ℕ) → P other → All P xs → P (unwrap_or (slice_get xs n) other)
-looked-up P other [] n h all = h
-looked-up P other (x ∷ xs) zero h all = All-head P x xs all
-looked-up P other (x ∷ xs) (suc n) h all = looked-up P other xs n h (All-tail P x xs all)
-
 abbrev HasNoTimes : Block → Type 0
 HasNoTimes k = AreAtOnce k.initial
 
 -- where all blocks report at once, so does a block of any number
 pub at_once-configured : (m : Model) (b : ℕ) → All HasNoTimes m.blocks → AreAtOnce (block_of m b).initial
-at_once-configured m b all = looked-up HasNoTimes (record { reference = []; initial = no_parameters; conf_rev = 1; capacity = 0 }) m.blocks b (record { buf_tm = refl; intg_pd = refl }) all
+at_once-configured m b all = get-or HasNoTimes m.blocks b (record { reference = []; initial = no_parameters; conf_rev = 1; capacity = 0 }) (record { buf_tm = refl; intg_pd = refl }) all
 
 served-blocks : (bs : List BlockDef) → All IsServedBlock bs → All HasNoTimes (map block_defined bs)
 served-blocks [] all = All-nil HasNoTimes

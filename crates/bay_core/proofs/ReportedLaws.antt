@@ -1,6 +1,7 @@
 -- The parts of a bay after a report: the block that gave it has moved on, and the others are as they were.
 use Rattle.std.proofs.Common.{◌≡◌, ◌≢◌, ℕ, List, ◌∷◌, refl, sym, subst, ◌∙◌, arith, inl, inr, ◌⊎◌, slice_set}
 use Rattle.std.specs.Prelude.{Some, slice_get}
+use Rattle.list_laws.proofs.Places.{got-set, same-number, other-number}
 use Rattle.bay_model.specs.Model.{Model}
 use Rattle.bay_model.specs.Lookups.{block_of}
 use Rattle.bay_model.specs.Points.{Point, Past, reported}
@@ -10,7 +11,6 @@ use Rattle.brcb_state.specs.Standing.{Stands as BlockStands}
 use Rattle.bay_core.specs.declared.part.Part.{Part}
 use Rattle.bay_core.specs.Standing.{PartStands, PartsStand}
 use Rattle.bay_core.proofs.QuietLaws.{AreAtOnce, part-stays}
-use Rattle.bay_core.proofs.EachLaws.{got-set, same-number, other-number}
 
 module _ (m : Model) (a n moment id : ℕ) (past : Past) where
   abbrev at : ℕ → Point

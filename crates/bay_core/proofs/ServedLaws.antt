@@ -2,7 +2,7 @@
 use Rattle.std.proofs.Common.{◌≡◌, ◌≤◌, ◌<◌, ℕ, List, [], ◌∷◌, length, map, get_or, refl, sym, ap, ◌∙◌, arith}
 use Rattle.std.specs.List.{All}
 use Rattle.std.proofs.lemmas.List.{length-map}
-use Rattle.std.proofs.lemmas.List.Elements.{All-nil, All-cons, All-head, All-tail}
+use Rattle.std.proofs.lemmas.List.Elements.{All-nil, All-cons, All-head, All-tail, All-map}
 use Rattle.std.proofs.lemmas.Option.{slice_get-get_or}
 use Rattle.sv_base.specs.declared.config.Config.{Config}
 use Rattle.sv_base.specs.declared.numbers.NodeId.{NodeId}
@@ -18,17 +18,13 @@ use Rattle.object_model.proofs.TableLaws.{count-rows, rows-are-nodes}
 use Rattle.data_sets.specs.Booked.{HasNumber, no_row, node_numbers, shape_of}
 use Rattle.data_sets.proofs.SetLaws.{numbers_of_shapes}
 use Rattle.bay_core.specs.Again.{AreNodes}
-use Rattle.bay_core.specs.Servable.{IsServable, IsMember}
+use Rattle.bay_config.specs.Servable.{IsServable, IsMember}
 use Rattle.bay_core.proofs.ShapeLaws.{served-set, members-same}
 use Rattle.bay_core.specs.State.{served_members}
 
 all-of : {A : Type 0} (P Q : A → Type 0) → ((x : A) → P x → Q x) → (xs : List A) → All P xs → All Q xs
 all-of P Q f [] all = All-nil Q
 all-of P Q f (x ∷ xs) all = All-cons Q x xs (f x (All-head P x xs all)) (all-of P Q f xs (All-tail P x xs all))
-
-all-map : {A B : Type 0} (P : B → Type 0) (f : A → B) (xs : List A) → All (λ x. P (f x)) xs → All P (map f xs)
-all-map P f [] all = All-nil P
-all-map P f (x ∷ xs) all = All-cons P (f x) (map f xs) (All-head (λ x. P (f x)) x xs all) (all-map P f xs (All-tail (λ x. P (f x)) x xs all))
 
 module _ (c : Config) (served : IsServable c) (b : ℕ) where
   abbrev IsThere : ℕ → Type 0
@@ -53,15 +49,15 @@ module _ (c : Config) (served : IsServable c) (b : ℕ) where
 
   -- the shapes of the members have their nodes
   pub served-nodes : node_numbers (served_members c b) ≡ mine
-  served-nodes = numbers_of_shapes (node_rows c) (map node_id mine) (all-map (HasNumber (node_rows c)) node_id mine (all-of IsThere (λ n. HasNumber (node_rows c) (node_id n)) row-number mine members-there)) ∙ ids-same mine
+  served-nodes = numbers_of_shapes (node_rows c) (map node_id mine) (All-map (HasNumber (node_rows c)) node_id mine (all-of IsThere (λ n. HasNumber (node_rows c) (node_id n)) row-number mine members-there)) ∙ ids-same mine
 
   pub served-few : length (served_members c b) ≤ 256
   served-few = omega (arith, length-map (map node_id mine) (shape_of (node_rows c)), length-map mine node_id, members-few)
 
   -- each shape is that of a node that is there
   pub shapes-there : AreNodes c (served_members c b)
-  shapes-there = all-map (λ (s : MemberShape). s.node.0 < length (nodes c)) (shape_of (node_rows c)) (map node_id mine)
-      (all-map (λ (n : NodeId). (shape_of (node_rows c) n).node.0 < length (nodes c)) node_id mine (all-of IsThere (λ n. (shape_of (node_rows c) (node_id n)).node.0 < length (nodes c)) (λ n h. omega (arith, h, row-number n h)) mine members-there))
+  shapes-there = All-map (λ (s : MemberShape). s.node.0 < length (nodes c)) (shape_of (node_rows c)) (map node_id mine)
+      (All-map (λ (n : NodeId). (shape_of (node_rows c) n).node.0 < length (nodes c)) node_id mine (all-of IsThere (λ n. (shape_of (node_rows c) (node_id n)).node.0 < length (nodes c)) (λ n h. omega (arith, h, row-number n h)) mine members-there))
 
   -- the members of the part are those of the block
   pub served-now : (past : Past) (shapes : List MemberShape) → shapes ≡ served_members c b → parameters_at (configured_model c) b past ≡ (block_of (configured_model c) b).initial → dynamic past ≡ []

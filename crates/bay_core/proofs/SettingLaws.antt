@@ -3,6 +3,7 @@ use Rattle.std.proofs.Common.{true, ◌≡◌, ℕ, suc, max, List, [], ◌∷�
 use Rattle.std.specs.Prelude.{slice_get}
 use Rattle.std.specs.List.{All, flat_map}
 use Rattle.std.proofs.lemmas.Option.{slice_get-get_or}
+use Rattle.list_laws.proofs.Places.{got-map}
 use Rattle.sv_base.specs.declared.config.Config.{Config}
 use Rattle.bay_model.specs.declared.flags.Change.{Change}
 use Rattle.bay_model.specs.declared.note.Mention.{Mention}
@@ -32,12 +33,11 @@ use Rattle.value_store.specs.Wholes.{Stands as ValuesStand}
 use Rattle.bay_core.specs.declared.part.Part.{Part}
 use Rattle.bay_core.specs.Changed.{last_set, AreMade, AreFit}
 use Rattle.bay_core.specs.Events.{mentions_of, with_note, after_event, after_events, IsReady, AreReady}
-use Rattle.bay_core.specs.Kept.{note_octets, IsWritable}
-use Rattle.bay_core.specs.Servable.{IsServable}
+use Rattle.bay_core.specs.EntryOctets.{note_octets, IsWritable}
+use Rattle.bay_config.specs.Servable.{IsServable}
 use Rattle.bay_core.specs.Standing.{IsMemberKept, PartStands, PartsStand, StandsAt, StandsFor}
 use Rattle.bay_core.specs.State.{State, AreHeld, IsFurnished, served_members}
 use Rattle.bay_core.proofs.ChangeLaws.{values-stand, are-changes, settings-there, typed-settings, held-after}
-use Rattle.bay_core.proofs.EachLaws.{got-map}
 use Rattle.bay_core.proofs.EventLaws.{note-kept, note-readable, all-writable}
 use Rattle.bay_core.proofs.FurnishLaws.{furnished-map}
 use Rattle.bay_core.proofs.MoveLaws.{moved, waits-none, accepted-as}
@@ -147,7 +147,7 @@ pub furnished-all : (c : Config) (old stored lent : List Stored) (parts : List P
     → IsFurnished c old parts mentions octets → AreHeld c stored → noted.room ≡ 256 → kept.room ≡ 129024 → IsFurnished c stored (after_events lent changes moment step parts) noted kept
 furnished-all c old stored lent parts mentions noted octets kept changes moment step was held note room =
     let f = furnished-map c old parts mentions octets was (after_event lent changes moment step) (λ p. same-members lent moment step p (mentions_of changes p)) in
-    record { servable = was.servable; values = held; count = f.count; members = f.members; note = note; kept = room }
+    record { servable = was.servable; values = held; count = f.count; members = f.members; note = note; entry = room }
 
 -- each part has room for its entry
 ready-at : (c : Config) (stored : List Stored) (b : ℕ) (part : Part) → IsServable c → AreHeld c stored → part.members.items ≡ served_members c b → IsReady stored part

@@ -24,7 +24,7 @@ use Rattle.object_model.specs.Tables.{node_type, node_id}
 use Rattle.object_model.proofs.TableLaws.{count-rows, rows-are-nodes}
 use Rattle.data_sets.specs.Booked.{no_row, shape_of, shapes_of}
 use Rattle.trigger_core.specs.Points.{AreShapes}
-use Rattle.bay_core.specs.Servable.{IsServable, IsServedSet, IsMember}
+use Rattle.bay_config.specs.Servable.{IsServable, IsServedSet, IsMember}
 
 -- ---- the nodes of a data set
 

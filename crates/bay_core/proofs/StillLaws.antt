@@ -10,7 +10,7 @@ use Rattle.bay_model.specs.Answers.{Turn, History, points, turned}
 use Rattle.bay_model.specs.Acceptance.{fault}
 use Rattle.assoc_table.proofs.StandLaws.{stands-other}
 use Rattle.bay_core.specs.declared.part.Part.{Part}
-use Rattle.bay_core.specs.Servable.{IsServable}
+use Rattle.bay_config.specs.Servable.{IsServable}
 use Rattle.bay_core.specs.State.{State}
 use Rattle.bay_core.specs.Standing.{PartStands, PartsStand, StandsAt, StandsFor, IsReadable}
 use Rattle.bay_core.proofs.QuietLaws.{at_once-served, part-point, quiet-selected, quiet-gathered}

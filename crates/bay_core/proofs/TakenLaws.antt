@@ -33,7 +33,7 @@ use Rattle.bay_core.specs.Again.{AreKept}
 use Rattle.bay_core.specs.Offers.{Offered, first_offered}
 use Rattle.bay_core.specs.Parting.{reported_by}
 use Rattle.bay_core.specs.Reporting.{report_by}
-use Rattle.bay_core.specs.Servable.{IsServable}
+use Rattle.bay_config.specs.Servable.{IsServable}
 use Rattle.bay_core.specs.Standing.{StandsAt, StandsFor}
 use Rattle.bay_core.specs.State.{State, served_members}
 use Rattle.bay_core.proofs.MoveLaws.{moved, accepted-as, values-same, waits-none}

@@ -1,9 +1,11 @@
 -- The Data of a member can be written, where each attribute has a value of its type.
-use Rattle.std.proofs.Common.{◌≡◌, ◌<◌, ◌≤◌, ℕ, zero, suc, true, List, [], ◌∷◌, ◌++◌, length, map, flat_map, filter, slice_index_or, refl, ap, sym, ◌∙◌, subst, arith, length-append}
+use Rattle.std.proofs.Common.{◌≡◌, ◌<◌, ◌≤◌, ℕ, true, List, [], ◌∷◌, ◌++◌, length, map, flat_map, filter, slice_index_or, ap, sym, ◌∙◌, subst, arith, length-append}
 use Rattle.std.specs.List.{All}
 use Rattle.std.proofs.lemmas.Bool.{leb-true, ltb-true, eqb-true}
 use Rattle.std.proofs.lemmas.List.{length-map}
 use Rattle.std.proofs.lemmas.List.Elements.{All-nil, All-cons, All-head, All-tail, All-append, All-map, All-filter}
+use Rattle.list_laws.proofs.Appended.{map-map}
+use Rattle.list_laws.proofs.Places.{at-or}
 use Rattle.ber_grammar.specs.Element.{IsTag}
 use Rattle.sv_base.specs.declared.config.AttrDef.{AttrDef}
 use Rattle.sv_base.specs.declared.config.Config.{Config}
@@ -33,26 +35,17 @@ use Rattle.value_store.specs.Written.{IsShort}
 use Rattle.value_store.proofs.LargestLaws.{member_within}
 use Rattle.value_store.proofs.WholeLaws.{attrs_of_form}
 use Rattle.bay_core.specs.Again.{IsOneElement}
-use Rattle.bay_core.specs.Kept.{IsWritable}
-use Rattle.bay_core.specs.Servable.{IsServable, IsMember, attr_type}
+use Rattle.bay_core.specs.EntryOctets.{IsWritable}
+use Rattle.bay_config.specs.Servable.{IsServable, IsMember, attr_type}
 use Rattle.bay_core.specs.State.{AreHeld}
 use Rattle.bay_core.proofs.OneElement.{member_is_one}
 use Rattle.bay_core.proofs.ShapeLaws.{IsShapeOf}
 
 -- ---- lists
 
-map-map : {A B C : Type 0} (f : B → C) (g : A → B) (xs : List A) → map f (map g xs) ≡ map (λ x. f (g x)) xs
-map-map f g [] = refl
-map-map f g (x ∷ xs) = ap (λ l. f (g x) ∷ l) (map-map f g xs)
-
 All-unmap : {A B : Type 0} (P : B → Type 0) (f : A → B) (xs : List A) → All P (map f xs) → All (λ x. P (f x)) xs
 All-unmap P f [] all = All-nil (λ x. P (f x))
 All-unmap P f (x ∷ xs) all = All-cons (λ x. P (f x)) x xs (All-head P (f x) (map f xs) all) (All-unmap P f xs (All-tail P (f x) (map f xs) all))
-
-at-or : {A : Type 0} (P : A → Type 0) (xs : List A) (i : ℕ) (d : A) → P d → All P xs → P (slice_index_or xs i d)
-at-or P [] i d h all = h
-at-or P (x ∷ xs) zero d h all = All-head P x xs all
-at-or P (x ∷ xs) (suc i) d h all = at-or P xs i d h (All-tail P x xs all)
 
 -- ---- the types of attributes
 

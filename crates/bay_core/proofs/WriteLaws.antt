@@ -2,6 +2,7 @@
 use Rattle.std.proofs.Common.{rules, ◌≡◌, ◌≢◌, ℕ, Bool, true, false, List, [], ◌∷◌, Some, Ok, refl, ap, arith, ◌∙◌, sym, subst, length, inl, inr, ap₂}
 use Rattle.std.specs.Prelude.{slice_get, slice_set, if◌then◌else◌, ◌==◌}
 use Rattle.std.proofs.lemmas.Grind.{common_steps}
+use Rattle.list_laws.proofs.Places.{got-set, other-number}
 use Rattle.sv_base.specs.declared.config.Config.{Config}
 use Rattle.sv_base.specs.declared.numbers.AssocNo.{AssocNo}
 use Rattle.sv_base.specs.declared.value.Value.{Value}
@@ -22,12 +23,11 @@ use Rattle.brcb_state.specs.declared.told.Effect.{Effect}
 use Rattle.brcb_state.proofs.WriteLaws.{stands-written}
 use Rattle.entry_ring.specs.Ringed.{after_purge}
 use Rattle.bay_core.specs.declared.part.Part.{Part}
-use Rattle.bay_core.specs.Offers.{kept_of}
+use Rattle.bay_core.specs.Offers.{retained_of}
 use Rattle.bay_core.specs.Parting.{write_answer, written_by}
-use Rattle.bay_core.specs.Servable.{IsServable}
+use Rattle.bay_config.specs.Servable.{IsServable}
 use Rattle.bay_core.specs.Standing.{PartStands, PartsStand}
 use Rattle.bay_core.proofs.QuietLaws.{at_once-served, quiet-selected, quiet-front, part-quiet, part-stays}
-use Rattle.bay_core.proofs.EachLaws.{got-set, other-number}
 
 -- the components that are written
 abbrev pub IsPlainComp : Comp → Type 0
@@ -43,7 +43,7 @@ effect-told ((true, code) ∷ ts) effect e is = cc
 effect-told ((false, code) ∷ ts) effect e is = effect-told ts effect e is
 
 -- whether a set is known doesn't matter to these
-known-same : (m : Model) (b : ℕ) (past : Past) (comp : Comp) (v : Value) (part : Part) → IsPlainComp comp → names_nothing (kept_of part) false comp v ≡ names_nothing (kept_of part) (is_known m past v) comp v
+known-same : (m : Model) (b : ℕ) (past : Past) (comp : Comp) (v : Value) (part : Part) → IsPlainComp comp → names_nothing (retained_of part) false comp v ≡ names_nothing (retained_of part) (is_known m past v) comp v
 known-same m b past comps.RptEna v part is = refl
 known-same m b past comps.EntryID v part is = refl
 known-same m b past comps.PurgeBuf v part is = refl
@@ -126,7 +126,7 @@ module _ (c : Config) (served : IsServable c) (n t : ℕ) (a : AssocNo) (b : ℕ
   pub part-wrote : (part : Part) (e : Effect) → PartStands m b past part → write_answer a comp v part ≡ Ok e → PartStands m b (p ∷ past) (written_by a comp v e part)
   part-wrote part e st is =
       let once = at_once-served c b served in
-      let e_is : e ≡ effect_of comp v part.block = effect-told (refusals a comp v (names_nothing (kept_of part) false comp v) part.block) (effect_of comp v part.block) e is in
+      let e_is : e ≡ effect_of comp v part.block = effect-told (refusals a comp v (names_nothing (retained_of part) false comp v) part.block) (effect_of comp v part.block) e is in
       let purge : is_purging e ≡ purges m b p.deed past = ap is_purging e_is ∙ (told m a b comp v n t past part.block st.block).purge in
       let here : front m b (arrival n t ∷ past) ≡ part.ring.front = quiet-front m b (arrival n t) past part once st refl refl refl ∙ sym st.ring.front in
       let block : BlockStands (written a comp v part.ring.front part.block) m b (p ∷ past) = subst (λ f. BlockStands (written a comp v f part.block) m b (p ∷ past)) here (stands-written m a b n t past comp v part.block st.block) in
@@ -152,6 +152,6 @@ module _ (c : Config) (served : IsServable c) (n t : ℕ) (a : AssocNo) (b : ℕ
   outcome-told part st =
       let once = at_once-served c b served in
       let there : BlockStands part.block m b (arrival n t ∷ past) = point-told m b (arrival n t) past part.block st.block in
-      let kept : kept_of part ≡ kept_at m b (arrival n t ∷ past) = ap₂ (λ f l. record { front = f; len = l }) (st.ring.front ∙ sym (quiet-front m b (arrival n t) past part once st refl refl refl)) (st.ring.newest ∙ ap length (sym (quiet-selected m b (arrival n t) past part once st refl refl))) in
-      let names : names_nothing (kept_of part) false comp v ≡ names_nothing (kept_at m b (arrival n t ∷ past)) (is_known m (arrival n t ∷ past) v) comp v = known-same m b (arrival n t ∷ past) comp v part plain ∙ ap (λ k. names_nothing k (is_known m (arrival n t ∷ past) v) comp v) kept in
+      let kept : retained_of part ≡ kept_at m b (arrival n t ∷ past) = ap₂ (λ f l. record { front = f; len = l }) (st.ring.front ∙ sym (quiet-front m b (arrival n t) past part once st refl refl refl)) (st.ring.newest ∙ ap length (sym (quiet-selected m b (arrival n t) past part once st refl refl))) in
+      let names : names_nothing (retained_of part) false comp v ≡ names_nothing (kept_at m b (arrival n t ∷ past)) (is_known m (arrival n t ∷ past) v) comp v = known-same m b (arrival n t ∷ past) comp v part plain ∙ ap (λ k. names_nothing k (is_known m (arrival n t ∷ past) v) comp v) kept in
       ap (λ x. outcome_of (wrote a.0 b comp v) (answer_to a comp v x part.block)) names ∙ answered m a b comp v (arrival n t ∷ past) part.block there

@@ -22,7 +22,7 @@ use Rattle.brcb_state.specs.declared.told.Effect.{Effect}
 use Rattle.assoc_table.proofs.StandLaws.{stands-other}
 use Rattle.bay_core.specs.declared.part.Part.{Part}
 use Rattle.bay_core.specs.Parting.{write_answer, written_by, without_effect, after_write}
-use Rattle.bay_core.specs.Servable.{IsServable}
+use Rattle.bay_config.specs.Servable.{IsServable}
 use Rattle.bay_core.specs.State.{State}
 use Rattle.bay_core.specs.Turns.{IsBuilt}
 use Rattle.bay_core.specs.Standing.{StandsAt, StandsFor}

@@ -17,7 +17,7 @@ use Rattle.object_model.specs.Fits.{is_sound}
 use Rattle.object_model.specs.Tables.{flags_of}
 use Rattle.value_store.specs.Stored.{Stored, attribute, with_value}
 use Rattle.trigger_core.specs.Noted.{change_of}
-use Rattle.bay_core.specs.Servable.{attr_type}
+use Rattle.bay_config.specs.Servable.{attr_type}
 
 -- an attribute with the value that it is given, if any
 abbrev pub given : Option Value → Stored → Stored

@@ -10,7 +10,7 @@ use Rattle.entry_ring.specs.Ringed.{after_entry}
 use Rattle.trigger_core.specs.Noted.{noted}
 use Rattle.value_store.specs.Stored.{Stored}
 use Rattle.bay_core.specs.declared.part.Part.{Part}
-use Rattle.bay_core.specs.Kept.{note_octets, IsWritable}
+use Rattle.bay_core.specs.EntryOctets.{note_octets, IsWritable}
 
 -- the members that the changes are events of, and why
 abbrev pub mentions_of : List Change → Part → List Mention

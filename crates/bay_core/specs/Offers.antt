@@ -5,7 +5,7 @@ use Rattle.std.specs.Option.{option_map, option_and_then}
 use Rattle.sv_base.specs.declared.numbers.AssocNo.{AssocNo}
 use Rattle.bay_model.specs.Reports.{Offer}
 use Rattle.brcb_state.specs.Changes.{next_to}
-use Rattle.brcb_state.specs.declared.told.Retained.{Retained}
+use Rattle.brcb_state.specs.declared.told.Kept.{Kept}
 use Rattle.brcb_state.specs.declared.told.Next.{Next}
 use Rattle.entry_ring.specs.Held.{Held}
 use Rattle.entry_ring.specs.Ringed.{entry_at}
@@ -18,11 +18,11 @@ pub record Offered : Type 0 where
   pub next : Next
   pub entry : Held
 
-abbrev pub kept_of : Part → Retained
-kept_of part = record { front = part.ring.front; len = part.ring.newest }
+abbrev pub retained_of : Part → Kept
+retained_of part = record { front = part.ring.front; len = part.ring.newest }
 
 abbrev pub offered_by : AssocNo → ℕ → Part → Option Offered
-offered_by a b part = option_and_then (λ (n : Next). option_map (λ (e : Held). record { block = b; next = n; entry = e }) (entry_at part.ring n.id)) (next_to a (kept_of part) part.block)
+offered_by a b part = option_and_then (λ (n : Next). option_map (λ (e : Held). record { block = b; next = n; entry = e }) (entry_at part.ring n.id)) (next_to a (retained_of part) part.block)
 
 abbrev pub earlier : Option Offered → Option Offered → Option Offered
 earlier None y = y

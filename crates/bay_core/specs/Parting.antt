@@ -9,7 +9,7 @@ use Rattle.brcb_state.specs.Standing.{is_purging}
 use Rattle.brcb_state.specs.declared.told.Effect.{Effect}
 use Rattle.entry_ring.specs.Ringed.{after_purge}
 use Rattle.bay_core.specs.declared.part.Part.{Part}
-use Rattle.bay_core.specs.Offers.{kept_of}
+use Rattle.bay_core.specs.Offers.{retained_of}
 
 abbrev pub lost_by : AssocNo → Part → Part
 lost_by a part = record part { block = after_loss a part.block }
@@ -27,7 +27,7 @@ without_effect (Err code) = Err code
 
 -- what a write is answered, of a component other than DatSet
 abbrev pub write_answer : AssocNo → Comp → Value → Part → Result Effect ℕ
-write_answer a comp v part = answer_to a comp v (names_nothing (kept_of part) false comp v) part.block
+write_answer a comp v part = answer_to a comp v (names_nothing (retained_of part) false comp v) part.block
 
 -- after an accepted write of this effect
 abbrev pub written_by : AssocNo → Comp → Value → Effect → Part → Part

@@ -17,7 +17,7 @@ use Rattle.data_sets.specs.Booked.{shapes_of}
 use Rattle.value_store.specs.Stored.{Stored, attribute}
 use Rattle.assoc_table.specs.Seats.{Row}
 use Rattle.bay_core.specs.declared.part.Part.{Part}
-use Rattle.bay_core.specs.Servable.{IsServable, attr_type}
+use Rattle.bay_config.specs.Servable.{IsServable, attr_type}
 
 pub record State : Type 0 where
   pub config : Config
@@ -50,4 +50,4 @@ pub record IsFurnished (c : Config) (stored : List Stored) (parts : List Part) (
   pub count : length parts ≡ length c.blocks
   pub members : (b : ℕ) (part : Part) → slice_get parts b ≡ Some part → part.members.items ≡ served_members c b
   pub note : mentions.room ≡ 256
-  pub kept : octets.room ≡ 129024
+  pub entry : octets.room ≡ 129024

@@ -25,7 +25,7 @@ impl Bay {
     ghost use Rattle.std.specs.Prelude.{◌≡◌, ◌<◌, ◌^◌, suc, max};
     ghost use Rattle.bay_model.specs.declared.step.Step.TheVariants as steps;
     ghost use Rattle.assoc_table.specs.Tables.{IsNumber};
-    ghost use Rattle.bay_core.specs.Servable.{IsServable};
+    ghost use Rattle.bay_config.specs.Servable.{IsServable};
     ghost use Rattle.bay_core.specs.Turns.{Does, IsCounted};
 
     /// One more step was made, at a moment.

@@ -5,7 +5,7 @@ use crate::values::Values;
 use assoc_table::Assocs;
 use bay_model::{Answer, Change, Fixed, Note, Output, Report};
 use object_model::Model;
-use sv_base::Moment;
+use sv_base::{AssocNo, Moment};
 
 /// A bay: its configuration and all that its steps came to. Contracts see the state that `specs/` defines.
 #[derive(Drop)]
@@ -19,8 +19,8 @@ pub struct Bay {
     /// The changes of the step that is being made; of no account between steps, as are the note and the octets of its entry.
     pub(crate) changes: Vec<Change>,
     pub(crate) note: Note,
-    pub(crate) kept: Fixed,
-    /// A report that is no longer needed, in whose room the next one is written; of no account either.
+    pub(crate) octets: Fixed,
+    /// A report that is no longer needed, in whose memory the next one is written; of no account either.
     pub(crate) spare: Option<Report>,
 }
 
@@ -36,11 +36,17 @@ impl std::marker::Model for Bay {
 
     ghost view = { λ b. record { config = b.model; steps = b.steps; latest = b.latest; stored = b.values; parts = b.parts.items; rows = b.associations } };
 
-    ghost invariant = { λ b. IsFurnished b.model b.values b.parts.items b.note b.kept };
+    ghost invariant = { λ b. IsFurnished b.model b.values b.parts.items b.note b.octets };
 }
 
 impl Bay {
-    ghost use Rattle.std.specs.Prelude.{◌≡◌};
+    ghost use Rattle.std.specs.Prelude.{◌≡◌, is_some};
+    ghost use Rattle.sv_base.specs.declared.config.Config.{Config};
+    ghost use Rattle.bay_model.specs.Answers.{History, points};
+    ghost use Rattle.bay_model.specs.Associations.{ends};
+    ghost use Rattle.bay_model.specs.Named.{configured_model};
+    ghost use Rattle.assoc_table.specs.Tables.{IsNumber, row_of};
+    ghost use Rattle.bay_core.specs.Standing.{StandsFor};
 
     /// How many steps were made.
     pub fn steps(&self) -> u64
@@ -56,7 +62,17 @@ impl Bay {
         &self.model
     }
 
-    /// Takes back an answer that is no longer needed: the next report is written in its room, as far as that goes. Nothing
+    /// An association is open.
+    pub fn is_open(&self, a: AssocNo) -> bool
+        requires { IsNumber a.0 }
+        ensures row { result ≡ is_some (row_of self.now.rows a.0).ends }
+        // So it is in the definitions, after every history that the bay stands for.
+        ensures defined { (c : Config) (h : History) → StandsFor self.now c h → result ≡ is_some (ends a.0 (points (configured_model c) h)) }
+    {
+        self.associations.is_open(a)
+    }
+
+    /// Takes back an answer that is no longer needed: the next report is written in its memory, as far as that goes. Nothing
     /// else depends on it.
     pub fn reuse(&mut self, answer: Answer)
         ensures { self.new ≡ self.old }

@@ -1,3 +1,5 @@
+//! Why a step is refused.
+
 use std::alloc::AllocError;
 use sv_base::AssocNo;
 use thiserror::Error;

@@ -7,10 +7,10 @@ ghost use Rattle.bay_model.specs.Notes.{Kept};
 ghost use Rattle.bay_model.specs.Reports.{member_of, reference_at};
 ghost use Rattle.bay_model.specs.Retained.{kept_octets_of};
 ghost use Rattle.data_sets.specs.Booked.{node_numbers};
-ghost use Rattle.bay_core.specs.Kept.{weights as weights_of};
+ghost use Rattle.bay_core.specs.EntryOctets.{weights as weights_of};
 ghost use Rattle.bay_core.specs.Again.{IsOneElement, AreKept, AreNodes, reasons_in, reference_by, reported, front_member, front_seen};
 
-use crate::room::{member_room, octets_in, put_member};
+use crate::spare::{copied_into, put_member, spare_member};
 use bay_model::{Member, MemberShape, Members, Reasons};
 use ber_view::first;
 use object_model::Model;
@@ -82,13 +82,13 @@ fn front_of(octets: &[u8]) -> Option<Front<'_>>
     }
 }
 
-/// The reference `LD/item` of a node, in the room of another.
-fn reference_of(room: Octs, model: &Model, node: NodeId) -> Result<Octs, AllocError>
+/// The reference `LD/item` of a node, in the memory of another.
+fn reference_of(spare: Octs, model: &Model, node: NodeId) -> Result<Octs, AllocError>
     requires { node.0 < length (nodes_of model.now) }
     ensures { IfOk result (λ o. o ≡ reference_at (configured_model model.now) node.0) }
 {
     let (domain, item) = (model.domain_of(node), model.item_of(node));
-    let mut octets = room.into_vec();
+    let mut octets = spare.into_vec();
     octets.clear();
     octets.reserve(domain.len() + 1 + item.len())?;
     octets.extend_from_slice(domain)?;
@@ -97,9 +97,9 @@ fn reference_of(room: Octs, model: &Model, node: NodeId) -> Result<Octs, AllocEr
     Ok(Octs::from_vec(octets))
 }
 
-/// The reference of a member of a data set, by its number from 1, in the room of another.
+/// The reference of a member of a data set, by its number from 1, in the memory of another.
 fn member_reference(
-    room: Octs,
+    spare: Octs,
     model: &Model,
     shapes: &[MemberShape],
     number: u32,
@@ -108,14 +108,14 @@ fn member_reference(
     ensures { IfOk result (λ o. o ≡ reference_by (configured_model model.now) (node_numbers shapes.now) number) }
 {
     match shapes.get((number as usize).saturating_sub(1)) {
-        Some(shape) => reference_of(room, model, shape.node),
-        None => octets_in(room, b""),
+        Some(shape) => reference_of(spare, model, shape.node),
+        None => Ok(Octs::from_vec(copied_into(spare.into_vec(), b"")?)),
     }
 }
 
-/// The member of a report, in the room of another.
+/// The member of a report, in the memory of another.
 fn member_from(
-    room: Member,
+    spare: Member,
     model: &Model,
     shapes: &[MemberShape],
     front: &Front<'_>,
@@ -125,33 +125,37 @@ fn member_from(
 {
     Ok(Member {
         number: MemberNo(front.number),
-        reference: member_reference(room.reference, model, shapes, front.number)?,
-        octets: octets_in(room.octets, front.octets)?,
+        reference: member_reference(spare.reference, model, shapes, front.number)?,
+        octets: Octs::from_vec(copied_into(spare.octets.into_vec(), front.octets)?),
         reasons: front.reasons,
     })
 }
 
-/// The members of a report, in the room of those of another, from the octets that a block keeps of an entry of a data set of
+/// The members of a report, in the memory of those of another, from the octets that a block keeps of an entry of a data set of
 /// these shapes, whose nodes are the model's. Of octets that are not kept ones nothing is said.
 pub(crate) fn members_of(
     alloc: Global,
     model: &Model,
     shapes: &[MemberShape],
     octets: &[u8],
-    room: Members,
+    spare: Members,
 ) -> Result<Members, AllocError>
     requires { AreNodes model.now shapes.now }
     ensures { IfOk result (λ members. (ks : List Kept) → AreKept octets.now ks → members ≡ reported model.now shapes.now ks) }
 {
-    let mut items = room.into_vec();
+    let mut items = spare.into_vec();
     // A member has at least six of the octets.
     let most = shapes.len().min(octets.len() / 6);
     items.reserve(most.saturating_sub(items.len()))?;
     let mut rest = octets;
     let mut count = 0;
     while let Some(front) = front_of(rest) {
-        let room = member_room(alloc, &mut items, count);
-        put_member(&mut items, count, member_from(room, model, shapes, &front)?)?;
+        let spare = spare_member(alloc, &mut items, count);
+        put_member(
+            &mut items,
+            count,
+            member_from(spare, model, shapes, &front)?,
+        )?;
         rest = front.rest;
         count += 1;
     }

@@ -8,7 +8,7 @@ ghost use Rattle.object_model.specs.Tables.{set_rows};
 ghost use Rattle.data_sets.specs.Booked.{shapes_of as shapes};
 ghost use Rattle.assoc_table.specs.Seats.{closed};
 ghost use Rattle.value_store.specs.Opened.{opened};
-ghost use Rattle.bay_core.specs.Servable.{IsServable, IsServedBlock};
+ghost use Rattle.bay_config.specs.Servable.{IsServable, IsServedBlock};
 ghost use Rattle.bay_core.specs.Standing.{StandsFor};
 ghost use Rattle.bay_core.specs.Opened.{row_referred, nodes_referred, seen, part_defined};
 
@@ -55,7 +55,11 @@ fn referred<'a>(rows: &'a [SetRow], reference: &[u8]) -> Option<&'a SetRow>
 }
 
 /// The shapes of the members of the data set that a block's DatSet names; none where it names none.
-fn members_of(alloc: Global, model: &Model, def: &BlockDef) -> Result<Vec<MemberShape>, AllocError>
+fn member_shapes(
+    alloc: Global,
+    model: &Model,
+    def: &BlockDef,
+) -> Result<Vec<MemberShape>, AllocError>
     requires { IsServable model.now }
     ensures { IfOk result (λ v. v.items ≡ shapes (node_rows model.now) (nodes_referred def.now.dat_set (set_rows model.now))) }
 {
@@ -71,7 +75,7 @@ fn part_of(alloc: Global, model: &Model, def: &BlockDef) -> Result<Part, AllocEr
     requires served { IsServedBlock def.now }
     ensures { IfOk result (λ p. seen p ≡ part_defined model.now def.now) }
 {
-    let members = members_of(alloc, model, def)?;
+    let members = member_shapes(alloc, model, def)?;
     Part::open(alloc, def, members)
 }
 
@@ -95,7 +99,7 @@ struct Made {
     associations: Assocs,
     changes: Vec<Change>,
     note: Note,
-    kept: Fixed,
+    octets: Fixed,
 }
 
 /// The values and the blocks as they are configured, no open association, and the room that notes and entries need.
@@ -105,7 +109,7 @@ fn parts_made(alloc: Global, model: &Model) -> Result<Made, AllocError>
     ensures parts { IfOk result (λ m. map seen m.parts.items ≡ map (part_defined model.now) model.now.blocks) }
     ensures associations { IfOk result (λ m. m.associations ≡ replicate 16 closed) }
     ensures note { IfOk result (λ m. m.note.room ≡ 256) }
-    ensures kept { IfOk result (λ m. m.kept.room ≡ 129024) }
+    ensures octets { IfOk result (λ m. m.octets.room ≡ 129024) }
 {
     Ok(Made {
         values: Values::open(alloc, model.config())?,
@@ -113,7 +117,7 @@ fn parts_made(alloc: Global, model: &Model) -> Result<Made, AllocError>
         associations: Assocs::open(alloc)?,
         changes: Vec::new(alloc),
         note: Note::new(alloc, 256)?,
-        kept: Fixed::new(alloc, 129024)?,
+        octets: Fixed::new(alloc, 129024)?,
     })
 }
 
@@ -124,7 +128,7 @@ fn begun(model: Model, made: Made) -> Bay
     requires parts { map seen made.parts.items ≡ map (part_defined model) model.blocks }
     requires associations { made.associations ≡ replicate 16 closed }
     requires note { made.note.room ≡ 256 }
-    requires kept { made.kept.room ≡ 129024 }
+    requires octets { made.octets.room ≡ 129024 }
     ensures config { result.config ≡ model }
     ensures steps { result.steps ≡ 0 }
     ensures stands { StandsFor result model [] }
@@ -138,14 +142,14 @@ fn begun(model: Model, made: Made) -> Bay
         associations: made.associations,
         changes: made.changes,
         note: made.note,
-        kept: made.kept,
+        octets: made.octets,
         spare: None,
     }
 }
 
 impl Bay {
     ghost use Rattle.std.specs.Prelude.{◌≡◌, [], IfOk};
-    ghost use Rattle.bay_core.specs.Servable.{IsServable};
+    ghost use Rattle.bay_config.specs.Servable.{IsServable};
     ghost use Rattle.bay_core.specs.Standing.{StandsFor};
 
     /// A bay of a model, with no step made. It takes the room that notes and entries need.

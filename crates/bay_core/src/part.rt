@@ -1,7 +1,7 @@
 //! One report block with its buffer and the members of its data set.
 
 use bay_model::{Comp, MemberShape};
-use brcb_state::{Block, Effect, Retained};
+use brcb_state::{Block, Effect, Kept};
 use entry_ring::Ring;
 use std::alloc::{AllocError, Global};
 use sv_base::{AssocNo, BlockDef, Value};
@@ -43,10 +43,10 @@ impl Part {
     }
 
     /// Which entries are retained.
-    pub(crate) fn kept(&self) -> Retained
+    pub(crate) fn retained(&self) -> Kept
         ensures { result ≡ record { front = self.now.ring.front; len = self.now.ring.newest } }
     {
-        Retained {
+        Kept {
             front: self.ring.front(),
             len: self.ring.len(),
         }
@@ -58,8 +58,8 @@ impl Part {
         ensures answer { result ≡ without_effect (write_answer a comp value.now self.old) }
         ensures written { self.new ≡ after_write a comp value.now self.old (write_answer a comp value.now self.old) }
     {
-        let kept = self.kept();
-        match self.block.write(a, comp, value, kept, false) {
+        let retained = self.retained();
+        match self.block.write(a, comp, value, retained, false) {
             Ok(effect) => {
                 self.settle(effect);
                 Ok(())

@@ -4,8 +4,8 @@ ghost use Rattle.std.specs.Prelude.{◌≡◌};
 ghost use Rattle.bay_core.specs.Events.{AreReady, after_events};
 
 use crate::bay::Bay;
+use crate::entry_octets::put_note;
 use crate::fault::StepFault;
-use crate::kept::put_note;
 use crate::part::Part;
 use bay_model::{Answer, Change, Fixed, Note, SetView, Sets};
 use sv_base::{ActorNo, Moment};
@@ -15,20 +15,27 @@ use value_store::Store;
 impl Part {
     ghost use Rattle.std.specs.Prelude.{◌≡◌, ◌≤◌, length};
     ghost use Rattle.std.specs.List.{All};
-    ghost use Rattle.bay_core.specs.Kept.{IsKeepable};
+    ghost use Rattle.bay_core.specs.EntryOctets.{IsKeepable};
     ghost use Rattle.bay_core.specs.Events.{IsReady, after_event, with_note};
 
     /// Keeps the entry of a note, if there is a member in it. It takes no memory.
-    fn keep(&mut self, store: &Store, moment: Moment, step: u64, mentions: &Note, kept: &mut Fixed)
+    fn keep(
+        &mut self,
+        store: &Store,
+        moment: Moment,
+        step: u64,
+        mentions: &Note,
+        octets: &mut Fixed,
+    )
         requires members { All (IsKeepable store.now self.old.members.items) mentions.now.items }
         requires few { length mentions.now.items ≤ 256 }
-        requires kept { kept.old.room ≡ 129024 }
+        requires entry { octets.old.room ≡ 129024 }
         ensures part { self.new ≡ with_note store.now moment step self.old mentions.now.items }
-        ensures kept { kept.new.room ≡ 129024 }
+        ensures entry { octets.new.room ≡ 129024 }
     {
         if !mentions.is_empty() {
-            put_note(store, &self.members, mentions.as_slice(), kept);
-            self.ring.append(moment, step, kept.as_slice());
+            put_note(store, &self.members, mentions.as_slice(), octets);
+            self.ring.append(moment, step, octets.as_slice());
         }
     }
 
@@ -41,20 +48,20 @@ impl Part {
         moment: Moment,
         step: u64,
         mentions: &mut Note,
-        kept: &mut Fixed,
+        octets: &mut Fixed,
     )
         requires ready { IsReady store.now self.old }
         requires note { mentions.old.room ≡ 256 }
-        requires kept { kept.old.room ≡ 129024 }
+        requires entry { octets.old.room ≡ 129024 }
         ensures part { self.new ≡ after_event store.now changes.now moment step self.old }
         ensures note { mentions.new.room ≡ 256 }
-        ensures kept { kept.new.room ≡ 129024 }
+        ensures entry { octets.new.room ≡ 129024 }
     {
         let set = SetView {
             members: &self.members,
         };
         note(changes, &set, self.block.trg(), mentions);
-        self.keep(store, moment, step, mentions, kept);
+        self.keep(store, moment, step, mentions, octets);
     }
 }
 
@@ -66,18 +73,18 @@ fn event_all(
     moment: Moment,
     step: u64,
     mentions: &mut Note,
-    kept: &mut Fixed,
+    octets: &mut Fixed,
 )
     requires ready { AreReady store.now parts.old.items }
     requires note { mentions.old.room ≡ 256 }
-    requires kept { kept.old.room ≡ 129024 }
+    requires entry { octets.old.room ≡ 129024 }
     ensures parts { parts.new.items ≡ after_events store.now changes.now moment step parts.old.items }
     ensures note { mentions.new.room ≡ 256 }
-    ensures kept { kept.new.room ≡ 129024 }
+    ensures entry { octets.new.room ≡ 129024 }
 {
     let mut place = 0;
     while place < parts.len() {
-        parts[place].event(store, changes, moment, step, mentions, kept);
+        parts[place].event(store, changes, moment, step, mentions, octets);
         place += 1;
     }
 }
@@ -114,7 +121,7 @@ impl Bay {
             self.latest.later(moment),
             self.steps,
             &mut self.note,
-            &mut self.kept,
+            &mut self.octets,
         );
         self.advance(moment);
         Ok(Answer::Went)

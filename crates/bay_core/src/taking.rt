@@ -12,13 +12,13 @@ use crate::bay::Bay;
 use crate::fault::StepFault;
 use crate::members::members_of;
 use crate::part::Part;
-use crate::room::{bits_in, empty_report, octets_in};
+use crate::spare::{copied_into, empty_report};
 use bay_model::{Answer, MemberShape, Members, Output, Report};
 use brcb_state::Next;
 use entry_ring::Entry;
 use object_model::Model;
 use std::alloc::{AllocError, Global};
-use sv_base::{ActorNo, AssocNo, BlockNo, Moment};
+use sv_base::{ActorNo, AssocNo, Bits, BlockNo, Moment, Octs};
 
 /// An entry that may be reported next: its block, how it is reported, and what is kept of it.
 #[derive(Clone, Copy, Debug)]
@@ -33,7 +33,7 @@ fn offer_of<'a>(part: &'a Part, block: usize, a: AssocNo) -> Option<Offer<'a>>
     ensures offer { option_map offered result ≡ offered_by a block part.now }
     ensures block { IfSome result (λ o. o.block ≡ block) }
 {
-    let Some(next) = part.block.next(a, part.kept()) else {
+    let Some(next) = part.block.next(a, part.retained()) else {
         return None;
     };
     match part.ring.entry(next.id) {
@@ -79,46 +79,46 @@ fn whole_of(alloc: Global, entry: &Entry<'_>) -> Result<Vec<u8>, AllocError>
     Ok(octets)
 }
 
-/// The members of the report of an entry, of a data set of these shapes, in the room of those of another. Octets that lie in
+/// The members of the report of an entry, of a data set of these shapes, in the memory of those of another. Octets that lie in
 /// one row are read where they are.
 fn members_in(
     alloc: Global,
     model: &Model,
     shapes: &[MemberShape],
     entry: &Entry<'_>,
-    room: Members,
+    spare: Members,
 ) -> Result<Members, AllocError>
     requires { AreNodes model.now shapes.now }
     ensures { IfOk result (λ members. (ks : List Kept) → AreKept (entry.now.first.now ++ entry.now.second.now) ks → members ≡ reported model.now shapes.now ks) }
 {
     if entry.second.is_empty() {
-        return members_of(alloc, model, shapes, entry.first, room);
+        return members_of(alloc, model, shapes, entry.first, spare);
     }
     let octets = whole_of(alloc, entry)?;
-    members_of(alloc, model, shapes, &octets, room)
+    members_of(alloc, model, shapes, &octets, spare)
 }
 
-/// The report of an offer by its block, whose data set has nodes of the model, in the room of another report.
+/// The report of an offer by its block, whose data set has nodes of the model, in the memory of another report.
 pub(crate) fn report_of(
     alloc: Global,
     model: &Model,
     part: &Part,
     offer: &Offer<'_>,
-    room: Report,
+    spare: Report,
 ) -> Result<Report, AllocError>
     requires block { offer.now.block ≤ 4294967295 }
     requires few { length part.now.members.items ≤ 4294967295 }
     requires nodes { AreNodes model.now part.now.members.items }
     ensures { IfOk result (λ r. (ks : List Kept) → AreKept (offered offer.now).entry.kept ks → r ≡ report_by (configured_model model.now) part.now (offered offer.now) ks) }
 {
-    let members = members_in(alloc, model, &part.members, &offer.entry, room.members)?;
+    let members = members_in(alloc, model, &part.members, &offer.entry, spare.members)?;
     Ok(Report {
         block: BlockNo(offer.block as u32),
-        rpt_id: octets_in(room.rpt_id, part.block.report_id())?,
-        opt_flds: bits_in(room.opt_flds, part.block.opt_flds())?,
+        rpt_id: Octs::from_vec(copied_into(spare.rpt_id.into_vec(), part.block.report_id())?),
+        opt_flds: Bits::from_vec(copied_into(spare.opt_flds.into_vec(), part.block.opt_flds())?),
         sq: offer.next.sq,
         time: offer.entry.moment,
-        dat_set: octets_in(room.dat_set, part.block.dat_set())?,
+        dat_set: Octs::from_vec(copied_into(spare.dat_set.into_vec(), part.block.dat_set())?),
         ovfl: offer.next.ovfl,
         id: offer.next.id,
         conf_rev: part.block.conf_rev(),
@@ -157,8 +157,8 @@ impl Bay {
             self.advance(moment);
             return Ok(Answer::Empty);
         };
-        let room = self.spare.take().unwrap_or_else(|| empty_report(alloc));
-        let report = match report_of(alloc, &self.model, &self.parts[offer.block], &offer, room) {
+        let spare = self.spare.take().unwrap_or_else(|| empty_report(alloc));
+        let report = match report_of(alloc, &self.model, &self.parts[offer.block], &offer, spare) {
             Ok(report) => report,
             Err(_) => return Err(StepFault::Memory),
         };

@@ -1,7 +1,7 @@
 //! What writes of a report block's components are answered, and which report is next.
 
 use bay_model::Comp;
-use brcb_state::{Block, Effect, Retained, Next};
+use brcb_state::{Block, Effect, Kept, Next};
 use std::alloc::{AllocError, Global};
 use std::process::Abort;
 use std::test::*;
@@ -39,8 +39,8 @@ fn block(alloc: Global) -> Result<Block, AllocError> {
     Block::open(alloc, &def)
 }
 
-fn kept(front: u64, len: u64) -> Retained {
-    Retained { front, len }
+fn kept(front: u64, len: u64) -> Kept {
+    Kept { front, len }
 }
 
 fn next(id: u64, ovfl: bool, sq: u16) -> Option<Next> {
@@ -75,7 +75,7 @@ fn enable(a: AssocNo, on: bool, answer: Result<Effect, u8>) -> Trial {
 }
 
 /// Makes the writes in order, with these entries.
-fn write(rt: &impl Abort, block: &mut Block, kept: Retained, rows: &[Trial]) -> Result<(), Fail> {
+fn write(rt: &impl Abort, block: &mut Block, kept: Kept, rows: &[Trial]) -> Result<(), Fail> {
     for row in rows {
         let answer = block.write(row.a, row.comp, &row.value, kept, false);
         assert_eq!(rt; answer, row.answer, "{:?} {:?}", row.comp, row.value);

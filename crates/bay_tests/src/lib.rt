@@ -26,3 +26,7 @@ mod sets;
 mod triggers;
 #[cfg(test)]
 mod values;
+
+// the whole bay
+#[cfg(test)]
+mod bay;

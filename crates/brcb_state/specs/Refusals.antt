@@ -12,7 +12,7 @@ use Rattle.bay_model.specs.Breaks.{is_empty}
 use Rattle.bay_model.specs.Blocks.{entry_id}
 use Rattle.bay_model.specs.BlockWrites.{is_written}
 use Rattle.brcb_state.specs.declared.block.Block.{Block}
-use Rattle.brcb_state.specs.declared.told.Retained.{Retained}
+use Rattle.brcb_state.specs.declared.told.Kept.{Kept}
 use Rattle.brcb_state.specs.declared.told.Effect.{Effect}
 use Rattle.brcb_state.specs.Changes.{is_by, is_by_another, effect_of}
 
@@ -29,7 +29,7 @@ contradicts comps.GI (kinds.Bool on) s = on && not (bit 5 s.options.trg_ops)
 contradicts _ v s = false
 
 -- the entry of a number is retained, or the number is zero
-abbrev pub is_retained_or_zero : Retained → ℕ → Bool
+abbrev pub is_retained_or_zero : Kept → ℕ → Bool
 is_retained_or_zero kept n = (n == 0) || (nat_lt kept.front n && nat_le n kept.len)
 
 -- a DatSet that is neither empty nor, as known says, that of a set
@@ -38,11 +38,11 @@ is_no_set known (kinds.Text t) = not (is_empty t) && not known
 is_no_set known _ = false
 
 -- an EntryID that is neither zero nor that of a retained entry
-abbrev pub is_no_entry : Retained → Value → Bool
+abbrev pub is_no_entry : Kept → Value → Bool
 is_no_entry kept (kinds.Octets o) = not (is_retained_or_zero kept (entry_id o))
 is_no_entry kept _ = false
 
-abbrev pub names_nothing : Retained → Bool → Comp → Value → Bool
+abbrev pub names_nothing : Kept → Bool → Comp → Value → Bool
 names_nothing kept known comps.DatSet v = is_no_set known v
 names_nothing kept known comps.EntryID v = is_no_entry kept v
 names_nothing kept known _ v = false

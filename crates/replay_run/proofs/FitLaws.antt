@@ -23,7 +23,7 @@ use Rattle.cfg_text.specs.Values.{value_at}
 use Rattle.cfg_text.specs.Grammar.{IsOfType}
 use Rattle.cfg_text.proofs.OptionLaws.{some_is}
 use Rattle.cfg_text.proofs.TellLaws.{value-tells}
-use Rattle.bay_core.proofs.ValueLaws.{of-kind, sound, in-range}
+use Rattle.text_configs.proofs.ValueLaws.{of-kind, sound, in-range}
 use Rattle.run_record.specs.declared.pairs.Pair.{Pair}
 use Rattle.replay_run.specs.Settings.{number_at, typed_at, setting, setting_of, setting_at, behind_those, settings_from, settings_at}
 

@@ -6,8 +6,8 @@ use Rattle.sv_base.specs.declared.config.Config.{Config}
 use Rattle.sv_base.specs.declared.config.BlockDef.{BlockDef}
 use Rattle.cfg_text.specs.Looking.{config_at}
 use Rattle.cfg_text.proofs.WholeLaws.{config-told}
-use Rattle.bay_core.specs.Servable.{IsServable}
-use Rattle.bay_core.proofs.ServableLaws.{texts-are-served}
+use Rattle.bay_config.specs.Servable.{IsServable}
+use Rattle.text_configs.proofs.ServableLaws.{texts-are-served}
 
 pub served : (text : List ℕ) (c : Config) → config_at text ≡ Ok c → c.controls ≡ [] → c.groups ≡ [] → All (λ (b : BlockDef). (b.buf_tm ≡ 0) × (b.intg_pd ≡ 0)) c.blocks → IsServable c
 served text c read controls groups blocks = texts-are-served text c (config-told text c read) controls groups blocks

@@ -1,18 +1,29 @@
 //! Tests of the codecs and of the stack on octets from outside.
 #![tactic(auto)]
 
-// The layers, from the lowest.
-#[cfg(test)]
-mod acse;
+// BER (ITU-T X.690)
 #[cfg(test)]
 mod ber;
+
+// MMS Data and PDUs (ISO 9506-2)
 #[cfg(test)]
-mod session;
+mod data;
 #[cfg(test)]
-mod stack;
+mod pdu;
+
+// the layers of the stack, from the lowest
 #[cfg(test)]
 mod transport;
 
-// Octets written as text.
+#[cfg(test)]
+mod session;
+
+#[cfg(test)]
+mod acse;
+
+#[cfg(test)]
+mod stack;
+
+// octets written as text
 #[cfg(test)]
 mod spelled;

@@ -9,7 +9,7 @@ pub loop-front-preserved : goal.loop-front-preserved
 loop-front-preserved c =
     let count = c.loop-front.count in
     let member = c.in_ok-member_from.field-0 in
-    let grown = c.in_ok-put_member.ensures.up_to ∙ ap (λ (l : List Member). l ++ member ∷ []) c.member_room-room.ensures.before in
+    let grown = c.in_ok-put_member.ensures.up_to ∙ ap (λ (l : List Member). l ++ member ∷ []) c.spare_member-spare.ensures.before in
     record {
       within = omega (arith, c.in_ok-put_member.ensures.there);
       read = λ ks are.

@@ -4,7 +4,7 @@ use Rattle.bay_core.specs.Again.{AreKept}
 use Rattle.bay_core.proofs.AgainLaws.{Halfway}
 use Rattle.bay_core.proofs.members.members_of.Given as goal
 
--- so many members are read; what stands behind them is the room's
+-- so many members are read; what stands behind them is the spare's
 abbrev pub invariant-loop-front : goal.invariant-loop-front
 invariant-loop-front l = record {
   within : l.count ≤ length l.items.items;

@@ -11,5 +11,5 @@ loop-place-preserved c =
       parts = ap (slice_set c.loop-place.parts.items c.loop-place.place) c.event.ensures.part ∙ done.0;
       within = done.1;
       note = c.event.ensures.note;
-      kept = c.event.ensures.kept;
+      entry = c.event.ensures.entry;
     }

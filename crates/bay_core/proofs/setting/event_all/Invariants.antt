@@ -8,7 +8,7 @@ invariant-loop-place l = record {
   parts : l.parts.items ≡ map (after_event l.fn.store l.fn.changes l.fn.moment l.fn.step) (take l.place l.fn.parts.items) ++ drop l.place l.fn.parts.items;
   within : l.place ≤ length l.fn.parts.items;
   note : l.mentions.room ≡ 256;
-  kept : l.kept.room ≡ 129024;
+  entry : l.octets.room ≡ 129024;
 }
 
 abbrev pub decreases-loop-place : goal.decreases-loop-place

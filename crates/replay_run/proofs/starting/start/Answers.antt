@@ -1,5 +1,5 @@
 use Rattle.std.proofs.Common.{subst, sym, ◌∙◌}
-use Rattle.bay_core.specs.Servable.{IsServable}
+use Rattle.bay_config.specs.Servable.{IsServable}
 use Rattle.replay_run.proofs.StartLaws.{is_served, settable}
 use Rattle.replay_run.proofs.starting.start.Goals as goal
 

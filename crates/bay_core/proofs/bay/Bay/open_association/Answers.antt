@@ -4,7 +4,7 @@ use Rattle.bay_model.specs.declared.step.Step.TheVariants as steps
 use Rattle.bay_model.specs.Answers.{points}
 use Rattle.bay_model.specs.Associations.{ends}
 use Rattle.bay_model.specs.Named.{configured_model}
-use Rattle.bay_core.specs.Servable.{IsServable}
+use Rattle.bay_config.specs.Servable.{IsServable}
 use Rattle.bay_core.specs.Standing.{StandsFor}
 use Rattle.bay_core.proofs.MoveLaws.{accepted-as}
 use Rattle.bay_core.proofs.EndLaws.{open-told, open-fault, opened-at}

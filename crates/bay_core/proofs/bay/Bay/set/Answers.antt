@@ -26,9 +26,9 @@ event_all-requires-clause-ready c =
 pub invariant_of-self-2 : goal.invariant_of-self-2
 invariant_of-self-2 c =
     let held = held-set c.args.self.now c.self.inside.model c.self.inside.values c.set.new.self c.args.sets.now c.as_slice.result.now (ap (λ (s : State). s.config) c.self.view_is) c.requires.fits c.self.invariant.values c.as_slice.ensures c.set.ensures.set c.set.ensures.count in
-    subst (λ ps. IsFurnished c.self.inside.model c.set.new.self ps c.event_all.new.mentions c.event_all.new.kept) (sym c.event_all.ensures.parts)
-    (furnished-all c.self.inside.model c.self.inside.values c.set.new.self c.store.result.now c.self.inside.parts.items c.self.inside.note c.event_all.new.mentions c.self.inside.kept c.event_all.new.kept c.as_slice-2.result.now c.later.result c.self.inside.steps
-    c.self.invariant held c.event_all.ensures.note c.event_all.ensures.kept)
+    subst (λ ps. IsFurnished c.self.inside.model c.set.new.self ps c.event_all.new.mentions c.event_all.new.octets) (sym c.event_all.ensures.parts)
+    (furnished-all c.self.inside.model c.self.inside.values c.set.new.self c.store.result.now c.self.inside.parts.items c.self.inside.note c.event_all.new.mentions c.self.inside.octets c.event_all.new.octets c.as_slice-2.result.now c.later.result c.self.inside.steps
+    c.self.invariant held c.event_all.ensures.note c.event_all.ensures.entry)
 
 pub returns-clause-does : goal.returns-clause-does
 returns-clause-does c = λ c' h was.

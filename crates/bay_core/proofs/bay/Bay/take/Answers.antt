@@ -10,7 +10,7 @@ use Rattle.bay_core.specs.Again.{AreKept, AreNodes}
 use Rattle.bay_core.specs.Offers.{first_offered}
 use Rattle.bay_core.specs.Parting.{reported_by}
 use Rattle.bay_core.specs.Reporting.{offered, report_by}
-use Rattle.bay_core.specs.Servable.{IsServable}
+use Rattle.bay_config.specs.Servable.{IsServable}
 use Rattle.bay_core.specs.Standing.{StandsFor}
 use Rattle.bay_core.specs.State.{State, served_members}
 use Rattle.bay_core.proofs.FurnishLaws.{furnished-set}
@@ -35,7 +35,7 @@ report_of-requires-clause-nodes c = subst (AreNodes c.self.inside.model) (sym (s
 pub invariant_of-self-2 : goal.invariant_of-self-2
 invariant_of-self-2 c =
     let within = subst (λ (ps : List Part). c.in-Some-first_offer.offer.block < length ps) c.deref.ensures.value c.in-Some-first_offer.ensures.within in
-    furnished-set c.self.inside.model c.self.inside.values c.self.inside.parts.items c.self.inside.note c.self.inside.kept c.self.invariant c.in-Some-first_offer.offer.block c.index_mut.result.now
+    furnished-set c.self.inside.model c.self.inside.values c.self.inside.parts.items c.self.inside.note c.self.inside.octets c.self.invariant c.in-Some-first_offer.offer.block c.index_mut.result.now
     (record { block = c.sent.new.self; ring = c.index_mut.result.now.ring; members = c.index_mut.result.now.members })
     (at-place c.self.inside.parts.items c.in-Some-first_offer.offer.block c.index_mut.result.now within c.index_mut.ensures.value) refl
 

@@ -4,7 +4,7 @@ use Rattle.bay_model.specs.declared.answer.Answer.TheVariants as answers
 use Rattle.bay_model.specs.Answers.{points}
 use Rattle.bay_model.specs.Named.{configured_model}
 use Rattle.bay_core.specs.Parting.{write_answer}
-use Rattle.bay_core.specs.Servable.{IsServable}
+use Rattle.bay_config.specs.Servable.{IsServable}
 use Rattle.bay_core.specs.Standing.{StandsFor}
 use Rattle.bay_core.proofs.FurnishLaws.{furnished-set}
 use Rattle.bay_core.proofs.EndLaws.{opener-told, opener-fault, same-number-told}
@@ -15,7 +15,7 @@ there : (c : goal.After-self-1) → slice_get c.self.inside.parts.items c.args.b
 there c = at-place c.self.inside.parts.items c.args.b.0 c.index_mut.result.now (omega (arith, c.self.invariant.count, subst (λ s. c.args.b.0 < length s.config.blocks) (sym c.self.view_is) c.requires.block)) c.index_mut.ensures.value
 
 pub invariant_of-self : goal.invariant_of-self
-invariant_of-self c = furnished-set c.self.inside.model c.self.inside.values c.self.inside.parts.items c.self.inside.note c.self.inside.kept c.self.invariant c.args.b.0 c.index_mut.result.now c.write-answer.new.self (there c)
+invariant_of-self c = furnished-set c.self.inside.model c.self.inside.values c.self.inside.parts.items c.self.inside.note c.self.inside.octets c.self.invariant c.args.b.0 c.index_mut.result.now c.write-answer.new.self (there c)
     (ap (λ p. p.members) c.write-answer.ensures.written ∙ members-stay c.args.a c.args.comp c.args.value.now c.index_mut.result.now (write_answer c.args.a c.args.comp c.args.value.now c.index_mut.result.now))
 
 pub returns-clause-does : goal.returns-clause-does

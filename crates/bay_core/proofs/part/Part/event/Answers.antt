@@ -6,7 +6,7 @@ use Rattle.bay_model.specs.declared.tables.MemberShape.{MemberShape}
 use Rattle.bay_rooms.specs.Rooms.{Filled}
 use Rattle.brcb_state.specs.Components.{trg_of}
 use Rattle.trigger_core.specs.Noted.{noted}
-use Rattle.bay_core.specs.Kept.{IsKeepable}
+use Rattle.bay_core.specs.EntryOctets.{IsKeepable}
 use Rattle.bay_core.specs.Events.{mentions_of}
 use Rattle.bay_core.proofs.MentionLaws.{noted-keepable, length-noted}
 use Rattle.bay_core.proofs.part.Part.event.Goals as goal

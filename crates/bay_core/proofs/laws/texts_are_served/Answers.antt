@@ -1,6 +1,0 @@
-use Rattle.cfg_text.proofs.WholeLaws.{config-told}
-use Rattle.bay_core.proofs.ServableLaws.{texts-are-served}
-use Rattle.bay_core.proofs.laws.texts_are_served.Goals as goal
-
-pub returns : goal.returns
-returns e = λ text c is. texts-are-served text c (config-told text c is)

@@ -1,0 +1,166 @@
+-- Below a functional constraint of a logical node stand the attributes of it alone.
+use Rattle.std.proofs.Common.{◌≡◌, ℕ, ◌+◌, ◌≤◌, ◌==◌, ◌⊎◌, inl, inr, true, false, List, [], ◌∷◌, ◌++◌, length, map, flat_map, refl, sym, ap, subst, ◌∙◌, arith, append_assoc, append-nil, suc, true≢false, length-append}
+use Rattle.std.specs.Prelude.{codes}
+use Rattle.std.proofs.lemmas.Bool.Decides.{eqb_tells}
+use Rattle.sv_base.specs.declared.config.Config.{Config}
+use Rattle.sv_base.specs.declared.config.AttrDef.{AttrDef}
+use Rattle.sv_base.specs.declared.config.BlockDef.{BlockDef}
+use Rattle.sv_base.specs.declared.types.TypeOf.{TypeOf}
+use Rattle.bay_model.specs.Attributes.{attributes, attrs_defined, attrs_generated, twins}
+use Rattle.bay_model.specs.Model.{attribute}
+use Rattle.bay_model.specs.Generated.{Named, end_named}
+use Rattle.bay_model.specs.ComponentTable.{comp_name}
+use Rattle.bay_model.specs.NamedLines.{path_item}
+use Rattle.bay_model.specs.NamedLines as named
+use Rattle.bay_model.specs.NameTree.{first_name, rest_of, is_itself, below}
+use Rattle.cfg_text.specs.Names.{is_name}
+use Rattle.cfg_text.specs.Contents.{is_fc}
+use Rattle.cfg_text.specs.Sizes.{children}
+use Rattle.bay_model.specs.Slots.{IsSettable}
+use Rattle.bay_config.specs.Servable.{attr_type}
+use Rattle.list_laws.proofs.Among.{Among, At, at-among, at-within, at-same}
+use Rattle.text_configs.proofs.JoinedLaws.{ArePlain, joined, first, rest, first-joined, rest-joined, rest-alone, first-before, rest-before, joined-behind}
+use Rattle.text_configs.proofs.NamedLaws.{IsBelow, below-of}
+use Rattle.text_configs.proofs.EntryLaws.{Entry, entry, named_of, same-entry}
+use Rattle.text_configs.proofs.FormLaws.{IsNumber}
+use Rattle.text_configs.proofs.SizeLaws.{AreBelow}
+use Rattle.text_configs.proofs.OrderLaws.{IsBare, IsNodeName, IsAttributeName, IsComponentName, named-in}
+use Rattle.text_configs.proofs.AttrLaws.{IsRead, key_of, AreBeside, AreAllBeside}
+use Rattle.text_configs.proofs.SetLaws.{IsReadBlock}
+use Rattle.text_configs.proofs.ValueLaws.{settable}
+use Rattle.text_configs.proofs.PathLaws.{name-plain, fc-plain, fc-of-block, names_in, path-plain, path-count, item_names, reference_names, item-joined, key-joined}
+use Rattle.text_configs.proofs.CountLaws.{Known, counted, type-at, is-count}
+
+-- entries of what is named, each with a fact
+pub gather : (kind : ℕ → TypeOf) (P : Entry → Type 0) (ns : List Named) → ((n : Named) → Among n ns → (e : Entry) × (n ≡ named_of kind e) × P e) → (es : List Entry) × (ns ≡ map (named_of kind) es) × ((e : Entry) → Among e es → P e)
+gather kind P [] h = ([], refl, λ e i. absurd i)
+gather kind P (n ∷ ns) h = let here = h n (inl refl) in let go = gather kind P ns (λ m i. h m (inr i)) in
+    (here.0 ∷ go.0, ap (λ m. m ∷ ns) here.1 ∙ ap (λ l. named_of kind here.0 ∷ l) go.1, either_of here.0 go.0 here.2 go.2)
+  where
+    either_of : (d : Entry) (es : List Entry) → P d → ((e : Entry) → Among e es → P e) → (e : Entry) → Among e (d ∷ es) → P e
+    either_of d es p rest e (inl s) = subst P (sym s) p
+    either_of d es p rest e (inr i) = rest e i
+
+-- the facts that a text's configuration has
+pub record IsTold (c : Config) : Type 0 where
+  pub bare : IsBare c
+  pub nodes : (n : _) → Among n c.nodes → (is_name n.ln ≡ true) × (is_name n.domain ≡ true)
+  pub attrs : (a : AttrDef) → Among a c.attrs → IsRead c.nodes a
+  pub beside : AreAllBeside c.attrs
+  pub blocks : (b : BlockDef) → Among b c.blocks → IsReadBlock b
+
+-- an entry below a functional constraint is an attribute's
+pub record IsOf (c : Config) (domain ln fc : List ℕ) (e : Entry) : Type 0 where
+  pub attr : AttrDef
+  pub at : At e.number attr c.attrs
+  pub domain_is : attr.domain ≡ domain
+  pub ln_is : attr.ln ≡ ln
+  pub fc_is : attr.fc ≡ fc
+  pub path : e.path ≡ names_in attr.path
+
+module _ (c : Config) (told : IsTold c) (domain ln fc : List ℕ) (constraint : is_fc fc ≡ true) where
+  item-plain : (a : AttrDef) → Among a c.attrs → ArePlain (item_names a)
+  item-plain a i = let r = told.attrs a i in (name-plain a.ln r.node.ln_name, (fc-plain a.fc r.constraint, path-plain a.path r.path.0))
+
+  abbrev Is : Named → Type 0
+  Is m = (e : Entry) × (m ≡ named_of (attr_type c) e) × IsOf c domain ln fc e
+
+  -- what the names of a logical node, of an attribute and of a component leave below the functional constraint
+  not-node : (n l : Named) → IsNodeName c n → l ≡ rest_of n → is_itself l ≡ false → ⊥
+  not-node n l h left longer =
+      let none : l.item ≡ [] = ap (λ (x : Named). x.item) left ∙ (ap (λ (x : Named). rest x.item) h.is ∙ rest-alone h.node.ln (name-plain h.node.ln (told.nodes h.node h.there).0).1) in
+      true≢false (ap (λ i. length i == 0) (sym none) ∙ longer)
+
+  three : (x y z w : List ℕ) → ((x ++ 36 ∷ y) ++ 36 ∷ z) ++ 36 ∷ w ≡ x ++ 36 ∷ (y ++ 36 ∷ (z ++ 36 ∷ w))
+  three x y z w = append_assoc (x ++ 36 ∷ y) (36 ∷ z) (36 ∷ w) ∙ append_assoc x (36 ∷ y) (36 ∷ (z ++ 36 ∷ w))
+
+  not-component : (n l : Named) → IsComponentName c n → l ≡ rest_of n → fc ≡ first_name l → ⊥
+  not-component n l h left is =
+      let item : n.item ≡ h.block.ln ++ 36 ∷ (codes "BR" ++ 36 ∷ (h.block.name ++ 36 ∷ comp_name h.part)) = ap (λ (x : Named). x.item) h.is ∙ three h.block.ln (codes "BR") h.block.name (comp_name h.part) in
+      let below : l.item ≡ codes "BR" ++ 36 ∷ (h.block.name ++ 36 ∷ comp_name h.part) = ap (λ (x : Named). x.item) left ∙ (ap rest item ∙ rest-before h.block.ln _ (name-plain h.block.ln (told.blocks h.block h.there).ln).1) in
+      fc-of-block fc constraint (is ∙ (ap first below ∙ first-before (codes "BR") (h.block.name ++ 36 ∷ comp_name h.part) (refl, (refl, tt))))
+
+  of-attribute : (n l m : Named) → IsAttributeName c domain n → l ≡ rest_of n → m ≡ rest_of l → ln ≡ first_name n → fc ≡ first_name l → Is m
+  of-attribute n l m h left right is below_is =
+      let i = at-among h.at h.attr c.attrs h.there in
+      let plain = item-plain h.attr i in
+      let item : n.item ≡ joined (item_names h.attr) = ap (λ (x : Named). x.item) h.is ∙ item-joined h.attr in
+      let next : l.item ≡ joined (h.attr.fc ∷ names_in h.attr.path) = ap (λ (x : Named). x.item) left ∙ (ap rest item ∙ rest-joined h.attr.ln (h.attr.fc ∷ names_in h.attr.path) plain.0.1) in
+      let last : rest l.item ≡ joined (names_in h.attr.path) = ap rest next ∙ rest-joined h.attr.fc (names_in h.attr.path) plain.1.0.1 in
+      let whole : m ≡ end_named (rest l.item) (attribute h.at) h.attr.kind = right ∙ ap (λ (x : Named). record x { item = rest l.item }) (left ∙ ap rest_of h.is) in (
+        entry (names_in h.attr.path) h.at,
+        whole ∙ (ap (λ i. end_named i (attribute h.at) h.attr.kind) last ∙ ap (λ k. end_named (joined (names_in h.attr.path)) (attribute h.at) k) (sym (type-at c told.attrs told.beside h.at h.attr h.there))),
+        record {
+          attr = h.attr;
+          at = h.there;
+          domain_is = h.domain_is;
+          ln_is = sym (is ∙ (ap first item ∙ first-joined h.attr.ln (h.attr.fc ∷ names_in h.attr.path) plain.0.1));
+          fc_is = sym (below_is ∙ (ap first next ∙ first-joined h.attr.fc (names_in h.attr.path) plain.1.0.1));
+          path = refl;
+        },
+      )
+
+  below-is : (m : Named) → Among m (below fc (below ln (named.names_in c domain))) → Is m
+  below-is m i =
+      let outer = below-of (below ln (named.names_in c domain)) fc m i in
+      let inner = below-of (named.names_in c domain) ln outer.0 outer.1.there in
+      by inner.0 outer.0 outer.1 inner.1 (named-in c told.bare domain inner.0 inner.1.there)
+    where
+      by : (n l : Named) → IsBelow (below ln (named.names_in c domain)) fc m l → IsBelow (named.names_in c domain) ln l n → IsNodeName c n ⊎ (IsAttributeName c domain n ⊎ IsComponentName c n) → Is m
+      by n l o k (inl h) = absurd (not-node n l h k.left o.longer)
+      by n l o k (inr (inl h)) = of-attribute n l m h k.left o.left k.is o.is
+      by n l o k (inr (inr h)) = absurd (not-component n l h k.left o.is)
+
+  -- the entries below the functional constraint
+  pub record Entries : Type 0 where
+    pub entries : List Entry
+    pub named : below fc (below ln (named.names_in c domain)) ≡ map (named_of (attr_type c)) entries
+    pub each : (e : Entry) → Among e entries → IsOf c domain ln fc e
+
+  pub all-entries : Entries
+  all-entries = let g = gather (attr_type c) (IsOf c domain ln fc) (below fc (below ln (named.names_in c domain))) below-is in record { entries = g.0; named = g.1; each = g.2 }
+
+  abbrev pub front : List (List ℕ)
+  front = (domain ++ 47 ∷ ln) ∷ fc ∷ []
+
+  names-are : (e : Entry) (o : IsOf c domain ln fc e) → front ++ e.path ≡ reference_names o.attr
+  names-are e o = ap (λ p. (domain ++ 47 ∷ ln) ∷ fc ∷ p) o.path ∙ (ap (λ f. (domain ++ 47 ∷ ln) ∷ f ∷ names_in o.attr.path) (sym o.fc_is)
+      ∙ (ap (λ l. (domain ++ 47 ∷ l) ∷ o.attr.fc ∷ names_in o.attr.path) (sym o.ln_is) ∙ ap (λ d. (d ++ 47 ∷ o.attr.ln) ∷ o.attr.fc ∷ names_in o.attr.path) (sym o.domain_is)))
+
+  key-is : (e : Entry) (o : IsOf c domain ln fc e) → key_of o.attr ≡ joined (front ++ e.path)
+  key-is e o = key-joined o.attr ∙ ap joined (sym (names-are e o))
+
+  apart : (d e : Entry) (more : List (List ℕ)) → IsOf c domain ln fc d → IsOf c domain ln fc e → e.path ≡ d.path ++ more → d ≡ e
+  apart d e more o p is = by (eqb_tells d.number e.number) more is
+    where
+      goes_on : (more : List (List ℕ)) → e.path ≡ d.path ++ more → AreBeside (key_of o.attr) (key_of p.attr) → ⊥
+      goes_on [] is h = h.other (key-is d o ∙ (ap (λ l. joined (front ++ l)) (sym (is ∙ append-nil d.path)) ∙ sym (key-is e p)))
+      goes_on (n ∷ more) is h = h.above (joined (n ∷ more)) (key-is e p ∙ (ap (λ l. joined (front ++ l)) is ∙ (ap joined (sym (append_assoc front d.path (n ∷ more)))
+          ∙ (joined-behind (front ++ d.path) n more (omega arith) ∙ ap (λ l. l ++ 36 ∷ joined (n ∷ more)) (sym (key-is d o))))))
+
+      by : ((d.number == e.number) ≡ true × (d.number ≡ e.number)) ⊎ ((d.number == e.number) ≡ false × (d.number ≡ e.number → ⊥)) → (more : List (List ℕ)) → e.path ≡ d.path ++ more → d ≡ e
+      by (inl t) more is = let same : o.attr ≡ p.attr = at-same e.number o.attr p.attr c.attrs (subst (λ n. At n o.attr c.attrs) t.1 o.at) p.at in
+          same-entry d e (o.path ∙ (ap (λ (a : AttrDef). names_in a.path) same ∙ sym p.path)) t.1
+      by (inr t) more is = absurd (goes_on more is (told.beside d.number e.number o.attr p.attr o.at p.at t.1))
+
+  count-attributes : (x : ℕ) (as_ : List AttrDef) → length (attrs_defined c x as_) ≡ length as_
+  count-attributes x [] = refl
+  count-attributes x (a ∷ as_) = ap suc (count-attributes (1 + x) as_)
+
+  number : (e : Entry) → IsOf c domain ln fc e → IsNumber (attr_type c) (length (attributes c)) e.number
+  number e o = (
+    omega (arith, at-within e.number o.attr c.attrs o.at, length-append (attrs_defined c 0 c.attrs) (flat_map (attrs_generated c) c.controls ++ twins c 0 c.attrs), count-attributes 0 c.attrs),
+    subst IsSettable (sym (type-at c told.attrs told.beside e.number o.attr o.at)) (settable o.attr.kind (told.attrs o.attr (at-among e.number o.attr c.attrs o.at)).type_),
+  )
+
+  pub entries-below : (depth : ℕ) → 8 ≤ depth → (es : List Entry) → ((e : Entry) → Among e es → IsOf c domain ln fc e) → AreBelow (attr_type c) (length (attributes c)) (Known c told.attrs told.beside) (counted c told.attrs told.beside) (children (map key_of c.attrs)) (is-count c told.attrs told.beside) front depth es
+  entries-below depth deep es each = record {
+    entries = record {
+      plain = λ e i. let o = each e i in subst ArePlain (sym o.path) (path-plain o.attr.path (told.attrs o.attr (at-among e.number o.attr c.attrs o.at)).path.0);
+      apart = λ d e more i j is. apart d e more (each d i) (each e j) is;
+      numbers = λ e i. number e (each e i);
+    };
+    known = λ e i. let o = each e i in (o.attr, o.at, names-are e o);
+    some = omega arith;
+    short = λ e i. let o = each e i in omega (arith, deep, ap length o.path, path-count o.attr.path, (told.attrs o.attr (at-among e.number o.attr c.attrs o.at)).path.1);
+  }

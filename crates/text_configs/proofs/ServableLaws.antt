@@ -1,0 +1,116 @@
+-- What a configuration's text spells can be served by a bay.
+use Rattle.std.proofs.Common.{◌≡◌, ℕ, ◌-◌, ◌≤◌, Bool, true, false, not, ◌||◌, List, [], ◌∷◌, map, nat_lt, is_some, position, refl, sym, ap, subst, ◌∙◌, arith, true≢false, if◌then◌else◌}
+use Rattle.std.specs.List.{All}
+use Rattle.std.specs.Str.{bytes_eq}
+use Rattle.std.proofs.lemmas.Bool.{and_parts}
+use Rattle.std.proofs.lemmas.Bool.Decides.{nat_tests}
+use Rattle.std.proofs.lemmas.List.{length-map}
+use Rattle.std.proofs.lemmas.List.Elements.{All-nil}
+use Rattle.sv_base.specs.declared.config.Config.{Config}
+use Rattle.sv_base.specs.declared.config.AttrDef.{AttrDef}
+use Rattle.sv_base.specs.declared.config.SetDef.{SetDef}
+use Rattle.sv_base.specs.declared.config.BlockDef.{BlockDef}
+use Rattle.sv_base.specs.declared.config.CtlDef.{CtlDef}
+use Rattle.bay_model.specs.Configured.{groups_defined}
+use Rattle.bay_model.specs.NamedLines.{domains}
+use Rattle.bay_model.specs.Named.{nodes, member_number, set_defined, configured_model}
+use Rattle.value_store.specs.Opened.{HasValue, place_in}
+use Rattle.cfg_text.specs.Sizes.{leaf_octets, children, octets_of}
+use Rattle.cfg_text.specs.Nodes.{leaves, leaf_names, closed, reaches}
+use Rattle.cfg_text.specs.Configs.{config_of}
+use Rattle.cfg_text.specs.Texts.{AreLines, AreFound, SpellsConfig}
+use Rattle.cfg_text.specs.declared.leaf.Leaf.{Leaf}
+use Rattle.cfg_text.specs.declared.line.Line.{Line}
+use Rattle.cfg_text.specs.declared.line.Line.TheVariants as lines
+use Rattle.bay_config.specs.Servable.{IsMember, IsServedSet, IsServedBlock, HasSoundValues, IsServable}
+use Rattle.list_laws.proofs.Among.{Among, all-of, of-all, source}
+use Rattle.text_configs.proofs.FindLaws.{found, domain-there}
+use Rattle.text_configs.proofs.NamedLaws.{bytes-same, not-not}
+use Rattle.text_configs.proofs.StandLaws.{IsPlainText, plain-text, nodes-read}
+use Rattle.text_configs.proofs.AttrLaws.{key_of, attrs-read, attrs-beside}
+use Rattle.text_configs.proofs.SetLaws.{blocks-read, few-blocks, sets-read, member-named, found-of, leaf_of, leaves-are}
+use Rattle.text_configs.proofs.ValueLaws.{first-value, all-sound}
+use Rattle.text_configs.proofs.PathLaws.{reference-of}
+use Rattle.text_configs.proofs.CountLaws.{counted}
+use Rattle.text_configs.proofs.BelowLaws.{IsTold}
+use Rattle.text_configs.proofs.ReferenceLaws.{member}
+
+-- blocks that report at once and have no integrity period
+abbrev pub AreImmediate : List BlockDef → Type 0
+AreImmediate bs = All (λ (b : BlockDef). (b.buf_tm ≡ 0) × (b.intg_pd ≡ 0)) bs
+
+names-of : (as_ : List AttrDef) → map (λ (leaf : Leaf). leaf.name) (map leaf_of as_) ≡ map key_of as_
+names-of [] = refl
+names-of (a ∷ as_) = ap (λ l. key_of a ∷ l) (names-of as_)
+
+or-second : (a b : Bool) → (a || b) ≡ true → b ≡ false → a ≡ true
+or-second true b h e = refl
+or-second false b h e = absurd (true≢false (sym h ∙ e))
+
+at-most : (n : ℕ) → nat_lt 500 n ≡ false → n ≤ 500
+at-most n h = grind (arith, nat_tests)
+
+module _ (told : List Line) (text : List ℕ) (are : AreLines text told) (found_all : AreFound told told) (controls : (config_of told).controls ≡ []) (groups : (config_of told).groups ≡ []) where
+  plain : IsPlainText told
+  plain = plain-text told controls groups
+
+  is-told : IsTold (config_of told)
+  is-told = record {
+    bare = record { controls = controls; groups = groups; settings = λ a i. (attrs-read told text are plain a i).setting };
+    nodes = nodes-read told text are;
+    attrs = attrs-read told text are plain;
+    beside = attrs-beside told text are;
+    blocks = blocks-read told text are;
+  }
+
+  names-are : leaf_names told ≡ map key_of (config_of told).attrs
+  names-are = ap (map (λ (leaf : Leaf). leaf.name)) (leaves-are told plain) ∙ names-of (config_of told).attrs
+
+  count-is : (r : List ℕ) → octets_of 10 (leaf_octets (leaves told)) (children (leaf_names told)) r ≡ counted (config_of told) is-told.attrs is-told.beside 10 r
+  count-is r = ap (λ ls. octets_of 10 (leaf_octets ls) (children (leaf_names told)) r) (leaves-are told plain) ∙ ap (λ ns. octets_of 10 (leaf_octets (map leaf_of (config_of told).attrs)) (children ns) r) names-are
+
+  member-served : (r : List ℕ) → Among (lines.Member r) told → IsMember (config_of told) (member_number (nodes (config_of told)) r)
+  member-served r i =
+      let is = found-of told told (lines.Member r) found_all i in
+      let apart = and_parts (not (reaches (closed told) r)) (not (nat_lt 500 (octets_of 10 (leaf_octets (leaves told)) (children (leaf_names told)) r))) is.1 in
+      let reach : reaches (leaf_names told) r ≡ true = or-second (reaches (leaf_names told) r) (reaches (closed told) r) is.0 (not-not (reaches (closed told) r) apart.0) in
+      member (config_of told) is-told r (reference-of r (member-named told text r are i)) (ap (λ ns. reaches ns r) (sym names-are) ∙ reach)
+      (omega (arith, count-is r, at-most (octets_of 10 (leaf_octets (leaves told)) (children (leaf_names told)) r) (not-not _ apart.1)))
+
+  set-served : (s : SetDef) → Among s (config_of told).sets → IsServedSet (config_of told) (set_defined (nodes (config_of told)) s)
+  set-served s i = let h = sets-read told text are s i in record {
+    few = omega (arith, h.few, length-map s.members (member_number (nodes (config_of told))));
+    members = all-of (IsMember (config_of told)) (map (member_number (nodes (config_of told))) s.members) (λ n j. let r = source (member_number (nodes (config_of told))) n s.members j in subst (IsMember (config_of told)) (sym r.2) (member-served r.0 (h.told_of r.0 r.1)));
+  }
+
+  place-first : (a : AttrDef) → Among a (config_of told).attrs → 0 ≡ place_in (config_of told) a
+  place-first a i = sym (ap (λ b. if b then (groups_defined (config_of told).groups a.domain).active - 1 else 0) (is-told.attrs a i).setting)
+
+  has-value : (a : AttrDef) → Among a (config_of told).attrs → HasValue a 0
+  has-value a i = let r = is-told.attrs a i in first-value a r.type_ r.values r.one
+
+  has-domain : (a : AttrDef) → Among a (config_of told).attrs → is_some (position (bytes_eq a.domain) (domains (config_of told))) ≡ true
+  has-domain a i = let n = (is-told.attrs a i).node in
+      let d : Among a.domain (domains (config_of told)) = subst (λ d. Among d (domains (config_of told))) n.domain_is (domain-there n.node [] (config_of told).nodes n.there) in
+      ap is_some (found (bytes_eq a.domain) a.domain (domains (config_of told)) d (bytes-same a.domain a.domain refl)).is
+
+  pub served : AreImmediate (config_of told).blocks → IsServable (config_of told)
+  served immediate = record {
+    controls = controls;
+    groups = groups;
+    storable = record {
+      lines = all-of (λ a. HasValue a (place_in (config_of told) a)) (config_of told).attrs (λ a i. subst (HasValue a) (place-first a i) (has-value a i));
+      twins = all-of (λ a. HasValue a 0) (config_of told).attrs has-value;
+      controls = subst (All (λ (k : CtlDef). (k.model ≤ 4) × (k.class ≤ 1))) (sym controls) (All-nil (λ (k : CtlDef). (k.model ≤ 4) × (k.class ≤ 1)));
+    };
+    sound = all-of HasSoundValues (config_of told).attrs (λ a i. all-sound a.kind _ (is-told.attrs a i).values);
+    domains = all-of (λ (a : AttrDef). is_some (position (bytes_eq a.domain) (domains (config_of told))) ≡ true) (config_of told).attrs has-domain;
+    blocks = all-of IsServedBlock (config_of told).blocks (λ b i. let h = is-told.blocks b i in let m = of-all (λ (b : BlockDef). (b.buf_tm ≡ 0) × (b.intg_pd ≡ 0)) (config_of told).blocks b immediate i in
+        record { opt_flds = h.opt_flds; trg_ops = h.trg_ops; buf_tm = m.0; intg_pd = m.1 });
+    few = let f = few-blocks told text are in omega (arith, f.0, f.1);
+    sets = all-of (IsServedSet (config_of told)) (configured_model (config_of told)).sets (λ s i. let d = source (set_defined (nodes (config_of told))) s (config_of told).sets i in subst (IsServedSet (config_of told)) (sym d.2) (set-served d.0 d.1));
+  }
+
+pub texts-are-served : (text : List ℕ) (c : Config) → SpellsConfig text c → c.controls ≡ [] → c.groups ≡ [] → AreImmediate c.blocks → IsServable c
+texts-are-served text c h controls groups immediate =
+    subst IsServable (sym h.makes) (served h.told text h.are h.found (sym (ap (λ (d : Config). d.controls) h.makes) ∙ controls) (sym (ap (λ (d : Config). d.groups) h.makes) ∙ groups) (subst (λ (d : Config). AreImmediate d.blocks) h.makes immediate))
