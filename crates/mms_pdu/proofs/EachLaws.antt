@@ -1,76 +1,21 @@
--- The elements of a content, and what is read of each.
-use Rattle.std.proofs.Common.{◌≡◌, ℕ, suc, ◌+◌, Bool, true, false, cond, List, [], ◌∷◌, length, map, Option, Some, None, Result, refl, sym, ap, subst, ◌∙◌}
+-- What is read of each element of a content.
+use Rattle.std.proofs.Common.{◌≡◌, ℕ, suc, Bool, true, List, [], ◌∷◌, length, map, Option, Some, None, refl, sym, ap, subst, ◌∙◌}
 use Rattle.std.specs.Prelude.{is_some}
 use Rattle.std.specs.List.{filter_map, cons_option}
 use Rattle.std.proofs.lemmas.Bool.{and_parts}
-use Rattle.ber_grammar.specs.declared.fault.BerFault.{BerFault}
 use Rattle.ber_grammar.specs.Element.{Element, IsRow}
+use Rattle.ber_grammar.specs.Fields.{fields_in, spots}
 use Rattle.ber_grammar.specs.Octets.{IsBytes}
-use Rattle.ber_grammar.specs.Place.{Spot, Piece, placed, elements}
-use Rattle.ber_grammar.specs.Reader.{kept}
-use Rattle.ber_grammar.specs.Rows.{parts_at, single}
+use Rattle.ber_grammar.specs.Place.{Spot, Piece, elements}
+use Rattle.ber_grammar.proofs.FieldLaws.{fields_none, elements_found, elements_again, in_place}
 use Rattle.ber_grammar.proofs.OctetLaws.{AllBytes, IsRow-bytes}
-use Rattle.ber_grammar.proofs.OptionLaws.{some_is, kept_some, then_some, chosen}
-use Rattle.ber_grammar.proofs.PartsLaws.{PartsTells, parts_tells, parts_none, row_again}
-use Rattle.ber_grammar.proofs.PlaceLaws.{elements-placed}
-use Rattle.mms_pdu.specs.Fields.{Each, fields_in, only_in, is_read, are_read, each_at, each_in}
-
--- which way a test went, and what follows of it
-pub either_way : {A P : Type 0} (b : Bool) (o p y : A) → cond b o p ≡ y → (b ≡ true → o ≡ y → P) → (b ≡ false → p ≡ y → P) → P
-either_way true o p y e f g = f refl e
-either_way false o p y e f g = g refl e
+use Rattle.ber_grammar.proofs.OptionLaws.{some_is, then_some, chosen}
+use Rattle.mms_pdu.specs.Each.{Each, is_read, are_read, each_at, each_in}
 
 -- ---- no octet
 
-pub fields_none : (p : Piece) → p.octets ≡ [] → fields_in p ≡ Some []
-unfolding fields_in
-fields_none p none = rw (ap parts_at none ∙ parts_none) refl
-
 pub each_none : {A : Type 0} (read : Spot → Option A) (p : Piece) → p.octets ≡ [] → each_in read p ≡ Some []
 each_none read p none = rw (fields_none p none) refl
-
--- ---- the elements
-
-abbrev pub spots : Piece → List Element → List Spot
-spots p es = placed (p.block, p.place) es
-
-pub fields_found : (p : Piece) (ss : List Spot) → fields_in p ≡ Some ss → IsRow p.octets (elements ss)
-unfolding fields_in
-fields_found p ss h =
-    let a = then_some (kept (parts_at p.octets)) (λ es. Some (spots p es)) ss h in
-    let row : IsRow p.octets a.0 = subst (λ (r : Result (List Element) BerFault). PartsTells p.octets r) (kept_some (parts_at p.octets) a.0 a.1) (parts_tells p.octets) in
-    subst (λ (es : List Element). IsRow p.octets es) (sym (elements-placed (p.block, p.place) a.0) ∙ ap elements (some_is (spots p a.0) ss a.2)) row
-
-pub fields_again : (p : Piece) (es : List Element) → IsRow p.octets es → fields_in p ≡ Some (spots p es)
-unfolding fields_in
-fields_again p es row = rw (row_again p.octets es row) refl
-
--- what is known of elements is known of them in their places
-pub in_place : (P : List Element → Type 0) (p : Piece) (es : List Element) → P es → P (elements (spots p es))
-in_place P p es h = subst P (sym (elements-placed (p.block, p.place) es)) h
-
--- ---- the one element
-
-single_is : {A : Type 0} (xs : List A) (x : A) → single xs ≡ Some x → xs ≡ x ∷ []
-single_is [] x h = absurd cc
-single_is (y ∷ []) x h = cc
-single_is (y ∷ z ∷ xs) x h = absurd cc
-
-pub only_found : (p : Piece) (s : Spot) → only_in p ≡ Some s → IsRow p.octets (s.element ∷ [])
-unfolding only_in
-only_found p s h =
-    let a = then_some (fields_in p) single s h in
-    subst (λ (ss : List Spot). IsRow p.octets (elements ss)) (single_is a.0 s a.2) (fields_found p a.0 a.1)
-
-abbrev pub spot_in : Piece → Element → Spot
-spot_in p e = record { element = e; block = p.block; place = p.place + e.head }
-
-pub only_again : (p : Piece) (e : Element) → IsRow p.octets (e ∷ []) → only_in p ≡ Some (spot_in p e)
-unfolding only_in
-only_again p e row = rw (fields_again p (e ∷ []) row) refl
-
-pub only_bytes : (octets : List ℕ) (e : Element) → IsBytes octets → IsRow octets (e ∷ []) → IsBytes e.content
-only_bytes octets e fits row = (IsRow-bytes octets (e ∷ []) fits row).0
 
 -- ---- each element
 
@@ -107,13 +52,13 @@ module _ {A B : Type 0} (read : Spot → Option A) (Is : Element → B → Type 
   each_found found p xs fits h =
       let a = then_some (fields_in p) (each_at read) xs h in
       let b = chosen (are_read read a.0) (Some (filter_map read a.0)) xs a.2 in
-      let row = fields_found p a.0 a.1 in
+      let row = elements_found p a.0 a.1 in
       (elements a.0, row, subst (λ (ys : List A). Each Is (elements a.0) (map forget ys)) (some_is (filter_map read a.0) xs b.1) (all_found found a.0 (IsRow-bytes p.octets (elements a.0) fits row) b.0))
 
   pub each_again : Again → (p : Piece) (es : List Element) (ys : List B) → IsBytes p.octets → IsRow p.octets es → Each Is es ys → (xs : List A) × (each_in read p ≡ Some xs) × (map forget xs ≡ ys)
   each_again again p es ys fits row h =
       let all = all_again again (spots p es) ys (in_place AllBytes p es (IsRow-bytes p.octets es fits row)) (in_place (λ x. Each Is x ys) p es h) in
-      (filter_map read (spots p es), rw (fields_again p es row, all.0) refl, all.1)
+      (filter_map read (spots p es), rw (elements_again p es row, all.0) refl, all.1)
 
 all_length : {A : Type 0} (read : Spot → Option A) (ss : List Spot) → are_read read ss ≡ true → length (filter_map read ss) ≡ length ss
 all_length read [] h = refl

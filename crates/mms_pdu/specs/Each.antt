@@ -1,10 +1,10 @@
--- The fields of a PDU: the elements of a content, each with where its own content lies.
+-- What is read of each element of a content (ISO 9506-2, a SEQUENCE OF).
 use Rattle.std.specs.Prelude.{Bool, List, [], ◌∷◌, Option, Some, None, is_some, if◌then◌else◌}
 use Rattle.std.specs.List.{list_all, filter_map}
 use Rattle.ber_grammar.specs.Element.{Element}
-use Rattle.ber_grammar.specs.Place.{Spot, Piece, placed}
-use Rattle.ber_grammar.specs.Reader.{and_then, kept}
-use Rattle.ber_grammar.specs.Rows.{parts_at, single}
+use Rattle.ber_grammar.specs.Place.{Spot, Piece}
+use Rattle.ber_grammar.specs.Reader.{and_then}
+use Rattle.ber_grammar.specs.Fields.{fields_in}
 
 -- one thing for each element, of which it is told
 abbrev pub Each : {A : Type 0} → (Element → A → Type 0) → List Element → List A → Type 0
@@ -15,14 +15,7 @@ Each Is (e ∷ es) (x ∷ xs) = Is e x × Each Is es xs
 
 -- ---- reading
 
--- the elements that octets are
-unfoldable pub fields_in : Piece → Option (List Spot)
-fields_in p = and_then (kept (parts_at p.octets)) (λ es. Some (placed (p.block, p.place) es))
-
--- the one element that octets are
-unfoldable pub only_in : Piece → Option Spot
-only_in p = and_then (fields_in p) single
-
+-- whether something is read of a field
 abbrev pub is_read : {A : Type 0} → (Spot → Option A) → Spot → Bool
 is_read read s = is_some (read s)
 

@@ -5,10 +5,10 @@ ghost use Rattle.sv_base.specs.Depth.{depth, HasNoOther};
 ghost use Rattle.sv_base.specs.Seen.{seen_of};
 ghost use Rattle.mms_data.specs.Writable.{SeenHasFractions};
 
-use super::*;
 use ber_view::first;
+use mms_data::{DataFault, read_data, view_data, write_data, write_type};
 use std::alloc::{AllocError, Global};
-use std::test::Fail;
+use std::test::*;
 use sv_base::{Bits, Octs, Part1, Parts, Stamp, TypeOf, Utc, Value, Values};
 
 fn octs(alloc: Global, octets: &[u8]) -> Result<Octs, AllocError>

@@ -1,6 +1,6 @@
 //! What a client writes, in octets.
 
-use crate::*;
+use mms_pdu::{write_conclude_request, write_read_request, write_write_request};
 use std::test::*;
 use sv_base::Value;
 

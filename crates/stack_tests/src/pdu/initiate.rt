@@ -1,6 +1,9 @@
 //! Initiates as clients and servers of IEC 61850-8-1 write them, and what each field may be.
 
-use crate::*;
+use mms_pdu::{
+    Initiate, PduFault, read_initiate, read_initiate_answer, write_initiate_answer,
+    write_initiate_request,
+};
 use std::alloc::AllocError;
 use std::test::*;
 use sv_base::Octs;

@@ -1,6 +1,6 @@
 //! What a server sends, as standards and servers have it, and what is refused of it.
 
-use crate::*;
+use mms_pdu::{PduFault, ReplyView, reply};
 use std::test::*;
 
 /// A report with one value, as a server of IEC 61850-8-1 sends it.

@@ -1,7 +1,7 @@
 //! What a server writes, in octets.
 
-use crate::tests::replies::{LAST_APPL_ERROR, REPORT};
-use crate::*;
+use crate::pdu::replies::{LAST_APPL_ERROR, REPORT};
+use mms_pdu::{write_answer, write_error, write_reject, write_report};
 use std::test::*;
 
 #[test]

@@ -1,8 +1,11 @@
 //! Requests in octets, by the standard's encoding: what they ask, and what is refused.
 
-use super::*;
-use crate::{DataList, NameList, NameView, ScopeView, VariableList, VariableView};
+use mms_pdu::{
+    DataList, NameList, NameView, PduFault, RequestView, ScopeView, ServiceView, VariableList,
+    VariableView, request,
+};
 use std::alloc::{AllocError, Global};
+use std::test::*;
 use sv_base::Value;
 
 const REFUSALS: [(&[u8], PduFault); 46] = [

@@ -1,7 +1,7 @@
 use Rattle.std.proofs.Common.{◌∷◌, [], inl, refl, arith}
 use Rattle.ber_write.specs.Minimal.{written, uint_octets}
 use Rattle.mms_pdu.proofs.WrittenLaws.{written_last, one_octet}
-use Rattle.mms_pdu.proofs.tests.replying.answers_are_written.Goals as goal
+use Rattle.stack_tests.proofs.pdu.replying.answers_are_written.Goals as goal
 
 -- the body is one failure, 128, with the code 3
 pub write_answer-requires-3-clause-body : goal.write_answer-requires-3-clause-body
