@@ -6,7 +6,7 @@ ghost use Rattle.sv_base.specs.declared.config.AttrDef.{AttrDef as AttrLine};
 ghost use Rattle.bay_rooms.specs.Slots.{IsSettable};
 
 use bay_model::Step;
-use object_model::Model;
+use object_model::{Model, domains};
 use std::alloc::{AllocError, Global};
 use std::test::*;
 use sv_base::{
@@ -264,6 +264,7 @@ fn references_have_the_numbers_of_their_lines(rt: HostRuntime) -> Result<(), Fai
     let model = built(rt.alloc())?;
     assert!(rt; first_wrong_attr(&model).is_none());
     assert!(rt; has_its_parts(&model));
+    assert!(rt; domains(rt.alloc(), model.config().nodes.as_slice())?.len() == 2);
     Ok(())
 }
 
