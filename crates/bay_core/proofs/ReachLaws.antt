@@ -4,9 +4,9 @@ use Rattle.std.specs.Prelude.{slice_index}
 use Rattle.std.specs.Str.{bytes_eq}
 use Rattle.std.proofs.lemmas.Bool.Decides.{nat_tests, eqb_tells}
 use Rattle.std.proofs.lemmas.List.{take_at}
-use Rattle.cfg_text.specs.Taken.{is_among, added}
-use Rattle.cfg_text.specs.Paths.{above_within, above}
-use Rattle.cfg_text.specs.Sizes.{edges_within, edges, with_edge, with_name, children}
+use Rattle.cfg_lines.specs.Keys.{is_among, added}
+use Rattle.cfg_lines.specs.Paths.{above_within, above}
+use Rattle.cfg_lines.specs.Sizes.{edges_within, edges, with_edge, with_name, children}
 use Rattle.bay_core.proofs.AmongLaws.{Among, some-passes, passes}
 use Rattle.bay_core.proofs.JoinedLaws.{NoDollar}
 use Rattle.bay_core.proofs.NamedLaws.{same-bytes, bytes-same, with-old, with-new}

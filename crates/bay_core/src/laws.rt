@@ -2,7 +2,7 @@ ghost use Rattle.std.specs.Prelude.{◌≡◌, ℕ, List, [], Ok};
 ghost use Rattle.std.specs.List.{All};
 ghost use Rattle.sv_base.specs.declared.config.BlockDef.{BlockDef};
 ghost use Rattle.sv_base.specs.declared.config.Config.{Config};
-ghost use Rattle.cfg_text.specs.Looking.{config_at};
+ghost use Rattle.cfg_parser.specs.Looking.{config_at};
 ghost use Rattle.bay_core.specs.Servable.{IsServable};
 ghost use denote.Param.Send.{IsSend};
 ghost use Rattle.bay_model.specs.contracts.answer.Answer.{the_row as answer_row};

@@ -1,0 +1,11 @@
+-- elements and their places
+pub mod Among
+pub mod Places
+pub mod Appended
+-- orders, and elements that differ
+pub mod Sorting
+pub mod Distinct
+pub mod Sums
+-- steps that may fail, and what a map from names finds
+pub mod Options
+pub mod Indexed

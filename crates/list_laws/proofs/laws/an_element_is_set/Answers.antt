@@ -1,0 +1,5 @@
+use Rattle.list_laws.proofs.Places.{at_set}
+use Rattle.list_laws.proofs.laws.an_element_is_set.Goals as goal
+
+pub returns : goal.returns
+returns c = at_set
