@@ -1,6 +1,5 @@
-pub mod SettingLaws
-pub mod FitLaws
-pub mod OpenLaws
+-- The laws of a record's lines, of its parts, and of the octets that they are read from.
+pub mod OwnLaws
 pub mod PlayLaws
 pub mod Served
 pub mod StartLaws

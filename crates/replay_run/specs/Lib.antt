@@ -1,10 +1,4 @@
-pub mod Components
-pub mod Shapes
-pub mod Settings
-pub mod Resolved
-pub mod Found
-pub mod Told
-pub mod Texts
+-- What a record is answered, and what the reading of one stands for.
 pub mod Played
 pub mod Moves
 pub mod Steps

@@ -30,10 +30,6 @@ abbrev pub IsEarly : Stage → Type 0
 IsEarly (stages.Configuring before text) = before < 2 ^ 62
 IsEarly _ = Unit {0}
 
-abbrev pub IsConfiguring : Stage → Type 0
-IsConfiguring (stages.Configuring before text) = Unit {0}
-IsConfiguring _ = ⊥
-
 abbrev pub Advances : Option Status → Stage → Move → List ℕ → List ℕ → Type 0
 Advances None new (goes place text) before now = IsAt new place × (now ≡ before ++ text)
 Advances (Some status) new (stops told text) before now = (status ≡ told) × (now ≡ before ++ text)

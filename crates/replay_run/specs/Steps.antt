@@ -8,11 +8,11 @@ use Rattle.run_record.specs.Judging.{line_at, number_of}
 use Rattle.run_record.specs.declared.fault.Kind.{Kind}
 use Rattle.run_record.specs.declared.line.RecLine.{RecLine}
 use Rattle.replay_run.specs.Played.{Played, turn_at, with_turn, at_moment, is_open}
-use Rattle.replay_run.specs.Resolved.{association_of, told_of}
-use Rattle.replay_run.specs.Texts.{answer_lines}
+use Rattle.record_steps.specs.Resolved.{association_of, told_of}
+use Rattle.answer_text.specs.Texts.{answer_lines}
 use Rattle.replay_run.specs.Moves.{Move, goes, stops, playing}
 use Rattle.replay_run.specs.declared.status.Status.TheVariants as statuses
-use Rattle.replay_run.specs.Told.{Told, skip, pass_to, turn, refused, last}
+use Rattle.record_steps.specs.Told.{Told, skip, pass_to, turn, refused, last}
 
 -- a step that is refused is one of an association that is open already, or isn't
 abbrev pub accepted : ℕ → Config → Played → Turn → Option Fault → Move

@@ -6,8 +6,8 @@ ghost use Rattle.sv_io.specs.Causes.{Rose};
 ghost use Rattle.replay_run.specs.Checked.{count, counts, IsChecked, IsOfCheck, IsOfTelling, Checks};
 
 use crate::status::Status;
-use crate::text::push_number;
 use crate::whole::{Halt, read_whole};
+use answer_text::push_number;
 use cfg_text::{CfgFault, read_config};
 use object_model::domains;
 use std::alloc::{AllocError, Global};

@@ -1,28 +1,23 @@
 //! The replay of a record, and the check of a configuration.
 #![tactic(auto)]
 
-// what a line tells
-mod components;
-mod settings;
-mod shapes;
+// all that the program does, and how it ends
+pub mod status;
+pub mod tool;
 
-// the lines of a record, and its octets
-mod openings;
+// a record: its octets in pieces, cut into lines
 mod pieces;
-mod playing;
 mod reader;
 mod replay;
 mod scan;
 mod session;
+
+// its parts, one after another: the first line, the configuration, the steps
+mod openings;
+mod playing;
 mod stage;
 mod starting;
-mod stop;
-mod text;
 
 // a configuration alone
 mod check;
-pub mod status;
-pub mod tool;
-#[cfg(test)]
-mod tool_tests;
 mod whole;

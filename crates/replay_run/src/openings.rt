@@ -5,7 +5,8 @@ ghost use Rattle.text_words.specs.Words.{texts};
 ghost use Rattle.run_record.specs.Judging.{is_long as is_long_text};
 ghost use Rattle.replay_run.specs.Plays.{Opens, HeadedAs};
 
-use text_words::{are_printable, is_skipped, parts_of};
+use cfg_text::{are_printable, is_skipped, parts_of};
+use run_record::Kind;
 use std::alloc::{AllocError, Global};
 
 /// What a line before the configuration is.
@@ -15,8 +16,8 @@ pub enum Opened {
     Skip,
     /// The line `record 1`.
     Head,
-    /// Refused for a cause of this kind.
-    Refused(u8),
+    /// Refused.
+    Refused(Kind),
 }
 
 /// The line is longer than any, or has an octet that none has.
@@ -33,14 +34,14 @@ fn head(words: &[&[u8]]) -> Opened
     match words {
         [word, version] => {
             if *word != b"record".as_slice() || version.is_empty() {
-                Opened::Refused(1)
+                Opened::Refused(Kind::Word)
             } else if *version == b"1".as_slice() {
                 Opened::Head
             } else {
-                Opened::Refused(2)
+                Opened::Refused(Kind::Number)
             }
         }
-        _ => Opened::Refused(1),
+        _ => Opened::Refused(Kind::Word),
     }
 }
 
@@ -50,7 +51,7 @@ pub fn open(alloc: Global, line: &[u8]) -> Result<Opened, AllocError>
     ensures { IfOk result (λ o. Opens o line.now) }
 {
     if is_long(line) {
-        return Ok(Opened::Refused(8));
+        return Ok(Opened::Refused(Kind::Long));
     }
     if is_skipped(line) {
         return Ok(Opened::Skip);

@@ -1,3 +1,5 @@
+//! The whole lines of pieces, and the part of a line behind them.
+
 ghost use Rattle.std.specs.Prelude.{◌≡◌, ◌<◌, ◌≤◌, ◌+◌, ◌^◌, [], length, IfOk, IfSome, IfNone, OnOk};
 ghost use Rattle.replay_run.specs.Sessions.{LinesRead, steps_in, IsEarly};
 ghost use Rattle.replay_run.specs.Tool.{IsJudgement};

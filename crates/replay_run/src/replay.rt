@@ -1,3 +1,5 @@
+//! A replay: pieces of a record read, and the answers handed on.
+
 ghost use Rattle.std.specs.Prelude.{◌≡◌, ◌≤◌, ◌<◌, ◌+◌, ◌^◌, [], length, IfOk, IfSome, IfNone, OnOk};
 ghost use Rattle.std.specs.Io.KnownBytes.{Appends};
 ghost use Rattle.sv_io.specs.Causes.{HasCause, Rose};

@@ -1,3 +1,5 @@
+//! The first line of octets.
+
 ghost use Rattle.std.specs.Prelude.{◌≡◌, ◌∷◌, ◌++◌, MatchOption};
 ghost use Rattle.replay_run.specs.Sessions.{NoNewline};
 

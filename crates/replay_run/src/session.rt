@@ -1,3 +1,5 @@
+//! The lines of a record, counted.
+
 use crate::stage::Stage;
 use crate::status::Status;
 use std::alloc::{AllocError, Global};

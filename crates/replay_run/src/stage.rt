@@ -31,15 +31,13 @@ pub enum Stage {
 }
 
 impl Stage {
-    ghost use Rattle.std.specs.Prelude.{◌≡◌, ◌<◌, ◌≤◌, ◌^◌, ℕ, suc, Vec, IfOk, IfSome, IfNone};
-    ghost use Rattle.std.specs.declared.alloc.Global.{Global as Memory};
-    ghost use Rattle.cfg_parser.specs.Looking.{config_at};
+    ghost use Rattle.std.specs.Prelude.{◌≡◌, ◌<◌, ◌≤◌, ◌^◌, suc, IfOk, IfSome, IfNone};
     ghost use Rattle.replay_run.specs.Moves.{Place, Move};
     ghost use Rattle.replay_run.specs.Plays.{Starts, IsSound};
-    ghost use Rattle.replay_run.specs.Openings.{opening_at, started};
+    ghost use Rattle.replay_run.specs.Openings.{opening_at};
     ghost use Rattle.replay_run.specs.declared.stage.Stage.TheVariants as stages;
     ghost use Rattle.replay_run.specs.Records.{lines_at, passed as passed_at, missing as missing_at};
-    ghost use Rattle.replay_run.specs.Sessions.{IsAt, AdvancesOn, steps_in, IsEarly, IsConfiguring, OpensOn, Settles};
+    ghost use Rattle.replay_run.specs.Sessions.{IsAt, AdvancesOn, steps_in, IsEarly, OpensOn, Settles};
     ghost use Rattle.replay_run.specs.Tool.{IsJudgement};
 
     /// Goes on to another part.
@@ -72,7 +70,10 @@ impl Stage {
                 });
                 Ok(None)
             }
-            Opened::Refused(kind) => Ok(Some(Status::Record { line: number, kind })),
+            Opened::Refused(kind) => Ok(Some(Status::Record {
+                line: number,
+                kind: kind.number(),
+            })),
         }
     }
 
@@ -91,22 +92,6 @@ impl Stage {
             }
             Started::Refused(status) => Some(status),
         }
-    }
-
-    /// Goes on behind the last line of the configuration.
-    fn conclude(&mut self, alloc: Global) -> Result<Option<Status>, AllocError>
-        requires among { IsConfiguring self.old }
-        requires early { IsEarly self.old }
-        ensures settles { (before : ℕ) (text : Vec ℕ Memory) → self.old ≡ stages.Configuring before text → IfOk result (λ s. Settles s self.new (started before (config_at text.items))) }
-        ensures judged { IfOk result (λ s. IfSome s IsJudgement) }
-        ensures few { IfOk result (λ s. IfNone s (steps_in self.new ≡ 0)) }
-        ensures early { IfOk result (λ s. IfNone s (IsEarly self.new)) }
-    {
-        let started = match self {
-            Stage::Configuring { before, text } => start(alloc, *before, text)?,
-            Stage::Opening | Stage::Playing(_) => return Ok(None),
-        };
-        Ok(self.settle(started))
     }
 
     /// Reads a line, without its newline, and writes the answer to it; or gives the status with which the reading stops.
@@ -128,11 +113,11 @@ impl Stage {
         match self {
             Stage::Opening => self.open(alloc, number, line),
             Stage::Configuring { before, text } => {
-                if gather(text, line)? {
-                    self.conclude(alloc)
-                } else {
-                    Ok(None)
+                if !gather(text, line)? {
+                    return Ok(None);
                 }
+                let started = start(alloc, *before, text)?;
+                Ok(self.settle(started))
             }
             Stage::Playing(playing) => playing.read(alloc, out, number, line),
         }

@@ -1,3 +1,5 @@
+//! How a run of the program ends.
+
 use std::fmt::{Display, Error, Formatter, Write};
 
 /// How a run of the program ended.

@@ -1,3 +1,5 @@
+//! All that the program does.
+
 ghost use Rattle.std.specs.Prelude.{◌≡◌, ◌≤◌, ◌<◌, ◌↔◌, ℕ, List, Option, length, IfSome, IsTrue};
 ghost use Rattle.replay_run.specs.Runs.{IsReady, Run};
 ghost use Rattle.sv_io.specs.Causes.{Rose};

@@ -1,0 +1,108 @@
+//! The line of a report.
+
+ghost use Rattle.std.specs.Prelude.{◌≡◌, ◌++◌, codes, OnOk, slice_get, if◌then◌else◌};
+ghost use Rattle.std.specs.List.{flat_map};
+ghost use Rattle.answer_text.specs.Texts.{report_head, report_text, block_text, member_text, reason_letters, letter_if};
+
+use crate::number::{push_hex, push_number};
+use bay_model::{Member, Reasons, Report};
+use object_model::Model;
+use std::alloc::AllocError;
+use sv_base::{ActorNo, BlockNo};
+
+/// Writes a letter where a reason is there.
+fn push_letter(out: &mut Vec<u8>, there: bool, letter: u8) -> Result<(), AllocError>
+    ensures { OnOk result (out.new.items ≡ out.old.items ++ letter_if there letter) }
+{
+    if there {
+        out.push(letter)?;
+    }
+    Ok(())
+}
+
+/// Writes the letters of the reasons that are there.
+fn push_reasons(out: &mut Vec<u8>, reasons: &Reasons) -> Result<(), AllocError>
+    ensures { OnOk result (out.new.items ≡ out.old.items ++ reason_letters reasons.now) }
+{
+    push_letter(out, reasons.dchg, b'd')?;
+    push_letter(out, reasons.qchg, b'q')?;
+    push_letter(out, reasons.dupd, b'u')?;
+    push_letter(out, reasons.intg, b'i')?;
+    push_letter(out, reasons.gi, b'g')
+}
+
+/// Writes a member of a report.
+fn push_member(out: &mut Vec<u8>, member: &Member) -> Result<(), AllocError>
+    ensures { OnOk result (out.new.items ≡ out.old.items ++ member_text member.now) }
+{
+    out.push(b' ')?;
+    push_number(out, u64::from(member.number.0))?;
+    out.push(b'=')?;
+    push_reasons(out, &member.reasons)?;
+    out.push(b':')?;
+    push_hex(out, member.octets.as_slice())
+}
+
+/// Writes the members of a report.
+fn push_members(out: &mut Vec<u8>, members: &[Member]) -> Result<(), AllocError>
+    ensures { OnOk result (out.new.items ≡ out.old.items ++ flat_map member_text members.now) }
+{
+    for member in members {
+        push_member(out, member)?;
+    }
+    Ok(())
+}
+
+/// Writes whether entries were lost: 1 or 0 behind its word.
+fn push_overflow(out: &mut Vec<u8>, lost: bool) -> Result<(), AllocError>
+    ensures { OnOk result (out.new.items ≡ out.old.items ++ codes " ovfl " ++ (if lost then codes "1" else codes "0")) }
+{
+    out.extend_from_slice(if lost { b" ovfl 1" } else { b" ovfl 0" })
+}
+
+/// Writes the reference of a block.
+fn push_block(out: &mut Vec<u8>, model: &Model, block: BlockNo) -> Result<(), AllocError>
+    ensures { OnOk result (out.new.items ≡ out.old.items ++ block_text (slice_get model.now.blocks block.0)) }
+{
+    if let Some(reference) = model.reference_of(block) {
+        out.extend_from_slice(reference)?;
+    }
+    Ok(())
+}
+
+/// Writes the fields of a report, before its members.
+fn push_head(
+    out: &mut Vec<u8>,
+    model: &Model,
+    a: ActorNo,
+    report: &Report,
+) -> Result<(), AllocError>
+    ensures { OnOk result (out.new.items ≡ out.old.items ++ report_head model.now a.0 report.now) }
+{
+    push_number(out, u64::from(a.0))?;
+    out.extend_from_slice(b" report ")?;
+    push_block(out, model, report.block)?;
+    out.extend_from_slice(b" sq ")?;
+    push_number(out, u64::from(report.sq))?;
+    out.extend_from_slice(b" id ")?;
+    push_number(out, report.id)?;
+    out.extend_from_slice(b" time ")?;
+    push_number(out, report.time.ms())?;
+    push_overflow(out, report.ovfl)?;
+    Ok(())
+}
+
+/// Writes a report.
+pub fn push_report(
+    out: &mut Vec<u8>,
+    model: &Model,
+    a: ActorNo,
+    report: &Report,
+) -> Result<(), AllocError>
+    ensures { OnOk result (out.new.items ≡ out.old.items ++ report_text model.now a.0 report.now) }
+{
+    push_head(out, model, a, report)?;
+    push_members(out, report.members.as_slice())?;
+    out.push(b'\n')?;
+    Ok(())
+}

@@ -1,0 +1,26 @@
+//! Configurations, with their statuses and counts.
+
+use crate::runs::{Row, all_end};
+use replay_run::status::Status;
+use std::test::*;
+
+const COUNTED: [Row; 3] = [
+    ("counts", "<200>", Status::Ok, "ok 1 4 7 1 1 0\n"),
+    (
+        "no capacity",
+        "<0>",
+        Status::Config { line: 9, kind: 8 },
+        "",
+    ),
+    (
+        "an empty word",
+        "<200 >",
+        Status::Config { line: 9, kind: 1 },
+        "",
+    ),
+];
+
+#[test]
+fn configurations_are_counted_or_refused(rt: HostRuntime) -> Result<(), Fail> {
+    all_end(&rt, rt.alloc(), "check", &COUNTED)
+}

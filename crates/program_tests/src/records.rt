@@ -1,0 +1,355 @@
+//! Records, with their statuses and what is answered to them.
+
+use crate::runs::{Row, all_end};
+use replay_run::status::Status;
+use std::test::*;
+
+/// Records of values, of gaps, of clients that go on behind an entry, and of blocks that are held and purged.
+const ANSWERED: [Row; 12] = [
+    (
+        "nothing",
+        "record 1\n<200>open 1 direct\nend\n",
+        Status::Ok,
+        "end\n",
+    ),
+    (
+        "one value",
+        "record 1\n<200>open 1 direct\nat !10\nset @ 5\nwrite 1 & RptEna T\ntake 1\nend\n",
+        Status::Ok,
+        "1 ok\n1 report & sq 0 id 1 time !10 ovfl 0 3=d:850105\nend\n",
+    ),
+    (
+        "nothing after",
+        "record 1\n<200>open 1 direct\nat !10\nset @ 5\nwrite 1 & RptEna T\ntake 1\nset @ 5\ntake 1\nend\n",
+        Status::Ok,
+        "1 ok\n1 report & sq 0 id 1 time !10 ovfl 0 3=d:850105\n1 empty\nend\n",
+    ),
+    (
+        "the gap mark",
+        "record 1\n<200>open 1 direct\n*write 1 & RptEna T\ntake 1\ntake 1\nend\n",
+        Status::Ok,
+        "1 ok\n1 report & sq 0 id 4 time !04 ovfl 1 3=d:850104\n1 report & sq 1 id 5 time !05 ovfl 0 3=d:850105\nend\n",
+    ),
+    (
+        "resume at the newest, and the next value",
+        "record 1\n<200>open 1 direct\n*write 1 & EntryID x0000000000000009\nwrite 1 & RptEna T\ntake 1\nat !10\nset @ 10\ntake 1\nend\n",
+        Status::Ok,
+        "1 ok\n1 ok\n1 empty\n1 report & sq 0 id 10 time !10 ovfl 0 3=d:85010a\nend\n",
+    ),
+    (
+        "resume with the front above",
+        "record 1\n<200>open 1 direct\n*at !10\nset @ 10\nat !11\nset @ 11\nat !12\nset @ 12\nwrite 1 & EntryID x0000000000000007\nat !13\nset @ 13\n\
+            at !14\nset @ 14\nwrite 1 & RptEna T\ntake 1\nend\n",
+        Status::Ok,
+        "1 ok\n1 ok\n1 report & sq 0 id 9 time !09 ovfl 1 3=d:850109\nend\n",
+    ),
+    (
+        "entries that are not retained, and zero",
+        "record 1\n<200>open 1 direct\n*write 1 & EntryID x0000000000000003\nwrite 1 & EntryID x000000000000000a\n\
+            write 1 & EntryID x0000000000000000\nwrite 1 & RptEna T\ntake 1\nend\n",
+        Status::Ok,
+        "1 refused 11\n1 refused 11\n1 ok\n1 ok\n1 report & sq 0 id 4 time !04 ovfl 1 3=d:850104\nend\n",
+    ),
+    (
+        "loss, and resume by a second association",
+        "record 1\n<200>open 1 direct\nat !01\nset @ 1\nat !02\nset @ 2\nat !03\nset @ 3\nwrite 1 & RptEna T\ntake 1\nlost 1\nopen 2 direct\n\
+            write 2 & EntryID x0000000000000001\nwrite 2 & RptEna T\ntake 2\ntake 2\ntake 2\nend\n",
+        Status::Ok,
+        "1 ok\n1 report & sq 0 id 1 time !01 ovfl 0 3=d:850101\n2 ok\n2 ok\n2 report & sq 0 id 2 time !02 ovfl 0 3=d:850102\n\
+            2 report & sq 1 id 3 time !03 ovfl 0 3=d:850103\n2 empty\nend\n",
+    ),
+    (
+        "held by another",
+        "record 1\n<200>open 1 direct\nopen 2 direct\nwrite 1 & RptEna T\nwrite 1 & EntryID x0000000000000000\nwrite 2 & EntryID x0000000000000000\n\
+            write 2 & RptEna F\nend\n",
+        Status::Ok,
+        "1 ok\n1 refused 2\n2 refused 2\n2 refused 2\nend\n",
+    ),
+    (
+        "a purge of unsent entries",
+        "record 1\n<200>open 1 direct\nset @ 1\nwrite 1 & PurgeBuf T\nset @ 2\nwrite 1 & RptEna T\ntake 1\nend\n",
+        Status::Ok,
+        "1 ok\n1 ok\n1 report & sq 0 id 2 time !00 ovfl 1 3=d:850102\nend\n",
+    ),
+    (
+        "a purge of sent entries",
+        "record 1\n<200>open 1 direct\nset @ 1\nwrite 1 & RptEna T\ntake 1\nwrite 1 & RptEna F\nwrite 1 & PurgeBuf T\nset @ 2\nwrite 1 & RptEna T\n\
+            take 1\nend\n",
+        Status::Ok,
+        "1 ok\n1 report & sq 0 id 1 time !00 ovfl 0 3=d:850101\n1 ok\n1 ok\n1 ok\n1 report & sq 0 id 2 time !00 ovfl 0 3=d:850102\nend\n",
+    ),
+    (
+        "an entry larger than the buffer",
+        "record 1\n<31>open 1 direct\nat !01\nset @ 300\nat !02\nset @ 1\nwrite 1 & RptEna T\ntake 1\nend\n",
+        Status::Ok,
+        "1 ok\n1 report & sq 0 id 2 time !02 ovfl 1 3=d:850101\nend\n",
+    ),
+];
+
+/// Records that are refused at a line, or end there.
+const JUDGED: [Row; 41] = [
+    // records that end, or don't
+    (
+        "records that end",
+        "record 1\n<200>",
+        Status::Record { line: 22, kind: 7 },
+        "",
+    ),
+    (
+        "records that end",
+        "record 1\n<200>open 1 direct\n",
+        Status::Record { line: 23, kind: 7 },
+        "",
+    ),
+    (
+        "records that end",
+        "record 1\n<200>open 1 direct\nend",
+        Status::Record { line: 23, kind: 7 },
+        "",
+    ),
+    (
+        "records that end",
+        "record 1\n<200>end\nno line\n",
+        Status::Ok,
+        "end\n",
+    ),
+    (
+        "records that end",
+        "record 1\n<200># a remark\n\ntick\nend\n",
+        Status::Ok,
+        "end\n",
+    ),
+    // words and numbers, which are judged first
+    (
+        "words and numbers",
+        "record 1\n<200>take 1\ntock\nend\n",
+        Status::Record { line: 23, kind: 1 },
+        "1 closed\n",
+    ),
+    (
+        "words and numbers",
+        "record 1\n<200>open 17 direkt\n",
+        Status::Record { line: 22, kind: 1 },
+        "",
+    ),
+    (
+        "words and numbers",
+        "record 1\n<200>take  1\n",
+        Status::Record { line: 22, kind: 1 },
+        "",
+    ),
+    (
+        "words and numbers",
+        "record 1\n<200>take 17\n",
+        Status::Record { line: 22, kind: 2 },
+        "",
+    ),
+    (
+        "words and numbers",
+        "record 1\n<200>at 441763199999\n",
+        Status::Record { line: 22, kind: 2 },
+        "",
+    ),
+    (
+        "words and numbers",
+        "record 1\n<200>take\t1\n",
+        Status::Record { line: 22, kind: 8 },
+        "",
+    ),
+    // names, before the state of an association
+    (
+        "names",
+        "record 1\n<200>set NO/SUCH$MX$x 1\n",
+        Status::Record { line: 22, kind: 3 },
+        "",
+    ),
+    (
+        "names",
+        "record 1\n<200>set @ x BAY1/MMXU1$MX$x 1\n",
+        Status::Record { line: 22, kind: 3 },
+        "",
+    ),
+    (
+        "names",
+        "record 1\n<200>write 1 BAY1/LLN0$BR$brcbEv02 RptEna T\n",
+        Status::Record { line: 22, kind: 3 },
+        "",
+    ),
+    (
+        "names",
+        "record 1\n<200>write 1 & rptEna T\n",
+        Status::Record { line: 22, kind: 3 },
+        "",
+    ),
+    (
+        "names",
+        "record 1\n<200>done BAY1/CSWI1$CO$Pos T\n",
+        Status::Record { line: 22, kind: 3 },
+        "",
+    ),
+    // associations that are open or aren't, before values
+    (
+        "associations that are open or aren't",
+        "record 1\n<200>write 1 & EntryID x0\n",
+        Status::Record { line: 22, kind: 5 },
+        "",
+    ),
+    (
+        "associations that are open or aren't",
+        "record 1\n<200>lost 2\nend\n",
+        Status::Record { line: 22, kind: 5 },
+        "",
+    ),
+    (
+        "associations that are open or aren't",
+        "record 1\n<200>pdu 1 00\n",
+        Status::Record { line: 22, kind: 5 },
+        "",
+    ),
+    (
+        "associations that are open or aren't",
+        "record 1\n<200>open 1 direct\ntake 1\nopen 1 mms 1024\n",
+        Status::Record { line: 24, kind: 5 },
+        "1 empty\n",
+    ),
+    // values
+    (
+        "values",
+        "record 1\n<200>set @ 2147483648\n",
+        Status::Record { line: 22, kind: 4 },
+        "",
+    ),
+    (
+        "values",
+        "record 1\n<200>set BAY1/GGIO1$ST$Ind1$stVal 1\n",
+        Status::Record { line: 22, kind: 4 },
+        "",
+    ),
+    (
+        "values",
+        "record 1\n<200>open 1 direct\nwrite 1 & EntryID x000000000000000A\n",
+        Status::Record { line: 23, kind: 4 },
+        "",
+    ),
+    (
+        "values",
+        "record 1\n<200>open 1 direct\nwrite 1 & RptEna 1\nend\n",
+        Status::Ok,
+        "1 refused 7\nend\n",
+    ),
+    (
+        "values",
+        "record 1\n<200>open 1 direct\nwrite 1 & EntryID x00\nend\n",
+        Status::Ok,
+        "1 refused 7\nend\n",
+    ),
+    // what isn't built
+    (
+        "what isn't built",
+        "record 1\n<200>open 1 wire\n",
+        Status::Record { line: 22, kind: 9 },
+        "",
+    ),
+    (
+        "what isn't built",
+        "record 1\n<200>open 1 mms 1024\n",
+        Status::Record { line: 22, kind: 9 },
+        "",
+    ),
+    (
+        "what isn't built",
+        "record 1\n<200>open 1 direct\nwrite 1 & GI T\n",
+        Status::Record { line: 23, kind: 9 },
+        "",
+    ),
+    // the first line
+    (
+        "the first line",
+        "",
+        Status::Record { line: 1, kind: 7 },
+        "",
+    ),
+    (
+        "the first line",
+        "# a remark\n",
+        Status::Record { line: 2, kind: 7 },
+        "",
+    ),
+    (
+        "the first line",
+        "open 1 direct\n",
+        Status::Record { line: 1, kind: 1 },
+        "",
+    ),
+    (
+        "the first line",
+        "record 1 1\n",
+        Status::Record { line: 1, kind: 1 },
+        "",
+    ),
+    (
+        "the first line",
+        "# a remark\nrecord 2\n",
+        Status::Record { line: 2, kind: 2 },
+        "",
+    ),
+    (
+        "the first line",
+        "record 1\n",
+        Status::Config { line: 2, kind: 2 },
+        "",
+    ),
+    (
+        "the first line",
+        "record\t1\n",
+        Status::Record { line: 1, kind: 8 },
+        "",
+    ),
+    // configurations, each judged as one text
+    (
+        "configurations",
+        "\nrecord 1\nconfig 1\nserver a b\nend\n",
+        Status::Config { line: 4, kind: 1 },
+        "",
+    ),
+    (
+        "configurations",
+        "record 1\nconfig 1\nserver a b c\nend\ntake 1\nend\n",
+        Status::Ok,
+        "1 closed\nend\n",
+    ),
+    (
+        "configurations",
+        "record 1\nconfig 1\nserver a b c\nld A\nln LLN0\nbrcb b ' 'A/LLN0$S 1 0000000000 0 000000 0 100\nend\n",
+        Status::Config { line: 6, kind: 9 },
+        "",
+    ),
+    (
+        "configurations",
+        "record 1\nconfig 1\nserver a b c\nld A\nln LLN0\nbrcb b ' ' 1 0000000000 0 000000 0 100\nbrcb c ' ' 1 0000000000 5 000000 0 100\nend\n",
+        Status::Record { line: 7, kind: 9 },
+        "",
+    ),
+    (
+        "configurations",
+        "# a remark\nrecord 1\nconfig 1\nserver a b c\nld A\nln LLN0\nsgcb 2 1\nend\n",
+        Status::Record { line: 7, kind: 9 },
+        "",
+    ),
+    (
+        "configurations",
+        "record 1\nconfig 1\nserver a b c\nld A\nln LLN0\nctl Pos 4 5000 0 bool\nend\n",
+        Status::Record { line: 6, kind: 9 },
+        "",
+    ),
+];
+
+#[test]
+fn records_are_answered(rt: HostRuntime) -> Result<(), Fail> {
+    all_end(&rt, rt.alloc(), "replay", &ANSWERED)
+}
+
+#[test]
+fn records_are_judged(rt: HostRuntime) -> Result<(), Fail> {
+    all_end(&rt, rt.alloc(), "replay", &JUDGED)
+}

@@ -1,0 +1,76 @@
+//! Texts with marks for what most rows have, and a run of the program on one.
+
+use replay_run::status::Status;
+use replay_run::tool::tool;
+use std::alloc::{AllocError, Global};
+use std::process::Abort;
+use std::test::*;
+use sv_base::Octs;
+use sv_io::{Calls, MemSink, MemSource};
+
+/// A run: its name, the text that is read, the status, and what is written, both texts with marks.
+pub type Row = (&'static str, &'static str, Status, &'static str);
+
+/// What a mark stands for: `<` and `>` the lines of a configuration before a block's CAPACITY and behind it, `*` nine values
+/// at nine moments, `@` the reference of the attribute that is set, `&` that of the block, and `!` the front of a moment.
+fn marked(mark: u8) -> Option<&'static str> {
+    match mark {
+        b'<' => Some(
+            "config 1\nserver Demo Bay 1\nld BAY1\nln LLN0\nset Events\nmember BAY1/XCBR1$ST$Pos\nmember BAY1/GGIO1$ST$Ind1\n\
+             member BAY1/MMXU1$MX$TotW$mag$i\nbrcb brcbEv01 'Ev1 'BAY1/LLN0$Events 1 0111001110 0 011001 0 ",
+        ),
+        b'>' => Some(
+            "\nln XCBR1\nattr ST Pos$stVal dbpos d 01\nattr ST Pos$q quality q 0000000000000\nattr ST Pos$t time - 0000000000000000\n\
+             ln GGIO1\nattr ST Ind1$stVal bool d F\nattr ST Ind1$q quality q 0000000000000\nattr ST Ind1$t time - 0000000000000000\n\
+             ln MMXU1\nattr MX TotW$mag$i int32 d 0\nend\n",
+        ),
+        b'*' => Some(
+            "at 441763200001\nset BAY1/MMXU1$MX$TotW$mag$i 1\nat 441763200002\nset BAY1/MMXU1$MX$TotW$mag$i 2\n\
+             at 441763200003\nset BAY1/MMXU1$MX$TotW$mag$i 3\nat 441763200004\nset BAY1/MMXU1$MX$TotW$mag$i 4\n\
+             at 441763200005\nset BAY1/MMXU1$MX$TotW$mag$i 5\nat 441763200006\nset BAY1/MMXU1$MX$TotW$mag$i 6\n\
+             at 441763200007\nset BAY1/MMXU1$MX$TotW$mag$i 7\nat 441763200008\nset BAY1/MMXU1$MX$TotW$mag$i 8\n\
+             at 441763200009\nset BAY1/MMXU1$MX$TotW$mag$i 9\n",
+        ),
+        b'@' => Some("BAY1/MMXU1$MX$TotW$mag$i"),
+        b'&' => Some("BAY1/LLN0$BR$brcbEv01"),
+        b'!' => Some("4417632000"),
+        _ => None,
+    }
+}
+
+/// A text with what its marks stand for.
+pub fn unmarked(alloc: Global, text: &str) -> Result<Vec<u8>, AllocError> {
+    let mut octets = Vec::new(alloc);
+    for octet in text.as_bytes() {
+        match marked(*octet) {
+            Some(words) => octets.extend_from_slice(words.as_bytes())?,
+            None => octets.push(*octet)?,
+        }
+    }
+    Ok(octets)
+}
+
+/// The words of a command line of one word.
+pub fn one_word(alloc: Global, word: &str) -> Result<Vec<String>, AllocError> {
+    let mut words = Vec::new(alloc);
+    words.push(String::from_str(alloc, word)?)?;
+    Ok(words)
+}
+
+/// The runs end so.
+pub fn all_end(rt: &impl Abort, alloc: Global, word: &str, rows: &[Row]) -> Result<(), Fail> {
+    let words = one_word(alloc, word)?;
+    for (name, text, wanted, answer) in rows {
+        let octets = Octs::from_vec(unmarked(alloc, text)?);
+        let mut source = MemSource::new(octets, Calls::from_vec(Vec::new(alloc)));
+        let mut sink = MemSink::new(alloc, Calls::from_vec(Vec::new(alloc)));
+        let status = tool(alloc, &words, &mut source, &mut sink);
+        assert_eq!(rt; status, *wanted, "{name}: {text}");
+        assert_eq!(rt;
+            sink.octets(),
+            unmarked(alloc, answer)?.as_slice(),
+            "{name}: {text}"
+        );
+    }
+    Ok(())
+}

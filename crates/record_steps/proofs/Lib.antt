@@ -1,0 +1,7 @@
+-- Settings and steps that lines tell, and that they fit.
+pub mod ValueLaws
+pub mod SettingLaws
+pub mod FitLaws
+pub mod StepLaws
+pub mod ToldLaws
+mod WorkedLines

@@ -1,0 +1,100 @@
+-- The steps that lines tell fit the configuration: associations are 1 to 16, blocks are there, and values are sound.
+use Rattle.std.proofs.Common.{◌≡◌, ℕ, ◌<◌, Bool, true, false, cond, List, [], ◌∷◌, length, map, refl, sym, ap, ◌∙◌, arith}
+use Rattle.std.specs.Prelude.{Option, None, Some, codes, ◌==◌, nat_lt, if◌then◌else◌}
+use Rattle.std.specs.List.{list_all, position_or_len}
+use Rattle.std.specs.Str.{bytes_eq}
+use Rattle.std.proofs.lemmas.Bool.{and_from}
+use Rattle.std.proofs.lemmas.List.{length-map}
+use Rattle.std.proofs.lemmas.Bool.Decides.{nat_tests}
+use Rattle.sv_base.specs.declared.config.Config.{Config}
+use Rattle.sv_base.specs.declared.numbers.ActorNo.{ActorNo}
+use Rattle.sv_base.specs.declared.numbers.AssocNo.{AssocNo}
+use Rattle.sv_base.specs.declared.numbers.BlockNo.{BlockNo}
+use Rattle.sv_base.specs.declared.value.Value.{Value}
+use Rattle.sv_base.specs.declared.value.Value.TheVariants as values
+use Rattle.bay_model.specs.declared.components.Comp.{Comp}
+use Rattle.bay_model.specs.declared.step.Step.{Step}
+use Rattle.bay_model.specs.declared.step.Step.TheVariants as steps
+use Rattle.text_words.specs.Words.{behind}
+use Rattle.text_words.specs.Numbers.{number_at, int_at}
+use Rattle.text_words.specs.Values.{read_as, truth_at, is_graphic, is_binary, hex_at}
+use Rattle.object_model.specs.Fits.{fits, is_association, is_sound}
+use Rattle.object_model.specs.Numbers.{number_in}
+use Rattle.object_model.specs.References.{block_references}
+use Rattle.run_record.specs.Grammar.{IsAssoc}
+use Rattle.record_steps.specs.Shapes.{is_bits, bits_of, signed_of, number_of, text_of, marked_at, truth_or, shape_at}
+use Rattle.record_steps.specs.Resolved.{turn_of}
+use Rattle.record_steps.specs.Told.{turn, refused}
+use Rattle.record_steps.proofs.ValueLaws.{visible}
+
+-- the place of an element is one of the list's
+place-within : (m n i : ℕ) → cond (nat_lt m n) (Some m) None ≡ Some i → i < n
+place-within m n i h = by (nat_lt m n) refl h where
+  by : (b : Bool) → nat_lt m n ≡ b → cond b (Some m) None ≡ Some i → i < n
+  by true e h = let same : m ≡ i = cc in grind (arith, nat_tests)
+  by false e h = absurd cc
+
+pub block-within : (c : Config) (word : List ℕ) (b : ℕ) → number_in (block_references c) word ≡ Some b → nat_lt b (length c.blocks) ≡ true
+block-within c word b h = let low = place-within (position_or_len (bytes_eq word) (block_references c)) (length (block_references c)) b h in grind (arith, nat_tests, length-map)
+
+-- a value that a text has by its shape is sound
+sound-read : {A : Type 0} (kind : A → Value) → ((a : A) → is_sound (kind a) ≡ true) → (o : Option A) (v : Value) → read_as kind o ≡ Some v → is_sound v ≡ true
+sound-read kind sound None v h = absurd cc
+sound-read kind sound (Some a) v h = let same : kind a ≡ v = cc in ap is_sound (sym same) ∙ sound a
+
+sound-bits : (word : List ℕ) (v : Value) → bits_of word ≡ Some v → is_sound v ≡ true
+sound-bits word v h = by (list_all is_binary word) h where
+  by : (b : Bool) → (if b then Some (values.Bits (map (λ octet. octet == 49) word)) else None) ≡ Some v → is_sound v ≡ true
+  by true h = let same : values.Bits (map (λ octet. octet == 49) word) ≡ v = cc in ap is_sound (sym same)
+  by false h = absurd cc
+
+sound-text : (octets : List ℕ) (v : Value) → text_of octets ≡ Some v → is_sound v ≡ true
+sound-text octets v h = by (list_all is_graphic octets) refl h where
+  by : (b : Bool) → list_all is_graphic octets ≡ b → (if b then Some (values.Text octets) else None) ≡ Some v → is_sound v ≡ true
+  by true e h = let same : values.Text octets ≡ v = cc in ap is_sound (sym same) ∙ visible octets e
+  by false e h = absurd cc
+
+sound-number : (word : List ℕ) (v : Value) → number_of word ≡ Some v → is_sound v ≡ true
+sound-number word v h = by (behind (codes "-") word) h where
+  by : (o : Option (List ℕ)) → signed_of word o ≡ Some v → is_sound v ≡ true
+  by None h = sound-read values.Uint (λ n. refl) (number_at word) v h
+  by (Some digits) h = sound-read values.Int (λ z. refl) (int_at 64 word) v h
+
+sound-marked : (comp : Comp) (word : List ℕ) (v : Value) → marked_at comp word ≡ Some v → is_sound v ≡ true
+unfolding marked_at
+sound-marked comp [] v h = absurd cc
+sound-marked comp (mark ∷ octets) v h = by (mark == 39) (mark == 120) (is_bits comp) h where
+  by : (a b c : Bool) → (if a then text_of octets else if b then read_as values.Octets (hex_at octets) else if c then bits_of (mark ∷ octets) else number_of (mark ∷ octets)) ≡ Some v → is_sound v ≡ true
+  by true b c h = sound-text octets v h
+  by false true c h = sound-read values.Octets (λ o. refl) (hex_at octets) v h
+  by false false true h = sound-bits (mark ∷ octets) v h
+  by false false false h = sound-number (mark ∷ octets) v h
+
+pub sound-shape : (comp : Comp) (word : List ℕ) (v : Value) → shape_at comp word ≡ Some v → is_sound v ≡ true
+unfolding shape_at
+sound-shape comp word v h = by (truth_at word) h where
+  by : (o : Option Bool) → truth_or o (marked_at comp word) ≡ Some v → is_sound v ≡ true
+  by None h = sound-marked comp word v h
+  by (Some b) h = let same : values.Bool b ≡ v = cc in ap is_sound (sym same)
+
+-- the steps
+is_numbered : (a : AssocNo) → IsAssoc a → is_association a.0 ≡ true
+is_numbered a h = grind (arith, nat_tests)
+
+module _ (c : Config) (a : AssocNo) (is : IsAssoc a) where
+  fitting : (actor : ℕ) (step : Step) → fits c step ≡ true → turn actor step ≡ turn_of c actor step
+  fitting actor step h = sym (ap (λ b. if b then turn actor step else refused 4) h)
+
+  pub open-told : (writer : ActorNo) → turn a.0 (steps.Open a 65000 writer) ≡ turn_of c a.0 (steps.Open a 65000 writer)
+  open-told writer = fitting a.0 (steps.Open a 65000 writer) (and_from _ _ (is_numbered a is) refl)
+
+  pub take-told : turn a.0 (steps.Take a) ≡ turn_of c a.0 (steps.Take a)
+  take-told = fitting a.0 (steps.Take a) (is_numbered a is)
+
+  pub lost-told : turn a.0 (steps.Lost a) ≡ turn_of c a.0 (steps.Lost a)
+  lost-told = fitting a.0 (steps.Lost a) (is_numbered a is)
+
+  pub write-told : (reference word : List ℕ) (b : BlockNo) (comp : Comp) (v : Value) → number_in (block_references c) reference ≡ Some b.0 → shape_at comp word ≡ Some v
+      → turn a.0 (steps.Write a b comp v) ≡ turn_of c a.0 (steps.Write a b comp v)
+  write-told reference word b comp v there shape =
+      fitting a.0 (steps.Write a b comp v) (and_from _ _ (is_numbered a is) (and_from _ _ (block-within c reference b.0 there) (sound-shape comp word v shape)))

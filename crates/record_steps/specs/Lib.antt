@@ -1,0 +1,9 @@
+-- What a line tells, from its names and values to its step.
+pub mod Components
+pub mod Shapes
+pub mod Settings
+pub mod Told
+pub mod Resolved
+pub mod Found
+pub mod Telling
+pub mod Own

@@ -1,0 +1,44 @@
+-- What is told where a step stands in a slot, and the association that a line names.
+use Rattle.std.specs.Prelude.{◌≡◌, ℕ}
+use Rattle.sv_base.specs.declared.numbers.AssocNo.{AssocNo}
+use Rattle.bay_model.specs.declared.step.Step.{Step}
+use Rattle.run_record.specs.declared.line.RecLine.{RecLine}
+use Rattle.run_record.specs.declared.line.RecLine.TheVariants as lines
+use Rattle.record_steps.specs.Told as tells
+use Rattle.record_steps.specs.declared.cause.Kind.{Kind}
+use Rattle.record_steps.specs.declared.cause.Kind.TheVariants as kinds
+use Rattle.record_steps.specs.declared.telling.Told.{Told}
+use Rattle.record_steps.specs.declared.telling.Told.TheVariants as tolds
+
+abbrev pub number_of : Kind → ℕ
+number_of kinds.Name = 3
+number_of kinds.State = 5
+number_of kinds.Value = 4
+number_of kinds.NotBuilt = 9
+
+abbrev pub telling : Told → Step → tells.Told
+telling tolds.Nothing step = tells.skip
+telling (tolds.At moment) step = tells.pass_to moment
+telling (tolds.Step actor) step = tells.turn actor.0 step
+telling (tolds.Refused kind) step = tells.refused (number_of kind)
+telling tolds.End step = tells.last
+
+-- a line that names no association
+abbrev pub NamesNone : RecLine → Type 0
+NamesNone (lines.Open a form) = ⊥
+NamesNone (lines.Write a block comp value) = ⊥
+NamesNone (lines.Pdu a hex) = ⊥
+NamesNone (lines.Piece a hex) = ⊥
+NamesNone (lines.Take a) = ⊥
+NamesNone (lines.Lost a) = ⊥
+NamesNone _ = Unit {0}
+
+-- one that names this one
+abbrev pub Names : RecLine → AssocNo → Type 0
+Names (lines.Open b form) a = b ≡ a
+Names (lines.Write b block comp value) a = b ≡ a
+Names (lines.Pdu b hex) a = b ≡ a
+Names (lines.Piece b hex) a = b ≡ a
+Names (lines.Take b) a = b ≡ a
+Names (lines.Lost b) a = b ≡ a
+Names _ a = ⊥
