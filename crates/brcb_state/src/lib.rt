@@ -3,11 +3,11 @@
 #![tactic(auto)]
 
 mod block;
-mod told;
 mod laws;
 mod option_writes;
 mod options;
 mod reads;
+mod told;
 mod writes;
 
 // a block, and what it is told of its entries

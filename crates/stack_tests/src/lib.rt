@@ -13,16 +13,13 @@ mod pdu;
 
 // the layers of the stack, from the lowest
 #[cfg(test)]
-mod transport;
-
+mod acse;
 #[cfg(test)]
 mod session;
-
-#[cfg(test)]
-mod acse;
-
 #[cfg(test)]
 mod stack;
+#[cfg(test)]
+mod transport;
 
 // octets written as text
 #[cfg(test)]
