@@ -1,17 +1,47 @@
 -- An APDU is read exactly where it is spelled, and refused exactly for its cause.
-use Rattle.std.proofs.Common.{◌≡◌, ℕ, Bool, true, false, cond, Option, Some, None, Result, Ok, Err, refl, sym, ap, subst, ◌∙◌}
+use Rattle.std.proofs.Common.{◌≡◌, ℕ, Bool, true, false, cond, List, Option, Some, None, Result, Ok, Err, refl, sym, ap, subst, ◌∙◌}
+use Rattle.std.proofs.lemmas.Bool.{eq-eqb}
 use Rattle.ber_grammar.specs.Octets.{IsBytes}
-use Rattle.ber_grammar.specs.Place.{Piece}
-use Rattle.ber_grammar.specs.Reader.{◌>>=◌, Gives, Reads}
+use Rattle.ber_grammar.specs.Place.{Piece, Spot, content_piece}
+use Rattle.ber_grammar.specs.Reader.{◌>>=◌, and_then, Gives, Reads}
 use Rattle.ber_grammar.proofs.ReaderLaws.{exact_from, reads_from, ok_is, err_is}
+use Rattle.acse_apdu.specs.declared.codes.TheConstants.{AARQ, AARE}
 use Rattle.acse_apdu.specs.declared.fault.AcFault.{AcFault}
 use Rattle.acse_apdu.specs.declared.fault.AcFault.TheVariants.{Apdu, ContextName, NoUserInformation}
 use Rattle.acse_apdu.specs.Grammar.{IsApdu, NamesMms, IsAccepted, Carries, IsAarq, IsAarqRefused, IsAare, IsAareRefused, IsRelease, IsReleaseRefused}
-use Rattle.acse_apdu.specs.Fields.{apdu_at}
+use Rattle.acse_apdu.specs.Apdu.{with_fields, apdu_at}
 use Rattle.acse_apdu.specs.Contents.{names_mms, is_accepted, pdu_at}
-use Rattle.acse_apdu.specs.Reading.{or_fault, association_at, aarq_at, aare_at, release_at}
-use Rattle.acse_apdu.proofs.FieldLaws.{apdu_again, apdu_found, apdu-holds}
+use Rattle.acse_apdu.specs.Reading.{association_at, aarq_at, aare_at, release_at}
+use Rattle.ber_grammar.proofs.OctetLaws.{Spells-bytes}
+use Rattle.ber_grammar.proofs.OptionLaws.{some_is, then_some}
+use Rattle.ber_grammar.proofs.FieldLaws.{fields_again, fields_found, with_tag-found, whole_again, whole_found}
+use Rattle.ber_grammar.specs.Element.{Element}
+use Rattle.ber_grammar.specs.Fields.{AreFields, spot_in, fields_in, with_tag, whole_at, whole_in}
+use Rattle.ber_grammar.specs.Steps.{required}
 use Rattle.acse_apdu.proofs.ContentLaws.{names_again, names_found, accepted_again, accepted_found, pdu_again, pdu_found}
+
+-- ---- the APDU
+
+pub apdu_again : (tag : ℕ) (input content : Piece) → IsApdu tag input content → apdu_at tag input ≡ Some content
+unfolding apdu_at
+apdu_again tag input content (e, fields, spelled, is_tag, at, row) =
+    let all : fields_in (content_piece (spot_in input e)) ≡ Some fields = ap fields_in (sym at) ∙ fields_again content fields row in
+    rw (whole_again input.octets e spelled, eq-eqb e.tag tag is_tag, all) (ap (λ (x : Piece). Some x) (sym at))
+
+pub apdu_found : (tag : ℕ) (input content : Piece) → apdu_at tag input ≡ Some content → IsApdu tag input content
+unfolding apdu_at
+apdu_found tag input content h =
+    let a = then_some (whole_in input) (λ (s : Spot). and_then (with_tag tag s) with_fields) content h in
+    let e = then_some (whole_at input.octets) (λ (e : Element). Some (spot_in input e)) a.0 a.1 in
+    let spot : spot_in input e.0 ≡ a.0 = some_is (spot_in input e.0) a.0 e.2 in
+    let b = then_some (with_tag tag a.0) with_fields content a.2 in
+    let c = with_tag-found tag a.0 b.0 b.1 in
+    let d = then_some (fields_in b.0) (λ (fields : List Spot). Some b.0) content b.2 in
+    let at : b.0 ≡ content = some_is b.0 content d.2 in
+    (e.0, d.0, whole_found input.octets e.0 e.1, ap (λ (s : Spot). s.element.tag) spot ∙ c.0, sym at ∙ c.1 ∙ ap content_piece (sym spot), subst (λ (x : Piece). AreFields x d.0) at (fields_found b.0 d.0 d.1))
+
+pub apdu-holds : (tag : ℕ) (input content : Piece) → IsBytes input.octets → IsApdu tag input content → IsBytes content.octets
+apdu-holds tag input content fits (e, fields, spelled, is_tag, at, row) = subst (λ (x : Piece). IsBytes x.octets) (sym at) (Spells-bytes input.octets e fits spelled)
 
 -- ---- which way a test went
 
@@ -43,11 +73,11 @@ AssociationTells content (Err Apdu) = ⊥
 AssociationTells content (Err ContextName) = ¬ NamesMms content
 AssociationTells content (Err NoUserInformation) = NamesMms content × ((pdu : Piece) → ¬ Carries content pdu)
 
-carried : (content : Piece) (o : Option Piece) → pdu_at content ≡ o → IsBytes content.octets → NamesMms content → AssociationTells content (or_fault NoUserInformation o)
+carried : (content : Piece) (o : Option Piece) → pdu_at content ≡ o → IsBytes content.octets → NamesMms content → AssociationTells content (required NoUserInformation o)
 carried content (Some pdu) h fits names = (names, pdu_found content pdu fits h)
 carried content None h fits names = (names, λ pdu carries. (let some = pdu_again content pdu carries in cc))
 
-named : (content : Piece) (b : Bool) → names_mms content ≡ b → IsBytes content.octets → AssociationTells content (cond b (or_fault NoUserInformation (pdu_at content)) (Err ContextName))
+named : (content : Piece) (b : Bool) → names_mms content ≡ b → IsBytes content.octets → AssociationTells content (cond b (required NoUserInformation (pdu_at content)) (Err ContextName))
 named content true h fits = carried content (pdu_at content) refl fits (names_found content h)
 named content false h fits = λ names. (let accepts = names_again content names in cc)
 
@@ -69,31 +99,31 @@ abbrev AarqTells : Piece → Result Piece AcFault → Type 0
 AarqTells input (Ok pdu) = IsAarq input pdu
 AarqTells input (Err f) = IsAarqRefused input f
 
-aarq_inside : (input content : Piece) (r : Result Piece AcFault) → IsApdu 96 input content → AssociationTells content r → AarqTells input r
+aarq_inside : (input content : Piece) (r : Result Piece AcFault) → IsApdu AARQ input content → AssociationTells content r → AarqTells input r
 aarq_inside input content (Ok pdu) apdu h = (content, apdu, h.0, h.1)
 aarq_inside input content (Err Apdu) apdu h = absurd h
 aarq_inside input content (Err ContextName) apdu h = (content, apdu, h)
 aarq_inside input content (Err NoUserInformation) apdu h = (content, apdu, h.0, h.1)
 
-aarq_found : (input : Piece) (o : Option Piece) → apdu_at 96 input ≡ o → IsBytes input.octets → AarqTells input (or_fault Apdu o >>= λ content. association_at content)
+aarq_found : (input : Piece) (o : Option Piece) → apdu_at AARQ input ≡ o → IsBytes input.octets → AarqTells input (required Apdu o >>= λ content. association_at content)
 aarq_found input (Some content) h fits =
-    let apdu = apdu_found 96 input content h in
-    aarq_inside input content (association_at content) apdu (association_tells content (apdu-holds 96 input content fits apdu))
-aarq_found input None h fits = λ content apdu. (let some = apdu_again 96 input content apdu in cc)
+    let apdu = apdu_found AARQ input content h in
+    aarq_inside input content (association_at content) apdu (association_tells content (apdu-holds AARQ input content fits apdu))
+aarq_found input None h fits = λ content apdu. (let some = apdu_again AARQ input content apdu in cc)
 
 aarq_tells : (input : Piece) → IsBytes input.octets → AarqTells input (aarq_at input)
 unfolding aarq_at
-aarq_tells input fits = aarq_found input (apdu_at 96 input) refl fits
+aarq_tells input fits = aarq_found input (apdu_at AARQ input) refl fits
 
 pub aarq_again : (input pdu : Piece) → IsAarq input pdu → aarq_at input ≡ Ok pdu
 unfolding aarq_at
-aarq_again input pdu (content, apdu, names, carries) = rw (apdu_again 96 input content apdu) (association_again content pdu names carries)
+aarq_again input pdu (content, apdu, names, carries) = rw (apdu_again AARQ input content apdu) (association_again content pdu names carries)
 
 aarq_refused : (input : Piece) (f : AcFault) → IsBytes input.octets → IsAarqRefused input f → aarq_at input ≡ Err f
 unfolding aarq_at
-aarq_refused input Apdu fits h = rw (no_apdu 96 input h) refl
-aarq_refused input ContextName fits (content, apdu, not) = rw (apdu_again 96 input content apdu) (misnamed content not)
-aarq_refused input NoUserInformation fits (content, apdu, names, not) = rw (apdu_again 96 input content apdu) (carries_none content (apdu-holds 96 input content fits apdu) names not)
+aarq_refused input Apdu fits h = rw (no_apdu AARQ input h) refl
+aarq_refused input ContextName fits (content, apdu, not) = rw (apdu_again AARQ input content apdu) (misnamed content not)
+aarq_refused input NoUserInformation fits (content, apdu, names, not) = rw (apdu_again AARQ input content apdu) (carries_none content (apdu-holds AARQ input content fits apdu) names not)
 
 pub aarq_exact : (input : Piece) → IsBytes input.octets → Reads (λ (p : Piece). p) (aarq_at input) (IsAarq input) (IsAarqRefused input)
 aarq_exact input fits = exact_from (aarq_at input) (IsAarq input) (IsAarqRefused input) (AarqTells input) (λ p h. h) (λ f h. h) (aarq_tells input fits) (aarq_again input) (λ f h. aarq_refused input f fits h)
@@ -104,45 +134,45 @@ abbrev AareTells : Piece → Result Piece AcFault → Type 0
 AareTells input (Ok pdu) = IsAare input pdu
 AareTells input (Err f) = IsAareRefused input f
 
-aare_inside : (input content : Piece) (r : Result Piece AcFault) → IsApdu 97 input content → IsAccepted content → AssociationTells content r → AareTells input r
+aare_inside : (input content : Piece) (r : Result Piece AcFault) → IsApdu AARE input content → IsAccepted content → AssociationTells content r → AareTells input r
 aare_inside input content (Ok pdu) apdu accepts h = (content, apdu, accepts, h.0, h.1)
 aare_inside input content (Err Apdu) apdu accepts h = absurd h
 aare_inside input content (Err ContextName) apdu accepts h = (content, apdu, accepts, h)
 aare_inside input content (Err NoUserInformation) apdu accepts h = (content, apdu, accepts, h.0, h.1)
 
-aare_result : (input content : Piece) (b : Bool) → is_accepted content ≡ b → IsBytes content.octets → apdu_at 97 input ≡ Some content → AareTells input (cond b (association_at content) (Err Apdu))
-aare_result input content true h fits at = aare_inside input content (association_at content) (apdu_found 97 input content at) (accepted_found content fits h) (association_tells content fits)
+aare_result : (input content : Piece) (b : Bool) → is_accepted content ≡ b → IsBytes content.octets → apdu_at AARE input ≡ Some content → AareTells input (cond b (association_at content) (Err Apdu))
+aare_result input content true h fits at = aare_inside input content (association_at content) (apdu_found AARE input content at) (accepted_found content fits h) (association_tells content fits)
 aare_result input content false h fits at =
     λ other apdu accepts.
-    let some = apdu_again 97 input other apdu in
+    let some = apdu_again AARE input other apdu in
     let same : content ≡ other = cc in
     let accepted = accepted_again content (subst IsAccepted (sym same) accepts) in
     cc
 
-aare_found : (input : Piece) (o : Option Piece) → apdu_at 97 input ≡ o → IsBytes input.octets → AareTells input (or_fault Apdu o >>= λ content. cond (is_accepted content) (association_at content) (Err Apdu))
-aare_found input (Some content) h fits = aare_result input content (is_accepted content) refl (apdu-holds 97 input content fits (apdu_found 97 input content h)) h
-aare_found input None h fits = λ content apdu accepts. (let some = apdu_again 97 input content apdu in cc)
+aare_found : (input : Piece) (o : Option Piece) → apdu_at AARE input ≡ o → IsBytes input.octets → AareTells input (required Apdu o >>= λ content. cond (is_accepted content) (association_at content) (Err Apdu))
+aare_found input (Some content) h fits = aare_result input content (is_accepted content) refl (apdu-holds AARE input content fits (apdu_found AARE input content h)) h
+aare_found input None h fits = λ content apdu accepts. (let some = apdu_again AARE input content apdu in cc)
 
 aare_tells : (input : Piece) → IsBytes input.octets → AareTells input (aare_at input)
 unfolding aare_at
-aare_tells input fits = aare_found input (apdu_at 97 input) refl fits
+aare_tells input fits = aare_found input (apdu_at AARE input) refl fits
 
 pub aare_again : (input pdu : Piece) → IsAare input pdu → aare_at input ≡ Ok pdu
 unfolding aare_at
-aare_again input pdu (content, apdu, accepts, names, carries) = rw (apdu_again 97 input content apdu, accepted_again content accepts) (association_again content pdu names carries)
+aare_again input pdu (content, apdu, accepts, names, carries) = rw (apdu_again AARE input content apdu, accepted_again content accepts) (association_again content pdu names carries)
 
-aare_no : (input : Piece) (o : Option Piece) → apdu_at 97 input ≡ o → IsBytes input.octets → IsAareRefused input Apdu → (or_fault Apdu o >>= λ content. cond (is_accepted content) (association_at content) (Err Apdu)) ≡ Err Apdu
+aare_no : (input : Piece) (o : Option Piece) → apdu_at AARE input ≡ o → IsBytes input.octets → IsAareRefused input Apdu → (required Apdu o >>= λ content. cond (is_accepted content) (association_at content) (Err Apdu)) ≡ Err Apdu
 aare_no input (Some content) h fits not =
-    let apdu = apdu_found 97 input content h in
-    rw (unaccepted content (apdu-holds 97 input content fits apdu) (not content apdu)) refl
+    let apdu = apdu_found AARE input content h in
+    rw (unaccepted content (apdu-holds AARE input content fits apdu) (not content apdu)) refl
 aare_no input None h fits not = refl
 
 aare_refused : (input : Piece) (f : AcFault) → IsBytes input.octets → IsAareRefused input f → aare_at input ≡ Err f
 unfolding aare_at
-aare_refused input Apdu fits h = aare_no input (apdu_at 97 input) refl fits h
-aare_refused input ContextName fits (content, apdu, accepts, not) = rw (apdu_again 97 input content apdu, accepted_again content accepts) (misnamed content not)
+aare_refused input Apdu fits h = aare_no input (apdu_at AARE input) refl fits h
+aare_refused input ContextName fits (content, apdu, accepts, not) = rw (apdu_again AARE input content apdu, accepted_again content accepts) (misnamed content not)
 aare_refused input NoUserInformation fits (content, apdu, accepts, names, not) =
-    rw (apdu_again 97 input content apdu, accepted_again content accepts) (carries_none content (apdu-holds 97 input content fits apdu) names not)
+    rw (apdu_again AARE input content apdu, accepted_again content accepts) (carries_none content (apdu-holds AARE input content fits apdu) names not)
 
 pub aare_exact : (input : Piece) → IsBytes input.octets → Reads (λ (p : Piece). p) (aare_at input) (IsAare input) (IsAareRefused input)
 aare_exact input fits = exact_from (aare_at input) (IsAare input) (IsAareRefused input) (AareTells input) (λ p h. h) (λ f h. h) (aare_tells input fits) (aare_again input) (λ f h. aare_refused input f fits h)
@@ -153,7 +183,7 @@ abbrev ReleaseTells : ℕ → Piece → Result (Unit {0}) AcFault → Type 0
 ReleaseTells tag input (Ok x) = IsRelease tag input
 ReleaseTells tag input (Err f) = IsReleaseRefused tag input f
 
-release_found : (tag : ℕ) (input : Piece) (o : Option Piece) → apdu_at tag input ≡ o → ReleaseTells tag input (or_fault Apdu o >>= λ content. Ok tt)
+release_found : (tag : ℕ) (input : Piece) (o : Option Piece) → apdu_at tag input ≡ o → ReleaseTells tag input (required Apdu o >>= λ content. Ok tt)
 release_found tag input (Some content) h = (content, apdu_found tag input content h)
 release_found tag input None h = (refl, λ (content, apdu). (let some = apdu_again tag input content apdu in cc))
 

@@ -1,4 +1,4 @@
-pub mod FieldLaws
+-- What reading and writing APDUs obey.
 pub mod ContentLaws
 pub mod ApduLaws
 pub mod AnywhereLaws

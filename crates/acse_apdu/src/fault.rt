@@ -1,3 +1,5 @@
+//! Why an APDU is refused.
+
 /// Why octets are no APDU that is awaited, in the order of the tests.
 #[derive(Clone, Copy, Debug, PartialEq, Eq)]
 pub enum AcFault {

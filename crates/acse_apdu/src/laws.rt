@@ -1,7 +1,10 @@
+//! What is promised of all APDUs: each function here runs nothing, and its contract is a law.
+
 ghost use Rattle.std.specs.Prelude.{◌≡◌, ◌<◌, ◌≤◌, ◌^◌, ◌⊎◌, ℕ, List, length, Ok};
 ghost use Rattle.ber_grammar.specs.Octets.{IsBytes};
 ghost use Rattle.ber_grammar.specs.Place.{Piece};
 ghost use Rattle.ber_grammar.specs.Reader.{Reads};
+ghost use Rattle.acse_apdu.specs.declared.codes.TheConstants.{RLRQ, RLRE};
 ghost use Rattle.acse_apdu.specs.declared.fault.AcFault.{AcFault};
 ghost use Rattle.acse_apdu.specs.Grammar.{IsAarq, IsAarqRefused, IsAare, IsAareRefused, IsRelease};
 ghost use Rattle.acse_apdu.specs.Reading.{octets_in, aarq_at, aare_at, pdu_of_aarq, pdu_of_aare, rlrq_of, rlre_of};
@@ -29,18 +32,18 @@ pub fn associations_are_read_back()
 
 /// What one side writes to ask for a release or to answer it the other side takes.
 pub fn releases_are_read_back()
-    ensures rlrq { rlrq_of (release_octets 98) ≡ Ok tt }
-    ensures rlre { rlre_of (release_octets 99) ≡ Ok tt }
-    ensures rlrq_spelled { (input : Piece) → input.octets ≡ release_octets 98 → IsRelease 98 input }
-    ensures rlre_spelled { (input : Piece) → input.octets ≡ release_octets 99 → IsRelease 99 input }
+    ensures rlrq { rlrq_of (release_octets RLRQ) ≡ Ok tt }
+    ensures rlre { rlre_of (release_octets RLRE) ≡ Ok tt }
+    ensures rlrq_spelled { (input : Piece) → input.octets ≡ release_octets RLRQ → IsRelease RLRQ input }
+    ensures rlre_spelled { (input : Piece) → input.octets ≡ release_octets RLRE → IsRelease RLRE input }
 {}
 
 /// What is written has exactly the fields that it says, and no spelling of these fields is shorter.
 pub fn written_apdus_are_minimal()
     ensures aarq { (context : ℕ) (pdu : List ℕ) → context < 2 ^ 32 → length (aarq_content context pdu) < 2 ^ 32 → IsPlainAarq (aarq_octets context pdu) context pdu }
     ensures aare { (context : ℕ) (pdu : List ℕ) → context < 2 ^ 32 → length (aare_content context pdu) < 2 ^ 32 → IsPlainAare (aare_octets context pdu) context pdu }
-    ensures rlrq { IsPlainRelease 98 (release_octets 98) }
-    ensures rlre { IsPlainRelease 99 (release_octets 99) }
+    ensures rlrq { IsPlainRelease RLRQ (release_octets RLRQ) }
+    ensures rlre { IsPlainRelease RLRE (release_octets RLRE) }
     ensures shortest_aarq { (octets : List ℕ) (context : ℕ) (pdu : List ℕ) → IsBytes octets → IsPlainAarq octets context pdu → length (aarq_octets context pdu) ≤ length octets }
     ensures shortest_aare { (octets : List ℕ) (context : ℕ) (pdu : List ℕ) → IsBytes octets → IsPlainAare octets context pdu → length (aare_octets context pdu) ≤ length octets }
     ensures shortest_release { (tag : ℕ) (octets : List ℕ) → IsBytes octets → IsPlainRelease tag octets → length (release_octets tag) ≤ length octets }

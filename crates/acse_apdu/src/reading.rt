@@ -1,25 +1,45 @@
+//! What an APDU says: its application context, its result, and the value in its user information.
+
 ghost use Rattle.std.specs.Prelude.{◌≡◌, IfOk};
 ghost use Rattle.std.specs.Option.{option_map};
 ghost use Rattle.ber_grammar.specs.Place.{piece};
 ghost use Rattle.ber_grammar.specs.Reader.{Gives, Reads};
 ghost use Rattle.ber_view.specs.View.{spot};
 ghost use Rattle.acse_apdu.specs.Grammar.{IsAarq, IsAarqRefused, IsAare, IsAareRefused, IsRelease, IsReleaseRefused};
+ghost use Rattle.acse_apdu.specs.Apdu.{apdu_at};
 ghost use Rattle.acse_apdu.specs.Contents.{names_mms, result_at, is_zero, is_accepted, is_context, value_of, external_of, pdu_at};
 ghost use Rattle.acse_apdu.specs.Reading.{association_at, aarq_at, aare_at, release_at, pdu_of_aarq, pdu_of_aare, rlrq_of, rlre_of};
 
+use crate::codes::{
+    AARE, AARQ, APPLICATION_CONTEXT_NAME, EXTERNAL, INTEGER, OBJECT_IDENTIFIER, RESULT, RLRE, RLRQ,
+    SINGLE_ASN1_TYPE, USER_INFORMATION,
+};
 use crate::fault::AcFault;
-use crate::fields::{apdu, field, fields, only, tagged};
-use ber_view::{Elements, Tlv, uint};
+use ber_view::{Elements, Tlv, fields, first_with, only_with, tagged, uint, whole};
+
+/// The content of the APDU with this tag, which is all of `bytes`.
+#[tactic(auto, unfolding(crate::specs::Apdu::apdu_at))]
+fn apdu(bytes: &[u8], tag: u32) -> Option<&[u8]>
+    ensures { option_map piece result ≡ apdu_at tag (piece bytes.entry) }
+{
+    let apdu = whole(bytes)?;
+    let content = tagged(&apdu, tag)?;
+    fields(content)?;
+    Some(content)
+}
 
 /// Whether the application context is that of MMS, 1.0.9506.2.3.
 #[tactic(auto, unfolding(crate::specs::Contents::names_mms))]
 fn has_mms_name(content: &[u8]) -> bool
     ensures { result ≡ names_mms (piece content.entry) }
 {
-    let Some(field) = field(content, 0xa1) else {
+    let Some(field) = first_with(content, APPLICATION_CONTEXT_NAME) else {
         return false;
     };
-    matches!(only(field, 0x06), Some([0x28, 0xca, 0x22, 2, 3]))
+    matches!(
+        only_with(field, OBJECT_IDENTIFIER),
+        Some([0x28, 0xca, 0x22, 2, 3])
+    )
 }
 
 /// The result of an AARE.
@@ -27,8 +47,8 @@ fn has_mms_name(content: &[u8]) -> bool
 fn result_of(content: &[u8]) -> Option<u64>
     ensures { result ≡ result_at (piece content.entry) }
 {
-    let field = field(content, 0xa2)?;
-    uint(only(field, 0x02)?).ok()
+    let field = first_with(content, RESULT)?;
+    uint(only_with(field, INTEGER)?).ok()
 }
 
 /// Whether the association was accepted.
@@ -42,7 +62,7 @@ fn has_accepted(content: &[u8]) -> bool
 fn has_context(field: &Tlv<'_>) -> bool
     ensures { result ≡ is_context (spot field.now) }
 {
-    field.tag == 0x02 && uint(field.content).is_ok_and(|n| n <= u64::from(u32::MAX))
+    field.tag == INTEGER && uint(field.content).is_ok_and(|n| n <= u64::from(u32::MAX))
 }
 
 /// What follows the number of a context.
@@ -53,7 +73,7 @@ fn value_behind<'a>(context: &Tlv<'a>, mut fields: Elements<'a>) -> Option<&'a [
     if fields.next().is_some() || !has_context(context) {
         return None;
     }
-    tagged(&value, 0xa0)
+    tagged(&value, SINGLE_ASN1_TYPE)
 }
 
 /// The value of an EXTERNAL, whose direct reference may be left out.
@@ -61,7 +81,7 @@ fn value_in<'a>(mut fields: Elements<'a>) -> Option<&'a [u8]>
     ensures { option_map piece result ≡ external_of fields.entry }
 {
     let first = fields.next()?;
-    if first.tag == 0x06 {
+    if first.tag == OBJECT_IDENTIFIER {
         let context = fields.next()?;
         return value_behind(&context, fields);
     }
@@ -73,8 +93,8 @@ fn value_in<'a>(mut fields: Elements<'a>) -> Option<&'a [u8]>
 fn user_data(content: &[u8]) -> Option<&[u8]>
     ensures { option_map piece result ≡ pdu_at (piece content.entry) }
 {
-    let information = field(content, 0xbe)?;
-    let external = only(information, 0x28)?;
+    let information = first_with(content, USER_INFORMATION)?;
+    let external = only_with(information, EXTERNAL)?;
     value_in(fields(external)?)
 }
 
@@ -92,7 +112,7 @@ fn association(content: &[u8]) -> Result<&[u8], AcFault>
 fn aarq(bytes: &[u8]) -> Result<&[u8], AcFault>
     ensures { Gives piece result (aarq_at (piece bytes.entry)) }
 {
-    let content = apdu(bytes, 0x60).ok_or(AcFault::Apdu)?;
+    let content = apdu(bytes, AARQ).ok_or(AcFault::Apdu)?;
     association(content)
 }
 
@@ -100,7 +120,7 @@ fn aarq(bytes: &[u8]) -> Result<&[u8], AcFault>
 fn aare(bytes: &[u8]) -> Result<&[u8], AcFault>
     ensures { Gives piece result (aare_at (piece bytes.entry)) }
 {
-    let content = apdu(bytes, 0x61).ok_or(AcFault::Apdu)?;
+    let content = apdu(bytes, AARE).ok_or(AcFault::Apdu)?;
     if !has_accepted(content) {
         return Err(AcFault::Apdu);
     }
@@ -152,18 +172,18 @@ pub fn read_aare(bytes: &[u8]) -> Result<&[u8], AcFault>
 ///
 /// Fails with `Apdu` where `bytes` are not one whole RLRQ that is cut into whole fields.
 pub fn read_rlrq(bytes: &[u8]) -> Result<(), AcFault>
-    ensures reads { Reads (λ x. x) result (λ x. IsRelease 98 (piece bytes.entry)) (IsReleaseRefused 98 (piece bytes.entry)) }
+    ensures reads { Reads (λ x. x) result (λ x. IsRelease RLRQ (piece bytes.entry)) (IsReleaseRefused RLRQ (piece bytes.entry)) }
     ensures exact { Gives (λ x. x) result (rlrq_of bytes.now) }
 {
-    release(bytes, 0x62)
+    release(bytes, RLRQ)
 }
 
 /// Takes an RLRE, release response (ISO 8650-1, 9.4), whatever whole fields it has.
 ///
 /// Fails with `Apdu` where `bytes` are not one whole RLRE that is cut into whole fields.
 pub fn read_rlre(bytes: &[u8]) -> Result<(), AcFault>
-    ensures reads { Reads (λ x. x) result (λ x. IsRelease 99 (piece bytes.entry)) (IsReleaseRefused 99 (piece bytes.entry)) }
+    ensures reads { Reads (λ x. x) result (λ x. IsRelease RLRE (piece bytes.entry)) (IsReleaseRefused RLRE (piece bytes.entry)) }
     ensures exact { Gives (λ x. x) result (rlre_of bytes.now) }
 {
-    release(bytes, 0x63)
+    release(bytes, RLRE)
 }

@@ -1,7 +1,14 @@
+//! APDUs, each in its one form.
+
 ghost use Rattle.std.specs.Prelude.{◌≡◌, ◌<◌, ◌^◌, ◌++◌, length, IfOk, OnOk};
 ghost use Rattle.ber_write.specs.Minimal.{octets_of};
+ghost use Rattle.acse_apdu.specs.declared.codes.TheConstants.{RLRQ, RLRE};
 ghost use Rattle.acse_apdu.specs.Written.{name_field, result_fields, external_content, information_content, aarq_content, aare_content, aarq_octets, aare_octets, release_octets};
 
+use crate::codes::{
+    AARE, AARQ, APPLICATION_CONTEXT_NAME, EXTERNAL, INTEGER, OBJECT_IDENTIFIER, RESULT,
+    RESULT_SOURCE_DIAGNOSTIC, SINGLE_ASN1_TYPE, USER_INFORMATION,
+};
 use ber_write::{put, put_uint};
 use std::alloc::{AllocError, Global};
 use sv_base::Octs;
@@ -12,9 +19,9 @@ fn external(alloc: Global, context: u32, pdu: &[u8]) -> Result<Vec<u8>, AllocErr
     ensures { IfOk result (λ v. v.items ≡ external_content context pdu.now) }
 {
     let mut out = Vec::new(alloc);
-    put(&mut out, 0x06, &[0x51, 1])?;
-    put_uint(&mut out, 0x02, u64::from(context))?;
-    put(&mut out, 0xa0, pdu)?;
+    put(&mut out, OBJECT_IDENTIFIER, &[0x51, 1])?;
+    put_uint(&mut out, INTEGER, u64::from(context))?;
+    put(&mut out, SINGLE_ASN1_TYPE, pdu)?;
     Ok(out)
 }
 
@@ -25,21 +32,25 @@ fn information(alloc: Global, context: u32, pdu: &[u8]) -> Result<Vec<u8>, Alloc
 {
     let external = external(alloc, context, pdu)?;
     let mut out = Vec::new(alloc);
-    put(&mut out, 0x28, &external)?;
+    put(&mut out, EXTERNAL, &external)?;
     Ok(out)
 }
 
 fn put_name(out: &mut Vec<u8>) -> Result<(), AllocError>
     ensures { OnOk result (out.new.items ≡ out.old.items ++ name_field) }
 {
-    put(out, 0xa1, &[0x06, 5, 0x28, 0xca, 0x22, 2, 3])
+    put(
+        out,
+        APPLICATION_CONTEXT_NAME,
+        &[0x06, 5, 0x28, 0xca, 0x22, 2, 3],
+    )
 }
 
 fn put_result(out: &mut Vec<u8>) -> Result<(), AllocError>
     ensures { OnOk result (out.new.items ≡ out.old.items ++ result_fields) }
 {
-    put(out, 0xa2, &[0x02, 1, 0])?;
-    put(out, 0xa3, &[0xa1, 3, 0x02, 1, 0])
+    put(out, RESULT, &[0x02, 1, 0])?;
+    put(out, RESULT_SOURCE_DIAGNOSTIC, &[0xa1, 3, 0x02, 1, 0])
 }
 
 /// The AARQ, association request, that asks for the application context of MMS and carries this PDU (ISO 8650-1, 9.1;
@@ -55,9 +66,9 @@ pub fn write_aarq(alloc: Global, context: u32, pdu: &[u8]) -> Result<Octs, Alloc
     let information = information(alloc, context, pdu)?;
     let mut fields = Vec::new(alloc);
     put_name(&mut fields)?;
-    put(&mut fields, 0xbe, &information)?;
+    put(&mut fields, USER_INFORMATION, &information)?;
     let mut out = Vec::new(alloc);
-    put(&mut out, 0x60, &fields)?;
+    put(&mut out, AARQ, &fields)?;
     Ok(Octs::from_vec(out))
 }
 
@@ -75,22 +86,22 @@ pub fn write_aare(alloc: Global, context: u32, pdu: &[u8]) -> Result<Octs, Alloc
     let mut fields = Vec::new(alloc);
     put_name(&mut fields)?;
     put_result(&mut fields)?;
-    put(&mut fields, 0xbe, &information)?;
+    put(&mut fields, USER_INFORMATION, &information)?;
     let mut out = Vec::new(alloc);
-    put(&mut out, 0x61, &fields)?;
+    put(&mut out, AARE, &fields)?;
     Ok(Octs::from_vec(out))
 }
 
 /// The RLRQ, release request, with the reason normal (ISO 8650-1, 9.3).
 pub fn write_rlrq() -> [u8; 5]
-    ensures { result ≡ release_octets 98 }
+    ensures { result ≡ release_octets RLRQ }
 {
     [0x62, 3, 0x80, 1, 0]
 }
 
 /// The RLRE, release response, with the reason normal (ISO 8650-1, 9.4).
 pub fn write_rlre() -> [u8; 5]
-    ensures { result ≡ release_octets 99 }
+    ensures { result ≡ release_octets RLRE }
 {
     [0x63, 3, 0x80, 1, 0]
 }

@@ -1,3 +1,5 @@
+//! The table stands for each history. The functions run nothing: each contract is a law.
+
 ghost use Rattle.std.specs.Prelude.{◌≡◌, ◌≢◌, [], ◌∷◌, ℕ, List, map, replicate};
 ghost use Rattle.bay_model.specs.Model.{Model};
 ghost use Rattle.bay_model.specs.Points.{Point, Past, opened, lost, took, terminated};

@@ -7,9 +7,9 @@ mod seat;
 mod table;
 mod waiting;
 
-pub use laws::{associations_cross_threads, associations_stand};
+// the associations, and what waits for one
 pub use table::Assocs;
 pub use waiting::{Ends, Full, Waiting};
 
-#[cfg(test)]
-mod tests;
+// their laws
+pub use laws::{associations_cross_threads, associations_stand};

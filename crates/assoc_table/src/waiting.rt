@@ -1,3 +1,5 @@
+//! What waits for an association, and the ends of one.
+
 use bay_model::Output;
 use sv_base::{ActorNo, CtlNo};
 

@@ -19,11 +19,10 @@ use Rattle.bay_model.specs.declared.flags.Change.{Change}
 use Rattle.bay_model.specs.declared.step.Setting.{Setting}
 use Rattle.bay_model.specs.declared.step.Step.TheVariants as steps
 use Rattle.bay_model.specs.Attributes.{attributes}
-use Rattle.bay_model.specs.Configured.{kind_of}
+use Rattle.bay_rooms.specs.Kinds.{kind_of, is_kind, is_in_range}
 use Rattle.bay_model.specs.Generated.{Parameter, parameters}
-use Rattle.bay_model.specs.Kinds.{is_kind, is_in_range}
 use Rattle.bay_model.specs.Lookups.{attr_of}
-use Rattle.bay_model.specs.Model.{Attr, Model}
+use Rattle.bay_model.specs.Model.{Model}
 use Rattle.bay_model.specs.Named.{configured_model}
 use Rattle.bay_model.specs.NamedLines.{is_setting}
 use Rattle.bay_model.specs.Points.{Past, Point, Deed, valued}
@@ -31,7 +30,7 @@ use Rattle.bay_model.specs.Settings.{set_to}
 use Rattle.bay_model.specs.Values.{value_at, gives}
 use Rattle.object_model.specs.Fits.{attr_types, is_sound, is_typed, setting_fits, fits}
 use Rattle.object_model.specs.Tables as tables
-use Rattle.object_model.proofs.FlagLaws.{flags-are}
+use Rattle.object_model.proofs.AttributeLaws.{flags-are}
 use Rattle.value_store.specs.Stored.{Stored, attribute}
 use Rattle.value_store.specs.Wholes.{Stands}
 use Rattle.trigger_core.specs.Points as points
@@ -39,10 +38,6 @@ use Rattle.trigger_core.specs.Points.{AreChanges, change_to}
 use Rattle.bay_core.specs.Changed.{given, last_set, change_from, AreMade, AreFit, IsValueOf, IsTyped, AreTyped}
 use Rattle.bay_config.specs.Servable.{attr_type}
 use Rattle.bay_core.specs.State.{AreHeld, IsSoundCell}
-
--- the trigger conditions that the object model gives are those of notes
-pub flags-same : (a : Attr) → tables.flags_of a ≡ points.flags_of a
-flags-same a = refl
 
 -- ---- the values stand
 

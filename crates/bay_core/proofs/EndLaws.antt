@@ -1,9 +1,8 @@
 -- A point that opens or loses an association.
 use Rattle.std.proofs.Common.{◌≡◌, ℕ, suc, max, Bool, true, false, List, ◌∷◌, Option, None, Some, refl, ap, arith, ◌∙◌, sym, subst, ◌⊎◌}
-use Rattle.std.specs.Prelude.{slice_get, if◌then◌else◌, is_some, ◌==◌, ◌||◌}
+use Rattle.std.specs.Prelude.{if◌then◌else◌, is_some, ◌==◌, ◌||◌}
 use Rattle.std.specs.Option.{option_map, option_map_or}
 use Rattle.std.proofs.lemmas.Bool.Decides.{nat_tests}
-use Rattle.std.proofs.lemmas.Option.{slice_get-map}
 use Rattle.list_laws.proofs.Options.{some_is}
 use Rattle.list_laws.proofs.Places.{got-map}
 use Rattle.sv_base.specs.declared.config.Config.{Config}
@@ -38,12 +37,6 @@ open-told m rows past a st number = by (row_of rows a).ends (ends a past) (st.ea
   by : (e : Option Ends) (f : Option model.Ends) → option_map ends_of e ≡ f → is_some e ≡ is_some f
   by None f is = ap is_some is
   by (Some e) f is = ap is_some is
-
-pub closed-told : (m : Model) (rows : List Row) (past : Past) (a : ℕ) → AssociationsStand rows m past → IsNumber a → option_map (λ (e : Ends). e.opener) (row_of rows a).ends ≡ None → ends a past ≡ None
-closed-told m rows past a st number none = by (row_of rows a).ends (ends a past) (st.each a number).ends none where
-  by : (e : Option Ends) (f : Option model.Ends) → option_map ends_of e ≡ f → option_map (λ (x : Ends). x.opener) e ≡ None → f ≡ None
-  by None f is none = sym is
-  by (Some e) f is none = cc
 
 -- opened by the one, with the other to take for it
 pub ends-told : (m : Model) (rows : List Row) (past : Past) (a : ℕ) (opener writer : ActorNo) → AssociationsStand rows m past → IsNumber a

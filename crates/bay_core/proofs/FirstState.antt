@@ -4,7 +4,7 @@ use Rattle.std.proofs.lemmas.List.{length-map}
 use Rattle.sv_base.specs.declared.config.Config.{Config}
 use Rattle.bay_model.specs.Named.{configured_model}
 use Rattle.bay_model.specs.Points.{now}
-use Rattle.bay_model.specs.Rooms.{Filled}
+use Rattle.bay_rooms.specs.Rooms.{Filled}
 use Rattle.bay_model.specs.declared.note.Mention.{Mention}
 use Rattle.assoc_table.specs.Seats.{closed}
 use Rattle.assoc_table.specs.Standing.{Stands as AssociationsStand}

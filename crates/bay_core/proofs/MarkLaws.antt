@@ -1,8 +1,8 @@
 -- Which attributes are marked, and of which there are changes.
-use Rattle.std.proofs.Common.{◌≡◌, refl, ap, sym, ◌∙◌, ◌<◌, ℕ, zero, suc, ◌+◌, ◌==◌, Bool, true, false, cond, List, [], ◌∷◌, length, drop, Option, Some, None, is_some, slice_set, slice_index_or, arith, if◌then◌else◌}
+use Rattle.std.proofs.Common.{◌≡◌, refl, ap, sym, ◌∙◌, ◌<◌, ℕ, zero, suc, Bool, true, false, List, [], ◌∷◌, length, Option, Some, None, is_some, slice_index_or, arith}
 use Rattle.std.specs.List.{All}
 use Rattle.std.specs.Option.{option_map}
-use Rattle.std.proofs.lemmas.List.{get_or_default, drop_more}
+use Rattle.std.proofs.lemmas.List.{get_or_default}
 use Rattle.sv_base.specs.declared.config.Config.{Config}
 use Rattle.sv_base.specs.declared.value.Value.{Value}
 use Rattle.bay_model.specs.declared.flags.Change.{Change}
@@ -12,20 +12,7 @@ use Rattle.value_store.specs.Stored.{Stored}
 use Rattle.trigger_core.specs.Noted.{change_of}
 use Rattle.bay_core.specs.Changed.{change_from}
 use Rattle.bay_core.specs.Marked.{is_marked, IsBlank, AreNoted, IsDone}
-use Rattle.bay_core.proofs.Distinct.{found}
-use Rattle.bay_core.proofs.SettingSteps.{mark_at}
-
--- a mark that is unmarked needs no change
-unmarked_by : (b : Bool) (mark : Bool) (ch : Change) (rest : Option Change) → (if b then false else mark) ≡ true → (mark ≡ true → is_some (cond b (Some ch) rest) ≡ true) → is_some rest ≡ true
-unmarked_by true mark ch rest is noted = cc
-unmarked_by false mark ch rest is noted = noted is
-
-pub noted_after : (changes : List Change) (i : ℕ) (ch : Change) (marks : List Bool) → i < length changes → ch ≡ slice_index_or changes i ch → ch.attr.0 < length marks
-    → AreNoted (drop i changes) marks → AreNoted (drop (i + 1) changes) (slice_set marks ch.attr.0 false)
-noted_after changes i ch marks below is there noted = λ x mark.
-    unmarked_by (ch.attr.0 == x) (is_marked marks x) ch (change_of (drop (i + 1) changes) (record { 0 = x }))
-    (sym (mark_at marks ch.attr.0 x false there) ∙ mark)
-    (λ was. ap (λ l. is_some (change_of l (record { 0 = x }))) (sym (drop_more changes i ch below ∙ ap (λ (e : Change). e ∷ drop (i + 1) changes) (sym is))) ∙ noted x was)
+use Rattle.bay_core.proofs.DistinctChanges.{found}
 
 -- where no change is left, nothing is marked
 pub blank_at_end : (marks : List Bool) → AreNoted [] marks → IsBlank marks
@@ -43,9 +30,6 @@ mapped (Some v) f = refl
 pub marked_are : (c : Config) (before after : List Stored) (settings : List Setting) (marks : List Bool) (changes : List Change) → IsDone c before settings after marks changes
     → (x : ℕ) → is_marked marks x ≡ is_some (change_of changes (record { 0 = x }))
 marked_are c before after settings marks changes done x = done.marked x ∙ (sym (mapped (set_to x settings) (change_from c before x)) ∙ ap is_some (sym (done.made x)))
-
-pub noted_all : (c : Config) (before after : List Stored) (settings : List Setting) (marks : List Bool) (changes : List Change) → IsDone c before settings after marks changes → AreNoted changes marks
-noted_all c before after settings marks changes done = λ x is. sym (marked_are c before after settings marks changes done x) ∙ is
 
 -- a mark is within the marks
 within_by : (marks : List Bool) (x : ℕ) → is_marked marks x ≡ true → x < length marks

@@ -1,11 +1,10 @@
 -- The next entries of blocks: the one that is offered first is that of the model.
-use Rattle.std.proofs.Common.{◌≡◌, ◌≤◌, ◌<◌, ℕ, zero, suc, ◌+◌, ◌-◌, max, Bool, true, false, List, [], ◌∷◌, length, map, drop, refl, sym, subst, ap, ◌∙◌, arith, inl, inr, ◌⊎◌}
+use Rattle.std.proofs.Common.{◌≡◌, ◌≤◌, ◌<◌, ℕ, suc, ◌+◌, ◌-◌, max, Bool, true, false, List, [], ◌∷◌, length, map, drop, refl, sym, subst, ap, ◌∙◌, arith, inl, inr, ◌⊎◌}
 use Rattle.std.specs.Prelude.{if◌then◌else◌, ◌&&◌, ◌==◌, nat_le, nat_lt, slice_get, Option, None, Some}
 use Rattle.std.specs.Option.{option_map, option_map_or, option_and_then}
 use Rattle.std.specs.List.{All}
 use Rattle.std.proofs.lemmas.Bool.Decides.{leb_tells}
 use Rattle.std.proofs.lemmas.Option.{slice_get-map}
-use Rattle.std.proofs.lemmas.List.Elements.{All-head, All-tail}
 use Rattle.list_laws.proofs.Places.{slice_get-drop, all-at}
 use Rattle.sv_base.specs.declared.numbers.AssocNo.{AssocNo}
 use Rattle.bay_model.specs.Model.{Model, Block}
@@ -15,7 +14,7 @@ use Rattle.bay_model.specs.Blocks.{enabler, is_enabled_by, is_overflown, sq_num,
 use Rattle.bay_model.specs.Retained.{front}
 use Rattle.bay_model.specs.Reports.{Offer, offer, first_offer}
 use Rattle.bay_model.specs.Reports as reports
-use Rattle.brcb_state.specs.declared.kept.Next.{Next}
+use Rattle.brcb_state.specs.declared.told.Next.{Next}
 use Rattle.brcb_state.specs.Changes.{is_by}
 use Rattle.entry_ring.specs.Held.{Held}
 use Rattle.entry_ring.specs.Ringed.{Ringed, entry_at}

@@ -1,11 +1,11 @@
 -- How a bay begins: what is found by a DatSet, and what each block stands for.
-use Rattle.std.proofs.Common.{◌≡◌, ◌≢◌, ◌<◌, ℕ, ◌+◌, Bool, true, false, cond, ◌&&◌, List, [], ◌∷◌, ◌++◌, map, length, drop, Option, Some, unwrap_or, refl, ap, ap₂, sym, ◌∙◌, subst, arith}
+use Rattle.std.proofs.Common.{◌≡◌, ◌≢◌, ◌<◌, ℕ, Bool, true, false, cond, ◌&&◌, List, [], ◌∷◌, ◌++◌, map, length, Option, Some, unwrap_or, refl, ap, ap₂, sym, ◌∙◌, subst, arith}
 use Rattle.std.specs.Prelude.{slice_get, slice_index_or}
 use Rattle.std.specs.Option.{option_map}
 use Rattle.std.specs.List.{All}
 use Rattle.std.specs.Str.{bytes_eq}
 use Rattle.std.proofs.lemmas.Bool.Decides.{Decides-eqb}
-use Rattle.std.proofs.lemmas.List.{append-nil, at_drop_more}
+use Rattle.std.proofs.lemmas.List.{append-nil}
 use Rattle.std.proofs.lemmas.List.Elements.{All-map, All-head, All-tail, All-nil}
 use Rattle.std.proofs.lemmas.Option.{slice_get-map}
 use Rattle.std.proofs.lemmas.Slice.Eq.{bytes_eq-Decides}
@@ -56,17 +56,6 @@ pub no-reference : (octets d domain item : List ℕ) → d ≡ domain → ((rest
 no-reference octets d domain item front other = sym (behind-other octets d (47 ∷ item) other) ∙ ap (λ x. bytes_eq octets (x ++ 47 ∷ item)) front
 
 -- ---- the data set of a reference
-
--- the row found so far is none
-pub none-before : (reference : List ℕ) (rows : List SetRow) (i : ℕ) (row : SetRow) → i < length rows → row ≡ slice_index_or rows i row → is_referred reference row ≡ false
-    → row_referred reference (drop i rows) ≡ row_referred reference (drop (i + 1) rows)
-none-before reference rows i row below is other = at_drop_more (row_referred reference) rows i row below
-    ∙ ap (λ t. cond t (Some (slice_index_or rows i row)) (row_referred reference (drop (i + 1) rows))) (ap (is_referred reference) (sym is) ∙ other)
-
-pub found-here : (reference : List ℕ) (rows : List SetRow) (i : ℕ) (row : SetRow) → i < length rows → row ≡ slice_index_or rows i row → is_referred reference row ≡ true
-    → row_referred reference (drop i rows) ≡ Some row
-found-here reference rows i row below is same = at_drop_more (row_referred reference) rows i row below
-    ∙ (ap (λ t. cond t (Some (slice_index_or rows i row)) (row_referred reference (drop (i + 1) rows))) (ap (is_referred reference) (sym is) ∙ same) ∙ ap Some (sym is))
 
 -- what holds of each row holds of the one that is found
 pub found-has : (P : SetRow → Type 0) (reference : List ℕ) (rows : List SetRow) → All P rows → (row : SetRow) → row_referred reference rows ≡ Some row → P row

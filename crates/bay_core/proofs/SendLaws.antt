@@ -12,7 +12,7 @@ use Rattle.sv_base.proofs.value.Values.TheLaws.TheKnot as data_values
 use Rattle.sv_base.specs.contracts.value.Values as DataValues
 use Rattle.bay_model.proofs.note.Note.TheSendSync as note
 use Rattle.bay_model.proofs.report.Report.TheSendSync as report
-use Rattle.bay_model.proofs.room.Fixed.TheSendSync as fixed
+use Rattle.bay_rooms.proofs.fixed.Fixed.TheSendSync as fixed
 use Rattle.bay_model.proofs.request.Scope.TheSendSync as scope
 use Rattle.bay_model.proofs.request.Target.TheSendSync as target
 use Rattle.bay_model.proofs.request.Targets.TheSendSync as targets

@@ -19,7 +19,7 @@ use Rattle.bay_model.specs.Notes.{Kept, note, union_of}
 use Rattle.bay_model.specs.Parameters.{parameters_at}
 use Rattle.bay_model.specs.Points.{Point, Past, now, valued}
 use Rattle.bay_model.specs.Retained.{kept_octets_of}
-use Rattle.bay_model.specs.Rooms.{Filled}
+use Rattle.bay_rooms.specs.Rooms.{Filled}
 use Rattle.bay_model.specs.Sets.{members, dynamic}
 use Rattle.assoc_table.proofs.StandLaws.{stands-other}
 use Rattle.brcb_state.specs.Standing.{Stands as BlockStands}

@@ -19,7 +19,7 @@ use Rattle.value_store.specs.Stored.{Stored, attribute, no_attribute, with_value
 use Rattle.trigger_core.specs.Noted.{change_of}
 use Rattle.bay_core.specs.Changed.{given, change_from}
 use Rattle.bay_core.specs.Marked.{is_marked, IsDone}
-use Rattle.bay_core.proofs.Distinct.{distinct-push}
+use Rattle.bay_core.proofs.DistinctChanges.{distinct-push}
 
 -- ---- an attribute that a later setting names
 
@@ -44,19 +44,6 @@ same y x is = by (eqb_tells y x) where
 -- it counts for nothing
 passed : (x : ℕ) (s : Setting) (later : List Setting) → is_some (set_to s.attr.0 later) ≡ true → set_to x (s ∷ later) ≡ set_to x later
 passed x s later is = passed_by (s.attr.0 == x) (set_to x later) s.value (λ e. ap (λ y. is_some (set_to y later)) (sym (same s.attr.0 x e)) ∙ is)
-
-pub done_passed : (c : Config) (before after : List Stored) (s : Setting) (later : List Setting) (marks : List Bool) (changes : List Change)
-    → is_marked marks s.attr.0 ≡ true → IsDone c before later after marks changes → IsDone c before (s ∷ later) after marks changes
-done_passed c before after s later marks changes mark done =
-    let is : is_some (set_to s.attr.0 later) ≡ true = sym (done.marked s.attr.0) ∙ mark in
-    record {
-      count = done.count;
-      values = λ x. done.values x ∙ ap (λ o. given o (attribute before x)) (sym (passed x s later is));
-      marked = λ x. done.marked x ∙ ap is_some (sym (passed x s later is));
-      made = λ x. done.made x ∙ ap (option_map (change_from c before x)) (sym (passed x s later is));
-      once = done.once;
-      few = omega (arith, done.few);
-    }
 
 -- ---- an attribute that none names
 

@@ -23,7 +23,7 @@ use Rattle.bay_model.specs.Singles.{arrival}
 use Rattle.bay_model.specs.Takes.{Given, given_report, taken}
 use Rattle.data_sets.specs.Booked.{node_numbers}
 use Rattle.brcb_state.specs.declared.block.Block.{Block as BlockState}
-use Rattle.brcb_state.specs.declared.kept.Next.{Next}
+use Rattle.brcb_state.specs.declared.told.Next.{Next}
 use Rattle.brcb_state.specs.Standing.{Stands as BlockStands}
 use Rattle.entry_ring.specs.Held.{Held}
 use Rattle.entry_ring.specs.Standing.{held}

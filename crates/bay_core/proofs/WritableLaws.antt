@@ -1,5 +1,5 @@
 -- The Data of a member can be written, where each attribute has a value of its type.
-use Rattle.std.proofs.Common.{◌≡◌, ◌<◌, ◌≤◌, ℕ, zero, suc, true, List, [], ◌∷◌, ◌++◌, length, map, flat_map, filter, slice_index_or, refl, ap, sym, ◌∙◌, subst, arith, length-append}
+use Rattle.std.proofs.Common.{◌≡◌, ◌<◌, ◌≤◌, ℕ, true, List, [], ◌∷◌, ◌++◌, length, map, flat_map, filter, slice_index_or, ap, sym, ◌∙◌, subst, arith, length-append}
 use Rattle.std.specs.List.{All}
 use Rattle.std.proofs.lemmas.Bool.{leb-true, ltb-true, eqb-true}
 use Rattle.std.proofs.lemmas.List.{length-map}
@@ -19,14 +19,13 @@ use Rattle.sv_base.specs.Fields.{shape_of}
 use Rattle.sv_base.specs.Types.{Shape, Fields, simple, composed, no_field, field}
 use Rattle.bay_model.specs.declared.tables.MemberShape.{MemberShape}
 use Rattle.bay_model.specs.Attributes.{attributes}
-use Rattle.bay_model.specs.Configured.{kind_of}
+use Rattle.bay_rooms.specs.Kinds.{kind_of, is_kind, is_in_range}
 use Rattle.bay_model.specs.Generated.{Parameter, parameters}
-use Rattle.bay_model.specs.Kinds.{is_kind, is_in_range}
 use Rattle.bay_model.specs.Lookups.{node_of}
 use Rattle.bay_model.specs.Named.{configured_model}
 use Rattle.bay_model.specs.NamedLines.{is_setting}
 use Rattle.bay_model.specs.Places.{largest, largest_shape, largest_fields}
-use Rattle.bay_model.specs.Slots.{IsSettable}
+use Rattle.bay_rooms.specs.Slots.{IsSettable}
 use Rattle.object_model.specs.Fits.{attr_types, is_sound}
 use Rattle.object_model.specs.Tables.{node_type}
 use Rattle.value_store.specs.Leaves.{leaf_shapes, leaf_shapes_in, HasValueOf, AreLeaves}

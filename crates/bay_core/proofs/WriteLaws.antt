@@ -6,8 +6,8 @@ use Rattle.list_laws.proofs.Places.{got-set, other-number}
 use Rattle.sv_base.specs.declared.config.Config.{Config}
 use Rattle.sv_base.specs.declared.numbers.AssocNo.{AssocNo}
 use Rattle.sv_base.specs.declared.value.Value.{Value}
-use Rattle.bay_model.specs.declared.step.Comp.{Comp}
-use Rattle.bay_model.specs.declared.step.Comp.TheVariants as comps
+use Rattle.bay_model.specs.declared.components.Comp.{Comp}
+use Rattle.bay_model.specs.declared.components.Comp.TheVariants as comps
 use Rattle.bay_model.specs.Model.{Model}
 use Rattle.bay_model.specs.Named.{configured_model}
 use Rattle.bay_model.specs.Points.{Point, Past, wrote}
@@ -19,7 +19,7 @@ use Rattle.brcb_state.specs.Changes.{written, effect_of}
 use Rattle.brcb_state.specs.Refusals.{answer_to, names_nothing, first_of, refusals}
 use Rattle.brcb_state.specs.Standing.{Stands as BlockStands, is_purging, outcome_of, after_deed, kept_at, is_known, Tells}
 use Rattle.brcb_state.specs.declared.block.Block.{Block}
-use Rattle.brcb_state.specs.declared.kept.Effect.{Effect}
+use Rattle.brcb_state.specs.declared.told.Effect.{Effect}
 use Rattle.brcb_state.proofs.WriteLaws.{stands-written}
 use Rattle.entry_ring.specs.Ringed.{after_purge}
 use Rattle.bay_core.specs.declared.part.Part.{Part}

@@ -8,8 +8,8 @@ use Rattle.sv_base.specs.declared.numbers.AssocNo.{AssocNo}
 use Rattle.sv_base.specs.declared.numbers.BlockNo.{BlockNo}
 use Rattle.sv_base.specs.declared.value.Value.{Value}
 use Rattle.bay_model.specs.declared.answer.Answer.TheVariants as answers
-use Rattle.bay_model.specs.declared.step.Comp.{Comp}
-use Rattle.bay_model.specs.declared.step.Comp.TheVariants as comps
+use Rattle.bay_model.specs.declared.components.Comp.{Comp}
+use Rattle.bay_model.specs.declared.components.Comp.TheVariants as comps
 use Rattle.bay_model.specs.declared.step.Step.TheVariants as steps
 use Rattle.bay_model.specs.Named.{configured_model}
 use Rattle.bay_model.specs.Points.{Past, wrote}
@@ -18,7 +18,7 @@ use Rattle.bay_model.specs.Outcomes.{deed_of, code_of}
 use Rattle.bay_model.specs.Answers.{History, points, answer}
 use Rattle.bay_model.specs.Acceptance.{fault}
 use Rattle.brcb_state.specs.Standing.{outcome_of}
-use Rattle.brcb_state.specs.declared.kept.Effect.{Effect}
+use Rattle.brcb_state.specs.declared.told.Effect.{Effect}
 use Rattle.assoc_table.proofs.StandLaws.{stands-other}
 use Rattle.bay_core.specs.declared.part.Part.{Part}
 use Rattle.bay_core.specs.Parting.{write_answer, written_by, without_effect, after_write}

@@ -1,12 +1,16 @@
+-- a bay, what it stands for, and what a step makes of it
 pub mod State
 pub mod Standing
 pub mod Turns
-pub mod Offers
-pub mod Parting
-pub mod Changed
+-- how it begins
 pub mod Opened
+-- what the process sets, and the entries that blocks get of it
+pub mod Changed
 pub mod Marked
 pub mod EntryOctets
+pub mod Events
+-- writes, losses and reports
+pub mod Offers
+pub mod Parting
 pub mod Again
 pub mod Reporting
-pub mod Events

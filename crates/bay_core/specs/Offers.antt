@@ -5,8 +5,8 @@ use Rattle.std.specs.Option.{option_map, option_and_then}
 use Rattle.sv_base.specs.declared.numbers.AssocNo.{AssocNo}
 use Rattle.bay_model.specs.Reports.{Offer}
 use Rattle.brcb_state.specs.Changes.{next_to}
-use Rattle.brcb_state.specs.declared.kept.Kept.{Kept}
-use Rattle.brcb_state.specs.declared.kept.Next.{Next}
+use Rattle.brcb_state.specs.declared.told.Kept.{Kept}
+use Rattle.brcb_state.specs.declared.told.Next.{Next}
 use Rattle.entry_ring.specs.Held.{Held}
 use Rattle.entry_ring.specs.Ringed.{entry_at}
 use Rattle.entry_ring.specs.Standing.{held}

@@ -2,11 +2,11 @@
 use Rattle.std.specs.Prelude.{ℕ, List, map, false, Result, Ok, Err, if◌then◌else◌}
 use Rattle.sv_base.specs.declared.numbers.AssocNo.{AssocNo}
 use Rattle.sv_base.specs.declared.value.Value.{Value}
-use Rattle.bay_model.specs.declared.step.Comp.{Comp}
+use Rattle.bay_model.specs.declared.components.Comp.{Comp}
 use Rattle.brcb_state.specs.Changes.{written, after_report, after_loss}
 use Rattle.brcb_state.specs.Refusals.{answer_to, names_nothing}
 use Rattle.brcb_state.specs.Standing.{is_purging}
-use Rattle.brcb_state.specs.declared.kept.Effect.{Effect}
+use Rattle.brcb_state.specs.declared.told.Effect.{Effect}
 use Rattle.entry_ring.specs.Ringed.{after_purge}
 use Rattle.bay_core.specs.declared.part.Part.{Part}
 use Rattle.bay_core.specs.Offers.{retained_of}

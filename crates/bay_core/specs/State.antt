@@ -2,13 +2,12 @@
 -- report blocks with their buffers and the members of their data sets, and its associations.
 use Rattle.std.specs.Prelude.{◌≡◌, ◌<◌, ℕ, true, List, [], map, length, Some, slice_get}
 use Rattle.sv_base.specs.declared.config.Config.{Config}
-use Rattle.bay_model.specs.Rooms.{Filled}
+use Rattle.bay_rooms.specs.Rooms.{Filled}
 use Rattle.bay_model.specs.Attributes.{attributes}
-use Rattle.bay_model.specs.Configured.{kind_of}
-use Rattle.bay_model.specs.Kinds.{is_kind, is_in_range}
+use Rattle.bay_rooms.specs.Kinds.{kind_of, is_kind, is_in_range}
 use Rattle.bay_model.specs.Named.{configured_model}
 use Rattle.bay_model.specs.Sets.{members}
-use Rattle.bay_model.specs.Slots.{Held}
+use Rattle.bay_rooms.specs.Slots.{Held}
 use Rattle.bay_model.specs.declared.note.Mention.{Mention}
 use Rattle.bay_model.specs.declared.tables.MemberShape.{MemberShape}
 use Rattle.object_model.specs.Fits.{is_sound}

@@ -3,12 +3,13 @@ use Rattle.std.proofs.Common.{not, ◌≡◌, ℕ, Bool, true, false, List, [], 
 use Rattle.std.specs.Prelude.{Result, Ok, Err, ◌||◌, if◌then◌else◌}
 use Rattle.sv_base.specs.declared.value.Value.{Value}
 use Rattle.sv_base.specs.declared.value.Value.TheVariants as kinds
-use Rattle.bay_model.specs.declared.step.Comp.{Comp}
+use Rattle.bay_model.specs.declared.components.Comp.{Comp}
 use Rattle.bay_model.specs.Model as model
-use Rattle.bay_model.specs.Model.{Model, Access, Role, Block, Part, Call, Tree, single, selecting, calling, several, ActSG, EditSG, CnfEdit}
+use Rattle.bay_model.specs.Model.{Model, Access, Role, Block, SettingComp, Call, Tree, single, selecting, calling, several, ActSG, EditSG, CnfEdit}
 use Rattle.bay_model.specs.Lookups.{attr_of, node_of, control_of}
 use Rattle.bay_model.specs.Points.{Deed, wrote, put, copied, activated, edited, called, nothing, confirmed, selected_control, Past}
-use Rattle.bay_model.specs.Kinds.{is_kind, is_in_range, comp_kind}
+use Rattle.bay_rooms.specs.Kinds.{is_kind, is_in_range}
+use Rattle.bay_model.specs.ComponentTable.{comp_kind}
 use Rattle.bay_model.specs.Blocks.{is_held}
 use Rattle.bay_model.specs.Calls.{Went, accepted, mistyped, barred, went, can_select}
 use Rattle.bay_model.specs.Outcomes.{gave, deed_of, first_code, refused}
@@ -36,7 +37,7 @@ module _ (c : Model) (past : Past) (G : Deed → Type 0) (g : OfSingles c past G
     either true u = g.of_nothing
     either false u = u
 
-  part : (a d : ℕ) (k : Part) (v : Value) → G (deed_of (write_part c a d k v past))
+  part : (a d : ℕ) (k : SettingComp) (v : Value) → G (deed_of (write_part c a d k v past))
   part a d ActSG (kinds.Uint n) = code (act_refusals c d n) (activated a d n) (g.of_activated a d n)
   part a d EditSG (kinds.Uint n) = code (edit_refusals c a d n past) (edited a d n) (g.of_edited a d n)
   part a d CnfEdit (kinds.Bool on) = code (confirm_refusals a d past) (if on then confirmed a d else nothing) (either on) where

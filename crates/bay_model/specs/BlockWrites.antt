@@ -3,10 +3,11 @@
 use Rattle.std.specs.Prelude.{ℕ, List, Bool, true, false, not, ◌&&◌, ◌||◌, ◌==◌, nat_le, nat_lt, [], ◌∷◌, length, is_none}
 use Rattle.sv_base.specs.declared.value.Value.{Value}
 use Rattle.sv_base.specs.declared.value.Value.TheVariants as kinds
-use Rattle.bay_model.specs.declared.step.Comp.{Comp}
-use Rattle.bay_model.specs.declared.step.Comp.TheVariants as comps
+use Rattle.bay_model.specs.declared.components.Comp.{Comp}
+use Rattle.bay_model.specs.declared.components.Comp.TheVariants as comps
 use Rattle.bay_model.specs.Model.{Model}
-use Rattle.bay_model.specs.Kinds.{is_kind, is_in_range, comp_kind}
+use Rattle.bay_rooms.specs.Kinds.{is_kind, is_in_range}
+use Rattle.bay_model.specs.ComponentTable.{comp_kind}
 use Rattle.bay_model.specs.Points.{wrote, Past}
 use Rattle.bay_model.specs.Parameters.{parameters_at, bit}
 use Rattle.bay_model.specs.Sets.{sets, set_referred}

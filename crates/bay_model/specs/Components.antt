@@ -7,9 +7,9 @@ use Rattle.sv_base.specs.declared.value.Value.{Value}
 use Rattle.sv_base.specs.declared.value.Value.TheVariants as kinds
 use Rattle.sv_base.specs.declared.value.Stamp.{Stamp}
 use Rattle.sv_base.specs.declared.value.Utc.{Utc}
-use Rattle.bay_model.specs.declared.step.Comp.{Comp}
-use Rattle.bay_model.specs.declared.step.Comp.TheVariants as comps
-use Rattle.bay_model.specs.Model.{Model, Part, NumOfSG, ActSG, EditSG, CnfEdit, LActTm}
+use Rattle.bay_model.specs.declared.components.Comp.{Comp}
+use Rattle.bay_model.specs.declared.components.Comp.TheVariants as comps
+use Rattle.bay_model.specs.Model.{Model, SettingComp, NumOfSG, ActSG, EditSG, CnfEdit, LActTm}
 use Rattle.bay_model.specs.Lookups.{groups_of}
 use Rattle.bay_model.specs.Points.{Past}
 use Rattle.bay_model.specs.Parameters.{parameters_at, conf_rev}
@@ -54,7 +54,7 @@ read_component c b comps.EntryID past = kinds.Octets (to_be_bytes w64 (length (s
 read_component c b comps.TimeofEntry past = kinds.Stamp (time_of_newest (selected c b past))
 
 -- a component of the setting group block of domain d
-abbrev pub read_setting : Model → ℕ → Part → Past → Value
+abbrev pub read_setting : Model → ℕ → SettingComp → Past → Value
 read_setting c d NumOfSG past = kinds.Uint (groups_of c d).count
 read_setting c d ActSG past = kinds.Uint (active c d past)
 read_setting c d EditSG past = kinds.Uint (option_map_or (λ (e : Edit). e.group) (edit d past) 0)

@@ -12,6 +12,7 @@ use Rattle.sv_base.specs.declared.config.CtlDef.{CtlDef}
 use Rattle.sv_base.specs.declared.config.SgDef.{SgDef}
 use Rattle.sv_base.specs.declared.types.TypeOf.{TypeOf}
 use Rattle.sv_base.specs.declared.types.TypeOf.TheVariants as types
+use Rattle.bay_rooms.specs.Kinds.{kind_of}
 use Rattle.bay_model.specs.Model.{Model, Node, Attr, DataSet, Block, Control, Groups, Kind, truth, int, uint, bits, time, stamp, text, octets, entry_id}
 use Rattle.bay_model.specs.Lookups.{reference_of}
 
@@ -20,19 +21,6 @@ pub record NameTree : Type 0 where
   pub nodes : List Node
   pub attrs : List Attr
   pub sets : List DataSet
-
--- the kind of a type; a structure is of no attribute's kind
-abbrev pub kind_of : TypeOf → Kind
-kind_of types.Bool = truth
-kind_of (types.Int w) = int w
-kind_of (types.Uint w) = uint w
-kind_of (types.Bits n) = bits n
-kind_of types.Time = time
-kind_of types.Stamp = stamp
-kind_of (types.Text most) = text most
-kind_of (types.Octets most) = octets most
-kind_of types.EntryId = entry_id
-kind_of (types.Struct fields) = truth
 
 -- the domains in the order in which logical nodes first name them
 abbrev pub with_domain : List (List ℕ) → List ℕ → List (List ℕ)

@@ -8,10 +8,9 @@ use Rattle.sv_base.specs.declared.value.Value.TheVariants as kinds
 use Rattle.sv_base.specs.declared.config.CtlDef.{CtlDef}
 use Rattle.sv_base.specs.declared.types.TypeOf.{TypeOf}
 use Rattle.sv_base.specs.declared.types.TypeOf.TheVariants as types
-use Rattle.bay_model.specs.declared.step.Comp.{Comp}
-use Rattle.bay_model.specs.declared.step.Comp.TheVariants as comps
-use Rattle.bay_model.specs.Model.{Kind, truth, int, uint, bits, time, stamp, text, octets, entry_id, Part, NumOfSG, ActSG, EditSG, CnfEdit, LActTm, Call, select, operate, cancel, Leaf, attribute, component, setting, withheld, Role, single, selecting, calling}
-use Rattle.bay_model.specs.Kinds.{comp_kind, part_kind}
+use Rattle.bay_rooms.specs.Kinds.{type_of}
+use Rattle.bay_model.specs.Model.{SettingComp, Call, select, operate, cancel, Leaf, attribute, component, setting, withheld, Role, single, selecting, calling}
+use Rattle.bay_model.specs.ComponentTable.{components, comp_name, comp_kind, setting_components, setting_comp_name, setting_comp_kind}
 
 -- an item that is named, what it is, and its type where it has no parts
 pub record Named : Type 0 where
@@ -30,56 +29,16 @@ end_named item l kind = record { item = item; role = single l; kind = kind }
 abbrev pub structure_named : List ℕ → Role → Named
 structure_named item role = record { item = item; role = role; kind = types.Struct no_field }
 
-abbrev pub type_of : Kind → TypeOf
-type_of truth = types.Bool
-type_of (int w) = types.Int w
-type_of (uint w) = types.Uint w
-type_of (bits n) = types.Bits n
-type_of time = types.Time
-type_of stamp = types.Stamp
-type_of (text most) = types.Text most
-type_of (octets most) = types.Octets most
-type_of entry_id = types.EntryId
-
-abbrev pub comp_name : Comp → List ℕ
-comp_name comps.RptID = codes "RptID"
-comp_name comps.RptEna = codes "RptEna"
-comp_name comps.DatSet = codes "DatSet"
-comp_name comps.ConfRev = codes "ConfRev"
-comp_name comps.OptFlds = codes "OptFlds"
-comp_name comps.BufTm = codes "BufTm"
-comp_name comps.SqNum = codes "SqNum"
-comp_name comps.TrgOps = codes "TrgOps"
-comp_name comps.IntgPd = codes "IntgPd"
-comp_name comps.GI = codes "GI"
-comp_name comps.PurgeBuf = codes "PurgeBuf"
-comp_name comps.EntryID = codes "EntryID"
-comp_name comps.TimeofEntry = codes "TimeofEntry"
-
-abbrev pub part_name : Part → List ℕ
-part_name NumOfSG = codes "NumOfSG"
-part_name ActSG = codes "ActSG"
-part_name EditSG = codes "EditSG"
-part_name CnfEdit = codes "CnfEdit"
-part_name LActTm = codes "LActTm"
-
--- the components of a report block and of a setting group block, in the order of their types
-abbrev pub components : List Comp
-components = comps.RptID ∷ comps.RptEna ∷ comps.DatSet ∷ comps.ConfRev ∷ comps.OptFlds ∷ comps.BufTm ∷ comps.SqNum ∷ comps.TrgOps ∷ comps.IntgPd ∷ comps.GI ∷ comps.PurgeBuf ∷ comps.EntryID ∷ comps.TimeofEntry ∷ []
-
-abbrev pub parts : List Part
-parts = NumOfSG ∷ ActSG ∷ EditSG ∷ CnfEdit ∷ LActTm ∷ []
-
 -- of report block b at `LN$BR$NAME`
 abbrev pub block_names : ℕ → List ℕ → List Named
 block_names b item = map (λ k. end_named (within item (comp_name k)) (component b k) (type_of (comp_kind k))) components
 
 -- of the setting group block of domain d
-abbrev pub setting_named : ℕ → Part → Named
-setting_named d k = end_named (within (codes "LLN0$SP$SGCB") (part_name k)) (setting d k) (type_of (part_kind k))
+abbrev pub setting_named : ℕ → SettingComp → Named
+setting_named d k = end_named (within (codes "LLN0$SP$SGCB") (setting_comp_name k)) (setting d k) (type_of (setting_comp_kind k))
 
 abbrev pub setting_names : ℕ → List Named
-setting_names d = map (setting_named d) parts
+setting_names d = map (setting_named d) setting_components
 
 -- the parts of a command: ctlVal and origin; ctlNum, T and Test; at SBOw and Oper, Check
 abbrev pub value_names : TypeOf → List ℕ → List Named

@@ -3,8 +3,10 @@
 -- point, before are the points before it, and past ends with the point that is spoken of.
 -- `f_after` says what one more deed makes of f.
 
--- room that was made before
-pub mod Rooms
+-- room that was made before, and the kinds of values
+pub use Rattle.bay_rooms.specs.Rooms
+pub use Rattle.bay_rooms.specs.Kinds
+pub use Rattle.bay_rooms.specs.Slots
 -- what a bay is configured with
 pub mod Roles
 pub mod Model
@@ -27,8 +29,6 @@ pub mod Retained
 pub mod Blocks
 pub mod Reports
 -- controls
-pub mod Kinds
-pub mod Slots
 pub mod Commands
 pub mod Controls
 pub mod Selections
@@ -38,6 +38,7 @@ pub mod Associations
 pub mod Waiting
 pub mod Outputs
 -- the tree of names
+pub mod ComponentTable
 pub mod Generated
 pub mod NamedLines
 pub mod Attributes
@@ -65,25 +66,3 @@ pub mod Successors
 pub mod EntryLaws
 pub mod CursorLaws
 pub mod SettingLaw
--- the example bay, its variants, and histories over them
-pub mod ExampleNodes
-pub mod Example
-pub mod ExampleTurns
-pub mod ExampleAnswers
-pub mod ExampleRequests
-pub mod ExampleControl
-pub mod ExampleCommands
-pub mod ExampleSettings
-pub mod ExampleConfig
-pub mod WorkedNames
-pub mod WorkedReports
-pub mod WorkedBreaks
-pub mod WorkedBuffer
-pub mod WorkedResumes
-pub mod WorkedHolding
-pub mod WorkedBlocks
-pub mod WorkedReads
-pub mod WorkedControls
-pub mod WorkedSelections
-pub mod WorkedSettings
-pub mod WorkedRequests

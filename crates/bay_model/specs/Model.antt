@@ -3,7 +3,7 @@
 -- which are their places in these lists.
 use Rattle.std.specs.Prelude.{ℕ, Bool, List}
 use Rattle.sv_base.specs.declared.value.Value.{Value}
-pub use Rattle.bay_model.specs.Roles.{Access, reported, writable, active, edited, Kind, truth, int, uint, bits, time, stamp, text, octets, entry_id, Part, NumOfSG, ActSG, EditSG, CnfEdit, LActTm, Call, select, operate, cancel, Leaf, attribute, component, setting, withheld, Tree, leaf, structure, Trees, none, more, Role, single, selecting, calling, several}
+pub use Rattle.bay_model.specs.Roles.{Access, reported, writable, active, edited, Kind, truth, int, uint, bits, time, stamp, text, octets, entry_id, SettingComp, NumOfSG, ActSG, EditSG, CnfEdit, LActTm, Call, select, operate, cancel, Leaf, attribute, component, setting, withheld, Tree, leaf, structure, Trees, none, more, Role, single, selecting, calling, several}
 
 -- a data attribute, with its trigger conditions dchg, qchg and dupd (IEC 61850-7-2, TriggerConditions)
 pub record Attr : Type 0 where

@@ -5,7 +5,7 @@ use Rattle.sv_base.specs.Seen.{seen_of}
 use Rattle.sv_base.specs.declared.value.Value.{Value}
 use Rattle.sv_base.specs.declared.value.Value.TheVariants as kinds
 use Rattle.bay_model.specs.Model as model
-use Rattle.bay_model.specs.Model.{Model, Access, Leaf, Tree, Trees, Role, single, selecting, calling, several, Part, NumOfSG, ActSG, EditSG, CnfEdit, LActTm}
+use Rattle.bay_model.specs.Model.{Model, Access, Leaf, Tree, Trees, Role, single, selecting, calling, several, SettingComp, NumOfSG, ActSG, EditSG, CnfEdit, LActTm}
 use Rattle.bay_model.specs.Lookups.{attr_of, control_of, node_of}
 use Rattle.bay_model.specs.Points.{selected_control, nothing, Past}
 use Rattle.bay_model.specs.Settings.{edit, stored, copy}

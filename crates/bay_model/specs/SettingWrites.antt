@@ -5,9 +5,10 @@ use Rattle.std.specs.Option.{option_map_or}
 use Rattle.sv_base.specs.declared.value.Value.{Value}
 use Rattle.sv_base.specs.declared.value.Value.TheVariants as kinds
 use Rattle.bay_model.specs.Model as model
-use Rattle.bay_model.specs.Model.{Model, Access, Part, ActSG, EditSG, CnfEdit}
+use Rattle.bay_model.specs.Model.{Model, Access, SettingComp, ActSG, EditSG, CnfEdit}
 use Rattle.bay_model.specs.Lookups.{attr_of, groups_of}
-use Rattle.bay_model.specs.Kinds.{is_kind, is_in_range, part_kind}
+use Rattle.bay_rooms.specs.Kinds.{is_kind, is_in_range}
+use Rattle.bay_model.specs.ComponentTable.{setting_comp_kind}
 use Rattle.bay_model.specs.Points.{put, copied, activated, edited, confirmed, nothing, Past}
 use Rattle.bay_model.specs.Settings.{Edit, edit}
 use Rattle.bay_model.specs.Outcomes.{Outcome, refused, first_code}
@@ -36,11 +37,11 @@ abbrev pub attribute_refusals : Model → ℕ → Value → Bool → List (Bool 
 attribute_refusals c x v is_held = (not (is_kind (attr_of c x).kind v), 7) ∷ (is_held, 2) ∷ (not (is_in_range (attr_of c x).kind v), 11) ∷ []
 
 -- a's write of a component of the setting group block of domain d
-abbrev pub write_part : Model → ℕ → ℕ → Part → Value → Past → Outcome
+abbrev pub write_part : Model → ℕ → ℕ → SettingComp → Value → Past → Outcome
 write_part c a d ActSG (kinds.Uint n) past = first_code (act_refusals c d n) (activated a d n)
 write_part c a d EditSG (kinds.Uint n) past = first_code (edit_refusals c a d n past) (edited a d n)
 write_part c a d CnfEdit (kinds.Bool on) past = first_code (confirm_refusals a d past) (if on then confirmed a d else nothing)
-write_part c a d part v past = refused (if is_kind (part_kind part) v then 3 else 7)
+write_part c a d part v past = refused (if is_kind (setting_comp_kind part) v then 3 else 7)
 
 -- a's write of attribute x
 abbrev pub write_attribute : Model → ℕ → ℕ → Value → Access → Past → Outcome

@@ -25,6 +25,11 @@ pub IsBytes-back : (xs ys : List ℕ) → IsBytes (xs ++ ys) → IsBytes ys
 IsBytes-back [] ys h i = h i
 IsBytes-back (x ∷ xs) ys h i = IsBytes-back xs ys (λ k. h (suc k)) i
 
+pub IsBytes-append : (xs ys : List ℕ) → IsBytes xs → IsBytes ys → IsBytes (xs ++ ys)
+IsBytes-append [] ys a b i = b i
+IsBytes-append (x ∷ xs) ys a b zero = a 0
+IsBytes-append (x ∷ xs) ys a b (suc i) = IsBytes-append xs ys (λ k. a (suc k)) b i
+
 -- the content of an element of octets
 pub Spells-bytes : (octets : List ℕ) (e : Element) → IsBytes octets → Spells octets e → IsBytes e.content
 Spells-bytes octets e fits s = IsBytes-back s.len e.content (IsBytes-back s.tag (s.len ++ e.content) (subst IsBytes s.whole fits))

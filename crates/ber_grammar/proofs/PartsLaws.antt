@@ -1,15 +1,14 @@
 -- A row of elements.
-use Rattle.std.proofs.Common.{◌≡◌, ℕ, true, false, eqb, ◌<◌, inl, inr, List, [], ◌∷◌, ◌++◌, length, Some, Result, Ok, Err, refl, sym, ap, subst, ◌∙◌}
+use Rattle.std.proofs.Common.{◌≡◌, ℕ, true, false, eqb, ◌<◌, inl, inr, List, [], ◌∷◌, ◌++◌, length, Result, Ok, Err, refl, sym, ap, subst, ◌∙◌}
 use Rattle.std.proofs.lemmas.List.{nil_from_length}
 use Rattle.std.proofs.Math.Nat.{pos_of_ne-zero}
 use Rattle.std.proofs.lemmas.Bool.{eqb-true, eqb-false}
 use Rattle.std.specs.Result.{result_unwrap_or}
 use Rattle.ber_grammar.specs.declared.fault.BerFault.{BerFault}
 use Rattle.ber_grammar.specs.Element.{Element, IsRefused, IsRow, IsRowRefused}
-use Rattle.ber_grammar.specs.Reader.{◌>>=◌, Gives, Reads, kept}
+use Rattle.ber_grammar.specs.Reader.{◌>>=◌, Gives, Reads}
 use Rattle.ber_grammar.specs.Reading.{first_at}
-use Rattle.ber_grammar.specs.Rows.{row_at, parts_at, row_of, single, only_at}
-use Rattle.ber_grammar.proofs.OptionLaws.{then_some, kept_some}
+use Rattle.ber_grammar.specs.Rows.{row_at, parts_at, row_of}
 use Rattle.ber_grammar.proofs.ReaderLaws.{exact_from, reads_from, ok_is}
 use Rattle.ber_grammar.proofs.ElementLaws.{FirstTells, first_tells, refused_again}
 use Rattle.ber_grammar.proofs.RowLaws as rows
@@ -130,21 +129,3 @@ row_of-goes_on octets f row one some =
     let stop : parts_at octets ≡ Err f = parts_stop octets f one (pos_of_ne-zero (eqb-false (length octets) 0 some)) in
     let go = row_again octets (row_of octets) row in
     cc
-
--- ---- the only element
-
-single_is : (es : List Element) (e : Element) → single es ≡ Some e → es ≡ e ∷ []
-single_is [] e h = absurd cc
-single_is (d ∷ []) e h = cc
-single_is (d ∷ c ∷ es) e h = absurd cc
-
-pub only_found : (content : List ℕ) (e : Element) → only_at content ≡ Some e → IsRow content (e ∷ [])
-unfolding only_at
-only_found content e h =
-    let a = then_some (kept (parts_at content)) single e h in
-    let row : IsRow content a.0 = subst (λ (r : Result (List Element) BerFault). PartsTells content r) (kept_some (parts_at content) a.0 a.1) (parts_tells content) in
-    subst (λ (es : List Element). IsRow content es) (single_is a.0 e a.2) row
-
-pub only_again : (content : List ℕ) (e : Element) → IsRow content (e ∷ []) → only_at content ≡ Some e
-unfolding only_at
-only_again content e row = rw (row_again content (e ∷ []) row) refl

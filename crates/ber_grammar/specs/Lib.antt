@@ -1,7 +1,9 @@
 pub mod Octets
 pub mod Reader
+pub mod Steps
 pub mod Element
 pub mod Content
 pub mod Reading
 pub mod Rows
 pub mod Place
+pub mod Fields

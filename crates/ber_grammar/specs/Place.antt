@@ -39,3 +39,7 @@ piece part = record { octets = part.now; block = part.ref_ptr.0; place = part.re
 -- the content of an element of a row
 abbrev pub content_piece : Spot → Piece
 content_piece spot = record { octets = spot.element.content; block = spot.block; place = spot.place }
+
+-- octets that lie anywhere
+abbrev pub anywhere : List ℕ → Piece
+anywhere octets = record { octets = octets; block = 0; place = 0 }

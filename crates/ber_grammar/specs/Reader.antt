@@ -42,3 +42,8 @@ and_then (Some x) f = f x
 abbrev pub kept : {A F : Type 0} → Result A F → Option A
 kept (Ok x) = Some x
 kept (Err f) = None
+
+-- the first where there is one, else the second
+abbrev pub first_of_two : {A : Type 0} → Option A → Option A → Option A
+first_of_two (Some v) other = Some v
+first_of_two None other = other

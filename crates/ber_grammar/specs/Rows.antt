@@ -4,7 +4,7 @@ use Rattle.std.specs.Result.{result_unwrap_or}
 use Rattle.ber_grammar.specs.declared.fault.BerFault.{BerFault}
 use Rattle.ber_grammar.specs.declared.fault.BerFault.TheVariants.{Short}
 use Rattle.ber_grammar.specs.Element.{Element}
-use Rattle.ber_grammar.specs.Reader.{◌>>=◌, with_fault, and_then, kept}
+use Rattle.ber_grammar.specs.Reader.{◌>>=◌, with_fault}
 use Rattle.ber_grammar.specs.Reading.{first_at}
 
 module _ {A F : Type 0} (read : Element → Result A F) (broken : BerFault → F) where
@@ -36,7 +36,3 @@ abbrev pub single : {A : Type 0} → List A → Option A
 single [] = None
 single (e ∷ []) = Some e
 single (e ∷ d ∷ es) = None
-
--- the only element of a content
-unfoldable pub only_at : List ℕ → Option Element
-only_at content = and_then (kept (parts_at content)) single

@@ -1,3 +1,5 @@
+//! Why octets are refused.
+
 /// Why octets are no BER element, or no content of its kind, in the order of the tests.
 ///
 /// `Short`, `LongLength`, `Indefinite` and `BadTag` are of an element, `BadNumber` and `BadText` of a content.

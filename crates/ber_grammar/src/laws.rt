@@ -1,8 +1,12 @@
+//! What is promised of the grammar: each input has one reading.
+
 ghost use Rattle.std.specs.Prelude.{◌≡◌, ℕ, ℤ, Bool, ◌⊎◌, ◌++◌, List, []};
 ghost use Rattle.ber_grammar.specs.declared.fault.BerFault.{BerFault};
 ghost use Rattle.ber_grammar.specs.Octets.{IsBytes};
 ghost use Rattle.ber_grammar.specs.Element.{Element, Spells, Begins, IsRefused, IsRow};
 ghost use Rattle.ber_grammar.specs.Content.{IsBoolean, IsInt, IsUint, IsBits};
+ghost use Rattle.ber_grammar.specs.Fields.{AreFields, IsField, IsOnly};
+ghost use Rattle.ber_grammar.specs.Place.{Piece, Spot};
 
 /// Each input begins with one element, or is refused for one cause, and never both.
 pub fn each_input_begins_one_element()
@@ -33,4 +37,13 @@ pub fn each_content_spells_one_value()
     ensures signed { (content : List ℕ) (v w : ℤ) → IsBytes content → IsInt content v → IsInt content w → v ≡ w }
     ensures unsigned { (content : List ℕ) (m n : ℕ) → IsUint content m → IsUint content n → m ≡ n }
     ensures bits { (content : List ℕ) (bs cs : List Bool) → IsBits content bs → IsBits content cs → bs ≡ cs }
+{}
+
+/// A content has its fields in one way; it has one first field with a tag at most, and one only field. Octets are one
+/// element at most.
+pub fn each_content_has_one_row_of_fields()
+    ensures fields { (content : Piece) (ss ts : List Spot) → AreFields content ss → AreFields content ts → ss ≡ ts }
+    ensures first { (tag : ℕ) (content p q : Piece) → IsField tag content p → IsField tag content q → p ≡ q }
+    ensures only { (tag : ℕ) (content p q : Piece) → IsOnly tag content p → IsOnly tag content q → p ≡ q }
+    ensures whole { (octets : List ℕ) (d e : Element) → Spells octets d → Spells octets e → d ≡ e }
 {}

@@ -1,3 +1,5 @@
+//! The content of a bit string, in place.
+
 ghost use Rattle.std.specs.Prelude.{◌≡◌, ◌<◌, ◌≤◌, ◌^◌, ◌-◌, ◌*◌, ◌/◌, ◌%◌, ◌==◌, ◌↔◌, length, min, slice_get, slice_index, IsTrue};
 ghost use Rattle.ber_grammar.specs.Reader.{Gives, Reads};
 ghost use Rattle.ber_grammar.specs.Content.{IsBits, IsBitsRefused, bits_of};

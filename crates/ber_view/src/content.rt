@@ -1,3 +1,5 @@
+//! The content of a number and of a visible string.
+
 ghost use Rattle.std.specs.Prelude.{◌≡◌, ◌<◌, ◌^◌, ◌≤◌, ◌+◌, ℕ, List, length, pos, negsuc, IfOk};
 ghost use Rattle.ber_grammar.specs.Reader.{Gives, Reads};
 ghost use Rattle.ber_grammar.specs.Content.{IsText, IsTextRefused, IsUint, IsUintRefused, IsInt, IsIntRefused};

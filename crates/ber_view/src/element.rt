@@ -1,3 +1,5 @@
+//! One element: its tag, its length and its content (ITU-T X.690, 8.1).
+
 ghost use Rattle.std.specs.Prelude.{◌≡◌, ℕ, ◌+◌, ◌<◌, ◌^◌, ◌≤◌, List, length, IfOk, Ok};
 ghost use Rattle.ber_grammar.specs.Octets.{big_endian};
 ghost use Rattle.ber_grammar.specs.Element.{Element, Begins, IsRefused};

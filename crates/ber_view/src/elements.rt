@@ -1,3 +1,5 @@
+//! A row of elements, one after another.
+
 ghost use Rattle.std.specs.Prelude.{◌≡◌, ◌<◌, ℕ, List, length, IfOk};
 ghost use Rattle.std.specs.Iterator.{YieldsFirstBy, item_count};
 ghost use Rattle.ber_grammar.specs.Element.{Element, IsRow, IsRowRefused};

@@ -1,3 +1,5 @@
+//! The element of a bit string.
+
 ghost use Rattle.std.specs.Prelude.{◌≡◌, ◌+◌, ◌-◌, ◌*◌, ◌/◌, ◌<◌, ◌≤◌, ◌^◌, ◌++◌, length, take, drop, OnOk, OnErr};
 ghost use Rattle.ber_write.specs.Minimal.{octets_of, CanBeTag};
 ghost use Rattle.ber_write.specs.BitString.{weigh, bit_or_zero, first_octet, packed, unused_of, bit_octets};

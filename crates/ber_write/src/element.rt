@@ -1,3 +1,5 @@
+//! An element: its tag and its length in as few octets as can be, and its content.
+
 ghost use Rattle.std.specs.Prelude.{◌≡◌, ◌<◌, ◌^◌, ◌++◌, length, take, OnOk, OnErr};
 ghost use Rattle.ber_write.specs.Minimal.{tag_octets, length_octets, head_octets, octets_of, CanBeTag};
 

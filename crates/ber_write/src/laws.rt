@@ -1,3 +1,5 @@
+//! What is promised of what is written: it is the one minimal spelling, and it is read back.
+
 ghost use Rattle.std.specs.Prelude.{◌≡◌, ℕ, ℤ, Bool, Ok, ◌+◌, ◌<◌, ◌≤◌, ◌^◌, ◌++◌, List, length};
 ghost use Rattle.ber_grammar.specs.Octets.{IsBytes};
 ghost use Rattle.ber_grammar.specs.Element.{Element, Spells, Begins};

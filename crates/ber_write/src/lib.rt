@@ -9,12 +9,14 @@ mod element;
 mod laws;
 mod number;
 
-pub use bit_string::{bits_len, put_bits};
+// Elements.
 pub use element::{length_of, put, put_head};
+
+// Elements of numbers and of bit strings.
+pub use bit_string::{bits_len, put_bits};
+pub use number::{int_len, put_int, put_uint, uint_len};
+
+// What is promised of what is written.
 pub use laws::{
     bit_strings_are_minimal, elements_are_minimal, elements_are_read_back, numbers_are_minimal,
 };
-pub use number::{int_len, put_int, put_uint, uint_len};
-
-#[cfg(test)]
-mod tests;

@@ -1,3 +1,5 @@
+//! The element of a number, in as few octets as can be.
+
 ghost use Rattle.std.specs.Prelude.{◌≡◌, ◌<◌, ◌^◌, ◌++◌, ◌∷◌, ◌≤◌, length, OnOk, OnErr};
 ghost use Rattle.std.specs.Int.{w64, to_be_bytes};
 ghost use Rattle.ber_write.specs.Minimal.{octets_of, CanBeTag, is_spare, strip, uint_octets, nine_octets, int_octets};

@@ -5,16 +5,16 @@ use Rattle.std.specs.Option.{option_map_or}
 use Rattle.sv_base.specs.declared.numbers.AssocNo.{AssocNo}
 use Rattle.sv_base.specs.declared.value.Value.{Value}
 use Rattle.sv_base.specs.declared.value.Value.TheVariants as kinds
-use Rattle.bay_model.specs.declared.step.Comp.{Comp}
-use Rattle.bay_model.specs.declared.step.Comp.TheVariants as comps
+use Rattle.bay_model.specs.declared.components.Comp.{Comp}
+use Rattle.bay_model.specs.declared.components.Comp.TheVariants as comps
 use Rattle.bay_model.specs.Model as model
 use Rattle.bay_model.specs.Parameters.{written_to, is_changed_by, next_revision}
 use Rattle.bay_model.specs.Blocks.{entry_id}
 use Rattle.brcb_state.specs.declared.block.Block.{Block}
-use Rattle.brcb_state.specs.declared.kept.Kept.{Kept}
-use Rattle.brcb_state.specs.declared.kept.Next.{Next}
-use Rattle.brcb_state.specs.declared.kept.Effect.{Effect}
-use Rattle.brcb_state.specs.declared.kept.Effect.TheVariants as effects
+use Rattle.brcb_state.specs.declared.told.Kept.{Kept}
+use Rattle.brcb_state.specs.declared.told.Next.{Next}
+use Rattle.brcb_state.specs.declared.told.Effect.{Effect}
+use Rattle.brcb_state.specs.declared.told.Effect.TheVariants as effects
 
 -- association a has enabled the block
 abbrev pub is_by : AssocNo → Option AssocNo → Bool

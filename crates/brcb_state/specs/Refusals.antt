@@ -3,16 +3,17 @@ use Rattle.std.specs.Prelude.{ℕ, Bool, false, not, ◌&&◌, ◌||◌, ◌==�
 use Rattle.sv_base.specs.declared.numbers.AssocNo.{AssocNo}
 use Rattle.sv_base.specs.declared.value.Value.{Value}
 use Rattle.sv_base.specs.declared.value.Value.TheVariants as kinds
-use Rattle.bay_model.specs.declared.step.Comp.{Comp}
-use Rattle.bay_model.specs.declared.step.Comp.TheVariants as comps
-use Rattle.bay_model.specs.Kinds.{is_kind, is_in_range, comp_kind}
+use Rattle.bay_model.specs.declared.components.Comp.{Comp}
+use Rattle.bay_model.specs.declared.components.Comp.TheVariants as comps
+use Rattle.bay_rooms.specs.Kinds.{is_kind, is_in_range}
+use Rattle.bay_model.specs.ComponentTable.{comp_kind}
 use Rattle.bay_model.specs.Parameters.{bit}
 use Rattle.bay_model.specs.Breaks.{is_empty}
 use Rattle.bay_model.specs.Blocks.{entry_id}
 use Rattle.bay_model.specs.BlockWrites.{is_written}
 use Rattle.brcb_state.specs.declared.block.Block.{Block}
-use Rattle.brcb_state.specs.declared.kept.Kept.{Kept}
-use Rattle.brcb_state.specs.declared.kept.Effect.{Effect}
+use Rattle.brcb_state.specs.declared.told.Kept.{Kept}
+use Rattle.brcb_state.specs.declared.told.Effect.{Effect}
 use Rattle.brcb_state.specs.Changes.{is_by, is_by_another, effect_of}
 
 -- a's write is held, for who has enabled the block

@@ -14,9 +14,9 @@ use Rattle.bay_model.specs.Retained.{front}
 use Rattle.bay_model.specs.Blocks.{enabler, cursor, sq_num}
 use Rattle.bay_model.specs.Outcomes.{Outcome, did, refused}
 use Rattle.brcb_state.specs.declared.block.Block.{Block}
-use Rattle.brcb_state.specs.declared.kept.Kept.{Kept}
-use Rattle.brcb_state.specs.declared.kept.Effect.{Effect}
-use Rattle.brcb_state.specs.declared.kept.Effect.TheVariants as effects
+use Rattle.brcb_state.specs.declared.told.Kept.{Kept}
+use Rattle.brcb_state.specs.declared.told.Effect.{Effect}
+use Rattle.brcb_state.specs.declared.told.Effect.TheVariants as effects
 use Rattle.brcb_state.specs.Changes.{written, after_report, after_loss}
 
 pub record Stands (s : Block) (c : Model) (b : ℕ) (past : Past) : Type 0 where

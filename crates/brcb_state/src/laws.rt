@@ -1,8 +1,10 @@
+//! A block stands for each history. The functions run nothing: each contract is a law.
+
 ghost use Rattle.std.specs.Prelude.{◌≡◌, ◌<◌, [], ◌∷◌, ℕ, Bool, List, Option, None, Some, if◌then◌else◌};
 ghost use Rattle.std.specs.Option.{option_map};
 ghost use Rattle.sv_base.specs.declared.numbers.AssocNo.{AssocNo};
 ghost use Rattle.sv_base.specs.declared.value.Value.{Value};
-ghost use Rattle.bay_model.specs.declared.step.Comp.{Comp};
+ghost use Rattle.bay_model.specs.declared.components.Comp.{Comp};
 ghost use Rattle.bay_model.specs.Model.{Model};
 ghost use Rattle.bay_model.specs.Lookups.{block_of};
 ghost use Rattle.bay_model.specs.Points.{Point, Past, wrote};
@@ -14,7 +16,7 @@ ghost use Rattle.bay_model.specs.Singles.{arrival};
 ghost use Rattle.bay_model.specs.BlockWrites.{write_component};
 ghost use Rattle.bay_model.specs.Blocks.{next, is_enabled_by, is_overflown, sq_num};
 ghost use Rattle.brcb_state.specs.declared.block.Block.{Block};
-ghost use Rattle.brcb_state.specs.declared.kept.Next.{Next};
+ghost use Rattle.brcb_state.specs.declared.told.Next.{Next};
 ghost use Rattle.brcb_state.specs.Changes.{configured, effect_of, written, next_to};
 ghost use Rattle.brcb_state.specs.Refusals.{answer_to, names_nothing};
 ghost use Rattle.brcb_state.specs.Standing.{Stands, kept_at, is_known, after_deed, outcome_of, newest_of, Tells};

@@ -3,18 +3,18 @@
 #![tactic(auto)]
 
 mod block;
-mod kept;
 mod laws;
 mod option_writes;
 mod options;
 mod reads;
+mod told;
 mod writes;
 
+// a block, and what it is told of its entries
 pub use block::Block;
-pub use kept::{Effect, Kept, Next};
+pub use told::{Effect, Kept, Next};
+
+// its laws
 pub use laws::{
     blocks_stand, components_are_read, effects_are_told, next_reports_are_told, writes_are_answered,
 };
-
-#[cfg(test)]
-mod tests;

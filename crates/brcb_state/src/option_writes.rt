@@ -1,11 +1,11 @@
 //! Writes of the components that a client sets once for many reports (IEC 61850-7-2, SetBRCBValues).
 
 ghost use Rattle.std.specs.Prelude.{◌≡◌, if◌then◌else◌};
-ghost use Rattle.brcb_state.specs.declared.kept.Effect.TheVariants as effects;
+ghost use Rattle.brcb_state.specs.declared.told.Effect.TheVariants as effects;
 
 use crate::block::Block;
-use crate::kept::Effect;
 use crate::options::MOST;
+use crate::told::Effect;
 use crate::writes::{HELD, INVALID, MISTYPED, is_empty};
 use sv_base::Value;
 
@@ -23,9 +23,9 @@ fn purging(differs: bool) -> Effect
 impl Block {
     ghost use Rattle.std.specs.Prelude.{◌≡◌, ◌==◌, ◌&&◌, ◌||◌, ◌^◌, ◌<◌, not, nat_lt, nat_le, length, ℕ, Bool, false, is_none, is_some, Result, Ok, Err, OnOk, OnErr, if◌then◌else◌};
     ghost use Rattle.sv_base.specs.declared.value.Value.TheVariants as kinds;
-    ghost use Rattle.bay_model.specs.declared.step.Comp.TheVariants as comps;
+    ghost use Rattle.bay_model.specs.declared.components.Comp.TheVariants as comps;
     ghost use Rattle.bay_model.specs.Parameters.{next_revision};
-    ghost use Rattle.brcb_state.specs.declared.kept.Effect.TheVariants as effects;
+    ghost use Rattle.brcb_state.specs.declared.told.Effect.TheVariants as effects;
     ghost use Rattle.brcb_state.specs.Changes.{written, effect_of};
     ghost use Rattle.brcb_state.specs.Refusals.{answer_to, is_no_set, anyone};
 
@@ -95,17 +95,25 @@ impl Block {
         }
     }
 
-    fn set_opt_flds(&mut self, bits: &[bool]) -> Result<Effect, u8>
-        ensures answer { result ≡ answer_to anyone comps.OptFlds (kinds.Bits bits.now) false self.old }
-        ensures written { OnOk result (self.new ≡ written anyone comps.OptFlds (kinds.Bits bits.now) 0 self.old) }
-        ensures unchanged { OnErr result (self.new ≡ self.old) }
+    /// Takes bits of this number, for a block that nobody has enabled.
+    fn take_bits(&self, bits: &[bool], count: usize) -> Result<(), u8>
+        ensures { result ≡ (if not (length bits.now == count) then Err 7 else if is_some self.now.enabler then Err 2 else Ok tt) }
     {
-        if bits.len() != 10 {
+        if bits.len() != count {
             return Err(MISTYPED);
         }
         if self.enabler.is_some() {
             return Err(HELD);
         }
+        Ok(())
+    }
+
+    fn set_opt_flds(&mut self, bits: &[bool]) -> Result<Effect, u8>
+        ensures answer { result ≡ answer_to anyone comps.OptFlds (kinds.Bits bits.now) false self.old }
+        ensures written { OnOk result (self.new ≡ written anyone comps.OptFlds (kinds.Bits bits.now) 0 self.old) }
+        ensures unchanged { OnErr result (self.new ≡ self.old) }
+    {
+        self.take_bits(bits, 10)?;
         self.options.set_opt_flds(bits);
         Ok(Effect::Nothing)
     }
@@ -126,12 +134,7 @@ impl Block {
         ensures written { OnOk result (self.new ≡ written anyone comps.TrgOps (kinds.Bits bits.now) 0 self.old) }
         ensures unchanged { OnErr result (self.new ≡ self.old) }
     {
-        if bits.len() != 6 {
-            return Err(MISTYPED);
-        }
-        if self.enabler.is_some() {
-            return Err(HELD);
-        }
+        self.take_bits(bits, 6)?;
         let differs = self.options.set_trg_ops(bits);
         Ok(purging(differs))
     }
@@ -147,10 +150,9 @@ impl Block {
         }
     }
 
-    fn set_buf_tm(&mut self, n: u64) -> Result<Effect, u8>
-        ensures answer { result ≡ answer_to anyone comps.BufTm (kinds.Uint n) false self.old }
-        ensures written { OnOk result (self.new ≡ written anyone comps.BufTm (kinds.Uint n) 0 self.old) }
-        ensures unchanged { OnErr result (self.new ≡ self.old) }
+    /// A number of 32 bits, for a block that nobody has enabled.
+    fn number(&self, n: u64) -> Result<u32, u8>
+        ensures { result ≡ (if is_some self.now.enabler then Err 2 else if nat_lt n (2 ^ 32) then Ok n else Err 11) }
     {
         if self.enabler.is_some() {
             return Err(HELD);
@@ -158,7 +160,16 @@ impl Block {
         if n > u32::MAX as u64 {
             return Err(INVALID);
         }
-        let differs = self.options.set_buf_tm(n as u32);
+        Ok(n as u32)
+    }
+
+    fn set_buf_tm(&mut self, n: u64) -> Result<Effect, u8>
+        ensures answer { result ≡ answer_to anyone comps.BufTm (kinds.Uint n) false self.old }
+        ensures written { OnOk result (self.new ≡ written anyone comps.BufTm (kinds.Uint n) 0 self.old) }
+        ensures unchanged { OnErr result (self.new ≡ self.old) }
+    {
+        let n = self.number(n)?;
+        let differs = self.options.set_buf_tm(n);
         Ok(purging(differs))
     }
 
@@ -178,13 +189,8 @@ impl Block {
         ensures written { OnOk result (self.new ≡ written anyone comps.IntgPd (kinds.Uint n) 0 self.old) }
         ensures unchanged { OnErr result (self.new ≡ self.old) }
     {
-        if self.enabler.is_some() {
-            return Err(HELD);
-        }
-        if n > u32::MAX as u64 {
-            return Err(INVALID);
-        }
-        let differs = self.options.set_intg_pd(n as u32);
+        let n = self.number(n)?;
+        let differs = self.options.set_intg_pd(n);
         Ok(purging(differs))
     }
 

@@ -7,7 +7,7 @@ ghost use Rattle.sv_base.specs.declared.value.Value.TheVariants as kinds;
 ghost use Rattle.bay_model.specs.Components.{stamp_of as stamp_at, no_stamp};
 
 use crate::block::Block;
-use crate::kept::Kept;
+use crate::told::Kept;
 use bay_model::Comp;
 use std::alloc::{AllocError, Global};
 use sv_base::{Bits, Moment, Octs, Stamp, Value};

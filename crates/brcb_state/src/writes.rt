@@ -2,14 +2,14 @@
 
 ghost use Rattle.std.specs.Prelude.{◌≡◌, ℕ, not, if◌then◌else◌};
 ghost use Rattle.bay_model.specs.Model.{uint, stamp};
-ghost use Rattle.bay_model.specs.Kinds.{is_kind};
+ghost use Rattle.bay_rooms.specs.Kinds.{is_kind};
 ghost use Rattle.sv_base.specs.declared.value.Value.TheVariants as kinds;
 ghost use Rattle.bay_model.specs.Breaks.{is_empty as is_empty_list};
-ghost use Rattle.brcb_state.specs.declared.kept.Effect.TheVariants as effects;
+ghost use Rattle.brcb_state.specs.declared.told.Effect.TheVariants as effects;
 ghost use Rattle.brcb_state.specs.Refusals.{is_retained_or_zero};
 
 use crate::block::{Block, bit};
-use crate::kept::{Effect, Kept};
+use crate::told::{Effect, Kept};
 use bay_model::Comp;
 use sv_base::{AssocNo, Value};
 
@@ -62,9 +62,9 @@ impl Block {
     ghost use Rattle.sv_base.specs.declared.numbers.AssocNo.{AssocNo};
     ghost use Rattle.std.specs.Prelude.{◌≡◌, ◌==◌, ◌&&◌, ℕ, Bool, false, is_none, is_some, min, Result, Ok, Err, OnOk, OnErr, if◌then◌else◌};
     ghost use Rattle.sv_base.specs.declared.value.Value.TheVariants as kinds;
-    ghost use Rattle.bay_model.specs.declared.step.Comp.TheVariants as comps;
-    ghost use Rattle.brcb_state.specs.declared.kept.Kept.{Kept};
-    ghost use Rattle.brcb_state.specs.declared.kept.Effect.TheVariants as effects;
+    ghost use Rattle.bay_model.specs.declared.components.Comp.TheVariants as comps;
+    ghost use Rattle.brcb_state.specs.declared.told.Kept.{Kept};
+    ghost use Rattle.brcb_state.specs.declared.told.Effect.TheVariants as effects;
     ghost use Rattle.brcb_state.specs.Changes.{written, effect_of};
     ghost use Rattle.brcb_state.specs.Refusals.{answer_to, names_nothing, is_no_entry, is_retained_or_zero, anyone};
 

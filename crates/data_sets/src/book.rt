@@ -1,3 +1,5 @@
+//! The data sets of a bay, found by their names (IEC 61850-7-2, DATA-SET).
+
 ghost use Rattle.std.specs.Prelude.{◌≡◌, ◌<◌, List, IfOk, length, map};
 ghost use Rattle.std.specs.Option.{option_map};
 ghost use Rattle.std.specs.List.{find};

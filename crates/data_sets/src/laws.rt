@@ -1,3 +1,5 @@
+//! The sets found are those of the model. The function runs nothing: its contract is a law.
+
 ghost use Rattle.std.specs.Prelude.{◌≡◌, List, map};
 ghost use Rattle.std.specs.Option.{option_map};
 ghost use Rattle.std.specs.List.{All};

@@ -4,8 +4,8 @@
 mod book;
 mod laws;
 
+// the sets by their names
 pub use book::{SetBook, shapes_of};
-pub use laws::sets_are_the_definition;
 
-#[cfg(test)]
-mod tests;
+// their law
+pub use laws::sets_are_the_definition;

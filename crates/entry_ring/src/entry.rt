@@ -1,3 +1,5 @@
+//! A retained entry of a buffer.
+
 use sv_base::Moment;
 
 /// A retained entry, borrowed: its octets are `first` and then `second`.

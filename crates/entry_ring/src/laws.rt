@@ -1,3 +1,5 @@
+//! A buffer holds what is retained of each history. The function runs nothing: its contract is a law.
+
 ghost use Rattle.std.specs.Prelude.{◌≡◌, [], ◌∷◌, ℕ, List};
 ghost use Rattle.bay_model.specs.Model.{Model};
 ghost use Rattle.bay_model.specs.Lookups.{block_of};

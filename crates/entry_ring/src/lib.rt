@@ -8,9 +8,9 @@ mod places;
 mod ring;
 mod room;
 
+// the buffer, and an entry of it
 pub use entry::Entry;
-pub use laws::retained_entries_are_held;
 pub use ring::Ring;
 
-#[cfg(test)]
-mod tests;
+// its law
+pub use laws::retained_entries_are_held;

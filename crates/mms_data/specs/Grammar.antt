@@ -8,6 +8,7 @@ use Rattle.sv_base.specs.Tree.{Plain, Seen, Row, plain, structure, none, more, t
 use Rattle.sv_base.specs.Depth.{depth_seen, depth_row}
 use Rattle.mms_data.specs.declared.fault.DataFault.{DataFault}
 use Rattle.mms_data.specs.declared.fault.DataFault.TheVariants.{Tag, Length, Depth}
+use Rattle.mms_data.specs.Tags.{binary_time_tag, bit_string_tag, boolean_tag, integer_tag, octet_string_tag, structure_tag, unsigned_tag, utc_time_tag, visible_string_tag}
 
 -- the first octet of a tag
 abbrev pub first_octet : ℕ → ℕ
@@ -19,7 +20,7 @@ is_context tag = first_octet tag / 64 == 2
 
 -- a tag of a kind of value
 abbrev pub is_kind : ℕ → Bool
-is_kind tag = tag == 131 || tag == 132 || tag == 133 || tag == 134 || tag == 137 || tag == 138 || tag == 140 || tag == 145 || tag == 162
+is_kind tag = tag == boolean_tag || tag == bit_string_tag || tag == integer_tag || tag == unsigned_tag || tag == octet_string_tag || tag == visible_string_tag || tag == binary_time_tag || tag == utc_time_tag || tag == structure_tag
 
 -- ISO 9506-2, TimeOfDay: milliseconds of the day in four octets, days since the beginning of 1984 in two
 abbrev pub IsStamp : List ℕ → ℕ → ℕ → Type 0
@@ -30,25 +31,24 @@ IsStamp content ms days = (length content ≡ 6) × (ms ≡ big_endian (take 4 c
 abbrev pub IsTime : List ℕ → ℕ → ℕ → ℕ → Type 0
 IsTime content secs frac quality = (length content ≡ 8) × (secs ≡ big_endian (take 4 content)) × (frac ≡ big_endian (take 3 (drop 4 content))) × (quality ≡ slice_index content 7)
 
--- Tags 131 to 145 are 128 and the number of the choice in Data: 3 boolean, 4 bit-string, 5 integer, 6 unsigned,
--- 9 octet-string, 10 visible-string, 12 binary-time, 17 utc-time.
+-- the choice of Data by its tag, and what the content spells
 abbrev pub IsPlain : Plain → Element → Type 0
-IsPlain (truth b) e = (e.tag ≡ 131) × IsBoolean e.content b
-IsPlain (bits bs) e = (e.tag ≡ 132) × IsBits e.content bs
-IsPlain (int z) e = (e.tag ≡ 133) × IsInt e.content z
-IsPlain (uint n) e = (e.tag ≡ 134) × IsUint e.content n
-IsPlain (octets o) e = (e.tag ≡ 137) × (o ≡ e.content)
-IsPlain (text t) e = (e.tag ≡ 138) × IsText e.content t
-IsPlain (stamp ms days) e = (e.tag ≡ 140) × IsStamp e.content ms days
-IsPlain (time secs frac quality) e = (e.tag ≡ 145) × IsTime e.content secs frac quality
+IsPlain (truth b) e = (e.tag ≡ boolean_tag) × IsBoolean e.content b
+IsPlain (bits bs) e = (e.tag ≡ bit_string_tag) × IsBits e.content bs
+IsPlain (int z) e = (e.tag ≡ integer_tag) × IsInt e.content z
+IsPlain (uint n) e = (e.tag ≡ unsigned_tag) × IsUint e.content n
+IsPlain (octets o) e = (e.tag ≡ octet_string_tag) × (o ≡ e.content)
+IsPlain (text t) e = (e.tag ≡ visible_string_tag) × IsText e.content t
+IsPlain (stamp ms days) e = (e.tag ≡ binary_time_tag) × IsStamp e.content ms days
+IsPlain (time secs frac quality) e = (e.tag ≡ utc_time_tag) × IsTime e.content secs frac quality
 -- any other element of the class
 IsPlain other e = (is_context e.tag ≡ true) × (is_kind e.tag ≡ false)
 
--- 162 is 160, a constructed element, and the choice 2, structure: a row of elements that are the parts
+-- a structure is a row of elements that are its parts
 abbrev mutual
   pub IsData : Seen → Element → Type 0
   IsData (plain p) e = IsPlain p e
-  IsData (structure r) e = (e.tag ≡ 162) × (es : List Element) × IsRow e.content es × AreData r es
+  IsData (structure r) e = (e.tag ≡ structure_tag) × (es : List Element) × IsRow e.content es × AreData r es
 
   pub AreData : Row → List Element → Type 0
   AreData none [] = Unit {0}
@@ -69,7 +69,7 @@ IsRefusedRow IsRefusedPart n content f = (es : List Element) × (r : Row) × (fr
 abbrev pub IsRefusedData : ℕ → Element → DataFault → Type 0
 IsRefusedData zero e f = ((is_context e.tag ≡ false) × (f ≡ Tag)) ⊎ ((is_context e.tag ≡ true) × (f ≡ Depth))
 IsRefusedData (suc n) e f = ((is_context e.tag ≡ false) × (f ≡ Tag)) ⊎ ((is_context e.tag ≡ true)
-    × (((e.tag ≢ 162) × (f ≡ Length) × ((s : Seen) → ¬ IsData s e)) ⊎ ((e.tag ≡ 162) × IsRefusedRow (IsRefusedData n) n e.content f)))
+    × (((e.tag ≢ structure_tag) × (f ≡ Length) × ((s : Seen) → ¬ IsData s e)) ⊎ ((e.tag ≡ structure_tag) × IsRefusedRow (IsRefusedData n) n e.content f)))
 
 -- the octets are one element that is a value, at most ten deep
 abbrev pub IsSpelled : List ℕ → Seen → Type 0

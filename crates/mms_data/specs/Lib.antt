@@ -1,3 +1,4 @@
+pub mod Tags
 pub mod Grammar
 pub mod Reading
 pub mod View

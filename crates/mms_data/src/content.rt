@@ -1,3 +1,5 @@
+//! The contents of Data that are no structure, read.
+
 ghost use Rattle.std.specs.Prelude.{◌≡◌, ◌≤◌, ◌<◌, ◌^◌, List, length, IfOk};
 ghost use Rattle.ber_grammar.specs.Octets.{big_endian};
 ghost use Rattle.ber_grammar.specs.Reader.{Gives, GivesOrMemory};
@@ -6,6 +8,7 @@ ghost use Rattle.sv_base.specs.Seen.{seen_of};
 ghost use Rattle.mms_data.specs.Reading.{fault_of, truth_at, bit_string_at, integer_at, unsigned_at, string_at, stamp_at, time_at, plain_at};
 
 use crate::fault::DataFault;
+use crate::tags;
 use ber_view::{BitView, Tlv, bits, int, text, uint};
 use std::alloc::{AllocError, Global};
 use sv_base::{Bits, Octs, Stamp, Utc, Value};
@@ -126,17 +129,17 @@ pub(crate) fn plain_of(alloc: Global, part: &Tlv<'_>) -> Result<Value, DataFault
     ensures { GivesOrMemory fault_of seen_of result (plain_at (element part.now)) }
 {
     match part.tag {
-        0x83 => boolean_of(part.content),
-        0x84 => bit_string_of(alloc, part.content),
-        0x85 => integer_of(part.content),
-        0x86 => unsigned_of(part.content),
-        0x89 => {
+        tags::BOOLEAN => boolean_of(part.content),
+        tags::BIT_STRING => bit_string_of(alloc, part.content),
+        tags::INTEGER => integer_of(part.content),
+        tags::UNSIGNED => unsigned_of(part.content),
+        tags::OCTET_STRING => {
             let octets = Vec::from_slice(alloc, part.content)?;
             Ok(Value::Octets(Octs::from_vec(octets)))
         }
-        0x8a => string_of(alloc, part.content),
-        0x8c => stamp_of(part.content),
-        0x91 => time_of(part.content),
+        tags::VISIBLE_STRING => string_of(alloc, part.content),
+        tags::BINARY_TIME => stamp_of(part.content),
+        tags::UTC_TIME => time_of(part.content),
         _ => Ok(Value::Other),
     }
 }

@@ -1,3 +1,5 @@
+//! Data in place.
+
 ghost use Rattle.std.specs.Prelude.{◌≡◌, ◌==◌, Ok, Err, List, ℕ, IfOk, length, if◌then◌else◌};
 ghost use Rattle.ber_grammar.specs.Octets.{IsBytes};
 ghost use Rattle.ber_grammar.specs.Place.{Spot};
@@ -12,6 +14,7 @@ ghost use Rattle.mms_data.specs.View.{checked, view_at, IsViewed};
 
 use crate::fault::DataFault;
 use crate::reading::{has_context, value_of};
+use crate::tags;
 use ber_view::{Tlv, bits, first, int, text, uint};
 use std::alloc::{AllocError, Global};
 use std::marker::Model;
@@ -55,25 +58,25 @@ fn check_plain(part: &Tlv<'_>) -> Result<(), DataFault>
     ensures { result ≡ checked (plain_at (element part.now)) }
 {
     match part.tag {
-        0x83 => sized(part.content, 1),
-        0x84 => match bits(part.content) {
+        tags::BOOLEAN => sized(part.content, 1),
+        tags::BIT_STRING => match bits(part.content) {
             Ok(_) => Ok(()),
             Err(_) => Err(DataFault::Length),
         },
-        0x85 => match int(part.content) {
+        tags::INTEGER => match int(part.content) {
             Ok(_) => Ok(()),
             Err(_) => Err(DataFault::Length),
         },
-        0x86 => match uint(part.content) {
+        tags::UNSIGNED => match uint(part.content) {
             Ok(_) => Ok(()),
             Err(_) => Err(DataFault::Length),
         },
-        0x8a => match text(part.content) {
+        tags::VISIBLE_STRING => match text(part.content) {
             Ok(_) => Ok(()),
             Err(_) => Err(DataFault::Length),
         },
-        0x8c => sized(part.content, 6),
-        0x91 => sized(part.content, 8),
+        tags::BINARY_TIME => sized(part.content, 6),
+        tags::UTC_TIME => sized(part.content, 8),
         _ => Ok(()),
     }
 }
@@ -88,7 +91,7 @@ fn check_value(depth: u8, part: &Tlv<'_>) -> Result<(), DataFault>
     if depth == 0 {
         return Err(DataFault::Depth);
     }
-    if part.tag == 0xa2 {
+    if part.tag == tags::STRUCTURE {
         return check_parts(depth - 1, part.content);
     }
     check_plain(part)

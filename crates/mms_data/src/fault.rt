@@ -1,3 +1,5 @@
+//! Why octets are no Data.
+
 ghost use Rattle.std.specs.Prelude.{◌≡◌};
 ghost use Rattle.mms_data.specs.declared.fault.DataFault.TheVariants.{Memory};
 

@@ -10,18 +10,21 @@ mod data_view;
 mod fault;
 mod laws;
 mod reading;
+mod tags;
 mod type_writing;
 mod writing;
 
+// Data, read and in place.
 pub use data_view::{DataView, view_data};
 pub use fault::DataFault;
+pub use reading::read_data;
+
+// Data and types, written.
+pub use type_writing::write_type;
+pub use writing::write_data;
+
+// What is promised of all of it.
 pub use laws::{
     data_is_minimal, data_is_read_back, elements_are_read_as_octets_are, short_ones_fit,
     types_are_elements,
 };
-pub use reading::read_data;
-pub use type_writing::write_type;
-pub use writing::write_data;
-
-#[cfg(test)]
-mod tests;

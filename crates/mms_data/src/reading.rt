@@ -1,3 +1,5 @@
+//! Data, read.
+
 ghost use Rattle.std.specs.Prelude.{◌≡◌, List, map};
 ghost use Rattle.ber_grammar.specs.Reader.{GivesOrMemory, ReadsOrMemory};
 ghost use Rattle.ber_grammar.specs.Rows.{row_at};
@@ -8,6 +10,7 @@ ghost use Rattle.mms_data.specs.Reading.{fault_of, malformed, struct_at, data_at
 
 use crate::content::plain_of;
 use crate::fault::DataFault;
+use crate::tags;
 use ber_view::{Tlv, first};
 use std::alloc::Global;
 use sv_base::{Value, Values};
@@ -36,7 +39,7 @@ pub(crate) fn value_of(alloc: Global, depth: u8, part: &Tlv<'_>) -> Result<Value
     if depth == 0 {
         return Err(DataFault::Depth);
     }
-    if part.tag == 0xa2 {
+    if part.tag == tags::STRUCTURE {
         return struct_of(alloc, depth - 1, part.content);
     }
     plain_of(alloc, part)

@@ -1,7 +1,10 @@
+//! Types, written.
+
 ghost use Rattle.std.specs.Prelude.{◌≡◌, ◌+◌, ◌≤◌, ◌<◌, ◌^◌, ◌++◌, length, take, min, OnOk, OnErr};
 ghost use Rattle.ber_write.specs.Minimal.{length_octets, octets_of};
 ghost use Rattle.mms_data.specs.TypeOctets.{at_most, type_of, part_content, part_octets, parts_octets, FitsType, FitsPart, FitsParts};
 
+use crate::tags;
 use ber_write::{int_len, length_of, put, put_head, put_int, put_uint, uint_len};
 use std::alloc::AllocError;
 use sv_base::{Part1, TypeOf};
@@ -75,20 +78,20 @@ fn put_type(kind: &TypeOf, out: &mut Vec<u8>) -> Result<(), AllocError>
     ensures err { OnErr result (take (length out.old.items) out.new.items ≡ out.old.items) }
 {
     match kind {
-        TypeOf::Bool => put(out, 0x83, &[]),
-        TypeOf::Int(size) => put_uint(out, 0x85, u64::from(*size)),
-        TypeOf::Uint(size) => put_uint(out, 0x86, u64::from(*size)),
-        TypeOf::Bits(count) => put_int(out, 0x84, i64::from(*count)),
-        TypeOf::Time => put(out, 0x91, &[]),
-        TypeOf::Stamp => put(out, 0x8c, &[0xff]),
-        TypeOf::Text(size) => put_int(out, 0x8a, greatest(*size)),
-        TypeOf::Octets(size) => put_int(out, 0x89, greatest(*size)),
-        TypeOf::EntryId => put_int(out, 0x89, 8),
+        TypeOf::Bool => put(out, tags::BOOLEAN, &[]),
+        TypeOf::Int(size) => put_uint(out, tags::INTEGER, u64::from(*size)),
+        TypeOf::Uint(size) => put_uint(out, tags::UNSIGNED, u64::from(*size)),
+        TypeOf::Bits(count) => put_int(out, tags::BIT_STRING, i64::from(*count)),
+        TypeOf::Time => put(out, tags::UTC_TIME, &[]),
+        TypeOf::Stamp => put(out, tags::BINARY_TIME, &[0xff]),
+        TypeOf::Text(size) => put_int(out, tags::VISIBLE_STRING, greatest(*size)),
+        TypeOf::Octets(size) => put_int(out, tags::OCTET_STRING, greatest(*size)),
+        TypeOf::EntryId => put_int(out, tags::OCTET_STRING, 8),
         TypeOf::Struct(parts) => {
             let parts = parts.as_slice();
             let len = parts_len(parts);
-            put_head(out, 0xa2, element_len(len))?;
-            put_head(out, 0xa1, len)?;
+            put_head(out, tags::STRUCTURE, element_len(len))?;
+            put_head(out, tags::COMPONENTS, len)?;
             put_parts(parts, out)
         }
     }
@@ -100,9 +103,9 @@ fn put_part(part: &Part1, out: &mut Vec<u8>) -> Result<(), AllocError>
     ensures ok { OnOk result (out.new.items ≡ out.old.items ++ part_octets part.now) }
     ensures err { OnErr result (take (length out.old.items) out.new.items ≡ out.old.items) }
 {
-    put_head(out, 0x30, part_len(part))?;
-    put(out, 0x80, part.name.as_slice())?;
-    put_head(out, 0xa1, type_len(&part.kind))?;
+    put_head(out, tags::COMPONENT, part_len(part))?;
+    put(out, tags::COMPONENT_NAME, part.name.as_slice())?;
+    put_head(out, tags::COMPONENT_TYPE, type_len(&part.kind))?;
     put_type(&part.kind, out)
 }
 

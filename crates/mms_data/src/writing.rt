@@ -1,3 +1,5 @@
+//! Data, written.
+
 ghost use Rattle.std.specs.Prelude.{◌≡◌, ◌+◌, ◌<◌, ◌≤◌, ◌-◌, ◌*◌, ◌^◌, ◌++◌, length, take, min, OnOk, OnErr};
 ghost use Rattle.ber_write.specs.Minimal.{CanBeTag};
 ghost use Rattle.sv_base.specs.Tree.{int as int_of, uint as uint_of, bits as bits_of, time as time_of, stamp as stamp_of};
@@ -6,6 +8,7 @@ ghost use Rattle.sv_base.specs.Data.{element, data_plain, data_of, data_row};
 ghost use Rattle.sv_base.specs.Depth.{depth, HasNoOther, RowHasNoOther};
 ghost use Rattle.mms_data.specs.Writable.{Fits, FitsRow, SeenHasFractions};
 
+use crate::tags;
 use ber_write::{put, put_bits, put_head, put_int, put_uint};
 use std::alloc::AllocError;
 use sv_base::{Stamp, Utc, Value, data_len};
@@ -26,21 +29,21 @@ fn put_bit_string(out: &mut Vec<u8>, bits: &[bool]) -> Result<(), AllocError>
     ensures ok { OnOk result (out.new.items ≡ out.old.items ++ data_plain (bits_of bits.now)) }
     ensures err { OnErr result (out.new.items ≡ out.old.items) }
 {
-    put_bits(out, 0x84, bits)
+    put_bits(out, tags::BIT_STRING, bits)
 }
 
 fn put_integer(out: &mut Vec<u8>, value: i64) -> Result<(), AllocError>
     ensures ok { OnOk result (out.new.items ≡ out.old.items ++ data_plain (int_of value)) }
     ensures err { OnErr result (out.new.items ≡ out.old.items) }
 {
-    put_int(out, 0x85, value)
+    put_int(out, tags::INTEGER, value)
 }
 
 fn put_unsigned(out: &mut Vec<u8>, value: u64) -> Result<(), AllocError>
     ensures ok { OnOk result (out.new.items ≡ out.old.items ++ data_plain (uint_of value)) }
     ensures err { OnErr result (out.new.items ≡ out.old.items) }
 {
-    put_uint(out, 0x86, value)
+    put_uint(out, tags::UNSIGNED, value)
 }
 
 /// Adds a binary time of six octets (ISO 9506-2, TimeOfDay).
@@ -50,7 +53,7 @@ fn put_stamp(out: &mut Vec<u8>, stamp: Stamp) -> Result<(), AllocError>
 {
     let [a, b, c, d] = stamp.ms.to_be_bytes();
     let [e, f] = stamp.days.to_be_bytes();
-    put_element(out, 0x8c, &[a, b, c, d, e, f])
+    put_element(out, tags::BINARY_TIME, &[a, b, c, d, e, f])
 }
 
 /// Adds a UTC time of eight octets (ISO 9506-2, UtcTime).
@@ -63,7 +66,11 @@ fn put_time(out: &mut Vec<u8>, time: Utc) -> Result<(), AllocError>
     let high = (time.frac / 65536) as u8;
     let middle = (time.frac / 256 % 256) as u8;
     let low = (time.frac % 256) as u8;
-    put_element(out, 0x91, &[a, b, c, d, high, middle, low, time.quality])
+    put_element(
+        out,
+        tags::UTC_TIME,
+        &[a, b, c, d, high, middle, low, time.quality],
+    )
 }
 
 /// How many octets the values have one after another, and 4294967295 where there are more.
@@ -85,17 +92,17 @@ fn put_value(value: &Value, out: &mut Vec<u8>) -> Result<(), AllocError>
     ensures err { OnErr result (take (length out.old.items) out.new.items ≡ out.old.items) }
 {
     match value {
-        Value::Bool(b) => put_element(out, 0x83, if *b { &[0xff] } else { &[0] }),
+        Value::Bool(b) => put_element(out, tags::BOOLEAN, if *b { &[0xff] } else { &[0] }),
         Value::Bits(bits) => put_bit_string(out, bits.as_slice()),
         Value::Int(z) => put_integer(out, *z),
         Value::Uint(n) => put_unsigned(out, *n),
-        Value::Octets(octets) => put_element(out, 0x89, octets.as_slice()),
-        Value::Text(octets) => put_element(out, 0x8a, octets.as_slice()),
+        Value::Octets(octets) => put_element(out, tags::OCTET_STRING, octets.as_slice()),
+        Value::Text(octets) => put_element(out, tags::VISIBLE_STRING, octets.as_slice()),
         Value::Stamp(stamp) => put_stamp(out, *stamp),
         Value::Time(time) => put_time(out, *time),
         Value::Struct(values) => {
             let values = values.as_slice();
-            put_head(out, 0xa2, row_len(values))?;
+            put_head(out, tags::STRUCTURE, row_len(values))?;
             put_row(values, out)
         }
         Value::Other => unreachable!(),

@@ -10,16 +10,18 @@ use Rattle.ber_grammar.specs.Reader.{and_then}
 use Rattle.ber_grammar.specs.Reading.{boolean_at}
 use Rattle.ber_grammar.proofs.BooleanLaws.{boolean_again, boolean_found}
 use Rattle.ber_grammar.proofs.OctetLaws.{AllBytes}
-use Rattle.ber_grammar.proofs.OptionLaws.{some_is, kept_some, then_some, chosen}
+use Rattle.ber_grammar.proofs.OptionLaws.{some_is, kept_some, then_some, chosen, either_way}
 use Rattle.sv_base.specs.Tree.{Seen}
-use Rattle.mms_pdu.specs.Fields.{only_in, each_in}
+use Rattle.ber_grammar.specs.Fields.{only_in, spot_in}
+use Rattle.mms_pdu.specs.Each.{each_in}
 use Rattle.mms_pdu.specs.ObjectName.{Name, name_octets}
 use Rattle.mms_pdu.specs.Variable.{Variable, variable_octets, variable_at, named_at}
 use Rattle.mms_pdu.specs.Datum.{AreData, datum_at, value_at}
 use Rattle.mms_pdu.specs.Service.{Service, service_octets}
 use Rattle.mms_pdu.specs.Service as services
 use Rattle.mms_pdu.specs.Access.{Access, variables, named, IsAccess, IsReadAccess, IsRead, IsWrite, access_at, truth_at, to_read, read_access_at, read_at, counts_agree_at, to_write, data_list_at, write_at}
-use Rattle.mms_pdu.proofs.FieldLaws.{either_way, only_found, only_again, only_bytes, spot_in, each_fields}
+use Rattle.ber_grammar.proofs.FieldLaws.{only_found, only_again, only_bytes}
+use Rattle.mms_pdu.proofs.EachLaws.{each_fields}
 use Rattle.mms_pdu.proofs.VariableLaws.{named_found, named_again, variables_found, variables_again}
 use Rattle.mms_pdu.proofs.DatumLaws.{data_found, list_again}
 

@@ -8,14 +8,14 @@ use Rattle.ber_grammar.specs.Octets.{IsBytes}
 use Rattle.ber_grammar.specs.Element.{Element, IsRow}
 use Rattle.ber_grammar.specs.Place.{Spot, Piece, elements, content_piece}
 use Rattle.ber_grammar.specs.Reader.{and_then}
-use Rattle.ber_grammar.proofs.OptionLaws.{then_some}
+use Rattle.ber_grammar.proofs.OptionLaws.{then_some, either_way}
 use Rattle.ber_grammar.proofs.OctetLaws.{AllBytes, IsRow-bytes}
-use Rattle.mms_pdu.specs.Fields.{fields_in, only_in}
+use Rattle.ber_grammar.specs.Fields.{fields_in, only_in, spots, spot_in}
 use Rattle.mms_pdu.specs.Invoke.{below_at}
 use Rattle.mms_pdu.specs.Access.{access_at}
 use Rattle.mms_pdu.specs.Datum.{datum_at, value_at}
 use Rattle.mms_pdu.specs.Answer.{IsFailed, IsResult, IsWritten, AreAll, IsSpecification, AreResults, IsReadAnswer, IsAnswerBody, holds, is_failed, is_result, is_written, is_specification, are_results, is_read_answer, is_answer_body}
-use Rattle.mms_pdu.proofs.FieldLaws.{spots, fields_found, fields_again, in_place, only_found, only_again, only_bytes, spot_in, either_way}
+use Rattle.ber_grammar.proofs.FieldLaws.{elements_found, elements_again, in_place, only_found, only_again, only_bytes}
 use Rattle.mms_pdu.proofs.DatumLaws.{datum_found, datum_again}
 use Rattle.mms_pdu.proofs.AccessLaws.{access_octets, access_found, access_again}
 use Rattle.mms_pdu.proofs.TaggedLaws.{below_again, below_found}
@@ -49,12 +49,12 @@ module _ (test : Spot → Bool) (Is : Element → Type 0) where
   are_found : Found → (p : Piece) → IsBytes p.octets → holds (list_all test) (fields_in p) ≡ true → AreAll Is p.octets
   are_found found p fits h =
       let a = holds_of (list_all test) (fields_in p) h in
-      let row = fields_found p a.0 a.1 in
+      let row = elements_found p a.0 a.1 in
       (elements a.0, row, all_found found a.0 (IsRow-bytes p.octets (elements a.0) fits row) a.2)
 
   are_again : Again → (p : Piece) → IsBytes p.octets → AreAll Is p.octets → holds (list_all test) (fields_in p) ≡ true
   are_again again p fits (es, row, h) =
-      rw (fields_again p es row) (all_again again (spots p es) (in_place AllBytes p es (IsRow-bytes p.octets es fits row)) (in_place (AllByRecursion Is) p es h))
+      rw (elements_again p es row) (all_again again (spots p es) (in_place AllBytes p es (IsRow-bytes p.octets es fits row)) (in_place (AllByRecursion Is) p es h))
 
 -- ---- results
 
@@ -135,7 +135,7 @@ read_again (s ∷ r ∷ t ∷ more) fits h = absurd h
 read_body : (p : Piece) → IsBytes p.octets → holds is_read_answer (fields_in p) ≡ true → (es : List Element) × IsRow p.octets es × IsReadAnswer es
 read_body p fits h =
     let a = holds_of is_read_answer (fields_in p) h in
-    let row = fields_found p a.0 a.1 in
+    let row = elements_found p a.0 a.1 in
     (elements a.0, row, read_found a.0 (IsRow-bytes p.octets (elements a.0) fits row) a.2)
 
 pub body_found : (tag : ℕ) (p : Piece) → IsBytes p.octets → is_answer_body tag p ≡ true → IsAnswerBody tag p.octets
@@ -149,7 +149,7 @@ pub body_again : (tag : ℕ) (p : Piece) → IsBytes p.octets → IsAnswerBody t
 unfolding is_answer_body
 body_again tag p fits h =
     cond_both (eqb tag 164) (holds is_read_answer (fields_in p)) (cond (eqb tag 165) (holds (list_all is_written) (fields_in p)) true) (λ b. b ≡ true)
-    (λ e. let a = h.read (eqb-true tag 164 e) in rw (fields_again p a.0 a.1) (read_again (spots p a.0) (in_place AllBytes p a.0 (IsRow-bytes p.octets a.0 fits a.1)) (in_place IsReadAnswer p a.0 a.2)))
+    (λ e. let a = h.read (eqb-true tag 164 e) in rw (elements_again p a.0 a.1) (read_again (spots p a.0) (in_place AllBytes p a.0 (IsRow-bytes p.octets a.0 fits a.1)) (in_place IsReadAnswer p a.0 a.2)))
     (λ e. cond_both (eqb tag 165) (holds (list_all is_written) (fields_in p)) true (λ b. b ≡ true)
     (λ d. are_again is_written IsWritten written_again p fits (h.written (eqb-true tag 165 d)))
     (λ d. refl))

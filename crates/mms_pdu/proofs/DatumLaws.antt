@@ -12,9 +12,9 @@ use Rattle.mms_data.specs.Grammar.{IsWithin, IsRefusedData}
 use Rattle.mms_data.specs.Reading.{data_at}
 use Rattle.mms_data.specs.View.{view_at}
 use Rattle.mms_data.proofs.GrammarLaws.{data_exact, data_again}
-use Rattle.mms_pdu.specs.Fields.{each_in}
+use Rattle.mms_pdu.specs.Each.{each_in}
 use Rattle.mms_pdu.specs.Datum.{AreData, datum_at, value_at}
-use Rattle.mms_pdu.proofs.FieldLaws.{each_found, each_again}
+use Rattle.mms_pdu.proofs.EachLaws.{each_found, each_again}
 
 -- a value that was read of an element is the one that it stands for
 pub value_is : (s : Spot) (v : Seen) → data_at 10 s.element ≡ Ok v → value_at s ≡ v

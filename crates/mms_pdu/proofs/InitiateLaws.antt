@@ -13,8 +13,10 @@ use Rattle.mms_pdu.specs.declared.fault.PduFault.TheVariants.{UnknownPdu, Unknow
 use Rattle.mms_pdu.specs.declared.initiate.Initiate.{Initiate}
 use Rattle.mms_pdu.specs.Initiate.{IsOptional, AreDetails, AreFields, IsInitiate, IsAccepted, IsInitiateRefused}
 use Rattle.mms_pdu.specs.InitiateReading.{are_details, detail_at, nesting_at, calls_at, fields_at, tagged_at, proposal_at, judged, initiate_at}
-use Rattle.mms_pdu.specs.Tagged.{IsNumber, number_at, whole_at}
-use Rattle.mms_pdu.proofs.TaggedLaws.{number_again, number_found, whole_again, whole_found, row_found, row_kept}
+use Rattle.ber_grammar.specs.Fields.{whole_at}
+use Rattle.mms_pdu.specs.Tagged.{IsNumber, number_at}
+use Rattle.ber_grammar.proofs.FieldLaws.{whole_again, whole_found, row_found, row_kept}
+use Rattle.mms_pdu.proofs.TaggedLaws.{number_again, number_found}
 
 abbrev made : ℕ → ℕ → ℕ → ℕ → Initiate
 made size calling called nesting = record { size = size; calling = calling; called = called; nesting = nesting }

@@ -1,4 +1,4 @@
-pub mod FieldLaws
+pub mod EachLaws
 pub mod ObjectNameLaws
 pub mod VariableLaws
 pub mod DatumLaws

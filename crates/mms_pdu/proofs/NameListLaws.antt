@@ -10,15 +10,15 @@ use Rattle.ber_grammar.specs.Place.{Spot, Piece, content_piece, elements}
 use Rattle.ber_grammar.specs.Reader.{and_then, kept}
 use Rattle.ber_grammar.specs.Reading.{uint_at}
 use Rattle.ber_grammar.proofs.OctetLaws.{AllBytes}
-use Rattle.ber_grammar.proofs.OptionLaws.{some_is, kept_some, then_some, chosen}
+use Rattle.ber_grammar.proofs.OptionLaws.{some_is, kept_some, then_some, chosen, either_way}
 use Rattle.ber_grammar.proofs.UintLaws.{uint_again, uint_found}
 use Rattle.sv_base.specs.Tree.{Seen}
-use Rattle.mms_pdu.specs.Fields.{only_in}
+use Rattle.ber_grammar.specs.Fields.{only_in, spot_in}
 use Rattle.mms_pdu.specs.Invoke.{below_at}
 use Rattle.mms_pdu.specs.Service.{octets, Scope, of_vmd, of_domain, of_association, scope_octets, Service, service_octets}
 use Rattle.mms_pdu.specs.Service as services
 use Rattle.mms_pdu.specs.NameList.{IsClass, IsScope, IsAfter, IsNameList, octet_at, class_at, inner_scope_at, scope_at, after_at, name_list_at}
-use Rattle.mms_pdu.proofs.FieldLaws.{either_way, only_found, only_again, only_bytes, spot_in}
+use Rattle.ber_grammar.proofs.FieldLaws.{only_found, only_again, only_bytes}
 
 -- ---- numbers
 

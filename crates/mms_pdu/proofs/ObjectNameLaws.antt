@@ -6,11 +6,11 @@ use Rattle.ber_grammar.specs.Element.{Element, IsRow}
 use Rattle.ber_grammar.specs.Place.{Spot, Piece, content_piece, elements}
 use Rattle.ber_grammar.specs.Reader.{and_then, kept}
 use Rattle.ber_grammar.specs.Reading.{text_at}
-use Rattle.ber_grammar.proofs.OptionLaws.{some_is, kept_some, then_some, chosen}
+use Rattle.ber_grammar.proofs.OptionLaws.{some_is, kept_some, then_some, chosen, either_way}
 use Rattle.ber_grammar.proofs.TextLaws.{text_again, text_found}
-use Rattle.mms_pdu.specs.Fields.{fields_in}
+use Rattle.ber_grammar.specs.Fields.{fields_in}
 use Rattle.mms_pdu.specs.ObjectName.{Name, vmd, domain, association, name_octets, IsIdentifier, IsName, identifier_at, pair_at, name_at}
-use Rattle.mms_pdu.proofs.FieldLaws.{either_way, fields_found, fields_again}
+use Rattle.ber_grammar.proofs.FieldLaws.{elements_found, elements_again}
 
 identifier_found : (s : Spot) (p : Piece) → identifier_at s ≡ Some p → IsIdentifier s.element p.octets
 unfolding identifier_at
@@ -55,7 +55,7 @@ name_found s n h =
     (λ t e. subst (λ (m : Name Piece). IsName s.element (name_octets m)) (some_is (vmd (content_piece s)) n e) (eqb-true s.element.tag 128 t, refl))
     (λ t e. either_way (eqb s.element.tag 161) pair last (Some n) e
     (λ u f. let x = then_some (fields_in (content_piece s)) pair_at n f in
-    paired s.element (elements x.0) (name_octets n) (eqb-true s.element.tag 161 u) (fields_found (content_piece s) x.0 x.1) (pair_found x.0 n x.2))
+    paired s.element (elements x.0) (name_octets n) (eqb-true s.element.tag 161 u) (elements_found (content_piece s) x.0 x.1) (pair_found x.0 n x.2))
     (λ u f. let x = chosen (eqb s.element.tag 130) (Some (association (content_piece s))) n f in
     subst (λ (m : Name Piece). IsName s.element (name_octets m)) (some_is (association (content_piece s)) n x.1) (eqb-true s.element.tag 130 x.0, refl)))
 
@@ -68,4 +68,4 @@ name_again s (domain d i) (tag, a, b, row, is, it) =
     let second : Spot = record { element = b; block = s.block; place = s.place + (a.head + length a.content) + b.head } in
     let x = identifier_again first d is in
     let y = identifier_again second i it in
-    (domain (content_piece first) (content_piece second), rw (tag, fields_again (content_piece s) (a ∷ b ∷ []) row, x.0, y.0) refl, rw (x.1, y.1) refl)
+    (domain (content_piece first) (content_piece second), rw (tag, elements_again (content_piece s) (a ∷ b ∷ []) row, x.0, y.0) refl, rw (x.1, y.1) refl)

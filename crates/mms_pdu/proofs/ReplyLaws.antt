@@ -10,10 +10,12 @@ use Rattle.ber_grammar.proofs.OctetLaws.{Spells-bytes}
 use Rattle.mms_pdu.specs.declared.fault.PduFault.{PduFault}
 use Rattle.mms_pdu.specs.declared.fault.PduFault.TheVariants.{UnknownPdu, Argument, Invalid}
 use Rattle.mms_pdu.specs.Request.{is_pdu, MayBegin, may_begin, or_fault}
-use Rattle.mms_pdu.specs.Tagged.{IsNumbered, spot_in, whole_in, numbered_in}
+use Rattle.ber_grammar.specs.Fields.{spot_in, whole_in}
+use Rattle.mms_pdu.specs.Tagged.{IsNumbered, numbered_in}
 use Rattle.mms_pdu.specs.Reply.{Reply, answer, error, reject, concluded, information, reply_octets, IsReply, is_sent, IsUnusable, IsReplyRefused}
 use Rattle.mms_pdu.specs.ReplyReading.{service_in, answer_in, service_error_in, error_in, reason_at, rejected, reject_in, pdu_in, reply_in}
-use Rattle.mms_pdu.proofs.TaggedLaws.{whole_in_again, whole_in_found, numbered_found, numbered_none, numbered_bytes}
+use Rattle.ber_grammar.proofs.FieldLaws.{whole_in_again, whole_in_found}
+use Rattle.mms_pdu.proofs.TaggedLaws.{numbered_found, numbered_none, numbered_bytes}
 use Rattle.mms_pdu.proofs.ReplyPartLaws.{service_again, service_found, service_error_again, service_error_found, reason_again, reason_found}
 
 -- without where the octets lie
@@ -96,16 +98,16 @@ concluded_tells input s here tag =
     (λ e. (s.element, here.spells, (tag, nil_from_length s.element.content (eqb-true (length s.element.content) 0 e))))
     (λ e. unusable input s here (inr (inr (inr (inl (tag, λ none. eqb-false (length s.element.content) 0 e (ap length none)))))))
 
-abbrev beyond_140 : Spot → Result (Reply Piece) PduFault
+abbrev pub beyond_140 : Spot → Result (Reply Piece) PduFault
 beyond_140 s = cond (eqb s.element.tag 140) (cond (eqb (length s.element.content) 0) (Ok concluded) (Err Invalid)) (Err Invalid)
 
-abbrev beyond_164 : Spot → Result (Reply Piece) PduFault
+abbrev pub beyond_164 : Spot → Result (Reply Piece) PduFault
 beyond_164 s = cond (eqb s.element.tag 164) (reject_in (content_piece s)) (beyond_140 s)
 
-abbrev beyond_163 : Piece → Spot → Result (Reply Piece) PduFault
+abbrev pub beyond_163 : Piece → Spot → Result (Reply Piece) PduFault
 beyond_163 p s = cond (eqb s.element.tag 163) (Ok (information p)) (beyond_164 s)
 
-abbrev beyond_162 : Piece → Spot → Result (Reply Piece) PduFault
+abbrev pub beyond_162 : Piece → Spot → Result (Reply Piece) PduFault
 beyond_162 p s = cond (eqb s.element.tag 162) (error_in (content_piece s)) (beyond_163 p s)
 
 not_sent : (tag : ℕ) → eqb tag 161 ≡ false → eqb tag 162 ≡ false → eqb tag 163 ≡ false → eqb tag 164 ≡ false → eqb tag 140 ≡ false → is_sent tag ≡ false

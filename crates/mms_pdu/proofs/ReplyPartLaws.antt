@@ -9,14 +9,14 @@ use Rattle.ber_grammar.specs.Rows.{parts_at, single}
 use Rattle.ber_grammar.proofs.OptionLaws.{some_is, then_some, chosen, sides}
 use Rattle.ber_grammar.proofs.OctetLaws.{Spells-bytes, IsRow-bytes}
 use Rattle.ber_grammar.proofs.PlaceLaws.{elements-placed}
-use Rattle.mms_pdu.specs.Fields.{fields_in, only_in}
+use Rattle.ber_grammar.specs.Fields.{fields_in, only_in, spot_in, whole_at, whole_in}
 use Rattle.mms_pdu.specs.Invoke.{below_at}
-use Rattle.mms_pdu.specs.Tagged.{spot_in, whole_at, whole_in}
 use Rattle.mms_pdu.specs.Answer.{IsAnswerBody, is_answer_body}
 use Rattle.mms_pdu.specs.Reply.{IsService, IsServiceError, IsReason}
 use Rattle.mms_pdu.specs.ReplyOctets.{class_tag}
 use Rattle.mms_pdu.specs.ReplyReading.{service_in, class_at, class_in, error_class_in, service_error_in, reason_at}
-use Rattle.mms_pdu.proofs.TaggedLaws.{below_again, below_found, row_found, row_kept, whole_again, whole_found, whole_in_again, whole_in_found}
+use Rattle.ber_grammar.proofs.FieldLaws.{whole_again, whole_found, whole_in_again, whole_in_found, only_found, only_again}
+use Rattle.mms_pdu.proofs.TaggedLaws.{below_again, below_found}
 use Rattle.mms_pdu.proofs.AnswerLaws.{body_found, body_again}
 
 -- ---- the element of a service
@@ -87,23 +87,7 @@ class_found tag class h =
 -- ---- the only element, with where it lies
 
 only_in_again : (p : Piece) (e : Element) → IsRow p.octets (e ∷ []) → (s : Spot) × (only_in p ≡ Some s) × (s.element ≡ e)
-unfolding only_in fields_in
-only_in_again p e row = (spot_in p e, rw (row_kept p.octets (e ∷ []) row) refl, refl)
-
-only_in_found : (p : Piece) (s : Spot) → only_in p ≡ Some s → IsRow p.octets (s.element ∷ [])
-unfolding only_in fields_in
-only_in_found p s h =
-    let a = then_some (fields_in p) single s h in
-    let b = then_some (kept (parts_at p.octets)) (λ es. Some (placed (p.block, p.place) es)) a.0 a.1 in
-    let row = row_found p.octets b.0 b.1 in
-    let at : placed (p.block, p.place) b.0 ≡ s ∷ [] = some_is (placed (p.block, p.place) b.0) a.0 b.2 ∙ single_is a.0 s a.2 in
-    let es : b.0 ≡ s.element ∷ [] = sym (elements-placed (p.block, p.place) b.0) ∙ ap elements at in
-    subst (λ (x : List Element). IsRow p.octets x) es row
-  where
-    single_is : (ss : List Spot) (s : Spot) → single ss ≡ Some s → ss ≡ s ∷ []
-    single_is [] s h = absurd cc
-    single_is (d ∷ []) s h = cc
-    single_is (d ∷ c ∷ ss) s h = absurd cc
+only_in_again p e row = (spot_in p e, only_again p e row, refl)
 
 -- ---- an error
 
@@ -130,8 +114,8 @@ service_error_found p class code fits h =
     let g = then_some (below_at 256 f.0.element.content) (λ y. Some (d.0, y)) (class, code) d.2 in
     let both : (d.0, g.0) ≡ (class, code) = some_is (d.0, g.0) (class, code) g.2 in
     let s = whole_in_found p a.0 a.1 in
-    let row = only_in_found (content_piece a.0) k.0 k.1 in
-    let inner = only_in_found (content_piece k.0) f.0 f.1 in
+    let row = only_found (content_piece a.0) k.0 k.1 in
+    let inner = only_found (content_piece k.0) f.0 f.1 in
     let outer_fits : IsBytes a.0.element.content = Spells-bytes p.octets a.0.element fits s in
     let k_fits : IsBytes k.0.element.content = (IsRow-bytes a.0.element.content (k.0.element ∷ []) outer_fits row).0 in
     let f_fits : IsBytes f.0.element.content = (IsRow-bytes k.0.element.content (f.0.element ∷ []) k_fits inner).0 in

@@ -15,12 +15,14 @@ use Rattle.mms_pdu.specs.declared.fault.PduFault.TheVariants.{UnknownPdu, Argume
 use Rattle.mms_pdu.specs.declared.reply_view.ReplyView.{ReplyView}
 use Rattle.mms_pdu.specs.declared.reply_view.ReplyView.TheVariants.{Answer, Error, Reject, Concluded, Information}
 use Rattle.mms_pdu.specs.Request.{is_pdu, may_begin, or_fault}
-use Rattle.mms_pdu.specs.Tagged.{number_at, spot_in, behind, first_in, whole_at, whole_in, numbered_in}
+use Rattle.ber_grammar.specs.Fields.{spot_in, whole_at, whole_in}
+use Rattle.mms_pdu.specs.Tagged.{number_at, behind, first_in, numbered_in}
 use Rattle.mms_pdu.specs.Answer.{is_answer_body}
 use Rattle.mms_pdu.specs.Reply.{Reply, answer, error, reject, concluded, information}
 use Rattle.mms_pdu.specs.ReplyReading.{service_in, answer_in, service_error_in, error_in, reason_at, rejected, reject_in, pdu_in, reply_in}
 use Rattle.mms_pdu.specs.ReplyView.{reply_of, IsPlaced}
-use Rattle.mms_pdu.proofs.TaggedLaws.{whole_in_found, begins_of}
+use Rattle.ber_grammar.proofs.FieldLaws.{whole_in_found, begins_of}
+use Rattle.mms_pdu.proofs.ReplyLaws.{beyond_140, beyond_164, beyond_163, beyond_162}
 
 -- the piece ends where the other ends, and is no longer
 abbrev Ends : Piece → Piece → Type 0
@@ -44,7 +46,7 @@ numbered_ends tag p n q h =
     let b = then_some (kept (first_at p.octets)) (λ x. Some (spot_in p x.0, behind p x.0 x.1)) a.0 a.1 in
     let c = then_some (number_at tag a.0.0.element) (λ m. Some (m, a.0.1)) (n, q) a.2 in
     let at : behind p b.0.0 b.0.1 ≡ q = ap (λ (x : Spot × Piece). x.1) (some_is (spot_in p b.0.0, behind p b.0.0 b.0.1) a.0 b.2) ∙ ap (λ (x : ℕ × Piece). x.1) (some_is (c.0, a.0.1) (n, q) c.2) in
-    let len = Begins-length p.octets b.0.0 b.0.1 (begins_of p b.0 (kept_some (first_at p.octets) b.0 b.1)) in
+    let len = Begins-length p.octets b.0.0 b.0.1 (begins_of p.octets b.0 (kept_some (first_at p.octets) b.0 b.1)) in
     subst (λ (x : Piece). Ends x p) at (refl, omega (arith, len), omega (arith, len))
 
 service_ends : (p : Piece) (tag : ℕ) (q : Piece) → service_in p ≡ Some (tag, q) → Ends q p
@@ -96,18 +98,6 @@ reject_lies p q = step (numbered_in 128 q)
     step : (o : Option (ℕ × Piece)) → Lies p (rejected q o)
     step None = inner None Invalid (reason_at q.octets)
     step (Some x) = inner (Some x.0) (Argument x.0) (reason_at x.1.octets)
-
-abbrev beyond_140 : Spot → Result (Reply Piece) PduFault
-beyond_140 s = cond (eqb s.element.tag 140) (cond (eqb (length s.element.content) 0) (Ok concluded) (Err Invalid)) (Err Invalid)
-
-abbrev beyond_164 : Spot → Result (Reply Piece) PduFault
-beyond_164 s = cond (eqb s.element.tag 164) (reject_in (content_piece s)) (beyond_140 s)
-
-abbrev beyond_163 : Piece → Spot → Result (Reply Piece) PduFault
-beyond_163 p s = cond (eqb s.element.tag 163) (Ok (information p)) (beyond_164 s)
-
-abbrev beyond_162 : Piece → Spot → Result (Reply Piece) PduFault
-beyond_162 p s = cond (eqb s.element.tag 162) (error_in (content_piece s)) (beyond_163 p s)
 
 pdu_lies : (p : Piece) (s : Spot) → Ends (content_piece s) p → Lies p (pdu_in p s)
 unfolding pdu_in

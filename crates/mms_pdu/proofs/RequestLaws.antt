@@ -9,20 +9,20 @@ use Rattle.ber_grammar.specs.Place.{Spot, Piece, content_piece}
 use Rattle.ber_grammar.specs.Reader.{and_then, kept, Gives, Reads}
 use Rattle.ber_grammar.specs.Reading.{first_at}
 use Rattle.ber_grammar.proofs.ElementLaws.{FirstTells, first_tells, first_again, IsTag-some}
-use Rattle.ber_grammar.proofs.OctetLaws.{Begins-bytes}
+use Rattle.ber_grammar.proofs.OctetLaws.{Begins-bytes, Spells-bytes}
 use Rattle.ber_grammar.proofs.OptionLaws.{some_is, kept_some, then_some, chosen}
 use Rattle.ber_grammar.proofs.ReaderLaws.{exact_from, reads_from, gives_at, refuses_at, ok_is, err_is}
 use Rattle.sv_base.specs.Tree.{Seen}
 use Rattle.mms_pdu.specs.declared.fault.PduFault.{PduFault}
 use Rattle.mms_pdu.specs.declared.fault.PduFault.TheVariants as faults
-use Rattle.mms_pdu.specs.Fields.{only_in}
+use Rattle.ber_grammar.specs.Fields.{only_in, spot_in}
 use Rattle.mms_pdu.specs.Invoke.{IsInvoked, below_at}
 use Rattle.mms_pdu.specs.Service.{Service, service_octets}
 use Rattle.mms_pdu.specs.Service as services
 use Rattle.mms_pdu.specs.Services.{IsService, is_service, service_at}
 use Rattle.mms_pdu.specs.Request.{Request, confirmed, conclude, disregarded, request_octets, is_disregarded, is_pdu, IsRequest, MayBegin, IsOutOfPlace, IsRequestRefused, may_begin, or_fault}
 use Rattle.mms_pdu.specs.RequestReading.{behind, invoke_in, service_in, invoked, pdu_at, whole, request_in, without_places, request_at}
-use Rattle.mms_pdu.proofs.FieldLaws.{only_found, only_again, only_bytes, spot_in}
+use Rattle.ber_grammar.proofs.FieldLaws.{only_found, only_again, only_bytes}
 use Rattle.mms_pdu.proofs.NameListLaws.{below_found, below_again}
 use Rattle.mms_pdu.proofs.ServiceLaws.{service_found, service_again}
 
@@ -47,9 +47,6 @@ only_tells p = only_tells_at p (only_in p) refl
 
 spelled_again : (p : Piece) (e : Element) → Spells p.octets e → only_in p ≡ Some (spot_in p e)
 spelled_again p e s = only_again p e (spells_row p.octets e s)
-
-spells_bytes : (octets : List ℕ) (e : Element) → IsBytes octets → Spells octets e → IsBytes e.content
-spells_bytes octets e fits s = only_bytes octets e fits (spells_row octets e s)
 
 -- ---- how the octets begin
 
@@ -106,7 +103,7 @@ ServiceTells i rest (Err f) = ((f ≡ faults.UnknownService i) × (a : ℕ) × (
 -- a service that is spelled is read
 read_again : (p : Piece) (s : Element) (y : Service (List ℕ) Seen) → IsBytes p.octets → Spells p.octets s → IsService s y → (x : Service Piece Spot) × (and_then (only_in p) service_at ≡ Some x) × (service_octets x ≡ y)
 read_again p s y fits spells is =
-    let x = service_again (spot_in p s) y (spells_bytes p.octets s fits spells) is in
+    let x = service_again (spot_in p s) y (Spells-bytes p.octets s fits spells) is in
     (x.0, rw (spelled_again p s spells, x.1) refl, x.2)
 
 known_tells : (i : ℕ) (p : Piece) (o : Option (Service Piece Spot)) → IsBytes p.octets → MayBegin is_service p.octets → and_then (only_in p) service_at ≡ o
@@ -114,7 +111,7 @@ known_tells : (i : ℕ) (p : Piece) (o : Option (Service Piece Spot)) → IsByte
 known_tells i p (Some x) fits may h =
     let a = then_some (only_in p) service_at x h in
     let spells = row_spells p.octets a.0.element (only_found p a.0 a.1) in
-    (x, refl, a.0.element, spells, service_found a.0 x (spells_bytes p.octets a.0.element fits spells) a.2)
+    (x, refl, a.0.element, spells, service_found a.0 x (Spells-bytes p.octets a.0.element fits spells) a.2)
 known_tells i p None fits may h = inr (refl, may, λ s y spells is. let again = read_again p s y fits spells is in let q = again.1 in cc)
 
 service_tells : (i : ℕ) (p : Piece) → IsBytes p.octets → ServiceTells i p.octets (service_in i p)
@@ -215,7 +212,7 @@ pdu_tells input s fits may spells = by_tag (eqb s.element.tag 160) (eqb s.elemen
     by_tag false false c false ha hb hc hd = out (inl (initiate s.element.tag (begun input s.element may spells) hd ha hb))
 
 from_whole : (p : Piece) (o : Option Spot) → IsBytes p.octets → MayBegin is_pdu p.octets → OnlyTells p.octets o → RequestTells p.octets (whole o)
-from_whole p (Some s) fits may spells = pdu_tells p.octets s (spells_bytes p.octets s.element fits spells) may spells
+from_whole p (Some s) fits may spells = pdu_tells p.octets s (Spells-bytes p.octets s.element fits spells) may spells
 from_whole p None fits may never = (may, inl never)
 
 request_tells : (p : Piece) → IsBytes p.octets → RequestTells p.octets (request_in p)
@@ -256,7 +253,7 @@ request_again : (p : Piece) (y : Request (List ℕ) Seen) → IsBytes p.octets �
 unfolding pdu_at service_in
 request_again p (confirmed invoke service) fits (e, spells, tag, rest, is, s, here, h) =
     let inner = behind (content_piece (spot_in p e)) rest in
-    let x = read_again inner s service (invoked_bytes e.content invoke rest (spells_bytes p.octets e fits spells) is) here h in
+    let x = read_again inner s service (invoked_bytes e.content invoke rest (Spells-bytes p.octets e fits spells) is) here h in
     let known = service_small s service h in
     let may : may_begin is_service rest ≡ true = may_again is_service rest (may_from is_service rest s here known.0 known.1) in
     (confirmed invoke x.0, invoked_again p e invoke rest spells tag is ∙ rw (may, x.1) refl, ap (λ (z : Service (List ℕ) Seen). confirmed invoke z) x.2)
@@ -279,7 +276,7 @@ none_asked : (p : Piece) (o : Option (Service Piece Spot)) → IsBytes p.octets 
 none_asked p (Some x) fits h never =
     let a = then_some (only_in p) service_at x h in
     let spells = row_spells p.octets a.0.element (only_found p a.0 a.1) in
-    absurd (never a.0.element (service_octets x) spells (service_found a.0 x (spells_bytes p.octets a.0.element fits spells) a.2))
+    absurd (never a.0.element (service_octets x) spells (service_found a.0 x (Spells-bytes p.octets a.0.element fits spells) a.2))
 none_asked p None fits h never = refl
 
 out_of_place : (p : Piece) (e : Element) → IsBytes e.content → IsOutOfPlace e → pdu_at (spot_in p e) ≡ Err faults.Invalid
@@ -297,11 +294,11 @@ refused_again p faults.UnknownPdu fits (a, rest, q, other) =
     let no_pdu : may_begin is_pdu p.octets ≡ false = ap (may_begin is_pdu) q ∙ other in
     rw no_pdu refl
 refused_again p faults.Invalid fits (may, inl never) = rw (may_again is_pdu p.octets may, none_only p (only_in p) (only_tells p) never) refl
-refused_again p faults.Invalid fits (may, inr (e, spells, out)) = pdu_again p e spells may ∙ out_of_place p e (spells_bytes p.octets e fits spells) out
+refused_again p faults.Invalid fits (may, inr (e, spells, out)) = pdu_again p e spells may ∙ out_of_place p e (Spells-bytes p.octets e fits spells) out
 refused_again p (faults.UnknownService i) fits (e, spells, tag, a, rest, is, other) = invoked_again p e i (a ∷ rest) spells tag is ∙ rw other refl
 refused_again p (faults.Argument i) fits (e, spells, tag, rest, is, may, never) =
     let inner = behind (content_piece (spot_in p e)) rest in
-    let none : and_then (only_in inner) service_at ≡ None = none_asked inner (and_then (only_in inner) service_at) (invoked_bytes e.content i rest (spells_bytes p.octets e fits spells) is) refl never in
+    let none : and_then (only_in inner) service_at ≡ None = none_asked inner (and_then (only_in inner) service_at) (invoked_bytes e.content i rest (Spells-bytes p.octets e fits spells) is) refl never in
     invoked_again p e i rest spells tag is ∙ rw (may_again is_service rest may, none) refl
 refused_again p (faults.SmallSize n) fits h = absurd h
 

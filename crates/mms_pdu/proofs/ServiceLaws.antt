@@ -7,9 +7,9 @@ use Rattle.ber_grammar.specs.Octets.{IsBytes}
 use Rattle.ber_grammar.specs.Place.{Spot, Piece, content_piece, elements}
 use Rattle.ber_grammar.specs.Reader.{and_then}
 use Rattle.ber_grammar.proofs.OctetLaws.{AllBytes, IsRow-bytes}
-use Rattle.ber_grammar.proofs.OptionLaws.{some_is, then_some, chosen}
+use Rattle.ber_grammar.proofs.OptionLaws.{some_is, then_some, chosen, either_way}
 use Rattle.sv_base.specs.Tree.{Seen}
-use Rattle.mms_pdu.specs.Fields.{fields_in, only_in}
+use Rattle.ber_grammar.specs.Fields.{fields_in, only_in, spot_in, spots}
 use Rattle.mms_pdu.specs.ObjectName.{name_at}
 use Rattle.mms_pdu.specs.Variable.{named_at}
 use Rattle.mms_pdu.specs.Service.{Service, service_octets}
@@ -18,7 +18,7 @@ use Rattle.mms_pdu.specs.NameList.{name_list_at}
 use Rattle.mms_pdu.specs.Access.{truth_at, read_at, write_at}
 use Rattle.mms_pdu.specs.VariableLists.{define_at, delete_at}
 use Rattle.mms_pdu.specs.Services.{IsService, status_at, identify_at, type_of_node_at, set_of_at, service_at}
-use Rattle.mms_pdu.proofs.FieldLaws.{either_way, fields_found, fields_again, in_place, only_found, only_again, spot_in, spots}
+use Rattle.ber_grammar.proofs.FieldLaws.{elements_found, elements_again, in_place, only_found, only_again}
 use Rattle.mms_pdu.proofs.VariableLaws.{only_name_found, only_name_again, named_found, named_again}
 use Rattle.mms_pdu.proofs.NameListLaws.{NamesAre, name_list_found, name_list_again}
 use Rattle.mms_pdu.proofs.AccessLaws.{ReadIs, WriteIs, read_found, read_variables_again, read_set_again, write_found, write_vars_again, write_set_again, truth_found, truth_again}
@@ -32,7 +32,7 @@ fields_asked : (s : Spot) (read : List Spot → Option (Service Piece Spot)) (As
     → and_then (fields_in (content_piece s)) read ≡ Some service → (es : List Element) × IsRow s.element.content es × Asks es (service_octets service)
 fields_asked s read Asks service fits found h =
     let a = then_some (fields_in (content_piece s)) read service h in
-    let row = fields_found (content_piece s) a.0 a.1 in
+    let row = elements_found (content_piece s) a.0 a.1 in
     (elements a.0, row, found a.0 (IsRow-bytes s.element.content (elements a.0) fits row) a.2)
 
 names_service : (e : Element) (es : List Element) (x : Service (List ℕ) Seen) → e.tag ≡ 161 → IsRow e.content es → NamesAre es x → IsService e x
@@ -105,29 +105,29 @@ service_again s services.status fits (tag, b, is) = (services.status, rw (tag, t
 service_again s services.identify fits (tag, none) = (services.identify, rw (tag, none) refl, refl)
 service_again s (services.names class scope after) fits (tag, es, row, h) =
     let x = name_list_again (spots (content_piece s) es) class scope after (in_place (λ ds. NamesAre ds (services.names class scope after)) (content_piece s) es h) in
-    (x.0, rw (tag, fields_again (content_piece s) es row, x.1) refl, x.2)
+    (x.0, rw (tag, elements_again (content_piece s) es row, x.1) refl, x.2)
 service_again s (services.read vs spec) fits (tag, es, row, h) =
     let x = read_variables_again (spots (content_piece s) es) vs spec (in_bytes (content_piece s) es fits row) (in_place (λ ds. ReadIs ds (services.read vs spec)) (content_piece s) es h) in
-    (x.0, rw (tag, fields_again (content_piece s) es row, x.1) refl, x.2)
+    (x.0, rw (tag, elements_again (content_piece s) es row, x.1) refl, x.2)
 service_again s (services.read_set n spec) fits (tag, es, row, h) =
     let x = read_set_again (spots (content_piece s) es) n spec (in_bytes (content_piece s) es fits row) (in_place (λ ds. ReadIs ds (services.read_set n spec)) (content_piece s) es h) in
-    (x.0, rw (tag, fields_again (content_piece s) es row, x.1) refl, x.2)
+    (x.0, rw (tag, elements_again (content_piece s) es row, x.1) refl, x.2)
 service_again s (services.write_vars vs values) fits (tag, es, row, h, count) =
     let k = in_place (λ ds. WriteIs ds (services.write_vars vs values)) (content_piece s) es (h, count) in
     let x = write_vars_again (spots (content_piece s) es) vs values (in_bytes (content_piece s) es fits row) k.0 count in
-    (x.0, rw (tag, fields_again (content_piece s) es row, x.1) refl, x.2)
+    (x.0, rw (tag, elements_again (content_piece s) es row, x.1) refl, x.2)
 service_again s (services.write_set n values) fits (tag, es, row, h) =
     let x = write_set_again (spots (content_piece s) es) n values (in_bytes (content_piece s) es fits row) (in_place (λ ds. WriteIs ds (services.write_set n values)) (content_piece s) es h) in
-    (x.0, rw (tag, fields_again (content_piece s) es row, x.1) refl, x.2)
+    (x.0, rw (tag, elements_again (content_piece s) es row, x.1) refl, x.2)
 service_again s (services.type_of_node n) fits (tag, k, row, inner, is) =
     let x = named_again 160 (spot_in (content_piece s) k) n inner is in
     (services.type_of_node x.0, rw (tag, only_again (content_piece s) k row, x.1) refl, rw x.2 refl)
 service_again s (services.define n vs) fits (tag, es, row, h) =
     let x = define_again (spots (content_piece s) es) n vs (in_bytes (content_piece s) es fits row) (in_place (λ ds. DefineIs ds (services.define n vs)) (content_piece s) es h) in
-    (x.0, rw (tag, fields_again (content_piece s) es row, x.1) refl, x.2)
+    (x.0, rw (tag, elements_again (content_piece s) es row, x.1) refl, x.2)
 service_again s (services.set_of n) fits (tag, is) =
     let x = only_name_again (content_piece s) n is in
     (services.set_of x.0, rw (tag, x.1) refl, rw x.2 refl)
 service_again s (services.delete scope ns) fits (tag, es, row, h) =
     let x = delete_again (spots (content_piece s) es) scope ns (in_bytes (content_piece s) es fits row) (in_place (λ ds. DeleteIs ds (services.delete scope ns)) (content_piece s) es h) in
-    (x.0, rw (tag, fields_again (content_piece s) es row, x.1) refl, x.2)
+    (x.0, rw (tag, elements_again (content_piece s) es row, x.1) refl, x.2)

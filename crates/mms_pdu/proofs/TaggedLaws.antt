@@ -1,4 +1,4 @@
--- The one element that octets are, and numbers under a tag.
+-- Numbers under a tag.
 use Rattle.std.proofs.Common.{◌≡◌, ℕ, ◌^◌, ◌<◌, cond, ltb, eqb, List, [], ◌∷◌, ◌++◌, length, Some, None, arith, Result, Ok, refl, sym, ap, subst, ◌∙◌}
 use Rattle.std.proofs.lemmas.Bool.{eqb-true, eq-eqb, ltb-true, lt-ltb}
 use Rattle.std.proofs.lemmas.List.{nil_from_length, append-nil}
@@ -16,7 +16,9 @@ use Rattle.ber_grammar.proofs.ElementLaws.{FirstTells, first_tells, first_again}
 use Rattle.ber_grammar.proofs.PartsLaws.{PartsTells, parts_tells, row_again}
 use Rattle.ber_grammar.proofs.UintLaws.{uint_again, uint_found}
 use Rattle.mms_pdu.specs.Invoke.{below_at}
-use Rattle.mms_pdu.specs.Tagged.{IsNumber, IsNumbered, number_at, spot_in, behind, first_in, whole_at, whole_in, numbered_in}
+use Rattle.ber_grammar.specs.Fields.{spot_in}
+use Rattle.ber_grammar.proofs.FieldLaws.{begins_of}
+use Rattle.mms_pdu.specs.Tagged.{IsNumber, IsNumbered, number_at, behind, first_in, numbered_in}
 
 -- ---- a number
 
@@ -44,50 +46,7 @@ number_found tag e n fits h =
     let a = chosen (eqb e.tag tag) (below_at (2 ^ 32) e.content) n h in
     (eqb-true e.tag tag a.0, below_found (2 ^ 32) e.content n fits a.1)
 
--- ---- the one element
-
-pub first_whole : (input : List ℕ) (e : Element) → Spells input e → first_at input ≡ Ok (e, [])
-first_whole input e s = ap first_at (sym (append-nil input)) ∙ first_again input [] e s
-
-pub whole_first : (input : List ℕ) (e : Element) → first_at input ≡ Ok (e, []) → Spells input e
-whole_first input e h =
-    let b : Begins input e [] = subst (λ (r : Result (Element × List ℕ) BerFault). FirstTells input r) h (first_tells input) in
-    whole_of input e b
-  where
-    whole_of : (input : List ℕ) (e : Element) → Begins input e [] → Spells input e
-    whole_of input e (front, s, p) = subst (λ (x : List ℕ). Spells x e) (sym (p ∙ append-nil front)) s
-
-pub whole_again : (input : List ℕ) (e : Element) → Spells input e → whole_at input ≡ Some e
-unfolding whole_at
-whole_again input e s = rw (first_whole input e s) refl
-
-pub whole_found : (input : List ℕ) (e : Element) → whole_at input ≡ Some e → Spells input e
-unfolding whole_at
-whole_found input e h =
-    let step = λ (x : Element × List ℕ). cond (eqb (length x.1) 0) (Some x.0) None in
-    let a = then_some (kept (first_at input)) step e h in
-    let b = chosen (eqb (length a.0.1) 0) (Some a.0.0) e a.2 in
-    let none : a.0.1 ≡ [] = nil_from_length a.0.1 (eqb-true (length a.0.1) 0 b.0) in
-    let one : first_at input ≡ Ok (a.0.0, []) = kept_some (first_at input) a.0 a.1 ∙ ap (λ (x : List ℕ). Ok (a.0.0, x)) none in
-    subst (λ (x : Element). Spells input x) (some_is a.0.0 e b.1) (whole_first input a.0.0 one)
-
--- ---- a row
-
-pub row_found : (octets : List ℕ) (es : List Element) → kept (parts_at octets) ≡ Some es → IsRow octets es
-row_found octets es h = subst (λ (r : Result (List Element) BerFault). PartsTells octets r) (kept_some (parts_at octets) es h) (parts_tells octets)
-
-pub row_kept : (octets : List ℕ) (es : List Element) → IsRow octets es → kept (parts_at octets) ≡ Some es
-row_kept octets es row = rw (row_again octets es row) refl
-
 -- ---- with where things lie
-
-pub whole_in_again : (p : Piece) (e : Element) → Spells p.octets e → whole_in p ≡ Some (spot_in p e)
-whole_in_again p e s = rw (whole_again p.octets e s) refl
-
-pub whole_in_found : (p : Piece) (s : Spot) → whole_in p ≡ Some s → Spells p.octets s.element
-whole_in_found p s h =
-    let a = then_some (whole_at p.octets) (λ e. Some (spot_in p e)) s h in
-    subst (λ (x : Spot). Spells p.octets x.element) (some_is (spot_in p a.0) s a.2) (whole_found p.octets a.0 a.1)
 
 pub first_in_again : (p : Piece) (e : Element) (rest : List ℕ) → Begins p.octets e rest → first_in p ≡ Some (spot_in p e, behind p e rest)
 unfolding first_in
@@ -96,9 +55,6 @@ first_in_again p e rest (front, s, q) = rw (ap first_at q ∙ first_again front 
 pub numbered_again : (tag : ℕ) (p : Piece) (n : ℕ) (rest : List ℕ) → IsNumbered tag p.octets n rest → (q : Piece) × (numbered_in tag p ≡ Some (n, q)) × (q.octets ≡ rest)
 unfolding numbered_in
 numbered_again tag p n rest (e, b, is) = (behind p e rest, rw (first_in_again p e rest b, number_again tag e n is) refl, refl)
-
-pub begins_of : (p : Piece) (x : Element × List ℕ) → first_at p.octets ≡ Ok x → Begins p.octets x.0 x.1
-begins_of p x h = subst (λ (r : Result (Element × List ℕ) BerFault). FirstTells p.octets r) h (first_tells p.octets)
 
 pub numbered_found : (tag : ℕ) (p : Piece) (n : ℕ) (q : Piece) → IsBytes p.octets → numbered_in tag p ≡ Some (n, q) → IsNumbered tag p.octets n q.octets
 unfolding numbered_in first_in
@@ -109,7 +65,7 @@ numbered_found tag p n q fits h =
     let c = then_some (number_at tag a.0.0.element) (λ m. Some (m, a.0.1)) (n, q) a.2 in
     let at : (spot_in p b.0.0, behind p b.0.0 b.0.1) ≡ a.0 = some_is (spot_in p b.0.0, behind p b.0.0 b.0.1) a.0 b.2 in
     let both : (c.0, a.0.1) ≡ (n, q) = some_is (c.0, a.0.1) (n, q) c.2 in
-    let begins = begins_of p b.0 (kept_some (first_at p.octets) b.0 b.1) in
+    let begins = begins_of p.octets b.0 (kept_some (first_at p.octets) b.0 b.1) in
     let element : b.0.0 ≡ a.0.0.element = ap (λ (x : Spot × Piece). x.0.element) at in
     let octets : b.0.1 ≡ q.octets = ap (λ (x : Spot × Piece). x.1.octets) at ∙ ap (λ (x : ℕ × Piece). x.1.octets) both in
     let number = number_found tag b.0.0 n (Begins-bytes p.octets b.0.0 b.0.1 fits begins).0 (ap (number_at tag) element ∙ c.1 ∙ ap (λ (x : ℕ × Piece). Some x.0) both) in

@@ -6,10 +6,12 @@ use Rattle.ber_grammar.specs.Octets.{IsBytes}
 use Rattle.ber_grammar.specs.Place.{Spot, Piece, content_piece, elements}
 use Rattle.ber_grammar.specs.Reader.{and_then}
 use Rattle.ber_grammar.proofs.OptionLaws.{some_is, then_some, chosen}
-use Rattle.mms_pdu.specs.Fields.{Each, fields_in, only_in, each_in}
+use Rattle.mms_pdu.specs.Each.{Each, each_in}
+use Rattle.ber_grammar.specs.Fields.{fields_in, only_in, spot_in, spots}
 use Rattle.mms_pdu.specs.ObjectName.{Name, name_octets, IsName, IsOnlyName, name_at}
 use Rattle.mms_pdu.specs.Variable.{Variable, variable_octets, IsAlternate, IsSpecified, IsVariable, AreVariables, alternate_at, named_at, specified_at, variable_at}
-use Rattle.mms_pdu.proofs.FieldLaws.{fields_found, fields_again, in_place, only_found, only_again, spot_in, spots, each_found, each_again}
+use Rattle.ber_grammar.proofs.FieldLaws.{elements_found, elements_again, in_place, only_found, only_again}
+use Rattle.mms_pdu.proofs.EachLaws.{each_found, each_again}
 use Rattle.mms_pdu.proofs.ObjectNameLaws.{name_found, name_again}
 
 -- ---- a name alone
@@ -72,13 +74,13 @@ unfolding variable_at
 variable_found s v h =
     let a = chosen (eqb s.element.tag 48) (and_then (fields_in (content_piece s)) specified_at) v h in
     let b = then_some (fields_in (content_piece s)) specified_at v a.1 in
-    (eqb-true s.element.tag 48 a.0, elements b.0, fields_found (content_piece s) b.0 b.1, specified_found b.0 v b.2)
+    (eqb-true s.element.tag 48 a.0, elements b.0, elements_found (content_piece s) b.0 b.1, specified_found b.0 v b.2)
 
 pub variable_again : (s : Spot) (v : Variable (List ℕ)) → IsVariable s.element v → (x : Variable Piece) × (variable_at s ≡ Some x) × (variable_octets x ≡ v)
 unfolding variable_at
 variable_again s v (tag, es, row, h) =
     let x = specified_again (spots (content_piece s) es) v (in_place (λ ds. IsSpecified ds v) (content_piece s) es h) in
-    (x.0, rw (eq-eqb s.element.tag 48 tag, fields_again (content_piece s) es row, x.1) refl, x.2)
+    (x.0, rw (eq-eqb s.element.tag 48 tag, elements_again (content_piece s) es row, x.1) refl, x.2)
 
 -- ---- lists
 

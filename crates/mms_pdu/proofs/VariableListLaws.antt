@@ -6,16 +6,15 @@ use Rattle.ber_grammar.specs.Octets.{IsBytes}
 use Rattle.ber_grammar.specs.Place.{Spot, Piece, content_piece, elements}
 use Rattle.ber_grammar.specs.Reader.{and_then}
 use Rattle.ber_grammar.proofs.OctetLaws.{AllBytes}
-use Rattle.ber_grammar.proofs.OptionLaws.{some_is, then_some, chosen}
+use Rattle.ber_grammar.proofs.OptionLaws.{some_is, then_some, chosen, either_way}
 use Rattle.sv_base.specs.Tree.{Seen}
-use Rattle.mms_pdu.specs.Fields.{each_in}
+use Rattle.mms_pdu.specs.Each.{each_in}
 use Rattle.mms_pdu.specs.ObjectName.{Name, name_octets, name_at}
 use Rattle.mms_pdu.specs.NameList.{octet_at}
 use Rattle.mms_pdu.specs.Variable.{Variable, variable_octets, AreVariables, variable_at}
 use Rattle.mms_pdu.specs.Service.{Service, service_octets}
 use Rattle.mms_pdu.specs.Service as services
 use Rattle.mms_pdu.specs.VariableLists.{IsDefine, IsDeleteScope, AreNames, IsDelete, variable_list_at, define_at, names_at, delete_at}
-use Rattle.mms_pdu.proofs.FieldLaws.{either_way}
 use Rattle.mms_pdu.proofs.ObjectNameLaws.{name_found, name_again}
 use Rattle.mms_pdu.proofs.VariableLaws.{variables_found, variables_again, names_found, names_again}
 use Rattle.mms_pdu.proofs.NameListLaws.{octet_found, octet_again}

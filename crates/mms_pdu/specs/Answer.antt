@@ -7,34 +7,35 @@ use Rattle.ber_grammar.specs.Place.{Spot, Piece, content_piece}
 use Rattle.ber_grammar.specs.Reader.{and_then}
 use Rattle.sv_base.specs.Tree.{Seen}
 use Rattle.mms_data.specs.Grammar.{IsWithin}
-use Rattle.mms_pdu.specs.Fields.{fields_in, only_in}
+use Rattle.ber_grammar.specs.Fields.{fields_in, only_in}
 use Rattle.mms_pdu.specs.Invoke.{below_at}
 use Rattle.mms_pdu.specs.Access.{Access, IsAccess, access_at}
 use Rattle.mms_pdu.specs.Datum.{datum_at}
+use Rattle.mms_pdu.specs.Tags.{read_tag, write_tag}
 
--- DataAccessError, a number of 8 bits under 128
+-- DataAccessError, a number of 8 bits under 0x80
 abbrev pub IsFailed : Element → Type 0
-IsFailed e = (e.tag ≡ 128) × (code : ℕ) × IsUint e.content code × (code < 256)
+IsFailed e = (e.tag ≡ 0x80) × (code : ℕ) × IsUint e.content code × (code < 256)
 
 -- AccessResult: a failure, or else Data, at most ten deep
 abbrev pub IsResult : Element → Type 0
-IsResult e = IsFailed e ⊎ ((e.tag ≢ 128) × (value : Seen) × IsWithin 10 e value)
+IsResult e = IsFailed e ⊎ ((e.tag ≢ 0x80) × (value : Seen) × IsWithin 10 e value)
 
--- of a write: a failure, or success, 129, which has no content
+-- of a write: a failure, or success, 0x81, which has no content
 abbrev pub IsWritten : Element → Type 0
-IsWritten e = IsFailed e ⊎ ((e.tag ≡ 129) × (e.content ≡ []))
+IsWritten e = IsFailed e ⊎ ((e.tag ≡ 0x81) × (e.content ≡ []))
 
 -- the content is such elements
 abbrev pub AreAll : (Element → Type 0) → List ℕ → Type 0
 AreAll Is content = (es : List Element) × IsRow content es × AllByRecursion Is es
 
--- what was read, 160
+-- what was read, 0xA0
 abbrev pub IsSpecification : Element → Type 0
-IsSpecification e = (e.tag ≡ 160) × (k : Element) × IsRow e.content (k ∷ []) × (access : Access (List ℕ)) × IsAccess k access
+IsSpecification e = (e.tag ≡ 0xA0) × (k : Element) × IsRow e.content (k ∷ []) × (access : Access (List ℕ)) × IsAccess k access
 
--- listOfAccessResult, 161
+-- listOfAccessResult, 0xA1
 abbrev pub AreResults : Element → Type 0
-AreResults e = (e.tag ≡ 161) × AreAll IsResult e.content
+AreResults e = (e.tag ≡ 0xA1) × AreAll IsResult e.content
 
 -- the specification, which may be absent, and the results
 abbrev pub IsReadAnswer : List Element → Type 0
@@ -43,10 +44,10 @@ IsReadAnswer (r ∷ []) = AreResults r
 IsReadAnswer (s ∷ r ∷ []) = IsSpecification s × AreResults r
 IsReadAnswer (s ∷ r ∷ e ∷ es) = ⊥
 
--- The body of the answer to a read, 164, and to a write, 165, is of its form. Of other bodies nothing is said.
+-- The body of the answer to a read and to a write is of its form. Of other bodies nothing is said.
 pub record IsAnswerBody (tag : ℕ) (body : List ℕ) : Type 0 where
-  pub read : tag ≡ 164 → (es : List Element) × IsRow body es × IsReadAnswer es
-  pub written : tag ≡ 165 → AreAll IsWritten body
+  pub read : tag ≡ read_tag → (es : List Element) × IsRow body es × IsReadAnswer es
+  pub written : tag ≡ write_tag → AreAll IsWritten body
 
 -- ---- reading
 
@@ -58,16 +59,16 @@ abbrev pub is_failed : Spot → Bool
 is_failed s = is_some (below_at 256 s.element.content)
 
 unfoldable pub is_result : Spot → Bool
-is_result s = if s.element.tag == 128 then is_failed s else is_some (datum_at s)
+is_result s = if s.element.tag == 0x80 then is_failed s else is_some (datum_at s)
 
 unfoldable pub is_written : Spot → Bool
-is_written s = if s.element.tag == 128 then is_failed s else s.element.tag == 129 && length s.element.content == 0
+is_written s = if s.element.tag == 0x80 then is_failed s else s.element.tag == 0x81 && length s.element.content == 0
 
 unfoldable pub is_specification : Spot → Bool
-is_specification s = s.element.tag == 160 && is_some (and_then (only_in (content_piece s)) access_at)
+is_specification s = s.element.tag == 0xA0 && is_some (and_then (only_in (content_piece s)) access_at)
 
 unfoldable pub are_results : Spot → Bool
-are_results s = s.element.tag == 161 && holds (list_all is_result) (fields_in (content_piece s))
+are_results s = s.element.tag == 0xA1 && holds (list_all is_result) (fields_in (content_piece s))
 
 abbrev pub is_read_answer : List Spot → Bool
 is_read_answer [] = false
@@ -77,6 +78,6 @@ is_read_answer (s ∷ r ∷ t ∷ more) = false
 
 unfoldable pub is_answer_body : ℕ → Piece → Bool
 is_answer_body tag body =
-    if tag == 164 then holds is_read_answer (fields_in body)
-    else if tag == 165 then holds (list_all is_written) (fields_in body)
+    if tag == read_tag then holds is_read_answer (fields_in body)
+    else if tag == write_tag then holds (list_all is_written) (fields_in body)
     else true

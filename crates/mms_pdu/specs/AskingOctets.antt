@@ -1,5 +1,5 @@
--- The octets of what a client asks, in the minimal spelling of each element (ISO 9506-2, Confirmed-RequestPDU, 160, with a
--- Read-Request, 164, and a Write-Request, 165).
+-- The octets of what a client asks, in the minimal spelling of each element (ISO 9506-2, Confirmed-RequestPDU with a
+-- Read-Request and a Write-Request).
 use Rattle.std.specs.Prelude.{ℕ, ◌<◌, false, List, [], ◌∷◌, ◌++◌, length, slice_index}
 use Rattle.ber_grammar.specs.Content.{IsVisible}
 use Rattle.ber_write.specs.Minimal.{octets_of, uint_octets}
@@ -7,32 +7,33 @@ use Rattle.sv_base.specs.Data.{data_of}
 use Rattle.sv_base.specs.declared.value.Value.{Value}
 use Rattle.mms_pdu.specs.ObjectName.{domain}
 use Rattle.mms_pdu.specs.Variable.{Variable}
+use Rattle.mms_pdu.specs.Tags.{conclude_request_tag, confirmed_request_tag, read_tag, write_tag}
 
 -- the octets of an Identifier, a VisibleString
 abbrev pub AreVisible : List ℕ → Type 0
 AreVisible octets = (k : ℕ) → k < length octets → IsVisible (slice_index octets k)
 
--- a domain-specific name, 161, of the domain's identifier and the item's
+-- a domain-specific name, 0xA1, of the domain's identifier and the item's
 abbrev pub domain_name : List ℕ → List ℕ → List ℕ
-domain_name d i = octets_of 161 (octets_of 26 d ++ octets_of 26 i)
+domain_name d i = octets_of 0xA1 (octets_of 0x1A d ++ octets_of 0x1A i)
 
--- listOfVariable, 160, of the one variable of this name, a SEQUENCE, 48, without alternate access
+-- listOfVariable, 0xA0, of the one variable of this name, a SEQUENCE, 0x30, without alternate access
 abbrev pub one_variable : List ℕ → List ℕ → List ℕ
-one_variable d i = octets_of 160 (octets_of 48 (octets_of 160 (domain_name d i)))
+one_variable d i = octets_of 0xA0 (octets_of 0x30 (octets_of 0xA0 (domain_name d i)))
 
 -- a confirmed service under an invoke number
 abbrev pub confirmed_octets : ℕ → ℕ → List ℕ → List ℕ
-confirmed_octets invoke tag body = octets_of 160 (octets_of 2 (uint_octets invoke) ++ octets_of tag body)
+confirmed_octets invoke tag body = octets_of confirmed_request_tag (octets_of 2 (uint_octets invoke) ++ octets_of tag body)
 
 unfoldable pub read_request : ℕ → List ℕ → List ℕ → List ℕ
-read_request invoke d i = confirmed_octets invoke 164 (octets_of 161 (one_variable d i))
+read_request invoke d i = confirmed_octets invoke read_tag (octets_of 0xA1 (one_variable d i))
 
 unfoldable pub write_request : ℕ → List ℕ → List ℕ → Value → List ℕ
-write_request invoke d i value = confirmed_octets invoke 165 (one_variable d i ++ octets_of 160 (data_of value))
+write_request invoke d i value = confirmed_octets invoke write_tag (one_variable d i ++ octets_of 0xA0 (data_of value))
 
--- Conclude-RequestPDU, 139, a NULL
+-- Conclude-RequestPDU, a NULL
 abbrev pub conclude_request : List ℕ
-conclude_request = 139 ∷ 0 ∷ []
+conclude_request = conclude_request_tag ∷ 0 ∷ []
 
 -- the variable that a request names
 abbrev pub named_variable : List ℕ → List ℕ → Variable (List ℕ)

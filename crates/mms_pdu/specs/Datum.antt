@@ -8,7 +8,7 @@ use Rattle.sv_base.specs.Tree.{Seen, plain, other}
 use Rattle.mms_data.specs.Grammar.{IsWithin}
 use Rattle.mms_data.specs.Reading.{data_at}
 use Rattle.mms_data.specs.View.{view_at}
-use Rattle.mms_pdu.specs.Fields.{Each}
+use Rattle.mms_pdu.specs.Each.{Each}
 
 -- the content is these values
 abbrev pub AreData : List ℕ → List Seen → Type 0

@@ -1,4 +1,4 @@
--- Initiate-RequestPDU and Initiate-ResponsePDU (ISO 9506-2), under the tags 168 and 169.
+-- Initiate-RequestPDU and Initiate-ResponsePDU (ISO 9506-2), by their tags.
 use Rattle.std.specs.Prelude.{◌≡◌, ℕ, ◌<◌, ◌≤◌, List, [], ◌∷◌, ◌++◌}
 use Rattle.ber_grammar.specs.Element.{Element, Spells, IsRow}
 use Rattle.mms_pdu.specs.declared.fault.PduFault.{PduFault}
@@ -17,7 +17,7 @@ abbrev pub AreDetails : List Element → Type 0
 AreDetails [] = ⊥
 AreDetails (a ∷ []) = ⊥
 AreDetails (a ∷ b ∷ []) = ⊥
-AreDetails (a ∷ b ∷ c ∷ []) = (a.tag ≡ 128) × (b.tag ≡ 129) × (c.tag ≡ 130)
+AreDetails (a ∷ b ∷ c ∷ []) = (a.tag ≡ 0x80) × (b.tag ≡ 0x81) × (c.tag ≡ 0x82)
 AreDetails (a ∷ b ∷ c ∷ d ∷ es) = ⊥
 
 -- the fields, in their order
@@ -29,11 +29,11 @@ pub record AreFields (es : List Element) (i : Initiate) : Type 0 where
   pub detail : Element
   pub details : List Element
   pub whole : es ≡ size ++ (calling ∷ called ∷ (nesting ++ detail ∷ []))
-  pub is_size : IsOptional 128 65000 size i.size
-  pub is_calling : IsNumber 129 calling i.calling
-  pub is_called : IsNumber 130 called i.called
-  pub is_nesting : IsOptional 131 10 nesting i.nesting
-  pub is_detail : detail.tag ≡ 164
+  pub is_size : IsOptional 0x80 65000 size i.size
+  pub is_calling : IsNumber 0x81 calling i.calling
+  pub is_called : IsNumber 0x82 called i.called
+  pub is_nesting : IsOptional 0x83 10 nesting i.nesting
+  pub is_detail : detail.tag ≡ 0xA4
   pub row : IsRow detail.content details
   pub are_details : AreDetails details
 

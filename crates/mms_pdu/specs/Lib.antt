@@ -1,5 +1,6 @@
 -- what is in a PDU, and which elements spell it
-pub mod Fields
+pub mod Tags
+pub mod Each
 pub mod ObjectName
 pub mod Invoke
 pub mod Tagged

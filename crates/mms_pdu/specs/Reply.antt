@@ -9,6 +9,7 @@ use Rattle.mms_pdu.specs.Request.{is_pdu, MayBegin}
 use Rattle.mms_pdu.specs.Tagged.{IsNumbered}
 use Rattle.mms_pdu.specs.Answer.{IsAnswerBody}
 use Rattle.mms_pdu.specs.ReplyOctets.{class_tag}
+use Rattle.mms_pdu.specs.Tags.{conclude_response_tag, confirmed_error_tag, confirmed_response_tag, reject_tag, unconfirmed_tag}
 
 -- P is what octets are, as they are or as a piece of the input.
 pub data Reply (P : Type 0) : Type 0 where
@@ -37,22 +38,22 @@ IsOctet content n = IsUint content n × (n < 256)
 abbrev pub IsService : List ℕ → ℕ → List ℕ → Type 0
 IsService octets tag body = (e : Element) × Spells octets e × (e.tag ≡ tag) × (e.content ≡ body) × IsAnswerBody tag body
 
--- ServiceError, 162, whose errorClass, 160, is a choice: the number of its tag is the class, what it holds the code
+-- ServiceError, 0xA2, whose errorClass, 0xA0, is a choice: the number of its tag is the class, what it holds the code
 abbrev pub IsServiceError : List ℕ → ℕ → ℕ → Type 0
-IsServiceError octets class code = (e k f : Element) × Spells octets e × (e.tag ≡ 162) × IsRow e.content (k ∷ []) × (k.tag ≡ 160) × IsRow k.content (f ∷ []) × (class < 256) × (f.tag ≡ class_tag class) × IsOctet f.content code
+IsServiceError octets class code = (e k f : Element) × Spells octets e × (e.tag ≡ 0xA2) × IsRow e.content (k ∷ []) × (k.tag ≡ 0xA0) × IsRow k.content (f ∷ []) × (class < 256) × (f.tag ≡ class_tag class) × IsOctet f.content code
 
--- rejectReason, a choice: 129 confirmed-requestPDU to 139 conclude-errorPDU
+-- rejectReason, a choice: 0x81 confirmed-requestPDU to 0x8B conclude-errorPDU
 abbrev pub IsReason : List ℕ → ℕ → Type 0
-IsReason octets code = (e : Element) × Spells octets e × (129 ≤ e.tag) × (e.tag ≤ 139) × IsOctet e.content code
+IsReason octets code = (e : Element) × Spells octets e × (0x81 ≤ e.tag) × (e.tag ≤ 0x8B) × IsOctet e.content code
 
--- 161 confirmed-ResponsePDU, 162 confirmed-ErrorPDU, 163 unconfirmed-PDU, 164 rejectPDU, 140 conclude-ResponsePDU, a NULL
+-- what is sent, by the tag of its PDU; conclude-ResponsePDU is a NULL
 abbrev pub IsReplyOf : List ℕ → Element → Reply (List ℕ) → Type 0
-IsReplyOf input e (answer invoke tag body) = (e.tag ≡ 161) × (rest : List ℕ) × IsNumbered 2 e.content invoke rest × IsService rest tag body
-IsReplyOf input e (error invoke class code) = (e.tag ≡ 162) × (rest : List ℕ) × IsNumbered 128 e.content invoke rest × IsServiceError rest class code
-IsReplyOf input e (reject (Some invoke) code) = (e.tag ≡ 164) × (rest : List ℕ) × IsNumbered 128 e.content invoke rest × IsReason rest code
-IsReplyOf input e (reject None code) = (e.tag ≡ 164) × IsReason e.content code
-IsReplyOf input e concluded = (e.tag ≡ 140) × (e.content ≡ [])
-IsReplyOf input e (information pdu) = (e.tag ≡ 163) × (pdu ≡ input)
+IsReplyOf input e (answer invoke tag body) = (e.tag ≡ confirmed_response_tag) × (rest : List ℕ) × IsNumbered 2 e.content invoke rest × IsService rest tag body
+IsReplyOf input e (error invoke class code) = (e.tag ≡ confirmed_error_tag) × (rest : List ℕ) × IsNumbered 0x80 e.content invoke rest × IsServiceError rest class code
+IsReplyOf input e (reject (Some invoke) code) = (e.tag ≡ reject_tag) × (rest : List ℕ) × IsNumbered 0x80 e.content invoke rest × IsReason rest code
+IsReplyOf input e (reject None code) = (e.tag ≡ reject_tag) × IsReason e.content code
+IsReplyOf input e concluded = (e.tag ≡ conclude_response_tag) × (e.content ≡ [])
+IsReplyOf input e (information pdu) = (e.tag ≡ unconfirmed_tag) × (pdu ≡ input)
 
 -- the octets are one element, and that is the PDU
 abbrev pub IsReply : List ℕ → Reply (List ℕ) → Type 0
@@ -62,20 +63,20 @@ IsReply input r = (e : Element) × Spells input e × IsReplyOf input e r
 
 -- the tags of those
 abbrev pub is_sent : ℕ → Bool
-is_sent tag = tag == 161 || tag == 162 || tag == 163 || tag == 164 || tag == 140
+is_sent tag = tag == confirmed_response_tag || tag == confirmed_error_tag || tag == unconfirmed_tag || tag == reject_tag || tag == conclude_response_tag
 
 -- behind the invoke number stands what is not of the form
 abbrev pub IsMalformed : Element → ℕ → Type 0
-IsMalformed e invoke = (rest : List ℕ) × (((e.tag ≡ 161) × IsNumbered 2 e.content invoke rest × ((tag : ℕ) (body : List ℕ) → ¬ IsService rest tag body))
-    ⊎ ((e.tag ≡ 162) × IsNumbered 128 e.content invoke rest × ((class code : ℕ) → ¬ IsServiceError rest class code))
-    ⊎ ((e.tag ≡ 164) × IsNumbered 128 e.content invoke rest × ((code : ℕ) → ¬ IsReason rest code)))
+IsMalformed e invoke = (rest : List ℕ) × (((e.tag ≡ confirmed_response_tag) × IsNumbered 2 e.content invoke rest × ((tag : ℕ) (body : List ℕ) → ¬ IsService rest tag body))
+    ⊎ ((e.tag ≡ confirmed_error_tag) × IsNumbered 0x80 e.content invoke rest × ((class code : ℕ) → ¬ IsServiceError rest class code))
+    ⊎ ((e.tag ≡ reject_tag) × IsNumbered 0x80 e.content invoke rest × ((code : ℕ) → ¬ IsReason rest code)))
 
 -- there is no invoke number, nor a reason without one, or the PDU is none that a server sends
 abbrev pub IsUnusable : Element → Type 0
-IsUnusable e = ((e.tag ≡ 161) × ((invoke : ℕ) (rest : List ℕ) → ¬ IsNumbered 2 e.content invoke rest))
-    ⊎ ((e.tag ≡ 162) × ((invoke : ℕ) (rest : List ℕ) → ¬ IsNumbered 128 e.content invoke rest))
-    ⊎ ((e.tag ≡ 164) × ((invoke : ℕ) (rest : List ℕ) → ¬ IsNumbered 128 e.content invoke rest) × ((code : ℕ) → ¬ IsReason e.content code))
-    ⊎ ((e.tag ≡ 140) × (e.content ≢ []))
+IsUnusable e = ((e.tag ≡ confirmed_response_tag) × ((invoke : ℕ) (rest : List ℕ) → ¬ IsNumbered 2 e.content invoke rest))
+    ⊎ ((e.tag ≡ confirmed_error_tag) × ((invoke : ℕ) (rest : List ℕ) → ¬ IsNumbered 0x80 e.content invoke rest))
+    ⊎ ((e.tag ≡ reject_tag) × ((invoke : ℕ) (rest : List ℕ) → ¬ IsNumbered 0x80 e.content invoke rest) × ((code : ℕ) → ¬ IsReason e.content code))
+    ⊎ ((e.tag ≡ conclude_response_tag) × (e.content ≢ []))
     ⊎ (is_sent e.tag ≡ false)
 
 abbrev pub IsReplyRefused : List ℕ → PduFault → Type 0

@@ -6,10 +6,11 @@ use Rattle.ber_grammar.specs.Reading.{first_at}
 use Rattle.sv_base.specs.Tree.{Seen}
 use Rattle.mms_pdu.specs.declared.fault.PduFault.{PduFault}
 use Rattle.mms_pdu.specs.declared.fault.PduFault.TheVariants as faults
-use Rattle.mms_pdu.specs.Fields.{only_in}
+use Rattle.ber_grammar.specs.Fields.{only_in}
 use Rattle.mms_pdu.specs.Invoke.{below_at}
 use Rattle.mms_pdu.specs.Services.{is_service, service_at}
 use Rattle.mms_pdu.specs.Request.{Request, confirmed, conclude, disregarded, request_octets, is_disregarded, is_pdu, may_begin, or_fault}
+use Rattle.mms_pdu.specs.Tags.{conclude_request_tag, confirmed_request_tag}
 
 -- the octets behind a piece's first element
 abbrev pub behind : Piece → List ℕ → Piece
@@ -31,8 +32,8 @@ invoked None = Err faults.Invalid
 
 unfoldable pub pdu_at : Spot → Result (Request Piece Spot) PduFault
 pdu_at s =
-    if s.element.tag == 160 then invoked (invoke_in (content_piece s))
-    else if s.element.tag == 139 then (if length s.element.content == 0 then Ok conclude else Err faults.Invalid)
+    if s.element.tag == confirmed_request_tag then invoked (invoke_in (content_piece s))
+    else if s.element.tag == conclude_request_tag then (if length s.element.content == 0 then Ok conclude else Err faults.Invalid)
     else if is_disregarded s.element.tag then Ok disregarded
     else Err faults.Invalid
 

@@ -1,6 +1,7 @@
--- Octets that are, or begin with, an element, with where things lie in memory.
+-- A number under a tag, alone and in front of other octets, with where these lie in memory.
 use Rattle.std.specs.Prelude.{◌≡◌, ℕ, ◌+◌, ◌^◌, ◌==◌, List, length, Option, Some, None, if◌then◌else◌}
 use Rattle.ber_grammar.specs.Element.{Element, Begins}
+use Rattle.ber_grammar.specs.Fields.{spot_in}
 use Rattle.ber_grammar.specs.Place.{Spot, Piece}
 use Rattle.ber_grammar.specs.Reader.{and_then, kept}
 use Rattle.ber_grammar.specs.Reading.{first_at}
@@ -20,21 +21,11 @@ unfoldable pub number_at : ℕ → Element → Option ℕ
 number_at tag e = if e.tag == tag then below_at (2 ^ 32) e.content else None
 
 -- the first element of octets, and the octets behind it
-abbrev pub spot_in : Piece → Element → Spot
-spot_in p e = record { element = e; block = p.block; place = p.place + e.head }
-
 abbrev pub behind : Piece → Element → List ℕ → Piece
 behind p e rest = record { octets = rest; block = p.block; place = p.place + (e.head + length e.content) }
 
 unfoldable pub first_in : Piece → Option (Spot × Piece)
 first_in p = and_then (kept (first_at p.octets)) (λ x. Some (spot_in p x.0, behind p x.0 x.1))
-
--- the one element that octets are, and with where its content lies
-unfoldable pub whole_at : List ℕ → Option Element
-whole_at octets = and_then (kept (first_at octets)) (λ x. if length x.1 == 0 then Some x.0 else None)
-
-abbrev pub whole_in : Piece → Option Spot
-whole_in p = and_then (whole_at p.octets) (λ e. Some (spot_in p e))
 
 -- a number in front, and the octets behind it
 unfoldable pub numbered_in : ℕ → Piece → Option (ℕ × Piece)

@@ -4,25 +4,25 @@ use Rattle.ber_grammar.specs.Content.{IsUint}
 use Rattle.ber_grammar.specs.Element.{Element, IsRow}
 use Rattle.ber_grammar.specs.Place.{Spot, Piece, content_piece}
 use Rattle.ber_grammar.specs.Reader.{and_then}
-use Rattle.mms_pdu.specs.Fields.{Each, each_in}
+use Rattle.mms_pdu.specs.Each.{Each, each_in}
 use Rattle.mms_pdu.specs.ObjectName.{Name, IsName, name_at}
 use Rattle.mms_pdu.specs.NameList.{octet_at}
 use Rattle.mms_pdu.specs.Variable.{Variable, AreVariables, variable_at}
 use Rattle.mms_pdu.specs.Service.{Service}
 use Rattle.mms_pdu.specs.Service as services
 
--- the name, and listOfVariable, 160
+-- the name, and listOfVariable, 0xA0
 abbrev pub IsDefine : List Element → Name (List ℕ) → List (Variable (List ℕ)) → Type 0
-IsDefine (a ∷ b ∷ []) n vs = IsName a n × (b.tag ≡ 160) × AreVariables b.content vs
+IsDefine (a ∷ b ∷ []) n vs = IsName a n × (b.tag ≡ 0xA0) × AreVariables b.content vs
 IsDefine es n vs = ⊥
 
--- scopeOfDelete, 128, of one octet's range
+-- scopeOfDelete, 0x80, of one octet's range
 abbrev pub IsDeleteScope : Element → ℕ → Type 0
-IsDeleteScope e scope = (e.tag ≡ 128) × IsUint e.content scope × (scope < 256)
+IsDeleteScope e scope = (e.tag ≡ 0x80) × IsUint e.content scope × (scope < 256)
 
--- listOfVariableListName, 161
+-- listOfVariableListName, 0xA1
 abbrev pub AreNames : Element → List (Name (List ℕ)) → Type 0
-AreNames e ns = (e.tag ≡ 161) × (es : List Element) × IsRow e.content es × Each IsName es ns
+AreNames e ns = (e.tag ≡ 0xA1) × (es : List Element) × IsRow e.content es × Each IsName es ns
 
 -- Each of the two may be absent: the scope is 0 then, and the names are none.
 abbrev pub IsDelete : List Element → ℕ → List (Name (List ℕ)) → Type 0
@@ -34,7 +34,7 @@ IsDelete (a ∷ b ∷ c ∷ es) scope ns = ⊥
 -- ---- reading
 
 unfoldable pub variable_list_at : Spot → Option (List (Variable Piece))
-variable_list_at s = if s.element.tag == 160 then each_in variable_at (content_piece s) else None
+variable_list_at s = if s.element.tag == 0xA0 then each_in variable_at (content_piece s) else None
 
 unfoldable pub define_at : List Spot → Option (Service Piece Spot)
 define_at [] = None
@@ -44,12 +44,12 @@ define_at (s ∷ t ∷ u ∷ more) = None
 
 unfoldable pub names_at : List Spot → Option (List (Name Piece))
 names_at [] = Some []
-names_at (s ∷ []) = if s.element.tag == 161 then each_in name_at (content_piece s) else None
+names_at (s ∷ []) = if s.element.tag == 0xA1 then each_in name_at (content_piece s) else None
 names_at (s ∷ t ∷ more) = None
 
 unfoldable pub delete_at : List Spot → Option (Service Piece Spot)
 delete_at [] = Some (services.delete 0 [])
 delete_at (s ∷ more) =
-    if s.element.tag == 128
-    then and_then (octet_at 128 s) (λ scope. and_then (names_at more) (λ ns. Some (services.delete scope ns)))
+    if s.element.tag == 0x80
+    then and_then (octet_at 0x80 s) (λ scope. and_then (names_at more) (λ ns. Some (services.delete scope ns)))
     else and_then (names_at (s ∷ more)) (λ ns. Some (services.delete 0 ns))

@@ -7,12 +7,11 @@ ghost use Rattle.mms_pdu.specs.Access.{access_at, to_read, read_access_at, read_
 ghost use Rattle.mms_pdu.specs.View.{access, service};
 
 use crate::data_list::{DataList, data_of};
-use crate::fields::{fields_of, only_of};
 use crate::number::truth_of;
 use crate::object_name::NameView;
 use crate::service::ServiceView;
 use crate::variable::{VariableList, named_of, variables_of};
-use ber_view::{Elements, Tlv};
+use ber_view::{Elements, Tlv, fields, only};
 
 /// Variables, or the name of a list of them (ISO 9506-2, VariableAccessSpecification).
 #[derive(Debug, Drop)]
@@ -38,7 +37,7 @@ fn read_access_of<'a>(spec: bool, field: &Tlv<'a>) -> Option<ServiceView<'a>>
     if field.tag != 0xa1 {
         return None;
     }
-    match access_of(&only_of(field.content)?)? {
+    match access_of(&only(field.content)?)? {
         AccessView::Variables(variables) => Some(ServiceView::Read { variables, spec }),
         AccessView::Named(name) => Some(ServiceView::ReadSet { name, spec }),
     }
@@ -75,8 +74,8 @@ fn are_as_many(mut first: Elements<'_>, mut second: Elements<'_>) -> bool
 fn counts_agree(first: &Tlv<'_>, second: &Tlv<'_>) -> Option<bool>
     ensures { result ≡ counts_agree_at (spot first.now) (spot second.now) }
 {
-    let first = fields_of(first.content)?;
-    let second = fields_of(second.content)?;
+    let first = fields(first.content)?;
+    let second = fields(second.content)?;
     Some(are_as_many(first, second))
 }
 

@@ -1,3 +1,5 @@
+//! The answer to a request, and the forms of those to a read and to a write (ISO 9506-2, Confirmed-ResponsePDU).
+
 ghost use Rattle.std.specs.Prelude.{◌≡◌, is_some, IfOk};
 ghost use Rattle.std.specs.List.{list_all};
 ghost use Rattle.ber_grammar.specs.Place.{piece};
@@ -5,15 +7,15 @@ ghost use Rattle.ber_grammar.specs.Reader.{and_then};
 ghost use Rattle.ber_view.specs.View.{spot};
 ghost use Rattle.ber_write.specs.Minimal.{CanBeTag};
 ghost use Rattle.mms_pdu.specs.Access.{access_at};
-ghost use Rattle.mms_pdu.specs.Fields.{only_in};
+ghost use Rattle.ber_grammar.specs.Fields.{only_in};
 ghost use Rattle.mms_pdu.specs.Answer.{IsAnswerBody, is_result, is_written, is_specification, are_results, is_read_answer, is_answer_body};
 ghost use Rattle.mms_pdu.specs.ReplyOctets.{answer_octets};
 
 use crate::access::access_of;
 use crate::element::{add, enclosed};
-use crate::fields::{fields_of, only_of};
-use crate::tagged::octet_of;
-use ber_view::{Elements, Tlv};
+use crate::number::octet_of;
+use crate::tags;
+use ber_view::{Elements, Tlv, fields, only};
 use ber_write::put_uint;
 use mms_data::view_data;
 use std::alloc::{AllocError, Global};
@@ -57,7 +59,7 @@ fn are_write_results(mut fields: Elements<'_>) -> bool
 fn access_in(content: &[u8]) -> bool
     ensures { result ≡ is_some (and_then (only_in (piece content.entry)) access_at) }
 {
-    match only_of(content) {
+    match only(content) {
         Some(access) => access_of(&access).is_some(),
         None => false,
     }
@@ -79,7 +81,7 @@ fn holds_results(field: &Tlv<'_>) -> bool
     if field.tag != 0xa1 {
         return false;
     }
-    match fields_of(field.content) {
+    match fields(field.content) {
         Some(results) => are_read_results(results),
         None => false,
     }
@@ -102,13 +104,13 @@ fn answers_read(mut fields: Elements<'_>) -> bool
 pub(crate) fn has_form(tag: u32, body: &[u8]) -> bool
     ensures { result ≡ is_answer_body tag (piece body.entry) }
 {
-    if tag != 0xa4 && tag != 0xa5 {
+    if tag != tags::READ && tag != tags::WRITE {
         return true;
     }
-    let Some(fields) = fields_of(body) else {
+    let Some(fields) = fields(body) else {
         return false;
     };
-    if tag == 0xa4 {
+    if tag == tags::READ {
         answers_read(fields)
     } else {
         are_write_results(fields)
@@ -126,5 +128,5 @@ pub fn write_answer(alloc: Global, invoke: u32, tag: u32, body: &[u8]) -> Result
     let mut content = Vec::new(alloc);
     put_uint(&mut content, 0x02, u64::from(invoke))?;
     add(&mut content, tag, body)?;
-    Ok(Octs::from_vec(enclosed(alloc, 0xa1, &content)?))
+    Ok(Octs::from_vec(enclosed(alloc, tags::CONFIRMED_RESPONSE, &content)?))
 }

@@ -1,3 +1,5 @@
+//! What a client asks, written (ISO 9506-2, Confirmed-RequestPDU and Conclude-RequestPDU).
+
 ghost use Rattle.std.specs.Prelude.{◌≡◌, ◌≤◌, ◌++◌, IfOk, OnOk};
 ghost use Rattle.ber_write.specs.Minimal.{CanBeTag};
 ghost use Rattle.sv_base.specs.Depth.{depth, HasNoOther};
@@ -6,6 +8,7 @@ ghost use Rattle.mms_data.specs.Writable.{SeenHasFractions};
 ghost use Rattle.mms_pdu.specs.AskingOctets.{AreVisible, one_variable, confirmed_octets, read_request, write_request, conclude_request};
 
 use crate::element::{add, enclosed};
+use crate::tags;
 use ber_write::put_uint;
 use mms_data::write_data;
 use std::alloc::{AllocError, Global};
@@ -32,7 +35,7 @@ fn confirmed(alloc: Global, invoke: u32, tag: u32, body: &[u8]) -> Result<Octs, 
     let mut content = Vec::new(alloc);
     put_uint(&mut content, 0x02, u64::from(invoke))?;
     add(&mut content, tag, body)?;
-    Ok(Octs::from_vec(enclosed(alloc, 0xa0, &content)?))
+    Ok(Octs::from_vec(enclosed(alloc, tags::CONFIRMED_REQUEST, &content)?))
 }
 
 /// The request to read one variable of a domain (ISO 9506-2, Read-Request), without its specification in the answer.
@@ -51,7 +54,7 @@ pub fn write_read_request(
 {
     let variable = one_variable_of(alloc, domain, item)?;
     let access = enclosed(alloc, 0xa1, &variable)?;
-    confirmed(alloc, invoke, 0xa4, &access)
+    confirmed(alloc, invoke, tags::READ, &access)
 }
 
 /// The request to write one variable of a domain (ISO 9506-2, Write-Request).
@@ -77,7 +80,7 @@ pub fn write_write_request(
     write_data(value, &mut data)?;
     let mut body = one_variable_of(alloc, domain, item)?;
     add(&mut body, 0xa0, &data)?;
-    confirmed(alloc, invoke, 0xa5, &body)
+    confirmed(alloc, invoke, tags::WRITE, &body)
 }
 
 /// The request to conclude the association (ISO 9506-2, Conclude-RequestPDU).

@@ -1,3 +1,5 @@
+//! What a confirmed service asks, by its element (ISO 9506-2, ConfirmedServiceRequest).
+
 ghost use Rattle.std.specs.Prelude.{◌≡◌};
 ghost use Rattle.std.specs.Option.{option_map};
 ghost use Rattle.ber_view.specs.View.{spot};
@@ -5,14 +7,14 @@ ghost use Rattle.mms_pdu.specs.Services.{status_at, identify_at, type_of_node_at
 ghost use Rattle.mms_pdu.specs.View.{service};
 
 use crate::access::{read_of, write_of};
-use crate::fields::{fields_of, only_of};
 use crate::name_list::name_list_of;
 use crate::number::truth_of;
 use crate::object_name::name_of;
 use crate::service::ServiceView;
+use crate::tags;
 use crate::variable::named_of;
 use crate::variable_lists::{define_of, delete_of};
-use ber_view::Tlv;
+use ber_view::{Tlv, fields, only};
 
 fn status_of<'a>(field: &Tlv<'a>) -> Option<ServiceView<'a>>
     ensures { option_map service result ≡ status_at (spot field.now) }
@@ -33,7 +35,7 @@ fn identify_of<'a>(field: &Tlv<'a>) -> Option<ServiceView<'a>>
 fn type_of_node_of<'a>(field: &Tlv<'a>) -> Option<ServiceView<'a>>
     ensures { option_map service result ≡ type_of_node_at (spot field.now) }
 {
-    let inner = only_of(field.content)?;
+    let inner = only(field.content)?;
     let name = named_of(0xa0, &inner)?;
     Some(ServiceView::TypeOfNode(name))
 }
@@ -41,7 +43,7 @@ fn type_of_node_of<'a>(field: &Tlv<'a>) -> Option<ServiceView<'a>>
 fn set_of<'a>(field: &Tlv<'a>) -> Option<ServiceView<'a>>
     ensures { option_map service result ≡ set_of_at (spot field.now) }
 {
-    let inner = only_of(field.content)?;
+    let inner = only(field.content)?;
     let name = name_of(&inner)?;
     Some(ServiceView::SetOf(name))
 }
@@ -52,15 +54,15 @@ pub(crate) fn service_of<'a>(field: &Tlv<'a>) -> Option<ServiceView<'a>>
     ensures { option_map service result ≡ service_at (spot field.now) }
 {
     match field.tag {
-        0x80 => status_of(field),
-        0xa1 => name_list_of(fields_of(field.content)?),
-        0x82 => identify_of(field),
-        0xa4 => read_of(fields_of(field.content)?),
-        0xa5 => write_of(fields_of(field.content)?),
-        0xa6 => type_of_node_of(field),
-        0xab => define_of(fields_of(field.content)?),
-        0xac => set_of(field),
-        0xad => delete_of(fields_of(field.content)?),
+        tags::STATUS => status_of(field),
+        tags::GET_NAME_LIST => name_list_of(fields(field.content)?),
+        tags::IDENTIFY => identify_of(field),
+        tags::READ => read_of(fields(field.content)?),
+        tags::WRITE => write_of(fields(field.content)?),
+        tags::GET_ATTRIBUTES => type_of_node_of(field),
+        tags::DEFINE_LIST => define_of(fields(field.content)?),
+        tags::GET_LIST_ATTRIBUTES => set_of(field),
+        tags::DELETE_LIST => delete_of(fields(field.content)?),
         _ => None,
     }
 }

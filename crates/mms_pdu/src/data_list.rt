@@ -1,12 +1,13 @@
+//! A list of Data in place (ISO 9506-2, listOfData).
+
 ghost use Rattle.std.specs.Prelude.{◌≡◌};
 ghost use Rattle.std.specs.Iterator.{YieldsFirstBy, item_count};
 ghost use Rattle.ber_grammar.specs.Place.{piece};
 ghost use Rattle.ber_view.specs.View.{spot};
 ghost use Rattle.mms_pdu.specs.Datum.{datum_at};
-ghost use Rattle.mms_pdu.specs.Fields.{is_read, are_read, each_in};
+ghost use Rattle.mms_pdu.specs.Each.{is_read, are_read, each_in};
 
-use crate::fields::fields_of;
-use ber_view::{Elements, Tlv};
+use ber_view::{Elements, Tlv, fields};
 use mms_data::{DataView, view_data};
 use std::marker::Model;
 
@@ -21,7 +22,7 @@ impl<'a> Model for DataList<'a> {
     ghost use Rattle.std.specs.List.{filter_map};
     ghost use Rattle.ber_grammar.specs.Place.{Spot};
     ghost use Rattle.mms_pdu.specs.Datum.{datum_at};
-    ghost use Rattle.mms_pdu.specs.Fields.{are_read};
+    ghost use Rattle.mms_pdu.specs.Each.{are_read};
 
     ghost Value = { List Spot };
 
@@ -48,11 +49,11 @@ fn are_data(mut fields: Elements<'_>) -> bool
 pub(crate) fn data_of(content: &[u8]) -> Option<DataList<'_>>
     ensures { result ≡ each_in datum_at (piece content.entry) }
 {
-    if !are_data(fields_of(content)?) {
+    if !are_data(fields(content)?) {
         return None;
     }
     Some(DataList {
-        elements: fields_of(content)?,
+        elements: fields(content)?,
     })
 }
 

@@ -1,3 +1,5 @@
+//! Elements that a PDU is made of.
+
 ghost use Rattle.std.specs.Prelude.{◌≡◌, ◌++◌, IfOk, OnOk};
 ghost use Rattle.ber_write.specs.Minimal.{octets_of, CanBeTag};
 

@@ -1,8 +1,11 @@
+//! An error, written (ISO 9506-2, Confirmed-ErrorPDU).
+
 ghost use Rattle.std.specs.Prelude.{◌≡◌, ◌<◌, IfOk};
 ghost use Rattle.ber_write.specs.Minimal.{CanBeTag};
 ghost use Rattle.mms_pdu.specs.ReplyOctets.{class_tag, error_octets};
 
 use crate::element::{add, enclosed};
+use crate::tags;
 use ber_write::put_uint;
 use std::alloc::{AllocError, Global};
 use sv_base::Octs;
@@ -34,5 +37,5 @@ pub fn write_error(alloc: Global, invoke: u32, class: u8, code: u8) -> Result<Oc
     let mut content = Vec::new(alloc);
     put_uint(&mut content, 0x80, u64::from(invoke))?;
     add(&mut content, 0xa2, &class_field)?;
-    Ok(Octs::from_vec(enclosed(alloc, 0xa2, &content)?))
+    Ok(Octs::from_vec(enclosed(alloc, tags::CONFIRMED_ERROR, &content)?))
 }

@@ -1,3 +1,5 @@
+//! Why octets are no PDU that is expected.
+
 /// Why octets are no PDU that is expected, in the order of the tests.
 #[derive(Clone, Copy, Debug, PartialEq, Eq)]
 pub enum PduFault {

@@ -1,3 +1,5 @@
+//! How an association begins, read (ISO 9506-2, Initiate-RequestPDU and Initiate-ResponsePDU).
+
 ghost use Rattle.std.specs.Prelude.{◌≡◌, ◌∷◌, IfSome, Some, List};
 ghost use Rattle.ber_grammar.specs.Place.{elements};
 ghost use Rattle.ber_grammar.specs.Reader.{Gives, Reads};
@@ -6,8 +8,9 @@ ghost use Rattle.mms_pdu.specs.Initiate.{IsAccepted, IsInitiateRefused};
 ghost use Rattle.mms_pdu.specs.InitiateReading.{are_details, detail_at, nesting_at, calls_at, fields_at, proposal_at, judged, initiate_at};
 
 use crate::fault::PduFault;
-use crate::tagged::{number_of, whole_of};
-use ber_view::{Elements, Tlv, parts};
+use crate::number::number_of;
+use crate::tags;
+use ber_view::{Elements, Tlv, parts, whole};
 
 /// What an initiate proposes, or what its answer accepts (ISO 9506-2, Initiate-RequestPDU and Initiate-ResponsePDU).
 #[derive(Clone, Copy, Debug, PartialEq, Eq)]
@@ -106,7 +109,7 @@ fn fields_of(mut fields: Elements<'_>) -> Option<Initiate>
 fn proposal_of(tag: u32, bytes: &[u8]) -> Option<Initiate>
     ensures { result ≡ proposal_at tag bytes.now }
 {
-    let element = whole_of(bytes)?;
+    let element = whole(bytes)?;
     if element.tag != tag {
         return None;
     }
@@ -145,17 +148,17 @@ fn read_tagged(tag: u32, bytes: &[u8]) -> Result<Initiate, PduFault>
 /// this form.
 pub fn read_initiate(bytes: &[u8]) -> Result<Initiate, PduFault>
     // A proposal where the input spells it, else the refusal that the input earns.
-    ensures reads { Reads (λ x. x) result (IsAccepted 168 bytes.now) (IsInitiateRefused 168 bytes.now) }
-    ensures exact { Gives (λ x. x) result (initiate_at 168 bytes.now) }
+    ensures reads { Reads (λ x. x) result (IsAccepted 0xA8 bytes.now) (IsInitiateRefused 0xA8 bytes.now) }
+    ensures exact { Gives (λ x. x) result (initiate_at 0xA8 bytes.now) }
 {
-    read_tagged(0xa8, bytes)
+    read_tagged(tags::INITIATE_REQUEST, bytes)
 }
 
 /// What the initiate answer that `bytes` are accepts (ISO 9506-2, Initiate-ResponsePDU, tag A9). The form and the
 /// refusals are those of [`read_initiate`].
 pub fn read_initiate_answer(bytes: &[u8]) -> Result<Initiate, PduFault>
-    ensures reads { Reads (λ x. x) result (IsAccepted 169 bytes.now) (IsInitiateRefused 169 bytes.now) }
-    ensures exact { Gives (λ x. x) result (initiate_at 169 bytes.now) }
+    ensures reads { Reads (λ x. x) result (IsAccepted 0xA9 bytes.now) (IsInitiateRefused 0xA9 bytes.now) }
+    ensures exact { Gives (λ x. x) result (initiate_at 0xA9 bytes.now) }
 {
-    read_tagged(0xa9, bytes)
+    read_tagged(tags::INITIATE_RESPONSE, bytes)
 }

@@ -1,9 +1,12 @@
+//! How an association begins, written.
+
 ghost use Rattle.std.specs.Prelude.{◌≡◌, ◌≤◌, min, max, IfOk};
 ghost use Rattle.ber_write.specs.Minimal.{octets_of, CanBeTag};
 ghost use Rattle.mms_pdu.specs.InitiateOctets.{initiate_content, answer_details, request_details, accepted, proposed, initiate_answer, initiate_request};
 
 use crate::element::{add, enclosed};
 use crate::initiate::Initiate;
+use crate::tags;
 use ber_write::put_uint;
 use std::alloc::{AllocError, Global};
 use sv_base::Octs;
@@ -70,7 +73,12 @@ pub fn write_initiate_answer(alloc: Global, asked: &Initiate) -> Result<Octs, Al
     requires { 1024 ≤ asked.now.size }
     ensures { IfOk result (λ o. o ≡ initiate_answer asked.now) }
 {
-    write_initiate(alloc, 0xa9, &accepted_of(asked), &ANSWER_DETAILS)
+    write_initiate(
+        alloc,
+        tags::INITIATE_RESPONSE,
+        &accepted_of(asked),
+        &ANSWER_DETAILS,
+    )
 }
 
 /// The initiate that asks for PDUs of at most `size` octets (ISO 9506-2, Initiate-RequestPDU, tag A8), five outstanding
@@ -87,5 +95,5 @@ pub fn write_initiate_request(alloc: Global, size: u32) -> Result<Octs, AllocErr
         called: 5,
         nesting: 10,
     };
-    write_initiate(alloc, 0xa8, &numbers, &REQUEST_DETAILS)
+    write_initiate(alloc, tags::INITIATE_REQUEST, &numbers, &REQUEST_DETAILS)
 }

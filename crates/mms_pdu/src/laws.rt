@@ -1,3 +1,5 @@
+//! What is promised of what a client asks: each input asks one thing.
+
 ghost use Rattle.std.specs.Prelude.{◌≡◌, ◌⊎◌, List, ℕ};
 ghost use Rattle.ber_grammar.specs.Octets.{IsBytes};
 ghost use Rattle.sv_base.specs.Tree.{Seen};

@@ -13,7 +13,6 @@ mod data_list;
 mod element;
 mod error;
 mod fault;
-mod fields;
 mod initiate;
 mod initiate_writing;
 mod laws;
@@ -26,7 +25,7 @@ mod reject;
 mod reply_view;
 mod report;
 mod service;
-mod tagged;
+mod tags;
 mod variable;
 mod variable_lists;
 
@@ -58,6 +57,3 @@ pub use laws::each_input_asks_one_thing;
 pub use read_back::{
     each_input_is_one_reply, initiates_are_read_back, replies_are_read_back, requests_are_read_back,
 };
-
-#[cfg(test)]
-mod tests;

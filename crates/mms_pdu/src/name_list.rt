@@ -7,10 +7,9 @@ ghost use Rattle.ber_view.specs.View.{spot};
 ghost use Rattle.mms_pdu.specs.NameList.{class_at, inner_scope_at, scope_at, after_at, name_list_at};
 ghost use Rattle.mms_pdu.specs.View.{scope, service};
 
-use crate::fields::only_of;
-use crate::number::octet_of;
+use crate::number::octet_with;
 use crate::service::{ScopeView, ServiceView};
-use ber_view::{Elements, Tlv};
+use ber_view::{Elements, Tlv, only};
 
 #[tactic(auto, unfolding(crate::specs::NameList::class_at))]
 fn class_of(field: &Tlv<'_>) -> Option<u8>
@@ -19,7 +18,7 @@ fn class_of(field: &Tlv<'_>) -> Option<u8>
     if field.tag != 0xa0 {
         return None;
     }
-    octet_of(0x80, &only_of(field.content)?)
+    octet_with(0x80, &only(field.content)?)
 }
 
 fn inner_scope_of<'a>(field: &Tlv<'a>) -> Option<ScopeView<'a>>
@@ -40,7 +39,7 @@ fn scope_of<'a>(field: &Tlv<'a>) -> Option<ScopeView<'a>>
     if field.tag != 0xa1 {
         return None;
     }
-    inner_scope_of(&only_of(field.content)?)
+    inner_scope_of(&only(field.content)?)
 }
 
 /// The name behind which the list is to begin, if one is given.

@@ -1,10 +1,15 @@
-ghost use Rattle.std.specs.Prelude.{◌≡◌};
-ghost use Rattle.ber_view.specs.View.{spot};
+//! Booleans and numbers, alone and under a tag.
+
+ghost use Rattle.std.specs.Prelude.{◌≡◌, List};
+ghost use Rattle.std.specs.Option.{option_map};
+ghost use Rattle.ber_grammar.specs.Place.{piece};
+ghost use Rattle.ber_view.specs.View.{element, spot};
 ghost use Rattle.mms_pdu.specs.Access.{truth_at};
 ghost use Rattle.mms_pdu.specs.Invoke.{below_at};
 ghost use Rattle.mms_pdu.specs.NameList.{octet_at};
+ghost use Rattle.mms_pdu.specs.Tagged.{number_at, first_in, numbered_in};
 
-use ber_view::{Tlv, uint};
+use ber_view::{Tlv, first, uint};
 
 /// A boolean (X.690, 8.2): any octet but 0 is true.
 pub(crate) fn truth_of(content: &[u8]) -> Option<bool>
@@ -16,22 +21,52 @@ pub(crate) fn truth_of(content: &[u8]) -> Option<bool>
     }
 }
 
-/// A number below a bound.
+/// A number of 8 bits.
 #[tactic(auto, unfolding(crate::specs::Invoke::below_at))]
-pub(crate) fn below_of(bound: u64, content: &[u8]) -> Option<u64>
-    ensures { result ≡ below_at bound content.now }
+pub(crate) fn octet_of(content: &[u8]) -> Option<u8>
+    ensures { result ≡ below_at 256 content.now }
 {
     let number = uint(content).ok()?;
-    if number < bound { Some(number) } else { None }
+    u8::try_from(number).ok()
 }
 
-/// A number of one octet's range under a tag.
-#[tactic(auto, unfolding(crate::specs::NameList::octet_at, crate::specs::Invoke::below_at))]
-pub(crate) fn octet_of(tag: u32, field: &Tlv<'_>) -> Option<u8>
+/// A number of 8 bits under this tag.
+#[tactic(auto, unfolding(crate::specs::NameList::octet_at))]
+pub(crate) fn octet_with(tag: u32, field: &Tlv<'_>) -> Option<u8>
     ensures { result ≡ octet_at tag (spot field.now) }
 {
     if field.tag != tag {
         return None;
     }
-    u8::try_from(uint(field.content).ok()?).ok()
+    octet_of(field.content)
+}
+
+/// A number of 32 bits under this tag.
+#[tactic(auto, unfolding(crate::specs::Tagged::number_at, crate::specs::Invoke::below_at))]
+pub(crate) fn number_of(tag: u32, field: &Tlv<'_>) -> Option<u32>
+    ensures { result ≡ number_at tag (element field.now) }
+{
+    if field.tag != tag {
+        return None;
+    }
+    let number = uint(field.content).ok()?;
+    u32::try_from(number).ok()
+}
+
+/// The first element, and the octets behind it.
+#[tactic(auto, unfolding(crate::specs::Tagged::first_in))]
+fn first_of(bytes: &[u8]) -> Option<(Tlv<'_>, &[u8])>
+    ensures { option_map (λ x. (spot x.0, piece x.1)) result ≡ first_in (piece bytes.entry) }
+{
+    first(bytes).ok()
+}
+
+/// The number under this tag in front, and the octets behind it.
+#[tactic(auto, unfolding(crate::specs::Tagged::numbered_in))]
+pub(crate) fn numbered_of(tag: u32, bytes: &[u8]) -> Option<(u32, &[u8])>
+    ensures { option_map (λ x. (x.0, piece x.1)) result ≡ numbered_in tag (piece bytes.entry) }
+{
+    let (element, rest) = first_of(bytes)?;
+    let number = number_of(tag, &element)?;
+    Some((number, rest))
 }

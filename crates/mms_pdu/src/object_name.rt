@@ -1,14 +1,15 @@
+//! Names of objects in place, and lists of them (ISO 9506-2, ObjectName).
+
 ghost use Rattle.std.specs.Prelude.{◌≡◌};
 ghost use Rattle.std.specs.Iterator.{YieldsFirstBy, item_count};
 ghost use Rattle.std.specs.Option.{option_map};
 ghost use Rattle.ber_grammar.specs.Place.{piece};
 ghost use Rattle.ber_view.specs.View.{spot};
-ghost use Rattle.mms_pdu.specs.Fields.{is_read, are_read, each_in};
+ghost use Rattle.mms_pdu.specs.Each.{is_read, are_read, each_in};
 ghost use Rattle.mms_pdu.specs.ObjectName.{identifier_at, pair_at, name_at};
 ghost use Rattle.mms_pdu.specs.View.{name};
 
-use crate::fields::fields_of;
-use ber_view::{Elements, Tlv, text};
+use ber_view::{Elements, Tlv, fields, text};
 use std::marker::Model;
 
 /// A name of an object (ISO 9506-2, ObjectName), in place.
@@ -53,7 +54,7 @@ pub(crate) fn name_of<'a>(field: &Tlv<'a>) -> Option<NameView<'a>>
 {
     match field.tag {
         0x80 => Some(NameView::Vmd(field.content)),
-        0xa1 => pair_of(fields_of(field.content)?),
+        0xa1 => pair_of(fields(field.content)?),
         0x82 => Some(NameView::Association(field.content)),
         _ => None,
     }
@@ -70,7 +71,7 @@ impl<'a> Model for NameList<'a> {
     ghost use Rattle.std.specs.List.{filter_map};
     ghost use Rattle.ber_grammar.specs.Place.{Piece};
     ghost use Rattle.mms_pdu.specs.ObjectName.{Name, name_at};
-    ghost use Rattle.mms_pdu.specs.Fields.{are_read};
+    ghost use Rattle.mms_pdu.specs.Each.{are_read};
 
     ghost Value = { List (Name Piece) };
 
@@ -97,11 +98,11 @@ fn are_names(mut fields: Elements<'_>) -> bool
 pub(crate) fn names_of(content: &[u8]) -> Option<NameList<'_>>
     ensures { result ≡ each_in name_at (piece content.entry) }
 {
-    if !are_names(fields_of(content)?) {
+    if !are_names(fields(content)?) {
         return None;
     }
     Some(NameList {
-        elements: fields_of(content)?,
+        elements: fields(content)?,
     })
 }
 

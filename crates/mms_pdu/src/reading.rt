@@ -1,3 +1,5 @@
+//! What a client asks, read (ISO 9506-2, MMSpdu).
+
 ghost use Rattle.std.specs.Prelude.{◌≡◌};
 ghost use Rattle.std.specs.Option.{option_map};
 ghost use Rattle.ber_grammar.specs.Place.{piece};
@@ -10,9 +12,9 @@ ghost use Rattle.mms_pdu.specs.View.{asked};
 
 use crate::confirmed::service_of;
 use crate::fault::PduFault;
-use crate::fields::only_of;
 use crate::service::ServiceView;
-use ber_view::{Tlv, first, uint};
+use crate::tags;
+use ber_view::{Tlv, first, only, uint};
 
 /// A PDU that a client sent (ISO 9506-2, MMSpdu), with names and Data in place.
 #[derive(Debug, Drop)]
@@ -32,7 +34,15 @@ pub enum RequestView<'a> {
 fn is_disregarded_tag(tag: u32) -> bool
     ensures { result ≡ is_disregarded tag }
 {
-    matches!(tag, 0xa1 | 0xa2 | 0xa3 | 0xa4 | 0xa9 | 0x8c)
+    matches!(
+        tag,
+        tags::CONFIRMED_RESPONSE
+            | tags::CONFIRMED_ERROR
+            | tags::UNCONFIRMED
+            | tags::REJECT
+            | tags::INITIATE_RESPONSE
+            | tags::CONCLUDE_RESPONSE
+    )
 }
 
 /// Whether no PDU that is known begins otherwise.
@@ -80,7 +90,7 @@ fn confirmed_of(invoke: u32, bytes: &[u8]) -> Result<RequestView<'_>, PduFault>
     if !may_begin_service(bytes) {
         return Err(PduFault::UnknownService(invoke));
     }
-    let Some(field) = only_of(bytes) else {
+    let Some(field) = only(bytes) else {
         return Err(PduFault::Argument(invoke));
     };
     match service_of(&field) {
@@ -94,13 +104,13 @@ fn confirmed_of(invoke: u32, bytes: &[u8]) -> Result<RequestView<'_>, PduFault>
 fn pdu_of<'a>(pdu: &Tlv<'a>) -> Result<RequestView<'a>, PduFault>
     ensures { Gives asked result (pdu_at (spot pdu.now)) }
 {
-    if pdu.tag == 0xa0 {
+    if pdu.tag == tags::CONFIRMED_REQUEST {
         return match invoke_of(pdu.content) {
             Some((invoke, rest)) => confirmed_of(invoke, rest),
             None => Err(PduFault::Invalid),
         };
     }
-    if pdu.tag == 0x8b && pdu.content.is_empty() {
+    if pdu.tag == tags::CONCLUDE_REQUEST && pdu.content.is_empty() {
         return Ok(RequestView::Conclude);
     }
     if is_disregarded_tag(pdu.tag) {
@@ -116,7 +126,7 @@ fn read_request(bytes: &[u8]) -> Result<RequestView<'_>, PduFault>
     if !may_begin_pdu(bytes) {
         return Err(PduFault::UnknownPdu);
     }
-    match only_of(bytes) {
+    match only(bytes) {
         Some(pdu) => pdu_of(&pdu),
         None => Err(PduFault::Invalid),
     }
@@ -144,6 +154,3 @@ pub fn request(bytes: &[u8]) -> Result<RequestView<'_>, PduFault>
 {
     read_request(bytes)
 }
-
-#[cfg(test)]
-mod tests;

@@ -1,8 +1,11 @@
+//! A reject, written (ISO 9506-2, RejectPDU).
+
 ghost use Rattle.std.specs.Prelude.{◌≡◌, ◌++◌, IfOk, OnOk};
 ghost use Rattle.ber_write.specs.Minimal.{octets_of, uint_octets};
 ghost use Rattle.mms_pdu.specs.ReplyOctets.{invoke_octets, reason_tag, reason_code, reject_octets, CanBeRejected};
 
 use crate::element::enclosed;
+use crate::tags;
 use ber_write::put_uint;
 use std::alloc::{AllocError, Global};
 use sv_base::Octs;
@@ -38,5 +41,5 @@ pub fn write_reject(alloc: Global, invoke: Option<u32>, refusal: u8) -> Result<O
     let mut content = Vec::new(alloc);
     put_invoke(&mut content, invoke)?;
     put_reason(&mut content, refusal)?;
-    Ok(Octs::from_vec(enclosed(alloc, 0xa4, &content)?))
+    Ok(Octs::from_vec(enclosed(alloc, tags::REJECT, &content)?))
 }

@@ -1,3 +1,5 @@
+//! What a server sends, read (ISO 9506-2, MMSpdu).
+
 ghost use Rattle.std.specs.Prelude.{◌≡◌, List, IfOk};
 ghost use Rattle.std.specs.Option.{option_map};
 ghost use Rattle.ber_grammar.specs.Place.{piece};
@@ -9,10 +11,10 @@ ghost use Rattle.mms_pdu.specs.ReplyView.{reply_of, IsPlaced};
 
 use crate::answer::has_form;
 use crate::fault::PduFault;
-use crate::fields::only_of;
+use crate::number::{numbered_of, octet_of};
 use crate::reading::may_begin_pdu;
-use crate::tagged::{numbered_of, octet_of, whole_of};
-use ber_view::Tlv;
+use crate::tags;
+use ber_view::{Tlv, only, whole};
 
 /// What a server sends to a client that is connected.
 #[derive(Clone, Copy, Debug, PartialEq, Eq)]
@@ -46,7 +48,7 @@ pub enum ReplyView<'a> {
 fn service_of(bytes: &[u8]) -> Option<(u32, &[u8])>
     ensures { option_map (λ x. (x.0, piece x.1)) result ≡ service_in (piece bytes.entry) }
 {
-    let service = whole_of(bytes)?;
+    let service = whole(bytes)?;
     if !has_form(service.tag, service.content) {
         return None;
     }
@@ -89,18 +91,18 @@ fn error_class_of(field: &Tlv<'_>) -> Option<(u8, u8)>
     if field.tag != 0xa0 {
         return None;
     }
-    class_and_code(&only_of(field.content)?)
+    class_and_code(&only(field.content)?)
 }
 
 #[tactic(auto, unfolding(crate::specs::ReplyReading::service_error_in))]
 fn service_error_of(bytes: &[u8]) -> Option<(u8, u8)>
     ensures { result ≡ service_error_in (piece bytes.entry) }
 {
-    let error = whole_of(bytes)?;
+    let error = whole(bytes)?;
     if error.tag != 0xa2 {
         return None;
     }
-    error_class_of(&only_of(error.content)?)
+    error_class_of(&only(error.content)?)
 }
 
 #[tactic(auto, unfolding(crate::specs::ReplyReading::error_in))]
@@ -121,7 +123,7 @@ fn error_of(content: &[u8]) -> Result<ReplyView<'_>, PduFault>
 fn reason_of(bytes: &[u8]) -> Option<u8>
     ensures { result ≡ reason_at bytes.now }
 {
-    let reason = whole_of(bytes)?;
+    let reason = whole(bytes)?;
     match reason.tag {
         0x81..=0x8b => octet_of(reason.content),
         _ => None,
@@ -153,11 +155,11 @@ fn pdu_of<'a>(bytes: &'a [u8], element: &Tlv<'a>) -> Result<ReplyView<'a>, PduFa
     ensures { Gives reply_of result (pdu_in (piece bytes.entry) (spot element.now)) }
 {
     match element.tag {
-        0xa1 => answer_of(element.content),
-        0xa2 => error_of(element.content),
-        0xa3 => Ok(ReplyView::Information(bytes)),
-        0xa4 => reject_of(element.content),
-        0x8c if element.content.is_empty() => Ok(ReplyView::Concluded),
+        tags::CONFIRMED_RESPONSE => answer_of(element.content),
+        tags::CONFIRMED_ERROR => error_of(element.content),
+        tags::UNCONFIRMED => Ok(ReplyView::Information(bytes)),
+        tags::REJECT => reject_of(element.content),
+        tags::CONCLUDE_RESPONSE if element.content.is_empty() => Ok(ReplyView::Concluded),
         _ => Err(PduFault::Invalid),
     }
 }
@@ -169,7 +171,7 @@ fn read_reply(bytes: &[u8]) -> Result<ReplyView<'_>, PduFault>
     if !may_begin_pdu(bytes) {
         return Err(PduFault::UnknownPdu);
     }
-    let element = whole_of(bytes).ok_or(PduFault::Invalid)?;
+    let element = whole(bytes).ok_or(PduFault::Invalid)?;
     pdu_of(bytes, &element)
 }
 

@@ -1,7 +1,10 @@
+//! A report, written (ISO 9506-2, Unconfirmed-PDU with an InformationReport).
+
 ghost use Rattle.std.specs.Prelude.{◌≡◌, IfOk};
 ghost use Rattle.mms_pdu.specs.ReplyOctets.{report_octets, IsSpecificationElement};
 
 use crate::element::{add, enclosed};
+use crate::tags;
 use std::alloc::{AllocError, Global};
 use sv_base::Octs;
 
@@ -16,5 +19,5 @@ pub fn write_report(alloc: Global, names: &[u8], results: &[u8]) -> Result<Octs,
     let mut fields = Vec::from_slice(alloc, names)?;
     add(&mut fields, 0xa0, results)?;
     let report = enclosed(alloc, 0xa0, &fields)?;
-    Ok(Octs::from_vec(enclosed(alloc, 0xa3, &report)?))
+    Ok(Octs::from_vec(enclosed(alloc, tags::UNCONFIRMED, &report)?))
 }

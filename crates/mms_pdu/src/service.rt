@@ -1,3 +1,5 @@
+//! What a confirmed service asks, in place (ISO 9506-2, ConfirmedServiceRequest).
+
 use crate::data_list::DataList;
 use crate::object_name::{NameList, NameView};
 use crate::variable::VariableList;

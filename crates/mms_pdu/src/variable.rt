@@ -1,15 +1,16 @@
+//! Variables in place, and lists of them (ISO 9506-2, listOfVariable).
+
 ghost use Rattle.std.specs.Prelude.{◌≡◌};
 ghost use Rattle.std.specs.Iterator.{YieldsFirstBy, item_count};
 ghost use Rattle.std.specs.Option.{option_map};
 ghost use Rattle.ber_grammar.specs.Place.{piece};
 ghost use Rattle.ber_view.specs.View.{spot};
-ghost use Rattle.mms_pdu.specs.Fields.{is_read, are_read, each_in};
+ghost use Rattle.mms_pdu.specs.Each.{is_read, are_read, each_in};
 ghost use Rattle.mms_pdu.specs.Variable.{alternate_at, named_at, specified_at, variable_at};
 ghost use Rattle.mms_pdu.specs.View.{name, variable};
 
-use crate::fields::{fields_of, only_of};
 use crate::object_name::{NameView, name_of};
-use ber_view::{Elements, Tlv};
+use ber_view::{Elements, Tlv, fields, only};
 use std::marker::Model;
 
 /// A variable of a list (ISO 9506-2, an item of listOfVariable), in place.
@@ -29,7 +30,7 @@ pub(crate) fn named_of<'a>(tag: u32, field: &Tlv<'a>) -> Option<NameView<'a>>
     if field.tag != tag {
         return None;
     }
-    name_of(&only_of(field.content)?)
+    name_of(&only(field.content)?)
 }
 
 /// Whether alternate access is asked for behind the name.
@@ -63,7 +64,7 @@ pub(crate) fn variable_of<'a>(field: &Tlv<'a>) -> Option<VariableView<'a>>
     if field.tag != 0x30 {
         return None;
     }
-    specified_of(fields_of(field.content)?)
+    specified_of(fields(field.content)?)
 }
 
 /// The variables of a list that are left (ISO 9506-2, listOfVariable), from the first.
@@ -77,7 +78,7 @@ impl<'a> Model for VariableList<'a> {
     ghost use Rattle.std.specs.List.{filter_map};
     ghost use Rattle.ber_grammar.specs.Place.{Piece};
     ghost use Rattle.mms_pdu.specs.Variable.{Variable, variable_at};
-    ghost use Rattle.mms_pdu.specs.Fields.{are_read};
+    ghost use Rattle.mms_pdu.specs.Each.{are_read};
 
     ghost Value = { List (Variable Piece) };
 
@@ -104,11 +105,11 @@ fn are_variables(mut fields: Elements<'_>) -> bool
 pub(crate) fn variables_of(content: &[u8]) -> Option<VariableList<'_>>
     ensures { result ≡ each_in variable_at (piece content.entry) }
 {
-    if !are_variables(fields_of(content)?) {
+    if !are_variables(fields(content)?) {
         return None;
     }
     Some(VariableList {
-        elements: fields_of(content)?,
+        elements: fields(content)?,
     })
 }
 

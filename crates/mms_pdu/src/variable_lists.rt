@@ -6,7 +6,7 @@ ghost use Rattle.ber_view.specs.View.{spot};
 ghost use Rattle.mms_pdu.specs.VariableLists.{variable_list_at, define_at, names_at, delete_at};
 ghost use Rattle.mms_pdu.specs.View.{service};
 
-use crate::number::octet_of;
+use crate::number::octet_with;
 use crate::object_name::{NameList, name_of, names_of};
 use crate::service::ServiceView;
 use crate::variable::{VariableList, variables_of};
@@ -70,7 +70,7 @@ pub(crate) fn delete_of<'a>(mut fields: Elements<'a>) -> Option<ServiceView<'a>>
         });
     };
     if first.tag == 0x80 {
-        let scope = octet_of(0x80, &first)?;
+        let scope = octet_with(0x80, &first)?;
         let names = list_of(fields)?;
         return Some(ServiceView::Delete { scope, names });
     }

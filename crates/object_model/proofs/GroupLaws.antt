@@ -5,21 +5,11 @@ use Rattle.std.specs.Str.{bytes_eq}
 use Rattle.std.specs.Cmp.Lexicographic.{bytes_decides}
 use Rattle.std.proofs.lemmas.List.{map-append, take_more}
 use Rattle.std.proofs.lemmas.List.Elements.{filter-append}
+use Rattle.list_laws.proofs.Distinct.{octets_same, octets_apart, Absent, Distinct, none_left, none_right, distinct-more}
 use Rattle.bay_model.specs.Generated.{Named}
 use Rattle.std.proofs.lemmas.List.Folds.{list_any-append}
 use Rattle.object_model.specs.Groups.{Group, group_at, groups, with_cut, put, with_named}
 use Rattle.bay_model.specs.NameTree.{first_name, rest_of, is_itself, below, with_name, first_names}
-
--- the octets are the same, or they are not
-same : (a b : List ℕ) → bytes_eq a b ≡ true → a ≡ b
-same a b h = (bytes_decides a b).0 h
-
-pub apart : (a b : List ℕ) → bytes_eq a b ≡ false → bytes_eq b a ≡ false
-apart a b h = by (bytes_eq b a) refl
-  where
-    by : (r : Bool) → bytes_eq b a ≡ r → r ≡ false
-    by true e = absurd (true≢false (sym (ap (λ x. bytes_eq a x) (same b a e) ∙ (bytes_decides a a).1 refl) ∙ h))
-    by false e = refl
 
 -- a fold goes on
 fold-more : (acc : List (List ℕ)) (ns ms : List (List ℕ)) → fold with_name acc (ns ++ ms) ≡ fold with_name (fold with_name acc ns) ms
@@ -59,30 +49,6 @@ below-same ns x h = below-append (first_name x) ns x ∙ (ap (λ b. below (first
     ∙ ap (λ b. below (first_name x) ns ++ map rest_of (cond (true && b) (x ∷ []) [])) ((bytes_decides (first_name x) (first_name x)).1 refl))
 
 -- each name once
-abbrev pub Absent : List ℕ → List (List ℕ) → Type 0
-Absent n [] = Unit {0}
-Absent n (m ∷ ms) = (bytes_eq m n ≡ false) × Absent n ms
-
-abbrev pub Distinct : List (List ℕ) → Type 0
-Distinct [] = Unit {0}
-Distinct (n ∷ ns) = Absent n ns × Distinct ns
-
-absent-more : (n f : List ℕ) (ns : List (List ℕ)) → Absent n ns → bytes_eq f n ≡ false → Absent n (ns ++ f ∷ [])
-absent-more n f [] a h = (h, tt)
-absent-more n f (m ∷ ms) a h = (a.0, absent-more n f ms a.1 h)
-
-none_left : (a b : Bool) → a || b ≡ false → a ≡ false
-none_left true b h = h
-none_left false b h = refl
-
-none_right : (a b : Bool) → a || b ≡ false → b ≡ false
-none_right true b h = absurd (true≢false h)
-none_right false b h = h
-
-distinct-more : (f : List ℕ) (ns : List (List ℕ)) → Distinct ns → list_any (bytes_eq f) ns ≡ false → Distinct (ns ++ f ∷ [])
-distinct-more f [] d h = (tt, tt)
-distinct-more f (n ∷ ns) d h = (absent-more n f ns d.0 (none_left (bytes_eq f n) (list_any (bytes_eq f) ns) h), distinct-more f ns d.1 (none_right (bytes_eq f n) (list_any (bytes_eq f) ns) h))
-
 pub distinct-with : (ns : List (List ℕ)) (f : List ℕ) → Distinct ns → Distinct (with_name ns f)
 distinct-with ns f d = by (list_any (bytes_eq f) ns) refl
   where
@@ -103,7 +69,7 @@ none-after f acc [] h = (h, refl)
 none-after f acc (m ∷ ms) h = let go = none-after f (with_name acc m) ms h in by (list_any (bytes_eq m) acc) refl go.0 go.1
   where
     other : list_any (bytes_eq m) acc ≡ true → list_any (bytes_eq f) acc ≡ false → (b : Bool) → bytes_eq f m ≡ b → b ≡ false
-    other t n true e = absurd (true≢false (sym (ap (λ x. list_any (bytes_eq x) acc) (same f m e) ∙ t) ∙ n))
+    other t n true e = absurd (true≢false (sym (ap (λ x. list_any (bytes_eq x) acc) (octets_same f m e) ∙ t) ∙ n))
     other t n false e = refl
 
     by : (b : Bool) → list_any (bytes_eq m) acc ≡ b → list_any (bytes_eq f) (if b then acc else acc ++ m ∷ []) ≡ false → list_any (bytes_eq f) ms ≡ false → (list_any (bytes_eq f) acc ≡ false) × (bytes_eq f m || list_any (bytes_eq f) ms ≡ false)
@@ -143,10 +109,10 @@ put-is ns x (m ∷ ms) h d none = by (put-is ns x ms h d.1) (bytes_eq (first_nam
 
     by : ((list_any (bytes_eq (first_name x)) ms ≡ false → below (first_name x) ns ≡ []) → put (map (group_at ns) ms) (first_name x) (rest_of x) ≡ map (group_at (ns ++ x ∷ [])) (with_name ms (first_name x))) → (b : Bool) → bytes_eq (first_name x) m ≡ b → (if b then with_cut (group_at ns m) (rest_of x) ∷ map (group_at ns) ms else group_at ns m ∷ put (map (group_at ns) ms) (first_name x) (rest_of x))
         ≡ map (group_at (ns ++ x ∷ [])) (if b || list_any (bytes_eq (first_name x)) ms then m ∷ ms else m ∷ (ms ++ first_name x ∷ []))
-    by go true e = let is = same (first_name x) m e in
+    by go true e = let is = octets_same (first_name x) m e in
         ap (λ l. record { name = m; names = l } ∷ map (group_at ns) ms) (sym (ap (λ n. below n (ns ++ x ∷ [])) (sym is) ∙ (below-same ns x h ∙ ap (λ n. below n ns ++ rest_of x ∷ []) is)))
         ∙ ap (λ l. group_at (ns ++ x ∷ []) m ∷ l) (sym (others-stay ns x m ms is d.0))
-    by go false e = ap (λ l. record { name = m; names = l } ∷ put (map (group_at ns) ms) (first_name x) (rest_of x)) (sym (below-other m ns x (apart (first_name x) m e)))
+    by go false e = ap (λ l. record { name = m; names = l } ∷ put (map (group_at ns) ms) (first_name x) (rest_of x)) (sym (below-other m ns x (octets_apart (first_name x) m e)))
         ∙ (ap (λ l. group_at (ns ++ x ∷ []) m ∷ l) (go (λ n. none (ap (λ b. b || list_any (bytes_eq (first_name x)) ms) e ∙ n)))
         ∙ sym (more (list_any (bytes_eq (first_name x)) ms)))
 

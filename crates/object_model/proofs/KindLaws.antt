@@ -5,7 +5,6 @@ use Rattle.std.proofs.lemmas.List.Elements.{All-append, All-cons, All-nil, All-t
 use Rattle.sv_base.specs.declared.config.Config.{Config}
 use Rattle.sv_base.specs.declared.config.AttrDef.{AttrDef}
 use Rattle.sv_base.specs.declared.config.CtlDef.{CtlDef}
-use Rattle.sv_base.specs.declared.types.TypeOf.{TypeOf}
 use Rattle.bay_model.specs.Generated.{Parameter, parameters, selection, is_selected}
 use Rattle.bay_model.specs.NamedLines.{is_setting}
 use Rattle.std.specs.Prelude.{codes, pos}
@@ -14,8 +13,11 @@ use Rattle.sv_base.specs.declared.value.Value.TheVariants as kinds
 use Rattle.bay_model.specs.Slots.{IsSettable}
 use Rattle.bay_model.specs.declared.tables.NodeRow.{NodeRow}
 use Rattle.bay_model.specs.declared.step.Step.{Step}
+use Rattle.object_names.specs.declared.attributes.AttrRow.{AttrRow}
+use Rattle.object_names.specs.Attributes.{attr_rows, types_of}
+use Rattle.object_model.proofs.AttributeLaws.{rows-types}
 use Rattle.object_model.specs.Nodes.{node_rows}
-use Rattle.object_model.specs.Fits.{attr_types, step_fits, fits}
+use Rattle.object_model.specs.Fits.{step_fits, fits}
 
 abbrev IsLine : AttrDef → Type 0
 IsLine a = IsSettable a.kind
@@ -43,13 +45,13 @@ of_controls : (ks : List CtlDef) → All IsSettable (flat_map (λ (k : CtlDef). 
 of_controls [] = All-nil IsSettable
 of_controls (k ∷ ks) = All-append IsSettable (map (λ (p : Parameter). p.kind) (parameters k)) (flat_map (λ (k : CtlDef). map (λ (p : Parameter). p.kind) (parameters k)) ks) (of_control k) (of_controls ks)
 
-pub settable : (c : Config) (kinds : List TypeOf) → kinds ≡ attr_types c → All IsLine c.attrs → All IsSettable kinds
-settable c kinds e h = subst (All IsSettable) (sym e) (All-append IsSettable (map (λ (a : AttrDef). a.kind) c.attrs) _ (of_lines c.attrs h)
+pub settable : (c : Config) (rows : List AttrRow) → rows ≡ attr_rows c → All IsLine c.attrs → All IsSettable (types_of rows)
+settable c rows e h = subst (All IsSettable) (sym (ap types_of e ∙ rows-types c)) (All-append IsSettable (map (λ (a : AttrDef). a.kind) c.attrs) _ (of_lines c.attrs h)
     (All-append IsSettable (flat_map (λ (k : CtlDef). map (λ (p : Parameter). p.kind) (parameters k)) c.controls) _ (of_controls c.controls) (of_lines (filter is_setting c.attrs) (of_settings c.attrs h))))
 
-pub fits-is : (c model : Config) (rows : List NodeRow) (kinds : List TypeOf) (n b k : ℕ) (step : Step) → c ≡ model → rows ≡ node_rows c → kinds ≡ attr_types c → n ≡ length rows → b ≡ length c.blocks → k ≡ length c.controls
-    → step_fits (record { nodes = n; blocks = b; controls = k }) kinds step ≡ fits model step
-fits-is c model rows kinds n b k step v r t q e f = ap (λ (x : ℕ). step_fits (record { nodes = x; blocks = b; controls = k }) kinds step) (q ∙ ap length r)
-    ∙ (ap (λ (x : ℕ). step_fits (record { nodes = length (node_rows c); blocks = x; controls = k }) kinds step) e
-    ∙ (ap (λ (x : ℕ). step_fits (record { nodes = length (node_rows c); blocks = length c.blocks; controls = x }) kinds step) f
-    ∙ (ap (λ x. step_fits (record { nodes = length (node_rows c); blocks = length c.blocks; controls = length c.controls }) x step) t ∙ ap (λ m. fits m step) v)))
+pub fits-is : (c model : Config) (rows : List NodeRow) (attrs : List AttrRow) (n b k : ℕ) (step : Step) → c ≡ model → rows ≡ node_rows c → attrs ≡ attr_rows c → n ≡ length rows → b ≡ length c.blocks → k ≡ length c.controls
+    → step_fits (record { nodes = n; blocks = b; controls = k }) (types_of attrs) step ≡ fits model step
+fits-is c model rows attrs n b k step v r t q e f = ap (λ (x : ℕ). step_fits (record { nodes = x; blocks = b; controls = k }) (types_of attrs) step) (q ∙ ap length r)
+    ∙ (ap (λ (x : ℕ). step_fits (record { nodes = length (node_rows c); blocks = x; controls = k }) (types_of attrs) step) e
+    ∙ (ap (λ (x : ℕ). step_fits (record { nodes = length (node_rows c); blocks = length c.blocks; controls = x }) (types_of attrs) step) f
+    ∙ (ap (λ x. step_fits (record { nodes = length (node_rows c); blocks = length c.blocks; controls = length c.controls }) x step) (ap types_of t ∙ rows-types c) ∙ ap (λ m. fits m step) v)))

@@ -1,7 +1,3 @@
-pub mod ListLaws
-pub mod NumberLaws
-pub mod SortLaws
-pub mod LineLaws
 pub mod GroupLaws
 pub mod PutLaws
 pub mod GrowLaws
@@ -9,7 +5,7 @@ pub mod LargestLaws
 pub mod ListingLaws
 pub mod ResolveLaws
 pub mod TableLaws
-pub mod FlagLaws
+pub mod AttributeLaws
 pub mod NameSort
 pub mod KindLaws
 pub mod SendLaws

@@ -1,14 +1,15 @@
 -- What one more domain does to what is listed.
-use Rattle.std.proofs.Common.{◌≡◌, ℕ, zero, suc, ◌+◌, ◌<◌, List, [], ◌∷◌, ◌++◌, map, flat_map, length, take, get_or, refl, sym, ap, subst, ◌∙◌, append_assoc, append-nil, arith, length-append}
+use Rattle.std.proofs.Common.{◌≡◌, ℕ, zero, suc, ◌+◌, ◌<◌, List, [], ◌∷◌, ◌++◌, map, flat_map, length, take, get_or, refl, sym, ap, subst, ◌∙◌, arith, length-append}
 use Rattle.std.proofs.Math.Seq.{take-length}
 use Rattle.std.proofs.lemmas.List.{take_more, get_or_default}
+use Rattle.list_laws.proofs.Appended.{flat-more}
 use Rattle.sv_base.specs.declared.config.Config.{Config}
 use Rattle.bay_model.specs.Names.{sorted}
 use Rattle.bay_model.specs.NamedLines.{Line, domains, lines, in_order}
 use Rattle.object_model.specs.declared.growth.Spot.{Spot}
 use Rattle.object_model.specs.declared.listing.Directory.{Directory}
 use Rattle.object_model.specs.declared.listing.Listing.{Listing}
-use Rattle.object_model.specs.Indexes.{IndexesFrom}
+use Rattle.object_names.specs.Indexes.{IndexesFrom}
 use Rattle.object_model.specs.Nodes.{spots_in, row, rows_from, name_at, node_rows, node_names}
 use Rattle.object_model.specs.Listed.{items_of, spots_from, first_of, IsDirectory, AllFrom, IsListed, IsOneMore}
 
@@ -19,10 +20,6 @@ rows-append n (a ∷ as_) bs = ap (λ l. row n a ∷ l) (rows-append (suc n) as_
 pub length-rows : (n : ℕ) (ss : List Spot) → length (rows_from n ss) ≡ length ss
 length-rows n [] = refl
 length-rows n (s ∷ ss) = ap suc (length-rows (suc n) ss)
-
-flat-more : {X Y : Type 0} (f : X → List Y) (xs : List X) (x : X) → flat_map f (xs ++ x ∷ []) ≡ flat_map f xs ++ f x
-flat-more f [] x = append-nil (f x)
-flat-more f (y ∷ ys) x = ap (λ l. f y ++ l) (flat-more f ys x) ∙ sym (append_assoc (f y) (flat_map f ys) (f x))
 
 pub all-more : (P : ℕ → Directory → Type 0) (n : ℕ) (ds : List Directory) (d : Directory) → AllFrom P n ds → P (n + length ds) d → AllFrom P n (ds ++ d ∷ [])
 all-more P n [] d a p = (subst (λ k. P k d) (omega arith) p, tt)

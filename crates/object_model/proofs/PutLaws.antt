@@ -1,19 +1,20 @@
 -- The group of a name by its place.
-use Rattle.std.proofs.Common.{◌≡◌, ℕ, zero, suc, ◌+◌, ◌<◌, Bool, true, false, cond, List, [], ◌∷◌, ◌++◌, map, length, get_or, set, Option, None, Some, is_some, refl, sym, ap, ◌∙◌, true≢false, arith, if◌then◌else◌}
+use Rattle.std.proofs.Common.{◌≡◌, ℕ, zero, suc, ◌+◌, ◌<◌, Bool, true, false, cond, List, [], ◌∷◌, ◌++◌, map, length, get_or, set, Option, None, Some, refl, sym, ap, ◌∙◌, arith, if◌then◌else◌}
 use Rattle.std.specs.Str.{bytes_eq}
 use Rattle.std.specs.Option.{option_map}
 use Rattle.std.proofs.Math.Seq.{map-set_same}
 use Rattle.bay_model.specs.Generated.{Named}
 use Rattle.object_model.specs.Groups.{Group, group_name, with_cut, put}
-use Rattle.object_model.specs.Numbers.{number_in, number_or}
+use Rattle.object_names.specs.Numbers.{number_in}
+use Rattle.object_names.specs.Indexes.{Indexes, IndexesFrom}
+use Rattle.object_names.specs.declared.index.Index.{Index}
+use Rattle.object_names.proofs.NumberLaws.{from-first}
 use Rattle.std.proofs.lemmas.List.{map-append, length-map}
-use Rattle.object_model.proofs.NumberLaws.{place-cons, position-push}
+use Rattle.list_laws.proofs.Options.{some_is, not_some}
+use Rattle.list_laws.proofs.Places.{place-cons}
 
 abbrev pub place_of : List Group → List ℕ → Option ℕ
 place_of gs name = number_in (map group_name gs) name
-
-pub not_some : {X : Type 0} (x : X) → Some x ≡ None → ⊥
-not_some x e = absurd (true≢false (ap is_some e))
 
 -- where the name has a group
 pub record PutAt (gs : List Group) (name : List ℕ) (rest : Named) (p : ℕ) : Type 0 where
@@ -35,12 +36,9 @@ put-at (g ∷ gs) name rest p e = by (λ r a. put-at gs name rest r a) (bytes_eq
       is = λ d. ap (λ n. g ∷ set gs n (with_cut (get_or gs n d) rest)) s ∙ (ap (λ l. g ∷ l) (a.is d) ∙ ap (λ b. if b then with_cut g rest ∷ gs else g ∷ put gs name rest) (sym h));
     }
 
-    some : (q r : ℕ) → Some q ≡ Some r → q ≡ r
-    some q r h = cc
-
     by : ((r : ℕ) → place_of gs name ≡ Some r → PutAt gs name rest r) → (b : Bool) → bytes_eq name g.name ≡ b → (o : Option ℕ) → place_of gs name ≡ o → cond b (Some 0) (option_map (λ n. n + 1) o) ≡ Some p → PutAt (g ∷ gs) name rest p
-    by go true h o r q = here p h (some 0 p q)
-    by go false h (Some r) a q = there p r h (go r a) (some (r + 1) p q)
+    by go true h o r q = here p h (some_is 0 p q)
+    by go false h (Some r) a q = there p r h (go r a) (some_is (r + 1) p q)
     by go false h None a q = absurd (not_some p (sym q))
 
 -- where it has none
@@ -58,5 +56,7 @@ pub names-stay : (gs : List Group) (rest : Named) (p : ℕ) (d : Group) → map 
 names-stay gs rest p d = map-set_same group_name gs p (with_cut (get_or gs p d) rest) d refl
 
 -- one more group
-pub names-more : (gs : List Group) (g : Group) (other : List ℕ) → place_of (gs ++ g ∷ []) other ≡ number_or (place_of gs other) (bytes_eq other g.name) (length gs)
-names-more gs g other = ap (λ l. number_in l other) (map-append group_name gs (g ∷ [])) ∙ (position-push (bytes_eq other) (map group_name gs) g.name ∙ ap (λ n. number_or (place_of gs other) (bytes_eq other g.name) n) (length-map gs group_name))
+pub names-more : (old new : Index) (gs more : List Group) (g : Group) (n : ℕ) → Indexes old (map group_name gs) → n ≡ length gs → more ≡ gs ++ g ∷ []
+    → ((names : List (List ℕ)) (first : ℕ) → IndexesFrom old first names → n ≡ first + length names → IndexesFrom new first (names ++ g.name ∷ [])) → Indexes new (map group_name more)
+names-more old new gs more g n is e m step = λ other. step (map group_name gs) 0 (λ name. is name ∙ sym (from-first (number_in (map group_name gs) name))) (omega (arith, e, length-map gs group_name)) other
+    ∙ (from-first (number_in (map group_name gs ++ g.name ∷ []) other) ∙ ap (λ l. number_in l other) (sym (ap (map group_name) m ∙ map-append group_name gs (g ∷ []))))

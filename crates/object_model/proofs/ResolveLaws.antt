@@ -16,29 +16,14 @@ use Rattle.bay_model.specs.Places.{Place, node_at}
 use Rattle.bay_model.specs.Named.{nodes, places_in}
 use Rattle.object_model.specs.declared.growth.Spot.{Spot}
 use Rattle.object_model.specs.Grown.{spot}
-use Rattle.object_model.specs.Numbers.{number_in}
+use Rattle.object_names.specs.Numbers.{number_in}
 use Rattle.object_model.specs.Nodes.{spots_in}
 use Rattle.object_model.specs.Listed.{items_of, domain_at, first_of}
 use Rattle.object_model.specs.Tables.{node_named}
-use Rattle.object_model.proofs.NumberLaws.{place-cons}
-use Rattle.object_model.proofs.PutLaws.{not_some}
-use Rattle.object_model.proofs.GroupLaws.{apart, Absent, Distinct, distinct-with}
-
--- the first place in two lists, one after the other
-shift-or : (b : Bool) (r s : Option ℕ) (n : ℕ) → cond b (Some 0) (option_map (λ i. i + 1) (option_or r (option_map (λ i. n + i) s))) ≡ option_or (cond b (Some 0) (option_map (λ i. i + 1) r)) (option_map (λ i. suc n + i) s)
-shift-or true r s n = refl
-shift-or false (Some x) s n = refl
-shift-or false None (Some y) n = ap Some (omega arith)
-shift-or false None None n = refl
-
-none-or : (s : Option ℕ) → s ≡ option_map (λ i. 0 + i) s
-none-or (Some x) = ap Some (omega arith)
-none-or None = refl
-
-pub position-append : {X : Type 0} (p : X → Bool) (xs ys : List X) → position p (xs ++ ys) ≡ option_or (position p xs) (option_map (λ i. length xs + i) (position p ys))
-position-append p [] ys = none-or (position p ys)
-position-append p (x ∷ xs) ys = place-cons p x (xs ++ ys) ∙ (ap (λ r. cond (p x) (Some 0) (option_map (λ i. i + 1) r)) (position-append p xs ys)
-    ∙ (shift-or (p x) (position p xs) (position p ys) (length xs) ∙ ap (λ r. option_or r (option_map (λ i. suc (length xs) + i) (position p ys))) (sym (place-cons p x xs))))
+use Rattle.list_laws.proofs.Options.{some_is, not_some}
+use Rattle.list_laws.proofs.Places.{place-cons, position-append}
+use Rattle.list_laws.proofs.Distinct.{octets_apart, Absent, Distinct}
+use Rattle.object_model.proofs.GroupLaws.{distinct-with}
 
 distinct-domains : (ds : List (List ℕ)) (ns : List LnDef) → Distinct ds → Distinct (domains_after ds ns)
 distinct-domains ds [] d = d
@@ -97,9 +82,6 @@ module _ (places_of : List ℕ → List Place) (domain item : List ℕ) where
   at_domain [] k u h = absurd (not_some k (sym h))
   at_domain (d ∷ ds) k u h = one d ds ∙ by (λ j. at_domain ds j u.1) (bytes_eq domain d) refl (number_in ds domain) refl (sym (place-cons (bytes_eq domain) d ds) ∙ h)
     where
-      some : (q r : ℕ) → Some q ≡ Some r → q ≡ r
-      some q r e = cc
-
       first : (q : ℕ) → bytes_eq domain d ≡ true → 0 ≡ q → option_or (position is_at (map (node_at d) (places_of d))) (option_map (λ i. length (places_of d) + i) (position is_at (blocks ds)))
           ≡ option_map (λ i. length (flat_map spots (take q (d ∷ ds))) + i) (number_in (items_of (spots (get_or (d ∷ ds) q []))) item)
       first zero e z = ap (λ s. option_or s (option_map (λ i. length (places_of d) + i) (position is_at (blocks ds)))) (here d (places_of d) e)
@@ -117,8 +99,8 @@ module _ (places_of : List ℕ → List Place) (domain item : List ℕ) where
 
       by : ((j : ℕ) → number_in ds domain ≡ Some j → position is_at (blocks ds) ≡ option_map (λ i. length (flat_map spots (take j ds)) + i) (number_in (items_of (spots (get_or ds j []))) item)) → (b : Bool) → bytes_eq domain d ≡ b → (o : Option ℕ) → number_in ds domain ≡ o → cond b (Some 0) (option_map (λ i. i + 1) o) ≡ Some k
           → option_or (position is_at (map (node_at d) (places_of d))) (option_map (λ i. length (places_of d) + i) (position is_at (blocks ds))) ≡ option_map (λ i. length (flat_map spots (take k (d ∷ ds))) + i) (number_in (items_of (spots (get_or (d ∷ ds) k []))) item)
-      by go true e o q r = first k e (some 0 k r)
-      by go false e (Some x) q r = later k x e (some (x + 1) k r) (go x q)
+      by go true e o q r = first k e (some_is 0 k r)
+      by go false e (Some x) q r = later k x e (some_is (x + 1) k r) (go x q)
       by go false e None q r = absurd (not_some k (sym r))
 
 -- the items of a domain
@@ -150,15 +132,12 @@ module _ (places_of : List ℕ → List Place) (domain : List ℕ) where
       by : (number_in ds domain ≡ None → items_in (all_nodes ds) ≡ []) → (b : Bool) → bytes_eq domain d ≡ b → (o : Option ℕ) → number_in ds domain ≡ o → cond b (Some 0) (option_map (λ i. i + 1) o) ≡ None → items_in (map (node_at d) (places_of d)) ++ items_in (all_nodes ds) ≡ []
       by go true e o q r = absurd (not_some 0 r)
       by go false e (Some x) q r = absurd (not_some (x + 1) r)
-      by go false e None q r = ap (λ l. l ++ items_in (all_nodes ds)) (items-other d (places_of d) (apart domain d e)) ∙ go q
+      by go false e None q r = ap (λ l. l ++ items_in (all_nodes ds)) (items-other d (places_of d) (octets_apart domain d e)) ∙ go q
 
   items-some : (ds : List (List ℕ)) (k : ℕ) → Distinct ds → number_in ds domain ≡ Some k → items_in (all_nodes ds) ≡ items_of (map spot (places_of (get_or ds k [])))
   items-some [] k u h = absurd (not_some k (sym h))
   items-some (d ∷ ds) k u h = items-one d ds ∙ by (λ j. items-some ds j u.1) (bytes_eq domain d) refl (number_in ds domain) refl (sym (place-cons (bytes_eq domain) d ds) ∙ h)
     where
-      some : (q r : ℕ) → Some q ≡ Some r → q ≡ r
-      some q r e = cc
-
       first : (q : ℕ) → bytes_eq domain d ≡ true → 0 ≡ q → items_in (map (node_at d) (places_of d)) ++ items_in (all_nodes ds) ≡ items_of (map spot (places_of (get_or (d ∷ ds) q [])))
       first zero e z = let is : domain ≡ d = (bytes_decides domain d).0 e in
           ap (λ l. l ++ items_in (all_nodes ds)) (items-here d (places_of d) ((bytes_decides d domain).1 (sym is)))
@@ -168,12 +147,12 @@ module _ (places_of : List ℕ → List Place) (domain : List ℕ) where
       later : (q r : ℕ) → bytes_eq domain d ≡ false → r + 1 ≡ q → items_in (all_nodes ds) ≡ items_of (map spot (places_of (get_or ds r []))) → items_in (map (node_at d) (places_of d)) ++ items_in (all_nodes ds) ≡ items_of (map spot (places_of (get_or (d ∷ ds) q [])))
       later zero r e z g = absurd (omega (arith, z))
       later (suc q) r e z g = let s : r ≡ q = omega (arith, z) in
-          ap (λ l. l ++ items_in (all_nodes ds)) (items-other d (places_of d) (apart domain d e)) ∙ (g ∙ ap (λ n. items_of (map spot (places_of (get_or ds n [])))) s)
+          ap (λ l. l ++ items_in (all_nodes ds)) (items-other d (places_of d) (octets_apart domain d e)) ∙ (g ∙ ap (λ n. items_of (map spot (places_of (get_or ds n [])))) s)
 
       by : ((j : ℕ) → number_in ds domain ≡ Some j → items_in (all_nodes ds) ≡ items_of (map spot (places_of (get_or ds j [])))) → (b : Bool) → bytes_eq domain d ≡ b → (o : Option ℕ) → number_in ds domain ≡ o → cond b (Some 0) (option_map (λ i. i + 1) o) ≡ Some k
           → items_in (map (node_at d) (places_of d)) ++ items_in (all_nodes ds) ≡ items_of (map spot (places_of (get_or (d ∷ ds) k [])))
-      by go true e o q r = first k e (some 0 k r)
-      by go false e (Some x) q r = later k x e (some (x + 1) k r) (go x q)
+      by go true e o q r = first k e (some_is 0 k r)
+      by go false e (Some x) q r = later k x e (some_is (x + 1) k r) (go x q)
       by go false e None q r = absurd (not_some k (sym r))
 
 pub no_variables : (c : Config) (domain after : List ℕ) → number_in (domains c) domain ≡ None → variables_after c domain after ≡ []

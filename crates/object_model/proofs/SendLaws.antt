@@ -17,11 +17,11 @@ use Rattle.sv_base.specs.contracts.lists.AttrDefs as AttrDefs
 use Rattle.sv_base.specs.contracts.lists.CtlDefs as CtlDefs
 use Rattle.bay_model.proofs.tables.AttrIds.TheSendSync as ids
 use Rattle.bay_model.proofs.tables.SetTable.TheSendSync as set_table
-use Rattle.bay_model.proofs.flags.Flags.TheSendSync as flags
 use Rattle.bay_model.specs.contracts.tables.MemberShape as MemberShape
 use Rattle.bay_model.specs.contracts.tables.NodeRow as NodeRow
 use Rattle.bay_model.specs.contracts.tables.NodeTable as NodeTable
-use Rattle.object_model.specs.contracts.index.Index as Index
+use Rattle.object_names.specs.contracts.attributes.AttrRow as AttrRow
+use Rattle.object_names.specs.contracts.index.Index as Index
 use Rattle.object_model.specs.contracts.listing.Directory as Directory
 use Rattle.object_model.specs.contracts.nodes.NodeName as NodeName
 use Rattle.object_model.specs.contracts.tables.Tables as Tables
@@ -81,7 +81,10 @@ name_send : IsSend NodeName.the_row
 name_send = search (octs.the_send, sendable) depth 60
 
 tables_field_send : IsSend Tables.the_field.row
-tables_field_send = search (kind_send, node_table_send, index_field_send, directory_send, name_send, set_table.the_send, flags.the_send, crosses, sendable) depth 60
+tables_field_send = search (node_table_send, index_field_send, directory_send, name_send, set_table.the_send, crosses, sendable) depth 60
+
+attr_row_send : IsSend AttrRow.the_row
+attr_row_send = search (kind_field_send, octs.the_send, sendable) depth 60
 
 pub model_send : IsSend Model.the_row
-model_send = search (config_field_send, tables_field_send, index_field_send, octs.the_send, crosses, sendable) depth 60
+model_send = search (config_field_send, tables_field_send, index_field_send, attr_row_send, octs.the_send, crosses, sendable) depth 60

@@ -17,11 +17,11 @@ use Rattle.sv_base.specs.contracts.lists.AttrDefs as AttrDefs
 use Rattle.sv_base.specs.contracts.lists.CtlDefs as CtlDefs
 use Rattle.bay_model.proofs.tables.AttrIds.TheSendSync as ids
 use Rattle.bay_model.proofs.tables.SetTable.TheSendSync as set_table
-use Rattle.bay_model.proofs.flags.Flags.TheSendSync as flags
 use Rattle.bay_model.specs.contracts.tables.MemberShape as MemberShape
 use Rattle.bay_model.specs.contracts.tables.NodeRow as NodeRow
 use Rattle.bay_model.specs.contracts.tables.NodeTable as NodeTable
-use Rattle.object_model.specs.contracts.index.Index as Index
+use Rattle.object_names.specs.contracts.attributes.AttrRow as AttrRow
+use Rattle.object_names.specs.contracts.index.Index as Index
 use Rattle.object_model.specs.contracts.listing.Directory as Directory
 use Rattle.object_model.specs.contracts.nodes.NodeName as NodeName
 use Rattle.object_model.specs.contracts.tables.Tables as Tables
@@ -81,7 +81,10 @@ name_sync : IsSync NodeName.the_row
 name_sync = search (octs.the_sync, sendable) depth 60
 
 tables_field_sync : IsSync Tables.the_field.row
-tables_field_sync = search (kind_sync, node_table_sync, index_field_sync, directory_sync, name_sync, set_table.the_sync, flags.the_sync, crosses, sendable) depth 60
+tables_field_sync = search (node_table_sync, index_field_sync, directory_sync, name_sync, set_table.the_sync, crosses, sendable) depth 60
+
+attr_row_sync : IsSync AttrRow.the_row
+attr_row_sync = search (kind_field_sync, octs.the_sync, sendable) depth 60
 
 pub model_sync : IsSync Model.the_row
-model_sync = search (config_field_sync, tables_field_sync, index_field_sync, octs.the_sync, crosses, sendable) depth 60
+model_sync = search (config_field_sync, tables_field_sync, index_field_sync, attr_row_sync, octs.the_sync, crosses, sendable) depth 60

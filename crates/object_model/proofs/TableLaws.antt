@@ -1,6 +1,5 @@
 -- The tables of a configuration beside the model of it.
-use Rattle.std.proofs.Common.{◌≡◌, ℕ, zero, suc, ◌+◌, ◌<◌, Bool, cond, List, [], ◌∷◌, ◌++◌, map, flat_map, length, get_or, position, Some, unwrap_or, slice_get, refl, sym, ap, ◌∙◌, arith}
-use Rattle.std.specs.Option.{option_map}
+use Rattle.std.proofs.Common.{◌≡◌, ℕ, zero, suc, ◌+◌, ◌<◌, Bool, List, [], ◌∷◌, ◌++◌, map, flat_map, length, get_or, Some, unwrap_or, slice_get, refl, sym, ap, ◌∙◌, arith}
 use Rattle.std.specs.Str.{bytes_eq}
 use Rattle.std.proofs.Common.{false}
 use Rattle.std.proofs.lemmas.List.{get_or_default}
@@ -21,23 +20,19 @@ use Rattle.bay_model.specs.Generated.{within}
 use Rattle.bay_model.specs.Places.{Place, node_at, may_be_member, largest, constraint, member_constraints}
 use Rattle.bay_model.specs.NamedLines.{domains}
 use Rattle.bay_model.specs.Named.{nodes, places_in, member_number, set_defined, configured_model}
-use Rattle.object_model.specs.declared.index.Index.{Index}
+use Rattle.object_names.specs.declared.index.Index.{Index}
 use Rattle.object_model.specs.declared.nodes.NodeName.{NodeName}
 use Rattle.object_model.specs.Grown.{spot, attr_id}
-use Rattle.object_model.specs.Numbers.{number_in}
-use Rattle.object_model.specs.Indexes.{Indexes}
+use Rattle.object_names.specs.Numbers.{number_in}
+use Rattle.object_names.specs.Indexes.{Indexes}
 use Rattle.object_model.specs.Nodes.{spots_in, name_at, node_names, row, rows_from, node_rows}
 use Rattle.std.specs.List.{list_any}
 use Rattle.std.proofs.Common.{◌&&◌, nat_le, min}
 use Rattle.std.proofs.lemmas.Bool.Decides.{nat_tests}
 use Rattle.object_model.specs.Rows.{IsRowOf}
-use Rattle.object_model.proofs.PutLaws.{not_some}
 use Rattle.object_model.specs.Tables.{node_id, node_types, set_row, set_rows, name_references, member_in, row_in}
-use Rattle.object_model.proofs.NumberLaws.{place-cons}
-
-pub position-map : {X Y : Type 0} (p : Y → Bool) (f : X → Y) (xs : List X) → position p (map f xs) ≡ position (λ x. p (f x)) xs
-position-map p f [] = refl
-position-map p f (x ∷ xs) = place-cons p (f x) (map f xs) ∙ (ap (λ r. cond (p (f x)) (Some 0) (option_map (λ i. i + 1) r)) (position-map p f xs) ∙ sym (place-cons (λ y. p (f y)) x xs))
+use Rattle.list_laws.proofs.Options.{some_is, not_some}
+use Rattle.list_laws.proofs.Places.{position-map, same_at}
 
 -- what the code makes of each node and what the model makes of it, where they are the same at each place
 module _ {A B C : Type 0} (of_spot : List ℕ → Spot → B) (of_place : List ℕ → Place → C) (seen_b : B → A) (seen_c : C → A) (same : (d : List ℕ) (p : Place) → seen_b (of_spot d (spot p)) ≡ seen_c (of_place d p)) where
@@ -67,20 +62,6 @@ spots-nodes of_spot of_node same c = ap (map of_spot) (sym (flat-self (spots_in 
 pub spots-types : (c : Config) → map (λ (s : Spot). s.kind) (all_spots c) ≡ node_types c
 spots-types c = ap (map (λ (s : Spot). s.kind)) (sym (flat-self (spots_in c) (domains c))) ∙ (in_domains (λ d s. s) (λ d p. p.kind) (λ (s : Spot). s.kind) (λ k. k) (λ d p. refl) (places_in c) (domains c) ∙ map-id (node_types c))
 
--- an element by its place
-pub there : {X Y A : Type 0} (f : X → A) (g : Y → A) (xs : List X) (ys : List Y) (n : ℕ) (x d : X) (e : Y) → map f xs ≡ map g ys → n < length ys → x ≡ get_or xs n x → f x ≡ g (unwrap_or (slice_get ys n) e)
-there f g [] [] n x d e m h is = absurd (omega (arith, h))
-there f g (a ∷ xs) [] n x d e m h is = absurd (omega (arith, h))
-there f g [] (b ∷ ys) n x d e m h is = absurd (omega (arith, ap length m))
-there f g (a ∷ xs) (b ∷ ys) zero x d e m h is = ap f is ∙ heads (f a) (g b) (map f xs) (map g ys) m
-  where
-    heads : {A : Type 0} (p q : A) (ps qs : List A) → p ∷ ps ≡ q ∷ qs → p ≡ q
-    heads p q ps qs h = cc
-there f g (a ∷ xs) (b ∷ ys) (suc n) x d e m h is = there f g xs ys n x d e (tails (f a) (g b) (map f xs) (map g ys) m) (omega (arith, h)) is
-  where
-    tails : {A : Type 0} (p q : A) (ps qs : List A) → p ∷ ps ≡ q ∷ qs → ps ≡ qs
-    tails p q ps qs h = cc
-
 row-at : (k : ℕ) (ss : List Spot) (n : ℕ) (r : NodeRow) (s : Spot) → n < length ss → r ≡ get_or (rows_from k ss) n r → r ≡ row (k + n) (get_or ss n s)
 row-at k [] n r s h e = absurd (omega (arith, h))
 row-at k (x ∷ ss) zero r s h e = e ∙ ap (λ m. row m x) (omega arith)
@@ -100,8 +81,8 @@ count-names c = sym (length-map (node_names c) (λ (x : NodeName). x.item)) ∙ 
 
 pub name-at : (c : Config) (n : ℕ) (x : NodeName) → n < length (nodes c) → x ≡ get_or (node_names c) n x → NameAt c n x
 name-at c n x h e = record {
-  domain = there (λ (x : NodeName). x.domain) (λ (n : Node). n.domain) (node_names c) (nodes c) n x x _ (names-nodes (λ x. x.domain) (λ (n : Node). n.domain) (λ d p. refl) c) h e;
-  item = there (λ (x : NodeName). x.item) (λ (n : Node). n.item) (node_names c) (nodes c) n x x _ (names-nodes (λ x. x.item) (λ (n : Node). n.item) (λ d p. refl) c) h e;
+  domain = same_at (λ (x : NodeName). x.domain) (λ (n : Node). n.domain) (node_names c) (nodes c) n x x _ (names-nodes (λ x. x.domain) (λ (n : Node). n.domain) (λ d p. refl) c) h e;
+  item = same_at (λ (x : NodeName). x.item) (λ (n : Node). n.item) (node_names c) (nodes c) n x x _ (names-nodes (λ x. x.item) (λ (n : Node). n.item) (λ d p. refl) c) h e;
 }
 
 pub count-rows : (c : Config) → length (node_rows c) ≡ length (nodes c)
@@ -153,8 +134,8 @@ row-is c n r h e =
     let is : r ≡ row (0 + n) (get_or (all_spots c) n none) = row-at 0 (all_spots c) n r none lt e in
     record {
       kind = ap (λ (r : NodeRow). r.shape.kind) is ∙ type-there (node_types c) (all_spots c) n none _ (spots-types c) lt;
-      attrs = ap (λ (r : NodeRow). map (λ (x : AttrId). x.0) r.shape.attrs) is ∙ there (λ (s : Spot). map (λ (x : AttrId). x.0) s.attrs) (λ (n : Node). n.attrs) (all_spots c) (nodes c) n (get_or (all_spots c) n none) none _ (spots-nodes (λ s. map (λ (x : AttrId). x.0) s.attrs) (λ (n : Node). n.attrs) (λ d p. ids-back p.attrs) c) h (self-at (all_spots c) n none lt);
-      allowed = ap (λ (r : NodeRow). r.allowed && nat_le r.octets 500) is ∙ there is_member (λ (n : Node). n.allowed) (all_spots c) (nodes c) n (get_or (all_spots c) n none) none _ (spots-nodes is_member (λ (n : Node). n.allowed) (λ d p. ap (λ b. may_be_member p && b) (within-limit (largest p.kind))) c) h (self-at (all_spots c) n none lt);
+      attrs = ap (λ (r : NodeRow). map (λ (x : AttrId). x.0) r.shape.attrs) is ∙ same_at (λ (s : Spot). map (λ (x : AttrId). x.0) s.attrs) (λ (n : Node). n.attrs) (all_spots c) (nodes c) n (get_or (all_spots c) n none) none _ (spots-nodes (λ s. map (λ (x : AttrId). x.0) s.attrs) (λ (n : Node). n.attrs) (λ d p. ids-back p.attrs) c) h (self-at (all_spots c) n none lt);
+      allowed = ap (λ (r : NodeRow). r.allowed && nat_le r.octets 500) is ∙ same_at is_member (λ (n : Node). n.allowed) (all_spots c) (nodes c) n (get_or (all_spots c) n none) none _ (spots-nodes is_member (λ (n : Node). n.allowed) (λ d p. ap (λ b. may_be_member p && b) (within-limit (largest p.kind))) c) h (self-at (all_spots c) n none lt);
       node = ap (λ (r : NodeRow). r.shape.node.0) is ∙ omega arith;
     }
 
@@ -173,10 +154,7 @@ row-of c model rows n r v e h is = row-is model n r h (is ∙ ap (λ l. get_or l
 
 some-there : (rs : List NodeRow) (n : ℕ) (r : NodeRow) → slice_get rs n ≡ Some r → r ≡ get_or rs n r
 some-there [] n r e = refl
-some-there (x ∷ rs) zero r e = some r x (sym e)
-  where
-    some : (y z : NodeRow) → Some y ≡ Some z → y ≡ z
-    some y z h = cc
+some-there (x ∷ rs) zero r e = some_is r x (sym e)
 some-there (x ∷ rs) (suc n) r e = some-there rs n r e
 
 some-within : (rs : List NodeRow) (n : ℕ) (r : NodeRow) → slice_get rs n ≡ Some r → n < length rs

@@ -1,5 +1,6 @@
+pub use Rattle.object_names.specs.Numbers
+pub use Rattle.object_names.specs.References
 pub mod Groups
-pub mod Hashing
 pub mod Grown
 pub mod Nodes
 pub mod Listed
@@ -7,7 +8,3 @@ pub mod Fits
 pub mod Tables
 pub mod Rows
 pub mod Sorting
-pub mod Seen
-pub mod References
-pub mod Numbers
-pub mod Indexes

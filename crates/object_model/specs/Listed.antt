@@ -9,7 +9,7 @@ use Rattle.bay_model.specs.NamedLines.{Line, domains}
 use Rattle.object_model.specs.declared.growth.Spot.{Spot}
 use Rattle.object_model.specs.declared.listing.Directory.{Directory}
 use Rattle.object_model.specs.declared.listing.Listing.{Listing}
-use Rattle.object_model.specs.Indexes.{IndexesFrom}
+use Rattle.object_names.specs.Indexes.{IndexesFrom}
 use Rattle.object_model.specs.Grown.{spot}
 use Rattle.object_model.specs.Nodes.{spots_in, rows_from, name_at}
 

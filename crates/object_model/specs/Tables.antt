@@ -1,8 +1,7 @@
 -- What is found in a configuration: its nodes by their names, its data sets, and the trigger conditions of its attributes.
-use Rattle.std.specs.Prelude.{◌≡◌, ℕ, false, ◌&&◌, List, ◌++◌, map, flat_map, filter, position, length, Option, unwrap_or, slice_index_or}
+use Rattle.std.specs.Prelude.{◌≡◌, ℕ, ◌&&◌, List, ◌++◌, map, flat_map, filter, position, length, Option, unwrap_or, slice_index_or}
 use Rattle.std.specs.Str.{bytes_eq}
 use Rattle.sv_base.specs.declared.config.Config.{Config}
-use Rattle.sv_base.specs.declared.config.AttrDef.{AttrDef}
 use Rattle.sv_base.specs.declared.config.CtlDef.{CtlDef}
 use Rattle.sv_base.specs.declared.config.SetDef.{SetDef}
 use Rattle.sv_base.specs.declared.numbers.NodeId.{NodeId}
@@ -17,11 +16,11 @@ use Rattle.bay_model.specs.Generated.{Parameter, parameters, within}
 use Rattle.bay_model.specs.Places.{Place}
 use Rattle.bay_model.specs.NamedLines.{domains, is_setting}
 use Rattle.bay_model.specs.Named.{name_tree, places_in}
+pub use Rattle.object_names.specs.Attributes.{line_flags, no_flags}
 use Rattle.object_model.specs.declared.tables.Tables.{Tables}
-use Rattle.object_model.specs.declared.index.Index.{Index}
+use Rattle.object_names.specs.declared.index.Index.{Index}
 use Rattle.object_model.specs.declared.nodes.NodeName.{NodeName}
-use Rattle.object_model.specs.Indexes.{Indexes, found}
-use Rattle.object_model.specs.Fits.{attr_types}
+use Rattle.object_names.specs.Indexes.{Indexes, found}
 use Rattle.object_model.specs.Nodes.{node_rows, node_names}
 use Rattle.object_model.specs.Listed.{AllFrom, IsDirectory}
 
@@ -49,12 +48,6 @@ set_rows c = map set_row (name_tree c).sets
 abbrev pub flags_of : Attr → Flags
 flags_of a = record { dchg = a.dchg; qchg = a.qchg; dupd = a.dupd }
 
-abbrev pub line_flags : AttrDef → Flags
-line_flags a = record { dchg = a.dchg; qchg = a.qchg; dupd = a.dupd }
-
-abbrev pub no_flags : Flags
-no_flags = record { dchg = false; qchg = false; dupd = false }
-
 abbrev pub control_flags : CtlDef → List Flags
 control_flags k = map (λ (p : Parameter). no_flags) (parameters k)
 
@@ -69,8 +62,6 @@ pub record IsTables (c : Config) (t : Tables) : Type 0 where
   pub names : t.names.items ≡ node_names c
   pub nodes : t.nodes ≡ node_rows c
   pub sets : t.sets ≡ set_rows c
-  pub flags : t.flags.items ≡ attr_flags c
-  pub kinds : t.kinds.items ≡ attr_types c
 
 -- ---- for the code
 

@@ -1,15 +1,17 @@
 //! Whether a step fits a configuration.
 
-ghost use Rattle.std.specs.Prelude.{◌≡◌, ◌&&◌};
+ghost use Rattle.std.specs.Prelude.{◌≡◌, ◌&&◌, option_map, slice_get};
 ghost use Rattle.std.specs.List.{All, list_all};
 ghost use Rattle.sv_base.specs.Seen.{row_of};
-ghost use Rattle.bay_model.specs.Configured.{kind_of};
+ghost use Rattle.bay_rooms.specs.Kinds.{kind_of};
 ghost use Rattle.bay_model.specs.Kinds.{is_kind, is_in_range};
 ghost use Rattle.bay_model.specs.Slots.{IsSettable};
+ghost use Rattle.object_names.specs.Attributes.{types_of};
 ghost use Rattle.object_model.specs.Fits.{is_visible as is_visible_octets, is_sound as is_sound_value, are_sound as are_sound_row, name_fits as name_fits_in, target_fits as target_fits_in, write_fits as write_fits_in, set_fits as set_fits_in, set_name_fits, service_fits as service_fits_in, setting_fits as setting_fits_in, is_association as is_association_number, step_fits as step_fits_in};
 
 use bay_model::{ObjName, Service, SetName, Setting, Step, Target, Write, fits_int, fits_uint};
-use sv_base::{AssocNo, TypeOf, Value};
+use object_names::AttrRow;
+use sv_base::{AssocNo, AttrId, TypeOf, Value};
 
 /// How many nodes, blocks and controls there are.
 #[derive(Clone, Copy)]
@@ -168,23 +170,30 @@ fn is_typed(kind: &TypeOf, value: &Value) -> bool
     }
 }
 
-/// Whether a setting names an attribute, of whose type and size its value is.
-fn setting_fits(kinds: &[TypeOf], setting: &Setting) -> bool
-    requires { All IsSettable kinds.now }
-    ensures { result ≡ setting_fits_in kinds.now setting.now }
+/// The row of an attribute; none exactly where it is not there.
+fn row_at(rows: &[AttrRow], attr: AttrId) -> Option<&AttrRow>
+    ensures { option_map (λ r. r.now) result ≡ slice_get rows.now attr.0 }
 {
-    match kinds.get(setting.attr.0 as usize) {
+    rows.get(attr.0 as usize)
+}
+
+/// Whether a setting names an attribute, of whose type and size its value is.
+fn setting_fits(rows: &[AttrRow], setting: &Setting) -> bool
+    requires { All IsSettable (types_of rows.now) }
+    ensures { result ≡ setting_fits_in (types_of rows.now) setting.now }
+{
+    match row_at(rows, setting.attr) {
         None => false,
-        Some(kind) => is_typed(kind, &setting.value) && is_sound(&setting.value),
+        Some(row) => is_typed(&row.kind, &setting.value) && is_sound(&setting.value),
     }
 }
 
-fn settings_fit(kinds: &[TypeOf], settings: &[Setting]) -> bool
-    requires { All IsSettable kinds.now }
-    ensures { result ≡ list_all (setting_fits_in kinds.now) settings.now }
+fn settings_fit(rows: &[AttrRow], settings: &[Setting]) -> bool
+    requires { All IsSettable (types_of rows.now) }
+    ensures { result ≡ list_all (setting_fits_in (types_of rows.now)) settings.now }
 {
     for setting in settings {
-        if !setting_fits(kinds, setting) {
+        if !setting_fits(rows, setting) {
             return false;
         }
     }
@@ -198,10 +207,10 @@ fn is_association(a: AssocNo) -> bool
     1 <= a.0 && a.0 <= 16
 }
 
-/// Whether a step fits what there is: so many nodes, blocks and controls, and attributes of these types.
-pub fn step_fits(counts: Counts, kinds: &[TypeOf], step: &Step) -> bool
-    requires { All IsSettable kinds.now }
-    ensures { result ≡ step_fits_in counts kinds.now step.now }
+/// Whether a step fits what there is: so many nodes, blocks and controls, and attributes of these rows.
+pub fn step_fits(counts: Counts, rows: &[AttrRow], step: &Step) -> bool
+    requires { All IsSettable (types_of rows.now) }
+    ensures { result ≡ step_fits_in counts (types_of rows.now) step.now }
 {
     match step {
         Step::Open { a, size, .. } => is_association(*a) && 1024 <= *size && *size <= 65000,
@@ -211,7 +220,7 @@ pub fn step_fits(counts: Counts, kinds: &[TypeOf], step: &Step) -> bool
         }
         Step::Take(a) => is_association(*a),
         Step::Lost(a) => is_association(*a),
-        Step::Value(settings) => settings_fit(kinds, settings.as_slice()),
+        Step::Value(settings) => settings_fit(rows, settings.as_slice()),
         Step::Done(control, _) => (control.0 as usize) < counts.controls,
         Step::Block(control, _) => (control.0 as usize) < counts.controls,
         Step::Tick => true,

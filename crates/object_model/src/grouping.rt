@@ -1,17 +1,13 @@
 //! What is named, in groups by the first name.
 
-ghost use Rattle.std.specs.Prelude.{◌≡◌, ◌++◌, ◌∷◌, [], map, List, ℕ, IfOk, OnOk};
-ghost use Rattle.std.specs.Str.{bytes_eq};
-ghost use Rattle.indexmap.specs.IndexMap.{get_by};
+ghost use Rattle.std.specs.Prelude.{◌≡◌, ◌++◌, ◌∷◌, [], map, IfOk, OnOk};
 ghost use Rattle.object_model.specs.Groups.{groups as groups_in, group_name, put as put_in, with_named};
-ghost use Rattle.object_model.specs.Numbers.{number_in};
+ghost use Rattle.object_names.specs.Indexes.{Indexes};
 
 use crate::growing::{Cut, Group, below, name_of, push_into};
-use crate::index::{Numbers, add};
-use crate::numbers::count;
-use indexmap::IndexMap;
+use object_names::Index;
+use object_names::numbers::count;
 use std::alloc::{AllocError, Global};
-use std::hash::BuildHasherDefault;
 
 fn push_group<'a>(
     alloc: Global,
@@ -30,24 +26,23 @@ fn push_group<'a>(
 /// Adds what stands below a name to its group, by the places of the names.
 fn put<'a>(
     alloc: Global,
-    places: &mut Numbers,
+    places: &mut Index,
     groups: &mut Vec<Group<'a>>,
     name: &'a [u8],
     cut: Cut<'a>,
 ) -> Result<(), AllocError>
-    requires { (other : List ℕ) → get_by (λ k. bytes_eq other k.items) places.old ≡ number_in (map group_name groups.old.items) other }
-    ensures placed { OnOk result ((other : List ℕ) → get_by (λ k. bytes_eq other k.items) places.new ≡ number_in (map group_name groups.new.items) other) }
+    requires { Indexes places.old (map group_name groups.old.items) }
+    ensures placed { OnOk result (Indexes places.new (map group_name groups.new.items)) }
     ensures groups { OnOk result (groups.new.items ≡ put_in groups.old.items name.now cut.entry) }
 {
-    let place = places.get(name).copied();
-    match place {
+    match places.number_of(name) {
         Some(place) => {
             push_into(groups, place as usize, cut)?;
             Ok(())
         }
         None => {
             let number = count(groups.len())?;
-            add(alloc, places, name, number)?;
+            places.push(alloc, name, number)?;
             push_group(alloc, groups, name, cut)?;
             Ok(())
         }
@@ -57,12 +52,12 @@ fn put<'a>(
 /// Adds what is named to its group; the name itself has none.
 fn put_cut<'a>(
     alloc: Global,
-    places: &mut Numbers,
+    places: &mut Index,
     groups: &mut Vec<Group<'a>>,
     cut: &Cut<'a>,
 ) -> Result<(), AllocError>
-    requires { (other : List ℕ) → get_by (λ k. bytes_eq other k.items) places.old ≡ number_in (map group_name groups.old.items) other }
-    ensures placed { OnOk result ((other : List ℕ) → get_by (λ k. bytes_eq other k.items) places.new ≡ number_in (map group_name groups.new.items) other) }
+    requires { Indexes places.old (map group_name groups.old.items) }
+    ensures placed { OnOk result (Indexes places.new (map group_name groups.new.items)) }
     ensures groups { OnOk result (groups.new.items ≡ with_named groups.old.items cut.now) }
 {
     if cut.is_itself() {
@@ -75,7 +70,7 @@ fn put_cut<'a>(
 pub fn groups<'a>(alloc: Global, cuts: &[Cut<'a>]) -> Result<Vec<Group<'a>>, AllocError>
     ensures { IfOk result (λ v. v.items ≡ groups_in cuts.now) }
 {
-    let mut places = IndexMap::with_hasher(alloc, BuildHasherDefault::new());
+    let mut places = Index::new(alloc);
     let mut groups = Vec::new(alloc);
     for cut in cuts {
         put_cut(alloc, &mut places, &mut groups, cut)?;

@@ -1,11 +1,11 @@
 //! The tree of names of a domain: what is named, name by name, in the order in which lines first name it.
 
 ghost use Rattle.std.specs.Prelude.{◌≡◌, ◌==◌, ◌<◌, ◌≤◌, length, get_or, set, OnOk};
-ghost use Rattle.std.specs.List.{position_or_len};
+ghost use Rattle.std.specs.List.{after_first, before_first, position_or_len};
 ghost use Rattle.bay_model.specs.NameTree.{first_name, rest_of};
 ghost use Rattle.object_model.specs.Groups.{Group, with_cut};
 
-use crate::named::Named;
+use object_names::Named;
 use std::alloc::AllocError;
 use std::marker::Model;
 
@@ -42,7 +42,7 @@ impl<'a> Cut<'a> {
 }
 
 /// The place of the first `$`, and of the end where there is none.
-pub fn name_len(rest: &[u8]) -> usize
+fn name_len(rest: &[u8]) -> usize
     ensures value { result ≡ position_or_len (λ o. o == 36) rest.now }
     ensures within { result ≤ length rest.now }
 {
@@ -54,25 +54,38 @@ pub fn name_len(rest: &[u8]) -> usize
     rest.len()
 }
 
+/// What stands before the first `$`.
+pub fn front(item: &[u8]) -> &[u8]
+    ensures { result.now ≡ before_first (λ o. o == 36) item.now }
+{
+    &item[..name_len(item)]
+}
+
+/// What stands behind the first `$`.
+pub fn behind(item: &[u8]) -> &[u8]
+    ensures { result.now ≡ after_first (λ o. o == 36) item.now }
+{
+    let len = name_len(item);
+    if len < item.len() {
+        &item[len + 1..]
+    } else {
+        &item[len..]
+    }
+}
+
 /// The name up to the first `$`.
 pub fn name_of<'a>(cut: &Cut<'a>) -> &'a [u8]
     ensures { result.now ≡ first_name cut.now }
 {
-    &cut.rest[..name_len(cut.rest)]
+    front(cut.rest)
 }
 
 /// What is named behind the first `$`.
 pub fn below<'a>(cut: &Cut<'a>) -> Cut<'a>
     ensures { result ≡ rest_of cut.now }
 {
-    let len = name_len(cut.rest);
-    let rest = if len < cut.rest.len() {
-        &cut.rest[len + 1..]
-    } else {
-        &cut.rest[len..]
-    };
     Cut {
-        rest,
+        rest: behind(cut.rest),
         named: cut.named,
     }
 }

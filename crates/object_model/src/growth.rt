@@ -4,13 +4,13 @@ ghost use Rattle.std.specs.Prelude.{◌≡◌, ◌++◌, ◌∷◌, [], ◌&&◌
 ghost use Rattle.sv_base.specs.Fields.{fields_of};
 ghost use Rattle.bay_model.specs.NameTree.{role_of, own_type as own_type_of, grown};
 ghost use Rattle.bay_model.specs.Places.{attrs_of_role, is_data_role, type_with};
-ghost use Rattle.object_model.specs.Seen.{role_seen};
+ghost use Rattle.object_names.specs.Seen.{role_seen};
 ghost use Rattle.object_model.specs.Grown.{IsGrown, attr_id, spot_with};
 
 use crate::grouping::groups;
 use crate::growing::{Cut, Group};
-use crate::named::What;
 use bay_model::AttrIds;
+use object_names::What;
 use std::alloc::{AllocError, Global};
 use sv_base::{AttrId, Octs, Part1, Parts, TypeOf, copy_type};
 

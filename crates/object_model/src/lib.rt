@@ -1,31 +1,24 @@
-//! The names of a configuration, and the numbers of its attributes, blocks and controls.
+//! The model of a configuration: its nodes, attributes, blocks and controls by their numbers, and what finds them.
 #![tactic(auto)]
 
-// the names that lines give, and the tree that they grow into
+// the tree that the names of lines grow into
 mod grouping;
 mod growing;
 mod growth;
 mod largest;
-mod lines;
-mod listing;
-mod named;
-mod nodes;
 
-// the references of numbered parts, and what finds a number
-mod copies;
-mod fitting;
-mod hashing;
-mod index;
-mod laws;
-mod model;
-mod numbers;
-mod references;
+// its nodes, domain by domain, and what finds them
+mod listing;
+mod nodes;
 mod sorting;
 mod tables;
 
-pub use laws::{models_cross_threads, rows_are_the_nodes};
-pub use lines::domains;
-pub use model::Model;
+// the model, and whether a step fits it
+mod copies;
+mod fitting;
+mod laws;
+mod model;
 
-#[cfg(test)]
-mod tests;
+pub use laws::{models_cross_threads, rows_are_the_nodes};
+pub use model::Model;
+pub use object_names::domains;

@@ -5,12 +5,11 @@ ghost use Rattle.bay_model.specs.NamedLines.{domains as domains_of, lines as lin
 ghost use Rattle.object_model.specs.Listed.{IsListed, IsOneMore, items_of as items_in, spots_from};
 
 use crate::growth::Spot;
-use crate::index::Index;
-use crate::lines::Line;
 use crate::nodes::{NodeName, push_node_names, push_rows, spots_of};
-use crate::numbers::count;
 use crate::sorting::sorted;
 use bay_model::NodeRow;
+use object_names::numbers::count;
+use object_names::{Index, Line};
 use std::alloc::{AllocError, Global};
 use sv_base::{Config, Octs};
 

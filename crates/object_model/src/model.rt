@@ -2,10 +2,9 @@
 
 use crate::copies::copy_config;
 use crate::fitting::{Counts, step_fits};
-use crate::index::Index;
-use crate::references::{attr_references, block_references, control_references};
 use crate::tables::Tables;
 use bay_model::{Flags, Names, NodeTable, SetTable, Step};
+use object_names::{AttrRow, Index, attr_index, attr_rows, block_references, control_references};
 use std::alloc::{AllocError, Global};
 use sv_base::{AttrId, BlockNo, Config, CtlNo, NodeId, Octs, TypeOf};
 
@@ -18,6 +17,7 @@ pub struct Model {
     blocks: Index,
     controls: Index,
     attrs: Index,
+    rows: Vec<AttrRow>,
     tables: Tables,
 }
 
@@ -35,14 +35,15 @@ impl std::marker::Model for Model {
     ghost view = { λ m. m.config };
 
     ghost use Rattle.std.specs.Prelude.{◌≡◌};
-    ghost use Rattle.object_model.specs.Indexes.{Indexes};
-    ghost use Rattle.object_model.specs.References.{block_references, control_references, attr_references};
+    ghost use Rattle.object_names.specs.Indexes.{Indexes};
+    ghost use Rattle.object_names.specs.References.{block_references, control_references, attr_references};
     ghost use Rattle.std.specs.List.{All};
     ghost use Rattle.sv_base.specs.declared.config.AttrDef.{AttrDef};
     ghost use Rattle.bay_model.specs.Slots.{IsSettable};
+    ghost use Rattle.object_names.specs.Attributes.{attr_rows};
     ghost use Rattle.object_model.specs.Tables.{IsTables};
 
-    ghost invariant = { λ m. Indexes m.blocks (block_references m.config) × Indexes m.controls (control_references m.config) × Indexes m.attrs (attr_references m.config) × IsTables m.config m.tables × All (λ (a : AttrDef). IsSettable a.kind) m.config.attrs × (m.references.items ≡ block_references m.config) };
+    ghost invariant = { λ m. Indexes m.blocks (block_references m.config) × Indexes m.controls (control_references m.config) × Indexes m.attrs (attr_references m.config) × IsTables m.config m.tables × All (λ (a : AttrDef). IsSettable a.kind) m.config.attrs × (m.references.items ≡ block_references m.config) × (m.rows.items ≡ attr_rows m.config) };
 }
 
 impl Model {
@@ -57,8 +58,8 @@ impl Model {
     ghost use Rattle.object_model.specs.Nodes.{node_rows};
     ghost use Rattle.object_model.specs.Sorting.{variables_after};
     ghost use Rattle.object_model.specs.Tables.{node_named, node_type, set_rows, flags_of};
-    ghost use Rattle.object_model.specs.Numbers.{number_in};
-    ghost use Rattle.object_model.specs.References.{block_references as blocks_of, control_references as controls_of, attr_references as attrs_of};
+    ghost use Rattle.object_names.specs.Numbers.{number_in};
+    ghost use Rattle.object_names.specs.References.{block_references as blocks_of, control_references as controls_of, attr_references as attrs_of};
 
     /// The model of a configuration, whose attributes are of the types that an `attr` line may have.
     pub fn build(alloc: Global, config: Config) -> Result<Self, AllocError>
@@ -68,7 +69,8 @@ impl Model {
         let references = block_references(alloc, &config)?;
         let blocks = Index::of(alloc, &references)?;
         let controls = Index::of(alloc, &control_references(alloc, &config)?)?;
-        let attrs = Index::of(alloc, &attr_references(alloc, &config)?)?;
+        let rows = attr_rows(alloc, &config)?;
+        let attrs = attr_index(alloc, &rows)?;
         let tables = Tables::of(alloc, &config)?;
         Ok(Model {
             config,
@@ -76,6 +78,7 @@ impl Model {
             blocks,
             controls,
             attrs,
+            rows,
             tables,
         })
     }
@@ -179,7 +182,7 @@ impl Model {
         requires { attr.0 < length (attributes self.now) }
         ensures { result ≡ flags_of (attr_of (configured_model self.now) attr.0) }
     {
-        self.tables.flags.as_slice()[attr.0 as usize]
+        self.rows.as_slice()[attr.0 as usize].flags
     }
 
     /// The configured data sets, with the numbers of their members.
@@ -221,6 +224,6 @@ impl Model {
             blocks: self.config.blocks.len(),
             controls: self.config.controls.len(),
         };
-        step_fits(counts, self.tables.kinds.as_slice(), step)
+        step_fits(counts, self.rows.as_slice(), step)
     }
 }

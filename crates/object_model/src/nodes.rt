@@ -1,7 +1,7 @@
 //! The nodes of a configuration by their numbers.
 
 ghost use Rattle.std.specs.Prelude.{◌≡◌, ◌++◌, ◌∷◌, [], ◌&&◌, ◌==◌, map, filter, flat_map, length, suc, IfOk, OnOk};
-ghost use Rattle.std.specs.List.{list_any, after_first};
+ghost use Rattle.std.specs.List.{list_any};
 ghost use Rattle.std.specs.Str.{bytes_eq};
 ghost use Rattle.bay_model.specs.NamedLines.{Line as ModelLine};
 ghost use Rattle.bay_model.specs.NameTree.{longest as longest_of, tree_of};
@@ -9,13 +9,12 @@ ghost use Rattle.bay_model.specs.Places.{constraint as constraint_of, member_con
 ghost use Rattle.object_model.specs.Grown.{spot};
 ghost use Rattle.object_model.specs.Nodes.{row, rows_from, name_at};
 
-use crate::growing::{Cut, name_len};
+use crate::growing::{Cut, behind, front};
 use crate::growth::{Spot, grow};
 use crate::largest::largest;
-use crate::lines::Line;
-use crate::named::Named;
-use crate::numbers::count;
 use bay_model::{MemberShape, NodeRow};
+use object_names::numbers::count;
+use object_names::{Line, Named};
 use std::alloc::{AllocError, Global};
 use sv_base::{NodeId, Octs};
 
@@ -86,24 +85,11 @@ pub fn spots_of(alloc: Global, lines: &[Line], domain: &[u8]) -> Result<Vec<Spot
     Ok(grown.spots)
 }
 
-/// What stands behind the first `$`.
-fn behind(item: &[u8]) -> &[u8]
-    ensures { result.now ≡ after_first (λ o. o == 36) item.now }
-{
-    let len = name_len(item);
-    if len < item.len() {
-        &item[len + 1..]
-    } else {
-        &item[len..]
-    }
-}
-
 /// The functional constraint of an item, its second name (IEC 61850-8-1).
 fn constraint(item: &[u8]) -> &[u8]
     ensures { result.now ≡ constraint_of item.now }
 {
-    let rest = behind(item);
-    &rest[..name_len(rest)]
+    front(behind(item))
 }
 
 /// Whether the members of data sets are of this functional constraint.

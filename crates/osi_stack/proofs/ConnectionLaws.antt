@@ -7,7 +7,7 @@ use Rattle.std.proofs.lemmas.List.Concat.{flat_map-append, flat_map-cons}
 use Rattle.tpkt_cotp.specs.declared.fault.TpFault.{TpFault}
 use Rattle.tpkt_cotp.specs.declared.fault.TpFault.TheVariants as transport
 use Rattle.tpkt_cotp.specs.declared.state.State.{State}
-use Rattle.tpkt_cotp.specs.declared.tsdus.Taken.{Taken}
+use Rattle.tpkt_cotp.specs.declared.tsdus.Tpkt.{Tpkt}
 use Rattle.tpkt_cotp.specs.declared.tsdus.Tsdu.{Tsdu}
 use Rattle.tpkt_cotp.specs.Packet.{packet, IsTpdu}
 use Rattle.tpkt_cotp.specs.Tpdu.{tpdu_at}
@@ -21,7 +21,7 @@ use Rattle.osi_stack.specs.declared.phase.Phase.{Phase}
 use Rattle.osi_stack.specs.Causes.{of_transport, transport_stop}
 use Rattle.osi_stack.specs.Lines.{HasLine}
 use Rattle.osi_stack.specs.Stream.{Stand, gifts_at, step_at, has_ended, Runs, Takes, Stops}
-use Rattle.osi_stack.specs.Going.{stand, IsUsable, Adds, AddsTaken, StaysTaken, counted, held_with, Went, HaltsAt}
+use Rattle.osi_stack.specs.Going.{stand, IsUsable, Adds, AddsTpkt, StaysTpkt, counted, held_with, Went, HaltsAt}
 
 -- ---- two goes are one
 
@@ -95,7 +95,7 @@ went_none a b piece rest now usable ready phase octets (none, held, same, part) 
     stand_is s t p q e h = rw (e, h) refl
 
 -- a TPKT was completed
-went_packet : (a b : Link) (piece rest : List ℕ) (taken : Taken) (before now : List Event) → has_ended a.phase ≡ false → IsReady b.transport → Advances a.transport.state a.transport.held piece b.transport.state b.transport.held (Some taken) rest
+went_packet : (a b : Link) (piece rest : List ℕ) (taken : Tpkt) (before now : List Event) → has_ended a.phase ≡ false → IsReady b.transport → Advances a.transport.state a.transport.held piece b.transport.state b.transport.held (Some taken) rest
     → Adds a.phase taken.tsdu b.phase before now → b.octets ≡ counted a.octets taken.octets → Went a b piece rest before now
 went_packet a b piece rest taken before now on ready (tpdu, front, is, cut, whole, count, step, none) (e, gift, grew, sound) octets =
     let all : held_with a piece ≡ packet tpdu ++ rest = ap (λ (x : List ℕ). a.transport.held ++ x) cut ∙ sym (append_assoc a.transport.held front rest) ∙ ap (λ (x : List ℕ). x ++ rest) (sym whole) in
@@ -109,8 +109,8 @@ went_packet a b piece rest taken before now on ready (tpdu, front, is, cut, whol
       usable = record { ready = ready; agreed = sound.0; count = omega (arith, octets) };
     }
 
-pub went_taken : (a b : Link) (piece rest : List ℕ) (taken : Option Taken) (before now : List Event) → IsUsable a → has_ended a.phase ≡ false → StepsFrom a.transport b.transport piece taken rest
-    → AddsTaken a.phase a.octets taken b.phase b.octets before now → Went a b piece rest before now
+pub went_taken : (a b : Link) (piece rest : List ℕ) (taken : Option Tpkt) (before now : List Event) → IsUsable a → has_ended a.phase ≡ false → StepsFrom a.transport b.transport piece taken rest
+    → AddsTpkt a.phase a.octets taken b.phase b.octets before now → Went a b piece rest before now
 went_taken a b piece rest None before now usable on (h, ready) (phase, octets, same) = subst (λ (x : List Event). Went a b piece rest before x) (sym same) (went_none a b piece rest before usable ready phase octets h)
 went_taken a b piece rest (Some taken) before now usable on (h, ready) (adds, octets) = went_packet a b piece rest taken before now on ready h adds octets
 
@@ -131,7 +131,7 @@ transport_halts transport.Sequence s input h = transport_stops transport.Sequenc
 transport_halts transport.TsduLimit s input h = transport_stops transport.TsduLimit s input (h (λ e. cc))
 
 -- what a layer above it refuses
-pub taken_halts : (a : Link) (t : State) (held piece rest : List ℕ) (taken : Option Taken) (before now : List Event) (s : Stop) → Advances a.transport.state a.transport.held piece t held taken rest → StaysTaken s a.phase taken before now
+pub taken_halts : (a : Link) (t : State) (held piece rest : List ℕ) (taken : Option Tpkt) (before now : List Event) (s : Stop) → Advances a.transport.state a.transport.held piece t held taken rest → StaysTpkt s a.phase taken before now
     → (now ≡ before) × HaltsAt s (stand a) (held_with a piece)
 taken_halts a t held piece rest None before now s h stays = absurd stays
 taken_halts a t held piece rest (Some taken) before now stops.Memory h stays = (stays.0, tt)

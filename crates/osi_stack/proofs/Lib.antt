@@ -1,3 +1,4 @@
+-- What streams, and the objects that were fed with them, obey.
 pub mod StreamLaws
 pub mod FitLaws
 pub mod ConnectionLaws

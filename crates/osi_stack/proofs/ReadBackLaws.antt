@@ -6,18 +6,20 @@ use Rattle.ber_grammar.specs.Reader.{◌>>=◌, Gives}
 use Rattle.tpkt_cotp.specs.declared.state.State.{State}
 use Rattle.tpkt_cotp.specs.declared.tsdus.Tsdu.{Tsdu}
 use Rattle.tpkt_cotp.specs.declared.tsdus.Tsdu.TheVariants.{Data}
-use Rattle.tpkt_cotp.specs.Octets.{IsBytes}
+use Rattle.ber_grammar.specs.Octets.{IsBytes}
 use Rattle.tpkt_cotp.specs.Stream.{Runs as TransportRuns}
 use Rattle.tpkt_cotp.specs.Written.{IsExponent}
 use Rattle.tpkt_cotp.proofs.ReadBackLaws.{tsdu_takes}
 use Rattle.tpkt_cotp.proofs.StreamLaws.{partial_none}
+use Rattle.session_pres.specs.declared.codes.TheConstants.{DISCONNECT}
 use Rattle.session_pres.specs.declared.fault.SpFault.{SpFault}
 use Rattle.session_pres.specs.declared.fault.SpFault.TheVariants as session
-use Rattle.session_pres.specs.Steps.{required}
+use Rattle.ber_grammar.specs.Steps.{required}
 use Rattle.session_pres.specs.Units.{Seen, IsSpdu, begins, transfer}
 use Rattle.session_pres.specs.UnitReading.{spdu_at}
 use Rattle.session_pres.specs.UserData.{user_data_at}
-use Rattle.session_pres.specs.Plain.{anywhere, told, transfers, pdv_octets, spdu_from, pdv_from}
+use Rattle.ber_grammar.specs.Place.{anywhere}
+use Rattle.session_pres.specs.Plain.{told, transfers, pdv_octets, spdu_from, pdv_from}
 use Rattle.session_pres.specs.Written.{IsOneElement, pdv_list, data_spdu}
 use Rattle.session_pres.proofs.AnywhereLaws.{pdv_anywhere}
 use Rattle.session_pres.proofs.FitLaws.{user_few}
@@ -81,7 +83,7 @@ pdu_is : (phase : Phase) (line : Line) (user value : Piece) → user_data_at use
 unfolding pdu_in in_context
 pdu_is phase line user value h = rw (pdv_is user value line.context h, eq-eqb line.context line.context refl) refl
 
-begins_data : (context : ℕ) (pdu : List ℕ) → begins 10 (data_spdu context pdu) ≡ false
+begins_data : (context : ℕ) (pdu : List ℕ) → begins DISCONNECT (data_spdu context pdu) ≡ false
 unfolding data_spdu
 begins_data context pdu = refl
 

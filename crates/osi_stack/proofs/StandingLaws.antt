@@ -6,7 +6,7 @@ use Rattle.std.proofs.lemmas.List.Concat.{flat_map-cons}
 use Rattle.tpkt_cotp.specs.declared.state.State.{State}
 use Rattle.tpkt_cotp.specs.declared.transport.TransportIn.{TransportIn}
 use Rattle.tpkt_cotp.specs.declared.tsdus.Tsdu.{Tsdu}
-use Rattle.tpkt_cotp.specs.Octets.{IsBytes}
+use Rattle.ber_grammar.specs.Octets.{IsBytes}
 use Rattle.tpkt_cotp.specs.Packet.{packet, IsPartial}
 use Rattle.tpkt_cotp.specs.Stream.{start, StandsFor, Runs as TransportRuns}
 use Rattle.tpkt_cotp.proofs.StreamLaws.{IsBytes-append, partial_none}

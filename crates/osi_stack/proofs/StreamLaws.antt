@@ -4,7 +4,7 @@ use Rattle.std.specs.Option.{option_to_list}
 use Rattle.std.specs.List.{flat_map, AllByRecursion}
 use Rattle.std.proofs.lemmas.List.Concat.{flat_map-cons}
 use Rattle.tpkt_cotp.specs.declared.fault.TpFault.{TpFault}
-use Rattle.tpkt_cotp.specs.Octets.{IsBytes}
+use Rattle.ber_grammar.specs.Octets.{IsBytes}
 use Rattle.tpkt_cotp.specs.Packet.{packet, IsTpdu, IsPartial, packet_at}
 use Rattle.tpkt_cotp.proofs.PacketLaws.{packet_again, bad_again, partial_again, found_is}
 use Rattle.tpkt_cotp.proofs.StreamLaws.{after_fits}

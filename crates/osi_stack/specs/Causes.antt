@@ -9,61 +9,61 @@ use Rattle.acse_apdu.specs.declared.fault.AcFault.TheVariants as association
 use Rattle.mms_pdu.specs.declared.fault.PduFault.{PduFault}
 use Rattle.mms_pdu.specs.declared.fault.PduFault.TheVariants as pdu
 use Rattle.osi_stack.specs.declared.cause.Cause.{Cause}
+use Rattle.osi_stack.specs.declared.cause.LayerFault.{LayerFault}
+use Rattle.osi_stack.specs.declared.cause.LayerFault.TheVariants.{Transport, Session, Association, Initiate}
 use Rattle.osi_stack.specs.declared.cause.Stop.{Stop}
 use Rattle.osi_stack.specs.declared.cause.Stop.TheVariants.{Memory, Refused}
 
-abbrev pub transport_code : TpFault → ℕ
-transport_code transport.Version = 1
-transport_code transport.Length = 2
-transport_code transport.Tpdu = 3
-transport_code transport.Class = 4
-transport_code transport.Sequence = 5
-transport_code transport.TsduLimit = 6
-transport_code transport.Memory = 0
+-- session and presentation are one layer
+abbrev pub layer_at : LayerFault → ℕ
+layer_at (Transport f) = 1
+layer_at (Session f) = 2
+layer_at (Association f) = 3
+layer_at (Initiate f) = 4
+
+abbrev pub number_at : LayerFault → ℕ
+number_at (Transport transport.Version) = 1
+number_at (Transport transport.Length) = 2
+number_at (Transport transport.Tpdu) = 3
+number_at (Transport transport.Class) = 4
+number_at (Transport transport.Sequence) = 5
+number_at (Transport transport.TsduLimit) = 6
+number_at (Transport transport.Memory) = 0
+number_at (Session session.Spdu) = 1
+number_at (Session session.Parameter) = 2
+number_at (Session session.Mode) = 3
+number_at (Session session.NoAcseContext) = 4
+number_at (Session session.NoMmsContext) = 5
+number_at (Session session.Pdv) = 6
+number_at (Association association.Apdu) = 1
+number_at (Association association.ContextName) = 2
+number_at (Association association.NoUserInformation) = 3
+number_at (Initiate pdu.UnknownPdu) = 1
+number_at (Initiate (pdu.UnknownService invoke)) = 2
+number_at (Initiate (pdu.Argument invoke)) = 3
+number_at (Initiate pdu.Invalid) = 4
+number_at (Initiate (pdu.SmallSize size)) = 5
+
+abbrev pub refused_at : LayerFault → Cause
+refused_at f = record { layer = layer_at f; code = number_at f }
 
 abbrev pub of_transport : TpFault → Cause
-of_transport f = record { layer = 1; code = transport_code f }
-
--- session and presentation
-abbrev pub session_code : SpFault → ℕ
-session_code session.Spdu = 1
-session_code session.Parameter = 2
-session_code session.Mode = 3
-session_code session.NoAcseContext = 4
-session_code session.NoMmsContext = 5
-session_code session.Pdv = 6
+of_transport f = refused_at (Transport f)
 
 abbrev pub of_session : SpFault → Cause
-of_session f = record { layer = 2; code = session_code f }
-
-abbrev pub association_code : AcFault → ℕ
-association_code association.Apdu = 1
-association_code association.ContextName = 2
-association_code association.NoUserInformation = 3
+of_session f = refused_at (Session f)
 
 abbrev pub of_association : AcFault → Cause
-of_association f = record { layer = 3; code = association_code f }
-
-abbrev pub initiate_code : PduFault → ℕ
-initiate_code pdu.UnknownPdu = 1
-initiate_code (pdu.UnknownService invoke) = 2
-initiate_code (pdu.Argument invoke) = 3
-initiate_code pdu.Invalid = 4
-initiate_code (pdu.SmallSize size) = 5
+of_association f = refused_at (Association f)
 
 abbrev pub of_initiate : PduFault → Cause
-of_initiate f = record { layer = 4; code = initiate_code f }
+of_initiate f = refused_at (Initiate f)
 
 -- ---- what the program says of them
 
 abbrev pub transport_stop : TpFault → Stop
 transport_stop transport.Memory = Memory
-transport_stop transport.Version = Refused (of_transport transport.Version)
-transport_stop transport.Length = Refused (of_transport transport.Length)
-transport_stop transport.Tpdu = Refused (of_transport transport.Tpdu)
-transport_stop transport.Class = Refused (of_transport transport.Class)
-transport_stop transport.Sequence = Refused (of_transport transport.Sequence)
-transport_stop transport.TsduLimit = Refused (of_transport transport.TsduLimit)
+transport_stop f = Refused (of_transport f)
 
 -- what a function stopped at is what the definition refuses, unless there was no memory
 abbrev pub IsStop : {Y : Type 0} → Stop → Result Y Cause → Type 0

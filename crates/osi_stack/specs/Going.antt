@@ -2,7 +2,7 @@
 use Rattle.std.specs.Prelude.{◌≡◌, ℕ, ◌+◌, ◌-◌, ◌^◌, ◌<◌, min, true, false, List, [], ◌++◌, length, Option, Some, None, Ok, ◌⊎◌}
 use Rattle.std.specs.Option.{option_to_list}
 use Rattle.std.specs.List.{AllByRecursion}
-use Rattle.tpkt_cotp.specs.declared.tsdus.Taken.{Taken}
+use Rattle.tpkt_cotp.specs.declared.tsdus.Tpkt.{Tpkt}
 use Rattle.tpkt_cotp.specs.declared.tsdus.Tsdu.{Tsdu}
 use Rattle.tpkt_cotp.specs.Stream.{IsReady}
 use Rattle.osi_stack.specs.declared.cause.Cause.{Cause}
@@ -43,13 +43,13 @@ Adds phase given next before now = (e : Option Event) × (gifts_at phase given �
 abbrev pub Stays : Stop → Phase → Option Tsdu → List Event → List Event → Type 0
 Stays s phase given before now = (now ≡ before) × IsStop s (gifts_at phase given)
 
-abbrev pub AddsTaken : Phase → ℕ → Option Taken → Phase → ℕ → List Event → List Event → Type 0
-AddsTaken phase octets None next count before now = (next ≡ phase) × (count ≡ octets) × (now ≡ before)
-AddsTaken phase octets (Some taken) next count before now = Adds phase taken.tsdu next before now × (count ≡ counted octets taken.octets)
+abbrev pub AddsTpkt : Phase → ℕ → Option Tpkt → Phase → ℕ → List Event → List Event → Type 0
+AddsTpkt phase octets None next count before now = (next ≡ phase) × (count ≡ octets) × (now ≡ before)
+AddsTpkt phase octets (Some taken) next count before now = Adds phase taken.tsdu next before now × (count ≡ counted octets taken.octets)
 
-abbrev pub StaysTaken : Stop → Phase → Option Taken → List Event → List Event → Type 0
-StaysTaken s phase None before now = ⊥
-StaysTaken s phase (Some taken) before now = Stays s phase taken.tsdu before now
+abbrev pub StaysTpkt : Stop → Phase → Option Tpkt → List Event → List Event → Type 0
+StaysTpkt s phase None before now = ⊥
+StaysTpkt s phase (Some taken) before now = Stays s phase taken.tsdu before now
 
 -- what is held, and octets behind it
 abbrev pub held_with : Link → List ℕ → List ℕ

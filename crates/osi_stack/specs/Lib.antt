@@ -1,3 +1,4 @@
+-- From what may be agreed to what an object stands for.
 pub mod Lines
 pub mod Framed
 pub mod Causes

@@ -11,7 +11,7 @@ use Rattle.osi_stack.specs.declared.phase.Phase.{Phase}
 use Rattle.osi_stack.specs.declared.phase.Phase.TheVariants.{Idle, Called, Open, Calling, Asking, Joined, Ended}
 use Rattle.osi_stack.specs.Causes.{of_transport}
 use Rattle.osi_stack.specs.Lines.{exponent_of, exponent_left}
-use Rattle.osi_stack.specs.Called.{Taken, called_at, open_at}
+use Rattle.osi_stack.specs.Called.{Outcome, called_at, open_at}
 use Rattle.osi_stack.specs.Calling.{request_spdu, asking_at, joined_at}
 
 -- a CR is answered by a CC
@@ -30,7 +30,7 @@ connect_at (Joined line) cr = confirmed cr
 connect_at Ended cr = confirmed cr
 
 -- Data come only behind the connection, and none behind the end.
-unfoldable pub data_at : Phase → List ℕ → Taken
+unfoldable pub data_at : Phase → List ℕ → Outcome
 data_at Idle octets = Err (of_transport transport.Sequence)
 data_at (Calling size) octets = Err (of_transport transport.Sequence)
 data_at (Called exponent) octets = called_at exponent octets
@@ -40,7 +40,7 @@ data_at (Joined line) octets = joined_at line octets
 data_at Ended octets = Ok (Ended, None)
 
 -- A DR and an ER end the association wherever they come.
-unfoldable pub tsdu_at : Phase → Tsdu → Taken
+unfoldable pub tsdu_at : Phase → Tsdu → Outcome
 tsdu_at phase (Connect cr) = Ok (connect_at phase cr)
 tsdu_at phase (Data octets) = data_at phase octets
 tsdu_at phase Disconnect = Ok (Ended, Some Aborted)

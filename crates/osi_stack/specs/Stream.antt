@@ -6,7 +6,7 @@ use Rattle.ber_grammar.specs.Reader.{◌>>=◌, with_fault}
 use Rattle.tpkt_cotp.specs.declared.fault.TpFault.{TpFault}
 use Rattle.tpkt_cotp.specs.declared.state.State.{State}
 use Rattle.tpkt_cotp.specs.declared.tsdus.Tsdu.{Tsdu}
-use Rattle.tpkt_cotp.specs.Octets.{IsBytes}
+use Rattle.ber_grammar.specs.Octets.{IsBytes}
 use Rattle.tpkt_cotp.specs.Packet.{packet, IsTpdu, IsPartial, IsBad}
 use Rattle.tpkt_cotp.specs.Tpdu.{tpdu_at}
 use Rattle.tpkt_cotp.specs.Stream.{start}

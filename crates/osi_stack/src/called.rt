@@ -11,7 +11,7 @@ ghost use Rattle.osi_stack.specs.Called.{CanBeAccepted, acceptance, request_at, 
 
 use crate::cause::Stop;
 use crate::events::{Event, Line};
-use crate::phase::{Phase, Taken};
+use crate::phase::{Phase, Transition};
 use acse_apdu::{read_aarq, read_rlrq, write_aare, write_rlre};
 use mms_pdu::{Initiate, read_initiate, write_initiate_answer};
 use session_pres::{
@@ -38,7 +38,7 @@ fn accept(alloc: Global, exponent: u8, cp: &Cp<'_>, asked: &Initiate) -> Result<
 
 /// Takes the user data of a CONNECT.
 #[tactic(auto, unfolding(crate::specs::Called::request_at))]
-fn request(alloc: Global, exponent: u8, user: &[u8]) -> Result<Taken, Stop>
+fn request(alloc: Global, exponent: u8, user: &[u8]) -> Result<Transition, Stop>
     requires exponent { IsExponent exponent }
     requires few { length user.now ≤ 70000 }
     ensures comes { Comes (λ x. x) result (request_at exponent user.now) }
@@ -61,7 +61,7 @@ fn request(alloc: Global, exponent: u8, user: &[u8]) -> Result<Taken, Stop>
 
 /// Takes the TSDU behind a CR.
 #[tactic(auto, unfolding(crate::specs::Called::called_at))]
-pub fn take_first(alloc: Global, exponent: u8, octets: &[u8]) -> Result<Taken, Stop>
+pub fn take_first(alloc: Global, exponent: u8, octets: &[u8]) -> Result<Transition, Stop>
     requires exponent { IsExponent exponent }
     requires few { length octets.now ≤ 70000 }
     ensures comes { Comes (λ x. x) result (called_at exponent octets.now) }
@@ -87,7 +87,7 @@ pub fn in_context(context: u32, user: &[u8]) -> Result<&[u8], Stop>
 
 /// Takes user data that carry a PDU of MMS; the phase stays.
 #[tactic(auto, unfolding(crate::specs::Called::pdu_in))]
-pub fn take_pdu(alloc: Global, phase: Phase, line: Line, user: &[u8]) -> Result<Taken, Stop>
+pub fn take_pdu(alloc: Global, phase: Phase, line: Line, user: &[u8]) -> Result<Transition, Stop>
     requires { IsAgreed phase }
     ensures comes { Comes (λ x. x) result (pdu_in phase line user.now) }
     ensures sound { IfOk result IsSound }
@@ -99,7 +99,7 @@ pub fn take_pdu(alloc: Global, phase: Phase, line: Line, user: &[u8]) -> Result<
 
 /// Takes a FINISH with the user data that it may have.
 #[tactic(auto, unfolding(crate::specs::Called::finish_at))]
-fn release(alloc: Global, line: Line, acse: u32, user: Option<&[u8]>) -> Result<Taken, Stop>
+fn release(alloc: Global, line: Line, acse: u32, user: Option<&[u8]>) -> Result<Transition, Stop>
     requires { IsLine line }
     ensures comes { Comes (λ x. x) result (finish_at line acse (user_now user.entry)) }
     ensures sound { IfOk result IsSound }
@@ -114,7 +114,7 @@ fn release(alloc: Global, line: Line, acse: u32, user: Option<&[u8]>) -> Result<
 
 /// Takes a TSDU of the association.
 #[tactic(auto, unfolding(crate::specs::Called::open_at))]
-pub fn take_next(alloc: Global, line: Line, acse: u32, octets: &[u8]) -> Result<Taken, Stop>
+pub fn take_next(alloc: Global, line: Line, acse: u32, octets: &[u8]) -> Result<Transition, Stop>
     requires { IsLine line }
     ensures comes { Comes (λ x. x) result (open_at line acse octets.now) }
     ensures sound { IfOk result IsSound }

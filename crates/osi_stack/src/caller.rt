@@ -1,3 +1,5 @@
+//! The side of a connection that calls.
+
 use crate::connection::Connection;
 use crate::events::{Events, Line};
 use crate::fault::StackFault;
@@ -21,7 +23,9 @@ impl Caller {
     ghost use Rattle.std.specs.Prelude.{◌≡◌, ℕ, List, [], ◌++◌, Err, IfOk, IfErr, MatchResult};
     ghost use Rattle.std.specs.List.{AllByRecursion};
     ghost use Rattle.tpkt_cotp.specs.Written.{IsExponent, call_of, tsdu_of};
+    ghost use Rattle.session_pres.specs.declared.codes.TheConstants.{FINISH};
     ghost use Rattle.session_pres.specs.Written.{release_spdu};
+    ghost use Rattle.acse_apdu.specs.declared.codes.TheConstants.{RLRQ};
     ghost use Rattle.acse_apdu.specs.Written.{release_octets};
     ghost use Rattle.osi_stack.specs.declared.events.Event.{Event};
     ghost use Rattle.osi_stack.specs.declared.fault.StackFault.{StackFault};
@@ -78,7 +82,7 @@ impl Caller {
     /// association control (ISO 8327-1, ISO 8650-1), in its TPKTs.
     pub fn release(alloc: Global, line: Line) -> Result<Octs, AllocError>
         requires { IsExponent line.exponent }
-        ensures { IfOk result (λ o. o ≡ tsdu_of line.exponent (release_spdu 9 1 (release_octets 98))) }
+        ensures { IfOk result (λ o. o ≡ tsdu_of line.exponent (release_spdu FINISH 1 (release_octets RLRQ))) }
     {
         let finish = write_fn(alloc, 1, &write_rlrq())?;
         tsdu(alloc, line.exponent, finish.as_slice())

@@ -10,9 +10,10 @@ ghost use Rattle.osi_stack.specs.Calling.{request_spdu, asking_at, end_at, joine
 use crate::called::{in_context, take_pdu};
 use crate::cause::Stop;
 use crate::events::{Event, Line};
-use crate::phase::{Phase, Taken};
+use crate::phase::{Phase, Transition};
 use acse_apdu::{read_aare, read_rlre, write_aarq};
 use mms_pdu::{read_initiate_answer, write_initiate_request};
+use session_pres::codes::DISCONNECT;
 use session_pres::{SpFault, Spdu, read_ac, read_dn, read_spdu, write_cn};
 use std::alloc::{AllocError, Global};
 use sv_base::Octs;
@@ -45,7 +46,12 @@ fn nothing(alloc: Global) -> Octs
 
 /// Takes the TSDU behind a CC.
 #[tactic(auto, unfolding(crate::specs::Calling::asking_at))]
-pub fn take_answer(alloc: Global, exponent: u8, size: u32, octets: &[u8]) -> Result<Taken, Stop>
+pub fn take_answer(
+    alloc: Global,
+    exponent: u8,
+    size: u32,
+    octets: &[u8],
+) -> Result<Transition, Stop>
     requires exponent { IsExponent exponent }
     requires size { IsProposal size }
     ensures comes { Comes (λ x. x) result (asking_at exponent size octets.now) }
@@ -67,7 +73,7 @@ pub fn take_answer(alloc: Global, exponent: u8, size: u32, octets: &[u8]) -> Res
 
 /// Takes a DISCONNECT with the user data that it may have.
 #[tactic(auto, unfolding(crate::specs::Calling::end_at))]
-fn end(alloc: Global, user: Option<&[u8]>) -> Result<Taken, Stop>
+fn end(alloc: Global, user: Option<&[u8]>) -> Result<Transition, Stop>
     ensures comes { Comes (λ x. x) result (end_at (user_now user.entry)) }
     ensures sound { IfOk result IsSound }
 {
@@ -79,12 +85,12 @@ fn end(alloc: Global, user: Option<&[u8]>) -> Result<Taken, Stop>
 
 /// Takes a TSDU of the association.
 #[tactic(auto, unfolding(crate::specs::Calling::joined_at))]
-pub fn take_served(alloc: Global, line: Line, octets: &[u8]) -> Result<Taken, Stop>
+pub fn take_served(alloc: Global, line: Line, octets: &[u8]) -> Result<Transition, Stop>
     requires { IsLine line }
     ensures comes { Comes (λ x. x) result (joined_at line octets.now) }
     ensures sound { IfOk result IsSound }
 {
-    if matches!(octets, [10, ..]) {
+    if matches!(octets, [DISCONNECT, ..]) {
         return end(alloc, read_dn(octets)?);
     }
     match read_spdu(octets)? {

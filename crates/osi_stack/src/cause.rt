@@ -1,6 +1,8 @@
+//! Why octets are not taken: one table of the layers' refusals.
+
 ghost use Rattle.std.specs.Prelude.{◌≡◌};
 ghost use Rattle.osi_stack.specs.declared.cause.Stop.TheVariants.{Memory, Refused};
-ghost use Rattle.osi_stack.specs.Causes.{of_session, of_association, of_initiate, transport_stop};
+ghost use Rattle.osi_stack.specs.Causes.{number_at, layer_at, refused_at, of_session, of_association, of_initiate, transport_stop};
 
 use acse_apdu::AcFault;
 use mms_pdu::PduFault;
@@ -32,20 +34,73 @@ impl From<AllocError> for Stop {
     }
 }
 
+/// A refusal of one of the layers.
+#[derive(Clone, Copy)]
+pub enum LayerFault {
+    Transport(TpFault),
+    Session(SpFault),
+    Association(AcFault),
+    Initiate(PduFault),
+}
+
+/// The layer: 1 the transport, 2 session and presentation, 3 association control, 4 the initiate of MMS.
+fn layer_of(fault: LayerFault) -> u8
+    ensures { result ≡ layer_at fault }
+{
+    match fault {
+        LayerFault::Transport(_) => 1,
+        LayerFault::Session(_) => 2,
+        LayerFault::Association(_) => 3,
+        LayerFault::Initiate(_) => 4,
+    }
+}
+
+/// The number of a refusal in its layer, from 1 in the order of the layer's tests. Want of memory is no refusal, and 0.
+fn number_of(fault: LayerFault) -> u8
+    ensures { result ≡ number_at fault }
+{
+    match fault {
+        LayerFault::Transport(TpFault::Version) => 1,
+        LayerFault::Transport(TpFault::Length) => 2,
+        LayerFault::Transport(TpFault::Tpdu) => 3,
+        LayerFault::Transport(TpFault::Class) => 4,
+        LayerFault::Transport(TpFault::Sequence) => 5,
+        LayerFault::Transport(TpFault::TsduLimit) => 6,
+        LayerFault::Transport(TpFault::Memory) => 0,
+        LayerFault::Session(SpFault::Spdu) => 1,
+        LayerFault::Session(SpFault::Parameter) => 2,
+        LayerFault::Session(SpFault::Mode) => 3,
+        LayerFault::Session(SpFault::NoAcseContext) => 4,
+        LayerFault::Session(SpFault::NoMmsContext) => 5,
+        LayerFault::Session(SpFault::Pdv) => 6,
+        LayerFault::Association(AcFault::Apdu) => 1,
+        LayerFault::Association(AcFault::ContextName) => 2,
+        LayerFault::Association(AcFault::NoUserInformation) => 3,
+        LayerFault::Initiate(PduFault::UnknownPdu) => 1,
+        LayerFault::Initiate(PduFault::UnknownService(_)) => 2,
+        LayerFault::Initiate(PduFault::Argument(_)) => 3,
+        LayerFault::Initiate(PduFault::Invalid) => 4,
+        LayerFault::Initiate(PduFault::SmallSize(_)) => 5,
+    }
+}
+
+fn refused(fault: LayerFault) -> Stop
+    ensures { result ≡ Refused (refused_at fault) }
+{
+    Stop::Refused(Cause {
+        layer: layer_of(fault),
+        code: number_of(fault),
+    })
+}
+
 impl From<TpFault> for Stop {
     ghost from_gives = { λ f e. e ≡ transport_stop f };
 
     fn from(fault: TpFault) -> Stop {
-        let code = match fault {
-            TpFault::Version => 1,
-            TpFault::Length => 2,
-            TpFault::Tpdu => 3,
-            TpFault::Class => 4,
-            TpFault::Sequence => 5,
-            TpFault::TsduLimit => 6,
-            TpFault::Memory => return Stop::Memory,
-        };
-        Stop::Refused(Cause { layer: 1, code })
+        match fault {
+            TpFault::Memory => Stop::Memory,
+            _ => refused(LayerFault::Transport(fault)),
+        }
     }
 }
 
@@ -53,15 +108,7 @@ impl From<SpFault> for Stop {
     ghost from_gives = { λ f e. e ≡ Refused (of_session f) };
 
     fn from(fault: SpFault) -> Stop {
-        let code = match fault {
-            SpFault::Spdu => 1,
-            SpFault::Parameter => 2,
-            SpFault::Mode => 3,
-            SpFault::NoAcseContext => 4,
-            SpFault::NoMmsContext => 5,
-            SpFault::Pdv => 6,
-        };
-        Stop::Refused(Cause { layer: 2, code })
+        refused(LayerFault::Session(fault))
     }
 }
 
@@ -69,12 +116,7 @@ impl From<AcFault> for Stop {
     ghost from_gives = { λ f e. e ≡ Refused (of_association f) };
 
     fn from(fault: AcFault) -> Stop {
-        let code = match fault {
-            AcFault::Apdu => 1,
-            AcFault::ContextName => 2,
-            AcFault::NoUserInformation => 3,
-        };
-        Stop::Refused(Cause { layer: 3, code })
+        refused(LayerFault::Association(fault))
     }
 }
 
@@ -82,13 +124,6 @@ impl From<PduFault> for Stop {
     ghost from_gives = { λ f e. e ≡ Refused (of_initiate f) };
 
     fn from(fault: PduFault) -> Stop {
-        let code = match fault {
-            PduFault::UnknownPdu => 1,
-            PduFault::UnknownService(_) => 2,
-            PduFault::Argument(_) => 3,
-            PduFault::Invalid => 4,
-            PduFault::SmallSize(_) => 5,
-        };
-        Stop::Refused(Cause { layer: 4, code })
+        refused(LayerFault::Initiate(fault))
     }
 }

@@ -1,3 +1,5 @@
+//! What has come of a connection's stream, on either side.
+
 ghost use Rattle.std.specs.Prelude.{◌≡◌, ◌≢◌, ◌<◌, [], ◌++◌, length, false, IfOk, MatchResult};
 ghost use Rattle.std.specs.Option.{option_to_list};
 ghost use Rattle.std.specs.List.{AllByRecursion};
@@ -5,7 +7,7 @@ ghost use Rattle.tpkt_cotp.specs.Stream.{gift};
 ghost use Rattle.tpkt_cotp.specs.Written.{Fits};
 ghost use Rattle.osi_stack.specs.Lines.{IsAgreed};
 ghost use Rattle.osi_stack.specs.Stream.{has_ended};
-ghost use Rattle.osi_stack.specs.Going.{IsUsable, fault_at, Adds, Stays, AddsTaken, StaysTaken, Went, IsHalted, WentAll, Halts};
+ghost use Rattle.osi_stack.specs.Going.{IsUsable, fault_at, Adds, Stays, AddsTpkt, StaysTpkt, Went, IsHalted, WentAll, Halts};
 
 use crate::cause::Stop;
 use crate::events::Events;
@@ -14,7 +16,7 @@ use crate::phase::Phase;
 use crate::taking::take;
 use std::alloc::Global;
 use std::marker::Model;
-use tpkt_cotp::{Taken, TransportIn, Tsdu};
+use tpkt_cotp::{Tpkt, TransportIn, Tsdu};
 
 /// What a connection keeps of its stream between two pieces.
 #[derive(Debug, Drop)]
@@ -75,18 +77,18 @@ fn take_given(
 }
 
 /// Takes what stepping gave: nothing where no TPKT is whole yet.
-fn take_taken(
+fn take_tpkt(
     alloc: Global,
     phase: &mut Phase,
     octets: &mut u64,
-    taken: Option<Taken>,
+    taken: Option<Tpkt>,
     events: &mut Events,
 ) -> Result<(), Stop>
     requires agreed { IsAgreed phase.old }
     requires fits { AllByRecursion Fits (option_to_list (gift taken)) }
     ensures { MatchResult result
-        (λ _. AddsTaken phase.old octets.old taken phase.new octets.new events.old events.new)
-        (λ s. StaysTaken s phase.old taken events.old events.new × (octets.new ≡ octets.old)) }
+        (λ _. AddsTpkt phase.old octets.old taken phase.new octets.new events.old events.new)
+        (λ s. StaysTpkt s phase.old taken events.old events.new × (octets.new ≡ octets.old)) }
 {
     if let Some(packet) = taken {
         take_given(alloc, phase, &packet.tsdu, events)?;
@@ -111,7 +113,7 @@ fn take_packet<'a>(
     ensures shorter { IfOk result (λ rest. length rest.now < length piece.now) }
 {
     let (taken, rest) = link.transport.step(alloc, piece)?;
-    take_taken(alloc, &mut link.phase, &mut link.octets, taken, events)?;
+    take_tpkt(alloc, &mut link.phase, &mut link.octets, taken, events)?;
     Ok(rest)
 }
 

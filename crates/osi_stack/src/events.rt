@@ -1,3 +1,5 @@
+//! What the octets of a connection come to: events, and the line that was agreed.
+
 use std::alloc::AllocError;
 use std::marker::Model;
 use sv_base::Octs;

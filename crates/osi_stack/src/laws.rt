@@ -1,3 +1,5 @@
+//! What is promised of all connections: each function here runs nothing, and its contract is a law.
+
 ghost use Rattle.std.specs.Prelude.{◌≡◌, ◌≤◌, ◌<◌, ◌^◌, ℕ, List, [], ◌∷◌, ◌++◌, length};
 ghost use Rattle.tpkt_cotp.specs.Written.{IsExponent};
 ghost use Rattle.session_pres.specs.Written.{IsOneElement, pdv_list};

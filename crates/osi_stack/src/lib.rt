@@ -2,32 +2,34 @@
 //! (ISO 8823-1), association control (ISO 8650-1) and the initiate of MMS (ISO 9506-2).
 #![tactic(auto)]
 
-mod called;
+// The two sides, and what both keep of a stream.
 mod caller;
-mod calling;
-mod cause;
 mod connection;
 mod events;
-mod fault;
-mod laws;
 mod phase;
+mod upper;
+
+// What a TSDU does to a connection, and what is sent.
+mod called;
+mod calling;
 mod sending;
 mod taking;
-mod upper;
+
+// Why a stream is refused, and what is promised of all.
+mod cause;
+mod fault;
+mod laws;
 
 // What comes.
 pub use events::{Event, Events, Line};
 pub use fault::StackFault;
-pub use upper::Upper;
 
-// What is promised of all streams.
-pub use laws::{a_stream_gives_one_list, frames_are_read_back, short_pdus_fit};
-
-// The side that calls.
+// The two sides.
 pub use caller::Caller;
+pub use upper::Upper;
 
 // What is sent.
 pub use sending::frames;
 
-#[cfg(test)]
-mod tests;
+// Laws.
+pub use laws::{a_stream_gives_one_list, frames_are_read_back, short_pdus_fit};

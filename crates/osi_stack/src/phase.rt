@@ -1,3 +1,5 @@
+//! Where a connection stands between two TSDUs.
+
 use crate::events::{Event, Line};
 
 /// Where a connection stands between two TSDUs.
@@ -21,4 +23,4 @@ pub enum Phase {
 }
 
 /// The phase that follows, and what is told of it.
-pub type Taken = (Phase, Option<Event>);
+pub type Transition = (Phase, Option<Event>);

@@ -1,3 +1,5 @@
+//! PDUs of MMS, framed for the other side.
+
 ghost use Rattle.std.specs.Prelude.{◌≡◌, ◌<◌, ◌^◌, length, IfOk};
 ghost use Rattle.session_pres.specs.Written.{pdv_list};
 ghost use Rattle.tpkt_cotp.specs.Written.{IsExponent};

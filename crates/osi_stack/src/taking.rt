@@ -10,13 +10,13 @@ use crate::called::{take_first, take_next};
 use crate::calling::{request, take_answer, take_served};
 use crate::cause::Stop;
 use crate::events::Event;
-use crate::phase::{Phase, Taken};
+use crate::phase::{Phase, Transition};
 use std::alloc::{AllocError, Global};
 use tpkt_cotp::{Cr, TpFault, Tsdu, confirm};
 
 /// Takes a CR, and answers it by a CC, or on the side that calls a CC, and answers it by a CONNECT.
 #[tactic(auto, unfolding(crate::specs::Machine::connect_at))]
-fn connect(alloc: Global, phase: Phase, cr: &Cr) -> Result<Taken, AllocError>
+fn connect(alloc: Global, phase: Phase, cr: &Cr) -> Result<Transition, AllocError>
     requires agreed { IsAgreed phase }
     requires fits { IsCr cr.now }
     ensures comes { IfOk result (λ x. x ≡ connect_at phase cr.now) }
@@ -36,7 +36,7 @@ fn connect(alloc: Global, phase: Phase, cr: &Cr) -> Result<Taken, AllocError>
 
 /// Takes the octets of a TSDU.
 #[tactic(auto, unfolding(crate::specs::Machine::data_at))]
-fn data(alloc: Global, phase: Phase, octets: &[u8]) -> Result<Taken, Stop>
+fn data(alloc: Global, phase: Phase, octets: &[u8]) -> Result<Transition, Stop>
     requires agreed { IsAgreed phase }
     requires few { length octets.now ≤ 70000 }
     ensures comes { Comes (λ x. x) result (data_at phase octets.now) }
@@ -54,7 +54,7 @@ fn data(alloc: Global, phase: Phase, octets: &[u8]) -> Result<Taken, Stop>
 
 /// Takes a TSDU.
 #[tactic(auto, unfolding(crate::specs::Machine::tsdu_at))]
-pub fn take(alloc: Global, phase: Phase, tsdu: &Tsdu) -> Result<Taken, Stop>
+pub fn take(alloc: Global, phase: Phase, tsdu: &Tsdu) -> Result<Transition, Stop>
     requires agreed { IsAgreed phase }
     requires fits { Fits tsdu.now }
     ensures comes { Comes (λ x. x) result (tsdu_at phase tsdu.now) }

@@ -1,3 +1,5 @@
+//! The side of a connection that was called.
+
 use crate::connection::Connection;
 use crate::events::Events;
 use crate::fault::StackFault;

@@ -15,15 +15,15 @@ use Rattle.sv_base.specs.declared.value.Value.{Value}
 use Rattle.sv_base.specs.declared.value.Value.TheVariants as values
 use Rattle.bay_model.specs.declared.step.Setting.{Setting}
 use Rattle.bay_model.specs.declared.step.Step.TheVariants as steps
-use Rattle.bay_model.specs.Configured.{kind_of}
+use Rattle.bay_rooms.specs.Kinds.{kind_of}
 use Rattle.bay_model.specs.Kinds.{is_in_range}
 use Rattle.bay_model.specs.Slots.{IsSettable}
 use Rattle.object_model.specs.Fits.{attr_types, is_typed, setting_fits, fits}
-use Rattle.cfg_text.specs.Numbers.{greatest}
-use Rattle.cfg_text.specs.Values.{value_at}
-use Rattle.cfg_text.specs.Grammar.{IsOfType}
-use Rattle.cfg_text.proofs.OptionLaws.{some_is}
-use Rattle.cfg_text.proofs.TellLaws.{value-tells}
+use Rattle.text_words.specs.Numbers.{greatest}
+use Rattle.text_words.specs.Values.{value_at}
+use Rattle.text_words.specs.Grammar.{IsOfType}
+use Rattle.ber_grammar.proofs.OptionLaws.{some_is}
+use Rattle.text_words.proofs.ReadWordLaws.{value-tells}
 use Rattle.record_steps.proofs.ValueLaws.{of-kind, sound, in-range}
 use Rattle.run_record.specs.declared.pairs.Pair.{Pair}
 use Rattle.record_steps.specs.Settings.{number_at, typed_at, setting, setting_of, setting_at, behind_those, settings_from, settings_at}

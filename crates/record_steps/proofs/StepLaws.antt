@@ -12,12 +12,12 @@ use Rattle.sv_base.specs.declared.numbers.AssocNo.{AssocNo}
 use Rattle.sv_base.specs.declared.numbers.BlockNo.{BlockNo}
 use Rattle.sv_base.specs.declared.value.Value.{Value}
 use Rattle.sv_base.specs.declared.value.Value.TheVariants as values
-use Rattle.bay_model.specs.declared.step.Comp.{Comp}
+use Rattle.bay_model.specs.declared.components.Comp.{Comp}
 use Rattle.bay_model.specs.declared.step.Step.{Step}
 use Rattle.bay_model.specs.declared.step.Step.TheVariants as steps
-use Rattle.cfg_text.specs.Words.{behind}
-use Rattle.cfg_text.specs.Numbers.{number_at, int_at}
-use Rattle.cfg_text.specs.Values.{read_as, truth_at, is_graphic, is_binary, hex_at}
+use Rattle.text_words.specs.Words.{behind}
+use Rattle.text_words.specs.Numbers.{number_at, int_at}
+use Rattle.text_words.specs.Values.{read_as, truth_at, is_graphic, is_binary, hex_at}
 use Rattle.object_model.specs.Fits.{fits, is_association, is_sound}
 use Rattle.object_model.specs.Numbers.{number_in}
 use Rattle.object_model.specs.References.{block_references}

@@ -1,8 +1,8 @@
 -- The components of a buffered report control block by their names (IEC 61850-7-2, BRCB; IEC 61850-8-1, their names).
 use Rattle.std.specs.Prelude.{ℕ, List, codes, Option, None, Some, if◌then◌else◌}
 use Rattle.std.specs.Str.{bytes_eq}
-use Rattle.bay_model.specs.declared.step.Comp.{Comp}
-use Rattle.bay_model.specs.declared.step.Comp.TheVariants as comps
+use Rattle.bay_model.specs.declared.components.Comp.{Comp}
+use Rattle.bay_model.specs.declared.components.Comp.TheVariants as comps
 
 abbrev pub component_at : List ℕ → Option Comp
 component_at word =

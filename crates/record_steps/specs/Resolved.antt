@@ -4,8 +4,8 @@ use Rattle.std.specs.Prelude.{ℕ, Bool, true, false, List, Option, None, Some, 
 use Rattle.sv_base.specs.declared.config.Config.{Config}
 use Rattle.sv_base.specs.declared.numbers.AssocNo.{AssocNo}
 use Rattle.sv_base.specs.declared.value.Value.{Value}
-use Rattle.bay_model.specs.declared.step.Comp.{Comp}
-use Rattle.bay_model.specs.declared.step.Comp.TheVariants as comps
+use Rattle.bay_model.specs.declared.components.Comp.{Comp}
+use Rattle.bay_model.specs.declared.components.Comp.TheVariants as comps
 use Rattle.bay_model.specs.declared.step.Setting.{Setting}
 use Rattle.bay_model.specs.declared.step.Step.{Step}
 use Rattle.bay_model.specs.declared.step.Step.TheVariants as steps

@@ -1,7 +1,7 @@
 //! The values that clients write, read by the shapes of their texts.
 
 ghost use Rattle.std.specs.Prelude.{◌≡◌, IfOk, codes, option_copied};
-ghost use Rattle.cfg_text.specs.Words.{behind};
+ghost use Rattle.text_words.specs.Words.{behind};
 ghost use Rattle.record_steps.specs.Shapes.{is_bits as is_bit_string, bits_of, number_of, text_of, marked_at, shape_at};
 
 use bay_model::Comp;

@@ -20,8 +20,8 @@ use Rattle.bay_model.specs.Outcomes.{deed_of}
 use Rattle.bay_model.specs.Writes.{write_component}
 use Rattle.bay_model.specs.Answers.{History, points}
 use Rattle.bay_model.specs.declared.answer.Answer.TheVariants as answers
-use Rattle.bay_model.specs.declared.step.Comp.{Comp}
-use Rattle.bay_model.specs.declared.step.Comp.TheVariants as comps
+use Rattle.bay_model.specs.declared.components.Comp.{Comp}
+use Rattle.bay_model.specs.declared.components.Comp.TheVariants as comps
 use Rattle.bay_model.specs.declared.step.Step.{Step}
 use Rattle.bay_model.specs.declared.step.Step.TheVariants as steps
 use Rattle.bay_model.proofs.Deeds.{component_}

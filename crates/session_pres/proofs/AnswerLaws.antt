@@ -9,15 +9,18 @@ use Rattle.ber_grammar.specs.Place.{Piece, Spot, placed, content_piece}
 use Rattle.ber_grammar.specs.Reader.{◌>>=◌}
 use Rattle.ber_grammar.proofs.ElementLaws.{IsTag-some, Begins-length}
 use Rattle.ber_write.specs.Minimal.{octets_of}
+use Rattle.session_pres.specs.declared.codes.TheConstants.{CONNECT, USER_DATA, NORMAL_MODE_PARAMETERS, CONTEXT_DEFINITION_LIST, CONTEXT_RESULT_LIST, SET}
 use Rattle.session_pres.specs.declared.fault.SpFault.{SpFault}
-use Rattle.session_pres.specs.Places.{AreElements, IsOnly, tagged}
-use Rattle.session_pres.specs.ContextList.{Context, AreFields, AreDefinitions, IsContextList, flags_from}
+use Rattle.ber_grammar.specs.Fields.{AreFields, IsOnly, first_with}
+use Rattle.session_pres.specs.ContextList.{Context, AreContextFields, AreDefinitions, IsContextList, flags_from}
 use Rattle.session_pres.specs.Presentation.{Request, HasParameters, IsCp, IsCpRefused}
 use Rattle.session_pres.specs.PresentationReading.{cp_at}
-use Rattle.session_pres.specs.Plain.{anywhere, told, connects, Asked, asked, spdu_from, cp_from}
+use Rattle.ber_grammar.specs.Place.{anywhere}
+use Rattle.session_pres.specs.Plain.{told, connects, Asked, asked, spdu_from, cp_from}
 use Rattle.session_pres.specs.Written.{user_octets, accept_parameters}
 use Rattle.session_pres.specs.WrittenPpdu.{set_content, result_octets, cpa_parameters, cpa_octets}
-use Rattle.session_pres.specs.Parameters.{Parameter, first_of_two, last_of, AreParameters}
+use Rattle.ber_grammar.specs.Reader.{first_of_two}
+use Rattle.session_pres.specs.Parameters.{Parameter, last_of, AreParameters}
 use Rattle.session_pres.specs.Units.{Seen, HasData, IsSpdu, IsSpduRefused, connect, transfer, finish, abort}
 use Rattle.session_pres.specs.UnitReading.{spdu_at}
 use Rattle.session_pres.proofs.UnitLaws.{spdu_exact}
@@ -39,7 +42,7 @@ row_weighs octets [] from row = omega arith
 row_weighs octets (e ∷ es) from (front, rest, s, p, row) =
     omega (arith, row_weighs rest es (from.0, from.1 + (e.head + length e.content)) row, Begins-length octets e rest (front, s, p), s.head, IsTag-some s.tag e.tag s.is_tag, length_some s.len (length e.content) s.is_length)
 
-elements_weigh : (content : Piece) (spots : List Spot) → AreElements content spots → weight spots ≤ length content.octets
+elements_weigh : (content : Piece) (spots : List Spot) → AreFields content spots → weight spots ≤ length content.octets
 elements_weigh content spots (es, row, is) = rw is (row_weighs content.octets es (content.block, content.place) row)
 
 only_within : (tag : ℕ) (whole content : Piece) → IsOnly tag whole content → length content.octets ≤ length whole.octets
@@ -49,13 +52,13 @@ by_tag : (b : Bool) (s : Spot) (later : Option Piece) (content : Piece) (n : ℕ
 by_tag true s later content n h step = let is : content_piece s ≡ content = cc (h) in rw (sym is) (omega arith)
 by_tag false s later content n h step = omega (arith, step h)
 
-tagged_within : (tag : ℕ) (spots : List Spot) (content : Piece) → tagged tag spots ≡ Some content → length content.octets ≤ weight spots
+tagged_within : (tag : ℕ) (spots : List Spot) (content : Piece) → first_with tag spots ≡ Some content → length content.octets ≤ weight spots
 tagged_within tag [] content h = absurd cc
-tagged_within tag (s ∷ ss) content h = by_tag (eqb s.element.tag tag) s (tagged tag ss) content (weight ss) h (tagged_within tag ss content)
+tagged_within tag (s ∷ ss) content h = by_tag (eqb s.element.tag tag) s (first_with tag ss) content (weight ss) h (tagged_within tag ss content)
 
 -- ---- how many contexts there can be
 
-fields_weigh : (fields : List Spot) (d : Context) → AreFields fields d → 6 ≤ weight fields
+fields_weigh : (fields : List Spot) (d : Context) → AreContextFields fields d → 6 ≤ weight fields
 fields_weigh [] d h = absurd h
 fields_weigh (a ∷ []) d h = absurd h
 fields_weigh (a ∷ b ∷ []) d h = absurd h
@@ -73,7 +76,7 @@ contexts_few content contexts (spots, are, is) = omega (arith, elements_weigh co
 
 parameters_within : (input parameters : Piece) → HasParameters input parameters → length parameters.octets ≤ length input.octets
 parameters_within input parameters (content, only, (set, are, (mode, normal, is))) =
-    omega (arith, only_within 49 input content only, elements_weigh content set are, tagged_within 162 set parameters is)
+    omega (arith, only_within SET input content only, elements_weigh content set are, tagged_within NORMAL_MODE_PARAMETERS set parameters is)
 
 -- ---- how many octets the results have
 
@@ -105,16 +108,16 @@ answer_fits list context count aare few results short =
       few,
       results,
       short,
-      element_few 165 (flat_map result_octets list) (omega arith),
+      element_few CONTEXT_RESULT_LIST (flat_map result_octets list) (omega arith),
       user_few context aare,
-      length-append (octets_of 165 (flat_map result_octets list)) (user_octets context aare),
+      length-append (octets_of CONTEXT_RESULT_LIST (flat_map result_octets list)) (user_octets context aare),
     ) in
     (omega (arith, most, set_few (cpa_parameters list context aare)), accept_short (cpa_octets list context aare) (omega (arith, most, ppdu_few (cpa_parameters list context aare))))
 
 request_fits : (input : Piece) (cp : Request) (aare : List ℕ) → IsCp input cp → length input.octets ≤ 70000 → length aare ≤ 16384
     → (length (set_content (cpa_parameters cp.list cp.acse aare)) < 2 ^ 32) × (length (accept_parameters (cpa_octets cp.list cp.acse aare)) ≤ 65535)
 request_fits input cp aare (parameters, has, (fields, are, (content, is, (contexts, list, (a, chosen_a, (m, chosen_m, (user, has_user, same))))))) few short =
-    answer_fits cp.list cp.acse (length contexts) aare (omega (arith, few, parameters_within input parameters has, elements_weigh parameters fields are, tagged_within 164 fields content is, contexts_few content contexts list))
+    answer_fits cp.list cp.acse (length contexts) aare (omega (arith, few, parameters_within input parameters has, elements_weigh parameters fields are, tagged_within CONTEXT_DEFINITION_LIST fields content is, contexts_few content contexts list))
     (rw same (omega (arith, results_weigh 0 (length contexts) a.place m.place))) short
 
 read_fits : (input : Piece) (r : Result Request SpFault) (cp : Asked) (aare : List ℕ) → MatchResult r (IsCp input) (IsCpRefused input) → (r >>= λ x. Ok (asked x)) ≡ Ok cp → length input.octets ≤ 70000 → length aare ≤ 16384
@@ -137,13 +140,13 @@ value_is : (b : Bool) (x v : Piece) → cond b (Some x) None ≡ Some v → leng
 value_is true x v h = let is : x ≡ v = cc (h) in rw (sym is) refl
 value_is false x v h = absurd cc
 
-value_within : (input : Piece) (ps : List Parameter) (v : Piece) → AreParameters input ps → last_of 193 ps ≡ Some v → length v.octets ≤ length input.octets
+value_within : (input : Piece) (ps : List Parameter) (v : Piece) → AreParameters input ps → last_of USER_DATA ps ≡ Some v → length v.octets ≤ length input.octets
 value_within input [] v are h = absurd cc
 value_within input (p ∷ ps) v (rest, begun, are) h =
     let whole : length input.octets ≡ 1 + (length begun.len + (length p.value.octets + length rest.octets)) = omega (arith, ap (λ (x : List ℕ). length x) begun.whole, length-append begun.len (p.value.octets ++ rest.octets), length-append p.value.octets rest.octets) in
-    elim (first_is (last_of 193 ps) (cond (eqb p.code 193) (Some p.value) None) v h) [
+    elim (first_is (last_of USER_DATA ps) (cond (eqb p.code USER_DATA) (Some p.value) None) v h) [
       | inl later ↦ omega (arith, whole, value_within rest ps v are later)
-      | inr here ↦ omega (arith, whole, value_is (eqb p.code 193) p.value v here)
+      | inr here ↦ omega (arith, whole, value_is (eqb p.code USER_DATA) p.value v here)
     ]
 
 data_within : (code : ℕ) (input user : Piece) → HasData code input user → length user.octets ≤ length input.octets
@@ -151,7 +154,7 @@ data_within code input user (given, (parameters, unit, (ps, are, cut, last)), is
     omega (arith, value_within parameters ps user are (sym last ∙ is), ap (λ (x : List ℕ). length x) unit.whole, length-append unit.len parameters.octets)
 
 told_within : (input : Piece) (r : Result Seen SpFault) (user : List ℕ) → MatchResult r (IsSpdu input) (IsSpduRefused input) → (r >>= λ x. Ok (told x)) ≡ Ok (connects user) → length user ≤ length input.octets
-told_within input (Ok (connect p)) user tells e = let is : p.octets ≡ user = cc (e) in rw (sym is) (data_within 13 input p tells)
+told_within input (Ok (connect p)) user tells e = let is : p.octets ≡ user = cc (e) in rw (sym is) (data_within CONNECT input p tells)
 told_within input (Ok (transfer p)) user tells e = absurd cc
 told_within input (Ok (finish p)) user tells e = absurd cc
 told_within input (Ok abort) user tells e = absurd cc

@@ -8,11 +8,11 @@ use Rattle.ber_grammar.specs.Element.{Element, IsRow}
 use Rattle.ber_grammar.specs.Place.{Spot, Piece, placed}
 use Rattle.ber_grammar.specs.Reader.{and_then}
 use Rattle.ber_grammar.proofs.ElementLaws.{Begins-shorter}
-use Rattle.session_pres.specs.Places.{elements_at}
-use Rattle.session_pres.specs.Parameters.{first_of_two}
+use Rattle.ber_grammar.specs.Fields.{fields_in}
+use Rattle.ber_grammar.specs.Reader.{first_of_two}
 use Rattle.session_pres.specs.ContextList.{Context, acse, mms, flags_from}
 use Rattle.session_pres.specs.ContextReading.{definition_at, definitions_at, context_list_at, first_of, further, Offered, offered}
-use Rattle.session_pres.proofs.PlaceLaws.{elements_found}
+use Rattle.ber_grammar.proofs.FieldLaws.{fields_found}
 use Rattle.session_pres.specs.ViewOfContexts.{if_first}
 
 -- ---- the first of an abstract syntax
@@ -52,9 +52,9 @@ length-placed : (from : ℕ × ℕ) (es : List Element) → length (placed from 
 length-placed from [] = refl
 length-placed from (e ∷ es) = omega (arith, length-placed (from.0, from.1 + (e.head + length e.content)) es)
 
-pub elements_few : (content : Piece) (spots : List Spot) → elements_at content ≡ Some spots → length spots ≤ length content.octets
+pub elements_few : (content : Piece) (spots : List Spot) → fields_in content ≡ Some spots → length spots ≤ length content.octets
 elements_few content spots h =
-    let found = elements_found content spots h in
+    let found = fields_found content spots h in
     omega (arith, row_length content.octets found.0 found.1, ap (λ (x : List Spot). length x) found.2, length-placed (content.block, content.place) found.0)
 
 -- ---- a loop over the list
@@ -106,11 +106,11 @@ ListGoes-all all rest known (before, h, is, count) end =
 pub ListGoes-room : (all rest after : List Spot) (s : Spot) (known : Offered) → ListGoes all rest known → rest ≡ s ∷ after → known.count < length all
 ListGoes-room all rest after s known (before, h, is, count) step = omega (arith, count, ap (λ (x : List Spot). length x) step, ap (λ (o : Offered). o.count) is)
 
-pub list_none : (content : Piece) → elements_at content ≡ None → context_list_at content ≡ None
+pub list_none : (content : Piece) → fields_in content ≡ None → context_list_at content ≡ None
 unfolding context_list_at
 list_none content h = rw h refl
 
-pub list_at : (content : Piece) (spots : List Spot) → elements_at content ≡ Some spots → context_list_at content ≡ definitions_at spots
+pub list_at : (content : Piece) (spots : List Spot) → fields_in content ≡ Some spots → context_list_at content ≡ definitions_at spots
 unfolding context_list_at
 list_at content spots h = rw h refl
 

@@ -5,10 +5,12 @@ use Rattle.std.specs.Option.{option_map}
 use Rattle.std.proofs.lemmas.Bool.{ltb-true, ltb-false, lt-ltb, le-ltb, cond_both}
 use Rattle.ber_grammar.specs.Octets.{IsBytes}
 use Rattle.ber_grammar.specs.Place.{Piece}
-use Rattle.session_pres.specs.Parameters.{IsLength, Parameter, BeginsWith, AreParameters, IsCut, IsUserOf, first_of_two, last_of}
+use Rattle.session_pres.specs.declared.codes.TheConstants.{CONNECT_ACCEPT_ITEM, USER_DATA}
+use Rattle.ber_grammar.specs.Reader.{first_of_two}
+use Rattle.session_pres.specs.Parameters.{IsLength, Parameter, BeginsWith, AreParameters, IsCut, IsUserOf, last_of}
 use Rattle.session_pres.specs.Units.{IsUnit}
 use Rattle.session_pres.specs.Written.{length_field, field}
-use Rattle.session_pres.proofs.PlaceLaws.{map_some}
+use Rattle.ber_grammar.proofs.OptionLaws.{map_some}
 
 length_field_is : (n : ℕ) → n ≤ 65535 → IsLength (length_field n) n
 length_field_is n le =
@@ -33,7 +35,7 @@ AllFit (f ∷ fs) = (length f.1 ≤ 65535) × AllFit fs
 
 abbrev pub AllCut : List Field → Type 0
 AllCut [] = Unit {0}
-AllCut (f ∷ fs) = (f.0 ≡ 5 → (inner : List Field) × AllFit inner × (f.1 ≡ fields inner)) × AllCut fs
+AllCut (f ∷ fs) = (f.0 ≡ CONNECT_ACCEPT_ITEM → (inner : List Field) × AllFit inner × (f.1 ≡ fields inner)) × AllCut fs
 
 are_fields : (fs : List Field) (input : Piece) → AllFit fs → input.octets ≡ fields fs → (ps : List Parameter) × AreParameters input ps × (map plain ps ≡ fs)
 unfolding field
@@ -74,10 +76,10 @@ cut_all [] h = tt
 cut_all (p ∷ ps) h = (λ e. let inner = h.0 e in let are = are_fields inner.0 p.value inner.1 inner.2 in (are.0, are.1), cut_all ps h.1)
 
 -- fields that cut have the user data of their last one of the code 193
-pub user_of_fields : (fs : List Field) (input : Piece) (v : List ℕ) → AllFit fs → AllCut fs → input.octets ≡ fields fs → last_field 193 fs ≡ Some v → (user : Piece) × IsUserOf input (Some user) × (user.octets ≡ v)
+pub user_of_fields : (fs : List Field) (input : Piece) (v : List ℕ) → AllFit fs → AllCut fs → input.octets ≡ fields fs → last_field USER_DATA fs ≡ Some v → (user : Piece) × IsUserOf input (Some user) × (user.octets ≡ v)
 user_of_fields fs input v fit cut p last =
     let are = are_fields fs input fit p in
-    let found = map_some (last_of 193 are.0) (λ q. q.octets) v (last_plain 193 are.0 ∙ ap (last_field 193) are.2 ∙ last) in
+    let found = map_some (last_of USER_DATA are.0) (λ q. q.octets) v (last_plain USER_DATA are.0 ∙ ap (last_field USER_DATA) are.2 ∙ last) in
     (found.0, (are.0, are.1, cut_all are.0 (subst AllCut (sym are.2) cut), sym found.1), sym found.2)
 
 -- an SPDU whose parameters are this body

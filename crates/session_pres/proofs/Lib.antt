@@ -1,6 +1,5 @@
-pub mod StepLaws
+-- What reading and writing SPDUs and PPDUs obey.
 pub mod ParameterLaws
-pub mod PlaceLaws
 pub mod ContextLaws
 pub mod UserDataLaws
 pub mod ListLaws

@@ -7,11 +7,13 @@ use Rattle.std.proofs.lemmas.Slice.Eq.{bytes_eq-Decides}
 use Rattle.ber_grammar.specs.Place.{Spot, Piece, content_piece}
 use Rattle.ber_grammar.specs.Reader.{and_then}
 use Rattle.ber_grammar.proofs.OptionLaws.{then_some, some_is, chosen, sides}
-use Rattle.session_pres.specs.Places.{elements_at}
+use Rattle.session_pres.specs.declared.codes.TheConstants.{INTEGER, OBJECT_IDENTIFIER, SEQUENCE}
+use Rattle.ber_grammar.specs.Fields.{fields_in}
 use Rattle.session_pres.specs.UserData.{context_at}
-use Rattle.session_pres.specs.ContextList.{Context, Chosen, ber, HasBer, SaysBer, AreFields, IsDefinition, AreDefinitions, IsContextList, IsFirst, IsChosen}
-use Rattle.session_pres.specs.ContextReading.{has_ber, fields_at, definition_at, definitions_at, context_list_at, further, first_of, chosen_at}
-use Rattle.session_pres.proofs.PlaceLaws.{map_some, elements_found, elements_again}
+use Rattle.session_pres.specs.ContextList.{Context, Chosen, ber, HasBer, SaysBer, AreContextFields, IsDefinition, AreDefinitions, IsContextList, IsFirst, IsChosen}
+use Rattle.session_pres.specs.ContextReading.{has_ber, context_fields_at, definition_at, definitions_at, context_list_at, further, first_of, chosen_at}
+use Rattle.ber_grammar.proofs.FieldLaws.{fields_found, fields_again}
+use Rattle.ber_grammar.proofs.OptionLaws.{map_some}
 use Rattle.session_pres.proofs.UserDataLaws.{context_found, context_again}
 
 -- ---- the same octets
@@ -45,9 +47,9 @@ later_tells s ss false h = tt
 has_ber_tells : (ss : List Spot) → BerTells ss (has_ber ss)
 has_ber_tells [] = tt
 has_ber_tells (s ∷ ss) =
-    cond_both (eqb s.element.tag 6) (cond (bytes_eq s.element.content ber) true (has_ber ss)) (has_ber ss) (λ b. BerTells (s ∷ ss) b)
+    cond_both (eqb s.element.tag OBJECT_IDENTIFIER) (cond (bytes_eq s.element.content ber) true (has_ber ss)) (has_ber ss) (λ b. BerTells (s ∷ ss) b)
     (λ t. cond_both (bytes_eq s.element.content ber) true (has_ber ss) (λ b. BerTells (s ∷ ss) b)
-    (λ e. inl (eqb-true s.element.tag 6 t, same_octets s.element.content ber e))
+    (λ e. inl (eqb-true s.element.tag OBJECT_IDENTIFIER t, same_octets s.element.content ber e))
     (λ e. later_tells s ss (has_ber ss) (has_ber_tells ss)))
     (λ t. later_tells s ss (has_ber ss) (has_ber_tells ss))
 
@@ -58,8 +60,8 @@ either_way false b = refl
 
 has_ber_again : (ss : List Spot) → HasBer ss → has_ber ss ≡ true
 has_ber_again [] h = absurd h
-has_ber_again (s ∷ ss) (inl (t, e)) = rw (eq-eqb s.element.tag 6 t, octets_same s.element.content ber e) refl
-has_ber_again (s ∷ ss) (inr h) = rw (has_ber_again ss h) (either_way (eqb s.element.tag 6) (bytes_eq s.element.content ber))
+has_ber_again (s ∷ ss) (inl (t, e)) = rw (eq-eqb s.element.tag OBJECT_IDENTIFIER t, octets_same s.element.content ber e) refl
+has_ber_again (s ∷ ss) (inr h) = rw (has_ber_again ss h) (either_way (eqb s.element.tag OBJECT_IDENTIFIER) (bytes_eq s.element.content ber))
 
 says_found : (ss : List Spot) (b : Bool) → has_ber ss ≡ b → SaysBer b ss
 says_found ss true e = subst (λ (b : Bool). BerTells ss b) e (has_ber_tells ss)
@@ -76,42 +78,42 @@ says_again ss false h = says_at ss (has_ber ss) refl h
 -- ---- one context
 
 abbrev of_three : Spot → Spot → Spot → Option Context
-of_three a b c = and_then (context_at a.element.content) (λ n. and_then (elements_at (content_piece c)) (λ syntaxes. Some (record { number = n; syntax = b.element.content; has_ber = has_ber syntaxes })))
+of_three a b c = and_then (context_at a.element.content) (λ n. and_then (fields_in (content_piece c)) (λ syntaxes. Some (record { number = n; syntax = b.element.content; has_ber = has_ber syntaxes })))
 
-fields_found : (fields : List Spot) (d : Context) → fields_at fields ≡ Some d → AreFields fields d
-unfolding fields_at
-fields_found [] d h = absurd cc
-fields_found (a ∷ []) d h = absurd cc
-fields_found (a ∷ b ∷ []) d h = absurd cc
-fields_found (a ∷ b ∷ c ∷ []) d h =
-    let ta = chosen (eqb a.element.tag 2) (cond (eqb b.element.tag 6) (cond (eqb c.element.tag 48) (of_three a b c) None) None) d h in
-    let tb = chosen (eqb b.element.tag 6) (cond (eqb c.element.tag 48) (of_three a b c) None) d ta.1 in
-    let tc = chosen (eqb c.element.tag 48) (of_three a b c) d tb.1 in
-    let n = then_some (context_at a.element.content) (λ n. and_then (elements_at (content_piece c)) (λ syntaxes. Some (record { number = n; syntax = b.element.content; has_ber = has_ber syntaxes }))) d tc.1 in
-    let ss = then_some (elements_at (content_piece c)) (λ syntaxes. Some (record { number = n.0; syntax = b.element.content; has_ber = has_ber syntaxes })) d n.2 in
-    subst (λ (x : Context). AreFields (a ∷ b ∷ c ∷ []) x) (some_is (record { number = n.0; syntax = b.element.content; has_ber = has_ber ss.0 }) d ss.2)
-    (eqb-true a.element.tag 2 ta.0, context_found a.element.content n.0 n.1, eqb-true b.element.tag 6 tb.0, refl, eqb-true c.element.tag 48 tc.0, ss.0, elements_found (content_piece c) ss.0 ss.1, says_found ss.0 (has_ber ss.0) refl)
-fields_found (a ∷ b ∷ c ∷ e ∷ more) d h = absurd cc
+context_fields_found : (fields : List Spot) (d : Context) → context_fields_at fields ≡ Some d → AreContextFields fields d
+unfolding context_fields_at
+context_fields_found [] d h = absurd cc
+context_fields_found (a ∷ []) d h = absurd cc
+context_fields_found (a ∷ b ∷ []) d h = absurd cc
+context_fields_found (a ∷ b ∷ c ∷ []) d h =
+    let ta = chosen (eqb a.element.tag INTEGER) (cond (eqb b.element.tag OBJECT_IDENTIFIER) (cond (eqb c.element.tag SEQUENCE) (of_three a b c) None) None) d h in
+    let tb = chosen (eqb b.element.tag OBJECT_IDENTIFIER) (cond (eqb c.element.tag SEQUENCE) (of_three a b c) None) d ta.1 in
+    let tc = chosen (eqb c.element.tag SEQUENCE) (of_three a b c) d tb.1 in
+    let n = then_some (context_at a.element.content) (λ n. and_then (fields_in (content_piece c)) (λ syntaxes. Some (record { number = n; syntax = b.element.content; has_ber = has_ber syntaxes }))) d tc.1 in
+    let ss = then_some (fields_in (content_piece c)) (λ syntaxes. Some (record { number = n.0; syntax = b.element.content; has_ber = has_ber syntaxes })) d n.2 in
+    subst (λ (x : Context). AreContextFields (a ∷ b ∷ c ∷ []) x) (some_is (record { number = n.0; syntax = b.element.content; has_ber = has_ber ss.0 }) d ss.2)
+    (eqb-true a.element.tag INTEGER ta.0, context_found a.element.content n.0 n.1, eqb-true b.element.tag OBJECT_IDENTIFIER tb.0, refl, eqb-true c.element.tag SEQUENCE tc.0, ss.0, fields_found (content_piece c) ss.0 ss.1, says_found ss.0 (has_ber ss.0) refl)
+context_fields_found (a ∷ b ∷ c ∷ e ∷ more) d h = absurd cc
 
-fields_again : (fields : List Spot) (d : Context) → AreFields fields d → fields_at fields ≡ Some d
-unfolding fields_at
-fields_again [] d h = absurd h
-fields_again (a ∷ []) d h = absurd h
-fields_again (a ∷ b ∷ []) d h = absurd h
-fields_again (a ∷ b ∷ c ∷ []) d (ta, n, tb, syntax, tc, ss, are, says) =
-    rw (eq-eqb a.element.tag 2 ta, eq-eqb b.element.tag 6 tb, eq-eqb c.element.tag 48 tc, context_again a.element.content d.number n, elements_again (content_piece c) ss are, says_again ss d.has_ber says, sym syntax) refl
-fields_again (a ∷ b ∷ c ∷ e ∷ more) d h = absurd h
+context_fields_again : (fields : List Spot) (d : Context) → AreContextFields fields d → context_fields_at fields ≡ Some d
+unfolding context_fields_at
+context_fields_again [] d h = absurd h
+context_fields_again (a ∷ []) d h = absurd h
+context_fields_again (a ∷ b ∷ []) d h = absurd h
+context_fields_again (a ∷ b ∷ c ∷ []) d (ta, n, tb, syntax, tc, ss, are, says) =
+    rw (eq-eqb a.element.tag INTEGER ta, eq-eqb b.element.tag OBJECT_IDENTIFIER tb, eq-eqb c.element.tag SEQUENCE tc, context_again a.element.content d.number n, fields_again (content_piece c) ss are, says_again ss d.has_ber says, sym syntax) refl
+context_fields_again (a ∷ b ∷ c ∷ e ∷ more) d h = absurd h
 
 definition_found : (s : Spot) (d : Context) → definition_at s ≡ Some d → IsDefinition s d
 unfolding definition_at
 definition_found s d h =
-    let t = chosen (eqb s.element.tag 48) (and_then (elements_at (content_piece s)) fields_at) d h in
-    let fields = then_some (elements_at (content_piece s)) fields_at d t.1 in
-    (eqb-true s.element.tag 48 t.0, fields.0, elements_found (content_piece s) fields.0 fields.1, fields_found fields.0 d fields.2)
+    let t = chosen (eqb s.element.tag SEQUENCE) (and_then (fields_in (content_piece s)) context_fields_at) d h in
+    let fields = then_some (fields_in (content_piece s)) context_fields_at d t.1 in
+    (eqb-true s.element.tag SEQUENCE t.0, fields.0, fields_found (content_piece s) fields.0 fields.1, context_fields_found fields.0 d fields.2)
 
 definition_again : (s : Spot) (d : Context) → IsDefinition s d → definition_at s ≡ Some d
 unfolding definition_at
-definition_again s d (t, fields, are, is) = rw (eq-eqb s.element.tag 48 t, elements_again (content_piece s) fields are) (fields_again fields d is)
+definition_again s d (t, fields, are, is) = rw (eq-eqb s.element.tag SEQUENCE t, fields_again (content_piece s) fields are) (context_fields_again fields d is)
 
 -- ---- the list
 
@@ -131,12 +133,12 @@ definitions_again (s ∷ ss) (d ∷ ds) h = rw (definition_again s d h.0, defini
 pub context_list_found : (content : Piece) (contexts : List Context) → context_list_at content ≡ Some contexts → IsContextList content contexts
 unfolding context_list_at
 context_list_found content contexts h =
-    let spots = then_some (elements_at content) definitions_at contexts h in
-    (spots.0, elements_found content spots.0 spots.1, definitions_found spots.0 contexts spots.2)
+    let spots = then_some (fields_in content) definitions_at contexts h in
+    (spots.0, fields_found content spots.0 spots.1, definitions_found spots.0 contexts spots.2)
 
 pub context_list_again : (content : Piece) (contexts : List Context) → IsContextList content contexts → context_list_at content ≡ Some contexts
 unfolding context_list_at
-context_list_again content contexts (spots, are, is) = rw (elements_again content spots are) (definitions_again spots contexts is)
+context_list_again content contexts (spots, are, is) = rw (fields_again content spots are) (definitions_again spots contexts is)
 
 -- ---- what is chosen
 

@@ -7,9 +7,11 @@ use Rattle.std.proofs.lemmas.Bool.{eqb-true, ltb-true, ltb-false, lt-ltb, le-ltb
 use Rattle.std.proofs.lemmas.List.{length-append, take_at, drop_at, length-take, take-append-drop, append-nil, nil_from_length}
 use Rattle.ber_grammar.specs.Place.{Piece}
 use Rattle.ber_grammar.specs.Reader.{and_then}
-use Rattle.ber_grammar.proofs.OptionLaws.{then_some, some_is, chosen}
+use Rattle.ber_grammar.proofs.OptionLaws.{then_some, some_is, chosen, first_none, first_first}
+use Rattle.session_pres.specs.declared.codes.TheConstants.{CONNECT_ACCEPT_ITEM, USER_DATA}
 use Rattle.session_pres.specs.Places.{front, behind}
-use Rattle.session_pres.specs.Parameters.{IsLength, Parameter, BeginsWith, AreParameters, IsCut, IsUserOf, first_of_two, last_of}
+use Rattle.ber_grammar.specs.Reader.{first_of_two}
+use Rattle.session_pres.specs.Parameters.{IsLength, Parameter, BeginsWith, AreParameters, IsCut, IsUserOf, last_of}
 use Rattle.session_pres.specs.ParameterReading.{length_at, head_at, parameter_at, bounded_parameters, parameters_at, is_cut, all_cut, if_user, user_at}
 
 -- ---- a length
@@ -201,16 +203,16 @@ some_true None e = absurd cc
 
 pub cut_found : (p : Parameter) → is_cut p ≡ true → IsCut p
 cut_found p h e =
-    let some : is_some (parameters_at p.value) ≡ true = sym (ap (λ (b : Bool). cond b (is_some (parameters_at p.value)) true) (eq-eqb p.code 5 e)) ∙ h in
+    let some : is_some (parameters_at p.value) ≡ true = sym (ap (λ (b : Bool). cond b (is_some (parameters_at p.value)) true) (eq-eqb p.code CONNECT_ACCEPT_ITEM e)) ∙ h in
     let inner = some_true (parameters_at p.value) some in
     (inner.0, parameters_found p.value inner.0 inner.1)
 
-cut_at : (p : Parameter) (b : Bool) → eqb p.code 5 ≡ b → IsCut p → cond b (is_some (parameters_at p.value)) true ≡ true
+cut_at : (p : Parameter) (b : Bool) → eqb p.code CONNECT_ACCEPT_ITEM ≡ b → IsCut p → cond b (is_some (parameters_at p.value)) true ≡ true
 cut_at p false e h = refl
-cut_at p true e h = let inner = h (eqb-true p.code 5 e) in rw (parameters_again p.value inner.0 inner.1) refl
+cut_at p true e h = let inner = h (eqb-true p.code CONNECT_ACCEPT_ITEM e) in rw (parameters_again p.value inner.0 inner.1) refl
 
 pub cut_again : (p : Parameter) → IsCut p → is_cut p ≡ true
-cut_again p h = cut_at p (eqb p.code 5) refl h
+cut_again p h = cut_at p (eqb p.code CONNECT_ACCEPT_ITEM) refl h
 
 pub both_true : (a b : Bool) → (a && b) ≡ true → (a ≡ true) × (b ≡ true)
 both_true true b e = (refl, e)
@@ -229,9 +231,9 @@ all_cut_again (p ∷ ps) h = rw (cut_again p h.0, all_cut_again ps h.1) refl
 pub user_found : (input : Piece) (user : Option Piece) → user_at input ≡ Some user → IsUserOf input user
 unfolding user_at
 user_found input user h =
-    let ps = then_some (parameters_at input) (λ ps. cond (all_cut ps) (Some (last_of 193 ps)) None) user h in
-    let c = chosen (all_cut ps.0) (Some (last_of 193 ps.0)) user ps.2 in
-    (ps.0, parameters_found input ps.0 ps.1, all_cut_found ps.0 c.0, sym (some_is (last_of 193 ps.0) user c.1))
+    let ps = then_some (parameters_at input) (λ ps. cond (all_cut ps) (Some (last_of USER_DATA ps)) None) user h in
+    let c = chosen (all_cut ps.0) (Some (last_of USER_DATA ps.0)) user ps.2 in
+    (ps.0, parameters_found input ps.0 ps.1, all_cut_found ps.0 c.0, sym (some_is (last_of USER_DATA ps.0) user c.1))
 
 pub user_again : (input : Piece) (user : Option Piece) → IsUserOf input user → user_at input ≡ Some user
 unfolding user_at
@@ -255,17 +257,9 @@ Goes-more : (before : List Parameter) (input rest after : Piece) (p : Parameter)
 Goes-more before input rest after p h some this =
     h ∙ ap (λ (r : Option (List Parameter)). and_then r (λ ps. Some (before ++ ps))) (parameters_step rest some ∙ rw this refl) ∙ one_before before p (parameters_at after)
 
-first_none : {A : Type 0} (a : Option A) → first_of_two a None ≡ a
-first_none (Some x) = refl
-first_none None = refl
-
-first_first : {A : Type 0} (a b c : Option A) → first_of_two (first_of_two a b) c ≡ first_of_two a (first_of_two b c)
-first_first (Some x) b c = refl
-first_first None b c = refl
-
-last_of-more : (ps : List Parameter) (p : Parameter) → last_of 193 (ps ++ p ∷ []) ≡ if_user p (last_of 193 ps)
-last_of-more [] p = sym (first_none (cond (eqb p.code 193) (Some p.value) None))
-last_of-more (q ∷ ps) p = rw (last_of-more ps p) (first_first (cond (eqb p.code 193) (Some p.value) None) (last_of 193 ps) (cond (eqb q.code 193) (Some q.value) None))
+last_of-more : (ps : List Parameter) (p : Parameter) → last_of USER_DATA (ps ++ p ∷ []) ≡ if_user p (last_of USER_DATA ps)
+last_of-more [] p = sym (first_none (cond (eqb p.code USER_DATA) (Some p.value) None))
+last_of-more (q ∷ ps) p = rw (last_of-more ps p) (sym (first_first (cond (eqb p.code USER_DATA) (Some p.value) None) (last_of USER_DATA ps) (cond (eqb q.code USER_DATA) (Some q.value) None)))
 
 all_cut-more : (ps : List Parameter) (p : Parameter) → all_cut ps ≡ true → is_cut p ≡ true → all_cut (ps ++ p ∷ []) ≡ true
 all_cut-more [] p h e = rw e refl
@@ -281,7 +275,7 @@ all_cut-uncut (q ∷ ps) p qs e = rw (all_cut-uncut ps p qs e) (and_false (is_cu
 
 -- what was read before the rest
 abbrev pub UserGoes : Piece → Piece → Option Piece → Type 0
-UserGoes input rest user = (before : List Parameter) × Goes before input rest × (all_cut before ≡ true) × (last_of 193 before ≡ user)
+UserGoes input rest user = (before : List Parameter) × Goes before input rest × (all_cut before ≡ true) × (last_of USER_DATA before ≡ user)
 
 pub UserGoes-none : (input : Piece) → UserGoes input input None
 UserGoes-none input = ([], none_before (parameters_at input), refl, refl)
@@ -297,7 +291,7 @@ UserGoes-broken input rest user (before, h, cut, last) some this =
     rw none refl
 
 uncut : (before : List Parameter) (p : Parameter) (r : Option (List Parameter)) → is_cut p ≡ false
-    → and_then (and_then r (λ ps. Some ((before ++ p ∷ []) ++ ps))) (λ ps. cond (all_cut ps) (Some (last_of 193 ps)) None) ≡ None
+    → and_then (and_then r (λ ps. Some ((before ++ p ∷ []) ++ ps))) (λ ps. cond (all_cut ps) (Some (last_of USER_DATA ps)) None) ≡ None
 uncut before p (Some ps) e = rw (append_assoc before (p ∷ []) ps, all_cut-uncut before p ps e) refl
 uncut before p None e = refl
 

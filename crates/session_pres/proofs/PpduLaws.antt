@@ -5,6 +5,7 @@ use Rattle.std.proofs.lemmas.List.{length-append}
 use Rattle.ber_grammar.specs.Element.{Element, IsRow}
 use Rattle.ber_grammar.specs.Place.{Spot, Piece, placed, content_piece}
 use Rattle.ber_write.specs.Minimal.{written, octets_of}
+use Rattle.session_pres.specs.declared.codes.TheConstants.{ACCEPT, CONNECT_ACCEPT_ITEM, USER_DATA, MODE_SELECTOR, NORMAL_MODE_PARAMETERS, CONTEXT_RESULT_LIST, RESULT, TRANSFER_SYNTAX, FULLY_ENCODED_DATA, SEQUENCE, SET}
 use Rattle.session_pres.specs.ContextList.{ber}
 use Rattle.session_pres.specs.Presentation.{HasParameters, IsAcceptance, IsCpa, IsAc}
 use Rattle.session_pres.specs.Written.{pdv_list, user_octets, field, accept_item, accept_parameters, accept_spdu, IsOneElement}
@@ -18,27 +19,27 @@ use Rattle.session_pres.proofs.ReadBackLaws.{plain_tag, row_more, row_last, only
 pub parameters_of : (input : Piece) (parameters : List ℕ) → length (set_content parameters) < 2 ^ 32 → input.octets ≡ ppdu parameters → (part : Piece) × HasParameters input part × (part.octets ≡ parameters)
 unfolding ppdu set_content
 parameters_of input parameters fits p =
-    let only = only_of input 49 (normal_mode ++ octets_of 162 parameters) (plain_tag 49 (omega arith) (λ q. omega (arith, q))) fits p in
-    let es : List Element = written 160 (128 ∷ 1 ∷ 1 ∷ []) ∷ written 162 parameters ∷ [] in
-    let row : IsRow (normal_mode ++ octets_of 162 parameters) es =
-    row_more 160 (128 ∷ 1 ∷ 1 ∷ []) (octets_of 162 parameters) (written 162 parameters ∷ []) (plain_tag 160 (omega arith) (λ q. omega (arith, q))) (omega arith)
-    (row_last 162 parameters (plain_tag 162 (omega arith) (λ q. omega (arith, q))) (omega (arith, fits, length-append normal_mode (octets_of 162 parameters), within 162 parameters))) in
+    let only = only_of input SET (normal_mode ++ octets_of NORMAL_MODE_PARAMETERS parameters) (plain_tag SET (omega arith) (λ q. omega (arith, q))) fits p in
+    let es : List Element = written MODE_SELECTOR (0x80 ∷ 0x01 ∷ 0x01 ∷ []) ∷ written NORMAL_MODE_PARAMETERS parameters ∷ [] in
+    let row : IsRow (normal_mode ++ octets_of NORMAL_MODE_PARAMETERS parameters) es =
+    row_more MODE_SELECTOR (0x80 ∷ 0x01 ∷ 0x01 ∷ []) (octets_of NORMAL_MODE_PARAMETERS parameters) (written NORMAL_MODE_PARAMETERS parameters ∷ []) (plain_tag MODE_SELECTOR (omega arith) (λ q. omega (arith, q))) (omega arith)
+    (row_last NORMAL_MODE_PARAMETERS parameters (plain_tag NORMAL_MODE_PARAMETERS (omega arith) (λ q. omega (arith, q))) (omega (arith, fits, length-append normal_mode (octets_of NORMAL_MODE_PARAMETERS parameters), within NORMAL_MODE_PARAMETERS parameters))) in
     let set = placed (only.0.block, only.0.place) es in
-    let mode : Piece = record { octets = 128 ∷ 1 ∷ 1 ∷ []; block = only.0.block; place = only.0.place + (written 160 (128 ∷ 1 ∷ 1 ∷ [])).head } in
-    let part : Piece = record { octets = parameters; block = only.0.block; place = only.0.place + ((written 160 (128 ∷ 1 ∷ 1 ∷ [])).head + 3) + (written 162 parameters).head } in
-    (part, (only.0, only.1, (set, elements_of only.0 (normal_mode ++ octets_of 162 parameters) es only.2 row, (mode, (refl, refl), refl))), refl)
+    let mode : Piece = record { octets = 0x80 ∷ 0x01 ∷ 0x01 ∷ []; block = only.0.block; place = only.0.place + (written MODE_SELECTOR (0x80 ∷ 0x01 ∷ 0x01 ∷ [])).head } in
+    let part : Piece = record { octets = parameters; block = only.0.block; place = only.0.place + ((written MODE_SELECTOR (0x80 ∷ 0x01 ∷ 0x01 ∷ [])).head + 3) + (written NORMAL_MODE_PARAMETERS parameters).head } in
+    (part, (only.0, only.1, (set, elements_of only.0 (normal_mode ++ octets_of NORMAL_MODE_PARAMETERS parameters) es only.2 row, (mode, (refl, refl), refl))), refl)
 
 -- ---- CPA
 
 abbrev result_content : List ℕ
-result_content = 128 ∷ 1 ∷ 0 ∷ 129 ∷ 2 ∷ 81 ∷ 1 ∷ []
+result_content = 0x80 ∷ 0x01 ∷ 0x00 ∷ 0x81 ∷ 0x02 ∷ 0x51 ∷ 0x01 ∷ []
 
-acceptance : (s : Spot) → s.element.tag ≡ 48 → s.element.content ≡ result_content → IsAcceptance s
+acceptance : (s : Spot) → s.element.tag ≡ SEQUENCE → s.element.content ≡ result_content → IsAcceptance s
 acceptance s t p =
-    let es : List Element = written 128 (0 ∷ []) ∷ written 129 ber ∷ [] in
+    let es : List Element = written RESULT (0 ∷ []) ∷ written TRANSFER_SYNTAX ber ∷ [] in
     let row : IsRow result_content es =
-    row_more 128 (0 ∷ []) (octets_of 129 ber) (written 129 ber ∷ []) (plain_tag 128 (omega arith) (λ q. omega (arith, q))) (omega arith)
-    (row_last 129 ber (plain_tag 129 (omega arith) (λ q. omega (arith, q))) (omega arith)) in (
+    row_more RESULT (0 ∷ []) (octets_of TRANSFER_SYNTAX ber) (written TRANSFER_SYNTAX ber ∷ []) (plain_tag RESULT (omega arith) (λ q. omega (arith, q))) (omega arith)
+    (row_last TRANSFER_SYNTAX ber (plain_tag TRANSFER_SYNTAX (omega arith) (λ q. omega (arith, q))) (omega arith)) in (
       t,
       placed (s.block, s.place) es,
       elements_of (content_piece s) result_content es p row,
@@ -58,21 +59,21 @@ pub cpa_back : (input : Piece) (aare : List ℕ) → IsOneElement aare → lengt
 unfolding cpa_octets cpa_parameters user_octets
 cpa_back input aare one fits p =
     let fit = cpa_fits (true ∷ true ∷ []) 1 aare fits in
-    let parameters = parameters_of input (octets_of 165 both ++ octets_of 97 (pdv_list 1 aare)) fits p in
-    let es : List Element = written 165 both ∷ written 97 (pdv_list 1 aare) ∷ [] in
-    let row : IsRow (octets_of 165 both ++ octets_of 97 (pdv_list 1 aare)) es =
-    row_more 165 both (octets_of 97 (pdv_list 1 aare)) (written 97 (pdv_list 1 aare) ∷ []) (plain_tag 165 (omega arith) (λ q. omega (arith, q))) (omega arith)
-    (row_last 97 (pdv_list 1 aare) (plain_tag 97 (omega arith) (λ q. omega (arith, q))) fit.1) in
+    let parameters = parameters_of input (octets_of CONTEXT_RESULT_LIST both ++ octets_of FULLY_ENCODED_DATA (pdv_list 1 aare)) fits p in
+    let es : List Element = written CONTEXT_RESULT_LIST both ∷ written FULLY_ENCODED_DATA (pdv_list 1 aare) ∷ [] in
+    let row : IsRow (octets_of CONTEXT_RESULT_LIST both ++ octets_of FULLY_ENCODED_DATA (pdv_list 1 aare)) es =
+    row_more CONTEXT_RESULT_LIST both (octets_of FULLY_ENCODED_DATA (pdv_list 1 aare)) (written FULLY_ENCODED_DATA (pdv_list 1 aare) ∷ []) (plain_tag CONTEXT_RESULT_LIST (omega arith) (λ q. omega (arith, q))) (omega arith)
+    (row_last FULLY_ENCODED_DATA (pdv_list 1 aare) (plain_tag FULLY_ENCODED_DATA (omega arith) (λ q. omega (arith, q))) fit.1) in
     let at = parameters.0 in
     let fields = placed (at.block, at.place) es in
     let content : Piece = record { octets = both; block = at.block; place = at.place + 2 } in
-    let values : Piece = record { octets = pdv_list 1 aare; block = at.block; place = at.place + (2 + length both) + (written 97 (pdv_list 1 aare)).head } in
-    let rs : List Element = written 48 result_content ∷ written 48 result_content ∷ [] in
+    let values : Piece = record { octets = pdv_list 1 aare; block = at.block; place = at.place + (2 + length both) + (written FULLY_ENCODED_DATA (pdv_list 1 aare)).head } in
+    let rs : List Element = written SEQUENCE result_content ∷ written SEQUENCE result_content ∷ [] in
     let rows : IsRow both rs =
-    row_more 48 result_content (octets_of 48 result_content) (written 48 result_content ∷ []) (plain_tag 48 (omega arith) (λ q. omega (arith, q))) (omega arith)
-    (row_last 48 result_content (plain_tag 48 (omega arith) (λ q. omega (arith, q))) (omega arith)) in
-    let first : Spot = record { element = written 48 result_content; block = content.block; place = content.place + 2 } in
-    let second : Spot = record { element = written 48 result_content; block = content.block; place = content.place + (2 + 7) + 2 } in
+    row_more SEQUENCE result_content (octets_of SEQUENCE result_content) (written SEQUENCE result_content ∷ []) (plain_tag SEQUENCE (omega arith) (λ q. omega (arith, q))) (omega arith)
+    (row_last SEQUENCE result_content (plain_tag SEQUENCE (omega arith) (λ q. omega (arith, q))) (omega arith)) in
+    let first : Spot = record { element = written SEQUENCE result_content; block = content.block; place = content.place + 2 } in
+    let second : Spot = record { element = written SEQUENCE result_content; block = content.block; place = content.place + (2 + 7) + 2 } in
     let pdv = pdv_of values 1 aare (omega arith) one fit.1 refl in (
       pdv.0,
       (
@@ -80,7 +81,7 @@ cpa_back input aare one fits p =
         parameters.1,
         (
           fields,
-          elements_of at (octets_of 165 both ++ octets_of 97 (pdv_list 1 aare)) es parameters.2 row,
+          elements_of at (octets_of CONTEXT_RESULT_LIST both ++ octets_of FULLY_ENCODED_DATA (pdv_list 1 aare)) es parameters.2 row,
           (
             content,
             refl,
@@ -97,7 +98,7 @@ cpa_back input aare one fits p =
 
 set_fits : (aare : List ℕ) → length (cpa_octets (true ∷ true ∷ []) 1 aare) ≤ 65535 → length (set_content (cpa_parameters (true ∷ true ∷ []) 1 aare)) < 2 ^ 32
 unfolding cpa_octets ppdu
-set_fits aare fits = omega (arith, fits, within 49 (set_content (cpa_parameters (true ∷ true ∷ []) 1 aare)))
+set_fits aare fits = omega (arith, fits, within SET (set_content (cpa_parameters (true ∷ true ∷ []) 1 aare)))
 
 pub accept_back : (input : Piece) (aare : List ℕ) → IsOneElement aare → length (accept_parameters (cpa_octets (true ∷ true ∷ []) 1 aare)) ≤ 65535 → input.octets ≡ accept_spdu (cpa_octets (true ∷ true ∷ []) 1 aare)
     → (user : Piece) × IsAc input user × (user.octets ≡ aare)
@@ -105,11 +106,11 @@ unfolding accept_spdu accept_parameters field
 accept_back input aare one fits p =
     let cpa = cpa_octets (true ∷ true ∷ []) 1 aare in
     let fit = accept_fits cpa fits in
-    let unit = unit_of_field 14 input (accept_item ++ field 193 cpa) fits p in
-    let fs : List Field = (5, 0x13 ∷ 1 ∷ 0 ∷ 0x16 ∷ 1 ∷ 2 ∷ []) ∷ (0x14, 0 ∷ 2 ∷ []) ∷ (193, cpa) ∷ [] in
+    let unit = unit_of_field ACCEPT input (accept_item ++ field USER_DATA cpa) fits p in
+    let fs : List Field = (CONNECT_ACCEPT_ITEM, 0x13 ∷ 1 ∷ 0 ∷ 0x16 ∷ 1 ∷ 2 ∷ []) ∷ (0x14, 0 ∷ 2 ∷ []) ∷ (USER_DATA, cpa) ∷ [] in
     let inner : List Field = (0x13, 0 ∷ []) ∷ (0x16, 2 ∷ []) ∷ [] in
     let user = user_of_fields fs unit.0 cpa (omega arith, (omega arith, (fit, tt))) ((λ e. (inner, (omega arith, (omega arith, tt)), refl)), ((λ e. absurd (omega (arith, e))), ((λ e. absurd (omega (arith, e))), tt)))
-    (unit.2 ∙ ap (λ (x : List ℕ). accept_item ++ x) (sym (append-nil (field 193 cpa)))) refl in
+    (unit.2 ∙ ap (λ (x : List ℕ). accept_item ++ x) (sym (append-nil (field USER_DATA cpa)))) refl in
     let set = set_fits aare fit in
     let found = cpa_back user.0 aare one set user.2 in
     (found.0, (user.0, (Some user.0, (unit.0, unit.1, user.1), refl), found.1), found.2)

@@ -6,10 +6,11 @@ use Rattle.ber_grammar.specs.Place.{Spot, Piece, content_piece}
 use Rattle.ber_grammar.specs.Reader.{◌>>=◌, and_then, Gives, Reads}
 use Rattle.ber_grammar.proofs.OptionLaws.{then_some, some_is, chosen}
 use Rattle.ber_grammar.proofs.ReaderLaws.{reads_from}
+use Rattle.session_pres.specs.declared.codes.TheConstants.{ACCEPT, MODE_SELECTOR, NORMAL_MODE_PARAMETERS, CONTEXT_DEFINITION_LIST, CONTEXT_RESULT_LIST, RESULT, TRANSFER_SYNTAX, FULLY_ENCODED_DATA, SEQUENCE, SET}
 use Rattle.session_pres.specs.declared.fault.SpFault.{SpFault}
 use Rattle.session_pres.specs.declared.fault.SpFault.TheVariants as faults
-use Rattle.session_pres.specs.Steps.{IsLacking, required}
-use Rattle.session_pres.specs.Places.{AreElements, IsOnly, elements_at, only_at, tagged}
+use Rattle.ber_grammar.specs.Steps.{IsLacking, required}
+use Rattle.ber_grammar.specs.Fields.{AreFields, IsOnly, fields_in, only_with, first_with}
 use Rattle.session_pres.specs.Units.{HasData, IsDataRefused}
 use Rattle.session_pres.specs.UnitReading.{data_of}
 use Rattle.session_pres.specs.UserData.{pdv_list_at}
@@ -17,11 +18,11 @@ use Rattle.session_pres.specs.ContextList.{IsContextList, IsChosen, ber, acse, m
 use Rattle.session_pres.specs.ContextReading.{context_list_at, chosen_at}
 use Rattle.session_pres.specs.Presentation.{IsTagged, IsNormal, IsUser, Request, request, HasParameters, AreParametersRefused, IsCp, IsCpRefused, IsAcceptance, first_in, second_in, IsAccepted, IsCpa, IsCpaRefused, IsAc, IsAcRefused}
 use Rattle.session_pres.specs.PresentationReading.{if_octets, normal_at, parameters_in, if_context, user_in, cp_at, accepted_at, cpa_at, ac_at}
-use Rattle.session_pres.proofs.PlaceLaws.{elements_found, elements_again, only_found, only_again}
+use Rattle.ber_grammar.proofs.FieldLaws.{fields_found, fields_again, only_with-found, only_with-again}
 use Rattle.session_pres.proofs.UserDataLaws.{pdv_list_found, pdv_list_again}
 use Rattle.session_pres.proofs.ListLaws.{same_octets, octets_same, context_list_found, context_list_again, chosen_found, chosen_again}
 use Rattle.session_pres.proofs.UnitLaws.{data_exact}
-use Rattle.session_pres.proofs.StepLaws.{Exact, then_exact, step_exact, required_exact, made_exact}
+use Rattle.ber_grammar.proofs.StepLaws.{Exact, then_exact, step_exact, required_exact, made_exact}
 
 -- ---- the mode
 
@@ -36,19 +37,19 @@ if_octets_again octets o part p q = rw p (rw (octets_same part.octets octets q) 
 
 normal_found : (fields : List Spot) (mode : Piece) → normal_at fields ≡ Some mode → IsNormal fields mode
 unfolding normal_at
-normal_found fields mode h = if_octets_found (128 ∷ 1 ∷ 1 ∷ []) (tagged 160 fields) mode h
+normal_found fields mode h = if_octets_found (0x80 ∷ 0x01 ∷ 0x01 ∷ []) (first_with MODE_SELECTOR fields) mode h
 
 normal_again : (fields : List Spot) (mode : Piece) → IsNormal fields mode → normal_at fields ≡ Some mode
 unfolding normal_at
-normal_again fields mode h = if_octets_again (128 ∷ 1 ∷ 1 ∷ []) (tagged 160 fields) mode h.0 h.1
+normal_again fields mode h = if_octets_again (0x80 ∷ 0x01 ∷ 0x01 ∷ []) (first_with MODE_SELECTOR fields) mode h.0 h.1
 
 pub parameters_exact : (input : Piece) → Exact (parameters_in input) (HasParameters input) (AreParametersRefused input)
 unfolding parameters_in
 parameters_exact input =
-    step_exact (only_at 49 input) faults.Parameter _ (IsOnly 49 input) _ _ (only_found 49 input) (only_again 49 input) (λ content s.
-    step_exact (elements_at content) faults.Parameter _ (AreElements content) _ _ (elements_found content) (elements_again content) (λ set t.
+    step_exact (only_with SET input) faults.Parameter _ (IsOnly SET input) _ _ (only_with-found SET input) (only_with-again SET input) (λ content s.
+    step_exact (fields_in content) faults.Parameter _ (AreFields content) _ _ (fields_found content) (fields_again content) (λ set t.
     step_exact (normal_at set) faults.Mode _ (IsNormal set) _ _ (normal_found set) (normal_again set) (λ mode u.
-    required_exact (tagged 162 set) faults.NoAcseContext (IsTagged 162 set) (λ x h. h) (λ x h. h))))
+    required_exact (first_with NORMAL_MODE_PARAMETERS set) faults.NoAcseContext (IsTagged NORMAL_MODE_PARAMETERS set) (λ x h. h) (λ x h. h))))
 
 -- ---- the user data
 
@@ -61,7 +62,7 @@ if_context_found number (Some pdv) user h =
 user_found : (fields : List Spot) (number : ℕ) (user : Piece) → user_in fields number ≡ Some user → IsUser fields number user
 unfolding user_in
 user_found fields number user h =
-    let values = then_some (tagged 97 fields) pdv_list_at (number, user) (if_context_found number (and_then (tagged 97 fields) pdv_list_at) user h) in
+    let values = then_some (first_with FULLY_ENCODED_DATA fields) pdv_list_at (number, user) (if_context_found number (and_then (first_with FULLY_ENCODED_DATA fields) pdv_list_at) user h) in
     (values.0, values.1, pdv_list_found values.0 (number, user) values.2)
 
 user_again : (fields : List Spot) (number : ℕ) (user : Piece) → IsUser fields number user → user_in fields number ≡ Some user
@@ -74,8 +75,8 @@ pub cp_exact : (input : Piece) → Exact (cp_at input) (IsCp input) (IsCpRefused
 unfolding cp_at
 cp_exact input =
     then_exact (parameters_in input) _ (HasParameters input) (AreParametersRefused input) _ _ (parameters_exact input) (λ parameters p.
-    step_exact (elements_at parameters) faults.Parameter _ (AreElements parameters) _ _ (elements_found parameters) (elements_again parameters) (λ fields q.
-    step_exact (tagged 164 fields) faults.NoAcseContext _ (IsTagged 164 fields) _ _ (λ x h. h) (λ x h. h) (λ content r.
+    step_exact (fields_in parameters) faults.Parameter _ (AreFields parameters) _ _ (fields_found parameters) (fields_again parameters) (λ fields q.
+    step_exact (first_with CONTEXT_DEFINITION_LIST fields) faults.NoAcseContext _ (IsTagged CONTEXT_DEFINITION_LIST fields) _ _ (λ x h. h) (λ x h. h) (λ content r.
     step_exact (context_list_at content) faults.Parameter _ (IsContextList content) _ _ (context_list_found content) (context_list_again content) (λ contexts s.
     step_exact (chosen_at acse contexts) faults.NoAcseContext _ (IsChosen acse contexts) _ _ (chosen_found acse contexts) (chosen_again acse contexts) (λ a t.
     step_exact (chosen_at mms contexts) faults.NoMmsContext _ (IsChosen mms contexts) _ _ (chosen_found mms contexts) (chosen_again mms contexts) (λ m u.
@@ -87,34 +88,34 @@ cp_reads view r input g = reads_from view r (cp_at input) (IsCp input) (IsCpRefu
 
 -- ---- CPA
 
-acceptance_found : (s : Spot) → (fields : List Spot) → AreElements (content_piece s) fields → (result syntax : Piece) → if_octets (0 ∷ []) (tagged 128 fields) ≡ Some result → if_octets ber (tagged 129 fields) ≡ Some syntax → s.element.tag ≡ 48 → IsAcceptance s
+acceptance_found : (s : Spot) → (fields : List Spot) → AreFields (content_piece s) fields → (result syntax : Piece) → if_octets (0 ∷ []) (first_with RESULT fields) ≡ Some result → if_octets ber (first_with TRANSFER_SYNTAX fields) ≡ Some syntax → s.element.tag ≡ SEQUENCE → IsAcceptance s
 acceptance_found s fields are result syntax p q t =
-    let a = if_octets_found (0 ∷ []) (tagged 128 fields) result p in
-    let b = if_octets_found ber (tagged 129 fields) syntax q in
+    let a = if_octets_found (0 ∷ []) (first_with RESULT fields) result p in
+    let b = if_octets_found ber (first_with TRANSFER_SYNTAX fields) syntax q in
     (t, fields, are, result, syntax, a.0, a.1, b.0, b.1)
 
 accepted_found : (o : Option Spot) (s : Spot) → accepted_at o ≡ Some s → IsAccepted o s
 unfolding accepted_at
 accepted_found None s h = absurd cc
 accepted_found (Some x) s h =
-    let t = chosen (eqb x.element.tag 48) (and_then (elements_at (content_piece x)) (λ fields. and_then (if_octets (0 ∷ []) (tagged 128 fields)) (λ result. and_then (if_octets ber (tagged 129 fields)) (λ syntax. Some x)))) s h in
-    let fields = then_some (elements_at (content_piece x)) (λ fields. and_then (if_octets (0 ∷ []) (tagged 128 fields)) (λ result. and_then (if_octets ber (tagged 129 fields)) (λ syntax. Some x))) s t.1 in
-    let result = then_some (if_octets (0 ∷ []) (tagged 128 fields.0)) (λ result. and_then (if_octets ber (tagged 129 fields.0)) (λ syntax. Some x)) s fields.2 in
-    let syntax = then_some (if_octets ber (tagged 129 fields.0)) (λ syntax. Some x) s result.2 in
-    (syntax.2, subst IsAcceptance (some_is x s syntax.2) (acceptance_found x fields.0 (elements_found (content_piece x) fields.0 fields.1) result.0 syntax.0 result.1 syntax.1 (eqb-true x.element.tag 48 t.0)))
+    let t = chosen (eqb x.element.tag SEQUENCE) (and_then (fields_in (content_piece x)) (λ fields. and_then (if_octets (0 ∷ []) (first_with RESULT fields)) (λ result. and_then (if_octets ber (first_with TRANSFER_SYNTAX fields)) (λ syntax. Some x)))) s h in
+    let fields = then_some (fields_in (content_piece x)) (λ fields. and_then (if_octets (0 ∷ []) (first_with RESULT fields)) (λ result. and_then (if_octets ber (first_with TRANSFER_SYNTAX fields)) (λ syntax. Some x))) s t.1 in
+    let result = then_some (if_octets (0 ∷ []) (first_with RESULT fields.0)) (λ result. and_then (if_octets ber (first_with TRANSFER_SYNTAX fields.0)) (λ syntax. Some x)) s fields.2 in
+    let syntax = then_some (if_octets ber (first_with TRANSFER_SYNTAX fields.0)) (λ syntax. Some x) s result.2 in
+    (syntax.2, subst IsAcceptance (some_is x s syntax.2) (acceptance_found x fields.0 (fields_found (content_piece x) fields.0 fields.1) result.0 syntax.0 result.1 syntax.1 (eqb-true x.element.tag SEQUENCE t.0)))
 
 accepted_again : (o : Option Spot) (s : Spot) → IsAccepted o s → accepted_at o ≡ Some s
 unfolding accepted_at
 accepted_again o s (at, (t, fields, are, result, syntax, p, q, u, v)) =
-    rw at (rw (eq-eqb s.element.tag 48 t, elements_again (content_piece s) fields are, if_octets_again (0 ∷ []) (tagged 128 fields) result p q, if_octets_again ber (tagged 129 fields) syntax u v) refl)
+    rw at (rw (eq-eqb s.element.tag SEQUENCE t, fields_again (content_piece s) fields are, if_octets_again (0 ∷ []) (first_with RESULT fields) result p q, if_octets_again ber (first_with TRANSFER_SYNTAX fields) syntax u v) refl)
 
 pub cpa_exact : (input : Piece) → Exact (cpa_at input) (IsCpa input) (IsCpaRefused input)
 unfolding cpa_at
 cpa_exact input =
     then_exact (parameters_in input) _ (HasParameters input) (AreParametersRefused input) _ _ (parameters_exact input) (λ parameters p.
-    step_exact (elements_at parameters) faults.Parameter _ (AreElements parameters) _ _ (elements_found parameters) (elements_again parameters) (λ fields q.
-    step_exact (tagged 165 fields) faults.NoAcseContext _ (IsTagged 165 fields) _ _ (λ x h. h) (λ x h. h) (λ content r.
-    step_exact (elements_at content) faults.Parameter _ (AreElements content) _ _ (elements_found content) (elements_again content) (λ results s.
+    step_exact (fields_in parameters) faults.Parameter _ (AreFields parameters) _ _ (fields_found parameters) (fields_again parameters) (λ fields q.
+    step_exact (first_with CONTEXT_RESULT_LIST fields) faults.NoAcseContext _ (IsTagged CONTEXT_RESULT_LIST fields) _ _ (λ x h. h) (λ x h. h) (λ content r.
+    step_exact (fields_in content) faults.Parameter _ (AreFields content) _ _ (fields_found content) (fields_again content) (λ results s.
     step_exact (accepted_at (first_in results)) faults.NoAcseContext _ (IsAccepted (first_in results)) _ _ (accepted_found (first_in results)) (accepted_again (first_in results)) (λ a t.
     step_exact (accepted_at (second_in results)) faults.NoMmsContext _ (IsAccepted (second_in results)) _ _ (accepted_found (second_in results)) (accepted_again (second_in results)) (λ m u.
     required_exact (user_in fields 1) faults.Pdv (IsUser fields 1) (user_found fields 1) (user_again fields 1)))))))
@@ -122,5 +123,5 @@ cpa_exact input =
 pub ac_reads : {X : Type 0} (view : X → Piece) (r : Result X SpFault) (input : Piece) → Gives view r (ac_at input) → Reads view r (IsAc input) (IsAcRefused input)
 unfolding ac_at
 ac_reads view r input g =
-    reads_from view r (data_of 14 input >>= cpa_at) (IsAc input) (IsAcRefused input)
-    (then_exact (data_of 14 input) cpa_at (HasData 14 input) (IsDataRefused 14 input) IsCpa IsCpaRefused (data_exact 14 input) (λ cpa s. cpa_exact cpa)) g
+    reads_from view r (data_of ACCEPT input >>= cpa_at) (IsAc input) (IsAcRefused input)
+    (then_exact (data_of ACCEPT input) cpa_at (HasData ACCEPT input) (IsDataRefused ACCEPT input) IsCpa IsCpaRefused (data_exact ACCEPT input) (λ cpa s. cpa_exact cpa)) g

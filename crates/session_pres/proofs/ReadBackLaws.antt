@@ -7,7 +7,8 @@ use Rattle.ber_grammar.specs.Place.{Spot, Piece, placed, content_piece}
 use Rattle.ber_write.specs.Minimal.{CanBeTag, written, octets_of, uint_octets}
 use Rattle.ber_write.proofs.ElementLaws.{is_spelling}
 use Rattle.ber_write.proofs.NumberLaws.{uint_octets-spell}
-use Rattle.session_pres.specs.Places.{AreElements, IsOnly}
+use Rattle.session_pres.specs.declared.codes.TheConstants.{USER_DATA, FULLY_ENCODED_DATA, SINGLE_ASN1_TYPE, INTEGER, SEQUENCE}
+use Rattle.ber_grammar.specs.Fields.{AreFields, IsOnly}
 use Rattle.session_pres.specs.Units.{HasUser, IsSpdu, transfer}
 use Rattle.session_pres.specs.UserData.{IsPdvList, IsUserData}
 use Rattle.session_pres.specs.Written.{pdv_fields, pdv_list, user_octets, field, data_spdu, release_spdu, IsOneElement}
@@ -32,7 +33,7 @@ only_of input tag content can small p =
     (content_piece s, (s, (e ∷ [], subst (λ (x : List ℕ). IsRow x (e ∷ [])) (sym p) (row_last tag content can small), refl), refl, refl), refl)
 
 -- octets that are a row, with their places
-pub elements_of : (input : Piece) (octets : List ℕ) (es : List Element) → input.octets ≡ octets → IsRow octets es → AreElements input (placed (input.block, input.place) es)
+pub elements_of : (input : Piece) (octets : List ℕ) (es : List Element) → input.octets ≡ octets → IsRow octets es → AreFields input (placed (input.block, input.place) es)
 elements_of input octets es p row = (es, subst (λ (x : List ℕ). IsRow x es) (sym p) row, refl)
 
 -- ---- user data
@@ -41,19 +42,19 @@ pub pdv_of : (values : Piece) (context : ℕ) (value : List ℕ) → context < 2
     → (user : Piece) × IsPdvList values (context, user) × (user.octets ≡ value)
 unfolding pdv_list pdv_fields
 pdv_of values context value small (e, one) fits p =
-    let number = octets_of 2 (uint_octets context) in
-    let held = octets_of 160 value in
-    let list = within 48 (number ++ held) in
+    let number = octets_of INTEGER (uint_octets context) in
+    let held = octets_of SINGLE_ASN1_TYPE value in
+    let list = within SEQUENCE (number ++ held) in
     let parts = length-append number held in
     let uint = uint_octets-spell context (omega (arith, small)) in
-    let only = only_of values 48 (number ++ held) (plain_tag 48 (omega arith) (λ q. omega (arith, q))) (omega (arith, fits, list)) p in
-    let es : List Element = written 2 (uint_octets context) ∷ written 160 value ∷ [] in
+    let only = only_of values SEQUENCE (number ++ held) (plain_tag SEQUENCE (omega arith) (λ q. omega (arith, q))) (omega (arith, fits, list)) p in
+    let es : List Element = written INTEGER (uint_octets context) ∷ written SINGLE_ASN1_TYPE value ∷ [] in
     let row : IsRow (number ++ held) es =
-    row_more 2 (uint_octets context) held (written 160 value ∷ []) (plain_tag 2 (omega arith) (λ q. omega (arith, q))) (omega (arith, fits, list, parts, within 2 (uint_octets context)))
-    (row_last 160 value (plain_tag 160 (omega arith) (λ q. omega (arith, q))) (omega (arith, fits, list, parts, within 160 value))) in
+    row_more INTEGER (uint_octets context) held (written SINGLE_ASN1_TYPE value ∷ []) (plain_tag INTEGER (omega arith) (λ q. omega (arith, q))) (omega (arith, fits, list, parts, within INTEGER (uint_octets context)))
+    (row_last SINGLE_ASN1_TYPE value (plain_tag SINGLE_ASN1_TYPE (omega arith) (λ q. omega (arith, q))) (omega (arith, fits, list, parts, within SINGLE_ASN1_TYPE value))) in
     let from : ℕ × ℕ = (only.0.block, only.0.place) in
-    let head = (written 2 (uint_octets context)).head + length (uint_octets context) in
-    let user : Piece = record { octets = value; block = only.0.block; place = only.0.place + head + (written 160 value).head } in
+    let head = (written INTEGER (uint_octets context)).head + length (uint_octets context) in
+    let user : Piece = record { octets = value; block = only.0.block; place = only.0.place + head + (written SINGLE_ASN1_TYPE value).head } in
     let inside : Spot = record { element = e; block = user.block; place = user.place + e.head } in
     (user, (only.0, only.1, placed from es, elements_of only.0 (number ++ held) es only.2 row, (refl, (uint.0, small), refl, refl, inside, (e ∷ [], one, refl))), refl)
 
@@ -61,7 +62,7 @@ user_of : (input : Piece) (context : ℕ) (value : List ℕ) → context < 2 ^ 3
     → (user : Piece) × IsUserData input (context, user) × (user.octets ≡ value)
 unfolding user_octets
 user_of input context value small one fits p =
-    let only = only_of input 97 (pdv_list context value) (plain_tag 97 (omega arith) (λ q. omega (arith, q))) fits p in
+    let only = only_of input FULLY_ENCODED_DATA (pdv_list context value) (plain_tag FULLY_ENCODED_DATA (omega arith) (λ q. omega (arith, q))) fits p in
     let pdv = pdv_of only.0 context value small one fits only.2 in
     (pdv.0, (only.0, only.1, pdv.1), pdv.2)
 
@@ -77,12 +78,12 @@ data_back input context pdu small one fits p =
 
 -- ---- release
 
-pub release_back : (code : ℕ) (input : Piece) (context : ℕ) (apdu : List ℕ) → context < 2 ^ 32 → IsOneElement apdu → length (field 193 (user_octets context apdu)) ≤ 65535 → input.octets ≡ release_spdu code context apdu
+pub release_back : (code : ℕ) (input : Piece) (context : ℕ) (apdu : List ℕ) → context < 2 ^ 32 → IsOneElement apdu → length (field USER_DATA (user_octets context apdu)) ≤ 65535 → input.octets ≡ release_spdu code context apdu
     → (user value : Piece) × HasUser code input (Some user) × IsUserData user (context, value) × (value.octets ≡ apdu)
 unfolding release_spdu
 release_back code input context apdu small one fits p =
-    let unit = unit_of_field code input (field 193 (user_octets context apdu)) fits p in
-    let fs : List Field = (193, user_octets context apdu) ∷ [] in
-    let user = user_of_fields fs unit.0 (user_octets context apdu) (field_fits 193 (user_octets context apdu) fits, tt) ((λ e. absurd (omega (arith, e))), tt) (unit.2 ∙ sym (append-nil (field 193 (user_octets context apdu)))) refl in
+    let unit = unit_of_field code input (field USER_DATA (user_octets context apdu)) fits p in
+    let fs : List Field = (USER_DATA, user_octets context apdu) ∷ [] in
+    let user = user_of_fields fs unit.0 (user_octets context apdu) (field_fits USER_DATA (user_octets context apdu) fits, tt) ((λ e. absurd (omega (arith, e))), tt) (unit.2 ∙ sym (append-nil (field USER_DATA (user_octets context apdu)))) refl in
     let found = user_of user.0 context apdu small one (release_fits context apdu fits) user.2 in
     (user.0, found.0, (unit.0, unit.1, user.1), found.1, found.2)

@@ -3,6 +3,7 @@ use Rattle.std.proofs.Common.{◌≡◌, ℕ, ◌+◌, ◌<◌, ◌≤◌, ◌^�
 use Rattle.ber_grammar.specs.Element.{Element, IsRow}
 use Rattle.ber_grammar.specs.Place.{Spot, Piece, placed, content_piece}
 use Rattle.ber_write.specs.Minimal.{written, octets_of}
+use Rattle.session_pres.specs.declared.codes.TheConstants.{CONNECT, CONNECT_ACCEPT_ITEM, USER_DATA, CONTEXT_DEFINITION_LIST, TRANSFER_SYNTAX, FULLY_ENCODED_DATA, INTEGER, OBJECT_IDENTIFIER, SEQUENCE}
 use Rattle.session_pres.specs.Units.{IsSpdu, connect}
 use Rattle.session_pres.specs.ContextList.{Context, Chosen, ber, acse, mms, IsDefinition, IsContextList, IsChosen}
 use Rattle.session_pres.specs.Presentation.{Request, request, IsCp}
@@ -16,42 +17,42 @@ use Rattle.session_pres.proofs.PpduLaws.{parameters_of}
 -- ---- a definition
 
 abbrev offered_with : ℕ → List ℕ → List ℕ
-offered_with n syntax = octets_of 2 (n ∷ []) ++ (octets_of 6 syntax ++ octets_of 48 (octets_of 6 ber))
+offered_with n syntax = octets_of INTEGER (n ∷ []) ++ (octets_of OBJECT_IDENTIFIER syntax ++ octets_of SEQUENCE (octets_of OBJECT_IDENTIFIER ber))
 
 abbrev offer : ℕ → List ℕ → Context
 offer n syntax = record { number = n; syntax = syntax; has_ber = true }
 
-definition : (s : Spot) (n : ℕ) (syntax : List ℕ) → n < 128 → length syntax < 128 → s.element.tag ≡ 48 → s.element.content ≡ offered_with n syntax → IsDefinition s (offer n syntax)
+definition : (s : Spot) (n : ℕ) (syntax : List ℕ) → n < 128 → length syntax < 128 → s.element.tag ≡ SEQUENCE → s.element.content ≡ offered_with n syntax → IsDefinition s (offer n syntax)
 definition s n syntax small short t p =
-    let transfer = octets_of 48 (octets_of 6 ber) in
-    let es : List Element = written 2 (n ∷ []) ∷ written 6 syntax ∷ written 48 (octets_of 6 ber) ∷ [] in
+    let transfer = octets_of SEQUENCE (octets_of OBJECT_IDENTIFIER ber) in
+    let es : List Element = written INTEGER (n ∷ []) ∷ written OBJECT_IDENTIFIER syntax ∷ written SEQUENCE (octets_of OBJECT_IDENTIFIER ber) ∷ [] in
     let row : IsRow (offered_with n syntax) es =
-    row_more 2 (n ∷ []) (octets_of 6 syntax ++ transfer) (written 6 syntax ∷ written 48 (octets_of 6 ber) ∷ []) (plain_tag 2 (omega arith) (λ q. omega (arith, q))) (omega arith)
-    (row_more 6 syntax transfer (written 48 (octets_of 6 ber) ∷ []) (plain_tag 6 (omega arith) (λ q. omega (arith, q))) (omega (arith, short))
-    (row_last 48 (octets_of 6 ber) (plain_tag 48 (omega arith) (λ q. omega (arith, q))) (omega arith))) in
-    let last : Piece = record { octets = octets_of 6 ber; block = s.block; place = s.place + ((written 2 (n ∷ [])).head + 1) + ((written 6 syntax).head + length syntax) + 2 } in
-    let ts : List Element = written 6 ber ∷ [] in
-    let rows : IsRow (octets_of 6 ber) ts = row_last 6 ber (plain_tag 6 (omega arith) (λ q. omega (arith, q))) (omega arith) in (
+    row_more INTEGER (n ∷ []) (octets_of OBJECT_IDENTIFIER syntax ++ transfer) (written OBJECT_IDENTIFIER syntax ∷ written SEQUENCE (octets_of OBJECT_IDENTIFIER ber) ∷ []) (plain_tag INTEGER (omega arith) (λ q. omega (arith, q))) (omega arith)
+    (row_more OBJECT_IDENTIFIER syntax transfer (written SEQUENCE (octets_of OBJECT_IDENTIFIER ber) ∷ []) (plain_tag OBJECT_IDENTIFIER (omega arith) (λ q. omega (arith, q))) (omega (arith, short))
+    (row_last SEQUENCE (octets_of OBJECT_IDENTIFIER ber) (plain_tag SEQUENCE (omega arith) (λ q. omega (arith, q))) (omega arith))) in
+    let last : Piece = record { octets = octets_of OBJECT_IDENTIFIER ber; block = s.block; place = s.place + ((written INTEGER (n ∷ [])).head + 1) + ((written OBJECT_IDENTIFIER syntax).head + length syntax) + 2 } in
+    let ts : List Element = written OBJECT_IDENTIFIER ber ∷ [] in
+    let rows : IsRow (octets_of OBJECT_IDENTIFIER ber) ts = row_last OBJECT_IDENTIFIER ber (plain_tag OBJECT_IDENTIFIER (omega arith) (λ q. omega (arith, q))) (omega arith) in (
       t,
       placed (s.block, s.place) es,
       elements_of (content_piece s) (offered_with n syntax) es p row,
-      (refl, ((omega arith, small, omega arith, omega (arith, small)), omega (arith, small)), refl, refl, refl, placed (last.block, last.place) ts, elements_of last (octets_of 6 ber) ts refl rows, inl (refl, refl)),
+      (refl, ((omega arith, small, omega arith, omega (arith, small)), omega (arith, small)), refl, refl, refl, placed (last.block, last.place) ts, elements_of last (octets_of OBJECT_IDENTIFIER ber) ts refl rows, inl (refl, refl)),
     )
 
 abbrev two : List ℕ
-two = octets_of 48 (offered_with 1 acse) ++ octets_of 48 (offered_with 3 mms)
+two = octets_of SEQUENCE (offered_with 1 acse) ++ octets_of SEQUENCE (offered_with 3 mms)
 
 abbrev contexts : List Context
 contexts = offer 1 acse ∷ offer 3 mms ∷ []
 
 list_back : (content : Piece) → content.octets ≡ two → IsContextList content contexts
 list_back content p =
-    let es : List Element = written 48 (offered_with 1 acse) ∷ written 48 (offered_with 3 mms) ∷ [] in
+    let es : List Element = written SEQUENCE (offered_with 1 acse) ∷ written SEQUENCE (offered_with 3 mms) ∷ [] in
     let row : IsRow two es =
-    row_more 48 (offered_with 1 acse) (octets_of 48 (offered_with 3 mms)) (written 48 (offered_with 3 mms) ∷ []) (plain_tag 48 (omega arith) (λ q. omega (arith, q))) (omega arith)
-    (row_last 48 (offered_with 3 mms) (plain_tag 48 (omega arith) (λ q. omega (arith, q))) (omega arith)) in
-    let first : Spot = record { element = written 48 (offered_with 1 acse); block = content.block; place = content.place + 2 } in
-    let second : Spot = record { element = written 48 (offered_with 3 mms); block = content.block; place = content.place + (2 + 15) + 2 } in
+    row_more SEQUENCE (offered_with 1 acse) (octets_of SEQUENCE (offered_with 3 mms)) (written SEQUENCE (offered_with 3 mms) ∷ []) (plain_tag SEQUENCE (omega arith) (λ q. omega (arith, q))) (omega arith)
+    (row_last SEQUENCE (offered_with 3 mms) (plain_tag SEQUENCE (omega arith) (λ q. omega (arith, q))) (omega arith)) in
+    let first : Spot = record { element = written SEQUENCE (offered_with 1 acse); block = content.block; place = content.place + 2 } in
+    let second : Spot = record { element = written SEQUENCE (offered_with 3 mms); block = content.block; place = content.place + (2 + 15) + 2 } in
     (placed (content.block, content.place) es, elements_of content two es p row, (definition first 1 acse (omega arith) (omega arith) refl refl, (definition second 3 mms (omega arith) (omega arith) refl refl, tt)))
 
 abbrev chosen_acse : Chosen
@@ -78,18 +79,18 @@ pub cp_back : (input : Piece) (aarq : List ℕ) → IsOneElement aarq → length
     → (said : Request) × IsCp input said × (said.acse ≡ 1) × (said.mms ≡ 3) × (said.list ≡ true ∷ true ∷ []) × (said.user.octets ≡ aarq)
 unfolding cp_octets user_octets
 cp_back input aarq one fits small p =
-    let whole = cp_head ++ octets_of 97 (pdv_list 1 aarq) in
+    let whole = cp_head ++ octets_of FULLY_ENCODED_DATA (pdv_list 1 aarq) in
     let parameters = parameters_of input whole fits p in
-    let last = octets_of 97 (pdv_list 1 aarq) in
-    let es : List Element = written 129 selector ∷ written 130 selector ∷ written 164 two ∷ written 97 (pdv_list 1 aarq) ∷ [] in
+    let last = octets_of FULLY_ENCODED_DATA (pdv_list 1 aarq) in
+    let es : List Element = written TRANSFER_SYNTAX selector ∷ written 130 selector ∷ written CONTEXT_DEFINITION_LIST two ∷ written FULLY_ENCODED_DATA (pdv_list 1 aarq) ∷ [] in
     let row : IsRow whole es =
-    row_more 129 selector (octets_of 130 selector ++ (octets_of 164 two ++ last)) (written 130 selector ∷ written 164 two ∷ written 97 (pdv_list 1 aarq) ∷ []) (plain_tag 129 (omega arith) (λ q. omega (arith, q))) (omega arith)
-    (row_more 130 selector (octets_of 164 two ++ last) (written 164 two ∷ written 97 (pdv_list 1 aarq) ∷ []) (plain_tag 130 (omega arith) (λ q. omega (arith, q))) (omega arith)
-    (row_more 164 two last (written 97 (pdv_list 1 aarq) ∷ []) (plain_tag 164 (omega arith) (λ q. omega (arith, q))) (omega arith)
-    (row_last 97 (pdv_list 1 aarq) (plain_tag 97 (omega arith) (λ q. omega (arith, q))) small))) in
+    row_more TRANSFER_SYNTAX selector (octets_of 130 selector ++ (octets_of CONTEXT_DEFINITION_LIST two ++ last)) (written 130 selector ∷ written CONTEXT_DEFINITION_LIST two ∷ written FULLY_ENCODED_DATA (pdv_list 1 aarq) ∷ []) (plain_tag TRANSFER_SYNTAX (omega arith) (λ q. omega (arith, q))) (omega arith)
+    (row_more 130 selector (octets_of CONTEXT_DEFINITION_LIST two ++ last) (written CONTEXT_DEFINITION_LIST two ∷ written FULLY_ENCODED_DATA (pdv_list 1 aarq) ∷ []) (plain_tag 130 (omega arith) (λ q. omega (arith, q))) (omega arith)
+    (row_more CONTEXT_DEFINITION_LIST two last (written FULLY_ENCODED_DATA (pdv_list 1 aarq) ∷ []) (plain_tag CONTEXT_DEFINITION_LIST (omega arith) (λ q. omega (arith, q))) (omega arith)
+    (row_last FULLY_ENCODED_DATA (pdv_list 1 aarq) (plain_tag FULLY_ENCODED_DATA (omega arith) (λ q. omega (arith, q))) small))) in
     let at = parameters.0 in
     let content : Piece = record { octets = two; block = at.block; place = at.place + 6 + 6 + 2 } in
-    let values : Piece = record { octets = pdv_list 1 aarq; block = at.block; place = at.place + 6 + 6 + 37 + (written 97 (pdv_list 1 aarq)).head } in
+    let values : Piece = record { octets = pdv_list 1 aarq; block = at.block; place = at.place + 6 + 6 + 37 + (written FULLY_ENCODED_DATA (pdv_list 1 aarq)).head } in
     let pdv = pdv_of values 1 aarq (omega arith) one small refl in (
       request contexts chosen_acse chosen_mms pdv.0,
       (
@@ -113,11 +114,11 @@ unfolding connect_spdu connect_parameters field cp_octets
 connect_back input aarq one fits p =
     let cp = ppdu (cp_head ++ user_octets 1 aarq) in
     let fit = connect_fits aarq fits in
-    let unit = unit_of_field 13 input (connect_item ++ field 193 cp) fits p in
-    let fs : List Field = (5, 0x13 ∷ 1 ∷ 0 ∷ 0x16 ∷ 1 ∷ 2 ∷ []) ∷ (0x14, 0 ∷ 2 ∷ []) ∷ (0x33, 0 ∷ 1 ∷ []) ∷ (0x34, 0 ∷ 1 ∷ []) ∷ (193, cp) ∷ [] in
+    let unit = unit_of_field CONNECT input (connect_item ++ field USER_DATA cp) fits p in
+    let fs : List Field = (CONNECT_ACCEPT_ITEM, 0x13 ∷ 1 ∷ 0 ∷ 0x16 ∷ 1 ∷ 2 ∷ []) ∷ (0x14, 0 ∷ 2 ∷ []) ∷ (0x33, 0 ∷ 1 ∷ []) ∷ (0x34, 0 ∷ 1 ∷ []) ∷ (USER_DATA, cp) ∷ [] in
     let inner : List Field = (0x13, 0 ∷ []) ∷ (0x16, 2 ∷ []) ∷ [] in
     let user = user_of_fields fs unit.0 cp (omega arith, (omega arith, (omega arith, (omega arith, (fit.0, tt)))))
     ((λ e. (inner, (omega arith, (omega arith, tt)), refl)), ((λ e. absurd (omega (arith, e))), ((λ e. absurd (omega (arith, e))), ((λ e. absurd (omega (arith, e))), ((λ e. absurd (omega (arith, e))), tt)))))
-    (unit.2 ∙ ap (λ (x : List ℕ). connect_item ++ x) (sym (append-nil (field 193 cp)))) refl in
+    (unit.2 ∙ ap (λ (x : List ℕ). connect_item ++ x) (sym (append-nil (field USER_DATA cp)))) refl in
     let found = cp_back user.0 aarq one fit.1 fit.2 user.2 in
     (user.0, found.0, (Some user.0, (unit.0, unit.1, user.1), refl), found.1, found.2, found.3, found.4, found.5)

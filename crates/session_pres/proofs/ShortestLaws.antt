@@ -10,7 +10,8 @@ use Rattle.ber_grammar.proofs.PlaceLaws.{elements-placed}
 use Rattle.ber_write.specs.Minimal.{length_octets, octets_of, uint_octets}
 use Rattle.ber_write.proofs.ElementLaws.{is_minimal}
 use Rattle.ber_write.proofs.ShortestLaws.{uint_shortest}
-use Rattle.session_pres.specs.Places.{AreElements, IsOnly}
+use Rattle.session_pres.specs.declared.codes.TheConstants.{FULLY_ENCODED_DATA, SINGLE_ASN1_TYPE, INTEGER, SEQUENCE}
+use Rattle.ber_grammar.specs.Fields.{AreFields, IsOnly}
 use Rattle.session_pres.specs.UserData.{IsPair, IsPdv, IsUserData}
 use Rattle.session_pres.specs.Written.{element_length, pdv_fields, pdv_list, user_octets}
 use Rattle.session_pres.proofs.WritingLaws.{length-octets_of}
@@ -31,7 +32,7 @@ row_total octets (e ∷ es) fits (front, rest, s, p, row) =
 abbrev Holds : Piece → List Spot → Type 0
 Holds content spots = (total (elements spots) ≤ length content.octets) × AllBytes (elements spots)
 
-holds : (content : Piece) (spots : List Spot) → IsBytes content.octets → AreElements content spots → Holds content spots
+holds : (content : Piece) (spots : List Spot) → IsBytes content.octets → AreFields content spots → Holds content spots
 holds content spots fits (es, row, is) =
     let same : elements spots ≡ es = ap (λ (x : List Spot). elements x) is ∙ elements-placed (content.block, content.place) es in
     (subst (λ (x : List Element). total x ≤ length content.octets) (sym same) (row_total content.octets es fits row), subst AllBytes (sym same) (IsRow-bytes content.octets es fits row))
@@ -54,9 +55,9 @@ pair_least : (a b : Spot) (pdv : ℕ × Piece) → IsBytes a.element.content →
 unfolding pdv_fields
 pair_least a b pdv fits (ta, n, tb, is, s, are) =
     let shortest = (uint_shortest a.element.content pdv.0 fits n.0).0 in
-    let number : length (octets_of a.element.tag a.element.content) ≡ length (octets_of 2 a.element.content) = ap (λ (t : ℕ). length (octets_of t a.element.content)) ta in
-    let value : length (octets_of b.element.tag b.element.content) ≡ length (octets_of 160 pdv.1.octets) = ap (λ (t : ℕ). length (octets_of t b.element.content)) tb ∙ sym (ap (λ (p : Piece). length (octets_of 160 p.octets)) is) in
-    omega (arith, number, value, grows 2 (uint_octets pdv.0) a.element.content (omega arith) shortest, length-append (octets_of 2 (uint_octets pdv.0)) (octets_of 160 pdv.1.octets))
+    let number : length (octets_of a.element.tag a.element.content) ≡ length (octets_of INTEGER a.element.content) = ap (λ (t : ℕ). length (octets_of t a.element.content)) ta in
+    let value : length (octets_of b.element.tag b.element.content) ≡ length (octets_of SINGLE_ASN1_TYPE pdv.1.octets) = ap (λ (t : ℕ). length (octets_of t b.element.content)) tb ∙ sym (ap (λ (p : Piece). length (octets_of SINGLE_ASN1_TYPE p.octets)) is) in
+    omega (arith, number, value, grows INTEGER (uint_octets pdv.0) a.element.content (omega arith) shortest, length-append (octets_of INTEGER (uint_octets pdv.0)) (octets_of SINGLE_ASN1_TYPE pdv.1.octets))
 
 fields_least : (fields : List Spot) (pdv : ℕ × Piece) → AllBytes (elements fields) → IsPdv fields pdv → length (pdv_fields pdv.0 pdv.1.octets) ≤ total (elements fields)
 fields_least [] pdv fits h = absurd h
@@ -68,9 +69,9 @@ fields_least (a ∷ b ∷ c ∷ d ∷ more) pdv fits h = absurd h
 pub user_least : (input : Piece) (context : ℕ) (user : Piece) → IsBytes input.octets → IsUserData input (context, user) → length (user_octets context user.octets) ≤ length input.octets
 unfolding user_octets pdv_list
 user_least input context user fits (values, outer, (value, inner, fields, are, pdv)) =
-    let a = only_holds 97 input values fits outer in
-    let b = only_holds 48 values value a.1 inner in
+    let a = only_holds FULLY_ENCODED_DATA input values fits outer in
+    let b = only_holds SEQUENCE values value a.1 inner in
     let c = holds value fields b.1 are in
     let d = fields_least fields (context, user) c.1 pdv in
-    let e = grows 48 (pdv_fields context user.octets) value.octets (omega arith) (omega (arith, c.0, d)) in
-    omega (arith, a.0, grows 97 (octets_of 48 (pdv_fields context user.octets)) values.octets (omega arith) (omega (arith, e, b.0)))
+    let e = grows SEQUENCE (pdv_fields context user.octets) value.octets (omega arith) (omega (arith, c.0, d)) in
+    omega (arith, a.0, grows FULLY_ENCODED_DATA (octets_of SEQUENCE (pdv_fields context user.octets)) values.octets (omega arith) (omega (arith, e, b.0)))

@@ -7,16 +7,17 @@ use Rattle.ber_grammar.specs.Place.{Piece}
 use Rattle.ber_grammar.specs.Reader.{◌>>=◌, Gives, Reads}
 use Rattle.ber_grammar.proofs.OptionLaws.{then_some, some_is, chosen}
 use Rattle.ber_grammar.proofs.ReaderLaws.{reads_from}
+use Rattle.session_pres.specs.declared.codes.TheConstants.{FINISH, CONNECT, ABORT}
 use Rattle.session_pres.specs.declared.fault.SpFault.{SpFault}
 use Rattle.session_pres.specs.declared.fault.SpFault.TheVariants as faults
-use Rattle.session_pres.specs.Steps.{Then, IsLacking, required}
+use Rattle.ber_grammar.specs.Steps.{Then, IsLacking, required}
 use Rattle.session_pres.specs.Places.{behind}
 use Rattle.session_pres.specs.Parameters.{IsLength, IsUserOf}
 use Rattle.session_pres.specs.ParameterReading.{length_at, user_at}
 use Rattle.session_pres.specs.Units.{IsUnit, HasUser, IsUserRefused, HasData, IsDataRefused, Seen, connect, transfer, finish, abort, IsTransfer, IsSpdu, begins, HasCode, IsSpduRefused}
 use Rattle.session_pres.specs.UnitReading.{counted_at, unit_at, user_of, data_of, is_transfer, transfer_at, spdu_at}
 use Rattle.session_pres.proofs.ParameterLaws.{LengthTells, length_tells, length_again, both_true, user_found, user_again, piece_is}
-use Rattle.session_pres.proofs.StepLaws.{Exact, then_exact, step_exact, required_exact, made_exact}
+use Rattle.ber_grammar.proofs.StepLaws.{Exact, then_exact, step_exact, required_exact, made_exact}
 
 -- ---- a code and a length
 
@@ -100,16 +101,16 @@ code_of_transfer input user h = begins_again 1 input.octets (0 ∷ 1 ∷ 0 ∷ u
 
 -- the code that a spelled SPDU has
 abbrev code_of : Seen → ℕ
-code_of (connect user) = 13
+code_of (connect user) = CONNECT
 code_of (transfer user) = 1
-code_of (finish user) = 9
-code_of abort = 25
+code_of (finish user) = FINISH
+code_of abort = ABORT
 
 has_code : (input : Piece) (s : Seen) → IsSpdu input s → begins (code_of s) input.octets ≡ true
-has_code input (connect user) h = code_of_data 13 input user h
+has_code input (connect user) h = code_of_data CONNECT input user h
 has_code input (transfer user) h = code_of_transfer input user h
-has_code input (finish user) h = code_of_user 9 input user h
-has_code input abort (user, h) = code_of_user 25 input user h
+has_code input (finish user) h = code_of_user FINISH input user h
+has_code input abort (user, h) = code_of_user ABORT input user h
 
 -- an SPDU of another code is none of this one
 other_code : (input : Piece) (s : Seen) (code : ℕ) → begins code input.octets ≡ true → IsSpdu input s → code_of s ≡ code
@@ -135,39 +136,39 @@ among input (Err d) make S R h to from refused back = let m = made_exact (Err d)
   refuses = λ f q. m.refuses f (back f q);
 }
 
-connect_from : (input : Piece) → HasCode 13 input → (s : Seen) → IsSpdu input s → Then (HasData 13 input) (λ x y. y ≡ connect x) s
+connect_from : (input : Piece) → HasCode CONNECT input → (s : Seen) → IsSpdu input s → Then (HasData CONNECT input) (λ x y. y ≡ connect x) s
 connect_from input b (connect user) h = (user, h, refl)
-connect_from input b (transfer user) h = absurd (omega (arith, other_code input (transfer user) 13 b h))
-connect_from input b (finish user) h = absurd (omega (arith, other_code input (finish user) 13 b h))
-connect_from input b abort h = absurd (omega (arith, other_code input abort 13 b h))
+connect_from input b (transfer user) h = absurd (omega (arith, other_code input (transfer user) CONNECT b h))
+connect_from input b (finish user) h = absurd (omega (arith, other_code input (finish user) CONNECT b h))
+connect_from input b abort h = absurd (omega (arith, other_code input abort CONNECT b h))
 
-connect_back : (input : Piece) → HasCode 13 input → (f : SpFault) → IsSpduRefused input f → IsDataRefused 13 input f
+connect_back : (input : Piece) → HasCode CONNECT input → (f : SpFault) → IsSpduRefused input f → IsDataRefused CONNECT input f
 connect_back input b f (inl (c, r)) = r
-connect_back input b f (inr (inl (c, r))) = absurd (omega (arith, one_code 9 13 input.octets c b))
-connect_back input b f (inr (inr (inl (c, r)))) = absurd (omega (arith, one_code 25 13 input.octets c b))
+connect_back input b f (inr (inl (c, r))) = absurd (omega (arith, one_code FINISH CONNECT input.octets c b))
+connect_back input b f (inr (inr (inl (c, r)))) = absurd (omega (arith, one_code ABORT CONNECT input.octets c b))
 connect_back input b f (inr (inr (inr (e, none, n, o, others)))) = absurd (none b)
 
-finish_from : (input : Piece) → HasCode 9 input → (s : Seen) → IsSpdu input s → Then (HasUser 9 input) (λ x y. y ≡ finish x) s
-finish_from input b (connect user) h = absurd (omega (arith, other_code input (connect user) 9 b h))
-finish_from input b (transfer user) h = absurd (omega (arith, other_code input (transfer user) 9 b h))
+finish_from : (input : Piece) → HasCode FINISH input → (s : Seen) → IsSpdu input s → Then (HasUser FINISH input) (λ x y. y ≡ finish x) s
+finish_from input b (connect user) h = absurd (omega (arith, other_code input (connect user) FINISH b h))
+finish_from input b (transfer user) h = absurd (omega (arith, other_code input (transfer user) FINISH b h))
 finish_from input b (finish user) h = (user, h, refl)
-finish_from input b abort h = absurd (omega (arith, other_code input abort 9 b h))
+finish_from input b abort h = absurd (omega (arith, other_code input abort FINISH b h))
 
-finish_back : (input : Piece) → HasCode 9 input → (f : SpFault) → IsSpduRefused input f → IsUserRefused 9 input f
-finish_back input b f (inl (c, r)) = absurd (omega (arith, one_code 13 9 input.octets c b))
+finish_back : (input : Piece) → HasCode FINISH input → (f : SpFault) → IsSpduRefused input f → IsUserRefused FINISH input f
+finish_back input b f (inl (c, r)) = absurd (omega (arith, one_code CONNECT FINISH input.octets c b))
 finish_back input b f (inr (inl (c, r))) = r
-finish_back input b f (inr (inr (inl (c, r)))) = absurd (omega (arith, one_code 25 9 input.octets c b))
+finish_back input b f (inr (inr (inl (c, r)))) = absurd (omega (arith, one_code ABORT FINISH input.octets c b))
 finish_back input b f (inr (inr (inr (e, m, none, o, others)))) = absurd (none b)
 
-abort_from : (input : Piece) → HasCode 25 input → (s : Seen) → IsSpdu input s → Then (HasUser 25 input) (λ x y. y ≡ abort) s
-abort_from input b (connect user) h = absurd (omega (arith, other_code input (connect user) 25 b h))
-abort_from input b (transfer user) h = absurd (omega (arith, other_code input (transfer user) 25 b h))
-abort_from input b (finish user) h = absurd (omega (arith, other_code input (finish user) 25 b h))
+abort_from : (input : Piece) → HasCode ABORT input → (s : Seen) → IsSpdu input s → Then (HasUser ABORT input) (λ x y. y ≡ abort) s
+abort_from input b (connect user) h = absurd (omega (arith, other_code input (connect user) ABORT b h))
+abort_from input b (transfer user) h = absurd (omega (arith, other_code input (transfer user) ABORT b h))
+abort_from input b (finish user) h = absurd (omega (arith, other_code input (finish user) ABORT b h))
 abort_from input b abort (user, h) = (user, h, refl)
 
-abort_back : (input : Piece) → HasCode 25 input → (f : SpFault) → IsSpduRefused input f → IsUserRefused 25 input f
-abort_back input b f (inl (c, r)) = absurd (omega (arith, one_code 13 25 input.octets c b))
-abort_back input b f (inr (inl (c, r))) = absurd (omega (arith, one_code 9 25 input.octets c b))
+abort_back : (input : Piece) → HasCode ABORT input → (f : SpFault) → IsSpduRefused input f → IsUserRefused ABORT input f
+abort_back input b f (inl (c, r)) = absurd (omega (arith, one_code CONNECT ABORT input.octets c b))
+abort_back input b f (inr (inl (c, r))) = absurd (omega (arith, one_code FINISH ABORT input.octets c b))
 abort_back input b f (inr (inr (inl (c, r)))) = r
 abort_back input b f (inr (inr (inr (e, m, n, none, others)))) = absurd (none b)
 
@@ -199,29 +200,29 @@ transfer_again input user (p, at) =
 
 -- it has the code of no other form
 record NoOther (input : Piece) : Type 0 where
-  not_connect : begins 13 input.octets ≡ false
-  not_finish : begins 9 input.octets ≡ false
-  not_abort : begins 25 input.octets ≡ false
+  not_connect : begins CONNECT input.octets ≡ false
+  not_finish : begins FINISH input.octets ≡ false
+  not_abort : begins ABORT input.octets ≡ false
 
 no_code : (code : ℕ) (input : Piece) → begins code input.octets ≡ false → HasCode code input → ⊥
 no_code code input e h = cc
 
 spelled_again : (input : Piece) → NoOther input → (s : Seen) → IsSpdu input s → transfer_at input ≡ Some s
-spelled_again input n (connect user) h = absurd (no_code 13 input n.not_connect (has_code input (connect user) h))
+spelled_again input n (connect user) h = absurd (no_code CONNECT input n.not_connect (has_code input (connect user) h))
 spelled_again input n (transfer user) h = transfer_again input user h
-spelled_again input n (finish user) h = absurd (no_code 9 input n.not_finish (has_code input (finish user) h))
-spelled_again input n abort h = absurd (no_code 25 input n.not_abort (has_code input abort h))
+spelled_again input n (finish user) h = absurd (no_code FINISH input n.not_finish (has_code input (finish user) h))
+spelled_again input n abort h = absurd (no_code ABORT input n.not_abort (has_code input abort h))
 
-none_spelled : (input : Piece) → ¬ HasCode 13 input → ¬ HasCode 9 input → ¬ HasCode 25 input → ((user : Piece) → ¬ IsTransfer input user) → (s : Seen) → ¬ IsSpdu input s
+none_spelled : (input : Piece) → ¬ HasCode CONNECT input → ¬ HasCode FINISH input → ¬ HasCode ABORT input → ((user : Piece) → ¬ IsTransfer input user) → (s : Seen) → ¬ IsSpdu input s
 none_spelled input m n o none (connect user) = λ h. m (has_code input (connect user) h)
 none_spelled input m n o none (transfer user) = none user
 none_spelled input m n o none (finish user) = λ h. n (has_code input (finish user) h)
 none_spelled input m n o none abort = λ h. o (has_code input abort h)
 
 lacking_back : (input : Piece) → NoOther input → (f : SpFault) → IsSpduRefused input f → IsLacking faults.Spdu (IsSpdu input) f
-lacking_back input n f (inl (c, r)) = absurd (no_code 13 input n.not_connect c)
-lacking_back input n f (inr (inl (c, r))) = absurd (no_code 9 input n.not_finish c)
-lacking_back input n f (inr (inr (inl (c, r)))) = absurd (no_code 25 input n.not_abort c)
+lacking_back input n f (inl (c, r)) = absurd (no_code CONNECT input n.not_connect c)
+lacking_back input n f (inr (inl (c, r))) = absurd (no_code FINISH input n.not_finish c)
+lacking_back input n f (inr (inr (inl (c, r)))) = absurd (no_code ABORT input n.not_abort c)
 lacking_back input n f (inr (inr (inr (e, m, k, o, none)))) = (e, none_spelled input m k o none)
 
 refused_as : {A F : Type 0} (r : Result A F) (S : A → Type 0) (R Q : F → Type 0) → ((f : F) → R f → Q f) → ((f : F) → Q f → R f) → Exact r S R → Exact r S Q
@@ -231,7 +232,7 @@ refused_as (Err d) S R Q to back h = record { tells = to d h.tells; only = h.onl
 data_spdu : (input : Piece) → NoOther input → SpduExact input (required faults.Spdu (transfer_at input))
 data_spdu input n =
     refused_as (required faults.Spdu (transfer_at input)) (IsSpdu input) (IsLacking faults.Spdu (IsSpdu input)) (IsSpduRefused input)
-    (λ f (e, none). inr (inr (inr (e, no_code 13 input n.not_connect, no_code 9 input n.not_finish, no_code 25 input n.not_abort, λ user. none (transfer user)))))
+    (λ f (e, none). inr (inr (inr (e, no_code CONNECT input n.not_connect, no_code FINISH input n.not_finish, no_code ABORT input n.not_abort, λ user. none (transfer user)))))
     (lacking_back input n)
     (required_exact (transfer_at input) faults.Spdu (IsSpdu input) (transfer_found input) (spelled_again input n))
 
@@ -240,12 +241,12 @@ data_spdu input n =
 pub spdu_exact : (input : Piece) → SpduExact input (spdu_at input)
 unfolding spdu_at
 spdu_exact input =
-    cond_both (begins 13 input.octets) (data_of 13 input >>= λ given. Ok (connect given)) _ (SpduExact input)
-    (λ b. among input (data_of 13 input) connect (HasData 13 input) (IsDataRefused 13 input) (data_exact 13 input) (λ x h. h) (connect_from input b) (λ f r. inl (b, r)) (connect_back input b))
-    (λ m. cond_both (begins 9 input.octets) (user_of 9 input >>= λ user. Ok (finish user)) _ (SpduExact input)
-    (λ b. among input (user_of 9 input) finish (HasUser 9 input) (IsUserRefused 9 input) (user_exact 9 input) (λ x h. h) (finish_from input b) (λ f r. inr (inl (b, r))) (finish_back input b))
-    (λ n. cond_both (begins 25 input.octets) (user_of 25 input >>= λ user. Ok abort) (required faults.Spdu (transfer_at input)) (SpduExact input)
-    (λ b. among input (user_of 25 input) (λ user. abort) (HasUser 25 input) (IsUserRefused 25 input) (user_exact 25 input) (λ x h. (x, h)) (abort_from input b) (λ f r. inr (inr (inl (b, r)))) (abort_back input b))
+    cond_both (begins CONNECT input.octets) (data_of CONNECT input >>= λ given. Ok (connect given)) _ (SpduExact input)
+    (λ b. among input (data_of CONNECT input) connect (HasData CONNECT input) (IsDataRefused CONNECT input) (data_exact CONNECT input) (λ x h. h) (connect_from input b) (λ f r. inl (b, r)) (connect_back input b))
+    (λ m. cond_both (begins FINISH input.octets) (user_of FINISH input >>= λ user. Ok (finish user)) _ (SpduExact input)
+    (λ b. among input (user_of FINISH input) finish (HasUser FINISH input) (IsUserRefused FINISH input) (user_exact FINISH input) (λ x h. h) (finish_from input b) (λ f r. inr (inl (b, r))) (finish_back input b))
+    (λ n. cond_both (begins ABORT input.octets) (user_of ABORT input >>= λ user. Ok abort) (required faults.Spdu (transfer_at input)) (SpduExact input)
+    (λ b. among input (user_of ABORT input) (λ user. abort) (HasUser ABORT input) (IsUserRefused ABORT input) (user_exact ABORT input) (λ x h. (x, h)) (abort_from input b) (λ f r. inr (inr (inl (b, r)))) (abort_back input b))
     (λ o. data_spdu input (record { not_connect = m; not_finish = n; not_abort = o }))))
 
 pub spdu_reads : {X : Type 0} (view : X → Seen) (r : Result X SpFault) (input : Piece) → Gives view r (spdu_at input) → Reads view r (IsSpdu input) (IsSpduRefused input)

@@ -6,6 +6,7 @@ use Rattle.std.specs.declared.alloc.AllocError.{AllocError}
 use Rattle.std.proofs.lemmas.Bool.{lt-ltb}
 use Rattle.std.proofs.lemmas.List.{length-append}
 use Rattle.ber_write.specs.Minimal.{tag_octets, length_octets, head_octets, octets_of, uint_octets}
+use Rattle.session_pres.specs.declared.codes.TheConstants.{USER_DATA, NORMAL_MODE_PARAMETERS, CONTEXT_RESULT_LIST, FULLY_ENCODED_DATA, SINGLE_ASN1_TYPE, INTEGER, SEQUENCE, SET}
 use Rattle.session_pres.specs.Written.{element_length, pdv_fields, pdv_list, user_octets, length_field, field, accept_item, accept_parameters, connect_item}
 use Rattle.session_pres.specs.WrittenPpdu.{normal_mode, set_content, ppdu, result_octets, cpa_parameters, cp_head, cp_octets, connect_parameters}
 
@@ -24,16 +25,16 @@ regroup : (old a b c d : List ℕ) → (((old ++ a) ++ b) ++ c) ++ d ≡ old ++ 
 regroup old a b c d = simp append_assoc
 
 user_is : (context : ℕ) (value : List ℕ) (len total : ℕ) → len ≡ length (pdv_fields context value) → total ≡ element_length len
-    → head_octets 97 total ++ (head_octets 48 len ++ (octets_of 2 (uint_octets context) ++ octets_of 160 value)) ≡ user_octets context value
+    → head_octets FULLY_ENCODED_DATA total ++ (head_octets SEQUENCE len ++ (octets_of INTEGER (uint_octets context) ++ octets_of SINGLE_ASN1_TYPE value)) ≡ user_octets context value
 unfolding user_octets pdv_list pdv_fields
 user_is context value len total p q =
-    let count : total ≡ length (pdv_list context value) = q ∙ ap element_length p ∙ sym (length-octets_of 48 (pdv_fields context value) (omega arith)) in
-    rw (count, p) (ap (λ (x : List ℕ). head_octets 97 (length (pdv_list context value)) ++ x) (sym (octets_of-head 48 (pdv_fields context value))) ∙ sym (octets_of-head 97 (pdv_list context value)))
+    let count : total ≡ length (pdv_list context value) = q ∙ ap element_length p ∙ sym (length-octets_of SEQUENCE (pdv_fields context value) (omega arith)) in
+    rw (count, p) (ap (λ (x : List ℕ). head_octets FULLY_ENCODED_DATA (length (pdv_list context value)) ++ x) (sym (octets_of-head SEQUENCE (pdv_fields context value))) ∙ sym (octets_of-head FULLY_ENCODED_DATA (pdv_list context value)))
 
-pub user_written : {A : Type 0} (r : Result A AllocError) (old a b c new value : List ℕ) (n context len total : ℕ) → a ≡ old ++ head_octets 97 total → b ≡ a ++ head_octets 48 len → c ≡ b ++ octets_of 2 (uint_octets n)
-    → n ≡ context → len ≡ length (pdv_fields context value) → total ≡ element_length len → OnOk r (new ≡ c ++ octets_of 160 value) → OnOk r (new ≡ old ++ user_octets context value)
+pub user_written : {A : Type 0} (r : Result A AllocError) (old a b c new value : List ℕ) (n context len total : ℕ) → a ≡ old ++ head_octets FULLY_ENCODED_DATA total → b ≡ a ++ head_octets SEQUENCE len → c ≡ b ++ octets_of INTEGER (uint_octets n)
+    → n ≡ context → len ≡ length (pdv_fields context value) → total ≡ element_length len → OnOk r (new ≡ c ++ octets_of SINGLE_ASN1_TYPE value) → OnOk r (new ≡ old ++ user_octets context value)
 user_written (Ok x) old a b c new value n context len total p q s same count all h =
-    h ∙ rw (s, q, p, same) (regroup old (head_octets 97 total) (head_octets 48 len) (octets_of 2 (uint_octets context)) (octets_of 160 value) ∙ ap (λ (x : List ℕ). old ++ x) (user_is context value len total count all))
+    h ∙ rw (s, q, p, same) (regroup old (head_octets FULLY_ENCODED_DATA total) (head_octets SEQUENCE len) (octets_of INTEGER (uint_octets context)) (octets_of SINGLE_ASN1_TYPE value) ∙ ap (λ (x : List ℕ). old ++ x) (user_is context value len total count all))
 user_written (Err f) old a b c new value n context len total p q s same count all h = h
 
 -- ---- one result more
@@ -54,47 +55,47 @@ field_within code value = omega (arith, length-append (length_field (length valu
 
 user_within : (context : ℕ) (value : List ℕ) → length (pdv_list context value) ≤ length (user_octets context value)
 unfolding user_octets
-user_within context value = within 97 (pdv_list context value)
+user_within context value = within FULLY_ENCODED_DATA (pdv_list context value)
 
 pub field_fits : (code : ℕ) (value : List ℕ) → length (field code value) ≤ 65535 → length value ≤ 65535
 field_fits code value fits = omega (arith, field_within code value)
 
-pub release_fits : (context : ℕ) (value : List ℕ) → length (field 193 (user_octets context value)) ≤ 65535 → length (pdv_list context value) < 2 ^ 32
-release_fits context value fits = omega (arith, field_within 193 (user_octets context value), user_within context value)
+pub release_fits : (context : ℕ) (value : List ℕ) → length (field USER_DATA (user_octets context value)) ≤ 65535 → length (pdv_list context value) < 2 ^ 32
+release_fits context value fits = omega (arith, field_within USER_DATA (user_octets context value), user_within context value)
 
 pub accept_fits : (cpa : List ℕ) → length (accept_parameters cpa) ≤ 65535 → length cpa ≤ 65535
 unfolding accept_parameters
-accept_fits cpa fits = omega (arith, length-append accept_item (field 193 cpa), field_within 193 cpa)
+accept_fits cpa fits = omega (arith, length-append accept_item (field USER_DATA cpa), field_within USER_DATA cpa)
 
 ppdu_within : (parameters : List ℕ) → length (set_content parameters) ≤ length (ppdu parameters)
 unfolding ppdu
-ppdu_within parameters = within 49 (set_content parameters)
+ppdu_within parameters = within SET (set_content parameters)
 
 set_within : (parameters : List ℕ) → length parameters ≤ length (set_content parameters)
 unfolding set_content
-set_within parameters = omega (arith, length-append normal_mode (octets_of 162 parameters), within 162 parameters)
+set_within parameters = omega (arith, length-append normal_mode (octets_of NORMAL_MODE_PARAMETERS parameters), within NORMAL_MODE_PARAMETERS parameters)
 
-pub connect_fits : (aarq : List ℕ) → length (connect_parameters aarq) ≤ 65535 → (length (ppdu (cp_head ++ user_octets 1 aarq)) ≤ 65535) × (length (set_content (cp_head ++ user_octets 1 aarq)) < 2 ^ 32) × (length (pdv_list 1 aarq) < 2 ^ 32) × (length (connect_item ++ field 193 (ppdu (cp_head ++ user_octets 1 aarq))) ≤ 65535)
+pub connect_fits : (aarq : List ℕ) → length (connect_parameters aarq) ≤ 65535 → (length (ppdu (cp_head ++ user_octets 1 aarq)) ≤ 65535) × (length (set_content (cp_head ++ user_octets 1 aarq)) < 2 ^ 32) × (length (pdv_list 1 aarq) < 2 ^ 32) × (length (connect_item ++ field USER_DATA (ppdu (cp_head ++ user_octets 1 aarq))) ≤ 65535)
 unfolding connect_parameters cp_octets
 connect_fits aarq fits =
     let user = cp_head ++ user_octets 1 aarq in
-    let cp : length (ppdu user) ≤ 65535 = omega (arith, length-append connect_item (field 193 (ppdu user)), field_within 193 (ppdu user)) in
+    let cp : length (ppdu user) ≤ 65535 = omega (arith, length-append connect_item (field USER_DATA (ppdu user)), field_within USER_DATA (ppdu user)) in
     (cp, omega (arith, cp, ppdu_within user), omega (arith, cp, ppdu_within user, set_within user, length-append cp_head (user_octets 1 aarq), user_within 1 aarq), fits)
 
 pub cpa_fits : (list : List Bool) (context : ℕ) (aare : List ℕ) → length (set_content (cpa_parameters list context aare)) < 2 ^ 32 → (length (flat_map result_octets list) < 2 ^ 32) × (length (pdv_list context aare) < 2 ^ 32)
 unfolding cpa_parameters
 cpa_fits list context aare fits =
-    let parts = length-append (octets_of 165 (flat_map result_octets list)) (user_octets context aare) in
-    let whole = set_within (octets_of 165 (flat_map result_octets list) ++ user_octets context aare) in
-    (omega (arith, fits, whole, parts, within 165 (flat_map result_octets list)), omega (arith, fits, whole, parts, user_within context aare))
+    let parts = length-append (octets_of CONTEXT_RESULT_LIST (flat_map result_octets list)) (user_octets context aare) in
+    let whole = set_within (octets_of CONTEXT_RESULT_LIST (flat_map result_octets list) ++ user_octets context aare) in
+    (omega (arith, fits, whole, parts, within CONTEXT_RESULT_LIST (flat_map result_octets list)), omega (arith, fits, whole, parts, user_within context aare))
 
 pub pdv_list-length : (context : ℕ) (value : List ℕ) → length (pdv_list context value) ≡ element_length (length (pdv_fields context value))
 unfolding pdv_list
-pdv_list-length context value = length-octets_of 48 (pdv_fields context value) (omega arith)
+pdv_list-length context value = length-octets_of SEQUENCE (pdv_fields context value) (omega arith)
 
 pub value_fits : (context : ℕ) (value : List ℕ) → length (pdv_list context value) < 2 ^ 32 → length value < 2 ^ 32
 unfolding pdv_list pdv_fields
-value_fits context value fits = omega (arith, fits, within 48 (octets_of 2 (uint_octets context) ++ octets_of 160 value), length-append (octets_of 2 (uint_octets context)) (octets_of 160 value), within 160 value)
+value_fits context value fits = omega (arith, fits, within SEQUENCE (octets_of INTEGER (uint_octets context) ++ octets_of SINGLE_ASN1_TYPE value), length-append (octets_of INTEGER (uint_octets context)) (octets_of SINGLE_ASN1_TYPE value), within SINGLE_ASN1_TYPE value)
 
 -- the loop over the results
 pub results_more : (bs : List Bool) (i : ℕ) (found : Option Bool) (b : Bool) (before old new : List ℕ) (octets : List ℕ) → i < length bs → old ≡ before ++ flat_map result_octets (take i bs)

@@ -1,7 +1,8 @@
 -- The presentation context definition list (ISO 8823-1, "Presentation-context-definition-list"), and what is chosen of it.
 use Rattle.std.specs.Prelude.{◌≡◌, ◌≢◌, ℕ, zero, suc, ◌+◌, Bool, true, false, ◌||◌, ◌⊎◌, List, [], ◌∷◌, ◌==◌}
 use Rattle.ber_grammar.specs.Place.{Spot, Piece, content_piece}
-use Rattle.session_pres.specs.Places.{AreElements}
+use Rattle.session_pres.specs.declared.codes.TheConstants.{INTEGER, OBJECT_IDENTIFIER, SEQUENCE}
+use Rattle.ber_grammar.specs.Fields.{AreFields}
 use Rattle.session_pres.specs.UserData.{IsContext}
 
 -- a context: its number, its abstract syntax, and whether BER is one of its transfer syntaxes
@@ -21,23 +22,23 @@ acse = 0x52 ∷ 0x01 ∷ 0x00 ∷ 0x01 ∷ []
 abbrev pub mms : List ℕ
 mms = 0x28 ∷ 0xCA ∷ 0x22 ∷ 0x02 ∷ 0x01 ∷ []
 
--- one of them is the OBJECT IDENTIFIER, 6, of BER
+-- one of them is the OBJECT IDENTIFIER of BER
 abbrev pub HasBer : List Spot → Type 0
 HasBer [] = ⊥
-HasBer (s ∷ ss) = ((s.element.tag ≡ 6) × (s.element.content ≡ ber)) ⊎ HasBer ss
+HasBer (s ∷ ss) = ((s.element.tag ≡ OBJECT_IDENTIFIER) × (s.element.content ≡ ber)) ⊎ HasBer ss
 
 abbrev pub SaysBer : Bool → List Spot → Type 0
 SaysBer true syntaxes = HasBer syntaxes
 SaysBer false syntaxes = ¬ HasBer syntaxes
 
--- SEQUENCE, 48, of INTEGER, 2, OBJECT IDENTIFIER, 6, and a SEQUENCE, 48, of transfer syntaxes
-abbrev pub AreFields : List Spot → Context → Type 0
-AreFields (a ∷ b ∷ c ∷ []) d = (a.element.tag ≡ 2) × IsContext a.element.content d.number × (b.element.tag ≡ 6) × (d.syntax ≡ b.element.content)
-    × (c.element.tag ≡ 48) × (syntaxes : List Spot) × AreElements (content_piece c) syntaxes × SaysBer d.has_ber syntaxes
-AreFields _ d = ⊥
+-- a SEQUENCE of INTEGER, OBJECT IDENTIFIER, and a SEQUENCE of transfer syntaxes
+abbrev pub AreContextFields : List Spot → Context → Type 0
+AreContextFields (a ∷ b ∷ c ∷ []) d = (a.element.tag ≡ INTEGER) × IsContext a.element.content d.number × (b.element.tag ≡ OBJECT_IDENTIFIER) × (d.syntax ≡ b.element.content)
+    × (c.element.tag ≡ SEQUENCE) × (syntaxes : List Spot) × AreFields (content_piece c) syntaxes × SaysBer d.has_ber syntaxes
+AreContextFields _ d = ⊥
 
 abbrev pub IsDefinition : Spot → Context → Type 0
-IsDefinition s d = (s.element.tag ≡ 48) × (fields : List Spot) × AreElements (content_piece s) fields × AreFields fields d
+IsDefinition s d = (s.element.tag ≡ SEQUENCE) × (fields : List Spot) × AreFields (content_piece s) fields × AreContextFields fields d
 
 abbrev pub AreDefinitions : List Spot → List Context → Type 0
 AreDefinitions [] [] = Unit {0}
@@ -46,7 +47,7 @@ AreDefinitions (s ∷ ss) [] = ⊥
 AreDefinitions (s ∷ ss) (d ∷ ds) = IsDefinition s d × AreDefinitions ss ds
 
 abbrev pub IsContextList : Piece → List Context → Type 0
-IsContextList content contexts = (spots : List Spot) × AreElements content spots × AreDefinitions spots contexts
+IsContextList content contexts = (spots : List Spot) × AreFields content spots × AreDefinitions spots contexts
 
 -- The context at this place is the first of this abstract syntax.
 abbrev pub IsFirst : List ℕ → List Context → ℕ → Context → Type 0

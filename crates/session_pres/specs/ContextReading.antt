@@ -3,34 +3,35 @@ use Rattle.std.specs.Prelude.{ℕ, suc, Bool, true, false, List, [], ◌∷◌, 
 use Rattle.std.specs.Option.{option_map}
 use Rattle.ber_grammar.specs.Place.{Spot, Piece, content_piece}
 use Rattle.ber_grammar.specs.Reader.{and_then}
-use Rattle.session_pres.specs.Places.{elements_at}
+use Rattle.session_pres.specs.declared.codes.TheConstants.{INTEGER, OBJECT_IDENTIFIER, SEQUENCE}
+use Rattle.ber_grammar.specs.Fields.{fields_in}
 use Rattle.session_pres.specs.UserData.{context_at}
 use Rattle.session_pres.specs.ContextList.{Context, ber, acse, mms, Chosen}
 
 abbrev pub has_ber : List Spot → Bool
 has_ber [] = false
-has_ber (s ∷ ss) = if s.element.tag == 6 then (if bytes_eq s.element.content ber then true else has_ber ss) else has_ber ss
+has_ber (s ∷ ss) = if s.element.tag == OBJECT_IDENTIFIER then (if bytes_eq s.element.content ber then true else has_ber ss) else has_ber ss
 
-unfoldable pub fields_at : List Spot → Option Context
-fields_at [] = None
-fields_at (a ∷ []) = None
-fields_at (a ∷ b ∷ []) = None
-fields_at (a ∷ b ∷ c ∷ []) =
-    if a.element.tag == 2 then
-    (if b.element.tag == 6 then
-    (if c.element.tag == 48 then and_then (context_at a.element.content) (λ n. and_then (elements_at (content_piece c)) (λ syntaxes. Some (record { number = n; syntax = b.element.content; has_ber = has_ber syntaxes })))
+unfoldable pub context_fields_at : List Spot → Option Context
+context_fields_at [] = None
+context_fields_at (a ∷ []) = None
+context_fields_at (a ∷ b ∷ []) = None
+context_fields_at (a ∷ b ∷ c ∷ []) =
+    if a.element.tag == INTEGER then
+    (if b.element.tag == OBJECT_IDENTIFIER then
+    (if c.element.tag == SEQUENCE then and_then (context_at a.element.content) (λ n. and_then (fields_in (content_piece c)) (λ syntaxes. Some (record { number = n; syntax = b.element.content; has_ber = has_ber syntaxes })))
     else None) else None) else None
-fields_at (a ∷ b ∷ c ∷ d ∷ more) = None
+context_fields_at (a ∷ b ∷ c ∷ d ∷ more) = None
 
 unfoldable pub definition_at : Spot → Option Context
-definition_at s = if s.element.tag == 48 then and_then (elements_at (content_piece s)) fields_at else None
+definition_at s = if s.element.tag == SEQUENCE then and_then (fields_in (content_piece s)) context_fields_at else None
 
 abbrev pub definitions_at : List Spot → Option (List Context)
 definitions_at [] = Some []
 definitions_at (s ∷ ss) = and_then (definition_at s) (λ d. and_then (definitions_at ss) (λ ds. Some (d ∷ ds)))
 
 unfoldable pub context_list_at : Piece → Option (List Context)
-context_list_at content = and_then (elements_at content) definitions_at
+context_list_at content = and_then (fields_in content) definitions_at
 
 -- the same one place further on
 abbrev pub further : ℕ × Context → ℕ × Context

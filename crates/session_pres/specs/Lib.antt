@@ -1,4 +1,4 @@
-pub mod Steps
+-- From the parts of octets to a connection that is read, and what is written.
 pub mod Places
 pub mod Parameters
 pub mod ParameterReading

@@ -3,8 +3,10 @@ use Rattle.std.specs.Prelude.{ℕ, zero, suc, ◌+◌, ◌*◌, Bool, true, List
 use Rattle.std.specs.Option.{option_map}
 use Rattle.ber_grammar.specs.Place.{Piece}
 use Rattle.ber_grammar.specs.Reader.{and_then}
+use Rattle.session_pres.specs.declared.codes.TheConstants.{CONNECT_ACCEPT_ITEM, USER_DATA}
 use Rattle.session_pres.specs.Places.{front, behind}
-use Rattle.session_pres.specs.Parameters.{Parameter, first_of_two, last_of}
+use Rattle.ber_grammar.specs.Reader.{first_of_two}
+use Rattle.session_pres.specs.Parameters.{Parameter, last_of}
 
 -- a length, and how many octets it takes
 unfoldable pub length_at : List ℕ → Option (ℕ × ℕ)
@@ -30,7 +32,7 @@ unfoldable pub parameters_at : Piece → Option (List Parameter)
 parameters_at input = bounded_parameters (suc (length input.octets)) input
 
 abbrev pub is_cut : Parameter → Bool
-is_cut p = if p.code == 5 then is_some (parameters_at p.value) else true
+is_cut p = if p.code == CONNECT_ACCEPT_ITEM then is_some (parameters_at p.value) else true
 
 abbrev pub all_cut : List Parameter → Bool
 all_cut [] = true
@@ -38,7 +40,7 @@ all_cut (p ∷ ps) = is_cut p && all_cut ps
 
 -- the user data, with one parameter more
 abbrev pub if_user : Parameter → Option Piece → Option Piece
-if_user p user = first_of_two (if p.code == 193 then Some p.value else None) user
+if_user p user = first_of_two (if p.code == USER_DATA then Some p.value else None) user
 
 unfoldable pub user_at : Piece → Option (Option Piece)
-user_at input = and_then (parameters_at input) (λ ps. if all_cut ps then Some (last_of 193 ps) else None)
+user_at input = and_then (parameters_at input) (λ ps. if all_cut ps then Some (last_of USER_DATA ps) else None)

@@ -2,6 +2,8 @@
 use Rattle.std.specs.Prelude.{◌≡◌, ℕ, ◌+◌, ◌*◌, ◌<◌, ◌≤◌, List, [], ◌∷◌, ◌++◌, length, Option, Some, None, ◌==◌, if◌then◌else◌}
 use Rattle.std.specs.List.{AllByRecursion}
 use Rattle.ber_grammar.specs.Place.{Piece}
+use Rattle.ber_grammar.specs.Reader.{first_of_two}
+use Rattle.session_pres.specs.declared.codes.TheConstants.{CONNECT_ACCEPT_ITEM, USER_DATA}
 use Rattle.session_pres.specs.Places.{IsPart}
 
 -- A length up to 254 is one octet, and one above is 255 and two octets.
@@ -29,20 +31,15 @@ abbrev pub AreParameters : Piece → List Parameter → Type 0
 AreParameters input [] = input.octets ≡ []
 AreParameters input (p ∷ ps) = (rest : Piece) × BeginsWith input p rest × AreParameters rest ps
 
--- Code 5 is a group, the connect/accept item: its value is parameters too.
+-- The connect/accept item is a group: its value is parameters too.
 abbrev pub IsCut : Parameter → Type 0
-IsCut p = p.code ≡ 5 → (inner : List Parameter) × AreParameters p.value inner
-
--- the first of two that there may be
-abbrev pub first_of_two : {A : Type 0} → Option A → Option A → Option A
-first_of_two (Some v) other = Some v
-first_of_two None other = other
+IsCut p = p.code ≡ CONNECT_ACCEPT_ITEM → (inner : List Parameter) × AreParameters p.value inner
 
 -- the value of the last parameter of this code
 abbrev pub last_of : ℕ → List Parameter → Option Piece
 last_of code [] = None
 last_of code (p ∷ ps) = first_of_two (last_of code ps) (if p.code == code then Some p.value else None)
 
--- The parameters' user data, code 193: of a repeated one the last counts, and parameters of other codes are skipped.
+-- The parameters' user data: of a repeated one the last counts, and parameters of other codes are skipped.
 abbrev pub IsUserOf : Piece → Option Piece → Type 0
-IsUserOf input user = (ps : List Parameter) × AreParameters input ps × AllByRecursion IsCut ps × (user ≡ last_of 193 ps)
+IsUserOf input user = (ps : List Parameter) × AreParameters input ps × AllByRecursion IsCut ps × (user ≡ last_of USER_DATA ps)

@@ -2,22 +2,20 @@
 use Rattle.std.specs.Prelude.{ℕ, Bool, List, Option, Result, Ok}
 use Rattle.std.specs.Option.{option_map}
 use Rattle.std.specs.Borrow.{Bor}
-use Rattle.ber_grammar.specs.Place.{Piece, piece}
+use Rattle.ber_grammar.specs.Place.{Piece, piece, anywhere}
 use Rattle.ber_grammar.specs.Reader.{◌>>=◌}
+use Rattle.session_pres.specs.declared.codes.TheConstants.{DISCONNECT}
 use Rattle.session_pres.specs.declared.fault.SpFault.{SpFault}
 use Rattle.session_pres.specs.declared.fault.SpFault.TheVariants as faults
 use Rattle.session_pres.specs.declared.spdu.Spdu.{Spdu}
 use Rattle.session_pres.specs.declared.presentation.Cp.{Cp}
-use Rattle.session_pres.specs.Steps.{required}
+use Rattle.ber_grammar.specs.Steps.{required}
 use Rattle.session_pres.specs.Units.{Seen, connect, transfer, finish, abort}
 use Rattle.session_pres.specs.UnitReading.{user_of, spdu_at}
 use Rattle.session_pres.specs.UserData.{user_data_at}
 use Rattle.session_pres.specs.Presentation.{Request}
 use Rattle.session_pres.specs.PresentationReading.{cp_at, ac_at}
 use Rattle.session_pres.specs.View.{seen, request_of}
-
-abbrev pub anywhere : List ℕ → Piece
-anywhere octets = record { octets = octets; block = 0; place = 0 }
 
 abbrev pub octets : Piece → List ℕ
 octets part = part.octets
@@ -60,7 +58,7 @@ unfoldable pub ac_from : List ℕ → Result (List ℕ) SpFault
 ac_from input = ac_at (anywhere input) >>= λ apdu. Ok apdu.octets
 
 unfoldable pub dn_from : List ℕ → Result (Option (List ℕ)) SpFault
-dn_from input = user_of 10 (anywhere input) >>= λ user. Ok (option_map octets user)
+dn_from input = user_of DISCONNECT (anywhere input) >>= λ user. Ok (option_map octets user)
 
 unfoldable pub pdv_from : List ℕ → Result (ℕ × List ℕ) SpFault
 pdv_from input = required faults.Pdv (user_data_at (anywhere input)) >>= λ pdv. Ok (pdv_octets pdv)

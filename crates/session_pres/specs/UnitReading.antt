@@ -2,9 +2,10 @@
 use Rattle.std.specs.Prelude.{ℕ, ◌+◌, Bool, false, List, ◌∷◌, length, Option, Some, None, Result, Ok, ◌==◌, ◌&&◌, if◌then◌else◌}
 use Rattle.ber_grammar.specs.Place.{Piece}
 use Rattle.ber_grammar.specs.Reader.{◌>>=◌, and_then}
+use Rattle.session_pres.specs.declared.codes.TheConstants.{FINISH, CONNECT, ABORT, GIVE_TOKENS, DATA_TRANSFER}
 use Rattle.session_pres.specs.declared.fault.SpFault.{SpFault}
 use Rattle.session_pres.specs.declared.fault.SpFault.TheVariants as faults
-use Rattle.session_pres.specs.Steps.{required}
+use Rattle.ber_grammar.specs.Steps.{required}
 use Rattle.session_pres.specs.Places.{behind}
 use Rattle.session_pres.specs.ParameterReading.{length_at, user_at}
 use Rattle.session_pres.specs.Units.{Seen, begins, connect, transfer, finish, abort}
@@ -23,7 +24,7 @@ unfoldable pub data_of : ℕ → Piece → Result Piece SpFault
 data_of code input = user_of code input >>= λ user. required faults.Parameter user
 
 abbrev pub is_transfer : List ℕ → Bool
-is_transfer (a ∷ b ∷ c ∷ d ∷ rest) = a == 1 && b == 0 && c == 1 && d == 0
+is_transfer (a ∷ b ∷ c ∷ d ∷ rest) = a == GIVE_TOKENS && b == 0 && c == DATA_TRANSFER && d == 0
 is_transfer _ = false
 
 unfoldable pub transfer_at : Piece → Option Seen
@@ -31,7 +32,7 @@ transfer_at input = if is_transfer input.octets then Some (transfer (behind 4 in
 
 unfoldable pub spdu_at : Piece → Result Seen SpFault
 spdu_at input =
-    if begins 13 input.octets then (data_of 13 input >>= λ given. Ok (connect given))
-    else if begins 9 input.octets then (user_of 9 input >>= λ user. Ok (finish user))
-    else if begins 25 input.octets then (user_of 25 input >>= λ user. Ok abort)
+    if begins CONNECT input.octets then (data_of CONNECT input >>= λ given. Ok (connect given))
+    else if begins FINISH input.octets then (user_of FINISH input >>= λ user. Ok (finish user))
+    else if begins ABORT input.octets then (user_of ABORT input >>= λ user. Ok abort)
     else required faults.Spdu (transfer_at input)

@@ -1,9 +1,10 @@
 -- SPDUs (ISO 8327-1, "SPDU identifiers and associated parameter fields").
 use Rattle.std.specs.Prelude.{◌≡◌, ℕ, ◌+◌, Bool, true, false, List, [], ◌∷◌, ◌++◌, length, Option, Some, ◌⊎◌, ◌==◌}
 use Rattle.ber_grammar.specs.Place.{Piece}
+use Rattle.session_pres.specs.declared.codes.TheConstants.{FINISH, CONNECT, ABORT, GIVE_TOKENS, DATA_TRANSFER}
 use Rattle.session_pres.specs.declared.fault.SpFault.{SpFault}
 use Rattle.session_pres.specs.declared.fault.SpFault.TheVariants as faults
-use Rattle.session_pres.specs.Steps.{Then, Or, Else, IsLacking}
+use Rattle.ber_grammar.specs.Steps.{Then, Or, Else, IsLacking}
 use Rattle.session_pres.specs.Places.{IsPart}
 use Rattle.session_pres.specs.Parameters.{IsLength, IsUserOf}
 
@@ -35,16 +36,16 @@ pub data Seen : Type 0 where
   finish : Option Piece → Seen
   abort : Seen
 
--- An empty GIVE TOKENS and an empty DATA TRANSFER, each of them 1 and 0, stand in front of the data.
+-- An empty GIVE TOKENS and an empty DATA TRANSFER, each of them its code and 0, stand in front of the data.
 abbrev pub IsTransfer : Piece → Piece → Type 0
-IsTransfer input user = (input.octets ≡ 1 ∷ 0 ∷ 1 ∷ 0 ∷ user.octets) × IsPart input 4 user
+IsTransfer input user = (input.octets ≡ GIVE_TOKENS ∷ 0 ∷ DATA_TRANSFER ∷ 0 ∷ user.octets) × IsPart input 4 user
 
--- CONNECT is 13, FINISH 9, ABORT 25.
+-- Each brings its user data; an ABORT that it may have says nothing.
 abbrev pub IsSpdu : Piece → Seen → Type 0
-IsSpdu input (connect user) = HasData 13 input user
+IsSpdu input (connect user) = HasData CONNECT input user
 IsSpdu input (transfer user) = IsTransfer input user
-IsSpdu input (finish user) = HasUser 9 input user
-IsSpdu input abort = (user : Option Piece) × HasUser 25 input user
+IsSpdu input (finish user) = HasUser FINISH input user
+IsSpdu input abort = (user : Option Piece) × HasUser ABORT input user
 
 abbrev pub begins : ℕ → List ℕ → Bool
 begins code [] = false
@@ -55,7 +56,7 @@ HasCode code input = begins code input.octets ≡ true
 
 -- An SPDU of one of these codes is refused, or it has another code and brings no data.
 abbrev pub IsSpduRefused : Piece → SpFault → Type 0
-IsSpduRefused input f = (HasCode 13 input × IsDataRefused 13 input f)
-    ⊎ (HasCode 9 input × IsUserRefused 9 input f)
-    ⊎ (HasCode 25 input × IsUserRefused 25 input f)
-    ⊎ ((f ≡ faults.Spdu) × ¬ HasCode 13 input × ¬ HasCode 9 input × ¬ HasCode 25 input × ((user : Piece) → ¬ IsTransfer input user))
+IsSpduRefused input f = (HasCode CONNECT input × IsDataRefused CONNECT input f)
+    ⊎ (HasCode FINISH input × IsUserRefused FINISH input f)
+    ⊎ (HasCode ABORT input × IsUserRefused ABORT input f)
+    ⊎ ((f ≡ faults.Spdu) × ¬ HasCode CONNECT input × ¬ HasCode FINISH input × ¬ HasCode ABORT input × ((user : Piece) → ¬ IsTransfer input user))

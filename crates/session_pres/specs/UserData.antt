@@ -4,29 +4,30 @@ use Rattle.ber_grammar.specs.Content.{IsUint}
 use Rattle.ber_grammar.specs.Place.{Spot, Piece, content_piece}
 use Rattle.ber_grammar.specs.Reader.{and_then, kept}
 use Rattle.ber_grammar.specs.Reading.{uint_at}
-use Rattle.session_pres.specs.Places.{AreElements, IsOnly, elements_at, single_at, only_at}
+use Rattle.session_pres.specs.declared.codes.TheConstants.{FULLY_ENCODED_DATA, SINGLE_ASN1_TYPE, INTEGER, OBJECT_IDENTIFIER, SEQUENCE}
+use Rattle.ber_grammar.specs.Fields.{AreFields, IsOnly, fields_in, only_in, only_with}
 
 -- A presentation context is known by a number of 32 bits.
 abbrev pub IsContext : List ℕ → ℕ → Type 0
 IsContext content n = IsUint content n × (n < 2 ^ 32)
 
--- INTEGER, 2, the context's number; then [0], 160, which holds one element, of any tag.
+-- INTEGER, the context's number; then [0], which holds one element, of any tag.
 abbrev pub IsPair : Spot → Spot → ℕ × Piece → Type 0
-IsPair a b pdv = (a.element.tag ≡ 2) × IsContext a.element.content pdv.0 × (b.element.tag ≡ 160) × (pdv.1 ≡ content_piece b) × (s : Spot) × AreElements pdv.1 (s ∷ [])
+IsPair a b pdv = (a.element.tag ≡ INTEGER) × IsContext a.element.content pdv.0 × (b.element.tag ≡ SINGLE_ASN1_TYPE) × (pdv.1 ≡ content_piece b) × (s : Spot) × AreFields pdv.1 (s ∷ [])
 
--- An OBJECT IDENTIFIER, 6, the transfer syntax, may stand before them, and is skipped.
+-- An OBJECT IDENTIFIER, the transfer syntax, may stand before them, and is skipped.
 abbrev pub IsPdv : List Spot → ℕ × Piece → Type 0
 IsPdv (a ∷ b ∷ []) pdv = IsPair a b pdv
-IsPdv (syntax ∷ a ∷ b ∷ []) pdv = (syntax.element.tag ≡ 6) × IsPair a b pdv
+IsPdv (syntax ∷ a ∷ b ∷ []) pdv = (syntax.element.tag ≡ OBJECT_IDENTIFIER) × IsPair a b pdv
 IsPdv _ pdv = ⊥
 
--- one PDV, a SEQUENCE, 48
+-- one PDV, a SEQUENCE
 abbrev pub IsPdvList : Piece → ℕ × Piece → Type 0
-IsPdvList values pdv = (value : Piece) × IsOnly 48 values value × (fields : List Spot) × AreElements value fields × IsPdv fields pdv
+IsPdvList values pdv = (value : Piece) × IsOnly SEQUENCE values value × (fields : List Spot) × AreFields value fields × IsPdv fields pdv
 
--- user data as the whole input: [APPLICATION 1], 97
+-- user data as the whole input: [APPLICATION 1]
 abbrev pub IsUserData : Piece → ℕ × Piece → Type 0
-IsUserData input pdv = (values : Piece) × IsOnly 97 input values × IsPdvList values pdv
+IsUserData input pdv = (values : Piece) × IsOnly FULLY_ENCODED_DATA input values × IsPdvList values pdv
 
 -- ---- reading
 
@@ -34,19 +35,19 @@ unfoldable pub context_at : List ℕ → Option ℕ
 context_at content = and_then (kept (uint_at content)) (λ n. if nat_lt n 4294967296 then Some n else None)
 
 unfoldable pub pair_at : Spot → Spot → Option (ℕ × Piece)
-pair_at a b = if a.element.tag == 2
-    then and_then (context_at a.element.content) (λ n. if b.element.tag == 160 then and_then (single_at (content_piece b)) (λ s. Some (n, content_piece b)) else None)
+pair_at a b = if a.element.tag == INTEGER
+    then and_then (context_at a.element.content) (λ n. if b.element.tag == SINGLE_ASN1_TYPE then and_then (only_in (content_piece b)) (λ s. Some (n, content_piece b)) else None)
     else None
 
 abbrev pub pdv_at : List Spot → Option (ℕ × Piece)
 pdv_at [] = None
 pdv_at (a ∷ []) = None
 pdv_at (a ∷ b ∷ []) = pair_at a b
-pdv_at (a ∷ b ∷ c ∷ []) = if a.element.tag == 6 then pair_at b c else None
+pdv_at (a ∷ b ∷ c ∷ []) = if a.element.tag == OBJECT_IDENTIFIER then pair_at b c else None
 pdv_at (a ∷ b ∷ c ∷ d ∷ more) = None
 
 unfoldable pub pdv_list_at : Piece → Option (ℕ × Piece)
-pdv_list_at values = and_then (only_at 48 values) (λ value. and_then (elements_at value) pdv_at)
+pdv_list_at values = and_then (only_with SEQUENCE values) (λ value. and_then (fields_in value) pdv_at)
 
 unfoldable pub user_data_at : Piece → Option (ℕ × Piece)
-user_data_at input = and_then (only_at 97 input) pdv_list_at
+user_data_at input = and_then (only_with FULLY_ENCODED_DATA input) pdv_list_at

@@ -3,7 +3,7 @@ use Rattle.std.specs.Prelude.{ℕ, List, Option, Some, None, bytes_eq, if◌then
 use Rattle.std.specs.Option.{option_map}
 use Rattle.session_pres.specs.declared.contexts.Definition.{Definition}
 use Rattle.session_pres.specs.declared.contexts.Offer.{Offer}
-use Rattle.session_pres.specs.Parameters.{first_of_two}
+use Rattle.ber_grammar.specs.Reader.{first_of_two}
 use Rattle.session_pres.specs.ContextList.{Context, Chosen}
 use Rattle.session_pres.specs.ContextReading.{Offered}
 

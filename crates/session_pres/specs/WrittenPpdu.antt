@@ -2,16 +2,17 @@
 use Rattle.std.specs.Prelude.{ℕ, Bool, true, false, List, [], ◌∷◌, ◌++◌}
 use Rattle.std.specs.List.{flat_map}
 use Rattle.ber_write.specs.Minimal.{octets_of}
+use Rattle.session_pres.specs.declared.codes.TheConstants.{CONNECT, USER_DATA, NORMAL_MODE_PARAMETERS, CONTEXT_RESULT_LIST, SET}
 use Rattle.session_pres.specs.Written.{user_octets, field, connect_item}
 
 abbrev pub normal_mode : List ℕ
 normal_mode = 0xA0 ∷ 0x03 ∷ 0x80 ∷ 0x01 ∷ 0x01 ∷ []
 
 unfoldable pub set_content : List ℕ → List ℕ
-set_content parameters = normal_mode ++ octets_of 162 parameters
+set_content parameters = normal_mode ++ octets_of NORMAL_MODE_PARAMETERS parameters
 
 unfoldable pub ppdu : List ℕ → List ℕ
-ppdu parameters = octets_of 49 (set_content parameters)
+ppdu parameters = octets_of SET (set_content parameters)
 
 -- a context is accepted with BER, or refused by the user
 abbrev pub result_octets : Bool → List ℕ
@@ -19,7 +20,7 @@ result_octets true = 0x30 ∷ 0x07 ∷ 0x80 ∷ 0x01 ∷ 0x00 ∷ 0x81 ∷ 0x02 
 result_octets false = 0x30 ∷ 0x03 ∷ 0x80 ∷ 0x01 ∷ 0x01 ∷ []
 
 unfoldable pub cpa_parameters : List Bool → ℕ → List ℕ → List ℕ
-cpa_parameters list context aare = octets_of 165 (flat_map result_octets list) ++ user_octets context aare
+cpa_parameters list context aare = octets_of CONTEXT_RESULT_LIST (flat_map result_octets list) ++ user_octets context aare
 
 unfoldable pub cpa_octets : List Bool → ℕ → List ℕ → List ℕ
 cpa_octets list context aare = ppdu (cpa_parameters list context aare)
@@ -34,7 +35,7 @@ unfoldable pub cp_octets : List ℕ → List ℕ
 cp_octets aarq = ppdu (cp_head ++ user_octets 1 aarq)
 
 unfoldable pub connect_parameters : List ℕ → List ℕ
-connect_parameters aarq = connect_item ++ field 193 (cp_octets aarq)
+connect_parameters aarq = connect_item ++ field USER_DATA (cp_octets aarq)
 
 unfoldable pub connect_spdu : List ℕ → List ℕ
-connect_spdu aarq = field 13 (connect_parameters aarq)
+connect_spdu aarq = field CONNECT (connect_parameters aarq)

@@ -1,15 +1,17 @@
+//! The presentation contexts that a CP offers, and which are accepted (ISO 8823-1, "Presentation-context-definition-list").
+
 ghost use Rattle.std.specs.Prelude.{◌≡◌, ◌+◌, ◌==◌, ◌||◌, List, [], ◌++◌, Bool, bytes_eq, length, Option, Some, None, slice_get, IfSome, MatchOption};
 ghost use Rattle.std.specs.Option.{option_map};
 ghost use Rattle.ber_grammar.specs.Place.{piece, content_piece};
 ghost use Rattle.ber_view.specs.View.{spot};
-ghost use Rattle.session_pres.specs.Places.{elements_at};
+ghost use Rattle.ber_grammar.specs.Fields.{fields_in};
 ghost use Rattle.session_pres.specs.ContextList.{Context, flags_from};
-ghost use Rattle.session_pres.specs.ContextReading.{has_ber, fields_at, definition_at, chosen_of, offered, context_list_at};
+ghost use Rattle.session_pres.specs.ContextReading.{has_ber, context_fields_at, definition_at, chosen_of, offered, context_list_at};
 ghost use Rattle.session_pres.specs.ViewOfContexts.{context, candidate, offer, chosen, if_first};
 
+use crate::codes::{INTEGER, OBJECT_IDENTIFIER, SEQUENCE};
 use crate::pdv::context_of;
-use crate::row::elements_of;
-use ber_view::{Elements, Tlv};
+use ber_view::{Elements, Tlv, fields};
 use std::marker::Model;
 
 /// Which contexts of a client's definition list are accepted, in its order, seen as the list of these truth values.
@@ -42,7 +44,7 @@ fn lists_ber(mut syntaxes: Elements<'_>) -> bool
     ensures { result ≡ has_ber syntaxes.entry }
 {
     while let Some(syntax) = syntaxes.next() {
-        if syntax.tag == 6 && syntax.content == [0x51, 1].as_slice() {
+        if syntax.tag == OBJECT_IDENTIFIER && syntax.content == [0x51, 1].as_slice() {
             return true;
         }
     }
@@ -50,20 +52,24 @@ fn lists_ber(mut syntaxes: Elements<'_>) -> bool
 }
 
 /// The context of three fields.
-#[tactic(auto, unfolding(crate::specs::ContextReading::fields_at))]
-fn context_of_fields<'a>(mut fields: Elements<'a>) -> Option<Definition<'a>>
-    ensures { option_map context result ≡ fields_at fields.entry }
+#[tactic(auto, unfolding(crate::specs::ContextReading::context_fields_at))]
+fn context_of_fields<'a>(mut row: Elements<'a>) -> Option<Definition<'a>>
+    ensures { option_map context result ≡ context_fields_at row.entry }
 {
-    let number = fields.next()?;
-    let syntax = fields.next()?;
-    let transfer = fields.next()?;
-    if fields.next().is_some() || number.tag != 2 || syntax.tag != 6 || transfer.tag != 0x30 {
+    let number = row.next()?;
+    let syntax = row.next()?;
+    let transfer = row.next()?;
+    if row.next().is_some()
+        || number.tag != INTEGER
+        || syntax.tag != OBJECT_IDENTIFIER
+        || transfer.tag != SEQUENCE
+    {
         return None;
     }
     Some(Definition {
         number: context_of(number.content)?,
         syntax: syntax.content,
-        has_ber: lists_ber(elements_of(transfer.content)?),
+        has_ber: lists_ber(fields(transfer.content)?),
     })
 }
 
@@ -72,10 +78,10 @@ fn context_of_fields<'a>(mut fields: Elements<'a>) -> Option<Definition<'a>>
 fn definition_of<'a>(element: &Tlv<'a>) -> Option<Definition<'a>>
     ensures { option_map context result ≡ definition_at (spot element.now) }
 {
-    if element.tag != 0x30 {
+    if element.tag != SEQUENCE {
         return None;
     }
-    context_of_fields(elements_of(element.content)?)
+    context_of_fields(fields(element.content)?)
 }
 
 /// A context, and its place in the list, from 0.
@@ -111,7 +117,7 @@ fn earlier<'a>(
 pub fn offer_of(content: &[u8]) -> Option<Offer<'_>>
     ensures { option_map offer result ≡ option_map offered (context_list_at (piece content.entry)) }
 {
-    let mut elements = elements_of(content)?;
+    let mut elements = fields(content)?;
     let mut count = 0;
     let mut acse = None;
     let mut mms = None;

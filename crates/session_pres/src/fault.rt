@@ -1,3 +1,5 @@
+//! Why octets are no SPDU or PPDU that is awaited.
+
 /// Why octets are no SPDU or PPDU that is awaited, in the order of the tests.
 #[derive(Clone, Copy, Debug, PartialEq, Eq)]
 pub enum SpFault {

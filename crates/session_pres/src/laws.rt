@@ -1,6 +1,9 @@
+//! What is promised of all SPDUs and PPDUs: each function here runs nothing, and its contract is a law.
+
 ghost use Rattle.std.specs.Prelude.{◌≡◌, ℕ, ◌+◌, ◌*◌, ◌<◌, ◌≤◌, ◌^◌, Bool, true, List, [], ◌∷◌, length, Some, Ok};
 ghost use Rattle.ber_grammar.specs.Octets.{IsBytes};
 ghost use Rattle.ber_grammar.specs.Place.{Piece};
+ghost use Rattle.session_pres.specs.declared.codes.TheConstants.{FINISH, DISCONNECT, USER_DATA};
 ghost use Rattle.session_pres.specs.Parameters.{IsLength};
 ghost use Rattle.session_pres.specs.Units.{HasUser, IsSpdu, connect, transfer, finish};
 ghost use Rattle.session_pres.specs.UserData.{IsUserData};
@@ -33,16 +36,16 @@ pub fn user_data_are_minimal()
 
 /// A FINISH and a DISCONNECT that are written bring their context and their APDU.
 pub fn a_release_is_read_back()
-    ensures finish { (input : Piece) (context : ℕ) (apdu : List ℕ) → context < 2 ^ 32 → IsOneElement apdu → length (field 193 (user_octets context apdu)) ≤ 65535 → input.octets ≡ release_spdu 9 context apdu
+    ensures finish { (input : Piece) (context : ℕ) (apdu : List ℕ) → context < 2 ^ 32 → IsOneElement apdu → length (field USER_DATA (user_octets context apdu)) ≤ 65535 → input.octets ≡ release_spdu FINISH context apdu
         → (user value : Piece) × IsSpdu input (finish (Some user)) × IsUserData user (context, value) × (value.octets ≡ apdu) }
-    ensures disconnect { (input : Piece) (context : ℕ) (apdu : List ℕ) → context < 2 ^ 32 → IsOneElement apdu → length (field 193 (user_octets context apdu)) ≤ 65535 → input.octets ≡ release_spdu 10 context apdu
-        → (user value : Piece) × HasUser 10 input (Some user) × IsUserData user (context, value) × (value.octets ≡ apdu) }
+    ensures disconnect { (input : Piece) (context : ℕ) (apdu : List ℕ) → context < 2 ^ 32 → IsOneElement apdu → length (field USER_DATA (user_octets context apdu)) ≤ 65535 → input.octets ≡ release_spdu DISCONNECT context apdu
+        → (user value : Piece) × HasUser DISCONNECT input (Some user) × IsUserData user (context, value) × (value.octets ≡ apdu) }
 {}
 
 /// What is short can be written: each clause gives a writer's condition.
 pub fn short_ones_fit()
     ensures transfer { (context : ℕ) (pdu : List ℕ) → context < 2 ^ 32 → length pdu + 64 ≤ 2 ^ 32 → length (pdv_list context pdu) < 2 ^ 32 }
-    ensures release { (context : ℕ) (apdu : List ℕ) → context < 2 ^ 32 → length apdu + 64 ≤ 65535 → length (field 193 (user_octets context apdu)) ≤ 65535 }
+    ensures release { (context : ℕ) (apdu : List ℕ) → context < 2 ^ 32 → length apdu + 64 ≤ 65535 → length (field USER_DATA (user_octets context apdu)) ≤ 65535 }
     ensures accept { (cpa : List ℕ) → length cpa + 16 ≤ 65535 → length (accept_parameters cpa) ≤ 65535 }
     ensures connect { (aarq : List ℕ) → length aarq + 128 ≤ 65535 → length (connect_parameters aarq) ≤ 65535 }
     ensures answer { (list : List Bool) (context : ℕ) (aare : List ℕ) → context < 2 ^ 32 → 9 * length list + length aare + 64 ≤ 2 ^ 32

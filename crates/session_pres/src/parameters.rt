@@ -1,9 +1,12 @@
+//! The parameters of an SPDU (ISO 8327-1, "Structure of SPDUs").
+
 ghost use Rattle.std.specs.Prelude.{◌≡◌, ◌≤◌, ◌+◌, ◌==◌, length, is_some, Option, Some, None, IfSome, MatchOption};
 ghost use Rattle.std.specs.Option.{option_map};
 ghost use Rattle.ber_grammar.specs.Place.{piece};
 ghost use Rattle.session_pres.specs.ParameterReading.{length_at, head_at, parameter_at, parameters_at, is_cut, if_user, user_at};
 ghost use Rattle.session_pres.specs.View.{parameter, parameter_of};
 
+use crate::codes::{CONNECT_ACCEPT_ITEM, USER_DATA};
 use std::marker::Model;
 
 /// A length, and how many octets it takes (ISO 8327-1, "Structure of SPDUs", LI).
@@ -102,14 +105,14 @@ fn are_parameters(octets: &[u8]) -> bool
 fn is_cut(code: u8, value: &[u8]) -> bool
     ensures { result ≡ is_cut (parameter_of code (piece value.entry)) }
 {
-    code != 5 || are_parameters(value)
+    code != CONNECT_ACCEPT_ITEM || are_parameters(value)
 }
 
 /// The user data, with one parameter more.
 fn later<'a>(code: u8, value: &'a [u8], user: Option<&'a [u8]>) -> Option<&'a [u8]>
     ensures { option_map piece result ≡ if_user (parameter_of code (piece value.entry)) (option_map piece user.entry) }
 {
-    if code == 0xc1 { Some(value) } else { user }
+    if code == USER_DATA { Some(value) } else { user }
 }
 
 /// The value of the last user data parameter, or none where there is none. None where the octets don't cut into whole

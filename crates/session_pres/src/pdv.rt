@@ -1,17 +1,19 @@
+//! User data of the presentation layer: one PDV (ISO 8823-1, "User-data").
+
 ghost use Rattle.std.specs.Prelude.{◌≡◌, List, ℕ};
 ghost use Rattle.std.specs.Option.{option_map};
 ghost use Rattle.ber_grammar.specs.Place.{Piece, piece};
 ghost use Rattle.ber_grammar.specs.Reader.{Gives, Reads};
 ghost use Rattle.ber_view.specs.View.{spot};
 ghost use Rattle.session_pres.specs.declared.fault.SpFault.TheVariants as faults;
-ghost use Rattle.session_pres.specs.Steps.{IsLacking, required};
+ghost use Rattle.ber_grammar.specs.Steps.{IsLacking, required};
 ghost use Rattle.session_pres.specs.UserData.{IsUserData, context_at, pair_at, pdv_at, pdv_list_at, user_data_at};
 ghost use Rattle.session_pres.specs.View.{pdv};
 ghost use Rattle.session_pres.specs.Plain.{pdv_now, pdv_from};
 
+use crate::codes::{FULLY_ENCODED_DATA, INTEGER, OBJECT_IDENTIFIER, SEQUENCE, SINGLE_ASN1_TYPE};
 use crate::fault::SpFault;
-use crate::row::{elements_of, only, single};
-use ber_view::{Elements, Tlv, uint};
+use ber_view::{Elements, Tlv, fields, only, only_with, uint};
 
 /// The number of a presentation context.
 #[tactic(auto, unfolding(crate::specs::UserData::context_at))]
@@ -26,14 +28,14 @@ pub fn context_of(content: &[u8]) -> Option<u32>
 fn pair_of<'a>(number: &Tlv<'a>, value: &Tlv<'a>) -> Option<(u32, &'a [u8])>
     ensures { option_map pdv result ≡ pair_at (spot number.now) (spot value.now) }
 {
-    if number.tag != 2 {
+    if number.tag != INTEGER {
         return None;
     }
     let context = context_of(number.content)?;
-    if value.tag != 0xa0 {
+    if value.tag != SINGLE_ASN1_TYPE {
         return None;
     }
-    single(value.content)?;
+    only(value.content)?;
     Some((context, value.content))
 }
 
@@ -46,7 +48,7 @@ fn pdv_of<'a>(mut fields: Elements<'a>) -> Option<(u32, &'a [u8])>
     let Some(third) = fields.next() else {
         return pair_of(&first, &second);
     };
-    if fields.next().is_some() || first.tag != 6 {
+    if fields.next().is_some() || first.tag != OBJECT_IDENTIFIER {
         return None;
     }
     pair_of(&second, &third)
@@ -57,15 +59,15 @@ fn pdv_of<'a>(mut fields: Elements<'a>) -> Option<(u32, &'a [u8])>
 pub fn pdv_list_of(values: &[u8]) -> Option<(u32, &[u8])>
     ensures { option_map pdv result ≡ pdv_list_at (piece values.entry) }
 {
-    let value = only(0x30, values)?;
-    pdv_of(elements_of(value)?)
+    let value = only_with(values, SEQUENCE)?;
+    pdv_of(fields(value)?)
 }
 
 #[tactic(auto, unfolding(crate::specs::UserData::user_data_at))]
 fn user_data_of(octets: &[u8]) -> Option<(u32, &[u8])>
     ensures { option_map pdv result ≡ user_data_at (piece octets.entry) }
 {
-    pdv_list_of(only(0x61, octets)?)
+    pdv_list_of(only_with(octets, FULLY_ENCODED_DATA)?)
 }
 
 fn data_of(octets: &[u8]) -> Result<(u32, &[u8]), SpFault>

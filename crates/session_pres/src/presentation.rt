@@ -1,20 +1,25 @@
+//! The PPDUs that make a connection: CP and CPA (ISO 8823-1, "CP-type" and "CPA-PPDU").
+
 ghost use Rattle.std.specs.Prelude.{◌≡◌, ◌==◌, List, ℕ, Bool, Option, Some, None, bytes_eq, is_some};
 ghost use Rattle.std.specs.Option.{option_map};
 ghost use Rattle.ber_grammar.specs.Place.{Spot, Piece, piece};
 ghost use Rattle.ber_grammar.specs.Reader.{Gives, Reads, and_then};
 ghost use Rattle.ber_view.specs.View.{spot};
-ghost use Rattle.session_pres.specs.Places.{elements_at, tagged};
+ghost use Rattle.ber_grammar.specs.Fields.{fields_in, first_with};
 ghost use Rattle.session_pres.specs.Presentation.{Request, IsCp, IsCpRefused, IsAc, IsAcRefused};
 ghost use Rattle.session_pres.specs.PresentationReading.{if_octets, normal_at, parameters_in, if_context, user_in, cp_at, accepted_at, cpa_at, ac_at};
 ghost use Rattle.session_pres.specs.View.{request_of};
 ghost use Rattle.session_pres.specs.Plain.{asked_of, cp_from, ac_from};
 
+use crate::codes::{
+    ACCEPT, CONTEXT_DEFINITION_LIST, CONTEXT_RESULT_LIST, FULLY_ENCODED_DATA, MODE_SELECTOR,
+    NORMAL_MODE_PARAMETERS, RESULT, SEQUENCE, SET, TRANSFER_SYNTAX,
+};
 use crate::contexts::{Contexts, choice, offer_of};
 use crate::fault::SpFault;
 use crate::pdv::pdv_list_of;
-use crate::row::{content_of, elements_of, only};
-use crate::spdu::{ACCEPT, connect_data_of};
-use ber_view::Tlv;
+use crate::spdu::connect_data_of;
+use ber_view::{Tlv, fields, first_of, first_with, only_with};
 
 /// What a CP says.
 #[derive(Debug, Drop)]
@@ -39,24 +44,17 @@ fn has_octets(part: Option<&[u8]>, octets: &[u8]) -> bool
     }
 }
 
-/// The content of the first element with this tag, of those that the octets are.
-fn field_of(tag: u32, octets: &[u8]) -> Option<&[u8]>
-    ensures { option_map piece result ≡ and_then (elements_at (piece octets.entry)) (tagged tag) }
-{
-    content_of(tag, elements_of(octets)?)
-}
-
 /// The parameters of the normal mode of a CP or a CPA.
-#[tactic(auto, unfolding(crate::specs::PresentationReading::parameters_in, crate::specs::PresentationReading::normal_at))]
+#[tactic(auto, unfolding(crate::specs::PresentationReading::parameters_in, crate::specs::PresentationReading::normal_at, ber_grammar::specs::Fields::field_with))]
 fn parameters_of(ppdu: &[u8]) -> Result<&[u8], SpFault>
     ensures { Gives piece result (parameters_in (piece ppdu.entry)) }
 {
-    let content = only(0x31, ppdu).ok_or(SpFault::Parameter)?;
-    let set = elements_of(content).ok_or(SpFault::Parameter)?;
-    if !has_octets(content_of(0xa0, set), &[0x80, 1, 1]) {
+    let content = only_with(ppdu, SET).ok_or(SpFault::Parameter)?;
+    let set = fields(content).ok_or(SpFault::Parameter)?;
+    if !has_octets(first_of(set, MODE_SELECTOR), &[0x80, 1, 1]) {
         return Err(SpFault::Mode);
     }
-    field_of(0xa2, content).ok_or(SpFault::NoAcseContext)
+    first_with(content, NORMAL_MODE_PARAMETERS).ok_or(SpFault::NoAcseContext)
 }
 
 /// The value of a PDV, if it stands in this context.
@@ -70,11 +68,11 @@ fn value_in(context: u32, pdv: Option<(u32, &[u8])>) -> Option<&[u8]>
 }
 
 /// The user data among the parameters, if they stand in this context.
-#[tactic(auto, unfolding(crate::specs::PresentationReading::user_in))]
+#[tactic(auto, unfolding(crate::specs::PresentationReading::user_in, ber_grammar::specs::Fields::field_with))]
 fn user_of(context: u32, parameters: &[u8]) -> Option<&[u8]>
-    ensures { option_map piece result ≡ and_then (elements_at (piece parameters.entry)) (λ fields. user_in fields context) }
+    ensures { option_map piece result ≡ and_then (fields_in (piece parameters.entry)) (λ fields. user_in fields context) }
 {
-    let values = field_of(0x61, parameters)?;
+    let values = first_with(parameters, FULLY_ENCODED_DATA)?;
     value_in(context, pdv_list_of(values))
 }
 
@@ -83,8 +81,8 @@ fn cp_of(ppdu: &[u8]) -> Result<Cp<'_>, SpFault>
     ensures { Gives request_of result (cp_at (piece ppdu.entry)) }
 {
     let parameters = parameters_of(ppdu)?;
-    let fields = elements_of(parameters).ok_or(SpFault::Parameter)?;
-    let list = content_of(0xa4, fields).ok_or(SpFault::NoAcseContext)?;
+    let row = fields(parameters).ok_or(SpFault::Parameter)?;
+    let list = first_of(row, CONTEXT_DEFINITION_LIST).ok_or(SpFault::NoAcseContext)?;
     let offer = offer_of(list).ok_or(SpFault::Parameter)?;
     let (acse_place, acse) = choice(offer.acse).ok_or(SpFault::NoAcseContext)?;
     let (mms_place, mms) = choice(offer.mms).ok_or(SpFault::NoMmsContext)?;
@@ -114,16 +112,16 @@ pub fn read_cp(ppdu: &[u8]) -> Result<Cp<'_>, SpFault>
 }
 
 /// Whether a result is there and accepts its context with BER.
-#[tactic(auto, unfolding(crate::specs::PresentationReading::accepted_at))]
+#[tactic(auto, unfolding(crate::specs::PresentationReading::accepted_at, ber_grammar::specs::Fields::field_with))]
 fn is_accepted(result_of: Option<Tlv<'_>>) -> bool
     ensures { result ≡ is_some (accepted_at (option_map spot result_of.entry)) }
 {
     let Some(element) = result_of else {
         return false;
     };
-    element.tag == 0x30
-        && has_octets(field_of(0x80, element.content), &[0])
-        && has_octets(field_of(0x81, element.content), &[0x51, 1])
+    element.tag == SEQUENCE
+        && has_octets(first_with(element.content, RESULT), &[0])
+        && has_octets(first_with(element.content, TRANSFER_SYNTAX), &[0x51, 1])
 }
 
 /// The APDU of a CPA that accepts both contexts.
@@ -132,9 +130,9 @@ fn cpa_of(ppdu: &[u8]) -> Result<&[u8], SpFault>
     ensures { Gives piece result (cpa_at (piece ppdu.entry)) }
 {
     let parameters = parameters_of(ppdu)?;
-    let fields = elements_of(parameters).ok_or(SpFault::Parameter)?;
-    let list = content_of(0xa5, fields).ok_or(SpFault::NoAcseContext)?;
-    let mut results = elements_of(list).ok_or(SpFault::Parameter)?;
+    let row = fields(parameters).ok_or(SpFault::Parameter)?;
+    let list = first_of(row, CONTEXT_RESULT_LIST).ok_or(SpFault::NoAcseContext)?;
+    let mut results = fields(list).ok_or(SpFault::Parameter)?;
     if !is_accepted(results.next()) {
         return Err(SpFault::NoAcseContext);
     }

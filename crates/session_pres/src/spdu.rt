@@ -1,3 +1,5 @@
+//! What an SPDU brings: its code, its length, and its user data (ISO 8327-1, "Structure of SPDUs").
+
 ghost use Rattle.std.specs.Prelude.{◌≡◌, Bool, Option};
 ghost use Rattle.std.specs.Option.{option_map};
 ghost use Rattle.ber_grammar.specs.Place.{piece};
@@ -7,6 +9,7 @@ ghost use Rattle.session_pres.specs.UnitReading.{counted_at, unit_at, user_of, d
 ghost use Rattle.session_pres.specs.View.{seen};
 ghost use Rattle.session_pres.specs.Plain.{brought, user_now, spdu_from, dn_from};
 
+use crate::codes::{ABORT, CONNECT, DATA_TRANSFER, DISCONNECT, FINISH, GIVE_TOKENS};
 use crate::fault::SpFault;
 use crate::parameters::{length_of, user_data};
 
@@ -22,17 +25,6 @@ pub enum Spdu<'a> {
     /// An ABORT.
     Abort,
 }
-
-/// Codes of SPDUs (ISO 8327-1, "SPDU identifiers and associated parameter fields").
-pub const FINISH: u8 = 0x09;
-
-pub const DISCONNECT: u8 = 0x0a;
-
-pub const CONNECT: u8 = 0x0d;
-
-pub const ACCEPT: u8 = 0x0e;
-
-pub const ABORT: u8 = 0x19;
 
 /// Whether an SPDU has this code.
 fn has_code(code: u8, spdu: &[u8]) -> bool
@@ -92,7 +84,7 @@ fn transferred(spdu: &[u8]) -> Option<Spdu<'_>>
     ensures { option_map seen result ≡ transfer_at (piece spdu.entry) }
 {
     match spdu {
-        [1, 0, 1, 0, user @ ..] => Some(Spdu::Data(user)),
+        [GIVE_TOKENS, 0, DATA_TRANSFER, 0, user @ ..] => Some(Spdu::Data(user)),
         _ => None,
     }
 }
@@ -135,8 +127,8 @@ pub fn read_spdu(spdu: &[u8]) -> Result<Spdu<'_>, SpFault>
 /// Fails with `Spdu` where it isn't a DISCONNECT, or the length isn't that of all that follows, and with `Parameter` where
 /// the parameters don't cut into whole ones.
 pub fn read_dn(spdu: &[u8]) -> Result<Option<&[u8]>, SpFault>
-    ensures reads { Reads (λ user. option_map piece user) result (HasUser 10 (piece spdu.entry)) (IsUserRefused 10 (piece spdu.entry)) }
-    ensures exact { Gives (λ user. option_map piece user) result (user_of 10 (piece spdu.entry)) }
+    ensures reads { Reads (λ user. option_map piece user) result (HasUser DISCONNECT (piece spdu.entry)) (IsUserRefused DISCONNECT (piece spdu.entry)) }
+    ensures exact { Gives (λ user. option_map piece user) result (user_of DISCONNECT (piece spdu.entry)) }
     ensures plain { Gives user_now result (dn_from spdu.now) }
 {
     user_data_of(DISCONNECT, spdu)

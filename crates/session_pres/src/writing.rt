@@ -1,12 +1,17 @@
+//! SPDUs and PPDUs, each in its one form.
+
 ghost use Rattle.std.specs.Prelude.{◌≡◌, ◌+◌, ◌<◌, ◌≤◌, ◌^◌, ◌++◌, length, OnOk, IfOk};
 ghost use Rattle.std.specs.List.{flat_map};
 ghost use Rattle.ber_write.specs.Minimal.{octets_of, uint_octets};
 ghost use Rattle.session_pres.specs.Written.{pdv_fields, pdv_list, user_octets, element_length, length_field, field, data_spdu, release_spdu, accept_parameters, accept_spdu, connect_item};
 ghost use Rattle.session_pres.specs.WrittenPpdu.{set_content, ppdu, result_octets, cpa_parameters, cpa_octets, cp_head, cp_octets, connect_parameters, connect_spdu};
 
+use crate::codes::{
+    ACCEPT, CONNECT, CONTEXT_RESULT_LIST, DATA_TRANSFER, DISCONNECT, FINISH, FULLY_ENCODED_DATA,
+    GIVE_TOKENS, INTEGER, NORMAL_MODE_PARAMETERS, SEQUENCE, SET, SINGLE_ASN1_TYPE, USER_DATA,
+};
 use crate::contexts::Contexts;
 use crate::presentation::Cp;
-use crate::spdu::{ACCEPT, CONNECT, DISCONNECT, FINISH};
 use ber_write::{length_of, put, put_head, put_uint, uint_len};
 use std::alloc::{AllocError, Global};
 use sv_base::Octs;
@@ -36,10 +41,10 @@ fn put_user_data(out: &mut Vec<u8>, context: u32, value: &[u8]) -> Result<(), Al
     ensures { OnOk result (out.new.items ≡ out.old.items ++ user_octets context value.now) }
 {
     let len = pdv_len(context, value);
-    put_head(out, 0x61, element_len(len))?;
-    put_head(out, 0x30, len)?;
-    put_uint(out, 2, u64::from(context))?;
-    put(out, 0xa0, value)
+    put_head(out, FULLY_ENCODED_DATA, element_len(len))?;
+    put_head(out, SEQUENCE, len)?;
+    put_uint(out, INTEGER, u64::from(context))?;
+    put(out, SINGLE_ASN1_TYPE, value)
 }
 
 /// Adds a code, the length of a value, and the value (ISO 8327-1, "Structure of SPDUs").
@@ -89,9 +94,9 @@ fn ppdu_of(alloc: Global, parameters: &[u8]) -> Result<Vec<u8>, AllocError>
     ensures { IfOk result (λ v. v.items ≡ ppdu parameters.now) }
 {
     let mut content = Vec::from_slice(alloc, &[0xa0, 3, 0x80, 1, 1])?;
-    put(&mut content, 0xa2, parameters)?;
+    put(&mut content, NORMAL_MODE_PARAMETERS, parameters)?;
     let mut out = Vec::new(alloc);
-    put(&mut out, 0x31, &content)?;
+    put(&mut out, SET, &content)?;
     Ok(out)
 }
 
@@ -124,33 +129,33 @@ pub fn write_data(alloc: Global, context: u32, pdu: &[u8]) -> Result<Octs, Alloc
     requires { length (pdv_list context pdu.now) < 2 ^ 32 }
     ensures { IfOk result (λ o. o ≡ data_spdu context pdu.now) }
 {
-    let out = with_user_data(alloc, &[1, 0, 1, 0], context, pdu)?;
+    let out = with_user_data(alloc, &[GIVE_TOKENS, 0, DATA_TRANSFER, 0], context, pdu)?;
     Ok(Octs::from_vec(out))
 }
 
 #[tactic(auto, unfolding(crate::specs::Written::release_spdu))]
 fn release_of(alloc: Global, code: u8, context: u32, apdu: &[u8]) -> Result<Octs, AllocError>
-    requires { length (field 193 (user_octets context apdu.now)) ≤ 65535 }
+    requires { length (field USER_DATA (user_octets context apdu.now)) ≤ 65535 }
     ensures { IfOk result (λ o. o ≡ release_spdu code context apdu.now) }
 {
     let user = with_user_data(alloc, &[], context, apdu)?;
-    let parameters = with_field(alloc, &[], 0xc1, &user)?;
+    let parameters = with_field(alloc, &[], USER_DATA, &user)?;
     let out = with_field(alloc, &[], code, &parameters)?;
     Ok(Octs::from_vec(out))
 }
 
 /// A DISCONNECT (ISO 8327-1) whose user data hold this APDU in this context. Its length is at most 65535.
 pub fn write_dn(alloc: Global, context: u32, rlre: &[u8]) -> Result<Octs, AllocError>
-    requires { length (field 193 (user_octets context rlre.now)) ≤ 65535 }
-    ensures { IfOk result (λ o. o ≡ release_spdu 10 context rlre.now) }
+    requires { length (field USER_DATA (user_octets context rlre.now)) ≤ 65535 }
+    ensures { IfOk result (λ o. o ≡ release_spdu DISCONNECT context rlre.now) }
 {
     release_of(alloc, DISCONNECT, context, rlre)
 }
 
 /// A FINISH (ISO 8327-1) whose user data hold this APDU in this context. Its length is at most 65535.
 pub fn write_fn(alloc: Global, context: u32, rlrq: &[u8]) -> Result<Octs, AllocError>
-    requires { length (field 193 (user_octets context rlrq.now)) ≤ 65535 }
-    ensures { IfOk result (λ o. o ≡ release_spdu 9 context rlrq.now) }
+    requires { length (field USER_DATA (user_octets context rlrq.now)) ≤ 65535 }
+    ensures { IfOk result (λ o. o ≡ release_spdu FINISH context rlrq.now) }
 {
     release_of(alloc, FINISH, context, rlrq)
 }
@@ -164,7 +169,7 @@ pub fn write_ac(alloc: Global, cpa: &[u8]) -> Result<Octs, AllocError>
     let parameters = with_field(
         alloc,
         &[5, 6, 0x13, 1, 0, 0x16, 1, 2, 0x14, 2, 0, 2],
-        0xc1,
+        USER_DATA,
         cpa,
     )?;
     let out = with_field(alloc, &[], ACCEPT, &parameters)?;
@@ -181,7 +186,7 @@ pub fn write_cpa(alloc: Global, cp: &Cp<'_>, aare: &[u8]) -> Result<Octs, AllocE
     let mut results = Vec::new(alloc);
     put_results(&mut results, &cp.list)?;
     let mut parameters = Vec::new(alloc);
-    put(&mut parameters, 0xa5, &results)?;
+    put(&mut parameters, CONTEXT_RESULT_LIST, &results)?;
     put_user_data(&mut parameters, cp.acse, aare)?;
     Ok(Octs::from_vec(ppdu_of(alloc, &parameters)?))
 }
@@ -210,7 +215,7 @@ pub fn write_cn(alloc: Global, aarq: &[u8]) -> Result<Octs, AllocError>
         &[
             5, 6, 0x13, 1, 0, 0x16, 1, 2, 0x14, 2, 0, 2, 0x33, 2, 0, 1, 0x34, 2, 0, 1,
         ],
-        0xc1,
+        USER_DATA,
         &cp,
     )?;
     let out = with_field(alloc, &[], CONNECT, &parameters)?;

@@ -1,3 +1,5 @@
+//! Rows of bits.
+
 use std::marker::Model;
 
 /// A row of truth values, seen by contracts as the list of them.

@@ -1,3 +1,5 @@
+//! A configuration: what a server is made of (IEC 61850-7-2, the information model).
+
 use crate::{
     AttrDefs, Bits, BlockDefs, CtlDefs, LnDefs, Octs, OctsList, SetDefs, SgDefs, TypeOf, Values,
 };

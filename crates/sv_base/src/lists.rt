@@ -1,3 +1,5 @@
+//! Lists of a configuration's parts, each seen by contracts as the list of them.
+
 use crate::{AttrDef, BlockDef, CtlDef, LnDef, Octs, SetDef, SgDef};
 use std::marker::Model;
 

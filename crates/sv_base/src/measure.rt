@@ -1,3 +1,5 @@
+//! How many octets the Data of a value has (ISO 9506-2, Data; ITU-T X.690).
+
 ghost use Rattle.std.specs.Prelude.{◌≡◌, ◌+◌, ◌∷◌, ◌≤◌, length, min};
 ghost use Rattle.std.specs.Int.{to_be_bytes, cast_unsigned, w64, w32};
 ghost use Rattle.sv_base.specs.Data.{without_zeros as without_zeros_of, length_field, shortest as shortest_of, packed, data_of, data_row};

@@ -1,3 +1,5 @@
+//! The numbers by which attributes, nodes, blocks, controls, members, associations and actors are known.
+
 /// The number of an attribute, counted from 0: first the `attr` lines of a configuration, then the attributes that
 /// its controls generate under CF, then the edited twins of its setting group attributes.
 #[derive(Clone, Copy, Debug, PartialEq, Eq)]

@@ -1,3 +1,5 @@
+//! Rows of octets.
+
 use std::marker::Model;
 
 /// A row of octets, seen by contracts as the list of them.

@@ -1,3 +1,5 @@
+//! The types of attributes, of components and of structures of these (ISO 9506-2, TypeSpecification).
+
 use crate::Octs;
 use std::marker::Model;
 

@@ -8,7 +8,7 @@ use Rattle.sv_base.specs.declared.types.TypeOf.TheVariants as types
 use Rattle.bay_model.specs.Model.{Role, single, selecting, calling, several, attribute, component, setting, withheld, leaf, structure}
 use Rattle.bay_model.specs.NameTree.{Forest, nothing, named}
 use Rattle.bay_model.specs.Places.{Place, place, places, type_with, fields, tree_with, trees, attrs_of_role, attrs_in, is_data_role, are_data}
-use Rattle.bay_model.specs.Slots.{IsSettable}
+use Rattle.bay_rooms.specs.Slots.{IsSettable}
 use Rattle.value_store.specs.Wholes.{HasForm, HaveForms, tree_attrs, row_attrs}
 use Rattle.value_store.specs.Leaves.{leaf_shapes, leaf_shapes_in}
 use Rattle.list_laws.proofs.Among.{Each, each-both}

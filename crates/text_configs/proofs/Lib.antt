@@ -1,19 +1,23 @@
+-- names that are joined, and the tree that grows of them
 pub mod JoinedLaws
 pub mod NamedLaws
 pub mod EntryLaws
 pub mod FormLaws
 pub mod TreeLaws
-pub mod LengthLaws
-pub mod SizeLaws
 pub mod PlaceLaws
 pub mod OrderLaws
+pub mod FindLaws
+-- how many octets a value has
+pub mod LengthLaws
+pub mod SizeLaws
+-- what the lines of a text bring with them
 pub mod ReachLaws
 pub mod StandLaws
 pub mod AttrLaws
 pub mod SetLaws
-pub mod FindLaws
 pub mod ValueLaws
 pub mod PathLaws
+-- the members of its data sets, and all of it
 pub mod CountLaws
 pub mod BelowLaws
 pub mod MemberLaws

@@ -8,10 +8,11 @@ use Rattle.sv_base.specs.declared.config.LnDef.{LnDef}
 use Rattle.sv_base.specs.declared.config.AttrDef.{AttrDef}
 use Rattle.sv_base.specs.declared.config.BlockDef.{BlockDef}
 use Rattle.sv_base.specs.declared.config.SgDef.{SgDef}
-use Rattle.bay_model.specs.declared.step.Comp.{Comp}
+use Rattle.bay_model.specs.declared.components.Comp.{Comp}
 use Rattle.bay_model.specs.Model.{attribute, several, component}
-use Rattle.bay_model.specs.Generated.{Named, within, end_named, structure_named, comp_name, components, type_of}
-use Rattle.bay_model.specs.Kinds.{comp_kind}
+use Rattle.bay_model.specs.Generated.{Named, within, end_named, structure_named}
+use Rattle.bay_model.specs.ComponentTable.{comp_name, components, comp_kind}
+use Rattle.bay_rooms.specs.Kinds.{type_of}
 use Rattle.bay_model.specs.NamedLines.{Line, is_setting, path_item, attribute_names, attribute_line, attribute_lines, node_line, block_line, block_lines, control_lines, group_line, domain_number, generated, lines, insert_line, in_order, names_in}
 use Rattle.bay_model.specs.NameTree.{longest}
 use Rattle.list_laws.proofs.Among.{Among, At, at-among, left, right, either, source, kept, passed, spread, gathered}

@@ -10,16 +10,15 @@ use Rattle.sv_base.specs.declared.value.Value.TheVariants as values
 use Rattle.sv_base.specs.declared.types.TypeOf.{TypeOf}
 use Rattle.sv_base.specs.declared.types.TypeOf.TheVariants as types
 use Rattle.sv_base.specs.declared.config.AttrDef.{AttrDef}
-use Rattle.bay_model.specs.Configured.{kind_of}
-use Rattle.bay_model.specs.Kinds.{is_kind, is_in_range}
-use Rattle.bay_model.specs.Slots.{IsSettable}
+use Rattle.bay_rooms.specs.Kinds.{kind_of, is_kind, is_in_range}
+use Rattle.bay_rooms.specs.Slots.{IsSettable}
 use Rattle.bay_model.specs.Places.{largest}
 use Rattle.object_model.specs.Fits.{is_sound, is_visible}
 use Rattle.value_store.specs.Opened.{HasValue}
-use Rattle.cfg_text.specs.Values.{is_graphic}
-use Rattle.cfg_text.specs.Numbers.{greatest}
-use Rattle.cfg_text.specs.Grammar.{IsType, FitsInt, IsOfType, AreOfType}
-use Rattle.cfg_text.specs.Sizes.{most_octets}
+use Rattle.text_words.specs.Values.{is_graphic}
+use Rattle.text_words.specs.Numbers.{greatest}
+use Rattle.text_words.specs.Grammar.{IsType, FitsInt, IsOfType, AreOfType}
+use Rattle.cfg_lines.specs.Sizes.{most_octets}
 
 pub settable : (k : TypeOf) → IsType k → IsSettable k
 settable types.Bool h = tt

@@ -6,21 +6,24 @@ use Rattle.std.specs.List.{flat_map, AllByRecursion}
 use Rattle.std.proofs.lemmas.Bool.{eqb-true, cond_both}
 use Rattle.std.proofs.lemmas.List.{length-append}
 use Rattle.std.proofs.lemmas.List.Concat.{flat_map-cons}
+use Rattle.ber_grammar.specs.Reader.{first_of_two}
+use Rattle.tpkt_cotp.specs.declared.codes.TheConstants.{TPDU_SIZE, CALLING, CALLED}
 use Rattle.tpkt_cotp.specs.declared.state.State.{State}
 use Rattle.tpkt_cotp.specs.declared.tsdus.Cr.{Cr}
 use Rattle.tpkt_cotp.specs.declared.tsdus.Tsdu.{Tsdu}
 use Rattle.tpkt_cotp.specs.declared.tsdus.Tsdu.TheVariants.{Connect, Data, Disconnect}
-use Rattle.tpkt_cotp.specs.Octets.{IsBytes}
+use Rattle.ber_grammar.specs.Octets.{IsBytes}
+use Rattle.ber_grammar.proofs.OctetLaws.{IsBytes-front, IsBytes-back}
 use Rattle.tpkt_cotp.specs.Packet.{packet, IsPartial}
-use Rattle.tpkt_cotp.specs.Parameters.{Parameter, spelled, IsAllowed, first_of_two, last_of, exponent_of, said}
+use Rattle.tpkt_cotp.specs.Parameters.{Parameter, spelled, IsAllowed, last_of, exponent_of, said}
 use Rattle.tpkt_cotp.specs.Tpdu.{IsConnection, IsTaken, tpdu_at}
-use Rattle.tpkt_cotp.specs.declared.tsdus.Taken.{Taken}
+use Rattle.tpkt_cotp.specs.declared.tsdus.Tpkt.{Tpkt}
 use Rattle.tpkt_cotp.specs.declared.transport.TransportIn.{TransportIn}
 use Rattle.tpkt_cotp.specs.Stream.{start, Runs, StandsAt, IsReady, StepsFrom, gift}
 use Rattle.tpkt_cotp.specs.Written.{size_parameter, selector, parameters_for, IsCr, Fits}
 use Rattle.tpkt_cotp.proofs.ParameterLaws.{if_code}
 use Rattle.tpkt_cotp.proofs.TpduLaws.{TpduTells, tpdu_tells}
-use Rattle.tpkt_cotp.proofs.StreamLaws.{IsBytes-front, IsBytes-back, IsBytes-append}
+use Rattle.tpkt_cotp.proofs.StreamLaws.{IsBytes-append}
 
 -- ---- what a CR says fits a CC
 
@@ -33,12 +36,12 @@ first_value : (a b : Option (List ℕ)) → IsSizeValue a → IsSizeValue b → 
 first_value None b p q = q
 first_value (Some v) b p q = p
 
-one_value : (p : Parameter) → IsAllowed p → IsSizeValue (if_code 192 p)
-one_value p allowed = cond_both (eqb p.code 192) (Some p.value) None (λ r. IsSizeValue r) (λ e. allowed (eqb-true p.code 192 e)) (λ e. tt)
+one_value : (p : Parameter) → IsAllowed p → IsSizeValue (if_code TPDU_SIZE p)
+one_value p allowed = cond_both (eqb p.code TPDU_SIZE) (Some p.value) None (λ r. IsSizeValue r) (λ e. allowed (eqb-true p.code TPDU_SIZE e)) (λ e. tt)
 
-last_value : (ps : List Parameter) → AllByRecursion IsAllowed ps → IsSizeValue (last_of 192 ps)
+last_value : (ps : List Parameter) → AllByRecursion IsAllowed ps → IsSizeValue (last_of TPDU_SIZE ps)
 last_value [] all = tt
-last_value (p ∷ ps) all = first_value (last_of 192 ps) (if_code 192 p) (last_value ps all.1) (one_value p all.0)
+last_value (p ∷ ps) all = first_value (last_of TPDU_SIZE ps) (if_code TPDU_SIZE p) (last_value ps all.1) (one_value p all.0)
 
 -- how many octets a parameter of this value has
 abbrev weight : Option (List ℕ) → ℕ
@@ -58,17 +61,17 @@ first_weight None b = omega arith
 first_weight (Some v) b = omega arith
 
 abbrev weights : Parameter → ℕ
-weights p = weight (if_code 192 p) + weight (if_code 194 p) + weight (if_code 193 p)
+weights p = weight (if_code TPDU_SIZE p) + weight (if_code CALLED p) + weight (if_code CALLING p)
 
-none_weight : (p : Parameter) (a b : Bool) → eqb p.code 192 ≡ a → eqb p.code 194 ≡ b → weights p ≤ 2 + length p.value
-none_weight p true b e f = let is : p.code ≡ 192 = eqb-true p.code 192 e in rw is (omega arith)
-none_weight p false true e f = let is : p.code ≡ 194 = eqb-true p.code 194 f in rw is (omega arith)
-none_weight p false false e f = rw (e, f) (cond_both (eqb p.code 193) (Some p.value) None (λ r. 0 + 0 + weight r ≤ 2 + length p.value) (λ g. omega arith) (λ g. omega arith))
+none_weight : (p : Parameter) (a b : Bool) → eqb p.code TPDU_SIZE ≡ a → eqb p.code CALLED ≡ b → weights p ≤ 2 + length p.value
+none_weight p true b e f = let is : p.code ≡ TPDU_SIZE = eqb-true p.code TPDU_SIZE e in rw is (omega arith)
+none_weight p false true e f = let is : p.code ≡ CALLED = eqb-true p.code CALLED f in rw is (omega arith)
+none_weight p false false e f = rw (e, f) (cond_both (eqb p.code CALLING) (Some p.value) None (λ r. 0 + 0 + weight r ≤ 2 + length p.value) (λ g. omega arith) (λ g. omega arith))
 
 one_weight : (p : Parameter) → weights p ≤ length (spelled p)
-one_weight p = omega (arith, none_weight p (eqb p.code 192) (eqb p.code 194) refl refl)
+one_weight p = omega (arith, none_weight p (eqb p.code TPDU_SIZE) (eqb p.code CALLED) refl refl)
 
-last_weight : (ps : List Parameter) → weight (last_of 192 ps) + weight (last_of 194 ps) + weight (last_of 193 ps) ≤ length (flat_map spelled ps)
+last_weight : (ps : List Parameter) → weight (last_of TPDU_SIZE ps) + weight (last_of CALLED ps) + weight (last_of CALLING ps) ≤ length (flat_map spelled ps)
 last_weight [] = omega arith
 last_weight (p ∷ ps) =
     let whole : length (flat_map spelled (p ∷ ps)) ≡ length (spelled p) + length (flat_map spelled ps) = ap length (flat_map-cons spelled p ps) ∙ length-append (spelled p) (flat_map spelled ps) in
@@ -77,18 +80,18 @@ last_weight (p ∷ ps) =
       whole,
       one_weight p,
       last_weight ps,
-      first_weight (last_of 192 ps) (if_code 192 p),
-      first_weight (last_of 194 ps) (if_code 194 p),
-      first_weight (last_of 193 ps) (if_code 193 p),
+      first_weight (last_of TPDU_SIZE ps) (if_code TPDU_SIZE p),
+      first_weight (last_of CALLED ps) (if_code CALLED p),
+      first_weight (last_of CALLING ps) (if_code CALLING p),
     )
 
 said_fits : (src : ℕ) (ps : List Parameter) → AllByRecursion IsAllowed ps → length (flat_map spelled ps) ≤ 249 → IsCr (said src ps)
 said_fits src ps all few =
-    let size = size_weight (last_of 192 ps) (last_value ps all) in
-    let one : length (parameters_for (said src ps)) ≡ length (size_parameter (exponent_of (last_of 192 ps))) + (length (selector 194 (last_of 194 ps)) + length (selector 193 (last_of 193 ps))) =
-    length-append (size_parameter (exponent_of (last_of 192 ps))) (selector 194 (last_of 194 ps) ++ selector 193 (last_of 193 ps))
-    ∙ ap (λ (n : ℕ). length (size_parameter (exponent_of (last_of 192 ps))) + n) (length-append (selector 194 (last_of 194 ps)) (selector 193 (last_of 193 ps))) in
-    (size.0, omega (arith, one, size.1, selector_weight 194 (last_of 194 ps), selector_weight 193 (last_of 193 ps), last_weight ps, few))
+    let size = size_weight (last_of TPDU_SIZE ps) (last_value ps all) in
+    let one : length (parameters_for (said src ps)) ≡ length (size_parameter (exponent_of (last_of TPDU_SIZE ps))) + (length (selector CALLED (last_of CALLED ps)) + length (selector CALLING (last_of CALLING ps))) =
+    length-append (size_parameter (exponent_of (last_of TPDU_SIZE ps))) (selector CALLED (last_of CALLED ps) ++ selector CALLING (last_of CALLING ps))
+    ∙ ap (λ (n : ℕ). length (size_parameter (exponent_of (last_of TPDU_SIZE ps))) + n) (length-append (selector CALLED (last_of CALLED ps)) (selector CALLING (last_of CALLING ps))) in
+    (size.0, omega (arith, one, size.1, selector_weight CALLED (last_of CALLED ps), selector_weight CALLING (last_of CALLING ps), last_weight ps, few))
 
 -- what a CR or a CC says whose LI is an octet
 pub connection_fits : (li : ℕ) (rest : List ℕ) (cr : Cr) → li ≤ 255 → IsConnection li rest cr → IsCr cr
@@ -144,7 +147,7 @@ all_fit dialled t rest octets es a =
     (runs_fit (start dialled) t a.takes.tpdus es bytes (omega arith) a.takes.runs).1
 
 -- what one step gives
-pub step_fits : (t u : TransportIn) (piece rest : List ℕ) (taken : Option Taken) → IsBytes piece → IsReady t → StepsFrom t u piece taken rest → AllByRecursion Fits (option_to_list (gift taken))
+pub step_fits : (t u : TransportIn) (piece rest : List ℕ) (taken : Option Tpkt) → IsBytes piece → IsReady t → StepsFrom t u piece taken rest → AllByRecursion Fits (option_to_list (gift taken))
 step_fits t u piece rest None bytes ready h = tt
 step_fits t u piece rest (Some taken) bytes ready ((tpdu, front, is, cut, whole, count, step, none), after) =
     let all : IsBytes (t.held ++ front) = IsBytes-append t.held front ready.fits (IsBytes-front front rest (subst IsBytes cut bytes)) in

@@ -1,3 +1,4 @@
+-- What reading and writing TPKTs and TPDUs obey.
 pub mod PacketLaws
 pub mod ParameterLaws
 pub mod StreamLaws

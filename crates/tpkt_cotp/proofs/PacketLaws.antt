@@ -1,12 +1,13 @@
 -- What a reader of TPKTs tells of the input.
-use Rattle.std.proofs.Common.{◌≡◌, ℕ, suc, ◌+◌, ◌-◌, ◌*◌, ◌/◌, ◌%◌, ◌<◌, ◌≤◌, cond, eqb, ltb, List, [], ◌∷◌, ◌++◌, length, take, drop, min, replicate, Option, Some, None, Result, Ok, Err, refl, sym, ap, subst, ◌∙◌, inl, inr, append_assoc, arith}
+use Rattle.std.proofs.Common.{◌≡◌, ℕ, ◌+◌, ◌-◌, ◌*◌, ◌/◌, ◌%◌, ◌<◌, ◌≤◌, cond, eqb, ltb, List, [], ◌∷◌, ◌++◌, length, take, drop, min, replicate, Option, Some, None, Result, Ok, Err, refl, sym, ap, subst, ◌∙◌, inl, inr, append_assoc, arith}
 use Rattle.std.specs.Prelude.{MatchOption, MatchResult}
 use Rattle.std.proofs.lemmas.Bool.{eqb-true, eqb-false, ltb-true, ltb-false, lt-ltb, le-ltb, ne_eqb, cond_both}
-use Rattle.std.proofs.lemmas.List.{append-nil, length-append, length-take, length-replicate, length-drop, take-append-drop, take_at, drop_at}
-use Rattle.tpkt_cotp.specs.Octets.{IsBytes}
+use Rattle.std.proofs.lemmas.List.{append-nil, length-append, length-take, length-replicate, length-drop, take-append-drop, take_at, drop_at, nil_from_length}
+use Rattle.ber_grammar.specs.Octets.{IsBytes}
+use Rattle.ber_grammar.proofs.OctetLaws.{IsBytes-rest}
 use Rattle.tpkt_cotp.specs.declared.fault.TpFault.{TpFault}
 use Rattle.tpkt_cotp.specs.declared.fault.TpFault.TheVariants.{Version, Length}
-use Rattle.tpkt_cotp.specs.Packet.{packet, IsTpdu, IsPartial, IsBad, body_at, length_at, second_at, packet_at, wanted_at}
+use Rattle.tpkt_cotp.specs.Packet.{TopsUp, Completes, packet, IsTpdu, IsPartial, IsBad, body_at, length_at, second_at, packet_at, wanted_at}
 
 abbrev pub PacketTells : List ℕ → Result (Option (List ℕ × List ℕ)) TpFault → Type 0
 PacketTells input (Ok None) = IsPartial input
@@ -49,9 +50,6 @@ length_tells (c ∷ []) fits =
     let len : length tpdu + 4 ≡ c * 256 + 255 = omega (arith, count) in
     (tpdu, 255 ∷ tpdu, (omega (arith, len), omega (arith, len, fits 0)), omega arith, packet_is c 255 tpdu (fits 0) (omega arith) len)
 length_tells (c ∷ d ∷ rest) fits = body_tells c d rest (fits 0) (fits 1)
-
-IsBytes-rest : (b : ℕ) (bytes : List ℕ) → IsBytes (b ∷ bytes) → IsBytes bytes
-IsBytes-rest b bytes h i = h (suc i)
 
 second_tells : (rest : List ℕ) → IsBytes rest → PacketTells (3 ∷ rest) (second_at rest)
 second_tells [] fits = (0 ∷ 0 ∷ 0 ∷ [], 0 ∷ 0 ∷ 7 ∷ 0 ∷ 0 ∷ 0 ∷ [], (omega arith, omega arith), omega arith, refl)
@@ -118,17 +116,6 @@ partial_at input tpdu more (Err f) is some p h =
 pub partial_again : (input : List ℕ) → IsBytes input → IsPartial input → packet_at input ≡ Ok None
 partial_again input fits (tpdu, more, is, some, p) = partial_at input tpdu more (packet_at input) is some p (packet_tells input fits)
 
--- ---- an input that goes on
-
--- a whole TPKT stays where more follows
-pub whole_again : (input more tpdu after : List ℕ) → IsBytes input → packet_at input ≡ Ok (Some (tpdu, after)) → packet_at (input ++ more) ≡ Ok (Some (tpdu, after ++ more))
-whole_again input more tpdu after fits h =
-    let w = packet_whole input tpdu after fits h in
-    ap packet_at (ap (λ (x : List ℕ). x ++ more) w.1 ∙ append_assoc (packet tpdu) after more) ∙ packet_again tpdu (after ++ more) w.0
-
-pub bad_still : (input more : List ℕ) (f : TpFault) → IsBytes input → packet_at input ≡ Err f → packet_at (input ++ more) ≡ Err f
-bad_still input more f fits h = bad_again (input ++ more) f (stays_bad input more f (packet_bad input f fits h))
-
 -- ---- what is held is topped up
 
 -- the length that a header tells, or that of a header where it is not whole
@@ -174,19 +161,11 @@ some_total h tpdu after is p =
     let total : total_at h ≡ length tpdu + 4 = ap total_at p ∙ total_packet tpdu after in
     (omega (arith, total, ap length p, length-append tpdu after), omega (arith, total, is.0))
 
--- what was put to the front of a piece
-abbrev pub put_behind : List ℕ → ℕ → List ℕ → List ℕ
-put_behind held count piece = held ++ take count piece
-
 put_length : (held piece : List ℕ) (count : ℕ) → count ≤ length piece → length (held ++ take count piece) ≡ length held + count
 put_length held piece count le = omega (arith, length-append held (take count piece), length-take count piece)
 
 left_length : (piece : List ℕ) (count : ℕ) → length (drop count piece) ≡ length piece - count
 left_length piece count = length-drop count piece
-
-pub empty_is : (xs : List ℕ) → length xs ≡ 0 → xs ≡ []
-empty_is [] p = refl
-empty_is (x ∷ xs) p = absurd (omega arith)
 
 numbers_none : (h p c h1 b k h2 r t t1 t2 : ℕ) → c ≡ min (t - h) p → h1 ≡ h + c → b ≡ p - c → k ≡ min (t1 - h1) b → h2 ≡ h1 + k → r ≡ b - k
     → (h < 4 → t ≡ 4) → (4 ≤ h → t1 ≡ t) → (h1 < 4 → t1 ≡ 4) → (4 ≤ h1 → t2 ≡ t1) → (4 ≤ h → h < t) → (4 ≤ h2 → h2 < t2) → r ≡ 0
@@ -196,42 +175,44 @@ numbers_some : (h p c h1 b k h2 a t t1 t2 : ℕ) → c ≡ min (t - h) p → h1 
     → (h < 4 → t ≡ 4) → (4 ≤ h → t1 ≡ t) → (h1 < 4 → t1 ≡ 4) → (4 ≤ h1 → t2 ≡ t1) → (4 ≤ h → h < t) → h2 ≡ t2 + a → 7 ≤ t2 → a ≡ 0
 numbers_some h p c h1 b k h2 a t t1 t2 e1 e2 e3 e4 e5 f1 f2 f3 f4 f5 f6 f7 = grind arith
 
--- Held octets were topped up twice from a piece: first the header, then the TPDU.
-pub record Topped (held piece held1 behind held2 rest : List ℕ) : Type 0 where
-  pub first : held1 ≡ held ++ take (min (wanted_at held) (length piece)) piece
-  pub left : behind ≡ drop (min (wanted_at held) (length piece)) piece
-  pub second : held2 ≡ held1 ++ take (min (wanted_at held1) (length behind)) behind
-  pub over : rest ≡ drop (min (wanted_at held1) (length behind)) behind
-
 moved : (held piece : List ℕ) (count : ℕ) → (held ++ take count piece) ++ drop count piece ≡ held ++ piece
 moved held piece count = append_assoc held (take count piece) (drop count piece) ∙ ap (λ (x : List ℕ). held ++ x) (take-append-drop count piece)
 
-pub topped_all : (held piece held1 behind held2 rest : List ℕ) → Topped held piece held1 behind held2 rest → held2 ++ rest ≡ held ++ piece
-topped_all held piece held1 behind held2 rest t =
-    rw (t.second, t.over) (moved held1 behind (min (wanted_at held1) (length behind)) ∙ rw (t.first, t.left) (moved held piece (min (wanted_at held) (length piece))))
+pub completes_all : (held piece now rest : List ℕ) → Completes held piece now rest → now ++ rest ≡ held ++ piece
+completes_all held piece now rest (headed, behind, one, two) =
+    rw (two.0, two.1) (moved headed behind (min (wanted_at headed) (length behind)) ∙ rw (one.0, one.1) (moved held piece (min (wanted_at held) (length piece))))
 
-lengths_first : (held piece held1 behind : List ℕ) → held1 ≡ held ++ take (min (wanted_at held) (length piece)) piece → behind ≡ drop (min (wanted_at held) (length piece)) piece
-    → (length held1 ≡ length held + min (total_at held - length held) (length piece)) × (length behind ≡ length piece - min (total_at held - length held) (length piece))
-lengths_first held piece held1 behind p q =
+-- what of the piece was moved to what is held
+pub completes_front : (held piece now rest : List ℕ) → Completes held piece now rest → (front : List ℕ) × (piece ≡ front ++ rest) × (now ≡ held ++ front)
+completes_front held piece now rest (headed, behind, one, two) =
+    let first = take (min (wanted_at held) (length piece)) piece in
+    let second = take (min (wanted_at headed) (length behind)) behind in
+    let split : piece ≡ first ++ behind = sym (take-append-drop (min (wanted_at held) (length piece)) piece) ∙ ap (λ (x : List ℕ). first ++ x) (sym one.1) in
+    let again : behind ≡ second ++ rest = sym (take-append-drop (min (wanted_at headed) (length behind)) behind) ∙ ap (λ (x : List ℕ). second ++ x) (sym two.1) in
+    (first ++ second, split ∙ ap (λ (x : List ℕ). first ++ x) again ∙ sym (append_assoc first second rest), two.0 ∙ ap (λ (x : List ℕ). x ++ second) one.0 ∙ append_assoc held first second)
+
+lengths : (held piece now rest : List ℕ) → TopsUp held piece now rest
+    → (length now ≡ length held + min (total_at held - length held) (length piece)) × (length rest ≡ length piece - min (total_at held - length held) (length piece))
+lengths held piece now rest (moved, left) =
     let le : min (wanted_at held) (length piece) ≤ length piece = omega arith in
-    let one : length held1 ≡ length held + min (wanted_at held) (length piece) = ap length p ∙ put_length held piece (min (wanted_at held) (length piece)) le in
-    let two : length behind ≡ length piece - min (wanted_at held) (length piece) = ap length q ∙ left_length piece (min (wanted_at held) (length piece)) in
+    let one : length now ≡ length held + min (wanted_at held) (length piece) = ap length moved ∙ put_length held piece (min (wanted_at held) (length piece)) le in
+    let two : length rest ≡ length piece - min (wanted_at held) (length piece) = ap length left ∙ left_length piece (min (wanted_at held) (length piece)) in
     (one ∙ ap (λ (n : ℕ). length held + min n (length piece)) (wanted_is held), two ∙ ap (λ (n : ℕ). length piece - min n (length piece)) (wanted_is held))
 
-pub topped_none : (held piece held1 behind held2 rest : List ℕ) → Topped held piece held1 behind held2 rest → IsPartial held → IsPartial held2 → rest ≡ []
-topped_none held piece held1 behind held2 rest t before after =
-    let one = lengths_first held piece held1 behind t.first t.left in
-    let two = lengths_first held1 behind held2 rest t.second t.over in
-    empty_is rest (numbers_none (length held) (length piece) _ (length held1) (length behind) _ (length held2) (length rest) (total_at held) (total_at held1) (total_at held2)
-    refl one.0 one.1 refl two.0 two.1 (total_small held) (λ le. ap total_at t.first ∙ total_front held _ le) (total_small held1) (λ le. ap total_at t.second ∙ total_front held1 _ le) (none_under held before) (none_under held2 after))
+pub completes_none : (held piece now rest : List ℕ) → Completes held piece now rest → IsPartial held → IsPartial now → rest ≡ []
+completes_none held piece now rest (headed, behind, header, body) before after =
+    let one = lengths held piece headed behind header in
+    let two = lengths headed behind now rest body in
+    nil_from_length rest (numbers_none (length held) (length piece) _ (length headed) (length behind) _ (length now) (length rest) (total_at held) (total_at headed) (total_at now)
+    refl one.0 one.1 refl two.0 two.1 (total_small held) (λ le. ap total_at header.0 ∙ total_front held _ le) (total_small headed) (λ le. ap total_at body.0 ∙ total_front headed _ le) (none_under held before) (none_under now after))
 
-pub topped_some : (held piece held1 behind held2 rest tpdu after : List ℕ) → Topped held piece held1 behind held2 rest → IsPartial held → IsTpdu tpdu → held2 ≡ packet tpdu ++ after → after ≡ []
-topped_some held piece held1 behind held2 rest tpdu after t before is p =
-    let one = lengths_first held piece held1 behind t.first t.left in
-    let two = lengths_first held1 behind held2 rest t.second t.over in
-    let whole = some_total held2 tpdu after is p in
-    empty_is after (numbers_some (length held) (length piece) _ (length held1) (length behind) _ (length held2) (length after) (total_at held) (total_at held1) (total_at held2)
-    refl one.0 one.1 refl two.0 (total_small held) (λ le. ap total_at t.first ∙ total_front held _ le) (total_small held1) (λ le. ap total_at t.second ∙ total_front held1 _ le) (none_under held before) whole.0 whole.1)
+pub completes_some : (held piece now rest tpdu after : List ℕ) → Completes held piece now rest → IsPartial held → IsTpdu tpdu → now ≡ packet tpdu ++ after → after ≡ []
+completes_some held piece now rest tpdu after (headed, behind, header, body) before is p =
+    let one = lengths held piece headed behind header in
+    let two = lengths headed behind now rest body in
+    let whole = some_total now tpdu after is p in
+    nil_from_length after (numbers_some (length held) (length piece) _ (length headed) (length behind) _ (length now) (length after) (total_at held) (total_at headed) (total_at now)
+    refl one.0 one.1 refl two.0 (total_small held) (λ le. ap total_at header.0 ∙ total_front held _ le) (total_small headed) (λ le. ap total_at body.0 ∙ total_front headed _ le) (none_under held before) whole.0 whole.1)
 
 -- ---- the whole
 

@@ -4,11 +4,13 @@ use Rattle.std.specs.List.{flat_map, AllByRecursion}
 use Rattle.std.proofs.lemmas.Bool.{eqb-true, eqb-false, ltb-true, ltb-false, cond_both}
 use Rattle.std.proofs.lemmas.List.{length-append, take_at, drop_at, length-drop, length-take, take-append-drop}
 use Rattle.std.proofs.lemmas.List.Concat.{flat_map-cons}
+use Rattle.ber_grammar.proofs.OptionLaws.{first_none, first_first}
+use Rattle.tpkt_cotp.specs.declared.codes.TheConstants.{TPDU_SIZE, CALLING, CALLED}
 use Rattle.tpkt_cotp.specs.declared.fault.TpFault.{TpFault}
 use Rattle.tpkt_cotp.specs.declared.fault.TpFault.TheVariants.{Tpdu}
 use Rattle.tpkt_cotp.specs.declared.tsdus.Cr.{Cr}
-use Rattle.tpkt_cotp.specs.Octets.{◌>>=◌}
-use Rattle.tpkt_cotp.specs.Parameters.{Parameter, spelled, IsAllowed, first_of_two, last_of, exponent_of, said, size_at, put_at, parameter_at, parameters_at, parameters_of}
+use Rattle.ber_grammar.specs.Reader.{◌>>=◌, first_of_two}
+use Rattle.tpkt_cotp.specs.Parameters.{Parameter, spelled, IsAllowed, last_of, exponent_of, said, size_at, put_at, parameter_at, parameters_at, parameters_of}
 
 -- ---- the number of parameters that are allowed for does not count
 
@@ -72,9 +74,6 @@ parameters_end cr octets h = subst (λ (r : Result OptionalParameter TpFault). F
 pub parameters_broken : (cr : Cr) (octets : List ℕ) (f : TpFault) → parameter_at octets ≡ Err f → parameters_of cr octets ≡ Err f
 parameters_broken cr octets f h = subst (λ (r : Result OptionalParameter TpFault). Follows cr octets r) h (follows cr octets)
 
-pub parameters_shorter : (cr : Cr) (octets value after : List ℕ) (code : ℕ) → parameter_at octets ≡ Ok (Some (code, value, after)) → length after < length octets
-parameters_shorter cr octets value after code h = (subst (λ (r : Result OptionalParameter TpFault). Follows cr octets r) h (follows cr octets)).0
-
 pub parameters_more : (cr next : Cr) (octets value after : List ℕ) (code : ℕ) → parameter_at octets ≡ Ok (Some (code, value, after)) → put_at cr code value ≡ Ok next → parameters_of cr octets ≡ parameters_of next after
 parameters_more cr next octets value after code h put =
     (subst (λ (r : Result OptionalParameter TpFault). Follows cr octets r) h (follows cr octets)).1 ∙ ap (λ (r : Result Cr TpFault). r >>= λ next. parameters_of next after) put
@@ -93,25 +92,21 @@ if_code code p = cond (eqb p.code code) (Some p.value) None
 abbrev pub over : Cr → List Parameter → Cr
 over cr ps = record {
   src = cr.src;
-  size = first_of_two (exponent_of (last_of 192 ps)) cr.size;
-  calling = first_of_two (last_of 193 ps) cr.calling;
-  called = first_of_two (last_of 194 ps) cr.called;
+  size = first_of_two (exponent_of (last_of TPDU_SIZE ps)) cr.size;
+  calling = first_of_two (last_of CALLING ps) cr.calling;
+  called = first_of_two (last_of CALLED ps) cr.called;
 }
 
 abbrev over_one : Cr → Parameter → Cr
 over_one cr p = record {
   src = cr.src;
-  size = first_of_two (exponent_of (if_code 192 p)) cr.size;
-  calling = first_of_two (if_code 193 p) cr.calling;
-  called = first_of_two (if_code 194 p) cr.called;
+  size = first_of_two (exponent_of (if_code TPDU_SIZE p)) cr.size;
+  calling = first_of_two (if_code CALLING p) cr.calling;
+  called = first_of_two (if_code CALLED p) cr.called;
 }
 
 cr_is : (src : ℕ) (a b : Option ℕ) (c d e f : Option (List ℕ)) → a ≡ b → c ≡ d → e ≡ f → (let x : Cr = record { src = src; size = a; calling = c; called = e } in x) ≡ (let y : Cr = record { src = src; size = b; calling = d; called = f } in y)
 cr_is src a b c d e f p q r = rw (p, q, r) refl
-
-first_first : {A : Type 0} (a b c : Option A) → first_of_two a (first_of_two b c) ≡ first_of_two (first_of_two a b) c
-first_first (Some x) b c = refl
-first_first None b c = refl
 
 exponent_first : (a b : Option (List ℕ)) → exponent_of (first_of_two a b) ≡ first_of_two (exponent_of a) (exponent_of b)
 exponent_first (Some x) b = refl
@@ -119,19 +114,15 @@ exponent_first None b = refl
 
 over_more : (cr : Cr) (p : Parameter) (ps : List Parameter) → over (over_one cr p) ps ≡ over cr (p ∷ ps)
 over_more cr p ps = cr_is cr.src _ _ _ _ _ _
-    (first_first (exponent_of (last_of 192 ps)) (exponent_of (if_code 192 p)) cr.size ∙ ap (λ (x : Option ℕ). first_of_two x cr.size) (sym (exponent_first (last_of 192 ps) (if_code 192 p))))
-    (first_first (last_of 193 ps) (if_code 193 p) cr.calling)
-    (first_first (last_of 194 ps) (if_code 194 p) cr.called)
-
-first_none : {A : Type 0} (a : Option A) → first_of_two a None ≡ a
-first_none (Some x) = refl
-first_none None = refl
+    (first_first (exponent_of (last_of TPDU_SIZE ps)) (exponent_of (if_code TPDU_SIZE p)) cr.size ∙ ap (λ (x : Option ℕ). first_of_two x cr.size) (sym (exponent_first (last_of TPDU_SIZE ps) (if_code TPDU_SIZE p))))
+    (first_first (last_of CALLING ps) (if_code CALLING p) cr.calling)
+    (first_first (last_of CALLED ps) (if_code CALLED p) cr.called)
 
 abbrev pub unsaid : ℕ → Cr
 unsaid src = record { src = src; size = None; calling = None; called = None }
 
 pub over_unsaid : (src : ℕ) (ps : List Parameter) → over (unsaid src) ps ≡ said src ps
-over_unsaid src ps = cr_is src _ _ _ _ _ _ (first_none (exponent_of (last_of 192 ps))) (first_none (last_of 193 ps)) (first_none (last_of 194 ps))
+over_unsaid src ps = cr_is src _ _ _ _ _ _ (first_none (exponent_of (last_of TPDU_SIZE ps))) (first_none (last_of CALLING ps)) (first_none (last_of CALLED ps))
 
 -- ---- one parameter is put
 
@@ -142,23 +133,23 @@ PutTells cr code value (Err f) = (f ≡ Tpdu) × ¬ IsAllowed (record { code = c
 one_octet : (value : List ℕ) (e : ℕ) → value ≡ e ∷ [] → length value ≡ 1
 one_octet value e p = ap length p
 
-size_tells : (cr : Cr) (value : List ℕ) → PutTells cr 192 value (size_at cr value)
+size_tells : (cr : Cr) (value : List ℕ) → PutTells cr TPDU_SIZE value (size_at cr value)
 size_tells cr [] = (refl, λ h. let x = h refl in absurd (omega (arith, one_octet [] x.0 x.1)))
 size_tells cr (e ∷ []) =
-    cond_both (ltb e 7) (Err Tpdu) (Ok (record { src = cr.src; size = Some (min e 13); calling = cr.calling; called = cr.called })) (λ r. PutTells cr 192 (e ∷ []) r)
+    cond_both (ltb e 7) (Err Tpdu) (Ok (record { src = cr.src; size = Some (min e 13); calling = cr.calling; called = cr.called })) (λ r. PutTells cr TPDU_SIZE (e ∷ []) r)
     (λ t. (refl, λ h. let x = h refl in let same : e ≡ x.0 = cc (x.1) in absurd (omega (arith, same, x.2, ltb-true e 7 t))))
     (λ t. (refl, λ _. (e, refl, ltb-false e 7 t)))
 size_tells cr (e ∷ f ∷ more) = (refl, λ h. let x = h refl in absurd (omega (arith, one_octet (e ∷ f ∷ more) x.0 x.1)))
 
 put_tells : (cr : Cr) (code : ℕ) (value : List ℕ) → PutTells cr code value (put_at cr code value)
 put_tells cr code value =
-    cond_both (eqb code 192) (size_at cr value) _ (λ r. PutTells cr code value r)
-    (λ t. subst (λ (x : ℕ). PutTells cr x value (size_at cr value)) (sym (eqb-true code 192 t)) (size_tells cr value))
-    (λ t. let other : code ≢ 192 = eqb-false code 192 t in
-    cond_both (eqb code 193) (Ok (record { src = cr.src; size = cr.size; calling = Some value; called = cr.called })) _ (λ r. PutTells cr code value r)
-    (λ u. subst (λ (x : ℕ). PutTells cr x value (Ok (record { src = cr.src; size = cr.size; calling = Some value; called = cr.called }))) (sym (eqb-true code 193 u)) (refl, λ h. absurd (omega (arith, h))))
-    (λ u. cond_both (eqb code 194) (Ok (record { src = cr.src; size = cr.size; calling = cr.calling; called = Some value })) (Ok cr) (λ r. PutTells cr code value r)
-    (λ v. subst (λ (x : ℕ). PutTells cr x value (Ok (record { src = cr.src; size = cr.size; calling = cr.calling; called = Some value }))) (sym (eqb-true code 194 v)) (refl, λ h. absurd (omega (arith, h))))
+    cond_both (eqb code TPDU_SIZE) (size_at cr value) _ (λ r. PutTells cr code value r)
+    (λ t. subst (λ (x : ℕ). PutTells cr x value (size_at cr value)) (sym (eqb-true code TPDU_SIZE t)) (size_tells cr value))
+    (λ t. let other : code ≢ TPDU_SIZE = eqb-false code TPDU_SIZE t in
+    cond_both (eqb code CALLING) (Ok (record { src = cr.src; size = cr.size; calling = Some value; called = cr.called })) _ (λ r. PutTells cr code value r)
+    (λ u. subst (λ (x : ℕ). PutTells cr x value (Ok (record { src = cr.src; size = cr.size; calling = Some value; called = cr.called }))) (sym (eqb-true code CALLING u)) (refl, λ h. absurd (omega (arith, h))))
+    (λ u. cond_both (eqb code CALLED) (Ok (record { src = cr.src; size = cr.size; calling = cr.calling; called = Some value })) (Ok cr) (λ r. PutTells cr code value r)
+    (λ v. subst (λ (x : ℕ). PutTells cr x value (Ok (record { src = cr.src; size = cr.size; calling = cr.calling; called = Some value }))) (sym (eqb-true code CALLED v)) (refl, λ h. absurd (omega (arith, h))))
     (λ v. (rw (t, u, v) refl, λ h. absurd (other h)))))
 
 -- ---- all parameters

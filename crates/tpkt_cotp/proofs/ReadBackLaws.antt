@@ -5,6 +5,7 @@ use Rattle.std.specs.List.{flat_map, AllByRecursion}
 use Rattle.std.proofs.Math.Nat.{lt-mul-div-succ}
 use Rattle.std.proofs.lemmas.List.{append-nil, length-append, length-take, length-drop, take-append-drop}
 use Rattle.std.proofs.lemmas.List.Concat.{flat_map-append, flat_map-cons}
+use Rattle.tpkt_cotp.specs.declared.codes.TheConstants.{CR, CC, DT, TPDU_SIZE, CALLING, CALLED, END_OF_TSDU}
 use Rattle.tpkt_cotp.specs.declared.state.State.{State}
 use Rattle.tpkt_cotp.specs.declared.tsdus.Cr.{Cr}
 use Rattle.tpkt_cotp.specs.declared.tsdus.Tsdu.{Tsdu}
@@ -25,7 +26,7 @@ with_tsdu s octets = record { dialled = s.dialled; connected = true; tsdu = octe
 
 segments_run : (n most : ℕ) (octets : List ℕ) (s : State) → s.connected ≡ true → length (s.tsdu ++ octets) ≤ 70000 → Runs s (segments_at n most octets) (Data (s.tsdu ++ octets) ∷ []) (with_tsdu s [])
 segments_run zero most octets s there few =
-    (with_tsdu s [], Some (Data (s.tsdu ++ octets)), [], taken_again s (with_tsdu s []) (2 ∷ 240 ∷ 128 ∷ octets) (Some (Data (s.tsdu ++ octets))) (there, 128, octets, refl, omega arith, refl, few, refl), refl, (refl, refl))
+    (with_tsdu s [], Some (Data (s.tsdu ++ octets)), [], taken_again s (with_tsdu s []) (2 ∷ DT ∷ END_OF_TSDU ∷ octets) (Some (Data (s.tsdu ++ octets))) (there, END_OF_TSDU, octets, refl, omega arith, refl, few, refl), refl, (refl, refl))
 segments_run (suc n) most octets s there few =
     let front : List ℕ = take most octets in
     let whole : (s.tsdu ++ front) ++ drop most octets ≡ s.tsdu ++ octets = append_assoc s.tsdu front (drop most octets) ∙ ap (λ (x : List ℕ). s.tsdu ++ x) (take-append-drop most octets) in
@@ -34,7 +35,7 @@ segments_run (suc n) most octets s there few =
       with_tsdu s (s.tsdu ++ front),
       None,
       Data (s.tsdu ++ octets) ∷ [],
-      taken_again s (with_tsdu s (s.tsdu ++ front)) (2 ∷ 240 ∷ 0 ∷ front) None (there, 0, front, refl, omega arith, some, refl),
+      taken_again s (with_tsdu s (s.tsdu ++ front)) (2 ∷ DT ∷ 0 ∷ front) None (there, 0, front, refl, omega arith, some, refl),
       refl,
       subst (λ (x : List ℕ). Runs (with_tsdu s (s.tsdu ++ front)) (segments_at n most (drop most octets)) (Data x ∷ []) (with_tsdu s [])) whole rest,
     )
@@ -79,14 +80,14 @@ tsdu_read dialled s t rest b octets e es ds is few there none before after =
 
 abbrev size_list : Option ℕ → List Parameter
 size_list None = []
-size_list (Some e) = record { code = 192; value = e ∷ [] } ∷ []
+size_list (Some e) = record { code = TPDU_SIZE; value = e ∷ [] } ∷ []
 
 abbrev selector_list : ℕ → Option (List ℕ) → List Parameter
 selector_list code None = []
 selector_list code (Some value) = record { code = code; value = value } ∷ []
 
 abbrev list_for : Option ℕ → Option (List ℕ) → Option (List ℕ) → List Parameter
-list_for size calling called = size_list size ++ (selector_list 194 called ++ selector_list 193 calling)
+list_for size calling called = size_list size ++ (selector_list CALLED called ++ selector_list CALLING calling)
 
 abbrev cr_of : ℕ → Option ℕ → Option (List ℕ) → Option (List ℕ) → Cr
 cr_of src size calling called = record { src = src; size = size; calling = calling; called = called }
@@ -101,8 +102,8 @@ selector_spelled code (Some value) = let p : Parameter = record { code = code; v
 
 list_spelled : (src : ℕ) (size : Option ℕ) (calling called : Option (List ℕ)) → parameters_for (cr_of src size calling called) ≡ flat_map spelled (list_for size calling called)
 list_spelled src size calling called =
-    rw (size_spelled size, selector_spelled 194 called, selector_spelled 193 calling)
-    (sym (flat_map-append spelled (size_list size) (selector_list 194 called ++ selector_list 193 calling) ∙ ap (λ (x : List ℕ). flat_map spelled (size_list size) ++ x) (flat_map-append spelled (selector_list 194 called) (selector_list 193 calling))))
+    rw (size_spelled size, selector_spelled CALLED called, selector_spelled CALLING calling)
+    (sym (flat_map-append spelled (size_list size) (selector_list CALLED called ++ selector_list CALLING calling) ∙ ap (λ (x : List ℕ). flat_map spelled (size_list size) ++ x) (flat_map-append spelled (selector_list CALLED called) (selector_list CALLING calling))))
 
 abbrev IsSize : Option ℕ → Type 0
 IsSize size = MatchOption size (Unit {0}) (λ e. (7 ≤ e) × (e ≤ 13))
@@ -120,18 +121,18 @@ list_says src (Some e) None (Some b) is = ap (λ (x : ℕ). cr_of src (Some x) N
 list_says src (Some e) (Some a) None is = ap (λ (x : ℕ). cr_of src (Some x) (Some a) None) (least_is e is.1)
 list_says src (Some e) (Some a) (Some b) is = ap (λ (x : ℕ). cr_of src (Some x) (Some a) (Some b)) (least_is e is.1)
 
-other_code : (code : ℕ) (value : List ℕ) → code ≢ 192 → IsAllowed (record { code = code; value = value })
+other_code : (code : ℕ) (value : List ℕ) → code ≢ TPDU_SIZE → IsAllowed (record { code = code; value = value })
 other_code code value ne is = absurd (ne is)
 
 list_allowed : (size : Option ℕ) (calling called : Option (List ℕ)) → IsSize size → AllByRecursion IsAllowed (list_for size calling called)
 list_allowed None None None is = tt
-list_allowed None None (Some b) is = (other_code 194 b (omega arith), tt)
-list_allowed None (Some a) None is = (other_code 193 a (omega arith), tt)
-list_allowed None (Some a) (Some b) is = (other_code 194 b (omega arith), (other_code 193 a (omega arith), tt))
+list_allowed None None (Some b) is = (other_code CALLED b (omega arith), tt)
+list_allowed None (Some a) None is = (other_code CALLING a (omega arith), tt)
+list_allowed None (Some a) (Some b) is = (other_code CALLED b (omega arith), (other_code CALLING a (omega arith), tt))
 list_allowed (Some e) None None is = (λ _. (e, refl, is.0), tt)
-list_allowed (Some e) None (Some b) is = (λ _. (e, refl, is.0), (other_code 194 b (omega arith), tt))
-list_allowed (Some e) (Some a) None is = (λ _. (e, refl, is.0), (other_code 193 a (omega arith), tt))
-list_allowed (Some e) (Some a) (Some b) is = (λ _. (e, refl, is.0), (other_code 194 b (omega arith), (other_code 193 a (omega arith), tt)))
+list_allowed (Some e) None (Some b) is = (λ _. (e, refl, is.0), (other_code CALLED b (omega arith), tt))
+list_allowed (Some e) (Some a) None is = (λ _. (e, refl, is.0), (other_code CALLING a (omega arith), tt))
+list_allowed (Some e) (Some a) (Some b) is = (λ _. (e, refl, is.0), (other_code CALLED b (omega arith), (other_code CALLING a (omega arith), tt)))
 
 whole_src : (src : ℕ) → src ≡ src / 256 * 256 + src % 256
 whole_src src = omega arith
@@ -171,7 +172,7 @@ connection_read dialled t rest octets dst cr ds is whole after =
 -- The CC that is written is read by the side that dialled.
 pub confirm_read : (t : State) (rest : List ℕ) (cr : Cr) (ds : List Tsdu) → IsCr cr → StandsAt true t rest (confirm_of cr) ds → (ds ≡ Connect (confirmed cr) ∷ []) × (rest ≡ []) × (t.connected ≡ true) × (t.tsdu ≡ [])
 unfolding confirm_of
-confirm_read t rest cr ds is after = connection_read true t rest (packet (connection 208 cr.src 1 (parameters_for cr))) cr.src (confirmed cr) ds is refl after
+confirm_read t rest cr ds is after = connection_read true t rest (packet (connection CC cr.src 1 (parameters_for cr))) cr.src (confirmed cr) ds is refl after
 
 called_fits : (src : ℕ) → IsCr (called_with src)
 called_fits src = ((omega arith, omega arith), omega arith)
@@ -179,4 +180,4 @@ called_fits src = ((omega arith, omega arith), omega arith)
 -- The CR that is written is read by the other side.
 pub call_read : (t : State) (rest : List ℕ) (src : ℕ) (ds : List Tsdu) → StandsAt false t rest (call_of src) ds → (ds ≡ Connect (called_with src) ∷ []) × (rest ≡ []) × (t.connected ≡ true) × (t.tsdu ≡ [])
 unfolding call_of
-call_read t rest src ds after = connection_read false t rest (packet (connection 224 0 src (parameters_for (called_with src)))) 0 (called_with src) ds (called_fits src) refl after
+call_read t rest src ds after = connection_read false t rest (packet (connection CR 0 src (parameters_for (called_with src)))) 0 (called_with src) ds (called_fits src) refl after

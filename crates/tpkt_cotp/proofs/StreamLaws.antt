@@ -1,29 +1,19 @@
 -- Streams, one TPKT more and one piece more.
-use Rattle.std.proofs.Common.{◌≡◌, ◌≢◌, ℕ, zero, suc, ◌<◌, ◌⊎◌, List, [], ◌∷◌, ◌++◌, length, Option, Some, None, Result, Ok, Err, refl, sym, ap, subst, ◌∙◌, inl, inr, append_assoc, Bool, arith}
+use Rattle.std.proofs.Common.{◌≡◌, ℕ, zero, suc, ◌⊎◌, List, [], ◌∷◌, ◌++◌, Option, Some, None, Result, Ok, Err, refl, sym, ap, subst, ◌∙◌, inl, inr, append_assoc, Bool, arith}
 use Rattle.std.specs.Option.{option_to_list}
 use Rattle.std.specs.List.{flat_map, AllByRecursion}
-use Rattle.std.proofs.lemmas.List.{append-nil, length-append}
+use Rattle.std.proofs.lemmas.List.{append-nil}
 use Rattle.std.proofs.lemmas.List.Concat.{flat_map-append, flat_map-cons}
-use Rattle.tpkt_cotp.specs.Octets.{IsBytes}
+use Rattle.ber_grammar.specs.Octets.{IsBytes}
+use Rattle.ber_grammar.proofs.OctetLaws.{IsBytes-back}
 use Rattle.tpkt_cotp.specs.declared.fault.TpFault.{TpFault}
 use Rattle.tpkt_cotp.specs.Packet.{packet, IsTpdu, IsPartial, packet_at}
-use Rattle.tpkt_cotp.specs.declared.fault.TpFault.TheVariants as faults
 use Rattle.tpkt_cotp.specs.declared.state.State.{State}
 use Rattle.tpkt_cotp.specs.declared.tsdus.Tsdu.{Tsdu}
-use Rattle.tpkt_cotp.specs.Octets.{Fails}
 use Rattle.tpkt_cotp.specs.Tpdu.{tpdu_at}
-use Rattle.tpkt_cotp.specs.Stream.{start, Runs, Takes, Took, TookAll, Adds, Completes, Stops, StopsAt, StandsAt, IsRefused, GoesOn, Refuses}
+use Rattle.tpkt_cotp.specs.Stream.{start, Runs, Takes, Took, TookAll, Stops, StopsAt, StandsAt, IsRefused, GoesOn, Refuses}
 use Rattle.tpkt_cotp.specs.declared.transport.TransportIn.{TransportIn}
-use Rattle.tpkt_cotp.proofs.PacketLaws.{packet_whole, packet_partial, packet_bad, packet_again, bad_again, stays_bad, partial_again, found_is, Topped, topped_all, topped_none, topped_some}
-
-pub IsBytes-back : (xs ys : List ℕ) → IsBytes (xs ++ ys) → IsBytes ys
-IsBytes-back [] ys h i = h i
-IsBytes-back (x ∷ xs) ys h i = IsBytes-back xs ys (λ k. h (suc k)) i
-
-pub IsBytes-front : (xs ys : List ℕ) → IsBytes (xs ++ ys) → IsBytes xs
-IsBytes-front [] ys h i = omega arith
-IsBytes-front (x ∷ xs) ys h zero = h 0
-IsBytes-front (x ∷ xs) ys h (suc i) = IsBytes-front xs ys (λ k. h (suc k)) i
+use Rattle.tpkt_cotp.proofs.PacketLaws.{packet_whole, packet_partial, packet_bad, packet_again, bad_again, stays_bad, partial_again, found_is}
 
 pub IsBytes-append : (xs ys : List ℕ) → IsBytes xs → IsBytes ys → IsBytes (xs ++ ys)
 IsBytes-append [] ys a b i = b i
@@ -60,56 +50,11 @@ Takes-one t u rest tpdu after first is whole step = record {
 pub Took-none : (s : State) (octets : List ℕ) (before : List Tsdu) → Took s octets before s octets before
 Took-none s octets before = record { given = []; takes = record { tpdus = []; whole = refl; each = tt; runs = (refl, refl) }; grew = sym (append-nil before) }
 
-pub Took-more : (s t u : State) (octets rest tpdu after : List ℕ) (before now later : List Tsdu) (first : Option Tsdu) → IsBytes rest → Took s octets before t rest now → packet_at rest ≡ Ok (Some (tpdu, after)) → tpdu_at t tpdu ≡ Ok (u, first)
-    → later ≡ now ++ option_to_list first → Took s octets before u after later
-Took-more s t u octets rest tpdu after before now later first fits took one step grown =
-    let is = packet_whole rest tpdu after fits one in
-    let next = Takes-one t u rest tpdu after first is.0 is.1 step in
-    let joined : Takes s (octets ++ []) (took.given ++ option_to_list first) u after = Takes-then s t u octets [] rest after took.given (option_to_list first) took.takes (subst (λ (x : List ℕ). Takes t x (option_to_list first) u after) (sym (append-nil rest)) next) in
-    record {
-      given = took.given ++ option_to_list first;
-      takes = subst (λ (x : List ℕ). Takes s x (took.given ++ option_to_list first) u after) (append-nil octets) joined;
-      grew = grown ∙ ap (λ (x : List Tsdu). x ++ option_to_list first) took.grew ∙ append_assoc before took.given (option_to_list first);
-    }
-
 pub after_fits : (rest tpdu after : List ℕ) → IsBytes rest → packet_at rest ≡ Ok (Some (tpdu, after)) → IsBytes after
 after_fits rest tpdu after fits one = IsBytes-back (packet tpdu) after (subst IsBytes (packet_whole rest tpdu after fits one).1 fits)
 
-pub after_shorter : (rest tpdu after : List ℕ) → IsBytes rest → packet_at rest ≡ Ok (Some (tpdu, after)) → length after < length rest
-after_shorter rest tpdu after fits one = omega (arith, ap length (packet_whole rest tpdu after fits one).1, length-append tpdu after)
-
 pub stops_bad : (t : State) (rest : List ℕ) (f : TpFault) → IsBytes rest → packet_at rest ≡ Err f → Stops t rest f
 stops_bad t rest f fits h = inl (packet_bad rest f fits h)
-
-pub stops_bad_at : (f : TpFault) (s t : State) (octets rest : List ℕ) (before now : List Tsdu) → IsBytes rest → Took s octets before t rest now → packet_at rest ≡ Err f → StopsAt f s octets before now
-stops_bad_at f s t octets rest before now fits took h = record { state = t; bad = rest; took = took; stops = λ _. stops_bad t rest f fits h }
-
--- a step that failed
-pub step_fails : (f : TpFault) (s t : State) (octets rest tpdu after : List ℕ) (before now later : List Tsdu) → IsBytes rest → Took s octets before t rest now → packet_at rest ≡ Ok (Some (tpdu, after)) → Fails f (tpdu_at t tpdu) → later ≡ now → StopsAt f s octets before later
-step_fails f s t octets rest tpdu after before now later fits took one h same =
-    let is = packet_whole rest tpdu after fits one in
-    record { state = t; bad = rest; took = subst (λ (x : List Tsdu). Took s octets before t rest x) (sym same) took; stops = λ some. inr (tpdu, after, is.0, is.1, h some) }
-
-pub Took-adds : (s t u : State) (octets rest tpdu after : List ℕ) (before now later : List Tsdu) → IsBytes rest → Took s octets before t rest now → packet_at rest ≡ Ok (Some (tpdu, after)) → Adds t tpdu u now later → Took s octets before u after later
-Took-adds s t u octets rest tpdu after before now later fits took one (first, step, grown) = Took-more s t u octets rest tpdu after before now later first fits took one step grown
-
--- ---- a held TPKT is completed
-
-Took-as : (s : State) (octets held : List ℕ) (before : List Tsdu) → held ≡ octets → Took s octets before s held before
-Took-as s octets held before p = subst (λ (x : List ℕ). Took s octets before s x before) (sym p) (Took-none s octets before)
-
-pub topped_fits : (held piece held1 behind held2 rest : List ℕ) → Topped held piece held1 behind held2 rest → IsBytes held → IsBytes piece → IsBytes held2
-topped_fits held piece held1 behind held2 rest t a b = IsBytes-front held2 rest (subst IsBytes (sym (topped_all held piece held1 behind held2 rest t)) (IsBytes-append held piece a b))
-
-pub completes_none : (s : State) (held piece held1 behind held2 rest : List ℕ) (before : List Tsdu) → Topped held piece held1 behind held2 rest → IsPartial held → IsBytes held2 → packet_at held2 ≡ Ok None
-    → Completes s (held ++ piece) before s held2 rest before
-completes_none s held piece held1 behind held2 rest before t was fits h =
-    let part : IsPartial held2 = packet_partial held2 fits h in
-    record {
-      took = Took-as s (held ++ piece) (held2 ++ rest) before (topped_all held piece held1 behind held2 rest t);
-      partial = part;
-      one = inr (topped_none held piece held1 behind held2 rest t was part);
-    }
 
 packet_none : packet_at [] ≡ Ok None
 unfolding packet_at
@@ -118,50 +63,9 @@ packet_none = refl
 pub partial_none : IsPartial []
 partial_none = packet_partial [] (λ i. omega arith) packet_none
 
-pub completes_some : (s u : State) (held piece held1 behind held2 rest tpdu after : List ℕ) (before later : List Tsdu) → Topped held piece held1 behind held2 rest → IsPartial held → IsBytes held2 → packet_at held2 ≡ Ok (Some (tpdu, after))
-    → Adds s tpdu u before later → Completes s (held ++ piece) before u [] rest later
-completes_some s u held piece held1 behind held2 rest tpdu after before later t was fits h (first, step, grown) =
-    let is = packet_whole held2 tpdu after fits h in
-    let none : after ≡ [] = topped_some held piece held1 behind held2 rest tpdu after t was is.0 is.1 in
-    let whole : held2 ≡ packet tpdu = is.1 ∙ ap (λ (x : List ℕ). packet tpdu ++ x) none ∙ append-nil (packet tpdu) in
-    let all : held ++ piece ≡ packet tpdu ++ rest = sym (topped_all held piece held1 behind held2 rest t) ∙ ap (λ (x : List ℕ). x ++ rest) whole in
-    record {
-      took = record { given = option_to_list first; takes = Takes-one s u (held ++ piece) tpdu rest first is.0 all step; grew = grown };
-      partial = partial_none;
-      one = inl refl;
-    }
-
-pub completes_bad : (f : TpFault) (s : State) (held piece held1 behind held2 rest : List ℕ) (before : List Tsdu) → Topped held piece held1 behind held2 rest → IsBytes held2 → packet_at held2 ≡ Err f → StopsAt f s (held ++ piece) before before
-completes_bad f s held piece held1 behind held2 rest before t fits h = record {
-  state = s;
-  bad = held2 ++ rest;
-  took = Took-as s (held ++ piece) (held2 ++ rest) before (topped_all held piece held1 behind held2 rest t);
-  stops = λ _. inl (stays_bad held2 rest f (packet_bad held2 f fits h));
-}
-
-pub completes_fails : (f : TpFault) (s : State) (held piece held1 behind held2 rest tpdu after : List ℕ) (before later : List Tsdu) → Topped held piece held1 behind held2 rest → IsBytes held2 → packet_at held2 ≡ Ok (Some (tpdu, after))
-    → Fails f (tpdu_at s tpdu) → later ≡ before → StopsAt f s (held ++ piece) before later
-completes_fails f s held piece held1 behind held2 rest tpdu after before later t fits h fails same =
-    let is = packet_whole held2 tpdu after fits h in
-    record {
-      state = s;
-      bad = held2 ++ rest;
-      took = subst (λ (x : List Tsdu). Took s (held ++ piece) before s (held2 ++ rest) x) (sym same) (Took-as s (held ++ piece) (held2 ++ rest) before (topped_all held piece held1 behind held2 rest t));
-      stops = λ some. inr (tpdu, after ++ rest, is.0, ap (λ (x : List ℕ). x ++ rest) is.1 ∙ append_assoc (packet tpdu) after rest, fails some);
-    }
-
--- without memory, where nothing was taken
-pub stops_none : (f : TpFault) (s : State) (octets : List ℕ) (before now : List Tsdu) → f ≡ faults.Memory → now ≡ before → StopsAt f s octets before now
-stops_none f s octets before now memory same = record {
-  state = s;
-  bad = octets;
-  took = subst (λ (x : List Tsdu). Took s octets before s octets x) (sym same) (Took-none s octets before);
-  stops = λ some. absurd (some memory);
-}
-
 -- ---- what is done in two goes is done in one
 
-Took-then : (s t u : State) (octets held rest : List ℕ) (before mid now : List Tsdu) → Took s octets before t held mid → Took t held mid u rest now → Took s octets before u rest now
+pub Took-then : (s t u : State) (octets held rest : List ℕ) (before mid now : List Tsdu) → Took s octets before t held mid → Took t held mid u rest now → Took s octets before u rest now
 Took-then s t u octets held rest before mid now a b =
     let joined : Takes s (octets ++ []) (a.given ++ b.given) u rest = Takes-then s t u octets [] held rest a.given b.given a.takes (subst (λ (x : List ℕ). Takes t x b.given u rest) (sym (append-nil held)) b.takes) in
     record {
@@ -169,30 +73,6 @@ Took-then s t u octets held rest before mid now a b =
       takes = subst (λ (x : List ℕ). Takes s x (a.given ++ b.given) u rest) (append-nil octets) joined;
       grew = b.grew ∙ ap (λ (x : List Tsdu). x ++ b.given) a.grew ∙ append_assoc before a.given b.given;
     }
-
-pub all_then : (s t u : State) (octets held behind rest : List ℕ) (before mid now : List Tsdu) → Completes s octets before t held behind mid → held ≡ [] → TookAll t behind mid u rest now → TookAll s octets before u rest now
-all_then s t u octets held behind rest before mid now a none b =
-    (Took-then s t u octets behind rest before mid now (subst (λ (x : List ℕ). Took s octets before t (x ++ behind) mid) none a.took) b.0, b.1)
-
-pub stops_then : (f : TpFault) (s t : State) (octets held behind : List ℕ) (before mid now : List Tsdu) → Completes s octets before t held behind mid → held ≡ [] → StopsAt f t behind mid now → StopsAt f s octets before now
-stops_then f s t octets held behind before mid now a none b = record {
-  state = b.state;
-  bad = b.bad;
-  took = Took-then s t b.state octets behind b.bad before mid now (subst (λ (x : List ℕ). Took s octets before t (x ++ behind) mid) none a.took) b.took;
-  stops = b.stops;
-}
-
--- where the piece ended inside the held TPKT
-pub all_held : (s t : State) (octets held behind : List ℕ) (before mid : List Tsdu) → Completes s octets before t held behind mid → held ≢ [] → TookAll s octets before t held mid
-all_held s t octets held behind before mid a some =
-    elim a.one [
-      | inl none ↦ absurd (some none)
-      | inr none ↦ (subst (λ (x : List ℕ). Took s octets before t x mid) (ap (λ (x : List ℕ). held ++ x) none ∙ append-nil held) a.took, a.partial)
-    ]
-
--- without memory for the rest
-pub all_stops : (f : TpFault) (s t : State) (octets rest : List ℕ) (before now : List Tsdu) → f ≡ faults.Memory → TookAll s octets before t rest now → StopsAt f s octets before now
-all_stops f s t octets rest before now memory a = record { state = t; bad = rest; took = a.0; stops = λ some. absurd (some memory) }
 
 -- ---- a piece more
 

@@ -4,13 +4,14 @@ use Rattle.std.specs.Prelude.{MatchResult}
 use Rattle.std.specs.List.{flat_map}
 use Rattle.std.proofs.lemmas.Bool.{eqb-true, eqb-false, ltb-true, ltb-false, lt-ltb, le-ltb, ne_eqb, eq-eqb, cond_both}
 use Rattle.std.proofs.lemmas.List.{length-append}
+use Rattle.tpkt_cotp.specs.declared.codes.TheConstants.{CR, CC, DR, DT, ER, END_OF_TSDU}
 use Rattle.tpkt_cotp.specs.declared.fault.TpFault.{TpFault}
 use Rattle.tpkt_cotp.specs.declared.fault.TpFault.TheVariants as faults
 use Rattle.tpkt_cotp.specs.declared.state.State.{State}
 use Rattle.tpkt_cotp.specs.declared.tsdus.Cr.{Cr}
 use Rattle.tpkt_cotp.specs.declared.tsdus.Tsdu.{Tsdu}
 use Rattle.tpkt_cotp.specs.declared.tsdus.Tsdu.TheVariants.{Connect, Data, Disconnect}
-use Rattle.tpkt_cotp.specs.Octets.{◌>>=◌}
+use Rattle.ber_grammar.specs.Reader.{◌>>=◌}
 use Rattle.tpkt_cotp.specs.Parameters.{spelled, parameters_of}
 use Rattle.tpkt_cotp.specs.Tpdu.{awaited, HasHeader, IsConnection, IsTaken, IsMalformed, IsKnown, IsOutOfTurn, IsCodeRefused, IsRefusedTpdu, connection_at, connect_at, segment_at, data_at, coded_at, tpdu_at}
 use Rattle.tpkt_cotp.proofs.ParameterLaws.{ParametersTell, unsaid, over_unsaid, parameters_tell, parameters_again, parameters_refused}
@@ -81,7 +82,7 @@ made_tells : (s : State) (li code : ℕ) (rest : List ℕ) (r : Result Cr TpFaul
 made_tells s li code rest (Ok cr) none turn h = (none, li, rest, ap (λ (x : ℕ). li ∷ x ∷ rest) turn, h, refl)
 made_tells s li code rest (Err f) none turn h = inr (inr (inl (none, turn, h)))
 
-connect_tells : (s : State) (is_awaited : Bool) (li code : ℕ) (rest : List ℕ) → (is_awaited ≡ true → code ≡ awaited s.dialled) → (is_awaited ≡ false → code ≢ awaited s.dialled) → (code ≡ 224) ⊎ (code ≡ 208)
+connect_tells : (s : State) (is_awaited : Bool) (li code : ℕ) (rest : List ℕ) → (is_awaited ≡ true → code ≡ awaited s.dialled) → (is_awaited ≡ false → code ≢ awaited s.dialled) → (code ≡ CR) ⊎ (code ≡ CC)
     → CodedTells s li code rest (connect_at s is_awaited li rest)
 connect_tells s is_awaited li code rest turn other known =
     cond_both is_awaited (cond s.connected (Err faults.Sequence) (connection_at li rest >>= made s)) (Err faults.Sequence) (λ r. CodedTells s li code rest r)
@@ -90,20 +91,20 @@ connect_tells s is_awaited li code rest turn other known =
     (λ none. made_tells s li code rest (connection_at li rest) none (turn e) (connection_tells li rest)))
     (λ e. inr (inl (refl, inr (known, inr (other e)))))
 
-segment_tells : (s : State) (li : ℕ) (rest : List ℕ) → s.connected ≡ true → li ≡ 2 → HasHeader li rest → CodedTells s li 240 rest (segment_at s rest)
+segment_tells : (s : State) (li : ℕ) (rest : List ℕ) → s.connected ≡ true → li ≡ 2 → HasHeader li rest → CodedTells s li DT rest (segment_at s rest)
 segment_tells s li [] there two header = absurd (omega (arith, header.1, two))
 segment_tells s li (nr ∷ octets) there two header =
-    cond_both (ltb 70000 (length s.tsdu + length octets)) (Err faults.TsduLimit) _ (λ r. CodedTells s li 240 (nr ∷ octets) r)
+    cond_both (ltb 70000 (length s.tsdu + length octets)) (Err faults.TsduLimit) _ (λ r. CodedTells s li DT (nr ∷ octets) r)
     (λ e. inr (inr (inr (inr (refl, there, refl, two, nr, octets, refl, ltb-true 70000 (length s.tsdu + length octets) e)))))
     (λ e. let few : length (s.tsdu ++ octets) ≤ 70000 = omega (arith, length-append s.tsdu octets, ltb-false 70000 (length s.tsdu + length octets) e) in
-    cond_both (ltb nr 128) (Ok (record { dialled = s.dialled; connected = true; tsdu = s.tsdu ++ octets }, None)) (Ok (record { dialled = s.dialled; connected = true; tsdu = [] }, Some (Data (s.tsdu ++ octets)))) (λ r. CodedTells s li 240 (nr ∷ octets) r)
-    (λ low. (there, nr, octets, ap (λ (x : ℕ). x ∷ 240 ∷ nr ∷ octets) two, ltb-true nr 128 low, few, refl))
-    (λ high. (there, nr, octets, ap (λ (x : ℕ). x ∷ 240 ∷ nr ∷ octets) two, ltb-false nr 128 high, refl, few, refl)))
+    cond_both (ltb nr END_OF_TSDU) (Ok (record { dialled = s.dialled; connected = true; tsdu = s.tsdu ++ octets }, None)) (Ok (record { dialled = s.dialled; connected = true; tsdu = [] }, Some (Data (s.tsdu ++ octets)))) (λ r. CodedTells s li DT (nr ∷ octets) r)
+    (λ low. (there, nr, octets, ap (λ (x : ℕ). x ∷ DT ∷ nr ∷ octets) two, ltb-true nr END_OF_TSDU low, few, refl))
+    (λ high. (there, nr, octets, ap (λ (x : ℕ). x ∷ DT ∷ nr ∷ octets) two, ltb-false nr END_OF_TSDU high, refl, few, refl)))
 
-data_tells : (s : State) (li : ℕ) (rest : List ℕ) → HasHeader li rest → CodedTells s li 240 rest (data_at s li rest)
+data_tells : (s : State) (li : ℕ) (rest : List ℕ) → HasHeader li rest → CodedTells s li DT rest (data_at s li rest)
 data_tells s li rest header =
-    cond_both s.connected (cond (eqb li 2) (segment_at s rest) (Err faults.Tpdu)) (Err faults.Sequence) (λ r. CodedTells s li 240 rest r)
-    (λ there. cond_both (eqb li 2) (segment_at s rest) (Err faults.Tpdu) (λ r. CodedTells s li 240 rest r)
+    cond_both s.connected (cond (eqb li 2) (segment_at s rest) (Err faults.Tpdu)) (Err faults.Sequence) (λ r. CodedTells s li DT rest r)
+    (λ there. cond_both (eqb li 2) (segment_at s rest) (Err faults.Tpdu) (λ r. CodedTells s li DT rest r)
     (λ e. segment_tells s li rest there (eqb-true li 2 e) header)
     (λ e. inr (inr (inr (inl (refl, there, refl, eqb-false li 2 e))))))
     (λ none. inr (inl (refl, inl (refl, none))))
@@ -116,29 +117,29 @@ other_false : (b : Bool) → cond b false true ≡ false → b ≡ true
 other_false true e = refl
 other_false false e = cc
 
-awaited_dialled : (b : Bool) → b ≡ true → awaited b ≡ 208
+awaited_dialled : (b : Bool) → b ≡ true → awaited b ≡ CC
 awaited_dialled b e = rw e refl
 
-awaited_listening : (b : Bool) → b ≡ false → awaited b ≡ 224
+awaited_listening : (b : Bool) → b ≡ false → awaited b ≡ CR
 awaited_listening b e = rw e refl
 
 coded_tells : (s : State) (li code : ℕ) (rest : List ℕ) → HasHeader li rest → CodedTells s li code rest (coded_at s li code rest)
 coded_tells s li code rest header =
-    cond_both (eqb code 240) (data_at s li rest) _ (λ r. CodedTells s li code rest r)
-    (λ e. subst (λ (x : ℕ). CodedTells s li x rest (data_at s li rest)) (sym (eqb-true code 240 e)) (data_tells s li rest header))
-    (λ e1. cond_both (eqb code 224) (connect_at s (cond s.dialled false true) li rest) _ (λ r. CodedTells s li code rest r)
-    (λ e. let is : code ≡ 224 = eqb-true code 224 e in
+    cond_both (eqb code DT) (data_at s li rest) _ (λ r. CodedTells s li code rest r)
+    (λ e. subst (λ (x : ℕ). CodedTells s li x rest (data_at s li rest)) (sym (eqb-true code DT e)) (data_tells s li rest header))
+    (λ e1. cond_both (eqb code CR) (connect_at s (cond s.dialled false true) li rest) _ (λ r. CodedTells s li code rest r)
+    (λ e. let is : code ≡ CR = eqb-true code CR e in
     connect_tells s (cond s.dialled false true) li code rest (λ h. is ∙ sym (awaited_listening s.dialled (other_true s.dialled h))) (λ h k. absurd (omega (arith, is, k, awaited_dialled s.dialled (other_false s.dialled h)))) (inl is))
-    (λ e2. cond_both (eqb code 208) (connect_at s s.dialled li rest) _ (λ r. CodedTells s li code rest r)
-    (λ e. let is : code ≡ 208 = eqb-true code 208 e in
+    (λ e2. cond_both (eqb code CC) (connect_at s s.dialled li rest) _ (λ r. CodedTells s li code rest r)
+    (λ e. let is : code ≡ CC = eqb-true code CC e in
     connect_tells s s.dialled li code rest (λ h. is ∙ sym (awaited_dialled s.dialled h)) (λ h k. absurd (omega (arith, is, k, awaited_listening s.dialled h))) (inr is))
-    (λ e3. cond_both (eqb code 128) (Ok (s, Some Disconnect)) _ (λ r. CodedTells s li code rest r)
-    (λ e. (li, code, rest, refl, header, inl (eqb-true code 128 e), refl))
-    (λ e4. cond_both (eqb code 112) (Ok (s, Some Disconnect)) (Err faults.Tpdu) (λ r. CodedTells s li code rest r)
-    (λ e. (li, code, rest, refl, header, inr (eqb-true code 112 e), refl))
-    (λ e5. inl (refl, unknown code (eqb-false code 240 e1) (eqb-false code 224 e2) (eqb-false code 208 e3) (eqb-false code 128 e4) (eqb-false code 112 e5)))))))
+    (λ e3. cond_both (eqb code DR) (Ok (s, Some Disconnect)) _ (λ r. CodedTells s li code rest r)
+    (λ e. (li, code, rest, refl, header, inl (eqb-true code DR e), refl))
+    (λ e4. cond_both (eqb code ER) (Ok (s, Some Disconnect)) (Err faults.Tpdu) (λ r. CodedTells s li code rest r)
+    (λ e. (li, code, rest, refl, header, inr (eqb-true code ER e), refl))
+    (λ e5. inl (refl, unknown code (eqb-false code DT e1) (eqb-false code CR e2) (eqb-false code CC e3) (eqb-false code DR e4) (eqb-false code ER e5)))))))
   where
-    unknown : (code : ℕ) → code ≢ 240 → code ≢ 224 → code ≢ 208 → code ≢ 128 → code ≢ 112 → ¬ IsKnown code
+    unknown : (code : ℕ) → code ≢ DT → code ≢ CR → code ≢ CC → code ≢ DR → code ≢ ER → ¬ IsKnown code
     unknown code a b c d e (inl h) = a h
     unknown code a b c d e (inr (inl h)) = b h
     unknown code a b c d e (inr (inr (inl h))) = c h
@@ -192,17 +193,14 @@ no_header_again s li code rest none =
 awaited_coded : (s : State) (li code : ℕ) (rest : List ℕ) → code ≡ awaited s.dialled → coded_at s li code rest ≡ connect_at s true li rest
 awaited_coded s li code rest is =
     cond_both s.dialled true false (λ b. coded_at s li code rest ≡ connect_at s true li rest)
-    (λ e. let code_is : code ≡ 208 = is ∙ awaited_dialled s.dialled e in rw (code_is, e) refl)
-    (λ e. let code_is : code ≡ 224 = is ∙ awaited_listening s.dialled e in rw (code_is, e) refl)
+    (λ e. let code_is : code ≡ CC = is ∙ awaited_dialled s.dialled e in rw (code_is, e) refl)
+    (λ e. let code_is : code ≡ CR = is ∙ awaited_listening s.dialled e in rw (code_is, e) refl)
 
 connection_header : (li : ℕ) (rest : List ℕ) (cr : Cr) → IsConnection li rest cr → HasHeader li rest
 connection_header li rest cr is = (omega (arith, is.header), omega (arith, is.header, ap length is.whole))
 
-data_coded : (s : State) (rest : List ℕ) → s.connected ≡ true → coded_at s 2 240 rest ≡ segment_at s rest
+data_coded : (s : State) (rest : List ℕ) → s.connected ≡ true → coded_at s 2 DT rest ≡ segment_at s rest
 data_coded s rest there = rw there refl
-
-state_is : (s : State) → s.connected ≡ true → (let t : State = record { dialled = s.dialled; connected = true; tsdu = s.tsdu } in t) ≡ s
-state_is s there = rw (sym there) refl
 
 segment_fits : (tsdu octets : List ℕ) → length (tsdu ++ octets) ≤ 70000 → ltb 70000 (length tsdu + length octets) ≡ false
 segment_fits tsdu octets le = le-ltb 70000 (length tsdu + length octets) (omega (arith, length-append tsdu octets))
@@ -213,19 +211,19 @@ taken_again s t tpdu (Some (Connect cr)) (none, li, rest, whole, is, to) =
     ∙ rw (none, connection_again li rest cr is, to) refl
 taken_again s t tpdu (Some (Data octets)) (there, nr, more, whole, end, is, few, to) =
     let count : length (s.tsdu ++ more) ≤ 70000 = subst (λ (x : List ℕ). length x ≤ 70000) is few in
-    ap (λ (x : List ℕ). tpdu_at s x) whole ∙ header_again s 2 240 (nr ∷ more) (omega arith, omega arith) ∙ data_coded s (nr ∷ more) there
-    ∙ rw (segment_fits s.tsdu more count, le-ltb nr 128 end, is, to) refl
+    ap (λ (x : List ℕ). tpdu_at s x) whole ∙ header_again s 2 DT (nr ∷ more) (omega arith, omega arith) ∙ data_coded s (nr ∷ more) there
+    ∙ rw (segment_fits s.tsdu more count, le-ltb nr END_OF_TSDU end, is, to) refl
 taken_again s t tpdu (Some Disconnect) (li, code, rest, whole, header, inl is, to) =
     ap (λ (x : List ℕ). tpdu_at s x) whole ∙ header_again s li code rest header ∙ rw (is, to) refl
 taken_again s t tpdu (Some Disconnect) (li, code, rest, whole, header, inr is, to) =
     ap (λ (x : List ℕ). tpdu_at s x) whole ∙ header_again s li code rest header ∙ rw (is, to) refl
 taken_again s t tpdu None (there, nr, more, whole, not_end, few, to) =
-    ap (λ (x : List ℕ). tpdu_at s x) whole ∙ header_again s 2 240 (nr ∷ more) (omega arith, omega arith) ∙ data_coded s (nr ∷ more) there
-    ∙ rw (segment_fits s.tsdu more few, lt-ltb nr 128 not_end, to) refl
+    ap (λ (x : List ℕ). tpdu_at s x) whole ∙ header_again s 2 DT (nr ∷ more) (omega arith, omega arith) ∙ data_coded s (nr ∷ more) there
+    ∙ rw (segment_fits s.tsdu more few, lt-ltb nr END_OF_TSDU not_end, to) refl
 
 unknown_again : (s : State) (li code : ℕ) (rest : List ℕ) → ¬ IsKnown code → coded_at s li code rest ≡ Err faults.Tpdu
 unknown_again s li code rest none =
-    rw (ne_eqb code 240 (λ h. none (inl h)), ne_eqb code 224 (λ h. none (inr (inl h))), ne_eqb code 208 (λ h. none (inr (inr (inl h)))), ne_eqb code 128 (λ h. none (inr (inr (inr (inl h))))), ne_eqb code 112 (λ h. none (inr (inr (inr (inr h)))))) refl
+    rw (ne_eqb code DT (λ h. none (inl h)), ne_eqb code CR (λ h. none (inr (inl h))), ne_eqb code CC (λ h. none (inr (inr (inl h)))), ne_eqb code DR (λ h. none (inr (inr (inr (inl h))))), ne_eqb code ER (λ h. none (inr (inr (inr (inr h)))))) refl
 
 -- a CR or a CC of a connection that is there
 there_coded : (s : State) (is_awaited : Bool) (li : ℕ) (rest : List ℕ) → (s.connected ≡ true) ⊎ (is_awaited ≡ false) → connect_at s is_awaited li rest ≡ Err faults.Sequence
@@ -234,19 +232,19 @@ there_coded s false li rest (inl there) = refl
 there_coded s true li rest (inr other) = absurd cc
 there_coded s false li rest (inr other) = refl
 
-turn_request : (s : State) → (s.connected ≡ true) ⊎ (224 ≢ awaited s.dialled) → (s.connected ≡ true) ⊎ (cond s.dialled false true ≡ false)
+turn_request : (s : State) → (s.connected ≡ true) ⊎ (CR ≢ awaited s.dialled) → (s.connected ≡ true) ⊎ (cond s.dialled false true ≡ false)
 turn_request s (inl there) = inl there
 turn_request s (inr other) = inr (flipped s.dialled other)
   where
-    flipped : (b : Bool) → 224 ≢ awaited b → cond b false true ≡ false
+    flipped : (b : Bool) → CR ≢ awaited b → cond b false true ≡ false
     flipped true h = refl
     flipped false h = absurd (h refl)
 
-turn_confirm : (s : State) → (s.connected ≡ true) ⊎ (208 ≢ awaited s.dialled) → (s.connected ≡ true) ⊎ (s.dialled ≡ false)
+turn_confirm : (s : State) → (s.connected ≡ true) ⊎ (CC ≢ awaited s.dialled) → (s.connected ≡ true) ⊎ (s.dialled ≡ false)
 turn_confirm s (inl there) = inl there
 turn_confirm s (inr other) = inr (flipped s.dialled other)
   where
-    flipped : (b : Bool) → 208 ≢ awaited b → b ≡ false
+    flipped : (b : Bool) → CC ≢ awaited b → b ≡ false
     flipped true h = absurd (h refl)
     flipped false h = refl
 

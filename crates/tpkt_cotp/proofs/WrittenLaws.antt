@@ -5,6 +5,7 @@ use Rattle.std.proofs.Math.Nat.{div-eq_of_lt, div-mul-le_self, pow-le-pow_right,
 use Rattle.std.proofs.lemmas.Nat.{div-add-mod', div-mul-add}
 use Rattle.std.proofs.lemmas.List.{append-nil, length-append, length-take, length-drop, take-append-drop, take_at, drop_at}
 use Rattle.std.proofs.lemmas.List.Concat.{flat_map-cons}
+use Rattle.tpkt_cotp.specs.declared.codes.TheConstants.{DT, END_OF_TSDU}
 use Rattle.tpkt_cotp.specs.Packet.{packet}
 use Rattle.tpkt_cotp.specs.Written.{IsExponent, room, AreSegments, segments_at, segments_of, tsdu_of}
 
@@ -24,13 +25,13 @@ one_more n most some lt =
     let whole : n - 1 ≡ suc (k / most) * most + k % most = omega (arith, split) in
     ap (λ (m : ℕ). m / most) whole ∙ div-mul-add (suc (k / most)) most (k % most) (omega arith)
 
-pub segments_more : (most : ℕ) (xs : List ℕ) → 0 < most → most < length xs → segments_of most xs ≡ (2 ∷ 240 ∷ 0 ∷ take most xs) ∷ segments_of most (drop most xs)
+pub segments_more : (most : ℕ) (xs : List ℕ) → 0 < most → most < length xs → segments_of most xs ≡ (2 ∷ DT ∷ 0 ∷ take most xs) ∷ segments_of most (drop most xs)
 unfolding segments_of
 segments_more most xs some lt =
     ap (λ (n : ℕ). segments_at n most xs) (one_more (length xs) most some lt)
-    ∙ ap (λ (n : ℕ). (2 ∷ 240 ∷ 0 ∷ take most xs) ∷ segments_at ((n - 1) / most) most (drop most xs)) (sym (length-drop most xs))
+    ∙ ap (λ (n : ℕ). (2 ∷ DT ∷ 0 ∷ take most xs) ∷ segments_at ((n - 1) / most) most (drop most xs)) (sym (length-drop most xs))
 
-pub segments_last : (most : ℕ) (xs : List ℕ) → 0 < most → length xs ≤ most → segments_of most xs ≡ (2 ∷ 240 ∷ 128 ∷ xs) ∷ []
+pub segments_last : (most : ℕ) (xs : List ℕ) → 0 < most → length xs ≤ most → segments_of most xs ≡ (2 ∷ DT ∷ END_OF_TSDU ∷ xs) ∷ []
 unfolding segments_of
 segments_last most xs some le =
     let lt : length xs - 1 < most = omega arith in
@@ -40,15 +41,15 @@ pub begun : (e r : ℕ) (out xs : List ℕ) → out ≡ [] → r ≡ room e → 
 unfolding tsdu_of
 begun e r out xs none same = rw (none, same) refl
 
-pub written_more : (r : ℕ) (whole out rest later : List ℕ) → 0 < r → r < length rest → whole ≡ out ++ flat_map packet (segments_of r rest) → later ≡ out ++ packet (2 ∷ 240 ∷ 0 ∷ take r rest) → whole ≡ later ++ flat_map packet (segments_of r (drop r rest))
+pub written_more : (r : ℕ) (whole out rest later : List ℕ) → 0 < r → r < length rest → whole ≡ out ++ flat_map packet (segments_of r rest) → later ≡ out ++ packet (2 ∷ DT ∷ 0 ∷ take r rest) → whole ≡ later ++ flat_map packet (segments_of r (drop r rest))
 written_more r whole out rest later some lt is grown =
     is ∙ ap (λ (x : List (List ℕ)). out ++ flat_map packet x) (segments_more r rest some lt)
-    ∙ ap (λ (x : List ℕ). out ++ x) (flat_map-cons packet (2 ∷ 240 ∷ 0 ∷ take r rest) (segments_of r (drop r rest)))
-    ∙ sym (append_assoc out (packet (2 ∷ 240 ∷ 0 ∷ take r rest)) (flat_map packet (segments_of r (drop r rest)))) ∙ ap (λ (x : List ℕ). x ++ flat_map packet (segments_of r (drop r rest))) (sym grown)
+    ∙ ap (λ (x : List ℕ). out ++ x) (flat_map-cons packet (2 ∷ DT ∷ 0 ∷ take r rest) (segments_of r (drop r rest)))
+    ∙ sym (append_assoc out (packet (2 ∷ DT ∷ 0 ∷ take r rest)) (flat_map packet (segments_of r (drop r rest)))) ∙ ap (λ (x : List ℕ). x ++ flat_map packet (segments_of r (drop r rest))) (sym grown)
 
-pub written_last : (r : ℕ) (whole out rest later : List ℕ) → 0 < r → length rest ≤ r → whole ≡ out ++ flat_map packet (segments_of r rest) → later ≡ out ++ packet (2 ∷ 240 ∷ 128 ∷ rest) → later ≡ whole
+pub written_last : (r : ℕ) (whole out rest later : List ℕ) → 0 < r → length rest ≤ r → whole ≡ out ++ flat_map packet (segments_of r rest) → later ≡ out ++ packet (2 ∷ DT ∷ END_OF_TSDU ∷ rest) → later ≡ whole
 written_last r whole out rest later some le is grown =
-    grown ∙ ap (λ (x : List ℕ). out ++ x) (sym (append-nil (packet (2 ∷ 240 ∷ 128 ∷ rest))) ∙ sym (flat_map-cons packet (2 ∷ 240 ∷ 128 ∷ rest) []))
+    grown ∙ ap (λ (x : List ℕ). out ++ x) (sym (append-nil (packet (2 ∷ DT ∷ END_OF_TSDU ∷ rest))) ∙ sym (flat_map-cons packet (2 ∷ DT ∷ END_OF_TSDU ∷ rest) []))
     ∙ ap (λ (x : List (List ℕ)). out ++ flat_map packet x) (sym (segments_last r rest some le)) ∙ sym is
 
 -- ---- the DTs of a TSDU are the ones that are spelled so
@@ -83,5 +84,5 @@ segments_only most xs (tpdu ∷ next ∷ more) some (front, rest, whole, count, 
     let lt : most < length xs = omega (arith, ap length whole, length-append front rest, count, left) in
     let head : take most xs ≡ front = ap (λ (x : List ℕ). take most x) whole ∙ take_at front rest most count in
     let tail : drop most xs ≡ rest = ap (λ (x : List ℕ). drop most x) whole ∙ drop_at front rest most count in
-    let one : tpdu ≡ 2 ∷ 240 ∷ 0 ∷ take most xs = is ∙ ap (λ (x : List ℕ). 2 ∷ 240 ∷ 0 ∷ x) (sym head) in
-    ap (λ (x : List ℕ). x ∷ next ∷ more) one ∙ ap (λ (x : List (List ℕ)). (2 ∷ 240 ∷ 0 ∷ take most xs) ∷ x) (segments_only most rest (next ∷ more) some are ∙ ap (λ (x : List ℕ). segments_of most x) (sym tail)) ∙ sym (segments_more most xs some lt)
+    let one : tpdu ≡ 2 ∷ DT ∷ 0 ∷ take most xs = is ∙ ap (λ (x : List ℕ). 2 ∷ DT ∷ 0 ∷ x) (sym head) in
+    ap (λ (x : List ℕ). x ∷ next ∷ more) one ∙ ap (λ (x : List (List ℕ)). (2 ∷ DT ∷ 0 ∷ take most xs) ∷ x) (segments_only most rest (next ∷ more) some are ∙ ap (λ (x : List ℕ). segments_of most x) (sym tail)) ∙ sym (segments_more most xs some lt)

@@ -1,4 +1,5 @@
-pub mod Octets
+-- From a TPKT to the stream of them, and what is written.
+pub mod Failing
 pub mod Packet
 pub mod Parameters
 pub mod Tpdu

@@ -1,5 +1,5 @@
 -- A TPKT (RFC 1006, "Packet Format"): 3, 0, two octets of its whole length, and its TPDU.
-use Rattle.std.specs.Prelude.{◌≡◌, ℕ, ◌+◌, ◌-◌, ◌*◌, ◌/◌, ◌%◌, ◌<◌, ◌≤◌, List, [], ◌∷◌, ◌++◌, length, take, drop, Option, Some, None, Result, Ok, Err, nat_lt, ◌⊎◌, ◌==◌, if◌then◌else◌}
+use Rattle.std.specs.Prelude.{◌≡◌, ℕ, ◌+◌, ◌-◌, ◌*◌, ◌/◌, ◌%◌, ◌<◌, ◌≤◌, List, [], ◌∷◌, ◌++◌, length, take, drop, min, Option, Some, None, Result, Ok, Err, nat_lt, ◌⊎◌, ◌==◌, if◌then◌else◌}
 use Rattle.tpkt_cotp.specs.declared.fault.TpFault.{TpFault}
 use Rattle.tpkt_cotp.specs.declared.fault.TpFault.TheVariants.{Version, Length}
 
@@ -46,3 +46,11 @@ wanted_at (a ∷ []) = 3
 wanted_at (a ∷ b ∷ []) = 2
 wanted_at (a ∷ b ∷ c ∷ []) = 1
 wanted_at (a ∷ b ∷ c ∷ d ∷ rest) = c * 256 + d - (4 + length rest)
+
+-- what it wants next was moved to it from the front of a piece, as far as the piece has it
+abbrev pub TopsUp : List ℕ → List ℕ → List ℕ → List ℕ → Type 0
+TopsUp held piece now rest = (now ≡ held ++ take (min (wanted_at held) (length piece)) piece) × (rest ≡ drop (min (wanted_at held) (length piece)) piece)
+
+-- first the rest of its header, and then that of its TPDU
+abbrev pub Completes : List ℕ → List ℕ → List ℕ → List ℕ → Type 0
+Completes held piece now rest = (headed behind : List ℕ) × TopsUp held piece headed behind × TopsUp headed behind now rest

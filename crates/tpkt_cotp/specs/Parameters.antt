@@ -1,10 +1,11 @@
 -- The parameters of a CR and of a CC (ISO 8073, "Connection Request (CR) TPDU", variable part): each is a code, the
 -- length of its value, and the value.
 use Rattle.std.specs.Prelude.{◌≡◌, ℕ, zero, suc, ◌≤◌, List, [], ◌∷◌, length, take, drop, min, slice_index, Option, Some, None, Result, Ok, Err, nat_lt, ◌==◌, if◌then◌else◌}
+use Rattle.tpkt_cotp.specs.declared.codes.TheConstants.{TPDU_SIZE, CALLING, CALLED}
 use Rattle.tpkt_cotp.specs.declared.fault.TpFault.{TpFault}
 use Rattle.tpkt_cotp.specs.declared.fault.TpFault.TheVariants.{Tpdu}
 use Rattle.tpkt_cotp.specs.declared.tsdus.Cr.{Cr}
-use Rattle.tpkt_cotp.specs.Octets.{◌>>=◌}
+use Rattle.ber_grammar.specs.Reader.{◌>>=◌, first_of_two}
 
 pub record Parameter : Type 0 where
   pub code : ℕ
@@ -15,12 +16,7 @@ spelled p = p.code ∷ length p.value ∷ p.value
 
 -- A TPDU size is one octet, an exponent of two that is at least 7. What other parameters hold is not judged.
 abbrev pub IsAllowed : Parameter → Type 0
-IsAllowed p = p.code ≡ 192 → (exponent : ℕ) × (p.value ≡ exponent ∷ []) × (7 ≤ exponent)
-
--- the first of two that there may be
-abbrev pub first_of_two : {A : Type 0} → Option A → Option A → Option A
-first_of_two (Some v) other = Some v
-first_of_two None other = other
+IsAllowed p = p.code ≡ TPDU_SIZE → (exponent : ℕ) × (p.value ≡ exponent ∷ []) × (7 ≤ exponent)
 
 -- the value of the last parameter of this code
 abbrev pub last_of : ℕ → List Parameter → Option (List ℕ)
@@ -34,7 +30,7 @@ exponent_of (Some value) = Some (min (slice_index value 0) 13)
 
 -- What the parameters say of a connection: of a repeated one the last counts, and unknown ones are skipped.
 abbrev pub said : ℕ → List Parameter → Cr
-said src ps = record { src = src; size = exponent_of (last_of 192 ps); calling = last_of 193 ps; called = last_of 194 ps }
+said src ps = record { src = src; size = exponent_of (last_of TPDU_SIZE ps); calling = last_of CALLING ps; called = last_of CALLED ps }
 
 -- ---- reading
 
@@ -46,9 +42,9 @@ size_at cr (e ∷ f ∷ more) = Err Tpdu
 -- one parameter, put to what the earlier ones said
 abbrev pub put_at : Cr → ℕ → List ℕ → Result Cr TpFault
 put_at cr code value =
-    if code == 192 then size_at cr value
-    else if code == 193 then Ok (record { src = cr.src; size = cr.size; calling = Some value; called = cr.called })
-    else if code == 194 then Ok (record { src = cr.src; size = cr.size; calling = cr.calling; called = Some value })
+    if code == TPDU_SIZE then size_at cr value
+    else if code == CALLING then Ok (record { src = cr.src; size = cr.size; calling = Some value; called = cr.called })
+    else if code == CALLED then Ok (record { src = cr.src; size = cr.size; calling = cr.calling; called = Some value })
     else Ok cr
 
 -- the first parameter's code and value and what follows it, or None where there is no octet

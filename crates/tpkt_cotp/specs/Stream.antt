@@ -6,9 +6,9 @@ use Rattle.tpkt_cotp.specs.declared.fault.TpFault.{TpFault}
 use Rattle.tpkt_cotp.specs.declared.fault.TpFault.TheVariants as faults
 use Rattle.tpkt_cotp.specs.declared.state.State.{State}
 use Rattle.tpkt_cotp.specs.declared.tsdus.Tsdu.{Tsdu}
-use Rattle.tpkt_cotp.specs.declared.tsdus.Taken.{Taken}
+use Rattle.tpkt_cotp.specs.declared.tsdus.Tpkt.{Tpkt}
 use Rattle.tpkt_cotp.specs.declared.transport.TransportIn.{TransportIn}
-use Rattle.tpkt_cotp.specs.Octets.{IsBytes}
+use Rattle.ber_grammar.specs.Octets.{IsBytes}
 use Rattle.tpkt_cotp.specs.Packet.{packet, IsTpdu, IsPartial, IsBad}
 use Rattle.tpkt_cotp.specs.Tpdu.{tpdu_at}
 
@@ -42,16 +42,6 @@ pub record Took (s : State) (octets : List ℕ) (before : List Tsdu) (t : State)
 
 abbrev pub TookAll : State → List ℕ → List Tsdu → State → List ℕ → List Tsdu → Type 0
 TookAll s octets before t rest now = Took s octets before t rest now × IsPartial rest
-
--- A TPDU was taken, and what it gives was added.
-abbrev pub Adds : State → List ℕ → State → List Tsdu → List Tsdu → Type 0
-Adds s tpdu t before now = (first : Option Tsdu) × (tpdu_at s tpdu ≡ Ok (t, first)) × (now ≡ before ++ option_to_list first)
-
--- A TPKT that was held was completed, unless the piece ended before; nothing of the piece is passed over.
-pub record Completes (s : State) (octets : List ℕ) (before : List Tsdu) (t : State) (held rest : List ℕ) (now : List Tsdu) : Type 0 where
-  pub took : Took s octets before t (held ++ rest) now
-  pub partial : IsPartial held
-  pub one : (held ≡ []) ⊎ (rest ≡ [])
 
 -- whole TPKTs were taken, up to one that is refused, or as far as there was memory
 pub record StopsAt (f : TpFault) (s : State) (octets : List ℕ) (before : List Tsdu) (now : List Tsdu) : Type 0 where
@@ -110,7 +100,7 @@ Refuses f dialled octets given before now = (more : List Tsdu) × (now ≡ befor
 -- ---- one TPKT at a time
 
 -- Behind what is held the piece completes a TPKT, which gives this and leads to another state, or all of it is held.
-abbrev pub Advances : State → List ℕ → List ℕ → State → List ℕ → Option Taken → List ℕ → Type 0
+abbrev pub Advances : State → List ℕ → List ℕ → State → List ℕ → Option Tpkt → List ℕ → Type 0
 Advances s held piece t now None rest = (rest ≡ []) × (now ≡ held ++ piece) × (t ≡ s) × IsPartial now
 Advances s held piece t now (Some taken) rest = (tpdu front : List ℕ) × IsTpdu tpdu × (piece ≡ front ++ rest) × (packet tpdu ≡ held ++ front) × (taken.octets ≡ length (packet tpdu)) × (tpdu_at s tpdu ≡ Ok (t, taken.tsdu)) × (now ≡ [])
 
@@ -119,7 +109,7 @@ abbrev pub FailsAt : TpFault → State → List ℕ → Type 0
 FailsAt f s input = f ≢ faults.Memory → Stops s input f
 
 -- what a TPKT that was completed gave, if one was
-abbrev pub gift : Option Taken → Option Tsdu
+abbrev pub gift : Option Tpkt → Option Tsdu
 gift None = None
 gift (Some taken) = taken.tsdu
 
@@ -130,14 +120,14 @@ pub record IsReady (t : TransportIn) : Type 0 where
   pub partial : IsPartial t.held
 
 -- The object took octets of the piece up to the end of a TPKT, or all, and is ready for what follows.
-abbrev pub StepsFrom : TransportIn → TransportIn → List ℕ → Option Taken → List ℕ → Type 0
+abbrev pub StepsFrom : TransportIn → TransportIn → List ℕ → Option Tpkt → List ℕ → Type 0
 StepsFrom t u piece taken rest = Advances t.state t.held piece u.state u.held taken rest × IsReady u
 
 abbrev pub StepFails : TpFault → TransportIn → List ℕ → Type 0
 StepFails f t piece = FailsAt f t.state (t.held ++ piece)
 
 -- the octets of the piece that were taken, and what the object stands for with them
-pub record StepsOn (u : TransportIn) (dialled : Bool) (octets : List ℕ) (so_far : List Tsdu) (piece : List ℕ) (taken : Option Taken) (rest : List ℕ) : Type 0 where
+pub record StepsOn (u : TransportIn) (dialled : Bool) (octets : List ℕ) (so_far : List Tsdu) (piece : List ℕ) (taken : Option Tpkt) (rest : List ℕ) : Type 0 where
   pub front : List ℕ
   pub cut : piece ≡ front ++ rest
   pub stands : StandsFor u dialled (octets ++ front) (so_far ++ option_to_list (gift taken))

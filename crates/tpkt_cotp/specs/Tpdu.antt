@@ -1,18 +1,20 @@
 -- What a TPDU of class 0 does to a connection (ISO 8073, "Structure and encoding of TPDUs").
 use Rattle.std.specs.Prelude.{◌≡◌, ◌≢◌, ℕ, ◌+◌, ◌*◌, ◌<◌, ◌≤◌, Bool, true, false, List, [], ◌∷◌, ◌++◌, length, Option, Some, None, Result, Ok, Err, MatchResult, nat_lt, ◌⊎◌, ◌==◌, if◌then◌else◌}
 use Rattle.std.specs.List.{flat_map, AllByRecursion}
+use Rattle.tpkt_cotp.specs.declared.codes.TheConstants.{CR, CC, DR, DT, ER, END_OF_TSDU}
 use Rattle.tpkt_cotp.specs.declared.fault.TpFault.{TpFault}
 use Rattle.tpkt_cotp.specs.declared.fault.TpFault.TheVariants as faults
 use Rattle.tpkt_cotp.specs.declared.state.State.{State}
 use Rattle.tpkt_cotp.specs.declared.tsdus.Cr.{Cr}
 use Rattle.tpkt_cotp.specs.declared.tsdus.Tsdu.{Tsdu}
 use Rattle.tpkt_cotp.specs.declared.tsdus.Tsdu.TheVariants.{Connect, Data, Disconnect}
-use Rattle.tpkt_cotp.specs.Octets.{◌>>=◌, Fails}
+use Rattle.ber_grammar.specs.Reader.{◌>>=◌}
+use Rattle.tpkt_cotp.specs.Failing.{Fails}
 use Rattle.tpkt_cotp.specs.Parameters.{Parameter, spelled, IsAllowed, said, parameters_of}
 
 -- the code of the TPDU that makes the connection: on a dialled one a CC, else a CR
 abbrev pub awaited : Bool → ℕ
-awaited dialled = if dialled then 208 else 224
+awaited dialled = if dialled then CC else CR
 
 -- ---- the grammar
 
@@ -39,9 +41,9 @@ pub record IsConnection (li : ℕ) (rest : List ℕ) (cr : Cr) : Type 0 where
 -- to the open TSDU and with its end bit gives it, a DR and an ER tell that it ends.
 abbrev pub IsTaken : State → List ℕ → State → Option Tsdu → Type 0
 IsTaken s tpdu t (Some (Connect cr)) = (s.connected ≡ false) × (li : ℕ) × (rest : List ℕ) × (tpdu ≡ li ∷ awaited s.dialled ∷ rest) × IsConnection li rest cr × (t ≡ record { dialled = s.dialled; connected = true; tsdu = s.tsdu })
-IsTaken s tpdu t (Some (Data octets)) = (s.connected ≡ true) × (nr : ℕ) × (more : List ℕ) × (tpdu ≡ 2 ∷ 240 ∷ nr ∷ more) × (128 ≤ nr) × (octets ≡ s.tsdu ++ more) × (length octets ≤ 70000) × (t ≡ record { dialled = s.dialled; connected = true; tsdu = [] })
-IsTaken s tpdu t (Some Disconnect) = (li code : ℕ) × (rest : List ℕ) × (tpdu ≡ li ∷ code ∷ rest) × HasHeader li rest × ((code ≡ 128) ⊎ (code ≡ 112)) × (t ≡ s)
-IsTaken s tpdu t None = (s.connected ≡ true) × (nr : ℕ) × (more : List ℕ) × (tpdu ≡ 2 ∷ 240 ∷ nr ∷ more) × (nr < 128) × (length (s.tsdu ++ more) ≤ 70000) × (t ≡ record { dialled = s.dialled; connected = true; tsdu = s.tsdu ++ more })
+IsTaken s tpdu t (Some (Data octets)) = (s.connected ≡ true) × (nr : ℕ) × (more : List ℕ) × (tpdu ≡ 2 ∷ DT ∷ nr ∷ more) × (END_OF_TSDU ≤ nr) × (octets ≡ s.tsdu ++ more) × (length octets ≤ 70000) × (t ≡ record { dialled = s.dialled; connected = true; tsdu = [] })
+IsTaken s tpdu t (Some Disconnect) = (li code : ℕ) × (rest : List ℕ) × (tpdu ≡ li ∷ code ∷ rest) × HasHeader li rest × ((code ≡ DR) ⊎ (code ≡ ER)) × (t ≡ s)
+IsTaken s tpdu t None = (s.connected ≡ true) × (nr : ℕ) × (more : List ℕ) × (tpdu ≡ 2 ∷ DT ∷ nr ∷ more) × (nr < END_OF_TSDU) × (length (s.tsdu ++ more) ≤ 70000) × (t ≡ record { dialled = s.dialled; connected = true; tsdu = s.tsdu ++ more })
 
 -- what follows the code of a CR or a CC is of no form, or it asks for another class
 abbrev pub IsMalformed : ℕ → List ℕ → TpFault → Type 0
@@ -51,19 +53,19 @@ IsMalformed li (a ∷ b ∷ c ∷ d ∷ class ∷ more) f = ((f ≡ faults.Tpdu)
 IsMalformed li rest f = f ≡ faults.Tpdu
 
 abbrev pub IsKnown : ℕ → Type 0
-IsKnown code = (code ≡ 240) ⊎ (code ≡ 224) ⊎ (code ≡ 208) ⊎ (code ≡ 128) ⊎ (code ≡ 112)
+IsKnown code = (code ≡ DT) ⊎ (code ≡ CR) ⊎ (code ≡ CC) ⊎ (code ≡ DR) ⊎ (code ≡ ER)
 
 -- A DT comes only on a connection; a CR or a CC only before it, and only the one that is awaited.
 abbrev pub IsOutOfTurn : State → ℕ → Type 0
-IsOutOfTurn s code = ((code ≡ 240) × (s.connected ≡ false)) ⊎ ((code ≡ 224) ⊎ (code ≡ 208)) × ((s.connected ≡ true) ⊎ (code ≢ awaited s.dialled))
+IsOutOfTurn s code = ((code ≡ DT) × (s.connected ≡ false)) ⊎ ((code ≡ CR) ⊎ (code ≡ CC)) × ((s.connected ≡ true) ⊎ (code ≢ awaited s.dialled))
 
 -- a TPDU whose header is there is refused for its code, or for what follows it
 abbrev pub IsCodeRefused : State → ℕ → ℕ → List ℕ → TpFault → Type 0
 IsCodeRefused s li code rest f = ((f ≡ faults.Tpdu) × ¬ IsKnown code)
     ⊎ ((f ≡ faults.Sequence) × IsOutOfTurn s code)
     ⊎ ((s.connected ≡ false) × (code ≡ awaited s.dialled) × IsMalformed li rest f)
-    ⊎ ((f ≡ faults.Tpdu) × (s.connected ≡ true) × (code ≡ 240) × (li ≢ 2))
-    ⊎ ((f ≡ faults.TsduLimit) × (s.connected ≡ true) × (code ≡ 240) × (li ≡ 2) × (nr : ℕ) × (more : List ℕ) × (rest ≡ nr ∷ more) × (70000 < length s.tsdu + length more))
+    ⊎ ((f ≡ faults.Tpdu) × (s.connected ≡ true) × (code ≡ DT) × (li ≢ 2))
+    ⊎ ((f ≡ faults.TsduLimit) × (s.connected ≡ true) × (code ≡ DT) × (li ≡ 2) × (nr : ℕ) × (more : List ℕ) × (rest ≡ nr ∷ more) × (70000 < length s.tsdu + length more))
 
 -- A TPDU is refused: it has no whole header, or else for its code or what follows it.
 abbrev pub IsRefusedTpdu : State → List ℕ → TpFault → Type 0
@@ -95,7 +97,7 @@ abbrev pub segment_at : State → List ℕ → Result (State × Option Tsdu) TpF
 segment_at s [] = Err faults.Tpdu
 segment_at s (nr ∷ octets) =
     if nat_lt 70000 (length s.tsdu + length octets) then Err faults.TsduLimit
-    else if nat_lt nr 128 then Ok (record { dialled = s.dialled; connected = true; tsdu = s.tsdu ++ octets }, None)
+    else if nat_lt nr END_OF_TSDU then Ok (record { dialled = s.dialled; connected = true; tsdu = s.tsdu ++ octets }, None)
     else Ok (record { dialled = s.dialled; connected = true; tsdu = [] }, Some (Data (s.tsdu ++ octets)))
 
 abbrev pub data_at : State → ℕ → List ℕ → Result (State × Option Tsdu) TpFault
@@ -103,11 +105,11 @@ data_at s li rest = if s.connected then (if li == 2 then segment_at s rest else 
 
 abbrev pub coded_at : State → ℕ → ℕ → List ℕ → Result (State × Option Tsdu) TpFault
 coded_at s li code rest =
-    if code == 240 then data_at s li rest
-    else if code == 224 then connect_at s (if s.dialled then false else true) li rest
-    else if code == 208 then connect_at s s.dialled li rest
-    else if code == 128 then Ok (s, Some Disconnect)
-    else if code == 112 then Ok (s, Some Disconnect)
+    if code == DT then data_at s li rest
+    else if code == CR then connect_at s (if s.dialled then false else true) li rest
+    else if code == CC then connect_at s s.dialled li rest
+    else if code == DR then Ok (s, Some Disconnect)
+    else if code == ER then Ok (s, Some Disconnect)
     else Err faults.Tpdu
 
 unfoldable pub tpdu_at : State → List ℕ → Result (State × Option Tsdu) TpFault

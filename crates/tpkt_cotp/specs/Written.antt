@@ -1,6 +1,7 @@
 -- How TPDUs are written: each has one spelling (ISO 8073, "Structure and encoding of TPDUs").
 use Rattle.std.specs.Prelude.{◌≡◌, ℕ, zero, suc, ◌+◌, ◌-◌, ◌/◌, ◌%◌, ◌^◌, ◌<◌, ◌≤◌, List, [], ◌∷◌, ◌++◌, length, take, drop, min, Option, Some, None, ◌⊎◌, MatchOption}
 use Rattle.std.specs.List.{flat_map}
+use Rattle.tpkt_cotp.specs.declared.codes.TheConstants.{CR, CC, DT, TPDU_SIZE, CALLING, CALLED, END_OF_TSDU}
 use Rattle.tpkt_cotp.specs.declared.tsdus.Cr.{Cr}
 use Rattle.tpkt_cotp.specs.declared.tsdus.Tsdu.{Tsdu}
 use Rattle.tpkt_cotp.specs.declared.tsdus.Tsdu.TheVariants.{Connect, Data, Disconnect}
@@ -10,7 +11,7 @@ use Rattle.tpkt_cotp.specs.Packet.{packet}
 
 abbrev pub size_parameter : Option ℕ → List ℕ
 size_parameter None = []
-size_parameter (Some e) = 192 ∷ 1 ∷ e ∷ []
+size_parameter (Some e) = TPDU_SIZE ∷ 1 ∷ e ∷ []
 
 abbrev pub selector : ℕ → Option (List ℕ) → List ℕ
 selector code None = []
@@ -18,7 +19,7 @@ selector code (Some value) = code ∷ length value ∷ value
 
 -- the TPDU size, then the called selector, then the calling one, each where it was said
 abbrev pub parameters_for : Cr → List ℕ
-parameters_for cr = size_parameter cr.size ++ (selector 194 cr.called ++ selector 193 cr.calling)
+parameters_for cr = size_parameter cr.size ++ (selector CALLED cr.called ++ selector CALLING cr.calling)
 
 -- Some CR says this: the exponent of its TPDU size is 7 to 13, and LI can count its parameters.
 abbrev pub IsCr : Cr → Type 0
@@ -36,7 +37,7 @@ connection code dst src parameters = (6 + length parameters) ∷ code ∷ dst / 
 
 -- the CC for what a CR said, in its TPKT
 unfoldable pub confirm_of : Cr → List ℕ
-confirm_of cr = packet (connection 208 cr.src 1 (parameters_for cr))
+confirm_of cr = packet (connection CC cr.src 1 (parameters_for cr))
 
 -- what that CC says: the reference of this side, and the rest as the CR had it
 abbrev pub confirmed : Cr → Cr
@@ -48,7 +49,7 @@ called_with src = record { src = src; size = Some 13; calling = Some (0 ∷ 1 �
 
 -- the CR of this reference, in its TPKT
 unfoldable pub call_of : ℕ → List ℕ
-call_of src = packet (connection 224 0 src (parameters_for (called_with src)))
+call_of src = packet (connection CR 0 src (parameters_for (called_with src)))
 
 -- ---- a TSDU
 
@@ -64,13 +65,13 @@ room e = min (2 ^ e) 65531 - 3
 -- the end bit.
 abbrev pub AreSegments : ℕ → List ℕ → List (List ℕ) → Type 0
 AreSegments most octets [] = ⊥
-AreSegments most octets (tpdu ∷ []) = (length octets ≤ most) × (tpdu ≡ 2 ∷ 240 ∷ 128 ∷ octets)
-AreSegments most octets (tpdu ∷ next ∷ more) = (front rest : List ℕ) × (octets ≡ front ++ rest) × (length front ≡ most) × (0 < length rest) × (tpdu ≡ 2 ∷ 240 ∷ 0 ∷ front) × AreSegments most rest (next ∷ more)
+AreSegments most octets (tpdu ∷ []) = (length octets ≤ most) × (tpdu ≡ 2 ∷ DT ∷ END_OF_TSDU ∷ octets)
+AreSegments most octets (tpdu ∷ next ∷ more) = (front rest : List ℕ) × (octets ≡ front ++ rest) × (length front ≡ most) × (0 < length rest) × (tpdu ≡ 2 ∷ DT ∷ 0 ∷ front) × AreSegments most rest (next ∷ more)
 
 -- so many DTs, and the last
 abbrev pub segments_at : ℕ → ℕ → List ℕ → List (List ℕ)
-segments_at zero most octets = (2 ∷ 240 ∷ 128 ∷ octets) ∷ []
-segments_at (suc n) most octets = (2 ∷ 240 ∷ 0 ∷ take most octets) ∷ segments_at n most (drop most octets)
+segments_at zero most octets = (2 ∷ DT ∷ END_OF_TSDU ∷ octets) ∷ []
+segments_at (suc n) most octets = (2 ∷ DT ∷ 0 ∷ take most octets) ∷ segments_at n most (drop most octets)
 
 unfoldable pub segments_of : ℕ → List ℕ → List (List ℕ)
 segments_of most octets = segments_at ((length octets - 1) / most) most octets

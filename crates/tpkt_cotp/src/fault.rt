@@ -1,3 +1,5 @@
+//! Why a stream of TPKTs is refused.
+
 ghost use Rattle.std.specs.Prelude.{◌≡◌};
 ghost use Rattle.tpkt_cotp.specs.declared.fault.TpFault.TheVariants.{Memory};
 

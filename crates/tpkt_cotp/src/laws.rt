@@ -1,3 +1,5 @@
+//! What is promised of all streams, TPKTs and TPDUs: each function here runs nothing, and its contract is a law.
+
 ghost use Rattle.std.specs.Prelude.{◌≡◌, ◌≢◌, ℕ, ◌<◌, ◌≤◌, Bool, true, false, List, [], ◌∷◌, ◌++◌, length, Option, Some, None, Ok, Err, MatchOption, MatchResult};
 ghost use Rattle.std.specs.Option.{option_to_list};
 ghost use Rattle.std.specs.List.{AllByRecursion};
@@ -5,10 +7,10 @@ ghost use Rattle.tpkt_cotp.specs.declared.fault.TpFault.{TpFault};
 ghost use Rattle.tpkt_cotp.specs.declared.state.State.{State};
 ghost use Rattle.tpkt_cotp.specs.declared.transport.TransportIn.{TransportIn};
 ghost use Rattle.tpkt_cotp.specs.declared.tsdus.Cr.{Cr};
-ghost use Rattle.tpkt_cotp.specs.declared.tsdus.Taken.{Taken};
+ghost use Rattle.tpkt_cotp.specs.declared.tsdus.Tpkt.{Tpkt};
 ghost use Rattle.tpkt_cotp.specs.declared.tsdus.Tsdu.{Tsdu};
 ghost use Rattle.tpkt_cotp.specs.declared.tsdus.Tsdu.TheVariants.{Connect, Data};
-ghost use Rattle.tpkt_cotp.specs.Octets.{IsBytes};
+ghost use Rattle.ber_grammar.specs.Octets.{IsBytes};
 ghost use Rattle.tpkt_cotp.specs.Packet.{packet, packet_at, IsTpdu, IsPartial, IsBad};
 ghost use Rattle.tpkt_cotp.specs.Tpdu.{tpdu_at, IsConnection, IsTaken, IsRefusedTpdu};
 ghost use Rattle.tpkt_cotp.specs.Stream.{StandsFor, IsRefused, IsOpen, Keeps, IsReady, StepsFrom, gift};
@@ -47,7 +49,7 @@ pub fn a_stream_gives_one_list()
 pub fn little_is_kept()
     ensures kept { (a : TransportIn) (dialled : Bool) (octets : List ℕ) (es : List Tsdu) → StandsFor a dialled octets es → Keeps a 65534 70000 }
     ensures fit { (a : TransportIn) (dialled : Bool) (octets : List ℕ) (es : List Tsdu) → StandsFor a dialled octets es → AllByRecursion Fits es }
-    ensures step { (a b : TransportIn) (piece rest : List ℕ) (taken : Option Taken) → IsBytes piece → IsReady a → StepsFrom a b piece taken rest → AllByRecursion Fits (option_to_list (gift taken)) }
+    ensures step { (a b : TransportIn) (piece rest : List ℕ) (taken : Option Tpkt) → IsBytes piece → IsReady a → StepsFrom a b piece taken rest → AllByRecursion Fits (option_to_list (gift taken)) }
 {}
 
 /// The DTs that `tsdu` writes are the only ones that carry the octets with each but the last full. Behind any stream that

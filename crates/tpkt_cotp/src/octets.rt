@@ -1,3 +1,5 @@
+//! Octets that are gathered: a TPKT that is not whole, and an open TSDU.
+
 use std::alloc::{AllocError, Global};
 use std::marker::Model;
 

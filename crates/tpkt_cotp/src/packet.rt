@@ -1,7 +1,9 @@
-ghost use Rattle.std.specs.Prelude.{◌≡◌, take, drop, min, length, IfOk, ◌++◌};
+//! A TPKT: cut from the front of octets, and completed piece by piece (RFC 1006, "Packet Format").
+
+ghost use Rattle.std.specs.Prelude.{◌≡◌, IfOk};
 ghost use Rattle.std.specs.Option.{option_map};
-ghost use Rattle.tpkt_cotp.specs.Octets.{Gives};
-ghost use Rattle.tpkt_cotp.specs.Packet.{packet_at, body_at, wanted_at};
+ghost use Rattle.ber_grammar.specs.Reader.{Gives};
+ghost use Rattle.tpkt_cotp.specs.Packet.{packet_at, body_at, wanted_at, TopsUp, Completes};
 
 use crate::fault::TpFault;
 use crate::octets::Gathered;
@@ -52,15 +54,24 @@ fn wanted(held: &[u8]) -> usize
 }
 
 /// Moves to the held octets what their TPKT wants next, as far as the piece has it, and gives the rest of the piece.
-pub fn top_up<'a>(
-    alloc: Global,
-    held: &mut Gathered,
-    piece: &'a [u8],
-) -> Result<&'a [u8], AllocError>
-    ensures { IfOk result (λ rest. let count = min (wanted_at held.old) (length piece.now) in (held.new ≡ held.old ++ take count piece.now) × (rest.now ≡ drop count piece.now)) }
+fn top_up<'a>(alloc: Global, held: &mut Gathered, piece: &'a [u8]) -> Result<&'a [u8], AllocError>
+    ensures { IfOk result (λ rest. TopsUp held.old piece.now held.new rest.now) }
 {
     let count = wanted(held.as_slice()).min(piece.len());
     let (front, rest) = piece.split_at(count);
     held.append(alloc, front)?;
     Ok(rest)
+}
+
+/// Moves to the held octets the rest of their TPKT's header and then of its TPDU, as far as the piece has them, and gives
+/// the rest of the piece.
+pub fn complete<'a>(
+    alloc: Global,
+    held: &mut Gathered,
+    piece: &'a [u8],
+) -> Result<&'a [u8], AllocError>
+    ensures { IfOk result (λ rest. Completes held.old piece.now held.new rest.now) }
+{
+    let behind = top_up(alloc, held, piece)?;
+    top_up(alloc, held, behind)
 }

@@ -1,8 +1,12 @@
+//! The parameters of a CR and a CC (ISO 8073, 13.3.4, "Variable part").
+
 ghost use Rattle.std.specs.Prelude.{◌≡◌, Ok, MatchResult, IfOk};
 ghost use Rattle.std.specs.Option.{option_map};
-ghost use Rattle.tpkt_cotp.specs.Octets.{Fails, Gives};
+ghost use Rattle.ber_grammar.specs.Reader.{Gives};
+ghost use Rattle.tpkt_cotp.specs.Failing.{Fails};
 ghost use Rattle.tpkt_cotp.specs.Parameters.{parameter_at, put_at, parameters_of};
 
+use crate::codes::{CALLED, CALLING, TPDU_SIZE};
 use crate::fault::TpFault;
 use crate::tsdus::Cr;
 use std::alloc::{AllocError, Global};
@@ -20,12 +24,12 @@ fn put_parameter(alloc: Global, cr: &mut Cr, code: u8, value: &[u8]) -> Result<(
     ensures { MatchResult result (λ _. put_at cr.old code value.now ≡ Ok cr.new) (λ f. Fails f (put_at cr.old code value.now)) }
 {
     match code {
-        0xc0 => match value {
+        TPDU_SIZE => match value {
             [exponent] if *exponent >= 7 => cr.size = Some((*exponent).min(13)),
             _ => return Err(TpFault::Tpdu),
         },
-        0xc1 => cr.calling = Some(owned(alloc, value)?),
-        0xc2 => cr.called = Some(owned(alloc, value)?),
+        CALLING => cr.calling = Some(owned(alloc, value)?),
+        CALLED => cr.called = Some(owned(alloc, value)?),
         _ => (),
     }
     Ok(())

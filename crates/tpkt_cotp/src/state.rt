@@ -1,7 +1,10 @@
+//! What a TPDU does to a connection (ISO 8073, "Structure and encoding of TPDUs").
+
 ghost use Rattle.std.specs.Prelude.{◌≡◌, true, Ok, MatchResult};
-ghost use Rattle.tpkt_cotp.specs.Octets.{Fails};
+ghost use Rattle.tpkt_cotp.specs.Failing.{Fails};
 ghost use Rattle.tpkt_cotp.specs.Tpdu.{Steps, connection_at, connect_at, segment_at, data_at, coded_at, tpdu_at};
 
+use crate::codes::{CC, CR, DR, DT, END_OF_TSDU, ER};
 use crate::fault::TpFault;
 use crate::octets::Gathered;
 use crate::parameters::read_parameters;
@@ -75,7 +78,7 @@ fn take_segment(alloc: Global, state: &mut State, rest: &[u8]) -> Result<Option<
                 return Err(TpFault::TsduLimit);
             }
             state.tsdu.append(alloc, octets)?;
-            if *nr < 128 {
+            if *nr < END_OF_TSDU {
                 return Ok(None);
             }
             Ok(Some(Tsdu::Data(Octs::from_vec(state.tsdu.take(alloc)))))
@@ -107,10 +110,10 @@ fn take_coded(
 {
     let dialled = state.dialled;
     match code {
-        0xf0 => take_data(alloc, state, li, rest),
-        0xe0 => take_connection(alloc, state, !dialled, li, rest),
-        0xd0 => take_connection(alloc, state, dialled, li, rest),
-        0x80 | 0x70 => Ok(Some(Tsdu::Disconnect)),
+        DT => take_data(alloc, state, li, rest),
+        CR => take_connection(alloc, state, !dialled, li, rest),
+        CC => take_connection(alloc, state, dialled, li, rest),
+        DR | ER => Ok(Some(Tsdu::Disconnect)),
         _ => Err(TpFault::Tpdu),
     }
 }

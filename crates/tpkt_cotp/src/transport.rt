@@ -1,104 +1,31 @@
-ghost use Rattle.std.specs.Prelude.{◌≡◌, ℕ, Bool, true, false, List, [], ◌∷◌, ◌++◌, ◌≢◌, length, Some, None, Ok, Err, IfErr, OnOk, OnErr, MatchResult, MatchOption};
+//! A stream, taken in pieces: what is held of a TPKT that is not whole, and what the whole ones give.
+
+ghost use Rattle.std.specs.Prelude.{◌≡◌, ℕ, Bool, true, false, List, [], ◌∷◌, ◌++◌, ◌≢◌, length, Ok, Err, is_ok, if◌then◌else◌, IfErr, MatchResult};
 ghost use Rattle.std.specs.Option.{option_to_list};
 ghost use Rattle.tpkt_cotp.specs.declared.fault.TpFault.{TpFault};
 ghost use Rattle.tpkt_cotp.specs.declared.fault.TpFault.TheVariants.{Memory};
 ghost use Rattle.tpkt_cotp.specs.declared.tsdus.Tsdu.{Tsdu};
-ghost use Rattle.tpkt_cotp.specs.Octets.{Fails, IsBytes};
+ghost use Rattle.ber_grammar.specs.Octets.{IsBytes};
+ghost use Rattle.tpkt_cotp.specs.Failing.{Fails};
 ghost use Rattle.tpkt_cotp.specs.Packet.{packet, IsPartial};
 ghost use Rattle.tpkt_cotp.specs.Tpdu.{tpdu_at};
-ghost use Rattle.tpkt_cotp.specs.Stream.{TookAll, Took, StopsAt, StandsFor, HasRefused, GoesOn, Refuses, Adds, Completes, Advances, FailsAt, IsReady, StepsFrom, StepFails, StepsOn, IsRefused};
+ghost use Rattle.tpkt_cotp.specs.Stream.{TookAll, StopsAt, StandsFor, HasRefused, GoesOn, Refuses, gift, Advances, FailsAt, IsReady, StepsFrom, StepFails, StepsOn, IsRefused};
 
 use crate::fault::TpFault;
 use crate::octets::Gathered;
-use crate::packet::{packet_of, top_up};
+use crate::packet::{complete, packet_of};
 use crate::state::{State, take_tpdu};
-use crate::tsdus::{Taken, Tsdus};
-use std::alloc::Global;
-
-/// Takes a TPDU and adds what it gives.
-fn add(alloc: Global, state: &mut State, tpdu: &[u8], out: &mut Tsdus) -> Result<(), TpFault>
-    ensures ok { OnOk result (Adds state.old tpdu.now state.new out.old out.new) }
-    ensures err { IfErr result (λ f. Fails f (tpdu_at state.old tpdu.now)) }
-    ensures same { OnErr result (out.new ≡ out.old) }
-{
-    if let Some(tsdu) = take_tpdu(alloc, state, tpdu)? {
-        out.push(tsdu)?;
-    }
-    Ok(())
-}
-
-/// Takes the whole TPKTs at the front, and gives what follows them.
-fn take_whole<'a>(
-    alloc: Global,
-    state: &mut State,
-    input: &'a [u8],
-    out: &mut Tsdus,
-) -> Result<&'a [u8], TpFault>
-    ensures { MatchResult result
-        (λ rest. TookAll state.old input.now out.old state.new rest.now out.new)
-        (λ f. StopsAt f state.old input.now out.old out.new) }
-{
-    let mut rest = input;
-    while let Some((tpdu, after)) = packet_of(rest)? {
-        add(alloc, state, tpdu, out)?;
-        rest = after;
-    }
-    Ok(rest)
-}
-
-/// Completes the TPKT that is held, as far as the piece has it, and gives the rest of the piece.
-fn complete<'a>(
-    alloc: Global,
-    held: &mut Gathered,
-    state: &mut State,
-    piece: &'a [u8],
-    out: &mut Tsdus,
-) -> Result<&'a [u8], TpFault>
-    ensures { IsBytes held.old → IsPartial held.old → MatchResult result
-        (λ rest. Completes state.old (held.old ++ piece.now) out.old state.new held.new rest.now out.new)
-        (λ f. StopsAt f state.old (held.old ++ piece.now) out.old out.new) }
-{
-    if held.as_slice().is_empty() {
-        return Ok(piece);
-    }
-    let behind = top_up(alloc, held, piece)?;
-    let rest = top_up(alloc, held, behind)?;
-    if let Some((tpdu, _)) = packet_of(held.as_slice())? {
-        add(alloc, state, tpdu, out)?;
-        held.clear();
-    }
-    Ok(rest)
-}
-
-/// Takes the next piece, behind what is held.
-fn take_piece(
-    alloc: Global,
-    held: &mut Gathered,
-    state: &mut State,
-    piece: &[u8],
-    out: &mut Tsdus,
-) -> Result<(), TpFault>
-    ensures { IsBytes held.old → IsPartial held.old → MatchResult result
-        (λ _. TookAll state.old (held.old ++ piece.now) out.old state.new held.new out.new)
-        (λ f. StopsAt f state.old (held.old ++ piece.now) out.old out.new) }
-{
-    let behind = complete(alloc, held, state, piece, out)?;
-    if !held.as_slice().is_empty() {
-        return Ok(());
-    }
-    let rest = take_whole(alloc, state, behind, out)?;
-    held.append(alloc, rest)?;
-    Ok(())
-}
+use crate::tsdus::{Tpkt, Tsdus};
+use std::alloc::{AllocError, Global};
 
 /// Takes the TPDU of a whole TPKT.
-fn taken_of(alloc: Global, state: &mut State, tpdu: &[u8]) -> Result<Taken, TpFault>
+fn taken_of(alloc: Global, state: &mut State, tpdu: &[u8]) -> Result<Tpkt, TpFault>
     ensures { MatchResult result
         (λ x. (x.octets ≡ length (packet tpdu.now)) × (tpdu_at state.old tpdu.now ≡ Ok (state.new, x.tsdu)))
         (λ f. Fails f (tpdu_at state.old tpdu.now)) }
 {
     let tsdu = take_tpdu(alloc, state, tpdu)?;
-    Ok(Taken {
+    Ok(Tpkt {
         octets: 4 + tpdu.len(),
         tsdu,
     })
@@ -110,7 +37,7 @@ fn begin<'a>(
     held: &mut Gathered,
     state: &mut State,
     piece: &'a [u8],
-) -> Result<(Option<Taken>, &'a [u8]), TpFault>
+) -> Result<(Option<Tpkt>, &'a [u8]), TpFault>
     requires { held.old ≡ [] }
     ensures { MatchResult result
         (λ x. Advances state.old held.old piece.now state.new held.new x.0 x.1.now)
@@ -130,13 +57,12 @@ fn go_on<'a>(
     held: &mut Gathered,
     state: &mut State,
     piece: &'a [u8],
-) -> Result<(Option<Taken>, &'a [u8]), TpFault>
+) -> Result<(Option<Tpkt>, &'a [u8]), TpFault>
     ensures { IsBytes held.old → IsPartial held.old → MatchResult result
         (λ x. Advances state.old held.old piece.now state.new held.new x.0 x.1.now)
         (λ f. FailsAt f state.old (held.old ++ piece.now)) }
 {
-    let behind = top_up(alloc, held, piece)?;
-    let rest = top_up(alloc, held, behind)?;
+    let rest = complete(alloc, held, piece)?;
     let Some((tpdu, _)) = packet_of(held.as_slice())? else {
         return Ok((None, rest));
     };
@@ -151,7 +77,7 @@ fn advance<'a>(
     held: &mut Gathered,
     state: &mut State,
     piece: &'a [u8],
-) -> Result<(Option<Taken>, &'a [u8]), TpFault>
+) -> Result<(Option<Tpkt>, &'a [u8]), TpFault>
     ensures { IsBytes held.old → IsPartial held.old → MatchResult result
         (λ x. Advances state.old held.old piece.now state.new held.new x.0 x.1.now)
         (λ f. FailsAt f state.old (held.old ++ piece.now)) }
@@ -160,6 +86,66 @@ fn advance<'a>(
         return begin(alloc, held, state, piece);
     }
     go_on(alloc, held, state, piece)
+}
+
+/// Adds what a TPKT gave, if one came whole and gave something; without memory nothing changes.
+fn add(taken: Option<Tpkt>, out: &mut Tsdus) -> Result<(), AllocError>
+    ensures { out.new ≡ (if is_ok result then out.old ++ option_to_list (gift taken) else out.old) }
+{
+    match taken {
+        Some(
+            Tpkt {
+                tsdu: Some(tsdu),
+                ..
+            },
+        ) => out.push(tsdu),
+        _ => Ok(()),
+    }
+}
+
+/// Takes the whole TPKTs at the front of the piece, and holds what follows them.
+fn take_whole(
+    alloc: Global,
+    held: &mut Gathered,
+    state: &mut State,
+    piece: &[u8],
+    out: &mut Tsdus,
+) -> Result<(), TpFault>
+    requires { held.old ≡ [] }
+    ensures { MatchResult result
+        (λ _. TookAll state.old piece.now out.old state.new held.new out.new)
+        (λ f. StopsAt f state.old piece.now out.old out.new) }
+{
+    let mut rest = piece;
+    while !rest.is_empty() {
+        let (taken, after) = begin(alloc, held, state, rest)?;
+        add(taken, out)?;
+        rest = after;
+    }
+    Ok(())
+}
+
+/// Takes the next piece, behind what is held.
+fn take_piece(
+    alloc: Global,
+    held: &mut Gathered,
+    state: &mut State,
+    piece: &[u8],
+    out: &mut Tsdus,
+) -> Result<(), TpFault>
+    ensures { IsBytes held.old → IsPartial held.old → MatchResult result
+        (λ _. TookAll state.old (held.old ++ piece.now) out.old state.new held.new out.new)
+        (λ f. StopsAt f state.old (held.old ++ piece.now) out.old out.new) }
+{
+    if held.as_slice().is_empty() {
+        return take_whole(alloc, held, state, piece, out);
+    }
+    let (taken, rest) = go_on(alloc, held, state, piece)?;
+    add(taken, out)?;
+    if !held.as_slice().is_empty() {
+        return Ok(());
+    }
+    take_whole(alloc, held, state, rest, out)
 }
 
 /// What has come of a stream of TPKTs (RFC 1006) on one connection. It keeps at most one TPKT that is not whole and the
@@ -239,7 +225,7 @@ impl TransportIn {
         &mut self,
         alloc: Global,
         piece: &'a [u8],
-    ) -> Result<(Option<Taken>, &'a [u8]), TpFault>
+    ) -> Result<(Option<Tpkt>, &'a [u8]), TpFault>
         // Of an object that refused nothing: a TPKT was taken, or all of the piece is held, or no legal TPKT stands there.
         ensures one { IsReady self.old → MatchResult result
             (λ x. StepsFrom self.old self.new piece.now x.0 x.1.now)

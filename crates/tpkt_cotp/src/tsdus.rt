@@ -1,3 +1,5 @@
+//! What whole TPKTs give: a connection, TSDUs, and its end.
+
 use std::alloc::AllocError;
 use std::marker::Model;
 use sv_base::Octs;
@@ -28,7 +30,7 @@ pub enum Tsdu {
 
 /// A TPKT that came whole.
 #[derive(Debug, Drop)]
-pub struct Taken {
+pub struct Tpkt {
     /// How many octets it has, 7 to 65535, with those of its header.
     pub octets: usize,
     /// What it gave: a DT that doesn't end its TSDU gives nothing.

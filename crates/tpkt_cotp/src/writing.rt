@@ -1,7 +1,10 @@
+//! TPDUs written in their TPKTs: CR, CC, and the DTs of a TSDU.
+
 ghost use Rattle.std.specs.Prelude.{◌≡◌, ◌+◌, ◌≤◌, ◌++◌, length, IfOk, OnOk};
 ghost use Rattle.tpkt_cotp.specs.Packet.{packet};
 ghost use Rattle.tpkt_cotp.specs.Written.{selector, size_parameter, parameters_for, IsCr, connection, confirm_of, call_of, called_with, IsExponent, room, tsdu_of};
 
+use crate::codes::{CALLED, CALLING, CC, CR, DT, END_OF_TSDU, TPDU_SIZE};
 use crate::tsdus::Cr;
 use std::alloc::{AllocError, Global};
 use sv_base::Octs;
@@ -22,7 +25,7 @@ fn put_size(out: &mut Vec<u8>, size: Option<u8>) -> Result<(), AllocError>
     ensures { OnOk result (out.new.items ≡ out.old.items ++ size_parameter size) }
 {
     match size {
-        Some(exponent) => out.extend_from_slice(&[0xc0, 1, exponent]),
+        Some(exponent) => out.extend_from_slice(&[TPDU_SIZE, 1, exponent]),
         None => Ok(()),
     }
 }
@@ -47,8 +50,8 @@ fn parameters(alloc: Global, cr: &Cr) -> Result<Vec<u8>, AllocError>
 {
     let mut out = Vec::new(alloc);
     put_size(&mut out, cr.size)?;
-    put_selector(&mut out, 0xc2, &cr.called)?;
-    put_selector(&mut out, 0xc1, &cr.calling)?;
+    put_selector(&mut out, CALLED, &cr.called)?;
+    put_selector(&mut out, CALLING, &cr.calling)?;
     Ok(out)
 }
 
@@ -88,7 +91,7 @@ pub fn confirm(alloc: Global, cr: &Cr) -> Result<Octs, AllocError>
     ensures { IfOk result (λ o. o ≡ confirm_of cr.now) }
 {
     let parameters = parameters(alloc, cr)?;
-    write_connection(alloc, 0xd0, cr.src, 1, &parameters)
+    write_connection(alloc, CC, cr.src, 1, &parameters)
 }
 
 /// The CR that asks for a connection, in its TPKT (ISO 8073, "Connection Request (CR) TPDU"): DST-REF is 0, SRC-REF as
@@ -99,10 +102,10 @@ pub fn call(alloc: Global, src: u16) -> Result<Octs, AllocError>
 {
     write_connection(
         alloc,
-        0xe0,
+        CR,
         0,
         src,
-        &[0xc0, 1, 13, 0xc2, 2, 0, 1, 0xc1, 2, 0, 1],
+        &[TPDU_SIZE, 1, 13, CALLED, 2, 0, 1, CALLING, 2, 0, 1],
     )
 }
 
@@ -129,9 +132,9 @@ pub fn tsdu(alloc: Global, exponent: u8, octets: &[u8]) -> Result<Octs, AllocErr
     let mut rest = octets;
     while rest.len() > room {
         let (front, behind) = rest.split_at(room);
-        put_packet(&mut out, &[2, 0xf0, 0], front)?;
+        put_packet(&mut out, &[2, DT, 0], front)?;
         rest = behind;
     }
-    put_packet(&mut out, &[2, 0xf0, 0x80], rest)?;
+    put_packet(&mut out, &[2, DT, END_OF_TSDU], rest)?;
     Ok(Octs::from_vec(out))
 }

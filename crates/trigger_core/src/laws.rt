@@ -1,3 +1,5 @@
+//! What is noted is the note of the model. The function runs nothing: its contract is a law.
+
 ghost use Rattle.std.specs.Prelude.{◌≡◌, ℕ, List, map};
 ghost use Rattle.bay_model.specs.declared.flags.Change.{Change};
 ghost use Rattle.bay_model.specs.declared.tables.MemberShape.{MemberShape};

@@ -5,8 +5,8 @@
 mod laws;
 mod triggers;
 
-pub use laws::notes_are_the_definition;
+// what is noted of a point's changes
 pub use triggers::note;
 
-#[cfg(test)]
-mod tests;
+// its law
+pub use laws::notes_are_the_definition;

@@ -1,3 +1,5 @@
+//! Which members of a data set a point is an event of, and why, by the attributes that it set.
+
 ghost use Rattle.std.specs.Prelude.{◌≡◌, ◌≤◌, ◌<◌, ◌^◌, length, unwrap_or, option_copied};
 ghost use Rattle.std.specs.Option.{option_map};
 ghost use Rattle.bay_model.specs.Notes.{no_reason, union as union_of, is_any as is_any_of};

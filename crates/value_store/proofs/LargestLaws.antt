@@ -15,10 +15,9 @@ use Rattle.sv_base.specs.declared.types.TypeOf.TheVariants as types
 use Rattle.sv_base.specs.declared.value.Value.{Value}
 use Rattle.sv_base.specs.declared.value.Value.TheVariants as kinds
 use Rattle.sv_base.proofs.LengthLaws.{length-packed}
-use Rattle.bay_model.specs.Configured.{kind_of}
-use Rattle.bay_model.specs.Kinds.{is_kind, is_in_range}
+use Rattle.bay_rooms.specs.Kinds.{kind_of, is_kind, is_in_range}
 use Rattle.bay_model.specs.Places.{largest, largest_kind, largest_shape, largest_fields}
-use Rattle.bay_model.specs.Slots.{IsSettable}
+use Rattle.bay_rooms.specs.Slots.{IsSettable}
 use Rattle.value_store.specs.Stored.{Stored, attribute}
 use Rattle.value_store.specs.Members.{leaves, leaves_in, value_with, row_with, values_at, member_octets}
 use Rattle.value_store.specs.Leaves.{leaf_shapes, leaf_shapes_in, HasValueOf, AreLeaves}

@@ -8,8 +8,8 @@ use Rattle.std.proofs.lemmas.Bool.{lt-ltb, leb-true, ltb-true, cond_both}
 use Rattle.sv_base.specs.Data.{shortest}
 use Rattle.sv_base.specs.declared.value.Value.TheVariants as kinds
 use Rattle.bay_model.specs.Model.{int, uint}
-use Rattle.bay_model.specs.Kinds.{is_in_range}
-use Rattle.bay_model.specs.Slots.{IsWidth}
+use Rattle.bay_rooms.specs.Kinds.{is_in_range}
+use Rattle.bay_rooms.specs.Slots.{IsWidth}
 
 pub shortest_within : (octets : List ℕ) → length (shortest octets) ≤ length octets
 shortest_within [] = omega arith

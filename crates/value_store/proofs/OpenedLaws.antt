@@ -7,6 +7,7 @@ use Rattle.std.proofs.lemmas.Bool.Decides.{nat_tests}
 use Rattle.std.proofs.lemmas.List.{map-append, get_or-map}
 use Rattle.std.proofs.lemmas.List.Elements.{All-tail}
 use Rattle.std.proofs.lemmas.Slice.Eq.{bytes_eq-Decides}
+use Rattle.list_laws.proofs.Places.{at_position, get_at}
 use Rattle.sv_base.specs.Same.{values_of}
 use Rattle.sv_base.specs.declared.config.Config.{Config}
 use Rattle.sv_base.specs.declared.config.AttrDef.{AttrDef}
@@ -16,7 +17,8 @@ use Rattle.sv_base.specs.declared.value.Value.TheVariants as kinds
 use Rattle.bay_model.specs.Model as model
 use Rattle.bay_model.specs.Model.{Model, Access, Attr, Groups}
 use Rattle.bay_model.specs.Attributes.{attributes, attrs_defined, attr_defined, attrs_generated, twins, access_of}
-use Rattle.bay_model.specs.Configured.{kind_of, groups_defined}
+use Rattle.bay_model.specs.Configured.{groups_defined}
+use Rattle.bay_rooms.specs.Kinds.{kind_of}
 use Rattle.bay_model.specs.Generated.{Parameter, parameters}
 use Rattle.bay_model.specs.Lookups.{attr_of, groups_of, no_attr}
 use Rattle.bay_model.specs.Named.{configured_model}
@@ -28,35 +30,6 @@ use Rattle.value_store.specs.Stored.{Stored, attribute, no_attribute}
 use Rattle.value_store.specs.Wholes.{Stands}
 
 -- ---- the groups of a domain, by its number
-
-place : (b : Bool) (m n : ℕ) → cond (nat_lt (cond (not b) (1 + m) 0) (suc n)) (Some (cond (not b) (1 + m) 0)) None ≡ cond b (Some 0) (option_map (λ i. i + 1) (cond (nat_lt m n) (Some m) None))
-place true m n = grind (arith, nat_tests)
-place false m n = by (nat_lt m n) refl
-  where
-    by : (b : Bool) → nat_lt m n ≡ b → cond (nat_lt (1 + m) (suc n)) (Some (1 + m)) None ≡ option_map (λ i. i + 1) (cond b (Some m) None)
-    by true h = grind (arith, nat_tests)
-    by false h = grind (arith, nat_tests)
-
-place-cons : {X : Type 0} (p : X → Bool) (x : X) (xs : List X) → position p (x ∷ xs) ≡ cond (p x) (Some 0) (option_map (λ n. n + 1) (position p xs))
-place-cons p x xs = place (p x) _ (length xs)
-
--- what stands at the place of a name that is there
-at_by_test : {G : Type 0} (g : List ℕ → G) (none : G) (d e : List ℕ) (es : List (List ℕ)) (b : Bool) (p : Option ℕ)
-    → (b ≡ true → d ≡ e) → (is_some p ≡ true → unwrap_or (slice_get (map g es) (unwrap_or p 0)) none ≡ g d) → is_some (cond b (Some 0) (option_map (λ n. n + 1) p)) ≡ true
-    → unwrap_or (slice_get (map g (e ∷ es)) (unwrap_or (cond b (Some 0) (option_map (λ n. n + 1) p)) 0)) none ≡ g d
-at_by_test g none d e es true p same later there = ap g (sym (same refl))
-at_by_test g none d e es false None same later there = absurd (true≢false (sym there))
-at_by_test g none d e es false (Some n) same later there = let next : n + 1 ≡ suc n = omega arith in ap (λ k. unwrap_or (slice_get (map g (e ∷ es)) k) none) next ∙ later refl
-
--- octets that are equal by the test
-same_octets : (d e : List ℕ) → bytes_eq d e ≡ true → d ≡ e
-same_octets d e is = grind (arith, bytes_eq-Decides d e, is)
-
-pub at_position : {G : Type 0} (g : List ℕ → G) (none : G) (d : List ℕ) (ds : List (List ℕ)) → is_some (position (bytes_eq d) ds) ≡ true
-    → unwrap_or (slice_get (map g ds) (unwrap_or (position (bytes_eq d) ds) 0)) none ≡ g d
-at_position g none d [] there = absurd (true≢false (sym there))
-at_position g none d (e ∷ es) there =
-    rw (place-cons (bytes_eq d) e es) (at_by_test g none d e es (bytes_eq d e) (position (bytes_eq d) es) (same_octets d e) (at_position g none d es) (rw (sym (place-cons (bytes_eq d) e es)) there))
 
 pub groups_at : (c : Config) (d : List ℕ) → is_some (position (bytes_eq d) (domains c)) ≡ true → groups_of (configured_model c) (domain_number c d) ≡ groups_defined c.groups d
 groups_at c d there = at_position (groups_defined c.groups) (record { count = 0; active = 0 }) d (domains c) there
@@ -122,11 +95,6 @@ pub opened_first : (c : Config) → HasDomains c → map (stored_first c) (attri
 opened_first c there = map-append (stored_first c) (attrs_defined c 0 c.attrs) (flat_map (attrs_generated c) c.controls ++ twins c 0 c.attrs)
     ∙ ap₂ (λ l m. l ++ m) (lines_first c 0 c.attrs there)
     (map-append (stored_first c) (flat_map (attrs_generated c) c.controls) (twins c 0 c.attrs) ∙ ap₂ (λ l m. l ++ m) (controls_first c c.controls) (twins_first c 0 c.attrs))
-
-get_at : {X : Type 0} (xs : List X) (x : ℕ) (d e : X) → x < length xs → unwrap_or (slice_get xs x) d ≡ slice_index_or xs x e
-get_at [] x d e below = absurd (omega (arith, below))
-get_at (y ∷ ys) zero d e below = refl
-get_at (y ∷ ys) (suc x) d e below = get_at ys x d e (omega (arith, below))
 
 pub attribute_first : (c : Config) (x : ℕ) → HasDomains c → x < length (attributes c) → attribute (opened c) x ≡ stored_first c (attr_of (configured_model c) x)
 attribute_first c x there below = ap (λ l. attribute l x) (sym (opened_first c there))

@@ -4,6 +4,7 @@ use Rattle.std.specs.Option.{option_or}
 use Rattle.std.proofs.lemmas.Bool.Decides.{nat_tests}
 use Rattle.std.proofs.lemmas.List.{length-set}
 use Rattle.std.proofs.lemmas.List.Elements.{All-tail}
+use Rattle.list_laws.proofs.Places.{at_set}
 use Rattle.sv_base.specs.declared.value.Value.{Value}
 use Rattle.bay_model.specs.declared.step.Setting.{Setting}
 use Rattle.bay_model.specs.Model.{Model}
@@ -12,22 +13,6 @@ use Rattle.bay_model.specs.Settings.{set_to}
 use Rattle.bay_model.specs.Values.{value_at, gives}
 use Rattle.value_store.specs.Stored.{Stored, attribute, no_attribute, with_value}
 use Rattle.value_store.specs.Wholes.{Stands, AreSettable, stored_after}
-
-zero_suc : (x : ℕ) → (0 == suc x) ≡ false
-zero_suc x = grind (arith, nat_tests)
-
-suc_zero : (y : ℕ) → (suc y == 0) ≡ false
-suc_zero y = grind (arith, nat_tests)
-
-suc_suc : (y x : ℕ) → (suc y == suc x) ≡ (y == x)
-suc_suc y x = grind (arith, nat_tests)
-
-pub at_set : (all : List Stored) (y x : ℕ) (w d : Stored) → y < length all → slice_index_or (slice_set all y w) x d ≡ (if y == x then w else slice_index_or all x d)
-at_set [] y x w d below = absurd (omega (arith, below))
-at_set (a ∷ as_) zero zero w d below = refl
-at_set (a ∷ as_) zero (suc x) w d below = rw (zero_suc x) refl
-at_set (a ∷ as_) (suc y) zero w d below = rw (suc_zero y) refl
-at_set (a ∷ as_) (suc y) (suc x) w d below = rw (suc_suc y x) (at_set as_ y x w d (omega (arith, below)))
 
 pub value_if : (b : Bool) (w a : Stored) → (if b then w else a).held.value ≡ (if b then w.held.value else a.held.value)
 value_if true w a = refl

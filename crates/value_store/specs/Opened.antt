@@ -10,12 +10,12 @@ use Rattle.sv_base.specs.declared.value.Value.TheVariants as kinds
 use Rattle.bay_model.specs.Model as model
 use Rattle.bay_model.specs.Model.{Access}
 use Rattle.bay_model.specs.Attributes.{access_of}
-use Rattle.bay_model.specs.Configured.{kind_of, groups_defined}
+use Rattle.bay_model.specs.Configured.{groups_defined}
+use Rattle.bay_rooms.specs.Kinds.{kind_of, is_kind, is_in_range}
 use Rattle.bay_model.specs.Generated.{Parameter, parameters}
-use Rattle.bay_model.specs.Kinds.{is_kind, is_in_range}
 use Rattle.bay_model.specs.NamedLines.{is_setting, domains}
 use Rattle.std.specs.Str.{bytes_eq}
-use Rattle.bay_model.specs.Slots.{IsSettable}
+use Rattle.bay_rooms.specs.Slots.{IsSettable}
 use Rattle.value_store.specs.Stored.{Stored}
 
 abbrev pub is_writable : Access → Bool

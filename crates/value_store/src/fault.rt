@@ -1,3 +1,5 @@
+//! Why a value is not set.
+
 /// Why a value is not set, in the order of the tests.
 #[derive(Clone, Copy, Debug, PartialEq, Eq)]
 pub enum SetFault {

@@ -1,3 +1,5 @@
+//! The store stands for each history. The functions run nothing: each contract is a law.
+
 ghost use Rattle.sv_base.specs.declared.config.Config.{Config};
 ghost use Rattle.bay_model.specs.Attributes.{attributes};
 ghost use Rattle.bay_model.specs.Lookups.{attr_of};
@@ -10,11 +12,10 @@ ghost use Rattle.sv_base.specs.Data.{data_of};
 ghost use Rattle.sv_base.specs.Fields.{shape_of};
 ghost use Rattle.sv_base.specs.declared.numbers.AttrId.{AttrId};
 ghost use Rattle.sv_base.specs.declared.types.TypeOf.{TypeOf};
-ghost use Rattle.bay_model.specs.Configured.{kind_of};
-ghost use Rattle.bay_model.specs.Kinds.{is_kind, is_in_range};
+ghost use Rattle.bay_rooms.specs.Kinds.{kind_of, is_kind, is_in_range};
 ghost use Rattle.bay_model.specs.Model.{Model, Tree};
 ghost use Rattle.bay_model.specs.Places.{largest};
-ghost use Rattle.bay_model.specs.Slots.{IsSettable};
+ghost use Rattle.bay_rooms.specs.Slots.{IsSettable};
 ghost use Rattle.bay_model.specs.Points.{Past, Point, valued, put};
 ghost use Rattle.bay_model.specs.Values.{whole};
 ghost use Rattle.value_store.specs.Leaves.{AreLeaves};

@@ -8,12 +8,12 @@ mod octets;
 mod opening;
 mod store;
 
+// the attributes, and what comes of setting one
 pub use fault::SetFault;
+pub use store::{Changed, Store};
+
+// their laws
 pub use laws::{
     a_write_stands, members_are_no_longer, members_are_whole_values, opened_as_configured,
     settings_stand,
 };
-pub use store::{Changed, Store};
-
-#[cfg(test)]
-mod tests;

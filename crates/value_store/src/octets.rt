@@ -3,7 +3,7 @@
 ghost use Rattle.std.specs.Prelude.{suc, ◌≡◌, ◌≤◌, ◌<◌, ◌^◌, ◌+◌, ◌-◌, ◌*◌, ◌++◌, ◌∷◌, [], length, take, drop};
 ghost use Rattle.std.specs.Int.{to_be_bytes, cast_unsigned, w64};
 ghost use Rattle.sv_base.specs.Data.{length_field, element as element_of, packed, data_of, shortest as shortest_of};
-ghost use Rattle.bay_model.specs.Slots.{lent};
+ghost use Rattle.bay_rooms.specs.Slots.{lent};
 ghost use Rattle.value_store.specs.Written.{adds, IsShort};
 ghost use Rattle.sv_base.specs.declared.value.Value.TheVariants as values;
 

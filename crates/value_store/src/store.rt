@@ -1,3 +1,5 @@
+//! The attributes of a bay, with their values, and who may set them.
+
 use crate::fault::SetFault;
 use bay_model::{Misfit, Slot, ValueRef};
 use std::marker::Model;
@@ -63,7 +65,7 @@ impl Cell {
 
 impl Store {
     ghost use Rattle.std.specs.Prelude.{◌≡◌, ◌<◌, ◌==◌, OnOk, OnErr, length, slice_set};
-    ghost use Rattle.bay_model.specs.Slots.{lent};
+    ghost use Rattle.bay_rooms.specs.Slots.{lent};
     ghost use Rattle.value_store.specs.Stored.{attribute, outcome, with_value};
 
     /// How many attributes there are.

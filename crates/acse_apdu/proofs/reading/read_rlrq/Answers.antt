@@ -1,10 +1,11 @@
 use Rattle.ber_grammar.specs.Place.{piece}
+use Rattle.acse_apdu.specs.declared.codes.TheConstants.{RLRQ}
 use Rattle.acse_apdu.proofs.ApduLaws.{release_reads}
 use Rattle.acse_apdu.proofs.AnywhereLaws.{rlrq-anywhere, release_given}
 use Rattle.acse_apdu.proofs.reading.read_rlrq.Goals as goal
 
 pub returns-clause-reads : goal.returns-clause-reads
-returns-clause-reads c = release_reads 98 _ (piece c.args.bytes) c.release.ensures
+returns-clause-reads c = release_reads RLRQ _ (piece c.args.bytes) c.release.ensures
 
 pub returns-clause-exact : goal.returns-clause-exact
 returns-clause-exact c = release_given _ _ _ (rlrq-anywhere (piece c.args.bytes)) c.release.ensures

@@ -1,6 +1,6 @@
 use Rattle.std.proofs.Common.{◌≡◌, ◌++◌, ◌-◌, ℕ, List, length, ap, Some, arith, length-append}
 use Rattle.ber_grammar.specs.declared.fault.BerFault.{BerFault}
-use Rattle.ber_grammar.proofs.ReaderLaws.{ok_is}
+use Rattle.list_laws.proofs.Options.{ok_is}
 use Rattle.ber_grammar.specs.Element.{Element}
 use Rattle.bay_core.proofs.members.element_len.Goals as goal
 

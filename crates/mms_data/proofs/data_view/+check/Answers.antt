@@ -14,12 +14,12 @@ check_value-returns-then-not-has_context t c = ap checked (sym (data_at-outside 
 pub check_value-returns-then-depth-eq0 : goal.check_value-returns-then-depth-eq0
 check_value-returns-then-depth-eq0 t c = ap checked (sym (data_at-deep c.args.depth (element c.args.part.now) (omega arith) (cc)))
 
-pub check_value-returns-then-part-eq162 : goal.check_value-returns-then-part-eq162
-check_value-returns-then-part-eq162 t c =
-    c.check_parts.ensures ∙ sym (checked_struct (data_at _) _) ∙ ap checked (sym (data_at-struct c.args.depth (element c.args.part.now) (pos_of_ne-zero c.if-depth-eq0.false) (cc) c.if-part-eq162.true))
+pub check_value-returns-then-part-eq-STRUCTURE : goal.check_value-returns-then-part-eq-STRUCTURE
+check_value-returns-then-part-eq-STRUCTURE t c =
+    c.check_parts.ensures ∙ sym (checked_struct (data_at _) _) ∙ ap checked (sym (data_at-struct c.args.depth (element c.args.part.now) (pos_of_ne-zero c.if-depth-eq0.false) (cc) c.if-part-eq-STRUCTURE.true))
 
 pub check_value-returns : goal.check_value-returns
-check_value-returns t c = c.check_plain.ensures ∙ ap checked (sym (data_at-plain c.args.depth (element c.args.part.now) (pos_of_ne-zero c.if-depth-eq0.false) (cc) (ne_eqb _ _ c.if-part-eq162.false)))
+check_value-returns t c = c.check_plain.ensures ∙ ap checked (sym (data_at-plain c.args.depth (element c.args.part.now) (pos_of_ne-zero c.if-depth-eq0.false) (cc) (ne_eqb _ _ c.if-part-eq-STRUCTURE.false)))
 
 pub check_parts-loop-rest-preserved : goal.check_parts-loop-rest-preserved
 check_parts-loop-rest-preserved t c = checked_more (data_at c.args.depth) _ _ _ _ c.loop-rest.invariant c.in-Ok.ensures.exact c.in_default.ensures

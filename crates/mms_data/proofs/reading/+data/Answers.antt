@@ -14,11 +14,11 @@ value_of-returns-then-not-has_context t c = data_at-outside _ _ (cc)
 pub value_of-returns-then-depth-eq0 : goal.value_of-returns-then-depth-eq0
 value_of-returns-then-depth-eq0 t c = data_at-deep _ _ (omega arith) (cc)
 
-pub value_of-returns-then-part-eq162 : goal.value_of-returns-then-part-eq162
-value_of-returns-then-part-eq162 t c = rw (data_at-struct c.args.depth (element c.args.part.now) (pos_of_ne-zero c.if-depth-eq0.false) (cc) c.if-part-eq162.true) c.struct_of.ensures
+pub value_of-returns-then-part-eq-STRUCTURE : goal.value_of-returns-then-part-eq-STRUCTURE
+value_of-returns-then-part-eq-STRUCTURE t c = rw (data_at-struct c.args.depth (element c.args.part.now) (pos_of_ne-zero c.if-depth-eq0.false) (cc) c.if-part-eq-STRUCTURE.true) c.struct_of.ensures
 
 pub value_of-returns : goal.value_of-returns
-value_of-returns t c = rw (data_at-plain c.args.depth (element c.args.part.now) (pos_of_ne-zero c.if-depth-eq0.false) (cc) (ne_eqb _ _ c.if-part-eq162.false)) c.plain_of.ensures
+value_of-returns t c = rw (data_at-plain c.args.depth (element c.args.part.now) (pos_of_ne-zero c.if-depth-eq0.false) (cc) (ne_eqb _ _ c.if-part-eq-STRUCTURE.false)) c.plain_of.ensures
 
 pub struct_of-returns : goal.struct_of-returns
 struct_of-returns t c = struct_at-ok _ _ c.in_ok-items.items.items _ c.in_ok-items.ensures c.from_vec.ensures

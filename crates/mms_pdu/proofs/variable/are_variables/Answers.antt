@@ -3,7 +3,7 @@ use Rattle.std.proofs.lemmas.Iterator.Search.{all_from_yields_List}
 use Rattle.std.proofs.lemmas.Iterator.Consumers.{YieldsList-from_first}
 use Rattle.ber_view.specs.View.{spot}
 use Rattle.mms_pdu.specs.Variable.{variable_at}
-use Rattle.mms_pdu.specs.Fields.{is_read}
+use Rattle.mms_pdu.specs.Each.{is_read}
 use Rattle.mms_pdu.proofs.variable.are_variables.Goals as goal
 
 pub returns : goal.returns

@@ -1,7 +1,7 @@
 use Rattle.std.proofs.Common.{refl, sym, ◌∙◌}
 use Rattle.ber_grammar.proofs.OptionLaws.{some_is}
 use Rattle.mms_pdu.specs.ObjectName.{name_at}
-use Rattle.mms_pdu.proofs.FieldLaws.{each_none}
+use Rattle.mms_pdu.proofs.EachLaws.{each_none}
 use Rattle.mms_pdu.proofs.variable_lists.no_names.Goals as goal
 
 pub unreachable-requires : goal.unreachable-requires

@@ -1,5 +1,14 @@
+use Rattle.std.proofs.Common.{map, ap, sym, ◌∙◌}
+use Rattle.object_names.specs.Numbers.{number_in}
+use Rattle.object_model.specs.Groups.{group_name}
 use Rattle.object_model.proofs.GroupLaws.{groups-next}
 use Rattle.object_model.proofs.grouping.groups.Goals as goal
+
+pub loop-cut-init : goal.loop-cut-init
+loop-cut-init c = record {
+  placed = λ name. c.new-places.ensures 0 name ∙ ap (λ gs. number_in (map group_name gs) name) (sym c.new-groups.ensures.items);
+  groups = c.new-groups.ensures.items;
+}
 
 pub loop-cut-preserved : goal.loop-cut-preserved
 loop-cut-preserved c = record {

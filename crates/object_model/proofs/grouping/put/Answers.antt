@@ -1,12 +1,11 @@
 use Rattle.std.proofs.Common.{◌∷◌, [], map, ap, sym, ◌∙◌}
-use Rattle.std.specs.Str.{bytes_eq}
 use Rattle.object_model.specs.Groups.{Group, group_name}
-use Rattle.object_model.specs.Numbers.{number_in, number_or}
+use Rattle.object_names.specs.Numbers.{number_in}
 use Rattle.object_model.proofs.PutLaws.{put-at, put-none, names-stay, names-more}
 use Rattle.object_model.proofs.grouping.put.Goals as goal
 
 pub push_into-requires : goal.push_into-requires
-push_into-requires c = (put-at c.args.groups.now.items c.args.name.now c.args.cut c.in-Some.place (sym (c.requires c.args.name.now) ∙ (sym c.get.ensures.value ∙ sym c.in-Some.ensures))).within
+push_into-requires c = (put-at c.args.groups.now.items c.args.name.now c.args.cut c.in-Some.place (sym (c.requires c.args.name.now) ∙ sym c.in-Some.ensures)).within
 
 pub returns-in_ok-push_into-in-Some-clause-placed : goal.returns-in_ok-push_into-in-Some-clause-placed
 returns-in_ok-push_into-in-Some-clause-placed c = let none : Group = record { name = []; names = [] } in
@@ -14,14 +13,12 @@ returns-in_ok-push_into-in-Some-clause-placed c = let none : Group = record { na
 
 pub returns-in_ok-push_into-in-Some-clause-groups : goal.returns-in_ok-push_into-in-Some-clause-groups
 returns-in_ok-push_into-in-Some-clause-groups c = let none : Group = record { name = []; names = [] } in
-    c.in_ok-push_into-in-Some.ensures none ∙ (put-at c.args.groups.now.items c.args.name.now c.args.cut c.in-Some.place (sym (c.requires c.args.name.now) ∙ (sym c.get.ensures.value ∙ sym c.in-Some.ensures))).is none
+    c.in_ok-push_into-in-Some.ensures none ∙ (put-at c.args.groups.now.items c.args.name.now c.args.cut c.in-Some.place (sym (c.requires c.args.name.now) ∙ sym c.in-Some.ensures)).is none
 
 pub returns-in_ok-push_group-in-None-clause-placed : goal.returns-in_ok-push_group-in-None-clause-placed
-returns-in_ok-push_group-in-None-clause-placed c = λ other. c.in_ok-add-in-None.ensures other
-    ∙ (ap (λ n. number_or n (bytes_eq other c.args.name.now) c.in_ok-number-in-None.number) (c.requires other)
-    ∙ (ap (λ n. number_or (number_in (map group_name c.args.groups.now.items) other) (bytes_eq other c.args.name.now) n) (c.in_ok-number-in-None.ensures ∙ (c.len.ensures ∙ c.args.groups.now.ok.0))
-    ∙ sym (ap (λ gs. number_in (map group_name gs) other) c.in_ok-push_group-in-None.ensures ∙ names-more c.args.groups.now.items (record { name = c.args.name.now; names = c.args.cut ∷ [] }) other)))
+returns-in_ok-push_group-in-None-clause-placed c = names-more c.args.places.now c.push.new.self c.args.groups.now.items _ (record { name = c.args.name.now; names = c.args.cut ∷ [] }) _ c.requires
+    (c.in_ok-number-in-None.ensures ∙ (c.len.ensures ∙ c.args.groups.now.ok.0)) c.in_ok-push_group-in-None.ensures c.in_ok-push-in-None.ensures
 
 pub returns-in_ok-push_group-in-None-clause-groups : goal.returns-in_ok-push_group-in-None-clause-groups
 returns-in_ok-push_group-in-None-clause-groups c = c.in_ok-push_group-in-None.ensures
-    ∙ sym (put-none c.args.groups.now.items c.args.name.now c.args.cut (sym (c.requires c.args.name.now) ∙ (sym c.get.ensures.value ∙ sym c.in-None.ensures)))
+    ∙ sym (put-none c.args.groups.now.items c.args.name.now c.args.cut (sym (c.requires c.args.name.now) ∙ sym c.in-None.ensures))

@@ -1,5 +1,5 @@
 use Rattle.std.proofs.Common.{ap, ◌∙◌, subst, ◌++◌, map, length}
-use Rattle.object_model.specs.Indexes.{IndexesFrom}
+use Rattle.object_names.specs.Indexes.{IndexesFrom}
 use Rattle.bay_model.specs.Names.{sorted}
 use Rattle.object_model.specs.Nodes.{rows_from, name_at}
 use Rattle.object_model.specs.Listed.{items_of}

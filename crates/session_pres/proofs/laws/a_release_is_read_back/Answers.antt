@@ -1,5 +1,6 @@
+use Rattle.session_pres.specs.declared.codes.TheConstants.{FINISH, DISCONNECT}
 use Rattle.session_pres.proofs.ReadBackLaws.{release_back}
 use Rattle.session_pres.proofs.laws.a_release_is_read_back.Goals as goal
 
 pub returns : goal.returns
-returns c = record { finish = release_back 9; disconnect = release_back 10 }
+returns c = record { finish = release_back FINISH; disconnect = release_back DISCONNECT }

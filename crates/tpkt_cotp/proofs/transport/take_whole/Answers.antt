@@ -1,31 +1,19 @@
-use Rattle.std.proofs.Common.{◌≡◌, Ok, Some}
-use Rattle.std.proofs.lemmas.Result.{err_from_is_err_and}
-use Rattle.tpkt_cotp.specs.Packet.{packet_at}
-use Rattle.tpkt_cotp.proofs.PacketLaws.{packet_partial}
-use Rattle.tpkt_cotp.proofs.StreamLaws.{Took-adds, after_fits, after_shorter, stops_bad_at, step_fails}
+use Rattle.std.proofs.Common.{◌≡◌, ◌++◌, inl}
+use Rattle.std.specs.Option.{option_to_list}
+use Rattle.tpkt_cotp.specs.Stream.{gift, Advances}
+use Rattle.tpkt_cotp.proofs.StreamLaws.{Took-none, partial_none}
+use Rattle.tpkt_cotp.proofs.StepLaws.{advances_partial, advances_one, took_step}
 use Rattle.tpkt_cotp.proofs.transport.take_whole.Goals as goal
 
-pub returns-in_err-tpdu : goal.returns-in_err-tpdu
-returns-in_err-tpdu c =
-    let p = err_from_is_err_and c.from_residual.result c.from_residual.ensures.1 in
-    rw (p.1, p.2) (stops_bad_at _ _ _ _ _ _ _ c.loop-tpdu.invariant.fits c.loop-tpdu.invariant.took c.in_err-tpdu.ensures)
+pub loop-rest-init : goal.loop-rest-init
+loop-rest-init c = record { took = rw c.requires (Took-none _ _ _); partial = rw c.requires partial_none; one = inl c.requires }
 
-pub returns-in_err-add : goal.returns-in_err-add
-returns-in_err-add c =
-    let p = err_from_is_err_and c.from_residual-in_err-add.result c.from_residual-in_err-add.ensures.1 in
-    let one : packet_at c.loop-tpdu.rest.now ≡ Ok (Some (c.in-Some.tpdu.now, c.in-Some.after.now)) = rw c.in-Some.is at c.in_ok-tpdu.ensures in
-    rw (p.1, p.2) (step_fails _ _ _ _ _ _ _ _ _ _ c.loop-tpdu.invariant.fits c.loop-tpdu.invariant.took one c.in_err-add.ensures.err c.in_err-add.ensures.same)
-
-pub loop-tpdu-smaller : goal.loop-tpdu-smaller
-loop-tpdu-smaller c = after_shorter c.loop-tpdu.rest.now c.in-Some.tpdu.now c.in-Some.after.now c.loop-tpdu.invariant.fits (rw c.in-Some.is at c.in_ok-tpdu.ensures)
-
-pub loop-tpdu-preserved : goal.loop-tpdu-preserved
-loop-tpdu-preserved c =
-    let one : packet_at c.loop-tpdu.rest.now ≡ Ok (Some (c.in-Some.tpdu.now, c.in-Some.after.now)) = rw c.in-Some.is at c.in_ok-tpdu.ensures in
+pub loop-rest-preserved : goal.loop-rest-preserved
+loop-rest-preserved c =
+    let given : c.add.new.out ≡ c.loop-rest.out ++ option_to_list (gift c.in_ok-taken.taken) = rw c.in_ok-add.was at c.add.ensures in
+    let one : Advances c.loop-rest.state c.loop-rest.held c.loop-rest.rest.now c.begin.new.state c.begin.new.held c.in_ok-taken.taken c.in_ok-taken.after.now = c.in_ok-taken.ensures in
     record {
-      fits = after_fits _ _ _ c.loop-tpdu.invariant.fits one;
-      took = Took-adds _ _ _ _ _ _ _ _ _ _ c.loop-tpdu.invariant.fits c.loop-tpdu.invariant.took one c.in_ok-add.ensures.ok;
+      took = took_step _ _ c.begin.new.state _ c.loop-rest.held c.loop-rest.rest.now _ _ _ _ _ c.in_ok-taken.taken c.loop-rest.invariant.took one given;
+      partial = advances_partial c.loop-rest.state c.begin.new.state c.loop-rest.held c.loop-rest.rest.now _ c.in_ok-taken.after.now c.in_ok-taken.taken one;
+      one = advances_one c.loop-rest.state c.begin.new.state c.loop-rest.held c.loop-rest.rest.now _ _ c.in_ok-taken.taken one;
     }
-
-pub returns : goal.returns
-returns c = (c.loop-tpdu.invariant.took, packet_partial _ c.loop-tpdu.invariant.fits (rw c.in_default.is at c.in_ok-tpdu.ensures))

@@ -3,7 +3,7 @@ use Rattle.std.specs.List.{All}
 use Rattle.bay_model.specs.declared.flags.Trg.{Trg}
 use Rattle.bay_model.specs.declared.note.Mention.{Mention}
 use Rattle.bay_model.specs.declared.tables.MemberShape.{MemberShape}
-use Rattle.bay_model.specs.Rooms.{Filled}
+use Rattle.bay_rooms.specs.Rooms.{Filled}
 use Rattle.brcb_state.specs.Components.{trg_of}
 use Rattle.trigger_core.specs.Noted.{noted}
 use Rattle.bay_core.specs.EntryOctets.{IsKeepable}

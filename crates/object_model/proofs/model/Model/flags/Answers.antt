@@ -1,9 +1,14 @@
-use Rattle.std.proofs.Common.{◌∙◌}
-use Rattle.object_model.proofs.FlagLaws.{within-flags, flags-read}
+use Rattle.std.proofs.Common.{◌∙◌, ap, sym}
+use Rattle.object_names.specs.declared.attributes.AttrRow.{AttrRow}
+use Rattle.object_model.proofs.AttributeLaws.{within-rows, flags-read}
 use Rattle.object_model.proofs.model.Model.flags.Goals as goal
 
 pub bounds-as_slice-attr : goal.bounds-as_slice-attr
-bounds-as_slice-attr c = within-flags c.self.inside.config c.args.self.now c.as_slice.result.now c.args.attr.0 c.self.view_is (c.as_slice.ensures.value ∙ c.self.invariant.3.flags) c.requires
+bounds-as_slice-attr c = within-rows c.self.inside.config c.args.self.now c.as_slice.result.now c.args.attr.0 c.self.view_is (c.as_slice.ensures.value ∙ c.self.invariant.6) c.requires
+
+pub bounds-as_slice-attr-2 : goal.bounds-as_slice-attr-2
+bounds-as_slice-attr-2 c = within-rows c.self.inside.config c.args.self.now c.as_slice.result.now c.args.attr.0 c.self.view_is (c.as_slice.ensures.value ∙ c.self.invariant.6) c.requires
 
 pub returns : goal.returns
-returns c = flags-read c.self.inside.config c.args.self.now c.as_slice.result.now c.args.attr.0 c.self.view_is (c.as_slice.ensures.value ∙ c.self.invariant.3.flags) c.requires
+returns c = ap (λ (r : AttrRow). r.flags) (sym c.index-as_slice-attr.is)
+    ∙ flags-read c.self.inside.config c.args.self.now c.as_slice.result.now c.args.attr.0 c.index-as_slice-attr.result c.self.view_is (c.as_slice.ensures.value ∙ c.self.invariant.6) c.requires c.index-as_slice-attr.is

@@ -1,6 +1,6 @@
 use Rattle.std.proofs.Common.{◌∙◌, subst, ap, []}
 use Rattle.bay_model.specs.Configured.{domains_after}
-use Rattle.object_model.specs.Indexes.{Indexes}
+use Rattle.object_names.specs.Indexes.{Indexes}
 use Rattle.object_model.proofs.ListingLaws.{all-rows, all-names}
 use Rattle.object_model.proofs.tables.Tables.of.Goals as goal
 
@@ -12,6 +12,4 @@ returns c = record {
   names = all-names c.args.config.now c.in_ok-listing.listing c.in_ok-listing.ensures;
   nodes = c.from_vec.ensures ∙ all-rows c.args.config.now c.in_ok-listing.listing c.in_ok-listing.ensures;
   sets = c.in_ok-sets.ensures;
-  flags = c.in_ok-attr_flags.ensures;
-  kinds = c.in_ok-attr_types.ensures;
 }

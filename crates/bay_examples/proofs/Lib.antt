@@ -1,0 +1,12 @@
+pub mod WorkedNames
+pub mod WorkedReports
+pub mod WorkedBreaks
+pub mod WorkedBuffer
+pub mod WorkedResumes
+pub mod WorkedHolding
+pub mod WorkedBlocks
+pub mod WorkedReads
+pub mod WorkedControls
+pub mod WorkedSelections
+pub mod WorkedSettings
+pub mod WorkedRequests

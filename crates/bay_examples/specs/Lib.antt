@@ -1,0 +1,22 @@
+-- the example bay, its variants, and histories over them
+pub mod ExampleNodes
+pub mod Example
+pub mod ExampleTurns
+pub mod ExampleAnswers
+pub mod ExampleRequests
+pub mod ExampleControl
+pub mod ExampleCommands
+pub mod ExampleSettings
+pub mod ExampleConfig
+pub mod WorkedNames
+pub mod WorkedReports
+pub mod WorkedBreaks
+pub mod WorkedBuffer
+pub mod WorkedResumes
+pub mod WorkedHolding
+pub mod WorkedBlocks
+pub mod WorkedReads
+pub mod WorkedControls
+pub mod WorkedSelections
+pub mod WorkedSettings
+pub mod WorkedRequests

@@ -1,9 +1,0 @@
--- The worked histories of two blocks, by computation.
-use Rattle.std.proofs.Common.{refl}
-use Rattle.bay_model.specs.WorkedBlocks.{TieOfBlocks, EarliestStep}
-
-pub tie_of_blocks : TieOfBlocks
-tie_of_blocks = (refl, refl)
-
-pub earliest_step : EarliestStep
-earliest_step = (refl, refl)

@@ -1,0 +1,89 @@
+//! Octets in room that was made before, so that filling them takes no memory.
+
+use std::alloc::{AllocError, Global};
+use std::marker::Model;
+
+/// Octets in room that was made before. Contracts see the list of them, and how many have room.
+#[derive(Debug, Drop)]
+pub struct Fixed {
+    octets: Vec<u8>,
+    room: usize,
+}
+
+impl Model for Fixed {
+    ghost use Rattle.std.specs.Prelude.{◌≤◌, ℕ, vec_len, vec_capacity};
+    ghost use Rattle.bay_rooms.specs.Rooms.{Filled};
+
+    ghost Value = { Filled ℕ };
+
+    ghost view = { λ f. record { items = f.octets.items; room = f.room } };
+
+    ghost invariant = { λ f. (vec_len f.octets ≤ f.room) × (f.room ≤ vec_capacity f.octets) };
+}
+
+impl Fixed {
+    ghost use Rattle.std.specs.Prelude.{◌≡◌, ◌==◌, ◌<◌, ◌≤◌, ◌+◌, ◌++◌, ◌∷◌, [], length, take, drop, IfOk};
+
+    /// No octets, and room for so many.
+    pub fn new(alloc: Global, room: u32) -> Result<Fixed, AllocError>
+        ensures { IfOk result (λ f. f ≡ record { items = []; room = room }) }
+    {
+        Ok(Fixed {
+            octets: Vec::with_capacity(alloc, room as usize)?,
+            room: room as usize,
+        })
+    }
+
+    /// Empties it.
+    pub fn clear(&mut self)
+        ensures { self.new ≡ record { items = []; room = self.old.room } }
+    {
+        self.octets.clear();
+    }
+
+    /// Adds octets behind the others. It takes no memory.
+    pub fn push(&mut self, octets: &[u8])
+        requires { length self.old.items + length octets.now ≤ self.old.room }
+        ensures { self.new ≡ record { items = self.old.items ++ octets.now; room = self.old.room } }
+    {
+        let _ = self.octets.extend_from_slice(octets);
+    }
+
+    /// Puts octets in front of those from a place on. It takes no memory.
+    pub fn insert(&mut self, at: usize, octets: &[u8])
+        requires place { at ≤ length self.old.items }
+        requires room { length self.old.items + length octets.now ≤ self.old.room }
+        ensures { self.new ≡ record { items = take at self.old.items ++ (octets.now ++ drop at self.old.items); room = self.old.room } }
+    {
+        let _ = self.octets.extend_from_slice(octets);
+        self.octets[at..].rotate_right(octets.len());
+    }
+
+    /// How many octets there are.
+    pub fn len(&self) -> usize
+        ensures { result ≡ length self.now.items }
+    {
+        self.octets.len()
+    }
+
+    /// There is no octet.
+    pub fn is_empty(&self) -> bool
+        ensures { result ≡ (length self.now.items == 0) }
+    {
+        self.octets.is_empty()
+    }
+
+    /// How many octets have room.
+    pub fn room(&self) -> usize
+        ensures { result ≡ self.now.room }
+    {
+        self.room
+    }
+
+    /// The octets, borrowed.
+    pub fn as_slice(&self) -> &[u8]
+        ensures { result.now ≡ self.now.items }
+    {
+        &self.octets
+    }
+}

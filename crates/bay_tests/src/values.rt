@@ -1,0 +1,193 @@
+//! The values of attributes: which are refused, and the Data of members.
+
+ghost use Rattle.std.specs.Prelude.{◌≡◌, ◌≤◌, true, false, codes, IfOk};
+ghost use Rattle.std.specs.List.{All};
+ghost use Rattle.std.specs.Str.{bytes_eq};
+ghost use Rattle.sv_base.specs.declared.config.Config.{Config as ConfigSeen};
+ghost use Rattle.sv_base.specs.declared.config.CtlDef.{CtlDef};
+ghost use Rattle.sv_base.specs.declared.types.TypeOf.TheVariants as types;
+ghost use Rattle.bay_rooms.specs.Kinds.{kind_of, is_kind, is_in_range};
+ghost use Rattle.bay_rooms.specs.Slots.{IsSettable};
+ghost use Rattle.value_store.specs.Opened.{HasValue, IsStorable, place_in};
+
+use bay_model::{AttrIds, Fixed, MemberShape, ValueRef};
+use std::alloc::{AllocError, Global};
+use std::test::*;
+use sv_base::{
+    AttrDef, AttrDefs, AttrId, BlockDefs, Config, CtlDef, CtlDefs, LnDefs, NodeId, Octs, Part1,
+    Parts, SetDefs, SgDefs, TypeOf, Value, Values,
+};
+use value_store::{SetFault, Store};
+
+fn octs(alloc: Global, octets: &[u8]) -> Result<Octs, AllocError>
+    ensures { IfOk result (λ o. o ≡ octets.now) }
+{
+    Ok(Octs::from_vec(octets.to_vec(alloc)?))
+}
+
+/// An attribute under a functional constraint other than SG, with its first value.
+fn attr(alloc: Global, fc: &[u8], kind: TypeOf, value: Value) -> Result<AttrDef, AllocError>
+    requires constraint { bytes_eq fc.now (codes "SG") ≡ false }
+    requires plain { IsSettable kind }
+    requires kind { is_kind (kind_of kind) value ≡ true }
+    requires range { is_in_range (kind_of kind) value ≡ true }
+    ensures begun { (c : ConfigSeen) → IfOk result (λ a. HasValue a (place_in c a)) }
+    ensures first { IfOk result (λ a. HasValue a 0) }
+{
+    Ok(AttrDef {
+        line: 5,
+        domain: octs(alloc, b"BAY1")?,
+        ln: octs(alloc, b"MMXU1")?,
+        fc: octs(alloc, fc)?,
+        path: octs(alloc, b"TotW")?,
+        kind,
+        dchg: true,
+        qchg: false,
+        dupd: false,
+        values: Values::from_vec(vec![in alloc; value]?),
+    })
+}
+
+/// A measured value of 16 bits, one that clients write, and a state.
+fn attrs(alloc: Global) -> Result<AttrDefs, AllocError>
+    ensures begun { (c : ConfigSeen) → IfOk result (All (λ a. HasValue a (place_in c a))) }
+    ensures first { IfOk result (All (λ a. HasValue a 0)) }
+{
+    let items = vec![in alloc;
+        attr(alloc, b"MX", TypeOf::Int(16), Value::Int(7))?,
+        attr(alloc, b"CF", TypeOf::Bool, Value::Bool(true))?,
+        attr(alloc, b"ST", TypeOf::Bool, Value::Bool(false))?,
+    ]?;
+    Ok(AttrDefs::from_vec(items))
+}
+
+/// A control that is selected before it is operated.
+fn controls(alloc: Global) -> Result<CtlDefs, AllocError>
+    ensures { IfOk result (All (λ (k : CtlDef). (k.model ≤ 4) × (k.class ≤ 1))) }
+{
+    let control = CtlDef {
+        line: 8,
+        domain: octs(alloc, b"BAY1")?,
+        ln: octs(alloc, b"CSWI1")?,
+        path: octs(alloc, b"Pos")?,
+        model: 4,
+        timeout: 30000,
+        class: 1,
+        kind: TypeOf::Bool,
+    };
+    Ok(CtlDefs::from_vec(vec![in alloc; control]?))
+}
+
+fn config(alloc: Global) -> Result<Config, AllocError>
+    ensures { IfOk result IsStorable }
+{
+    Ok(Config {
+        vendor: octs(alloc, b"V")?,
+        model: octs(alloc, b"M")?,
+        revision: octs(alloc, b"1")?,
+        nodes: LnDefs::from_vec(Vec::new(alloc)),
+        attrs: attrs(alloc)?,
+        sets: SetDefs::from_vec(Vec::new(alloc)),
+        blocks: BlockDefs::from_vec(Vec::new(alloc)),
+        controls: controls(alloc)?,
+        groups: SgDefs::from_vec(Vec::new(alloc)),
+    })
+}
+
+/// What comes of a setting.
+fn outcome(
+    store: &mut Store,
+    attr: u32,
+    value: &Value,
+    by_client: bool,
+) -> Option<Result<bool, SetFault>> {
+    if store.len() <= attr as usize {
+        return None;
+    }
+    Some(
+        store
+            .set(AttrId(attr), value, by_client)
+            .map(|changed| changed.differs),
+    )
+}
+
+/// A number, 0 where there is none.
+fn number(store: &Store, attr: u32) -> i64 {
+    if store.len() <= attr as usize {
+        return 0;
+    }
+    match store.get(AttrId(attr)) {
+        ValueRef::Int(number) => number,
+        ValueRef::Uint(number) => i64::try_from(number).unwrap_or(-1),
+        ValueRef::Bool(is_true) => i64::from(is_true),
+        _ => 0,
+    }
+}
+
+// IEC 61850-7-2: the functional constraints CF, DC, SP and SV are writable, MX and ST are not; of the control model
+// sbo-with-enhanced-security (4), CF has ctlModel, sboTimeout and sboClass.
+#[test]
+fn sets_in_the_order_of_refusals(rt: HostRuntime) -> Result<(), Fail> {
+    let alloc = rt.alloc();
+    let mut store = Store::open(alloc, &config(alloc)?)?;
+    assert_eq!(rt; store.len(), 6, "attributes");
+    for (attr, wanted) in [(0, 7), (1, 1), (2, 0), (3, 4), (4, 30000), (5, 1)] {
+        assert_eq!(rt; number(&store, attr), wanted, "configured");
+    }
+    let cases = [
+        (0, Value::Int(8), false, Some(Ok(true))),
+        (0, Value::Int(8), false, Some(Ok(false))),
+        (0, Value::Uint(8), true, Some(Err(SetFault::Kind))),
+        (0, Value::Int(9), true, Some(Err(SetFault::ReadOnly))),
+        (0, Value::Int(32768), true, Some(Err(SetFault::ReadOnly))),
+        (0, Value::Int(32768), false, Some(Err(SetFault::TooLong))),
+        (0, Value::Int(-32769), false, Some(Err(SetFault::TooLong))),
+        (1, Value::Bool(false), true, Some(Ok(true))),
+        (2, Value::Bool(true), true, Some(Err(SetFault::ReadOnly))),
+        (5, Value::Int(0), true, Some(Err(SetFault::ReadOnly))),
+    ];
+    for (attr, value, by_client, wanted) in &cases {
+        assert_eq!(rt;
+            outcome(&mut store, *attr, value, *by_client),
+            *wanted,
+            "setting"
+        );
+    }
+    for (attr, wanted) in [(0, 8), (1, 0), (2, 0), (5, 1)] {
+        assert_eq!(rt; number(&store, attr), wanted, "afterwards");
+    }
+    Ok(())
+}
+
+fn part(alloc: Global, name: &[u8]) -> Result<Part1, AllocError>
+    ensures { IfOk result (λ p. p.kind ≡ types.Bool) }
+{
+    Ok(Part1 {
+        name: octs(alloc, name)?,
+        kind: TypeOf::Bool,
+    })
+}
+
+// ISO 9506-2, Data: a structure is `A2`, a boolean `83`.
+#[test]
+fn writes_members_in_the_order_of_their_type(rt: HostRuntime) -> Result<(), Fail> {
+    let alloc = rt.alloc();
+    let store = Store::open(alloc, &config(alloc)?)?;
+    assert!(rt; 2 < store.len());
+    assert!(rt; matches!(store.get(AttrId(1)), ValueRef::Bool(_)));
+    assert!(rt; matches!(store.get(AttrId(2)), ValueRef::Bool(_)));
+    let parts = vec![in alloc; part(alloc, b"general")?, part(alloc, b"phsA")?]?;
+    let shape = MemberShape {
+        node: NodeId(3),
+        kind: TypeOf::Struct(Parts::from_vec(parts)),
+        attrs: AttrIds::from_vec(vec![in alloc; AttrId(2), AttrId(1)]?),
+    };
+    let mut out = Fixed::new(alloc, 8)?;
+    let count = store.member_bytes(&shape, &mut out);
+    assert_eq!(rt; count, 8);
+    assert_eq!(rt;
+        out.as_slice(),
+        [0xa2, 6, 0x83, 1, 0, 0x83, 1, 0xff].as_slice()
+    );
+    Ok(())
+}

@@ -1,4 +1,0 @@
-mod asking;
-mod initiate;
-mod replies;
-mod replying;

@@ -1,7 +1,0 @@
-use Rattle.std.proofs.Common.{◌∙◌}
-use Rattle.object_model.specs.Numbers.{number_in}
-use Rattle.object_model.proofs.NumberLaws.{from-first}
-use Rattle.object_model.proofs.index.Index.of.Goals as goal
-
-pub returns : goal.returns
-returns c = λ name. c.in_ok-index.ensures name ∙ from-first (number_in c.args.names.now name)

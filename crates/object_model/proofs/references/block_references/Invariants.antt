@@ -1,6 +1,0 @@
-use Rattle.std.proofs.Common.{◌≡◌, map, take}
-use Rattle.bay_model.specs.Configured.{block_defined}
-use Rattle.object_model.proofs.references.block_references.Given as goal
-
-abbrev pub invariant-loop-block : goal.invariant-loop-block
-invariant-loop-block l = l.references.items ≡ map (λ b. (block_defined b).reference) (take l.block-index l.block-items)

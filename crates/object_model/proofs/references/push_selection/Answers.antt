@@ -1,5 +1,0 @@
-use Rattle.object_model.proofs.ListLaws.{two}
-use Rattle.object_model.proofs.references.push_selection.Goals as goal
-
-pub returns : goal.returns
-returns c = two _ _ _ _ _ c.in_ok-push_parameter.ensures c.in_ok-push_parameter-2.ensures

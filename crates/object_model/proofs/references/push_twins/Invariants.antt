@@ -1,7 +1,0 @@
-use Rattle.std.proofs.Common.{◌≡◌, ◌++◌, map, filter, take}
-use Rattle.bay_model.specs.NamedLines.{is_setting}
-use Rattle.object_model.specs.References.{twin_reference}
-use Rattle.object_model.proofs.references.push_twins.Given as goal
-
-abbrev pub invariant-loop-attr : goal.invariant-loop-attr
-invariant-loop-attr l = l.out.items ≡ l.initial.out.items ++ map twin_reference (filter is_setting (take l.attr-index l.attrs))

@@ -1,0 +1,6 @@
+pub mod Hashing
+pub mod Numbers
+pub mod Indexes
+pub mod Seen
+pub mod Attributes
+pub mod References

@@ -1,0 +1,22 @@
+//! What the lines of a configuration name (IEC 61850-8-1, the names of data attributes, of control blocks and of controls),
+//! with its attributes by their numbers.
+#![tactic(auto)]
+
+// numbers by name
+mod hashing;
+mod index;
+pub mod numbers;
+
+// what lines name
+mod lines;
+mod named;
+pub mod references;
+
+// the attributes by their numbers
+mod attributes;
+
+pub use attributes::{AttrRow, attr_index, attr_rows};
+pub use index::Index;
+pub use lines::{Line, domains, ordered_lines};
+pub use named::{Call, Named, What};
+pub use references::{block_references, control_references};

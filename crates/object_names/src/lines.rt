@@ -1,0 +1,365 @@
+//! The lines of a configuration with the items that each names, in the order of their numbers.
+
+ghost use Rattle.std.specs.Prelude.{◌≡◌, ◌∷◌, ◌++◌, ◌+◌, [], map, codes, length, IfOk, OnOk, MatchOption, List, ℕ, position, unwrap_or, flat_map, if◌then◌else◌};
+ghost use Rattle.std.specs.List.{list_any};
+ghost use Rattle.std.specs.Str.{bytes_eq};
+ghost use Rattle.bay_model.specs.Configured.{domains_after, with_domain};
+ghost use Rattle.bay_model.specs.Generated.{structure_named, block_names, setting_names, parameters, parameter_names, control_names, end_named};
+ghost use Rattle.bay_model.specs.NamedLines.{attribute_line, attribute_lines, block_line, block_lines, control_line, control_lines, node_line, group_line, attribute_names, domains as domains_of, domain_number, lines as lines_of, in_order, path_item, is_setting as is_setting_line};
+ghost use Rattle.bay_model.specs.Model.{attribute};
+ghost use Rattle.object_names.specs.Indexes.{Indexes};
+
+use crate::index::Index;
+use crate::named::{
+    Named, What, push_block, push_control, push_parameters, push_settings, push_structure,
+};
+use crate::numbers::{count, plus};
+use crate::references::{is_selected, is_setting, item_at};
+use std::alloc::{AllocError, Global};
+use std::marker::Model;
+use sv_base::{AttrDef, BlockDef, Config, CtlDef, LnDef, Octs, SgDef, copy_type};
+
+/// A line, by its number, with the items of its domain that it names.
+#[derive(Drop)]
+pub struct Line {
+    pub number: u32,
+    pub domain: Octs,
+    pub names: Vec<Named>,
+}
+
+impl Model for Line {
+    ghost use Rattle.bay_model.specs.NamedLines.{Line};
+
+    ghost Value = { Line };
+
+    ghost use Rattle.std.specs.Coded.{codes};
+    ghost use Rattle.sv_base.specs.Types.{fields_code};
+
+    ghost coded = { Prim.hlevel (codes, fields_code) };
+
+    ghost view = { λ l. record { line = l.number; domain = l.domain; names = l.names.items } };
+}
+
+/// Adds a line with what it names.
+fn push_line(
+    alloc: Global,
+    out: &mut Vec<Line>,
+    number: u32,
+    domain: &Octs,
+    names: Vec<Named>,
+) -> Result<(), AllocError>
+    ensures { OnOk result (out.new.items ≡ out.old.items ++ record { line = number; domain = domain.now; names = names.items } ∷ []) }
+{
+    let domain = domain.copy(alloc)?;
+    out.push(Line {
+        number,
+        domain,
+        names,
+    })?;
+    Ok(())
+}
+
+fn push_node(alloc: Global, out: &mut Vec<Line>, node: &LnDef) -> Result<(), AllocError>
+    ensures { OnOk result (out.new.items ≡ out.old.items ++ node_line node.now ∷ []) }
+{
+    let mut names = Vec::new(alloc);
+    push_structure(alloc, &mut names, node.ln.as_slice(), What::Structure)?;
+    push_line(alloc, out, node.line, &node.domain, names)
+}
+
+fn push_end(
+    alloc: Global,
+    out: &mut Vec<Named>,
+    attr: &AttrDef,
+    fc: &[u8],
+    number: u32,
+) -> Result<(), AllocError>
+    ensures { OnOk result (out.new.items ≡ out.old.items ++ end_named (path_item attr.now.ln fc.now attr.now.path) (attribute number) attr.now.kind ∷ []) }
+{
+    let item = item_at(alloc, attr.ln.as_slice(), fc, attr.path.as_slice())?;
+    let kind = copy_type(alloc, &attr.kind)?;
+    out.push(Named {
+        item: Octs::from_vec(item),
+        what: What::Attribute(number),
+        kind,
+    })?;
+    Ok(())
+}
+
+fn push_attr_names(
+    alloc: Global,
+    out: &mut Vec<Named>,
+    attr: &AttrDef,
+    number: u32,
+    twin: u32,
+) -> Result<(), AllocError>
+    ensures { OnOk result (out.new.items ≡ out.old.items ++ attribute_names number twin attr.now) }
+{
+    push_end(alloc, out, attr, attr.fc.as_slice(), number)?;
+    if is_setting(attr) {
+        push_end(alloc, out, attr, b"SE", twin)?;
+    }
+    Ok(())
+}
+
+fn push_attr(
+    alloc: Global,
+    out: &mut Vec<Line>,
+    attr: &AttrDef,
+    number: u32,
+    twin: u32,
+) -> Result<(), AllocError>
+    ensures { OnOk result (out.new.items ≡ out.old.items ++ attribute_line number twin attr.now ∷ []) }
+{
+    let mut names = Vec::new(alloc);
+    push_attr_names(alloc, &mut names, attr, number, twin)?;
+    push_line(alloc, out, attr.line, &attr.domain, names)
+}
+
+fn push_block_names(
+    alloc: Global,
+    out: &mut Vec<Named>,
+    block: &BlockDef,
+    number: u32,
+) -> Result<(), AllocError>
+    ensures { OnOk result (out.new.items ≡ out.old.items ++ block_names number (path_item block.now.ln (codes "BR") block.now.name)) }
+{
+    let item = item_at(alloc, block.ln.as_slice(), b"BR", block.name.as_slice())?;
+    push_block(alloc, out, number, &item)
+}
+
+fn push_block_line(
+    alloc: Global,
+    out: &mut Vec<Line>,
+    block: &BlockDef,
+    number: u32,
+) -> Result<(), AllocError>
+    ensures { OnOk result (out.new.items ≡ out.old.items ++ block_line number block.now ∷ []) }
+{
+    let mut names = Vec::new(alloc);
+    push_block_names(alloc, &mut names, block, number)?;
+    push_line(alloc, out, block.line, &block.domain, names)?;
+    Ok(())
+}
+
+fn push_group(
+    alloc: Global,
+    out: &mut Vec<Line>,
+    group: &SgDef,
+    domain_number: u32,
+) -> Result<(), AllocError>
+    ensures { OnOk result (out.new.items ≡ out.old.items ++ group_line domain_number group.now ∷ []) }
+{
+    let mut names = Vec::new(alloc);
+    push_settings(alloc, &mut names, domain_number)?;
+    push_line(alloc, out, group.line, &group.domain, names)
+}
+
+fn push_control_names(
+    alloc: Global,
+    out: &mut Vec<Named>,
+    control: &CtlDef,
+    number: u32,
+) -> Result<(), AllocError>
+    ensures { OnOk result (out.new.items ≡ out.old.items ++ control_names number control.now (path_item control.now.ln (codes "CO") control.now.path)) }
+{
+    let item = item_at(alloc, control.ln.as_slice(), b"CO", control.path.as_slice())?;
+    push_control(alloc, out, number, control, &item)
+}
+
+fn push_parameter_names(
+    alloc: Global,
+    out: &mut Vec<Named>,
+    control: &CtlDef,
+    first: u32,
+) -> Result<(), AllocError>
+    ensures { OnOk result (out.new.items ≡ out.old.items ++ parameter_names first (path_item control.now.ln (codes "CF") control.now.path) (parameters control.now)) }
+{
+    let item = item_at(alloc, control.ln.as_slice(), b"CF", control.path.as_slice())?;
+    push_parameters(alloc, out, first, control, &item)
+}
+
+fn push_control_line(
+    alloc: Global,
+    out: &mut Vec<Line>,
+    control: &CtlDef,
+    number: u32,
+    first: u32,
+) -> Result<(), AllocError>
+    ensures { OnOk result (out.new.items ≡ out.old.items ++ control_line number first control.now ∷ []) }
+{
+    let mut names = Vec::new(alloc);
+    push_control_names(alloc, &mut names, control, number)?;
+    push_parameter_names(alloc, &mut names, control, first)?;
+    push_line(alloc, out, control.line, &control.domain, names)
+}
+
+fn push_nodes(alloc: Global, out: &mut Vec<Line>, nodes: &[LnDef]) -> Result<(), AllocError>
+    ensures { OnOk result (out.new.items ≡ out.old.items ++ map node_line nodes.now) }
+{
+    for node in nodes {
+        push_node(alloc, out, node)?;
+    }
+    Ok(())
+}
+
+/// The number of the next twin.
+fn next_twin(attr: &AttrDef, twin: u32) -> Result<u32, AllocError>
+    ensures { IfOk result (λ next. next ≡ (if is_setting_line attr.now then twin + 1 else twin)) }
+{
+    if is_setting(attr) {
+        return plus(twin, 1);
+    }
+    Ok(twin)
+}
+
+fn push_attrs(
+    alloc: Global,
+    out: &mut Vec<Line>,
+    attrs: &[AttrDef],
+    first_twin: u32,
+) -> Result<(), AllocError>
+    ensures { OnOk result (out.new.items ≡ out.old.items ++ attribute_lines 0 first_twin attrs.now) }
+{
+    let mut number = 0;
+    let mut twin = first_twin;
+    for attr in attrs {
+        push_attr(alloc, out, attr, number, twin)?;
+        number = plus(number, 1)?;
+        twin = next_twin(attr, twin)?;
+    }
+    Ok(())
+}
+
+fn push_blocks(alloc: Global, out: &mut Vec<Line>, blocks: &[BlockDef]) -> Result<(), AllocError>
+    ensures { OnOk result (out.new.items ≡ out.old.items ++ block_lines 0 blocks.now) }
+{
+    let mut number = 0;
+    for block in blocks {
+        push_block_line(alloc, out, block, number)?;
+        number = plus(number, 1)?;
+    }
+    Ok(())
+}
+
+/// How many CF attributes a control has.
+fn parameter_count(control: &CtlDef) -> u32
+    ensures { result ≡ length (parameters control.now) }
+{
+    if is_selected(control) { 3 } else { 1 }
+}
+
+fn push_controls(
+    alloc: Global,
+    out: &mut Vec<Line>,
+    controls: &[CtlDef],
+    first: u32,
+) -> Result<(), AllocError>
+    ensures { OnOk result (out.new.items ≡ out.old.items ++ control_lines 0 first controls.now) }
+{
+    let mut number = 0;
+    let mut attr = first;
+    for control in controls {
+        push_control_line(alloc, out, control, number, attr)?;
+        number = plus(number, 1)?;
+        attr = plus(attr, parameter_count(control))?;
+    }
+    Ok(())
+}
+
+/// The domains, in the order in which logical nodes first name them.
+pub fn domains(alloc: Global, nodes: &[LnDef]) -> Result<Vec<Octs>, AllocError>
+    ensures { IfOk result (λ v. v.items ≡ domains_after [] nodes.now) }
+{
+    let mut domains = Vec::new(alloc);
+    for node in nodes {
+        push_domain(alloc, &mut domains, node.domain.as_slice())?;
+    }
+    Ok(domains)
+}
+
+fn push_domain(alloc: Global, domains: &mut Vec<Octs>, domain: &[u8]) -> Result<(), AllocError>
+    ensures { OnOk result (domains.new.items ≡ with_domain domains.old.items domain.now) }
+{
+    if !has_domain(domains, domain) {
+        domains.push(Octs::from_vec(Vec::from_slice(alloc, domain)?))?;
+    }
+    Ok(())
+}
+
+fn has_domain(domains: &[Octs], domain: &[u8]) -> bool
+    ensures { result ≡ list_any (bytes_eq domain.now) domains.now }
+{
+    for other in domains {
+        if domain == other.as_slice() {
+            return true;
+        }
+    }
+    false
+}
+
+fn push_groups(
+    alloc: Global,
+    out: &mut Vec<Line>,
+    groups: &[SgDef],
+    domains: &[Octs],
+    index: &Index,
+) -> Result<(), AllocError>
+    requires { Indexes index.now domains.now }
+    ensures { OnOk result (out.new.items ≡ out.old.items ++ map (λ g. group_line (unwrap_or (position (bytes_eq g.domain) domains.now) 0) g) groups.now) }
+{
+    for group in groups {
+        let number = index.number_of(group.domain.as_slice()).unwrap_or(0);
+        push_group(alloc, out, group, number)?;
+    }
+    Ok(())
+}
+
+/// How many CF attributes the controls have.
+fn generated_count(controls: &[CtlDef]) -> Result<u32, AllocError>
+    ensures { IfOk result (λ n. n ≡ length (flat_map parameters controls.now)) }
+{
+    let mut sum = 0;
+    for control in controls {
+        sum = plus(sum, parameter_count(control))?;
+    }
+    Ok(sum)
+}
+
+fn push_all(
+    alloc: Global,
+    out: &mut Vec<Line>,
+    config: &Config,
+    domains: &[Octs],
+    index: &Index,
+) -> Result<(), AllocError>
+    requires indexed { Indexes index.now domains.now }
+    requires domains { domains.now ≡ domains_of config.now }
+    ensures { OnOk result (out.new.items ≡ out.old.items ++ lines_of config.now) }
+{
+    let attr_count = count(config.attrs.len())?;
+    let first_twin = plus(attr_count, generated_count(config.controls.as_slice())?)?;
+    push_nodes(alloc, out, config.nodes.as_slice())?;
+    push_attrs(alloc, out, config.attrs.as_slice(), first_twin)?;
+    push_blocks(alloc, out, config.blocks.as_slice())?;
+    push_controls(alloc, out, config.controls.as_slice(), attr_count)?;
+    push_groups(alloc, out, config.groups.as_slice(), domains, index)?;
+    Ok(())
+}
+
+/// The lines in the order of their numbers.
+pub fn ordered_lines(
+    alloc: Global,
+    config: &Config,
+    domains: &[Octs],
+    index: &Index,
+) -> Result<Vec<Line>, AllocError>
+    requires indexed { Indexes index.now domains.now }
+    requires domains { domains.now ≡ domains_of config.now }
+    ensures { IfOk result (λ v. v.items ≡ in_order (lines_of config.now)) }
+{
+    let mut lines = Vec::new(alloc);
+    push_all(alloc, &mut lines, config, domains, index)?;
+    lines.sort_by_key(|line| line.number)?;
+    Ok(lines)
+}

@@ -1,0 +1,366 @@
+//! What the lines of a configuration name.
+
+ghost use Rattle.std.specs.Prelude.{◌≡◌, ◌∷◌, ◌++◌, [], codes, map, OnOk};
+ghost use Rattle.bay_model.specs.Generated.{within, end_named, structure_named, block_names, setting_named, setting_names, value_names, number_names, check_names, command_names, sbo_names, sbow_names, cancel_names, control_names, parameters, selection, parameter_names};
+ghost use Rattle.bay_model.specs.Model.{attribute, withheld};
+ghost use Rattle.object_names.specs.Seen.{role_seen, call_seen};
+
+use crate::numbers::plus;
+use crate::references::{is_selected, joined};
+use bay_model::{Comp, SettingComp};
+use std::alloc::{AllocError, Global};
+use std::marker::Model;
+use sv_base::{CtlDef, Octs, Parts, TypeOf, copy_type};
+
+/// A service of a control that carries a value (IEC 61850-8-1, SBOw, Oper and Cancel).
+#[derive(Clone, Copy)]
+pub enum Call {
+    Select,
+    Operate,
+    Cancel,
+}
+
+/// What stands at a name: an attribute, a component of a report block or of a domain's setting group block, a part of a
+/// control's command, its SBO, one of its commands, or a structure.
+#[derive(Clone, Copy)]
+pub enum What {
+    Attribute(u32),
+    Component(u32, Comp),
+    Setting(u32, SettingComp),
+    Withheld,
+    Selecting(u32),
+    Calling(u32, Call),
+    Structure,
+}
+
+/// An item that is named, what stands there, and its type where it has no parts.
+#[derive(Drop)]
+pub struct Named {
+    pub item: Octs,
+    pub what: What,
+    pub kind: TypeOf,
+}
+
+impl Model for Named {
+    ghost use Rattle.bay_model.specs.Generated.{Named};
+
+    ghost Value = { Named };
+
+    ghost use Rattle.std.specs.Coded.{codes};
+    ghost use Rattle.sv_base.specs.Types.{fields_code};
+
+    ghost coded = { Prim.hlevel (codes, fields_code) };
+
+    ghost use Rattle.object_names.specs.Seen.{role_seen};
+
+    ghost view = { λ n. record { item = n.item; role = role_seen n.what; kind = n.kind } };
+}
+
+/// Adds `ITEM$NAME`.
+fn push_within(
+    alloc: Global,
+    out: &mut Vec<Named>,
+    item: &[u8],
+    name: &[u8],
+    what: What,
+    kind: TypeOf,
+) -> Result<(), AllocError>
+    ensures { OnOk result (out.new.items ≡ out.old.items ++ record { item = within item.now name.now; role = role_seen what; kind = kind } ∷ []) }
+{
+    let item = Octs::from_vec(joined(alloc, item, b'$', name)?);
+    out.push(Named { item, what, kind })?;
+    Ok(())
+}
+
+/// Adds the components of report block `number` at `LN$BR$NAME`.
+pub fn push_block(
+    alloc: Global,
+    out: &mut Vec<Named>,
+    number: u32,
+    item: &[u8],
+) -> Result<(), AllocError>
+    ensures { OnOk result (out.new.items ≡ out.old.items ++ block_names number item.now) }
+{
+    for comp in &Comp::ALL {
+        push_within(
+            alloc,
+            out,
+            item,
+            comp.name(),
+            What::Component(number, *comp),
+            comp.kind(),
+        )?;
+    }
+    Ok(())
+}
+
+fn push_setting(
+    alloc: Global,
+    out: &mut Vec<Named>,
+    domain: u32,
+    comp: SettingComp,
+) -> Result<(), AllocError>
+    ensures { OnOk result (out.new.items ≡ out.old.items ++ setting_named domain comp ∷ []) }
+{
+    push_within(
+        alloc,
+        out,
+        b"LLN0$SP$SGCB",
+        comp.name(),
+        What::Setting(domain, comp),
+        comp.kind(),
+    )
+}
+
+fn push_comps(
+    alloc: Global,
+    out: &mut Vec<Named>,
+    domain: u32,
+    comps: &[SettingComp],
+) -> Result<(), AllocError>
+    ensures { OnOk result (out.new.items ≡ out.old.items ++ map (setting_named domain) comps.now) }
+{
+    for comp in comps {
+        push_setting(alloc, out, domain, *comp)?;
+    }
+    Ok(())
+}
+
+/// Adds the components of the setting group block of a domain.
+pub fn push_settings(alloc: Global, out: &mut Vec<Named>, domain: u32) -> Result<(), AllocError>
+    ensures { OnOk result (out.new.items ≡ out.old.items ++ setting_names domain) }
+{
+    push_comps(alloc, out, domain, &SettingComp::ALL)
+}
+
+/// Adds a part of a command at `LN$CO$DO$CALL`.
+fn push_part(
+    alloc: Global,
+    out: &mut Vec<Named>,
+    item: &[u8],
+    name: &[u8],
+    kind: TypeOf,
+) -> Result<(), AllocError>
+    ensures { OnOk result (out.new.items ≡ out.old.items ++ end_named (within item.now name.now) withheld kind ∷ []) }
+{
+    push_within(alloc, out, item, name, What::Withheld, kind)
+}
+
+fn push_check(
+    alloc: Global,
+    out: &mut Vec<Named>,
+    item: &[u8],
+    call: Call,
+) -> Result<(), AllocError>
+    ensures { OnOk result (out.new.items ≡ out.old.items ++ check_names (call_seen call) item.now) }
+{
+    match call {
+        Call::Cancel => Ok(()),
+        Call::Select => push_part(alloc, out, item, b"Check", TypeOf::Bits(2)),
+        Call::Operate => push_part(alloc, out, item, b"Check", TypeOf::Bits(2)),
+    }
+}
+
+/// Adds a structure.
+pub fn push_structure(
+    alloc: Global,
+    out: &mut Vec<Named>,
+    item: &[u8],
+    what: What,
+) -> Result<(), AllocError>
+    ensures { OnOk result (out.new.items ≡ out.old.items ++ structure_named item.now (role_seen what) ∷ []) }
+{
+    let item = Octs::from_vec(Vec::from_slice(alloc, item)?);
+    let kind = TypeOf::Struct(Parts::from_vec(Vec::new(alloc)));
+    out.push(Named { item, what, kind })?;
+    Ok(())
+}
+
+fn push_ctl_val(
+    alloc: Global,
+    out: &mut Vec<Named>,
+    item: &[u8],
+    kind: &TypeOf,
+) -> Result<(), AllocError>
+    ensures { OnOk result (out.new.items ≡ out.old.items ++ end_named (within item.now (codes "ctlVal")) withheld kind.now ∷ []) }
+{
+    let kind = copy_type(alloc, kind)?;
+    push_part(alloc, out, item, b"ctlVal", kind)
+}
+
+/// Adds ctlVal and origin of a command.
+fn push_value(
+    alloc: Global,
+    out: &mut Vec<Named>,
+    item: &[u8],
+    kind: &TypeOf,
+) -> Result<(), AllocError>
+    ensures { OnOk result (out.new.items ≡ out.old.items ++ value_names kind.now item.now) }
+{
+    push_ctl_val(alloc, out, item, kind)?;
+    push_part(alloc, out, item, b"origin$orCat", TypeOf::Int(8))?;
+    push_part(alloc, out, item, b"origin$orIdent", TypeOf::Octets(64))?;
+    Ok(())
+}
+
+/// Adds ctlNum, T and Test of a command.
+fn push_number(alloc: Global, out: &mut Vec<Named>, item: &[u8]) -> Result<(), AllocError>
+    ensures { OnOk result (out.new.items ≡ out.old.items ++ number_names item.now) }
+{
+    push_part(alloc, out, item, b"ctlNum", TypeOf::Uint(8))?;
+    push_part(alloc, out, item, b"T", TypeOf::Time)?;
+    push_part(alloc, out, item, b"Test", TypeOf::Bool)?;
+    Ok(())
+}
+
+/// Adds a command of control `number` at `LN$CO$DO$CALL`, whose ctlVal is of the type.
+fn push_command(
+    alloc: Global,
+    out: &mut Vec<Named>,
+    number: u32,
+    kind: &TypeOf,
+    item: &[u8],
+    call: Call,
+) -> Result<(), AllocError>
+    ensures { OnOk result (out.new.items ≡ out.old.items ++ command_names number kind.now item.now (call_seen call)) }
+{
+    push_structure(alloc, out, item, What::Calling(number, call))?;
+    push_value(alloc, out, item, kind)?;
+    push_number(alloc, out, item)?;
+    push_check(alloc, out, item, call)?;
+    Ok(())
+}
+
+/// Adds SBO of a control of ctlModel 2, at `LN$CO$DO`.
+fn push_sbo(
+    alloc: Global,
+    out: &mut Vec<Named>,
+    number: u32,
+    control: &CtlDef,
+    item: &[u8],
+) -> Result<(), AllocError>
+    ensures { OnOk result (out.new.items ≡ out.old.items ++ sbo_names number control.now item.now) }
+{
+    if control.model == 2 {
+        push_within(
+            alloc,
+            out,
+            item,
+            b"SBO",
+            What::Selecting(number),
+            TypeOf::Text(129),
+        )?;
+    }
+    Ok(())
+}
+
+/// Adds a command of control `number`, of this name, at `LN$CO$DO`.
+fn push_call(
+    alloc: Global,
+    out: &mut Vec<Named>,
+    number: u32,
+    control: &CtlDef,
+    item: &[u8],
+    name: &[u8],
+    call: Call,
+) -> Result<(), AllocError>
+    ensures { OnOk result (out.new.items ≡ out.old.items ++ command_names number control.now.kind (within item.now name.now) (call_seen call)) }
+{
+    let item = joined(alloc, item, b'$', name)?;
+    push_command(alloc, out, number, &control.kind, &item, call)
+}
+
+/// Adds SBOw of a control of ctlModel 4, at `LN$CO$DO`.
+fn push_sbow(
+    alloc: Global,
+    out: &mut Vec<Named>,
+    number: u32,
+    control: &CtlDef,
+    item: &[u8],
+) -> Result<(), AllocError>
+    ensures { OnOk result (out.new.items ≡ out.old.items ++ sbow_names number control.now item.now) }
+{
+    if control.model == 4 {
+        push_call(alloc, out, number, control, item, b"SBOw", Call::Select)?;
+    }
+    Ok(())
+}
+
+/// Adds Cancel of a control that is selected before it operates, at `LN$CO$DO`.
+fn push_cancel(
+    alloc: Global,
+    out: &mut Vec<Named>,
+    number: u32,
+    control: &CtlDef,
+    item: &[u8],
+) -> Result<(), AllocError>
+    ensures { OnOk result (out.new.items ≡ out.old.items ++ cancel_names number control.now item.now) }
+{
+    if is_selected(control) {
+        push_call(alloc, out, number, control, item, b"Cancel", Call::Cancel)?;
+    }
+    Ok(())
+}
+
+/// Adds what control `number` has at `LN$CO$DO`.
+pub fn push_control(
+    alloc: Global,
+    out: &mut Vec<Named>,
+    number: u32,
+    control: &CtlDef,
+    item: &[u8],
+) -> Result<(), AllocError>
+    ensures { OnOk result (out.new.items ≡ out.old.items ++ control_names number control.now item.now) }
+{
+    push_sbo(alloc, out, number, control, item)?;
+    push_sbow(alloc, out, number, control, item)?;
+    push_call(alloc, out, number, control, item, b"Oper", Call::Operate)?;
+    push_cancel(alloc, out, number, control, item)?;
+    Ok(())
+}
+
+/// Adds the CF attribute of this number of a control, at `LN$CF$DO`.
+fn push_parameter(
+    alloc: Global,
+    out: &mut Vec<Named>,
+    number: u32,
+    item: &[u8],
+    name: &[u8],
+    kind: TypeOf,
+) -> Result<(), AllocError>
+    ensures { OnOk result (out.new.items ≡ out.old.items ++ end_named (within item.now name.now) (attribute number) kind ∷ []) }
+{
+    push_within(alloc, out, item, name, What::Attribute(number), kind)
+}
+
+fn push_selection(
+    alloc: Global,
+    out: &mut Vec<Named>,
+    first: u32,
+    control: &CtlDef,
+    item: &[u8],
+) -> Result<(), AllocError>
+    ensures { OnOk result (out.new.items ≡ out.old.items ++ parameter_names first item.now (selection control.now)) }
+{
+    let next = plus(first, 1)?;
+    push_parameter(alloc, out, first, item, b"sboTimeout", TypeOf::Uint(32))?;
+    push_parameter(alloc, out, next, item, b"sboClass", TypeOf::Int(8))?;
+    Ok(())
+}
+
+/// Adds the CF attributes of a control at `LN$CF$DO`, the first being attribute `first`.
+pub fn push_parameters(
+    alloc: Global,
+    out: &mut Vec<Named>,
+    first: u32,
+    control: &CtlDef,
+    item: &[u8],
+) -> Result<(), AllocError>
+    ensures { OnOk result (out.new.items ≡ out.old.items ++ parameter_names first item.now (parameters control.now)) }
+{
+    push_parameter(alloc, out, first, item, b"ctlModel", TypeOf::Int(8))?;
+    if is_selected(control) {
+        push_selection(alloc, out, plus(first, 1)?, control, item)?;
+    }
+    Ok(())
+}

@@ -1,0 +1,4 @@
+//! BER elements and contents: what is read of octets, and what is written.
+
+mod reading;
+mod writing;

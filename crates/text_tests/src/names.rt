@@ -1,0 +1,276 @@
+//! The nodes, attributes and names of a configuration of two domains.
+
+ghost use Rattle.std.specs.Prelude.{◌≡◌, IfOk};
+ghost use Rattle.std.specs.List.{All};
+ghost use Rattle.sv_base.specs.declared.config.AttrDef.{AttrDef as AttrLine};
+ghost use Rattle.bay_rooms.specs.Slots.{IsSettable};
+
+use bay_model::Step;
+use object_model::{Model, domains};
+use std::alloc::{AllocError, Global};
+use std::test::*;
+use sv_base::{
+    AssocNo, AttrDef, AttrDefs, Bits, BlockDef, BlockDefs, Config, CtlDef, CtlDefs, LnDef, LnDefs,
+    Octs, SetDefs, SgDefs, TypeOf, Values,
+};
+
+fn octs(alloc: Global, octets: &[u8]) -> Result<Octs, AllocError> {
+    Ok(Octs::from_vec(octets.to_vec(alloc)?))
+}
+
+fn node(alloc: Global, line: u32, domain: &[u8], ln: &[u8]) -> Result<LnDef, AllocError> {
+    Ok(LnDef {
+        line,
+        domain: octs(alloc, domain)?,
+        ln: octs(alloc, ln)?,
+    })
+}
+
+/// An attribute at a place: domain, logical node, functional constraint and path.
+fn attr(
+    alloc: Global,
+    line: u32,
+    place: [&[u8]; 4],
+    kind: TypeOf,
+    dupd: bool,
+) -> Result<AttrDef, AllocError>
+    requires { IsSettable kind }
+    ensures { IfOk result (λ a. IsSettable a.kind) }
+{
+    let [domain, ln, fc, path] = place;
+    Ok(AttrDef {
+        line,
+        domain: octs(alloc, domain)?,
+        ln: octs(alloc, ln)?,
+        fc: octs(alloc, fc)?,
+        path: octs(alloc, path)?,
+        kind,
+        dchg: true,
+        qchg: false,
+        dupd,
+        values: Values::from_vec(Vec::new(alloc)),
+    })
+}
+
+/// The measured power of a domain's MMXU1.
+fn power(alloc: Global, line: u32, domain: &[u8]) -> Result<AttrDef, AllocError>
+    ensures { IfOk result (λ a. IsSettable a.kind) }
+{
+    attr(
+        alloc,
+        line,
+        [domain, b"MMXU1", b"MX", b"TotW$mag$i"],
+        TypeOf::Int(32),
+        true,
+    )
+}
+
+/// The position of BAY1's breaker.
+fn position(alloc: Global, line: u32) -> Result<AttrDef, AllocError>
+    ensures { IfOk result (λ a. IsSettable a.kind) }
+{
+    attr(
+        alloc,
+        line,
+        [b"BAY1", b"XCBR1", b"ST", b"Pos$stVal"],
+        TypeOf::Bits(2),
+        false,
+    )
+}
+
+fn attrs(alloc: Global) -> Result<AttrDefs, AllocError>
+    ensures { IfOk result (All (λ (a : AttrLine). IsSettable a.kind)) }
+{
+    let items = vec![in alloc;
+        position(alloc, 7)?,
+        power(alloc, 10, b"BAY1")?,
+        power(alloc, 13, b"BAY2")?,
+    ]?;
+    Ok(AttrDefs::from_vec(items))
+}
+
+fn blocks(alloc: Global) -> Result<BlockDefs, AllocError> {
+    let block = BlockDef {
+        line: 5,
+        domain: octs(alloc, b"BAY1")?,
+        ln: octs(alloc, b"LLN0")?,
+        name: octs(alloc, b"brcb1")?,
+        rpt_id: octs(alloc, b"")?,
+        dat_set: octs(alloc, b"")?,
+        conf_rev: 1,
+        opt_flds: Bits::from_vec(Vec::new(alloc)),
+        buf_tm: 0,
+        trg_ops: Bits::from_vec(Vec::new(alloc)),
+        intg_pd: 0,
+        capacity: 200,
+    };
+    Ok(BlockDefs::from_vec(vec![in alloc; block]?))
+}
+
+/// The breaker's control, direct with normal security.
+fn controls(alloc: Global) -> Result<CtlDefs, AllocError> {
+    let control = CtlDef {
+        line: 8,
+        domain: octs(alloc, b"BAY1")?,
+        ln: octs(alloc, b"XCBR1")?,
+        path: octs(alloc, b"Pos")?,
+        model: 1,
+        timeout: 30000,
+        class: 0,
+        kind: TypeOf::Bool,
+    };
+    Ok(CtlDefs::from_vec(vec![in alloc; control]?))
+}
+
+/// Two domains with a measurement of the same name; the first also has a block, a breaker and its control.
+fn config(alloc: Global) -> Result<Config, AllocError>
+    ensures { IfOk result (λ c. All (λ (a : AttrLine). IsSettable a.kind) c.attrs) }
+{
+    let nodes = vec![in alloc;
+        node(alloc, 4, b"BAY1", b"LLN0")?,
+        node(alloc, 6, b"BAY1", b"XCBR1")?,
+        node(alloc, 9, b"BAY1", b"MMXU1")?,
+        node(alloc, 12, b"BAY2", b"MMXU1")?,
+    ]?;
+    Ok(Config {
+        vendor: octs(alloc, b"V")?,
+        model: octs(alloc, b"M")?,
+        revision: octs(alloc, b"1")?,
+        nodes: LnDefs::from_vec(nodes),
+        attrs: attrs(alloc)?,
+        sets: SetDefs::from_vec(Vec::new(alloc)),
+        blocks: blocks(alloc)?,
+        controls: controls(alloc)?,
+        groups: SgDefs::from_vec(Vec::new(alloc)),
+    })
+}
+
+// A node stands before its parts, and names in the order in which lines first name them: LLN0 with 15 nodes of its block,
+// then XCBR1 with ST, CO and CF, then MMXU1; the second domain behind the first.
+const NODES: [(&[u8], &[u8], Option<u32>); 10] = [
+    (b"BAY1", b"LLN0", Some(0)),
+    (b"BAY1", b"LLN0$BR$brcb1$TimeofEntry", Some(15)),
+    (b"BAY1", b"XCBR1$ST$Pos", Some(18)),
+    (b"BAY1", b"XCBR1$CO$Pos$Oper$origin$orIdent", Some(26)),
+    (b"BAY1", b"XCBR1$CF$Pos$ctlModel", Some(33)),
+    (b"BAY1", b"MMXU1$MX$TotW$mag$i", Some(38)),
+    (b"BAY2", b"MMXU1$MX$TotW$mag$i", Some(43)),
+    (b"BAY2", b"XCBR1$ST$Pos", None),
+    (b"BAY1", b"XCBR1$ST$Po", None),
+    (b"BAY", b"LLN0", None),
+];
+
+const ATTRS: [(&[u8], Option<u32>); 5] = [
+    (b"BAY1/XCBR1$ST$Pos$stVal", Some(0)),
+    (b"BAY1/MMXU1$MX$TotW$mag$i", Some(1)),
+    (b"BAY2/MMXU1$MX$TotW$mag$i", Some(2)),
+    (b"BAY1/XCBR1$CF$Pos$ctlModel", Some(3)),
+    (b"BAY1/XCBR1$ST$Pos", None),
+];
+
+/// A domain, a name, and the names behind it, each with a space.
+const NAMES: [(&[u8], &[u8], &str); 5] = [
+    (
+        b"BAY2",
+        b"MMXU1$MX",
+        "MMXU1$MX$TotW MMXU1$MX$TotW$mag MMXU1$MX$TotW$mag$i ",
+    ),
+    (b"BAY2", b"MMXU1$MX$TotW$mag$i", ""),
+    (b"BAY2", b"MMXU1$MX$TotW$mag!", "MMXU1$MX$TotW$mag$i "),
+    (b"BAY1", b"XCBR1$ST", "XCBR1$ST$Pos XCBR1$ST$Pos$stVal "),
+    (b"BAY3", b"", ""),
+];
+
+fn node_number(model: &Model, domain: &[u8], item: &[u8]) -> Option<u32> {
+    model.resolve(domain, item).map(|node| node.0)
+}
+
+fn attr_number(model: &Model, reference: &[u8]) -> Option<u32> {
+    model.attr(reference).map(|attr| attr.0)
+}
+
+fn names_behind(
+    alloc: Global,
+    model: &Model,
+    domain: &[u8],
+    after: &[u8],
+) -> Result<Vec<u8>, AllocError> {
+    let mut text = Vec::new(alloc);
+    let names = model.names_after(alloc, domain, after)?;
+    for name in names.as_slice() {
+        text.extend_from_slice(name.as_slice())?;
+        text.push(b' ')?;
+    }
+    Ok(text)
+}
+
+/// The place of the first row of a table that is answered otherwise.
+fn first_wrong_node(model: &Model) -> Option<usize> {
+    for (i, (domain, item, wanted)) in NODES.iter().enumerate() {
+        if node_number(model, domain, item) != *wanted {
+            return Some(i);
+        }
+    }
+    None
+}
+
+fn first_wrong_attr(model: &Model) -> Option<usize> {
+    for (i, (reference, wanted)) in ATTRS.iter().enumerate() {
+        if attr_number(model, reference) != *wanted {
+            return Some(i);
+        }
+    }
+    None
+}
+
+fn first_wrong_names(alloc: Global, model: &Model) -> Result<Option<usize>, AllocError> {
+    for (i, (domain, after, wanted)) in NAMES.iter().enumerate() {
+        let names = names_behind(alloc, model, domain, after)?;
+        if names.as_slice() != wanted.as_bytes() {
+            return Ok(Some(i));
+        }
+    }
+    Ok(None)
+}
+
+/// Whether blocks and controls are found by their references, and a take by a number of 1 to 16 alone fits.
+fn has_its_parts(model: &Model) -> bool {
+    model.block(b"BAY1/LLN0$BR$brcb1").is_some()
+        && model.control(b"BAY1/XCBR1$CO$Pos").is_some()
+        && model.control(b"BAY2/XCBR1$CO$Pos").is_none()
+        && model.fits(&Step::Take(AssocNo(16)))
+        && !model.fits(&Step::Take(AssocNo(17)))
+}
+
+fn built(alloc: Global) -> Result<Model, AllocError> {
+    let config = config(alloc)?;
+    Model::build(alloc, config)
+}
+
+fn copied(alloc: Global) -> Result<Model, AllocError> {
+    let model = built(alloc)?;
+    model.copy(alloc)
+}
+
+#[test]
+fn nodes_are_found_by_domain_and_item(rt: HostRuntime) -> Result<(), Fail> {
+    let model = copied(rt.alloc())?;
+    assert!(rt; first_wrong_node(&model).is_none());
+    Ok(())
+}
+
+#[test]
+fn references_have_the_numbers_of_their_lines(rt: HostRuntime) -> Result<(), Fail> {
+    let model = built(rt.alloc())?;
+    assert!(rt; first_wrong_attr(&model).is_none());
+    assert!(rt; has_its_parts(&model));
+    assert!(rt; domains(rt.alloc(), model.config().nodes.as_slice())?.len() == 2);
+    Ok(())
+}
+
+#[test]
+fn names_go_on_behind_a_name(rt: HostRuntime) -> Result<(), Fail> {
+    let model = built(rt.alloc())?;
+    assert!(rt; first_wrong_names(rt.alloc(), &model)?.is_none());
+    Ok(())
+}
