@@ -1,5 +1,4 @@
 -- Settings and steps that lines tell, and that they fit.
-pub mod ValueLaws
 pub mod SettingLaws
 pub mod FitLaws
 pub mod StepLaws

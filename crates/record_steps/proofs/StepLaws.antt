@@ -10,6 +10,7 @@ use Rattle.sv_base.specs.declared.config.Config.{Config}
 use Rattle.sv_base.specs.declared.numbers.ActorNo.{ActorNo}
 use Rattle.sv_base.specs.declared.numbers.AssocNo.{AssocNo}
 use Rattle.sv_base.specs.declared.numbers.BlockNo.{BlockNo}
+use Rattle.sv_base.specs.declared.types.TypeOf.TheVariants as types
 use Rattle.sv_base.specs.declared.value.Value.{Value}
 use Rattle.sv_base.specs.declared.value.Value.TheVariants as values
 use Rattle.bay_model.specs.declared.components.Comp.{Comp}
@@ -25,7 +26,7 @@ use Rattle.run_record.specs.Grammar.{IsAssoc}
 use Rattle.record_steps.specs.Shapes.{is_bits, bits_of, signed_of, number_of, text_of, marked_at, truth_or, shape_at}
 use Rattle.record_steps.specs.Resolved.{turn_of}
 use Rattle.record_steps.specs.Told.{turn, refused}
-use Rattle.record_steps.proofs.ValueLaws.{visible}
+use Rattle.text_configs.proofs.ValueLaws.{sound}
 
 -- the place of an element is one of the list's
 place-within : (m n i : ℕ) → cond (nat_lt m n) (Some m) None ≡ Some i → i < n
@@ -51,7 +52,7 @@ sound-bits word v h = by (list_all is_binary word) h where
 sound-text : (octets : List ℕ) (v : Value) → text_of octets ≡ Some v → is_sound v ≡ true
 sound-text octets v h = by (list_all is_graphic octets) refl h where
   by : (b : Bool) → list_all is_graphic octets ≡ b → (if b then Some (values.Text octets) else None) ≡ Some v → is_sound v ≡ true
-  by true e h = let same : values.Text octets ≡ v = cc in ap is_sound (sym same) ∙ visible octets e
+  by true e h = let same : values.Text octets ≡ v = cc in ap is_sound (sym same) ∙ sound (types.Text (length octets)) (values.Text octets) (omega arith, e)
   by false e h = absurd cc
 
 sound-number : (word : List ℕ) (v : Value) → number_of word ≡ Some v → is_sound v ≡ true

@@ -16,7 +16,7 @@ use Rattle.run_record.specs.declared.line.OpenForm.TheVariants as forms
 use Rattle.run_record.specs.declared.line.RecLine.{RecLine}
 use Rattle.run_record.specs.declared.line.RecLine.TheVariants as lines
 use Rattle.run_record.specs.declared.pairs.Pair.{Pair}
-use Rattle.record_steps.specs.Components.{component_at}
+use Rattle.bay_model.specs.ComponentTable.{comp_named}
 use Rattle.record_steps.specs.Shapes.{shape_at}
 use Rattle.record_steps.specs.Settings.{are_named, settings_at}
 use Rattle.record_steps.specs.Resolved.{association_of, turn_of, is_built, opened_as, valued_as, written_as, lost_as, set_to, set_as, told_of}
@@ -152,7 +152,7 @@ module _ (c : Config) (is_open : ℕ → Bool) (actor : ℕ) (step : Step) where
   told-own lines.Skip h = absurd cc
   told-own (lines.At moment) h = absurd cc
   told-own (lines.Open a form) h = open-own a form h
-  told-own (lines.Write a block comp value) h = write-own a (number_in (block_references c) block) (component_at comp) value h
+  told-own (lines.Write a block comp value) h = write-own a (number_in (block_references c) block) (comp_named comp) value h
   told-own (lines.Pdu a hex) h = absurd cc
   told-own (lines.Piece a hex) h = absurd cc
   told-own (lines.Take a) h = turned c a.0 actor (steps.Take a) step (IsOwn is_open) h refl

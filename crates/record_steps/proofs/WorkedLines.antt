@@ -1,9 +1,8 @@
--- Values and components of lines, as they are read.
+-- Values of lines, as they are read.
 use Rattle.std.proofs.Common.{◌≡◌, ◌∷◌, [], refl}
 use Rattle.std.specs.Prelude.{codes, None, Some, true, false}
 use Rattle.sv_base.specs.declared.value.Value.TheVariants as values
 use Rattle.bay_model.specs.declared.components.Comp.TheVariants as comps
-use Rattle.record_steps.specs.Components.{component_at}
 use Rattle.record_steps.specs.Shapes.{marked_at, shape_at}
 
 -- values by their shapes
@@ -26,6 +25,3 @@ odd = refl
 bits : shape_at comps.TrgOps (codes "01") ≡ Some (values.Bits (false ∷ true ∷ []))
 unfolding shape_at marked_at
 bits = refl
-
-no_component : component_at (codes "Rptid") ≡ None
-no_component = refl

@@ -1,5 +1,4 @@
 -- What a line tells, from its names and values to its step.
-pub mod Components
 pub mod Shapes
 pub mod Settings
 pub mod Told

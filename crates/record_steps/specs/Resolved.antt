@@ -17,7 +17,7 @@ use Rattle.run_record.specs.declared.line.OpenForm.TheVariants as forms
 use Rattle.run_record.specs.declared.line.RecLine.{RecLine}
 use Rattle.run_record.specs.declared.line.RecLine.TheVariants as lines
 use Rattle.run_record.specs.declared.pairs.Pair.{Pair}
-use Rattle.record_steps.specs.Components.{component_at}
+use Rattle.bay_model.specs.ComponentTable.{comp_named}
 use Rattle.record_steps.specs.Shapes.{shape_at}
 use Rattle.record_steps.specs.Settings.{are_named, settings_at}
 use Rattle.record_steps.specs.Told.{Told, skip, pass_to, turn, refused, last}
@@ -70,7 +70,7 @@ unfoldable pub told_of : Config → Bool → RecLine → Told
 told_of c there lines.Skip = skip
 told_of c there (lines.At moment) = pass_to moment
 told_of c there (lines.Open a form) = opened_as c there a form
-told_of c there (lines.Write a block comp value) = written_as c there a (number_in (block_references c) block) (component_at comp) value
+told_of c there (lines.Write a block comp value) = written_as c there a (number_in (block_references c) block) (comp_named comp) value
 told_of c there (lines.Pdu a hex) = refused 5
 told_of c there (lines.Piece a hex) = refused 5
 told_of c there (lines.Take a) = turn_of c a.0 (steps.Take a)

@@ -2,19 +2,12 @@
 use Rattle.std.specs.Prelude.{◌≡◌, ℕ}
 use Rattle.sv_base.specs.declared.numbers.AssocNo.{AssocNo}
 use Rattle.bay_model.specs.declared.step.Step.{Step}
+use Rattle.run_record.specs.Judging.{number_of}
 use Rattle.run_record.specs.declared.line.RecLine.{RecLine}
 use Rattle.run_record.specs.declared.line.RecLine.TheVariants as lines
 use Rattle.record_steps.specs.Told as tells
-use Rattle.record_steps.specs.declared.cause.Kind.{Kind}
-use Rattle.record_steps.specs.declared.cause.Kind.TheVariants as kinds
 use Rattle.record_steps.specs.declared.telling.Told.{Told}
 use Rattle.record_steps.specs.declared.telling.Told.TheVariants as tolds
-
-abbrev pub number_of : Kind → ℕ
-number_of kinds.Name = 3
-number_of kinds.State = 5
-number_of kinds.Value = 4
-number_of kinds.NotBuilt = 9
 
 abbrev pub telling : Told → Step → tells.Told
 telling tolds.Nothing step = tells.skip

@@ -6,12 +6,6 @@ mod telling;
 
 pub use telling::{Told, association, tell};
 
-// why there is none
-mod cause;
-
-pub use cause::Kind;
-
-// the names and values of lines
-mod components;
+// the values of lines
 mod settings;
 mod shapes;

@@ -5,18 +5,16 @@ ghost use Rattle.run_record.specs.Grammar.{IsAssoc, IsLine};
 ghost use Rattle.run_record.specs.Seen.{line_seen, pairs_seen};
 ghost use Rattle.object_model.specs.Numbers.{number_in};
 ghost use Rattle.object_model.specs.References.{block_references};
-ghost use Rattle.record_steps.specs.Components.{component_at};
+ghost use Rattle.bay_model.specs.ComponentTable.{comp_named};
 ghost use Rattle.record_steps.specs.Resolved.{is_built as is_built_component, opened_as, written_as, lost_as, set_as, turn_of, told_of};
 ghost use Rattle.record_steps.specs.Telling.{telling, NamesNone, Names};
 ghost use Rattle.bay_model.specs.declared.step.Step.TheVariants as steps;
 
-use crate::cause::Kind;
-use crate::components::component_of;
 use crate::settings::{Found, settings_of};
 use crate::shapes::shape;
 use bay_model::{Comp, Sets, Step};
 use object_model::Model;
-use run_record::{LineView, OpenForm, PairsView};
+use run_record::{Kind, LineView, OpenForm, PairsView};
 use std::alloc::{AllocError, Global};
 use sv_base::{ActorNo, AssocNo, Moment};
 
@@ -82,12 +80,12 @@ fn write(
     step: &mut Step,
 ) -> Result<Told, AllocError>
     requires { IsAssoc a }
-    ensures { IfOk result (λ told. telling told step.new ≡ written_as model.now is_open a (number_in (block_references model.now) block.now) (component_at comp.now) value.now) }
+    ensures { IfOk result (λ told. telling told step.new ≡ written_as model.now is_open a (number_in (block_references model.now) block.now) (comp_named comp.now) value.now) }
 {
     let Some(block) = model.block(block) else {
         return Ok(Told::Refused(Kind::Name));
     };
-    let Some(comp) = component_of(comp) else {
+    let Some(comp) = Comp::of_name(comp) else {
         return Ok(Told::Refused(Kind::Name));
     };
     if !is_open {

@@ -1,6 +1,6 @@
 -- What a line does, by what it tells.
 use Rattle.std.proofs.Common.{◌≡◌, ◌≤◌, ◌++◌, ◌∷◌, ℕ, Bool, true, List, [], sym, ap, subst, refl, ◌∙◌, append-nil}
-use Rattle.std.specs.Prelude.{Option, None, Some, Ok, Err, codes}
+use Rattle.std.specs.Prelude.{Option, None, Some, Result, Ok, Err, OnErr, codes}
 use Rattle.sv_base.specs.declared.config.Config.{Config}
 use Rattle.sv_base.specs.declared.numbers.AssocNo.{AssocNo}
 use Rattle.bay_model.specs.Named.{configured_model}
@@ -20,7 +20,8 @@ use Rattle.answer_text.specs.Texts.{answer_lines}
 use Rattle.record_steps.specs.Resolved.{association_of, told_of}
 use Rattle.record_steps.specs.Told as tells
 use Rattle.record_steps.specs.Told.{Told}
-use Rattle.record_steps.specs.Telling.{Names}
+use Rattle.record_steps.specs.Telling.{telling, Names}
+use Rattle.record_steps.specs.declared.telling.Told as told_as
 use Rattle.record_steps.specs.Own.{IsOwn}
 use Rattle.record_steps.proofs.ToldLaws.{told-own}
 use Rattle.replay_run.specs.Played.{Played, turn_at, at_moment, is_open}
@@ -53,6 +54,10 @@ named-numbered (lines.Take b) a h is = subst IsAssoc h is
 named-numbered (lines.Lost b) a h is = subst IsAssoc h is
 named-numbered _ a h is = absurd h
 
+pub on_err : {A E : Type 0} (r : Result A E) (P : Type 0) → P → OnErr r P
+on_err (Ok x) P p = tt
+on_err (Err e) P p = p
+
 -- a step of its own is performed
 pub performs : (old new : Playing) (actor : ℕ) (step : Step) (given : Answer) (before now : List ℕ) → new.moment ≡ old.moment → Does old.bay new.bay (turn actor old.moment step) (Ok given)
     → ((c : Config) (s : Played) → Plays old c s → IsOwn (is_open c s.turns) actor step) → now ≡ before ++ answer_lines new.bay.config actor given → Performs old new actor step before now
@@ -64,6 +69,11 @@ performs old new actor step given before now moment does own out = λ c s p.
       record { moment = moment ∙ p.moment; stands = stands; owned = owned-after c s.turns s.moment actor step (own c s p) p.owned },
       out ∙ (ap (λ k. before ++ answer_lines k actor given) stands.1.is_config ∙ ap (λ g. before ++ answer_lines c actor g) same),
     )
+
+-- what is told of a slot's step
+pub is-told : (old : Playing) (line : RecLine) (there : Bool) (model : Config) (slot : Step) (told known : told_as.Told) → model ≡ old.bay.config → told ≡ known → telling told slot ≡ told_of model there line
+    → telling known slot ≡ told_of old.bay.config there line
+is-told old line there model slot told known same is tells = ap (λ t. telling t slot) (sym is) ∙ (tells ∙ ap (λ k. told_of k there line) same)
 
 nothing-written : (before now : List ℕ) → now ≡ before → now ≡ before ++ []
 nothing-written before now is = is ∙ sym (append-nil before)

@@ -11,10 +11,10 @@ use Rattle.record_steps.proofs.telling.write.Goals as goal
 pub returns : goal.returns
 returns c =
     let block = sym c.block.ensures ∙ ap (option_map (λ (b : BlockNo). b.0)) c.in-Some.is in
-    let comp = sym c.component_of.ensures ∙ c.in-Some-component_of.is in
-    let value : shape_at c.in-Some-component_of.comp c.args.value.now ≡ _ = sym c.in_ok-value.ensures ∙ c.in-Some-2.is in
+    let comp = sym c.of_name.ensures ∙ c.in-Some-of_name.is in
+    let value : shape_at c.in-Some-of_name.comp c.args.value.now ≡ _ = sym c.in_ok-value.ensures ∙ c.in-Some-2.is in
     let opened : c.args.is_open ≡ true = search rules in
-    let built : is_built c.in-Some-component_of.comp ≡ true = search rules in
+    let built : is_built c.in-Some-of_name.comp ≡ true = search rules in
     ap (turn c.args.a.0) c.put.ensures
-    ∙ (write-told c.args.model.now c.args.a c.requires c.args.block.now c.args.value.now c.in-Some.block c.in-Some-component_of.comp c.in-Some-2.value block value
-    ∙ written-built c.args.model.now c.args.is_open c.args.a _ c.in-Some.block.0 _ c.in-Some-component_of.comp c.args.value.now block comp opened c.in-Some-2.value value built)
+    ∙ (write-told c.args.model.now c.args.a c.requires c.args.block.now c.args.value.now c.in-Some.block c.in-Some-of_name.comp c.in-Some-2.value block value
+    ∙ written-built c.args.model.now c.args.is_open c.args.a _ c.in-Some.block.0 _ c.in-Some-of_name.comp c.args.value.now block comp opened c.in-Some-2.value value built)

@@ -4,7 +4,7 @@ use Rattle.bay_core.specs.State.{State}
 use Rattle.bay_core.specs.Turns.{Does}
 use Rattle.answer_text.specs.Texts.{answer_lines}
 use Rattle.replay_run.proofs.OwnLaws.{own-accepted}
-use Rattle.replay_run.proofs.PlayLaws.{performs}
+use Rattle.replay_run.proofs.PlayLaws.{on_err, performs}
 use Rattle.replay_run.proofs.playing.Playing.perform.Goals as goal
 
 pub returns-in_ok-push_answer-in-Ok-clause-performs :
@@ -20,4 +20,4 @@ returns-in-Err-clause-faultless c = λ k s p. own-accepted k s.turns s.moment c.
 
 pub returns-in_err-push_answer-in-Ok-clause-faultless :
     goal.returns-in_err-push_answer-in-Ok-clause-faultless
-returns-in_err-push_answer-in-Ok-clause-faultless c = λ k s p. own-accepted k s.turns s.moment c.args.actor.0 c.args.self.now.step (c.requires.own k s p) p.owned
+returns-in_err-push_answer-in-Ok-clause-faultless c = on_err c.from_residual.result _ (λ k s p. own-accepted k s.turns s.moment c.args.actor.0 c.args.self.now.step (c.requires.own k s p) p.owned)
