@@ -1,7 +1,7 @@
 //! What writes of a report block's components are answered, and which report is next.
 
 use bay_model::Comp;
-use brcb_state::{Block, Effect, Retained, Next};
+use brcb_state::{Block, Effect, Next, Retained};
 use std::alloc::{AllocError, Global};
 use std::process::Abort;
 use std::test::*;

@@ -3,9 +3,9 @@
 ghost use Rattle.std.specs.Prelude.{◌≡◌, ◌∷◌, [], length, IfOk};
 
 use bay_model::{AttrIds, MemberShape, NodeRow, NodeTable, Nodes, SetName, SetRow, SetTable};
+use data_sets::SetBook;
 use std::alloc::{AllocError, Global};
 use std::test::*;
-use data_sets::SetBook;
 use sv_base::{AttrId, NodeId, Octs, TypeOf};
 
 fn name(alloc: Global, domain: &[u8], item: &[u8]) -> Result<SetName, AllocError> {

@@ -4,8 +4,8 @@ ghost use Rattle.std.specs.Prelude.{◌≡◌, IfOk};
 ghost use Rattle.bay_model.specs.Configured.{block_defined};
 ghost use Rattle.bay_model.specs.Parameters.{bit as bit_of};
 
-use crate::told::{Retained, Next};
 use crate::options::Options;
+use crate::told::{Next, Retained};
 use bay_model::Trg;
 use std::alloc::{AllocError, Global};
 use sv_base::{AssocNo, BlockDef, Octs};

@@ -3,16 +3,16 @@
 #![tactic(auto)]
 
 mod block;
-mod told;
 mod laws;
 mod option_writes;
 mod options;
 mod reads;
+mod told;
 mod writes;
 
 // a block, and what it is told of its entries
 pub use block::Block;
-pub use told::{Effect, Retained, Next};
+pub use told::{Effect, Next, Retained};
 
 // its laws
 pub use laws::{

@@ -4,8 +4,8 @@ ghost use Rattle.std.specs.Prelude.{◌≡◌, if◌then◌else◌};
 ghost use Rattle.brcb_state.specs.declared.told.Effect.TheVariants as effects;
 
 use crate::block::Block;
-use crate::told::Effect;
 use crate::options::MOST;
+use crate::told::Effect;
 use crate::writes::{HELD, INVALID, MISTYPED, is_empty};
 use sv_base::Value;
 
