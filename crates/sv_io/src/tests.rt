@@ -79,9 +79,9 @@ struct Interrupted {
 }
 
 impl Interrupted {
-    fn call(&mut self, count: usize) -> io::Result<usize> {
+    fn call(&mut self) -> io::Result<()> {
         if self.times == 0 {
-            return Ok(count);
+            return Ok(());
         }
         self.times = self.times.saturating_sub(1);
         Err(Error::from(ErrorKind::Interrupted))
@@ -90,18 +90,19 @@ impl Interrupted {
 
 impl Read for Interrupted {
     fn read(&mut self, buf: &mut [u8]) -> io::Result<usize> {
-        self.call(buf.len())
+        self.call()?;
+        Ok(buf.len())
     }
 }
 
 impl Write for Interrupted {
     fn write(&mut self, buf: &[u8]) -> io::Result<usize> {
-        self.call(buf.len())
+        self.call()?;
+        Ok(buf.len())
     }
 
     fn flush(&mut self) -> io::Result<()> {
-        self.call(0)?;
-        Ok(())
+        self.call()
     }
 }
 
