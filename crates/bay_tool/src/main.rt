@@ -69,30 +69,30 @@ A status other than 0 has a line on standard error, `bay_tool: ` and words:
 
 kinds of a refused line of a record:
 
-  1  Word: another first word or count of words, or an empty word
-  2  Number: no number, or one out of range
-  3  Name: a reference, block, component or control that is not there
-  4  Value: no value of the type, or a text that is no value
-  5  State: an association that is open, or one that is not
-  6  Hex: kept for octets in hexadecimal; no line is refused so yet
-  7  NoEnd: the input ends before the line `end` is whole
-  8  Long: above 140100 octets, or an octet outside 20 to 7E
+  1  Word: no line begins so, or not with so many words, or a word is another than stands there
+  2  Number: a word that is no number, or one out of range
+  3  Name: a reference, a block, a component or a control that is not there
+  4  Value: a word that is no value of the type
+  5  State: an association that is open already, or is not
+  6  Hex: a word that is no hexadecimal
+  7  NoEnd: the input ends before `end`
+  8  Long: a line above 140100 octets, or an octet outside 20 to 7E
   9  NotBuilt: not built yet
 
 kinds of a refused line of a configuration:
 
-   1  no line begins so, or not with so many words, or there is an octet outside 20 to 7E
-   2  not allowed here, or the text ends before `end`
-   3  a word that is not the name, path or reference that stands there
-   4  a name that is taken
-   5  a word that is no type
-   6  a word that is no row of trigger options
-   7  a word that is no value of the type
-   8  a word that is no number, or one out of range
-   9  the name of a data set or node that is not there
-  10  a line, word, item name or reference that is too long
-  11  one more than there may be
-  12  a member that no data set may have, or whose Data may be above 500 octets
+   1  Word: no line begins so, or not with so many words, or there is an octet outside 20 to 7E
+   2  Order: not allowed here, or the text ends before `end`
+   3  Name: a word that is not the name, path or reference that stands there
+   4  Duplicate: a name that is taken
+   5  TypeName: a word that is no type
+   6  Flags: a word that is no row of trigger options
+   7  Value: a word that is no value of the type
+   8  Number: a word that is no number, or one out of range
+   9  Unknown: the name of a data set or node that is not there
+  10  Long: a line, word, item name or reference that is too long
+  11  Many: one more than there may be
+  12  Member: a member that no data set may have, or whose Data may be above 500 octets
 ";
 
 /// What `--version` shows.

@@ -24,7 +24,7 @@ const KINDS: [Kind; 12] = [
 #[test]
 fn each_kind_of_a_configuration_is_named(rt: HostRuntime) -> Result<(), Fail> {
     for kind in KINDS {
-        let line = format!(in rt.alloc(); "\n  {:>2}  {kind}\n", kind.number())?;
+        let line = format!(in rt.alloc(); "\n  {:>2}  {kind:?}: {kind}\n", kind.number())?;
         assert!(rt; USAGE.contains(line.as_str()), "{line}");
     }
     Ok(())
