@@ -11,21 +11,21 @@ use Rattle.sv_base.specs.declared.config.SetDef.{SetDef}
 use Rattle.sv_base.specs.declared.config.BlockDef.{BlockDef}
 use Rattle.sv_base.specs.declared.config.CtlDef.{CtlDef}
 use Rattle.sv_base.specs.declared.config.SgDef.{SgDef}
-use Rattle.cfg_text.specs.declared.line.Line.{Line}
-use Rattle.cfg_text.specs.declared.line.Line.TheVariants as lines
-use Rattle.cfg_text.specs.declared.line.Place.{Place}
-use Rattle.cfg_text.specs.declared.line.Place.TheVariants as places
-use Rattle.cfg_text.specs.Names.{is_name}
-use Rattle.cfg_text.specs.Paths.{node_key}
-use Rattle.cfg_text.specs.Taken.{is_among}
-use Rattle.cfg_text.specs.Before.{number_of, place_of, domain_of}
-use Rattle.cfg_text.specs.Claims.{heads}
-use Rattle.cfg_text.specs.Configs.{with_line, config_of}
-use Rattle.cfg_text.specs.Written.{objects, in_order, with_members, heading, with_domains, lines_of}
-use Rattle.cfg_text.specs.Follows.{IsInNode, IsBetween, IsInDomain, IsInSet}
-use Rattle.cfg_text.specs.Texts.{AreLines}
-use Rattle.cfg_text.proofs.ConfigLaws.{with_member-last}
-use Rattle.cfg_text.proofs.PlacedLaws.{split-node, split-attr, split-set, split-block, split-control, split-groups, Ordered, step-object, step-domain, step-keep, heading-same}
+use Rattle.cfg_lines.specs.declared.line.Line.{Line}
+use Rattle.cfg_lines.specs.declared.line.Line.TheVariants as lines
+use Rattle.cfg_lines.specs.declared.line.Place.{Place}
+use Rattle.cfg_lines.specs.declared.line.Place.TheVariants as places
+use Rattle.text_words.specs.Names.{is_name}
+use Rattle.cfg_lines.specs.Paths.{node_key}
+use Rattle.cfg_lines.specs.Keys.{is_among}
+use Rattle.cfg_lines.specs.Before.{number_of, place_of, domain_of}
+use Rattle.cfg_lines.specs.Claims.{heads}
+use Rattle.cfg_lines.specs.Configs.{with_line, config_of}
+use Rattle.cfg_writing.specs.Written.{number, domain, objects, in_order, with_members, heading, with_domains, lines_of}
+use Rattle.cfg_grammar.specs.Follows.{IsInNode, IsBetween, IsInDomain, IsInSet}
+use Rattle.cfg_grammar.specs.Texts.{AreLines}
+use Rattle.cfg_lines.proofs.ConfigLaws.{with_member-last}
+use Rattle.cfg_writing.proofs.PlacedLaws.{Splits, split-node, split-attr, split-set, split-block, split-control, split-groups, Ordered, step-object, step-domain, step-keep, heading-same}
 
 -- the lines from the first on, without empty ones and remarks
 abbrev pub kept : List Line → List Line
@@ -158,6 +158,12 @@ set-waits before (inr e) = ap waits e
 ordered-waits : (c : Config) (n : ℕ) (d : List ℕ) (w v : Bool) (b : List Line) → w ≡ v → Ordered c n d w b → Ordered c n d v b
 ordered-waits c n d w v b e o = subst (λ x. Ordered c n d x b) e o
 
+-- an object's line, in the order of the numbers
+object-placed : (before : List Line) (line : Line) → State before → Splits (objects (config_of before)) (objects (with_line line (config_of before))) line → number line ≡ number_of before → domain line ≡ domain_of before
+    → Ordered (with_line line (config_of before)) (number_of (line ∷ before)) (domain_of before) false (body before ++ with_members line)
+object-placed before line s splits is there =
+    step-object (config_of before) (number_of before) (number_of (line ∷ before)) (domain_of before) (waits (place_of before)) (body before) line s.0 splits is (omega arith) there
+
 state : (text : List ℕ) (told : List Line) → AreLines text told → State told
 state text [] are = (record { under = tt; text = refl; same = λ e. refl }, no-set [] _ refl)
 state text (lines.Skip ∷ before) are =
@@ -178,20 +184,14 @@ state text (lines.Ld name ∷ before) are =
           (ordered-waits (config_of before) (number_of before) (domain_of before) (waits (place_of before)) false (body before) (between-waits before f.0) s.0) (omega arith) (domain-apart before name f.2 f.3),
       no-set (lines.Ld name ∷ before) _ refl,
     )
-state text (lines.Ln node ∷ before) are =
-    let s = state are.0 before are.3 in
-    let f = are.4.follows in (
-      step-object (config_of before) (number_of before) (number_of (lines.Ln node ∷ before)) (domain_of before) (waits (place_of before)) (body before) (lines.Ln node) s.0 (split-node (config_of before) node) (ap (λ (x : LnDef). x.line) f.here) (omega arith)
-          (ap (λ (x : LnDef). x.domain) f.here),
-      no-set (lines.Ln node ∷ before) _ refl,
-    )
-state text (lines.Attr attr ∷ before) are =
-    let s = state are.0 before are.3 in
-    let f = are.4.follows in (
-      step-object (config_of before) (number_of before) (number_of (lines.Attr attr ∷ before)) (domain_of before) (waits (place_of before)) (body before) (lines.Attr attr) s.0 (split-attr (config_of before) attr) (ap (λ (x : AttrDef). x.line) f.here) (omega arith)
-          (ap (λ (x : AttrDef). x.domain) f.here),
-      no-set (lines.Attr attr ∷ before) _ refl,
-    )
+state text (lines.Ln node ∷ before) are = (
+  object-placed before (lines.Ln node) (state are.0 before are.3) (split-node (config_of before) node) (ap (λ (x : LnDef). x.line) are.4.follows.here) (ap (λ (x : LnDef). x.domain) are.4.follows.here),
+  no-set (lines.Ln node ∷ before) _ refl,
+)
+state text (lines.Attr attr ∷ before) are = (
+  object-placed before (lines.Attr attr) (state are.0 before are.3) (split-attr (config_of before) attr) (ap (λ (x : AttrDef). x.line) are.4.follows.here) (ap (λ (x : AttrDef). x.domain) are.4.follows.here),
+  no-set (lines.Attr attr ∷ before) _ refl,
+)
 state text (lines.Set set ∷ before) are =
     let s = state are.0 before are.3 in
     let f = are.4.follows in
@@ -215,27 +215,18 @@ state text (lines.Member reference ∷ before) are =
     let o : Open (config_of (lines.Member reference ∷ before)) (number_of (lines.Member reference ∷ before)) (domain_of before) (body before ++ lines.Member reference ∷ []) =
     open-more (config_of before) (number_of before) (number_of (lines.Member reference ∷ before)) (domain_of before) (body before) reference (s.1 are.4.follows.stands) (omega arith) in
     (from-open (config_of (lines.Member reference ∷ before)) (number_of (lines.Member reference ∷ before)) (domain_of before) (body before ++ lines.Member reference ∷ []) o, λ is. o)
-state text (lines.Brcb block ∷ before) are =
-    let s = state are.0 before are.3 in
-    let f = are.4.follows in (
-      step-object (config_of before) (number_of before) (number_of (lines.Brcb block ∷ before)) (domain_of before) (waits (place_of before)) (body before) (lines.Brcb block) s.0 (split-block (config_of before) block) (ap (λ (x : BlockDef). x.line) f.here) (omega arith)
-          (ap (λ (x : BlockDef). x.domain) f.here),
-      no-set (lines.Brcb block ∷ before) _ refl,
-    )
-state text (lines.Ctl control ∷ before) are =
-    let s = state are.0 before are.3 in
-    let f = are.4.follows in (
-      step-object (config_of before) (number_of before) (number_of (lines.Ctl control ∷ before)) (domain_of before) (waits (place_of before)) (body before) (lines.Ctl control) s.0 (split-control (config_of before) control) (ap (λ (x : CtlDef). x.line) f.here) (omega arith)
-          (ap (λ (x : CtlDef). x.domain) f.here),
-      no-set (lines.Ctl control ∷ before) _ refl,
-    )
-state text (lines.Sgcb groups ∷ before) are =
-    let s = state are.0 before are.3 in
-    let f = are.4.follows in (
-      step-object (config_of before) (number_of before) (number_of (lines.Sgcb groups ∷ before)) (domain_of before) (waits (place_of before)) (body before) (lines.Sgcb groups) s.0 (split-groups (config_of before) groups) (ap (λ (x : SgDef). x.line) f.here) (omega arith)
-          (ap (λ (x : SgDef). x.domain) f.here),
-      no-set (lines.Sgcb groups ∷ before) _ refl,
-    )
+state text (lines.Brcb block ∷ before) are = (
+  object-placed before (lines.Brcb block) (state are.0 before are.3) (split-block (config_of before) block) (ap (λ (x : BlockDef). x.line) are.4.follows.here) (ap (λ (x : BlockDef). x.domain) are.4.follows.here),
+  no-set (lines.Brcb block ∷ before) _ refl,
+)
+state text (lines.Ctl control ∷ before) are = (
+  object-placed before (lines.Ctl control) (state are.0 before are.3) (split-control (config_of before) control) (ap (λ (x : CtlDef). x.line) are.4.follows.here) (ap (λ (x : CtlDef). x.domain) are.4.follows.here),
+  no-set (lines.Ctl control ∷ before) _ refl,
+)
+state text (lines.Sgcb groups ∷ before) are = (
+  object-placed before (lines.Sgcb groups) (state are.0 before are.3) (split-groups (config_of before) groups) (ap (λ (x : SgDef). x.line) are.4.follows.here) (ap (λ (x : SgDef). x.domain) are.4.follows.here),
+  no-set (lines.Sgcb groups ∷ before) _ refl,
+)
 state text (lines.End ∷ before) are =
     let s = state are.0 before are.3 in
     (step-keep (config_of before) (config_of (lines.End ∷ before)) (number_of before) (number_of (lines.End ∷ before)) (domain_of before) (waits (place_of before)) false (body before) s.0 refl (omega arith) (λ e. between-waits before are.4.follows), no-set (lines.End ∷ before) _ refl)

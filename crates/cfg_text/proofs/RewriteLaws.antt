@@ -8,19 +8,19 @@ use Rattle.sv_base.specs.declared.config.SetDef.{SetDef}
 use Rattle.sv_base.specs.declared.config.BlockDef.{BlockDef}
 use Rattle.sv_base.specs.declared.config.CtlDef.{CtlDef}
 use Rattle.sv_base.specs.declared.config.SgDef.{SgDef}
-use Rattle.cfg_text.specs.declared.line.Line.{Line}
-use Rattle.cfg_text.specs.declared.line.Line.TheVariants as lines
-use Rattle.cfg_text.specs.Taken.{is_among}
-use Rattle.cfg_text.specs.Before.{number_of}
-use Rattle.cfg_text.specs.Configs.{with_member, with_line, config_of}
-use Rattle.cfg_text.specs.Nodes.{is_node, is_member_node}
-use Rattle.cfg_text.specs.Spelled.{spelled}
-use Rattle.cfg_text.specs.Written.{line_text, text_of, lines_of, written}
+use Rattle.cfg_lines.specs.declared.line.Line.{Line}
+use Rattle.cfg_lines.specs.declared.line.Line.TheVariants as lines
+use Rattle.cfg_lines.specs.Keys.{is_among}
+use Rattle.cfg_lines.specs.Before.{number_of}
+use Rattle.cfg_lines.specs.Configs.{with_member, with_line, config_of}
+use Rattle.cfg_lines.specs.Nodes.{is_node, is_member_node}
+use Rattle.cfg_lines.specs.Spelled.{spelled}
+use Rattle.cfg_writing.specs.Written.{line_text, text_of, lines_of, written}
 use Rattle.cfg_text.specs.Numbered.{unnumbered, ReadsAs}
-use Rattle.cfg_text.specs.Texts.{AreLines, IsFound, AreFound, SpellsConfig}
-use Rattle.cfg_text.proofs.TextOfLaws.{text-append}
-use Rattle.cfg_text.proofs.FreshLaws.{renumbered, fresh, place-fresh, set-keys-fresh, leaves-fresh, closed-fresh}
-use Rattle.cfg_text.proofs.AgainLaws.{shorter, again}
+use Rattle.cfg_grammar.specs.Texts.{AreLines, IsFound, AreFound, SpellsConfig}
+use Rattle.cfg_writing.proofs.TextOfLaws.{text-append}
+use Rattle.cfg_grammar.proofs.FreshLaws.{renumbered, fresh, place-fresh, set-keys-fresh, leaves-fresh, closed-fresh}
+use Rattle.cfg_grammar.proofs.AgainLaws.{shorter, again}
 use Rattle.cfg_text.proofs.KeptLaws.{kept, lines-kept}
 use Rattle.cfg_text.proofs.WholeLaws.{config-read}
 

@@ -6,29 +6,31 @@ use Rattle.std.proofs.lemmas.Bool.{and_parts, or_cases, cond-true, eqb-true, eq-
 use Rattle.std.proofs.lemmas.Bool.Decides.{nat_tests}
 use Rattle.std.proofs.lemmas.List.Splits.{join_with_byte-slice_split}
 use Rattle.sv_base.specs.declared.config.Config.{Config}
-use Rattle.cfg_text.specs.declared.fault.Kind.{Kind}
-use Rattle.cfg_text.specs.declared.fault.CfgFault.{CfgFault}
-use Rattle.cfg_text.specs.declared.fault.CfgFault.TheVariants as faults
-use Rattle.cfg_text.specs.declared.fault.Kind.TheVariants as kinds
-use Rattle.cfg_text.specs.declared.line.Line.{Line}
-use Rattle.cfg_text.specs.declared.line.Line.TheVariants as lines
-use Rattle.cfg_text.specs.declared.line.Place.{Place}
-use Rattle.cfg_text.specs.declared.line.Place.TheVariants as places
-use Rattle.cfg_text.specs.Words.{words_of, keyword_at}
-use Rattle.cfg_text.specs.Taken.{is_among}
-use Rattle.cfg_text.specs.Before.{number_of, place_of, node_of}
-use Rattle.cfg_text.specs.Claims.{sets}
-use Rattle.cfg_text.specs.Nodes.{is_node, is_member_node}
-use Rattle.cfg_text.specs.Configs.{config_of}
-use Rattle.cfg_text.specs.Judging.{is_printable, is_skipped, has_long, is_in_node, skip_at, tell_at, line_at}
-use Rattle.cfg_text.specs.Text.{pieces, numbered, is_ended, ended_at, told_at, lines_at}
-use Rattle.cfg_text.specs.Looking.{look_at, looked_at, config_at, ◌>>=◌}
-use Rattle.cfg_text.specs.Follows.{IsInNode, IsInSet}
-use Rattle.cfg_text.specs.Texts.{AreLines, IsFound, AreFound, SpellsConfig}
-use Rattle.cfg_text.proofs.TextLaws.{told-line}
-use Rattle.cfg_text.proofs.NameLaws.{name-word}
-use Rattle.cfg_text.proofs.LineLaws.{line-read}
-use Rattle.cfg_text.proofs.ToldLaws.{HasName, went, passed, line-told}
+use Rattle.cfg_parser.specs.declared.fault.Kind.{Kind}
+use Rattle.cfg_parser.specs.declared.fault.CfgFault.{CfgFault}
+use Rattle.cfg_parser.specs.declared.fault.CfgFault.TheVariants as faults
+use Rattle.cfg_parser.specs.declared.fault.Kind.TheVariants as kinds
+use Rattle.cfg_lines.specs.declared.line.Line.{Line}
+use Rattle.cfg_lines.specs.declared.line.Line.TheVariants as lines
+use Rattle.cfg_lines.specs.declared.line.Place.{Place}
+use Rattle.cfg_lines.specs.declared.line.Place.TheVariants as places
+use Rattle.text_words.specs.Words.{words_of}
+use Rattle.cfg_parser.specs.Keywords.{keyword_at}
+use Rattle.cfg_lines.specs.Keys.{is_among}
+use Rattle.cfg_lines.specs.Before.{number_of, place_of, node_of}
+use Rattle.cfg_lines.specs.Claims.{sets}
+use Rattle.cfg_lines.specs.Nodes.{is_node, is_member_node}
+use Rattle.cfg_lines.specs.Configs.{config_of}
+use Rattle.text_words.specs.Octets.{is_printable, is_skipped}
+use Rattle.cfg_parser.specs.Judging.{has_long, is_in_node, skip_at, tell_at, line_at}
+use Rattle.cfg_parser.specs.Text.{pieces, numbered, is_ended, ended_at, told_at, lines_at}
+use Rattle.cfg_parser.specs.Looking.{look_at, looked_at, config_at, ◌>>=◌}
+use Rattle.cfg_grammar.specs.Follows.{IsInNode, IsInSet}
+use Rattle.cfg_grammar.specs.Texts.{AreLines, IsFound, AreFound, SpellsConfig}
+use Rattle.cfg_parser.proofs.TextLaws.{told-line}
+use Rattle.text_words.proofs.NameLaws.{name-word}
+use Rattle.cfg_text.proofs.SpelledLineLaws.{line-read}
+use Rattle.cfg_text.proofs.ReadLineLaws.{HasName, went, passed, line-told}
 
 -- a logical node has a name
 abbrev is_inside : Place → Bool

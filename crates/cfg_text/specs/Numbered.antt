@@ -7,7 +7,7 @@ use Rattle.sv_base.specs.declared.config.SetDef.{SetDef}
 use Rattle.sv_base.specs.declared.config.BlockDef.{BlockDef}
 use Rattle.sv_base.specs.declared.config.CtlDef.{CtlDef}
 use Rattle.sv_base.specs.declared.config.SgDef.{SgDef}
-use Rattle.cfg_text.specs.Looking.{config_at}
+use Rattle.cfg_parser.specs.Looking.{config_at}
 
 abbrev pub unnumbered : Config → Config
 unnumbered c = record c {

@@ -1,12 +1,14 @@
+//! What the format of a configuration, its reading and its writing have to do with each other.
+
 ghost use Rattle.std.specs.Prelude.{◌≡◌, ◌≤◌, ◌↔◌, List, ℕ, length, Ok};
 ghost use Rattle.sv_base.specs.declared.config.Config.{Config};
-ghost use Rattle.cfg_text.specs.declared.line.Line.{Line};
-ghost use Rattle.cfg_text.specs.Judging.{line_at};
-ghost use Rattle.cfg_text.specs.Follows.{IsLine};
-ghost use Rattle.cfg_text.specs.Looking.{config_at};
+ghost use Rattle.cfg_lines.specs.declared.line.Line.{Line};
+ghost use Rattle.cfg_parser.specs.Judging.{line_at};
+ghost use Rattle.cfg_grammar.specs.Follows.{IsLine};
+ghost use Rattle.cfg_parser.specs.Looking.{config_at};
 ghost use Rattle.cfg_text.specs.Numbered.{ReadsAs};
-ghost use Rattle.cfg_text.specs.Texts.{AreLines, SpellsConfig};
-ghost use Rattle.cfg_text.specs.Written.{written};
+ghost use Rattle.cfg_grammar.specs.Texts.{AreLines, SpellsConfig};
+ghost use Rattle.cfg_writing.specs.Written.{written};
 
 /// Behind lines of the format a line is read as what it tells exactly where it is a line of the format that may stand there.
 pub fn lines_are_read_as_the_format_has_them()

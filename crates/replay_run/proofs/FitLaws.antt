@@ -19,11 +19,11 @@ use Rattle.bay_model.specs.Configured.{kind_of}
 use Rattle.bay_model.specs.Kinds.{is_in_range}
 use Rattle.bay_model.specs.Slots.{IsSettable}
 use Rattle.object_model.specs.Fits.{attr_types, is_typed, setting_fits, fits}
-use Rattle.cfg_text.specs.Numbers.{greatest}
-use Rattle.cfg_text.specs.Values.{value_at}
-use Rattle.cfg_text.specs.Grammar.{IsOfType}
-use Rattle.cfg_text.proofs.OptionLaws.{some_is}
-use Rattle.cfg_text.proofs.TellLaws.{value-tells}
+use Rattle.text_words.specs.Numbers.{greatest}
+use Rattle.text_words.specs.Values.{value_at}
+use Rattle.text_words.specs.Grammar.{IsOfType}
+use Rattle.list_laws.proofs.Options.{some_is}
+use Rattle.text_words.proofs.ReadWordLaws.{value-tells}
 use Rattle.text_configs.proofs.ValueLaws.{of-kind, sound, in-range}
 use Rattle.run_record.specs.declared.pairs.Pair.{Pair}
 use Rattle.replay_run.specs.Settings.{number_at, typed_at, setting, setting_of, setting_at, behind_those, settings_from, settings_at}

@@ -4,7 +4,7 @@ use Rattle.std.specs.Prelude.{Option, Some, Vec, nat_lt, if◌then◌else◌}
 use Rattle.std.proofs.lemmas.Bool.{lt-ltb}
 use Rattle.std.proofs.lemmas.Bool.Decides.{leb_tells}
 use Rattle.std.specs.declared.alloc.Global.{Global}
-use Rattle.cfg_text.specs.Looking.{config_at}
+use Rattle.cfg_parser.specs.Looking.{config_at}
 use Rattle.replay_run.specs.Moves.{Place, opening, configuring, playing, stops}
 use Rattle.replay_run.specs.Records.{most_lines, lines_at, line_at, passed, missing, refused_before, ended}
 use Rattle.replay_run.specs.Sessions.{IsAt, Advances, AdvancesOn}

@@ -4,7 +4,7 @@ use Rattle.std.specs.Prelude.{Ok}
 use Rattle.std.specs.List.{All}
 use Rattle.sv_base.specs.declared.config.Config.{Config}
 use Rattle.sv_base.specs.declared.config.BlockDef.{BlockDef}
-use Rattle.cfg_text.specs.Looking.{config_at}
+use Rattle.cfg_parser.specs.Looking.{config_at}
 use Rattle.cfg_text.proofs.WholeLaws.{config-told}
 use Rattle.bay_config.specs.Servable.{IsServable}
 use Rattle.text_configs.proofs.ServableLaws.{texts-are-served}

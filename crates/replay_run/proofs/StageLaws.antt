@@ -3,7 +3,7 @@ use Rattle.std.proofs.Common.{◌≡◌, ◌≤◌, suc, arith, ℕ, true, false
 use Rattle.std.specs.Prelude.{Option, None, Some, IfNone, Vec, codes, if◌then◌else◌}
 use Rattle.std.specs.Str.{bytes_eq}
 use Rattle.std.specs.declared.alloc.Global.{Global}
-use Rattle.cfg_text.specs.Looking.{config_at}
+use Rattle.cfg_parser.specs.Looking.{config_at}
 use Rattle.replay_run.specs.Moves.{Place, opening, configuring, playing, Move, goes, stops}
 use Rattle.replay_run.specs.Openings.{opening_at, started, configuring_at}
 use Rattle.replay_run.specs.Steps.{step_at}

@@ -10,7 +10,7 @@ use Rattle.sv_base.specs.declared.config.BlockDef.{BlockDef}
 use Rattle.sv_base.specs.declared.config.CtlDef.{CtlDef}
 use Rattle.sv_base.specs.declared.config.SgDef.{SgDef}
 use Rattle.bay_model.specs.Slots.{IsSettable}
-use Rattle.cfg_text.specs.Looking.{config_at}
+use Rattle.cfg_parser.specs.Looking.{config_at}
 use Rattle.bay_config.specs.Servable.{IsServable}
 use Rattle.replay_run.specs.Openings.{least_with, least_of, is_timed, timed_line, unbuilt_line}
 use Rattle.replay_run.proofs.Served.{served}

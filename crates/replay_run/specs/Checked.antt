@@ -3,10 +3,10 @@ use Rattle.std.specs.Prelude.{◌≡◌, ℕ, List, [], ◌++◌, length, take, 
 use Rattle.std.specs.Io.KnownBytes.{Appends}
 use Rattle.sv_base.specs.declared.config.Config.{Config}
 use Rattle.bay_model.specs.NamedLines.{domains}
-use Rattle.cfg_text.specs.declared.fault.CfgFault.{CfgFault}
-use Rattle.cfg_text.specs.declared.fault.CfgFault.TheVariants as faults
-use Rattle.cfg_text.specs.Kinds.{number_of}
-use Rattle.cfg_text.specs.Looking.{config_at}
+use Rattle.cfg_parser.specs.declared.fault.CfgFault.{CfgFault}
+use Rattle.cfg_parser.specs.declared.fault.CfgFault.TheVariants as faults
+use Rattle.cfg_parser.specs.Kinds.{number_of}
+use Rattle.cfg_parser.specs.Looking.{config_at}
 use Rattle.replay_run.specs.declared.status.Status.{Status}
 use Rattle.replay_run.specs.declared.status.Status.TheVariants as statuses
 

@@ -6,12 +6,12 @@ use Rattle.sv_base.specs.declared.config.Config.{Config}
 use Rattle.sv_base.specs.declared.config.BlockDef.{BlockDef}
 use Rattle.sv_base.specs.declared.config.CtlDef.{CtlDef}
 use Rattle.sv_base.specs.declared.config.SgDef.{SgDef}
-use Rattle.cfg_text.specs.Judging.{is_skipped}
-use Rattle.cfg_text.specs.Words.{words_of}
-use Rattle.cfg_text.specs.Kinds.{number_of}
-use Rattle.cfg_text.specs.Looking.{config_at}
-use Rattle.cfg_text.specs.declared.fault.CfgFault.{CfgFault}
-use Rattle.cfg_text.specs.declared.fault.CfgFault.TheVariants as faults
+use Rattle.text_words.specs.Octets.{is_skipped}
+use Rattle.text_words.specs.Words.{words_of}
+use Rattle.cfg_parser.specs.Kinds.{number_of}
+use Rattle.cfg_parser.specs.Looking.{config_at}
+use Rattle.cfg_parser.specs.declared.fault.CfgFault.{CfgFault}
+use Rattle.cfg_parser.specs.declared.fault.CfgFault.TheVariants as faults
 use Rattle.run_record.specs.Judging.{is_long}
 use Rattle.replay_run.specs.Played.{start}
 use Rattle.replay_run.specs.Moves.{Move, goes, stops, opening, configuring, playing}

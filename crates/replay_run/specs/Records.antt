@@ -2,10 +2,10 @@
 use Rattle.std.specs.Prelude.{ℕ, suc, ◌+◌, ◌==◌, nat_lt, Bool, true, false, List, [], ◌∷◌, ◌++◌, length, take, Result, Err, if◌then◌else◌}
 use Rattle.std.specs.List.{slice_split}
 use Rattle.sv_base.specs.declared.config.Config.{Config}
-use Rattle.cfg_text.specs.Kinds.{number_of}
-use Rattle.cfg_text.specs.Looking.{config_at}
-use Rattle.cfg_text.specs.declared.fault.CfgFault.{CfgFault}
-use Rattle.cfg_text.specs.declared.fault.CfgFault.TheVariants as faults
+use Rattle.cfg_parser.specs.Kinds.{number_of}
+use Rattle.cfg_parser.specs.Looking.{config_at}
+use Rattle.cfg_parser.specs.declared.fault.CfgFault.{CfgFault}
+use Rattle.cfg_parser.specs.declared.fault.CfgFault.TheVariants as faults
 use Rattle.replay_run.specs.Moves.{Place, Move, goes, stops, opening, configuring, playing}
 use Rattle.replay_run.specs.Openings.{opening_at, configuring_at}
 use Rattle.replay_run.specs.Steps.{step_at}

@@ -5,9 +5,9 @@ use Rattle.sv_base.specs.declared.value.Value.{Value}
 use Rattle.sv_base.specs.declared.value.Value.TheVariants as values
 use Rattle.bay_model.specs.declared.step.Comp.{Comp}
 use Rattle.bay_model.specs.declared.step.Comp.TheVariants as comps
-use Rattle.cfg_text.specs.Words.{behind}
-use Rattle.cfg_text.specs.Numbers.{number_at, int_at}
-use Rattle.cfg_text.specs.Values.{read_as, truth_at, is_binary, is_graphic, hex_at}
+use Rattle.text_words.specs.Words.{behind}
+use Rattle.text_words.specs.Numbers.{number_at, int_at}
+use Rattle.text_words.specs.Values.{read_as, truth_at, is_binary, is_graphic, hex_at}
 
 -- a component that is a bit string
 abbrev pub is_bits : Comp → Bool

@@ -1,11 +1,11 @@
 //! The lines of a record before its configuration.
 
 ghost use Rattle.std.specs.Prelude.{◌≡◌, IfOk};
-ghost use Rattle.cfg_text.specs.Words.{texts};
+ghost use Rattle.text_words.specs.Words.{texts};
 ghost use Rattle.run_record.specs.Judging.{is_long as is_long_text};
 ghost use Rattle.replay_run.specs.Plays.{Opens, HeadedAs};
 
-use cfg_text::{are_printable, is_skipped, parts_of};
+use text_words::{are_printable, is_skipped, parts_of};
 use std::alloc::{AllocError, Global};
 
 /// What a line before the configuration is.

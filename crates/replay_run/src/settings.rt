@@ -32,7 +32,7 @@ fn typed(
     ensures { IfOk result (λ r. r ≡ typed_at config.now word.now attr.0) }
 {
     match config.attrs.get(attr.0 as usize) {
-        Some(line) => cfg_text::value(alloc, &line.kind, word),
+        Some(line) => text_words::value(alloc, &line.kind, word),
         None => Ok(None),
     }
 }

@@ -1,11 +1,11 @@
 //! The values that clients write, read by the shapes of their texts.
 
 ghost use Rattle.std.specs.Prelude.{◌≡◌, IfOk, codes, option_copied};
-ghost use Rattle.cfg_text.specs.Words.{behind};
+ghost use Rattle.text_words.specs.Words.{behind};
 ghost use Rattle.replay_run.specs.Shapes.{is_bits as is_bit_string, bits_of, number_of, text_of, marked_at, shape_at};
 
 use bay_model::Comp;
-use cfg_text::{all_binary, all_graphic, hex_octets, owned, truth, truth_values};
+use text_words::{all_binary, all_graphic, hex_octets, owned, truth, truth_values};
 use std::alloc::{AllocError, Global};
 use sv_base::{Bits, Octs, TypeOf, Value};
 
@@ -34,13 +34,13 @@ fn after_minus(word: &[u8]) -> Option<&[u8]>
 }
 
 /// A number without a sign, or a signed one where it has `-`.
-#[tactic(auto, unfolding(cfg_text::specs::Values::value_at))]
+#[tactic(auto, unfolding(text_words::specs::Values::value_at))]
 fn number(alloc: Global, word: &[u8]) -> Result<Option<Value>, AllocError>
     ensures { IfOk result (λ r. r ≡ number_of word.now) }
 {
     match after_minus(word) {
-        Some(_) => cfg_text::value(alloc, &TypeOf::Int(64), word),
-        None => Ok(cfg_text::number(word).map(Value::Uint)),
+        Some(_) => text_words::value(alloc, &TypeOf::Int(64), word),
+        None => Ok(text_words::number(word).map(Value::Uint)),
     }
 }
 

@@ -33,7 +33,7 @@ pub enum Stage {
 impl Stage {
     ghost use Rattle.std.specs.Prelude.{◌≡◌, ◌<◌, ◌≤◌, ◌^◌, ℕ, suc, Vec, IfOk, IfSome, IfNone};
     ghost use Rattle.std.specs.declared.alloc.Global.{Global as Memory};
-    ghost use Rattle.cfg_text.specs.Looking.{config_at};
+    ghost use Rattle.cfg_parser.specs.Looking.{config_at};
     ghost use Rattle.replay_run.specs.Moves.{Place, Move};
     ghost use Rattle.replay_run.specs.Plays.{Starts, IsSound};
     ghost use Rattle.replay_run.specs.Openings.{opening_at, started};

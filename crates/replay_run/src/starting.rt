@@ -3,7 +3,7 @@
 ghost use Rattle.std.specs.Prelude.{◌≡◌, ◌==◌, ◌||◌, ◌<◌, ◌^◌, not, map, IfOk};
 ghost use Rattle.sv_base.specs.declared.config.CtlDef.{CtlDef as Control};
 ghost use Rattle.sv_base.specs.declared.config.SgDef.{SgDef as Groups};
-ghost use Rattle.cfg_text.specs.Looking.{config_at};
+ghost use Rattle.cfg_parser.specs.Looking.{config_at};
 ghost use Rattle.replay_run.specs.Openings.{least_with, least_of, is_timed as is_timed_block, timed_line as first_timed, unbuilt_line as first_unbuilt, started};
 ghost use Rattle.replay_run.specs.Plays.{Starts, IsSound};
 ghost use Rattle.replay_run.specs.Records.{refused_before as refused_before_number};

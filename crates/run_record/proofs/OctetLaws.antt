@@ -7,8 +7,8 @@ use Rattle.std.proofs.lemmas.Bool.{cases_lt, both_ways, and_cases, false_from_ne
 use Rattle.std.proofs.lemmas.Bool.Decides.{nat_tests}
 use Rattle.std.proofs.lemmas.List.Folds.{drop_split}
 use Rattle.std.proofs.lemmas.List.Sums.{sum_by-append}
-use Rattle.cfg_text.specs.Judging.{is_printable}
-use Rattle.cfg_text.specs.Words.{words_of}
+use Rattle.text_words.specs.Octets.{is_printable}
+use Rattle.text_words.specs.Words.{words_of}
 use Rattle.run_record.specs.Judging.{is_long}
 use Rattle.run_record.specs.Octets.{is_fault, IsFaultless, is_clear, has_odd_spaces}
 use Rattle.run_record.proofs.SeenLaws.{empties, empties-told}

@@ -6,12 +6,12 @@ use Rattle.std.specs.List.{list_all, list_any, flat_map, join_with_byte}
 use Rattle.std.proofs.lemmas.Bool.{and_from, or_from, cond-true, cond-false, le-ltb, lt-ltb, eq-eqb}
 use Rattle.std.proofs.lemmas.Bool.Decides.{nat_tests}
 use Rattle.sv_base.specs.declared.numbers.AssocNo.{AssocNo}
-use Rattle.cfg_text.specs.Grammar.{IsSkipped}
-use Rattle.cfg_text.specs.Judging.{is_printable}
-use Rattle.cfg_text.specs.Values.{truth_at}
-use Rattle.cfg_text.specs.Spelled.{truth_word}
-use Rattle.cfg_text.proofs.WordLaws.{AreWords, split-joined, joined-printable}
-use Rattle.cfg_text.proofs.SpellLaws.{number-within}
+use Rattle.text_words.specs.Octets.{IsSkipped}
+use Rattle.text_words.specs.Octets.{is_printable}
+use Rattle.text_words.specs.Values.{truth_at}
+use Rattle.text_words.specs.Spelled.{truth_word}
+use Rattle.text_words.proofs.WordLaws.{AreWords, split-joined, joined-printable}
+use Rattle.text_words.proofs.SpelledWordLaws.{number-within}
 use Rattle.run_record.specs.Spelled.{form_words, pair_words, words, spelled}
 use Rattle.run_record.specs.Grammar.{IsAssoc, IsForm, is_word, Spells}
 use Rattle.run_record.specs.Contents.{numbered, assoc_of, assoc_at, sized_form, form_at, opened, paired, set_at, truth_line, content_at}

@@ -7,13 +7,13 @@ use Rattle.std.proofs.lemmas.Bool.{or_parts, cond-true, ltb-true, ltb-false, lt-
 use Rattle.std.proofs.lemmas.Slice.Eq.{bytes_eq-Decides}
 use Rattle.std.proofs.lemmas.List.Splits.{join_with_byte-slice_split}
 use Rattle.sv_base.specs.declared.numbers.AssocNo.{AssocNo}
-use Rattle.cfg_text.specs.Grammar.{IsSkipped}
-use Rattle.cfg_text.specs.Judging.{is_printable, is_skipped}
-use Rattle.cfg_text.specs.Numbers.{number_within}
-use Rattle.cfg_text.specs.Values.{truth_at, is_graphic}
-use Rattle.cfg_text.specs.Words.{words_of}
-use Rattle.cfg_text.specs.Spelled.{truth_word}
-use Rattle.cfg_text.proofs.ToldLaws.{split-words, are-words as words-are}
+use Rattle.text_words.specs.Octets.{IsSkipped}
+use Rattle.text_words.specs.Octets.{is_printable, is_skipped}
+use Rattle.text_words.specs.Numbers.{number_within}
+use Rattle.text_words.specs.Values.{truth_at, is_graphic}
+use Rattle.text_words.specs.Words.{words_of}
+use Rattle.text_words.specs.Spelled.{truth_word}
+use Rattle.text_words.proofs.WordLaws.{split-words, are-words as words-are}
 use Rattle.run_record.specs.Spelled.{pair_words, form_with, form_words, form_size, words_with, number_word, size_word, words, spelled}
 use Rattle.run_record.specs.Grammar.{is_word, Spells}
 use Rattle.run_record.specs.Contents.{numbered, assoc_at, sized_form, form_at, opened, paired, set_at, truth_line, content_at}
@@ -305,6 +305,15 @@ number-told text e = (never-long text kinds.Number (λ is. absurd cc is) e, by (
     by (inr (inl is)) = absurd cc is
     by (inr (inr form)) = form.1
 
+-- a text is refused as one of three kinds
+pub other-told : (text : List ℕ) (kind : Kind) → (kind ≡ kinds.Long → ⊥) → (kind ≡ kinds.Word → ⊥) → (kind ≡ kinds.Number → ⊥) → line_at text ≡ Err kind → ⊥
+other-told text kind not-long other-word not-number e = by (cause text kind e)
+  where
+    by : Cause text kind → ⊥
+    by (inl long) = not-long long.0
+    by (inr (inl is)) = other-word is
+    by (inr (inr form)) = not-number form.0
+
 pub word-refused : (text : List ℕ) → IsUnformed text → line_at text ≡ Err kinds.Word
 word-refused text un = by (line_at text) refl
   where
@@ -314,15 +323,21 @@ word-refused text un = by (line_at text) refl
 
     by : (r : Result RecLine Kind) → line_at text ≡ r → line_at text ≡ Err kinds.Word
     by (Ok line) e = absurd (spelled (spelled-form text line (line-told text line e)))
-    by (Err kinds.Word) e = e
-    by (Err kinds.Long) e = absurd (un.0 (long-told text e))
-    by (Err kinds.Number) e = absurd (un.2 (number-told text e).1)
+    by (Err kind) e = e ∙ ap refused (only (cause text kind e))
+      where
+        only : Cause text kind → kind ≡ kinds.Word
+        only (inl long) = absurd (un.0 long.1)
+        only (inr (inl is)) = is
+        only (inr (inr form)) = absurd (un.2 form.1)
 
 pub number-refused : (text : List ℕ) → IsUnnumbered text → line_at text ≡ Err kinds.Number
 number-refused text un = by (line_at text) refl
   where
     by : (r : Result RecLine Kind) → line_at text ≡ r → line_at text ≡ Err kinds.Number
     by (Ok line) e = absurd (un.2 line (line-told text line e))
-    by (Err kinds.Number) e = e
-    by (Err kinds.Long) e = absurd (un.0 (long-told text e))
-    by (Err kinds.Word) e = absurd (not-word text un.0 un.1 e)
+    by (Err kind) e = e ∙ ap refused (only (cause text kind e))
+      where
+        only : Cause text kind → kind ≡ kinds.Number
+        only (inl long) = absurd (un.0 long.1)
+        only (inr (inl is)) = absurd (not-word text un.0 un.1 (e ∙ ap refused is))
+        only (inr (inr form)) = form.0

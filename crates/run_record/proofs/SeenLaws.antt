@@ -7,9 +7,9 @@ use Rattle.std.proofs.lemmas.Bool.{cond-true}
 use Rattle.std.proofs.lemmas.Bool.Decides.{nat_tests}
 use Rattle.std.specs.List.{All, list_any, onto_first, count_by}
 use Rattle.std.proofs.lemmas.List.Splits.{slice_split_at, slice_split_none, length-slice_split}
-use Rattle.cfg_text.specs.Words.{words_of}
-use Rattle.cfg_text.specs.Numbers.{number_within}
-use Rattle.cfg_text.specs.Values.{truth_at}
+use Rattle.text_words.specs.Words.{words_of}
+use Rattle.text_words.specs.Numbers.{number_within}
+use Rattle.text_words.specs.Values.{truth_at}
 use Rattle.run_record.specs.Contents.{numbered, assoc_at, truth_line, set_at, content_at}
 use Rattle.run_record.specs.Judging.{tell_at}
 use Rattle.run_record.specs.Seen.{words_in, one_of, two_of, four_of, just}

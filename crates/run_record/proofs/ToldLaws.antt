@@ -8,15 +8,15 @@ use Rattle.std.proofs.lemmas.Bool.{and_parts, or_parts, not-false, ltb-true, ltb
 use Rattle.std.proofs.lemmas.List.Splits.{join_with_byte-slice_split}
 use Rattle.std.proofs.lemmas.Slice.Eq.{bytes_eq-Decides}
 use Rattle.sv_base.specs.declared.numbers.AssocNo.{AssocNo}
-use Rattle.cfg_text.specs.Grammar.{IsSkipped}
-use Rattle.cfg_text.specs.Judging.{is_printable, is_skipped}
-use Rattle.cfg_text.specs.Numbers.{number_within}
-use Rattle.cfg_text.specs.Values.{is_graphic, truth_at}
-use Rattle.cfg_text.specs.Words.{words_of}
-use Rattle.cfg_text.specs.Spelled.{truth_word}
-use Rattle.cfg_text.proofs.OptionLaws.{some_is}
-use Rattle.cfg_text.proofs.TellLaws.{by-word, none-some, number-tells, truth-tells}
-use Rattle.cfg_text.proofs.ToldLaws.{split-words, are-words}
+use Rattle.text_words.specs.Octets.{IsSkipped}
+use Rattle.text_words.specs.Octets.{is_printable, is_skipped}
+use Rattle.text_words.specs.Numbers.{number_within}
+use Rattle.text_words.specs.Values.{is_graphic, truth_at}
+use Rattle.text_words.specs.Words.{words_of}
+use Rattle.text_words.specs.Spelled.{truth_word}
+use Rattle.list_laws.proofs.Options.{some_is}
+use Rattle.text_words.proofs.ReadWordLaws.{by-word, none-some, number-tells, truth-tells}
+use Rattle.text_words.proofs.WordLaws.{split-words, are-words}
 use Rattle.run_record.specs.Spelled.{form_words, pair_words, words, spelled}
 use Rattle.run_record.specs.Grammar.{IsAssoc, IsForm, IsLine, is_word, IsText, Spells}
 use Rattle.run_record.specs.Contents.{numbered, assoc_of, assoc_at, sized_form, form_at, opened, paired, set_at, truth_line, content_at}

@@ -2,10 +2,10 @@
 use Rattle.std.proofs.Common.{◌≡◌, ℕ, true, false, List, [], ◌∷◌, ◌++◌, length, nat_le, ◌==◌, append-nil, append_assoc, refl, sym, ap, ◌∙◌}
 use Rattle.std.specs.List.{list_all, flat_map, join_with_byte}
 use Rattle.std.proofs.lemmas.Bool.{and_parts, and_from, leb-true, le-leb}
-use Rattle.cfg_text.specs.Judging.{is_skipped}
-use Rattle.cfg_text.specs.Spelled.{spaced}
-use Rattle.cfg_text.specs.Values.{is_graphic}
-use Rattle.cfg_text.proofs.WordLaws.{AreWords}
+use Rattle.text_words.specs.Octets.{is_skipped}
+use Rattle.text_words.specs.Spelled.{spaced}
+use Rattle.text_words.specs.Values.{is_graphic}
+use Rattle.text_words.proofs.WordLaws.{AreWords}
 use Rattle.run_record.specs.Grammar.{is_word}
 
 -- a word, and the others each behind a space

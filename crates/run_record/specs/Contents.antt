@@ -1,8 +1,8 @@
 -- What the words behind a line's first word tell.
 use Rattle.std.specs.Prelude.{ℕ, ◌==◌, ◌&&◌, ◌%◌, nat_lt, Bool, List, [], ◌∷◌, length, codes, Option, Some, None, Result, Ok, Err, if◌then◌else◌}
 use Rattle.std.specs.Str.{bytes_eq}
-use Rattle.cfg_text.specs.Numbers.{number_within}
-use Rattle.cfg_text.specs.Values.{truth_at}
+use Rattle.text_words.specs.Numbers.{number_within}
+use Rattle.text_words.specs.Values.{truth_at}
 use Rattle.sv_base.specs.declared.numbers.AssocNo.{AssocNo}
 use Rattle.run_record.specs.declared.fault.Kind.{Kind}
 use Rattle.run_record.specs.declared.fault.Kind.TheVariants as kinds

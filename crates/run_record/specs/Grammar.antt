@@ -1,8 +1,8 @@
 -- The lines of a record, and the texts that spell them.
 use Rattle.std.specs.Prelude.{◌≡◌, ◌≤◌, ◌&&◌, nat_le, ℕ, Bool, true, List, length}
 use Rattle.std.specs.List.{list_all}
-use Rattle.cfg_text.specs.Grammar.{IsSkipped}
-use Rattle.cfg_text.specs.Values.{is_graphic}
+use Rattle.text_words.specs.Octets.{IsSkipped}
+use Rattle.text_words.specs.Values.{is_graphic}
 use Rattle.sv_base.specs.declared.numbers.AssocNo.{AssocNo}
 use Rattle.run_record.specs.Spelled.{words, spelled}
 use Rattle.run_record.specs.declared.line.OpenForm.{OpenForm}

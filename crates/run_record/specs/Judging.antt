@@ -2,8 +2,8 @@
 use Rattle.std.specs.Prelude.{◌≡◌, ℕ, ◌==◌, ◌||◌, not, nat_lt, Bool, List, [], ◌∷◌, length, codes, Option, Some, None, Result, Ok, Err, if◌then◌else◌}
 use Rattle.std.specs.List.{list_all, list_any}
 use Rattle.std.specs.Str.{bytes_eq}
-use Rattle.cfg_text.specs.Judging.{is_printable, is_skipped}
-use Rattle.cfg_text.specs.Words.{words_of}
+use Rattle.text_words.specs.Octets.{is_printable, is_skipped}
+use Rattle.text_words.specs.Words.{words_of}
 use Rattle.run_record.specs.Contents.{content_at}
 use Rattle.run_record.specs.declared.fault.Kind.{Kind}
 use Rattle.run_record.specs.declared.fault.Kind.TheVariants as kinds
@@ -15,9 +15,15 @@ use Rattle.run_record.specs.declared.line.RecLine.{RecLine}
 use Rattle.run_record.specs.declared.line.RecLine.TheVariants as lines
 
 abbrev pub number_of : Kind → ℕ
-number_of kinds.Long = 8
 number_of kinds.Word = 1
 number_of kinds.Number = 2
+number_of kinds.Name = 3
+number_of kinds.Value = 4
+number_of kinds.State = 5
+number_of kinds.Hex = 6
+number_of kinds.NoEnd = 7
+number_of kinds.Long = 8
+number_of kinds.NotBuilt = 9
 
 -- what a function returned is what is read; of want of memory nothing is said
 abbrev pub Gives : {A : Type 0} → Result A RecFault → Result A Kind → Type 0

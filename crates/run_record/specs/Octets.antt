@@ -1,8 +1,8 @@
 -- What a line's octets are.
 use Rattle.std.specs.Prelude.{◌≡◌, ℕ, ◌-◌, ◌%◌, ◌<◌, ◌≤◌, ◌==◌, ◌&&◌, ◌||◌, not, Bool, false, List, length, slice_index}
 use Rattle.std.specs.List.{list_any, count_by}
-use Rattle.cfg_text.specs.Judging.{is_printable}
-use Rattle.cfg_text.specs.Words.{words_of}
+use Rattle.text_words.specs.Octets.{is_printable}
+use Rattle.text_words.specs.Words.{words_of}
 use Rattle.run_record.specs.Judging.{is_long}
 
 -- octet i stands in no line, or is a space behind a space

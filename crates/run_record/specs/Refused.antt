@@ -1,8 +1,8 @@
 -- The causes for which a line is refused. A line has the first of these kinds that there is a cause for.
 use Rattle.std.specs.Prelude.{◌≡◌, ◌≤◌, ◌<◌, ◌⊎◌, ℕ, true, false, List, length}
 use Rattle.std.specs.List.{list_all, join_with_byte}
-use Rattle.cfg_text.specs.Grammar.{IsSkipped}
-use Rattle.cfg_text.specs.Judging.{is_printable}
+use Rattle.text_words.specs.Octets.{IsSkipped}
+use Rattle.text_words.specs.Octets.{is_printable}
 use Rattle.run_record.specs.Spelled.{words_with}
 use Rattle.run_record.specs.Grammar.{is_word, Spells}
 use Rattle.run_record.specs.declared.line.RecLine.{RecLine}

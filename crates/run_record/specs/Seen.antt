@@ -1,7 +1,7 @@
 -- What is seen in a text that is read in place: the line, with each word that is lent as its octets.
 use Rattle.std.specs.Prelude.{ℕ, List, [], ◌∷◌, Option, Some, None, Result, Ok, Err}
 use Rattle.std.specs.Borrow.{Bor}
-use Rattle.cfg_text.specs.Words.{words_of}
+use Rattle.text_words.specs.Words.{words_of}
 use Rattle.run_record.specs.Contents.{paired}
 use Rattle.run_record.specs.declared.fault.Kind.{Kind}
 use Rattle.run_record.specs.declared.fault.Kind.TheVariants as kinds

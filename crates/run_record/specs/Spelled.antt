@@ -2,7 +2,7 @@
 use Rattle.std.specs.Prelude.{ℕ, List, [], ◌∷◌, ◌++◌, codes}
 use Rattle.std.specs.Fmt.{decimal}
 use Rattle.std.specs.List.{flat_map, join_with_byte}
-use Rattle.cfg_text.specs.Spelled.{truth_word}
+use Rattle.text_words.specs.Spelled.{truth_word}
 use Rattle.run_record.specs.declared.pairs.Pair.{Pair}
 use Rattle.run_record.specs.declared.line.OpenForm.{OpenForm}
 use Rattle.run_record.specs.declared.line.OpenForm.TheVariants as forms

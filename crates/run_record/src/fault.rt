@@ -1,10 +1,13 @@
+//! Why a line of a record is refused.
+
 ghost use Rattle.std.specs.Prelude.{◌≡◌};
 ghost use Rattle.run_record.specs.Judging.{number_of};
 
 use std::alloc::{AllocError, AllocFailed};
 use thiserror::Error;
 
-/// Why a line is refused. Of several causes the first of these counts.
+/// Why a line of a record is refused. Of several causes on one line the first of these counts; reading alone refuses a line as
+/// Long, Word or Number, and a server that it is played to for the others.
 #[derive(Clone, Copy, Debug, PartialEq, Eq, Error)]
 pub enum Kind {
     /// It is longer than 140100 octets, or has an octet outside 20 to 7E.
@@ -16,17 +19,41 @@ pub enum Kind {
     /// A word that is no number, or one out of range.
     #[error("a word that is no number, or one out of range")]
     Number,
+    /// A reference, a block, a component or a control that is not there.
+    #[error("a reference, a block, a component or a control that is not there")]
+    Name,
+    /// An association that is open, or is not.
+    #[error("an association that is open already, or is not")]
+    State,
+    /// A word that is no value of the attribute's type, or of no shape of a value.
+    #[error("a word that is no value of the type")]
+    Value,
+    /// A word that is no hexadecimal.
+    #[error("a word that is no hexadecimal")]
+    Hex,
+    /// What is not built yet.
+    #[error("not built yet")]
+    NotBuilt,
+    /// The input ends before the line `end` is whole.
+    #[error("the input ends before `end`")]
+    NoEnd,
 }
 
 impl Kind {
-    /// Its number: 8, 1 or 2.
+    /// Its number, 1 to 9.
     pub fn number(self) -> u8
         ensures { result ≡ number_of self }
     {
         match self {
-            Kind::Long => 8,
             Kind::Word => 1,
             Kind::Number => 2,
+            Kind::Name => 3,
+            Kind::Value => 4,
+            Kind::State => 5,
+            Kind::Hex => 6,
+            Kind::NoEnd => 7,
+            Kind::Long => 8,
+            Kind::NotBuilt => 9,
         }
     }
 }

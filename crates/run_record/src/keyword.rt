@@ -1,3 +1,5 @@
+//! The first words of the lines of a record.
+
 ghost use Rattle.std.specs.Prelude.{◌≡◌, ◌==◌};
 ghost use Rattle.run_record.specs.Judging.{keyword_at};
 

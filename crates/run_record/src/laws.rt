@@ -1,3 +1,5 @@
+//! What the format of a record's lines, their reading and their writing have to do with each other.
+
 ghost use Rattle.std.specs.Prelude.{◌≡◌, ◌≤◌, ◌↔◌, List, ℕ, length, Ok, Err};
 ghost use Rattle.run_record.specs.declared.line.RecLine.{RecLine};
 ghost use Rattle.run_record.specs.Grammar.{Spells};

@@ -34,6 +34,3 @@ pub use laws::{
 
 // why a line is refused
 pub use fault::{Kind, RecFault};
-
-#[cfg(test)]
-mod tests;

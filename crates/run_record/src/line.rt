@@ -1,3 +1,5 @@
+//! What a line of a record tells.
+
 use crate::pairs::Pairs;
 use sv_base::{AssocNo, Moment, Octs};
 

@@ -5,6 +5,9 @@ ghost use Rattle.std.specs.Prelude.{◌≡◌, ◌↔◌, ◌+◌, ◌<◌, ◌�
 ghost use Rattle.std.specs.List.{slice_range};
 ghost use Rattle.run_record.specs.Octets.{is_fault as fault, IsFaultless, is_clear as clear, has_odd_spaces};
 
+/// The most octets of a line.
+pub const MOST_OCTETS: usize = 140100;
+
 /// The octet at `i` stands in no line, or is a space behind a space.
 #[inline(always)]
 fn is_fault(line: &[u8], i: usize) -> bool
@@ -73,7 +76,7 @@ pub fn is_clear(line: &[u8]) -> bool
     let [first, ..] = line else {
         return false;
     };
-    let is_bounded = (line.len() <= 140100)
+    let is_bounded = (line.len() <= MOST_OCTETS)
         & (*first > b' ')
         & (*first <= 0x7e)
         & (line[line.len() - 1] != b' ');

@@ -1,3 +1,5 @@
+//! The pairs of a line `set`.
+
 use std::marker::Model;
 use sv_base::Octs;
 

@@ -1,8 +1,10 @@
+//! A line is read: its octets first, then its words, and then its numbers.
+
 ghost use Rattle.std.specs.Prelude.{◌≡◌, ◌==◌, ◌∷◌, [], false, length};
 ghost use Rattle.std.specs.List.{list_any};
-ghost use Rattle.cfg_text.specs.Words.{words_of};
-ghost use Rattle.cfg_text.specs.Numbers.{number_within};
-ghost use Rattle.cfg_text.specs.Values.{truth_at};
+ghost use Rattle.text_words.specs.Words.{words_of};
+ghost use Rattle.text_words.specs.Numbers.{number_within};
+ghost use Rattle.text_words.specs.Values.{truth_at};
 ghost use Rattle.run_record.specs.declared.keyword.Keyword.TheVariants.{Open, Tick, End};
 ghost use Rattle.run_record.specs.declared.line.RecLine.TheVariants.{At, Write, Pdu, Piece, Take, Lost, Done, Block};
 ghost use Rattle.run_record.specs.Contents.{assoc_at, numbered, form_at, set_at as set_line_at, truth_line, content_at};
@@ -14,12 +16,12 @@ ghost use Rattle.run_record.specs.Answers.{Answers};
 use crate::fault::{Kind, RecFault};
 use crate::keyword::{Keyword, keyword_of};
 use crate::line::{OpenForm, RecLine};
-use crate::octets::is_clear;
+use crate::octets::{MOST_OCTETS, is_clear};
 use crate::view::{LineView, PairsView};
 use crate::words::Words;
-use cfg_text::{are_printable, is_skipped, number, number_between, truth};
 use std::alloc::Global;
 use sv_base::{AssocNo, Moment};
+use text_words::{are_printable, is_skipped, number, number_between, truth};
 
 /// The association whose number the word is.
 fn association(word: &[u8]) -> Option<AssocNo>
@@ -275,7 +277,7 @@ fn tell(line: &[u8]) -> Result<LineView<'_>, Kind>
 fn is_long(line: &[u8]) -> bool
     ensures { result ≡ is_long_text line.now }
 {
-    line.len() > 140100 || !are_printable(line)
+    line.len() > MOST_OCTETS || !are_printable(line)
 }
 
 /// What a line tells that is too long, has an octet that no line has, or has an empty word.

@@ -1,9 +1,11 @@
+//! What a line tells, with its words lent.
+
 use crate::line::{OpenForm, RecLine};
 use crate::pairs::{Pair, Pairs};
 use crate::words::Words;
-use cfg_text::owned;
 use std::alloc::{AllocError, Global};
 use sv_base::{AssocNo, Moment};
+use text_words::owned;
 
 /// The reference of an attribute, and the value that it is set to, both as texts that are lent.
 #[derive(Clone, Copy, Debug)]

@@ -1,3 +1,5 @@
+//! The words of a text, lent one after the other.
+
 ghost use Rattle.std.specs.Prelude.{◌≡◌, ◌∷◌, ◌++◌, ◌==◌, false, MatchOption};
 ghost use Rattle.std.specs.List.{All};
 ghost use Rattle.memchr.specs.Find.{IsFirstByte, is_byte};
@@ -32,7 +34,7 @@ pub struct Words<'a> {
 
 impl<'a> Words<'a> {
     ghost use Rattle.std.specs.Prelude.{◌≡◌, ◌∷◌, ◌==◌, ◌&&◌, ◌%◌, nat_lt, length, [], option_map, MatchOption, IfNone};
-    ghost use Rattle.cfg_text.specs.Words.{words_of};
+    ghost use Rattle.text_words.specs.Words.{words_of};
     ghost use Rattle.run_record.specs.Seen.{words_left, one_of, two_of, four_of};
 
     /// The words of a text.

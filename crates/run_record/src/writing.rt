@@ -1,14 +1,16 @@
+//! A line is written: its words, and a space between each two.
+
 ghost use Rattle.std.specs.Prelude.{◌≡◌, ◌++◌, OnOk};
 ghost use Rattle.std.specs.Fmt.{decimal};
 ghost use Rattle.std.specs.List.{flat_map};
-ghost use Rattle.cfg_text.specs.Spelled.{spaced, truth_word};
+ghost use Rattle.text_words.specs.Spelled.{spaced, truth_word};
 ghost use Rattle.run_record.specs.Spelled.{form_words, pair_words, spelled, line_text};
 
 use crate::line::{OpenForm, RecLine};
 use crate::pairs::Pair;
-use cfg_text::{push_number, push_word};
 use std::alloc::AllocError;
 use sv_base::AssocNo;
+use text_words::{push_number, push_word};
 
 /// Adds a first word and the number of an association.
 fn push_association(out: &mut Vec<u8>, keyword: &[u8], a: AssocNo) -> Result<(), AllocError>

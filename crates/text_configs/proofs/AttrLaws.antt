@@ -5,17 +5,17 @@ use Rattle.std.specs.Str.{bytes_eq}
 use Rattle.sv_base.specs.Same.{values_of}
 use Rattle.sv_base.specs.declared.config.LnDef.{LnDef}
 use Rattle.sv_base.specs.declared.config.AttrDef.{AttrDef}
-use Rattle.cfg_text.specs.Contents.{is_fc}
-use Rattle.cfg_text.specs.Taken.{is_among}
-use Rattle.cfg_text.specs.Paths.{item_key, above, clashes, is_taken}
-use Rattle.cfg_text.specs.Before.{domain_of, node_of, groups_of}
-use Rattle.cfg_text.specs.Claims.{claims_by, claims}
-use Rattle.cfg_text.specs.Configs.{config_of}
-use Rattle.cfg_text.specs.Grammar.{IsType, AreOfType}
-use Rattle.cfg_text.specs.Follows.{IsPath, IsAttribute}
-use Rattle.cfg_text.specs.Texts.{AreLines}
-use Rattle.cfg_text.specs.declared.line.Line.{Line}
-use Rattle.cfg_text.specs.declared.line.Line.TheVariants as lines
+use Rattle.text_words.specs.Names.{is_fc}
+use Rattle.cfg_lines.specs.Keys.{is_among}
+use Rattle.cfg_lines.specs.Paths.{item_key, above, clashes, is_taken}
+use Rattle.cfg_lines.specs.Before.{domain_of, node_of, groups_of}
+use Rattle.cfg_lines.specs.Claims.{claims_by, claims}
+use Rattle.cfg_lines.specs.Configs.{config_of}
+use Rattle.text_words.specs.Grammar.{IsType, AreOfType}
+use Rattle.cfg_grammar.specs.Follows.{IsPath, IsAttribute}
+use Rattle.cfg_grammar.specs.Texts.{AreLines}
+use Rattle.cfg_lines.specs.declared.line.Line.{Line}
+use Rattle.cfg_lines.specs.declared.line.Line.TheVariants as lines
 use Rattle.list_laws.proofs.Among.{Among, At, at-among, at-last, right, ending, passes}
 use Rattle.text_configs.proofs.NamedLaws.{bytes-same}
 use Rattle.text_configs.proofs.ReachLaws.{above-has}

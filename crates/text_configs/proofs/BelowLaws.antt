@@ -12,9 +12,9 @@ use Rattle.bay_model.specs.Generated.{Named, end_named, comp_name}
 use Rattle.bay_model.specs.NamedLines.{path_item}
 use Rattle.bay_model.specs.NamedLines as named
 use Rattle.bay_model.specs.NameTree.{first_name, rest_of, is_itself, below}
-use Rattle.cfg_text.specs.Names.{is_name}
-use Rattle.cfg_text.specs.Contents.{is_fc}
-use Rattle.cfg_text.specs.Sizes.{children}
+use Rattle.text_words.specs.Names.{is_name}
+use Rattle.text_words.specs.Names.{is_fc}
+use Rattle.cfg_lines.specs.Sizes.{children}
 use Rattle.bay_model.specs.Slots.{IsSettable}
 use Rattle.bay_config.specs.Servable.{attr_type}
 use Rattle.list_laws.proofs.Among.{Among, At, at-among, at-within, at-same}

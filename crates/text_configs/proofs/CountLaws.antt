@@ -9,7 +9,7 @@ use Rattle.sv_base.specs.declared.config.AttrDef.{AttrDef}
 use Rattle.sv_base.specs.declared.types.TypeOf.TheVariants as types
 use Rattle.bay_model.specs.Places.{largest}
 use Rattle.object_model.specs.Fits.{attr_types}
-use Rattle.cfg_text.specs.Sizes.{most_octets, element_octets, leaf_octets, children, octets_of}
+use Rattle.cfg_lines.specs.Sizes.{most_octets, element_octets, leaf_octets, children, octets_of}
 use Rattle.bay_config.specs.Servable.{attr_type}
 use Rattle.list_laws.proofs.Among.{Among, At, of-each, at-among, among-at, at-same, at-map, at-left, at-index, mapped, right}
 use Rattle.text_configs.proofs.JoinedLaws.{NoDollar, IsPlain, joined, joined-behind}

@@ -10,8 +10,8 @@ use Rattle.list_laws.proofs.Distinct.{octets_same}
 use Rattle.sv_base.specs.declared.config.AttrDef.{AttrDef}
 use Rattle.bay_model.specs.NamedLines.{path_item}
 use Rattle.bay_model.specs.Places.{member_constraints}
-use Rattle.cfg_text.specs.Names.{is_letter, is_name_octet, is_name, is_path, is_dollar, is_slash, are_member, is_member}
-use Rattle.cfg_text.specs.Contents.{is_fc}
+use Rattle.text_words.specs.Names.{is_letter, is_name_octet, is_name, is_path, is_dollar, is_slash, are_member, is_member}
+use Rattle.text_words.specs.Names.{is_fc}
 use Rattle.list_laws.proofs.Among.{Among, Each, of-each, some-passes, heads, tails}
 use Rattle.text_configs.proofs.JoinedLaws.{NoDollar, IsPlain, ArePlain, joined, first, rest, first-joined, rest-joined, first-before, rest-before}
 use Rattle.text_configs.proofs.AttrLaws.{key_of}

@@ -15,12 +15,12 @@ use Rattle.bay_model.specs.NamedLines as named
 use Rattle.bay_model.specs.NameTree.{longest, grown, below}
 use Rattle.bay_model.specs.Places.{Place, places, node_at, constraint, member_constraints}
 use Rattle.bay_model.specs.Named.{places_in, nodes, member_number}
-use Rattle.cfg_text.specs.Taken.{is_among}
-use Rattle.cfg_text.specs.Paths.{above}
-use Rattle.cfg_text.specs.Sizes.{children}
-use Rattle.cfg_text.specs.Contents.{is_fc}
-use Rattle.cfg_text.specs.Names.{is_name}
-use Rattle.cfg_text.specs.Nodes.{reaches}
+use Rattle.cfg_lines.specs.Keys.{is_among}
+use Rattle.cfg_lines.specs.Paths.{above}
+use Rattle.cfg_lines.specs.Sizes.{children}
+use Rattle.text_words.specs.Names.{is_fc}
+use Rattle.text_words.specs.Names.{is_name}
+use Rattle.cfg_lines.specs.Nodes.{reaches}
 use Rattle.bay_config.specs.Servable.{IsMember, attr_type}
 use Rattle.list_laws.proofs.Among.{Among, At, of-each, at-among, among-at, spread, mapped, source, some-passes, heads, tails}
 use Rattle.text_configs.proofs.JoinedLaws.{ArePlain, joined, first, rest, first-joined, rest-joined, joined-longer, same-joined}

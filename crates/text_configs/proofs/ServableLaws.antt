@@ -15,13 +15,13 @@ use Rattle.bay_model.specs.Configured.{groups_defined}
 use Rattle.bay_model.specs.NamedLines.{domains}
 use Rattle.bay_model.specs.Named.{nodes, member_number, set_defined, configured_model}
 use Rattle.value_store.specs.Opened.{HasValue, place_in}
-use Rattle.cfg_text.specs.Sizes.{leaf_octets, children, octets_of}
-use Rattle.cfg_text.specs.Nodes.{leaves, leaf_names, closed, reaches}
-use Rattle.cfg_text.specs.Configs.{config_of}
-use Rattle.cfg_text.specs.Texts.{AreLines, AreFound, SpellsConfig}
-use Rattle.cfg_text.specs.declared.leaf.Leaf.{Leaf}
-use Rattle.cfg_text.specs.declared.line.Line.{Line}
-use Rattle.cfg_text.specs.declared.line.Line.TheVariants as lines
+use Rattle.cfg_lines.specs.Sizes.{leaf_octets, children, octets_of}
+use Rattle.cfg_lines.specs.Nodes.{leaves, leaf_names, closed, reaches}
+use Rattle.cfg_lines.specs.Configs.{config_of}
+use Rattle.cfg_grammar.specs.Texts.{AreLines, AreFound, SpellsConfig}
+use Rattle.cfg_lines.specs.declared.leaf.Leaf.{Leaf}
+use Rattle.cfg_lines.specs.declared.line.Line.{Line}
+use Rattle.cfg_lines.specs.declared.line.Line.TheVariants as lines
 use Rattle.bay_config.specs.Servable.{IsMember, IsServedSet, IsServedBlock, HasSoundValues, IsServable}
 use Rattle.list_laws.proofs.Among.{Among, all-of, of-all, source}
 use Rattle.text_configs.proofs.FindLaws.{found, domain-there}

@@ -4,16 +4,16 @@ use Rattle.std.proofs.lemmas.List.{map-append}
 use Rattle.sv_base.specs.declared.config.AttrDef.{AttrDef}
 use Rattle.sv_base.specs.declared.config.SetDef.{SetDef}
 use Rattle.sv_base.specs.declared.config.BlockDef.{BlockDef}
-use Rattle.cfg_text.specs.Names.{is_name, is_member}
-use Rattle.cfg_text.specs.Before.{blocks, members}
-use Rattle.cfg_text.specs.Configs.{with_member, config_of}
-use Rattle.cfg_text.specs.Nodes.{leaves}
-use Rattle.cfg_text.specs.Sizes.{most_octets}
-use Rattle.cfg_text.specs.Follows.{Follows}
-use Rattle.cfg_text.specs.Texts.{AreLines, IsFound, AreFound}
-use Rattle.cfg_text.specs.declared.leaf.Leaf.{Leaf}
-use Rattle.cfg_text.specs.declared.line.Line.{Line}
-use Rattle.cfg_text.specs.declared.line.Line.TheVariants as lines
+use Rattle.text_words.specs.Names.{is_name, is_member}
+use Rattle.cfg_lines.specs.Before.{blocks, members}
+use Rattle.cfg_lines.specs.Configs.{with_member, config_of}
+use Rattle.cfg_lines.specs.Nodes.{leaves}
+use Rattle.cfg_lines.specs.Sizes.{most_octets}
+use Rattle.cfg_grammar.specs.Follows.{Follows}
+use Rattle.cfg_grammar.specs.Texts.{AreLines, IsFound, AreFound}
+use Rattle.cfg_lines.specs.declared.leaf.Leaf.{Leaf}
+use Rattle.cfg_lines.specs.declared.line.Line.{Line}
+use Rattle.cfg_lines.specs.declared.line.Line.TheVariants as lines
 use Rattle.list_laws.proofs.Among.{Among, ending}
 use Rattle.text_configs.proofs.StandLaws.{IsPlainText, in-node}
 use Rattle.text_configs.proofs.AttrLaws.{key_of}

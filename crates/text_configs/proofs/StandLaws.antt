@@ -2,15 +2,15 @@
 use Rattle.std.proofs.Common.{◌≡◌, ℕ, ◌⊎◌, inl, inr, true, List, [], ◌∷◌, ◌++◌, refl, ap, subst, ◌∙◌}
 use Rattle.list_laws.proofs.Appended.{some-left}
 use Rattle.sv_base.specs.declared.config.LnDef.{LnDef}
-use Rattle.cfg_text.specs.Names.{is_name}
-use Rattle.cfg_text.specs.Before.{place_of, domain_of, node_of, groups_of}
-use Rattle.cfg_text.specs.Configs.{config_of}
-use Rattle.cfg_text.specs.Follows.{IsInNode}
-use Rattle.cfg_text.specs.Texts.{AreLines}
-use Rattle.cfg_text.specs.declared.line.Line.{Line}
-use Rattle.cfg_text.specs.declared.line.Line.TheVariants as lines
-use Rattle.cfg_text.specs.declared.line.Place.{Place}
-use Rattle.cfg_text.specs.declared.line.Place.TheVariants as places
+use Rattle.text_words.specs.Names.{is_name}
+use Rattle.cfg_lines.specs.Before.{place_of, domain_of, node_of, groups_of}
+use Rattle.cfg_lines.specs.Configs.{config_of}
+use Rattle.cfg_grammar.specs.Follows.{IsInNode}
+use Rattle.cfg_grammar.specs.Texts.{AreLines}
+use Rattle.cfg_lines.specs.declared.line.Line.{Line}
+use Rattle.cfg_lines.specs.declared.line.Line.TheVariants as lines
+use Rattle.cfg_lines.specs.declared.line.Place.{Place}
+use Rattle.cfg_lines.specs.declared.line.Place.TheVariants as places
 use Rattle.list_laws.proofs.Among.{Among, left, right, ending}
 
 -- no controls and no setting groups

@@ -16,10 +16,10 @@ use Rattle.bay_model.specs.Slots.{IsSettable}
 use Rattle.bay_model.specs.Places.{largest}
 use Rattle.object_model.specs.Fits.{is_sound, is_visible}
 use Rattle.value_store.specs.Opened.{HasValue}
-use Rattle.cfg_text.specs.Values.{is_graphic}
-use Rattle.cfg_text.specs.Numbers.{greatest}
-use Rattle.cfg_text.specs.Grammar.{IsType, FitsInt, IsOfType, AreOfType}
-use Rattle.cfg_text.specs.Sizes.{most_octets}
+use Rattle.text_words.specs.Values.{is_graphic}
+use Rattle.text_words.specs.Numbers.{greatest}
+use Rattle.text_words.specs.Grammar.{IsType, FitsInt, IsOfType, AreOfType}
+use Rattle.cfg_lines.specs.Sizes.{most_octets}
 
 pub settable : (k : TypeOf) → IsType k → IsSettable k
 settable types.Bool h = tt

@@ -4,7 +4,7 @@ ghost use Rattle.std.specs.Prelude.{◌≡◌, ℕ, List, [], Ok};
 ghost use Rattle.std.specs.List.{All};
 ghost use Rattle.sv_base.specs.declared.config.BlockDef.{BlockDef};
 ghost use Rattle.sv_base.specs.declared.config.Config.{Config};
-ghost use Rattle.cfg_text.specs.Looking.{config_at};
+ghost use Rattle.cfg_parser.specs.Looking.{config_at};
 ghost use Rattle.bay_config.specs.Servable.{IsServable};
 
 /// A configuration that is read from a text can be served by a bay, where it has no controls and no setting groups, and

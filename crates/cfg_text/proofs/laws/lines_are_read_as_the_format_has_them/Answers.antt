@@ -1,5 +1,5 @@
-use Rattle.cfg_text.proofs.LineLaws.{line-read}
-use Rattle.cfg_text.proofs.ToldLaws.{line-told}
+use Rattle.cfg_text.proofs.SpelledLineLaws.{line-read}
+use Rattle.cfg_text.proofs.ReadLineLaws.{line-told}
 use Rattle.cfg_text.proofs.WholeLaws.{has-name}
 use Rattle.cfg_text.proofs.laws.lines_are_read_as_the_format_has_them.Goals as goal
 

@@ -1,6 +1,6 @@
 use Rattle.std.proofs.Common.{◌≡◌, ◌++◌, take}
 use Rattle.std.specs.List.{flat_map}
-use Rattle.cfg_text.specs.Spelled.{spaced}
+use Rattle.text_words.specs.Spelled.{spaced}
 use Rattle.run_record.specs.Spelled.{pair_words}
 use Rattle.run_record.proofs.writing.push_pairs.Given as goal
 

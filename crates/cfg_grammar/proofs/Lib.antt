@@ -1,0 +1,2 @@
+pub mod FreshLaws
+pub mod AgainLaws

@@ -1,0 +1,5 @@
+pub mod KeyLaws
+pub mod PathLaws
+pub mod NodeFacts
+pub mod FactLaws
+pub mod ConfigLaws

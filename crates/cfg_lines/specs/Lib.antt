@@ -1,0 +1,9 @@
+pub mod Keys
+pub mod Paths
+pub mod Before
+pub mod Facts
+pub mod Claims
+pub mod Configs
+pub mod Sizes
+pub mod Nodes
+pub mod Spelled

@@ -1,0 +1,135 @@
+//! The references of logical nodes, data sets, attributes and controls.
+
+ghost use Rattle.std.specs.Prelude.{◌≡◌, ◌++◌, ◌∷◌, [], map, codes, IfOk, OnOk};
+ghost use Rattle.cfg_lines.specs.Keys.{octets_of};
+ghost use Rattle.cfg_lines.specs.Paths.{below as below_front, node_key as node_key_of, item_key as item_key_of};
+ghost use Rattle.cfg_lines.specs.Claims.{operations, settings, control_keys as control_keys_of};
+
+use std::alloc::{AllocError, Global};
+
+/// The reference of a logical node.
+pub fn node_key(alloc: Global, domain: &[u8], node: &[u8]) -> Result<Vec<u8>, AllocError>
+    ensures { IfOk result (λ v. v.items ≡ node_key_of domain.now node.now) }
+{
+    let mut key = Vec::from_slice(alloc, domain)?;
+    key.push(b'/')?;
+    key.extend_from_slice(node)?;
+    Ok(key)
+}
+
+/// The reference of a name below another.
+pub fn below(alloc: Global, front: &[u8], name: &[u8]) -> Result<Vec<u8>, AllocError>
+    ensures { IfOk result (λ v. v.items ≡ below_front front.now name.now) }
+{
+    let mut key = Vec::from_slice(alloc, front)?;
+    key.push(b'$')?;
+    key.extend_from_slice(name)?;
+    Ok(key)
+}
+
+/// The reference of a data set or of a functional constraint of a logical node.
+pub fn node_item(
+    alloc: Global,
+    domain: &[u8],
+    node: &[u8],
+    name: &[u8],
+) -> Result<Vec<u8>, AllocError>
+    ensures { IfOk result (λ v. v.items ≡ below_front (node_key_of domain.now node.now) name.now) }
+{
+    let front = node_key(alloc, domain, node)?;
+    below(alloc, &front, name)
+}
+
+/// The reference of a path under a functional constraint of a logical node.
+pub fn item_key(
+    alloc: Global,
+    domain: &[u8],
+    node: &[u8],
+    fc: &[u8],
+    path: &[u8],
+) -> Result<Vec<u8>, AllocError>
+    ensures { IfOk result (λ v. v.items ≡ item_key_of domain.now node.now fc.now path.now) }
+{
+    let front = node_item(alloc, domain, node, fc)?;
+    below(alloc, &front, path)
+}
+
+fn push_below(
+    alloc: Global,
+    keys: &mut Vec<Vec<u8>>,
+    front: &[u8],
+    name: &[u8],
+) -> Result<(), AllocError>
+    ensures { OnOk result (map octets_of keys.new.items ≡ map octets_of keys.old.items ++ below_front front.now name.now ∷ []) }
+{
+    let key = below(alloc, front, name)?;
+    keys.push(key)?;
+    Ok(())
+}
+
+/// What a control has under CO.
+fn push_operations(
+    alloc: Global,
+    keys: &mut Vec<Vec<u8>>,
+    front: &[u8],
+    model: u32,
+) -> Result<(), AllocError>
+    ensures { OnOk result (map octets_of keys.new.items ≡ map octets_of keys.old.items ++ map (λ part. below_front front.now part) (operations model)) }
+{
+    push_below(alloc, keys, front, b"Oper")?;
+    if model == 2 {
+        push_below(alloc, keys, front, b"SBO")?;
+        return push_below(alloc, keys, front, b"Cancel");
+    }
+    if model == 4 {
+        push_below(alloc, keys, front, b"SBOw")?;
+        return push_below(alloc, keys, front, b"Cancel");
+    }
+    Ok(())
+}
+
+/// What a control that is selected first has besides under CF.
+fn push_selection(alloc: Global, keys: &mut Vec<Vec<u8>>, front: &[u8]) -> Result<(), AllocError>
+    ensures { OnOk result (map octets_of keys.new.items ≡ map octets_of keys.old.items ++ map (λ part. below_front front.now part) (codes "sboTimeout" ∷ codes "sboClass" ∷ [])) }
+{
+    push_below(alloc, keys, front, b"sboTimeout")?;
+    push_below(alloc, keys, front, b"sboClass")?;
+    Ok(())
+}
+
+/// What a control has under CF.
+fn push_settings(
+    alloc: Global,
+    keys: &mut Vec<Vec<u8>>,
+    front: &[u8],
+    model: u32,
+) -> Result<(), AllocError>
+    ensures { OnOk result (map octets_of keys.new.items ≡ map octets_of keys.old.items ++ map (λ part. below_front front.now part) (settings model)) }
+{
+    push_below(alloc, keys, front, b"ctlModel")?;
+    if model == 2 {
+        return push_selection(alloc, keys, front);
+    }
+    if model == 4 {
+        return push_selection(alloc, keys, front);
+    }
+    Ok(())
+}
+
+/// The references that a control takes by its model.
+pub fn control_keys(
+    alloc: Global,
+    domain: &[u8],
+    node: &[u8],
+    path: &[u8],
+    model: u32,
+) -> Result<Vec<Vec<u8>>, AllocError>
+    ensures { IfOk result (λ v. map octets_of v.items ≡ control_keys_of domain.now node.now path.now model) }
+{
+    let mut keys = Vec::new(alloc);
+    let operated = item_key(alloc, domain, node, b"CO", path)?;
+    push_operations(alloc, &mut keys, &operated, model)?;
+    let set = item_key(alloc, domain, node, b"CF", path)?;
+    push_settings(alloc, &mut keys, &set, model)?;
+    Ok(keys)
+}

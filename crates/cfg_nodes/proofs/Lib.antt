@@ -1,0 +1,4 @@
+pub mod NodeLaws
+pub mod IndexLaws
+pub mod PartLaws
+pub mod OctetLaws

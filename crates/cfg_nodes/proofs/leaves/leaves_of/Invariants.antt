@@ -1,0 +1,6 @@
+use Rattle.std.proofs.Common.{◌≡◌, take, reverse}
+use Rattle.cfg_lines.specs.Nodes.{leaves}
+use Rattle.cfg_nodes.proofs.leaves.leaves_of.Given as goal
+
+abbrev pub invariant-loop-line : goal.invariant-loop-line
+invariant-loop-line l = l.leaves.items ≡ leaves (reverse (take l.line-index l.lines))

@@ -1,0 +1,203 @@
+//! The nodes that no data set may have: report control blocks, setting group control blocks, controls and edited values.
+
+ghost use Rattle.std.specs.Prelude.{◌≡◌, ◌++◌, ◌∷◌, [], codes, reverse, IfOk, OnOk};
+ghost use Rattle.cfg_lines.specs.Claims.{operations, group_key};
+ghost use Rattle.cfg_lines.specs.Paths.{below as below_front, item_key as item_key_of};
+ghost use Rattle.text_words.specs.Words.{texts};
+ghost use Rattle.cfg_lines.specs.Nodes.{all_below, with_parts, block_parts, group_parts, operation_parts, operations_below, twins, closed_by, closed as closed_before};
+
+use cfg_lines::{Line, below, item_key};
+use std::alloc::{AllocError, Global};
+use sv_base::{AttrDef, BlockDef, CtlDef, Octs, SgDef};
+use text_words::owned;
+
+/// The components of a report control block.
+const BLOCK_PARTS: [&[u8]; 13] = [
+    b"RptID",
+    b"RptEna",
+    b"DatSet",
+    b"ConfRev",
+    b"OptFlds",
+    b"BufTm",
+    b"SqNum",
+    b"TrgOps",
+    b"IntgPd",
+    b"GI",
+    b"PurgeBuf",
+    b"EntryID",
+    b"TimeofEntry",
+];
+
+/// The components of a setting group control block.
+const GROUP_PARTS: [&[u8]; 5] = [b"NumOfSG", b"ActSG", b"EditSG", b"CnfEdit", b"LActTm"];
+
+/// The components of SBOw and Oper. Cancel has all but the last.
+const CALL_PARTS: [&[u8]; 7] = [
+    b"ctlVal",
+    b"origin$orCat",
+    b"origin$orIdent",
+    b"ctlNum",
+    b"T",
+    b"Test",
+    b"Check",
+];
+
+fn push_below(
+    alloc: Global,
+    names: &mut Vec<Octs>,
+    front: &[u8],
+    name: &[u8],
+) -> Result<(), AllocError>
+    ensures { OnOk result (names.new.items ≡ names.old.items ++ below_front front.now name.now ∷ []) }
+{
+    let name = Octs::from_vec(below(alloc, front, name)?);
+    names.push(name)?;
+    Ok(())
+}
+
+fn push_parts(
+    alloc: Global,
+    names: &mut Vec<Octs>,
+    front: &[u8],
+    parts: &[&[u8]],
+) -> Result<(), AllocError>
+    ensures { OnOk result (names.new.items ≡ names.old.items ++ all_below front.now (texts parts.now)) }
+{
+    for part in parts {
+        push_below(alloc, names, front, part)?;
+    }
+    Ok(())
+}
+
+/// A node and its parts.
+fn push_node(
+    alloc: Global,
+    names: &mut Vec<Octs>,
+    node: &[u8],
+    parts: &[&[u8]],
+) -> Result<(), AllocError>
+    ensures { OnOk result (names.new.items ≡ names.old.items ++ with_parts node.now (texts parts.now)) }
+{
+    names.push(owned(alloc, node)?)?;
+    push_parts(alloc, names, node, parts)
+}
+
+fn push_operation(
+    alloc: Global,
+    names: &mut Vec<Octs>,
+    front: &[u8],
+    name: &[u8],
+    parts: &[&[u8]],
+) -> Result<(), AllocError>
+    ensures { OnOk result (names.new.items ≡ names.old.items ++ with_parts (below_front front.now name.now) (texts parts.now)) }
+{
+    let node = below(alloc, front, name)?;
+    push_node(alloc, names, &node, parts)
+}
+
+/// What a control that is selected first has besides under CO.
+fn push_selection(
+    alloc: Global,
+    names: &mut Vec<Octs>,
+    front: &[u8],
+    select: &[u8],
+    parts: &[&[u8]],
+) -> Result<(), AllocError>
+    ensures { OnOk result (names.new.items ≡ names.old.items ++ (with_parts (below_front front.now select.now) (texts parts.now) ++ with_parts (below_front front.now (codes "Cancel")) (operation_parts (codes "Cancel")))) }
+{
+    push_operation(alloc, names, front, select, parts)?;
+    push_operation(alloc, names, front, b"Cancel", &CALL_PARTS[..6])?;
+    Ok(())
+}
+
+/// What a control has under CO.
+fn push_operations(
+    alloc: Global,
+    names: &mut Vec<Octs>,
+    front: &[u8],
+    model: u8,
+) -> Result<(), AllocError>
+    ensures { OnOk result (names.new.items ≡ names.old.items ++ operations_below front.now (operations model)) }
+{
+    push_operation(alloc, names, front, b"Oper", &CALL_PARTS)?;
+    if model == 2 {
+        return push_selection(alloc, names, front, b"SBO", &[]);
+    }
+    if model == 4 {
+        return push_selection(alloc, names, front, b"SBOw", &CALL_PARTS);
+    }
+    Ok(())
+}
+
+fn push_control(alloc: Global, names: &mut Vec<Octs>, control: &CtlDef) -> Result<(), AllocError>
+    ensures { OnOk result (names.new.items ≡ names.old.items ++ operations_below (item_key_of control.now.domain control.now.ln (codes "CO") control.now.path) (operations control.now.model)) }
+{
+    let front = item_key(
+        alloc,
+        control.domain.as_slice(),
+        control.ln.as_slice(),
+        b"CO",
+        control.path.as_slice(),
+    )?;
+    push_operations(alloc, names, &front, control.model)
+}
+
+/// What edits an attribute under SG.
+fn push_twin(alloc: Global, names: &mut Vec<Octs>, attr: &AttrDef) -> Result<(), AllocError>
+    ensures { OnOk result (names.new.items ≡ names.old.items ++ twins attr.now) }
+{
+    if attr.fc.as_slice() == b"SG".as_slice() {
+        let name = item_key(
+            alloc,
+            attr.domain.as_slice(),
+            attr.ln.as_slice(),
+            b"SE",
+            attr.path.as_slice(),
+        )?;
+        names.push(Octs::from_vec(name))?;
+    }
+    Ok(())
+}
+
+fn push_block(alloc: Global, names: &mut Vec<Octs>, block: &BlockDef) -> Result<(), AllocError>
+    ensures { OnOk result (names.new.items ≡ names.old.items ++ with_parts (item_key_of block.now.domain block.now.ln (codes "BR") block.now.name) block_parts) }
+{
+    let node = item_key(
+        alloc,
+        block.domain.as_slice(),
+        block.ln.as_slice(),
+        b"BR",
+        block.name.as_slice(),
+    )?;
+    push_node(alloc, names, &node, &BLOCK_PARTS)
+}
+
+fn push_groups(alloc: Global, names: &mut Vec<Octs>, groups: &SgDef) -> Result<(), AllocError>
+    ensures { OnOk result (names.new.items ≡ names.old.items ++ with_parts (group_key groups.now.domain (codes "LLN0")) group_parts) }
+{
+    let node = item_key(alloc, groups.domain.as_slice(), b"LLN0", b"SP", b"SGCB")?;
+    push_node(alloc, names, &node, &GROUP_PARTS)
+}
+
+fn push_closed(alloc: Global, names: &mut Vec<Octs>, line: &Line) -> Result<(), AllocError>
+    ensures { OnOk result (names.new.items ≡ names.old.items ++ closed_by line.now) }
+{
+    match line {
+        Line::Attr(attr) => push_twin(alloc, names, attr),
+        Line::Brcb(block) => push_block(alloc, names, block),
+        Line::Ctl(control) => push_control(alloc, names, control),
+        Line::Sgcb(groups) => push_groups(alloc, names, groups),
+        _ => Ok(()),
+    }
+}
+
+/// What lines make, from the first to the last.
+pub fn closed_of(alloc: Global, lines: &[Line]) -> Result<Vec<Octs>, AllocError>
+    ensures { IfOk result (λ names. names.items ≡ closed_before (reverse lines.now)) }
+{
+    let mut names = Vec::new(alloc);
+    for line in lines {
+        push_closed(alloc, &mut names, line)?;
+    }
+    Ok(names)
+}

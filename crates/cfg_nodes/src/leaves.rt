@@ -1,0 +1,134 @@
+//! The nodes without parts that lines make, with the most octets of the Data of each.
+
+ghost use Rattle.std.specs.Prelude.{◌≡◌, ◌<◌, ◌++◌, ◌∷◌, [], map, codes, reverse, IfOk, OnOk};
+ghost use Rattle.cfg_lines.specs.Claims.{settings};
+ghost use Rattle.cfg_lines.specs.Paths.{below as below_front, item_key as item_key_of};
+ghost use Rattle.cfg_lines.specs.Sizes.{element_octets as element_octets_of, most_octets as most_octets_of};
+ghost use Rattle.cfg_lines.specs.Nodes.{leaves_by, leaves as leaves_before, setting_leaf};
+
+use cfg_lines::{Leaf, Line, below, item_key};
+use std::alloc::{AllocError, Global};
+use sv_base::{AttrDef, CtlDef, Octs, TypeOf};
+
+/// The octets of Data with so many octets of content.
+pub fn element_octets(content: u32) -> u32
+    requires { content < 65536 }
+    ensures { result ≡ element_octets_of content }
+{
+    if content < 128 {
+        2 + content
+    } else if content < 256 {
+        3 + content
+    } else {
+        4 + content
+    }
+}
+
+/// The most octets that the Data of a type may have.
+fn most_octets(kind: &TypeOf) -> u32
+    ensures { result ≡ most_octets_of kind.now }
+{
+    match kind {
+        TypeOf::Bool => 3,
+        TypeOf::Int(bits) => element_octets(u32::from(*bits) / 8),
+        TypeOf::Uint(bits) => element_octets(u32::from(*bits) / 8 + 1),
+        TypeOf::Bits(count) => element_octets(1 + (u32::from(*count) + 7) / 8),
+        TypeOf::Time => 10,
+        TypeOf::Text(most) => element_octets(u32::from(*most)),
+        TypeOf::Octets(most) => element_octets(u32::from(*most)),
+        _ => 0,
+    }
+}
+
+fn push_attribute(alloc: Global, leaves: &mut Vec<Leaf>, attr: &AttrDef) -> Result<(), AllocError>
+    ensures { OnOk result (leaves.new.items ≡ leaves.old.items ++ (record { name = item_key_of attr.now.domain attr.now.ln attr.now.fc attr.now.path; octets = most_octets_of attr.now.kind }) ∷ []) }
+{
+    let name = item_key(
+        alloc,
+        attr.domain.as_slice(),
+        attr.ln.as_slice(),
+        attr.fc.as_slice(),
+        attr.path.as_slice(),
+    )?;
+    leaves.push(Leaf {
+        name: Octs::from_vec(name),
+        octets: most_octets(&attr.kind),
+    })?;
+    Ok(())
+}
+
+fn push_setting(
+    alloc: Global,
+    leaves: &mut Vec<Leaf>,
+    front: &[u8],
+    part: &[u8],
+    octets: u32,
+) -> Result<(), AllocError>
+    ensures { OnOk result (leaves.new.items ≡ leaves.old.items ++ (record { name = below_front front.now part.now; octets = octets }) ∷ []) }
+{
+    let name = Octs::from_vec(below(alloc, front, part)?);
+    leaves.push(Leaf { name, octets })?;
+    Ok(())
+}
+
+/// What a control that is selected first has besides under CF.
+fn push_selection(alloc: Global, leaves: &mut Vec<Leaf>, front: &[u8]) -> Result<(), AllocError>
+    ensures { OnOk result (leaves.new.items ≡ leaves.old.items ++ map (setting_leaf front.now) (codes "sboTimeout" ∷ codes "sboClass" ∷ [])) }
+{
+    push_setting(alloc, leaves, front, b"sboTimeout", 7)?;
+    push_setting(alloc, leaves, front, b"sboClass", 3)?;
+    Ok(())
+}
+
+/// What a control has under CF.
+fn push_settings(
+    alloc: Global,
+    leaves: &mut Vec<Leaf>,
+    front: &[u8],
+    model: u8,
+) -> Result<(), AllocError>
+    ensures { OnOk result (leaves.new.items ≡ leaves.old.items ++ map (setting_leaf front.now) (settings model)) }
+{
+    push_setting(alloc, leaves, front, b"ctlModel", 3)?;
+    if model == 2 {
+        return push_selection(alloc, leaves, front);
+    }
+    if model == 4 {
+        return push_selection(alloc, leaves, front);
+    }
+    Ok(())
+}
+
+fn push_control(alloc: Global, leaves: &mut Vec<Leaf>, control: &CtlDef) -> Result<(), AllocError>
+    ensures { OnOk result (leaves.new.items ≡ leaves.old.items ++ map (setting_leaf (item_key_of control.now.domain control.now.ln (codes "CF") control.now.path)) (settings control.now.model)) }
+{
+    let front = item_key(
+        alloc,
+        control.domain.as_slice(),
+        control.ln.as_slice(),
+        b"CF",
+        control.path.as_slice(),
+    )?;
+    push_settings(alloc, leaves, &front, control.model)
+}
+
+fn push_leaves(alloc: Global, leaves: &mut Vec<Leaf>, line: &Line) -> Result<(), AllocError>
+    ensures { OnOk result (leaves.new.items ≡ leaves.old.items ++ leaves_by line.now) }
+{
+    match line {
+        Line::Attr(attr) => push_attribute(alloc, leaves, attr),
+        Line::Ctl(control) => push_control(alloc, leaves, control),
+        _ => Ok(()),
+    }
+}
+
+/// What lines make, from the first to the last.
+pub fn leaves_of(alloc: Global, lines: &[Line]) -> Result<Vec<Leaf>, AllocError>
+    ensures { IfOk result (λ leaves. leaves.items ≡ leaves_before (reverse lines.now)) }
+{
+    let mut leaves = Vec::new(alloc);
+    for line in lines {
+        push_leaves(alloc, &mut leaves, line)?;
+    }
+    Ok(leaves)
+}

@@ -1,0 +1,10 @@
+//! The nodes that the lines of a configuration make, to look up what a member of a data set names.
+#![tactic(auto)]
+
+mod closed;
+mod leaves;
+mod nodes;
+mod parts;
+mod sizes;
+
+pub use nodes::Nodes;

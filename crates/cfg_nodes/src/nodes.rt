@@ -1,0 +1,108 @@
+//! The nodes that lines make, to look up what a member of a data set names.
+
+ghost use Rattle.std.specs.Prelude.{◌≡◌, ℕ, List, map, reverse, IfOk};
+ghost use Rattle.cfg_lines.specs.Keys.{is_among};
+ghost use Rattle.cfg_lines.specs.Nodes.{reaches, is_node, is_member_node};
+ghost use Rattle.cfg_nodes.specs.Indexed.{is_node_in, is_member_in, capped};
+
+use crate::closed::closed_of;
+use crate::leaves::{element_octets, leaves_of};
+use crate::parts::Parts;
+use crate::sizes::Sizes;
+use cfg_lines::{Keys, Leaf, Line};
+use std::alloc::{AllocError, Global};
+use sv_base::Octs;
+
+/// The nodes, each found by its reference.
+#[derive(Drop)]
+pub struct Nodes {
+    /// Those that a data set may have, if they are not too large, with what is above them.
+    open: Keys,
+    /// Those that no data set may have, with what is above them.
+    closed: Keys,
+    sizes: Sizes,
+    parts: Parts,
+}
+
+/// These leaves and what is above them.
+fn open_of(alloc: Global, leaves: &[Leaf]) -> Result<Keys, AllocError>
+    ensures { IfOk result (λ keys. (node : List ℕ) → is_among keys node ≡ reaches (map (λ leaf. leaf.name) leaves.now) node) }
+{
+    let mut keys = Keys::new(alloc);
+    for leaf in leaves {
+        keys.add_with_above(alloc, leaf.name.as_slice())?;
+    }
+    Ok(keys)
+}
+
+/// These names and what is above them.
+fn above_of(alloc: Global, names: &[Octs]) -> Result<Keys, AllocError>
+    ensures { IfOk result (λ keys. (node : List ℕ) → is_among keys node ≡ reaches names.now node) }
+{
+    let mut keys = Keys::new(alloc);
+    for name in names {
+        keys.add_with_above(alloc, name.as_slice())?;
+    }
+    Ok(keys)
+}
+
+/// The octets, but 501 for all above 500.
+fn cap(octets: u32) -> u32
+    ensures { result ≡ capped octets }
+{
+    if octets > 500 { 501 } else { octets }
+}
+
+impl Nodes {
+    ghost use Rattle.cfg_lines.specs.Sizes.{octets_of};
+    ghost use Rattle.cfg_nodes.specs.Indexed.{octets_in, parts_in};
+
+    /// The nodes that lines make, from the first to the last.
+    pub fn of(alloc: Global, lines: &[Line]) -> Result<Self, AllocError>
+        ensures nodes { IfOk result (λ nodes. (node : List ℕ) → is_node_in nodes node ≡ is_node (reverse lines.now) node) }
+        ensures members { IfOk result (λ nodes. (node : List ℕ) → is_member_in nodes node ≡ is_member_node (reverse lines.now) node) }
+    {
+        let leaves = leaves_of(alloc, lines)?;
+        let closed = closed_of(alloc, lines)?;
+        Ok(Nodes {
+            open: open_of(alloc, &leaves)?,
+            closed: above_of(alloc, &closed)?,
+            sizes: Sizes::of(alloc, &leaves)?,
+            parts: Parts::of(alloc, &leaves)?,
+        })
+    }
+
+    /// A node has this reference.
+    pub fn has(&self, node: &[u8]) -> bool
+        ensures { result ≡ is_node_in self.now node.now }
+    {
+        self.open.has(node) || self.closed.has(node)
+    }
+
+    /// The most octets of the Data of a node, but 501 for all above 500. It goes no deeper than the number says.
+    fn octets(&self, depth: u32, node: &[u8]) -> u32
+        ensures { result ≡ capped (octets_of depth (octets_in self.now.sizes) (parts_in self.now.parts) node.now) }
+    {
+        if depth == 0 {
+            return 0;
+        }
+        if let Some(octets) = self.sizes.of_node(node) {
+            return cap(octets);
+        }
+        let mut sum = 0;
+        for part in self.parts.of_node(node) {
+            sum += self.octets(depth - 1, part);
+            if sum > 500 {
+                return 501;
+            }
+        }
+        cap(element_octets(sum))
+    }
+
+    /// A data set may have the node of this reference.
+    pub fn may_be_member(&self, node: &[u8]) -> bool
+        ensures { result ≡ is_member_in self.now node.now }
+    {
+        !self.closed.has(node) && self.octets(10, node) <= 500
+    }
+}

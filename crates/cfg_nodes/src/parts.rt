@@ -1,0 +1,92 @@
+//! What is directly below each structure.
+
+ghost use Rattle.std.specs.Prelude.{◌≡◌, ◌<◌, ℕ, List, map, IfOk, OnOk};
+ghost use Rattle.indexmap.specs.IndexMap.{index_map_len};
+ghost use Rattle.cfg_lines.specs.Sizes.{with_edge, with_name, children};
+ghost use Rattle.cfg_nodes.specs.Indexed.{IsAt, parts_at};
+
+use cfg_lines::{Keys, Leaf};
+use indexmap::IndexMap;
+use std::alloc::{AllocError, Global};
+
+/// The parts of the structures above some leaves.
+#[derive(Drop)]
+pub struct Parts {
+    below: IndexMap<Vec<u8>, Keys>,
+}
+
+/// The place of a node, which is added without parts where it isn't there.
+fn place_of(
+    alloc: Global,
+    below: &mut IndexMap<Vec<u8>, Keys>,
+    node: &[u8],
+) -> Result<usize, AllocError>
+    ensures place { IfOk result (λ i. IsAt node.now below.new.entries i) }
+    ensures within { IfOk result (λ i. i < index_map_len below.new) }
+    ensures same { OnOk result ((other : List ℕ) → parts_at below.new.entries other ≡ parts_at below.old.entries other) }
+{
+    if let Some(place) = below.get_index_of(node) {
+        return Ok(place);
+    }
+    let mut key = Vec::new(alloc);
+    key.extend_from_slice(node)?;
+    let (place, _) = below.insert_full(key, Keys::new(alloc))?;
+    Ok(place)
+}
+
+fn add_part(
+    alloc: Global,
+    below: &mut IndexMap<Vec<u8>, Keys>,
+    node: &[u8],
+    part: &[u8],
+) -> Result<(), AllocError>
+    ensures { OnOk result ((other : List ℕ) → parts_at below.new.entries other ≡ with_edge other (parts_at below.old.entries other) (node.now, part.now)) }
+{
+    let place = place_of(alloc, below, node)?;
+    below[place].add(alloc, part)?;
+    Ok(())
+}
+
+/// Adds to each structure above a path what is below it on the way there.
+fn add_path(
+    alloc: Global,
+    below: &mut IndexMap<Vec<u8>, Keys>,
+    path: &[u8],
+) -> Result<(), AllocError>
+    ensures { OnOk result ((other : List ℕ) → parts_at below.new.entries other ≡ with_name other (parts_at below.old.entries other) path.now) }
+{
+    let mut part = path;
+    for i in (0..path.len()).rev() {
+        if path[i] == b'$' {
+            add_part(alloc, below, &path[..i], part)?;
+            part = &path[..i];
+        }
+    }
+    Ok(())
+}
+
+impl Parts {
+    ghost use Rattle.cfg_lines.specs.Keys.{octets_of};
+    ghost use Rattle.cfg_nodes.specs.Indexed.{parts_in};
+
+    /// The parts above these.
+    pub fn of(alloc: Global, leaves: &[Leaf]) -> Result<Self, AllocError>
+        ensures { IfOk result (λ parts. (node : List ℕ) → parts_in parts node ≡ children (map (λ leaf. leaf.name) leaves.now) node) }
+    {
+        let mut below = IndexMap::new(alloc);
+        for leaf in leaves {
+            add_path(alloc, &mut below, leaf.name.as_slice())?;
+        }
+        Ok(Parts { below })
+    }
+
+    /// What is directly below a node; nothing where it isn't there.
+    pub fn of_node(&self, node: &[u8]) -> &[Vec<u8>]
+        ensures { map octets_of result.now ≡ parts_in self.now node.now }
+    {
+        match self.below.get(node) {
+            Some(parts) => parts.rows(),
+            None => &[],
+        }
+    }
+}

@@ -1,0 +1,77 @@
+//! The lines of a text, one after another.
+
+ghost use Rattle.std.specs.Prelude.{◌≡◌, ◌∷◌, ◌++◌, ◌==◌, ◌<◌, false, length, MatchOption};
+ghost use Rattle.std.specs.List.{All};
+ghost use Rattle.cfg_parser.specs.Reader.{GivesText};
+ghost use Rattle.cfg_parser.specs.Text.{lines_at, ended_at, next_at, fault_at};
+
+use crate::fault::{CfgFault, Kind, LineFault};
+use crate::telling;
+use cfg_lines::Place;
+use cfg_reading::Reading;
+use memchr::memchr;
+use std::alloc::Global;
+
+/// The octets before the first newline, and those after it.
+fn split_line(octets: &[u8]) -> Option<(&[u8], &[u8])>
+    ensures cut { MatchOption result (All (λ b. (b == 10) ≡ false) octets.now) (λ r. (octets.now ≡ r.0.now ++ 10 ∷ r.1.now) × All (λ b. (b == 10) ≡ false) r.0.now) }
+{
+    let at = memchr(b'\n', octets)?;
+    Some((&octets[..at], &octets[at + 1..]))
+}
+
+/// What is behind the last newline is nothing, and `end` was there.
+fn finish(reading: Reading, rest: &[u8]) -> Result<Reading, CfgFault>
+    ensures { GivesText result (ended_at reading rest.now) }
+{
+    if matches!(reading.place(), Place::Ended) && rest.is_empty() {
+        return Ok(reading);
+    }
+    Err(CfgFault::Refused {
+        line: reading.number(),
+        kind: Kind::Order,
+    })
+}
+
+/// The refusal of the line with this number.
+fn at_line(number: u32, fault: LineFault) -> CfgFault
+    ensures { result ≡ fault_at number fault }
+{
+    match fault {
+        LineFault::Refused(kind) => CfgFault::Refused { line: number, kind },
+        LineFault::Memory => CfgFault::Memory,
+    }
+}
+
+/// With what the next line tells.
+fn read_line(alloc: Global, reading: Reading, text: &[u8]) -> Result<Reading, CfgFault>
+    ensures { GivesText result (next_at reading text.now) }
+{
+    match telling::line(alloc, &reading, text) {
+        Ok(line) => {
+            let reading = reading.with(alloc, line)?;
+            Ok(reading)
+        }
+        Err(fault) => Err(at_line(reading.number(), fault)),
+    }
+}
+
+/// The lines of a configuration's text, each told by the lines before it, up to the line `end`.
+///
+/// Fails with the first line that is refused, counted from 1, and its kind: on one line Long, Word, Order and Many in this
+/// order, then word by word. An input that ends before `end` is refused as Order at the line behind the last. Nothing that a
+/// line names is looked up. `Memory` is want of memory.
+pub fn read_lines(alloc: Global, text: &[u8]) -> Result<Reading, CfgFault>
+    ensures { GivesText result (lines_at text.now) }
+{
+    let mut reading = Reading::new(alloc);
+    let mut rest = text;
+    while let Some((line, after)) = split_line(rest) {
+        match read_line(alloc, reading, line) {
+            Ok(next) => reading = next,
+            Err(fault) => return Err(fault),
+        }
+        rest = after;
+    }
+    finish(reading, rest)
+}

@@ -1,0 +1,8 @@
+//! The lines of a configuration that were read, what is kept of them for the next, and the configuration that they make.
+#![tactic(auto)]
+
+mod claiming;
+mod draft;
+mod reading;
+
+pub use reading::{Counts, Reading};

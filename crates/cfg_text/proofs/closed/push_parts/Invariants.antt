@@ -1,7 +1,0 @@
-use Rattle.std.proofs.Common.{◌≡◌, ◌++◌, take}
-use Rattle.cfg_text.specs.Words.{texts}
-use Rattle.cfg_text.specs.Nodes.{all_below}
-use Rattle.cfg_text.proofs.closed.push_parts.Given as goal
-
-abbrev pub invariant-loop-part : goal.invariant-loop-part
-invariant-loop-part l = l.names.items ≡ l.initial.names.items ++ all_below l.front (texts (take l.part-index l.parts))

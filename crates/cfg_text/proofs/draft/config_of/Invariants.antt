@@ -1,9 +1,0 @@
-use Rattle.std.proofs.Common.{◌≡◌, length, reverse}
-use Rattle.cfg_text.specs.Configs.{config_on, no_config, drafted}
-use Rattle.cfg_text.proofs.draft.config_of.Given as goal
-
-abbrev pub invariant-loop-line : goal.invariant-loop-line
-invariant-loop-line l = config_on (drafted l.draft) (reverse l.lines.items) ≡ config_on no_config l.fn.lines.items
-
-abbrev pub decreases-loop-line : goal.decreases-loop-line
-decreases-loop-line l = length l.lines.items

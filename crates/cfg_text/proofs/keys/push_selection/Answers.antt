@@ -1,9 +1,0 @@
-use Rattle.std.proofs.Common.{◌++◌, ◌∷◌, [], map, ap, ◌∙◌, append_assoc}
-use Rattle.std.specs.Prelude.{codes}
-use Rattle.cfg_text.specs.Taken.{octets_of}
-use Rattle.cfg_text.specs.Paths.{below}
-use Rattle.cfg_text.proofs.keys.push_selection.Goals as goal
-
-pub returns : goal.returns
-returns c = c.in_ok-push_below-2.ensures ∙ (ap (λ keys. keys ++ below c.args.front.now (codes "sboClass") ∷ []) c.in_ok-push_below.ensures
-    ∙ append_assoc (map octets_of c.args.keys.now.items) (below c.args.front.now (codes "sboTimeout") ∷ []) (below c.args.front.now (codes "sboClass") ∷ []))

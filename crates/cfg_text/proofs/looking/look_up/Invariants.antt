@@ -1,7 +1,0 @@
-use Rattle.std.proofs.Common.{◌≡◌, take, reverse}
-use Rattle.std.specs.Prelude.{Ok}
-use Rattle.cfg_text.specs.Looking.{looked_at}
-use Rattle.cfg_text.proofs.looking.look_up.Given as goal
-
-abbrev pub invariant-loop-i : goal.invariant-loop-i
-invariant-loop-i l = looked_at l.reading (reverse (take l.i l.lines)) ≡ Ok tt

@@ -1,5 +1,0 @@
-use Rattle.std.proofs.Common.{length}
-use Rattle.cfg_text.proofs.names.+item_of.Given as goal
-
-abbrev pub decreases-item_of : goal.decreases-item_of
-decreases-item_of l = length l.reference.now

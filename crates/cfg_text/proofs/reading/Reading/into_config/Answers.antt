@@ -1,7 +1,0 @@
-use Rattle.std.proofs.Common.{ap, ◌∙◌}
-use Rattle.cfg_text.specs.Configs.{config_of}
-use Rattle.cfg_text.proofs.ConfigLaws.{config-on}
-use Rattle.cfg_text.proofs.reading.Reading.into_config.Goals as goal
-
-pub returns : goal.returns
-returns c = c.in_ok-config.ensures ∙ (config-on c.self.inside.kept.lines.items ∙ ap config_of c.self.view_is)

@@ -1,6 +1,0 @@
-use Rattle.std.proofs.Common.{arith, ap, length}
-use Rattle.cfg_text.proofs.KnownLaws.{known-groups}
-use Rattle.cfg_text.proofs.reading.Reading.with_groups.Goals as goal
-
-pub invariant_of-result : goal.invariant_of-result
-invariant_of-result c = known-groups c.self.inside.kept.lines.items c.push.new.self.items c.args.groups c.self.invariant (omega (arith, c.requires.few, ap length c.self.view_is)) c.in_ok-push.ensures.items c.in_ok-kept.field-0 c.in_ok-kept.ensures

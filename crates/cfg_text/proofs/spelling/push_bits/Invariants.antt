@@ -1,6 +1,0 @@
-use Rattle.std.proofs.Common.{◌≡◌, ◌∷◌, ◌++◌, take}
-use Rattle.cfg_text.specs.Spelled.{bits_word}
-use Rattle.cfg_text.proofs.spelling.push_bits.Given as goal
-
-abbrev pub invariant-loop-bit : goal.invariant-loop-bit
-invariant-loop-bit l = l.out.items ≡ l.fn.out.items ++ 32 ∷ bits_word (take l.bit-index l.bits)

@@ -1,7 +1,0 @@
-use Rattle.std.proofs.Common.{◌≡◌, ◌++◌, take, map}
-use Rattle.cfg_text.specs.declared.line.Line.TheVariants.{Set}
-use Rattle.cfg_text.specs.Objects.{line_of}
-use Rattle.cfg_text.proofs.writing.add_sets.Given as goal
-
-abbrev pub invariant-loop-set : goal.invariant-loop-set
-invariant-loop-set l = map line_of l.out.items ≡ map line_of l.fn.out.items ++ map Set (take l.set-index l.sets)

@@ -1,0 +1,4 @@
+pub mod OrderLaws
+pub mod JoinLaws
+pub mod TextOfLaws
+pub mod PlacedLaws

@@ -1,0 +1,7 @@
+pub mod NumberLaws
+pub mod DigitLaws
+pub mod ValueLaws
+pub mod WordLaws
+pub mod SpelledWordLaws
+pub mod ReadWordLaws
+pub mod NameLaws

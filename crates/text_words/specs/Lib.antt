@@ -1,0 +1,8 @@
+pub mod Octets
+pub mod Words
+pub mod Names
+pub mod Numbers
+pub mod Types
+pub mod Values
+pub mod Spelled
+pub mod Grammar

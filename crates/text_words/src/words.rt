@@ -1,0 +1,25 @@
+//! The words of a line, divided by spaces.
+
+ghost use Rattle.std.specs.Prelude.{◌≡◌, ◌==◌, IfOk, option_copied};
+ghost use Rattle.text_words.specs.Words.{behind, texts};
+ghost use Rattle.std.specs.List.{slice_split};
+
+use std::alloc::{AllocError, Global};
+
+/// What stands between the separators.
+pub fn parts_of<'a>(
+    alloc: Global,
+    octets: &'a [u8],
+    separator: u8,
+) -> Result<Vec<&'a [u8]>, AllocError>
+    ensures { IfOk result (λ v. texts v.items ≡ slice_split (λ b. b == separator) octets.now) }
+{
+    octets.split(|octet| *octet == separator).collect(alloc)
+}
+
+/// What stands behind a front.
+pub fn after_front<'a>(octets: &'a [u8], front: &[u8]) -> Option<&'a [u8]>
+    ensures { option_copied result ≡ behind front.now octets.now }
+{
+    octets.strip_prefix(front)
+}
