@@ -22,7 +22,7 @@ use Rattle.object_model.specs.Fits.{attr_types, is_typed, setting_fits, fits}
 use Rattle.text_words.specs.Numbers.{greatest}
 use Rattle.text_words.specs.Values.{value_at}
 use Rattle.text_words.specs.Grammar.{IsOfType}
-use Rattle.ber_grammar.proofs.OptionLaws.{some_is}
+use Rattle.list_laws.proofs.Options.{some_is}
 use Rattle.text_words.proofs.ReadWordLaws.{value-tells}
 use Rattle.text_configs.proofs.ValueLaws.{of-kind, sound, in-range}
 use Rattle.run_record.specs.declared.pairs.Pair.{Pair}
