@@ -1,29 +1,45 @@
 //! What the words `-h`, `--help` and `--version` show, and where to.
 use crate::{USAGE, VERSION, show, shown};
-use cfg_text::Kind;
 use replay_run::status::Status;
 use std::test::Fail;
 use sv_io::{Calls, MemSink};
 
+/// The kinds of refused lines of a record, in the order of their numbers.
+const RECORD_KINDS: [run_record::Kind; 9] = [
+    run_record::Kind::Word,
+    run_record::Kind::Number,
+    run_record::Kind::Name,
+    run_record::Kind::Value,
+    run_record::Kind::State,
+    run_record::Kind::Hex,
+    run_record::Kind::NoEnd,
+    run_record::Kind::Long,
+    run_record::Kind::NotBuilt,
+];
+
 /// The kinds of refused lines of a configuration.
-const KINDS: [Kind; 12] = [
-    Kind::Word,
-    Kind::Order,
-    Kind::Name,
-    Kind::Duplicate,
-    Kind::TypeName,
-    Kind::Flags,
-    Kind::Value,
-    Kind::Number,
-    Kind::Unknown,
-    Kind::Long,
-    Kind::Many,
-    Kind::Member,
+const CONFIG_KINDS: [cfg_text::Kind; 12] = [
+    cfg_text::Kind::Word,
+    cfg_text::Kind::Order,
+    cfg_text::Kind::Name,
+    cfg_text::Kind::Duplicate,
+    cfg_text::Kind::TypeName,
+    cfg_text::Kind::Flags,
+    cfg_text::Kind::Value,
+    cfg_text::Kind::Number,
+    cfg_text::Kind::Unknown,
+    cfg_text::Kind::Long,
+    cfg_text::Kind::Many,
+    cfg_text::Kind::Member,
 ];
 
 #[test]
-fn each_kind_of_a_configuration_is_named(rt: HostRuntime) -> Result<(), Fail> {
-    for kind in KINDS {
+fn each_kind_is_named(rt: HostRuntime) -> Result<(), Fail> {
+    for kind in RECORD_KINDS {
+        let line = format!(in rt.alloc(); "\n  {}  {kind:?}: {kind}\n", kind.number())?;
+        assert!(rt; USAGE.contains(line.as_str()), "{line}");
+    }
+    for kind in CONFIG_KINDS {
         let line = format!(in rt.alloc(); "\n  {:>2}  {kind:?}: {kind}\n", kind.number())?;
         assert!(rt; USAGE.contains(line.as_str()), "{line}");
     }
