@@ -1,0 +1,8 @@
+pub mod CommandLaws
+pub mod EachLaws
+pub mod StandLaws
+pub mod EndingLaws
+pub mod SingleLaws
+pub mod TurnLaws
+pub mod SelectedLaws
+pub mod CallLaws

@@ -1,0 +1,12 @@
+pub mod Coding
+pub mod Commands
+pub mod Blame
+pub mod Stages
+pub mod Controls
+pub mod Opening
+pub mod Answers
+pub mod Tables
+pub mod Standing
+pub mod SelectionsAre
+pub mod TerminationsWait
+pub mod CallsAccepted
