@@ -19,6 +19,8 @@ mod associations;
 #[cfg(test)]
 mod blocks;
 #[cfg(test)]
+mod controls;
+#[cfg(test)]
 mod entries;
 #[cfg(test)]
 mod sets;
