@@ -5,7 +5,8 @@ use Rattle.sv_base.specs.declared.value.Value.{Value}
 use Rattle.sv_base.specs.declared.value.Value.TheVariants as kinds
 use Rattle.bay_model.specs.declared.components.Comp.{Comp}
 use Rattle.bay_model.specs.declared.components.Comp.TheVariants as comps
-use Rattle.bay_model.specs.Model.{Attr, Node, Kind, Tree, Trees, reported, truth, int, bits, time, attribute, component, leaf, structure, none, more, single, several}
+use Rattle.bay_model.specs.Model.{Attr, Node, Tree, Trees, reported, attribute, component, leaf, structure, none, more, single, several}
+use Rattle.bay_rooms.specs.Kinds.{Kind, truth, int, bits, time}
 
 abbrev pub domain : List ℕ
 domain = codes "BAY1"

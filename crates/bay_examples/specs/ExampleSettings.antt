@@ -3,7 +3,10 @@
 use Rattle.std.specs.Prelude.{ℕ, pos, List, [], ◌∷◌, ◌++◌, false, codes}
 use Rattle.sv_base.specs.declared.value.Value.TheVariants as kinds
 use Rattle.bay_model.specs.Model as model
-use Rattle.bay_model.specs.Model.{Model, Node, Attr, Access, SettingComp, NumOfSG, ActSG, EditSG, CnfEdit, LActTm, Trees, attribute, setting, leaf, structure, none, more, single, int}
+use Rattle.bay_model.specs.Model.{Model, Node, Attr, Access, Trees, attribute, setting, leaf, structure, none, more, single}
+use Rattle.bay_model.specs.declared.components.SettingComp.{SettingComp}
+use Rattle.bay_model.specs.declared.components.SettingComp.TheVariants.{NumOfSG, ActSG, EditSG, CnfEdit, LActTm}
+use Rattle.bay_rooms.specs.Kinds.{int}
 use Rattle.bay_model.specs.ComponentTable.{setting_components}
 use Rattle.bay_examples.specs.ExampleNodes.{domain, node, nodes, attrs_with, power, attribute_node, within}
 use Rattle.bay_examples.specs.Example.{example}

@@ -86,14 +86,6 @@ fn opened_bay(alloc: Global) -> Result<Bay, AllocError>
     Bay::open(alloc, model)
 }
 
-#[test]
-fn no_step_is_made_when_a_bay_is_opened(rt: HostRuntime) -> Result<(), Fail> {
-    let bay = opened_bay(rt.alloc())?;
-    assert_eq!(rt; bay.steps(), 0);
-    assert!(rt; !bay.is_open(AssocNo(1)));
-    Ok(())
-}
-
 /// Makes a step of the process and hands its answer back.
 fn step_and_reuse(bay: &mut Bay, alloc: Global, step: &Step) -> Result<(), StepFault>
     requires fits { fits bay.old.config step.now ≡ true }
@@ -127,8 +119,11 @@ fn boxed_bay(alloc: Global) -> Result<Box<Bay>, AllocError>
 }
 
 #[test]
-fn steps_go_on_after_an_answer_is_handed_back(rt: HostRuntime) -> Result<(), Fail> {
+fn a_bay_counts_its_steps_and_tells_which_associations_are_open(
+    rt: HostRuntime,
+) -> Result<(), Fail> {
     let mut bay = boxed_bay(rt.alloc())?;
+    assert_eq!(rt; bay.steps(), 0);
     three_steps(&mut bay, rt.alloc())?;
     assert_eq!(rt; bay.steps(), 3);
     assert!(rt; bay.is_open(AssocNo(1)));

@@ -1,3 +1,4 @@
+//! Each status with its exit number and its words.
 use replay_run::status::Status;
 use std::test::Fail;
 

@@ -1,3 +1,4 @@
+//! The run of examples/first-run.record in memory.
 use replay_run::status::Status;
 use replay_run::tool::tool;
 use std::alloc::{AllocError, Global};

@@ -22,9 +22,9 @@ use Rattle.object_model.specs.Fits.{attr_types, is_typed, setting_fits, fits}
 use Rattle.text_words.specs.Numbers.{greatest}
 use Rattle.text_words.specs.Values.{value_at}
 use Rattle.text_words.specs.Grammar.{IsOfType}
-use Rattle.ber_grammar.proofs.OptionLaws.{some_is}
+use Rattle.list_laws.proofs.Options.{some_is}
 use Rattle.text_words.proofs.ReadWordLaws.{value-tells}
-use Rattle.text_configs.proofs.ValueLaws.{of-kind, sound, in-range}
+use Rattle.text_values.proofs.ValueLaws.{of-kind, sound, in-range}
 use Rattle.run_record.specs.declared.pairs.Pair.{Pair}
 use Rattle.record_steps.specs.Settings.{number_at, typed_at, setting, setting_of, setting_at, behind_those, settings_from, settings_at}
 

@@ -26,7 +26,7 @@ use Rattle.run_record.specs.Grammar.{IsAssoc}
 use Rattle.record_steps.specs.Shapes.{is_bits, bits_of, signed_of, number_of, text_of, marked_at, truth_or, shape_at}
 use Rattle.record_steps.specs.Resolved.{turn_of}
 use Rattle.record_steps.specs.Told.{turn, refused}
-use Rattle.text_configs.proofs.ValueLaws.{sound}
+use Rattle.text_values.proofs.ValueLaws.{sound}
 
 -- the place of an element is one of the list's
 place-within : (m n i : ℕ) → cond (nat_lt m n) (Some m) None ≡ Some i → i < n

@@ -1,3 +1,4 @@
+//! The numbers of the calls that are to fail.
 ghost use Rattle.std.specs.Prelude.{◌≡◌, ◌↔◌, IsTrue, Contains};
 
 use std::marker::Model;

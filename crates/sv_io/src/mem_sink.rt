@@ -1,3 +1,4 @@
+//! A sink in memory, whose listed writes fail.
 ghost use Rattle.std.specs.Prelude.{◌≡◌, ◌⊎◌, Some, [], Contains, OnErr, OnOk, IsErr};
 ghost use Rattle.std.specs.Io.KnownBytes.{Appends};
 ghost use Rattle.sv_io.specs.Causes.{counted, Rose, HasCause, GrowsByFront};

@@ -1,3 +1,4 @@
+//! A source in memory, whose listed reads fail.
 ghost use Rattle.std.specs.Prelude.{◌≡◌, ◌↔◌, Some, min, length, Contains, IfOk, OnErr, OnOk, IsErr};
 ghost use Rattle.std.specs.Io.{ReadsAtMost};
 ghost use Rattle.std.specs.Io.KnownBytes.{ReadConsumes};

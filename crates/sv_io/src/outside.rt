@@ -1,9 +1,74 @@
+//! A reader and a writer of std as a source and a sink: a call that a signal interrupted is made again.
 ghost use Rattle.std.specs.Prelude.{◌≡◌};
+ghost use Rattle.std.specs.Io.{ReadsAtMost, WritesAtMost};
+ghost use Rattle.std.specs.Io.KnownBytes.{ReadConsumes, WriteAppends, Keeps};
 
 use crate::traits::{Failed, Sink, Source};
-use std::io::{Read, Write};
+use std::io::{Error, ErrorKind, Read, Write};
 
-/// A reader of std, whose failed reads are counted.
+/// How many calls in a row a signal may interrupt; after so many the call has failed.
+const TRIES: u32 = 1000;
+
+/// A signal came before the call had done anything.
+fn is_interrupted(error: &Error) -> bool {
+    error.kind() == ErrorKind::Interrupted
+}
+
+/// A read, made again where a signal interrupted it.
+fn read_again<R: Read>(inner: &mut R, buf: &mut [u8]) -> Result<usize, Failed>
+    ensures bound { ReadsAtMost result buf.new }
+    ensures bytes { ReadConsumes (R.remaining inner.old) (R.remaining inner.new) result buf.new }
+{
+    for _ in 0..TRIES {
+        match inner.read(buf) {
+            Ok(count) => return Ok(count),
+            Err(error) => {
+                if !is_interrupted(&error) {
+                    return Err(Failed);
+                }
+            }
+        }
+    }
+    Err(Failed)
+}
+
+/// A write, made again where a signal interrupted it.
+fn write_again<W: Write>(inner: &mut W, piece: &[u8]) -> Result<usize, Failed>
+    ensures bound { WritesAtMost result piece.now }
+    ensures bytes { WriteAppends (W.contents inner.old) (W.contents inner.new) result piece.now }
+{
+    for _ in 0..TRIES {
+        match inner.write(piece) {
+            Ok(count) => return Ok(count),
+            Err(error) => {
+                if !is_interrupted(&error) {
+                    return Err(Failed);
+                }
+            }
+        }
+    }
+    Err(Failed)
+}
+
+/// A flush, made again where a signal interrupted it.
+fn flush_again<W: Write>(inner: &mut W) -> Result<(), Failed>
+    ensures bytes { Keeps (W.contents inner.old) (W.contents inner.new) }
+{
+    for _ in 0..TRIES {
+        match inner.flush() {
+            Ok(()) => return Ok(()),
+            Err(error) => {
+                if !is_interrupted(&error) {
+                    return Err(Failed);
+                }
+            }
+        }
+    }
+    Err(Failed)
+}
+
+/// A reader of std, whose failed reads are counted. A read that a signal interrupted is none, unless a thousand are
+/// in a row.
 #[derive(Drop)]
 pub struct ReadSource<R> {
     inner: R,
@@ -32,9 +97,9 @@ impl<R: Read> Source for ReadSource<R> {
     ghost faults = { λ s. s.faults };
 
     fn read(&mut self, buf: &mut [u8]) -> Result<usize, Failed> {
-        match self.inner.read(buf) {
+        match read_again(&mut self.inner, buf) {
             Ok(count) => Ok(count),
-            Err(_) => {
+            Err(Failed) => {
                 self.faults = self.faults.saturating_add(1);
                 Err(Failed)
             }
@@ -43,7 +108,7 @@ impl<R: Read> Source for ReadSource<R> {
 }
 
 /// A writer of std, whose failed writes are counted. A write that takes nothing of a piece that isn't empty is one,
-/// and so is a flush that fails.
+/// and so is a flush that fails. One that a signal interrupted is none, unless a thousand are in a row.
 #[derive(Drop)]
 pub struct WriteSink<W> {
     inner: W,
@@ -81,17 +146,17 @@ impl<W: Write> Sink for WriteSink<W> {
     fn write_all(&mut self, piece: &[u8]) -> Result<(), Failed> {
         let mut rest = piece;
         while !rest.is_empty() {
-            match self.inner.write(rest) {
-                Ok(0) | Err(_) => {
+            match write_again(&mut self.inner, rest) {
+                Ok(0) | Err(Failed) => {
                     self.faults = self.faults.saturating_add(1);
                     return Err(Failed);
                 }
                 Ok(count) => rest = &rest[count..],
             }
         }
-        match self.inner.flush() {
+        match flush_again(&mut self.inner) {
             Ok(()) => Ok(()),
-            Err(_) => {
+            Err(Failed) => {
                 self.faults = self.faults.saturating_add(1);
                 Err(Failed)
             }

@@ -1,3 +1,4 @@
+//! Sources and sinks, in memory and over readers and writers of std.
 use super::*;
 use std::alloc::Global;
 use std::io::{self, Error, ErrorKind, Read, Write};
@@ -68,6 +69,40 @@ impl Write for Narrow {
 
     fn flush(&mut self) -> io::Result<()> {
         Ok(())
+    }
+}
+
+/// A reader and writer that a signal interrupts so many times, before it gives or takes all at each call.
+#[derive(Drop)]
+struct Interrupted {
+    times: u32,
+}
+
+impl Interrupted {
+    fn call(&mut self) -> io::Result<()> {
+        if self.times == 0 {
+            return Ok(());
+        }
+        self.times = self.times.saturating_sub(1);
+        Err(Error::from(ErrorKind::Interrupted))
+    }
+}
+
+impl Read for Interrupted {
+    fn read(&mut self, buf: &mut [u8]) -> io::Result<usize> {
+        self.call()?;
+        Ok(buf.len())
+    }
+}
+
+impl Write for Interrupted {
+    fn write(&mut self, buf: &[u8]) -> io::Result<usize> {
+        self.call()?;
+        Ok(buf.len())
+    }
+
+    fn flush(&mut self) -> io::Result<()> {
+        self.call()
     }
 }
 
@@ -147,5 +182,22 @@ fn a_writer_of_std_is_a_sink(rt: HostRuntime) -> Result<(), Fail> {
         "!+!"
     );
     assert_eq!(rt; sink.faults(), 2);
+    Ok(())
+}
+
+#[test]
+fn an_interrupted_call_is_made_again(rt: HostRuntime) -> Result<(), Fail> {
+    for (times, succeeds, faults) in [(2, true, 0), (999, true, 0), (4294967295, false, 1)] {
+        let mut source = ReadSource::new(Interrupted { times });
+        let mut buf = [0; 4];
+        assert_eq!(rt; source.read(&mut buf).is_ok(), succeeds, "{times}");
+        assert_eq!(rt; source.faults(), faults, "{times}");
+        let mut sink = WriteSink::new(Interrupted { times });
+        assert_eq!(rt; sink.write_all(b"piece").is_ok(), succeeds, "{times}");
+        assert_eq!(rt; sink.faults(), faults, "{times}");
+        let mut sink = WriteSink::new(Interrupted { times });
+        assert_eq!(rt; sink.write_all(b"").is_ok(), succeeds, "{times}");
+        assert_eq!(rt; sink.faults(), faults, "{times}");
+    }
     Ok(())
 }

@@ -4,11 +4,10 @@ use Rattle.std.specs.Prelude.{slice_index}
 use Rattle.std.specs.Str.{bytes_eq}
 use Rattle.std.proofs.lemmas.Bool.Decides.{nat_tests, eqb_tells}
 use Rattle.std.proofs.lemmas.List.{take_at}
-use Rattle.list_laws.proofs.Distinct.{octets_same}
-use Rattle.cfg_lines.specs.Keys.{is_among}
-use Rattle.cfg_lines.specs.Keys.{added}
+use Rattle.cfg_lines.specs.Keys.{is_among, added}
 use Rattle.cfg_lines.specs.Paths.{above_within, above}
 use Rattle.cfg_lines.specs.Sizes.{edges_within, edges, with_edge, with_name, children}
+use Rattle.list_laws.proofs.Distinct.{octets_same}
 use Rattle.list_laws.proofs.Among.{Among, some-passes, passes}
 use Rattle.text_configs.proofs.JoinedLaws.{NoDollar}
 use Rattle.text_configs.proofs.NamedLaws.{bytes-same, with-old, with-new}

@@ -29,7 +29,8 @@ use Rattle.text_configs.proofs.NamedLaws.{bytes-same, not-not}
 use Rattle.text_configs.proofs.StandLaws.{IsPlainText, plain-text, nodes-read}
 use Rattle.text_configs.proofs.AttrLaws.{key_of, attrs-read, attrs-beside}
 use Rattle.text_configs.proofs.SetLaws.{blocks-read, few-blocks, sets-read, member-named, found-of, leaf_of, leaves-are}
-use Rattle.text_configs.proofs.ValueLaws.{first-value, all-sound}
+use Rattle.text_values.proofs.ValueLaws.{all-sound}
+use Rattle.text_configs.proofs.ValueLaws.{first-value}
 use Rattle.text_configs.proofs.PathLaws.{reference-of}
 use Rattle.text_configs.proofs.CountLaws.{counted}
 use Rattle.text_configs.proofs.BelowLaws.{IsTold}

@@ -1,0 +1,84 @@
+"""What the benches share: the program under test, the machine that they print, and the time and the memory of a run."""
+import os
+import platform
+import resource
+import shutil
+import subprocess
+import sys
+import threading
+import time
+
+TOP = os.path.dirname(os.path.dirname(os.path.abspath(__file__)))
+
+
+def program_of(arguments):
+    """The program that is named, or bin/bay_tool, which scripts/build makes where it isn't there."""
+    program = os.path.abspath(arguments[1] if len(arguments) > 1 else os.path.join(TOP, "bin", "bay_tool"))
+    if not os.path.exists(program):
+        subprocess.run([os.path.join(TOP, "scripts", "build")], check=True)
+    return program
+
+
+def version_of(command):
+    """The first line that a command prints about its version."""
+    if not shutil.which(command[0]):
+        return "none"
+    return subprocess.run(command, stdout=subprocess.PIPE, text=True).stdout.split("\n")[0]
+
+
+def print_machine(*compilers):
+    """Prints the processor, how many there are, the kernel, and the version of rt and of other compilers."""
+    name = platform.machine()
+    with open("/proc/cpuinfo") as f:
+        names = [line.split(":", 1)[1].strip() for line in f if line.startswith("model name")]
+    print(f"machine: {names[0] if names else name}, {os.cpu_count()} processors, {platform.system()} {platform.release()}")
+    print(f"compiler: {version_of(['rt', 'version'])}")
+    for compiler in compilers:
+        print(f"compiler: {version_of([compiler, '--version'])}")
+    sys.stdout.flush()
+
+
+def least_seconds(program, path, times):
+    """The least of the seconds of several replays of the record at this path; the answers go to /dev/null."""
+    least = None
+    for _ in range(times):
+        with open(path, "rb") as source:
+            start = time.perf_counter()
+            status = subprocess.run([program, "replay"], stdin=source, stdout=subprocess.DEVNULL).returncode
+            took = time.perf_counter() - start
+        if status != 0:
+            sys.exit(f"bench: status {status} on {path}")
+        least = took if least is None else min(least, took)
+    return least
+
+
+def processor_seconds(command, octets, wanted):
+    """The processor seconds of a run on these octets, which has to print what is wanted."""
+    before = resource.getrusage(resource.RUSAGE_CHILDREN)
+    run = subprocess.run(command, input=octets, stdout=subprocess.PIPE)
+    after = resource.getrusage(resource.RUSAGE_CHILDREN)
+    if run.returncode != 0 or run.stdout != wanted:
+        sys.exit(f"bench: {os.path.basename(command[0])}: status {run.returncode}, answer {run.stdout}, and not {wanted}")
+    return after.ru_utime + after.ru_stime - before.ru_utime - before.ru_stime
+
+
+def peak(program, text, answers):
+    """The peak of memory in kB of a replay of this record, as the kernel says when all answers but the last line's are
+    there; the answers have to be these. The last line is held back until then."""
+    run = subprocess.Popen([program, "replay"], stdin=subprocess.PIPE, stdout=subprocess.PIPE)
+    last = len("end\n")
+
+    def feed():
+        run.stdin.write(text[:-last])
+        run.stdin.flush()
+
+    feeder = threading.Thread(target=feed)
+    feeder.start()
+    got = run.stdout.read(len(answers) - last)
+    feeder.join()
+    with open(f"/proc/{run.pid}/status") as f:
+        kilobytes = next(int(line.split()[1]) for line in f if line.startswith("VmHWM"))
+    got += run.communicate(text[-last:])[0]
+    if got != answers or run.returncode != 0:
+        sys.exit("bench: the answers are not those of the model")
+    return kilobytes

@@ -1,0 +1,82 @@
+//! What the words `-h`, `--help` and `--version` show, and where to.
+use crate::{USAGE, VERSION, show, shown};
+use replay_run::status::Status;
+use std::test::Fail;
+use sv_io::{Calls, MemSink};
+
+/// The kinds of refused lines of a record, in the order of their numbers.
+const RECORD_KINDS: [run_record::Kind; 9] = [
+    run_record::Kind::Word,
+    run_record::Kind::Number,
+    run_record::Kind::Name,
+    run_record::Kind::Value,
+    run_record::Kind::State,
+    run_record::Kind::Hex,
+    run_record::Kind::NoEnd,
+    run_record::Kind::Long,
+    run_record::Kind::NotBuilt,
+];
+
+/// The kinds of refused lines of a configuration.
+const CONFIG_KINDS: [cfg_text::Kind; 12] = [
+    cfg_text::Kind::Word,
+    cfg_text::Kind::Order,
+    cfg_text::Kind::Name,
+    cfg_text::Kind::Duplicate,
+    cfg_text::Kind::TypeName,
+    cfg_text::Kind::Flags,
+    cfg_text::Kind::Value,
+    cfg_text::Kind::Number,
+    cfg_text::Kind::Unknown,
+    cfg_text::Kind::Long,
+    cfg_text::Kind::Many,
+    cfg_text::Kind::Member,
+];
+
+#[test]
+fn each_kind_is_named(rt: HostRuntime) -> Result<(), Fail> {
+    for kind in RECORD_KINDS {
+        let line = format!(in rt.alloc(); "\n  {}  {kind:?}: {kind}\n", kind.number())?;
+        assert!(rt; USAGE.contains(line.as_str()), "{line}");
+    }
+    for kind in CONFIG_KINDS {
+        let line = format!(in rt.alloc(); "\n  {:>2}  {kind:?}: {kind}\n", kind.number())?;
+        assert!(rt; USAGE.contains(line.as_str()), "{line}");
+    }
+    Ok(())
+}
+
+#[test]
+fn only_a_word_alone_shows_a_text(rt: HostRuntime) -> Result<(), Fail> {
+    let alloc = rt.alloc();
+    for (words, text) in [
+        (["-h"].as_slice(), Some(USAGE)),
+        (["--help"].as_slice(), Some(USAGE)),
+        (["--version"].as_slice(), Some(VERSION)),
+        (["--help", "replay"].as_slice(), None),
+        (["-h", "-h"].as_slice(), None),
+        (["help"].as_slice(), None),
+        ([].as_slice(), None),
+    ] {
+        let mut given = Vec::new(alloc);
+        for word in words {
+            given.push(String::from_str(alloc, word)?)?;
+        }
+        assert_eq!(rt; shown(&given), text);
+    }
+    Ok(())
+}
+
+#[test]
+fn a_text_that_is_not_written_is_a_failed_write(rt: HostRuntime) -> Result<(), Fail> {
+    let alloc = rt.alloc();
+    for (fails, status, written) in [
+        ([].as_slice(), Status::Ok, VERSION),
+        ([1].as_slice(), Status::WriteFault, ""),
+    ] {
+        let mut sink = MemSink::new(alloc, Calls::from_vec(Vec::from_slice(alloc, fails)?));
+        assert_eq!(rt; show(VERSION, &mut sink), status);
+        assert_eq!(rt; sink.octets(), written.as_bytes());
+    }
+    Ok(())
+}

@@ -1,0 +1,2 @@
+-- the values that texts spell: of their types, within their ranges, and sound
+pub mod ValueLaws
