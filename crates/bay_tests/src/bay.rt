@@ -98,16 +98,32 @@ fn step_and_reuse(bay: &mut Bay, alloc: Global, step: &Step) -> Result<(), StepF
     Ok(())
 }
 
-/// Three steps; an answer is handed back before each of them.
+/// Two steps; an answer is handed back before each of them.
+fn two_steps(bay: &mut Bay, alloc: Global) -> Result<(), StepFault>
+    requires { bay.old.steps ≡ 0 }
+    ensures { OnOk result (bay.new.steps ≡ 2) }
+{
+    bay.reuse(Answer::Empty);
+    step_and_reuse(bay, alloc, &Step::Tick)?;
+    step_and_reuse(bay, alloc, &Step::Take(AssocNo(1)))
+}
+
+/// An association is opened.
+fn open_one(bay: &mut Bay, alloc: Global) -> Result<(), StepFault>
+    requires { bay.old.steps < 2 ^ 62 }
+    ensures { OnOk result (bay.new.steps ≡ suc bay.old.steps) }
+{
+    let (a, size, writer) = (AssocNo(1), 65000, ActorNo(1));
+    step_and_reuse(bay, alloc, &Step::Open { a, size, writer })
+}
+
+/// Three steps, the last of which opens an association.
 fn three_steps(bay: &mut Bay, alloc: Global) -> Result<(), StepFault>
     requires { bay.old.steps ≡ 0 }
     ensures { OnOk result (bay.new.steps ≡ 3) }
 {
-    let (a, size, writer) = (AssocNo(1), 65000, ActorNo(1));
-    bay.reuse(Answer::Empty);
-    step_and_reuse(bay, alloc, &Step::Tick)?;
-    step_and_reuse(bay, alloc, &Step::Take(a))?;
-    step_and_reuse(bay, alloc, &Step::Open { a, size, writer })
+    two_steps(bay, alloc)?;
+    open_one(bay, alloc)
 }
 
 /// A bay with two blocks, in a box.
