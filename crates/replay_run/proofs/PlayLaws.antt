@@ -1,10 +1,9 @@
 -- What a line does, by what it tells.
-use Rattle.std.proofs.Common.{◌≡◌, ◌≤◌, ◌++◌, ◌∷◌, ℕ, Bool, true, List, [], sym, ap, subst, refl, ◌∙◌, append-nil}
+use Rattle.std.proofs.Common.{◌≡◌, ◌++◌, ◌∷◌, ℕ, Bool, true, List, [], sym, ap, subst, refl, ◌∙◌, append-nil}
 use Rattle.std.specs.Prelude.{Option, None, Some, Result, Ok, Err, OnErr, codes}
 use Rattle.sv_base.specs.declared.config.Config.{Config}
 use Rattle.sv_base.specs.declared.numbers.AssocNo.{AssocNo}
 use Rattle.bay_model.specs.Named.{configured_model}
-use Rattle.bay_model.specs.Acceptance.{fault}
 use Rattle.bay_model.specs.Answers.{Turn, answer}
 use Rattle.bay_model.specs.declared.answer.Answer.{Answer}
 use Rattle.bay_model.specs.declared.step.Step.{Step}
@@ -24,7 +23,7 @@ use Rattle.record_steps.specs.Telling.{telling, Names}
 use Rattle.record_steps.specs.declared.telling.Told as told_as
 use Rattle.record_steps.specs.Own.{IsOwn}
 use Rattle.record_steps.proofs.ToldLaws.{told-own}
-use Rattle.replay_run.specs.Played.{Played, turn_at, at_moment, is_open}
+use Rattle.replay_run.specs.Played.{Played, turn_at, is_open}
 use Rattle.replay_run.specs.Steps.{accepted, played, told_at, step_at}
 use Rattle.replay_run.specs.Plays.{Plays, Performs, PlaysTo, PlaysOn, plays_told}
 use Rattle.replay_run.specs.declared.playing.Playing.{Playing}
