@@ -26,7 +26,3 @@ mod sets;
 mod triggers;
 #[cfg(test)]
 mod values;
-
-// the whole bay
-#[cfg(test)]
-mod bay;
