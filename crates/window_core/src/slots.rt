@@ -1,4 +1,5 @@
-//! What is gathered of each member of a data set.
+//! What is gathered of each member of a data set: its octets lie behind those that came before, and a slot a member says
+//! where.
 
 ghost use Rattle.std.specs.Prelude.{◌≡◌, ◌≤◌, ◌+◌, ◌++◌, ◌∷◌, [], length};
 ghost use Rattle.window_core.specs.Pieces.{octets_of as octets_in};
@@ -9,18 +10,18 @@ use bay_rooms::{Fixed, MemberBytes};
 use std::alloc::{AllocError, Global};
 use std::marker::Model;
 
-/// The most octets that are kept of a member.
-pub const LARGEST: usize = 504;
+/// The most octets that are kept of a member: its number and its reasons in two octets each, and 500 of MMS Data.
+const LARGEST: u32 = 504;
 
-/// Where the octets of a member lie.
+/// Where the octets of a member lie: from which place on, and how many.
 #[derive(Clone, Copy, Debug)]
-pub struct Span {
+struct Span {
     at: usize,
     len: usize,
 }
 
-/// The octets of members, in room that was made before. Contracts see the members that are there, in the order of the data
-/// set.
+/// The octets of members, in room that was made before, 504 octets a member. Contracts see how many members have a slot, and
+/// those that are there, in the order of the data set.
 #[derive(Drop)]
 pub struct Slots {
     spans: Vec<Option<Span>>,
@@ -64,19 +65,19 @@ impl Slots {
     ghost use Rattle.std.specs.Prelude.{◌≡◌, ◌≤◌, ◌<◌, ◌*◌, [], true, false, length, IfOk};
     ghost use Rattle.window_core.specs.Pieces.{insert, insert_all, is_there, octets_of, mentions, pieces, AreNumbers, AreRow};
 
-    /// None of so many members is there.
+    /// None of so many members is there, at most 256. It takes all the room that is ever needed.
     pub fn new(alloc: Global, members: u32) -> Result<Slots, AllocError>
         requires { members ≤ 256 }
         ensures { IfOk result (λ s. s ≡ record { members = members; pieces = [] }) }
     {
         Ok(Slots {
             spans: vec![in alloc; None; members as usize]?,
-            octets: Fixed::new(alloc, members * 504)?,
+            octets: Fixed::new(alloc, members * LARGEST)?,
         })
     }
 
-    /// A member is there.
-    pub fn is_there(&self, number: u32) -> bool
+    /// A member is there, by its number from 1.
+    fn is_there(&self, number: u32) -> bool
         requires from { 1 ≤ number }
         requires to { number ≤ self.now.members }
         ensures { result ≡ is_there number self.now.pieces }
@@ -84,8 +85,8 @@ impl Slots {
         self.spans[number as usize - 1].is_some()
     }
 
-    /// Puts the octets of a member that isn't there. It takes no memory.
-    pub fn put(&mut self, number: u32, octets: &[u8])
+    /// Puts the octets of a member that isn't there, at most 504. It takes no memory.
+    fn put(&mut self, number: u32, octets: &[u8])
         requires from { 1 ≤ number }
         requires to { number ≤ self.old.members }
         requires short { length octets.now ≤ 504 }
@@ -100,8 +101,8 @@ impl Slots {
         });
     }
 
-    /// The octets of all members, in the order of the data set, in place of what stood there; then none is there. It takes no
-    /// memory.
+    /// Pours out the octets of all members, in the order of the data set, in place of what stood there; then none is there. It
+    /// takes no memory.
     pub fn pour(&mut self, out: &mut Fixed)
         requires { 504 * self.old.members ≤ out.old.room }
         ensures poured { out.new ≡ record { items = octets_of self.old.pieces; room = out.old.room } }

@@ -1,4 +1,4 @@
-//! The window in which a block gathers its events.
+//! The window in which a block gathers its events (IEC 61850-7-2, BRCB attribute BufTm).
 
 use crate::slots::Slots;
 use bay_model::Mention;
@@ -7,8 +7,8 @@ use std::alloc::{AllocError, Global};
 use std::marker::Model;
 use sv_base::Moment;
 
-/// What a block has gathered since its first event. Contracts see the buffer time, and the members in the order of the data
-/// set.
+/// The open group of a block: the members that its events mentioned since the first of them, each with what is kept of it.
+/// Contracts see how many members have room, the buffer time, and what is gathered, in the order of the data set.
 #[derive(Drop)]
 pub struct Window {
     buf_tm: u32,
@@ -34,7 +34,8 @@ impl Window {
     ghost use Rattle.window_core.specs.Pieces.{pieces, AreRow, AreNumbers};
     ghost use Rattle.window_core.specs.Windows.{empty, closed, is_over as is_over_at, over_at, after_time, ends, closed_by, after_event, told, joined, is_met as is_met_in};
 
-    /// A window of a data set of so many members, with nothing in it. It takes all the room that it ever needs.
+    /// An empty window for a data set of so many members, at most 256, under a buffer time in milliseconds. It takes all the
+    /// room that it ever needs; no other call takes memory.
     pub fn open(alloc: Global, members: u32, buf_tm: u32) -> Result<Window, AllocError>
         requires { members ≤ 256 }
         ensures { IfOk result (λ w. w ≡ empty members buf_tm) }
@@ -46,7 +47,7 @@ impl Window {
         })
     }
 
-    /// Another buffer time, where nothing is gathered.
+    /// Sets the buffer time, in milliseconds, where nothing is gathered.
     pub fn set_time(&mut self, buf_tm: u32)
         requires { self.old.gathered ≡ None }
         ensures { self.new ≡ empty self.old.members buf_tm }
@@ -54,8 +55,8 @@ impl Window {
         self.buf_tm = buf_tm;
     }
 
-    /// Closes what is gathered, if anything is: gives the moment of its first event, and puts its octets into `out`. It takes
-    /// no memory.
+    /// Closes what is gathered, if anything is: gives the moment of its first event, and puts its octets into `out` in place of
+    /// what stood there, the members in the order of the data set. `out` has room for 504 octets a member. It takes no memory.
     pub fn close(&mut self, out: &mut Fixed) -> Option<Moment>
         requires { 504 * self.old.members ≤ out.old.room }
         ensures told { option_map (λ m. (m, out.new.items)) result ≡ told self.old.gathered }
@@ -82,7 +83,8 @@ impl Window {
         }
     }
 
-    /// Closes what is gathered where its buffer time has passed, as [`Window::close`] does.
+    /// Lets time pass: closes what is gathered where its buffer time has passed since its first event, as [`Window::close`]
+    /// does.
     pub fn advance(&mut self, now: Moment, out: &mut Fixed) -> Option<Moment>
         requires { 504 * self.old.members ≤ out.old.room }
         ensures told { option_map (λ m. (m, out.new.items)) result ≡ told (over_at now self.old) }
@@ -134,8 +136,10 @@ impl Window {
         }
     }
 
-    /// An event: it closes what is gathered where it doesn't go to it, as [`Window::close`] does, and begins anew; with a buffer
-    /// time of 0 it is closed itself. `bytes` has what is kept of each member that is mentioned. It takes no memory.
+    /// Takes in an event. Where the buffer time has passed, or a member that it mentions is gathered already, what is gathered
+    /// is closed, as [`Window::close`] does, and the event begins anew; else it goes to what is gathered. With a buffer time of 0
+    /// the event itself is closed. `note` has the members in ascending order, `bytes` what is kept of each of them, at most 504
+    /// octets. At most one entry closes. It takes no memory.
     pub fn add(
         &mut self,
         now: Moment,
