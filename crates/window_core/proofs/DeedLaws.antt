@@ -1,5 +1,5 @@
 -- Which deeds are events, which break a block, and which change what its events are gathered by.
-use Rattle.std.proofs.Common.{◌≡◌, ◌≢◌, ℕ, ◌⊎◌, inl, inr, Bool, true, false, not, List, [], ◌∷◌, refl, sym, ap, ap₂, ◌∙◌}
+use Rattle.std.proofs.Common.{◌≡◌, ◌≢◌, ℕ, ◌⊎◌, inl, inr, Bool, true, false, not, List, [], ◌∷◌, refl, sym, ap₂, ◌∙◌}
 use Rattle.std.specs.Prelude.{if◌then◌else◌, ◌==◌, ◌||◌, ◌&&◌}
 use Rattle.std.specs.Str.{bytes_eq}
 use Rattle.std.proofs.lemmas.Bool.Decides.{eqb_tells}
@@ -11,7 +11,7 @@ use Rattle.bay_model.specs.declared.components.Comp.{Comp}
 use Rattle.bay_model.specs.declared.components.Comp.TheVariants as comps
 use Rattle.bay_model.specs.Model.{Model, Parameters}
 use Rattle.bay_model.specs.Points.{Deed, valued, put, activated, confirmed, wrote, Past}
-use Rattle.bay_model.specs.Parameters.{parameters_at, parameters_after, written_to, is_changed_by, is_purging_change, is_purge, purges, is_interrogation}
+use Rattle.bay_model.specs.Parameters.{parameters_at, written_to, is_changed_by, is_purging_change, is_purge, purges, is_interrogation}
 use Rattle.bay_model.specs.Notes.{Kept, note}
 use Rattle.bay_model.specs.Breaks.{cuts}
 use Rattle.window_core.specs.Points.{at}

@@ -12,7 +12,7 @@ use Rattle.bay_model.specs.Singles.{arrival}
 use Rattle.window_core.specs.Windows.{Windowed, empty, closed, after_time, after_event}
 use Rattle.window_core.specs.Standing.{Stands, IsTimed, piece_of, window_at}
 use Rattle.window_core.specs.Points.{at}
-use Rattle.window_core.proofs.DeedLaws.{event-plain, event-same, break-quiet, unbroken-unchanged, unchanged}
+use Rattle.window_core.proofs.DeedLaws.{event-plain, event-same, unbroken-unchanged, unchanged}
 use Rattle.window_core.proofs.GroupLaws.{time, period, event_comes, block_breaks, stays, no-group}
 
 -- a window that stands for a past

@@ -32,7 +32,7 @@ impl Window {
     ghost use Rattle.std.specs.Prelude.{◌≡◌, ◌≢◌, ◌≤◌, ◌*◌, ◌||◌, [], false, length, None, Some, IfOk, if◌then◌else◌};
     ghost use Rattle.std.specs.Option.{option_map};
     ghost use Rattle.window_core.specs.Pieces.{pieces, AreRow, AreNumbers};
-    ghost use Rattle.window_core.specs.Windows.{empty, closed, is_over as is_over_at, over_at, after_time, ends, closed_by, after_event, told, joined, is_met as is_met_in};
+    ghost use Rattle.window_core.specs.Windows.{empty, closed, is_over as is_over_at, over_at, after_time, closed_by, after_event, told, joined, is_met as is_met_in};
 
     /// An empty window for a data set of so many members, at most 256, under a buffer time in milliseconds. It takes all the
     /// room that it ever needs; no other call takes memory.
