@@ -19,8 +19,6 @@ mod associations;
 #[cfg(test)]
 mod blocks;
 #[cfg(test)]
-mod controls;
-#[cfg(test)]
 mod entries;
 #[cfg(test)]
 mod sets;
@@ -28,7 +26,3 @@ mod sets;
 mod triggers;
 #[cfg(test)]
 mod values;
-
-// the whole bay
-#[cfg(test)]
-mod bay;

@@ -161,10 +161,10 @@ opers_act c a k v past = by (went c k operate a v past) refl where
   typed false e = absurd (cc e)
 
   reads : (x : Option Command) → is_command (control_of c k).kind operate x ≡ true
-      → is_some (option_map_or (λ (m : Command). if m.test then None else Some (record { control = record { 0 = k }; value = value_of m.value; by = record { 0 = a } })) x None) ≡ not (option_map_or (λ (m : Command). m.test) x false)
+      → is_some {T = Act} (option_map_or (λ (m : Command). if m.test then None else Some (record { control = record { 0 = k }; value = value_of m.value; by = record { 0 = a } })) x None) ≡ not (option_map_or (λ (m : Command). m.test) x false)
   reads None h = absurd (false_true h)
   reads (Some m) h = test m.test where
-    test : (b : Bool) → is_some (if b then None else Some (record { control = record { 0 = k }; value = value_of m.value; by = record { 0 = a } })) ≡ not b
+    test : (b : Bool) → is_some {T = Act} (if b then None else Some (record { control = record { 0 = k }; value = value_of m.value; by = record { 0 = a } })) ≡ not b
     test true = refl
     test false = refl
 
@@ -196,8 +196,8 @@ abbrev ActIs : Model → ℕ → Past → Deed → Type 0
 ActIs c a past d = (x : Act) → act_of d ≡ Some x → IsOper c a past x
 
 quiet-act : (c : Model) (a : ℕ) (past : Past) (d : Deed) → IsNoCall d → ActIs c a past d
-quiet-act c a past (called b k call v) h = absurd h
-quiet-act c a past (selected_control b k) h = absurd h
+quiet-act c a past (called b k call v) h x e = absurd h
+quiet-act c a past (selected_control b k) h x e = absurd h
 quiet-act c a past (lost b) h x e = absurd (cc e)
 quiet-act c a past (opened b o w) h x e = absurd (cc e)
 quiet-act c a past (valued s) h x e = absurd (cc e)

@@ -4,8 +4,10 @@ use Rattle.std.specs.Prelude.{⊤, Result, Ok, Err, ◌||◌, if◌then◌else�
 use Rattle.sv_base.specs.declared.value.Value.{Value}
 use Rattle.sv_base.specs.declared.value.Value.TheVariants as kinds
 use Rattle.bay_model.specs.declared.components.Comp.{Comp}
+use Rattle.bay_model.specs.declared.components.SettingComp.{SettingComp}
+use Rattle.bay_model.specs.declared.components.SettingComp.TheVariants.{ActSG, EditSG, CnfEdit}
 use Rattle.bay_model.specs.Model as model
-use Rattle.bay_model.specs.Model.{Model, Access, Role, Block, SettingComp, Call, Tree, single, selecting, calling, several, ActSG, EditSG, CnfEdit, select, operate, cancel}
+use Rattle.bay_model.specs.Model.{Model, Access, Role, Block, Call, Tree, single, selecting, calling, several, select, operate, cancel}
 use Rattle.bay_model.specs.Lookups.{attr_of, node_of, control_of}
 use Rattle.bay_model.specs.Points.{Deed, wrote, put, copied, activated, edited, called, lost, valued, blocked, reported, nothing, confirmed, selected_control, Past}
 use Rattle.bay_rooms.specs.Kinds.{is_kind, is_in_range}

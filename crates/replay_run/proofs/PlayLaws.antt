@@ -1,10 +1,9 @@
 -- What a line does, by what it tells.
-use Rattle.std.proofs.Common.{◌≡◌, ◌≤◌, ◌++◌, ◌∷◌, ℕ, Bool, true, List, [], sym, ap, subst, refl, ◌∙◌, append-nil}
+use Rattle.std.proofs.Common.{◌≡◌, ◌++◌, ◌∷◌, ℕ, Bool, true, List, [], sym, ap, subst, refl, ◌∙◌, append-nil}
 use Rattle.std.specs.Prelude.{Option, None, Some, Result, Ok, Err, OnErr, codes}
 use Rattle.sv_base.specs.declared.config.Config.{Config}
 use Rattle.sv_base.specs.declared.numbers.AssocNo.{AssocNo}
 use Rattle.bay_model.specs.Named.{configured_model}
-use Rattle.bay_model.specs.Acceptance.{fault}
 use Rattle.bay_model.specs.Answers.{Turn, answer}
 use Rattle.bay_model.specs.declared.answer.Answer.{Answer}
 use Rattle.bay_model.specs.declared.step.Step.{Step}
@@ -24,7 +23,7 @@ use Rattle.record_steps.specs.Telling.{telling, Names}
 use Rattle.record_steps.specs.declared.telling.Told as told_as
 use Rattle.record_steps.specs.Own.{IsOwn}
 use Rattle.record_steps.proofs.ToldLaws.{told-own}
-use Rattle.replay_run.specs.Played.{Played, turn_at, at_moment, is_open}
+use Rattle.replay_run.specs.Played.{Played, turn_at, is_open}
 use Rattle.replay_run.specs.Steps.{accepted, played, told_at, step_at}
 use Rattle.replay_run.specs.Plays.{Plays, Performs, PlaysTo, PlaysOn, plays_told}
 use Rattle.replay_run.specs.declared.playing.Playing.{Playing}
@@ -103,33 +102,27 @@ module _ (old : Playing) (number : ℕ) (line : RecLine) (there : Bool)
 
   -- where the slot has this step
   module _ (slot : Step) (before : List ℕ) where
-    slotted : (c : Config) (s : Played) → Plays old c s → Plays (record old { step = slot }) c s
-    slotted c s p = record { moment = p.moment; stands = p.stands; owned = p.owned }
-
-    pub does-nothing : IsTold tells.skip → PlaysOn None old (record old { step = slot }) (plays_told number line) before before
+    pub does-nothing : IsTold tells.skip → PlaysOn None old old (plays_told number line) before before
     unfolding played
-    does-nothing is = does None (record old { step = slot }) before before tells.skip is (λ c s p. (slotted c s p, nothing-written before before refl))
+    does-nothing is = does None old before before tells.skip is (λ c s p. (p, nothing-written before before refl))
 
-    pub does-pass : (moment : ℕ) → IsTold (tells.pass_to moment) → PlaysOn None old (record old { moment = moment; step = slot }) (plays_told number line) before before
+    pub does-pass : (moment : ℕ) → IsTold (tells.pass_to moment) → PlaysOn None old (record old { moment = moment }) (plays_told number line) before before
     unfolding played
-    does-pass moment is = does None (record old { moment = moment; step = slot }) before before (tells.pass_to moment) is
+    does-pass moment is = does None (record old { moment = moment }) before before (tells.pass_to moment) is
         (λ c s p. (record { moment = refl; stands = p.stands; owned = p.owned }, nothing-written before before refl))
 
-    pub does-own : (actor : ℕ) → IsTold (tells.turn actor slot) → (c : Config) (s : Played) → Plays (record old { step = slot }) c s → IsOwn (is_open c s.turns) actor slot
-    does-own actor is c s p = step-own actor slot is c s (record { moment = p.moment; stands = p.stands; owned = p.owned })
-
-    pub does-perform : (new : Playing) (actor : ℕ) (now : List ℕ) → IsTold (tells.turn actor slot) → Performs (record old { step = slot }) new actor slot before now → PlaysOn None old new (plays_told number line) before now
+    pub does-perform : (new : Playing) (actor : ℕ) (now : List ℕ) → IsTold (tells.turn actor slot) → Performs old new actor slot before now → PlaysOn None old new (plays_told number line) before now
     unfolding played
     does-perform new actor now is perform = does None new before now (tells.turn actor slot) is (λ c s p.
-        let m = perform c s (slotted c s p) in subst (λ f. PlaysTo None new (accepted number c s (turn_at s actor slot) f) before now) (sym m.0) (m.1, m.2))
+        let m = perform c s p in subst (λ f. PlaysTo None new (accepted number c s (turn_at s actor slot) f) before now) (sym m.0) (m.1, m.2))
 
-    pub does-refuse : (kind : ℕ) → IsTold (tells.refused kind) → PlaysOn (Some (statuses.Record number kind)) old (record old { step = slot }) (plays_told number line) before before
+    pub does-refuse : (kind : ℕ) → IsTold (tells.refused kind) → PlaysOn (Some (statuses.Record number kind)) old old (plays_told number line) before before
     unfolding played
-    does-refuse kind is = does (Some (statuses.Record number kind)) (record old { step = slot }) before before (tells.refused kind) is (λ c s p. (refl, nothing-written before before refl))
+    does-refuse kind is = does (Some (statuses.Record number kind)) old before before (tells.refused kind) is (λ c s p. (refl, nothing-written before before refl))
 
-    pub does-end : (now : List ℕ) → IsTold tells.last → now ≡ before ++ codes "end\n" → PlaysOn (Some statuses.Ok) old (record old { step = slot }) (plays_told number line) before now
+    pub does-end : (now : List ℕ) → IsTold tells.last → now ≡ before ++ codes "end\n" → PlaysOn (Some statuses.Ok) old old (plays_told number line) before now
     unfolding played
-    does-end now is out = does (Some statuses.Ok) (record old { step = slot }) before now tells.last is (λ c s p. (refl, out))
+    does-end now is out = does (Some statuses.Ok) old before now tells.last is (λ c s p. (refl, out))
 
 -- a line that tells something, and one that is refused
 module _ (old new : Playing) (number : ℕ) (text before now : List ℕ) where

@@ -5,9 +5,9 @@ ghost use Rattle.text_words.specs.Words.{texts};
 ghost use Rattle.run_record.specs.Judging.{is_long as is_long_text};
 ghost use Rattle.replay_run.specs.Plays.{Opens, HeadedAs};
 
-use cfg_text::{are_printable, is_skipped, parts_of};
 use run_record::Kind;
 use std::alloc::{AllocError, Global};
+use text_words::{are_printable, is_skipped, parts_of};
 
 /// What a line before the configuration is.
 #[derive(Clone, Copy, Debug, PartialEq, Eq)]

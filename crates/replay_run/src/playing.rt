@@ -14,8 +14,6 @@ use sv_base::{ActorNo, Moment};
 pub struct Playing {
     bay: Bay,
     moment: Moment,
-    /// Where the step of a line is made; of no account between lines.
-    step: Step,
 }
 
 impl Playing {
@@ -44,7 +42,6 @@ impl Playing {
         Playing {
             bay,
             moment: Moment::first(),
-            step: Step::Tick,
         }
     }
 
@@ -66,16 +63,17 @@ impl Playing {
         alloc: Global,
         out: &mut Vec<u8>,
         actor: ActorNo,
+        step: &Step,
     ) -> Result<(), AllocError>
-        requires fits { fits self.old.bay.config self.old.step ≡ true }
-        requires built { IsBuilt self.old.step }
-        requires own { (c : Config) (s : Played) → Plays self.old c s → IsOwn (is_open_after c s.turns) actor.0 self.old.step }
+        requires fits { fits self.old.bay.config step.now ≡ true }
+        requires built { IsBuilt step.now }
+        requires own { (c : Config) (s : Played) → Plays self.old c s → IsOwn (is_open_after c s.turns) actor.0 step.now }
         requires few { self.old.bay.steps < 2 ^ 62 }
-        ensures performs { OnOk result (Performs self.old self.new actor.0 self.old.step out.old.items out.new.items) }
-        ensures faultless { OnErr result ((c : Config) (s : Played) → Plays self.old c s → fault (configured_model c) s.turns (turn_at s actor.0 self.old.step) ≡ None) }
+        ensures performs { OnOk result (Performs self.old self.new actor.0 step.now out.old.items out.new.items) }
+        ensures faultless { OnErr result ((c : Config) (s : Played) → Plays self.old c s → fault (configured_model c) s.turns (turn_at s actor.0 step.now) ≡ None) }
         ensures few { OnOk result (self.new.bay.steps ≤ suc self.old.bay.steps) }
     {
-        match self.bay.step(alloc, self.moment, actor, &self.step) {
+        match self.bay.step(alloc, self.moment, actor, step) {
             Ok(answer) => {
                 push_answer(out, self.bay.model(), actor, &answer)?;
                 self.bay.reuse(answer);
@@ -85,13 +83,14 @@ impl Playing {
         }
     }
 
-    /// Does what a line tells, and writes the answer to it; or gives the status with which the reading stops.
+    /// Does what a line tells, whose step is made in a slot, and writes the answer to it; or gives the status with which the reading stops.
     fn play(
         &mut self,
         alloc: Global,
         out: &mut Vec<u8>,
         number: u64,
         line: &LineView<'_>,
+        step: &mut Step,
     ) -> Result<Option<Status>, AllocError>
         requires ranges { IsLine (line_seen line.now) }
         requires few { self.old.bay.steps < 2 ^ 62 }
@@ -100,14 +99,14 @@ impl Playing {
         ensures few { IfOk result (λ s. IfNone s (self.new.bay.steps ≤ suc self.old.bay.steps)) }
     {
         let is_open = self.is_open(line);
-        match tell(alloc, self.bay.model(), is_open, line, &mut self.step)? {
+        match tell(alloc, self.bay.model(), is_open, line, step)? {
             Told::Nothing => Ok(None),
             Told::At(moment) => {
                 self.moment = moment;
                 Ok(None)
             }
             Told::Step(actor) => {
-                self.perform(alloc, out, actor)?;
+                self.perform(alloc, out, actor, step)?;
                 Ok(None)
             }
             Told::Refused(kind) => Ok(Some(Status::Record {
@@ -135,7 +134,7 @@ impl Playing {
         ensures few { IfOk result (λ s. IfNone s (self.new.bay.steps ≤ suc self.old.bay.steps)) }
     {
         match view_line(line) {
-            Ok(line) => self.play(alloc, out, number, &line),
+            Ok(line) => self.play(alloc, out, number, &line, &mut Step::Tick),
             Err(kind) => Ok(Some(Status::Record {
                 line: number,
                 kind: kind.number(),

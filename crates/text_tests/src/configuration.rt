@@ -325,7 +325,7 @@ fn text_of(alloc: Global, limit: &Limit, count: u32) -> Result<Vec<u8>, AllocErr
 fn first_wrong_limit(alloc: Global) -> Result<Option<usize>, AllocError> {
     for (i, limit) in LIMITS.iter().enumerate() {
         let most = text_of(alloc, limit, limit.most)?;
-        let more = text_of(alloc, limit, limit.most + 1)?;
+        let more = text_of(alloc, limit, limit.most.saturating_add(1))?;
         if answer(alloc, &most)? != None || answer(alloc, &more)? != Some((limit.refused, 11)) {
             return Ok(Some(i));
         }
@@ -336,7 +336,9 @@ fn first_wrong_limit(alloc: Global) -> Result<Option<usize>, AllocError> {
 /// How a configuration with a remark of so many octets is answered.
 fn remark(alloc: Global, octets: usize) -> Result<Refused, AllocError> {
     let mut text = Vec::from_slice(alloc, HEAD)?;
-    text.resize(text.len() + octets, b'#')?;
+    let mut line = Vec::new(alloc);
+    line.resize(octets, b'#')?;
+    text.extend_from_slice(&line)?;
     text.extend_from_slice(b"\nend\n")?;
     answer(alloc, &text)
 }

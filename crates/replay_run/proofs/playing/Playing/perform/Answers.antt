@@ -10,14 +10,14 @@ use Rattle.replay_run.proofs.playing.Playing.perform.Goals as goal
 pub returns-in_ok-push_answer-in-Ok-clause-performs :
     goal.returns-in_ok-push_answer-in-Ok-clause-performs
 returns-in_ok-push_answer-in-Ok-clause-performs c =
-    performs c.args.self.now (record c.args.self.now { bay = c.reuse.new.self }) c.args.actor.0 c.args.self.now.step c.in-Ok.answer c.args.out.now.items c.push_answer.new.out.items refl
-    (subst (λ b. Does c.args.self.now.bay b (record { moment = c.args.self.now.moment; actor = c.args.actor.0; step = c.args.self.now.step }) (Ok c.in-Ok.answer)) (sym c.reuse.ensures) c.in-Ok.ensures.does)
+    performs c.args.self.now (record c.args.self.now { bay = c.reuse.new.self }) c.args.actor.0 c.args.step.now c.in-Ok.answer c.args.out.now.items c.push_answer.new.out.items refl
+    (subst (λ b. Does c.args.self.now.bay b (record { moment = c.args.self.now.moment; actor = c.args.actor.0; step = c.args.step.now }) (Ok c.in-Ok.answer)) (sym c.reuse.ensures) c.in-Ok.ensures.does)
     c.requires.own
     (c.in_ok-push_answer-in-Ok.ensures ∙ ap (λ k. c.args.out.now.items ++ answer_lines k c.args.actor.0 c.in-Ok.answer) (c.model.ensures ∙ sym (ap (λ (b : State). b.config) c.reuse.ensures)))
 
 pub returns-in-Err-clause-faultless : goal.returns-in-Err-clause-faultless
-returns-in-Err-clause-faultless c = λ k s p. own-accepted k s.turns s.moment c.args.actor.0 c.args.self.now.step (c.requires.own k s p) p.owned
+returns-in-Err-clause-faultless c = λ k s p. own-accepted k s.turns s.moment c.args.actor.0 c.args.step.now (c.requires.own k s p) p.owned
 
 pub returns-in_err-push_answer-in-Ok-clause-faultless :
     goal.returns-in_err-push_answer-in-Ok-clause-faultless
-returns-in_err-push_answer-in-Ok-clause-faultless c = on_err c.from_residual.result _ (λ k s p. own-accepted k s.turns s.moment c.args.actor.0 c.args.self.now.step (c.requires.own k s p) p.owned)
+returns-in_err-push_answer-in-Ok-clause-faultless c = on_err c.from_residual.result _ (λ k s p. own-accepted k s.turns s.moment c.args.actor.0 c.args.step.now (c.requires.own k s p) p.owned)

@@ -4,7 +4,7 @@ use Rattle.run_record.specs.Seen.{line_seen}
 use Rattle.record_steps.specs.declared.telling.Told.TheVariants as tolds
 use Rattle.replay_run.specs.Plays.{PlaysOn, plays_told}
 use Rattle.replay_run.specs.declared.status.Status.TheVariants as statuses
-use Rattle.replay_run.proofs.PlayLaws.{is-told, step-fits, step-built, does-own, does-nothing, does-pass, does-perform, does-refuse, does-end}
+use Rattle.replay_run.proofs.PlayLaws.{is-told, step-fits, step-built, step-own, does-nothing, does-pass, does-perform, does-refuse, does-end}
 use Rattle.replay_run.proofs.playing.Playing.play.Goals as goal
 
 pub perform-requires-clause-fits : goal.perform-requires-clause-fits
@@ -19,7 +19,7 @@ perform-requires-clause-built c =
 
 pub perform-requires-clause-own : goal.perform-requires-clause-own
 perform-requires-clause-own c =
-    does-own c.args.self.now c.args.number (line_seen c.args.line.now) c.is_open-is_open.result c.is_open-is_open.ensures c.tell.new.step c.args.out.now.items c.in-Step.actor.0
+    step-own c.args.self.now c.args.number (line_seen c.args.line.now) c.is_open-is_open.result c.is_open-is_open.ensures c.in-Step.actor.0 c.tell.new.step
     (is-told c.args.self.now (line_seen c.args.line.now) c.is_open-is_open.result c.model.result.now c.tell.new.step c.in_ok-tell.field-0 (tolds.Step c.in-Step.actor) c.model.ensures c.in-Step.is c.in_ok-tell.ensures.told)
 
 pub returns-in-Nothing-clause-plays : goal.returns-in-Nothing-clause-plays
@@ -40,7 +40,7 @@ returns-in_ok-perform-in-Step-clause-plays c =
 pub returns-in-Refused-clause-plays : goal.returns-in-Refused-clause-plays
 returns-in-Refused-clause-plays c =
     subst
-    (λ n. PlaysOn (Some (statuses.Record c.args.number n)) c.args.self.now (record c.args.self.now { step = c.tell.new.step }) (plays_told c.args.number (line_seen c.args.line.now)) c.args.out.now.items c.args.out.now.items)
+    (λ n. PlaysOn (Some (statuses.Record c.args.number n)) c.args.self.now c.args.self.now (plays_told c.args.number (line_seen c.args.line.now)) c.args.out.now.items c.args.out.now.items)
     (sym c.number.ensures)
     (does-refuse c.args.self.now c.args.number (line_seen c.args.line.now) c.is_open-is_open.result c.is_open-is_open.ensures c.tell.new.step c.args.out.now.items _
     (is-told c.args.self.now (line_seen c.args.line.now) c.is_open-is_open.result c.model.result.now c.tell.new.step c.in_ok-tell.field-0 (tolds.Refused c.in-Refused.kind) c.model.ensures c.in-Refused.is c.in_ok-tell.ensures.told))

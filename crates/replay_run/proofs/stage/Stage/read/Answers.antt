@@ -2,13 +2,16 @@ use Rattle.std.proofs.Common.{◌≡◌, ◌≤◌, suc, true, false, refl, sym,
 use Rattle.std.specs.Prelude.{codes, IfNone}
 use Rattle.std.specs.Str.{bytes_eq}
 use Rattle.std.proofs.lemmas.Result.{IfOk-weaker}
+use Rattle.cfg_parser.specs.Looking.{config_at}
+use Rattle.replay_run.specs.Openings.{started}
+use Rattle.replay_run.specs.Plays.{Starts}
 use Rattle.replay_run.specs.Sessions.{steps_in}
 use Rattle.replay_run.specs.declared.stage.Stage.TheVariants as stages
 use Rattle.replay_run.proofs.StageLaws.{on-opening, on-gathered, on-started, on-playing, few-none}
 use Rattle.replay_run.proofs.stage.Stage.read.Goals as goal
 
-pub returns-else-branch-clause-moves : goal.returns-else-branch-clause-moves
-returns-else-branch-clause-moves c =
+pub returns-then-not-branch-clause-moves : goal.returns-then-not-branch-clause-moves
+returns-then-not-branch-clause-moves c =
     let last : bytes_eq c.args.line.now (codes "end") ≡ false = search rules in
     on-gathered c.in-Configuring.before c.in-Configuring.text c.gather.new.text c.args.self.now (stages.Configuring c.in-Configuring.before c.gather.new.text) c.args.number c.args.line.now c.args.out.now.items
     c.in-Configuring.is refl c.in_ok-gather-in-Configuring.ensures.text last
@@ -26,21 +29,13 @@ returns-in-Opening-clause-few c = IfOk-weaker c.open.result _ _ (λ s h. few-non
 pub returns-in-Opening-clause-early : goal.returns-in-Opening-clause-early
 returns-in-Opening-clause-early c = c.open.ensures.early
 
-pub returns-then-branch-clause-moves : goal.returns-then-branch-clause-moves
-returns-then-branch-clause-moves c =
+pub returns-in_ok-started-in-Configuring-clause-moves :
+    goal.returns-in_ok-started-in-Configuring-clause-moves
+returns-in_ok-started-in-Configuring-clause-moves c =
     let last : bytes_eq c.args.line.now (codes "end") ≡ true = search rules in
-    IfOk-weaker c.conclude.result _ _
-    (λ s h. on-started c.in-Configuring.before c.in-Configuring.text c.gather.new.text.items s c.args.self.now c.conclude.new.self c.args.number c.args.line.now c.args.out.now.items c.in-Configuring.is
-    c.in_ok-gather-in-Configuring.ensures.text last h) (c.conclude.ensures.settles c.in-Configuring.before c.gather.new.text refl)
-
-pub returns-then-branch-clause-judged : goal.returns-then-branch-clause-judged
-returns-then-branch-clause-judged c = c.conclude.ensures.judged
-
-pub returns-then-branch-clause-few : goal.returns-then-branch-clause-few
-returns-then-branch-clause-few c = IfOk-weaker c.conclude.result _ _ (λ s h. few-none s (steps_in c.conclude.new.self) (steps_in c.args.self.now) h) c.conclude.ensures.few
-
-pub returns-then-branch-clause-early : goal.returns-then-branch-clause-early
-returns-then-branch-clause-early c = c.conclude.ensures.early
+    let starts = subst (λ o. Starts c.in_ok-started-in-Configuring.started (started c.in-Configuring.before (config_at o))) c.deref.ensures.value c.in_ok-started-in-Configuring.ensures.starts in
+    on-started c.in-Configuring.before c.in-Configuring.text c.gather.new.text.items c.settle.result c.args.self.now c.settle.new.self c.args.number c.args.line.now c.args.out.now.items c.in-Configuring.is
+    c.in_ok-gather-in-Configuring.ensures.text last (c.settle.ensures.settles (started c.in-Configuring.before (config_at c.gather.new.text.items)) starts)
 
 pub returns-in-Playing-clause-moves : goal.returns-in-Playing-clause-moves
 returns-in-Playing-clause-moves c = IfOk-weaker c.read.result _ _

@@ -1,0 +1,87 @@
+//! The touches of one block.
+
+use crate::touch::Touch;
+use std::alloc::{AllocError, Global};
+use std::marker::Model;
+use sv_base::{AttrId, BlockNo, MemberNo};
+
+/// The touches of the members of one block, in their order, in room that was made before. Contracts see the list of them,
+/// and how many have room.
+#[derive(Debug, Drop)]
+pub(crate) struct Touches {
+    items: Vec<Touch>,
+    room: usize,
+}
+
+impl Model for Touches {
+    ghost use Rattle.std.specs.Prelude.{◌≤◌, vec_len, vec_capacity};
+    ghost use Rattle.bay_rooms.specs.Rooms.{Filled};
+    ghost use Rattle.touch_index.specs.declared.touch.Touch.{Touch};
+
+    ghost Value = { Filled Touch };
+
+    ghost view = { λ n. record { items = n.items.items; room = n.room } };
+
+    ghost invariant = { λ n. (vec_len n.items ≤ n.room) × (n.room ≤ vec_capacity n.items) };
+}
+
+impl Touches {
+    ghost use Rattle.std.specs.Prelude.{◌≡◌, ◌≤◌, ◌<◌, ◌+◌, ◌++◌, ◌∷◌, [], length, max, IfOk, OnOk, OnErr};
+    ghost use Rattle.touch_index.specs.Indexed.{touches_of};
+
+    /// None, and no room.
+    pub(crate) fn new(alloc: Global) -> Touches
+        ensures { result ≡ record { items = []; room = 0 } }
+    {
+        Touches {
+            items: Vec::new(alloc),
+            room: 0,
+        }
+    }
+
+    /// How many have room.
+    pub(crate) fn room(&self) -> usize
+        ensures { result ≡ self.now.room }
+    {
+        self.room
+    }
+
+    /// The touches, borrowed.
+    pub(crate) fn as_slice(&self) -> &[Touch]
+        ensures { result.now ≡ self.now.items }
+    {
+        &self.items
+    }
+
+    /// Empties it.
+    pub(crate) fn clear(&mut self)
+        ensures { self.new ≡ record { items = []; room = self.old.room } }
+    {
+        self.items.clear();
+    }
+
+    /// Makes room for so many at least.
+    pub(crate) fn reserve(&mut self, wanted: usize) -> Result<(), AllocError>
+        requires { self.old.room ≤ wanted }
+        ensures made { OnOk result (self.new ≡ record { items = self.old.items; room = wanted }) }
+        ensures kept { OnErr result (self.new ≡ self.old) }
+    {
+        self.items.reserve(wanted - self.items.len())?;
+        self.room = wanted;
+        Ok(())
+    }
+
+    /// Adds the touches of a member. It takes no memory.
+    pub(crate) fn push_all(&mut self, b: BlockNo, member: MemberNo, attrs: &[AttrId])
+        requires { length self.old.items + length attrs.now ≤ self.old.room }
+        ensures { self.new ≡ record { items = self.old.items ++ touches_of b.0 member.0 attrs.now; room = self.old.room } }
+    {
+        for attr in attrs {
+            let _ = self.items.push(Touch {
+                attr: *attr,
+                block: b,
+                member,
+            });
+        }
+    }
+}

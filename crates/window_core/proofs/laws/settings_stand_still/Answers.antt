@@ -1,0 +1,5 @@
+use Rattle.window_core.proofs.StillLaws.{points-still}
+use Rattle.window_core.proofs.laws.settings_stand_still.Goals as goal
+
+pub returns : goal.returns
+returns c = λ c' b ps before opened. points-still c' b ps before opened
