@@ -1,20 +1,19 @@
 -- Calls come of requests alone, are accepted, and are the asker's; accepted Opers with Test FALSE act, and nothing else.
-use Rattle.std.proofs.Common.{◌≡◌, ℕ, Bool, true, false, List, [], ◌∷◌, length, refl, sym, ap, ◌∙◌, subst}
-use Rattle.std.specs.Prelude.{⊤, Option, None, Some, is_some, is_none, not, ◌&&◌, if◌then◌else◌}
+use Rattle.std.proofs.Common.{◌≡◌, ℕ, Bool, true, false, List, [], ◌∷◌, length, refl, ap, ◌∙◌, subst}
+use Rattle.std.specs.Prelude.{Option, None, Some, is_some, is_none, not, ◌&&◌, if◌then◌else◌}
 use Rattle.std.specs.Option.{option_map, option_map_or}
 use Rattle.sv_base.specs.Same.{value_of}
 use Rattle.sv_base.specs.declared.value.Value.{Value}
 use Rattle.bay_model.specs.declared.control.Act.{Act}
 use Rattle.bay_model.specs.declared.answer.Answer.TheVariants as answers
-use Rattle.bay_model.specs.declared.components.Comp.{Comp}
 use Rattle.bay_model.specs.declared.step.Step.{Step}
 use Rattle.bay_model.specs.declared.step.Step.TheVariants as steps
 use Rattle.bay_model.specs.Model.{Model, Call, select, operate, cancel}
 use Rattle.bay_model.specs.Lookups.{control_of}
-use Rattle.bay_model.specs.Points.{Deed, Point, Past, opened, lost, valued, finished, blocked, wrote, put, copied, activated, edited, confirmed, called, selected_control, answered, took, terminated, reported, nothing}
+use Rattle.bay_model.specs.Points.{Deed, Past, opened, lost, valued, finished, blocked, wrote, put, copied, activated, edited, confirmed, called, selected_control, answered, took, terminated, reported, nothing}
 use Rattle.bay_model.specs.Associations.{ends}
 use Rattle.bay_model.specs.Commands.{Command, command_of, is_command, is_test}
-use Rattle.bay_model.specs.Calls.{Went, accepted, mistyped, barred, went, went_by, first_cause, causes, can_select}
+use Rattle.bay_model.specs.Calls.{Went, accepted, mistyped, barred, went, went_by, first_cause, causes}
 use Rattle.bay_model.specs.Outcomes.{deed_of}
 use Rattle.bay_model.specs.Writes.{outcome_of_call}
 use Rattle.bay_model.specs.Waiting.{Waiting, reply, ending, waiting}
@@ -25,7 +24,7 @@ use Rattle.bay_model.specs.Takes.{taken, given_by, given_report}
 use Rattle.bay_model.specs.Answers.{Turn, History, points, deed_at, singles_after}
 use Rattle.control_core.specs.CallsAccepted.{IsAccepted, AreAccepted, IsOf, IsNoCall, is_accepted, IsOper}
 use Rattle.control_core.proofs.EndingLaws.{false_true}
-use Rattle.control_core.proofs.SingleLaws.{IsQuiet, IsBare, OfSingles, outcome, write-bare}
+use Rattle.control_core.proofs.SingleLaws.{IsBare, outcome, write-bare}
 
 -- what is bare is no call
 bare-none : (d : Deed) → IsBare d → IsNoCall d
