@@ -7,8 +7,7 @@ use crate::openings::{Opened, open};
 use crate::playing::Playing;
 use crate::starting::{Started, refused_before, start};
 use crate::status::Status;
-use cfg_text::Kind as CfgKind;
-use run_record::Kind as RecKind;
+use run_record::Kind;
 use std::alloc::{AllocError, Global};
 
 /// Puts a line of the configuration behind those before it; gives whether it is the last one.
@@ -152,13 +151,13 @@ impl Stage {
     {
         let status = Status::Record {
             line: number,
-            kind: RecKind::NoEnd.number(),
+            kind: Kind::NoEnd.number(),
         };
         match self {
             Stage::Configuring { before, text } => {
                 let whole = Status::Config {
                     line: number,
-                    kind: CfgKind::Order.number(),
+                    kind: 2,
                 };
                 refused_before(alloc, number, *before, text, whole)
             }
