@@ -1,4 +1,6 @@
+use Rattle.std.proofs.Common.{ap, ◌∙◌}
 use Rattle.std.proofs.lemmas.Result.{IfOk-weaker}
+use Rattle.replay_run.specs.declared.status.Status.TheVariants as statuses
 use Rattle.replay_run.proofs.LimitLaws.{missing-opening, missing-playing, missing-configuring}
 use Rattle.replay_run.proofs.stage.Stage.missing.Goals as goal
 
@@ -7,7 +9,7 @@ returns-in-Configuring-clause-status c = IfOk-weaker c.refused_before.result _ _
     (λ s h. missing-configuring c.args.number c.in-Configuring.before c.in-Configuring.text c.deref.result.now s c.args.self.now c.in-Configuring.is c.deref.ensures.value h) c.refused_before.ensures.status
 
 pub returns-in-Opening-clause-status : goal.returns-in-Opening-clause-status
-returns-in-Opening-clause-status c = missing-opening c.args.number c.args.self.now c.in-Opening.is
+returns-in-Opening-clause-status c = λ place at. ap (statuses.Record c.args.number) c.number.ensures ∙ missing-opening c.args.number c.args.self.now c.in-Opening.is place at
 
 pub returns-in-Playing-clause-status : goal.returns-in-Playing-clause-status
-returns-in-Playing-clause-status c = missing-playing c.args.number c.in-Playing.field-0 c.args.self.now c.in-Playing.is
+returns-in-Playing-clause-status c = λ place at. ap (statuses.Record c.args.number) c.number.ensures ∙ missing-playing c.args.number c.in-Playing.field-0 c.args.self.now c.in-Playing.is place at
