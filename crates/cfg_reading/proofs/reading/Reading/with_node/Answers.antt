@@ -1,0 +1,16 @@
+use Rattle.std.proofs.Common.{◌+◌, arith, ap, length, refl, reverse, ◌∙◌}
+use Rattle.cfg_lines.specs.Facts.{Facts}
+use Rattle.cfg_lines.specs.declared.line.Line.TheVariants as lines
+use Rattle.cfg_lines.specs.declared.line.Place.TheVariants as places
+use Rattle.cfg_reading.specs.Known.{kept_facts}
+use Rattle.cfg_reading.proofs.KnownLaws.{known-more, few-lines}
+use Rattle.cfg_reading.proofs.reading.Reading.with_node.Goals as goal
+
+pub overflow_add-kept : goal.overflow_add-kept
+overflow_add-kept c = omega (arith, ap (λ (f : Facts). f.nodes) c.self.invariant.same_facts, c.self.invariant.few, few-lines (reverse c.self.inside.kept.lines.items))
+
+pub invariant_of-result : goal.invariant_of-result
+invariant_of-result c =
+    let kept = c.self.inside.kept in
+    let f = kept_facts kept.place kept.domain kept.node kept.groups kept.has_settings kept.counts in
+    known-more c.self.inside.kept.lines.items c.push.new.self.items (lines.Ln c.args.node) c.self.invariant (omega (arith, c.requires.few, ap length c.self.view_is)) c.in_ok-push.ensures.items (ap (λ n. record f { place = places.InNode; node = n; nodes = f.nodes + 1 }) (c.in_ok-kept.ensures ∙ c.as_slice.ensures)) c.in_ok-add_node.ensures (λ key. refl) (λ key. refl)
