@@ -23,6 +23,9 @@ add_some i r (m ∷ ms) = by (union m.reasons r) (nat_lt m.member.0 i) (m.member
   by u false true = omega arith
   by u false false = omega arith
 
+abbrev weight_of : Bool → ℕ
+weight_of c = cond c 0 1
+
 pub weighs_none : (n : Filled Mention) → n.items ≡ [] → weight n ≡ 0
 weighs_none n is = ap (λ (l : List Mention). cond (length l == 0) 0 1) is
 
@@ -31,10 +34,7 @@ weighs_one n some = ap (λ b. cond b 0 1) (let e : (length n.items == 0) ≡ fal
 
 least : (n : Filled Mention) → weight n ≤ 1
 least n = by (length n.items == 0) where
-  abbrev of : Bool → ℕ
-  of c = cond c 0 1
-
-  by : (c : Bool) → of c ≤ 1
+  by : (c : Bool) → weight_of c ≤ 1
   by true = omega arith
   by false = omega arith
 
