@@ -17,8 +17,13 @@ use Rattle.touch_index.specs.declared.touch.Touch.{Touch}
 use Rattle.touch_index.specs.Spread.{of_attr, no_touch}
 use Rattle.touch_index.specs.Indexed.{touches_in, IsOwnedFrom}
 use Rattle.touch_index.specs.Gathered.{add_touches, noted_by, InRange, CanAdd}
-use Rattle.touch_index.specs.Gathering.{no_note, note_at, with_items, add_touched}
+use Rattle.touch_index.specs.Gathering.{no_note, note_at, trg_at, with_items, add_touched}
 use Rattle.touch_index.proofs.GatherLaws.{touches_step, next_fits, noted_few}
+
+pub trg_there : (l : List Trg) (k : ℕ) (d : Trg) → k < length l → get_or l k d ≡ trg_at l k
+trg_there [] k d h = absurd (omega (arith, h))
+trg_there (x ∷ xs) zero d h = refl
+trg_there (x ∷ xs) (suc k) d h = trg_there xs k d (omega (arith, h))
 
 -- what one touch adds to the note of block b
 abbrev pub one_touched : ℕ → Trg → Change → Touch → List Mention → List Mention

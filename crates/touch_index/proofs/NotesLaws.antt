@@ -1,10 +1,11 @@
 -- Which blocks are touched stays known as notes gain members and lose them.
-use Rattle.std.proofs.Common.{◌≡◌, ◌≢◌, refl, ap, ap₂, sym, ◌∙◌, subst, ℕ, zero, suc, ◌+◌, ◌<◌, ◌≤◌, ◌==◌, nat_lt, Bool, true, false, cond, List, [], ◌∷◌, ◌++◌, length, set, get_or, replicate, arith, ◌⊎◌, inl, inr}
+use Rattle.std.proofs.Common.{◌≡◌, ◌≢◌, refl, ap, ap₂, sym, ◌∙◌, subst, ℕ, zero, suc, ◌+◌, ◌*◌, ◌<◌, ◌≤◌, ◌==◌, nat_lt, Bool, true, false, cond, List, [], ◌∷◌, ◌++◌, length, set, get_or, replicate, arith, ◌⊎◌, inl, inr}
 use Rattle.std.specs.List.{All, sum_by}
 use Rattle.std.proofs.lemmas.Bool.{cases_eq, cases_lt}
 use Rattle.std.proofs.lemmas.Bool.Decides.{nat_tests}
 use Rattle.std.proofs.lemmas.List.{length-set, length-append, get_or-set_same, get_or-set_other}
 use Rattle.std.proofs.lemmas.List.Sums.{sum_by-set, sum_by-le}
+use Rattle.std.proofs.lemmas.List.Folds.{sum_by-replicate}
 use Rattle.std.proofs.lemmas.List.Elements.{All-push, All-cons, All-head, All-tail, All-get_or}
 use Rattle.sv_base.specs.declared.numbers.BlockNo.{BlockNo}
 use Rattle.bay_rooms.specs.Rooms.{Filled}
@@ -23,11 +24,14 @@ add_some i r (m ∷ ms) = by (union m.reasons r) (nat_lt m.member.0 i) (m.member
   by u false true = omega arith
   by u false false = omega arith
 
-abbrev weight_of : Bool → ℕ
+abbrev pub weight_of : Bool → ℕ
 weight_of c = cond c 0 1
 
 pub weighs_none : (n : Filled Mention) → n.items ≡ [] → weight n ≡ 0
 weighs_none n is = ap (λ (l : List Mention). cond (length l == 0) 0 1) is
+
+pub weighs_by : (n : Filled Mention) (b : Bool) → b ≡ (length n.items == 0) → weight n ≡ weight_of b
+weighs_by n b is = ap weight_of (sym is)
 
 pub weighs_one : (n : Filled Mention) → 0 < length n.items → weight n ≡ 1
 weighs_one n some = ap (λ b. cond b 0 1) (let e : (length n.items == 0) ≡ false = grind (arith, nat_tests, some) in e)
@@ -39,11 +43,10 @@ least n = by (length n.items == 0) where
   by false = omega arith
 
 pub none_weighs : (n : Filled Mention) → weight n ≡ 0 → n.items ≡ []
-none_weighs n is = by n.items is where
-  by : (l : List Mention) → weight (record { items = l; room = 0 }) ≡ 0 → l ≡ []
+none_weighs n is = by n.items (λ some. omega (arith, is, weighs_one n some)) where
+  by : (l : List Mention) → (0 < length l → ⊥) → l ≡ []
   by [] e = refl
-  by (m ∷ ms) e = absurd (omega (arith, e))
-
+  by (m ∷ ms) e = absurd (e (omega arith))
 
 -- whether a block is the one that is counted
 abbrev is_one : BlockNo → ℕ → ℕ
@@ -118,50 +121,50 @@ last_within notes touched front x are is = all_last (λ (b : BlockNo). b.0 < len
 -- the note of the last one is emptied
 pub covered_less : (notes : List (Filled Mention)) (touched front : List BlockNo) (x : BlockNo) (y : Filled Mention) → IsCovered notes touched → touched ≡ front ++ x ∷ [] → weight y ≡ 0 → IsCovered (set notes x.0 y) front
 covered_less notes touched front x y are is none = record {
-    once = λ b h. by b (omega (arith, h, length-set notes x.0 y)) (cases_eq b x.0);
-    counted = omega (arith, sum_by-set weight notes x.0 y no_note below, was, none, are.counted, ap length is, length-append front (x ∷ []));
-    within = subst (λ n. All (λ (b : BlockNo). b.0 < n) front) (sym (length-set notes x.0 y)) (all_front (λ (b : BlockNo). b.0 < length notes) front x (subst (All (λ (b : BlockNo). b.0 < length notes)) is are.within));
-  } where
-    below : x.0 < length notes
-    below = last_within notes touched front x are is
+  once = λ b h. by b (omega (arith, h, length-set notes x.0 y)) (cases_eq b x.0);
+  counted = omega (arith, sum_by-set weight notes x.0 y no_note below, was, none, are.counted, ap length is, length-append front (x ∷ []));
+  within = subst (λ n. All (λ (b : BlockNo). b.0 < n) front) (sym (length-set notes x.0 y)) (all_front (λ (b : BlockNo). b.0 < length notes) front x (subst (All (λ (b : BlockNo). b.0 < length notes)) is are.within));
+} where
+  below : x.0 < length notes
+  below = last_within notes touched front x are is
 
-    occurred : (b : ℕ) → b < length notes → occurs b front + is_one x b ≡ weight (note_at notes b)
-    occurred b h = sym (occurs_push b front x) ∙ (ap (occurs b) (sym is) ∙ are.once b h)
+  occurred : (b : ℕ) → b < length notes → occurs b front + is_one x b ≡ weight (note_at notes b)
+  occurred b h = sym (occurs_push b front x) ∙ (ap (occurs b) (sym is) ∙ are.once b h)
 
-    was : weight (note_at notes x.0) ≡ 1
-    was = omega (arith, occurred x.0 below, one_here x.0 x refl, least (note_at notes x.0))
+  was : weight (note_at notes x.0) ≡ 1
+  was = omega (arith, occurred x.0 below, one_here x.0 x refl, least (note_at notes x.0))
 
-    by : (b : ℕ) → b < length notes → (b ≡ x.0) ⊎ (b ≢ x.0) → occurs b front ≡ weight (note_at (set notes x.0 y) b)
-    by b h (inl e) =
-        let now : weight (note_at (set notes x.0 y) b) ≡ 0 = ap (λ k. weight (note_at (set notes x.0 y) k)) e ∙ (ap weight (get_or-set_same notes x.0 y no_note below) ∙ none) in
-        let one = one_here b x (sym e) in
-        omega (arith, occurred b h, one, least (note_at notes b), now)
-    by b h (inr e) =
-        let same : weight (note_at (set notes x.0 y) b) ≡ weight (note_at notes b) = ap weight (get_or-set_other notes x.0 b y no_note e) in
-        omega (arith, occurred b h, none_there b x e, same)
+  by : (b : ℕ) → b < length notes → (b ≡ x.0) ⊎ (b ≢ x.0) → occurs b front ≡ weight (note_at (set notes x.0 y) b)
+  by b h (inl e) =
+      let now : weight (note_at (set notes x.0 y) b) ≡ 0 = ap (λ k. weight (note_at (set notes x.0 y) k)) e ∙ (ap weight (get_or-set_same notes x.0 y no_note below) ∙ none) in
+      let one = one_here b x (sym e) in
+      omega (arith, occurred b h, one, least (note_at notes b), now)
+  by b h (inr e) =
+      let same : weight (note_at (set notes x.0 y) b) ≡ weight (note_at notes b) = ap weight (get_or-set_other notes x.0 b y no_note e) in
+      omega (arith, occurred b h, none_there b x e, same)
+
+pub note_there : (l : List (Filled Mention)) (k : ℕ) (d : Filled Mention) → k < length l → get_or l k d ≡ note_at l k
+note_there [] k d h = absurd (omega (arith, h))
+note_there (n ∷ ns) zero d h = refl
+note_there (n ∷ ns) (suc k) d h = note_there ns k d (omega (arith, h))
 
 -- where none is touched, no note has a member
 pub covered_none : (notes : List (Filled Mention)) (touched : List BlockNo) → IsCovered notes touched → touched ≡ [] → All (λ (n : Filled Mention). n.items ≡ []) notes
 covered_none notes touched are is = λ i d h. none_weighs (get_or notes i d) (by i d h) where
   by : (i : ℕ) (d : Filled Mention) → i < length notes → weight (get_or notes i d) ≡ 0
-  by i d h = ap weight (same notes i d no_note h) ∙ sym (ap (occurs i) (sym is) ∙ are.once i h) where
-    same : (l : List (Filled Mention)) (k : ℕ) (d e : Filled Mention) → k < length l → get_or l k d ≡ get_or l k e
-    same [] k d e h = absurd (omega (arith, h))
-    same (n ∷ ns) zero d e h = refl
-    same (n ∷ ns) (suc k) d e h = same ns k d e (omega (arith, h))
+  by i d h = ap weight (note_there notes i d h) ∙ sym (ap (occurs i) (sym is) ∙ are.once i h)
 
 -- empty notes
 pub covered_empty : (n : ℕ) (y : Filled Mention) → y.items ≡ [] → IsCovered (replicate n y) []
 covered_empty n y is = record {
-    once = λ b h. sym (ap weight (at n b h) ∙ weighs_none y is);
-    counted = sym (sums n);
-    within = λ i d h. absurd (omega (arith, h));
-  } where
-    at : (n b : ℕ) → b < length (replicate n y) → note_at (replicate n y) b ≡ y
-    at zero b h = absurd (omega (arith, h))
-    at (suc n) zero h = refl
-    at (suc n) (suc b) h = at n b (omega (arith, h))
+  once = λ b h. sym (ap weight (at n b h) ∙ weighs_none y is);
+  counted = sym (sums n);
+  within = λ i d h. absurd (omega (arith, h));
+} where
+  at : (n b : ℕ) → b < length (replicate n y) → note_at (replicate n y) b ≡ y
+  at zero b h = absurd (omega (arith, h))
+  at (suc n) zero h = refl
+  at (suc n) (suc b) h = at n b (omega (arith, h))
 
-    sums : (n : ℕ) → sum_by weight (replicate n y) ≡ 0
-    sums zero = refl
-    sums (suc n) = omega (arith, sums n, weighs_none y is)
+  sums : (n : ℕ) → sum_by weight (replicate n y) ≡ 0
+  sums n = sum_by-replicate weight n y ∙ (ap (λ w. n * w) (weighs_none y is) ∙ (let e : n * 0 ≡ 0 = omega arith in e))
