@@ -5,6 +5,8 @@ pub mod QuietLaws
 pub mod MoveLaws
 pub mod StillLaws
 pub mod EndLaws
+pub mod MentionLaws
+pub mod WatchLaws
 pub mod FurnishLaws
 -- writes
 pub mod WriteLaws
@@ -17,7 +19,6 @@ pub mod ShapeLaws
 pub mod ServedLaws
 pub mod OneElement
 pub mod WritableLaws
-pub mod MentionLaws
 pub mod EventLaws
 pub mod SettingLaws
 -- reports

@@ -9,6 +9,7 @@ pub mod Changed
 pub mod Marked
 pub mod EntryOctets
 pub mod Events
+pub mod Watched
 -- writes, losses and reports
 pub mod Offers
 pub mod Parting

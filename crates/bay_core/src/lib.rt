@@ -6,6 +6,7 @@ mod bay;
 mod opening;
 mod part;
 mod values;
+mod watch;
 
 // its steps, and why one is refused
 mod associations;

@@ -35,6 +35,8 @@ impl Bay {
             return Err(StepFault::NotYours(a));
         }
         let answer = self.parts[b.0 as usize].write(a, comp, value);
+        let options = self.parts[b.0 as usize].block.trg();
+        self.watch.options[b.0 as usize] = options;
         self.advance(moment);
         Ok(Answer::Wrote(answer))
     }

@@ -14,6 +14,7 @@ use Rattle.bay_config.specs.Servable.{IsServable}
 use Rattle.bay_core.specs.Standing.{StandsFor}
 use Rattle.bay_core.specs.State.{State, served_members}
 use Rattle.bay_core.proofs.FurnishLaws.{furnished-set}
+use Rattle.bay_core.proofs.WatchLaws.{watching-same}
 use Rattle.bay_core.proofs.ServedLaws.{served-few, shapes-there}
 use Rattle.bay_core.proofs.TakenLaws.{closed-for, empty-for, given-for, same-part}
 use Rattle.bay_core.proofs.WroteLaws.{at-place}
@@ -35,9 +36,10 @@ report_of-requires-clause-nodes c = subst (AreNodes c.self.inside.model) (sym (s
 pub invariant_of-self-2 : goal.invariant_of-self-2
 invariant_of-self-2 c =
     let within = subst (λ (ps : List Part). c.in-Some-first_offer.offer.block < length ps) c.deref.ensures.value c.in-Some-first_offer.ensures.within in
-    furnished-set c.self.inside.model c.self.inside.values c.self.inside.parts.items c.self.inside.note c.self.inside.octets c.self.invariant c.in-Some-first_offer.offer.block c.index_mut.result.now
-    (record { block = c.sent.new.self; ring = c.index_mut.result.now.ring; members = c.index_mut.result.now.members })
-    (at-place c.self.inside.parts.items c.in-Some-first_offer.offer.block c.index_mut.result.now within c.index_mut.ensures.value) refl
+    let at = at-place c.self.inside.parts.items c.in-Some-first_offer.offer.block c.index_mut.result.now within c.index_mut.ensures.value in
+    let after : Part = record { block = c.sent.new.self; ring = c.index_mut.result.now.ring; members = c.index_mut.result.now.members } in
+    furnished-set c.self.inside.model c.self.inside.values c.self.inside.parts.items c.self.inside.watch c.self.inside.octets c.self.invariant c.in-Some-first_offer.offer.block c.index_mut.result.now after c.self.inside.watch at refl
+    (watching-same (length c.self.inside.values) c.self.inside.parts.items c.self.inside.watch c.in-Some-first_offer.offer.block c.index_mut.result.now after at refl (ap (λ (k : Block). k.options) c.sent.ensures) c.self.invariant.watch)
 
 pub returns-in_default-clause-does : goal.returns-in_default-clause-does
 returns-in_default-clause-does c = λ c' h was.
