@@ -1,10 +1,12 @@
 -- What a control executes: its last Oper, and what came after that.
-use Rattle.std.proofs.Common.{◌≡◌, ℕ, ◌≤◌, Bool, true, false, List, [], ◌∷◌, length, refl, sym, ap, ◌∙◌, subst, arith, ◌==◌}
+use Rattle.std.proofs.Common.{◌≡◌, ℕ, ◌≤◌, Bool, true, false, List, [], ◌∷◌, ◌++◌, map, length, refl, append-nil, append_assoc, sym, ap, ◌∙◌, subst, arith, ◌==◌}
 use Rattle.std.specs.Prelude.{Option, None, Some, is_none, not, ◌&&◌, ◌||◌, if◌then◌else◌}
 use Rattle.std.specs.Option.{option_and_then, option_map, option_map_or}
 use Rattle.std.proofs.Math.Bool.{and-false}
 use Rattle.sv_base.specs.declared.value.Value.{Value}
 use Rattle.bay_model.specs.declared.answer.Answer.TheVariants as answers
+use Rattle.sv_base.specs.declared.numbers.AssocNo.{AssocNo}
+use Rattle.bay_model.specs.declared.request.Request.{Request}
 use Rattle.bay_model.specs.declared.step.Step.{Step}
 use Rattle.bay_model.specs.declared.step.Step.TheVariants as steps
 use Rattle.bay_model.specs.Model.{Model, Call, select, operate, cancel}
@@ -12,19 +14,20 @@ use Rattle.bay_model.specs.Points.{Deed, Point, Past, opened, lost, valued, fini
 use Rattle.bay_model.specs.Associations.{ends}
 use Rattle.bay_model.specs.Commands.{is_test}
 use Rattle.bay_model.specs.Controls.{Execution, execution, execution_after, is_enhanced, underway, ended, orphaned, ends_by_done, ends_by_loss}
-use Rattle.bay_model.specs.Waiting.{Waiting, reply, ending, waiting, ends_for}
-use Rattle.bay_model.specs.Singles.{Single, arrival, after_single, after_singles}
+use Rattle.bay_model.specs.Waiting.{Waiting, reply, ending, waiting, ends_for, tests, tests_of, put_by}
+use Rattle.bay_model.specs.Outcomes.{deed_of}
+use Rattle.bay_model.specs.Singles.{Single, arrival, outcome_at, outcomes, after_single, after_singles}
 use Rattle.bay_model.specs.Services.{singles_of}
 use Rattle.bay_model.specs.Reports.{Offer, first_offer}
 use Rattle.bay_model.specs.Takes.{taken, given_by, given_report}
-use Rattle.bay_model.specs.Answers.{Turn, History, points, deed_at, singles_after}
+use Rattle.bay_model.specs.Answers.{Turn, History, points, deed_at, singles_after, outcomes_of, output_for}
 use Rattle.bay_model.specs.Acceptance.{IsHistory}
-use Rattle.control_core.specs.TerminationsWait.{endings, due_for}
-use Rattle.control_core.specs.ExecutionsAre.{Operated, followed, last_oper, is_done, is_loss, gives, was_done, was_lost, lost_before, is_among, is_over, executed, first_for, ends_by}
+use Rattle.control_core.specs.TerminationsWait.{endings, due_for, asked}
+use Rattle.control_core.specs.ExecutionsAre.{Operated, followed, last_oper, is_done, is_loss, gives, was_done, was_lost, lost_before, is_among, is_over, tests_in, executed, first_for, ends_by}
 use Rattle.list_laws.proofs.Places.{same-number as same}
 use Rattle.control_core.proofs.EndingLaws.{are_same, false_true}
 use Rattle.control_core.proofs.SingleLaws.{IsQuiet, OfSingles, outcome, write-quiet}
-use Rattle.control_core.proofs.TurnLaws.{terminations_wait}
+use Rattle.control_core.proofs.TurnLaws.{terminations_wait, fresh as fresh_tests}
 
 abbrev point : ℕ → ℕ → Deed → Point
 point n m d = record { moment = m; step = n; deed = d }
@@ -419,3 +422,18 @@ other_dones c h is k good none = rw same (either (is_enhanced c k) refl) where
   either : (t : Bool) → is_enhanced c k ≡ t → option_and_then (λ (e : Execution). ends_by_done e e.phase) (execution c k (points c h)) ≡ execution c k (points c h)
   either true e = rests k (last_oper k (points c h)) (execution c k (points c h)) (held c k e h is) none
   either false e = rw (idle c k e (points c h)) refl
+
+-- ---- behind a reply
+
+tests-singles : (c : Model) (a n m : ℕ) (ss : List Single) (past : Past) → tests c n (after_singles c a n m ss past) ≡ tests c n past ++ tests_in c (outcomes c a n m ss past)
+tests-singles c a n m [] past = sym (append-nil (tests c n past))
+tests-singles c a n m (s ∷ ss) past = tests-singles c a n m ss (after_single c a n m s past) ∙ (ap (λ ks. ks ++ tests_in c (outcomes c a n m ss (after_single c a n m s past))) one
+    ∙ append_assoc (tests c n past) (tests_of c (deed_of (outcome_at c a n m s past))) (tests_in c (outcomes c a n m ss (after_single c a n m s past)))) where
+  one : tests c n (after_single c a n m s past) ≡ tests c n past ++ tests_of c (deed_of (outcome_at c a n m s past))
+  one = rw same refl
+
+pub tests_follow : (c : Model) (h : History) (t : Turn) (a : AssocNo) (r : Request) → put_by c a.0 (length h) (deed_at c (length h) t (points c h) (steps.Ask a r)) (asked c h t a.0 r)
+    ≡ reply (output_for c (length h) t.moment a.0 r (points c h)) ∷ map (λ k. ending k true) (tests_in c (outcomes_of c (length h) t.moment a.0 r (points c h)))
+tests_follow c h t a r = rw same (ap (λ ks. reply (output_for c (length h) t.moment a.0 r (points c h)) ∷ map (λ k. ending k true) ks)
+    (tests-singles c a.0 (length h) t.moment (singles_of c (points c h) r.service) (points c h)
+    ∙ ap (λ ks. ks ++ tests_in c (outcomes_of c (length h) t.moment a.0 r (points c h))) (fresh_tests c h)))

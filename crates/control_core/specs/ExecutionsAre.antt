@@ -1,15 +1,20 @@
 -- What a control executes: its last Oper, and what came after that (IEC 61850-7-2, direct control and SBO control with enhanced security, and
 -- CommandTermination).
-use Rattle.std.specs.Prelude.{◌≡◌, ℕ, Bool, false, not, ◌&&◌, ◌||◌, ◌==◌, length, List, [], ◌∷◌, Option, None, Some, if◌then◌else◌}
+use Rattle.std.specs.Prelude.{◌≡◌, ℕ, Bool, false, not, ◌&&◌, ◌||◌, ◌==◌, length, map, true, List, [], ◌∷◌, ◌++◌, Option, None, Some, if◌then◌else◌}
 use Rattle.std.specs.Option.{option_and_then, option_map, option_map_or}
 use Rattle.sv_base.specs.declared.value.Value.{Value}
 use Rattle.bay_model.specs.Model.{Model, operate}
 use Rattle.bay_model.specs.Points.{Deed, lost, finished, called, terminated, Point, Past}
 use Rattle.bay_model.specs.Commands.{is_test}
 use Rattle.bay_model.specs.Controls.{Phase, underway, ended, orphaned, Execution, execution, execution_after, is_enhanced}
-use Rattle.bay_model.specs.Waiting.{Waiting, ending, put_by}
-use Rattle.bay_model.specs.Answers.{History, points}
+use Rattle.bay_model.specs.Waiting.{Waiting, reply, ending, put_by, tests_of}
+use Rattle.bay_model.specs.Outcomes.{Outcome, deed_of}
+use Rattle.sv_base.specs.declared.numbers.AssocNo.{AssocNo}
+use Rattle.bay_model.specs.declared.request.Request.{Request}
+use Rattle.bay_model.specs.declared.step.Step.TheVariants as steps
+use Rattle.bay_model.specs.Answers.{Turn, History, points, deed_at, outcomes_of, output_for}
 use Rattle.bay_model.specs.Acceptance.{IsHistory}
+use Rattle.control_core.specs.TerminationsWait.{asked}
 
 -- an accepted Oper of a control: whose it is, its value, and the points after it, the newest first
 pub record Operated : Type 0 where
@@ -96,3 +101,13 @@ ends_by k o = is_first k o || (lost_before k o.by o.oper o.after && not (is_over
 abbrev pub OtherDonesChangeNothing : Type 0
 OtherDonesChangeNothing = (c : Model) (h : History) → IsHistory c h → (k : ℕ) (good : Bool) → option_map_or (λ (o : Operated). ends_by k o) (last_oper k (points c h)) false ≡ false
     → execution_after c k (finished k good) (execution c k (points c h)) ≡ execution c k (points c h)
+
+-- the controls of accepted test operates under enhanced security, in order
+abbrev pub tests_in : Model → List Outcome → List ℕ
+tests_in c [] = []
+tests_in c (o ∷ os) = tests_of c (deed_of o) ++ tests_in c os
+
+-- behind the reply to a request come the positive terminations of its own test operates, in their order
+abbrev pub TestsFollow : Type 0
+TestsFollow = (c : Model) (h : History) (t : Turn) (a : AssocNo) (r : Request) → put_by c a.0 (length h) (deed_at c (length h) t (points c h) (steps.Ask a r)) (asked c h t a.0 r)
+    ≡ reply (output_for c (length h) t.moment a.0 r (points c h)) ∷ map (λ k. ending k true) (tests_in c (outcomes_of c (length h) t.moment a.0 r (points c h)))

@@ -2,4 +2,6 @@
 #![tactic(auto)]
 
 #[cfg(test)]
+mod controls;
+#[cfg(test)]
 mod windows;
