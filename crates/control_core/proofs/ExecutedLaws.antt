@@ -416,12 +416,13 @@ rests k (Some o) x h none = ap finish h.runs ∙ (by h.state h.is_at none ∙ sy
   by : (st : State) → IsAt k o st → ends_by k o ≡ false → finish (state_run o.by o.oper st) ≡ state_run o.by o.oper st
   by st is none = same_ st _ _ _ _ _ _ is none
 
-pub other_dones : (c : Model) (h : History) → IsHistory c h → (k : ℕ) (good : Bool) → option_map_or (λ (o : Operated). ends_by k o) (last_oper k (points c h)) false ≡ false
+pub other_dones : (c : Model) (h : History) → IsHistory c h → (k : ℕ) (good : Bool) → (is_enhanced c k && option_map_or (λ (o : Operated). ends_by k o) (last_oper k (points c h)) false) ≡ false
     → execution_after c k (finished k good) (execution c k (points c h)) ≡ execution c k (points c h)
-other_dones c h is k good none = rw same (either (is_enhanced c k) refl) where
-  either : (t : Bool) → is_enhanced c k ≡ t → option_and_then (λ (e : Execution). ends_by_done e e.phase) (execution c k (points c h)) ≡ execution c k (points c h)
-  either true e = rests k (last_oper k (points c h)) (execution c k (points c h)) (held c k e h is) none
-  either false e = rw (idle c k e (points c h)) refl
+other_dones c h is k good none = rw same (either (is_enhanced c k) refl none) where
+  either : (t : Bool) → is_enhanced c k ≡ t → (t && option_map_or (λ (o : Operated). ends_by k o) (last_oper k (points c h)) false) ≡ false
+      → option_and_then (λ (e : Execution). ends_by_done e e.phase) (execution c k (points c h)) ≡ execution c k (points c h)
+  either true e f = rests k (last_oper k (points c h)) (execution c k (points c h)) (held c k e h is) f
+  either false e f = rw (idle c k e (points c h)) refl
 
 -- ---- behind a reply
 
@@ -429,8 +430,8 @@ tests-singles : (c : Model) (a n m : ℕ) (ss : List Single) (past : Past) → t
 tests-singles c a n m [] past = sym (append-nil (tests c n past))
 tests-singles c a n m (s ∷ ss) past = tests-singles c a n m ss (after_single c a n m s past) ∙ (ap (λ ks. ks ++ tests_in c (outcomes c a n m ss (after_single c a n m s past))) one
     ∙ append_assoc (tests c n past) (tests_of c (deed_of (outcome_at c a n m s past))) (tests_in c (outcomes c a n m ss (after_single c a n m s past)))) where
-  one : tests c n (after_single c a n m s past) ≡ tests c n past ++ tests_of c (deed_of (outcome_at c a n m s past))
-  one = rw same refl
+      one : tests c n (after_single c a n m s past) ≡ tests c n past ++ tests_of c (deed_of (outcome_at c a n m s past))
+      one = rw same refl
 
 pub tests_follow : (c : Model) (h : History) (t : Turn) (a : AssocNo) (r : Request) → put_by c a.0 (length h) (deed_at c (length h) t (points c h) (steps.Ask a r)) (asked c h t a.0 r)
     ≡ reply (output_for c (length h) t.moment a.0 r (points c h)) ∷ map (λ k. ending k true) (tests_in c (outcomes_of c (length h) t.moment a.0 r (points c h)))

@@ -99,7 +99,7 @@ ends_by k o = is_first k o || (lost_before k o.by o.oper o.after && not (is_over
 
 -- every other Done changes nothing
 abbrev pub OtherDonesChangeNothing : Type 0
-OtherDonesChangeNothing = (c : Model) (h : History) → IsHistory c h → (k : ℕ) (good : Bool) → option_map_or (λ (o : Operated). ends_by k o) (last_oper k (points c h)) false ≡ false
+OtherDonesChangeNothing = (c : Model) (h : History) → IsHistory c h → (k : ℕ) (good : Bool) → (is_enhanced c k && option_map_or (λ (o : Operated). ends_by k o) (last_oper k (points c h)) false) ≡ false
     → execution_after c k (finished k good) (execution c k (points c h)) ≡ execution c k (points c h)
 
 -- the controls of accepted test operates under enhanced security, in order

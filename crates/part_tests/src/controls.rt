@@ -24,8 +24,8 @@ fn octets(alloc: Global, octets: &[u8]) -> Result<Octs, AllocError> {
 }
 
 /// So many milliseconds after the least moment.
-fn at(ms: u64) -> Moment {
-    match Moment::new(FIRST_MS + ms) {
+fn at(ms: u32) -> Moment {
+    match Moment::new(FIRST_MS + u64::from(ms)) {
         Some(moment) => moment,
         None => Moment::first(),
     }
@@ -128,13 +128,13 @@ enum Told {
 /// At so many milliseconds an association does this, and is told that.
 #[derive(Clone, Copy)]
 struct Trial {
-    ms: u64,
+    ms: u32,
     a: AssocNo,
     deed: Deed,
     told: Told,
 }
 
-fn row(ms: u64, a: AssocNo, deed: Deed, told: Told) -> Trial {
+fn row(ms: u32, a: AssocNo, deed: Deed, told: Told) -> Trial {
     Trial { ms, a, deed, told }
 }
 
