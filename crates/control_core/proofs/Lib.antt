@@ -5,3 +5,4 @@ pub mod SingleLaws
 pub mod TurnLaws
 pub mod SelectedLaws
 pub mod CallLaws
+pub mod ExecutedLaws

@@ -1,6 +1,6 @@
 -- The controls stand for the past, point by point.
 use Rattle.std.proofs.Common.{◌≡◌, ◌≢◌, ◌<◌, ◌≤◌, ℕ, zero, suc, Bool, List, [], ◌∷◌, length, map, refl, sym, ap, ap₂, ◌∙◌, subst, arith, inl, inr, None, max}
-use Rattle.std.specs.Prelude.{slice_set, slice_get, unwrap_or}
+use Rattle.std.specs.Prelude.{◌↔◌, slice_set, slice_get, unwrap_or}
 use Rattle.std.proofs.lemmas.Bool.Decides.{eqb_tells}
 use Rattle.std.proofs.lemmas.List.{get_or-set_same, get_or-set_other, length-set, length-map, get_or-map}
 use Rattle.std.proofs.Math.Nat.{le-max_right, max-le}
@@ -8,8 +8,10 @@ use Rattle.list_laws.proofs.Places.{same-number as same, other-number as apart}
 use Rattle.sv_base.specs.declared.value.Value.{Value}
 use Rattle.bay_model.specs.Model.{Model, Control, Call, select, operate, cancel}
 use Rattle.bay_model.specs.Points.{Deed, Point, Past, now, opened, lost, valued, finished, blocked, wrote, put, copied, activated, edited, confirmed, called, selected_control, answered, took, terminated, reported, nothing}
+use Rattle.bay_model.specs.Calls.{Went, went, ComesTo}
+use Rattle.bay_model.proofs.CallLaws.{calls_come_to_one}
 use Rattle.bay_model.specs.Singles.{arrival}
-use Rattle.control_core.specs.Controls.{ControlState, idle, selected_by, called_by, done, lost_by, stopped, blocked_as}
+use Rattle.control_core.specs.Controls.{ControlState, idle, went_at, selected_by, called_by, done, lost_by, stopped, blocked_as}
 use Rattle.control_core.specs.Tables.{Table, no_control, control_at, changed, opened_of, at_moment, after_deed}
 use Rattle.control_core.specs.Standing.{Stands, at_past, point_of}
 
@@ -105,3 +107,16 @@ stands-deed c n m (answered a o ch) before t h = stays c n m (answered a o ch) b
 stands-deed c n m (took a) before t h = stays c n m (took a) before t h (λ k. refl)
 stands-deed c n m (reported a b i) before t h = stays c n m (reported a b i) before t h (λ k. refl)
 stands-deed c n m nothing before t h = stays c n m nothing before t h (λ k. refl)
+
+-- ---- what a call comes to
+
+went-stands : (c : Model) (k : ℕ) (call : Call) (a : ℕ) (v : Value) (past : Past) (t : Table) → Stands t c past → k < length c.controls → went_at t.moment call a v (control_at t.controls k) ≡ went c k call a v past
+went-stands c k call a v past t h below = ap₂ (λ m s. went_at m call a v s) h.moment (h.each k below) ∙ by call where
+  by : (call : Call) → went_at (now past) call a v (at_past c k past) ≡ went c k call a v past
+  by select = refl
+  by operate = refl
+  by cancel = refl
+
+pub comes-to_one : (c : Model) (k : ℕ) (call : Call) (a : ℕ) (v : Value) (past : Past) (t : Table) (r : Went) → Stands t c past → k < length c.controls
+    → ComesTo c k call a v past r ↔ (r ≡ went_at t.moment call a v (control_at t.controls k))
+comes-to_one c k call a v past t r h below = subst (λ w. ComesTo c k call a v past r ↔ (r ≡ w)) (sym (went-stands c k call a v past t h below)) (calls_come_to_one c k call a v past r)

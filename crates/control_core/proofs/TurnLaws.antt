@@ -213,7 +213,7 @@ replies c n m a o ch past h = record {
   either k true = refl
   either k false = refl
 
-fresh : (c : Model) (h : History) → tests c (length h) (points c h) ≡ []
+pub fresh : (c : Model) (h : History) → tests c (length h) (points c h) ≡ []
 fresh c [] = refl
 fresh c (t ∷ h) = rw (apart (length h) (suc (length h)) (λ e. omega (arith, e))) refl
 

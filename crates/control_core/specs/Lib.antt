@@ -10,3 +10,4 @@ pub mod Standing
 pub mod SelectionsAre
 pub mod TerminationsWait
 pub mod CallsAccepted
+pub mod ExecutionsAre

@@ -2,12 +2,24 @@
 //! nothing: each contract is a law.
 
 ghost use Rattle.control_core.specs.CallsAccepted.{CallsAreAccepted, CallsAreTheAskers, StepsCallNothing, OpersAct, ActsAreOpers};
+ghost use Rattle.control_core.specs.ExecutionsAre.{ExecutionsAre, TerminationsAre, OtherDonesChangeNothing, TestsFollow};
 ghost use Rattle.control_core.specs.SelectionsAre.{SelectionsAre};
 ghost use Rattle.control_core.specs.TerminationsWait.{TerminationsWait, RunningAreOpen, TestsAreNew};
 
 /// After every history an association has a control that can be selected selected exactly where the selection that stands is its.
 pub fn selections_are()
     ensures { SelectionsAre }
+{}
+
+/// After every history of accepted steps a control with enhanced security executes its last Oper until a Take gives its termination, or its
+/// association is lost after the termination was put, or there is a Done after a loss before that. A Done puts the termination of an
+/// Oper that is no test exactly where it is the first after it and its association wasn't lost since; every other but the first after a loss
+/// changes nothing. The terminations of a request's test operates follow its reply, in their order.
+pub fn executions_are()
+    ensures are { ExecutionsAre }
+    ensures put { TerminationsAre }
+    ensures others { OtherDonesChangeNothing }
+    ensures tests { TestsFollow }
 {}
 
 /// After every history of accepted steps a termination of a control waits for an association exactly where its command runs and

@@ -1,13 +1,13 @@
 //! The controls stand for each history, and each call comes to what the definitions say. The functions run nothing: each
 //! contract is a law.
 
-ghost use Rattle.std.specs.Prelude.{◌≡◌, ◌<◌, ◌≤◌, ◌∷◌, [], ℕ, Bool, Option, Some, None, map, length, if◌then◌else◌};
+ghost use Rattle.std.specs.Prelude.{◌≡◌, ◌↔◌, ◌<◌, ◌≤◌, ◌∷◌, [], ℕ, Bool, Option, Some, None, map, length, if◌then◌else◌};
 ghost use Rattle.std.specs.Option.{option_map};
 ghost use Rattle.sv_base.specs.declared.value.Value.{Value};
 ghost use Rattle.bay_model.specs.declared.answer.Output.TheVariants as outputs;
 ghost use Rattle.bay_model.specs.Model.{Model, Call, operate};
 ghost use Rattle.bay_model.specs.Points.{Deed, Point, Past, now, called};
-ghost use Rattle.bay_model.specs.Calls.{went, can_select, Went, barred};
+ghost use Rattle.bay_model.specs.Calls.{went, can_select, Went, barred, ComesTo};
 ghost use Rattle.bay_model.specs.Controls.{execution};
 ghost use Rattle.bay_model.specs.Waiting.{ends_for, ending, tests_of};
 ghost use Rattle.bay_model.specs.Outputs.{output_of, error_of};
@@ -26,10 +26,12 @@ pub fn controls_stand()
     ensures again { (c : Model) (n m : ℕ) (q : Point) (before : Past) (t : Table) → m ≤ now (q ∷ before) → Stands t c (q ∷ before) → Stands t c (arrival n m ∷ q ∷ before) }
 {}
 
-/// Calls come to what they come to where the controls stand.
+/// Calls come to what they come to where the controls stand; the relation of what they come to gives that one outcome.
 pub fn calls_are_judged()
     ensures went { (c : Model) (k : ℕ) (call : Call) (a : ℕ) (v : Value) (past : Past) (t : Table) → Stands t c past → k < length c.controls
         → went_at t.moment call a v (control_at t.controls k) ≡ went c k call a v past }
+    ensures one { (c : Model) (k : ℕ) (call : Call) (a : ℕ) (v : Value) (past : Past) (t : Table) (r : Went) → Stands t c past → k < length c.controls
+        → ComesTo c k call a v past r ↔ (r ≡ went_at t.moment call a v (control_at t.controls k)) }
     ensures select { (c : Model) (k : ℕ) (past : Past) (t : Table) → Stands t c past → k < length c.controls
         → can_select_at t.moment (control_at t.controls k) ≡ can_select c k past }
     ensures error { (c : Model) (k : ℕ) (call : Call) (v : Value) (cause : ℕ) (past : Past) (t : Table) → Stands t c past → k < length c.controls

@@ -16,5 +16,7 @@ pub use control::Went;
 pub use controls::Controls;
 
 // their laws
-pub use history_laws::{calls_are_accepted, opers_act, selections_are, terminations_wait};
+pub use history_laws::{
+    calls_are_accepted, executions_are, opers_act, selections_are, terminations_wait,
+};
 pub use laws::{calls_are_judged, controls_stand, terminations_are_put};
