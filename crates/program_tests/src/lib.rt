@@ -5,6 +5,10 @@
 #[cfg(test)]
 mod runs;
 
+// what a bay tells of itself
+#[cfg(test)]
+mod bay;
+
 // records, configurations, and command lines
 #[cfg(test)]
 mod configurations;
