@@ -1,13 +1,13 @@
 //! Octets of TPKTs and TPDUs (RFC 1006, ISO 8073): what is read however it is cut, refused, and written.
 
-ghost use Rattle.std.specs.Prelude.{◌≡◌, ◌≤◌, length, IfOk};
+ghost use Rattle.std.specs.Prelude.{◌≡◌, ◌≤◌, IfOk};
 ghost use Rattle.tpkt_cotp.specs.Written.{IsExponent};
 
 use crate::spelled::is_written;
 use std::alloc::{AllocError, Global};
 use std::test::*;
 use sv_base::Octs;
-use tpkt_cotp::{Cr, TpFault, TransportIn, Tsdu, Tsdus, call, confirm, tsdu};
+use tpkt_cotp::{Cr, TpFault, Tpkt, TransportIn, Tsdu, Tsdus, call, confirm, tsdu};
 
 /// A CR with the TPDU size 2 ^ 13 and both selectors, as clients of IEC 61850-8-1 send it.
 const CR: [u8; 22] = [
@@ -120,34 +120,35 @@ fn octet_by_octet(rt: HostRuntime) -> Result<(), Fail> {
 }
 
 /// The answer to a CR.
-fn confirmed(
-    rt: &HostRuntime,
-    src: u16,
-    size: Option<u8>,
-    calling: &[u8],
-    called: &[u8],
-) -> Result<Octs, AllocError>
-    requires calling { length calling.now ≤ 2 }
-    requires called { length called.now ≤ 2 }
-{
+fn confirmed(rt: &HostRuntime) -> Result<Octs, AllocError> {
     let cr = Cr {
-        src,
-        size,
-        calling: Some(octs(rt, calling)?),
-        called: Some(octs(rt, called)?),
+        src: 1,
+        size: Some(13),
+        calling: Some(octs(rt, &[0, 1])?),
+        called: Some(octs(rt, &[0, 1])?),
+    };
+    confirm(rt.alloc(), &cr)
+}
+
+/// The answer to one with other selectors, and no size.
+fn other_confirmed(rt: &HostRuntime) -> Result<Octs, AllocError> {
+    let cr = Cr {
+        src: 0x1234,
+        size: None,
+        calling: Some(octs(rt, &[7])?),
+        called: Some(octs(rt, &[8, 9])?),
     };
     confirm(rt.alloc(), &cr)
 }
 
 #[test]
 fn a_cr_and_a_cc_are_written(rt: HostRuntime) {
-    // other selectors, and no size
     let other = [
         3, 0, 0, 18, 13, 0xd0, 0x12, 0x34, 0, 1, 0, 0xc2, 2, 8, 9, 0xc1, 1, 7,
     ];
     let right = is_written(call(rt.alloc(), 1), &CR)
-        && is_written(confirmed(&rt, 1, Some(13), &[0, 1], &[0, 1]), &CC)
-        && is_written(confirmed(&rt, 0x1234, None, &[7], &[8, 9]), &other);
+        && is_written(confirmed(&rt), &CC)
+        && is_written(other_confirmed(&rt), &other);
     assert!(rt; right);
 }
 
@@ -355,8 +356,13 @@ const STREAM: [u8; 39] = [
     2, 0xf0, 0, 1, 2, 3, 0, 0, 8, 2, 0xf0, 0x80, 3,
 ];
 
-/// Takes up to four TPKTs of a piece: how many octets each has, and 1 where it ended a TSDU. Says
-/// whether all was taken.
+/// How many octets a TPKT has, 0 above 255, and 1 where it ended a TSDU.
+fn told_of(taken: Tpkt) -> [u8; 2] {
+    let octets = u8::try_from(taken.octets).unwrap_or(0);
+    [octets, u8::from(taken.tsdu.is_some())]
+}
+
+/// Takes up to four TPKTs of a piece and tells of each. Says whether all was taken.
 fn step_all(
     alloc: Global,
     transport: &mut TransportIn,
@@ -367,7 +373,7 @@ fn step_all(
     for _ in 0..4 {
         let (taken, after) = transport.step(alloc, rest)?;
         if let Some(taken) = taken {
-            told.extend_from_slice(&[taken.octets as u8, u8::from(taken.tsdu.is_some())])?;
+            told.extend_from_slice(&told_of(taken))?;
         }
         rest = after;
     }

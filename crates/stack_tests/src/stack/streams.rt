@@ -302,13 +302,8 @@ fn a_server_refuses(rt: HostRuntime) -> Result<(), AllocError> {
 #[test]
 fn a_caller_writes(rt: HostRuntime) {
     let alloc = rt.alloc();
-    let line = Line {
-        context: 3,
-        exponent: 13,
-        size: 65000,
-    };
     let right = is_written(Caller::new(65000).opening(alloc), cr())
-        && is_written(Caller::release(alloc, line), finish());
+        && is_written(Caller::release(alloc, LINE), finish());
     assert!(rt; right);
 }
 
@@ -357,30 +352,86 @@ fn a_caller_refuses(rt: HostRuntime) -> Result<(), AllocError> {
     Ok(())
 }
 
+/// The line that both sides agree on.
+const LINE: Line = Line {
+    context: 3,
+    exponent: 13,
+    size: 65000,
+};
+
+/// Both sides of a connection, and what they told.
+#[derive(Drop)]
+struct Sides {
+    called: Upper,
+    caller: Caller,
+    log: Vec<u8>,
+}
+
+/// Feeds the called side, and the caller with what comes of it; gives what comes of that.
+fn round(
+    alloc: Global,
+    sides: &mut Sides,
+    octets: &[u8],
+    size: usize,
+) -> Result<Vec<u8>, AllocError>
+    requires { size ≢ 0 }
+{
+    let answer = reply(alloc, &mut sides.called, octets, size, &mut sides.log)?;
+    reply(alloc, &mut sides.caller, &answer, size, &mut sides.log)
+}
+
+fn connect(alloc: Global, sides: &mut Sides, size: usize) -> Result<(), AllocError>
+    requires { size ≢ 0 }
+{
+    let first = sides.caller.opening(alloc)?;
+    let second = round(alloc, sides, first.as_slice(), size)?;
+    round(alloc, sides, &second, size)?;
+    Ok(())
+}
+
+/// A report each way.
+fn report(alloc: Global, sides: &mut Sides, size: usize) -> Result<(), AllocError>
+    requires { size ≢ 0 }
+{
+    let report = framed_on(alloc, LINE, &REPORT)?;
+    reply(
+        alloc,
+        &mut sides.called,
+        report.as_slice(),
+        size,
+        &mut sides.log,
+    )?;
+    reply(
+        alloc,
+        &mut sides.caller,
+        report.as_slice(),
+        size,
+        &mut sides.log,
+    )?;
+    Ok(())
+}
+
+fn release(alloc: Global, sides: &mut Sides, size: usize) -> Result<(), AllocError>
+    requires { size ≢ 0 }
+{
+    let asked = Caller::release(alloc, LINE)?;
+    round(alloc, sides, asked.as_slice(), size)?;
+    Ok(())
+}
+
 /// What both sides tell of a connection, a report each way, and a release, with pieces of so many octets.
 fn talk(alloc: Global, size: usize) -> Result<Vec<u8>, AllocError>
     requires { size ≢ 0 }
 {
-    let line = Line {
-        context: 3,
-        exponent: 13,
-        size: 65000,
+    let mut sides = Sides {
+        called: Upper::new(),
+        caller: Caller::new(65000),
+        log: Vec::new(alloc),
     };
-    let mut log = Vec::new(alloc);
-    let mut upper = Upper::new();
-    let mut caller = Caller::new(65000);
-    let mut octets = caller.opening(alloc)?.into_vec();
-    for _ in 0..2 {
-        let answer = reply(alloc, &mut upper, &octets, size, &mut log)?;
-        octets = reply(alloc, &mut caller, &answer, size, &mut log)?;
-    }
-    let report = framed_on(alloc, line, &REPORT)?;
-    reply(alloc, &mut upper, report.as_slice(), size, &mut log)?;
-    reply(alloc, &mut caller, report.as_slice(), size, &mut log)?;
-    let asked = Caller::release(alloc, line)?;
-    let answer = reply(alloc, &mut upper, asked.as_slice(), size, &mut log)?;
-    reply(alloc, &mut caller, &answer, size, &mut log)?;
-    Ok(log)
+    connect(alloc, &mut sides, size)?;
+    report(alloc, &mut sides, size)?;
+    release(alloc, &mut sides, size)?;
+    Ok(sides.log)
 }
 
 /// What both sides are to tell.
