@@ -76,7 +76,7 @@ fn finds_each_set_by_domain_and_item(rt: HostRuntime) -> Result<(), Fail> {
             },
             None => None,
         };
-        assert!(rt; found == wanted, "members of a set");
+        assert_eq!(rt; found, wanted, "members of a set");
     }
     Ok(())
 }

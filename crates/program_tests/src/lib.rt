@@ -5,10 +5,6 @@
 #[cfg(test)]
 mod runs;
 
-// what a bay tells of itself
-#[cfg(test)]
-mod bay;
-
 // records, configurations, and command lines
 #[cfg(test)]
 mod configurations;
