@@ -3,7 +3,7 @@
 
 ghost use Rattle.std.specs.Prelude.{◌≤◌, length};
 
-use crate::spelled::{Part, spelled};
+use crate::spelled::{Part, is_written, spelled};
 use acse_apdu::{
     AcFault, read_aare, read_aarq, read_rlre, read_rlrq, write_aare, write_aarq, write_rlre,
     write_rlrq,
@@ -297,32 +297,50 @@ const ANSWERED_WRONG: [(&str, &[u8], AcFault); 13] = [
     ),
 ];
 
+/// Whether an AARQ carries these octets, and is no AARE.
+fn asks(alloc: Global, text: &[u8], pdu: &[u8]) -> Result<bool, AllocError> {
+    let octets = spelled(alloc, text, &PARTS)?;
+    Ok(read_aarq(&octets) == Ok(pdu) && read_aare(&octets) == Err(AcFault::Apdu))
+}
+
+fn is_refused_aarq(alloc: Global, text: &[u8], fault: AcFault) -> Result<bool, AllocError> {
+    let octets = spelled(alloc, text, &PARTS)?;
+    Ok(read_aarq(&octets) == Err(fault))
+}
+
 #[test]
-fn what_an_aarq_asks_with(rt: HostRuntime) -> Result<(), Fail> {
-    assert_eq!(rt; read_aarq(&AARQ)?, REQUEST.as_slice());
-    for (name, text) in ASKED {
-        let octets = spelled(rt.alloc(), text, &PARTS)?;
-        assert!(rt; read_aarq(&octets) == Ok(SHORT.as_slice()), "{name}");
-        assert_eq!(rt; read_aare(&octets), Err(AcFault::Apdu), "{name}");
+fn what_an_aarq_asks_with(rt: HostRuntime) -> Result<(), AllocError> {
+    let alloc = rt.alloc();
+    assert!(rt; read_aarq(&AARQ) == Ok(REQUEST.as_slice()));
+    for (name, text) in &ASKED {
+        assert!(rt; asks(alloc, text, &SHORT)?, "{name}");
     }
-    for (name, text, fault) in ASKED_WRONG {
-        let octets = spelled(rt.alloc(), text, &PARTS)?;
-        assert_eq!(rt; read_aarq(&octets), Err(fault), "{name}");
+    for (name, text, fault) in &ASKED_WRONG {
+        assert!(rt; is_refused_aarq(alloc, text, *fault)?, "{name}");
     }
     Ok(())
 }
 
+/// Whether an AARE carries these octets, and is no AARQ.
+fn answers(alloc: Global, text: &[u8], pdu: &[u8]) -> Result<bool, AllocError> {
+    let octets = spelled(alloc, text, &PARTS)?;
+    Ok(read_aare(&octets) == Ok(pdu) && read_aarq(&octets) == Err(AcFault::Apdu))
+}
+
+fn is_refused_aare(alloc: Global, text: &[u8], fault: AcFault) -> Result<bool, AllocError> {
+    let octets = spelled(alloc, text, &PARTS)?;
+    Ok(read_aare(&octets) == Err(fault))
+}
+
 #[test]
-fn what_an_aare_answers_with(rt: HostRuntime) -> Result<(), Fail> {
-    assert_eq!(rt; read_aare(&AARE)?, RESPONSE.as_slice());
-    for (name, text) in ANSWERED {
-        let octets = spelled(rt.alloc(), text, &PARTS)?;
-        assert!(rt; read_aare(&octets) == Ok(SHORT.as_slice()), "{name}");
-        assert_eq!(rt; read_aarq(&octets), Err(AcFault::Apdu), "{name}");
+fn what_an_aare_answers_with(rt: HostRuntime) -> Result<(), AllocError> {
+    let alloc = rt.alloc();
+    assert!(rt; read_aare(&AARE) == Ok(RESPONSE.as_slice()));
+    for (name, text) in &ANSWERED {
+        assert!(rt; answers(alloc, text, &SHORT)?, "{name}");
     }
-    for (name, text, fault) in ANSWERED_WRONG {
-        let octets = spelled(rt.alloc(), text, &PARTS)?;
-        assert_eq!(rt; read_aare(&octets), Err(fault), "{name}");
+    for (name, text, fault) in &ANSWERED_WRONG {
+        assert!(rt; is_refused_aare(alloc, text, *fault)?, "{name}");
     }
     Ok(())
 }
@@ -341,77 +359,77 @@ fn answered_with(alloc: Global, context: u32, pdu: &[u8]) -> Result<Octs, AllocE
     write_aare(alloc, context, pdu)
 }
 
-#[test]
-fn what_is_written(rt: HostRuntime) -> Result<(), Fail> {
-    let asked = asked_with(rt.alloc(), 3, &REQUEST)?;
-    assert_eq!(rt; asked.as_slice(), AARQ.as_slice());
-    let answered = answered_with(rt.alloc(), 3, &RESPONSE)?;
-    assert_eq!(rt; answered.as_slice(), AARE.as_slice());
-    // a number of a context with its first bit set has a zero octet before it, and the lengths grow
-    let wide = asked_with(rt.alloc(), 0x8000_0000, &SHORT)?;
-    assert_eq!(rt;
-        wide.as_slice(),
-        [
-            0x60, 0x1f, 0xa1, 7, 6, 5, 0x28, 0xca, 0x22, 2, 3, 0xbe, 0x14, 0x28, 0x12, 6, 2, 0x51,
-            1, 2, 5, 0, 0x80, 0, 0, 0, 0xa0, 5, 0xa8, 3, 0x80, 1, 0x64
-        ]
-        .as_slice()
-    );
-    assert_eq!(rt; read_aarq(wide.as_slice())?, SHORT.as_slice());
+// a number of a context with its first bit set has a zero octet before it, and the lengths grow
+const WIDE: [u8; 33] = [
+    0x60, 0x1f, 0xa1, 7, 6, 5, 0x28, 0xca, 0x22, 2, 3, 0xbe, 0x14, 0x28, 0x12, 6, 2, 0x51, 1, 2, 5,
+    0, 0x80, 0, 0, 0, 0xa0, 5, 0xa8, 3, 0x80, 1, 0x64,
+];
+
+/// Whether an AARQ of 300 octets has long lengths, and is read back.
+fn is_long(alloc: Global) -> Result<bool, AllocError> {
     let long = [7u8; 300];
-    let asked = asked_with(rt.alloc(), 1, &long)?;
-    assert!(rt;
-        asked
-            .as_slice()
-            .starts_with(&[0x60, 0x82, 1, 0x48, 0xa1, 7])
-    );
-    assert_eq!(rt; read_aarq(asked.as_slice())?, long.as_slice());
+    let asked = asked_with(alloc, 1, &long)?;
+    let octets = asked.as_slice();
+    Ok(
+        octets.starts_with(&[0x60, 0x82, 1, 0x48, 0xa1, 7])
+            && read_aarq(octets) == Ok(long.as_slice()),
+    )
+}
+
+#[test]
+fn what_is_written(rt: HostRuntime) -> Result<(), AllocError> {
+    let alloc = rt.alloc();
+    let right = is_written(asked_with(alloc, 3, &REQUEST), &AARQ)
+        && is_written(answered_with(alloc, 3, &RESPONSE), &AARE)
+        && is_written(asked_with(alloc, 0x8000_0000, &SHORT), &WIDE)
+        && read_aarq(&WIDE) == Ok(SHORT.as_slice());
+    assert!(rt; right);
+    assert!(rt; is_long(alloc)?);
     Ok(())
 }
 
-#[test]
-fn releases(rt: HostRuntime) {
-    assert_eq!(rt; write_rlrq(), [0x62, 3, 0x80, 1, 0]);
-    assert_eq!(rt; write_rlre(), [0x63, 3, 0x80, 1, 0]);
-    assert_eq!(rt; read_rlrq(&write_rlrq()), Ok(()));
-    assert_eq!(rt; read_rlre(&write_rlre()), Ok(()));
-    // no field; the reason urgent; the reason and user information; a long length
-    let fields: [&[u8]; 4] = [
-        &[0],
-        &[3, 0x80, 1, 1],
-        &[12, 0x80, 1, 0, 0xbe, 7, 0x28, 5, 0x02, 1, 3, 0xa0, 0],
-        &[0x81, 3, 0x80, 1, 0],
-    ];
-    // no length; cut off; a field cut off; an octet behind it; an indefinite length
-    let wrong: [&[u8]; 5] = [&[], &[3, 0x80, 1], &[2, 0x80, 1], &[0, 0], &[0x80, 0, 0]];
-    for rest in fields {
-        assert_eq!(rt; released(0x62, rest), (Ok(()), Err(AcFault::Apdu)));
-        assert_eq!(rt; released(0x63, rest), (Err(AcFault::Apdu), Ok(())));
-        assert_eq!(rt;
-            released(0x60, rest),
-            (Err(AcFault::Apdu), Err(AcFault::Apdu))
-        );
-    }
-    for rest in wrong {
-        assert_eq!(rt;
-            released(0x62, rest),
-            (Err(AcFault::Apdu), Err(AcFault::Apdu))
-        );
-        assert_eq!(rt;
-            released(0x63, rest),
-            (Err(AcFault::Apdu), Err(AcFault::Apdu))
-        );
-    }
-    assert_eq!(rt; read_rlrq(&[]), Err(AcFault::Apdu));
-    assert_eq!(rt; read_rlre(&[]), Err(AcFault::Apdu));
+// no field; the reason urgent; the reason and user information; a long length
+const FIELDS: [&[u8]; 4] = [
+    &[0],
+    &[3, 0x80, 1, 1],
+    &[12, 0x80, 1, 0, 0xbe, 7, 0x28, 5, 0x02, 1, 3, 0xa0, 0],
+    &[0x81, 3, 0x80, 1, 0],
+];
+
+// no length; cut off; a field cut off; an octet behind it; an indefinite length
+const WRONG: [&[u8]; 5] = [&[], &[3, 0x80, 1], &[2, 0x80, 1], &[0, 0], &[0x80, 0, 0]];
+
+fn answer(is_read: bool) -> Result<(), AcFault> {
+    if is_read { Ok(()) } else { Err(AcFault::Apdu) }
 }
 
-/// What the two readers of a release answer to a tag and what follows it.
-fn released(tag: u8, rest: &[u8]) -> (Result<(), AcFault>, Result<(), AcFault>) {
+/// Whether a tag and what follows it are read as a request and as an answer, or refused, as is said.
+fn is_told(tag: u8, rest: &[u8], is_request: bool, is_answer: bool) -> bool {
     let mut octets = [0u8; 20];
     octets[0] = tag;
     let len = rest.len().min(19);
     octets[1..1 + len].copy_from_slice(&rest[..len]);
     let apdu = &octets[..1 + len];
-    (read_rlrq(apdu), read_rlre(apdu))
+    read_rlrq(apdu) == answer(is_request) && read_rlre(apdu) == answer(is_answer)
+}
+
+#[test]
+fn releases(rt: HostRuntime) {
+    let written = write_rlrq() == [0x62, 3, 0x80, 1, 0]
+        && write_rlre() == [0x63, 3, 0x80, 1, 0]
+        && read_rlrq(&write_rlrq()) == Ok(())
+        && read_rlre(&write_rlre()) == Ok(());
+    assert!(rt; written);
+    for rest in &FIELDS {
+        let right = is_told(0x62, rest, true, false)
+            && is_told(0x63, rest, false, true)
+            && is_told(0x60, rest, false, false);
+        assert!(rt; right, "{rest:?}");
+    }
+    for rest in &WRONG {
+        let right = is_told(0x62, rest, false, false) && is_told(0x63, rest, false, false);
+        assert!(rt; right, "{rest:?}");
+    }
+    let empty = read_rlrq(&[]) == answer(false) && read_rlre(&[]) == answer(false);
+    assert!(rt; empty);
 }

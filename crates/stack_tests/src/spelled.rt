@@ -2,6 +2,7 @@
 
 use std::alloc::{AllocError, Global};
 use std::test::*;
+use sv_base::Octs;
 
 /// A capital letter, and the octets that it stands for.
 pub type Part<'a> = (u8, &'a [u8]);
@@ -40,8 +41,16 @@ pub fn spelled(alloc: Global, text: &[u8], parts: &[Part<'_>]) -> Result<Vec<u8>
     Ok(out)
 }
 
+/// Whether there was memory, and these octets were written.
+pub fn is_written(written: Result<Octs, AllocError>, octets: &[u8]) -> bool {
+    match &written {
+        Ok(written) => written.as_slice() == octets,
+        Err(_) => false,
+    }
+}
+
 #[test]
-fn digits_and_letters(rt: HostRuntime) -> Result<(), Fail> {
+fn digits_and_letters(rt: HostRuntime) -> Result<(), AllocError> {
     let parts: [Part; 2] = [(b'A', &[1, 2]), (b'N', &[])];
     let octets = spelled(rt.alloc(), b"09A9fNa0ffA", &parts)?;
     assert!(rt; octets.as_slice() == [0x09, 1, 2, 0x9f, 0xa0, 0xff, 1, 2].as_slice());

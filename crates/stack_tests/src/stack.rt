@@ -25,27 +25,39 @@ fn framed_on(alloc: Global, line: Line, pdu: &[u8]) -> Result<Octs, AllocError>
     frames(alloc, line, pdu)
 }
 
+/// Whether a PDU is sent as so many octets that begin and end so.
+fn is_framed(
+    alloc: Global,
+    line: Line,
+    pdu: &[u8],
+    len: usize,
+    front: &[u8],
+    end: &[u8],
+) -> Result<bool, AllocError>
+    requires exponent { IsExponent line.exponent }
+    requires pdu { length pdu.now ≤ 300 }
+{
+    let octets = framed_on(alloc, line, pdu)?;
+    let octets = octets.as_slice();
+    Ok(octets.len() == len && octets.starts_with(front) && octets.ends_with(end))
+}
+
 #[test]
-fn a_report_in_one_tpkt(rt: HostRuntime) -> Result<(), Fail> {
+fn a_report_in_one_tpkt(rt: HostRuntime) -> Result<(), AllocError> {
     let line = Line {
         context: 3,
         exponent: 13,
         size: 65000,
     };
-    let octets = framed_on(rt.alloc(), line, &REPORT)?;
-    let octets = octets.as_slice();
-    assert_eq!(rt; octets.len(), 81);
-    assert!(rt; octets.ends_with(&REPORT));
-    assert!(rt;
-        octets.starts_with(&[
-            3, 0, 0, 0x51, 2, 0xf0, 0x80, 1, 0, 1, 0, 0x61, 0x44, 0x30, 0x42, 2, 1, 3, 0xa0, 0x3d,
-        ])
-    );
+    let front = [
+        3, 0, 0, 0x51, 2, 0xf0, 0x80, 1, 0, 1, 0, 0x61, 0x44, 0x30, 0x42, 2, 1, 3, 0xa0, 0x3d,
+    ];
+    assert!(rt; is_framed(rt.alloc(), line, &REPORT, 81, &front, &REPORT)?);
     Ok(())
 }
 
 #[test]
-fn a_pdu_in_two_tpkts(rt: HostRuntime) -> Result<(), Fail> {
+fn a_pdu_in_two_tpkts(rt: HostRuntime) -> Result<(), AllocError> {
     // 128 octets a TPDU: 125 of data in the first DT, the other 15 in the last
     let line = Line {
         context: 300,
@@ -55,15 +67,13 @@ fn a_pdu_in_two_tpkts(rt: HostRuntime) -> Result<(), Fail> {
     let mut pdu = [7u8; 124];
     pdu[0] = 0xa0;
     pdu[1] = 122;
-    let octets = framed_on(rt.alloc(), line, &pdu)?;
-    let octets = octets.as_slice();
-    assert_eq!(rt; octets.len(), 154);
-    assert!(rt;
-        octets.starts_with(&[
-            3, 0, 0, 132, 2, 0xf0, 0, 1, 0, 1, 0, 0x61, 0x81, 0x85, 0x30, 0x81, 0x82, 2, 2, 1,
-            0x2c, 0xa0, 124, 0xa0, 122, 7,
-        ])
-    );
-    assert!(rt; octets[132..].starts_with(&[3, 0, 0, 22, 2, 0xf0, 0x80, 7]));
+    let front = [
+        3, 0, 0, 132, 2, 0xf0, 0, 1, 0, 1, 0, 0x61, 0x81, 0x85, 0x30, 0x81, 0x82, 2, 2, 1, 0x2c,
+        0xa0, 124, 0xa0, 122, 7,
+    ];
+    let last = [
+        3, 0, 0, 22, 2, 0xf0, 0x80, 7, 7, 7, 7, 7, 7, 7, 7, 7, 7, 7, 7, 7, 7, 7,
+    ];
+    assert!(rt; is_framed(rt.alloc(), line, &pdu, 154, &front, &last)?);
     Ok(())
 }

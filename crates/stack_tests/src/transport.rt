@@ -1,11 +1,13 @@
 //! Octets of TPKTs and TPDUs (RFC 1006, ISO 8073): what is read however it is cut, refused, and written.
 
-ghost use Rattle.std.specs.Prelude.{◌≡◌, IfOk};
+ghost use Rattle.std.specs.Prelude.{◌≡◌, ◌≤◌, IfOk};
+ghost use Rattle.tpkt_cotp.specs.Written.{IsExponent};
 
-use std::alloc::AllocError;
+use crate::spelled::is_written;
+use std::alloc::{AllocError, Global};
 use std::test::*;
 use sv_base::Octs;
-use tpkt_cotp::{Cr, TpFault, TransportIn, Tsdu, Tsdus, call, confirm, tsdu};
+use tpkt_cotp::{Cr, TpFault, Tpkt, TransportIn, Tsdu, Tsdus, call, confirm, tsdu};
 
 /// A CR with the TPDU size 2 ^ 13 and both selectors, as clients of IEC 61850-8-1 send it.
 const CR: [u8; 22] = [
@@ -29,90 +31,125 @@ fn octs(rt: &HostRuntime, octets: &[u8]) -> Result<Octs, AllocError>
     Ok(Octs::from_vec(Vec::from_slice(rt.alloc(), octets)?))
 }
 
+fn is_row(octets: &Option<Octs>, wanted: &[u8]) -> bool {
+    match octets {
+        Some(octets) => octets.as_slice() == wanted,
+        None => false,
+    }
+}
+
 /// What was given is one connection from reference 1 with the TPDU size 2 ^ 13 and both selectors `00 01`.
 fn is_the_connection(out: &Tsdus) -> bool {
     match out.as_slice() {
         [Tsdu::Connect(cr)] => {
             cr.src == 1
                 && cr.size == Some(13)
-                && matches!(&cr.calling, Some(octets) if octets.as_slice() == [0, 1].as_slice())
-                && matches!(&cr.called, Some(octets) if octets.as_slice() == [0, 1].as_slice())
+                && is_row(&cr.calling, &[0, 1])
+                && is_row(&cr.called, &[0, 1])
         }
         _ => false,
     }
 }
 
+/// Whether the connection comes of octets that are cut there, with the last of them.
+fn is_told_cut(
+    rt: &HostRuntime,
+    mut stream: TransportIn,
+    octets: &[u8; 22],
+    place: usize,
+) -> Result<bool, TpFault>
+    requires { place ≤ 22 }
+{
+    let (front, back) = octets.split_at(place);
+    let mut out = nothing(rt);
+    stream.feed(rt.alloc(), front, &mut out)?;
+    let early = out.len();
+    stream.feed(rt.alloc(), back, &mut out)?;
+    Ok(early == usize::from(place == 22) && is_the_connection(&out))
+}
+
 #[test]
 fn a_cr_and_a_cc_cut_at_every_place(rt: HostRuntime) -> Result<(), Fail> {
     for place in 0..23usize {
-        for (octets, is_dialled) in [(&CR, false), (&CC, true)] {
-            let (front, back) = octets.split_at(place);
-            let mut stream = if is_dialled {
-                TransportIn::dialled()
-            } else {
-                TransportIn::new()
-            };
-            let mut out = nothing(&rt);
-            stream.feed(rt.alloc(), front, &mut out)?;
-            assert_eq!(rt; out.len(), usize::from(place == 22), "front of {place}");
-            stream.feed(rt.alloc(), back, &mut out)?;
-            assert!(rt; is_the_connection(&out), "cut at {place}, {is_dialled}");
-        }
+        assert!(rt;
+            is_told_cut(&rt, TransportIn::new(), &CR, place)?,
+            "a CR cut at {place}"
+        );
+        assert!(rt;
+            is_told_cut(&rt, TransportIn::dialled(), &CC, place)?,
+            "a CC cut at {place}"
+        );
     }
     Ok(())
+}
+
+// two DTs of one TSDU, then a DR
+const DTS: [u8; 24] = [
+    3, 0, 0, 9, 2, 0xf0, 0, 1, 2, 3, 0, 0, 8, 2, 0xf0, 0x80, 3, 3, 0, 0, 7, 2, 0x80, 0,
+];
+
+fn feed_each(
+    rt: &HostRuntime,
+    stream: &mut TransportIn,
+    octets: &[u8],
+    out: &mut Tsdus,
+) -> Result<(), TpFault> {
+    for octet in octets {
+        stream.feed(rt.alloc(), &[*octet], out)?;
+    }
+    Ok(())
+}
+
+/// A connection, a TSDU of these octets, and an end.
+fn is_used(out: &Tsdus, wanted: &[u8]) -> bool {
+    match out.as_slice() {
+        [Tsdu::Connect(_), Tsdu::Data(octets), Tsdu::Disconnect] => octets.as_slice() == wanted,
+        _ => false,
+    }
 }
 
 #[test]
 fn octet_by_octet(rt: HostRuntime) -> Result<(), Fail> {
     let mut stream = TransportIn::new();
     let mut out = nothing(&rt);
-    for octet in &CR {
-        stream.feed(rt.alloc(), &[*octet], &mut out)?;
-    }
+    feed_each(&rt, &mut stream, &CR, &mut out)?;
     assert!(rt; is_the_connection(&out));
-    // two DTs of one TSDU, then a DR
-    for octet in &[
-        3, 0, 0, 9, 2, 0xf0, 0, 1, 2, 3, 0, 0, 8, 2, 0xf0, 0x80, 3, 3, 0, 0, 7, 2, 0x80, 0,
-    ] {
-        stream.feed(rt.alloc(), &[*octet], &mut out)?;
-    }
-    match out.as_slice() {
-        [Tsdu::Connect(_), Tsdu::Data(octets), Tsdu::Disconnect] => {
-            assert!(rt; octets.as_slice() == [1, 2, 3].as_slice());
-        }
-        _ => assert!(rt; false, "{out:?}"),
-    }
+    feed_each(&rt, &mut stream, &DTS, &mut out)?;
+    assert!(rt; is_used(&out, &[1, 2, 3]));
     Ok(())
 }
 
-#[test]
-fn a_cr_and_a_cc_are_written(rt: HostRuntime) -> Result<(), Fail> {
-    let request = call(rt.alloc(), 1)?;
-    assert!(rt; request.as_slice() == CR.as_slice());
+/// The answer to a CR.
+fn confirmed(rt: &HostRuntime) -> Result<Octs, AllocError> {
     let cr = Cr {
         src: 1,
         size: Some(13),
-        calling: Some(octs(&rt, &[0, 1])?),
-        called: Some(octs(&rt, &[0, 1])?),
+        calling: Some(octs(rt, &[0, 1])?),
+        called: Some(octs(rt, &[0, 1])?),
     };
-    let answer = confirm(rt.alloc(), &cr)?;
-    assert!(rt; answer.as_slice() == CC.as_slice());
-    // other selectors, and no size
+    confirm(rt.alloc(), &cr)
+}
+
+/// The answer to one with other selectors, and no size.
+fn other_confirmed(rt: &HostRuntime) -> Result<Octs, AllocError> {
     let cr = Cr {
         src: 0x1234,
         size: None,
-        calling: Some(octs(&rt, &[7])?),
-        called: Some(octs(&rt, &[8, 9])?),
+        calling: Some(octs(rt, &[7])?),
+        called: Some(octs(rt, &[8, 9])?),
     };
-    let answer = confirm(rt.alloc(), &cr)?;
-    assert!(rt;
-        answer.as_slice()
-            == [
-                3, 0, 0, 18, 13, 0xd0, 0x12, 0x34, 0, 1, 0, 0xc2, 2, 8, 9, 0xc1, 1, 7,
-            ]
-            .as_slice()
-    );
-    Ok(())
+    confirm(rt.alloc(), &cr)
+}
+
+#[test]
+fn a_cr_and_a_cc_are_written(rt: HostRuntime) {
+    let other = [
+        3, 0, 0, 18, 13, 0xd0, 0x12, 0x34, 0, 1, 0, 0xc2, 2, 8, 9, 0xc1, 1, 7,
+    ];
+    let right = is_written(call(rt.alloc(), 1), &CR)
+        && is_written(confirmed(&rt), &CC)
+        && is_written(other_confirmed(&rt), &other);
+    assert!(rt; right);
 }
 
 /// Streams and why they are refused.
@@ -153,24 +190,20 @@ const REFUSED: [(&[u8], TpFault); 16] = [
     ),
 ];
 
+/// Whether a stream is refused so, and then all that follows, and nothing is given.
+fn is_refused(alloc: Global, octets: &[u8], fault: TpFault) -> bool {
+    let mut stream = TransportIn::new();
+    let mut out = Tsdus::from_vec(Vec::new(alloc));
+    let found = stream.feed(alloc, octets, &mut out);
+    let again = stream.feed(alloc, &CR, &mut out);
+    found == Err(fault) && again == Err(fault) && out.len() == 0
+}
+
 #[test]
-fn refused_streams(rt: HostRuntime) -> Result<(), Fail> {
-    for (octets, fault) in REFUSED {
-        let mut stream = TransportIn::new();
-        let mut out = nothing(&rt);
-        let found = stream.feed(rt.alloc(), octets, &mut out);
-        assert!(rt;
-            matches!(&found, Err(other) if *other == fault),
-            "{found:?} for {fault:?}"
-        );
-        let again = stream.feed(rt.alloc(), &CR, &mut out);
-        assert!(rt;
-            matches!(&again, Err(other) if *other == fault),
-            "{again:?} after {fault:?}"
-        );
-        assert_eq!(rt; out.len(), 0, "after {fault:?}");
+fn refused_streams(rt: HostRuntime) {
+    for (octets, fault) in &REFUSED {
+        assert!(rt; is_refused(rt.alloc(), octets, *fault), "{octets:?}");
     }
-    Ok(())
 }
 
 /// CRs, with the size and the calling selector's length that are read.
@@ -198,28 +231,45 @@ const LENIENT: [(&[u8], Option<u8>, Option<usize>); 5] = [
     ),
 ];
 
+/// Whether a connection of this size and a calling selector of this length is told.
+fn is_connected(out: &Tsdus, size: Option<u8>, calling: Option<usize>) -> bool {
+    match out.as_slice() {
+        [Tsdu::Connect(cr)] => {
+            let found = match &cr.calling {
+                Some(octets) => Some(octets.len()),
+                None => None,
+            };
+            cr.size == size && found == calling
+        }
+        _ => false,
+    }
+}
+
+fn is_taken(
+    alloc: Global,
+    octets: &[u8],
+    size: Option<u8>,
+    calling: Option<usize>,
+) -> Result<bool, TpFault> {
+    let mut stream = TransportIn::new();
+    let mut out = Tsdus::from_vec(Vec::new(alloc));
+    stream.feed(alloc, octets, &mut out)?;
+    Ok(is_connected(&out, size, calling))
+}
+
 #[test]
 fn lenient_spellings(rt: HostRuntime) -> Result<(), Fail> {
-    for (octets, size, calling) in LENIENT {
-        let mut stream = TransportIn::new();
-        let mut out = nothing(&rt);
-        stream.feed(rt.alloc(), octets, &mut out)?;
-        match out.as_slice() {
-            [Tsdu::Connect(cr)] => {
-                assert!(rt; cr.size == size, "{cr:?}");
-                assert!(rt;
-                    cr.calling.as_ref().map(|octets| octets.len()) == calling,
-                    "{cr:?}"
-                );
-            }
-            _ => assert!(rt; false, "{out:?}"),
-        }
+    for (octets, size, calling) in &LENIENT {
+        assert!(rt;
+            is_taken(rt.alloc(), octets, *size, *calling)?,
+            "{octets:?}"
+        );
     }
     Ok(())
 }
 
 /// A stream on which the connection is open.
-fn open(rt: &HostRuntime) -> Result<TransportIn, Fail> {
+fn open(rt: &HostRuntime) -> Result<TransportIn, TpFault> {
     let mut stream = TransportIn::new();
     let mut out = nothing(rt);
     stream.feed(rt.alloc(), &CR, &mut out)?;
@@ -234,94 +284,124 @@ fn row(rt: &HostRuntime, len: usize) -> Result<Vec<u8>, AllocError> {
     Ok(octets)
 }
 
+fn is_tsdu(out: &Tsdus, tsdu: &[u8]) -> bool {
+    match out.as_slice() {
+        [Tsdu::Data(octets)] => octets.as_slice() == tsdu,
+        _ => false,
+    }
+}
+
 /// Feeds the octets in two pieces, and says whether the TSDU came.
-fn is_read_back(rt: &HostRuntime, written: &[u8], tsdu: &[u8]) -> Result<bool, Fail> {
+fn is_read_back(rt: &HostRuntime, written: &[u8], tsdu: &[u8]) -> Result<bool, TpFault> {
     let mut stream = open(rt)?;
     let mut out = nothing(rt);
     let (front, back) = written.split_at(written.len() / 2);
     stream.feed(rt.alloc(), front, &mut out)?;
     stream.feed(rt.alloc(), back, &mut out)?;
-    Ok(matches!(out.as_slice(), [Tsdu::Data(octets)] if octets.as_slice() == tsdu))
+    Ok(is_tsdu(&out, tsdu))
 }
+
+/// Whether a TSDU is written in so many octets at an exponent, and read back.
+fn is_cut(rt: &HostRuntime, exponent: u8, octets: &[u8], len: usize) -> Result<bool, TpFault>
+    requires exponent { IsExponent exponent }
+{
+    match tsdu(rt.alloc(), exponent, octets) {
+        Ok(written) => Ok(written.len() == len && is_read_back(rt, written.as_slice(), octets)?),
+        Err(_) => Ok(false),
+    }
+}
+
+// ISO 8073: a DT's TPDU has three header octets; each TPKT has four more. 20000 octets take so many at each exponent
+const LENGTHS: [(u8, usize); 8] = [
+    (7, 21120),
+    (8, 20560),
+    (9, 20280),
+    (10, 20140),
+    (11, 20070),
+    (12, 20035),
+    (13, 20021),
+    (16, 20007),
+];
 
 #[test]
 fn dts_at_each_exponent(rt: HostRuntime) -> Result<(), Fail> {
     let octets = row(&rt, 20000)?;
-    // ISO 8073: a DT's TPDU has three header octets; each TPKT has four more
-    let counts: [usize; 7] = [160, 80, 40, 20, 10, 5, 3];
-    let mut count = counts.iter();
-    for exponent in 7..14u8 {
-        let written = tsdu(rt.alloc(), exponent, &octets)?;
-        if let Some(count) = count.next() {
-            assert_eq!(rt;
-                written.len(),
-                20000usize.saturating_add(count.saturating_mul(7)),
-                "at {exponent}"
-            );
-        }
-        assert!(rt;
-            is_read_back(&rt, written.as_slice(), &octets)?,
-            "at {exponent}"
-        );
+    for (exponent, len) in LENGTHS {
+        assert!(rt; is_cut(&rt, exponent, &octets, len)?, "at {exponent}");
     }
-    let written = tsdu(rt.alloc(), 16, &octets)?;
-    assert_eq!(rt; written.len(), 20007);
-    assert!(rt; is_read_back(&rt, written.as_slice(), &octets)?);
-    let written = tsdu(rt.alloc(), 7, &[])?;
-    assert!(rt; written.as_slice() == [3, 0, 0, 7, 2, 0xf0, 0x80].as_slice());
+    assert!(rt; is_written(tsdu(rt.alloc(), 7, &[]), &[3, 0, 0, 7, 2, 0xf0, 0x80]));
     Ok(())
+}
+
+/// Whether a TSDU is refused for its length, and nothing is given.
+fn is_over_limit(rt: &HostRuntime, octets: &[u8]) -> Result<bool, TpFault> {
+    let written = tsdu(rt.alloc(), 10, octets)?;
+    let mut stream = open(rt)?;
+    let mut out = nothing(rt);
+    let found = stream.feed(rt.alloc(), written.as_slice(), &mut out);
+    Ok(found == Err(TpFault::TsduLimit) && out.len() == 0)
 }
 
 #[test]
 fn the_limit_of_a_tsdu(rt: HostRuntime) -> Result<(), Fail> {
-    let octets = row(&rt, 70000)?;
-    let written = tsdu(rt.alloc(), 16, &octets)?;
     // 65528 octets fill the first DT
-    assert_eq!(rt; written.len(), 70014);
-    assert!(rt; is_read_back(&rt, written.as_slice(), &octets)?);
-    let octets = row(&rt, 70001)?;
-    let written = tsdu(rt.alloc(), 10, &octets)?;
-    let mut stream = open(&rt)?;
-    let mut out = nothing(&rt);
-    let found = stream.feed(rt.alloc(), written.as_slice(), &mut out);
-    assert!(rt; matches!(&found, Err(TpFault::TsduLimit)), "{found:?}");
-    assert_eq!(rt; out.len(), 0);
+    assert!(rt; is_cut(&rt, 16, &row(&rt, 70000)?, 70014)?);
+    assert!(rt; is_over_limit(&rt, &row(&rt, 70001)?)?);
     Ok(())
+}
+
+// a CR, and two DTs of one TSDU
+const STREAM: [u8; 39] = [
+    3, 0, 0, 22, 0x11, 0xe0, 0, 0, 0, 1, 0, 0xc0, 1, 13, 0xc2, 2, 0, 1, 0xc1, 2, 0, 1, 3, 0, 0, 9,
+    2, 0xf0, 0, 1, 2, 3, 0, 0, 8, 2, 0xf0, 0x80, 3,
+];
+
+/// How many octets a TPKT has, 0 above 255, and 1 where it ended a TSDU.
+fn told_of(taken: Tpkt) -> [u8; 2] {
+    let octets = u8::try_from(taken.octets).unwrap_or(0);
+    [octets, u8::from(taken.tsdu.is_some())]
+}
+
+/// Takes up to four TPKTs of a piece and tells of each. Says whether all was taken.
+fn step_all(
+    alloc: Global,
+    transport: &mut TransportIn,
+    piece: &[u8],
+    told: &mut Vec<u8>,
+) -> Result<bool, TpFault> {
+    let mut rest = piece;
+    for _ in 0..4 {
+        let (taken, after) = transport.step(alloc, rest)?;
+        if let Some(taken) = taken {
+            told.extend_from_slice(&told_of(taken))?;
+        }
+        rest = after;
+    }
+    Ok(rest.is_empty())
+}
+
+fn is_stepped(alloc: Global, place: usize) -> Result<bool, TpFault>
+    requires { place ≤ 39 }
+{
+    let (front, back) = STREAM.split_at(place);
+    let mut transport = TransportIn::new();
+    let mut told = Vec::new(alloc);
+    let first = step_all(alloc, &mut transport, front, &mut told)?;
+    let second = step_all(alloc, &mut transport, back, &mut told)?;
+    Ok(first && second && told.as_slice() == [22, 1, 9, 0, 8, 1].as_slice())
+}
+
+fn is_no_version(alloc: Global, transport: &mut TransportIn, octets: &[u8]) -> bool {
+    matches!(transport.step(alloc, octets), Err(TpFault::Version))
 }
 
 #[test]
 fn one_tpkt_at_a_time(rt: HostRuntime) -> Result<(), Fail> {
-    // a CR, and two DTs of one TSDU
-    let stream = [
-        3, 0, 0, 22, 0x11, 0xe0, 0, 0, 0, 1, 0, 0xc0, 1, 13, 0xc2, 2, 0, 1, 0xc1, 2, 0, 1, 3, 0, 0,
-        9, 2, 0xf0, 0, 1, 2, 3, 0, 0, 8, 2, 0xf0, 0x80, 3,
-    ];
     for place in 0..40usize {
-        let (front, back) = stream.split_at(place);
-        let mut transport = TransportIn::new();
-        let mut lengths = Vec::new(rt.alloc());
-        let mut gave = Vec::new(rt.alloc());
-        for piece in [front, back] {
-            let mut rest = piece;
-            for _ in 0..4 {
-                let (taken, after) = transport.step(rt.alloc(), rest)?;
-                if let Some(taken) = taken {
-                    lengths.push(taken.octets)?;
-                    gave.push(taken.tsdu.is_some())?;
-                }
-                rest = after;
-            }
-            assert!(rt; rest.is_empty(), "cut at {place}");
-        }
-        assert_eq!(rt; lengths.as_slice(), [22, 9, 8].as_slice(), "cut at {place}");
-        assert_eq!(rt;
-            gave.as_slice(),
-            [true, false, true].as_slice(),
-            "cut at {place}"
-        );
+        assert!(rt; is_stepped(rt.alloc(), place)?, "cut at {place}");
     }
     let mut transport = TransportIn::new();
-    assert!(rt; matches!(transport.step(rt.alloc(), &[4]), Err(TpFault::Version)));
-    assert!(rt; matches!(transport.step(rt.alloc(), &stream), Err(TpFault::Version)));
+    assert!(rt; is_no_version(rt.alloc(), &mut transport, &[4]));
+    assert!(rt; is_no_version(rt.alloc(), &mut transport, &STREAM));
     Ok(())
 }

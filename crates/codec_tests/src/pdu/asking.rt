@@ -1,5 +1,6 @@
 //! What a client writes, in octets.
 
+use crate::pdu::is_written;
 use mms_pdu::{write_conclude_request, write_read_request, write_write_request};
 use std::test::*;
 use sv_base::Value;
@@ -16,12 +17,14 @@ const WRITTEN: [u8; 28] = [
 ];
 
 #[test]
-fn requests_are_written(rt: HostRuntime) -> Result<(), Fail> {
+fn requests_are_written(rt: HostRuntime) {
     let alloc = rt.alloc();
-    let read = write_read_request(alloc, 5, b"D", b"L$S")?;
-    assert_eq!(rt; read.as_slice(), READ.as_slice());
-    let written = write_write_request(alloc, 6, b"D", b"L$S", &Value::Bool(true))?;
-    assert_eq!(rt; written.as_slice(), WRITTEN.as_slice());
-    assert_eq!(rt; write_conclude_request(), [0x8b, 0]);
-    Ok(())
+    let value = Value::Bool(true);
+    let right = is_written(write_read_request(alloc, 5, b"D", b"L$S"), &READ)
+        && is_written(
+            write_write_request(alloc, 6, b"D", b"L$S", &value),
+            &WRITTEN,
+        )
+        && write_conclude_request() == [0x8b, 0];
+    assert!(rt; right);
 }

@@ -1,6 +1,7 @@
 //! What a server sends, as standards and servers have it, and what is refused of it.
 
 use mms_pdu::{PduFault, ReplyView, reply};
+use std::alloc::{AllocError, Global};
 use std::test::*;
 
 /// A report with one value, as a server of IEC 61850-8-1 sends it.
@@ -303,22 +304,24 @@ const REPLIES: [(&[u8], &str); 61] = [
     ),
 ];
 
+fn is_read(alloc: Global, octets: &[u8], want: &str) -> Result<bool, AllocError> {
+    let read = reply(octets);
+    let text = format!(in alloc; "{read:?}")?;
+    Ok(text.as_str() == want)
+}
+
 #[test]
-fn replies(rt: HostRuntime) -> Result<(), Fail> {
-    for (octets, want) in REPLIES {
-        let read = reply(octets);
-        let text = format!(in rt.alloc(); "{read:?}")?;
-        assert_eq!(rt; text.as_str(), want, "{octets:?}");
+fn replies(rt: HostRuntime) -> Result<(), AllocError> {
+    for (octets, want) in &REPLIES {
+        assert!(rt; is_read(rt.alloc(), octets, want)?, "{octets:?}");
     }
     Ok(())
 }
 
 #[test]
 fn reports_are_given_whole(rt: HostRuntime) {
-    assert_eq!(rt; reply(&REPORT), Ok(ReplyView::Information(&REPORT)));
-    assert_eq!(rt;
-        reply(&LAST_APPL_ERROR),
-        Ok(ReplyView::Information(&LAST_APPL_ERROR))
-    );
-    assert_eq!(rt; reply(&REPORT[..60]), Err(PduFault::Invalid));
+    let right = reply(&REPORT) == Ok(ReplyView::Information(&REPORT))
+        && reply(&LAST_APPL_ERROR) == Ok(ReplyView::Information(&LAST_APPL_ERROR))
+        && reply(&REPORT[..60]) == Err(PduFault::Invalid);
+    assert!(rt; right);
 }

@@ -141,10 +141,14 @@ const REFUSALS: [(&[u8], PduFault); 46] = [
     ),
 ];
 
+fn fault_of(octets: &[u8]) -> Option<PduFault> {
+    request(octets).err()
+}
+
 #[test]
 fn refusals(rt: HostRuntime) {
-    for (octets, fault) in REFUSALS {
-        assert_eq!(rt; request(octets).err(), Some(fault), "{octets:?}");
+    for (octets, fault) in &REFUSALS {
+        assert!(rt; fault_of(octets) == Some(*fault), "{octets:?}");
     }
 }
 
@@ -159,16 +163,20 @@ const DISREGARDED: [&[u8]; 7] = [
     &[0xa3, 0x82, 0, 0],
 ];
 
+fn is_disregarded(octets: &[u8]) -> bool {
+    matches!(request(octets), Ok(RequestView::Disregard))
+}
+
+fn is_conclude(octets: &[u8]) -> bool {
+    matches!(request(octets), Ok(RequestView::Conclude))
+}
+
 #[test]
 fn some_pdus_ask_nothing(rt: HostRuntime) {
-    for octets in DISREGARDED {
-        assert!(rt;
-            matches!(request(octets), Ok(RequestView::Disregard)),
-            "{octets:?}"
-        );
+    for octets in &DISREGARDED {
+        assert!(rt; is_disregarded(octets), "{octets:?}");
     }
-    assert!(rt; matches!(request(&[0x8b, 0]), Ok(RequestView::Conclude)));
-    assert!(rt; matches!(request(&[0x8b, 0x81, 0]), Ok(RequestView::Conclude)));
+    assert!(rt; is_conclude(&[0x8b, 0]) && is_conclude(&[0x8b, 0x81, 0]));
 }
 
 /// What octets ask under an invoke number.
@@ -186,14 +194,23 @@ const LONG: [u8; 9] = [0xa0, 7, 2, 3, 0, 0, 1, 0x82, 0];
 
 const STATUS: [u8; 8] = [0xa0, 6, 2, 1, 1, 0x80, 1, 0];
 
-#[test]
-fn invoke_numbers(rt: HostRuntime) {
-    assert!(rt; matches!(asked_by(&LARGE, 4294967295), Some(ServiceView::Identify)));
-    assert!(rt; matches!(asked_by(&LONG, 1), Some(ServiceView::Identify)));
-    assert!(rt; matches!(asked_by(&STATUS, 1), Some(ServiceView::Status)));
+fn is_identify(octets: &[u8], number: u32) -> bool {
+    matches!(asked_by(octets, number), Some(ServiceView::Identify))
 }
 
-const NAMES: [(&[u8], u8, ScopeView<'static>, Option<&[u8]>); 4] = [
+fn is_status(octets: &[u8], number: u32) -> bool {
+    matches!(asked_by(octets, number), Some(ServiceView::Status))
+}
+
+#[test]
+fn invoke_numbers(rt: HostRuntime) {
+    assert!(rt; is_identify(&LARGE, 4294967295) && is_identify(&LONG, 1) && is_status(&STATUS, 1));
+}
+
+/// Octets, and the class, the scope and the name behind which names are asked for.
+type NamesRow = (&'static [u8], u8, ScopeView<'static>, Option<&'static [u8]>);
+
+const NAMES: [NamesRow; 4] = [
     // the domains of the server
     (
         &[
@@ -233,22 +250,23 @@ const NAMES: [(&[u8], u8, ScopeView<'static>, Option<&[u8]>); 4] = [
     ),
 ];
 
+fn asks_names(row: &NamesRow) -> bool {
+    match asked_by(row.0, 1) {
+        Some(
+            ServiceView::Names {
+                class,
+                scope,
+                after,
+            },
+        ) => class == row.1 && scope == row.2 && after == row.3,
+        _ => false,
+    }
+}
+
 #[test]
 fn names(rt: HostRuntime) {
-    for (octets, want_class, want_scope, want_after) in NAMES {
-        match asked_by(octets, 1) {
-            Some(
-                ServiceView::Names {
-                    class,
-                    scope,
-                    after,
-                },
-            ) => {
-                assert_eq!(rt; class, want_class);
-                assert!(rt; scope == want_scope && after == want_after, "{octets:?}");
-            }
-            _ => panic!(rt; "{octets:?}"),
-        }
+    for row in &NAMES {
+        assert!(rt; asks_names(row), "{:?}", row.0);
     }
 }
 
@@ -289,31 +307,37 @@ const READ_SET: [u8; 25] = [
     0x1a, 4, b'L', b'L', b'N', b'0',
 ];
 
+fn asks_read(octets: &[u8], want: bool, alternate: bool) -> bool {
+    match asked_by(octets, 3) {
+        Some(ServiceView::Read { variables, spec }) => {
+            spec == want && is_named(variables, alternate)
+        }
+        _ => false,
+    }
+}
+
+fn asks_read_of_nothing(octets: &[u8]) -> bool {
+    match asked_by(octets, 3) {
+        Some(ServiceView::Read { mut variables, .. }) => variables.next().is_none(),
+        _ => false,
+    }
+}
+
+fn asks_read_of_set(octets: &[u8]) -> bool {
+    match asked_by(octets, 3) {
+        Some(ServiceView::ReadSet { name, spec }) => name == NAMED && !spec,
+        _ => false,
+    }
+}
+
 #[test]
 fn reads(rt: HostRuntime) {
-    for (octets, want, alternate) in [
-        (READ.as_slice(), false, false),
-        (&READ_SPECIFIED, true, false),
-        (&READ_ALTERNATE, false, true),
-    ] {
-        match asked_by(octets, 3) {
-            Some(ServiceView::Read { variables, spec }) => {
-                assert!(rt;
-                    spec == want && is_named(variables, alternate),
-                    "{octets:?}"
-                );
-            }
-            _ => panic!(rt; "{octets:?}"),
-        }
-    }
-    match asked_by(&READ_NOTHING, 3) {
-        Some(ServiceView::Read { mut variables, .. }) => assert!(rt; variables.next().is_none()),
-        _ => panic!(rt; "an empty list"),
-    }
-    match asked_by(&READ_SET, 3) {
-        Some(ServiceView::ReadSet { name, spec }) => assert!(rt; name == NAMED && !spec),
-        _ => panic!(rt; "a named list"),
-    }
+    let right = asks_read(&READ, false, false)
+        && asks_read(&READ_SPECIFIED, true, false)
+        && asks_read(&READ_ALTERNATE, false, true)
+        && asks_read_of_nothing(&READ_NOTHING)
+        && asks_read_of_set(&READ_SET);
+    assert!(rt; right);
 }
 
 const WRITE: [u8; 32] = [
@@ -334,20 +358,33 @@ fn is_five(alloc: Global, mut values: DataList<'_>) -> Result<bool, AllocError> 
     Ok(matches!(only.value(alloc)?, Value::Int(5)) && values.next().is_none())
 }
 
+fn asks_write(alloc: Global, octets: &[u8]) -> Result<bool, AllocError> {
+    match asked_by(octets, 4) {
+        Some(ServiceView::WriteVars { variables, values }) => {
+            let is_one = is_named(variables, false);
+            Ok(is_one && is_five(alloc, values)?)
+        }
+        _ => Ok(false),
+    }
+}
+
+fn asks_write_of_set(alloc: Global, octets: &[u8]) -> Result<bool, AllocError> {
+    match asked_by(octets, 4) {
+        Some(ServiceView::WriteSet { name, values }) => {
+            let is_one = name == NAMED;
+            Ok(is_one && is_five(alloc, values)?)
+        }
+        _ => Ok(false),
+    }
+}
+
 #[test]
 fn writes(rt: HostRuntime) -> Result<(), AllocError> {
-    match asked_by(&WRITE, 4) {
-        Some(ServiceView::WriteVars { variables, values }) => {
-            assert!(rt; is_named(variables, false) && is_five(rt.alloc(), values)?);
-        }
-        _ => panic!(rt; "a write"),
-    }
-    match asked_by(&WRITE_SET, 4) {
-        Some(ServiceView::WriteSet { name, values }) => {
-            assert!(rt; name == NAMED && is_five(rt.alloc(), values)?);
-        }
-        _ => panic!(rt; "a write of a named list"),
-    }
+    assert!(rt; asks_write(rt.alloc(), &WRITE)?, "a write");
+    assert!(rt;
+        asks_write_of_set(rt.alloc(), &WRITE_SET)?,
+        "a write of a named list"
+    );
     Ok(())
 }
 
@@ -390,43 +427,49 @@ fn named_count(names: NameList<'_>) -> Option<usize> {
     Some(count)
 }
 
+fn asks_type(octets: &[u8]) -> bool {
+    match asked_by(octets, 5) {
+        Some(ServiceView::TypeOfNode(name)) => name == NAMED,
+        _ => false,
+    }
+}
+
+fn asks_definition(octets: &[u8]) -> bool {
+    match asked_by(octets, 6) {
+        Some(ServiceView::Define { name, members }) => name == NAMED && is_named(members, false),
+        _ => false,
+    }
+}
+
+fn asks_set(octets: &[u8], want: &NameView<'_>) -> bool {
+    match asked_by(octets, 6) {
+        Some(ServiceView::SetOf(name)) => name == *want,
+        _ => false,
+    }
+}
+
 #[test]
 fn lists_and_types(rt: HostRuntime) {
-    match asked_by(&TYPE_OF, 5) {
-        Some(ServiceView::TypeOfNode(name)) => assert!(rt; name == NAMED),
-        _ => panic!(rt; "a type"),
-    }
-    match asked_by(&DEFINE, 6) {
-        Some(ServiceView::Define { name, members }) => {
-            assert!(rt; name == NAMED && is_named(members, false));
+    let right = asks_type(&TYPE_OF)
+        && asks_definition(&DEFINE)
+        && asks_set(&SET_OF, &NameView::Vmd(&[0]))
+        && asks_set(&SET_OF_ASSOCIATION, &NameView::Association(b"@"));
+    assert!(rt; right);
+}
+
+fn asks_deletion(octets: &[u8], want_scope: u8, count: usize) -> bool {
+    match asked_by(octets, 7) {
+        Some(ServiceView::Delete { scope, names }) => {
+            scope == want_scope && named_count(names) == Some(count)
         }
-        _ => panic!(rt; "a definition"),
-    }
-    match asked_by(&SET_OF, 6) {
-        Some(ServiceView::SetOf(name)) => assert!(rt; name == NameView::Vmd(&[0])),
-        _ => panic!(rt; "a list of the server"),
-    }
-    match asked_by(&SET_OF_ASSOCIATION, 6) {
-        Some(ServiceView::SetOf(name)) => assert!(rt; name == NameView::Association(b"@")),
-        _ => panic!(rt; "a list of the association"),
+        _ => false,
     }
 }
 
 #[test]
 fn deletions(rt: HostRuntime) {
-    for (octets, want_scope, count) in [
-        (DELETE.as_slice(), 1, 1),
-        (&DELETE_NAMED, 0, 1),
-        (&DELETE_NOTHING, 0, 0),
-    ] {
-        match asked_by(octets, 7) {
-            Some(ServiceView::Delete { scope, names }) => {
-                assert!(rt;
-                    scope == want_scope && named_count(names) == Some(count),
-                    "{octets:?}"
-                );
-            }
-            _ => panic!(rt; "{octets:?}"),
-        }
-    }
+    let right = asks_deletion(&DELETE, 1, 1)
+        && asks_deletion(&DELETE_NAMED, 0, 1)
+        && asks_deletion(&DELETE_NOTHING, 0, 0);
+    assert!(rt; right);
 }

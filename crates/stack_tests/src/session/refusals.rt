@@ -3,6 +3,7 @@
 use super::PARTS;
 use crate::spelled::spelled;
 use session_pres::{SpFault, read_ac, read_cp, read_data};
+use std::alloc::{AllocError, Global};
 use std::test::*;
 
 const REFUSED_CPS: [(&str, &[u8], SpFault); 25] = [
@@ -163,19 +164,34 @@ const REFUSED_DATA: [(&str, &[u8]); 7] = [
     ("no element in it", b"61073005020101a000"),
 ];
 
+fn cp_fault(alloc: Global, text: &[u8]) -> Result<Option<SpFault>, AllocError> {
+    let octets = spelled(alloc, text, &PARTS)?;
+    Ok(read_cp(&octets).err())
+}
+
+fn accept_fault(alloc: Global, text: &[u8]) -> Result<Option<SpFault>, AllocError> {
+    let octets = spelled(alloc, text, &PARTS)?;
+    Ok(read_ac(&octets).err())
+}
+
+fn data_fault(alloc: Global, text: &[u8]) -> Result<Option<SpFault>, AllocError> {
+    let octets = spelled(alloc, text, &PARTS)?;
+    Ok(read_data(&octets).err())
+}
+
 #[test]
-fn refused_ppdus(rt: HostRuntime) -> Result<(), Fail> {
-    for (name, text, fault) in REFUSED_CPS {
-        let octets = spelled(rt.alloc(), text, &PARTS)?;
-        assert_eq!(rt; read_cp(&octets).err(), Some(fault), "{name}");
+fn refused_ppdus(rt: HostRuntime) -> Result<(), AllocError> {
+    for (name, text, fault) in &REFUSED_CPS {
+        assert!(rt; cp_fault(rt.alloc(), text)? == Some(*fault), "{name}");
     }
-    for (name, text, fault) in REFUSED_ACCEPTS {
-        let octets = spelled(rt.alloc(), text, &PARTS)?;
-        assert_eq!(rt; read_ac(&octets).err(), Some(fault), "{name}");
+    for (name, text, fault) in &REFUSED_ACCEPTS {
+        assert!(rt; accept_fault(rt.alloc(), text)? == Some(*fault), "{name}");
     }
-    for (name, text) in REFUSED_DATA {
-        let octets = spelled(rt.alloc(), text, &PARTS)?;
-        assert_eq!(rt; read_data(&octets).err(), Some(SpFault::Pdv), "{name}");
+    for (name, text) in &REFUSED_DATA {
+        assert!(rt;
+            data_fault(rt.alloc(), text)? == Some(SpFault::Pdv),
+            "{name}"
+        );
     }
     Ok(())
 }

@@ -3,6 +3,7 @@
 ghost use Rattle.std.specs.Prelude.{◌≢◌};
 
 use super::{REPORT, framed_on};
+use crate::spelled::is_written;
 use osi_stack::{Caller, Event, Events, Line, StackFault, Upper};
 use std::alloc::{AllocError, Global};
 use std::test::*;
@@ -216,16 +217,34 @@ fn agreed() -> &'static [u8] {
     &[b'C', 0, 0, 0, 3, 13, 0, 0, 0xfd, 0xe8]
 }
 
+/// Whether a called side tells this of a stream.
+fn is_served(alloc: Global, stream: &[u8], size: usize, wanted: &[u8]) -> Result<bool, AllocError>
+    requires { size ≢ 0 }
+{
+    let told = told(alloc, &mut Upper::new(), stream, size)?;
+    Ok(told.as_slice() == wanted)
+}
+
+/// Whether a calling side tells this of a stream.
+fn is_called(alloc: Global, stream: &[u8], size: usize, wanted: &[u8]) -> Result<bool, AllocError>
+    requires { size ≢ 0 }
+{
+    let told = told(alloc, &mut Caller::new(65000), stream, size)?;
+    Ok(told.as_slice() == wanted)
+}
+
 #[test]
-fn a_server_answers(rt: HostRuntime) -> Result<(), Fail> {
+fn a_server_answers(rt: HostRuntime) -> Result<(), AllocError> {
     let stream = joined(rt.alloc(), &[cr(), cn(), finish(), &[4, 4]])?;
     let answers = joined(
         rt.alloc(),
         &[b"A", cc(), agreed(), ac(), b"R", disconnect()],
     )?;
     for size in [1, 7, 1000] {
-        let told = told(rt.alloc(), &mut Upper::new(), &stream, size)?;
-        assert!(rt; told == answers, "pieces of {size}: {told:?}");
+        assert!(rt;
+            is_served(rt.alloc(), &stream, size, &answers)?,
+            "pieces of {size}"
+        );
     }
     Ok(())
 }
@@ -246,14 +265,25 @@ fn refusal(alloc: Global, before: &[&[u8]], fault: [u8; 3]) -> Result<Vec<u8>, A
     Ok(out)
 }
 
+/// Whether a called side refuses a stream of TPKTs, before which the CC and perhaps the ACCEPT are told.
+fn is_refused(alloc: Global, stream: &[&[u8]], fault: [u8; 3]) -> Result<bool, AllocError> {
+    let stream = joined(alloc, stream)?;
+    let wanted = match fault[2] {
+        0 => refusal(alloc, &[], fault)?,
+        22 => refusal(alloc, &[b"A", cc()], fault)?,
+        _ => refusal(alloc, &[b"A", cc(), agreed(), ac()], fault)?,
+    };
+    is_served(alloc, &stream, 1000, &wanted)
+}
+
 #[test]
-fn a_server_refuses(rt: HostRuntime) -> Result<(), Fail> {
+fn a_server_refuses(rt: HostRuntime) -> Result<(), AllocError> {
     let alloc = rt.alloc();
     let name = changed(alloc, cn(), NAME, 4)?;
     let small = changed(alloc, cn(), SIZE, 3)?;
     let small = changed(alloc, &small, SIZE + 1, 0xff)?;
     let elsewhere = changed(alloc, finish(), CONTEXT, 3)?;
-    // TPKTs, the last of which is refused, and the refusal; before it the CC and perhaps the ACCEPT are told
+    // TPKTs, the last of which is refused, and the refusal
     let refused: [([&[u8]; 3], [u8; 3]); 7] = [
         ([&[4], &[], &[]], [1, 1, 0]),
         ([cn(), &[], &[]], [1, 5, 0]),
@@ -264,56 +294,128 @@ fn a_server_refuses(rt: HostRuntime) -> Result<(), Fail> {
         ([cr(), cn(), &elsewhere], [2, 6, 185]),
     ];
     for (stream, fault) in refused {
-        let stream = joined(alloc, &stream)?;
-        let wanted = match fault[2] {
-            0 => refusal(alloc, &[], fault)?,
-            22 => refusal(alloc, &[b"A", cc()], fault)?,
-            _ => refusal(alloc, &[b"A", cc(), agreed(), ac()], fault)?,
-        };
-        let told = told(alloc, &mut Upper::new(), &stream, 1000)?;
-        assert!(rt; told == wanted, "{fault:?}: {told:?}");
+        assert!(rt; is_refused(alloc, &stream, fault)?, "{fault:?}");
     }
     Ok(())
 }
 
 #[test]
-fn a_caller_asks(rt: HostRuntime) -> Result<(), Fail> {
+fn a_caller_writes(rt: HostRuntime) {
     let alloc = rt.alloc();
-    let opening = Caller::new(65000).opening(alloc)?;
-    assert!(rt; opening.as_slice() == cr());
-    let line = Line {
-        context: 3,
-        exponent: 13,
-        size: 65000,
-    };
-    let asked = Caller::release(alloc, line)?;
-    assert!(rt; asked.as_slice() == finish());
+    let right = is_written(Caller::new(65000).opening(alloc), cr())
+        && is_written(Caller::release(alloc, LINE), finish());
+    assert!(rt; right);
+}
+
+#[test]
+fn a_caller_asks(rt: HostRuntime) -> Result<(), AllocError> {
+    let alloc = rt.alloc();
     let stream = joined(alloc, &[cc(), ac(), disconnect(), &[4, 4]])?;
     let wanted = joined(alloc, &[b"A", cn(), agreed(), b"R"])?;
     for size in [1, 7, 1000] {
-        let told = told(alloc, &mut Caller::new(65000), &stream, size)?;
-        assert!(rt; told == wanted, "pieces of {size}: {told:?}");
+        assert!(rt;
+            is_called(alloc, &stream, size, &wanted)?,
+            "pieces of {size}"
+        );
     }
     Ok(())
 }
 
+/// Whether a calling side refuses an ACCEPT with this octet changed.
+fn is_refused_accept(
+    alloc: Global,
+    place: usize,
+    to: u8,
+    layer: u8,
+    code: u8,
+) -> Result<bool, AllocError> {
+    let accept = changed(alloc, ac(), place, to)?;
+    let stream = joined(alloc, &[cc(), &accept])?;
+    let wanted = refusal(alloc, &[b"A", cn()], [layer, code, 22])?;
+    is_called(alloc, &stream, 1000, &wanted)
+}
+
 #[test]
-fn a_caller_refuses(rt: HostRuntime) -> Result<(), Fail> {
-    let alloc = rt.alloc();
-    let refused = [
+fn a_caller_refuses(rt: HostRuntime) -> Result<(), AllocError> {
+    for (place, to, layer, code) in [
         (FIRST, 1, 2, 4),
         (SECOND, 1, 2, 5),
         (RESULT, 1, 3, 1),
         (INITIATE, 0xa8, 4, 4),
         (ACCEPTED, 3, 4, 5),
-    ];
-    for (place, to, layer, code) in refused {
-        let accept = changed(alloc, ac(), place, to)?;
-        let stream = joined(alloc, &[cc(), &accept])?;
-        let wanted = refusal(alloc, &[b"A", cn()], [layer, code, 22])?;
-        let told = told(alloc, &mut Caller::new(65000), &stream, 1000)?;
-        assert!(rt; told == wanted, "{layer} {code}: {told:?}");
+    ] {
+        assert!(rt;
+            is_refused_accept(rt.alloc(), place, to, layer, code)?,
+            "{layer} {code}"
+        );
     }
+    Ok(())
+}
+
+/// The line that both sides agree on.
+const LINE: Line = Line {
+    context: 3,
+    exponent: 13,
+    size: 65000,
+};
+
+/// Both sides of a connection, and what they told.
+#[derive(Drop)]
+struct Sides {
+    called: Upper,
+    caller: Caller,
+    log: Vec<u8>,
+}
+
+/// Feeds the called side, and the caller with what comes of it; gives what comes of that.
+fn round(
+    alloc: Global,
+    sides: &mut Sides,
+    octets: &[u8],
+    size: usize,
+) -> Result<Vec<u8>, AllocError>
+    requires { size ≢ 0 }
+{
+    let answer = reply(alloc, &mut sides.called, octets, size, &mut sides.log)?;
+    reply(alloc, &mut sides.caller, &answer, size, &mut sides.log)
+}
+
+fn connect(alloc: Global, sides: &mut Sides, size: usize) -> Result<(), AllocError>
+    requires { size ≢ 0 }
+{
+    let first = sides.caller.opening(alloc)?;
+    let second = round(alloc, sides, first.as_slice(), size)?;
+    round(alloc, sides, &second, size)?;
+    Ok(())
+}
+
+/// A report each way.
+fn report(alloc: Global, sides: &mut Sides, size: usize) -> Result<(), AllocError>
+    requires { size ≢ 0 }
+{
+    let report = framed_on(alloc, LINE, &REPORT)?;
+    reply(
+        alloc,
+        &mut sides.called,
+        report.as_slice(),
+        size,
+        &mut sides.log,
+    )?;
+    reply(
+        alloc,
+        &mut sides.caller,
+        report.as_slice(),
+        size,
+        &mut sides.log,
+    )?;
+    Ok(())
+}
+
+fn release(alloc: Global, sides: &mut Sides, size: usize) -> Result<(), AllocError>
+    requires { size ≢ 0 }
+{
+    let asked = Caller::release(alloc, LINE)?;
+    round(alloc, sides, asked.as_slice(), size)?;
     Ok(())
 }
 
@@ -321,40 +423,52 @@ fn a_caller_refuses(rt: HostRuntime) -> Result<(), Fail> {
 fn talk(alloc: Global, size: usize) -> Result<Vec<u8>, AllocError>
     requires { size ≢ 0 }
 {
-    let line = Line {
-        context: 3,
-        exponent: 13,
-        size: 65000,
+    let mut sides = Sides {
+        called: Upper::new(),
+        caller: Caller::new(65000),
+        log: Vec::new(alloc),
     };
-    let mut log = Vec::new(alloc);
-    let mut upper = Upper::new();
-    let mut caller = Caller::new(65000);
-    let mut octets = caller.opening(alloc)?.into_vec();
-    for _ in 0..2 {
-        let answer = reply(alloc, &mut upper, &octets, size, &mut log)?;
-        octets = reply(alloc, &mut caller, &answer, size, &mut log)?;
-    }
-    let report = framed_on(alloc, line, &REPORT)?;
-    reply(alloc, &mut upper, report.as_slice(), size, &mut log)?;
-    reply(alloc, &mut caller, report.as_slice(), size, &mut log)?;
-    let asked = Caller::release(alloc, line)?;
-    let answer = reply(alloc, &mut upper, asked.as_slice(), size, &mut log)?;
-    reply(alloc, &mut caller, &answer, size, &mut log)?;
-    Ok(log)
+    connect(alloc, &mut sides, size)?;
+    report(alloc, &mut sides, size)?;
+    release(alloc, &mut sides, size)?;
+    Ok(sides.log)
+}
+
+/// What both sides are to tell.
+fn talked(alloc: Global) -> Result<Vec<u8>, AllocError> {
+    joined(
+        alloc,
+        &[
+            b"A",
+            cc(),
+            b"A",
+            cn(),
+            agreed(),
+            ac(),
+            agreed(),
+            b"P",
+            &REPORT,
+            b"P",
+            &REPORT,
+            b"R",
+            disconnect(),
+            b"R",
+        ],
+    )
+}
+
+fn is_talk(alloc: Global, size: usize, wanted: &[u8]) -> Result<bool, AllocError>
+    requires { size ≢ 0 }
+{
+    let log = talk(alloc, size)?;
+    Ok(log.as_slice() == wanted)
 }
 
 #[test]
-fn both_sides_talk(rt: HostRuntime) -> Result<(), Fail> {
-    let alloc = rt.alloc();
-    let made = joined(alloc, &[b"A", cc(), b"A", cn(), agreed(), ac(), agreed()])?;
-    let used = joined(
-        alloc,
-        &[b"P", &REPORT, b"P", &REPORT, b"R", disconnect(), b"R"],
-    )?;
-    let wanted = joined(alloc, &[&made, &used])?;
+fn both_sides_talk(rt: HostRuntime) -> Result<(), AllocError> {
+    let wanted = talked(rt.alloc())?;
     for size in 1..41 {
-        let log = talk(alloc, size)?;
-        assert!(rt; log == wanted, "pieces of {size}: {log:?}");
+        assert!(rt; is_talk(rt.alloc(), size, &wanted)?, "pieces of {size}");
     }
     Ok(())
 }
