@@ -30,4 +30,7 @@ pub use part::ReportPart;
 pub use reading::read_report;
 
 // what is promised of them
-pub use laws::{inclusion_bits_tell, segments_are_full, segments_are_reports};
+pub use laws::{
+    each_pdu_tells_one_thing, inclusion_bits_tell, segments_are_full, segments_are_read_back,
+    segments_are_reports,
+};
