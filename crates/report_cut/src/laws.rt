@@ -10,6 +10,10 @@ ghost use Rattle.mms_pdu.specs.ReplyOctets.{IsReport};
 ghost use Rattle.report_cut.specs.declared.segment.Segment.{Segment};
 ghost use Rattle.report_cut.specs.Fields.{pdu, rpt, results, included, is_there};
 ghost use Rattle.report_cut.specs.Rows.{AreSpelled, results_row};
+ghost use Rattle.report_cut.specs.Part.{IsReportPart};
+ghost use Rattle.report_cut.specs.Told.{parts, AreParts, CanBeRead};
+ghost use Rattle.report_cut.specs.declared.part.ReportPart.{ReportPart};
+ghost use Rattle.ber_grammar.specs.Octets.{IsBytes};
 ghost use Rattle.report_cut.specs.Pdus.{fits, pdus, IsShort, CanBeCut, AreSegments, IsCut};
 
 /// Each PDU of a report fits the size. Where the report goes in segments, each has members that fit, all together have each
@@ -31,4 +35,14 @@ pub fn segments_are_reports()
 pub fn inclusion_bits_tell()
     ensures count { (total : ℕ) (ms : List Member) → length (included total ms) ≡ total }
     ensures tells { (total n : ℕ) (ms : List Member) → n < total → get_or (included total ms) n false ≡ is_there n ms }
+{}
+
+/// Octets tell at most one thing.
+pub fn each_pdu_tells_one_thing()
+    ensures { (input : List ℕ) (p q : ReportPart) → IsBytes input → IsReportPart input p → IsReportPart input q → p ≡ q }
+{}
+
+/// Each PDU of a report is read back: it tells the fields that OptFlds asks for and the members of that PDU.
+pub fn segments_are_read_back()
+    ensures { (r : Report) (size : ℕ) → CanBeCut r → CanBeRead r → 1024 ≤ size → size < 2 ^ 32 → AreParts (pdus r size) (parts r size) }
 {}

@@ -1,0 +1,6 @@
+use Rattle.std.proofs.Common.{◌≡◌, ◌<◌, ◌^◌, take}
+use Rattle.ber_grammar.specs.Octets.{big_endian}
+use Rattle.report_cut.proofs.contents.unsigned_of.Given as goal
+
+abbrev pub invariant-loop-octet : goal.invariant-loop-octet
+invariant-loop-octet l = (l.n ≡ big_endian (take l.octet-index l.octets)) × (l.n < 256 ^ l.octet-index)

@@ -1,0 +1,49 @@
+//! Octets written as text: two hexadecimal digits each, and capital letters that stand for whole parts.
+
+use std::alloc::{AllocError, Global};
+use std::test::*;
+
+/// A capital letter, and the octets that it stands for.
+pub type Part<'a> = (u8, &'a [u8]);
+
+fn digit(octet: u8) -> u8 {
+    match octet {
+        b'0'..=b'9' => octet - b'0',
+        b'a'..=b'f' => octet - b'a' + 10,
+        _ => 0,
+    }
+}
+
+fn part<'a>(parts: &[Part<'a>], letter: u8) -> &'a [u8] {
+    for (name, octets) in parts {
+        if *name == letter {
+            return octets;
+        }
+    }
+    &[]
+}
+
+/// The octets that the text spells.
+pub fn spelled(alloc: Global, text: &[u8], parts: &[Part<'_>]) -> Result<Vec<u8>, AllocError> {
+    let mut out = Vec::new(alloc);
+    let mut high = None;
+    for octet in text {
+        if octet.is_ascii_uppercase() {
+            out.extend_from_slice(part(parts, *octet))?;
+        } else if let Some(first) = high {
+            out.push(digit(first).wrapping_mul(16).wrapping_add(digit(*octet)))?;
+            high = None;
+        } else {
+            high = Some(*octet);
+        }
+    }
+    Ok(out)
+}
+
+#[test]
+fn digits_and_letters(rt: HostRuntime) -> Result<(), Fail> {
+    let parts: [Part; 2] = [(b'A', &[1, 2]), (b'N', &[])];
+    let octets = spelled(rt.alloc(), b"09A9fNa0ffA", &parts)?;
+    assert!(rt; octets.as_slice() == [0x09, 1, 2, 0x9f, 0xa0, 0xff, 1, 2].as_slice());
+    Ok(())
+}
