@@ -106,7 +106,14 @@ fn a_release_both_ways(rt: HostRuntime) -> Result<(), Fail> {
     Ok(())
 }
 
-const CHOSEN_CONTEXTS: [(&str, &[u8], u32, u32, &[bool]); 3] = [
+const CHOSEN_CONTEXTS: [(&str, &[u8], u32, u32, &[bool]); 4] = [
+    (
+        "the mode in long lengths, behind another element",
+        b"313ca0810781010080810101a230a423AMU",
+        1,
+        3,
+        &[true, true],
+    ),
     (
         "the first of two contexts of MMS",
         b"3149Sa242a435AM3010020105060528ca220201300406025101U",
