@@ -4,3 +4,4 @@ pub mod FitLaws
 pub mod ConnectionLaws
 pub mod StandingLaws
 pub mod ReadBackLaws
+pub mod AnsweredLaws

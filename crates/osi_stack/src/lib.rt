@@ -32,4 +32,6 @@ pub use upper::Upper;
 pub use sending::frames;
 
 // Laws.
-pub use laws::{a_stream_gives_one_list, frames_are_read_back, short_pdus_fit};
+pub use laws::{
+    a_refused_stream_stays_refused, a_stream_gives_one_list, frames_are_read_back, short_pdus_fit,
+};

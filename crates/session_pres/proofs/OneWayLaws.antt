@@ -3,19 +3,19 @@ use Rattle.std.proofs.Common.{◌≡◌, ℕ, Option, Result, Ok, Err, sym, ◌�
 use Rattle.ber_grammar.specs.Place.{Piece}
 use Rattle.ber_grammar.specs.Steps.{IsLacking, required}
 use Rattle.ber_grammar.proofs.ReaderLaws.{ok_is, err_is, gives_at, refuses_at}
-use Rattle.ber_grammar.proofs.StepLaws.{Exact, required_exact, then_exact}
-use Rattle.session_pres.specs.declared.codes.TheConstants.{ACCEPT, DISCONNECT}
+use Rattle.ber_grammar.proofs.StepLaws.{Exact, required_exact}
+use Rattle.session_pres.specs.declared.codes.TheConstants.{DISCONNECT}
 use Rattle.session_pres.specs.declared.fault.SpFault.{SpFault}
 use Rattle.session_pres.specs.declared.fault.SpFault.TheVariants as faults
-use Rattle.session_pres.specs.Units.{Seen, HasData, IsDataRefused, HasUser, IsUserRefused, IsSpdu, IsSpduRefused}
-use Rattle.session_pres.specs.UnitReading.{data_of, user_of, spdu_at}
+use Rattle.session_pres.specs.Units.{HasUser, IsUserRefused, IsSpdu, IsSpduRefused}
+use Rattle.session_pres.specs.UnitReading.{user_of, spdu_at}
 use Rattle.session_pres.specs.UserData.{IsUserData, user_data_at}
-use Rattle.session_pres.specs.Presentation.{Request, IsCp, IsCpRefused, IsCpa, IsCpaRefused, IsAc, IsAcRefused}
+use Rattle.session_pres.specs.Presentation.{IsCp, IsCpRefused, IsCpa, IsCpaRefused, IsAc, IsAcRefused}
 use Rattle.session_pres.specs.PresentationReading.{cp_at, cpa_at, ac_at}
 use Rattle.session_pres.specs.OneWay.{IsOneWay}
 use Rattle.session_pres.proofs.UnitLaws.{user_exact, data_exact, spdu_exact}
 use Rattle.session_pres.proofs.UserDataLaws.{user_data_found, user_data_again}
-use Rattle.session_pres.proofs.PresentationLaws.{cp_exact, cpa_exact}
+use Rattle.session_pres.proofs.PresentationLaws.{cp_exact, cpa_exact, ac_exact}
 
 not_both : {Y F : Type 0} (y : Y) (f : F) (r : Result Y F) → Ok y ≡ r → Err f ≡ r → ⊥
 not_both y f (Ok z) e d = cc
@@ -39,10 +39,6 @@ cp_one input = one_way (cp_at input) (IsCp input) (IsCpRefused input) (cp_exact 
 
 pub cpa_one : (input : Piece) → IsOneWay (IsCpa input) (IsCpaRefused input)
 cpa_one input = one_way (cpa_at input) (IsCpa input) (IsCpaRefused input) (cpa_exact input)
-
-pub ac_exact : (input : Piece) → Exact (ac_at input) (IsAc input) (IsAcRefused input)
-unfolding ac_at
-ac_exact input = then_exact (data_of ACCEPT input) cpa_at (HasData ACCEPT input) (IsDataRefused ACCEPT input) IsCpa IsCpaRefused (data_exact ACCEPT input) (λ cpa s. cpa_exact cpa)
 
 pub ac_one : (input : Piece) → IsOneWay (IsAc input) (IsAcRefused input)
 ac_one input = one_way (ac_at input) (IsAc input) (IsAcRefused input) (ac_exact input)

@@ -124,8 +124,9 @@ cpa_exact input =
     step_exact (accepted_at (second_in results)) faults.NoMmsContext _ (IsAccepted (second_in results)) _ _ (accepted_found (second_in results)) (accepted_again (second_in results)) (λ m u.
     required_exact (user_in fields 1) faults.Pdv (IsUser fields 1) (user_found fields 1) (user_again fields 1)))))))
 
-pub ac_reads : {X : Type 0} (view : X → Piece) (r : Result X SpFault) (input : Piece) → Gives view r (ac_at input) → Reads view r (IsAc input) (IsAcRefused input)
+pub ac_exact : (input : Piece) → Exact (ac_at input) (IsAc input) (IsAcRefused input)
 unfolding ac_at
-ac_reads view r input g =
-    reads_from view r (data_of ACCEPT input >>= cpa_at) (IsAc input) (IsAcRefused input)
-    (then_exact (data_of ACCEPT input) cpa_at (HasData ACCEPT input) (IsDataRefused ACCEPT input) IsCpa IsCpaRefused (data_exact ACCEPT input) (λ cpa s. cpa_exact cpa)) g
+ac_exact input = then_exact (data_of ACCEPT input) cpa_at (HasData ACCEPT input) (IsDataRefused ACCEPT input) IsCpa IsCpaRefused (data_exact ACCEPT input) (λ cpa s. cpa_exact cpa)
+
+pub ac_reads : {X : Type 0} (view : X → Piece) (r : Result X SpFault) (input : Piece) → Gives view r (ac_at input) → Reads view r (IsAc input) (IsAcRefused input)
+ac_reads view r input g = reads_from view r (ac_at input) (IsAc input) (IsAcRefused input) (ac_exact input) g
