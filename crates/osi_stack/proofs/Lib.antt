@@ -5,3 +5,6 @@ pub mod ConnectionLaws
 pub mod StandingLaws
 pub mod ReadBackLaws
 pub mod AnsweredLaws
+pub mod SpelledLaws
+pub mod TellsLaws
+pub mod GoesLaws

@@ -10,3 +10,4 @@ pub mod Going
 pub mod Standing
 pub mod Sides
 pub mod Open
+pub mod Spelled

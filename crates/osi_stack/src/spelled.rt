@@ -1,0 +1,36 @@
+//! What is promised of events: the productions of the standards that spell them.
+
+ghost use Rattle.std.specs.Prelude.{◌≡◌, ℕ, List, Option, Ok};
+ghost use Rattle.ber_grammar.specs.Octets.{IsBytes};
+ghost use Rattle.tpkt_cotp.specs.declared.tsdus.Tsdu.{Tsdu};
+ghost use Rattle.session_pres.specs.Presentation.{Request};
+ghost use Rattle.mms_pdu.specs.declared.initiate.Initiate.{Initiate};
+ghost use Rattle.osi_stack.specs.declared.caller.Caller.{Caller};
+ghost use Rattle.osi_stack.specs.declared.events.Event.{Event};
+ghost use Rattle.osi_stack.specs.declared.phase.Phase.{Phase};
+ghost use Rattle.osi_stack.specs.declared.upper.Upper.{Upper};
+ghost use Rattle.osi_stack.specs.Machine.{tsdu_at};
+ghost use Rattle.osi_stack.specs.Sides.{StandsFor, CallsFor};
+ghost use Rattle.osi_stack.specs.Spelled.{IsRequest, IsResponse, IsData, Tells, HasOctets, Spells};
+ghost use Rattle.osi_stack.specs.Stream.{Stand, called, calling, StandsAt};
+
+/// The octets that an object was fed spell the events that it gave, by the productions of RFC 1006, ISO 8073, ISO 8327-1,
+/// ISO 8823-1, ISO 8650-1 and ISO 9506-2; and a stream that spells events stands for them.
+pub fn events_are_what_octets_spell()
+    ensures upper { (u : Upper) (octets : List ℕ) (es : List Event) → StandsFor u octets es → (t : Stand) × (rest : List ℕ) × Spells called t rest octets es }
+    ensures caller { (x : Caller) (size : ℕ) (octets : List ℕ) (es : List Event) → CallsFor x size octets es → (t : Stand) × (rest : List ℕ) × Spells (calling size) t rest octets es }
+    ensures spells { (from t : Stand) (rest octets : List ℕ) (es : List Event) → IsBytes from.transport.tsdu → StandsAt from t rest octets es → Spells from t rest octets es }
+    ensures stands { (from t : Stand) (rest octets : List ℕ) (es : List Event) → Spells from t rest octets es → StandsAt from t rest octets es }
+    ensures tells { (phase : Phase) (tsdu : Tsdu) (x : Phase × Option Event) → HasOctets tsdu → tsdu_at phase tsdu ≡ Ok x → Tells phase tsdu x }
+    ensures told { (phase : Phase) (tsdu : Tsdu) (x : Phase × Option Event) → Tells phase tsdu x → tsdu_at phase tsdu ≡ Ok x }
+{}
+
+/// A stream spells one list of events, a TSDU tells a connection one thing, a CONNECT brings one request, an ACCEPT one
+/// answer, and data one value in one context.
+pub fn what_octets_spell_is_one_thing()
+    ensures stream { (from t u : Stand) (rest other octets : List ℕ) (es ds : List Event) → Spells from t rest octets es → Spells from u other octets ds → (es ≡ ds) × (t ≡ u) × (rest ≡ other) }
+    ensures tsdu { (phase : Phase) (tsdu : Tsdu) (x y : Phase × Option Event) → Tells phase tsdu x → Tells phase tsdu y → x ≡ y }
+    ensures request { (octets : List ℕ) (cp other : Request) (i j : Initiate) → IsRequest octets cp i → IsRequest octets other j → (cp ≡ other) × (i ≡ j) }
+    ensures response { (octets : List ℕ) (i j : Initiate) → IsResponse octets i → IsResponse octets j → i ≡ j }
+    ensures value { (octets : List ℕ) (m n : ℕ) (v w : List ℕ) → IsData octets m v → IsData octets n w → (m ≡ n) × (v ≡ w) }
+{}
