@@ -69,11 +69,11 @@ pub step_is : (s : Stand) (t : State) (tpdu : List ℕ) (given : Option Tsdu) (n
 unfolding step_at
 step_is s t tpdu given next e step gift = rw (step, gift) refl
 
-step_fails : (s : Stand) (t : State) (tpdu : List ℕ) (given : Option Tsdu) (c : Cause) → tpdu_at s.transport tpdu ≡ Ok (t, given) → gifts_at s.phase given ≡ Err c → step_at s tpdu ≡ Err c
+pub step_fails : (s : Stand) (t : State) (tpdu : List ℕ) (given : Option Tsdu) (c : Cause) → tpdu_at s.transport tpdu ≡ Ok (t, given) → gifts_at s.phase given ≡ Err c → step_at s tpdu ≡ Err c
 unfolding step_at
 step_fails s t tpdu given c step gift = rw (step, gift) refl
 
-step_refused : (s : Stand) (tpdu : List ℕ) (f : TpFault) → tpdu_at s.transport tpdu ≡ Err f → step_at s tpdu ≡ Err (of_transport f)
+pub step_refused : (s : Stand) (tpdu : List ℕ) (f : TpFault) → tpdu_at s.transport tpdu ≡ Err f → step_at s tpdu ≡ Err (of_transport f)
 unfolding step_at
 step_refused s tpdu f step = rw step refl
 

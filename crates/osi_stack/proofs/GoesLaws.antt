@@ -49,19 +49,21 @@ open_octets : (t u : State) → t ≡ u → IsBytes u.tsdu → IsBytes t.tsdu
 open_octets t u same fits = subst (λ (s : State). IsBytes s.tsdu) (sym same) fits
 
 -- what a TPDU of octets gives are octets, and so is what is held then
-taken_octets : (s t : State) (tpdu : List ℕ) (given : Option Tsdu) → IsBytes s.tsdu → IsBytes tpdu → IsTaken s tpdu t given → IsBytes t.tsdu × GivesOctets given
+pub taken_octets : (s t : State) (tpdu : List ℕ) (given : Option Tsdu) → IsBytes s.tsdu → IsBytes tpdu → IsTaken s tpdu t given → IsBytes t.tsdu × GivesOctets given
 taken_octets s t tpdu (Some (Connect cr)) held fits (none, li, rest, whole, is, same) = (open_octets t _ same held, tt)
 taken_octets s t tpdu (Some (Data octets)) held fits (there, nr, more, whole, end, is, few, same) =
     (open_octets t _ same (λ i. omega arith), subst IsBytes (sym is) (IsBytes-append s.tsdu more held (behind_nr tpdu more nr fits whole)))
 taken_octets s t tpdu (Some Disconnect) held fits (li, code, rest, whole, header, is, same) = (open_octets t s same held, tt)
 taken_octets s t tpdu None held fits (there, nr, more, whole, low, few, same) = (open_octets t _ same (IsBytes-append s.tsdu more held (behind_nr tpdu more nr fits whole)), tt)
 
-all_octets : (tpdus : List (List ℕ)) → IsBytes (flat_map packet tpdus) → AllByRecursion IsBytes tpdus
+pub packet_holds : (tpdu : List ℕ) → IsBytes (packet tpdu) → IsBytes tpdu
+packet_holds tpdu fits = let n : ℕ = length tpdu + 4 in IsBytes-back (3 ∷ 0 ∷ n / 256 ∷ n % 256 ∷ []) tpdu fits
+
+pub all_octets : (tpdus : List (List ℕ)) → IsBytes (flat_map packet tpdus) → AllByRecursion IsBytes tpdus
 all_octets [] fits = tt
 all_octets (p ∷ ps) fits =
     let all : IsBytes (packet p ++ flat_map packet ps) = subst IsBytes (flat_map-cons packet p ps) fits in
-    let n : ℕ = length p + 4 in
-    (IsBytes-back (3 ∷ 0 ∷ n / 256 ∷ n % 256 ∷ []) p (IsBytes-front (packet p) (flat_map packet ps) all), all_octets ps (IsBytes-back (packet p) (flat_map packet ps) all))
+    (packet_holds p (IsBytes-front (packet p) (flat_map packet ps) all), all_octets ps (IsBytes-back (packet p) (flat_map packet ps) all))
 
 -- ---- one TPDU
 
@@ -106,13 +108,13 @@ goes_step s t tpdu e (given, taken, tells) = step_is s t.transport tpdu given t.
 
 -- ---- a stream
 
-runs_go : (s t : Stand) (tpdus : List (List ℕ)) (es : List Event) → IsBytes s.transport.tsdu → AllByRecursion IsBytes tpdus → Runs s tpdus es t → GoOn s tpdus es t
+pub runs_go : (s t : Stand) (tpdus : List (List ℕ)) (es : List Event) → IsBytes s.transport.tsdu → AllByRecursion IsBytes tpdus → Runs s tpdus es t → GoOn s tpdus es t
 runs_go s t [] es held fits runs = (runs.0, runs.1)
 runs_go s t (p ∷ ps) es held fits (on, mid, first, others, step, split, runs) =
     let g = step_goes s mid p first held fits.0 step in
     (on, mid, first, others, g.0, split, runs_go mid t ps others g.1 fits.1 runs)
 
-go_runs : (s t : Stand) (tpdus : List (List ℕ)) (es : List Event) → GoOn s tpdus es t → Runs s tpdus es t
+pub go_runs : (s t : Stand) (tpdus : List (List ℕ)) (es : List Event) → GoOn s tpdus es t → Runs s tpdus es t
 go_runs s t [] es go = (go.0, go.1)
 go_runs s t (p ∷ ps) es (on, mid, first, others, goes, split, go) = (on, mid, first, others, goes_step s mid p first goes, split, go_runs mid t ps others go)
 

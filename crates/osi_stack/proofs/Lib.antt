@@ -8,3 +8,5 @@ pub mod AnsweredLaws
 pub mod SpelledLaws
 pub mod TellsLaws
 pub mod GoesLaws
+pub mod RefusalLaws
+pub mod RefusedStreamLaws

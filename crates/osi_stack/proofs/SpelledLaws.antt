@@ -120,7 +120,7 @@ rlrq_back p is = sym (rlrq-anywhere p) ∙ release_again RLRQ p is
 pub rlre_back : (p : Piece) → IsRelease RLRE p → rlre_of p.octets ≡ Ok tt
 rlre_back p is = sym (rlre-anywhere p) ∙ release_again RLRE p is
 
-gives_itself : {Y F : Type 0} (r : Result Y F) → Gives (λ (y : Y). y) r r
+pub gives_itself : {Y F : Type 0} (r : Result Y F) → Gives (λ (y : Y). y) r r
 gives_itself (Ok y) = refl
 gives_itself (Err f) = refl
 

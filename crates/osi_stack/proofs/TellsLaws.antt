@@ -101,7 +101,7 @@ chosen_ok : (b : Bool) (y v : List ℕ) (c : Cause) → (let r : Result (List �
 chosen_ok true y v c h = (refl, ok_is {F = Cause} y v h)
 chosen_ok false y v c h = absurd cc
 
-abbrev if_in : ℕ → ℕ × List ℕ → Result (List ℕ) Cause
+abbrev pub if_in : ℕ → ℕ × List ℕ → Result (List ℕ) Cause
 if_in context pdv = cond (eqb pdv.0 context) (Ok pdv.1) (Err (of_session session.Pdv))
 
 context_is : (context : ℕ) (user : Piece) (v : List ℕ) (pdv : ℕ × Piece) → IsUserData user pdv → if_in context (pdv.0, pdv.1.octets) ≡ Ok v → (value : Piece) × IsUserData user (context, value) × (v ≡ value.octets)
@@ -109,14 +109,14 @@ context_is context user v (n, value) is h =
     let c = chosen_ok (eqb n context) value.octets v (of_session session.Pdv) h in
     (value, subst (λ (k : ℕ). IsUserData user (k, value)) (eqb-true n context c.0) is, sym c.1)
 
-context_found : (context : ℕ) (user : Piece) (v : List ℕ) → in_context context user.octets ≡ Ok v → (value : Piece) × IsUserData user (context, value) × (v ≡ value.octets)
+pub context_found : (context : ℕ) (user : Piece) (v : List ℕ) → in_context context user.octets ≡ Ok v → (value : Piece) × IsUserData user (context, value) × (v ≡ value.octets)
 unfolding in_context
 context_found context user v h =
     let a = bind_ok (with_fault of_session (pdv_from user.octets)) (if_in context) v h in
     let p = pdv_found user a.0 (unfaulted of_session (pdv_from user.octets) a.0 a.1) in
     context_is context user v p.0 p.1 (subst (λ (y : ℕ × List ℕ). if_in context y ≡ Ok v) p.2 a.2)
 
-context_back : (context : ℕ) (user value : Piece) → IsUserData user (context, value) → in_context context user.octets ≡ Ok value.octets
+pub context_back : (context : ℕ) (user value : Piece) → IsUserData user (context, value) → in_context context user.octets ≡ Ok value.octets
 unfolding in_context
 context_back context user value is = rw (pdv_back user (context, value) is, eq-eqb context context refl) refl
 

@@ -11,3 +11,4 @@ pub mod Standing
 pub mod Sides
 pub mod Open
 pub mod Spelled
+pub mod Refusals

@@ -1,18 +1,20 @@
 //! What is promised of events: the productions of the standards that spell them.
 
-ghost use Rattle.std.specs.Prelude.{◌≡◌, ℕ, List, Option, Ok};
+ghost use Rattle.std.specs.Prelude.{◌≡◌, ◌⊎◌, ℕ, List, Option, Ok};
 ghost use Rattle.ber_grammar.specs.Octets.{IsBytes};
 ghost use Rattle.tpkt_cotp.specs.declared.tsdus.Tsdu.{Tsdu};
 ghost use Rattle.session_pres.specs.Presentation.{Request};
 ghost use Rattle.mms_pdu.specs.declared.initiate.Initiate.{Initiate};
 ghost use Rattle.osi_stack.specs.declared.caller.Caller.{Caller};
+ghost use Rattle.osi_stack.specs.declared.cause.Cause.{Cause};
 ghost use Rattle.osi_stack.specs.declared.events.Event.{Event};
 ghost use Rattle.osi_stack.specs.declared.phase.Phase.{Phase};
 ghost use Rattle.osi_stack.specs.declared.upper.Upper.{Upper};
 ghost use Rattle.osi_stack.specs.Machine.{tsdu_at};
+ghost use Rattle.osi_stack.specs.Refusals.{IsTsduRefused, SpellsRefusal};
 ghost use Rattle.osi_stack.specs.Sides.{StandsFor, CallsFor};
 ghost use Rattle.osi_stack.specs.Spelled.{IsRequest, IsResponse, IsData, Tells, HasOctets, Spells};
-ghost use Rattle.osi_stack.specs.Stream.{Stand, called, calling, StandsAt};
+ghost use Rattle.osi_stack.specs.Stream.{Stand, called, calling, StandsAt, IsRefused};
 
 /// The octets that an object was fed spell the events that it gave, by the productions of RFC 1006, ISO 8073, ISO 8327-1,
 /// ISO 8823-1, ISO 8650-1 and ISO 9506-2; and a stream that spells events stands for them.
@@ -23,6 +25,16 @@ pub fn events_are_what_octets_spell()
     ensures stands { (from t : Stand) (rest octets : List ℕ) (es : List Event) → Spells from t rest octets es → StandsAt from t rest octets es }
     ensures tells { (phase : Phase) (tsdu : Tsdu) (x : Phase × Option Event) → HasOctets tsdu → tsdu_at phase tsdu ≡ Ok x → Tells phase tsdu x }
     ensures told { (phase : Phase) (tsdu : Tsdu) (x : Phase × Option Event) → Tells phase tsdu x → tsdu_at phase tsdu ≡ Ok x }
+{}
+
+/// What refuses a stream is the first production that isn't there, with its cause: a TSDU tells a connection something or is
+/// refused for one cause, one of the two, and never both.
+pub fn refusals_are_what_octets_lack()
+    ensures spells { (from : Stand) (octets : List ℕ) (es : List Event) (c : Cause) (n : ℕ) → IsBytes from.transport.tsdu → IsRefused from octets es c n → SpellsRefusal from octets es c n }
+    ensures refuses { (from : Stand) (octets : List ℕ) (es : List Event) (c : Cause) (n : ℕ) → IsBytes from.transport.tsdu → SpellsRefusal from octets es c n → IsRefused from octets es c n }
+    ensures answered { (phase : Phase) (tsdu : Tsdu) → HasOctets tsdu → ((x : Phase × Option Event) × Tells phase tsdu x) ⊎ ((c : Cause) × IsTsduRefused phase tsdu c) }
+    ensures one_cause { (phase : Phase) (tsdu : Tsdu) (c d : Cause) → HasOctets tsdu → IsTsduRefused phase tsdu c → IsTsduRefused phase tsdu d → c ≡ d }
+    ensures not_both { (phase : Phase) (tsdu : Tsdu) (x : Phase × Option Event) (c : Cause) → HasOctets tsdu → Tells phase tsdu x → IsTsduRefused phase tsdu c → ⊥ }
 {}
 
 /// A stream spells one list of events, a TSDU tells a connection one thing, a CONNECT brings one request, an ACCEPT one
