@@ -35,6 +35,7 @@ can t e =
     chosen_true : (a b : Bool) → (if a then b else false) ≡ true → (a ≡ true) × (b ≡ true)
     chosen_true true b e = (refl, e)
     chosen_true false b e = absurd cc
+
     not_true : (a : Bool) → (if a then false else true) ≡ true → a ≡ false
     not_true true e = absurd cc
     not_true false e = refl

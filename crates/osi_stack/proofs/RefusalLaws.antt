@@ -30,10 +30,9 @@ use Rattle.acse_apdu.specs.Grammar.{IsAarq, IsAarqRefused, IsAare, IsAareRefused
 use Rattle.acse_apdu.specs.Reading.{aarq_at, aare_at, release_at, pdu_of_aarq, pdu_of_aare, rlrq_of, rlre_of}
 use Rattle.acse_apdu.proofs.ApduLaws.{aarq_exact, aare_exact, release_exact, aarq_holds, aare_holds}
 use Rattle.acse_apdu.proofs.AnywhereLaws.{aarq-anywhere, aare-anywhere, rlrq-anywhere, rlre-anywhere}
-use Rattle.mms_pdu.specs.declared.initiate.Initiate.{Initiate}
 use Rattle.mms_pdu.specs.Initiate.{IsAccepted, IsInitiateRefused}
 use Rattle.mms_pdu.specs.InitiateReading.{initiate_at}
-use Rattle.mms_pdu.proofs.InitiateLaws.{initiate_reads}
+use Rattle.mms_pdu.proofs.InitiateLaws.{initiate_exact}
 use Rattle.osi_stack.specs.declared.cause.Cause.{Cause}
 use Rattle.osi_stack.specs.declared.events.Event.{Event}
 use Rattle.osi_stack.specs.declared.events.Event.TheVariants.{Pdu, Aborted}
@@ -46,7 +45,6 @@ use Rattle.osi_stack.specs.Calling.{joined, asking_at, ended, end_at, served_spd
 use Rattle.osi_stack.specs.Machine.{connect_at, data_at, tsdu_at}
 use Rattle.osi_stack.specs.Refusals.{In, IsRequestRefused, IsFirstRefused, IsResponseRefused, IsOutside, IsNoRelease, IsNextRefused, IsServedRefused, IsUnitRefused, IsEndRefused, IsDataRefused, IsTsduRefused}
 use Rattle.osi_stack.specs.Spelled.{HasOctets}
-use Rattle.osi_stack.proofs.SpelledLaws.{gives_itself}
 use Rattle.osi_stack.proofs.TellsLaws.{if_in, context_found, context_back}
 
 -- ---- a refusal exactly for its cause
@@ -93,9 +91,6 @@ last_refuses {Y = Y} {W = W} cause_of (Err f) S R make reads = record {
   tells = λ c h. (f, reads.tells, sym (err_is {Y = W} (cause_of f) c h));
   again = λ c (d, bad, same). let is : d ≡ f = err_is {Y = Y} d f (reads.refuses d bad) in ap (λ (x : Cause). let q : Result W Cause = Err x in q) (ap cause_of (sym is) ∙ sym same);
 }
-
-initiate_exact : (tag : ℕ) (input : List ℕ) → IsBytes input → Reads (λ (i : Initiate). i) (initiate_at tag input) (IsAccepted tag input) (IsInitiateRefused tag input)
-initiate_exact tag input fits = initiate_reads (λ i. i) (initiate_at tag input) tag input fits (gives_itself (initiate_at tag input))
 
 -- ---- the association is made
 

@@ -34,7 +34,7 @@ use Rattle.mms_pdu.specs.declared.initiate.Initiate.{Initiate}
 use Rattle.mms_pdu.specs.declared.fault.PduFault.{PduFault}
 use Rattle.mms_pdu.specs.Initiate.{IsAccepted, IsInitiateRefused}
 use Rattle.mms_pdu.specs.InitiateReading.{initiate_at}
-use Rattle.mms_pdu.proofs.InitiateLaws.{accepted_again, initiate_reads}
+use Rattle.mms_pdu.proofs.InitiateLaws.{initiate_exact}
 use Rattle.osi_stack.specs.declared.cause.Cause.{Cause}
 use Rattle.osi_stack.specs.declared.events.Event.{Event}
 use Rattle.osi_stack.specs.declared.events.Event.TheVariants.{Pdu, Aborted}
@@ -120,13 +120,9 @@ rlrq_back p is = sym (rlrq-anywhere p) ∙ release_again RLRQ p is
 pub rlre_back : (p : Piece) → IsRelease RLRE p → rlre_of p.octets ≡ Ok tt
 rlre_back p is = sym (rlre-anywhere p) ∙ release_again RLRE p is
 
-pub gives_itself : {Y F : Type 0} (r : Result Y F) → Gives (λ (y : Y). y) r r
-gives_itself (Ok y) = refl
-gives_itself (Err f) = refl
-
 initiate_told : (tag : ℕ) (input : List ℕ) (i : Initiate) (r : Result Initiate PduFault) (R : PduFault → Type 0) → Reads (λ (x : Initiate). x) r (IsAccepted tag input) R → r ≡ Ok i → IsAccepted tag input i
 initiate_told tag input i (Ok j) R reads h = subst (IsAccepted tag input) (ok_is j i h) reads.tells
 initiate_told tag input i (Err f) R reads h = absurd cc
 
 pub initiate_found : (tag : ℕ) (input : List ℕ) (i : Initiate) → IsBytes input → initiate_at tag input ≡ Ok i → IsAccepted tag input i
-initiate_found tag input i fits h = initiate_told tag input i (initiate_at tag input) _ (initiate_reads (λ x. x) (initiate_at tag input) tag input fits (gives_itself (initiate_at tag input))) h
+initiate_found tag input i fits h = initiate_told tag input i (initiate_at tag input) _ (initiate_exact tag input fits) h
