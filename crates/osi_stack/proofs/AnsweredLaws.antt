@@ -1,5 +1,5 @@
 -- Octets stand for events or are refused, and what is refused stays so whatever follows.
-use Rattle.std.proofs.Common.{◌≡◌, ℕ, zero, suc, ◌-◌, ◌^◌, ◌<◌, ◌≤◌, ◌⊎◌, inl, inr, Bool, true, false, min, List, [], ◌∷◌, ◌++◌, length, Option, Some, None, Result, Ok, Err, refl, sym, ap, subst, ◌∙◌, append_assoc, arith}
+use Rattle.std.proofs.Common.{◌≡◌, ℕ, zero, suc, ◌<◌, inl, inr, Bool, true, false, List, [], ◌++◌, length, Option, Some, None, Result, Ok, Err, refl, ap, ◌∙◌, append_assoc, arith}
 use Rattle.std.specs.Option.{option_to_list}
 use Rattle.std.specs.List.{flat_map}
 use Rattle.std.proofs.lemmas.List.{length-append}
@@ -17,8 +17,8 @@ use Rattle.osi_stack.specs.declared.fault.StackFault.TheVariants.{Memory, Refuse
 use Rattle.osi_stack.specs.declared.upper.Upper.{Upper}
 use Rattle.osi_stack.specs.Causes.{of_transport}
 use Rattle.osi_stack.specs.Sides.{StandsFor, CallsFor}
-use Rattle.osi_stack.specs.Standing.{IsRefusedAt, StopsAt, IsAnswered, IsSameRefusal}
-use Rattle.osi_stack.specs.Stream.{Stand, called, calling, has_ended, step_at, Takes, StandsAt, count_of, Stops, IsRefused}
+use Rattle.osi_stack.specs.Standing.{StopsAt, IsAnswered, IsSameRefusal}
+use Rattle.osi_stack.specs.Stream.{Stand, called, calling, has_ended, step_at, Takes, count_of, Stops, IsRefused}
 use Rattle.osi_stack.proofs.ConnectionLaws.{Takes-both, Takes-none, Takes-one}
 use Rattle.osi_stack.proofs.StreamLaws.{one_refusal, never_both}
 

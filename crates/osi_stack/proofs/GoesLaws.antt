@@ -5,7 +5,7 @@ use Rattle.std.specs.List.{flat_map, AllByRecursion}
 use Rattle.std.proofs.lemmas.List.Concat.{flat_map-cons}
 use Rattle.ber_grammar.specs.Octets.{IsBytes}
 use Rattle.ber_grammar.specs.Place.{Piece, anywhere}
-use Rattle.ber_grammar.specs.Reader.{◌>>=◌, with_fault}
+use Rattle.ber_grammar.specs.Reader.{with_fault}
 use Rattle.ber_grammar.proofs.OctetLaws.{IsBytes-rest, IsBytes-front, IsBytes-back, IsBytes-append}
 use Rattle.ber_grammar.proofs.ReaderLaws.{bind_ok, ok_is}
 use Rattle.tpkt_cotp.specs.declared.codes.TheConstants.{DT}

@@ -1,7 +1,7 @@
 -- A TSDU is refused for the first production that isn't there, and the other way round.
-use Rattle.std.proofs.Common.{◌≡◌, ℕ, ◌⊎◌, inl, inr, Bool, true, false, cond, eqb, List, Option, Some, None, Result, Ok, Err, refl, sym, ap, subst, ◌∙◌}
+use Rattle.std.proofs.Common.{◌≡◌, ℕ, inl, inr, Bool, true, false, cond, eqb, List, Option, Some, None, Result, Ok, Err, refl, sym, ap, subst, ◌∙◌}
 use Rattle.std.specs.Option.{option_map}
-use Rattle.std.proofs.lemmas.Bool.{eqb-true, eqb-false, eq-eqb}
+use Rattle.std.proofs.lemmas.Bool.{eqb-true, eqb-false}
 use Rattle.ber_grammar.specs.Octets.{IsBytes}
 use Rattle.ber_grammar.specs.Place.{Piece, anywhere}
 use Rattle.ber_grammar.specs.Reader.{◌>>=◌, with_fault, Reads}
@@ -13,12 +13,12 @@ use Rattle.tpkt_cotp.specs.declared.tsdus.Tsdu.TheVariants.{Connect, Data, Disco
 use Rattle.session_pres.specs.declared.codes.TheConstants.{CONNECT, DISCONNECT}
 use Rattle.session_pres.specs.declared.fault.SpFault.{SpFault}
 use Rattle.session_pres.specs.declared.fault.SpFault.TheVariants as session
-use Rattle.session_pres.specs.Units.{Seen, HasUser, IsUserRefused, IsSpdu, IsSpduRefused, HasCode, connect, transfer, finish, abort, begins}
+use Rattle.session_pres.specs.Units.{Seen, HasUser, IsUserRefused, IsSpdu, IsSpduRefused, connect, transfer, finish, abort, begins}
 use Rattle.session_pres.specs.UnitReading.{spdu_at, user_of}
 use Rattle.session_pres.specs.UserData.{IsUserData, user_data_at}
-use Rattle.session_pres.specs.Presentation.{Request, IsCp, IsCpRefused, IsAc, IsAcRefused}
+use Rattle.session_pres.specs.Presentation.{IsCp, IsCpRefused, IsAc, IsAcRefused}
 use Rattle.session_pres.specs.PresentationReading.{cp_at, ac_at}
-use Rattle.session_pres.specs.Plain.{told, asked, octets as bare, pdv_octets, spdu_from, cp_from, ac_from, dn_from, pdv_from}
+use Rattle.session_pres.specs.Plain.{told, asked, octets as bare, pdv_octets, spdu_from, cp_from, ac_from, dn_from}
 use Rattle.session_pres.proofs.UnitLaws.{spdu_exact, user_exact}
 use Rattle.session_pres.proofs.PresentationLaws.{cp_exact, ac_exact}
 use Rattle.session_pres.proofs.OneWayLaws.{pdv_exact, pdv_one}

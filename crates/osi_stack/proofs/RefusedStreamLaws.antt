@@ -1,11 +1,11 @@
 -- A stream is refused where the production that stands next isn't there, and the other way round.
-use Rattle.std.proofs.Common.{◌≡◌, ℕ, ◌+◌, ◌/◌, ◌%◌, ◌⊎◌, inl, inr, false, List, [], ◌∷◌, ◌++◌, length, Option, Some, None, Result, Ok, Err, refl, sym, ap, subst, ◌∙◌}
+use Rattle.std.proofs.Common.{◌≡◌, ℕ, ◌⊎◌, inl, inr, List, [], ◌∷◌, ◌++◌, Option, Some, None, Result, Ok, Err, refl, sym, ap, subst, ◌∙◌}
 use Rattle.std.specs.Prelude.{MatchResult}
 use Rattle.std.specs.List.{flat_map, AllByRecursion}
 use Rattle.ber_grammar.specs.Octets.{IsBytes}
 use Rattle.ber_grammar.specs.Reader.{◌>>=◌, with_fault}
 use Rattle.ber_grammar.proofs.OctetLaws.{IsBytes-front, IsBytes-back}
-use Rattle.ber_grammar.proofs.ReaderLaws.{ok_is, err_is}
+use Rattle.ber_grammar.proofs.ReaderLaws.{err_is}
 use Rattle.tpkt_cotp.specs.declared.fault.TpFault.{TpFault}
 use Rattle.tpkt_cotp.specs.declared.state.State.{State}
 use Rattle.tpkt_cotp.specs.declared.tsdus.Tsdu.{Tsdu}
@@ -19,7 +19,7 @@ use Rattle.osi_stack.specs.Causes.{of_transport}
 use Rattle.osi_stack.specs.Machine.{tsdu_at}
 use Rattle.osi_stack.specs.Refusals.{In, IsTsduRefused, IsTpduRefused, SpellsRefusal}
 use Rattle.osi_stack.specs.Spelled.{Tells, HasOctets, GoOn}
-use Rattle.osi_stack.specs.Stream.{Stand, stand_of, given_at, step_at, Runs, Stops, IsRefused}
+use Rattle.osi_stack.specs.Stream.{Stand, stand_of, given_at, step_at, Stops, IsRefused}
 use Rattle.osi_stack.proofs.ConnectionLaws.{step_refused, step_fails}
 use Rattle.osi_stack.proofs.GoesLaws.{taken_octets, all_octets, packet_holds, runs_go, go_runs}
 use Rattle.osi_stack.proofs.RefusalLaws.{tsdu_refuses}

@@ -1,51 +1,34 @@
 -- Each layer reads what its grammar spells, and the other way round, as octets alone.
-use Rattle.std.proofs.Common.{◌≡◌, ℕ, ◌⊎◌, inl, inr, Bool, true, false, cond, eqb, List, [], ◌∷◌, ◌++◌, Option, Some, None, Result, Ok, Err, refl, sym, ap, subst, ◌∙◌, arith}
-use Rattle.std.specs.Prelude.{MatchResult}
+use Rattle.std.proofs.Common.{◌≡◌, ℕ, List, Option, Result, Ok, Err, sym, ap, subst, ◌∙◌}
 use Rattle.std.specs.Option.{option_map}
-use Rattle.std.proofs.lemmas.Bool.{eqb-true, eq-eqb}
 use Rattle.ber_grammar.specs.Octets.{IsBytes}
 use Rattle.ber_grammar.specs.Place.{Piece, anywhere}
-use Rattle.ber_grammar.specs.Reader.{◌>>=◌, with_fault, Gives, Reads}
+use Rattle.ber_grammar.specs.Reader.{◌>>=◌, with_fault, Reads}
 use Rattle.ber_grammar.specs.Steps.{required}
-use Rattle.ber_grammar.proofs.ReaderLaws.{bind_ok, ok_is, gives_at}
-use Rattle.tpkt_cotp.specs.declared.tsdus.Tsdu.{Tsdu}
-use Rattle.tpkt_cotp.specs.declared.tsdus.Tsdu.TheVariants.{Connect, Data, Disconnect}
-use Rattle.session_pres.specs.declared.codes.TheConstants.{CONNECT, FINISH, ABORT, DISCONNECT}
-use Rattle.session_pres.specs.declared.fault.SpFault.{SpFault}
+use Rattle.ber_grammar.proofs.ReaderLaws.{ok_is, gives_at}
+use Rattle.session_pres.specs.declared.codes.TheConstants.{DISCONNECT}
 use Rattle.session_pres.specs.declared.fault.SpFault.TheVariants as session
-use Rattle.session_pres.specs.Units.{Seen, HasUser, IsUserRefused, IsSpdu, IsSpduRefused, connect, transfer, finish, abort, begins}
+use Rattle.session_pres.specs.Units.{Seen, HasUser, IsUserRefused, IsSpdu, IsSpduRefused}
 use Rattle.session_pres.specs.UnitReading.{spdu_at, user_of}
 use Rattle.session_pres.specs.UserData.{IsUserData, user_data_at}
 use Rattle.session_pres.specs.Presentation.{Request, IsCp, IsCpRefused, IsAc, IsAcRefused}
 use Rattle.session_pres.specs.PresentationReading.{cp_at, ac_at}
-use Rattle.session_pres.specs.Plain.{Told, told, connects, transfers, finishes, aborts, Asked, asked, octets as bare, pdv_octets, spdu_from, cp_from, ac_from, dn_from, pdv_from}
+use Rattle.session_pres.specs.Plain.{Told, told, Asked, asked, octets as bare, pdv_octets, spdu_from, cp_from, ac_from, dn_from, pdv_from}
 use Rattle.session_pres.proofs.UnitLaws.{spdu_exact, user_exact}
 use Rattle.session_pres.proofs.PresentationLaws.{cp_exact, ac_exact}
 use Rattle.session_pres.proofs.OneWayLaws.{pdv_exact}
 use Rattle.session_pres.proofs.AnywhereLaws.{spdu_anywhere, cp_anywhere, ac_anywhere, dn_anywhere, pdv_anywhere}
-use Rattle.session_pres.proofs.HoldLaws.{data_holds, cp_holds, ac_holds}
 use Rattle.acse_apdu.specs.declared.codes.TheConstants.{RLRQ, RLRE}
 use Rattle.acse_apdu.specs.declared.fault.AcFault.{AcFault}
 use Rattle.acse_apdu.specs.Grammar.{IsAarq, IsAare, IsRelease}
 use Rattle.acse_apdu.specs.Reading.{octets_in, aarq_at, aare_at, release_at, pdu_of_aarq, pdu_of_aare, rlrq_of, rlre_of}
-use Rattle.acse_apdu.proofs.ApduLaws.{aarq_exact, aare_exact, release_exact, aarq_again, aare_again, release_again, aarq_holds, aare_holds}
+use Rattle.acse_apdu.proofs.ApduLaws.{aarq_exact, aare_exact, release_exact, aarq_again, aare_again, release_again}
 use Rattle.acse_apdu.proofs.AnywhereLaws.{aarq-anywhere, aare-anywhere, rlrq-anywhere, rlre-anywhere}
 use Rattle.mms_pdu.specs.declared.initiate.Initiate.{Initiate}
 use Rattle.mms_pdu.specs.declared.fault.PduFault.{PduFault}
-use Rattle.mms_pdu.specs.Initiate.{IsAccepted, IsInitiateRefused}
+use Rattle.mms_pdu.specs.Initiate.{IsAccepted}
 use Rattle.mms_pdu.specs.InitiateReading.{initiate_at}
 use Rattle.mms_pdu.proofs.InitiateLaws.{initiate_exact}
-use Rattle.osi_stack.specs.declared.cause.Cause.{Cause}
-use Rattle.osi_stack.specs.declared.events.Event.{Event}
-use Rattle.osi_stack.specs.declared.events.Event.TheVariants.{Pdu, Aborted}
-use Rattle.osi_stack.specs.declared.events.Line.{Line}
-use Rattle.osi_stack.specs.declared.phase.Phase.{Phase}
-use Rattle.osi_stack.specs.declared.phase.Phase.TheVariants.{Idle, Called, Open, Calling, Asking, Joined, Ended}
-use Rattle.osi_stack.specs.Causes.{of_session, of_association, of_initiate}
-use Rattle.osi_stack.specs.Called.{Outcome, accepted, request_at, first_spdu, called_at, in_context, released, finish_at, pdu_in, next_spdu, open_at}
-use Rattle.osi_stack.specs.Calling.{joined, asking_at, ended, end_at, served_spdu, joined_at}
-use Rattle.osi_stack.specs.Machine.{connect_at, data_at, tsdu_at}
-use Rattle.osi_stack.specs.Spelled.{IsRequest, IsResponse, IsData, HasRelease, IsFinish, IsDisconnect, IsAbort, TellsPdu, TellsAbort, TellsData, Tells}
 
 -- ---- from a reader to its relation, and back
 

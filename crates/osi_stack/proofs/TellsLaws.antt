@@ -1,5 +1,5 @@
 -- What a TSDU tells is what it spells, and the other way round.
-use Rattle.std.proofs.Common.{◌≡◌, ℕ, ◌⊎◌, inl, inr, Bool, true, false, cond, eqb, List, [], ◌∷◌, Option, Some, None, Result, Ok, Err, refl, sym, ap, subst, ◌∙◌}
+use Rattle.std.proofs.Common.{◌≡◌, ℕ, inl, inr, Bool, true, false, cond, eqb, List, Option, Some, None, Result, Ok, Err, refl, sym, ap, subst}
 use Rattle.std.specs.Option.{option_map}
 use Rattle.std.proofs.lemmas.Bool.{eqb-true, eq-eqb}
 use Rattle.ber_grammar.specs.Octets.{IsBytes}
@@ -8,7 +8,7 @@ use Rattle.ber_grammar.specs.Reader.{◌>>=◌, with_fault}
 use Rattle.ber_grammar.proofs.ReaderLaws.{bind_ok, ok_is}
 use Rattle.tpkt_cotp.specs.declared.tsdus.Tsdu.{Tsdu}
 use Rattle.tpkt_cotp.specs.declared.tsdus.Tsdu.TheVariants.{Connect, Data, Disconnect}
-use Rattle.session_pres.specs.declared.codes.TheConstants.{CONNECT, ACCEPT, ABORT, DISCONNECT}
+use Rattle.session_pres.specs.declared.codes.TheConstants.{CONNECT, DISCONNECT}
 use Rattle.session_pres.specs.declared.fault.SpFault.TheVariants as session
 use Rattle.session_pres.specs.Units.{Seen, HasUser, IsSpdu, connect, transfer, finish, abort, begins}
 use Rattle.session_pres.specs.UserData.{IsUserData}
@@ -31,7 +31,7 @@ use Rattle.osi_stack.specs.Causes.{of_session, of_association, of_initiate}
 use Rattle.osi_stack.specs.Called.{Outcome, accepted, request_at, first_spdu, called_at, in_context, released, finish_at, pdu_in, next_spdu, open_at}
 use Rattle.osi_stack.specs.Calling.{joined, asking_at, ended, end_at, served_spdu, joined_at}
 use Rattle.osi_stack.specs.Machine.{connect_at, data_at, tsdu_at}
-use Rattle.osi_stack.specs.Spelled.{IsRequest, IsResponse, IsData, HasRelease, IsFinish, IsDisconnect, IsAbort, TellsPdu, TellsAbort, TellsData, Tells, HasOctets}
+use Rattle.osi_stack.specs.Spelled.{IsRequest, IsResponse, IsData, HasRelease, IsFinish, IsDisconnect, IsAbort, TellsPdu, TellsData, Tells, HasOctets}
 use Rattle.osi_stack.proofs.SpelledLaws.{unfaulted, spdu_found, spdu_back, cp_found, cp_back, ac_found, ac_back, dn_found, dn_back, pdv_found, pdv_back, aarq_found, aarq_back, aare_found, aare_back, rlrq_found, rlrq_back, rlre_found, rlre_back, initiate_found}
 
 -- ---- a CONNECT

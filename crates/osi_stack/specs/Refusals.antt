@@ -1,5 +1,5 @@
 -- Why the octets of a connection are refused: the first production that isn't there, and its cause.
-use Rattle.std.specs.Prelude.{◌≡◌, ℕ, true, false, List, [], ◌∷◌, ◌++◌, Option, Some, None, ◌⊎◌}
+use Rattle.std.specs.Prelude.{◌≡◌, ℕ, false, List, ◌++◌, Option, Some, None, ◌⊎◌}
 use Rattle.std.specs.List.{flat_map, AllByRecursion}
 use Rattle.ber_grammar.specs.Octets.{IsBytes}
 use Rattle.ber_grammar.specs.Place.{Piece, anywhere}
@@ -16,7 +16,7 @@ use Rattle.session_pres.specs.Units.{Seen, HasUser, IsUserRefused, IsSpdu, IsSpd
 use Rattle.session_pres.specs.UserData.{IsUserData}
 use Rattle.session_pres.specs.Presentation.{IsCp, IsCpRefused, IsAc, IsAcRefused}
 use Rattle.acse_apdu.specs.declared.codes.TheConstants.{RLRQ, RLRE}
-use Rattle.acse_apdu.specs.Grammar.{IsAarq, IsAarqRefused, IsAare, IsAareRefused, IsRelease, IsReleaseRefused}
+use Rattle.acse_apdu.specs.Grammar.{IsAarq, IsAarqRefused, IsAare, IsAareRefused, IsReleaseRefused}
 use Rattle.mms_pdu.specs.Initiate.{IsInitiateRefused}
 use Rattle.mms_pdu.specs.Tags.{initiate_request_tag, initiate_response_tag}
 use Rattle.osi_stack.specs.declared.cause.Cause.{Cause}
