@@ -1,6 +1,6 @@
 -- Each PDU that is written says its elements in the fewest octets.
-use Rattle.std.proofs.Common.{◌≡◌, ℕ, ◌+◌, ◌%◌, ◌<◌, ◌≤◌, ◌^◌, Bool, true, false, ltb, eqb, List, [], ◌∷◌, ◌++◌, length, Option, Some, None, refl, sym, ap, ◌∙◌, arith}
-use Rattle.std.specs.Prelude.{IfSome, min, max, if◌then◌else◌}
+use Rattle.std.proofs.Common.{◌≡◌, ℕ, ◌%◌, ◌<◌, ◌≤◌, ◌^◌, Bool, true, false, ltb, eqb, List, [], ◌∷◌, ◌++◌, length, Option, Some, None, refl, sym, ap, ◌∙◌, arith}
+use Rattle.std.specs.Prelude.{IfSome, if◌then◌else◌}
 use Rattle.std.proofs.lemmas.Bool.{ltb-true, eqb-false}
 use Rattle.std.proofs.lemmas.List.{length-append, append-nil}
 use Rattle.ber_write.specs.Minimal.{octets_of, uint_octets, CanBeTag}
@@ -12,7 +12,7 @@ use Rattle.sv_base.specs.declared.value.Value.{Value}
 use Rattle.mms_data.specs.Writable.{SeenHasFractions, SeenIsOfTypes}
 use Rattle.mms_pdu.specs.declared.initiate.Initiate.{Initiate}
 use Rattle.mms_pdu.specs.InitiateOctets.{accepted, proposed, answer_services, request_services, answer_details, request_details, details_with, initiate_content, initiate_answer, initiate_request}
-use Rattle.mms_pdu.specs.AskingOctets.{domain_name, one_variable, confirmed_octets, read_request, write_request, conclude_request}
+use Rattle.mms_pdu.specs.AskingOctets.{domain_name, confirmed_octets, read_request, write_request, conclude_request}
 use Rattle.mms_pdu.specs.ReplyOctets.{class_tag, reason_tag, reason_code, answer_octets, error_octets, reject_octets, report_octets, concluded_octets}
 use Rattle.mms_pdu.specs.Said.{Said, nothing, holds, counts, groups, carries, IsMinimal, shortest, CanBeSaid, initiate_says, variable_says, read_says, write_says, answer_says, error_says, reject_says, report_says}
 use Rattle.mms_pdu.specs.Tags.{initiate_request_tag, initiate_response_tag, conclude_request_tag, conclude_response_tag}

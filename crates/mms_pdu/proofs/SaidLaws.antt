@@ -1,20 +1,19 @@
 -- No octets that say the same are fewer than those that are written.
-use Rattle.std.proofs.Common.{◌≡◌, ℕ, ◌+◌, ◌%◌, ◌<◌, ◌≤◌, ◌^◌, List, [], ◌∷◌, ◌++◌, length, Option, Some, None, refl, sym, ap, subst, ◌∙◌, arith}
-use Rattle.std.specs.Prelude.{IfSome}
-use Rattle.std.proofs.lemmas.List.{length-append, append-nil}
+use Rattle.std.proofs.Common.{◌≡◌, ℕ, ◌<◌, ◌≤◌, ◌^◌, List, ◌++◌, length, refl, sym, ap, subst, arith}
+use Rattle.std.proofs.lemmas.List.{length-append}
 use Rattle.ber_grammar.specs.Octets.{IsBytes}
 use Rattle.ber_grammar.specs.Element.{Element, Spells, Begins}
 use Rattle.ber_grammar.proofs.OctetLaws.{IsBytes-front, IsBytes-back, Spells-bytes}
 use Rattle.ber_write.specs.Minimal.{octets_of, uint_octets, written, CanBeTag}
 use Rattle.ber_write.proofs.ElementLaws.{is_minimal, is_spelling}
-use Rattle.ber_write.proofs.NumberLaws.{uint_octets-spell, length-uint_octets}
+use Rattle.ber_write.proofs.NumberLaws.{uint_octets-spell}
 use Rattle.ber_write.proofs.ShortestLaws.{uint_shortest}
 use Rattle.sv_base.specs.Data.{data_seen}
 use Rattle.mms_data.proofs.FitLaws.{seen_fits}
 use Rattle.mms_data.proofs.ReadBackLaws.{followed}
 use Rattle.mms_data.proofs.ShortestLaws.{octets_grow, shortest as data_shortest}
 use Rattle.mms_pdu.specs.Said.{Said, nothing, holds, counts, groups, carries, copies, IsSaid, IsMinimal, shortest, CanBeSaid}
-use Rattle.mms_pdu.proofs.WrittenLaws.{octets_longer, one_octet}
+use Rattle.mms_pdu.proofs.WrittenLaws.{octets_longer}
 
 -- ---- the fewest octets
 

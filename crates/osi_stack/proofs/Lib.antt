@@ -10,3 +10,4 @@ pub mod TellsLaws
 pub mod GoesLaws
 pub mod RefusalLaws
 pub mod RefusedStreamLaws
+pub mod SentLaws

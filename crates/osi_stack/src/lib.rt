@@ -37,5 +37,6 @@ pub use laws::{
     a_refused_stream_stays_refused, a_stream_gives_one_list, frames_are_read_back, short_pdus_fit,
 };
 pub use spelled::{
-    events_are_what_octets_spell, refusals_are_what_octets_lack, what_octets_spell_is_one_thing,
+    events_are_what_octets_spell, refusals_are_what_octets_lack, what_is_sent_spells_what_is_read,
+    what_octets_spell_is_one_thing,
 };

@@ -1,19 +1,28 @@
 //! What is promised of events: the productions of the standards that spell them.
 
-ghost use Rattle.std.specs.Prelude.{◌≡◌, ◌⊎◌, ℕ, List, Option, Ok};
+ghost use Rattle.std.specs.Prelude.{◌≡◌, ◌⊎◌, ◌<◌, ◌≤◌, ◌^◌, ℕ, true, List, [], ◌∷◌, Option, Ok};
 ghost use Rattle.ber_grammar.specs.Octets.{IsBytes};
 ghost use Rattle.tpkt_cotp.specs.declared.tsdus.Tsdu.{Tsdu};
+ghost use Rattle.session_pres.specs.declared.codes.TheConstants.{FINISH, DISCONNECT};
+ghost use Rattle.session_pres.specs.Plain.{Asked};
 ghost use Rattle.session_pres.specs.Presentation.{Request};
+ghost use Rattle.session_pres.specs.Written.{release_spdu};
+ghost use Rattle.acse_apdu.specs.declared.codes.TheConstants.{RLRQ, RLRE};
+ghost use Rattle.acse_apdu.specs.Written.{release_octets};
+ghost use Rattle.mms_pdu.specs.InitiateOctets.{accepted, proposed};
 ghost use Rattle.mms_pdu.specs.declared.initiate.Initiate.{Initiate};
 ghost use Rattle.osi_stack.specs.declared.caller.Caller.{Caller};
 ghost use Rattle.osi_stack.specs.declared.cause.Cause.{Cause};
 ghost use Rattle.osi_stack.specs.declared.events.Event.{Event};
 ghost use Rattle.osi_stack.specs.declared.phase.Phase.{Phase};
 ghost use Rattle.osi_stack.specs.declared.upper.Upper.{Upper};
+ghost use Rattle.osi_stack.specs.Called.{acceptance};
+ghost use Rattle.osi_stack.specs.Calling.{request_spdu};
+ghost use Rattle.osi_stack.specs.Lines.{IsProposal};
 ghost use Rattle.osi_stack.specs.Machine.{tsdu_at};
 ghost use Rattle.osi_stack.specs.Refusals.{IsTsduRefused, SpellsRefusal};
 ghost use Rattle.osi_stack.specs.Sides.{StandsFor, CallsFor};
-ghost use Rattle.osi_stack.specs.Spelled.{IsRequest, IsResponse, IsData, Tells, HasOctets, Spells};
+ghost use Rattle.osi_stack.specs.Spelled.{IsRequest, IsResponse, IsData, IsFinish, IsDisconnect, Tells, HasOctets, Spells};
 ghost use Rattle.osi_stack.specs.Stream.{Stand, called, calling, StandsAt, IsRefused};
 
 /// The octets that an object was fed spell the events that it gave, by the productions of RFC 1006, ISO 8073, ISO 8327-1,
@@ -45,4 +54,16 @@ pub fn what_octets_spell_is_one_thing()
     ensures request { (octets : List ℕ) (cp other : Request) (i j : Initiate) → IsRequest octets cp i → IsRequest octets other j → (cp ≡ other) × (i ≡ j) }
     ensures response { (octets : List ℕ) (i j : Initiate) → IsResponse octets i → IsResponse octets j → i ≡ j }
     ensures value { (octets : List ℕ) (m n : ℕ) (v w : List ℕ) → IsData octets m v → IsData octets n w → (m ≡ n) × (v ≡ w) }
+{}
+
+/// What one side sends spells what the other reads: the CONNECT of a caller brings its proposal, for the contexts 1 of
+/// association control and 3 of MMS; the ACCEPT that answers it brings what of the proposal is accepted; and a FINISH and a
+/// DISCONNECT bring their releases.
+pub fn what_is_sent_spells_what_is_read()
+    ensures connect { (size : ℕ) → IsProposal size
+        → (cp : Request) × IsRequest (request_spdu size) cp (proposed size) × (cp.acse ≡ 1) × (cp.mms ≡ 3) × (cp.list ≡ true ∷ true ∷ []) }
+    ensures accept { (cp : Asked) (asked : Initiate) → cp.acse ≡ 1 → cp.mms < 2 ^ 32 → cp.list ≡ true ∷ true ∷ [] → 1024 ≤ asked.size
+        → IsResponse (acceptance cp asked) (accepted asked) }
+    ensures finish { (context : ℕ) → context < 2 ^ 32 → IsFinish (release_spdu FINISH context (release_octets RLRQ)) context }
+    ensures disconnect { IsDisconnect (release_spdu DISCONNECT 1 (release_octets RLRE)) }
 {}

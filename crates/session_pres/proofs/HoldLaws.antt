@@ -2,7 +2,6 @@
 use Rattle.std.proofs.Common.{◌≡◌, ℕ, cond, eqb, inl, inr, List, [], ◌∷◌, ◌++◌, Some, None, sym, ap, subst, ◌∙◌}
 use Rattle.ber_grammar.specs.Octets.{IsBytes}
 use Rattle.ber_grammar.specs.Place.{Spot, Piece}
-use Rattle.ber_grammar.specs.Fields.{AreFields}
 use Rattle.ber_grammar.proofs.OctetLaws.{IsBytes-rest, IsBytes-front, IsBytes-back}
 use Rattle.ber_grammar.proofs.OptionLaws.{some_is, chosen}
 use Rattle.ber_grammar.proofs.FieldLaws.{HoldOctets, first_with-found, fields-hold, first-holds, only-holds}

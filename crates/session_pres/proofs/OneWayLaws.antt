@@ -1,11 +1,10 @@
 -- What is read is one thing, or refused for one cause, and never both.
-use Rattle.std.proofs.Common.{◌≡◌, ℕ, Option, Result, Ok, Err, sym, ◌∙◌}
+use Rattle.std.proofs.Common.{◌≡◌, ℕ, Result, Ok, Err, sym, ◌∙◌}
 use Rattle.ber_grammar.specs.Place.{Piece}
 use Rattle.ber_grammar.specs.Steps.{IsLacking, required}
 use Rattle.ber_grammar.proofs.ReaderLaws.{ok_is, err_is, gives_at, refuses_at}
 use Rattle.ber_grammar.proofs.StepLaws.{Exact, required_exact}
 use Rattle.session_pres.specs.declared.codes.TheConstants.{DISCONNECT}
-use Rattle.session_pres.specs.declared.fault.SpFault.{SpFault}
 use Rattle.session_pres.specs.declared.fault.SpFault.TheVariants as faults
 use Rattle.session_pres.specs.Units.{HasUser, IsUserRefused, IsSpdu, IsSpduRefused}
 use Rattle.session_pres.specs.UnitReading.{user_of, spdu_at}
@@ -13,7 +12,7 @@ use Rattle.session_pres.specs.UserData.{IsUserData, user_data_at}
 use Rattle.session_pres.specs.Presentation.{IsCp, IsCpRefused, IsCpa, IsCpaRefused, IsAc, IsAcRefused}
 use Rattle.session_pres.specs.PresentationReading.{cp_at, cpa_at, ac_at}
 use Rattle.session_pres.specs.OneWay.{IsOneWay}
-use Rattle.session_pres.proofs.UnitLaws.{user_exact, data_exact, spdu_exact}
+use Rattle.session_pres.proofs.UnitLaws.{user_exact, spdu_exact}
 use Rattle.session_pres.proofs.UserDataLaws.{user_data_found, user_data_again}
 use Rattle.session_pres.proofs.PresentationLaws.{cp_exact, cpa_exact, ac_exact}
 

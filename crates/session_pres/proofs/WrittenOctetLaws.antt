@@ -1,7 +1,7 @@
 -- Data that are written are octets.
-use Rattle.std.proofs.Common.{ℕ, ◌+◌, ◌/◌, ◌%◌, ◌^◌, ◌<◌, ◌≤◌, cond, ltb, List, [], ◌∷◌, ◌++◌, length, arith}
+use Rattle.std.proofs.Common.{ℕ, ◌/◌, ◌%◌, ◌^◌, ◌<◌, ltb, List, [], ◌∷◌, ◌++◌, length, arith}
 use Rattle.std.specs.Prelude.{pos}
-use Rattle.std.proofs.lemmas.Bool.{ltb-true, ltb-false, lt-ltb, cond_both}
+use Rattle.std.proofs.lemmas.Bool.{ltb-true, lt-ltb, cond_both}
 use Rattle.std.proofs.lemmas.List.{length-append}
 use Rattle.ber_grammar.specs.Octets.{IsBytes}
 use Rattle.ber_grammar.proofs.OctetLaws.{IsBytes-cons, IsBytes-append}
