@@ -1,20 +1,20 @@
 -- An APDU is read exactly where it is spelled, and refused exactly for its cause.
-use Rattle.std.proofs.Common.{◌≡◌, ℕ, Bool, true, false, cond, List, Option, Some, None, Result, Ok, Err, refl, sym, ap, subst, ◌∙◌}
+use Rattle.std.proofs.Common.{◌≡◌, ℕ, Bool, true, false, cond, List, [], ◌∷◌, Option, Some, None, Result, Ok, Err, refl, sym, ap, subst, ◌∙◌}
 use Rattle.std.proofs.lemmas.Bool.{eq-eqb}
 use Rattle.ber_grammar.specs.Octets.{IsBytes}
 use Rattle.ber_grammar.specs.Place.{Piece, Spot, content_piece}
 use Rattle.ber_grammar.specs.Reader.{◌>>=◌, and_then, Gives, Reads}
 use Rattle.ber_grammar.proofs.ReaderLaws.{exact_from, reads_from, ok_is, err_is}
-use Rattle.acse_apdu.specs.declared.codes.TheConstants.{AARQ, AARE}
+use Rattle.acse_apdu.specs.declared.codes.TheConstants.{AARQ, AARE, USER_INFORMATION, EXTERNAL}
 use Rattle.acse_apdu.specs.declared.fault.AcFault.{AcFault}
 use Rattle.acse_apdu.specs.declared.fault.AcFault.TheVariants.{Apdu, ContextName, NoUserInformation}
-use Rattle.acse_apdu.specs.Grammar.{IsApdu, NamesMms, IsAccepted, Carries, IsAarq, IsAarqRefused, IsAare, IsAareRefused, IsRelease, IsReleaseRefused}
+use Rattle.acse_apdu.specs.Grammar.{IsApdu, NamesMms, IsAccepted, IsExternal, Carries, IsAarq, IsAarqRefused, IsAare, IsAareRefused, IsRelease, IsReleaseRefused}
 use Rattle.acse_apdu.specs.Apdu.{with_fields, apdu_at}
 use Rattle.acse_apdu.specs.Contents.{names_mms, is_accepted, pdu_at}
 use Rattle.acse_apdu.specs.Reading.{association_at, aarq_at, aare_at, release_at}
 use Rattle.ber_grammar.proofs.OctetLaws.{Spells-bytes}
 use Rattle.ber_grammar.proofs.OptionLaws.{some_is, then_some}
-use Rattle.ber_grammar.proofs.FieldLaws.{fields_again, fields_found, with_tag-found, whole_again, whole_found}
+use Rattle.ber_grammar.proofs.FieldLaws.{HoldOctets, fields_again, fields_found, fields-hold, field-holds, only-holds, with_tag-found, whole_again, whole_found}
 use Rattle.ber_grammar.specs.Element.{Element}
 use Rattle.ber_grammar.specs.Fields.{AreFields, spot_in, fields_in, with_tag, whole_at, whole_in}
 use Rattle.ber_grammar.specs.Steps.{required}
@@ -232,3 +232,22 @@ aarq_not_both input p f fits h k = let one = aarq_again input p h in let two = a
 
 pub aare_not_both : (input p : Piece) (f : AcFault) → IsBytes input.octets → IsAare input p → IsAareRefused input f → ⊥
 aare_not_both input p f fits h k = let one = aare_again input p h in let two = aare_refused input f fits k in cc
+
+-- ---- what an APDU carries are octets
+
+external_holds : (fields : List Spot) (pdu : Piece) → HoldOctets fields → IsExternal fields pdu → IsBytes pdu.octets
+external_holds [] pdu fits h = absurd h
+external_holds (a ∷ []) pdu fits h = absurd h
+external_holds (a ∷ b ∷ []) pdu fits (is, encoding) = subst (λ (x : Piece). IsBytes x.octets) (sym encoding.1) fits.1.0
+external_holds (a ∷ b ∷ c ∷ []) pdu fits (reference, is, encoding) = subst (λ (x : Piece). IsBytes x.octets) (sym encoding.1) fits.1.1.0
+external_holds (a ∷ b ∷ c ∷ d ∷ more) pdu fits h = absurd h
+
+carries_holds : (content pdu : Piece) → IsBytes content.octets → Carries content pdu → IsBytes pdu.octets
+carries_holds content pdu fits (information, external, fields, at, only, row, is) =
+    external_holds fields pdu (fields-hold external fields (only-holds EXTERNAL information external (field-holds USER_INFORMATION content information fits at) only) row) is
+
+pub aarq_holds : (input pdu : Piece) → IsBytes input.octets → IsAarq input pdu → IsBytes pdu.octets
+aarq_holds input pdu fits (content, apdu, names, carries) = carries_holds content pdu (apdu-holds AARQ input content fits apdu) carries
+
+pub aare_holds : (input pdu : Piece) → IsBytes input.octets → IsAare input pdu → IsBytes pdu.octets
+aare_holds input pdu fits (content, apdu, accepted, names, carries) = carries_holds content pdu (apdu-holds AARE input content fits apdu) carries

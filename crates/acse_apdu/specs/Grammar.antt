@@ -1,4 +1,4 @@
--- The APDUs that make and end an association, by cases on their elements (ISO 8650-1, ITU-T X.227, clause 9, "ACSE-1").
+-- The APDUs that make and end an association, by cases on their elements (ISO 8650-1, ITU-T X.227, the module "ACSE-1").
 -- A content is a piece: its octets, and where they lie.
 use Rattle.std.specs.Prelude.{◌≡◌, ℕ, ◌^◌, ◌<◌, List, [], ◌∷◌}
 use Rattle.ber_grammar.specs.Element.{Element, Spells}

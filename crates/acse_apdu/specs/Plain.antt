@@ -1,5 +1,5 @@
 -- An AARQ or AARE with exactly the fields that are written, in this order, whichever of its legal spellings it has
--- (ISO 8650-1, 9.1).
+-- (ISO 8650-1, "ACSE-1").
 use Rattle.std.specs.Prelude.{◌≡◌, ℕ, List, [], ◌∷◌}
 use Rattle.ber_grammar.specs.Element.{Element, Spells, IsRow}
 use Rattle.ber_grammar.specs.Content.{IsUint}

@@ -1,4 +1,4 @@
--- How the APDUs are written: each field once, in the order of the standard, in its minimal spelling (ISO 8650-1, 9.1;
+-- How the APDUs are written: each field once, in the order of the standard, in its minimal spelling (ISO 8650-1, "ACSE-1";
 -- ITU-T X.690, 8.1.3 and 8.3.2).
 use Rattle.std.specs.Prelude.{ℕ, List, [], ◌∷◌, ◌++◌}
 use Rattle.ber_write.specs.Minimal.{octets_of, uint_octets}

@@ -1,33 +1,33 @@
-//! Tags on the wire: the APDUs and their fields (ISO 8650-1, clause 9, "ACSE-1"), and of an EXTERNAL (ITU-T X.690, 8.18).
+//! Tags on the wire: the APDUs and their fields (ISO 8650-1, the module "ACSE-1"), and of an EXTERNAL (ITU-T X.690, 8.18).
 
-/// AARQ, association request: `[APPLICATION 0]` (9.1).
+/// AARQ, association request: `[APPLICATION 0]`.
 pub const AARQ: u32 = 0x60;
 
-/// AARE, association response: `[APPLICATION 1]` (9.1).
+/// AARE, association response: `[APPLICATION 1]`.
 pub const AARE: u32 = 0x61;
 
-/// RLRQ, release request: `[APPLICATION 2]` (9.3).
+/// RLRQ, release request: `[APPLICATION 2]`.
 pub const RLRQ: u32 = 0x62;
 
-/// RLRE, release response: `[APPLICATION 3]` (9.4).
+/// RLRE, release response: `[APPLICATION 3]`.
 pub const RLRE: u32 = 0x63;
 
-/// application-context-name: `[1]` of an AARQ and of an AARE (9.1).
+/// application-context-name: `[1]` of an AARQ and of an AARE.
 pub const APPLICATION_CONTEXT_NAME: u32 = 0xa1;
 
-/// result: `[2]` of an AARE (9.1).
+/// result: `[2]` of an AARE.
 pub const RESULT: u32 = 0xa2;
 
-/// result-source-diagnostic: `[3]` of an AARE (9.1).
+/// result-source-diagnostic: `[3]` of an AARE.
 pub const RESULT_SOURCE_DIAGNOSTIC: u32 = 0xa3;
 
-/// acse-service-user: `[1]` in the diagnostic (9.1).
+/// acse-service-user: `[1]` in the diagnostic.
 pub const SERVICE_USER: u32 = 0xa1;
 
-/// user-information: `[30]` (9.1).
+/// user-information: `[30]`.
 pub const USER_INFORMATION: u32 = 0xbe;
 
-/// reason: `[0]` of an RLRQ and of an RLRE (9.3).
+/// reason: `[0]` of an RLRQ and of an RLRE.
 pub const REASON: u32 = 0x80;
 
 /// EXTERNAL, the universal tag 8 of a constructed element (ITU-T X.690, 8.18).

@@ -4,7 +4,7 @@
 #[derive(Clone, Copy, Debug, PartialEq, Eq)]
 pub enum AcFault {
     /// They are not one whole element with the APDU's tag and whole elements in it, or an AARE whose result is not
-    /// accepted (ISO 8650-1, 9.1).
+    /// accepted (ISO 8650-1, "ACSE-1").
     Apdu,
     /// There is no application context name, or it is not that of MMS, 1.0.9506.2.3.
     ContextName,

@@ -136,7 +136,7 @@ fn release(bytes: &[u8], tag: u32) -> Result<(), AcFault>
     Ok(())
 }
 
-/// The value that an AARQ, association request, carries (ISO 8650-1, 9.1), which for MMS is an initiate request: the
+/// The value that an AARQ, association request, carries (ISO 8650-1, "ACSE-1"), which for MMS is an initiate request: the
 /// content of the encoding of its EXTERNAL, a slice of `bytes`.
 ///
 /// Of the fields the first application context name and the first user information count, and others are skipped. The
@@ -153,7 +153,7 @@ pub fn read_aarq(bytes: &[u8]) -> Result<&[u8], AcFault>
     aarq(bytes)
 }
 
-/// The value that an AARE, association response, carries (ISO 8650-1, 9.1), which for MMS is an initiate response: the
+/// The value that an AARE, association response, carries (ISO 8650-1, "ACSE-1"), which for MMS is an initiate response: the
 /// content of the encoding of its EXTERNAL, a slice of `bytes`.
 ///
 /// Of the fields the first of each kind counts, and others are skipped, the diagnostic too.
@@ -168,7 +168,7 @@ pub fn read_aare(bytes: &[u8]) -> Result<&[u8], AcFault>
     aare(bytes)
 }
 
-/// Takes an RLRQ, release request (ISO 8650-1, 9.3), whatever whole fields it has.
+/// Takes an RLRQ, release request (ISO 8650-1, "ACSE-1"), whatever whole fields it has.
 ///
 /// Fails with `Apdu` where `bytes` are not one whole RLRQ that is cut into whole fields.
 pub fn read_rlrq(bytes: &[u8]) -> Result<(), AcFault>
@@ -178,7 +178,7 @@ pub fn read_rlrq(bytes: &[u8]) -> Result<(), AcFault>
     release(bytes, RLRQ)
 }
 
-/// Takes an RLRE, release response (ISO 8650-1, 9.4), whatever whole fields it has.
+/// Takes an RLRE, release response (ISO 8650-1, "ACSE-1"), whatever whole fields it has.
 ///
 /// Fails with `Apdu` where `bytes` are not one whole RLRE that is cut into whole fields.
 pub fn read_rlre(bytes: &[u8]) -> Result<(), AcFault>

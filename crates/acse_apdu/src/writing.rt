@@ -53,7 +53,7 @@ fn put_result(out: &mut Vec<u8>) -> Result<(), AllocError>
     put(out, RESULT_SOURCE_DIAGNOSTIC, &[0xa1, 3, 0x02, 1, 0])
 }
 
-/// The AARQ, association request, that asks for the application context of MMS and carries this PDU (ISO 8650-1, 9.1;
+/// The AARQ, association request, that asks for the application context of MMS and carries this PDU (ISO 8650-1, "ACSE-1";
 /// ISO 9506-2, the initiate request). `context` is the number of the presentation context of MMS. The direct reference
 /// is 2.1.1, BER.
 ///
@@ -72,7 +72,7 @@ pub fn write_aarq(alloc: Global, context: u32, pdu: &[u8]) -> Result<Octs, Alloc
     Ok(Octs::from_vec(out))
 }
 
-/// The AARE, association response, that accepts the application context of MMS and carries this PDU (ISO 8650-1, 9.1;
+/// The AARE, association response, that accepts the application context of MMS and carries this PDU (ISO 8650-1, "ACSE-1";
 /// ISO 9506-2, the initiate response). The result is accepted, with the diagnostic null of the service user. `context`
 /// is the number of the presentation context of MMS. The direct reference is 2.1.1, BER.
 ///
@@ -92,14 +92,14 @@ pub fn write_aare(alloc: Global, context: u32, pdu: &[u8]) -> Result<Octs, Alloc
     Ok(Octs::from_vec(out))
 }
 
-/// The RLRQ, release request, with the reason normal (ISO 8650-1, 9.3).
+/// The RLRQ, release request, with the reason normal (ISO 8650-1, "ACSE-1").
 pub fn write_rlrq() -> [u8; 5]
     ensures { result ≡ release_octets RLRQ }
 {
     [0x62, 3, 0x80, 1, 0]
 }
 
-/// The RLRE, release response, with the reason normal (ISO 8650-1, 9.4).
+/// The RLRE, release response, with the reason normal (ISO 8650-1, "ACSE-1").
 pub fn write_rlre() -> [u8; 5]
     ensures { result ≡ release_octets RLRE }
 {

@@ -66,7 +66,7 @@ fields_grow m n le =
 length-octets_of : (tag : ℕ) (content : List ℕ) → length (octets_of tag content) ≡ length (tag_octets tag) + (length (length_octets (length content)) + length content)
 length-octets_of tag content = length-append (tag_octets tag) (length_octets (length content) ++ content) ∙ ap (λ (n : ℕ). length (tag_octets tag) + n) (length-append (length_octets (length content)) content)
 
-octets_grow : (tag : ℕ) (a b : List ℕ) → length a ≤ length b → length (octets_of tag a) ≤ length (octets_of tag b)
+pub octets_grow : (tag : ℕ) (a b : List ℕ) → length a ≤ length b → length (octets_of tag a) ≤ length (octets_of tag b)
 octets_grow tag a b le = omega (arith, length-octets_of tag a, length-octets_of tag b, fields_grow (length a) (length b) le, le)
 
 -- the element that is written of a content that is no longer

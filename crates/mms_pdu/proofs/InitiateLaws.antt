@@ -1,5 +1,6 @@
 -- What is read of an initiate is what it spells, and what it spells is read.
-use Rattle.std.proofs.Common.{◌≡◌, ℕ, ◌<◌, inl, inr, true, ◌&&◌, cond, ltb, eqb, ◌++◌, List, [], ◌∷◌, Option, Some, None, Result, Ok, Err, refl, sym, ap, subst, ◌∙◌, arith}
+use Rattle.std.proofs.Common.{◌≡◌, ℕ, ◌<◌, ◌⊎◌, inl, inr, true, ◌&&◌, cond, ltb, eqb, ◌++◌, List, [], ◌∷◌, Option, Some, None, Result, Ok, Err, refl, sym, ap, subst, ◌∙◌, arith}
+use Rattle.std.specs.Prelude.{MatchResult}
 use Rattle.std.proofs.lemmas.Bool.{eqb-true, eq-eqb, ne_eqb, ltb-true, ltb-false, lt-ltb, le-ltb, and_parts, cond_both}
 use Rattle.ber_grammar.specs.Octets.{IsBytes}
 use Rattle.ber_grammar.specs.Element.{Element, IsRow}
@@ -7,7 +8,7 @@ use Rattle.ber_grammar.specs.Reader.{Gives, Reads, and_then, kept}
 use Rattle.ber_grammar.specs.Rows.{parts_at}
 use Rattle.ber_grammar.proofs.OptionLaws.{some_is, then_some, chosen, sides}
 use Rattle.ber_grammar.proofs.OctetLaws.{AllBytes, IsRow-bytes, Spells-bytes}
-use Rattle.ber_grammar.proofs.ReaderLaws.{exact_from, reads_from}
+use Rattle.ber_grammar.proofs.ReaderLaws.{exact_from, reads_from, err_is, refuses_at}
 use Rattle.mms_pdu.specs.declared.fault.PduFault.{PduFault}
 use Rattle.mms_pdu.specs.declared.fault.PduFault.TheVariants.{UnknownPdu, UnknownService, Argument, Invalid, SmallSize}
 use Rattle.mms_pdu.specs.declared.initiate.Initiate.{Initiate}
@@ -205,3 +206,30 @@ initiate_reads view r tag input fits g =
     (accepted_again tag input)
     (λ f h. refused_again tag input f fits h))
     g
+
+-- ---- an initiate says one thing
+
+gives_itself : {Y F : Type 0} (r : Result Y F) → Gives (λ (y : Y). y) r r
+gives_itself (Ok y) = refl
+gives_itself (Err f) = refl
+
+pub initiate_exact : (tag : ℕ) (input : List ℕ) → IsBytes input → Reads (λ (i : Initiate). i) (initiate_at tag input) (IsAccepted tag input) (IsInitiateRefused tag input)
+initiate_exact tag input fits = initiate_reads (λ i. i) (initiate_at tag input) tag input fits (gives_itself (initiate_at tag input))
+
+either : (tag : ℕ) (input : List ℕ) (r : Result Initiate PduFault) → MatchResult r (IsAccepted tag input) (IsInitiateRefused tag input) → ((i : Initiate) × IsAccepted tag input i) ⊎ ((f : PduFault) × IsInitiateRefused tag input f)
+either tag input (Ok i) h = inl (i, h)
+either tag input (Err f) h = inr (f, h)
+
+pub initiate_answered : (tag : ℕ) (input : List ℕ) → IsBytes input → ((i : Initiate) × IsAccepted tag input i) ⊎ ((f : PduFault) × IsInitiateRefused tag input f)
+initiate_answered tag input fits = either tag input (initiate_at tag input) (initiate_exact tag input fits).tells
+
+pub initiate_unique : (tag : ℕ) (input : List ℕ) (i j : Initiate) → IsAccepted tag input i → IsAccepted tag input j → i ≡ j
+initiate_unique tag input i j a b = one_initiate tag input i j a.0 b.0
+
+pub initiate_one_cause : (tag : ℕ) (input : List ℕ) (f g : PduFault) → IsBytes input → IsInitiateRefused tag input f → IsInitiateRefused tag input g → f ≡ g
+initiate_one_cause tag input f g fits a b =
+    let e = initiate_exact tag input fits in
+    err_is {Y = Initiate} f g (refuses_at (initiate_at tag input) f (e.refuses f a) ∙ sym (refuses_at (initiate_at tag input) g (e.refuses g b)))
+
+pub initiate_not_both : (tag : ℕ) (input : List ℕ) (i : Initiate) (f : PduFault) → IsBytes input → IsAccepted tag input i → IsInitiateRefused tag input f → ⊥
+initiate_not_both tag input i f fits a b = let both = sym (accepted_again tag input i a) ∙ sym (refuses_at (initiate_at tag input) f ((initiate_exact tag input fits).refuses f b)) in cc

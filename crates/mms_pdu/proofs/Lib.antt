@@ -18,3 +18,5 @@ pub mod ReplyAgainLaws
 pub mod ReplyPlaceLaws
 pub mod ReplyOctetsLaws
 pub mod AskingLaws
+pub mod SaidLaws
+pub mod MinimalLaws

@@ -51,7 +51,7 @@ middle_can t least most = rw (le-ltb t 256 (omega (arith, least)), lt-ltb t 6553
 high_can : (t : ℕ) → 10453248 ≤ t → t ≤ 10453375 → CanBeTag t
 high_can t least most = rw (le-ltb t 256 (omega (arith, least)), le-ltb t 65536 (omega (arith, least))) (omega (arith, least, most), omega (arith, least, most), omega (arith, least, most), omega (arith, least, most))
 
-class_can : (class : ℕ) → class < 256 → CanBeTag (class_tag class)
+pub class_can : (class : ℕ) → class < 256 → CanBeTag (class_tag class)
 class_can class small =
     cond_both (ltb class 31) (128 + class) (cond (ltb class 128) (40704 + class) (10453120 + class)) CanBeTag
     (λ e. low_can class (ltb-true class 31 e))
@@ -96,10 +96,10 @@ error_spelled invoke class code small low few =
 
 -- ---- a reject
 
-reason_bounds : (refusal : ℕ) → (129 ≤ reason_tag refusal) × (reason_tag refusal ≤ 133)
+pub reason_bounds : (refusal : ℕ) → (129 ≤ reason_tag refusal) × (reason_tag refusal ≤ 133)
 reason_bounds refusal = cond_both (eqb refusal 2 || eqb refusal 3) 129 133 (λ t. (129 ≤ t) × (t ≤ 133)) (λ e. (omega arith, omega arith)) (λ e. (omega arith, omega arith))
 
-code_bound : (refusal : ℕ) → reason_code refusal < 256
+pub code_bound : (refusal : ℕ) → reason_code refusal < 256
 code_bound refusal = cond_both (eqb refusal 1) 0 (cond (eqb refusal 3) 4 1) (λ t. t < 256) (λ e. omega arith) (λ e. cond_both (eqb refusal 3) 4 1 (λ t. t < 256) (λ d. omega arith) (λ d. omega arith))
 
 abbrev reason_octets : ℕ → List ℕ

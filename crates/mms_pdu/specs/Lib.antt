@@ -24,6 +24,8 @@ pub mod Answer
 pub mod Reply
 pub mod ReplyReading
 pub mod ReplyOctets
+-- what is written says, and how short it is
+pub mod Said
 -- what the program gives, as what is in a PDU
 pub mod View
 pub mod ReplyView

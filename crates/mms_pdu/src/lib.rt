@@ -16,6 +16,7 @@ mod fault;
 mod initiate;
 mod initiate_writing;
 mod laws;
+mod minimal;
 mod name_list;
 mod number;
 mod object_name;
@@ -53,7 +54,8 @@ pub use reply_view::{ReplyView, reply};
 pub use report::write_report;
 
 // What is promised of all of it.
-pub use laws::each_input_asks_one_thing;
+pub use laws::{each_initiate_says_one_thing, each_input_asks_one_thing};
+pub use minimal::written_pdus_are_minimal;
 pub use read_back::{
     each_input_is_one_reply, initiates_are_read_back, replies_are_read_back, requests_are_read_back,
 };

@@ -44,7 +44,7 @@ Takes-then s t u b piece held rest es more p q = record {
   runs = Runs-append s t u p.tpdus q.tpdus es more p.runs q.runs;
 }
 
-Takes-both : (s t u : Stand) (b held rest : List ℕ) (es more : List Event) → Takes s b es t held → Takes t held more u rest → Takes s b (es ++ more) u rest
+pub Takes-both : (s t u : Stand) (b held rest : List ℕ) (es more : List Event) → Takes s b es t held → Takes t held more u rest → Takes s b (es ++ more) u rest
 Takes-both s t u b held rest es more p q =
     subst (λ (x : List ℕ). Takes s x (es ++ more) u rest) (append-nil b) (Takes-then s t u b [] held rest es more p (subst (λ (x : List ℕ). Takes t x more u rest) (sym (append-nil held)) q))
 
@@ -54,7 +54,7 @@ Takes-none s t octets rest same whole = record { tpdus = []; whole = whole; each
 pub Takes-less : (s t : Stand) (octets rest : List ℕ) (es : List Event) → Takes s octets es t rest → length rest ≤ length octets
 Takes-less s t octets rest es p = omega (arith, ap (λ (x : List ℕ). length x) p.whole, length-append (flat_map packet p.tpdus) rest)
 
-Takes-one : (s t : Stand) (octets tpdu after : List ℕ) (e : Option Event) → has_ended s.phase ≡ false → IsTpdu tpdu → octets ≡ packet tpdu ++ after → step_at s tpdu ≡ Ok (t, e) → Takes s octets (option_to_list e) t after
+pub Takes-one : (s t : Stand) (octets tpdu after : List ℕ) (e : Option Event) → has_ended s.phase ≡ false → IsTpdu tpdu → octets ≡ packet tpdu ++ after → step_at s tpdu ≡ Ok (t, e) → Takes s octets (option_to_list e) t after
 Takes-one s t octets tpdu after e on is whole step = record {
   tpdus = tpdu ∷ [];
   whole = whole ∙ ap (λ (x : List ℕ). x ++ after) (sym (append-nil (packet tpdu)) ∙ sym (flat_map-cons packet tpdu []));
@@ -69,11 +69,11 @@ pub step_is : (s : Stand) (t : State) (tpdu : List ℕ) (given : Option Tsdu) (n
 unfolding step_at
 step_is s t tpdu given next e step gift = rw (step, gift) refl
 
-step_fails : (s : Stand) (t : State) (tpdu : List ℕ) (given : Option Tsdu) (c : Cause) → tpdu_at s.transport tpdu ≡ Ok (t, given) → gifts_at s.phase given ≡ Err c → step_at s tpdu ≡ Err c
+pub step_fails : (s : Stand) (t : State) (tpdu : List ℕ) (given : Option Tsdu) (c : Cause) → tpdu_at s.transport tpdu ≡ Ok (t, given) → gifts_at s.phase given ≡ Err c → step_at s tpdu ≡ Err c
 unfolding step_at
 step_fails s t tpdu given c step gift = rw (step, gift) refl
 
-step_refused : (s : Stand) (tpdu : List ℕ) (f : TpFault) → tpdu_at s.transport tpdu ≡ Err f → step_at s tpdu ≡ Err (of_transport f)
+pub step_refused : (s : Stand) (tpdu : List ℕ) (f : TpFault) → tpdu_at s.transport tpdu ≡ Err f → step_at s tpdu ≡ Err (of_transport f)
 unfolding step_at
 step_refused s tpdu f step = rw step refl
 

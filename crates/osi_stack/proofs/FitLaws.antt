@@ -96,7 +96,7 @@ aare_fits context asked = omega (arith, aare_few context (initiate_answer asked)
 pub aarq_fits : (context size : ℕ) → length (aarq_content context (initiate_request size)) < 2 ^ 32
 aarq_fits context size = omega (arith, aarq_few context (initiate_request size), request_few size)
 
-aare_short : (context : ℕ) (asked : Initiate) → length (aare_octets context (initiate_answer asked)) ≤ 16384
+pub aare_short : (context : ℕ) (asked : Initiate) → length (aare_octets context (initiate_answer asked)) ≤ 16384
 unfolding aare_octets
 aare_short context asked = omega (arith, few_in_head 97 (aare_content context (initiate_answer asked)) (omega arith), aare_few context (initiate_answer asked), answer_few asked)
 

@@ -4,3 +4,10 @@ pub mod FitLaws
 pub mod ConnectionLaws
 pub mod StandingLaws
 pub mod ReadBackLaws
+pub mod AnsweredLaws
+pub mod SpelledLaws
+pub mod TellsLaws
+pub mod GoesLaws
+pub mod RefusalLaws
+pub mod RefusedStreamLaws
+pub mod SentLaws

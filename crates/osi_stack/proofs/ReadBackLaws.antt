@@ -10,6 +10,9 @@ use Rattle.ber_grammar.specs.Octets.{IsBytes}
 use Rattle.tpkt_cotp.specs.Stream.{Runs as TransportRuns}
 use Rattle.tpkt_cotp.specs.Written.{IsExponent}
 use Rattle.tpkt_cotp.proofs.ReadBackLaws.{tsdu_takes}
+use Rattle.tpkt_cotp.proofs.WrittenOctetLaws.{tsdu_octets}
+use Rattle.session_pres.proofs.WrittenOctetLaws.{data_octets}
+use Rattle.ber_grammar.proofs.OctetLaws.{IsBytes-append}
 use Rattle.tpkt_cotp.proofs.StreamLaws.{partial_none}
 use Rattle.session_pres.specs.declared.codes.TheConstants.{DISCONNECT}
 use Rattle.session_pres.specs.declared.fault.SpFault.{SpFault}
@@ -139,6 +142,15 @@ framed_stands from t before pdu line es fits exponent small one few stood there 
   takes = Takes-then from t (at (open_state t.transport) t.phase) before (framed line pdu) [] [] es (Pdu pdu ∷ []) stood.takes (frame_takes t line pdu exponent small one few there);
   left = inl (in_use t.phase line.context there.2, partial_none);
 }
+
+-- what is framed are octets
+framed_octets : (line : Line) (pdu : List ℕ) → IsBytes pdu → IsExponent line.exponent → length pdu ≤ 65000 → IsBytes (framed line pdu)
+framed_octets line pdu fits exponent few = tsdu_octets line.exponent (data_spdu line.context pdu) exponent (data_octets line.context pdu (pdv_fits line.context pdu (omega (arith, few))) fits)
+
+pub framed_taken : (from t : Stand) (before pdu : List ℕ) (line : Line) (es : List Event) → IsBytes pdu → IsExponent line.exponent → line.context < 2 ^ 32 → IsOneElement pdu → length pdu ≤ 65000 → StandsAt from t [] before es → IsOpenFor t line.context
+    → (u : Stand) × StandsAt from u [] (before ++ framed line pdu) (es ++ Pdu pdu ∷ []) × IsOpenFor u line.context
+framed_taken from t before pdu line es fits exponent small one few stood there =
+    (at (open_state t.transport) t.phase, framed_stands from t before pdu line es (IsBytes-append before (framed line pdu) stood.fits (framed_octets line pdu fits exponent few)) exponent small one few stood there, (refl, refl, there.2))
 
 pub framed_read : (from t u : Stand) (rest before pdu : List ℕ) (line : Line) (es ds : List Event) → IsExponent line.exponent → line.context < 2 ^ 32 → IsOneElement pdu → length pdu ≤ 65000 → StandsAt from t [] before es → IsOpenFor t line.context
     → StandsAt from u rest (before ++ framed line pdu) ds → (ds ≡ es ++ Pdu pdu ∷ []) × (rest ≡ []) × IsOpenFor u line.context

@@ -10,3 +10,5 @@ pub mod Going
 pub mod Standing
 pub mod Sides
 pub mod Open
+pub mod Spelled
+pub mod Refusals

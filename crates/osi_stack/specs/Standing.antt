@@ -1,5 +1,5 @@
 -- What an object stands for: the octets that it was fed, and the events that it gave for them.
-use Rattle.std.specs.Prelude.{◌≡◌, ℕ, false, List, ◌++◌, Some, None}
+use Rattle.std.specs.Prelude.{◌≡◌, ℕ, false, List, ◌++◌, Some, None, ◌⊎◌}
 use Rattle.osi_stack.specs.declared.cause.Cause.{Cause}
 use Rattle.osi_stack.specs.declared.connection.Connection.{Connection}
 use Rattle.osi_stack.specs.declared.connection.Link.{Link}
@@ -40,3 +40,14 @@ IsRefusedAt (Refused layer code count) from octets events = IsRefused from octet
 -- those of some of them were.
 abbrev pub StopsAt : StackFault → Stand → List ℕ → List Event → List Event → List Event → Type 0
 StopsAt f from octets so_far before now = (more : List Event) × (now ≡ before ++ more) × Gave from octets (so_far ++ more) × IsRefusedAt f from octets (so_far ++ more)
+
+-- From one stand on the octets stand for events, or they are refused.
+abbrev pub IsAnswered : Stand → List ℕ → Type 0
+IsAnswered from octets = ((t : Stand) × (rest : List ℕ) × (events : List Event) × StandsAt from t rest octets events)
+    ⊎ ((events : List Event) × (c : Cause) × (count : ℕ) × IsRefused from octets events c count)
+
+-- A refusal with what was added is this one: the same events in all, the same cause and the same count. Of want of memory
+-- nothing is said.
+abbrev pub IsSameRefusal : StackFault → List Event → Cause → ℕ → List Event → List Event → List Event → Type 0
+IsSameRefusal Memory events c n so_far before now = Unit {0}
+IsSameRefusal (Refused layer code count) events c n so_far before now = (more : List Event) × (now ≡ before ++ more) × (so_far ++ more ≡ events) × (layer ≡ c.layer) × (code ≡ c.code) × (count ≡ n)

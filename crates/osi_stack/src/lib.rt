@@ -19,6 +19,7 @@ mod taking;
 mod cause;
 mod fault;
 mod laws;
+mod spelled;
 
 // What comes.
 pub use events::{Event, Events, Line};
@@ -32,4 +33,10 @@ pub use upper::Upper;
 pub use sending::frames;
 
 // Laws.
-pub use laws::{a_stream_gives_one_list, frames_are_read_back, short_pdus_fit};
+pub use laws::{
+    a_refused_stream_stays_refused, a_stream_gives_one_list, frames_are_read_back, short_pdus_fit,
+};
+pub use spelled::{
+    events_are_what_octets_spell, refusals_are_what_octets_lack, what_is_sent_spells_what_is_read,
+    what_octets_spell_is_one_thing,
+};

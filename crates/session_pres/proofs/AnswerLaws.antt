@@ -132,7 +132,7 @@ fits_anyone ppdu cp aare e few short = read_fits (anywhere ppdu) (cp_at (anywher
 
 -- ---- user data are no longer than their SPDU
 
-first_is : (a b : Option Piece) (v : Piece) → first_of_two a b ≡ Some v → (a ≡ Some v) ⊎ (b ≡ Some v)
+pub first_is : (a b : Option Piece) (v : Piece) → first_of_two a b ≡ Some v → (a ≡ Some v) ⊎ (b ≡ Some v)
 first_is (Some x) b v h = inl h
 first_is None b v h = inr h
 

@@ -1,17 +1,16 @@
 -- What is read of octets doesn't depend on where they lie.
-use Rattle.std.proofs.Common.{◌≡◌, ℕ, zero, suc, ◌+◌, Bool, true, false, cond, eqb, List, [], ◌∷◌, length, take, drop, Option, Some, None, Result, Ok, Err, refl, sym, ap, ◌∙◌}
+use Rattle.std.proofs.Common.{◌≡◌, ℕ, zero, suc, ◌+◌, cond, eqb, List, [], ◌∷◌, length, take, drop, Option, Some, None, Result, Ok, Err, refl, sym, ap, ◌∙◌}
 use Rattle.std.specs.Prelude.{bytes_eq, is_some}
 use Rattle.std.specs.Option.{option_map}
 use Rattle.ber_grammar.specs.Element.{Element}
-use Rattle.ber_grammar.specs.Place.{Piece, Spot, placed, content_piece}
-use Rattle.ber_grammar.specs.Reader.{◌>>=◌, Gives, and_then, kept}
-use Rattle.ber_grammar.specs.Rows.{parts_at, single}
-use Rattle.ber_grammar.proofs.AlikeLaws.{Maybe, Both, Parts, Spots, Rows, then_maybe, then_same, is_required, then_both, next, if_maybe, both_if, if_both, plain, only_with-alike, only_alike, first_with-alike, fields_alike}
-use Rattle.session_pres.specs.declared.codes.TheConstants.{FINISH, DISCONNECT, CONNECT, ACCEPT, ABORT, USER_DATA, MODE_SELECTOR, NORMAL_MODE_PARAMETERS, CONTEXT_DEFINITION_LIST, CONTEXT_RESULT_LIST, RESULT, TRANSFER_SYNTAX, FULLY_ENCODED_DATA, SINGLE_ASN1_TYPE, INTEGER, OBJECT_IDENTIFIER, SEQUENCE, SET}
+use Rattle.ber_grammar.specs.Place.{Piece, Spot, content_piece}
+use Rattle.ber_grammar.specs.Reader.{◌>>=◌, Gives, and_then}
+use Rattle.ber_grammar.proofs.AlikeLaws.{Maybe, Both, Parts, Spots, Rows, then_maybe, then_same, is_required, then_both, next, if_maybe, both_if, if_both, plain, only_with-alike, only_alike, first_with-alike, field_with-alike, fields_alike}
+use Rattle.session_pres.specs.declared.codes.TheConstants.{FINISH, DISCONNECT, CONNECT, ACCEPT, ABORT, USER_DATA, MODE_SELECTOR, MODE_VALUE, NORMAL_MODE_PARAMETERS, CONTEXT_DEFINITION_LIST, CONTEXT_RESULT_LIST, RESULT, TRANSFER_SYNTAX, FULLY_ENCODED_DATA, SINGLE_ASN1_TYPE, INTEGER, OBJECT_IDENTIFIER, SEQUENCE, SET}
 use Rattle.session_pres.specs.declared.fault.SpFault.{SpFault}
 use Rattle.session_pres.specs.declared.fault.SpFault.TheVariants as faults
 use Rattle.ber_grammar.specs.Steps.{required}
-use Rattle.ber_grammar.specs.Fields.{fields_in, only_in, with_tag, only_with, first_with}
+use Rattle.ber_grammar.specs.Fields.{fields_in, only_in, only_with, first_with, field_with}
 use Rattle.session_pres.specs.Places.{front, behind}
 use Rattle.ber_grammar.specs.Reader.{first_of_two}
 use Rattle.session_pres.specs.Parameters.{Parameter, last_of}
@@ -256,7 +255,9 @@ octets_if wanted (Some x) (Some y) h = both_if Parts (bytes_eq x.octets wanted) 
 
 normal_alike : (ss ts : List Spot) → Rows ss ts → Maybe Parts (normal_at ss) (normal_at ts)
 unfolding normal_at
-normal_alike ss ts h = octets_if (0x80 ∷ 0x01 ∷ 0x01 ∷ []) (first_with MODE_SELECTOR ss) (first_with MODE_SELECTOR ts) (first_with-alike MODE_SELECTOR ss ts h)
+normal_alike ss ts h =
+    octets_if (1 ∷ []) (and_then (first_with MODE_SELECTOR ss) (field_with MODE_VALUE)) (and_then (first_with MODE_SELECTOR ts) (field_with MODE_VALUE))
+    (then_maybe Parts Parts (first_with MODE_SELECTOR ss) (first_with MODE_SELECTOR ts) (field_with MODE_VALUE) (field_with MODE_VALUE) (first_with-alike MODE_SELECTOR ss ts h) (field_with-alike MODE_VALUE))
 
 parameters_in_alike : (p q : Piece) → Parts p q → Both Parts (parameters_in p) (parameters_in q)
 unfolding parameters_in

@@ -14,3 +14,6 @@ pub mod RequestLaws
 pub mod ShortestLaws
 pub mod AnywhereLaws
 pub mod AnswerLaws
+pub mod HoldLaws
+pub mod WrittenOctetLaws
+pub mod OneWayLaws

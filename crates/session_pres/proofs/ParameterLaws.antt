@@ -10,7 +10,6 @@ use Rattle.ber_grammar.specs.Reader.{and_then}
 use Rattle.ber_grammar.proofs.OptionLaws.{then_some, some_is, chosen, first_none, first_first}
 use Rattle.session_pres.specs.declared.codes.TheConstants.{CONNECT_ACCEPT_ITEM, USER_DATA}
 use Rattle.session_pres.specs.Places.{front, behind}
-use Rattle.ber_grammar.specs.Reader.{first_of_two}
 use Rattle.session_pres.specs.Parameters.{IsLength, Parameter, BeginsWith, AreParameters, IsCut, IsUserOf, last_of}
 use Rattle.session_pres.specs.ParameterReading.{length_at, head_at, parameter_at, bounded_parameters, parameters_at, is_cut, all_cut, if_user, user_at}
 

@@ -1,13 +1,13 @@
 -- A CP and a CPA that are written are read back.
-use Rattle.std.proofs.Common.{◌≡◌, ℕ, ◌+◌, ◌<◌, ◌≤◌, ◌^◌, true, List, [], ◌∷◌, ◌++◌, length, Some, refl, sym, ap, ◌∙◌, append-nil, arith}
+use Rattle.std.proofs.Common.{◌≡◌, ℕ, ◌+◌, ◌<◌, ◌≤◌, ◌^◌, true, List, [], ◌∷◌, ◌++◌, length, Some, inl, refl, sym, ap, ◌∙◌, append-nil, arith}
 use Rattle.std.specs.List.{flat_map}
 use Rattle.std.proofs.lemmas.List.{length-append}
 use Rattle.ber_grammar.specs.Element.{Element, IsRow}
 use Rattle.ber_grammar.specs.Place.{Spot, Piece, placed, content_piece}
 use Rattle.ber_write.specs.Minimal.{written, octets_of}
-use Rattle.session_pres.specs.declared.codes.TheConstants.{ACCEPT, CONNECT_ACCEPT_ITEM, USER_DATA, MODE_SELECTOR, NORMAL_MODE_PARAMETERS, CONTEXT_RESULT_LIST, RESULT, TRANSFER_SYNTAX, FULLY_ENCODED_DATA, SEQUENCE, SET}
+use Rattle.session_pres.specs.declared.codes.TheConstants.{ACCEPT, CONNECT_ACCEPT_ITEM, USER_DATA, MODE_SELECTOR, MODE_VALUE, NORMAL_MODE_PARAMETERS, CONTEXT_RESULT_LIST, RESULT, TRANSFER_SYNTAX, FULLY_ENCODED_DATA, SEQUENCE, SET}
 use Rattle.session_pres.specs.ContextList.{ber}
-use Rattle.session_pres.specs.Presentation.{HasParameters, IsAcceptance, IsCpa, IsAc}
+use Rattle.session_pres.specs.Presentation.{IsNormal, HasParameters, IsAcceptance, IsCpa, IsAc}
 use Rattle.session_pres.specs.Written.{pdv_list, user_octets, field, accept_item, accept_parameters, accept_spdu, IsOneElement}
 use Rattle.session_pres.specs.WrittenPpdu.{normal_mode, set_content, ppdu, result_octets, cpa_parameters, cpa_octets}
 use Rattle.session_pres.proofs.WritingLaws.{within, accept_fits, cpa_fits}
@@ -25,9 +25,13 @@ parameters_of input parameters fits p =
     row_more MODE_SELECTOR (0x80 ∷ 0x01 ∷ 0x01 ∷ []) (octets_of NORMAL_MODE_PARAMETERS parameters) (written NORMAL_MODE_PARAMETERS parameters ∷ []) (plain_tag MODE_SELECTOR (omega arith) (λ q. omega (arith, q))) (omega arith)
     (row_last NORMAL_MODE_PARAMETERS parameters (plain_tag NORMAL_MODE_PARAMETERS (omega arith) (λ q. omega (arith, q))) (omega (arith, fits, length-append normal_mode (octets_of NORMAL_MODE_PARAMETERS parameters), within NORMAL_MODE_PARAMETERS parameters))) in
     let set = placed (only.0.block, only.0.place) es in
-    let mode : Piece = record { octets = 0x80 ∷ 0x01 ∷ 0x01 ∷ []; block = only.0.block; place = only.0.place + (written MODE_SELECTOR (0x80 ∷ 0x01 ∷ 0x01 ∷ [])).head } in
+    let selector : Piece = record { octets = 0x80 ∷ 0x01 ∷ 0x01 ∷ []; block = only.0.block; place = only.0.place + (written MODE_SELECTOR (0x80 ∷ 0x01 ∷ 0x01 ∷ [])).head } in
+    let value : List Element = written MODE_VALUE (1 ∷ []) ∷ [] in
+    let mode : Piece = record { octets = 1 ∷ []; block = selector.block; place = selector.place + (written MODE_VALUE (1 ∷ [])).head } in
+    let inner : IsRow selector.octets value = row_last MODE_VALUE (1 ∷ []) (plain_tag MODE_VALUE (omega arith) (λ q. omega (arith, q))) (omega arith) in
+    let normal : IsNormal set mode = (selector, refl, (placed (selector.block, selector.place) value, (value, inner, refl), inl (refl, refl)), refl) in
     let part : Piece = record { octets = parameters; block = only.0.block; place = only.0.place + ((written MODE_SELECTOR (0x80 ∷ 0x01 ∷ 0x01 ∷ [])).head + 3) + (written NORMAL_MODE_PARAMETERS parameters).head } in
-    (part, (only.0, only.1, (set, elements_of only.0 (normal_mode ++ octets_of NORMAL_MODE_PARAMETERS parameters) es only.2 row, (mode, (refl, refl), refl))), refl)
+    (part, (only.0, only.1, (set, elements_of only.0 (normal_mode ++ octets_of NORMAL_MODE_PARAMETERS parameters) es only.2 row, (mode, normal, refl))), refl)
 
 -- ---- CPA
 

@@ -3,14 +3,14 @@ use Rattle.std.proofs.Common.{◌≡◌, ℕ, eqb, List, [], ◌∷◌, Option, 
 use Rattle.std.specs.Prelude.{bytes_eq}
 use Rattle.std.proofs.lemmas.Bool.{eqb-true, eq-eqb}
 use Rattle.ber_grammar.specs.Place.{Spot, Piece, content_piece}
-use Rattle.ber_grammar.specs.Reader.{◌>>=◌, and_then, Gives, Reads}
+use Rattle.ber_grammar.specs.Reader.{and_then, Gives, Reads}
 use Rattle.ber_grammar.proofs.OptionLaws.{then_some, some_is, chosen}
 use Rattle.ber_grammar.proofs.ReaderLaws.{reads_from}
-use Rattle.session_pres.specs.declared.codes.TheConstants.{ACCEPT, MODE_SELECTOR, NORMAL_MODE_PARAMETERS, CONTEXT_DEFINITION_LIST, CONTEXT_RESULT_LIST, RESULT, TRANSFER_SYNTAX, FULLY_ENCODED_DATA, SEQUENCE, SET}
+use Rattle.session_pres.specs.declared.codes.TheConstants.{ACCEPT, MODE_SELECTOR, MODE_VALUE, NORMAL_MODE_PARAMETERS, CONTEXT_DEFINITION_LIST, CONTEXT_RESULT_LIST, RESULT, TRANSFER_SYNTAX, FULLY_ENCODED_DATA, SEQUENCE, SET}
 use Rattle.session_pres.specs.declared.fault.SpFault.{SpFault}
 use Rattle.session_pres.specs.declared.fault.SpFault.TheVariants as faults
 use Rattle.ber_grammar.specs.Steps.{IsLacking, required}
-use Rattle.ber_grammar.specs.Fields.{AreFields, IsOnly, fields_in, only_with, first_with}
+use Rattle.ber_grammar.specs.Fields.{AreFields, IsOnly, fields_in, only_with, first_with, field_with}
 use Rattle.session_pres.specs.Units.{HasData, IsDataRefused}
 use Rattle.session_pres.specs.UnitReading.{data_of}
 use Rattle.session_pres.specs.UserData.{pdv_list_at}
@@ -18,7 +18,7 @@ use Rattle.session_pres.specs.ContextList.{IsContextList, IsChosen, ber, acse, m
 use Rattle.session_pres.specs.ContextReading.{context_list_at, chosen_at}
 use Rattle.session_pres.specs.Presentation.{IsTagged, IsNormal, IsUser, Request, request, HasParameters, AreParametersRefused, IsCp, IsCpRefused, IsAcceptance, first_in, second_in, IsAccepted, IsCpa, IsCpaRefused, IsAc, IsAcRefused}
 use Rattle.session_pres.specs.PresentationReading.{if_octets, normal_at, parameters_in, if_context, user_in, cp_at, accepted_at, cpa_at, ac_at}
-use Rattle.ber_grammar.proofs.FieldLaws.{fields_found, fields_again, only_with-found, only_with-again}
+use Rattle.ber_grammar.proofs.FieldLaws.{fields_found, fields_again, only_with-found, only_with-again, field_with-found, field_with-again}
 use Rattle.session_pres.proofs.UserDataLaws.{pdv_list_found, pdv_list_again}
 use Rattle.session_pres.proofs.ListLaws.{same_octets, octets_same, context_list_found, context_list_again, chosen_found, chosen_again}
 use Rattle.session_pres.proofs.UnitLaws.{data_exact}
@@ -37,11 +37,15 @@ if_octets_again octets o part p q = rw p (rw (octets_same part.octets octets q) 
 
 normal_found : (fields : List Spot) (mode : Piece) → normal_at fields ≡ Some mode → IsNormal fields mode
 unfolding normal_at
-normal_found fields mode h = if_octets_found (0x80 ∷ 0x01 ∷ 0x01 ∷ []) (first_with MODE_SELECTOR fields) mode h
+normal_found fields mode h =
+    let c = if_octets_found (1 ∷ []) (and_then (first_with MODE_SELECTOR fields) (field_with MODE_VALUE)) mode h in
+    let selector = then_some (first_with MODE_SELECTOR fields) (field_with MODE_VALUE) mode c.0 in
+    (selector.0, selector.1, field_with-found MODE_VALUE selector.0 mode selector.2, c.1)
 
 normal_again : (fields : List Spot) (mode : Piece) → IsNormal fields mode → normal_at fields ≡ Some mode
 unfolding normal_at
-normal_again fields mode h = if_octets_again (0x80 ∷ 0x01 ∷ 0x01 ∷ []) (first_with MODE_SELECTOR fields) mode h.0 h.1
+normal_again fields mode (selector, at, is, octets) =
+    if_octets_again (1 ∷ []) (and_then (first_with MODE_SELECTOR fields) (field_with MODE_VALUE)) mode (rw at (field_with-again MODE_VALUE selector mode is)) octets
 
 pub parameters_exact : (input : Piece) → Exact (parameters_in input) (HasParameters input) (AreParametersRefused input)
 unfolding parameters_in
@@ -120,8 +124,9 @@ cpa_exact input =
     step_exact (accepted_at (second_in results)) faults.NoMmsContext _ (IsAccepted (second_in results)) _ _ (accepted_found (second_in results)) (accepted_again (second_in results)) (λ m u.
     required_exact (user_in fields 1) faults.Pdv (IsUser fields 1) (user_found fields 1) (user_again fields 1)))))))
 
-pub ac_reads : {X : Type 0} (view : X → Piece) (r : Result X SpFault) (input : Piece) → Gives view r (ac_at input) → Reads view r (IsAc input) (IsAcRefused input)
+pub ac_exact : (input : Piece) → Exact (ac_at input) (IsAc input) (IsAcRefused input)
 unfolding ac_at
-ac_reads view r input g =
-    reads_from view r (data_of ACCEPT input >>= cpa_at) (IsAc input) (IsAcRefused input)
-    (then_exact (data_of ACCEPT input) cpa_at (HasData ACCEPT input) (IsDataRefused ACCEPT input) IsCpa IsCpaRefused (data_exact ACCEPT input) (λ cpa s. cpa_exact cpa)) g
+ac_exact input = then_exact (data_of ACCEPT input) cpa_at (HasData ACCEPT input) (IsDataRefused ACCEPT input) IsCpa IsCpaRefused (data_exact ACCEPT input) (λ cpa s. cpa_exact cpa)
+
+pub ac_reads : {X : Type 0} (view : X → Piece) (r : Result X SpFault) (input : Piece) → Gives view r (ac_at input) → Reads view r (IsAc input) (IsAcRefused input)
+ac_reads view r input g = reads_from view r (ac_at input) (IsAc input) (IsAcRefused input) (ac_exact input) g

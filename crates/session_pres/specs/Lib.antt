@@ -14,3 +14,4 @@ pub mod WrittenPpdu
 pub mod View
 pub mod ViewOfContexts
 pub mod Plain
+pub mod OneWay

@@ -1,11 +1,11 @@
 -- The PPDUs that make a connection: CP, the request, and CPA, the acceptance (ISO 8823-1, "CP-type" and "CPA-PPDU").
 use Rattle.std.specs.Prelude.{◌≡◌, ℕ, Bool, List, [], ◌∷◌, length, Option, Some, None}
 use Rattle.ber_grammar.specs.Place.{Spot, Piece, content_piece}
-use Rattle.session_pres.specs.declared.codes.TheConstants.{ACCEPT, MODE_SELECTOR, NORMAL_MODE_PARAMETERS, CONTEXT_DEFINITION_LIST, CONTEXT_RESULT_LIST, RESULT, TRANSFER_SYNTAX, FULLY_ENCODED_DATA, SEQUENCE, SET}
+use Rattle.session_pres.specs.declared.codes.TheConstants.{ACCEPT, MODE_SELECTOR, MODE_VALUE, NORMAL_MODE_PARAMETERS, CONTEXT_DEFINITION_LIST, CONTEXT_RESULT_LIST, RESULT, TRANSFER_SYNTAX, FULLY_ENCODED_DATA, SEQUENCE, SET}
 use Rattle.session_pres.specs.declared.fault.SpFault.{SpFault}
 use Rattle.session_pres.specs.declared.fault.SpFault.TheVariants as faults
 use Rattle.ber_grammar.specs.Steps.{Then, Or, Else, IsLacking}
-use Rattle.ber_grammar.specs.Fields.{AreFields, IsOnly, first_with}
+use Rattle.ber_grammar.specs.Fields.{AreFields, IsField, IsOnly, first_with}
 use Rattle.session_pres.specs.Units.{HasData, IsDataRefused}
 use Rattle.session_pres.specs.UserData.{IsPdvList}
 use Rattle.session_pres.specs.ContextList.{Context, Chosen, IsContextList, IsChosen, ber, acse, mms, flags_from}
@@ -14,9 +14,9 @@ use Rattle.session_pres.specs.ContextList.{Context, Chosen, IsContextList, IsCho
 abbrev pub IsTagged : ℕ → List Spot → Piece → Type 0
 IsTagged tag fields content = first_with tag fields ≡ Some content
 
--- the mode selector, [0], holds [0] with the one octet 1: the normal mode
+-- The mode-selector, [0], is a SET. The first [0] in it, the mode-value, has the one octet 1: the normal mode.
 abbrev pub IsNormal : List Spot → Piece → Type 0
-IsNormal fields mode = IsTagged MODE_SELECTOR fields mode × (mode.octets ≡ 0x80 ∷ 0x01 ∷ 0x01 ∷ [])
+IsNormal fields mode = (selector : Piece) × IsTagged MODE_SELECTOR fields selector × IsField MODE_VALUE selector mode × (mode.octets ≡ 1 ∷ [])
 
 -- the user data in this context
 abbrev pub IsUser : List Spot → ℕ → Piece → Type 0

@@ -2,11 +2,11 @@
 use Rattle.std.specs.Prelude.{ℕ, List, [], ◌∷◌, Option, Some, None, Result, Ok, bytes_eq, ◌==◌, if◌then◌else◌}
 use Rattle.ber_grammar.specs.Place.{Spot, Piece, content_piece}
 use Rattle.ber_grammar.specs.Reader.{◌>>=◌, and_then}
-use Rattle.session_pres.specs.declared.codes.TheConstants.{ACCEPT, MODE_SELECTOR, NORMAL_MODE_PARAMETERS, CONTEXT_DEFINITION_LIST, CONTEXT_RESULT_LIST, RESULT, TRANSFER_SYNTAX, FULLY_ENCODED_DATA, SEQUENCE, SET}
+use Rattle.session_pres.specs.declared.codes.TheConstants.{ACCEPT, MODE_SELECTOR, MODE_VALUE, NORMAL_MODE_PARAMETERS, CONTEXT_DEFINITION_LIST, CONTEXT_RESULT_LIST, RESULT, TRANSFER_SYNTAX, FULLY_ENCODED_DATA, SEQUENCE, SET}
 use Rattle.session_pres.specs.declared.fault.SpFault.{SpFault}
 use Rattle.session_pres.specs.declared.fault.SpFault.TheVariants as faults
 use Rattle.ber_grammar.specs.Steps.{required}
-use Rattle.ber_grammar.specs.Fields.{fields_in, only_with, first_with}
+use Rattle.ber_grammar.specs.Fields.{fields_in, only_with, first_with, field_with}
 use Rattle.session_pres.specs.UnitReading.{data_of}
 use Rattle.session_pres.specs.UserData.{pdv_list_at}
 use Rattle.session_pres.specs.ContextList.{ber, acse, mms}
@@ -19,7 +19,7 @@ if_octets octets None = None
 if_octets octets (Some part) = if bytes_eq part.octets octets then Some part else None
 
 unfoldable pub normal_at : List Spot → Option Piece
-normal_at fields = if_octets (0x80 ∷ 0x01 ∷ 0x01 ∷ []) (first_with MODE_SELECTOR fields)
+normal_at fields = if_octets (1 ∷ []) (and_then (first_with MODE_SELECTOR fields) (field_with MODE_VALUE))
 
 unfoldable pub parameters_in : Piece → Result Piece SpFault
 parameters_in input =

@@ -1,6 +1,6 @@
-//! Codes on the wire: SPDUs and their parameters (ISO 8327-1, 8.3), and the tags of PPDUs (ISO 8823-1, 8.2).
+//! Codes on the wire: SPDUs and their parameters (ISO 8327-1), and the tags of PPDUs (ISO 8823-1).
 
-// ---- SPDUs (ISO 8327-1, 8.3, "SPDU identifiers and associated parameter fields")
+// ---- SPDUs (ISO 8327-1, "Structure and encoding of SPDUs"): the SPDU identifiers
 
 /// GIVE TOKENS, which stands before a DATA TRANSFER.
 pub const GIVE_TOKENS: u8 = 0x01;
@@ -23,7 +23,7 @@ pub const ACCEPT: u8 = 0x0e;
 /// ABORT.
 pub const ABORT: u8 = 0x19;
 
-// ---- their parameters
+// ---- their parameters: parameter identifiers, and the identifier of a parameter group
 
 /// The group connect/accept item, whose value is parameters too.
 pub const CONNECT_ACCEPT_ITEM: u8 = 0x05;
@@ -31,10 +31,13 @@ pub const CONNECT_ACCEPT_ITEM: u8 = 0x05;
 /// User data.
 pub const USER_DATA: u8 = 0xc1;
 
-// ---- PPDUs (ISO 8823-1, 8.2, "Structure of PPDUs")
+// ---- PPDUs (ISO 8823-1, "Structure and encoding of PPDUs"), by the names of the ASN.1 there
 
 /// Mode-selector: `[0]` of a CP and of a CPA.
 pub const MODE_SELECTOR: u32 = 0xa0;
+
+/// mode-value: `[0]` of a Mode-selector.
+pub const MODE_VALUE: u32 = 0x80;
 
 /// normal-mode-parameters: `[2]` of a CP and of a CPA.
 pub const NORMAL_MODE_PARAMETERS: u32 = 0xa2;

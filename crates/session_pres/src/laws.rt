@@ -3,11 +3,14 @@
 ghost use Rattle.std.specs.Prelude.{◌≡◌, ℕ, ◌+◌, ◌*◌, ◌<◌, ◌≤◌, ◌^◌, Bool, true, List, [], ◌∷◌, length, Some, Ok};
 ghost use Rattle.ber_grammar.specs.Octets.{IsBytes};
 ghost use Rattle.ber_grammar.specs.Place.{Piece};
+ghost use Rattle.ber_grammar.specs.Steps.{IsLacking};
+ghost use Rattle.session_pres.specs.declared.fault.SpFault.TheVariants as faults;
+ghost use Rattle.session_pres.specs.OneWay.{IsOneWay};
 ghost use Rattle.session_pres.specs.declared.codes.TheConstants.{FINISH, DISCONNECT, USER_DATA};
 ghost use Rattle.session_pres.specs.Parameters.{IsLength};
-ghost use Rattle.session_pres.specs.Units.{HasUser, IsSpdu, connect, transfer, finish};
+ghost use Rattle.session_pres.specs.Units.{HasUser, IsUserRefused, IsSpdu, IsSpduRefused, connect, transfer, finish};
 ghost use Rattle.session_pres.specs.UserData.{IsUserData};
-ghost use Rattle.session_pres.specs.Presentation.{Request, IsCp, IsAc};
+ghost use Rattle.session_pres.specs.Presentation.{Request, IsCp, IsCpRefused, IsCpa, IsCpaRefused, IsAc, IsAcRefused};
 ghost use Rattle.session_pres.specs.Written.{pdv_list, user_octets, field, data_spdu, release_spdu, length_field, accept_parameters, accept_spdu, IsOneElement};
 ghost use Rattle.session_pres.specs.WrittenPpdu.{connect_parameters, connect_spdu, set_content, cpa_parameters, cpa_octets};
 ghost use Rattle.session_pres.specs.Plain.{Asked, connects, spdu_from, cp_from};
@@ -40,6 +43,17 @@ pub fn a_release_is_read_back()
         → (user value : Piece) × IsSpdu input (finish (Some user)) × IsUserData user (context, value) × (value.octets ≡ apdu) }
     ensures disconnect { (input : Piece) (context : ℕ) (apdu : List ℕ) → context < 2 ^ 32 → IsOneElement apdu → length (field USER_DATA (user_octets context apdu)) ≤ 65535 → input.octets ≡ release_spdu DISCONNECT context apdu
         → (user value : Piece) × HasUser DISCONNECT input (Some user) × IsUserData user (context, value) × (value.octets ≡ apdu) }
+{}
+
+/// An SPDU, a CP, a CPA, an ACCEPT with its CPA, user data and a DISCONNECT bring one thing each, or are refused for one
+/// cause, and never both.
+pub fn each_input_is_read_in_one_way()
+    ensures spdu { (input : Piece) → IsOneWay (IsSpdu input) (IsSpduRefused input) }
+    ensures disconnect { (input : Piece) → IsOneWay (HasUser DISCONNECT input) (IsUserRefused DISCONNECT input) }
+    ensures cp { (input : Piece) → IsOneWay (IsCp input) (IsCpRefused input) }
+    ensures cpa { (input : Piece) → IsOneWay (IsCpa input) (IsCpaRefused input) }
+    ensures ac { (input : Piece) → IsOneWay (IsAc input) (IsAcRefused input) }
+    ensures user_data { (input : Piece) → IsOneWay {Y = ℕ × Piece} (IsUserData input) (IsLacking faults.Pdv (IsUserData input)) }
 {}
 
 /// What is short can be written: each clause gives a writer's condition.

@@ -29,5 +29,5 @@ pub use writing::{write_ac, write_cn, write_cpa, write_data, write_dn, write_fn}
 // Laws.
 pub use laws::{
     a_connection_is_read_back, a_release_is_read_back, an_answer_fits, data_are_read_back,
-    short_ones_fit, user_data_are_minimal,
+    each_input_is_read_in_one_way, short_ones_fit, user_data_are_minimal,
 };

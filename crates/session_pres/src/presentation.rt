@@ -5,7 +5,8 @@ ghost use Rattle.std.specs.Option.{option_map};
 ghost use Rattle.ber_grammar.specs.Place.{Spot, Piece, piece};
 ghost use Rattle.ber_grammar.specs.Reader.{Gives, Reads, and_then};
 ghost use Rattle.ber_view.specs.View.{spot};
-ghost use Rattle.ber_grammar.specs.Fields.{fields_in, first_with};
+ghost use Rattle.ber_grammar.specs.Fields.{fields_in, first_with, field_with};
+ghost use Rattle.session_pres.specs.declared.codes.TheConstants.{MODE_SELECTOR, MODE_VALUE};
 ghost use Rattle.session_pres.specs.Presentation.{Request, IsCp, IsCpRefused, IsAc, IsAcRefused};
 ghost use Rattle.session_pres.specs.PresentationReading.{if_octets, normal_at, parameters_in, if_context, user_in, cp_at, accepted_at, cpa_at, ac_at};
 ghost use Rattle.session_pres.specs.View.{request_of};
@@ -13,13 +14,13 @@ ghost use Rattle.session_pres.specs.Plain.{asked_of, cp_from, ac_from};
 
 use crate::codes::{
     ACCEPT, CONTEXT_DEFINITION_LIST, CONTEXT_RESULT_LIST, FULLY_ENCODED_DATA, MODE_SELECTOR,
-    NORMAL_MODE_PARAMETERS, RESULT, SEQUENCE, SET, TRANSFER_SYNTAX,
+    MODE_VALUE, NORMAL_MODE_PARAMETERS, RESULT, SEQUENCE, SET, TRANSFER_SYNTAX,
 };
 use crate::contexts::{Contexts, choice, offer_of};
 use crate::fault::SpFault;
 use crate::pdv::pdv_list_of;
 use crate::spdu::connect_data_of;
-use ber_view::{Tlv, fields, first_of, first_with, only_with};
+use ber_view::{Elements, Tlv, fields, first_of, first_with, only_with};
 
 /// What a CP says.
 #[derive(Debug, Drop)]
@@ -44,6 +45,13 @@ fn has_octets(part: Option<&[u8]>, octets: &[u8]) -> bool
     }
 }
 
+/// The mode that the fields of a CP or a CPA say: the content of the first mode-value in the mode-selector.
+fn mode_of(set: Elements<'_>) -> Option<&[u8]>
+    ensures { option_map piece result ≡ and_then (first_with MODE_SELECTOR set.entry) (field_with MODE_VALUE) }
+{
+    first_with(first_of(set, MODE_SELECTOR)?, MODE_VALUE)
+}
+
 /// The parameters of the normal mode of a CP or a CPA.
 #[tactic(auto, unfolding(crate::specs::PresentationReading::parameters_in, crate::specs::PresentationReading::normal_at, ber_grammar::specs::Fields::field_with))]
 fn parameters_of(ppdu: &[u8]) -> Result<&[u8], SpFault>
@@ -51,7 +59,7 @@ fn parameters_of(ppdu: &[u8]) -> Result<&[u8], SpFault>
 {
     let content = only_with(ppdu, SET).ok_or(SpFault::Parameter)?;
     let set = fields(content).ok_or(SpFault::Parameter)?;
-    if !has_octets(first_of(set, MODE_SELECTOR), &[0x80, 1, 1]) {
+    if !has_octets(mode_of(set), &[1]) {
         return Err(SpFault::Mode);
     }
     first_with(content, NORMAL_MODE_PARAMETERS).ok_or(SpFault::NoAcseContext)

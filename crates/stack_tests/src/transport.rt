@@ -153,7 +153,7 @@ fn a_cr_and_a_cc_are_written(rt: HostRuntime) {
 }
 
 /// Streams and why they are refused.
-const REFUSED: [(&[u8], TpFault); 16] = [
+const REFUSED: [(&[u8], TpFault); 19] = [
     (&[4], TpFault::Version),
     (&[3, 1], TpFault::Version),
     (&[3, 0, 0, 6], TpFault::Length),
@@ -168,6 +168,16 @@ const REFUSED: [(&[u8], TpFault); 16] = [
     (&[3, 0, 0, 11, 6, 0xe0, 0, 0, 0, 1, 0x40], TpFault::Class),
     (&[3, 0, 0, 10, 5, 0xe0, 0, 0, 0, 1], TpFault::Tpdu),
     (&[3, 0, 0, 12, 6, 0xe0, 0, 0, 0, 1, 0, 9], TpFault::Tpdu),
+    // class 4 with data, class 4 with half a parameter, a header that ends before class 4
+    (
+        &[3, 0, 0, 12, 6, 0xe0, 0, 0, 0, 1, 0x40, 9],
+        TpFault::Class,
+    ),
+    (
+        &[3, 0, 0, 12, 7, 0xe0, 0, 0, 0, 1, 0x40, 0xc0],
+        TpFault::Class,
+    ),
+    (&[3, 0, 0, 11, 5, 0xe0, 0, 0, 0, 1, 0x40], TpFault::Tpdu),
     (
         &[3, 0, 0, 14, 9, 0xe0, 0, 0, 0, 1, 0, 0xc0, 1, 6],
         TpFault::Tpdu,

@@ -8,3 +8,4 @@ pub mod ReadBackLaws
 pub mod TpduLaws
 pub mod WrittenLaws
 pub mod StepLaws
+pub mod WrittenOctetLaws

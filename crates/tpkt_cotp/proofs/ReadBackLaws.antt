@@ -10,6 +10,7 @@ use Rattle.tpkt_cotp.specs.declared.state.State.{State}
 use Rattle.tpkt_cotp.specs.declared.tsdus.Cr.{Cr}
 use Rattle.tpkt_cotp.specs.declared.tsdus.Tsdu.{Tsdu}
 use Rattle.tpkt_cotp.specs.declared.tsdus.Tsdu.TheVariants.{Connect, Data}
+use Rattle.ber_grammar.specs.Octets.{IsBytes}
 use Rattle.tpkt_cotp.specs.Packet.{packet, IsTpdu}
 use Rattle.tpkt_cotp.specs.Parameters.{Parameter, spelled, IsAllowed, said}
 use Rattle.tpkt_cotp.specs.Tpdu.{IsConnection, awaited, tpdu_at}
@@ -45,7 +46,7 @@ segments_fit zero most octets few le = ((omega arith, omega (arith, le)), tt)
 segments_fit (suc n) most octets few le =
     ((omega arith, omega (arith, length-take most octets)), segments_fit n most (drop most octets) few (omega (arith, length-drop most octets, le)))
 
-segments_all : (most : ℕ) (octets : List ℕ) → 0 < most → most ≤ 65528 → AllByRecursion IsTpdu (segments_of most octets)
+pub segments_all : (most : ℕ) (octets : List ℕ) → 0 < most → most ≤ 65528 → AllByRecursion IsTpdu (segments_of most octets)
 unfolding segments_of
 segments_all most octets some few =
     let lt : length octets - 1 < most * ((length octets - 1) / most + 1) = lt-mul-div-succ (length octets - 1) some in
@@ -66,14 +67,18 @@ tsdu_takes e octets s is there few =
       runs = segments_give (room e) octets s there few;
     }
 
--- A TSDU that is written behind a stream with nothing open is given, whatever was given before.
+-- A TSDU that is written behind a stream with nothing open is given, whatever was given before, and nothing is open then.
+pub tsdu_stands : (dialled : Bool) (s : State) (b octets : List ℕ) (e : ℕ) (es : List Tsdu) → IsBytes (b ++ tsdu_of e octets) → IsExponent e → length octets ≤ 70000 → s.connected ≡ true → s.tsdu ≡ [] → StandsAt dialled s [] b es
+    → StandsAt dialled (with_tsdu s []) [] (b ++ tsdu_of e octets) (es ++ Data octets ∷ [])
+tsdu_stands dialled s b octets e es fits is few there none before =
+    let same : s.tsdu ++ octets ≡ octets = ap (λ (x : List ℕ). x ++ octets) none in
+    let takes : Takes s (tsdu_of e octets) (Data octets ∷ []) (with_tsdu s []) [] = subst (λ (x : List ℕ). Takes s (tsdu_of e octets) (Data x ∷ []) (with_tsdu s []) []) same (tsdu_takes e octets s is there (subst (λ (x : List ℕ). length x ≤ 70000) (sym same) few)) in
+    record { fits = fits; takes = Takes-then (start dialled) s (with_tsdu s []) b (tsdu_of e octets) [] [] es (Data octets ∷ []) before.takes takes; partial = partial_none }
+
 pub tsdu_read : (dialled : Bool) (s t : State) (rest b octets : List ℕ) (e : ℕ) (es ds : List Tsdu) → IsExponent e → length octets ≤ 70000 → s.connected ≡ true → s.tsdu ≡ [] → StandsAt dialled s [] b es
     → StandsAt dialled t rest (b ++ tsdu_of e octets) ds → (ds ≡ es ++ Data octets ∷ []) × (rest ≡ []) × (t.connected ≡ true) × (t.tsdu ≡ [])
 tsdu_read dialled s t rest b octets e es ds is few there none before after =
-    let same : s.tsdu ++ octets ≡ octets = ap (λ (x : List ℕ). x ++ octets) none in
-    let takes : Takes s (tsdu_of e octets) (Data octets ∷ []) (with_tsdu s []) [] = subst (λ (x : List ℕ). Takes s (tsdu_of e octets) (Data x ∷ []) (with_tsdu s []) []) same (tsdu_takes e octets s is there (subst (λ (x : List ℕ). length x ≤ 70000) (sym same) few)) in
-    let now : StandsAt dialled (with_tsdu s []) [] (b ++ tsdu_of e octets) (es ++ Data octets ∷ []) = record { fits = after.fits; takes = Takes-then (start dialled) s (with_tsdu s []) b (tsdu_of e octets) [] [] es (Data octets ∷ []) before.takes takes; partial = partial_none } in
-    let one = one_stream dialled t (with_tsdu s []) rest [] (b ++ tsdu_of e octets) ds (es ++ Data octets ∷ []) after now in
+    let one = one_stream dialled t (with_tsdu s []) rest [] (b ++ tsdu_of e octets) ds (es ++ Data octets ∷ []) after (tsdu_stands dialled s b octets e es after.fits is few there none before) in
     (one.0, one.2, ap (λ (x : State). x.connected) one.1, ap (λ (x : State). x.tsdu) one.1)
 
 -- ---- a CR and a CC
@@ -159,25 +164,36 @@ abbrev opened : Bool → State
 opened dialled = record { dialled = dialled; connected = true; tsdu = [] }
 
 -- The first TPDU of a stream is the awaited one, as it is written.
+connection_stands : (dialled : Bool) (octets : List ℕ) (dst : ℕ) (cr : Cr) → IsBytes octets → IsCr cr → octets ≡ packet (connection (awaited dialled) dst cr.src (parameters_for cr)) → StandsAt dialled (opened dialled) [] octets (Connect cr ∷ [])
+connection_stands dialled octets dst cr fits is whole =
+    let tpdu : List ℕ = connection (awaited dialled) dst cr.src (parameters_for cr) in
+    let step : tpdu_at (start dialled) tpdu ≡ Ok (opened dialled, Some (Connect cr)) = taken_again (start dialled) (opened dialled) tpdu (Some (Connect cr)) (refl, 6 + length (parameters_for cr), _, refl, is_connection dst cr.src cr refl is, refl) in
+    let one : IsTpdu tpdu = (omega arith, omega (arith, is.1)) in
+    record { fits = fits; takes = Takes-one (start dialled) (opened dialled) octets tpdu [] (Some (Connect cr)) one (whole ∙ sym (append-nil (packet tpdu))) step; partial = partial_none }
+
 connection_read : (dialled : Bool) (t : State) (rest octets : List ℕ) (dst : ℕ) (cr : Cr) (ds : List Tsdu) → IsCr cr → octets ≡ packet (connection (awaited dialled) dst cr.src (parameters_for cr)) → StandsAt dialled t rest octets ds
     → (ds ≡ Connect cr ∷ []) × (rest ≡ []) × (t.connected ≡ true) × (t.tsdu ≡ [])
 connection_read dialled t rest octets dst cr ds is whole after =
-    let tpdu : List ℕ = connection (awaited dialled) dst cr.src (parameters_for cr) in
-    let step : tpdu_at (start dialled) tpdu ≡ Ok (opened dialled, Some (Connect cr)) = taken_again (start dialled) (opened dialled) tpdu (Some (Connect cr)) (refl, 6 + length (parameters_for cr), _, refl, is_connection dst cr.src cr refl is, refl) in
-    let fits : IsTpdu tpdu = (omega arith, omega (arith, is.1)) in
-    let takes : Takes (start dialled) octets (Connect cr ∷ []) (opened dialled) [] = Takes-one (start dialled) (opened dialled) octets tpdu [] (Some (Connect cr)) fits (whole ∙ sym (append-nil (packet tpdu))) step in
-    let one = one_stream dialled t (opened dialled) rest [] octets ds (Connect cr ∷ []) after (record { fits = after.fits; takes = takes; partial = partial_none }) in
+    let one = one_stream dialled t (opened dialled) rest [] octets ds (Connect cr ∷ []) after (connection_stands dialled octets dst cr after.fits is whole) in
     (one.0, one.2, ap (λ (x : State). x.connected) one.1, ap (λ (x : State). x.tsdu) one.1)
 
 -- The CC that is written is read by the side that dialled.
+pub confirm_stands : (cr : Cr) → IsBytes (confirm_of cr) → IsCr cr → StandsAt true (opened true) [] (confirm_of cr) (Connect (confirmed cr) ∷ [])
+unfolding confirm_of
+confirm_stands cr fits is = connection_stands true (packet (connection CC cr.src 1 (parameters_for cr))) cr.src (confirmed cr) fits is refl
+
 pub confirm_read : (t : State) (rest : List ℕ) (cr : Cr) (ds : List Tsdu) → IsCr cr → StandsAt true t rest (confirm_of cr) ds → (ds ≡ Connect (confirmed cr) ∷ []) × (rest ≡ []) × (t.connected ≡ true) × (t.tsdu ≡ [])
 unfolding confirm_of
 confirm_read t rest cr ds is after = connection_read true t rest (packet (connection CC cr.src 1 (parameters_for cr))) cr.src (confirmed cr) ds is refl after
 
-called_fits : (src : ℕ) → IsCr (called_with src)
+pub called_fits : (src : ℕ) → IsCr (called_with src)
 called_fits src = ((omega arith, omega arith), omega arith)
 
 -- The CR that is written is read by the other side.
+pub call_stands : (src : ℕ) → IsBytes (call_of src) → StandsAt false (opened false) [] (call_of src) (Connect (called_with src) ∷ [])
+unfolding call_of
+call_stands src fits = connection_stands false (packet (connection CR 0 src (parameters_for (called_with src)))) 0 (called_with src) fits (called_fits src) refl
+
 pub call_read : (t : State) (rest : List ℕ) (src : ℕ) (ds : List Tsdu) → StandsAt false t rest (call_of src) ds → (ds ≡ Connect (called_with src) ∷ []) × (rest ≡ []) × (t.connected ≡ true) × (t.tsdu ≡ [])
 unfolding call_of
 call_read t rest src ds after = connection_read false t rest (packet (connection CR 0 src (parameters_for (called_with src)))) 0 (called_with src) ds (called_fits src) refl after

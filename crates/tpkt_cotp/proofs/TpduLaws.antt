@@ -36,7 +36,7 @@ with_parameters li a b c d class more (Ok cr) count low (ps, whole, all, says) =
   each = all;
   says = says ∙ over_unsaid (c * 256 + d) ps;
 }
-with_parameters li a b c d class more (Err f) count low (same, bad) = inr (inr (same, count, low, bad))
+with_parameters li a b c d class more (Err f) count low (same, bad) = inr (inr (inr (same, count, low, bad)))
 
 connection_tells : (li : ℕ) (rest : List ℕ) → ConnectionTells li rest (connection_at li rest)
 connection_tells li [] = refl
@@ -45,19 +45,24 @@ connection_tells li (a ∷ b ∷ []) = refl
 connection_tells li (a ∷ b ∷ c ∷ []) = refl
 connection_tells li (a ∷ b ∷ c ∷ d ∷ []) = refl
 connection_tells li (a ∷ b ∷ c ∷ d ∷ class ∷ more) =
-    cond_both (eqb li (6 + length more)) (cond (ltb class 16) (parameters_of (unsaid (c * 256 + d)) more) (Err faults.Class)) (Err faults.Tpdu) (λ r. ConnectionTells li (a ∷ b ∷ c ∷ d ∷ class ∷ more) r)
-    (λ e. let count : li ≡ 6 + length more = eqb-true li (6 + length more) e in
-    cond_both (ltb class 16) (parameters_of (unsaid (c * 256 + d)) more) (Err faults.Class) (λ r. ConnectionTells li (a ∷ b ∷ c ∷ d ∷ class ∷ more) r)
-    (λ low. with_parameters li a b c d class more (parameters_of (unsaid (c * 256 + d)) more) count (ltb-true class 16 low) (parameters_tell (unsaid (c * 256 + d)) more))
-    (λ high. inr (inl (refl, count, ltb-false class 16 high))))
-    (λ e. inl (refl, eqb-false li (6 + length more) e))
+    let read = parameters_of (unsaid (c * 256 + d)) more in
+    let whole = cond (eqb li (6 + length more)) read (Err faults.Tpdu) in
+    cond_both (ltb li 6) (Err faults.Tpdu) (cond (ltb class 16) whole (Err faults.Class)) (λ r. ConnectionTells li (a ∷ b ∷ c ∷ d ∷ class ∷ more) r)
+    (λ e. inl (refl, ltb-true li 6 e))
+    (λ e. let long : 6 ≤ li = ltb-false li 6 e in
+    cond_both (ltb class 16) whole (Err faults.Class) (λ r. ConnectionTells li (a ∷ b ∷ c ∷ d ∷ class ∷ more) r)
+    (λ low. cond_both (eqb li (6 + length more)) read (Err faults.Tpdu) (λ r. ConnectionTells li (a ∷ b ∷ c ∷ d ∷ class ∷ more) r)
+    (λ count. with_parameters li a b c d class more read (eqb-true li (6 + length more) count) (ltb-true class 16 low) (parameters_tell (unsaid (c * 256 + d)) more))
+    (λ other. inr (inr (inl (refl, long, ltb-true class 16 low, eqb-false li (6 + length more) other)))))
+    (λ high. inr (inl (refl, long, ltb-false class 16 high))))
 
 pub connection_again : (li : ℕ) (rest : List ℕ) (cr : Cr) → IsConnection li rest cr → connection_at li rest ≡ Ok cr
 connection_again li rest cr is =
     let ps = is.parameters in
     let src : ℕ = is.src_high * 256 + is.src_low in
     let read : parameters_of (unsaid src) (flat_map spelled ps) ≡ Ok cr = parameters_again (unsaid src) ps is.each ∙ ap (λ (x : Cr). let y : Result Cr TpFault = Ok x in y) (over_unsaid src ps ∙ sym is.says) in
-    ap (connection_at li) is.whole ∙ rw (eq-eqb li (6 + length (flat_map spelled ps)) is.header, lt-ltb is.class 16 is.class_zero) read
+    let long : 6 ≤ li = omega (arith, is.header) in
+    ap (connection_at li) is.whole ∙ rw (le-ltb li 6 long, lt-ltb is.class 16 is.class_zero, eq-eqb li (6 + length (flat_map spelled ps)) is.header) read
 
 malformed_again : (li : ℕ) (rest : List ℕ) (f : TpFault) → IsMalformed li rest f → connection_at li rest ≡ Err f
 malformed_again li [] f h = ap (λ (x : TpFault). let y : Result Cr TpFault = Err x in y) (sym h)
@@ -65,9 +70,12 @@ malformed_again li (a ∷ []) f h = ap (λ (x : TpFault). let y : Result Cr TpFa
 malformed_again li (a ∷ b ∷ []) f h = ap (λ (x : TpFault). let y : Result Cr TpFault = Err x in y) (sym h)
 malformed_again li (a ∷ b ∷ c ∷ []) f h = ap (λ (x : TpFault). let y : Result Cr TpFault = Err x in y) (sym h)
 malformed_again li (a ∷ b ∷ c ∷ d ∷ []) f h = ap (λ (x : TpFault). let y : Result Cr TpFault = Err x in y) (sym h)
-malformed_again li (a ∷ b ∷ c ∷ d ∷ class ∷ more) f (inl (same, ne)) = rw (ne_eqb li (6 + length more) ne, same) refl
-malformed_again li (a ∷ b ∷ c ∷ d ∷ class ∷ more) f (inr (inl (same, count, high))) = rw (eq-eqb li (6 + length more) count, le-ltb class 16 high, same) refl
-malformed_again li (a ∷ b ∷ c ∷ d ∷ class ∷ more) f (inr (inr (same, count, low, bad))) = rw (eq-eqb li (6 + length more) count, lt-ltb class 16 low, same) (parameters_refused (unsaid (c * 256 + d)) more bad)
+malformed_again li (a ∷ b ∷ c ∷ d ∷ class ∷ more) f (inl (same, short)) = rw (lt-ltb li 6 short, same) refl
+malformed_again li (a ∷ b ∷ c ∷ d ∷ class ∷ more) f (inr (inl (same, long, high))) = rw (le-ltb li 6 long, le-ltb class 16 high, same) refl
+malformed_again li (a ∷ b ∷ c ∷ d ∷ class ∷ more) f (inr (inr (inl (same, long, low, other)))) = rw (le-ltb li 6 long, lt-ltb class 16 low, ne_eqb li (6 + length more) other, same) refl
+malformed_again li (a ∷ b ∷ c ∷ d ∷ class ∷ more) f (inr (inr (inr (same, count, low, bad)))) =
+    let long : 6 ≤ li = omega (arith, count) in
+    rw (le-ltb li 6 long, lt-ltb class 16 low, eq-eqb li (6 + length more) count, same) (parameters_refused (unsaid (c * 256 + d)) more bad)
 
 -- ---- behind a header that is whole
 

@@ -45,10 +45,12 @@ IsTaken s tpdu t (Some (Data octets)) = (s.connected ≡ true) × (nr : ℕ) × 
 IsTaken s tpdu t (Some Disconnect) = (li code : ℕ) × (rest : List ℕ) × (tpdu ≡ li ∷ code ∷ rest) × HasHeader li rest × ((code ≡ DR) ⊎ (code ≡ ER)) × (t ≡ s)
 IsTaken s tpdu t None = (s.connected ≡ true) × (nr : ℕ) × (more : List ℕ) × (tpdu ≡ 2 ∷ DT ∷ nr ∷ more) × (nr < END_OF_TSDU) × (length (s.tsdu ++ more) ≤ 70000) × (t ≡ record { dialled = s.dialled; connected = true; tsdu = s.tsdu ++ more })
 
--- what follows the code of a CR or a CC is of no form, or it asks for another class
+-- What follows the code of a CR or a CC is refused: its header ends before the class; or it asks for another class,
+-- whatever follows the header; or data follow it; or its variable part is no row of parameters.
 abbrev pub IsMalformed : ℕ → List ℕ → TpFault → Type 0
-IsMalformed li (a ∷ b ∷ c ∷ d ∷ class ∷ more) f = ((f ≡ faults.Tpdu) × (li ≢ 6 + length more))
-    ⊎ ((f ≡ faults.Class) × (li ≡ 6 + length more) × (16 ≤ class))
+IsMalformed li (a ∷ b ∷ c ∷ d ∷ class ∷ more) f = ((f ≡ faults.Tpdu) × (li < 6))
+    ⊎ ((f ≡ faults.Class) × (6 ≤ li) × (16 ≤ class))
+    ⊎ ((f ≡ faults.Tpdu) × (6 ≤ li) × (class < 16) × (li ≢ 6 + length more))
     ⊎ ((f ≡ faults.Tpdu) × (li ≡ 6 + length more) × (class < 16) × ((ps : List Parameter) → AllByRecursion IsAllowed ps → more ≢ flat_map spelled ps))
 IsMalformed li rest f = f ≡ faults.Tpdu
 
@@ -76,9 +78,10 @@ IsRefusedTpdu s tpdu f = f ≡ faults.Tpdu
 
 abbrev pub connection_at : ℕ → List ℕ → Result Cr TpFault
 connection_at li (a ∷ b ∷ c ∷ d ∷ class ∷ more) =
-    if li == 6 + length more
-    then (if nat_lt class 16 then parameters_of (record { src = c * 256 + d; size = None; calling = None; called = None }) more else Err faults.Class)
-    else Err faults.Tpdu
+    if nat_lt li 6 then Err faults.Tpdu
+    else if nat_lt class 16
+    then (if li == 6 + length more then parameters_of (record { src = c * 256 + d; size = None; calling = None; called = None }) more else Err faults.Tpdu)
+    else Err faults.Class
 connection_at li [] = Err faults.Tpdu
 connection_at li (a ∷ []) = Err faults.Tpdu
 connection_at li (a ∷ b ∷ []) = Err faults.Tpdu

@@ -1,6 +1,6 @@
 //! What is promised of all streams, TPKTs and TPDUs: each function here runs nothing, and its contract is a law.
 
-ghost use Rattle.std.specs.Prelude.{◌≡◌, ◌≢◌, ℕ, ◌<◌, ◌≤◌, Bool, true, false, List, [], ◌∷◌, ◌++◌, length, Option, Some, None, Ok, Err, MatchOption, MatchResult};
+ghost use Rattle.std.specs.Prelude.{◌≡◌, ◌≢◌, ℕ, ◌<◌, ◌≤◌, ◌^◌, Bool, true, false, List, [], ◌∷◌, ◌++◌, length, Option, Some, None, Ok, Err, MatchOption, MatchResult};
 ghost use Rattle.std.specs.Option.{option_to_list};
 ghost use Rattle.std.specs.List.{AllByRecursion};
 ghost use Rattle.tpkt_cotp.specs.declared.fault.TpFault.{TpFault};
@@ -13,8 +13,8 @@ ghost use Rattle.tpkt_cotp.specs.declared.tsdus.Tsdu.TheVariants.{Connect, Data}
 ghost use Rattle.ber_grammar.specs.Octets.{IsBytes};
 ghost use Rattle.tpkt_cotp.specs.Packet.{packet, packet_at, IsTpdu, IsPartial, IsBad};
 ghost use Rattle.tpkt_cotp.specs.Tpdu.{tpdu_at, IsConnection, IsTaken, IsRefusedTpdu};
-ghost use Rattle.tpkt_cotp.specs.Stream.{StandsFor, IsRefused, IsOpen, Keeps, IsReady, StepsFrom, gift};
-ghost use Rattle.tpkt_cotp.specs.Written.{IsCr, IsExponent, Fits, room, AreSegments, segments_of, tsdu_of, confirm_of, confirmed, call_of, called_with};
+ghost use Rattle.tpkt_cotp.specs.Stream.{StandsFor, StandsAt, IsRefused, IsOpen, Keeps, IsReady, StepsFrom, gift};
+ghost use Rattle.tpkt_cotp.specs.Written.{IsCr, IsExponent, Fits, room, AreSegments, segments_of, tsdu_of, parameters_for, confirm_of, confirmed, call_of, called_with};
 
 /// TPKTs are read as RFC 1006 spells them: what reading gives is what the input spells, and the other way round. No TPKT
 /// begins another.
@@ -53,12 +53,14 @@ pub fn little_is_kept()
 {}
 
 /// The DTs that `tsdu` writes are the only ones that carry the octets with each but the last full. Behind any stream that
-/// left a connection open, the other side reads them as this one TSDU, in whatever pieces they come.
+/// left a connection open, the other side reads them as this one TSDU, in whatever pieces they come, and refuses none.
 pub fn a_tsdu_is_read_back()
     ensures segments { (exponent : ℕ) (octets : List ℕ) → IsExponent exponent → AreSegments (room exponent) octets (segments_of (room exponent) octets) }
     ensures only { (exponent : ℕ) (octets : List ℕ) (tpdus : List (List ℕ)) → IsExponent exponent → AreSegments (room exponent) octets tpdus → tpdus ≡ segments_of (room exponent) octets }
     ensures read { (a b : TransportIn) (dialled : Bool) (before octets : List ℕ) (exponent : ℕ) (es ds : List Tsdu) → IsExponent exponent → length octets ≤ 70000
         → StandsFor a dialled before es → IsOpen a → StandsFor b dialled (before ++ tsdu_of exponent octets) ds → (ds ≡ es ++ Data octets ∷ []) × IsOpen b }
+    ensures taken { (dialled : Bool) (s : State) (before octets : List ℕ) (exponent : ℕ) (es : List Tsdu) → IsExponent exponent → length octets ≤ 70000 → IsBytes octets
+        → StandsAt dialled s [] before es → s.connected ≡ true → s.tsdu ≡ [] → (t : State) × StandsAt dialled t [] (before ++ tsdu_of exponent octets) (es ++ Data octets ∷ []) × (t.connected ≡ true) × (t.tsdu ≡ []) }
 {}
 
 /// What `confirm` asks for is what a CR can say: whatever a CR says it can be asked for, and some CR says it.
@@ -68,8 +70,11 @@ pub fn what_a_cr_says_is_confirmed()
 {}
 
 /// The CR that `call` writes and the CC that `confirm` writes are read by the other side, in whatever pieces they come, and
-/// leave a connection open.
+/// leave a connection open; none is refused.
 pub fn a_connection_is_read_back()
     ensures call { (a : TransportIn) (src : ℕ) (es : List Tsdu) → StandsFor a false (call_of src) es → (es ≡ Connect (called_with src) ∷ []) × IsOpen a }
     ensures confirm { (a : TransportIn) (cr : Cr) (es : List Tsdu) → IsCr cr → StandsFor a true (confirm_of cr) es → (es ≡ Connect (confirmed cr) ∷ []) × IsOpen a }
+    ensures call_taken { (src : ℕ) → src < 2 ^ 16 → (t : State) × StandsAt false t [] (call_of src) (Connect (called_with src) ∷ []) × (t.connected ≡ true) × (t.tsdu ≡ []) }
+    ensures confirm_taken { (cr : Cr) → IsCr cr → cr.src < 2 ^ 16 → IsBytes (parameters_for cr)
+        → (t : State) × StandsAt true t [] (confirm_of cr) (Connect (confirmed cr) ∷ []) × (t.connected ≡ true) × (t.tsdu ≡ []) }
 {}

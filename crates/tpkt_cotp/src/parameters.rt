@@ -1,4 +1,4 @@
-//! The parameters of a CR and a CC (ISO 8073, 13.3.4, "Variable part").
+//! The parameters of a CR and a CC (ISO 8073, "Connection Request (CR) TPDU", variable part).
 
 ghost use Rattle.std.specs.Prelude.{◌≡◌, Ok, MatchResult, IfOk};
 ghost use Rattle.std.specs.Option.{option_map};
@@ -18,8 +18,8 @@ fn owned(alloc: Global, octets: &[u8]) -> Result<Octs, AllocError>
     Ok(Octs::from_vec(Vec::from_slice(alloc, octets)?))
 }
 
-/// Takes one parameter of a CR or a CC: the TPDU size or a selector; others are skipped (ISO 8073, "Variable part" of
-/// the CR).
+/// Takes one parameter of a CR or a CC: the TPDU size or a selector; others are skipped (ISO 8073, variable part of
+/// a CR).
 fn put_parameter(alloc: Global, cr: &mut Cr, code: u8, value: &[u8]) -> Result<(), TpFault>
     ensures { MatchResult result (λ _. put_at cr.old code value.now ≡ Ok cr.new) (λ f. Fails f (put_at cr.old code value.now)) }
 {

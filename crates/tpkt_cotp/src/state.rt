@@ -29,11 +29,14 @@ fn read_connection(alloc: Global, li: u8, rest: &[u8]) -> Result<Cr, TpFault>
 {
     match rest {
         [_, _, c, d, class, more @ ..] => {
-            if usize::from(li) != 6 + more.len() {
+            if li < 6 {
                 return Err(TpFault::Tpdu);
             }
             if *class >= 16 {
                 return Err(TpFault::Class);
+            }
+            if usize::from(li) != 6 + more.len() {
+                return Err(TpFault::Tpdu);
             }
             let mut cr = Cr {
                 src: u16::from(*c) * 256 + u16::from(*d),

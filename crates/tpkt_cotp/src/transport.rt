@@ -195,9 +195,9 @@ impl TransportIn {
     /// refused one give is added. From then on each call answers the same refusal and changes nothing.
     ///
     /// Of a whole TPDU the first that is wrong counts: LI, which is 0 or passes the end (`Tpdu`); the code, which is unknown
-    /// (`Tpdu`) or out of turn (`Sequence`); then what follows. Of a CR or a CC that is LI, which counts all its octets
-    /// (`Tpdu`), the class (`Class`) and the parameters (`Tpdu`); of a DT its LI, which is 2 (`Tpdu`), and the limit of the
-    /// TSDU (`TsduLimit`).
+    /// (`Tpdu`) or out of turn (`Sequence`); then what follows. Of a CR or a CC that is LI, which counts as far as the class
+    /// (`Tpdu`), the class (`Class`), and data behind the header or parameters of another form (`Tpdu`); of a DT its LI,
+    /// which is 2 (`Tpdu`), and the limit of the TSDU (`TsduLimit`).
     pub fn feed(&mut self, alloc: Global, piece: &[u8], out: &mut Tsdus) -> Result<(), TpFault>
         // However the stream was cut before: the object stands for it with this piece, or the stream is refused.
         ensures stands { (dialled : Bool) (octets : List ℕ) (so_far : List Tsdu) → StandsFor self.old dialled octets so_far → MatchResult result

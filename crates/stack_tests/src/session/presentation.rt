@@ -172,7 +172,14 @@ fn a_release_both_ways(rt: HostRuntime) {
 /// Its name, a CP whose user data are its last two octets, and the contexts that are chosen.
 type Chosen = (&'static str, &'static [u8], u32, u32, &'static [bool]);
 
-const CHOSEN_CONTEXTS: [Chosen; 3] = [
+const CHOSEN_CONTEXTS: [Chosen; 4] = [
+    (
+        "the mode in long lengths, behind another element",
+        b"313ca0810781010080810101a230a423AMU",
+        1,
+        3,
+        &[true, true],
+    ),
     (
         "the first of two contexts of MMS",
         b"3149Sa242a435AM3010020105060528ca220201300406025101U",

@@ -6,7 +6,7 @@ use session_pres::{SpFault, read_ac, read_cp, read_data};
 use std::alloc::{AllocError, Global};
 use std::test::*;
 
-const REFUSED_CPS: [(&str, &[u8], SpFault); 25] = [
+const REFUSED_CPS: [(&str, &[u8], SpFault); 27] = [
     ("no octet", b"", SpFault::Parameter),
     (
         "an octet behind the SET",
@@ -20,6 +20,16 @@ const REFUSED_CPS: [(&str, &[u8], SpFault); 25] = [
         SpFault::Parameter,
     ),
     ("no mode", b"3132a230a423AMU", SpFault::Mode),
+    (
+        "the normal mode behind the X.410 mode",
+        b"313aa006800100800101a230a423AMU",
+        SpFault::Mode,
+    ),
+    (
+        "the normal mode in two octets",
+        b"3138a00480020001a230a423AMU",
+        SpFault::Mode,
+    ),
     (
         "the X.410 mode",
         b"3137a003800100a230a423AMU",
