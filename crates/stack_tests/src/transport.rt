@@ -169,10 +169,7 @@ const REFUSED: [(&[u8], TpFault); 19] = [
     (&[3, 0, 0, 10, 5, 0xe0, 0, 0, 0, 1], TpFault::Tpdu),
     (&[3, 0, 0, 12, 6, 0xe0, 0, 0, 0, 1, 0, 9], TpFault::Tpdu),
     // class 4 with data, class 4 with half a parameter, a header that ends before class 4
-    (
-        &[3, 0, 0, 12, 6, 0xe0, 0, 0, 0, 1, 0x40, 9],
-        TpFault::Class,
-    ),
+    (&[3, 0, 0, 12, 6, 0xe0, 0, 0, 0, 1, 0x40, 9], TpFault::Class),
     (
         &[3, 0, 0, 12, 7, 0xe0, 0, 0, 0, 1, 0x40, 0xc0],
         TpFault::Class,
