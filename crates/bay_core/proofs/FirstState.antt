@@ -13,21 +13,22 @@ use Rattle.value_store.specs.Opened.{opened}
 use Rattle.value_store.specs.Stored.{Stored}
 use Rattle.value_store.specs.Wholes.{Stands as ValuesStand}
 use Rattle.value_store.proofs.OpenedLaws.{opened_stands}
-use Rattle.bay_core.specs.declared.part.Part.{Part}
+use Rattle.report_block.specs.declared.block.ReportBlock.{ReportBlock}
 use Rattle.bay_core.specs.Opened.{seen, part_defined}
 use Rattle.bay_config.specs.Servable.{IsServable}
 use Rattle.bay_core.specs.Standing.{StandsFor}
 use Rattle.bay_core.specs.State.{State, IsFurnished, AreHeld}
 use Rattle.bay_core.proofs.FirstValues.{opened-held}
-use Rattle.bay_core.proofs.OpenLaws.{parts-members, parts-stand}
+use Rattle.bay_core.proofs.OpenLaws.{parts-members, parts-windows, parts-stand}
 
-pub furnished-first : (c : Config) (stored : List Stored) (parts : List Part) (mentions : Filled Mention) (octets : Filled ℕ) → IsServable c → stored ≡ opened c
+pub furnished-first : (c : Config) (stored : List Stored) (parts : List ReportBlock) (mentions : Filled Mention) (octets : Filled ℕ) → IsServable c → stored ≡ opened c
     → map seen parts ≡ map (part_defined c) c.blocks → mentions.room ≡ 256 → octets.room ≡ 129024 → IsFurnished c stored parts mentions octets
 furnished-first c stored parts mentions octets served values are note kept = record {
   servable = served;
   values = subst (AreHeld c) (sym values) (opened-held c served);
   count = sym (length-map parts seen) ∙ (ap length are ∙ length-map c.blocks (part_defined c));
   members = parts-members c parts are;
+  windows = parts-windows c served parts are;
   note = note;
   entry = kept;
 }

@@ -1,5 +1,5 @@
 -- The parts fit the configuration as long as their members stay.
-use Rattle.std.proofs.Common.{◌≡◌, ℕ, List, Some, ◌∙◌, map, ap, sym, inl, inr}
+use Rattle.std.proofs.Common.{◌≡◌, ◌≤◌, ℕ, List, Some, ◌∙◌, map, ap, sym, subst, arith, inl, inr}
 use Rattle.std.specs.Prelude.{slice_get, slice_set}
 use Rattle.std.proofs.lemmas.List.{length-map, length-set}
 use Rattle.list_laws.proofs.Places.{got-map, got-set}
@@ -7,28 +7,33 @@ use Rattle.sv_base.specs.declared.config.Config.{Config}
 use Rattle.bay_rooms.specs.Rooms.{Filled}
 use Rattle.bay_model.specs.declared.note.Mention.{Mention}
 use Rattle.value_store.specs.Stored.{Stored}
-use Rattle.bay_core.specs.declared.part.Part.{Part}
+use Rattle.report_block.specs.declared.block.ReportBlock.{ReportBlock}
 use Rattle.bay_core.specs.State.{IsFurnished}
 
-module _ (c : Config) (stored : List Stored) (parts : List Part) (mentions : Filled Mention) (octets : Filled ℕ) (old : IsFurnished c stored parts mentions octets) where
-  pub furnished-map : (f : Part → Part) → ((p : Part) → (f p).members ≡ p.members) → IsFurnished c stored (map f parts) mentions octets
-  furnished-map f same = record {
+module _ (c : Config) (stored : List Stored) (parts : List ReportBlock) (mentions : Filled Mention) (octets : Filled ℕ) (old : IsFurnished c stored parts mentions octets) where
+  pub furnished-map : (f : ReportBlock → ReportBlock) → ((p : ReportBlock) → (f p).members ≡ p.members) → ((p : ReportBlock) → (f p).window.members ≡ p.window.members) → IsFurnished c stored (map f parts) mentions octets
+  furnished-map f same rooms = record {
     servable = old.servable;
     values = old.values;
     count = length-map parts f ∙ old.count;
-    members = λ b part there. (let was = got-map f parts b part there in ap (λ (p : Part). p.members.items) (sym was.2) ∙ (ap (λ v. v.items) (same was.0) ∙ old.members b was.0 was.1));
+    members = λ b part there. (let was = got-map f parts b part there in ap (λ (p : ReportBlock). p.members.items) (sym was.2) ∙ (ap (λ v. v.items) (same was.0) ∙ old.members b was.0 was.1));
+    windows = λ b part there. (let was = got-map f parts b part there in subst (λ (p : ReportBlock). p.window.members ≤ 256) was.2 (omega (arith, rooms was.0, old.windows b was.0 was.1)));
     note = old.note;
     entry = old.entry;
   }
 
-  pub furnished-set : (i : ℕ) (x y : Part) → slice_get parts i ≡ Some x → y.members ≡ x.members → IsFurnished c stored (slice_set parts i y) mentions octets
-  furnished-set i x y there same = record {
+  pub furnished-set : (i : ℕ) (x y : ReportBlock) → slice_get parts i ≡ Some x → y.members ≡ x.members → y.window.members ≡ x.window.members → IsFurnished c stored (slice_set parts i y) mentions octets
+  furnished-set i x y there same rooms = record {
     servable = old.servable;
     values = old.values;
     count = length-set parts i y ∙ old.count;
     members = λ b part at. elim (got-set parts i b y part at) [
-      | inl e ↦ ap (λ (p : Part). p.members.items) e.1 ∙ (ap (λ v. v.items) same ∙ old.members b x (ap (slice_get parts) e.0 ∙ there))
+      | inl e ↦ ap (λ (p : ReportBlock). p.members.items) e.1 ∙ (ap (λ v. v.items) same ∙ old.members b x (ap (slice_get parts) e.0 ∙ there))
       | inr e ↦ old.members b part e.1
+    ];
+    windows = λ b part at. elim (got-set parts i b y part at) [
+      | inl e ↦ subst (λ (p : ReportBlock). p.window.members ≤ 256) (sym e.1) (omega (arith, rooms, old.windows b x (ap (slice_get parts) e.0 ∙ there)))
+      | inr e ↦ old.windows b part e.1
     ];
     note = old.note;
     entry = old.entry;

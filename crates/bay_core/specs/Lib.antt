@@ -7,10 +7,6 @@ pub mod Opened
 -- what the process sets, and the entries that blocks get of it
 pub mod Changed
 pub mod Marked
-pub mod EntryOctets
 pub mod Events
--- writes, losses and reports
-pub mod Offers
+-- losses
 pub mod Parting
-pub mod Again
-pub mod Reporting

@@ -1,10 +1,10 @@
 //! A bay.
 
-use crate::part::Part;
 use crate::values::Values;
 use assoc_table::Assocs;
 use bay_model::{Answer, Change, Fixed, Note, Output, Report};
 use object_model::Model;
+use report_block::ReportBlock;
 use sv_base::{AssocNo, Moment};
 
 /// A bay: its configuration and all that its steps came to. Contracts see the state that `specs/` defines.
@@ -14,7 +14,7 @@ pub struct Bay {
     pub(crate) steps: u64,
     pub(crate) latest: Moment,
     pub(crate) values: Values,
-    pub(crate) parts: Vec<Part>,
+    pub(crate) parts: Vec<ReportBlock>,
     pub(crate) associations: Assocs,
     /// The changes of the step that is being made; of no account between steps, as are the note and the octets of its entry.
     pub(crate) changes: Vec<Change>,

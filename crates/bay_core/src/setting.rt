@@ -1,73 +1,44 @@
 //! What the process sets, and the entries that the report blocks get of it.
 
 ghost use Rattle.std.specs.Prelude.{◌≡◌};
-ghost use Rattle.bay_core.specs.Events.{AreReady, after_events};
+ghost use Rattle.bay_core.specs.Events.{IsReady, AreReady, after_event, after_events};
 
 use crate::bay::Bay;
-use crate::entry_octets::put_note;
 use crate::fault::StepFault;
-use crate::part::Part;
 use bay_model::{Answer, Change, Fixed, Note, SetView, Sets};
+use report_block::ReportBlock;
 use sv_base::{ActorNo, Moment};
 use trigger_core::note;
 use value_store::Store;
 
-impl Part {
-    ghost use Rattle.std.specs.Prelude.{◌≡◌, ◌≤◌, length};
-    ghost use Rattle.std.specs.List.{All};
-    ghost use Rattle.bay_core.specs.EntryOctets.{IsKeepable};
-    ghost use Rattle.bay_core.specs.Events.{IsReady, after_event, with_note};
-
-    /// Keeps the entry of a note, if there is a member in it. It takes no memory.
-    fn keep(
-        &mut self,
-        store: &Store,
-        moment: Moment,
-        step: u64,
-        mentions: &Note,
-        octets: &mut Fixed,
-    )
-        requires members { All (IsKeepable store.now self.old.members.items) mentions.now.items }
-        requires few { length mentions.now.items ≤ 256 }
-        requires entry { octets.old.room ≡ 129024 }
-        ensures part { self.new ≡ with_note store.now moment step self.old mentions.now.items }
-        ensures entry { octets.new.room ≡ 129024 }
-    {
-        if !mentions.is_empty() {
-            put_note(store, &self.members, mentions.as_slice(), octets);
-            self.ring.append(moment, step, octets.as_slice());
-        }
-    }
-
-    /// Some attributes were set: where that is an event of the data set, the block gets an entry (IEC 61850-7-2, TrgOps).
-    /// It takes no memory.
-    fn event(
-        &mut self,
-        store: &Store,
-        changes: &[Change],
-        moment: Moment,
-        step: u64,
-        mentions: &mut Note,
-        octets: &mut Fixed,
-    )
-        requires ready { IsReady store.now self.old }
-        requires note { mentions.old.room ≡ 256 }
-        requires entry { octets.old.room ≡ 129024 }
-        ensures part { self.new ≡ after_event store.now changes.now moment step self.old }
-        ensures note { mentions.new.room ≡ 256 }
-        ensures entry { octets.new.room ≡ 129024 }
-    {
-        let set = SetView {
-            members: &self.members,
-        };
-        note(changes, &set, self.block.trg(), mentions);
-        self.keep(store, moment, step, mentions, octets);
-    }
+/// Some attributes were set: where that is an event of the data set, the block gets an entry (IEC 61850-7-2, TrgOps).
+/// It takes no memory.
+fn event(
+    part: &mut ReportBlock,
+    store: &Store,
+    changes: &[Change],
+    moment: Moment,
+    step: u64,
+    mentions: &mut Note,
+    octets: &mut Fixed,
+)
+    requires ready { IsReady store.now part.old }
+    requires note { mentions.old.room ≡ 256 }
+    requires entry { octets.old.room ≡ 129024 }
+    ensures part { part.new ≡ after_event store.now changes.now moment step part.old }
+    ensures note { mentions.new.room ≡ 256 }
+    ensures entry { octets.new.room ≡ 129024 }
+{
+    let set = SetView {
+        members: part.members(),
+    };
+    note(changes, &set, part.trg(), mentions);
+    part.keep_at_once(store, moment, step, mentions.as_slice(), octets);
 }
 
 /// Some attributes were set: each block gets the entry of its events. It takes no memory.
 fn event_all(
-    parts: &mut Vec<Part>,
+    parts: &mut Vec<ReportBlock>,
     store: &Store,
     changes: &[Change],
     moment: Moment,
@@ -84,7 +55,15 @@ fn event_all(
 {
     let mut place = 0;
     while place < parts.len() {
-        parts[place].event(store, changes, moment, step, mentions, octets);
+        event(
+            &mut parts[place],
+            store,
+            changes,
+            moment,
+            step,
+            mentions,
+            octets,
+        );
         place += 1;
     }
 }

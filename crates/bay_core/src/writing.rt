@@ -34,7 +34,15 @@ impl Bay {
         if actor.0 != opener.0 {
             return Err(StepFault::NotYours(a));
         }
-        let answer = self.parts[b.0 as usize].write(a, comp, value);
+        let now = self.latest.later(moment);
+        let answer = self.parts[b.0 as usize].write(
+            a,
+            comp,
+            value,
+            now,
+            self.steps,
+            &mut self.octets,
+        );
         self.advance(moment);
         Ok(Answer::Wrote(answer))
     }

@@ -68,7 +68,7 @@ due-off : (x : Option ℕ) (o : Parameters) (was moment : ℕ) → (o.intg_pd ==
 due-off None o was moment off = refl
 due-off (Some k) o was moment off = period-off o k was moment off
 
-integrity-off : (c : Model) (b m n : ℕ) (before : Past) → ((parameters_at c b before).intg_pd == 0) ≡ true → integrity c b (arrival n m) before ≡ false
+pub integrity-off : (c : Model) (b m n : ℕ) (before : Past) → ((parameters_at c b before).intg_pd == 0) ≡ true → integrity c b (arrival n m) before ≡ false
 integrity-off c b m n [] off = refl
 integrity-off c b m n (q ∷ before) off = period-off (parameters_at c b (q ∷ before)) (origin c b (q ∷ before)) (now (q ∷ before)) (max m (now (q ∷ before))) off
 
@@ -153,7 +153,7 @@ point-told : (m : Model) (k : ℕ) (p : Point) (past : Past) (s : Block) → Att
 point-told m k p past s st = grind (arith, common_steps)
 
 module _ (c : Model) (b m n : ℕ) (before : Past) (s : Block) where
-  before-arrival : AttributesStand s c b (arrival n m ∷ before) → AttributesStand s c b before
+  pub before-arrival : AttributesStand s c b (arrival n m ∷ before) → AttributesStand s c b before
   before-arrival st = record { reference = st.reference; options = st.options; revision = st.revision; enabler = st.enabler; cursor = st.cursor; count = st.count }
 
   pub attributes-stand : (d : Deed) (here : ℕ) → here ≡ front c b (arrival n m ∷ before) → AttributesStand s c b (arrival n m ∷ before) → AttributesStand (after_deed b d here s) c b (at n m d ∷ before)

@@ -1,22 +1,35 @@
-use Rattle.std.proofs.Common.{arith, suc, max, ap, sym, subst, ◌∙◌, ◌≡◌, ◌<◌, length, Some, slice_set}
+use Rattle.std.proofs.Common.{ℕ, arith, suc, max, ap, sym, subst, ◌∙◌, ◌≡◌, ◌<◌, length, Some, slice_set}
 use Rattle.std.specs.Prelude.{slice_get}
 use Rattle.bay_model.specs.declared.answer.Answer.TheVariants as answers
 use Rattle.bay_model.specs.Answers.{points}
 use Rattle.bay_model.specs.Named.{configured_model}
-use Rattle.bay_core.specs.Parting.{write_answer}
+use Rattle.report_block.specs.Writes.{write_answer, after_write}
 use Rattle.bay_config.specs.Servable.{IsServable}
 use Rattle.bay_core.specs.Standing.{StandsFor}
 use Rattle.bay_core.proofs.FurnishLaws.{furnished-set}
 use Rattle.bay_core.proofs.EndLaws.{opener-told, opener-fault, same-number-told}
-use Rattle.bay_core.proofs.WroteLaws.{wrote-for, members-stay, at-place, plain-built}
+use Rattle.bay_core.proofs.WriteLaws.{wrote-for, members-stay, windows-stay, at-place}
 use Rattle.bay_core.proofs.bay.Bay.write.Goals as goal
 
 there : (c : goal.After-self-1) → slice_get c.self.inside.parts.items c.args.b.0 ≡ Some c.index_mut.result.now
 there c = at-place c.self.inside.parts.items c.args.b.0 c.index_mut.result.now (omega (arith, c.self.invariant.count, subst (λ s. c.args.b.0 < length s.config.blocks) (sym c.self.view_is) c.requires.block)) c.index_mut.ensures.value
 
+-- what the write comes to
+abbrev now : goal.After-self-1 → ℕ
+now c = max c.self.inside.latest c.args.moment
+
+written : (c : goal.After-self-1) → c.write-answer.new.self ≡ after_write c.args.a c.args.comp c.args.value.now (now c) c.self.inside.steps c.index_mut.result.now (write_answer c.args.a c.args.comp c.args.value.now c.index_mut.result.now)
+written c = c.write-answer.ensures.written
+    ∙ ap (λ k. after_write c.args.a c.args.comp c.args.value.now k c.self.inside.steps c.index_mut.result.now (write_answer c.args.a c.args.comp c.args.value.now c.index_mut.result.now)) c.later-now.ensures
+
 pub invariant_of-self : goal.invariant_of-self
-invariant_of-self c = furnished-set c.self.inside.model c.self.inside.values c.self.inside.parts.items c.self.inside.note c.self.inside.octets c.self.invariant c.args.b.0 c.index_mut.result.now c.write-answer.new.self (there c)
-    (ap (λ p. p.members) c.write-answer.ensures.written ∙ members-stay c.args.a c.args.comp c.args.value.now c.index_mut.result.now (write_answer c.args.a c.args.comp c.args.value.now c.index_mut.result.now))
+invariant_of-self c =
+    let part = c.index_mut.result.now in
+    let answer = write_answer c.args.a c.args.comp c.args.value.now part in
+    let fit = furnished-set c.self.inside.model c.self.inside.values c.self.inside.parts.items c.self.inside.note c.self.inside.octets c.self.invariant c.args.b.0 part c.write-answer.new.self (there c)
+    (ap (λ p. p.members) (written c) ∙ members-stay c.args.a c.args.comp c.args.value.now (now c) c.self.inside.steps part answer)
+    (ap (λ p. p.window.members) (written c) ∙ windows-stay c.args.a c.args.comp c.args.value.now (now c) c.self.inside.steps part answer) in
+    record { servable = fit.servable; values = fit.values; count = fit.count; members = fit.members; windows = fit.windows; note = fit.note; entry = c.write-answer.ensures.room ∙ fit.entry }
 
 pub returns-clause-does : goal.returns-clause-does
 returns-clause-does c = λ c' h was.
@@ -26,6 +39,7 @@ returns-clause-does c = λ c' h was.
     let open_ = opener-told (configured_model c') c.self.inside.associations (points (configured_model c') h) c.args.a.0 c.in-Some.opener st.1.associations c.requires.number (sym c.opener.ensures ∙ c.in-Some.is) in
     let none = opener-fault (points (configured_model c') h) c.args.actor.0 c.args.a.0 open_.0 open_.1 (same-number-told c.args.actor.0 open_.0.opener (c.if-actor-opener.false ∙ sym open_.2)) in
     let at = at-place c.self.inside.parts.items c.args.b.0 part (omega (arith, c.self.invariant.count, subst (λ s. c.args.b.0 < length s.config.blocks) (sym c.self.view_is) c.requires.block)) c.index_mut.ensures.value in
-    let is = c.advance.ensures.moved ∙ ap (λ p. record { config = c.self.inside.model; steps = suc c.self.inside.steps; latest = max c.self.inside.latest c.args.moment; stored = c.self.inside.values; parts = slice_set c.self.inside.parts.items c.args.b.0 p; rows = c.self.inside.associations }) c.write-answer.ensures.written in
-    let wrote = wrote-for _ c.advance.new.self c' h c.args.moment c.args.actor.0 c.args.a c.args.b c.args.comp c.args.value.now part served (plain-built c.args.a c.args.b c.args.comp c.args.value.now c.requires.built) at st none is in
+    let written = c.write-answer.ensures.written ∙ ap (λ k. after_write c.args.a c.args.comp c.args.value.now k c.self.inside.steps part (write_answer c.args.a c.args.comp c.args.value.now part)) c.later-now.ensures in
+    let is = c.advance.ensures.moved ∙ ap (λ p. record { config = c.self.inside.model; steps = suc c.self.inside.steps; latest = max c.self.inside.latest c.args.moment; stored = c.self.inside.values; parts = slice_set c.self.inside.parts.items c.args.b.0 p; rows = c.self.inside.associations }) written in
+    let wrote = wrote-for _ c.advance.new.self c' h c.args.moment c.args.actor.0 c.args.a c.args.b c.args.comp c.args.value.now part served c.requires.built at st none is in
     (ap answers.Wrote c.write-answer.ensures.answer ∙ wrote.0, wrote.1)
