@@ -1,11 +1,12 @@
--- lists whose elements are changed in turn, and changes of each attribute at most one
-pub mod EachLaws
+-- changes of each attribute at most one
 pub mod DistinctChanges
 -- the blocks, and the bay, at the arrival of a point and after a deed
 pub mod PartLaws
 pub mod MoveLaws
 -- openings and losses
 pub mod EndLaws
+pub mod MentionLaws
+pub mod WatchLaws
 pub mod FurnishLaws
 -- writes
 pub mod WriteLaws
@@ -16,7 +17,6 @@ pub mod ChangeLaws
 pub mod ShapeLaws
 pub mod ServedLaws
 pub mod WritableLaws
-pub mod MentionLaws
 pub mod EventLaws
 pub mod SettingLaws
 -- reports

@@ -10,7 +10,6 @@ use Rattle.sv_base.proofs.numbers.CtlNo.TheSendSync as control
 use Rattle.sv_base.proofs.moment.Moment.TheSendSync as moment
 use Rattle.sv_base.proofs.value.Values.TheLaws.TheKnot as data_values
 use Rattle.sv_base.specs.contracts.value.Values as DataValues
-use Rattle.bay_model.proofs.note.Note.TheSendSync as note
 use Rattle.bay_model.proofs.report.Report.TheSendSync as report
 use Rattle.bay_rooms.proofs.fixed.Fixed.TheSendSync as fixed
 use Rattle.bay_model.proofs.request.Scope.TheSendSync as scope
@@ -45,7 +44,7 @@ part_send : IsSend ReportBlock.the_row
 part_send = search (shape_send, ring.the_send, block.the_field_send, window.the_send, moment.the_send, crosses, sendable) depth 60
 
 pub bay_send : IsSend Bay.the_row
-bay_send = search (model_send, moment.the_send, values_send, part_send, associations_send, note.the_send, fixed.the_send, report.the_send, crosses, sendable) depth 60
+bay_send = search (model_send, moment.the_send, values_send, part_send, associations_send, fixed.the_send, report.the_send, crosses, sendable) depth 60 fits 20000
 
 -- a step
 data_values_send : IsSend DataValues.the_row

@@ -38,6 +38,9 @@ use Rattle.report_block.specs.EntryOctets.{IsWritable}
 use Rattle.bay_config.specs.Servable.{IsServable}
 use Rattle.bay_core.specs.Standing.{PartStands, PartsStand, StandsAt, StandsFor}
 use Rattle.bay_core.specs.State.{State, AreHeld, IsFurnished, served_members}
+use Rattle.bay_core.specs.declared.watch.Watch.{Watch}
+use Rattle.bay_core.specs.Watched.{IsIndexed, IsWatching, AreBlank}
+use Rattle.std.proofs.lemmas.List.{length-map}
 use Rattle.bay_core.proofs.ChangeLaws.{values-stand, are-changes, settings-there, typed-settings, held-after}
 use Rattle.bay_core.proofs.EventLaws.{note-kept, note-readable, all-writable}
 use Rattle.bay_core.proofs.FurnishLaws.{furnished-map}
@@ -136,11 +139,28 @@ same-window : (stored : List Stored) (moment step : ℕ) (part : ReportBlock) (n
 same-window stored moment step part [] = refl
 same-window stored moment step part (m ∷ note) = refl
 
-pub furnished-all : (c : Config) (old stored lent : List Stored) (parts : List ReportBlock) (mentions noted : Filled Mention) (octets kept : Filled ℕ) (changes : List Change) (moment step : ℕ)
-    → IsFurnished c old parts mentions octets → AreHeld c stored → noted.room ≡ 256 → kept.room ≡ 129024 → IsFurnished c stored (after_events lent changes moment step parts) noted kept
-furnished-all c old stored lent parts mentions noted octets kept changes moment step was held note room =
-    let f = furnished-map c old parts mentions octets was (after_event lent changes moment step) (λ p. same-members lent moment step p (mentions_of changes p)) (λ p. same-window lent moment step p (mentions_of changes p)) in
-    record { servable = was.servable; values = held; count = f.count; members = f.members; windows = f.windows; note = note; entry = room }
+same-options : (stored : List Stored) (moment step : ℕ) (part : ReportBlock) (note : List Mention) → (with_note stored moment step note part).block.options ≡ part.block.options
+same-options stored moment step part [] = refl
+same-options stored moment step part (m ∷ note) = refl
+
+pub furnished-all : (c : Config) (old stored lent : List Stored) (parts : List ReportBlock) (w v : Watch) (octets kept : Filled ℕ) (changes : List Change) (moment step : ℕ)
+    → IsFurnished c old parts w octets → AreHeld c stored → length stored ≡ length old → v ≡ record w { notes = v.notes } → AreBlank (length parts) v.notes → kept.room ≡ 129024
+    → IsFurnished c stored (after_events lent changes moment step parts) v kept
+furnished-all c old stored lent parts w v octets kept changes moment step was held same is blank room =
+    let f = furnished-map c old parts w octets was (after_event lent changes moment step) (λ p. same-members lent moment step p (mentions_of changes p)) (λ p. same-window lent moment step p (mentions_of changes p)) (λ p. same-options lent moment step p (mentions_of changes p)) in
+    record {
+      servable = was.servable;
+      values = held;
+      count = f.count;
+      members = f.members;
+      windows = f.windows;
+      watch = subst (IsWatching (length stored) (after_events lent changes moment step parts)) (sym is) (record {
+        index = subst (λ n. IsIndexed n (after_events lent changes moment step parts) w.index) (sym same) f.watch.index;
+        options = f.watch.options;
+        notes = subst (λ n. AreBlank n v.notes) (sym (length-map parts (after_event lent changes moment step))) blank;
+      });
+      entry = room;
+    }
 
 -- each part has room for its entry
 ready-at : (c : Config) (stored : List Stored) (b : ℕ) (part : ReportBlock) → IsServable c → AreHeld c stored → part.members.items ≡ served_members c b → IsReady stored part

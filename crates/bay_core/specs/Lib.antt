@@ -8,5 +8,6 @@ pub mod Opened
 pub mod Changed
 pub mod Marked
 pub mod Events
+pub mod Watched
 -- losses
 pub mod Parting

@@ -8,7 +8,6 @@ use Rattle.bay_rooms.specs.Kinds.{kind_of, is_kind, is_in_range}
 use Rattle.bay_model.specs.Named.{configured_model}
 use Rattle.bay_model.specs.Sets.{members}
 use Rattle.bay_rooms.specs.Slots.{Held}
-use Rattle.bay_model.specs.declared.note.Mention.{Mention}
 use Rattle.bay_model.specs.declared.tables.MemberShape.{MemberShape}
 use Rattle.object_model.specs.Fits.{is_sound}
 use Rattle.object_model.specs.Nodes.{node_rows}
@@ -17,6 +16,8 @@ use Rattle.data_sets.specs.Booked.{shapes_of}
 use Rattle.value_store.specs.Stored.{Stored, attribute}
 use Rattle.assoc_table.specs.Seats.{Row}
 use Rattle.report_block.specs.declared.block.ReportBlock.{ReportBlock}
+use Rattle.bay_core.specs.declared.watch.Watch.{Watch}
+use Rattle.bay_core.specs.Watched.{IsWatching}
 use Rattle.bay_config.specs.Servable.{IsServable, attr_type}
 
 pub record State : Type 0 where
@@ -43,12 +44,12 @@ pub record AreHeld (c : Config) (stored : List Stored) : Type 0 where
   pub kinds : (x : ℕ) → x < length stored → (attribute stored x).held.kind ≡ kind_of (attr_type c x)
   pub sound : (x : ℕ) → x < length stored → IsSoundCell (attribute stored x).held
 
--- the parts fit the configuration, and the room that notes and entries need was made
-pub record IsFurnished (c : Config) (stored : List Stored) (parts : List ReportBlock) (mentions : Filled Mention) (octets : Filled ℕ) : Type 0 where
+-- the parts fit the configuration, the index has the members of their data sets, and the room that entries need was made
+pub record IsFurnished (c : Config) (stored : List Stored) (parts : List ReportBlock) (w : Watch) (octets : Filled ℕ) : Type 0 where
   pub servable : IsServable c
   pub values : AreHeld c stored
   pub count : length parts ≡ length c.blocks
   pub members : (b : ℕ) (part : ReportBlock) → slice_get parts b ≡ Some part → part.members.items ≡ served_members c b
   pub windows : (b : ℕ) (part : ReportBlock) → slice_get parts b ≡ Some part → part.window.members ≤ 256
-  pub note : mentions.room ≡ 256
+  pub watch : IsWatching (length stored) parts w
   pub entry : octets.room ≡ 129024

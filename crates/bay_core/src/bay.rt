@@ -1,8 +1,9 @@
 //! A bay.
 
 use crate::values::Values;
+use crate::watch::Watch;
 use assoc_table::Assocs;
-use bay_model::{Answer, Change, Fixed, Note, Output, Report};
+use bay_model::{Answer, Change, Fixed, Output, Report};
 use object_model::Model;
 use report_block::ReportBlock;
 use sv_base::{AssocNo, Moment};
@@ -16,9 +17,10 @@ pub struct Bay {
     pub(crate) values: Values,
     pub(crate) parts: Vec<ReportBlock>,
     pub(crate) associations: Assocs,
-    /// The changes of the step that is being made; of no account between steps, as are the note and the octets of its entry.
+    /// The members of all data sets by their attributes, with the notes of the step that is being made.
+    pub(crate) watch: Watch,
+    /// The changes of the step that is being made; of no account between steps, as are the octets of an entry.
     pub(crate) changes: Vec<Change>,
-    pub(crate) note: Note,
     pub(crate) octets: Fixed,
     /// A report that is no longer needed, in whose memory the next one is written; of no account either.
     pub(crate) spare: Option<Report>,
@@ -36,7 +38,7 @@ impl std::marker::Model for Bay {
 
     ghost view = { λ b. record { config = b.model; steps = b.steps; latest = b.latest; stored = b.values; parts = b.parts.items; rows = b.associations } };
 
-    ghost invariant = { λ b. IsFurnished b.model b.values b.parts.items b.note b.octets };
+    ghost invariant = { λ b. IsFurnished b.model b.values b.parts.items b.watch b.octets };
 }
 
 impl Bay {

@@ -5,6 +5,7 @@
 mod bay;
 mod opening;
 mod values;
+mod watch;
 
 // its steps, and why one is refused
 mod associations;

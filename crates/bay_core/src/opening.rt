@@ -1,6 +1,6 @@
 //! A bay is opened.
 
-ghost use Rattle.std.specs.Prelude.{◌≡◌, ◌∷◌, [], IfOk, map, option_copied, replicate};
+ghost use Rattle.std.specs.Prelude.{◌≡◌, ◌∷◌, [], IfOk, length, map, option_copied, replicate};
 ghost use Rattle.std.specs.Str.{bytes_eq};
 ghost use Rattle.bay_model.specs.Lookups.{reference_of};
 ghost use Rattle.object_model.specs.Nodes.{node_rows};
@@ -10,12 +10,14 @@ ghost use Rattle.assoc_table.specs.Seats.{closed};
 ghost use Rattle.value_store.specs.Opened.{opened};
 ghost use Rattle.bay_config.specs.Servable.{IsServable, IsServedBlock};
 ghost use Rattle.bay_core.specs.Standing.{StandsFor};
+ghost use Rattle.bay_core.specs.Watched.{IsWatching};
 ghost use Rattle.bay_core.specs.Opened.{row_referred, nodes_referred, seen, part_defined};
 
 use crate::bay::Bay;
 use crate::values::Values;
+use crate::watch::Watch;
 use assoc_table::Assocs;
-use bay_model::{Change, Fixed, MemberShape, Note, SetRow};
+use bay_model::{Change, Fixed, MemberShape, SetRow};
 use data_sets::shapes_of;
 use object_model::Model;
 use report_block::ReportBlock;
@@ -97,8 +99,8 @@ struct Made {
     values: Values,
     parts: Vec<ReportBlock>,
     associations: Assocs,
+    watch: Watch,
     changes: Vec<Change>,
-    note: Note,
     octets: Fixed,
 }
 
@@ -108,15 +110,21 @@ fn parts_made(alloc: Global, model: &Model) -> Result<Made, AllocError>
     ensures values { IfOk result (λ m. m.values ≡ opened model.now) }
     ensures parts { IfOk result (λ m. map seen m.parts.items ≡ map (part_defined model.now) model.now.blocks) }
     ensures associations { IfOk result (λ m. m.associations ≡ replicate 16 closed) }
-    ensures note { IfOk result (λ m. m.note.room ≡ 256) }
+    ensures watch { IfOk result (λ m. IsWatching (length m.values) m.parts.items m.watch) }
     ensures octets { IfOk result (λ m. m.octets.room ≡ 129024) }
 {
+    let values = Values::open(alloc, model.config())?;
+    let parts = parts_of(alloc, model)?;
+    let Ok(attrs) = u32::try_from(values.store().len()) else {
+        return Err(AllocError);
+    };
+    let watch = Watch::open(alloc, attrs, &parts)?;
     Ok(Made {
-        values: Values::open(alloc, model.config())?,
-        parts: parts_of(alloc, model)?,
+        values,
+        parts,
         associations: Assocs::open(alloc)?,
+        watch,
         changes: Vec::new(alloc),
-        note: Note::new(alloc, 256)?,
         octets: Fixed::new(alloc, 129024)?,
     })
 }
@@ -127,7 +135,7 @@ fn begun(model: Model, made: Made) -> Bay
     requires values { made.values ≡ opened model }
     requires parts { map seen made.parts.items ≡ map (part_defined model) model.blocks }
     requires associations { made.associations ≡ replicate 16 closed }
-    requires note { made.note.room ≡ 256 }
+    requires watch { IsWatching (length made.values) made.parts.items made.watch }
     requires octets { made.octets.room ≡ 129024 }
     ensures config { result.config ≡ model }
     ensures steps { result.steps ≡ 0 }
@@ -140,8 +148,8 @@ fn begun(model: Model, made: Made) -> Bay
         values: made.values,
         parts: made.parts,
         associations: made.associations,
+        watch: made.watch,
         changes: made.changes,
-        note: made.note,
         octets: made.octets,
         spare: None,
     }

@@ -1,71 +1,74 @@
 //! What the process sets, and the entries that the report blocks get of it.
 
-ghost use Rattle.std.specs.Prelude.{◌≡◌};
-ghost use Rattle.bay_core.specs.Events.{IsReady, AreReady, after_event, after_events};
+ghost use Rattle.std.specs.Prelude.{◌≡◌, ◌<◌, ℕ, Some, length, slice_get};
+ghost use Rattle.std.specs.List.{All};
+ghost use Rattle.bay_model.specs.declared.flags.Change.{Change as ChangeValue};
+ghost use Rattle.touch_index.specs.Gathered.{AreOnce};
+ghost use Rattle.touch_index.specs.Gathering.{note_at, AreEmpty};
+ghost use Rattle.report_block.specs.declared.block.ReportBlock.{ReportBlock as PartValue};
+ghost use Rattle.report_block.specs.Events.{with_note};
+ghost use Rattle.bay_core.specs.Events.{AreReady, after_events};
+ghost use Rattle.bay_core.specs.Watched.{IsNoteOf, IsWatching, AreBlank};
 
 use crate::bay::Bay;
 use crate::fault::StepFault;
-use bay_model::{Answer, Change, Fixed, Note, SetView, Sets};
+use crate::watch::Watch;
+use bay_model::{Answer, Change, Fixed, Note, Sets};
 use report_block::ReportBlock;
 use sv_base::{ActorNo, Moment};
-use trigger_core::note;
+use touch_index::Notes;
 use value_store::Store;
 
-/// Some attributes were set: where that is an event of the data set, the block gets an entry (IEC 61850-7-2, TrgOps).
-/// It takes no memory.
-fn event(
-    part: &mut ReportBlock,
-    store: &Store,
-    changes: &[Change],
-    moment: Moment,
-    step: u64,
-    mentions: &mut Note,
-    octets: &mut Fixed,
-)
-    requires ready { IsReady store.now part.old }
-    requires note { mentions.old.room ≡ 256 }
-    requires entry { octets.old.room ≡ 129024 }
-    ensures part { part.new ≡ after_event store.now changes.now moment step part.old }
-    ensures note { mentions.new.room ≡ 256 }
-    ensures entry { octets.new.room ≡ 129024 }
-{
-    let set = SetView {
-        members: part.members(),
-    };
-    note(changes, &set, part.trg(), mentions);
-    part.keep_at_once(store, moment, step, mentions.as_slice(), octets);
-}
-
-/// Some attributes were set: each block gets the entry of its events. It takes no memory.
-fn event_all(
+/// Each block whose note has a member gets its entry, and the notes are emptied. It takes no memory.
+fn keep_all(
     parts: &mut Vec<ReportBlock>,
     store: &Store,
+    moment: Moment,
+    step: u64,
+    notes: &mut Notes,
+    octets: &mut Fixed,
+)
+    requires count { length notes.old.notes ≡ length parts.old.items }
+    requires notes { (b : ℕ) (part : PartValue) → slice_get parts.old.items b ≡ Some part → IsNoteOf store.now part (note_at notes.old.notes b).items }
+    requires entry { octets.old.room ≡ 129024 }
+    ensures parts { length parts.new.items ≡ length parts.old.items }
+    ensures kept { (b : ℕ) (part : PartValue) → slice_get parts.old.items b ≡ Some part → slice_get parts.new.items b ≡ Some (with_note store.now moment step (note_at notes.old.notes b).items part) }
+    ensures empty { AreEmpty notes.new.notes }
+    ensures count { length notes.new.notes ≡ length notes.old.notes }
+    ensures rooms { (b : ℕ) → (note_at notes.new.notes b).room ≡ (note_at notes.old.notes b).room }
+    ensures entry { octets.new.room ≡ 129024 }
+{
+    while let Some(b) = notes.last() {
+        parts[b.0 as usize].keep_at_once(store, moment, step, notes.note(b).as_slice(), octets);
+        notes.clear_last();
+    }
+}
+
+/// Some attributes were set: each block whose data set they are in gets the entry of its events (IEC 61850-7-2, TrgOps);
+/// no other is looked at. It takes no memory.
+fn event_all(
+    parts: &mut Vec<ReportBlock>,
+    watch: &mut Watch,
+    store: &Store,
     changes: &[Change],
     moment: Moment,
     step: u64,
-    mentions: &mut Note,
     octets: &mut Fixed,
 )
     requires ready { AreReady store.now parts.old.items }
-    requires note { mentions.old.room ≡ 256 }
+    requires watching { IsWatching (length store.now) parts.old.items watch.old }
+    requires attrs { All (λ (ch : ChangeValue). ch.attr.0 < length store.now) changes.now }
+    requires once { AreOnce changes.now }
     requires entry { octets.old.room ≡ 129024 }
     ensures parts { parts.new.items ≡ after_events store.now changes.now moment step parts.old.items }
-    ensures note { mentions.new.room ≡ 256 }
+    ensures watch { watch.new ≡ record watch.old { notes = watch.new.notes } }
+    ensures blank { AreBlank (length parts.old.items) watch.new.notes }
     ensures entry { octets.new.room ≡ 129024 }
 {
-    let mut place = 0;
-    while place < parts.len() {
-        event(
-            &mut parts[place],
-            store,
-            changes,
-            moment,
-            step,
-            mentions,
-            octets,
-        );
-        place += 1;
-    }
+    watch
+        .index
+        .gather(changes, &watch.options, &mut watch.notes);
+    keep_all(parts, store, moment, step, &mut watch.notes, octets);
 }
 
 impl Bay {
@@ -95,11 +98,11 @@ impl Bay {
             .set(&self.model, sets.as_slice(), &mut self.changes);
         event_all(
             &mut self.parts,
+            &mut self.watch,
             self.values.store(),
             self.changes.as_slice(),
             self.latest.later(moment),
             self.steps,
-            &mut self.note,
             &mut self.octets,
         );
         self.advance(moment);

@@ -126,7 +126,9 @@ fn unmark(marks: &mut [bool], changes: &[Change])
 }
 
 impl Values {
-    ghost use Rattle.std.specs.Prelude.{◌≡◌, ◌≤◌, [], ℕ, length, vec_capacity, IfOk};
+    ghost use Rattle.std.specs.Prelude.{◌≡◌, ◌≤◌, ◌<◌, [], ℕ, length, vec_capacity, IfOk};
+    ghost use Rattle.std.specs.List.{All};
+    ghost use Rattle.bay_model.specs.declared.flags.Change.{Change as ChangeValue};
     ghost use Rattle.bay_model.specs.Attributes.{attributes};
     ghost use Rattle.value_store.specs.Opened.{IsStorable, opened};
     ghost use Rattle.value_store.specs.Stored.{attribute};
@@ -160,6 +162,7 @@ impl Values {
         ensures count { length self.new ≡ length self.old }
         ensures changes { AreMade model.now self.old settings.now changes.new.items }
         ensures once { AreDistinct changes.new.items }
+        ensures within { All (λ (ch : ChangeValue). ch.attr.0 < length self.old) changes.new.items }
     {
         set_all(
             &mut self.store,

@@ -43,6 +43,8 @@ impl Bay {
             self.steps,
             &mut self.octets,
         );
+        let options = self.parts[b.0 as usize].trg();
+        self.watch.options[b.0 as usize] = options;
         self.advance(moment);
         Ok(Answer::Wrote(answer))
     }

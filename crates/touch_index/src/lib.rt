@@ -8,12 +8,13 @@ mod touch;
 mod touches;
 
 // the index of all blocks, and the note that it gives
+mod gathering;
 mod index;
 mod laws;
-mod mentions;
+mod notes;
 
 pub use index::Index;
-pub use mentions::Mentions;
+pub use notes::Notes;
 pub use touch::Touch;
 
 // what is gathered is the note of the definition

@@ -5,7 +5,8 @@ use Rattle.bay_model.specs.declared.step.Step.TheVariants as steps
 use Rattle.object_model.specs.Fits.{fits}
 use Rattle.value_store.specs.Stored.{Stored, attribute}
 use Rattle.report_block.specs.declared.block.ReportBlock.{ReportBlock}
-use Rattle.bay_core.specs.Changed.{AreFit, AreMade, last_set}
+use Rattle.bay_core.specs.Changed.{AreFit, AreMade, AreDistinct, last_set}
+use Rattle.touch_index.proofs.GatherLaws.{once_where_distinct}
 use Rattle.bay_core.specs.Events.{AreReady, after_events}
 use Rattle.bay_core.specs.State.{State, IsFurnished}
 use Rattle.bay_core.specs.Standing.{StandsFor}
@@ -26,9 +27,12 @@ event_all-requires-clause-ready c =
 pub invariant_of-self-2 : goal.invariant_of-self-2
 invariant_of-self-2 c =
     let held = held-set c.args.self.now c.self.inside.model c.self.inside.values c.set.new.self c.args.sets.now c.as_slice.result.now (ap (λ (s : State). s.config) c.self.view_is) c.requires.fits c.self.invariant.values c.as_slice.ensures c.set.ensures.set c.set.ensures.count in
-    subst (λ ps. IsFurnished c.self.inside.model c.set.new.self ps c.event_all.new.mentions c.event_all.new.octets) (sym c.event_all.ensures.parts)
-    (furnished-all c.self.inside.model c.self.inside.values c.set.new.self c.store.result.now c.self.inside.parts.items c.self.inside.note c.event_all.new.mentions c.self.inside.octets c.event_all.new.octets c.as_slice-2.result.now c.later.result c.self.inside.steps
-    c.self.invariant held c.event_all.ensures.note c.event_all.ensures.entry)
+    subst (λ ps. IsFurnished c.self.inside.model c.set.new.self ps c.event_all.new.watch c.event_all.new.octets) (sym c.event_all.ensures.parts)
+    (furnished-all c.self.inside.model c.self.inside.values c.set.new.self c.store.result.now c.self.inside.parts.items c.self.inside.watch c.event_all.new.watch c.self.inside.octets c.event_all.new.octets c.as_slice-2.result.now c.later.result c.self.inside.steps
+    c.self.invariant held c.set.ensures.count c.event_all.ensures.watch c.event_all.ensures.blank c.event_all.ensures.entry)
+
+pub event_all-requires-clause-once : goal.event_all-requires-clause-once
+event_all-requires-clause-once c = once_where_distinct c.as_slice-2.result.now (subst AreDistinct (sym c.as_slice-2.ensures.value) c.set.ensures.once)
 
 pub returns-clause-does : goal.returns-clause-does
 returns-clause-does c = λ c' h was.

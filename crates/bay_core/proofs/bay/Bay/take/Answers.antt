@@ -13,6 +13,7 @@ use Rattle.bay_config.specs.Servable.{IsServable}
 use Rattle.bay_core.specs.Standing.{StandsFor}
 use Rattle.bay_core.specs.State.{State, served_members}
 use Rattle.bay_core.proofs.FurnishLaws.{furnished-set}
+use Rattle.bay_core.proofs.WatchLaws.{watching-same}
 use Rattle.bay_core.proofs.ServedLaws.{served-few, shapes-there}
 use Rattle.bay_core.proofs.TakenLaws.{closed-for, empty-for, given-for, same-part}
 use Rattle.bay_core.proofs.WriteLaws.{at-place}
@@ -34,9 +35,12 @@ report_of-requires-clause-nodes c = subst (AreNodes c.self.inside.model) (sym (s
 pub invariant_of-self-2 : goal.invariant_of-self-2
 invariant_of-self-2 c =
     let within = subst (λ (ps : List ReportBlock). c.in-Some-first_offer.offer.block < length ps) c.deref.ensures.value c.in-Some-first_offer.ensures.within in
-    furnished-set c.self.inside.model c.self.inside.values c.self.inside.parts.items c.self.inside.note c.self.inside.octets c.self.invariant c.in-Some-first_offer.offer.block c.index_mut.result.now
-    c.sent.new.self
-    (at-place c.self.inside.parts.items c.in-Some-first_offer.offer.block c.index_mut.result.now within c.index_mut.ensures.value) (ap (λ (p : ReportBlock). p.members) c.sent.ensures) (ap (λ (p : ReportBlock). p.window.members) c.sent.ensures)
+    let block = c.in-Some-first_offer.offer.block in
+    let part = c.index_mut.result.now in
+    let at = at-place c.self.inside.parts.items block part within c.index_mut.ensures.value in
+    let same = ap (λ (p : ReportBlock). p.members) c.sent.ensures in
+    furnished-set c.self.inside.model c.self.inside.values c.self.inside.parts.items c.self.inside.watch c.self.inside.octets c.self.invariant block part c.sent.new.self c.self.inside.watch at same (ap (λ (p : ReportBlock). p.window.members) c.sent.ensures)
+    (watching-same (length c.self.inside.values) c.self.inside.parts.items c.self.inside.watch block part c.sent.new.self at same (ap (λ (p : ReportBlock). p.block.options) c.sent.ensures) c.self.invariant.watch)
 
 pub returns-in_default-clause-does : goal.returns-in_default-clause-does
 returns-in_default-clause-does c = λ c' h was.

@@ -1,5 +1,4 @@
-use Rattle.std.proofs.Common.{ℕ, arith, suc, max, ap, sym, subst, ◌∙◌, ◌≡◌, ◌<◌, length, Some, slice_set}
-use Rattle.std.specs.Prelude.{slice_get}
+use Rattle.std.proofs.Common.{ℕ, arith, refl, suc, max, ap, sym, subst, ◌∙◌, ◌≡◌, ◌<◌, length, slice_set}
 use Rattle.bay_model.specs.declared.answer.Answer.TheVariants as answers
 use Rattle.bay_model.specs.Answers.{points}
 use Rattle.bay_model.specs.Named.{configured_model}
@@ -7,29 +6,33 @@ use Rattle.report_block.specs.Writes.{write_answer, after_write}
 use Rattle.bay_config.specs.Servable.{IsServable}
 use Rattle.bay_core.specs.Standing.{StandsFor}
 use Rattle.bay_core.proofs.FurnishLaws.{furnished-set}
+use Rattle.bay_core.proofs.WatchLaws.{watching-set}
+use Rattle.report_block.specs.declared.block.ReportBlock.{ReportBlock}
+use Rattle.brcb_state.specs.Components.{trg_of}
+use Rattle.std.proofs.lemmas.List.{get_or-set_same}
 use Rattle.bay_core.proofs.EndLaws.{opener-told, opener-fault, same-number-told}
 use Rattle.bay_core.proofs.WriteLaws.{wrote-for, members-stay, windows-stay, at-place}
 use Rattle.bay_core.proofs.bay.Bay.write.Goals as goal
 
-there : (c : goal.After-self-1) → slice_get c.self.inside.parts.items c.args.b.0 ≡ Some c.index_mut.result.now
-there c = at-place c.self.inside.parts.items c.args.b.0 c.index_mut.result.now (omega (arith, c.self.invariant.count, subst (λ s. c.args.b.0 < length s.config.blocks) (sym c.self.view_is) c.requires.block)) c.index_mut.ensures.value
-
--- what the write comes to
-abbrev now : goal.After-self-1 → ℕ
-now c = max c.self.inside.latest c.args.moment
-
-written : (c : goal.After-self-1) → c.write-answer.new.self ≡ after_write c.args.a c.args.comp c.args.value.now (now c) c.self.inside.steps c.index_mut.result.now (write_answer c.args.a c.args.comp c.args.value.now c.index_mut.result.now)
-written c = c.write-answer.ensures.written
-    ∙ ap (λ k. after_write c.args.a c.args.comp c.args.value.now k c.self.inside.steps c.index_mut.result.now (write_answer c.args.a c.args.comp c.args.value.now c.index_mut.result.now)) c.later-now.ensures
-
 pub invariant_of-self : goal.invariant_of-self
 invariant_of-self c =
+    let b = c.args.b.0 in
+    let parts = c.self.inside.parts.items in
     let part = c.index_mut.result.now in
+    let now : ℕ = max c.self.inside.latest c.args.moment in
+    let below : b < length parts = omega (arith, c.self.invariant.count, subst (λ s. b < length s.config.blocks) (sym c.self.view_is) c.requires.block) in
+    let there = at-place parts b part below c.index_mut.ensures.value in
     let answer = write_answer c.args.a c.args.comp c.args.value.now part in
-    let fit = furnished-set c.self.inside.model c.self.inside.values c.self.inside.parts.items c.self.inside.note c.self.inside.octets c.self.invariant c.args.b.0 part c.write-answer.new.self (there c)
-    (ap (λ p. p.members) (written c) ∙ members-stay c.args.a c.args.comp c.args.value.now (now c) c.self.inside.steps part answer)
-    (ap (λ p. p.window.members) (written c) ∙ windows-stay c.args.a c.args.comp c.args.value.now (now c) c.self.inside.steps part answer) in
-    record { servable = fit.servable; values = fit.values; count = fit.count; members = fit.members; windows = fit.windows; note = fit.note; entry = c.write-answer.ensures.room ∙ fit.entry }
+    let new = c.write-answer.new.self in
+    let written : new ≡ after_write c.args.a c.args.comp c.args.value.now now c.self.inside.steps part answer
+    = c.write-answer.ensures.written ∙ ap (λ k. after_write c.args.a c.args.comp c.args.value.now k c.self.inside.steps part answer) c.later-now.ensures in
+    let same = ap (λ (p : ReportBlock). p.members) written ∙ members-stay c.args.a c.args.comp c.args.value.now now c.self.inside.steps part answer in
+    let rooms = ap (λ (p : ReportBlock). p.window.members) written ∙ windows-stay c.args.a c.args.comp c.args.value.now now c.self.inside.steps part answer in
+    let read : c.index.result.now ≡ new = c.index.ensures ∙ get_or-set_same parts b new c.index.result.now below in
+    let options : c.trg-options.result ≡ trg_of new.block.options.trg_ops = c.trg-options.ensures ∙ ap (λ (p : ReportBlock). trg_of p.block.options.trg_ops) read in
+    let fit = furnished-set c.self.inside.model c.self.inside.values parts c.self.inside.watch c.self.inside.octets c.self.invariant b part new _ there same rooms
+    (watching-set (length c.self.inside.values) parts c.self.inside.watch _ b part new there same refl refl (ap (slice_set c.self.inside.watch.options.items b) options) c.self.invariant.watch) in
+    record { servable = fit.servable; values = fit.values; count = fit.count; members = fit.members; windows = fit.windows; watch = fit.watch; entry = c.write-answer.ensures.room ∙ fit.entry }
 
 pub returns-clause-does : goal.returns-clause-does
 returns-clause-does c = λ c' h was.

@@ -12,3 +12,14 @@ unmark-requires-clause-within c = λ k d below.
       c.as_mut_slice.ensures.len,
       c.as_mut_slice-2.ensures.len,
     ))
+
+pub returns-clause-within : goal.returns-clause-within
+returns-clause-within c = λ k d below.
+    omega (
+      arith,
+      within_all c.args.model.now c.self.inside.store c.set_all.new.store c.args.settings.now c.set_all.new.marks c.set_all.new.changes.items c.set_all.ensures k d below,
+      c.set_all.auto.marks,
+      c.as_mut_slice.ensures.len,
+      c.self.invariant.0,
+      ap length c.self.view_is,
+    )

@@ -1,0 +1,204 @@
+-- The index of the members of all data sets follows the blocks, and the notes of a point become their entries.
+use Rattle.std.proofs.Common.{◌≡◌, ◌≢◌, ◌<◌, ◌≤◌, ℕ, zero, suc, List, [], ◌∷◌, length, map, replicate, get_or, refl, ap, ap₂, sym, ◌∙◌, subst, arith, ◌⊎◌, inl, inr, Some}
+use Rattle.std.specs.Prelude.{slice_get, slice_set, max}
+use Rattle.std.proofs.lemmas.Bool.{cases_eq}
+use Rattle.std.proofs.lemmas.List.{length-map, length-set, map-set, set-get_or, get_or-set_same, get_or-set_other}
+use Rattle.std.proofs.lemmas.List.Elements.{All-nil}
+use Rattle.std.proofs.lemmas.Option.{slice_get-get_or, get_or_from_slice_get, slice_get_within}
+use Rattle.list_laws.proofs.Places.{got-map, got-set}
+use Rattle.bay_rooms.specs.Rooms.{Filled}
+use Rattle.bay_model.specs.declared.flags.Change.{Change}
+use Rattle.bay_model.specs.declared.flags.Trg.{Trg}
+use Rattle.bay_model.specs.declared.note.Mention.{Mention}
+use Rattle.bay_model.specs.declared.tables.MemberShape.{MemberShape}
+use Rattle.brcb_state.specs.Components.{trg_of}
+use Rattle.trigger_core.specs.Noted.{noted}
+use Rattle.value_store.specs.Stored.{Stored}
+use Rattle.touch_index.specs.declared.touch.Touch.{Touch}
+use Rattle.touch_index.specs.Indexed.{none, block_at, touches_from, with_members, with_room}
+use Rattle.touch_index.specs.Gathered.{IsSetOf}
+use Rattle.touch_index.specs.Gathering.{Gathered, no_note, no_trg, note_at, trg_at, with_items, AreEmpty}
+use Rattle.report_block.specs.declared.block.ReportBlock.{ReportBlock}
+use Rattle.bay_core.specs.declared.watch.Watch.{Watch}
+use Rattle.report_block.specs.EntryOctets.{IsKeepable}
+use Rattle.report_block.specs.Events.{with_note}
+use Rattle.bay_core.specs.Events.{mentions_of, IsReady}
+use Rattle.bay_core.specs.Watched.{IsIndexed, IsWatching, AreBlank, IsNoteOf, options_in}
+use Rattle.bay_core.proofs.MentionLaws.{noted-keepable, length-noted}
+
+pub some-same : {A : Type 0} (x y : A) → Some x ≡ Some y → x ≡ y
+some-same x y e = cc
+
+-- ---- lists
+
+pub got-here : {A : Type 0} (xs : List A) (i : ℕ) (x y : A) → slice_get xs i ≡ Some x → slice_get (slice_set xs i y) i ≡ Some y
+got-here xs i x y at =
+    let below = slice_get_within xs i x at in
+    slice_get-get_or (slice_set xs i y) i y (omega (arith, below, length-set xs i y)) ∙ ap Some (get_or-set_same xs i y y below)
+
+pub got-there : {A : Type 0} (xs : List A) (i j : ℕ) (x y : A) → j ≢ i → slice_get xs j ≡ Some x → slice_get (slice_set xs i y) j ≡ Some x
+got-there xs i j x y apart at =
+    let below = slice_get_within xs j x at in
+    slice_get-get_or (slice_set xs i y) j x (omega (arith, below, length-set xs i y)) ∙ ap Some (get_or-set_other xs i j y x apart ∙ get_or_from_slice_get xs j x x at)
+
+-- a list whose every element is what f makes of the other's
+pub mapped : {A : Type 0} (f : A → A) (xs ys : List A) → length ys ≡ length xs → ((i : ℕ) (x : A) → slice_get xs i ≡ Some x → slice_get ys i ≡ Some (f x)) → ys ≡ map f xs
+mapped f [] [] count at = refl
+mapped f [] (y ∷ ys) count at = absurd (omega (arith, count))
+mapped f (x ∷ xs) [] count at = absurd (omega (arith, count))
+mapped f (x ∷ xs) (y ∷ ys) count at = ap₂ (λ a rest. a ∷ rest) (some-same y (f x) (at 0 x refl)) (mapped f xs ys (omega (arith, count)) (λ i z h. at (suc i) z h))
+
+pub part-there : (parts : List ReportBlock) (b : ℕ) → b < length parts → (part : ReportBlock) × (slice_get parts b ≡ Some part)
+part-there [] b below = absurd (omega (arith, below))
+part-there (p ∷ parts) zero below = (p, refl)
+part-there (p ∷ parts) (suc b) below = part-there parts b (omega (arith, below))
+
+-- ---- the trigger options of a block
+
+pub option-at : (parts : List ReportBlock) (b : ℕ) (part : ReportBlock) → slice_get parts b ≡ Some part → trg_at (options_in parts) b ≡ trg_of part.block.options.trg_ops
+option-at [] b part at = cc
+option-at (p ∷ parts) zero part at = ap (λ (q : ReportBlock). trg_of q.block.options.trg_ops) (some-same p part at)
+option-at (p ∷ parts) (suc b) part at = option-at parts b part at
+
+-- ---- the index
+
+-- another block's members stay
+pub set-stays : (bs : List (Filled Touch)) (b k : ℕ) (f : Filled Touch) (ms : List MemberShape) → k ≢ b → IsSetOf bs k ms → IsSetOf (slice_set bs b f) k ms
+set-stays bs b k f ms apart is = ap (λ (g : Filled Touch). g.items) (get_or-set_other bs b k f none apart) ∙ is
+
+-- members that were put
+pub set-put : (bs : List (Filled Touch)) (b room : ℕ) (ms : List MemberShape) → b < length bs → IsSetOf (with_members b ms (with_room b room bs)) b ms
+set-put bs b room ms below =
+    let roomy = with_room b room bs in
+    ap (λ (g : Filled Touch). g.items) (get_or-set_same roomy b (record { items = touches_from b 1 ms; room = (block_at roomy b).room }) none (omega (arith, below, length-set bs b (record { items = (block_at bs b).items; room = max (block_at bs b).room room }))))
+
+pub put-stays : (bs : List (Filled Touch)) (b k room : ℕ) (ms own : List MemberShape) → k ≢ b → IsSetOf bs k own → IsSetOf (with_members b ms (with_room b room bs)) k own
+put-stays bs b k room ms own apart is = set-stays (with_room b room bs) b k (record { items = touches_from b 1 ms; room = (block_at (with_room b room bs) b).room }) own apart
+    (set-stays bs b k (record { items = (block_at bs b).items; room = max (block_at bs b).room room }) own apart is)
+
+pub put-count : (bs : List (Filled Touch)) (b room : ℕ) (ms : List MemberShape) → length (with_members b ms (with_room b room bs)) ≡ length bs
+put-count bs b room ms = length-set (with_room b room bs) b (record { items = touches_from b 1 ms; room = (block_at (with_room b room bs) b).room }) ∙ length-set bs b (record { items = (block_at bs b).items; room = max (block_at bs b).room room })
+
+pub put-room : (bs : List (Filled Touch)) (b room : ℕ) → b < length bs → room ≤ (block_at (with_room b room bs) b).room
+put-room bs b room below =
+    let e = ap (λ (g : Filled Touch). g.room) (get_or-set_same bs b (record { items = (block_at bs b).items; room = max (block_at bs b).room room }) none below) in
+    omega (arith, e)
+
+-- ---- empty notes
+
+abbrev blank : Filled Mention
+blank = record { items = []; room = 256 }
+
+pub blank-new : (n : ℕ) (g : Gathered) → g.notes ≡ replicate n (record { items = []; room = 256 }) → AreBlank n g
+blank-new n g is = subst (λ (l : List (Filled Mention)). AreBlank n (record { notes = l; touched = g.touched })) (sym is) (record { count = counted n; empty = λ i d h. ap (λ (f : Filled Mention). f.items) (at n i d h); rooms = λ b h. ap (λ (f : Filled Mention). f.room) (at n b no_note (omega (arith, h, counted n))) }) where
+  counted : (n : ℕ) → length (replicate n blank) ≡ n
+  counted zero = refl
+  counted (suc n) = omega (arith, counted n)
+
+  at : (n i : ℕ) (d : Filled Mention) → i < length (replicate n blank) → get_or (replicate n blank) i d ≡ blank
+  at zero i d h = absurd (omega (arith, h))
+  at (suc n) zero d h = refl
+  at (suc n) (suc i) d h = at n i d (omega (arith, h))
+
+-- ---- parts that keep their data sets and their options
+
+pub watching-map : (n : ℕ) (parts : List ReportBlock) (w : Watch) (f : ReportBlock → ReportBlock) → ((p : ReportBlock) → (f p).members ≡ p.members) → ((p : ReportBlock) → (f p).block.options ≡ p.block.options) → IsWatching n parts w → IsWatching n (map f parts) w
+watching-map n parts w f same options is = record {
+  index = record {
+    attrs = is.index.attrs;
+    count = is.index.count ∙ sym (length-map parts f);
+    touches = λ b part at. (let was = got-map f parts b part at in
+        subst (λ (p : ReportBlock). IsSetOf w.index.blocks b p.members.items) was.2 (subst (λ (l : List MemberShape). IsSetOf w.index.blocks b l) (sym (ap (λ v. v.items) (same was.0))) (is.index.touches b was.0 was.1)));
+  };
+  options = is.options ∙ alike parts;
+  notes = subst (λ k. AreBlank k w.notes) (sym (length-map parts f)) is.notes;
+} where
+  alike : (ps : List ReportBlock) → options_in ps ≡ options_in (map f ps)
+  alike [] = refl
+  alike (p ∷ ps) = ap₂ (λ (t : Trg) (ts : List Trg). t ∷ ts) (ap (λ o. trg_of o.trg_ops) (sym (options p))) (alike ps)
+
+-- one part, whose options may be others
+pub watching-set : (n : ℕ) (parts : List ReportBlock) (w v : Watch) (i : ℕ) (x y : ReportBlock) → slice_get parts i ≡ Some x → y.members ≡ x.members → v.index ≡ w.index → v.notes ≡ w.notes
+    → v.options.items ≡ slice_set w.options.items i (trg_of y.block.options.trg_ops) → IsWatching n parts w → IsWatching n (slice_set parts i y) v
+watching-set n parts w v i x y there same index notes options is = record {
+  index = subst (IsIndexed n (slice_set parts i y)) (sym index) (record {
+    attrs = is.index.attrs;
+    count = is.index.count ∙ sym (length-set parts i y);
+    touches = λ b part at. elim (got-set parts i b y part at) [
+      | inl e ↦ subst (λ (l : List MemberShape). IsSetOf w.index.blocks b l) (sym (ap (λ (p : ReportBlock). p.members.items) e.1 ∙ ap (λ m. m.items) same)) (is.index.touches b x (ap (slice_get parts) e.0 ∙ there))
+      | inr e ↦ is.index.touches b part e.1
+    ];
+  });
+  options = options ∙ (ap (λ l. slice_set l i (trg_of y.block.options.trg_ops)) is.options ∙ sym (map-set (λ (p : ReportBlock). trg_of p.block.options.trg_ops) parts i y));
+  notes = subst (AreBlank (length (slice_set parts i y))) (sym notes) (subst (λ k. AreBlank k w.notes) (sym (length-set parts i y)) is.notes);
+}
+
+pub watching-same : (n : ℕ) (parts : List ReportBlock) (w : Watch) (i : ℕ) (x y : ReportBlock) → slice_get parts i ≡ Some x → y.members ≡ x.members → y.block.options ≡ x.block.options → IsWatching n parts w → IsWatching n (slice_set parts i y) w
+watching-same n parts w i x y there same options is = record {
+  index = record {
+    attrs = is.index.attrs;
+    count = is.index.count ∙ sym (length-set parts i y);
+    touches = λ b part at. elim (got-set parts i b y part at) [
+      | inl e ↦ subst (λ (l : List MemberShape). IsSetOf w.index.blocks b l) (sym (ap (λ (p : ReportBlock). p.members.items) e.1 ∙ ap (λ m. m.items) same)) (is.index.touches b x (ap (slice_get parts) e.0 ∙ there))
+      | inr e ↦ is.index.touches b part e.1
+    ];
+  };
+  options = is.options ∙ sym (map-set (λ (p : ReportBlock). trg_of p.block.options.trg_ops) parts i y
+      ∙ (ap (slice_set (options_in parts) i) (ap (λ o. trg_of o.trg_ops) options ∙ sym (option-at parts i x there)) ∙ set-get_or (options_in parts) i no_trg));
+  notes = subst (λ k. AreBlank k w.notes) (sym (length-set parts i y)) is.notes;
+}
+
+-- ---- the notes of a point
+
+-- the note that a walk over the touches made of each part is the one of the definition
+pub made : (n : ℕ) (parts : List ReportBlock) (w : Watch) (trgs : List Trg) (changes : List Change) (notes : List (Filled Mention)) → IsWatching n parts w → trgs ≡ w.options.items
+    → ((b : ℕ) (ms : List MemberShape) → b < length w.index.blocks → IsSetOf w.index.blocks b ms → (note_at notes b).items ≡ noted changes (trg_at trgs b) 1 ms)
+    → (b : ℕ) (part : ReportBlock) → slice_get parts b ≡ Some part → (note_at notes b).items ≡ mentions_of changes part
+made n parts w trgs changes notes is same gathered b part at =
+    let below = slice_get_within parts b part at in
+    let used = ap (λ (l : List Trg). trg_at l b) (same ∙ is.options) ∙ option-at parts b part at in
+    gathered b part.members.items (omega (arith, below, is.index.count)) (is.index.touches b part at) ∙ ap (λ (g : Trg). noted changes g 1 part.members.items) used
+
+-- the note of a part whose data set the index has
+pub note-of : (stored : List Stored) (changes : List Change) (part : ReportBlock) (note : List Mention) → IsReady stored part → note ≡ mentions_of changes part → IsNoteOf stored part note
+note-of stored changes part note ready is =
+    let trg = trg_of part.block.options.trg_ops in
+    subst (IsNoteOf stored part) (sym is) (record {
+      members = noted-keepable stored changes trg part.members.items ready.few ready.writable;
+      few = omega (arith, length-noted changes trg 1 part.members.items, ready.few);
+    })
+
+module _ (stored : List Stored) (moment step : ℕ) where
+  -- part k, with what is left of its note, is to become this
+  abbrev pub Left : List ReportBlock → List (Filled Mention) → ℕ → ReportBlock → Type 0
+  Left parts notes k target = (now : ReportBlock) × (slice_get parts k ≡ Some now) × IsNoteOf stored now (note_at notes k).items × (with_note stored moment step (note_at notes k).items now ≡ target)
+
+  -- the note of part b was kept
+  pub left-next : (parts : List ReportBlock) (notes : List (Filled Mention)) (b : ℕ) (part : ReportBlock) (k : ℕ) (target : ReportBlock) → slice_get parts b ≡ Some part → b < length notes
+      → Left parts notes k target → Left (slice_set parts b (with_note stored moment step (note_at notes b).items part)) (with_items b [] notes) k target
+  left-next parts notes b part k target at below was = by (cases_eq k b) where
+    after : ReportBlock
+    after = with_note stored moment step (note_at notes b).items part
+
+    by : (k ≡ b) ⊎ (k ≢ b) → Left (slice_set parts b after) (with_items b [] notes) k target
+    by (inl e) =
+        let none : (note_at (with_items b [] notes) k).items ≡ [] = ap (λ j. (note_at (with_items b [] notes) j).items) e ∙ ap (λ (f : Filled Mention). f.items) (get_or-set_same notes b (record { items = []; room = (note_at notes b).room }) no_note below) in
+        let same : part ≡ was.0 = some-same part was.0 (sym at ∙ (ap (slice_get parts) (sym e) ∙ was.1)) in (
+          after,
+          ap (slice_get (slice_set parts b after)) e ∙ got-here parts b part after at,
+          subst (IsNoteOf stored after) (sym none) (record { members = All-nil (IsKeepable stored after.members.items); few = omega arith }),
+          ap (λ ms. with_note stored moment step ms after) none ∙ (ap₂ (λ (p : ReportBlock) j. with_note stored moment step (note_at notes j).items p) same (sym e) ∙ was.3),
+        )
+    by (inr e) =
+        let same : (note_at (with_items b [] notes) k).items ≡ (note_at notes k).items = ap (λ (f : Filled Mention). f.items) (get_or-set_other notes b k (record { items = []; room = (note_at notes b).room }) no_note e) in (
+          was.0,
+          got-there parts b k was.0 after e was.1,
+          subst (IsNoteOf stored was.0) (sym same) was.2,
+          ap (λ ms. with_note stored moment step ms was.0) same ∙ was.3,
+        )
+
+  pub left-none : (parts : List ReportBlock) (notes : List (Filled Mention)) (k : ℕ) (target : ReportBlock) → AreEmpty notes → k < length notes → Left parts notes k target → slice_get parts k ≡ Some target
+  left-none parts notes k target empty below was = was.1 ∙ ap Some (sym (ap (λ ms. with_note stored moment step ms was.0) (empty k no_note below)) ∙ was.3)
+
+  pub left-first : (parts : List ReportBlock) (notes : List (Filled Mention)) (k : ℕ) (part : ReportBlock) → slice_get parts k ≡ Some part → IsNoteOf stored part (note_at notes k).items → Left parts notes k (with_note stored moment step (note_at notes k).items part)
+  left-first parts notes k part at is = (part, at, is, refl)
