@@ -5,6 +5,7 @@ use Rattle.std.proofs.lemmas.Bool.Decides.{eqb_tells}
 use Rattle.std.proofs.lemmas.List.{get_or-set_same, get_or-set_other, get_or-replicate, length-set, length-replicate, drop-map, map-append}
 use Rattle.bay_model.specs.Model.{Model}
 use Rattle.bay_model.specs.Points.{Deed, Point, Past, opened, lost, valued, finished, blocked, wrote, put, copied, activated, edited, confirmed, called, selected_control, answered, took, terminated, reported, nothing}
+use Rattle.bay_model.specs.Singles.{arrival}
 use Rattle.bay_model.specs.Associations as model
 use Rattle.bay_model.specs.Waiting as queue
 use Rattle.bay_model.specs.Waiting.{put_by, extended}
@@ -14,6 +15,7 @@ use Rattle.assoc_table.specs.Seats.{Row, closed}
 use Rattle.assoc_table.specs.Tables as tables
 use Rattle.assoc_table.specs.Tables.{IsNumber, row_of, with_row}
 use Rattle.assoc_table.specs.Standing.{Stands, StandsAt, IsPlain, waiting_of}
+use Rattle.assoc_table.specs.Coming.{Coming, put_for, came, IsComing}
 
 same : (a : ℕ) → (a == a) ≡ true
 same a = elim (eqb_tells a a) [ inl t ↦ t.0 | inr t ↦ absurd (t.1 refl) ]
@@ -113,3 +115,29 @@ stands-put c a items p before rows number s plain puts none = moved c a (record 
 
 pub stands-other : (c : Model) (p : Point) (before : Past) (rows : List Row) → Stands rows c before → IsPlain p.deed → ((e : ℕ) → put_by c e p.step p.deed before ≡ []) → Stands rows c (p ∷ before)
 stands-other c p before rows s plain none = record { count = s.count; each = λ e n. stays-at c e p before (row_of rows e) (s.each e n) plain (none e) }
+
+-- ---- the arrival of a point, and its deed
+
+pub stands-arrival : (c : Model) (m n : ℕ) (before : Past) (rows : List Row) → Stands rows c before → Stands rows c (arrival n m ∷ before)
+stands-arrival c m n before rows s = stands-other c (arrival n m) before rows s tt (λ e. refl)
+
+before-arrival : (c : Model) (m n : ℕ) (before : Past) (rows : List Row) → Stands rows c (arrival n m ∷ before) → Stands rows c before
+before-arrival c m n before rows s = record { count = s.count; each = λ a number. (let x = s.each a number in record { ends = x.ends; waiting = x.waiting }) }
+
+plain-deed : (c : Model) (p : Point) (before : Past) (rows : List Row) (k : Coming) → Stands rows c before → IsPlain p.deed → IsComing k c p.step p.deed before → Stands (put_for k.a k.items rows) c (p ∷ before)
+plain-deed c p before rows k s plain is = by k.items refl where
+  by : (items : List Waiting) → k.items ≡ items → Stands (put_for k.a items rows) c (p ∷ before)
+  by [] none = stands-other c p before rows s plain (λ e. elim (eqb_tells e k.a) [ inl t ↦ ap (λ j. put_by c j p.step p.deed before) t.1 ∙ (is.puts ∙ ap (map waiting_of) none) | inr t ↦ is.for_no_other e t.1 ])
+  by (w ∷ ws) some = stands-put c k.a (w ∷ ws) p before rows (is.for_one (λ none. some_none w ws (sym some ∙ none))) s plain (is.puts ∙ ap (map waiting_of) some) is.for_no_other
+    where
+      some_none : (w : Waiting) (ws : List Waiting) → w ∷ ws ≡ [] → ⊥
+      some_none w ws h = cc
+
+pub stands-deed : (c : Model) (m n : ℕ) (d : Deed) (before : Past) (rows : List Row) (k : Coming) → Stands rows c (arrival n m ∷ before) → IsComing k c n d before
+    → Stands (came d k rows) c (record { moment = m; step = n; deed = d } ∷ before)
+stands-deed c m n (opened a o w) before rows k s is =
+    stands-opened c a (record { opener = record { 0 = o }; writer = record { 0 = w }; size = k.size }) (record { moment = m; step = n; deed = opened a o w }) before rows is.number (before-arrival c m n before rows s) refl
+stands-deed c m n (lost a) before rows k s is = stands-lost c a (record { moment = m; step = n; deed = lost a }) before rows is.number (before-arrival c m n before rows s) refl
+stands-deed c m n (took a) before rows k s is = stands-took c a (record { moment = m; step = n; deed = took a }) before rows is.number (before-arrival c m n before rows s) refl
+stands-deed c m n (terminated a j) before rows k s is = stands-terminated c a j (record { moment = m; step = n; deed = terminated a j }) before rows is.number (before-arrival c m n before rows s) refl
+stands-deed c m n d before rows k s is = plain-deed c (record { moment = m; step = n; deed = d }) before rows k (before-arrival c m n before rows s) tt is

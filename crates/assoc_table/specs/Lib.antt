@@ -1,3 +1,4 @@
 pub mod Seats
 pub mod Tables
 pub mod Standing
+pub mod Coming

@@ -25,14 +25,17 @@ use Rattle.bay_model.specs.Lookups.{attr_of}
 use Rattle.bay_model.specs.Model.{Model}
 use Rattle.bay_model.specs.Named.{configured_model}
 use Rattle.bay_model.specs.NamedLines.{is_setting}
-use Rattle.bay_model.specs.Points.{Past, Point, Deed, valued}
+use Rattle.bay_model.specs.Points.{Past, valued}
 use Rattle.bay_model.specs.Settings.{set_to}
-use Rattle.bay_model.specs.Values.{value_at, gives}
+use Rattle.bay_model.specs.Values.{value_at}
 use Rattle.object_model.specs.Fits.{attr_types, is_sound, is_typed, setting_fits, fits}
 use Rattle.object_model.specs.Tables as tables
 use Rattle.object_model.proofs.AttributeLaws.{flags-are}
 use Rattle.value_store.specs.Stored.{Stored, attribute}
 use Rattle.value_store.specs.Wholes.{Stands}
+use Rattle.value_store.proofs.StandLaws.{stands-deed}
+use Rattle.window_core.specs.Points.{at}
+use Rattle.bay_model.specs.Singles.{arrival}
 use Rattle.trigger_core.specs.Points as points
 use Rattle.trigger_core.specs.Points.{AreChanges, change_to}
 use Rattle.bay_core.specs.Changed.{given, last_set, change_from, AreMade, AreFit, IsValueOf, IsTyped, AreTyped}
@@ -45,11 +48,10 @@ given-value : (o : Option Value) (was : Stored) → (given o was).held.value ≡
 given-value None was = refl
 given-value (Some v) was = refl
 
-pub values-stand : (c : Model) (before : Past) (p : Point) (old new : List Stored) (settings : List Setting)
-    → Stands old c before → ((x : ℕ) → attribute new x ≡ last_set settings x (attribute old x)) → length new ≡ length old → p.deed ≡ valued settings → Stands new c (p ∷ before)
-values-stand c before p old new settings stands set count is = λ x below.
-    ap (λ (s : Stored). s.held.value) (set x) ∙ (given-value (set_to x settings) (attribute old x) ∙ (ap (λ v. unwrap_or (set_to x settings) v) (stands x (omega (arith, below, count)))
-    ∙ ap (λ (d : Deed). unwrap_or (gives c x d before) (value_at c x before)) (sym is)))
+pub values-stand : (c : Model) (n t : ℕ) (before : Past) (old new : List Stored) (settings : List Setting)
+    → Stands old c (arrival n t ∷ before) → ((x : ℕ) → attribute new x ≡ last_set settings x (attribute old x)) → length new ≡ length old → Stands new c (at n t (valued settings) ∷ before)
+values-stand c n t before old new settings stands set count = stands-deed old new c t n (valued settings) before stands count
+    (λ x below. ap (λ (s : Stored). s.held.value) (set x) ∙ given-value (set_to x settings) (attribute old x))
 
 -- ---- the changes are those of the point
 

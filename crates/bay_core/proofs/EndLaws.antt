@@ -1,7 +1,7 @@
 -- A point that opens or loses an association.
-use Rattle.std.proofs.Common.{◌≡◌, ℕ, suc, max, Bool, true, false, List, ◌∷◌, Option, None, Some, refl, ap, arith, ◌∙◌, sym, subst, ◌⊎◌}
+use Rattle.std.proofs.Common.{◌≡◌, ℕ, suc, max, true, false, List, ◌∷◌, Option, None, Some, refl, ap, arith, ◌∙◌, sym, ◌⊎◌}
 use Rattle.std.specs.Prelude.{if◌then◌else◌, is_some, ◌==◌, ◌||◌}
-use Rattle.std.specs.Option.{option_map, option_map_or}
+use Rattle.std.specs.Option.{option_map}
 use Rattle.std.proofs.lemmas.Bool.Decides.{nat_tests}
 use Rattle.list_laws.proofs.Options.{some_is}
 use Rattle.list_laws.proofs.Places.{got-map}
@@ -9,26 +9,21 @@ use Rattle.sv_base.specs.declared.config.Config.{Config}
 use Rattle.sv_base.specs.declared.numbers.AssocNo.{AssocNo}
 use Rattle.sv_base.specs.declared.numbers.ActorNo.{ActorNo}
 use Rattle.bay_model.specs.Model.{Model}
-use Rattle.bay_model.specs.Named.{configured_model}
 use Rattle.bay_model.specs.Points.{Point, Past, opened, lost}
 use Rattle.bay_model.specs.Associations as model
 use Rattle.bay_model.specs.Associations.{ends}
 use Rattle.bay_model.specs.Acceptance.{IsOpen, if_open}
-use Rattle.brcb_state.specs.Changes.{after_loss}
-use Rattle.brcb_state.specs.Standing.{Stands as BlockStands}
-use Rattle.brcb_state.specs.declared.block.Block.{Block}
 use Rattle.assoc_table.specs.declared.waiting.Ends.{Ends}
 use Rattle.assoc_table.specs.Seats.{Row}
 use Rattle.assoc_table.specs.Tables.{IsNumber, row_of, started, ended}
 use Rattle.assoc_table.specs.Standing.{Stands as AssociationsStand, ends_of}
-use Rattle.assoc_table.proofs.StandLaws.{stands-opened, stands-lost}
-use Rattle.bay_core.specs.declared.part.Part.{Part}
-use Rattle.bay_core.specs.Parting.{lost_by, after_loss_all}
+use Rattle.window_core.specs.Points.{at}
+use Rattle.report_block.specs.Writes.{lost_by}
+use Rattle.bay_core.specs.Parting.{after_loss_all}
 use Rattle.bay_config.specs.Servable.{IsServable}
 use Rattle.bay_core.specs.State.{State}
-use Rattle.bay_core.specs.Standing.{PartStands, PartsStand, StandsAt}
-use Rattle.bay_core.proofs.QuietLaws.{at_once-served, part-stays}
-use Rattle.bay_core.proofs.MoveLaws.{moved, values-same, waits-none}
+use Rattle.bay_core.specs.Standing.{StandsAt}
+use Rattle.bay_core.proofs.MoveLaws.{passed}
 
 -- ---- the ends of an association
 
@@ -50,62 +45,23 @@ ends-told m rows past a opener writer st number one other = by (row_of rows a).e
 
 -- ---- opened
 
-block-opened : (m : Model) (b : ℕ) (p : Point) (past : Past) (part : Part) (a o w : ℕ) → p.deed ≡ opened a o w → PartStands m b past part → BlockStands part.block m b (p ∷ past)
-block-opened m b p past part a o w is st = rw is (record { reference = st.block.reference; options = st.block.options; revision = st.block.revision; enabler = st.block.enabler; cursor = st.block.cursor; count = st.block.count })
-
 abbrev pub opening : ℕ → ℕ → ℕ → Ends → Point
-opening n t a e = record { moment = t; step = n; deed = opened a e.opener.0 e.writer.0 }
-
-parts-opened : (c : Config) (n t a : ℕ) (e : Ends) (past : Past) (parts : List Part) → IsServable c → PartsStand (configured_model c) past parts → PartsStand (configured_model c) (opening n t a e ∷ past) parts
-parts-opened c n t a e past parts served st = λ b part there.
-    part-stays (configured_model c) b (opening n t a e) past part (at_once-served c b served) (st b part there) part.block refl refl refl refl
-    (block-opened (configured_model c) b (opening n t a e) past part a e.opener.0 e.writer.0 refl (st b part there))
+opening n t a e = at n t (opened a e.opener.0 e.writer.0)
 
 pub opened-at : (s : State) (c : Config) (n t a : ℕ) (e : Ends) (past : Past) → IsServable c → IsNumber a → StandsAt s c n past
     → StandsAt (record s { steps = suc s.steps; latest = max s.latest t; rows = started s.rows a e }) c (suc n) (opening n t a e ∷ past)
-opened-at s c n t a e past served number st = moved s (record s { steps = suc s.steps; latest = max s.latest t; rows = started s.rows a e }) c n (opening n t a e) past st refl refl refl
-    (values-same s.stored (configured_model c) (opening n t a e) past (λ x. refl) st.values)
-    (stands-opened (configured_model c) a e (opening n t a e) past s.rows number st.associations refl)
-    (λ k. waits-none (configured_model c) k (opening n t a e) past (st.empty k) refl refl) refl
-    (parts-opened c n t a e past s.parts served st.blocks)
+opened-at s c n t a e past served number st = passed s c n t (opened a e.opener.0 e.writer.0) past e.size s.parts served (record { number = number; puts = λ k. refl; gives = λ k. refl; sets = refl }) (λ x. refl)
+    (record { note = λ b. refl; cuts = λ b. refl; parameters = λ b. refl }) (λ b q there. (q, there, refl)) st
 
 -- ---- lost
 
 abbrev pub losing : ℕ → ℕ → ℕ → Point
-losing n t a = record { moment = t; step = n; deed = lost a }
-
-enabler-lost : (a : AssocNo) (e : Option AssocNo) (f : Option ℕ) → option_map (λ (k : AssocNo). k.0) e ≡ f
-    → option_map (λ (k : AssocNo). k.0) (if option_map_or (λ (k : AssocNo). k.0 == a.0) e false then None else e) ≡ (if option_map_or (λ k. k == a.0) f false then None else f)
-enabler-lost a None f is = rw (← is) refl
-enabler-lost a (Some e) f is = rw (← is) (by (e.0 == a.0)) where
-  by : (t : Bool) → option_map (λ (k : AssocNo). k.0) (if t then None else Some e) ≡ (if t then None else Some e.0)
-  by true = refl
-  by false = refl
-
-block-lost : (m : Model) (b n t : ℕ) (a : AssocNo) (past : Past) (s : Block) → BlockStands s m b past → BlockStands (after_loss a s) m b (losing n t a.0 ∷ past)
-block-lost m b n t a past s st = record {
-  reference = st.reference;
-  options = st.options;
-  revision = st.revision;
-  enabler = enabler-lost a s.enabler _ st.enabler;
-  cursor = st.cursor;
-  count = st.count;
-}
-
-pub parts-lost : (c : Config) (n t : ℕ) (a : AssocNo) (past : Past) (parts : List Part) → IsServable c → PartsStand (configured_model c) past parts → PartsStand (configured_model c) (losing n t a.0 ∷ past) (after_loss_all a parts)
-parts-lost c n t a past parts served st = λ b part there.
-    let was = got-map (lost_by a) parts b part there in
-    subst (λ q. PartStands (configured_model c) b (losing n t a.0 ∷ past) q) was.2
-    (part-stays (configured_model c) b (losing n t a.0) past was.0 (at_once-served c b served) (st b was.0 was.1) (after_loss a was.0.block) refl refl refl refl
-    (block-lost (configured_model c) b n t a past was.0.block (st b was.0 was.1).block))
+losing n t a = at n t (lost a)
 
 pub lost-at : (s : State) (c : Config) (n t : ℕ) (a : AssocNo) (past : Past) → IsServable c → IsNumber a.0 → StandsAt s c n past
     → StandsAt (record s { steps = suc s.steps; latest = max s.latest t; parts = after_loss_all a s.parts; rows = ended s.rows a.0 }) c (suc n) (losing n t a.0 ∷ past)
-lost-at s c n t a past served number st = moved s (record s { steps = suc s.steps; latest = max s.latest t; parts = after_loss_all a s.parts; rows = ended s.rows a.0 }) c n (losing n t a.0) past st refl refl refl
-    (values-same s.stored (configured_model c) (losing n t a.0) past (λ x. refl) st.values)
-    (stands-lost (configured_model c) a.0 (losing n t a.0) past s.rows number st.associations refl)
-    (λ k. waits-none (configured_model c) k (losing n t a.0) past (st.empty k) refl refl) refl
-    (parts-lost c n t a past s.parts served st.blocks)
+lost-at s c n t a past served number st = passed s c n t (lost a.0) past 0 (after_loss_all a s.parts) served (record { number = number; puts = λ k. refl; gives = λ k. refl; sets = refl }) (λ x. refl)
+    (record { note = λ b. refl; cuts = λ b. refl; parameters = λ b. refl }) (got-map (lost_by a) s.parts) st
 
 -- ---- why an opening or a loss is refused
 

@@ -1,6 +1,6 @@
 -- What is kept of the events of a point is its note, as it is in the model.
-use Rattle.std.proofs.Common.{◌≡◌, ◌<◌, ◌≤◌, ◌+◌, ◌-◌, ℕ, suc, Bool, true, false, List, [], ◌∷◌, ◌++◌, length, map, slice_index_or, refl, ap, sym, ◌∙◌, subst, arith, if◌then◌else◌}
-use Rattle.std.specs.List.{All, flat_map}
+use Rattle.std.proofs.Common.{◌≡◌, ◌<◌, ◌≤◌, ◌+◌, ◌-◌, ℕ, suc, Bool, true, false, List, [], ◌∷◌, ◌++◌, length, map, slice_index_or, refl, ap, ap₂, sym, ◌∙◌, subst, arith, if◌then◌else◌}
+use Rattle.std.specs.List.{All}
 use Rattle.std.proofs.lemmas.List.{get_or-map, length-map}
 use Rattle.std.proofs.lemmas.List.Elements.{All-nil, All-cons, All-head, All-tail, All-get_or}
 use Rattle.sv_base.specs.Data.{data_of}
@@ -13,7 +13,6 @@ use Rattle.bay_model.specs.Model.{Model}
 use Rattle.bay_model.specs.Named.{configured_model}
 use Rattle.bay_model.specs.Notes.{Kept, is_any, noted}
 use Rattle.bay_model.specs.Points.{Past}
-use Rattle.bay_model.specs.Retained.{kept_octets_of}
 use Rattle.bay_model.specs.Values.{whole}
 use Rattle.data_sets.specs.Booked.{shape_of}
 use Rattle.object_model.specs.Nodes.{node_rows}
@@ -23,9 +22,12 @@ use Rattle.value_store.specs.Members.{member_octets}
 use Rattle.value_store.specs.Stored.{Stored}
 use Rattle.value_store.specs.Wholes.{Stands as ValuesStand, HasForm}
 use Rattle.value_store.proofs.WholeLaws.{member_is_whole}
-use Rattle.bay_core.specs.EntryOctets.{no_shape, kept_of, note_octets, IsWritable}
+use Rattle.report_block.specs.EntryOctets.{no_shape, kept_of, IsWritable}
 use Rattle.bay_config.specs.Servable.{IsServable, IsMember}
-use Rattle.bay_core.specs.Standing.{IsMemberKept}
+use Rattle.window_core.specs.Pieces.{Piece}
+use Rattle.window_core.specs.Standing.{piece_of}
+use Rattle.report_block.specs.Events.{pieces_of}
+use Rattle.report_block.specs.Standing.{IsMemberKept}
 use Rattle.bay_core.specs.State.{AreHeld}
 use Rattle.bay_core.proofs.ShapeLaws.{AreServed, IsShapeOf, node_shape, node_shapes, member-shape}
 use Rattle.bay_core.proofs.WritableLaws.{shape-writable, shape-one, one-some}
@@ -108,15 +110,13 @@ module _ (c : Config) (stored : List Stored) (past : Past) (ns : List ℕ) (serv
         short = (omega (arith, some, ap length octets), omega (arith, short, ap length octets));
       }
 
-  octets-all : (ks : List Kept) → All (IsNotedOf (configured_model c) past 1 ns) ks → note_octets stored (node_shapes c ns) (map mention ks) ≡ flat_map kept_octets_of ks
-  octets-all [] all = refl
-  octets-all (k ∷ ks) all =
-      ap (λ (x : Kept). kept_octets_of x ++ note_octets stored (node_shapes c ns) (map mention ks)) (kept-same k (All-head (IsNotedOf (configured_model c) past 1 ns) k ks all))
-      ∙ ap (λ l. kept_octets_of k ++ l) (octets-all ks (All-tail (IsNotedOf (configured_model c) past 1 ns) k ks all))
+  pieces-all : (ks : List Kept) → All (IsNotedOf (configured_model c) past 1 ns) ks → pieces_of stored (node_shapes c ns) (map mention ks) ≡ map piece_of ks
+  pieces-all [] all = refl
+  pieces-all (k ∷ ks) all = ap₂ (λ (x : Kept) (l : List Piece). piece_of x ∷ l) (kept-same k (All-head (IsNotedOf (configured_model c) past 1 ns) k ks all)) (pieces-all ks (All-tail (IsNotedOf (configured_model c) past 1 ns) k ks all))
 
-  -- what is kept of a note are the octets of its members, and these can be read back
-  pub note-kept : (reasons : ℕ → Reasons) → note_octets stored (node_shapes c ns) (map mention (noted (configured_model c) reasons past 1 ns)) ≡ flat_map kept_octets_of (noted (configured_model c) reasons past 1 ns)
-  note-kept reasons = octets-all (noted (configured_model c) reasons past 1 ns) (noted-of (configured_model c) reasons past 1 ns)
+  -- what is kept of a note are its members, and these can be read back
+  pub note-kept : (reasons : ℕ → Reasons) → pieces_of stored (node_shapes c ns) (map mention (noted (configured_model c) reasons past 1 ns)) ≡ map piece_of (noted (configured_model c) reasons past 1 ns)
+  note-kept reasons = pieces-all (noted (configured_model c) reasons past 1 ns) (noted-of (configured_model c) reasons past 1 ns)
 
   pub note-readable : (reasons : ℕ → Reasons) → All IsMemberKept (noted (configured_model c) reasons past 1 ns)
   note-readable reasons = λ j d below. member-kept (slice_index_or (noted (configured_model c) reasons past 1 ns) j d) (noted-of (configured_model c) reasons past 1 ns j d below)

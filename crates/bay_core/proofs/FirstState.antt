@@ -21,7 +21,7 @@ use Rattle.value_store.specs.Opened.{opened}
 use Rattle.value_store.specs.Stored.{Stored}
 use Rattle.value_store.specs.Wholes.{Stands as ValuesStand}
 use Rattle.value_store.proofs.OpenedLaws.{opened_stands}
-use Rattle.bay_core.specs.declared.part.Part.{Part}
+use Rattle.report_block.specs.declared.block.ReportBlock.{ReportBlock}
 use Rattle.bay_core.specs.declared.watch.Watch.{Watch}
 use Rattle.bay_core.specs.Watched.{IsWatching, IsWatchable}
 use Rattle.bay_core.specs.Opened.{seen, part_defined}
@@ -29,15 +29,16 @@ use Rattle.bay_config.specs.Servable.{IsServable}
 use Rattle.bay_core.specs.Standing.{StandsFor}
 use Rattle.bay_core.specs.State.{State, IsFurnished, AreHeld}
 use Rattle.bay_core.proofs.FirstValues.{opened-held}
-use Rattle.bay_core.proofs.OpenLaws.{parts-members, parts-stand}
+use Rattle.bay_core.proofs.OpenLaws.{parts-members, parts-windows, parts-stand}
 
-pub furnished-first : (c : Config) (stored : List Stored) (parts : List Part) (w : Watch) (octets : Filled ℕ) → IsServable c → stored ≡ opened c
+pub furnished-first : (c : Config) (stored : List Stored) (parts : List ReportBlock) (w : Watch) (octets : Filled ℕ) → IsServable c → stored ≡ opened c
     → map seen parts ≡ map (part_defined c) c.blocks → IsWatching (length stored) parts w → octets.room ≡ 129024 → IsFurnished c stored parts w octets
 furnished-first c stored parts w octets served values are watch kept = record {
   servable = served;
   values = subst (AreHeld c) (sym values) (opened-held c served);
   count = sym (length-map parts seen) ∙ (ap length are ∙ length-map c.blocks (part_defined c));
   members = parts-members c parts are;
+  windows = parts-windows c served parts are;
   watch = watch;
   entry = kept;
 }
@@ -58,7 +59,7 @@ few-shapes c [] = refl
 few-shapes c (n ∷ ns) = ap suc (few-shapes c ns)
 
 -- the index can hold the data set of each part
-pub watchable-first : (c : Config) (n : ℕ) (parts : List Part) → IsServable c → map seen parts ≡ map (part_defined c) c.blocks → n ≡ length (attributes c) → All (IsWatchable n) parts
+pub watchable-first : (c : Config) (n : ℕ) (parts : List ReportBlock) → IsServable c → map seen parts ≡ map (part_defined c) c.blocks → n ≡ length (attributes c) → All (IsWatchable n) parts
 watchable-first c n parts served are count = λ b d below.
     let part = get_or parts b d in
     let has = parts-members c parts are b part (slice_get-get_or parts b d below) in

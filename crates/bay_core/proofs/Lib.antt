@@ -1,33 +1,26 @@
 -- changes of each attribute at most one
 pub mod DistinctChanges
--- steps that bring no entry: time, openings and losses
-pub mod QuietLaws
+-- the blocks, and the bay, at the arrival of a point and after a deed
+pub mod PartLaws
 pub mod MoveLaws
-pub mod StillLaws
+-- openings and losses
 pub mod EndLaws
 pub mod MentionLaws
 pub mod WatchLaws
 pub mod FurnishLaws
 -- writes
 pub mod WriteLaws
-pub mod WroteLaws
 -- settings: the values, the notes of the blocks, and the entries
 pub mod SettingSteps
 pub mod MarkLaws
 pub mod ChangeLaws
 pub mod ShapeLaws
 pub mod ServedLaws
-pub mod OneElement
 pub mod WritableLaws
 pub mod EventLaws
 pub mod SettingLaws
 -- reports
-pub mod ReadableLaws
-pub mod AgainLaws
-pub mod OfferLaws
-pub mod EarlierLaws
 pub mod TakeLaws
-pub mod ReportedLaws
 pub mod TakenLaws
 -- how a bay begins
 pub mod FirstValues

@@ -9,7 +9,7 @@ use Rattle.bay_model.specs.declared.tables.MemberShape.{MemberShape}
 use Rattle.bay_model.specs.Notes.{is_any}
 use Rattle.trigger_core.specs.Noted.{reasons_in, noted}
 use Rattle.value_store.specs.Stored.{Stored}
-use Rattle.bay_core.specs.EntryOctets.{no_shape, IsWritable, IsKeepable}
+use Rattle.report_block.specs.EntryOctets.{no_shape, IsWritable, IsKeepable}
 
 -- numbered from i on, so many
 abbrev IsNumbered : ℕ → ℕ → Mention → Type 0

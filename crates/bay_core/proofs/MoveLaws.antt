@@ -1,54 +1,103 @@
--- The state of a bay after one more point.
+-- A step of one point: the state of a bay at its arrival, and after its deed.
 use Rattle.std.proofs.Common.{◌≡◌, ℕ, suc, max, Bool, true, false, List, [], ◌∷◌, None, refl, ap, arith, ◌∙◌, sym, subst}
-use Rattle.std.specs.Prelude.{length, if◌then◌else◌}
+use Rattle.std.specs.Prelude.{length, if◌then◌else◌, unwrap_or}
 use Rattle.sv_base.specs.declared.config.Config.{Config}
 use Rattle.bay_model.specs.Model.{Model}
 use Rattle.bay_model.specs.Named.{configured_model}
-use Rattle.bay_model.specs.Points.{Point, Past}
+use Rattle.bay_model.specs.Points.{Deed, Past, nothing}
 use Rattle.bay_model.specs.Values.{gives}
 use Rattle.bay_model.specs.Sets.{dynamic}
+use Rattle.bay_model.specs.Singles.{arrival}
 use Rattle.bay_model.specs.Waiting.{Waiting, waiting, put_by, is_start, is_giving}
 use Rattle.bay_model.specs.Answers.{Turn, History, points, turned}
 use Rattle.bay_model.specs.Acceptance.{fault}
-use Rattle.value_store.specs.Stored.{Stored}
+use Rattle.value_store.specs.Stored.{Stored, attribute}
 use Rattle.value_store.specs.Wholes.{Stands as ValuesStand}
-use Rattle.assoc_table.specs.Standing.{Stands as AssociationsStand}
+use Rattle.value_store.proofs.StandLaws as values
+use Rattle.assoc_table.specs.Seats.{Row}
+use Rattle.assoc_table.specs.Coming.{nothing_put, came, IsNumbered}
+use Rattle.assoc_table.proofs.StandLaws as associations
+use Rattle.window_core.specs.Points.{at}
+use Rattle.bay_config.specs.Servable.{IsServable}
+use Rattle.report_block.specs.declared.block.ReportBlock.{ReportBlock}
 use Rattle.bay_core.specs.State.{State}
 use Rattle.bay_core.specs.Standing.{PartsStand, StandsAt, StandsFor}
+use Rattle.bay_core.proofs.PartLaws.{IsApart, AreLeft, parts-arrive, parts-left}
 
--- each part stands for the points up to p
-pub moved : (s t : State) (c : Config) (n : ℕ) (p : Point) (past : Past) → StandsAt s c n past
-    → t.config ≡ s.config → t.steps ≡ suc s.steps → t.latest ≡ max s.latest p.moment → ValuesStand t.stored (configured_model c) (p ∷ past)
-    → AssociationsStand t.rows (configured_model c) (p ∷ past) → ((a : ℕ) → waiting (configured_model c) a (p ∷ past) ≡ []) → dynamic (p ∷ past) ≡ dynamic past
-    → PartsStand (configured_model c) (p ∷ past) t.parts → StandsAt t c (suc n) (p ∷ past)
-moved s t c n p past st config steps latest values associations empty sets blocks = record {
-  is_config = config ∙ st.is_config;
-  is_steps = steps ∙ ap suc st.is_steps;
-  is_latest = omega (arith, latest, st.is_latest);
-  values = values;
-  associations = associations;
-  empty = empty;
-  sets = sets ∙ st.sets;
-  blocks = blocks;
+-- time has passed, up to the moment of a step
+pub arrives : (s : State) (c : Config) (n t : ℕ) (past : Past) → IsServable c → StandsAt s c n past → StandsAt (record s { latest = max s.latest t }) c n (arrival n t ∷ past)
+arrives s c n t past served st = record {
+  is_config = st.is_config;
+  is_steps = st.is_steps;
+  is_latest = omega (arith, st.is_latest);
+  values = values.stands-arrival s.stored (configured_model c) t n past st.values;
+  associations = associations.stands-arrival (configured_model c) t n past s.rows st.associations;
+  empty = st.empty;
+  sets = st.sets;
+  blocks = parts-arrive c n t past s.parts served st.blocks;
 }
 
--- an accepted step of one point
-pub accepted : (s t : State) (c : Config) (h : History) (turn : Turn) → StandsFor s c h → fault (configured_model c) h turn ≡ None
-    → StandsAt t c (suc (length h)) (turned (configured_model c) (length h) turn (points (configured_model c) h)) → StandsFor t c (turn ∷ h)
-accepted s t c h turn st none at = ((st.0, none), at)
+-- a deed that puts nothing, takes nothing that waits, and defines and deletes no data set
+pub record IsSilent (m : Model) (n t : ℕ) (d : Deed) (past : Past) : Type 0 where
+  pub number : IsNumbered d
+  pub puts : (a : ℕ) → put_by m a n d past ≡ []
+  pub gives : (a : ℕ) → is_giving a d ≡ false
+  pub sets : dynamic (at n t d ∷ past) ≡ dynamic past
 
--- a point that sets no attribute
-pub values-same : (all : List Stored) (m : Model) (p : Point) (past : Past) → ((x : ℕ) → gives m x p.deed past ≡ None) → ValuesStand all m past → ValuesStand all m (p ∷ past)
-values-same all m p past none st = λ x below. rw (none x) (st x below)
-
--- nothing waits after a point that puts nothing, and takes nothing that waits
-pub waits-none : (m : Model) (a : ℕ) (p : Point) (past : Past) → waiting m a past ≡ [] → put_by m a p.step p.deed past ≡ [] → is_giving a p.deed ≡ false → waiting m a (p ∷ past) ≡ []
-waits-none m a p past empty puts gives = rw (gives, empty, puts) (by (is_start a p.deed)) where
+-- nothing waits after it
+waits-none : (m : Model) (a n t : ℕ) (d : Deed) (past : Past) → waiting m a past ≡ [] → put_by m a n d past ≡ [] → is_giving a d ≡ false → waiting m a (at n t d ∷ past) ≡ []
+waits-none m a n t d past empty puts gives = rw (gives, empty, puts) (by (is_start a d)) where
   by : (t : Bool) → ◌≡◌ {A = List Waiting} (if t then [] else []) []
   by true = refl
   by false = refl
 
--- the same of a state that is known by an equation
+-- the associations after a deed; of one that is opened this is the greatest size of a PDU
+abbrev pub rows_after : Deed → ℕ → List Row → List Row
+rows_after d size rows = came d (record nothing_put { size = size }) rows
+
+-- after the deed of a step, which leaves these values and blocks
+pub done : (s : State) (c : Config) (n t : ℕ) (d : Deed) (past : Past) (size : ℕ) (stored : List Stored) (parts : List ReportBlock) → IsSilent (configured_model c) n t d past
+    → ValuesStand stored (configured_model c) (at n t d ∷ past) → PartsStand (configured_model c) (at n t d ∷ past) parts → StandsAt s c n (arrival n t ∷ past)
+    → StandsAt (record s { steps = suc s.steps; stored = stored; parts = parts; rows = rows_after d size s.rows }) c (suc n) (at n t d ∷ past)
+done s c n t d past size stored parts silent values blocks st = record {
+  is_config = st.is_config;
+  is_steps = ap suc st.is_steps;
+  is_latest = st.is_latest;
+  values = values;
+  associations = associations.stands-deed (configured_model c) t n d past s.rows (record nothing_put { size = size }) st.associations
+      (record { number = silent.number; puts = silent.puts 0; for_one = λ some. absurd (some refl); for_no_other = λ e other. silent.puts e });
+  empty = λ a. waits-none (configured_model c) a n t d past (st.empty a) (silent.puts a) (silent.gives a);
+  sets = silent.sets ∙ st.sets;
+  blocks = blocks;
+}
+
+-- a step whose deed leaves all values, and the entries of all blocks
+pub passed : (s : State) (c : Config) (n t : ℕ) (d : Deed) (past : Past) (size : ℕ) (parts : List ReportBlock) → IsServable c → IsSilent (configured_model c) n t d past
+    → ((x : ℕ) → gives (configured_model c) x d past ≡ None) → IsApart (configured_model c) n t d past → AreLeft d s.parts parts → StandsAt s c n past
+    → StandsAt (record s { steps = suc s.steps; latest = max s.latest t; parts = parts; rows = rows_after d size s.rows }) c (suc n) (at n t d ∷ past)
+passed s c n t d past size parts served silent same apart left st =
+    let here = arrives s c n t past served st in
+    done (record s { latest = max s.latest t }) c n t d past size s.stored parts silent (values-same here.values) (parts-left (configured_model c) n t d past s.parts parts apart left here.blocks) here
+  where
+    values-same : ValuesStand s.stored (configured_model c) (arrival n t ∷ past) → ValuesStand s.stored (configured_model c) (at n t d ∷ past)
+    values-same stand = values.stands-deed s.stored s.stored (configured_model c) t n d past stand refl (λ x below. ap (λ o. unwrap_or o (attribute s.stored x).held.value) (sym (same x)))
+
+-- all blocks stay as they are where the deed isn't one of theirs
+pub left-as-they-are : (parts : List ReportBlock) → AreLeft nothing parts parts
+left-as-they-are parts = λ b q there. (q, there, refl)
+
+-- a step that nothing came of
+pub still : (s : State) (c : Config) (n t : ℕ) (past : Past) → IsServable c → StandsAt s c n past → StandsAt (record s { steps = suc s.steps; latest = max s.latest t }) c (suc n) (arrival n t ∷ past)
+still s c n t past served st = passed s c n t nothing past 0 s.parts served (record { number = tt; puts = λ a. refl; gives = λ a. refl; sets = refl }) (λ x. refl)
+    (record { note = λ b. refl; cuts = λ b. refl; parameters = λ b. refl }) (left-as-they-are s.parts) st
+
+-- an accepted step, of a state that is known by an equation
 pub accepted-as : (s t u : State) (c : Config) (h : History) (turn : Turn) → StandsFor s c h → fault (configured_model c) h turn ≡ None → t ≡ u
     → StandsAt u c (suc (length h)) (turned (configured_model c) (length h) turn (points (configured_model c) h)) → StandsFor t c (turn ∷ h)
-accepted-as s t u c h turn st none is at = accepted s t c h turn st none (subst (λ v. StandsAt v c (suc (length h)) (turned (configured_model c) (length h) turn (points (configured_model c) h))) (sym is) at)
+accepted-as s t u c h turn st none is at = ((st.0, none), subst (λ v. StandsAt v c (suc (length h)) (turned (configured_model c) (length h) turn (points (configured_model c) h))) (sym is) at)
+
+pub still-for : (s t : State) (c : Config) (h : History) (turn : Turn) → IsServable s.config → t ≡ record s { steps = suc s.steps; latest = max s.latest turn.moment } → StandsFor s c h
+    → fault (configured_model c) h turn ≡ None → turned (configured_model c) (length h) turn (points (configured_model c) h) ≡ arrival (length h) turn.moment ∷ points (configured_model c) h → StandsFor t c (turn ∷ h)
+still-for s t c h turn served is st none quiet = accepted-as s t (record s { steps = suc s.steps; latest = max s.latest turn.moment }) c h turn st none is
+    (subst (λ past. StandsAt (record s { steps = suc s.steps; latest = max s.latest turn.moment }) c (suc (length h)) past) (sym quiet)
+    (still s c (length h) turn.moment (points (configured_model c) h) (subst IsServable st.1.is_config served) st.1))

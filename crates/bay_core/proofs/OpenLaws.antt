@@ -1,12 +1,12 @@
 -- How a bay begins: what is found by a DatSet, and what each block stands for.
-use Rattle.std.proofs.Common.{◌≡◌, ◌≢◌, ◌<◌, ℕ, Bool, true, false, cond, ◌&&◌, List, [], ◌∷◌, ◌++◌, map, length, Option, Some, unwrap_or, refl, ap, ap₂, sym, ◌∙◌, subst, arith}
+use Rattle.std.proofs.Common.{◌≡◌, ◌≢◌, ◌<◌, ◌≤◌, ℕ, Bool, true, false, cond, ◌&&◌, List, [], ◌∷◌, ◌++◌, map, length, Option, None, Some, unwrap_or, refl, ap, ap₂, sym, ◌∙◌, subst, arith}
 use Rattle.std.specs.Prelude.{slice_get, slice_index_or}
 use Rattle.std.specs.Option.{option_map}
 use Rattle.std.specs.List.{All}
 use Rattle.std.specs.Str.{bytes_eq}
 use Rattle.std.proofs.lemmas.Bool.Decides.{Decides-eqb}
-use Rattle.std.proofs.lemmas.List.{append-nil}
-use Rattle.std.proofs.lemmas.List.Elements.{All-map, All-head, All-tail, All-nil}
+use Rattle.std.proofs.lemmas.List.{append-nil, length-map}
+use Rattle.std.proofs.lemmas.List.Elements.{All-map, All-head, All-tail}
 use Rattle.std.proofs.lemmas.Option.{slice_get-map}
 use Rattle.std.proofs.lemmas.Slice.Eq.{bytes_eq-Decides}
 use Rattle.list_laws.proofs.Places.{got-map}
@@ -17,22 +17,23 @@ use Rattle.bay_model.specs.declared.tables.NodeRow.{NodeRow}
 use Rattle.bay_model.specs.declared.tables.SetRow.{SetRow}
 use Rattle.bay_model.specs.Configured.{block_defined}
 use Rattle.bay_model.specs.Lookups.{block_of, no_parameters, reference_of}
-use Rattle.bay_model.specs.Model.{Model, Block, DataSet}
+use Rattle.bay_model.specs.Model.{Block, DataSet}
 use Rattle.bay_model.specs.Named.{configured_model}
 use Rattle.bay_model.specs.Sets.{set_referred}
 use Rattle.object_model.specs.Nodes.{node_rows}
 use Rattle.object_model.specs.Tables.{node_id, set_row, set_rows}
 use Rattle.object_model.proofs.TableLaws.{count-rows}
-use Rattle.data_sets.specs.Booked.{shapes_of, AreThere, AllThere}
+use Rattle.data_sets.specs.Booked.{shape_of, shapes_of, AreThere, AllThere}
 use Rattle.brcb_state.specs.Changes.{configured}
-use Rattle.brcb_state.specs.Standing.{Stands as BlockStands}
-use Rattle.entry_ring.specs.Standing.{Holds, empty}
-use Rattle.entry_ring.proofs.HoldLaws.{holds-opened}
-use Rattle.bay_core.specs.declared.part.Part.{Part}
+use Rattle.entry_ring.specs.Standing.{empty}
+use Rattle.window_core.specs.Windows.{Windowed, empty as empty_window}
+use Rattle.report_block.proofs.StandLaws.{opened}
+use Rattle.bay_core.proofs.ServedLaws.{served-few}
+use Rattle.report_block.specs.declared.block.ReportBlock.{ReportBlock}
 use Rattle.bay_core.specs.Opened.{is_referred, row_referred, nodes_referred, PartSeen, seen, part_defined}
 use Rattle.bay_config.specs.Servable.{IsServable}
 use Rattle.bay_core.specs.State.{served_members}
-use Rattle.bay_core.specs.Standing.{PartStands, PartsStand, IsReadable}
+use Rattle.bay_core.specs.Standing.{PartsStand}
 
 -- ---- references
 
@@ -78,6 +79,20 @@ referred-there c table reference row found rows served tables is nodes all =
     let there = found-has (λ (r : SetRow). AreThere (length (node_rows c)) r.nodes) reference table (subst (AllThere (length (node_rows c))) (sym tables) (sets-there c served)) row is in
     subst (AreThere (length rows)) (sym nodes) (subst (λ (l : List NodeRow). AreThere (length l) row.nodes) (sym all) there)
 
+abbrev IsFew : SetRow → Type 0
+IsFew r = length r.nodes ≤ 256
+
+-- a reference names a data set of few members
+pub referred-few : (c : Config) (reference : List ℕ) → IsServable c → length (shapes_of (node_rows c) (nodes_referred reference (set_rows c))) ≤ 256
+referred-few c reference served = by (row_referred reference (set_rows c)) refl
+  where
+    all : All IsFew (set_rows c)
+    all = All-map IsFew set_row (configured_model c).sets (λ k d below. omega (arith, length-map (slice_index_or (configured_model c).sets k d).nodes node_id, (served.sets k d below).few))
+
+    by : (o : Option SetRow) → row_referred reference (set_rows c) ≡ o → length (shapes_of (node_rows c) (unwrap_or (option_map (λ (r : SetRow). r.nodes) o) [])) ≤ 256
+    by None is = omega arith
+    by (Some row) is = omega (arith, length-map row.nodes (shape_of (node_rows c)), found-has IsFew reference (set_rows c) all row is)
+
 -- the nodes of a row's data set are those of the model's
 pub nodes-by : (t : Bool) (s : DataSet) (other : Option DataSet) (others : Option SetRow)
     → map node_id (unwrap_or (option_map (λ (s : DataSet). s.nodes) other) []) ≡ unwrap_or (option_map (λ (r : SetRow). r.nodes) others) []
@@ -110,32 +125,27 @@ members-defined c b def is = members-by c (block_of (configured_model c) b) def 
 -- ---- the parts
 
 -- the part of a number is that of the block of this number
-pub part-at : (c : Config) (parts : List Part) → map seen parts ≡ map (part_defined c) c.blocks → (b : ℕ) (part : Part) → slice_get parts b ≡ Some part
+pub part-at : (c : Config) (parts : List ReportBlock) → map seen parts ≡ map (part_defined c) c.blocks → (b : ℕ) (part : ReportBlock) → slice_get parts b ≡ Some part
     → (def : BlockDef) × (slice_get c.blocks b ≡ Some def) × (part_defined c def ≡ seen part)
 part-at c parts are b part at = got-map (part_defined c) c.blocks b (seen part) (ap (λ l. slice_get l b) (sym are) ∙ (slice_get-map seen parts b ∙ ap (option_map seen) at))
 
-pub parts-members : (c : Config) (parts : List Part) → map seen parts ≡ map (part_defined c) c.blocks → (b : ℕ) (part : Part) → slice_get parts b ≡ Some part → part.members.items ≡ served_members c b
+pub parts-members : (c : Config) (parts : List ReportBlock) → map seen parts ≡ map (part_defined c) c.blocks → (b : ℕ) (part : ReportBlock) → slice_get parts b ≡ Some part → part.members.items ≡ served_members c b
 parts-members c parts are b part at =
     let known = part-at c parts are b part at in
     ap (λ (s : PartSeen). s.members) (sym known.2) ∙ sym (members-defined c b known.0 known.1)
 
-block-opened : (m : Model) (b : ℕ) → BlockStands (configured (block_of m b)) m b []
-block-opened m b = record { reference = refl; options = refl; revision = refl; enabler = refl; cursor = refl; count = refl }
+pub parts-windows : (c : Config) → IsServable c → (parts : List ReportBlock) → map seen parts ≡ map (part_defined c) c.blocks → (b : ℕ) (part : ReportBlock) → slice_get parts b ≡ Some part → part.window.members ≤ 256
+parts-windows c served parts are b part at =
+    let known = part-at c parts are b part at in
+    omega (arith, ap (λ (s : PartSeen). s.window.members) known.2, ap length (members-defined c b known.0 known.1), served-few c served b)
 
--- a part as it is defined stands for no step
-part-opened : (m : Model) (b : ℕ) (part : Part) → part.block ≡ configured (block_of m b) → part.ring ≡ empty (block_of m b).capacity → PartStands m b [] part
-part-opened m b part block ring = record {
-  block = subst (λ s. BlockStands s m b []) (sym block) (block-opened m b);
-  ring = subst (λ r. Holds r m b []) (sym ring) (holds-opened m b);
-  initial = refl;
-  gathered = refl;
-  readable = All-nil IsReadable;
-}
-
-pub parts-stand : (c : Config) (parts : List Part) → map seen parts ≡ map (part_defined c) c.blocks → PartsStand (configured_model c) [] parts
+pub parts-stand : (c : Config) (parts : List ReportBlock) → map seen parts ≡ map (part_defined c) c.blocks → PartsStand (configured_model c) [] parts
 parts-stand c parts are = λ b part at.
     let known = part-at c parts are b part at in
     let is = block-defined c b known.0 known.1 in
-    part-opened (configured_model c) b part
-    (ap (λ (s : PartSeen). s.block) (sym known.2) ∙ ap configured (sym is))
-    (ap (λ (s : PartSeen). s.ring) (sym known.2) ∙ ap (λ (k : Block). empty k.capacity) (sym is))
+    record {
+      stands = opened (configured_model c) b part (ap (λ (s : PartSeen). s.block) (sym known.2) ∙ ap configured (sym is)) (ap (λ (s : PartSeen). s.ring) (sym known.2) ∙ ap (λ (k : Block). empty k.capacity) (sym is))
+          (ap (λ (w : Windowed). record w { members = part.window.members }) (ap (λ (s : PartSeen). s.window) (sym known.2)) ∙ ap (λ (k : Block). empty_window part.window.members k.initial.buf_tm) (sym is))
+          (ap (λ (s : PartSeen). s.origin) (sym known.2));
+      initial = refl;
+    }

@@ -17,7 +17,7 @@ use Rattle.object_model.specs.Tables.{node_id}
 use Rattle.object_model.proofs.TableLaws.{count-rows, rows-are-nodes}
 use Rattle.data_sets.specs.Booked.{HasNumber, no_row, node_numbers, shape_of}
 use Rattle.data_sets.proofs.SetLaws.{numbers_of_shapes}
-use Rattle.bay_core.specs.Again.{AreNodes}
+use Rattle.report_block.specs.Again.{AreNodes}
 use Rattle.bay_config.specs.Servable.{IsServable, IsMember}
 use Rattle.bay_core.proofs.ShapeLaws.{served-set, members-same}
 use Rattle.bay_core.specs.State.{served_members}

@@ -1,6 +1,7 @@
 -- A bay after a Take.
-use Rattle.std.proofs.Common.{◌≡◌, ℕ, suc, max, true, List, ◌∷◌, Option, None, Some, length, refl, ap, arith, ◌∙◌, sym, subst, slice_set}
-use Rattle.std.specs.Prelude.{slice_get, ◌==◌}
+use Rattle.std.proofs.Common.{◌≡◌, ℕ, suc, max, true, List, ◌∷◌, Option, None, Some, length, refl, ap, arith, ◌∙◌, sym, subst, slice_set, inl, inr}
+use Rattle.std.specs.Prelude.{slice_get, ◌==◌, if◌then◌else◌}
+use Rattle.list_laws.proofs.Places.{got-set, same-number, other-number}
 use Rattle.std.specs.Option.{option_map}
 use Rattle.std.proofs.lemmas.List.{length-map}
 use Rattle.std.proofs.lemmas.Bool.Decides.{nat_tests}
@@ -20,43 +21,42 @@ use Rattle.bay_model.specs.Configured.{block_defined}
 use Rattle.bay_model.specs.Model.{Model}
 use Rattle.bay_model.specs.Named.{configured_model}
 use Rattle.bay_model.specs.Notes.{Kept}
-use Rattle.bay_model.specs.Points.{Point, Past, reported, nothing}
+use Rattle.bay_model.specs.Points.{Past, reported, nothing}
 use Rattle.bay_model.specs.Singles.{arrival}
 use Rattle.bay_model.specs.Takes.{Given, taken}
 use Rattle.assoc_table.specs.declared.waiting.Ends.{Ends}
 use Rattle.assoc_table.specs.Seats.{Row}
 use Rattle.assoc_table.specs.Standing.{Stands as AssociationsStand, ends_of}
 use Rattle.assoc_table.specs.Tables.{IsNumber, row_of}
-use Rattle.assoc_table.proofs.StandLaws.{stands-other}
-use Rattle.bay_core.specs.declared.part.Part.{Part}
-use Rattle.bay_core.specs.Again.{AreKept}
-use Rattle.bay_core.specs.Offers.{Offered, first_offered}
-use Rattle.bay_core.specs.Parting.{reported_by}
-use Rattle.bay_core.specs.Reporting.{report_by}
+use Rattle.report_block.specs.declared.block.ReportBlock.{ReportBlock}
+use Rattle.report_block.specs.Again.{AreKept}
+use Rattle.report_block.specs.Offers.{Offered, first_offered}
+use Rattle.report_block.specs.Writes.{reported_by}
+use Rattle.window_core.specs.Points.{at}
+use Rattle.brcb_state.specs.Changes.{after_report}
+use Rattle.report_block.specs.Reporting.{report_by}
 use Rattle.bay_config.specs.Servable.{IsServable}
 use Rattle.bay_core.specs.Standing.{StandsAt, StandsFor}
 use Rattle.bay_core.specs.State.{State, served_members}
-use Rattle.bay_core.proofs.MoveLaws.{moved, accepted-as, values-same, waits-none}
-use Rattle.bay_core.proofs.QuietLaws.{at_once-served}
-use Rattle.bay_core.proofs.ReportedLaws.{stands-reported}
+use Rattle.bay_core.proofs.MoveLaws.{passed, still, accepted-as}
+use Rattle.bay_core.proofs.PartLaws.{AreLeft, parts-arrive}
 use Rattle.bay_core.proofs.ServedLaws.{served-now}
-use Rattle.bay_core.proofs.StillLaws.{still}
 use Rattle.bay_core.proofs.TakeLaws.{none, given, closed}
 
-abbrev pub reporting : (n t a b id : ℕ) → Point
-reporting n t a b id = record { moment = t; step = n; deed = reported a b id }
-
 -- after the report of an entry of block b
-pub reported-at : (s : State) (c : Config) (n t a b id : ℕ) (part : Part) (past : Past) → IsServable c → slice_get s.parts b ≡ Some part → StandsAt s c n past
-    → StandsAt (record s { steps = suc s.steps; latest = max s.latest t; parts = slice_set s.parts b (reported_by id part) }) c (suc n) (reporting n t a b id ∷ past)
-reported-at s c n t a b id part past served there st = moved s (record s { steps = suc s.steps; latest = max s.latest t; parts = slice_set s.parts b (reported_by id part) }) c n (reporting n t a b id) past st refl refl refl
-    (values-same s.stored (configured_model c) (reporting n t a b id) past (λ x. refl) st.values)
-    (stands-other (configured_model c) (reporting n t a b id) past s.rows st.associations tt (λ e. refl))
-    (λ k. waits-none (configured_model c) k (reporting n t a b id) past (st.empty k) refl refl) refl
-    (stands-reported (configured_model c) a n t id past b part s.parts (λ k. at_once-served c k served) st.blocks there)
+pub reported-at : (s : State) (c : Config) (n t a b id : ℕ) (part : ReportBlock) (past : Past) → IsServable c → slice_get s.parts b ≡ Some part → StandsAt s c n past
+    → StandsAt (record s { steps = suc s.steps; latest = max s.latest t; parts = slice_set s.parts b (reported_by id part) }) c (suc n) (at n t (reported a b id) ∷ past)
+reported-at s c n t a b id part past served there st = passed s c n t (reported a b id) past 0 (slice_set s.parts b (reported_by id part)) served
+    (record { number = tt; puts = λ k. refl; gives = λ k. refl; sets = refl }) (λ x. refl) (record { note = λ k. refl; cuts = λ k. refl; parameters = λ k. refl }) left st
+  where
+    left : AreLeft (reported a b id) s.parts (slice_set s.parts b (reported_by id part))
+    left = λ k q got. elim (got-set s.parts b k (reported_by id part) q got) [
+      | inl i ↦ (part, ap (slice_get s.parts) i.0 ∙ there, ap (λ u. record part { block = if u then after_report id part.block else part.block }) (ap (λ j. b == j) i.0 ∙ same-number b) ∙ sym i.1)
+      | inr i ↦ (q, i.1, ap (λ u. record q { block = if u then after_report id q.block else q.block }) (other-number b k i.0))
+    ]
 
 -- a place has one element
-pub same-part : (parts : List Part) (b : ℕ) (x y : Part) → slice_get parts b ≡ Some x → slice_get parts b ≡ Some y → x ≡ y
+pub same-part : (parts : List ReportBlock) (b : ℕ) (x y : ReportBlock) → slice_get parts b ≡ Some x → slice_get parts b ≡ Some y → x ≡ y
 same-part parts b x y one other = cc
 
 -- ---- who takes for an association
@@ -118,15 +118,15 @@ module _ (s new : State) (c : Config) (h : History) (t : ℕ) (actor : ActorNo) 
       → length s.parts ≡ length c.blocks → first_offered a 0 s.parts ≡ None → IsDone answers.Empty
   empty-for w is writer same all nothing_left =
       let e = writer-told m s.rows past a.0 w st.1.associations number writer in
-      nothing-came answers.Empty is (writer-may w writer same) (none m a (length h) t past s.parts (λ b. at_once-served c b served) (count all) st.1.blocks e.0 nothing_left e.1 (st.1.empty a.0))
+      nothing-came answers.Empty is (writer-may w writer same) (none m a (length h) t past s.parts (count all) (parts-arrive c (length h) t past s.parts served st.1.blocks) e.0 nothing_left e.1 (st.1.empty a.0))
 
-  pub given-for : (w : ActorNo) (o : Offered) (part : Part) (r : Report) → new ≡ record s { steps = suc s.steps; latest = max s.latest t; parts = slice_set s.parts o.block (reported_by o.next.id part) }
+  pub given-for : (w : ActorNo) (o : Offered) (part : ReportBlock) (r : Report) → new ≡ record s { steps = suc s.steps; latest = max s.latest t; parts = slice_set s.parts o.block (reported_by o.next.id part) }
       → option_map (λ (e : Ends). e.writer) (row_of s.rows a.0).ends ≡ Some w → actor.0 ≡ w.0 → length s.parts ≡ length c.blocks → first_offered a 0 s.parts ≡ Some o → slice_get s.parts o.block ≡ Some part
       → part.members.items ≡ served_members c o.block → ((ks : List Kept) → AreKept o.entry.kept ks → r ≡ report_by m part o ks) → IsDone (answers.Taken (outputs.Report r))
   given-for w o part r is writer same all first there shapes is_report =
       let e = writer-told m s.rows past a.0 w st.1.associations number writer in
       let nodes = served-now c served o.block past part.members.items shapes (st.1.blocks o.block part there).initial st.1.sets in
-      let came = given m a (length h) t past s.parts (λ b. at_once-served c b served) (count all) st.1.blocks e.0 o part r first e.1 (st.1.empty a.0) there nodes is_report in
+      let came = given m a (length h) t past s.parts (count all) (parts-arrive c (length h) t past s.parts served st.1.blocks) e.0 o part r first e.1 (st.1.empty a.0) there nodes is_report in
       let after : State = record s { steps = suc s.steps; latest = max s.latest t; parts = slice_set s.parts o.block (reported_by o.next.id part) } in (
         sym (ap (λ (g : Given). g.answer) came),
         accepted-as s new after c h turn st (writer-may w writer same) is

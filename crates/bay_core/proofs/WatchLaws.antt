@@ -18,10 +18,11 @@ use Rattle.touch_index.specs.declared.touch.Touch.{Touch}
 use Rattle.touch_index.specs.Indexed.{none, block_at, touches_from, with_members, with_room}
 use Rattle.touch_index.specs.Gathered.{IsSetOf}
 use Rattle.touch_index.specs.Gathering.{Gathered, no_note, no_trg, note_at, trg_at, with_items, AreEmpty}
-use Rattle.bay_core.specs.declared.part.Part.{Part}
+use Rattle.report_block.specs.declared.block.ReportBlock.{ReportBlock}
 use Rattle.bay_core.specs.declared.watch.Watch.{Watch}
-use Rattle.bay_core.specs.EntryOctets.{IsKeepable}
-use Rattle.bay_core.specs.Events.{with_note, mentions_of, IsReady}
+use Rattle.report_block.specs.EntryOctets.{IsKeepable}
+use Rattle.report_block.specs.Events.{with_note}
+use Rattle.bay_core.specs.Events.{mentions_of, IsReady}
 use Rattle.bay_core.specs.Watched.{IsIndexed, IsWatching, AreBlank, IsNoteOf, options_in}
 use Rattle.bay_core.proofs.MentionLaws.{noted-keepable, length-noted}
 
@@ -47,16 +48,16 @@ mapped f [] (y ∷ ys) count at = absurd (omega (arith, count))
 mapped f (x ∷ xs) [] count at = absurd (omega (arith, count))
 mapped f (x ∷ xs) (y ∷ ys) count at = ap₂ (λ a rest. a ∷ rest) (some-same y (f x) (at 0 x refl)) (mapped f xs ys (omega (arith, count)) (λ i z h. at (suc i) z h))
 
-pub part-there : (parts : List Part) (b : ℕ) → b < length parts → (part : Part) × (slice_get parts b ≡ Some part)
+pub part-there : (parts : List ReportBlock) (b : ℕ) → b < length parts → (part : ReportBlock) × (slice_get parts b ≡ Some part)
 part-there [] b below = absurd (omega (arith, below))
 part-there (p ∷ parts) zero below = (p, refl)
 part-there (p ∷ parts) (suc b) below = part-there parts b (omega (arith, below))
 
 -- ---- the trigger options of a block
 
-pub option-at : (parts : List Part) (b : ℕ) (part : Part) → slice_get parts b ≡ Some part → trg_at (options_in parts) b ≡ trg_of part.block.options.trg_ops
+pub option-at : (parts : List ReportBlock) (b : ℕ) (part : ReportBlock) → slice_get parts b ≡ Some part → trg_at (options_in parts) b ≡ trg_of part.block.options.trg_ops
 option-at [] b part at = cc
-option-at (p ∷ parts) zero part at = ap (λ (q : Part). trg_of q.block.options.trg_ops) (some-same p part at)
+option-at (p ∷ parts) zero part at = ap (λ (q : ReportBlock). trg_of q.block.options.trg_ops) (some-same p part at)
 option-at (p ∷ parts) (suc b) part at = option-at parts b part at
 
 -- ---- the index
@@ -101,48 +102,48 @@ blank-new n g is = subst (λ (l : List (Filled Mention)). AreBlank n (record { n
 
 -- ---- parts that keep their data sets and their options
 
-pub watching-map : (n : ℕ) (parts : List Part) (w : Watch) (f : Part → Part) → ((p : Part) → (f p).members ≡ p.members) → ((p : Part) → (f p).block.options ≡ p.block.options) → IsWatching n parts w → IsWatching n (map f parts) w
+pub watching-map : (n : ℕ) (parts : List ReportBlock) (w : Watch) (f : ReportBlock → ReportBlock) → ((p : ReportBlock) → (f p).members ≡ p.members) → ((p : ReportBlock) → (f p).block.options ≡ p.block.options) → IsWatching n parts w → IsWatching n (map f parts) w
 watching-map n parts w f same options is = record {
   index = record {
     attrs = is.index.attrs;
     count = is.index.count ∙ sym (length-map parts f);
     touches = λ b part at. (let was = got-map f parts b part at in
-        subst (λ (p : Part). IsSetOf w.index.blocks b p.members.items) was.2 (subst (λ (l : List MemberShape). IsSetOf w.index.blocks b l) (sym (ap (λ v. v.items) (same was.0))) (is.index.touches b was.0 was.1)));
+        subst (λ (p : ReportBlock). IsSetOf w.index.blocks b p.members.items) was.2 (subst (λ (l : List MemberShape). IsSetOf w.index.blocks b l) (sym (ap (λ v. v.items) (same was.0))) (is.index.touches b was.0 was.1)));
   };
   options = is.options ∙ alike parts;
   notes = subst (λ k. AreBlank k w.notes) (sym (length-map parts f)) is.notes;
 } where
-  alike : (ps : List Part) → options_in ps ≡ options_in (map f ps)
+  alike : (ps : List ReportBlock) → options_in ps ≡ options_in (map f ps)
   alike [] = refl
   alike (p ∷ ps) = ap₂ (λ (t : Trg) (ts : List Trg). t ∷ ts) (ap (λ o. trg_of o.trg_ops) (sym (options p))) (alike ps)
 
 -- one part, whose options may be others
-pub watching-set : (n : ℕ) (parts : List Part) (w v : Watch) (i : ℕ) (x y : Part) → slice_get parts i ≡ Some x → y.members ≡ x.members → v.index ≡ w.index → v.notes ≡ w.notes
+pub watching-set : (n : ℕ) (parts : List ReportBlock) (w v : Watch) (i : ℕ) (x y : ReportBlock) → slice_get parts i ≡ Some x → y.members ≡ x.members → v.index ≡ w.index → v.notes ≡ w.notes
     → v.options.items ≡ slice_set w.options.items i (trg_of y.block.options.trg_ops) → IsWatching n parts w → IsWatching n (slice_set parts i y) v
 watching-set n parts w v i x y there same index notes options is = record {
   index = subst (IsIndexed n (slice_set parts i y)) (sym index) (record {
     attrs = is.index.attrs;
     count = is.index.count ∙ sym (length-set parts i y);
     touches = λ b part at. elim (got-set parts i b y part at) [
-      | inl e ↦ subst (λ (l : List MemberShape). IsSetOf w.index.blocks b l) (sym (ap (λ (p : Part). p.members.items) e.1 ∙ ap (λ m. m.items) same)) (is.index.touches b x (ap (slice_get parts) e.0 ∙ there))
+      | inl e ↦ subst (λ (l : List MemberShape). IsSetOf w.index.blocks b l) (sym (ap (λ (p : ReportBlock). p.members.items) e.1 ∙ ap (λ m. m.items) same)) (is.index.touches b x (ap (slice_get parts) e.0 ∙ there))
       | inr e ↦ is.index.touches b part e.1
     ];
   });
-  options = options ∙ (ap (λ l. slice_set l i (trg_of y.block.options.trg_ops)) is.options ∙ sym (map-set (λ (p : Part). trg_of p.block.options.trg_ops) parts i y));
+  options = options ∙ (ap (λ l. slice_set l i (trg_of y.block.options.trg_ops)) is.options ∙ sym (map-set (λ (p : ReportBlock). trg_of p.block.options.trg_ops) parts i y));
   notes = subst (AreBlank (length (slice_set parts i y))) (sym notes) (subst (λ k. AreBlank k w.notes) (sym (length-set parts i y)) is.notes);
 }
 
-pub watching-same : (n : ℕ) (parts : List Part) (w : Watch) (i : ℕ) (x y : Part) → slice_get parts i ≡ Some x → y.members ≡ x.members → y.block.options ≡ x.block.options → IsWatching n parts w → IsWatching n (slice_set parts i y) w
+pub watching-same : (n : ℕ) (parts : List ReportBlock) (w : Watch) (i : ℕ) (x y : ReportBlock) → slice_get parts i ≡ Some x → y.members ≡ x.members → y.block.options ≡ x.block.options → IsWatching n parts w → IsWatching n (slice_set parts i y) w
 watching-same n parts w i x y there same options is = record {
   index = record {
     attrs = is.index.attrs;
     count = is.index.count ∙ sym (length-set parts i y);
     touches = λ b part at. elim (got-set parts i b y part at) [
-      | inl e ↦ subst (λ (l : List MemberShape). IsSetOf w.index.blocks b l) (sym (ap (λ (p : Part). p.members.items) e.1 ∙ ap (λ m. m.items) same)) (is.index.touches b x (ap (slice_get parts) e.0 ∙ there))
+      | inl e ↦ subst (λ (l : List MemberShape). IsSetOf w.index.blocks b l) (sym (ap (λ (p : ReportBlock). p.members.items) e.1 ∙ ap (λ m. m.items) same)) (is.index.touches b x (ap (slice_get parts) e.0 ∙ there))
       | inr e ↦ is.index.touches b part e.1
     ];
   };
-  options = is.options ∙ sym (map-set (λ (p : Part). trg_of p.block.options.trg_ops) parts i y
+  options = is.options ∙ sym (map-set (λ (p : ReportBlock). trg_of p.block.options.trg_ops) parts i y
       ∙ (ap (slice_set (options_in parts) i) (ap (λ o. trg_of o.trg_ops) options ∙ sym (option-at parts i x there)) ∙ set-get_or (options_in parts) i no_trg));
   notes = subst (λ k. AreBlank k w.notes) (sym (length-set parts i y)) is.notes;
 }
@@ -150,16 +151,16 @@ watching-same n parts w i x y there same options is = record {
 -- ---- the notes of a point
 
 -- the note that a walk over the touches made of each part is the one of the definition
-pub made : (n : ℕ) (parts : List Part) (w : Watch) (trgs : List Trg) (changes : List Change) (notes : List (Filled Mention)) → IsWatching n parts w → trgs ≡ w.options.items
+pub made : (n : ℕ) (parts : List ReportBlock) (w : Watch) (trgs : List Trg) (changes : List Change) (notes : List (Filled Mention)) → IsWatching n parts w → trgs ≡ w.options.items
     → ((b : ℕ) (ms : List MemberShape) → b < length w.index.blocks → IsSetOf w.index.blocks b ms → (note_at notes b).items ≡ noted changes (trg_at trgs b) 1 ms)
-    → (b : ℕ) (part : Part) → slice_get parts b ≡ Some part → (note_at notes b).items ≡ mentions_of changes part
+    → (b : ℕ) (part : ReportBlock) → slice_get parts b ≡ Some part → (note_at notes b).items ≡ mentions_of changes part
 made n parts w trgs changes notes is same gathered b part at =
     let below = slice_get_within parts b part at in
     let used = ap (λ (l : List Trg). trg_at l b) (same ∙ is.options) ∙ option-at parts b part at in
     gathered b part.members.items (omega (arith, below, is.index.count)) (is.index.touches b part at) ∙ ap (λ (g : Trg). noted changes g 1 part.members.items) used
 
 -- the note of a part whose data set the index has
-pub note-of : (stored : List Stored) (changes : List Change) (part : Part) (note : List Mention) → IsReady stored part → note ≡ mentions_of changes part → IsNoteOf stored part note
+pub note-of : (stored : List Stored) (changes : List Change) (part : ReportBlock) (note : List Mention) → IsReady stored part → note ≡ mentions_of changes part → IsNoteOf stored part note
 note-of stored changes part note ready is =
     let trg = trg_of part.block.options.trg_ops in
     subst (IsNoteOf stored part) (sym is) (record {
@@ -169,15 +170,15 @@ note-of stored changes part note ready is =
 
 module _ (stored : List Stored) (moment step : ℕ) where
   -- part k, with what is left of its note, is to become this
-  abbrev pub Left : List Part → List (Filled Mention) → ℕ → Part → Type 0
-  Left parts notes k target = (now : Part) × (slice_get parts k ≡ Some now) × IsNoteOf stored now (note_at notes k).items × (with_note stored moment step now (note_at notes k).items ≡ target)
+  abbrev pub Left : List ReportBlock → List (Filled Mention) → ℕ → ReportBlock → Type 0
+  Left parts notes k target = (now : ReportBlock) × (slice_get parts k ≡ Some now) × IsNoteOf stored now (note_at notes k).items × (with_note stored moment step (note_at notes k).items now ≡ target)
 
   -- the note of part b was kept
-  pub left-next : (parts : List Part) (notes : List (Filled Mention)) (b : ℕ) (part : Part) (k : ℕ) (target : Part) → slice_get parts b ≡ Some part → b < length notes
-      → Left parts notes k target → Left (slice_set parts b (with_note stored moment step part (note_at notes b).items)) (with_items b [] notes) k target
+  pub left-next : (parts : List ReportBlock) (notes : List (Filled Mention)) (b : ℕ) (part : ReportBlock) (k : ℕ) (target : ReportBlock) → slice_get parts b ≡ Some part → b < length notes
+      → Left parts notes k target → Left (slice_set parts b (with_note stored moment step (note_at notes b).items part)) (with_items b [] notes) k target
   left-next parts notes b part k target at below was = by (cases_eq k b) where
-    after : Part
-    after = with_note stored moment step part (note_at notes b).items
+    after : ReportBlock
+    after = with_note stored moment step (note_at notes b).items part
 
     by : (k ≡ b) ⊎ (k ≢ b) → Left (slice_set parts b after) (with_items b [] notes) k target
     by (inl e) =
@@ -186,18 +187,18 @@ module _ (stored : List Stored) (moment step : ℕ) where
           after,
           ap (slice_get (slice_set parts b after)) e ∙ got-here parts b part after at,
           subst (IsNoteOf stored after) (sym none) (record { members = All-nil (IsKeepable stored after.members.items); few = omega arith }),
-          ap (with_note stored moment step after) none ∙ (ap₂ (λ (p : Part) j. with_note stored moment step p (note_at notes j).items) same (sym e) ∙ was.3),
+          ap (λ ms. with_note stored moment step ms after) none ∙ (ap₂ (λ (p : ReportBlock) j. with_note stored moment step (note_at notes j).items p) same (sym e) ∙ was.3),
         )
     by (inr e) =
         let same : (note_at (with_items b [] notes) k).items ≡ (note_at notes k).items = ap (λ (f : Filled Mention). f.items) (get_or-set_other notes b k (record { items = []; room = (note_at notes b).room }) no_note e) in (
           was.0,
           got-there parts b k was.0 after e was.1,
           subst (IsNoteOf stored was.0) (sym same) was.2,
-          ap (with_note stored moment step was.0) same ∙ was.3,
+          ap (λ ms. with_note stored moment step ms was.0) same ∙ was.3,
         )
 
-  pub left-none : (parts : List Part) (notes : List (Filled Mention)) (k : ℕ) (target : Part) → AreEmpty notes → k < length notes → Left parts notes k target → slice_get parts k ≡ Some target
-  left-none parts notes k target empty below was = was.1 ∙ ap Some (sym (ap (with_note stored moment step was.0) (empty k no_note below)) ∙ was.3)
+  pub left-none : (parts : List ReportBlock) (notes : List (Filled Mention)) (k : ℕ) (target : ReportBlock) → AreEmpty notes → k < length notes → Left parts notes k target → slice_get parts k ≡ Some target
+  left-none parts notes k target empty below was = was.1 ∙ ap Some (sym (ap (λ ms. with_note stored moment step ms was.0) (empty k no_note below)) ∙ was.3)
 
-  pub left-first : (parts : List Part) (notes : List (Filled Mention)) (k : ℕ) (part : Part) → slice_get parts k ≡ Some part → IsNoteOf stored part (note_at notes k).items → Left parts notes k (with_note stored moment step part (note_at notes k).items)
+  pub left-first : (parts : List ReportBlock) (notes : List (Filled Mention)) (k : ℕ) (part : ReportBlock) → slice_get parts k ≡ Some part → IsNoteOf stored part (note_at notes k).items → Left parts notes k (with_note stored moment step (note_at notes k).items part)
   left-first parts notes k part at is = (part, at, is, refl)

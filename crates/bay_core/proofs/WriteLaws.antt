@@ -1,157 +1,180 @@
--- A write of RptEna, EntryID or PurgeBuf, at a block with its buffer.
-use Rattle.std.proofs.Common.{rules, ◌≡◌, ◌≢◌, ℕ, Bool, true, false, List, [], ◌∷◌, Some, Ok, refl, ap, arith, ◌∙◌, sym, subst, length, inl, inr, ap₂}
-use Rattle.std.specs.Prelude.{slice_get, slice_set, if◌then◌else◌, ◌==◌}
-use Rattle.std.proofs.lemmas.Grind.{common_steps}
+-- A write of RptEna, EntryID or PurgeBuf: the block that is written, the others, and the bay.
+use Rattle.std.proofs.Common.{rules, ◌≡◌, ◌≢◌, ◌<◌, ℕ, suc, max, Bool, true, false, List, [], ◌∷◌, Some, None, Result, Ok, Err, refl, ap, ap₂, ◌∙◌, sym, subst, length, inl, inr}
+use Rattle.std.specs.Prelude.{slice_get, slice_set, slice_index_or, if◌then◌else◌, ◌==◌}
+use Rattle.std.proofs.lemmas.List.{set-get_or}
+use Rattle.std.proofs.lemmas.Option.{get_or_from_slice_get, slice_get-get_or}
 use Rattle.list_laws.proofs.Places.{got-set, other-number}
 use Rattle.sv_base.specs.declared.config.Config.{Config}
 use Rattle.sv_base.specs.declared.numbers.AssocNo.{AssocNo}
+use Rattle.sv_base.specs.declared.numbers.BlockNo.{BlockNo}
 use Rattle.sv_base.specs.declared.value.Value.{Value}
+use Rattle.bay_model.specs.declared.answer.Answer.TheVariants as answers
 use Rattle.bay_model.specs.declared.components.Comp.{Comp}
 use Rattle.bay_model.specs.declared.components.Comp.TheVariants as comps
+use Rattle.bay_model.specs.declared.step.Step.TheVariants as steps
 use Rattle.bay_model.specs.Model.{Model}
 use Rattle.bay_model.specs.Named.{configured_model}
-use Rattle.bay_model.specs.Points.{Point, Past, wrote}
+use Rattle.bay_model.specs.Points.{Past, now, wrote}
 use Rattle.bay_model.specs.Singles.{arrival}
 use Rattle.bay_model.specs.Parameters.{parameters_at, is_interrogation, purges}
-use Rattle.bay_model.specs.Retained.{front}
+use Rattle.bay_model.specs.Breaks.{cuts}
 use Rattle.bay_model.specs.BlockWrites.{write_component}
-use Rattle.brcb_state.specs.Changes.{written, effect_of}
+use Rattle.bay_model.specs.Outcomes.{deed_of, code_of}
+use Rattle.bay_model.specs.Answers.{History, points, answer}
+use Rattle.bay_model.specs.Acceptance.{fault}
+use Rattle.brcb_state.specs.Changes.{effect_of}
 use Rattle.brcb_state.specs.Refusals.{answer_to, names_nothing, first_of, refusals}
-use Rattle.brcb_state.specs.Standing.{Stands as BlockStands, is_purging, outcome_of, after_deed, kept_at, is_known, Tells}
+use Rattle.brcb_state.specs.Standing.{Stands as AttributesStand, outcome_of, after_deed, kept_at, is_known, is_purging}
 use Rattle.brcb_state.specs.declared.block.Block.{Block}
 use Rattle.brcb_state.specs.declared.told.Effect.{Effect}
-use Rattle.brcb_state.proofs.WriteLaws.{stands-written}
-use Rattle.entry_ring.specs.Ringed.{after_purge}
-use Rattle.bay_core.specs.declared.part.Part.{Part}
-use Rattle.bay_core.specs.Offers.{retained_of}
-use Rattle.bay_core.specs.Parting.{write_answer, written_by}
+use Rattle.window_core.specs.Points.{at}
+use Rattle.report_block.specs.declared.block.ReportBlock.{ReportBlock}
+use Rattle.report_block.specs.Coming.{window_after}
+use Rattle.report_block.specs.Offers.{retained_of}
+use Rattle.report_block.specs.Standing.{Stands as BlockStands}
+use Rattle.report_block.specs.Writes.{write_answer, written_by, without_effect, after_write}
+use Rattle.report_block.proofs.PlainLaws.{left-alone, write-stands}
 use Rattle.bay_config.specs.Servable.{IsServable}
-use Rattle.bay_core.specs.Standing.{PartStands, PartsStand}
-use Rattle.bay_core.proofs.QuietLaws.{at_once-served, quiet-selected, quiet-front, part-quiet, part-stays}
+use Rattle.bay_core.specs.State.{State}
+use Rattle.bay_core.specs.Turns.{IsBuilt}
+use Rattle.bay_core.specs.Standing.{PartStands, PartsStand, StandsAt, StandsFor}
+use Rattle.bay_core.proofs.MoveLaws.{arrives, done, still, accepted-as}
 
--- the components that are written
-abbrev pub IsPlainComp : Comp → Type 0
-IsPlainComp comps.RptEna = Unit {0}
-IsPlainComp comps.EntryID = Unit {0}
-IsPlainComp comps.PurgeBuf = Unit {0}
-IsPlainComp _ = ⊥
-
--- the effect of an accepted write
-pub effect-told : (ts : List (Bool × ℕ)) (effect e : Effect) → first_of ts effect ≡ Ok e → e ≡ effect
-effect-told [] effect e is = cc
-effect-told ((true, code) ∷ ts) effect e is = cc
-effect-told ((false, code) ∷ ts) effect e is = effect-told ts effect e is
-
--- whether a set is known doesn't matter to these
-known-same : (m : Model) (b : ℕ) (past : Past) (comp : Comp) (v : Value) (part : Part) → IsPlainComp comp → names_nothing (retained_of part) false comp v ≡ names_nothing (retained_of part) (is_known m past v) comp v
-known-same m b past comps.RptEna v part is = refl
-known-same m b past comps.EntryID v part is = refl
-known-same m b past comps.PurgeBuf v part is = refl
-known-same m b past comps.RptID v part is = absurd is
-known-same m b past comps.DatSet v part is = absurd is
-known-same m b past comps.ConfRev v part is = absurd is
-known-same m b past comps.OptFlds v part is = absurd is
-known-same m b past comps.BufTm v part is = absurd is
-known-same m b past comps.SqNum v part is = absurd is
-known-same m b past comps.TrgOps v part is = absurd is
-known-same m b past comps.IntgPd v part is = absurd is
-known-same m b past comps.GI v part is = absurd is
-known-same m b past comps.TimeofEntry v part is = absurd is
-
-abbrev pub writing : ℕ → ℕ → AssocNo → ℕ → Comp → Value → Point
-writing n t a b comp v = record { moment = t; step = n; deed = wrote a.0 b comp v }
-
--- ---- what the block's laws say
-
-answered : (m : Model) (a : AssocNo) (b : ℕ) (comp : Comp) (v : Value) (past : Past) (s : Block) → BlockStands s m b past
-    → outcome_of (wrote a.0 b comp v) (answer_to a comp v (names_nothing (kept_at m b past) (is_known m past v) comp v) s) ≡ write_component m a.0 b comp v past
-answered m a b comp v past s st = search rules
-
-told : (m : Model) (a : AssocNo) (b : ℕ) (comp : Comp) (v : Value) (n t : ℕ) (past : Past) (s : Block) → BlockStands s m b past → Tells (effect_of comp v s) m b (writing n t a b comp v) past
-told m a b comp v n t past s st = search rules
-
-point-told : (m : Model) (k : ℕ) (p : Point) (past : Past) (s : Block) → BlockStands s m k past → BlockStands (after_deed k p.deed (front m k (p ∷ past)) s) m k (p ∷ past)
-point-told m k p past s st = grind (arith, common_steps)
-
--- ---- what a write brings besides
-
-plain-interrogation : (a b k : ℕ) (comp : Comp) (v : Value) → IsPlainComp comp → is_interrogation k (wrote a b comp v) ≡ false
-plain-interrogation a b k comps.RptEna v is = refl
-plain-interrogation a b k comps.EntryID v is = refl
-plain-interrogation a b k comps.PurgeBuf v is = refl
-plain-interrogation a b k comps.RptID v is = absurd is
-plain-interrogation a b k comps.DatSet v is = absurd is
-plain-interrogation a b k comps.ConfRev v is = absurd is
-plain-interrogation a b k comps.OptFlds v is = absurd is
-plain-interrogation a b k comps.BufTm v is = absurd is
-plain-interrogation a b k comps.SqNum v is = absurd is
-plain-interrogation a b k comps.TrgOps v is = absurd is
-plain-interrogation a b k comps.IntgPd v is = absurd is
-plain-interrogation a b k comps.GI v is = absurd is
-plain-interrogation a b k comps.TimeofEntry v is = absurd is
+-- what is so of these components: they change no parameter, are no interrogation, and it doesn't matter whether a set is known
+pub record IsPlain (m : Model) (a b : ℕ) (comp : Comp) (v : Value) : Type 0 where
+  pub interrogation : (k : ℕ) → is_interrogation k (wrote a b comp v) ≡ false
+  pub parameters : (k n t : ℕ) (past : Past) → parameters_at m k (at n t (wrote a b comp v) ∷ past) ≡ parameters_at m k past
+  pub known : (past : Past) (part : ReportBlock) → names_nothing (retained_of part) false comp v ≡ names_nothing (retained_of part) (is_known m past v) comp v
 
 either-same : {A : Type 0} (t : Bool) (x : A) → (if t then x else x) ≡ x
 either-same true x = refl
 either-same false x = refl
 
-plain-parameters : (m : Model) (a b k : ℕ) (comp : Comp) (v : Value) (n t : ℕ) (past : Past) → IsPlainComp comp
-    → parameters_at m k (record { moment = t; step = n; deed = wrote a b comp v } ∷ past) ≡ parameters_at m k past
-plain-parameters m a b k comps.RptEna v n t past is = either-same (b == k) (parameters_at m k past)
-plain-parameters m a b k comps.EntryID v n t past is = either-same (b == k) (parameters_at m k past)
-plain-parameters m a b k comps.PurgeBuf v n t past is = either-same (b == k) (parameters_at m k past)
-plain-parameters m a b k comps.RptID v n t past is = absurd is
-plain-parameters m a b k comps.DatSet v n t past is = absurd is
-plain-parameters m a b k comps.ConfRev v n t past is = absurd is
-plain-parameters m a b k comps.OptFlds v n t past is = absurd is
-plain-parameters m a b k comps.BufTm v n t past is = absurd is
-plain-parameters m a b k comps.SqNum v n t past is = absurd is
-plain-parameters m a b k comps.TrgOps v n t past is = absurd is
-plain-parameters m a b k comps.IntgPd v n t past is = absurd is
-plain-parameters m a b k comps.GI v n t past is = absurd is
-plain-parameters m a b k comps.TimeofEntry v n t past is = absurd is
+pub plain : (m : Model) (a : AssocNo) (b : BlockNo) (comp : Comp) (v : Value) → IsBuilt (steps.Write a b comp v) → IsPlain m a.0 b.0 comp v
+plain m a b comps.RptEna v is = record { interrogation = λ k. refl; parameters = λ k n t past. either-same (b.0 == k) (parameters_at m k past); known = λ past part. refl }
+plain m a b comps.EntryID v is = record { interrogation = λ k. refl; parameters = λ k n t past. either-same (b.0 == k) (parameters_at m k past); known = λ past part. refl }
+plain m a b comps.PurgeBuf v is = record { interrogation = λ k. refl; parameters = λ k n t past. either-same (b.0 == k) (parameters_at m k past); known = λ past part. refl }
+plain m a b comps.RptID v is = absurd is
+plain m a b comps.DatSet v is = absurd is
+plain m a b comps.ConfRev v is = absurd is
+plain m a b comps.OptFlds v is = absurd is
+plain m a b comps.BufTm v is = absurd is
+plain m a b comps.SqNum v is = absurd is
+plain m a b comps.TrgOps v is = absurd is
+plain m a b comps.IntgPd v is = absurd is
+plain m a b comps.GI v is = absurd is
+plain m a b comps.TimeofEntry v is = absurd is
+
+-- the effect of an accepted write
+effect-told : (ts : List (Bool × ℕ)) (effect e : Effect) → first_of ts effect ≡ Ok e → e ≡ effect
+effect-told [] effect e is = cc
+effect-told ((true, code) ∷ ts) effect e is = cc
+effect-told ((false, code) ∷ ts) effect e is = effect-told ts effect e is
+
+answered : (m : Model) (a : AssocNo) (b : ℕ) (comp : Comp) (v : Value) (past : Past) (s : Block) → AttributesStand s m b past
+    → outcome_of (wrote a.0 b comp v) (answer_to a comp v (names_nothing (kept_at m b past) (is_known m past v) comp v) s) ≡ write_component m a.0 b comp v past
+answered m a b comp v past s st = search rules
 
 other-purges : (m : Model) (a b k : ℕ) (comp : Comp) (v : Value) (past : Past) → (b == k) ≡ false → purges m k (wrote a b comp v) past ≡ false
 other-purges m a b k comp v past other = search rules
 
 -- ---- the block that is written, and the others
 
-module _ (c : Config) (served : IsServable c) (n t : ℕ) (a : AssocNo) (b : ℕ) (comp : Comp) (v : Value) (plain : IsPlainComp comp) (past : Past) where
-  abbrev m : Model
-  m = configured_model c
+module _ (m : Model) (n t : ℕ) (a : AssocNo) (b : ℕ) (comp : Comp) (v : Value) (is_plain : IsPlain m a.0 b comp v) (past : Past) where
+  other-cuts : (k : ℕ) → (b == k) ≡ false → cuts m k (wrote a.0 b comp v) past ≡ false
+  other-cuts k other = rw (is_plain.interrogation k, other-purges m a.0 b k comp v past other) refl
 
-  abbrev p : Point
-  p = writing n t a b comp v
+  part-wrote : (part : ReportBlock) (e : Effect) → PartStands m b (arrival n t ∷ past) part → write_answer a comp v part ≡ Ok e
+      → PartStands m b (at n t (wrote a.0 b comp v) ∷ past) (written_by a comp v (max t (now past)) n e part)
+  part-wrote part e st is = record {
+    stands = write-stands m b t n past part a comp v e (effect-told (refusals a comp v (names_nothing (retained_of part) false comp v) part.block) (effect_of comp v part.block) e is) (is_plain.interrogation b) st.stands;
+    initial = is_plain.parameters b n t past ∙ st.initial;
+  }
 
-  -- it has written a component, and its buffer is purged where the write says so
-  pub part-wrote : (part : Part) (e : Effect) → PartStands m b past part → write_answer a comp v part ≡ Ok e → PartStands m b (p ∷ past) (written_by a comp v e part)
-  part-wrote part e st is =
-      let once = at_once-served c b served in
-      let e_is : e ≡ effect_of comp v part.block = effect-told (refusals a comp v (names_nothing (retained_of part) false comp v) part.block) (effect_of comp v part.block) e is in
-      let purge : is_purging e ≡ purges m b p.deed past = ap is_purging e_is ∙ (told m a b comp v n t past part.block st.block).purge in
-      let here : front m b (arrival n t ∷ past) ≡ part.ring.front = quiet-front m b (arrival n t) past part once st refl refl refl ∙ sym st.ring.front in
-      let block : BlockStands (written a comp v part.ring.front part.block) m b (p ∷ past) = subst (λ f. BlockStands (written a comp v f part.block) m b (p ∷ past)) here (stands-written m a b n t past comp v part.block st.block) in
-      subst (λ x. PartStands m b (p ∷ past) (record part { block = written a comp v part.ring.front part.block; ring = if x then after_purge part.ring else part.ring })) (sym purge)
-      (part-quiet m b p past part once st (written a comp v part.ring.front part.block) refl (plain-interrogation a.0 b b comp v plain) (plain-parameters m a.0 b b comp v n t past plain) block)
-
-  pub part-other : (k : ℕ) (part : Part) → k ≢ b → PartStands m k past part → PartStands m k (p ∷ past) part
+  part-other : (k : ℕ) (part : ReportBlock) → k ≢ b → PartStands m k (arrival n t ∷ past) part → PartStands m k (at n t (wrote a.0 b comp v) ∷ past) part
   part-other k part h st =
       let other = other-number b k h in
-      let same : after_deed k p.deed (front m k (p ∷ past)) part.block ≡ part.block = rw other refl in
-      part-stays m k p past part (at_once-served c k served) st part.block refl (plain-interrogation a.0 b k comp v plain) (other-purges m a.0 b k comp v past other) (plain-parameters m a.0 b k comp v n t past plain)
-      (subst (λ s. BlockStands s m k (p ∷ past)) same (point-told m k p past part.block st.block))
+      let same : after_deed k (wrote a.0 b comp v) part.ring.front part.block ≡ part.block = rw other refl in
+      record {
+        stands = subst (λ s. BlockStands (record part { block = s }) m k (at n t (wrote a.0 b comp v) ∷ past)) same (left-alone m k t n past part (wrote a.0 b comp v) refl (other-cuts k other) st.stands);
+        initial = is_plain.parameters k n t past ∙ st.initial;
+      }
 
-  pub parts-wrote : (parts : List Part) (part : Part) (e : Effect) → slice_get parts b ≡ Some part → PartsStand m past parts → write_answer a comp v part ≡ Ok e
-      → PartsStand m (p ∷ past) (slice_set parts b (written_by a comp v e part))
-  parts-wrote parts part e there st is = λ k x at. elim (got-set parts b k (written_by a comp v e part) x at) [
-    | inl i ↦ subst (λ j. PartStands m j (p ∷ past) x) (sym i.0) (subst (λ q. PartStands m b (p ∷ past) q) (sym i.1) (part-wrote part e (st b part there) is))
+  parts-wrote : (parts : List ReportBlock) (part : ReportBlock) (e : Effect) → slice_get parts b ≡ Some part → PartsStand m (arrival n t ∷ past) parts → write_answer a comp v part ≡ Ok e
+      → PartsStand m (at n t (wrote a.0 b comp v) ∷ past) (slice_set parts b (written_by a comp v (max t (now past)) n e part))
+  parts-wrote parts part e there st is = λ k x got. elim (got-set parts b k (written_by a comp v (max t (now past)) n e part) x got) [
+    | inl i ↦ subst (λ j. PartStands m j (at n t (wrote a.0 b comp v) ∷ past) x) (sym i.0) (subst (λ q. PartStands m b (at n t (wrote a.0 b comp v) ∷ past) q) (sym i.1) (part-wrote part e (st b part there) is))
     | inr i ↦ part-other k x i.0 (st k x i.1)
   ]
 
   -- what comes of the write is what the block answered
-  pub outcome-told : (part : Part) → PartStands m b past part → outcome_of (wrote a.0 b comp v) (write_answer a comp v part) ≡ write_component m a.0 b comp v (arrival n t ∷ past)
+  outcome-told : (part : ReportBlock) → PartStands m b (arrival n t ∷ past) part → outcome_of (wrote a.0 b comp v) (write_answer a comp v part) ≡ write_component m a.0 b comp v (arrival n t ∷ past)
   outcome-told part st =
-      let once = at_once-served c b served in
-      let there : BlockStands part.block m b (arrival n t ∷ past) = point-told m b (arrival n t) past part.block st.block in
-      let kept : retained_of part ≡ kept_at m b (arrival n t ∷ past) = ap₂ (λ f l. record { front = f; len = l }) (st.ring.front ∙ sym (quiet-front m b (arrival n t) past part once st refl refl refl)) (st.ring.newest ∙ ap length (sym (quiet-selected m b (arrival n t) past part once st refl refl))) in
-      let names : names_nothing (retained_of part) false comp v ≡ names_nothing (kept_at m b (arrival n t ∷ past)) (is_known m (arrival n t ∷ past) v) comp v = known-same m b (arrival n t ∷ past) comp v part plain ∙ ap (λ k. names_nothing k (is_known m (arrival n t ∷ past) v) comp v) kept in
-      ap (λ x. outcome_of (wrote a.0 b comp v) (answer_to a comp v x part.block)) names ∙ answered m a b comp v (arrival n t ∷ past) part.block there
+      let after : Past = arrival n t ∷ past in
+      let kept : retained_of part ≡ kept_at m b after = ap₂ (λ f l. record { front = f; len = l }) st.stands.ring.front st.stands.ring.newest in
+      let names : names_nothing (retained_of part) false comp v ≡ names_nothing (kept_at m b after) (is_known m after v) comp v = is_plain.known after part ∙ ap (λ k. names_nothing k (is_known m after v) comp v) kept in
+      ap (λ x. outcome_of (wrote a.0 b comp v) (answer_to a comp v x part.block)) names ∙ answered m a b comp v after part.block st.stands.block
+
+-- ---- the bay
+
+-- the state behind a write that was answered so
+abbrev pub behind : State → ℕ → ℕ → ReportBlock → State
+behind s t b part = record s { steps = suc s.steps; latest = max s.latest t; parts = slice_set s.parts b part }
+
+unchanged : (parts : List ReportBlock) (b : ℕ) (part : ReportBlock) → slice_get parts b ≡ Some part → slice_set parts b part ≡ parts
+unchanged parts b part there = ap (slice_set parts b) (sym (get_or_from_slice_get parts b part part there)) ∙ set-get_or parts b part
+
+module _ (s : State) (c : Config) (served : IsServable c) (n t : ℕ) (a : AssocNo) (b : ℕ) (comp : Comp) (v : Value) (is_plain : IsPlain (configured_model c) a.0 b comp v) (past : Past) (part : ReportBlock) (there : slice_get s.parts b ≡ Some part)
+    (st : StandsAt s c n past) where
+  here : StandsAt (record s { latest = max s.latest t }) c n (arrival n t ∷ past)
+  here = arrives s c n t past served st
+
+  wrote-at : (e : Effect) → write_answer a comp v part ≡ Ok e → StandsAt (behind s t b (written_by a comp v (max s.latest t) s.steps e part)) c (suc n) (at n t (wrote a.0 b comp v) ∷ past)
+  wrote-at e is =
+      let set = parts-wrote (configured_model c) n t a b comp v is_plain past s.parts part e there here.blocks is in
+      done (record s { latest = max s.latest t }) c n t (wrote a.0 b comp v) past 0 s.stored _ (record { number = tt; puts = λ k. refl; gives = λ k. refl; sets = refl }) st.values
+      (subst (PartsStand (configured_model c) (at n t (wrote a.0 b comp v) ∷ past)) (ap₂ (λ (now step : ℕ). slice_set s.parts b (written_by a comp v now step e part)) (sym here.is_latest) (sym st.is_steps)) set) here
+
+  refused-at : StandsAt (behind s t b part) c (suc n) (arrival n t ∷ past)
+  refused-at = subst (λ ps. StandsAt (record s { steps = suc s.steps; latest = max s.latest t; parts = ps }) c (suc n) (arrival n t ∷ past)) (sym (unchanged s.parts b part there)) (still s c n t past served st)
+
+  written-at : (r : Result Effect ℕ) → write_answer a comp v part ≡ r
+      → StandsAt (behind s t b (after_write a comp v (max s.latest t) s.steps part r)) c (suc n) (at n t (deed_of (outcome_of (wrote a.0 b comp v) r)) ∷ past)
+  written-at (Ok e) is = wrote-at e is
+  written-at (Err code) is = refused-at
+
+answered-code : (a b : ℕ) (comp : Comp) (v : Value) (r : Result Effect ℕ) → code_of (outcome_of (wrote a b comp v) r) ≡ without_effect r
+answered-code a b comp v (Ok e) = refl
+answered-code a b comp v (Err code) = refl
+
+-- a write at the end of a history
+pub wrote-for : (s u : State) (c : Config) (h : History) (t actor : ℕ) (a : AssocNo) (b : BlockNo) (comp : Comp) (v : Value) (part : ReportBlock) → IsServable c → IsBuilt (steps.Write a b comp v) → slice_get s.parts b.0 ≡ Some part
+    → StandsFor s c h → fault (configured_model c) h (record { moment = t; actor = actor; step = steps.Write a b comp v }) ≡ None
+    → u ≡ behind s t b.0 (after_write a comp v (max s.latest t) s.steps part (write_answer a comp v part))
+    → (answers.Wrote (without_effect (write_answer a comp v part)) ≡ answer (configured_model c) h (record { moment = t; actor = actor; step = steps.Write a b comp v }))
+    × StandsFor u c (record { moment = t; actor = actor; step = steps.Write a b comp v } ∷ h)
+wrote-for s u c h t actor a b comp v part served built there st none is =
+    let past : Past = points (configured_model c) h in
+    let is_plain = plain (configured_model c) a b comp v built in
+    let told = outcome-told (configured_model c) (length h) t a b.0 comp v is_plain past part ((arrives s c (length h) t past served st.1).blocks b.0 part there) in
+    let after : State = behind s t b.0 (after_write a comp v (max s.latest t) s.steps part (write_answer a comp v part)) in
+    let code = ap code_of (sym told) ∙ answered-code a.0 b.0 comp v (write_answer a comp v part) in (
+      ap answers.Wrote (sym code),
+      accepted-as s u after c h (record { moment = t; actor = actor; step = steps.Write a b comp v }) st none is
+          (subst (λ o. StandsAt after c (suc (length h)) (at (length h) t (deed_of o) ∷ past)) told (written-at s c served (length h) t a b.0 comp v is_plain past part there st.1 (write_answer a comp v part) refl)),
+    )
+
+-- the members of the data set stay, and the room of what is gathered
+pub members-stay : (a : AssocNo) (comp : Comp) (v : Value) (now step : ℕ) (part : ReportBlock) (r : Result Effect ℕ) → (after_write a comp v now step part r).members ≡ part.members
+members-stay a comp v now step part (Ok e) = refl
+members-stay a comp v now step part (Err code) = refl
+
+pub windows-stay : (a : AssocNo) (comp : Comp) (v : Value) (now step : ℕ) (part : ReportBlock) (r : Result Effect ℕ) → (after_write a comp v now step part r).window.members ≡ part.window.members
+windows-stay a comp v now step part (Err code) = refl
+windows-stay a comp v now step part (Ok e) = by (is_purging e) where
+  by : (t : Bool) → (window_after t now [] (written_by a comp v now step e part).block.options.buf_tm part.window).members ≡ part.window.members
+  by true = refl
+  by false = refl
+
+pub at-place : {A : Type 0} (xs : List A) (i : ℕ) (x : A) → i < length xs → x ≡ slice_index_or xs i x → slice_get xs i ≡ Some x
+at-place xs i x below is = slice_get-get_or xs i x below ∙ ap Some (sym is)

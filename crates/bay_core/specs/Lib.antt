@@ -7,11 +7,7 @@ pub mod Opened
 -- what the process sets, and the entries that blocks get of it
 pub mod Changed
 pub mod Marked
-pub mod EntryOctets
 pub mod Events
 pub mod Watched
--- writes, losses and reports
-pub mod Offers
+-- losses
 pub mod Parting
-pub mod Again
-pub mod Reporting

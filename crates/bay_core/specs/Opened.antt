@@ -1,6 +1,6 @@
 -- How a bay begins: each report block as it is configured, with an empty buffer and the members of the data set that its
 -- DatSet names (IEC 61850-7-2, BRCB attribute DatSet).
-use Rattle.std.specs.Prelude.{ℕ, Bool, List, [], Option, unwrap_or}
+use Rattle.std.specs.Prelude.{ℕ, Bool, List, [], Option, None, unwrap_or, length}
 use Rattle.std.specs.Option.{option_map}
 use Rattle.std.specs.List.{find}
 use Rattle.std.specs.Str.{bytes_eq}
@@ -18,7 +18,8 @@ use Rattle.brcb_state.specs.Changes.{configured}
 use Rattle.brcb_state.specs.declared.block.Block.{Block}
 use Rattle.entry_ring.specs.Ringed.{Ringed}
 use Rattle.entry_ring.specs.Standing.{empty}
-use Rattle.bay_core.specs.declared.part.Part.{Part}
+use Rattle.window_core.specs.Windows.{Windowed, empty as empty_window}
+use Rattle.report_block.specs.declared.block.ReportBlock.{ReportBlock}
 
 abbrev pub is_referred : List ℕ → SetRow → Bool
 is_referred reference r = bytes_eq reference (reference_of r.name.domain r.name.item)
@@ -31,18 +32,22 @@ row_referred reference rows = find (is_referred reference) rows
 abbrev pub nodes_referred : List ℕ → List SetRow → List NodeId
 nodes_referred reference rows = unwrap_or (option_map (λ (r : SetRow). r.nodes) (row_referred reference rows)) []
 
--- a block, its entries, and the shapes of its data set's members
+-- a block: its attributes, its entries, what it gathers, the origin of its periods, and the shapes of its data set's members
 pub record PartSeen : Type 0 where
   pub block : Block
   pub ring : Ringed
+  pub window : Windowed
+  pub origin : Option ℕ
   pub members : List MemberShape
 
-abbrev pub seen : Part → PartSeen
-seen p = record { block = p.block; ring = p.ring; members = p.members.items }
+abbrev pub seen : ReportBlock → PartSeen
+seen p = record { block = p.block; ring = p.ring; window = p.window; origin = p.origin; members = p.members.items }
 
 abbrev pub part_defined : Config → BlockDef → PartSeen
 part_defined c def = record {
   block = configured (block_defined def);
   ring = empty def.capacity;
+  window = empty_window (length (shapes_of (node_rows c) (nodes_referred def.dat_set (set_rows c)))) def.buf_tm;
+  origin = None;
   members = shapes_of (node_rows c) (nodes_referred def.dat_set (set_rows c));
 }

@@ -1,6 +1,6 @@
 -- What contracts see of a bay: its configuration, how many steps it made, the newest moment, the values of attributes, its
 -- report blocks with their buffers and the members of their data sets, and its associations.
-use Rattle.std.specs.Prelude.{◌≡◌, ◌<◌, ℕ, true, List, [], map, length, Some, slice_get}
+use Rattle.std.specs.Prelude.{◌≡◌, ◌<◌, ◌≤◌, ℕ, true, List, [], map, length, Some, slice_get}
 use Rattle.sv_base.specs.declared.config.Config.{Config}
 use Rattle.bay_rooms.specs.Rooms.{Filled}
 use Rattle.bay_model.specs.Attributes.{attributes}
@@ -15,7 +15,7 @@ use Rattle.object_model.specs.Tables.{node_id}
 use Rattle.data_sets.specs.Booked.{shapes_of}
 use Rattle.value_store.specs.Stored.{Stored, attribute}
 use Rattle.assoc_table.specs.Seats.{Row}
-use Rattle.bay_core.specs.declared.part.Part.{Part}
+use Rattle.report_block.specs.declared.block.ReportBlock.{ReportBlock}
 use Rattle.bay_core.specs.declared.watch.Watch.{Watch}
 use Rattle.bay_core.specs.Watched.{IsWatching}
 use Rattle.bay_config.specs.Servable.{IsServable, attr_type}
@@ -25,7 +25,7 @@ pub record State : Type 0 where
   pub steps : ℕ
   pub latest : ℕ
   pub stored : List Stored
-  pub parts : List Part
+  pub parts : List ReportBlock
   pub rows : List Row
 
 -- the shapes of the members of block b's data set
@@ -45,10 +45,11 @@ pub record AreHeld (c : Config) (stored : List Stored) : Type 0 where
   pub sound : (x : ℕ) → x < length stored → IsSoundCell (attribute stored x).held
 
 -- the parts fit the configuration, the index has the members of their data sets, and the room that entries need was made
-pub record IsFurnished (c : Config) (stored : List Stored) (parts : List Part) (w : Watch) (octets : Filled ℕ) : Type 0 where
+pub record IsFurnished (c : Config) (stored : List Stored) (parts : List ReportBlock) (w : Watch) (octets : Filled ℕ) : Type 0 where
   pub servable : IsServable c
   pub values : AreHeld c stored
   pub count : length parts ≡ length c.blocks
-  pub members : (b : ℕ) (part : Part) → slice_get parts b ≡ Some part → part.members.items ≡ served_members c b
+  pub members : (b : ℕ) (part : ReportBlock) → slice_get parts b ≡ Some part → part.members.items ≡ served_members c b
+  pub windows : (b : ℕ) (part : ReportBlock) → slice_get parts b ≡ Some part → part.window.members ≤ 256
   pub watch : IsWatching (length stored) parts w
   pub entry : octets.room ≡ 129024

@@ -5,18 +5,18 @@ ghost use Rattle.bay_core.specs.Parting.{after_loss_all};
 
 use crate::bay::Bay;
 use crate::fault::StepFault;
-use crate::part::Part;
 use assoc_table::Ends;
 use bay_model::Answer;
+use report_block::ReportBlock;
 use sv_base::{ActorNo, AssocNo, Moment};
 
 /// An association was lost: the blocks that it has enabled it enables no longer.
-fn lose_all(parts: &mut Vec<Part>, a: AssocNo)
+fn lose_all(parts: &mut Vec<ReportBlock>, a: AssocNo)
     ensures { parts.new.items ≡ after_loss_all a parts.old.items }
 {
     let mut place = 0;
     while place < parts.len() {
-        parts[place].block.lost(a);
+        parts[place].lost(a);
         place += 1;
     }
 }

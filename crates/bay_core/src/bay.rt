@@ -1,11 +1,11 @@
 //! A bay.
 
-use crate::part::Part;
 use crate::values::Values;
 use crate::watch::Watch;
 use assoc_table::Assocs;
 use bay_model::{Answer, Change, Fixed, Output, Report};
 use object_model::Model;
+use report_block::ReportBlock;
 use sv_base::{AssocNo, Moment};
 
 /// A bay: its configuration and all that its steps came to. Contracts see the state that `specs/` defines.
@@ -15,7 +15,7 @@ pub struct Bay {
     pub(crate) steps: u64,
     pub(crate) latest: Moment,
     pub(crate) values: Values,
-    pub(crate) parts: Vec<Part>,
+    pub(crate) parts: Vec<ReportBlock>,
     pub(crate) associations: Assocs,
     /// The members of all data sets by their attributes, with the notes of the step that is being made.
     pub(crate) watch: Watch,

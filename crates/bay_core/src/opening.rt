@@ -14,13 +14,13 @@ ghost use Rattle.bay_core.specs.Watched.{IsWatching};
 ghost use Rattle.bay_core.specs.Opened.{row_referred, nodes_referred, seen, part_defined};
 
 use crate::bay::Bay;
-use crate::part::Part;
 use crate::values::Values;
 use crate::watch::Watch;
 use assoc_table::Assocs;
 use bay_model::{Change, Fixed, MemberShape, SetRow};
 use data_sets::shapes_of;
 use object_model::Model;
+use report_block::ReportBlock;
 use std::alloc::{AllocError, Global};
 use sv_base::{BlockDef, Moment};
 
@@ -72,17 +72,17 @@ fn member_shapes(
 }
 
 /// A block with an empty buffer.
-fn part_of(alloc: Global, model: &Model, def: &BlockDef) -> Result<Part, AllocError>
+fn part_of(alloc: Global, model: &Model, def: &BlockDef) -> Result<ReportBlock, AllocError>
     requires servable { IsServable model.now }
     requires served { IsServedBlock def.now }
     ensures { IfOk result (λ p. seen p ≡ part_defined model.now def.now) }
 {
     let members = member_shapes(alloc, model, def)?;
-    Part::open(alloc, def, members)
+    ReportBlock::open(alloc, def, members)
 }
 
 /// The blocks in the order of the configuration.
-fn parts_of(alloc: Global, model: &Model) -> Result<Vec<Part>, AllocError>
+fn parts_of(alloc: Global, model: &Model) -> Result<Vec<ReportBlock>, AllocError>
     requires { IsServable model.now }
     ensures { IfOk result (λ v. map seen v.items ≡ map (part_defined model.now) model.now.blocks) }
 {
@@ -97,7 +97,7 @@ fn parts_of(alloc: Global, model: &Model) -> Result<Vec<Part>, AllocError>
 #[derive(Drop)]
 struct Made {
     values: Values,
-    parts: Vec<Part>,
+    parts: Vec<ReportBlock>,
     associations: Assocs,
     watch: Watch,
     changes: Vec<Change>,

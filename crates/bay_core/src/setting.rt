@@ -5,51 +5,23 @@ ghost use Rattle.std.specs.List.{All};
 ghost use Rattle.bay_model.specs.declared.flags.Change.{Change as ChangeValue};
 ghost use Rattle.touch_index.specs.Gathered.{AreOnce};
 ghost use Rattle.touch_index.specs.Gathering.{note_at, AreEmpty};
-ghost use Rattle.bay_core.specs.declared.part.Part.{Part as PartValue};
-ghost use Rattle.bay_core.specs.Events.{AreReady, after_events, with_note};
+ghost use Rattle.report_block.specs.declared.block.ReportBlock.{ReportBlock as PartValue};
+ghost use Rattle.report_block.specs.Events.{with_note};
+ghost use Rattle.bay_core.specs.Events.{AreReady, after_events};
 ghost use Rattle.bay_core.specs.Watched.{IsNoteOf, IsWatching, AreBlank};
 
 use crate::bay::Bay;
-use crate::entry_octets::put_note;
 use crate::fault::StepFault;
-use crate::part::Part;
 use crate::watch::Watch;
 use bay_model::{Answer, Change, Fixed, Note, Sets};
+use report_block::ReportBlock;
 use sv_base::{ActorNo, Moment};
 use touch_index::Notes;
 use value_store::Store;
 
-impl Part {
-    ghost use Rattle.std.specs.Prelude.{◌≡◌, ◌≤◌, length};
-    ghost use Rattle.std.specs.List.{All};
-    ghost use Rattle.bay_core.specs.EntryOctets.{IsKeepable};
-    ghost use Rattle.bay_core.specs.Events.{with_note};
-
-    /// Keeps the entry of a note, if there is a member in it. It takes no memory.
-    fn keep(
-        &mut self,
-        store: &Store,
-        moment: Moment,
-        step: u64,
-        mentions: &Note,
-        octets: &mut Fixed,
-    )
-        requires members { All (IsKeepable store.now self.old.members.items) mentions.now.items }
-        requires few { length mentions.now.items ≤ 256 }
-        requires entry { octets.old.room ≡ 129024 }
-        ensures part { self.new ≡ with_note store.now moment step self.old mentions.now.items }
-        ensures entry { octets.new.room ≡ 129024 }
-    {
-        if !mentions.is_empty() {
-            put_note(store, &self.members, mentions.as_slice(), octets);
-            self.ring.append(moment, step, octets.as_slice());
-        }
-    }
-}
-
 /// Each block whose note has a member gets its entry, and the notes are emptied. It takes no memory.
 fn keep_all(
-    parts: &mut Vec<Part>,
+    parts: &mut Vec<ReportBlock>,
     store: &Store,
     moment: Moment,
     step: u64,
@@ -60,14 +32,14 @@ fn keep_all(
     requires notes { (b : ℕ) (part : PartValue) → slice_get parts.old.items b ≡ Some part → IsNoteOf store.now part (note_at notes.old.notes b).items }
     requires entry { octets.old.room ≡ 129024 }
     ensures parts { length parts.new.items ≡ length parts.old.items }
-    ensures kept { (b : ℕ) (part : PartValue) → slice_get parts.old.items b ≡ Some part → slice_get parts.new.items b ≡ Some (with_note store.now moment step part (note_at notes.old.notes b).items) }
+    ensures kept { (b : ℕ) (part : PartValue) → slice_get parts.old.items b ≡ Some part → slice_get parts.new.items b ≡ Some (with_note store.now moment step (note_at notes.old.notes b).items part) }
     ensures empty { AreEmpty notes.new.notes }
     ensures count { length notes.new.notes ≡ length notes.old.notes }
     ensures rooms { (b : ℕ) → (note_at notes.new.notes b).room ≡ (note_at notes.old.notes b).room }
     ensures entry { octets.new.room ≡ 129024 }
 {
     while let Some(b) = notes.last() {
-        parts[b.0 as usize].keep(store, moment, step, notes.note(b), octets);
+        parts[b.0 as usize].keep_at_once(store, moment, step, notes.note(b).as_slice(), octets);
         notes.clear_last();
     }
 }
@@ -75,7 +47,7 @@ fn keep_all(
 /// Some attributes were set: each block whose data set they are in gets the entry of its events (IEC 61850-7-2, TrgOps);
 /// no other is looked at. It takes no memory.
 fn event_all(
-    parts: &mut Vec<Part>,
+    parts: &mut Vec<ReportBlock>,
     watch: &mut Watch,
     store: &Store,
     changes: &[Change],

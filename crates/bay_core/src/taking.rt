@@ -1,131 +1,11 @@
-//! Which entry is reported next, and its report (IEC 61850-7-2, the Report service).
-
-ghost use Rattle.std.specs.Prelude.{◌≡◌, ◌<◌, ◌≤◌, ◌++◌, nat_le, false, List, length, IfOk, IfSome};
-ghost use Rattle.std.specs.Option.{option_map, option_map_or};
-ghost use Rattle.bay_model.specs.Named.{configured_model};
-ghost use Rattle.bay_model.specs.Notes.{Kept};
-ghost use Rattle.bay_core.specs.Again.{AreKept, AreNodes, reported};
-ghost use Rattle.bay_core.specs.Offers.{Offered, offered_by, first_offered};
-ghost use Rattle.bay_core.specs.Reporting.{offered, report_by};
+//! Reports are taken (IEC 61850-7-2, the Report service).
 
 use crate::bay::Bay;
 use crate::fault::StepFault;
-use crate::members::members_of;
-use crate::part::Part;
-use crate::spare::{copied_into, empty_report};
-use bay_model::{Answer, MemberShape, Members, Output, Report};
-use brcb_state::Next;
-use entry_ring::Entry;
-use object_model::Model;
-use std::alloc::{AllocError, Global};
-use sv_base::{ActorNo, AssocNo, Bits, BlockNo, Moment, Octs};
-
-/// An entry that may be reported next: its block, how it is reported, and what is kept of it.
-#[derive(Clone, Copy, Debug)]
-pub(crate) struct Offer<'a> {
-    pub(crate) block: usize,
-    pub(crate) next: Next,
-    pub(crate) entry: Entry<'a>,
-}
-
-/// The next entry of a block where the association has enabled it.
-fn offer_of<'a>(part: &'a Part, block: usize, a: AssocNo) -> Option<Offer<'a>>
-    ensures offer { option_map offered result ≡ offered_by a block part.now }
-    ensures block { IfSome result (λ o. o.block ≡ block) }
-{
-    let Some(next) = part.block.next(a, part.retained()) else {
-        return None;
-    };
-    match part.ring.entry(next.id) {
-        Some(entry) => Some(Offer { block, next, entry }),
-        None => None,
-    }
-}
-
-/// An offer was found, and its entry came to be no later than at a step.
-fn is_no_later(found: &Option<Offer<'_>>, step: u64) -> bool
-    ensures { result ≡ option_map_or (λ (o : Offered). nat_le o.entry.step step) (option_map offered found.now) false }
-{
-    match found {
-        Some(one) => one.entry.step <= step,
-        None => false,
-    }
-}
-
-/// Of the next entries of the blocks that an association has enabled, the one that came to be at the earliest step, at a tie
-/// that of the lowest block.
-pub(crate) fn first_offer<'a>(parts: &'a [Part], a: AssocNo) -> Option<Offer<'a>>
-    ensures first { option_map offered result ≡ first_offered a 0 parts.now }
-    ensures within { IfSome result (λ o. o.block < length parts.now) }
-{
-    let mut found = None;
-    for block in 0..parts.len() {
-        if let Some(next) = offer_of(&parts[block], block, a) {
-            if !is_no_later(&found, next.entry.step) {
-                found = Some(next);
-            }
-        }
-    }
-    found
-}
-
-/// The octets of an entry in one row.
-fn whole_of(alloc: Global, entry: &Entry<'_>) -> Result<Vec<u8>, AllocError>
-    ensures { IfOk result (λ v. v.items ≡ entry.now.first.now ++ entry.now.second.now) }
-{
-    let mut octets = Vec::with_capacity(alloc, entry.first.len() + entry.second.len())?;
-    octets.extend_from_slice(entry.first)?;
-    octets.extend_from_slice(entry.second)?;
-    Ok(octets)
-}
-
-/// The members of the report of an entry, of a data set of these shapes, in the memory of those of another. Octets that lie in
-/// one row are read where they are.
-fn members_in(
-    alloc: Global,
-    model: &Model,
-    shapes: &[MemberShape],
-    entry: &Entry<'_>,
-    spare: Members,
-) -> Result<Members, AllocError>
-    requires { AreNodes model.now shapes.now }
-    ensures { IfOk result (λ members. (ks : List Kept) → AreKept (entry.now.first.now ++ entry.now.second.now) ks → members ≡ reported model.now shapes.now ks) }
-{
-    if entry.second.is_empty() {
-        return members_of(alloc, model, shapes, entry.first, spare);
-    }
-    let octets = whole_of(alloc, entry)?;
-    members_of(alloc, model, shapes, &octets, spare)
-}
-
-/// The report of an offer by its block, whose data set has nodes of the model, in the memory of another report.
-pub(crate) fn report_of(
-    alloc: Global,
-    model: &Model,
-    part: &Part,
-    offer: &Offer<'_>,
-    spare: Report,
-) -> Result<Report, AllocError>
-    requires block { offer.now.block ≤ 4294967295 }
-    requires few { length part.now.members.items ≤ 4294967295 }
-    requires nodes { AreNodes model.now part.now.members.items }
-    ensures { IfOk result (λ r. (ks : List Kept) → AreKept (offered offer.now).entry.kept ks → r ≡ report_by (configured_model model.now) part.now (offered offer.now) ks) }
-{
-    let members = members_in(alloc, model, &part.members, &offer.entry, spare.members)?;
-    Ok(Report {
-        block: BlockNo(offer.block as u32),
-        rpt_id: Octs::from_vec(copied_into(spare.rpt_id.into_vec(), part.block.report_id())?),
-        opt_flds: Bits::from_vec(copied_into(spare.opt_flds.into_vec(), part.block.opt_flds())?),
-        sq: offer.next.sq,
-        time: offer.entry.moment,
-        dat_set: Octs::from_vec(copied_into(spare.dat_set.into_vec(), part.block.dat_set())?),
-        ovfl: offer.next.ovfl,
-        id: offer.next.id,
-        conf_rev: part.block.conf_rev(),
-        total: part.members.len() as u32,
-        members,
-    })
-}
+use bay_model::{Answer, Output};
+use report_block::{empty_report, first_offer, report_of};
+use std::alloc::Global;
+use sv_base::{ActorNo, AssocNo, Moment};
 
 impl Bay {
     ghost use Rattle.std.specs.Prelude.{◌<◌, ◌^◌};
@@ -164,7 +44,7 @@ impl Bay {
         };
         let block = offer.block;
         let id = offer.next.id;
-        self.parts[block].block.sent(id);
+        self.parts[block].sent(id);
         self.advance(moment);
         Ok(Answer::Taken(Output::Report(report)))
     }

@@ -5,8 +5,8 @@ ghost use Rattle.std.specs.List.{All};
 ghost use Rattle.touch_index.specs.Indexed.{pairs, with_members, with_room, AreAmong};
 ghost use Rattle.bay_core.specs.Watched.{IsWatchable, IsIndexed, IsWatching, options_in};
 
-use crate::part::Part;
 use bay_model::{MemberShape, SetView, Trg};
+use report_block::ReportBlock;
 use std::alloc::{AllocError, Global};
 use sv_base::BlockNo;
 use touch_index::{Index, Notes};
@@ -46,25 +46,25 @@ fn put_members(index: &mut Index, b: BlockNo, members: &[MemberShape]) -> Result
 }
 
 /// The index of the members of all blocks' data sets.
-fn index_of(alloc: Global, attrs: u32, parts: &[Part]) -> Result<Index, AllocError>
+fn index_of(alloc: Global, attrs: u32, parts: &[ReportBlock]) -> Result<Index, AllocError>
     requires few { length parts.now < 2 ^ 32 }
     requires watchable { All (IsWatchable attrs) parts.now }
     ensures { IfOk result (λ x. IsIndexed attrs parts.now x) }
 {
     let mut index = Index::open(alloc, parts.len() as u32, attrs)?;
     for b in 0..parts.len() {
-        put_members(&mut index, BlockNo(b as u32), &parts[b].members)?;
+        put_members(&mut index, BlockNo(b as u32), parts[b].members())?;
     }
     Ok(index)
 }
 
 /// The trigger options of all blocks.
-fn options_of(alloc: Global, parts: &[Part]) -> Result<Vec<Trg>, AllocError>
+fn options_of(alloc: Global, parts: &[ReportBlock]) -> Result<Vec<Trg>, AllocError>
     ensures { IfOk result (λ v. v.items ≡ options_in parts.now) }
 {
     let mut options = Vec::new(alloc);
     for part in parts {
-        options.push(part.block.trg())?;
+        options.push(part.trg())?;
     }
     Ok(options)
 }
@@ -75,7 +75,11 @@ impl Watch {
     ghost use Rattle.bay_core.specs.Watched.{IsWatching, IsWatchable};
 
     /// The data sets of all blocks by their attributes. It takes the room that notes need.
-    pub(crate) fn open(alloc: Global, attrs: u32, parts: &[Part]) -> Result<Watch, AllocError>
+    pub(crate) fn open(
+        alloc: Global,
+        attrs: u32,
+        parts: &[ReportBlock],
+    ) -> Result<Watch, AllocError>
         requires few { length parts.now < 2 ^ 32 }
         requires watchable { All (IsWatchable attrs) parts.now }
         ensures { IfOk result (λ w. IsWatching attrs parts.now w) }

@@ -34,8 +34,16 @@ impl Bay {
         if actor.0 != opener.0 {
             return Err(StepFault::NotYours(a));
         }
-        let answer = self.parts[b.0 as usize].write(a, comp, value);
-        let options = self.parts[b.0 as usize].block.trg();
+        let now = self.latest.later(moment);
+        let answer = self.parts[b.0 as usize].write(
+            a,
+            comp,
+            value,
+            now,
+            self.steps,
+            &mut self.octets,
+        );
+        let options = self.parts[b.0 as usize].trg();
         self.watch.options[b.0 as usize] = options;
         self.advance(moment);
         Ok(Answer::Wrote(answer))

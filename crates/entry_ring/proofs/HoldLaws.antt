@@ -5,11 +5,13 @@ use Rattle.std.proofs.lemmas.Bool.Decides.{leb_tells}
 use Rattle.std.proofs.lemmas.List.{drop-append-le, drop-drop, drop_all, map-append, length-map}
 use Rattle.bay_model.specs.Model.{Model}
 use Rattle.bay_model.specs.Lookups.{block_of}
-use Rattle.bay_model.specs.Points.{Point, Past}
+use Rattle.bay_model.specs.Points.{Point, Past, now}
+use Rattle.bay_model.specs.Singles.{arrival}
 use Rattle.bay_model.specs.Parameters.{purges}
 use Rattle.bay_model.specs.Entries.{Entry, selected, appended, last_number}
 use Rattle.bay_model.specs.Retained as retained
 use Rattle.bay_model.specs.Retained.{purged, kept_octets}
+use Rattle.bay_model.proofs.Again.{selected-again}
 use Rattle.bay_model.proofs.FrontLaws.{front_is_least, front_never_falls}
 use Rattle.entry_ring.specs.Held.{Held, sizes, least_dropped}
 use Rattle.entry_ring.specs.Ringed.{Ringed, fitted, after_entry, after_purge}
@@ -90,14 +92,29 @@ holds-purge r capacity gone es h = record {
 pub holds-opened : (c : Model) (b : ℕ) → Holds (empty (block_of c b).capacity) c b []
 holds-opened c b = record { capacity = refl; newest = refl; front = refl; entries = refl; within = omega arith }
 
-pub holds-point : (c : Model) (b : ℕ) (p : Point) (before : Past) (r : Ringed) (es : List Entry) → Holds r c b before → selected c b (p ∷ before) ≡ appended (selected c b before) es
-    → Holds (after_point c b p before r es) c b (p ∷ before)
-holds-point c b p before r es h new = either (purges c b p.deed before) refl where
-  now : HoldsAll (after_all r es) (block_of c b).capacity (purged c b before) (selected c b (p ∷ before))
-  now = rw new (holds-entries r (block_of c b).capacity (purged c b before) (selected c b before) es (record { is_capacity = h.capacity; newest = h.newest; front = h.front; entries = h.entries; within = h.within }))
+-- after a point which brings these entries to those that were there, and which may be a purge
+holds-with : (c : Model) (b : ℕ) (p : Point) (before : Past) (r : Ringed) (so_far es : List Entry) → HoldsAll r (block_of c b).capacity (purged c b before) so_far
+    → selected c b (p ∷ before) ≡ appended so_far es → Holds (after_point c b p before r es) c b (p ∷ before)
+holds-with c b p before r so_far es h new = either (purges c b p.deed before) refl where
+  all : HoldsAll (after_all r es) (block_of c b).capacity (purged c b before) (selected c b (p ∷ before))
+  all = rw new (holds-entries r (block_of c b).capacity (purged c b before) so_far es h)
 
   either : (t : Bool) → purges c b p.deed before ≡ t → Holds (if t then after_purge (after_all r es) else after_all r es) c b (p ∷ before)
   either true is =
-      let done = holds-purge (after_all r es) (block_of c b).capacity (purged c b before) (selected c b (p ∷ before)) now in
+      let done = holds-purge (after_all r es) (block_of c b).capacity (purged c b before) (selected c b (p ∷ before)) all in
       record { capacity = done.is_capacity; newest = done.newest; front = done.front ∙ rw is refl; entries = done.entries; within = done.within }
-  either false is = record { capacity = now.is_capacity; newest = now.newest; front = now.front ∙ rw is refl; entries = now.entries; within = now.within }
+  either false is = record { capacity = all.is_capacity; newest = all.newest; front = all.front ∙ rw is refl; entries = all.entries; within = all.within }
+
+pub holds-point : (c : Model) (b : ℕ) (p : Point) (before : Past) (r : Ringed) (es : List Entry) → Holds r c b before → selected c b (p ∷ before) ≡ appended (selected c b before) es
+    → Holds (after_point c b p before r es) c b (p ∷ before)
+holds-point c b p before r es h new = holds-with c b p before r (selected c b before) es (record { is_capacity = h.capacity; newest = h.newest; front = h.front; entries = h.entries; within = h.within }) new
+
+-- from the arrival of a point to the point itself, where what came of it brings these entries
+pub holds-deed : (c : Model) (b : ℕ) (p : Point) (before : Past) (r : Ringed) (es : List Entry) → Holds r c b (arrival p.step p.moment ∷ before)
+    → selected c b (p ∷ before) ≡ appended (selected c b (arrival p.step p.moment ∷ before)) es → Holds (after_point c b p before r es) c b (p ∷ before)
+holds-deed c b p before r es h new =
+    holds-with c b p before r (selected c b (arrival p.step p.moment ∷ before)) es (record { is_capacity = h.capacity; newest = h.newest; front = h.front; entries = h.entries; within = h.within }) new
+
+-- a further arrival at the same moment brings nothing
+pub holds-again : (c : Model) (b m n : ℕ) (q : Point) (before : Past) (r : Ringed) → m ≤ now (q ∷ before) → Holds r c b (q ∷ before) → Holds r c b (arrival n m ∷ q ∷ before)
+holds-again c b m n q before r same h = holds-point c b (arrival n m) (q ∷ before) r [] h (selected-again c b m n q before same)

@@ -1,7 +1,6 @@
 -- A store stands for a longer history after each setting.
-use Rattle.std.proofs.Common.{◌≡◌, refl, ap, sym, ◌∙◌, ◌<◌, ℕ, zero, suc, ◌==◌, Bool, true, false, List, [], ◌∷◌, length, Option, Some, None, unwrap_or, slice_set, slice_index_or, arith, if◌then◌else◌}
+use Rattle.std.proofs.Common.{◌≡◌, refl, ap, sym, ◌∙◌, ◌<◌, ℕ, ◌==◌, Bool, true, false, List, [], ◌∷◌, length, Option, Some, None, unwrap_or, slice_set, arith, if◌then◌else◌}
 use Rattle.std.specs.Option.{option_or}
-use Rattle.std.proofs.lemmas.Bool.Decides.{nat_tests}
 use Rattle.std.proofs.lemmas.List.{length-set}
 use Rattle.std.proofs.lemmas.List.Elements.{All-tail}
 use Rattle.list_laws.proofs.Places.{at_set}
@@ -9,6 +8,7 @@ use Rattle.sv_base.specs.declared.value.Value.{Value}
 use Rattle.bay_model.specs.declared.step.Setting.{Setting}
 use Rattle.bay_model.specs.Model.{Model}
 use Rattle.bay_model.specs.Points.{Past, Point, Deed, valued, put}
+use Rattle.bay_model.specs.Singles.{arrival}
 use Rattle.bay_model.specs.Settings.{set_to}
 use Rattle.bay_model.specs.Values.{value_at, gives}
 use Rattle.value_store.specs.Stored.{Stored, attribute, no_attribute, with_value}
@@ -54,3 +54,14 @@ pub write_stands : (all : List Stored) (c : Model) (before : Past) (p : Point) (
 write_stands all c before p a x v stands there is = λ y below.
     value_set all x y v there ∙ (ap (λ w. unwrap_or (if x == y then Some v else None) w) (stands y (omega (arith, below, length-set all x (with_value v (attribute all x)))))
     ∙ ap (λ (d : Deed). unwrap_or (gives c y d before) (value_at c y before)) (sym is))
+
+-- ---- the arrival of a point, and its deed
+
+pub stands-arrival : (all : List Stored) (c : Model) (m n : ℕ) (before : Past) → Stands all c before → Stands all c (arrival n m ∷ before)
+stands-arrival all c m n before stands = stands
+
+pub stands-deed : (all new : List Stored) (c : Model) (m n : ℕ) (d : Deed) (before : Past) → Stands all c (arrival n m ∷ before) → length new ≡ length all
+    → ((x : ℕ) → x < length all → (attribute new x).held.value ≡ unwrap_or (gives c x d before) (attribute all x).held.value) → Stands new c (record { moment = m; step = n; deed = d } ∷ before)
+stands-deed all new c m n d before stands count given = λ x below.
+    let there : x < length all = omega (arith, below, count) in
+    given x there ∙ ap (unwrap_or (gives c x d before)) (stands x there)

@@ -5,7 +5,7 @@ ghost use Rattle.bay_model.specs.Attributes.{attributes};
 ghost use Rattle.bay_model.specs.Lookups.{attr_of};
 ghost use Rattle.bay_model.specs.Named.{configured_model};
 ghost use Rattle.value_store.specs.Opened.{HasDomains, is_writable, opened};
-ghost use Rattle.std.specs.Prelude.{◌≡◌, ◌<◌, ◌≤◌, ◌^◌, true, [], ◌∷◌, ℕ, List, map, length, slice_set};
+ghost use Rattle.std.specs.Prelude.{◌≡◌, ◌<◌, ◌≤◌, ◌^◌, true, [], ◌∷◌, ℕ, List, map, length, slice_set, unwrap_or};
 ghost use Rattle.sv_base.specs.declared.value.Value.{Value};
 ghost use Rattle.bay_model.specs.declared.step.Setting.{Setting};
 ghost use Rattle.sv_base.specs.Data.{data_of};
@@ -16,8 +16,9 @@ ghost use Rattle.bay_rooms.specs.Kinds.{kind_of, is_kind, is_in_range};
 ghost use Rattle.bay_model.specs.Model.{Model, Tree};
 ghost use Rattle.bay_model.specs.Places.{largest};
 ghost use Rattle.bay_rooms.specs.Slots.{IsSettable};
-ghost use Rattle.bay_model.specs.Points.{Past, Point, valued, put};
-ghost use Rattle.bay_model.specs.Values.{whole};
+ghost use Rattle.bay_model.specs.Points.{Deed, Past, Point, valued, put};
+ghost use Rattle.bay_model.specs.Singles.{arrival};
+ghost use Rattle.bay_model.specs.Values.{gives, whole};
 ghost use Rattle.value_store.specs.Leaves.{AreLeaves};
 ghost use Rattle.value_store.specs.Members.{member_octets};
 ghost use Rattle.value_store.specs.Stored.{Stored, AreStored, attribute, with_value};
@@ -38,6 +39,17 @@ pub fn members_are_whole_values()
     ensures { (all : List Stored) (c : Model) (past : Past) (t : Tree) (kind : TypeOf) (attrs : List AttrId)
         → Stands all c past → AreStored all attrs → HasForm t (shape_of kind) → map (λ (x : AttrId). x.0) attrs ≡ tree_attrs t
         → member_octets all kind attrs ≡ data_of (whole c past t) }
+{}
+
+/// A store that stands for a past stands for the arrival of the next point as it is; from there, where each attribute comes to have
+/// the value that the deed gives it, and the others keep theirs, for the point itself; and as it is for a further arrival.
+pub fn values_stand()
+    ensures arrival { (all : List Stored) (c : Model) (m n : ℕ) (before : Past) → Stands all c before → Stands all c (arrival n m ∷ before) }
+    ensures deed { (all new : List Stored) (c : Model) (m n : ℕ) (d : Deed) (before : Past)
+        → Stands all c (arrival n m ∷ before) → length new ≡ length all
+        → ((x : ℕ) → x < length all → (attribute new x).held.value ≡ unwrap_or (gives c x d before) (attribute all x).held.value)
+        → Stands new c (record { moment = m; step = n; deed = d } ∷ before) }
+    ensures again { (all : List Stored) (c : Model) (m n : ℕ) (q : Point) (before : Past) → Stands all c (q ∷ before) → Stands all c (arrival n m ∷ q ∷ before) }
 {}
 
 /// A store that stands for a history stands for the longer one after a process step's attributes were set in their order.

@@ -15,5 +15,5 @@ pub use store::{Changed, Store};
 // their laws
 pub use laws::{
     a_write_stands, members_are_no_longer, members_are_whole_values, opened_as_configured,
-    settings_stand,
+    settings_stand, values_stand,
 };

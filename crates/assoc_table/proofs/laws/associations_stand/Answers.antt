@@ -1,23 +1,15 @@
-use Rattle.assoc_table.proofs.StandLaws.{stands-empty, stands-opened, stands-lost, stands-took, stands-terminated, stands-put, stands-other}
+use Rattle.assoc_table.proofs.StandLaws.{stands-empty, stands-arrival, stands-deed}
+use Rattle.std.specs.Prelude.{◌∷◌}
 use Rattle.assoc_table.proofs.laws.associations_stand.Goals as goal
 
 pub returns-clause-empty : goal.returns-clause-empty
 returns-clause-empty c = stands-empty
 
-pub returns-clause-opened : goal.returns-clause-opened
-returns-clause-opened c = stands-opened
+pub returns-clause-arrival : goal.returns-clause-arrival
+returns-clause-arrival c = stands-arrival
 
-pub returns-clause-lost : goal.returns-clause-lost
-returns-clause-lost c = stands-lost
+pub returns-clause-deed : goal.returns-clause-deed
+returns-clause-deed c = stands-deed
 
-pub returns-clause-took : goal.returns-clause-took
-returns-clause-took c = stands-took
-
-pub returns-clause-terminated : goal.returns-clause-terminated
-returns-clause-terminated c = stands-terminated
-
-pub returns-clause-put : goal.returns-clause-put
-returns-clause-put c = stands-put
-
-pub returns-clause-other : goal.returns-clause-other
-returns-clause-other c = stands-other
+pub returns-clause-again : goal.returns-clause-again
+returns-clause-again c = λ c' m n q before rows. stands-arrival c' m n (q ∷ before) rows

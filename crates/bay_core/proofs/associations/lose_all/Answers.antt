@@ -1,5 +1,5 @@
 use Rattle.std.proofs.Common.{refl, rules, ◌<◌, length, ap, ◌∙◌, slice_set}
-use Rattle.bay_core.specs.Parting.{lost_by}
+use Rattle.report_block.specs.Writes.{lost_by}
 use Rattle.list_laws.proofs.EachLaws.{one-more}
 use Rattle.bay_core.proofs.associations.lose_all.Goals as goal
 
@@ -8,4 +8,4 @@ pub loop-place-preserved : goal.loop-place-preserved
 loop-place-preserved c =
     let below : c.loop-place.place < length c.loop-place.parts.items = search rules in
     let done = one-more (lost_by c.args.a) c.args.parts.now.items c.loop-place.parts.items c.loop-place.place c.index_mut.result.now c.loop-place.invariant.0 below c.index_mut.ensures.value in
-    (ap (λ s. slice_set c.loop-place.parts.items c.loop-place.place (record c.index_mut.result.now { block = s })) c.lost.ensures ∙ done.0, done.1, refl)
+    (ap (slice_set c.loop-place.parts.items c.loop-place.place) c.lost.ensures ∙ done.0, done.1, refl)

@@ -1,5 +1,5 @@
 use Rattle.std.proofs.Common.{◌≡◌, ◌-◌, ◌++◌, ◌≤◌, map, take, drop, length}
-use Rattle.bay_core.specs.Parting.{lost_by}
+use Rattle.report_block.specs.Writes.{lost_by}
 use Rattle.bay_core.proofs.associations.lose_all.Given as goal
 
 -- the parts before this place are as they are after the loss

@@ -2,7 +2,8 @@ use Rattle.std.proofs.Common.{◌<◌, ◌∙◌, ap, arith, length, Some, List}
 use Rattle.list_laws.proofs.Places.{all-at}
 use Rattle.bay_model.specs.declared.note.Mention.{Mention}
 use Rattle.touch_index.specs.Gathering.{note_at}
-use Rattle.bay_core.specs.Events.{after_event, with_note, IsReady}
+use Rattle.report_block.specs.Events.{with_note}
+use Rattle.bay_core.specs.Events.{after_event, IsReady}
 use Rattle.bay_core.proofs.WatchLaws.{part-there, made, note-of, mapped}
 use Rattle.bay_core.proofs.setting.event_all.Goals as goal
 
@@ -23,5 +24,5 @@ keep_all-requires-clause-notes c = λ b part at.
 
 pub returns-clause-parts : goal.returns-clause-parts
 returns-clause-parts c = mapped (after_event c.args.store.now c.args.changes.now c.args.moment c.args.step) c.args.parts.now.items c.keep_all.new.parts.items c.keep_all.ensures.parts
-    (λ b part at. c.keep_all.ensures.kept b part at ∙ ap (λ (ms : List Mention). Some (with_note c.args.store.now c.args.moment c.args.step part ms))
+    (λ b part at. c.keep_all.ensures.kept b part at ∙ ap (λ (ms : List Mention). Some (with_note c.args.store.now c.args.moment c.args.step ms part))
     (made (length c.args.store.now) c.args.parts.now.items c.args.watch.now c.deref.result.now c.args.changes.now c.gather.new.out.notes c.requires.watching c.deref.ensures.value c.gather.ensures.noted b part at))

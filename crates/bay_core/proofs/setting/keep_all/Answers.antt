@@ -1,4 +1,4 @@
-use Rattle.std.proofs.Common.{◌≡◌, ◌<◌, ◌∙◌, ap, sym, refl, subst, arith, [], length}
+use Rattle.std.proofs.Common.{◌≡◌, ◌<◌, ◌∙◌, ap, sym, refl, subst, arith, [], List, length}
 use Rattle.std.specs.Prelude.{slice_set, slice_index_or}
 use Rattle.std.proofs.lemmas.List.{length-set}
 use Rattle.std.proofs.lemmas.Option.{slice_get-get_or}
@@ -6,11 +6,11 @@ use Rattle.bay_rooms.specs.Rooms.{Filled}
 use Rattle.bay_model.specs.declared.note.Mention.{Mention}
 use Rattle.touch_index.specs.Gathering.{Gathered, note_at}
 use Rattle.touch_index.proofs.GatheringLaws.{room_same}
-use Rattle.bay_core.specs.declared.part.Part.{Part}
-use Rattle.bay_core.specs.Events.{with_note}
+use Rattle.report_block.specs.declared.block.ReportBlock.{ReportBlock}
+use Rattle.report_block.specs.Events.{with_note}
 use Rattle.bay_core.specs.Watched.{IsNoteOf}
 use Rattle.bay_core.proofs.WatchLaws.{Left, left-first, left-next, some-same}
-use Rattle.bay_core.proofs.WroteLaws.{at-place}
+use Rattle.bay_core.proofs.WriteLaws.{at-place}
 use Rattle.bay_core.proofs.setting.keep_all.Goals as goal
 
 pub loop-b-init : goal.loop-b-init
@@ -23,20 +23,20 @@ loop-b-init c = record {
 }
 
 -- what is kept is a note of the part
-is-note : (c : goal.After-keep-arg-1) → IsNoteOf c.args.store.now c.index_mut.result.now c.note.result.now.items
+is-note : (c : goal.After-keep_at_once-arg-1) → IsNoteOf c.args.store.now c.index_mut.result.now c.as_slice.result.now
 is-note c =
     let b = c.in-Some.b.0 in
     let within : b < length c.loop-b.parts.items = omega (arith, c.in-Some.ensures.within, c.loop-b.invariant.count, c.requires.count, c.loop-b.invariant.parts) in
     let before : b < length c.args.parts.now.items = omega (arith, within, c.loop-b.invariant.parts) in
     let left = c.loop-b.invariant.left b (slice_index_or c.args.parts.now.items b c.index_mut.result.now) (slice_get-get_or c.args.parts.now.items b c.index_mut.result.now before) in
     let same = some-same left.0 c.index_mut.result.now (sym left.1 ∙ at-place c.loop-b.parts.items b c.index_mut.result.now within c.index_mut.ensures.value) in
-    subst (λ (p : Part). IsNoteOf c.args.store.now p c.note.result.now.items) same (subst (λ (n : Filled Mention). IsNoteOf c.args.store.now left.0 n.items) (sym c.note.ensures) left.2)
+    subst (λ (p : ReportBlock). IsNoteOf c.args.store.now p c.as_slice.result.now) same (subst (IsNoteOf c.args.store.now left.0) (sym (c.as_slice.ensures ∙ ap (λ (n : Filled Mention). n.items) c.note.ensures)) left.2)
 
-pub keep-requires-clause-members : goal.keep-requires-clause-members
-keep-requires-clause-members c = (is-note c).members
+pub keep_at_once-requires-clause-members : goal.keep_at_once-requires-clause-members
+keep_at_once-requires-clause-members c = (is-note c).members
 
-pub keep-requires-clause-few : goal.keep-requires-clause-few
-keep-requires-clause-few c = (is-note c).few
+pub keep_at_once-requires-clause-room : goal.keep_at_once-requires-clause-room
+keep_at_once-requires-clause-room c = omega (arith, (is-note c).few, c.loop-b.invariant.entry)
 
 pub loop-b-preserved : goal.loop-b-preserved
 loop-b-preserved c =
@@ -49,16 +49,16 @@ loop-b-preserved c =
     let front = c.in-Some.ensures.some in
     let cleared = c.clear_last.ensures front.0 c.in-Some.b front.1 in
     let there = at-place parts b part within c.index_mut.ensures.value in
-    let kept : c.keep.new.self ≡ with_note c.args.store.now c.args.moment c.args.step part (note_at notes b).items
-    = c.keep.ensures.part ∙ ap (λ (n : Filled Mention). with_note c.args.store.now c.args.moment c.args.step part n.items) c.note.ensures in
+    let kept : c.keep_at_once.new.self ≡ with_note c.args.store.now c.args.moment c.args.step (note_at notes b).items part
+    = c.keep_at_once.ensures.part ∙ ap (λ (ms : List Mention). with_note c.args.store.now c.args.moment c.args.step ms part) (c.as_slice.ensures ∙ ap (λ (n : Filled Mention). n.items) c.note.ensures) in
     record {
-      parts = length-set parts b c.keep.new.self ∙ c.loop-b.invariant.parts;
+      parts = length-set parts b c.keep_at_once.new.self ∙ c.loop-b.invariant.parts;
       count = ap (λ (g : Gathered). length g.notes) cleared ∙ (length-set notes b (record { items = []; room = (note_at notes b).room }) ∙ c.loop-b.invariant.count);
       rooms = λ k. ap (λ (g : Gathered). (note_at g.notes k).room) cleared ∙ (room_same notes b [] below k ∙ c.loop-b.invariant.rooms k);
-      entry = c.keep.ensures.entry;
+      entry = c.keep_at_once.ensures.room ∙ c.loop-b.invariant.entry;
       left = λ k q at.
-          let target = with_note c.args.store.now c.args.moment c.args.step q (note_at c.args.notes.now.notes k).items in
-          subst (λ (p : Part). Left c.args.store.now c.args.moment c.args.step (slice_set parts b p) c.clear_last.new.self.notes k target) (sym kept)
-          (subst (λ (g : Gathered). Left c.args.store.now c.args.moment c.args.step (slice_set parts b (with_note c.args.store.now c.args.moment c.args.step part (note_at notes b).items)) g.notes k target) (sym cleared)
+          let target = with_note c.args.store.now c.args.moment c.args.step (note_at c.args.notes.now.notes k).items q in
+          subst (λ (p : ReportBlock). Left c.args.store.now c.args.moment c.args.step (slice_set parts b p) c.clear_last.new.self.notes k target) (sym kept)
+          (subst (λ (g : Gathered). Left c.args.store.now c.args.moment c.args.step (slice_set parts b (with_note c.args.store.now c.args.moment c.args.step (note_at notes b).items part)) g.notes k target) (sym cleared)
           (left-next c.args.store.now c.args.moment c.args.step parts notes b part k target there below (c.loop-b.invariant.left k q at)));
     }

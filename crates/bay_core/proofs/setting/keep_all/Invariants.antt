@@ -1,8 +1,8 @@
 use Rattle.std.proofs.Common.{◌≡◌, ℕ, Some, length}
 use Rattle.std.specs.Prelude.{slice_get}
 use Rattle.touch_index.specs.Gathering.{note_at}
-use Rattle.bay_core.specs.declared.part.Part.{Part}
-use Rattle.bay_core.specs.Events.{with_note}
+use Rattle.report_block.specs.declared.block.ReportBlock.{ReportBlock}
+use Rattle.report_block.specs.Events.{with_note}
 use Rattle.bay_core.specs.Watched.{IsNoteOf}
 use Rattle.bay_core.proofs.setting.keep_all.Given as goal
 
@@ -13,9 +13,9 @@ invariant-loop-b l = record {
   count : length l.notes.notes ≡ length l.fn.notes.notes;
   rooms : (b : ℕ) → (note_at l.notes.notes b).room ≡ (note_at l.fn.notes.notes b).room;
   entry : l.octets.room ≡ 129024;
-  left : (b : ℕ) (part : Part) → slice_get l.fn.parts.items b ≡ Some part
-      → (now : Part) × (slice_get l.parts.items b ≡ Some now) × IsNoteOf l.fn.store now (note_at l.notes.notes b).items
-      × (with_note l.fn.store l.fn.moment l.fn.step now (note_at l.notes.notes b).items ≡ with_note l.fn.store l.fn.moment l.fn.step part (note_at l.fn.notes.notes b).items);
+  left : (b : ℕ) (part : ReportBlock) → slice_get l.fn.parts.items b ≡ Some part
+      → (now : ReportBlock) × (slice_get l.parts.items b ≡ Some now) × IsNoteOf l.fn.store now (note_at l.notes.notes b).items
+      × (with_note l.fn.store l.fn.moment l.fn.step (note_at l.notes.notes b).items now ≡ with_note l.fn.store l.fn.moment l.fn.step (note_at l.fn.notes.notes b).items part);
 }
 
 abbrev pub decreases-loop-b : goal.decreases-loop-b

@@ -1,4 +1,4 @@
-use Rattle.std.proofs.Common.{◌≡◌, ◌∙◌, ◌+◌, ℕ, suc, ap, ap₂, append_assoc, sym, subst, arith, length, take, drop, map, length-append, ◌++◌}
+use Rattle.std.proofs.Common.{◌≡◌, ◌∙◌, ◌+◌, ℕ, suc, ap, ap₂, append_assoc, sym, subst, arith, length, take, drop, length-append, ◌++◌}
 use Rattle.std.proofs.lemmas.List.{drop-drop, length-drop}
 use Rattle.std.proofs.lemmas.List.Elements.{All-drop}
 use Rattle.sv_base.specs.Data.{data_row, data_seen}
@@ -7,7 +7,7 @@ use Rattle.sv_base.specs.declared.types.Parts.TheDeep.{size-TypeOf}
 use Rattle.sv_base.proofs.SizeLaws.{most-parts-size-lt}
 use Rattle.mms_data.proofs.TypeLaws.{size-part-at}
 use Rattle.value_store.specs.Members.{leaves, leaves_in, row_with, value_with, values_at, member_octets}
-use Rattle.value_store.specs.Stored.{stored, IsStored, AreStored}
+use Rattle.value_store.specs.Stored.{IsStored, AreStored}
 use Rattle.value_store.specs.Written.{adds}
 use Rattle.bay_rooms.specs.Rooms.{Filled}
 use Rattle.value_store.proofs.MemberLaws.{inside, content_is_shorter, values_after, part_within, leaves_left, leaves_more, row_more}

@@ -1,8 +1,7 @@
-use Rattle.std.proofs.Common.{◌≡◌, take, drop, map}
+use Rattle.std.proofs.Common.{◌≡◌, take, drop}
 use Rattle.sv_base.specs.Data.{data_row}
 use Rattle.sv_base.specs.Fields.{fields_of}
 use Rattle.value_store.specs.Members.{leaves_in, row_with, values_at}
-use Rattle.value_store.specs.Stored.{stored}
 use Rattle.value_store.specs.Written.{adds}
 use Rattle.value_store.proofs.members.+put.Given as goal
 

@@ -2,7 +2,7 @@ use Rattle.std.proofs.Common.{refl, suc, max, ap₂, sym, subst, ◌∙◌}
 use Rattle.bay_model.specs.declared.step.Step.TheVariants as steps
 use Rattle.bay_model.specs.Answers.{points}
 use Rattle.bay_model.specs.Named.{configured_model}
-use Rattle.bay_core.specs.Parting.{lost_by}
+use Rattle.report_block.specs.Writes.{lost_by}
 use Rattle.bay_config.specs.Servable.{IsServable}
 use Rattle.bay_core.specs.State.{IsFurnished}
 use Rattle.bay_core.specs.Standing.{StandsFor}
@@ -13,7 +13,7 @@ use Rattle.bay_core.proofs.bay.Bay.lose.Goals as goal
 
 pub invariant_of-self : goal.invariant_of-self
 invariant_of-self c = subst (λ ps. IsFurnished c.self.inside.model c.self.inside.values ps c.self.inside.watch c.self.inside.octets) (sym c.lose_all.ensures)
-    (furnished-map c.self.inside.model c.self.inside.values c.self.inside.parts.items c.self.inside.watch c.self.inside.octets c.self.invariant (lost_by c.args.a) (λ p. refl) (λ p. refl))
+    (furnished-map c.self.inside.model c.self.inside.values c.self.inside.parts.items c.self.inside.watch c.self.inside.octets c.self.invariant (lost_by c.args.a) (λ p. refl) (λ p. refl) (λ p. refl))
 
 pub returns-clause-does : goal.returns-clause-does
 returns-clause-does c = λ c' h was.

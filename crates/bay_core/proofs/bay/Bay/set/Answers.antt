@@ -4,7 +4,7 @@ use Rattle.bay_model.specs.declared.step.Setting.{Setting}
 use Rattle.bay_model.specs.declared.step.Step.TheVariants as steps
 use Rattle.object_model.specs.Fits.{fits}
 use Rattle.value_store.specs.Stored.{Stored, attribute}
-use Rattle.bay_core.specs.declared.part.Part.{Part}
+use Rattle.report_block.specs.declared.block.ReportBlock.{ReportBlock}
 use Rattle.bay_core.specs.Changed.{AreFit, AreMade, AreDistinct, last_set}
 use Rattle.touch_index.proofs.GatherLaws.{once_where_distinct}
 use Rattle.bay_core.specs.Events.{AreReady, after_events}
@@ -46,6 +46,6 @@ returns-clause-does c = λ c' h was.
           c.self.invariant.servable held (fits-settings c.self.inside.model c.self.inside.values c.args.sets.now fit c.self.invariant.values).0 c.self.invariant.members
           (λ x. c.set.ensures.set x ∙ ap (λ (l : List Setting). last_set l x (attribute c.self.inside.values x)) c.as_slice.ensures) c.set.ensures.count
           (subst (λ (l : List Setting). AreMade c.self.inside.model c.self.inside.values l c.set.new.changes.items) c.as_slice.ensures c.set.ensures.changes)
-          (c.advance.ensures.moved ∙ ap (λ (ps : List Part). record { config = c.self.inside.model; steps = suc c.self.inside.steps; latest = max c.self.inside.latest c.args.moment; stored = c.set.new.self; parts = ps; rows = c.self.inside.associations }) parts)
+          (c.advance.ensures.moved ∙ ap (λ (ps : List ReportBlock). record { config = c.self.inside.model; steps = suc c.self.inside.steps; latest = max c.self.inside.latest c.args.moment; stored = c.set.new.self; parts = ps; rows = c.self.inside.associations }) parts)
           st,
     )

@@ -1,6 +1,6 @@
 use Rattle.std.proofs.Common.{refl}
 use Rattle.bay_model.specs.declared.step.Step.TheVariants as steps
-use Rattle.bay_core.proofs.StillLaws.{still-for}
+use Rattle.bay_core.proofs.MoveLaws.{still-for}
 use Rattle.bay_core.proofs.bay.Bay.tick.Goals as goal
 
 pub returns-clause-does : goal.returns-clause-does

@@ -1,9 +1,0 @@
-use Rattle.std.proofs.Common.{◌≡◌, ◌≤◌, ◌*◌, length, take}
-use Rattle.bay_core.specs.EntryOctets.{note_octets}
-use Rattle.bay_core.proofs.entry_octets.put_note.Given as goal
-
-abbrev pub invariant-loop-mention : goal.invariant-loop-mention
-invariant-loop-mention l = record {
-  written : l.octets ≡ record { items = note_octets l.fn.store l.fn.shapes (take l.mention-index l.note); room = l.fn.octets.room };
-  short : length l.octets.items ≤ 504 * l.mention-index;
-}

@@ -1,0 +1,123 @@
+-- What plain deeds make of a block: one that doesn't touch its entries, an event where BufTm is 0, and an accepted write.
+use Rattle.std.proofs.Common.{rules, ◌≡◌, ℕ, max, Bool, true, false, List, [], ◌∷◌, ◌++◌, map, refl, sym, subst, ap, ◌∙◌, None, Some, append-nil}
+use Rattle.std.specs.Prelude.{if◌then◌else◌, ◌==◌, ◌||◌}
+use Rattle.std.proofs.lemmas.List.Elements.{All-nil}
+use Rattle.std.proofs.lemmas.Bool.{eq-eqb}
+use Rattle.sv_base.specs.declared.numbers.AssocNo.{AssocNo}
+use Rattle.sv_base.specs.declared.value.Value.{Value}
+use Rattle.bay_model.specs.declared.components.Comp.{Comp}
+use Rattle.bay_model.specs.declared.note.Mention.{Mention}
+use Rattle.bay_model.specs.declared.step.Setting.{Setting}
+use Rattle.bay_model.specs.declared.tables.MemberShape.{MemberShape}
+use Rattle.bay_model.specs.Model.{Model, Parameters}
+use Rattle.bay_model.specs.Points.{Deed, wrote, valued, Past, now}
+use Rattle.bay_model.specs.Parameters.{parameters_at, is_interrogation, purges}
+use Rattle.bay_model.specs.Notes.{note}
+use Rattle.bay_model.specs.Breaks.{cuts}
+use Rattle.bay_model.specs.Retained.{kept_octets_of}
+use Rattle.bay_model.specs.Singles.{arrival}
+use Rattle.brcb_state.specs.Changes.{written, effect_of}
+use Rattle.brcb_state.specs.Standing.{Stands as AttributesStand, after_deed, is_purging, is_change, Tells}
+use Rattle.brcb_state.specs.declared.block.Block.{Block}
+use Rattle.brcb_state.specs.declared.told.Effect.{Effect}
+use Rattle.value_store.specs.Stored.{Stored}
+use Rattle.window_core.specs.Pieces.{octets_of}
+use Rattle.window_core.specs.Windows.{Windowed}
+use Rattle.window_core.specs.Standing.{piece_of, body_of}
+use Rattle.window_core.specs.Points.{at}
+use Rattle.window_core.proofs.DeedLaws.{unbroken-unchanged}
+use Rattle.report_block.specs.declared.block.ReportBlock.{ReportBlock}
+use Rattle.report_block.specs.EntryOctets.{kept_of, note_octets}
+use Rattle.report_block.specs.Standing.{IsMemberKept, AreKeptMembers, Stands}
+use Rattle.report_block.specs.Coming.{came, untouched, noting, after_bodies, purged_if, closed_at, window_after, AreOf}
+use Rattle.report_block.specs.Events.{pieces_of, with_note}
+use Rattle.report_block.specs.Writes.{coming_of, settled, written_by}
+use Rattle.report_block.proofs.StandLaws.{arrival-stands, deed-stands, idle, integrity-off, before-arrival}
+
+or-left : (x y : Bool) → (x || y) ≡ false → x ≡ false
+or-left true y h = cc
+or-left false y h = refl
+
+or-right : (x y : Bool) → (x || y) ≡ false → y ≡ false
+or-right true y h = cc
+or-right false y h = h
+
+none-kept : AreOf [] []
+none-kept = record { are = refl; readable = All-nil IsMemberKept }
+
+off : {A : Type 0} → false ≡ true → A
+off h = cc
+
+module _ (c : Model) (b m n : ℕ) (before : Past) (part : ReportBlock) where
+  -- time makes nothing of a block that reports at once and has no integrity period
+  pub arrives-at-once : Stands part c b before → (parameters_at c b before).buf_tm ≡ 0 → (parameters_at c b before).intg_pd ≡ 0 → Stands part c b (arrival n m ∷ before)
+  arrives-at-once s time period =
+      let none = integrity-off c b m n before (eq-eqb (parameters_at c b before).intg_pd 0 period) in
+      subst (λ x. Stands x c b (arrival n m ∷ before)) (idle (now before) (max m (now before)) n [] part (eq-eqb part.block.options.intg_pd 0 (ap (λ (o : Parameters). o.intg_pd) s.block.options ∙ period)) (s.window.at_once (s.window.buf_tm ∙ time)))
+      (arrival-stands c b m n before part [] s (λ is. off (sym none ∙ is)))
+
+  -- what a deed doesn't touch it leaves as it is
+  pub left-alone : (d : Deed) → note c b (at n m d) before ≡ [] → cuts c b d before ≡ false → Stands part c b (arrival n m ∷ before)
+      → Stands (record part { block = after_deed b d part.ring.front part.block }) c b (at n m d ∷ before)
+  left-alone d none plain s = deed-stands c b m n d before part untouched s (record {
+    note = subst (AreOf []) (sym none) none-kept;
+    general = sym (or-left (is_interrogation b d) (purges c b d before) plain);
+    all = λ is. off (sym (or-left (is_interrogation b d) (purges c b d before) plain) ∙ is);
+    purge = sym (or-right (is_interrogation b d) (purges c b d before) plain);
+    change = sym (unbroken-unchanged c b m n before d plain);
+  })
+
+-- ---- an event
+
+octets-noted : (stored : List Stored) (shapes : List MemberShape) (ms : List Mention) → octets_of (pieces_of stored shapes ms) ≡ note_octets stored shapes ms
+octets-noted stored shapes [] = refl
+octets-noted stored shapes (m ∷ ms) = ap (λ l. kept_octets_of (kept_of stored shapes m) ++ l) (octets-noted stored shapes ms)
+
+module _ (b moment n : ℕ) (settings : List Setting) (stored : List Stored) (part : ReportBlock) where
+  noted-by : (w : Windowed) (g : _) → w.gathered ≡ g → g ≡ None → w.buf_tm ≡ 0 → (m : Mention) (ms : List Mention)
+      → came b (valued settings) moment n (noting (pieces_of stored part.members.items (m ∷ ms))) (record part { window = w }) ≡ with_note stored moment n (m ∷ ms) (record part { window = w })
+  noted-by w (Some g) is none time m ms = cc
+  noted-by w None is none time m ms =
+      let all : List Mention = m ∷ ms in
+      let ps = pieces_of stored part.members.items all in
+      let zero : (w.buf_tm == 0) ≡ true = eq-eqb w.buf_tm 0 time in
+      rw (zero, is, octets-noted stored part.members.items all) refl
+
+  pub noted-at-once : part.window.buf_tm ≡ 0 → part.window.gathered ≡ None → (ms : List Mention) → came b (valued settings) moment n (noting (pieces_of stored part.members.items ms)) part ≡ with_note stored moment n ms part
+  noted-at-once time none [] = refl
+  noted-at-once time none (m ∷ ms) = noted-by part.window part.window.gathered refl none time m ms
+
+-- the process set attributes, and the note is of these members
+pub event-stands : (c : Model) (b m n : ℕ) (before : Past) (part : ReportBlock) (settings : List Setting) (stored : List Stored) (ms : List Mention) → (parameters_at c b before).buf_tm ≡ 0
+    → pieces_of stored part.members.items ms ≡ map piece_of (note c b (at n m (valued settings)) before) → AreKeptMembers (note c b (at n m (valued settings)) before)
+    → Stands part c b (arrival n m ∷ before) → Stands (with_note stored (max m (now before)) n ms part) c b (at n m (valued settings) ∷ before)
+event-stands c b m n before part settings stored ms time are readable s =
+    let zero : part.window.buf_tm ≡ 0 = s.window.buf_tm ∙ time in
+    subst (λ x. Stands x c b (at n m (valued settings) ∷ before)) (noted-at-once b (max m (now before)) n settings stored part zero (s.window.at_once zero) ms)
+    (deed-stands c b m n (valued settings) before part (noting (pieces_of stored part.members.items ms)) s (record { note = record { are = are; readable = readable }; general = refl; all = λ is. off is; purge = refl; change = refl }))
+
+-- ---- a write
+
+tells : (c : Model) (a : AssocNo) (b : ℕ) (comp : Comp) (v : Value) (n m : ℕ) (before : Past) (s : Block) → AttributesStand s c b before → Tells (effect_of comp v s) c b (at n m (wrote a.0 b comp v)) before
+tells c a b comp v n m before s st = search rules
+
+-- an accepted write of another component than GI
+pub write-stands : (c : Model) (b m n : ℕ) (before : Past) (part : ReportBlock) (a : AssocNo) (comp : Comp) (v : Value) (e : Effect) → e ≡ effect_of comp v part.block → is_interrogation b (wrote a.0 b comp v) ≡ false
+    → Stands part c b (arrival n m ∷ before) → Stands (written_by a comp v (max m (now before)) n e part) c b (at n m (wrote a.0 b comp v) ∷ before)
+write-stands c b m n before part a comp v e is plain s =
+    let t = tells c a b comp v n m before part.block (before-arrival c b m n before part.block s.block) in
+    let own : after_deed b (wrote a.0 b comp v) part.ring.front part.block ≡ written a comp v part.ring.front part.block = ap (λ u. if u then written a comp v part.ring.front part.block else part.block) (eq-eqb b b refl) in
+    subst (λ (x : Block). Stands (settled (max m (now before)) n e (record part { block = x })) c b (at n m (wrote a.0 b comp v) ∷ before)) own
+    (subst (λ r. Stands (record part {
+      block = after_deed b (wrote a.0 b comp v) part.ring.front part.block;
+      ring = purged_if (is_purging e) (after_bodies part.ring r);
+      window = window_after (is_purging e) (max m (now before)) [] (after_deed b (wrote a.0 b comp v) part.ring.front part.block).options.buf_tm part.window;
+      origin = if is_change e then Some (max m (now before)) else part.origin;
+    }) c b (at n m (wrote a.0 b comp v) ∷ before)) (append-nil (body_of n (closed_at (is_purging e) (max m (now before)) [] part.window)))
+    (deed-stands c b m n (wrote a.0 b comp v) before part (coming_of e) s (record {
+      note = none-kept;
+      general = sym plain;
+      all = λ is. off (sym plain ∙ is);
+      purge = ap is_purging is ∙ t.purge;
+      change = ap is_change is ∙ t.change;
+    })))

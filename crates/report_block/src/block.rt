@@ -1,0 +1,187 @@
+//! One report block: its attributes, its buffer, what it has gathered, and the members of its data set.
+
+use crate::entry_octets::put_note;
+use bay_model::{Comp, Fixed, MemberShape, Mention};
+use brcb_state::{Block, Effect, Kept};
+use entry_ring::Ring;
+use std::alloc::{AllocError, Global};
+use sv_base::{AssocNo, BlockDef, Moment, Value};
+use value_store::Store;
+use window_core::Window;
+
+/// A report block: its attributes, its retained entries, the open group of its events, the members of its data set in their order,
+/// and the moment from which its integrity periods count, from the first point on.
+#[derive(Drop)]
+pub struct ReportBlock {
+    pub(crate) block: Block,
+    pub(crate) ring: Ring,
+    window: Window,
+    pub(crate) members: Vec<MemberShape>,
+    origin: Option<Moment>,
+}
+
+impl ReportBlock {
+    ghost use Rattle.std.specs.Prelude.{◌≡◌, ◌≤◌, ◌*◌, length, None, Some, IfOk, if◌then◌else◌};
+    ghost use Rattle.std.specs.List.{All};
+    ghost use Rattle.bay_model.specs.Configured.{block_defined};
+    ghost use Rattle.brcb_state.specs.Changes.{configured};
+    ghost use Rattle.brcb_state.specs.Components.{trg_of};
+    ghost use Rattle.entry_ring.specs.Standing.{empty};
+    ghost use Rattle.entry_ring.specs.Ringed.{after_purge};
+    ghost use Rattle.window_core.specs.Windows.{empty as empty_window, closed};
+    ghost use Rattle.window_core.specs.Standing.{body_of};
+    ghost use Rattle.report_block.specs.Coming.{after_bodies};
+    ghost use Rattle.report_block.specs.EntryOctets.{IsKeepable};
+    ghost use Rattle.report_block.specs.Events.{with_note};
+    ghost use Rattle.report_block.specs.Writes.{without_effect, write_answer, after_write, settled, lost_by, reported_by};
+
+    /// A block as it is configured, with no entry and nothing gathered. It takes all the memory that it needs, its entries' and
+    /// that of a group of its members.
+    pub fn open(
+        alloc: Global,
+        def: &BlockDef,
+        members: Vec<MemberShape>,
+    ) -> Result<ReportBlock, AllocError>
+        requires opt_flds { length def.now.opt_flds ≡ 10 }
+        requires trg_ops { length def.now.trg_ops ≡ 6 }
+        requires few { length members.items ≤ 256 }
+        ensures block { IfOk result (λ p. p.block ≡ configured (block_defined def.now)) }
+        ensures ring { IfOk result (λ p. p.ring ≡ empty def.now.capacity) }
+        ensures window { IfOk result (λ p. p.window ≡ empty_window (length members.items) def.now.buf_tm) }
+        ensures origin { IfOk result (λ p. p.origin ≡ None) }
+        ensures members { IfOk result (λ p. p.members.items ≡ members.items) }
+    {
+        let window = Window::open(alloc, members.len() as u32, def.buf_tm)?;
+        Ok(ReportBlock {
+            block: Block::open(alloc, def)?,
+            ring: Ring::open(alloc, def.capacity)?,
+            window,
+            members,
+            origin: None,
+        })
+    }
+
+    /// The members of its data set.
+    pub fn members(&self) -> &[MemberShape]
+        ensures { result.now ≡ self.now.members.items }
+    {
+        self.members.as_slice()
+    }
+
+    /// Bits 1 to 5 of TrgOps.
+    pub fn trg(&self) -> bay_model::Trg
+        ensures { result ≡ trg_of self.now.block.options.trg_ops }
+    {
+        self.block.trg()
+    }
+
+    /// Which entries are retained.
+    pub(crate) fn retained(&self) -> Kept
+        ensures { result ≡ record { front = self.now.ring.front; len = self.now.ring.newest } }
+    {
+        Kept {
+            front: self.ring.front(),
+            len: self.ring.len(),
+        }
+    }
+
+    /// Keeps the entry of an event's note at once, if there is a member in it, where BufTm is 0. Its octets come to stand in
+    /// `octets`. It takes no memory.
+    pub fn keep_at_once(
+        &mut self,
+        store: &Store,
+        now: Moment,
+        step: u64,
+        note: &[Mention],
+        octets: &mut Fixed,
+    )
+        requires members { All (IsKeepable store.now self.old.members.items) note.now }
+        requires room { 504 * length note.now ≤ octets.old.room }
+        ensures part { self.new ≡ with_note store.now now step note.now self.old }
+        ensures room { octets.new.room ≡ octets.old.room }
+    {
+        if !note.is_empty() {
+            put_note(store, &self.members, note, octets);
+            self.ring.append(now, step, octets.as_slice());
+        }
+    }
+
+    /// Writes a component other than DatSet and GI for an association, at the moment and the number of its step; gives the code of
+    /// the first refusal (IEC 61850-7-2, SetBRCBValues). A purge closes what is gathered, and empties the buffer. A refused write
+    /// changes nothing. What closes is put into `octets`. It takes no memory.
+    pub fn write(
+        &mut self,
+        a: AssocNo,
+        comp: Comp,
+        value: &Value,
+        now: Moment,
+        step: u64,
+        octets: &mut Fixed,
+    ) -> Result<(), u8>
+        requires room { 504 * self.old.window.members ≤ octets.old.room }
+        ensures answer { result ≡ without_effect (write_answer a comp value.now self.old) }
+        ensures written { self.new ≡ after_write a comp value.now now step self.old (write_answer a comp value.now self.old) }
+        ensures room { octets.new.room ≡ octets.old.room }
+    {
+        let retained = self.retained();
+        match self.block.write(a, comp, value, retained, false) {
+            Ok(effect) => {
+                self.settle(effect, now, step, octets);
+                Ok(())
+            }
+            Err(code) => Err(code),
+        }
+    }
+
+    /// Closes what is gathered, and keeps its entry.
+    fn close(&mut self, step: u64, octets: &mut Fixed)
+        requires room { 504 * self.old.window.members ≤ octets.old.room }
+        ensures closed { self.new ≡ record self.old { window = closed self.old.window; ring = after_bodies self.old.ring (body_of step self.old.window.gathered) } }
+        ensures room { octets.new.room ≡ octets.old.room }
+    {
+        if let Some(moment) = self.window.close(octets) {
+            self.ring.append(moment, step, octets.as_slice());
+        }
+    }
+
+    /// What an accepted write makes of the rest.
+    fn settle(&mut self, effect: Effect, now: Moment, step: u64, octets: &mut Fixed)
+        requires room { 504 * self.old.window.members ≤ octets.old.room }
+        ensures settled { self.new ≡ settled now step effect self.old }
+        ensures room { octets.new.room ≡ octets.old.room }
+    {
+        match effect {
+            Effect::Purge => self.purge(step, octets),
+            Effect::PurgingChange => {
+                self.purge(step, octets);
+                self.origin = Some(now);
+            }
+            _ => (),
+        }
+    }
+
+    /// Empties the buffer, once what is gathered has closed.
+    fn purge(&mut self, step: u64, octets: &mut Fixed)
+        requires room { 504 * self.old.window.members ≤ octets.old.room }
+        ensures purged { self.new ≡ record self.old { window = empty_window self.old.window.members self.old.block.options.buf_tm; ring = after_purge (after_bodies self.old.ring (body_of step self.old.window.gathered)) } }
+        ensures room { octets.new.room ≡ octets.old.room }
+    {
+        self.close(step, octets);
+        self.ring.purge();
+        self.window.set_time(self.block.buf_tm());
+    }
+
+    /// An association was lost: what it has enabled it enables no longer.
+    pub fn lost(&mut self, a: AssocNo)
+        ensures { self.new ≡ lost_by a self.old }
+    {
+        self.block.lost(a);
+    }
+
+    /// The entry of this number was reported.
+    pub fn sent(&mut self, id: u64)
+        ensures { self.new ≡ reported_by id self.old }
+    {
+        self.block.sent(id);
+    }
+}

@@ -1,0 +1,164 @@
+//! The members of a report, from the octets that a block keeps of an entry.
+
+ghost use Rattle.std.specs.Prelude.{◌≡◌, ◌≤◌, ◌<◌, ◌++◌, ◌/◌, ◌%◌, ℕ, List, length, IfOk, IfSome, Some, option_map};
+ghost use Rattle.ber_grammar.specs.Element.{Element, Spells};
+ghost use Rattle.bay_model.specs.Named.{configured_model, nodes as nodes_of};
+ghost use Rattle.bay_model.specs.Notes.{Kept};
+ghost use Rattle.bay_model.specs.Reports.{member_of, reference_at};
+ghost use Rattle.bay_model.specs.Retained.{kept_octets_of};
+ghost use Rattle.data_sets.specs.Booked.{node_numbers};
+ghost use Rattle.report_block.specs.EntryOctets.{weights as weights_of};
+ghost use Rattle.report_block.specs.Again.{IsOneElement, AreKept, AreNodes, reasons_in, reference_by, reported, front_member, front_seen};
+
+use crate::spare::{copied_into, put_member, spare_member};
+use bay_model::{Member, MemberShape, Members, Reasons};
+use ber_view::first;
+use object_model::Model;
+use std::alloc::{AllocError, Global};
+use sv_base::{MemberNo, NodeId, Octs};
+
+/// What stands in front of kept octets: a member, and the octets behind it.
+#[derive(Clone, Copy, Debug)]
+struct Front<'a> {
+    number: u32,
+    reasons: Reasons,
+    octets: &'a [u8],
+    rest: &'a [u8],
+}
+
+/// The reasons whose bits are set in an octet.
+fn reasons_of(weights: u8) -> Reasons
+    ensures { result ≡ reasons_in weights }
+{
+    Reasons {
+        dchg: weights / 64 % 2 == 1,
+        qchg: weights / 32 % 2 == 1,
+        dupd: weights / 16 % 2 == 1,
+        intg: weights / 8 % 2 == 1,
+        gi: weights / 4 % 2 == 1,
+    }
+}
+
+/// How many octets the first element has; none where the octets begin with none.
+fn element_len(octets: &[u8]) -> Option<usize>
+    ensures exact { (front rest : List ℕ) (e : Element) → Spells front e → octets.now ≡ front ++ rest → result ≡ Some (length front) }
+    ensures within { IfSome result (λ n. n ≤ length octets.now) }
+{
+    match first(octets) {
+        Ok((_, rest)) => Some(octets.len() - rest.len()),
+        Err(_) => None,
+    }
+}
+
+/// The member of a number in two octets, of reasons in one, whose Data stands in front of these octets.
+fn front_with(high: u8, low: u8, weights: u8, octets: &[u8]) -> Option<Front<'_>>
+    ensures exact { (k : Kept) (rest : List ℕ) → IsOneElement k.octets → high ≡ k.number / 256 → low ≡ k.number % 256 → weights ≡ weights_of k.reasons
+        → octets.now ≡ k.octets ++ rest → option_map front_seen result ≡ Some (k, rest) }
+    ensures within { IfSome result (λ f. length f.rest.now ≤ length octets.now) }
+{
+    match element_len(octets) {
+        Some(len) => {
+            let (octets, rest) = octets.split_at(len);
+            Some(Front {
+                number: u32::from(high) * 256 + u32::from(low),
+                reasons: reasons_of(weights),
+                octets,
+                rest,
+            })
+        }
+        None => None,
+    }
+}
+
+/// The first member, and the octets behind it.
+fn front_of(octets: &[u8]) -> Option<Front<'_>>
+    ensures exact { (k : Kept) (rest : List ℕ) → IsOneElement k.octets → octets.now ≡ kept_octets_of k ++ rest
+        → option_map front_seen result ≡ Some (k, rest) }
+    ensures shorter { IfSome result (λ f. length f.rest.now < length octets.now) }
+{
+    match octets {
+        [high, low, _, weights, rest @ ..] => front_with(*high, *low, *weights, rest),
+        _ => None,
+    }
+}
+
+/// The reference `LD/item` of a node, in the memory of another.
+fn reference_of(spare: Octs, model: &Model, node: NodeId) -> Result<Octs, AllocError>
+    requires { node.0 < length (nodes_of model.now) }
+    ensures { IfOk result (λ o. o ≡ reference_at (configured_model model.now) node.0) }
+{
+    let (domain, item) = (model.domain_of(node), model.item_of(node));
+    let mut octets = spare.into_vec();
+    octets.clear();
+    octets.reserve(domain.len() + 1 + item.len())?;
+    octets.extend_from_slice(domain)?;
+    octets.push(b'/')?;
+    octets.extend_from_slice(item)?;
+    Ok(Octs::from_vec(octets))
+}
+
+/// The reference of a member of a data set, by its number from 1, in the memory of another.
+fn member_reference(
+    spare: Octs,
+    model: &Model,
+    shapes: &[MemberShape],
+    number: u32,
+) -> Result<Octs, AllocError>
+    requires { AreNodes model.now shapes.now }
+    ensures { IfOk result (λ o. o ≡ reference_by (configured_model model.now) (node_numbers shapes.now) number) }
+{
+    match shapes.get((number as usize).saturating_sub(1)) {
+        Some(shape) => reference_of(spare, model, shape.node),
+        None => Ok(Octs::from_vec(copied_into(spare.into_vec(), b"")?)),
+    }
+}
+
+/// The member of a report, in the memory of another.
+fn member_from(
+    spare: Member,
+    model: &Model,
+    shapes: &[MemberShape],
+    front: &Front<'_>,
+) -> Result<Member, AllocError>
+    requires { AreNodes model.now shapes.now }
+    ensures { IfOk result (λ m. m ≡ member_of (configured_model model.now) (node_numbers shapes.now) (front_member front.now)) }
+{
+    Ok(Member {
+        number: MemberNo(front.number),
+        reference: member_reference(spare.reference, model, shapes, front.number)?,
+        octets: Octs::from_vec(copied_into(spare.octets.into_vec(), front.octets)?),
+        reasons: front.reasons,
+    })
+}
+
+/// The members of a report, in the memory of those of another, from the octets that a block keeps of an entry of a data set of
+/// these shapes, whose nodes are the model's. Of octets that are not kept ones nothing is said.
+pub(crate) fn members_of(
+    alloc: Global,
+    model: &Model,
+    shapes: &[MemberShape],
+    octets: &[u8],
+    spare: Members,
+) -> Result<Members, AllocError>
+    requires { AreNodes model.now shapes.now }
+    ensures { IfOk result (λ members. (ks : List Kept) → AreKept octets.now ks → members ≡ reported model.now shapes.now ks) }
+{
+    let mut items = spare.into_vec();
+    // A member has at least six of the octets.
+    let most = shapes.len().min(octets.len() / 6);
+    items.reserve(most.saturating_sub(items.len()))?;
+    let mut rest = octets;
+    let mut count = 0;
+    while let Some(front) = front_of(rest) {
+        let spare = spare_member(alloc, &mut items, count);
+        put_member(
+            &mut items,
+            count,
+            member_from(spare, model, shapes, &front)?,
+        )?;
+        rest = front.rest;
+        count += 1;
+    }
+    items.truncate(count);
+    Ok(Members::from_vec(items))
+}
