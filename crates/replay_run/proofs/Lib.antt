@@ -11,4 +11,5 @@ pub mod StatusLaws
 mod WorkedLines
 pub mod Judging
 pub mod ReadWhole
+pub mod TakenLaws
 pub mod OneWord
