@@ -1,6 +1,6 @@
 -- The configuration and the history of a record, from its lines alone: what they say, not how they are read. All of it is
 -- defined for the lines before any line too. Where lines are looked back on, the newest is the first.
-use Rattle.std.specs.Prelude.{ℕ, ◌==◌, ◌-◌, not, Bool, true, false, List, [], ◌∷◌, ◌++◌, length, take, codes, Option, None, Some, Result, Ok, Err, if◌then◌else◌}
+use Rattle.std.specs.Prelude.{ℕ, ◌==◌, not, Bool, true, false, List, [], ◌∷◌, ◌++◌, codes, Option, None, Some, Result, Ok, Err, if◌then◌else◌}
 use Rattle.std.specs.List.{slice_split, flat_map}
 use Rattle.std.specs.Option.{option_map, option_and_then}
 use Rattle.std.specs.Str.{bytes_eq}
@@ -15,11 +15,17 @@ use Rattle.run_record.specs.declared.fault.Kind.{Kind}
 use Rattle.run_record.specs.declared.line.RecLine.{RecLine}
 use Rattle.run_record.specs.declared.line.RecLine.TheVariants as lines
 use Rattle.record_steps.specs.Resolved.{told_of}
-use Rattle.record_steps.specs.Told.{Told, turn, refused}
+use Rattle.record_steps.specs.Told.{Told, pass_to, turn, refused}
+
+-- all pieces but the last, behind which there is no newline
+abbrev pub ended_pieces : List (List ℕ) → List (List ℕ)
+ended_pieces [] = []
+ended_pieces (piece ∷ []) = []
+ended_pieces (piece ∷ next ∷ more) = piece ∷ ended_pieces (next ∷ more)
 
 -- the lines of a record, each ended by a newline
 abbrev pub lines_of : List ℕ → List (List ℕ)
-lines_of octets = take (length (slice_split (λ b. b == 10) octets) - 1) (slice_split (λ b. b == 10) octets)
+lines_of octets = ended_pieces (slice_split (λ b. b == 10) octets)
 
 -- those behind the first that is neither empty nor a remark, which is `record 1`
 abbrev pub behind_heading : List (List ℕ) → List (List ℕ)
@@ -43,15 +49,6 @@ parted (line ∷ more) = if bytes_eq line (codes "end") then Some (record { conf
 abbrev pub octets_of : List (List ℕ) → List ℕ
 octets_of ls = flat_map (λ line. line ++ 10 ∷ []) ls
 
--- the moment of the next step: that of the newest `at` line
-abbrev pub moment_after : Result RecLine Kind → ℕ → ℕ
-moment_after (Ok (lines.At moment)) was = moment
-moment_after _ was = was
-
-abbrev pub moment_of : List (List ℕ) → ℕ
-moment_of [] = least_moment
-moment_of (line ∷ before) = moment_after (line_at line) (moment_of before)
-
 -- what a line says of itself: an association that it opens isn't open, and every other that it names is
 abbrev pub opens : RecLine → Bool
 opens (lines.Open a form) = true
@@ -61,6 +58,15 @@ abbrev pub said : Config → Result RecLine Kind → Told
 said c (Ok line) = told_of c (not (opens line)) line
 said c (Err kind) = refused (number_of kind)
 
+-- the moment of the next step: that of the newest `at` line
+abbrev pub moment_after : Told → ℕ → ℕ
+moment_after (pass_to moment) was = moment
+moment_after _ was = was
+
+abbrev pub moment_of : Config → List (List ℕ) → ℕ
+moment_of c [] = least_moment
+moment_of c (line ∷ before) = moment_after (said c (line_at line)) (moment_of c before)
+
 abbrev pub step_in : ℕ → Told → Option Turn
 step_in moment (turn actor step) = Some (record { moment = moment; actor = actor; step = step })
 step_in moment _ = None
@@ -68,7 +74,7 @@ step_in moment _ = None
 -- what each line comes to: a step at the moment of the newest `at` line before it, or none
 abbrev pub steps_of : Config → List (List ℕ) → List (Option Turn)
 steps_of c [] = []
-steps_of c (line ∷ before) = step_in (moment_of before) (said c (line_at line)) ∷ steps_of c before
+steps_of c (line ∷ before) = step_in (moment_of c before) (said c (line_at line)) ∷ steps_of c before
 
 -- a list, turned around, in front of another
 abbrev pub onto : {A : Type 0} → List A → List A → List A

@@ -13,3 +13,4 @@ pub mod Judging
 pub mod ReadWhole
 pub mod TakenLaws
 pub mod OneWord
+pub mod HistoryLaws
