@@ -1,13 +1,11 @@
 -- The text that is written to a record is that of its history.
-use Rattle.std.proofs.Common.{◌≡◌, ◌≤◌, ◌+◌, ◌==◌, ◌&&◌, ℕ, suc, Bool, true, false, not, List, [], ◌∷◌, ◌++◌, length, take, drop, refl, sym, ap, subst, ◌∙◌, arith, inl, inr, append_assoc, append-nil}
+use Rattle.std.proofs.Common.{◌≡◌, ◌+◌, ◌==◌, ◌&&◌, ℕ, suc, Bool, true, false, not, List, [], ◌∷◌, ◌++◌, length, take, refl, sym, ap, subst, ◌∙◌, arith, inl, inr, append_assoc, append-nil}
 use Rattle.std.specs.Prelude.{Option, None, Some, IfSome, Result, Ok, Err, codes, nat_lt, if◌then◌else◌}
 use Rattle.std.specs.Option.{option_map, option_and_then}
 use Rattle.std.specs.Str.{bytes_eq}
 use Rattle.sv_base.specs.declared.config.Config.{Config}
 use Rattle.bay_model.specs.Named.{configured_model}
 use Rattle.bay_model.specs.Acceptance.{Fault, fault, IsHistory}
-use Rattle.bay_model.specs.Answers.{Turn, answer}
-use Rattle.bay_model.specs.declared.step.Step.{Step}
 use Rattle.text_words.specs.Octets.{is_skipped}
 use Rattle.text_words.specs.Words.{words_of}
 use Rattle.cfg_parser.specs.Kinds as cfg
@@ -18,15 +16,13 @@ use Rattle.run_record.specs.Judging as judging
 use Rattle.run_record.specs.Judging.{is_long, number_of}
 use Rattle.run_record.specs.declared.fault.Kind.{Kind}
 use Rattle.run_record.specs.declared.line.RecLine.{RecLine}
-use Rattle.run_record.specs.declared.line.RecLine.TheVariants as lines
-use Rattle.answer_text.specs.Texts.{answer_lines}
 use Rattle.record_steps.specs.Resolved.{association_of, told_of}
 use Rattle.record_steps.specs.Told.{Told, skip, pass_to, turn, refused, last}
-use Rattle.record_history.specs.Histories.{ended_pieces, behind_heading, Parted, with_line, parted, octets_of, opens, said, moment_after, moment_of, step_in, steps_of, onto, Recorded, recorded, lines_of, history_of}
+use Rattle.record_history.specs.Histories.{ended_pieces, behind_heading, Parted, with_line, parted, octets_of, said, moment_after, moment_of, step_in, steps_of, onto, Recorded, recorded, lines_of, history_of}
 use Rattle.record_history.specs.Texts.{turns_in, text_of, record_text}
 use Rattle.record_history.proofs.SaidLaws.{IsRefused, said-same}
 use Rattle.record_history.proofs.LastLaws.{told-last, end-line}
-use Rattle.replay_run.specs.Played.{Played, start, turn_at, with_turn, at_moment, is_open}
+use Rattle.replay_run.specs.Played.{Played, start, turn_at, is_open}
 use Rattle.replay_run.specs.Moves.{Place, Move, goes, stops, opening, configuring, playing}
 use Rattle.replay_run.specs.Openings.{headed, opening_at, unbuilt_line, started_by, started, configuring_at}
 use Rattle.replay_run.specs.Steps.{accepted, played, told_at, step_at}
@@ -44,10 +40,10 @@ abbrev configured : List ℕ → Of
 configured text ls = option_and_then (λ (p : Parted). recorded (config_at (text ++ octets_of p.configuration)) p.steps) (parted ls)
 
 -- behind step lines, the newest of them first
-abbrev standing : Config → List (List ℕ) → Played
+abbrev pub standing : Config → List (List ℕ) → Played
 standing c before = record { moment = moment_of c before; turns = turns_in (steps_of c before) }
 
-abbrev grown : Config → List (List ℕ) → Told → Played
+abbrev pub grown : Config → List (List ℕ) → Told → Played
 grown c before t = record { moment = moment_after t (moment_of c before); turns = turns_in (step_in (moment_of c before) t ∷ steps_of c before) }
 
 -- the history of the lines that follow, where the reading is, and what was written before

@@ -1,5 +1,5 @@
 -- A record: its lines one after another, the status where they end, and the answers.
-use Rattle.std.specs.Prelude.{ℕ, suc, ◌+◌, ◌==◌, nat_lt, ◌&&◌, not, Bool, true, false, List, [], ◌∷◌, ◌++◌, length, take, Result, Err, if◌then◌else◌}
+use Rattle.std.specs.Prelude.{ℕ, suc, ◌+◌, ◌==◌, nat_lt, ◌&&◌, not, Bool, false, List, [], ◌∷◌, ◌++◌, length, take, Result, Err, if◌then◌else◌}
 use Rattle.std.specs.List.{slice_split}
 use Rattle.sv_base.specs.declared.config.Config.{Config}
 use Rattle.cfg_parser.specs.Kinds.{number_of}
