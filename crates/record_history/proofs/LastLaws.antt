@@ -1,5 +1,5 @@
 -- The line that tells that it is the last is `end`.
-use Rattle.std.proofs.Common.{◌≡◌, ℕ, Bool, true, false, List, ap, refl}
+use Rattle.std.proofs.Common.{◌≡◌, ℕ, Bool, true, false, List, refl}
 use Rattle.std.specs.Prelude.{Option, None, Some, Ok, codes, if◌then◌else◌}
 use Rattle.sv_base.specs.declared.config.Config.{Config}
 use Rattle.sv_base.specs.declared.numbers.AssocNo.{AssocNo}
@@ -22,8 +22,8 @@ use Rattle.run_record.proofs.ToldLaws.{line-told}
 use Rattle.run_record.specs.Grammar.{Spells}
 use Rattle.record_steps.specs.Shapes.{shape_at}
 use Rattle.record_steps.specs.Settings.{are_named, settings_at}
-use Rattle.record_steps.specs.Resolved.{turn_of, is_built, opened_as, valued_as, written_as, lost_as, set_to, set_as, told_of}
-use Rattle.record_steps.specs.Told.{Told, skip, pass_to, turn, refused, last}
+use Rattle.record_steps.specs.Resolved.{turn_of, is_built, opened_as, valued_as, written_as, set_to, told_of}
+use Rattle.record_steps.specs.Told.{Told, turn, refused, last}
 
 turn-goes : (c : Config) (actor : ℕ) (step : Step) → turn_of c actor step ≡ last → ⊥
 turn-goes c actor step h = by (fits c step) h where

@@ -6,7 +6,7 @@ use Rattle.std.specs.Option.{option_map, option_and_then}
 use Rattle.std.specs.Str.{bytes_eq}
 use Rattle.sv_base.specs.declared.config.Config.{Config}
 use Rattle.bay_model.specs.Points.{least_moment}
-use Rattle.bay_model.specs.Answers.{Turn, History}
+use Rattle.bay_model.specs.Answers.{Turn}
 use Rattle.text_words.specs.Octets.{is_skipped}
 use Rattle.cfg_parser.specs.Looking.{config_at}
 use Rattle.cfg_parser.specs.declared.fault.CfgFault.{CfgFault}
