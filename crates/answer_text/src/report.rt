@@ -1,6 +1,6 @@
 //! The line of a report.
 
-ghost use Rattle.std.specs.Prelude.{◌≡◌, ◌++◌, codes, OnOk, slice_get, if◌then◌else◌};
+ghost use Rattle.std.specs.Prelude.{◌≡◌, ◌++◌, codes, length, take, OnOk, OnErr, slice_get, if◌then◌else◌};
 ghost use Rattle.std.specs.List.{flat_map};
 ghost use Rattle.answer_text.specs.Texts.{report_head, report_text, block_text, member_text, reason_letters, letter_if};
 
@@ -12,7 +12,8 @@ use sv_base::{ActorNo, BlockNo};
 
 /// Writes a letter where a reason is there.
 fn push_letter(out: &mut Vec<u8>, there: bool, letter: u8) -> Result<(), AllocError>
-    ensures { OnOk result (out.new.items ≡ out.old.items ++ letter_if there letter) }
+    ensures ok { OnOk result (out.new.items ≡ out.old.items ++ letter_if there letter) }
+    ensures err { OnErr result (out.new.items ≡ out.old.items) }
 {
     if there {
         out.push(letter)?;
@@ -22,7 +23,8 @@ fn push_letter(out: &mut Vec<u8>, there: bool, letter: u8) -> Result<(), AllocEr
 
 /// Writes the letters of the reasons that are there.
 fn push_reasons(out: &mut Vec<u8>, reasons: &Reasons) -> Result<(), AllocError>
-    ensures { OnOk result (out.new.items ≡ out.old.items ++ reason_letters reasons.now) }
+    ensures ok { OnOk result (out.new.items ≡ out.old.items ++ reason_letters reasons.now) }
+    ensures err { OnErr result (take (length out.old.items) out.new.items ≡ out.old.items) }
 {
     push_letter(out, reasons.dchg, b'd')?;
     push_letter(out, reasons.qchg, b'q')?;
@@ -33,19 +35,22 @@ fn push_reasons(out: &mut Vec<u8>, reasons: &Reasons) -> Result<(), AllocError>
 
 /// Writes a member of a report.
 fn push_member(out: &mut Vec<u8>, member: &Member) -> Result<(), AllocError>
-    ensures { OnOk result (out.new.items ≡ out.old.items ++ member_text member.now) }
+    ensures ok { OnOk result (out.new.items ≡ out.old.items ++ member_text member.now) }
+    ensures err { OnErr result (take (length out.old.items) out.new.items ≡ out.old.items) }
 {
     out.push(b' ')?;
     push_number(out, u64::from(member.number.0))?;
     out.push(b'=')?;
     push_reasons(out, &member.reasons)?;
     out.push(b':')?;
-    push_hex(out, member.octets.as_slice())
+    push_hex(out, member.octets.as_slice())?;
+    Ok(())
 }
 
 /// Writes the members of a report.
 fn push_members(out: &mut Vec<u8>, members: &[Member]) -> Result<(), AllocError>
-    ensures { OnOk result (out.new.items ≡ out.old.items ++ flat_map member_text members.now) }
+    ensures ok { OnOk result (out.new.items ≡ out.old.items ++ flat_map member_text members.now) }
+    ensures err { OnErr result (take (length out.old.items) out.new.items ≡ out.old.items) }
 {
     for member in members {
         push_member(out, member)?;
@@ -55,14 +60,16 @@ fn push_members(out: &mut Vec<u8>, members: &[Member]) -> Result<(), AllocError>
 
 /// Writes whether entries were lost: 1 or 0 behind its word.
 fn push_overflow(out: &mut Vec<u8>, lost: bool) -> Result<(), AllocError>
-    ensures { OnOk result (out.new.items ≡ out.old.items ++ codes " ovfl " ++ (if lost then codes "1" else codes "0")) }
+    ensures ok { OnOk result (out.new.items ≡ out.old.items ++ codes " ovfl " ++ (if lost then codes "1" else codes "0")) }
+    ensures err { OnErr result (out.new.items ≡ out.old.items) }
 {
     out.extend_from_slice(if lost { b" ovfl 1" } else { b" ovfl 0" })
 }
 
 /// Writes the reference of a block.
 fn push_block(out: &mut Vec<u8>, model: &Model, block: BlockNo) -> Result<(), AllocError>
-    ensures { OnOk result (out.new.items ≡ out.old.items ++ block_text (slice_get model.now.blocks block.0)) }
+    ensures ok { OnOk result (out.new.items ≡ out.old.items ++ block_text (slice_get model.now.blocks block.0)) }
+    ensures err { OnErr result (out.new.items ≡ out.old.items) }
 {
     if let Some(reference) = model.reference_of(block) {
         out.extend_from_slice(reference)?;
@@ -77,7 +84,8 @@ fn push_head(
     a: ActorNo,
     report: &Report,
 ) -> Result<(), AllocError>
-    ensures { OnOk result (out.new.items ≡ out.old.items ++ report_head model.now a.0 report.now) }
+    ensures ok { OnOk result (out.new.items ≡ out.old.items ++ report_head model.now a.0 report.now) }
+    ensures err { OnErr result (take (length out.old.items) out.new.items ≡ out.old.items) }
 {
     push_number(out, u64::from(a.0))?;
     out.extend_from_slice(b" report ")?;
@@ -99,7 +107,8 @@ pub fn push_report(
     a: ActorNo,
     report: &Report,
 ) -> Result<(), AllocError>
-    ensures { OnOk result (out.new.items ≡ out.old.items ++ report_text model.now a.0 report.now) }
+    ensures ok { OnOk result (out.new.items ≡ out.old.items ++ report_text model.now a.0 report.now) }
+    ensures err { OnErr result (take (length out.old.items) out.new.items ≡ out.old.items) }
 {
     push_head(out, model, a, report)?;
     push_members(out, report.members.as_slice())?;

@@ -6,7 +6,7 @@ use Rattle.std.proofs.lemmas.Bool.{lt-ltb}
 use Rattle.std.proofs.lemmas.Bool.Decides.{leb_tells}
 use Rattle.std.proofs.lemmas.List.{take_all, take-append-le}
 use Rattle.replay_run.specs.Moves.{Place, opening}
-use Rattle.replay_run.specs.Records.{Outcome, limit, pieces, run, ended, outcome}
+use Rattle.replay_run.specs.Records.{Outcome, limit, pieces, run, has_begun, ended, outcome}
 use Rattle.replay_run.specs.Sessions.{NoNewline, IsAt, Stopped, Fed, Takes}
 use Rattle.replay_run.specs.Runs.{Run}
 use Rattle.replay_run.specs.Tool.{Answers}
@@ -89,7 +89,7 @@ run-stops old new (Some b) mid now taken told then count piece status r eaten ta
 
 -- the status is that of the line that isn't there
 abbrev pub IsEnded : Status → Bool → Reader → Type 0
-IsEnded status long reader = (place : Place) → IsAt reader.session.stage place → status ≡ ended long (suc reader.session.lines) place
+IsEnded status long reader = (place : Place) → IsAt reader.session.stage place → status ≡ ended long (has_begun reader.held.items) (suc reader.session.lines) place
 
 -- the source has ended before the limit
 pub run-ends : (reader : Reader) (left mid now taken told : Option (List ℕ)) (count : ℕ) (status : Status) → Run reader left mid taken told count → Consumes mid now [] → IsAtEnd now → NoNewline reader.held.items → count ≤ limit

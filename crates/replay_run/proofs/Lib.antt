@@ -11,4 +11,6 @@ pub mod StatusLaws
 mod WorkedLines
 pub mod Judging
 pub mod ReadWhole
+pub mod TakenLaws
 pub mod OneWord
+pub mod HistoryLaws

@@ -1,12 +1,12 @@
 -- Where a limit is passed, or a line isn't there.
 use Rattle.std.proofs.Common.{Bool, ◌≡◌, ◌≤◌, ◌<◌, inl, inr, suc, arith, ℕ, true, false, List, [], sym, ap, subst, refl, ◌∙◌, append-nil}
-use Rattle.std.specs.Prelude.{Option, Some, Vec, nat_lt, if◌then◌else◌}
+use Rattle.std.specs.Prelude.{Option, Some, Vec, nat_lt, ◌&&◌, if◌then◌else◌}
 use Rattle.std.proofs.lemmas.Bool.{lt-ltb}
 use Rattle.std.proofs.lemmas.Bool.Decides.{leb_tells}
 use Rattle.std.specs.declared.alloc.Global.{Global}
 use Rattle.cfg_parser.specs.Looking.{config_at}
 use Rattle.replay_run.specs.Moves.{Place, opening, configuring, playing, stops}
-use Rattle.replay_run.specs.Records.{most_lines, lines_at, line_at, passed, missing, refused_before, ended}
+use Rattle.replay_run.specs.Records.{most_lines, lines_at, line_at, passed, missing, refused_before, unended, ended}
 use Rattle.replay_run.specs.Sessions.{IsAt, Advances, AdvancesOn}
 use Rattle.replay_run.specs.declared.playing.Playing.{Playing}
 use Rattle.replay_run.specs.declared.stage.Stage.{Stage}
@@ -76,10 +76,19 @@ unfolding line_at
 below-lines status old new number line before now le on = λ place at.
     subst (λ b. Advances status new (if b then stops (passed 1 number place) [] else lines_at number place line) before now) (sym (not_over number le)) (on place at)
 
-pub ended-long : (status : Status) (long : Bool) (number next : ℕ) (place : Place) → long ≡ true → number ≡ next → status ≡ passed 3 number place → status ≡ ended long next place
+-- behind the last newline
+pub ended-long : (status : Status) (long begun : Bool) (number next : ℕ) (place : Place) → long ≡ true → number ≡ next → status ≡ passed 3 number place → status ≡ ended long begun next place
 unfolding ended
-ended-long status long number next place is same told = told ∙ (ap (λ n. passed 3 n place) same ∙ ap (λ l. ended l next place) (sym is))
+ended-long status long begun number next place is same told = told ∙ (ap (λ n. passed 3 n place) same ∙ ap (λ l. if l then passed 3 next place else unended begun next place) (sym is))
 
-pub ended-short : (status : Status) (long : Bool) (number next : ℕ) (place : Place) → long ≡ false → number ≡ next → status ≡ missing number place → status ≡ ended long next place
+pub ended-short : (status : Status) (long begun : Bool) (number next : ℕ) (place : Place) → long ≡ false → number ≡ next → status ≡ unended begun number place → status ≡ ended long begun next place
 unfolding ended
-ended-short status long number next place is same told = told ∙ (ap (λ n. missing n place) same ∙ ap (λ l. ended l next place) (sym is))
+ended-short status long begun number next place is same told = told ∙ (ap (λ n. unended begun n place) same ∙ ap (λ l. if l then passed 3 next place else unended begun next place) (sym is))
+
+pub unended-over : (status : Status) (begun over : Bool) (number : ℕ) (place : Place) → over ≡ (begun && nat_lt most_lines number) → over ≡ true → status ≡ passed 1 number place → status ≡ unended begun number place
+unfolding unended
+unended-over status begun over number place is beyond told = told ∙ ap (λ o. if o then passed 1 number place else missing number place) (sym beyond ∙ is)
+
+pub unended-missing : (status : Status) (begun over : Bool) (number : ℕ) (place : Place) → over ≡ (begun && nat_lt most_lines number) → over ≡ false → status ≡ missing number place → status ≡ unended begun number place
+unfolding unended
+unended-missing status begun over number place is within told = told ∙ ap (λ o. if o then passed 1 number place else missing number place) (sym within ∙ is)

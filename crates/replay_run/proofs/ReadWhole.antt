@@ -1,10 +1,12 @@
 -- A source that was read to its end, or as far as it is read.
-use Rattle.std.proofs.Common.{◌≡◌, ◌≤◌, ℕ, List, [], ◌++◌, length, take, ap, sym, ◌∙◌, arith, append-nil}
+use Rattle.std.proofs.Common.{◌≡◌, ◌≤◌, ◌+◌, ℕ, List, [], ◌++◌, length, take, ap, sym, ◌∙◌, arith, append-nil}
 use Rattle.std.specs.Prelude.{Option, None, Some, IfSome}
 use Rattle.std.specs.Io.KnownBytes.{Consumes, IsAtEnd}
 use Rattle.std.proofs.KnownBytes.{Consumes-nil, Consumes-trans}
 use Rattle.std.proofs.lemmas.List.{take_all}
 use Rattle.std.proofs.Math.Seq.{take-append_seam}
+use Rattle.replay_run.specs.Tool.{TakesAtMost}
+use Rattle.replay_run.proofs.TakenLaws.{takes-more}
 
 -- what was read so far: no more than so many octets
 pub record Reading (left now : Option (List ℕ)) (octets : List ℕ) (most : ℕ) : Type 0 where
@@ -30,3 +32,7 @@ whole_at_most (Some b) None octets most r full = absurd r.consumed
 whole_at_most (Some b) (Some rest) octets most r full =
     let count : most ≡ length octets = omega (arith, r.within, full) in
     rw (r.consumed, count) (sym (take-append_seam octets rest))
+
+-- and some octets more, whatever becomes of them
+pub taken-more : (left mid now : Option (List ℕ)) (octets : List ℕ) (most room : ℕ) → Reading left mid octets most → TakesAtMost room mid now → length octets + room ≤ most → TakesAtMost most left now
+taken-more left mid now octets most room r t le = takes-more (length octets) room most left mid now (octets, omega arith, r.consumed) t le

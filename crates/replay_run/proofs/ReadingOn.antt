@@ -3,7 +3,7 @@ use Rattle.std.proofs.Common.{◌≡◌, ◌<◌, ℕ, suc, Bool, List, [], ◌�
 use Rattle.std.specs.Prelude.{◌==◌, Option, None, Some}
 use Rattle.std.proofs.lemmas.List.Splits.{slice_split_at, slice_split_none, length-slice_split}
 use Rattle.replay_run.specs.Moves.{Place, opening, Move, goes, stops}
-use Rattle.replay_run.specs.Records.{Outcome, behind, pieces, run, moved, ended, line_at}
+use Rattle.replay_run.specs.Records.{Outcome, behind, pieces, run, moved, has_begun, ended, line_at}
 use Rattle.replay_run.specs.Sessions.{NoNewline, IsAt, Advances, AdvancesOn, Reads, Moves, MovesTo, Fed}
 use Rattle.replay_run.specs.declared.session.Session.{Session}
 use Rattle.replay_run.specs.declared.reader.Reader.{Reader}
@@ -24,7 +24,7 @@ run-line long count place line more none =
     ap (run long count place) (slice_split_at (λ b. b == 10) line 10 more none refl) ∙ run-on long count place line (pieces more) (pieces-some more)
 
 -- no line is left
-pub run-rest : (long : Bool) (count : ℕ) (place : Place) (rest : List ℕ) → NoNewline rest → run long count place (pieces rest) ≡ record { status = ended long (suc count) place; text = [] }
+pub run-rest : (long : Bool) (count : ℕ) (place : Place) (rest : List ℕ) → NoNewline rest → run long count place (pieces rest) ≡ record { status = ended long (has_begun rest) (suc count) place; text = [] }
 run-rest long count place rest none = ap (run long count place) (slice_split_none (λ b. b == 10) rest none)
 
 line-split : (so_far line more : List ℕ) → (so_far ++ (line ++ 10 ∷ [])) ++ more ≡ so_far ++ (line ++ 10 ∷ more)
@@ -75,10 +75,10 @@ reads-none session is count = record { place = opening; is_at = is; same = λ lo
 
 -- no line is left behind those that were read
 pub fed-ends : (reader : Reader) (octets written : List ℕ) (long : Bool) (status : Status) → Fed reader octets written → NoNewline reader.held.items
-    → ((place : Place) → IsAt reader.session.stage place → status ≡ ended long (suc reader.session.lines) place) → run long 0 opening (pieces octets) ≡ record { status = status; text = written }
+    → ((place : Place) → IsAt reader.session.stage place → status ≡ ended long (has_begun reader.held.items) (suc reader.session.lines) place) → run long 0 opening (pieces octets) ≡ record { status = status; text = written }
 fed-ends reader octets written long status f part is =
     ap (λ o. run long 0 opening (pieces o)) f.split
     ∙ (f.reads.same long reader.held.items
     ∙ (ap (behind written) (run-rest long reader.session.lines f.reads.place reader.held.items part)
-    ∙ (ap (λ t. record { status = ended long (suc reader.session.lines) f.reads.place; text = t }) (append-nil written)
+    ∙ (ap (λ t. record { status = ended long (has_begun reader.held.items) (suc reader.session.lines) f.reads.place; text = t }) (append-nil written)
     ∙ ap (λ s. record { status = s; text = written }) (sym (is f.reads.place f.reads.is_at)))))

@@ -10,3 +10,4 @@ pub mod Tool
 pub mod Runs
 pub mod Statuses
 pub mod Checked
+pub mod Written

@@ -1,5 +1,5 @@
 -- A record: its lines one after another, the status where they end, and the answers.
-use Rattle.std.specs.Prelude.{ℕ, suc, ◌+◌, ◌==◌, nat_lt, Bool, true, false, List, [], ◌∷◌, ◌++◌, length, take, Result, Err, if◌then◌else◌}
+use Rattle.std.specs.Prelude.{ℕ, suc, ◌+◌, ◌==◌, nat_lt, ◌&&◌, not, Bool, false, List, [], ◌∷◌, ◌++◌, length, take, Result, Err, if◌then◌else◌}
 use Rattle.std.specs.List.{slice_split}
 use Rattle.sv_base.specs.declared.config.Config.{Config}
 use Rattle.cfg_parser.specs.Kinds.{number_of}
@@ -38,10 +38,18 @@ abbrev pub missing : ℕ → Place → Status
 missing number (configuring before text) = refused_before number before (statuses.Config number 2) (config_at text)
 missing number place = statuses.Record number 7
 
--- the record passes the limit of octets in this line, or ends before it
-unfoldable pub ended : Bool → ℕ → Place → Status
-ended true number place = passed 3 number place
-ended false number place = missing number place
+-- an octet of a line is there
+abbrev pub has_begun : List ℕ → Bool
+has_begun rest = not (length rest == 0)
+
+-- Behind the last newline: where the line with this number has begun and is one too many, the record passes the limit of lines; else
+-- the line isn't there.
+unfoldable pub unended : Bool → ℕ → Place → Status
+unended begun number place = if begun && nat_lt most_lines number then passed 1 number place else missing number place
+
+-- first of all it may pass the limit of octets in that line
+unfoldable pub ended : Bool → Bool → ℕ → Place → Status
+ended long begun number place = if long then passed 3 number place else unended begun number place
 
 abbrev pub lines_at : ℕ → Place → List ℕ → Move
 lines_at number opening line = opening_at number line
@@ -67,8 +75,8 @@ moved (stops status text) on = record { status = status; text = text }
 
 -- behind so many lines; whether the record passes the limit of octets counts only where no line is left
 abbrev pub run : Bool → ℕ → Place → List (List ℕ) → Outcome
-run long count place [] = record { status = ended long (suc count) place; text = [] }
-run long count place (rest ∷ []) = record { status = ended long (suc count) place; text = [] }
+run long count place [] = record { status = ended long false (suc count) place; text = [] }
+run long count place (rest ∷ []) = record { status = ended long (has_begun rest) (suc count) place; text = [] }
 run long count place (line ∷ next ∷ more) = moved (line_at (suc count) place line) (λ to. run long (suc count) to (next ∷ more))
 
 -- of a whole record

@@ -1,8 +1,8 @@
 -- What the program answers.
-use Rattle.std.specs.Prelude.{◌≡◌, ℕ, List, [], ◌∷◌, map, codes, Option, String, ◌⊎◌}
+use Rattle.std.specs.Prelude.{◌≡◌, ◌≤◌, ℕ, length, List, [], ◌∷◌, map, codes, Option, String, ◌⊎◌}
 use Rattle.std.specs.String.{string_bytes}
 use Rattle.std.specs.declared.alloc.Global.{Global}
-use Rattle.std.specs.Io.KnownBytes.{Appends}
+use Rattle.std.specs.Io.KnownBytes.{Appends, Consumes}
 use Rattle.replay_run.specs.Records.{outcome}
 use Rattle.replay_run.specs.declared.status.Status.{Status}
 use Rattle.replay_run.specs.declared.status.Status.TheVariants as statuses
@@ -19,6 +19,10 @@ IsCheck words = IsWord (codes "check") words
 
 abbrev pub IsCommand : List (String Global) → Type 0
 IsCommand words = IsReplay words ⊎ IsCheck words
+
+-- at most so many octets were taken from a source
+abbrev pub TakesAtMost : ℕ → Option (List ℕ) → Option (List ℕ) → Type 0
+TakesAtMost most left now = (octets : List ℕ) × (length octets ≤ most) × Consumes left now octets
 
 -- a status of a record
 abbrev pub IsOfReplay : Status → Type 0

@@ -3,6 +3,7 @@
 ghost use Rattle.std.specs.Prelude.{◌≡◌, ◌≤◌, ◌++◌, IfOk, IfSome, OnOk};
 ghost use Rattle.std.specs.Io.KnownBytes.{Appends};
 ghost use Rattle.sv_io.specs.Causes.{Rose};
+ghost use Rattle.replay_run.specs.Tool.{TakesAtMost};
 ghost use Rattle.replay_run.specs.Checked.{count, counts, IsChecked, IsOfCheck, IsOfTelling, Checks};
 
 use crate::status::Status;
@@ -61,6 +62,7 @@ fn tell<K: Sink>(alloc: Global, config: &Config, sink: &mut K) -> Status
 pub fn check<S: Source, K: Sink>(alloc: Global, source: &mut S, sink: &mut K) -> Status
     ensures told { IsChecked result → IfSome (S.left source.old) (λ b. Checks b result (K.taken sink.old) (K.taken sink.new)) }
     ensures listed { IsOfCheck result }
+    ensures taken { TakesAtMost 67108865 (S.left source.old) (S.left source.new) }
     ensures read { result ≡ Status.ReadFault → Rose (S.faults source.old) (S.faults source.new) }
     ensures write { result ≡ Status.WriteFault → Rose (K.faults sink.old) (K.faults sink.new) }
     ensures later { (S.faults source.old ≤ S.faults source.new) × (K.faults sink.old ≤ K.faults sink.new) }

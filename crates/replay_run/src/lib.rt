@@ -5,6 +5,9 @@
 pub mod status;
 pub mod tool;
 
+// what is answered to a record, by its history
+pub mod laws;
+
 // a record: its octets in pieces, cut into lines
 mod pieces;
 mod reader;

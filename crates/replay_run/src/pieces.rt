@@ -3,6 +3,7 @@
 ghost use Rattle.std.specs.Prelude.{◌≡◌, ◌≤◌, ◌<◌, length, take, IfOk};
 ghost use Rattle.std.specs.Io.KnownBytes.{Consumes, IsAtEnd};
 ghost use Rattle.sv_io.specs.Causes.{HasCause};
+ghost use Rattle.replay_run.specs.Tool.{TakesAtMost};
 
 use sv_io::{Failed, Source};
 
@@ -12,6 +13,7 @@ pub fn read_piece<S: Source>(source: &mut S, buf: &mut [u8], room: usize) -> Res
     requires fits { room ≤ length buf.old }
     ensures bound { IfOk result (λ n. n ≤ room) }
     ensures bytes { IfOk result (λ n. Consumes (S.left source.old) (S.left source.new) (take n buf.new) × (n ≡ 0 → IsAtEnd (S.left source.new))) }
+    ensures taken { TakesAtMost room (S.left source.old) (S.left source.new) }
     ensures cause { HasCause (S.faults source.old) (S.faults source.new) result }
 {
     source.read(&mut buf[..room])

@@ -45,7 +45,7 @@ pub struct Reader {
 impl Reader {
     ghost use Rattle.std.specs.Prelude.{◌≡◌, ◌<◌, ◌≤◌, ◌+◌, ◌^◌, [], suc, length, IfOk, IfSome, IfNone, OnOk};
     ghost use Rattle.replay_run.specs.Moves.{Place};
-    ghost use Rattle.replay_run.specs.Records.{ended as ended_at};
+    ghost use Rattle.replay_run.specs.Records.{has_begun, ended as ended_at};
     ghost use Rattle.replay_run.specs.Sessions.{NoNewline, Fed, Feeds, IsAt, steps_in, IsEarly};
     ghost use Rattle.replay_run.specs.Tool.{IsJudgement};
 
@@ -63,14 +63,14 @@ impl Reader {
         }
     }
 
-    /// The status where no whole line is left: the record passes the limit of octets, or ends.
+    /// The status where no whole line is left: the record passes a limit, or ends.
     pub fn ended(&self, alloc: Global, long: bool) -> Result<Status, AllocError>
         requires early { IsEarly self.now.session.stage }
         requires lines { self.now.session.lines < 2 ^ 61 }
-        ensures status { IfOk result (λ s. (place : Place) → IsAt self.now.session.stage place → s ≡ ended_at long (suc self.now.session.lines) place) }
+        ensures status { IfOk result (λ s. (place : Place) → IsAt self.now.session.stage place → s ≡ ended_at long (has_begun self.now.held.items) (suc self.now.session.lines) place) }
         ensures judged { IfOk result IsJudgement }
     {
-        self.session.ended(alloc, long)
+        self.session.ended(alloc, long, !self.held.is_empty())
     }
 
     /// Feeds a piece behind whole lines.

@@ -7,7 +7,7 @@ ghost use Rattle.replay_run.specs.Sessions.{NoNewline, Takes, steps_in, IsEarly}
 ghost use Rattle.replay_run.specs.Tool.{IsJudgement};
 ghost use Rattle.std.specs.Prelude.{suc};
 ghost use Rattle.replay_run.specs.Moves.{Place};
-ghost use Rattle.replay_run.specs.Records.{ended};
+ghost use Rattle.replay_run.specs.Records.{has_begun, ended};
 ghost use Rattle.replay_run.specs.Sessions.{IsAt};
 ghost use Rattle.std.specs.Prelude.{◌≢◌};
 ghost use Rattle.replay_run.specs.Tool.{IsOfReplay};
@@ -78,11 +78,11 @@ fn take_piece<K: Sink>(
     }
 }
 
-/// The status where no whole line is left: the record passes the limit of octets, or ends.
+/// The status where no whole line is left: the record passes a limit, or ends.
 fn end(alloc: Global, reader: &Reader, long: bool) -> Status
     requires early { IsEarly reader.now.session.stage }
     requires lines { reader.now.session.lines < 2 ^ 61 }
-    ensures status { IsJudgement result → (place : Place) → IsAt reader.now.session.stage place → result ≡ ended long (suc reader.now.session.lines) place }
+    ensures status { IsJudgement result → (place : Place) → IsAt reader.now.session.stage place → result ≡ ended long (has_begun reader.now.held.items) (suc reader.now.session.lines) place }
     ensures listed { IsOfReplay result }
     ensures read { result ≢ Status.ReadFault }
     ensures write { result ≢ Status.WriteFault }
@@ -102,16 +102,17 @@ pub struct Replay {
 }
 
 impl Replay {
-    ghost use Rattle.std.specs.Prelude.{◌≡◌, ◌≢◌, ◌≤◌, ◌<◌, ℕ, List, Option, None, length, IfNone, IfSome};
+    ghost use Rattle.std.specs.Prelude.{◌≡◌, ◌≢◌, ◌≤◌, ◌<◌, ◌-◌, ℕ, List, Option, None, length, IfNone, IfSome};
     ghost use Rattle.std.specs.Bool.{MatchBool};
     ghost use Rattle.sv_io.specs.Causes.{Rose};
     ghost use Rattle.replay_run.specs.Runs.{IsReady, Run, Turns};
-    ghost use Rattle.replay_run.specs.Tool.{IsJudgement, IsOfReplay, Answers};
+    ghost use Rattle.replay_run.specs.Tool.{IsJudgement, IsOfReplay, Answers, TakesAtMost};
     ghost use Rattle.replay_run.specs.declared.status.Status.TheVariants as statuses;
 
     /// Nothing is read yet.
     pub fn new(alloc: Global) -> Replay
         ensures ready { IsReady result }
+        ensures count { result.count ≡ 0 }
         ensures run { (left taken : Option (List ℕ)) → Run result.reader left left taken taken result.count }
     {
         Replay {
@@ -143,6 +144,8 @@ impl Replay {
         ensures turns { Turns result self.old self.new (S.left source.old) (S.left source.new) (K.taken sink.old) (K.taken sink.new) }
         ensures ready { IfNone result (IsReady self.new) }
         ensures further { IfNone result (self.old.count < self.new.count) }
+        ensures taken { TakesAtMost (67108864 - self.old.count) (S.left source.old) (S.left source.new) }
+        ensures counted { IfNone result (TakesAtMost (self.new.count - self.old.count) (S.left source.old) (S.left source.new)) }
         ensures listed { IfSome result IsOfReplay }
         ensures read { result ≡ Some statuses.ReadFault → Rose (S.faults source.old) (S.faults source.new) }
         ensures write { result ≡ Some statuses.WriteFault → Rose (K.faults sink.old) (K.faults sink.new) }
@@ -179,6 +182,7 @@ impl Replay {
         requires full { 67108864 ≤ self.now.count }
         ensures told { (left taken told : Option (List ℕ)) → Run self.now.reader left (S.left source.old) taken told self.now.count → IsJudgement result → IfSome left (λ b. Answers b result taken told) }
         ensures listed { IsOfReplay result }
+        ensures taken { TakesAtMost 1 (S.left source.old) (S.left source.new) }
         ensures read { result ≡ statuses.ReadFault → Rose (S.faults source.old) (S.faults source.new) }
         ensures write { result ≢ statuses.WriteFault }
         ensures later { S.faults source.old ≤ S.faults source.new }

@@ -1,11 +1,21 @@
 //! The lines of a record, counted.
 
+ghost use Rattle.std.specs.Prelude.{◌≡◌, ◌&&◌, nat_lt};
+ghost use Rattle.replay_run.specs.Records.{most_lines};
+
 use crate::stage::Stage;
 use crate::status::Status;
 use std::alloc::{AllocError, Global};
 
 /// The most lines of a record.
 const MOST_LINES: u64 = 1000000;
+
+/// The line with this number has begun, and is one too many.
+fn is_over(begun: bool, number: u64) -> bool
+    ensures { result ≡ (begun && nat_lt most_lines number) }
+{
+    begun && number > MOST_LINES
+}
 
 /// What has been read of a record, line by line: how many lines, and where the reading is.
 #[derive(Drop)]
@@ -17,7 +27,7 @@ pub struct Session {
 impl Session {
     ghost use Rattle.std.specs.Prelude.{◌≡◌, ◌<◌, ◌≤◌, ◌^◌, ◌++◌, ◌∷◌, [], suc, IfOk, IfSome, IfNone, OnOk};
     ghost use Rattle.replay_run.specs.Moves.{Place};
-    ghost use Rattle.replay_run.specs.Records.{line_at, ended as ended_at};
+    ghost use Rattle.replay_run.specs.Records.{line_at, unended as unended_at, ended as ended_at};
     ghost use Rattle.replay_run.specs.Sessions.{NoNewline, IsAt, AdvancesOn, Reads, Moves, steps_in, IsEarly};
     ghost use Rattle.replay_run.specs.Tool.{IsJudgement};
 
@@ -80,18 +90,32 @@ impl Session {
         Ok(stop)
     }
 
-    /// The status where no whole line is left: the record passes the limit of octets, or ends.
-    pub fn ended(&self, alloc: Global, long: bool) -> Result<Status, AllocError>
+    /// The status where the line with this number has begun, or hasn't, and doesn't end.
+    fn unended(&self, alloc: Global, begun: bool, number: u64) -> Result<Status, AllocError>
+        requires early { IsEarly self.now.stage }
+        ensures status { IfOk result (λ s. (place : Place) → IsAt self.now.stage place → s ≡ unended_at begun number place) }
+        ensures judged { IfOk result IsJudgement }
+    {
+        if is_over(begun, number) {
+            self.stage.passed(alloc, 1, number)
+        } else {
+            self.stage.missing(alloc, number)
+        }
+    }
+
+    /// The status where no whole line is left: the record passes the limit of octets, or, with the line that has begun, that of
+    /// lines, or ends.
+    pub fn ended(&self, alloc: Global, long: bool, begun: bool) -> Result<Status, AllocError>
         requires early { IsEarly self.now.stage }
         requires lines { self.now.lines < 2 ^ 61 }
-        ensures status { IfOk result (λ s. (place : Place) → IsAt self.now.stage place → s ≡ ended_at long (suc self.now.lines) place) }
+        ensures status { IfOk result (λ s. (place : Place) → IsAt self.now.stage place → s ≡ ended_at long begun (suc self.now.lines) place) }
         ensures judged { IfOk result IsJudgement }
     {
         let number = self.lines + 1;
         if long {
             self.stage.passed(alloc, 3, number)
         } else {
-            self.stage.missing(alloc, number)
+            self.unended(alloc, begun, number)
         }
     }
 }

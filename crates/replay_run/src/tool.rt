@@ -1,10 +1,11 @@
 //! All that the program does.
 
-ghost use Rattle.std.specs.Prelude.{◌≡◌, ◌≤◌, ◌<◌, ◌↔◌, ℕ, List, Option, length, IfSome, IsTrue};
+ghost use Rattle.std.specs.Prelude.{◌≡◌, ◌≤◌, ◌<◌, ◌-◌, ◌↔◌, ℕ, List, Option, length, IfSome, IsTrue};
 ghost use Rattle.replay_run.specs.Runs.{IsReady, Run};
 ghost use Rattle.sv_io.specs.Causes.{Rose};
+ghost use Rattle.replay_run.specs.Written.{WritesHistory};
 ghost use Rattle.replay_run.specs.Checked.{IsChecked, IsOfCheck, Checks};
-ghost use Rattle.replay_run.specs.Tool.{IsWord, IsReplay, IsCheck, IsCommand, IsJudgement, IsOfReplay, Answers};
+ghost use Rattle.replay_run.specs.Tool.{IsWord, IsReplay, IsCheck, IsCommand, IsJudgement, IsOfReplay, Answers, TakesAtMost};
 
 use crate::check::check;
 use crate::replay::Replay;
@@ -34,6 +35,7 @@ fn run<S: Source, K: Sink>(
     requires some { 0 < length piece.old }
     ensures told { (left taken : Option (List ℕ)) → Run replay.old.reader left (S.left source.old) taken (K.taken sink.old) replay.old.count → IsJudgement result → IfSome left (λ b. Answers b result taken (K.taken sink.new)) }
     ensures listed { IsOfReplay result }
+    ensures taken { TakesAtMost (67108865 - replay.old.count) (S.left source.old) (S.left source.new) }
     ensures read { result ≡ Status.ReadFault → Rose (S.faults source.old) (S.faults source.new) }
     ensures write { result ≡ Status.WriteFault → Rose (K.faults sink.old) (K.faults sink.new) }
     ensures later { (S.faults source.old ≤ S.faults source.new) × (K.faults sink.old ≤ K.faults sink.new) }
@@ -49,7 +51,9 @@ fn run<S: Source, K: Sink>(
 /// Replays a record: each line is answered before the next is judged.
 fn replay<S: Source, K: Sink>(alloc: Global, source: &mut S, sink: &mut K) -> Status
     ensures told { IsJudgement result → IfSome (S.left source.old) (λ b. Answers b result (K.taken sink.old) (K.taken sink.new)) }
+    ensures history { IsJudgement result → IfSome (S.left source.old) (λ b. WritesHistory b result (K.taken sink.old) (K.taken sink.new)) }
     ensures listed { IsOfReplay result }
+    ensures taken { TakesAtMost 67108865 (S.left source.old) (S.left source.new) }
     ensures read { result ≡ Status.ReadFault → Rose (S.faults source.old) (S.faults source.new) }
     ensures write { result ≡ Status.WriteFault → Rose (K.faults sink.old) (K.faults sink.new) }
     ensures later { (S.faults source.old ≤ S.faults source.new) × (K.faults sink.old ≤ K.faults sink.new) }
@@ -72,11 +76,18 @@ pub fn tool<S: Source, K: Sink>(
 
     // Every status of the record, and the answers to its lines, by the record's octets.
     ensures told { IsReplay words.now → IsJudgement result → IfSome (S.left source.old) (λ b. Answers b result (K.taken sink.old) (K.taken sink.new)) }
+
+    // Up to where the reading stops the sink took the text of the record's history, whose steps are accepted; then `end`, exactly at Ok.
+    ensures history { IsReplay words.now → IsJudgement result → IfSome (S.left source.old) (λ b. WritesHistory b result (K.taken sink.old) (K.taken sink.new)) }
     ensures replays { IsReplay words.now → IsOfReplay result }
 
     // The counts of a configuration, or its first refused line, by the configuration's octets.
     ensures checked { IsCheck words.now → IsChecked result → IfSome (S.left source.old) (λ b. Checks b result (K.taken sink.old) (K.taken sink.new)) }
     ensures checks { IsCheck words.now → IsOfCheck result }
+
+    // At most 67108865 octets are taken from the source; with other words source and sink are left alone.
+    ensures taken { TakesAtMost 67108865 (S.left source.old) (S.left source.new) }
+    ensures idle { (IsCommand words.now → ⊥) → (source.new ≡ source.old) × (sink.new ≡ sink.old) }
 
     // Faults have their causes.
     ensures read { result ≡ Status.ReadFault → Rose (S.faults source.old) (S.faults source.new) }

@@ -3,6 +3,7 @@
 ghost use Rattle.std.specs.Prelude.{◌≡◌, ◌≢◌, ◌≤◌, take, length, IfOk, Err};
 ghost use Rattle.std.specs.Prelude.{IfSome};
 ghost use Rattle.sv_io.specs.Causes.{Rose};
+ghost use Rattle.replay_run.specs.Tool.{TakesAtMost};
 
 use crate::pieces::read_piece;
 use std::alloc::{AllocError, Global};
@@ -18,6 +19,7 @@ pub enum Halt {
 /// Reads a source to its end, and no more than so many octets of it.
 pub fn read_whole<S: Source>(alloc: Global, source: &mut S, most: usize) -> Result<Vec<u8>, Halt>
     ensures whole { IfOk result (λ v. IfSome (S.left source.old) (λ b. v.items ≡ take most b)) }
+    ensures taken { TakesAtMost most (S.left source.old) (S.left source.new) }
     ensures read { result ≡ Err Halt.Read → Rose (S.faults source.old) (S.faults source.new) }
     ensures later { S.faults source.old ≤ S.faults source.new }
 {

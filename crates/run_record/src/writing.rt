@@ -1,6 +1,6 @@
 //! A line is written: its words, and a space between each two.
 
-ghost use Rattle.std.specs.Prelude.{◌≡◌, ◌++◌, OnOk};
+ghost use Rattle.std.specs.Prelude.{◌≡◌, ◌++◌, length, take, OnOk, OnErr};
 ghost use Rattle.std.specs.Fmt.{decimal};
 ghost use Rattle.std.specs.List.{flat_map};
 ghost use Rattle.text_words.specs.Spelled.{spaced, truth_word};
@@ -14,7 +14,8 @@ use text_words::{push_number, push_word};
 
 /// Adds a first word and the number of an association.
 fn push_association(out: &mut Vec<u8>, keyword: &[u8], a: AssocNo) -> Result<(), AllocError>
-    ensures { OnOk result (out.new.items ≡ out.old.items ++ (keyword.now ++ spaced (decimal a.0))) }
+    ensures ok { OnOk result (out.new.items ≡ out.old.items ++ (keyword.now ++ spaced (decimal a.0))) }
+    ensures err { OnErr result (take (length out.old.items) out.new.items ≡ out.old.items) }
 {
     out.extend_from_slice(keyword)?;
     push_number(out, u64::from(a.0))
@@ -22,7 +23,8 @@ fn push_association(out: &mut Vec<u8>, keyword: &[u8], a: AssocNo) -> Result<(),
 
 /// Adds the words of a form, each behind a space.
 fn push_form(out: &mut Vec<u8>, form: OpenForm) -> Result<(), AllocError>
-    ensures { OnOk result (out.new.items ≡ out.old.items ++ flat_map spaced (form_words form)) }
+    ensures ok { OnOk result (out.new.items ≡ out.old.items ++ flat_map spaced (form_words form)) }
+    ensures err { OnErr result (take (length out.old.items) out.new.items ≡ out.old.items) }
 {
     match form {
         OpenForm::Direct => push_word(out, b"direct"),
@@ -36,14 +38,16 @@ fn push_form(out: &mut Vec<u8>, form: OpenForm) -> Result<(), AllocError>
 
 /// Adds the words of a pair, each behind a space.
 fn push_pair(out: &mut Vec<u8>, pair: &Pair) -> Result<(), AllocError>
-    ensures { OnOk result (out.new.items ≡ out.old.items ++ flat_map spaced (pair_words pair.now)) }
+    ensures ok { OnOk result (out.new.items ≡ out.old.items ++ flat_map spaced (pair_words pair.now)) }
+    ensures err { OnErr result (take (length out.old.items) out.new.items ≡ out.old.items) }
 {
     push_word(out, pair.name.as_slice())?;
     push_word(out, pair.value.as_slice())
 }
 
 fn push_pairs(out: &mut Vec<u8>, pairs: &[Pair]) -> Result<(), AllocError>
-    ensures { OnOk result (out.new.items ≡ out.old.items ++ flat_map spaced (flat_map pair_words pairs.now)) }
+    ensures ok { OnOk result (out.new.items ≡ out.old.items ++ flat_map spaced (flat_map pair_words pairs.now)) }
+    ensures err { OnErr result (take (length out.old.items) out.new.items ≡ out.old.items) }
 {
     for pair in pairs {
         push_pair(out, pair)?;
@@ -53,7 +57,8 @@ fn push_pairs(out: &mut Vec<u8>, pairs: &[Pair]) -> Result<(), AllocError>
 
 /// Adds `T` or `F` behind a space.
 fn push_truth(out: &mut Vec<u8>, truth: bool) -> Result<(), AllocError>
-    ensures { OnOk result (out.new.items ≡ out.old.items ++ spaced (truth_word truth)) }
+    ensures ok { OnOk result (out.new.items ≡ out.old.items ++ spaced (truth_word truth)) }
+    ensures err { OnErr result (take (length out.old.items) out.new.items ≡ out.old.items) }
 {
     push_word(out, if truth { b"T" } else { b"F" })
 }
@@ -61,7 +66,8 @@ fn push_truth(out: &mut Vec<u8>, truth: bool) -> Result<(), AllocError>
 /// Adds the words of a line, and a space between each two.
 #[tactic(auto, using(crate::proofs::WordLaws::joined), unfolding(crate::specs::Spelled::words))]
 fn push_words(out: &mut Vec<u8>, line: &RecLine) -> Result<(), AllocError>
-    ensures { OnOk result (out.new.items ≡ out.old.items ++ spelled line.now) }
+    ensures ok { OnOk result (out.new.items ≡ out.old.items ++ spelled line.now) }
+    ensures err { OnErr result (take (length out.old.items) out.new.items ≡ out.old.items) }
 {
     match line {
         RecLine::Skip => Ok(()),
@@ -113,14 +119,28 @@ fn push_words(out: &mut Vec<u8>, line: &RecLine) -> Result<(), AllocError>
     }
 }
 
-/// Adds the text of a line and its newline. A line that tells nothing is written as an empty one.
-///
-/// Of a line that a text spells the written text reads as that line, and none that spells it is shorter. Fails for want of
-/// memory alone.
-pub fn write_line(line: &RecLine, out: &mut Vec<u8>) -> Result<(), AllocError>
-    ensures { OnOk result (out.new.items ≡ out.old.items ++ line_text line.now) }
+/// Adds the words of a line, and its newline.
+fn push_line(out: &mut Vec<u8>, line: &RecLine) -> Result<(), AllocError>
+    ensures ok { OnOk result (out.new.items ≡ out.old.items ++ line_text line.now) }
+    ensures err { OnErr result (take (length out.old.items) out.new.items ≡ out.old.items) }
 {
     push_words(out, line)?;
     out.push(b'\n')?;
     Ok(())
+}
+
+/// Adds the text of a line and its newline. A line that tells nothing is written as an empty one.
+///
+/// Of a line that a text spells the written text reads as that line, and none that spells it is shorter. Fails for want of
+/// memory alone, and then `out` stays as it was.
+pub fn write_line(line: &RecLine, out: &mut Vec<u8>) -> Result<(), AllocError>
+    ensures ok { OnOk result (out.new.items ≡ out.old.items ++ line_text line.now) }
+    ensures err { OnErr result (out.new.items ≡ out.old.items) }
+{
+    let before = out.len();
+    let done = push_line(out, line);
+    if done.is_err() {
+        out.truncate(before);
+    }
+    done
 }

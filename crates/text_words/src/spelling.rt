@@ -1,6 +1,6 @@
 //! Words, numbers, types and values, each spelled behind a space.
 
-ghost use Rattle.std.specs.Prelude.{◌≡◌, ◌++◌, ◌∷◌, OnOk};
+ghost use Rattle.std.specs.Prelude.{◌≡◌, ◌++◌, ◌∷◌, length, take, OnOk, OnErr};
 ghost use Rattle.std.specs.Fmt.{decimal};
 ghost use Rattle.std.specs.List.{flat_map};
 ghost use Rattle.hex.specs.Hex.{encode_lower};
@@ -12,7 +12,8 @@ use sv_base::{TypeOf, Utc, Value};
 
 /// Adds a space and a word.
 pub fn push_word(out: &mut Vec<u8>, word: &[u8]) -> Result<(), AllocError>
-    ensures { OnOk result (out.new.items ≡ out.old.items ++ spaced word.now) }
+    ensures ok { OnOk result (out.new.items ≡ out.old.items ++ spaced word.now) }
+    ensures err { OnErr result (take (length out.old.items) out.new.items ≡ out.old.items) }
 {
     out.push(b' ')?;
     out.extend_from_slice(word)
@@ -20,7 +21,8 @@ pub fn push_word(out: &mut Vec<u8>, word: &[u8]) -> Result<(), AllocError>
 
 /// Adds a space and a number.
 pub fn push_number(out: &mut Vec<u8>, n: u64) -> Result<(), AllocError>
-    ensures { OnOk result (out.new.items ≡ out.old.items ++ spaced (decimal n)) }
+    ensures ok { OnOk result (out.new.items ≡ out.old.items ++ spaced (decimal n)) }
+    ensures err { OnErr result (take (length out.old.items) out.new.items ≡ out.old.items) }
 {
     push_word(out, Buffer::new().format(n).as_bytes())
 }

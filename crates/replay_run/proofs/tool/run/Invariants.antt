@@ -1,6 +1,7 @@
 use Rattle.std.proofs.Common.{◌≤◌, ◌<◌, ◌-◌, ℕ, List, length}
 use Rattle.std.specs.Prelude.{Option}
 use Rattle.replay_run.specs.Runs.{IsReady, Run}
+use Rattle.replay_run.specs.Tool.{TakesAtMost}
 use Rattle.replay_run.proofs.tool.run.Given as goal
 
 abbrev pub invariant-loop-replay : goal.invariant-loop-replay
@@ -9,6 +10,8 @@ invariant-loop-replay g l = record {
   piece : 0 < length l.piece;
   run : (left taken : Option (List ℕ)) → Run l.fn.replay.reader left (g.S.Source.left l.fn.source) taken (g.K.Sink.taken l.fn.sink) l.fn.replay.count
       → Run l.replay.reader left (g.S.Source.left l.source) taken (g.K.Sink.taken l.sink) l.replay.count;
+  start : l.fn.replay.count ≤ l.replay.count;
+  taken : TakesAtMost (l.replay.count - l.fn.replay.count) (g.S.Source.left l.fn.source) (g.S.Source.left l.source);
   reads : g.S.Source.faults l.fn.source ≤ g.S.Source.faults l.source;
   writes : g.K.Sink.faults l.fn.sink ≤ g.K.Sink.faults l.sink;
 }

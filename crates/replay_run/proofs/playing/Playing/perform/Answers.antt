@@ -13,7 +13,7 @@ returns-in_ok-push_answer-in-Ok-clause-performs c =
     performs c.args.self.now (record c.args.self.now { bay = c.reuse.new.self }) c.args.actor.0 c.args.step.now c.in-Ok.answer c.args.out.now.items c.push_answer.new.out.items refl
     (subst (λ b. Does c.args.self.now.bay b (record { moment = c.args.self.now.moment; actor = c.args.actor.0; step = c.args.step.now }) (Ok c.in-Ok.answer)) (sym c.reuse.ensures) c.in-Ok.ensures.does)
     c.requires.own
-    (c.in_ok-push_answer-in-Ok.ensures ∙ ap (λ k. c.args.out.now.items ++ answer_lines k c.args.actor.0 c.in-Ok.answer) (c.model.ensures ∙ sym (ap (λ (b : State). b.config) c.reuse.ensures)))
+    (c.in_ok-push_answer-in-Ok.ensures.ok ∙ ap (λ k. c.args.out.now.items ++ answer_lines k c.args.actor.0 c.in-Ok.answer) (c.model.ensures ∙ sym (ap (λ (b : State). b.config) c.reuse.ensures)))
 
 pub returns-in-Err-clause-faultless : goal.returns-in-Err-clause-faultless
 returns-in-Err-clause-faultless c = λ k s p. own-accepted k s.turns s.moment c.args.actor.0 c.args.step.now (c.requires.own k s p) p.owned

@@ -1,0 +1,78 @@
+-- The line that tells that it is the last is `end`.
+use Rattle.std.proofs.Common.{◌≡◌, ℕ, Bool, true, false, List, refl}
+use Rattle.std.specs.Prelude.{Option, None, Some, Ok, codes, if◌then◌else◌}
+use Rattle.sv_base.specs.declared.config.Config.{Config}
+use Rattle.sv_base.specs.declared.numbers.AssocNo.{AssocNo}
+use Rattle.sv_base.specs.declared.value.Value.{Value}
+use Rattle.bay_model.specs.declared.components.Comp.{Comp}
+use Rattle.bay_model.specs.declared.step.Setting.{Setting}
+use Rattle.bay_model.specs.declared.step.Step.{Step}
+use Rattle.bay_model.specs.declared.step.Step.TheVariants as steps
+use Rattle.bay_model.specs.ComponentTable.{comp_named}
+use Rattle.object_model.specs.Fits.{fits}
+use Rattle.object_model.specs.Numbers.{number_in}
+use Rattle.object_model.specs.References.{block_references}
+use Rattle.run_record.specs.Judging.{line_at}
+use Rattle.run_record.specs.Spelled.{words}
+use Rattle.run_record.specs.declared.line.OpenForm.{OpenForm}
+use Rattle.run_record.specs.declared.line.OpenForm.TheVariants as forms
+use Rattle.run_record.specs.declared.line.RecLine.{RecLine}
+use Rattle.run_record.specs.declared.line.RecLine.TheVariants as lines
+use Rattle.run_record.proofs.ToldLaws.{line-told}
+use Rattle.run_record.specs.Grammar.{Spells}
+use Rattle.record_steps.specs.Shapes.{shape_at}
+use Rattle.record_steps.specs.Settings.{are_named, settings_at}
+use Rattle.record_steps.specs.Resolved.{turn_of, is_built, opened_as, valued_as, written_as, set_to, told_of}
+use Rattle.record_steps.specs.Told.{Told, turn, refused, last}
+
+turn-goes : (c : Config) (actor : ℕ) (step : Step) → turn_of c actor step ≡ last → ⊥
+turn-goes c actor step h = by (fits c step) h where
+  by : (b : Bool) → (if b then turn actor step else refused 4) ≡ last → ⊥
+  by true h = absurd cc
+  by false h = absurd cc
+
+if-goes : (b : Bool) (t : Told) (kind : ℕ) → (t ≡ last → ⊥) → (if b then t else refused kind) ≡ last → ⊥
+if-goes true t kind goes h = goes h
+if-goes false t kind goes h = absurd cc
+
+open-goes : (c : Config) (there : Bool) (a : AssocNo) (form : OpenForm) → opened_as c there a form ≡ last → ⊥
+open-goes c true a forms.Direct h = absurd cc
+open-goes c false a forms.Direct h = turn-goes c a.0 (steps.Open a 65000 (record { 0 = a.0 })) h
+open-goes c true a (forms.Mms size) h = absurd cc
+open-goes c false a (forms.Mms size) h = absurd cc
+open-goes c true a forms.Wire h = absurd cc
+open-goes c false a forms.Wire h = absurd cc
+
+value-goes : (c : Config) (a : AssocNo) (b : ℕ) (comp : Comp) (o : Option Value) → valued_as c a b comp o ≡ last → ⊥
+value-goes c a b comp None h = absurd cc
+value-goes c a b comp (Some v) h = if-goes (is_built comp) (turn_of c a.0 (steps.Write a (record { 0 = b }) comp v)) 9 (turn-goes c a.0 (steps.Write a (record { 0 = b }) comp v)) h
+
+write-goes : (c : Config) (there : Bool) (a : AssocNo) (block : Option ℕ) (comp : Option Comp) (word : List ℕ) → written_as c there a block comp word ≡ last → ⊥
+write-goes c there a (Some b) (Some comp) word h = if-goes there (valued_as c a b comp (shape_at comp word)) 5 (value-goes c a b comp (shape_at comp word)) h
+write-goes c there a (Some b) None word h = absurd cc
+write-goes c there a None (Some comp) word h = absurd cc
+write-goes c there a None None word h = absurd cc
+
+set-goes : (c : Config) (o : Option (List Setting)) → set_to c o ≡ last → ⊥
+set-goes c None h = absurd cc
+set-goes c (Some settings) h = turn-goes c 0 (steps.Value settings) h
+
+pub told-last : (c : Config) (there : Bool) (line : RecLine) → told_of c there line ≡ last → line ≡ lines.End
+unfolding told_of
+told-last c there lines.Skip h = absurd cc
+told-last c there (lines.At moment) h = absurd cc
+told-last c there (lines.Open a form) h = absurd (open-goes c there a form h)
+told-last c there (lines.Write a block comp value) h = absurd (write-goes c there a (number_in (block_references c) block) (comp_named comp) value h)
+told-last c there (lines.Pdu a hex) h = absurd cc
+told-last c there (lines.Piece a hex) h = absurd cc
+told-last c there (lines.Take a) h = absurd (turn-goes c a.0 (steps.Take a) h)
+told-last c there (lines.Lost a) h = absurd (if-goes there (turn_of c a.0 (steps.Lost a)) 5 (turn-goes c a.0 (steps.Lost a)) h)
+told-last c there (lines.Set pairs) h = absurd (if-goes (are_named c pairs) (set_to c (settings_at c pairs)) 3 (set-goes c (settings_at c pairs)) h)
+told-last c there (lines.Done control well) h = absurd cc
+told-last c there (lines.Block control on) h = absurd cc
+told-last c there lines.Tick h = absurd (turn-goes c 0 steps.Tick h)
+told-last c there lines.End h = refl
+
+pub end-line : (text : List ℕ) → line_at text ≡ Ok lines.End → text ≡ codes "end"
+unfolding words
+end-line text is = let s : Spells text lines.End = line-told text lines.End is in s.text_
