@@ -1,5 +1,5 @@
 -- Lists of which no two elements are alike, by a test.
-use Rattle.std.proofs.Common.{◌≡◌, ℕ, zero, suc, ◌+◌, ◌<◌, Bool, true, false, cond, List, [], ◌∷◌, ◌++◌, map, length, get_or, position, Some, refl, sym, ap, ◌∙◌, arith}
+use Rattle.std.proofs.Common.{◌≡◌, ℕ, zero, suc, ◌+◌, ◌<◌, Bool, true, false, cond, List, [], ◌∷◌, ◌++◌, map, length, get_or, position, Some, ap, ◌∙◌, arith}
 use Rattle.std.specs.Option.{option_map}
 use Rattle.list_laws.proofs.Among.{Each, each-both}
 use Rattle.list_laws.proofs.Places.{place-cons}

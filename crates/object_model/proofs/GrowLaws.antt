@@ -12,8 +12,8 @@ use Rattle.bay_model.specs.Generated.{Named}
 use Rattle.bay_model.specs.NameTree.{longest, tree_of, named, role_of, own_type, grown, below, side_by_side, first_names}
 use Rattle.bay_model.specs.Places.{Place, place, places, fields, attrs_in, are_data, type_with, attrs_of_role, is_data_role, trees, tree_with}
 use Rattle.std.specs.Option.{option_map}
-use Rattle.object_names.specs.Leaves.{leaves, leaves_side, leaf_code, what_code}
-use Rattle.object_model.specs.Leaves.{own, own_with, own_count, leaves_with}
+use Rattle.object_names.specs.Leaves.{leaves, leaves_side, leaf_code}
+use Rattle.object_model.specs.Leaves.{own, leaves_with}
 use Rattle.object_model.proofs.LeafLaws.{own_tree, count_tree}
 use Rattle.object_model.specs.Groups.{Group, group_at, groups}
 use Rattle.object_model.specs.Grown.{IsGrown, attr_id, spot, spot_with, forest_of}

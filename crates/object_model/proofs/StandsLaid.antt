@@ -1,11 +1,10 @@
 -- The leaves of a node are those that its tree has.
-use Rattle.std.proofs.Common.{◌≡◌, ℕ, zero, suc, ◌+◌, ◌-◌, ◌<◌, ◌≤◌, List, [], ◌∷◌, ◌++◌, map, flat_map, length, take, drop, get_or, subst, refl, sym, ap, ◌∙◌, append_assoc, append-nil, arith, length-append}
+use Rattle.std.proofs.Common.{◌≡◌, ℕ, zero, suc, ◌+◌, ◌-◌, ◌<◌, ◌≤◌, List, [], ◌∷◌, ◌++◌, map, flat_map, length, take, drop, get_or, subst, refl, sym, ap, ◌∙◌, append_assoc, arith, length-append}
 use Rattle.std.specs.Option.{option_map}
 use Rattle.std.proofs.lemmas.List.{map-append, length-map, get_or_default}
 use Rattle.sv_base.specs.declared.config.Config.{Config}
 use Rattle.sv_base.specs.declared.types.TypeOf.TheVariants as types
-use Rattle.bay_model.specs.Model as model
-use Rattle.bay_model.specs.Model.{Node, Role, Leaf, Tree, Trees, leaf, structure, none, more, single, selecting, calling, several, attribute, component, setting, withheld}
+use Rattle.bay_model.specs.Model.{Node, Role, Tree, Trees, single, selecting, calling, several}
 use Rattle.bay_model.specs.NameTree.{Forest, nothing, named, tree_of}
 use Rattle.bay_model.specs.Places.{Place, place, places, node_at, trees, tree_with}
 use Rattle.bay_model.specs.Lookups.{node_of}
@@ -16,7 +15,6 @@ use Rattle.object_model.specs.declared.stands.Stand.{Stand}
 use Rattle.object_names.specs.declared.leaves.Leaf.{Leaf as CodeLeaf}
 use Rattle.object_names.specs.Seen.{role_seen}
 use Rattle.object_model.specs.Grown.{spot}
-use Rattle.object_model.specs.Nodes.{spots_in}
 use Rattle.object_names.specs.Leaves.{leaves, leaves_side, leaf_code, leaf_seen}
 use Rattle.object_names.proofs.LeafLaws.{role_there, leaves_there}
 use Rattle.object_model.specs.Leaves.{own}

@@ -113,11 +113,10 @@ fn attrs_of(alloc: Global, what: What, parts: &[AttrId]) -> Result<AttrIds, Allo
 fn own_of(what: What, parts: &Vec<Part1>) -> Option<Leaf>
     ensures { result ≡ option_map leaf_code (own_with (role_seen what) (fields_of parts.now.items)) }
 {
-    if parts.is_empty() {
-        own_leaf(what)
-    } else {
-        None
+    if !parts.is_empty() {
+        return None;
     }
+    own_leaf(what)
 }
 
 /// How many leaves a name has, whose parts have so many.

@@ -1,5 +1,4 @@
-use Rattle.std.proofs.Common.{◌≡◌, ◌++◌, take, length}
-use Rattle.object_model.specs.Stands.{owns, stands_from}
+use Rattle.std.proofs.Common.{take}
 use Rattle.object_model.proofs.StandLaws.{AreAdded}
 use Rattle.object_model.proofs.stands.push_stands.Given as goal
 

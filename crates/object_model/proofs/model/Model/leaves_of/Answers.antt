@@ -1,9 +1,9 @@
-use Rattle.std.proofs.Common.{◌≡◌, ◌∙◌, ◌-◌, ◌≤◌, List, length, take, drop, map, ap, subst, sym, get_or}
+use Rattle.std.proofs.Common.{◌∙◌, ◌-◌, ◌≤◌, length, take, drop, map, ap, subst, sym, get_or}
 use Rattle.object_model.specs.declared.stands.Stand.{Stand}
 use Rattle.object_names.specs.declared.named.What.TheVariants as whats
 use Rattle.object_names.specs.Leaves.{leaf_seen}
 use Rattle.object_model.specs.Stands.{all_leaves}
-use Rattle.object_model.proofs.StandsLaid.{within-stands, stands-read, StandsAt}
+use Rattle.object_model.proofs.StandsLaid.{within-stands, stands-read}
 use Rattle.object_model.proofs.model.Model.leaves_of.Goals as goal
 
 abbrev no_stand : Stand
