@@ -1,5 +1,4 @@
--- lists whose elements are changed in turn, and changes of each attribute at most one
-pub mod EachLaws
+-- changes of each attribute at most one
 pub mod DistinctChanges
 -- steps that bring no entry: time, openings and losses
 pub mod QuietLaws

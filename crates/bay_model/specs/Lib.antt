@@ -20,6 +20,7 @@ pub mod Parameters
 pub mod Sets
 -- from events to entries
 pub mod Notes
+pub mod Mentions
 pub mod Breaks
 pub mod Events
 pub mod Groups

@@ -18,6 +18,31 @@ pub struct Reasons {
     pub gi: bool,
 }
 
+impl Reasons {
+    ghost use Rattle.std.specs.Prelude.{◌≡◌};
+    ghost use Rattle.bay_model.specs.Notes.{union as union_of, is_any as is_any_of};
+
+    /// The reasons of both.
+    pub fn union(self, other: Reasons) -> Reasons
+        ensures { result ≡ union_of self other }
+    {
+        Reasons {
+            dchg: self.dchg || other.dchg,
+            qchg: self.qchg || other.qchg,
+            dupd: self.dupd || other.dupd,
+            intg: self.intg || other.intg,
+            gi: self.gi || other.gi,
+        }
+    }
+
+    /// There is a reason.
+    pub fn is_any(self) -> bool
+        ensures { result ≡ is_any_of self }
+    {
+        self.dchg || self.qchg || self.dupd || self.intg || self.gi
+    }
+}
+
 /// A member of a report: its number in the data set, from 1, its reference, its MMS Data and its reasons.
 #[derive(Debug, Drop)]
 pub struct Member {

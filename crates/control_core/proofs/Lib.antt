@@ -1,5 +1,4 @@
 pub mod CommandLaws
-pub mod EachLaws
 pub mod StandLaws
 pub mod EndingLaws
 pub mod SingleLaws

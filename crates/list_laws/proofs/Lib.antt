@@ -2,6 +2,7 @@
 pub mod Among
 pub mod Places
 pub mod Appended
+pub mod EachLaws
 -- orders, and elements that differ
 pub mod Sorting
 pub mod Distinct

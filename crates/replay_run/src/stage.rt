@@ -7,6 +7,8 @@ use crate::openings::{Opened, open};
 use crate::playing::Playing;
 use crate::starting::{Started, refused_before, start};
 use crate::status::Status;
+use cfg_text::Kind as CfgKind;
+use run_record::Kind as RecKind;
 use std::alloc::{AllocError, Global};
 
 /// Puts a line of the configuration behind those before it; gives whether it is the last one.
@@ -150,13 +152,13 @@ impl Stage {
     {
         let status = Status::Record {
             line: number,
-            kind: 7,
+            kind: RecKind::NoEnd.number(),
         };
         match self {
             Stage::Configuring { before, text } => {
                 let whole = Status::Config {
                     line: number,
-                    kind: 2,
+                    kind: CfgKind::Order.number(),
                 };
                 refused_before(alloc, number, *before, text, whole)
             }

@@ -14,6 +14,7 @@ use crate::status::Status;
 use bay_core::Bay;
 use cfg_text::{CfgFault, read_config};
 use object_model::Model;
+use run_record::Kind;
 use std::alloc::{AllocError, Global};
 use sv_base::{BlockDef, Config, CtlDef, SgDef};
 
@@ -108,7 +109,7 @@ pub fn start(alloc: Global, before: u64, text: &[u8]) -> Result<Started, AllocEr
     if let Some(line) = unbuilt_line(&config) {
         return Ok(Started::Refused(Status::Record {
             line: before + u64::from(line),
-            kind: 9,
+            kind: Kind::NotBuilt.number(),
         }));
     }
     let model = Model::build(alloc, config)?;

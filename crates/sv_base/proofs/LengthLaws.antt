@@ -1,6 +1,6 @@
 -- How many octets a packed row of bits has, and an element whose content is counted up to 4294967295.
 use Rattle.std.proofs.Common.{◌≡◌, ℕ, ◌+◌, ◌/◌, ◌<◌, Bool, List, [], ◌∷◌, length, take, get_or, zero, suc, if◌then◌else◌, arith, length-append, append-nil, refl}
-use Rattle.sv_base.specs.Data.{packed, shortest, data_of, data_row}
+use Rattle.sv_base.specs.Data.{packed, data_of, data_row}
 use Rattle.sv_base.specs.Seen.{row_of}
 use Rattle.sv_base.specs.declared.value.Value.{Value}
 
@@ -36,11 +36,6 @@ mutual
   from-1 : (sum : ℕ) (bs : List Bool) → length (packed 1 sum bs) ≡ (length bs + 14) / 8
   from-1 sum [] = refl
   from-1 sum (b ∷ bs) = omega (arith, length-packed 0 bs)
-
-pub shortest-few : (octets : List ℕ) → length octets < 2 → octets ≡ shortest octets
-shortest-few [] few = refl
-shortest-few (b ∷ []) few = refl
-shortest-few (b ∷ c ∷ cs) few = absurd (omega (arith, few))
 
 pub length-data_row-more : (vs : List Value) (i : ℕ) (v : Value) → i < length vs → v ≡ get_or vs i v
     → length (data_row (row_of (take (i + 1) vs))) ≡ length (data_row (row_of (take i vs))) + length (data_of v)

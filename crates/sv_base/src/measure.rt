@@ -1,6 +1,6 @@
 //! How many octets the Data of a value has (ISO 9506-2, Data; ITU-T X.690).
 
-ghost use Rattle.std.specs.Prelude.{◌≡◌, ◌+◌, ◌∷◌, ◌≤◌, length, min};
+ghost use Rattle.std.specs.Prelude.{◌≡◌, ◌+◌, ◌∷◌, ◌≤◌, ◌==◌, ◌&&◌, ◌||◌, nat_lt, length, min};
 ghost use Rattle.std.specs.Int.{to_be_bytes, cast_unsigned, w64, w32};
 ghost use Rattle.sv_base.specs.Data.{without_zeros as without_zeros_of, length_field, shortest as shortest_of, packed, data_of, data_row};
 ghost use Rattle.sv_base.specs.Seen.{row_of};
@@ -18,23 +18,24 @@ pub fn without_zeros(octets: &[u8]) -> &[u8]
     }
 }
 
+/// The first octet of a number in two's complement says no more than the sign of the second.
+fn is_idle(first: u8, second: u8) -> bool
+    ensures { result ≡ (((first == 0) && nat_lt second 128) || ((first == 255) && nat_lt 127 second)) }
+{
+    (first == 0 && second < 128) || (first == 255 && second > 127)
+}
+
 /// The octets of a number in two's complement without those in front that say no more than the sign of the next one
 /// (ITU-T X.690, 8.3.2).
 pub fn shortest(octets: &[u8]) -> &[u8]
     ensures value { result.now ≡ shortest_of octets.now }
     ensures shorter { length result.now ≤ length octets.now }
 {
-    match octets {
-        [] => octets,
-        [_] => octets,
-        [first, second, ..] => {
-            if (*first == 0 && *second < 128) || (*first == 255 && *second > 127) {
-                shortest(&octets[1..])
-            } else {
-                octets
-            }
-        }
+    let mut at = 0;
+    while at + 1 < octets.len() && is_idle(octets[at], octets[at + 1]) {
+        at += 1;
     }
+    &octets[at..]
 }
 
 /// How many octets spell the length of a content of so many octets, 1 to 5.

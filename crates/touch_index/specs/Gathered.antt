@@ -6,17 +6,13 @@ use Rattle.bay_model.specs.declared.flags.Trg.{Trg}
 use Rattle.bay_model.specs.declared.note.Mention.{Mention}
 use Rattle.bay_model.specs.declared.report.Reasons.{Reasons}
 use Rattle.bay_model.specs.Notes.{union, is_any}
+use Rattle.bay_model.specs.Mentions.{add}
 use Rattle.trigger_core.specs.Noted.{reasons_by, change_of}
 use Rattle.touch_index.specs.declared.touch.Touch.{Touch}
 use Rattle.bay_rooms.specs.Rooms.{Filled}
 use Rattle.bay_model.specs.declared.tables.MemberShape.{MemberShape}
 use Rattle.touch_index.specs.Indexed.{block_at, touches_from}
 use Rattle.touch_index.specs.Spread.{of_attr}
-
--- a member's reasons in their place: united with those that it has there
-abbrev pub add : ℕ → Reasons → List Mention → List Mention
-add i r [] = record { member = record { 0 = i }; reasons = r } ∷ []
-add i r (m ∷ ms) = cond (nat_lt m.member.0 i) (m ∷ add i r ms) (cond (m.member.0 == i) (record { member = record { 0 = i }; reasons = union m.reasons r } ∷ ms) (record { member = record { 0 = i }; reasons = r } ∷ m ∷ ms))
 
 -- of touches, the members of block b
 abbrev pub add_touches : ℕ → Reasons → List Touch → List Mention → List Mention
@@ -45,15 +41,6 @@ AreOnce (ch ∷ chs) = (change_of chs ch.attr ≡ None) × AreOnce chs
 abbrev pub noted_by : (ℕ → Reasons) → ℕ → ℕ → List Mention
 noted_by f i zero = []
 noted_by f i (suc n) = cond (is_any (f i)) (record { member = record { 0 = i }; reasons = f i } ∷ noted_by f (suc i) n) (noted_by f (suc i) n)
-
--- how many members in front are lower than a number
-abbrev pub place : ℕ → List Mention → ℕ
-place i [] = 0
-place i (m ∷ ms) = cond (nat_lt m.member.0 i) (suc (place i ms)) 0
-
--- a member of this number stands in its place
-abbrev pub IsAt : ℕ → List Mention → Type 0
-IsAt i ms = (place i ms < length ms) × ((d : Mention) → (slice_index_or ms (place i ms) d).member.0 ≡ i)
 
 -- the members of block b that touches name are among those from i on, so many
 abbrev pub InRange : ℕ → ℕ → ℕ → List Touch → Type 0

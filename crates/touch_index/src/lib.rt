@@ -10,10 +10,8 @@ mod touches;
 // the index of all blocks, and the note that it gives
 mod index;
 mod laws;
-mod mentions;
 
 pub use index::Index;
-pub use mentions::Mentions;
 pub use touch::Touch;
 
 // what is gathered is the note of the definition

@@ -6,7 +6,7 @@ mod laws;
 mod triggers;
 
 // what is noted of a point's changes
-pub use triggers::note;
+pub use triggers::{note, reasons_by};
 
 // its law
 pub use laws::notes_are_the_definition;

@@ -2,7 +2,7 @@
 
 ghost use Rattle.std.specs.Prelude.{◌≡◌, ◌≤◌, ◌<◌, ◌^◌, length, unwrap_or, option_copied};
 ghost use Rattle.std.specs.Option.{option_map};
-ghost use Rattle.bay_model.specs.Notes.{no_reason, union as union_of, is_any as is_any_of};
+ghost use Rattle.bay_model.specs.Notes.{no_reason, union as union_of};
 ghost use Rattle.trigger_core.specs.Noted.{change_of as change_in, reasons_by as reasons_under, reasons_in as reasons_among, noted};
 
 use bay_model::{Change, MemberShape, Mention, Note, Reasons, SetView, Trg};
@@ -17,28 +17,9 @@ const NO_REASON: Reasons = Reasons {
     gi: false,
 };
 
-/// The reasons of both.
-fn union(one: Reasons, other: Reasons) -> Reasons
-    ensures { result ≡ union_of one other }
-{
-    Reasons {
-        dchg: one.dchg || other.dchg,
-        qchg: one.qchg || other.qchg,
-        dupd: one.dupd || other.dupd,
-        intg: one.intg || other.intg,
-        gi: one.gi || other.gi,
-    }
-}
-
-/// There is a reason.
-fn is_any(reasons: Reasons) -> bool
-    ensures { result ≡ is_any_of reasons }
-{
-    reasons.dchg || reasons.qchg || reasons.dupd || reasons.intg || reasons.gi
-}
-
-/// The reasons that a change gives under the trigger options.
-fn reasons_by(trg: Trg, change: Change) -> Reasons
+/// The reasons that a change gives under the trigger options: data-change and quality-change where the value differs,
+/// data-update in any case (IEC 61850-7-2, TriggerConditions and TrgOps).
+pub fn reasons_by(trg: Trg, change: Change) -> Reasons
     ensures { result ≡ reasons_under trg change }
 {
     Reasons {
@@ -62,7 +43,7 @@ fn with_attr(reasons: Reasons, changes: &[Change], trg: Trg, attr: AttrId) -> Re
     ensures { result ≡ union_of reasons (unwrap_or (option_map (reasons_under trg) (change_in changes.now attr)) no_reason) }
 {
     match change_of(changes, attr) {
-        Some(change) => union(reasons, reasons_by(trg, *change)),
+        Some(change) => reasons.union(reasons_by(trg, *change)),
         None => reasons,
     }
 }
@@ -94,7 +75,7 @@ pub fn note(changes: &[Change], set: &SetView<'_>, trg: Trg, out: &mut Note)
     for member in set.members {
         number += 1;
         let reasons = reasons_in(changes, trg, member.attrs.as_slice());
-        if is_any(reasons) {
+        if reasons.is_any() {
             out.push(Mention {
                 member: MemberNo(number),
                 reasons,

@@ -1,6 +1,6 @@
 use Rattle.std.proofs.Common.{refl, rules, ◌<◌, length, ap, ◌∙◌, slice_set}
 use Rattle.bay_core.specs.Parting.{lost_by}
-use Rattle.bay_core.proofs.EachLaws.{one-more}
+use Rattle.list_laws.proofs.EachLaws.{one-more}
 use Rattle.bay_core.proofs.associations.lose_all.Goals as goal
 
 -- src/associations.rt:18:5

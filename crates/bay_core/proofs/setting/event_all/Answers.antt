@@ -1,6 +1,6 @@
 use Rattle.std.proofs.Common.{rules, ◌∙◌, ap, ◌<◌, length, slice_set}
 use Rattle.bay_core.specs.Events.{after_event}
-use Rattle.bay_core.proofs.EachLaws.{one-more}
+use Rattle.list_laws.proofs.EachLaws.{one-more}
 use Rattle.bay_core.proofs.setting.event_all.Goals as goal
 
 pub loop-place-preserved : goal.loop-place-preserved
