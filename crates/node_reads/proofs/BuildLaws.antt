@@ -1,5 +1,5 @@
 -- The row of a structure, part by part.
-use Rattle.std.proofs.Common.{◌≡◌, ◌∙◌, ap, sym, ◌<◌, ◌≤◌, ℕ, zero, suc, ◌+◌, List, [], ◌∷◌, ◌++◌, length, take, drop, get_or, refl, arith}
+use Rattle.std.proofs.Common.{◌≡◌, ◌∙◌, ap, sym, ◌<◌, ℕ, zero, suc, List, [], ◌∷◌, ◌++◌, length, take, drop, get_or, refl, arith}
 use Rattle.std.proofs.lemmas.List.{drop-drop}
 use Rattle.sv_base.specs.Tree.{Seen, Row, none, more}
 use Rattle.sv_base.specs.Seen.{seen_of, row_of}

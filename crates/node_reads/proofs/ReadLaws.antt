@@ -1,12 +1,12 @@
 -- What a tree reads as by what its leaves read as.
-use Rattle.std.proofs.Common.{◌≡◌, ◌≤◌, ℕ, suc, ◌+◌, List, [], ◌∷◌, ◌++◌, map, length, drop, get_or, ◌<◌, append_assoc, append-nil, refl, sym, ap, ap₂, ◌∙◌, subst, arith, Result, Ok, Err, length-append}
+use Rattle.std.proofs.Common.{◌≡◌, ◌≤◌, ℕ, ◌+◌, List, [], ◌∷◌, ◌++◌, map, length, drop, get_or, ◌<◌, append_assoc, append-nil, refl, sym, ap, ap₂, ◌∙◌, subst, arith, Result, Ok, Err, length-append}
 use Rattle.std.proofs.lemmas.List.{map-append, drop-append-le, length-drop, drop_more, drop_all}
 use Rattle.std.proofs.Math.Seq.{drop-append_seam}
 use Rattle.sv_base.specs.Seen.{seen_of}
 use Rattle.sv_base.specs.Same.{value_of}
 use Rattle.sv_base.proofs.RowLaws.{value-seen}
 use Rattle.sv_base.specs.Types.{Shape, Fields, Kind, simple, composed, no_field, field}
-use Rattle.sv_base.specs.Tree.{Seen, Row, more, structure}
+use Rattle.sv_base.specs.Tree.{Seen, more, structure}
 use Rattle.sv_base.specs.Fields.{shape_of}
 use Rattle.sv_base.specs.declared.types.TypeOf.{TypeOf}
 use Rattle.sv_base.specs.declared.value.Value.{Value}

@@ -1,5 +1,5 @@
 -- The tree of a node has the shape of its type.
-use Rattle.std.proofs.Common.{◌≡◌, ℕ, zero, suc, ◌+◌, ◌<◌, ◌==◌, Bool, true, false, cond, not, ◌&&◌, List, [], ◌∷◌, ◌++◌, map, flat_map, filter, length, get_or, unwrap_or, slice_get, slice_index_or, Some, refl, sym, ap, subst, ◌∙◌, arith, nat_le, if◌then◌else◌}
+use Rattle.std.proofs.Common.{ℕ, zero, suc, ◌+◌, ◌<◌, ◌==◌, Bool, true, false, cond, not, ◌&&◌, List, [], ◌∷◌, ◌++◌, map, flat_map, filter, length, unwrap_or, slice_get, slice_index_or, Some, arith, nat_le, if◌then◌else◌}
 use Rattle.std.specs.Prelude.{codes}
 use Rattle.std.specs.Option.{option_map}
 use Rattle.std.specs.List.{All, find}
@@ -23,8 +23,8 @@ use Rattle.bay_model.specs.declared.components.SettingComp.{SettingComp}
 use Rattle.bay_model.specs.Model as model
 use Rattle.bay_model.specs.Model.{Role, Node, Call, single, selecting, calling, several}
 use Rattle.bay_model.specs.ComponentTable.{components, comp_name, comp_kind, setting_components, setting_comp_kind}
-use Rattle.bay_model.specs.Generated.{Named, within, block_names, setting_names, setting_named, value_names, number_names, check_names, command_names, sbo_names, sbow_names, oper_names, cancel_names, control_names, is_selected, Parameter, parameters, selection, parameter_names}
-use Rattle.bay_model.specs.NamedLines.{Line, is_setting, path_item, attribute_names, attribute_line, attribute_lines, node_line, block_line, block_lines, control_line, control_lines, group_line, domain_number, generated, domains, lines, insert_line, in_order, names_in}
+use Rattle.bay_model.specs.Generated.{Named, within, setting_named, command_names, sbo_names, sbow_names, oper_names, cancel_names, control_names, is_selected, parameters, selection, parameter_names}
+use Rattle.bay_model.specs.NamedLines.{Line, is_setting, path_item, attribute_names, attribute_lines, node_line, block_lines, control_lines, group_line, domain_number, generated, domains, lines, insert_line, in_order, names_in}
 use Rattle.bay_model.specs.NameTree.{Forest, nothing, named, first_name, rest_of, is_itself, below, first_names, side_by_side, role_of, own_type, grown, longest, tree_of}
 use Rattle.bay_model.specs.Places.{Place, places, node_at, type_with, fields, tree_with, trees}
 use Rattle.bay_model.specs.Named.{nodes, places_in, configured_model}

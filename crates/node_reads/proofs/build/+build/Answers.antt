@@ -1,4 +1,4 @@
-use Rattle.std.proofs.Common.{◌≡◌, ◌∙◌, ◌+◌, ℕ, suc, ap, ap₂, sym, arith, take, drop}
+use Rattle.std.proofs.Common.{◌≡◌, ◌∙◌, ◌+◌, suc, ap, ap₂, sym, arith, take, drop}
 use Rattle.std.proofs.lemmas.List.{drop-drop}
 use Rattle.sv_base.specs.Seen.{row_of}
 use Rattle.sv_base.specs.Fields.{shape_of, fields_of}
