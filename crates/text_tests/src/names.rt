@@ -242,8 +242,7 @@ fn has_its_parts(model: &Model) -> bool {
         && !model.fits(&Step::Take(AssocNo(17)))
 }
 
-/// The model of the two domains.
-pub fn built(alloc: Global) -> Result<Model, AllocError> {
+fn built(alloc: Global) -> Result<Model, AllocError> {
     let config = config(alloc)?;
     Model::build(alloc, config)
 }
