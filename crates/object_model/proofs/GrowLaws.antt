@@ -1,5 +1,5 @@
 -- What one more group grows.
-use Rattle.std.proofs.Common.{◌≡◌, ℕ, zero, suc, ◌+◌, ◌-◌, ◌<◌, ◌≤◌, ◌==◌, subst, take_all, Bool, true, false, ◌&&◌, List, [], ◌∷◌, ◌++◌, map, length, get_or, take, refl, sym, ap, ◌∙◌, append_assoc, append-nil, arith}
+use Rattle.std.proofs.Common.{◌≡◌, ℕ, zero, suc, ◌+◌, ◌-◌, ◌<◌, ◌≤◌, ◌==◌, subst, take_all, Bool, true, false, ◌&&◌, List, [], ◌∷◌, ◌++◌, map, length, get_or, take, refl, sym, ap, ◌∙◌, append_assoc, append-nil, arith, length-append}
 use Rattle.std.proofs.lemmas.List.{map-append, take_more}
 use Rattle.sv_base.specs.Types.{Fields, no_field, field}
 use Rattle.sv_base.specs.declared.types.TypeOf.{TypeOf}
@@ -7,9 +7,14 @@ use Rattle.sv_base.specs.declared.types.TypeOf.TheVariants as types
 use Rattle.std.proofs.lemmas.Bool.Decides.{nat_tests}
 use Rattle.sv_base.specs.Fields.{fields_of, parts_of, shape_of, type_of}
 use Rattle.sv_base.proofs.FieldLaws.{type-shape, fields-parts}
+use Rattle.bay_model.specs.Model as model
 use Rattle.bay_model.specs.Generated.{Named}
 use Rattle.bay_model.specs.NameTree.{longest, tree_of, named, role_of, own_type, grown, below, side_by_side, first_names}
-use Rattle.bay_model.specs.Places.{Place, place, places, fields, attrs_in, are_data, type_with, attrs_of_role, is_data_role}
+use Rattle.bay_model.specs.Places.{Place, place, places, fields, attrs_in, are_data, type_with, attrs_of_role, is_data_role, trees, tree_with}
+use Rattle.std.specs.Option.{option_map}
+use Rattle.object_names.specs.Leaves.{leaves, leaves_side, leaf_code}
+use Rattle.object_model.specs.Leaves.{own, leaves_with}
+use Rattle.object_model.proofs.LeafLaws.{own_tree, count_tree}
 use Rattle.object_model.specs.Groups.{Group, group_at, groups}
 use Rattle.object_model.specs.Grown.{IsGrown, attr_id, spot, spot_with, forest_of}
 use Rattle.object_model.specs.declared.growth.Grown.{Grown}
@@ -58,19 +63,35 @@ data-more l [] g = both (is_data_role (role_of g.names)) (are_data (grown l g.na
 data-more l (h ∷ hs) g = ap (λ b. is_data_role (role_of h.names) && are_data (grown l h.names) && b) (data-more l hs g)
     ∙ regroup (is_data_role (role_of h.names)) (are_data (grown l h.names)) (are_data (forest_of l hs)) (is_data_role (role_of g.names) && are_data (grown l g.names))
 
+-- the leaves of a group in its tree
+abbrev tree : ℕ → Group → model.Tree
+tree l g = tree_with (role_of g.names) (trees (grown l g.names))
+
+leaves-more : (l : ℕ) (gs : List Group) (g : Group) → length (leaves_side (trees (forest_of l (gs ++ g ∷ [])))) ≡ length (leaves_side (trees (forest_of l gs))) + length (leaves (tree l g))
+leaves-more l [] g = ap length (append-nil (leaves (tree l g))) ∙ omega arith
+leaves-more l (h ∷ hs) g = length-append (leaves (tree l h)) (leaves_side (trees (forest_of l (hs ++ g ∷ [])))) ∙ (ap (λ n. length (leaves (tree l h)) + n) (leaves-more l hs g)
+    ∙ (omega arith ∙ ap (λ n. n + length (leaves (tree l g))) (sym (length-append (leaves (tree l h)) (leaves_side (trees (forest_of l hs)))))))
+
+leaves-is : (before : List ℕ) (l : ℕ) (g : Group) (b : Grown) → IsGrown b (before ++ g.name ++ 36 ∷ []) (grown l g.names) → leaves_with g (fields_of b.parts.items) b.leaves ≡ length (leaves (tree l g))
+leaves-is before l g b h = ap (λ fs. leaves_with g fs b.leaves) (ap fields_of h.parts ∙ fields-parts (fields (grown l g.names)))
+    ∙ (ap (λ n. leaves_with g (fields (grown l g.names)) n) h.leaves ∙ count_tree (role_of g.names) (grown l g.names))
+
 -- the code's node of a group whose parts have grown
-spot-is : (before : List ℕ) (l : ℕ) (g : Group) (b : Grown) → IsGrown b (before ++ g.name ++ 36 ∷ []) (grown l g.names) → spot_with (before ++ g.name) g (fields_of b.parts.items) b.attrs.items b.is_data ≡ spot (node before l g)
-spot-is before l g b h = ap (λ fs. spot_with (before ++ g.name) g fs b.attrs.items b.is_data) (ap fields_of h.parts ∙ fields-parts (fields (grown l g.names)))
-    ∙ (ap (λ as_. record { item = before ++ g.name; kind = type_with (own_type g.names) (fields (grown l g.names)); attrs = as_; is_data = is_data_role (role_of g.names) && b.is_data })
+spot-is : (before : List ℕ) (l : ℕ) (g : Group) (b : Grown) → IsGrown b (before ++ g.name ++ 36 ∷ []) (grown l g.names) → spot_with (before ++ g.name) g (fields_of b.parts.items) b.attrs.items b.is_data b.leaves ≡ spot (node before l g)
+spot-is before l g b h = ap (λ n. record (spot_with (before ++ g.name) g (fields_of b.parts.items) b.attrs.items b.is_data b.leaves) { leaves = n }) (leaves-is before l g b h)
+    ∙ (ap (λ fs. record (spot_with (before ++ g.name) g fs b.attrs.items b.is_data b.leaves) { leaves = length (leaves (tree l g)) }) (ap fields_of h.parts ∙ fields-parts (fields (grown l g.names)))
+    ∙ (ap (λ o. record (spot_with (before ++ g.name) g (fields (grown l g.names)) b.attrs.items b.is_data b.leaves) { leaves = length (leaves (tree l g)); own = option_map leaf_code o }) (own_tree (role_of g.names) (grown l g.names))
+    ∙ (ap (λ as_. record (spot (node before l g)) { attrs = as_; is_data = is_data_role (role_of g.names) && b.is_data })
     (ap (λ as_. map attr_id (attrs_of_role (role_of g.names)) ++ as_) h.attrs ∙ sym (map-append attr_id (attrs_of_role (role_of g.names)) (attrs_in (grown l g.names))))
-    ∙ ap (λ d. record { item = before ++ g.name; kind = type_with (own_type g.names) (fields (grown l g.names)); attrs = map attr_id (attrs_of_role (role_of g.names) ++ attrs_in (grown l g.names)); is_data = is_data_role (role_of g.names) && d }) h.is_data)
+    ∙ ap (λ d. record (spot (node before l g)) { is_data = is_data_role (role_of g.names) && d }) h.is_data)))
 
 -- what adding a group does
 pub record Added (old new : Grown) (before : List ℕ) (g : Group) (b : Grown) : Type 0 where
-  pub spots : new.spots.items ≡ old.spots.items ++ (spot_with (before ++ g.name) g (fields_of b.parts.items) b.attrs.items b.is_data ∷ b.spots.items)
+  pub spots : new.spots.items ≡ old.spots.items ++ (spot_with (before ++ g.name) g (fields_of b.parts.items) b.attrs.items b.is_data b.leaves ∷ b.spots.items)
   pub parts : new.parts.items ≡ old.parts.items ++ record { name = g.name; kind = type_with (own_type g.names) (fields_of b.parts.items) } ∷ []
   pub attrs : new.attrs.items ≡ old.attrs.items ++ (map attr_id (attrs_of_role (role_of g.names)) ++ b.attrs.items)
   pub is_data : new.is_data ≡ old.is_data && (is_data_role (role_of g.names) && b.is_data)
+  pub leaves : new.leaves ≡ old.leaves + leaves_with g (fields_of b.parts.items) b.leaves
 
 pub grown-more : (before : List ℕ) (l : ℕ) (gs : List Group) (i : ℕ) (g : Group) (old new b : Grown) → i < length gs → g ≡ get_or gs i g → IsGrown old before (forest_of l (take i gs)) → IsGrown b (before ++ g.name ++ 36 ∷ []) (grown l g.names) → Added old new before g b
     → IsGrown new before (forest_of l (take (i + 1) gs))
@@ -82,6 +103,7 @@ grown-more before l gs i g old new b h e o p a = let next : take (i + 1) gs ≡ 
   attrs = a.attrs ∙ (ap (λ x. old.attrs.items ++ (map attr_id (attrs_of_role (role_of g.names)) ++ x)) p.attrs ∙ (ap (λ x. old.attrs.items ++ x) (sym (map-append attr_id (attrs_of_role (role_of g.names)) (attrs_in (grown l g.names))))
       ∙ (ap (λ x. x ++ map attr_id (attrs_of_role (role_of g.names) ++ attrs_in (grown l g.names))) o.attrs ∙ sym (ap (λ x. map attr_id (attrs_in (forest_of l x))) next ∙ (ap (map attr_id) (attrs-more l (take i gs) g) ∙ map-append attr_id (attrs_in (forest_of l (take i gs))) (attrs_of_role (role_of g.names) ++ attrs_in (grown l g.names)))))));
   is_data = a.is_data ∙ (ap (λ x. old.is_data && (is_data_role (role_of g.names) && x)) p.is_data ∙ (ap (λ x. x && (is_data_role (role_of g.names) && are_data (grown l g.names))) o.is_data ∙ sym (ap (λ x. are_data (forest_of l x)) next ∙ data-more l (take i gs) g)));
+  leaves = a.leaves ∙ (ap (λ x. old.leaves + x) (leaves-is before l g b p) ∙ (ap (λ x. x + length (leaves (tree l g))) o.leaves ∙ sym (ap (λ x. length (leaves_side (trees (forest_of l x)))) next ∙ leaves-more l (take i gs) g)));
 }
 
 -- a type with parts and one without

@@ -1,10 +1,15 @@
 pub mod GroupLaws
 pub mod PutLaws
+pub mod LeafLaws
 pub mod GrowLaws
 pub mod LargestLaws
+pub mod StandLaws
 pub mod ListingLaws
 pub mod ResolveLaws
+pub mod ApartLaws
+pub mod NameLaws
 pub mod TableLaws
+pub mod StandsLaid
 pub mod AttributeLaws
 pub mod NameSort
 pub mod KindLaws

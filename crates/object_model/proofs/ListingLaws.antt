@@ -9,6 +9,8 @@ use Rattle.bay_model.specs.NamedLines.{Line, domains, lines, in_order}
 use Rattle.object_model.specs.declared.growth.Spot.{Spot}
 use Rattle.object_model.specs.declared.listing.Directory.{Directory}
 use Rattle.object_model.specs.declared.listing.Listing.{Listing}
+use Rattle.object_model.specs.Stands.{owns, stands_from, all_stands, all_leaves}
+use Rattle.object_model.proofs.StandLaws.{owns-append, stands-append}
 use Rattle.object_names.specs.Indexes.{IndexesFrom}
 use Rattle.object_model.specs.Nodes.{spots_in, row, rows_from, name_at, node_rows, node_names}
 use Rattle.object_model.specs.Listed.{items_of, spots_from, first_of, IsDirectory, AllFrom, IsListed, IsOneMore}
@@ -42,10 +44,15 @@ listed-more c i domain old new h e l m =
       directories = subst (AllFrom (IsDirectory c) 0) (sym m.directories) (all-more (IsDirectory c) 0 old.directories.items m.directory l.directories
           (subst (λ k. IsDirectory c k m.directory) (sym l.count ∙ omega arith) (record { numbers = subst (λ d. IndexesFrom m.directory.numbers (first_of c i) (items_of (spots_in c d))) e (subst (λ n. IndexesFrom m.directory.numbers n (items_of (spots_in c domain))) first m.numbers); ascending = m.ascending ∙ ap (λ d. sorted (items_of (spots_in c d))) e })));
       count = ap length m.directories ∙ (length-append old.directories.items (m.directory ∷ []) ∙ omega (arith, l.count));
+      stands = m.stands ∙ (ap (λ n. old.stands.items ++ stands_from n (spots_in c domain)) (ap length l.leaves) ∙ (ap (λ x. x ++ stands_from (length (owns (flat_map (spots_in c) (take i (domains c))))) (spots_in c domain)) l.stands
+          ∙ sym (ap (λ x. stands_from 0 (flat_map (spots_in c) x)) next ∙ (ap (stands_from 0) (flat-more (spots_in c) (take i (domains c)) domain) ∙ (stands-append 0 (flat_map (spots_in c) (take i (domains c))) (spots_in c domain)
+          ∙ ap (λ n. stands_from 0 (flat_map (spots_in c) (take i (domains c))) ++ stands_from n (spots_in c domain)) (omega arith))))));
+      leaves = m.leaves ∙ (ap (λ x. x ++ owns (spots_in c domain)) l.leaves
+          ∙ sym (ap (λ x. owns (flat_map (spots_in c) x)) next ∙ (ap owns (flat-more (spots_in c) (take i (domains c)) domain) ∙ owns-append (flat_map (spots_in c) (take i (domains c))) (spots_in c domain))));
     }
 
-pub listed-none : (c : Config) (l : Listing) → l.rows.items ≡ [] → l.names.items ≡ [] → l.directories.items ≡ [] → IsListed c 0 l
-listed-none c l r n d = record { rows = r; names = n; directories = subst (AllFrom (IsDirectory c) 0) (sym d) tt; count = ap length d }
+pub listed-none : (c : Config) (l : Listing) → l.rows.items ≡ [] → l.names.items ≡ [] → l.directories.items ≡ [] → l.stands.items ≡ [] → l.leaves.items ≡ [] → IsListed c 0 l
+listed-none c l r n d s o = record { rows = r; names = n; stands = s; leaves = o; directories = subst (AllFrom (IsDirectory c) 0) (sym d) tt; count = ap length d }
 
 pub listed-next : (c : Config) (ds : List (List ℕ)) (ls : List Line) (i : ℕ) (domain item : List ℕ) (old new : Listing) → ds ≡ domains c → ls ≡ in_order (lines c) → i < length ds → item ≡ get_or ds i item → domain ≡ item → IsListed c i old → IsOneMore old new domain (spots_from ls domain) → IsListed c (i + 1) new
 listed-next c ds ls i domain item old new d k h e q l m =
@@ -61,3 +68,9 @@ all-rows c l h = h.rows ∙ ap (λ ds. rows_from 0 (flat_map (spots_in c) ds)) (
 
 pub all-names : (c : Config) (l : Listing) → IsListed c (length (domains c)) l → l.names.items ≡ node_names c
 all-names c l h = h.names ∙ ap (flat_map (λ domain. map (name_at domain) (spots_in c domain))) (take-length (domains c))
+
+pub all-stands-listed : (c : Config) (l : Listing) → IsListed c (length (domains c)) l → l.stands.items ≡ all_stands c
+all-stands-listed c l h = h.stands ∙ ap (λ ds. stands_from 0 (flat_map (spots_in c) ds)) (take-length (domains c))
+
+pub all-leaves-listed : (c : Config) (l : Listing) → IsListed c (length (domains c)) l → l.leaves.items ≡ all_leaves c
+all-leaves-listed c l h = h.leaves ∙ ap (λ ds. owns (flat_map (spots_in c) ds)) (take-length (domains c))

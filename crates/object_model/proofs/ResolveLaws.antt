@@ -25,7 +25,7 @@ use Rattle.list_laws.proofs.Places.{place-cons, position-append}
 use Rattle.list_laws.proofs.Distinct.{octets_apart, Absent, Distinct}
 use Rattle.object_model.proofs.GroupLaws.{distinct-with}
 
-distinct-domains : (ds : List (List ℕ)) (ns : List LnDef) → Distinct ds → Distinct (domains_after ds ns)
+pub distinct-domains : (ds : List (List ℕ)) (ns : List LnDef) → Distinct ds → Distinct (domains_after ds ns)
 distinct-domains ds [] d = d
 distinct-domains ds (n ∷ ns) d = distinct-domains (with_domain ds n.domain) ns (distinct-with ds n.domain d)
 

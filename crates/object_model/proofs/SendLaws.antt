@@ -24,6 +24,8 @@ use Rattle.object_names.specs.contracts.attributes.AttrRow as AttrRow
 use Rattle.object_names.specs.contracts.index.Index as Index
 use Rattle.object_model.specs.contracts.listing.Directory as Directory
 use Rattle.object_model.specs.contracts.nodes.NodeName as NodeName
+use Rattle.object_model.specs.contracts.stands.Stand as Stand
+use Rattle.object_names.specs.contracts.leaves.Leaf as Leaf
 use Rattle.object_model.specs.contracts.tables.Tables as Tables
 use Rattle.object_model.specs.contracts.model.Model as Model
 
@@ -80,8 +82,14 @@ directory_send = search (index_field_send, octs.the_send, crosses, sendable) dep
 name_send : IsSend NodeName.the_row
 name_send = search (octs.the_send, sendable) depth 60
 
+stand_send : IsSend Stand.the_row
+stand_send = search (sendable) depth 60
+
+leaf_send : IsSend Leaf.the_row
+leaf_send = search (sendable) depth 60
+
 tables_field_send : IsSend Tables.the_field.row
-tables_field_send = search (node_table_send, index_field_send, directory_send, name_send, set_table.the_send, crosses, sendable) depth 60
+tables_field_send = search (stand_send, leaf_send, node_table_send, index_field_send, directory_send, name_send, set_table.the_send, crosses, sendable) depth 60
 
 attr_row_send : IsSend AttrRow.the_row
 attr_row_send = search (kind_field_send, octs.the_send, sendable) depth 60

@@ -24,6 +24,8 @@ use Rattle.object_names.specs.contracts.attributes.AttrRow as AttrRow
 use Rattle.object_names.specs.contracts.index.Index as Index
 use Rattle.object_model.specs.contracts.listing.Directory as Directory
 use Rattle.object_model.specs.contracts.nodes.NodeName as NodeName
+use Rattle.object_model.specs.contracts.stands.Stand as Stand
+use Rattle.object_names.specs.contracts.leaves.Leaf as Leaf
 use Rattle.object_model.specs.contracts.tables.Tables as Tables
 use Rattle.object_model.specs.contracts.model.Model as Model
 
@@ -80,8 +82,14 @@ directory_sync = search (index_field_sync, octs.the_sync, crosses, sendable) dep
 name_sync : IsSync NodeName.the_row
 name_sync = search (octs.the_sync, sendable) depth 60
 
+stand_sync : IsSync Stand.the_row
+stand_sync = search (sendable) depth 60
+
+leaf_sync : IsSync Leaf.the_row
+leaf_sync = search (sendable) depth 60
+
 tables_field_sync : IsSync Tables.the_field.row
-tables_field_sync = search (node_table_sync, index_field_sync, directory_sync, name_sync, set_table.the_sync, crosses, sendable) depth 60
+tables_field_sync = search (stand_sync, leaf_sync, node_table_sync, index_field_sync, directory_sync, name_sync, set_table.the_sync, crosses, sendable) depth 60
 
 attr_row_sync : IsSync AttrRow.the_row
 attr_row_sync = search (kind_field_sync, octs.the_sync, sendable) depth 60

@@ -1,7 +1,7 @@
 -- The tables of a configuration beside the model of it.
 use Rattle.std.proofs.Common.{◌≡◌, ℕ, zero, suc, ◌+◌, ◌<◌, Bool, List, [], ◌∷◌, ◌++◌, map, flat_map, length, get_or, Some, unwrap_or, slice_get, refl, sym, ap, ◌∙◌, arith}
 use Rattle.std.specs.Str.{bytes_eq}
-use Rattle.std.proofs.Common.{false}
+use Rattle.std.proofs.Common.{false, None}
 use Rattle.std.proofs.lemmas.List.{get_or_default}
 use Rattle.sv_base.specs.Types.{no_field}
 use Rattle.sv_base.specs.declared.types.TypeOf.{TypeOf}
@@ -23,6 +23,7 @@ use Rattle.bay_model.specs.Named.{nodes, places_in, member_number, set_defined, 
 use Rattle.object_names.specs.declared.index.Index.{Index}
 use Rattle.object_model.specs.declared.nodes.NodeName.{NodeName}
 use Rattle.object_model.specs.Grown.{spot, attr_id}
+use Rattle.object_names.specs.declared.named.What.TheVariants as whats
 use Rattle.object_names.specs.Numbers.{number_in}
 use Rattle.object_names.specs.Indexes.{Indexes}
 use Rattle.object_model.specs.Nodes.{spots_in, name_at, node_names, row, rows_from, node_rows}
@@ -129,7 +130,7 @@ is_member s = (s.is_data && list_any (bytes_eq (constraint s.item)) member_const
 
 pub row-is : (c : Config) (n : ℕ) (r : NodeRow) → n < length (nodes c) → r ≡ get_or (node_rows c) n r → IsRowOf c n r
 row-is c n r h e =
-    let none : Spot = record { item = []; kind = types.Struct no_field; attrs = []; is_data = false } in
+    let none : Spot = record { item = []; kind = types.Struct no_field; attrs = []; is_data = false; what = whats.Structure; own = None; leaves = 0 } in
     let lt : n < length (all_spots c) = omega (arith, h, count-rows c, length-rows 0 (all_spots c)) in
     let is : r ≡ row (0 + n) (get_or (all_spots c) n none) = row-at 0 (all_spots c) n r none lt e in
     record {

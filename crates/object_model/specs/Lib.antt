@@ -1,8 +1,10 @@
 pub use Rattle.object_names.specs.Numbers
 pub use Rattle.object_names.specs.References
 pub mod Groups
+pub mod Leaves
 pub mod Grown
 pub mod Nodes
+pub mod Stands
 pub mod Listed
 pub mod Fits
 pub mod Tables

@@ -11,6 +11,7 @@ use Rattle.object_model.specs.declared.listing.Directory.{Directory}
 use Rattle.object_model.specs.declared.listing.Listing.{Listing}
 use Rattle.object_names.specs.Indexes.{IndexesFrom}
 use Rattle.object_model.specs.Grown.{spot}
+use Rattle.object_model.specs.Stands.{owns, stands_from}
 use Rattle.object_model.specs.Nodes.{spots_in, rows_from, name_at}
 
 -- the nodes that lines name in a domain
@@ -43,6 +44,8 @@ pub record IsListed (c : Config) (i : ℕ) (l : Listing) : Type 0 where
   pub names : l.names.items ≡ flat_map (λ domain. map (name_at domain) (spots_in c domain)) (take i (domains c))
   pub directories : AllFrom (IsDirectory c) 0 l.directories.items
   pub count : length l.directories.items ≡ i
+  pub stands : l.stands.items ≡ stands_from 0 (flat_map (spots_in c) (take i (domains c)))
+  pub leaves : l.leaves.items ≡ owns (flat_map (spots_in c) (take i (domains c)))
 
 -- one more domain, of these nodes
 pub record IsOneMore (old new : Listing) (domain : List ℕ) (spots : List Spot) : Type 0 where
@@ -52,3 +55,5 @@ pub record IsOneMore (old new : Listing) (domain : List ℕ) (spots : List Spot)
   pub directories : new.directories.items ≡ old.directories.items ++ directory ∷ []
   pub numbers : IndexesFrom directory.numbers (length old.rows.items) (items_of spots)
   pub ascending : directory.ascending.items ≡ sorted (items_of spots)
+  pub stands : new.stands.items ≡ old.stands.items ++ stands_from (length old.leaves.items) spots
+  pub leaves : new.leaves.items ≡ old.leaves.items ++ owns spots

@@ -22,6 +22,7 @@ use Rattle.object_names.specs.declared.index.Index.{Index}
 use Rattle.object_model.specs.declared.nodes.NodeName.{NodeName}
 use Rattle.object_names.specs.Indexes.{Indexes, found}
 use Rattle.object_model.specs.Nodes.{node_rows, node_names}
+use Rattle.object_model.specs.Stands.{all_stands, all_leaves}
 use Rattle.object_model.specs.Listed.{AllFrom, IsDirectory}
 
 -- the number of the node of an item of a domain
@@ -62,6 +63,8 @@ pub record IsTables (c : Config) (t : Tables) : Type 0 where
   pub names : t.names.items ≡ node_names c
   pub nodes : t.nodes ≡ node_rows c
   pub sets : t.sets ≡ set_rows c
+  pub stands : t.stands.items ≡ all_stands c
+  pub leaves : t.leaves.items ≡ all_leaves c
 
 -- ---- for the code
 

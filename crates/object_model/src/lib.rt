@@ -11,6 +11,7 @@ mod largest;
 mod listing;
 mod nodes;
 mod sorting;
+mod stands;
 mod tables;
 
 // the model, and whether a step fits it
@@ -19,6 +20,6 @@ mod fitting;
 mod laws;
 mod model;
 
-pub use laws::{models_cross_threads, rows_are_the_nodes};
+pub use laws::{models_cross_threads, names_find_their_nodes, rows_are_the_nodes};
 pub use model::Model;
-pub use object_names::domains;
+pub use object_names::{Call, Leaf, What, domains};

@@ -7,9 +7,10 @@ ghost use Rattle.object_model.specs.Listed.{IsListed, IsOneMore, items_of as ite
 use crate::growth::Spot;
 use crate::nodes::{NodeName, push_node_names, push_rows, spots_of};
 use crate::sorting::sorted;
+use crate::stands::{Stand, push_stands};
 use bay_model::NodeRow;
 use object_names::numbers::count;
-use object_names::{Index, Line};
+use object_names::{Index, Leaf, Line};
 use std::alloc::{AllocError, Global};
 use sv_base::{Config, Octs};
 
@@ -20,12 +21,15 @@ pub struct Directory {
     pub ascending: Vec<Octs>,
 }
 
-/// The nodes by their numbers: their rows and their names; and the names of each domain.
+/// The nodes by their numbers: their rows, their names and what stands at them; the names of each domain; and the leaves of
+/// all nodes.
 #[derive(Drop)]
 pub struct Listing {
     pub rows: Vec<NodeRow>,
     pub names: Vec<NodeName>,
     pub directories: Vec<Directory>,
+    pub stands: Vec<Stand>,
+    pub leaves: Vec<Leaf>,
 }
 
 fn items_of(alloc: Global, spots: &[Spot]) -> Result<Vec<Octs>, AllocError>
@@ -54,6 +58,7 @@ fn push_domain(
     let ascending = sorted(alloc, &items)?;
     listing.directories.push(Directory { numbers, ascending })?;
     push_node_names(alloc, &mut listing.names, domain, &spots)?;
+    push_stands(&mut listing.stands, &mut listing.leaves, &spots)?;
     push_rows(&mut listing.rows, spots)?;
     Ok(())
 }
@@ -73,6 +78,8 @@ pub fn list(
         rows: Vec::new(alloc),
         names: Vec::new(alloc),
         directories: Vec::new(alloc),
+        stands: Vec::new(alloc),
+        leaves: Vec::new(alloc),
     };
     for domain in domains {
         push_domain(alloc, &mut listing, lines, domain.as_slice())?;

@@ -2,9 +2,12 @@
 
 use crate::copies::copy_config;
 use crate::fitting::{Counts, step_fits};
+use crate::stands::between;
 use crate::tables::Tables;
 use bay_model::{Flags, Names, NodeTable, SetTable, Step};
-use object_names::{AttrRow, Index, attr_index, attr_rows, block_references, control_references};
+use object_names::{
+    AttrRow, Index, Leaf, What, attr_index, attr_rows, block_references, control_references,
+};
 use std::alloc::{AllocError, Global};
 use sv_base::{AttrId, BlockNo, Config, CtlNo, NodeId, Octs, TypeOf};
 
@@ -58,6 +61,8 @@ impl Model {
     ghost use Rattle.object_model.specs.Nodes.{node_rows};
     ghost use Rattle.object_model.specs.Sorting.{variables_after};
     ghost use Rattle.object_model.specs.Tables.{node_named, node_type, set_rows, flags_of};
+    ghost use Rattle.object_names.specs.Seen.{role_seen};
+    ghost use Rattle.object_names.specs.Leaves.{leaves, leaf_seen};
     ghost use Rattle.object_names.specs.Numbers.{number_in};
     ghost use Rattle.object_names.specs.References.{block_references as blocks_of, control_references as controls_of, attr_references as attrs_of};
 
@@ -175,6 +180,24 @@ impl Model {
             .shape
             .attrs
             .as_slice()
+    }
+
+    /// The leaves of a node, in the order of its type.
+    pub fn leaves_of(&self, node: NodeId) -> &[Leaf]
+        requires { node.0 < length (nodes_of self.now) }
+        ensures { map leaf_seen result.now ≡ leaves (node_of (configured_model self.now) node.0).tree }
+    {
+        let stand = &self.tables.stands.as_slice()[node.0 as usize];
+        between(self.tables.leaves.as_slice(), stand.first, stand.end)
+    }
+
+    /// What a node is to one that reads or writes it.
+    pub fn role_of(&self, node: NodeId) -> What
+        requires { node.0 < length (nodes_of self.now) }
+        ensures { role_seen result ≡ (node_of (configured_model self.now) node.0).role }
+    {
+        let stand = &self.tables.stands.as_slice()[node.0 as usize];
+        stand.what
     }
 
     /// The trigger conditions of an attribute (IEC 61850-7-2, TriggerConditions).

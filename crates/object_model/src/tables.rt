@@ -11,13 +11,15 @@ ghost use Rattle.object_model.specs.Tables.{IsTables, set_row, set_rows as set_r
 use crate::listing::{Directory, list};
 use crate::nodes::NodeName;
 use crate::sorting::names_after;
+use crate::stands::Stand;
 use bay_model::{NodeTable, Nodes, SetName, SetRow, SetTable};
 use object_names::references::joined;
-use object_names::{Index, domains, ordered_lines};
+use object_names::{Index, Leaf, domains, ordered_lines};
 use std::alloc::{AllocError, Global};
 use sv_base::{Config, NodeId, Octs, SetDef};
 
-/// The numbers of the domains and, for each, of its items; the nodes, their names and the data sets, by their numbers.
+/// The numbers of the domains and, for each, of its items; the nodes, their names, what stands at them and the data sets, by
+/// their numbers; and the leaves of all nodes.
 #[derive(Drop)]
 pub struct Tables {
     pub domains: Index,
@@ -25,6 +27,8 @@ pub struct Tables {
     pub names: Vec<NodeName>,
     pub nodes: NodeTable,
     pub sets: SetTable,
+    pub stands: Vec<Stand>,
+    pub leaves: Vec<Leaf>,
 }
 
 /// The references `LD/item` of nodes.
@@ -105,6 +109,8 @@ impl Tables {
             names: listing.names,
             nodes: NodeTable::from_vec(listing.rows),
             sets,
+            stands: listing.stands,
+            leaves: listing.leaves,
         })
     }
 

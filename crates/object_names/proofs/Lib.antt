@@ -1,2 +1,3 @@
 pub mod NumberLaws
 pub mod LineLaws
+pub mod LeafLaws

@@ -8,6 +8,7 @@ mod index;
 pub mod numbers;
 
 // what lines name
+mod leaves;
 mod lines;
 mod named;
 pub mod references;
@@ -17,6 +18,7 @@ mod attributes;
 
 pub use attributes::{AttrRow, attr_index, attr_rows};
 pub use index::Index;
+pub use leaves::{Leaf, own_leaf};
 pub use lines::{Line, domains, ordered_lines};
 pub use named::{Call, Named, What};
 pub use references::{block_references, control_references};

@@ -3,6 +3,7 @@ use Rattle.object_names.specs.Indexes.{IndexesFrom}
 use Rattle.bay_model.specs.Names.{sorted}
 use Rattle.object_model.specs.Nodes.{rows_from, name_at}
 use Rattle.object_model.specs.Listed.{items_of}
+use Rattle.object_model.specs.Stands.{owns, stands_from}
 use Rattle.object_model.proofs.listing.push_domain.Goals as goal
 
 pub returns : goal.returns
@@ -15,4 +16,6 @@ returns c = record {
       (subst (λ l. IndexesFrom c.in_ok-numbers.numbers (length c.args.listing.now.rows.items) l) (c.deref-2.ensures.value ∙ c.in_ok-items.ensures)
       (subst (λ n. IndexesFrom c.in_ok-numbers.numbers n c.deref-2.result.now) (c.in_ok-first.ensures ∙ ap length c.as_slice.ensures.value) c.in_ok-numbers.ensures));
   ascending = c.in_ok-ascending.ensures ∙ ap sorted (c.deref-3.ensures.value ∙ (c.in_ok-items.ensures ∙ ap items_of (c.deref.ensures.value ∙ c.in_ok-spots.ensures)));
+  stands = c.in_ok-push_stands.ensures.stands ∙ ap (λ l. c.args.listing.now.stands.items ++ stands_from (length c.args.listing.now.leaves.items) l) (c.deref-5.ensures.value ∙ c.in_ok-spots.ensures);
+  leaves = c.in_ok-push_stands.ensures.leaves ∙ ap (λ l. c.args.listing.now.leaves.items ++ owns l) (c.deref-5.ensures.value ∙ c.in_ok-spots.ensures);
 }

@@ -1,7 +1,7 @@
 use Rattle.std.proofs.Common.{◌∙◌, subst, ap, []}
 use Rattle.bay_model.specs.Configured.{domains_after}
 use Rattle.object_names.specs.Indexes.{Indexes}
-use Rattle.object_model.proofs.ListingLaws.{all-rows, all-names}
+use Rattle.object_model.proofs.ListingLaws.{all-rows, all-names, all-stands-listed, all-leaves-listed}
 use Rattle.object_model.proofs.tables.Tables.of.Goals as goal
 
 pub returns : goal.returns
@@ -12,4 +12,6 @@ returns c = record {
   names = all-names c.args.config.now c.in_ok-listing.listing c.in_ok-listing.ensures;
   nodes = c.from_vec.ensures ∙ all-rows c.args.config.now c.in_ok-listing.listing c.in_ok-listing.ensures;
   sets = c.in_ok-sets.ensures;
+  stands = all-stands-listed c.args.config.now c.in_ok-listing.listing c.in_ok-listing.ensures;
+  leaves = all-leaves-listed c.args.config.now c.in_ok-listing.listing c.in_ok-listing.ensures;
 }
