@@ -1,0 +1,5 @@
+pub mod Kinds
+pub mod Forms
+pub mod Words
+pub mod Lines
+pub mod Texts
