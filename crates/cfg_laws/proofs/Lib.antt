@@ -1,4 +1,5 @@
 pub mod StepLaws
+pub mod NameLaws
 pub mod WrongLaws
 pub mod LongLaws
 pub mod FormLaws

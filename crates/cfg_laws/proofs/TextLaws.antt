@@ -27,6 +27,7 @@ use Rattle.cfg_text.proofs.ReadLineLaws.{line-told}
 use Rattle.cfg_text.proofs.WholeLaws.{config-read, config-told, has-name, lines-read, text-read, all-found-read, empty-is, ended-place, lines-told, all-found-told}
 use Rattle.cfg_refusals.specs.Lines.{IsRefusedLine}
 use Rattle.cfg_refusals.specs.Texts.{HasNoNewline, HasRefused, EndsEarly, IsLost, NamesLost, IsRefused}
+use Rattle.cfg_laws.proofs.NameLaws.{none-is, among-is, node-is, member-is}
 use Rattle.cfg_laws.proofs.StepLaws.{err_of, same-kind}
 use Rattle.cfg_laws.proofs.LineLaws.{line-refused}
 
@@ -147,13 +148,13 @@ lost all number (lines.Brcb block) line kind e = by ((length block.dat_set == 0)
     by false is e =
         let at = refused-is line number kind kinds.Unknown e in
         let both = or_parts (length block.dat_set == 0) (is_among (sets all) block.dat_set) is in
-        (at.0, (λ none. true≢false (sym (eq-eqb (length block.dat_set) 0 (ap length none)) ∙ both.0), both.1, at.1))
+        (at.0, (λ none. true≢false (sym (eq-eqb (length block.dat_set) 0 (ap length none)) ∙ both.0), (none-is (is_among (sets all) block.dat_set) _ (among-is (sets all) block.dat_set)).0 both.1, at.1))
 lost all number (lines.Member reference) line kind e = by (is_node all reference) (is_member_node all reference) refl refl e
   where
     by : (a b : Bool) → is_node all reference ≡ a → is_member_node all reference ≡ b → cond a (cond b found_it (Err (faults.Refused number kinds.Member))) (Err (faults.Refused number kinds.Unknown)) ≡ refused (Unit {0}) line kind → (line ≡ number) × IsLost all (lines.Member reference) (number_of kind)
     by true true there may e = ok-refused tt line kind e
-    by true false there may e = let at = refused-is line number kind kinds.Member e in (at.0, inr (there, may, at.1))
-    by false b there may e = let at = refused-is line number kind kinds.Unknown e in (at.0, inl (there, at.1))
+    by true false there may e = let at = refused-is line number kind kinds.Member e in (at.0, inr ((node-is all reference).0 there, (none-is (is_member_node all reference) _ (member-is all reference)).0 may, at.1))
+    by false b there may e = let at = refused-is line number kind kinds.Unknown e in (at.0, inl ((none-is (is_node all reference) _ (node-is all reference)).0 there, at.1))
 lost all number lines.Skip line kind e = ok-refused tt line kind e
 lost all number lines.Config line kind e = ok-refused tt line kind e
 lost all number (lines.Server vendor model revision) line kind e = ok-refused tt line kind e
@@ -168,9 +169,9 @@ lost all number lines.End line kind e = ok-refused tt line kind e
 is-lost : (all : List Line) (number : ℕ) (one : Line) (line : ℕ) (kind : Kind) → line ≡ number → IsLost all one (number_of kind) → look_at all number one ≡ refused (Unit {0}) line kind
 unfolding look_at
 is-lost all number (lines.Brcb block) line kind at is =
-    cond-false _ _ _ (or_from _ _ (false_from_ne_true (length block.dat_set == 0) (λ e. is.0 (empty-is block.dat_set e))) is.1) ∙ is-refused (Unit {0}) line number kind kinds.Unknown at is.2
-is-lost all number (lines.Member reference) line kind at (inl is) = cond-false _ _ _ is.0 ∙ is-refused (Unit {0}) line number kind kinds.Unknown at is.1
-is-lost all number (lines.Member reference) line kind at (inr is) = cond-true _ _ _ is.0 ∙ (cond-false _ _ _ is.1 ∙ is-refused (Unit {0}) line number kind kinds.Member at is.2)
+    cond-false _ _ _ (or_from _ _ (false_from_ne_true (length block.dat_set == 0) (λ e. is.0 (empty-is block.dat_set e))) ((none-is (is_among (sets all) block.dat_set) _ (among-is (sets all) block.dat_set)).1 is.1)) ∙ is-refused (Unit {0}) line number kind kinds.Unknown at is.2
+is-lost all number (lines.Member reference) line kind at (inl is) = cond-false _ _ _ ((none-is (is_node all reference) _ (node-is all reference)).1 is.0) ∙ is-refused (Unit {0}) line number kind kinds.Unknown at is.1
+is-lost all number (lines.Member reference) line kind at (inr is) = cond-true _ _ _ ((node-is all reference).1 is.0) ∙ (cond-false _ _ _ ((none-is (is_member_node all reference) _ (member-is all reference)).1 is.1) ∙ is-refused (Unit {0}) line number kind kinds.Member at is.2)
 is-lost all number lines.Skip line kind at is = absurd is
 is-lost all number lines.Config line kind at is = absurd is
 is-lost all number (lines.Server vendor model revision) line kind at is = absurd is

@@ -29,7 +29,9 @@ use Rattle.cfg_text.proofs.SpelledLineLaws.{spelled-type}
 use Rattle.cfg_refusals.specs.Words.{Else, IsNumber, IsTextValue, IsBits, IsTypeWord, IsFlags, AreValues, IsControlType, IsModel, IsFreeControl, IsActive, IsWrong}
 use Rattle.cfg_refusals.specs.Forms as forms
 use Rattle.cfg_refusals.specs.Kinds as numbers
-use Rattle.cfg_laws.proofs.StepLaws.{itself, err_of, refuses, nothing, if-right, if-wrong, Reads, given-right}
+use Rattle.cfg_laws.proofs.NameLaws.{any-is, none-is, among-is, constraint-is, name-is, path-is, reference-is, taken-is}
+use Rattle.cfg_refusals.specs.Names.{AnyIs, IsTaken}
+use Rattle.cfg_laws.proofs.StepLaws.{err_of, refuses, nothing, if-right, if-wrong, Reads, given-right}
 
 -- words
 number-reads : (least most : ℕ) (word : List ℕ) → most < 2 ^ 64 → Reads (number_within least most word) (IsNumber least most word)
@@ -113,8 +115,11 @@ is-model word = by (number_within 0 4 word) refl
 abbrev has_control : List Line → List ℕ → ℕ → Bool
 has_control before path model = list_any (λ key. is_taken (claims before) key) (control_keys (domain_of before) (node_of before) path model)
 
+free-keys : (before : List Line) (path : List ℕ) (model : ℕ) → (has_control before path model ≡ false) ↔ (AnyIs (IsTaken (claims before)) (control_keys (domain_of before) (node_of before) path model) → ⊥)
+free-keys before path model = none-is (has_control before path model) _ (any-is (λ key. is_taken (claims before) key) (IsTaken (claims before)) (taken-is (claims before)) (control_keys (domain_of before) (node_of before) path model))
+
 free-control : (before : List Line) (path word : List ℕ) → (has_control before path (model_of word) ≡ false) ↔ IsFreeControl before path word
-free-control before path word = (λ e. (model_of word, is-model word, e), λ is. ap (has_control before path) (model-is word is.0 is.1) ∙ is.2)
+free-control before path word = (λ e. (model_of word, is-model word, (free-keys before path (model_of word)).0 e), λ is. ap (has_control before path) (model-is word is.0 is.1) ∙ (free-keys before path is.0).1 is.2)
 
 -- lines
 abbrev Judges : List Line → forms.Form → Kind → Result Line Kind → Type 0
@@ -130,27 +135,27 @@ module _ (before : List Line) (kind : Kind) where
 
   pub domain-wrong : (name : List ℕ) → Judges before (forms.Ld name) kind (domain_at before name)
   unfolding domain_at
-  domain-wrong name = if-right (is_name name) _ kinds.Name kind _ _ itself (λ e. if-wrong (is_among (heads before) name) _ kinds.Duplicate kind _ ⊥ itself (λ f. nothing _ kind))
+  domain-wrong name = if-right (is_name name) _ kinds.Name kind _ _ (name-is name) (λ e. if-wrong (is_among (heads before) name) _ kinds.Duplicate kind _ ⊥ (none-is (is_among (heads before) name) _ (among-is (heads before) name)) (λ f. nothing _ kind))
 
   pub node-wrong : (name : List ℕ) → Judges before (forms.Ln name) kind (node_at before name)
   unfolding node_at
-  node-wrong name = if-right (is_name name) _ kinds.Name kind _ _ itself
-      (λ e. if-wrong (is_among (heads before) (node_key (domain_of before) name)) _ kinds.Duplicate kind _ ⊥ itself (λ f. nothing _ kind))
+  node-wrong name = if-right (is_name name) _ kinds.Name kind _ _ (name-is name)
+      (λ e. if-wrong (is_among (heads before) (node_key (domain_of before) name)) _ kinds.Duplicate kind _ ⊥ (none-is (is_among (heads before) (node_key (domain_of before) name)) _ (among-is (heads before) (node_key (domain_of before) name))) (λ f. nothing _ kind))
 
   pub set-wrong : (name : List ℕ) → Judges before (forms.Set name) kind (set_at before name)
   unfolding set_at
-  set-wrong name = if-right (is_name name) _ kinds.Name kind _ _ itself
-      (λ e. if-wrong (is_among (sets before) (set_key (domain_of before) (node_of before) name)) _ kinds.Duplicate kind _ ⊥ itself (λ f. nothing _ kind))
+  set-wrong name = if-right (is_name name) _ kinds.Name kind _ _ (name-is name)
+      (λ e. if-wrong (is_among (sets before) (set_key (domain_of before) (node_of before) name)) _ kinds.Duplicate kind _ ⊥ (none-is (is_among (sets before) (set_key (domain_of before) (node_of before) name)) _ (among-is (sets before) (set_key (domain_of before) (node_of before) name))) (λ f. nothing _ kind))
 
   pub member-wrong : (reference : List ℕ) → Judges before (forms.Member reference) kind (member_at reference)
-  member-wrong reference = if-right (is_member reference) _ kinds.Name kind _ ⊥ itself (λ e. nothing _ kind)
+  member-wrong reference = if-right (is_member reference) _ kinds.Name kind _ ⊥ (reference-is reference) (λ e. nothing _ kind)
 
   pub attribute-wrong : (fc path type_ flags : List ℕ) (values : List (List ℕ)) → Judges before (forms.Attr fc path type_ flags values) kind (attribute_at before fc path type_ flags values)
   unfolding attribute_at typed_at
   attribute-wrong fc path type_ flags values =
-      if-right (is_fc fc) _ kinds.Name kind _ _ itself
-      (λ a. if-right (is_path path) _ kinds.Name kind _ _ itself
-      (λ b. if-wrong (is_taken (claims before) (item_key (domain_of before) (node_of before) fc path)) _ kinds.Duplicate kind _ _ itself
+      if-right (is_fc fc) _ kinds.Name kind _ _ (constraint-is fc)
+      (λ a. if-right (is_path path) _ kinds.Name kind _ _ (path-is path)
+      (λ b. if-wrong (is_taken (claims before) (item_key (domain_of before) (node_of before) fc path)) _ kinds.Duplicate kind _ _ (none-is (is_taken (claims before) (item_key (domain_of before) (node_of before) fc path)) _ (taken-is (claims before) (item_key (domain_of before) (node_of before) fc path)))
       (λ d. given-right (type_at type_) _ same_line kinds.TypeName kind _ _ (λ k. refl) (type-reads type_)
       (λ t typed. given-right (flags_at flags) _ same_line kinds.Flags kind _ _ (λ k. refl) (flags-reads flags)
       (λ f e. given-right (values_at t values) _ same_line kinds.Value kind _ ⊥ (λ k. refl) (values-reads type_ values t typed)
@@ -187,14 +192,14 @@ module _ (before : List Line) (kind : Kind) where
       → Judges before (forms.Brcb name rpt_id dat_set conf_rev opt_flds buf_tm trg_ops intg_pd capacity) kind (block_at before name rpt_id dat_set conf_rev opt_flds buf_tm trg_ops intg_pd capacity)
   unfolding block_at block_fields_at
   block-wrong name rpt_id dat_set conf_rev opt_flds buf_tm trg_ops intg_pd capacity =
-      if-right (is_name name) _ kinds.Name kind _ _ itself
-      (λ a. if-wrong (is_taken (claims before) (item_key (domain_of before) (node_of before) (codes "BR") name)) _ kinds.Duplicate kind _ _ itself
+      if-right (is_name name) _ kinds.Name kind _ _ (name-is name)
+      (λ a. if-wrong (is_taken (claims before) (item_key (domain_of before) (node_of before) (codes "BR") name)) _ kinds.Duplicate kind _ _ (none-is (is_taken (claims before) (item_key (domain_of before) (node_of before) (codes "BR") name)) _ (taken-is (claims before) (item_key (domain_of before) (node_of before) (codes "BR") name)))
       (λ b. texts-wrong rpt_id dat_set _ _ (λ ids. options-wrong conf_rev opt_flds buf_tm _ _ (λ options. triggers-wrong trg_ops intg_pd capacity _ ⊥ (λ triggers. nothing _ kind)))))
 
   pub control-wrong : (path model timeout class type_ : List ℕ) → Judges before (forms.Ctl path model timeout class type_) kind (control_at before path model timeout class type_)
   unfolding control_at control_fields_at
   control-wrong path model timeout class type_ =
-      if-right (is_path path) _ kinds.Name kind _ _ itself
+      if-right (is_path path) _ kinds.Name kind _ _ (path-is path)
       (λ a. if-wrong (has_control before path (model_of model)) _ kinds.Duplicate kind _ _ (free-control before path model)
       (λ b. given-right (number_within 0 4 model) _ same_line kinds.Number kind _ _ (λ k. refl) (number-reads 0 4 model (omega arith))
       (λ m d. given-right (number_within 1 4294967295 timeout) _ same_line kinds.Number kind _ _ (λ k. refl) (number-reads 1 4294967295 timeout (omega arith))
@@ -205,7 +210,7 @@ module _ (before : List Line) (kind : Kind) where
   pub groups-wrong : (count active : List ℕ) → Judges before (forms.Sgcb count active) kind (groups_at before count active)
   unfolding groups_at group_fields_at
   groups-wrong count active =
-      if-wrong (is_taken (claims before) (group_key (domain_of before) (codes "LLN0"))) _ kinds.Duplicate kind _ _ itself
+      if-wrong (is_taken (claims before) (group_key (domain_of before) (codes "LLN0"))) _ kinds.Duplicate kind _ _ (none-is (is_taken (claims before) (group_key (domain_of before) (codes "LLN0"))) _ (taken-is (claims before) (group_key (domain_of before) (codes "LLN0"))))
       (λ a. given-right (number_within 1 16 count) _ same_line kinds.Number kind _ _ (λ k. refl) (number-reads 1 16 count (omega arith))
       (λ c b. given-right (number_within 1 c active) _ same_line kinds.Number kind _ ⊥ (λ k. refl) (active-reads count active c b)
       (λ n d. nothing _ kind)))

@@ -1,15 +1,16 @@
 -- The first refused line of a text, and its kind.
-use Rattle.std.specs.Prelude.{◌≡◌, ◌⊎◌, ◌==◌, ℕ, Bool, true, false, List, [], ◌∷◌, ◌++◌}
+use Rattle.std.specs.Prelude.{◌≡◌, ◌≤◌, ◌⊎◌, ◌==◌, ℕ, Bool, true, false, List, [], ◌∷◌, ◌++◌}
 use Rattle.std.specs.List.{All}
-use Rattle.cfg_lines.specs.Keys.{is_among}
 use Rattle.cfg_lines.specs.Before.{number_of, place_of}
 use Rattle.cfg_lines.specs.Claims.{sets}
-use Rattle.cfg_lines.specs.Nodes.{is_node, is_member_node}
+use Rattle.cfg_lines.specs.Nodes.{leaves, leaf_names, closed}
+use Rattle.cfg_lines.specs.Sizes.{octets_of, leaf_octets, children}
 use Rattle.cfg_lines.specs.declared.line.Line.{Line}
 use Rattle.cfg_lines.specs.declared.line.Line.TheVariants as lines
 use Rattle.cfg_lines.specs.declared.line.Place.TheVariants as places
 use Rattle.cfg_grammar.specs.Texts.{AreLines, AreFound}
 use Rattle.cfg_refusals.specs.Kinds as kinds
+use Rattle.cfg_refusals.specs.Names.{IsAmong, Reaches}
 use Rattle.cfg_refusals.specs.Lines.{IsRefusedLine}
 
 abbrev pub HasNoNewline : List ℕ → Type 0
@@ -39,11 +40,18 @@ pub record EndsEarly (text : List ℕ) (line kind : ℕ) : Type 0 where
   pub number : line ≡ number_of before
   pub cause : kind ≡ kinds.order
 
+-- a node that the lines make
+abbrev pub IsNode : List Line → List ℕ → Type 0
+IsNode all node = Reaches (leaf_names all) node ⊎ Reaches (closed all) node
+
+-- a node that a data set may have: nothing closed is in it, and its Data has at most 500 octets
+abbrev pub MayBeMember : List Line → List ℕ → Type 0
+MayBeMember all node = (Reaches (closed all) node → ⊥) × (octets_of 10 (leaf_octets (leaves all)) (children (leaf_names all)) node ≤ 500)
+
 -- what a line names among all lines isn't there, or may not stand there
 abbrev pub IsLost : List Line → Line → ℕ → Type 0
-IsLost all (lines.Brcb block) kind = (block.dat_set ≡ [] → ⊥) × (is_among (sets all) block.dat_set ≡ false) × (kind ≡ kinds.unknown)
-IsLost all (lines.Member reference) kind = ((is_node all reference ≡ false) × (kind ≡ kinds.unknown))
-    ⊎ ((is_node all reference ≡ true) × (is_member_node all reference ≡ false) × (kind ≡ kinds.member))
+IsLost all (lines.Brcb block) kind = (block.dat_set ≡ [] → ⊥) × (IsAmong (sets all) block.dat_set → ⊥) × (kind ≡ kinds.unknown)
+IsLost all (lines.Member reference) kind = ((IsNode all reference → ⊥) × (kind ≡ kinds.unknown)) ⊎ (IsNode all reference × (MayBeMember all reference → ⊥) × (kind ≡ kinds.member))
 IsLost all line kind = ⊥
 
 -- The text has all its lines. What the lines before one name is found, and what this one names is not.
