@@ -22,7 +22,9 @@ use Rattle.cfg_lines.specs.Configs.{config_of}
 use Rattle.cfg_lines.specs.declared.line.Line.{Line}
 use Rattle.cfg_lines.specs.declared.line.Line.TheVariants as lines
 use Rattle.cfg_lines.specs.declared.line.Place.TheVariants as places
+use Rattle.cfg_grammar.specs.Follows.{IsLine}
 use Rattle.cfg_grammar.specs.Texts.{AreLines, AreFound, SpellsConfig}
+use Rattle.cfg_text.proofs.SpelledLineLaws.{line-read}
 use Rattle.cfg_text.proofs.ReadLineLaws.{line-told}
 use Rattle.cfg_text.proofs.WholeLaws.{config-read, config-told, has-name, lines-read, text-read, all-found-read, empty-is, ended-place, lines-told, all-found-told}
 use Rattle.cfg_refusals.specs.Lines.{IsRefusedLine}
@@ -328,3 +330,37 @@ either text = by (config_at text) refl (config-some text)
     by (Ok config) is some = inl (config, config-told text config is)
     by (Err (faults.Refused line kind)) is some = inr (line, kind, (config-refused text line kind).0 is)
     by (Err faults.Memory) is some = absurd some
+
+-- one line more
+abbrev LineOr : List Line → List ℕ → Type 0
+LineOr before text = ((line : Line) × IsLine before text line) ⊎ ((kind : Kind) × IsRefusedLine before text (number_of kind))
+
+pub line-or : (front : List ℕ) (before : List Line) (text : List ℕ) → AreLines front before → LineOr before text
+line-or front before text are = by (line_at before text) refl
+  where
+    by : (r : Result Line Kind) → line_at before text ≡ r → LineOr before text
+    by (Ok line) is = inl (line, line-told before text line (has-name front before are) is)
+    by (Err kind) is = inr (kind, (line-refused before text kind).0 is)
+
+pub line-not-both : (before : List Line) (text : List ℕ) (line : Line) (kind : Kind) → IsLine before text line → IsRefusedLine before text (number_of kind) → ⊥
+line-not-both before text line kind is other = absurd cc (sym (line-read before text line is) ∙ (line-refused before text kind).1 other)
+
+abbrev MayBe : ℕ → Type 0
+MayBe kind = (kind ≡ 10) ⊎ ((kind ≡ 1) ⊎ ((kind ≡ 2) ⊎ (kind ≡ 11)))
+
+full-kind : (before : List Line) (text : List ℕ) (kind : ℕ) → length before ≡ 20000 → IsRefusedLine before text kind → MayBe kind
+full-kind before text kind full (inl x) = inl x.1
+full-kind before text kind full (inr (never, inl x)) = inr (inl x.1)
+full-kind before text kind full (inr (never, inr (form, is, inl x))) = inr (inr (inl x.1))
+full-kind before text kind full (inr (never, inr (form, is, inr (stands, inl x)))) = inr (inr (inr x.1))
+full-kind before text kind full (inr (never, inr (form, is, inr (stands, inr (room, wrong))))) = absurd (omega (arith, full, room.0))
+
+pub one-line-more : (front last rest : List ℕ) (before : List Line) → AreLines front before → length before ≡ 20000 → HasNoNewline last → (kind : ℕ) × IsRefused (front ++ (last ++ 10 ∷ rest)) 20001 kind × MayBe kind
+one-line-more front last rest before are full one = by (line-or front before last are)
+  where
+    by : LineOr before last → (kind : ℕ) × IsRefused (front ++ (last ++ 10 ∷ rest)) 20001 kind × MayBe kind
+    by (inl line) = absurd (omega (arith, full, line.1.room))
+    by (inr x) = (number_of x.0, inl (record { front = front; last = last; rest = rest; before = before; text_ = refl; one = one; are = are; number = omega (arith, full); cause = x.1 }), full-kind before last (number_of x.0) full x.1)
+
+pub octets-more : (front rest : List ℕ) (before : List Line) → AreLines front before → length before ≡ 20000 → HasNoNewline rest → (rest ≡ [] → ⊥) → IsRefused (front ++ rest) 20001 2
+octets-more front rest before are full none some = inr (inl (record { front = front; rest = rest; before = before; text_ = refl; none = none; are = are; early = λ whole. some whole.1; number = omega (arith, full); cause = refl }))

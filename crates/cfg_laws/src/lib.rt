@@ -4,6 +4,6 @@
 mod laws;
 
 pub use laws::{
-    a_text_is_a_configuration_or_refused_once, lines_are_refused_as_the_format_has_them,
-    texts_are_refused_as_the_format_has_them,
+    a_configuration_has_at_most_20000_lines, a_text_is_a_configuration_or_refused_once,
+    lines_are_refused_as_the_format_has_them, texts_are_refused_as_the_format_has_them,
 };
