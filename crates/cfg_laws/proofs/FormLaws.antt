@@ -3,7 +3,7 @@ use Rattle.std.proofs.Common.{◌≡◌, ℕ, suc, ◌+◌, ◌<◌, ◌≤◌, 
 use Rattle.std.specs.Prelude.{Some, codes}
 use Rattle.std.specs.List.{list_all, count_by, join_with_byte}
 use Rattle.std.specs.Str.{bytes_eq}
-use Rattle.std.proofs.lemmas.Bool.{and_parts, and_from, or_parts, or_from, cond-true, cond-false, not-true, not_from_false, ltb-true, ltb-false, leb-true, leb-false, eqb-true, lt-ltb, le-ltb, lt-leb, le-leb, eq-eqb}
+use Rattle.std.proofs.lemmas.Bool.{and_parts, and_from, or_parts, or_from, not-true, not_from_false, ltb-true, ltb-false, leb-true, leb-false, eqb-true, lt-ltb, le-ltb, lt-leb, le-leb, eq-eqb}
 use Rattle.std.proofs.lemmas.Bool.Decides.{nat_tests}
 use Rattle.std.proofs.lemmas.Slice.Eq.{bytes_eq-Decides}
 use Rattle.text_words.specs.Names.{is_dollar, item_of}
@@ -16,7 +16,7 @@ use Rattle.cfg_parser.specs.declared.keyword.Keyword.{Keyword}
 use Rattle.cfg_parser.specs.declared.keyword.Keyword.TheVariants as keywords
 use Rattle.cfg_parser.specs.Kinds.{number_of}
 use Rattle.cfg_parser.specs.Keywords.{keyword_at}
-use Rattle.cfg_parser.specs.Judging.{attribute_counts, counts, is_in_node, is_open, is_in_domain, is_in_set, is_start, is_configured, has_groups, may_stand, has_many, content_at}
+use Rattle.cfg_parser.specs.Judging.{attribute_counts, counts, is_in_node, is_start, is_configured, has_groups, may_stand, has_many, content_at}
 use Rattle.cfg_grammar.specs.Follows.{IsInNode}
 use Rattle.cfg_text.proofs.SpelledLineLaws.{in-node, between, in-domain, in-set}
 use Rattle.cfg_text.proofs.ReadLineLaws.{node-place, open-place, domain-place, set-place, start-place, configured-place, word_of}
@@ -24,7 +24,7 @@ use Rattle.cfg_refusals.specs.Forms.{Form, words, is_word, AreAsMany, HasCount, 
 use Rattle.cfg_refusals.specs.Forms as forms
 use Rattle.cfg_refusals.specs.Words.{IsWrong}
 use Rattle.cfg_refusals.specs.Lines.{Stands, HasRoomFor}
-use Rattle.cfg_laws.proofs.StepLaws.{itself, err_of, nothing}
+use Rattle.cfg_laws.proofs.StepLaws.{err_of, nothing}
 use Rattle.cfg_laws.proofs.WrongLaws.{config-wrong, domain-wrong, node-wrong, set-wrong, member-wrong, attribute-wrong, block-wrong, control-wrong, groups-wrong}
 
 -- words

@@ -1,8 +1,8 @@
 -- The line behind others is refused exactly for the kind that the format has for it.
-use Rattle.std.proofs.Common.{◌≡◌, ℕ, ◌<◌, ◌≤◌, ◌⊎◌, ◌↔◌, inl, inr, Bool, true, false, cond, ◌&&◌, ◌||◌, not, List, [], ◌∷◌, length, nat_lt, ◌==◌, refl, sym, ap, subst, ◌∙◌, arith, true≢false}
-use Rattle.std.specs.Prelude.{Option, Some, None, Result, Ok, Err}
+use Rattle.std.proofs.Common.{◌≡◌, ℕ, ◌≤◌, ◌⊎◌, ◌↔◌, inl, inr, Bool, true, false, cond, ◌&&◌, ◌||◌, not, List, [], ◌∷◌, length, nat_lt, ◌==◌, refl, sym, ap, subst, ◌∙◌, arith, true≢false}
+use Rattle.std.specs.Prelude.{Option, Some, None, Ok, Err}
 use Rattle.std.specs.List.{list_all, list_any, join_with_byte}
-use Rattle.std.proofs.lemmas.Bool.{and_parts, and_from, or_parts, or_from, cond-true, cond-false, not-true, not_from_false, ltb-true, ltb-false, le-ltb, leb-false, lt-leb, eqb-true, false_from_ne_true, false≢true}
+use Rattle.std.proofs.lemmas.Bool.{and_parts, and_from, or_parts, or_from, cond-true, cond-false, not-true, not_from_false, ltb-true, ltb-false, le-ltb, leb-false, lt-leb, eqb-true, false_from_ne_true}
 use Rattle.std.proofs.lemmas.List.Splits.{join_with_byte-slice_split, length-slice_split}
 use Rattle.text_words.specs.Octets.{is_printable, is_skipped, IsSkipped}
 use Rattle.text_words.specs.Values.{is_graphic}
@@ -17,7 +17,7 @@ use Rattle.cfg_parser.specs.declared.keyword.Keyword.{Keyword}
 use Rattle.cfg_parser.specs.declared.keyword.Keyword.TheVariants as keywords
 use Rattle.cfg_parser.specs.Kinds.{number_of}
 use Rattle.cfg_parser.specs.Keywords.{keyword_at}
-use Rattle.cfg_parser.specs.Judging.{has_long, counts, may_stand, is_full, has_many, content_at, keyed_at, known_at, skip_at, tell_at, line_at}
+use Rattle.cfg_parser.specs.Judging.{has_long, counts, may_stand, is_full, has_many, keyed_at, known_at, skip_at, tell_at, line_at}
 use Rattle.cfg_text.proofs.SpelledLineLaws.{line-keyed}
 use Rattle.cfg_text.proofs.ReadLineLaws.{word_of, key-is}
 use Rattle.cfg_refusals.specs.Forms.{Form, words, is_word, HasCount, IsText}
@@ -25,7 +25,7 @@ use Rattle.cfg_refusals.specs.Forms as forms
 use Rattle.cfg_refusals.specs.Lines.{IsLong, HasForm, HasRoom, IsJudged, IsRefusedLine}
 use Rattle.cfg_laws.proofs.StepLaws.{err_of, refuses, nothing, if-right, if-wrong, if-done}
 use Rattle.cfg_laws.proofs.LongLaws.{not-long, decide-long, long-read}
-use Rattle.cfg_laws.proofs.FormLaws.{are-words, words-are, key-read, IsReal, Plain, plain, text-is, Shaped, shape, Known, known}
+use Rattle.cfg_laws.proofs.FormLaws.{are-words, words-are, key-read, IsReal, Plain, plain, text-is, shape, Known, known}
 
 -- a line of a form
 keyed-judged : (before : List Line) (form : Form) (k : Known before form) (kind : Kind) → HasCount before form → (keyed_at before k.key k.more ≡ err_of Line kind) ↔ IsJudged before form (number_of kind)

@@ -1,9 +1,9 @@
 -- A line is refused as too long exactly where it is, or a word, an item name or a reference in it.
-use Rattle.std.proofs.Common.{◌≡◌, ℕ, ◌+◌, ◌<◌, ◌⊎◌, ◌↔◌, inl, inr, Bool, true, false, cond, ◌&&◌, ◌||◌, List, [], ◌∷◌, length, nat_lt, ◌==◌, refl, sym, ap, subst, ◌∙◌, arith, true≢false}
-use Rattle.std.specs.Prelude.{Option, Some, None, Result, Err, codes}
-use Rattle.std.specs.List.{list_any, onto_first}
+use Rattle.std.proofs.Common.{◌≡◌, ℕ, ◌+◌, ◌<◌, ◌⊎◌, ◌↔◌, inl, inr, Bool, true, false, cond, ◌||◌, List, [], ◌∷◌, length, nat_lt, refl, sym, ap, ◌∙◌, arith, true≢false}
+use Rattle.std.specs.Prelude.{Option, Some, None, Err, codes}
+use Rattle.std.specs.List.{onto_first}
 use Rattle.std.specs.Str.{bytes_eq}
-use Rattle.std.proofs.lemmas.Bool.{and_parts, and_from, or_cases, or_left, or_right, cond-true, cond-false, ltb-true, ltb-false, lt-ltb, eqb-true, false_from_ne_true}
+use Rattle.std.proofs.lemmas.Bool.{and_parts, and_from, or_cases, or_left, or_right, cond-true, ltb-true, ltb-false, lt-ltb, eqb-true, false_from_ne_true}
 use Rattle.std.proofs.lemmas.Slice.Eq.{bytes_eq-Decides}
 use Rattle.text_words.specs.Words.{words_of}
 use Rattle.text_words.specs.Octets.{is_skipped}
@@ -11,16 +11,15 @@ use Rattle.text_words.specs.Names.{item_of}
 use Rattle.cfg_lines.specs.Paths.{below}
 use Rattle.cfg_lines.specs.Before.{node_of}
 use Rattle.cfg_lines.specs.declared.line.Line.{Line}
-use Rattle.cfg_parser.specs.declared.fault.Kind.{Kind}
 use Rattle.cfg_parser.specs.declared.fault.Kind.TheVariants as kinds
 use Rattle.cfg_parser.specs.declared.keyword.Keyword.{Keyword}
 use Rattle.cfg_parser.specs.declared.keyword.Keyword.TheVariants as keywords
 use Rattle.cfg_parser.specs.Keywords.{keyword_at}
-use Rattle.cfg_parser.specs.Judging.{is_long_item, control_octets, is_long_attribute, is_long_set, is_long_block, is_long_member, is_long_control, has_long, skip_at, tell_at, line_at}
-use Rattle.cfg_text.proofs.SpelledLineLaws.{item-length, below-length}
-use Rattle.cfg_text.proofs.ReadLineLaws.{word_of, key-is}
+use Rattle.cfg_parser.specs.Judging.{is_long_item, is_long_attribute, is_long_set, is_long_block, is_long_member, is_long_control, has_long, skip_at, tell_at, line_at}
+use Rattle.cfg_text.proofs.SpelledLineLaws.{below-length}
+use Rattle.cfg_text.proofs.ReadLineLaws.{key-is}
 use Rattle.cfg_refusals.specs.Lines.{IsLongItem, IsLongAttribute, IsLongSet, IsLongMember, IsLongBlock, HasCancel, IsLongControl, HasLong, IsLong}
-use Rattle.cfg_laws.proofs.StepLaws.{itself, err_of}
+use Rattle.cfg_laws.proofs.StepLaws.{err_of}
 
 -- item names
 long-item : (before : List Line) (behind : ℕ) (item : List ℕ) → length item ≡ behind → (is_long_item before behind ≡ true) ↔ IsLongItem before item

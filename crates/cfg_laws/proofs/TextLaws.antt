@@ -1,8 +1,8 @@
 -- The first line of a text that is refused, and its kind, are those of the format.
-use Rattle.std.proofs.Common.{◌≡◌, ℕ, zero, suc, ◌<◌, ◌⊎◌, ◌↔◌, inl, inr, Bool, true, false, cond, ◌&&◌, ◌||◌, List, [], ◌∷◌, ◌++◌, length, ◌==◌, append-nil, append_assoc, refl, sym, ap, subst, ◌∙◌, arith, true≢false}
+use Rattle.std.proofs.Common.{◌≡◌, ℕ, zero, suc, ◌⊎◌, ◌↔◌, inl, inr, Bool, true, false, cond, ◌&&◌, ◌||◌, List, [], ◌∷◌, ◌++◌, length, ◌==◌, append_assoc, refl, sym, ap, subst, ◌∙◌, arith, true≢false}
 use Rattle.std.specs.Prelude.{Result, Ok, Err}
-use Rattle.std.specs.List.{All, join_with_byte, onto_first}
-use Rattle.std.proofs.lemmas.Bool.{and_parts, and_from, or_parts, or_from, cond-true, cond-false, eq-eqb, eqb-true, false_from_ne_true}
+use Rattle.std.specs.List.{join_with_byte, onto_first}
+use Rattle.std.proofs.lemmas.Bool.{and_parts, and_from, or_parts, or_from, cond-true, cond-false, eq-eqb, false_from_ne_true}
 use Rattle.std.proofs.lemmas.List.Splits.{join_with_byte-slice_split}
 use Rattle.sv_base.specs.declared.config.Config.{Config}
 use Rattle.cfg_parser.specs.declared.fault.Kind.{Kind}
@@ -30,7 +30,7 @@ use Rattle.cfg_text.proofs.WholeLaws.{config-read, config-told, has-name, lines-
 use Rattle.cfg_refusals.specs.Lines.{IsRefusedLine}
 use Rattle.cfg_refusals.specs.Texts.{HasNoNewline, HasRefused, EndsEarly, IsLost, NamesLost, IsRefused}
 use Rattle.cfg_laws.proofs.NameLaws.{none-is, among-is, node-is, member-is}
-use Rattle.cfg_laws.proofs.StepLaws.{err_of, same-kind}
+use Rattle.cfg_laws.proofs.StepLaws.{same-kind}
 use Rattle.cfg_laws.proofs.LineLaws.{line-refused}
 
 abbrev refused : (A : Type 0) → ℕ → Kind → Result A CfgFault

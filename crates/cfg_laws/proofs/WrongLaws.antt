@@ -1,12 +1,11 @@
 -- What the words behind the first are refused for is the kind of the first that isn't right.
-use Rattle.std.proofs.Common.{◌≡◌, ℕ, ◌+◌, ◌<◌, ◌≤◌, ◌^◌, ◌⊎◌, ◌↔◌, inl, inr, Bool, true, false, cond, List, [], ◌∷◌, length, refl, sym, ap, subst, ◌∙◌, arith}
-use Rattle.std.specs.Prelude.{Option, Some, None, Result, Ok, Err, codes, unwrap_or}
+use Rattle.std.proofs.Common.{◌≡◌, ℕ, ◌<◌, ◌≤◌, ◌^◌, ◌↔◌, inl, inr, Bool, false, List, refl, sym, ap, subst, ◌∙◌, arith}
+use Rattle.std.specs.Prelude.{Option, Some, None, Result, Ok, codes, unwrap_or}
 use Rattle.std.specs.Fmt.{decimal}
 use Rattle.std.specs.List.{list_any}
 use Rattle.sv_base.specs.declared.types.TypeOf.{TypeOf}
 use Rattle.sv_base.specs.declared.types.TypeOf.TheVariants as types
 use Rattle.sv_base.specs.declared.value.Value.{Value}
-use Rattle.text_words.specs.declared.types.Flags.{Flags}
 use Rattle.text_words.specs.Names.{is_name, is_path, is_member, is_fc}
 use Rattle.text_words.specs.Numbers.{number_within}
 use Rattle.text_words.specs.Types.{type_at, flags_at, flags}
@@ -31,7 +30,7 @@ use Rattle.cfg_refusals.specs.Forms as forms
 use Rattle.cfg_refusals.specs.Kinds as numbers
 use Rattle.cfg_laws.proofs.NameLaws.{any-is, none-is, among-is, constraint-is, name-is, path-is, reference-is, taken-is}
 use Rattle.cfg_refusals.specs.Names.{AnyIs, IsTaken}
-use Rattle.cfg_laws.proofs.StepLaws.{err_of, refuses, nothing, if-right, if-wrong, Reads, given-right}
+use Rattle.cfg_laws.proofs.StepLaws.{err_of, nothing, if-right, if-wrong, Reads, given-right}
 
 -- words
 number-reads : (least most : ℕ) (word : List ℕ) → most < 2 ^ 64 → Reads (number_within least most word) (IsNumber least most word)

@@ -1,5 +1,5 @@
 -- The first refused line of a text, and its kind.
-use Rattle.std.specs.Prelude.{◌≡◌, ◌≤◌, ◌⊎◌, ◌==◌, ℕ, Bool, true, false, List, [], ◌∷◌, ◌++◌}
+use Rattle.std.specs.Prelude.{◌≡◌, ◌≤◌, ◌⊎◌, ◌==◌, ℕ, false, List, [], ◌∷◌, ◌++◌}
 use Rattle.std.specs.List.{All}
 use Rattle.cfg_lines.specs.Before.{number_of, place_of}
 use Rattle.cfg_lines.specs.Claims.{sets}
