@@ -81,8 +81,8 @@ unfolding skip_at
 skip-judged before text kind never is =
     let all = skipped-printable text is in
     let step = if-done (list_all is_printable text) (cond (is_full before) (Err kinds.Many) (Ok lines.Skip)) (Err kinds.Word) kind (IsJudged before forms.Skip (number_of kind)) all.1
-        (if-right true (cond (is_full before) (Err kinds.Many) (Ok lines.Skip)) kinds.Order kind _ _ (λ e. tt, λ u. refl)
-        (λ a. if-wrong (is_full before) (Ok lines.Skip) kinds.Many kind (HasRoom before forms.Skip) ⊥ (λ e. (leb-false 20000 (length before) e, tt), λ r. lt-leb 20000 (length before) r.0) (λ b. nothing lines.Skip kind))) in
+    (if-right true (cond (is_full before) (Err kinds.Many) (Ok lines.Skip)) kinds.Order kind _ _ (λ e. tt, λ u. refl)
+    (λ a. if-wrong (is_full before) (Ok lines.Skip) kinds.Many kind (HasRoom before forms.Skip) ⊥ (λ e. (leb-false 20000 (length before) e, tt), λ r. lt-leb 20000 (length before) r.0) (λ b. nothing lines.Skip kind))) in
     (λ e. step.0 (sym (skip-is before text never all.0) ∙ e), λ j. skip-is before text never all.0 ∙ step.1 j)
 
 -- any form

@@ -95,7 +95,7 @@ lines-stop : (front : List ℕ) (before : List Line) (ps : List (List ℕ)) (lin
 lines-stop front before [] line kind are none e = ended-stops front [] before line kind are none-in e
 lines-stop front before (rest ∷ []) line kind are none e = ended-stops front rest before line kind are none.0 e
 lines-stop front before (text ∷ next ∷ more) line kind are none e = by (line_at before text) refl e (λ told is next-stops.
-        further (lines-stop (front ++ (text ++ 10 ∷ [])) (told ∷ before) (next ∷ more) line kind (front, text, refl, are, line-told before text told (has-name front before are) is) none.1 next-stops))
+    further (lines-stop (front ++ (text ++ 10 ∷ [])) (told ∷ before) (next ∷ more) line kind (front, text, refl, are, line-told before text told (has-name front before are) is) none.1 next-stops))
   where
     further : Stops ((front ++ (text ++ 10 ∷ [])) ++ join_with_byte 10 (next ∷ more)) line (number_of kind) → Stops (front ++ (text ++ 10 ∷ join_with_byte 10 (next ∷ more))) line (number_of kind)
     further s = subst (λ t. Stops t line (number_of kind)) (append_assoc front (text ++ 10 ∷ []) (join_with_byte 10 (next ∷ more)) ∙ ap (λ t. front ++ t) (append_assoc text (10 ∷ []) (join_with_byte 10 (next ∷ more)))) s

@@ -124,7 +124,6 @@ free-control before path word = (λ e. (model_of word, is-model word, (free-keys
 abbrev Judges : List Line → forms.Form → Kind → Result Line Kind → Type 0
 Judges before form kind read = (read ≡ err_of Line kind) ↔ IsWrong before form (number_of kind)
 
-
 abbrev same_line : Result Line Kind → Result Line Kind
 same_line r = r
 
