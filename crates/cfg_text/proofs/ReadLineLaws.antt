@@ -68,7 +68,7 @@ ok-then (Ok x) f y e = (x, refl, e)
 ok-then (Err kind) f y e = absurd cc
 
 -- places
-node-place : (place : Place) → is_in_node place ≡ true → (place ≡ places.InNode) ⊎ (place ≡ places.InMembers)
+pub node-place : (place : Place) → is_in_node place ≡ true → (place ≡ places.InNode) ⊎ (place ≡ places.InMembers)
 node-place places.InNode e = inl refl
 node-place places.InMembers e = inr refl
 node-place places.Start e = absurd cc
@@ -78,7 +78,7 @@ node-place places.InDomain e = absurd cc
 node-place places.InSet e = absurd cc
 node-place places.Ended e = absurd cc
 
-open-place : (place : Place) → is_open place ≡ true → (place ≡ places.Served) ⊎ ((place ≡ places.InNode) ⊎ (place ≡ places.InMembers))
+pub open-place : (place : Place) → is_open place ≡ true → (place ≡ places.Served) ⊎ ((place ≡ places.InNode) ⊎ (place ≡ places.InMembers))
 open-place places.Served e = inl refl
 open-place places.InNode e = inr (inl refl)
 open-place places.InMembers e = inr (inr refl)
@@ -88,7 +88,7 @@ open-place places.InDomain e = absurd cc
 open-place places.InSet e = absurd cc
 open-place places.Ended e = absurd cc
 
-domain-place : (place : Place) → is_in_domain place ≡ true → (place ≡ places.InDomain) ⊎ ((place ≡ places.InNode) ⊎ (place ≡ places.InMembers))
+pub domain-place : (place : Place) → is_in_domain place ≡ true → (place ≡ places.InDomain) ⊎ ((place ≡ places.InNode) ⊎ (place ≡ places.InMembers))
 domain-place places.InDomain e = inl refl
 domain-place places.InNode e = inr (inl refl)
 domain-place places.InMembers e = inr (inr refl)
@@ -98,7 +98,7 @@ domain-place places.Served e = absurd cc
 domain-place places.InSet e = absurd cc
 domain-place places.Ended e = absurd cc
 
-set-place : (place : Place) → is_in_set place ≡ true → (place ≡ places.InSet) ⊎ (place ≡ places.InMembers)
+pub set-place : (place : Place) → is_in_set place ≡ true → (place ≡ places.InSet) ⊎ (place ≡ places.InMembers)
 set-place places.InSet e = inl refl
 set-place places.InMembers e = inr refl
 set-place places.Start e = absurd cc
@@ -108,7 +108,7 @@ set-place places.InDomain e = absurd cc
 set-place places.InNode e = absurd cc
 set-place places.Ended e = absurd cc
 
-start-place : (place : Place) → is_start place ≡ true → place ≡ places.Start
+pub start-place : (place : Place) → is_start place ≡ true → place ≡ places.Start
 start-place places.Start e = refl
 start-place places.Configured e = absurd cc
 start-place places.Served e = absurd cc
@@ -118,7 +118,7 @@ start-place places.InSet e = absurd cc
 start-place places.InMembers e = absurd cc
 start-place places.Ended e = absurd cc
 
-configured-place : (place : Place) → is_configured place ≡ true → place ≡ places.Configured
+pub configured-place : (place : Place) → is_configured place ≡ true → place ≡ places.Configured
 configured-place places.Configured e = refl
 configured-place places.Start e = absurd cc
 configured-place places.Served e = absurd cc
@@ -145,7 +145,7 @@ word_of keywords.End = codes "end"
 abbrev Spelled : List ℕ → Keyword → Type 0
 Spelled word key = word ≡ word_of key
 
-key-is : (word : List ℕ) (key : Keyword) → keyword_at word ≡ Some key → word ≡ word_of key
+pub key-is : (word : List ℕ) (key : Keyword) → keyword_at word ≡ Some key → word ≡ word_of key
 key-is word key =
     by-word (Spelled word) word (codes "config") keywords.Config key _ (λ e. e)
     (by-word (Spelled word) word (codes "server") keywords.Server key _ (λ e. e)

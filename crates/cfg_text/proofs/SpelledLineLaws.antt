@@ -42,7 +42,7 @@ use Rattle.text_words.proofs.SpelledWordLaws.{number-within, decimal-word, type-
 use Rattle.text_words.proofs.NameLaws.{name-word, path-word, member-word, fc-word, type-is-word, flags-is-word, bits-is-word, text-is-word, values-read, values-are-words, values-as-many}
 
 -- a line of words is told by its keyword
-line-keyed : (before : List Line) (key : List ℕ) (words : List (List ℕ)) (keyword : Keyword) (told : Result Line Kind) → AreWords (key ∷ words) → keyword_at key ≡ Some keyword
+pub line-keyed : (before : List Line) (key : List ℕ) (words : List (List ℕ)) (keyword : Keyword) (told : Result Line Kind) → AreWords (key ∷ words) → keyword_at key ≡ Some keyword
     → length (join_with_byte 32 (key ∷ words)) ≤ 1000 → is_skipped (join_with_byte 32 (key ∷ words)) ≡ false → has_long before (Some keyword) words ≡ false → keyed_at before keyword words ≡ told
     → line_at before (join_with_byte 32 (key ∷ words)) ≡ told
 unfolding line_at tell_at
@@ -76,21 +76,21 @@ given-then : {A B : Type 0} (kind : Kind) (o : Option A) (x : A) (f : A → Resu
 given-then kind o x f e = ap (λ o. given kind o >>= f) e
 
 -- places
-in-node : (before : List Line) → IsInNode before → is_in_node (place_of before) ≡ true
+pub in-node : (before : List Line) → IsInNode before → is_in_node (place_of before) ≡ true
 in-node before (inl e) = ap is_in_node e
 in-node before (inr e) = ap is_in_node e
 
-between : (before : List Line) → IsBetween before → is_open (place_of before) ≡ true
+pub between : (before : List Line) → IsBetween before → is_open (place_of before) ≡ true
 between before (inl e) = ap is_open e
 between before (inr (inl e)) = ap is_open e
 between before (inr (inr e)) = ap is_open e
 
-in-domain : (before : List Line) → IsInDomain before → is_in_domain (place_of before) ≡ true
+pub in-domain : (before : List Line) → IsInDomain before → is_in_domain (place_of before) ≡ true
 in-domain before (inl e) = ap is_in_domain e
 in-domain before (inr (inl e)) = ap is_in_domain e
 in-domain before (inr (inr e)) = ap is_in_domain e
 
-in-set : (before : List Line) → IsInSet before → is_in_set (place_of before) ≡ true
+pub in-set : (before : List Line) → IsInSet before → is_in_set (place_of before) ≡ true
 in-set before (inl e) = ap is_in_set e
 in-set before (inr e) = ap is_in_set e
 
@@ -184,7 +184,7 @@ attr-groups fc groups n ws is some = by (bytes_eq fc (codes "SG")) is
     by true e = lt-ltb 0 groups (omega (arith, e, some))
     by false e = refl
 
-spelled-type : (word : List ℕ) (kind : TypeOf) → IsType kind → SpellsType word kind → type_at word ≡ Some kind
+pub spelled-type : (word : List ℕ) (kind : TypeOf) → IsType kind → SpellsType word kind → type_at word ≡ Some kind
 unfolding type_at
 spelled-type word kind is (inl e) = ap type_at e ∙ type-read kind is
 spelled-type word kind is (inr (inl e)) = ap type_at e.0 ∙ ap (λ k. Some k) (sym e.1)

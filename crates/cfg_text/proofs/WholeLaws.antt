@@ -154,7 +154,7 @@ numbered-told : (number : ℕ) (read : Result Line Kind) (go : Line → Result (
 numbered-told number (Ok line) go told e = (line, refl, e)
 numbered-told number (Err kind) go told e = absurd cc
 
-ended-place : (place : Place) → is_ended place ≡ true → place ≡ places.Ended
+pub ended-place : (place : Place) → is_ended place ≡ true → place ≡ places.Ended
 ended-place places.Ended e = refl
 ended-place places.Start e = absurd cc
 ended-place places.Configured e = absurd cc
@@ -164,7 +164,7 @@ ended-place places.InNode e = absurd cc
 ended-place places.InSet e = absurd cc
 ended-place places.InMembers e = absurd cc
 
-empty-is : (rest : List ℕ) → (length rest == 0) ≡ true → rest ≡ []
+pub empty-is : (rest : List ℕ) → (length rest == 0) ≡ true → rest ≡ []
 empty-is [] e = refl
 empty-is (octet ∷ octets) e = absurd (omega (arith, eqb-true (length (octet ∷ octets)) 0 e))
 
@@ -224,7 +224,7 @@ found-told all number (lines.Ctl control) e = tt
 found-told all number (lines.Sgcb groups) e = tt
 found-told all number lines.End e = tt
 
-all-found-told : (all before : List Line) → looked_at all before ≡ Ok tt → AreFound all before
+pub all-found-told : (all before : List Line) → looked_at all before ≡ Ok tt → AreFound all before
 all-found-told all [] e = tt
 all-found-told all (line ∷ before) e = let step = ok-then (looked_at all before) _ tt e in (all-found-told all before step.1, found-told all (number_of before) line step.2)
 

@@ -1,0 +1,7 @@
+pub mod StepLaws
+pub mod NameLaws
+pub mod WrongLaws
+pub mod LongLaws
+pub mod FormLaws
+pub mod LineLaws
+pub mod TextLaws
