@@ -1,1 +1,4 @@
 pub mod Booked
+pub mod Books
+pub mod Standing
+pub mod Turns

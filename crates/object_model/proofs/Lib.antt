@@ -6,7 +6,6 @@ pub mod ListingLaws
 pub mod ResolveLaws
 pub mod TableLaws
 pub mod AttributeLaws
-pub mod NameSort
 pub mod KindLaws
 pub mod SendLaws
 pub mod SyncLaws

@@ -6,8 +6,8 @@ ghost use Rattle.object_model.specs.Listed.{IsListed, IsOneMore, items_of as ite
 
 use crate::growth::Spot;
 use crate::nodes::{NodeName, push_node_names, push_rows, spots_of};
-use crate::sorting::sorted;
 use bay_model::NodeRow;
+use name_order::sorted;
 use object_names::numbers::count;
 use object_names::{Index, Line};
 use std::alloc::{AllocError, Global};
