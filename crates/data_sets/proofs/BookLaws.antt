@@ -174,10 +174,12 @@ module _ (b : Book) (n : ℕ) (all : List DataSet) (used : List (List ℕ)) (h :
 
     fresh : (j : ℕ) → j < length used → bytes_eq (slice_index_or used j []) (reference (defined_set name ts)) ≡ false
     fresh j below = elim (h.named j below) [
-      inl e ↦ ap (λ d. bytes_eq d (reference (defined_set name ts))) e ∙ no-reference name.domain name.item
+      | inl e ↦ ap (λ d. bytes_eq d (reference (defined_set name ts))) e ∙ no-reference name.domain name.item
       | inr some ↦ elim (tells (slice_index_or used j []) (reference (defined_set name ts))) [
-        inl t ↦ absurd (names_one (slice_index_or used j []) _ (is_place (λ s. bytes_eq (slice_index_or used j []) (reference s)) b.sets) some (reference (defined_set name ts)) t.1 new_apart)
-        | inr t ↦ t.0 ] ]
+        | inl t ↦ absurd (names_one (slice_index_or used j []) _ (is_place (λ s. bytes_eq (slice_index_or used j []) (reference s)) b.sets) some (reference (defined_set name ts)) t.1 new_apart)
+        | inr t ↦ t.0
+      ]
+    ]
 
     abbrev more : List Booked
     more = b.sets ++ defined_set name ts ∷ []
@@ -188,9 +190,10 @@ module _ (b : Book) (n : ℕ) (all : List DataSet) (used : List (List ℕ)) (h :
 
     which : (k : ℕ) → k < length more → At k
     which k below = elim (leb_tells (suc k) (length b.sets)) [
-      inl t ↦ inl (t.1, at_front b.sets (defined_set name ts) no_set k t.1)
+      | inl t ↦ inl (t.1, at_front b.sets (defined_set name ts) no_set k t.1)
       | inr t ↦ let last : k ≡ length b.sets = omega (arith, t.1, below, length_more b.sets (defined_set name ts)) in
-          inr (last, ap (λ i. slice_index_or more i no_set) last ∙ at_last b.sets (defined_set name ts) no_set) ]
+          inr (last, ap (λ i. slice_index_or more i no_set) last ∙ at_last b.sets (defined_set name ts) no_set)
+    ]
 
     holds_by : (k : ℕ) → At k → (slice_index_or more k no_set).holds ≡ counted (reference (slice_index_or more k no_set)) used
     holds_by k (inl t) = ap (λ (s : Booked). s.holds) t.1 ∙ (h.holds k t.0 ∙ ap (λ (s : Booked). counted (reference s) used) (sym t.1))
@@ -403,8 +406,9 @@ module _ (b : Book) (n : ℕ) (all : List DataSet) (used : List (List ℕ)) (h :
 
   other : (r : List ℕ) (k j : ℕ) → number_referred r b ≡ Some k → j < length b.sets → k ≢ j → bytes_eq r (reference (set_at b j)) ≡ false
   other r k j is lj not = elim (tells r (reference (set_at b j))) [
-    inl t ↦ absurd (not (h.apart k j (referred r k is).0 lj (sym (same_octets r (reference (set_at b k)) (referred r k is).1) ∙ t.1)))
-    | inr t ↦ t.0 ]
+    | inl t ↦ absurd (not (h.apart k j (referred r k is).0 lj (sym (same_octets r (reference (set_at b k)) (referred r k is).1) ∙ t.1)))
+    | inr t ↦ t.0
+  ]
 
   one : (r : List ℕ) (k j : ℕ) → number_referred r b ≡ Some k → k ≡ j → bytes_eq r (reference (set_at b j)) ≡ true
   one r k j is same = ap (λ x. bytes_eq r (reference (set_at b x))) (sym same) ∙ (referred r k is).1

@@ -232,7 +232,7 @@ pub book_deletes : (b : Book) (c : Model) (a n m : ℕ) (o : Output) (ns : List 
 book_deletes b c a n m o ns before h =
     let g = goes c before ns b (sets c before) (dynamic before) h refl in
     let one : Stands (after_deletes ns b) c (at n m (answered a o (deleted (going ns b))) ∷ before)
-        = subst (λ l. StandsFor (after_deletes ns b) (length c.sets) l (dat_sets c (at n m (answered a o (deleted (going ns b))) ∷ before))) g.left
-          (subst (λ u. StandsFor (after_deletes ns b) (length c.sets) (without_all (going ns b) (sets c before)) u) (sym (unwritten c a n m o (going ns b) before 0 c.blocks))
-          (all_deleted ns b (length c.sets) (sets c before) (dat_sets c before) h)) in
+    = subst (λ l. StandsFor (after_deletes ns b) (length c.sets) l (dat_sets c (at n m (answered a o (deleted (going ns b))) ∷ before))) g.left
+    (subst (λ u. StandsFor (after_deletes ns b) (length c.sets) (without_all (going ns b) (sets c before)) u) (sym (unwritten c a n m o (going ns b) before 0 c.blocks))
+    (all_deleted ns b (length c.sets) (sets c before) (dat_sets c before) h)) in
     subst (λ l. Stands (after_deletes ns b) c (at n m (answered a o (deleted l)) ∷ before)) (sym g.gone) one

@@ -65,7 +65,7 @@ pub book_defines : (b : Book) (c : Model) (a n m : ℕ) (o : Output) (name : Set
 book_defines b c a n m o name ts before h none plain =
     let one : DataSet = record { domain = name.domain; item = name.item; nodes = map number_of ts } in
     let all : sets c before ++ data_set (defined_set name ts) ∷ [] ≡ c.sets ++ (dynamic before ++ one ∷ [])
-        = ap (λ l. sets c before ++ record { domain = name.domain; item = name.item; nodes = l } ∷ []) (nodes_same ts) ∙ append_assoc c.sets (dynamic before) (one ∷ []) in
+    = ap (λ l. sets c before ++ record { domain = name.domain; item = name.item; nodes = l } ∷ []) (nodes_same ts) ∙ append_assoc c.sets (dynamic before) (one ∷ []) in
     subst (λ l. StandsFor (after_define name ts b) (length c.sets) l (dat_sets c (at n m (answered a o (defined name (map number_of ts))) ∷ before))) all
     (subst (λ u. StandsFor (after_define name ts b) (length c.sets) (sets c before ++ data_set (defined_set name ts) ∷ []) u) (sym (unwritten c a n m o name (map number_of ts) before 0 c.blocks))
     (defines b (length c.sets) (sets c before) (dat_sets c before) h name ts none plain))

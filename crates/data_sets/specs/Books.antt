@@ -78,8 +78,12 @@ define_fault b n is_named rows ts =
 abbrev pub defined_set : SetName → List Target → Booked
 defined_set n ts = record { name = n; nodes = map node_in ts; holds = 0 }
 
+-- one more set, behind the others
+abbrev pub with_set : Booked → Book → Book
+with_set s b = record b { sets = b.sets ++ s ∷ [] }
+
 abbrev pub after_define : SetName → List Target → Book → Book
-after_define n ts b = record b { sets = b.sets ++ defined_set n ts ∷ [] }
+after_define n ts b = with_set (defined_set n ts) b
 
 -- the number of the set that goes, or why it doesn't
 abbrev pub deletion_of : Book → Option ℕ → Result ℕ DeleteFault

@@ -6,9 +6,8 @@ ghost use Rattle.std.specs.Str.{bytes_eq};
 ghost use Rattle.data_sets.specs.Books.{is_name as is_named, seen, booked, is_member as is_member_of, node_in, items_in, IsThere, AreTargets};
 ghost use Rattle.bay_model.specs.Lookups.{reference_of};
 
-
-use name_order::{names_after, sorted};
 use bay_model::{Names, NodeRow, NodeTable, SetName, SetRow, SetTable, Target};
+use name_order::{names_after, sorted};
 use std::alloc::{AllocError, Global};
 use std::marker::Model;
 use sv_base::{NodeId, Octs};
@@ -52,6 +51,20 @@ struct Entry {
     holds: u32,
 }
 
+/// A set that a client defines, made ready for the book. Contracts see it as the book will have it.
+#[derive(Debug, Drop)]
+pub struct Definition {
+    entry: Entry,
+}
+
+impl Model for Definition {
+    ghost use Rattle.data_sets.specs.Books.{Booked, seen};
+
+    ghost Value = { Booked };
+
+    ghost view = { λ d. seen d.entry };
+}
+
 /// The data sets that are there: the configured ones, and those that clients defined, in the order of their definition. A
 /// set's number is its place. Contracts see the list of them.
 #[derive(Debug, Drop)]
@@ -61,14 +74,14 @@ pub struct SetBook {
 }
 
 impl Model for SetBook {
-    ghost use Rattle.std.specs.Prelude.{◌≤◌, length, map};
+    ghost use Rattle.std.specs.Prelude.{◌≤◌, ◌+◌, length, map, vec_capacity};
     ghost use Rattle.data_sets.specs.Books.{Book, seen};
 
     ghost Value = { Book };
 
     ghost view = { λ b. record { configured = b.configured; sets = map seen b.entries.items } };
 
-    ghost invariant = { λ b. b.configured ≤ length b.entries.items };
+    ghost invariant = { λ b. (b.configured ≤ length b.entries.items) × (b.configured + 64 ≤ vec_capacity b.entries) };
 }
 
 /// Whether the two names are the same.
@@ -173,12 +186,29 @@ fn items_of(alloc: Global, domain: &[u8], entries: &[Entry]) -> Result<Vec<Octs>
     Ok(items)
 }
 
-impl SetBook {
-    ghost use Rattle.std.specs.Prelude.{◌≡◌, ◌<◌, ◌≤◌, ◌^◌, IfOk, OnOk, OnErr, None, length};
-    ghost use Rattle.name_order.specs.Sorting.{names_above};
-    ghost use Rattle.data_sets.specs.Books.{AreTargets, opened, number_named, number_referred, set_at, define_fault as define_fault_of, deletion as deletion_in, after_define, after_delete, after_hold, after_release, items_in};
+impl Definition {
+    ghost use Rattle.std.specs.Prelude.{◌≡◌, IfOk};
+    ghost use Rattle.data_sets.specs.Books.{defined_set};
 
-    /// The configured data sets.
+    /// The set of this name and of these members' nodes, which no report block names.
+    pub fn new(alloc: Global, name: &SetName, members: &[Target]) -> Result<Definition, AllocError>
+        ensures { IfOk result (λ d. d ≡ defined_set name.now members.now) }
+    {
+        let entry = Entry {
+            name: copy_of(alloc, name)?,
+            nodes: nodes_of(alloc, members)?,
+            holds: 0,
+        };
+        Ok(Definition { entry })
+    }
+}
+
+impl SetBook {
+    ghost use Rattle.std.specs.Prelude.{◌≡◌, ◌<◌, ◌≤◌, ◌-◌, IfOk, length};
+    ghost use Rattle.name_order.specs.Sorting.{names_above};
+    ghost use Rattle.data_sets.specs.Books.{AreTargets, opened, number_named, number_referred, set_at, define_fault as define_fault_of, deletion as deletion_in, with_set, after_delete, after_hold, after_release, items_in};
+
+    /// The configured data sets, which no report block names, and room for 64 that clients define.
     pub fn open(alloc: Global, sets: &SetTable) -> Result<SetBook, AllocError>
         ensures { IfOk result (λ b. b ≡ opened sets.now) }
     {
@@ -186,8 +216,10 @@ impl SetBook {
         for row in sets.as_slice() {
             entries.push(entry_of(alloc, row)?)?;
         }
+        let configured = entries.len();
+        entries.reserve(SETS)?;
         Ok(SetBook {
-            configured: entries.len(),
+            configured,
             entries,
         })
     }
@@ -249,23 +281,12 @@ impl SetBook {
         None
     }
 
-    /// Defines a set. Without memory none is defined.
-    pub fn define(
-        &mut self,
-        alloc: Global,
-        name: &SetName,
-        members: &[Target],
-    ) -> Result<(), AllocError>
-        ensures ok { OnOk result (self.new ≡ after_define name.now members.now self.old) }
-        ensures err { OnErr result (self.new ≡ self.old) }
+    /// Defines a set, which takes the next number. It takes no memory: its room was made when the book was opened.
+    pub fn define(&mut self, definition: Definition)
+        requires { length self.old.sets - self.old.configured < 64 }
+        ensures { self.new ≡ with_set definition self.old }
     {
-        let entry = Entry {
-            name: copy_of(alloc, name)?,
-            nodes: nodes_of(alloc, members)?,
-            holds: 0,
-        };
-        self.entries.push(entry)?;
-        Ok(())
+        let _ = self.entries.push(definition.entry);
     }
 
     /// The number of the set of this name, where it may be deleted, or the first cause why it may not.
@@ -312,7 +333,12 @@ impl SetBook {
     }
 
     /// The items of a domain's sets that are greater than a name, ascending by their octets.
-    pub fn names_after(&self, alloc: Global, domain: &[u8], after: &[u8]) -> Result<Names, AllocError>
+    pub fn names_after(
+        &self,
+        alloc: Global,
+        domain: &[u8],
+        after: &[u8],
+    ) -> Result<Names, AllocError>
         ensures { IfOk result (λ v. v ≡ names_above (items_in domain.now self.now.sets) after.now) }
     {
         let items = items_of(alloc, domain, &self.entries)?;

@@ -7,7 +7,7 @@ mod laws;
 mod shapes;
 
 // the sets by their numbers, their names and their references
-pub use book::{DefineFault, DeleteFault, SetBook};
+pub use book::{DefineFault, Definition, DeleteFault, SetBook};
 
 // the shapes of their members
 pub use shapes::shapes_of;
