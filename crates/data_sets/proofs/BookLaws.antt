@@ -59,7 +59,7 @@ parted (o ∷ os) (u ∷ us) i j p q h =
     let rest = parted os us i j (or-right (o == 47) _ p) (or-right (u == 47) _ q) (tail-same o u (os ++ 47 ∷ i) (us ++ 47 ∷ j) h) in
     (ap₂ (λ x xs. x ∷ xs) (head-same o u (os ++ 47 ∷ i) (us ++ 47 ∷ j) h) rest.0, rest.1)
 
-no-reference : (d i : List ℕ) → bytes_eq [] (reference_of d i) ≡ false
+pub no-reference : (d i : List ℕ) → bytes_eq [] (reference_of d i) ≡ false
 no-reference [] i = refl
 no-reference (o ∷ os) i = refl
 
@@ -105,16 +105,16 @@ place_set p (b ∷ bs) (suc k) w below same = ap (λ o. if p b then Some 0 else 
 
 -- ---- lists
 
-at_front : {A : Type 0} (xs : List A) (x d : A) (k : ℕ) → k < length xs → slice_index_or (xs ++ x ∷ []) k d ≡ slice_index_or xs k d
+pub at_front : {A : Type 0} (xs : List A) (x d : A) (k : ℕ) → k < length xs → slice_index_or (xs ++ x ∷ []) k d ≡ slice_index_or xs k d
 at_front [] x d k below = absurd (omega (arith, below))
 at_front (y ∷ ys) x d zero below = refl
 at_front (y ∷ ys) x d (suc k) below = at_front ys x d k (omega (arith, below))
 
-at_last : {A : Type 0} (xs : List A) (x d : A) → slice_index_or (xs ++ x ∷ []) (length xs) d ≡ x
+pub at_last : {A : Type 0} (xs : List A) (x d : A) → slice_index_or (xs ++ x ∷ []) (length xs) d ≡ x
 at_last [] x d = refl
 at_last (y ∷ ys) x d = at_last ys x d
 
-length_more : {A : Type 0} (xs : List A) (x : A) → length (xs ++ x ∷ []) ≡ suc (length xs)
+pub length_more : {A : Type 0} (xs : List A) (x : A) → length (xs ++ x ∷ []) ≡ suc (length xs)
 length_more [] x = refl
 length_more (y ∷ ys) x = ap suc (length_more ys x)
 
@@ -244,7 +244,7 @@ old_one (suc k) zero (suc j) e = absurd (omega (arith, e))
 old_one (suc k) (suc i) zero e = absurd (omega (arith, e))
 old_one (suc k) (suc i) (suc j) e = ap suc (old_one k i j (omega (arith, e)))
 
-at_removed : (bs : List Booked) (k j : ℕ) → slice_index_or (take k bs ++ drop (suc k) bs) j no_set ≡ slice_index_or bs (old k j) no_set
+pub at_removed : (bs : List Booked) (k j : ℕ) → slice_index_or (take k bs ++ drop (suc k) bs) j no_set ≡ slice_index_or bs (old k j) no_set
 at_removed [] zero j = refl
 at_removed [] (suc k) zero = refl
 at_removed [] (suc k) (suc j) = refl
@@ -252,7 +252,7 @@ at_removed (x ∷ xs) zero j = refl
 at_removed (x ∷ xs) (suc k) zero = refl
 at_removed (x ∷ xs) (suc k) (suc j) = at_removed xs k j
 
-old_below : (bs : List Booked) (k j : ℕ) → j < length (take k bs ++ drop (suc k) bs) → old k j < length bs
+pub old_below : (bs : List Booked) (k j : ℕ) → j < length (take k bs ++ drop (suc k) bs) → old k j < length bs
 old_below [] zero j below = absurd (omega (arith, below))
 old_below [] (suc k) j below = absurd (omega (arith, below))
 old_below (x ∷ xs) zero j below = omega (arith, below)

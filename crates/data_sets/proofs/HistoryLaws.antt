@@ -72,12 +72,12 @@ book_defines b c a n m o name ts before h none plain =
 
 -- ---- a DatSet is written
 
-dat_at : (c : Model) (past : Past) (b j : ℕ) (ks : List Block) → j < length ks → slice_index_or (dat_sets_from c past b ks) j [] ≡ (parameters_at c (b + j) past).dat_set
+pub dat_at : (c : Model) (past : Past) (b j : ℕ) (ks : List Block) → j < length ks → slice_index_or (dat_sets_from c past b ks) j [] ≡ (parameters_at c (b + j) past).dat_set
 dat_at c past b j [] below = absurd (omega (arith, below))
 dat_at c past b zero (k ∷ ks) below = ap (λ x. (parameters_at c x past).dat_set) (omega arith)
 dat_at c past b (suc j) (k ∷ ks) below = dat_at c past (suc b) j ks (omega (arith, below)) ∙ ap (λ x. (parameters_at c x past).dat_set) (omega arith)
 
-dat_count : (c : Model) (past : Past) (b : ℕ) (ks : List Block) → length (dat_sets_from c past b ks) ≡ length ks
+pub dat_count : (c : Model) (past : Past) (b : ℕ) (ks : List Block) → length (dat_sets_from c past b ks) ≡ length ks
 dat_count c past b [] = refl
 dat_count c past b (k ∷ ks) = ap suc (dat_count c past (suc b) ks)
 

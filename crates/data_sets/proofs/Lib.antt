@@ -5,3 +5,5 @@ pub mod BookLaws
 pub mod HistoryLaws
 pub mod DeleteLaws
 pub mod QuietLaws
+pub mod OpenLaws
+pub mod RoomLaws

@@ -2,3 +2,4 @@ pub mod Booked
 pub mod Books
 pub mod Standing
 pub mod Turns
+pub mod Opening

@@ -1,12 +1,14 @@
 //! What the book stands for is what the model of the bay has. The functions run nothing: their contracts are laws.
 
-ghost use Rattle.std.specs.Prelude.{◌≡◌, ◌<◌, ◌++◌, ◌∷◌, [], ℕ, List, length, map, None, Some, Ok, slice_index_or, slice_set};
+ghost use Rattle.std.specs.Prelude.{◌≡◌, ◌<◌, ◌≤◌, ◌++◌, nat_lt, ◌∷◌, [], ℕ, List, length, map, None, Some, Ok, slice_index_or, slice_set};
 ghost use Rattle.bay_model.specs.declared.request.SetName.{SetName};
 ghost use Rattle.bay_model.specs.declared.request.Target.{Target};
 ghost use Rattle.bay_model.specs.declared.answer.Output.{Output};
 ghost use Rattle.bay_model.specs.declared.components.Comp.TheVariants as comps;
+ghost use Rattle.bay_model.specs.declared.tables.NodeRow.{NodeRow};
+ghost use Rattle.bay_model.specs.declared.tables.SetRow.{SetRow};
 ghost use Rattle.bay_model.specs.Definitions.{number_of, definition_error, is_set_name};
-ghost use Rattle.bay_model.specs.Deletions.{gone, matched};
+ghost use Rattle.bay_model.specs.Deletions.{gone, in_use_from, matched};
 ghost use Rattle.bay_model.specs.Model.{Model, DataSet};
 ghost use Rattle.bay_model.specs.Names.{sets_of};
 ghost use Rattle.bay_model.specs.Parameters.{parameters_at};
@@ -14,10 +16,10 @@ ghost use Rattle.bay_model.specs.Points.{Deed, Past, answered, defined, deleted,
 ghost use Rattle.bay_model.specs.Sets.{without, sets, set_named, set_referred};
 ghost use Rattle.std.specs.Option.{option_map};
 ghost use Rattle.sv_base.specs.declared.value.Value.TheVariants as kinds;
-ghost use Rattle.data_sets.specs.Books.{Book, number_named, number_referred, deletion, defined_set, set_at, items_in, after_define, after_delete, after_hold, after_release, define_fault};
+ghost use Rattle.data_sets.specs.Books.{Book, number_named, number_referred, deletion, defined_set, set_at, items_in, after_define, after_delete, after_hold, after_release, define_fault, opened, reference};
 ghost use Rattle.data_sets.specs.Turns.{after_deletes, going, there, error_of, AreRows};
-ghost use Rattle.bay_model.specs.declared.tables.NodeRow.{NodeRow};
-ghost use Rattle.data_sets.specs.Standing.{Stands, StandsFor, IsPlain, IsQuiet, data_set, at};
+ghost use Rattle.data_sets.specs.Opening.{AreSets, AreNamed, IsBounded, after_names};
+ghost use Rattle.data_sets.specs.Standing.{Stands, StandsFor, IsPlain, IsQuiet, data_set, dat_sets, at};
 
 /// A book that stands for data sets and the DatSets of blocks stands for those after a set was defined or deleted, and after
 /// a block's DatSet became empty, or an empty one named a set.
@@ -59,4 +61,25 @@ pub fn changes_are_answered()
     ensures matched { (b : Book) (c : Model) (ns : List SetName) (past : Past) → Stands b c past → matched c past ns (sets c past) ≡ there ns b }
     ensures deletes { (b : Book) (c : Model) (a n m : ℕ) (o : Output) (ns : List SetName) (before : Past) → Stands b c before
         → Stands (after_deletes ns b) c (at n m (answered a o (deleted (gone c before ns (sets c before)))) ∷ before) }
+{}
+
+/// The opened book, in which each configured DatSet then names its set, stands for the history without a step. It is asked
+/// that the references of the configured sets differ, that no domain has a `/`, and that each DatSet is empty or names one.
+pub fn opened_books_stand()
+    ensures { (c : Model) (rows : List SetRow) → AreSets rows c.sets → AreNamed c → Stands (after_names (dat_sets c []) (opened rows)) c [] }
+{}
+
+/// A set is in use exactly where the DatSet of a block names it; no more blocks hold it than there are.
+pub fn holds_are_uses()
+    ensures used { (b : Book) (c : Model) (k : ℕ) (past : Past) → Stands b c past → k < length b.sets → nat_lt 0 (set_at b k).holds ≡ in_use_from c past (reference (set_at b k)) 0 c.blocks }
+    ensures few { (b : Book) (n k : ℕ) (all : List DataSet) (used : List (List ℕ)) → StandsFor b n all used → k < length b.sets → (set_at b k).holds ≤ length used }
+{}
+
+/// What clients may make a server hold: at most 64 sets, each of at most 256 nodes and with a name of at most 64 octets.
+pub fn books_are_bounded()
+    ensures opened { (c : Model) (rows : List SetRow) → IsBounded c (opened rows) }
+    ensures define { (c : Model) (b : Book) (rows : List NodeRow) (name : SetName) (ts : List Target) → IsBounded c b → define_fault b name (is_set_name c name) rows ts ≡ None → IsBounded c (after_define name ts b) }
+    ensures delete { (c : Model) (b : Book) (k : ℕ) → IsBounded c b → b.configured ≤ k → k < length b.sets → IsBounded c (after_delete k b) }
+    ensures hold { (c : Model) (b : Book) (k : ℕ) → IsBounded c b → k < length b.sets → IsBounded c (after_hold k b) }
+    ensures release { (c : Model) (b : Book) (k : ℕ) → IsBounded c b → k < length b.sets → IsBounded c (after_release k b) }
 {}

@@ -13,4 +13,7 @@ pub use book::{DefineFault, Definition, DeleteFault, SetBook};
 pub use shapes::shapes_of;
 
 // their laws
-pub use laws::{books_stand, changes_are_answered, sets_are_found, sets_are_the_definition};
+pub use laws::{
+    books_are_bounded, books_stand, changes_are_answered, holds_are_uses, opened_books_stand,
+    sets_are_found, sets_are_the_definition,
+};
