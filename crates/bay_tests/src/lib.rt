@@ -21,8 +21,6 @@ mod blocks;
 #[cfg(test)]
 mod entries;
 #[cfg(test)]
-mod sets;
-#[cfg(test)]
 mod triggers;
 #[cfg(test)]
 mod values;

@@ -1,1 +1,5 @@
 pub mod Booked
+pub mod Books
+pub mod Standing
+pub mod Turns
+pub mod Opening

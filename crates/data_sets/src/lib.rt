@@ -1,11 +1,19 @@
-//! The data sets that are there (IEC 61850-7-2, DATA-SET; ISO 9506-2, named variable lists).
+//! The data sets that are there, configured ones and those that clients define (IEC 61850-7-2, DATA-SET; ISO 9506-2, named
+//! variable lists).
 #![tactic(auto)]
 
 mod book;
 mod laws;
+mod shapes;
 
-// the sets by their names
-pub use book::{SetBook, shapes_of};
+// the sets by their numbers, their names and their references
+pub use book::{DefineFault, Definition, DeleteFault, SetBook};
 
-// their law
-pub use laws::sets_are_the_definition;
+// the shapes of their members
+pub use shapes::shapes_of;
+
+// their laws
+pub use laws::{
+    books_are_bounded, books_stand, changes_are_answered, holds_are_uses, opened_books_stand,
+    sets_are_found, sets_are_the_definition,
+};

@@ -11,7 +11,6 @@ pub mod NameLaws
 pub mod TableLaws
 pub mod StandsLaid
 pub mod AttributeLaws
-pub mod NameSort
 pub mod KindLaws
 pub mod SendLaws
 pub mod SyncLaws

@@ -10,7 +10,6 @@ mod largest;
 // its nodes, domain by domain, and what finds them
 mod listing;
 mod nodes;
-mod sorting;
 mod stands;
 mod tables;
 

@@ -6,9 +6,9 @@ ghost use Rattle.object_model.specs.Listed.{IsListed, IsOneMore, items_of as ite
 
 use crate::growth::Spot;
 use crate::nodes::{NodeName, push_node_names, push_rows, spots_of};
-use crate::sorting::sorted;
 use crate::stands::{Stand, push_stands};
 use bay_model::NodeRow;
+use name_order::sorted;
 use object_names::numbers::count;
 use object_names::{Index, Leaf, Line};
 use std::alloc::{AllocError, Global};

@@ -10,9 +10,9 @@ ghost use Rattle.object_model.specs.Tables.{IsTables, set_row, set_rows as set_r
 
 use crate::listing::{Directory, list};
 use crate::nodes::NodeName;
-use crate::sorting::names_after;
 use crate::stands::Stand;
 use bay_model::{NodeTable, Nodes, SetName, SetRow, SetTable};
+use name_order::names_after;
 use object_names::references::joined;
 use object_names::{Index, Leaf, domains, ordered_lines};
 use std::alloc::{AllocError, Global};

@@ -1,5 +1,0 @@
-use Rattle.std.proofs.Common.{length}
-use Rattle.data_sets.proofs.book.+entry_named.Given as goal
-
-abbrev pub decreases-entry_named : goal.decreases-entry_named
-decreases-entry_named l = length l.entries.now

@@ -1,0 +1,6 @@
+//! The order of names (ISO 9506-2, GetNameList): ascending by their octets, and those after a name.
+#![tactic(auto)]
+
+mod sorting;
+
+pub use sorting::{names_after, sorted};
