@@ -1,6 +1,5 @@
 -- Groups that are opened stand for the empty history of their configuration.
-use Rattle.std.proofs.Common.{◌≡◌, ◌≢◌, ◌≤◌, ◌<◌, ◌+◌, ◌-◌, ℕ, zero, suc, Bool, true, false, List, [], ◌∷◌, ◌++◌, length, map, refl, sym, ap, subst, ◌∙◌, arith, slice_index_or, slice_get, unwrap_or, Option, None, Some, is_some, position, true≢false, if◌then◌else◌, cond}
-use Rattle.std.specs.Prelude.{codes}
+use Rattle.std.proofs.Common.{◌≡◌, ◌≤◌, ◌<◌, ◌+◌, ◌-◌, ℕ, zero, suc, Bool, true, false, List, [], ◌∷◌, ◌++◌, length, map, refl, sym, ap, subst, ◌∙◌, arith, slice_index_or, slice_get, unwrap_or, Option, None, Some, is_some, position, true≢false, if◌then◌else◌, cond}
 use Rattle.std.specs.Option.{option_map}
 use Rattle.std.specs.List.{All, find}
 use Rattle.std.specs.Str.{bytes_eq}
@@ -18,12 +17,11 @@ use Rattle.bay_rooms.specs.Kinds.{kind_of}
 use Rattle.bay_rooms.specs.Slots.{Held}
 use Rattle.bay_model.specs.Model as model
 use Rattle.bay_model.specs.Model.{Model, Access, Attr, Groups}
-use Rattle.bay_model.specs.Attributes.{attributes, attrs_defined, attr_defined, access_of}
+use Rattle.bay_model.specs.Attributes.{attrs_defined, attr_defined, access_of}
 use Rattle.bay_model.specs.Configured.{groups_defined}
 use Rattle.bay_model.specs.Lookups.{attr_of, groups_of, no_attr}
 use Rattle.bay_model.specs.Named.{configured_model}
 use Rattle.bay_model.specs.NamedLines.{is_setting, domains, domain_number}
-use Rattle.bay_model.specs.Settings.{stored, group}
 use Rattle.setting_groups.specs.Grouped.{Domained, Settled, Grouped, domain_at, setting_at, no_domain, no_setting}
 use Rattle.setting_groups.specs.Standing.{Stands, StandsBlock, StandsSetting}
 use Rattle.setting_groups.specs.Opened.{slots_of, held_as, place_at, place_in, block_defined, setting_defined, settings_from, opened, IsGrouped, IsSetting}

@@ -1,5 +1,5 @@
 -- The values go as the history goes.
-use Rattle.std.proofs.Common.{◌≡◌, ◌≢◌, ◌≤◌, ◌<◌, ◌-◌, ℕ, zero, suc, Bool, true, false, not, List, [], ◌∷◌, length, map, refl, sym, ap, subst, ◌∙◌, arith, ◌⊎◌, inl, inr, Option, None, Some, is_some, slice_index_or, slice_set, true≢false}
+use Rattle.std.proofs.Common.{◌≡◌, ◌≢◌, ◌≤◌, ◌<◌, ◌-◌, ℕ, suc, Bool, true, false, not, List, ◌∷◌, length, map, refl, sym, ap, subst, ◌∙◌, arith, ◌⊎◌, inl, inr, Option, None, Some, is_some, slice_index_or, slice_set, true≢false}
 use Rattle.std.specs.Prelude.{◌==◌, ◌&&◌, nat_lt, if◌then◌else◌}
 use Rattle.std.specs.Option.{option_map_or}
 use Rattle.std.proofs.lemmas.Bool.Decides.{eqb_tells, leb_tells}
@@ -7,11 +7,11 @@ use Rattle.std.proofs.lemmas.List.{get_or-map, length-map, length-set}
 use Rattle.sv_base.specs.declared.value.Value.{Value}
 use Rattle.bay_model.specs.Model.{Model}
 use Rattle.bay_model.specs.Lookups.{attr_of, groups_of}
-use Rattle.bay_model.specs.Points.{Deed, Past, Point, now, activated, edited as edited_deed, confirmed, copied as copied_deed, lost}
+use Rattle.bay_model.specs.Points.{Past, Point, edited as edited_deed, confirmed, copied as copied_deed}
 use Rattle.bay_rooms.specs.Slots.{Held}
-use Rattle.bay_model.specs.Settings.{Edit, edit, stored, copy, group, is_edited}
+use Rattle.bay_model.specs.Settings.{Edit, edit, stored, group, is_edited}
 use Rattle.setting_groups.specs.Grouped.{Domained, Settled, Grouped, domain_at, setting_at, no_domain, no_setting, loaded, stored_in, copied, after_edit, after_copy, after_confirm, edit_place}
-use Rattle.setting_groups.specs.Standing.{Stands, StandsBlock, StandsSetting, AreApart, IsEdit, at}
+use Rattle.setting_groups.specs.Standing.{Stands, StandsBlock, StandsSetting, IsEdit, at}
 use Rattle.setting_groups.proofs.Places.{at_own, at_any, at_set, swap, suc_suc, same_number}
 use Rattle.setting_groups.proofs.BlockLaws.{edit_block, confirm_block}
 
@@ -121,14 +121,22 @@ module _ (c : Model) (before : Past) (n m : ℕ) (s : Grouped) (h : Stands s c b
 
     edit_other : (g : ℕ) → (t.domain == d) ≡ false → StandsSetting t c (at n m (edited_deed a d g) ∷ before)
     edit_other g not = record {
-      domain = o.domain; access = o.access; count = o.count; kind = o.kind; kinds = o.kinds;
+      domain = o.domain;
+      access = o.access;
+      count = o.count;
+      kind = o.kind;
+      kinds = o.kinds;
       groups = o.groups;
       copy = rw (untested false not, tested false not) o.copy;
     }
 
     edit_none : (t.domain == d) ≡ true → StandsSetting t c (at n m (edited_deed a d 0) ∷ before)
     edit_none is = record {
-      domain = o.domain; access = o.access; count = o.count; kind = o.kind; kinds = o.kinds;
+      domain = o.domain;
+      access = o.access;
+      count = o.count;
+      kind = o.kind;
+      kinds = o.kinds;
       groups = o.groups;
       copy = rw (untested true is) (λ some. absurd (true≢false (sym some)));
     }
@@ -139,7 +147,9 @@ module _ (c : Model) (before : Past) (n m : ℕ) (s : Grouped) (h : Stands s c b
         let there : g - 1 < length t.groups = omega (arith, some, to, o.count) in
         let next : suc (g - 1) ≡ g = omega (arith, some) in
         record {
-          domain = o.domain; access = o.access; count = o.count;
+          domain = o.domain;
+          access = o.access;
+          count = o.count;
           kind = o.kinds (g - 1) there ∙ o.kind;
           kinds = λ i below. ap (λ (v : _). v.kind) (at_any t.groups i (slice_index_or t.groups (g - 1) t.copy) t.copy below) ∙ (o.kinds i below ∙ sym (o.kinds (g - 1) there));
           groups = λ i below. ap (λ (v : _). v.value) (at_any t.groups i (slice_index_or t.groups (g - 1) t.copy) t.copy below) ∙ o.groups i below;
@@ -175,7 +185,10 @@ module _ (c : Model) (before : Past) (n m : ℕ) (s : Grouped) (h : Stands s c b
       let o = h.settings j lj in
       let same : ((setting_at s k).attr == (setting_at s j).attr) ≡ true = same_number _ _ (ap (λ i. (setting_at s i).attr) t.1) in
       rw t.0 (record {
-        domain = o.domain; access = o.access; count = o.count; kind = o.kind;
+        domain = o.domain;
+        access = o.access;
+        count = o.count;
+        kind = o.kind;
         kinds = λ i below. ap (λ (x : _). x.kind) (at_any (setting_at s j).groups i _ (setting_at s j).copy below) ∙ o.kinds i below;
         groups = λ i below. ap (λ (x : _). x.value) (at_any (setting_at s j).groups i _ (setting_at s j).copy below) ∙ o.groups i below;
         copy = rw same (λ some. refl);
@@ -195,7 +208,11 @@ module _ (c : Model) (before : Past) (n m : ℕ) (s : Grouped) (h : Stands s c b
   module _ (t : Settled) (o : StandsSetting t c before) (a d : ℕ) where
     confirm_other : (t.domain == d) ≡ false → StandsSetting t c (at n m (confirmed a d) ∷ before)
     confirm_other not = record {
-      domain = o.domain; access = o.access; count = o.count; kind = o.kind; kinds = o.kinds;
+      domain = o.domain;
+      access = o.access;
+      count = o.count;
+      kind = o.kind;
+      kinds = o.kinds;
       groups = λ i below. rw (tested t o a d false not) (o.groups i below);
       copy = rw (untested t o a d false not) o.copy;
     }
@@ -203,7 +220,8 @@ module _ (c : Model) (before : Past) (n m : ℕ) (s : Grouped) (h : Stands s c b
     confirm_this : (e : Edit) → edit d before ≡ Some e → 1 ≤ e.group → e.group ≤ length t.groups → (t.domain == d) ≡ true → t.domain ≡ d
         → StandsSetting (record t { groups = slice_set t.groups (e.group - 1) t.copy }) c (at n m (confirmed a d) ∷ before)
     confirm_this e is_edit from to is same = record {
-      domain = o.domain; access = o.access;
+      domain = o.domain;
+      access = o.access;
       count = length-set t.groups (e.group - 1) t.copy ∙ o.count;
       kind = o.kind;
       kinds = λ j below. ap (λ (x : _). x.kind) (at_set t.groups (e.group - 1) j t.copy t.copy (omega (arith, from, to))) ∙ kind_by (e.group - 1 == j) (slice_index_or t.groups j t.copy) t.copy (o.kinds j (omega (arith, below, length-set t.groups (e.group - 1) t.copy)));

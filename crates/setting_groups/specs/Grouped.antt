@@ -1,6 +1,6 @@
 -- The setting group blocks of the domains, and the values of the SG attributes: how they go as clients and the process
 -- write (IEC 61850-7-2, SelectActiveSG, SelectEditSG, SetEditSGValue and ConfirmEditSGValues).
-use Rattle.std.specs.Prelude.{ℕ, suc, ◌-◌, Bool, true, false, not, ◌&&◌, ◌||◌, ◌==◌, nat_lt, List, [], ◌∷◌, map, Option, None, Some, Result, Ok, Err, slice_index_or, slice_set, is_some, unwrap_or, if◌then◌else◌}
+use Rattle.std.specs.Prelude.{ℕ, suc, ◌-◌, Bool, false, not, ◌&&◌, ◌||◌, ◌==◌, nat_lt, List, [], ◌∷◌, map, Option, None, Some, Result, Ok, Err, slice_index_or, slice_set, is_some, if◌then◌else◌}
 use Rattle.std.specs.Option.{option_map, option_map_or}
 use Rattle.sv_base.specs.declared.value.Value.{Value}
 use Rattle.sv_base.specs.declared.value.Value.TheVariants as kinds

@@ -7,7 +7,7 @@ use crate::domain::{Domain, GroupNumbers};
 use crate::setting::Setting;
 use bay_model::Slot;
 use std::marker::Model;
-use sv_base::{AssocNo, Moment, Value};
+use sv_base::{AssocNo, AttrId, Moment, Value};
 
 /// The setting group blocks of the domains by their numbers, and the values of the SG attributes in the order of their
 /// numbers, all in room that was made before: no call but those that open takes memory. Contracts see both lists.
@@ -58,7 +58,7 @@ fn lose_all(domains: &mut [Domain], a: AssocNo)
 }
 
 impl Groups {
-    ghost use Rattle.std.specs.Prelude.{◌≡◌, ◌<◌, OnOk, OnErr, length, true, if◌then◌else◌};
+    ghost use Rattle.std.specs.Prelude.{◌≡◌, ◌<◌, ◌==◌, OnOk, OnErr, length, true, if◌then◌else◌};
     ghost use Rattle.std.specs.Option.{option_map};
     ghost use Rattle.bay_rooms.specs.Kinds.{is_kind, is_in_range};
     ghost use Rattle.setting_groups.specs.Grouped.{domain_at, setting_at, act_answer, edit_answer, copy_answer, stored_answer, number_in, is_on, holds, edit_number, active_place, after_act, after_edit, after_copy, after_confirm, after_loss, after_put, active_of, copy_of, shown_of};
@@ -151,11 +151,40 @@ impl Groups {
         self.settings[setting as usize].put(place, value);
     }
 
+    /// How many SG attributes there are.
+    pub fn len(&self) -> usize
+        ensures { result ≡ length self.now.settings }
+    {
+        self.settings.len()
+    }
+
+    /// There is no SG attribute.
+    pub fn is_empty(&self) -> bool
+        ensures { result ≡ (length self.now.settings == 0) }
+    {
+        self.settings.is_empty()
+    }
+
+    /// The number of an SG attribute.
+    pub fn attr(&self, setting: u32) -> AttrId
+        requires { setting < length self.now.settings }
+        ensures { result.0 ≡ (setting_at self.now setting).attr }
+    {
+        self.settings[setting as usize].attr()
+    }
+
+    /// The number of the domain of an SG attribute.
+    pub fn domain(&self, setting: u32) -> u32
+        requires { setting < length self.now.settings }
+        ensures { result ≡ (setting_at self.now setting).domain }
+    {
+        self.settings[setting as usize].domain()
+    }
+
     /// What the active group holds of an SG attribute.
     pub fn active(&self, setting: u32) -> &Slot
         requires there { setting < length self.now.settings }
         requires domain { (setting_at self.now setting).domain < length self.now.domains }
-        requires group { active_place (domain_at self.now (setting_at self.now setting).domain) < length (setting_at self.now setting).groups }
         ensures { result.now ≡ active_of self.now setting }
     {
         let domain = self.settings[setting as usize].domain();
@@ -182,7 +211,6 @@ impl Groups {
     pub fn shown(&self, setting: u32, is_edited: bool) -> Option<&Slot>
         requires there { setting < length self.now.settings }
         requires domain { (setting_at self.now setting).domain < length self.now.domains }
-        requires group { active_place (domain_at self.now (setting_at self.now setting).domain) < length (setting_at self.now setting).groups }
         ensures { option_map (λ s. s.now) result ≡ shown_of self.now setting is_edited }
     {
         if is_edited {

@@ -59,12 +59,15 @@ impl Setting {
         &self.copy
     }
 
-    /// What the group at a place holds.
+    /// What the group at a place holds, and the copy where there is none.
     pub fn group(&self, place: usize) -> &Slot
-        requires { place < length self.now.groups }
         ensures { result.now ≡ slice_index_or self.now.groups place self.now.copy }
     {
-        &self.groups[place]
+        if place < self.groups.len() {
+            &self.groups[place]
+        } else {
+            &self.copy
+        }
     }
 
     /// The number of the domain.

@@ -102,12 +102,13 @@ groups-here [] text h some = absurd (omega (arith, some))
 groups-here (lines.Ld name ∷ before) text h some = absurd (omega (arith, some))
 groups-here (lines.Sgcb groups ∷ before) text h some =
     let f = h.4.follows in
-    let here : is-of (domain_of before) groups ≡ true = bytes-same (domain_of before) groups.domain (sym (ap (λ (g : SgDef). g.domain) f.here)) in
-    (groups,
-     find-append (is-of (domain_of before)) (config_of before).groups (groups ∷ [])
-     ∙ (ap (λ o. option_or o (find (is-of (domain_of before)) (groups ∷ []))) (none-before before (domain_of before) f.new)
-     ∙ ap (λ b. cond b (Some groups) None) here),
-     refl)
+    let here : is-of (domain_of before) groups ≡ true = bytes-same (domain_of before) groups.domain (sym (ap (λ (g : SgDef). g.domain) f.here)) in (
+      groups,
+      find-append (is-of (domain_of before)) (config_of before).groups (groups ∷ [])
+          ∙ (ap (λ o. option_or o (find (is-of (domain_of before)) (groups ∷ []))) (none-before before (domain_of before) f.new)
+          ∙ ap (λ b. cond b (Some groups) None) here),
+      refl,
+    )
 groups-here (line ∷ before) text h some = groups-here before h.0 h.3 some
 
 pub groups-read : (told : List Line) (text : List ℕ) → AreLines text told → (g : SgDef) → Among g (config_of told).groups → (1 ≤ g.active) × (g.active ≤ g.count)
@@ -138,7 +139,7 @@ valued-here before text are attr h = record {
   node = subst (λ d. IsIn (config_of before).nodes d attr.ln) (sym (ap (λ (a : AttrDef). a.domain) h.here)) (subst (λ l. IsIn (config_of before).nodes (domain_of before) l) (sym (ap (λ (a : AttrDef). a.ln) h.here)) (in-node before text are h.stands));
   groups = λ is. subst (λ d. Have (config_of before) d (length (values_of attr.values))) (sym (ap (λ (a : AttrDef). a.domain) h.here))
       (let count : length (values_of attr.values) ≡ groups_of before = h.count.1 ∙ ap (λ b. if b then groups_of before else 1) is in
-       subst (λ n. Have (config_of before) (domain_of before) n) (sym count) (groups-here before text are (subst (λ n. 1 ≤ n) (ap (λ b. if b then groups_of before else 1) is) h.count.0)));
+      subst (λ n. Have (config_of before) (domain_of before) n) (sym count) (groups-here before text are (subst (λ n. 1 ≤ n) (ap (λ b. if b then groups_of before else 1) is) h.count.0)));
 }
 
 valued-group : (c : Config) (groups : SgDef) (a : AttrDef) → IsValued c a → IsValued (record c { groups = c.groups ++ groups ∷ [] }) a

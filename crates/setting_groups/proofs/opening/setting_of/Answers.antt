@@ -1,5 +1,4 @@
-use Rattle.std.proofs.Common.{rules, ◌≡◌, ◌<◌, ◌∙◌, ℕ, List, length, ap, sym, subst, arith, slice_index_or}
-use Rattle.sv_base.specs.Same.{values_of}
+use Rattle.std.proofs.Common.{rules, ◌≡◌, ◌∙◌, List, length, ap, sym, arith, slice_index_or}
 use Rattle.bay_rooms.specs.Kinds.{kind_of}
 use Rattle.bay_rooms.specs.Slots.{Held}
 use Rattle.setting_groups.specs.Opened.{slots_of}
