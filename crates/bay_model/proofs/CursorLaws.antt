@@ -37,8 +37,8 @@ facts c = record {
     of_put = λ a x v e. tt;
     of_copied = λ a x v. tt;
     of_activated = λ a d n. tt;
-    of_edited = λ a d n. tt;
-    of_confirmed = λ a d. tt;
+    of_edited = λ a d n free. tt;
+    of_confirmed = λ a d holds. tt;
     of_called = λ a k j v. tt;
     of_selected = λ a k. tt;
   };

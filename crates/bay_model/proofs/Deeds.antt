@@ -1,31 +1,32 @@
 -- A fact of each deed that a single read or write comes to.
 use Rattle.std.proofs.Common.{not, ◌≡◌, ℕ, Bool, true, false, List, [], ◌∷◌, refl}
-use Rattle.std.specs.Prelude.{Result, Ok, Err, ◌||◌, if◌then◌else◌}
+use Rattle.std.specs.Prelude.{Result, Ok, Err, ◌||◌, nat_lt, if◌then◌else◌}
 use Rattle.sv_base.specs.declared.value.Value.{Value}
 use Rattle.sv_base.specs.declared.value.Value.TheVariants as kinds
 use Rattle.bay_model.specs.declared.components.Comp.{Comp}
 use Rattle.bay_model.specs.Model as model
 use Rattle.bay_model.specs.Model.{Model, Access, Role, Block, SettingComp, Call, Tree, single, selecting, calling, several, ActSG, EditSG, CnfEdit}
-use Rattle.bay_model.specs.Lookups.{attr_of, node_of, control_of}
+use Rattle.bay_model.specs.Lookups.{attr_of, node_of, control_of, groups_of}
 use Rattle.bay_model.specs.Points.{Deed, wrote, put, copied, activated, edited, called, nothing, confirmed, selected_control, Past}
 use Rattle.bay_rooms.specs.Kinds.{is_kind, is_in_range}
 use Rattle.bay_model.specs.ComponentTable.{comp_kind}
 use Rattle.bay_model.specs.Blocks.{is_held}
 use Rattle.bay_model.specs.Calls.{Went, accepted, mistyped, barred, went, can_select}
-use Rattle.bay_model.specs.Outcomes.{gave, deed_of, first_code, refused}
+use Rattle.bay_model.specs.Outcomes.{gave, did, deed_of, first_code, refused}
 use Rattle.bay_model.specs.Reads.{read_role, read_tree, outcome_of_read}
-use Rattle.bay_model.specs.Writes.{is_written, contradicts, names_nothing, act_refusals, edit_refusals, confirm_refusals, attribute_refusals, holds_edit, write_role, write_part, write_attribute, write_component, outcome_of_call}
+use Rattle.bay_model.specs.Writes.{is_written, contradicts, names_nothing, act_refusals, attribute_refusals, holds_edit, is_edited_by_another, write_role, write_part, write_attribute, write_component, outcome_of_call}
 use Rattle.bay_model.specs.Singles.{Single, reads, writes, fails, outcome_of}
 
--- the fact of each such deed; past ends with the arrival of the single, and an accepted write of a component wasn't held
+-- the fact of each such deed; past ends with the arrival of the single, an accepted write of a component wasn't held, and one
+-- of EditSG or CnfEdit is of who may edit
 pub record OfSingles (c : Model) (past : Past) (G : Deed → Type 0) : Type 0 where
   pub of_nothing : G nothing
   pub of_wrote : (a b : ℕ) (comp : Comp) (v : Value) → is_held b a comp v past ≡ false → G (wrote a b comp v)
   pub of_put : (a x : ℕ) (v : Value) → (attr_of c x).access ≡ model.writable → G (put a x v)
   pub of_copied : (a x : ℕ) (v : Value) → G (copied a x v)
   pub of_activated : (a d n : ℕ) → G (activated a d n)
-  pub of_edited : (a d n : ℕ) → G (edited a d n)
-  pub of_confirmed : (a d : ℕ) → G (confirmed a d)
+  pub of_edited : (a d n : ℕ) → is_edited_by_another a d past ≡ false → G (edited a d n)
+  pub of_confirmed : (a d : ℕ) → holds_edit a d past ≡ true → G (confirmed a d)
   pub of_called : (a k : ℕ) (j : Call) (v : Value) → G (called a k j v)
   pub of_selected : (a k : ℕ) → G (selected_control a k)
 
@@ -39,11 +40,15 @@ module _ (c : Model) (past : Past) (G : Deed → Type 0) (g : OfSingles c past G
 
   part : (a d : ℕ) (k : SettingComp) (v : Value) → G (deed_of (write_part c a d k v past))
   part a d ActSG (kinds.Uint n) = code (act_refusals c d n) (activated a d n) (g.of_activated a d n)
-  part a d EditSG (kinds.Uint n) = code (edit_refusals c a d n past) (edited a d n) (g.of_edited a d n)
-  part a d CnfEdit (kinds.Bool on) = code (confirm_refusals a d past) (if on then confirmed a d else nothing) (either on) where
-    either : (b : Bool) → G (if b then confirmed a d else nothing)
-    either true = g.of_confirmed a d
-    either false = g.of_nothing
+  part a d EditSG (kinds.Uint n) = either (is_edited_by_another a d past) refl where
+    either : (b : Bool) → is_edited_by_another a d past ≡ b → G (deed_of (if b then refused 2 else first_code ((nat_lt (groups_of c d).count n, 11) ∷ []) (edited a d n)))
+    either true is = g.of_nothing
+    either false is = code ((nat_lt (groups_of c d).count n, 11) ∷ []) (edited a d n) (g.of_edited a d n is)
+  part a d CnfEdit (kinds.Bool on) = either on (holds_edit a d past) refl where
+    either : (on b : Bool) → holds_edit a d past ≡ b → G (deed_of (if not b then refused 2 else did (if on then confirmed a d else nothing)))
+    either true true is = g.of_confirmed a d is
+    either false true is = g.of_nothing
+    either on false is = g.of_nothing
   part a d _ v = g.of_nothing
 
   attribute_ : (a x : ℕ) (v : Value) (k : Access) → (attr_of c x).access ≡ k → G (deed_of (write_attribute c a x v k past))

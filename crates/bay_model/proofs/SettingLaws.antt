@@ -79,8 +79,8 @@ module _ (c : Model) (x : ℕ) (is : (attr_of c x).access ≡ model.active) wher
     of_put = λ a y v e. e;
     of_copied = λ a y v. tt;
     of_activated = λ a e n. tt;
-    of_edited = λ a e n. tt;
-    of_confirmed = λ a e. tt;
+    of_edited = λ a e n free. tt;
+    of_confirmed = λ a e holds. tt;
     of_called = λ a k j v. tt;
     of_selected = λ a k. tt;
   }

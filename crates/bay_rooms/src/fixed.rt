@@ -49,6 +49,15 @@ impl Fixed {
         let _ = self.octets.extend_from_slice(octets);
     }
 
+    /// Takes the octets of another one with as much room. It takes no memory.
+    pub fn copy_from(&mut self, other: &Fixed)
+        requires { other.now.room ≡ self.old.room }
+        ensures { self.new ≡ other.now }
+    {
+        self.clear();
+        self.push(&other.octets);
+    }
+
     /// Puts octets in front of those from a place on. It takes no memory.
     pub fn insert(&mut self, at: usize, octets: &[u8])
         requires place { at ≤ length self.old.items }

@@ -2,7 +2,7 @@
 
 ghost use Rattle.std.specs.Prelude.{true, ◌≡◌, ◌<◌, ◌≤◌, ◌^◌, ℕ, not, bytes_eq, nat_le, Ok, Err, if◌then◌else◌, OnOk, OnErr, IfOk, length};
 ghost use Rattle.bay_rooms.specs.declared.slot.Misfit.TheVariants as misfits;
-ghost use Rattle.sv_base.specs.Same.{is_same_bits};
+ghost use Rattle.sv_base.specs.Same.{is_same, is_same_bits};
 ghost use Rattle.sv_base.specs.declared.value.Value.TheVariants as values;
 ghost use Rattle.bay_rooms.specs.Kinds.{truth, int, uint, bits as bit_kind, time as time_kind, stamp as stamp_kind, text, octets as octet_kind, is_kind, is_in_range, kind_of};
 ghost use Rattle.bay_rooms.specs.Slots.{set_over, held_in, IsCell, IsSettable, IsWidth, type_width, type_most};
@@ -321,6 +321,138 @@ fn cell_of(alloc: Global, kind: &TypeOf, value: &Value) -> Result<Cell, AllocErr
     }
 }
 
+/// Takes the truth value of another cell; tells whether it was another.
+fn take_bool(old: &mut bool, from: &Cell) -> bool
+    requires { (held_in from.now).kind ≡ truth }
+    ensures differs { result ≡ not (is_same (held_in from.now).value (values.Bool old.old)) }
+    ensures taken { record { value = values.Bool old.new; kind = truth } ≡ held_in from.now }
+{
+    match from {
+        Cell::Bool(new) => {
+            let differs = *old != *new;
+            *old = *new;
+            differs
+        }
+        _ => false,
+    }
+}
+
+/// Takes the signed number of another cell of the same width; tells whether it was another.
+fn take_int(old: &mut Signed, from: &Cell) -> bool
+    requires { (held_in from.now).kind ≡ int old.old.width }
+    ensures differs { result ≡ not (is_same (held_in from.now).value (values.Int old.old.value)) }
+    ensures taken { record { value = values.Int old.new.value; kind = int old.new.width } ≡ held_in from.now }
+    ensures same_width { old.new.width ≡ old.old.width }
+{
+    match from {
+        Cell::Int(new) => {
+            let differs = old.value != new.value;
+            old.value = new.value;
+            differs
+        }
+        _ => false,
+    }
+}
+
+/// Takes the unsigned number of another cell of the same width; tells whether it was another.
+fn take_uint(old: &mut Unsigned, from: &Cell) -> bool
+    requires { (held_in from.now).kind ≡ uint old.old.width }
+    ensures differs { result ≡ not (is_same (held_in from.now).value (values.Uint old.old.value)) }
+    ensures taken { record { value = values.Uint old.new.value; kind = uint old.new.width } ≡ held_in from.now }
+    ensures same_width { old.new.width ≡ old.old.width }
+{
+    match from {
+        Cell::Uint(new) => {
+            let differs = old.value != new.value;
+            old.value = new.value;
+            differs
+        }
+        _ => false,
+    }
+}
+
+/// Takes the bits of another cell of as many; tells whether they were others.
+fn take_bits(old: &mut Vec<bool>, from: &Cell) -> bool
+    requires { (held_in from.now).kind ≡ bit_kind (length old.old.items) }
+    ensures differs { result ≡ not (is_same (held_in from.now).value (values.Bits old.old.items)) }
+    ensures taken { record { value = values.Bits old.new.items; kind = bit_kind (length old.new.items) } ≡ held_in from.now }
+{
+    match from {
+        Cell::Bits(new) => {
+            let differs = !are_same(new.as_slice(), old.as_slice());
+            old.copy_from_slice(new.as_slice());
+            differs
+        }
+        _ => false,
+    }
+}
+
+/// Takes the time of another cell; tells whether it was another.
+fn take_time(old: &mut Utc, from: &Cell) -> bool
+    requires { (held_in from.now).kind ≡ time_kind }
+    ensures differs { result ≡ not (is_same (held_in from.now).value (values.Time old.old)) }
+    ensures taken { record { value = values.Time old.new; kind = time_kind } ≡ held_in from.now }
+{
+    match from {
+        Cell::Time(new) => {
+            let differs = new.secs != old.secs
+                || new.frac != old.frac
+                || new.quality != old.quality;
+            *old = *new;
+            differs
+        }
+        _ => false,
+    }
+}
+
+/// Takes the entry time of another cell; tells whether it was another.
+fn take_stamp(old: &mut Stamp, from: &Cell) -> bool
+    requires { (held_in from.now).kind ≡ stamp_kind }
+    ensures differs { result ≡ not (is_same (held_in from.now).value (values.Stamp old.old)) }
+    ensures taken { record { value = values.Stamp old.new; kind = stamp_kind } ≡ held_in from.now }
+{
+    match from {
+        Cell::Stamp(new) => {
+            let differs = new.ms != old.ms || new.days != old.days;
+            *old = *new;
+            differs
+        }
+        _ => false,
+    }
+}
+
+/// Takes the text of another cell of as much room; tells whether it was another.
+fn take_text(old: &mut Fixed, from: &Cell) -> bool
+    requires { (held_in from.now).kind ≡ text old.old.room }
+    ensures differs { result ≡ not (is_same (held_in from.now).value (values.Text old.old.items)) }
+    ensures taken { record { value = values.Text old.new.items; kind = text old.new.room } ≡ held_in from.now }
+{
+    match from {
+        Cell::Text(new) => {
+            let differs = new.as_slice() != old.as_slice();
+            old.copy_from(new);
+            differs
+        }
+        _ => false,
+    }
+}
+
+/// Takes the octet string of another cell of as much room; tells whether it was another.
+fn take_octets(old: &mut Fixed, from: &Cell) -> bool
+    requires { (held_in from.now).kind ≡ octet_kind old.old.room }
+    ensures differs { result ≡ not (is_same (held_in from.now).value (values.Octets old.old.items)) }
+    ensures taken { record { value = values.Octets old.new.items; kind = octet_kind old.new.room } ≡ held_in from.now }
+{
+    match from {
+        Cell::Octets(new) => {
+            let differs = new.as_slice() != old.as_slice();
+            old.copy_from(new);
+            differs
+        }
+        _ => false,
+    }
+}
+
 /// The value of an attribute, which can be set without memory. Contracts see the value and its kind.
 #[derive(Debug, Drop)]
 pub struct Slot {
@@ -343,7 +475,8 @@ impl Model for Slot {
 }
 
 impl Slot {
-    ghost use Rattle.std.specs.Prelude.{◌≡◌, OnOk, OnErr, IfOk, true};
+    ghost use Rattle.std.specs.Prelude.{◌≡◌, OnOk, OnErr, IfOk, true, not};
+    ghost use Rattle.sv_base.specs.Same.{is_same};
     ghost use Rattle.bay_rooms.specs.Kinds.{kind_of, is_kind, is_in_range};
     ghost use Rattle.bay_rooms.specs.Slots.{set_over, IsSettable, lent};
 
@@ -393,6 +526,24 @@ impl Slot {
             Cell::Stamp(old) => set_stamp(old, value),
             Cell::Text(old) => set_text(old, value),
             Cell::Octets(old) => set_octets(old, value),
+        }
+    }
+
+    /// Takes the value of another slot of the same kind; tells whether it was another. It takes no memory.
+    pub fn copy_from(&mut self, other: &Slot) -> bool
+        requires { other.now.kind ≡ self.old.kind }
+        ensures differs { result ≡ not (is_same other.now.value self.old.value) }
+        ensures taken { self.new ≡ other.now }
+    {
+        match &mut self.cell {
+            Cell::Bool(old) => take_bool(old, &other.cell),
+            Cell::Int(old) => take_int(old, &other.cell),
+            Cell::Uint(old) => take_uint(old, &other.cell),
+            Cell::Bits(old) => take_bits(old, &other.cell),
+            Cell::Time(old) => take_time(old, &other.cell),
+            Cell::Stamp(old) => take_stamp(old, &other.cell),
+            Cell::Text(old) => take_text(old, &other.cell),
+            Cell::Octets(old) => take_octets(old, &other.cell),
         }
     }
 

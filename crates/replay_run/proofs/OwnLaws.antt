@@ -39,8 +39,8 @@ write-ends m past a k b comp v was = component_ m past (λ d. ends_after a d was
   of_put = λ e x v access. refl;
   of_copied = λ e x v. refl;
   of_activated = λ e d n. refl;
-  of_edited = λ e d n. refl;
-  of_confirmed = λ e d. refl;
+  of_edited = λ e d n free. refl;
+  of_confirmed = λ e d holds. refl;
   of_called = λ e k call v. refl;
   of_selected = λ e k. refl;
 }) k b comp v

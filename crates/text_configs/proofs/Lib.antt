@@ -23,3 +23,5 @@ pub mod BelowLaws
 pub mod MemberLaws
 pub mod ReferenceLaws
 pub mod ServableLaws
+-- its setting groups
+pub mod GroupLaws

@@ -39,7 +39,8 @@ impl Model for Store {
 }
 
 impl Cell {
-    ghost use Rattle.std.specs.Prelude.{◌≡◌, OnOk, OnErr};
+    ghost use Rattle.std.specs.Prelude.{◌≡◌, OnOk, OnErr, not};
+    ghost use Rattle.sv_base.specs.Same.{is_same};
     ghost use Rattle.value_store.specs.Stored.{stored, outcome, with_value};
 
     /// Sets the value.
@@ -61,10 +62,22 @@ impl Cell {
             Err(Misfit::Range) => Err(SetFault::TooLong),
         }
     }
+
+    /// Takes the value of a slot of the same kind.
+    fn copy_from(&mut self, from: &Slot) -> Changed
+        requires { from.now.kind ≡ (stored self.old).held.kind }
+        ensures differs { result.differs ≡ not (is_same from.now.value (stored self.old).held.value) }
+        ensures set { stored self.new ≡ with_value from.now.value (stored self.old) }
+    {
+        Changed {
+            differs: self.slot.copy_from(from),
+        }
+    }
 }
 
 impl Store {
-    ghost use Rattle.std.specs.Prelude.{◌≡◌, ◌<◌, ◌==◌, OnOk, OnErr, length, slice_set};
+    ghost use Rattle.std.specs.Prelude.{◌≡◌, ◌<◌, ◌==◌, OnOk, OnErr, length, not, slice_set};
+    ghost use Rattle.sv_base.specs.Same.{is_same};
     ghost use Rattle.bay_rooms.specs.Slots.{lent};
     ghost use Rattle.value_store.specs.Stored.{attribute, outcome, with_value};
 
@@ -101,5 +114,16 @@ impl Store {
         ensures kept { OnErr result (self.new ≡ self.old) }
     {
         self.cells[attr.0 as usize].set(value, by_client)
+    }
+
+    /// Gives an attribute the value of a slot of its kind, such as that of a setting group: tells whether it was another. It
+    /// takes no memory.
+    pub fn copy_from(&mut self, attr: AttrId, from: &Slot) -> Changed
+        requires there { attr.0 < length self.old }
+        requires kind { from.now.kind ≡ (attribute self.old attr.0).held.kind }
+        ensures differs { result.differs ≡ not (is_same from.now.value (attribute self.old attr.0).held.value) }
+        ensures set { self.new ≡ slice_set self.old attr.0 (with_value from.now.value (attribute self.old attr.0)) }
+    {
+        self.cells[attr.0 as usize].copy_from(from)
     }
 }

@@ -1,0 +1,79 @@
+//! The setting groups stand for each history, and each call comes to what the definitions say. The functions run nothing: each
+//! contract is a law.
+
+ghost use Rattle.std.specs.Prelude.{◌≡◌, ◌<◌, ◌≤◌, ◌-◌, ◌&&◌, ◌==◌, ℕ, List, [], ◌∷◌, length, is_some, true, slice_index_or, Ok, Err, if◌then◌else◌};
+ghost use Rattle.sv_base.specs.declared.value.Value.{Value};
+ghost use Rattle.sv_base.specs.declared.value.Value.TheVariants as kinds;
+ghost use Rattle.bay_model.specs.declared.step.Setting.{Setting};
+ghost use Rattle.bay_model.specs.Components.{read_setting};
+ghost use Rattle.bay_model.specs.Lookups.{attr_of, groups_of};
+ghost use Rattle.bay_model.specs.Model as model;
+ghost use Rattle.bay_model.specs.Model.{Model};
+ghost use Rattle.bay_model.specs.declared.components.SettingComp.TheVariants.{NumOfSG, ActSG, EditSG, CnfEdit};
+ghost use Rattle.bay_model.specs.Named.{configured_model};
+ghost use Rattle.bay_model.specs.NamedLines.{domains};
+ghost use Rattle.bay_model.specs.Singles.{arrival};
+ghost use Rattle.sv_base.specs.declared.config.Config.{Config};
+ghost use Rattle.setting_groups.specs.Opened.{opened, IsGrouped};
+ghost use Rattle.bay_model.specs.Points.{Deed, Point, Past, now, activated, edited, copied, confirmed, lost, valued, nothing};
+ghost use Rattle.bay_model.specs.Reads.{read_attribute};
+ghost use Rattle.bay_model.specs.Settings.{active, edit, stored, group};
+ghost use Rattle.bay_model.specs.SettingWrites.{write_part, write_attribute};
+ghost use Rattle.bay_model.specs.Values.{value_at};
+ghost use Rattle.setting_groups.specs.Grouped.{Grouped, domain_at, setting_at, act_answer, edit_answer, copy_answer, stored_answer, number_in, edit_number, is_on, holds, active_place, after_act, after_edit, after_copy, after_confirm, after_loss, after_values};
+ghost use Rattle.setting_groups.specs.Standing.{Stands, IsQuiet, IsTwin, at, outcome_by, confirm_outcome};
+
+/// Setting groups that are opened stand for the empty history. Where they stand for what was before a point, they stand for its
+/// arrival; then, after what came of it, for the point: after a client's accepted write of ActSG, of EditSG, into the copy or of
+/// CnfEdit, the loss of an association, what the process sets, and whatever else; and for a further arrival.
+pub fn settings_are_the_definition()
+    ensures opened { (c : Config) → IsGrouped c → Stands (opened c (domains c)) (configured_model c) [] }
+    ensures arrival { (c : Model) (s : Grouped) (n m : ℕ) (before : Past) → Stands s c before → Stands s c (arrival n m ∷ before) }
+    ensures again { (c : Model) (s : Grouped) (n m : ℕ) (q : Point) (before : Past) → Stands s c (q ∷ before) → Stands s c (arrival n m ∷ q ∷ before) }
+    ensures act { (c : Model) (s : Grouped) (a d g n m : ℕ) (before : Past) → Stands s c before → d < length s.domains → 1 ≤ g → g ≤ (groups_of c d).count
+        → Stands (after_act d g (now (at n m (activated a d g) ∷ before)) s) c (at n m (activated a d g) ∷ before) }
+    ensures edit { (c : Model) (s : Grouped) (a d g n m : ℕ) (before : Past) → Stands s c before → d < length s.domains → g ≤ (groups_of c d).count
+        → Stands (after_edit d a g s) c (at n m (edited a d g) ∷ before) }
+    ensures write { (c : Model) (s : Grouped) (a k n m : ℕ) (v : Value) (before : Past) → Stands s c before → k < length s.settings
+        → Stands (after_copy k v s) c (at n m (copied a (setting_at s k).attr v) ∷ before) }
+    ensures confirm { (c : Model) (s : Grouped) (a d n m : ℕ) (before : Past) → Stands s c before → d < length s.domains → is_some (edit d before) ≡ true
+        → Stands (after_confirm d s) c (at n m (confirmed a d) ∷ before) }
+    ensures loss { (c : Model) (s : Grouped) (a n m : ℕ) (before : Past) → Stands s c before
+        → Stands (after_loss a s) c (at n m (lost a) ∷ before) }
+    ensures values { (c : Model) (s : Grouped) (n m : ℕ) (settings : List Setting) (before : Past) → Stands s c before
+        → Stands (after_values settings s) c (at n m (valued settings) ∷ before) }
+    ensures quiet { (c : Model) (s : Grouped) (n m : ℕ) (d : Deed) (before : Past) → Stands s c before → IsQuiet d
+        → Stands s c (at n m d ∷ before) }
+{}
+
+/// What comes of a client's writes is what the model of the bay has.
+pub fn writes_are_answered()
+    ensures act { (c : Model) (s : Grouped) (a d : ℕ) (v : Value) (past : Past) → Stands s c past → d < length s.domains → 1 ≤ (groups_of c d).count
+        → write_part c a d ActSG v past ≡ outcome_by (act_answer (domain_at s d) v) (activated a d (number_in v)) }
+    ensures edit { (c : Model) (s : Grouped) (a d : ℕ) (v : Value) (past : Past) → Stands s c past → d < length s.domains → 1 ≤ (groups_of c d).count
+        → write_part c a d EditSG v past ≡ outcome_by (edit_answer a (domain_at s d) v) (edited a d (number_in v)) }
+    ensures copy { (c : Model) (s : Grouped) (a k y : ℕ) (v : Value) (past : Past) → Stands s c past → k < length s.settings → IsTwin c y (setting_at s k)
+        → write_attribute c a y v model.edited past ≡ outcome_by (copy_answer (holds a (domain_at s (setting_at s k).domain)) (setting_at s k) v) (copied a (setting_at s k).attr v) }
+    ensures confirm { (c : Model) (s : Grouped) (a d : ℕ) (v : Value) (past : Past) → Stands s c past → d < length s.domains → 1 ≤ (groups_of c d).count
+        → write_part c a d CnfEdit v past ≡ confirm_outcome (stored_answer a (domain_at s d) v) (if is_on v then confirmed a d else nothing) }
+{}
+
+/// What is read of them is what the model of the bay has.
+pub fn reads_are_shown()
+    ensures active { (c : Model) (s : Grouped) (k : ℕ) (past : Past) → Stands s c past → k < length s.settings
+        → (slice_index_or (setting_at s k).groups (active_place (domain_at s (setting_at s k).domain)) (setting_at s k).copy).value ≡ stored c (setting_at s k).attr past (group (active c (attr_of c (setting_at s k).attr).domain past)) }
+    ensures copy { (c : Model) (s : Grouped) (k y : ℕ) (past : Past) → Stands s c past → k < length s.settings → IsTwin c y (setting_at s k)
+        → read_attribute c model.edited y past ≡ (if is_some (domain_at s (setting_at s k).domain).edit then Ok (setting_at s k).copy.value else Err 2) }
+    ensures count { (c : Model) (s : Grouped) (d : ℕ) (past : Past) → Stands s c past → d < length s.domains → 1 ≤ (groups_of c d).count → read_setting c d NumOfSG past ≡ kinds.Uint (domain_at s d).count }
+    ensures act { (c : Model) (s : Grouped) (d : ℕ) (past : Past) → Stands s c past → d < length s.domains → 1 ≤ (groups_of c d).count → read_setting c d ActSG past ≡ kinds.Uint (domain_at s d).active }
+    ensures edit { (c : Model) (s : Grouped) (d : ℕ) (past : Past) → Stands s c past → d < length s.domains → 1 ≤ (groups_of c d).count → read_setting c d EditSG past ≡ kinds.Uint (edit_number (domain_at s d)) }
+{}
+
+/// The values of the SG attributes after a group was made the active one, and after an edit was confirmed: those of the
+/// group, and, where the active group was edited, those of the copy.
+pub fn values_are_set()
+    ensures act { (c : Model) (s : Grouped) (a d g k n m : ℕ) (before : Past) → Stands s c before → d < length s.domains → 1 ≤ g → g ≤ (groups_of c d).count → k < length s.settings
+        → value_at c (setting_at s k).attr (at n m (activated a d g) ∷ before) ≡ (if (setting_at s k).domain == d then (slice_index_or (setting_at s k).groups (g - 1) (setting_at s k).copy).value else value_at c (setting_at s k).attr before) }
+    ensures confirm { (c : Model) (s : Grouped) (a d k n m : ℕ) (before : Past) → Stands s c before → d < length s.domains → is_some (edit d before) ≡ true → k < length s.settings
+        → value_at c (setting_at s k).attr (at n m (confirmed a d) ∷ before) ≡ (if ((setting_at s k).domain == d) && (edit_number (domain_at s d) == (domain_at s d).active) then (setting_at s k).copy.value else value_at c (setting_at s k).attr before) }
+{}
