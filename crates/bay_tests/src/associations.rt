@@ -22,9 +22,10 @@ fn reply(alloc: Global, invoke: u32) -> Waiting
 
 #[test]
 fn a_reply_waits_until_it_is_taken(rt: HostRuntime) -> Result<(), Fail> {
+    let mut right = true;
     let a = AssocNo(16);
     let mut table = Assocs::open(rt.alloc())?;
-    assert!(rt; !table.is_open(a));
+    right &= !table.is_open(a);
     table.end(a);
     let ends = Ends {
         opener: ActorNo(3),
@@ -32,13 +33,14 @@ fn a_reply_waits_until_it_is_taken(rt: HostRuntime) -> Result<(), Fail> {
         size: 65000,
     };
     table.start(a, ends);
-    assert!(rt; table.opener(a) == Some(ActorNo(3)));
-    assert!(rt; table.writer(a) == Some(ActorNo(4)));
-    assert!(rt; table.size(a) == Some(65000));
-    assert!(rt; table.queue(a, reply(rt.alloc(), 7)).is_ok());
-    assert!(rt; !table.is_full(a));
-    assert!(rt; table.oldest(a).is_some());
-    assert!(rt; table.pop(a).is_some());
-    assert!(rt; table.pop(a).is_none());
+    right &= table.opener(a) == Some(ActorNo(3));
+    right &= table.writer(a) == Some(ActorNo(4));
+    right &= table.size(a) == Some(65000);
+    right &= table.queue(a, reply(rt.alloc(), 7)).is_ok();
+    right &= !table.is_full(a);
+    right &= table.oldest(a).is_some();
+    right &= table.pop(a).is_some();
+    right &= table.pop(a).is_none();
+    assert!(rt; right);
     Ok(())
 }

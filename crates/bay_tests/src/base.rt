@@ -49,7 +49,7 @@ fn numbers_have_the_fewest_octets(rt: HostRuntime) {
         (i64::MIN, 10),
     ];
     for (number, want) in signed {
-        assert_eq!(rt; data_len(&Value::Int(number)), want, "integer {number}");
+        assert!(rt; data_len(&Value::Int(number)) == want, "integer {number}");
     }
     let unsigned = [
         (0, 3),
@@ -62,32 +62,27 @@ fn numbers_have_the_fewest_octets(rt: HostRuntime) {
         (u64::MAX, 11),
     ];
     for (number, want) in unsigned {
-        assert_eq!(rt; data_len(&Value::Uint(number)), want, "unsigned {number}");
+        assert!(rt; data_len(&Value::Uint(number)) == want, "unsigned {number}");
     }
 }
 
 #[test]
 fn plain_values_have_their_lengths(rt: HostRuntime) -> Result<(), Fail> {
+    let mut right = true;
     let alloc = rt.alloc();
-    assert_eq!(rt; data_len(&Value::Bool(false)), 3);
-    assert_eq!(rt;
-        data_len(&Value::Time(Utc {
-            secs: 1,
-            frac: 0xffffff,
-            quality: 0x0a
-        })),
-        10
-    );
-    assert_eq!(rt;
-        data_len(&Value::Stamp(Stamp {
-            ms: 86399999,
-            days: 65535
-        })),
-        8
-    );
-    assert_eq!(rt; data_len(&Value::Text(octs(alloc, b"Ev1")?)), 5);
-    assert_eq!(rt; data_len(&Value::Octets(octs(alloc, &[0; 8])?)), 10);
-    assert_eq!(rt; data_len(&Value::Other), 0);
+    right &= data_len(&Value::Bool(false)) == 3;
+    right &= data_len(&Value::Time(Utc {
+        secs: 1,
+        frac: 0xffffff,
+        quality: 0x0a,
+    })) == 10;
+    right &= data_len(&Value::Stamp(Stamp {
+        ms: 86399999,
+        days: 65535,
+    })) == 8;
+    right &= data_len(&Value::Text(octs(alloc, b"Ev1")?)) == 5;
+    right &= data_len(&Value::Octets(octs(alloc, &[0; 8])?)) == 10;
+    right &= data_len(&Value::Other) == 0;
     for (count, want) in [
         (0, 3),
         (1, 4),
@@ -98,7 +93,7 @@ fn plain_values_have_their_lengths(rt: HostRuntime) -> Result<(), Fail> {
         (16, 5),
         (64, 11),
     ] {
-        assert_eq!(rt; data_len(&bits(alloc, count)?), want, "{count} bits");
+        assert!(rt; data_len(&bits(alloc, count)?) == want, "{count} bits");
     }
     // a length of one octet, 81 and one, 82 and two, 83 and three
     for (count, want) in [
@@ -110,31 +105,32 @@ fn plain_values_have_their_lengths(rt: HostRuntime) -> Result<(), Fail> {
         (65535, 65539),
         (65536, 65541),
     ] {
-        assert_eq!(rt; data_len(&text(alloc, count)?), want, "{count} octets");
+        assert!(rt; data_len(&text(alloc, count)?) == want, "{count} octets");
     }
+    assert!(rt; right);
     Ok(())
 }
 
 #[test]
 fn structures_have_a_head_and_their_parts(rt: HostRuntime) -> Result<(), Fail> {
+    let mut right = true;
     let alloc = rt.alloc();
-    assert_eq!(rt;
-        data_len(&Value::Struct(Values::from_vec(Vec::new(alloc)))),
-        2
-    );
-    assert_eq!(rt; data_len(&status(alloc)?), 20);
+    right &= data_len(&Value::Struct(Values::from_vec(Vec::new(alloc)))) == 2;
+    right &= data_len(&status(alloc)?) == 20;
     let pair = vec![in alloc;
         status(alloc)?,
         Value::Struct(Values::from_vec(vec![in alloc; Value::Int(300)]?)),
     ]?;
-    assert_eq!(rt; data_len(&Value::Struct(Values::from_vec(pair))), 28);
+    right &= data_len(&Value::Struct(Values::from_vec(pair))) == 28;
     let long = vec![in alloc; text(alloc, 255)?, Value::Bool(true)]?;
-    assert_eq!(rt; data_len(&Value::Struct(Values::from_vec(long))), 265);
+    right &= data_len(&Value::Struct(Values::from_vec(long))) == 265;
+    assert!(rt; right);
     Ok(())
 }
 
 #[test]
 fn a_moment_is_within_its_range(rt: HostRuntime) -> Result<(), Fail> {
+    let mut right = true;
     for (ms, is_moment) in [
         (0, false),
         (441763199999, false),
@@ -143,17 +139,17 @@ fn a_moment_is_within_its_range(rt: HostRuntime) -> Result<(), Fail> {
         (4294967296000, false),
         (u64::MAX, false),
     ] {
-        assert_eq!(rt;
-            Moment::new(ms).map(Moment::ms),
-            if is_moment { Some(ms) } else { None },
+        assert!(rt;
+            Moment::new(ms).map(Moment::ms) == if is_moment { Some(ms) } else { None },
             "{ms}"
         );
     }
     let last = Moment::new(4294967295999).ok_or("last")?;
-    assert_eq!(rt; Moment::first().ms(), 441763200000);
-    assert_eq!(rt; last.later(Moment::first()), last);
-    assert_eq!(rt; Moment::first().later(last), last);
-    assert!(rt; Moment::first() < last);
+    right &= Moment::first().ms() == 441763200000;
+    right &= last.later(Moment::first()) == last;
+    right &= Moment::first().later(last) == last;
+    right &= Moment::first() < last;
+    assert!(rt; right);
     Ok(())
 }
 
@@ -167,33 +163,36 @@ fn bits_of(part: &Part1) -> u16 {
 
 #[test]
 fn lists_keep_what_they_are_given(rt: HostRuntime) -> Result<(), Fail> {
+    let mut right = true;
     let alloc = rt.alloc();
     let values = Values::from_vec(vec![in alloc; Value::Int(1), Value::Int(300)]?);
-    assert_eq!(rt; values.len(), 2);
-    assert_eq!(rt; values.get(1).map(data_len), Some(4));
-    assert!(rt; values.get(2).is_none());
-    assert_eq!(rt; values.into_vec().len(), 2);
+    right &= values.len() == 2;
+    right &= values.get(1).map(data_len) == Some(4);
+    right &= values.get(2).is_none();
+    right &= values.into_vec().len() == 2;
 
     let quality = Part1 {
         name: octs(alloc, b"q")?,
         kind: TypeOf::Bits(13),
     };
     let parts = Parts::from_vec(vec![in alloc; quality]?);
-    assert_eq!(rt; parts.len(), 1);
-    assert_eq!(rt; parts.get(0).map(bits_of), Some(13));
-    assert_eq!(rt; parts.as_slice().len(), 1);
-    assert_eq!(rt; parts.into_vec().len(), 1);
+    right &= parts.len() == 1;
+    right &= parts.get(0).map(bits_of) == Some(13);
+    right &= parts.as_slice().len() == 1;
+    right &= parts.into_vec().len() == 1;
 
     let names = OctsList::from_vec(vec![in alloc; octs(alloc, b"a")?, octs(alloc, b"bc")?]?);
-    assert_eq!(rt; names.len(), 2);
-    assert_eq!(rt; names.get(1).map(Octs::len), Some(2));
-    assert!(rt; names.get(2).is_none());
-    assert_eq!(rt; names.into_vec().len(), 2);
+    right &= names.len() == 2;
+    right &= names.get(1).map(Octs::len) == Some(2);
+    right &= names.get(2).is_none();
+    right &= names.into_vec().len() == 2;
+    assert!(rt; right);
     Ok(())
 }
 
 #[test]
 fn a_configuration_keeps_its_lines(rt: HostRuntime) -> Result<(), Fail> {
+    let mut right = true;
     let alloc = rt.alloc();
     let attr = AttrDef {
         line: 5,
@@ -208,10 +207,11 @@ fn a_configuration_keeps_its_lines(rt: HostRuntime) -> Result<(), Fail> {
         values: Values::from_vec(vec![in alloc; Value::Int(1)]?),
     };
     let attrs = AttrDefs::from_vec(vec![in alloc; attr]?);
-    assert_eq!(rt; attrs.len(), 1);
-    assert_eq!(rt; attrs.get(0).map(|attr| attr.line), Some(5));
-    assert!(rt; attrs.get(1).is_none());
-    assert_eq!(rt; attrs.into_vec().len(), 1);
+    right &= attrs.len() == 1;
+    right &= attrs.get(0).map(|attr| attr.line) == Some(5);
+    right &= attrs.get(1).is_none();
+    right &= attrs.into_vec().len() == 1;
+    assert!(rt; right);
     Ok(())
 }
 
@@ -222,7 +222,7 @@ fn copies_are_the_same(rt: HostRuntime) -> Result<(), Fail> {
     let nested = vec![in alloc; status(alloc)?, name, Value::Other]?;
     let copy = copy_value(alloc, &Value::Struct(Values::from_vec(nested)))?;
     // a2 1b, the status of 20 octets, 8a 03 'Pos'
-    assert_eq!(rt; data_len(&copy), 27);
+    assert!(rt; data_len(&copy) == 27);
 
     let quality = Part1 {
         name: octs(alloc, b"q")?,

@@ -22,6 +22,7 @@ fn shown(rt: &HostRuntime, ring: &Ring, n: u64) -> Result<Option<String>, Fail> 
 // Entries of 31 octets in a buffer of 200: of nine six are retained.
 #[test]
 fn the_newest_that_fit_are_retained(rt: HostRuntime) -> Result<(), Fail> {
+    let mut right = true;
     let mut ring = Ring::open(rt.alloc(), 200)?;
     for n in 1..=9u8 {
         ring.append(
@@ -30,8 +31,8 @@ fn the_newest_that_fit_are_retained(rt: HostRuntime) -> Result<(), Fail> {
             &[0, 3, 0, 64, 133, 1, n],
         );
     }
-    assert_eq!(rt; ring.len(), 9);
-    assert_eq!(rt; ring.front(), 3);
+    right &= ring.len() == 9;
+    right &= ring.front() == 3;
     for (n, wanted) in [
         (0, None),
         (3, None),
@@ -40,26 +41,26 @@ fn the_newest_that_fit_are_retained(rt: HostRuntime) -> Result<(), Fail> {
         (10, None),
     ] {
         let found = shown(&rt, &ring, n)?;
-        assert_eq!(rt; found.as_ref().map(String::as_str), wanted, "entry {n}");
+        assert!(rt; found.as_ref().map(String::as_str) == wanted, "entry {n}");
     }
     ring.purge();
-    assert_eq!(rt; ring.len(), 9);
-    assert_eq!(rt; ring.front(), 9);
+    right &= ring.len() == 9;
+    right &= ring.front() == 9;
+    assert!(rt; right);
     Ok(())
 }
 
 // An entry of 32 octets in a buffer of 31 takes a number and goes at once, the next one of 31 is retained.
 #[test]
 fn an_entry_larger_than_the_buffer_takes_a_number(rt: HostRuntime) -> Result<(), Fail> {
+    let mut right = true;
     let mut ring = Ring::open(rt.alloc(), 31)?;
     ring.append(Moment::first(), 1, &[0, 3, 0, 64, 133, 2, 1, 44]);
-    assert_eq!(rt; (ring.len(), ring.front()), (1, 1));
+    right &= (ring.len(), ring.front()) == (1, 1);
     ring.append(Moment::first(), 2, &[0, 3, 0, 64, 133, 1, 1]);
-    assert_eq!(rt; (ring.len(), ring.front()), (2, 1));
+    right &= (ring.len(), ring.front()) == (2, 1);
     let found = shown(&rt, &ring, 2)?;
-    assert_eq!(rt;
-        found.as_ref().map(String::as_str),
-        Some("2: 0 3 0 64 133 1 1")
-    );
+    right &= found.as_ref().map(String::as_str) == Some("2: 0 3 0 64 133 1 1");
+    assert!(rt; right);
     Ok(())
 }

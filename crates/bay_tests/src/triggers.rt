@@ -106,7 +106,7 @@ fn reasons_by_trigger(rt: HostRuntime) -> Result<(), Fail> {
     for (changes, trg, wanted) in table {
         let mut out = Note::new(rt.alloc(), 3)?;
         note(changes, &set, trg, &mut out);
-        assert_eq!(rt; told(&rt, &out)?.as_str(), wanted, "note");
+        assert!(rt; told(&rt, &out)?.as_str() == wanted, "note");
     }
     Ok(())
 }

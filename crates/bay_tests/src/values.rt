@@ -130,9 +130,9 @@ fn number(store: &Store, attr: u32) -> i64 {
 fn sets_in_the_order_of_refusals(rt: HostRuntime) -> Result<(), Fail> {
     let alloc = rt.alloc();
     let mut store = Store::open(alloc, &config(alloc)?)?;
-    assert_eq!(rt; store.len(), 6, "attributes");
+    assert!(rt; store.len() == 6);
     for (attr, wanted) in [(0, 7), (1, 1), (2, 0), (3, 4), (4, 30000), (5, 1)] {
-        assert_eq!(rt; number(&store, attr), wanted, "configured");
+        assert!(rt; number(&store, attr) == wanted, "configured");
     }
     let cases = [
         (0, Value::Int(8), false, Some(Ok(true))),
@@ -147,14 +147,13 @@ fn sets_in_the_order_of_refusals(rt: HostRuntime) -> Result<(), Fail> {
         (5, Value::Int(0), true, Some(Err(SetFault::ReadOnly))),
     ];
     for (attr, value, by_client, wanted) in &cases {
-        assert_eq!(rt;
-            outcome(&mut store, *attr, value, *by_client),
-            *wanted,
+        assert!(rt;
+            outcome(&mut store, *attr, value, *by_client) == *wanted,
             "setting"
         );
     }
     for (attr, wanted) in [(0, 8), (1, 0), (2, 0), (5, 1)] {
-        assert_eq!(rt; number(&store, attr), wanted, "afterwards");
+        assert!(rt; number(&store, attr) == wanted, "afterwards");
     }
     Ok(())
 }
@@ -174,8 +173,9 @@ fn writes_members_in_the_order_of_their_type(rt: HostRuntime) -> Result<(), Fail
     let alloc = rt.alloc();
     let store = Store::open(alloc, &config(alloc)?)?;
     assert!(rt; 2 < store.len());
-    assert!(rt; matches!(store.get(AttrId(1)), ValueRef::Bool(_)));
-    assert!(rt; matches!(store.get(AttrId(2)), ValueRef::Bool(_)));
+    let mut right = true;
+    right &= matches!(store.get(AttrId(1)), ValueRef::Bool(_));
+    right &= matches!(store.get(AttrId(2)), ValueRef::Bool(_));
     let parts = vec![in alloc; part(alloc, b"general")?, part(alloc, b"phsA")?]?;
     let shape = MemberShape {
         node: NodeId(3),
@@ -184,10 +184,8 @@ fn writes_members_in_the_order_of_their_type(rt: HostRuntime) -> Result<(), Fail
     };
     let mut out = Fixed::new(alloc, 8)?;
     let count = store.member_bytes(&shape, &mut out);
-    assert_eq!(rt; count, 8);
-    assert_eq!(rt;
-        out.as_slice(),
-        [0xa2, 6, 0x83, 1, 0, 0x83, 1, 0xff].as_slice()
-    );
+    right &= count == 8;
+    right &= out.as_slice() == [0xa2, 6, 0x83, 1, 0, 0x83, 1, 0xff].as_slice();
+    assert!(rt; right);
     Ok(())
 }

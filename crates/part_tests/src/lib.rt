@@ -4,4 +4,6 @@
 #[cfg(test)]
 mod controls;
 #[cfg(test)]
+mod touched;
+#[cfg(test)]
 mod windows;

@@ -1,0 +1,213 @@
+//! Which members of data sets changes touch, and the notes that are gathered from them (IEC 61850-7-2, DATA-SET).
+
+ghost use Rattle.std.specs.Prelude.{◌≡◌, ◌≤◌, ◌<◌, ◌∷◌, [], List, length, IfOk};
+ghost use Rattle.std.specs.List.{All};
+ghost use Rattle.bay_model.specs.declared.flags.Change.{Change as ChangeValue};
+ghost use Rattle.bay_model.specs.declared.tables.MemberShape.{MemberShape as ShapeValue};
+ghost use Rattle.touch_index.specs.Indexed.{AreAmong, pairs};
+ghost use Rattle.touch_index.specs.Gathered.{AreOnce, IsSetOf};
+
+use bay_model::{AttrIds, Change, Flags, MemberShape, Note, SetView, Trg};
+use std::alloc::{AllocError, Global};
+use std::test::*;
+use sv_base::{AttrId, BlockNo, NodeId, TypeOf};
+use touch_index::{Index, Notes};
+
+const ALL: Trg = Trg {
+    dchg: true,
+    qchg: true,
+    dupd: true,
+    intg: true,
+    gi: true,
+};
+
+const UPDATE: Trg = Trg {
+    dchg: false,
+    qchg: false,
+    dupd: true,
+    intg: false,
+    gi: false,
+};
+
+/// The value of an attribute differs.
+fn differs(attr: u32, dchg: bool, qchg: bool) -> Change
+    ensures { result.attr.0 ≡ attr }
+{
+    let flags = Flags {
+        dchg,
+        qchg,
+        dupd: false,
+    };
+    Change {
+        attr: AttrId(attr),
+        flags,
+        differs: true,
+    }
+}
+
+/// An attribute is set to the value that it has.
+fn updated(attr: u32) -> Change
+    ensures { result.attr.0 ≡ attr }
+{
+    let flags = Flags {
+        dchg: true,
+        qchg: false,
+        dupd: true,
+    };
+    Change {
+        attr: AttrId(attr),
+        flags,
+        differs: false,
+    }
+}
+
+/// A member of two attributes.
+fn pair(alloc: Global, x: u32, y: u32) -> Result<MemberShape, AllocError>
+    ensures { IfOk result (λ m. m.attrs ≡ record { 0 = x } ∷ record { 0 = y } ∷ []) }
+{
+    Ok(MemberShape {
+        node: NodeId(0),
+        kind: TypeOf::Bool,
+        attrs: AttrIds::from_vec(vec![in alloc; AttrId(x), AttrId(y)]?),
+    })
+}
+
+/// An index of four attributes and two blocks of these members.
+fn opened(alloc: Global, first: &[MemberShape], second: &[MemberShape]) -> Result<Index, AllocError>
+    requires few { length first.now ≤ 4 }
+    requires few_too { length second.now ≤ 4 }
+    requires room { pairs first.now ≤ 4 }
+    requires room_too { pairs second.now ≤ 4 }
+    requires among { AreAmong 4 first.now }
+    requires among_too { AreAmong 4 second.now }
+    ensures attrs { IfOk result (λ x. x.attrs ≡ 4) }
+    ensures count { IfOk result (λ x. length x.blocks ≡ 2) }
+    ensures first { IfOk result (λ x. IsSetOf x.blocks 0 first.now) }
+    ensures second { IfOk result (λ x. IsSetOf x.blocks 1 second.now) }
+{
+    let mut index = Index::open(alloc, 2, 4)?;
+    index.reserve(BlockNo(0), 4)?;
+    index.reserve(BlockNo(1), 4)?;
+    index.put(BlockNo(0), &SetView { members: first });
+    index.put(BlockNo(1), &SetView { members: second });
+    Ok(index)
+}
+
+/// What an attribute touches: of each touch the digits of attribute, block and member.
+fn touches(index: &Index, attr: u32) -> u64
+    requires { attr < index.now.attrs }
+{
+    let mut told = 0u64;
+    for touch in index.touched(AttrId(attr)) {
+        let digits = u64::from(touch.attr.0)
+            .wrapping_mul(100)
+            .wrapping_add(u64::from(touch.block.0).wrapping_mul(10))
+            .wrapping_add(u64::from(touch.member.0));
+        told = told.wrapping_mul(1000).wrapping_add(digits);
+    }
+    told
+}
+
+/// What the four attributes touch.
+fn all_touches(index: &Index) -> [u64; 4]
+    requires { index.now.attrs ≡ 4 }
+{
+    [
+        touches(index, 0),
+        touches(index, 1),
+        touches(index, 2),
+        touches(index, 3),
+    ]
+}
+
+/// Of each member of a note its digit, and behind it 1 for data-change, 2 for quality-change, 4 for data-update, and their sums.
+fn told_by(note: &Note) -> u32 {
+    let mut told = 0u32;
+    for mention in note.as_slice() {
+        let reasons = u32::from(mention.reasons.dchg)
+            | u32::from(mention.reasons.qchg) << 1
+            | u32::from(mention.reasons.dupd) << 2;
+        let digits = mention.member.0.wrapping_mul(10).wrapping_add(reasons);
+        told = told.wrapping_mul(100).wrapping_add(digits);
+    }
+    told
+}
+
+/// The note of a block, told.
+fn noted(
+    alloc: Global,
+    index: &Index,
+    b: u32,
+    changes: &[Change],
+    trg: Trg,
+) -> Result<u32, AllocError>
+    requires attrs { All (λ (ch : ChangeValue). ch.attr.0 < index.now.attrs) changes.now }
+    requires known { (members : List ShapeValue) × IsSetOf index.now.blocks b members × (length members ≤ 4) }
+    requires once { AreOnce changes.now }
+{
+    let mut out = Note::new(alloc, 4)?;
+    index.note(BlockNo(b), changes, trg, &mut out);
+    Ok(told_by(&out))
+}
+
+/// The block that was met last and its note, which is emptied.
+fn taken(notes: &mut Notes) -> (Option<u32>, u32) {
+    match notes.last() {
+        Some(b) => {
+            let told = (Some(b.0), told_by(notes.note(b)));
+            notes.clear_last();
+            told
+        }
+        None => (None, 0),
+    }
+}
+
+/// The notes of both blocks, gathered, each with its block, and what is left then.
+fn gathered(
+    alloc: Global,
+    index: &Index,
+    changes: &[Change],
+    trgs: &[Trg],
+) -> Result<[(Option<u32>, u32); 3], AllocError>
+    requires attrs { All (λ (ch : ChangeValue). ch.attr.0 < index.now.attrs) changes.now }
+    requires count { length index.now.blocks ≡ 2 }
+    requires trgs { length trgs.now ≡ 2 }
+    requires first { (members : List ShapeValue) × IsSetOf index.now.blocks 0 members × (length members ≤ 4) }
+    requires second { (members : List ShapeValue) × IsSetOf index.now.blocks 1 members × (length members ≤ 4) }
+    requires once { AreOnce changes.now }
+{
+    let mut notes = Notes::new(alloc, 2, 4)?;
+    index.gather(changes, trgs, &mut notes);
+    Ok([taken(&mut notes), taken(&mut notes), taken(&mut notes)])
+}
+
+// Attribute 1 is held by both members of the first block and by the one of the second; a block without members is touched by none.
+#[test]
+fn an_attribute_touches_the_members_that_hold_it(rt: HostRuntime) -> Result<(), AllocError> {
+    let alloc = rt.alloc();
+    let first = [pair(alloc, 0, 1)?, pair(alloc, 2, 1)?];
+    let second = [pair(alloc, 1, 3)?];
+    let mut index = opened(alloc, &first, &second)?;
+    let both = all_touches(&index);
+    index.clear(BlockNo(0));
+    let one = all_touches(&index);
+    assert!(rt; both == [1, 101102111, 202, 311] && one == [0, 111, 0, 311]);
+    Ok(())
+}
+
+// Data-change of attribute 0, quality-change of attribute 1 and data-update of attribute 2: both ways to a note.
+#[test]
+fn changes_are_noted_where_they_touch(rt: HostRuntime) -> Result<(), AllocError> {
+    let alloc = rt.alloc();
+    let first = [pair(alloc, 0, 1)?, pair(alloc, 2, 1)?];
+    let second = [pair(alloc, 1, 3)?];
+    let index = opened(alloc, &first, &second)?;
+    let changes = [differs(0, true, false), differs(1, false, true), updated(2)];
+    let one = noted(alloc, &index, 0, &changes, ALL)?;
+    let other = noted(alloc, &index, 1, &changes, UPDATE)?;
+    let all = gathered(alloc, &index, &changes, &[ALL, ALL])?;
+    let few = gathered(alloc, &index, &changes, &[UPDATE, UPDATE])?;
+    let right = all == [(Some(1), 12), (Some(0), 1326), (None, 0)];
+    assert!(rt; right && (one, other) == (1326, 0) && few == [(Some(0), 24), (None, 0), (None, 0)]);
+    Ok(())
+}
