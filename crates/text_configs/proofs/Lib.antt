@@ -23,5 +23,3 @@ pub mod BelowLaws
 pub mod MemberLaws
 pub mod ReferenceLaws
 pub mod ServableLaws
--- its setting groups
-pub mod GroupLaws

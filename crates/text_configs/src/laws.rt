@@ -6,16 +6,9 @@ ghost use Rattle.sv_base.specs.declared.config.BlockDef.{BlockDef};
 ghost use Rattle.sv_base.specs.declared.config.Config.{Config};
 ghost use Rattle.cfg_parser.specs.Looking.{config_at};
 ghost use Rattle.bay_config.specs.Servable.{IsServable};
-ghost use Rattle.setting_groups.specs.Opened.{IsGrouped};
 
 /// A configuration that is read from a text can be served by a bay, where it has no controls and no setting groups, and
 /// its blocks report at once and have no integrity period.
 pub fn texts_are_served()
     ensures { (text : List ℕ) (c : Config) → config_at text ≡ Ok c → c.controls ≡ [] → c.groups ≡ [] → All (λ (b : BlockDef). (b.buf_tm ≡ 0) × (b.intg_pd ≡ 0)) c.blocks → IsServable c }
-{}
-
-/// The setting groups of a configuration that is read from a text can be opened: each line has values of its type, and under SG
-/// one for each group of its domain, of which one is active at first.
-pub fn texts_have_groups()
-    ensures { (text : List ℕ) (c : Config) → config_at text ≡ Ok c → IsGrouped c }
 {}

@@ -6,4 +6,4 @@
 
 mod laws;
 
-pub use laws::{texts_are_served, texts_have_groups};
+pub use laws::texts_are_served;
