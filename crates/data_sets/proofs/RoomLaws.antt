@@ -79,9 +79,10 @@ bounded_define c b rows name ts h none =
       configured = omega (arith, h.configured, more);
       few = omega (arith, a.room, more, h.configured);
       small = λ k above below. elim (leb_tells (suc k) (length b.sets)) [
-        inl t ↦ subst (IsSmall c) (sym (at_front b.sets (defined_set name ts) no_set k t.1)) (h.small k above t.1)
+        | inl t ↦ subst (IsSmall c) (sym (at_front b.sets (defined_set name ts) no_set k t.1)) (h.small k above t.1)
         | inr t ↦ let last : k ≡ length b.sets = omega (arith, t.1, below, more) in
-            subst (IsSmall c) (sym (ap (λ i. slice_index_or (after_define name ts b).sets i no_set) last ∙ at_last b.sets (defined_set name ts) no_set)) new ];
+            subst (IsSmall c) (sym (ap (λ i. slice_index_or (after_define name ts b).sets i no_set) last ∙ at_last b.sets (defined_set name ts) no_set)) new
+      ];
     }
 
 removed_length : (bs : List Booked) (k : ℕ) → k < length bs → suc (length (take k bs ++ drop (suc k) bs)) ≡ length bs
