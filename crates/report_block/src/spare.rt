@@ -33,7 +33,10 @@ fn empty_member(alloc: Global) -> Member {
 }
 
 /// A report with nothing in it. It takes no memory.
-pub fn empty_report(alloc: Global) -> Report {
+pub fn empty_report(alloc: Global) -> Report
+    ensures texts { (result.rpt_id ≡ []) × (result.dat_set ≡ []) × (result.opt_flds ≡ []) }
+    ensures members { result.members ≡ [] }
+{
     Report {
         block: BlockNo(0),
         rpt_id: Octs::from_vec(Vec::new(alloc)),
