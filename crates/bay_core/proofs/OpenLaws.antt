@@ -1,19 +1,16 @@
 -- How a bay begins: what is found by a DatSet, and what each block stands for.
-use Rattle.std.proofs.Common.{◌≡◌, ◌≢◌, ◌<◌, ◌≤◌, ℕ, Bool, true, false, cond, ◌&&◌, List, [], ◌∷◌, ◌++◌, map, length, Option, None, Some, unwrap_or, refl, ap, ap₂, sym, ◌∙◌, subst, arith}
+use Rattle.std.proofs.Common.{suc, if◌then◌else◌, ◌≡◌, ◌<◌, ◌≤◌, ℕ, Bool, true, false, cond, List, [], ◌∷◌, ◌++◌, map, length, Option, None, Some, unwrap_or, refl, ap, sym, ◌∙◌, subst, arith}
 use Rattle.std.specs.Prelude.{slice_get, slice_index_or}
 use Rattle.std.specs.Option.{option_map}
 use Rattle.std.specs.List.{All}
 use Rattle.std.specs.Str.{bytes_eq}
-use Rattle.std.proofs.lemmas.Bool.Decides.{Decides-eqb}
 use Rattle.std.proofs.lemmas.List.{append-nil, length-map}
-use Rattle.std.proofs.lemmas.List.Elements.{All-map, All-head, All-tail}
+use Rattle.std.proofs.lemmas.List.Elements.{All-nil, All-map, All-head, All-tail}
 use Rattle.std.proofs.lemmas.Option.{slice_get-map}
-use Rattle.std.proofs.lemmas.Slice.Eq.{bytes_eq-Decides}
 use Rattle.list_laws.proofs.Places.{got-map}
 use Rattle.sv_base.specs.declared.config.Config.{Config}
 use Rattle.sv_base.specs.declared.config.BlockDef.{BlockDef}
 use Rattle.sv_base.specs.declared.numbers.NodeId.{NodeId}
-use Rattle.bay_model.specs.declared.tables.NodeRow.{NodeRow}
 use Rattle.bay_model.specs.declared.tables.SetRow.{SetRow}
 use Rattle.bay_model.specs.Configured.{block_defined}
 use Rattle.bay_model.specs.Lookups.{block_of, no_parameters, reference_of}
@@ -32,29 +29,10 @@ use Rattle.bay_core.proofs.ServedLaws.{served-few}
 use Rattle.report_block.specs.declared.block.ReportBlock.{ReportBlock}
 use Rattle.bay_core.specs.Opened.{is_referred, row_referred, nodes_referred, PartSeen, seen, part_defined}
 use Rattle.bay_config.specs.Servable.{IsServable}
+use Rattle.data_sets.specs.Books.{number_referred, set_at, opened as booked_rows}
+use Rattle.bay_core.proofs.WatchLaws.{some-same}
 use Rattle.bay_core.specs.State.{served_members}
 use Rattle.bay_core.specs.Standing.{PartsStand}
-
--- ---- references
-
--- what stands behind the same octets
-pub behind-same : (d xs ys : List ℕ) → bytes_eq (d ++ xs) (d ++ ys) ≡ bytes_eq xs ys
-behind-same [] xs ys = refl
-behind-same (o ∷ d) xs ys = ap₂ (λ s t. s && t) ((Decides-eqb o o).1 refl) (behind-same d xs ys)
-
--- what begins otherwise is another
-pub behind-other : (octets d xs : List ℕ) → ((rest : List ℕ) → octets ≢ d ++ rest) → bytes_eq octets (d ++ xs) ≡ false
-behind-other octets d xs other = either (bytes_eq octets (d ++ xs)) refl where
-  either : (t : Bool) → bytes_eq octets (d ++ xs) ≡ t → t ≡ false
-  either true is = absurd (other xs (grind (arith, bytes_eq-Decides octets (d ++ xs), is)))
-  either false is = refl
-
-pub is-reference : (octets d domain i item rest : List ℕ) (t : Bool) → octets ≡ d ++ rest → d ≡ domain → i ≡ item → t ≡ bytes_eq rest (47 ∷ i) → t ≡ bytes_eq octets (reference_of domain item)
-is-reference octets d domain i item rest t begins front back told = told ∙ (ap (λ x. bytes_eq rest (47 ∷ x)) back
-    ∙ (sym (behind-same d rest (47 ∷ item)) ∙ ap₂ (λ x y. bytes_eq x (y ++ 47 ∷ item)) (sym begins) front))
-
-pub no-reference : (octets d domain item : List ℕ) → d ≡ domain → ((rest : List ℕ) → octets ≢ d ++ rest) → false ≡ bytes_eq octets (reference_of domain item)
-no-reference octets d domain item front other = sym (behind-other octets d (47 ∷ item) other) ∙ ap (λ x. bytes_eq octets (x ++ 47 ∷ item)) front
 
 -- ---- the data set of a reference
 
@@ -73,11 +51,47 @@ sets-there c served = All-map (λ (r : SetRow). AreThere (length (node_rows c)) 
     omega (arith, ((served.sets k d below).members j e within).there, count-rows c)))
 
 -- and so are those of the set that a reference names
-pub referred-there : (c : Config) (table : List SetRow) (reference : List ℕ) (row : SetRow) (found : List NodeId) (rows : List NodeRow) → IsServable c → table ≡ set_rows c → row_referred reference table ≡ Some row
-    → found ≡ row.nodes → rows ≡ node_rows c → AreThere (length rows) found
-referred-there c table reference row found rows served tables is nodes all =
-    let there = found-has (λ (r : SetRow). AreThere (length (node_rows c)) r.nodes) reference table (subst (AllThere (length (node_rows c))) (sym tables) (sets-there c served)) row is in
-    subst (AreThere (length rows)) (sym nodes) (subst (λ (l : List NodeRow). AreThere (length l) row.nodes) (sym all) there)
+pub nodes-there : (c : Config) (reference : List ℕ) → IsServable c → AreThere (length (node_rows c)) (nodes_referred reference (set_rows c))
+nodes-there c reference served = by (row_referred reference (set_rows c)) refl
+  where
+    by : (o : Option SetRow) → row_referred reference (set_rows c) ≡ o → AreThere (length (node_rows c)) (unwrap_or (option_map (λ (r : SetRow). r.nodes) o) [])
+    by None is = All-nil (λ (n : NodeId). n.0 < length (node_rows c))
+    by (Some row) is = found-has (λ (r : SetRow). AreThere (length (node_rows c)) r.nodes) reference (set_rows c) (sets-there c served) row is
+
+-- ---- the number of a set in the book, and its nodes
+
+none-below : (o : Option ℕ) → option_map suc o ≡ None → o ≡ None
+none-below None is = refl
+none-below (Some k) is = cc
+
+some-below : (o : Option ℕ) (k : ℕ) → option_map suc o ≡ Some k → (j : ℕ) × (o ≡ Some j) × (k ≡ suc j)
+some-below None k is = cc
+some-below (Some j) k is = (j, refl, sym (some-same (suc j) k is))
+
+abbrev number : List ℕ → List SetRow → Option ℕ
+number reference rows = number_referred reference (booked_rows rows)
+
+-- where no set has the reference, there are no nodes of one
+pub none-booked : (reference : List ℕ) (rows : List SetRow) → number reference rows ≡ None → nodes_referred reference rows ≡ []
+none-booked reference [] is = refl
+none-booked reference (r ∷ rows) is = by (is_referred reference r) (none-booked reference rows) is
+  where
+    by : (t : Bool) → (number reference rows ≡ None → nodes_referred reference rows ≡ []) → (if t then Some 0 else option_map suc (number reference rows)) ≡ None
+        → unwrap_or (option_map (λ (r : SetRow). r.nodes) (cond t (Some r) (row_referred reference rows))) [] ≡ []
+    by true rest e = cc
+    by false rest e = rest (none-below (number reference rows) e)
+
+-- the set of the number that the reference has in the book
+pub some-booked : (reference : List ℕ) (rows : List SetRow) (k : ℕ) → number reference rows ≡ Some k → (k < length rows) × ((set_at (booked_rows rows) k).nodes ≡ nodes_referred reference rows)
+some-booked reference [] k is = cc
+some-booked reference (r ∷ rows) k is = by (is_referred reference r) (λ j. some-booked reference rows j) is
+  where
+    by : (t : Bool) → ((j : ℕ) → number reference rows ≡ Some j → (j < length rows) × ((set_at (booked_rows rows) j).nodes ≡ nodes_referred reference rows)) → (if t then Some 0 else option_map suc (number reference rows)) ≡ Some k
+        → (k < length (r ∷ rows)) × ((set_at (booked_rows (r ∷ rows)) k).nodes ≡ unwrap_or (option_map (λ (r : SetRow). r.nodes) (cond t (Some r) (row_referred reference rows))) [])
+    by true rest e = (let zero : 0 ≡ k = some-same 0 k e in (omega (arith, zero), ap (λ j. (set_at (booked_rows (r ∷ rows)) j).nodes) (sym zero)))
+    by false rest e =
+        let below = some-below (number reference rows) k e in
+        let known = rest below.0 below.1 in (omega (arith, known.0, below.2), ap (λ j. (set_at (booked_rows (r ∷ rows)) j).nodes) below.2 ∙ known.1)
 
 abbrev IsFew : SetRow → Type 0
 IsFew r = length r.nodes ≤ 256

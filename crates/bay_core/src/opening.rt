@@ -1,83 +1,58 @@
 //! A bay is opened.
 
-ghost use Rattle.std.specs.Prelude.{◌≡◌, ◌∷◌, [], IfOk, length, map, option_copied, replicate};
-ghost use Rattle.std.specs.Str.{bytes_eq};
-ghost use Rattle.bay_model.specs.Lookups.{reference_of};
+ghost use Rattle.std.specs.Prelude.{◌≡◌, [], IfOk, length, map, replicate};
 ghost use Rattle.object_model.specs.Nodes.{node_rows};
 ghost use Rattle.object_model.specs.Tables.{set_rows};
 ghost use Rattle.data_sets.specs.Booked.{shapes_of as shapes};
+ghost use Rattle.data_sets.specs.Books.{opened as booked};
 ghost use Rattle.assoc_table.specs.Seats.{closed};
 ghost use Rattle.value_store.specs.Opened.{opened};
 ghost use Rattle.bay_config.specs.Servable.{IsServable, IsServedBlock};
 ghost use Rattle.bay_core.specs.Standing.{StandsFor};
 ghost use Rattle.bay_core.specs.Watched.{IsWatching};
-ghost use Rattle.bay_core.specs.Opened.{row_referred, nodes_referred, seen, part_defined};
+ghost use Rattle.bay_core.specs.Opened.{nodes_referred, seen, part_defined};
 
 use crate::bay::Bay;
 use crate::values::Values;
 use crate::watch::Watch;
 use assoc_table::Assocs;
-use bay_model::{Change, Fixed, MemberShape, SetRow};
-use data_sets::shapes_of;
+use bay_model::{Change, Fixed, MemberShape};
+use data_sets::{SetBook, shapes_of};
 use object_model::Model;
 use report_block::ReportBlock;
 use std::alloc::{AllocError, Global};
 use sv_base::{BlockDef, Moment};
 
-/// Whether octets are a slash and an item.
-fn is_item(octets: &[u8], item: &[u8]) -> bool
-    ensures { result ≡ bytes_eq octets.now (47 ∷ item.now) }
-{
-    match octets {
-        [b'/', rest @ ..] => rest == item,
-        _ => false,
-    }
-}
-
-/// Whether a reference `LD/LN$NAME` is that of the data set of a row.
-fn refers(row: &SetRow, reference: &[u8]) -> bool
-    ensures { result ≡ bytes_eq reference.now (reference_of row.now.name.domain row.now.name.item) }
-{
-    match reference.strip_prefix(row.name.domain.as_slice()) {
-        Some(rest) => is_item(rest, row.name.item.as_slice()),
-        None => false,
-    }
-}
-
-/// The row of the data set of a reference; none exactly where it isn't there.
-fn referred<'a>(rows: &'a [SetRow], reference: &[u8]) -> Option<&'a SetRow>
-    ensures { option_copied result ≡ row_referred reference.now rows.now }
-{
-    for row in rows {
-        if refers(row, reference) {
-            return Some(row);
-        }
-    }
-    None
-}
-
 /// The shapes of the members of the data set that a block's DatSet names; none where it names none.
 fn member_shapes(
     alloc: Global,
     model: &Model,
+    book: &SetBook,
     def: &BlockDef,
 ) -> Result<Vec<MemberShape>, AllocError>
-    requires { IsServable model.now }
+    requires servable { IsServable model.now }
+    requires book { book.now ≡ booked (set_rows model.now) }
     ensures { IfOk result (λ v. v.items ≡ shapes (node_rows model.now) (nodes_referred def.now.dat_set (set_rows model.now))) }
 {
-    match referred(model.sets().as_slice(), def.dat_set.as_slice()) {
-        Some(row) => shapes_of(alloc, row.nodes.as_slice(), model.nodes().as_slice()),
+    match book.number_referred(def.dat_set.as_slice()) {
+        Some(number) => shapes_of(alloc, book.nodes(number), model.nodes().as_slice()),
         None => Ok(Vec::new(alloc)),
     }
 }
 
 /// A block with an empty buffer.
-fn part_of(alloc: Global, model: &Model, def: &BlockDef) -> Result<ReportBlock, AllocError>
+fn part_of(
+    alloc: Global,
+    model: &Model,
+    book: &SetBook,
+    def: &BlockDef,
+) -> Result<ReportBlock, AllocError>
     requires servable { IsServable model.now }
+    requires book { book.now ≡ booked (set_rows model.now) }
     requires served { IsServedBlock def.now }
     ensures { IfOk result (λ p. seen p ≡ part_defined model.now def.now) }
 {
-    let members = member_shapes(alloc, model, def)?;
+    let members = member_shapes(alloc, model, book, def)?;
     ReportBlock::open(alloc, def, members)
 }
 
@@ -86,9 +61,10 @@ fn parts_of(alloc: Global, model: &Model) -> Result<Vec<ReportBlock>, AllocError
     requires { IsServable model.now }
     ensures { IfOk result (λ v. map seen v.items ≡ map (part_defined model.now) model.now.blocks) }
 {
+    let book = SetBook::open(alloc, model.sets())?;
     let mut parts = Vec::new(alloc);
     for def in model.config().blocks.as_slice() {
-        parts.push(part_of(alloc, model, def)?)?;
+        parts.push(part_of(alloc, model, &book, def)?)?;
     }
     Ok(parts)
 }
