@@ -1,0 +1,6 @@
+pub mod FrontLaws
+pub mod ToldLaws
+pub mod ItemLaws
+pub mod SetLaws
+pub mod NamedLaws
+pub mod NodeLaws
