@@ -17,10 +17,11 @@ front-trans a b c (inl e) k = subst (λ x. IsFront x c) e k
 front-trans a b c (inr h) (inl k) = inr (h.0, k ∙ h.1)
 front-trans a b c (inr h) (inr k) = inr (h.0 ++ 36 ∷ k.0, k.1 ∙ (ap (λ l. l ++ 36 ∷ k.0) h.1 ∙ append_assoc a (36 ∷ h.0) (36 ∷ k.0)))
 
-abbrev Cut : List ℕ → Type 0
+-- a name without `$`, alone or before others
+abbrev pub Cut : List ℕ → Type 0
 Cut item = NoDollar item ⊎ ((a b : List ℕ) × NoDollar a × (item ≡ a ++ 36 ∷ b))
 
-cut : (item : List ℕ) → Cut item
+pub cut : (item : List ℕ) → Cut item
 cut [] = inl tt
 cut (o ∷ os) = by (o == 36) refl (cut os)
   where
@@ -33,7 +34,7 @@ cut (o ∷ os) = by (o == 36) refl (cut os)
     by false e (inr h) = inr (o ∷ h.0, h.1, (e, h.2), ap (λ l. o ∷ l) h.3)
 
 -- the first name
-front-first : (item : List ℕ) → IsFront (first item) item
+pub front-first : (item : List ℕ) → IsFront (first item) item
 front-first item = by (cut item)
   where
     by : Cut item → IsFront (first item) item
@@ -41,12 +42,16 @@ front-first item = by (cut item)
     by (inr h) = inr (h.1, h.3 ∙ ap (λ l. l ++ 36 ∷ h.1) (sym (ap first h.3 ∙ first-before h.0 h.1 h.2)))
 
 -- the first name and what stands behind it
-whole : (item : List ℕ) → (length (rest item) == 0) ≡ false → item ≡ first item ++ 36 ∷ rest item
+pub whole : (item : List ℕ) → (length (rest item) == 0) ≡ false → item ≡ first item ++ 36 ∷ rest item
 whole item some = by (cut item)
   where
     by : Cut item → item ≡ first item ++ 36 ∷ rest item
     by (inl h) = absurd (true≢false (ap (λ l. length l == 0) (sym (rest-alone item h)) ∙ some))
     by (inr h) = h.3 ∙ (ap (λ l. l ++ 36 ∷ h.1) (sym (ap first h.3 ∙ first-before h.0 h.1 h.2)) ∙ ap (λ l. first item ++ 36 ∷ l) (sym (ap rest h.3 ∙ rest-before h.0 h.1 h.2)))
+
+pub behind : (f item : List ℕ) (m : Named) → IsFront item m.item → (full : List ℕ) → full ≡ f ++ 36 ∷ m.item → IsFront (f ++ 36 ∷ item) full
+behind f item m (inl e) full is = inl (is ∙ ap (λ l. f ++ 36 ∷ l) e)
+behind f item m (inr h) full is = inr (h.0, is ∙ (ap (λ l. f ++ 36 ∷ l) h.1 ∙ sym (append_assoc f (36 ∷ item) (36 ∷ h.0))))
 
 -- what is named at a place or below it
 pub record IsNamedAt (before : List ℕ) (ns : List Named) (p : Place) : Type 0 where
@@ -70,10 +75,6 @@ named-at (suc l) before ns p i = let s = placed before l ns p i in by s.0 s.1.na
       is = ap (λ (q : Place). q.item) e;
       front = subst (λ g. IsFront g n.0.item) (sym n.1.is) (front-first n.0.item);
     }
-
-    behind : (f item : List ℕ) (m : Named) → IsFront item m.item → (full : List ℕ) → full ≡ f ++ 36 ∷ m.item → IsFront (f ++ 36 ∷ item) full
-    behind f item m (inl e) full is = inl (is ∙ ap (λ l. f ++ 36 ∷ l) e)
-    behind f item m (inr h) full is = inr (h.0, is ∙ (ap (λ l. f ++ 36 ∷ l) h.1 ∙ sym (append_assoc f (36 ∷ item) (36 ∷ h.0))))
 
     further : (f : List ℕ) → IsNamedAt (before ++ f ++ 36 ∷ []) (below f ns) p → IsNamedAt before ns p
     further f g = let b = below-of ns f g.name g.there in

@@ -4,3 +4,4 @@ pub mod ItemLaws
 pub mod SetLaws
 pub mod NamedLaws
 pub mod NodeLaws
+pub mod SubLaws
