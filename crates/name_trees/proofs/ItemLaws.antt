@@ -54,7 +54,7 @@ key domain item = domain ++ 47 ∷ item
 pub key-within : (d x y : List ℕ) → key d (within x y) ≡ below (key d x) y
 key-within d x y = sym (append_assoc d (47 ∷ x) (36 ∷ y))
 
-key-path : (d ln fc path : List ℕ) → key d (path_item ln fc path) ≡ item_key d ln fc path
+pub key-path : (d ln fc path : List ℕ) → key d (path_item ln fc path) ≡ item_key d ln fc path
 key-path d ln fc path = key-within d (within ln fc) path ∙ ap (λ x. below x path) (key-within d ln fc)
 
 keys-below : (d x front : List ℕ) (parts : List (List ℕ)) → key d x ≡ front → all_below front parts ≡ map (key d) (map (within x) parts)
@@ -123,10 +123,10 @@ turned x a b c i = first (either x a (b ++ c) i)
     first (inl j) = right x b (a ++ c) (left x a c j)
     first (inr j) = second (either x b c j)
 
-not-both : (n : ℕ) → (n == 2) ≡ true → (n == 4) ≡ true → ⊥
+pub not-both : (n : ℕ) → (n == 2) ≡ true → (n == 4) ≡ true → ⊥
 not-both n e f = grind (arith, nat_tests)
 
-abbrev settings_by : Bool → Bool → List (List ℕ)
+abbrev pub settings_by : Bool → Bool → List (List ℕ)
 settings_by two four = if two then codes "ctlModel" ∷ codes "sboTimeout" ∷ codes "sboClass" ∷ [] else if four then codes "ctlModel" ∷ codes "sboTimeout" ∷ codes "sboClass" ∷ [] else codes "ctlModel" ∷ []
 
 setting-items : (x : ℕ) (item : List ℕ) (control : CtlDef) → named_items (parameter_names x item (parameters control)) ≡ map (within item) (settings control.model)
@@ -138,22 +138,22 @@ setting-items x item control = by (control.model == 2) (control.model == 4)
     by false false = refl
 
 -- what stands under CO, by the model
-abbrev oper : List ℕ → List (List ℕ)
+abbrev pub oper : List ℕ → List (List ℕ)
 oper item = with_items (within item (codes "Oper")) (operation_parts (codes "Oper"))
 
-abbrev operations_by : Bool → Bool → List (List ℕ)
+abbrev pub operations_by : Bool → Bool → List (List ℕ)
 operations_by two four = if two then codes "Oper" ∷ codes "SBO" ∷ codes "Cancel" ∷ [] else if four then codes "Oper" ∷ codes "SBOw" ∷ codes "Cancel" ∷ [] else codes "Oper" ∷ []
 
-abbrev sbo_part : Bool → List ℕ → List (List ℕ)
+abbrev pub sbo_part : Bool → List ℕ → List (List ℕ)
 sbo_part two item = if two then within item (codes "SBO") ∷ [] else []
 
-abbrev sbow_part : Bool → List ℕ → List (List ℕ)
+abbrev pub sbow_part : Bool → List ℕ → List (List ℕ)
 sbow_part four item = if four then with_items (within item (codes "SBOw")) (operation_parts (codes "SBOw")) else []
 
-abbrev cancel_part : Bool → List ℕ → List (List ℕ)
+abbrev pub cancel_part : Bool → List ℕ → List (List ℕ)
 cancel_part selected item = if selected then with_items (within item (codes "Cancel")) (operation_parts (codes "Cancel")) else []
 
-abbrev control_part : Bool → Bool → List ℕ → List (List ℕ)
+abbrev pub control_part : Bool → Bool → List ℕ → List (List ℕ)
 control_part two four item = sbo_part two item ++ (sbow_part four item ++ (oper item ++ cancel_part (two || four) item))
 
 named-if : (b : Bool) (ns : List Named) → named_items (if b then ns else []) ≡ (if b then named_items ns else [])
@@ -163,13 +163,13 @@ named-if false ns = refl
 named-both : (a b : List Named) (x y : List (List ℕ)) → named_items a ≡ x → named_items b ≡ y → named_items (a ++ b) ≡ x ++ y
 named-both a b x y e f = map-append (λ (n : Named). n.item) a b ∙ ap₂ (λ p q. p ++ q) e f
 
-control-items : (k : ℕ) (control : CtlDef) (item : List ℕ) → named_items (control_names k control item) ≡ control_part (control.model == 2) (control.model == 4) item
+pub control-items : (k : ℕ) (control : CtlDef) (item : List ℕ) → named_items (control_names k control item) ≡ control_part (control.model == 2) (control.model == 4) item
 control-items k control item =
     named-both (sbo_names k control item) _ _ _ (named-if (control.model == 2) _)
     (named-both (sbow_names k control item) _ _ _ (named-if (control.model == 4) _)
     (named-both (oper_names k control item) (cancel_names k control item) _ _ refl (named-if (is_selected control) _)))
 
-operations-there : (two four : Bool) (item x : List ℕ) → (two ≡ true → four ≡ true → ⊥) → Among x (control_part two four item) → Among x (operation_items item (operations_by two four))
+pub operations-there : (two four : Bool) (item x : List ℕ) → (two ≡ true → four ≡ true → ⊥) → Among x (control_part two four item) → Among x (operation_items item (operations_by two four))
 operations-there true true item x h i = absurd (h refl refl)
 operations-there true false item x h i = turned x (sbo_part true item) (oper item) (cancel_part true item) i
 operations-there false true item x h i = turned x (sbow_part true item) (oper item) (cancel_part true item) i
@@ -181,7 +181,7 @@ operations-back true false item x h i = turned x (oper item) (sbo_part true item
 operations-back false true item x h i = turned x (oper item) (sbow_part true item) (cancel_part true item) i
 operations-back false false item x h i = i
 
-abbrev control_all : ℕ → ℕ → CtlDef → List Named
+abbrev pub control_all : ℕ → ℕ → CtlDef → List Named
 control_all k x control = control_names k control (path_item control.ln (codes "CO") control.path) ++ parameter_names x (path_item control.ln (codes "CF") control.path) (parameters control)
 
 control-all : (k x : ℕ) (control : CtlDef) → named_items (control_all k x control) ≡ control_part (control.model == 2) (control.model == 4) (path_item control.ln (codes "CO") control.path) ++ leaf_items (lines.Ctl control)

@@ -22,7 +22,8 @@ use Rattle.text_configs.proofs.NamedLaws.{bytes-same}
 use Rattle.text_configs.proofs.OrderLaws.{ordered, from-ordered, IsAttributeLine, attribute-line, line-of, block-line}
 use Rattle.name_trees.proofs.FrontLaws.{IsFront}
 use Rattle.name_trees.proofs.ToldLaws.{attr-told, block-told, control-told, groups-told, attr-in, block-in, control-in, groups-in}
-use Rattle.name_trees.proofs.ItemLaws.{domain_in, items, with_items, named_items, attribute-items, block-items, group-items, control-there, control-back}
+use Rattle.name_trees.proofs.FormLaws.{HasForm, attribute-form, block-form, control-form, group-form}
+use Rattle.name_trees.proofs.ItemLaws.{domain_in, items, leaf_items, closed_items, with_items, named_items, attribute-items, block-items, group-items, control-there, control-back}
 
 -- ---- lines of blocks and of controls
 
@@ -58,6 +59,7 @@ module _ (told : List Line) where
     pub there : Among line told
     pub domain_is : domain_in line ≡ domain
     pub item : Among n.item (items line)
+    pub form : HasForm line n
 
   -- the name of a logical node
   pub record IsHead (domain : List ℕ) (n : Named) : Type 0 where
@@ -83,6 +85,7 @@ module _ (told : List Line) where
     line = lines.Attr h.attr;
     there = attr-told told h.attr (at-among h.at h.attr c.attrs h.there);
     domain_is = sym (ap (λ (x : named.Line). x.domain) h.is) ∙ d;
+    form = attribute-form (0 + h.at) h.twin h.attr n (subst (λ (x : named.Line). Among n x.names) h.is j);
     item = listed n (attribute_names (0 + h.at) h.twin h.attr) (items (lines.Attr h.attr)) (attribute-items (0 + h.at) h.twin h.attr) (subst (λ (x : named.Line). Among n x.names) h.is j);
   })
 
@@ -91,6 +94,7 @@ module _ (told : List Line) where
     line = lines.Brcb h.0;
     there = block-told told h.0 h.2;
     domain_is = sym (ap (λ (x : named.Line). x.domain) h.3) ∙ d;
+    form = block-form h.1 h.0 n (subst (λ (x : named.Line). Among n x.names) h.3 j);
     item = inr (listed n (block_names h.1 (path_item h.0.ln (codes "BR") h.0.name)) (map (within (path_item h.0.ln (codes "BR") h.0.name)) block_parts) (block-items h.1 (path_item h.0.ln (codes "BR") h.0.name)) (subst (λ (x : named.Line). Among n x.names) h.3 j));
   })
 
@@ -99,6 +103,7 @@ module _ (told : List Line) where
     line = lines.Ctl h.0;
     there = control-told told h.0 h.3;
     domain_is = sym (ap (λ (x : named.Line). x.domain) h.4) ∙ d;
+    form = control-form h.1 h.2 h.0 n (subst (λ (x : named.Line). Among n x.names) h.4 j);
     item = control-there h.1 h.2 h.0 n.item (mapped (λ (m : Named). m.item) n (control_line h.1 h.2 h.0).names (subst (λ (x : named.Line). Among n x.names) h.4 j));
   })
 
@@ -107,6 +112,7 @@ module _ (told : List Line) where
     line = lines.Sgcb h.0;
     there = groups-told told h.0 h.1;
     domain_is = sym (ap (λ (x : named.Line). x.domain) h.2) ∙ d;
+    form = group-form (domain_number c h.0.domain) h.0 n (subst (λ (x : named.Line). Among n x.names) h.2 j);
     item = inr (listed n (setting_names (domain_number c h.0.domain)) (map (within (codes "LLN0$SP$SGCB")) group_parts) (group-items (domain_number c h.0.domain)) (subst (λ (x : named.Line). Among n x.names) h.2 j));
   })
 
@@ -143,10 +149,19 @@ module _ (told : List Line) where
     pub there : Among name (names_in c domain)
     pub front : IsFront item name.item
 
-  from-line : (l : named.Line) (item : List ℕ) → Among l (model_lines c) → Among item (named_items l.names) → IsBelow l.domain item
-  from-line l item i j = let s = source (λ (m : Named). m.item) item l.names j in record { name = s.0; there = names-there c l s.0 i s.1; front = inl (sym s.2) }
+  -- what is named at an item
+  pub record IsExact (domain item : List ℕ) : Type 0 where
+    pub name : Named
+    pub there : Among name (names_in c domain)
+    pub is : name.item ≡ item
 
-  attribute-there : (a : AttrDef) (item : List ℕ) → Among (lines.Attr a) told → Among item (items (lines.Attr a)) → IsBelow a.domain item
+  from-line : (l : named.Line) (item : List ℕ) → Among l (model_lines c) → Among item (named_items l.names) → IsExact l.domain item
+  from-line l item i j = let s = source (λ (m : Named). m.item) item l.names j in record { name = s.0; there = names-there c l s.0 i s.1; is = sym s.2 }
+
+  just : (domain item : List ℕ) → IsExact domain item → IsBelow domain item
+  just domain item e = record { name = e.name; there = e.there; front = inl e.is }
+
+  attribute-there : (a : AttrDef) (item : List ℕ) → Among (lines.Attr a) told → Among item (items (lines.Attr a)) → IsExact a.domain item
   attribute-there a item i j =
       let at = among-at a c.attrs (attr-in told a i) in
       let l = line-of c.attrs 0 (length c.attrs + length (generated c)) at.0 a at.1 in
@@ -159,9 +174,9 @@ module _ (told : List Line) where
       by : (k : ℕ) → Among (block_line k b) (model_lines c) → Among item (with_items (path_item b.ln (codes "BR") b.name) block_parts) → IsBelow b.domain item
       by k l (inl e) = let s = source (λ (m : Named). m.item) (within (path_item b.ln (codes "BR") b.name) (codes "RptID")) (block_line k b).names (inl refl) in
           record { name = s.0; there = names-there c (block_line k b) s.0 l s.1; front = inr (codes "RptID", sym s.2 ∙ ap (λ x. within x (codes "RptID")) (sym e)) }
-      by k l (inr m) = from-line (block_line k b) item l m
+      by k l (inr m) = just b.domain item (from-line (block_line k b) item l m)
 
-  control-names-there : (k : CtlDef) (item : List ℕ) → Among (lines.Ctl k) told → Among item (items (lines.Ctl k)) → IsBelow k.domain item
+  control-names-there : (k : CtlDef) (item : List ℕ) → Among (lines.Ctl k) told → Among item (items (lines.Ctl k)) → IsExact k.domain item
   control-names-there k item i j = let l = control-there-line c.controls 0 (length c.attrs) k (control-in told k i) in
       from-line (control_line l.0 l.1 k) item
       (right _ (map node_line c.nodes) _ (right _ (attribute_lines 0 (length c.attrs + length (generated c)) c.attrs) _ (right _ (block_lines 0 c.blocks) _ (left _ (control_lines 0 (length c.attrs) c.controls) _ l.2))))
@@ -173,11 +188,16 @@ module _ (told : List Line) where
       by : Among (group_of g) (model_lines c) → Among item (with_items (codes "LLN0$SP$SGCB") group_parts) → IsBelow g.domain item
       by l (inl e) = let s = source (λ (m : Named). m.item) (within (codes "LLN0$SP$SGCB") (codes "NumOfSG")) (group_of g).names (inl refl) in
           record { name = s.0; there = names-there c (group_of g) s.0 l s.1; front = inr (codes "NumOfSG", sym s.2 ∙ ap (λ x. within x (codes "NumOfSG")) (sym e)) }
-      by l (inr m) = from-line (group_of g) item l m
+      by l (inr m) = just g.domain item (from-line (group_of g) item l m)
 
   pub told-named : (line : Line) (item : List ℕ) → Among line told → Among item (items line) → IsBelow (domain_in line) item
-  told-named (lines.Attr a) item i j = attribute-there a item i j
+  told-named (lines.Attr a) item i j = just a.domain item (attribute-there a item i j)
   told-named (lines.Brcb b) item i j = block-names-there b item i j
-  told-named (lines.Ctl k) item i j = control-names-there k item i j
+  told-named (lines.Ctl k) item i j = just k.domain item (control-names-there k item i j)
   told-named (lines.Sgcb g) item i j = group-names-there g item i j
   told-named line item i j = absurd j
+
+  pub leaf-named : (line : Line) (item : List ℕ) → Among line told → Among item (leaf_items line) → IsExact (domain_in line) item
+  leaf-named (lines.Attr a) item i j = attribute-there a item i (left item (leaf_items (lines.Attr a)) (closed_items (lines.Attr a)) j)
+  leaf-named (lines.Ctl k) item i j = control-names-there k item i (left item (leaf_items (lines.Ctl k)) (closed_items (lines.Ctl k)) j)
+  leaf-named line item i j = absurd j

@@ -146,7 +146,7 @@ module _ (text : List ℕ) (told : List Line) (are : AreLines text told) where
 
   module _ (r : List ℕ) (s : IsReference r) where
     -- a front of a line's reference, in its domain
-    in-line : (d item : List ℕ) → IsDomain d → IsFront r (key d item) → (d ≡ s.domain) × IsFront s.item item
+    pub in-line : (d item : List ℕ) → IsDomain d → IsFront r (key d item) → (d ≡ s.domain) × IsFront s.item item
     in-line d item h (inl e) = let both = same-reference d s.domain item s.item (name-whole d h.name) (name-whole s.domain s.domain_name) (e ∙ s.is) in (both.0, inl both.1)
     in-line d item h (inr g) =
         let both = same-reference d s.domain item (s.item ++ 36 ∷ g.0) (name-whole d h.name) (name-whole s.domain s.domain_name) (g.1 ∙ (ap (λ l. l ++ 36 ∷ g.0) s.is ∙ append_assoc s.domain (47 ∷ s.item) (36 ∷ g.0))) in
@@ -204,7 +204,7 @@ module _ (text : List ℕ) (told : List Line) (are : AreLines text told) where
         by (inl h) = absurd (not-head h.node.ln n.item (nodes-read told text are h.node h.there).0 h.is f)
         by (inr h) = h
 
-    reference-front : (d item : List ℕ) → d ≡ s.domain → IsFront s.item item → IsFront r (key d item)
+    pub reference-front : (d item : List ℕ) → d ≡ s.domain → IsFront s.item item → IsFront r (key d item)
     reference-front d item e (inl f) = inl (ap (λ x. x ++ 47 ∷ item) e ∙ (ap (key s.domain) f ∙ sym s.is))
     reference-front d item e (inr f) = inr (f.0, ap (λ x. x ++ 47 ∷ item) e ∙ (ap (key s.domain) f.1 ∙ (sym (append_assoc s.domain (47 ∷ s.item) (36 ∷ f.0)) ∙ ap (λ l. l ++ 36 ∷ f.0) (sym s.is))))
 
