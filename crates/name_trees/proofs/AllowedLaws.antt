@@ -236,22 +236,22 @@ module _ (text : List ℕ) (told : List Line) (are : AreLines text told) (r : Li
             go (inr is) = h.below is.0 (e ∙ (ap (key s.domain) is.1 ∙ (sym (append_assoc s.domain (47 ∷ codes "LLN0$SP$SGCB") (36 ∷ is.0)) ∙ ap (λ x. x ++ 36 ∷ is.0) group)))
 
         leaf-not : (line : Line) → Among line told → domain_in line ≡ s.domain → IsLeafOf line n → ⊥
-        leaf-not line at e h = two (lines-apart told text are line (lines.Sgcb g) at there)
+        leaf-not line told_of e h = two (lines-apart told text are line (lines.Sgcb g) told_of there)
           where
             two : (line ≡ lines.Sgcb g) ⊎ ((p q : List ℕ) → Among p (claims_by line) → Among q (claims_by (lines.Sgcb g)) → AreBeside p q) → ⊥
             two (inl is) = subst (λ x. Among h.leaf (leaves_by x)) is h.among
             two (inr k) = clash h.leaf.name (h.name ∙ ap (λ x. key x n.item) e) (k h.leaf.name (group_key g.domain (codes "LLN0")) (leaf-claimed line h.leaf h.among) (inl refl))
 
         closed-is : (line : Line) → Among line told → IsClosedOf line n → Among n.item (with_items (codes "LLN0$SP$SGCB") group_parts) × (is_data_role n.role ≡ false)
-        closed-is (lines.Attr a) at h = absurd (other (codes "SE") (closed-under text told are (lines.Attr a) n.item at h.item) refl)
-        closed-is (lines.Brcb b) at h = absurd (other (codes "BR") (closed-under text told are (lines.Brcb b) n.item at h.item) refl)
-        closed-is (lines.Ctl k) at h = absurd (other (codes "CO") (closed-under text told are (lines.Ctl k) n.item at h.item) refl)
-        closed-is (lines.Sgcb k) at h = (h.item, h.hidden)
-        closed-is line at h = absurd h.item
+        closed-is (lines.Attr a) told_of h = absurd (other (codes "SE") (closed-under text told are (lines.Attr a) n.item told_of h.item) refl)
+        closed-is (lines.Brcb b) told_of h = absurd (other (codes "BR") (closed-under text told are (lines.Brcb b) n.item told_of h.item) refl)
+        closed-is (lines.Ctl k) told_of h = absurd (other (codes "CO") (closed-under text told are (lines.Ctl k) n.item told_of h.item) refl)
+        closed-is (lines.Sgcb k) told_of h = (h.item, h.hidden)
+        closed-is line told_of h = absurd h.item
 
         by : (line : Line) → Among line told → domain_in line ≡ s.domain → HasForm line n → Among n.item (with_items (codes "LLN0$SP$SGCB") group_parts) × (is_data_role n.role ≡ false)
-        by line at e (inl h) = absurd (leaf-not line at e h)
-        by line at e (inr h) = closed-is line at h
+        by line told_of e (inl h) = absurd (leaf-not line told_of e h)
+        by line told_of e (inr h) = closed-is line told_of h
 
     -- a name with a path below the place
     record IsPathTo (n : Named) : Type 0 where

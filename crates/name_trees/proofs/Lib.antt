@@ -11,3 +11,4 @@ pub mod OctetLaws
 pub mod ClaimLaws
 pub mod MemberLaws
 pub mod AllowedLaws
+pub mod WholeLaws
