@@ -99,7 +99,7 @@ none-right : (a b : Bool) → (a || b) ≡ false → b ≡ false
 none-right true b h = absurd (true≢false h)
 none-right false b h = h
 
-beside : (p q : List ℕ) → clashes p q ≡ false → AreBeside p q
+pub beside : (p q : List ℕ) → clashes p q ≡ false → AreBeside p q
 beside p q h =
     let first = none-left (bytes_eq p q || is_among (above q) p) (is_among (above p) q) h in
     record {
@@ -108,7 +108,7 @@ beside p q h =
       below = λ more e. true≢false (sym (ap (λ l. is_among (above l) q) e ∙ above-has q more) ∙ none-right (bytes_eq p q || is_among (above q) p) (is_among (above p) q) h);
     }
 
-not-taken : (others : List (List ℕ)) (path other : List ℕ) → is_taken others path ≡ false → Among other others → clashes path other ≡ false
+pub not-taken : (others : List (List ℕ)) (path other : List ℕ) → is_taken others path ≡ false → Among other others → clashes path other ≡ false
 not-taken others path other h i = by (clashes path other) refl
   where
     by : (b : Bool) → clashes path other ≡ b → b ≡ false

@@ -39,11 +39,11 @@ lookup-none (b ∷ as_) node h = by (bytes_eq node (key_of b)) refl (lookup-none
     by true e go = absurd (h b (inl refl) (octets_same node (key_of b) e))
     by false e go = go
 
-octets-leaf : (depth : ℕ) (leaf : List ℕ → Option ℕ) (parts : List ℕ → List (List ℕ)) (node : List ℕ) (n : ℕ) → leaf node ≡ Some n → octets_of (suc depth) leaf parts node ≡ n
+pub octets-leaf : (depth : ℕ) (leaf : List ℕ → Option ℕ) (parts : List ℕ → List (List ℕ)) (node : List ℕ) (n : ℕ) → leaf node ≡ Some n → octets_of (suc depth) leaf parts node ≡ n
 unfolding octets_of
 octets-leaf depth leaf parts node n e = ap (λ r. unwrap_or r (element_octets (sum_by (λ part. octets_of depth leaf parts part) (parts node)))) e
 
-octets-node : (depth : ℕ) (leaf : List ℕ → Option ℕ) (parts : List ℕ → List (List ℕ)) (node : List ℕ) → leaf node ≡ None → octets_of (suc depth) leaf parts node ≡ element_octets (sum_by (λ part. octets_of depth leaf parts part) (parts node))
+pub octets-node : (depth : ℕ) (leaf : List ℕ → Option ℕ) (parts : List ℕ → List (List ℕ)) (node : List ℕ) → leaf node ≡ None → octets_of (suc depth) leaf parts node ≡ element_octets (sum_by (λ part. octets_of depth leaf parts part) (parts node))
 unfolding octets_of
 octets-node depth leaf parts node e = ap (λ r. unwrap_or r (element_octets (sum_by (λ part. octets_of depth leaf parts part) (parts node)))) e
 

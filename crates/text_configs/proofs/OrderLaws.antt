@@ -42,12 +42,12 @@ from-inserted l (m ∷ ms) x i = by (nat_le l.line m.line) i (from-inserted l ms
     by false (inl e) go = inr (inl e)
     by false (inr j) go = later (go j)
 
-ordered : (ls : List Line) (x : Line) → Among x ls → Among x (in_order ls)
+pub ordered : (ls : List Line) (x : Line) → Among x ls → Among x (in_order ls)
 ordered [] x i = i
 ordered (l ∷ ls) x (inl e) = inserted l (in_order ls) x (inl e)
 ordered (l ∷ ls) x (inr i) = inserted l (in_order ls) x (inr (ordered ls x i))
 
-from-ordered : (ls : List Line) (x : Line) → Among x (in_order ls) → Among x ls
+pub from-ordered : (ls : List Line) (x : Line) → Among x (in_order ls) → Among x ls
 from-ordered [] x i = i
 from-ordered (l ∷ ls) x i = by (from-inserted l (in_order ls) x i) (from-ordered ls x)
   where
@@ -74,19 +74,19 @@ pub record IsAttributeLine (as_ : List AttrDef) (first : ℕ) (l : Line) : Type 
   pub there : At at attr as_
   pub is : l ≡ attribute_line (first + at) twin attr
 
-attribute-line : (as_ : List AttrDef) (x twin : ℕ) (l : Line) → Among l (attribute_lines x twin as_) → IsAttributeLine as_ x l
+pub attribute-line : (as_ : List AttrDef) (x twin : ℕ) (l : Line) → Among l (attribute_lines x twin as_) → IsAttributeLine as_ x l
 attribute-line [] x twin l i = absurd i
 attribute-line (a ∷ as_) x twin l (inl e) = record { attr = a; at = 0; twin = twin; there = refl; is = e ∙ ap (λ k. attribute_line k twin a) (omega arith) }
 attribute-line (a ∷ as_) x twin l (inr i) = let h = attribute-line as_ (x + 1) (if is_setting a then twin + 1 else twin) l i in
     record { attr = h.attr; at = suc h.at; twin = h.twin; there = h.there; is = h.is ∙ ap (λ k. attribute_line k h.twin h.attr) (omega arith) }
 
-line-of : (as_ : List AttrDef) (x twin : ℕ) (n : ℕ) (a : AttrDef) → At n a as_ → (t : ℕ) × Among (attribute_line (x + n) t a) (attribute_lines x twin as_)
+pub line-of : (as_ : List AttrDef) (x twin : ℕ) (n : ℕ) (a : AttrDef) → At n a as_ → (t : ℕ) × Among (attribute_line (x + n) t a) (attribute_lines x twin as_)
 line-of [] x twin n a h = absurd h
 line-of (b ∷ bs) x twin zero a h = (twin, inl (ap (λ k. attribute_line k twin a) (omega arith) ∙ ap (λ c. attribute_line x twin c) h))
 line-of (b ∷ bs) x twin (suc n) a h = let s = line-of bs (x + 1) (if is_setting b then twin + 1 else twin) n a h in
     (s.0, inr (subst (λ k. Among (attribute_line k s.0 a) (attribute_lines (x + 1) (if is_setting b then twin + 1 else twin) bs)) (omega arith) s.1))
 
-block-line : (bs : List BlockDef) (b : ℕ) (l : Line) → Among l (block_lines b bs) → (d : BlockDef) × (k : ℕ) × Among d bs × (l ≡ block_line k d)
+pub block-line : (bs : List BlockDef) (b : ℕ) (l : Line) → Among l (block_lines b bs) → (d : BlockDef) × (k : ℕ) × Among d bs × (l ≡ block_line k d)
 block-line [] b l i = absurd i
 block-line (d ∷ ds) b l (inl e) = (d, b, inl refl, e)
 block-line (d ∷ ds) b l (inr i) = let s = block-line ds (b + 1) l i in (s.0, s.1, inr s.2, s.3)

@@ -39,19 +39,23 @@ item-behind before (named name r k parts others) p (inr i) = by (either p (place
     by (inr j) go further = further j
 
 -- a place whose item goes on behind a name stands below it
-pub descend : (before : List ℕ) (levels : ℕ) (ns : List Named) (p : Place) (a b : List ℕ) (more : List (List ℕ)) → NoDollar a → p.item ≡ before ++ joined (a ∷ b ∷ more) → Among p (places before (grown levels ns))
-    → (l : ℕ) × Among p (places (before ++ a ++ 36 ∷ []) (grown l (below a ns)))
-descend before zero ns p a b more plain is i = absurd i
-descend before (suc l) ns p a b more plain is i = let s = placed before l ns p i in
+pub descend-one : (before : List ℕ) (l : ℕ) (ns : List Named) (p : Place) (a b : List ℕ) (more : List (List ℕ)) → NoDollar a → p.item ≡ before ++ joined (a ∷ b ∷ more) → Among p (places before (grown (suc l) ns))
+    → Among p (places (before ++ a ++ 36 ∷ []) (grown l (below a ns)))
+descend-one before l ns p a b more plain is i = let s = placed before l ns p i in
     let without : NoDollar s.0 = let n = first-of ns s.0 s.1.name in subst NoDollar (sym n.1.is) (first-without n.0.item) in by s.0 without s.1.at
   where
-    by : (f : List ℕ) → NoDollar f → (p ≡ place_at before l ns f) ⊎ Among p (deeper before l ns f) → (l : ℕ) × Among p (places (before ++ a ++ 36 ∷ []) (grown l (below a ns)))
+    by : (f : List ℕ) → NoDollar f → (p ≡ place_at before l ns f) ⊎ Among p (deeper before l ns f) → Among p (places (before ++ a ++ 36 ∷ []) (grown l (below a ns)))
     by f without (inl e) = absurd (dollar-within a (joined (b ∷ more)) (subst NoDollar (append_cancel_left before f (joined (a ∷ b ∷ more)) (sym (ap (λ (q : Place). q.item) e) ∙ is)) without))
     by f without (inr j) =
         let g = item-behind (before ++ f ++ 36 ∷ []) (grown l (below f ns)) p j in
         let tail : f ++ 36 ∷ g.0 ≡ joined (a ∷ b ∷ more) = append_cancel_left before (f ++ 36 ∷ g.0) (joined (a ∷ b ∷ more)) (sym (g.1 ∙ (append_assoc (before ++ f) (36 ∷ []) g.0 ∙ append_assoc before f (36 ∷ g.0))) ∙ is) in
         let same : f ≡ a = sym (first-before f g.0 without) ∙ (ap first tail ∙ first-joined a (b ∷ more) plain) in
-        (l, subst (λ x. Among p (places (before ++ x ++ 36 ∷ []) (grown l (below x ns)))) same j)
+        subst (λ x. Among p (places (before ++ x ++ 36 ∷ []) (grown l (below x ns)))) same j
+
+pub descend : (before : List ℕ) (levels : ℕ) (ns : List Named) (p : Place) (a b : List ℕ) (more : List (List ℕ)) → NoDollar a → p.item ≡ before ++ joined (a ∷ b ∷ more) → Among p (places before (grown levels ns))
+    → (l : ℕ) × Among p (places (before ++ a ++ 36 ∷ []) (grown l (below a ns)))
+descend before zero ns p a b more plain is i = absurd i
+descend before (suc l) ns p a b more plain is i = (l, descend-one before l ns p a b more plain is i)
 
 -- the names before others in an item that is named have a place
 pub exists : (levels : ℕ) (ns : List Named) (before : List ℕ) (names more : List (List ℕ)) (n : Named) → ArePlain names → 0 < length names → length names ≤ levels → Among n ns → n.item ≡ joined (names ++ more)

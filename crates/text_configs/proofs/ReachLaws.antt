@@ -16,7 +16,7 @@ pub index-at : (front : List ℕ) (o : ℕ) (more : List ℕ) → slice_index (f
 index-at [] o more = refl
 index-at (x ∷ front) o more = index-at front o more
 
-split-index : (path : List ℕ) (k : ℕ) → k < length path → path ≡ take k path ++ slice_index path k ∷ drop (suc k) path
+pub split-index : (path : List ℕ) (k : ℕ) → k < length path → path ≡ take k path ++ slice_index path k ∷ drop (suc k) path
 split-index [] k h = absurd (omega (arith, h))
 split-index (x ∷ path) zero h = refl
 split-index (x ∷ path) (suc k) h = ap (λ l. x ∷ l) (split-index path k (omega (arith, h)))

@@ -26,16 +26,16 @@ settable types.Stamp h = absurd h
 settable types.EntryId h = absurd h
 settable (types.Struct f) h = absurd h
 
--- no value of a type has more octets than are counted for it
-pub largest-counted : (k : TypeOf) → IsType k → largest k ≤ most_octets k
+-- the largest value of a type has as many octets as are counted for it
+pub largest-counted : (k : TypeOf) → IsType k → largest k ≡ most_octets k
 largest-counted types.Bool h = omega arith
-largest-counted (types.Int w) (inl e) = subst (λ w. largest (types.Int w) ≤ most_octets (types.Int w)) (sym e) (omega arith)
-largest-counted (types.Int w) (inr (inl e)) = subst (λ w. largest (types.Int w) ≤ most_octets (types.Int w)) (sym e) (omega arith)
-largest-counted (types.Int w) (inr (inr (inl e))) = subst (λ w. largest (types.Int w) ≤ most_octets (types.Int w)) (sym e) (omega arith)
-largest-counted (types.Int w) (inr (inr (inr e))) = subst (λ w. largest (types.Int w) ≤ most_octets (types.Int w)) (sym e) (omega arith)
-largest-counted (types.Uint w) (inl e) = subst (λ w. largest (types.Uint w) ≤ most_octets (types.Uint w)) (sym e) (omega arith)
-largest-counted (types.Uint w) (inr (inl e)) = subst (λ w. largest (types.Uint w) ≤ most_octets (types.Uint w)) (sym e) (omega arith)
-largest-counted (types.Uint w) (inr (inr e)) = subst (λ w. largest (types.Uint w) ≤ most_octets (types.Uint w)) (sym e) (omega arith)
+largest-counted (types.Int w) (inl e) = subst (λ w. largest (types.Int w) ≡ most_octets (types.Int w)) (sym e) (omega arith)
+largest-counted (types.Int w) (inr (inl e)) = subst (λ w. largest (types.Int w) ≡ most_octets (types.Int w)) (sym e) (omega arith)
+largest-counted (types.Int w) (inr (inr (inl e))) = subst (λ w. largest (types.Int w) ≡ most_octets (types.Int w)) (sym e) (omega arith)
+largest-counted (types.Int w) (inr (inr (inr e))) = subst (λ w. largest (types.Int w) ≡ most_octets (types.Int w)) (sym e) (omega arith)
+largest-counted (types.Uint w) (inl e) = subst (λ w. largest (types.Uint w) ≡ most_octets (types.Uint w)) (sym e) (omega arith)
+largest-counted (types.Uint w) (inr (inl e)) = subst (λ w. largest (types.Uint w) ≡ most_octets (types.Uint w)) (sym e) (omega arith)
+largest-counted (types.Uint w) (inr (inr e)) = subst (λ w. largest (types.Uint w) ≡ most_octets (types.Uint w)) (sym e) (omega arith)
 largest-counted (types.Bits n) h = omega arith
 largest-counted types.Time h = omega arith
 largest-counted (types.Text n) h = omega arith
