@@ -173,9 +173,8 @@ fn writes_members_in_the_order_of_their_type(rt: HostRuntime) -> Result<(), Fail
     let alloc = rt.alloc();
     let store = Store::open(alloc, &config(alloc)?)?;
     assert!(rt; 2 < store.len());
-    let mut right = true;
-    right &= matches!(store.get(AttrId(1)), ValueRef::Bool(_));
-    right &= matches!(store.get(AttrId(2)), ValueRef::Bool(_));
+    assert!(rt; matches!(store.get(AttrId(1)), ValueRef::Bool(_)));
+    assert!(rt; matches!(store.get(AttrId(2)), ValueRef::Bool(_)));
     let parts = vec![in alloc; part(alloc, b"general")?, part(alloc, b"phsA")?]?;
     let shape = MemberShape {
         node: NodeId(3),
@@ -184,8 +183,7 @@ fn writes_members_in_the_order_of_their_type(rt: HostRuntime) -> Result<(), Fail
     };
     let mut out = Fixed::new(alloc, 8)?;
     let count = store.member_bytes(&shape, &mut out);
-    right &= count == 8;
-    right &= out.as_slice() == [0xa2, 6, 0x83, 1, 0, 0x83, 1, 0xff].as_slice();
-    assert!(rt; right);
+    let wanted = [0xa2, 6, 0x83, 1, 0, 0x83, 1, 0xff];
+    assert!(rt; count == 8 && out.as_slice() == wanted.as_slice());
     Ok(())
 }
