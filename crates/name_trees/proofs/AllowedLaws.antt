@@ -1,5 +1,5 @@
 -- A node of the lines is one that a data set may have exactly where the model allows it.
-use Rattle.std.proofs.Common.{◌≡◌, ℕ, suc, ◌+◌, ◌<◌, ◌≤◌, ◌==◌, ◌||◌, ◌&&◌, ◌⊎◌, inl, inr, Bool, true, false, not, nat_lt, nat_le, List, [], ◌∷◌, ◌++◌, map, length, refl, sym, ap, subst, ◌∙◌, append_assoc, append-nil, arith, length-append, true≢false}
+use Rattle.std.proofs.Common.{◌≡◌, ℕ, suc, ◌<◌, ◌≤◌, ◌&&◌, ◌⊎◌, inl, inr, Bool, true, false, not, nat_lt, nat_le, List, [], ◌∷◌, ◌++◌, map, length, refl, sym, ap, subst, ◌∙◌, append_assoc, append-nil, arith, length-append, true≢false}
 use Rattle.std.specs.Prelude.{codes}
 use Rattle.std.specs.List.{list_any}
 use Rattle.std.specs.Str.{bytes_eq}
@@ -11,8 +11,8 @@ use Rattle.sv_base.specs.declared.config.SgDef.{SgDef}
 use Rattle.bay_model.specs.Model.{Node}
 use Rattle.bay_model.specs.Generated.{Named, within}
 use Rattle.bay_model.specs.NamedLines.{path_item, names_in as named_in}
-use Rattle.bay_model.specs.NameTree.{longest, role_of, own_type, grown}
-use Rattle.bay_model.specs.Places.{Place, places, place, node_at, may_be_member, largest, constraint, member_constraints, is_data_role, are_data}
+use Rattle.bay_model.specs.NameTree.{longest, role_of, grown}
+use Rattle.bay_model.specs.Places.{Place, may_be_member, largest, constraint, member_constraints, is_data_role, are_data}
 use Rattle.bay_model.specs.Named.{places_in, nodes, configured_model}
 use Rattle.text_words.specs.Names.{is_member}
 use Rattle.cfg_lines.specs.Sizes.{leaf_octets, children, octets_of}
@@ -27,17 +27,17 @@ use Rattle.list_laws.proofs.Among.{Among, right, source, some-passes, passes, of
 use Rattle.text_configs.proofs.JoinedLaws.{IsPlain, ArePlain, joined, joined-behind, joined-some}
 use Rattle.text_configs.proofs.AttrLaws.{AreBeside}
 use Rattle.text_configs.proofs.OrderLaws.{within-longest}
-use Rattle.text_configs.proofs.PathLaws.{name-plain, names_in, path-plain, path-joined, GoOn, prefix-joined, IsReference, reference-of}
-use Rattle.name_trees.specs.ByModel.{is_at, has_node, may_have}
+use Rattle.text_configs.proofs.PathLaws.{name-plain, names_in, path-plain, path-joined, prefix-joined, IsReference, reference-of}
+use Rattle.name_trees.specs.ByModel.{is_at, may_have}
 use Rattle.name_trees.proofs.FrontLaws.{IsFront, front-trans, behind, named-at}
 use Rattle.name_trees.proofs.ToldLaws.{told-in}
 use Rattle.name_trees.proofs.ItemLaws.{domain_in, items, leaf_items, closed_items, with_items, key, key-path}
 use Rattle.name_trees.proofs.SetLaws.{both-ways}
-use Rattle.name_trees.proofs.FormLaws.{IsHidden, IsLeafOf, IsClosedOf, HasForm}
-use Rattle.name_trees.proofs.NamedLaws.{IsLineName, leaf-named, IsBelow, told-named}
+use Rattle.name_trees.proofs.FormLaws.{IsLeafOf, IsClosedOf, HasForm}
+use Rattle.name_trees.proofs.NamedLaws.{IsLineName, leaf-named, told-named}
 use Rattle.name_trees.proofs.ClaimLaws.{lines-apart, leaf-claimed, leaves-same, leaves-apart}
 use Rattle.name_trees.proofs.SubLaws.{moved, IsFrom, IsPlaceOf, place-of, AreWithin, AreData, role-data, all-data, place-seen}
-use Rattle.name_trees.proofs.OctetLaws.{counted, IsKnown, AreLeaves, counted-is, reference}
+use Rattle.name_trees.proofs.OctetLaws.{IsKnown, AreLeaves, counted-is}
 use Rattle.name_trees.proofs.NodeLaws as node_laws
 use Rattle.name_trees.proofs.NodeLaws.{reached, reach, IsKey, closed-key, leaf-key, key-closed}
 use Rattle.name_trees.proofs.MemberLaws.{constraint-of, with-front, closed_constraint, closed-under, IsLeafItem, leaf-item, typed-line}
@@ -156,7 +156,6 @@ module _ (text : List ℕ) (told : List Line) (are : AreLines text told) (r : Li
             name = name_at l ∙ (ap (key s.domain) (e.0 ∙ path-joined s.item) ∙ sym s.is);
           }
           by l t (inr e) = let g = prefix-joined t.names names m.item t.plain plain (omega (arith, s.many)) (sym t.is ∙ e) in below l t e g.more g.is
-
 
       leaf-there : (a : Leaf) → Among a (leaves told) → IsKey told leaf_items a.name
       leaf-there a i = leaf-key told a.name (name-among (leaves told) i)

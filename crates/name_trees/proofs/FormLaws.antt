@@ -1,5 +1,5 @@
 -- What a line of the model names is a leaf of the line, with its octets, or what no data set may have.
-use Rattle.std.proofs.Common.{◌≡◌, ℕ, ◌+◌, ◌==◌, ◌||◌, ◌⊎◌, inl, inr, Bool, true, false, List, [], ◌∷◌, ◌++◌, map, refl, sym, ap, subst, ◌∙◌, if◌then◌else◌}
+use Rattle.std.proofs.Common.{◌≡◌, ℕ, ◌+◌, ◌==◌, ◌||◌, ◌⊎◌, inl, inr, Bool, true, false, List, [], ◌∷◌, map, refl, sym, ap, subst, ◌∙◌, if◌then◌else◌}
 use Rattle.std.specs.Prelude.{codes, pos}
 use Rattle.sv_base.specs.declared.config.AttrDef.{AttrDef}
 use Rattle.sv_base.specs.declared.config.BlockDef.{BlockDef}
@@ -14,13 +14,13 @@ use Rattle.bay_model.specs.NamedLines.{is_setting, path_item, attribute_names}
 use Rattle.bay_model.specs.Places.{largest, is_data_role}
 use Rattle.text_words.specs.Grammar.{IsType}
 use Rattle.cfg_lines.specs.Paths.{below, item_key}
-use Rattle.cfg_lines.specs.Claims.{operations, settings}
+use Rattle.cfg_lines.specs.Claims.{settings}
 use Rattle.cfg_lines.specs.Sizes.{most_octets}
 use Rattle.cfg_lines.specs.Nodes.{leaves_by, setting_leaf, setting_octets, block_parts, group_parts}
 use Rattle.cfg_lines.specs.declared.leaf.Leaf.{Leaf}
 use Rattle.cfg_lines.specs.declared.line.Line.{Line}
 use Rattle.cfg_lines.specs.declared.line.Line.TheVariants as lines
-use Rattle.list_laws.proofs.Among.{Among, left, right, either, mapped, source}
+use Rattle.list_laws.proofs.Among.{Among, either, mapped, source}
 use Rattle.text_configs.proofs.ValueLaws.{largest-counted}
 use Rattle.name_trees.proofs.ItemLaws.{domain_in, key, key-within, key-path, leaf_items, closed_items, named_items, settings_by, operations-there, not-both, control-items, control_all, block-items, group-items}
 

@@ -1,46 +1,28 @@
 -- A node of the lines is one that a data set may have exactly where the model allows it.
-use Rattle.std.proofs.Common.{◌≡◌, ℕ, suc, ◌+◌, ◌<◌, ◌≤◌, ◌==◌, ◌||◌, ◌&&◌, ◌⊎◌, inl, inr, Bool, true, false, not, nat_lt, nat_le, List, [], ◌∷◌, ◌++◌, map, length, refl, sym, ap, subst, ◌∙◌, append_assoc, append-nil, arith, length-append, true≢false, if◌then◌else◌}
+use Rattle.std.proofs.Common.{◌≡◌, ℕ, ◌≤◌, ◌⊎◌, inl, inr, Bool, true, false, List, [], ◌∷◌, ◌++◌, length, refl, sym, ap, subst, ◌∙◌, append_assoc, arith, length-append, if◌then◌else◌}
 use Rattle.std.specs.Prelude.{codes}
 use Rattle.std.specs.List.{list_any}
 use Rattle.std.specs.Str.{bytes_eq}
-use Rattle.std.proofs.lemmas.Bool.{and_parts, and_from}
-use Rattle.std.proofs.lemmas.Bool.Decides.{nat_tests}
-use Rattle.std.proofs.lemmas.List.{append_cancel_left}
 use Rattle.sv_base.specs.declared.config.Config.{Config}
 use Rattle.sv_base.specs.declared.config.AttrDef.{AttrDef}
-use Rattle.sv_base.specs.declared.config.CtlDef.{CtlDef}
-use Rattle.bay_model.specs.Model.{Node}
-use Rattle.bay_model.specs.Generated.{Named, within}
-use Rattle.bay_model.specs.NamedLines.{path_item, names_in as named_in, is_setting}
-use Rattle.bay_model.specs.NameTree.{longest, role_of, own_type, grown}
-use Rattle.bay_model.specs.Places.{Place, places, place, node_at, may_be_member, largest, constraint, member_constraints, is_data_role, are_data}
-use Rattle.bay_model.specs.Named.{places_in, nodes, configured_model}
-use Rattle.text_words.specs.Names.{is_fc, is_member}
-use Rattle.cfg_lines.specs.Nodes.{leaves_by, leaves, leaf_names, closed, reaches, is_node, is_member_node, block_parts, group_parts, operation_parts}
+use Rattle.bay_model.specs.Generated.{within}
+use Rattle.bay_model.specs.NamedLines.{path_item, is_setting}
+use Rattle.bay_model.specs.Places.{constraint, member_constraints}
+use Rattle.cfg_lines.specs.Nodes.{block_parts, group_parts, operation_parts}
 use Rattle.cfg_lines.specs.Claims.{operations, settings}
 use Rattle.cfg_lines.specs.Configs.{config_of}
 use Rattle.cfg_grammar.specs.Follows.{Follows}
 use Rattle.cfg_grammar.specs.Texts.{AreLines}
-use Rattle.cfg_lines.specs.declared.leaf.Leaf.{Leaf}
 use Rattle.cfg_lines.specs.declared.line.Line.{Line}
 use Rattle.cfg_lines.specs.declared.line.Line.TheVariants as lines
-use Rattle.list_laws.proofs.Among.{Among, left, right, either, source, some-passes, passes, each-both, of-each}
-use Rattle.text_configs.proofs.JoinedLaws.{NoDollar, IsPlain, ArePlain, joined, first, rest, first-before, rest-before, joined-behind, same-joined, joined-some}
-use Rattle.text_configs.proofs.StandLaws.{IsIn}
-use Rattle.text_configs.proofs.OrderLaws.{within-longest}
-use Rattle.text_configs.proofs.PathLaws.{name-plain, fc-plain, fc-member, names_in, path-plain, path-joined, path-count, item-joined, behind-two, prefix-joined, IsReference, reference-of}
-use Rattle.name_trees.specs.ByModel.{is_at, has_node, may_have}
+use Rattle.list_laws.proofs.Among.{Among, either, source, each-both}
+use Rattle.text_configs.proofs.JoinedLaws.{NoDollar, IsPlain, ArePlain, joined, first, first-before, rest-before, joined-behind}
+use Rattle.text_configs.proofs.PathLaws.{name-plain, fc-plain, fc-member, names_in, path-plain, path-joined, path-count, item-joined, behind-two}
 use Rattle.name_trees.proofs.FrontLaws.{IsFront, front-trans}
-use Rattle.name_trees.proofs.ToldLaws.{told-in, IsHome, home}
-use Rattle.name_trees.proofs.ItemLaws.{domain_in, items, leaf_items, closed_items, with_items, operation_items, key}
-use Rattle.name_trees.proofs.SetLaws.{both-ways}
-use Rattle.name_trees.proofs.FormLaws.{IsTyped, IsHidden, IsLeafOf, IsClosedOf, HasForm}
-use Rattle.name_trees.proofs.NamedLaws.{IsLineName, IsExact, leaf-named, IsBelow, told-named}
-use Rattle.name_trees.proofs.ClaimLaws.{lines-apart, leaf-claimed, setting-plain, leaves-same, leaves-apart}
-use Rattle.name_trees.proofs.SubLaws.{moved, IsFrom, IsSub, IsPlaceOf, place-of, AreWithin, AreData, role-data, all-data, IsSeen, place-seen}
-use Rattle.name_trees.proofs.OctetLaws.{counted, IsKnown, AreLeaves, counted-is, reference}
-use Rattle.name_trees.proofs.NodeLaws as node_laws
-use Rattle.name_trees.proofs.NodeLaws.{reached, reach, IsKey, closed-key, leaf-key, key-closed}
+use Rattle.name_trees.proofs.ToldLaws.{IsHome, home}
+use Rattle.name_trees.proofs.ItemLaws.{leaf_items, closed_items, with_items, operation_items}
+use Rattle.name_trees.proofs.FormLaws.{IsTyped}
+use Rattle.name_trees.proofs.ClaimLaws.{setting-plain}
 
 -- ---- the second name of an item
 

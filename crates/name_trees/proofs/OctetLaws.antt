@@ -1,5 +1,5 @@
 -- What is counted for a reference is the largest Data of what is named at it and below it.
-use Rattle.std.proofs.Common.{◌≡◌, ℕ, zero, suc, ◌+◌, ◌<◌, ◌≤◌, ◌==◌, ◌⊎◌, inl, inr, Bool, true, false, List, [], ◌∷◌, ◌++◌, map, length, Option, Some, None, unwrap_or, refl, sym, ap, subst, ◌∙◌, append_assoc, append-nil, arith, true≢false, if◌then◌else◌}
+use Rattle.std.proofs.Common.{◌≡◌, ℕ, zero, suc, ◌<◌, ◌≤◌, ◌==◌, ◌⊎◌, inl, inr, Bool, true, false, List, [], ◌∷◌, ◌++◌, map, length, Option, Some, None, unwrap_or, refl, sym, ap, subst, ◌∙◌, append_assoc, arith, true≢false, if◌then◌else◌}
 use Rattle.std.specs.List.{sum_by}
 use Rattle.std.specs.Option.{option_map}
 use Rattle.std.specs.Str.{bytes_eq}
@@ -22,8 +22,8 @@ use Rattle.text_configs.proofs.NamedLaws.{bytes-same, first-of, is-first, below-
 use Rattle.text_configs.proofs.ReachLaws.{child-alone, child-more}
 use Rattle.text_configs.proofs.CountLaws.{octets-leaf, octets-node}
 use Rattle.name_trees.proofs.FrontLaws.{IsFront}
-use Rattle.name_trees.proofs.EdgeLaws.{IsChild, child-of, distinct-children}
-use Rattle.name_trees.proofs.SubLaws.{not-empty, empty, AreWithin, within-one, sub-one, IsEnd, IsOpen, ends-or-not}
+use Rattle.name_trees.proofs.EdgeLaws.{child-of, distinct-children}
+use Rattle.name_trees.proofs.SubLaws.{not-empty, AreWithin, within-one, sub-one, IsEnd, IsOpen, ends-or-not}
 
 -- ---- the octets of a leaf, and that there is none
 

@@ -1,9 +1,7 @@
 -- A text's first refused line, and its configuration, by the model that its lines make.
-use Rattle.std.proofs.Common.{◌≡◌, ℕ, ◌==◌, ◌||◌, ◌&&◌, Bool, true, false, List, [], ◌∷◌, length, refl, sym, ap, ap₂, subst, ◌∙◌, if◌then◌else◌}
+use Rattle.std.proofs.Common.{◌≡◌, ℕ, ◌==◌, ◌||◌, ◌&&◌, Bool, true, false, List, [], ◌∷◌, length, refl, ap, ap₂, subst, ◌∙◌, if◌then◌else◌}
 use Rattle.std.specs.Prelude.{Result, Ok, Err}
-use Rattle.std.specs.List.{join_with_byte}
 use Rattle.std.proofs.lemmas.List.Splits.{join_with_byte-slice_split}
-use Rattle.sv_base.specs.declared.config.Config.{Config}
 use Rattle.bay_model.specs.Model.{Model}
 use Rattle.bay_model.specs.Named.{configured_model}
 use Rattle.cfg_lines.specs.Before.{number_of, place_of}
@@ -15,12 +13,12 @@ use Rattle.cfg_lines.specs.declared.line.Place.TheVariants as places
 use Rattle.cfg_parser.specs.declared.fault.Kind.TheVariants as kinds
 use Rattle.cfg_parser.specs.declared.fault.CfgFault.{CfgFault}
 use Rattle.cfg_parser.specs.declared.fault.CfgFault.TheVariants as faults
-use Rattle.cfg_parser.specs.Text.{pieces, told_at, lines_at}
+use Rattle.cfg_parser.specs.Text.{pieces, lines_at}
 use Rattle.cfg_parser.specs.Looking.{look_at, looked_at, config_at, ◌>>=◌}
 use Rattle.cfg_grammar.specs.Follows.{Follows}
 use Rattle.cfg_grammar.specs.Texts.{AreLines}
 use Rattle.cfg_text.proofs.WholeLaws.{lines-told}
-use Rattle.name_trees.specs.ByModel.{has_set, has_node, may_have, look_by, looked_by, config_by}
+use Rattle.name_trees.specs.ByModel.{look_by, looked_by, config_by}
 use Rattle.name_trees.proofs.SetLaws.{sets-agree}
 use Rattle.name_trees.proofs.NodeLaws.{nodes-agree}
 use Rattle.name_trees.proofs.AllowedLaws.{members-agree}
@@ -46,7 +44,7 @@ module _ (text : List ℕ) (told : List Line) (are : AreLines text told) where
   look-same before number (lines.Member reference) f =
       in-turn (is_node told reference) (is_member_node told reference) (Ok tt) (Err (faults.Refused number kinds.Member)) (Err (faults.Refused number kinds.Unknown))
       ∙ ap₂ (λ may there. if may then (the_found (Ok tt)) else if there then Err (faults.Refused number kinds.Member) else Err (faults.Refused number kinds.Unknown))
-          (members-agree text told reference are f.name) (nodes-agree text told reference are f.name)
+      (members-agree text told reference are f.name) (nodes-agree text told reference are f.name)
   look-same before number line f = refl
 
   looked-same : (front : List ℕ) (before : List Line) → AreLines front before → looked_at told before ≡ looked_by m before
