@@ -41,7 +41,7 @@ stands-empty c = record {
   each = λ a n. subst (λ r. StandsAt r c a []) (sym (get_or-replicate 16 (a - 1) closed closed (omega (arith, n)))) (record { ends = refl; waiting = refl });
 }
 
-pub stands-opened : (c : Model) (a : ℕ) (e : Ends) (p : Point) (before : Past) (rows : List Row) → IsNumber a → Stands rows c before → p.deed ≡ opened a e.opener.0 e.writer.0
+pub stands-opened : (c : Model) (a : ℕ) (e : Ends) (p : Point) (before : Past) (rows : List Row) → IsNumber a → Stands rows c before → p.deed ≡ opened a e.opener.0 e.writer.0 e.size
     → Stands (tables.started rows a e) c (p ∷ before)
 stands-opened c a e p before rows number s is = moved c a (record { ends = Some e; waiting = [] }) p before rows number s (record { ends = rw (is, same) refl; waiting = rw (is, same) refl })
     (λ o h was. record { ends = rw (is, apart a o h) was.ends; waiting = rw (is, apart a o h) was.waiting })
@@ -70,7 +70,7 @@ record IsQuiet (a : ℕ) (d : Deed) (was : Option model.Ends) : Type 0 where
   ends : model.ends_after a d was ≡ was
 
 quiet : (a : ℕ) (d : Deed) (was : Option model.Ends) → IsPlain d → IsQuiet a d was
-quiet a (opened e o w) was h = absurd h
+quiet a (opened e o w size) was h = absurd h
 quiet a (lost e) was h = absurd h
 quiet a (took e) was h = absurd h
 quiet a (terminated e k) was h = absurd h
@@ -135,8 +135,8 @@ plain-deed c p before rows k s plain is = by k.items refl where
 
 pub stands-deed : (c : Model) (m n : ℕ) (d : Deed) (before : Past) (rows : List Row) (k : Coming) → Stands rows c (arrival n m ∷ before) → IsComing k c n d before
     → Stands (came d k rows) c (record { moment = m; step = n; deed = d } ∷ before)
-stands-deed c m n (opened a o w) before rows k s is =
-    stands-opened c a (record { opener = record { 0 = o }; writer = record { 0 = w }; size = k.size }) (record { moment = m; step = n; deed = opened a o w }) before rows is.number (before-arrival c m n before rows s) refl
+stands-deed c m n (opened a o w size) before rows k s is =
+    stands-opened c a (record { opener = record { 0 = o }; writer = record { 0 = w }; size = size }) (record { moment = m; step = n; deed = opened a o w size }) before rows is.number (before-arrival c m n before rows s) refl
 stands-deed c m n (lost a) before rows k s is = stands-lost c a (record { moment = m; step = n; deed = lost a }) before rows is.number (before-arrival c m n before rows s) refl
 stands-deed c m n (took a) before rows k s is = stands-took c a (record { moment = m; step = n; deed = took a }) before rows is.number (before-arrival c m n before rows s) refl
 stands-deed c m n (terminated a j) before rows k s is = stands-terminated c a j (record { moment = m; step = n; deed = terminated a j }) before rows is.number (before-arrival c m n before rows s) refl

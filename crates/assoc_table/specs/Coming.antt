@@ -8,15 +8,14 @@ use Rattle.assoc_table.specs.Seats.{Row}
 use Rattle.assoc_table.specs.Tables.{IsNumber, started, ended, extended, taken}
 use Rattle.assoc_table.specs.Standing.{waiting_of}
 
--- the greatest size of a PDU where an association is opened; what is put for an association behind what waits
+-- what is put for an association behind what waits
 pub record Coming : Type 0 where
-  pub size : ℕ
   pub a : ℕ
   pub items : List Waiting
 
 -- nothing is put
 abbrev pub nothing_put : Coming
-nothing_put = record { size = 0; a = 0; items = [] }
+nothing_put = record { a = 0; items = [] }
 
 abbrev pub put_for : ℕ → List Waiting → List Row → List Row
 put_for a [] rows = rows
@@ -24,7 +23,7 @@ put_for a (w ∷ ws) rows = extended rows a (w ∷ ws)
 
 -- an association is opened or ended, its oldest output is taken, or what the deed puts comes to wait
 abbrev pub came : Deed → Coming → List Row → List Row
-came (opened a opener writer) k rows = started rows a (record { opener = record { 0 = opener }; writer = record { 0 = writer }; size = k.size })
+came (opened a opener writer size) k rows = started rows a (record { opener = record { 0 = opener }; writer = record { 0 = writer }; size = size })
 came (lost a) k rows = ended rows a
 came (took a) k rows = taken rows a
 came (terminated a control) k rows = taken rows a
@@ -32,7 +31,7 @@ came _ k rows = put_for k.a k.items rows
 
 -- the association that a deed opens, ends or takes from has a number
 abbrev pub IsNumbered : Deed → Type 0
-IsNumbered (opened a opener writer) = IsNumber a
+IsNumbered (opened a opener writer size) = IsNumber a
 IsNumbered (lost a) = IsNumber a
 IsNumbered (took a) = IsNumber a
 IsNumbered (terminated a control) = IsNumber a

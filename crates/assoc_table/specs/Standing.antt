@@ -12,7 +12,7 @@ use Rattle.assoc_table.specs.Seats.{Row}
 use Rattle.assoc_table.specs.Tables.{IsNumber, row_of}
 
 abbrev pub ends_of : Ends → model.Ends
-ends_of e = record { opener = e.opener.0; writer = e.writer.0 }
+ends_of e = record { opener = e.opener.0; writer = e.writer.0; size = e.size }
 
 abbrev pub waiting_of : Waiting → queue.Waiting
 waiting_of (Reply output) = queue.reply output
@@ -29,7 +29,7 @@ pub record Stands (rows : List Row) (c : Model) (past : Past) : Type 0 where
 
 -- a point that opens and loses no association, and takes nothing that waits
 abbrev pub IsPlain : Deed → Type 0
-IsPlain (opened a opener writer) = ⊥
+IsPlain (opened a opener writer size) = ⊥
 IsPlain (lost a) = ⊥
 IsPlain (took a) = ⊥
 IsPlain (terminated a k) = ⊥

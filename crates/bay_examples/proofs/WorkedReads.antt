@@ -1,6 +1,6 @@
 -- The worked histories of reads, by computation.
 use Rattle.std.proofs.Common.{refl}
-use Rattle.bay_examples.specs.WorkedReads.{ReadsOfNewestEntry, CountedChanges, ReadOfStructure, RefusedAccess}
+use Rattle.bay_examples.specs.WorkedReads.{ReadsOfNewestEntry, CountedChanges, ReadOfStructure, RefusedAccess, LongReads}
 
 pub reads_of_newest_entry : ReadsOfNewestEntry
 reads_of_newest_entry = (refl, refl)
@@ -13,3 +13,6 @@ read_of_structure = (refl, refl)
 
 pub refused_access : RefusedAccess
 refused_access = (refl, refl)
+
+pub long_reads : LongReads
+long_reads = ((refl, refl), (refl, refl))

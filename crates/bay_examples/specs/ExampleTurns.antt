@@ -22,8 +22,12 @@ turn actor step = record { moment = least_moment; actor = actor; step = step }
 abbrev pub at : ℕ → Turn → Turn
 at ms t = record t { moment = least_moment + ms }
 
+-- a is opened with a greatest size of a PDU
+abbrev pub open_with : ℕ → ℕ → Turn
+open_with size a = turn a (steps.Open (record { 0 = a }) size (record { 0 = a }))
+
 abbrev pub open_direct : ℕ → Turn
-open_direct a = turn a (steps.Open (record { 0 = a }) 65000 (record { 0 = a }))
+open_direct a = open_with 65000 a
 
 abbrev pub lost : ℕ → Turn
 lost a = turn a (steps.Lost (record { 0 = a }))

@@ -8,6 +8,7 @@ use Rattle.bay_model.specs.declared.request.Scope.TheVariants as scopes
 use Rattle.bay_model.specs.declared.request.Service.{Service}
 use Rattle.bay_model.specs.declared.request.Service.TheVariants as services
 use Rattle.bay_model.specs.declared.components.Comp.TheVariants as comps
+use Rattle.bay_model.specs.Sizes.{within}
 use Rattle.bay_model.specs.Answers.{Turn}
 use Rattle.bay_model.specs.Acceptance.{IsOpen, NotOpen, NotYours, QueueFull, fault}
 use Rattle.bay_examples.specs.ExampleNodes.{domain}
@@ -51,6 +52,12 @@ NamesAndDeletions = Answered (example 200) (open_direct 1 ∷ write 1 comps.DatS
     (take 1 ∷ take 1 ∷ take 1 ∷ take 1 ∷ take 1 ∷ take 1 ∷ take 1 ∷ take 1 ∷ [])
     (replied 1 replies.Defined ∷ replied 2 (replies.Names (codes "LLN0$Events" ∷ [])) ∷ replied 3 (replies.Names (codes "LLN0$Alarms" ∷ codes "LLN0$Events" ∷ [])) ∷ replied 4 (replies.Names (domain ∷ []))
     ∷ replied 5 (replies.Error 7 2) ∷ replied 6 (replies.Deleted 2 1) ∷ replied 7 (replies.Error 7 3) ∷ replied 8 (replies.Error 7 2) ∷ [])
+
+-- Names go on while those before them are no more octets than the size; each of these is eight octets with its tag and length.
+abbrev pub NamesOfSize : Type 0
+NamesOfSize = (within 7 (codes "Alarms" ∷ codes "Events" ∷ codes "States" ∷ []) ≡ codes "Alarms" ∷ [])
+    × (within 8 (codes "Alarms" ∷ codes "Events" ∷ codes "States" ∷ []) ≡ codes "Alarms" ∷ codes "Events" ∷ [])
+    × (within 16 (codes "Alarms" ∷ codes "Events" ∷ codes "States" ∷ []) ≡ codes "Alarms" ∷ codes "Events" ∷ codes "States" ∷ [])
 
 -- requests of a, one after another
 abbrev pub asks : ℕ → ℕ → List Turn

@@ -7,11 +7,11 @@ ghost use Rattle.bay_examples.specs.WorkedBuffer.{GapMark, OversizedEntry, Exact
 ghost use Rattle.bay_examples.specs.WorkedResumes.{ResumeAtNewest, ResumeBelowFront, RefusedEntryIDs, LossAndResume, EnabledTwice};
 ghost use Rattle.bay_examples.specs.WorkedHolding.{Holding, LossOfAnother, RefusedComponents, RefusalsInOrder};
 ghost use Rattle.bay_examples.specs.WorkedBlocks.{TieOfBlocks, EarliestStep};
-ghost use Rattle.bay_examples.specs.WorkedReads.{ReadsOfNewestEntry, CountedChanges, ReadOfStructure, RefusedAccess};
+ghost use Rattle.bay_examples.specs.WorkedReads.{ReadsOfNewestEntry, CountedChanges, ReadOfStructure, RefusedAccess, LongReads};
 ghost use Rattle.bay_examples.specs.WorkedControls.{RefusedOpers, ActAndTermination, NegativeTermination, TestOperate, CancelledSelection, BlockedAndLost, SelectedBesideLoss, LostExecution, LostTermination, RefusedSelects};
 ghost use Rattle.bay_examples.specs.WorkedSelections.{SelectedBySBO, OperatedMany, DirectControl, BlockedSBO};
 ghost use Rattle.bay_examples.specs.WorkedSettings.{ActiveGroup, EditedGroup, ConfirmedActive, HeldEdit, LastActivation, DroppedEdit, SetByProcess};
-ghost use Rattle.bay_examples.specs.WorkedRequests.{RepliesInOrder, EnabledByRequest, DefinedSet, NamesAndDeletions, WaitingRepliesFull, TerminationsNotCounted, RefusedSteps};
+ghost use Rattle.bay_examples.specs.WorkedRequests.{RepliesInOrder, EnabledByRequest, DefinedSet, NamesAndDeletions, NamesOfSize, WaitingRepliesFull, TerminationsNotCounted, RefusedSteps};
 
 /// Worked histories of events, and of what is reported of them.
 pub fn worked_reports()
@@ -73,6 +73,7 @@ pub fn worked_reads()
     ensures counted_changes { CountedChanges }
     ensures read_of_structure { ReadOfStructure }
     ensures refused_access { RefusedAccess }
+    ensures long_reads { LongReads }
 {}
 
 /// Worked histories of a control with enhanced security: refusals, act and termination.
@@ -114,6 +115,7 @@ pub fn worked_requests()
     ensures enabled_by_request { EnabledByRequest }
     ensures defined_set { DefinedSet }
     ensures names_and_deletions { NamesAndDeletions }
+    ensures names_of_size { NamesOfSize }
     ensures waiting_replies_full { WaitingRepliesFull }
     ensures terminations_not_counted { TerminationsNotCounted }
     ensures refused_steps { RefusedSteps }

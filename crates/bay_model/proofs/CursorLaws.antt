@@ -22,7 +22,7 @@ Fact c before (wrote a b EntryID v) = is_some (enabler b before) ≡ false
 Fact c before (reported a b n) = cursor c b before < n
 Fact c before _ = ⊤
 
-written : (c : Model) (n m : ℕ) (past : Past) (a b : ℕ) (comp : Comp) (v : Value) → is_held b a comp v (arrival n m ∷ past) ≡ false → Fact c past (wrote a b comp v)
+written : (c : Model) (n m : ℕ) (past : Past) (a b : ℕ) (comp : Comp) (v : Value) → is_held (λ e. e == a) comp v (enabler b (arrival n m ∷ past)) ≡ false → Fact c past (wrote a b comp v)
 written c n m past a b EntryID v h = h
 written c n m past a b _ v h = tt
 
@@ -42,7 +42,7 @@ facts c = record {
     of_called = λ a k j v. tt;
     of_selected = λ a k. tt;
   };
-  of_opened = λ n m past a o w. tt;
+  of_opened = λ n m past a o w size. tt;
   of_lost = λ n m past a. tt;
   of_valued = λ n m past s. tt;
   of_finished = λ n m past k good. tt;

@@ -1,6 +1,6 @@
 -- A fact of each deed that a single read or write comes to.
 use Rattle.std.proofs.Common.{not, ◌≡◌, ℕ, Bool, true, false, List, [], ◌∷◌, refl}
-use Rattle.std.specs.Prelude.{Result, Ok, Err, ◌||◌, nat_lt, if◌then◌else◌}
+use Rattle.std.specs.Prelude.{Result, Ok, Err, ◌==◌, ◌||◌, nat_lt, if◌then◌else◌}
 use Rattle.sv_base.specs.declared.value.Value.{Value}
 use Rattle.sv_base.specs.declared.value.Value.TheVariants as kinds
 use Rattle.bay_model.specs.declared.components.Comp.{Comp}
@@ -10,18 +10,19 @@ use Rattle.bay_model.specs.Lookups.{attr_of, node_of, control_of, groups_of}
 use Rattle.bay_model.specs.Points.{Deed, wrote, put, copied, activated, edited, called, nothing, confirmed, selected_control, Past}
 use Rattle.bay_rooms.specs.Kinds.{is_kind, is_in_range}
 use Rattle.bay_model.specs.ComponentTable.{comp_kind}
-use Rattle.bay_model.specs.Blocks.{is_held}
+use Rattle.bay_model.specs.Parameters.{parameters_at}
+use Rattle.bay_model.specs.Blocks.{enabler, is_held}
 use Rattle.bay_model.specs.Calls.{Went, accepted, mistyped, barred, went, can_select}
 use Rattle.bay_model.specs.Outcomes.{gave, did, deed_of, first_code, refused}
 use Rattle.bay_model.specs.Reads.{read_role, read_tree, outcome_of_read}
-use Rattle.bay_model.specs.Writes.{is_written, contradicts, names_nothing, act_refusals, attribute_refusals, holds_edit, is_edited_by_another, write_role, write_part, write_attribute, write_component, outcome_of_call}
+use Rattle.bay_model.specs.Writes.{is_written, contradicts, is_of_nothing, act_refusals, attribute_refusals, holds_edit, is_edited_by_another, write_role, write_part, write_attribute, write_component, outcome_of_call}
 use Rattle.bay_model.specs.Singles.{Single, reads, writes, fails, outcome_of}
 
 -- the fact of each such deed; past ends with the arrival of the single, an accepted write of a component wasn't held, and one
 -- of EditSG or CnfEdit is of who may edit
 pub record OfSingles (c : Model) (past : Past) (G : Deed → Type 0) : Type 0 where
   pub of_nothing : G nothing
-  pub of_wrote : (a b : ℕ) (comp : Comp) (v : Value) → is_held b a comp v past ≡ false → G (wrote a b comp v)
+  pub of_wrote : (a b : ℕ) (comp : Comp) (v : Value) → is_held (λ e. e == a) comp v (enabler b past) ≡ false → G (wrote a b comp v)
   pub of_put : (a x : ℕ) (v : Value) → (attr_of c x).access ≡ model.writable → G (put a x v)
   pub of_copied : (a x : ℕ) (v : Value) → G (copied a x v)
   pub of_activated : (a d n : ℕ) → G (activated a d n)
@@ -39,7 +40,7 @@ module _ (c : Model) (past : Past) (G : Deed → Type 0) (g : OfSingles c past G
     either false u = u
 
   part : (a d : ℕ) (k : SettingComp) (v : Value) → G (deed_of (write_part c a d k v past))
-  part a d ActSG (kinds.Uint n) = code (act_refusals c d n) (activated a d n) (g.of_activated a d n)
+  part a d ActSG (kinds.Uint n) = code (act_refusals (groups_of c d).count n) (activated a d n) (g.of_activated a d n)
   part a d EditSG (kinds.Uint n) = either (is_edited_by_another a d past) refl where
     either : (b : Bool) → is_edited_by_another a d past ≡ b → G (deed_of (if b then refused 2 else first_code ((nat_lt (groups_of c d).count n, 11) ∷ []) (edited a d n)))
     either true is = g.of_nothing
@@ -52,8 +53,8 @@ module _ (c : Model) (past : Past) (G : Deed → Type 0) (g : OfSingles c past G
   part a d _ v = g.of_nothing
 
   attribute_ : (a x : ℕ) (v : Value) (k : Access) → (attr_of c x).access ≡ k → G (deed_of (write_attribute c a x v k past))
-  attribute_ a x v model.writable e = code (attribute_refusals c x v false) (put a x v) (g.of_put a x v e)
-  attribute_ a x v model.edited e = code (attribute_refusals c x v (not (holds_edit a (attr_of c x).domain past))) (copied a (attr_of c x).original v) (g.of_copied a (attr_of c x).original v)
+  attribute_ a x v model.writable e = code (attribute_refusals (attr_of c x).kind v false) (put a x v) (g.of_put a x v e)
+  attribute_ a x v model.edited e = code (attribute_refusals (attr_of c x).kind v (not (holds_edit a (attr_of c x).domain past))) (copied a (attr_of c x).original v) (g.of_copied a (attr_of c x).original v)
   attribute_ a x v _ e = g.of_nothing
 
   call : (a k : ℕ) (j : Call) (v : Value) (w : Went) → G (deed_of (outcome_of_call c a k j v w))
@@ -63,11 +64,11 @@ module _ (c : Model) (past : Past) (G : Deed → Type 0) (g : OfSingles c past G
 
   -- the refusals of a component's write behind that of one which is held
   abbrev refusals_further : (a b : ℕ) → Comp → Value → List (Bool × ℕ)
-  refusals_further a b comp v = (contradicts c b comp v past, 8) ∷ (not (is_in_range (comp_kind comp) v) || names_nothing c b comp v past, 11) ∷ []
+  refusals_further a b comp v = (contradicts comp v (parameters_at c b past), 8) ∷ (not (is_in_range (comp_kind comp) v) || is_of_nothing c b comp v past, 11) ∷ []
 
   pub component_ : (a b : ℕ) (comp : Comp) (v : Value) → G (deed_of (write_component c a b comp v past))
-  component_ a b comp v = either (not (is_kind (comp_kind comp) v)) (not (is_written comp)) (is_held b a comp v past) refl where
-    either : (x y z : Bool) → is_held b a comp v past ≡ z
+  component_ a b comp v = either (not (is_kind (comp_kind comp) v)) (not (is_written comp)) (is_held (λ e. e == a) comp v (enabler b past)) refl where
+    either : (x y z : Bool) → is_held (λ e. e == a) comp v (enabler b past) ≡ z
         → G (deed_of (if x then refused 7 else (if y then refused 3 else (if z then refused 2 else first_code (refusals_further a b comp v) (wrote a b comp v)))))
     either true y z e = g.of_nothing
     either false true z e = g.of_nothing

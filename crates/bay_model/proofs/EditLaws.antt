@@ -35,7 +35,7 @@ facts c = record {
     of_called = λ a k j v. tt;
     of_selected = λ a k. tt;
   };
-  of_opened = λ n m past a o w. tt;
+  of_opened = λ n m past a o w size. tt;
   of_lost = λ n m past a. tt;
   of_valued = λ n m past s. tt;
   of_finished = λ n m past k good. tt;

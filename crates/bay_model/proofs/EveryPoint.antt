@@ -38,7 +38,7 @@ point n m d = record { moment = m; step = n; deed = d }
 -- the fact of each deed; a report is of the next entry of its block
 pub record OfPoints (c : Model) (P : Point → Past → Type 0) : Type 0 where
   pub of_single : (n m : ℕ) (past : Past) → OfSingles c (arrival n m ∷ past) (λ d. P (point n m d) past)
-  pub of_opened : (n m : ℕ) (past : Past) (a o w : ℕ) → P (point n m (opened a o w)) past
+  pub of_opened : (n m : ℕ) (past : Past) (a o w size : ℕ) → P (point n m (opened a o w size)) past
   pub of_lost : (n m : ℕ) (past : Past) (a : ℕ) → P (point n m (lost a)) past
   pub of_valued : (n m : ℕ) (past : Past) (s : List Setting) → P (point n m (valued s)) past
   pub of_finished : (n m : ℕ) (past : Past) (k : ℕ) (good : Bool) → P (point n m (finished k good)) past
@@ -99,7 +99,7 @@ module _ (c : Model) (P : Point → Past → Type 0) (f : OfPoints c P) where
 
   step : (n : ℕ) (t : Turn) (past : Past) (s : Step) → Every P past
       → Every P (point n t.moment (deed_at c n t past s) ∷ singles_after c n t past s)
-  step n t past (steps.Open a size writer) h = (h, f.of_opened n t.moment past a.0 t.actor writer.0)
+  step n t past (steps.Open a size writer) h = (h, f.of_opened n t.moment past a.0 t.actor writer.0 size)
   step n t past (steps.Ask a r) h = (
     singles a.0 n t.moment (singles_of c past r.service) past h,
     f.of_answered n t.moment (after_singles c a.0 n t.moment (singles_of c past r.service) past) a.0 _ _,

@@ -11,6 +11,7 @@ use Rattle.bay_model.specs.declared.answer.Answer.TheVariants as answers
 use Rattle.bay_model.specs.declared.answer.Output.{Output}
 use Rattle.bay_model.specs.declared.answer.Output.TheVariants as outputs
 use Rattle.bay_model.specs.Model.{Model}
+use Rattle.bay_model.specs.Sizes.{size_of}
 use Rattle.bay_model.specs.Points.{Deed, opened, lost, valued, finished, blocked, answered, nothing, Past}
 use Rattle.bay_model.specs.Outcomes.{Outcome, deed_of, code_of, error_in}
 use Rattle.bay_model.specs.Writes.{write_component}
@@ -34,7 +35,7 @@ outcomes_of c n moment a r past = outcomes c a n moment (singles_of c past r.ser
 
 -- its reply, with the LastApplErrors before it
 abbrev pub output_for : Model → ℕ → ℕ → ℕ → Request → Past → Output
-output_for c n moment a r past = outputs.Reply (filter_map error_in (outcomes_of c n moment a r past)) r.invoke (reply c past r.service (outcomes_of c n moment a r past))
+output_for c n moment a r past = outputs.Reply (filter_map error_in (outcomes_of c n moment a r past)) r.invoke (reply c past (size_of a past) r.service (outcomes_of c n moment a r past))
 
 -- what comes of a Write step, at its moment
 abbrev pub outcome_of_write : Model → ℕ → ℕ → ℕ → ℕ → Comp → Value → Past → Outcome
@@ -42,7 +43,7 @@ outcome_of_write c n moment a b comp v past = write_component c a b comp v (arri
 
 -- what came of a step at its own point, which for an Ask is that of its reply; n is its number, from 0
 abbrev pub deed_at : Model → ℕ → Turn → Past → Step → Deed
-deed_at c n t past (steps.Open a size writer) = opened a.0 t.actor writer.0
+deed_at c n t past (steps.Open a size writer) = opened a.0 t.actor writer.0 size
 deed_at c n t past (steps.Ask a r) = answered a.0 (output_for c n t.moment a.0 r past) (change_of c past r.service)
 deed_at c n t past (steps.Write a b comp v) = deed_of (outcome_of_write c n t.moment a.0 b.0 comp v past)
 deed_at c n t past (steps.Take a) = (taken c a.0 (arrival n t.moment ∷ past)).deed

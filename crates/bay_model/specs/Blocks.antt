@@ -23,20 +23,23 @@ abbrev pub enabler : ℕ → Past → Option ℕ
 enabler b [] = None
 enabler b (p ∷ before) = enabler_after b p.deed (enabler b before)
 
+-- an association has enabled a block, and another has; mine tells which one it is
+abbrev pub is_mine : {H : Type 0} → (H → Bool) → Option H → Bool
+is_mine mine enabler = option_map_or mine enabler false
+
+abbrev pub is_anothers : {H : Type 0} → (H → Bool) → Option H → Bool
+is_anothers mine enabler = option_map_or (λ e. not (mine e)) enabler false
+
 -- association a has enabled block b
 abbrev pub is_enabled_by : ℕ → ℕ → Past → Bool
-is_enabled_by b a past = option_map_or (λ e. e == a) (enabler b past) false
+is_enabled_by b a past = is_mine (λ e. e == a) (enabler b past)
 
--- another association than a has
-abbrev pub is_enabled_by_another : ℕ → ℕ → Past → Bool
-is_enabled_by_another b a past = option_map_or (λ e. not (e == a)) (enabler b past) false
-
--- a's write of a component is held, for who has enabled the block: RptEna where another has, GI TRUE where a hasn't, GI
--- FALSE where another has, every other component where anyone has
-abbrev pub is_held : ℕ → ℕ → Comp → Value → Past → Bool
-is_held b a RptEna v past = is_enabled_by_another b a past
-is_held b a GI (kinds.Bool on) past = if on then not (is_enabled_by b a past) else is_enabled_by_another b a past
-is_held b a _ v past = is_some (enabler b past)
+-- an association's write of a component is held, for who has enabled the block: RptEna where another has, GI TRUE where it
+-- hasn't, GI FALSE where another has, every other component where anyone has
+abbrev pub is_held : {H : Type 0} → (H → Bool) → Comp → Value → Option H → Bool
+is_held mine RptEna v enabler = is_anothers mine enabler
+is_held mine GI (kinds.Bool on) enabler = if on then not (is_mine mine enabler) else is_anothers mine enabler
+is_held mine _ v enabler = is_some enabler
 
 abbrev pub sent_after : ℕ → Deed → Bool → ℕ → ℕ
 sent_after b (wrote a k RptEna (kinds.Bool on)) idle was = if (k == b) && (on && idle) then 0 else was

@@ -36,6 +36,7 @@ pub mod Selections
 pub mod Calls
 -- associations, and what waits for them
 pub mod Associations
+pub mod Sizes
 pub mod Waiting
 pub mod Outputs
 -- the tree of names

@@ -1,9 +1,11 @@
 -- The reply to a request by its service (ISO 9506-2, the confirmed services; IEC 61850-8-1, their use).
-use Rattle.std.specs.Prelude.{ℕ, Bool, ◌==◌, List, [], map, length, Option, None, Some, is_none, if◌then◌else◌}
+use Rattle.std.specs.Prelude.{ℕ, Bool, ◌==◌, List, [], map, length, Option, None, Some, is_none, Result, if◌then◌else◌}
 use Rattle.std.specs.Option.{option_map_or}
+use Rattle.sv_base.specs.declared.value.Value.{Value}
 use Rattle.sv_base.specs.Same.{values_of}
 use Rattle.sv_base.specs.Tree.{Row}
 use Rattle.sv_base.specs.declared.numbers.NodeId.{NodeId}
+use Rattle.bay_model.specs.declared.reply.Asked.{Asked}
 use Rattle.bay_model.specs.declared.reply.Asked.TheVariants as asked
 use Rattle.bay_model.specs.declared.reply.Reply.{Reply}
 use Rattle.bay_model.specs.declared.reply.Reply.TheVariants as replies
@@ -15,6 +17,7 @@ use Rattle.bay_model.specs.declared.request.Target.TheVariants as targets
 use Rattle.bay_model.specs.Model.{Model, DataSet}
 use Rattle.bay_model.specs.Points.{Past, Change, unchanged}
 use Rattle.bay_model.specs.Sets.{sets, set_named}
+use Rattle.bay_model.specs.Sizes.{are_too_long}
 use Rattle.bay_model.specs.Outcomes.{Outcome, result_of, code_of}
 use Rattle.bay_model.specs.Singles.{Single, reads, read_of, write_of, writes_of}
 use Rattle.bay_model.specs.Names.{names_reply}
@@ -52,30 +55,36 @@ abbrev pub set_reply : Model → SetName → Option DataSet → Reply
 set_reply c n None = replies.Error 7 2
 set_reply c n (Some s) = replies.SetOf (is_none (set_named n c.sets)) (map node_number s.nodes)
 
-abbrev pub read_set_reply : SetName → Bool → List Outcome → Option DataSet → Reply
-read_set_reply n spec os None = replies.Error 7 2
-read_set_reply n spec os (Some s) = replies.Read (if spec then asked.Set n else asked.No) (map result_of os)
+-- the results of a read, with the specification where it is to be written back; values and codes that are longer than a PDU
+-- are refused by the error of class 4, service, with code 3, pdu-size
+abbrev pub read_reply : ℕ → Asked → List (Result Value ℕ) → Reply
+read_reply size spec results = if are_too_long size results then replies.Error 4 3 else replies.Read spec results
+
+abbrev pub read_set_reply : ℕ → SetName → Bool → List Outcome → Option DataSet → Reply
+read_set_reply size n spec os None = replies.Error 7 2
+read_set_reply size n spec os (Some s) = read_reply size (if spec then asked.Set n else asked.No) (map result_of os)
 
 -- another count of values than members is refused as invalid arguments
 abbrev pub write_set_reply : Row → List Outcome → Option DataSet → Reply
 write_set_reply r os None = replies.Error 7 2
 write_set_reply r os (Some s) = if length s.nodes == length (values_of r) then replies.Wrote (map code_of os) else replies.Reject 3
 
--- the reply to a service; past is what came before the request, os what came of its single reads and writes
-abbrev pub reply : Model → Past → Service → List Outcome → Reply
-reply c past services.Status os = replies.Status
-reply c past services.Identify os = replies.Identify
-reply c past services.Conclude os = replies.Conclude
-reply c past (services.Names class scope after) os = names_reply c past class scope after
-reply c past (services.TypeOfNode t) os = type_reply t
-reply c past (services.Read ts spec) os = replies.Read (if spec then asked.Vars ts else asked.No) (map result_of os)
-reply c past (services.ReadSet domain item spec) os = read_set_reply (set_name domain item) spec os (set_found c past (set_name domain item))
-reply c past (services.WriteVars ws) os = replies.Wrote (map code_of os)
-reply c past (services.WriteSet domain item vs) os = write_set_reply vs os (set_found c past (set_name domain item))
-reply c past (services.Define domain item members) os = definition_reply c past (set_name domain item) members
-reply c past (services.SetOf domain item) os = set_reply c (set_name domain item) (set_found c past (set_name domain item))
-reply c past (services.Delete scope names) os = deletion_reply c past scope names
-reply c past (services.Reject n) os = replies.Reject n
+-- the reply to a service; past is what came before the request, size that of a PDU of its association, os what came of its
+-- single reads and writes
+abbrev pub reply : Model → Past → ℕ → Service → List Outcome → Reply
+reply c past size services.Status os = replies.Status
+reply c past size services.Identify os = replies.Identify
+reply c past size services.Conclude os = replies.Conclude
+reply c past size (services.Names class scope after) os = names_reply c past size class scope after
+reply c past size (services.TypeOfNode t) os = type_reply t
+reply c past size (services.Read ts spec) os = read_reply size (if spec then asked.Vars ts else asked.No) (map result_of os)
+reply c past size (services.ReadSet domain item spec) os = read_set_reply size (set_name domain item) spec os (set_found c past (set_name domain item))
+reply c past size (services.WriteVars ws) os = replies.Wrote (map code_of os)
+reply c past size (services.WriteSet domain item vs) os = write_set_reply vs os (set_found c past (set_name domain item))
+reply c past size (services.Define domain item members) os = definition_reply c past (set_name domain item) members
+reply c past size (services.SetOf domain item) os = set_reply c (set_name domain item) (set_found c past (set_name domain item))
+reply c past size (services.Delete scope names) os = deletion_reply c past scope names
+reply c past size (services.Reject n) os = replies.Reject n
 
 -- what comes of the data sets
 abbrev pub change_of : Model → Past → Service → Change

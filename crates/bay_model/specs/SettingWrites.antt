@@ -1,50 +1,49 @@
 -- What comes of a write of an attribute or of a setting group block's component: its first refusal, or that it is accepted
 -- (IEC 61850-7-2, SetDataValues, SelectActiveSG, SelectEditSG, SetEditSGValue and ConfirmEditSGValues).
-use Rattle.std.specs.Prelude.{ℕ, List, Bool, false, not, ◌||◌, ◌==◌, nat_lt, [], ◌∷◌, if◌then◌else◌}
-use Rattle.std.specs.Option.{option_map_or}
+use Rattle.std.specs.Prelude.{ℕ, List, Bool, Option, false, not, ◌||◌, ◌==◌, nat_lt, [], ◌∷◌, if◌then◌else◌}
 use Rattle.sv_base.specs.declared.value.Value.{Value}
 use Rattle.sv_base.specs.declared.value.Value.TheVariants as kinds
 use Rattle.bay_model.specs.Model as model
-use Rattle.bay_model.specs.Model.{Model, Access, SettingComp, ActSG, EditSG, CnfEdit}
+use Rattle.bay_model.specs.Model.{Model, Access, Kind, SettingComp, ActSG, EditSG, CnfEdit}
 use Rattle.bay_model.specs.Lookups.{attr_of, groups_of}
 use Rattle.bay_rooms.specs.Kinds.{is_kind, is_in_range}
 use Rattle.bay_model.specs.ComponentTable.{setting_comp_kind}
 use Rattle.bay_model.specs.Points.{put, copied, activated, edited, confirmed, nothing, Past}
-use Rattle.bay_model.specs.Settings.{Edit, edit}
+use Rattle.bay_model.specs.Settings.{Edit, edit, is_held_by, is_held_by_another}
 use Rattle.bay_model.specs.Outcomes.{Outcome, refused, first_code}
 
 -- a holds the edit of domain d
 abbrev pub holds_edit : ℕ → ℕ → Past → Bool
-holds_edit a d past = option_map_or (λ (e : Edit). e.holder == a) (edit d past) false
+holds_edit a d past = is_held_by a (edit d past)
 
 -- another than a does
 abbrev pub is_edited_by_another : ℕ → ℕ → Past → Bool
-is_edited_by_another a d past = option_map_or (λ (e : Edit). not (e.holder == a)) (edit d past) false
+is_edited_by_another a d past = is_held_by_another a (edit d past)
 
--- the refusals of ActSG n, of EditSG n and of CnfEdit, behind that of another kind
-abbrev pub act_refusals : Model → ℕ → ℕ → List (Bool × ℕ)
-act_refusals c d n = ((n == 0) || nat_lt (groups_of c d).count n, 11) ∷ []
+-- the refusals of a's ActSG n, of its EditSG n and of its CnfEdit, behind that of another kind; there are so many groups
+abbrev pub act_refusals : ℕ → ℕ → List (Bool × ℕ)
+act_refusals count n = ((n == 0) || nat_lt count n, 11) ∷ []
 
-abbrev pub edit_refusals : Model → ℕ → ℕ → ℕ → Past → List (Bool × ℕ)
-edit_refusals c a d n past = (is_edited_by_another a d past, 2) ∷ (nat_lt (groups_of c d).count n, 11) ∷ []
+abbrev pub edit_refusals : ℕ → ℕ → ℕ → Option Edit → List (Bool × ℕ)
+edit_refusals a count n edit = (is_held_by_another a edit, 2) ∷ (nat_lt count n, 11) ∷ []
 
-abbrev pub confirm_refusals : ℕ → ℕ → Past → List (Bool × ℕ)
-confirm_refusals a d past = (not (holds_edit a d past), 2) ∷ []
+abbrev pub confirm_refusals : ℕ → Option Edit → List (Bool × ℕ)
+confirm_refusals a edit = (not (is_held_by a edit), 2) ∷ []
 
--- the refusals of an attribute that a client may write; is_held where it stands under SE and the writer doesn't hold
+-- the refusals of an attribute of a kind that a client may write; is_held where it stands under SE and the writer doesn't hold
 -- the edit
-abbrev pub attribute_refusals : Model → ℕ → Value → Bool → List (Bool × ℕ)
-attribute_refusals c x v is_held = (not (is_kind (attr_of c x).kind v), 7) ∷ (is_held, 2) ∷ (not (is_in_range (attr_of c x).kind v), 11) ∷ []
+abbrev pub attribute_refusals : Kind → Value → Bool → List (Bool × ℕ)
+attribute_refusals kind v is_held = (not (is_kind kind v), 7) ∷ (is_held, 2) ∷ (not (is_in_range kind v), 11) ∷ []
 
 -- a's write of a component of the setting group block of domain d
 abbrev pub write_part : Model → ℕ → ℕ → SettingComp → Value → Past → Outcome
-write_part c a d ActSG (kinds.Uint n) past = first_code (act_refusals c d n) (activated a d n)
-write_part c a d EditSG (kinds.Uint n) past = first_code (edit_refusals c a d n past) (edited a d n)
-write_part c a d CnfEdit (kinds.Bool on) past = first_code (confirm_refusals a d past) (if on then confirmed a d else nothing)
+write_part c a d ActSG (kinds.Uint n) past = first_code (act_refusals (groups_of c d).count n) (activated a d n)
+write_part c a d EditSG (kinds.Uint n) past = first_code (edit_refusals a (groups_of c d).count n (edit d past)) (edited a d n)
+write_part c a d CnfEdit (kinds.Bool on) past = first_code (confirm_refusals a (edit d past)) (if on then confirmed a d else nothing)
 write_part c a d part v past = refused (if is_kind (setting_comp_kind part) v then 3 else 7)
 
 -- a's write of attribute x
 abbrev pub write_attribute : Model → ℕ → ℕ → Value → Access → Past → Outcome
-write_attribute c a x v model.writable past = first_code (attribute_refusals c x v false) (put a x v)
-write_attribute c a x v model.edited past = first_code (attribute_refusals c x v (not (holds_edit a (attr_of c x).domain past))) (copied a (attr_of c x).original v)
+write_attribute c a x v model.writable past = first_code (attribute_refusals (attr_of c x).kind v false) (put a x v)
+write_attribute c a x v model.edited past = first_code (attribute_refusals (attr_of c x).kind v (not (holds_edit a (attr_of c x).domain past))) (copied a (attr_of c x).original v)
 write_attribute c a x v _ past = refused (if is_kind (attr_of c x).kind v then 3 else 7)

@@ -1,6 +1,6 @@
 -- Setting groups: which is active, who edits one, and what each holds (IEC 61850-7-2, SETTING-GROUP-CONTROL-BLOCK:
 -- ActSG, EditSG, CnfEdit and LActTm).
-use Rattle.std.specs.Prelude.{ℕ, ◌-◌, Bool, false, ◌&&◌, ◌==◌, nat_lt, List, [], ◌∷◌, Option, None, Some, unwrap_or, slice_get, if◌then◌else◌}
+use Rattle.std.specs.Prelude.{ℕ, ◌-◌, Bool, false, not, ◌&&◌, ◌==◌, nat_lt, List, [], ◌∷◌, Option, None, Some, unwrap_or, slice_get, if◌then◌else◌}
 use Rattle.std.specs.Option.{option_or, option_map_or}
 use Rattle.sv_base.specs.declared.value.Value.{Value}
 use Rattle.sv_base.specs.declared.value.Value.TheVariants as kinds
@@ -32,10 +32,17 @@ pub record Edit : Type 0 where
   pub holder : ℕ
   pub group : ℕ
 
+-- an edit is a's, and another's
+abbrev pub is_held_by : ℕ → Option Edit → Bool
+is_held_by a edit = option_map_or (λ (e : Edit). e.holder == a) edit false
+
+abbrev pub is_held_by_another : ℕ → Option Edit → Bool
+is_held_by_another a edit = option_map_or (λ (e : Edit). not (e.holder == a)) edit false
+
 abbrev pub edit_after : ℕ → Deed → Option Edit → Option Edit
 edit_after d (edited a e n) was = if e == d then (if n == 0 then None else Some (record { holder = a; group = n })) else was
 edit_after d (confirmed a e) was = if e == d then None else was
-edit_after d (lost a) was = if option_map_or (λ (e : Edit). e.holder == a) was false then None else was
+edit_after d (lost a) was = if is_held_by a was then None else was
 edit_after d _ was = was
 
 -- the last accepted EditSG above 0 that no accepted CnfEdit TRUE and no loss of its association follows

@@ -11,7 +11,7 @@ use Rattle.bay_model.specs.Calls.{Went, went, accepted, mistyped, barred}
 use Rattle.bay_model.specs.Outputs.{error_of}
 use Rattle.bay_model.specs.Outcomes as outcomes
 use Rattle.bay_model.specs.Outcomes.{Outcome, did, refused}
-pub use Rattle.bay_model.specs.BlockWrites.{is_written, contradicts, names_nothing, component_refusals, write_component}
+pub use Rattle.bay_model.specs.BlockWrites.{is_written, contradicts, is_of_nothing, component_refusals, write_component}
 pub use Rattle.bay_model.specs.SettingWrites.{holds_edit, is_edited_by_another, act_refusals, edit_refusals, confirm_refusals, attribute_refusals, write_part, write_attribute}
 
 -- a refused command is answered by code 3, with a LastApplError before the reply

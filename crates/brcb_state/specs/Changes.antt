@@ -1,7 +1,6 @@
 -- What writes, reports and losses make of a report block, and which of its entries is reported next (IEC 61850-7-2, BRCB
 -- attributes).
-use Rattle.std.specs.Prelude.{ℕ, suc, ◌+◌, ◌%◌, max, min, Bool, false, not, ◌==◌, ◌&&◌, nat_lt, Option, None, Some, is_none, is_some, if◌then◌else◌}
-use Rattle.std.specs.Option.{option_map_or}
+use Rattle.std.specs.Prelude.{ℕ, suc, ◌+◌, ◌%◌, max, min, Bool, false, ◌==◌, ◌&&◌, nat_lt, Option, None, Some, is_none, is_some, if◌then◌else◌}
 use Rattle.sv_base.specs.declared.numbers.AssocNo.{AssocNo}
 use Rattle.sv_base.specs.declared.value.Value.{Value}
 use Rattle.sv_base.specs.declared.value.Value.TheVariants as kinds
@@ -9,7 +8,7 @@ use Rattle.bay_model.specs.declared.components.Comp.{Comp}
 use Rattle.bay_model.specs.declared.components.Comp.TheVariants as comps
 use Rattle.bay_model.specs.Model as model
 use Rattle.bay_model.specs.Parameters.{written_to, is_changed_by, next_revision}
-use Rattle.bay_model.specs.Blocks.{entry_id}
+use Rattle.bay_model.specs.Blocks.{is_mine, is_anothers, entry_id}
 use Rattle.brcb_state.specs.declared.block.Block.{Block}
 use Rattle.brcb_state.specs.declared.told.Kept.{Kept}
 use Rattle.brcb_state.specs.declared.told.Next.{Next}
@@ -18,11 +17,11 @@ use Rattle.brcb_state.specs.declared.told.Effect.TheVariants as effects
 
 -- association a has enabled the block
 abbrev pub is_by : AssocNo → Option AssocNo → Bool
-is_by a enabler = option_map_or (λ (e : AssocNo). e.0 == a.0) enabler false
+is_by a enabler = is_mine (λ (e : AssocNo). e.0 == a.0) enabler
 
 -- another association than a has
 abbrev pub is_by_another : AssocNo → Option AssocNo → Bool
-is_by_another a enabler = option_map_or (λ (e : AssocNo). not (e.0 == a.0)) enabler false
+is_by_another a enabler = is_anothers (λ (e : AssocNo). e.0 == a.0) enabler
 
 -- a block as it is configured
 abbrev pub configured : model.Block → Block

@@ -1,18 +1,18 @@
 -- What a block stands for: a report block of the model, up to the last point of a past.
-use Rattle.std.specs.Prelude.{◌≡◌, ℕ, Bool, List, [], ◌∷◌, length, is_none, is_some, ◌&&◌, true, Option, None, Some, false, Result, Ok, Err, if◌then◌else◌, ◌==◌}
+use Rattle.std.specs.Prelude.{◌≡◌, ℕ, Bool, List, [], ◌∷◌, length, is_none, is_some, ◌&&◌, true, Option, None, Some, false, Result, if◌then◌else◌, ◌==◌}
 use Rattle.std.specs.Option.{option_map}
 use Rattle.sv_base.specs.declared.numbers.AssocNo.{AssocNo}
 use Rattle.sv_base.specs.declared.value.Value.{Value}
-use Rattle.sv_base.specs.declared.value.Value.TheVariants as kinds
 use Rattle.bay_model.specs.Model.{Model}
 use Rattle.bay_model.specs.Lookups.{block_of}
 use Rattle.bay_model.specs.Points.{Deed, wrote, lost, reported, Point, Past}
 use Rattle.bay_model.specs.Parameters.{parameters_at, conf_rev, purges, is_purging_change, is_interrogation}
-use Rattle.bay_model.specs.Sets.{sets, set_referred}
+use Rattle.bay_model.specs.Sets.{sets}
 use Rattle.bay_model.specs.Entries.{Entry, selected}
 use Rattle.bay_model.specs.Retained.{front}
 use Rattle.bay_model.specs.Blocks.{enabler, cursor, sq_num}
-use Rattle.bay_model.specs.Outcomes.{Outcome, did, refused}
+use Rattle.bay_model.specs.BlockWrites as writes
+use Rattle.bay_model.specs.Outcomes.{Outcome, outcome_by}
 use Rattle.brcb_state.specs.declared.block.Block.{Block}
 use Rattle.brcb_state.specs.declared.told.Kept.{Kept}
 use Rattle.brcb_state.specs.declared.told.Effect.{Effect}
@@ -33,8 +33,7 @@ kept_at c b past = record { front = front c b past; len = length (selected c b p
 
 -- a DatSet that is written names a set
 abbrev pub is_known : Model → Past → Value → Bool
-is_known c past (kinds.Text t) = is_some (set_referred t (sets c past))
-is_known c past _ = false
+is_known c past v = writes.is_known (sets c past) v
 
 -- after a point of this deed, at which the front of block b is here
 abbrev pub after_deed : ℕ → Deed → ℕ → Block → Block
@@ -45,8 +44,7 @@ after_deed b _ here s = s
 
 -- the outcome of a write that was answered so
 abbrev pub outcome_of : Deed → Result Effect ℕ → Outcome
-outcome_of deed (Ok effect) = did deed
-outcome_of deed (Err code) = refused code
+outcome_of deed answer = outcome_by answer deed
 
 -- the moment of the newest of the entries
 abbrev pub newest_of : List Entry → Option ℕ

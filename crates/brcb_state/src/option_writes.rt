@@ -27,7 +27,8 @@ impl Block {
     ghost use Rattle.bay_model.specs.Parameters.{next_revision};
     ghost use Rattle.brcb_state.specs.declared.told.Effect.TheVariants as effects;
     ghost use Rattle.brcb_state.specs.Changes.{written, effect_of};
-    ghost use Rattle.brcb_state.specs.Refusals.{answer_to, is_no_set, anyone};
+    ghost use Rattle.bay_model.specs.BlockWrites.{names_nothing};
+    ghost use Rattle.brcb_state.specs.Refusals.{answer_to, anyone};
 
     fn set_rpt_id(&mut self, text: &[u8]) -> Result<Effect, u8>
         ensures answer { result ≡ answer_to anyone comps.RptID (kinds.Text text.now) false self.old }
@@ -69,7 +70,7 @@ impl Block {
     }
 
     fn set_dat_set(&mut self, text: &[u8], known: bool) -> Result<Effect, u8>
-        ensures answer { result ≡ answer_to anyone comps.DatSet (kinds.Text text.now) (is_no_set known (kinds.Text text.now)) self.old }
+        ensures answer { result ≡ answer_to anyone comps.DatSet (kinds.Text text.now) (names_nothing 0 0 known comps.DatSet (kinds.Text text.now)) self.old }
         ensures written { OnOk result (self.new ≡ written anyone comps.DatSet (kinds.Text text.now) 0 self.old) }
         ensures unchanged { OnErr result (self.new ≡ self.old) }
     {
@@ -85,7 +86,7 @@ impl Block {
     }
 
     pub(crate) fn write_dat_set(&mut self, value: &Value, known: bool) -> Result<Effect, u8>
-        ensures answer { result ≡ answer_to anyone comps.DatSet value.now (is_no_set known value.now) self.old }
+        ensures answer { result ≡ answer_to anyone comps.DatSet value.now (names_nothing 0 0 known comps.DatSet value.now) self.old }
         ensures written { OnOk result (self.new ≡ written anyone comps.DatSet value.now 0 self.old) }
         ensures unchanged { OnErr result (self.new ≡ self.old) }
     {

@@ -6,7 +6,7 @@ ghost use Rattle.bay_rooms.specs.Kinds.{is_kind};
 ghost use Rattle.sv_base.specs.declared.value.Value.TheVariants as kinds;
 ghost use Rattle.bay_model.specs.Breaks.{is_empty as is_empty_list};
 ghost use Rattle.brcb_state.specs.declared.told.Effect.TheVariants as effects;
-ghost use Rattle.brcb_state.specs.Refusals.{is_retained_or_zero};
+ghost use Rattle.bay_model.specs.BlockWrites.{is_retained_or_zero};
 
 use crate::block::{Block, bit};
 use crate::told::{Effect, Kept};
@@ -32,7 +32,7 @@ pub fn is_empty(octets: &[u8]) -> bool
 
 /// The entry of a number is retained, or the number is zero.
 fn is_retained_or_zero(kept: Kept, n: u64) -> bool
-    ensures { result ≡ is_retained_or_zero kept n }
+    ensures { result ≡ is_retained_or_zero kept.front kept.len n }
 {
     n == 0 || (kept.front < n && n <= kept.len)
 }
@@ -66,7 +66,8 @@ impl Block {
     ghost use Rattle.brcb_state.specs.declared.told.Kept.{Kept};
     ghost use Rattle.brcb_state.specs.declared.told.Effect.TheVariants as effects;
     ghost use Rattle.brcb_state.specs.Changes.{written, effect_of};
-    ghost use Rattle.brcb_state.specs.Refusals.{answer_to, names_nothing, is_no_entry, is_retained_or_zero, anyone};
+    ghost use Rattle.bay_model.specs.BlockWrites.{is_retained_or_zero};
+    ghost use Rattle.brcb_state.specs.Refusals.{answer_to, names_nothing, anyone};
 
     /// The count of reports after RptEna.
     fn count_after(&self, on: bool) -> u16
@@ -126,7 +127,7 @@ impl Block {
     }
 
     fn resume(&mut self, n: u64, kept: Kept) -> Result<Effect, u8>
-        ensures answer { result ≡ (if is_some self.old.enabler then Err 2 else (if is_retained_or_zero kept n then Ok effects.Nothing else Err 11)) }
+        ensures answer { result ≡ (if is_some self.old.enabler then Err 2 else (if is_retained_or_zero kept.front kept.len n then Ok effects.Nothing else Err 11)) }
         ensures written { OnOk result (self.new ≡ record self.old { cursor = if n == 0 then min self.old.cursor kept.front else n }) }
         ensures unchanged { OnErr result (self.new ≡ self.old) }
     {
@@ -141,7 +142,7 @@ impl Block {
     }
 
     fn resume_at(&mut self, a: AssocNo, octets: &[u8], kept: Kept) -> Result<Effect, u8>
-        ensures answer { result ≡ answer_to a comps.EntryID (kinds.Octets octets.now) (is_no_entry kept (kinds.Octets octets.now)) self.old }
+        ensures answer { result ≡ answer_to a comps.EntryID (kinds.Octets octets.now) (names_nothing kept false comps.EntryID (kinds.Octets octets.now)) self.old }
         ensures written { OnOk result (self.new ≡ written a comps.EntryID (kinds.Octets octets.now) kept.front self.old) }
         ensures unchanged { OnErr result (self.new ≡ self.old) }
     {
@@ -152,7 +153,7 @@ impl Block {
     }
 
     fn write_entry_id(&mut self, a: AssocNo, value: &Value, kept: Kept) -> Result<Effect, u8>
-        ensures answer { result ≡ answer_to a comps.EntryID value.now (is_no_entry kept value.now) self.old }
+        ensures answer { result ≡ answer_to a comps.EntryID value.now (names_nothing kept false comps.EntryID value.now) self.old }
         ensures written { OnOk result (self.new ≡ written a comps.EntryID value.now kept.front self.old) }
         ensures unchanged { OnErr result (self.new ≡ self.old) }
     {

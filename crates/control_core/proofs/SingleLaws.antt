@@ -1,6 +1,6 @@
 -- A fact of each deed that a single read or write of a comes to; an Oper is accepted.
 use Rattle.std.proofs.Common.{not, ◌≡◌, ℕ, Bool, true, false, List, [], ◌∷◌, refl}
-use Rattle.std.specs.Prelude.{⊤, Result, Ok, Err, ◌||◌, if◌then◌else◌}
+use Rattle.std.specs.Prelude.{⊤, Result, Ok, Err, ◌==◌, ◌||◌, if◌then◌else◌}
 use Rattle.sv_base.specs.declared.value.Value.{Value}
 use Rattle.sv_base.specs.declared.value.Value.TheVariants as kinds
 use Rattle.bay_model.specs.declared.components.Comp.{Comp}
@@ -8,15 +8,17 @@ use Rattle.bay_model.specs.declared.components.SettingComp.{SettingComp}
 use Rattle.bay_model.specs.declared.components.SettingComp.TheVariants.{ActSG, EditSG, CnfEdit}
 use Rattle.bay_model.specs.Model as model
 use Rattle.bay_model.specs.Model.{Model, Access, Role, Block, Call, Tree, single, selecting, calling, several, select, operate, cancel}
-use Rattle.bay_model.specs.Lookups.{attr_of, node_of, control_of}
+use Rattle.bay_model.specs.Lookups.{attr_of, node_of, control_of, groups_of}
 use Rattle.bay_model.specs.Points.{Deed, wrote, put, copied, activated, edited, called, lost, valued, blocked, reported, nothing, confirmed, selected_control, Past}
 use Rattle.bay_rooms.specs.Kinds.{is_kind, is_in_range}
 use Rattle.bay_model.specs.ComponentTable.{comp_kind}
-use Rattle.bay_model.specs.Blocks.{is_held}
+use Rattle.bay_model.specs.Parameters.{parameters_at}
+use Rattle.bay_model.specs.Settings.{edit}
+use Rattle.bay_model.specs.Blocks.{enabler, is_held}
 use Rattle.bay_model.specs.Calls.{Went, accepted, mistyped, barred, went, can_select}
 use Rattle.bay_model.specs.Outcomes.{gave, deed_of, first_code, refused}
 use Rattle.bay_model.specs.Reads.{read_role, read_tree, outcome_of_read}
-use Rattle.bay_model.specs.Writes.{is_written, contradicts, names_nothing, act_refusals, edit_refusals, confirm_refusals, attribute_refusals, holds_edit, write_role, write_part, write_attribute, write_component, outcome_of_call}
+use Rattle.bay_model.specs.Writes.{is_written, contradicts, is_of_nothing, act_refusals, edit_refusals, confirm_refusals, attribute_refusals, holds_edit, write_role, write_part, write_attribute, write_component, outcome_of_call}
 use Rattle.bay_model.specs.Singles.{Single, reads, writes, fails, outcome_of}
 
 -- a deed of a single that isn't an Oper
@@ -52,12 +54,12 @@ code-quiet (t ∷ ts) d u = either t.0 (code-quiet ts d u) where
   either false u = u
 
 pub write-quiet : (c : Model) (a b : ℕ) (comp : Comp) (v : Value) (past : Past) → IsQuiet (deed_of (write_component c a b comp v past))
-write-quiet c a b comp v past = either (not (is_kind (comp_kind comp) v)) (not (is_written comp)) (is_held b a comp v past) where
-  either : (x y z : Bool) → IsQuiet (deed_of (if x then refused 7 else (if y then refused 3 else (if z then refused 2 else first_code ((contradicts c b comp v past, 8) ∷ (not (is_in_range (comp_kind comp) v) || names_nothing c b comp v past, 11) ∷ []) (wrote a b comp v)))))
+write-quiet c a b comp v past = either (not (is_kind (comp_kind comp) v)) (not (is_written comp)) (is_held (λ e. e == a) comp v (enabler b past)) where
+  either : (x y z : Bool) → IsQuiet (deed_of (if x then refused 7 else (if y then refused 3 else (if z then refused 2 else first_code ((contradicts comp v (parameters_at c b past), 8) ∷ (not (is_in_range (comp_kind comp) v) || is_of_nothing c b comp v past, 11) ∷ []) (wrote a b comp v)))))
   either true y z = tt
   either false true z = tt
   either false false true = tt
-  either false false false = code-quiet ((contradicts c b comp v past, 8) ∷ (not (is_in_range (comp_kind comp) v) || names_nothing c b comp v past, 11) ∷ []) (wrote a b comp v) tt
+  either false false false = code-quiet ((contradicts comp v (parameters_at c b past), 8) ∷ (not (is_in_range (comp_kind comp) v) || is_of_nothing c b comp v past, 11) ∷ []) (wrote a b comp v) tt
 
 code-bare : (ts : List (Bool × ℕ)) (d : Deed) → IsBare d → IsBare (deed_of (first_code ts d))
 code-bare [] d u = u
@@ -67,12 +69,12 @@ code-bare (t ∷ ts) d u = either t.0 (code-bare ts d u) where
   either false u = u
 
 pub write-bare : (c : Model) (a b : ℕ) (comp : Comp) (v : Value) (past : Past) → IsBare (deed_of (write_component c a b comp v past))
-write-bare c a b comp v past = either (not (is_kind (comp_kind comp) v)) (not (is_written comp)) (is_held b a comp v past) where
-  either : (x y z : Bool) → IsBare (deed_of (if x then refused 7 else (if y then refused 3 else (if z then refused 2 else first_code ((contradicts c b comp v past, 8) ∷ (not (is_in_range (comp_kind comp) v) || names_nothing c b comp v past, 11) ∷ []) (wrote a b comp v)))))
+write-bare c a b comp v past = either (not (is_kind (comp_kind comp) v)) (not (is_written comp)) (is_held (λ e. e == a) comp v (enabler b past)) where
+  either : (x y z : Bool) → IsBare (deed_of (if x then refused 7 else (if y then refused 3 else (if z then refused 2 else first_code ((contradicts comp v (parameters_at c b past), 8) ∷ (not (is_in_range (comp_kind comp) v) || is_of_nothing c b comp v past, 11) ∷ []) (wrote a b comp v)))))
   either true y z = tt
   either false true z = tt
   either false false true = tt
-  either false false false = code-bare ((contradicts c b comp v past, 8) ∷ (not (is_in_range (comp_kind comp) v) || names_nothing c b comp v past, 11) ∷ []) (wrote a b comp v) tt
+  either false false false = code-bare ((contradicts comp v (parameters_at c b past), 8) ∷ (not (is_in_range (comp_kind comp) v) || is_of_nothing c b comp v past, 11) ∷ []) (wrote a b comp v) tt
 
 pub record OfSingles (c : Model) (a : ℕ) (past : Past) (G : Deed → Type 0) : Type 0 where
   pub of_quiet : (d : Deed) → IsQuiet d → IsBare d → G d
@@ -88,17 +90,17 @@ module _ (c : Model) (a : ℕ) (past : Past) (G : Deed → Type 0) (g : OfSingle
     either false u = u
 
   part : (d : ℕ) (k : SettingComp) (v : Value) → G (deed_of (write_part c a d k v past))
-  part d ActSG (kinds.Uint n) = code (act_refusals c d n) (activated a d n) (g.of_quiet (activated a d n) tt tt)
-  part d EditSG (kinds.Uint n) = code (edit_refusals c a d n past) (edited a d n) (g.of_quiet (edited a d n) tt tt)
-  part d CnfEdit (kinds.Bool on) = code (confirm_refusals a d past) (if on then confirmed a d else nothing) (either on) where
+  part d ActSG (kinds.Uint n) = code (act_refusals (groups_of c d).count n) (activated a d n) (g.of_quiet (activated a d n) tt tt)
+  part d EditSG (kinds.Uint n) = code (edit_refusals a (groups_of c d).count n (edit d past)) (edited a d n) (g.of_quiet (edited a d n) tt tt)
+  part d CnfEdit (kinds.Bool on) = code (confirm_refusals a (edit d past)) (if on then confirmed a d else nothing) (either on) where
     either : (b : Bool) → G (if b then confirmed a d else nothing)
     either true = g.of_quiet (confirmed a d) tt tt
     either false = g.of_quiet nothing tt tt
   part d _ v = g.of_quiet nothing tt tt
 
   attribute_ : (x : ℕ) (v : Value) (k : Access) → G (deed_of (write_attribute c a x v k past))
-  attribute_ x v model.writable = code (attribute_refusals c x v false) (put a x v) (g.of_quiet (put a x v) tt tt)
-  attribute_ x v model.edited = code (attribute_refusals c x v (not (holds_edit a (attr_of c x).domain past))) (copied a (attr_of c x).original v) (g.of_quiet (copied a (attr_of c x).original v) tt tt)
+  attribute_ x v model.writable = code (attribute_refusals (attr_of c x).kind v false) (put a x v) (g.of_quiet (put a x v) tt tt)
+  attribute_ x v model.edited = code (attribute_refusals (attr_of c x).kind v (not (holds_edit a (attr_of c x).domain past))) (copied a (attr_of c x).original v) (g.of_quiet (copied a (attr_of c x).original v) tt tt)
   attribute_ x v _ = g.of_quiet nothing tt tt
 
   call : (k : ℕ) (j : Call) (v : Value) (w : Went) → went c k j a v past ≡ w → G (deed_of (outcome_of_call c a k j v w))
@@ -107,10 +109,10 @@ module _ (c : Model) (a : ℕ) (past : Past) (G : Deed → Type 0) (g : OfSingle
   call k j v (barred cause) e = g.of_quiet nothing tt tt
 
   abbrev refusals_further : (b : ℕ) → Comp → Value → List (Bool × ℕ)
-  refusals_further b comp v = (contradicts c b comp v past, 8) ∷ (not (is_in_range (comp_kind comp) v) || names_nothing c b comp v past, 11) ∷ []
+  refusals_further b comp v = (contradicts comp v (parameters_at c b past), 8) ∷ (not (is_in_range (comp_kind comp) v) || is_of_nothing c b comp v past, 11) ∷ []
 
   pub component_ : (b : ℕ) (comp : Comp) (v : Value) → G (deed_of (write_component c a b comp v past))
-  component_ b comp v = either (not (is_kind (comp_kind comp) v)) (not (is_written comp)) (is_held b a comp v past) where
+  component_ b comp v = either (not (is_kind (comp_kind comp) v)) (not (is_written comp)) (is_held (λ e. e == a) comp v (enabler b past)) where
     either : (x y z : Bool) → G (deed_of (if x then refused 7 else (if y then refused 3 else (if z then refused 2 else first_code (refusals_further b comp v) (wrote a b comp v)))))
     either true y z = g.of_quiet nothing tt tt
     either false true z = g.of_quiet nothing tt tt
