@@ -16,7 +16,7 @@ use Rattle.data_sets.specs.Books.{Booked, Book, is_name, reference, place_of, nu
 use Rattle.data_sets.specs.declared.book.DeleteFault.{DeleteFault}
 use Rattle.data_sets.specs.declared.book.DeleteFault.TheVariants as faults
 use Rattle.data_sets.specs.Standing.{StandsFor, IsPlain, IsNamed, data_set, counted}
-use Rattle.data_sets.proofs.Places.{at_own, at_set}
+use Rattle.list_laws.proofs.Places.{at_own, at_set}
 
 -- ---- octets
 

@@ -1,5 +1,4 @@
 pub mod SetLaws
-pub mod Places
 pub mod PlaceLaws
 pub mod BookLaws
 pub mod HistoryLaws

@@ -17,7 +17,7 @@ use Rattle.data_sets.specs.Opening.{AreSets, AreNamed, IsReferred, set_reference
 use Rattle.data_sets.proofs.BookLaws.{holds_more, counted_none, no-reference}
 use Rattle.data_sets.proofs.HistoryLaws.{found, dat_at, dat_count}
 use Rattle.data_sets.proofs.PlaceLaws.{no_place}
-use Rattle.data_sets.proofs.Places.{at_any}
+use Rattle.list_laws.proofs.Places.{at_any}
 
 -- ---- no DatSet is written yet
 

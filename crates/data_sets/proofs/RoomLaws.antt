@@ -20,7 +20,7 @@ use Rattle.data_sets.specs.Standing.{Stands, StandsFor, dat_sets, counted}
 use Rattle.data_sets.specs.Opening.{IsSmall, IsBounded}
 use Rattle.data_sets.proofs.BookLaws.{at_front, at_last, length_more, old, at_removed, old_below}
 use Rattle.data_sets.proofs.DeleteLaws.{used_counted}
-use Rattle.data_sets.proofs.Places.{at_own}
+use Rattle.list_laws.proofs.Places.{at_own}
 
 -- ---- in use
 

@@ -4,7 +4,8 @@ use Rattle.std.specs.List.{All}
 use Rattle.std.specs.Option.{option_map, option_or}
 use Rattle.std.specs.Str.{bytes_eq}
 use Rattle.std.specs.Cmp.Lexicographic.{bytes_decides}
-use Rattle.std.proofs.lemmas.Bool.Decides.{nat_tests}
+use Rattle.std.proofs.lemmas.Bool.Decides.{nat_tests, eqb_tells}
+use Rattle.std.proofs.lemmas.List.{same_lists, length-map, get_or-map}
 use Rattle.std.proofs.lemmas.List.Elements.{All-head, All-tail}
 use Rattle.std.proofs.lemmas.Option.{slice_get-map}
 use Rattle.list_laws.proofs.Among.{heads, tails}
@@ -133,7 +134,7 @@ zero_suc x = grind (arith, nat_tests)
 suc_zero : (y : ℕ) → (suc y == 0) ≡ false
 suc_zero y = grind (arith, nat_tests)
 
-suc_suc : (y x : ℕ) → (suc y == suc x) ≡ (y == x)
+pub suc_suc : (y x : ℕ) → (suc y == suc x) ≡ (y == x)
 suc_suc y x = grind (arith, nat_tests)
 
 pub at_set : {X : Type 0} (all : List X) (y x : ℕ) (w d : X) → y < length all → slice_index_or (slice_set all y w) x d ≡ (if y == x then w else slice_index_or all x d)
@@ -143,6 +144,27 @@ at_set (a ∷ as_) zero (suc x) w d below = rw (zero_suc x) refl
 at_set (a ∷ as_) (suc y) zero w d below = rw (suc_zero y) refl
 at_set (a ∷ as_) (suc y) (suc x) w d below = rw (suc_suc y x) (at_set as_ y x w d (omega (arith, below)))
 
+-- where it is set by what stood there
+pub at_own : {X : Type 0} (f : X → X) (all : List X) (y x : ℕ) (d : X) → y < length all → slice_index_or (slice_set all y (f (slice_index_or all y d))) x d ≡ (if y == x then f (slice_index_or all x d) else slice_index_or all x d)
+at_own f all y x d below = at_set all y x (f (slice_index_or all y d)) d below ∙ by (eqb_tells y x)
+  where
+    by : ((y == x) ≡ true) × (y ≡ x) ⊎ ((y == x) ≡ false) × (y ≢ x) → (if y == x then f (slice_index_or all y d) else slice_index_or all x d) ≡ (if y == x then f (slice_index_or all x d) else slice_index_or all x d)
+    by (inl t) = ap (λ k. if y == x then f (slice_index_or all k d) else slice_index_or all x d) t.1
+    by (inr t) = rw t.0 refl
+
+-- what stands where there is nothing is of no account within the list
+pub at_any : {X : Type 0} (all : List X) (x : ℕ) (d e : X) → x < length all → slice_index_or all x d ≡ slice_index_or all x e
+at_any [] x d e below = absurd (omega (arith, below))
+at_any (a ∷ as_) zero d e below = refl
+at_any (a ∷ as_) (suc x) d e below = at_any as_ x d e (omega (arith, below))
+
+-- a list that has f of the old one's element at each place
+pub map_from_reads : {X : Type 0} (f : X → X) (old new : List X) → length new ≡ length old
+    → ((k : ℕ) (d : X) → k < length old → get_or new k d ≡ f (get_or old k d)) → new ≡ map f old
+map_from_reads f old new same reads =
+    same_lists new (map f old) (same ∙ sym (length-map old f))
+    (λ k d within. reads k d (omega arith) ∙ sym (get_or-map f old k d d (omega arith)))
+
 -- ---- numbers of places
 
 pub same-number : (b : ℕ) → (b == b) ≡ true
@@ -150,3 +172,14 @@ same-number b = grind (arith, nat_tests)
 
 pub other-number : (b k : ℕ) → k ≢ b → (b == k) ≡ false
 other-number b k h = grind (arith, nat_tests, h)
+
+pub equal-number : (a b : ℕ) → a ≡ b → (a == b) ≡ true
+equal-number a b e = grind (arith, nat_tests, e)
+
+pub swap-number : (a b : ℕ) → (a == b) ≡ (b == a)
+swap-number a b = either (eqb_tells a b) (eqb_tells b a) where
+  either : ((a == b) ≡ true) × (a ≡ b) ⊎ ((a == b) ≡ false) × (a ≢ b) → ((b == a) ≡ true) × (b ≡ a) ⊎ ((b == a) ≡ false) × (b ≢ a) → (a == b) ≡ (b == a)
+  either (inl e) (inl f) = e.0 ∙ sym f.0
+  either (inl e) (inr f) = absurd (f.1 (sym e.1))
+  either (inr e) (inl f) = absurd (e.1 (sym f.1))
+  either (inr e) (inr f) = e.0 ∙ sym f.0

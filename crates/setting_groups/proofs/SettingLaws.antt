@@ -12,7 +12,7 @@ use Rattle.bay_rooms.specs.Slots.{Held}
 use Rattle.bay_model.specs.Settings.{Edit, edit, stored, group, is_edited}
 use Rattle.setting_groups.specs.Grouped.{Domained, Settled, Grouped, domain_at, setting_at, no_domain, no_setting, loaded, stored_in, copied, after_edit, after_copy, after_confirm, edit_place}
 use Rattle.setting_groups.specs.Standing.{Stands, StandsBlock, StandsSetting, IsEdit, at}
-use Rattle.setting_groups.proofs.Places.{at_own, at_any, at_set, swap, suc_suc, same_number}
+use Rattle.list_laws.proofs.Places.{at_own, at_any, at_set, swap-number, suc_suc, equal-number}
 use Rattle.setting_groups.proofs.BlockLaws.{edit_block, confirm_block}
 
 -- each setting is changed in what it holds alone
@@ -114,10 +114,10 @@ module _ (c : Model) (before : Past) (n m : ℕ) (s : Grouped) (h : Stands s c b
   module _ (t : Settled) (o : StandsSetting t c before) (a d : ℕ) where
     -- the domain of the setting by its number, as the model tests it
     tested : (b : Bool) → (t.domain == d) ≡ b → (d == (attr_of c t.attr).domain) ≡ b
-    tested b is = ap (λ x. d == x) (sym o.domain) ∙ (swap d t.domain ∙ is)
+    tested b is = ap (λ x. d == x) (sym o.domain) ∙ (swap-number d t.domain ∙ is)
 
     untested : (b : Bool) → (t.domain == d) ≡ b → (d == t.domain) ≡ b
-    untested b is = swap d t.domain ∙ is
+    untested b is = swap-number d t.domain ∙ is
 
     edit_other : (g : ℕ) → (t.domain == d) ≡ false → StandsSetting t c (at n m (edited_deed a d g) ∷ before)
     edit_other g not = record {
@@ -183,7 +183,7 @@ module _ (c : Model) (before : Past) (n m : ℕ) (s : Grouped) (h : Stands s c b
       → StandsSetting (if k == j then copied v (setting_at s j) else setting_at s j) c (at n m (copied_deed a (setting_at s k).attr v) ∷ before)
   copied_setting a k j v lk lj (inl t) =
       let o = h.settings j lj in
-      let same : ((setting_at s k).attr == (setting_at s j).attr) ≡ true = same_number _ _ (ap (λ i. (setting_at s i).attr) t.1) in
+      let same : ((setting_at s k).attr == (setting_at s j).attr) ≡ true = equal-number _ _ (ap (λ i. (setting_at s i).attr) t.1) in
       rw t.0 (record {
         domain = o.domain;
         access = o.access;

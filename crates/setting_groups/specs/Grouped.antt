@@ -1,14 +1,15 @@
 -- The setting group blocks of the domains, and the values of the SG attributes: how they go as clients and the process
 -- write (IEC 61850-7-2, SelectActiveSG, SelectEditSG, SetEditSGValue and ConfirmEditSGValues).
-use Rattle.std.specs.Prelude.{ℕ, suc, ◌-◌, Bool, false, not, ◌&&◌, ◌||◌, ◌==◌, nat_lt, List, [], ◌∷◌, map, Option, None, Some, Result, Ok, Err, slice_index_or, slice_set, is_some, if◌then◌else◌}
+use Rattle.std.specs.Prelude.{ℕ, suc, ◌-◌, Bool, false, not, ◌&&◌, ◌==◌, List, [], ◌∷◌, map, Option, None, Some, Result, Err, slice_index_or, slice_set, is_some, if◌then◌else◌}
 use Rattle.std.specs.Option.{option_map, option_map_or}
 use Rattle.sv_base.specs.declared.value.Value.{Value}
 use Rattle.sv_base.specs.declared.value.Value.TheVariants as kinds
 use Rattle.bay_model.specs.declared.step.Setting.{Setting}
 use Rattle.bay_model.specs.Model.{truth}
-use Rattle.bay_rooms.specs.Kinds.{is_kind, is_in_range}
 use Rattle.bay_rooms.specs.Slots.{Held}
-use Rattle.bay_model.specs.Settings.{Edit}
+use Rattle.bay_model.specs.Outcomes.{first_of}
+use Rattle.bay_model.specs.Settings.{Edit, is_held_by}
+use Rattle.bay_model.specs.SettingWrites.{act_refusals, edit_refusals, confirm_refusals, attribute_refusals}
 use Rattle.setting_groups.specs.declared.domain.Edit as declared
 
 -- a domain's block: how many groups, the active one, who edits which, and when the active one was chosen
@@ -48,10 +49,7 @@ setting_at s k = slice_index_or s.settings k no_setting
 -- ---- a block
 
 abbrev pub holds : ℕ → Domained → Bool
-holds a d = option_map_or (λ (e : Edit). e.holder == a) d.edit false
-
-abbrev pub is_anothers : ℕ → Domained → Bool
-is_anothers a d = option_map_or (λ (e : Edit). not (e.holder == a)) d.edit false
+holds a d = is_held_by a d.edit
 
 -- the number that EditSG reads
 abbrev pub edit_number : Domained → ℕ
@@ -66,14 +64,14 @@ is_on (kinds.Bool on) = on
 is_on _ = false
 
 abbrev pub act_answer : Domained → Value → Result (Unit {0}) ℕ
-act_answer d (kinds.Uint n) = if (n == 0) || nat_lt d.count n then Err 11 else Ok tt
+act_answer d (kinds.Uint n) = first_of (act_refusals d.count n) tt
 act_answer d _ = Err 7
 
 abbrev pub activated : ℕ → ℕ → Domained → Domained
 activated n now d = record d { active = n; last = Some now }
 
 abbrev pub edit_answer : ℕ → Domained → Value → Result (Unit {0}) ℕ
-edit_answer a d (kinds.Uint n) = if is_anothers a d then Err 2 else (if nat_lt d.count n then Err 11 else Ok tt)
+edit_answer a d (kinds.Uint n) = first_of (edit_refusals a d.count n d.edit) tt
 edit_answer a d _ = Err 7
 
 abbrev pub edited : ℕ → ℕ → Domained → Domained
@@ -81,12 +79,12 @@ edited a n d = record d { edit = if n == 0 then None else Some (record { holder 
 
 -- whether CnfEdit confirms
 abbrev pub confirm_answer : ℕ → Domained → Value → Result Bool ℕ
-confirm_answer a d (kinds.Bool on) = if holds a d then Ok on else Err 2
+confirm_answer a d (kinds.Bool on) = first_of (confirm_refusals a d.edit) on
 confirm_answer a d _ = Err 7
 
 -- whether it does, and of the active group
 abbrev pub stored_answer : ℕ → Domained → Value → Result Bool ℕ
-stored_answer a d (kinds.Bool on) = if holds a d then Ok (on && (edit_number d == d.active)) else Err 2
+stored_answer a d (kinds.Bool on) = first_of (confirm_refusals a d.edit) (on && (edit_number d == d.active))
 stored_answer a d _ = Err 7
 
 abbrev pub unedited : Domained → Domained
@@ -109,7 +107,7 @@ with_value v h = record { value = v; kind = h.kind }
 
 -- what comes of a write into the copy, by one who holds it or not
 abbrev pub copy_answer : Bool → Settled → Value → Result (Unit {0}) ℕ
-copy_answer is_held s v = if is_kind s.copy.kind v then (if is_held then (if is_in_range s.copy.kind v then Ok tt else Err 11) else Err 2) else Err 7
+copy_answer is_held s v = first_of (attribute_refusals s.copy.kind v (not is_held)) tt
 
 abbrev pub copied : Value → Settled → Settled
 copied v s = record s { copy = with_value v s.copy }

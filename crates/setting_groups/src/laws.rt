@@ -16,12 +16,13 @@ ghost use Rattle.bay_model.specs.Singles.{arrival};
 ghost use Rattle.sv_base.specs.declared.config.Config.{Config};
 ghost use Rattle.setting_groups.specs.Opened.{opened, IsGrouped};
 ghost use Rattle.bay_model.specs.Points.{Deed, Point, Past, now, activated, edited, copied, confirmed, lost, valued, nothing};
+ghost use Rattle.bay_model.specs.Outcomes.{outcome_by};
 ghost use Rattle.bay_model.specs.Reads.{read_attribute};
 ghost use Rattle.bay_model.specs.Settings.{active, edit, stored, group};
 ghost use Rattle.bay_model.specs.SettingWrites.{write_part, write_attribute};
 ghost use Rattle.bay_model.specs.Values.{value_at};
 ghost use Rattle.setting_groups.specs.Grouped.{Grouped, domain_at, setting_at, act_answer, edit_answer, copy_answer, stored_answer, number_in, edit_number, is_on, holds, active_place, after_act, after_edit, after_copy, after_confirm, after_loss, after_values};
-ghost use Rattle.setting_groups.specs.Standing.{Stands, IsQuiet, IsTwin, at, outcome_by, confirm_outcome};
+ghost use Rattle.setting_groups.specs.Standing.{Stands, IsQuiet, IsTwin, at};
 
 /// Setting groups that are opened stand for the empty history. Where they stand for what was before a point, they stand for its
 /// arrival; then, after what came of it, for the point: after a client's accepted write of ActSG, of EditSG, into the copy or of
@@ -55,7 +56,7 @@ pub fn writes_are_answered()
     ensures copy { (c : Model) (s : Grouped) (a k y : ℕ) (v : Value) (past : Past) → Stands s c past → k < length s.settings → IsTwin c y (setting_at s k)
         → write_attribute c a y v model.edited past ≡ outcome_by (copy_answer (holds a (domain_at s (setting_at s k).domain)) (setting_at s k) v) (copied a (setting_at s k).attr v) }
     ensures confirm { (c : Model) (s : Grouped) (a d : ℕ) (v : Value) (past : Past) → Stands s c past → d < length s.domains → 1 ≤ (groups_of c d).count
-        → write_part c a d CnfEdit v past ≡ confirm_outcome (stored_answer a (domain_at s d) v) (if is_on v then confirmed a d else nothing) }
+        → write_part c a d CnfEdit v past ≡ outcome_by (stored_answer a (domain_at s d) v) (if is_on v then confirmed a d else nothing) }
 {}
 
 /// What is read of them is what the model of the bay has.

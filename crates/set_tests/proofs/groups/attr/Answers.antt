@@ -1,0 +1,5 @@
+use Rattle.set_tests.proofs.OpenedLaws.{valued}
+use Rattle.set_tests.proofs.groups.attr.Goals as goal
+
+pub returns-clause-values : goal.returns-clause-values
+returns-clause-values c = valued _ c.in_ok-values.field-0.items c.from_vec.ensures c.in_ok-values.ensures.some c.in_ok-values.ensures.held
