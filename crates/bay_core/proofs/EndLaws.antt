@@ -20,7 +20,6 @@ use Rattle.assoc_table.specs.Standing.{Stands as AssociationsStand, ends_of}
 use Rattle.window_core.specs.Points.{at}
 use Rattle.report_block.specs.Writes.{lost_by}
 use Rattle.bay_core.specs.Parting.{after_loss_all}
-use Rattle.bay_config.specs.Servable.{IsServable}
 use Rattle.bay_core.specs.State.{State}
 use Rattle.bay_core.specs.Standing.{StandsAt}
 use Rattle.bay_core.proofs.MoveLaws.{passed}
@@ -36,21 +35,21 @@ open-told m rows past a st number = by (row_of rows a).ends (ends a past) (st.ea
 -- opened by the one, with the other to take for it
 pub ends-told : (m : Model) (rows : List Row) (past : Past) (a : ℕ) (opener writer : ActorNo) → AssociationsStand rows m past → IsNumber a
     → option_map (λ (e : Ends). e.opener) (row_of rows a).ends ≡ Some opener → option_map (λ (e : Ends). e.writer) (row_of rows a).ends ≡ Some writer
-    → ends a past ≡ Some (record { opener = opener.0; writer = writer.0 })
+    → (e : model.Ends) × (ends a past ≡ Some e) × (e.opener ≡ opener.0) × (e.writer ≡ writer.0)
 ends-told m rows past a opener writer st number one other = by (row_of rows a).ends (ends a past) (st.each a number).ends one other where
   by : (e : Option Ends) (f : Option model.Ends) → option_map ends_of e ≡ f → option_map (λ (x : Ends). x.opener) e ≡ Some opener → option_map (λ (x : Ends). x.writer) e ≡ Some writer
-      → f ≡ Some (record { opener = opener.0; writer = writer.0 })
+      → (g : model.Ends) × (f ≡ Some g) × (g.opener ≡ opener.0) × (g.writer ≡ writer.0)
   by None f is one other = cc
-  by (Some e) f is one other = sym is ∙ cc
+  by (Some e) f is one other = (ends_of e, sym is, ap (λ (o : ActorNo). o.0) (some_is e.opener opener one), ap (λ (o : ActorNo). o.0) (some_is e.writer writer other))
 
 -- ---- opened
 
 abbrev pub opening : ℕ → ℕ → ℕ → Ends → Point
-opening n t a e = at n t (opened a e.opener.0 e.writer.0)
+opening n t a e = at n t (opened a e.opener.0 e.writer.0 e.size)
 
-pub opened-at : (s : State) (c : Config) (n t a : ℕ) (e : Ends) (past : Past) → IsServable c → IsNumber a → StandsAt s c n past
+pub opened-at : (s : State) (c : Config) (n t a : ℕ) (e : Ends) (past : Past) → IsNumber a → StandsAt s c n past
     → StandsAt (record s { steps = suc s.steps; latest = max s.latest t; rows = started s.rows a e }) c (suc n) (opening n t a e ∷ past)
-opened-at s c n t a e past served number st = passed s c n t (opened a e.opener.0 e.writer.0) past e.size s.parts served (record { number = number; puts = λ k. refl; gives = λ k. refl; sets = refl }) (λ x. refl)
+opened-at s c n t a e past number st = passed s c n t (opened a e.opener.0 e.writer.0 e.size) past s.parts (record { number = number; puts = λ k. refl; gives = λ k. refl; sets = refl }) (λ x. refl)
     (record { note = λ b. refl; cuts = λ b. refl; parameters = λ b. refl }) (λ b q there. (q, there, refl)) st
 
 -- ---- lost
@@ -58,17 +57,17 @@ opened-at s c n t a e past served number st = passed s c n t (opened a e.opener.
 abbrev pub losing : ℕ → ℕ → ℕ → Point
 losing n t a = at n t (lost a)
 
-pub lost-at : (s : State) (c : Config) (n t : ℕ) (a : AssocNo) (past : Past) → IsServable c → IsNumber a.0 → StandsAt s c n past
+pub lost-at : (s : State) (c : Config) (n t : ℕ) (a : AssocNo) (past : Past) → IsNumber a.0 → StandsAt s c n past
     → StandsAt (record s { steps = suc s.steps; latest = max s.latest t; parts = after_loss_all a s.parts; rows = ended s.rows a.0 }) c (suc n) (losing n t a.0 ∷ past)
-lost-at s c n t a past served number st = passed s c n t (lost a.0) past 0 (after_loss_all a s.parts) served (record { number = number; puts = λ k. refl; gives = λ k. refl; sets = refl }) (λ x. refl)
+lost-at s c n t a past number st = passed s c n t (lost a.0) past (after_loss_all a s.parts) (record { number = number; puts = λ k. refl; gives = λ k. refl; sets = refl }) (λ x. refl)
     (record { note = λ b. refl; cuts = λ b. refl; parameters = λ b. refl }) (got-map (lost_by a) s.parts) st
 
 -- ---- why an opening or a loss is refused
 
 -- nobody but the opener and the writer may end it
-pub lost-fault : (m : Model) (past : Past) (actor a opener writer : ℕ) → ends a past ≡ Some (record { opener = opener; writer = writer }) → ((actor == opener) || (actor == writer)) ≡ true
+pub lost-fault : (m : Model) (past : Past) (actor a : ℕ) (e : model.Ends) → ends a past ≡ Some e → ((actor == e.opener) || (actor == e.writer)) ≡ true
     → if_open (ends a past) a (λ e. (actor == e.opener) || (actor == e.writer)) None ≡ None
-lost-fault m past actor a opener writer is yours = rw (is, yours) refl
+lost-fault m past actor a e is yours = rw (is, yours) refl
 
 pub yours-told : (x o w : ℕ) → (((x ≡ o) → ⊥) × (x ≡ w)) ⊎ (x ≡ o) → ((x == o) || (x == w)) ≡ true
 yours-told x o w is = grind (arith, nat_tests, is)

@@ -1,5 +1,5 @@
 -- The state of a bay that was opened: its parts fit the configuration, and it stands for the history of no step.
-use Rattle.std.proofs.Common.{◌≡◌, ◌<◌, ℕ, suc, List, [], ◌∷◌, get_or, arith, map, replicate, refl, ap, sym, ◌∙◌, subst, length}
+use Rattle.std.proofs.Common.{◌≡◌, ◌<◌, ◌≤◌, ℕ, suc, List, [], ◌∷◌, get_or, arith, map, replicate, refl, ap, sym, ◌∙◌, subst, length}
 use Rattle.std.specs.List.{All}
 use Rattle.std.proofs.lemmas.List.{length-map, get_or-map}
 use Rattle.std.proofs.lemmas.List.Elements.{All-head, All-tail}
@@ -31,9 +31,9 @@ use Rattle.bay_core.specs.State.{State, IsFurnished, AreHeld}
 use Rattle.bay_core.proofs.FirstValues.{opened-held}
 use Rattle.bay_core.proofs.OpenLaws.{parts-members, parts-windows, parts-stand}
 
-pub furnished-first : (c : Config) (stored : List Stored) (parts : List ReportBlock) (w : Watch) (octets : Filled ℕ) → IsServable c → stored ≡ opened c
-    → map seen parts ≡ map (part_defined c) c.blocks → IsWatching (length stored) parts w → octets.room ≡ 129024 → IsFurnished c stored parts w octets
-furnished-first c stored parts w octets served values are watch kept = record {
+pub furnished-first : (c : Config) (stored : List Stored) (parts : List ReportBlock) (w : Watch) (octets : Filled ℕ) (room : ℕ) → IsServable c → stored ≡ opened c
+    → map seen parts ≡ map (part_defined c) c.blocks → IsWatching (length stored) parts w → octets.room ≡ 129024 → length stored ≤ room → IsFurnished c stored parts w octets room
+furnished-first c stored parts w octets room served values are watch kept enough = record {
   servable = served;
   values = subst (AreHeld c) (sym values) (opened-held c served);
   count = sym (length-map parts seen) ∙ (ap length are ∙ length-map c.blocks (part_defined c));
@@ -41,6 +41,7 @@ furnished-first c stored parts w octets served values are watch kept = record {
   windows = parts-windows c served parts are;
   watch = watch;
   entry = kept;
+  changes = enough;
 }
 
 -- each attribute of a member is one of the configuration
@@ -82,6 +83,6 @@ stands-first s c served config steps latest values are rows = (
     associations = subst (λ all. AssociationsStand all (configured_model c) []) (sym rows) (stands-empty (configured_model c));
     empty = λ a. refl;
     sets = refl;
-    blocks = parts-stand c s.parts are;
+    blocks = parts-stand c served s.parts are;
   },
 )

@@ -12,9 +12,9 @@ use Rattle.bay_core.specs.State.{IsFurnished}
 use Rattle.bay_core.specs.Watched.{IsWatching}
 use Rattle.bay_core.proofs.WatchLaws.{watching-map}
 
-module _ (c : Config) (stored : List Stored) (parts : List ReportBlock) (w : Watch) (octets : Filled ℕ) (old : IsFurnished c stored parts w octets) where
+module _ (c : Config) (stored : List Stored) (parts : List ReportBlock) (w : Watch) (octets : Filled ℕ) (room : ℕ) (old : IsFurnished c stored parts w octets room) where
   pub furnished-map : (f : ReportBlock → ReportBlock) → ((p : ReportBlock) → (f p).members ≡ p.members) → ((p : ReportBlock) → (f p).window.members ≡ p.window.members)
-      → ((p : ReportBlock) → (f p).block.options ≡ p.block.options) → IsFurnished c stored (map f parts) w octets
+      → ((p : ReportBlock) → (f p).block.options ≡ p.block.options) → IsFurnished c stored (map f parts) w octets room
   furnished-map f same rooms options = record {
     servable = old.servable;
     values = old.values;
@@ -23,10 +23,11 @@ module _ (c : Config) (stored : List Stored) (parts : List ReportBlock) (w : Wat
     windows = λ b part there. (let was = got-map f parts b part there in subst (λ (p : ReportBlock). p.window.members ≤ 256) was.2 (omega (arith, rooms was.0, old.windows b was.0 was.1)));
     watch = watching-map (length stored) parts w f same options old.watch;
     entry = old.entry;
+    changes = old.changes;
   }
 
   pub furnished-set : (i : ℕ) (x y : ReportBlock) (v : Watch) → slice_get parts i ≡ Some x → y.members ≡ x.members → y.window.members ≡ x.window.members → IsWatching (length stored) (slice_set parts i y) v
-      → IsFurnished c stored (slice_set parts i y) v octets
+      → IsFurnished c stored (slice_set parts i y) v octets room
   furnished-set i x y v there same rooms watch = record {
     servable = old.servable;
     values = old.values;
@@ -41,4 +42,5 @@ module _ (c : Config) (stored : List Stored) (parts : List ReportBlock) (w : Wat
     ];
     watch = watch;
     entry = old.entry;
+    changes = old.changes;
   }

@@ -28,3 +28,4 @@ pub mod FirstState
 pub mod OpenLaws
 -- threads
 pub mod SendLaws
+pub mod SyncLaws

@@ -3,6 +3,8 @@ use Rattle.std.proofs.Common.{◌≡◌, refl, ap, sym, ◌∙◌, ◌<◌, ℕ,
 use Rattle.std.specs.List.{All}
 use Rattle.std.specs.Option.{option_map}
 use Rattle.std.proofs.lemmas.List.{get_or_default}
+use Rattle.std.proofs.lemmas.List.Elements.{All-head, All-tail}
+use Rattle.std.proofs.lemmas.List.Sums.{sum_by-cons}
 use Rattle.sv_base.specs.declared.config.Config.{Config}
 use Rattle.sv_base.specs.declared.value.Value.{Value}
 use Rattle.bay_model.specs.declared.flags.Change.{Change}
@@ -11,7 +13,7 @@ use Rattle.bay_model.specs.Settings.{set_to}
 use Rattle.value_store.specs.Stored.{Stored}
 use Rattle.trigger_core.specs.Noted.{change_of}
 use Rattle.bay_core.specs.Changed.{change_from}
-use Rattle.bay_core.specs.Marked.{is_marked, IsBlank, AreNoted, IsDone}
+use Rattle.bay_core.specs.Marked.{is_marked, one_if, marked_in, IsBlank, AreNoted, IsDone}
 use Rattle.bay_core.proofs.DistinctChanges.{found}
 
 -- where no change is left, nothing is marked
@@ -40,3 +42,24 @@ within_by (b ∷ marks) (suc x) is = omega (arith, within_by marks x is)
 pub within_all : (c : Config) (before after : List Stored) (settings : List Setting) (marks : List Bool) (changes : List Change) → IsDone c before settings after marks changes → All (λ (ch : Change). ch.attr.0 < length marks) changes
 within_all c before after settings marks changes done = λ k d below.
     within_by marks (slice_index_or changes k d).attr.0 (marked_are c before after settings marks changes done (slice_index_or changes k d).attr.0 ∙ found changes k d below)
+
+-- where nothing is marked
+pub none_marked : (marks : List Bool) → IsBlank marks → marked_in marks ≡ 0
+none_marked [] blank = refl
+none_marked (b ∷ marks) blank = omega (arith, sum_by-cons one_if b marks, ap one_if (All-head (λ m. m ≡ false) b marks blank), none_marked marks (All-tail (λ m. m ≡ false) b marks blank))
+
+-- before any setting was made
+pub done_first : (c : Config) (stored : List Stored) (marks : List Bool) → IsBlank marks → IsDone c stored [] stored marks []
+done_first c stored marks blank = record {
+  count = refl;
+  values = λ x. refl;
+  marked = λ x. free marks x blank;
+  made = λ x. refl;
+  once = λ k j d before below. absurd (omega (arith, below));
+  noted = sym (none_marked marks blank);
+}
+  where
+    free : (marks : List Bool) (x : ℕ) → IsBlank marks → is_marked marks x ≡ false
+    free [] x blank = refl
+    free (b ∷ marks) zero blank = All-head (λ m. m ≡ false) b marks blank
+    free (b ∷ marks) (suc x) blank = free marks x (All-tail (λ m. m ≡ false) b marks blank)

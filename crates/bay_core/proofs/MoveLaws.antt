@@ -18,15 +18,14 @@ use Rattle.assoc_table.specs.Seats.{Row}
 use Rattle.assoc_table.specs.Coming.{nothing_put, came, IsNumbered}
 use Rattle.assoc_table.proofs.StandLaws as associations
 use Rattle.window_core.specs.Points.{at}
-use Rattle.bay_config.specs.Servable.{IsServable}
 use Rattle.report_block.specs.declared.block.ReportBlock.{ReportBlock}
 use Rattle.bay_core.specs.State.{State}
 use Rattle.bay_core.specs.Standing.{PartsStand, StandsAt, StandsFor}
 use Rattle.bay_core.proofs.PartLaws.{IsApart, AreLeft, parts-arrive, parts-left}
 
 -- time has passed, up to the moment of a step
-pub arrives : (s : State) (c : Config) (n t : ℕ) (past : Past) → IsServable c → StandsAt s c n past → StandsAt (record s { latest = max s.latest t }) c n (arrival n t ∷ past)
-arrives s c n t past served st = record {
+pub arrives : (s : State) (c : Config) (n t : ℕ) (past : Past) → StandsAt s c n past → StandsAt (record s { latest = max s.latest t }) c n (arrival n t ∷ past)
+arrives s c n t past st = record {
   is_config = st.is_config;
   is_steps = st.is_steps;
   is_latest = omega (arith, st.is_latest);
@@ -34,7 +33,7 @@ arrives s c n t past served st = record {
   associations = associations.stands-arrival (configured_model c) t n past s.rows st.associations;
   empty = st.empty;
   sets = st.sets;
-  blocks = parts-arrive c n t past s.parts served st.blocks;
+  blocks = parts-arrive (configured_model c) n t past s.parts st.blocks;
 }
 
 -- a deed that puts nothing, takes nothing that waits, and defines and deletes no data set
@@ -51,20 +50,20 @@ waits-none m a n t d past empty puts gives = rw (gives, empty, puts) (by (is_sta
   by true = refl
   by false = refl
 
--- the associations after a deed; of one that is opened this is the greatest size of a PDU
-abbrev pub rows_after : Deed → ℕ → List Row → List Row
-rows_after d size rows = came d (record nothing_put { size = size }) rows
+-- the associations after a deed that puts nothing
+abbrev pub rows_after : Deed → List Row → List Row
+rows_after d rows = came d nothing_put rows
 
 -- after the deed of a step, which leaves these values and blocks
-pub done : (s : State) (c : Config) (n t : ℕ) (d : Deed) (past : Past) (size : ℕ) (stored : List Stored) (parts : List ReportBlock) → IsSilent (configured_model c) n t d past
+pub done : (s : State) (c : Config) (n t : ℕ) (d : Deed) (past : Past) (stored : List Stored) (parts : List ReportBlock) → IsSilent (configured_model c) n t d past
     → ValuesStand stored (configured_model c) (at n t d ∷ past) → PartsStand (configured_model c) (at n t d ∷ past) parts → StandsAt s c n (arrival n t ∷ past)
-    → StandsAt (record s { steps = suc s.steps; stored = stored; parts = parts; rows = rows_after d size s.rows }) c (suc n) (at n t d ∷ past)
-done s c n t d past size stored parts silent values blocks st = record {
+    → StandsAt (record s { steps = suc s.steps; stored = stored; parts = parts; rows = rows_after d s.rows }) c (suc n) (at n t d ∷ past)
+done s c n t d past stored parts silent values blocks st = record {
   is_config = st.is_config;
   is_steps = ap suc st.is_steps;
   is_latest = st.is_latest;
   values = values;
-  associations = associations.stands-deed (configured_model c) t n d past s.rows (record nothing_put { size = size }) st.associations
+  associations = associations.stands-deed (configured_model c) t n d past s.rows nothing_put st.associations
       (record { number = silent.number; puts = silent.puts 0; for_one = λ some. absurd (some refl); for_no_other = λ e other. silent.puts e });
   empty = λ a. waits-none (configured_model c) a n t d past (st.empty a) (silent.puts a) (silent.gives a);
   sets = silent.sets ∙ st.sets;
@@ -72,12 +71,12 @@ done s c n t d past size stored parts silent values blocks st = record {
 }
 
 -- a step whose deed leaves all values, and the entries of all blocks
-pub passed : (s : State) (c : Config) (n t : ℕ) (d : Deed) (past : Past) (size : ℕ) (parts : List ReportBlock) → IsServable c → IsSilent (configured_model c) n t d past
+pub passed : (s : State) (c : Config) (n t : ℕ) (d : Deed) (past : Past) (parts : List ReportBlock) → IsSilent (configured_model c) n t d past
     → ((x : ℕ) → gives (configured_model c) x d past ≡ None) → IsApart (configured_model c) n t d past → AreLeft d s.parts parts → StandsAt s c n past
-    → StandsAt (record s { steps = suc s.steps; latest = max s.latest t; parts = parts; rows = rows_after d size s.rows }) c (suc n) (at n t d ∷ past)
-passed s c n t d past size parts served silent same apart left st =
-    let here = arrives s c n t past served st in
-    done (record s { latest = max s.latest t }) c n t d past size s.stored parts silent (values-same here.values) (parts-left (configured_model c) n t d past s.parts parts apart left here.blocks) here
+    → StandsAt (record s { steps = suc s.steps; latest = max s.latest t; parts = parts; rows = rows_after d s.rows }) c (suc n) (at n t d ∷ past)
+passed s c n t d past parts silent same apart left st =
+    let here = arrives s c n t past st in
+    done (record s { latest = max s.latest t }) c n t d past s.stored parts silent (values-same here.values) (parts-left (configured_model c) n t d past s.parts parts apart left here.blocks) here
   where
     values-same : ValuesStand s.stored (configured_model c) (arrival n t ∷ past) → ValuesStand s.stored (configured_model c) (at n t d ∷ past)
     values-same stand = values.stands-deed s.stored s.stored (configured_model c) t n d past stand refl (λ x below. ap (λ o. unwrap_or o (attribute s.stored x).held.value) (sym (same x)))
@@ -87,8 +86,8 @@ pub left-as-they-are : (parts : List ReportBlock) → AreLeft nothing parts part
 left-as-they-are parts = λ b q there. (q, there, refl)
 
 -- a step that nothing came of
-pub still : (s : State) (c : Config) (n t : ℕ) (past : Past) → IsServable c → StandsAt s c n past → StandsAt (record s { steps = suc s.steps; latest = max s.latest t }) c (suc n) (arrival n t ∷ past)
-still s c n t past served st = passed s c n t nothing past 0 s.parts served (record { number = tt; puts = λ a. refl; gives = λ a. refl; sets = refl }) (λ x. refl)
+pub still : (s : State) (c : Config) (n t : ℕ) (past : Past) → StandsAt s c n past → StandsAt (record s { steps = suc s.steps; latest = max s.latest t }) c (suc n) (arrival n t ∷ past)
+still s c n t past st = passed s c n t nothing past s.parts (record { number = tt; puts = λ a. refl; gives = λ a. refl; sets = refl }) (λ x. refl)
     (record { note = λ b. refl; cuts = λ b. refl; parameters = λ b. refl }) (left-as-they-are s.parts) st
 
 -- an accepted step, of a state that is known by an equation
@@ -96,8 +95,8 @@ pub accepted-as : (s t u : State) (c : Config) (h : History) (turn : Turn) → S
     → StandsAt u c (suc (length h)) (turned (configured_model c) (length h) turn (points (configured_model c) h)) → StandsFor t c (turn ∷ h)
 accepted-as s t u c h turn st none is at = ((st.0, none), subst (λ v. StandsAt v c (suc (length h)) (turned (configured_model c) (length h) turn (points (configured_model c) h))) (sym is) at)
 
-pub still-for : (s t : State) (c : Config) (h : History) (turn : Turn) → IsServable s.config → t ≡ record s { steps = suc s.steps; latest = max s.latest turn.moment } → StandsFor s c h
+pub still-for : (s t : State) (c : Config) (h : History) (turn : Turn) → t ≡ record s { steps = suc s.steps; latest = max s.latest turn.moment } → StandsFor s c h
     → fault (configured_model c) h turn ≡ None → turned (configured_model c) (length h) turn (points (configured_model c) h) ≡ arrival (length h) turn.moment ∷ points (configured_model c) h → StandsFor t c (turn ∷ h)
-still-for s t c h turn served is st none quiet = accepted-as s t (record s { steps = suc s.steps; latest = max s.latest turn.moment }) c h turn st none is
+still-for s t c h turn is st none quiet = accepted-as s t (record s { steps = suc s.steps; latest = max s.latest turn.moment }) c h turn st none is
     (subst (λ past. StandsAt (record s { steps = suc s.steps; latest = max s.latest turn.moment }) c (suc (length h)) past) (sym quiet)
-    (still s c (length h) turn.moment (points (configured_model c) h) (subst IsServable st.1.is_config served) st.1))
+    (still s c (length h) turn.moment (points (configured_model c) h) st.1))

@@ -25,6 +25,7 @@ use Rattle.brcb_state.specs.Changes.{configured}
 use Rattle.entry_ring.specs.Standing.{empty}
 use Rattle.window_core.specs.Windows.{Windowed, empty as empty_window}
 use Rattle.report_block.proofs.StandLaws.{opened}
+use Rattle.bay_core.proofs.PartLaws.{at_once-served}
 use Rattle.bay_core.proofs.ServedLaws.{served-few}
 use Rattle.report_block.specs.declared.block.ReportBlock.{ReportBlock}
 use Rattle.bay_core.specs.Opened.{is_referred, row_referred, nodes_referred, PartSeen, seen, part_defined}
@@ -153,13 +154,14 @@ parts-windows c served parts are b part at =
     let known = part-at c parts are b part at in
     omega (arith, ap (λ (s : PartSeen). s.window.members) known.2, ap length (members-defined c b known.0 known.1), served-few c served b)
 
-pub parts-stand : (c : Config) (parts : List ReportBlock) → map seen parts ≡ map (part_defined c) c.blocks → PartsStand (configured_model c) [] parts
-parts-stand c parts are = λ b part at.
+pub parts-stand : (c : Config) → IsServable c → (parts : List ReportBlock) → map seen parts ≡ map (part_defined c) c.blocks → PartsStand (configured_model c) [] parts
+parts-stand c served parts are = λ b part at.
     let known = part-at c parts are b part at in
     let is = block-defined c b known.0 known.1 in
     record {
       stands = opened (configured_model c) b part (ap (λ (s : PartSeen). s.block) (sym known.2) ∙ ap configured (sym is)) (ap (λ (s : PartSeen). s.ring) (sym known.2) ∙ ap (λ (k : Block). empty k.capacity) (sym is))
           (ap (λ (w : Windowed). record w { members = part.window.members }) (ap (λ (s : PartSeen). s.window) (sym known.2)) ∙ ap (λ (k : Block). empty_window part.window.members k.initial.buf_tm) (sym is))
           (ap (λ (s : PartSeen). s.origin) (sym known.2));
-      initial = refl;
+      at_once = at_once-served c b served;
+      dat_set = refl;
     }

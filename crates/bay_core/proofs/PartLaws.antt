@@ -1,6 +1,6 @@
 -- The blocks of a bay that report at once, without an integrity period: at the arrival of a point, and after a deed that doesn't
 -- touch their entries (IEC 61850-7-2, BRCB attributes BufTm and IntgPd).
-use Rattle.std.proofs.Common.{◌≡◌, ℕ, List, [], ◌∷◌, map, refl, sym, subst, ◌∙◌, false, Some}
+use Rattle.std.proofs.Common.{◌≡◌, ℕ, List, [], ◌∷◌, map, refl, sym, ap, subst, ◌∙◌, false, Some}
 use Rattle.std.specs.Prelude.{slice_get}
 use Rattle.std.specs.List.{All}
 use Rattle.std.proofs.lemmas.List.Elements.{All-nil, All-cons, All-head, All-tail}
@@ -21,12 +21,7 @@ use Rattle.window_core.specs.Points.{at}
 use Rattle.bay_config.specs.Servable.{IsServable, IsServedBlock}
 use Rattle.report_block.specs.declared.block.ReportBlock.{ReportBlock}
 use Rattle.report_block.proofs.PlainLaws.{arrives-at-once, left-alone}
-use Rattle.bay_core.specs.Standing.{PartStands, PartsStand}
-
--- the buffer time and the integrity period are 0
-pub record AreAtOnce (o : Parameters) : Type 0 where
-  pub buf_tm : o.buf_tm ≡ 0
-  pub intg_pd : o.intg_pd ≡ 0
+use Rattle.bay_core.specs.Standing.{AreAtOnce, PartStands, PartsStand}
 
 abbrev HasNoTimes : Block → Type 0
 HasNoTimes k = AreAtOnce k.initial
@@ -41,15 +36,11 @@ served-blocks (b ∷ bs) all =
 pub at_once-served : (c : Config) (b : ℕ) → IsServable c → AreAtOnce (block_of (configured_model c) b).initial
 at_once-served c b served = get-or HasNoTimes (configured_model c).blocks b (record { reference = []; initial = no_parameters; conf_rev = 1; capacity = 0 }) (record { buf_tm = refl; intg_pd = refl }) (served-blocks c.blocks served.blocks)
 
-pub at_once-now : (c : Config) (b : ℕ) (past : Past) (part : ReportBlock) → IsServable c → PartStands (configured_model c) b past part → AreAtOnce (parameters_at (configured_model c) b past)
-at_once-now c b past part served st = subst AreAtOnce (sym st.initial) (at_once-served c b served)
-
 -- the blocks at the arrival of a point
-pub parts-arrive : (c : Config) (n t : ℕ) (past : Past) (parts : List ReportBlock) → IsServable c → PartsStand (configured_model c) past parts → PartsStand (configured_model c) (arrival n t ∷ past) parts
-parts-arrive c n t past parts served st = λ b part there.
+pub parts-arrive : (m : Model) (n t : ℕ) (past : Past) (parts : List ReportBlock) → PartsStand m past parts → PartsStand m (arrival n t ∷ past) parts
+parts-arrive m n t past parts st = λ b part there.
     let s = st b part there in
-    let once = at_once-now c b past part served s in
-    record { stands = arrives-at-once (configured_model c) b t n past part s.stands once.buf_tm once.intg_pd; initial = s.initial }
+    record { stands = arrives-at-once m b t n past part s.stands s.at_once.buf_tm s.at_once.intg_pd; at_once = s.at_once; dat_set = s.dat_set }
 
 -- a deed that is no event of any block, breaks none, and changes no parameter
 pub record IsApart (m : Model) (n t : ℕ) (d : Deed) (past : Past) : Type 0 where
@@ -66,4 +57,4 @@ pub parts-left : (m : Model) (n t : ℕ) (d : Deed) (past : Past) (parts new : L
 parts-left m n t d past parts new apart left st = λ b q there.
     let was = left b q there in
     let s = st b was.0 was.1 in
-    subst (λ x. PartStands m b (at n t d ∷ past) x) was.2 (record { stands = left-alone m b t n past was.0 d (apart.note b) (apart.cuts b) s.stands; initial = apart.parameters b ∙ s.initial })
+    subst (λ x. PartStands m b (at n t d ∷ past) x) was.2 (record { stands = left-alone m b t n past was.0 d (apart.note b) (apart.cuts b) s.stands; at_once = subst AreAtOnce (sym (apart.parameters b)) s.at_once; dat_set = ap (λ (o : Parameters). o.dat_set) (apart.parameters b) ∙ s.dat_set })

@@ -68,7 +68,7 @@ setting_send = search (attr.the_field_send, value_field_send, sendable) depth 60
 sets_send : IsSend Sets.the_row
 sets_send = search (setting_send, crosses, sendable) depth 60
 
-step_field_send : IsSend Step.the_field.row
+pub step_field_send : IsSend Step.the_field.row
 step_field_send = search (association.the_field_send, actor.the_field_send, request_field_send, block_number.the_field_send, component.the_field_send, value_field_send, sets_send, control.the_field_send, sendable) depth 60
 
 pub step_send : IsSend Step.the_row

@@ -60,6 +60,6 @@ module _ (c : Config) (served : IsServable c) (b : ℕ) where
       (All-map (λ (n : NodeId). (shape_of (node_rows c) n).node.0 < length (nodes c)) node_id mine (all-of IsThere (λ n. (shape_of (node_rows c) (node_id n)).node.0 < length (nodes c)) (λ n h. omega (arith, h, row-number n h)) mine members-there))
 
   -- the members of the part are those of the block
-  pub served-now : (past : Past) (shapes : List MemberShape) → shapes ≡ served_members c b → parameters_at (configured_model c) b past ≡ (block_of (configured_model c) b).initial → dynamic past ≡ []
+  pub served-now : (past : Past) (shapes : List MemberShape) → shapes ≡ served_members c b → (parameters_at (configured_model c) b past).dat_set ≡ (block_of (configured_model c) b).initial.dat_set → dynamic past ≡ []
       → node_numbers shapes ≡ members (configured_model c) b past
-  served-now past shapes is initial sets = ap node_numbers is ∙ (served-nodes ∙ sym (members-same (configured_model c) b past initial sets))
+  served-now past shapes is dat_set sets = ap node_numbers is ∙ (served-nodes ∙ sym (members-same (configured_model c) b past dat_set sets))

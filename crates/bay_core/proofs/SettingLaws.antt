@@ -1,5 +1,5 @@
 -- A point at which the process sets attributes: each block gets the entry of its events.
-use Rattle.std.proofs.Common.{true, ◌≡◌, ℕ, suc, max, List, [], ◌∷◌, length, map, slice_index_or, refl, ap, ap₂, sym, ◌∙◌, subst, arith, Some}
+use Rattle.std.proofs.Common.{true, ◌≡◌, ◌≤◌, ℕ, suc, max, List, [], ◌∷◌, length, map, slice_index_or, refl, ap, ap₂, sym, ◌∙◌, subst, arith, Some}
 use Rattle.std.specs.Prelude.{slice_get}
 use Rattle.std.specs.List.{All}
 use Rattle.std.proofs.lemmas.Option.{slice_get-get_or}
@@ -45,7 +45,6 @@ use Rattle.bay_core.proofs.ChangeLaws.{values-stand, are-changes, settings-there
 use Rattle.bay_core.proofs.EventLaws.{note-kept, note-readable, all-writable}
 use Rattle.bay_core.proofs.FurnishLaws.{furnished-map}
 use Rattle.bay_core.proofs.MoveLaws.{arrives, done, accepted-as}
-use Rattle.bay_core.proofs.PartLaws.{at_once-now}
 use Rattle.bay_core.proofs.ShapeLaws.{AreServed, node_shapes, served-set, members-same, are-shapes}
 
 abbrev pub setting : ℕ → ℕ → List Setting → Point
@@ -57,7 +56,7 @@ module _ (c : Config) (b n t : ℕ) (settings : List Setting) (past : Past) (par
     (values : ValuesStand stored (configured_model c) (setting n t settings ∷ past)) (made : AreChanges (configured_model c) (valued settings) past changes)
     (has : part.members.items ≡ served_members c b) (none : dynamic past ≡ []) (st : PartStands (configured_model c) b (arrival n t ∷ past) part) where
   nodes-same : members (configured_model c) b past ≡ members (configured_model c) b []
-  nodes-same = members-same (configured_model c) b past st.initial none
+  nodes-same = members-same (configured_model c) b past st.dat_set none
 
   nodes-served : AreServed c (members (configured_model c) b past)
   nodes-served = subst (AreServed c) (sym nodes-same) (served-set c b served)
@@ -79,9 +78,10 @@ module _ (c : Config) (b n t : ℕ) (settings : List Setting) (past : Past) (par
 
   pub part-set : PartStands (configured_model c) b (setting n t settings ∷ past) (after_event stored changes (max t (now past)) n part)
   part-set = record {
-    stands = event-stands (configured_model c) b t n past part settings stored (mentions_of changes part) (at_once-now c b (arrival n t ∷ past) part served st).buf_tm pieces-are
+    stands = event-stands (configured_model c) b t n past part settings stored (mentions_of changes part) st.at_once.buf_tm pieces-are
         (note-readable c stored (setting n t settings ∷ past) (members (configured_model c) b past) served held values nodes-served reasons) st.stands;
-    initial = st.initial;
+    at_once = st.at_once;
+    dat_set = st.dat_set;
   }
 
 -- ---- all blocks
@@ -105,10 +105,10 @@ pub stands-set : (s : State) (c : Config) (n t : ℕ) (settings : List Setting) 
     → StandsAt s c n past → StandsAt (set_at s t stored changes) c (suc n) (setting n t settings ∷ past)
 stands-set s c n t settings past stored changes served held fit has set count made st =
     let m = configured_model c in
-    let here = arrives s c n t past served st in
+    let here = arrives s c n t past st in
     let values = values-stand m n t past s.stored stored settings here.values set count in
     let are = are-changes c past s.stored settings changes st.values (settings-there c s.stored settings fit) made in
-    done (record s { latest = max s.latest t }) c n t (valued settings) past 0 stored (after_events stored changes (max s.latest t) s.steps s.parts) (record { number = tt; puts = λ a. refl; gives = λ a. refl; sets = refl }) values
+    done (record s { latest = max s.latest t }) c n t (valued settings) past stored (after_events stored changes (max s.latest t) s.steps s.parts) (record { number = tt; puts = λ a. refl; gives = λ a. refl; sets = refl }) values
     (subst (PartsStand m (setting n t settings ∷ past)) (ap₂ (λ (now step : ℕ). after_events stored changes now step s.parts) (sym here.is_latest) (sym st.is_steps))
     (parts-set c n t settings past s.parts stored changes served held values are has st.sets here.blocks)) here
 
@@ -143,11 +143,11 @@ same-options : (stored : List Stored) (moment step : ℕ) (part : ReportBlock) (
 same-options stored moment step part [] = refl
 same-options stored moment step part (m ∷ note) = refl
 
-pub furnished-all : (c : Config) (old stored lent : List Stored) (parts : List ReportBlock) (w v : Watch) (octets kept : Filled ℕ) (changes : List Change) (moment step : ℕ)
-    → IsFurnished c old parts w octets → AreHeld c stored → length stored ≡ length old → v ≡ record w { notes = v.notes } → AreBlank (length parts) v.notes → kept.room ≡ 129024
-    → IsFurnished c stored (after_events lent changes moment step parts) v kept
-furnished-all c old stored lent parts w v octets kept changes moment step was held same is blank room =
-    let f = furnished-map c old parts w octets was (after_event lent changes moment step) (λ p. same-members lent moment step p (mentions_of changes p)) (λ p. same-window lent moment step p (mentions_of changes p)) (λ p. same-options lent moment step p (mentions_of changes p)) in
+pub furnished-all : (c : Config) (old stored lent : List Stored) (parts : List ReportBlock) (w v : Watch) (octets kept : Filled ℕ) (room more : ℕ) (changes : List Change) (moment step : ℕ)
+    → IsFurnished c old parts w octets room → AreHeld c stored → length stored ≡ length old → v ≡ record w { notes = v.notes } → AreBlank (length parts) v.notes → kept.room ≡ 129024 → room ≤ more
+    → IsFurnished c stored (after_events lent changes moment step parts) v kept more
+furnished-all c old stored lent parts w v octets kept room more changes moment step was held same is blank entry grew =
+    let f = furnished-map c old parts w octets room was (after_event lent changes moment step) (λ p. same-members lent moment step p (mentions_of changes p)) (λ p. same-window lent moment step p (mentions_of changes p)) (λ p. same-options lent moment step p (mentions_of changes p)) in
     record {
       servable = was.servable;
       values = held;
@@ -159,7 +159,8 @@ furnished-all c old stored lent parts w v octets kept changes moment step was he
         options = f.watch.options;
         notes = subst (λ n. AreBlank n v.notes) (sym (length-map parts (after_event lent changes moment step))) blank;
       });
-      entry = room;
+      entry = entry;
+      changes = omega (arith, was.changes, same, grew);
     }
 
 -- each part has room for its entry

@@ -1,10 +1,11 @@
 -- One more setting, before those that were made.
-use Rattle.std.proofs.Common.{◌≡◌, ◌≢◌, refl, ap, sym, ◌∙◌, ◌<◌, ℕ, ◌==◌, Bool, true, false, not, List, [], ◌∷◌, ◌++◌, length, Option, Some, None, is_some, slice_set, arith, if◌then◌else◌, ◌⊎◌, inl, inr}
+use Rattle.std.proofs.Common.{◌≡◌, ◌≢◌, refl, ap, sym, ◌∙◌, ◌<◌, ◌≤◌, ◌+◌, ℕ, ◌==◌, Bool, true, false, not, List, [], ◌∷◌, ◌++◌, length, Option, Some, None, is_some, slice_set, slice_index_or, arith, if◌then◌else◌, ◌⊎◌, inl, inr}
 use Rattle.std.specs.Option.{option_map, option_or}
 use Rattle.std.proofs.lemmas.Bool.Decides.{eqb_tells}
 use Rattle.std.proofs.lemmas.List.{length-set, length_push, get_or-set_other}
 use Rattle.std.proofs.lemmas.Grind.{get_or-set_at}
 use Rattle.std.proofs.lemmas.List.Folds.{find-append}
+use Rattle.std.proofs.lemmas.List.Sums.{sum_by-set, sum_by-le}
 use Rattle.list_laws.proofs.Places.{at_set}
 use Rattle.sv_base.specs.Same.{is_same}
 use Rattle.sv_base.specs.declared.config.Config.{Config}
@@ -18,7 +19,7 @@ use Rattle.object_model.specs.Tables.{flags_of}
 use Rattle.value_store.specs.Stored.{Stored, attribute, no_attribute, with_value}
 use Rattle.trigger_core.specs.Noted.{change_of}
 use Rattle.bay_core.specs.Changed.{given, change_from}
-use Rattle.bay_core.specs.Marked.{is_marked, IsDone}
+use Rattle.bay_core.specs.Marked.{is_marked, one_if, marked_in, IsDone}
 use Rattle.bay_core.proofs.DistinctChanges.{distinct-push}
 
 -- ---- an attribute that a later setting names
@@ -77,6 +78,18 @@ mark_at marks y x b below = by (eqb_tells y x) where
   by (inl e) = rw e.0 (get_or-set_at marks y x b false (sym e.1) below)
   by (inr e) = rw e.0 (get_or-set_other marks y x b false (λ i. e.1 (sym i)))
 
+-- one attribute more is marked
+one_more : (marks : List Bool) (x : ℕ) → is_marked marks x ≡ false → x < length marks → marked_in (slice_set marks x true) ≡ marked_in marks + 1
+one_more marks x free below = omega (arith, sum_by-set one_if marks x true false below, ap one_if free)
+
+at_most : (b : Bool) → one_if b ≤ 1
+at_most true = omega arith
+at_most false = omega arith
+
+-- where an attribute is not marked, fewer are than there are
+pub room_left : (marks : List Bool) (x : ℕ) → is_marked marks x ≡ false → x < length marks → marked_in marks < length marks
+room_left marks x free below = omega (arith, one_more marks x free below, sum_by-le one_if 1 (slice_set marks x true) (λ k d near. at_most (slice_index_or (slice_set marks x true) k d)), length-set marks x true)
+
 pub done_set : (c : Config) (before after : List Stored) (s : Setting) (later : List Setting) (marks : List Bool) (changes : List Change)
     → is_marked marks s.attr.0 ≡ false → s.attr.0 < length after → s.attr.0 < length marks → IsDone c before later after marks changes
     → IsDone c before (s ∷ later) (slice_set after s.attr.0 (with_value s.value (attribute after s.attr.0))) (slice_set marks s.attr.0 true) (changes ++ change_from c after s.attr.0 s.value ∷ [])
@@ -93,5 +106,5 @@ done_set c before after s later marks changes mark there there_too done =
           ∙ change_by (s.attr.0 == x) (set_to x later) s.value (change_of changes (record { 0 = x })) (change_from c after s.attr.0 s.value) (change_from c before x) (at x) (λ e. change_same c before after s.attr.0 x s.value (same s.attr.0 x e) here) (done.made x);
       once = distinct-push changes (change_from c after s.attr.0 s.value) done.once
           (ap is_some (done.made s.attr.0 ∙ ap (option_map (change_from c before s.attr.0)) none));
-      few = omega (arith, done.few, length_push changes (change_from c after s.attr.0 s.value));
+      noted = omega (arith, done.noted, length_push changes (change_from c after s.attr.0 s.value), one_more marks s.attr.0 mark there_too);
     }

@@ -10,7 +10,7 @@ use Rattle.sv_base.specs.declared.config.Config.{Config}
 use Rattle.sv_base.specs.declared.numbers.AttrId.{AttrId}
 use Rattle.bay_model.specs.declared.tables.MemberShape.{MemberShape}
 use Rattle.bay_model.specs.declared.tables.NodeRow.{NodeRow}
-use Rattle.bay_model.specs.Model.{Model, DataSet, Parameters}
+use Rattle.bay_model.specs.Model.{Model, DataSet}
 use Rattle.bay_model.specs.Lookups.{node_of, block_of}
 use Rattle.bay_model.specs.Named.{configured_model}
 use Rattle.bay_model.specs.Parameters.{parameters_at}
@@ -56,8 +56,8 @@ served-set c b served =
     served-of c (set_referred reference (sets m [])) (λ s is. found (IsServedSet c) _ (m.sets ++ []) (All-append (IsServedSet c) m.sets [] served.sets (All-nil (IsServedSet c))) s is)
 
 -- where the block has its configured DatSet, and no set was defined
-pub members-same : (m : Model) (b : ℕ) (past : Past) → parameters_at m b past ≡ (block_of m b).initial → dynamic past ≡ [] → members m b past ≡ members m b []
-members-same m b past initial none = ap₂ (λ (p : Parameters) (ds : List DataSet). unwrap_or (option_map (λ (s : DataSet). s.nodes) (set_referred p.dat_set (m.sets ++ ds))) []) initial none
+pub members-same : (m : Model) (b : ℕ) (past : Past) → (parameters_at m b past).dat_set ≡ (block_of m b).initial.dat_set → dynamic past ≡ [] → members m b past ≡ members m b []
+members-same m b past dat_set none = ap₂ (λ (name : List ℕ) (ds : List DataSet). unwrap_or (option_map (λ (s : DataSet). s.nodes) (set_referred name (m.sets ++ ds))) []) dat_set none
 
 -- ---- their shapes
 

@@ -44,9 +44,9 @@ use Rattle.bay_core.proofs.ServedLaws.{served-now}
 use Rattle.bay_core.proofs.TakeLaws.{none, given, closed}
 
 -- after the report of an entry of block b
-pub reported-at : (s : State) (c : Config) (n t a b id : ℕ) (part : ReportBlock) (past : Past) → IsServable c → slice_get s.parts b ≡ Some part → StandsAt s c n past
+pub reported-at : (s : State) (c : Config) (n t a b id : ℕ) (part : ReportBlock) (past : Past) → slice_get s.parts b ≡ Some part → StandsAt s c n past
     → StandsAt (record s { steps = suc s.steps; latest = max s.latest t; parts = slice_set s.parts b (reported_by id part) }) c (suc n) (at n t (reported a b id) ∷ past)
-reported-at s c n t a b id part past served there st = passed s c n t (reported a b id) past 0 (slice_set s.parts b (reported_by id part)) served
+reported-at s c n t a b id part past there st = passed s c n t (reported a b id) past (slice_set s.parts b (reported_by id part))
     (record { number = tt; puts = λ k. refl; gives = λ k. refl; sets = refl }) (λ x. refl) (record { note = λ k. refl; cuts = λ k. refl; parameters = λ k. refl }) left st
   where
     left : AreLeft (reported a b id) s.parts (slice_set s.parts b (reported_by id part))
@@ -105,7 +105,7 @@ module _ (s new : State) (c : Config) (h : History) (t : ℕ) (actor : ActorNo) 
   nothing-came g is fine came = (
     sym (ap (λ (g : Given). g.answer) came),
     accepted-as s new (record s { steps = suc s.steps; latest = max s.latest t }) c h turn st fine is
-        (subst (λ (g : Given). StandsAt (record s { steps = suc s.steps; latest = max s.latest t }) c (suc (length h)) (record { moment = t; step = length h; deed = g.deed } ∷ past)) (sym came) (still s c (length h) t past served st.1)),
+        (subst (λ (g : Given). StandsAt (record s { steps = suc s.steps; latest = max s.latest t }) c (suc (length h)) (record { moment = t; step = length h; deed = g.deed } ∷ past)) (sym came) (still s c (length h) t past st.1)),
   )
 
   pub closed-for : new ≡ record s { steps = suc s.steps; latest = max s.latest t } → option_map (λ (e : Ends). e.writer) (row_of s.rows a.0).ends ≡ None → IsDone answers.Closed
@@ -118,17 +118,17 @@ module _ (s new : State) (c : Config) (h : History) (t : ℕ) (actor : ActorNo) 
       → length s.parts ≡ length c.blocks → first_offered a 0 s.parts ≡ None → IsDone answers.Empty
   empty-for w is writer same all nothing_left =
       let e = writer-told m s.rows past a.0 w st.1.associations number writer in
-      nothing-came answers.Empty is (writer-may w writer same) (none m a (length h) t past s.parts (count all) (parts-arrive c (length h) t past s.parts served st.1.blocks) e.0 nothing_left e.1 (st.1.empty a.0))
+      nothing-came answers.Empty is (writer-may w writer same) (none m a (length h) t past s.parts (count all) (parts-arrive m (length h) t past s.parts st.1.blocks) e.0 nothing_left e.1 (st.1.empty a.0))
 
   pub given-for : (w : ActorNo) (o : Offered) (part : ReportBlock) (r : Report) → new ≡ record s { steps = suc s.steps; latest = max s.latest t; parts = slice_set s.parts o.block (reported_by o.next.id part) }
       → option_map (λ (e : Ends). e.writer) (row_of s.rows a.0).ends ≡ Some w → actor.0 ≡ w.0 → length s.parts ≡ length c.blocks → first_offered a 0 s.parts ≡ Some o → slice_get s.parts o.block ≡ Some part
       → part.members.items ≡ served_members c o.block → ((ks : List Kept) → AreKept o.entry.kept ks → r ≡ report_by m part o ks) → IsDone (answers.Taken (outputs.Report r))
   given-for w o part r is writer same all first there shapes is_report =
       let e = writer-told m s.rows past a.0 w st.1.associations number writer in
-      let nodes = served-now c served o.block past part.members.items shapes (st.1.blocks o.block part there).initial st.1.sets in
-      let came = given m a (length h) t past s.parts (count all) (parts-arrive c (length h) t past s.parts served st.1.blocks) e.0 o part r first e.1 (st.1.empty a.0) there nodes is_report in
+      let nodes = served-now c served o.block past part.members.items shapes (st.1.blocks o.block part there).dat_set st.1.sets in
+      let came = given m a (length h) t past s.parts (count all) (parts-arrive m (length h) t past s.parts st.1.blocks) e.0 o part r first e.1 (st.1.empty a.0) there nodes is_report in
       let after : State = record s { steps = suc s.steps; latest = max s.latest t; parts = slice_set s.parts o.block (reported_by o.next.id part) } in (
         sym (ap (λ (g : Given). g.answer) came),
         accepted-as s new after c h turn st (writer-may w writer same) is
-            (subst (λ (g : Given). StandsAt after c (suc (length h)) (record { moment = t; step = length h; deed = g.deed } ∷ past)) (sym came) (reported-at s c (length h) t a.0 o.block o.next.id part past served there st.1)),
+            (subst (λ (g : Given). StandsAt after c (suc (length h)) (record { moment = t; step = length h; deed = g.deed } ∷ past)) (sym came) (reported-at s c (length h) t a.0 o.block o.next.id part past there st.1)),
       )

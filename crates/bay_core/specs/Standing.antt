@@ -1,7 +1,7 @@
 -- What a bay stands for: a history of accepted steps, by one equation for each part.
 use Rattle.std.specs.Prelude.{◌≡◌, ℕ, List, [], length, Some, slice_get}
 use Rattle.sv_base.specs.declared.config.Config.{Config}
-use Rattle.bay_model.specs.Model.{Model}
+use Rattle.bay_model.specs.Model.{Model, Parameters}
 use Rattle.bay_model.specs.Lookups.{block_of}
 use Rattle.bay_model.specs.Named.{configured_model}
 use Rattle.bay_model.specs.Points.{Past, now}
@@ -16,10 +16,16 @@ use Rattle.report_block.specs.Standing.{Stands as BlockStands}
 use Rattle.report_block.specs.declared.block.ReportBlock.{ReportBlock}
 use Rattle.bay_core.specs.State.{State}
 
--- block b stands, with the parameters of its configuration
+-- the buffer time and the integrity period are 0
+pub record AreAtOnce (o : Parameters) : Type 0 where
+  pub buf_tm : o.buf_tm ≡ 0
+  pub intg_pd : o.intg_pd ≡ 0
+
+-- block b stands; it reports at once, without an integrity period, and has the DatSet of its configuration
 pub record PartStands (c : Model) (b : ℕ) (past : Past) (part : ReportBlock) : Type 0 where
   pub stands : BlockStands part c b past
-  pub initial : parameters_at c b past ≡ (block_of c b).initial
+  pub at_once : AreAtOnce (parameters_at c b past)
+  pub dat_set : (parameters_at c b past).dat_set ≡ (block_of c b).initial.dat_set
 
 abbrev pub PartsStand : Model → Past → List ReportBlock → Type 0
 PartsStand c past parts = (b : ℕ) (part : ReportBlock) → slice_get parts b ≡ Some part → PartStands c b past part

@@ -44,8 +44,8 @@ pub record AreHeld (c : Config) (stored : List Stored) : Type 0 where
   pub kinds : (x : ℕ) → x < length stored → (attribute stored x).held.kind ≡ kind_of (attr_type c x)
   pub sound : (x : ℕ) → x < length stored → IsSoundCell (attribute stored x).held
 
--- the parts fit the configuration, the index has the members of their data sets, and the room that entries need was made
-pub record IsFurnished (c : Config) (stored : List Stored) (parts : List ReportBlock) (w : Watch) (octets : Filled ℕ) : Type 0 where
+-- the parts fit the configuration, the index has the members of their data sets, and the room that entries and changes need was made
+pub record IsFurnished (c : Config) (stored : List Stored) (parts : List ReportBlock) (w : Watch) (octets : Filled ℕ) (room : ℕ) : Type 0 where
   pub servable : IsServable c
   pub values : AreHeld c stored
   pub count : length parts ≡ length c.blocks
@@ -53,3 +53,4 @@ pub record IsFurnished (c : Config) (stored : List Stored) (parts : List ReportB
   pub windows : (b : ℕ) (part : ReportBlock) → slice_get parts b ≡ Some part → part.window.members ≤ 256
   pub watch : IsWatching (length stored) parts w
   pub entry : octets.room ≡ 129024
+  pub changes : length stored ≤ room

@@ -1,5 +1,5 @@
 -- What a step is answered, and what it makes of the bay.
-use Rattle.std.specs.Prelude.{◌≡◌, suc, ◌∷◌, Option, None, Some, Result, Ok, Err}
+use Rattle.std.specs.Prelude.{◌≡◌, suc, ◌∷◌, Bool, true, false, Option, None, Some, Result, Ok, Err}
 use Rattle.sv_base.specs.declared.config.Config.{Config}
 use Rattle.bay_model.specs.declared.answer.Answer.{Answer}
 use Rattle.bay_model.specs.declared.components.Comp.TheVariants as comps
@@ -13,15 +13,15 @@ use Rattle.bay_core.specs.declared.fault.StepFault.TheVariants as faults
 use Rattle.bay_core.specs.State.{State}
 use Rattle.bay_core.specs.Standing.{StandsFor}
 
--- the steps that a bay takes: a write is one of RptEna, EntryID or PurgeBuf
+-- the steps that a bay takes: a write is one of any component but DatSet, BufTm, IntgPd and GI
 abbrev pub IsBuilt : Step → Type 0
 IsBuilt (steps.Ask a r) = ⊥
 IsBuilt (steps.Done k good) = ⊥
 IsBuilt (steps.Block k flag) = ⊥
-IsBuilt (steps.Write a b comps.RptEna v) = Unit {0}
-IsBuilt (steps.Write a b comps.EntryID v) = Unit {0}
-IsBuilt (steps.Write a b comps.PurgeBuf v) = Unit {0}
-IsBuilt (steps.Write a b comp v) = ⊥
+IsBuilt (steps.Write a b comps.DatSet v) = ⊥
+IsBuilt (steps.Write a b comps.BufTm v) = ⊥
+IsBuilt (steps.Write a b comps.IntgPd v) = ⊥
+IsBuilt (steps.Write a b comps.GI v) = ⊥
 IsBuilt _ = Unit {0}
 
 -- the fault that a refusal names; want of memory is no fault of the step
@@ -41,3 +41,18 @@ Does old new t (Err f) = (new ≡ old) × ((c : Config) (h : History) → Stands
 abbrev pub IsCounted : State → State → Result Answer StepFault → Type 0
 IsCounted old new (Ok a) = (new.config ≡ old.config) × (new.steps ≡ suc old.steps)
 IsCounted old new (Err f) = Unit {0}
+
+-- the steps that need no memory: what the process does, a loss, and time that passes
+abbrev pub is_lean : Step → Bool
+is_lean (steps.Lost a) = true
+is_lean (steps.Value settings) = true
+is_lean (steps.Done k good) = true
+is_lean (steps.Block k flag) = true
+is_lean steps.Tick = true
+is_lean _ = false
+
+-- a step that needs no memory is not refused for want of it
+abbrev pub KeepsLean : Step → Result Answer StepFault → Type 0
+KeepsLean step (Ok a) = Unit {0}
+KeepsLean step (Err faults.Memory) = is_lean step ≡ false
+KeepsLean step (Err f) = Unit {0}

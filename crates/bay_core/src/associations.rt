@@ -25,14 +25,12 @@ impl Bay {
     ghost use Rattle.std.specs.Prelude.{◌≡◌, ◌<◌, ◌^◌, suc, max};
     ghost use Rattle.bay_model.specs.declared.step.Step.TheVariants as steps;
     ghost use Rattle.assoc_table.specs.Tables.{IsNumber};
-    ghost use Rattle.bay_config.specs.Servable.{IsServable};
-    ghost use Rattle.bay_core.specs.Turns.{Does, IsCounted};
+    ghost use Rattle.bay_core.specs.Turns.{Does, IsCounted, KeepsLean};
 
     /// One more step was made, at a moment.
     pub(crate) fn advance(&mut self, moment: Moment)
         requires { self.old.steps < 2 ^ 62 }
-        ensures moved { self.new ≡ record self.old { steps = suc self.old.steps; latest = max self.old.latest moment } }
-        ensures served { IsServable self.old.config }
+        ensures { self.new ≡ record self.old { steps = suc self.old.steps; latest = max self.old.latest moment } }
     {
         self.steps += 1;
         self.latest = self.latest.later(moment);
@@ -43,6 +41,7 @@ impl Bay {
         requires { self.old.steps < 2 ^ 62 }
         ensures does { Does self.old self.new (record { moment = moment; actor = actor.0; step = steps.Tick }) result }
         ensures counted { IsCounted self.old self.new result }
+        ensures lean { KeepsLean steps.Tick result }
     {
         self.advance(moment);
         Ok(Answer::Went)
@@ -89,6 +88,7 @@ impl Bay {
         requires few { self.old.steps < 2 ^ 62 }
         ensures does { Does self.old self.new (record { moment = moment; actor = actor.0; step = steps.Lost a }) result }
         ensures counted { IsCounted self.old self.new result }
+        ensures lean { KeepsLean (steps.Lost a) result }
     {
         let Some(opener) = self.associations.opener(a) else {
             return Err(StepFault::NotOpen(a));

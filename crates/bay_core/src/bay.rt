@@ -27,6 +27,7 @@ pub struct Bay {
 }
 
 impl std::marker::Model for Bay {
+    ghost use Rattle.std.specs.Prelude.{vec_capacity};
     ghost use Rattle.std.specs.Coded.{codes};
     ghost use Rattle.sv_base.specs.Tree.{row_code};
     ghost use Rattle.sv_base.specs.Types.{fields_code};
@@ -38,7 +39,7 @@ impl std::marker::Model for Bay {
 
     ghost view = { λ b. record { config = b.model; steps = b.steps; latest = b.latest; stored = b.values; parts = b.parts.items; rows = b.associations } };
 
-    ghost invariant = { λ b. IsFurnished b.model b.values b.parts.items b.watch b.octets };
+    ghost invariant = { λ b. IsFurnished b.model b.values b.parts.items b.watch b.octets (vec_capacity b.changes) };
 }
 
 impl Bay {
@@ -48,6 +49,7 @@ impl Bay {
     ghost use Rattle.bay_model.specs.Associations.{ends};
     ghost use Rattle.bay_model.specs.Named.{configured_model};
     ghost use Rattle.assoc_table.specs.Tables.{IsNumber, row_of};
+    ghost use Rattle.bay_config.specs.Servable.{IsServable};
     ghost use Rattle.bay_core.specs.Standing.{StandsFor};
 
     /// How many steps were made.
@@ -57,9 +59,10 @@ impl Bay {
         self.steps
     }
 
-    /// The model.
+    /// The model, which can be served.
     pub fn model(&self) -> &Model
-        ensures { result.now ≡ self.now.config }
+        ensures model { result.now ≡ self.now.config }
+        ensures served { IsServable self.now.config }
     {
         &self.model
     }

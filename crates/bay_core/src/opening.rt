@@ -1,6 +1,6 @@
 //! A bay is opened.
 
-ghost use Rattle.std.specs.Prelude.{◌≡◌, [], IfOk, length, map, replicate};
+ghost use Rattle.std.specs.Prelude.{◌≡◌, [], ◌≤◌, IfOk, length, map, replicate, vec_capacity};
 ghost use Rattle.object_model.specs.Nodes.{node_rows};
 ghost use Rattle.object_model.specs.Tables.{set_rows};
 ghost use Rattle.data_sets.specs.Booked.{shapes_of as shapes};
@@ -80,7 +80,7 @@ struct Made {
     octets: Fixed,
 }
 
-/// The values and the blocks as they are configured, no open association, and the room that notes and entries need.
+/// The values and the blocks as they are configured, no open association, and the room that notes, entries and changes need.
 fn parts_made(alloc: Global, model: &Model) -> Result<Made, AllocError>
     requires { IsServable model.now }
     ensures values { IfOk result (λ m. m.values ≡ opened model.now) }
@@ -88,6 +88,7 @@ fn parts_made(alloc: Global, model: &Model) -> Result<Made, AllocError>
     ensures associations { IfOk result (λ m. m.associations ≡ replicate 16 closed) }
     ensures watch { IfOk result (λ m. IsWatching (length m.values) m.parts.items m.watch) }
     ensures octets { IfOk result (λ m. m.octets.room ≡ 129024) }
+    ensures changes { IfOk result (λ m. length m.values ≤ vec_capacity m.changes) }
 {
     let values = Values::open(alloc, model.config())?;
     let parts = parts_of(alloc, model)?;
@@ -95,12 +96,13 @@ fn parts_made(alloc: Global, model: &Model) -> Result<Made, AllocError>
         return Err(AllocError);
     };
     let watch = Watch::open(alloc, attrs, &parts)?;
+    let changes = Vec::with_capacity(alloc, attrs as usize)?;
     Ok(Made {
         values,
         parts,
         associations: Assocs::open(alloc)?,
         watch,
-        changes: Vec::new(alloc),
+        changes,
         octets: Fixed::new(alloc, 129024)?,
     })
 }
@@ -113,6 +115,7 @@ fn begun(model: Model, made: Made) -> Bay
     requires associations { made.associations ≡ replicate 16 closed }
     requires watch { IsWatching (length made.values) made.parts.items made.watch }
     requires octets { made.octets.room ≡ 129024 }
+    requires changes { length made.values ≤ vec_capacity made.changes }
     ensures config { result.config ≡ model }
     ensures steps { result.steps ≡ 0 }
     ensures stands { StandsFor result model [] }
@@ -136,7 +139,7 @@ impl Bay {
     ghost use Rattle.bay_config.specs.Servable.{IsServable};
     ghost use Rattle.bay_core.specs.Standing.{StandsFor};
 
-    /// A bay of a model, with no step made. It takes the room that notes and entries need.
+    /// A bay of a model, with no step made. It takes the room that notes, entries and changes need.
     pub fn open(alloc: Global, model: Model) -> Result<Bay, AllocError>
         requires { IsServable model }
         ensures config { IfOk result (λ b. b.config ≡ model) }

@@ -75,10 +75,10 @@ impl Bay {
     ghost use Rattle.std.specs.Prelude.{◌≡◌, ◌<◌, ◌^◌, true};
     ghost use Rattle.bay_model.specs.declared.step.Step.TheVariants as steps;
     ghost use Rattle.object_model.specs.Fits.{fits as fits_in};
-    ghost use Rattle.bay_core.specs.Turns.{Does, IsCounted};
+    ghost use Rattle.bay_core.specs.Turns.{Does, IsCounted, KeepsLean};
 
-    /// The process sets attributes (IEC 61850-7-2, DataAttribute), and each block gets the entry of its events. Only want of
-    /// memory refuses it, before any value is set.
+    /// The process sets attributes (IEC 61850-7-2, DataAttribute), and each block gets the entry of its events. It takes no
+    /// memory.
     pub(crate) fn set(
         &mut self,
         moment: Moment,
@@ -89,11 +89,9 @@ impl Bay {
         requires few { self.old.steps < 2 ^ 62 }
         ensures does { Does self.old self.new (record { moment = moment; actor = actor.0; step = steps.Value sets.now }) result }
         ensures counted { IsCounted self.old self.new result }
+        ensures lean { KeepsLean (steps.Value sets.now) result }
     {
         self.changes.clear();
-        let Ok(()) = self.changes.reserve(sets.len()) else {
-            return Err(StepFault::Memory);
-        };
         self.values
             .set(&self.model, sets.as_slice(), &mut self.changes);
         event_all(

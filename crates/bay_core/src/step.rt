@@ -9,7 +9,7 @@ use sv_base::{ActorNo, Moment};
 impl Bay {
     ghost use Rattle.std.specs.Prelude.{◌≡◌, ◌<◌, ◌^◌, true};
     ghost use Rattle.object_model.specs.Fits.{fits as fits_in};
-    ghost use Rattle.bay_core.specs.Turns.{Does, IsCounted, IsBuilt};
+    ghost use Rattle.bay_core.specs.Turns.{Does, IsCounted, IsBuilt, KeepsLean};
 
     /// Makes a step at a moment; one that lies below the newest moment so far is taken as that.
     ///
@@ -18,7 +18,7 @@ impl Bay {
     /// than the writer of an open one, and a loss by neither (NotYours). A refused step changes nothing and isn't counted,
     /// for want of memory too.
     ///
-    /// Of the components of a block RptEna, EntryID and PurgeBuf are written.
+    /// Of the components of a block all are written but DatSet, BufTm, IntgPd and GI.
     pub fn step(
         &mut self,
         alloc: Global,
@@ -33,6 +33,8 @@ impl Bay {
         // for the longer one; a refusal is the one that they name, and then the bay is as it was.
         ensures does { Does self.old self.new (record { moment = moment; actor = actor.0; step = step.now }) result }
         ensures counted { IsCounted self.old self.new result }
+        // Of these steps want of memory is never answered.
+        ensures lean { KeepsLean step.now result }
     {
         match step {
             Step::Open { a, size, writer } => {

@@ -8,7 +8,7 @@ ghost use Rattle.value_store.specs.Stored.{Stored, attribute, with_value};
 ghost use Rattle.bay_model.specs.declared.step.Setting.{Setting as SettingValue};
 ghost use Rattle.bay_model.specs.declared.flags.Change.{Change as ChangeValue};
 ghost use Rattle.bay_core.specs.Changed.{change_from, IsFit, AreFit};
-ghost use Rattle.bay_core.specs.Marked.{IsBlank, AreNoted, IsDone};
+ghost use Rattle.bay_core.specs.Marked.{IsBlank, AreNoted, IsDone, marked_in};
 
 use bay_model::{Change, Setting};
 use object_model::Model;
@@ -82,7 +82,8 @@ fn set_once(
     requires fit { IsFit store.old setting.now }
     requires marks { length marks.old ≡ length store.old }
     requires flags { length store.old ≡ length (attributes model.now) }
-    requires room { vec_len changes.old < vec_capacity changes.old }
+    requires noted { length changes.old.items ≡ marked_in marks.old }
+    requires room { length store.old ≤ vec_capacity changes.old }
     ensures done { (before : List Stored) (later : List SettingValue)
         → IsDone model.now before later store.old marks.old changes.old.items → IsDone model.now before (setting.now ∷ later) store.new marks.new changes.new.items }
     ensures room { vec_capacity changes.old ≤ vec_capacity changes.new }
@@ -106,8 +107,9 @@ fn set_all(
     requires blank { IsBlank marks.old }
     requires flags { length store.old ≡ length (attributes model.now) }
     requires empty { changes.old.items ≡ [] }
-    requires room { length settings.now ≤ vec_capacity changes.old }
-    ensures { IsDone model.now store.old settings.now store.new marks.new changes.new.items }
+    requires room { length store.old ≤ vec_capacity changes.old }
+    ensures done { IsDone model.now store.old settings.now store.new marks.new changes.new.items }
+    ensures room { vec_capacity changes.old ≤ vec_capacity changes.new }
 {
     for i in (0..settings.len()).rev() {
         set_once(store, marks, model, &settings[i], changes);
@@ -152,17 +154,18 @@ impl Values {
     }
 
     /// Sets attributes as the process does, of one that is named twice the last time; adds to `changes` what became of
-    /// each, once. It takes no memory where `changes` has room for as many as there are settings.
+    /// each, once. It takes no memory, since `changes` has room for as many as there are attributes.
     pub(crate) fn set(&mut self, model: &Model, settings: &[Setting], changes: &mut Vec<Change>)
         requires fits { AreFit self.old settings.now }
         requires flags { length self.old ≡ length (attributes model.now) }
         requires empty { changes.old.items ≡ [] }
-        requires room { length settings.now ≤ vec_capacity changes.old }
+        requires room { length self.old ≤ vec_capacity changes.old }
         ensures set { (x : ℕ) → attribute self.new x ≡ last_set settings.now x (attribute self.old x) }
         ensures count { length self.new ≡ length self.old }
         ensures changes { AreMade model.now self.old settings.now changes.new.items }
         ensures once { AreDistinct changes.new.items }
         ensures within { All (λ (ch : ChangeValue). ch.attr.0 < length self.old) changes.new.items }
+        ensures room { vec_capacity changes.old ≤ vec_capacity changes.new }
     {
         set_all(
             &mut self.store,

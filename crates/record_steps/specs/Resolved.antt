@@ -36,12 +36,13 @@ association_of _ = 0
 abbrev pub turn_of : Config → ℕ → Step → Told
 turn_of c actor step = if fits c step then turn actor step else refused 4
 
--- a component that clients may write is built, where it is RptEna, EntryID or PurgeBuf
+-- writes of a component are built, unless it is DatSet, BufTm, IntgPd or GI
 abbrev pub is_built : Comp → Bool
-is_built comps.RptEna = true
-is_built comps.EntryID = true
-is_built comps.PurgeBuf = true
-is_built _ = false
+is_built comps.DatSet = false
+is_built comps.BufTm = false
+is_built comps.IntgPd = false
+is_built comps.GI = false
+is_built _ = true
 
 abbrev pub opened_as : Config → Bool → AssocNo → OpenForm → Told
 opened_as c there a forms.Direct = if there then refused 5 else turn_of c a.0 (steps.Open a 65000 (record { 0 = a.0 }))

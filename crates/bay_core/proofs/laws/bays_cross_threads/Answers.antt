@@ -1,4 +1,5 @@
 use Rattle.bay_core.proofs.SendLaws.{bay_send, step_send, answer_send}
+use Rattle.bay_core.proofs.SyncLaws.{step_sync}
 use Rattle.bay_core.proofs.laws.bays_cross_threads.Goals as goal
 
 pub returns-clause-bay : goal.returns-clause-bay
@@ -9,3 +10,6 @@ returns-clause-step c = step_send
 
 pub returns-clause-answer : goal.returns-clause-answer
 returns-clause-answer c = answer_send
+
+pub returns-clause-shared : goal.returns-clause-shared
+returns-clause-shared c = step_sync

@@ -1,9 +1,9 @@
-use Rattle.std.proofs.Common.{refl}
+use Rattle.std.proofs.Common.{refl, vec_capacity}
 use Rattle.bay_core.proofs.FirstState.{furnished-first, stands-first}
 use Rattle.bay_core.proofs.opening.begun.Goals as goal
 
 pub invariant_of-result : goal.invariant_of-result
-invariant_of-result c = furnished-first c.args.model c.args.made.values c.args.made.parts.items c.args.made.watch c.args.made.octets c.requires.servable c.requires.values c.requires.parts c.requires.watch c.requires.octets
+invariant_of-result c = furnished-first c.args.model c.args.made.values c.args.made.parts.items c.args.made.watch c.args.made.octets (vec_capacity c.args.made.changes) c.requires.servable c.requires.values c.requires.parts c.requires.watch c.requires.octets c.requires.changes
 
 pub returns-clause-stands : goal.returns-clause-stands
 returns-clause-stands c = stands-first _ c.args.model c.requires.servable refl refl c.first.ensures c.requires.values c.requires.parts c.requires.associations

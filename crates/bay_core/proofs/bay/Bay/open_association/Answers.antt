@@ -4,7 +4,6 @@ use Rattle.bay_model.specs.declared.step.Step.TheVariants as steps
 use Rattle.bay_model.specs.Answers.{points}
 use Rattle.bay_model.specs.Associations.{ends}
 use Rattle.bay_model.specs.Named.{configured_model}
-use Rattle.bay_config.specs.Servable.{IsServable}
 use Rattle.bay_core.specs.Standing.{StandsFor}
 use Rattle.bay_core.proofs.MoveLaws.{accepted-as}
 use Rattle.bay_core.proofs.EndLaws.{open-told, open-fault, opened-at}
@@ -17,6 +16,6 @@ returns-clause-does c = λ c' h was.
       refl,
       accepted-as _ c.advance.new.self _ c' h (record { moment = c.args.moment; actor = c.args.actor.0; step = steps.Open c.args.a c.args.size c.args.writer }) st
           (open-fault (points (configured_model c') h) c.args.a.0 shut)
-          (c.advance.ensures.moved ∙ ap (λ rs. record { config = c.self.inside.model; steps = suc c.self.inside.steps; latest = max c.self.inside.latest c.args.moment; stored = c.self.inside.values; parts = c.self.inside.parts.items; rows = rs }) c.start.ensures)
-          (opened-at _ c' _ c.args.moment c.args.a.0 (record { opener = c.args.actor; writer = c.args.writer; size = c.args.size }) (points (configured_model c') h) (subst IsServable st.1.is_config c.advance.ensures.served) c.requires.number st.1),
+          (c.advance.ensures ∙ ap (λ rs. record { config = c.self.inside.model; steps = suc c.self.inside.steps; latest = max c.self.inside.latest c.args.moment; stored = c.self.inside.values; parts = c.self.inside.parts.items; rows = rs }) c.start.ensures)
+          (opened-at _ c' _ c.args.moment c.args.a.0 (record { opener = c.args.actor; writer = c.args.writer; size = c.args.size }) (points (configured_model c') h) c.requires.number st.1),
     )

@@ -1,4 +1,4 @@
-use Rattle.std.proofs.Common.{refl, suc, max, ap, ap₂, sym, subst, ◌∙◌, ℕ, List}
+use Rattle.std.proofs.Common.{refl, suc, max, ap, ap₂, sym, subst, ◌∙◌, ℕ, List, vec_capacity, arith}
 use Rattle.bay_model.specs.declared.flags.Change.{Change}
 use Rattle.bay_model.specs.declared.step.Setting.{Setting}
 use Rattle.bay_model.specs.declared.step.Step.TheVariants as steps
@@ -24,12 +24,12 @@ event_all-requires-clause-ready c =
     let held = held-set c.args.self.now c.self.inside.model c.self.inside.values c.set.new.self c.args.sets.now c.as_slice.result.now (ap (λ (s : State). s.config) c.self.view_is) c.requires.fits c.self.invariant.values c.as_slice.ensures c.set.ensures.set c.set.ensures.count in
     subst (λ (all : List Stored). AreReady all c.self.inside.parts.items) (sym c.store.ensures) (are-ready c.self.inside.model c.set.new.self c.self.inside.parts.items c.self.invariant.servable held c.self.invariant.members)
 
-pub invariant_of-self-2 : goal.invariant_of-self-2
-invariant_of-self-2 c =
+pub invariant_of-self : goal.invariant_of-self
+invariant_of-self c =
     let held = held-set c.args.self.now c.self.inside.model c.self.inside.values c.set.new.self c.args.sets.now c.as_slice.result.now (ap (λ (s : State). s.config) c.self.view_is) c.requires.fits c.self.invariant.values c.as_slice.ensures c.set.ensures.set c.set.ensures.count in
-    subst (λ ps. IsFurnished c.self.inside.model c.set.new.self ps c.event_all.new.watch c.event_all.new.octets) (sym c.event_all.ensures.parts)
-    (furnished-all c.self.inside.model c.self.inside.values c.set.new.self c.store.result.now c.self.inside.parts.items c.self.inside.watch c.event_all.new.watch c.self.inside.octets c.event_all.new.octets c.as_slice-2.result.now c.later.result c.self.inside.steps
-    c.self.invariant held c.set.ensures.count c.event_all.ensures.watch c.event_all.ensures.blank c.event_all.ensures.entry)
+    subst (λ ps. IsFurnished c.self.inside.model c.set.new.self ps c.event_all.new.watch c.event_all.new.octets (vec_capacity c.set.new.changes)) (sym c.event_all.ensures.parts)
+    (furnished-all c.self.inside.model c.self.inside.values c.set.new.self c.store.result.now c.self.inside.parts.items c.self.inside.watch c.event_all.new.watch c.self.inside.octets c.event_all.new.octets (vec_capacity c.self.inside.changes) (vec_capacity c.set.new.changes) c.as_slice-2.result.now c.later.result c.self.inside.steps
+    c.self.invariant held c.set.ensures.count c.event_all.ensures.watch c.event_all.ensures.blank c.event_all.ensures.entry (omega (arith, c.clear.ensures.capacity, c.set.ensures.room)))
 
 pub event_all-requires-clause-once : goal.event_all-requires-clause-once
 event_all-requires-clause-once c = once_where_distinct c.as_slice-2.result.now (subst AreDistinct (sym c.as_slice-2.ensures.value) c.set.ensures.once)
@@ -46,6 +46,6 @@ returns-clause-does c = λ c' h was.
           c.self.invariant.servable held (fits-settings c.self.inside.model c.self.inside.values c.args.sets.now fit c.self.invariant.values).0 c.self.invariant.members
           (λ x. c.set.ensures.set x ∙ ap (λ (l : List Setting). last_set l x (attribute c.self.inside.values x)) c.as_slice.ensures) c.set.ensures.count
           (subst (λ (l : List Setting). AreMade c.self.inside.model c.self.inside.values l c.set.new.changes.items) c.as_slice.ensures c.set.ensures.changes)
-          (c.advance.ensures.moved ∙ ap (λ (ps : List ReportBlock). record { config = c.self.inside.model; steps = suc c.self.inside.steps; latest = max c.self.inside.latest c.args.moment; stored = c.set.new.self; parts = ps; rows = c.self.inside.associations }) parts)
+          (c.advance.ensures ∙ ap (λ (ps : List ReportBlock). record { config = c.self.inside.model; steps = suc c.self.inside.steps; latest = max c.self.inside.latest c.args.moment; stored = c.set.new.self; parts = ps; rows = c.self.inside.associations }) parts)
           st,
     )

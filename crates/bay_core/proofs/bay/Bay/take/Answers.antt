@@ -1,4 +1,4 @@
-use Rattle.std.proofs.Common.{◌≡◌, ◌<◌, length, None, Some, List, arith, sym, subst, ap, ◌∙◌, slice_set, suc, max}
+use Rattle.std.proofs.Common.{◌≡◌, ◌<◌, length, None, Some, List, arith, sym, subst, ap, ◌∙◌, slice_set, suc, max, vec_capacity}
 use Rattle.std.specs.Prelude.{slice_get}
 use Rattle.std.specs.Option.{option_map}
 use Rattle.sv_base.specs.declared.config.Config.{Config}
@@ -39,20 +39,20 @@ invariant_of-self-2 c =
     let part = c.index_mut.result.now in
     let at = at-place c.self.inside.parts.items block part within c.index_mut.ensures.value in
     let same = ap (λ (p : ReportBlock). p.members) c.sent.ensures in
-    furnished-set c.self.inside.model c.self.inside.values c.self.inside.parts.items c.self.inside.watch c.self.inside.octets c.self.invariant block part c.sent.new.self c.self.inside.watch at same (ap (λ (p : ReportBlock). p.window.members) c.sent.ensures)
+    furnished-set c.self.inside.model c.self.inside.values c.self.inside.parts.items c.self.inside.watch c.self.inside.octets (vec_capacity c.self.inside.changes) c.self.invariant block part c.sent.new.self c.self.inside.watch at same (ap (λ (p : ReportBlock). p.window.members) c.sent.ensures)
     (watching-same (length c.self.inside.values) c.self.inside.parts.items c.self.inside.watch block part c.sent.new.self at same (ap (λ (p : ReportBlock). p.block.options) c.sent.ensures) c.self.invariant.watch)
 
 pub returns-in_default-clause-does : goal.returns-in_default-clause-does
 returns-in_default-clause-does c = λ c' h was.
     let st = subst (λ s. StandsFor s c' h) (sym c.self.view_is) was in
-    let moved = subst (λ (s : State). c.advance.new.self ≡ record s { steps = suc s.steps; latest = max s.latest c.args.moment }) (sym c.self.view_is) c.advance.ensures.moved in
+    let moved = subst (λ (s : State). c.advance.new.self ≡ record s { steps = suc s.steps; latest = max s.latest c.args.moment }) (sym c.self.view_is) c.advance.ensures in
     closed-for _ c.advance.new.self c' h c.args.moment c.args.actor c.args.a (subst IsServable st.1.is_config c.self.invariant.servable) c.requires.number st moved (sym c.writer.ensures ∙ c.in_default.is)
 
 pub returns-in_default-first_offer-clause-does : goal.returns-in_default-first_offer-clause-does
 returns-in_default-first_offer-clause-does c = λ c' h was.
     let st = subst (λ s. StandsFor s c' h) (sym c.self.view_is) was in
     let new = c.advance-in_default-first_offer.new.self in
-    let moved = subst (λ (s : State). new ≡ record s { steps = suc s.steps; latest = max s.latest c.args.moment }) (sym c.self.view_is) c.advance-in_default-first_offer.ensures.moved in
+    let moved = subst (λ (s : State). new ≡ record s { steps = suc s.steps; latest = max s.latest c.args.moment }) (sym c.self.view_is) c.advance-in_default-first_offer.ensures in
     let none = subst (λ (ps : List ReportBlock). first_offered c.args.a 0 ps ≡ None) c.deref.ensures.value (sym c.first_offer.ensures.first ∙ ap (option_map offered) c.in_default-first_offer.is) in
     empty-for _ new c' h c.args.moment c.args.actor c.args.a (subst IsServable st.1.is_config c.self.invariant.servable) c.requires.number st c.in-Some.writer moved (sym c.writer.ensures ∙ c.in-Some.is) c.if-actor-writer.false
     (subst (λ (m : Config). length c.self.inside.parts.items ≡ length m.blocks) st.1.is_config c.self.invariant.count) none
@@ -66,7 +66,7 @@ returns-clause-does c = λ c' h was.
     let at = at-place c.self.inside.parts.items o.block part within c.index.ensures in
     let same = same-part c.self.inside.parts.items o.block c.index_mut.result.now part (at-place c.self.inside.parts.items o.block c.index_mut.result.now within c.index_mut.ensures.value) at in
     let after : ReportBlock → State = λ p. record { config = c.self.inside.model; steps = suc c.self.inside.steps; latest = max c.self.inside.latest c.args.moment; stored = c.self.inside.values; parts = slice_set c.self.inside.parts.items o.block p; rows = c.self.inside.associations } in
-    let moved = c.advance-2.ensures.moved
+    let moved = c.advance-2.ensures
     ∙ (ap after c.sent.ensures ∙ ap (λ p. after (reported_by o.next.id p)) same) in
     let is_report = subst (λ (m : Config). (ks : List Kept) → AreKept (offered o).entry.kept ks → c.in-Ok.report ≡ report_by (configured_model m) part (offered o) ks) st.1.is_config c.in-Ok.ensures in
     given-for _ c.advance-2.new.self c' h c.args.moment c.args.actor c.args.a (subst IsServable st.1.is_config c.self.invariant.servable) c.requires.number st c.in-Some.writer (offered o) part c.in-Ok.report

@@ -7,7 +7,7 @@ unmark-requires-clause-within c = λ k d below.
     rw c.as_slice.ensures.value
     (omega (
       arith,
-      within_all c.args.model.now c.self.inside.store c.set_all.new.store c.args.settings.now c.set_all.new.marks c.set_all.new.changes.items c.set_all.ensures k d (omega (arith, below, ap length c.as_slice.ensures.value)),
+      within_all c.args.model.now c.self.inside.store c.set_all.new.store c.args.settings.now c.set_all.new.marks c.set_all.new.changes.items c.set_all.ensures.done k d (omega (arith, below, ap length c.as_slice.ensures.value)),
       c.set_all.auto.marks,
       c.as_mut_slice.ensures.len,
       c.as_mut_slice-2.ensures.len,
@@ -17,7 +17,7 @@ pub returns-clause-within : goal.returns-clause-within
 returns-clause-within c = λ k d below.
     omega (
       arith,
-      within_all c.args.model.now c.self.inside.store c.set_all.new.store c.args.settings.now c.set_all.new.marks c.set_all.new.changes.items c.set_all.ensures k d below,
+      within_all c.args.model.now c.self.inside.store c.set_all.new.store c.args.settings.now c.set_all.new.marks c.set_all.new.changes.items c.set_all.ensures.done k d below,
       c.set_all.auto.marks,
       c.as_mut_slice.ensures.len,
       c.self.invariant.0,
