@@ -5,7 +5,7 @@ ghost use Rattle.std.specs.Prelude.{◌≡◌, ◌≢◌, ◌⊎◌, IfSome, IfN
 ghost use Rattle.std.specs.Process.{exit_status};
 ghost use Rattle.std.specs.IoError.{error_kind};
 ghost use Rattle.std.specs.Io.KnownBytes.{Appends};
-ghost use Rattle.replay_run.specs.Statuses.{number_of};
+ghost use Rattle.record_outcome.specs.Statuses.{number_of};
 ghost use Rattle.replay_run.specs.Tool.{IsWord};
 ghost use Rattle.sv_io.specs.Causes.{Rose};
 
@@ -16,7 +16,7 @@ mod stored_records;
 #[cfg(test)]
 mod texts;
 
-use replay_run::status::Status;
+use record_outcome::status::Status;
 use replay_run::tool::{is_word, tool};
 use std::io::ErrorKind;
 use std::process::ExitCode;

@@ -1,5 +1,5 @@
 //! Each status with its exit number and its words.
-use replay_run::status::Status;
+use record_outcome::status::Status;
 use std::test::Fail;
 
 /// A status, its exit number, and its words on standard error.

@@ -1,5 +1,5 @@
 //! The run of examples/first-run.record in memory.
-use replay_run::status::Status;
+use record_outcome::status::Status;
 use replay_run::tool::tool;
 use std::alloc::{AllocError, Global};
 use std::test::Fail;

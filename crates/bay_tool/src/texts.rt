@@ -1,6 +1,6 @@
 //! What the words `-h`, `--help` and `--version` show, and where to.
 use crate::{USAGE, VERSION, show, shown};
-use replay_run::status::Status;
+use record_outcome::status::Status;
 use std::test::Fail;
 use sv_io::{Calls, MemSink};
 

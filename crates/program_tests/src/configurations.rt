@@ -1,7 +1,7 @@
 //! Configurations, with their statuses and counts.
 
 use crate::runs::{Row, all_end};
-use replay_run::status::Status;
+use record_outcome::status::Status;
 use std::test::*;
 
 const COUNTED: [Row; 3] = [

@@ -11,4 +11,6 @@ mod configurations;
 #[cfg(test)]
 mod faults;
 #[cfg(test)]
+mod lines;
+#[cfg(test)]
 mod records;

@@ -1,11 +1,12 @@
 //! Records, with their statuses and what is answered to them.
 
 use crate::runs::{Row, all_end};
-use replay_run::status::Status;
+use record_outcome::status::Status;
 use std::test::*;
 
-/// Records of values, of gaps, of clients that go on behind an entry, and of blocks that are held and purged.
-const ANSWERED: [Row; 12] = [
+/// Records of values, of gaps, of clients that go on behind an entry, of blocks that are held and purged, and of writes of their
+/// components.
+const ANSWERED: [Row; 18] = [
     (
         "nothing",
         "record 1\n<200>open 1 direct\nend\n",
@@ -84,10 +85,55 @@ const ANSWERED: [Row; 12] = [
         Status::Ok,
         "1 ok\n1 report & sq 0 id 2 time !02 ovfl 1 3=d:850101\nend\n",
     ),
+    (
+        "another RptID purges, the same one doesn't",
+        "record 1\n<200>open 1 direct\nset @ 1\nwrite 1 & RptID 'Ev1\nwrite 1 & RptEna T\ntake 1\nwrite 1 & RptEna F\nset @ 2\nwrite 1 & RptID 'Ev2\n\
+            set @ 3\nwrite 1 & RptID 'Ev2\nwrite 1 & RptEna T\ntake 1\nend\n",
+        Status::Ok,
+        "1 ok\n1 ok\n1 report & sq 0 id 1 time !00 ovfl 0 3=d:850101\n1 ok\n1 ok\n1 ok\n1 ok\n1 report & sq 0 id 3 time !00 ovfl 1 3=d:850103\nend\n",
+    ),
+    (
+        "another OptFlds doesn't purge",
+        "record 1\n<200>open 1 direct\nset @ 1\nwrite 1 & OptFlds 0000000000\nwrite 1 & RptEna T\ntake 1\nend\n",
+        Status::Ok,
+        "1 ok\n1 ok\n1 report & sq 0 id 1 time !00 ovfl 0 3=d:850101\nend\n",
+    ),
+    (
+        "another TrgOps purges, and tells what an event is",
+        "record 1\n<200>open 1 direct\nset @ 1\nwrite 1 & TrgOps 001001\nset @ 2\nset BAY1/GGIO1$ST$Ind1$q 1000000000000\nwrite 1 & RptEna T\ntake 1\n\
+            take 1\nend\n",
+        Status::Ok,
+        "1 ok\n1 ok\n1 report & sq 0 id 2 time !00 ovfl 1 2=q:a212830100840303800091080000000000000000\n1 empty\nend\n",
+    ),
+    (
+        "what is never written",
+        "record 1\n<200>open 1 direct\nwrite 1 & ConfRev 2\nwrite 1 & SqNum 0\nwrite 1 & ConfRev T\nwrite 1 & TimeofEntry x000000000000\n\
+            write 1 & RptEna T\nwrite 1 & ConfRev 2\nend\n",
+        Status::Ok,
+        "1 refused 3\n1 refused 3\n1 refused 7\n1 refused 7\n1 ok\n1 refused 3\nend\n",
+    ),
+    (
+        "components of an enabled block",
+        "record 1\n<200>open 1 direct\nopen 2 direct\nwrite 1 & RptEna T\nwrite 1 & RptID 'Ev2\nwrite 2 & OptFlds 0000000000\nwrite 1 & TrgOps 000000\n\
+            write 1 & RptID 1\nwrite 1 & OptFlds 000000000\nwrite 1 & TrgOps 0000000\nend\n",
+        Status::Ok,
+        "1 ok\n1 refused 2\n2 refused 2\n1 refused 2\n1 refused 7\n1 refused 7\n1 refused 7\nend\n",
+    ),
+    (
+        "a RptID that is too long, and the longest",
+        "record 1\n<200>open 1 direct\nset @ 1\n\
+            write 1 & RptID '0123456789012345678901234567890123456789012345678901234567890123456789\
+            012345678901234567890123456789012345678901234567890123456789\n\
+            write 1 & RptID '0123456789012345678901234567890123456789012345678901234567890123456789\
+            01234567890123456789012345678901234567890123456789012345678\n\
+            write 1 & RptEna T\ntake 1\nend\n",
+        Status::Ok,
+        "1 refused 11\n1 ok\n1 ok\n1 empty\nend\n",
+    ),
 ];
 
 /// Records that are refused at a line, or end there.
-const JUDGED: [Row; 41] = [
+const JUDGED: [Row; 43] = [
     // records that end, or don't
     (
         "records that end",
@@ -259,6 +305,18 @@ const JUDGED: [Row; 41] = [
     (
         "what isn't built",
         "record 1\n<200>open 1 direct\nwrite 1 & GI T\n",
+        Status::Record { line: 23, kind: 9 },
+        "",
+    ),
+    (
+        "what isn't built",
+        "record 1\n<200>open 1 direct\nwrite 1 & BufTm 5\n",
+        Status::Record { line: 23, kind: 9 },
+        "",
+    ),
+    (
+        "what isn't built",
+        "record 1\n<200>open 1 direct\nwrite 1 & IntgPd F\n",
         Status::Record { line: 23, kind: 9 },
         "",
     ),

@@ -1,6 +1,6 @@
 //! Texts with marks for what most rows have, and a run of the program on one.
 
-use replay_run::status::Status;
+use record_outcome::status::Status;
 use replay_run::tool::tool;
 use std::alloc::{AllocError, Global};
 use std::process::Abort;

@@ -18,20 +18,19 @@ use Rattle.record_steps.specs.Told.{Told, skip, pass_to, turn, refused, last}
 use Rattle.record_history.specs.Histories.{octets_of, said, steps_of, onto}
 use Rattle.record_history.specs.Texts.{turns_in}
 use Rattle.record_history.proofs.SaidLaws.{IsRefused, said-same}
-use Rattle.replay_run.specs.Played.{Played, start, turn_at, is_open}
-use Rattle.replay_run.specs.Moves.{Place, goes, stops, opening, configuring, playing}
-use Rattle.replay_run.specs.Openings.{headed, opening_at, unbuilt_line, started_by, started, configuring_at}
-use Rattle.replay_run.specs.Steps.{accepted, played, told_at, step_at}
-use Rattle.replay_run.specs.Records.{Outcome, limit, most_lines, pieces, passed, lines_at, line_at, moved, run, outcome}
-use Rattle.replay_run.specs.Sessions.{NoNewline}
-use Rattle.replay_run.specs.declared.status.Status.{Status}
-use Rattle.replay_run.specs.declared.status.Status.TheVariants as statuses
+use Rattle.record_outcome.specs.Played.{Played, start, turn_at, is_open}
+use Rattle.record_outcome.specs.Moves.{Place, goes, stops, opening, configuring, playing}
+use Rattle.record_outcome.specs.Openings.{headed, opening_at, unbuilt_line, started_by, started, configuring_at}
+use Rattle.record_outcome.specs.Steps.{accepted, played, told_at, step_at}
+use Rattle.record_outcome.specs.Records.{Outcome, limit, most_lines, pieces, passed, lines_at, line_at, moved, run, outcome, NoNewline}
+use Rattle.record_outcome.specs.declared.status.Status.{Status}
+use Rattle.record_outcome.specs.declared.status.Status.TheVariants as statuses
 use Rattle.std.proofs.lemmas.Bool.Decides.{leb_tells}
-use Rattle.replay_run.proofs.ReadingOn.{run-line}
+use Rattle.record_outcome.proofs.LineLaws.{run-line}
 use Rattle.std.proofs.Math.Seq.{take-append-add}
 use Rattle.std.proofs.lemmas.List.Elements.{All-from_recursion}
 use Rattle.record_laws.specs.Grammar.{CanBeDone, IsStepLine, AreStepLines, IsRemark, IsInner, Each, record_octets, IsRecord}
-use Rattle.replay_run.proofs.HistoryLaws.{standing, grown}
+use Rattle.record_outcome.proofs.HistoryLaws.{standing, grown}
 
 -- the first of some lines
 line-first : (line : List ℕ) (ls : List (List ℕ)) (more : List ℕ) → octets_of (line ∷ ls) ++ more ≡ line ++ 10 ∷ (octets_of ls ++ more)

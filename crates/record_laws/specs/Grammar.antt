@@ -14,10 +14,9 @@ use Rattle.record_steps.specs.Resolved.{association_of, told_of}
 use Rattle.record_steps.specs.Told.{Told, skip, pass_to, turn, refused, last}
 use Rattle.record_history.specs.Histories.{octets_of, moment_of, steps_of}
 use Rattle.record_history.specs.Texts.{turns_in}
-use Rattle.replay_run.specs.Played.{is_open}
-use Rattle.replay_run.specs.Openings.{unbuilt_line}
-use Rattle.replay_run.specs.Records.{limit, most_lines}
-use Rattle.replay_run.specs.Sessions.{NoNewline}
+use Rattle.record_outcome.specs.Played.{is_open}
+use Rattle.record_outcome.specs.Openings.{unbuilt_line}
+use Rattle.record_outcome.specs.Records.{limit, most_lines, NoNewline}
 
 -- behind these lines: nothing is to be done, or another moment is told, or a step that is accepted
 abbrev pub CanBeDone : Config → List (List ℕ) → Told → Type 0

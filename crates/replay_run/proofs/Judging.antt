@@ -5,14 +5,14 @@ use Rattle.std.specs.Io.KnownBytes.{Appends, Consumes, IsAtEnd}
 use Rattle.std.proofs.lemmas.Bool.{lt-ltb}
 use Rattle.std.proofs.lemmas.Bool.Decides.{leb_tells}
 use Rattle.std.proofs.lemmas.List.{take_all, take-append-le}
-use Rattle.replay_run.specs.Moves.{Place, opening}
-use Rattle.replay_run.specs.Records.{Outcome, limit, pieces, run, has_begun, ended, outcome}
-use Rattle.replay_run.specs.Sessions.{NoNewline, IsAt, Stopped, Fed, Takes}
+use Rattle.record_outcome.specs.Moves.{Place, opening}
+use Rattle.record_outcome.specs.Records.{Outcome, limit, pieces, run, has_begun, ended, outcome, NoNewline}
+use Rattle.record_session.specs.Sessions.{IsAt, Stopped, Fed, Takes}
 use Rattle.replay_run.specs.Runs.{Run}
-use Rattle.replay_run.specs.Tool.{Answers}
-use Rattle.replay_run.specs.declared.reader.Reader.{Reader}
-use Rattle.replay_run.specs.declared.status.Status.{Status}
-use Rattle.replay_run.proofs.ReadingOn.{fed-ends}
+use Rattle.record_outcome.specs.Judgements.{Answers}
+use Rattle.record_session.specs.declared.reader.Reader.{Reader}
+use Rattle.record_outcome.specs.declared.status.Status.{Status}
+use Rattle.record_session.proofs.ReadingOn.{fed-ends}
 
 pub consumes-more : (old mid new : Option (List ℕ)) (xs ys : List ℕ) → Consumes old mid xs → Consumes mid new ys → Consumes old new (xs ++ ys)
 consumes-more None mid new xs ys h k = tt

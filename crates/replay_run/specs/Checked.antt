@@ -7,8 +7,8 @@ use Rattle.cfg_parser.specs.declared.fault.CfgFault.{CfgFault}
 use Rattle.cfg_parser.specs.declared.fault.CfgFault.TheVariants as faults
 use Rattle.cfg_parser.specs.Kinds.{number_of}
 use Rattle.cfg_parser.specs.Looking.{config_at}
-use Rattle.replay_run.specs.declared.status.Status.{Status}
-use Rattle.replay_run.specs.declared.status.Status.TheVariants as statuses
+use Rattle.record_outcome.specs.declared.status.Status.{Status}
+use Rattle.record_outcome.specs.declared.status.Status.TheVariants as statuses
 
 -- the most octets that are read of a configuration, more than any has
 abbrev pub most : ℕ

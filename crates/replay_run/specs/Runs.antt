@@ -1,12 +1,12 @@
 -- What a replay stands for: the octets that were read, and the answers that the sink took.
 use Rattle.std.specs.Prelude.{◌≡◌, ◌≤◌, ℕ, List, [], length, Option, None, Some, IfSome}
 use Rattle.std.specs.Io.KnownBytes.{Appends, Consumes}
-use Rattle.replay_run.specs.Sessions.{NoNewline, Fed, steps_in, IsEarly}
-use Rattle.replay_run.specs.Records.{limit}
-use Rattle.replay_run.specs.Tool.{IsJudgement, Answers}
-use Rattle.replay_run.specs.declared.reader.Reader.{Reader}
+use Rattle.record_outcome.specs.Records.{NoNewline, limit}
+use Rattle.record_session.specs.Sessions.{Fed, steps_in, IsEarly}
+use Rattle.record_outcome.specs.Judgements.{IsJudgement, Answers}
+use Rattle.record_session.specs.declared.reader.Reader.{Reader}
 use Rattle.replay_run.specs.declared.replay.Replay.{Replay}
-use Rattle.replay_run.specs.declared.status.Status.{Status}
+use Rattle.record_outcome.specs.declared.status.Status.{Status}
 
 -- between two pieces
 pub record IsReady (replay : Replay) : Type 0 where

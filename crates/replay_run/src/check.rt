@@ -6,11 +6,11 @@ ghost use Rattle.sv_io.specs.Causes.{Rose};
 ghost use Rattle.replay_run.specs.Tool.{TakesAtMost};
 ghost use Rattle.replay_run.specs.Checked.{count, counts, IsChecked, IsOfCheck, IsOfTelling, Checks};
 
-use crate::status::Status;
 use crate::whole::{Halt, read_whole};
 use answer_text::push_number;
 use cfg_text::{CfgFault, read_config};
 use object_model::domains;
+use record_outcome::status::Status;
 use std::alloc::{AllocError, Global};
 use sv_base::Config;
 use sv_io::{Failed, Sink, Source};

@@ -3,18 +3,16 @@
 ghost use Rattle.std.specs.Prelude.{◌≡◌, ◌≤◌, ◌<◌, ◌+◌, ◌^◌, [], length, IfOk, IfSome, IfNone, OnOk};
 ghost use Rattle.std.specs.Io.KnownBytes.{Appends};
 ghost use Rattle.sv_io.specs.Causes.{HasCause, Rose};
-ghost use Rattle.replay_run.specs.Sessions.{NoNewline, Takes, steps_in, IsEarly};
-ghost use Rattle.replay_run.specs.Tool.{IsJudgement};
+ghost use Rattle.record_outcome.specs.Records.{NoNewline, has_begun, ended};
+ghost use Rattle.record_session.specs.Sessions.{Takes, steps_in, IsEarly, IsAt};
+ghost use Rattle.record_outcome.specs.Judgements.{IsJudgement, IsOfReplay};
 ghost use Rattle.std.specs.Prelude.{suc};
-ghost use Rattle.replay_run.specs.Moves.{Place};
-ghost use Rattle.replay_run.specs.Records.{has_begun, ended};
-ghost use Rattle.replay_run.specs.Sessions.{IsAt};
+ghost use Rattle.record_outcome.specs.Moves.{Place};
 ghost use Rattle.std.specs.Prelude.{◌≢◌};
-ghost use Rattle.replay_run.specs.Tool.{IsOfReplay};
 
 use crate::pieces::read_piece;
-use crate::reader::Reader;
-use crate::status::Status;
+use record_outcome::status::Status;
+use record_session::reader::Reader;
 use std::alloc::{AllocError, Global};
 use sv_io::{Failed, Sink, Source};
 
@@ -106,8 +104,9 @@ impl Replay {
     ghost use Rattle.std.specs.Bool.{MatchBool};
     ghost use Rattle.sv_io.specs.Causes.{Rose};
     ghost use Rattle.replay_run.specs.Runs.{IsReady, Run, Turns};
-    ghost use Rattle.replay_run.specs.Tool.{IsJudgement, IsOfReplay, Answers, TakesAtMost};
-    ghost use Rattle.replay_run.specs.declared.status.Status.TheVariants as statuses;
+    ghost use Rattle.record_outcome.specs.Judgements.{IsJudgement, IsOfReplay, Answers};
+    ghost use Rattle.replay_run.specs.Tool.{TakesAtMost};
+    ghost use Rattle.record_outcome.specs.declared.status.Status.TheVariants as statuses;
 
     /// Nothing is read yet.
     pub fn new(alloc: Global) -> Replay

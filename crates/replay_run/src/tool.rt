@@ -3,13 +3,14 @@
 ghost use Rattle.std.specs.Prelude.{◌≡◌, ◌≤◌, ◌<◌, ◌-◌, ◌↔◌, ℕ, List, Option, length, IfSome, IsTrue};
 ghost use Rattle.replay_run.specs.Runs.{IsReady, Run};
 ghost use Rattle.sv_io.specs.Causes.{Rose};
-ghost use Rattle.replay_run.specs.Written.{WritesHistory};
+ghost use Rattle.record_outcome.specs.Written.{WritesHistory};
 ghost use Rattle.replay_run.specs.Checked.{IsChecked, IsOfCheck, Checks};
-ghost use Rattle.replay_run.specs.Tool.{IsWord, IsReplay, IsCheck, IsCommand, IsJudgement, IsOfReplay, Answers, TakesAtMost};
+ghost use Rattle.replay_run.specs.Tool.{IsWord, IsReplay, IsCheck, IsCommand, TakesAtMost};
+ghost use Rattle.record_outcome.specs.Judgements.{IsJudgement, IsOfReplay, Answers};
 
 use crate::check::check;
 use crate::replay::Replay;
-use crate::status::Status;
+use record_outcome::status::Status;
 use std::alloc::Global;
 use sv_io::{Sink, Source};
 
@@ -60,7 +61,9 @@ fn replay<S: Source, K: Sink>(alloc: Global, source: &mut S, sink: &mut K) -> St
 {
     let mut replay = Replay::new(alloc);
     let mut piece = [0u8; 16384];
-    run(alloc, &mut replay, source, sink, &mut piece)
+    let status = run(alloc, &mut replay, source, sink, &mut piece);
+    drop(replay);
+    status
 }
 
 /// Does all that the program does. With the word `replay` it reads a record from the source, and writes the answers to its

@@ -1,4 +1,4 @@
-use Rattle.replay_run.proofs.StatusLaws.{judged_replay, judged_read, judged_write}
+use Rattle.record_outcome.proofs.StatusLaws.{judged_replay, judged_read, judged_write}
 use Rattle.replay_run.proofs.replay.end.Goals as goal
 
 pub returns-in-Ok-clause-status : goal.returns-in-Ok-clause-status

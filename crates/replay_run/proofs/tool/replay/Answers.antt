@@ -1,9 +1,9 @@
-use Rattle.replay_run.proofs.HistoryLaws.{writes-history}
+use Rattle.record_outcome.proofs.HistoryLaws.{writes-history}
 use Rattle.replay_run.proofs.tool.replay.Goals as goal
 
 pub returns-clause-told : goal.returns-clause-told
-returns-clause-told g c = λ j. c.run.ensures.told (g.S.Source.left c.args.source.now) (g.K.Sink.taken c.args.sink.now) (c.new-replay.ensures.run (g.S.Source.left c.args.source.now) (g.K.Sink.taken c.args.sink.now)) j
+returns-clause-told g c = λ j. c.run-status.ensures.told (g.S.Source.left c.args.source.now) (g.K.Sink.taken c.args.sink.now) (c.new-replay.ensures.run (g.S.Source.left c.args.source.now) (g.K.Sink.taken c.args.sink.now)) j
 
 pub returns-clause-history : goal.returns-clause-history
-returns-clause-history g c = λ j. writes-history (g.S.Source.left c.args.source.now) c.run.result (g.K.Sink.taken c.args.sink.now) (g.K.Sink.taken c.run.new.sink)
-    (c.run.ensures.told (g.S.Source.left c.args.source.now) (g.K.Sink.taken c.args.sink.now) (c.new-replay.ensures.run (g.S.Source.left c.args.source.now) (g.K.Sink.taken c.args.sink.now)) j)
+returns-clause-history g c = λ j. writes-history (g.S.Source.left c.args.source.now) c.run-status.result (g.K.Sink.taken c.args.sink.now) (g.K.Sink.taken c.run-status.new.sink)
+    (c.run-status.ensures.told (g.S.Source.left c.args.source.now) (g.K.Sink.taken c.args.sink.now) (c.new-replay.ensures.run (g.S.Source.left c.args.source.now) (g.K.Sink.taken c.args.sink.now)) j)

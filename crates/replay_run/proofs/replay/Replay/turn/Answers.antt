@@ -2,8 +2,8 @@ use Rattle.std.proofs.Common.{◌≡◌, ◌≤◌, ◌+◌, [], length, take, s
 use Rattle.std.specs.Io.KnownBytes.{Consumes}
 use Rattle.replay_run.specs.Runs.{Run}
 use Rattle.replay_run.proofs.Judging.{run-more, run-stops, run-ends}
-use Rattle.replay_run.specs.declared.status.Status.TheVariants as statuses
-use Rattle.replay_run.proofs.StatusLaws.{judged_replay, judged_read, judged_write}
+use Rattle.record_outcome.specs.declared.status.Status.TheVariants as statuses
+use Rattle.record_outcome.proofs.StatusLaws.{judged_replay, judged_read, judged_write}
 use Rattle.replay_run.proofs.replay.Replay.turn.Goals as goal
 
 pub returns-then-length-eq0-clause-turns : goal.returns-then-length-eq0-clause-turns

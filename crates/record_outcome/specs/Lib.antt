@@ -1,0 +1,10 @@
+-- What a record comes to: what each of its lines does, its status, and what is written to it.
+pub mod Played
+pub mod Moves
+pub mod Steps
+pub mod Openings
+pub mod Opens
+pub mod Records
+pub mod Judgements
+pub mod Statuses
+pub mod Written

@@ -1,0 +1,68 @@
+-- What the lines before the steps do: the line `record 1`, and those of the configuration up to `end`.
+use Rattle.std.specs.Prelude.{ℕ, ◌+◌, ◌==◌, ◌||◌, ◌&&◌, not, Bool, List, [], ◌∷◌, ◌++◌, length, map, codes, Option, None, Some, Result, Ok, Err, min, if◌then◌else◌}
+use Rattle.std.specs.List.{filter}
+use Rattle.std.specs.Str.{bytes_eq}
+use Rattle.sv_base.specs.declared.config.Config.{Config}
+use Rattle.sv_base.specs.declared.config.BlockDef.{BlockDef}
+use Rattle.sv_base.specs.declared.config.CtlDef.{CtlDef}
+use Rattle.sv_base.specs.declared.config.SgDef.{SgDef}
+use Rattle.text_words.specs.Octets.{is_skipped}
+use Rattle.text_words.specs.Words.{words_of}
+use Rattle.cfg_parser.specs.Kinds.{number_of}
+use Rattle.cfg_parser.specs.Looking.{config_at}
+use Rattle.cfg_parser.specs.declared.fault.CfgFault.{CfgFault}
+use Rattle.cfg_parser.specs.declared.fault.CfgFault.TheVariants as faults
+use Rattle.run_record.specs.Judging.{is_long}
+use Rattle.record_outcome.specs.Played.{start}
+use Rattle.record_outcome.specs.Moves.{Move, goes, stops, opening, configuring, playing}
+use Rattle.record_outcome.specs.declared.status.Status.TheVariants as statuses
+
+-- the words are `record 1`: another word or count of words is kind 1, another number kind 2
+abbrev pub headed : ℕ → List (List ℕ) → Move
+headed number (word ∷ version ∷ []) =
+    if bytes_eq word (codes "record") && not (length version == 0) then (if bytes_eq version (codes "1") then goes (configuring number []) [] else stops (statuses.Record number 2) [])
+    else stops (statuses.Record number 1) []
+headed number _ = stops (statuses.Record number 1) []
+
+-- empty lines and remarks come before it too
+unfoldable pub opening_at : ℕ → List ℕ → Move
+opening_at number line =
+    if is_long line then stops (statuses.Record number 8) []
+    else if is_skipped line then goes opening []
+    else headed number (words_of line)
+
+-- the least of numbers and of another one
+abbrev pub least_with : ℕ → Option ℕ → Option ℕ
+least_with n None = Some n
+least_with n (Some m) = Some (min n m)
+
+abbrev pub least_of : List ℕ → Option ℕ → Option ℕ
+least_of [] other = other
+least_of (n ∷ ns) other = least_with n (least_of ns other)
+
+-- a block that gathers events for a time, or has an integrity period
+abbrev pub is_timed : BlockDef → Bool
+is_timed b = not (b.buf_tm == 0) || not (b.intg_pd == 0)
+
+abbrev pub timed_line : List BlockDef → Option ℕ
+timed_line blocks = least_of (map (λ (b : BlockDef). b.line) (filter is_timed blocks)) None
+
+-- the first line of what isn't built, counted in the configuration: a control, setting groups, or such a block
+abbrev pub unbuilt_line : Config → Option ℕ
+unbuilt_line c = least_of (map (λ (k : CtlDef). k.line) c.controls) (least_of (map (λ (g : SgDef). g.line) c.groups) (timed_line c.blocks))
+
+abbrev pub started_by : ℕ → Config → Option ℕ → Move
+started_by before c None = goes (playing c start) []
+started_by before c (Some line) = stops (statuses.Record (before + line) 9) []
+
+-- the configuration is whole, behind so many lines
+abbrev pub started : ℕ → Result Config CfgFault → Move
+started before (Ok c) = started_by before c (unbuilt_line c)
+started before (Err (faults.Refused line kind)) = stops (statuses.Config (before + line) (number_of kind)) []
+started before (Err faults.Memory) = stops statuses.Memory []
+
+-- its lines are gathered up to the first that is `end`
+unfoldable pub configuring_at : ℕ → List ℕ → List ℕ → Move
+configuring_at before text line =
+    if bytes_eq line (codes "end") then started before (config_at (text ++ (line ++ 10 ∷ [])))
+    else goes (configuring before (text ++ (line ++ 10 ∷ []))) []

@@ -1,0 +1,48 @@
+-- What is written to a record: the text of the history of its lines, before the one with which the reading stops.
+use Rattle.std.specs.Prelude.{◌≡◌, ◌≤◌, ◌⊎◌, ℕ, suc, ◌+◌, List, [], ◌∷◌, ◌++◌, length, take, drop, codes, Option, None, Some, IfSome}
+use Rattle.bay_model.specs.Named.{configured_model}
+use Rattle.bay_model.specs.Acceptance.{IsHistory}
+use Rattle.std.specs.Io.KnownBytes.{Appends}
+use Rattle.record_history.specs.Histories.{Recorded, lines_of, history_of}
+use Rattle.record_history.specs.Texts.{turns_in, record_text}
+use Rattle.record_outcome.specs.Records.{Outcome, limit, outcome}
+use Rattle.record_outcome.specs.declared.status.Status.{Status}
+use Rattle.record_outcome.specs.declared.status.Status.TheVariants as statuses
+
+-- each step is accepted after those before it
+abbrev pub IsAccepted : Recorded → Type 0
+IsAccepted r = IsHistory (configured_model r.config) (turns_in r.steps)
+
+-- a record's configuration is whole, and no step follows it
+abbrev pub IsUnplayed : Option Recorded → Type 0
+IsUnplayed None = ⊥
+IsUnplayed (Some r) = r.steps ≡ []
+
+-- Behind line k the reading stops with this status: at the `end` of the steps; at the line that the status names, or in a
+-- configuration that is refused, or at the `end` of one that has what isn't built.
+abbrev pub StopsBehind : (List (List ℕ) → Option Recorded) → Status → ℕ → ℕ → List (List ℕ) → Type 0
+StopsBehind history statuses.Ok number k ls = (rest : List (List ℕ)) × (drop k ls ≡ codes "end" ∷ rest)
+StopsBehind history (statuses.Record line kind) number k ls = (line ≡ suc number) ⊎ ((kind ≡ 9) × IsUnplayed (history (take (suc k) ls)))
+StopsBehind history (statuses.Limit which line) number k ls = line ≡ suc number
+StopsBehind history _ number k ls = history (take k ls) ≡ None
+
+-- `end` is written exactly at status 0
+abbrev pub end_of : Status → List ℕ
+end_of statuses.Ok = codes "end\n"
+end_of _ = []
+
+-- Of lines, behind others that are so many and to which this was written: up to where the reading stops, the text is that of the
+-- history, whose steps are accepted.
+pub record IsWritten (history : List (List ℕ) → Option Recorded) (written : List ℕ) (count : ℕ) (ls : List (List ℕ)) (o : Outcome) : Type 0 where
+  pub lines : ℕ
+  pub within : lines ≤ length ls
+  pub text_ : written ++ o.text ≡ record_text (history (take lines ls)) ++ end_of o.status
+  pub accepted : IfSome (history (take lines ls)) IsAccepted
+  pub stops : StopsBehind history o.status (count + lines) lines ls
+
+abbrev pub TextIsOfHistory : Type 0
+TextIsOfHistory = (octets : List ℕ) → IsWritten history_of [] 0 (lines_of (take limit octets)) (outcome octets)
+
+-- the sink took the text of the record's history
+abbrev pub WritesHistory : List ℕ → Status → Option (List ℕ) → Option (List ℕ) → Type 0
+WritesHistory octets status old new = (text : List ℕ) × Appends old new text × IsWritten history_of [] 0 (lines_of (take limit octets)) (record { status = status; text = text })

@@ -1,0 +1,12 @@
+//! What a record comes to: what each of its lines does, its status, and what is written to it.
+#![tactic(auto)]
+
+// how the reading of a record ends, as every run of the program
+pub mod status;
+
+// what stands before the steps: the lines up to `record 1`, and what of a configuration isn't built
+pub mod openings;
+pub mod unbuilt;
+
+// what is answered to a record, by its history
+pub mod laws;

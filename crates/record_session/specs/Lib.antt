@@ -1,0 +1,3 @@
+-- What the reading of a record stands for.
+pub mod Plays
+pub mod Sessions

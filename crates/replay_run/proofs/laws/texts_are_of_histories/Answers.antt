@@ -1,5 +1,0 @@
-use Rattle.replay_run.proofs.HistoryLaws.{text_is_of_history}
-use Rattle.replay_run.proofs.laws.texts_are_of_histories.Goals as goal
-
-pub returns : goal.returns
-returns c = record { text = text_is_of_history }

@@ -1,6 +1,0 @@
-use Rattle.std.proofs.Common.{refl}
-use Rattle.replay_run.proofs.ReadingOn.{reads-none}
-use Rattle.replay_run.proofs.session.Session.new.Goals as goal
-
-pub returns-clause-reads : goal.returns-clause-reads
-returns-clause-reads c = reads-none _ tt refl
