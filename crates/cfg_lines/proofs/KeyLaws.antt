@@ -1,20 +1,10 @@
 -- A key among others, and after one more.
 use Rattle.std.proofs.Common.{◌≡◌, ℕ, Bool, true, false, ◌||◌, List, [], ◌∷◌, ◌++◌, map, refl, sym, ap, ◌∙◌}
-use Rattle.std.specs.Prelude.{Vec}
-use Rattle.std.specs.declared.alloc.Global.{Global}
 use Rattle.std.specs.List.{list_any}
 use Rattle.std.specs.Str.{bytes_eq}
-use Rattle.std.proofs.lemmas.Bool.{cond_both, cond-true, cond-false}
+use Rattle.std.proofs.lemmas.Bool.{cond_both}
 use Rattle.std.proofs.lemmas.Slice.Eq.{bytes_eq-Decides}
-use Rattle.indexmap.specs.IndexSet.{insert_key}
-use Rattle.cfg_lines.specs.Keys.{is_among, added, octets_of}
-
-abbrev pub same : Vec ℕ Global → Vec ℕ Global → Bool
-same v w = bytes_eq v.items w.items
-
-pub any-items : (key : List ℕ) (ks : List (Vec ℕ Global)) → list_any (λ k. bytes_eq key k.items) ks ≡ is_among (map octets_of ks) key
-any-items key [] = refl
-any-items key (k ∷ ks) = ap (λ b. bytes_eq key k.items || b) (any-items key ks)
+use Rattle.cfg_lines.specs.Keys.{is_among, added}
 
 pub turned : (a b c : Bool) → (a || (b || c)) ≡ (b || (a || c))
 turned true true c = refl
@@ -47,15 +37,6 @@ pub any-added : (p : List ℕ → Bool) (keys : List (List ℕ)) (key : List ℕ
 any-added p keys key = cond_both (is_among keys key) keys (keys ++ key ∷ []) (λ new. list_any p new ≡ (p key || list_any p keys))
     (λ e. there (p key) (list_any p keys) (λ passes. any-among p keys key e passes))
     (λ e. any-last p keys key)
-
-map-last : (ks : List (Vec ℕ Global)) (v : Vec ℕ Global) → map octets_of (ks ++ v ∷ []) ≡ map octets_of ks ++ v.items ∷ []
-map-last [] v = refl
-map-last (k ∷ ks) v = ap (λ (rest : List (List ℕ)). k.items ∷ rest) (map-last ks v)
-
-pub items-inserted : (ks : List (Vec ℕ Global)) (v : Vec ℕ Global) → map octets_of (insert_key same ks v) ≡ added (map octets_of ks) v.items
-items-inserted ks v = cond_both (list_any (same v) ks) ks (ks ++ v ∷ []) (λ new. map octets_of new ≡ added (map octets_of ks) v.items)
-    (λ e. sym (cond-true _ _ _ (sym (any-items v.items ks) ∙ e)))
-    (λ e. map-last ks v ∙ sym (cond-false _ _ _ (sym (any-items v.items ks) ∙ e)))
 
 pub any-map : {X Y : Type 0} (p : Y → Bool) (f : X → Y) (xs : List X) → list_any p (map f xs) ≡ list_any (λ x. p (f x)) xs
 any-map p f [] = refl

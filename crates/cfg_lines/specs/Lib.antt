@@ -1,4 +1,6 @@
 pub mod Keys
+pub mod Hashed
+pub mod Laid
 pub mod Paths
 pub mod Before
 pub mod Facts

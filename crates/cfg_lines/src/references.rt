@@ -7,23 +7,41 @@ ghost use Rattle.cfg_lines.specs.Claims.{operations, settings, control_keys as c
 
 use std::alloc::{AllocError, Global};
 
+/// Adds a name below what a room holds.
+fn extend_below(room: &mut Vec<u8>, name: &[u8]) -> Result<(), AllocError>
+    ensures { OnOk result (room.new.items ≡ below_front room.old.items name.now) }
+{
+    room.push(b'$')?;
+    room.extend_from_slice(name)
+}
+
+/// A room for the reference of a logical node, with so many octets more, that has the reference.
+fn node_room(alloc: Global, domain: &[u8], node: &[u8], more: usize) -> Result<Vec<u8>, AllocError>
+    ensures { IfOk result (λ v. v.items ≡ node_key_of domain.now node.now) }
+{
+    let octets = domain.len().saturating_add(node.len()).saturating_add(more);
+    let mut key = Vec::with_capacity(alloc, octets.saturating_add(1))?;
+    key.extend_from_slice(domain)?;
+    key.push(b'/')?;
+    key.extend_from_slice(node)?;
+    Ok(key)
+}
+
 /// The reference of a logical node.
 pub fn node_key(alloc: Global, domain: &[u8], node: &[u8]) -> Result<Vec<u8>, AllocError>
     ensures { IfOk result (λ v. v.items ≡ node_key_of domain.now node.now) }
 {
-    let mut key = Vec::from_slice(alloc, domain)?;
-    key.push(b'/')?;
-    key.extend_from_slice(node)?;
-    Ok(key)
+    node_room(alloc, domain, node, 0)
 }
 
 /// The reference of a name below another.
 pub fn below(alloc: Global, front: &[u8], name: &[u8]) -> Result<Vec<u8>, AllocError>
     ensures { IfOk result (λ v. v.items ≡ below_front front.now name.now) }
 {
-    let mut key = Vec::from_slice(alloc, front)?;
-    key.push(b'$')?;
-    key.extend_from_slice(name)?;
+    let octets = front.len().saturating_add(name.len());
+    let mut key = Vec::with_capacity(alloc, octets.saturating_add(1))?;
+    key.extend_from_slice(front)?;
+    extend_below(&mut key, name)?;
     Ok(key)
 }
 
@@ -36,8 +54,9 @@ pub fn node_item(
 ) -> Result<Vec<u8>, AllocError>
     ensures { IfOk result (λ v. v.items ≡ below_front (node_key_of domain.now node.now) name.now) }
 {
-    let front = node_key(alloc, domain, node)?;
-    below(alloc, &front, name)
+    let mut key = node_room(alloc, domain, node, name.len().saturating_add(1))?;
+    extend_below(&mut key, name)?;
+    Ok(key)
 }
 
 /// The reference of a path under a functional constraint of a logical node.
@@ -50,8 +69,11 @@ pub fn item_key(
 ) -> Result<Vec<u8>, AllocError>
     ensures { IfOk result (λ v. v.items ≡ item_key_of domain.now node.now fc.now path.now) }
 {
-    let front = node_item(alloc, domain, node, fc)?;
-    below(alloc, &front, path)
+    let octets = fc.len().saturating_add(path.len());
+    let mut key = node_room(alloc, domain, node, octets.saturating_add(2))?;
+    extend_below(&mut key, fc)?;
+    extend_below(&mut key, path)?;
+    Ok(key)
 }
 
 fn push_below(

@@ -2,3 +2,4 @@ pub mod NodeLaws
 pub mod IndexLaws
 pub mod PartLaws
 pub mod OctetLaws
+pub mod PartNameLaws

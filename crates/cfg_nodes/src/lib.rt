@@ -4,6 +4,7 @@
 mod closed;
 mod leaves;
 mod nodes;
+mod part_names;
 mod parts;
 mod sizes;
 

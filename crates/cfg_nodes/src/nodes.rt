@@ -30,7 +30,7 @@ fn open_of(alloc: Global, leaves: &[Leaf]) -> Result<Keys, AllocError>
 {
     let mut keys = Keys::new(alloc);
     for leaf in leaves {
-        keys.add_with_above(alloc, leaf.name.as_slice())?;
+        keys.add_with_above(leaf.name.as_slice())?;
     }
     Ok(keys)
 }
@@ -41,7 +41,7 @@ fn above_of(alloc: Global, names: &[Octs]) -> Result<Keys, AllocError>
 {
     let mut keys = Keys::new(alloc);
     for name in names {
-        keys.add_with_above(alloc, name.as_slice())?;
+        keys.add_with_above(name.as_slice())?;
     }
     Ok(keys)
 }

@@ -5,20 +5,21 @@ ghost use Rattle.indexmap.specs.IndexMap.{index_map_len};
 ghost use Rattle.cfg_lines.specs.Sizes.{with_edge, with_name, children};
 ghost use Rattle.cfg_nodes.specs.Indexed.{IsAt, parts_at};
 
-use cfg_lines::{Keys, Leaf};
+use crate::part_names::PartNames;
+use cfg_lines::Leaf;
 use indexmap::IndexMap;
 use std::alloc::{AllocError, Global};
 
 /// The parts of the structures above some leaves.
 #[derive(Drop)]
 pub struct Parts {
-    below: IndexMap<Vec<u8>, Keys>,
+    below: IndexMap<Vec<u8>, PartNames>,
 }
 
 /// The place of a node, which is added without parts where it isn't there.
 fn place_of(
     alloc: Global,
-    below: &mut IndexMap<Vec<u8>, Keys>,
+    below: &mut IndexMap<Vec<u8>, PartNames>,
     node: &[u8],
 ) -> Result<usize, AllocError>
     ensures place { IfOk result (λ i. IsAt node.now below.new.entries i) }
@@ -30,13 +31,13 @@ fn place_of(
     }
     let mut key = Vec::new(alloc);
     key.extend_from_slice(node)?;
-    let (place, _) = below.insert_full(key, Keys::new(alloc))?;
+    let (place, _) = below.insert_full(key, PartNames::new(alloc))?;
     Ok(place)
 }
 
 fn add_part(
     alloc: Global,
-    below: &mut IndexMap<Vec<u8>, Keys>,
+    below: &mut IndexMap<Vec<u8>, PartNames>,
     node: &[u8],
     part: &[u8],
 ) -> Result<(), AllocError>
@@ -50,7 +51,7 @@ fn add_part(
 /// Adds to each structure above a path what is below it on the way there.
 fn add_path(
     alloc: Global,
-    below: &mut IndexMap<Vec<u8>, Keys>,
+    below: &mut IndexMap<Vec<u8>, PartNames>,
     path: &[u8],
 ) -> Result<(), AllocError>
     ensures { OnOk result ((other : List ℕ) → parts_at below.new.entries other ≡ with_name other (parts_at below.old.entries other) path.now) }
@@ -85,7 +86,7 @@ impl Parts {
         ensures { map octets_of result.now ≡ parts_in self.now node.now }
     {
         match self.below.get(node) {
-            Some(parts) => parts.rows(),
+            Some(parts) => parts.names(),
             None => &[],
         }
     }

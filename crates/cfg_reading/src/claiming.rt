@@ -15,7 +15,7 @@ pub fn add_node(alloc: Global, heads: &mut Keys, node: &LnDef) -> Result<(), All
     ensures { OnOk result ((key : List ℕ) → is_among heads.new key ≡ (bytes_eq key (node_key_of node.now.domain node.now.ln) || is_among heads.old key)) }
 {
     let key = node_key(alloc, node.domain.as_slice(), node.ln.as_slice())?;
-    heads.add(alloc, &key)
+    heads.add(&key)
 }
 
 /// Adds the reference of a data set.
@@ -28,7 +28,7 @@ pub fn add_set(alloc: Global, sets: &mut Keys, set: &SetDef) -> Result<(), Alloc
         set.ln.as_slice(),
         set.name.as_slice(),
     )?;
-    sets.add(alloc, &key)
+    sets.add(&key)
 }
 
 /// With the path of an attribute.
@@ -42,7 +42,7 @@ pub fn with_attribute(alloc: Global, names: Names, attr: &AttrDef) -> Result<Nam
         attr.fc.as_slice(),
         attr.path.as_slice(),
     )?;
-    names.with(alloc, &key)
+    names.with(&key)
 }
 
 /// With the path of a report control block.
@@ -56,7 +56,7 @@ pub fn with_block(alloc: Global, names: Names, block: &BlockDef) -> Result<Names
         b"BR",
         block.name.as_slice(),
     )?;
-    names.with(alloc, &key)
+    names.with(&key)
 }
 
 /// With the paths of a control.
@@ -70,7 +70,7 @@ pub fn with_control(alloc: Global, names: Names, control: &CtlDef) -> Result<Nam
         control.path.as_slice(),
         u32::from(control.model),
     )?;
-    names.with_all(alloc, &keys)
+    names.with_all(&keys)
 }
 
 /// With the path of a setting group control block.
@@ -78,5 +78,5 @@ pub fn with_groups(alloc: Global, names: Names, groups: &SgDef) -> Result<Names,
     ensures { IfOk result (λ n. (q : List ℕ) → is_taken n q ≡ (clashes q (group_key groups.now.domain (codes "LLN0")) || is_taken names q)) }
 {
     let key = item_key(alloc, groups.domain.as_slice(), b"LLN0", b"SP", b"SGCB")?;
-    names.with(alloc, &key)
+    names.with(&key)
 }

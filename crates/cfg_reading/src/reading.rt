@@ -250,7 +250,7 @@ impl Reading {
         kept.groups = 0;
         kept.has_settings = false;
         kept.counts.domains += 1;
-        kept.heads.add(alloc, name.as_slice())?;
+        kept.heads.add(name.as_slice())?;
         kept.lines.push(Line::Ld(name))?;
         Ok(Reading { kept })
     }

@@ -242,7 +242,8 @@ fn has_its_parts(model: &Model) -> bool {
         && !model.fits(&Step::Take(AssocNo(17)))
 }
 
-fn built(alloc: Global) -> Result<Model, AllocError> {
+/// The model of the two domains.
+pub fn built(alloc: Global) -> Result<Model, AllocError> {
     let config = config(alloc)?;
     Model::build(alloc, config)
 }
