@@ -1,0 +1,9 @@
+-- the bay's request of what a client asks
+pub mod Requests
+-- what the responses hold
+pub mod RepliesVariables
+pub mod RepliesContents
+pub mod RepliesSizes
+-- the PDUs of what a bay answers, and what they tell
+pub mod Replies
+pub mod RepliesTold

@@ -1,0 +1,16 @@
+-- How long the PDU of a response is, by sums.
+use Rattle.std.specs.Prelude.{ℕ, ◌+◌, List, length, Option, Some, None, nat_le, if◌then◌else◌}
+use Rattle.ber_write.specs.Minimal.{uint_octets}
+use Rattle.report_cut.specs.Sizes.{element_size}
+
+-- the content of the PDU: the invoke number, and the service's element, whose content has n octets
+unfoldable pub service_size : ℕ → ℕ → ℕ
+service_size invoke n = element_size (length (uint_octets invoke)) + element_size n
+
+-- the PDU of names whose identifiers have n octets
+unfoldable pub names_size : ℕ → ℕ → ℕ
+names_size invoke n = element_size (service_size invoke (element_size n + 3))
+
+-- n octets of identifiers and those of one more, where they fit
+abbrev pub with_one : ℕ → ℕ → ℕ → List ℕ → Option ℕ
+with_one size invoke n name = if nat_le (names_size invoke (n + element_size (length name))) size then Some (n + element_size (length name)) else None

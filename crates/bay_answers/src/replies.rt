@@ -1,0 +1,115 @@
+//! The PDUs of what a bay answers (ISO 9506-2, MMSpdu; IEC 61850-8-1, the mapping of its services).
+
+ghost use Rattle.std.specs.Prelude.{◌≡◌, ◌≤◌, ◌∷◌, [], length, IfOk};
+ghost use Rattle.std.specs.List.{AllByRecursion};
+ghost use Rattle.mms_pdu.specs.ReplyOctets.{concluded_octets};
+ghost use Rattle.bay_answers.specs.Replies.{rejected as rejected_of, reply_octets as octets_of_reply, output_pdus as pdus_of, CanBeReplied, CanBeSent};
+
+use crate::replies_contents::{deleted, identify, members_of_set, read, type_of_node, wrote};
+use crate::replies_elements::respond;
+use crate::replies_names::names;
+use bay_model::{Output, Reply};
+use mms_pdu::{write_error, write_reject};
+use object_model::Model;
+use report_cut::{Pdus, cut};
+use std::alloc::{AllocError, Global};
+use sv_base::Octs;
+
+/// The end of a conclude.
+fn concluded(alloc: Global) -> Result<Octs, AllocError>
+    ensures { IfOk result (λ o. o ≡ concluded_octets) }
+{
+    Ok(Octs::from_vec(Vec::from_slice(alloc, &[0x8c, 0])?))
+}
+
+/// A reject; those that answer a request have its invoke number.
+fn rejected(alloc: Global, invoke: u32, number: u8) -> Result<Octs, AllocError>
+    requires least { 1 ≤ number }
+    requires most { number ≤ 4 }
+    ensures { IfOk result (λ o. o ≡ rejected_of invoke number) }
+{
+    if number == 2 || number == 3 {
+        write_reject(alloc, Some(invoke), number)
+    } else {
+        write_reject(alloc, None, number)
+    }
+}
+
+/// The PDU of a reply.
+fn reply_octets(
+    alloc: Global,
+    model: &Model,
+    size: u32,
+    invoke: u32,
+    reply: &Reply,
+) -> Result<Octs, AllocError>
+    requires reply { CanBeReplied model.now reply.now }
+    requires least { 1024 ≤ size }
+    requires most { size ≤ 65000 }
+    ensures { IfOk result (λ o. o ≡ octets_of_reply model.now size invoke reply.now) }
+{
+    match reply {
+        Reply::Status => respond(alloc, size, invoke, 0xa0, &[0x80, 1, 0, 0x81, 1, 0]),
+        Reply::Identify => identify(alloc, model, size, invoke),
+        Reply::Conclude => concluded(alloc),
+        Reply::Names(list) => names(alloc, size, invoke, list.as_slice()),
+        Reply::TypeOfNode(node) => type_of_node(alloc, model, size, invoke, *node),
+        Reply::Read { asked, results } => read(alloc, size, invoke, asked, results.as_slice()),
+        Reply::Wrote(codes) => wrote(alloc, size, invoke, codes.as_slice()),
+        Reply::Defined => respond(alloc, size, invoke, 0x8b, &[]),
+        Reply::SetOf { deletable, members } => {
+            members_of_set(alloc, model, size, invoke, *deletable, members.as_slice())
+        }
+        Reply::Deleted {
+            matched,
+            deleted: gone,
+        } => deleted(alloc, size, invoke, *matched, *gone),
+        Reply::Error { class, code } => write_error(alloc, invoke, *class, *code),
+        Reply::Reject(number) => rejected(alloc, invoke, *number),
+    }
+}
+
+/// The PDUs of an output, as the definition has them.
+fn output_pdus(alloc: Global, model: &Model, output: &Output, size: u32) -> Result<Pdus, AllocError>
+    requires output { CanBeSent model.now output.now }
+    requires least { 1024 ≤ size }
+    requires most { size ≤ 65000 }
+    ensures { IfOk result (λ p. p ≡ pdus_of model.now size output.now) }
+{
+    match output {
+        Output::Reply { invoke, reply, .. } => {
+            let octets = reply_octets(alloc, model, size, *invoke, reply)?;
+            let mut pdus = Vec::with_capacity(alloc, 1)?;
+            pdus.push(octets)?;
+            Ok(Pdus::from_vec(pdus))
+        }
+        Output::Report(report) => cut(alloc, report, size),
+        Output::Termination(_) => unreachable!(),
+    }
+}
+
+/// The PDUs of what a Take gives to an association whose PDUs have at most `size` octets, 1024 to 65000: of a reply one, of
+/// a report one or its segments.
+///
+/// Each is in minimal form. A response that is longer than the size is the error service, pdu-size. GetNameList has as many
+/// names as fit, and moreFollows exactly where there is a further one. What was read is written back where it was asked for.
+///
+/// Each node in the output is one of the model's, a reject has the number of a refusal, 1 to 4, a report is one that can be
+/// cut, and a value has a spelling at most ten deep. Controls aren't served yet: there is no LastApplError and no termination.
+///
+/// Fails only for want of memory.
+pub fn to_bytes(
+    alloc: Global,
+    model: &Model,
+    output: &Output,
+    size: u32,
+) -> Result<Pdus, AllocError>
+    requires output { CanBeSent model.now output.now }
+    requires least { 1024 ≤ size }
+    requires most { size ≤ 65000 }
+    ensures value { IfOk result (λ p. p ≡ pdus_of model.now size output.now) }
+    ensures short { IfOk result (λ p. AllByRecursion (λ o. length o ≤ size) p) }
+{
+    let pdus = output_pdus(alloc, model, output, size)?;
+    Ok(pdus)
+}

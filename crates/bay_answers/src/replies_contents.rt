@@ -1,0 +1,195 @@
+//! What the responses of the services hold, written (ISO 9506-2, Confirmed-ResponsePDU).
+
+ghost use Rattle.std.specs.Prelude.{◌≡◌, ◌≤◌, ◌++◌, length, min, OnOk, IfOk};
+ghost use Rattle.std.specs.List.{All};
+ghost use Rattle.ber_write.specs.Minimal.{octets_of, uint_octets};
+ghost use Rattle.mms_pdu.specs.Tags.{get_attributes_tag, read_tag, write_tag, get_list_attributes_tag, delete_list_tag};
+ghost use Rattle.object_model.specs.Tables.{node_type};
+ghost use Rattle.bay_answers.specs.RepliesContents.{identify_content, type_content, result_octets, results_octets, read_content};
+ghost use Rattle.bay_answers.specs.RepliesContents.{written_octets, written_content, set_content, deleted_content};
+ghost use Rattle.bay_answers.specs.Replies.{IsWritable, IsNode, response};
+
+use crate::replies_elements::{add, add_truth, element_len, respond};
+use crate::replies_variables::{add_nodes, asked_octets};
+use bay_model::Asked;
+use ber_write::{put_head, put_uint, uint_len};
+use mms_data::{write_data, write_type};
+use mms_pdu::write_error;
+use object_model::Model;
+use std::alloc::{AllocError, Global};
+use sv_base::{NodeId, Octs, Value, data_len};
+
+/// The response of Identify.
+pub(crate) fn identify(
+    alloc: Global,
+    model: &Model,
+    size: u32,
+    invoke: u32,
+) -> Result<Octs, AllocError>
+    requires { size ≤ 65000 }
+    ensures { IfOk result (λ o. o ≡ response size invoke 162 (identify_content model.now)) }
+{
+    let config = model.config();
+    let mut content = Vec::new(alloc);
+    add(&mut content, 0x80, config.vendor.as_slice())?;
+    add(&mut content, 0x81, config.model.as_slice())?;
+    add(&mut content, 0x82, config.revision.as_slice())?;
+    respond(alloc, size, invoke, 0xa2, content.as_slice())
+}
+
+/// The response of GetVariableAccessAttributes.
+pub(crate) fn type_of_node(
+    alloc: Global,
+    model: &Model,
+    size: u32,
+    invoke: u32,
+    node: NodeId,
+) -> Result<Octs, AllocError>
+    requires node { IsNode model.now node }
+    requires most { size ≤ 65000 }
+    ensures { IfOk result (λ o. o ≡ response size invoke get_attributes_tag (type_content (node_type model.now node.0))) }
+{
+    let mut kind = Vec::new(alloc);
+    write_type(model.type_of(node), &mut kind)?;
+    let mut content = Vec::new(alloc);
+    add_truth(&mut content, 0x80, false)?;
+    add(&mut content, 0xa2, kind.as_slice())?;
+    respond(alloc, size, invoke, 0xa6, content.as_slice())
+}
+
+/// How many octets a failure has.
+#[tactic(auto, using(crate::proofs::RepliesSizeLaws::length_of_failure))]
+fn failure_len(code: u8) -> u32
+    ensures value { result ≡ length (octets_of 128 (uint_octets code)) }
+    ensures few { result ≤ 15 }
+{
+    element_len(uint_len(u64::from(code)))
+}
+
+/// How many octets a result of a read has, and 4294967295 where there are more.
+fn result_len(one: &Result<Value, u8>) -> u32
+    ensures { result ≡ min (length (result_octets one.now)) 4294967295 }
+{
+    match one {
+        Ok(value) => data_len(value),
+        Err(code) => failure_len(*code),
+    }
+}
+
+/// How many octets the results of a read have, and 4294967295 where there are more.
+fn results_len(results: &[Result<Value, u8>]) -> u32
+    ensures { result ≡ min (length (results_octets results.now)) 4294967295 }
+{
+    let mut sum = 0u32;
+    for one in results {
+        sum = sum.saturating_add(result_len(one));
+    }
+    sum
+}
+
+fn put_result(out: &mut Vec<u8>, one: &Result<Value, u8>) -> Result<(), AllocError>
+    requires { IsWritable one.now }
+    ensures { OnOk result (out.new.items ≡ out.old.items ++ result_octets one.now) }
+{
+    match one {
+        Ok(value) => write_data(value, out),
+        Err(code) => put_uint(out, 0x80, u64::from(*code)),
+    }
+}
+
+fn put_results(out: &mut Vec<u8>, results: &[Result<Value, u8>]) -> Result<(), AllocError>
+    requires { All IsWritable results.now }
+    ensures { OnOk result (out.new.items ≡ out.old.items ++ results_octets results.now) }
+{
+    for one in results {
+        put_result(out, one)?;
+    }
+    Ok(())
+}
+
+/// The response of Read.
+#[tactic(auto, using(crate::proofs::RepliesSizeLaws::reads_too_much, crate::proofs::RepliesSizeLaws::read_around))]
+pub(crate) fn read(
+    alloc: Global,
+    size: u32,
+    invoke: u32,
+    asked: &Asked,
+    results: &[Result<Value, u8>],
+) -> Result<Octs, AllocError>
+    requires results { All IsWritable results.now }
+    requires most { size ≤ 65000 }
+    ensures { IfOk result (λ o. o ≡ response size invoke read_tag (read_content asked.now results.now)) }
+{
+    let len = results_len(results);
+    if len > size {
+        return write_error(alloc, invoke, 4, 3);
+    }
+    let mut content = asked_octets(alloc, asked)?;
+    put_head(&mut content, 0xa1, len)?;
+    put_results(&mut content, results)?;
+    respond(alloc, size, invoke, 0xa4, content.as_slice())
+}
+
+fn put_code(out: &mut Vec<u8>, code: Result<(), u8>) -> Result<(), AllocError>
+    ensures { OnOk result (out.new.items ≡ out.old.items ++ written_octets code) }
+{
+    match code {
+        Ok(()) => out.extend_from_slice(&[0x81, 0]),
+        Err(code) => put_uint(out, 0x80, u64::from(code)),
+    }
+}
+
+/// The response of Write.
+pub(crate) fn wrote(
+    alloc: Global,
+    size: u32,
+    invoke: u32,
+    codes: &[Result<(), u8>],
+) -> Result<Octs, AllocError>
+    requires { size ≤ 65000 }
+    ensures { IfOk result (λ o. o ≡ response size invoke write_tag (written_content codes.now)) }
+{
+    let mut content = Vec::new(alloc);
+    for code in codes {
+        put_code(&mut content, *code)?;
+    }
+    respond(alloc, size, invoke, 0xa5, content.as_slice())
+}
+
+/// The response of GetNamedVariableListAttributes.
+pub(crate) fn members_of_set(
+    alloc: Global,
+    model: &Model,
+    size: u32,
+    invoke: u32,
+    deletable: bool,
+    members: &[NodeId],
+) -> Result<Octs, AllocError>
+    requires members { All (IsNode model.now) members.now }
+    requires most { size ≤ 65000 }
+    ensures { IfOk result (λ o. o ≡ response size invoke get_list_attributes_tag (set_content model.now deletable members.now)) }
+{
+    let mut list = Vec::new(alloc);
+    add_nodes(alloc, &mut list, model, members)?;
+    let mut content = Vec::new(alloc);
+    add_truth(&mut content, 0x80, deletable)?;
+    add(&mut content, 0xa1, list.as_slice())?;
+    respond(alloc, size, invoke, 0xac, content.as_slice())
+}
+
+/// The response of DeleteNamedVariableList.
+pub(crate) fn deleted(
+    alloc: Global,
+    size: u32,
+    invoke: u32,
+    matched: u32,
+    deleted: u32,
+) -> Result<Octs, AllocError>
+    requires { size ≤ 65000 }
+    ensures { IfOk result (λ o. o ≡ response size invoke delete_list_tag (deleted_content matched deleted)) }
+{
+    let mut content = Vec::new(alloc);
+    put_uint(&mut content, 0x80, u64::from(matched))?;
+    put_uint(&mut content, 0x81, u64::from(deleted))?;
+    respond(alloc, size, invoke, 0xad, content.as_slice())
+}

@@ -1,0 +1,110 @@
+//! Elements of a response, and the PDU round them (ISO 9506-2, Confirmed-ResponsePDU).
+
+ghost use Rattle.std.specs.Prelude.{◌≡◌, ◌+◌, ◌<◌, ◌≤◌, ◌^◌, ◌++◌, length, OnOk, IfOk};
+ghost use Rattle.ber_write.specs.Minimal.{octets_of, CanBeTag};
+ghost use Rattle.mms_pdu.specs.ReplyOctets.{answer_content, answer_octets};
+ghost use Rattle.report_cut.specs.Fields.{truth};
+ghost use Rattle.report_cut.specs.Sizes.{element_size};
+ghost use Rattle.bay_answers.specs.Replies.{response as response_of};
+ghost use Rattle.bay_answers.specs.RepliesSizes.{service_size};
+
+use ber_write::{length_of, put, put_head, put_uint, uint_len};
+use mms_pdu::write_error;
+use std::alloc::{AllocError, Global};
+use sv_base::Octs;
+
+/// Adds an element. Where the content is longer than a length field can say, it fails as it does without memory.
+pub(crate) fn add(out: &mut Vec<u8>, tag: u32, content: &[u8]) -> Result<(), AllocError>
+    requires { CanBeTag tag }
+    ensures { OnOk result (out.new.items ≡ out.old.items ++ octets_of tag content.now) }
+{
+    if content.len() > u32::MAX as usize {
+        return Err(AllocError);
+    }
+    put(out, tag, content)
+}
+
+/// Adds a boolean.
+pub(crate) fn add_truth(out: &mut Vec<u8>, tag: u32, value: bool) -> Result<(), AllocError>
+    requires { CanBeTag tag }
+    ensures { OnOk result (out.new.items ≡ out.old.items ++ octets_of tag (truth value)) }
+{
+    put(out, tag, &[if value { 0xff } else { 0 }])
+}
+
+/// The element with this tag and this content.
+pub(crate) fn enclosed(alloc: Global, tag: u32, content: &[u8]) -> Result<Vec<u8>, AllocError>
+    requires { CanBeTag tag }
+    ensures { IfOk result (λ v. v.items ≡ octets_of tag content.now) }
+{
+    let mut out = Vec::new(alloc);
+    add(&mut out, tag, content)?;
+    Ok(out)
+}
+
+/// How many octets an element has whose content has so many.
+#[tactic(auto, unfolding(report_cut::specs::Sizes::element_size), using(report_cut::proofs::SizeLaws::length_short))]
+pub(crate) fn element_len(n: u32) -> u32
+    requires { n < 2 ^ 24 }
+    ensures value { result ≡ element_size n }
+    ensures few { result ≤ n + 6 }
+{
+    1 + length_of(n) + n
+}
+
+/// How many octets the invoke number and a service's element have whose content has so many.
+#[tactic(auto, unfolding(crate::specs::RepliesSizes::service_size))]
+pub(crate) fn service_len(invoke: u32, n: u32) -> u32
+    requires { n < 2 ^ 20 }
+    ensures value { result ≡ service_size invoke n }
+    ensures few { result ≤ n + 21 }
+{
+    element_len(uint_len(u64::from(invoke))) + element_len(n)
+}
+
+/// The PDU of a response, of which the invoke number and the service's element have `len` octets.
+#[tactic(auto, using(crate::proofs::RepliesSizeLaws::around))]
+fn written(
+    alloc: Global,
+    invoke: u32,
+    tag: u32,
+    content: &[u8],
+    len: u32,
+) -> Result<Octs, AllocError>
+    requires tag { CanBeTag tag }
+    requires one_octet { tag < 256 }
+    requires few { length content.now < 2 ^ 20 }
+    requires small { len < 2 ^ 21 }
+    requires len { len ≡ service_size invoke (length content.now) }
+    ensures { IfOk result (λ o. o ≡ answer_octets invoke tag content.now) }
+{
+    let mut out = Vec::with_capacity(alloc, element_len(len) as usize)?;
+    put_head(&mut out, 0xa1, len)?;
+    put_uint(&mut out, 0x02, u64::from(invoke))?;
+    put(&mut out, tag, content)?;
+    Ok(Octs::from_vec(out))
+}
+
+/// The response of the service with this tag; the error service, pdu-size, where that is longer than the size.
+#[tactic(auto, using(crate::proofs::RepliesSizeLaws::fits, crate::proofs::RepliesSizeLaws::is_too_long, crate::proofs::RepliesSizeLaws::holds_too_much))]
+pub(crate) fn respond(
+    alloc: Global,
+    size: u32,
+    invoke: u32,
+    tag: u32,
+    content: &[u8],
+) -> Result<Octs, AllocError>
+    requires tag { CanBeTag tag }
+    requires one_octet { tag < 256 }
+    requires most { size ≤ 65000 }
+    ensures { IfOk result (λ o. o ≡ response_of size invoke tag content.now) }
+{
+    if content.len() > size as usize {
+        return write_error(alloc, invoke, 4, 3);
+    }
+    let len = service_len(invoke, content.len() as u32);
+    if element_len(len) > size {
+        return write_error(alloc, invoke, 4, 3);
+    }
+    written(alloc, invoke, tag, content, len)
+}

@@ -1,0 +1,132 @@
+//! Names of variables and lists of variables, written (ISO 9506-2, ObjectName and VariableAccessSpecification).
+
+ghost use Rattle.std.specs.Prelude.{◌≡◌, ◌<◌, ◌++◌, length, OnOk, IfOk};
+ghost use Rattle.std.specs.List.{All, flat_map};
+ghost use Rattle.mms_pdu.specs.AskingOctets.{domain_name};
+ghost use Rattle.bay_answers.specs.RepliesVariables.{name_octets, variable_octets, target_octets, asked_octets as asked_of};
+ghost use Rattle.bay_answers.specs.RepliesVariables.{node_name as name_of_node, node_octets};
+ghost use Rattle.bay_answers.specs.Replies.{IsNode};
+
+use crate::replies_elements::{add, enclosed};
+use bay_model::{Asked, ObjName, Target};
+use object_model::Model;
+use std::alloc::{AllocError, Global};
+use sv_base::NodeId;
+
+/// A domain-specific name.
+fn domain_octets(alloc: Global, domain: &[u8], item: &[u8]) -> Result<Vec<u8>, AllocError>
+    ensures { IfOk result (λ v. v.items ≡ domain_name domain.now item.now) }
+{
+    let mut both = enclosed(alloc, 0x1a, domain)?;
+    add(&mut both, 0x1a, item)?;
+    enclosed(alloc, 0xa1, both.as_slice())
+}
+
+/// A name as it was asked for.
+fn name(alloc: Global, name: &ObjName) -> Result<Vec<u8>, AllocError>
+    ensures { IfOk result (λ v. v.items ≡ name_octets name.now) }
+{
+    match name {
+        ObjName::Vmd(octets) => enclosed(alloc, 0x80, octets.as_slice()),
+        ObjName::Domain { domain, item } => domain_octets(
+            alloc,
+            domain.as_slice(),
+            item.as_slice(),
+        ),
+        ObjName::Assoc(octets) => enclosed(alloc, 0x82, octets.as_slice()),
+    }
+}
+
+/// Adds an item of a list: a name, and what stands behind it.
+fn add_variable(
+    alloc: Global,
+    out: &mut Vec<u8>,
+    name: &[u8],
+    behind: &[u8],
+) -> Result<(), AllocError>
+    ensures { OnOk result (out.new.items ≡ out.old.items ++ variable_octets name.now behind.now) }
+{
+    let mut content = enclosed(alloc, 0xa0, name)?;
+    content.extend_from_slice(behind)?;
+    add(out, 0x30, content.as_slice())
+}
+
+/// Adds a variable as it was asked for.
+#[tactic(auto, unfolding(crate::specs::RepliesVariables::target_octets))]
+fn add_target(alloc: Global, out: &mut Vec<u8>, target: &Target) -> Result<(), AllocError>
+    ensures { OnOk result (out.new.items ≡ out.old.items ++ target_octets target.now) }
+{
+    match target {
+        Target::Node(_, asked) => add_variable(alloc, out, name(alloc, asked)?.as_slice(), &[]),
+        Target::Missing(asked) => add_variable(alloc, out, name(alloc, asked)?.as_slice(), &[]),
+        Target::Alternate(asked) => add_variable(
+            alloc,
+            out,
+            name(alloc, asked)?.as_slice(),
+            &[0xa5, 0],
+        ),
+    }
+}
+
+fn add_targets(alloc: Global, out: &mut Vec<u8>, targets: &[Target]) -> Result<(), AllocError>
+    ensures { OnOk result (out.new.items ≡ out.old.items ++ flat_map target_octets targets.now) }
+{
+    for target in targets {
+        add_target(alloc, out, target)?;
+    }
+    Ok(())
+}
+
+/// What was asked for, where that is written back.
+#[tactic(auto, unfolding(crate::specs::RepliesVariables::asked_octets))]
+pub(crate) fn asked_octets(alloc: Global, asked: &Asked) -> Result<Vec<u8>, AllocError>
+    ensures { IfOk result (λ v. v.items ≡ asked_of asked.now) }
+{
+    match asked {
+        Asked::No => Ok(Vec::new(alloc)),
+        Asked::Vars(targets) => {
+            let mut list = Vec::new(alloc);
+            add_targets(alloc, &mut list, targets.as_slice())?;
+            let specification = enclosed(alloc, 0xa0, list.as_slice())?;
+            enclosed(alloc, 0xa0, specification.as_slice())
+        }
+        Asked::Set(set) => {
+            let name = domain_octets(alloc, set.domain.as_slice(), set.item.as_slice())?;
+            let specification = enclosed(alloc, 0xa1, name.as_slice())?;
+            enclosed(alloc, 0xa0, specification.as_slice())
+        }
+    }
+}
+
+/// The name of a node.
+fn node_name(alloc: Global, model: &Model, node: NodeId) -> Result<Vec<u8>, AllocError>
+    requires { IsNode model.now node }
+    ensures { IfOk result (λ v. v.items ≡ name_of_node model.now node) }
+{
+    domain_octets(alloc, model.domain_of(node), model.item_of(node))
+}
+
+/// Adds a node by its name.
+fn add_node(alloc: Global, out: &mut Vec<u8>, model: &Model, node: NodeId) -> Result<(), AllocError>
+    requires { IsNode model.now node }
+    ensures { OnOk result (out.new.items ≡ out.old.items ++ node_octets model.now node) }
+{
+    let name = node_name(alloc, model, node)?;
+    add_variable(alloc, out, name.as_slice(), &[])
+}
+
+/// Adds nodes by their names.
+pub(crate) fn add_nodes(
+    alloc: Global,
+    out: &mut Vec<u8>,
+    model: &Model,
+    nodes: &[NodeId],
+) -> Result<(), AllocError>
+    requires { All (IsNode model.now) nodes.now }
+    ensures { OnOk result (out.new.items ≡ out.old.items ++ flat_map (node_octets model.now) nodes.now) }
+{
+    for node in nodes {
+        add_node(alloc, out, model, *node)?;
+    }
+    Ok(())
+}
