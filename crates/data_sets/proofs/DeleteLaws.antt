@@ -1,6 +1,6 @@
 -- A reply that deletes several sets, and one that defines none.
-use Rattle.std.proofs.Common.{◌≡◌, ◌≢◌, ◌≤◌, ◌<◌, ◌+◌, ◌-◌, ℕ, zero, suc, Bool, true, false, not, List, [], ◌∷◌, ◌++◌, length, map, filter, take, drop, refl, sym, ap, ap₂, subst, ◌∙◌, arith, ◌⊎◌, inl, inr, Option, None, Some, is_some, Result, Ok, Err, slice_index_or, length-append, true≢false}
-use Rattle.std.specs.Prelude.{◌==◌, ◌&&◌, ◌||◌, nat_lt, nat_le, is_none, if◌then◌else◌}
+use Rattle.std.proofs.Common.{◌≡◌, ◌<◌, ◌+◌, ◌-◌, ℕ, suc, Bool, true, false, not, List, [], ◌∷◌, ◌++◌, length, map, drop, refl, sym, ap, ap₂, subst, ◌∙◌, arith, inl, inr, Option, None, Some, is_some, Result, Ok, Err, slice_index_or, length-append, true≢false}
+use Rattle.std.specs.Prelude.{◌&&◌, ◌||◌, nat_lt, nat_le, is_none, if◌then◌else◌}
 use Rattle.std.specs.Option.{option_map}
 use Rattle.std.specs.List.{find, list_all}
 use Rattle.std.specs.Str.{bytes_eq}
@@ -10,21 +10,20 @@ use Rattle.bay_model.specs.declared.answer.Output.{Output}
 use Rattle.bay_model.specs.declared.request.SetName.{SetName}
 use Rattle.bay_model.specs.declared.request.Target.{Target}
 use Rattle.bay_model.specs.declared.request.Target.TheVariants as targets
-use Rattle.bay_model.specs.declared.components.Comp.TheVariants as comps
 use Rattle.bay_model.specs.declared.tables.NodeRow.{NodeRow}
 use Rattle.bay_model.specs.Breaks.{is_empty}
 use Rattle.bay_model.specs.Definitions.{definition_error, is_set_name, is_member as may_be}
 use Rattle.bay_model.specs.Deletions.{in_use_from, is_deletable, gone, matched}
-use Rattle.bay_model.specs.Lookups.{node_of, reference_of}
+use Rattle.bay_model.specs.Lookups.{reference_of}
 use Rattle.bay_model.specs.Model.{Model, DataSet, Block}
 use Rattle.bay_model.specs.Parameters.{parameters_at}
-use Rattle.bay_model.specs.Points.{Deed, Past, Change, answered, unchanged, deleted, wrote}
+use Rattle.bay_model.specs.Points.{Past, answered, deleted}
 use Rattle.bay_model.specs.Sets.{sets, dynamic, set_named, is_named, without, without_all}
 use Rattle.data_sets.specs.declared.book.DefineFault.{DefineFault}
 use Rattle.data_sets.specs.declared.book.DefineFault.TheVariants as define
 use Rattle.data_sets.specs.declared.book.DeleteFault.{DeleteFault}
 use Rattle.data_sets.specs.declared.book.DeleteFault.TheVariants as faults
-use Rattle.data_sets.specs.Books.{Booked, Book, is_name, reference, place_of, number_named, no_set, set_at, row_of, is_member, define_fault, deletion, deletion_of, after_delete}
+use Rattle.data_sets.specs.Books.{Booked, Book, is_name, reference, place_of, number_named, set_at, is_member, define_fault, deletion, deletion_of, after_delete}
 use Rattle.data_sets.specs.Standing.{Stands, StandsFor, data_set, dat_sets, dat_sets_from, counted, at}
 use Rattle.data_sets.specs.Turns.{is_going, is_there, after_one, after_deletes, going, there, error_of, AreRows}
 use Rattle.data_sets.proofs.BookLaws.{deletes, is_place, IsPlace, same_octets}

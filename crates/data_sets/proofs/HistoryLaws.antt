@@ -1,5 +1,5 @@
 -- The book goes as a history goes.
-use Rattle.std.proofs.Common.{◌≡◌, ◌≢◌, ◌<◌, ◌+◌, ℕ, zero, suc, Bool, true, false, List, [], ◌∷◌, ◌++◌, length, map, filter, refl, sym, ap, ap₂, subst, ◌∙◌, arith, ◌⊎◌, inl, inr, Option, None, Some, slice_index_or, slice_set, append_assoc}
+use Rattle.std.proofs.Common.{◌≡◌, ◌<◌, ◌+◌, ℕ, zero, suc, Bool, true, false, List, [], ◌∷◌, ◌++◌, length, map, filter, refl, sym, ap, ap₂, subst, ◌∙◌, arith, inl, inr, Option, None, Some, slice_index_or, slice_set, append_assoc}
 use Rattle.std.specs.Prelude.{◌==◌, if◌then◌else◌}
 use Rattle.std.specs.Option.{option_map}
 use Rattle.std.specs.List.{find}
@@ -13,11 +13,10 @@ use Rattle.bay_model.specs.declared.request.Target.TheVariants as targets
 use Rattle.bay_model.specs.declared.components.Comp.TheVariants as comps
 use Rattle.bay_model.specs.Definitions.{number_of}
 use Rattle.bay_model.specs.Model.{Model, DataSet, Block, Parameters}
-use Rattle.bay_model.specs.Names.{sets_of}
 use Rattle.bay_model.specs.Parameters.{parameters_at, written_to}
-use Rattle.bay_model.specs.Points.{Deed, Past, answered, defined, wrote}
-use Rattle.bay_model.specs.Sets.{sets, dynamic, set_named, set_referred}
-use Rattle.data_sets.specs.Books.{Booked, Book, is_name, reference, place_of, number_named, number_referred, no_set, set_at, node_in, defined_set, items_in, after_define, after_hold, after_release}
+use Rattle.bay_model.specs.Points.{Past, answered, defined, wrote}
+use Rattle.bay_model.specs.Sets.{sets, dynamic}
+use Rattle.data_sets.specs.Books.{Booked, Book, place_of, number_named, number_referred, no_set, node_in, defined_set, items_in, after_define, after_hold, after_release}
 use Rattle.data_sets.specs.Standing.{Stands, StandsFor, IsPlain, data_set, dat_sets, dat_sets_from, at}
 use Rattle.data_sets.proofs.BookLaws.{defines, holds_more, holds_less}
 

@@ -1,6 +1,6 @@
 -- The opened book stands for the empty history, once each configured DatSet names its set.
-use Rattle.std.proofs.Common.{◌≡◌, ◌<◌, ◌≤◌, ◌+◌, ℕ, zero, suc, true, false, List, [], ◌∷◌, ◌++◌, length, map, refl, sym, ap, subst, ◌∙◌, arith, ◌⊎◌, inl, inr, Option, None, Some, is_some, slice_index_or, slice_set, true≢false, append_assoc, length-append}
-use Rattle.std.specs.Prelude.{unwrap_or, slice_get, ◌&&◌, if◌then◌else◌, Bool}
+use Rattle.std.proofs.Common.{◌≡◌, ◌<◌, ◌+◌, ℕ, zero, suc, List, [], ◌∷◌, ◌++◌, length, map, refl, sym, ap, subst, ◌∙◌, arith, inl, inr, Option, None, Some, is_some, slice_index_or, slice_set, true≢false, append_assoc, length-append}
+use Rattle.std.specs.Prelude.{unwrap_or, slice_get}
 use Rattle.std.specs.Option.{option_map}
 use Rattle.std.specs.List.{All, find}
 use Rattle.std.specs.Str.{bytes_eq}
@@ -12,7 +12,7 @@ use Rattle.bay_model.specs.Model.{Model, DataSet, Block}
 use Rattle.bay_model.specs.Parameters.{parameters_at}
 use Rattle.bay_model.specs.Sets.{set_referred}
 use Rattle.data_sets.specs.Books.{Booked, Book, reference, place_of, number_referred, no_set, set_at, booked, opened, after_hold}
-use Rattle.data_sets.specs.Standing.{Stands, StandsFor, IsPlain, IsNamed, data_set, counted, dat_sets, dat_sets_from}
+use Rattle.data_sets.specs.Standing.{Stands, StandsFor, IsPlain, data_set, dat_sets}
 use Rattle.data_sets.specs.Opening.{AreSets, AreNamed, IsReferred, set_reference, after_name, after_names}
 use Rattle.data_sets.proofs.BookLaws.{holds_more, counted_none, no-reference}
 use Rattle.data_sets.proofs.HistoryLaws.{found, dat_at, dat_count}

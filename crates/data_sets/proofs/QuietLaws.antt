@@ -7,7 +7,7 @@ use Rattle.bay_model.specs.declared.components.Comp.{Comp}
 use Rattle.bay_model.specs.declared.components.Comp.TheVariants as comps
 use Rattle.bay_model.specs.Model.{Model, Block, DataSet, Parameters}
 use Rattle.bay_model.specs.Parameters.{parameters_at, parameters_after, written_to}
-use Rattle.bay_model.specs.Points.{Deed, Past, Change, answered, unchanged, defined, deleted, wrote}
+use Rattle.bay_model.specs.Points.{Deed, Past, answered, unchanged, defined, deleted, wrote}
 use Rattle.bay_model.specs.Sets.{sets, dynamic, sets_after}
 use Rattle.data_sets.specs.Books.{Book}
 use Rattle.data_sets.specs.Standing.{Stands, StandsFor, IsQuiet, dat_sets, dat_sets_from, at}

@@ -1,5 +1,5 @@
 -- What clients defined stays within the limits; a set is in use exactly where a block's DatSet names it.
-use Rattle.std.proofs.Common.{◌≡◌, ◌<◌, ◌≤◌, ◌+◌, ◌-◌, ℕ, zero, suc, Bool, true, false, not, List, [], ◌∷◌, ◌++◌, length, map, take, drop, refl, sym, ap, subst, ◌∙◌, arith, ◌⊎◌, inl, inr, Option, None, Some, is_some, slice_index_or, slice_set, true≢false}
+use Rattle.std.proofs.Common.{◌≡◌, ◌<◌, ◌≤◌, ◌+◌, ◌-◌, ℕ, zero, suc, Bool, true, false, not, List, [], ◌∷◌, ◌++◌, length, take, drop, refl, sym, ap, subst, ◌∙◌, arith, ◌⊎◌, inl, inr, None, Some, is_some, slice_index_or, slice_set}
 use Rattle.std.specs.Prelude.{nat_lt, nat_le, ◌||◌, ◌==◌, if◌then◌else◌}
 use Rattle.std.specs.List.{list_all}
 use Rattle.std.proofs.lemmas.Bool.Decides.{leb_tells}
@@ -13,10 +13,9 @@ use Rattle.bay_model.specs.Definitions.{is_set_name}
 use Rattle.bay_model.specs.Deletions.{in_use_from}
 use Rattle.bay_model.specs.Model.{Model, DataSet}
 use Rattle.bay_model.specs.Points.{Past}
-use Rattle.data_sets.specs.declared.book.DefineFault.{DefineFault}
 use Rattle.data_sets.specs.declared.book.DefineFault.TheVariants as define
 use Rattle.data_sets.specs.Books.{Booked, Book, reference, number_named, no_set, set_at, node_in, is_member, defined_set, define_fault, after_define, after_delete, after_hold, after_release, held, let_go, booked, opened}
-use Rattle.data_sets.specs.Standing.{Stands, StandsFor, dat_sets, counted}
+use Rattle.data_sets.specs.Standing.{Stands, StandsFor, counted}
 use Rattle.data_sets.specs.Opening.{IsSmall, IsBounded}
 use Rattle.data_sets.proofs.BookLaws.{at_front, at_last, length_more, old, at_removed, old_below}
 use Rattle.data_sets.proofs.DeleteLaws.{used_counted}

@@ -1,6 +1,6 @@
 -- The data sets that are there, in the order of the configuration and then of their definition, each with how many report
 -- blocks name it (IEC 61850-7-2, DATA-SET).
-use Rattle.std.specs.Prelude.{ℕ, ◌<◌, suc, ◌+◌, ◌-◌, Bool, false, not, ◌&&◌, ◌||◌, ◌==◌, nat_le, nat_lt, List, [], ◌∷◌, ◌++◌, map, length, take, drop, Option, None, Some, Result, Ok, Err, is_some, slice_index_or, slice_set, if◌then◌else◌}
+use Rattle.std.specs.Prelude.{ℕ, ◌<◌, suc, ◌+◌, ◌-◌, Bool, false, not, ◌&&◌, ◌||◌, nat_le, nat_lt, List, [], ◌∷◌, ◌++◌, map, length, take, drop, max, Option, None, Some, Result, Ok, Err, is_some, slice_index_or, slice_set, if◌then◌else◌}
 use Rattle.std.specs.Option.{option_map}
 use Rattle.std.specs.List.{All, filter, list_all}
 use Rattle.std.specs.Str.{bytes_eq}
@@ -12,7 +12,7 @@ use Rattle.bay_model.specs.declared.tables.NodeRow.{NodeRow}
 use Rattle.bay_model.specs.declared.tables.SetRow.{SetRow}
 use Rattle.bay_model.specs.Breaks.{is_empty}
 use Rattle.bay_model.specs.Lookups.{reference_of}
-use Rattle.data_sets.specs.Booked.{no_row}
+use Rattle.set_view.specs.Shapes.{no_row}
 use Rattle.data_sets.specs.declared.book.Entry.{Entry}
 use Rattle.data_sets.specs.declared.book.DefineFault.{DefineFault}
 use Rattle.data_sets.specs.declared.book.DefineFault.TheVariants as define
@@ -55,6 +55,27 @@ no_set = record { name = record { domain = []; item = [] }; nodes = []; holds = 
 
 abbrev pub set_at : Book → ℕ → Booked
 set_at b k = slice_index_or b.sets k no_set
+
+-- the nodes of the set of a number; none where there is no number
+abbrev pub nodes_in : Book → Option ℕ → List NodeId
+nodes_in b None = []
+nodes_in b (Some k) = (set_at b k).nodes
+
+-- the greatest of some numbers, and how many members the largest set has
+abbrev pub greatest : List ℕ → ℕ
+greatest [] = 0
+greatest (n ∷ ns) = max n (greatest ns)
+
+abbrev pub largest_in : List Booked → ℕ
+largest_in sets = greatest (map (λ (s : Booked). length s.nodes) sets)
+
+abbrev pub largest : Book → ℕ
+largest b = largest_in b.sets
+
+-- the number, where there is one, is that of a set
+abbrev pub IsSet : Book → Option ℕ → Type 0
+IsSet b None = Unit {0}
+IsSet b (Some k) = k < length b.sets
 
 abbrev pub row_of : List NodeRow → NodeId → NodeRow
 row_of rows n = slice_index_or rows n.0 no_row

@@ -1,4 +1,3 @@
-pub mod Booked
 pub mod Books
 pub mod Standing
 pub mod Turns

@@ -1,10 +1,10 @@
 -- What the book stands for: the data sets of a history, and the DatSets of its report blocks.
-use Rattle.std.specs.Prelude.{◌≡◌, ◌<◌, ◌⊎◌, ℕ, suc, ◌+◌, Bool, true, false, ◌==◌, List, [], ◌∷◌, map, length, is_some, slice_index_or, if◌then◌else◌}
+use Rattle.std.specs.Prelude.{◌≡◌, ◌<◌, ◌⊎◌, ℕ, suc, ◌+◌, true, false, ◌==◌, List, [], ◌∷◌, map, length, is_some, slice_index_or, if◌then◌else◌}
 use Rattle.std.specs.List.{list_any}
 use Rattle.std.specs.Str.{bytes_eq}
 use Rattle.bay_model.specs.Model.{Model, DataSet, Block}
 use Rattle.bay_model.specs.Parameters.{parameters_at}
-use Rattle.bay_model.specs.Points.{Deed, Point, Past, Change, unchanged, answered, wrote}
+use Rattle.bay_model.specs.Points.{Deed, Point, Past, unchanged, answered, wrote}
 use Rattle.bay_model.specs.declared.components.Comp.TheVariants as comps
 use Rattle.bay_model.specs.Sets.{sets}
 use Rattle.data_sets.specs.Books.{Booked, Book, reference, set_at, number_referred}

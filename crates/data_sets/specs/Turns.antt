@@ -1,6 +1,6 @@
 -- Names of sets that are deleted in turn, and why a set isn't defined (ISO 9506-2, DeleteNamedVariableList and
 -- DefineNamedVariableList).
-use Rattle.std.specs.Prelude.{◌≡◌, ℕ, ◌+◌, Bool, true, false, ◌&&◌, nat_le, List, [], ◌∷◌, ◌++◌, Option, None, Some, Result, Ok, Err, if◌then◌else◌}
+use Rattle.std.specs.Prelude.{◌≡◌, ℕ, ◌+◌, Bool, true, false, ◌&&◌, nat_le, List, [], ◌∷◌, ◌++◌, Result, Ok, Err, if◌then◌else◌}
 use Rattle.sv_base.specs.declared.numbers.NodeId.{NodeId}
 use Rattle.bay_model.specs.declared.request.SetName.{SetName}
 use Rattle.bay_model.specs.declared.tables.NodeRow.{NodeRow}

@@ -3,11 +3,12 @@
 ghost use Rattle.std.specs.Prelude.{◌≡◌, IfOk, length, map};
 ghost use Rattle.std.specs.List.{list_all};
 ghost use Rattle.std.specs.Str.{bytes_eq};
-ghost use Rattle.data_sets.specs.Books.{is_name as is_named, seen, booked, is_member as is_member_of, node_in, items_in, IsThere, AreTargets};
+ghost use Rattle.data_sets.specs.Books.{is_name as is_named, seen, booked, largest_in, is_member as is_member_of, node_in, items_in, IsThere, AreTargets};
 ghost use Rattle.bay_model.specs.Lookups.{reference_of};
 
 use bay_model::{Names, NodeRow, NodeTable, SetName, SetRow, SetTable, Target};
 use name_order::{names_after, sorted};
+use set_view::SetView;
 use std::alloc::{AllocError, Global};
 use std::marker::Model;
 use sv_base::{NodeId, Octs};
@@ -186,6 +187,17 @@ fn items_of(alloc: Global, domain: &[u8], entries: &[Entry]) -> Result<Vec<Octs>
     Ok(items)
 }
 
+/// How many members the largest of these sets has.
+fn largest_of(entries: &[Entry]) -> usize
+    ensures { result ≡ largest_in (map seen entries.now) }
+{
+    let mut most: usize = 0;
+    for entry in entries {
+        most = most.max(entry.nodes.len());
+    }
+    most
+}
+
 impl Definition {
     ghost use Rattle.std.specs.Prelude.{◌≡◌, IfOk};
     ghost use Rattle.data_sets.specs.Books.{defined_set};
@@ -204,9 +216,10 @@ impl Definition {
 }
 
 impl SetBook {
-    ghost use Rattle.std.specs.Prelude.{◌≡◌, ◌<◌, ◌≤◌, ◌-◌, IfOk, length};
+    ghost use Rattle.std.specs.Prelude.{◌≡◌, ◌==◌, ◌<◌, ◌≤◌, ◌-◌, IfOk, length};
     ghost use Rattle.name_order.specs.Sorting.{names_above};
-    ghost use Rattle.data_sets.specs.Books.{AreTargets, opened, number_named, number_referred, set_at, define_fault as define_fault_of, deletion as deletion_in, with_set, after_delete, after_hold, after_release, items_in};
+    ghost use Rattle.set_view.specs.Shapes.{AreThere, shapes_of};
+    ghost use Rattle.data_sets.specs.Books.{AreTargets, IsSet, nodes_in, largest, opened, number_named, number_referred, set_at, define_fault as define_fault_of, deletion as deletion_in, with_set, after_delete, after_hold, after_release, items_in};
 
     /// The configured data sets, which no report block names, and room for 64 that clients define.
     pub fn open(alloc: Global, sets: &SetTable) -> Result<SetBook, AllocError>
@@ -222,6 +235,27 @@ impl SetBook {
             configured,
             entries,
         })
+    }
+
+    /// How many sets there are.
+    pub fn len(&self) -> usize
+        ensures { result ≡ length self.now.sets }
+    {
+        self.entries.len()
+    }
+
+    /// There is no set.
+    pub fn is_empty(&self) -> bool
+        ensures { result ≡ (length self.now.sets == 0) }
+    {
+        self.entries.is_empty()
+    }
+
+    /// How many members the largest set has.
+    pub fn largest(&self) -> usize
+        ensures { result ≡ largest self.now }
+    {
+        largest_of(&self.entries)
     }
 
     /// The number of the set of this name; none exactly where no such set is there.
@@ -255,6 +289,18 @@ impl SetBook {
         ensures { result.now ≡ (set_at self.now number).nodes }
     {
         &self.entries[number].nodes
+    }
+
+    /// The members of the set of a number, whose nodes have these rows; none where there is no number.
+    pub fn view<'a>(&'a self, set: Option<usize>, rows: &'a [NodeRow]) -> SetView<'a>
+        requires set { IsSet self.now set }
+        requires there { AreThere (length rows.now) (nodes_in self.now set) }
+        ensures { result ≡ shapes_of rows.now (nodes_in self.now set) }
+    {
+        match set {
+            Some(number) => SetView::new(self.nodes(number), rows),
+            None => SetView::new(&[], rows),
+        }
     }
 
     /// Why a client may not define a set of this name and these members, the first cause; none where it may. `is_named` says

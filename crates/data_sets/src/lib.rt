@@ -4,13 +4,9 @@
 
 mod book;
 mod laws;
-mod shapes;
 
 // the sets by their numbers, their names and their references
 pub use book::{DefineFault, Definition, DeleteFault, SetBook};
-
-// the shapes of their members
-pub use shapes::shapes_of;
 
 // their laws
 pub use laws::{

@@ -1,6 +1,6 @@
 -- One walk over the touches of a change gives each block what it would get by itself.
-use Rattle.std.proofs.Common.{◌≡◌, ◌≢◌, refl, ap, ap₂, sym, ◌∙◌, subst, ℕ, zero, suc, ◌+◌, ◌<◌, ◌≤◌, ◌==◌, Bool, true, false, cond, List, [], ◌∷◌, length, set, get_or, drop, arith, ◌⊎◌, inl, inr}
-use Rattle.std.specs.List.{All, flat_map}
+use Rattle.std.proofs.Common.{◌≡◌, ◌≢◌, refl, ap, ap₂, sym, ◌∙◌, subst, ℕ, zero, suc, ◌+◌, ◌<◌, ◌≤◌, ◌==◌, Bool, true, false, cond, List, [], ◌∷◌, length, get_or, drop, arith, ◌⊎◌, inl, inr}
+use Rattle.std.specs.List.{All}
 use Rattle.std.proofs.lemmas.Bool.{cases_eq}
 use Rattle.std.proofs.lemmas.Bool.Decides.{nat_tests}
 use Rattle.std.proofs.lemmas.List.{drop_more, get_or-set_same, get_or-set_other}
@@ -16,7 +16,7 @@ use Rattle.trigger_core.specs.Noted.{reasons_by}
 use Rattle.touch_index.specs.declared.touch.Touch.{Touch}
 use Rattle.touch_index.specs.Spread.{of_attr, no_touch}
 use Rattle.touch_index.specs.Indexed.{touches_in, IsOwnedFrom}
-use Rattle.touch_index.specs.Gathered.{add_touches, noted_by, InRange, CanAdd}
+use Rattle.touch_index.specs.Gathered.{add_touches, InRange, CanAdd}
 use Rattle.touch_index.specs.Gathering.{no_note, note_at, trg_at, with_items, add_touched}
 use Rattle.touch_index.proofs.GatherLaws.{touches_step, next_fits, noted_few}
 

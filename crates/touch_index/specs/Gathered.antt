@@ -1,11 +1,11 @@
 -- The note of a block, gathered from what the changed attributes touch.
-use Rattle.std.specs.Prelude.{◌≡◌, ℕ, zero, suc, ◌+◌, ◌<◌, ◌≤◌, ◌==◌, nat_lt, Bool, ◌||◌, false, List, [], ◌∷◌, length, cond, None, slice_index_or}
+use Rattle.std.specs.Prelude.{◌≡◌, ℕ, zero, suc, ◌+◌, ◌<◌, ◌≤◌, ◌==◌, Bool, ◌||◌, false, List, [], ◌∷◌, cond, None}
 use Rattle.sv_base.specs.declared.numbers.AttrId.{AttrId}
 use Rattle.bay_model.specs.declared.flags.Change.{Change}
 use Rattle.bay_model.specs.declared.flags.Trg.{Trg}
 use Rattle.bay_model.specs.declared.note.Mention.{Mention}
 use Rattle.bay_model.specs.declared.report.Reasons.{Reasons}
-use Rattle.bay_model.specs.Notes.{union, is_any}
+use Rattle.bay_model.specs.Notes.{is_any}
 use Rattle.bay_model.specs.Mentions.{add}
 use Rattle.trigger_core.specs.Noted.{reasons_by, change_of}
 use Rattle.touch_index.specs.declared.touch.Touch.{Touch}

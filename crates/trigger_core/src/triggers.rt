@@ -5,7 +5,8 @@ ghost use Rattle.std.specs.Option.{option_map};
 ghost use Rattle.bay_model.specs.Notes.{no_reason, union as union_of};
 ghost use Rattle.trigger_core.specs.Noted.{change_of as change_in, reasons_by as reasons_under, reasons_in as reasons_among, noted};
 
-use bay_model::{Change, MemberShape, Mention, Note, Reasons, SetView, Trg};
+use bay_model::{Change, MemberShape, Mention, Note, Reasons, Trg};
+use set_view::SetView;
 use sv_base::{AttrId, MemberNo};
 
 /// No reason.
@@ -66,18 +67,16 @@ fn reasons_in(changes: &[Change], trg: Trg, attrs: &[AttrId]) -> Reasons
 ///
 /// `changes` are the attributes that the point set, each once. What stood in `out` goes; it takes no memory.
 pub fn note(changes: &[Change], set: &SetView<'_>, trg: Trg, out: &mut Note)
-    requires counted { length set.now.members.now < 2 ^ 32 }
-    requires room { length set.now.members.now ≤ out.old.room }
-    ensures { out.new ≡ record { items = noted changes.now trg 1 set.now.members.now; room = out.old.room } }
+    requires counted { length set.now < 2 ^ 32 }
+    requires room { length set.now ≤ out.old.room }
+    ensures { out.new ≡ record { items = noted changes.now trg 1 set.now; room = out.old.room } }
 {
     out.clear();
-    let mut number = 0;
-    for member in set.members {
-        number += 1;
-        let reasons = reasons_in(changes, trg, member.attrs.as_slice());
+    for place in 0..set.len() {
+        let reasons = reasons_in(changes, trg, set.member(place).attrs.as_slice());
         if reasons.is_any() {
             out.push(Mention {
-                member: MemberNo(number),
+                member: MemberNo(place as u32 + 1),
                 reasons,
             });
         }

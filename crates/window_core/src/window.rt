@@ -32,7 +32,7 @@ impl Window {
     ghost use Rattle.std.specs.Prelude.{◌≡◌, ◌≢◌, ◌≤◌, ◌*◌, ◌||◌, [], false, length, None, Some, IfOk, if◌then◌else◌};
     ghost use Rattle.std.specs.Option.{option_map};
     ghost use Rattle.window_core.specs.Pieces.{pieces, AreRow, AreNumbers};
-    ghost use Rattle.window_core.specs.Windows.{empty, closed, is_over as is_over_at, over_at, after_time, closed_by, after_event, told, joined, is_met as is_met_in};
+    ghost use Rattle.window_core.specs.Windows.{empty, closed, end_of, is_over as is_over_at, over_at, after_time, closed_by, after_event, told, joined, is_met as is_met_in};
 
     /// An empty window for a data set of so many members, at most 256, under a buffer time in milliseconds. It takes all the
     /// room that it ever needs; no other call takes memory.
@@ -45,6 +45,25 @@ impl Window {
             begun: None,
             slots: Slots::new(alloc, members)?,
         })
+    }
+
+    /// The buffer time, in milliseconds. Where it is 0 nothing is gathered.
+    pub fn buf_tm(&self) -> u32
+        ensures value { result ≡ self.now.buf_tm }
+        ensures at_once { self.now.buf_tm ≡ 0 → self.now.gathered ≡ None }
+    {
+        self.buf_tm
+    }
+
+    /// The moment at which the buffer time of what is gathered has passed, in milliseconds since 1970; none where nothing is
+    /// gathered.
+    pub fn end(&self) -> Option<u64>
+        ensures { result ≡ end_of self.now }
+    {
+        match self.begun {
+            Some(moment) => Some(moment.ms() + u64::from(self.buf_tm)),
+            None => None,
+        }
     }
 
     /// Sets the buffer time, in milliseconds, where nothing is gathered.

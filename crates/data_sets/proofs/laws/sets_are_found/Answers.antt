@@ -1,4 +1,4 @@
-use Rattle.std.proofs.Common.{◌≡◌, refl, ap, sym, ◌∙◌, List, map, filter}
+use Rattle.std.proofs.Common.{refl, ap, ◌∙◌, List, map, filter}
 use Rattle.std.specs.Str.{bytes_eq}
 use Rattle.std.specs.List.{find}
 use Rattle.bay_model.specs.Model.{DataSet}

@@ -1,17 +1,15 @@
-use Rattle.std.proofs.Common.{rules, ◌≡◌, ◌≢◌, ◌<◌, ◌+◌, ◌∙◌, ◌⊎◌, inl, inr, ℕ, ap, ap₂, sym, refl, subst, arith, length, get_or, drop, true, false, List}
+use Rattle.std.proofs.Common.{◌≡◌, ◌≢◌, ◌<◌, ◌+◌, ◌∙◌, inl, inr, ℕ, ap, ap₂, sym, refl, arith, length, get_or, drop, true, false}
 use Rattle.std.proofs.lemmas.Bool.{cases_eq}
 use Rattle.std.proofs.lemmas.List.{length-set}
 use Rattle.bay_rooms.specs.Rooms.{Filled}
 use Rattle.bay_model.specs.declared.flags.Trg.{Trg}
 use Rattle.bay_model.specs.declared.note.Mention.{Mention}
-use Rattle.bay_model.specs.declared.report.Reasons.{Reasons}
 use Rattle.bay_model.specs.Mentions.{add}
 use Rattle.bay_model.specs.Notes.{is_any}
 use Rattle.trigger_core.specs.Noted.{reasons_by}
 use Rattle.touch_index.specs.Spread.{no_touch}
-use Rattle.touch_index.specs.Gathered.{CanAdd}
 use Rattle.touch_index.specs.Gathering.{Gathered, note_at, trg_at, with_items, add_touched}
-use Rattle.touch_index.proofs.GatheringLaws.{trg_there, touched_step, other_touched, own_touched, fits_on, fits_more, room_for, items_here, items_there, room_same, one_touched}
+use Rattle.touch_index.proofs.GatheringLaws.{trg_there, touched_step, other_touched, own_touched, fits_on, fits_more, room_for, items_here, items_there, room_same}
 use Rattle.touch_index.proofs.gathering.gather_change.Goals as goal
 use Rattle.touch_index.proofs.gathering.gather_change.Goals.{then-is_any, else-is_any}
 

@@ -2,10 +2,9 @@ use Rattle.std.proofs.Common.{◌≡◌, ◌≤◌, ◌++◌, suc, drop, length}
 use Rattle.trigger_core.specs.Noted.{noted}
 use Rattle.trigger_core.proofs.triggers.note.Given as goal
 
-abbrev pub invariant-loop-member : goal.invariant-loop-member
-invariant-loop-member l = record {
-  few : length l.out.items ≤ l.member-index;
+abbrev pub invariant-loop-place : goal.invariant-loop-place
+invariant-loop-place l = record {
+  few : length l.out.items ≤ l.place;
   room : l.out.room ≡ l.fn.out.room;
-  number : l.number ≡ l.member-index;
-  rest : noted l.fn.changes l.fn.trg 1 l.fn.set.members.now ≡ l.out.items ++ noted l.fn.changes l.fn.trg (suc l.number) (drop l.member-index l.member-items);
+  rest : noted l.fn.changes l.fn.trg 1 l.fn.set ≡ l.out.items ++ noted l.fn.changes l.fn.trg (suc l.place) (drop l.place l.fn.set);
 }

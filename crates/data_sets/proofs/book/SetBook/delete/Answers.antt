@@ -1,4 +1,4 @@
-use Rattle.std.proofs.Common.{rules, ◌≡◌, ◌<◌, ℕ, suc, List, ◌++◌, length, map, take, drop, sym, ap, ◌∙◌, arith}
+use Rattle.std.proofs.Common.{rules, ◌≡◌, suc, List, ◌++◌, map, take, drop, ap, ◌∙◌}
 use Rattle.data_sets.specs.Books.{Booked, Book, seen}
 use Rattle.data_sets.proofs.PlaceLaws.{map_removed}
 use Rattle.data_sets.proofs.book.SetBook.delete.Goals as goal

@@ -1,4 +1,4 @@
-use Rattle.std.proofs.Common.{rules, ◌≡◌, ◌<◌, ℕ, suc, inl, inr, List, length, map, sym, ap, ◌∙◌, arith, true, false, slice_index_or, Some, Ok, Err}
+use Rattle.std.proofs.Common.{rules, ◌≡◌, ◌<◌, suc, inl, inr, List, length, map, sym, ap, ◌∙◌, arith, true, false, slice_index_or, Some, Ok, Err}
 use Rattle.std.specs.Prelude.{nat_lt, if◌then◌else◌}
 use Rattle.std.proofs.lemmas.List.{get_or-map, length-map}
 use Rattle.data_sets.specs.Books.{Booked, Book, is_name, seen, no_set, set_at, number_named, deletion_of}

@@ -1,4 +1,4 @@
-use Rattle.std.proofs.Common.{rules, ◌≡◌, ◌<◌, ℕ, List, length, map, sym, ap, ◌∙◌, arith, true, false, slice_index_or, below_more}
+use Rattle.std.proofs.Common.{rules, ◌≡◌, ◌<◌, List, length, map, sym, ap, ◌∙◌, arith, true, slice_index_or, below_more}
 use Rattle.std.proofs.lemmas.List.{get_or-map, length-map}
 use Rattle.data_sets.specs.Books.{Booked, Book, is_name, seen, no_set}
 use Rattle.data_sets.proofs.PlaceLaws.{first_place, no_place}

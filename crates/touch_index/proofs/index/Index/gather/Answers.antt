@@ -1,17 +1,14 @@
-use Rattle.std.proofs.Common.{rules, ◌≡◌, ◌<◌, ◌≤◌, ◌+◌, ◌∙◌, ℕ, [], ap, ap₂, sym, refl, subst, arith, length, get_or, drop, false, List}
+use Rattle.std.proofs.Common.{◌≡◌, ◌<◌, ◌≤◌, ◌+◌, ◌∙◌, ℕ, [], ap, sym, refl, subst, arith, length, get_or, drop, false}
 use Rattle.std.specs.List.{All}
 use Rattle.std.proofs.lemmas.List.{drop_all}
-use Rattle.bay_rooms.specs.Rooms.{Filled}
 use Rattle.bay_model.specs.Notes.{no_reason}
 use Rattle.bay_model.specs.declared.flags.Change.{Change}
-use Rattle.bay_model.specs.declared.note.Mention.{Mention}
-use Rattle.bay_model.specs.declared.tables.MemberShape.{MemberShape}
 use Rattle.trigger_core.specs.Noted.{reasons_by}
 use Rattle.touch_index.specs.declared.touch.Touch.{Touch}
 use Rattle.touch_index.specs.Spread.{of_attr}
 use Rattle.touch_index.specs.Indexed.{Indexed, touches_in, IsOwnedFrom}
-use Rattle.touch_index.specs.Gathered.{add_change, add_changes, CanAdd, IsSetOf}
-use Rattle.touch_index.specs.Gathering.{note_at, no_note, trg_at, add_touched, AreEmpty}
+use Rattle.touch_index.specs.Gathered.{add_change, add_changes, CanAdd}
+use Rattle.touch_index.specs.Gathering.{note_at, no_note, trg_at, add_touched}
 use Rattle.touch_index.proofs.GatherLaws.{noted_none, range_of, changes_step, change_noted, gathered_is_noted, given_all}
 use Rattle.touch_index.proofs.GatheringLaws.{touched_within}
 use Rattle.touch_index.proofs.index.Index.gather.Goals as goal

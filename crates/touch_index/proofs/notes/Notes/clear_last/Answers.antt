@@ -1,4 +1,4 @@
-use Rattle.std.proofs.Common.{rules, ◌≡◌, ◌++◌, ◌∷◌, [], refl, arith, length, set}
+use Rattle.std.proofs.Common.{rules, ◌≡◌, ◌++◌, ◌∷◌, [], arith}
 use Rattle.std.proofs.lemmas.List.{length-set}
 use Rattle.touch_index.proofs.NotesLaws.{covered_less, weighs_none}
 use Rattle.bay_rooms.specs.Rooms.{Filled}

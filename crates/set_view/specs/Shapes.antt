@@ -1,7 +1,6 @@
 -- The shapes of the members of a data set, by the numbers of their nodes (IEC 61850-7-2, DATA-SET).
 use Rattle.std.specs.Prelude.{◌≡◌, ℕ, ◌<◌, List, [], map, false, slice_index_or}
 use Rattle.std.specs.List.{All}
-use Rattle.sv_base.specs.Types.{no_field}
 use Rattle.sv_base.specs.declared.numbers.NodeId.{NodeId}
 use Rattle.sv_base.specs.declared.types.TypeOf.TheVariants as types
 use Rattle.bay_model.specs.declared.tables.MemberShape.{MemberShape}
@@ -15,9 +14,12 @@ AreThere count nodes = All (λ (n : NodeId). n.0 < count) nodes
 abbrev pub AllThere : ℕ → List SetRow → Type 0
 AllThere count rows = All (λ (r : SetRow). AreThere count r.nodes) rows
 
--- what a number of no row gives is of no account
+-- what a number of no member has, and what a number of no row gives, is of no account
+abbrev pub no_shape : MemberShape
+no_shape = record { node = record { 0 = 0 }; kind = types.Bool; attrs = [] }
+
 abbrev pub no_row : NodeRow
-no_row = record { allowed = false; octets = 0; shape = record { node = record { 0 = 0 }; kind = types.Struct no_field; attrs = [] } }
+no_row = record { allowed = false; octets = 0; shape = no_shape }
 
 abbrev pub shape_of : List NodeRow → NodeId → MemberShape
 shape_of rows n = (slice_index_or rows n.0 no_row).shape
