@@ -14,7 +14,7 @@ use Rattle.bay_model.specs.Named.{configured_model}
 use Rattle.bay_model.specs.Notes.{Kept}
 use Rattle.bay_model.specs.Reports.{member_of}
 use Rattle.bay_model.specs.Retained.{weight_of, kept_octets_of}
-use Rattle.data_sets.specs.Booked.{node_numbers}
+use Rattle.set_view.specs.Shapes.{node_numbers}
 use Rattle.report_block.specs.EntryOctets.{weights}
 use Rattle.report_block.specs.Again.{IsOneElement, AreKept, reasons_in, reported}
 

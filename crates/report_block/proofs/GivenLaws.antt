@@ -16,7 +16,7 @@ use Rattle.bay_model.specs.Entries.{Entry}
 use Rattle.bay_model.specs.Blocks.{sq_num, is_overflown}
 use Rattle.bay_model.specs.Reports.{Offer, report_id, member_of, report_of}
 use Rattle.bay_model.specs.Takes.{Given, given_report}
-use Rattle.data_sets.specs.Booked.{node_numbers}
+use Rattle.set_view.specs.Shapes.{node_numbers}
 use Rattle.brcb_state.specs.declared.told.Next.{Next}
 use Rattle.entry_ring.specs.Held.{Held}
 use Rattle.entry_ring.specs.Standing.{held}
@@ -53,12 +53,12 @@ total-same : (shapes : List MemberShape) (nodes : List ℕ) → node_numbers sha
 total-same shapes nodes is = sym (length-map shapes (λ (m : MemberShape). m.node.0)) ∙ ap length is
 
 -- the report of an entry by its block
-report-same : (m : Model) (past : Past) (b : ℕ) (n : Next) (e : Entry) (part : ReportBlock) → Stands part m b past → n.sq ≡ sq_num b past → n.ovfl ≡ is_overflown m b past → node_numbers part.members.items ≡ members m b past
-    → report_by m part (record { block = b; next = n; entry = held e }) e.members ≡ report_of m past (record { block = b; id = n.id; entry = e })
-report-same m past b n e part st sq ovfl nodes =
+report-same : (m : Model) (past : Past) (b : ℕ) (n : Next) (e : Entry) (shapes : List MemberShape) (part : ReportBlock) → Stands part m b past → n.sq ≡ sq_num b past → n.ovfl ≡ is_overflown m b past → node_numbers shapes ≡ members m b past
+    → report_by m shapes part (record { block = b; next = n; entry = held e }) e.members ≡ report_of m past (record { block = b; id = n.id; entry = e })
+report-same m past b n e shapes part st sq ovfl nodes =
     made-same m b n.id e part.block.options (parameters_at m b past) part.block.reference (block_of m b).reference n.sq (sq_num b past) n.ovfl (is_overflown m b past) part.block.revision (conf_rev m b past)
-    (length part.members.items) (length (members m b past)) (node_numbers part.members.items) (members m b past)
-    st.block.options st.block.reference sq ovfl st.block.revision (total-same part.members.items (members m b past) nodes) nodes
+    (length shapes) (length (members m b past)) (node_numbers shapes) (members m b past)
+    st.block.options st.block.reference sq ovfl st.block.revision (total-same shapes (members m b past) nodes) nodes
 
 abbrev pub given_of : ℕ → ℕ → ℕ → Report → Given
 given_of a b id r = record { answer = answers.Taken (outputs.Report r); deed = reported a b id }
@@ -66,15 +66,15 @@ given_of a b id r = record { answer = answers.Taken (outputs.Report r); deed = r
 same-given : (a b b' id id' : ℕ) (r r' : Report) → r ≡ r' → b ≡ b' → id ≡ id' → given_of a b id r ≡ given_of a b' id' r'
 same-given a b b' id id' r r' h1 h2 h3 = rw (h1, h2, h3) refl
 
-module _ (m : Model) (past : Past) (a : AssocNo) (o : Offered) (part : ReportBlock) (r : Report) (st : Stands part m o.block past) (nodes : node_numbers part.members.items ≡ members m o.block past)
-    (is_report : (ks : List Kept) → AreKept o.entry.kept ks → r ≡ report_by m part o ks) where
+module _ (m : Model) (past : Past) (a : AssocNo) (o : Offered) (shapes : List MemberShape) (part : ReportBlock) (r : Report) (st : Stands part m o.block past) (nodes : node_numbers shapes ≡ members m o.block past)
+    (is_report : (ks : List Kept) → AreKept o.entry.kept ks → r ≡ report_by m shapes part o ks) where
   told-report : (y : Offer) → IsTold m past y o → report_of m past y ≡ r
   told-report y is =
       let mine : Stands part m y.block past = subst (λ b. Stands part m b past) is.block st in
-      let same : report_by m part (record { block = y.block; next = o.next; entry = held y.entry }) y.entry.members ≡ report_of m past (record { block = y.block; id = o.next.id; entry = y.entry }) =
-      report-same m past y.block o.next y.entry part mine is.sq is.ovfl (subst (λ b. node_numbers part.members.items ≡ members m b past) is.block nodes) in
-      let here : report_by m part (record { block = o.block; next = o.next; entry = o.entry }) y.entry.members ≡ report_by m part (record { block = y.block; next = o.next; entry = held y.entry }) y.entry.members =
-      ap (λ b. report_by m part (record { block = b; next = o.next; entry = o.entry }) y.entry.members) is.block ∙ ap (λ e. report_by m part (record { block = y.block; next = o.next; entry = e }) y.entry.members) is.entry in
+      let same : report_by m shapes part (record { block = y.block; next = o.next; entry = held y.entry }) y.entry.members ≡ report_of m past (record { block = y.block; id = o.next.id; entry = y.entry }) =
+      report-same m past y.block o.next y.entry shapes part mine is.sq is.ovfl (subst (λ b. node_numbers shapes ≡ members m b past) is.block nodes) in
+      let here : report_by m shapes part (record { block = o.block; next = o.next; entry = o.entry }) y.entry.members ≡ report_by m shapes part (record { block = y.block; next = o.next; entry = held y.entry }) y.entry.members =
+      ap (λ b. report_by m shapes part (record { block = b; next = o.next; entry = o.entry }) y.entry.members) is.block ∙ ap (λ e. report_by m shapes part (record { block = y.block; next = o.next; entry = e }) y.entry.members) is.entry in
       ap (λ i. report_of m past (record { block = y.block; id = i; entry = y.entry })) (sym is.id) ∙ (sym same ∙ (sym here ∙ sym (is_report y.entry.members (are-kept o.entry.kept y.entry.members (sym (ap (λ (e : Held). e.kept) is.entry)) is.readable))))
 
   pub told-given : (x : Option Offer) (p : Option Offered) → AreTold m past x p → p ≡ Some o → given_report m a.0 past x ≡ given_of a.0 o.block o.next.id r

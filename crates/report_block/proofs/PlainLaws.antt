@@ -1,6 +1,6 @@
 -- What plain deeds make of a block: one that doesn't touch its entries, an event where BufTm is 0, and an accepted write.
 use Rattle.std.proofs.Common.{rules, ◌≡◌, ℕ, max, Bool, true, false, List, [], ◌∷◌, ◌++◌, map, refl, sym, subst, ap, ◌∙◌, None, Some, append-nil}
-use Rattle.std.specs.Prelude.{if◌then◌else◌, ◌==◌, ◌||◌}
+use Rattle.std.specs.Prelude.{if◌then◌else◌, ◌==◌, ◌||◌, Option}
 use Rattle.std.proofs.lemmas.List.Elements.{All-nil}
 use Rattle.std.proofs.lemmas.Bool.{eq-eqb}
 use Rattle.sv_base.specs.declared.numbers.AssocNo.{AssocNo}
@@ -31,7 +31,7 @@ use Rattle.report_block.specs.EntryOctets.{kept_of, note_octets}
 use Rattle.report_block.specs.Standing.{IsMemberKept, AreKeptMembers, Stands}
 use Rattle.report_block.specs.Coming.{came, untouched, noting, after_bodies, purged_if, closed_at, window_after, AreOf}
 use Rattle.report_block.specs.Events.{pieces_of, with_note}
-use Rattle.report_block.specs.Writes.{coming_of, settled, written_by}
+use Rattle.report_block.specs.Writes.{coming_of, set_after, settled, written_by}
 use Rattle.report_block.proofs.StandLaws.{arrival-stands, deed-stands, idle, integrity-off, before-arrival}
 
 or-left : (x y : Bool) → (x || y) ≡ false → x ≡ false
@@ -73,41 +73,46 @@ octets-noted : (stored : List Stored) (shapes : List MemberShape) (ms : List Men
 octets-noted stored shapes [] = refl
 octets-noted stored shapes (m ∷ ms) = ap (λ l. kept_octets_of (kept_of stored shapes m) ++ l) (octets-noted stored shapes ms)
 
-module _ (b moment n : ℕ) (settings : List Setting) (stored : List Stored) (part : ReportBlock) where
+module _ (b moment n : ℕ) (settings : List Setting) (stored : List Stored) (shapes : List MemberShape) (part : ReportBlock) where
   noted-by : (w : Windowed) (g : _) → w.gathered ≡ g → g ≡ None → w.buf_tm ≡ 0 → (m : Mention) (ms : List Mention)
-      → came b (valued settings) moment n (noting (pieces_of stored part.members.items (m ∷ ms))) (record part { window = w }) ≡ with_note stored moment n (m ∷ ms) (record part { window = w })
+      → came b (valued settings) moment n (noting (pieces_of stored shapes (m ∷ ms))) (record part { window = w }) ≡ with_note stored shapes moment n (m ∷ ms) (record part { window = w })
   noted-by w (Some g) is none time m ms = cc
   noted-by w None is none time m ms =
       let all : List Mention = m ∷ ms in
-      let ps = pieces_of stored part.members.items all in
+      let ps = pieces_of stored shapes all in
       let zero : (w.buf_tm == 0) ≡ true = eq-eqb w.buf_tm 0 time in
-      rw (zero, is, octets-noted stored part.members.items all) refl
+      rw (zero, is, octets-noted stored shapes all) refl
 
-  pub noted-at-once : part.window.buf_tm ≡ 0 → part.window.gathered ≡ None → (ms : List Mention) → came b (valued settings) moment n (noting (pieces_of stored part.members.items ms)) part ≡ with_note stored moment n ms part
+  pub noted-at-once : part.window.buf_tm ≡ 0 → part.window.gathered ≡ None → (ms : List Mention) → came b (valued settings) moment n (noting (pieces_of stored shapes ms)) part ≡ with_note stored shapes moment n ms part
   noted-at-once time none [] = refl
   noted-at-once time none (m ∷ ms) = noted-by part.window part.window.gathered refl none time m ms
 
 -- the process set attributes, and the note is of these members
-pub event-stands : (c : Model) (b m n : ℕ) (before : Past) (part : ReportBlock) (settings : List Setting) (stored : List Stored) (ms : List Mention) → (parameters_at c b before).buf_tm ≡ 0
-    → pieces_of stored part.members.items ms ≡ map piece_of (note c b (at n m (valued settings)) before) → AreKeptMembers (note c b (at n m (valued settings)) before)
-    → Stands part c b (arrival n m ∷ before) → Stands (with_note stored (max m (now before)) n ms part) c b (at n m (valued settings) ∷ before)
-event-stands c b m n before part settings stored ms time are readable s =
+pub event-stands : (c : Model) (b m n : ℕ) (before : Past) (part : ReportBlock) (settings : List Setting) (stored : List Stored) (shapes : List MemberShape) (ms : List Mention) → (parameters_at c b before).buf_tm ≡ 0
+    → pieces_of stored shapes ms ≡ map piece_of (note c b (at n m (valued settings)) before) → AreKeptMembers (note c b (at n m (valued settings)) before)
+    → Stands part c b (arrival n m ∷ before) → Stands (with_note stored shapes (max m (now before)) n ms part) c b (at n m (valued settings) ∷ before)
+event-stands c b m n before part settings stored shapes ms time are readable s =
     let zero : part.window.buf_tm ≡ 0 = s.window.buf_tm ∙ time in
-    subst (λ x. Stands x c b (at n m (valued settings) ∷ before)) (noted-at-once b (max m (now before)) n settings stored part zero (s.window.at_once zero) ms)
-    (deed-stands c b m n (valued settings) before part (noting (pieces_of stored part.members.items ms)) s (record { note = record { are = are; readable = readable }; general = refl; all = λ is. off is; purge = refl; change = refl }))
+    subst (λ x. Stands x c b (at n m (valued settings) ∷ before)) (noted-at-once b (max m (now before)) n settings stored shapes part zero (s.window.at_once zero) ms)
+    (deed-stands c b m n (valued settings) before part (noting (pieces_of stored shapes ms)) s (record { note = record { are = are; readable = readable }; general = refl; all = λ is. off is; purge = refl; change = refl }))
 
 -- ---- a write
 
 tells : (c : Model) (a : AssocNo) (b : ℕ) (comp : Comp) (v : Value) (n m : ℕ) (before : Past) (s : Block) → AttributesStand s c b before → Tells (effect_of comp v s) c b (at n m (wrote a.0 b comp v)) before
 tells c a b comp v n m before s st = search rules
 
+-- the number of its data set is no part of what a block stands for
+with-set : (part : ReportBlock) (set : Option ℕ) (c : Model) (b : ℕ) (past : Past) → Stands part c b past → Stands (record part { set = set }) c b past
+with-set part set c b past s = record { block = s.block; ring = s.ring; window = s.window; origin = s.origin; readable = s.readable; group = s.group }
+
 -- an accepted write of another component than GI
-pub write-stands : (c : Model) (b m n : ℕ) (before : Past) (part : ReportBlock) (a : AssocNo) (comp : Comp) (v : Value) (e : Effect) → e ≡ effect_of comp v part.block → is_interrogation b (wrote a.0 b comp v) ≡ false
-    → Stands part c b (arrival n m ∷ before) → Stands (written_by a comp v (max m (now before)) n e part) c b (at n m (wrote a.0 b comp v) ∷ before)
-write-stands c b m n before part a comp v e is plain s =
+pub write-stands : (c : Model) (b m n : ℕ) (before : Past) (part : ReportBlock) (a : AssocNo) (comp : Comp) (v : Value) (named : Option ℕ) (e : Effect) → e ≡ effect_of comp v part.block → is_interrogation b (wrote a.0 b comp v) ≡ false
+    → Stands part c b (arrival n m ∷ before) → Stands (written_by a comp v named (max m (now before)) n e part) c b (at n m (wrote a.0 b comp v) ∷ before)
+write-stands c b m n before part a comp v named e is plain s =
     let t = tells c a b comp v n m before part.block (before-arrival c b m n before part.block s.block) in
     let own : after_deed b (wrote a.0 b comp v) part.ring.front part.block ≡ written a comp v part.ring.front part.block = ap (λ u. if u then written a comp v part.ring.front part.block else part.block) (eq-eqb b b refl) in
-    subst (λ (x : Block). Stands (settled (max m (now before)) n e (record part { block = x })) c b (at n m (wrote a.0 b comp v) ∷ before)) own
+    with-set (settled (max m (now before)) n e (record part { block = written a comp v part.ring.front part.block })) (set_after comp named part.set) c b (at n m (wrote a.0 b comp v) ∷ before)
+    (subst (λ (x : Block). Stands (settled (max m (now before)) n e (record part { block = x })) c b (at n m (wrote a.0 b comp v) ∷ before)) own
     (subst (λ r. Stands (record part {
       block = after_deed b (wrote a.0 b comp v) part.ring.front part.block;
       ring = purged_if (is_purging e) (after_bodies part.ring r);
@@ -120,4 +125,4 @@ write-stands c b m n before part a comp v e is plain s =
       all = λ is. off (sym plain ∙ is);
       purge = ap is_purging is ∙ t.purge;
       change = ap is_change is ∙ t.change;
-    })))
+    }))))

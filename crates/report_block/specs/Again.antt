@@ -12,7 +12,7 @@ use Rattle.bay_model.specs.Named.{configured_model, nodes}
 use Rattle.bay_model.specs.Notes.{Kept}
 use Rattle.bay_model.specs.Reports.{member_of, reference_at, no_reference}
 use Rattle.bay_model.specs.Retained.{kept_octets_of}
-use Rattle.data_sets.specs.Booked.{node_numbers}
+use Rattle.set_view.specs.Shapes.{node_numbers}
 use Rattle.report_block.specs.declared.members.Front.{Front}
 
 -- one element, and nothing behind it

@@ -1,20 +1,16 @@
 -- The octets that a block keeps of an entry: of each member its number, its reasons and its MMS Data (IEC 61850-7-2,
 -- BRCB, the buffered entry; the layout is this profile's own).
-use Rattle.std.specs.Prelude.{◌≡◌, ◌<◌, ◌≤◌, ◌^◌, ◌-◌, ℕ, ◌+◌, List, [], length, slice_index_or}
+use Rattle.std.specs.Prelude.{◌≡◌, ◌<◌, ◌≤◌, ◌^◌, ◌-◌, ℕ, ◌+◌, List, length, slice_index_or}
 use Rattle.std.specs.List.{flat_map}
 use Rattle.sv_base.specs.Fields.{shape_of}
-use Rattle.sv_base.specs.declared.types.TypeOf.TheVariants as types
 use Rattle.bay_model.specs.declared.note.Mention.{Mention}
 use Rattle.bay_model.specs.declared.report.Reasons.{Reasons}
 use Rattle.bay_model.specs.declared.tables.MemberShape.{MemberShape}
 use Rattle.bay_model.specs.Notes.{Kept}
 use Rattle.bay_model.specs.Retained.{weight_of, kept_octets_of}
+use Rattle.set_view.specs.Shapes.{no_shape}
 use Rattle.value_store.specs.Members.{leaves, member_octets}
 use Rattle.value_store.specs.Stored.{Stored, AreStored}
-
--- what a number of no member has is of no account
-abbrev pub no_shape : MemberShape
-no_shape = record { node = record { 0 = 0 }; kind = types.Bool; attrs = [] }
 
 -- the shape of a member of a data set, by its number from 1
 abbrev pub shape_at : List MemberShape → ℕ → MemberShape

@@ -15,10 +15,10 @@ abbrev pub pieces_of : List Stored → List MemberShape → List Mention → Lis
 pieces_of stored shapes note = map (λ (m : Mention). piece_of (kept_of stored shapes m)) note
 
 -- its entry
-abbrev pub entry_of : List Stored → ℕ → ℕ → ReportBlock → List Mention → Held
-entry_of stored now step part note = record { moment = now; step = step; kept = note_octets stored part.members.items note }
+abbrev pub entry_of : List Stored → List MemberShape → ℕ → ℕ → List Mention → Held
+entry_of stored shapes now step note = record { moment = now; step = step; kept = note_octets stored shapes note }
 
--- with the entry of a note, where it has a member
-abbrev pub with_note : List Stored → ℕ → ℕ → List Mention → ReportBlock → ReportBlock
-with_note stored now step [] part = part
-with_note stored now step (m ∷ ms) part = record part { ring = after_entry part.ring (entry_of stored now step part (m ∷ ms)) }
+-- with the entry of a note of a data set of these shapes, where it has a member
+abbrev pub with_note : List Stored → List MemberShape → ℕ → ℕ → List Mention → ReportBlock → ReportBlock
+with_note stored shapes now step [] part = part
+with_note stored shapes now step (m ∷ ms) part = record part { ring = after_entry part.ring (entry_of stored shapes now step (m ∷ ms)) }

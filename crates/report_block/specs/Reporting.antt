@@ -2,10 +2,11 @@
 -- service and its report format).
 use Rattle.std.specs.Prelude.{List, length, map}
 use Rattle.bay_model.specs.declared.report.Report.{Report}
+use Rattle.bay_model.specs.declared.tables.MemberShape.{MemberShape}
 use Rattle.bay_model.specs.Model.{Model}
 use Rattle.bay_model.specs.Notes.{Kept}
 use Rattle.bay_model.specs.Reports.{report_id, member_of}
-use Rattle.data_sets.specs.Booked.{node_numbers}
+use Rattle.set_view.specs.Shapes.{node_numbers}
 use Rattle.report_block.specs.declared.block.ReportBlock.{ReportBlock}
 use Rattle.entry_ring.specs.Entries.{held_of}
 use Rattle.report_block.specs.declared.offers.Offer.{Offer}
@@ -15,9 +16,9 @@ use Rattle.report_block.specs.Offers.{Offered}
 abbrev pub offered : Offer → Offered
 offered o = record { block = o.block; next = o.next; entry = held_of o.entry }
 
--- the report of an offer by its block; these are the members of its entry
-abbrev pub report_by : Model → ReportBlock → Offered → List Kept → Report
-report_by c part o ks = record {
+-- the report of an offer by its block, whose data set has members of these shapes; these are the members of its entry
+abbrev pub report_by : Model → List MemberShape → ReportBlock → Offered → List Kept → Report
+report_by c shapes part o ks = record {
   block = record { 0 = o.block };
   rpt_id = report_id part.block.options.rpt_id part.block.reference;
   opt_flds = part.block.options.opt_flds;
@@ -27,6 +28,6 @@ report_by c part o ks = record {
   ovfl = o.next.ovfl;
   id = o.next.id;
   conf_rev = part.block.revision;
-  total = length part.members.items;
-  members = map (member_of c (node_numbers part.members.items)) ks;
+  total = length shapes;
+  members = map (member_of c (node_numbers shapes)) ks;
 }

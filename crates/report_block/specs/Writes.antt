@@ -1,8 +1,9 @@
 -- What writes, reports and losses make of a block (IEC 61850-7-2, BRCB attributes).
-use Rattle.std.specs.Prelude.{ℕ, [], false, Some, Result, Ok, Err, if◌then◌else◌}
+use Rattle.std.specs.Prelude.{ℕ, [], Option, Some, is_some, Result, Ok, Err, if◌then◌else◌}
 use Rattle.sv_base.specs.declared.numbers.AssocNo.{AssocNo}
 use Rattle.sv_base.specs.declared.value.Value.{Value}
 use Rattle.bay_model.specs.declared.components.Comp.{Comp}
+use Rattle.bay_model.specs.declared.components.Comp.TheVariants as comps
 use Rattle.brcb_state.specs.Changes.{written, after_report, after_loss}
 use Rattle.brcb_state.specs.Refusals.{answer_to, names_nothing}
 use Rattle.brcb_state.specs.Standing.{is_purging, is_change}
@@ -23,9 +24,14 @@ abbrev pub without_effect : Result Effect ℕ → Result (Unit {0}) ℕ
 without_effect (Ok effect) = Ok tt
 without_effect (Err code) = Err code
 
--- what a write is answered, of a component other than DatSet
-abbrev pub write_answer : AssocNo → Comp → Value → ReportBlock → Result Effect ℕ
-write_answer a comp v part = answer_to a comp v (names_nothing (retained_of part) false comp v) part.block
+-- the number of the block's data set after an accepted write; named is that of the set which a written DatSet names
+abbrev pub set_after : Comp → Option ℕ → Option ℕ → Option ℕ
+set_after comps.DatSet named was = named
+set_after _ named was = was
+
+-- what a write is answered
+abbrev pub write_answer : AssocNo → Comp → Value → Option ℕ → ReportBlock → Result Effect ℕ
+write_answer a comp v named part = answer_to a comp v (names_nothing (retained_of part) (is_some named) comp v) part.block
 
 -- what comes of an accepted write of this effect
 abbrev pub coming_of : Effect → Coming
@@ -40,9 +46,9 @@ settled now step effect part = record part {
 }
 
 -- after an accepted write of this effect
-abbrev pub written_by : AssocNo → Comp → Value → ℕ → ℕ → Effect → ReportBlock → ReportBlock
-written_by a comp v now step effect part = settled now step effect (record part { block = written a comp v part.ring.front part.block })
+abbrev pub written_by : AssocNo → Comp → Value → Option ℕ → ℕ → ℕ → Effect → ReportBlock → ReportBlock
+written_by a comp v named now step effect part = settled now step effect (record part { block = written a comp v part.ring.front part.block; set = set_after comp named part.set })
 
-abbrev pub after_write : AssocNo → Comp → Value → ℕ → ℕ → ReportBlock → Result Effect ℕ → ReportBlock
-after_write a comp v now step part (Ok effect) = written_by a comp v now step effect part
-after_write a comp v now step part (Err code) = part
+abbrev pub after_write : AssocNo → Comp → Value → Option ℕ → ℕ → ℕ → ReportBlock → Result Effect ℕ → ReportBlock
+after_write a comp v named now step part (Ok effect) = written_by a comp v named now step effect part
+after_write a comp v named now step part (Err code) = part

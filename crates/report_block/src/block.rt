@@ -1,23 +1,37 @@
-//! One report block: its attributes, its buffer, what it has gathered, and the members of its data set.
+//! One report block: its attributes, its buffer, what it has gathered, and the number of its data set.
+
+ghost use Rattle.std.specs.Prelude.{◌≡◌};
+ghost use Rattle.report_block.specs.Writes.{set_after as set_number};
 
 use crate::entry_octets::put_note;
-use bay_model::{Comp, Fixed, MemberShape, Mention};
+use bay_model::{Comp, Fixed, Mention};
 use brcb_state::{Block, Effect, Kept};
 use entry_ring::Ring;
+use set_view::SetView;
 use std::alloc::{AllocError, Global};
 use sv_base::{AssocNo, BlockDef, Moment, Value};
 use value_store::Store;
 use window_core::Window;
 
-/// A report block: its attributes, its retained entries, the open group of its events, the members of its data set in their order,
-/// and the moment from which its integrity periods count, from the first point on.
+/// A report block: its attributes, its retained entries, the open group of its events, the number of its data set, where it has
+/// one, and the moment from which its integrity periods count, from the first point on.
 #[derive(Drop)]
 pub struct ReportBlock {
     pub(crate) block: Block,
     pub(crate) ring: Ring,
-    window: Window,
-    pub(crate) members: Vec<MemberShape>,
-    origin: Option<Moment>,
+    pub(crate) window: Window,
+    pub(crate) set: Option<usize>,
+    pub(crate) origin: Option<Moment>,
+}
+
+/// The number of the data set after an accepted write.
+fn set_after(comp: Comp, named: Option<usize>, was: Option<usize>) -> Option<usize>
+    ensures { result ≡ set_number comp named was }
+{
+    match comp {
+        Comp::DatSet => named,
+        _ => was,
+    }
 }
 
 impl ReportBlock {
@@ -35,37 +49,37 @@ impl ReportBlock {
     ghost use Rattle.report_block.specs.Events.{with_note};
     ghost use Rattle.report_block.specs.Writes.{without_effect, write_answer, after_write, settled, lost_by, reported_by};
 
-    /// A block as it is configured, with no entry and nothing gathered. It takes all the memory that it needs, its entries' and
-    /// that of a group of its members.
+    /// A block as it is configured, with the data set of this number, no entry and nothing gathered. It takes all the memory that it
+    /// needs, its entries' and that of a group of so many members, as many as any data set has.
     pub fn open(
         alloc: Global,
         def: &BlockDef,
-        members: Vec<MemberShape>,
+        set: Option<usize>,
+        most: u32,
     ) -> Result<ReportBlock, AllocError>
         requires opt_flds { length def.now.opt_flds ≡ 10 }
         requires trg_ops { length def.now.trg_ops ≡ 6 }
-        requires few { length members.items ≤ 256 }
+        requires few { most ≤ 256 }
         ensures block { IfOk result (λ p. p.block ≡ configured (block_defined def.now)) }
         ensures ring { IfOk result (λ p. p.ring ≡ empty def.now.capacity) }
-        ensures window { IfOk result (λ p. p.window ≡ empty_window (length members.items) def.now.buf_tm) }
+        ensures window { IfOk result (λ p. p.window ≡ empty_window most def.now.buf_tm) }
         ensures origin { IfOk result (λ p. p.origin ≡ None) }
-        ensures members { IfOk result (λ p. p.members.items ≡ members.items) }
+        ensures set { IfOk result (λ p. p.set ≡ set) }
     {
-        let window = Window::open(alloc, members.len() as u32, def.buf_tm)?;
         Ok(ReportBlock {
             block: Block::open(alloc, def)?,
             ring: Ring::open(alloc, def.capacity)?,
-            window,
-            members,
+            window: Window::open(alloc, most, def.buf_tm)?,
+            set,
             origin: None,
         })
     }
 
-    /// The members of its data set.
-    pub fn members(&self) -> &[MemberShape]
-        ensures { result.now ≡ self.now.members.items }
+    /// The number of its data set; none where it has none.
+    pub fn set(&self) -> Option<usize>
+        ensures { result ≡ self.now.set }
     {
-        self.members.as_slice()
+        self.set
     }
 
     /// Bits 1 to 5 of TrgOps.
@@ -85,47 +99,51 @@ impl ReportBlock {
         }
     }
 
-    /// Keeps the entry of an event's note at once, if there is a member in it, where BufTm is 0. Its octets come to stand in
-    /// `octets`. It takes no memory.
+    /// Keeps the entry of an event's note at once, if there is a member in it, where BufTm is 0. The members are those of this
+    /// data set. Its octets come to stand in `octets`. It takes no memory.
     pub fn keep_at_once(
         &mut self,
         store: &Store,
+        set: &SetView<'_>,
         now: Moment,
         step: u64,
         note: &[Mention],
         octets: &mut Fixed,
     )
-        requires members { All (IsKeepable store.now self.old.members.items) note.now }
+        requires members { All (IsKeepable store.now set.now) note.now }
         requires room { 504 * length note.now ≤ octets.old.room }
-        ensures part { self.new ≡ with_note store.now now step note.now self.old }
+        ensures part { self.new ≡ with_note store.now set.now now step note.now self.old }
         ensures room { octets.new.room ≡ octets.old.room }
     {
         if !note.is_empty() {
-            put_note(store, &self.members, note, octets);
+            put_note(store, set, note, octets);
             self.ring.append(now, step, octets.as_slice());
         }
     }
 
-    /// Writes a component other than DatSet and GI for an association, at the moment and the number of its step; gives the code of
-    /// the first refusal (IEC 61850-7-2, SetBRCBValues). A purge closes what is gathered, and empties the buffer. A refused write
-    /// changes nothing. What closes is put into `octets`. It takes no memory.
+    /// Writes a component other than GI for an association, at the moment and the number of its step; gives the code of the first
+    /// refusal (IEC 61850-7-2, SetBRCBValues). `named` is the number of the data set that a written DatSet names. A purge closes
+    /// what is gathered, and empties the buffer. A refused write changes nothing. What closes is put into `octets`. It takes no
+    /// memory.
     pub fn write(
         &mut self,
         a: AssocNo,
         comp: Comp,
         value: &Value,
+        named: Option<usize>,
         now: Moment,
         step: u64,
         octets: &mut Fixed,
     ) -> Result<(), u8>
         requires room { 504 * self.old.window.members ≤ octets.old.room }
-        ensures answer { result ≡ without_effect (write_answer a comp value.now self.old) }
-        ensures written { self.new ≡ after_write a comp value.now now step self.old (write_answer a comp value.now self.old) }
+        ensures answer { result ≡ without_effect (write_answer a comp value.now named self.old) }
+        ensures written { self.new ≡ after_write a comp value.now named now step self.old (write_answer a comp value.now named self.old) }
         ensures room { octets.new.room ≡ octets.old.room }
     {
         let retained = self.retained();
-        match self.block.write(a, comp, value, retained, false) {
+        match self.block.write(a, comp, value, retained, named.is_some()) {
             Ok(effect) => {
+                self.set = set_after(comp, named, self.set);
                 self.settle(effect, now, step, octets);
                 Ok(())
             }
@@ -134,7 +152,7 @@ impl ReportBlock {
     }
 
     /// Closes what is gathered, and keeps its entry.
-    fn close(&mut self, step: u64, octets: &mut Fixed)
+    pub(crate) fn close(&mut self, step: u64, octets: &mut Fixed)
         requires room { 504 * self.old.window.members ≤ octets.old.room }
         ensures closed { self.new ≡ record self.old { window = closed self.old.window; ring = after_bodies self.old.ring (body_of step self.old.window.gathered) } }
         ensures room { octets.new.room ≡ octets.old.room }
@@ -145,7 +163,7 @@ impl ReportBlock {
     }
 
     /// What an accepted write makes of the rest.
-    fn settle(&mut self, effect: Effect, now: Moment, step: u64, octets: &mut Fixed)
+    pub(crate) fn settle(&mut self, effect: Effect, now: Moment, step: u64, octets: &mut Fixed)
         requires room { 504 * self.old.window.members ≤ octets.old.room }
         ensures settled { self.new ≡ settled now step effect self.old }
         ensures room { octets.new.room ≡ octets.old.room }

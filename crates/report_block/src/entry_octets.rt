@@ -7,6 +7,7 @@ ghost use Rattle.value_store.specs.Written.{adds};
 ghost use Rattle.report_block.specs.EntryOctets.{kept_with, note_octets, weights, IsWritable, IsKeepable};
 
 use bay_model::{Fixed, MemberShape, Mention, Reasons};
+use set_view::SetView;
 use value_store::Store;
 
 /// The weight of a reason that is one of a member's, else 0.
@@ -40,14 +41,14 @@ fn put_mention(store: &Store, shape: &MemberShape, mention: Mention, octets: &mu
 
 /// The octets that a block keeps of a note, in place of what stood there: of each member its number, its reasons and its
 /// MMS Data in the store. It takes no memory.
-pub(crate) fn put_note(store: &Store, shapes: &[MemberShape], note: &[Mention], octets: &mut Fixed)
-    requires members { All (IsKeepable store.now shapes.now) note.now }
+pub(crate) fn put_note(store: &Store, set: &SetView<'_>, note: &[Mention], octets: &mut Fixed)
+    requires members { All (IsKeepable store.now set.now) note.now }
     requires room { 504 * length note.now ≤ octets.old.room }
-    ensures { octets.new ≡ record { items = note_octets store.now shapes.now note.now; room = octets.old.room } }
+    ensures { octets.new ≡ record { items = note_octets store.now set.now note.now; room = octets.old.room } }
 {
     octets.clear();
     for mention in note {
-        let shape = &shapes[mention.member.0 as usize - 1];
+        let shape = set.member(mention.member.0 as usize - 1);
         put_mention(store, shape, *mention, octets);
     }
 }

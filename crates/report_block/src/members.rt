@@ -6,14 +6,15 @@ ghost use Rattle.bay_model.specs.Named.{configured_model, nodes as nodes_of};
 ghost use Rattle.bay_model.specs.Notes.{Kept};
 ghost use Rattle.bay_model.specs.Reports.{member_of, reference_at};
 ghost use Rattle.bay_model.specs.Retained.{kept_octets_of};
-ghost use Rattle.data_sets.specs.Booked.{node_numbers};
+ghost use Rattle.set_view.specs.Shapes.{node_numbers};
 ghost use Rattle.report_block.specs.EntryOctets.{weights as weights_of};
 ghost use Rattle.report_block.specs.Again.{IsOneElement, AreKept, AreNodes, reasons_in, reference_by, reported, front_member, front_seen};
 
 use crate::spare::{copied_into, put_member, spare_member};
-use bay_model::{Member, MemberShape, Members, Reasons};
+use bay_model::{Member, Members, Reasons};
 use ber_view::first;
 use object_model::Model;
+use set_view::SetView;
 use std::alloc::{AllocError, Global};
 use sv_base::{MemberNo, NodeId, Octs};
 
@@ -101,13 +102,13 @@ fn reference_of(spare: Octs, model: &Model, node: NodeId) -> Result<Octs, AllocE
 fn member_reference(
     spare: Octs,
     model: &Model,
-    shapes: &[MemberShape],
+    set: &SetView<'_>,
     number: u32,
 ) -> Result<Octs, AllocError>
-    requires { AreNodes model.now shapes.now }
-    ensures { IfOk result (λ o. o ≡ reference_by (configured_model model.now) (node_numbers shapes.now) number) }
+    requires { AreNodes model.now set.now }
+    ensures { IfOk result (λ o. o ≡ reference_by (configured_model model.now) (node_numbers set.now) number) }
 {
-    match shapes.get((number as usize).saturating_sub(1)) {
+    match set.get((number as usize).saturating_sub(1)) {
         Some(shape) => reference_of(spare, model, shape.node),
         None => Ok(Octs::from_vec(copied_into(spare.into_vec(), b"")?)),
     }
@@ -117,45 +118,41 @@ fn member_reference(
 fn member_from(
     spare: Member,
     model: &Model,
-    shapes: &[MemberShape],
+    set: &SetView<'_>,
     front: &Front<'_>,
 ) -> Result<Member, AllocError>
-    requires { AreNodes model.now shapes.now }
-    ensures { IfOk result (λ m. m ≡ member_of (configured_model model.now) (node_numbers shapes.now) (front_member front.now)) }
+    requires { AreNodes model.now set.now }
+    ensures { IfOk result (λ m. m ≡ member_of (configured_model model.now) (node_numbers set.now) (front_member front.now)) }
 {
     Ok(Member {
         number: MemberNo(front.number),
-        reference: member_reference(spare.reference, model, shapes, front.number)?,
+        reference: member_reference(spare.reference, model, set, front.number)?,
         octets: Octs::from_vec(copied_into(spare.octets.into_vec(), front.octets)?),
         reasons: front.reasons,
     })
 }
 
-/// The members of a report, in the memory of those of another, from the octets that a block keeps of an entry of a data set of
-/// these shapes, whose nodes are the model's. Of octets that are not kept ones nothing is said.
+/// The members of a report, in the memory of those of another, from the octets that a block keeps of an entry of a data set whose
+/// nodes are the model's. Of octets that are not kept ones nothing is said.
 pub(crate) fn members_of(
     alloc: Global,
     model: &Model,
-    shapes: &[MemberShape],
+    set: &SetView<'_>,
     octets: &[u8],
     spare: Members,
 ) -> Result<Members, AllocError>
-    requires { AreNodes model.now shapes.now }
-    ensures { IfOk result (λ members. (ks : List Kept) → AreKept octets.now ks → members ≡ reported model.now shapes.now ks) }
+    requires { AreNodes model.now set.now }
+    ensures { IfOk result (λ members. (ks : List Kept) → AreKept octets.now ks → members ≡ reported model.now set.now ks) }
 {
     let mut items = spare.into_vec();
     // A member has at least six of the octets.
-    let most = shapes.len().min(octets.len() / 6);
+    let most = set.len().min(octets.len() / 6);
     items.reserve(most.saturating_sub(items.len()))?;
     let mut rest = octets;
     let mut count = 0;
     while let Some(front) = front_of(rest) {
         let spare = spare_member(alloc, &mut items, count);
-        put_member(
-            &mut items,
-            count,
-            member_from(spare, model, shapes, &front)?,
-        )?;
+        put_member(&mut items, count, member_from(spare, model, set, &front)?)?;
         rest = front.rest;
         count += 1;
     }

@@ -11,10 +11,11 @@ ghost use Rattle.report_block.specs.Reporting.{offered, report_by};
 use crate::block::ReportBlock;
 use crate::members::members_of;
 use crate::spare::copied_into;
-use bay_model::{MemberShape, Members, Report};
+use bay_model::{Members, Report};
 use brcb_state::Next;
 use entry_ring::Entry;
 use object_model::Model;
+use set_view::SetView;
 use std::alloc::{AllocError, Global};
 use sv_base::{AssocNo, Bits, BlockNo, Octs};
 
@@ -77,39 +78,40 @@ fn whole_of(alloc: Global, entry: &Entry<'_>) -> Result<Vec<u8>, AllocError>
     Ok(octets)
 }
 
-/// The members of the report of an entry, of a data set of these shapes, in the memory of those of another. Octets that lie in
+/// The members of the report of an entry of a data set, in the memory of those of another. Octets that lie in
 /// one row are read where they are.
 fn members_in(
     alloc: Global,
     model: &Model,
-    shapes: &[MemberShape],
+    set: &SetView<'_>,
     entry: &Entry<'_>,
     spare: Members,
 ) -> Result<Members, AllocError>
-    requires { AreNodes model.now shapes.now }
-    ensures { IfOk result (λ members. (ks : List Kept) → AreKept (entry.now.first.now ++ entry.now.second.now) ks → members ≡ reported model.now shapes.now ks) }
+    requires { AreNodes model.now set.now }
+    ensures { IfOk result (λ members. (ks : List Kept) → AreKept (entry.now.first.now ++ entry.now.second.now) ks → members ≡ reported model.now set.now ks) }
 {
     if entry.second.is_empty() {
-        return members_of(alloc, model, shapes, entry.first, spare);
+        return members_of(alloc, model, set, entry.first, spare);
     }
     let octets = whole_of(alloc, entry)?;
-    members_of(alloc, model, shapes, &octets, spare)
+    members_of(alloc, model, set, &octets, spare)
 }
 
-/// The report of an offer by its block, whose data set has nodes of the model, in the memory of another report.
+/// The report of an offer by its block and its data set, whose nodes are the model's, in the memory of another report.
 pub fn report_of(
     alloc: Global,
     model: &Model,
     part: &ReportBlock,
+    set: &SetView<'_>,
     offer: &Offer<'_>,
     spare: Report,
 ) -> Result<Report, AllocError>
     requires block { offer.now.block ≤ 4294967295 }
-    requires few { length part.now.members.items ≤ 4294967295 }
-    requires nodes { AreNodes model.now part.now.members.items }
-    ensures { IfOk result (λ r. (ks : List Kept) → AreKept (offered offer.now).entry.kept ks → r ≡ report_by (configured_model model.now) part.now (offered offer.now) ks) }
+    requires few { length set.now ≤ 4294967295 }
+    requires nodes { AreNodes model.now set.now }
+    ensures { IfOk result (λ r. (ks : List Kept) → AreKept (offered offer.now).entry.kept ks → r ≡ report_by (configured_model model.now) set.now part.now (offered offer.now) ks) }
 {
-    let members = members_in(alloc, model, &part.members, &offer.entry, spare.members)?;
+    let members = members_in(alloc, model, set, &offer.entry, spare.members)?;
     Ok(Report {
         block: BlockNo(offer.block as u32),
         rpt_id: Octs::from_vec(copied_into(spare.rpt_id.into_vec(), part.block.report_id())?),
@@ -120,7 +122,7 @@ pub fn report_of(
         ovfl: offer.next.ovfl,
         id: offer.next.id,
         conf_rev: part.block.conf_rev(),
-        total: part.members.len() as u32,
+        total: set.len() as u32,
         members,
     })
 }

@@ -8,7 +8,7 @@ use Rattle.report_block.proofs.members.members_of.Given as goal
 abbrev pub invariant-loop-front : goal.invariant-loop-front
 invariant-loop-front l = record {
   within : l.count ≤ length l.items.items;
-  read : (ks : List Kept) → AreKept l.fn.octets ks → Halfway l.fn.model l.fn.shapes ks (take l.count l.items.items) l.rest;
+  read : (ks : List Kept) → AreKept l.fn.octets ks → Halfway l.fn.model l.fn.set ks (take l.count l.items.items) l.rest;
 }
 
 abbrev pub decreases-loop-front : goal.decreases-loop-front
