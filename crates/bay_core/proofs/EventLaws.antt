@@ -14,7 +14,7 @@ use Rattle.bay_model.specs.Named.{configured_model}
 use Rattle.bay_model.specs.Notes.{Kept, is_any, noted}
 use Rattle.bay_model.specs.Points.{Past}
 use Rattle.bay_model.specs.Values.{whole}
-use Rattle.data_sets.specs.Booked.{shape_of}
+use Rattle.set_view.specs.Shapes.{no_shape, shape_of}
 use Rattle.object_model.specs.Nodes.{node_rows}
 use Rattle.object_model.specs.Tables.{node_id}
 use Rattle.trigger_core.specs.Points.{mention}
@@ -22,7 +22,7 @@ use Rattle.value_store.specs.Members.{member_octets}
 use Rattle.value_store.specs.Stored.{Stored}
 use Rattle.value_store.specs.Wholes.{Stands as ValuesStand, HasForm}
 use Rattle.value_store.proofs.WholeLaws.{member_is_whole}
-use Rattle.report_block.specs.EntryOctets.{no_shape, kept_of, IsWritable}
+use Rattle.report_block.specs.EntryOctets.{kept_of, IsWritable}
 use Rattle.bay_config.specs.Servable.{IsServable, IsMember}
 use Rattle.window_core.specs.Pieces.{Piece}
 use Rattle.window_core.specs.Standing.{piece_of}

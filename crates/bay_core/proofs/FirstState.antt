@@ -6,10 +6,14 @@ use Rattle.std.proofs.lemmas.List.Elements.{All-head, All-tail}
 use Rattle.std.proofs.lemmas.Option.{slice_get-get_or}
 use Rattle.sv_base.specs.declared.numbers.AttrId.{AttrId}
 use Rattle.bay_model.specs.Attributes.{attributes}
-use Rattle.bay_model.specs.Sets.{members}
+use Rattle.object_model.specs.Nodes.{node_rows}
+use Rattle.object_model.specs.Tables.{set_rows}
+use Rattle.data_sets.specs.Books.{Book, number_referred, opened as booked}
 use Rattle.bay_config.specs.Servable.{IsMember}
 use Rattle.touch_index.specs.Indexed.{AreAmong}
-use Rattle.bay_core.proofs.ShapeLaws.{node_shape, node_shapes, member-shape, served-set}
+use Rattle.bay_core.proofs.BookLaws.{part-lent, part-members}
+use Rattle.bay_core.proofs.ServedLaws.{served-few}
+use Rattle.bay_core.proofs.ShapeLaws.{node_shape, node_shapes, nodes_named, member-shape, served-set}
 use Rattle.sv_base.specs.declared.config.Config.{Config}
 use Rattle.bay_model.specs.Named.{configured_model}
 use Rattle.bay_model.specs.Points.{now}
@@ -23,26 +27,29 @@ use Rattle.value_store.specs.Wholes.{Stands as ValuesStand}
 use Rattle.value_store.proofs.OpenedLaws.{opened_stands}
 use Rattle.report_block.specs.declared.block.ReportBlock.{ReportBlock}
 use Rattle.bay_core.specs.declared.watch.Watch.{Watch}
-use Rattle.bay_core.specs.Watched.{IsWatching, IsWatchable}
+use Rattle.bay_core.specs.Watched.{IsWatching, IsWatchable, members_in}
 use Rattle.bay_core.specs.Opened.{seen, part_defined}
 use Rattle.bay_config.specs.Servable.{IsServable}
 use Rattle.bay_core.specs.Standing.{StandsFor}
 use Rattle.bay_core.specs.State.{State, IsFurnished, AreHeld}
 use Rattle.bay_core.proofs.FirstValues.{opened-held}
-use Rattle.bay_core.proofs.OpenLaws.{parts-members, parts-windows, parts-stand}
+use Rattle.bay_core.proofs.OpenLaws.{parts-sets, parts-windows, parts-stand}
 
-pub furnished-first : (c : Config) (stored : List Stored) (parts : List ReportBlock) (w : Watch) (octets : Filled ℕ) (room : ℕ) → IsServable c → stored ≡ opened c
-    → map seen parts ≡ map (part_defined c) c.blocks → IsWatching (length stored) parts w → octets.room ≡ 129024 → length stored ≤ room → IsFurnished c stored parts w octets room
-furnished-first c stored parts w octets room served values are watch kept enough = record {
-  servable = served;
-  values = subst (AreHeld c) (sym values) (opened-held c served);
-  count = sym (length-map parts seen) ∙ (ap length are ∙ length-map c.blocks (part_defined c));
-  members = parts-members c parts are;
-  windows = parts-windows c served parts are;
-  watch = watch;
-  entry = kept;
-  changes = enough;
-}
+pub furnished-first : (c : Config) (stored : List Stored) (book : Book) (parts : List ReportBlock) (w : Watch) (octets : Filled ℕ) (room : ℕ) → IsServable c → stored ≡ opened c → book ≡ booked (set_rows c)
+    → map seen parts ≡ map (part_defined (booked (set_rows c))) c.blocks → IsWatching (node_rows c) book (length stored) parts w → octets.room ≡ 129024 → length stored ≤ room → IsFurnished c stored book parts w octets room
+furnished-first c stored book parts w octets room served values is are watch kept enough =
+    let own = are ∙ ap (λ b. map (part_defined b) c.blocks) (sym is) in
+    record {
+      servable = served;
+      values = subst (AreHeld c) (sym values) (opened-held c served);
+      count = sym (length-map parts seen) ∙ (ap length are ∙ length-map c.blocks (part_defined (booked (set_rows c))));
+      booked = is;
+      sets = parts-sets c book parts own;
+      windows = parts-windows c book parts own;
+      watch = watch;
+      entry = kept;
+      changes = enough;
+    }
 
 -- each attribute of a member is one of the configuration
 among-shapes : (c : Config) (ns : List ℕ) → All (IsMember c) ns → AreAmong (length (attributes c)) (node_shapes c ns)
@@ -55,24 +62,28 @@ among-shapes c (n ∷ ns) are =
       among-shapes c ns (All-tail (IsMember c) n ns are),
     )
 
-few-shapes : (c : Config) (ns : List ℕ) → length (node_shapes c ns) ≡ length ns
-few-shapes c [] = refl
-few-shapes c (n ∷ ns) = ap suc (few-shapes c ns)
-
--- the index can hold the data set of each part
-pub watchable-first : (c : Config) (n : ℕ) (parts : List ReportBlock) → IsServable c → map seen parts ≡ map (part_defined c) c.blocks → n ≡ length (attributes c) → All (IsWatchable n) parts
-watchable-first c n parts served are count = λ b d below.
-    let part = get_or parts b d in
-    let has = parts-members c parts are b part (slice_get-get_or parts b d below) in
-    let ns = members (configured_model c) b [] in
-    let set = served-set c b served in
+-- the index can hold the data set of a part that has the number of the data set which its DatSet names
+pub watchable : (c : Config) (n : ℕ) (book : Book) (part : ReportBlock) → IsServable c → book ≡ booked (set_rows c) → part.set ≡ number_referred part.block.options.dat_set book → n ≡ length (attributes c)
+    → IsWatchable (node_rows c) book n part
+watchable c n book part served is has count =
+    let members = part-members c served book part is has in
+    let reference = part.block.options.dat_set in
     record {
-      few = omega (arith, set.few, few-shapes c ns, ap length has);
-      among = subst (λ k. AreAmong k part.members.items) (sym count) (subst (AreAmong (length (attributes c))) (sym has) (among-shapes c ns set.members));
+      lent = part-lent c served book part is has;
+      few = omega (arith, served-few c served reference, ap length members);
+      among = subst (λ k. AreAmong k (members_in (node_rows c) book part)) (sym count)
+          (subst (AreAmong (length (attributes c))) (sym members) (among-shapes c (nodes_named (configured_model c).sets reference) (served-set c reference served).members));
     }
 
+-- and that of each part
+pub watchable-first : (c : Config) (n : ℕ) (book : Book) (parts : List ReportBlock) → IsServable c → book ≡ booked (set_rows c) → map seen parts ≡ map (part_defined book) c.blocks → n ≡ length (attributes c)
+    → All (IsWatchable (node_rows c) book n) parts
+watchable-first c n book parts served is are count = λ b d below.
+    let part = get_or parts b d in
+    watchable c n book part served is (parts-sets c book parts are b part (slice_get-get_or parts b d below)) count
+
 pub stands-first : (s : State) (c : Config) → IsServable c → s.config ≡ c → s.steps ≡ 0 → s.latest ≡ now [] → s.stored ≡ opened c
-    → map seen s.parts ≡ map (part_defined c) c.blocks → s.rows ≡ replicate 16 closed → StandsFor s c []
+    → map seen s.parts ≡ map (part_defined (booked (set_rows c))) c.blocks → s.rows ≡ replicate 16 closed → StandsFor s c []
 stands-first s c served config steps latest values are rows = (
   tt,
   record {
@@ -83,6 +94,6 @@ stands-first s c served config steps latest values are rows = (
     associations = subst (λ all. AssociationsStand all (configured_model c) []) (sym rows) (stands-empty (configured_model c));
     empty = λ a. refl;
     sets = refl;
-    blocks = parts-stand c served s.parts are;
+    blocks = parts-stand c (booked (set_rows c)) served s.parts are;
   },
 )

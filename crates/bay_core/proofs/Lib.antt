@@ -8,17 +8,18 @@ pub mod EndLaws
 pub mod MentionLaws
 pub mod WatchLaws
 pub mod FurnishLaws
--- writes
-pub mod WriteLaws
 -- settings: the values, the notes of the blocks, and the entries
 pub mod SettingSteps
 pub mod MarkLaws
 pub mod ChangeLaws
 pub mod ShapeLaws
 pub mod ServedLaws
+pub mod BookLaws
 pub mod WritableLaws
 pub mod EventLaws
 pub mod SettingLaws
+-- writes
+pub mod WriteLaws
 -- reports
 pub mod TakeLaws
 pub mod TakenLaws
@@ -26,6 +27,8 @@ pub mod TakenLaws
 pub mod FirstValues
 pub mod FirstState
 pub mod OpenLaws
+-- the parts after a write
+pub mod WrittenLaws
 -- threads
 pub mod SendLaws
 pub mod SyncLaws

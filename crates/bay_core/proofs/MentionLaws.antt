@@ -7,9 +7,10 @@ use Rattle.bay_model.specs.declared.flags.Trg.{Trg}
 use Rattle.bay_model.specs.declared.note.Mention.{Mention}
 use Rattle.bay_model.specs.declared.tables.MemberShape.{MemberShape}
 use Rattle.bay_model.specs.Notes.{is_any}
+use Rattle.set_view.specs.Shapes.{no_shape}
 use Rattle.trigger_core.specs.Noted.{reasons_in, noted}
 use Rattle.value_store.specs.Stored.{Stored}
-use Rattle.report_block.specs.EntryOctets.{no_shape, IsWritable, IsKeepable}
+use Rattle.report_block.specs.EntryOctets.{IsWritable, IsKeepable}
 
 -- numbered from i on, so many
 abbrev IsNumbered : ℕ → ℕ → Mention → Type 0

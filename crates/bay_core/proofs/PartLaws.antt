@@ -40,7 +40,7 @@ at_once-served c b served = get-or HasNoTimes (configured_model c).blocks b (rec
 pub parts-arrive : (m : Model) (n t : ℕ) (past : Past) (parts : List ReportBlock) → PartsStand m past parts → PartsStand m (arrival n t ∷ past) parts
 parts-arrive m n t past parts st = λ b part there.
     let s = st b part there in
-    record { stands = arrives-at-once m b t n past part s.stands s.at_once.buf_tm s.at_once.intg_pd; at_once = s.at_once; dat_set = s.dat_set }
+    record { stands = arrives-at-once m b t n past part s.stands s.at_once.buf_tm s.at_once.intg_pd; at_once = s.at_once }
 
 -- a deed that is no event of any block, breaks none, and changes no parameter
 pub record IsApart (m : Model) (n t : ℕ) (d : Deed) (past : Past) : Type 0 where
@@ -57,4 +57,4 @@ pub parts-left : (m : Model) (n t : ℕ) (d : Deed) (past : Past) (parts new : L
 parts-left m n t d past parts new apart left st = λ b q there.
     let was = left b q there in
     let s = st b was.0 was.1 in
-    subst (λ x. PartStands m b (at n t d ∷ past) x) was.2 (record { stands = left-alone m b t n past was.0 d (apart.note b) (apart.cuts b) s.stands; at_once = subst AreAtOnce (sym (apart.parameters b)) s.at_once; dat_set = ap (λ (o : Parameters). o.dat_set) (apart.parameters b) ∙ s.dat_set })
+    subst (λ x. PartStands m b (at n t d ∷ past) x) was.2 (record { stands = left-alone m b t n past was.0 d (apart.note b) (apart.cuts b) s.stands; at_once = subst AreAtOnce (sym (apart.parameters b)) s.at_once })

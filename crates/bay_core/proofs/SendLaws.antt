@@ -27,8 +27,9 @@ use Rattle.bay_model.specs.contracts.step.Step as Step
 use Rattle.bay_model.specs.contracts.control.Act as Act
 use Rattle.bay_model.specs.contracts.control.Acts as Acts
 use Rattle.bay_model.specs.contracts.answer.Answer as Answer
-use Rattle.object_model.proofs.SendLaws.{model_send, shape_send}
+use Rattle.object_model.proofs.SendLaws.{model_send}
 use Rattle.assoc_table.proofs.SendLaws.{associations_send, output_field_send, value_field_send}
+use Rattle.data_sets.proofs.book.SetBook.TheSendSync as book
 use Rattle.entry_ring.proofs.ring.Ring.TheSendSync as ring
 use Rattle.brcb_state.proofs.block.Block.TheSendSync as block
 use Rattle.value_store.proofs.store.Store.TheSendSync as store
@@ -41,10 +42,10 @@ values_send : IsSend HeldValues.the_row
 values_send = search (store.the_send, crosses, sendable) depth 60
 
 part_send : IsSend ReportBlock.the_row
-part_send = search (shape_send, ring.the_send, block.the_field_send, window.the_send, moment.the_send, crosses, sendable) depth 60
+part_send = search (ring.the_send, block.the_field_send, window.the_send, moment.the_send, crosses, sendable) depth 60
 
 pub bay_send : IsSend Bay.the_row
-bay_send = search (model_send, moment.the_send, values_send, part_send, associations_send, fixed.the_send, report.the_send, crosses, sendable) depth 60 fits 20000
+bay_send = search (model_send, moment.the_send, values_send, book.the_send, part_send, associations_send, fixed.the_send, report.the_send, crosses, sendable) depth 60 fits 20000
 
 -- a step
 data_values_send : IsSend DataValues.the_row

@@ -1,28 +1,28 @@
 -- The members of a block's data set, where it has the configured ones: each is a node of the configuration, with its row.
-use Rattle.std.proofs.Common.{◌≡◌, ◌<◌, ◌≤◌, ℕ, suc, Bool, true, false, cond, List, [], ◌∷◌, ◌++◌, length, map, slice_index_or, Option, Some, None, unwrap_or, refl, ap₂, ◌∙◌, subst, arith}
+use Rattle.std.proofs.Common.{◌≡◌, ◌<◌, ◌≤◌, ℕ, suc, Bool, true, false, cond, List, [], ◌∷◌, ◌++◌, length, map, slice_index_or, Option, Some, None, unwrap_or, refl, ap, ap₂, sym, ◌∙◌, subst, arith, append-nil}
 use Rattle.std.specs.Prelude.{min, nat_le}
 use Rattle.std.specs.List.{All, find}
 use Rattle.std.specs.Option.{option_map}
 use Rattle.std.proofs.lemmas.Bool.{and_parts, leb-true}
-use Rattle.std.proofs.lemmas.List.Elements.{All-nil, All-cons, All-head, All-tail, All-append, All-get_or}
+use Rattle.std.proofs.lemmas.List.Elements.{All-nil, All-cons, All-head, All-tail, All-get_or}
 use Rattle.std.proofs.lemmas.Option.{slice_get-get_or}
 use Rattle.sv_base.specs.declared.config.Config.{Config}
 use Rattle.sv_base.specs.declared.numbers.AttrId.{AttrId}
 use Rattle.bay_model.specs.declared.tables.MemberShape.{MemberShape}
 use Rattle.bay_model.specs.declared.tables.NodeRow.{NodeRow}
 use Rattle.bay_model.specs.Model.{Model, DataSet}
-use Rattle.bay_model.specs.Lookups.{node_of, block_of}
+use Rattle.bay_model.specs.Lookups.{node_of}
 use Rattle.bay_model.specs.Named.{configured_model}
 use Rattle.bay_model.specs.Parameters.{parameters_at}
 use Rattle.bay_model.specs.Places.{largest}
 use Rattle.bay_model.specs.Points.{Past}
-use Rattle.bay_model.specs.Sets.{members, dynamic, sets, set_referred}
+use Rattle.bay_model.specs.Sets.{members, dynamic, set_referred}
 use Rattle.object_model.specs.declared.growth.Spot.{Spot}
 use Rattle.object_model.specs.Nodes.{node_rows, rows_from}
 use Rattle.object_model.specs.Rows.{IsRowOf}
 use Rattle.object_model.specs.Tables.{node_type, node_id}
 use Rattle.object_model.proofs.TableLaws.{count-rows, rows-are-nodes}
-use Rattle.data_sets.specs.Booked.{no_row, shape_of, shapes_of}
+use Rattle.set_view.specs.Shapes.{no_row, shape_of, shapes_of}
 use Rattle.trigger_core.specs.Points.{AreShapes}
 use Rattle.bay_config.specs.Servable.{IsServable, IsServedSet, IsMember}
 
@@ -49,15 +49,18 @@ served-of : (c : Config) (o : Option DataSet) → ((s : DataSet) → o ≡ Some 
 served-of c None is = record { few = omega arith; members = All-nil (IsMember c) }
 served-of c (Some s) is = let t = is s refl in record { few = t.few; members = t.members }
 
-pub served-set : (c : Config) (b : ℕ) → IsServable c → AreServed c (members (configured_model c) b [])
-served-set c b served =
-    let m = configured_model c in
-    let reference = (parameters_at m b []).dat_set in
-    served-of c (set_referred reference (sets m [])) (λ s is. found (IsServedSet c) _ (m.sets ++ []) (All-append (IsServedSet c) m.sets [] served.sets (All-nil (IsServedSet c))) s is)
+-- the nodes of the data set that a reference names
+abbrev pub nodes_named : List DataSet → List ℕ → List ℕ
+nodes_named sets reference = unwrap_or (option_map (λ (s : DataSet). s.nodes) (set_referred reference sets)) []
 
--- where the block has its configured DatSet, and no set was defined
-pub members-same : (m : Model) (b : ℕ) (past : Past) → (parameters_at m b past).dat_set ≡ (block_of m b).initial.dat_set → dynamic past ≡ [] → members m b past ≡ members m b []
-members-same m b past dat_set none = ap₂ (λ (name : List ℕ) (ds : List DataSet). unwrap_or (option_map (λ (s : DataSet). s.nodes) (set_referred name (m.sets ++ ds))) []) dat_set none
+pub served-set : (c : Config) (reference : List ℕ) → IsServable c → AreServed c (nodes_named (configured_model c).sets reference)
+served-set c reference served =
+    let all = (configured_model c).sets in
+    served-of c (set_referred reference all) (λ s is. found (IsServedSet c) _ all served.sets s is)
+
+-- the members of a block whose DatSet is this reference, where no set was defined
+pub members-named : (m : Model) (b : ℕ) (past : Past) (reference : List ℕ) → reference ≡ (parameters_at m b past).dat_set → dynamic past ≡ [] → members m b past ≡ nodes_named m.sets reference
+members-named m b past reference is none = ap₂ (λ (r : List ℕ) (ds : List DataSet). nodes_named (m.sets ++ ds) r) (sym is) none ∙ ap (λ all. nodes_named all reference) (append-nil m.sets)
 
 -- ---- their shapes
 
@@ -90,6 +93,10 @@ member-shape c n member =
     let below : n < length (node_rows c) = omega (arith, member.there, count-rows c) in
     let r = slice_index_or (node_rows c) n no_row in
     row-shape c n r (rows-are-nodes c n r (slice_get-get_or (node_rows c) n no_row below)) (All-get_or IsSized (node_rows c) n no_row below (rows-sized 0 _)) member.allowed
+
+-- the shapes of the members of the data set that a reference names
+abbrev pub served_members : Config → List ℕ → List MemberShape
+served_members c reference = node_shapes c (nodes_named (configured_model c).sets reference)
 
 pub are-shapes : (c : Config) (ns : List ℕ) → All (IsMember c) ns → AreShapes (configured_model c) ns (node_shapes c ns)
 are-shapes c [] are = tt

@@ -5,6 +5,7 @@ use Rattle.std.specs.Option.{option_map}
 use Rattle.sv_base.specs.declared.numbers.AssocNo.{AssocNo}
 use Rattle.bay_model.specs.declared.answer.Answer.TheVariants as answers
 use Rattle.bay_model.specs.declared.report.Report.{Report}
+use Rattle.bay_model.specs.declared.tables.MemberShape.{MemberShape}
 use Rattle.bay_model.specs.Model.{Model}
 use Rattle.bay_model.specs.Points.{Past, nothing}
 use Rattle.bay_model.specs.Sets.{members}
@@ -14,7 +15,7 @@ use Rattle.bay_model.specs.Waiting.{waiting}
 use Rattle.bay_model.specs.Reports.{first_offer}
 use Rattle.bay_model.specs.Singles.{arrival}
 use Rattle.bay_model.specs.Takes.{taken}
-use Rattle.data_sets.specs.Booked.{node_numbers}
+use Rattle.set_view.specs.Shapes.{node_numbers}
 use Rattle.report_block.specs.declared.block.ReportBlock.{ReportBlock}
 use Rattle.report_block.specs.Again.{AreKept}
 use Rattle.report_block.specs.Offers.{Offered, first_offered, chosen, chosen_of}
@@ -37,11 +38,11 @@ module _ (m : Model) (a : AssocNo) (n moment : ℕ) (past : Past) (parts : List 
   pub none : (e : Ends) → first_offered a 0 parts ≡ None → ends a.0 past ≡ Some e → waiting m a.0 past ≡ [] → taken m a.0 after ≡ record { answer = answers.Empty; deed = nothing }
   none e is opened empty = rw (opened, empty) (told-nothing m after a.0 (first_offer m a.0 after 0 m.blocks) (first_offered a 0 parts) first-told is)
 
-  pub given : (e : Ends) (o : Offered) (part : ReportBlock) (r : Report) → first_offered a 0 parts ≡ Some o → ends a.0 past ≡ Some e → waiting m a.0 past ≡ [] → slice_get parts o.block ≡ Some part
-      → node_numbers part.members.items ≡ members m o.block past
-      → ((ks : List Kept) → AreKept o.entry.kept ks → r ≡ report_by m part o ks) → taken m a.0 after ≡ given_of a.0 o.block o.next.id r
-  given e o part r is opened empty there nodes is_report =
-      rw (opened, empty) (told-given m after a o part r (stand o.block part there).stands nodes is_report (first_offer m a.0 after 0 m.blocks) (first_offered a 0 parts) first-told is)
+  pub given : (e : Ends) (o : Offered) (shapes : List MemberShape) (part : ReportBlock) (r : Report) → first_offered a 0 parts ≡ Some o → ends a.0 past ≡ Some e → waiting m a.0 past ≡ [] → slice_get parts o.block ≡ Some part
+      → node_numbers shapes ≡ members m o.block past
+      → ((ks : List Kept) → AreKept o.entry.kept ks → r ≡ report_by m shapes part o ks) → taken m a.0 after ≡ given_of a.0 o.block o.next.id r
+  given e o shapes part r is opened empty there nodes is_report =
+      rw (opened, empty) (told-given m after a o shapes part r (stand o.block part there).stands nodes is_report (first_offer m a.0 after 0 m.blocks) (first_offered a 0 parts) first-told is)
 
 -- an association that isn't open
 pub closed : (m : Model) (a : AssocNo) (n moment : ℕ) (past : Past) → ends a.0 past ≡ None → taken m a.0 (arrival n moment ∷ past) ≡ record { answer = answers.Closed; deed = nothing }

@@ -12,13 +12,14 @@ use Rattle.bay_model.specs.declared.answer.Answer.{Answer}
 use Rattle.bay_model.specs.declared.answer.Answer.TheVariants as answers
 use Rattle.bay_model.specs.declared.answer.Output.TheVariants as outputs
 use Rattle.bay_model.specs.declared.report.Report.{Report}
+use Rattle.bay_model.specs.declared.tables.MemberShape.{MemberShape}
 use Rattle.bay_model.specs.declared.step.Step.TheVariants as steps
 use Rattle.bay_model.specs.Acceptance.{fault}
 use Rattle.bay_model.specs.Answers.{Turn, History, answer, points}
 use Rattle.bay_model.specs.Associations as model
 use Rattle.bay_model.specs.Associations.{ends}
 use Rattle.bay_model.specs.Configured.{block_defined}
-use Rattle.bay_model.specs.Model.{Model}
+use Rattle.bay_model.specs.Model.{Model, Parameters}
 use Rattle.bay_model.specs.Named.{configured_model}
 use Rattle.bay_model.specs.Notes.{Kept}
 use Rattle.bay_model.specs.Points.{Past, reported, nothing}
@@ -37,10 +38,11 @@ use Rattle.brcb_state.specs.Changes.{after_report}
 use Rattle.report_block.specs.Reporting.{report_by}
 use Rattle.bay_config.specs.Servable.{IsServable}
 use Rattle.bay_core.specs.Standing.{StandsAt, StandsFor}
-use Rattle.bay_core.specs.State.{State, served_members}
+use Rattle.bay_core.specs.State.{State}
 use Rattle.bay_core.proofs.MoveLaws.{passed, still, accepted-as}
 use Rattle.bay_core.proofs.PartLaws.{AreLeft, parts-arrive}
 use Rattle.bay_core.proofs.ServedLaws.{served-now}
+use Rattle.bay_core.proofs.ShapeLaws.{served_members}
 use Rattle.bay_core.proofs.TakeLaws.{none, given, closed}
 
 -- after the report of an entry of block b
@@ -120,13 +122,14 @@ module _ (s new : State) (c : Config) (h : History) (t : ℕ) (actor : ActorNo) 
       let e = writer-told m s.rows past a.0 w st.1.associations number writer in
       nothing-came answers.Empty is (writer-may w writer same) (none m a (length h) t past s.parts (count all) (parts-arrive m (length h) t past s.parts st.1.blocks) e.0 nothing_left e.1 (st.1.empty a.0))
 
-  pub given-for : (w : ActorNo) (o : Offered) (part : ReportBlock) (r : Report) → new ≡ record s { steps = suc s.steps; latest = max s.latest t; parts = slice_set s.parts o.block (reported_by o.next.id part) }
+  pub given-for : (w : ActorNo) (o : Offered) (shapes : List MemberShape) (part : ReportBlock) (r : Report) → new ≡ record s { steps = suc s.steps; latest = max s.latest t; parts = slice_set s.parts o.block (reported_by o.next.id part) }
       → option_map (λ (e : Ends). e.writer) (row_of s.rows a.0).ends ≡ Some w → actor.0 ≡ w.0 → length s.parts ≡ length c.blocks → first_offered a 0 s.parts ≡ Some o → slice_get s.parts o.block ≡ Some part
-      → part.members.items ≡ served_members c o.block → ((ks : List Kept) → AreKept o.entry.kept ks → r ≡ report_by m part o ks) → IsDone (answers.Taken (outputs.Report r))
-  given-for w o part r is writer same all first there shapes is_report =
+      → shapes ≡ served_members c part.block.options.dat_set → ((ks : List Kept) → AreKept o.entry.kept ks → r ≡ report_by m shapes part o ks) → IsDone (answers.Taken (outputs.Report r))
+  given-for w o shapes part r is writer same all first there are is_report =
       let e = writer-told m s.rows past a.0 w st.1.associations number writer in
-      let nodes = served-now c served o.block past part.members.items shapes (st.1.blocks o.block part there).dat_set st.1.sets in
-      let came = given m a (length h) t past s.parts (count all) (parts-arrive m (length h) t past s.parts st.1.blocks) e.0 o part r first e.1 (st.1.empty a.0) there nodes is_report in
+      let dat_set = ap (λ (p : Parameters). p.dat_set) (st.1.blocks o.block part there).stands.block.options in
+      let nodes = served-now c served part.block.options.dat_set o.block past shapes are dat_set st.1.sets in
+      let came = given m a (length h) t past s.parts (count all) (parts-arrive m (length h) t past s.parts st.1.blocks) e.0 o shapes part r first e.1 (st.1.empty a.0) there nodes is_report in
       let after : State = record s { steps = suc s.steps; latest = max s.latest t; parts = slice_set s.parts o.block (reported_by o.next.id part) } in (
         sym (ap (λ (g : Given). g.answer) came),
         accepted-as s new after c h turn st (writer-may w writer same) is

@@ -1,21 +1,26 @@
 -- The index of the members of all data sets follows the blocks, and the notes of a point become their entries.
-use Rattle.std.proofs.Common.{◌≡◌, ◌≢◌, ◌<◌, ◌≤◌, ℕ, zero, suc, List, [], ◌∷◌, length, map, replicate, get_or, refl, ap, ap₂, sym, ◌∙◌, subst, arith, ◌⊎◌, inl, inr, Some}
-use Rattle.std.specs.Prelude.{slice_get, slice_set, max}
+use Rattle.std.proofs.Common.{◌≡◌, ◌≢◌, ◌<◌, ◌≤◌, ℕ, zero, suc, List, [], ◌∷◌, length, map, replicate, get_or, refl, ap, ap₂, sym, ◌∙◌, subst, arith, ◌⊎◌, inl, inr, None, Some}
+use Rattle.std.specs.Prelude.{slice_get, slice_set, max, Option}
 use Rattle.std.proofs.lemmas.Bool.{cases_eq}
 use Rattle.std.proofs.lemmas.List.{length-map, length-set, map-set, set-get_or, get_or-set_same, get_or-set_other}
 use Rattle.std.proofs.lemmas.List.Elements.{All-nil}
 use Rattle.std.proofs.lemmas.Option.{slice_get-get_or, get_or_from_slice_get, slice_get_within}
 use Rattle.list_laws.proofs.Places.{got-map, got-set}
 use Rattle.bay_rooms.specs.Rooms.{Filled}
+use Rattle.bay_model.specs.declared.components.Comp.{Comp}
+use Rattle.bay_model.specs.declared.components.Comp.TheVariants as comps
 use Rattle.bay_model.specs.declared.flags.Change.{Change}
 use Rattle.bay_model.specs.declared.flags.Trg.{Trg}
 use Rattle.bay_model.specs.declared.note.Mention.{Mention}
 use Rattle.bay_model.specs.declared.tables.MemberShape.{MemberShape}
+use Rattle.bay_model.specs.declared.tables.NodeRow.{NodeRow}
+use Rattle.set_view.specs.Shapes.{shapes_of}
+use Rattle.data_sets.specs.Books.{Book, IsSet, nodes_in}
 use Rattle.brcb_state.specs.Components.{trg_of}
 use Rattle.trigger_core.specs.Noted.{noted}
 use Rattle.value_store.specs.Stored.{Stored}
 use Rattle.touch_index.specs.declared.touch.Touch.{Touch}
-use Rattle.touch_index.specs.Indexed.{none, block_at, touches_from, with_members, with_room}
+use Rattle.touch_index.specs.Indexed.{Indexed, none, pairs, block_at, touches_from, with_members, with_room}
 use Rattle.touch_index.specs.Gathered.{IsSetOf}
 use Rattle.touch_index.specs.Gathering.{Gathered, no_note, no_trg, note_at, trg_at, with_items, AreEmpty}
 use Rattle.report_block.specs.declared.block.ReportBlock.{ReportBlock}
@@ -23,8 +28,14 @@ use Rattle.bay_core.specs.declared.watch.Watch.{Watch}
 use Rattle.report_block.specs.EntryOctets.{IsKeepable}
 use Rattle.report_block.specs.Events.{with_note}
 use Rattle.bay_core.specs.Events.{mentions_of, IsReady}
-use Rattle.bay_core.specs.Watched.{IsIndexed, IsWatching, AreBlank, IsNoteOf, options_in}
+use Rattle.bay_core.specs.Written.{index_after}
+use Rattle.bay_core.specs.Watched.{IsIndexed, IsWatching, IsLent, AreBlank, IsNoteOf, members_in, options_in}
 use Rattle.bay_core.proofs.MentionLaws.{noted-keepable, length-noted}
+
+-- another component than DatSet leaves the number of the data set
+abbrev pub KeepsSet : Comp → Option ℕ → Option ℕ → Type 0
+KeepsSet comps.DatSet was now = Unit {0}
+KeepsSet _ was now = now ≡ was
 
 pub some-same : {A : Type 0} (x y : A) → Some x ≡ Some y → x ≡ y
 some-same x y e = cc
@@ -84,6 +95,30 @@ put-room bs b room below =
     let e = ap (λ (g : Filled Touch). g.room) (get_or-set_same bs b (record { items = (block_at bs b).items; room = max (block_at bs b).room room }) none below) in
     omega (arith, e)
 
+-- the room of a block that was put or whose room was made
+room-stays : (bs : List (Filled Touch)) (b k : ℕ) (f : Filled Touch) → b < length bs → f.room ≡ (block_at bs b).room → (block_at (slice_set bs b f) k).room ≡ (block_at bs k).room
+room-stays bs b k f below same = elim (cases_eq k b) [
+  | inl e ↦ ap (λ j. (block_at (slice_set bs b f) j).room) e ∙ (ap (λ (g : Filled Touch). g.room) (get_or-set_same bs b f none below) ∙ (same ∙ ap (λ j. (block_at bs j).room) (sym e)))
+  | inr e ↦ ap (λ (g : Filled Touch). g.room) (get_or-set_other bs b k f none e)
+]
+
+pub put-roomy : (bs : List (Filled Touch)) (b k room : ℕ) (ms : List MemberShape) → b < length bs → (block_at bs k).room ≤ (block_at (with_members b ms (with_room b room bs)) k).room
+put-roomy bs b k room ms below =
+    let roomy = with_room b room bs in
+    let same = room-stays roomy b k (record { items = touches_from b 1 ms; room = (block_at roomy b).room }) (omega (arith, below, length-set bs b (record { items = (block_at bs b).items; room = max (block_at bs b).room room }))) refl in
+    elim (cases_eq k b) [
+      | inl e ↦ (let most = ap (λ (g : Filled Touch). g.room) (get_or-set_same bs b (record { items = (block_at bs b).items; room = max (block_at bs b).room room }) none below) in
+          let here : (block_at roomy k).room ≡ (block_at roomy b).room = ap (λ j. (block_at roomy j).room) e in
+          let own : (block_at bs k).room ≡ (block_at bs b).room = ap (λ j. (block_at bs j).room) e in omega (arith, same, most, here, own))
+      | inr e ↦ (let other = ap (λ (g : Filled Touch). g.room) (get_or-set_other bs b k (record { items = (block_at bs b).items; room = max (block_at bs b).room room }) none e) in omega (arith, same, other))
+    ]
+
+pub put-most : (bs : List (Filled Touch)) (b room : ℕ) (ms : List MemberShape) → b < length bs → room ≤ (block_at (with_members b ms (with_room b room bs)) b).room
+put-most bs b room ms below =
+    let roomy = with_room b room bs in
+    let same = room-stays roomy b b (record { items = touches_from b 1 ms; room = (block_at roomy b).room }) (omega (arith, below, length-set bs b (record { items = (block_at bs b).items; room = max (block_at bs b).room room }))) refl in
+    omega (arith, same, put-room bs b room below)
+
 -- ---- empty notes
 
 abbrev blank : Filled Mention
@@ -102,103 +137,146 @@ blank-new n g is = subst (λ (l : List (Filled Mention)). AreBlank n (record { n
 
 -- ---- parts that keep their data sets and their options
 
-pub watching-map : (n : ℕ) (parts : List ReportBlock) (w : Watch) (f : ReportBlock → ReportBlock) → ((p : ReportBlock) → (f p).members ≡ p.members) → ((p : ReportBlock) → (f p).block.options ≡ p.block.options) → IsWatching n parts w → IsWatching n (map f parts) w
-watching-map n parts w f same options is = record {
-  index = record {
-    attrs = is.index.attrs;
-    count = is.index.count ∙ sym (length-map parts f);
-    touches = λ b part at. (let was = got-map f parts b part at in
-        subst (λ (p : ReportBlock). IsSetOf w.index.blocks b p.members.items) was.2 (subst (λ (l : List MemberShape). IsSetOf w.index.blocks b l) (sym (ap (λ v. v.items) (same was.0))) (is.index.touches b was.0 was.1)));
-  };
-  options = is.options ∙ alike parts;
-  notes = subst (λ k. AreBlank k w.notes) (sym (length-map parts f)) is.notes;
-} where
-  alike : (ps : List ReportBlock) → options_in ps ≡ options_in (map f ps)
-  alike [] = refl
-  alike (p ∷ ps) = ap₂ (λ (t : Trg) (ts : List Trg). t ∷ ts) (ap (λ o. trg_of o.trg_ops) (sym (options p))) (alike ps)
+module _ (rows : List NodeRow) (book : Book) where
+  abbrev shapes : ReportBlock → List MemberShape
+  shapes = members_in rows book
 
--- one part, whose options may be others
-pub watching-set : (n : ℕ) (parts : List ReportBlock) (w v : Watch) (i : ℕ) (x y : ReportBlock) → slice_get parts i ≡ Some x → y.members ≡ x.members → v.index ≡ w.index → v.notes ≡ w.notes
-    → v.options.items ≡ slice_set w.options.items i (trg_of y.block.options.trg_ops) → IsWatching n parts w → IsWatching n (slice_set parts i y) v
-watching-set n parts w v i x y there same index notes options is = record {
-  index = subst (IsIndexed n (slice_set parts i y)) (sym index) (record {
-    attrs = is.index.attrs;
-    count = is.index.count ∙ sym (length-set parts i y);
-    touches = λ b part at. elim (got-set parts i b y part at) [
-      | inl e ↦ subst (λ (l : List MemberShape). IsSetOf w.index.blocks b l) (sym (ap (λ (p : ReportBlock). p.members.items) e.1 ∙ ap (λ m. m.items) same)) (is.index.touches b x (ap (slice_get parts) e.0 ∙ there))
-      | inr e ↦ is.index.touches b part e.1
+  -- the members of a part of the same data set
+  shapes-same : (p q : ReportBlock) → p.set ≡ q.set → shapes p ≡ shapes q
+  shapes-same p q same = ap (λ k. shapes_of rows (nodes_in book k)) same
+
+  pub watching-map : (n : ℕ) (parts : List ReportBlock) (w : Watch) (f : ReportBlock → ReportBlock) → ((p : ReportBlock) → (f p).set ≡ p.set) → ((p : ReportBlock) → (f p).block.options ≡ p.block.options) → IsWatching rows book n parts w → IsWatching rows book n (map f parts) w
+  watching-map n parts w f same options is = record {
+    index = record {
+      attrs = is.index.attrs;
+      count = is.index.count ∙ sym (length-map parts f);
+      touches = λ b part at. (let was = got-map f parts b part at in
+          subst (λ (p : ReportBlock). IsSetOf w.index.blocks b (shapes p)) was.2 (subst (λ (l : List MemberShape). IsSetOf w.index.blocks b l) (sym (shapes-same (f was.0) was.0 (same was.0))) (is.index.touches b was.0 was.1)));
+      roomy = is.index.roomy;
+    };
+    options = is.options ∙ alike parts;
+    notes = subst (λ k. AreBlank k w.notes) (sym (length-map parts f)) is.notes;
+  } where
+    alike : (ps : List ReportBlock) → options_in ps ≡ options_in (map f ps)
+    alike [] = refl
+    alike (p ∷ ps) = ap₂ (λ (t : Trg) (ts : List Trg). t ∷ ts) (ap (λ o. trg_of o.trg_ops) (sym (options p))) (alike ps)
+
+  -- the index has the members of one part more, which has the data set that it had
+  indexed-set : (n : ℕ) (parts : List ReportBlock) (x : Indexed) (i : ℕ) (p q : ReportBlock) → slice_get parts i ≡ Some p → q.set ≡ p.set → IsIndexed rows book n parts x → IsIndexed rows book n (slice_set parts i q) x
+  indexed-set n parts x i p q there same is = record {
+    attrs = is.attrs;
+    count = is.count ∙ sym (length-set parts i q);
+    touches = λ b part at. elim (got-set parts i b q part at) [
+      | inl e ↦ subst (λ (l : List MemberShape). IsSetOf x.blocks b l) (sym (ap shapes e.1 ∙ shapes-same q p same)) (is.touches b p (ap (slice_get parts) e.0 ∙ there))
+      | inr e ↦ is.touches b part e.1
     ];
-  });
-  options = options ∙ (ap (λ l. slice_set l i (trg_of y.block.options.trg_ops)) is.options ∙ sym (map-set (λ (p : ReportBlock). trg_of p.block.options.trg_ops) parts i y));
-  notes = subst (AreBlank (length (slice_set parts i y))) (sym notes) (subst (λ k. AreBlank k w.notes) (sym (length-set parts i y)) is.notes);
-}
+    roomy = is.roomy;
+  }
 
-pub watching-same : (n : ℕ) (parts : List ReportBlock) (w : Watch) (i : ℕ) (x y : ReportBlock) → slice_get parts i ≡ Some x → y.members ≡ x.members → y.block.options ≡ x.block.options → IsWatching n parts w → IsWatching n (slice_set parts i y) w
-watching-same n parts w i x y there same options is = record {
-  index = record {
-    attrs = is.index.attrs;
-    count = is.index.count ∙ sym (length-set parts i y);
-    touches = λ b part at. elim (got-set parts i b y part at) [
-      | inl e ↦ subst (λ (l : List MemberShape). IsSetOf w.index.blocks b l) (sym (ap (λ (p : ReportBlock). p.members.items) e.1 ∙ ap (λ m. m.items) same)) (is.index.touches b x (ap (slice_get parts) e.0 ∙ there))
-      | inr e ↦ is.index.touches b part e.1
-    ];
-  };
-  options = is.options ∙ sym (map-set (λ (p : ReportBlock). trg_of p.block.options.trg_ops) parts i y
-      ∙ (ap (slice_set (options_in parts) i) (ap (λ o. trg_of o.trg_ops) options ∙ sym (option-at parts i x there)) ∙ set-get_or (options_in parts) i no_trg));
-  notes = subst (λ k. AreBlank k w.notes) (sym (length-set parts i y)) is.notes;
-}
+  -- the index after a write of one part, which has the data set that it had where another component than DatSet was written
+  indexed-written : (n : ℕ) (parts : List ReportBlock) (x : Indexed) (i : ℕ) (comp : Comp) (p q : ReportBlock) → slice_get parts i ≡ Some p → KeepsSet comp p.set q.set → IsIndexed rows book n parts x
+      → IsIndexed rows book n (slice_set parts i q) (index_after comp i (shapes q) x)
+  indexed-written n parts x i comps.DatSet p q there keeps is =
+      let own : Filled Touch = record { items = touches_from i 1 (shapes q); room = (block_at x.blocks i).room } in
+      let below : i < length x.blocks = omega (arith, slice_get_within parts i p there, is.count) in
+      record {
+        attrs = is.attrs;
+        count = length-set x.blocks i own ∙ (is.count ∙ sym (length-set parts i q));
+        touches = λ b part at. elim (got-set parts i b q part at) [
+          | inl e ↦ subst (λ j. IsSetOf (slice_set x.blocks i own) j (shapes part)) (sym e.0)
+              (subst (λ (l : List MemberShape). IsSetOf (slice_set x.blocks i own) i l) (ap shapes (sym e.1)) (ap (λ (g : Filled Touch). g.items) (get_or-set_same x.blocks i own none below)))
+          | inr e ↦ set-stays x.blocks i b own (shapes part) e.0 (is.touches b part e.1)
+        ];
+        roomy = λ b k within there. omega (arith, room-stays x.blocks i b own below refl, is.roomy b k (omega (arith, within, length-set x.blocks i own)) there);
+      }
+  indexed-written n parts x i _ p q there keeps is = indexed-set n parts x i p q there keeps is
 
--- ---- the notes of a point
+  -- there is room for the members of each part
+  pub room-for : (n : ℕ) (parts : List ReportBlock) (x : Indexed) (b : ℕ) (p : ReportBlock) → IsIndexed rows book n parts x → b < length x.blocks → IsSet book p.set → pairs (shapes p) ≤ (block_at x.blocks b).room
+  room-for n parts x b p is below set = by p.set set where
+    by : (o : Option ℕ) → IsSet book o → pairs (shapes_of rows (nodes_in book o)) ≤ (block_at x.blocks b).room
+    by None set = omega arith
+    by (Some k) set = is.roomy b k below set
 
--- the note that a walk over the touches made of each part is the one of the definition
-pub made : (n : ℕ) (parts : List ReportBlock) (w : Watch) (trgs : List Trg) (changes : List Change) (notes : List (Filled Mention)) → IsWatching n parts w → trgs ≡ w.options.items
-    → ((b : ℕ) (ms : List MemberShape) → b < length w.index.blocks → IsSetOf w.index.blocks b ms → (note_at notes b).items ≡ noted changes (trg_at trgs b) 1 ms)
-    → (b : ℕ) (part : ReportBlock) → slice_get parts b ≡ Some part → (note_at notes b).items ≡ mentions_of changes part
-made n parts w trgs changes notes is same gathered b part at =
-    let below = slice_get_within parts b part at in
-    let used = ap (λ (l : List Trg). trg_at l b) (same ∙ is.options) ∙ option-at parts b part at in
-    gathered b part.members.items (omega (arith, below, is.index.count)) (is.index.touches b part at) ∙ ap (λ (g : Trg). noted changes g 1 part.members.items) used
+  -- one part after a write of a component
+  pub watching-written : (n : ℕ) (parts : List ReportBlock) (w v : Watch) (i : ℕ) (comp : Comp) (x y : ReportBlock) → slice_get parts i ≡ Some x → KeepsSet comp x.set y.set → v.index ≡ index_after comp i (shapes y) w.index → v.notes ≡ w.notes
+      → v.options.items ≡ slice_set w.options.items i (trg_of y.block.options.trg_ops) → IsWatching rows book n parts w → IsWatching rows book n (slice_set parts i y) v
+  watching-written n parts w v i comp x y there keeps index notes options is = record {
+    index = subst (IsIndexed rows book n (slice_set parts i y)) (sym index) (indexed-written n parts w.index i comp x y there keeps is.index);
+    options = options ∙ (ap (λ l. slice_set l i (trg_of y.block.options.trg_ops)) is.options ∙ sym (map-set (λ (p : ReportBlock). trg_of p.block.options.trg_ops) parts i y));
+    notes = subst (AreBlank (length (slice_set parts i y))) (sym notes) (subst (λ k. AreBlank k w.notes) (sym (length-set parts i y)) is.notes);
+  }
 
--- the note of a part whose data set the index has
-pub note-of : (stored : List Stored) (changes : List Change) (part : ReportBlock) (note : List Mention) → IsReady stored part → note ≡ mentions_of changes part → IsNoteOf stored part note
-note-of stored changes part note ready is =
-    let trg = trg_of part.block.options.trg_ops in
-    subst (IsNoteOf stored part) (sym is) (record {
-      members = noted-keepable stored changes trg part.members.items ready.few ready.writable;
-      few = omega (arith, length-noted changes trg 1 part.members.items, ready.few);
-    })
+  pub watching-same : (n : ℕ) (parts : List ReportBlock) (w : Watch) (i : ℕ) (x y : ReportBlock) → slice_get parts i ≡ Some x → y.set ≡ x.set → y.block.options ≡ x.block.options → IsWatching rows book n parts w → IsWatching rows book n (slice_set parts i y) w
+  watching-same n parts w i x y there same options is = record {
+    index = indexed-set n parts w.index i x y there same is.index;
+    options = is.options ∙ sym (map-set (λ (p : ReportBlock). trg_of p.block.options.trg_ops) parts i y
+        ∙ (ap (slice_set (options_in parts) i) (ap (λ o. trg_of o.trg_ops) options ∙ sym (option-at parts i x there)) ∙ set-get_or (options_in parts) i no_trg));
+    notes = subst (λ k. AreBlank k w.notes) (sym (length-set parts i y)) is.notes;
+  }
 
-module _ (stored : List Stored) (moment step : ℕ) where
-  -- part k, with what is left of its note, is to become this
-  abbrev pub Left : List ReportBlock → List (Filled Mention) → ℕ → ReportBlock → Type 0
-  Left parts notes k target = (now : ReportBlock) × (slice_get parts k ≡ Some now) × IsNoteOf stored now (note_at notes k).items × (with_note stored moment step (note_at notes k).items now ≡ target)
+  -- ---- the notes of a point
 
-  -- the note of part b was kept
-  pub left-next : (parts : List ReportBlock) (notes : List (Filled Mention)) (b : ℕ) (part : ReportBlock) (k : ℕ) (target : ReportBlock) → slice_get parts b ≡ Some part → b < length notes
-      → Left parts notes k target → Left (slice_set parts b (with_note stored moment step (note_at notes b).items part)) (with_items b [] notes) k target
-  left-next parts notes b part k target at below was = by (cases_eq k b) where
-    after : ReportBlock
-    after = with_note stored moment step (note_at notes b).items part
+  -- the note that a walk over the touches made of each part is the one of the definition
+  pub made : (n : ℕ) (parts : List ReportBlock) (w : Watch) (trgs : List Trg) (changes : List Change) (notes : List (Filled Mention)) → IsWatching rows book n parts w → trgs ≡ w.options.items
+      → ((b : ℕ) (ms : List MemberShape) → b < length w.index.blocks → IsSetOf w.index.blocks b ms → (note_at notes b).items ≡ noted changes (trg_at trgs b) 1 ms)
+      → (b : ℕ) (part : ReportBlock) → slice_get parts b ≡ Some part → (note_at notes b).items ≡ mentions_of changes (shapes part) part
+  made n parts w trgs changes notes is same gathered b part at =
+      let below = slice_get_within parts b part at in
+      let used = ap (λ (l : List Trg). trg_at l b) (same ∙ is.options) ∙ option-at parts b part at in
+      gathered b (shapes part) (omega (arith, below, is.index.count)) (is.index.touches b part at) ∙ ap (λ (g : Trg). noted changes g 1 (shapes part)) used
 
-    by : (k ≡ b) ⊎ (k ≢ b) → Left (slice_set parts b after) (with_items b [] notes) k target
-    by (inl e) =
-        let none : (note_at (with_items b [] notes) k).items ≡ [] = ap (λ j. (note_at (with_items b [] notes) j).items) e ∙ ap (λ (f : Filled Mention). f.items) (get_or-set_same notes b (record { items = []; room = (note_at notes b).room }) no_note below) in
-        let same : part ≡ was.0 = some-same part was.0 (sym at ∙ (ap (slice_get parts) (sym e) ∙ was.1)) in (
-          after,
-          ap (slice_get (slice_set parts b after)) e ∙ got-here parts b part after at,
-          subst (IsNoteOf stored after) (sym none) (record { members = All-nil (IsKeepable stored after.members.items); few = omega arith }),
-          ap (λ ms. with_note stored moment step ms after) none ∙ (ap₂ (λ (p : ReportBlock) j. with_note stored moment step (note_at notes j).items p) same (sym e) ∙ was.3),
-        )
-    by (inr e) =
-        let same : (note_at (with_items b [] notes) k).items ≡ (note_at notes k).items = ap (λ (f : Filled Mention). f.items) (get_or-set_other notes b k (record { items = []; room = (note_at notes b).room }) no_note e) in (
-          was.0,
-          got-there parts b k was.0 after e was.1,
-          subst (IsNoteOf stored was.0) (sym same) was.2,
-          ap (λ ms. with_note stored moment step ms was.0) same ∙ was.3,
-        )
+  -- the note of a part whose data set the index has
+  pub note-of : (stored : List Stored) (changes : List Change) (part : ReportBlock) (note : List Mention) → IsReady rows book stored part → note ≡ mentions_of changes (shapes part) part → IsNoteOf rows book stored part note
+  note-of stored changes part note ready is =
+      let trg = trg_of part.block.options.trg_ops in
+      subst (IsNoteOf rows book stored part) (sym is) (record {
+        lent = ready.lent;
+        members = noted-keepable stored changes trg (shapes part) ready.few ready.writable;
+        few = omega (arith, length-noted changes trg 1 (shapes part), ready.few);
+      })
 
-  pub left-none : (parts : List ReportBlock) (notes : List (Filled Mention)) (k : ℕ) (target : ReportBlock) → AreEmpty notes → k < length notes → Left parts notes k target → slice_get parts k ≡ Some target
-  left-none parts notes k target empty below was = was.1 ∙ ap Some (sym (ap (λ ms. with_note stored moment step ms was.0) (empty k no_note below)) ∙ was.3)
+  module _ (stored : List Stored) (moment step : ℕ) where
+    -- a part with the entry of a note
+    abbrev pub noting : List Mention → ReportBlock → ReportBlock
+    noting ms p = with_note stored (shapes p) moment step ms p
 
-  pub left-first : (parts : List ReportBlock) (notes : List (Filled Mention)) (k : ℕ) (part : ReportBlock) → slice_get parts k ≡ Some part → IsNoteOf stored part (note_at notes k).items → Left parts notes k (with_note stored moment step (note_at notes k).items part)
-  left-first parts notes k part at is = (part, at, is, refl)
+    -- part k, with what is left of its note, is to become this
+    abbrev pub Left : List ReportBlock → List (Filled Mention) → ℕ → ReportBlock → Type 0
+    Left parts notes k target = (now : ReportBlock) × (slice_get parts k ≡ Some now) × IsNoteOf rows book stored now (note_at notes k).items × (noting (note_at notes k).items now ≡ target)
+
+    -- its data set stays
+    lent-stays : (ms : List Mention) (p : ReportBlock) → IsLent rows book p → IsLent rows book (noting ms p)
+    lent-stays [] p is = is
+    lent-stays (m ∷ ms) p is = record { set = is.set; there = is.there }
+
+    -- the note of part b was kept
+    pub left-next : (parts : List ReportBlock) (notes : List (Filled Mention)) (b : ℕ) (part : ReportBlock) (k : ℕ) (target : ReportBlock) → slice_get parts b ≡ Some part → b < length notes
+        → Left parts notes k target → Left (slice_set parts b (noting (note_at notes b).items part)) (with_items b [] notes) k target
+    left-next parts notes b part k target at below was = by (cases_eq k b) where
+      after : ReportBlock
+      after = noting (note_at notes b).items part
+
+      by : (k ≡ b) ⊎ (k ≢ b) → Left (slice_set parts b after) (with_items b [] notes) k target
+      by (inl e) =
+          let none : (note_at (with_items b [] notes) k).items ≡ [] = ap (λ j. (note_at (with_items b [] notes) j).items) e ∙ ap (λ (f : Filled Mention). f.items) (get_or-set_same notes b (record { items = []; room = (note_at notes b).room }) no_note below) in
+          let same : part ≡ was.0 = some-same part was.0 (sym at ∙ (ap (slice_get parts) (sym e) ∙ was.1)) in
+          let lent = lent-stays (note_at notes b).items part (subst (IsLent rows book) (sym same) was.2.lent) in (
+            after,
+            ap (slice_get (slice_set parts b after)) e ∙ got-here parts b part after at,
+            subst (IsNoteOf rows book stored after) (sym none) (record { lent = lent; members = All-nil (IsKeepable stored (shapes after)); few = omega arith }),
+            ap (λ ms. noting ms after) none ∙ (ap₂ (λ (p : ReportBlock) j. noting (note_at notes j).items p) same (sym e) ∙ was.3),
+          )
+      by (inr e) =
+          let same : (note_at (with_items b [] notes) k).items ≡ (note_at notes k).items = ap (λ (f : Filled Mention). f.items) (get_or-set_other notes b k (record { items = []; room = (note_at notes b).room }) no_note e) in (
+            was.0,
+            got-there parts b k was.0 after e was.1,
+            subst (IsNoteOf rows book stored was.0) (sym same) was.2,
+            ap (λ ms. noting ms was.0) same ∙ was.3,
+          )
+
+    pub left-none : (parts : List ReportBlock) (notes : List (Filled Mention)) (k : ℕ) (target : ReportBlock) → AreEmpty notes → k < length notes → Left parts notes k target → slice_get parts k ≡ Some target
+    left-none parts notes k target empty below was = was.1 ∙ ap Some (sym (ap (λ ms. noting ms was.0) (empty k no_note below)) ∙ was.3)
+
+    pub left-first : (parts : List ReportBlock) (notes : List (Filled Mention)) (k : ℕ) (part : ReportBlock) → slice_get parts k ≡ Some part → IsNoteOf rows book stored part (note_at notes k).items → Left parts notes k (noting (note_at notes k).items part)
+    left-first parts notes k part at is = (part, at, is, refl)

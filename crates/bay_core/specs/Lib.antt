@@ -9,5 +9,7 @@ pub mod Changed
 pub mod Marked
 pub mod Events
 pub mod Watched
+-- what a write makes of the data set that a block reports
+pub mod Written
 -- losses
 pub mod Parting

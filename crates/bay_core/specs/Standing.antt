@@ -21,11 +21,10 @@ pub record AreAtOnce (o : Parameters) : Type 0 where
   pub buf_tm : o.buf_tm ≡ 0
   pub intg_pd : o.intg_pd ≡ 0
 
--- block b stands; it reports at once, without an integrity period, and has the DatSet of its configuration
+-- block b stands, and reports at once, without an integrity period
 pub record PartStands (c : Model) (b : ℕ) (past : Past) (part : ReportBlock) : Type 0 where
   pub stands : BlockStands part c b past
   pub at_once : AreAtOnce (parameters_at c b past)
-  pub dat_set : (parameters_at c b past).dat_set ≡ (block_of c b).initial.dat_set
 
 abbrev pub PartsStand : Model → Past → List ReportBlock → Type 0
 PartsStand c past parts = (b : ℕ) (part : ReportBlock) → slice_get parts b ≡ Some part → PartStands c b past part

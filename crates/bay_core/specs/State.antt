@@ -1,18 +1,15 @@
 -- What contracts see of a bay: its configuration, how many steps it made, the newest moment, the values of attributes, its
--- report blocks with their buffers and the members of their data sets, and its associations.
-use Rattle.std.specs.Prelude.{◌≡◌, ◌<◌, ◌≤◌, ℕ, true, List, [], map, length, Some, slice_get}
+-- report blocks with their buffers and the numbers of their data sets, and its associations.
+use Rattle.std.specs.Prelude.{◌≡◌, ◌<◌, ◌≤◌, ℕ, true, List, length, Some, slice_get}
 use Rattle.sv_base.specs.declared.config.Config.{Config}
 use Rattle.bay_rooms.specs.Rooms.{Filled}
 use Rattle.bay_model.specs.Attributes.{attributes}
 use Rattle.bay_rooms.specs.Kinds.{kind_of, is_kind, is_in_range}
-use Rattle.bay_model.specs.Named.{configured_model}
-use Rattle.bay_model.specs.Sets.{members}
 use Rattle.bay_rooms.specs.Slots.{Held}
-use Rattle.bay_model.specs.declared.tables.MemberShape.{MemberShape}
 use Rattle.object_model.specs.Fits.{is_sound}
 use Rattle.object_model.specs.Nodes.{node_rows}
-use Rattle.object_model.specs.Tables.{node_id}
-use Rattle.data_sets.specs.Booked.{shapes_of}
+use Rattle.object_model.specs.Tables.{set_rows}
+use Rattle.data_sets.specs.Books.{Book, largest, number_referred, opened}
 use Rattle.value_store.specs.Stored.{Stored, attribute}
 use Rattle.assoc_table.specs.Seats.{Row}
 use Rattle.report_block.specs.declared.block.ReportBlock.{ReportBlock}
@@ -28,10 +25,6 @@ pub record State : Type 0 where
   pub parts : List ReportBlock
   pub rows : List Row
 
--- the shapes of the members of block b's data set
-abbrev pub served_members : Config → ℕ → List MemberShape
-served_members c b = shapes_of (node_rows c) (map node_id (members (configured_model c) b []))
-
 -- a value of its kind, within its range, with visible texts and parts of a second below one
 pub record IsSoundCell (h : Held) : Type 0 where
   pub kind : is_kind h.kind h.value ≡ true
@@ -44,13 +37,15 @@ pub record AreHeld (c : Config) (stored : List Stored) : Type 0 where
   pub kinds : (x : ℕ) → x < length stored → (attribute stored x).held.kind ≡ kind_of (attr_type c x)
   pub sound : (x : ℕ) → x < length stored → IsSoundCell (attribute stored x).held
 
--- the parts fit the configuration, the index has the members of their data sets, and the room that entries and changes need was made
-pub record IsFurnished (c : Config) (stored : List Stored) (parts : List ReportBlock) (w : Watch) (octets : Filled ℕ) (room : ℕ) : Type 0 where
+-- the parts fit the configuration, each has the number of the data set that its DatSet names, the index has the members of their
+-- data sets, and the room that entries and changes need was made
+pub record IsFurnished (c : Config) (stored : List Stored) (book : Book) (parts : List ReportBlock) (w : Watch) (octets : Filled ℕ) (room : ℕ) : Type 0 where
   pub servable : IsServable c
   pub values : AreHeld c stored
   pub count : length parts ≡ length c.blocks
-  pub members : (b : ℕ) (part : ReportBlock) → slice_get parts b ≡ Some part → part.members.items ≡ served_members c b
-  pub windows : (b : ℕ) (part : ReportBlock) → slice_get parts b ≡ Some part → part.window.members ≤ 256
-  pub watch : IsWatching (length stored) parts w
+  pub booked : book ≡ opened (set_rows c)
+  pub sets : (b : ℕ) (part : ReportBlock) → slice_get parts b ≡ Some part → part.set ≡ number_referred part.block.options.dat_set book
+  pub windows : (b : ℕ) (part : ReportBlock) → slice_get parts b ≡ Some part → part.window.members ≡ largest book
+  pub watch : IsWatching (node_rows c) book (length stored) parts w
   pub entry : octets.room ≡ 129024
   pub changes : length stored ≤ room

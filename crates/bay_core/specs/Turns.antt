@@ -13,12 +13,11 @@ use Rattle.bay_core.specs.declared.fault.StepFault.TheVariants as faults
 use Rattle.bay_core.specs.State.{State}
 use Rattle.bay_core.specs.Standing.{StandsFor}
 
--- the steps that a bay takes: a write is one of any component but DatSet, BufTm, IntgPd and GI
+-- the steps that a bay takes: a write is one of any component but BufTm, IntgPd and GI
 abbrev pub IsBuilt : Step → Type 0
 IsBuilt (steps.Ask a r) = ⊥
 IsBuilt (steps.Done k good) = ⊥
 IsBuilt (steps.Block k flag) = ⊥
-IsBuilt (steps.Write a b comps.DatSet v) = ⊥
 IsBuilt (steps.Write a b comps.BufTm v) = ⊥
 IsBuilt (steps.Write a b comps.IntgPd v) = ⊥
 IsBuilt (steps.Write a b comps.GI v) = ⊥
@@ -42,8 +41,9 @@ abbrev pub IsCounted : State → State → Result Answer StepFault → Type 0
 IsCounted old new (Ok a) = (new.config ≡ old.config) × (new.steps ≡ suc old.steps)
 IsCounted old new (Err f) = Unit {0}
 
--- the steps that need no memory: what the process does, a loss, and time that passes
+-- the steps that need no memory: a write of a component, a loss, what the process does, and time that passes
 abbrev pub is_lean : Step → Bool
+is_lean (steps.Write a b comp v) = true
 is_lean (steps.Lost a) = true
 is_lean (steps.Value settings) = true
 is_lean (steps.Done k good) = true

@@ -4,6 +4,7 @@ use crate::values::Values;
 use crate::watch::Watch;
 use assoc_table::Assocs;
 use bay_model::{Answer, Change, Fixed, Output, Report};
+use data_sets::SetBook;
 use object_model::Model;
 use report_block::ReportBlock;
 use sv_base::{AssocNo, Moment};
@@ -15,6 +16,8 @@ pub struct Bay {
     pub(crate) steps: u64,
     pub(crate) latest: Moment,
     pub(crate) values: Values,
+    /// The data sets that are there: a report block holds the number of its own.
+    pub(crate) sets: SetBook,
     pub(crate) parts: Vec<ReportBlock>,
     pub(crate) associations: Assocs,
     /// The members of all data sets by their attributes, with the notes of the step that is being made.
@@ -39,7 +42,7 @@ impl std::marker::Model for Bay {
 
     ghost view = { λ b. record { config = b.model; steps = b.steps; latest = b.latest; stored = b.values; parts = b.parts.items; rows = b.associations } };
 
-    ghost invariant = { λ b. IsFurnished b.model b.values b.parts.items b.watch b.octets (vec_capacity b.changes) };
+    ghost invariant = { λ b. IsFurnished b.model b.values b.sets b.parts.items b.watch b.octets (vec_capacity b.changes) };
 }
 
 impl Bay {

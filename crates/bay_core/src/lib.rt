@@ -4,6 +4,7 @@
 // a bay, and how it begins
 mod bay;
 mod opening;
+mod source;
 mod values;
 mod watch;
 

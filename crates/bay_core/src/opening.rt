@@ -3,68 +3,51 @@
 ghost use Rattle.std.specs.Prelude.{◌≡◌, [], ◌≤◌, IfOk, length, map, replicate, vec_capacity};
 ghost use Rattle.object_model.specs.Nodes.{node_rows};
 ghost use Rattle.object_model.specs.Tables.{set_rows};
-ghost use Rattle.data_sets.specs.Booked.{shapes_of as shapes};
-ghost use Rattle.data_sets.specs.Books.{opened as booked};
+ghost use Rattle.data_sets.specs.Books.{largest, opened as booked};
 ghost use Rattle.assoc_table.specs.Seats.{closed};
 ghost use Rattle.value_store.specs.Opened.{opened};
 ghost use Rattle.bay_config.specs.Servable.{IsServable, IsServedBlock};
 ghost use Rattle.bay_core.specs.Standing.{StandsFor};
 ghost use Rattle.bay_core.specs.Watched.{IsWatching};
-ghost use Rattle.bay_core.specs.Opened.{nodes_referred, seen, part_defined};
+ghost use Rattle.bay_core.specs.Opened.{seen, part_defined};
 
 use crate::bay::Bay;
 use crate::values::Values;
 use crate::watch::Watch;
 use assoc_table::Assocs;
-use bay_model::{Change, Fixed, MemberShape};
-use data_sets::{SetBook, shapes_of};
+use bay_model::{Change, Fixed};
+use data_sets::SetBook;
 use object_model::Model;
 use report_block::ReportBlock;
 use std::alloc::{AllocError, Global};
 use sv_base::{BlockDef, Moment};
 
-/// The shapes of the members of the data set that a block's DatSet names; none where it names none.
-fn member_shapes(
-    alloc: Global,
-    model: &Model,
-    book: &SetBook,
-    def: &BlockDef,
-) -> Result<Vec<MemberShape>, AllocError>
-    requires servable { IsServable model.now }
-    requires book { book.now ≡ booked (set_rows model.now) }
-    ensures { IfOk result (λ v. v.items ≡ shapes (node_rows model.now) (nodes_referred def.now.dat_set (set_rows model.now))) }
-{
-    match book.number_referred(def.dat_set.as_slice()) {
-        Some(number) => shapes_of(alloc, book.nodes(number), model.nodes().as_slice()),
-        None => Ok(Vec::new(alloc)),
-    }
-}
-
 /// A block with an empty buffer.
 fn part_of(
     alloc: Global,
-    model: &Model,
     book: &SetBook,
+    most: u32,
     def: &BlockDef,
 ) -> Result<ReportBlock, AllocError>
-    requires servable { IsServable model.now }
-    requires book { book.now ≡ booked (set_rows model.now) }
+    requires most { most ≡ largest book.now }
+    requires few { most ≤ 256 }
     requires served { IsServedBlock def.now }
-    ensures { IfOk result (λ p. seen p ≡ part_defined model.now def.now) }
+    ensures { IfOk result (λ p. seen p ≡ part_defined book.now def.now) }
 {
-    let members = member_shapes(alloc, model, book, def)?;
-    ReportBlock::open(alloc, def, members)
+    let set = book.number_referred(def.dat_set.as_slice());
+    ReportBlock::open(alloc, def, set, most)
 }
 
 /// The blocks in the order of the configuration.
-fn parts_of(alloc: Global, model: &Model) -> Result<Vec<ReportBlock>, AllocError>
-    requires { IsServable model.now }
-    ensures { IfOk result (λ v. map seen v.items ≡ map (part_defined model.now) model.now.blocks) }
+fn parts_of(alloc: Global, model: &Model, book: &SetBook) -> Result<Vec<ReportBlock>, AllocError>
+    requires servable { IsServable model.now }
+    requires few { largest book.now ≤ 256 }
+    ensures { IfOk result (λ v. map seen v.items ≡ map (part_defined book.now) model.now.blocks) }
 {
-    let book = SetBook::open(alloc, model.sets())?;
+    let most = book.largest() as u32;
     let mut parts = Vec::new(alloc);
     for def in model.config().blocks.as_slice() {
-        parts.push(part_of(alloc, model, &book, def)?)?;
+        parts.push(part_of(alloc, book, most, def)?)?;
     }
     Ok(parts)
 }
@@ -73,6 +56,7 @@ fn parts_of(alloc: Global, model: &Model) -> Result<Vec<ReportBlock>, AllocError
 #[derive(Drop)]
 struct Made {
     values: Values,
+    sets: SetBook,
     parts: Vec<ReportBlock>,
     associations: Assocs,
     watch: Watch,
@@ -80,25 +64,29 @@ struct Made {
     octets: Fixed,
 }
 
-/// The values and the blocks as they are configured, no open association, and the room that notes, entries and changes need.
+/// The values, the data sets and the blocks as they are configured, no open association, and the room that notes, entries and
+/// changes need.
 fn parts_made(alloc: Global, model: &Model) -> Result<Made, AllocError>
     requires { IsServable model.now }
     ensures values { IfOk result (λ m. m.values ≡ opened model.now) }
-    ensures parts { IfOk result (λ m. map seen m.parts.items ≡ map (part_defined model.now) model.now.blocks) }
+    ensures sets { IfOk result (λ m. m.sets ≡ booked (set_rows model.now)) }
+    ensures parts { IfOk result (λ m. map seen m.parts.items ≡ map (part_defined (booked (set_rows model.now))) model.now.blocks) }
     ensures associations { IfOk result (λ m. m.associations ≡ replicate 16 closed) }
-    ensures watch { IfOk result (λ m. IsWatching (length m.values) m.parts.items m.watch) }
+    ensures watch { IfOk result (λ m. IsWatching (node_rows model.now) m.sets (length m.values) m.parts.items m.watch) }
     ensures octets { IfOk result (λ m. m.octets.room ≡ 129024) }
     ensures changes { IfOk result (λ m. length m.values ≤ vec_capacity m.changes) }
 {
     let values = Values::open(alloc, model.config())?;
-    let parts = parts_of(alloc, model)?;
+    let sets = SetBook::open(alloc, model.sets())?;
+    let parts = parts_of(alloc, model, &sets)?;
     let Ok(attrs) = u32::try_from(values.store().len()) else {
         return Err(AllocError);
     };
-    let watch = Watch::open(alloc, attrs, &parts)?;
+    let watch = Watch::open(alloc, attrs, &parts, &sets, model.nodes().as_slice())?;
     let changes = Vec::with_capacity(alloc, attrs as usize)?;
     Ok(Made {
         values,
+        sets,
         parts,
         associations: Assocs::open(alloc)?,
         watch,
@@ -111,9 +99,10 @@ fn parts_made(alloc: Global, model: &Model) -> Result<Made, AllocError>
 fn begun(model: Model, made: Made) -> Bay
     requires servable { IsServable model }
     requires values { made.values ≡ opened model }
-    requires parts { map seen made.parts.items ≡ map (part_defined model) model.blocks }
+    requires sets { made.sets ≡ booked (set_rows model) }
+    requires parts { map seen made.parts.items ≡ map (part_defined (booked (set_rows model))) model.blocks }
     requires associations { made.associations ≡ replicate 16 closed }
-    requires watch { IsWatching (length made.values) made.parts.items made.watch }
+    requires watch { IsWatching (node_rows model) made.sets (length made.values) made.parts.items made.watch }
     requires octets { made.octets.room ≡ 129024 }
     requires changes { length made.values ≤ vec_capacity made.changes }
     ensures config { result.config ≡ model }
@@ -125,6 +114,7 @@ fn begun(model: Model, made: Made) -> Bay
         steps: 0,
         latest: Moment::first(),
         values: made.values,
+        sets: made.sets,
         parts: made.parts,
         associations: made.associations,
         watch: made.watch,

@@ -8,38 +8,41 @@ ghost use Rattle.touch_index.specs.Gathering.{note_at, AreEmpty};
 ghost use Rattle.report_block.specs.declared.block.ReportBlock.{ReportBlock as PartValue};
 ghost use Rattle.report_block.specs.Events.{with_note};
 ghost use Rattle.bay_core.specs.Events.{AreReady, after_events};
-ghost use Rattle.bay_core.specs.Watched.{IsNoteOf, IsWatching, AreBlank};
+ghost use Rattle.bay_core.specs.Watched.{IsNoteOf, IsWatching, AreBlank, members_in};
 
 use crate::bay::Bay;
 use crate::fault::StepFault;
+use crate::source::Source;
 use crate::watch::Watch;
 use bay_model::{Answer, Change, Fixed, Note, Sets};
 use report_block::ReportBlock;
 use sv_base::{ActorNo, Moment};
 use touch_index::Notes;
-use value_store::Store;
 
 /// Each block whose note has a member gets its entry, and the notes are emptied. It takes no memory.
 fn keep_all(
     parts: &mut Vec<ReportBlock>,
-    store: &Store,
+    source: &Source<'_>,
     moment: Moment,
     step: u64,
     notes: &mut Notes,
     octets: &mut Fixed,
 )
     requires count { length notes.old.notes ≡ length parts.old.items }
-    requires notes { (b : ℕ) (part : PartValue) → slice_get parts.old.items b ≡ Some part → IsNoteOf store.now part (note_at notes.old.notes b).items }
+    requires notes { (b : ℕ) (part : PartValue) → slice_get parts.old.items b ≡ Some part → IsNoteOf source.now.rows.now source.now.book.now source.now.store.now part (note_at notes.old.notes b).items }
     requires entry { octets.old.room ≡ 129024 }
     ensures parts { length parts.new.items ≡ length parts.old.items }
-    ensures kept { (b : ℕ) (part : PartValue) → slice_get parts.old.items b ≡ Some part → slice_get parts.new.items b ≡ Some (with_note store.now moment step (note_at notes.old.notes b).items part) }
+    ensures kept { (b : ℕ) (part : PartValue) → slice_get parts.old.items b ≡ Some part → slice_get parts.new.items b ≡ Some (with_note source.now.store.now (members_in source.now.rows.now source.now.book.now part) moment step (note_at notes.old.notes b).items part) }
     ensures empty { AreEmpty notes.new.notes }
     ensures count { length notes.new.notes ≡ length notes.old.notes }
     ensures rooms { (b : ℕ) → (note_at notes.new.notes b).room ≡ (note_at notes.old.notes b).room }
     ensures entry { octets.new.room ≡ 129024 }
 {
     while let Some(b) = notes.last() {
-        parts[b.0 as usize].keep_at_once(store, moment, step, notes.note(b).as_slice(), octets);
+        let part = &mut parts[b.0 as usize];
+        let set = source.book.view(part.set(), source.rows);
+        let note = notes.note(b).as_slice();
+        part.keep_at_once(source.store, &set, moment, step, note, octets);
         notes.clear_last();
     }
 }
@@ -49,18 +52,18 @@ fn keep_all(
 fn event_all(
     parts: &mut Vec<ReportBlock>,
     watch: &mut Watch,
-    store: &Store,
+    source: &Source<'_>,
     changes: &[Change],
     moment: Moment,
     step: u64,
     octets: &mut Fixed,
 )
-    requires ready { AreReady store.now parts.old.items }
-    requires watching { IsWatching (length store.now) parts.old.items watch.old }
-    requires attrs { All (λ (ch : ChangeValue). ch.attr.0 < length store.now) changes.now }
+    requires ready { AreReady source.now.rows.now source.now.book.now source.now.store.now parts.old.items }
+    requires watching { IsWatching source.now.rows.now source.now.book.now (length source.now.store.now) parts.old.items watch.old }
+    requires attrs { All (λ (ch : ChangeValue). ch.attr.0 < length source.now.store.now) changes.now }
     requires once { AreOnce changes.now }
     requires entry { octets.old.room ≡ 129024 }
-    ensures parts { parts.new.items ≡ after_events store.now changes.now moment step parts.old.items }
+    ensures parts { parts.new.items ≡ after_events source.now.rows.now source.now.book.now source.now.store.now changes.now moment step parts.old.items }
     ensures watch { watch.new ≡ record watch.old { notes = watch.new.notes } }
     ensures blank { AreBlank (length parts.old.items) watch.new.notes }
     ensures entry { octets.new.room ≡ 129024 }
@@ -68,7 +71,7 @@ fn event_all(
     watch
         .index
         .gather(changes, &watch.options, &mut watch.notes);
-    keep_all(parts, store, moment, step, &mut watch.notes, octets);
+    keep_all(parts, source, moment, step, &mut watch.notes, octets);
 }
 
 impl Bay {
@@ -94,10 +97,15 @@ impl Bay {
         self.changes.clear();
         self.values
             .set(&self.model, sets.as_slice(), &mut self.changes);
+        let source = Source {
+            store: self.values.store(),
+            book: &self.sets,
+            rows: self.model.nodes().as_slice(),
+        };
         event_all(
             &mut self.parts,
             &mut self.watch,
-            self.values.store(),
+            &source,
             self.changes.as_slice(),
             self.latest.later(moment),
             self.steps,

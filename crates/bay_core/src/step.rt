@@ -18,7 +18,7 @@ impl Bay {
     /// than the writer of an open one, and a loss by neither (NotYours). A refused step changes nothing and isn't counted,
     /// for want of memory too.
     ///
-    /// Of the components of a block all are written but DatSet, BufTm, IntgPd and GI.
+    /// Of the components of a block all are written but BufTm, IntgPd and GI.
     pub fn step(
         &mut self,
         alloc: Global,

@@ -2,6 +2,7 @@
 
 use crate::bay::Bay;
 use crate::fault::StepFault;
+use crate::source::set_of;
 use bay_model::{Answer, Output};
 use report_block::{empty_report, first_offer, report_of};
 use std::alloc::Global;
@@ -38,7 +39,9 @@ impl Bay {
             return Ok(Answer::Empty);
         };
         let spare = self.spare.take().unwrap_or_else(|| empty_report(alloc));
-        let report = match report_of(alloc, &self.model, &self.parts[offer.block], &offer, spare) {
+        let part = &self.parts[offer.block];
+        let set = set_of(&self.sets, &self.model, part);
+        let report = match report_of(alloc, &self.model, part, &set, &offer, spare) {
             Ok(report) => report,
             Err(_) => return Err(StepFault::Memory),
         };

@@ -1,12 +1,16 @@
 //! Which blocks and which members of their data sets the process touches (IEC 61850-7-2, DATA-SET and TrgOps).
 
-ghost use Rattle.std.specs.Prelude.{◌≡◌, ◌≤◌, ◌<◌, ◌^◌, OnOk, IfOk, length};
+ghost use Rattle.std.specs.Prelude.{◌≡◌, ◌≤◌, ◌<◌, ◌^◌, ℕ, OnOk, IfOk, length};
 ghost use Rattle.std.specs.List.{All};
 ghost use Rattle.touch_index.specs.Indexed.{pairs, with_members, with_room, AreAmong};
-ghost use Rattle.bay_core.specs.Watched.{IsWatchable, IsIndexed, IsWatching, options_in};
+ghost use Rattle.bay_core.specs.Watched.{AreLent, IsWatchable, IsIndexed, IsWatching, members_at, options_in};
 
-use bay_model::{MemberShape, SetView, Trg};
+use crate::source::set_of;
+use bay_model::{Comp, NodeRow, Trg};
+use data_sets::SetBook;
+use object_model::Model;
 use report_block::ReportBlock;
+use set_view::SetView;
 use std::alloc::{AllocError, Global};
 use sv_base::BlockNo;
 use touch_index::{Index, Notes};
@@ -20,12 +24,12 @@ pub(crate) struct Watch {
 }
 
 /// How many pairs of attribute and member a data set has.
-fn pairs_of(members: &[MemberShape]) -> Result<u32, AllocError>
-    ensures { IfOk result (λ n. n ≡ pairs members.now) }
+fn pairs_of(set: &SetView<'_>) -> Result<u32, AllocError>
+    ensures { IfOk result (λ n. n ≡ pairs set.now) }
 {
     let mut sum: u32 = 0;
-    for member in members {
-        let Ok(count) = u32::try_from(member.attrs.len()) else {
+    for place in 0..set.len() {
+        let Ok(count) = u32::try_from(set.member(place).attrs.len()) else {
             return Err(AllocError);
         };
         sum = sum.checked_add(count).ok_or(AllocError)?;
@@ -33,27 +37,54 @@ fn pairs_of(members: &[MemberShape]) -> Result<u32, AllocError>
     Ok(sum)
 }
 
-/// The members of a block's data set are put into the index.
-fn put_members(index: &mut Index, b: BlockNo, members: &[MemberShape]) -> Result<(), AllocError>
-    requires block { b.0 < length index.old.blocks }
-    requires few { length members.now ≤ 256 }
-    requires among { AreAmong index.old.attrs members.now }
-    ensures { OnOk result (index.new ≡ record { attrs = index.old.attrs; blocks = with_members b.0 members.now (with_room b.0 (pairs members.now) index.old.blocks) }) }
+/// The most pairs of attribute and member that a data set has.
+fn most_pairs(book: &SetBook, rows: &[NodeRow]) -> Result<u32, AllocError>
+    requires { AreLent rows.now book.now }
+    ensures { IfOk result (λ n. (k : ℕ) → k < length book.now.sets → pairs (members_at rows.now book.now k) ≤ n) }
 {
-    index.reserve(b, pairs_of(members)?)?;
-    index.put(b, &SetView { members });
+    let mut most: u32 = 0;
+    for number in 0..book.len() {
+        most = most.max(pairs_of(&book.view(Some(number), rows))?);
+    }
+    Ok(most)
+}
+
+/// The members of a block's data set are put into the index, in room for so many pairs.
+fn put_members(
+    index: &mut Index,
+    b: BlockNo,
+    set: &SetView<'_>,
+    room: u32,
+) -> Result<(), AllocError>
+    requires block { b.0 < length index.old.blocks }
+    requires few { length set.now ≤ 256 }
+    requires among { AreAmong index.old.attrs set.now }
+    requires room { pairs set.now ≤ room }
+    ensures { OnOk result (index.new ≡ record { attrs = index.old.attrs; blocks = with_members b.0 set.now (with_room b.0 room index.old.blocks) }) }
+{
+    index.reserve(b, room)?;
+    index.put(b, set);
     Ok(())
 }
 
-/// The index of the members of all blocks' data sets.
-fn index_of(alloc: Global, attrs: u32, parts: &[ReportBlock]) -> Result<Index, AllocError>
+/// The index of the members of all blocks' data sets, each in room for the pairs of any data set.
+fn index_of(
+    alloc: Global,
+    attrs: u32,
+    parts: &[ReportBlock],
+    book: &SetBook,
+    rows: &[NodeRow],
+) -> Result<Index, AllocError>
     requires few { length parts.now < 2 ^ 32 }
-    requires watchable { All (IsWatchable attrs) parts.now }
-    ensures { IfOk result (λ x. IsIndexed attrs parts.now x) }
+    requires lent { AreLent rows.now book.now }
+    requires watchable { All (IsWatchable rows.now book.now attrs) parts.now }
+    ensures { IfOk result (λ x. IsIndexed rows.now book.now attrs parts.now x) }
 {
+    let room = most_pairs(book, rows)?;
     let mut index = Index::open(alloc, parts.len() as u32, attrs)?;
     for b in 0..parts.len() {
-        put_members(&mut index, BlockNo(b as u32), parts[b].members())?;
+        let set = book.view(parts[b].set(), rows);
+        put_members(&mut index, BlockNo(b as u32), &set, room)?;
     }
     Ok(index)
 }
@@ -70,24 +101,51 @@ fn options_of(alloc: Global, parts: &[ReportBlock]) -> Result<Vec<Trg>, AllocErr
 }
 
 impl Watch {
-    ghost use Rattle.std.specs.Prelude.{◌<◌, ◌^◌, IfOk, length};
+    ghost use Rattle.std.specs.Prelude.{◌≡◌, ◌<◌, ◌^◌, IfOk, length, slice_set};
+    ghost use Rattle.object_model.specs.Nodes.{node_rows};
+    ghost use Rattle.brcb_state.specs.Components.{trg_of};
+    ghost use Rattle.bay_core.specs.Written.{index_after};
     ghost use Rattle.std.specs.List.{All};
-    ghost use Rattle.bay_core.specs.Watched.{IsWatching, IsWatchable};
+    ghost use Rattle.bay_core.specs.Watched.{AreLent, IsFollowed, IsWatching, IsWatchable, members_in};
 
     /// The data sets of all blocks by their attributes. It takes the room that notes need.
     pub(crate) fn open(
         alloc: Global,
         attrs: u32,
         parts: &[ReportBlock],
+        book: &SetBook,
+        rows: &[NodeRow],
     ) -> Result<Watch, AllocError>
         requires few { length parts.now < 2 ^ 32 }
-        requires watchable { All (IsWatchable attrs) parts.now }
-        ensures { IfOk result (λ w. IsWatching attrs parts.now w) }
+        requires lent { AreLent rows.now book.now }
+        requires watchable { All (IsWatchable rows.now book.now attrs) parts.now }
+        ensures { IfOk result (λ w. IsWatching rows.now book.now attrs parts.now w) }
     {
         Ok(Watch {
-            index: index_of(alloc, attrs, parts)?,
+            index: index_of(alloc, attrs, parts, book, rows)?,
             options: options_of(alloc, parts)?,
             notes: Notes::new(alloc, parts.len() as u32, 256)?,
         })
+    }
+
+    /// A component of a block was written, which is this by now: if it was DatSet the index has the members of its data set, and
+    /// its trigger options are these. It takes no memory.
+    pub(crate) fn follow(
+        &mut self,
+        b: BlockNo,
+        comp: Comp,
+        part: &ReportBlock,
+        book: &SetBook,
+        model: &Model,
+    )
+        requires { IsFollowed (node_rows model.now) book.now self.old b.0 part.now }
+        ensures index { self.new.index ≡ index_after comp b.0 (members_in (node_rows model.now) book.now part.now) self.old.index }
+        ensures options { self.new.options.items ≡ slice_set self.old.options.items b.0 (trg_of part.now.block.options.trg_ops) }
+        ensures notes { self.new.notes ≡ self.old.notes }
+    {
+        if matches!(comp, Comp::DatSet) {
+            self.index.put(b, &set_of(book, model, part));
+        }
+        self.options[b.0 as usize] = part.trg();
     }
 }

@@ -3,7 +3,7 @@ use Rattle.bay_core.proofs.FirstState.{furnished-first, stands-first}
 use Rattle.bay_core.proofs.opening.begun.Goals as goal
 
 pub invariant_of-result : goal.invariant_of-result
-invariant_of-result c = furnished-first c.args.model c.args.made.values c.args.made.parts.items c.args.made.watch c.args.made.octets (vec_capacity c.args.made.changes) c.requires.servable c.requires.values c.requires.parts c.requires.watch c.requires.octets c.requires.changes
+invariant_of-result c = furnished-first c.args.model c.args.made.values c.args.made.sets c.args.made.parts.items c.args.made.watch c.args.made.octets (vec_capacity c.args.made.changes) c.requires.servable c.requires.values c.requires.sets c.requires.parts c.requires.watch c.requires.octets c.requires.changes
 
 pub returns-clause-stands : goal.returns-clause-stands
 returns-clause-stands c = stands-first _ c.args.model c.requires.servable refl refl c.first.ensures c.requires.values c.requires.parts c.requires.associations

@@ -1,13 +1,29 @@
-use Rattle.std.proofs.Common.{◌∙◌, ap, sym, subst, length, List}
+use Rattle.std.proofs.Common.{◌≤◌, ◌∙◌, ap, sym, subst, length, map, List}
 use Rattle.std.specs.List.{All}
+use Rattle.bay_model.specs.declared.tables.NodeRow.{NodeRow}
+use Rattle.data_sets.specs.Books.{Book, largest, opened as booked}
+use Rattle.object_model.specs.Nodes.{node_rows}
 use Rattle.value_store.specs.Opened.{opened}
 use Rattle.value_store.specs.Stored.{Stored}
-use Rattle.bay_core.specs.Watched.{IsWatchable}
+use Rattle.bay_core.specs.Opened.{part_defined}
+use Rattle.bay_core.specs.Watched.{AreLent, IsWatchable, IsWatching}
+use Rattle.bay_core.proofs.BookLaws.{largest-few, sets-lent}
 use Rattle.bay_core.proofs.FirstValues.{opened-held}
 use Rattle.bay_core.proofs.FirstState.{watchable-first}
 use Rattle.bay_core.proofs.opening.parts_made.Goals as goal
 
-pub open-requires-2-clause-watchable : goal.open-requires-2-clause-watchable
-open-requires-2-clause-watchable c =
-    let count = c.in-Ok.ensures.1 ∙ (c.len.ensures ∙ (ap (λ (all : List Stored). length all) (c.store.ensures ∙ (c.in_ok-values.ensures ∙ ap opened c.config.ensures.same)) ∙ (opened-held c.args.model.now c.requires).count)) in
-    subst (All (IsWatchable c.in-Ok.attrs)) (sym c.deref.ensures.value) (watchable-first c.args.model.now c.in-Ok.attrs c.in_ok-parts.parts.items c.requires c.in_ok-parts.ensures count)
+pub parts_of-requires-clause-few : goal.parts_of-requires-clause-few
+parts_of-requires-clause-few c = subst (λ (b : Book). largest b ≤ 256) (sym (c.in_ok-sets.ensures ∙ ap booked c.sets.ensures)) (largest-few c.args.model.now c.requires)
+
+pub open-requires-3-clause-lent : goal.open-requires-3-clause-lent
+open-requires-3-clause-lent c =
+    let m = c.args.model.now in
+    subst (λ (rows : List NodeRow). AreLent rows c.in_ok-sets.sets) (sym (c.as_slice.ensures ∙ c.nodes.ensures)) (subst (AreLent (node_rows m)) (sym (c.in_ok-sets.ensures ∙ ap booked c.sets.ensures)) (sets-lent m c.requires))
+
+pub open-requires-3-clause-watchable : goal.open-requires-3-clause-watchable
+open-requires-3-clause-watchable c =
+    let m = c.args.model.now in
+    let count = c.in-Ok.ensures.1 ∙ (c.len.ensures ∙ (ap (λ (all : List Stored). length all) (c.store.ensures ∙ (c.in_ok-values.ensures ∙ ap opened c.config.ensures.same)) ∙ (opened-held m c.requires).count)) in
+    subst (λ (rows : List NodeRow). All (IsWatchable rows c.in_ok-sets.sets c.in-Ok.attrs) c.deref.result.now) (sym (c.as_slice.ensures ∙ c.nodes.ensures))
+    (subst (All (IsWatchable (node_rows m) c.in_ok-sets.sets c.in-Ok.attrs)) (sym c.deref.ensures.value)
+    (watchable-first m c.in-Ok.attrs c.in_ok-sets.sets c.in_ok-parts.parts.items c.requires (c.in_ok-sets.ensures ∙ ap booked c.sets.ensures) c.in_ok-parts.ensures count))

@@ -3,4 +3,4 @@ use Rattle.bay_core.specs.Opened.{seen, part_defined}
 use Rattle.bay_core.proofs.opening.parts_of.Given as goal
 
 abbrev pub invariant-loop-def : goal.invariant-loop-def
-invariant-loop-def l = map seen l.parts.items ≡ map (part_defined l.model) (take l.def-index l.def-items)
+invariant-loop-def l = map seen l.parts.items ≡ map (part_defined l.book) (take l.def-index l.def-items)

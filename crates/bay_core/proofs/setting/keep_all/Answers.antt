@@ -4,12 +4,17 @@ use Rattle.std.proofs.lemmas.List.{length-set}
 use Rattle.std.proofs.lemmas.Option.{slice_get-get_or}
 use Rattle.bay_rooms.specs.Rooms.{Filled}
 use Rattle.bay_model.specs.declared.note.Mention.{Mention}
+use Rattle.bay_model.specs.declared.tables.MemberShape.{MemberShape}
+use Rattle.report_block.specs.EntryOctets.{IsKeepable}
+use Rattle.report_block.specs.Events.{with_note}
+use Rattle.std.specs.List.{All}
 use Rattle.touch_index.specs.Gathering.{Gathered, note_at}
 use Rattle.touch_index.proofs.GatheringLaws.{room_same}
 use Rattle.report_block.specs.declared.block.ReportBlock.{ReportBlock}
-use Rattle.report_block.specs.Events.{with_note}
-use Rattle.bay_core.specs.Watched.{IsNoteOf}
-use Rattle.bay_core.proofs.WatchLaws.{Left, left-first, left-next, some-same}
+use Rattle.set_view.specs.Shapes.{AreThere, shapes_of}
+use Rattle.data_sets.specs.Books.{IsSet, nodes_in}
+use Rattle.bay_core.specs.Watched.{IsLent, IsNoteOf}
+use Rattle.bay_core.proofs.WatchLaws.{Left, left-first, left-next, noting, some-same}
 use Rattle.bay_core.proofs.WriteLaws.{at-place}
 use Rattle.bay_core.proofs.setting.keep_all.Goals as goal
 
@@ -19,21 +24,42 @@ loop-b-init c = record {
   count = refl;
   rooms = λ b. refl;
   entry = c.requires.entry;
-  left = λ b part at. left-first c.args.store.now c.args.moment c.args.step c.args.parts.now.items c.args.notes.now.notes b part at (c.requires.notes b part at);
+  left = λ b part at. left-first c.args.source.now.rows.now c.args.source.now.book.now c.args.source.now.store.now c.args.moment c.args.step c.args.parts.now.items c.args.notes.now.notes b part at (c.requires.notes b part at);
 }
 
+pub view-set-requires-clause-set : goal.view-set-requires-clause-set
+view-set-requires-clause-set c =
+    let b = c.in-Some.b.0 in
+    let part = c.index_mut-part.result.now in
+    let within : b < length c.loop-b.parts.items = omega (arith, c.in-Some.ensures.within, c.loop-b.invariant.count, c.requires.count, c.loop-b.invariant.parts) in
+    let before : b < length c.args.parts.now.items = omega (arith, within, c.loop-b.invariant.parts) in
+    let left = c.loop-b.invariant.left b (slice_index_or c.args.parts.now.items b part) (slice_get-get_or c.args.parts.now.items b part before) in
+    let same = some-same left.0 part (sym left.1 ∙ at-place c.loop-b.parts.items b part within c.index_mut-part.ensures.value) in
+    subst (IsSet c.args.source.now.book.now) (sym c.set.ensures) (subst (IsLent c.args.source.now.rows.now c.args.source.now.book.now) same left.2.lent).set
+
+pub view-set-requires-clause-there : goal.view-set-requires-clause-there
+view-set-requires-clause-there c =
+    let b = c.in-Some.b.0 in
+    let part = c.index_mut-part.result.now in
+    let within : b < length c.loop-b.parts.items = omega (arith, c.in-Some.ensures.within, c.loop-b.invariant.count, c.requires.count, c.loop-b.invariant.parts) in
+    let before : b < length c.args.parts.now.items = omega (arith, within, c.loop-b.invariant.parts) in
+    let left = c.loop-b.invariant.left b (slice_index_or c.args.parts.now.items b part) (slice_get-get_or c.args.parts.now.items b part before) in
+    let same = some-same left.0 part (sym left.1 ∙ at-place c.loop-b.parts.items b part within c.index_mut-part.ensures.value) in
+    subst (λ o. AreThere (length c.args.source.now.rows.now) (nodes_in c.args.source.now.book.now o)) (sym c.set.ensures) (subst (IsLent c.args.source.now.rows.now c.args.source.now.book.now) same left.2.lent).there
+
 -- what is kept is a note of the part
-is-note : (c : goal.After-keep_at_once-arg-1) → IsNoteOf c.args.store.now c.index_mut.result.now c.as_slice.result.now
+is-note : (c : goal.After-keep_at_once-arg-1) → IsNoteOf c.args.source.now.rows.now c.args.source.now.book.now c.args.source.now.store.now c.index_mut-part.result.now c.as_slice-note.result.now
 is-note c =
     let b = c.in-Some.b.0 in
     let within : b < length c.loop-b.parts.items = omega (arith, c.in-Some.ensures.within, c.loop-b.invariant.count, c.requires.count, c.loop-b.invariant.parts) in
     let before : b < length c.args.parts.now.items = omega (arith, within, c.loop-b.invariant.parts) in
-    let left = c.loop-b.invariant.left b (slice_index_or c.args.parts.now.items b c.index_mut.result.now) (slice_get-get_or c.args.parts.now.items b c.index_mut.result.now before) in
-    let same = some-same left.0 c.index_mut.result.now (sym left.1 ∙ at-place c.loop-b.parts.items b c.index_mut.result.now within c.index_mut.ensures.value) in
-    subst (λ (p : ReportBlock). IsNoteOf c.args.store.now p c.as_slice.result.now) same (subst (IsNoteOf c.args.store.now left.0) (sym (c.as_slice.ensures ∙ ap (λ (n : Filled Mention). n.items) c.note.ensures)) left.2)
+    let left = c.loop-b.invariant.left b (slice_index_or c.args.parts.now.items b c.index_mut-part.result.now) (slice_get-get_or c.args.parts.now.items b c.index_mut-part.result.now before) in
+    let same = some-same left.0 c.index_mut-part.result.now (sym left.1 ∙ at-place c.loop-b.parts.items b c.index_mut-part.result.now within c.index_mut-part.ensures.value) in
+    subst (λ (p : ReportBlock). IsNoteOf c.args.source.now.rows.now c.args.source.now.book.now c.args.source.now.store.now p c.as_slice-note.result.now) same (subst (IsNoteOf c.args.source.now.rows.now c.args.source.now.book.now c.args.source.now.store.now left.0) (sym (c.as_slice-note.ensures ∙ ap (λ (n : Filled Mention). n.items) c.note.ensures)) left.2)
 
 pub keep_at_once-requires-clause-members : goal.keep_at_once-requires-clause-members
-keep_at_once-requires-clause-members c = (is-note c).members
+keep_at_once-requires-clause-members c =
+    subst (λ (l : List MemberShape). All (IsKeepable c.args.source.now.store.now l) c.as_slice-note.result.now) (sym (c.view-set.ensures ∙ ap (λ o. shapes_of c.args.source.now.rows.now (nodes_in c.args.source.now.book.now o)) c.set.ensures)) (is-note c).members
 
 pub keep_at_once-requires-clause-room : goal.keep_at_once-requires-clause-room
 keep_at_once-requires-clause-room c = omega (arith, (is-note c).few, c.loop-b.invariant.entry)
@@ -43,22 +69,23 @@ loop-b-preserved c =
     let b = c.in-Some.b.0 in
     let parts = c.loop-b.parts.items in
     let notes = c.loop-b.notes.notes in
-    let part = c.index_mut.result.now in
+    let part = c.index_mut-part.result.now in
     let below = c.in-Some.ensures.within in
     let within : b < length parts = omega (arith, below, c.loop-b.invariant.count, c.requires.count, c.loop-b.invariant.parts) in
     let front = c.in-Some.ensures.some in
     let cleared = c.clear_last.ensures front.0 c.in-Some.b front.1 in
-    let there = at-place parts b part within c.index_mut.ensures.value in
-    let kept : c.keep_at_once.new.self ≡ with_note c.args.store.now c.args.moment c.args.step (note_at notes b).items part
-    = c.keep_at_once.ensures.part ∙ ap (λ (ms : List Mention). with_note c.args.store.now c.args.moment c.args.step ms part) (c.as_slice.ensures ∙ ap (λ (n : Filled Mention). n.items) c.note.ensures) in
+    let there = at-place parts b part within c.index_mut-part.ensures.value in
+    let lent = c.view-set.ensures ∙ ap (λ o. shapes_of c.args.source.now.rows.now (nodes_in c.args.source.now.book.now o)) c.set.ensures in
+    let kept : c.keep_at_once.new.self ≡ noting c.args.source.now.rows.now c.args.source.now.book.now c.args.source.now.store.now c.args.moment c.args.step (note_at notes b).items part
+    = c.keep_at_once.ensures.part ∙ (ap (λ (l : List MemberShape). with_note c.args.source.now.store.now l c.args.moment c.args.step c.as_slice-note.result.now part) lent ∙ ap (λ (ms : List Mention). noting c.args.source.now.rows.now c.args.source.now.book.now c.args.source.now.store.now c.args.moment c.args.step ms part) (c.as_slice-note.ensures ∙ ap (λ (n : Filled Mention). n.items) c.note.ensures)) in
     record {
       parts = length-set parts b c.keep_at_once.new.self ∙ c.loop-b.invariant.parts;
       count = ap (λ (g : Gathered). length g.notes) cleared ∙ (length-set notes b (record { items = []; room = (note_at notes b).room }) ∙ c.loop-b.invariant.count);
       rooms = λ k. ap (λ (g : Gathered). (note_at g.notes k).room) cleared ∙ (room_same notes b [] below k ∙ c.loop-b.invariant.rooms k);
       entry = c.keep_at_once.ensures.room ∙ c.loop-b.invariant.entry;
       left = λ k q at.
-          let target = with_note c.args.store.now c.args.moment c.args.step (note_at c.args.notes.now.notes k).items q in
-          subst (λ (p : ReportBlock). Left c.args.store.now c.args.moment c.args.step (slice_set parts b p) c.clear_last.new.self.notes k target) (sym kept)
-          (subst (λ (g : Gathered). Left c.args.store.now c.args.moment c.args.step (slice_set parts b (with_note c.args.store.now c.args.moment c.args.step (note_at notes b).items part)) g.notes k target) (sym cleared)
-          (left-next c.args.store.now c.args.moment c.args.step parts notes b part k target there below (c.loop-b.invariant.left k q at)));
+          let target = noting c.args.source.now.rows.now c.args.source.now.book.now c.args.source.now.store.now c.args.moment c.args.step (note_at c.args.notes.now.notes k).items q in
+          subst (λ (p : ReportBlock). Left c.args.source.now.rows.now c.args.source.now.book.now c.args.source.now.store.now c.args.moment c.args.step (slice_set parts b p) c.clear_last.new.self.notes k target) (sym kept)
+          (subst (λ (g : Gathered). Left c.args.source.now.rows.now c.args.source.now.book.now c.args.source.now.store.now c.args.moment c.args.step (slice_set parts b (noting c.args.source.now.rows.now c.args.source.now.book.now c.args.source.now.store.now c.args.moment c.args.step (note_at notes b).items part)) g.notes k target) (sym cleared)
+          (left-next c.args.source.now.rows.now c.args.source.now.book.now c.args.source.now.store.now c.args.moment c.args.step parts notes b part k target there below (c.loop-b.invariant.left k q at)));
     }

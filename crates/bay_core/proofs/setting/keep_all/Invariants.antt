@@ -2,8 +2,8 @@ use Rattle.std.proofs.Common.{◌≡◌, ℕ, Some, length}
 use Rattle.std.specs.Prelude.{slice_get}
 use Rattle.touch_index.specs.Gathering.{note_at}
 use Rattle.report_block.specs.declared.block.ReportBlock.{ReportBlock}
-use Rattle.report_block.specs.Events.{with_note}
 use Rattle.bay_core.specs.Watched.{IsNoteOf}
+use Rattle.bay_core.proofs.WatchLaws.{noting}
 use Rattle.bay_core.proofs.setting.keep_all.Given as goal
 
 -- each part with what is left of its note comes to what it is to come to
@@ -14,8 +14,8 @@ invariant-loop-b l = record {
   rooms : (b : ℕ) → (note_at l.notes.notes b).room ≡ (note_at l.fn.notes.notes b).room;
   entry : l.octets.room ≡ 129024;
   left : (b : ℕ) (part : ReportBlock) → slice_get l.fn.parts.items b ≡ Some part
-      → (now : ReportBlock) × (slice_get l.parts.items b ≡ Some now) × IsNoteOf l.fn.store now (note_at l.notes.notes b).items
-      × (with_note l.fn.store l.fn.moment l.fn.step (note_at l.notes.notes b).items now ≡ with_note l.fn.store l.fn.moment l.fn.step (note_at l.fn.notes.notes b).items part);
+      → (now : ReportBlock) × (slice_get l.parts.items b ≡ Some now) × IsNoteOf l.fn.source.rows.now l.fn.source.book.now l.fn.source.store.now now (note_at l.notes.notes b).items
+      × (noting l.fn.source.rows.now l.fn.source.book.now l.fn.source.store.now l.fn.moment l.fn.step (note_at l.notes.notes b).items now ≡ noting l.fn.source.rows.now l.fn.source.book.now l.fn.source.store.now l.fn.moment l.fn.step (note_at l.fn.notes.notes b).items part);
 }
 
 abbrev pub decreases-loop-b : goal.decreases-loop-b

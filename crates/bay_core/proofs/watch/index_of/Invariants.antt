@@ -1,7 +1,9 @@
-use Rattle.std.proofs.Common.{◌≡◌, ◌<◌, ℕ, Some, length}
+use Rattle.std.proofs.Common.{◌≡◌, ◌≤◌, ◌<◌, ℕ, Some, length}
 use Rattle.std.specs.Prelude.{slice_get}
+use Rattle.touch_index.specs.Indexed.{block_at}
 use Rattle.touch_index.specs.Gathered.{IsSetOf}
 use Rattle.report_block.specs.declared.block.ReportBlock.{ReportBlock}
+use Rattle.bay_core.specs.Watched.{members_in}
 use Rattle.bay_core.proofs.watch.index_of.Given as goal
 
 -- the members of the blocks before this one are in the index
@@ -9,5 +11,6 @@ abbrev pub invariant-loop-b : goal.invariant-loop-b
 invariant-loop-b l = record {
   attrs : l.index.attrs ≡ l.attrs;
   count : length l.index.blocks ≡ length l.parts;
-  touches : (b : ℕ) (part : ReportBlock) → b < l.b → slice_get l.parts b ≡ Some part → IsSetOf l.index.blocks b part.members.items;
+  touches : (b : ℕ) (part : ReportBlock) → b < l.b → slice_get l.parts b ≡ Some part → IsSetOf l.index.blocks b (members_in l.rows l.book part);
+  roomy : (b : ℕ) → b < l.b → l.room ≤ (block_at l.index.blocks b).room;
 }

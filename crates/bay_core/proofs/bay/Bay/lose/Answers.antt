@@ -11,8 +11,8 @@ use Rattle.bay_core.proofs.EndLaws.{ends-told, lost-fault, lost-at, yours-told}
 use Rattle.bay_core.proofs.bay.Bay.lose.Goals as goal
 
 pub invariant_of-self : goal.invariant_of-self
-invariant_of-self c = subst (λ ps. IsFurnished c.self.inside.model c.self.inside.values ps c.self.inside.watch c.self.inside.octets (vec_capacity c.self.inside.changes)) (sym c.lose_all.ensures)
-    (furnished-map c.self.inside.model c.self.inside.values c.self.inside.parts.items c.self.inside.watch c.self.inside.octets (vec_capacity c.self.inside.changes) c.self.invariant (lost_by c.args.a) (λ p. refl) (λ p. refl) (λ p. refl))
+invariant_of-self c = subst (λ ps. IsFurnished c.self.inside.model c.self.inside.values c.self.inside.sets ps c.self.inside.watch c.self.inside.octets (vec_capacity c.self.inside.changes)) (sym c.lose_all.ensures)
+    (furnished-map c.self.inside.model c.self.inside.values c.self.inside.sets c.self.inside.parts.items c.self.inside.watch c.self.inside.octets (vec_capacity c.self.inside.changes) c.self.invariant (lost_by c.args.a) (λ p. refl) (λ p. refl) (λ p. refl))
 
 pub returns-clause-does : goal.returns-clause-does
 returns-clause-does c = λ c' h was.

@@ -11,7 +11,7 @@ use Rattle.bay_core.specs.Events.{AreReady, after_events}
 use Rattle.bay_core.specs.State.{State, IsFurnished}
 use Rattle.bay_core.specs.Standing.{StandsFor}
 use Rattle.bay_core.proofs.ChangeLaws.{fits-settings}
-use Rattle.bay_core.proofs.SettingLaws.{set-for, held-set, furnished-all, are-ready}
+use Rattle.bay_core.proofs.SettingLaws.{set-for, held-set, furnished-all, are-ready, have-members}
 use Rattle.bay_core.proofs.bay.Bay.set.Goals as goal
 
 pub set-requires-clause-fits : goal.set-requires-clause-fits
@@ -22,28 +22,31 @@ set-requires-clause-fits c =
 pub event_all-requires-clause-ready : goal.event_all-requires-clause-ready
 event_all-requires-clause-ready c =
     let held = held-set c.args.self.now c.self.inside.model c.self.inside.values c.set.new.self c.args.sets.now c.as_slice.result.now (ap (λ (s : State). s.config) c.self.view_is) c.requires.fits c.self.invariant.values c.as_slice.ensures c.set.ensures.set c.set.ensures.count in
-    subst (λ (all : List Stored). AreReady all c.self.inside.parts.items) (sym c.store.ensures) (are-ready c.self.inside.model c.set.new.self c.self.inside.parts.items c.self.invariant.servable held c.self.invariant.members)
+    let rows = c.as_slice-2.ensures ∙ c.nodes.ensures in
+    subst (λ (all : List Stored). AreReady c.as_slice-2.result.now c.self.inside.sets all c.self.inside.parts.items) (sym c.store.ensures)
+    (are-ready c.self.inside.model c.as_slice-2.result.now c.self.inside.values c.set.new.self c.self.inside.sets c.self.inside.parts.items c.self.inside.watch c.self.inside.octets (vec_capacity c.self.inside.changes) rows c.self.invariant held)
 
 pub invariant_of-self : goal.invariant_of-self
 invariant_of-self c =
     let held = held-set c.args.self.now c.self.inside.model c.self.inside.values c.set.new.self c.args.sets.now c.as_slice.result.now (ap (λ (s : State). s.config) c.self.view_is) c.requires.fits c.self.invariant.values c.as_slice.ensures c.set.ensures.set c.set.ensures.count in
-    subst (λ ps. IsFurnished c.self.inside.model c.set.new.self ps c.event_all.new.watch c.event_all.new.octets (vec_capacity c.set.new.changes)) (sym c.event_all.ensures.parts)
-    (furnished-all c.self.inside.model c.self.inside.values c.set.new.self c.store.result.now c.self.inside.parts.items c.self.inside.watch c.event_all.new.watch c.self.inside.octets c.event_all.new.octets (vec_capacity c.self.inside.changes) (vec_capacity c.set.new.changes) c.as_slice-2.result.now c.later.result c.self.inside.steps
+    subst (λ ps. IsFurnished c.self.inside.model c.set.new.self c.self.inside.sets ps c.event_all.new.watch c.event_all.new.octets (vec_capacity c.set.new.changes)) (sym c.event_all.ensures.parts)
+    (furnished-all c.self.inside.model c.self.inside.sets c.self.inside.values c.set.new.self c.store.result.now c.self.inside.parts.items c.self.inside.watch c.event_all.new.watch c.self.inside.octets c.event_all.new.octets (vec_capacity c.self.inside.changes) (vec_capacity c.set.new.changes) c.as_slice-3.result.now c.as_slice-2.result.now c.later.result c.self.inside.steps
     c.self.invariant held c.set.ensures.count c.event_all.ensures.watch c.event_all.ensures.blank c.event_all.ensures.entry (omega (arith, c.clear.ensures.capacity, c.set.ensures.room)))
 
 pub event_all-requires-clause-once : goal.event_all-requires-clause-once
-event_all-requires-clause-once c = once_where_distinct c.as_slice-2.result.now (subst AreDistinct (sym c.as_slice-2.ensures.value) c.set.ensures.once)
+event_all-requires-clause-once c = once_where_distinct c.as_slice-3.result.now (subst AreDistinct (sym c.as_slice-3.ensures.value) c.set.ensures.once)
 
 pub returns-clause-does : goal.returns-clause-does
 returns-clause-does c = λ c' h was.
     let st = subst (λ s. StandsFor s c' h) (sym c.self.view_is) was in
     let held = held-set c.args.self.now c.self.inside.model c.self.inside.values c.set.new.self c.args.sets.now c.as_slice.result.now (ap (λ (s : State). s.config) c.self.view_is) c.requires.fits c.self.invariant.values c.as_slice.ensures c.set.ensures.set c.set.ensures.count in
     let fit = ap (λ (s : State). fits s.config (steps.Value c.args.sets.now)) c.self.view_is ∙ c.requires.fits in
-    let parts = c.event_all.ensures.parts ∙ (ap (λ (all : List Stored). after_events all c.as_slice-2.result.now c.later.result c.self.inside.steps c.self.inside.parts.items) c.store.ensures
-    ∙ ap₂ (λ (changes : List Change) (at : ℕ). after_events c.set.new.self changes at c.self.inside.steps c.self.inside.parts.items) c.as_slice-2.ensures.value c.later.ensures) in (
+    let parts = c.event_all.ensures.parts ∙ (ap (λ (all : List Stored). after_events c.as_slice-2.result.now c.self.inside.sets all c.as_slice-3.result.now c.later.result c.self.inside.steps c.self.inside.parts.items) c.store.ensures
+    ∙ ap₂ (λ (changes : List Change) (at : ℕ). after_events c.as_slice-2.result.now c.self.inside.sets c.set.new.self changes at c.self.inside.steps c.self.inside.parts.items) c.as_slice-3.ensures.value c.later.ensures) in (
       refl,
-      set-for _ c.advance.new.self c' h c.args.moment c.args.actor.0 c.args.sets.now c.set.new.self c.set.new.changes.items
-          c.self.invariant.servable held (fits-settings c.self.inside.model c.self.inside.values c.args.sets.now fit c.self.invariant.values).0 c.self.invariant.members
+      set-for c.as_slice-2.result.now c.self.inside.sets _ c.advance.new.self c' h c.args.moment c.args.actor.0 c.args.sets.now c.set.new.self c.set.new.changes.items
+          c.self.invariant.servable held (fits-settings c.self.inside.model c.self.inside.values c.args.sets.now fit c.self.invariant.values).0
+          (have-members c.self.inside.model c.as_slice-2.result.now c.self.inside.values c.self.inside.sets c.self.inside.parts.items c.self.inside.watch c.self.inside.octets (vec_capacity c.self.inside.changes) (c.as_slice-2.ensures ∙ c.nodes.ensures) c.self.invariant)
           (λ x. c.set.ensures.set x ∙ ap (λ (l : List Setting). last_set l x (attribute c.self.inside.values x)) c.as_slice.ensures) c.set.ensures.count
           (subst (λ (l : List Setting). AreMade c.self.inside.model c.self.inside.values l c.set.new.changes.items) c.as_slice.ensures c.set.ensures.changes)
           (c.advance.ensures ∙ ap (λ (ps : List ReportBlock). record { config = c.self.inside.model; steps = suc c.self.inside.steps; latest = max c.self.inside.latest c.args.moment; stored = c.set.new.self; parts = ps; rows = c.self.inside.associations }) parts)
