@@ -36,9 +36,8 @@ association_of _ = 0
 abbrev pub turn_of : Config → ℕ → Step → Told
 turn_of c actor step = if fits c step then turn actor step else refused 4
 
--- writes of a component are built, unless it is DatSet, BufTm, IntgPd or GI
+-- writes of a component are built, unless it is BufTm, IntgPd or GI
 abbrev pub is_built : Comp → Bool
-is_built comps.DatSet = false
 is_built comps.BufTm = false
 is_built comps.IntgPd = false
 is_built comps.GI = false

@@ -45,7 +45,7 @@ fn put(slot: &mut Step, step: Step)
 fn is_built(comp: Comp) -> bool
     ensures { result ≡ is_built_component comp }
 {
-    !matches!(comp, Comp::DatSet | Comp::BufTm | Comp::IntgPd | Comp::GI)
+    !matches!(comp, Comp::BufTm | Comp::IntgPd | Comp::GI)
 }
 
 /// An association is opened, if it isn't open.
