@@ -23,8 +23,10 @@ pub write-answer-requires : goal.write-answer-requires
 write-answer-requires c =
     let part = c.index_mut.result.now in
     let below : c.args.b.0 < length c.self.inside.parts.items = omega (arith, c.self.invariant.count, subst (λ s. c.args.b.0 < length s.config.blocks) (sym c.self.view_is) c.requires.block) in
-    record { room = entry-room c.self.inside.model c.self.inside.values c.self.inside.sets c.self.inside.parts.items c.self.inside.watch c.self.inside.octets (vec_capacity c.self.inside.changes) c.self.invariant c.args.b.0 part
-    (at-place c.self.inside.parts.items c.args.b.0 part below c.index_mut.ensures.value) }
+    record {
+      room = entry-room c.self.inside.model c.self.inside.values c.self.inside.sets c.self.inside.parts.items c.self.inside.watch c.self.inside.octets (vec_capacity c.self.inside.changes) c.self.invariant c.args.b.0 part
+          (at-place c.self.inside.parts.items c.args.b.0 part below c.index_mut.ensures.value);
+    }
 
 pub follow-requires : goal.follow-requires
 follow-requires c =
