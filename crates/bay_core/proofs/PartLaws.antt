@@ -1,13 +1,13 @@
 -- The blocks of a bay that report at once, without an integrity period: at the arrival of a point, and after a deed that doesn't
 -- touch their entries (IEC 61850-7-2, BRCB attributes BufTm and IntgPd).
-use Rattle.std.proofs.Common.{◌≡◌, ℕ, List, [], ◌∷◌, map, refl, sym, ap, subst, ◌∙◌, false, Some}
+use Rattle.std.proofs.Common.{◌≡◌, ℕ, List, [], ◌∷◌, map, refl, sym, subst, false, Some}
 use Rattle.std.specs.Prelude.{slice_get}
 use Rattle.std.specs.List.{All}
 use Rattle.std.proofs.lemmas.List.Elements.{All-nil, All-cons, All-head, All-tail}
 use Rattle.list_laws.proofs.Places.{get-or}
 use Rattle.sv_base.specs.declared.config.Config.{Config}
 use Rattle.sv_base.specs.declared.config.BlockDef.{BlockDef}
-use Rattle.bay_model.specs.Model.{Model, Block, Parameters}
+use Rattle.bay_model.specs.Model.{Model, Block}
 use Rattle.bay_model.specs.Lookups.{block_of, no_parameters}
 use Rattle.bay_model.specs.Configured.{block_defined}
 use Rattle.bay_model.specs.Named.{configured_model}

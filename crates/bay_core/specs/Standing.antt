@@ -2,7 +2,6 @@
 use Rattle.std.specs.Prelude.{◌≡◌, ℕ, List, [], length, Some, slice_get}
 use Rattle.sv_base.specs.declared.config.Config.{Config}
 use Rattle.bay_model.specs.Model.{Model, Parameters}
-use Rattle.bay_model.specs.Lookups.{block_of}
 use Rattle.bay_model.specs.Named.{configured_model}
 use Rattle.bay_model.specs.Points.{Past, now}
 use Rattle.bay_model.specs.Parameters.{parameters_at}

@@ -1,4 +1,4 @@
-use Rattle.std.proofs.Common.{ℕ, arith, suc, max, ap, sym, subst, ◌∙◌, ◌≡◌, ◌<◌, length, slice_set}
+use Rattle.std.proofs.Common.{arith, suc, max, ap, sym, subst, ◌∙◌, ◌≡◌, ◌<◌, length, slice_set}
 use Rattle.std.specs.Prelude.{vec_capacity}
 use Rattle.std.proofs.lemmas.List.{get_or-set_same}
 use Rattle.bay_model.specs.declared.answer.Answer.TheVariants as answers
