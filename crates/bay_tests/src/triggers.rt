@@ -1,6 +1,7 @@
 //! What is noted of the changes of a point (IEC 61850-7-2, TriggerConditions and ReasonForInclusion).
 
-use bay_model::{AttrIds, Change, Flags, MemberShape, Note, SetView, Trg};
+use bay_model::{AttrIds, Change, Flags, MemberShape, NodeRow, Note, Trg};
+use set_view::SetView;
 use std::test::*;
 use sv_base::{AttrId, NodeId, TypeOf};
 use trigger_core::note;
@@ -31,16 +32,20 @@ fn change(attr: u32, flags: Flags, differs: bool) -> Change {
     }
 }
 
-/// A member of these attributes.
-fn shape(rt: &HostRuntime, attrs: &[u32]) -> Result<MemberShape, Fail> {
+/// A node of these attributes.
+fn row(rt: &HostRuntime, attrs: &[u32]) -> Result<NodeRow, Fail> {
     let mut items = Vec::new(rt.alloc());
     for attr in attrs {
         items.push(AttrId(*attr))?;
     }
-    Ok(MemberShape {
-        node: NodeId(0),
-        kind: TypeOf::Bool,
-        attrs: AttrIds::from_vec(items),
+    Ok(NodeRow {
+        allowed: true,
+        octets: 6,
+        shape: MemberShape {
+            node: NodeId(0),
+            kind: TypeOf::Bool,
+            attrs: AttrIds::from_vec(items),
+        },
     })
 }
 
@@ -70,12 +75,8 @@ fn told(rt: &HostRuntime, note: &Note) -> Result<String, Fail> {
 // data-update a setting of one flagged dupd, each where TrgOps has its bit.
 #[test]
 fn reasons_by_trigger(rt: HostRuntime) -> Result<(), Fail> {
-    let members = [
-        shape(&rt, &[0, 1])?,
-        shape(&rt, &[2])?,
-        shape(&rt, &[3, 2])?,
-    ];
-    let set = SetView { members: &members };
+    let rows = [row(&rt, &[3, 2])?, row(&rt, &[0, 1])?, row(&rt, &[2])?];
+    let set = SetView::new(&[NodeId(1), NodeId(2), NodeId(0)], &rows);
     let all = Trg {
         dchg: true,
         qchg: true,

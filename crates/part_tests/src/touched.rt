@@ -7,7 +7,8 @@ ghost use Rattle.bay_model.specs.declared.tables.MemberShape.{MemberShape as Sha
 ghost use Rattle.touch_index.specs.Indexed.{AreAmong, pairs};
 ghost use Rattle.touch_index.specs.Gathered.{AreOnce, IsSetOf};
 
-use bay_model::{AttrIds, Change, Flags, MemberShape, Note, SetView, Trg};
+use bay_model::{AttrIds, Change, Flags, MemberShape, NodeRow, Note, Trg};
+use set_view::SetView;
 use std::alloc::{AllocError, Global};
 use std::test::*;
 use sv_base::{AttrId, BlockNo, NodeId, TypeOf};
@@ -61,19 +62,23 @@ fn updated(attr: u32) -> Change
     }
 }
 
-/// A member of two attributes.
-fn pair(alloc: Global, x: u32, y: u32) -> Result<MemberShape, AllocError>
-    ensures { IfOk result (λ m. m.attrs ≡ record { 0 = x } ∷ record { 0 = y } ∷ []) }
+/// A node of two attributes.
+fn pair(alloc: Global, x: u32, y: u32) -> Result<NodeRow, AllocError>
+    ensures { IfOk result (λ r. r.shape.attrs ≡ record { 0 = x } ∷ record { 0 = y } ∷ []) }
 {
-    Ok(MemberShape {
-        node: NodeId(0),
-        kind: TypeOf::Bool,
-        attrs: AttrIds::from_vec(vec![in alloc; AttrId(x), AttrId(y)]?),
+    Ok(NodeRow {
+        allowed: true,
+        octets: 6,
+        shape: MemberShape {
+            node: NodeId(0),
+            kind: TypeOf::Bool,
+            attrs: AttrIds::from_vec(vec![in alloc; AttrId(x), AttrId(y)]?),
+        },
     })
 }
 
 /// An index of four attributes and two blocks of these members.
-fn opened(alloc: Global, first: &[MemberShape], second: &[MemberShape]) -> Result<Index, AllocError>
+fn opened(alloc: Global, first: &SetView<'_>, second: &SetView<'_>) -> Result<Index, AllocError>
     requires few { length first.now ≤ 4 }
     requires few_too { length second.now ≤ 4 }
     requires room { pairs first.now ≤ 4 }
@@ -88,8 +93,8 @@ fn opened(alloc: Global, first: &[MemberShape], second: &[MemberShape]) -> Resul
     let mut index = Index::open(alloc, 2, 4)?;
     index.reserve(BlockNo(0), 4)?;
     index.reserve(BlockNo(1), 4)?;
-    index.put(BlockNo(0), &SetView { members: first });
-    index.put(BlockNo(1), &SetView { members: second });
+    index.put(BlockNo(0), first);
+    index.put(BlockNo(1), second);
     Ok(index)
 }
 
@@ -185,8 +190,9 @@ fn gathered(
 #[test]
 fn an_attribute_touches_the_members_that_hold_it(rt: HostRuntime) -> Result<(), AllocError> {
     let alloc = rt.alloc();
-    let first = [pair(alloc, 0, 1)?, pair(alloc, 2, 1)?];
-    let second = [pair(alloc, 1, 3)?];
+    let rows = [pair(alloc, 0, 1)?, pair(alloc, 2, 1)?, pair(alloc, 1, 3)?];
+    let first = SetView::new(&[NodeId(0), NodeId(1)], &rows);
+    let second = SetView::new(&[NodeId(2)], &rows);
     let mut index = opened(alloc, &first, &second)?;
     let both = all_touches(&index);
     index.clear(BlockNo(0));
@@ -199,8 +205,9 @@ fn an_attribute_touches_the_members_that_hold_it(rt: HostRuntime) -> Result<(), 
 #[test]
 fn changes_are_noted_where_they_touch(rt: HostRuntime) -> Result<(), AllocError> {
     let alloc = rt.alloc();
-    let first = [pair(alloc, 0, 1)?, pair(alloc, 2, 1)?];
-    let second = [pair(alloc, 1, 3)?];
+    let rows = [pair(alloc, 0, 1)?, pair(alloc, 2, 1)?, pair(alloc, 1, 3)?];
+    let first = SetView::new(&[NodeId(0), NodeId(1)], &rows);
+    let second = SetView::new(&[NodeId(2)], &rows);
     let index = opened(alloc, &first, &second)?;
     let changes = [differs(0, true, false), differs(1, false, true), updated(2)];
     let one = noted(alloc, &index, 0, &changes, ALL)?;

@@ -6,7 +6,7 @@ use std::test::*;
 
 /// Records of values, of gaps, of clients that go on behind an entry, of blocks that are held and purged, and of writes of their
 /// components.
-const ANSWERED: [Row; 18] = [
+const ANSWERED: [Row; 20] = [
     (
         "nothing",
         "record 1\n<200>open 1 direct\nend\n",
@@ -129,6 +129,24 @@ const ANSWERED: [Row; 18] = [
             write 1 & RptEna T\ntake 1\nend\n",
         Status::Ok,
         "1 refused 11\n1 ok\n1 ok\n1 empty\nend\n",
+    ),
+    (
+        "another DatSet purges, and its members are reported",
+        "record 1\nconfig 1\nserver a b c\nld A\nln LLN0\nset S\nmember A/G$ST$X$v\nset T\nmember A/G$ST$Y$v\nmember A/G$ST$X$v\n\
+            brcb b ' 'A/LLN0$S 1 0111001110 0 011001 0 200\nln G\nattr ST X$v int32 d 0\nattr ST Y$v int32 d 0\nend\n\
+            open 1 direct\nset A/G$ST$X$v 1\nwrite 1 A/LLN0$BR$b DatSet 'A/LLN0$U\nwrite 1 A/LLN0$BR$b DatSet 'A/LLN0$S\n\
+            write 1 A/LLN0$BR$b RptEna T\ntake 1\nwrite 1 A/LLN0$BR$b DatSet 'A/LLN0$T\nwrite 1 A/LLN0$BR$b RptEna F\n\
+            write 1 A/LLN0$BR$b DatSet 'A/LLN0$T\nset A/G$ST$X$v 2 A/G$ST$Y$v 3\nwrite 1 A/LLN0$BR$b RptEna T\ntake 1\ntake 1\nend\n",
+        Status::Ok,
+        "1 refused 11\n1 ok\n1 ok\n1 report A/LLN0$BR$b sq 0 id 1 time !00 ovfl 0 1=d:850101\n1 refused 2\n1 ok\n1 ok\n1 ok\n\
+            1 report A/LLN0$BR$b sq 0 id 2 time !00 ovfl 0 1=d:850103 2=d:850102\n1 empty\nend\n",
+    ),
+    (
+        "no DatSet",
+        "record 1\n<200>open 1 direct\nset @ 1\nwrite 1 & DatSet '\nset @ 2\nwrite 1 & RptEna T\nwrite 1 & DatSet 'BAY1/LLN0$Events\nset @ 3\n\
+            write 1 & RptEna T\ntake 1\nend\n",
+        Status::Ok,
+        "1 ok\n1 refused 8\n1 ok\n1 ok\n1 report & sq 0 id 2 time !00 ovfl 1 3=d:850103\nend\n",
     ),
 ];
 

@@ -12,7 +12,6 @@ use Rattle.record_steps.specs.Resolved.{is_built}
 use Rattle.record_steps.specs.Own.{IsOwn}
 
 built-write : (a : AssocNo) (b : BlockNo) (comp : Comp) (v : Value) → is_built comp ≡ true → IsBuilt (steps.Write a b comp v)
-built-write a b comps.DatSet v h = absurd cc
 built-write a b comps.BufTm v h = absurd cc
 built-write a b comps.IntgPd v h = absurd cc
 built-write a b comps.GI v h = absurd cc
