@@ -1,7 +1,7 @@
 -- What one side sends spells what the other reads.
-use Rattle.std.proofs.Common.{◌≡◌, ℕ, ◌+◌, ◌%◌, ◌^◌, ◌<◌, ◌≤◌, true, List, [], ◌∷◌, length, Option, Some, refl, sym, ap, subst, ◌∙◌, arith}
-use Rattle.ber_grammar.specs.Place.{Piece, anywhere}
-use Rattle.ber_write.specs.Minimal.{octets_of, written, CanBeTag}
+use Rattle.std.proofs.Common.{◌≡◌, ℕ, ◌+◌, ◌%◌, ◌^◌, ◌<◌, ◌≤◌, true, List, [], ◌∷◌, length, Some, refl, sym, subst, arith}
+use Rattle.ber_grammar.specs.Place.{anywhere}
+use Rattle.ber_write.specs.Minimal.{octets_of, written}
 use Rattle.session_pres.specs.declared.codes.TheConstants.{FINISH, DISCONNECT}
 use Rattle.session_pres.specs.Written.{accept_parameters, accept_spdu, release_spdu, IsOneElement}
 use Rattle.session_pres.specs.WrittenPpdu.{connect_spdu, cpa_octets}
@@ -19,7 +19,7 @@ use Rattle.mms_pdu.specs.Initiate.{IsAccepted}
 use Rattle.mms_pdu.specs.InitiateOctets.{accepted, proposed, initiate_answer, initiate_request}
 use Rattle.mms_pdu.proofs.InitiateOctetsLaws.{answer_spelled, request_spelled}
 use Rattle.mms_pdu.proofs.WrittenLaws.{written_last, one_octet}
-use Rattle.osi_stack.specs.Called.{aare_for, acceptance}
+use Rattle.osi_stack.specs.Called.{acceptance}
 use Rattle.osi_stack.specs.Calling.{request_spdu}
 use Rattle.osi_stack.specs.Lines.{IsProposal}
 use Rattle.osi_stack.specs.Spelled.{IsRequest, IsResponse, IsFinish, IsDisconnect}

@@ -80,7 +80,7 @@ no_step s rest p after x (Some c) (on, inr (tpdu, others, a, stop)) still one st
 first_packet : (octets p : List ℕ) (ps : List (List ℕ)) (rest : List ℕ) → octets ≡ flat_map packet (p ∷ ps) ++ rest → IsTpdu p → packet_at octets ≡ Ok (Some (p, flat_map packet ps ++ rest))
 first_packet octets p ps rest w is = ap packet_at (w ∙ ap (λ (x : List ℕ). x ++ rest) (flat_map-cons packet p ps) ∙ append_assoc (packet p) (flat_map packet ps) rest) ∙ packet_again p (flat_map packet ps ++ rest) is
 
-one_end : (s t u : Stand) (octets rest other : List ℕ) (ps qs : List (List ℕ)) (es ds : List Event) (e g : Option Cause) → IsBytes octets → Ends t rest e → Ends u other g
+pub one_end : (s t u : Stand) (octets rest other : List ℕ) (ps qs : List (List ℕ)) (es ds : List Event) (e g : Option Cause) → IsBytes octets → Ends t rest e → Ends u other g
     → octets ≡ flat_map packet ps ++ rest → AllByRecursion IsTpdu ps → Runs s ps es t → octets ≡ flat_map packet qs ++ other → AllByRecursion IsTpdu qs → Runs s qs ds u
     → (es ≡ ds) × (t ≡ u) × (rest ≡ other) × (e ≡ g)
 one_end s t u octets rest other [] [] es ds e g fits a b w all runs v also runs2 =

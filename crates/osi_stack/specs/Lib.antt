@@ -7,6 +7,7 @@ pub mod Calling
 pub mod Machine
 pub mod Stream
 pub mod Going
+pub mod Running
 pub mod Standing
 pub mod Sides
 pub mod Open

@@ -19,6 +19,7 @@ mod taking;
 mod cause;
 mod fault;
 mod laws;
+mod running;
 mod spelled;
 
 // What comes.
@@ -36,6 +37,7 @@ pub use sending::frames;
 pub use laws::{
     a_refused_stream_stays_refused, a_stream_gives_one_list, frames_are_read_back, short_pdus_fit,
 };
+pub use running::streams_are_run;
 pub use spelled::{
     events_are_what_octets_spell, refusals_are_what_octets_lack, what_is_sent_spells_what_is_read,
     what_octets_spell_is_one_thing,
