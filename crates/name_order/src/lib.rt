@@ -3,4 +3,4 @@
 
 mod sorting;
 
-pub use sorting::{names_after, sorted};
+pub use sorting::{in_order, names_after, sorted};

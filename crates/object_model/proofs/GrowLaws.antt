@@ -1,6 +1,7 @@
 -- What one more group grows.
 use Rattle.std.proofs.Common.{◌≡◌, ℕ, zero, suc, ◌+◌, ◌-◌, ◌<◌, ◌≤◌, ◌==◌, subst, take_all, Bool, true, false, ◌&&◌, List, [], ◌∷◌, ◌++◌, map, length, get_or, take, refl, sym, ap, ◌∙◌, append_assoc, append-nil, arith, length-append}
 use Rattle.std.proofs.lemmas.List.{map-append, take_more}
+use Rattle.std.proofs.Math.Seq.{take-append_seam}
 use Rattle.sv_base.specs.Types.{Fields, no_field, field}
 use Rattle.sv_base.specs.declared.types.TypeOf.{TypeOf}
 use Rattle.sv_base.specs.declared.types.TypeOf.TheVariants as types
@@ -18,6 +19,7 @@ use Rattle.object_model.proofs.LeafLaws.{own_tree, count_tree}
 use Rattle.object_model.specs.Groups.{Group, group_at, groups}
 use Rattle.object_model.specs.Grown.{IsGrown, attr_id, spot, spot_with, forest_of}
 use Rattle.object_model.specs.declared.growth.Grown.{Grown}
+use Rattle.object_model.specs.declared.growth.Spot.{Spot}
 
 side : (l : ℕ) (ns : List Named) (names : List (List ℕ)) → side_by_side (λ name others. named name (role_of (below name ns)) (own_type (below name ns)) (grown l (below name ns)) others) names ≡ forest_of l (map (group_at ns) names)
 side l ns [] = refl
@@ -93,11 +95,18 @@ pub record Added (old new : Grown) (before : List ℕ) (g : Group) (b : Grown) :
   pub is_data : new.is_data ≡ old.is_data && (is_data_role (role_of g.names) && b.is_data)
   pub leaves : new.leaves ≡ old.leaves + leaves_with g (fields_of b.parts.items) b.leaves
 
+abbrev next : (gs : List Group) (i : ℕ) (g : Group) → i < length gs → g ≡ get_or gs i g → take (i + 1) gs ≡ take i gs ++ g ∷ []
+next gs i g h e = take_more gs i g h ∙ ap (λ x. take i gs ++ x ∷ []) (sym e)
+
+pub spots-more : (before : List ℕ) (l : ℕ) (gs : List Group) (i : ℕ) (g : Group) (old new : List Spot) (b : Grown) → i < length gs → g ≡ get_or gs i g → old ≡ map spot (places before (forest_of l (take i gs))) → IsGrown b (before ++ g.name ++ 36 ∷ []) (grown l g.names)
+    → new ≡ old ++ (spot_with (before ++ g.name) g (fields_of b.parts.items) b.attrs.items b.is_data b.leaves ∷ b.spots.items) → new ≡ map spot (places before (forest_of l (take (i + 1) gs)))
+spots-more before l gs i g old new b h e o p a = a ∙ (ap (λ x. old ++ (x ∷ b.spots.items)) (spot-is before l g b p) ∙ (ap (λ x. old ++ (spot (node before l g) ∷ x)) p.spots ∙ (ap (λ x. x ++ (spot (node before l g) ∷ map spot (parts_in before l g))) o
+    ∙ sym (ap (λ x. map spot (places before (forest_of l x))) (next gs i g h e) ∙ (ap (map spot) (places-more before l (take i gs) g) ∙ map-append spot (places before (forest_of l (take i gs))) (node before l g ∷ parts_in before l g))))))
+
 pub grown-more : (before : List ℕ) (l : ℕ) (gs : List Group) (i : ℕ) (g : Group) (old new b : Grown) → i < length gs → g ≡ get_or gs i g → IsGrown old before (forest_of l (take i gs)) → IsGrown b (before ++ g.name ++ 36 ∷ []) (grown l g.names) → Added old new before g b
     → IsGrown new before (forest_of l (take (i + 1) gs))
-grown-more before l gs i g old new b h e o p a = let next : take (i + 1) gs ≡ take i gs ++ g ∷ [] = take_more gs i g h ∙ ap (λ x. take i gs ++ x ∷ []) (sym e) in record {
-  spots = a.spots ∙ (ap (λ x. old.spots.items ++ (x ∷ b.spots.items)) (spot-is before l g b p) ∙ (ap (λ x. old.spots.items ++ (spot (node before l g) ∷ x)) p.spots ∙ (ap (λ x. x ++ (spot (node before l g) ∷ map spot (parts_in before l g))) o.spots
-      ∙ sym (ap (λ x. map spot (places before (forest_of l x))) next ∙ (ap (map spot) (places-more before l (take i gs) g) ∙ map-append spot (places before (forest_of l (take i gs))) (node before l g ∷ parts_in before l g))))));
+grown-more before l gs i g old new b h e o p a = let next : take (i + 1) gs ≡ take i gs ++ g ∷ [] = next gs i g h e in record {
+  spots = spots-more before l gs i g old.spots.items new.spots.items b h e o.spots p a.spots;
   parts = a.parts ∙ (ap (λ fs. old.parts.items ++ record { name = g.name; kind = type_with (own_type g.names) fs } ∷ []) (ap fields_of p.parts ∙ fields-parts (fields (grown l g.names)))
       ∙ (ap (λ x. x ++ record { name = g.name; kind = type_with (own_type g.names) (fields (grown l g.names)) } ∷ []) o.parts ∙ sym (ap (λ x. parts_of (fields (forest_of l x))) next ∙ parts-more l (take i gs) g)));
   attrs = a.attrs ∙ (ap (λ x. old.attrs.items ++ (map attr_id (attrs_of_role (role_of g.names)) ++ x)) p.attrs ∙ (ap (λ x. old.attrs.items ++ x) (sym (map-append attr_id (attrs_of_role (role_of g.names)) (attrs_in (grown l g.names))))
@@ -118,10 +127,17 @@ without_parts own (field n s fs) h = absurd (grind (arith, nat_tests))
 pub parts_grown : (b : Grown) (before : List ℕ) (l : ℕ) (g : Group) (front : List ℕ) (names : List Named) → front ≡ before ++ g.name ++ 36 ∷ [] → names ≡ g.names → IsGrown b front (grown l names) → IsGrown b (before ++ g.name ++ 36 ∷ []) (grown l g.names)
 parts_grown b before l g front names e n p = subst (λ f. IsGrown b f (grown l g.names)) e (subst (λ ns. IsGrown b front (grown l ns)) n p)
 
+-- the path is what it was before a name was entered
+pub back : (before path front after out name : List ℕ) (len : ℕ) → path ≡ before → front ≡ path ++ name ++ 36 ∷ [] → after ≡ front → len ≡ length before → out ≡ take len after → out ≡ before
+back before path front after out name len p f a l o = o ∙ (ap (λ n. take n after) l ∙ (ap (take (length before)) (a ∙ (f ∙ (ap (λ x. x ++ name ++ 36 ∷ []) p ∙ append_assoc before name (36 ∷ [])))) ∙ take-append_seam before (name ++ 36 ∷ [])))
+
 -- all groups
 pub whole : (b : Grown) (before : List ℕ) (levels : ℕ) (ns : List Named) (gs : List Group) (i : ℕ) → 0 < levels → length gs ≤ i → gs ≡ groups ns → IsGrown b before (forest_of (levels - 1) (take i gs)) → IsGrown b before (grown levels ns)
 whole b before levels ns gs i h l e p = subst (λ f. IsGrown b before f) (ap (forest_of (levels - 1)) (take_all i gs l ∙ e) ∙ sym (grown-groups levels ns h)) p
 
+pub whole-top : (spots : List Spot) (levels : ℕ) (ns : List Named) (gs : List Group) (i : ℕ) → length gs ≤ i → gs ≡ groups ns → spots ≡ map spot (places [] (forest_of levels (take i gs))) → spots ≡ map spot (places [] (grown (suc levels) ns))
+whole-top spots levels ns gs i l e p = p ∙ ap (λ f. map spot (places [] f)) (ap (forest_of levels) (take_all i gs l ∙ e) ∙ sym (side levels ns (first_names ns)))
+
 -- as many levels as the tree has
-pub all-levels : (levels : ℕ) (ns ms most : List Named) → levels ≡ suc (longest most) → most ≡ ns → ms ≡ ns → map spot (places [] (grown levels ms)) ≡ map spot (places [] (tree_of ns))
-all-levels levels ns ms most e f g = ap (λ l. map spot (places [] (grown l ms))) (e ∙ ap (λ l. suc (longest l)) f) ∙ ap (λ l. map spot (places [] (grown (suc (longest ns)) l))) g
+pub all-levels : (levels : ℕ) (ns ms most : List Named) → levels ≡ longest most → most ≡ ns → ms ≡ ns → map spot (places [] (grown (suc levels) ms)) ≡ map spot (places [] (tree_of ns))
+all-levels levels ns ms most e f g = ap (λ l. map spot (places [] (grown (suc l) ms))) (e ∙ ap longest f) ∙ ap (λ l. map spot (places [] (grown (suc (longest ns)) l))) g

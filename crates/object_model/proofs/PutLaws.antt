@@ -1,17 +1,17 @@
 -- The group of a name by its place.
-use Rattle.std.proofs.Common.{◌≡◌, ℕ, zero, suc, ◌+◌, ◌<◌, Bool, true, false, cond, List, [], ◌∷◌, ◌++◌, map, length, get_or, set, Option, None, Some, refl, sym, ap, ◌∙◌, arith, if◌then◌else◌}
+use Rattle.std.proofs.Common.{◌≡◌, ℕ, zero, suc, ◌+◌, ◌-◌, ◌<◌, take, take_all, length-append, length-take, Bool, true, false, cond, List, [], ◌∷◌, ◌++◌, map, length, get_or, set, Option, None, Some, refl, sym, ap, ◌∙◌, arith, if◌then◌else◌}
 use Rattle.std.specs.Str.{bytes_eq}
 use Rattle.std.specs.Option.{option_map}
-use Rattle.std.proofs.Math.Seq.{map-set_same}
+use Rattle.std.proofs.Math.Seq.{map-set_same, take-append_seam}
 use Rattle.bay_model.specs.Generated.{Named}
-use Rattle.object_model.specs.Groups.{Group, group_name, with_cut, put}
-use Rattle.object_names.specs.Numbers.{number_in}
+use Rattle.object_model.specs.Groups.{Group, group_name, with_cut, put, IndexesFront}
+use Rattle.object_names.specs.Numbers.{number_in, number_or}
 use Rattle.object_names.specs.Indexes.{Indexes, IndexesFrom}
 use Rattle.object_names.specs.declared.index.Index.{Index}
 use Rattle.object_names.proofs.NumberLaws.{from-first}
-use Rattle.std.proofs.lemmas.List.{map-append, length-map}
+use Rattle.std.proofs.lemmas.List.{map-append, length-map, take_more}
 use Rattle.list_laws.proofs.Options.{some_is, not_some}
-use Rattle.list_laws.proofs.Places.{place-cons}
+use Rattle.list_laws.proofs.Places.{place-cons, position-push}
 
 abbrev pub place_of : List Group → List ℕ → Option ℕ
 place_of gs name = number_in (map group_name gs) name
@@ -55,8 +55,47 @@ put-none (g ∷ gs) name rest e = by (λ a. put-none gs name rest a) (bytes_eq n
 pub names-stay : (gs : List Group) (rest : Named) (p : ℕ) (d : Group) → map group_name (set gs p (with_cut (get_or gs p d) rest)) ≡ map group_name gs
 names-stay gs rest p d = map-set_same group_name gs p (with_cut (get_or gs p d) rest) d refl
 
--- one more group
-pub names-more : (old new : Index) (gs more : List Group) (g : Group) (n : ℕ) → Indexes old (map group_name gs) → n ≡ length gs → more ≡ gs ++ g ∷ []
-    → ((names : List (List ℕ)) (first : ℕ) → IndexesFrom old first names → n ≡ first + length names → IndexesFrom new first (names ++ g.name ∷ [])) → Indexes new (map group_name more)
-names-more old new gs more g n is e m step = λ other. step (map group_name gs) 0 (λ name. is name ∙ sym (from-first (number_in (map group_name gs) name))) (omega (arith, e, length-map gs group_name)) other
-    ∙ (from-first (number_in (map group_name gs ++ g.name ∷ []) other) ∙ ap (λ l. number_in l other) (sym (ap (map group_name) m ∙ map-append group_name gs (g ∷ []))))
+-- all but the last of a list
+front-of : {X : Type 0} (xs : List X) (x : X) → take (length (xs ++ x ∷ []) - 1) (xs ++ x ∷ []) ≡ xs
+front-of xs x = ap (λ n. take n (xs ++ x ∷ [])) (omega (arith, length-append xs (x ∷ []))) ∙ take-append_seam xs (x ∷ [])
+
+abbrev front : List Group → List (List ℕ)
+front gs = take (length (map group_name gs) - 1) (map group_name gs)
+
+-- the names of groups are those of all but the last, and the last one's
+names-front : (gs : List Group) (last : Group) → 0 < length gs → last ≡ get_or gs (length gs - 1) last → map group_name gs ≡ front gs ++ last.name ∷ []
+names-front gs last h e =
+    let split : gs ≡ take (length gs - 1) gs ++ last ∷ [] = sym (take_all (length gs - 1 + 1) gs (omega (arith, h))) ∙ (take_more gs (length gs - 1) last (omega (arith, h)) ∙ ap (λ x. take (length gs - 1) gs ++ x ∷ []) (sym e)) in
+    let names : map group_name gs ≡ map group_name (take (length gs - 1) gs) ++ last.name ∷ [] = ap (map group_name) split ∙ map-append group_name (take (length gs - 1) gs) (last ∷ []) in
+    names ∙ ap (λ l. l ++ last.name ∷ []) (sym (ap (λ l. take (length l - 1) l) names ∙ front-of (map group_name (take (length gs - 1) gs)) last.name))
+
+count-front : (gs : List Group) → 0 < length gs → length (front gs) ≡ length gs - 1
+count-front gs h = omega (arith, h, length-take (length (map group_name gs) - 1) (map group_name gs), length-map gs group_name)
+
+-- the place of a name is that among all but the last, else the last
+place-split : (gs : List Group) (last : Group) (name : List ℕ) → 0 < length gs → last ≡ get_or gs (length gs - 1) last → place_of gs name ≡ number_or (number_in (front gs) name) (bytes_eq name last.name) (length gs - 1)
+place-split gs last name h e = ap (λ l. number_in l name) (names-front gs last h e) ∙ (position-push (bytes_eq name) (front gs) last.name
+    ∙ ap (λ n. number_or (number_in (front gs) name) (bytes_eq name last.name) n) (count-front gs h))
+
+none-of : (o : Option ℕ) → ((x : ℕ) → o ≡ Some x → ⊥) → o ≡ None
+none-of None f = refl
+none-of (Some x) f = absurd (f x refl)
+
+pub place-front : (gs : List Group) (last : Group) (name : List ℕ) (p : ℕ) → 0 < length gs → last ≡ get_or gs (length gs - 1) last → number_in (front gs) name ≡ Some p → Some p ≡ place_of gs name
+place-front gs last name p h e f = sym (place-split gs last name h e ∙ ap (λ o. number_or o (bytes_eq name last.name) (length gs - 1)) f)
+
+pub place-end : (gs : List Group) (last : Group) (name : List ℕ) (b : Bool) → 0 < length gs → last ≡ get_or gs (length gs - 1) last → ((x : ℕ) → number_in (front gs) name ≡ Some x → ⊥) → bytes_eq name last.name ≡ b → (if b then Some (length gs - 1) else None) ≡ place_of gs name
+place-end gs last name b h e f t = sym (place-split gs last name h e ∙ (ap (λ o. number_or o (bytes_eq name last.name) (length gs - 1)) (none-of (number_in (front gs) name) f) ∙ ap (λ b. if b then Some (length gs - 1) else None) t))
+
+-- the index of all but the last, and then of the last
+pub empty_front : (index : Index) (gs : List Group) → length gs < 1 → IndexesFront index (map group_name gs) → Indexes index (map group_name gs)
+empty_front index [] h is = is
+empty_front index (g ∷ gs) h is = absurd (omega (arith, h))
+
+pub names-last : (old new : Index) (gs : List Group) (last : Group) (name : List ℕ) (n : ℕ) → 0 < length gs → last ≡ get_or gs (length gs - 1) last → name ≡ last.name → n ≡ length gs - 1 → IndexesFront old (map group_name gs)
+    → ((names : List (List ℕ)) (first : ℕ) → IndexesFrom old first names → n ≡ first + length names → IndexesFrom new first (names ++ name ∷ [])) → Indexes new (map group_name gs)
+names-last old new gs last name n h e is k found step = λ other. step (front gs) 0 (λ name. found name ∙ sym (from-first (number_in (front gs) name))) (omega (arith, k, count-front gs h)) other
+    ∙ (from-first (number_in (front gs ++ name ∷ []) other) ∙ ap (λ l. number_in l other) (ap (λ x. front gs ++ x ∷ []) is ∙ sym (names-front gs last h e)))
+
+pub more-front : (index : Index) (gs more : List Group) (g : Group) → more ≡ gs ++ g ∷ [] → Indexes index (map group_name gs) → IndexesFront index (map group_name more)
+more-front index gs more g e is = λ other. is other ∙ ap (λ l. number_in l other) (sym (ap front e ∙ (ap (λ l. take (length l - 1) l) (map-append group_name gs (g ∷ [])) ∙ front-of (map group_name gs) g.name)))

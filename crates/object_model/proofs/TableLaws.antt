@@ -107,8 +107,8 @@ rows-are c index [] h = refl
 rows-are c index (s ∷ ss) h = ap (λ l. record { name = record { domain = s.domain; item = within s.ln s.name }; nodes = l } ∷ map (row_in index) ss) (members-are c index s.members h)
     ∙ ap (λ l. set_row (set_defined (nodes c) s) ∷ l) (rows-are c index ss h)
 
-pub sets-are : (c : Config) (index : Index) (names : List NodeName) (references : List (List ℕ)) (ss : List SetDef) (rows : List SetRow) → names ≡ node_names c → references ≡ name_references names → Indexes index references → ss ≡ c.sets → rows ≡ map (row_in index) ss → rows ≡ set_rows c
-sets-are c index names references ss rows n r h s e = e ∙ (ap (map (row_in index)) s ∙ rows-are c index c.sets (λ name. h name ∙ ap (λ l. number_in l name) (r ∙ ap name_references n)))
+pub sets-are : (c : Config) (index : Index) (names : List NodeName) (ss : List SetDef) (rows : List SetRow) → names ≡ node_names c → Indexes index (name_references names) → ss ≡ c.sets → rows ≡ map (row_in index) ss → rows ≡ set_rows c
+sets-are c index names ss rows n h s e = e ∙ (ap (map (row_in index)) s ∙ rows-are c index c.sets (λ name. h name ∙ ap (λ l. number_in (name_references l) name) n))
 
 -- the row of node n
 type-there : (ks : List TypeOf) (ss : List Spot) (n : ℕ) (s : Spot) (k : TypeOf) → map (λ (s : Spot). s.kind) ss ≡ ks → n < length ss → (get_or ss n s).kind ≡ get_or ks n k

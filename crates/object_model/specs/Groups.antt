@@ -1,7 +1,9 @@
 -- What is named, in groups by the first name.
-use Rattle.std.specs.Prelude.{ℕ, List, [], ◌∷◌, ◌++◌, map, if◌then◌else◌}
+use Rattle.std.specs.Prelude.{ℕ, ◌-◌, List, [], ◌∷◌, ◌++◌, length, take, map, if◌then◌else◌}
 use Rattle.std.specs.Str.{bytes_eq}
 use Rattle.bay_model.specs.Generated.{Named}
+use Rattle.object_names.specs.declared.index.Index.{Index}
+use Rattle.object_names.specs.Indexes.{Indexes}
 use Rattle.bay_model.specs.NameTree.{first_names, first_name, rest_of, is_itself, below}
 
 -- a first name, with what stands below it
@@ -30,3 +32,9 @@ put (g ∷ gs) name rest = if bytes_eq name g.name then with_cut g rest ∷ gs e
 -- one more that is named
 abbrev pub with_named : List Group → Named → List Group
 with_named gs n = if is_itself n then gs else put gs (first_name n) (rest_of n)
+
+-- ---- for the code
+
+-- all names but the last are found
+abbrev pub IndexesFront : Index → List (List ℕ) → Type 0
+IndexesFront index names = Indexes index (take (length names - 1) names)

@@ -1,8 +1,9 @@
 //! What is named, in groups by the first name.
 
 ghost use Rattle.std.specs.Prelude.{◌≡◌, ◌++◌, ◌∷◌, [], map, IfOk, OnOk};
-ghost use Rattle.object_model.specs.Groups.{groups as groups_in, group_name, put as put_in, with_named};
+ghost use Rattle.object_model.specs.Groups.{groups as groups_in, group_name, put as put_in, with_named, IndexesFront};
 ghost use Rattle.object_names.specs.Indexes.{Indexes};
+ghost use Rattle.object_names.specs.Numbers.{number_in};
 
 use crate::growing::{Cut, Group, below, name_of, push_into};
 use object_names::Index;
@@ -23,6 +24,37 @@ fn push_group<'a>(
     Ok(())
 }
 
+/// The place of the group of a name, none where there is none.
+fn place_of(places: &Index, groups: &[Group<'_>], name: &[u8]) -> Option<usize>
+    requires { IndexesFront places.now (map group_name groups.now) }
+    ensures { result ≡ number_in (map group_name groups.now) name.now }
+{
+    let [front @ .., last] = groups else {
+        return None;
+    };
+    if let Some(place) = places.number_of(name) {
+        return Some(place as usize);
+    }
+    if name == last.name {
+        return Some(front.len());
+    }
+    None
+}
+
+/// Gives the last group's name its place.
+#[tactic(auto, using(crate::proofs::PutLaws::empty_front))]
+fn place_last(alloc: Global, places: &mut Index, groups: &[Group<'_>]) -> Result<(), AllocError>
+    requires { IndexesFront places.old (map group_name groups.now) }
+    ensures { OnOk result (Indexes places.new (map group_name groups.now)) }
+{
+    let [front @ .., last] = groups else {
+        return Ok(());
+    };
+    let number = count(front.len())?;
+    places.push(alloc, last.name, number)?;
+    Ok(())
+}
+
 /// Adds what stands below a name to its group, by the places of the names.
 fn put<'a>(
     alloc: Global,
@@ -31,18 +63,17 @@ fn put<'a>(
     name: &'a [u8],
     cut: Cut<'a>,
 ) -> Result<(), AllocError>
-    requires { Indexes places.old (map group_name groups.old.items) }
-    ensures placed { OnOk result (Indexes places.new (map group_name groups.new.items)) }
+    requires { IndexesFront places.old (map group_name groups.old.items) }
+    ensures placed { OnOk result (IndexesFront places.new (map group_name groups.new.items)) }
     ensures groups { OnOk result (groups.new.items ≡ put_in groups.old.items name.now cut.entry) }
 {
-    match places.number_of(name) {
+    match place_of(places, groups, name) {
         Some(place) => {
-            push_into(groups, place as usize, cut)?;
+            push_into(groups, place, cut)?;
             Ok(())
         }
         None => {
-            let number = count(groups.len())?;
-            places.push(alloc, name, number)?;
+            place_last(alloc, places, groups)?;
             push_group(alloc, groups, name, cut)?;
             Ok(())
         }
@@ -56,8 +87,8 @@ fn put_cut<'a>(
     groups: &mut Vec<Group<'a>>,
     cut: &Cut<'a>,
 ) -> Result<(), AllocError>
-    requires { Indexes places.old (map group_name groups.old.items) }
-    ensures placed { OnOk result (Indexes places.new (map group_name groups.new.items)) }
+    requires { IndexesFront places.old (map group_name groups.old.items) }
+    ensures placed { OnOk result (IndexesFront places.new (map group_name groups.new.items)) }
     ensures groups { OnOk result (groups.new.items ≡ with_named groups.old.items cut.now) }
 {
     if cut.is_itself() {

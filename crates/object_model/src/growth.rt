@@ -1,13 +1,13 @@
 //! The nodes of a domain, grown out of what its lines name: a node before its parts.
 
-ghost use Rattle.std.specs.Prelude.{◌≡◌, ◌+◌, ◌++◌, ◌∷◌, [], ◌&&◌, map, IfOk, OnOk};
+ghost use Rattle.std.specs.Prelude.{◌≡◌, ◌+◌, ◌++◌, ◌∷◌, [], ◌&&◌, suc, map, IfOk, OnOk};
 ghost use Rattle.std.specs.Option.{option_map};
 ghost use Rattle.sv_base.specs.Fields.{fields_of};
 ghost use Rattle.bay_model.specs.NameTree.{role_of, own_type as own_type_of, grown};
-ghost use Rattle.bay_model.specs.Places.{attrs_of_role, is_data_role, type_with};
+ghost use Rattle.bay_model.specs.Places.{attrs_of_role, is_data_role, type_with, places};
 ghost use Rattle.object_names.specs.Seen.{role_seen};
 ghost use Rattle.object_names.specs.Leaves.{leaf_code};
-ghost use Rattle.object_model.specs.Grown.{IsGrown, attr_id, spot_with};
+ghost use Rattle.object_model.specs.Grown.{IsGrown, attr_id, spot, spot_with};
 ghost use Rattle.object_model.specs.Leaves.{own_with, own_count, leaves_with};
 
 use crate::grouping::groups;
@@ -80,32 +80,30 @@ fn type_of(alloc: Global, cuts: &[Cut<'_>], parts: Vec<Part1>) -> Result<TypeOf,
     Ok(TypeOf::Struct(parts))
 }
 
-fn push_attr(attrs: &mut Vec<AttrId>, what: What) -> Result<(), AllocError>
-    ensures { OnOk result (attrs.new.items ≡ attrs.old.items ++ map attr_id (attrs_of_role (role_seen what))) }
-{
-    match what {
-        What::Attribute(number) => {
-            attrs.push(AttrId(number))?;
-            Ok(())
-        }
-        _ => Ok(()),
-    }
-}
-
 fn is_data(what: What) -> bool
     ensures { result ≡ is_data_role (role_seen what) }
 {
     matches!(what, What::Attribute(_) | What::Structure)
 }
 
-/// The attributes of a name: its own and those of its parts.
-fn attrs_of(alloc: Global, what: What, parts: &[AttrId]) -> Result<AttrIds, AllocError>
-    ensures { IfOk result (λ l. l ≡ map attr_id (attrs_of_role (role_seen what)) ++ parts.now) }
+/// An attribute, and those of the parts of its name.
+fn own_and_parts(alloc: Global, number: u32, parts: &[AttrId]) -> Result<AttrIds, AllocError>
+    ensures { IfOk result (λ l. l ≡ attr_id number ∷ parts.now) }
 {
     let mut attrs = Vec::new(alloc);
-    push_attr(&mut attrs, what)?;
+    attrs.push(AttrId(number))?;
     attrs.extend_from_slice(parts)?;
     Ok(AttrIds::from_vec(attrs))
+}
+
+/// The attributes of a name: its own and those of its parts.
+fn attrs_of(alloc: Global, what: What, parts: Vec<AttrId>) -> Result<AttrIds, AllocError>
+    ensures { IfOk result (λ l. l ≡ map attr_id (attrs_of_role (role_seen what)) ++ parts.items) }
+{
+    match what {
+        What::Attribute(number) => own_and_parts(alloc, number, &parts),
+        _ => Ok(AttrIds::from_vec(parts)),
+    }
 }
 
 /// The leaf of a name without parts, none where it has some.
@@ -136,11 +134,11 @@ fn spot_of(
     item: Vec<u8>,
     group: &Group<'_>,
     parts: Vec<Part1>,
-    attrs: &[AttrId],
+    attrs: Vec<AttrId>,
     are_data: bool,
     below: u32,
 ) -> Result<Spot, AllocError>
-    ensures { IfOk result (λ s. s ≡ spot_with item.items group.now (fields_of parts.items) attrs.now are_data below) }
+    ensures { IfOk result (λ s. s ≡ spot_with item.items group.now (fields_of parts.items) attrs.items are_data below) }
 {
     let what = what_of(&group.cuts);
     let own = own_of(what, &parts);
@@ -155,19 +153,13 @@ fn spot_of(
     })
 }
 
-/// Adds a name with its node and the nodes of its parts.
-fn add(
-    alloc: Global,
-    grown: &mut Grown,
-    name: &[u8],
-    spot: Spot,
-    mut below: Vec<Spot>,
-) -> Result<(), AllocError>
-    ensures spots { OnOk result (grown.new.spots.items ≡ grown.old.spots.items ++ (spot ∷ below.items)) }
-    ensures parts { OnOk result (grown.new.parts.items ≡ grown.old.parts.items ++ record { name = name.now; kind = spot.kind } ∷ []) }
-    ensures attrs { OnOk result (grown.new.attrs.items ≡ grown.old.attrs.items ++ spot.attrs) }
-    ensures is_data { OnOk result (grown.new.is_data ≡ grown.old.is_data && spot.is_data) }
-    ensures leaves { OnOk result (grown.new.leaves ≡ grown.old.leaves + spot.leaves) }
+/// Adds a name to the parts of a structure, by its node.
+fn add_part(alloc: Global, grown: &mut Grown, name: &[u8], spot: &Spot) -> Result<(), AllocError>
+    ensures spots { OnOk result (grown.new.spots.items ≡ grown.old.spots.items) }
+    ensures parts { OnOk result (grown.new.parts.items ≡ grown.old.parts.items ++ record { name = name.now; kind = spot.now.kind } ∷ []) }
+    ensures attrs { OnOk result (grown.new.attrs.items ≡ grown.old.attrs.items ++ spot.now.attrs) }
+    ensures is_data { OnOk result (grown.new.is_data ≡ grown.old.is_data && spot.now.is_data) }
+    ensures leaves { OnOk result (grown.new.leaves ≡ grown.old.leaves + spot.now.leaves) }
 {
     let name = Octs::from_vec(Vec::from_slice(alloc, name)?);
     let kind = copy_type(alloc, &spot.kind)?;
@@ -175,8 +167,15 @@ fn add(
     grown.attrs.extend_from_slice(spot.attrs.as_slice())?;
     grown.is_data = grown.is_data && spot.is_data;
     grown.leaves = plus(grown.leaves, spot.leaves)?;
-    grown.spots.push(spot)?;
-    grown.spots.append(&mut below)?;
+    Ok(())
+}
+
+/// Adds a node and the nodes of its parts.
+fn push_node(spots: &mut Vec<Spot>, spot: Spot, mut below: Vec<Spot>) -> Result<(), AllocError>
+    ensures { OnOk result (spots.new.items ≡ spots.old.items ++ (spot ∷ below.items)) }
+{
+    spots.push(spot)?;
+    spots.append(&mut below)?;
     Ok(())
 }
 
@@ -184,19 +183,19 @@ fn add(
 fn one_after(alloc: Global, before: &[u8], after: &[u8]) -> Result<Vec<u8>, AllocError>
     ensures { IfOk result (λ v. v.items ≡ before.now ++ after.now) }
 {
-    let mut text = Vec::new(alloc);
+    let mut text = Vec::with_capacity(alloc, before.len().saturating_add(after.len()))?;
     text.extend_from_slice(before)?;
     text.extend_from_slice(after)?;
     Ok(text)
 }
 
-/// What stands before the parts of a name: what stands before the name, the name and `$`.
-fn front_of(alloc: Global, before: &[u8], name: &[u8]) -> Result<Vec<u8>, AllocError>
-    ensures { IfOk result (λ v. v.items ≡ before.now ++ name.now ++ 36 ∷ []) }
+/// Goes from what stands before a name to what stands before its parts: the name and `$` behind it.
+fn enter(path: &mut Vec<u8>, name: &[u8]) -> Result<(), AllocError>
+    ensures { OnOk result (path.new.items ≡ path.old.items ++ name.now ++ 36 ∷ []) }
 {
-    let mut text = one_after(alloc, before, name)?;
-    text.push(b'$')?;
-    Ok(text)
+    path.extend_from_slice(name)?;
+    path.push(b'$')?;
+    Ok(())
 }
 
 /// Adds a group, whose parts have grown.
@@ -219,21 +218,23 @@ fn add_group(
         item,
         group,
         below.parts,
-        &below.attrs,
+        below.attrs,
         below.is_data,
         below.leaves,
     )?;
-    add(alloc, grown, group.name, spot, below.spots)
+    add_part(alloc, grown, group.name, &spot)?;
+    push_node(&mut grown.spots, spot, below.spots)
 }
 
 /// What grows out of what is named, each name after what stands before it, as many levels deep.
 pub fn grow(
     alloc: Global,
-    before: &[u8],
+    path: &mut Vec<u8>,
     cuts: &[Cut<'_>],
     levels: usize,
 ) -> Result<Grown, AllocError>
-    ensures { IfOk result (λ g. IsGrown g before.now (grown levels cuts.now)) }
+    ensures grown { IfOk result (λ g. IsGrown g path.old.items (grown levels cuts.now)) }
+    ensures path { OnOk result (path.new.items ≡ path.old.items) }
 {
     let mut all = Grown {
         spots: Vec::new(alloc),
@@ -245,10 +246,49 @@ pub fn grow(
     if levels == 0 {
         return Ok(all);
     }
+    let len = path.len();
     for group in groups(alloc, cuts)?.as_slice() {
-        let front = front_of(alloc, before, group.name)?;
-        let below = grow(alloc, &front, &group.cuts, levels - 1)?;
-        add_group(alloc, &mut all, before, group, below)?;
+        enter(path, group.name)?;
+        let below = grow(alloc, path, &group.cuts, levels - 1)?;
+        path.truncate(len);
+        add_group(alloc, &mut all, path, group, below)?;
     }
     Ok(all)
+}
+
+/// Adds the node of a group at the top, whose parts have grown, and their nodes.
+fn push_top(
+    alloc: Global,
+    spots: &mut Vec<Spot>,
+    group: &Group<'_>,
+    below: Grown,
+) -> Result<(), AllocError>
+    ensures { OnOk result (spots.new.items ≡ spots.old.items ++ (spot_with group.now.name group.now (fields_of below.parts.items) below.attrs.items below.is_data below.leaves ∷ below.spots.items)) }
+{
+    let item = Vec::from_slice(alloc, group.name)?;
+    let spot = spot_of(
+        alloc,
+        item,
+        group,
+        below.parts,
+        below.attrs,
+        below.is_data,
+        below.leaves,
+    )?;
+    push_node(spots, spot, below.spots)
+}
+
+/// The nodes that grow out of what is named, so many levels deep below the first.
+pub fn grow_top(alloc: Global, cuts: &[Cut<'_>], levels: usize) -> Result<Vec<Spot>, AllocError>
+    ensures { IfOk result (λ v. v.items ≡ map spot (places [] (grown (suc levels) cuts.now))) }
+{
+    let mut spots = Vec::new(alloc);
+    let mut path = Vec::new(alloc);
+    for group in groups(alloc, cuts)?.as_slice() {
+        enter(&mut path, group.name)?;
+        let below = grow(alloc, &mut path, &group.cuts, levels)?;
+        path.clear();
+        push_top(alloc, &mut spots, group, below)?;
+    }
+    Ok(spots)
 }

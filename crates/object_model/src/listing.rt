@@ -1,15 +1,16 @@
 //! The nodes of a configuration, listed domain by domain.
 
 ghost use Rattle.std.specs.Prelude.{◌≡◌, length, map, IfOk, OnOk};
-ghost use Rattle.bay_model.specs.NamedLines.{domains as domains_of, lines as lines_of, in_order};
+ghost use Rattle.bay_model.specs.NamedLines.{domains as domains_of, lines as lines_of, in_order as lines_in_order};
+ghost use Rattle.object_names.specs.Indexes.{IndexesFrom};
 ghost use Rattle.object_model.specs.Listed.{IsListed, IsOneMore, items_of as items_in, spots_from};
 
 use crate::growth::Spot;
-use crate::nodes::{NodeName, push_node_names, push_rows, spots_of};
+use crate::nodes::{NodeName, push_nodes, spots_of};
 use crate::stands::{Stand, push_stands};
 use bay_model::NodeRow;
-use name_order::sorted;
-use object_names::numbers::count;
+use name_order::in_order;
+use object_names::numbers::{count, plus};
 use object_names::{Index, Leaf, Line};
 use std::alloc::{AllocError, Global};
 use sv_base::{Config, Octs};
@@ -42,24 +43,35 @@ fn items_of(alloc: Global, spots: &[Spot]) -> Result<Vec<Octs>, AllocError>
     Ok(items)
 }
 
+/// The numbers of the nodes by their items, counted from the first one's.
+fn numbers_of(alloc: Global, first: u32, spots: &[Spot]) -> Result<Index, AllocError>
+    ensures { IfOk result (λ index. IndexesFrom index first (items_in spots.now)) }
+{
+    let mut index = Index::new(alloc);
+    let mut number = first;
+    for spot in spots {
+        index.push(alloc, spot.item.as_slice(), number)?;
+        number = plus(number, 1)?;
+    }
+    Ok(index)
+}
+
 /// Adds the nodes of a domain.
 fn push_domain(
     alloc: Global,
     listing: &mut Listing,
-    lines: &[Line],
+    lines: &[Line<'_>],
     domain: &[u8],
 ) -> Result<(), AllocError>
     ensures { OnOk result (IsOneMore listing.old listing.new domain.now (spots_from lines.now domain.now)) }
 {
     let spots = spots_of(alloc, lines, domain)?;
     let first = count(listing.rows.as_slice().len())?;
-    let items = items_of(alloc, &spots)?;
-    let numbers = Index::from(alloc, first, &items)?;
-    let ascending = sorted(alloc, &items)?;
+    let numbers = numbers_of(alloc, first, &spots)?;
+    let ascending = in_order(items_of(alloc, &spots)?)?;
     listing.directories.push(Directory { numbers, ascending })?;
-    push_node_names(alloc, &mut listing.names, domain, &spots)?;
     push_stands(&mut listing.stands, &mut listing.leaves, &spots)?;
-    push_rows(&mut listing.rows, spots)?;
+    push_nodes(alloc, &mut listing.rows, &mut listing.names, domain, spots)?;
     Ok(())
 }
 
@@ -68,10 +80,10 @@ pub fn list(
     alloc: Global,
     config: &Config,
     domains: &[Octs],
-    lines: &[Line],
+    lines: &[Line<'_>],
 ) -> Result<Listing, AllocError>
     requires domains { domains.now ≡ domains_of config.now }
-    requires lines { lines.now ≡ in_order (lines_of config.now) }
+    requires lines { lines.now ≡ lines_in_order (lines_of config.now) }
     ensures { IfOk result (λ l. IsListed config.now (length (domains_of config.now)) l) }
 {
     let mut listing = Listing {

@@ -10,7 +10,7 @@ ghost use Rattle.object_model.specs.Grown.{spot};
 ghost use Rattle.object_model.specs.Nodes.{row, rows_from, name_at};
 
 use crate::growing::{Cut, behind, front};
-use crate::growth::{Spot, grow};
+use crate::growth::{Spot, grow_top};
 use crate::largest::largest;
 use bay_model::{MemberShape, NodeRow};
 use object_names::numbers::count;
@@ -37,17 +37,25 @@ fn push_names<'a>(out: &mut Vec<Cut<'a>>, names: &'a [Named]) -> Result<(), Allo
     Ok(())
 }
 
-fn push_line<'a>(out: &mut Vec<Cut<'a>>, line: &'a Line, domain: &[u8]) -> Result<(), AllocError>
+fn push_line<'a>(
+    out: &mut Vec<Cut<'a>>,
+    line: &'a Line<'_>,
+    domain: &[u8],
+) -> Result<(), AllocError>
     ensures { OnOk result (out.new.items ≡ out.old.items ++ flat_map (λ (l : ModelLine). l.names) (filter (λ (l : ModelLine). bytes_eq l.domain domain.now) (line.now ∷ []))) }
 {
-    if line.domain.as_slice() == domain {
+    if line.domain == domain {
         push_names(out, &line.names)?;
     }
     Ok(())
 }
 
 /// What the lines of a domain name.
-fn names_of<'a>(alloc: Global, lines: &'a [Line], domain: &[u8]) -> Result<Vec<Cut<'a>>, AllocError>
+fn names_of<'a>(
+    alloc: Global,
+    lines: &'a [Line<'_>],
+    domain: &[u8],
+) -> Result<Vec<Cut<'a>>, AllocError>
     ensures { IfOk result (λ v. v.items ≡ flat_map (λ (l : ModelLine). l.names) (filter (λ (l : ModelLine). bytes_eq l.domain domain.now) lines.now)) }
 {
     let mut cuts = Vec::new(alloc);
@@ -68,21 +76,12 @@ fn longest(cuts: &[Cut<'_>]) -> usize
     most
 }
 
-/// How many levels the tree has at most.
-fn levels_of(cuts: &[Cut<'_>]) -> Result<usize, AllocError>
-    ensures { IfOk result (λ n. n ≡ suc (longest_of cuts.now)) }
-{
-    longest(cuts).checked_add(1).ok_or(AllocError)
-}
-
 /// The nodes of a domain, each before its parts.
-pub fn spots_of(alloc: Global, lines: &[Line], domain: &[u8]) -> Result<Vec<Spot>, AllocError>
+pub fn spots_of(alloc: Global, lines: &[Line<'_>], domain: &[u8]) -> Result<Vec<Spot>, AllocError>
     ensures { IfOk result (λ v. v.items ≡ map spot (places [] (tree_of (flat_map (λ (l : ModelLine). l.names) (filter (λ (l : ModelLine). bytes_eq l.domain domain.now) lines.now))))) }
 {
     let cuts = names_of(alloc, lines, domain)?;
-    let levels = levels_of(&cuts)?;
-    let grown = grow(alloc, b"", &cuts, levels)?;
-    Ok(grown.spots)
+    grow_top(alloc, &cuts, longest(&cuts))
 }
 
 /// The functional constraint of an item, its second name (IEC 61850-8-1).
@@ -106,44 +105,40 @@ fn is_member_constraint(fc: &[u8]) -> bool
         || fc == b"EX".as_slice()
 }
 
-/// The row of a node.
-fn row_of(spot: Spot, number: u32) -> NodeRow
-    ensures { result ≡ row number spot }
+/// The row of a node, and its item.
+fn row_of(spot: Spot, number: u32) -> (NodeRow, Octs)
+    ensures row { result.0 ≡ row number spot }
+    ensures item { result.1 ≡ spot.item }
 {
-    NodeRow {
-        allowed: spot.is_data && is_member_constraint(constraint(spot.item.as_slice())),
+    let allowed = spot.is_data && is_member_constraint(constraint(spot.item.as_slice()));
+    let row = NodeRow {
+        allowed,
         octets: largest(&spot.kind),
         shape: MemberShape {
             node: NodeId(number),
             kind: spot.kind,
             attrs: spot.attrs,
         },
-    }
+    };
+    (row, spot.item)
 }
 
-/// Adds the rows of nodes, the first of them numbered as the next.
-pub fn push_rows(rows: &mut Vec<NodeRow>, spots: Vec<Spot>) -> Result<(), AllocError>
-    ensures { OnOk result (rows.new.items ≡ rows.old.items ++ rows_from (length rows.old.items) spots.items) }
+/// Adds the rows of the nodes of a domain, the first of them numbered as the next, and their names.
+pub fn push_nodes(
+    alloc: Global,
+    rows: &mut Vec<NodeRow>,
+    names: &mut Vec<NodeName>,
+    domain: &[u8],
+    spots: Vec<Spot>,
+) -> Result<(), AllocError>
+    ensures rows { OnOk result (rows.new.items ≡ rows.old.items ++ rows_from (length rows.old.items) spots.items) }
+    ensures names { OnOk result (names.new.items ≡ names.old.items ++ map (name_at domain.now) spots.items) }
 {
     for spot in spots {
         let number = count(rows.len())?;
-        rows.push(row_of(spot, number))?;
-    }
-    Ok(())
-}
-
-/// Adds the names of the nodes of a domain.
-pub fn push_node_names(
-    alloc: Global,
-    names: &mut Vec<NodeName>,
-    domain: &[u8],
-    spots: &[Spot],
-) -> Result<(), AllocError>
-    ensures { OnOk result (names.new.items ≡ names.old.items ++ map (name_at domain.now) spots.now) }
-{
-    for spot in spots {
+        let (row, item) = row_of(spot, number);
+        rows.push(row)?;
         let domain = Octs::from_vec(Vec::from_slice(alloc, domain)?);
-        let item = spot.item.copy(alloc)?;
         names.push(NodeName { domain, item })?;
     }
     Ok(())

@@ -13,6 +13,7 @@ use crate::nodes::NodeName;
 use crate::stands::Stand;
 use bay_model::{NodeTable, Nodes, SetName, SetRow, SetTable};
 use name_order::names_after;
+use object_names::numbers::plus;
 use object_names::references::joined;
 use object_names::{Index, Leaf, domains, ordered_lines};
 use std::alloc::{AllocError, Global};
@@ -31,16 +32,18 @@ pub struct Tables {
     pub leaves: Vec<Leaf>,
 }
 
-/// The references `LD/item` of nodes.
-fn name_references_of(alloc: Global, names: &[NodeName]) -> Result<Vec<Octs>, AllocError>
-    ensures { IfOk result (λ v. v.items ≡ name_references names.now) }
+/// The nodes by their references `LD/item`.
+fn references_of(alloc: Global, names: &[NodeName]) -> Result<Index, AllocError>
+    ensures { IfOk result (λ index. Indexes index (name_references names.now)) }
 {
-    let mut references = Vec::new(alloc);
+    let mut index = Index::new(alloc);
+    let mut number = 0;
     for name in names {
         let reference = joined(alloc, name.domain.as_slice(), b'/', name.item.as_slice())?;
-        references.push(Octs::from_vec(reference))?;
+        index.push_owned(reference, number)?;
+        number = plus(number, 1)?;
     }
-    Ok(references)
+    Ok(index)
 }
 
 fn member_of(index: &Index, reference: &[u8]) -> u32
@@ -88,7 +91,7 @@ fn set_table(alloc: Global, config: &Config, names: &[NodeName]) -> Result<SetTa
     requires { names.now ≡ node_names config.now }
     ensures { IfOk result (λ t. t ≡ set_rows_of config.now) }
 {
-    let index = Index::of(alloc, &name_references_of(alloc, names)?)?;
+    let index = references_of(alloc, names)?;
     let rows = set_rows(alloc, &index, config.sets.as_slice())?;
     Ok(SetTable::from_vec(rows))
 }

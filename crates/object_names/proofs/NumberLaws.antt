@@ -1,6 +1,6 @@
 -- What one more name does to the numbers of names.
-use Rattle.std.proofs.Common.{◌≡◌, ℕ, ◌+◌, ◌<◌, Bool, true, false, List, [], ◌∷◌, ◌++◌, length, take, get_or, Option, None, Some, is_some, refl, sym, ap, subst, ◌∙◌, arith}
-use Rattle.std.proofs.lemmas.List.{take_more}
+use Rattle.std.proofs.Common.{◌≡◌, ℕ, ◌+◌, ◌<◌, ◌≤◌, map, take_all, length-take, Bool, true, false, List, [], ◌∷◌, ◌++◌, length, take, get_or, Option, None, Some, is_some, refl, sym, ap, subst, ◌∙◌, arith}
+use Rattle.std.proofs.lemmas.List.{take_more, map-append, length-map}
 use Rattle.std.specs.Str.{bytes_eq}
 use Rattle.std.specs.Option.{option_map}
 use Rattle.std.specs.Map.{lookup}
@@ -30,6 +30,18 @@ number-push names f n name other r more k q m = m ∙ (ap (λ r. number_or r (by
 -- the next of a list of names
 pub next : (index : Index) (names : List (List ℕ)) (f i : ℕ) (name d : List ℕ) → i < length names → name ≡ get_or names i d → IndexesFrom index f (take i names ++ name ∷ []) → IndexesFrom index f (take (i + 1) names)
 next index names f i name d h e is = subst (IndexesFrom index f) (sym (take_more names i d h ∙ ap (λ n. take i names ++ n ∷ []) (sym e))) is
+
+-- the next of rows that have names
+module _ {T : Type 0} (name_of : T → List ℕ) where
+  pub next-row : (index : Index) (rows : List T) (f i : ℕ) (row : T) (name : List ℕ) → i < length rows → row ≡ get_or rows i row → name ≡ name_of row → IndexesFrom index f (map name_of (take i rows) ++ name ∷ []) → IndexesFrom index f (map name_of (take (i + 1) rows))
+  next-row index rows f i row name h e n is = subst (IndexesFrom index f) (ap (λ x. map name_of (take i rows) ++ x ∷ []) n
+      ∙ sym (ap (map name_of) (take_more rows i row h ∙ ap (λ x. take i rows ++ x ∷ []) (sym e)) ∙ map-append name_of (take i rows) (row ∷ []))) is
+
+  pub counted-rows : (rows : List T) (f i n : ℕ) → i < length rows → n ≡ f + i → n ≡ f + length (map name_of (take i rows))
+  counted-rows rows f i n h e = omega (arith, length-map (take i rows) name_of, length-take i rows)
+
+  pub all-rows : (index : Index) (rows : List T) (f i : ℕ) → length rows ≤ i → IndexesFrom index f (map name_of (take i rows)) → IndexesFrom index f (map name_of rows)
+  all-rows index rows f i h is = subst (λ rs. IndexesFrom index f (map name_of rs)) (take_all i rows h) is
 
 pub from-first : (r : Option ℕ) → option_map (λ i. 0 + i) r ≡ r
 from-first (Some x) = ap Some (omega arith)

@@ -22,15 +22,13 @@ pub struct Index {
 }
 
 /// Gives a name a number, where it has none.
-fn add(alloc: Global, numbers: &mut Numbers, name: &[u8], number: u32) -> Result<(), AllocError>
-    ensures { OnOk result ((other : List ℕ) → get_by (λ k. bytes_eq other k.items) numbers.new ≡ number_or (get_by (λ k. bytes_eq other k.items) numbers.old) (bytes_eq other name.now) number) }
+fn add(numbers: &mut Numbers, name: Vec<u8>, number: u32) -> Result<(), AllocError>
+    ensures { OnOk result ((other : List ℕ) → get_by (λ k. bytes_eq other k.items) numbers.new ≡ number_or (get_by (λ k. bytes_eq other k.items) numbers.old) (bytes_eq other name.items) number) }
 {
-    if numbers.contains_key(name) {
+    if numbers.contains_key(name.as_slice()) {
         return Ok(());
     }
-    let mut key = Vec::new(alloc);
-    key.extend_from_slice(name)?;
-    numbers.insert(key, number)?;
+    numbers.insert(name, number)?;
     Ok(())
 }
 
@@ -47,32 +45,32 @@ impl Index {
         }
     }
 
+    /// One more name, with the next number; the name is the index's own.
+    pub fn push_owned(&mut self, name: Vec<u8>, number: u32) -> Result<(), AllocError>
+        ensures { OnOk result ((names : List (List ℕ)) (first : ℕ) → IndexesFrom self.old first names → number ≡ first + length names → IndexesFrom self.new first (names ++ name.items ∷ [])) }
+    {
+        add(&mut self.numbers, name, number)?;
+        Ok(())
+    }
+
     /// One more name, with the next number.
     pub fn push(&mut self, alloc: Global, name: &[u8], number: u32) -> Result<(), AllocError>
         ensures { OnOk result ((names : List (List ℕ)) (first : ℕ) → IndexesFrom self.old first names → number ≡ first + length names → IndexesFrom self.new first (names ++ name.now ∷ [])) }
     {
-        add(alloc, &mut self.numbers, name, number)?;
-        Ok(())
-    }
-
-    /// The numbers of these names, counted from the first one's.
-    pub fn from(alloc: Global, first: u32, names: &[Octs]) -> Result<Self, AllocError>
-        ensures { IfOk result (λ index. IndexesFrom index first names.now) }
-    {
-        let mut index = Index::new(alloc);
-        let mut number = first;
-        for name in names {
-            index.push(alloc, name.as_slice(), number)?;
-            number = plus(number, 1)?;
-        }
-        Ok(index)
+        let name = Vec::from_slice(alloc, name)?;
+        self.push_owned(name, number)
     }
 
     /// The places of these names.
     pub fn of(alloc: Global, names: &[Octs]) -> Result<Self, AllocError>
         ensures { IfOk result (λ index. Indexes index names.now) }
     {
-        let index = Index::from(alloc, 0, names)?;
+        let mut index = Index::new(alloc);
+        let mut number = 0;
+        for name in names {
+            index.push(alloc, name.as_slice(), number)?;
+            number = plus(number, 1)?;
+        }
         Ok(index)
     }
 

@@ -21,13 +21,13 @@ use sv_base::{AttrDef, BlockDef, Config, CtlDef, LnDef, Octs, SgDef, copy_type};
 
 /// A line, by its number, with the items of its domain that it names.
 #[derive(Drop)]
-pub struct Line {
+pub struct Line<'a> {
     pub number: u32,
-    pub domain: Octs,
+    pub domain: &'a [u8],
     pub names: Vec<Named>,
 }
 
-impl Model for Line {
+impl<'a> Model for Line<'a> {
     ghost use Rattle.bay_model.specs.NamedLines.{Line};
 
     ghost Value = { Line };
@@ -37,20 +37,19 @@ impl Model for Line {
 
     ghost coded = { Prim.hlevel (codes, fields_code) };
 
-    ghost view = { λ l. record { line = l.number; domain = l.domain; names = l.names.items } };
+    ghost view = { λ l. record { line = l.number; domain = l.domain.now; names = l.names.items } };
 }
 
 /// Adds a line with what it names.
-fn push_line(
-    alloc: Global,
-    out: &mut Vec<Line>,
+fn push_line<'a>(
+    out: &mut Vec<Line<'a>>,
     number: u32,
-    domain: &Octs,
+    domain: &'a Octs,
     names: Vec<Named>,
 ) -> Result<(), AllocError>
     ensures { OnOk result (out.new.items ≡ out.old.items ++ record { line = number; domain = domain.now; names = names.items } ∷ []) }
 {
-    let domain = domain.copy(alloc)?;
+    let domain = domain.as_slice();
     out.push(Line {
         number,
         domain,
@@ -59,12 +58,12 @@ fn push_line(
     Ok(())
 }
 
-fn push_node(alloc: Global, out: &mut Vec<Line>, node: &LnDef) -> Result<(), AllocError>
+fn push_node<'a>(alloc: Global, out: &mut Vec<Line<'a>>, node: &'a LnDef) -> Result<(), AllocError>
     ensures { OnOk result (out.new.items ≡ out.old.items ++ node_line node.now ∷ []) }
 {
     let mut names = Vec::new(alloc);
     push_structure(alloc, &mut names, node.ln.as_slice(), What::Structure)?;
-    push_line(alloc, out, node.line, &node.domain, names)
+    push_line(out, node.line, &node.domain, names)
 }
 
 fn push_end(
@@ -102,10 +101,10 @@ fn push_attr_names(
     Ok(())
 }
 
-fn push_attr(
+fn push_attr<'a>(
     alloc: Global,
-    out: &mut Vec<Line>,
-    attr: &AttrDef,
+    out: &mut Vec<Line<'a>>,
+    attr: &'a AttrDef,
     number: u32,
     twin: u32,
 ) -> Result<(), AllocError>
@@ -113,7 +112,7 @@ fn push_attr(
 {
     let mut names = Vec::new(alloc);
     push_attr_names(alloc, &mut names, attr, number, twin)?;
-    push_line(alloc, out, attr.line, &attr.domain, names)
+    push_line(out, attr.line, &attr.domain, names)
 }
 
 fn push_block_names(
@@ -128,31 +127,31 @@ fn push_block_names(
     push_block(alloc, out, number, &item)
 }
 
-fn push_block_line(
+fn push_block_line<'a>(
     alloc: Global,
-    out: &mut Vec<Line>,
-    block: &BlockDef,
+    out: &mut Vec<Line<'a>>,
+    block: &'a BlockDef,
     number: u32,
 ) -> Result<(), AllocError>
     ensures { OnOk result (out.new.items ≡ out.old.items ++ block_line number block.now ∷ []) }
 {
     let mut names = Vec::new(alloc);
     push_block_names(alloc, &mut names, block, number)?;
-    push_line(alloc, out, block.line, &block.domain, names)?;
+    push_line(out, block.line, &block.domain, names)?;
     Ok(())
 }
 
-fn push_group(
+fn push_group<'a>(
     alloc: Global,
-    out: &mut Vec<Line>,
-    group: &SgDef,
+    out: &mut Vec<Line<'a>>,
+    group: &'a SgDef,
     domain_number: u32,
 ) -> Result<(), AllocError>
     ensures { OnOk result (out.new.items ≡ out.old.items ++ group_line domain_number group.now ∷ []) }
 {
     let mut names = Vec::new(alloc);
     push_settings(alloc, &mut names, domain_number)?;
-    push_line(alloc, out, group.line, &group.domain, names)
+    push_line(out, group.line, &group.domain, names)
 }
 
 fn push_control_names(
@@ -179,10 +178,10 @@ fn push_parameter_names(
     push_parameters(alloc, out, first, control, &item)
 }
 
-fn push_control_line(
+fn push_control_line<'a>(
     alloc: Global,
-    out: &mut Vec<Line>,
-    control: &CtlDef,
+    out: &mut Vec<Line<'a>>,
+    control: &'a CtlDef,
     number: u32,
     first: u32,
 ) -> Result<(), AllocError>
@@ -191,10 +190,14 @@ fn push_control_line(
     let mut names = Vec::new(alloc);
     push_control_names(alloc, &mut names, control, number)?;
     push_parameter_names(alloc, &mut names, control, first)?;
-    push_line(alloc, out, control.line, &control.domain, names)
+    push_line(out, control.line, &control.domain, names)
 }
 
-fn push_nodes(alloc: Global, out: &mut Vec<Line>, nodes: &[LnDef]) -> Result<(), AllocError>
+fn push_nodes<'a>(
+    alloc: Global,
+    out: &mut Vec<Line<'a>>,
+    nodes: &'a [LnDef],
+) -> Result<(), AllocError>
     ensures { OnOk result (out.new.items ≡ out.old.items ++ map node_line nodes.now) }
 {
     for node in nodes {
@@ -213,10 +216,10 @@ fn next_twin(attr: &AttrDef, twin: u32) -> Result<u32, AllocError>
     Ok(twin)
 }
 
-fn push_attrs(
+fn push_attrs<'a>(
     alloc: Global,
-    out: &mut Vec<Line>,
-    attrs: &[AttrDef],
+    out: &mut Vec<Line<'a>>,
+    attrs: &'a [AttrDef],
     first_twin: u32,
 ) -> Result<(), AllocError>
     ensures { OnOk result (out.new.items ≡ out.old.items ++ attribute_lines 0 first_twin attrs.now) }
@@ -231,7 +234,11 @@ fn push_attrs(
     Ok(())
 }
 
-fn push_blocks(alloc: Global, out: &mut Vec<Line>, blocks: &[BlockDef]) -> Result<(), AllocError>
+fn push_blocks<'a>(
+    alloc: Global,
+    out: &mut Vec<Line<'a>>,
+    blocks: &'a [BlockDef],
+) -> Result<(), AllocError>
     ensures { OnOk result (out.new.items ≡ out.old.items ++ block_lines 0 blocks.now) }
 {
     let mut number = 0;
@@ -249,10 +256,10 @@ fn parameter_count(control: &CtlDef) -> u32
     if is_selected(control) { 3 } else { 1 }
 }
 
-fn push_controls(
+fn push_controls<'a>(
     alloc: Global,
-    out: &mut Vec<Line>,
-    controls: &[CtlDef],
+    out: &mut Vec<Line<'a>>,
+    controls: &'a [CtlDef],
     first: u32,
 ) -> Result<(), AllocError>
     ensures { OnOk result (out.new.items ≡ out.old.items ++ control_lines 0 first controls.now) }
@@ -298,10 +305,10 @@ fn has_domain(domains: &[Octs], domain: &[u8]) -> bool
     false
 }
 
-fn push_groups(
+fn push_groups<'a>(
     alloc: Global,
-    out: &mut Vec<Line>,
-    groups: &[SgDef],
+    out: &mut Vec<Line<'a>>,
+    groups: &'a [SgDef],
     domains: &[Octs],
     index: &Index,
 ) -> Result<(), AllocError>
@@ -326,10 +333,10 @@ fn generated_count(controls: &[CtlDef]) -> Result<u32, AllocError>
     Ok(sum)
 }
 
-fn push_all(
+fn push_all<'a>(
     alloc: Global,
-    out: &mut Vec<Line>,
-    config: &Config,
+    out: &mut Vec<Line<'a>>,
+    config: &'a Config,
     domains: &[Octs],
     index: &Index,
 ) -> Result<(), AllocError>
@@ -348,12 +355,12 @@ fn push_all(
 }
 
 /// The lines in the order of their numbers.
-pub fn ordered_lines(
+pub fn ordered_lines<'a>(
     alloc: Global,
-    config: &Config,
+    config: &'a Config,
     domains: &[Octs],
     index: &Index,
-) -> Result<Vec<Line>, AllocError>
+) -> Result<Vec<Line<'a>>, AllocError>
     requires indexed { Indexes index.now domains.now }
     requires domains { domains.now ≡ domains_of config.now }
     ensures { IfOk result (λ v. v.items ≡ in_order (lines_of config.now)) }

@@ -14,19 +14,41 @@ use sv_base::{AttrDef, BlockDef, Config, CtlDef, Octs};
 pub fn joined(alloc: Global, before: &[u8], octet: u8, after: &[u8]) -> Result<Vec<u8>, AllocError>
     ensures { IfOk result (λ v. v.items ≡ before.now ++ octet ∷ after.now) }
 {
-    let mut text = Vec::new(alloc);
+    let octets = before.len().saturating_add(after.len());
+    let mut text = Vec::with_capacity(alloc, octets.saturating_add(1))?;
     text.extend_from_slice(before)?;
     text.push(octet)?;
     text.extend_from_slice(after)?;
     Ok(text)
 }
 
+/// Adds `LN$FC$PATH`.
+fn extend_item(text: &mut Vec<u8>, ln: &[u8], fc: &[u8], path: &[u8]) -> Result<(), AllocError>
+    ensures { OnOk result (text.new.items ≡ text.old.items ++ path_item ln.now fc.now path.now) }
+{
+    text.extend_from_slice(ln)?;
+    text.push(b'$')?;
+    text.extend_from_slice(fc)?;
+    text.push(b'$')?;
+    text.extend_from_slice(path)?;
+    Ok(())
+}
+
+/// How many octets `LN$FC$PATH` has.
+fn item_len(ln: &[u8], fc: &[u8], path: &[u8]) -> usize {
+    ln.len()
+        .saturating_add(fc.len())
+        .saturating_add(path.len())
+        .saturating_add(2)
+}
+
 /// `LN$FC$PATH`.
 pub fn item_at(alloc: Global, ln: &[u8], fc: &[u8], path: &[u8]) -> Result<Vec<u8>, AllocError>
     ensures { IfOk result (λ v. v.items ≡ path_item ln.now fc.now path.now) }
 {
-    let front = joined(alloc, ln, b'$', fc)?;
-    joined(alloc, &front, b'$', path)
+    let mut item = Vec::with_capacity(alloc, item_len(ln, fc, path))?;
+    extend_item(&mut item, ln, fc, path)?;
+    Ok(item)
 }
 
 /// `LD/LN$FC$PATH`.
@@ -39,8 +61,11 @@ pub fn reference_at(
 ) -> Result<Octs, AllocError>
     ensures { IfOk result (λ r. r ≡ reference_of domain.now (path_item ln.now fc.now path.now)) }
 {
-    let item = item_at(alloc, ln, fc, path)?;
-    let reference = joined(alloc, domain, b'/', &item)?;
+    let octets = domain.len().saturating_add(item_len(ln, fc, path));
+    let mut reference = Vec::with_capacity(alloc, octets.saturating_add(1))?;
+    reference.extend_from_slice(domain)?;
+    reference.push(b'/')?;
+    extend_item(&mut reference, ln, fc, path)?;
     Ok(Octs::from_vec(reference))
 }
 

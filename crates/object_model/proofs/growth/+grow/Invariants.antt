@@ -1,4 +1,4 @@
-use Rattle.std.proofs.Common.{◌-◌, take}
+use Rattle.std.proofs.Common.{◌≡◌, ◌-◌, length, take}
 use Rattle.object_model.specs.Grown.{IsGrown, forest_of}
 use Rattle.object_model.proofs.growth.+grow.Given as goal
 
@@ -6,4 +6,8 @@ abbrev pub decreases-grow : goal.decreases-grow
 decreases-grow l = l.levels
 
 abbrev pub invariant-loop-group : goal.invariant-loop-group
-invariant-loop-group l = IsGrown l.all l.before (forest_of (l.levels - 1) (take l.group-index l.group-items))
+invariant-loop-group l = record {
+  all : IsGrown l.all l.initial.path.items (forest_of (l.levels - 1) (take l.group-index l.group-items));
+  path : l.path.items ≡ l.initial.path.items;
+  len : l.len ≡ length l.initial.path.items;
+}

@@ -8,14 +8,13 @@ use Rattle.object_model.proofs.listing.push_domain.Goals as goal
 
 pub returns : goal.returns
 returns c = record {
-  rows = c.in_ok-push_rows.ensures ∙ ap (λ l. c.args.listing.now.rows.items ++ rows_from (length c.args.listing.now.rows.items) l) c.in_ok-spots.ensures;
-  names = c.in_ok-push_node_names.ensures ∙ ap (λ l. c.args.listing.now.names.items ++ map (name_at c.args.domain.now) l) (c.deref-4.ensures.value ∙ c.in_ok-spots.ensures);
+  rows = c.in_ok-push_nodes.ensures.rows ∙ ap (λ l. c.args.listing.now.rows.items ++ rows_from (length c.args.listing.now.rows.items) l) c.in_ok-spots.ensures;
+  names = c.in_ok-push_nodes.ensures.names ∙ ap (λ l. c.args.listing.now.names.items ++ map (name_at c.args.domain.now) l) c.in_ok-spots.ensures;
   directory = record { numbers = c.in_ok-numbers.numbers; ascending = c.in_ok-ascending.ascending };
   directories = c.in_ok-push.ensures.items;
   numbers = subst (λ l. IndexesFrom c.in_ok-numbers.numbers (length c.args.listing.now.rows.items) (items_of l)) (c.deref.ensures.value ∙ c.in_ok-spots.ensures)
-      (subst (λ l. IndexesFrom c.in_ok-numbers.numbers (length c.args.listing.now.rows.items) l) (c.deref-2.ensures.value ∙ c.in_ok-items.ensures)
-      (subst (λ n. IndexesFrom c.in_ok-numbers.numbers n c.deref-2.result.now) (c.in_ok-first.ensures ∙ ap length c.as_slice.ensures.value) c.in_ok-numbers.ensures));
-  ascending = c.in_ok-ascending.ensures ∙ ap sorted (c.deref-3.ensures.value ∙ (c.in_ok-items.ensures ∙ ap items_of (c.deref.ensures.value ∙ c.in_ok-spots.ensures)));
-  stands = c.in_ok-push_stands.ensures.stands ∙ ap (λ l. c.args.listing.now.stands.items ++ stands_from (length c.args.listing.now.leaves.items) l) (c.deref-5.ensures.value ∙ c.in_ok-spots.ensures);
-  leaves = c.in_ok-push_stands.ensures.leaves ∙ ap (λ l. c.args.listing.now.leaves.items ++ owns l) (c.deref-5.ensures.value ∙ c.in_ok-spots.ensures);
+      (subst (λ n. IndexesFrom c.in_ok-numbers.numbers n (items_of c.deref.result.now)) (c.in_ok-first.ensures ∙ ap length c.as_slice.ensures.value) c.in_ok-numbers.ensures);
+  ascending = c.in_ok-ascending.ensures ∙ ap sorted (c.in_ok-items_of.ensures ∙ ap items_of (c.deref-2.ensures.value ∙ c.in_ok-spots.ensures));
+  stands = c.in_ok-push_stands.ensures.stands ∙ ap (λ l. c.args.listing.now.stands.items ++ stands_from (length c.args.listing.now.leaves.items) l) (c.deref-3.ensures.value ∙ c.in_ok-spots.ensures);
+  leaves = c.in_ok-push_stands.ensures.leaves ∙ ap (λ l. c.args.listing.now.leaves.items ++ owns l) (c.deref-3.ensures.value ∙ c.in_ok-spots.ensures);
 }
