@@ -1,1 +1,2 @@
+pub mod PartNames
 pub mod Indexed

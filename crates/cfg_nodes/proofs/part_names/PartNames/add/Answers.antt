@@ -1,14 +1,7 @@
-use Rattle.std.proofs.Common.{◌∙◌, ap, sym, map}
-use Rattle.std.proofs.lemmas.Bool.{cond-true}
-use Rattle.cfg_lines.specs.Keys.{is_among, added, octets_of}
-use Rattle.cfg_nodes.proofs.PartNameLaws.{any-items, items-inserted}
+use Rattle.std.proofs.Common.{ap, length, get_or, ◌∙◌, arith}
+use Rattle.cfg_nodes.proofs.PartNameLaws.{second-added}
 use Rattle.cfg_nodes.proofs.part_names.PartNames.add.Goals as goal
 
 pub returns : goal.returns
-returns c = ap (map octets_of) c.in_ok-insert.ensures.keys
-    ∙ (items-inserted c.self.inside.names.keys c.in_ok-name.name ∙ (ap (added (map octets_of c.self.inside.names.keys)) c.in_ok-name.ensures.items ∙ ap (λ ks. added ks c.args.name.now) c.self.view_is))
-
-pub returns-then-contains : goal.returns-then-contains
-returns-then-contains c =
-    let there = ap (λ ks. is_among ks c.args.name.now) (sym c.self.view_is) ∙ (sym (any-items c.args.name.now c.self.inside.names.keys) ∙ (sym c.contains.ensures ∙ c.if-contains.true)) in
-    sym (cond-true _ _ _ there)
+returns c = second-added c.self.inside.one.items c.self.inside.several.keys c.insert-2.new.names.keys c.insert-3.new.names.keys c.first-item.result c.deref.result.now c.args.name.now c.args.self.now (c.is_empty.ensures.0 c.if-not-is_empty.false) c.self.view_is c.self.invariant
+    (omega (arith, c.in-len1-up.len_at_least, ap length c.as_slice.ensures.value)) (c.first-item.is ∙ ap (λ l. get_or l 0 c.first-item.result) c.as_slice.ensures.value) c.deref.ensures.value c.in_ok-insert-2.ensures c.in_ok-insert-3.ensures
