@@ -247,7 +247,10 @@ pub fn grow(
         return Ok(all);
     }
     let len = path.len();
-    for group in groups(alloc, cuts)?.as_slice() {
+    let groups = groups(alloc, cuts)?;
+    all.spots.reserve_exact(groups.len())?;
+    all.parts.reserve_exact(groups.len())?;
+    for group in groups.as_slice() {
         enter(path, group.name)?;
         let below = grow(alloc, path, &group.cuts, levels - 1)?;
         path.truncate(len);

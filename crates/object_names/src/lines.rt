@@ -110,7 +110,7 @@ fn push_attr<'a>(
 ) -> Result<(), AllocError>
     ensures { OnOk result (out.new.items ≡ out.old.items ++ attribute_line number twin attr.now ∷ []) }
 {
-    let mut names = Vec::new(alloc);
+    let mut names = Vec::with_capacity(alloc, 1)?;
     push_attr_names(alloc, &mut names, attr, number, twin)?;
     push_line(out, attr.line, &attr.domain, names)
 }

@@ -1,4 +1,4 @@
-use Rattle.std.proofs.Common.{◌≡◌, ◌++◌, ◌∷◌, [], ◌-◌, ap, sym, subst, ◌∙◌, arith}
+use Rattle.std.proofs.Common.{◌≡◌, ◌++◌, ◌∷◌, [], ◌-◌, ap, subst, ◌∙◌, arith}
 use Rattle.object_model.specs.Groups.{Group}
 use Rattle.object_model.proofs.GrowLaws.{Added, grown-more, whole, parts_grown, back}
 use Rattle.object_model.proofs.growth.+grow.Goals as goal
