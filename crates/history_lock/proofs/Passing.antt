@@ -1,0 +1,236 @@
+-- What a turn of a seat means for its pass.
+use Rattle.std.proofs.Common.{◌≡◌, ℕ, ◌+◌, ◌-◌, ◌<◌, ◌≢◌, ◌⊎◌, List, [], ◌∷◌, ◌++◌, length, Ok, Err, sym, refl, ap, ◌∙◌, subst, inl, inr, ⊎_elim, append-nil, eqb, eq-eqb, arith, cond, Bool, true, false, Option, None, ltb}
+use mathlib.Core.Logic.{dite}
+use native.Mathlib.Decide.{dec_le}
+use Rattle.bay_model.specs.declared.step.Step.{Step}
+use Rattle.bay_model.specs.declared.answer.Answer.{Answer}
+use Rattle.bay_core.specs.declared.fault.StepFault.{StepFault}
+use Rattle.bay_model.specs.Answers.{Turn, History}
+use Rattle.bay_core.specs.declared.bay.Bay.{Bay}
+use Rattle.sv_base.specs.declared.config.Config.{Config}
+use Rattle.bay_model.specs.Named.{configured_model}
+use Rattle.bay_model.specs.declared.step.Step.TheVariants as steps
+use Rattle.bay_core.specs.declared.fault.StepFault.TheVariants as stepfaults
+use Rattle.bay_core.specs.Turns.{named, is_lean, KeepsLean}
+use Rattle.bay_model.specs.Answers.{answer}
+use Rattle.atomic_table.specs.declared.shared.Seat.{Seat}
+use Rattle.history_lock.specs.declared.fault.TurnFault.TheVariants as faults
+use Rattle.history_lock.specs.declared.history.Pass.TheInside.{Inside}
+use Rattle.history_lock.specs.contracts.history.Pass.{the_view}
+use Rattle.history_lock.specs.declared.view.View.{View}
+use Rattle.history_lock.specs.Histories.{IsEarlier, turn_of, by, IsRefused, answers_of, places_of}
+use Rattle.history_lock.specs.Views.{total, inside, mine}
+use Rattle.history_lock.specs.Plays.{Seated, Others, joined, settled, Agree}
+use Rattle.history_lock.specs.Seats.{Took, at_rest, config_or, others_of}
+use Rattle.history_lock.specs.Passes.{Known, IsIn, InSome, HasNumber, OfOthers, Turned, later, own, is_process, Joined, told, placed}
+use Rattle.history_lock.proofs.Steps.{by-append, by_mine}
+use Rattle.history_lock.proofs.Parts.{inside_below, inside_within, inside_above}
+
+pub counted : (k : ℕ) (rs : List (ℕ × ℕ)) → InSome k rs → 0 < total (inside k) rs
+counted k [] h = absurd h
+counted k (r ∷ rs) h = ⊎_elim (λ (x : IsIn k r). omega (arith, inside_within k r.0 r.1 x.0 x.1)) (λ (x : InSome k rs). omega (arith, counted k rs x)) h
+
+pub found : (k : ℕ) (rs : List (ℕ × ℕ)) → 0 < total (inside k) rs → InSome k rs
+found k [] h = absurd (omega arith)
+found k (r ∷ rs) h = dite (dec_le r.0 k)
+    (λ from. dite (dec_le (r.0 + r.1) k) (λ above. inr (found k rs (omega (arith, h, inside_above k r.0 r.1 above)))) (λ under. inl (from, omega arith)))
+    (λ below. inr (found k rs (omega (arith, h, inside_below k r.0 r.1 (omega arith)))))
+
+abbrev pub IsRest : Inside → Type 0
+IsRest i = i.seat.me ≡ at_rest (config_or i.seat.me.0.config) i.first i.count (others_of i.seat.me.0.ranges) i.left i.seat.me.0.seen
+
+pub not_ours : (i : Inside) → IsRest i → (between : History) → Others i.seat.me.0 between → OfOthers (the_view i) between
+not_ours i rest between others k has = others k
+    (subst (λ (rs : List (ℕ × ℕ)). 0 < total (inside k) rs) (sym (ap (λ (m : Seated). m.0.ranges) rest))
+    (counted k ((i.first, i.count) ∷ others_of i.seat.me.0.ranges) has))
+
+abbrev after : Inside → Seat (Option Bay) View → ℕ → Inside
+after i s n = record { seat = s; first = i.first; count = i.count; left = i.left - 1; seen = n }
+
+came : (i : Inside) (s : Seat (Option Bay) View) (n : ℕ) (seen : History) → s.table_id ≡ i.seat.table_id → s.me.0.config ≡ i.seat.me.0.config
+    → s.me.0.ranges ≡ i.seat.me.0.ranges → s.me.0.seen ≡ seen → the_view (after i s n) ≡ later (the_view i) seen
+came i s n seen table config ranges is = λ j. record {
+  table = table j;
+  config = config_or (config j);
+  first = i.first;
+  count = i.count;
+  joined = others_of (ranges j);
+  left = i.left - 1;
+  seen = is j;
+}
+
+pub turned_ok : (i : Inside) (s : Seat (Option Bay) View) (n moment : ℕ) (answer : Answer) (place : ℕ) (step : Step) → IsRest i → i.left ≢ 0
+    → s.table_id ≡ i.seat.table_id
+    → Took (config_or i.seat.me.0.config) i.seat.me (turn_of moment i.first step) (Ok (answer, place)) s.me
+    → Turned (the_view i) moment step (Ok (answer, place)) (the_view (after i s n))
+turned_ok i s n moment answer place step rest some_left table t = (
+  omega arith,
+  t.0,
+  not_ours i rest t.0 t.2,
+  (
+    came i s n (turn_of moment i.first step ∷ t.0 ++ i.seat.me.0.seen) table (ap (λ (m : Seated). m.0.config) t.1) (ap (λ (m : Seated). m.0.ranges) t.1)
+        (ap (λ (m : Seated). m.0.seen) t.1),
+    t.3,
+    t.4,
+    t.6,
+  ),
+)
+
+pub turned_err : (i : Inside) (s : Seat (Option Bay) View) (n moment : ℕ) (f : StepFault) (count : ℕ) (step : Step) → IsRest i → i.left ≢ 0
+    → s.table_id ≡ i.seat.table_id
+    → Took (config_or i.seat.me.0.config) i.seat.me (turn_of moment i.first step) (Err (f, count)) s.me
+    → Turned (the_view i) moment step (Err (faults.Step f)) (the_view (after i s n))
+turned_err i s n moment f count step rest some_left table t = (
+  omega arith,
+  t.0,
+  not_ours i rest t.0 t.2,
+  (
+    came i s n (t.0 ++ i.seat.me.0.seen) table (ap (λ (m : Seated). m.0.config) t.1) (ap (λ (m : Seated). m.0.ranges) t.1)
+        (ap (λ (m : Seated). m.0.seen) t.1),
+    t.3,
+    t.5,
+  ),
+)
+
+longer_length : (b : Bool) (xs ys : History) → cond b (length ys) (length xs) ≡ length (cond b ys xs)
+longer_length true xs ys = refl
+longer_length false xs ys = refl
+
+longer_one : (b : Bool) (xs ys : History) → (cond b ys xs ≡ xs) ⊎ (cond b ys xs ≡ ys)
+longer_one true xs ys = inr refl
+longer_one false xs ys = inl refl
+
+-- the pass after a join
+abbrev both : Inside → Inside → Seat (Option Bay) View → ℕ → Inside
+both i o s n = record { seat = s; first = i.first; count = i.count; left = i.left + o.left; seen = n }
+
+pub joined_rest : (i o : Inside) (s : Seat (Option Bay) View) (n : ℕ) → IsRest i → IsRest o → s.me ≡ (settled (joined i.seat.me.0 o.seat.me.0), [])
+    → IsRest (both i o s n)
+joined_rest i o s n rest rest' me =
+    let at : settled (joined i.seat.me.0 o.seat.me.0) ≡ settled
+    (joined (at_rest (config_or i.seat.me.0.config) i.first i.count (others_of i.seat.me.0.ranges) i.left i.seat.me.0.seen).0
+    (at_rest (config_or o.seat.me.0.config) o.first o.count (others_of o.seat.me.0.ranges) o.left o.seat.me.0.seen).0) =
+    λ j. settled (joined (rest j).0 (rest' j).0) in
+    let now : s.me ≡ (
+      settled (joined (at_rest (config_or i.seat.me.0.config) i.first i.count (others_of i.seat.me.0.ranges) i.left i.seat.me.0.seen).0
+          (at_rest (config_or o.seat.me.0.config) o.first o.count (others_of o.seat.me.0.ranges) o.left o.seat.me.0.seen).0),
+      [],
+    ) = me ∙ (λ j. (at j, [])) in
+    let G : Seated → Type 0 = λ m. m ≡ at_rest (config_or m.0.config) i.first i.count (others_of m.0.ranges) (i.left + o.left) m.0.seen in
+    subst G (sym now) refl
+
+pub joined_seen : (i o : Inside) (s : Seat (Option Bay) View) (n : ℕ) → i.seen ≡ length i.seat.me.0.seen → o.seen ≡ length o.seat.me.0.seen
+    → s.me ≡ (settled (joined i.seat.me.0 o.seat.me.0), []) → n ≡ cond (ltb i.seen o.seen) o.seen i.seen → n ≡ length s.me.0.seen
+joined_seen i o s n a b me is =
+    is ∙ ((λ j. cond (ltb (a j) (b j)) (b j) (a j))
+    ∙ (longer_length (ltb (length i.seat.me.0.seen) (length o.seat.me.0.seen)) i.seat.me.0.seen o.seat.me.0.seen
+    ∙ ap (λ (m : Seated). length m.0.seen) (sym me)))
+
+pub joined_ok : (i o : Inside) (s : Seat (Option Bay) View) (n : ℕ) → IsRest i → IsRest o → s.table_id ≡ i.seat.table_id
+    → s.me ≡ (settled (joined i.seat.me.0 o.seat.me.0), []) → Agree (joined i.seat.me.0 o.seat.me.0) s.me.0.seen
+    → Joined (the_view i) (the_view o) (the_view (both i o s n))
+joined_ok i o s n rest rest' table me agree =
+    let ranges : i.seat.me.0.ranges ≡ (i.first, i.count) ∷ others_of i.seat.me.0.ranges = ap (λ (m : Seated). m.0.ranges) rest in
+    let ranges' : o.seat.me.0.ranges ≡ (o.first, o.count) ∷ others_of o.seat.me.0.ranges = ap (λ (m : Seated). m.0.ranges) rest' in record {
+      place = (table, ap (λ (m : Seated). config_or m.0.config) me, refl, refl);
+      ranges = ap (λ (m : Seated). others_of m.0.ranges) me ∙ ((λ j. others_of (ranges j ++ ranges' j)));
+      turns = refl;
+      longer = ⊎_elim (λ e. inl (ap (λ (m : Seated). m.0.seen) me ∙ e)) (λ e. inr (ap (λ (m : Seated). m.0.seen) me ∙ e))
+          (longer_one (ltb (length i.seat.me.0.seen) (length o.seat.me.0.seen)) i.seat.me.0.seen o.seat.me.0.seen);
+      this = agree.this;
+      that = agree.that;
+      ours = λ k has. agree.here k (subst (λ (rs : List (ℕ × ℕ)). 0 < total (inside k) rs) (sym ranges)
+          (counted k ((i.first, i.count) ∷ others_of i.seat.me.0.ranges) has));
+      theirs = λ k has. agree.there k (subst (λ (rs : List (ℕ × ℕ)). 0 < total (inside k) rs) (sym ranges')
+          (counted k ((o.first, o.count) ∷ others_of o.seat.me.0.ranges) has));
+    }
+
+pub all_of : (i : Inside) (actors : ℕ) → IsRest i → ((k : ℕ) → k < actors → HasNumber (the_view i) k) → (k : ℕ) → k < actors → 0 < mine k i.seat.me.0
+all_of i actors rest all k near = subst (λ (rs : List (ℕ × ℕ)). 0 < total (inside k) rs) (sym (ap (λ (m : Seated). m.0.ranges) rest))
+    (counted k ((i.first, i.count) ∷ others_of i.seat.me.0.ranges) (all k near))
+
+-- the own steps of a pass after a turn
+mine_between : (p : Known) (between : History) → 0 < p.count → OfOthers p between → by p.first between ≡ []
+mine_between p between some others = others p.first (inl (omega arith, omega arith))
+
+own_between : (p : Known) (between : History) → 0 < p.count → OfOthers p between → by p.first (between ++ p.seen) ≡ own p
+own_between p between some others = by-append p.first between p.seen ∙ ap (λ (l : History). l ++ own p) (mine_between p between some others)
+
+pub own_ok : (p q : Known) (moment : ℕ) (answer : Answer) (place : ℕ) (step : Step) → 0 < p.count → Turned p moment step (Ok (answer, place)) q
+    → own q ≡ turn_of moment p.first step ∷ own p
+own_ok p q moment answer place step some t =
+    let e : Turn = turn_of moment p.first step in
+    ap own t.3.0 ∙ (by_mine p.first (t.1 ++ p.seen) e refl ∙ ap (λ (l : History). e ∷ l) (own_between p t.1 some t.2))
+
+pub own_err : (p q : Known) (moment : ℕ) (f : StepFault) (step : Step) → 0 < p.count → Turned p moment step (Err (faults.Step f)) q → own q ≡ own p
+own_err p q moment f step some t = ap own t.3.0 ∙ own_between p t.1 some t.2
+
+-- where a step counts for nothing
+tail_empty : (b : Bool) (e : Turn) (es : History) → cond b (e ∷ es) es ≡ [] → es ≡ []
+tail_empty true e es h = absurd (cc h)
+tail_empty false e es h = h
+
+not_counted : {A : Type 0} (b : Bool) (e : Turn) (es : History) (xs ys : List A) → cond b (e ∷ es) es ≡ [] → cond b xs ys ≡ ys
+not_counted true e es xs ys h = absurd (cc h)
+not_counted false e es xs ys h = refl
+
+-- steps of others tell the actor nothing
+answers_skip : (c : Config) (k : ℕ) (between h : History) → by k between ≡ [] → answers_of c k (between ++ h) ≡ answers_of c k h
+answers_skip c k [] h none = refl
+answers_skip c k (e ∷ es) h none =
+    not_counted (eqb e.actor k) e (by k es) (answer (configured_model c) (es ++ h) e ∷ answers_of c k (es ++ h)) (answers_of c k (es ++ h)) none
+    ∙ answers_skip c k es h (tail_empty (eqb e.actor k) e (by k es) none)
+
+pub told_ok : (p q : Known) (moment : ℕ) (answer : Answer) (place : ℕ) (step : Step) → 0 < p.count → Turned p moment step (Ok (answer, place)) q
+    → told q ≡ answer ∷ told p
+told_ok p q moment a place step some t =
+    let e : Turn = turn_of moment p.first step in
+    let before : History = t.1 ++ p.seen in
+    let one : told (later p (e ∷ before)) ≡ answer (configured_model p.config) before e ∷ answers_of p.config p.first before =
+    ap (λ b. cond b (answer (configured_model p.config) before e ∷ answers_of p.config p.first before) (answers_of p.config p.first before))
+    (eq-eqb p.first p.first refl) in
+    ap told t.3.0 ∙ (one ∙ (λ i. sym t.3.1 i ∷ answers_skip p.config p.first t.1 p.seen (mine_between p t.1 some t.2) i))
+
+pub told_err : (p q : Known) (moment : ℕ) (f : StepFault) (step : Step) → 0 < p.count → Turned p moment step (Err (faults.Step f)) q → told q ≡ told p
+told_err p q moment f step some t = ap told t.3.0 ∙ answers_skip p.config p.first t.1 p.seen (mine_between p t.1 some t.2)
+
+places_skip : (k : ℕ) (between h : History) → by k between ≡ [] → places_of k (between ++ h) ≡ places_of k h
+places_skip k [] h none = refl
+places_skip k (e ∷ es) h none =
+    not_counted (eqb e.actor k) e (by k es) (length (es ++ h) ∷ places_of k (es ++ h)) (places_of k (es ++ h)) none
+    ∙ places_skip k es h (tail_empty (eqb e.actor k) e (by k es) none)
+
+pub placed_ok : (p q : Known) (moment : ℕ) (answer : Answer) (place : ℕ) (step : Step) → 0 < p.count → Turned p moment step (Ok (answer, place)) q
+    → placed q ≡ place ∷ placed p
+placed_ok p q moment a place step some t =
+    let e : Turn = turn_of moment p.first step in
+    let before : History = t.1 ++ p.seen in
+    let one : placed (later p (e ∷ before)) ≡ length before ∷ places_of p.first before =
+    ap (λ b. cond b (length before ∷ places_of p.first before) (places_of p.first before)) (eq-eqb p.first p.first refl) in
+    ap placed t.3.0 ∙ (one ∙ (λ i. sym t.3.2 i ∷ places_skip p.first t.1 p.seen (mine_between p t.1 some t.2) i))
+
+pub placed_err : (p q : Known) (moment : ℕ) (f : StepFault) (step : Step) → 0 < p.count → Turned p moment step (Err (faults.Step f)) q → placed q ≡ placed p
+placed_err p q moment f step some t = ap placed t.3.0 ∙ places_skip p.first t.1 p.seen (mine_between p t.1 some t.2)
+
+-- the process is not refused
+never_both : (b : Bool) → b ≡ true → b ≡ false → ⊥
+never_both true e f = cc f
+never_both false e f = cc e
+
+no_fault : (f : StepFault) (step : Step) → is_lean step ≡ true → KeepsLean step (Err f) → named f ≡ None → ⊥
+no_fault (stepfaults.IsOpen a) step l k e = cc e
+no_fault (stepfaults.NotOpen a) step l k e = cc e
+no_fault (stepfaults.NotYours a) step l k e = cc e
+no_fault stepfaults.Memory step l k e = never_both (is_lean step) l k
+
+pub process_goes : (c : Config) (h : History) (moment actor : ℕ) (step : Step) (f : StepFault) → KeepsLean step (Err f)
+    → IsRefused c h (turn_of moment actor step) f → is_process step ≡ false
+process_goes c h moment actor (steps.Done n good) f k e = absurd (no_fault f (steps.Done n good) refl k e)
+process_goes c h moment actor (steps.Block n flag) f k e = absurd (no_fault f (steps.Block n flag) refl k e)
+process_goes c h moment actor steps.Tick f k e = absurd (no_fault f steps.Tick refl k e)
+process_goes c h moment actor (steps.Value settings) f k e = absurd (no_fault f (steps.Value settings) refl k e)
+process_goes c h moment actor (steps.Open a size writer) f k e = refl
+process_goes c h moment actor (steps.Ask a r) f k e = refl
+process_goes c h moment actor (steps.Write a b comp v) f k e = refl
+process_goes c h moment actor (steps.Take a) f k e = refl
+process_goes c h moment actor (steps.Lost a) f k e = refl

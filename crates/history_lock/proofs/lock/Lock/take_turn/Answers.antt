@@ -1,0 +1,112 @@
+use Rattle.std.proofs.Common.{rules, ap, sym, ◌∙◌, ◌∷◌, [], ◌++◌, ◌<◌, ◌^◌, length, Some, None, ℕ, List, Option, arith, subst, true, ◌≡◌}
+use Rattle.atomic_table.specs.Table.{rest}
+use Rattle.sv_base.specs.declared.config.Config.{Config}
+use Rattle.object_model.specs.Fits.{fits as fits_in}
+use Rattle.bay_model.specs.Answers.{Turn, History}
+use Rattle.bay_core.specs.declared.bay.Bay.{Bay as TheBay}
+use Rattle.bay_core.specs.Standing.{StandsFor}
+use Rattle.history_lock.specs.Histories.{turn_of}
+use Rattle.history_lock.specs.Plays.{Seated, Got, resting}
+use Rattle.history_lock.proofs.Turning.{stands_now, few_now, others_now, back_in, added_now}
+use Rattle.history_lock.proofs.lock.Lock.take_turn.Goals as goal
+
+pub exchange-requires : goal.exchange-requires
+exchange-requires g c = let b = c.wait_turn.ensures.got in (
+  search rules,
+  (
+    Some b.0,
+    ap (λ (n : Seated). n.1) b.2
+        ∙ ap (λ (l : List (ℕ × Option TheBay)). (0, Some b.0) ∷ rest l) (sym (ap (λ (n : Seated). n.1) b.2)),
+  ),
+)
+
+pub step-result-requires-clause-fits : goal.step-result-requires-clause-fits
+step-result-requires-clause-fits g c =
+    let s = stands_now c.args.seat.now.me c.draw-ticket.new.seat.me c.wait_turn.new.seat.me c.draw-ticket.result g.config c.unwrap-bay.result
+    c.exchange.result c.draw-ticket.ensures.seat c.requires.1.1.1.1.1.0 c.wait_turn.ensures.got c.exchange.ensures.2 c.unwrap-bay.ensures in
+    subst (λ (x : Config). fits_in x c.args.step.now ≡ true) (sym s.1.is_config) c.requires.1.1.1.1.1.1.0
+
+pub step-result-requires-clause-few : goal.step-result-requires-clause-few
+step-result-requires-clause-few g c =
+    let s = stands_now c.args.seat.now.me c.draw-ticket.new.seat.me c.wait_turn.new.seat.me c.draw-ticket.result g.config c.unwrap-bay.result
+    c.exchange.result c.draw-ticket.ensures.seat c.requires.1.1.1.1.1.0 c.wait_turn.ensures.got c.exchange.ensures.2 c.unwrap-bay.ensures in
+    subst (λ (n : ℕ). n < 2 ^ 62) (sym s.1.is_steps)
+    (few_now c.args.seat.now.me c.draw-ticket.new.seat.me c.wait_turn.new.seat.me c.draw-ticket.result c.draw-ticket.ensures.seat c.wait_turn.ensures.got)
+
+pub exchange-requires-2 : goal.exchange-requires-2
+exchange-requires-2 g c = let e = ap (λ (n : Seated). n.1) c.exchange.ensures.3 in
+    (search rules, (None, e ∙ ap (λ (l : List (ℕ × Option TheBay)). (0, None) ∷ rest l) (sym e)))
+
+pub pass_on-requires-clause-bay : goal.pass_on-requires-clause-bay
+pass_on-requires-clause-bay g c =
+    let t : Turn = turn_of c.args.moment c.args.actor.0 c.args.step.now in
+    let got = c.wait_turn.ensures.got in
+    let s = stands_now c.args.seat.now.me c.draw-ticket.new.seat.me c.wait_turn.new.seat.me c.draw-ticket.result g.config c.unwrap-bay.result
+    c.exchange.result c.draw-ticket.ensures.seat c.requires.1.1.1.1.1.0 got c.exchange.ensures.2 c.unwrap-bay.ensures in
+    let held = back_in c.args.seat.now.me c.draw-ticket.new.seat.me c.wait_turn.new.seat.me c.exchange.new.seat.me c.exchange-2.new.seat.me
+    c.draw-ticket.result c.step-result.new.self c.draw-ticket.ensures.seat c.requires.1.1.0.1 got c.exchange.ensures.3 c.exchange-2.ensures.3 in
+    let now = added_now c.args.seat.now.me c.exchange-2.new.seat.me c.append-place.new.seat.me c.draw-ticket.result got.1 c.step-result.new.self t held
+    c.append-place.ensures.seat in
+    let after = c.in-Ok.ensures.does g.config (got.1 ++ c.args.seat.now.me.0.seen) s in (
+      c.step-result.new.self,
+      g.config,
+      ap (λ (n : Seated). n.1) now,
+      ap (λ (n : Seated). n.0.config) now
+          ∙ c.requires.1.1.1.1.1.0,
+      subst (λ (h : History). StandsFor c.step-result.new.self g.config h) (sym (ap (λ (n : Seated). n.0.seen) now)) after.1,
+    )
+
+pub returns-in-Ok-clause-turn : goal.returns-in-Ok-clause-turn
+returns-in-Ok-clause-turn g c =
+    let t : Turn = turn_of c.args.moment c.args.actor.0 c.args.step.now in
+    let got = c.wait_turn.ensures.got in
+    let s = stands_now c.args.seat.now.me c.draw-ticket.new.seat.me c.wait_turn.new.seat.me c.draw-ticket.result g.config c.unwrap-bay.result
+    c.exchange.result c.draw-ticket.ensures.seat c.requires.1.1.1.1.1.0 got c.exchange.ensures.2 c.unwrap-bay.ensures in
+    let held = back_in c.args.seat.now.me c.draw-ticket.new.seat.me c.wait_turn.new.seat.me c.exchange.new.seat.me c.exchange-2.new.seat.me
+    c.draw-ticket.result c.step-result.new.self c.draw-ticket.ensures.seat c.requires.1.1.0.1 got c.exchange.ensures.3 c.exchange-2.ensures.3 in
+    let now = added_now c.args.seat.now.me c.exchange-2.new.seat.me c.append-place.new.seat.me c.draw-ticket.result got.1 c.step-result.new.self t held
+    c.append-place.ensures.seat in
+    let after = c.in-Ok.ensures.does g.config (got.1 ++ c.args.seat.now.me.0.seen) s in
+    let place = c.append-place.ensures.place ∙ ap (λ (n : Seated). length n.0.seen) held in (
+      got.1,
+      c.pass_on.ensures.seat ∙ (λ i. (resting (now i).0, [])),
+      others_now c.args.seat.now.me c.draw-ticket.new.seat.me c.wait_turn.new.seat.me c.draw-ticket.result c.draw-ticket.ensures.seat got,
+      after.0,
+      place,
+      subst (λ (n : ℕ). n < 2 ^ 62) (sym place)
+          (few_now c.args.seat.now.me c.draw-ticket.new.seat.me c.wait_turn.new.seat.me c.draw-ticket.result c.draw-ticket.ensures.seat got),
+      after.1.0,
+    )
+
+pub pass_on-requires-in-Err-clause-bay : goal.pass_on-requires-in-Err-clause-bay
+pass_on-requires-in-Err-clause-bay g c =
+    let got = c.wait_turn.ensures.got in
+    let s = stands_now c.args.seat.now.me c.draw-ticket.new.seat.me c.wait_turn.new.seat.me c.draw-ticket.result g.config c.unwrap-bay.result
+    c.exchange.result c.draw-ticket.ensures.seat c.requires.1.1.1.1.1.0 got c.exchange.ensures.2 c.unwrap-bay.ensures in
+    let held = back_in c.args.seat.now.me c.draw-ticket.new.seat.me c.wait_turn.new.seat.me c.exchange.new.seat.me c.exchange-2.new.seat.me
+    c.draw-ticket.result c.step-result.new.self c.draw-ticket.ensures.seat c.requires.1.1.0.1 got c.exchange.ensures.3 c.exchange-2.ensures.3 in
+    let now = c.count-count.ensures.seat ∙ held in (
+      c.step-result.new.self,
+      g.config,
+      ap (λ (n : Seated). n.1) now,
+      ap (λ (n : Seated). n.0.config) now
+          ∙ c.requires.1.1.1.1.1.0,
+      subst (λ (z : TheBay × History). StandsFor z.0 g.config z.1)
+          (λ i. (sym c.in-Err.ensures.does.0 i, sym (ap (λ (n : Seated). n.0.seen) now) i)) s,
+    )
+
+pub returns-in-Err-clause-turn : goal.returns-in-Err-clause-turn
+returns-in-Err-clause-turn g c =
+    let got = c.wait_turn.ensures.got in
+    let s = stands_now c.args.seat.now.me c.draw-ticket.new.seat.me c.wait_turn.new.seat.me c.draw-ticket.result g.config c.unwrap-bay.result
+    c.exchange.result c.draw-ticket.ensures.seat c.requires.1.1.1.1.1.0 got c.exchange.ensures.2 c.unwrap-bay.ensures in
+    let held = back_in c.args.seat.now.me c.draw-ticket.new.seat.me c.wait_turn.new.seat.me c.exchange.new.seat.me c.exchange-2.new.seat.me
+    c.draw-ticket.result c.step-result.new.self c.draw-ticket.ensures.seat c.requires.1.1.0.1 got c.exchange.ensures.3 c.exchange-2.ensures.3 in
+    let now = c.count-count.ensures.seat ∙ held in (
+      got.1,
+      c.pass_on-in-Err.ensures.seat ∙ (λ i. (resting (now i).0, [])),
+      others_now c.args.seat.now.me c.draw-ticket.new.seat.me c.wait_turn.new.seat.me c.draw-ticket.result c.draw-ticket.ensures.seat got,
+      c.in-Err.ensures.does.1 g.config (got.1 ++ c.args.seat.now.me.0.seen) s,
+      c.count-count.ensures.count ∙ ap (λ (n : Seated). length n.0.seen) held,
+      s.0,
+    )

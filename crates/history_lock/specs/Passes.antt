@@ -1,0 +1,149 @@
+-- What a contract sees of a history and of a pass, and what the calls make of them.
+use Rattle.std.specs.Prelude.{ℕ, ◌≡◌, ◌+◌, ◌-◌, ◌<◌, ◌≤◌, ◌^◌, Bool, true, false, List, [], ◌∷◌, ◌++◌, length, Result, MatchResult, Ok, Err, ◌⊎◌}
+use Rattle.atomic_table.specs.Seated.{TableId}
+use Rattle.sv_base.specs.declared.config.Config.{Config}
+use Rattle.bay_model.specs.declared.answer.Answer.{Answer}
+use Rattle.bay_model.specs.declared.step.Step.{Step}
+use Rattle.bay_model.specs.declared.step.Step.TheVariants as steps
+use Rattle.bay_model.specs.Named.{configured_model}
+use Rattle.bay_model.specs.Answers.{History, answer}
+use Rattle.bay_core.specs.declared.fault.StepFault.TheVariants as stepfaults
+use Rattle.bay_core.specs.Turns.{is_lean}
+use Rattle.history_lock.specs.declared.fault.TurnFault.{TurnFault}
+use Rattle.history_lock.specs.declared.fault.TurnFault.TheVariants as faults
+use Rattle.history_lock.specs.Histories.{IsEarlier, turn_of, by, answers_of, places_of, IsLegal, IsRefused}
+
+-- a history: of this configuration, and of so many actors
+pub record Site : Type 0 where
+  pub table : TableId
+  pub actors : ℕ
+  pub config : Config
+
+-- a pass: the range of numbers that is its own to cut, the ranges of those that it joined, its turns left, and the history
+-- as far as it has seen it
+pub record Known : Type 0 where
+  pub table : TableId
+  pub config : Config
+  pub first : ℕ
+  pub count : ℕ
+  pub joined : List (ℕ × ℕ)
+  pub left : ℕ
+  pub seen : History
+
+-- ---- the numbers of a pass
+
+abbrev pub IsIn : ℕ → ℕ × ℕ → Type 0
+IsIn k r = (r.0 ≤ k) × (k < r.0 + r.1)
+
+abbrev pub InSome : ℕ → List (ℕ × ℕ) → Type 0
+InSome k [] = ⊥
+InSome k (r ∷ rs) = IsIn k r ⊎ InSome k rs
+
+-- the number is the pass's own, or of a pass that it joined
+abbrev pub HasNumber : Known → ℕ → Type 0
+HasNumber p k = InSome k ((p.first, p.count) ∷ p.joined)
+
+-- others made these steps
+abbrev pub OfOthers : Known → History → Type 0
+OfOthers p between = (k : ℕ) → HasNumber p k → by k between ≡ []
+
+-- ---- the first pass, and passes that are split
+
+abbrev pub first_of : Site → Known
+first_of h = record { table = h.table; config = h.config; first = 0; count = h.actors; joined = []; left = 2 ^ 62; seen = [] }
+
+-- the pass that keeps the lower numbers and the rest of the turns
+abbrev pub kept_of : Known → ℕ → ℕ → Known
+kept_of p numbers turns = record {
+  table = p.table;
+  config = p.config;
+  first = p.first;
+  count = p.count - numbers;
+  joined = p.joined;
+  left = p.left - turns;
+  seen = p.seen;
+}
+
+-- the new pass, which has seen the same
+abbrev pub new_of : Known → ℕ → ℕ → Known
+new_of p numbers turns = record {
+  table = p.table;
+  config = p.config;
+  first = p.first + (p.count - numbers);
+  count = numbers;
+  joined = [];
+  left = turns;
+  seen = p.seen;
+}
+
+-- ---- a turn
+
+-- the same pass with one turn fewer, which has seen this history
+abbrev pub later : Known → History → Known
+later p seen = record { table = p.table; config = p.config; first = p.first; count = p.count; joined = p.joined; left = p.left - 1; seen = seen }
+
+-- What a turn gives. Others made the steps between those that the pass had seen and its own. An accepted step is then the
+-- newest, at the place that is answered, and its answer is the definitions' after all steps before it. A refused one adds
+-- nothing, and the refusal's condition holds after these steps. Where no turn is left, nothing is done.
+abbrev pub Turned : Known → ℕ → Step → Result (Answer × ℕ) TurnFault → Known → Type 0
+Turned p moment step (Ok r) q = (0 < p.left) × (between : History) × OfOthers p between
+    × (let before = between ++ p.seen in let t = turn_of moment p.first step in
+    (q ≡ later p (t ∷ before)) × (r.0 ≡ answer (configured_model p.config) before t) × (r.1 ≡ length before) × IsLegal p.config (t ∷ before))
+Turned p moment step (Err faults.Ended) q = (p.left ≡ 0) × (q ≡ p)
+Turned p moment step (Err (faults.Step f)) q = (0 < p.left) × (between : History) × OfOthers p between
+    × (let before = between ++ p.seen in (q ≡ later p before) × IsRefused p.config before (turn_of moment p.first step) f × IsLegal p.config before)
+
+-- a pass of the same history, with the same numbers
+abbrev pub IsSamePass : Known → Known → Type 0
+IsSamePass p q = (q.table ≡ p.table) × (q.config ≡ p.config) × (q.first ≡ p.first) × (q.count ≡ p.count) × (q.joined ≡ p.joined)
+
+-- the steps of the pass's own number, what they were answered, and their places
+abbrev pub own : Known → History
+own p = by p.first p.seen
+
+abbrev pub told : Known → List Answer
+told p = answers_of p.config p.first p.seen
+
+abbrev pub placed : Known → List ℕ
+placed p = places_of p.first p.seen
+
+-- an accepted turn is one more of the pass's own steps, and a refused one is none; so with the answers and the places
+abbrev pub OwnGrew : Known → ℕ → Step → Result (Answer × ℕ) TurnFault → Known → Type 0
+OwnGrew p moment step result q = MatchResult result (λ _. own q ≡ turn_of moment p.first step ∷ own p) (λ _. own q ≡ own p)
+
+abbrev pub ToldGrew : Known → Result (Answer × ℕ) TurnFault → Known → Type 0
+ToldGrew p result q = MatchResult result (λ r. told q ≡ r.0 ∷ told p) (λ _. told q ≡ told p)
+
+abbrev pub PlacedGrew : Known → Result (Answer × ℕ) TurnFault → Known → Type 0
+PlacedGrew p result q = MatchResult result (λ r. placed q ≡ r.1 ∷ placed p) (λ _. placed q ≡ placed p)
+
+-- a turn with a step that needs no memory is not refused for want of it
+abbrev pub IsLeanTurn : Step → Result (Answer × ℕ) TurnFault → Type 0
+IsLeanTurn step (Err (faults.Step stepfaults.Memory)) = is_lean step ≡ false
+IsLeanTurn step _ = Unit {0}
+
+-- what the process does, and time that passes
+abbrev pub is_process : Step → Bool
+is_process (steps.Value settings) = true
+is_process (steps.Done k good) = true
+is_process (steps.Block k flag) = true
+is_process steps.Tick = true
+is_process _ = false
+
+-- a turn with such a step is accepted, where the pass has a turn left
+abbrev pub IsProcessTurn : Step → Result (Answer × ℕ) TurnFault → Type 0
+IsProcessTurn step (Err (faults.Step f)) = is_process step ≡ false
+IsProcessTurn step _ = Unit {0}
+
+-- ---- a join
+
+-- the pass r is p with q joined: both have seen one history, in which what r has seen has all steps of the numbers of each
+pub record Joined (p q r : Known) : Type 0 where
+  pub place : (r.table ≡ p.table) × (r.config ≡ p.config) × (r.first ≡ p.first) × (r.count ≡ p.count)
+  pub ranges : r.joined ≡ p.joined ++ (q.first, q.count) ∷ q.joined
+  pub turns : r.left ≡ p.left + q.left
+  pub longer : (r.seen ≡ p.seen) ⊎ (r.seen ≡ q.seen)
+  pub this : IsEarlier p.seen r.seen
+  pub that : IsEarlier q.seen r.seen
+  pub ours : (k : ℕ) → HasNumber p k → by k r.seen ≡ by k p.seen
+  pub theirs : (k : ℕ) → HasNumber q k → by k r.seen ≡ by k q.seen

@@ -1,0 +1,94 @@
+-- What each step tells: of the step, the seat before, the number found and the seat after.
+use Rattle.std.specs.Prelude.{ℕ, ◌≡◌, ◌≢◌, ◌+◌, ◌-◌, ◌<◌, ◌≤◌, ◌^◌, List, [], ◌∷◌, ◌++◌, length, Option, Some, cond, nat_lt}
+use Rattle.atomic_table.specs.Table.{Me, Step, rest}
+use Rattle.bay_core.specs.declared.bay.Bay.{Bay}
+use Rattle.bay_model.specs.Answers.{Turn, History}
+use Rattle.sv_base.specs.declared.config.Config.{Config}
+use Rattle.bay_core.specs.Standing.{StandsFor}
+use Rattle.history_lock.specs.declared.view.View.{View}
+use Rattle.history_lock.specs.declared.view.Phase.TheVariants.{Idle, Drawn, Busy, Added}
+use Rattle.history_lock.specs.Histories.{IsEarlier, by}
+use Rattle.history_lock.specs.Views.{view, moved_to, ticket_of, mine, aside_of}
+
+abbrev pub Seated : Type 0
+Seated = Me (Option Bay) View
+
+abbrev pub Play : Type 1
+Play = Step (Option Bay) → Seated → ℕ → Seated → Type 0
+
+-- a ticket is drawn
+abbrev pub drawn : View → ℕ → View
+drawn v t = moved_to v (v.left - 1) (Drawn t) v.seen
+
+abbrev pub draws : Play
+draws st m r n = n ≡ (drawn m.0 r, m.1)
+
+-- it is the seat's turn: it has seen the whole history, and has the bay
+abbrev pub served : View → ℕ → History → View
+served v t between = moved_to v v.left (Busy t) (between ++ v.seen)
+
+-- others made the steps between
+abbrev pub Others : View → History → Type 0
+Others v between = (k : ℕ) → 0 < mine k v → by k between ≡ []
+
+abbrev pub Got : Seated → ℕ → Seated → Type 0
+Got m t n = (bay : Bay) × (between : History) × (n ≡ (served m.0 t between, (0, Some bay) ∷ m.1))
+    × ((config : Config) → m.0.config ≡ Some config → StandsFor bay config (between ++ m.0.seen)) × Others m.0 between
+    × (length (between ++ m.0.seen) < 2 ^ 62)
+
+abbrev pub looks : Play
+looks st m r n = (r ≡ ticket_of m.0.phase → Got m r n) × (r ≢ ticket_of m.0.phase → n ≡ m)
+
+-- the step is added to the history
+abbrev pub extended : View → ℕ → Turn → View
+extended v t e = moved_to v v.left (Added t) (e ∷ v.seen)
+
+abbrev pub appends : Turn → Play
+appends e st m r n = (r ≡ length m.0.seen) × (n ≡ (extended m.0 (ticket_of m.0.phase) e, m.1))
+
+-- the bay goes back, and the next ticket is served
+abbrev pub resting : View → View
+resting v = moved_to v v.left Idle v.seen
+
+abbrev pub passes : Play
+passes st m r n = n ≡ (resting m.0, rest m.1)
+
+-- the seat keeps the lower numbers of its first range
+abbrev pub kept_ranges : List (ℕ × ℕ) → ℕ → List (ℕ × ℕ)
+kept_ranges [] n = []
+kept_ranges (r ∷ rs) n = (r.0, r.1 - n) ∷ rs
+
+abbrev pub cut_ranges : List (ℕ × ℕ) → ℕ → List (ℕ × ℕ)
+cut_ranges [] n = []
+cut_ranges (r ∷ rs) n = (r.0 + (r.1 - n), n) ∷ []
+
+abbrev pub kept_part : ℕ → ℕ → View → View
+kept_part n turns v = view v.config (kept_ranges v.ranges n) (v.left - turns) v.phase v.seen v.aside v.told
+
+abbrev pub cut_part : ℕ → ℕ → View → View
+cut_part n turns v = view v.config (cut_ranges v.ranges n) turns Idle v.seen [] []
+
+-- a seat takes in another
+abbrev pub joined : View → View → View
+joined v w = view v.config v.ranges (v.left + w.left) v.phase v.seen w.ranges w.seen
+
+abbrev pub longer : History → History → History
+longer xs ys = cond (nat_lt (length xs) (length ys)) ys xs
+
+-- and compares what it had seen with what the other had
+abbrev pub settled : View → View
+settled v = view v.config (v.ranges ++ v.aside) v.left v.phase (longer v.seen v.told) [] []
+
+-- both began one history, in which the longer has all steps of the numbers of each
+pub record Agree (v : View) (seen : History) : Type 0 where
+  pub this : IsEarlier v.seen seen
+  pub that : IsEarlier v.told seen
+  pub here : (k : ℕ) → 0 < mine k v → by k seen ≡ by k v.seen
+  pub there : (k : ℕ) → 0 < aside_of k v → by k seen ≡ by k v.told
+
+abbrev pub compares : Play
+compares st m r n = (n ≡ (settled m.0, m.1)) × Agree m.0 n.0.seen × (n.0.left ≤ 2 ^ 62)
+
+-- a seat that has the bay reads how long the history is
+abbrev pub counts : Play
+counts st m r n = (n ≡ m) × (r ≡ length m.0.seen)

@@ -1,0 +1,12 @@
+//! Why a turn was not accepted.
+
+use bay_core::StepFault;
+
+/// Why a turn was not accepted.
+#[derive(Clone, Copy, Debug, PartialEq, Eq)]
+pub enum TurnFault {
+    /// The pass has no turn left.
+    Ended,
+    /// The bay refused the step.
+    Step(StepFault),
+}

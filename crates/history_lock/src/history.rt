@@ -1,0 +1,270 @@
+//! A bay behind a lock, the history of its accepted steps, and the right to make them.
+
+ghost use Rattle.std.specs.Prelude.{◌≡◌, ◌-◌, ◌+◌, ◌<◌, ◌≤◌, List, ◌∷◌, [], ◌++◌, length, IfOk, ℕ, cond, nat_lt, true};
+ghost use Rattle.object_model.specs.Fits.{fits as fits_in};
+ghost use Rattle.bay_model.specs.Answers.{History as TheHistory};
+ghost use Rattle.bay_core.specs.Turns.{IsBuilt};
+ghost use Rattle.bay_core.specs.Standing.{StandsFor};
+ghost use Rattle.history_lock.specs.Histories.{IsEarlier, by, IsShuffle};
+ghost use Rattle.history_lock.specs.Rule.{whole};
+ghost use Rattle.history_lock.specs.Passes.{HasNumber, IsSamePass, Joined, first_of, kept_of, new_of};
+ghost use Rattle.history_lock.specs.Passes.{OwnGrew, ToldGrew, PlacedGrew, Turned, IsLeanTurn, IsProcessTurn};
+
+use crate::fault::TurnFault;
+use crate::lock::{Lock, Seat};
+use crate::view::About;
+use bay_core::Bay;
+use bay_model::{Answer, Step};
+use object_model::Model;
+use std::alloc::{AllocError, Global};
+use std::sync::Wait;
+use sv_base::{ActorNo, Moment};
+
+/// A bay behind a lock, and the history of its accepted steps. Threads share it by `&`, each with a pass of its own. Contracts
+/// see its configuration and how many actors it has.
+#[derive(Drop)]
+pub struct History {
+    lock: Lock,
+    about: About,
+    alloc: Global,
+}
+
+impl std::marker::Model for History {
+    ghost use Rattle.std.specs.Prelude.{◌≡◌};
+    ghost use Rattle.std.specs.Coded.{codes};
+    ghost use Rattle.sv_base.specs.Tree.{row_code};
+    ghost use Rattle.sv_base.specs.Types.{fields_code};
+    ghost use Rattle.history_lock.specs.Passes.{Site};
+
+    ghost Value = { Site };
+
+    ghost coded = { Prim.hlevel (codes, row_code, fields_code) };
+
+    ghost view = { λ h. record { table = h.lock.table.shared.table_id; actors = h.about.actors; config = h.about.model } };
+
+    ghost invariant = { λ h. h.lock.table.shared.key ≡ h.about };
+}
+
+/// The right to make the steps of some actors, and so many turns. Contracts see its numbers, its turns left, and the history as
+/// far as it has seen it, the newest step first.
+#[derive(Drop)]
+pub struct Pass {
+    seat: Seat,
+    first: u32,
+    count: u32,
+    left: u64,
+    seen: u64,
+}
+
+impl std::marker::Model for Pass {
+    ghost use Rattle.std.specs.Prelude.{◌≡◌, ◌+◌, ◌<◌, ◌^◌, length};
+    ghost use Rattle.std.specs.Coded.{codes};
+    ghost use Rattle.sv_base.specs.Tree.{row_code};
+    ghost use Rattle.sv_base.specs.Types.{fields_code};
+    ghost use Rattle.history_lock.specs.Seats.{config_or, others_of, at_rest};
+    ghost use Rattle.history_lock.specs.Passes.{Known};
+
+    ghost Value = { Known };
+
+    ghost coded = { Prim.hlevel (codes, row_code, fields_code) };
+
+    ghost view = { λ p. record {
+      table = p.seat.table_id;
+      config = config_or p.seat.me.0.config;
+      first = p.first;
+      count = p.count;
+      joined = others_of p.seat.me.0.ranges;
+      left = p.left;
+      seen = p.seat.me.0.seen;
+    } };
+
+    ghost invariant = { λ p. (0 < p.count) × (p.first + p.count < 2 ^ 32) × (p.seen ≡ length p.seat.me.0.seen)
+        × (p.seat.me ≡ at_rest (config_or p.seat.me.0.config) p.first p.count (others_of p.seat.me.0.ranges) p.left p.seat.me.0.seen) };
+}
+
+impl Pass {
+    /// The lowest of its numbers, which is its own.
+    pub fn actor(&self) -> ActorNo
+        ensures { result.0 ≡ self.now.first }
+    {
+        ActorNo(self.first)
+    }
+
+    /// How many steps of the history it has seen.
+    pub fn seen(&self) -> u64
+        ensures { result ≡ length self.now.seen }
+    {
+        self.seen
+    }
+
+    /// Its turns left, 0 to 2^62.
+    pub fn left(&self) -> u64
+        ensures { result ≡ self.now.left }
+    {
+        self.left
+    }
+}
+
+impl History {
+    /// A bay that has made no step, behind a lock. The pass has the numbers of all actors, from 0, and 2^62 turns. Fails for
+    /// want of memory alone; the lock takes a copy of the bay's model.
+    pub fn new(alloc: Global, bay: Bay, actors: u32) -> Result<(History, Pass), AllocError>
+        requires actors { 0 < actors }
+        requires bay { StandsFor bay bay.config [] }
+        ensures history { IfOk result (λ r. (r.0.actors ≡ actors) × (r.0.config ≡ bay.config)) }
+        ensures pass { IfOk result (λ r. r.1 ≡ first_of r.0) }
+    {
+        let about = about_of(alloc, &bay, actors)?;
+        let (lock, seat) = Lock::new(alloc, bay, &about)?;
+        Ok(begun(alloc, lock, seat, about, actors))
+    }
+
+    /// Hands the last `numbers` of the pass's range, and so many turns, to a new pass that has seen the same. The pass keeps
+    /// one number at least. It takes no memory.
+    pub fn split(&self, pass: &mut Pass, numbers: u32, turns: u64) -> Pass
+        requires pass { pass.old.table ≡ self.now.table }
+        requires numbers { (0 < numbers) × (numbers < pass.old.count) }
+        requires turns { turns ≤ pass.old.left }
+        ensures kept { pass.new ≡ kept_of pass.old numbers turns }
+        ensures new { result ≡ new_of pass.old numbers turns }
+    {
+        let seat = self.lock.split(&mut pass.seat, u64::from(numbers), turns);
+        pass.count -= numbers;
+        pass.left -= turns;
+        Pass {
+            seat,
+            first: pass.first + pass.count,
+            count: numbers,
+            left: turns,
+            seen: pass.seen,
+        }
+    }
+
+    /// A model equal to its bay's. It makes no turn and takes no memory.
+    pub fn model(&self) -> &Model
+        ensures { result.now ≡ self.now.config }
+    {
+        &self.about.model
+    }
+
+    /// Makes one turn with a step that fits the model, as the pass's lowest actor: waits until the turns before it are made, and
+    /// gives the bay's answer and the step's place in the history, counted from 0.
+    ///
+    /// `Ended` is answered exactly where the pass has no turn left, and then nothing is done. `Step` is the bay's refusal: it adds
+    /// nothing to the history. Every turn but an ended one takes one of the pass's turns.
+    pub fn turn<R: Wait>(
+        &self,
+        rt: &R,
+        pass: &mut Pass,
+        moment: Moment,
+        step: &Step,
+    ) -> Result<(Answer, u64), TurnFault>
+        requires pass { (pass.old.table ≡ self.now.table) × (pass.old.config ≡ self.now.config) }
+        requires fits { fits_in self.now.config step.now ≡ true }
+        requires built { IsBuilt step.now }
+        ensures same { IsSamePass pass.old pass.new }
+        ensures own { OwnGrew pass.old moment step.now result pass.new }
+        ensures told { ToldGrew pass.old result pass.new }
+        ensures placed { PlacedGrew pass.old result pass.new }
+        ensures lean { IsLeanTurn step.now result }
+        ensures process { IsProcessTurn step.now result }
+        ensures turn { Turned pass.old moment step.now result pass.new }
+    {
+        if pass.left == 0 {
+            return Err(TurnFault::Ended);
+        }
+        let actor = ActorNo(pass.first);
+        match self
+            .lock
+            .take_turn(rt, self.alloc, &mut pass.seat, moment, actor, step)
+        {
+            Ok((answer, place)) => {
+                pass.left -= 1;
+                pass.seen = place + 1;
+                Ok((answer, place))
+            }
+            Err((fault, seen)) => {
+                pass.left -= 1;
+                pass.seen = seen;
+                Err(TurnFault::Step(fault))
+            }
+        }
+    }
+
+    /// Takes in another pass of this history: the first has from now on the numbers and the turns of both, and has seen the longer
+    /// of what they had seen. It takes no memory.
+    pub fn join(&self, pass: &mut Pass, other: Pass)
+        requires { (pass.old.table ≡ self.now.table) × (other.table ≡ self.now.table) }
+        ensures { Joined pass.old other pass.new }
+    {
+        let Pass {
+            seat,
+            first: _,
+            count: _,
+            left,
+            seen,
+        } = other;
+        self.lock.join(&mut pass.seat, seat);
+        pass.left += left;
+        pass.seen = larger(pass.seen, seen);
+    }
+
+    /// How many steps were accepted. A pass with the numbers of all actors has seen them all.
+    pub fn close(self, pass: Pass) -> u64
+        requires { pass.table ≡ self.table }
+        ensures seen { (log : TheHistory) × (result ≡ length log) × IsEarlier pass.seen log }
+        ensures whole { ((k : ℕ) → k < self.actors → HasNumber pass k)
+            → (result ≡ length pass.seen) × IsShuffle self.actors (λ k. by k pass.seen) pass.seen }
+    {
+        let History {
+            lock,
+            about: _,
+            alloc: _,
+        } = self;
+        let Pass {
+            seat,
+            first: _,
+            count: _,
+            left: _,
+            seen: _,
+        } = pass;
+        lock.close(seat)
+    }
+}
+
+/// What the lock of a bay is told.
+fn about_of(alloc: Global, bay: &Bay, actors: u32) -> Result<About, AllocError>
+    ensures { IfOk result (λ a. (a.actors ≡ actors) × (a.model ≡ bay.now.config)) }
+{
+    let model = bay.model().copy(alloc)?;
+    Ok(About {
+        actors: u64::from(actors),
+        model,
+    })
+}
+
+/// A history of which no step was made, and the pass of all actors.
+fn begun(alloc: Global, lock: Lock, seat: Seat, about: About, actors: u32) -> (History, Pass)
+    requires actors { (0 < actors) × (about.actors ≡ actors) }
+    requires key { lock.table.shared.key ≡ about }
+    requires seat { (seat.table_id ≡ lock.table.shared.table_id) × (seat.me ≡ (whole actors about.model, [])) }
+    ensures history { (result.0.actors ≡ actors) × (result.0.config ≡ about.model) }
+    ensures pass { result.1 ≡ first_of result.0 }
+{
+    let history = History { lock, about, alloc };
+    let pass = Pass {
+        seat,
+        first: 0,
+        count: actors,
+        left: 1 << 62,
+        seen: 0,
+    };
+    (history, pass)
+}
+
+/// The larger of two numbers.
+fn larger(a: u64, b: u64) -> u64
+    ensures { result ≡ cond (nat_lt a b) b a }
+{
+    if a < b { b } else { a }
+}
