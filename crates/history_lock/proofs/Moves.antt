@@ -1,5 +1,5 @@
 -- Each step keeps the rule.
-use Rattle.std.proofs.Common.{◌≡◌, ℕ, ◌+◌, ◌%◌, ◌^◌, ◌<◌, ◌≤◌, ◌≢◌, ◌⊎◌, List, [], ◌∷◌, ◌++◌, length, get_or, set, sym, refl, ap, ◌∙◌, subst, inl, inr, ⊎_elim, arith, Option, Some, append-nil, length-append}
+use Rattle.std.proofs.Common.{◌≡◌, ℕ, ◌+◌, ◌%◌, ◌^◌, ◌<◌, ◌≤◌, ◌≢◌, ◌⊎◌, List, [], ◌∷◌, ◌++◌, length, get_or, set, sym, refl, ap, ◌∙◌, subst, inl, inr, ⊎_elim, arith, Option, Some}
 use mathlib.Core.Logic.{dite}
 use mathlib.Core.Option.{none, some}
 use native.Mathlib.Decide.{ℕ_discrete, dec_le}
@@ -13,12 +13,12 @@ use Rattle.bay_core.specs.Standing.{StandsFor}
 use Rattle.history_lock.specs.declared.view.View.{View}
 use Rattle.history_lock.specs.declared.view.Phase.{Phase}
 use Rattle.history_lock.specs.declared.view.Phase.TheVariants.{Idle, Drawn, Busy, Added}
-use Rattle.history_lock.specs.Histories.{IsEarlier, by}
+use Rattle.history_lock.specs.Histories.{by}
 use Rattle.history_lock.specs.Views.{total, hit, has, has_phase, ticket_of, busy, busy_phase, added, added_phase, mine, aside_of, holds_number, left_of}
 use Rattle.history_lock.specs.Rule.{Kept, Fits, FitsPhase, Table}
 use Rattle.history_lock.specs.Plays.{Seated, drawn, draws, served, looks, extended, appends, resting, passes, counts}
 use Rattle.history_lock.proofs.Sums.{total-set, term_le, terms_le, total_mono, total_less, is_one, is_zero}
-use Rattle.history_lock.proofs.Steps.{by-append, by_none, nothing_more, earlier_self, earlier_more}
+use Rattle.history_lock.proofs.Steps.{by-append, by_none, nothing_more, earlier_more}
 
 -- what a step at the word i owes, where the words are ws
 abbrev pub Goes : ℕ → Config → Table → ℕ → (ℕ → ℕ) → ℕ → Seated → (ℕ → Seated → Type 0) → List ℕ → Type 0

@@ -7,7 +7,7 @@ use lib.ListN.{get_elem?}
 use Rattle.atomic_table.specs.Table.{step, keeps, Allows, Splits, Joins, opening, Final, Seen}
 use Rattle.atomic_table.proofs.Lists.{at_set, at_snoc}
 use Rattle.bay_core.specs.declared.bay.Bay.{Bay}
-use Rattle.bay_model.specs.Answers.{Turn, History}
+use Rattle.bay_model.specs.Answers.{History}
 use Rattle.sv_base.specs.declared.config.Config.{Config}
 use Rattle.bay_core.specs.Standing.{StandsFor}
 use Rattle.history_lock.specs.declared.view.View.{View}

@@ -1,5 +1,5 @@
 -- What a turn of a seat means for its pass.
-use Rattle.std.proofs.Common.{◌≡◌, ℕ, ◌+◌, ◌-◌, ◌<◌, ◌≢◌, ◌⊎◌, List, [], ◌∷◌, ◌++◌, length, Ok, Err, sym, refl, ap, ◌∙◌, subst, inl, inr, ⊎_elim, append-nil, eqb, eq-eqb, arith, cond, Bool, true, false, Option, None, ltb}
+use Rattle.std.proofs.Common.{◌≡◌, ℕ, ◌+◌, ◌-◌, ◌<◌, ◌≢◌, ◌⊎◌, List, [], ◌∷◌, ◌++◌, length, Ok, Err, sym, refl, ap, ◌∙◌, subst, inl, inr, ⊎_elim, eqb, eq-eqb, arith, cond, Bool, true, false, Option, None, ltb}
 use mathlib.Core.Logic.{dite}
 use native.Mathlib.Decide.{dec_le}
 use Rattle.bay_model.specs.declared.step.Step.{Step}
@@ -18,7 +18,7 @@ use Rattle.history_lock.specs.declared.fault.TurnFault.TheVariants as faults
 use Rattle.history_lock.specs.declared.history.Pass.TheInside.{Inside}
 use Rattle.history_lock.specs.contracts.history.Pass.{the_view}
 use Rattle.history_lock.specs.declared.view.View.{View}
-use Rattle.history_lock.specs.Histories.{IsEarlier, turn_of, by, IsRefused, answers_of, places_of}
+use Rattle.history_lock.specs.Histories.{turn_of, by, IsRefused, answers_of, places_of}
 use Rattle.history_lock.specs.Views.{total, inside, mine}
 use Rattle.history_lock.specs.Plays.{Seated, Others, joined, settled, Agree}
 use Rattle.history_lock.specs.Seats.{Took, at_rest, config_or, others_of}

@@ -1,5 +1,5 @@
 -- The steps of one actor, and histories of which one goes on from the other.
-use Rattle.std.proofs.Common.{◌≡◌, ℕ, ◌+◌, ◌≤◌, ◌≢◌, List, [], ◌∷◌, ◌++◌, length, sym, refl, ap, ◌∙◌, arith, cond, Bool, true, false, eqb, eq-eqb, ne_eqb, length-append}
+use Rattle.std.proofs.Common.{◌≡◌, ℕ, ◌≤◌, ◌≢◌, [], ◌∷◌, ◌++◌, length, sym, refl, ap, ◌∙◌, arith, cond, Bool, true, false, eqb, eq-eqb, ne_eqb, length-append}
 use Rattle.bay_model.specs.Answers.{Turn, History}
 use Rattle.history_lock.specs.Histories.{IsEarlier, by}
 

@@ -1,5 +1,5 @@
 -- The seat within its turn, from step to step.
-use Rattle.std.proofs.Common.{◌≡◌, ℕ, ◌-◌, ◌<◌, ◌^◌, List, [], ◌∷◌, ◌++◌, length, sym, ap, ◌∙◌, subst, Option, Some, None}
+use Rattle.std.proofs.Common.{◌≡◌, ℕ, ◌<◌, ◌^◌, List, [], ◌∷◌, ◌++◌, length, sym, ap, ◌∙◌, subst, Option, Some, None}
 use Rattle.sv_base.specs.declared.config.Config.{Config}
 use Rattle.bay_model.specs.Answers.{Turn, History}
 use Rattle.bay_core.specs.declared.bay.Bay.{Bay}
@@ -7,7 +7,6 @@ use Rattle.bay_core.specs.Standing.{StandsFor}
 use Rattle.atomic_table.specs.Table.{rest}
 use Rattle.history_lock.specs.declared.view.View.{View}
 use Rattle.history_lock.specs.declared.view.Phase.TheVariants.{Busy}
-use Rattle.history_lock.specs.Views.{mine}
 use Rattle.history_lock.specs.Plays.{Seated, Got, Others, drawn, served, extended}
 
 some_is : (x y : Bay) → Some x ≡ Some y → x ≡ y

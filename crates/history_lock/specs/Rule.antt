@@ -1,10 +1,10 @@
 -- The rule of the lock: of its words ticket, serving and count, of the bay where it is at home, and of what the seats know.
-use Rattle.std.specs.Prelude.{ℕ, ◌≡◌, ◌+◌, ◌<◌, ◌≤◌, ◌^◌, List, [], ◌∷◌, length, Option, Some, None}
+use Rattle.std.specs.Prelude.{ℕ, ◌≡◌, ◌+◌, ◌<◌, ◌≤◌, ◌^◌, [], ◌∷◌, length, Option, Some, None}
 use mathlib.Core.Option.{some}
 use lib.ListN.{get_elem?}
 use Rattle.atomic_table.specs.Table.{State}
 use Rattle.bay_core.specs.declared.bay.Bay.{Bay}
-use Rattle.bay_model.specs.Answers.{Turn, History}
+use Rattle.bay_model.specs.Answers.{History}
 use Rattle.sv_base.specs.declared.config.Config.{Config}
 use Rattle.bay_core.specs.Standing.{StandsFor}
 use Rattle.history_lock.specs.declared.view.View.{View}

@@ -1,4 +1,4 @@
-use Rattle.std.proofs.Common.{◌≡◌, ℕ, ◌<◌, ◌≤◌, [], length, sym, subst, ap, ◌∙◌, refl}
+use Rattle.std.proofs.Common.{◌≡◌, ℕ, ◌<◌, ◌≤◌, length, sym, subst, ap, ◌∙◌, refl}
 use Rattle.bay_model.specs.Answers.{History}
 use Rattle.history_lock.specs.Histories.{IsEarlier, by, IsShuffle}
 use Rattle.history_lock.specs.declared.view.About.{About}

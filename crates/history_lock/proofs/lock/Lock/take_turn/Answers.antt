@@ -1,4 +1,4 @@
-use Rattle.std.proofs.Common.{rules, ap, sym, ◌∙◌, ◌∷◌, [], ◌++◌, ◌<◌, ◌^◌, length, Some, None, ℕ, List, Option, arith, subst, true, ◌≡◌}
+use Rattle.std.proofs.Common.{rules, ap, sym, ◌∙◌, ◌∷◌, [], ◌++◌, ◌<◌, ◌^◌, length, Some, None, ℕ, List, Option, subst, true, ◌≡◌}
 use Rattle.atomic_table.specs.Table.{rest}
 use Rattle.sv_base.specs.declared.config.Config.{Config}
 use Rattle.object_model.specs.Fits.{fits as fits_in}
@@ -6,7 +6,7 @@ use Rattle.bay_model.specs.Answers.{Turn, History}
 use Rattle.bay_core.specs.declared.bay.Bay.{Bay as TheBay}
 use Rattle.bay_core.specs.Standing.{StandsFor}
 use Rattle.history_lock.specs.Histories.{turn_of}
-use Rattle.history_lock.specs.Plays.{Seated, Got, resting}
+use Rattle.history_lock.specs.Plays.{Seated, resting}
 use Rattle.history_lock.proofs.Turning.{stands_now, few_now, others_now, back_in, added_now}
 use Rattle.history_lock.proofs.lock.Lock.take_turn.Goals as goal
 
