@@ -1,11 +1,19 @@
 -- How long the PDU of a response is, by sums.
-use Rattle.std.specs.Prelude.{ℕ, ◌+◌, List, length, Option, Some, None, nat_le, if◌then◌else◌}
-use Rattle.ber_write.specs.Minimal.{uint_octets}
+use Rattle.std.specs.Prelude.{ℕ, ◌+◌, List, ◌++◌, length, Option, Some, None, nat_le, if◌then◌else◌}
+use Rattle.ber_write.specs.Minimal.{head_octets, octets_of, uint_octets}
 use Rattle.report_cut.specs.Sizes.{element_size}
 
 -- the content of the PDU: the invoke number, and the service's element, whose content has n octets
 unfoldable pub service_size : ℕ → ℕ → ℕ
 service_size invoke n = element_size (length (uint_octets invoke)) + element_size n
+
+-- what stands in the PDU before the content, of n octets, of the service's element with this tag; none where the PDU is longer
+-- than the size
+abbrev pub begun : ℕ → ℕ → ℕ → ℕ → Option (List ℕ)
+begun size invoke tag n =
+    if nat_le (element_size (service_size invoke n)) size
+    then Some ((head_octets 161 (service_size invoke n) ++ octets_of 2 (uint_octets invoke)) ++ head_octets tag n)
+    else None
 
 -- the PDU of names whose identifiers have n octets
 unfoldable pub names_size : ℕ → ℕ → ℕ

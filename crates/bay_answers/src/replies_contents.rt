@@ -9,7 +9,7 @@ ghost use Rattle.bay_answers.specs.RepliesContents.{identify_content, type_conte
 ghost use Rattle.bay_answers.specs.RepliesContents.{written_octets, written_content, set_content, deleted_content};
 ghost use Rattle.bay_answers.specs.Replies.{IsWritable, IsNode, response};
 
-use crate::replies_elements::{add, add_truth, element_len, respond};
+use crate::replies_elements::{add, add_truth, begin, element_len, respond};
 use crate::replies_variables::{add_nodes, asked_octets};
 use bay_model::Asked;
 use ber_write::{put_head, put_uint, uint_len};
@@ -107,8 +107,25 @@ fn put_results(out: &mut Vec<u8>, results: &[Result<Value, u8>]) -> Result<(), A
     Ok(())
 }
 
+/// Adds what the response of Read holds: the octets of what was asked for, and the results, which have `len` octets.
+#[tactic(auto, using(crate::proofs::RepliesSizeLaws::read_around))]
+fn put_read(
+    out: &mut Vec<u8>,
+    asked: &[u8],
+    len: u32,
+    results: &[Result<Value, u8>],
+) -> Result<(), AllocError>
+    requires results { All IsWritable results.now }
+    requires len { len ≡ length (results_octets results.now) }
+    ensures { OnOk result (out.new.items ≡ out.old.items ++ (asked.now ++ octets_of 161 (results_octets results.now))) }
+{
+    out.extend_from_slice(asked)?;
+    put_head(out, 0xa1, len)?;
+    put_results(out, results)
+}
+
 /// The response of Read.
-#[tactic(auto, using(crate::proofs::RepliesSizeLaws::reads_too_much, crate::proofs::RepliesSizeLaws::read_around))]
+#[tactic(auto, using(crate::proofs::RepliesSizeLaws::reads_too_much, crate::proofs::RepliesSizeLaws::read_refused))]
 pub(crate) fn read(
     alloc: Global,
     size: u32,
@@ -124,10 +141,20 @@ pub(crate) fn read(
     if len > size {
         return write_error(alloc, invoke, 4, 3);
     }
-    let mut content = asked_octets(alloc, asked)?;
-    put_head(&mut content, 0xa1, len)?;
-    put_results(&mut content, results)?;
-    respond(alloc, size, invoke, 0xa4, content.as_slice())
+    let asked = asked_octets(alloc, asked)?;
+    match begin(
+        alloc,
+        size,
+        invoke,
+        0xa4,
+        asked.len() + element_len(len) as usize,
+    )? {
+        Some(mut out) => {
+            put_read(&mut out, asked.as_slice(), len, results)?;
+            Ok(Octs::from_vec(out))
+        }
+        None => write_error(alloc, invoke, 4, 3),
+    }
 }
 
 fn put_code(out: &mut Vec<u8>, code: Result<(), u8>) -> Result<(), AllocError>

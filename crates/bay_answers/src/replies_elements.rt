@@ -1,12 +1,12 @@
 //! Elements of a response, and the PDU round them (ISO 9506-2, Confirmed-ResponsePDU).
 
 ghost use Rattle.std.specs.Prelude.{◌≡◌, ◌+◌, ◌<◌, ◌≤◌, ◌^◌, ◌++◌, length, OnOk, IfOk};
+ghost use Rattle.std.specs.Option.{option_map};
 ghost use Rattle.ber_write.specs.Minimal.{octets_of, CanBeTag};
-ghost use Rattle.mms_pdu.specs.ReplyOctets.{answer_content, answer_octets};
 ghost use Rattle.report_cut.specs.Fields.{truth};
 ghost use Rattle.report_cut.specs.Sizes.{element_size};
 ghost use Rattle.bay_answers.specs.Replies.{response as response_of};
-ghost use Rattle.bay_answers.specs.RepliesSizes.{service_size};
+ghost use Rattle.bay_answers.specs.RepliesSizes.{service_size, begun};
 
 use ber_write::{length_of, put, put_head, put_uint, uint_len};
 use mms_pdu::write_error;
@@ -62,31 +62,36 @@ pub(crate) fn service_len(invoke: u32, n: u32) -> u32
     element_len(uint_len(u64::from(invoke))) + element_len(n)
 }
 
-/// The PDU of a response, of which the invoke number and the service's element have `len` octets.
-#[tactic(auto, using(crate::proofs::RepliesSizeLaws::around))]
-fn written(
+/// What stands in the PDU of a response before the content, of `n` octets, of the service's element with this tag, and room
+/// for the whole PDU; none where that is longer than the size.
+#[tactic(auto, using(crate::proofs::RepliesSizeLaws::holds_too_much, crate::proofs::RepliesSizeLaws::is_too_long, crate::proofs::RepliesSizeLaws::fits))]
+pub(crate) fn begin(
     alloc: Global,
+    size: u32,
     invoke: u32,
     tag: u32,
-    content: &[u8],
-    len: u32,
-) -> Result<Octs, AllocError>
+    n: usize,
+) -> Result<Option<Vec<u8>>, AllocError>
     requires tag { CanBeTag tag }
-    requires one_octet { tag < 256 }
-    requires few { length content.now < 2 ^ 20 }
-    requires small { len < 2 ^ 21 }
-    requires len { len ≡ service_size invoke (length content.now) }
-    ensures { IfOk result (λ o. o ≡ answer_octets invoke tag content.now) }
+    requires most { size ≤ 65000 }
+    ensures { IfOk result (λ o. option_map (λ v. v.items) o ≡ begun size invoke tag n) }
 {
+    if n > size as usize {
+        return Ok(None);
+    }
+    let len = service_len(invoke, n as u32);
+    if element_len(len) > size {
+        return Ok(None);
+    }
     let mut out = Vec::with_capacity(alloc, element_len(len) as usize)?;
     put_head(&mut out, 0xa1, len)?;
     put_uint(&mut out, 0x02, u64::from(invoke))?;
-    put(&mut out, tag, content)?;
-    Ok(Octs::from_vec(out))
+    put_head(&mut out, tag, n as u32)?;
+    Ok(Some(out))
 }
 
 /// The response of the service with this tag; the error service, pdu-size, where that is longer than the size.
-#[tactic(auto, using(crate::proofs::RepliesSizeLaws::fits, crate::proofs::RepliesSizeLaws::is_too_long, crate::proofs::RepliesSizeLaws::holds_too_much))]
+#[tactic(auto, using(crate::proofs::RepliesSizeLaws::is_answered, crate::proofs::RepliesSizeLaws::is_refused))]
 pub(crate) fn respond(
     alloc: Global,
     size: u32,
@@ -99,12 +104,11 @@ pub(crate) fn respond(
     requires most { size ≤ 65000 }
     ensures { IfOk result (λ o. o ≡ response_of size invoke tag content.now) }
 {
-    if content.len() > size as usize {
-        return write_error(alloc, invoke, 4, 3);
+    match begin(alloc, size, invoke, tag, content.len())? {
+        Some(mut out) => {
+            out.extend_from_slice(content)?;
+            Ok(Octs::from_vec(out))
+        }
+        None => write_error(alloc, invoke, 4, 3),
     }
-    let len = service_len(invoke, content.len() as u32);
-    if element_len(len) > size {
-        return write_error(alloc, invoke, 4, 3);
-    }
-    written(alloc, invoke, tag, content, len)
 }
