@@ -1,22 +1,28 @@
 -- Members that are read back one after another.
-use Rattle.std.proofs.Common.{◌≡◌, ◌<◌, ◌≤◌, ◌⊎◌, ℕ, ◌+◌, ◌/◌, ◌%◌, Bool, true, false, List, [], ◌∷◌, ◌++◌, length, take, drop, refl, ap, ap₂, sym, ◌∙◌, inl, inr, arith, append-nil, append_assoc, Option, Some, None}
-use Rattle.std.specs.Prelude.{◌==◌}
+use Rattle.std.proofs.Common.{◌≡◌, ◌<◌, ◌≤◌, ◌⊎◌, ℕ, ◌+◌, ◌-◌, ◌*◌, ◌/◌, ◌%◌, Bool, true, false, List, [], ◌∷◌, ◌++◌, length, length-append, take, drop, refl, ap, ap₂, sym, subst, ◌∙◌, inl, inr, arith, append-nil, append_assoc, Option, Some, None}
+use Rattle.std.specs.Prelude.{◌==◌, slice_get}
+use Rattle.std.specs.Option.{option_map, option_map_or}
 use Rattle.std.proofs.lemmas.Bool.{eq-eqb, ne_eqb}
+use Rattle.std.proofs.lemmas.Option.{slice_get-map}
 use Rattle.std.proofs.lemmas.List.{map-append}
 use Rattle.std.proofs.lemmas.List.Elements.{All-tail}
 use Rattle.std.proofs.Math.Seq.{take-append_seam, drop-append_seam}
 use Rattle.std.specs.List.{flat_map}
+use Rattle.list_laws.proofs.Places.{all-at}
 use Rattle.sv_base.specs.declared.config.Config.{Config}
 use Rattle.bay_model.specs.declared.report.Member.{Member}
 use Rattle.bay_model.specs.declared.report.Reasons.{Reasons}
 use Rattle.bay_model.specs.declared.tables.MemberShape.{MemberShape}
+use Rattle.bay_model.specs.Model.{Model}
 use Rattle.bay_model.specs.Named.{configured_model}
 use Rattle.bay_model.specs.Notes.{Kept}
-use Rattle.bay_model.specs.Reports.{member_of}
+use Rattle.bay_model.specs.Reports.{member_of, reference_at, no_reference}
 use Rattle.bay_model.specs.Retained.{weight_of, kept_octets_of}
 use Rattle.set_view.specs.Shapes.{node_numbers}
 use Rattle.report_block.specs.EntryOctets.{weights}
-use Rattle.report_block.specs.Again.{IsOneElement, AreKept, reasons_in, reported}
+use Rattle.report_block.specs.Again.{IsOneElement, AreKept, reasons_in, reference_by, reported}
+use Rattle.report_block.specs.Blanks.{Row, IsShortSet, AreFew}
+use Rattle.report_block.specs.Standing.{IsMemberKept, AreKeptMembers}
 
 -- so many members are read, and the octets of the others are left
 pub record Halfway (c : Config) (shapes : List MemberShape) (ks : List Kept) (items : List Member) (rest : List ℕ) : Type 0 where
@@ -126,3 +132,75 @@ all_read c shapes ks items rest read h reads none = from h.read h.unread h.parts
     from : (read unread : List Kept) → ks ≡ read ++ unread → items ≡ reported c shapes read → AreKept rest unread → items ≡ reported c shapes ks
     from done [] parts made left = made ∙ ap (reported c shapes) (sym (append-nil done) ∙ sym parts)
     from done (k ∷ unread) parts made left = cc (none, front_left rest k unread read left reads)
+
+-- ---- members that are put into room that is there
+
+-- so many are read, and there is room for the others
+pub record Filling (c : Config) (shapes : List MemberShape) (ks : List Kept) (row : Row) (rest : List ℕ) : Type 0 where
+  pub half : Halfway c shapes ks row.items rest
+  pub sound : AreKeptMembers half.unread
+  pub few : length half.unread ≤ row.left
+
+pub fill_first : (c : Config) (shapes : List MemberShape) (ks : List Kept) (row : Row) (octets : List ℕ) → row.items ≡ [] → AreFew row.left octets ks → Filling c shapes ks row octets
+fill_first c shapes ks row octets empty h = record {
+  half = record { read = []; unread = ks; parts = refl; made = empty; left = h.kept };
+  sound = h.sound;
+  few = h.few;
+}
+
+pub fill_one : (c : Config) (shapes : List MemberShape) (ks : List Kept) (row new : Row) (rest after : List ℕ) (f : Kept) (m : Member)
+    → Filling c shapes ks row rest → ReadsFront rest (Some (front_by f after)) → length after < length rest → m ≡ member_of (configured_model c) (node_numbers shapes) f
+    → (0 < row.left → length f.octets ≤ 500 → new ≡ record { items = row.items ++ m ∷ []; left = row.left - 1 }) → Filling c shapes ks new after
+fill_one c shapes ks row new rest after f m h reads shorter is put = from h.half.read h.half.unread h.half.parts h.half.made h.half.left h.sound h.few
+  where
+    from : (read unread : List Kept) → ks ≡ read ++ unread → row.items ≡ reported c shapes read → AreKept rest unread → AreKeptMembers unread → length unread ≤ row.left → Filling c shapes ks new after
+    from read [] parts made left sound few = absurd (omega (arith, nothing_left rest left, shorter))
+    from read (k ∷ unread) parts made left sound few =
+        let same = some_front f k after (flat_map kept_octets_of unread) (front_left rest k unread (Some (front_by f after)) left reads) in
+        let first : IsMemberKept k = sound 0 k (omega arith) in
+        let short : length f.octets ≤ 500 = subst (λ (x : Kept). length x.octets ≤ 500) (sym same.0) first.short.1 in
+        let pushed = put (omega (arith, few)) short in
+        record {
+          half = record {
+            read = read ++ k ∷ [];
+            unread = unread;
+            parts = parts ∙ sym (append_assoc read (k ∷ []) unread);
+            made = ap (λ (r : Row). r.items) pushed ∙ (ap₂ (λ (l : List Member) (m : Member). l ++ m ∷ []) made (is ∙ ap (member_of (configured_model c) (node_numbers shapes)) same.0) ∙ sym (map-append (member_of (configured_model c) (node_numbers shapes)) read (k ∷ [])));
+            left = record { whole = sym same.1; elements = All-tail (λ (k : Kept). IsOneElement k.octets) k unread left.elements };
+          };
+          sound = All-tail IsMemberKept k unread sound;
+          few = omega (arith, few, ap (λ (r : Row). r.left) pushed);
+        }
+
+-- ---- how long octets are
+
+-- of so many members with Data of at most 500 octets
+kept_within : (ks : List Kept) → AreKeptMembers ks → length (flat_map kept_octets_of ks) ≤ 504 * length ks
+kept_within [] sound = omega arith
+kept_within (k ∷ ks) sound =
+    let first : IsMemberKept k = sound 0 k (omega arith) in
+    let rest = kept_within ks (All-tail IsMemberKept k ks sound) in
+    let whole = length-append (kept_octets_of k) (flat_map kept_octets_of ks) in
+    omega (arith, first.short.1, rest, whole)
+
+pub octets_within : (most : ℕ) (octets : List ℕ) (ks : List Kept) → AreFew most octets ks → length octets ≤ 504 * most
+octets_within most octets ks h = omega (arith, kept_within ks h.sound, ap length h.kept.whole, h.few)
+
+-- ---- references
+
+node-at : (shapes : List MemberShape) (n i : ℕ) (o : Option MemberShape) → i ≡ n - 1 → o ≡ slice_get shapes i → slice_get (node_numbers shapes) (n - 1) ≡ option_map (λ (m : MemberShape). m.node.0) o
+node-at shapes n i o place is = ap (slice_get (node_numbers shapes)) (sym place) ∙ (slice_get-map (λ (m : MemberShape). m.node.0) shapes i ∙ ap (option_map (λ (m : MemberShape). m.node.0)) (sym is))
+
+abbrev reference_or : Model → Option ℕ → List ℕ
+reference_or c o = option_map_or (λ n. reference_at c n) o no_reference
+
+-- the reference of a member that is found by its number, and of one that isn't
+pub reference-found : (c : Model) (shapes : List MemberShape) (n i : ℕ) (s : MemberShape) → i ≡ n - 1 → Some s ≡ slice_get shapes i → reference_by c (node_numbers shapes) n ≡ reference_at c s.node.0
+reference-found c shapes n i s place is = ap (reference_or c) (node-at shapes n i (Some s) place is)
+
+pub reference-missing : (c : Model) (shapes : List MemberShape) (n i : ℕ) → i ≡ n - 1 → None ≡ slice_get shapes i → reference_by c (node_numbers shapes) n ≡ []
+reference-missing c shapes n i place is = ap (reference_or c) (node-at shapes n i None place is)
+
+-- it is a short one
+pub reference-short : (c : Model) (shapes : List MemberShape) (n i : ℕ) (s : MemberShape) → IsShortSet c shapes → i ≡ n - 1 → Some s ≡ slice_get shapes i → length (reference_at c s.node.0) ≤ 129
+reference-short c shapes n i s short place is = all-at (λ n. length (reference_at c n) ≤ 129) (node_numbers shapes) (n - 1) s.node.0 short (node-at shapes n i (Some s) place is)

@@ -21,7 +21,7 @@ use Rattle.brcb_state.specs.declared.told.Next.{Next}
 use Rattle.entry_ring.specs.Held.{Held}
 use Rattle.entry_ring.specs.Standing.{held}
 use Rattle.report_block.specs.declared.block.ReportBlock.{ReportBlock}
-use Rattle.report_block.specs.Again.{AreKept}
+use Rattle.report_block.specs.Blanks.{AreFew}
 use Rattle.report_block.specs.Standing.{Stands}
 use Rattle.report_block.specs.Offers.{Offered}
 use Rattle.report_block.specs.Reporting.{report_by}
@@ -67,7 +67,7 @@ same-given : (a b b' id id' : ℕ) (r r' : Report) → r ≡ r' → b ≡ b' →
 same-given a b b' id id' r r' h1 h2 h3 = rw (h1, h2, h3) refl
 
 module _ (m : Model) (past : Past) (a : AssocNo) (o : Offered) (shapes : List MemberShape) (part : ReportBlock) (r : Report) (st : Stands part m o.block past) (nodes : node_numbers shapes ≡ members m o.block past)
-    (is_report : (ks : List Kept) → AreKept o.entry.kept ks → r ≡ report_by m shapes part o ks) where
+    (is_report : (ks : List Kept) → AreFew 256 o.entry.kept ks → r ≡ report_by m shapes part o ks) where
   told-report : (y : Offer) → IsTold m past y o → report_of m past y ≡ r
   told-report y is =
       let mine : Stands part m y.block past = subst (λ b. Stands part m b past) is.block st in
@@ -75,7 +75,7 @@ module _ (m : Model) (past : Past) (a : AssocNo) (o : Offered) (shapes : List Me
       report-same m past y.block o.next y.entry shapes part mine is.sq is.ovfl (subst (λ b. node_numbers shapes ≡ members m b past) is.block nodes) in
       let here : report_by m shapes part (record { block = o.block; next = o.next; entry = o.entry }) y.entry.members ≡ report_by m shapes part (record { block = y.block; next = o.next; entry = held y.entry }) y.entry.members =
       ap (λ b. report_by m shapes part (record { block = b; next = o.next; entry = o.entry }) y.entry.members) is.block ∙ ap (λ e. report_by m shapes part (record { block = y.block; next = o.next; entry = e }) y.entry.members) is.entry in
-      ap (λ i. report_of m past (record { block = y.block; id = i; entry = y.entry })) (sym is.id) ∙ (sym same ∙ (sym here ∙ sym (is_report y.entry.members (are-kept o.entry.kept y.entry.members (sym (ap (λ (e : Held). e.kept) is.entry)) is.readable))))
+      ap (λ i. report_of m past (record { block = y.block; id = i; entry = y.entry })) (sym is.id) ∙ (sym same ∙ (sym here ∙ sym (is_report y.entry.members (record { kept = are-kept o.entry.kept y.entry.members (sym (ap (λ (e : Held). e.kept) is.entry)) is.readable; sound = is.readable; few = is.few }))))
 
   pub told-given : (x : Option Offer) (p : Option Offered) → AreTold m past x p → p ≡ Some o → given_report m a.0 past x ≡ given_of a.0 o.block o.next.id r
   told-given None None h is = cc

@@ -21,6 +21,7 @@ use Rattle.entry_ring.specs.Ringed.{Ringed, entry_at}
 use Rattle.entry_ring.specs.Standing.{held}
 use Rattle.report_block.specs.declared.block.ReportBlock.{ReportBlock}
 use Rattle.report_block.specs.Standing.{IsReadable, Stands, BlocksStand}
+use Rattle.report_block.proofs.UpLaws.{IsUp, members-few, selected-up}
 use Rattle.report_block.specs.Offers.{Offered, offered_by, earlier, first_offered, chosen, chosen_of}
 
 -- an offer of the model, and the same one as the parts have it
@@ -31,6 +32,7 @@ pub record IsTold (m : Model) (past : Past) (o : Offer) (p : Offered) : Type 0 w
   pub ovfl : p.next.ovfl ≡ is_overflown m o.block past
   pub entry : p.entry ≡ held o.entry
   pub readable : IsReadable o.entry
+  pub few : length o.entry.members ≤ 256
 
 abbrev pub AreTold : Model → Past → Option Offer → Option Offered → Type 0
 AreTold m past None None = Unit {0}
@@ -56,10 +58,10 @@ enabled-same a (Some x) e h = ap (λ e. option_map_or (λ e. e == a.0) e false) 
 
 module _ (m : Model) (past : Past) (b : ℕ) where
   -- the entry of the model at a number, and what is kept of it
-  told-entry : (n : Next) (found : Option Entry) → ((e : Entry) → found ≡ Some e → IsReadable e) → n.sq ≡ sq_num b past → n.ovfl ≡ is_overflown m b past
+  told-entry : (n : Next) (found : Option Entry) → ((e : Entry) → found ≡ Some e → IsReadable e) → ((e : Entry) → found ≡ Some e → IsUp e) → n.sq ≡ sq_num b past → n.ovfl ≡ is_overflown m b past
       → AreTold m past (option_map (λ (e : Entry). record { block = b; id = n.id; entry = e }) found) (option_map (λ (e : Held). record { block = b; next = n; entry = e }) (option_map held found))
-  told-entry n None readable sq ovfl = tt
-  told-entry n (Some e) readable sq ovfl = record { block = refl; id = refl; sq = sq; ovfl = ovfl; entry = refl; readable = readable e refl }
+  told-entry n None readable up sq ovfl = tt
+  told-entry n (Some e) readable up sq ovfl = record { block = refl; id = refl; sq = sq; ovfl = ovfl; entry = refl; readable = readable e refl; few = members-few e.members (up e refl) (readable e refl) }
 
   abbrev offer_at : Option Entry → ℕ → Option Offer
   offer_at found i = option_map (λ (e : Entry). record { block = b; id = i; entry = e }) found
@@ -68,14 +70,14 @@ module _ (m : Model) (past : Past) (b : ℕ) where
   offered_at r n = option_map (λ (e : Held). record { block = b; next = n; entry = e }) (entry_at r n.id)
 
   -- where a has enabled the block, and there is a next entry
-  told-if : (t u v : Bool) (i : ℕ) (n : Next) (es : List Entry) (r : Ringed) → v ≡ u → n.id ≡ i → (u ≡ true → entry_at r n.id ≡ option_map held (slice_get es (i - 1))) → All IsReadable es
+  told-if : (t u v : Bool) (i : ℕ) (n : Next) (es : List Entry) (r : Ringed) → v ≡ u → n.id ≡ i → (u ≡ true → entry_at r n.id ≡ option_map held (slice_get es (i - 1))) → All IsReadable es → All IsUp es
       → n.sq ≡ sq_num b past → n.ovfl ≡ is_overflown m b past
       → AreTold m past (if t then option_and_then (λ i. offer_at (slice_get es (i - 1)) i) (if u then Some i else None) else None) (option_and_then (offered_at r) (if t && v then Some n else None))
-  told-if false u v i n es r same id entry readable sq ovfl = tt
-  told-if true false v i n es r same id entry readable sq ovfl = rw same tt
-  told-if true true v i n es r same id entry readable sq ovfl =
+  told-if false u v i n es r same id entry readable up sq ovfl = tt
+  told-if true false v i n es r same id entry readable up sq ovfl = rw same tt
+  told-if true true v i n es r same id entry readable up sq ovfl =
       rw (same, ← id) (subst (λ (e : Option Held). AreTold m past (offer_at (slice_get es (n.id - 1)) n.id) (option_map (λ (e : Held). record { block = b; next = n; entry = e }) e)) (sym (entry refl ∙ ap (λ j. option_map held (slice_get es (j - 1))) (sym id)))
-      (told-entry n (slice_get es (n.id - 1)) (λ e is. all-at IsReadable es (n.id - 1) e readable is) sq ovfl))
+      (told-entry n (slice_get es (n.id - 1)) (λ e is. all-at IsReadable es (n.id - 1) e readable is) (λ e is. all-at IsUp es (n.id - 1) e up is) sq ovfl))
 
   -- the next entry of the block
   pub told-next : (a : AssocNo) (part : ReportBlock) → Stands part m b past → AreTold m past (if is_enabled_by b a.0 past then offer m b past else None) (offered_by a b part)
@@ -90,7 +92,7 @@ module _ (m : Model) (past : Past) (b : ℕ) where
       (ap (λ x. nat_lt x r.newest) top ∙ ap (nat_lt (max (cursor m b past) (front m b past))) st.ring.newest)
       (ap suc top)
       (λ is. entry-found r es n.id st.ring.entries st.ring.newest (omega arith) (within (suc (max (cursor m b past) (front m b past))) (length es) n.id (ap suc top) is) ∙ ap (λ j. option_map held (slice_get es (j - 1))) (ap suc top))
-      st.readable st.block.count (ap (λ x. nat_lt x r.front) st.block.cursor ∙ ap (nat_lt (cursor m b past)) st.ring.front)) where
+      st.readable (selected-up m b past) st.block.count (ap (λ x. nat_lt x r.front) st.block.cursor ∙ ap (nat_lt (cursor m b past)) st.ring.front)) where
         within : (i l n : ℕ) → n ≡ i → nat_le i l ≡ true → n ≤ l
         within i l n same is = elim (leb_tells i l) [ inl t ↦ omega (arith, same, t.1) | inr t ↦ let not : true ≡ false = sym is ∙ t.0 in cc ]
 

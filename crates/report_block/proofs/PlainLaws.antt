@@ -1,5 +1,5 @@
 -- What plain deeds make of a block: one that doesn't touch its entries, an event where BufTm is 0, and an accepted write.
-use Rattle.std.proofs.Common.{rules, ◌≡◌, ℕ, max, Bool, true, false, List, [], ◌∷◌, ◌++◌, map, refl, sym, subst, ap, ◌∙◌, None, Some, append-nil}
+use Rattle.std.proofs.Common.{rules, ◌≡◌, ℕ, max, Bool, true, false, List, [], ◌∷◌, ◌++◌, map, refl, sym, subst, ap, ◌∙◌, None, Some, Ok, append-nil}
 use Rattle.std.specs.Prelude.{if◌then◌else◌, ◌==◌, ◌||◌, Option}
 use Rattle.std.proofs.lemmas.List.Elements.{All-nil}
 use Rattle.std.proofs.lemmas.Bool.{eq-eqb}
@@ -12,16 +12,16 @@ use Rattle.bay_model.specs.declared.tables.MemberShape.{MemberShape}
 use Rattle.bay_model.specs.Model.{Model, Parameters}
 use Rattle.bay_model.specs.Points.{Deed, wrote, valued, Past, now}
 use Rattle.bay_model.specs.Parameters.{parameters_at, is_interrogation, purges}
-use Rattle.bay_model.specs.Notes.{note}
+use Rattle.bay_model.specs.Notes.{note, all_members, no_reason}
 use Rattle.bay_model.specs.Breaks.{cuts}
 use Rattle.bay_model.specs.Retained.{kept_octets_of}
 use Rattle.bay_model.specs.Singles.{arrival}
 use Rattle.brcb_state.specs.Changes.{written, effect_of}
-use Rattle.brcb_state.specs.Standing.{Stands as AttributesStand, after_deed, is_purging, is_change, Tells}
+use Rattle.brcb_state.specs.Standing.{Stands as AttributesStand, after_deed, is_general, is_purging, is_change, Tells}
 use Rattle.brcb_state.specs.declared.block.Block.{Block}
 use Rattle.brcb_state.specs.declared.told.Effect.{Effect}
 use Rattle.value_store.specs.Stored.{Stored}
-use Rattle.window_core.specs.Pieces.{octets_of}
+use Rattle.window_core.specs.Pieces.{Piece, octets_of}
 use Rattle.window_core.specs.Windows.{Windowed}
 use Rattle.window_core.specs.Standing.{piece_of, body_of}
 use Rattle.window_core.specs.Points.{at}
@@ -32,6 +32,8 @@ use Rattle.report_block.specs.Standing.{IsMemberKept, AreKeptMembers, Stands}
 use Rattle.report_block.specs.Coming.{came, untouched, noting, after_bodies, purged_if, closed_at, window_after, AreOf}
 use Rattle.report_block.specs.Events.{pieces_of, with_note}
 use Rattle.report_block.specs.Writes.{coming_of, set_after, settled, written_by}
+use Rattle.report_block.specs.Components.{after_writing, coming_by}
+use Rattle.report_block.proofs.PassLaws.{write-came}
 use Rattle.report_block.proofs.StandLaws.{arrival-stands, deed-stands, idle, integrity-off, before-arrival}
 
 or-left : (x y : Bool) → (x || y) ≡ false → x ≡ false
@@ -69,7 +71,7 @@ module _ (c : Model) (b m n : ℕ) (before : Past) (part : ReportBlock) where
 
 -- ---- an event
 
-octets-noted : (stored : List Stored) (shapes : List MemberShape) (ms : List Mention) → octets_of (pieces_of stored shapes ms) ≡ note_octets stored shapes ms
+pub octets-noted : (stored : List Stored) (shapes : List MemberShape) (ms : List Mention) → octets_of (pieces_of stored shapes ms) ≡ note_octets stored shapes ms
 octets-noted stored shapes [] = refl
 octets-noted stored shapes (m ∷ ms) = ap (λ l. kept_octets_of (kept_of stored shapes m) ++ l) (octets-noted stored shapes ms)
 
@@ -126,3 +128,20 @@ write-stands c b m n before part a comp v named e is plain s =
       purge = ap is_purging is ∙ t.purge;
       change = ap is_change is ∙ t.change;
     }))))
+
+-- an accepted write of any component; these are all members, with their values, where it is a general interrogation
+pub write-any-stands : (c : Model) (b m n : ℕ) (before : Past) (part : ReportBlock) (a : AssocNo) (comp : Comp) (v : Value) (named : Option ℕ) (e : Effect) (all : List Piece) → e ≡ effect_of comp v part.block
+    → (is_interrogation b (wrote a.0 b comp v) ≡ true → AreOf all (all_members c b (record no_reason { gi = true }) before (at n m (wrote a.0 b comp v) ∷ before)))
+    → Stands part c b (arrival n m ∷ before) → Stands (after_writing a comp v named (max m (now before)) n all part (Ok e)) c b (at n m (wrote a.0 b comp v) ∷ before)
+write-any-stands c b m n before part a comp v named e all is members s =
+    let d = wrote a.0 b comp v in
+    let t = tells c a b comp v n m before part.block (before-arrival c b m n before part.block s.block) in
+    subst (λ x. Stands x c b (at n m d ∷ before)) (write-came b a comp v named (max m (now before)) n all part e)
+    (with-set (came b d (max m (now before)) n (coming_by all e) part) (set_after comp named part.set) c b (at n m d ∷ before)
+    (deed-stands c b m n d before part (coming_by all e) s (record {
+      note = none-kept;
+      general = ap is_general is ∙ t.general;
+      all = members;
+      purge = ap is_purging is ∙ t.purge;
+      change = ap is_change is ∙ t.change;
+    })))

@@ -64,7 +64,7 @@ never false y z w h = refl
 period-off : (o : Parameters) (x was moment : ℕ) → (o.intg_pd == 0) ≡ true → is_period_over o x was moment ≡ false
 period-off o x was moment off = never (not (is_empty o.dat_set)) (bit 4 o.trg_ops) (o.intg_pd == 0) (nat_lt ((was - x) / o.intg_pd) ((moment - x) / o.intg_pd)) off
 
-due-off : (x : Option ℕ) (o : Parameters) (was moment : ℕ) → (o.intg_pd == 0) ≡ true → option_map_or (λ k. is_period_over o k was moment) x false ≡ false
+pub due-off : (x : Option ℕ) (o : Parameters) (was moment : ℕ) → (o.intg_pd == 0) ≡ true → option_map_or (λ k. is_period_over o k was moment) x false ≡ false
 due-off None o was moment off = refl
 due-off (Some k) o was moment off = period-off o k was moment off
 

@@ -5,7 +5,11 @@ pub mod Again
 pub mod Standing
 pub mod Coming
 pub mod Events
+pub mod Alls
 pub mod Writes
+pub mod Components
+pub mod Due
 -- its reports
 pub mod Offers
 pub mod Reporting
+pub mod Blanks

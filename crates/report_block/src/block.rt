@@ -25,7 +25,7 @@ pub struct ReportBlock {
 }
 
 /// The number of the data set after an accepted write.
-fn set_after(comp: Comp, named: Option<usize>, was: Option<usize>) -> Option<usize>
+pub(crate) fn set_after(comp: Comp, named: Option<usize>, was: Option<usize>) -> Option<usize>
     ensures { result ≡ set_number comp named was }
 {
     match comp {

@@ -4,10 +4,12 @@ ghost use Rattle.std.specs.Prelude.{◌≡◌, ◌≤◌, ◌<◌, ◌^◌, ◌+
 ghost use Rattle.std.specs.List.{All};
 ghost use Rattle.bay_model.specs.Retained.{weight_of as weight_if, kept_octets_of};
 ghost use Rattle.value_store.specs.Written.{adds};
+ghost use Rattle.report_block.specs.Alls.{all_from};
 ghost use Rattle.report_block.specs.EntryOctets.{kept_with, note_octets, weights, IsWritable, IsKeepable};
 
 use bay_model::{Fixed, MemberShape, Mention, Reasons};
 use set_view::SetView;
+use sv_base::MemberNo;
 use value_store::Store;
 
 /// The weight of a reason that is one of a member's, else 0.
@@ -27,7 +29,7 @@ fn weights_of(reasons: Reasons) -> u8
 }
 
 /// Adds the octets of a member. It takes no memory.
-fn put_mention(store: &Store, shape: &MemberShape, mention: Mention, octets: &mut Fixed)
+pub(crate) fn put_mention(store: &Store, shape: &MemberShape, mention: Mention, octets: &mut Fixed)
     requires number { mention.member.0 < 2 ^ 16 }
     requires writable { IsWritable store.now shape.now }
     requires room { length octets.old.items + 504 ≤ octets.old.room }
@@ -37,6 +39,23 @@ fn put_mention(store: &Store, shape: &MemberShape, mention: Mention, octets: &mu
     let weights = weights_of(mention.reasons);
     octets.push(&[(number / 256) as u8, (number % 256) as u8, 0, weights]);
     store.member_bytes(shape, octets);
+}
+
+/// The octets that a block keeps of all members of a data set for one reason, in place of what stood there. It takes no memory.
+pub(crate) fn put_all(store: &Store, set: &SetView<'_>, reasons: Reasons, octets: &mut Fixed)
+    requires few { length set.now ≤ 256 }
+    requires members { All (IsWritable store.now) set.now }
+    requires room { 504 * length set.now ≤ octets.old.room }
+    ensures { octets.new ≡ record { items = note_octets store.now set.now (all_from reasons 1 set.now); room = octets.old.room } }
+{
+    octets.clear();
+    for place in 0..set.len() {
+        let mention = Mention {
+            member: MemberNo(place as u32 + 1),
+            reasons,
+        };
+        put_mention(store, set.member(place), mention, octets);
+    }
 }
 
 /// The octets that a block keeps of a note, in place of what stood there: of each member its number, its reasons and its

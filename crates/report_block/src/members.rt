@@ -1,6 +1,6 @@
 //! The members of a report, from the octets that a block keeps of an entry.
 
-ghost use Rattle.std.specs.Prelude.{◌≡◌, ◌≤◌, ◌<◌, ◌++◌, ◌/◌, ◌%◌, ℕ, List, length, IfOk, IfSome, Some, option_map};
+ghost use Rattle.std.specs.Prelude.{◌≡◌, ◌≤◌, ◌<◌, ◌++◌, ◌/◌, ◌%◌, ℕ, List, length, vec_capacity, IfOk, IfSome, Some, option_map};
 ghost use Rattle.ber_grammar.specs.Element.{Element, Spells};
 ghost use Rattle.bay_model.specs.Named.{configured_model, nodes as nodes_of};
 ghost use Rattle.bay_model.specs.Notes.{Kept};
@@ -10,7 +10,7 @@ ghost use Rattle.set_view.specs.Shapes.{node_numbers};
 ghost use Rattle.report_block.specs.EntryOctets.{weights as weights_of};
 ghost use Rattle.report_block.specs.Again.{IsOneElement, AreKept, AreNodes, reasons_in, reference_by, reported, front_member, front_seen};
 
-use crate::spare::{copied_into, put_member, spare_member};
+use crate::spare::{copied_into, emptied, put_member, spare_member};
 use bay_model::{Member, Members, Reasons};
 use ber_view::first;
 use object_model::Model;
@@ -20,11 +20,11 @@ use sv_base::{MemberNo, NodeId, Octs};
 
 /// What stands in front of kept octets: a member, and the octets behind it.
 #[derive(Clone, Copy, Debug)]
-struct Front<'a> {
-    number: u32,
-    reasons: Reasons,
-    octets: &'a [u8],
-    rest: &'a [u8],
+pub(crate) struct Front<'a> {
+    pub(crate) number: u32,
+    pub(crate) reasons: Reasons,
+    pub(crate) octets: &'a [u8],
+    pub(crate) rest: &'a [u8],
 }
 
 /// The reasons whose bits are set in an octet.
@@ -72,7 +72,7 @@ fn front_with(high: u8, low: u8, weights: u8, octets: &[u8]) -> Option<Front<'_>
 }
 
 /// The first member, and the octets behind it.
-fn front_of(octets: &[u8]) -> Option<Front<'_>>
+pub(crate) fn front_of(octets: &[u8]) -> Option<Front<'_>>
     ensures exact { (k : Kept) (rest : List ℕ) → IsOneElement k.octets → octets.now ≡ kept_octets_of k ++ rest
         → option_map front_seen result ≡ Some (k, rest) }
     ensures shorter { IfSome result (λ f. length f.rest.now < length octets.now) }
@@ -89,13 +89,22 @@ fn reference_of(spare: Octs, model: &Model, node: NodeId) -> Result<Octs, AllocE
     ensures { IfOk result (λ o. o ≡ reference_at (configured_model model.now) node.0) }
 {
     let (domain, item) = (model.domain_of(node), model.item_of(node));
-    let mut octets = spare.into_vec();
+    let octets = emptied(spare.into_vec(), domain.len() + 1 + item.len())?;
+    Ok(reference_in(octets, model, node))
+}
+
+/// The reference `LD/item` of a node, in room that is there. It takes no memory.
+pub(crate) fn reference_in(room: Vec<u8>, model: &Model, node: NodeId) -> Octs
+    requires there { node.0 < length (nodes_of model.now) }
+    requires room { length (reference_at (configured_model model.now) node.0) ≤ vec_capacity room }
+    ensures { result ≡ reference_at (configured_model model.now) node.0 }
+{
+    let mut octets = room;
     octets.clear();
-    octets.reserve(domain.len() + 1 + item.len())?;
-    octets.extend_from_slice(domain)?;
-    octets.push(b'/')?;
-    octets.extend_from_slice(item)?;
-    Ok(Octs::from_vec(octets))
+    let _ = octets.extend_from_slice(model.domain_of(node));
+    let _ = octets.push(b'/');
+    let _ = octets.extend_from_slice(model.item_of(node));
+    Octs::from_vec(octets)
 }
 
 /// The reference of a member of a data set, by its number from 1, in the memory of another.

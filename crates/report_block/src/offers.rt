@@ -1,6 +1,6 @@
 //! Which entry is reported next, and its report (IEC 61850-7-2, the Report service).
 
-ghost use Rattle.std.specs.Prelude.{◌≡◌, ◌<◌, ◌≤◌, ◌++◌, nat_le, false, List, length, IfOk, IfSome};
+ghost use Rattle.std.specs.Prelude.{◌≡◌, ◌<◌, ◌≤◌, ◌+◌, ◌++◌, nat_le, false, List, length, vec_capacity, IfOk, IfSome};
 ghost use Rattle.std.specs.Option.{option_map, option_map_or};
 ghost use Rattle.bay_model.specs.Named.{configured_model};
 ghost use Rattle.bay_model.specs.Notes.{Kept};
@@ -72,10 +72,19 @@ pub fn first_offer<'a>(parts: &'a [ReportBlock], a: AssocNo) -> Option<Offer<'a>
 fn whole_of(alloc: Global, entry: &Entry<'_>) -> Result<Vec<u8>, AllocError>
     ensures { IfOk result (λ v. v.items ≡ entry.now.first.now ++ entry.now.second.now) }
 {
-    let mut octets = Vec::with_capacity(alloc, entry.first.len() + entry.second.len())?;
-    octets.extend_from_slice(entry.first)?;
-    octets.extend_from_slice(entry.second)?;
-    Ok(octets)
+    let octets = Vec::with_capacity(alloc, entry.first.len() + entry.second.len())?;
+    Ok(joined_in(octets, entry))
+}
+
+/// The octets of an entry in one row, in room that is there. Where that is enough it takes no memory.
+pub(crate) fn joined_in(room: Vec<u8>, entry: &Entry<'_>) -> Vec<u8>
+    ensures { length entry.now.first.now + length entry.now.second.now ≤ vec_capacity room → result.items ≡ entry.now.first.now ++ entry.now.second.now }
+{
+    let mut octets = room;
+    octets.clear();
+    let _ = octets.extend_from_slice(entry.first);
+    let _ = octets.extend_from_slice(entry.second);
+    octets
 }
 
 /// The members of the report of an entry of a data set, in the memory of those of another. Octets that lie in

@@ -1,6 +1,6 @@
 //! A report that is no longer needed: the next one is written in its memory.
 
-ghost use Rattle.std.specs.Prelude.{◌≡◌, ◌≤◌, ◌<◌, ◌++◌, ◌∷◌, ◌+◌, [], take, length, IfOk, OnOk};
+ghost use Rattle.std.specs.Prelude.{◌≡◌, ◌≤◌, ◌<◌, ◌++◌, ◌∷◌, ◌+◌, [], take, length, vec_capacity, IfOk, OnOk};
 
 use bay_model::{Member, Members, Reasons, Report};
 use std::alloc::{AllocError, Global};
@@ -10,14 +10,34 @@ use sv_base::{Bits, BlockNo, MemberNo, Moment, Octs};
 pub(crate) fn copied_into<T: Copy>(spare: Vec<T>, values: &[T]) -> Result<Vec<T>, AllocError>
     ensures { IfOk result (λ row. row.items ≡ values.now) }
 {
+    let row = emptied(spare, values.len())?;
+    Ok(copied_in(row, values))
+}
+
+/// The memory of other values, with room for so many.
+pub(crate) fn emptied<T: Drop>(spare: Vec<T>, most: usize) -> Result<Vec<T>, AllocError>
+    ensures empty { IfOk result (λ row. row.items ≡ []) }
+    ensures room { IfOk result (λ row. most ≤ vec_capacity row) }
+{
     let mut row = spare;
     row.clear();
-    row.extend_from_slice(values)?;
+    row.reserve(most)?;
     Ok(row)
 }
 
+/// A copy of values in room that is there, in place of what stood there. It takes no memory.
+pub(crate) fn copied_in<T: Copy>(room: Vec<T>, values: &[T]) -> Vec<T>
+    requires { length values.now ≤ vec_capacity room }
+    ensures { result.items ≡ values.now }
+{
+    let mut row = room;
+    row.clear();
+    let _ = row.extend_from_slice(values);
+    row
+}
+
 /// A member with nothing in it. It takes no memory.
-fn empty_member(alloc: Global) -> Member {
+pub(crate) fn empty_member(alloc: Global) -> Member {
     Member {
         number: MemberNo(0),
         reference: Octs::from_vec(Vec::new(alloc)),

@@ -1,0 +1,129 @@
+//! A report in room that was made before, so that to fill it takes no memory (IEC 61850-7-2, the Report service).
+
+ghost use Rattle.std.specs.List.{All};
+ghost use Rattle.std.specs.Prelude.{◌≡◌, ◌≤◌, ◌*◌, ◌++◌, [], List, vec_capacity};
+ghost use Rattle.bay_model.specs.Named.{configured_model};
+ghost use Rattle.bay_model.specs.Notes.{Kept};
+ghost use Rattle.report_block.specs.Again.{AreNodes, reported};
+ghost use Rattle.report_block.specs.Blanks.{AreShortTexts, IsShortSet, AreFew};
+
+use crate::block::ReportBlock;
+use crate::offers::{Offer, joined_in};
+use crate::room::Row;
+use crate::spare::{copied_in, emptied};
+use bay_model::{Members, Report};
+use entry_ring::Entry;
+use object_model::Model;
+use set_view::SetView;
+use std::alloc::{AllocError, Global};
+use sv_base::{Bits, BlockNo, Octs};
+
+/// How many octets the longest RptID or DatSet in the reports of blocks has.
+pub fn longest_text(parts: &[ReportBlock]) -> usize
+    ensures { All (AreShortTexts result) parts.now }
+{
+    let mut most = 0;
+    for part in parts {
+        let texts = part.block.report_id().len().max(part.block.dat_set().len());
+        most = texts.max(most);
+    }
+    most
+}
+
+/// The members of the report of an entry of a data set, in room that is there. It takes no memory. Of an entry of more members than
+/// have room nothing is said.
+fn members_in(
+    row: Row,
+    room: Vec<u8>,
+    model: &Model,
+    set: &SetView<'_>,
+    entry: &Entry<'_>,
+) -> Members
+    requires empty { row.items ≡ [] }
+    requires room { 504 * row.left ≤ vec_capacity room }
+    requires nodes { AreNodes model.now set.now }
+    requires short { IsShortSet (configured_model model.now) set.now }
+    ensures { (ks : List Kept) → AreFew row.left (entry.now.first.now ++ entry.now.second.now) ks → result ≡ reported model.now set.now ks }
+{
+    let octets = joined_in(room, entry);
+    row.filled(model, set, &octets)
+}
+
+/// Room for a report: its texts, its members, and the octets of its entry in one row.
+#[derive(Drop)]
+pub struct Blank {
+    texts: usize,
+    rpt_id: Vec<u8>,
+    opt_flds: Vec<bool>,
+    dat_set: Vec<u8>,
+    row: Row,
+    joined: Vec<u8>,
+}
+
+impl std::marker::Model for Blank {
+    ghost use Rattle.std.specs.Prelude.{◌≡◌, ◌≤◌, ◌*◌, [], vec_capacity};
+    ghost use Rattle.report_block.specs.Blanks.{Blank};
+
+    ghost Value = { Blank };
+
+    ghost view = { λ b. record { texts = b.texts; members = b.row.left } };
+
+    ghost invariant = { λ b. (b.texts ≤ vec_capacity b.rpt_id) × (10 ≤ vec_capacity b.opt_flds) × (b.texts ≤ vec_capacity b.dat_set) × (b.row.items ≡ []) × (504 * b.row.left ≤ vec_capacity b.joined) };
+}
+
+impl Blank {
+    ghost use Rattle.std.specs.Prelude.{◌≡◌, ◌≤◌, List, length, IfOk};
+    ghost use Rattle.bay_model.specs.Named.{configured_model};
+    ghost use Rattle.bay_model.specs.Notes.{Kept};
+    ghost use Rattle.report_block.specs.Again.{AreNodes};
+    ghost use Rattle.report_block.specs.Blanks.{AreShortTexts, IsShortSet, AreFew};
+    ghost use Rattle.report_block.specs.Reporting.{offered, report_by};
+
+    /// Room for a report whose RptID and DatSet have at most `texts` octets each, of at most `most` members, 0 to 256, each with a
+    /// reference of at most 129 octets and Data of at most 500, in the memory of another report.
+    pub fn open(alloc: Global, spare: Report, texts: usize, most: u32) -> Result<Blank, AllocError>
+        requires few { most ≤ 256 }
+        ensures { IfOk result (λ b. b ≡ record { texts = texts; members = most }) }
+    {
+        let most = most as usize;
+        Ok(Blank {
+            texts,
+            rpt_id: emptied(spare.rpt_id.into_vec(), texts)?,
+            opt_flds: emptied(spare.opt_flds.into_vec(), 10)?,
+            dat_set: emptied(spare.dat_set.into_vec(), texts)?,
+            row: Row::open(alloc, spare.members, most)?,
+            joined: Vec::with_capacity(alloc, 504 * most)?,
+        })
+    }
+
+    /// The report of an offer by its block and its data set, whose nodes are the model's. It takes no memory. Of an entry of more
+    /// members than have room nothing is said.
+    pub fn filled(
+        self,
+        model: &Model,
+        part: &ReportBlock,
+        set: &SetView<'_>,
+        offer: &Offer<'_>,
+    ) -> Report
+        requires block { offer.now.block ≤ 4294967295 }
+        requires few { length set.now ≤ 4294967295 }
+        requires nodes { AreNodes model.now set.now }
+        requires short { IsShortSet (configured_model model.now) set.now }
+        requires texts { AreShortTexts self.texts part.now }
+        ensures { (ks : List Kept) → AreFew self.members (offered offer.now).entry.kept ks → result ≡ report_by (configured_model model.now) set.now part.now (offered offer.now) ks }
+    {
+        Report {
+            block: BlockNo(offer.block as u32),
+            rpt_id: Octs::from_vec(copied_in(self.rpt_id, part.block.report_id())),
+            opt_flds: Bits::from_vec(copied_in(self.opt_flds, part.block.opt_flds())),
+            sq: offer.next.sq,
+            time: offer.entry.moment,
+            dat_set: Octs::from_vec(copied_in(self.dat_set, part.block.dat_set())),
+            ovfl: offer.next.ovfl,
+            id: offer.next.id,
+            conf_rev: part.block.conf_rev(),
+            total: set.len() as u32,
+            members: members_in(self.row, self.joined, model, set, &offer.entry),
+        }
+    }
+}
