@@ -1,5 +1,5 @@
--- Which configurations a bay serves: as a configuration's text has them, without controls and setting groups, and with
--- blocks that report at once and have no integrity period (IEC 61850-7-2, DATA-SET and BRCB attributes BufTm and IntgPd).
+-- Which configurations a bay serves: as a configuration's text has them, without controls and setting groups
+-- (IEC 61850-7-2, DATA-SET and BRCB attributes).
 use Rattle.std.specs.Prelude.{◌≡◌, ◌<◌, ◌≤◌, ℕ, true, [], map, length, slice_index_or}
 use Rattle.std.specs.List.{All}
 use Rattle.sv_base.specs.Fields.{shape_of}
@@ -12,6 +12,7 @@ use Rattle.sv_base.specs.declared.types.TypeOf.TheVariants as types
 use Rattle.bay_model.specs.Model.{DataSet}
 use Rattle.bay_model.specs.Attributes.{attributes}
 use Rattle.bay_model.specs.Lookups.{node_of}
+use Rattle.bay_model.specs.Reports.{reference_at}
 use Rattle.bay_model.specs.Named.{configured_model, nodes}
 use Rattle.object_model.specs.Fits.{attr_types, is_sound}
 use Rattle.object_model.specs.Tables.{node_type}
@@ -35,13 +36,13 @@ pub record IsMember (c : Config) (n : ℕ) : Type 0 where
 pub record IsServedSet (c : Config) (s : DataSet) : Type 0 where
   pub few : length s.nodes ≤ 256
   pub members : All (IsMember c) s.nodes
+  -- their references `LD/item` (IEC 61850-7-2, ObjectReference)
+  pub short : All (λ n. length (reference_at (configured_model c) n) ≤ 129) s.nodes
 
--- a block whose entries come to be at once, and whose numbers of bits are those of OptFlds and TrgOps
+-- a block whose numbers of bits are those of OptFlds and TrgOps
 pub record IsServedBlock (b : BlockDef) : Type 0 where
   pub opt_flds : length b.opt_flds ≡ 10
   pub trg_ops : length b.trg_ops ≡ 6
-  pub buf_tm : b.buf_tm ≡ 0
-  pub intg_pd : b.intg_pd ≡ 0
 
 -- the values of an attribute's line have parts of a second below one, and visible texts
 abbrev pub HasSoundValues : AttrDef → Type 0

@@ -1,5 +1,5 @@
 -- The book of the configured data sets: what is found by a DatSet, and how many members and rows there are.
-use Rattle.std.proofs.Common.{◌≡◌, ◌≤◌, ◌<◌, ℕ, suc, Bool, true, false, List, [], ◌∷◌, map, length, Option, None, Some, is_some, unwrap_or, cond, refl, ap, sym, ◌∙◌, subst, arith, if◌then◌else◌, slice_index_or}
+use Rattle.std.proofs.Common.{◌≡◌, ◌≤◌, ◌<◌, ℕ, zero, suc, Bool, true, false, List, [], ◌∷◌, map, length, Option, None, Some, is_some, unwrap_or, cond, refl, ap, sym, ◌∙◌, subst, arith, if◌then◌else◌, slice_index_or}
 use Rattle.std.specs.Option.{option_map}
 use Rattle.std.specs.List.{All}
 use Rattle.std.specs.Str.{bytes_eq}
@@ -13,14 +13,14 @@ use Rattle.bay_model.specs.Lookups.{reference_of}
 use Rattle.bay_model.specs.Model.{DataSet}
 use Rattle.bay_model.specs.Named.{configured_model}
 use Rattle.bay_model.specs.Sets.{set_referred}
-use Rattle.set_view.specs.Shapes.{AreThere, shapes_of}
+use Rattle.set_view.specs.Shapes.{AreThere, shape_of, shapes_of}
 use Rattle.object_model.specs.Nodes.{node_rows}
 use Rattle.object_model.specs.Tables.{node_id, set_row, set_rows}
 use Rattle.object_model.proofs.TableLaws.{count-rows}
-use Rattle.data_sets.specs.Books.{Booked, Book, IsSet, booked, largest, largest_in, no_set, nodes_in, number_referred, opened, reference}
+use Rattle.data_sets.specs.Books.{Booked, Book, IsSet, booked, largest, largest_in, no_set, nodes_in, number_referred, opened, reference, set_at}
 use Rattle.data_sets.proofs.PlaceLaws.{within}
 use Rattle.report_block.specs.declared.block.ReportBlock.{ReportBlock}
-use Rattle.bay_config.specs.Servable.{IsServable}
+use Rattle.bay_config.specs.Servable.{IsServable, IsServedSet}
 use Rattle.bay_core.specs.Watched.{AreLent, IsLent, members_in}
 use Rattle.bay_core.proofs.ShapeLaws.{nodes_named, served_members}
 
@@ -73,6 +73,16 @@ number-there ref book = by (number_referred ref book) refl
 greatest-few : (bs : List Booked) (most : ℕ) → All (λ (b : Booked). length b.nodes ≤ most) bs → largest_in bs ≤ most
 greatest-few [] most all = omega arith
 greatest-few (b ∷ bs) most all = omega (arith, All-head (λ (b : Booked). length b.nodes ≤ most) b bs all, greatest-few bs most (All-tail (λ (b : Booked). length b.nodes ≤ most) b bs all))
+
+-- no set has more members than the largest
+among-greatest : (bs : List Booked) (k : ℕ) (d : Booked) → k < length bs → length (slice_index_or bs k d).nodes ≤ largest_in bs
+among-greatest [] k d below = absurd (omega (arith, below))
+among-greatest (b ∷ bs) zero d below = omega arith
+among-greatest (b ∷ bs) (suc k) d below = omega (arith, among-greatest bs k d (omega (arith, below)))
+
+pub within-largest : (rows : List NodeRow) (book : Book) (o : Option ℕ) → IsSet book o → length (shapes_of rows (nodes_in book o)) ≤ largest book
+within-largest rows book None is = omega arith
+within-largest rows book (Some k) is = omega (arith, length-map (set_at book k).nodes (shape_of rows), among-greatest book.sets k no_set is)
 
 module _ (c : Config) (served : IsServable c) where
   -- the largest set has few members

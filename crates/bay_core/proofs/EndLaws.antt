@@ -1,5 +1,5 @@
--- A point that opens or loses an association.
-use Rattle.std.proofs.Common.{◌≡◌, ℕ, suc, max, true, false, List, ◌∷◌, Option, None, Some, refl, ap, arith, sym, ◌⊎◌}
+-- A point that opens or loses an association, from its arrival.
+use Rattle.std.proofs.Common.{◌≡◌, ℕ, suc, max, true, false, List, ◌∷◌, Option, None, Some, refl, ap, arith, ◌∙◌, sym, ◌⊎◌}
 use Rattle.std.specs.Prelude.{if◌then◌else◌, is_some, ◌==◌, ◌||◌}
 use Rattle.std.specs.Option.{option_map}
 use Rattle.std.proofs.lemmas.Bool.Decides.{nat_tests}
@@ -10,6 +10,7 @@ use Rattle.sv_base.specs.declared.numbers.AssocNo.{AssocNo}
 use Rattle.sv_base.specs.declared.numbers.ActorNo.{ActorNo}
 use Rattle.bay_model.specs.Model.{Model}
 use Rattle.bay_model.specs.Points.{Point, Past, opened, lost}
+use Rattle.bay_model.specs.Singles.{arrival}
 use Rattle.bay_model.specs.Associations as model
 use Rattle.bay_model.specs.Associations.{ends}
 use Rattle.bay_model.specs.Acceptance.{IsOpen, if_open}
@@ -25,6 +26,10 @@ use Rattle.bay_core.specs.Standing.{StandsAt}
 use Rattle.bay_core.proofs.MoveLaws.{passed}
 
 -- ---- the ends of an association
+
+pub none-where : {A : Type 0} (o : Option A) → is_some o ≡ false → o ≡ None
+none-where None is = refl
+none-where (Some x) is = cc
 
 pub open-told : (m : Model) (rows : List Row) (past : Past) (a : ℕ) → AssociationsStand rows m past → IsNumber a → is_some (row_of rows a).ends ≡ is_some (ends a past)
 open-told m rows past a st number = by (row_of rows a).ends (ends a past) (st.each a number).ends where
@@ -47,20 +52,20 @@ ends-told m rows past a opener writer st number one other = by (row_of rows a).e
 abbrev pub opening : ℕ → ℕ → ℕ → Ends → Point
 opening n t a e = at n t (opened a e.opener.0 e.writer.0 e.size)
 
-pub opened-at : (s : State) (c : Config) (n t a : ℕ) (e : Ends) (past : Past) → IsNumber a → StandsAt s c n past
-    → StandsAt (record s { steps = suc s.steps; latest = max s.latest t; rows = started s.rows a e }) c (suc n) (opening n t a e ∷ past)
+pub opened-at : (s : State) (c : Config) (n t a : ℕ) (e : Ends) (past : Past) → IsNumber a → StandsAt s c n (arrival n t ∷ past)
+    → StandsAt (record s { steps = suc s.steps; rows = started s.rows a e }) c (suc n) (opening n t a e ∷ past)
 opened-at s c n t a e past number st = passed s c n t (opened a e.opener.0 e.writer.0 e.size) past s.parts (record { number = number; puts = λ k. refl; gives = λ k. refl; sets = refl }) (λ x. refl)
-    (record { note = λ b. refl; cuts = λ b. refl; parameters = λ b. refl }) (λ b q there. (q, there, refl)) st
+    (record { note = λ b. refl; cuts = λ b. refl }) (λ b q there. (q, there, refl)) st
 
 -- ---- lost
 
 abbrev pub losing : ℕ → ℕ → ℕ → Point
 losing n t a = at n t (lost a)
 
-pub lost-at : (s : State) (c : Config) (n t : ℕ) (a : AssocNo) (past : Past) → IsNumber a.0 → StandsAt s c n past
-    → StandsAt (record s { steps = suc s.steps; latest = max s.latest t; parts = after_loss_all a s.parts; rows = ended s.rows a.0 }) c (suc n) (losing n t a.0 ∷ past)
+pub lost-at : (s : State) (c : Config) (n t : ℕ) (a : AssocNo) (past : Past) → IsNumber a.0 → StandsAt s c n (arrival n t ∷ past)
+    → StandsAt (record s { steps = suc s.steps; parts = after_loss_all a s.parts; rows = ended s.rows a.0 }) c (suc n) (losing n t a.0 ∷ past)
 lost-at s c n t a past number st = passed s c n t (lost a.0) past (after_loss_all a s.parts) (record { number = number; puts = λ k. refl; gives = λ k. refl; sets = refl }) (λ x. refl)
-    (record { note = λ b. refl; cuts = λ b. refl; parameters = λ b. refl }) (got-map (lost_by a) s.parts) st
+    (record { note = λ b. refl; cuts = λ b. refl }) (got-map (lost_by a) s.parts) st
 
 -- ---- why an opening or a loss is refused
 

@@ -3,6 +3,10 @@ pub mod DistinctChanges
 -- the blocks, and the bay, at the arrival of a point and after a deed
 pub mod PartLaws
 pub mod MoveLaws
+-- all members of a data set, and the arrival of a point
+pub mod AllLaws
+pub mod ArriveLaws
+pub mod QuietLaws
 -- openings and losses
 pub mod EndLaws
 pub mod MentionLaws
@@ -23,6 +27,7 @@ pub mod WriteLaws
 -- reports
 pub mod TakeLaws
 pub mod TakenLaws
+pub mod SentLaws
 -- how a bay begins
 pub mod FirstValues
 pub mod FirstState

@@ -11,6 +11,7 @@ use Rattle.set_view.specs.Shapes.{no_shape}
 use Rattle.trigger_core.specs.Noted.{reasons_in, noted}
 use Rattle.value_store.specs.Stored.{Stored}
 use Rattle.report_block.specs.EntryOctets.{IsWritable, IsKeepable}
+use Rattle.report_block.specs.Events.{AreInOrder}
 
 -- numbered from i on, so many
 abbrev IsNumbered : ℕ → ℕ → Mention → Type 0
@@ -29,6 +30,16 @@ numbered changes trg i (s ∷ shapes) = by (is_any (reasons_in changes trg s.att
     by : (b : Bool) → All (IsNumbered (suc i) (length shapes)) (noted changes trg (suc i) shapes) → All (IsNumbered i (length (s ∷ shapes))) ((if b then own ∷ [] else []) ++ noted changes trg (suc i) shapes)
     by true all = All-cons (IsNumbered i (length (s ∷ shapes))) own (noted changes trg (suc i) shapes) (omega arith, omega arith) (later all)
     by false all = later all
+
+-- they stand in the order of the data set
+pub noted-order : (changes : List Change) (trg : Trg) (above i : ℕ) (shapes : List MemberShape) → above < i → AreInOrder above (noted changes trg i shapes)
+noted-order changes trg above i [] below = tt
+noted-order changes trg above i (s ∷ shapes) below = by (is_any (reasons_in changes trg s.attrs)) (noted-order changes trg i (suc i) shapes (omega arith)) (noted-order changes trg above (suc i) shapes (omega (arith, below)))
+  where
+    by : (b : Bool) → AreInOrder i (noted changes trg (suc i) shapes) → AreInOrder above (noted changes trg (suc i) shapes)
+        → AreInOrder above ((if b then record { member = record { 0 = i }; reasons = reasons_in changes trg s.attrs } ∷ [] else []) ++ noted changes trg (suc i) shapes)
+    by true own later = (below, own)
+    by false own later = later
 
 pub length-noted : (changes : List Change) (trg : Trg) (i : ℕ) (shapes : List MemberShape) → length (noted changes trg i shapes) ≤ length shapes
 length-noted changes trg i [] = omega arith

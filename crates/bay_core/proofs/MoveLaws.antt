@@ -1,4 +1,4 @@
--- A step of one point: the state of a bay at its arrival, and after its deed.
+-- A step of one point: the state of a bay from its arrival to what its deed makes of it.
 use Rattle.std.proofs.Common.{◌≡◌, ℕ, suc, max, Bool, true, false, List, [], ◌∷◌, None, refl, ap, arith, ◌∙◌, sym, subst}
 use Rattle.std.specs.Prelude.{length, if◌then◌else◌, unwrap_or}
 use Rattle.sv_base.specs.declared.config.Config.{Config}
@@ -20,21 +20,9 @@ use Rattle.assoc_table.proofs.StandLaws as associations
 use Rattle.window_core.specs.Points.{at}
 use Rattle.report_block.specs.declared.block.ReportBlock.{ReportBlock}
 use Rattle.bay_core.specs.State.{State}
-use Rattle.bay_core.specs.Standing.{PartsStand, StandsAt, StandsFor}
-use Rattle.bay_core.proofs.PartLaws.{IsApart, AreLeft, parts-arrive, parts-left}
-
--- time has passed, up to the moment of a step
-pub arrives : (s : State) (c : Config) (n t : ℕ) (past : Past) → StandsAt s c n past → StandsAt (record s { latest = max s.latest t }) c n (arrival n t ∷ past)
-arrives s c n t past st = record {
-  is_config = st.is_config;
-  is_steps = st.is_steps;
-  is_latest = omega (arith, st.is_latest);
-  values = values.stands-arrival s.stored (configured_model c) t n past st.values;
-  associations = associations.stands-arrival (configured_model c) t n past s.rows st.associations;
-  empty = st.empty;
-  sets = st.sets;
-  blocks = parts-arrive (configured_model c) n t past s.parts st.blocks;
-}
+use Rattle.report_block.specs.Standing.{BlocksStand}
+use Rattle.bay_core.specs.Standing.{StandsAt, StandsFor}
+use Rattle.bay_core.proofs.PartLaws.{IsApart, AreLeft, parts-left}
 
 -- a deed that puts nothing, takes nothing that waits, and defines and deletes no data set
 pub record IsSilent (m : Model) (n t : ℕ) (d : Deed) (past : Past) : Type 0 where
@@ -56,7 +44,7 @@ rows_after d rows = came d nothing_put rows
 
 -- after the deed of a step, which leaves these values and blocks
 pub done : (s : State) (c : Config) (n t : ℕ) (d : Deed) (past : Past) (stored : List Stored) (parts : List ReportBlock) → IsSilent (configured_model c) n t d past
-    → ValuesStand stored (configured_model c) (at n t d ∷ past) → PartsStand (configured_model c) (at n t d ∷ past) parts → StandsAt s c n (arrival n t ∷ past)
+    → ValuesStand stored (configured_model c) (at n t d ∷ past) → BlocksStand (configured_model c) (at n t d ∷ past) parts → StandsAt s c n (arrival n t ∷ past)
     → StandsAt (record s { steps = suc s.steps; stored = stored; parts = parts; rows = rows_after d s.rows }) c (suc n) (at n t d ∷ past)
 done s c n t d past stored parts silent values blocks st = record {
   is_config = st.is_config;
@@ -72,11 +60,10 @@ done s c n t d past stored parts silent values blocks st = record {
 
 -- a step whose deed leaves all values, and the entries of all blocks
 pub passed : (s : State) (c : Config) (n t : ℕ) (d : Deed) (past : Past) (parts : List ReportBlock) → IsSilent (configured_model c) n t d past
-    → ((x : ℕ) → gives (configured_model c) x d past ≡ None) → IsApart (configured_model c) n t d past → AreLeft d s.parts parts → StandsAt s c n past
-    → StandsAt (record s { steps = suc s.steps; latest = max s.latest t; parts = parts; rows = rows_after d s.rows }) c (suc n) (at n t d ∷ past)
-passed s c n t d past parts silent same apart left st =
-    let here = arrives s c n t past st in
-    done (record s { latest = max s.latest t }) c n t d past s.stored parts silent (values-same here.values) (parts-left (configured_model c) n t d past s.parts parts apart left here.blocks) here
+    → ((x : ℕ) → gives (configured_model c) x d past ≡ None) → IsApart (configured_model c) n t d past → AreLeft d s.parts parts → StandsAt s c n (arrival n t ∷ past)
+    → StandsAt (record s { steps = suc s.steps; parts = parts; rows = rows_after d s.rows }) c (suc n) (at n t d ∷ past)
+passed s c n t d past parts silent same apart left here =
+    done s c n t d past s.stored parts silent (values-same here.values) (parts-left (configured_model c) n t d past s.parts parts apart left here.blocks) here
   where
     values-same : ValuesStand s.stored (configured_model c) (arrival n t ∷ past) → ValuesStand s.stored (configured_model c) (at n t d ∷ past)
     values-same stand = values.stands-deed s.stored s.stored (configured_model c) t n d past stand refl (λ x below. ap (λ o. unwrap_or o (attribute s.stored x).held.value) (sym (same x)))
@@ -86,17 +73,17 @@ pub left-as-they-are : (parts : List ReportBlock) → AreLeft nothing parts part
 left-as-they-are parts = λ b q there. (q, there, refl)
 
 -- a step that nothing came of
-pub still : (s : State) (c : Config) (n t : ℕ) (past : Past) → StandsAt s c n past → StandsAt (record s { steps = suc s.steps; latest = max s.latest t }) c (suc n) (arrival n t ∷ past)
-still s c n t past st = passed s c n t nothing past s.parts (record { number = tt; puts = λ a. refl; gives = λ a. refl; sets = refl }) (λ x. refl)
-    (record { note = λ b. refl; cuts = λ b. refl; parameters = λ b. refl }) (left-as-they-are s.parts) st
+pub still : (s : State) (c : Config) (n t : ℕ) (past : Past) → StandsAt s c n (arrival n t ∷ past) → StandsAt (record s { steps = suc s.steps }) c (suc n) (arrival n t ∷ past)
+still s c n t past here = passed s c n t nothing past s.parts (record { number = tt; puts = λ a. refl; gives = λ a. refl; sets = refl }) (λ x. refl)
+    (record { note = λ b. refl; cuts = λ b. refl }) (left-as-they-are s.parts) here
 
 -- an accepted step, of a state that is known by an equation
 pub accepted-as : (s t u : State) (c : Config) (h : History) (turn : Turn) → StandsFor s c h → fault (configured_model c) h turn ≡ None → t ≡ u
     → StandsAt u c (suc (length h)) (turned (configured_model c) (length h) turn (points (configured_model c) h)) → StandsFor t c (turn ∷ h)
 accepted-as s t u c h turn st none is at = ((st.0, none), subst (λ v. StandsAt v c (suc (length h)) (turned (configured_model c) (length h) turn (points (configured_model c) h))) (sym is) at)
 
-pub still-for : (s t : State) (c : Config) (h : History) (turn : Turn) → t ≡ record s { steps = suc s.steps; latest = max s.latest turn.moment } → StandsFor s c h
+-- a step that nothing came of; the second state is that at its arrival
+pub still-for : (s a t : State) (c : Config) (h : History) (turn : Turn) → StandsAt a c (length h) (arrival (length h) turn.moment ∷ points (configured_model c) h) → t ≡ record a { steps = suc a.steps } → StandsFor s c h
     → fault (configured_model c) h turn ≡ None → turned (configured_model c) (length h) turn (points (configured_model c) h) ≡ arrival (length h) turn.moment ∷ points (configured_model c) h → StandsFor t c (turn ∷ h)
-still-for s t c h turn is st none quiet = accepted-as s t (record s { steps = suc s.steps; latest = max s.latest turn.moment }) c h turn st none is
-    (subst (λ past. StandsAt (record s { steps = suc s.steps; latest = max s.latest turn.moment }) c (suc (length h)) past) (sym quiet)
-    (still s c (length h) turn.moment (points (configured_model c) h) st.1))
+still-for s a t c h turn here is st none quiet = accepted-as s t (record a { steps = suc a.steps }) c h turn st none is
+    (subst (λ past. StandsAt (record a { steps = suc a.steps }) c (suc (length h)) past) (sym quiet) (still a c (length h) turn.moment (points (configured_model c) h) here))

@@ -1,5 +1,5 @@
 -- How a bay begins: what each block stands for.
-use Rattle.std.proofs.Common.{◌≡◌, ℕ, List, [], map, Some, unwrap_or, ap, sym, ◌∙◌}
+use Rattle.std.proofs.Common.{◌≡◌, ℕ, List, [], map, Some, unwrap_or, refl, ap, sym, ◌∙◌}
 use Rattle.std.specs.Prelude.{slice_get}
 use Rattle.std.specs.Option.{option_map}
 use Rattle.std.proofs.lemmas.Option.{slice_get-map}
@@ -15,11 +15,9 @@ use Rattle.brcb_state.specs.Changes.{configured}
 use Rattle.entry_ring.specs.Standing.{empty}
 use Rattle.window_core.specs.Windows.{Windowed, empty as empty_window}
 use Rattle.report_block.proofs.StandLaws.{opened}
-use Rattle.bay_config.specs.Servable.{IsServable}
-use Rattle.bay_core.proofs.PartLaws.{at_once-served}
 use Rattle.report_block.specs.declared.block.ReportBlock.{ReportBlock}
 use Rattle.bay_core.specs.Opened.{PartSeen, seen, part_defined}
-use Rattle.bay_core.specs.Standing.{PartsStand}
+use Rattle.report_block.specs.Standing.{BlocksStand}
 
 -- ---- a block by its number
 
@@ -46,13 +44,10 @@ parts-windows c book parts are b part at =
     let known = part-at c book parts are b part at in
     ap (λ (s : PartSeen). s.window.members) (sym known.2)
 
-pub parts-stand : (c : Config) (book : Book) → IsServable c → (parts : List ReportBlock) → map seen parts ≡ map (part_defined book) c.blocks → PartsStand (configured_model c) [] parts
-parts-stand c book served parts are = λ b part at.
+pub parts-stand : (c : Config) (book : Book) (parts : List ReportBlock) → map seen parts ≡ map (part_defined book) c.blocks → BlocksStand (configured_model c) [] parts
+parts-stand c book parts are = λ b part at.
     let known = part-at c book parts are b part at in
     let is = block-defined c b known.0 known.1 in
-    record {
-      stands = opened (configured_model c) b part (ap (λ (s : PartSeen). s.block) (sym known.2) ∙ ap configured (sym is)) (ap (λ (s : PartSeen). s.ring) (sym known.2) ∙ ap (λ (k : Block). empty k.capacity) (sym is))
-          (ap (λ (w : Windowed). record w { members = part.window.members }) (ap (λ (s : PartSeen). s.window) (sym known.2)) ∙ ap (λ (k : Block). empty_window part.window.members k.initial.buf_tm) (sym is))
-          (ap (λ (s : PartSeen). s.origin) (sym known.2));
-      at_once = at_once-served c b served;
-    }
+    opened (configured_model c) b part (ap (λ (s : PartSeen). s.block) (sym known.2) ∙ ap configured (sym is)) (ap (λ (s : PartSeen). s.ring) (sym known.2) ∙ ap (λ (k : Block). empty k.capacity) (sym is))
+    (ap (λ (w : Windowed). record w { members = part.window.members }) (ap (λ (s : PartSeen). s.window) (sym known.2)) ∙ ap (λ (k : Block). empty_window part.window.members k.initial.buf_tm) (sym is))
+    (ap (λ (s : PartSeen). s.origin) (sym known.2))

@@ -1,5 +1,5 @@
 -- The data sets of a configuration that a bay serves: the members of a block are there, and have the shapes of their nodes.
-use Rattle.std.proofs.Common.{◌≡◌, ◌≤◌, ◌<◌, ℕ, List, [], ◌∷◌, length, map, get_or, refl, sym, ap, ◌∙◌, arith}
+use Rattle.std.proofs.Common.{◌≡◌, ◌≤◌, ◌<◌, ℕ, List, [], ◌∷◌, length, map, get_or, refl, sym, subst, ap, ◌∙◌, arith}
 use Rattle.std.specs.List.{All}
 use Rattle.std.proofs.lemmas.List.{length-map}
 use Rattle.std.proofs.lemmas.List.Elements.{All-nil, All-cons, All-head, All-tail, All-map}
@@ -16,6 +16,7 @@ use Rattle.object_model.specs.Tables.{node_id}
 use Rattle.object_model.proofs.TableLaws.{count-rows, rows-are-nodes}
 use Rattle.set_view.specs.Shapes.{HasNumber, no_row, node_numbers, shape_of}
 use Rattle.data_sets.proofs.SetLaws.{numbers_of_shapes}
+use Rattle.report_block.specs.Blanks.{AreShort, IsShortSet}
 use Rattle.report_block.specs.Again.{AreNodes}
 use Rattle.bay_config.specs.Servable.{IsServable, IsMember}
 use Rattle.bay_core.proofs.ShapeLaws.{nodes_named, served_members, served-set, members-named}
@@ -48,6 +49,10 @@ module _ (c : Config) (served : IsServable c) (reference : List ℕ) where
 
   pub served-few : length (served_members c reference) ≤ 256
   served-few = omega (arith, length-map (map node_id mine) (shape_of (node_rows c)), length-map mine node_id, (served-set c reference served).few)
+
+  -- the references of the members are short
+  pub shapes-short : IsShortSet (configured_model c) (served_members c reference)
+  shapes-short = subst (AreShort (configured_model c)) (sym served-nodes) (served-set c reference served).short
 
   -- each shape is that of a node that is there
   pub shapes-there : AreNodes c (served_members c reference)

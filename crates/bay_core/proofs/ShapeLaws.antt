@@ -12,6 +12,7 @@ use Rattle.bay_model.specs.declared.tables.MemberShape.{MemberShape}
 use Rattle.bay_model.specs.declared.tables.NodeRow.{NodeRow}
 use Rattle.bay_model.specs.Model.{Model, DataSet}
 use Rattle.bay_model.specs.Lookups.{node_of}
+use Rattle.bay_model.specs.Reports.{reference_at}
 use Rattle.bay_model.specs.Named.{configured_model}
 use Rattle.bay_model.specs.Parameters.{parameters_at}
 use Rattle.bay_model.specs.Places.{largest}
@@ -44,10 +45,11 @@ found {A = A} P test (y ∷ ys) all x is = by (test y) (All-head P y ys all) (fo
 pub record AreServed (c : Config) (ns : List ℕ) : Type 0 where
   pub few : length ns ≤ 256
   pub members : All (IsMember c) ns
+  pub short : All (λ n. length (reference_at (configured_model c) n) ≤ 129) ns
 
 served-of : (c : Config) (o : Option DataSet) → ((s : DataSet) → o ≡ Some s → IsServedSet c s) → AreServed c (unwrap_or (option_map (λ (s : DataSet). s.nodes) o) [])
-served-of c None is = record { few = omega arith; members = All-nil (IsMember c) }
-served-of c (Some s) is = let t = is s refl in record { few = t.few; members = t.members }
+served-of c None is = record { few = omega arith; members = All-nil (IsMember c); short = All-nil (λ n. length (reference_at (configured_model c) n) ≤ 129) }
+served-of c (Some s) is = let t = is s refl in record { few = t.few; members = t.members; short = t.short }
 
 -- the nodes of the data set that a reference names
 abbrev pub nodes_named : List DataSet → List ℕ → List ℕ

@@ -17,19 +17,19 @@ use Rattle.bay_model.specs.Singles.{arrival}
 use Rattle.bay_model.specs.Takes.{taken}
 use Rattle.set_view.specs.Shapes.{node_numbers}
 use Rattle.report_block.specs.declared.block.ReportBlock.{ReportBlock}
-use Rattle.report_block.specs.Again.{AreKept}
+use Rattle.report_block.specs.Blanks.{AreFew}
 use Rattle.report_block.specs.Offers.{Offered, first_offered, chosen, chosen_of}
 use Rattle.report_block.specs.Reporting.{report_by}
 use Rattle.report_block.proofs.OfferLaws.{AreTold, told, told-choice}
 use Rattle.report_block.proofs.GivenLaws.{given_of, told-given, told-nothing}
-use Rattle.bay_core.specs.Standing.{PartsStand}
+use Rattle.report_block.specs.Standing.{BlocksStand}
 
-module _ (m : Model) (a : AssocNo) (n moment : ℕ) (past : Past) (parts : List ReportBlock) (count : length parts ≡ length m.blocks) (stand : PartsStand m (arrival n moment ∷ past) parts) where
+module _ (m : Model) (a : AssocNo) (n moment : ℕ) (past : Past) (parts : List ReportBlock) (count : length parts ≡ length m.blocks) (stand : BlocksStand m (arrival n moment ∷ past) parts) where
   abbrev after : Past
   after = arrival n moment ∷ past
 
   first-told : AreTold m after (first_offer m a.0 after 0 m.blocks) (first_offered a 0 parts)
-  first-told = told m after a parts count (λ b part there. (stand b part there).stands)
+  first-told = told m after a parts count stand
 
   -- the entry that is offered first
   pub choice : option_map chosen (first_offer m a.0 after 0 m.blocks) ≡ option_map chosen_of (first_offered a 0 parts)
@@ -40,9 +40,9 @@ module _ (m : Model) (a : AssocNo) (n moment : ℕ) (past : Past) (parts : List 
 
   pub given : (e : Ends) (o : Offered) (shapes : List MemberShape) (part : ReportBlock) (r : Report) → first_offered a 0 parts ≡ Some o → ends a.0 past ≡ Some e → waiting m a.0 past ≡ [] → slice_get parts o.block ≡ Some part
       → node_numbers shapes ≡ members m o.block past
-      → ((ks : List Kept) → AreKept o.entry.kept ks → r ≡ report_by m shapes part o ks) → taken m a.0 after ≡ given_of a.0 o.block o.next.id r
+      → ((ks : List Kept) → AreFew 256 o.entry.kept ks → r ≡ report_by m shapes part o ks) → taken m a.0 after ≡ given_of a.0 o.block o.next.id r
   given e o shapes part r is opened empty there nodes is_report =
-      rw (opened, empty) (told-given m after a o shapes part r (stand o.block part there).stands nodes is_report (first_offer m a.0 after 0 m.blocks) (first_offered a 0 parts) first-told is)
+      rw (opened, empty) (told-given m after a o shapes part r (stand o.block part there) nodes is_report (first_offer m a.0 after 0 m.blocks) (first_offered a 0 parts) first-told is)
 
 -- an association that isn't open
 pub closed : (m : Model) (a : AssocNo) (n moment : ℕ) (past : Past) → ends a.0 past ≡ None → taken m a.0 (arrival n moment ∷ past) ≡ record { answer = answers.Closed; deed = nothing }

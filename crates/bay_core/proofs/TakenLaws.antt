@@ -30,7 +30,7 @@ use Rattle.assoc_table.specs.Seats.{Row}
 use Rattle.assoc_table.specs.Standing.{Stands as AssociationsStand, ends_of}
 use Rattle.assoc_table.specs.Tables.{IsNumber, row_of}
 use Rattle.report_block.specs.declared.block.ReportBlock.{ReportBlock}
-use Rattle.report_block.specs.Again.{AreKept}
+use Rattle.report_block.specs.Blanks.{AreFew}
 use Rattle.report_block.specs.Offers.{Offered, first_offered}
 use Rattle.report_block.specs.Writes.{reported_by}
 use Rattle.window_core.specs.Points.{at}
@@ -40,16 +40,16 @@ use Rattle.bay_config.specs.Servable.{IsServable}
 use Rattle.bay_core.specs.Standing.{StandsAt, StandsFor}
 use Rattle.bay_core.specs.State.{State}
 use Rattle.bay_core.proofs.MoveLaws.{passed, still, accepted-as}
-use Rattle.bay_core.proofs.PartLaws.{AreLeft, parts-arrive}
+use Rattle.bay_core.proofs.PartLaws.{AreLeft}
 use Rattle.bay_core.proofs.ServedLaws.{served-now}
 use Rattle.bay_core.proofs.ShapeLaws.{served_members}
 use Rattle.bay_core.proofs.TakeLaws.{none, given, closed}
 
 -- after the report of an entry of block b
-pub reported-at : (s : State) (c : Config) (n t a b id : ℕ) (part : ReportBlock) (past : Past) → slice_get s.parts b ≡ Some part → StandsAt s c n past
-    → StandsAt (record s { steps = suc s.steps; latest = max s.latest t; parts = slice_set s.parts b (reported_by id part) }) c (suc n) (at n t (reported a b id) ∷ past)
+pub reported-at : (s : State) (c : Config) (n t a b id : ℕ) (part : ReportBlock) (past : Past) → slice_get s.parts b ≡ Some part → StandsAt s c n (arrival n t ∷ past)
+    → StandsAt (record s { steps = suc s.steps; parts = slice_set s.parts b (reported_by id part) }) c (suc n) (at n t (reported a b id) ∷ past)
 reported-at s c n t a b id part past there st = passed s c n t (reported a b id) past (slice_set s.parts b (reported_by id part))
-    (record { number = tt; puts = λ k. refl; gives = λ k. refl; sets = refl }) (λ x. refl) (record { note = λ k. refl; cuts = λ k. refl; parameters = λ k. refl }) left st
+    (record { number = tt; puts = λ k. refl; gives = λ k. refl; sets = refl }) (λ x. refl) (record { note = λ k. refl; cuts = λ k. refl }) left st
   where
     left : AreLeft (reported a b id) s.parts (slice_set s.parts b (reported_by id part))
     left = λ k q got. elim (got-set s.parts b k (reported_by id part) q got) [
@@ -78,7 +78,9 @@ nobody-told m rows past a st number none = by (row_of rows a).ends (ends a past)
 
 -- ---- a Take is answered, and the bay stands for it
 
-module _ (s new : State) (c : Config) (h : History) (t : ℕ) (actor : ActorNo) (a : AssocNo) (served : IsServable c) (number : IsNumber a.0) (st : StandsFor s c h) where
+-- the second state is that at the arrival of the step
+module _ (s at new : State) (c : Config) (h : History) (t : ℕ) (actor : ActorNo) (a : AssocNo) (served : IsServable c) (number : IsNumber a.0) (st : StandsFor s c h)
+    (here : StandsAt at c (length h) (arrival (length h) t ∷ points (configured_model c) h)) where
   abbrev m : Model
   m = configured_model c
 
@@ -94,7 +96,7 @@ module _ (s new : State) (c : Config) (h : History) (t : ℕ) (actor : ActorNo) 
   abbrev gave : Given → Type 0
   gave g = taken m a.0 (arrival (length h) t ∷ past) ≡ g
 
-  count : length s.parts ≡ length c.blocks → length s.parts ≡ length m.blocks
+  count : length at.parts ≡ length c.blocks → length at.parts ≡ length m.blocks
   count all = all ∙ sym (length-map c.blocks block_defined)
 
   writer-may : (w : ActorNo) → option_map (λ (e : Ends). e.writer) (row_of s.rows a.0).ends ≡ Some w → actor.0 ≡ w.0 → fault m h turn ≡ None
@@ -103,35 +105,35 @@ module _ (s new : State) (c : Config) (h : History) (t : ℕ) (actor : ActorNo) 
       let yours : (actor.0 == e.0.writer) ≡ true = grind (arith, nat_tests, same, e.2) in
       rw (e.1, yours) refl
 
-  nothing-came : (g : Answer) → new ≡ record s { steps = suc s.steps; latest = max s.latest t } → fault m h turn ≡ None → gave (record { answer = g; deed = nothing }) → IsDone g
+  nothing-came : (g : Answer) → new ≡ record at { steps = suc at.steps } → fault m h turn ≡ None → gave (record { answer = g; deed = nothing }) → IsDone g
   nothing-came g is fine came = (
     sym (ap (λ (g : Given). g.answer) came),
-    accepted-as s new (record s { steps = suc s.steps; latest = max s.latest t }) c h turn st fine is
-        (subst (λ (g : Given). StandsAt (record s { steps = suc s.steps; latest = max s.latest t }) c (suc (length h)) (record { moment = t; step = length h; deed = g.deed } ∷ past)) (sym came) (still s c (length h) t past st.1)),
+    accepted-as s new (record at { steps = suc at.steps }) c h turn st fine is
+        (subst (λ (g : Given). StandsAt (record at { steps = suc at.steps }) c (suc (length h)) (record { moment = t; step = length h; deed = g.deed } ∷ past)) (sym came) (still at c (length h) t past here)),
   )
 
-  pub closed-for : new ≡ record s { steps = suc s.steps; latest = max s.latest t } → option_map (λ (e : Ends). e.writer) (row_of s.rows a.0).ends ≡ None → IsDone answers.Closed
+  pub closed-for : new ≡ record at { steps = suc at.steps } → option_map (λ (e : Ends). e.writer) (row_of s.rows a.0).ends ≡ None → IsDone answers.Closed
   closed-for is nobody =
       let shut = nobody-told m s.rows past a.0 st.1.associations number nobody in
       let fine : fault m h turn ≡ None = rw shut refl in
       nothing-came answers.Closed is fine (closed m a (length h) t past shut)
 
-  pub empty-for : (w : ActorNo) → new ≡ record s { steps = suc s.steps; latest = max s.latest t } → option_map (λ (e : Ends). e.writer) (row_of s.rows a.0).ends ≡ Some w → actor.0 ≡ w.0
-      → length s.parts ≡ length c.blocks → first_offered a 0 s.parts ≡ None → IsDone answers.Empty
+  pub empty-for : (w : ActorNo) → new ≡ record at { steps = suc at.steps } → option_map (λ (e : Ends). e.writer) (row_of s.rows a.0).ends ≡ Some w → actor.0 ≡ w.0
+      → length at.parts ≡ length c.blocks → first_offered a 0 at.parts ≡ None → IsDone answers.Empty
   empty-for w is writer same all nothing_left =
       let e = writer-told m s.rows past a.0 w st.1.associations number writer in
-      nothing-came answers.Empty is (writer-may w writer same) (none m a (length h) t past s.parts (count all) (parts-arrive m (length h) t past s.parts st.1.blocks) e.0 nothing_left e.1 (st.1.empty a.0))
+      nothing-came answers.Empty is (writer-may w writer same) (none m a (length h) t past at.parts (count all) here.blocks e.0 nothing_left e.1 (st.1.empty a.0))
 
-  pub given-for : (w : ActorNo) (o : Offered) (shapes : List MemberShape) (part : ReportBlock) (r : Report) → new ≡ record s { steps = suc s.steps; latest = max s.latest t; parts = slice_set s.parts o.block (reported_by o.next.id part) }
-      → option_map (λ (e : Ends). e.writer) (row_of s.rows a.0).ends ≡ Some w → actor.0 ≡ w.0 → length s.parts ≡ length c.blocks → first_offered a 0 s.parts ≡ Some o → slice_get s.parts o.block ≡ Some part
-      → shapes ≡ served_members c part.block.options.dat_set → ((ks : List Kept) → AreKept o.entry.kept ks → r ≡ report_by m shapes part o ks) → IsDone (answers.Taken (outputs.Report r))
+  pub given-for : (w : ActorNo) (o : Offered) (shapes : List MemberShape) (part : ReportBlock) (r : Report) → new ≡ record at { steps = suc at.steps; parts = slice_set at.parts o.block (reported_by o.next.id part) }
+      → option_map (λ (e : Ends). e.writer) (row_of s.rows a.0).ends ≡ Some w → actor.0 ≡ w.0 → length at.parts ≡ length c.blocks → first_offered a 0 at.parts ≡ Some o → slice_get at.parts o.block ≡ Some part
+      → shapes ≡ served_members c part.block.options.dat_set → ((ks : List Kept) → AreFew 256 o.entry.kept ks → r ≡ report_by m shapes part o ks) → IsDone (answers.Taken (outputs.Report r))
   given-for w o shapes part r is writer same all first there are is_report =
       let e = writer-told m s.rows past a.0 w st.1.associations number writer in
-      let dat_set = ap (λ (p : Parameters). p.dat_set) (st.1.blocks o.block part there).stands.block.options in
+      let dat_set = ap (λ (p : Parameters). p.dat_set) (here.blocks o.block part there).block.options in
       let nodes = served-now c served part.block.options.dat_set o.block past shapes are dat_set st.1.sets in
-      let came = given m a (length h) t past s.parts (count all) (parts-arrive m (length h) t past s.parts st.1.blocks) e.0 o shapes part r first e.1 (st.1.empty a.0) there nodes is_report in
-      let after : State = record s { steps = suc s.steps; latest = max s.latest t; parts = slice_set s.parts o.block (reported_by o.next.id part) } in (
+      let came = given m a (length h) t past at.parts (count all) here.blocks e.0 o shapes part r first e.1 (st.1.empty a.0) there nodes is_report in
+      let after : State = record at { steps = suc at.steps; parts = slice_set at.parts o.block (reported_by o.next.id part) } in (
         sym (ap (λ (g : Given). g.answer) came),
         accepted-as s new after c h turn st (writer-may w writer same) is
-            (subst (λ (g : Given). StandsAt after c (suc (length h)) (record { moment = t; step = length h; deed = g.deed } ∷ past)) (sym came) (reported-at s c (length h) t a.0 o.block o.next.id part past there st.1)),
+            (subst (λ (g : Given). StandsAt after c (suc (length h)) (record { moment = t; step = length h; deed = g.deed } ∷ past)) (sym came) (reported-at at c (length h) t a.0 o.block o.next.id part past there here)),
       )

@@ -26,11 +26,11 @@ use Rattle.touch_index.specs.Gathering.{Gathered, no_note, no_trg, note_at, trg_
 use Rattle.report_block.specs.declared.block.ReportBlock.{ReportBlock}
 use Rattle.bay_core.specs.declared.watch.Watch.{Watch}
 use Rattle.report_block.specs.EntryOctets.{IsKeepable}
-use Rattle.report_block.specs.Events.{with_note}
+use Rattle.report_block.specs.Events.{after_noting, pieces_of}
 use Rattle.bay_core.specs.Events.{mentions_of, IsReady}
 use Rattle.bay_core.specs.Written.{index_after}
 use Rattle.bay_core.specs.Watched.{IsIndexed, IsWatching, IsLent, AreBlank, IsNoteOf, members_in, options_in}
-use Rattle.bay_core.proofs.MentionLaws.{noted-keepable, length-noted}
+use Rattle.bay_core.proofs.MentionLaws.{noted-keepable, noted-order, length-noted}
 
 -- another component than DatSet leaves the number of the data set
 abbrev pub KeepsSet : Comp → Option ℕ → Option ℕ → Type 0
@@ -234,12 +234,15 @@ module _ (rows : List NodeRow) (book : Book) where
         lent = ready.lent;
         members = noted-keepable stored changes trg (shapes part) ready.few ready.writable;
         few = omega (arith, length-noted changes trg 1 (shapes part), ready.few);
+        order = noted-order changes trg 0 1 (shapes part) (omega arith);
+        within = ready.within;
+        gathers = ready.gathers;
       })
 
   module _ (stored : List Stored) (moment step : ℕ) where
-    -- a part with the entry of a note
+    -- a part with the event of a note
     abbrev pub noting : List Mention → ReportBlock → ReportBlock
-    noting ms p = with_note stored (shapes p) moment step ms p
+    noting ms p = after_noting moment step (pieces_of stored (shapes p) ms) p
 
     -- part k, with what is left of its note, is to become this
     abbrev pub Left : List ReportBlock → List (Filled Mention) → ℕ → ReportBlock → Type 0
@@ -247,8 +250,12 @@ module _ (rows : List NodeRow) (book : Book) where
 
     -- its data set stays
     lent-stays : (ms : List Mention) (p : ReportBlock) → IsLent rows book p → IsLent rows book (noting ms p)
-    lent-stays [] p is = is
-    lent-stays (m ∷ ms) p is = record { set = is.set; there = is.there }
+    lent-stays ms p is = record { set = is.set; there = is.there }
+
+    -- and the room of what it gathers
+    pub room-stays-after : (ms : List Mention) (p : ReportBlock) → (noting ms p).window.members ≡ p.window.members
+    room-stays-after [] p = refl
+    room-stays-after (m ∷ ms) p = refl
 
     -- the note of part b was kept
     pub left-next : (parts : List ReportBlock) (notes : List (Filled Mention)) (b : ℕ) (part : ReportBlock) (k : ℕ) (target : ReportBlock) → slice_get parts b ≡ Some part → b < length notes
@@ -261,10 +268,18 @@ module _ (rows : List NodeRow) (book : Book) where
       by (inl e) =
           let none : (note_at (with_items b [] notes) k).items ≡ [] = ap (λ j. (note_at (with_items b [] notes) j).items) e ∙ ap (λ (f : Filled Mention). f.items) (get_or-set_same notes b (record { items = []; room = (note_at notes b).room }) no_note below) in
           let same : part ≡ was.0 = some-same part was.0 (sym at ∙ (ap (slice_get parts) (sym e) ∙ was.1)) in
-          let lent = lent-stays (note_at notes b).items part (subst (IsLent rows book) (sym same) was.2.lent) in (
+          let mine = subst (λ (p : ReportBlock). IsNoteOf rows book stored p (note_at notes k).items) (sym same) was.2 in
+          let lent = lent-stays (note_at notes b).items part mine.lent in (
             after,
             ap (slice_get (slice_set parts b after)) e ∙ got-here parts b part after at,
-            subst (IsNoteOf rows book stored after) (sym none) (record { lent = lent; members = All-nil (IsKeepable stored (shapes after)); few = omega arith }),
+            subst (IsNoteOf rows book stored after) (sym none) (record {
+              lent = lent;
+              members = All-nil (IsKeepable stored (shapes after));
+              few = omega arith;
+              order = tt;
+              within = omega (arith, mine.within, room-stays-after (note_at notes b).items part);
+              gathers = omega (arith, mine.gathers, room-stays-after (note_at notes b).items part);
+            }),
             ap (λ ms. noting ms after) none ∙ (ap₂ (λ (p : ReportBlock) j. noting (note_at notes j).items p) same (sym e) ∙ was.3),
           )
       by (inr e) =

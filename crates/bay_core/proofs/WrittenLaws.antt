@@ -1,5 +1,5 @@
 -- The parts fit the configuration after a write of a component.
-use Rattle.std.proofs.Common.{◌≡◌, ◌<◌, ◌∙◌, ℕ, List, Option, Some, length, refl, ap, sym, subst, arith, slice_set}
+use Rattle.std.proofs.Common.{◌≡◌, ◌<◌, ◌≤◌, ◌∙◌, ℕ, List, Option, Some, length, refl, ap, sym, subst, arith, slice_set}
 use Rattle.std.specs.Prelude.{slice_get}
 use Rattle.std.proofs.lemmas.List.{length-map}
 use Rattle.std.proofs.lemmas.Option.{slice_get_within}
@@ -14,7 +14,9 @@ use Rattle.brcb_state.specs.Components.{trg_of}
 use Rattle.value_store.specs.Stored.{Stored}
 use Rattle.touch_index.specs.Indexed.{AreAmong}
 use Rattle.report_block.specs.declared.block.ReportBlock.{ReportBlock}
-use Rattle.report_block.specs.Writes.{write_answer, after_write}
+use Rattle.report_block.specs.Components.{after_writing}
+use Rattle.report_block.specs.Writes.{write_answer}
+use Rattle.window_core.specs.Pieces.{Piece}
 use Rattle.bay_core.specs.declared.watch.Watch.{Watch}
 use Rattle.bay_core.specs.State.{IsFurnished}
 use Rattle.bay_core.specs.Watched.{IsFollowed, members_in}
@@ -32,20 +34,20 @@ pub record IsWrittenAt (c : Config) (stored : List Stored) (book : Book) (parts 
       → IsFurnished c stored book (slice_set parts b new) u octets most
 
 module _ (c : Config) (stored : List Stored) (book : Book) (parts : List ReportBlock) (w : Watch) (octets : Filled ℕ) (most : ℕ) (old : IsFurnished c stored book parts w octets most)
-    (b : ℕ) (part new : ReportBlock) (there : slice_get parts b ≡ Some part) (a : AssocNo) (comp : Comp) (v : Value) (named : Option ℕ) (is_named : named ≡ named_by comp v book) (now step : ℕ)
-    (written : new ≡ after_write a comp v named now step part (write_answer a comp v named part)) where
+    (b : ℕ) (part new : ReportBlock) (there : slice_get parts b ≡ Some part) (a : AssocNo) (comp : Comp) (v : Value) (named : Option ℕ) (all : List Piece) (is_named : named ≡ named_by comp v book) (now step : ℕ)
+    (written : new ≡ after_writing a comp v named now step all part (write_answer a comp v named part)) where
   -- the block has the number of the data set that its DatSet names by then
   has : new.set ≡ number_referred new.block.options.dat_set book
-  has = subst (λ (q : ReportBlock). q.set ≡ number_referred q.block.options.dat_set book) (sym written) (has-set a now step part book comp v named (write_answer a comp v named part) (old.sets b part there) is_named refl)
+  has = subst (λ (q : ReportBlock). q.set ≡ number_referred q.block.options.dat_set book) (sym written) (has-set now step a comp v named all part book (write_answer a comp v named part) (old.sets b part there) is_named refl)
 
   within : b < length parts
   within = slice_get_within parts b part there
 
   keeps : KeepsSet comp part.set new.set
-  keeps = subst (λ (q : ReportBlock). KeepsSet comp part.set q.set) (sym written) (keeps-set a now step part comp v named (write_answer a comp v named part))
+  keeps = subst (λ (q : ReportBlock). KeepsSet comp part.set q.set) (sym written) (keeps-set now step a comp v named all part (write_answer a comp v named part))
 
   rooms : new.window.members ≡ part.window.members
-  rooms = ap (λ (q : ReportBlock). q.window.members) written ∙ windows-stay a now step part comp v named (write_answer a comp v named part)
+  rooms = ap (λ (q : ReportBlock). q.window.members) written ∙ windows-stay now step a comp v named all part (write_answer a comp v named part)
 
   pub written-at : IsWrittenAt c stored book parts w octets most b comp new
   written-at =

@@ -2,6 +2,9 @@
 pub mod State
 pub mod Standing
 pub mod Turns
+-- time
+pub mod Timed
+pub mod Whole
 -- how it begins
 pub mod Opened
 -- what the process sets, and the entries that blocks get of it
@@ -11,5 +14,6 @@ pub mod Events
 pub mod Watched
 -- what a write makes of the data set that a block reports
 pub mod Written
+pub mod Put
 -- losses
 pub mod Parting

@@ -1,32 +1,16 @@
 -- What a bay stands for: a history of accepted steps, by one equation for each part.
-use Rattle.std.specs.Prelude.{◌≡◌, ℕ, List, [], length, Some, slice_get}
+use Rattle.std.specs.Prelude.{◌≡◌, ℕ, [], length}
 use Rattle.sv_base.specs.declared.config.Config.{Config}
-use Rattle.bay_model.specs.Model.{Model, Parameters}
 use Rattle.bay_model.specs.Named.{configured_model}
 use Rattle.bay_model.specs.Points.{Past, now}
-use Rattle.bay_model.specs.Parameters.{parameters_at}
 use Rattle.bay_model.specs.Sets.{dynamic}
 use Rattle.bay_model.specs.Waiting.{waiting}
 use Rattle.bay_model.specs.Answers.{History, points}
 use Rattle.bay_model.specs.Acceptance.{IsHistory}
 use Rattle.value_store.specs.Wholes.{Stands as ValuesStand}
 use Rattle.assoc_table.specs.Standing.{Stands as AssociationsStand}
-use Rattle.report_block.specs.Standing.{Stands as BlockStands}
-use Rattle.report_block.specs.declared.block.ReportBlock.{ReportBlock}
+use Rattle.report_block.specs.Standing.{BlocksStand}
 use Rattle.bay_core.specs.State.{State}
-
--- the buffer time and the integrity period are 0
-pub record AreAtOnce (o : Parameters) : Type 0 where
-  pub buf_tm : o.buf_tm ≡ 0
-  pub intg_pd : o.intg_pd ≡ 0
-
--- block b stands, and reports at once, without an integrity period
-pub record PartStands (c : Model) (b : ℕ) (past : Past) (part : ReportBlock) : Type 0 where
-  pub stands : BlockStands part c b past
-  pub at_once : AreAtOnce (parameters_at c b past)
-
-abbrev pub PartsStand : Model → Past → List ReportBlock → Type 0
-PartsStand c past parts = (b : ℕ) (part : ReportBlock) → slice_get parts b ≡ Some part → PartStands c b past part
 
 -- the state stands for these points of so many steps
 pub record StandsAt (s : State) (c : Config) (count : ℕ) (past : Past) : Type 0 where
@@ -37,7 +21,7 @@ pub record StandsAt (s : State) (c : Config) (count : ℕ) (past : Past) : Type 
   pub associations : AssociationsStand s.rows (configured_model c) past
   pub empty : (a : ℕ) → waiting (configured_model c) a past ≡ []
   pub sets : dynamic past ≡ []
-  pub blocks : PartsStand (configured_model c) past s.parts
+  pub blocks : BlocksStand (configured_model c) past s.parts
 
 -- the state stands for this history of accepted steps, with this configuration
 abbrev pub StandsFor : State → Config → History → Type 0

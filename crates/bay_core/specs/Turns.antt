@@ -2,7 +2,6 @@
 use Rattle.std.specs.Prelude.{◌≡◌, suc, ◌∷◌, Bool, true, false, Option, None, Some, Result, Ok, Err}
 use Rattle.sv_base.specs.declared.config.Config.{Config}
 use Rattle.bay_model.specs.declared.answer.Answer.{Answer}
-use Rattle.bay_model.specs.declared.components.Comp.TheVariants as comps
 use Rattle.bay_model.specs.declared.step.Step.{Step}
 use Rattle.bay_model.specs.declared.step.Step.TheVariants as steps
 use Rattle.bay_model.specs.Named.{configured_model}
@@ -13,14 +12,11 @@ use Rattle.bay_core.specs.declared.fault.StepFault.TheVariants as faults
 use Rattle.bay_core.specs.State.{State}
 use Rattle.bay_core.specs.Standing.{StandsFor}
 
--- the steps that a bay takes: a write is one of any component but BufTm, IntgPd and GI
+-- the steps that a bay takes
 abbrev pub IsBuilt : Step → Type 0
 IsBuilt (steps.Ask a r) = ⊥
 IsBuilt (steps.Done k good) = ⊥
 IsBuilt (steps.Block k flag) = ⊥
-IsBuilt (steps.Write a b comps.BufTm v) = ⊥
-IsBuilt (steps.Write a b comps.IntgPd v) = ⊥
-IsBuilt (steps.Write a b comps.GI v) = ⊥
 IsBuilt _ = Unit {0}
 
 -- the fault that a refusal names; want of memory is no fault of the step

@@ -16,6 +16,7 @@ use Rattle.touch_index.specs.Gathering.{Gathered, note_at, AreEmpty}
 use Rattle.report_block.specs.declared.block.ReportBlock.{ReportBlock}
 use Rattle.bay_core.specs.declared.watch.Watch.{Watch}
 use Rattle.report_block.specs.EntryOctets.{IsKeepable}
+use Rattle.report_block.specs.Events.{AreInOrder}
 
 -- the shapes of the members of a data set by its number, and of a block's data set
 abbrev pub members_at : List NodeRow → Book → ℕ → List MemberShape
@@ -70,8 +71,11 @@ pub record IsFollowed (rows : List NodeRow) (book : Book) (w : Watch) (b : ℕ) 
   pub few : length (members_in rows book part) ≤ 256
   pub among : AreAmong w.index.attrs (members_in rows book part)
 
--- a note whose members are of the data set of the part, and can be written
+-- a note whose members are of the data set of the part, in its order, and can be written and gathered
 pub record IsNoteOf (rows : List NodeRow) (book : Book) (stored : List Stored) (part : ReportBlock) (note : List Mention) : Type 0 where
   pub lent : IsLent rows book part
   pub members : All (IsKeepable stored (members_in rows book part)) note
   pub few : length note ≤ 256
+  pub order : AreInOrder 0 note
+  pub within : length (members_in rows book part) ≤ part.window.members
+  pub gathers : part.window.members ≤ 256

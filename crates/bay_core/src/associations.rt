@@ -22,18 +22,28 @@ fn lose_all(parts: &mut Vec<ReportBlock>, a: AssocNo)
 }
 
 impl Bay {
-    ghost use Rattle.std.specs.Prelude.{◌≡◌, ◌<◌, ◌^◌, suc, max};
+    ghost use Rattle.std.specs.Prelude.{◌≡◌, ◌<◌, ◌^◌, None};
     ghost use Rattle.bay_model.specs.declared.step.Step.TheVariants as steps;
-    ghost use Rattle.assoc_table.specs.Tables.{IsNumber};
+    ghost use Rattle.assoc_table.specs.Tables.{IsNumber, ended, row_of, started};
+    ghost use Rattle.bay_core.specs.Parting.{after_loss_all};
     ghost use Rattle.bay_core.specs.Turns.{Does, IsCounted, KeepsLean};
 
-    /// One more step was made, at a moment.
-    pub(crate) fn advance(&mut self, moment: Moment)
-        requires { self.old.steps < 2 ^ 62 }
-        ensures { self.new ≡ record self.old { steps = suc self.old.steps; latest = max self.old.latest moment } }
+    /// An association begins.
+    fn start(&mut self, a: AssocNo, ends: Ends)
+        requires number { IsNumber a.0 }
+        requires closed { (row_of self.old.rows a.0).ends ≡ None }
+        ensures { self.new ≡ record self.old { rows = started self.old.rows a.0 ends } }
     {
-        self.steps += 1;
-        self.latest = self.latest.later(moment);
+        self.associations.start(a, ends);
+    }
+
+    /// An association ends, and with it what it has enabled.
+    fn end(&mut self, a: AssocNo)
+        requires { IsNumber a.0 }
+        ensures { self.new ≡ record self.old { rows = ended self.old.rows a.0; parts = after_loss_all a self.old.parts } }
+    {
+        self.associations.end(a);
+        lose_all(&mut self.parts, a);
     }
 
     /// Time passes.
@@ -43,7 +53,8 @@ impl Bay {
         ensures counted { IsCounted self.old self.new result }
         ensures lean { KeepsLean steps.Tick result }
     {
-        self.advance(moment);
+        self.arrive(moment);
+        self.count();
         Ok(Answer::Went)
     }
 
@@ -65,7 +76,8 @@ impl Bay {
             return Err(StepFault::IsOpen(a));
         }
         let opener = actor;
-        self.associations.start(
+        self.arrive(moment);
+        self.start(
             a,
             Ends {
                 opener,
@@ -73,7 +85,7 @@ impl Bay {
                 size,
             },
         );
-        self.advance(moment);
+        self.count();
         Ok(Answer::Opened)
     }
 
@@ -99,9 +111,9 @@ impl Bay {
         if actor.0 != opener.0 && actor.0 != writer.0 {
             return Err(StepFault::NotYours(a));
         }
-        self.associations.end(a);
-        lose_all(&mut self.parts, a);
-        self.advance(moment);
+        self.arrive(moment);
+        self.end(a);
+        self.count();
         Ok(Answer::Went)
     }
 }

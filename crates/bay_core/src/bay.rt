@@ -6,7 +6,7 @@ use assoc_table::Assocs;
 use bay_model::{Answer, Change, Fixed, Output, Report};
 use data_sets::SetBook;
 use object_model::Model;
-use report_block::ReportBlock;
+use report_block::{EventRoom, ReportBlock};
 use sv_base::{AssocNo, Moment};
 
 /// A bay: its configuration and all that its steps came to. Contracts see the state that `specs/` defines.
@@ -19,11 +19,14 @@ pub struct Bay {
     /// The data sets that are there: a report block holds the number of its own.
     pub(crate) sets: SetBook,
     pub(crate) parts: Vec<ReportBlock>,
+    /// Before this moment, in milliseconds since 1970, no block has anything due; none where no block ever has.
+    pub(crate) due: Option<u64>,
     pub(crate) associations: Assocs,
     /// The members of all data sets by their attributes, with the notes of the step that is being made.
     pub(crate) watch: Watch,
-    /// The changes of the step that is being made; of no account between steps, as are the octets of an entry.
+    /// The changes of the step that is being made; of no account between steps, as are the octets of an event and of an entry.
     pub(crate) changes: Vec<Change>,
+    pub(crate) events: EventRoom,
     pub(crate) octets: Fixed,
     /// A report that is no longer needed, in whose memory the next one is written; of no account either.
     pub(crate) spare: Option<Report>,
@@ -34,7 +37,8 @@ impl std::marker::Model for Bay {
     ghost use Rattle.std.specs.Coded.{codes};
     ghost use Rattle.sv_base.specs.Tree.{row_code};
     ghost use Rattle.sv_base.specs.Types.{fields_code};
-    ghost use Rattle.bay_core.specs.State.{State, IsFurnished};
+    ghost use Rattle.bay_core.specs.State.{State};
+    ghost use Rattle.bay_core.specs.Whole.{IsWhole};
 
     ghost Value = { State };
 
@@ -42,7 +46,7 @@ impl std::marker::Model for Bay {
 
     ghost view = { λ b. record { config = b.model; steps = b.steps; latest = b.latest; stored = b.values; parts = b.parts.items; rows = b.associations } };
 
-    ghost invariant = { λ b. IsFurnished b.model b.values b.sets b.parts.items b.watch b.octets (vec_capacity b.changes) };
+    ghost invariant = { λ b. IsWhole b.model b.values b.sets b.parts.items b.watch b.octets (vec_capacity b.changes) b.latest b.due b.events };
 }
 
 impl Bay {

@@ -15,6 +15,7 @@ mod laws;
 mod setting;
 mod step;
 mod taking;
+mod time;
 mod writing;
 
 pub use bay::Bay;

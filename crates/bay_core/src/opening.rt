@@ -6,6 +6,7 @@ ghost use Rattle.object_model.specs.Tables.{set_rows};
 ghost use Rattle.data_sets.specs.Books.{largest, opened as booked};
 ghost use Rattle.assoc_table.specs.Seats.{closed};
 ghost use Rattle.value_store.specs.Opened.{opened};
+ghost use Rattle.report_block.specs.Events.{HasRoom};
 ghost use Rattle.bay_config.specs.Servable.{IsServable, IsServedBlock};
 ghost use Rattle.bay_core.specs.Standing.{StandsFor};
 ghost use Rattle.bay_core.specs.Watched.{IsWatching};
@@ -18,7 +19,7 @@ use assoc_table::Assocs;
 use bay_model::{Change, Fixed};
 use data_sets::SetBook;
 use object_model::Model;
-use report_block::ReportBlock;
+use report_block::{EventRoom, ReportBlock};
 use std::alloc::{AllocError, Global};
 use sv_base::{BlockDef, Moment};
 
@@ -61,6 +62,7 @@ struct Made {
     associations: Assocs,
     watch: Watch,
     changes: Vec<Change>,
+    events: EventRoom,
     octets: Fixed,
 }
 
@@ -73,6 +75,7 @@ fn parts_made(alloc: Global, model: &Model) -> Result<Made, AllocError>
     ensures parts { IfOk result (λ m. map seen m.parts.items ≡ map (part_defined (booked (set_rows model.now))) model.now.blocks) }
     ensures associations { IfOk result (λ m. m.associations ≡ replicate 16 closed) }
     ensures watch { IfOk result (λ m. IsWatching (node_rows model.now) m.sets (length m.values) m.parts.items m.watch) }
+    ensures events { IfOk result (λ m. HasRoom 256 m.events) }
     ensures octets { IfOk result (λ m. m.octets.room ≡ 129024) }
     ensures changes { IfOk result (λ m. length m.values ≤ vec_capacity m.changes) }
 {
@@ -91,6 +94,7 @@ fn parts_made(alloc: Global, model: &Model) -> Result<Made, AllocError>
         associations: Assocs::open(alloc)?,
         watch,
         changes,
+        events: EventRoom::new(alloc, 256)?,
         octets: Fixed::new(alloc, 129024)?,
     })
 }
@@ -103,6 +107,7 @@ fn begun(model: Model, made: Made) -> Bay
     requires parts { map seen made.parts.items ≡ map (part_defined (booked (set_rows model))) model.blocks }
     requires associations { made.associations ≡ replicate 16 closed }
     requires watch { IsWatching (node_rows model) made.sets (length made.values) made.parts.items made.watch }
+    requires events { HasRoom 256 made.events }
     requires octets { made.octets.room ≡ 129024 }
     requires changes { length made.values ≤ vec_capacity made.changes }
     ensures config { result.config ≡ model }
@@ -116,9 +121,11 @@ fn begun(model: Model, made: Made) -> Bay
         values: made.values,
         sets: made.sets,
         parts: made.parts,
+        due: Some(0),
         associations: made.associations,
         watch: made.watch,
         changes: made.changes,
+        events: made.events,
         octets: made.octets,
         spare: None,
     }

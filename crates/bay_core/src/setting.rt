@@ -1,13 +1,14 @@
 //! What the process sets, and the entries that the report blocks get of it.
 
-ghost use Rattle.std.specs.Prelude.{◌≡◌, ◌<◌, ℕ, Some, length, slice_get};
+ghost use Rattle.std.specs.Prelude.{◌≡◌, ◌<◌, ◌⊎◌, ℕ, Some, length, slice_get};
 ghost use Rattle.std.specs.List.{All};
 ghost use Rattle.bay_model.specs.declared.flags.Change.{Change as ChangeValue};
 ghost use Rattle.touch_index.specs.Gathered.{AreOnce};
 ghost use Rattle.touch_index.specs.Gathering.{note_at, AreEmpty};
 ghost use Rattle.report_block.specs.declared.block.ReportBlock.{ReportBlock as PartValue};
-ghost use Rattle.report_block.specs.Events.{with_note};
+ghost use Rattle.report_block.specs.Events.{HasRoom, after_noting, pieces_of};
 ghost use Rattle.bay_core.specs.Events.{AreReady, after_events};
+ghost use Rattle.bay_core.specs.Timed.{IsQuietUntil};
 ghost use Rattle.bay_core.specs.Watched.{IsNoteOf, IsWatching, AreBlank, members_in};
 
 use crate::bay::Bay;
@@ -15,40 +16,48 @@ use crate::fault::StepFault;
 use crate::source::Source;
 use crate::watch::Watch;
 use bay_model::{Answer, Change, Fixed, Note, Sets};
-use report_block::ReportBlock;
+use report_block::{EventRoom, ReportBlock, earliest};
 use sv_base::{ActorNo, Moment};
 use touch_index::Notes;
 
-/// Each block whose note has a member gets its entry, and the notes are emptied. It takes no memory.
+/// Each block whose note has a member takes in its event, and the notes are emptied. Gives the least moment at which one of them has
+/// something due then, in milliseconds since 1970. It takes no memory.
 fn keep_all(
     parts: &mut Vec<ReportBlock>,
     source: &Source<'_>,
     moment: Moment,
     step: u64,
     notes: &mut Notes,
+    events: &mut EventRoom,
     octets: &mut Fixed,
-)
+) -> Option<u64>
     requires count { length notes.old.notes ≡ length parts.old.items }
     requires notes { (b : ℕ) (part : PartValue) → slice_get parts.old.items b ≡ Some part → IsNoteOf source.now.rows.now source.now.book.now source.now.store.now part (note_at notes.old.notes b).items }
+    requires events { HasRoom 256 events.old }
     requires entry { octets.old.room ≡ 129024 }
     ensures parts { length parts.new.items ≡ length parts.old.items }
-    ensures kept { (b : ℕ) (part : PartValue) → slice_get parts.old.items b ≡ Some part → slice_get parts.new.items b ≡ Some (with_note source.now.store.now (members_in source.now.rows.now source.now.book.now part) moment step (note_at notes.old.notes b).items part) }
+    ensures kept { (b : ℕ) (part : PartValue) → slice_get parts.old.items b ≡ Some part → slice_get parts.new.items b ≡ Some (after_noting moment step (pieces_of source.now.store.now (members_in source.now.rows.now source.now.book.now part) (note_at notes.old.notes b).items) part) }
+    ensures quiet { (b : ℕ) (part : PartValue) → slice_get parts.new.items b ≡ Some part → (slice_get parts.old.items b ≡ Some part) ⊎ IsQuietUntil moment result part }
     ensures empty { AreEmpty notes.new.notes }
     ensures count { length notes.new.notes ≡ length notes.old.notes }
     ensures rooms { (b : ℕ) → (note_at notes.new.notes b).room ≡ (note_at notes.old.notes b).room }
+    ensures events { HasRoom 256 events.new }
     ensures entry { octets.new.room ≡ 129024 }
 {
+    let mut due = None;
     while let Some(b) = notes.last() {
         let part = &mut parts[b.0 as usize];
         let set = source.book.view(part.set(), source.rows);
         let note = notes.note(b).as_slice();
-        part.keep_at_once(source.store, &set, moment, step, note, octets);
+        part.event(source.store, &set, note, moment, step, events, octets);
+        due = earliest(due, part.due_at(moment));
         notes.clear_last();
     }
+    due
 }
 
-/// Some attributes were set: each block whose data set they are in gets the entry of its events (IEC 61850-7-2, TrgOps);
-/// no other is looked at. It takes no memory.
+/// Some attributes were set: each block whose data set they are in takes in its event (IEC 61850-7-2, TrgOps); no other is looked
+/// at. Gives the least moment at which one of those has something due then, in milliseconds since 1970. It takes no memory.
 fn event_all(
     parts: &mut Vec<ReportBlock>,
     watch: &mut Watch,
@@ -56,22 +65,34 @@ fn event_all(
     changes: &[Change],
     moment: Moment,
     step: u64,
+    events: &mut EventRoom,
     octets: &mut Fixed,
-)
+) -> Option<u64>
     requires ready { AreReady source.now.rows.now source.now.book.now source.now.store.now parts.old.items }
     requires watching { IsWatching source.now.rows.now source.now.book.now (length source.now.store.now) parts.old.items watch.old }
     requires attrs { All (λ (ch : ChangeValue). ch.attr.0 < length source.now.store.now) changes.now }
     requires once { AreOnce changes.now }
+    requires events { HasRoom 256 events.old }
     requires entry { octets.old.room ≡ 129024 }
     ensures parts { parts.new.items ≡ after_events source.now.rows.now source.now.book.now source.now.store.now changes.now moment step parts.old.items }
+    ensures quiet { (b : ℕ) (part : PartValue) → slice_get parts.new.items b ≡ Some part → (slice_get parts.old.items b ≡ Some part) ⊎ IsQuietUntil moment result part }
     ensures watch { watch.new ≡ record watch.old { notes = watch.new.notes } }
     ensures blank { AreBlank (length parts.old.items) watch.new.notes }
+    ensures events { HasRoom 256 events.new }
     ensures entry { octets.new.room ≡ 129024 }
 {
     watch
         .index
         .gather(changes, &watch.options, &mut watch.notes);
-    keep_all(parts, source, moment, step, &mut watch.notes, octets);
+    keep_all(
+        parts,
+        source,
+        moment,
+        step,
+        &mut watch.notes,
+        events,
+        octets,
+    )
 }
 
 impl Bay {
@@ -80,8 +101,7 @@ impl Bay {
     ghost use Rattle.object_model.specs.Fits.{fits as fits_in};
     ghost use Rattle.bay_core.specs.Turns.{Does, IsCounted, KeepsLean};
 
-    /// The process sets attributes (IEC 61850-7-2, DataAttribute), and each block gets the entry of its events. It takes no
-    /// memory.
+    /// The process sets attributes (IEC 61850-7-2, DataAttribute), and each block takes in its event. It takes no memory.
     pub(crate) fn set(
         &mut self,
         moment: Moment,
@@ -94,6 +114,7 @@ impl Bay {
         ensures counted { IsCounted self.old self.new result }
         ensures lean { KeepsLean (steps.Value sets.now) result }
     {
+        self.arrive(moment);
         self.changes.clear();
         self.values
             .set(&self.model, sets.as_slice(), &mut self.changes);
@@ -102,16 +123,18 @@ impl Bay {
             book: &self.sets,
             rows: self.model.nodes().as_slice(),
         };
-        event_all(
+        let due = event_all(
             &mut self.parts,
             &mut self.watch,
             &source,
             self.changes.as_slice(),
-            self.latest.later(moment),
+            self.latest,
             self.steps,
+            &mut self.events,
             &mut self.octets,
         );
-        self.advance(moment);
+        self.due = earliest(self.due, due);
+        self.count();
         Ok(Answer::Went)
     }
 }

@@ -17,8 +17,6 @@ impl Bay {
     /// (IsOpen); a write or a loss of one that isn't open (NotOpen); a write by another than the opener, a take by another
     /// than the writer of an open one, and a loss by neither (NotYours). A refused step changes nothing and isn't counted,
     /// for want of memory too.
-    ///
-    /// Of the components of a block all are written but BufTm, IntgPd and GI.
     pub fn step(
         &mut self,
         alloc: Global,

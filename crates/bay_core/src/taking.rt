@@ -3,15 +3,22 @@
 use crate::bay::Bay;
 use crate::fault::StepFault;
 use crate::source::set_of;
+use crate::time::has_come;
 use bay_model::{Answer, Output};
-use report_block::{empty_report, first_offer, report_of};
+use report_block::{Blank, empty_report, first_offer, longest_text, report_of};
 use std::alloc::Global;
 use sv_base::{ActorNo, AssocNo, Moment};
 
+/// How many members a data set, and so a report, has at most.
+const MOST_MEMBERS: u32 = 256;
+
 impl Bay {
-    ghost use Rattle.std.specs.Prelude.{◌<◌, ◌^◌};
+    ghost use Rattle.std.specs.Prelude.{◌≡◌, ◌<◌, ◌^◌, Some, max};
+    ghost use Rattle.std.specs.Option.{option_map};
     ghost use Rattle.bay_model.specs.declared.step.Step.TheVariants as steps;
-    ghost use Rattle.assoc_table.specs.Tables.{IsNumber};
+    ghost use Rattle.assoc_table.specs.declared.waiting.Ends.{Ends};
+    ghost use Rattle.assoc_table.specs.Tables.{IsNumber, row_of};
+    ghost use Rattle.bay_core.specs.Timed.{at_arrival};
     ghost use Rattle.bay_core.specs.Turns.{Does, IsCounted};
 
     /// The writer of an association takes the report that comes next.
@@ -28,14 +35,38 @@ impl Bay {
         ensures counted { IsCounted self.old self.new result }
     {
         let Some(writer) = self.associations.writer(a) else {
-            self.advance(moment);
+            self.arrive(moment);
+            self.count();
             return Ok(Answer::Closed);
         };
         if actor.0 != writer.0 {
             return Err(StepFault::NotYours(a));
         }
+        if has_come(self.due, self.latest.later(moment)) {
+            self.take_due(alloc, moment, actor, a)
+        } else {
+            self.take_quiet(alloc, moment, actor, a)
+        }
+    }
+
+    /// The writer takes at a moment at which no block has anything due: the report is made before the step.
+    fn take_quiet(
+        &mut self,
+        alloc: Global,
+        moment: Moment,
+        actor: ActorNo,
+        a: AssocNo,
+    ) -> Result<Answer, StepFault>
+        requires number { IsNumber a.0 }
+        requires few { self.old.steps < 2 ^ 62 }
+        requires writer { option_map (λ (e : Ends). e.writer) (row_of self.old.rows a.0).ends ≡ Some actor }
+        requires quiet { at_arrival moment self.old ≡ record self.old { latest = max self.old.latest moment } }
+        ensures does { Does self.old self.new (record { moment = moment; actor = actor.0; step = steps.Take a }) result }
+        ensures counted { IsCounted self.old self.new result }
+    {
         let Some(offer) = first_offer(&self.parts, a) else {
-            self.advance(moment);
+            self.arrive(moment);
+            self.count();
             return Ok(Answer::Empty);
         };
         let spare = self.spare.take().unwrap_or_else(|| empty_report(alloc));
@@ -47,8 +78,44 @@ impl Bay {
         };
         let block = offer.block;
         let id = offer.next.id;
+        self.arrive(moment);
         self.parts[block].sent(id);
-        self.advance(moment);
+        self.count();
+        Ok(Answer::Taken(Output::Report(report)))
+    }
+
+    /// The writer takes at a moment at which a block has something due: the room for a report of the largest sizes is made before the
+    /// step; then time passes, and the report is put into that room.
+    fn take_due(
+        &mut self,
+        alloc: Global,
+        moment: Moment,
+        actor: ActorNo,
+        a: AssocNo,
+    ) -> Result<Answer, StepFault>
+        requires number { IsNumber a.0 }
+        requires few { self.old.steps < 2 ^ 62 }
+        requires writer { option_map (λ (e : Ends). e.writer) (row_of self.old.rows a.0).ends ≡ Some actor }
+        ensures does { Does self.old self.new (record { moment = moment; actor = actor.0; step = steps.Take a }) result }
+        ensures counted { IsCounted self.old self.new result }
+    {
+        let spare = self.spare.take().unwrap_or_else(|| empty_report(alloc));
+        let texts = longest_text(&self.parts);
+        let Ok(blank) = Blank::open(alloc, spare, texts, MOST_MEMBERS) else {
+            return Err(StepFault::Memory);
+        };
+        self.arrive(moment);
+        let Some(offer) = first_offer(&self.parts, a) else {
+            self.count();
+            return Ok(Answer::Empty);
+        };
+        let part = &self.parts[offer.block];
+        let set = set_of(&self.sets, &self.model, part);
+        let report = blank.filled(&self.model, part, &set, &offer);
+        let block = offer.block;
+        let id = offer.next.id;
+        self.parts[block].sent(id);
+        self.count();
         Ok(Answer::Taken(Output::Report(report)))
     }
 }

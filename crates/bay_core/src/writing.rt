@@ -5,8 +5,10 @@ ghost use Rattle.bay_core.specs.Written.{named_by};
 
 use crate::bay::Bay;
 use crate::fault::StepFault;
+use crate::source::set_of;
 use bay_model::{Answer, Comp};
 use data_sets::SetBook;
+use report_block::{Written, earliest};
 use sv_base::{ActorNo, AssocNo, BlockNo, Moment, Value};
 
 /// The number of the data set that a written DatSet names; none where it names none, and where another component is written.
@@ -20,10 +22,48 @@ fn set_named(book: &SetBook, comp: Comp, value: &Value) -> Option<usize>
 }
 
 impl Bay {
-    ghost use Rattle.std.specs.Prelude.{◌≡◌, ◌<◌, ◌^◌, length};
+    ghost use Rattle.std.specs.Prelude.{◌≡◌, ◌<◌, ◌^◌, Some, length, slice_get};
+    ghost use Rattle.report_block.specs.declared.block.ReportBlock.{ReportBlock as ReportBlockValue};
+    ghost use Rattle.report_block.specs.Writes.{without_effect};
+    ghost use Rattle.bay_core.specs.Put.{answer_at, written_at, AreGeneral};
     ghost use Rattle.bay_model.specs.declared.step.Step.TheVariants as steps;
     ghost use Rattle.assoc_table.specs.Tables.{IsNumber};
-    ghost use Rattle.bay_core.specs.Turns.{Does, IsCounted, IsBuilt, KeepsLean};
+    ghost use Rattle.bay_core.specs.Turns.{Does, IsCounted, KeepsLean};
+
+    /// An association writes a component of a block, at the moment that time has come to. It takes no memory.
+    fn write_at_arrival(
+        &mut self,
+        a: AssocNo,
+        b: BlockNo,
+        comp: Comp,
+        value: &Value,
+    ) -> Result<(), u8>
+        requires { b.0 < length self.old.parts }
+        ensures kept { (self.new.config ≡ self.old.config) × (self.new.steps ≡ self.old.steps) }
+        ensures answer { (part : ReportBlockValue) → slice_get self.old.parts b.0 ≡ Some part → result ≡ without_effect (answer_at a comp value.now part self.old) }
+        ensures written { (part : ReportBlockValue) → slice_get self.old.parts b.0 ≡ Some part → self.new ≡ written_at a b.0 comp value.now part self.old }
+        ensures general { (part : ReportBlockValue) → slice_get self.old.parts b.0 ≡ Some part → AreGeneral a b.0 comp value.now part self.old }
+    {
+        let written = Written {
+            by: a,
+            comp,
+            value,
+            named: set_named(&self.sets, comp, value),
+        };
+        let part = &mut self.parts[b.0 as usize];
+        let set = set_of(&self.sets, &self.model, part);
+        let answer = part.write_any(
+            &written,
+            self.values.store(),
+            &set,
+            self.latest,
+            self.steps,
+            &mut self.octets,
+        );
+        self.watch.follow(b, comp, part, &self.sets, &self.model);
+        self.due = earliest(self.due, part.due_at(self.latest));
+        answer
+    }
 
     /// An association writes a component of a block. It takes no memory.
     pub(crate) fn write(
@@ -37,7 +77,6 @@ impl Bay {
     ) -> Result<Answer, StepFault>
         requires number { IsNumber a.0 }
         requires block { b.0 < length self.old.config.blocks }
-        requires built { IsBuilt (steps.Write a b comp value.now) }
         requires few { self.old.steps < 2 ^ 62 }
         ensures does { Does self.old self.new (record { moment = moment; actor = actor.0; step = steps.Write a b comp value.now }) result }
         ensures counted { IsCounted self.old self.new result }
@@ -49,20 +88,9 @@ impl Bay {
         if actor.0 != opener.0 {
             return Err(StepFault::NotYours(a));
         }
-        let now = self.latest.later(moment);
-        let named = set_named(&self.sets, comp, value);
-        let answer = self.parts[b.0 as usize].write(
-            a,
-            comp,
-            value,
-            named,
-            now,
-            self.steps,
-            &mut self.octets,
-        );
-        let part = &self.parts[b.0 as usize];
-        self.watch.follow(b, comp, part, &self.sets, &self.model);
-        self.advance(moment);
+        self.arrive(moment);
+        let answer = self.write_at_arrival(a, b, comp, value);
+        self.count();
         Ok(Answer::Wrote(answer))
     }
 }

@@ -1,20 +1,21 @@
 -- A reference that reaches an attribute, and for which at most 500 octets are counted, is that of a node fit to be a member.
-use Rattle.std.proofs.Common.{◌≡◌, ℕ, suc, ◌<◌, ◌≤◌, ◌⊎◌, inl, inr, Bool, true, ◌||◌, List, [], ◌∷◌, ◌++◌, length, map, unwrap_or, refl, sym, ap, subst, ◌∙◌, arith, append_assoc, append-nil}
+use Rattle.std.proofs.Common.{◌≡◌, ℕ, suc, ◌<◌, ◌≤◌, ◌⊎◌, inl, inr, Bool, true, false, ◌||◌, List, [], ◌∷◌, ◌++◌, length, map, unwrap_or, refl, sym, ap, subst, ◌∙◌, arith, append_assoc, append-nil}
 use Rattle.std.specs.List.{list_any}
 use Rattle.std.specs.Str.{bytes_eq}
 use Rattle.std.proofs.lemmas.Bool.{or_cases}
 use Rattle.list_laws.proofs.Distinct.{octets_same}
 use Rattle.sv_base.specs.declared.config.Config.{Config}
 use Rattle.sv_base.specs.declared.config.AttrDef.{AttrDef}
-use Rattle.bay_model.specs.Model.{Node, attribute}
-use Rattle.bay_model.specs.Lookups.{reference_of}
+use Rattle.bay_model.specs.Model.{Node, attribute, structure, none, several}
+use Rattle.bay_model.specs.Lookups.{node_of, reference_of}
+use Rattle.bay_model.specs.Reports.{reference_at}
 use Rattle.bay_model.specs.Attributes.{attributes}
 use Rattle.bay_model.specs.Generated.{Named, end_named}
 use Rattle.bay_model.specs.NamedLines.{path_item}
 use Rattle.bay_model.specs.NamedLines as named
 use Rattle.bay_model.specs.NameTree.{longest, grown, below}
 use Rattle.bay_model.specs.Places.{Place, places, node_at, constraint, member_constraints}
-use Rattle.bay_model.specs.Named.{places_in, nodes, member_number}
+use Rattle.bay_model.specs.Named.{places_in, nodes, member_number, configured_model}
 use Rattle.cfg_lines.specs.Keys.{is_among}
 use Rattle.cfg_lines.specs.Paths.{above}
 use Rattle.cfg_lines.specs.Sizes.{children}
@@ -22,7 +23,7 @@ use Rattle.text_words.specs.Names.{is_fc}
 use Rattle.text_words.specs.Names.{is_name}
 use Rattle.cfg_lines.specs.Nodes.{reaches}
 use Rattle.bay_config.specs.Servable.{IsMember, attr_type}
-use Rattle.list_laws.proofs.Among.{Among, At, of-each, at-among, among-at, spread, mapped, source, some-passes, heads, tails}
+use Rattle.list_laws.proofs.Among.{Among, At, of-each, at-get, at-among, among-at, spread, mapped, source, some-passes, heads, tails}
 use Rattle.text_configs.proofs.JoinedLaws.{ArePlain, joined, first, rest, first-joined, rest-joined, joined-longer, same-joined}
 use Rattle.text_configs.proofs.NamedLaws.{bytes-same}
 use Rattle.text_configs.proofs.EntryLaws.{named_of}
@@ -173,6 +174,14 @@ module _ (c : Config) (told : IsTold c) where
       by ln fc b more e item =
           let known : is_fc fc ≡ true = ap is_fc (sym (same-constraint h.attr ln fc b more h.go.more (h.go.is ∙ ap (λ l. l ++ h.go.more) e))) ∙ (told.attrs h.attr (at-among h.number h.attr c.attrs h.at)).constraint in
           fit d p ln fc b more known (subst ArePlain e (path-plain s.item s.path)) j (item ∙ ap joined e) (omega (arith, few, ap (λ (x : List ℕ). counted c told.attrs told.beside 10 x) is))
+
+  -- the node that such a reference has, has it
+  pub member-reference : (r : List ℕ) → IsReference r → reaches (map key_of c.attrs) r ≡ true → reference_at (configured_model c) (member_number (nodes c) r) ≡ r
+  member-reference r s reach =
+      let f = first-node r s (reached r s reach) in
+      let number : member_number (nodes c) r ≡ f.number = ap (λ o. unwrap_or o 0) f.is in
+      let node : node_of (configured_model c) f.number ≡ f.element = ap (λ o. unwrap_or o (record { domain = []; item = []; role = several; tree = structure none; attrs = []; allowed = false })) (at-get f.number f.element (nodes c) f.at) in
+      ap (reference_at (configured_model c)) number ∙ (ap (λ (n : Node). reference_of n.domain n.item) node ∙ sym (octets_same r (reference_of f.element.domain f.element.item) f.passes))
 
   pub member : (r : List ℕ) → IsReference r → reaches (map key_of c.attrs) r ≡ true → counted c told.attrs told.beside 10 r ≤ 500 → IsMember c (member_number (nodes c) r)
   member r s reach few =

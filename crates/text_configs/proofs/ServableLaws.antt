@@ -1,5 +1,5 @@
 -- What a configuration's text spells can be served by a bay.
-use Rattle.std.proofs.Common.{◌≡◌, ℕ, ◌-◌, ◌≤◌, Bool, true, false, not, ◌||◌, List, [], ◌∷◌, map, nat_lt, is_some, position, refl, sym, ap, subst, ◌∙◌, arith, true≢false, if◌then◌else◌}
+use Rattle.std.proofs.Common.{◌≡◌, ℕ, ◌-◌, ◌≤◌, Bool, true, false, not, ◌||◌, List, [], ◌∷◌, length, map, nat_lt, is_some, position, refl, sym, ap, subst, ◌∙◌, arith, true≢false, if◌then◌else◌}
 use Rattle.std.specs.List.{All}
 use Rattle.std.specs.Str.{bytes_eq}
 use Rattle.std.proofs.lemmas.Bool.{and_parts}
@@ -9,21 +9,21 @@ use Rattle.std.proofs.lemmas.List.Elements.{All-nil}
 use Rattle.sv_base.specs.declared.config.Config.{Config}
 use Rattle.sv_base.specs.declared.config.AttrDef.{AttrDef}
 use Rattle.sv_base.specs.declared.config.SetDef.{SetDef}
-use Rattle.sv_base.specs.declared.config.BlockDef.{BlockDef}
 use Rattle.sv_base.specs.declared.config.CtlDef.{CtlDef}
 use Rattle.bay_model.specs.Configured.{groups_defined}
 use Rattle.bay_model.specs.NamedLines.{domains}
+use Rattle.bay_model.specs.Reports.{reference_at}
 use Rattle.bay_model.specs.Named.{nodes, member_number, set_defined, configured_model}
 use Rattle.value_store.specs.Opened.{HasValue, place_in}
 use Rattle.cfg_lines.specs.Sizes.{leaf_octets, children, octets_of}
 use Rattle.cfg_lines.specs.Nodes.{leaves, leaf_names, closed, reaches}
 use Rattle.cfg_lines.specs.Configs.{config_of}
-use Rattle.cfg_grammar.specs.Texts.{AreLines, AreFound, SpellsConfig}
+use Rattle.cfg_grammar.specs.Texts.{AreLines, IsFound, AreFound, SpellsConfig}
 use Rattle.cfg_lines.specs.declared.leaf.Leaf.{Leaf}
 use Rattle.cfg_lines.specs.declared.line.Line.{Line}
 use Rattle.cfg_lines.specs.declared.line.Line.TheVariants as lines
 use Rattle.bay_config.specs.Servable.{IsMember, IsServedSet, IsServedBlock, HasSoundValues, IsServable}
-use Rattle.list_laws.proofs.Among.{Among, all-of, of-all, source}
+use Rattle.list_laws.proofs.Among.{Among, all-of, source}
 use Rattle.text_configs.proofs.FindLaws.{found, domain-there}
 use Rattle.text_configs.proofs.NamedLaws.{bytes-same, not-not}
 use Rattle.text_configs.proofs.StandLaws.{IsPlainText, plain-text, nodes-read}
@@ -31,14 +31,10 @@ use Rattle.text_configs.proofs.AttrLaws.{key_of, attrs-read, attrs-beside}
 use Rattle.text_configs.proofs.SetLaws.{blocks-read, few-blocks, sets-read, member-named, found-of, leaf_of, leaves-are}
 use Rattle.text_values.proofs.ValueLaws.{all-sound}
 use Rattle.text_configs.proofs.ValueLaws.{first-value}
-use Rattle.text_configs.proofs.PathLaws.{reference-of}
+use Rattle.text_configs.proofs.PathLaws.{IsReference, reference-of}
 use Rattle.text_configs.proofs.CountLaws.{counted}
 use Rattle.text_configs.proofs.BelowLaws.{IsTold}
-use Rattle.text_configs.proofs.ReferenceLaws.{member}
-
--- blocks that report at once and have no integrity period
-abbrev pub AreImmediate : List BlockDef → Type 0
-AreImmediate bs = All (λ (b : BlockDef). (b.buf_tm ≡ 0) × (b.intg_pd ≡ 0)) bs
+use Rattle.text_configs.proofs.ReferenceLaws.{member, member-reference}
 
 names-of : (as_ : List AttrDef) → map (λ (leaf : Leaf). leaf.name) (map leaf_of as_) ≡ map key_of as_
 names-of [] = refl
@@ -70,18 +66,34 @@ module _ (told : List Line) (text : List ℕ) (are : AreLines text told) (found_
   count-is : (r : List ℕ) → octets_of 10 (leaf_octets (leaves told)) (children (leaf_names told)) r ≡ counted (config_of told) is-told.attrs is-told.beside 10 r
   count-is r = ap (λ ls. octets_of 10 (leaf_octets ls) (children (leaf_names told)) r) (leaves-are told plain) ∙ ap (λ ns. octets_of 10 (leaf_octets (map leaf_of (config_of told).attrs)) (children ns) r) names-are
 
-  member-served : (r : List ℕ) → Among (lines.Member r) told → IsMember (config_of told) (member_number (nodes (config_of told)) r)
-  member-served r i =
-      let is = found-of told told (lines.Member r) found_all i in
-      let apart = and_parts (not (reaches (closed told) r)) (not (nat_lt 500 (octets_of 10 (leaf_octets (leaves told)) (children (leaf_names told)) r))) is.1 in
-      let reach : reaches (leaf_names told) r ≡ true = or-second (reaches (leaf_names told) r) (reaches (closed told) r) is.0 (not-not (reaches (closed told) r) apart.0) in
-      member (config_of told) is-told r (reference-of r (member-named told text r are i)) (ap (λ ns. reaches ns r) (sym names-are) ∙ reach)
-      (omega (arith, count-is r, at-most (octets_of 10 (leaf_octets (leaves told)) (children (leaf_names told)) r) (not-not _ apart.1)))
+  -- a member's line has a reference that reaches an attribute
+  module _ (r : List ℕ) (i : Among (lines.Member r) told) where
+    line-found : IsFound told (lines.Member r)
+    line-found = found-of told told (lines.Member r) found_all i
+
+    apart : (not (reaches (closed told) r) ≡ true) × (not (nat_lt 500 (octets_of 10 (leaf_octets (leaves told)) (children (leaf_names told)) r)) ≡ true)
+    apart = and_parts (not (reaches (closed told) r)) (not (nat_lt 500 (octets_of 10 (leaf_octets (leaves told)) (children (leaf_names told)) r))) line-found.1
+
+    reach : reaches (map key_of (config_of told).attrs) r ≡ true
+    reach = ap (λ ns. reaches ns r) (sym names-are) ∙ or-second (reaches (leaf_names told) r) (reaches (closed told) r) line-found.0 (not-not (reaches (closed told) r) apart.0)
+
+    line-reference : IsReference r
+    line-reference = reference-of r (member-named told text r are i).0
+
+    member-served : IsMember (config_of told) (member_number (nodes (config_of told)) r)
+    member-served = member (config_of told) is-told r line-reference reach (omega (arith, count-is r, at-most (octets_of 10 (leaf_octets (leaves told)) (children (leaf_names told)) r) (not-not _ apart.1)))
+
+    member-short : length (reference_at (configured_model (config_of told)) (member_number (nodes (config_of told)) r)) ≤ 129
+    member-short = omega (arith, ap length (member-reference (config_of told) is-told r line-reference reach), (member-named told text r are i).1)
+
+  abbrev IsShort : ℕ → Type 0
+  IsShort n = length (reference_at (configured_model (config_of told)) n) ≤ 129
 
   set-served : (s : SetDef) → Among s (config_of told).sets → IsServedSet (config_of told) (set_defined (nodes (config_of told)) s)
   set-served s i = let h = sets-read told text are s i in record {
     few = omega (arith, h.few, length-map s.members (member_number (nodes (config_of told))));
     members = all-of (IsMember (config_of told)) (map (member_number (nodes (config_of told))) s.members) (λ n j. let r = source (member_number (nodes (config_of told))) n s.members j in subst (IsMember (config_of told)) (sym r.2) (member-served r.0 (h.told_of r.0 r.1)));
+    short = all-of IsShort (map (member_number (nodes (config_of told))) s.members) (λ n j. let r = source (member_number (nodes (config_of told))) n s.members j in subst IsShort (sym r.2) (member-short r.0 (h.told_of r.0 r.1)));
   }
 
   place-first : (a : AttrDef) → Among a (config_of told).attrs → 0 ≡ place_in (config_of told) a
@@ -95,8 +107,8 @@ module _ (told : List Line) (text : List ℕ) (are : AreLines text told) (found_
       let d : Among a.domain (domains (config_of told)) = subst (λ d. Among d (domains (config_of told))) n.domain_is (domain-there n.node [] (config_of told).nodes n.there) in
       ap is_some (found (bytes_eq a.domain) a.domain (domains (config_of told)) d (bytes-same a.domain a.domain refl)).is
 
-  pub served : AreImmediate (config_of told).blocks → IsServable (config_of told)
-  served immediate = record {
+  pub served : IsServable (config_of told)
+  served = record {
     controls = controls;
     groups = groups;
     storable = record {
@@ -106,12 +118,11 @@ module _ (told : List Line) (text : List ℕ) (are : AreLines text told) (found_
     };
     sound = all-of HasSoundValues (config_of told).attrs (λ a i. all-sound a.kind _ (is-told.attrs a i).values);
     domains = all-of (λ (a : AttrDef). is_some (position (bytes_eq a.domain) (domains (config_of told))) ≡ true) (config_of told).attrs has-domain;
-    blocks = all-of IsServedBlock (config_of told).blocks (λ b i. let h = is-told.blocks b i in let m = of-all (λ (b : BlockDef). (b.buf_tm ≡ 0) × (b.intg_pd ≡ 0)) (config_of told).blocks b immediate i in
-        record { opt_flds = h.opt_flds; trg_ops = h.trg_ops; buf_tm = m.0; intg_pd = m.1 });
+    blocks = all-of IsServedBlock (config_of told).blocks (λ b i. let h = is-told.blocks b i in record { opt_flds = h.opt_flds; trg_ops = h.trg_ops });
     few = let f = few-blocks told text are in omega (arith, f.0, f.1);
     sets = all-of (IsServedSet (config_of told)) (configured_model (config_of told)).sets (λ s i. let d = source (set_defined (nodes (config_of told))) s (config_of told).sets i in subst (IsServedSet (config_of told)) (sym d.2) (set-served d.0 d.1));
   }
 
-pub texts-are-served : (text : List ℕ) (c : Config) → SpellsConfig text c → c.controls ≡ [] → c.groups ≡ [] → AreImmediate c.blocks → IsServable c
-texts-are-served text c h controls groups immediate =
-    subst IsServable (sym h.makes) (served h.told text h.are h.found (sym (ap (λ (d : Config). d.controls) h.makes) ∙ controls) (sym (ap (λ (d : Config). d.groups) h.makes) ∙ groups) (subst (λ (d : Config). AreImmediate d.blocks) h.makes immediate))
+pub texts-are-served : (text : List ℕ) (c : Config) → SpellsConfig text c → c.controls ≡ [] → c.groups ≡ [] → IsServable c
+texts-are-served text c h controls groups =
+    subst IsServable (sym h.makes) (served h.told text h.are h.found (sym (ap (λ (d : Config). d.controls) h.makes) ∙ controls) (sym (ap (λ (d : Config). d.groups) h.makes) ∙ groups))

@@ -121,13 +121,13 @@ sets-read (lines.Member reference ∷ before) text h s i = by (grown-set (config
 sets-read (line ∷ before) text h s i = read-on before line s (sets-read before h.0 h.3 s i)
 
 -- what a member's line has
-pub member-named : (told : List Line) (text : List ℕ) (r : List ℕ) → AreLines text told → Among (lines.Member r) told → is_member r ≡ true
+pub member-named : (told : List Line) (text : List ℕ) (r : List ℕ) → AreLines text told → Among (lines.Member r) told → (is_member r ≡ true) × (length r ≤ 129)
 member-named [] text r h i = absurd i
 member-named (line ∷ before) text r h (inr i) = member-named before h.0 r h.3 i
 member-named (line ∷ before) text r h (inl e) = named line h.4.follows e
   where
-    named : (line : Line) → Follows before line → lines.Member r ≡ line → is_member r ≡ true
-    named line f e = (subst (Follows before) (sym e) f).name
+    named : (line : Line) → Follows before line → lines.Member r ≡ line → (is_member r ≡ true) × (length r ≤ 129)
+    named line f e = let m : Follows before (lines.Member r) = subst (Follows before) (sym e) f in (m.name, m.short.0)
 
 pub found-of : (all told : List Line) (line : Line) → AreFound all told → Among line told → IsFound all line
 found-of all [] line h i = absurd i

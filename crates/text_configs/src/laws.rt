@@ -1,14 +1,11 @@
 //! Which configurations of texts can be served.
 
 ghost use Rattle.std.specs.Prelude.{◌≡◌, ℕ, List, [], Ok};
-ghost use Rattle.std.specs.List.{All};
-ghost use Rattle.sv_base.specs.declared.config.BlockDef.{BlockDef};
 ghost use Rattle.sv_base.specs.declared.config.Config.{Config};
 ghost use Rattle.cfg_parser.specs.Looking.{config_at};
 ghost use Rattle.bay_config.specs.Servable.{IsServable};
 
-/// A configuration that is read from a text can be served by a bay, where it has no controls and no setting groups, and
-/// its blocks report at once and have no integrity period.
+/// A configuration that is read from a text can be served by a bay, where it has no controls and no setting groups.
 pub fn texts_are_served()
-    ensures { (text : List ℕ) (c : Config) → config_at text ≡ Ok c → c.controls ≡ [] → c.groups ≡ [] → All (λ (b : BlockDef). (b.buf_tm ≡ 0) × (b.intg_pd ≡ 0)) c.blocks → IsServable c }
+    ensures { (text : List ℕ) (c : Config) → config_at text ≡ Ok c → c.controls ≡ [] → c.groups ≡ [] → IsServable c }
 {}

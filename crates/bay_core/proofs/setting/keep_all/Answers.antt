@@ -1,12 +1,16 @@
-use Rattle.std.proofs.Common.{◌≡◌, ◌<◌, ◌∙◌, ap, sym, refl, subst, arith, [], List, length}
-use Rattle.std.specs.Prelude.{slice_set, slice_index_or}
+use Rattle.std.proofs.Common.{◌≡◌, ◌<◌, ◌∙◌, ◌⊎◌, inl, inr, ap, sym, refl, subst, arith, [], ℕ, List, Option, Some, length}
+use Rattle.std.specs.Prelude.{slice_get, slice_set, slice_index_or}
 use Rattle.std.proofs.lemmas.List.{length-set}
 use Rattle.std.proofs.lemmas.Option.{slice_get-get_or}
 use Rattle.bay_rooms.specs.Rooms.{Filled}
 use Rattle.bay_model.specs.declared.note.Mention.{Mention}
 use Rattle.bay_model.specs.declared.tables.MemberShape.{MemberShape}
 use Rattle.report_block.specs.EntryOctets.{IsKeepable}
-use Rattle.report_block.specs.Events.{with_note}
+use Rattle.report_block.specs.Events.{after_noting, pieces_of}
+use Rattle.report_block.specs.Due.{due_at, earliest}
+use Rattle.bay_core.specs.Timed.{IsQuietUntil}
+use Rattle.bay_core.proofs.QuietLaws.{quiet-earlier, quiet-own}
+use Rattle.list_laws.proofs.Places.{got-set}
 use Rattle.std.specs.List.{All}
 use Rattle.touch_index.specs.Gathering.{Gathered, note_at}
 use Rattle.touch_index.proofs.GatheringLaws.{room_same}
@@ -24,6 +28,8 @@ loop-b-init c = record {
   count = refl;
   rooms = λ b. refl;
   entry = c.requires.entry;
+  events = c.requires.events;
+  quiet = λ b part at. inl at;
   left = λ b part at. left-first c.args.source.now.rows.now c.args.source.now.book.now c.args.source.now.store.now c.args.moment c.args.step c.args.parts.now.items c.args.notes.now.notes b part at (c.requires.notes b part at);
 }
 
@@ -48,7 +54,7 @@ view-set-requires-clause-there c =
     subst (λ o. AreThere (length c.args.source.now.rows.now) (nodes_in c.args.source.now.book.now o)) (sym c.set.ensures) (subst (IsLent c.args.source.now.rows.now c.args.source.now.book.now) same left.2.lent).there
 
 -- what is kept is a note of the part
-is-note : (c : goal.After-keep_at_once-arg-1) → IsNoteOf c.args.source.now.rows.now c.args.source.now.book.now c.args.source.now.store.now c.index_mut-part.result.now c.as_slice-note.result.now
+is-note : (c : goal.After-event-arg-in-Some-2-1) → IsNoteOf c.args.source.now.rows.now c.args.source.now.book.now c.args.source.now.store.now c.index_mut-part.result.now c.as_slice-note.result.now
 is-note c =
     let b = c.in-Some.b.0 in
     let within : b < length c.loop-b.parts.items = omega (arith, c.in-Some.ensures.within, c.loop-b.invariant.count, c.requires.count, c.loop-b.invariant.parts) in
@@ -57,12 +63,29 @@ is-note c =
     let same = some-same left.0 c.index_mut-part.result.now (sym left.1 ∙ at-place c.loop-b.parts.items b c.index_mut-part.result.now within c.index_mut-part.ensures.value) in
     subst (λ (p : ReportBlock). IsNoteOf c.args.source.now.rows.now c.args.source.now.book.now c.args.source.now.store.now p c.as_slice-note.result.now) same (subst (IsNoteOf c.args.source.now.rows.now c.args.source.now.book.now c.args.source.now.store.now left.0) (sym (c.as_slice-note.ensures ∙ ap (λ (n : Filled Mention). n.items) c.note.ensures)) left.2)
 
-pub keep_at_once-requires-clause-members : goal.keep_at_once-requires-clause-members
-keep_at_once-requires-clause-members c =
+pub event-requires-clause-members : goal.event-requires-clause-members
+event-requires-clause-members c =
     subst (λ (l : List MemberShape). All (IsKeepable c.args.source.now.store.now l) c.as_slice-note.result.now) (sym (c.view-set.ensures ∙ ap (λ o. shapes_of c.args.source.now.rows.now (nodes_in c.args.source.now.book.now o)) c.set.ensures)) (is-note c).members
 
-pub keep_at_once-requires-clause-room : goal.keep_at_once-requires-clause-room
-keep_at_once-requires-clause-room c = omega (arith, (is-note c).few, c.loop-b.invariant.entry)
+pub event-requires-clause-order : goal.event-requires-clause-order
+event-requires-clause-order c = (is-note c).order
+
+pub event-requires-clause-within : goal.event-requires-clause-within
+event-requires-clause-within c =
+    let lent = c.view-set.ensures ∙ ap (λ o. shapes_of c.args.source.now.rows.now (nodes_in c.args.source.now.book.now o)) c.set.ensures in
+    omega (arith, ap (λ (l : List MemberShape). length l) lent, (is-note c).within)
+
+pub event-requires-clause-room : goal.event-requires-clause-room
+event-requires-clause-room c =
+    let room = c.loop-b.invariant.events in
+    let few = (is-note c).few in
+    (room.0, omega (arith, room.1, few), omega (arith, room.2, few))
+
+pub event-requires-clause-octets : goal.event-requires-clause-octets
+event-requires-clause-octets c = omega (arith, (is-note c).few, c.loop-b.invariant.entry)
+
+pub event-requires-clause-window : goal.event-requires-clause-window
+event-requires-clause-window c = omega (arith, (is-note c).gathers, c.loop-b.invariant.entry)
 
 pub loop-b-preserved : goal.loop-b-preserved
 loop-b-preserved c =
@@ -76,13 +99,22 @@ loop-b-preserved c =
     let cleared = c.clear_last.ensures front.0 c.in-Some.b front.1 in
     let there = at-place parts b part within c.index_mut-part.ensures.value in
     let lent = c.view-set.ensures ∙ ap (λ o. shapes_of c.args.source.now.rows.now (nodes_in c.args.source.now.book.now o)) c.set.ensures in
-    let kept : c.keep_at_once.new.self ≡ noting c.args.source.now.rows.now c.args.source.now.book.now c.args.source.now.store.now c.args.moment c.args.step (note_at notes b).items part
-    = c.keep_at_once.ensures.part ∙ (ap (λ (l : List MemberShape). with_note c.args.source.now.store.now l c.args.moment c.args.step c.as_slice-note.result.now part) lent ∙ ap (λ (ms : List Mention). noting c.args.source.now.rows.now c.args.source.now.book.now c.args.source.now.store.now c.args.moment c.args.step ms part) (c.as_slice-note.ensures ∙ ap (λ (n : Filled Mention). n.items) c.note.ensures)) in
+    let kept : c.event.new.self ≡ noting c.args.source.now.rows.now c.args.source.now.book.now c.args.source.now.store.now c.args.moment c.args.step (note_at notes b).items part
+    = c.event.ensures.noted ∙ (ap (λ (l : List MemberShape). after_noting c.args.moment c.args.step (pieces_of c.args.source.now.store.now l c.as_slice-note.result.now) part) lent ∙ ap (λ (ms : List Mention). noting c.args.source.now.rows.now c.args.source.now.book.now c.args.source.now.store.now c.args.moment c.args.step ms part) (c.as_slice-note.ensures ∙ ap (λ (n : Filled Mention). n.items) c.note.ensures)) in
     record {
-      parts = length-set parts b c.keep_at_once.new.self ∙ c.loop-b.invariant.parts;
+      parts = length-set parts b c.event.new.self ∙ c.loop-b.invariant.parts;
       count = ap (λ (g : Gathered). length g.notes) cleared ∙ (length-set notes b (record { items = []; room = (note_at notes b).room }) ∙ c.loop-b.invariant.count);
       rooms = λ k. ap (λ (g : Gathered). (note_at g.notes k).room) cleared ∙ (room_same notes b [] below k ∙ c.loop-b.invariant.rooms k);
-      entry = c.keep_at_once.ensures.room ∙ c.loop-b.invariant.entry;
+      entry = c.event.ensures.octets ∙ c.loop-b.invariant.entry;
+      events = c.event.ensures.room 256 c.loop-b.invariant.events;
+      quiet = λ k q got. subst (λ (d : Option ℕ). (slice_get c.args.parts.now.items k ≡ Some q) ⊎ IsQuietUntil c.args.moment d q) (sym (c.earliest-due.ensures ∙ ap (earliest c.loop-b.due) c.due_at.ensures))
+          (elim (got-set parts b k c.event.new.self q got) [
+            | inl e ↦ inr (subst (IsQuietUntil c.args.moment (earliest c.loop-b.due (due_at c.args.moment c.event.new.self))) (sym e.1) (quiet-own c.args.moment c.loop-b.due c.event.new.self))
+            | inr e ↦ elim (c.loop-b.invariant.quiet k q e.1) [
+              | inl was ↦ inl was
+              | inr is ↦ inr (quiet-earlier c.args.moment c.loop-b.due (due_at c.args.moment c.event.new.self) q is)
+            ]
+          ]);
       left = λ k q at.
           let target = noting c.args.source.now.rows.now c.args.source.now.book.now c.args.source.now.store.now c.args.moment c.args.step (note_at c.args.notes.now.notes k).items q in
           subst (λ (p : ReportBlock). Left c.args.source.now.rows.now c.args.source.now.book.now c.args.source.now.store.now c.args.moment c.args.step (slice_set parts b p) c.clear_last.new.self.notes k target) (sym kept)

@@ -1,0 +1,20 @@
+use Rattle.std.proofs.Common.{refl, ap, ap₂, sym, subst, ◌∙◌, vec_capacity}
+use Rattle.assoc_table.specs.Tables.{ended}
+use Rattle.report_block.specs.Writes.{lost_by}
+use Rattle.bay_core.specs.Parting.{after_loss_all}
+use Rattle.bay_core.specs.State.{State, IsFurnished}
+use Rattle.bay_core.proofs.FurnishLaws.{furnished-map}
+use Rattle.bay_core.proofs.QuietLaws.{quiet-map}
+use Rattle.bay_core.proofs.bay.Bay.end.Goals as goal
+
+pub invariant_of-self : goal.invariant_of-self
+invariant_of-self c = record {
+  furnished = subst (λ ps. IsFurnished c.self.inside.model c.self.inside.values c.self.inside.sets ps c.self.inside.watch c.self.inside.octets (vec_capacity c.self.inside.changes)) (sym c.lose_all.ensures)
+      (furnished-map c.self.inside.model c.self.inside.values c.self.inside.sets c.self.inside.parts.items c.self.inside.watch c.self.inside.octets (vec_capacity c.self.inside.changes) c.self.invariant.furnished (lost_by c.args.a) (λ p. refl) (λ p. refl) (λ p. refl));
+  quiet = quiet-map c.self.inside.latest c.self.inside.due (lost_by c.args.a) (λ p. refl) c.self.inside.parts.items c.lose_all.new.parts.items c.lose_all.ensures c.self.invariant.quiet;
+  roomy = c.self.invariant.roomy;
+}
+
+pub returns : goal.returns
+returns c = ap₂ (λ ps rs. record { config = c.self.inside.model; steps = c.self.inside.steps; latest = c.self.inside.latest; stored = c.self.inside.values; parts = ps; rows = rs }) c.lose_all.ensures c.end.ensures
+    ∙ ap (λ (s : State). record s { rows = ended s.rows c.args.a.0; parts = after_loss_all c.args.a s.parts }) c.self.view_is

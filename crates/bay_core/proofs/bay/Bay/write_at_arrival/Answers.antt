@@ -1,0 +1,175 @@
+use Rattle.std.proofs.Common.{◌≡◌, ◌<◌, ◌∙◌, ℕ, List, Option, Some, length, slice_set, ap, ap₂, sym, subst, refl, arith, vec_capacity}
+use Rattle.std.specs.Prelude.{slice_get}
+use Rattle.std.specs.List.{All}
+use Rattle.list_laws.proofs.Places.{all-at}
+use Rattle.bay_model.specs.declared.tables.MemberShape.{MemberShape}
+use Rattle.object_model.specs.Nodes.{node_rows}
+use Rattle.value_store.specs.Stored.{Stored}
+use Rattle.report_block.specs.EntryOctets.{IsWritable}
+use Rattle.bay_core.specs.Events.{IsReady}
+use Rattle.data_sets.specs.Books.{Book}
+use Rattle.report_block.specs.declared.block.ReportBlock.{ReportBlock}
+use Rattle.report_block.specs.Alls.{all_pieces, for_general}
+use Rattle.report_block.specs.Components.{after_writing}
+use Rattle.report_block.specs.Due.{earliest}
+use Rattle.report_block.specs.Writes.{without_effect, write_answer}
+use Rattle.bay_core.specs.Put.{answer_at, written_at}
+use Rattle.bay_core.specs.State.{State}
+use Rattle.bay_core.specs.Timed.{AreQuietUntil}
+use Rattle.bay_core.specs.Watched.{members_in}
+use Rattle.bay_core.specs.Written.{named_by}
+use Rattle.bay_core.proofs.QuietLaws.{quiet-set}
+use Rattle.bay_core.proofs.TakenLaws.{same-part}
+use Rattle.bay_core.proofs.ArriveLaws.{HasAll, HaveMembers, general-are}
+use Rattle.bay_core.proofs.WrittenLaws.{written-at}
+use Rattle.bay_core.proofs.BookLaws.{part-lent}
+use Rattle.bay_core.proofs.SettingLaws.{are-ready, have-members}
+use Rattle.bay_core.proofs.WriteLaws.{at-place}
+use Rattle.bay_core.proofs.bay.Bay.write_at_arrival.Goals as goal
+
+pub set_of-set-requires : goal.set_of-set-requires
+set_of-set-requires c =
+    let s = c.self.inside in
+    let parts = s.parts.items in
+    let b = c.args.b.0 in
+    let part = c.index_mut-part.result.now in
+    let fit = c.self.invariant.furnished in
+    let below : b < length parts = subst (λ (t : State). b < length t.parts) (sym c.self.view_is) c.requires in
+    let there = at-place parts b part below c.index_mut-part.ensures.value in
+    part-lent s.model fit.servable s.sets part fit.booked (fit.sets b part there)
+
+pub write_any-answer-requires-clause-few : goal.write_any-answer-requires-clause-few
+write_any-answer-requires-clause-few c =
+    let s = c.self.inside in
+    let parts = s.parts.items in
+    let b = c.args.b.0 in
+    let part = c.index_mut-part.result.now in
+    let fit = c.self.invariant.furnished in
+    let below : b < length parts = subst (λ (t : State). b < length t.parts) (sym c.self.view_is) c.requires in
+    let there = at-place parts b part below c.index_mut-part.ensures.value in
+    let ready = all-at (IsReady (node_rows s.model) s.sets s.values) parts b part (are-ready s.model (node_rows s.model) s.values s.values s.sets parts s.watch s.octets (vec_capacity s.changes) refl fit fit.values) there in
+    omega (arith, ap (λ (l : List MemberShape). length l) c.set_of-set.ensures, ready.few)
+
+pub write_any-answer-requires-clause-members : goal.write_any-answer-requires-clause-members
+write_any-answer-requires-clause-members c =
+    let s = c.self.inside in
+    let parts = s.parts.items in
+    let b = c.args.b.0 in
+    let part = c.index_mut-part.result.now in
+    let fit = c.self.invariant.furnished in
+    let below : b < length parts = subst (λ (t : State). b < length t.parts) (sym c.self.view_is) c.requires in
+    let there = at-place parts b part below c.index_mut-part.ensures.value in
+    let ready = all-at (IsReady (node_rows s.model) s.sets s.values) parts b part (are-ready s.model (node_rows s.model) s.values s.values s.sets parts s.watch s.octets (vec_capacity s.changes) refl fit fit.values) there in
+    subst (λ (l : List Stored). All (IsWritable l) c.set_of-set.result) (sym c.store.ensures) (subst (All (IsWritable s.values)) (sym c.set_of-set.ensures) ready.writable)
+
+pub write_any-answer-requires-clause-room : goal.write_any-answer-requires-clause-room
+write_any-answer-requires-clause-room c =
+    let s = c.self.inside in
+    let parts = s.parts.items in
+    let b = c.args.b.0 in
+    let part = c.index_mut-part.result.now in
+    let fit = c.self.invariant.furnished in
+    let below : b < length parts = subst (λ (t : State). b < length t.parts) (sym c.self.view_is) c.requires in
+    let there = at-place parts b part below c.index_mut-part.ensures.value in
+    let ready = all-at (IsReady (node_rows s.model) s.sets s.values) parts b part (are-ready s.model (node_rows s.model) s.values s.values s.sets parts s.watch s.octets (vec_capacity s.changes) refl fit fit.values) there in
+    omega (arith, ap (λ (l : List MemberShape). length l) c.set_of-set.ensures, ready.few, fit.entry)
+
+pub write_any-answer-requires-clause-window : goal.write_any-answer-requires-clause-window
+write_any-answer-requires-clause-window c =
+    let s = c.self.inside in
+    let parts = s.parts.items in
+    let b = c.args.b.0 in
+    let part = c.index_mut-part.result.now in
+    let fit = c.self.invariant.furnished in
+    let below : b < length parts = subst (λ (t : State). b < length t.parts) (sym c.self.view_is) c.requires in
+    let there = at-place parts b part below c.index_mut-part.ensures.value in
+    let ready = all-at (IsReady (node_rows s.model) s.sets s.values) parts b part (are-ready s.model (node_rows s.model) s.values s.values s.sets parts s.watch s.octets (vec_capacity s.changes) refl fit fit.values) there in
+    omega (arith, ready.gathers, fit.entry)
+
+pub follow-requires : goal.follow-requires
+follow-requires c =
+    let s = c.self.inside in
+    let parts = s.parts.items in
+    let b = c.args.b.0 in
+    let part = c.index_mut-part.result.now in
+    let fit = c.self.invariant.furnished in
+    let below : b < length parts = subst (λ (t : State). b < length t.parts) (sym c.self.view_is) c.requires in
+    let there = at-place parts b part below c.index_mut-part.ensures.value in
+    let v = c.args.value.now in
+    let named = c.set_named.result in
+    let all = all_pieces s.values (members_in (node_rows s.model) s.sets part) for_general in
+    let kept : c.write_any-answer.new.self ≡ after_writing c.args.a c.args.comp v named s.latest s.steps all part (write_answer c.args.a c.args.comp v named part)
+    = c.write_any-answer.ensures.written ∙ ap₂ (λ (st : List Stored) (l : List MemberShape). after_writing c.args.a c.args.comp v named s.latest s.steps (all_pieces st l for_general) part (write_answer c.args.a c.args.comp v named part)) c.store.ensures c.set_of-set.ensures in
+    let wrote = written-at s.model s.values s.sets parts s.watch s.octets (vec_capacity s.changes) fit b part c.write_any-answer.new.self there c.args.a c.args.comp v named all c.set_named.ensures s.latest s.steps kept in
+    wrote.follows
+
+pub invariant_of-self : goal.invariant_of-self
+invariant_of-self c =
+    let s = c.self.inside in
+    let parts = s.parts.items in
+    let b = c.args.b.0 in
+    let part = c.index_mut-part.result.now in
+    let fit = c.self.invariant.furnished in
+    let below : b < length parts = subst (λ (t : State). b < length t.parts) (sym c.self.view_is) c.requires in
+    let there = at-place parts b part below c.index_mut-part.ensures.value in
+    let v = c.args.value.now in
+    let named = c.set_named.result in
+    let all = all_pieces s.values (members_in (node_rows s.model) s.sets part) for_general in
+    let kept : c.write_any-answer.new.self ≡ after_writing c.args.a c.args.comp v named s.latest s.steps all part (write_answer c.args.a c.args.comp v named part)
+    = c.write_any-answer.ensures.written ∙ ap₂ (λ (st : List Stored) (l : List MemberShape). after_writing c.args.a c.args.comp v named s.latest s.steps (all_pieces st l for_general) part (write_answer c.args.a c.args.comp v named part)) c.store.ensures c.set_of-set.ensures in
+    let wrote = written-at s.model s.values s.sets parts s.watch s.octets (vec_capacity s.changes) fit b part c.write_any-answer.new.self there c.args.a c.args.comp v named all c.set_named.ensures s.latest s.steps kept in
+    let f = wrote.furnished c.follow.new.self c.follow.ensures.index c.follow.ensures.notes c.follow.ensures.options in
+    let new = c.write_any-answer.new.self in
+    record {
+      furnished = record { servable = f.servable; values = f.values; count = f.count; booked = f.booked; sets = f.sets; windows = f.windows; watch = f.watch; entry = c.write_any-answer.ensures.room ∙ fit.entry; changes = f.changes };
+      quiet = subst (λ (d : Option ℕ). AreQuietUntil s.latest d (slice_set parts b new)) (sym (c.earliest-self-inside.ensures ∙ ap (earliest s.due) c.due_at.ensures)) (quiet-set s.latest s.due parts b new c.self.invariant.quiet);
+      roomy = c.self.invariant.roomy;
+    }
+
+pub returns-clause-answer : goal.returns-clause-answer
+returns-clause-answer c = λ own found.
+    let s = c.self.inside in
+    let parts = s.parts.items in
+    let b = c.args.b.0 in
+    let part = c.index_mut-part.result.now in
+    let fit = c.self.invariant.furnished in
+    let below : b < length parts = subst (λ (t : State). b < length t.parts) (sym c.self.view_is) c.requires in
+    let there = at-place parts b part below c.index_mut-part.ensures.value in
+    let v = c.args.value.now in
+    let same = same-part parts b part own there (subst (λ (t : State). slice_get t.parts b ≡ Some own) (sym c.self.view_is) found) in
+    let is_named = c.set_named.ensures ∙ ap (named_by c.args.comp v) fit.booked in
+    c.write_any-answer.ensures.answer
+    ∙ (ap₂ (λ (n : Option ℕ) (p : ReportBlock). without_effect (write_answer c.args.a c.args.comp v n p)) is_named same
+    ∙ ap (λ (t : State). without_effect (answer_at c.args.a c.args.comp v own t)) c.self.view_is)
+
+pub returns-clause-written : goal.returns-clause-written
+returns-clause-written c = λ own found.
+    let s = c.self.inside in
+    let parts = s.parts.items in
+    let b = c.args.b.0 in
+    let part = c.index_mut-part.result.now in
+    let fit = c.self.invariant.furnished in
+    let below : b < length parts = subst (λ (t : State). b < length t.parts) (sym c.self.view_is) c.requires in
+    let there = at-place parts b part below c.index_mut-part.ensures.value in
+    let v = c.args.value.now in
+    let named = c.set_named.result in
+    let all = all_pieces s.values (members_in (node_rows s.model) s.sets part) for_general in
+    let kept : c.write_any-answer.new.self ≡ after_writing c.args.a c.args.comp v named s.latest s.steps all part (write_answer c.args.a c.args.comp v named part)
+    = c.write_any-answer.ensures.written ∙ ap₂ (λ (st : List Stored) (l : List MemberShape). after_writing c.args.a c.args.comp v named s.latest s.steps (all_pieces st l for_general) part (write_answer c.args.a c.args.comp v named part)) c.store.ensures c.set_of-set.ensures in
+    let same = same-part parts b part own there (subst (λ (t : State). slice_get t.parts b ≡ Some own) (sym c.self.view_is) found) in
+    let with : Option ℕ → Book → ReportBlock → ReportBlock
+    = λ n book p. after_writing c.args.a c.args.comp v n s.latest s.steps (all_pieces s.values (members_in (node_rows s.model) book p) for_general) p (write_answer c.args.a c.args.comp v n p) in
+    let is = kept ∙ (ap (λ n. with n s.sets part) c.set_named.ensures ∙ ap₂ (λ (book : Book) (p : ReportBlock). with (named_by c.args.comp v book) book p) fit.booked same) in
+    ap (λ (p : ReportBlock). record { config = s.model; steps = s.steps; latest = s.latest; stored = s.values; parts = slice_set parts b p; rows = s.associations }) is
+    ∙ ap (λ (t : State). written_at c.args.a b c.args.comp v own t) c.self.view_is
+
+pub returns-clause-general : goal.returns-clause-general
+returns-clause-general c = λ own found.
+    let s = c.self.inside in
+    let fit = c.self.invariant.furnished in
+    let all : HasAll s.model s.values s.parts.items = record {
+      servable = fit.servable;
+      values = fit.values;
+      members = subst (λ b. HaveMembers (node_rows s.model) b s.model s.parts.items) fit.booked (have-members s.model (node_rows s.model) s.values s.sets s.parts.items s.watch s.octets (vec_capacity s.changes) refl fit);
+    } in
+    general-are c.args.self.now c.args.a c.args.b.0 c.args.comp c.args.value.now own (subst (λ (t : State). HasAll t.config t.stored t.parts) c.self.view_is all) found

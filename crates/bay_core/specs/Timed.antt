@@ -1,0 +1,34 @@
+-- What time brings to the blocks of a bay, and until when it brings nothing (IEC 61850-7-2, BRCB attributes BufTm and IntgPd).
+use Rattle.std.specs.Prelude.{◌≡◌, ℕ, max, List, map, Option, Some, slice_get}
+use Rattle.bay_model.specs.declared.tables.NodeRow.{NodeRow}
+use Rattle.object_model.specs.Nodes.{node_rows}
+use Rattle.object_model.specs.Tables.{set_rows}
+use Rattle.data_sets.specs.Books.{Book, opened}
+use Rattle.value_store.specs.Stored.{Stored}
+use Rattle.report_block.specs.declared.block.ReportBlock.{ReportBlock}
+use Rattle.report_block.specs.Alls.{all_pieces, for_integrity}
+use Rattle.report_block.specs.Coming.{arrived}
+use Rattle.report_block.specs.Due.{due_at, IsBefore}
+use Rattle.bay_core.specs.State.{State}
+use Rattle.bay_core.specs.Watched.{members_in}
+
+-- a block after time has passed between two moments, of which the later is that of a step
+abbrev pub arrived_part : List NodeRow → Book → List Stored → (was now step : ℕ) → ReportBlock → ReportBlock
+arrived_part rows book stored was now step part = arrived was now step (all_pieces stored (members_in rows book part) for_integrity) part
+
+abbrev pub arrived_all : List NodeRow → Book → List Stored → (was now step : ℕ) → List ReportBlock → List ReportBlock
+arrived_all rows book stored was now step parts = map (arrived_part rows book stored was now step) parts
+
+-- seen from the moment at, the part has nothing due before due
+abbrev pub IsQuietUntil : ℕ → Option ℕ → ReportBlock → Type 0
+IsQuietUntil at due part = (now : ℕ) → IsBefore now due → IsBefore now (due_at at part)
+
+abbrev pub AreQuietUntil : ℕ → Option ℕ → List ReportBlock → Type 0
+AreQuietUntil at due parts = (b : ℕ) (part : ReportBlock) → slice_get parts b ≡ Some part → IsQuietUntil at due part
+
+-- the state at the arrival of a step at this moment
+abbrev pub at_arrival : ℕ → State → State
+at_arrival t s = record s {
+  latest = max s.latest t;
+  parts = arrived_all (node_rows s.config) (opened (set_rows s.config)) s.stored s.latest (max s.latest t) s.steps s.parts;
+}
