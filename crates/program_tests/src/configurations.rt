@@ -5,16 +5,16 @@ use record_outcome::status::Status;
 use std::test::*;
 
 const COUNTED: [Row; 3] = [
-    ("counts", "<200>", Status::Ok, "ok 1 4 7 1 1 0\n"),
+    ("counts", "[0 011001 0 200>", Status::Ok, "ok 1 4 7 1 1 0\n"),
     (
         "no capacity",
-        "<0>",
+        "[0 011001 0 0>",
         Status::Config { line: 9, kind: 8 },
         "",
     ),
     (
         "an empty word",
-        "<200 >",
+        "[0 011001 0 200 >",
         Status::Config { line: 9, kind: 1 },
         "",
     ),

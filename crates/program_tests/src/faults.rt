@@ -35,8 +35,8 @@ fn both_fail(rt: &impl Abort, alloc: Global, word: &str, text: &str) -> Result<(
 
 #[test]
 fn faults_have_a_status(rt: HostRuntime) -> Result<(), Fail> {
-    both_fail(&rt, rt.alloc(), "replay", "record 1\n<200>end\n")?;
-    both_fail(&rt, rt.alloc(), "check", "<200>")
+    both_fail(&rt, rt.alloc(), "replay", "record 1\n[0 011001 0 200>end\n")?;
+    both_fail(&rt, rt.alloc(), "check", "[0 011001 0 200>")
 }
 
 #[test]

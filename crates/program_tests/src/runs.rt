@@ -11,13 +11,13 @@ use sv_io::{Calls, MemSink, MemSource};
 /// A run: its name, the text that is read, the status, and what is written, both texts with marks.
 pub type Row = (&'static str, &'static str, Status, &'static str);
 
-/// What a mark stands for: `<` and `>` the lines of a configuration before a block's CAPACITY and behind it, `*` nine values
+/// What a mark stands for: `[` and `>` the lines of a configuration before a block's BUFTM and behind its CAPACITY, `*` nine values
 /// at nine moments, `@` the reference of the attribute that is set, `&` that of the block, and `!` the front of a moment.
 fn marked(mark: u8) -> Option<&'static str> {
     match mark {
-        b'<' => Some(
+        b'[' => Some(
             "config 1\nserver Demo Bay 1\nld BAY1\nln LLN0\nset Events\nmember BAY1/XCBR1$ST$Pos\nmember BAY1/GGIO1$ST$Ind1\n\
-             member BAY1/MMXU1$MX$TotW$mag$i\nbrcb brcbEv01 'Ev1 'BAY1/LLN0$Events 1 0111001110 0 011001 0 ",
+             member BAY1/MMXU1$MX$TotW$mag$i\nbrcb brcbEv01 'Ev1 'BAY1/LLN0$Events 1 0111001110 ",
         ),
         b'>' => Some(
             "\nln XCBR1\nattr ST Pos$stVal dbpos d 01\nattr ST Pos$q quality q 0000000000000\nattr ST Pos$t time - 0000000000000000\n\

@@ -22,7 +22,7 @@ use Rattle.run_record.proofs.ToldLaws.{line-told}
 use Rattle.run_record.specs.Grammar.{Spells}
 use Rattle.record_steps.specs.Shapes.{shape_at}
 use Rattle.record_steps.specs.Settings.{are_named, settings_at}
-use Rattle.record_steps.specs.Resolved.{turn_of, is_built, opened_as, valued_as, written_as, set_to, told_of}
+use Rattle.record_steps.specs.Resolved.{turn_of, opened_as, valued_as, written_as, set_to, told_of}
 use Rattle.record_steps.specs.Told.{Told, turn, refused, last}
 
 turn-goes : (c : Config) (actor : ℕ) (step : Step) → turn_of c actor step ≡ last → ⊥
@@ -45,7 +45,7 @@ open-goes c false a forms.Wire h = absurd cc
 
 value-goes : (c : Config) (a : AssocNo) (b : ℕ) (comp : Comp) (o : Option Value) → valued_as c a b comp o ≡ last → ⊥
 value-goes c a b comp None h = absurd cc
-value-goes c a b comp (Some v) h = if-goes (is_built comp) (turn_of c a.0 (steps.Write a (record { 0 = b }) comp v)) 9 (turn-goes c a.0 (steps.Write a (record { 0 = b }) comp v)) h
+value-goes c a b comp (Some v) h = turn-goes c a.0 (steps.Write a (record { 0 = b }) comp v) h
 
 write-goes : (c : Config) (there : Bool) (a : AssocNo) (block : Option ℕ) (comp : Option Comp) (word : List ℕ) → written_as c there a block comp word ≡ last → ⊥
 write-goes c there a (Some b) (Some comp) word h = if-goes there (valued_as c a b comp (shape_at comp word)) 5 (value-goes c a b comp (shape_at comp word)) h

@@ -1,13 +1,11 @@
 -- A configuration's text without what isn't built is one that a bay serves.
 use Rattle.std.proofs.Common.{◌≡◌, ℕ, List, []}
 use Rattle.std.specs.Prelude.{Ok}
-use Rattle.std.specs.List.{All}
 use Rattle.sv_base.specs.declared.config.Config.{Config}
-use Rattle.sv_base.specs.declared.config.BlockDef.{BlockDef}
 use Rattle.cfg_parser.specs.Looking.{config_at}
 use Rattle.cfg_text.proofs.WholeLaws.{config-told}
 use Rattle.bay_config.specs.Servable.{IsServable}
 use Rattle.text_configs.proofs.ServableLaws.{texts-are-served}
 
-pub served : (text : List ℕ) (c : Config) → config_at text ≡ Ok c → c.controls ≡ [] → c.groups ≡ [] → All (λ (b : BlockDef). (b.buf_tm ≡ 0) × (b.intg_pd ≡ 0)) c.blocks → IsServable c
-served text c read controls groups blocks = texts-are-served text c (config-told text c read) controls groups blocks
+pub served : (text : List ℕ) (c : Config) → config_at text ≡ Ok c → c.controls ≡ [] → c.groups ≡ [] → IsServable c
+served text c read controls groups = texts-are-served text c (config-told text c read) controls groups

@@ -1,9 +1,7 @@
 -- What the lines before the steps do: the line `record 1`, and those of the configuration up to `end`.
-use Rattle.std.specs.Prelude.{ℕ, ◌+◌, ◌==◌, ◌||◌, ◌&&◌, not, Bool, List, [], ◌∷◌, ◌++◌, length, map, codes, Option, None, Some, Result, Ok, Err, min, if◌then◌else◌}
-use Rattle.std.specs.List.{filter}
+use Rattle.std.specs.Prelude.{ℕ, ◌+◌, ◌==◌, ◌&&◌, not, List, [], ◌∷◌, ◌++◌, length, map, codes, Option, None, Some, Result, Ok, Err, min, if◌then◌else◌}
 use Rattle.std.specs.Str.{bytes_eq}
 use Rattle.sv_base.specs.declared.config.Config.{Config}
-use Rattle.sv_base.specs.declared.config.BlockDef.{BlockDef}
 use Rattle.sv_base.specs.declared.config.CtlDef.{CtlDef}
 use Rattle.sv_base.specs.declared.config.SgDef.{SgDef}
 use Rattle.text_words.specs.Octets.{is_skipped}
@@ -40,16 +38,9 @@ abbrev pub least_of : List ℕ → Option ℕ → Option ℕ
 least_of [] other = other
 least_of (n ∷ ns) other = least_with n (least_of ns other)
 
--- a block that gathers events for a time, or has an integrity period
-abbrev pub is_timed : BlockDef → Bool
-is_timed b = not (b.buf_tm == 0) || not (b.intg_pd == 0)
-
-abbrev pub timed_line : List BlockDef → Option ℕ
-timed_line blocks = least_of (map (λ (b : BlockDef). b.line) (filter is_timed blocks)) None
-
--- the first line of what isn't built, counted in the configuration: a control, setting groups, or such a block
+-- the first line of what isn't built, counted in the configuration: a control or setting groups
 abbrev pub unbuilt_line : Config → Option ℕ
-unbuilt_line c = least_of (map (λ (k : CtlDef). k.line) c.controls) (least_of (map (λ (g : SgDef). g.line) c.groups) (timed_line c.blocks))
+unbuilt_line c = least_of (map (λ (k : CtlDef). k.line) c.controls) (least_of (map (λ (g : SgDef). g.line) c.groups) None)
 
 abbrev pub started_by : ℕ → Config → Option ℕ → Move
 started_by before c None = goes (playing c start) []

@@ -19,7 +19,7 @@ use Rattle.run_record.specs.declared.pairs.Pair.{Pair}
 use Rattle.bay_model.specs.ComponentTable.{comp_named}
 use Rattle.record_steps.specs.Shapes.{shape_at}
 use Rattle.record_steps.specs.Settings.{are_named, settings_at}
-use Rattle.record_steps.specs.Resolved.{association_of, turn_of, is_built, opened_as, valued_as, written_as, lost_as, set_to, set_as, told_of}
+use Rattle.record_steps.specs.Resolved.{association_of, turn_of, opened_as, valued_as, written_as, lost_as, set_to, set_as, told_of}
 use Rattle.record_steps.specs.Told.{turn, refused}
 use Rattle.record_steps.specs.Telling.{NamesNone}
 use Rattle.record_steps.specs.Own.{IsOwn}
@@ -59,14 +59,8 @@ module _ (c : Config) (there : Bool) (a : AssocNo) where
       written-unspelled none = sym (valued ∙ ap (valued_as c a b k) none)
 
       module _ (v : Value) (is : shape_at k word ≡ Some v) where
-        written : written_as c there a block comp word ≡ (if is_built k then turn_of c a.0 (steps.Write a (record { 0 = b }) k v) else refused 9)
-        written = valued ∙ ap (valued_as c a b k) is
-
-        pub written-unbuilt : is_built k ≡ false → refused 9 ≡ written_as c there a block comp word
-        written-unbuilt built = sym (written ∙ ap (λ x. if x then turn_of c a.0 (steps.Write a (record { 0 = b }) k v) else refused 9) built)
-
-        pub written-built : is_built k ≡ true → turn_of c a.0 (steps.Write a (record { 0 = b }) k v) ≡ written_as c there a block comp word
-        written-built built = sym (written ∙ ap (λ x. if x then turn_of c a.0 (steps.Write a (record { 0 = b }) k v) else refused 9) built)
+        pub written-valued : turn_of c a.0 (steps.Write a (record { 0 = b }) k v) ≡ written_as c there a block comp word
+        written-valued = sym (valued ∙ ap (valued_as c a b k) is)
 
 -- what pairs were found to be
 module _ (c : Config) (pairs : List Pair) where
@@ -118,10 +112,7 @@ module _ (c : Config) (is_open : ℕ → Bool) (actor : ℕ) (step : Step) where
 
   value-own : (a : AssocNo) (b : ℕ) (comp : Comp) (o : Option Value) → is_open a.0 ≡ true → valued_as c a b comp o ≡ turn actor step → Own
   value-own a b comp None opened h = absurd cc
-  value-own a b comp (Some v) opened h = by (is_built comp) refl h where
-    by : (t : Bool) → is_built comp ≡ t → (if t then turn_of c a.0 (steps.Write a (record { 0 = b }) comp v) else refused 9) ≡ turn actor step → Own
-    by true e h = turned c a.0 actor (steps.Write a (record { 0 = b }) comp v) step (IsOwn is_open) h (opened, refl, e)
-    by false e h = absurd cc
+  value-own a b comp (Some v) opened h = turned c a.0 actor (steps.Write a (record { 0 = b }) comp v) step (IsOwn is_open) h (opened, refl)
 
   write-own : (a : AssocNo) (block : Option ℕ) (comp : Option Comp) (word : List ℕ) → written_as c (is_open a.0) a block comp word ≡ turn actor step → Own
   write-own a (Some b) (Some comp) word h = by (is_open a.0) refl h where

@@ -3,11 +3,10 @@
 use Rattle.std.specs.Prelude.{◌≡◌, ℕ, Bool, true, false}
 use Rattle.bay_model.specs.declared.step.Step.{Step}
 use Rattle.bay_model.specs.declared.step.Step.TheVariants as steps
-use Rattle.record_steps.specs.Resolved.{is_built}
 
 abbrev pub IsOwn : (ℕ → Bool) → ℕ → Step → Type 0
 IsOwn is_open actor (steps.Open a size writer) = (is_open a.0 ≡ false) × (actor ≡ a.0) × (writer.0 ≡ a.0)
-IsOwn is_open actor (steps.Write a b comp v) = (is_open a.0 ≡ true) × (actor ≡ a.0) × (is_built comp ≡ true)
+IsOwn is_open actor (steps.Write a b comp v) = (is_open a.0 ≡ true) × (actor ≡ a.0)
 IsOwn is_open actor (steps.Take a) = actor ≡ a.0
 IsOwn is_open actor (steps.Lost a) = (is_open a.0 ≡ true) × (actor ≡ a.0)
 IsOwn is_open actor (steps.Value settings) = Unit {0}

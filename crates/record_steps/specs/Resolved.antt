@@ -1,11 +1,10 @@
 -- What a line of a record tells a bay: names are looked up in its configuration, and values are read. Of several causes for
 -- a refusal the first one counts: 3 a name of nothing, 5 an association that isn't open, 4 no value, 9 what isn't built.
-use Rattle.std.specs.Prelude.{ℕ, Bool, true, false, List, Option, None, Some, if◌then◌else◌}
+use Rattle.std.specs.Prelude.{ℕ, Bool, List, Option, None, Some, if◌then◌else◌}
 use Rattle.sv_base.specs.declared.config.Config.{Config}
 use Rattle.sv_base.specs.declared.numbers.AssocNo.{AssocNo}
 use Rattle.sv_base.specs.declared.value.Value.{Value}
 use Rattle.bay_model.specs.declared.components.Comp.{Comp}
-use Rattle.bay_model.specs.declared.components.Comp.TheVariants as comps
 use Rattle.bay_model.specs.declared.step.Setting.{Setting}
 use Rattle.bay_model.specs.declared.step.Step.{Step}
 use Rattle.bay_model.specs.declared.step.Step.TheVariants as steps
@@ -36,20 +35,13 @@ association_of _ = 0
 abbrev pub turn_of : Config → ℕ → Step → Told
 turn_of c actor step = if fits c step then turn actor step else refused 4
 
--- writes of a component are built, unless it is BufTm, IntgPd or GI
-abbrev pub is_built : Comp → Bool
-is_built comps.BufTm = false
-is_built comps.IntgPd = false
-is_built comps.GI = false
-is_built _ = true
-
 abbrev pub opened_as : Config → Bool → AssocNo → OpenForm → Told
 opened_as c there a forms.Direct = if there then refused 5 else turn_of c a.0 (steps.Open a 65000 (record { 0 = a.0 }))
 opened_as c there a _ = if there then refused 5 else refused 9
 
 abbrev pub valued_as : Config → AssocNo → ℕ → Comp → Option Value → Told
 valued_as c a b comp None = refused 4
-valued_as c a b comp (Some v) = if is_built comp then turn_of c a.0 (steps.Write a (record { 0 = b }) comp v) else refused 9
+valued_as c a b comp (Some v) = turn_of c a.0 (steps.Write a (record { 0 = b }) comp v)
 
 abbrev pub written_as : Config → Bool → AssocNo → Option ℕ → Option Comp → List ℕ → Told
 written_as c there a (Some b) (Some comp) word = if there then valued_as c a b comp (shape_at comp word) else refused 5

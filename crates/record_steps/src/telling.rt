@@ -6,7 +6,7 @@ ghost use Rattle.run_record.specs.Seen.{line_seen, pairs_seen};
 ghost use Rattle.object_model.specs.Numbers.{number_in};
 ghost use Rattle.object_model.specs.References.{block_references};
 ghost use Rattle.bay_model.specs.ComponentTable.{comp_named};
-ghost use Rattle.record_steps.specs.Resolved.{is_built as is_built_component, opened_as, written_as, lost_as, set_as, turn_of, told_of};
+ghost use Rattle.record_steps.specs.Resolved.{opened_as, written_as, lost_as, set_as, turn_of, told_of};
 ghost use Rattle.record_steps.specs.Telling.{telling, NamesNone, Names};
 ghost use Rattle.bay_model.specs.declared.step.Step.TheVariants as steps;
 
@@ -39,13 +39,6 @@ fn put(slot: &mut Step, step: Step)
     ensures { slot.new ≡ step }
 {
     *slot = step;
-}
-
-/// The component is one whose writes are built.
-fn is_built(comp: Comp) -> bool
-    ensures { result ≡ is_built_component comp }
-{
-    !matches!(comp, Comp::BufTm | Comp::IntgPd | Comp::GI)
 }
 
 /// An association is opened, if it isn't open.
@@ -94,9 +87,6 @@ fn write(
     let Some(value) = shape(alloc, comp, value)? else {
         return Ok(Told::Refused(Kind::Value));
     };
-    if !is_built(comp) {
-        return Ok(Told::Refused(Kind::NotBuilt));
-    }
     put(step, Step::Write(a, block, comp, value));
     Ok(Told::Step(ActorNo(a.0)))
 }
