@@ -1,6 +1,6 @@
 -- How many entries go when one comes.
 use Rattle.std.proofs.Common.{◌≡◌, ◌≤◌, ◌<◌, ℕ, suc, ◌+◌, ◌-◌, List, [], ◌∷◌, ◌++◌, length, drop, refl, sym, ap, ◌∙◌, arith, inl, inr, length-append, true}
-use Rattle.std.specs.Prelude.{nat_lt}
+use Rattle.std.specs.Prelude.{nat_lt, Some}
 use Rattle.std.proofs.lemmas.Bool.Decides.{leb_tells}
 use Rattle.std.proofs.lemmas.Bool.{lt-ltb}
 use Rattle.std.proofs.lemmas.List.{drop-append-le, length-drop, drop_all}
@@ -60,7 +60,7 @@ left-fits capacity more (e ∷ es) h = elim (leb_tells (sizes (e ∷ es) + more)
 -- a buffer after an entry that fits
 pub entry-fits : (r : Ringed) (e : Held) (left : List Held) (number : ℕ) → number ≡ suc r.newest → r.newest < last_number → size e ≤ r.capacity → length r.entries ≤ r.newest → r.front ≡ r.newest - length r.entries
     → left ≡ drop (least_for r.capacity (size e) r.entries) r.entries ++ e ∷ []
-    → record { capacity = r.capacity; newest = number; front = number - length left; entries = left } ≡ after_entry r e
+    → record { capacity = r.capacity; newest = number; newest_moment = Some e.moment; front = number - length left; entries = left } ≡ after_entry r e
 entry-fits r e left number next h fits within front is =
     let least = least-appended r.capacity r.entries e fits in
     let bound = least-within r.capacity (size e) r.entries in
@@ -69,14 +69,14 @@ entry-fits r e left number next h fits within front is =
     let count : length left ≡ length r.entries - least_for r.capacity (size e) r.entries + 1 =
     ap length is ∙ (length-append (drop (least_for r.capacity (size e) r.entries) r.entries) (e ∷ []) ∙ omega (arith, length-drop (least_for r.capacity (size e) r.entries) r.entries)) in
     let first : suc r.newest - length left ≡ r.front + least_dropped r.capacity (r.entries ++ e ∷ []) = omega (arith, count, least, front, within, bound) in
-    rw (few r.newest h, same, next) (ap (λ f. record { capacity = r.capacity; newest = suc r.newest; front = f; entries = left }) first)
+    rw (few r.newest h, same, next) (ap (λ f. record { capacity = r.capacity; newest = suc r.newest; newest_moment = Some e.moment; front = f; entries = left }) first)
 
 -- a buffer after an entry that doesn't
 pub entry-oversized : (r : Ringed) (e : Held) (number : ℕ) → number ≡ suc r.newest → r.newest < last_number → r.capacity < size e → length r.entries ≤ r.newest → r.front ≡ r.newest - length r.entries
-    → record { capacity = r.capacity; newest = number; front = number - 0; entries = [] } ≡ after_entry r e
+    → record { capacity = r.capacity; newest = number; newest_moment = Some e.moment; front = number - 0; entries = [] } ≡ after_entry r e
 entry-oversized r e number next h over within front =
     let least = least-oversized r.capacity r.entries e over in
     let none : drop (least_dropped r.capacity (r.entries ++ e ∷ [])) (r.entries ++ e ∷ []) ≡ [] =
     drop_all (least_dropped r.capacity (r.entries ++ e ∷ [])) (r.entries ++ e ∷ []) (omega (arith, least, length-append r.entries (e ∷ []))) in
     let first : suc r.newest - 0 ≡ r.front + least_dropped r.capacity (r.entries ++ e ∷ []) = omega (arith, least, front, within) in
-    rw (few r.newest h, none, next) (ap (λ f. record { capacity = r.capacity; newest = suc r.newest; front = f; entries = [] }) first)
+    rw (few r.newest h, none, next) (ap (λ f. record { capacity = r.capacity; newest = suc r.newest; newest_moment = Some e.moment; front = f; entries = [] }) first)

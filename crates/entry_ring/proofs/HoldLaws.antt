@@ -1,6 +1,6 @@
 -- A buffer holds what is retained, point by point.
 use Rattle.std.proofs.Common.{◌≡◌, ◌≤◌, ℕ, zero, suc, ◌+◌, max, Bool, true, false, List, [], ◌∷◌, ◌++◌, length, drop, map, refl, sym, ap, ◌∙◌, arith, inl, inr, length-append}
-use Rattle.std.specs.Prelude.{nat_lt, if◌then◌else◌}
+use Rattle.std.specs.Prelude.{nat_lt, Some, if◌then◌else◌}
 use Rattle.std.proofs.lemmas.Bool.Decides.{leb_tells}
 use Rattle.std.proofs.lemmas.List.{drop-append-le, drop-drop, drop_all, map-append, length-map}
 use Rattle.bay_model.specs.Model.{Model}
@@ -15,7 +15,7 @@ use Rattle.bay_model.proofs.Again.{selected-again}
 use Rattle.bay_model.proofs.FrontLaws.{front_is_least, front_never_falls}
 use Rattle.entry_ring.specs.Held.{Held, sizes, least_dropped}
 use Rattle.entry_ring.specs.Ringed.{Ringed, fitted, after_entry, after_purge}
-use Rattle.entry_ring.specs.Standing.{held, Holds, after_all, after_point, empty}
+use Rattle.entry_ring.specs.Standing.{held, newest_moment, Holds, after_all, after_point, empty}
 
 sizes-held : (es : List Entry) → sizes (map held es) ≡ retained.sizes es
 sizes-held [] = refl
@@ -38,15 +38,21 @@ least-drop capacity (suc g) (e ∷ es) h = elim (leb_tells (sizes (e ∷ es)) ca
   | inr t ↦ rw t.0 (omega (arith, least-drop capacity g es (omega (arith, h))))
 ]
 
+pub newest-last : (es : List Entry) (e : Entry) → newest_moment (es ++ e ∷ []) ≡ Some e.moment
+newest-last [] e = refl
+newest-last (d ∷ []) e = refl
+newest-last (d ∷ f ∷ es) e = newest-last (f ∷ es) e
+
 -- the same of the entries alone, of which so many were purged
 record HoldsAll (r : Ringed) (capacity gone : ℕ) (es : List Entry) : Type 0 where
   is_capacity : r.capacity ≡ capacity
   newest : r.newest ≡ length es
+  moment : r.newest_moment ≡ newest_moment es
   front : r.front ≡ max gone (retained.least_dropped capacity es)
   entries : r.entries ≡ drop r.front (map held es)
   within : r.front ≤ r.newest
 
-holds-fitted : (r : Ringed) (capacity gone : ℕ) (es : List Entry) (e : Entry) → HoldsAll r capacity gone es → HoldsAll (fitted r (r.entries ++ held e ∷ [])) capacity gone (es ++ e ∷ [])
+holds-fitted : (r : Ringed) (capacity gone : ℕ) (es : List Entry) (e : Entry) → HoldsAll r capacity gone es → HoldsAll (fitted r e.moment (r.entries ++ held e ∷ [])) capacity gone (es ++ e ∷ [])
 holds-fitted r capacity gone es e h =
     let old : List Held = map held es in
     let all : List Held = old ++ held e ∷ [] in
@@ -62,6 +68,7 @@ holds-fitted r capacity gone es e h =
     record {
       is_capacity = h.is_capacity;
       newest = sym long;
+      moment = sym (newest-last es e);
       front = omega (arith, number, h.front, rises, least);
       entries = ap (λ l. drop (least_dropped r.capacity (r.entries ++ held e ∷ [])) l) left ∙ (drop-drop (least_dropped r.capacity (r.entries ++ held e ∷ [])) r.front all ∙ ap (λ l. drop (r.front + least_dropped r.capacity (r.entries ++ held e ∷ [])) l) (sym is_all));
       within = omega (arith, number, most, long, h.within, least);
@@ -71,7 +78,7 @@ holds-fitted r capacity gone es e h =
 holds-entry : (r : Ringed) (capacity gone : ℕ) (es : List Entry) (e : Entry) → HoldsAll r capacity gone es
     → HoldsAll (after_entry r (held e)) capacity gone (if nat_lt (length es) last_number then es ++ e ∷ [] else es)
 holds-entry r capacity gone es e h = rw (← h.newest) (either (nat_lt r.newest last_number)) where
-  either : (t : Bool) → HoldsAll (if t then fitted r (r.entries ++ held e ∷ []) else r) capacity gone (if t then es ++ e ∷ [] else es)
+  either : (t : Bool) → HoldsAll (if t then fitted r e.moment (r.entries ++ held e ∷ []) else r) capacity gone (if t then es ++ e ∷ [] else es)
   either true = holds-fitted r capacity gone es e h
   either false = h
 
@@ -84,13 +91,14 @@ holds-purge : (r : Ringed) (capacity gone : ℕ) (es : List Entry) → HoldsAll 
 holds-purge r capacity gone es h = record {
   is_capacity = h.is_capacity;
   newest = h.newest;
+  moment = h.moment;
   front = omega (arith, h.newest, (front_is_least capacity es).1);
   entries = sym (drop_all r.newest (map held es) (omega (arith, h.newest, length-map es held)));
   within = omega arith;
 }
 
 pub holds-opened : (c : Model) (b : ℕ) → Holds (empty (block_of c b).capacity) c b []
-holds-opened c b = record { capacity = refl; newest = refl; front = refl; entries = refl; within = omega arith }
+holds-opened c b = record { capacity = refl; newest = refl; newest_moment = refl; front = refl; entries = refl; within = omega arith }
 
 -- after a point which brings these entries to those that were there, and which may be a purge
 holds-with : (c : Model) (b : ℕ) (p : Point) (before : Past) (r : Ringed) (so_far es : List Entry) → HoldsAll r (block_of c b).capacity (purged c b before) so_far
@@ -102,18 +110,18 @@ holds-with c b p before r so_far es h new = either (purges c b p.deed before) re
   either : (t : Bool) → purges c b p.deed before ≡ t → Holds (if t then after_purge (after_all r es) else after_all r es) c b (p ∷ before)
   either true is =
       let done = holds-purge (after_all r es) (block_of c b).capacity (purged c b before) (selected c b (p ∷ before)) all in
-      record { capacity = done.is_capacity; newest = done.newest; front = done.front ∙ rw is refl; entries = done.entries; within = done.within }
-  either false is = record { capacity = all.is_capacity; newest = all.newest; front = all.front ∙ rw is refl; entries = all.entries; within = all.within }
+      record { capacity = done.is_capacity; newest = done.newest; newest_moment = done.moment; front = done.front ∙ rw is refl; entries = done.entries; within = done.within }
+  either false is = record { capacity = all.is_capacity; newest = all.newest; newest_moment = all.moment; front = all.front ∙ rw is refl; entries = all.entries; within = all.within }
 
 pub holds-point : (c : Model) (b : ℕ) (p : Point) (before : Past) (r : Ringed) (es : List Entry) → Holds r c b before → selected c b (p ∷ before) ≡ appended (selected c b before) es
     → Holds (after_point c b p before r es) c b (p ∷ before)
-holds-point c b p before r es h new = holds-with c b p before r (selected c b before) es (record { is_capacity = h.capacity; newest = h.newest; front = h.front; entries = h.entries; within = h.within }) new
+holds-point c b p before r es h new = holds-with c b p before r (selected c b before) es (record { is_capacity = h.capacity; newest = h.newest; moment = h.newest_moment; front = h.front; entries = h.entries; within = h.within }) new
 
 -- from the arrival of a point to the point itself, where what came of it brings these entries
 pub holds-deed : (c : Model) (b : ℕ) (p : Point) (before : Past) (r : Ringed) (es : List Entry) → Holds r c b (arrival p.step p.moment ∷ before)
     → selected c b (p ∷ before) ≡ appended (selected c b (arrival p.step p.moment ∷ before)) es → Holds (after_point c b p before r es) c b (p ∷ before)
 holds-deed c b p before r es h new =
-    holds-with c b p before r (selected c b (arrival p.step p.moment ∷ before)) es (record { is_capacity = h.capacity; newest = h.newest; front = h.front; entries = h.entries; within = h.within }) new
+    holds-with c b p before r (selected c b (arrival p.step p.moment ∷ before)) es (record { is_capacity = h.capacity; newest = h.newest; moment = h.newest_moment; front = h.front; entries = h.entries; within = h.within }) new
 
 -- a further arrival at the same moment brings nothing
 pub holds-again : (c : Model) (b m n : ℕ) (q : Point) (before : Past) (r : Ringed) → m ≤ now (q ∷ before) → Holds r c b (q ∷ before) → Holds r c b (arrival n m ∷ q ∷ before)

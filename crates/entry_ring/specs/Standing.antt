@@ -1,5 +1,5 @@
 -- What a buffer stands for: the entries of a block that are retained (IEC 61850-7-2, BRCB).
-use Rattle.std.specs.Prelude.{◌≡◌, ◌≤◌, ℕ, List, [], ◌∷◌, length, drop, map, if◌then◌else◌}
+use Rattle.std.specs.Prelude.{◌≡◌, ◌≤◌, ℕ, List, [], ◌∷◌, length, drop, map, Option, None, Some, if◌then◌else◌}
 use Rattle.bay_model.specs.Model.{Model}
 use Rattle.bay_model.specs.Lookups.{block_of}
 use Rattle.bay_model.specs.Points.{Point, Past}
@@ -13,10 +13,18 @@ use Rattle.entry_ring.specs.Ringed.{Ringed, after_entry, after_purge}
 abbrev pub held : Entry → Held
 held e = record { moment = e.moment; step = e.step; kept = kept_octets e }
 
--- the buffer holds the entries of block b above its front, up to the last point
+-- the moment of the newest of entries
+abbrev pub newest_moment : List Entry → Option ℕ
+newest_moment [] = None
+newest_moment (e ∷ []) = Some e.moment
+newest_moment (e ∷ f ∷ es) = newest_moment (f ∷ es)
+
+-- the buffer holds the entries of block b above its front, up to the last point, and knows how many there were and the moment of
+-- the newest one
 pub record Holds (r : Ringed) (c : Model) (b : ℕ) (past : Past) : Type 0 where
   pub capacity : r.capacity ≡ (block_of c b).capacity
   pub newest : r.newest ≡ length (selected c b past)
+  pub newest_moment : r.newest_moment ≡ newest_moment (selected c b past)
   pub front : r.front ≡ front_at c b past
   pub entries : r.entries ≡ drop r.front (map held (selected c b past))
   pub within : r.front ≤ r.newest
@@ -31,4 +39,4 @@ abbrev pub after_point : Model → ℕ → Point → Past → Ringed → List En
 after_point c b p before r es = if purges c b p.deed before then after_purge (after_all r es) else after_all r es
 
 abbrev pub empty : ℕ → Ringed
-empty capacity = record { capacity = capacity; newest = 0; front = 0; entries = [] }
+empty capacity = record { capacity = capacity; newest = 0; newest_moment = None; front = 0; entries = [] }

@@ -20,10 +20,11 @@ fn make_room(room: &mut Room, size: usize)
 }
 
 /// The buffer of a block: its entries are numbered from 1 in the order in which they come, and the newest ones that fit the
-/// capacity together are retained.
+/// capacity together are retained. It keeps the moment of the newest one, retained or not.
 #[derive(Drop)]
 pub struct Ring {
     newest: u64,
+    newest_moment: Option<Moment>,
     room: Room,
 }
 
@@ -33,23 +34,24 @@ impl Model for Ring {
 
     ghost Value = { Ringed };
 
-    ghost view = { λ r. record { capacity = r.room.capacity; newest = r.newest; front = r.newest - length r.room.entries; entries = r.room.entries } };
+    ghost view = { λ r. record { capacity = r.room.capacity; newest = r.newest; newest_moment = r.newest_moment; front = r.newest - length r.room.entries; entries = r.room.entries } };
 
     ghost invariant = { λ r. length r.room.entries ≤ r.newest };
 }
 
 impl Ring {
-    ghost use Rattle.std.specs.Prelude.{◌≡◌, [], IfOk};
+    ghost use Rattle.std.specs.Prelude.{◌≡◌, [], None, IfOk};
     ghost use Rattle.std.specs.Option.{option_map};
     ghost use Rattle.entry_ring.specs.Entries.{held_of};
     ghost use Rattle.entry_ring.specs.Ringed.{after_entry, after_purge, entry_at};
 
     /// An empty buffer, with all the room for a capacity in octets, 1 to 1048576.
     pub fn open(alloc: Global, capacity: u32) -> Result<Ring, AllocError>
-        ensures { IfOk result (λ r. r ≡ record { capacity = capacity; newest = 0; front = 0; entries = [] }) }
+        ensures { IfOk result (λ r. r ≡ record { capacity = capacity; newest = 0; newest_moment = None; front = 0; entries = [] }) }
     {
         Ok(Ring {
             newest: 0,
+            newest_moment: None,
             room: Room::new(alloc, capacity)?,
         })
     }
@@ -65,6 +67,7 @@ impl Ring {
             return;
         }
         self.newest += 1;
+        self.newest_moment = Some(moment);
         let size = OVERHEAD + kept.len();
         if self.room.capacity() < size {
             self.room.clear();
@@ -86,6 +89,13 @@ impl Ring {
         ensures { result ≡ self.now.newest }
     {
         self.newest
+    }
+
+    /// The moment of the newest entry, retained or not; none where there was none.
+    pub fn newest_moment(&self) -> Option<Moment>
+        ensures { result ≡ self.now.newest_moment }
+    {
+        self.newest_moment
     }
 
     /// Discards all entries. Numbers go on. It takes no memory.

@@ -13,3 +13,4 @@ pub mod EarlierLaws
 pub mod AllLaws
 pub mod PassLaws
 pub mod DueLaws
+pub mod ReadingLaws

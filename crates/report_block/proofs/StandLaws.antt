@@ -93,7 +93,7 @@ idle was moment step all part off none =
 -- ---- arrival
 
 module _ (c : Model) (b m n : ℕ) (before : Past) (part : ReportBlock) (all : List Piece) (s : Stands part c b before) where
-  due-told : is_due (now before) (max m (now before)) part ≡ integrity c b (arrival n m) before
+  pub due-told : is_due (now before) (max m (now before)) part ≡ integrity c b (arrival n m) before
   due-told = by ((parameters_at c b before).intg_pd == 0) refl
     where
       told : (past : Past) (x : Option ℕ) (o : Parameters) → x ≡ origin_of c b past → o ≡ parameters_at c b past → option_map_or (λ k. is_period_over o k (now past) (max m (now past))) x false ≡ integrity c b (arrival n m) past

@@ -9,6 +9,7 @@ pub mod Alls
 pub mod Writes
 pub mod Components
 pub mod Due
+pub mod Reading
 -- its reports
 pub mod Offers
 pub mod Reporting

@@ -12,6 +12,9 @@ mod events;
 mod time;
 mod time_laws;
 
+// what its components read
+mod reading;
+
 // which entry is reported next, the members that a report has of its octets, and the report whose memory is used again
 mod laws;
 mod members;

@@ -49,7 +49,7 @@ impl ReportBlock {
     }
 
     /// An integrity period ended between two moments.
-    fn is_due(&self, was: Moment, now: Moment) -> bool
+    pub(crate) fn is_due(&self, was: Moment, now: Moment) -> bool
         ensures { result ≡ is_due_in was now self.now }
     {
         let period = u64::from(self.block.period());

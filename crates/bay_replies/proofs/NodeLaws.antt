@@ -1,0 +1,204 @@
+-- The nodes of a configuration without controls and setting groups are plain.
+use Rattle.std.proofs.Common.{◌≡◌, ◌≤◌, ◌<◌, ℕ, zero, suc, ◌+◌, Bool, true, false, cond, not, ◌&&◌, List, [], ◌∷◌, ◌++◌, length, map, filter, flat_map, refl, sym, subst, ap, ◌∙◌, arith, length-append}
+use Rattle.std.specs.Prelude.{if◌then◌else◌, codes, nat_le, Some, unwrap_or, slice_get}
+use Rattle.std.specs.Option.{option_map}
+use Rattle.std.specs.List.{find}
+use Rattle.std.specs.Str.{bytes_eq}
+use Rattle.sv_base.specs.declared.config.Config.{Config}
+use Rattle.sv_base.specs.declared.config.LnDef.{LnDef}
+use Rattle.sv_base.specs.declared.config.AttrDef.{AttrDef}
+use Rattle.sv_base.specs.declared.config.BlockDef.{BlockDef}
+use Rattle.sv_base.specs.declared.config.CtlDef.{CtlDef}
+use Rattle.sv_base.specs.declared.config.SgDef.{SgDef}
+use Rattle.bay_model.specs.declared.components.Comp.{Comp}
+use Rattle.bay_model.specs.Attributes.{attributes, attr_defined, attrs_defined, attrs_generated, twins}
+use Rattle.bay_rooms.specs.Kinds.{type_of}
+use Rattle.bay_model.specs.ComponentTable.{components, comp_name, comp_kind}
+use Rattle.bay_model.specs.Generated.{Named, parameters}
+use Rattle.bay_model.specs.Lookups.{node_of}
+use Rattle.bay_model.specs.Model.{attribute, component, structure, Trees, none, more, Role, single, selecting, calling, several, Node, edited}
+use Rattle.bay_model.specs.Named.{configured_model, nodes, places_in}
+use Rattle.bay_model.specs.NamedLines.{Line, is_setting, path_item, attribute_lines, node_line, block_lines, control_lines, group_line, domains, domain_number, generated, lines, insert_line, in_order, names_in}
+use Rattle.bay_model.specs.NameTree.{Forest, nothing, named, rest_of, first_name, is_itself, below, first_names, role_of, own_type, side_by_side, grown, longest, tree_of}
+use Rattle.bay_model.specs.Places.{Place, places, node_at, trees, tree_with}
+use Rattle.list_laws.proofs.Among.{Each, each-both}
+use Rattle.bay_replies.specs.Plain.{IsPlainTree, ArePlainTrees, IsPlainRole, IsPlainNode}
+
+-- ---- lists
+
+each-filter : {X : Type 0} (P : X → Type 0) (p : X → Bool) (xs : List X) → Each P xs → Each P (filter p xs)
+each-filter P p [] h = tt
+each-filter P p (x ∷ xs) h = by (p x) (each-filter P p xs h.1)
+  where
+    by : (t : Bool) → Each P (filter p xs) → Each P (cond t (x ∷ filter p xs) (filter p xs))
+    by true go = (h.0, go)
+    by false go = go
+
+each-spread : {X Y : Type 0} (P : Y → Type 0) (f : X → List Y) (xs : List X) → Each (λ x. Each P (f x)) xs → Each P (flat_map f xs)
+each-spread P f [] h = tt
+each-spread P f (x ∷ xs) h = each-both P (f x) (flat_map f xs) h.0 (each-spread P f xs h.1)
+
+module _ (attrs blocks : ℕ) where
+  abbrev IsRole : Role → Type 0
+  IsRole r = IsPlainRole attrs blocks r
+
+  abbrev IsName : Named → Type 0
+  IsName n = IsRole n.role
+
+  abbrev IsLine : Line → Type 0
+  IsLine l = Each IsName l.names
+
+  -- ---- a tree of names
+
+  abbrev AreRoles : Forest → Type 0
+  AreRoles nothing = Unit {0}
+  AreRoles (named n r k parts others) = IsRole r × AreRoles parts × AreRoles others
+
+  tree-plain : (r : Role) (ts : Trees) → IsRole r → ArePlainTrees attrs blocks ts → IsPlainTree attrs blocks (tree_with r ts)
+  tree-plain (single l) none is all = is
+  tree-plain (single l) (more t ts) is all = all
+  tree-plain (selecting k) ts is all = absurd is
+  tree-plain (calling k call) ts is all = absurd is
+  tree-plain several none is all = all
+  tree-plain several (more t ts) is all = all
+
+  trees-plain : (f : Forest) → AreRoles f → ArePlainTrees attrs blocks (trees f)
+  trees-plain nothing h = tt
+  trees-plain (named n r k parts others) h = (tree-plain r (trees parts) h.0 (trees-plain parts h.1), trees-plain others h.2)
+
+  abbrev IsPlace : Place → Type 0
+  IsPlace p = IsRole p.role × IsPlainTree attrs blocks p.tree
+
+  places-plain : (before : List ℕ) (f : Forest) → AreRoles f → Each IsPlace (places before f)
+  places-plain before nothing h = tt
+  places-plain before (named n r k parts others) h = (
+    (h.0, tree-plain r (trees parts) h.0 (trees-plain parts h.1)),
+    each-both IsPlace (places (before ++ n ++ 36 ∷ []) parts) (places before others) (places-plain (before ++ n ++ 36 ∷ []) parts h.1) (places-plain before others h.2),
+  )
+
+  -- ---- how it grows
+
+  below-names : (name : List ℕ) (ns : List Named) → Each IsName ns → Each IsName (below name ns)
+  below-names name ns h = rests (filter (λ (n : Named). not (is_itself n) && bytes_eq name (first_name n)) ns) (each-filter IsName (λ (n : Named). not (is_itself n) && bytes_eq name (first_name n)) ns h)
+    where
+      rests : (ms : List Named) → Each IsName ms → Each IsName (map rest_of ms)
+      rests [] h = tt
+      rests (m ∷ ms) h = (h.0, rests ms h.1)
+
+  role-plain : (ns : List Named) → Each IsName ns → IsRole (role_of ns)
+  role-plain [] h = tt
+  role-plain (n ∷ ns) h = by (is_itself n) (role-plain ns h.1)
+    where
+      by : (t : Bool) → IsRole (role_of ns) → IsRole (unwrap_or (option_map (λ (n : Named). n.role) (if t then Some n else find is_itself ns)) several)
+      by true go = h.0
+      by false go = go
+
+  grown-plain : (levels : ℕ) (ns : List Named) → Each IsName ns → AreRoles (grown levels ns)
+  grown-plain zero ns h = tt
+  grown-plain (suc levels) ns h = side (λ name. grown-plain levels (below name ns) (below-names name ns h)) (first_names ns)
+    where
+      side : ((name : List ℕ) → AreRoles (grown levels (below name ns))) → (names : List (List ℕ))
+          → AreRoles (side_by_side (λ name others. named name (role_of (below name ns)) (own_type (below name ns)) (grown levels (below name ns)) others) names)
+      side parts [] = tt
+      side parts (name ∷ names) = (role-plain (below name ns) (below-names name ns h), parts name, side parts names)
+
+  -- ---- the lines
+
+  attribute-lines : (x twin : ℕ) (as_ : List AttrDef) → x + length as_ ≤ attrs → twin + length (filter is_setting as_) ≤ attrs → Each IsLine (attribute_lines x twin as_)
+  attribute-lines x twin [] below above = tt
+  attribute-lines x twin (a ∷ rest) below above = by (is_setting a) above (λ t. attribute-lines (x + 1) t rest (omega (arith, below)))
+    where
+      by : (t : Bool) → twin + length (cond t (a ∷ filter is_setting rest) (filter is_setting rest)) ≤ attrs → ((t : ℕ) → t + length (filter is_setting rest) ≤ attrs → Each IsLine (attribute_lines (x + 1) t rest))
+          → ((x < attrs) × Each IsName (if t then record { item = path_item a.ln (codes "SE") a.path; role = single (attribute twin); kind = a.kind } ∷ [] else [])) × Each IsLine (attribute_lines (x + 1) (if t then twin + 1 else twin) rest)
+      by true above go = ((omega (arith, below), (omega (arith, above), tt)), go (twin + 1) (omega (arith, above)))
+      by false above go = ((omega (arith, below), tt), go twin above)
+
+  node-lines : (ns : List LnDef) → Each IsLine (map node_line ns)
+  node-lines [] = tt
+  node-lines (n ∷ ns) = ((tt, tt), node-lines ns)
+
+  component-names : (b : ℕ) (item : List ℕ) (ks : List Comp) → b < blocks → Each IsName (map (λ k. record { item = item ++ 36 ∷ comp_name k; role = single (component b k); kind = type_of (comp_kind k) }) ks)
+  component-names b item [] h = tt
+  component-names b item (k ∷ ks) h = (h, component-names b item ks h)
+
+  block-lines : (b : ℕ) (bs : List BlockDef) → b + length bs ≤ blocks → Each IsLine (block_lines b bs)
+  block-lines b [] h = tt
+  block-lines b (d ∷ rest) h = (component-names b (path_item d.ln (codes "BR") d.name) components (omega (arith, h)), block-lines (b + 1) rest (omega (arith, h)))
+
+  insert-plain : (l : Line) (ls : List Line) → IsLine l → Each IsLine ls → Each IsLine (insert_line l ls)
+  insert-plain l [] is all = (is, tt)
+  insert-plain l (m ∷ ms) is all = by (nat_le l.line m.line) (insert-plain l ms is all.1)
+    where
+      by : (t : Bool) → Each IsLine (insert_line l ms) → Each IsLine (if t then l ∷ m ∷ ms else m ∷ insert_line l ms)
+      by true go = (is, all)
+      by false go = (all.0, go)
+
+  order-plain : (ls : List Line) → Each IsLine ls → Each IsLine (in_order ls)
+  order-plain [] h = tt
+  order-plain (l ∷ ls) h = insert-plain l (in_order ls) h.0 (order-plain ls h.1)
+
+-- ---- a configuration
+
+pub count-lines : (c : Config) (x : ℕ) (as_ : List AttrDef) → length (attrs_defined c x as_) ≡ length as_
+count-lines c x [] = refl
+count-lines c x (a ∷ rest) = ap suc (count-lines c (1 + x) rest)
+
+count-twins : (c : Config) (x : ℕ) (as_ : List AttrDef) → length (twins c x as_) ≡ length (filter is_setting as_)
+count-twins c x [] = refl
+count-twins c x (a ∷ rest) = by (is_setting a) (count-twins c (1 + x) rest)
+  where
+    by : (t : Bool) → length (twins c (1 + x) rest) ≡ length (filter is_setting rest)
+        → length (if t then record (attr_defined c x a) { access = edited } ∷ twins c (1 + x) rest else twins c (1 + x) rest) ≡ length (cond t (a ∷ filter is_setting rest) (filter is_setting rest))
+    by true go = ap suc go
+    by false go = go
+
+module _ (c : Config) (controls : c.controls ≡ []) (groups : c.groups ≡ []) where
+  abbrev pub counted : ℕ
+  counted = length (attributes c)
+
+  pub count-attributes : length (attributes c) ≡ length c.attrs + length (filter is_setting c.attrs)
+  count-attributes = length-append (attrs_defined c 0 c.attrs) (flat_map (attrs_generated c) c.controls ++ twins c 0 c.attrs)
+      ∙ omega (arith, count-lines c 0 c.attrs, length-append (flat_map (attrs_generated c) c.controls) (twins c 0 c.attrs), ap (λ ks. length (flat_map (attrs_generated c) ks)) controls, count-twins c 0 c.attrs)
+
+  lines-plain : Each (IsLine (length (attributes c)) (length c.blocks)) (lines c)
+  lines-plain =
+      let P : Line → Type 0 = IsLine (length (attributes c)) (length c.blocks) in
+      let twin : ℕ = length c.attrs + length (generated c) in
+      let ks : List Line = control_lines 0 (length c.attrs) c.controls in
+      let gs : List Line = map (λ (g : SgDef). group_line (domain_number c g.domain) g) c.groups in
+      let none : length (generated c) ≡ 0 = ap (λ ks. length (flat_map parameters ks)) controls in
+      each-both P (map node_line c.nodes) (attribute_lines 0 twin c.attrs ++ (block_lines 0 c.blocks ++ (ks ++ gs))) (node-lines (length (attributes c)) (length c.blocks) c.nodes)
+      (each-both P (attribute_lines 0 twin c.attrs) (block_lines 0 c.blocks ++ (ks ++ gs)) (attribute-lines (length (attributes c)) (length c.blocks) 0 twin c.attrs (omega (arith, count-attributes)) (omega (arith, count-attributes, none)))
+      (each-both P (block_lines 0 c.blocks) (ks ++ gs) (block-lines (length (attributes c)) (length c.blocks) 0 c.blocks (omega arith))
+      (each-both P ks gs (subst (λ (xs : List CtlDef). Each P (control_lines 0 (length c.attrs) xs)) (sym controls) tt)
+      (subst (λ (xs : List SgDef). Each P (map (λ (g : SgDef). group_line (domain_number c g.domain) g) xs)) (sym groups) tt))))
+
+  names-plain : (domain : List ℕ) → Each (IsName (length (attributes c)) (length c.blocks)) (names_in c domain)
+  names-plain domain =
+      each-spread (IsName (length (attributes c)) (length c.blocks)) (λ (l : Line). l.names) (filter (λ (l : Line). bytes_eq l.domain domain) (in_order (lines c)))
+      (each-filter (IsLine (length (attributes c)) (length c.blocks)) (λ (l : Line). bytes_eq l.domain domain) (in_order (lines c)) (order-plain (length (attributes c)) (length c.blocks) (lines c) lines-plain))
+
+  abbrev IsNode : Node → Type 0
+  IsNode n = IsPlainNode (length (attributes c)) (length c.blocks) n
+
+  nodes-of : (domain : List ℕ) (ps : List Place) → Each (IsPlace (length (attributes c)) (length c.blocks)) ps → Each IsNode (map (node_at domain) ps)
+  nodes-of domain [] h = tt
+  nodes-of domain (p ∷ ps) h = (record { role = h.0.0; tree = h.0.1 }, nodes-of domain ps h.1)
+
+  nodes-plain : Each IsNode (nodes c)
+  nodes-plain = each-spread IsNode (λ domain. map (node_at domain) (places_in c domain)) (domains c) (in-domains (domains c))
+    where
+      in-domains : (ds : List (List ℕ)) → Each (λ domain. Each IsNode (map (node_at domain) (places_in c domain))) ds
+      in-domains [] = tt
+      in-domains (d ∷ ds) = (
+        nodes-of d (places_in c d) (places-plain (length (attributes c)) (length c.blocks) [] (tree_of (names_in c d)) (grown-plain (length (attributes c)) (length c.blocks) (suc (longest (names_in c d))) (names_in c d) (names-plain d))),
+        in-domains ds,
+      )
+
+  at-plain : (ns : List Node) (n : ℕ) → Each IsNode ns → IsNode (unwrap_or (slice_get ns n) (record { domain = []; item = []; role = several; tree = structure none; attrs = []; allowed = false }))
+  at-plain [] n h = record { role = tt; tree = tt }
+  at-plain (x ∷ ns) zero h = h.0
+  at-plain (x ∷ ns) (suc n) h = at-plain ns n h.1
+
+  pub node-plain : (n : ℕ) → IsNode (node_of (configured_model c) n)
+  node-plain n = at-plain (nodes c) n nodes-plain

@@ -1,0 +1,98 @@
+-- What a request reads is the same at each of its points, and nothing comes of it.
+use Rattle.std.proofs.Common.{◌≡◌, ◌≤◌, ℕ, zero, suc, List, [], ◌∷◌, length, map, refl, ap, ap₂, ◌∙◌, arith}
+use Rattle.std.specs.Prelude.{Result, Ok, Err}
+use Rattle.std.specs.Int.{to_be_bytes, w64}
+use Rattle.sv_base.specs.declared.value.Value.{Value}
+use Rattle.sv_base.specs.declared.value.Value.TheVariants as kinds
+use Rattle.bay_model.specs.declared.components.Comp.{Comp}
+use Rattle.bay_model.specs.declared.components.Comp.TheVariants as comps
+use Rattle.bay_model.specs.Components.{read_component, time_of_newest}
+use Rattle.bay_model.specs.Model as model
+use Rattle.bay_model.specs.Model.{Model, Access}
+use Rattle.bay_model.specs.Outcomes.{deed_of, result_of}
+use Rattle.bay_model.specs.Points.{Deed, nothing, Point, Past, now}
+use Rattle.bay_model.specs.Reads.{read_attribute, read_node, outcome_of_read}
+use Rattle.bay_model.specs.Singles.{Single, reads, writes, fails, arrival, outcome_at, after_single, outcomes}
+use Rattle.bay_model.proofs.Again.{selected-again}
+use Rattle.bay_replies.specs.Points.{arrivals}
+
+-- ---- attributes and components
+
+attribute-again : (c : Model) (m n : ℕ) (access : Access) (x : ℕ) (past : Past) → read_attribute c access x (arrival n m ∷ past) ≡ read_attribute c access x past
+attribute-again c m n model.reported x past = refl
+attribute-again c m n model.writable x past = refl
+attribute-again c m n model.active x past = refl
+attribute-again c m n model.edited x past = refl
+
+pub attribute-same : (c : Model) (m n : ℕ) (access : Access) (x k : ℕ) (past : Past) → read_attribute c access x (arrivals n m k past) ≡ read_attribute c access x past
+attribute-same c m n access x zero past = refl
+attribute-same c m n access x (suc k) past = attribute-again c m n access x (arrivals n m k past) ∙ attribute-same c m n access x k past
+
+component-again : (c : Model) (b m n : ℕ) (comp : Comp) (q : Point) (before : Past) → m ≤ now (q ∷ before) → read_component c b comp (arrival n m ∷ q ∷ before) ≡ read_component c b comp (q ∷ before)
+component-again c b m n comps.RptID q before same = refl
+component-again c b m n comps.RptEna q before same = refl
+component-again c b m n comps.DatSet q before same = refl
+component-again c b m n comps.ConfRev q before same = refl
+component-again c b m n comps.OptFlds q before same = refl
+component-again c b m n comps.BufTm q before same = refl
+component-again c b m n comps.SqNum q before same = refl
+component-again c b m n comps.TrgOps q before same = refl
+component-again c b m n comps.IntgPd q before same = refl
+component-again c b m n comps.GI q before same = refl
+component-again c b m n comps.PurgeBuf q before same = refl
+component-again c b m n comps.EntryID q before same = ap (λ es. kinds.Octets (to_be_bytes w64 (length es))) (selected-again c b m n q before same)
+component-again c b m n comps.TimeofEntry q before same = ap (λ es. kinds.Stamp (time_of_newest es)) (selected-again c b m n q before same)
+
+pub component-same : (c : Model) (b m n : ℕ) (comp : Comp) (k : ℕ) (past : Past) → read_component c b comp (arrivals n m (suc k) past) ≡ read_component c b comp (arrival n m ∷ past)
+component-same c b m n comp zero past = refl
+component-same c b m n comp (suc k) past =
+    let same : m ≤ now (arrival n m ∷ arrivals n m k past) = omega arith in
+    component-again c b m n comp (arrival n m) (arrivals n m k past) same ∙ component-same c b m n comp k past
+
+-- ---- single reads
+
+-- nodes that are read, and names that fail
+abbrev pub ReadsOnly : List Single → Type 0
+ReadsOnly [] = Unit {0}
+ReadsOnly (reads x ∷ ss) = ReadsOnly ss
+ReadsOnly (writes x v ∷ ss) = ⊥
+ReadsOnly (fails code ∷ ss) = ReadsOnly ss
+
+pub rest-only : (s : Single) (ss : List Single) → ReadsOnly (s ∷ ss) → ReadsOnly ss
+rest-only (reads x) ss h = h
+rest-only (writes x v) ss h = absurd h
+rest-only (fails code) ss h = h
+
+-- what each is answered, where nodes read so
+abbrev pub answer_to : (ℕ → Result Value ℕ) → Single → Result Value ℕ
+answer_to f (reads x) = f x
+answer_to f (writes x v) = Err 3
+answer_to f (fails code) = Err code
+
+pub nothing-read : (r : Result Value ℕ) → deed_of (outcome_of_read r) ≡ nothing
+nothing-read (Ok v) = refl
+nothing-read (Err code) = refl
+
+result-read : (r : Result Value ℕ) → result_of (outcome_of_read r) ≡ r
+result-read (Ok v) = refl
+result-read (Err code) = refl
+
+module _ (c : Model) (a m n : ℕ) (f : ℕ → Result Value ℕ) (past : Past) (told : (k x : ℕ) → read_node c a x (arrivals n m (suc k) past) ≡ outcome_of_read (f x)) where
+  pub outcome-single : (k : ℕ) (s : Single) (ss : List Single) → ReadsOnly (s ∷ ss) → outcome_at c a n m s (arrivals n m k past) ≡ outcome_of_read (answer_to f s)
+  outcome-single k (reads x) ss h = told k x
+  outcome-single k (writes x v) ss h = absurd h
+  outcome-single k (fails code) ss h = refl
+
+  after-single : (k : ℕ) (s : Single) (ss : List Single) → ReadsOnly (s ∷ ss) → after_single c a n m s (arrivals n m k past) ≡ arrivals n m (suc k) past
+  after-single k s ss h = ap (λ (d : Deed). record { moment = m; step = n; deed = d } ∷ arrivals n m k past) (ap deed_of (outcome-single k s ss h) ∙ nothing-read (answer_to f s))
+
+  pub outcomes-told : (k : ℕ) (ss : List Single) → ReadsOnly ss → outcomes c a n m ss (arrivals n m k past) ≡ map (λ s. outcome_of_read (answer_to f s)) ss
+  outcomes-told k [] h = refl
+  outcomes-told k (s ∷ ss) h = ap₂ (λ o os. o ∷ os) (outcome-single k s ss h) (ap (outcomes c a n m ss) (after-single k s ss h) ∙ outcomes-told (suc k) ss (rest-only s ss h))
+
+  results-all : (ss : List Single) → map result_of (map (λ s. outcome_of_read (answer_to f s)) ss) ≡ map (answer_to f) ss
+  results-all [] = refl
+  results-all (s ∷ ss) = ap₂ (λ r rs. r ∷ rs) (result-read (answer_to f s)) (results-all ss)
+
+  pub results-told : (ss : List Single) → ReadsOnly ss → map result_of (outcomes c a n m ss past) ≡ map (answer_to f) ss
+  results-told ss h = ap (map result_of) (outcomes-told zero ss h) ∙ results-all ss

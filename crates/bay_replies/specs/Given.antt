@@ -1,0 +1,42 @@
+-- What the leaves of nodes and whole nodes read as, by what is lent of a bay.
+use Rattle.std.specs.Prelude.{ℕ, ◌&&◌, nat_lt, List, length, Option, None, Some, Result, Ok, Err, slice_get, if◌then◌else◌}
+use Rattle.sv_base.specs.declared.config.Config.{Config}
+use Rattle.sv_base.specs.declared.value.Value.{Value}
+use Rattle.bay_model.specs.declared.components.Comp.{Comp}
+use Rattle.bay_model.specs.declared.request.Target.{Target}
+use Rattle.bay_model.specs.declared.request.Target.TheVariants as targets
+use Rattle.bay_model.specs.Lookups.{node_of}
+use Rattle.bay_model.specs.Model.{Leaf, attribute, component}
+use Rattle.bay_model.specs.Named.{configured_model}
+use Rattle.node_reads.specs.Reading.{read_by, leaf_read}
+use Rattle.value_store.specs.Stored as store
+use Rattle.value_store.specs.Stored.{Stored}
+use Rattle.report_block.specs.declared.block.ReportBlock.{ReportBlock}
+use Rattle.report_block.specs.Reading.{reading}
+use Rattle.bay_replies.specs.declared.replies.Replies.{Replies}
+
+-- the attribute of a line has its value; the edit copies stand behind these, and nobody holds them
+abbrev pub attribute_read : Config → List Stored → ℕ → Result Value ℕ
+attribute_read c stored x = if nat_lt x (length c.attrs) && nat_lt x (length stored) then Ok (store.attribute stored x).held.value else Err 2
+
+abbrev pub component_read : (was now : ℕ) → Comp → Option ReportBlock → Result Value ℕ
+component_read was now comp None = Err 3
+component_read was now comp (Some part) = Ok (reading was now comp part)
+
+abbrev pub leaf_by : Config → List Stored → List ReportBlock → (was now : ℕ) → Leaf → Result Value ℕ
+leaf_by c stored parts was now (attribute x) = attribute_read c stored x
+leaf_by c stored parts was now (component b comp) = component_read was now comp (slice_get parts b)
+leaf_by c stored parts was now _ = Err 3
+
+-- of what is lent
+abbrev pub given_by : Replies → Leaf → Result Value ℕ
+given_by r l = leaf_by r.model.now r.store.now r.blocks.now r.was r.now l
+
+abbrev pub node_read : Replies → ℕ → Result Value ℕ
+node_read r n = read_by (leaf_read (given_by r)) (node_of (configured_model r.model.now) n).tree
+
+-- a name that no node has, and one with alternate access, have codes of their own
+abbrev pub target_read : Replies → Target → Result Value ℕ
+target_read r (targets.Node n name) = node_read r n.0
+target_read r (targets.Missing name) = Err 10
+target_read r (targets.Alternate name) = Err 9

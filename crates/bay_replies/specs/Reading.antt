@@ -1,0 +1,21 @@
+-- Results of reads, as far as a PDU can hold them (ISO 9506-2, Read).
+use Rattle.std.specs.Prelude.{◌<◌, ℕ, ◌-◌, List, length, Option, None, Some, Result, nat_le, if◌then◌else◌}
+use Rattle.sv_base.specs.declared.config.Config.{Config}
+use Rattle.sv_base.specs.declared.value.Value.{Value}
+use Rattle.bay_model.specs.declared.request.Target.{Target}
+use Rattle.bay_model.specs.declared.request.Target.TheVariants as targets
+use Rattle.bay_model.specs.Named.{nodes}
+use Rattle.bay_model.specs.Sizes.{are_too_long}
+
+-- none where they are longer than the size
+abbrev pub held_within : ℕ → List (Result Value ℕ) → Option (List (Result Value ℕ))
+held_within size results = if are_too_long size results then None else Some results
+
+-- what is left of some octets behind so many; none where these are more
+abbrev pub left_of : ℕ → ℕ → Option ℕ
+left_of left n = if nat_le n left then Some (left - n) else None
+
+-- the node of a target is there
+abbrev pub IsTarget : Config → Target → Type 0
+IsTarget c (targets.Node n name) = n.0 < length (nodes c)
+IsTarget c _ = Unit {0}

@@ -1,0 +1,78 @@
+//! What attributes and components of report blocks read as (IEC 61850-7-2, GetDataValues and GetBRCBValues).
+
+ghost use Rattle.std.specs.Prelude.{◌≡◌, IfOk, option_copied};
+ghost use Rattle.bay_replies.specs.Given.{component_read};
+
+use crate::owned::owned;
+use crate::replies::Replies;
+use bay_model::Comp;
+use node_reads::LeafValues;
+use object_model::Leaf;
+use report_block::ReportBlock;
+use std::alloc::{AllocError, Global};
+use sv_base::{AttrId, BlockNo, Moment, Value};
+
+/// A component of a block, where the block is there.
+fn component_of(
+    alloc: Global,
+    part: Option<&ReportBlock>,
+    comp: Comp,
+    was: Moment,
+    now: Moment,
+) -> Result<Result<Value, u8>, AllocError>
+    ensures { IfOk result (λ r. r ≡ component_read was now comp (option_copied part.entry)) }
+{
+    match part {
+        Some(part) => Ok(Ok(part.read(alloc, comp, was, now)?)),
+        None => Ok(Err(3)),
+    }
+}
+
+impl<'a> Replies<'a> {
+    ghost use Rattle.std.specs.Prelude.{◌≡◌, IfOk, slice_get};
+    ghost use Rattle.bay_replies.specs.Given.{attribute_read, component_read};
+
+    /// An attribute. The edit copies of settings stand behind those of the configuration's lines, and nobody holds them.
+    fn attribute(&self, alloc: Global, attr: AttrId) -> Result<Result<Value, u8>, AllocError>
+        ensures { IfOk result (λ r. r ≡ attribute_read self.entry.now.model.now self.entry.now.store.now attr.0) }
+    {
+        let number = attr.0 as usize;
+        if number < self.model.config().attrs.len() && number < self.store.len() {
+            Ok(Ok(owned(alloc, self.store.get(attr))?))
+        } else {
+            Ok(Err(2))
+        }
+    }
+
+    /// A component of a report block.
+    fn component(
+        &self,
+        alloc: Global,
+        block: BlockNo,
+        comp: Comp,
+    ) -> Result<Result<Value, u8>, AllocError>
+        ensures { IfOk result (λ r. r ≡ component_read self.entry.now.was self.entry.now.now comp (slice_get self.entry.now.blocks.now block.0)) }
+    {
+        component_of(
+            alloc,
+            self.blocks.get(block.0 as usize),
+            comp,
+            self.was,
+            self.now,
+        )
+    }
+}
+
+impl<'a> LeafValues for Replies<'a> {
+    ghost use Rattle.bay_replies.specs.Given.{given_by};
+
+    ghost given = { given_by };
+
+    fn value_of(&self, alloc: Global, leaf: Leaf) -> Result<Result<Value, u8>, AllocError> {
+        match leaf {
+            Leaf::Attribute(attr) => self.attribute(alloc, attr),
+            Leaf::Component(block, comp) => self.component(alloc, block, comp),
+            Leaf::Setting(..) | Leaf::Withheld => Ok(Err(3)),
+        }
+    }
+}

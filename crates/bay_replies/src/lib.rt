@@ -1,0 +1,23 @@
+//! Replies to requests that write nothing (ISO 9506-2, the confirmed services), by what a bay lends: its model, its values, its
+//! report blocks and its data sets.
+#![tactic(auto)]
+
+// what is lent, and the reply
+mod replies;
+
+// names, variables and data sets
+mod names;
+mod reads;
+mod sets;
+mod sizes;
+
+// what leaves read as, and copies of what is asked
+mod copies;
+mod leaves;
+mod owned;
+
+// laws
+mod laws;
+
+pub use laws::{nodes_are_plain, nothing_comes_of_reads, opened_books_are_served};
+pub use replies::Replies;
