@@ -1,18 +1,17 @@
 -- All members of a block's data set for one reason, as they are in the model.
-use Rattle.std.proofs.Common.{◌≡◌, ◌∙◌, ◌∷◌, ◌++◌, ℕ, suc, Bool, true, false, List, [], map, refl, sym, ap, ap₂, subst, if◌then◌else◌}
-use Rattle.std.specs.List.{All}
+use Rattle.std.proofs.Common.{◌≡◌, ◌∙◌, ◌∷◌, ◌++◌, ℕ, suc, Bool, true, false, List, [], map, refl, sym, ap, subst, if◌then◌else◌}
 use Rattle.sv_base.specs.Data.{data_of}
 use Rattle.sv_base.specs.declared.config.Config.{Config}
 use Rattle.bay_model.specs.declared.note.Mention.{Mention}
 use Rattle.bay_model.specs.declared.report.Reasons.{Reasons}
 use Rattle.bay_model.specs.declared.tables.MemberShape.{MemberShape}
 use Rattle.bay_model.specs.Lookups.{node_of}
-use Rattle.bay_model.specs.Model.{Model, Parameters}
+use Rattle.bay_model.specs.Model.{Model}
 use Rattle.bay_model.specs.Named.{configured_model}
 use Rattle.bay_model.specs.Notes.{Kept, all_members, is_any, noted}
 use Rattle.bay_model.specs.Parameters.{parameters_at}
 use Rattle.bay_model.specs.Points.{Past}
-use Rattle.bay_model.specs.Sets.{dynamic, members}
+use Rattle.bay_model.specs.Sets.{dynamic}
 use Rattle.bay_model.specs.Values.{whole}
 use Rattle.trigger_core.specs.Points.{mention}
 use Rattle.value_store.specs.Stored.{Stored}
@@ -23,7 +22,7 @@ use Rattle.report_block.specs.Events.{pieces_of}
 use Rattle.bay_config.specs.Servable.{IsServable}
 use Rattle.bay_core.specs.State.{AreHeld}
 use Rattle.bay_core.proofs.EventLaws.{note-kept, note-readable}
-use Rattle.bay_core.proofs.ShapeLaws.{AreServed, node_shape, node_shapes, nodes_named, served_members, served-set, members-named}
+use Rattle.bay_core.proofs.ShapeLaws.{AreServed, node_shapes, nodes_named, served_members, served-set, members-named}
 
 -- each member is mentioned, with the reason
 all-mentioned : (c : Config) (r : Reasons) → is_any r ≡ true → (m : Model) (past : Past) (i : ℕ) (ns : List ℕ) → map mention (noted m (λ n. r) past i ns) ≡ all_from r i (node_shapes c ns)

@@ -1,5 +1,5 @@
 -- The blocks of a bay, and the bay, at the arrival of a point: time has passed up to its moment.
-use Rattle.std.proofs.Common.{◌≡◌, ◌≤◌, ◌∙◌, ◌∷◌, ℕ, max, true, Bool, false, List, [], length, map, refl, sym, ap, ap₂, subst, arith}
+use Rattle.std.proofs.Common.{◌≡◌, ◌≤◌, ◌∙◌, ◌∷◌, ℕ, max, true, Bool, false, List, [], length, refl, sym, ap, ap₂, subst, arith}
 use Rattle.std.specs.Prelude.{Some, if◌then◌else◌, slice_get}
 use Rattle.std.proofs.lemmas.List.{length-map}
 use Rattle.std.specs.List.{All}

@@ -20,7 +20,7 @@ use Rattle.object_model.proofs.TableLaws.{count-rows}
 use Rattle.data_sets.specs.Books.{Booked, Book, IsSet, booked, largest, largest_in, no_set, nodes_in, number_referred, opened, reference, set_at}
 use Rattle.data_sets.proofs.PlaceLaws.{within}
 use Rattle.report_block.specs.declared.block.ReportBlock.{ReportBlock}
-use Rattle.bay_config.specs.Servable.{IsServable, IsServedSet}
+use Rattle.bay_config.specs.Servable.{IsServable}
 use Rattle.bay_core.specs.Watched.{AreLent, IsLent, members_in}
 use Rattle.bay_core.proofs.ShapeLaws.{nodes_named, served_members}
 

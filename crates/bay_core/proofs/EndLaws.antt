@@ -1,5 +1,5 @@
 -- A point that opens or loses an association, from its arrival.
-use Rattle.std.proofs.Common.{◌≡◌, ℕ, suc, max, true, false, List, ◌∷◌, Option, None, Some, refl, ap, arith, ◌∙◌, sym, ◌⊎◌}
+use Rattle.std.proofs.Common.{◌≡◌, ℕ, suc, true, false, List, ◌∷◌, Option, None, Some, refl, ap, arith, sym, ◌⊎◌}
 use Rattle.std.specs.Prelude.{if◌then◌else◌, is_some, ◌==◌, ◌||◌}
 use Rattle.std.specs.Option.{option_map}
 use Rattle.std.proofs.lemmas.Bool.Decides.{nat_tests}

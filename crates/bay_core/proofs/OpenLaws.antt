@@ -1,5 +1,5 @@
 -- How a bay begins: what each block stands for.
-use Rattle.std.proofs.Common.{◌≡◌, ℕ, List, [], map, Some, unwrap_or, refl, ap, sym, ◌∙◌}
+use Rattle.std.proofs.Common.{◌≡◌, ℕ, List, [], map, Some, unwrap_or, ap, sym, ◌∙◌}
 use Rattle.std.specs.Prelude.{slice_get}
 use Rattle.std.specs.Option.{option_map}
 use Rattle.std.proofs.lemmas.Option.{slice_get-map}

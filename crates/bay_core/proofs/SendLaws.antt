@@ -36,6 +36,8 @@ use Rattle.value_store.proofs.store.Store.TheSendSync as store
 use Rattle.bay_core.specs.contracts.values.Values as HeldValues
 use Rattle.report_block.specs.contracts.block.ReportBlock as ReportBlock
 use Rattle.window_core.proofs.window.Window.TheSendSync as window
+use Rattle.report_block.proofs.room.Rooms.TheSendSync as rooms
+use Rattle.bay_core.proofs.dues.Dues.TheSendSync as dues
 use Rattle.bay_core.specs.contracts.bay.Bay as Bay
 
 values_send : IsSend HeldValues.the_row
@@ -45,7 +47,7 @@ part_send : IsSend ReportBlock.the_row
 part_send = search (ring.the_send, block.the_field_send, window.the_send, moment.the_send, crosses, sendable) depth 60
 
 pub bay_send : IsSend Bay.the_row
-bay_send = search (model_send, moment.the_send, values_send, book.the_send, part_send, associations_send, fixed.the_send, report.the_send, crosses, sendable) depth 60 fits 20000
+bay_send = search (model_send, moment.the_send, values_send, book.the_send, part_send, associations_send, fixed.the_send, report.the_send, dues.the_send, rooms.the_send, crosses, sendable) depth 60 fits 20000
 
 -- a step
 data_values_send : IsSend DataValues.the_row

@@ -16,11 +16,11 @@ use Rattle.bay_core.proofs.QuietLaws.{quiet-same}
 use Rattle.bay_core.proofs.WatchLaws.{watching-same}
 
 -- it is whole as before
-pub whole-sent : (c : Config) (stored : List Stored) (book : Book) (parts : List ReportBlock) (w : Watch) (octets : Filled ℕ) (room latest : ℕ) (due : Option ℕ) (events : EventRoom) (b id : ℕ) (part : ReportBlock)
-    → slice_get parts b ≡ Some part → IsWhole c stored book parts w octets room latest due events → IsWhole c stored book (slice_set parts b (reported_by id part)) w octets room latest due events
-whole-sent c stored book parts w octets room latest due events b id part there whole = record {
+pub whole-sent : (c : Config) (stored : List Stored) (book : Book) (parts : List ReportBlock) (w : Watch) (octets : Filled ℕ) (room latest : ℕ) (dues : List (Option ℕ)) (events : EventRoom) (b id : ℕ) (part : ReportBlock)
+    → slice_get parts b ≡ Some part → IsWhole c stored book parts w octets room latest dues events → IsWhole c stored book (slice_set parts b (reported_by id part)) w octets room latest dues events
+whole-sent c stored book parts w octets room latest dues events b id part there whole = record {
   furnished = furnished-set c stored book parts w octets room whole.furnished b part (reported_by id part) w there (whole.furnished.sets b part there) refl
       (watching-same (node_rows c) book (length stored) parts w b part (reported_by id part) there refl refl whole.furnished.watch);
-  quiet = quiet-same latest due parts b part (reported_by id part) there refl whole.quiet;
+  quiet = quiet-same latest dues parts b part (reported_by id part) there refl whole.quiet;
   roomy = whole.roomy;
 }

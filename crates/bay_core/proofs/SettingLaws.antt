@@ -1,6 +1,5 @@
 -- A point at which the process sets attributes: each block gets the entry of its events.
-use Rattle.std.proofs.Common.{true, false, ◌≡◌, ◌≤◌, ℕ, suc, max, List, [], ◌∷◌, length, map, slice_index_or, refl, ap, ap₂, sym, ◌∙◌, subst, arith, Some}
-use Rattle.std.specs.Prelude.{slice_get}
+use Rattle.std.proofs.Common.{true, false, ◌≡◌, ◌≤◌, ℕ, suc, max, List, [], ◌∷◌, length, map, slice_index_or, refl, ap, ap₂, sym, ◌∙◌, subst, arith}
 use Rattle.std.specs.List.{All}
 use Rattle.std.proofs.lemmas.Option.{slice_get-get_or}
 use Rattle.list_laws.proofs.Places.{got-map}

@@ -3,6 +3,7 @@ pub mod State
 pub mod Standing
 pub mod Turns
 -- time
+pub mod Dues
 pub mod Timed
 pub mod Whole
 -- how it begins

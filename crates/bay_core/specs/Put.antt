@@ -1,5 +1,5 @@
 -- What a write of a component makes of a bay at its arrival (IEC 61850-7-2, SetBRCBValues).
-use Rattle.std.specs.Prelude.{ℕ, true, List, ◌∷◌, Option, Result, slice_set}
+use Rattle.std.specs.Prelude.{ℕ, true, List, ◌∷◌, Result, slice_set}
 use Rattle.sv_base.specs.declared.config.Config.{Config}
 use Rattle.sv_base.specs.declared.numbers.AssocNo.{AssocNo}
 use Rattle.sv_base.specs.declared.value.Value.{Value}

@@ -1,5 +1,5 @@
 -- What time brings to the blocks of a bay, and until when it brings nothing (IEC 61850-7-2, BRCB attributes BufTm and IntgPd).
-use Rattle.std.specs.Prelude.{◌≡◌, ℕ, max, List, map, Option, Some, slice_get}
+use Rattle.std.specs.Prelude.{◌≡◌, ℕ, max, List, map, Option, Some, length, slice_get}
 use Rattle.bay_model.specs.declared.tables.NodeRow.{NodeRow}
 use Rattle.object_model.specs.Nodes.{node_rows}
 use Rattle.object_model.specs.Tables.{set_rows}
@@ -23,8 +23,10 @@ arrived_all rows book stored was now step parts = map (arrived_part rows book st
 abbrev pub IsQuietUntil : ℕ → Option ℕ → ReportBlock → Type 0
 IsQuietUntil at due part = (now : ℕ) → IsBefore now due → IsBefore now (due_at at part)
 
-abbrev pub AreQuietUntil : ℕ → Option ℕ → List ReportBlock → Type 0
-AreQuietUntil at due parts = (b : ℕ) (part : ReportBlock) → slice_get parts b ≡ Some part → IsQuietUntil at due part
+-- each part has a moment before which it has nothing due
+pub record AreQuietUntil (at : ℕ) (dues : List (Option ℕ)) (parts : List ReportBlock) : Type 0 where
+  pub count : length dues ≡ length parts
+  pub each : (b : ℕ) (due : Option ℕ) (part : ReportBlock) → slice_get dues b ≡ Some due → slice_get parts b ≡ Some part → IsQuietUntil at due part
 
 -- the state at the arrival of a step at this moment
 abbrev pub at_arrival : ℕ → State → State

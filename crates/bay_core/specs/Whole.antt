@@ -1,5 +1,5 @@
--- What is so of a bay between steps: its parts fit its configuration, there is room for events, and until a moment that it knows no
--- block has anything due.
+-- What is so of a bay between steps: its parts fit its configuration, there is room for events, and each block has nothing due before
+-- the moment that the bay knows of it.
 use Rattle.std.specs.Prelude.{ℕ, List, Option}
 use Rattle.sv_base.specs.declared.config.Config.{Config}
 use Rattle.bay_rooms.specs.Rooms.{Filled}
@@ -12,7 +12,7 @@ use Rattle.bay_core.specs.declared.watch.Watch.{Watch}
 use Rattle.bay_core.specs.State.{IsFurnished}
 use Rattle.bay_core.specs.Timed.{AreQuietUntil}
 
-pub record IsWhole (c : Config) (stored : List Stored) (book : Book) (parts : List ReportBlock) (w : Watch) (octets : Filled ℕ) (room : ℕ) (latest : ℕ) (due : Option ℕ) (events : EventRoom) : Type 0 where
+pub record IsWhole (c : Config) (stored : List Stored) (book : Book) (parts : List ReportBlock) (w : Watch) (octets : Filled ℕ) (room : ℕ) (latest : ℕ) (dues : List (Option ℕ)) (events : EventRoom) : Type 0 where
   pub furnished : IsFurnished c stored book parts w octets room
-  pub quiet : AreQuietUntil latest due parts
+  pub quiet : AreQuietUntil latest dues parts
   pub roomy : HasRoom 256 events

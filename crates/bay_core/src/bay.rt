@@ -1,12 +1,13 @@
 //! A bay.
 
+use crate::dues::Dues;
 use crate::values::Values;
 use crate::watch::Watch;
 use assoc_table::Assocs;
 use bay_model::{Answer, Change, Fixed, Output, Report};
 use data_sets::SetBook;
 use object_model::Model;
-use report_block::{EventRoom, ReportBlock};
+use report_block::{EventRoom, ReportBlock, Rooms};
 use sv_base::{AssocNo, Moment};
 
 /// A bay: its configuration and all that its steps came to. Contracts see the state that `specs/` defines.
@@ -19,8 +20,8 @@ pub struct Bay {
     /// The data sets that are there: a report block holds the number of its own.
     pub(crate) sets: SetBook,
     pub(crate) parts: Vec<ReportBlock>,
-    /// Before this moment, in milliseconds since 1970, no block has anything due; none where no block ever has.
-    pub(crate) due: Option<u64>,
+    /// Before these moments, block by block, none has anything due.
+    pub(crate) dues: Dues,
     pub(crate) associations: Assocs,
     /// The members of all data sets by their attributes, with the notes of the step that is being made.
     pub(crate) watch: Watch,
@@ -28,8 +29,10 @@ pub struct Bay {
     pub(crate) changes: Vec<Change>,
     pub(crate) events: EventRoom,
     pub(crate) octets: Fixed,
-    /// A report that is no longer needed, in whose memory the next one is written; of no account either.
+    /// A report that is no longer needed, in whose memory the next one is written; of no account either, as is the room that is kept
+    /// for the report of a moment at which something is due.
     pub(crate) spare: Option<Report>,
+    pub(crate) rooms: Option<Rooms>,
 }
 
 impl std::marker::Model for Bay {
@@ -46,7 +49,7 @@ impl std::marker::Model for Bay {
 
     ghost view = { λ b. record { config = b.model; steps = b.steps; latest = b.latest; stored = b.values; parts = b.parts.items; rows = b.associations } };
 
-    ghost invariant = { λ b. IsWhole b.model b.values b.sets b.parts.items b.watch b.octets (vec_capacity b.changes) b.latest b.due b.events };
+    ghost invariant = { λ b. IsWhole b.model b.values b.sets b.parts.items b.watch b.octets (vec_capacity b.changes) b.latest b.dues b.events };
 }
 
 impl Bay {

@@ -3,6 +3,7 @@
 
 // a bay, and how it begins
 mod bay;
+mod dues;
 mod opening;
 mod source;
 mod values;

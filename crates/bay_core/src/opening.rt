@@ -1,6 +1,6 @@
 //! A bay is opened.
 
-ghost use Rattle.std.specs.Prelude.{◌≡◌, [], ◌≤◌, IfOk, length, map, replicate, vec_capacity};
+ghost use Rattle.std.specs.Prelude.{◌≡◌, [], ◌≤◌, IfOk, Some, length, map, replicate, vec_capacity};
 ghost use Rattle.object_model.specs.Nodes.{node_rows};
 ghost use Rattle.object_model.specs.Tables.{set_rows};
 ghost use Rattle.data_sets.specs.Books.{largest, opened as booked};
@@ -13,6 +13,7 @@ ghost use Rattle.bay_core.specs.Watched.{IsWatching};
 ghost use Rattle.bay_core.specs.Opened.{seen, part_defined};
 
 use crate::bay::Bay;
+use crate::dues::Dues;
 use crate::values::Values;
 use crate::watch::Watch;
 use assoc_table::Assocs;
@@ -59,6 +60,7 @@ struct Made {
     values: Values,
     sets: SetBook,
     parts: Vec<ReportBlock>,
+    dues: Dues,
     associations: Assocs,
     watch: Watch,
     changes: Vec<Change>,
@@ -73,6 +75,7 @@ fn parts_made(alloc: Global, model: &Model) -> Result<Made, AllocError>
     ensures values { IfOk result (λ m. m.values ≡ opened model.now) }
     ensures sets { IfOk result (λ m. m.sets ≡ booked (set_rows model.now)) }
     ensures parts { IfOk result (λ m. map seen m.parts.items ≡ map (part_defined (booked (set_rows model.now))) model.now.blocks) }
+    ensures dues { IfOk result (λ m. m.dues ≡ replicate (length m.parts.items) (Some 0)) }
     ensures associations { IfOk result (λ m. m.associations ≡ replicate 16 closed) }
     ensures watch { IfOk result (λ m. IsWatching (node_rows model.now) m.sets (length m.values) m.parts.items m.watch) }
     ensures events { IfOk result (λ m. HasRoom 256 m.events) }
@@ -87,10 +90,12 @@ fn parts_made(alloc: Global, model: &Model) -> Result<Made, AllocError>
     };
     let watch = Watch::open(alloc, attrs, &parts, &sets, model.nodes().as_slice())?;
     let changes = Vec::with_capacity(alloc, attrs as usize)?;
+    let dues = Dues::open(alloc, parts.len())?;
     Ok(Made {
         values,
         sets,
         parts,
+        dues,
         associations: Assocs::open(alloc)?,
         watch,
         changes,
@@ -105,6 +110,7 @@ fn begun(model: Model, made: Made) -> Bay
     requires values { made.values ≡ opened model }
     requires sets { made.sets ≡ booked (set_rows model) }
     requires parts { map seen made.parts.items ≡ map (part_defined (booked (set_rows model))) model.blocks }
+    requires dues { made.dues ≡ replicate (length made.parts.items) (Some 0) }
     requires associations { made.associations ≡ replicate 16 closed }
     requires watch { IsWatching (node_rows model) made.sets (length made.values) made.parts.items made.watch }
     requires events { HasRoom 256 made.events }
@@ -121,13 +127,14 @@ fn begun(model: Model, made: Made) -> Bay
         values: made.values,
         sets: made.sets,
         parts: made.parts,
-        due: Some(0),
+        dues: made.dues,
         associations: made.associations,
         watch: made.watch,
         changes: made.changes,
         events: made.events,
         octets: made.octets,
         spare: None,
+        rooms: None,
     }
 }
 

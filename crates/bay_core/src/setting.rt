@@ -1,6 +1,6 @@
 //! What the process sets, and the entries that the report blocks get of it.
 
-ghost use Rattle.std.specs.Prelude.{◌≡◌, ◌<◌, ◌⊎◌, ℕ, Some, length, slice_get};
+ghost use Rattle.std.specs.Prelude.{◌≡◌, ◌<◌, ℕ, Some, length, slice_get};
 ghost use Rattle.std.specs.List.{All};
 ghost use Rattle.bay_model.specs.declared.flags.Change.{Change as ChangeValue};
 ghost use Rattle.touch_index.specs.Gathered.{AreOnce};
@@ -8,58 +8,59 @@ ghost use Rattle.touch_index.specs.Gathering.{note_at, AreEmpty};
 ghost use Rattle.report_block.specs.declared.block.ReportBlock.{ReportBlock as PartValue};
 ghost use Rattle.report_block.specs.Events.{HasRoom, after_noting, pieces_of};
 ghost use Rattle.bay_core.specs.Events.{AreReady, after_events};
-ghost use Rattle.bay_core.specs.Timed.{IsQuietUntil};
+ghost use Rattle.bay_core.specs.Timed.{AreQuietUntil};
 ghost use Rattle.bay_core.specs.Watched.{IsNoteOf, IsWatching, AreBlank, members_in};
 
 use crate::bay::Bay;
+use crate::dues::Dues;
 use crate::fault::StepFault;
 use crate::source::Source;
 use crate::watch::Watch;
 use bay_model::{Answer, Change, Fixed, Note, Sets};
-use report_block::{EventRoom, ReportBlock, earliest};
+use report_block::{EventRoom, ReportBlock};
 use sv_base::{ActorNo, Moment};
 use touch_index::Notes;
 
-/// Each block whose note has a member takes in its event, and the notes are emptied. Gives the least moment at which one of them has
-/// something due then, in milliseconds since 1970. It takes no memory.
+/// Each block whose note has a member takes in its event, and the notes are emptied. It takes no memory.
 fn keep_all(
     parts: &mut Vec<ReportBlock>,
+    dues: &mut Dues,
     source: &Source<'_>,
     moment: Moment,
     step: u64,
     notes: &mut Notes,
     events: &mut EventRoom,
     octets: &mut Fixed,
-) -> Option<u64>
+)
     requires count { length notes.old.notes ≡ length parts.old.items }
     requires notes { (b : ℕ) (part : PartValue) → slice_get parts.old.items b ≡ Some part → IsNoteOf source.now.rows.now source.now.book.now source.now.store.now part (note_at notes.old.notes b).items }
+    requires quiet { AreQuietUntil moment dues.old parts.old.items }
     requires events { HasRoom 256 events.old }
     requires entry { octets.old.room ≡ 129024 }
     ensures parts { length parts.new.items ≡ length parts.old.items }
     ensures kept { (b : ℕ) (part : PartValue) → slice_get parts.old.items b ≡ Some part → slice_get parts.new.items b ≡ Some (after_noting moment step (pieces_of source.now.store.now (members_in source.now.rows.now source.now.book.now part) (note_at notes.old.notes b).items) part) }
-    ensures quiet { (b : ℕ) (part : PartValue) → slice_get parts.new.items b ≡ Some part → (slice_get parts.old.items b ≡ Some part) ⊎ IsQuietUntil moment result part }
+    ensures quiet { AreQuietUntil moment dues.new parts.new.items }
     ensures empty { AreEmpty notes.new.notes }
     ensures count { length notes.new.notes ≡ length notes.old.notes }
     ensures rooms { (b : ℕ) → (note_at notes.new.notes b).room ≡ (note_at notes.old.notes b).room }
     ensures events { HasRoom 256 events.new }
     ensures entry { octets.new.room ≡ 129024 }
 {
-    let mut due = None;
     while let Some(b) = notes.last() {
         let part = &mut parts[b.0 as usize];
         let set = source.book.view(part.set(), source.rows);
         let note = notes.note(b).as_slice();
         part.event(source.store, &set, note, moment, step, events, octets);
-        due = earliest(due, part.due_at(moment));
+        dues.put(b.0 as usize, part.due_at(moment));
         notes.clear_last();
     }
-    due
 }
 
 /// Some attributes were set: each block whose data set they are in takes in its event (IEC 61850-7-2, TrgOps); no other is looked
-/// at. Gives the least moment at which one of those has something due then, in milliseconds since 1970. It takes no memory.
+/// at. It takes no memory.
 fn event_all(
     parts: &mut Vec<ReportBlock>,
+    dues: &mut Dues,
     watch: &mut Watch,
     source: &Source<'_>,
     changes: &[Change],
@@ -67,15 +68,16 @@ fn event_all(
     step: u64,
     events: &mut EventRoom,
     octets: &mut Fixed,
-) -> Option<u64>
+)
     requires ready { AreReady source.now.rows.now source.now.book.now source.now.store.now parts.old.items }
     requires watching { IsWatching source.now.rows.now source.now.book.now (length source.now.store.now) parts.old.items watch.old }
     requires attrs { All (λ (ch : ChangeValue). ch.attr.0 < length source.now.store.now) changes.now }
     requires once { AreOnce changes.now }
+    requires quiet { AreQuietUntil moment dues.old parts.old.items }
     requires events { HasRoom 256 events.old }
     requires entry { octets.old.room ≡ 129024 }
     ensures parts { parts.new.items ≡ after_events source.now.rows.now source.now.book.now source.now.store.now changes.now moment step parts.old.items }
-    ensures quiet { (b : ℕ) (part : PartValue) → slice_get parts.new.items b ≡ Some part → (slice_get parts.old.items b ≡ Some part) ⊎ IsQuietUntil moment result part }
+    ensures quiet { AreQuietUntil moment dues.new parts.new.items }
     ensures watch { watch.new ≡ record watch.old { notes = watch.new.notes } }
     ensures blank { AreBlank (length parts.old.items) watch.new.notes }
     ensures events { HasRoom 256 events.new }
@@ -86,13 +88,14 @@ fn event_all(
         .gather(changes, &watch.options, &mut watch.notes);
     keep_all(
         parts,
+        dues,
         source,
         moment,
         step,
         &mut watch.notes,
         events,
         octets,
-    )
+    );
 }
 
 impl Bay {
@@ -123,8 +126,9 @@ impl Bay {
             book: &self.sets,
             rows: self.model.nodes().as_slice(),
         };
-        let due = event_all(
+        event_all(
             &mut self.parts,
+            &mut self.dues,
             &mut self.watch,
             &source,
             self.changes.as_slice(),
@@ -133,7 +137,6 @@ impl Bay {
             &mut self.events,
             &mut self.octets,
         );
-        self.due = earliest(self.due, due);
         self.count();
         Ok(Answer::Went)
     }

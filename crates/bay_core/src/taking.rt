@@ -3,21 +3,22 @@
 use crate::bay::Bay;
 use crate::fault::StepFault;
 use crate::source::set_of;
-use crate::time::has_come;
 use bay_model::{Answer, Output};
-use report_block::{Blank, empty_report, first_offer, longest_text, report_of};
-use std::alloc::Global;
+use report_block::{Blank, Rooms, empty_report, first_offer, longest_text, report_of};
+use std::alloc::{AllocError, Global};
 use sv_base::{ActorNo, AssocNo, Moment};
 
 /// How many members a data set, and so a report, has at most.
 const MOST_MEMBERS: u32 = 256;
 
 impl Bay {
-    ghost use Rattle.std.specs.Prelude.{◌≡◌, ◌<◌, ◌^◌, Some, max};
+    ghost use Rattle.std.specs.Prelude.{◌≡◌, ◌<◌, ◌^◌, Some, max, IfOk};
+    ghost use Rattle.std.specs.List.{All};
     ghost use Rattle.std.specs.Option.{option_map};
     ghost use Rattle.bay_model.specs.declared.step.Step.TheVariants as steps;
     ghost use Rattle.assoc_table.specs.declared.waiting.Ends.{Ends};
     ghost use Rattle.assoc_table.specs.Tables.{IsNumber, row_of};
+    ghost use Rattle.report_block.specs.Blanks.{AreShortTexts, Blank as BlankValue};
     ghost use Rattle.bay_core.specs.Timed.{at_arrival};
     ghost use Rattle.bay_core.specs.Turns.{Does, IsCounted};
 
@@ -42,7 +43,7 @@ impl Bay {
         if actor.0 != writer.0 {
             return Err(StepFault::NotYours(a));
         }
-        if has_come(self.due, self.latest.later(moment)) {
+        if self.dues.have_come(self.latest.later(moment)) {
             self.take_due(alloc, moment, actor, a)
         } else {
             self.take_quiet(alloc, moment, actor, a)
@@ -84,8 +85,29 @@ impl Bay {
         Ok(Answer::Taken(Output::Report(report)))
     }
 
-    /// The writer takes at a moment at which a block has something due: the room for a report of the largest sizes is made before the
-    /// step; then time passes, and the report is put into that room.
+    /// Room for a report of the largest sizes, in the memory that the bay keeps for one; only what that lacks is taken.
+    fn blank(&mut self, alloc: Global) -> Result<Blank, AllocError>
+        ensures state { self.new ≡ self.old }
+        ensures texts { IfOk result (λ (b : BlankValue). All (AreShortTexts b.texts) self.old.parts) }
+        ensures members { IfOk result (λ (b : BlankValue). b.members ≡ 256) }
+    {
+        let rooms = self.rooms.take().unwrap_or_else(|| Rooms::none(alloc));
+        let spare = self.spare.take().unwrap_or_else(|| empty_report(alloc));
+        let texts = longest_text(&self.parts);
+        Blank::open(alloc, rooms, spare, texts, MOST_MEMBERS)
+    }
+
+    /// Keeps the memory of a blank that no report was made of.
+    fn keep(&mut self, alloc: Global, blank: Blank)
+        ensures { self.new ≡ self.old }
+    {
+        let (spare, rooms) = blank.unused(alloc);
+        self.spare = Some(spare);
+        self.rooms = Some(rooms);
+    }
+
+    /// The writer takes at a moment at which a block may have something due: the room for a report of the largest sizes is made before
+    /// the step; then time passes, and the report is put into that room. What is left of it the bay keeps.
     fn take_due(
         &mut self,
         alloc: Global,
@@ -99,21 +121,21 @@ impl Bay {
         ensures does { Does self.old self.new (record { moment = moment; actor = actor.0; step = steps.Take a }) result }
         ensures counted { IsCounted self.old self.new result }
     {
-        let spare = self.spare.take().unwrap_or_else(|| empty_report(alloc));
-        let texts = longest_text(&self.parts);
-        let Ok(blank) = Blank::open(alloc, spare, texts, MOST_MEMBERS) else {
+        let Ok(blank) = self.blank(alloc) else {
             return Err(StepFault::Memory);
         };
         self.arrive(moment);
         let Some(offer) = first_offer(&self.parts, a) else {
+            self.keep(alloc, blank);
             self.count();
             return Ok(Answer::Empty);
         };
         let part = &self.parts[offer.block];
         let set = set_of(&self.sets, &self.model, part);
-        let report = blank.filled(&self.model, part, &set, &offer);
+        let (report, rooms) = blank.filled(&self.model, part, &set, &offer);
         let block = offer.block;
         let id = offer.next.id;
+        self.rooms = Some(rooms);
         self.parts[block].sent(id);
         self.count();
         Ok(Answer::Taken(Output::Report(report)))

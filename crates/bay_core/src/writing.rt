@@ -8,7 +8,7 @@ use crate::fault::StepFault;
 use crate::source::set_of;
 use bay_model::{Answer, Comp};
 use data_sets::SetBook;
-use report_block::{Written, earliest};
+use report_block::Written;
 use sv_base::{ActorNo, AssocNo, BlockNo, Moment, Value};
 
 /// The number of the data set that a written DatSet names; none where it names none, and where another component is written.
@@ -61,7 +61,8 @@ impl Bay {
             &mut self.octets,
         );
         self.watch.follow(b, comp, part, &self.sets, &self.model);
-        self.due = earliest(self.due, part.due_at(self.latest));
+        let due = part.due_at(self.latest);
+        self.dues.put(b.0 as usize, due);
         answer
     }
 

@@ -188,19 +188,25 @@ octets_within most octets ks h = omega (arith, kept_within ks h.sound, ap length
 
 -- ---- references
 
-node-at : (shapes : List MemberShape) (n i : ℕ) (o : Option MemberShape) → i ≡ n - 1 → o ≡ slice_get shapes i → slice_get (node_numbers shapes) (n - 1) ≡ option_map (λ (m : MemberShape). m.node.0) o
-node-at shapes n i o place is = ap (slice_get (node_numbers shapes)) (sym place) ∙ (slice_get-map (λ (m : MemberShape). m.node.0) shapes i ∙ ap (option_map (λ (m : MemberShape). m.node.0)) (sym is))
+node-at : (shapes : List MemberShape) (n i : ℕ) (o : Option MemberShape) → i ≡ n - 1 → o ≡ slice_get shapes i
+    → slice_get (node_numbers shapes) (n - 1) ≡ option_map (λ (m : MemberShape). m.node.0) o
+node-at shapes n i o place is =
+    ap (slice_get (node_numbers shapes)) (sym place)
+    ∙ (slice_get-map (λ (m : MemberShape). m.node.0) shapes i ∙ ap (option_map (λ (m : MemberShape). m.node.0)) (sym is))
 
 abbrev reference_or : Model → Option ℕ → List ℕ
 reference_or c o = option_map_or (λ n. reference_at c n) o no_reference
 
 -- the reference of a member that is found by its number, and of one that isn't
-pub reference-found : (c : Model) (shapes : List MemberShape) (n i : ℕ) (s : MemberShape) → i ≡ n - 1 → Some s ≡ slice_get shapes i → reference_by c (node_numbers shapes) n ≡ reference_at c s.node.0
+pub reference-found : (c : Model) (shapes : List MemberShape) (n i : ℕ) (s : MemberShape) → i ≡ n - 1 → Some s ≡ slice_get shapes i
+    → reference_by c (node_numbers shapes) n ≡ reference_at c s.node.0
 reference-found c shapes n i s place is = ap (reference_or c) (node-at shapes n i (Some s) place is)
 
 pub reference-missing : (c : Model) (shapes : List MemberShape) (n i : ℕ) → i ≡ n - 1 → None ≡ slice_get shapes i → reference_by c (node_numbers shapes) n ≡ []
 reference-missing c shapes n i place is = ap (reference_or c) (node-at shapes n i None place is)
 
 -- it is a short one
-pub reference-short : (c : Model) (shapes : List MemberShape) (n i : ℕ) (s : MemberShape) → IsShortSet c shapes → i ≡ n - 1 → Some s ≡ slice_get shapes i → length (reference_at c s.node.0) ≤ 129
-reference-short c shapes n i s short place is = all-at (λ n. length (reference_at c n) ≤ 129) (node_numbers shapes) (n - 1) s.node.0 short (node-at shapes n i (Some s) place is)
+pub reference-short : (c : Model) (shapes : List MemberShape) (n i : ℕ) (s : MemberShape) → IsShortSet c shapes → i ≡ n - 1
+    → Some s ≡ slice_get shapes i → length (reference_at c s.node.0) ≤ 129
+reference-short c shapes n i s short place is =
+    all-at (λ n. length (reference_at c n) ≤ 129) (node_numbers shapes) (n - 1) s.node.0 short (node-at shapes n i (Some s) place is)

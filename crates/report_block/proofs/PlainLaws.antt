@@ -1,6 +1,6 @@
 -- What plain deeds make of a block: one that doesn't touch its entries, an event where BufTm is 0, and an accepted write.
-use Rattle.std.proofs.Common.{rules, ◌≡◌, ℕ, max, Bool, true, false, List, [], ◌∷◌, ◌++◌, map, refl, sym, subst, ap, ◌∙◌, None, Some, Ok, append-nil}
-use Rattle.std.specs.Prelude.{if◌then◌else◌, ◌==◌, ◌||◌, Option}
+use Rattle.std.proofs.Common.{rules, ◌≡◌, ℕ, max, Bool, true, false, List, [], ◌∷◌, ◌++◌, refl, sym, subst, ap, ◌∙◌, None, Some, Ok}
+use Rattle.std.specs.Prelude.{◌==◌, ◌||◌, Option}
 use Rattle.std.proofs.lemmas.List.Elements.{All-nil}
 use Rattle.std.proofs.lemmas.Bool.{eq-eqb}
 use Rattle.sv_base.specs.declared.numbers.AssocNo.{AssocNo}
@@ -9,32 +9,31 @@ use Rattle.bay_model.specs.declared.components.Comp.{Comp}
 use Rattle.bay_model.specs.declared.note.Mention.{Mention}
 use Rattle.bay_model.specs.declared.step.Setting.{Setting}
 use Rattle.bay_model.specs.declared.tables.MemberShape.{MemberShape}
-use Rattle.bay_model.specs.Model.{Model, Parameters}
+use Rattle.bay_model.specs.Model.{Model}
 use Rattle.bay_model.specs.Points.{Deed, wrote, valued, Past, now}
-use Rattle.bay_model.specs.Parameters.{parameters_at, is_interrogation, purges}
+use Rattle.bay_model.specs.Parameters.{is_interrogation, purges}
 use Rattle.bay_model.specs.Notes.{note, all_members, no_reason}
 use Rattle.bay_model.specs.Breaks.{cuts}
 use Rattle.bay_model.specs.Retained.{kept_octets_of}
 use Rattle.bay_model.specs.Singles.{arrival}
-use Rattle.brcb_state.specs.Changes.{written, effect_of}
+use Rattle.brcb_state.specs.Changes.{effect_of}
 use Rattle.brcb_state.specs.Standing.{Stands as AttributesStand, after_deed, is_general, is_purging, is_change, Tells}
 use Rattle.brcb_state.specs.declared.block.Block.{Block}
 use Rattle.brcb_state.specs.declared.told.Effect.{Effect}
 use Rattle.value_store.specs.Stored.{Stored}
 use Rattle.window_core.specs.Pieces.{Piece, octets_of}
 use Rattle.window_core.specs.Windows.{Windowed}
-use Rattle.window_core.specs.Standing.{piece_of, body_of}
 use Rattle.window_core.specs.Points.{at}
 use Rattle.window_core.proofs.DeedLaws.{unbroken-unchanged}
 use Rattle.report_block.specs.declared.block.ReportBlock.{ReportBlock}
 use Rattle.report_block.specs.EntryOctets.{kept_of, note_octets}
-use Rattle.report_block.specs.Standing.{IsMemberKept, AreKeptMembers, Stands}
-use Rattle.report_block.specs.Coming.{came, untouched, noting, after_bodies, purged_if, closed_at, window_after, AreOf}
+use Rattle.report_block.specs.Standing.{IsMemberKept, Stands}
+use Rattle.report_block.specs.Coming.{came, untouched, noting, AreOf}
 use Rattle.report_block.specs.Events.{pieces_of, with_note}
-use Rattle.report_block.specs.Writes.{coming_of, set_after, settled, written_by}
+use Rattle.report_block.specs.Writes.{set_after}
 use Rattle.report_block.specs.Components.{after_writing, coming_by}
 use Rattle.report_block.proofs.PassLaws.{write-came}
-use Rattle.report_block.proofs.StandLaws.{arrival-stands, deed-stands, idle, integrity-off, before-arrival}
+use Rattle.report_block.proofs.StandLaws.{deed-stands, before-arrival}
 
 or-left : (x y : Bool) → (x || y) ≡ false → x ≡ false
 or-left true y h = cc
@@ -51,13 +50,6 @@ off : {A : Type 0} → false ≡ true → A
 off h = cc
 
 module _ (c : Model) (b m n : ℕ) (before : Past) (part : ReportBlock) where
-  -- time makes nothing of a block that reports at once and has no integrity period
-  pub arrives-at-once : Stands part c b before → (parameters_at c b before).buf_tm ≡ 0 → (parameters_at c b before).intg_pd ≡ 0 → Stands part c b (arrival n m ∷ before)
-  arrives-at-once s time period =
-      let none = integrity-off c b m n before (eq-eqb (parameters_at c b before).intg_pd 0 period) in
-      subst (λ x. Stands x c b (arrival n m ∷ before)) (idle (now before) (max m (now before)) n [] part (eq-eqb part.block.options.intg_pd 0 (ap (λ (o : Parameters). o.intg_pd) s.block.options ∙ period)) (s.window.at_once (s.window.buf_tm ∙ time)))
-      (arrival-stands c b m n before part [] s (λ is. off (sym none ∙ is)))
-
   -- what a deed doesn't touch it leaves as it is
   pub left-alone : (d : Deed) → note c b (at n m d) before ≡ [] → cuts c b d before ≡ false → Stands part c b (arrival n m ∷ before)
       → Stands (record part { block = after_deed b d part.ring.front part.block }) c b (at n m d ∷ before)
@@ -89,15 +81,6 @@ module _ (b moment n : ℕ) (settings : List Setting) (stored : List Stored) (sh
   noted-at-once time none [] = refl
   noted-at-once time none (m ∷ ms) = noted-by part.window part.window.gathered refl none time m ms
 
--- the process set attributes, and the note is of these members
-pub event-stands : (c : Model) (b m n : ℕ) (before : Past) (part : ReportBlock) (settings : List Setting) (stored : List Stored) (shapes : List MemberShape) (ms : List Mention) → (parameters_at c b before).buf_tm ≡ 0
-    → pieces_of stored shapes ms ≡ map piece_of (note c b (at n m (valued settings)) before) → AreKeptMembers (note c b (at n m (valued settings)) before)
-    → Stands part c b (arrival n m ∷ before) → Stands (with_note stored shapes (max m (now before)) n ms part) c b (at n m (valued settings) ∷ before)
-event-stands c b m n before part settings stored shapes ms time are readable s =
-    let zero : part.window.buf_tm ≡ 0 = s.window.buf_tm ∙ time in
-    subst (λ x. Stands x c b (at n m (valued settings) ∷ before)) (noted-at-once b (max m (now before)) n settings stored shapes part zero (s.window.at_once zero) ms)
-    (deed-stands c b m n (valued settings) before part (noting (pieces_of stored shapes ms)) s (record { note = record { are = are; readable = readable }; general = refl; all = λ is. off is; purge = refl; change = refl }))
-
 -- ---- a write
 
 tells : (c : Model) (a : AssocNo) (b : ℕ) (comp : Comp) (v : Value) (n m : ℕ) (before : Past) (s : Block) → AttributesStand s c b before → Tells (effect_of comp v s) c b (at n m (wrote a.0 b comp v)) before
@@ -106,28 +89,6 @@ tells c a b comp v n m before s st = search rules
 -- the number of its data set is no part of what a block stands for
 with-set : (part : ReportBlock) (set : Option ℕ) (c : Model) (b : ℕ) (past : Past) → Stands part c b past → Stands (record part { set = set }) c b past
 with-set part set c b past s = record { block = s.block; ring = s.ring; window = s.window; origin = s.origin; readable = s.readable; group = s.group }
-
--- an accepted write of another component than GI
-pub write-stands : (c : Model) (b m n : ℕ) (before : Past) (part : ReportBlock) (a : AssocNo) (comp : Comp) (v : Value) (named : Option ℕ) (e : Effect) → e ≡ effect_of comp v part.block → is_interrogation b (wrote a.0 b comp v) ≡ false
-    → Stands part c b (arrival n m ∷ before) → Stands (written_by a comp v named (max m (now before)) n e part) c b (at n m (wrote a.0 b comp v) ∷ before)
-write-stands c b m n before part a comp v named e is plain s =
-    let t = tells c a b comp v n m before part.block (before-arrival c b m n before part.block s.block) in
-    let own : after_deed b (wrote a.0 b comp v) part.ring.front part.block ≡ written a comp v part.ring.front part.block = ap (λ u. if u then written a comp v part.ring.front part.block else part.block) (eq-eqb b b refl) in
-    with-set (settled (max m (now before)) n e (record part { block = written a comp v part.ring.front part.block })) (set_after comp named part.set) c b (at n m (wrote a.0 b comp v) ∷ before)
-    (subst (λ (x : Block). Stands (settled (max m (now before)) n e (record part { block = x })) c b (at n m (wrote a.0 b comp v) ∷ before)) own
-    (subst (λ r. Stands (record part {
-      block = after_deed b (wrote a.0 b comp v) part.ring.front part.block;
-      ring = purged_if (is_purging e) (after_bodies part.ring r);
-      window = window_after (is_purging e) (max m (now before)) [] (after_deed b (wrote a.0 b comp v) part.ring.front part.block).options.buf_tm part.window;
-      origin = if is_change e then Some (max m (now before)) else part.origin;
-    }) c b (at n m (wrote a.0 b comp v) ∷ before)) (append-nil (body_of n (closed_at (is_purging e) (max m (now before)) [] part.window)))
-    (deed-stands c b m n (wrote a.0 b comp v) before part (coming_of e) s (record {
-      note = none-kept;
-      general = sym plain;
-      all = λ is. off (sym plain ∙ is);
-      purge = ap is_purging is ∙ t.purge;
-      change = ap is_change is ∙ t.change;
-    }))))
 
 -- an accepted write of any component; these are all members, with their values, where it is a general interrogation
 pub write-any-stands : (c : Model) (b m n : ℕ) (before : Past) (part : ReportBlock) (a : AssocNo) (comp : Comp) (v : Value) (named : Option ℕ) (e : Effect) (all : List Piece) → e ≡ effect_of comp v part.block

@@ -1,5 +1,5 @@
 -- A report in room that was made before, so that to fill it takes no memory (IEC 61850-7-2, the Report service).
-use Rattle.std.specs.Prelude.{◌≤◌, ℕ, List, length, vec_capacity}
+use Rattle.std.specs.Prelude.{◌≤◌, ℕ, List, [], ◌∷◌, length, max, vec_capacity}
 use Rattle.std.specs.List.{All}
 use Rattle.bay_model.specs.declared.report.Member.{Member}
 use Rattle.bay_model.specs.declared.tables.MemberShape.{MemberShape}
@@ -29,6 +29,11 @@ pub record Blank : Type 0 where
 -- the texts of a block's reports have at most so many octets each
 abbrev pub AreShortTexts : ℕ → ReportBlock → Type 0
 AreShortTexts most part = (length (report_id part.block.options.rpt_id part.block.reference) ≤ most) × (length part.block.options.dat_set ≤ most)
+
+-- how many octets the longest RptID or DatSet in the reports of blocks has
+abbrev pub longest_text_in : List ReportBlock → ℕ
+longest_text_in [] = 0
+longest_text_in (part ∷ parts) = max (max (length (report_id part.block.options.rpt_id part.block.reference)) (length part.block.options.dat_set)) (longest_text_in parts)
 
 -- the references of these nodes have at most 129 octets
 abbrev pub AreShort : Model → List ℕ → Type 0

@@ -1,6 +1,6 @@
 -- The report of an entry by its block, the members of its data set and what is kept of the entry (IEC 61850-7-2, the Report
 -- service and its report format).
-use Rattle.std.specs.Prelude.{List, length, map}
+use Rattle.std.specs.Prelude.{◌≡◌, List, length, map}
 use Rattle.bay_model.specs.declared.report.Report.{Report}
 use Rattle.bay_model.specs.declared.tables.MemberShape.{MemberShape}
 use Rattle.bay_model.specs.Model.{Model}
@@ -10,11 +10,18 @@ use Rattle.set_view.specs.Shapes.{node_numbers}
 use Rattle.report_block.specs.declared.block.ReportBlock.{ReportBlock}
 use Rattle.entry_ring.specs.Entries.{held_of}
 use Rattle.report_block.specs.declared.offers.Offer.{Offer}
+use Rattle.report_block.specs.declared.offers.Texts.{Texts}
 use Rattle.report_block.specs.Offers.{Offered}
 
 -- an offer as it is lent
 abbrev pub offered : Offer → Offered
 offered o = record { block = o.block; next = o.next; entry = held_of o.entry }
+
+-- the texts that the block's reports have
+abbrev pub AreTextsOf : ReportBlock → Texts → Type 0
+AreTextsOf part t =
+    (t.rpt_id.items ≡ report_id part.block.options.rpt_id part.block.reference)
+    × (t.opt_flds.items ≡ part.block.options.opt_flds) × (t.dat_set.items ≡ part.block.options.dat_set)
 
 -- the report of an offer by its block, whose data set has members of these shapes; these are the members of its entry
 abbrev pub report_by : Model → List MemberShape → ReportBlock → Offered → List Kept → Report

@@ -4,13 +4,13 @@ use Rattle.sv_base.specs.declared.numbers.AssocNo.{AssocNo}
 use Rattle.sv_base.specs.declared.value.Value.{Value}
 use Rattle.bay_model.specs.declared.components.Comp.{Comp}
 use Rattle.bay_model.specs.declared.components.Comp.TheVariants as comps
-use Rattle.brcb_state.specs.Changes.{written, after_report, after_loss}
+use Rattle.brcb_state.specs.Changes.{after_report, after_loss}
 use Rattle.brcb_state.specs.Refusals.{answer_to, names_nothing}
 use Rattle.brcb_state.specs.Standing.{is_purging, is_change}
 use Rattle.brcb_state.specs.declared.told.Effect.{Effect}
 use Rattle.window_core.specs.Standing.{body_of}
 use Rattle.report_block.specs.declared.block.ReportBlock.{ReportBlock}
-use Rattle.report_block.specs.Coming.{Coming, untouched, after_bodies, purged_if, closed_at, window_after}
+use Rattle.report_block.specs.Coming.{after_bodies, purged_if, closed_at, window_after}
 use Rattle.report_block.specs.Offers.{retained_of}
 
 abbrev pub lost_by : AssocNo → ReportBlock → ReportBlock
@@ -33,10 +33,6 @@ set_after _ named was = was
 abbrev pub write_answer : AssocNo → Comp → Value → Option ℕ → ReportBlock → Result Effect ℕ
 write_answer a comp v named part = answer_to a comp v (names_nothing (retained_of part) (is_some named) comp v) part.block
 
--- what comes of an accepted write of this effect
-abbrev pub coming_of : Effect → Coming
-coming_of effect = record untouched { purge = is_purging effect; change = is_change effect }
-
 -- a block whose attributes are these by now, after an accepted write of this effect
 abbrev pub settled : ℕ → ℕ → Effect → ReportBlock → ReportBlock
 settled now step effect part = record part {
@@ -44,11 +40,3 @@ settled now step effect part = record part {
   window = window_after (is_purging effect) now [] part.block.options.buf_tm part.window;
   origin = if is_change effect then Some now else part.origin;
 }
-
--- after an accepted write of this effect
-abbrev pub written_by : AssocNo → Comp → Value → Option ℕ → ℕ → ℕ → Effect → ReportBlock → ReportBlock
-written_by a comp v named now step effect part = settled now step effect (record part { block = written a comp v part.ring.front part.block; set = set_after comp named part.set })
-
-abbrev pub after_write : AssocNo → Comp → Value → Option ℕ → ℕ → ℕ → ReportBlock → Result Effect ℕ → ReportBlock
-after_write a comp v named now step part (Ok effect) = written_by a comp v named now step effect part
-after_write a comp v named now step part (Err code) = part

@@ -9,7 +9,7 @@ use brcb_state::{Block, Effect, Kept};
 use entry_ring::Ring;
 use set_view::SetView;
 use std::alloc::{AllocError, Global};
-use sv_base::{AssocNo, BlockDef, Moment, Value};
+use sv_base::{AssocNo, BlockDef, Moment};
 use value_store::Store;
 use window_core::Window;
 
@@ -47,7 +47,7 @@ impl ReportBlock {
     ghost use Rattle.report_block.specs.Coming.{after_bodies};
     ghost use Rattle.report_block.specs.EntryOctets.{IsKeepable};
     ghost use Rattle.report_block.specs.Events.{with_note};
-    ghost use Rattle.report_block.specs.Writes.{without_effect, write_answer, after_write, settled, lost_by, reported_by};
+    ghost use Rattle.report_block.specs.Writes.{settled, lost_by, reported_by};
 
     /// A block as it is configured, with the data set of this number, no entry and nothing gathered. It takes all the memory that it
     /// needs, its entries' and that of a group of so many members, as many as any data set has.
@@ -118,36 +118,6 @@ impl ReportBlock {
         if !note.is_empty() {
             put_note(store, set, note, octets);
             self.ring.append(now, step, octets.as_slice());
-        }
-    }
-
-    /// Writes a component other than GI for an association, at the moment and the number of its step; gives the code of the first
-    /// refusal (IEC 61850-7-2, SetBRCBValues). `named` is the number of the data set that a written DatSet names. A purge closes
-    /// what is gathered, and empties the buffer. A refused write changes nothing. What closes is put into `octets`. It takes no
-    /// memory.
-    pub fn write(
-        &mut self,
-        a: AssocNo,
-        comp: Comp,
-        value: &Value,
-        named: Option<usize>,
-        now: Moment,
-        step: u64,
-        octets: &mut Fixed,
-    ) -> Result<(), u8>
-        requires room { 504 * self.old.window.members ≤ octets.old.room }
-        ensures answer { result ≡ without_effect (write_answer a comp value.now named self.old) }
-        ensures written { self.new ≡ after_write a comp value.now named now step self.old (write_answer a comp value.now named self.old) }
-        ensures room { octets.new.room ≡ octets.old.room }
-    {
-        let retained = self.retained();
-        match self.block.write(a, comp, value, retained, named.is_some()) {
-            Ok(effect) => {
-                self.set = set_after(comp, named, self.set);
-                self.settle(effect, now, step, octets);
-                Ok(())
-            }
-            Err(code) => Err(code),
         }
     }
 

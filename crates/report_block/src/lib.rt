@@ -30,6 +30,7 @@ pub use block::ReportBlock;
 pub use components::Written;
 pub use events::EventRoom;
 pub use offers::{Offer, first_offer, report_of};
+pub use room::Rooms;
 pub use spare::empty_report;
 pub use time::earliest;
 

@@ -1,12 +1,15 @@
 //! Which entry is reported next, and its report (IEC 61850-7-2, the Report service).
 
-ghost use Rattle.std.specs.Prelude.{◌≡◌, ◌<◌, ◌≤◌, ◌+◌, ◌++◌, nat_le, false, List, length, vec_capacity, IfOk, IfSome};
+ghost use Rattle.std.specs.Prelude.{◌≡◌, ◌<◌, ◌≤◌, ◌+◌, ◌++◌, nat_le, false, List, map, length, vec_capacity, IfOk, IfSome};
 ghost use Rattle.std.specs.Option.{option_map, option_map_or};
 ghost use Rattle.bay_model.specs.Named.{configured_model};
+ghost use Rattle.bay_model.specs.Model.{Model as Bay};
 ghost use Rattle.bay_model.specs.Notes.{Kept};
+ghost use Rattle.bay_model.specs.Reports.{member_of};
+ghost use Rattle.set_view.specs.Shapes.{node_numbers};
 ghost use Rattle.report_block.specs.Again.{AreKept, AreNodes, reported};
 ghost use Rattle.report_block.specs.Offers.{Offered, offered_by, first_offered};
-ghost use Rattle.report_block.specs.Reporting.{offered, report_by};
+ghost use Rattle.report_block.specs.Reporting.{AreTextsOf, offered, report_by};
 
 use crate::block::ReportBlock;
 use crate::members::members_of;
@@ -106,6 +109,44 @@ fn members_in(
     members_of(alloc, model, set, &octets, spare)
 }
 
+/// RptID, OptFlds and DatSet of a report.
+#[derive(Drop)]
+pub(crate) struct Texts {
+    pub(crate) rpt_id: Vec<u8>,
+    pub(crate) opt_flds: Vec<bool>,
+    pub(crate) dat_set: Vec<u8>,
+}
+
+/// The report of an offer by its block and its data set, of these texts and members. It takes no memory.
+pub(crate) fn report_with(
+    part: &ReportBlock,
+    set: &SetView<'_>,
+    offer: &Offer<'_>,
+    texts: Texts,
+    members: Members,
+) -> Report
+    requires block { offer.now.block ≤ 4294967295 }
+    requires few { length set.now ≤ 4294967295 }
+    requires texts { AreTextsOf part.now texts }
+    ensures report { (c : Bay) (ks : List Kept) → members ≡ map (member_of c (node_numbers set.now)) ks
+        → result ≡ report_by c set.now part.now (offered offer.now) ks }
+    ensures members { result.members ≡ members }
+{
+    Report {
+        block: BlockNo(offer.block as u32),
+        rpt_id: Octs::from_vec(texts.rpt_id),
+        opt_flds: Bits::from_vec(texts.opt_flds),
+        sq: offer.next.sq,
+        time: offer.entry.moment,
+        dat_set: Octs::from_vec(texts.dat_set),
+        ovfl: offer.next.ovfl,
+        id: offer.next.id,
+        conf_rev: part.block.conf_rev(),
+        total: set.len() as u32,
+        members,
+    }
+}
+
 /// The report of an offer by its block and its data set, whose nodes are the model's, in the memory of another report.
 pub fn report_of(
     alloc: Global,
@@ -121,17 +162,10 @@ pub fn report_of(
     ensures { IfOk result (λ r. (ks : List Kept) → AreKept (offered offer.now).entry.kept ks → r ≡ report_by (configured_model model.now) set.now part.now (offered offer.now) ks) }
 {
     let members = members_in(alloc, model, set, &offer.entry, spare.members)?;
-    Ok(Report {
-        block: BlockNo(offer.block as u32),
-        rpt_id: Octs::from_vec(copied_into(spare.rpt_id.into_vec(), part.block.report_id())?),
-        opt_flds: Bits::from_vec(copied_into(spare.opt_flds.into_vec(), part.block.opt_flds())?),
-        sq: offer.next.sq,
-        time: offer.entry.moment,
-        dat_set: Octs::from_vec(copied_into(spare.dat_set.into_vec(), part.block.dat_set())?),
-        ovfl: offer.next.ovfl,
-        id: offer.next.id,
-        conf_rev: part.block.conf_rev(),
-        total: set.len() as u32,
-        members,
-    })
+    let texts = Texts {
+        rpt_id: copied_into(spare.rpt_id.into_vec(), part.block.report_id())?,
+        opt_flds: copied_into(spare.opt_flds.into_vec(), part.block.opt_flds())?,
+        dat_set: copied_into(spare.dat_set.into_vec(), part.block.dat_set())?,
+    };
+    Ok(report_with(part, set, offer, texts, members))
 }

@@ -33,13 +33,55 @@ fn room_of(spare: Member) -> Result<Room, AllocError>
     })
 }
 
-/// So many rooms, in those of these members as far as they go.
-fn rooms_of(alloc: Global, spare: &mut Vec<Member>, most: usize) -> Result<Vec<Room>, AllocError>
+/// Room for the members of reports, of which no report makes use by now, and for the octets of an entry in one row: what is kept
+/// of one report for the next. Contracts see for how many members.
+#[derive(Drop)]
+pub struct Rooms {
+    pub(crate) free: Vec<Room>,
+    pub(crate) joined: Vec<u8>,
+}
+
+impl std::marker::Model for Rooms {
+    ghost use Rattle.std.specs.Prelude.{ℕ, length};
+    ghost use Rattle.std.specs.List.{All};
+    ghost use Rattle.report_block.specs.Blanks.{IsRoom};
+
+    ghost Value = { ℕ };
+
+    ghost view = { λ r. length r.free.items };
+
+    ghost invariant = { λ r. All IsRoom r.free.items };
+}
+
+impl Rooms {
+    ghost use Rattle.std.specs.Prelude.{◌≡◌};
+
+    /// Room for no member. It takes no memory.
+    pub fn none(alloc: Global) -> Rooms
+        ensures { result ≡ 0 }
+    {
+        Rooms {
+            free: Vec::new(alloc),
+            joined: Vec::new(alloc),
+        }
+    }
+}
+
+/// So many rooms: these as far as they go, then those of these members, then new ones.
+fn rooms_of(
+    alloc: Global,
+    free: Vec<Room>,
+    spare: &mut Vec<Member>,
+    most: usize,
+) -> Result<Vec<Room>, AllocError>
+    requires { All IsRoom free.items }
     ensures rooms { IfOk result (λ r. All IsRoom r.items) }
     ensures count { IfOk result (λ r. length r.items ≡ most) }
 {
-    let mut rooms = Vec::with_capacity(alloc, most)?;
-    for _ in 0..most {
+    let mut rooms = free;
+    rooms.truncate(most);
+    rooms.reserve(most - rooms.len())?;
+    while rooms.len() < most {
         let member = match spare.pop() {
             Some(member) => member,
             None => empty_member(alloc),
@@ -98,20 +140,27 @@ impl std::marker::Model for Row {
 }
 
 impl Row {
-    ghost use Rattle.std.specs.Prelude.{◌≡◌, ◌≤◌, ◌<◌, ◌-◌, ◌++◌, ◌∷◌, [], List, length, IfOk};
+    ghost use Rattle.std.specs.Prelude.{◌≡◌, ◌≤◌, ◌<◌, ◌+◌, ◌-◌, ◌++◌, ◌∷◌, [], List, length, IfOk};
+    ghost use Rattle.std.specs.List.{All};
     ghost use Rattle.bay_model.specs.Named.{configured_model};
     ghost use Rattle.bay_model.specs.Notes.{Kept};
     ghost use Rattle.bay_model.specs.Reports.{member_of};
     ghost use Rattle.set_view.specs.Shapes.{node_numbers};
     ghost use Rattle.report_block.specs.Again.{AreNodes, front_member, reported};
-    ghost use Rattle.report_block.specs.Blanks.{IsShortSet, AreFew};
+    ghost use Rattle.report_block.specs.Blanks.{IsRoom, IsShortSet, AreFew};
 
-    /// Room for so many members, in the memory of others.
-    pub(crate) fn open(alloc: Global, spare: Members, most: usize) -> Result<Row, AllocError>
+    /// Room for so many members, made of rooms and of the memory of other members as far as they go.
+    pub(crate) fn open(
+        alloc: Global,
+        free: Vec<Room>,
+        spare: Members,
+        most: usize,
+    ) -> Result<Row, AllocError>
+        requires { All IsRoom free.items }
         ensures { IfOk result (λ r. r ≡ record { items = []; left = most }) }
     {
         let mut items = spare.into_vec();
-        let rooms = rooms_of(alloc, &mut items, most)?;
+        let rooms = rooms_of(alloc, free, &mut items, most)?;
         let items = emptied(items, most)?;
         Ok(Row { items, rooms })
     }
@@ -120,7 +169,11 @@ impl Row {
     fn put(&mut self, model: &Model, set: &SetView<'_>, front: &Front<'_>)
         requires nodes { AreNodes model.now set.now }
         requires short { IsShortSet (configured_model model.now) set.now }
-        ensures { 0 < self.old.left → length front.now.octets.now ≤ 500 → self.new ≡ record { items = self.old.items ++ member_of (configured_model model.now) (node_numbers set.now) (front_member front.now) ∷ []; left = self.old.left - 1 } }
+        ensures put { 0 < self.old.left → length front.now.octets.now ≤ 500 → self.new ≡ record {
+          items = self.old.items ++ member_of (configured_model model.now) (node_numbers set.now) (front_member front.now) ∷ [];
+          left = self.old.left - 1;
+        } }
+        ensures kept { length self.new.items + self.new.left ≡ length self.old.items + self.old.left }
     {
         if front.octets.len() > 500 {
             return;
@@ -130,20 +183,30 @@ impl Row {
         }
     }
 
-    /// The members.
-    fn into_members(self) -> Members
-        ensures { result ≡ self.items }
+    /// The members, and the rooms that are left.
+    pub(crate) fn into_parts(self) -> (Members, Vec<Room>)
+        ensures members { result.0 ≡ self.items }
+        ensures rooms { All IsRoom result.1.items }
+        ensures count { length result.1.items ≡ self.left }
     {
-        Members::from_vec(self.items)
+        (Members::from_vec(self.items), self.rooms)
     }
 
-    /// The members of a report, from the octets that a block keeps of an entry of a data set whose nodes are the model's. It takes
-    /// no memory. Of octets that are not kept ones, or of more members than have room, nothing is said.
-    pub(crate) fn filled(self, model: &Model, set: &SetView<'_>, octets: &[u8]) -> Members
+    /// The members of a report, from the octets that a block keeps of an entry of a data set whose nodes are the model's, and the
+    /// rooms that are left. It takes no memory. Of octets that are not kept ones, or of more members than have room, no more is said
+    /// than that no room is lost.
+    pub(crate) fn filled(
+        self,
+        model: &Model,
+        set: &SetView<'_>,
+        octets: &[u8],
+    ) -> (Members, Vec<Room>)
         requires empty { self.items ≡ [] }
         requires nodes { AreNodes model.now set.now }
         requires short { IsShortSet (configured_model model.now) set.now }
-        ensures { (ks : List Kept) → AreFew self.left octets.now ks → result ≡ reported model.now set.now ks }
+        ensures members { (ks : List Kept) → AreFew self.left octets.now ks → result.0 ≡ reported model.now set.now ks }
+        ensures rooms { All IsRoom result.1.items }
+        ensures count { length result.0 + length result.1.items ≡ self.left }
     {
         let mut row = self;
         let mut rest = octets;
@@ -151,6 +214,6 @@ impl Row {
             row.put(model, set, &front);
             rest = front.rest;
         }
-        row.into_members()
+        row.into_parts()
     }
 }

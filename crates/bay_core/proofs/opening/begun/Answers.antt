@@ -1,11 +1,12 @@
-use Rattle.std.proofs.Common.{refl, arith, vec_capacity}
+use Rattle.std.proofs.Common.{refl, vec_capacity}
 use Rattle.bay_core.proofs.FirstState.{furnished-first, stands-first}
+use Rattle.bay_core.proofs.QuietLaws.{quiet-first}
 use Rattle.bay_core.proofs.opening.begun.Goals as goal
 
 pub invariant_of-result : goal.invariant_of-result
 invariant_of-result c = record {
   furnished = furnished-first c.args.model c.args.made.values c.args.made.sets c.args.made.parts.items c.args.made.watch c.args.made.octets (vec_capacity c.args.made.changes) c.requires.servable c.requires.values c.requires.sets c.requires.parts c.requires.watch c.requires.octets c.requires.changes;
-  quiet = λ b part there now h. absurd (omega (arith, h));
+  quiet = quiet-first c.first.result c.args.made.dues c.args.made.parts.items c.requires.dues;
   roomy = c.requires.events;
 }
 

@@ -1,12 +1,11 @@
-use Rattle.std.proofs.Common.{◌≤◌, ◌∙◌, ap, sym, subst, length, map, List}
+use Rattle.std.proofs.Common.{◌≤◌, ◌∙◌, ap, sym, subst, length, List}
 use Rattle.std.specs.List.{All}
 use Rattle.bay_model.specs.declared.tables.NodeRow.{NodeRow}
 use Rattle.data_sets.specs.Books.{Book, largest, opened as booked}
 use Rattle.object_model.specs.Nodes.{node_rows}
 use Rattle.value_store.specs.Opened.{opened}
 use Rattle.value_store.specs.Stored.{Stored}
-use Rattle.bay_core.specs.Opened.{part_defined}
-use Rattle.bay_core.specs.Watched.{AreLent, IsWatchable, IsWatching}
+use Rattle.bay_core.specs.Watched.{AreLent, IsWatchable}
 use Rattle.bay_core.proofs.BookLaws.{largest-few, sets-lent}
 use Rattle.bay_core.proofs.FirstValues.{opened-held}
 use Rattle.bay_core.proofs.FirstState.{watchable-first}

@@ -1,5 +1,5 @@
-use Rattle.std.proofs.Common.{◌≡◌, ◌<◌, ◌∙◌, ◌⊎◌, inl, inr, ap, sym, refl, subst, arith, [], ℕ, List, Option, Some, length}
-use Rattle.std.specs.Prelude.{slice_get, slice_set, slice_index_or}
+use Rattle.std.proofs.Common.{◌≡◌, ◌<◌, ◌∙◌, ap, sym, refl, subst, arith, [], ℕ, List, Option, length}
+use Rattle.std.specs.Prelude.{slice_set, slice_index_or}
 use Rattle.std.proofs.lemmas.List.{length-set}
 use Rattle.std.proofs.lemmas.Option.{slice_get-get_or}
 use Rattle.bay_rooms.specs.Rooms.{Filled}
@@ -7,10 +7,9 @@ use Rattle.bay_model.specs.declared.note.Mention.{Mention}
 use Rattle.bay_model.specs.declared.tables.MemberShape.{MemberShape}
 use Rattle.report_block.specs.EntryOctets.{IsKeepable}
 use Rattle.report_block.specs.Events.{after_noting, pieces_of}
-use Rattle.report_block.specs.Due.{due_at, earliest}
-use Rattle.bay_core.specs.Timed.{IsQuietUntil}
-use Rattle.bay_core.proofs.QuietLaws.{quiet-earlier, quiet-own}
-use Rattle.list_laws.proofs.Places.{got-set}
+use Rattle.report_block.specs.Due.{IsBefore}
+use Rattle.bay_core.specs.Timed.{AreQuietUntil}
+use Rattle.bay_core.proofs.QuietLaws.{quiet-set}
 use Rattle.std.specs.List.{All}
 use Rattle.touch_index.specs.Gathering.{Gathered, note_at}
 use Rattle.touch_index.proofs.GatheringLaws.{room_same}
@@ -29,7 +28,7 @@ loop-b-init c = record {
   rooms = λ b. refl;
   entry = c.requires.entry;
   events = c.requires.events;
-  quiet = λ b part at. inl at;
+  quiet = c.requires.quiet;
   left = λ b part at. left-first c.args.source.now.rows.now c.args.source.now.book.now c.args.source.now.store.now c.args.moment c.args.step c.args.parts.now.items c.args.notes.now.notes b part at (c.requires.notes b part at);
 }
 
@@ -87,6 +86,11 @@ event-requires-clause-octets c = omega (arith, (is-note c).few, c.loop-b.invaria
 pub event-requires-clause-window : goal.event-requires-clause-window
 event-requires-clause-window c = omega (arith, (is-note c).gathers, c.loop-b.invariant.entry)
 
+pub put-requires : goal.put-requires
+put-requires c =
+    let within : c.in-Some.b.0 < length c.loop-b.parts.items = omega (arith, c.in-Some.ensures.within, c.loop-b.invariant.count, c.requires.count, c.loop-b.invariant.parts) in
+    omega (arith, within, c.loop-b.invariant.quiet.count)
+
 pub loop-b-preserved : goal.loop-b-preserved
 loop-b-preserved c =
     let b = c.in-Some.b.0 in
@@ -107,14 +111,8 @@ loop-b-preserved c =
       rooms = λ k. ap (λ (g : Gathered). (note_at g.notes k).room) cleared ∙ (room_same notes b [] below k ∙ c.loop-b.invariant.rooms k);
       entry = c.event.ensures.octets ∙ c.loop-b.invariant.entry;
       events = c.event.ensures.room 256 c.loop-b.invariant.events;
-      quiet = λ k q got. subst (λ (d : Option ℕ). (slice_get c.args.parts.now.items k ≡ Some q) ⊎ IsQuietUntil c.args.moment d q) (sym (c.earliest-due.ensures ∙ ap (earliest c.loop-b.due) c.due_at.ensures))
-          (elim (got-set parts b k c.event.new.self q got) [
-            | inl e ↦ inr (subst (IsQuietUntil c.args.moment (earliest c.loop-b.due (due_at c.args.moment c.event.new.self))) (sym e.1) (quiet-own c.args.moment c.loop-b.due c.event.new.self))
-            | inr e ↦ elim (c.loop-b.invariant.quiet k q e.1) [
-              | inl was ↦ inl was
-              | inr is ↦ inr (quiet-earlier c.args.moment c.loop-b.due (due_at c.args.moment c.event.new.self) q is)
-            ]
-          ]);
+      quiet = subst (λ (dues : List (Option ℕ)). AreQuietUntil c.args.moment dues (slice_set parts b c.event.new.self)) (sym c.put.ensures)
+          (quiet-set c.args.moment c.loop-b.dues parts b c.due_at.result c.event.new.self (λ now before. subst (IsBefore now) c.due_at.ensures before) c.loop-b.invariant.quiet);
       left = λ k q at.
           let target = noting c.args.source.now.rows.now c.args.source.now.book.now c.args.source.now.store.now c.args.moment c.args.step (note_at c.args.notes.now.notes k).items q in
           subst (λ (p : ReportBlock). Left c.args.source.now.rows.now c.args.source.now.book.now c.args.source.now.store.now c.args.moment c.args.step (slice_set parts b p) c.clear_last.new.self.notes k target) (sym kept)

@@ -1,9 +1,9 @@
-use Rattle.std.proofs.Common.{◌≡◌, ◌⊎◌, ℕ, Some, length}
+use Rattle.std.proofs.Common.{◌≡◌, ℕ, Some, length}
 use Rattle.std.specs.Prelude.{slice_get}
 use Rattle.touch_index.specs.Gathering.{note_at}
 use Rattle.report_block.specs.declared.block.ReportBlock.{ReportBlock}
 use Rattle.report_block.specs.Events.{HasRoom}
-use Rattle.bay_core.specs.Timed.{IsQuietUntil}
+use Rattle.bay_core.specs.Timed.{AreQuietUntil}
 use Rattle.bay_core.specs.Watched.{IsNoteOf}
 use Rattle.bay_core.proofs.WatchLaws.{noting}
 use Rattle.bay_core.proofs.setting.keep_all.Given as goal
@@ -16,7 +16,7 @@ invariant-loop-b l = record {
   rooms : (b : ℕ) → (note_at l.notes.notes b).room ≡ (note_at l.fn.notes.notes b).room;
   entry : l.octets.room ≡ 129024;
   events : HasRoom 256 l.events;
-  quiet : (b : ℕ) (part : ReportBlock) → slice_get l.parts.items b ≡ Some part → (slice_get l.fn.parts.items b ≡ Some part) ⊎ IsQuietUntil l.fn.moment l.due part;
+  quiet : AreQuietUntil l.fn.moment l.dues l.parts.items;
   left : (b : ℕ) (part : ReportBlock) → slice_get l.fn.parts.items b ≡ Some part
       → (now : ReportBlock) × (slice_get l.parts.items b ≡ Some now) × IsNoteOf l.fn.source.rows.now l.fn.source.book.now l.fn.source.store.now now (note_at l.notes.notes b).items
       × (noting l.fn.source.rows.now l.fn.source.book.now l.fn.source.store.now l.fn.moment l.fn.step (note_at l.notes.notes b).items now ≡ noting l.fn.source.rows.now l.fn.source.book.now l.fn.source.store.now l.fn.moment l.fn.step (note_at l.fn.notes.notes b).items part);

@@ -1,4 +1,4 @@
-use Rattle.std.proofs.Common.{◌≡◌, ◌-◌, ◌++◌, ◌≤◌, ◌<◌, ℕ, Some, map, take, drop, length}
+use Rattle.std.proofs.Common.{◌≡◌, ◌-◌, ◌++◌, ◌≤◌, ◌<◌, ℕ, Option, Some, map, take, drop, length}
 use Rattle.std.specs.Prelude.{slice_get}
 use Rattle.report_block.specs.declared.block.ReportBlock.{ReportBlock}
 use Rattle.bay_core.specs.Events.{IsReady}
@@ -11,7 +11,9 @@ invariant-loop-place l = record {
   parts : l.parts.items ≡ map (arrived_part l.fn.source.rows.now l.fn.source.book.now l.fn.source.store.now l.fn.was l.fn.now l.fn.step) (take l.place l.fn.parts.items) ++ drop l.place l.fn.parts.items;
   within : l.place ≤ length l.fn.parts.items;
   entry : l.octets.room ≡ 129024;
-  quiet : (b : ℕ) (part : ReportBlock) → b < l.place → slice_get l.parts.items b ≡ Some part → IsQuietUntil l.fn.now l.due part;
+  count : length l.dues ≡ length l.parts.items;
+  done : (b : ℕ) (due : Option ℕ) (part : ReportBlock) → b < l.place → slice_get l.dues b ≡ Some due → slice_get l.parts.items b ≡ Some part → IsQuietUntil l.fn.now due part;
+  left : (b : ℕ) (due : Option ℕ) (part : ReportBlock) → l.place ≤ b → slice_get l.dues b ≡ Some due → slice_get l.parts.items b ≡ Some part → IsQuietUntil l.fn.was due part;
   ready : (b : ℕ) (part : ReportBlock) → l.place ≤ b → slice_get l.parts.items b ≡ Some part → IsReady l.fn.source.rows.now l.fn.source.book.now l.fn.source.store.now part;
 }
 

@@ -1,11 +1,11 @@
-use Rattle.std.proofs.Common.{◌≡◌, ◌∙◌, ◌++◌, List, arith, length-append, subst, sym}
+use Rattle.std.proofs.Common.{◌∙◌, ◌++◌, arith, length-append, subst, sym}
 use Rattle.report_block.specs.Blanks.{AreFew}
 use Rattle.report_block.proofs.AgainLaws.{octets_within}
 use Rattle.report_block.proofs.blank.members_in.Goals as goal
 
-pub returns : goal.returns
-returns c = λ ks few.
+pub returns-clause-members : goal.returns-clause-members
+returns-clause-members c = λ ks few.
     let e = c.args.entry.now in
     let most = c.args.row.left in
-    let joined = c.joined_in-octets.ensures (omega (arith, octets_within most (e.first.now ++ e.second.now) ks few, length-append e.first.now e.second.now, c.requires.room)) in
-    c.filled.ensures ks (subst (λ o. AreFew most o ks) (sym (c.deref.ensures.value ∙ joined)) few)
+    let joined = c.joined_in-joined.ensures (omega (arith, octets_within most (e.first.now ++ e.second.now) ks few, length-append e.first.now e.second.now, c.requires.room)) in
+    c.filled-members.ensures.members ks (subst (λ o. AreFew most o ks) (sym (c.deref.ensures.value ∙ joined)) few)

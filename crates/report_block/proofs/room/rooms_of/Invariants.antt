@@ -1,10 +1,13 @@
-use Rattle.std.proofs.Common.{◌≡◌, length}
+use Rattle.std.proofs.Common.{◌≤◌, ◌-◌, length}
 use Rattle.std.specs.List.{All}
 use Rattle.report_block.specs.Blanks.{IsRoom}
 use Rattle.report_block.proofs.room.rooms_of.Given as goal
 
-abbrev pub invariant-loop : goal.invariant-loop
-invariant-loop l = record {
+abbrev pub invariant-loop-alloc : goal.invariant-loop-alloc
+invariant-loop-alloc l = record {
   rooms : All IsRoom l.rooms.items;
-  count : length l.rooms.items ≡ l.counter;
+  few : length l.rooms.items ≤ l.fn.most;
 }
+
+abbrev pub decreases-loop-alloc : goal.decreases-loop-alloc
+decreases-loop-alloc l = l.fn.most - length l.rooms.items

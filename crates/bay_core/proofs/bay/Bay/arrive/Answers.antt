@@ -1,4 +1,4 @@
-use Rattle.std.proofs.Common.{◌≡◌, ◌∙◌, ◌∷◌, ℕ, List, max, refl, ap, ap₂, sym, subst, vec_capacity}
+use Rattle.std.proofs.Common.{◌∙◌, ◌∷◌, ℕ, List, refl, ap, ap₂, sym, subst, vec_capacity}
 use Rattle.bay_model.specs.declared.tables.NodeRow.{NodeRow}
 use Rattle.bay_model.specs.Singles.{arrival}
 use Rattle.object_model.specs.Nodes.{node_rows}
@@ -14,25 +14,25 @@ use Rattle.bay_core.proofs.ArriveLaws.{HasAll, HaveMembers, arrives, furnished-a
 use Rattle.bay_core.proofs.SettingLaws.{are-ready, have-members}
 use Rattle.bay_core.proofs.bay.Bay.arrive.Goals as goal
 
-pub pass_due-self-inside-requires-clause-ready : goal.pass_due-self-inside-requires-clause-ready
-pass_due-self-inside-requires-clause-ready c =
+pub pass_due-requires-clause-ready : goal.pass_due-requires-clause-ready
+pass_due-requires-clause-ready c =
     subst (λ (all : List Stored). AreReady c.as_slice.result.now c.self.inside.sets all c.self.inside.parts.items) (sym c.store.ensures)
     (are-ready c.self.inside.model c.as_slice.result.now c.self.inside.values c.self.inside.values c.self.inside.sets c.self.inside.parts.items c.self.inside.watch c.self.inside.octets (vec_capacity c.self.inside.changes) (c.as_slice.ensures ∙ c.nodes.ensures)
     c.self.invariant.furnished c.self.invariant.furnished.values)
 
 pub invariant_of-self : goal.invariant_of-self
 invariant_of-self c = record {
-  furnished = subst (λ ps. IsFurnished c.self.inside.model c.self.inside.values c.self.inside.sets ps c.self.inside.watch c.pass_due-self-inside.new.octets (vec_capacity c.self.inside.changes)) (sym c.pass_due-self-inside.ensures.parts)
-      (furnished-arrived c.self.inside.model c.self.inside.values c.store.result.now c.self.inside.sets c.self.inside.parts.items c.self.inside.watch c.self.inside.octets c.pass_due-self-inside.new.octets (vec_capacity c.self.inside.changes)
-      c.as_slice.result.now c.self.inside.latest c.later-now.result c.self.inside.steps c.self.invariant.furnished c.pass_due-self-inside.ensures.entry);
-  quiet = c.pass_due-self-inside.ensures.quiet;
+  furnished = subst (λ ps. IsFurnished c.self.inside.model c.self.inside.values c.self.inside.sets ps c.self.inside.watch c.pass_due.new.octets (vec_capacity c.self.inside.changes)) (sym c.pass_due.ensures.parts)
+      (furnished-arrived c.self.inside.model c.self.inside.values c.store.result.now c.self.inside.sets c.self.inside.parts.items c.self.inside.watch c.self.inside.octets c.pass_due.new.octets (vec_capacity c.self.inside.changes)
+      c.as_slice.result.now c.self.inside.latest c.later-now.result c.self.inside.steps c.self.invariant.furnished c.pass_due.ensures.entry);
+  quiet = c.pass_due.ensures.quiet;
   roomy = c.self.invariant.roomy;
 }
 
 pub returns-clause-state : goal.returns-clause-state
 returns-clause-state c =
     let s = c.self.inside in
-    let parts = c.pass_due-self-inside.ensures.parts
+    let parts = c.pass_due.ensures.parts
     ∙ (ap (λ (rows : List NodeRow). arrived_all rows s.sets c.store.result.now s.latest c.later-now.result s.steps s.parts.items) (c.as_slice.ensures ∙ c.nodes.ensures)
     ∙ (ap (λ (b : Book). arrived_all (node_rows s.model) b c.store.result.now s.latest c.later-now.result s.steps s.parts.items) c.self.invariant.furnished.booked
     ∙ ap₂ (λ (all : List Stored) (now : ℕ). arrived_all (node_rows s.model) (opened (set_rows s.model)) all s.latest now s.steps s.parts.items) c.store.ensures c.later-now.ensures)) in

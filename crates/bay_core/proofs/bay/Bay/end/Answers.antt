@@ -11,7 +11,7 @@ pub invariant_of-self : goal.invariant_of-self
 invariant_of-self c = record {
   furnished = subst (λ ps. IsFurnished c.self.inside.model c.self.inside.values c.self.inside.sets ps c.self.inside.watch c.self.inside.octets (vec_capacity c.self.inside.changes)) (sym c.lose_all.ensures)
       (furnished-map c.self.inside.model c.self.inside.values c.self.inside.sets c.self.inside.parts.items c.self.inside.watch c.self.inside.octets (vec_capacity c.self.inside.changes) c.self.invariant.furnished (lost_by c.args.a) (λ p. refl) (λ p. refl) (λ p. refl));
-  quiet = quiet-map c.self.inside.latest c.self.inside.due (lost_by c.args.a) (λ p. refl) c.self.inside.parts.items c.lose_all.new.parts.items c.lose_all.ensures c.self.invariant.quiet;
+  quiet = quiet-map c.self.inside.latest c.self.inside.dues (lost_by c.args.a) (λ p. refl) c.self.inside.parts.items c.lose_all.new.parts.items c.lose_all.ensures c.self.invariant.quiet;
   roomy = c.self.invariant.roomy;
 }
 

@@ -1,4 +1,4 @@
-use Rattle.std.proofs.Common.{refl, suc, ap, sym, ◌∷◌, Option, length, subst, ◌∙◌, ℕ, List, vec_capacity, arith}
+use Rattle.std.proofs.Common.{refl, suc, ap, sym, ◌∷◌, length, subst, ◌∙◌, List, vec_capacity, arith}
 use Rattle.bay_model.specs.declared.flags.Change.{Change}
 use Rattle.bay_model.specs.declared.step.Setting.{Setting}
 use Rattle.bay_model.specs.declared.step.Step.TheVariants as steps
@@ -13,8 +13,6 @@ use Rattle.bay_model.specs.Answers.{points}
 use Rattle.bay_model.specs.Named.{configured_model}
 use Rattle.bay_model.specs.Singles.{arrival}
 use Rattle.bay_core.specs.Standing.{StandsAt}
-use Rattle.bay_core.specs.Timed.{AreQuietUntil}
-use Rattle.bay_core.proofs.QuietLaws.{quiet-either}
 use Rattle.bay_core.proofs.ChangeLaws.{fits-settings}
 use Rattle.bay_core.proofs.SettingLaws.{set-for, held-set, furnished-all, are-ready, have-members}
 use Rattle.bay_core.proofs.bay.Bay.set.Goals as goal
@@ -24,8 +22,8 @@ set-requires-clause-fits c =
     let fit = ap (λ (s : State). fits s.config (steps.Value c.args.sets.now)) (c.self.view_is ∙ c.arrive.ensures.state) ∙ c.requires.fits in
     subst (AreFit c.self.inside.values) (sym c.as_slice.ensures) (fits-settings c.self.inside.model c.self.inside.values c.args.sets.now fit c.self.invariant.furnished.values).0
 
-pub event_all-due-requires-clause-ready : goal.event_all-due-requires-clause-ready
-event_all-due-requires-clause-ready c =
+pub event_all-requires-clause-ready : goal.event_all-requires-clause-ready
+event_all-requires-clause-ready c =
     let held = held-set c.args.self.now c.self.inside.model c.self.inside.values c.set.new.self c.args.sets.now c.as_slice.result.now (ap (λ (s : State). s.config) (c.self.view_is ∙ c.arrive.ensures.state)) c.requires.fits c.self.invariant.furnished.values c.as_slice.ensures c.set.ensures.set c.set.ensures.count in
     let rows = c.as_slice-2.ensures ∙ c.nodes.ensures in
     subst (λ (all : List Stored). AreReady c.as_slice-2.result.now c.self.inside.sets all c.self.inside.parts.items) (sym c.store.ensures)
@@ -35,23 +33,22 @@ pub invariant_of-self : goal.invariant_of-self
 invariant_of-self c =
     let held = held-set c.args.self.now c.self.inside.model c.self.inside.values c.set.new.self c.args.sets.now c.as_slice.result.now (ap (λ (s : State). s.config) (c.self.view_is ∙ c.arrive.ensures.state)) c.requires.fits c.self.invariant.furnished.values c.as_slice.ensures c.set.ensures.set c.set.ensures.count in
     record {
-      furnished = subst (λ ps. IsFurnished c.self.inside.model c.set.new.self c.self.inside.sets ps c.event_all-due.new.watch c.event_all-due.new.octets (vec_capacity c.set.new.changes)) (sym c.event_all-due.ensures.parts)
-          (furnished-all c.self.inside.model c.self.inside.sets c.self.inside.values c.set.new.self c.store.result.now c.self.inside.parts.items c.self.inside.watch c.event_all-due.new.watch c.self.inside.octets c.event_all-due.new.octets (vec_capacity c.self.inside.changes) (vec_capacity c.set.new.changes) c.as_slice-3.result.now c.as_slice-2.result.now c.self.inside.latest c.self.inside.steps
-          c.self.invariant.furnished held c.set.ensures.count c.event_all-due.ensures.watch c.event_all-due.ensures.blank c.event_all-due.ensures.entry (omega (arith, c.clear.ensures.capacity, c.set.ensures.room)));
-      quiet = subst (λ (d : Option ℕ). AreQuietUntil c.self.inside.latest d c.event_all-due.new.parts.items) (sym c.earliest-self-inside.ensures)
-          (quiet-either c.self.inside.latest c.self.inside.due c.event_all-due.result c.self.inside.parts.items c.event_all-due.new.parts.items c.self.invariant.quiet c.event_all-due.ensures.quiet);
-      roomy = c.event_all-due.ensures.events;
+      furnished = subst (λ ps. IsFurnished c.self.inside.model c.set.new.self c.self.inside.sets ps c.event_all.new.watch c.event_all.new.octets (vec_capacity c.set.new.changes)) (sym c.event_all.ensures.parts)
+          (furnished-all c.self.inside.model c.self.inside.sets c.self.inside.values c.set.new.self c.store.result.now c.self.inside.parts.items c.self.inside.watch c.event_all.new.watch c.self.inside.octets c.event_all.new.octets (vec_capacity c.self.inside.changes) (vec_capacity c.set.new.changes) c.as_slice-3.result.now c.as_slice-2.result.now c.self.inside.latest c.self.inside.steps
+          c.self.invariant.furnished held c.set.ensures.count c.event_all.ensures.watch c.event_all.ensures.blank c.event_all.ensures.entry (omega (arith, c.clear.ensures.capacity, c.set.ensures.room)));
+      quiet = c.event_all.ensures.quiet;
+      roomy = c.event_all.ensures.events;
     }
 
-pub event_all-due-requires-clause-once : goal.event_all-due-requires-clause-once
-event_all-due-requires-clause-once c = once_where_distinct c.as_slice-3.result.now (subst AreDistinct (sym c.as_slice-3.ensures.value) c.set.ensures.once)
+pub event_all-requires-clause-once : goal.event_all-requires-clause-once
+event_all-requires-clause-once c = once_where_distinct c.as_slice-3.result.now (subst AreDistinct (sym c.as_slice-3.ensures.value) c.set.ensures.once)
 
 pub returns-clause-does : goal.returns-clause-does
 returns-clause-does c = λ c' h was.
     let here = subst (λ (s : State). StandsAt s c' (length h) (arrival (length h) c.args.moment ∷ points (configured_model c') h)) (sym c.self.view_is) (c.arrive.ensures.stands c' (length h) (points (configured_model c') h) was.1) in
     let held = held-set c.args.self.now c.self.inside.model c.self.inside.values c.set.new.self c.args.sets.now c.as_slice.result.now (ap (λ (s : State). s.config) (c.self.view_is ∙ c.arrive.ensures.state)) c.requires.fits c.self.invariant.furnished.values c.as_slice.ensures c.set.ensures.set c.set.ensures.count in
     let fit = ap (λ (s : State). fits s.config (steps.Value c.args.sets.now)) (c.self.view_is ∙ c.arrive.ensures.state) ∙ c.requires.fits in
-    let parts = c.event_all-due.ensures.parts ∙ (ap (λ (all : List Stored). after_events c.as_slice-2.result.now c.self.inside.sets all c.as_slice-3.result.now c.self.inside.latest c.self.inside.steps c.self.inside.parts.items) c.store.ensures
+    let parts = c.event_all.ensures.parts ∙ (ap (λ (all : List Stored). after_events c.as_slice-2.result.now c.self.inside.sets all c.as_slice-3.result.now c.self.inside.latest c.self.inside.steps c.self.inside.parts.items) c.store.ensures
     ∙ ap (λ (changes : List Change). after_events c.as_slice-2.result.now c.self.inside.sets c.set.new.self changes c.self.inside.latest c.self.inside.steps c.self.inside.parts.items) c.as_slice-3.ensures.value) in (
       refl,
       set-for c.as_slice-2.result.now c.self.inside.sets c.args.self.now _ c.count.new.self c' h c.args.moment c.args.actor.0 c.args.sets.now c.set.new.self c.set.new.changes.items

@@ -8,8 +8,8 @@ use Rattle.data_sets.specs.Books.{opened}
 use Rattle.assoc_table.specs.declared.waiting.Ends.{Ends}
 use Rattle.assoc_table.specs.Tables.{row_of}
 use Rattle.report_block.specs.declared.block.ReportBlock.{ReportBlock}
-use Rattle.report_block.specs.Due.{IsBefore}
 use Rattle.bay_config.specs.Servable.{IsServable}
+use Rattle.bay_core.specs.Dues.{AreBefore}
 use Rattle.bay_core.specs.State.{State}
 use Rattle.bay_core.specs.Timed.{at_arrival}
 use Rattle.bay_core.proofs.QuietLaws.{none-arrives}
@@ -27,7 +27,7 @@ pub take_quiet-requires-clause-quiet : goal.take_quiet-requires-clause-quiet
 take_quiet-requires-clause-quiet c =
     let s = c.self.inside in
     let now : ℕ = max s.latest c.args.moment in
-    let before : IsBefore now s.due = subst (λ k. IsBefore k s.due) c.later.ensures (c.has_come.ensures c.if-has_come.false) in
-    let stay = none-arrives s.latest now s.due (omega arith) before (node_rows s.model) (opened (set_rows s.model)) s.values s.steps s.parts.items c.self.invariant.quiet in
+    let before : AreBefore now s.dues = subst (λ k. AreBefore k s.dues) c.later.ensures (c.have_come.ensures c.if-have_come.false) in
+    let stay = none-arrives s.latest now (omega arith) s.dues before (node_rows s.model) (opened (set_rows s.model)) s.values s.steps s.parts.items c.self.invariant.quiet in
     subst (λ (t : State). at_arrival c.args.moment t ≡ record t { latest = max t.latest c.args.moment }) c.self.view_is
     (ap (λ (ps : List ReportBlock). record { config = s.model; steps = s.steps; latest = now; stored = s.values; parts = ps; rows = s.associations }) stay)

@@ -1,4 +1,4 @@
-use Rattle.std.proofs.Common.{◌≡◌, ◌<◌, ℕ, length, None, Some, List, arith, refl, sym, subst, ap, ◌∙◌, slice_set, suc, vec_capacity}
+use Rattle.std.proofs.Common.{◌≡◌, ◌<◌, length, Some, List, arith, refl, sym, subst, ap, ◌∙◌, slice_set, suc, vec_capacity}
 use Rattle.std.specs.Prelude.{slice_get}
 use Rattle.std.specs.Option.{option_map}
 use Rattle.sv_base.specs.declared.config.Config.{Config}
@@ -15,7 +15,6 @@ use Rattle.bay_core.specs.Standing.{StandsAt}
 use Rattle.bay_core.specs.State.{State}
 use Rattle.bay_core.specs.Timed.{at_arrival}
 use Rattle.bay_core.specs.Whole.{IsWhole}
-use Rattle.bay_core.proofs.ArriveLaws.{arrived-count}
 use Rattle.bay_core.proofs.ShapeLaws.{served_members}
 use Rattle.bay_core.proofs.FurnishLaws.{part-fits}
 use Rattle.bay_core.proofs.SentLaws.{whole-sent}
@@ -59,8 +58,8 @@ invariant_of-self-3 c =
     let below : block < length s.parts.items = subst (λ (ps : List ReportBlock). block < length ps) (sym stay) within in
     let part = c.index_mut.result.now in
     let there = at-place s.parts.items block part below c.index_mut.ensures.value in
-    subst (λ (p : ReportBlock). IsWhole s.model s.values s.sets (slice_set s.parts.items block p) s.watch s.octets (vec_capacity s.changes) s.latest s.due s.events) (sym c.sent.ensures)
-    (whole-sent s.model s.values s.sets s.parts.items s.watch s.octets (vec_capacity s.changes) s.latest s.due s.events block c.in-Some.offer.next.id part there c.self-2.invariant)
+    subst (λ (p : ReportBlock). IsWhole s.model s.values s.sets (slice_set s.parts.items block p) s.watch s.octets (vec_capacity s.changes) s.latest s.dues s.events) (sym c.sent.ensures)
+    (whole-sent s.model s.values s.sets s.parts.items s.watch s.octets (vec_capacity s.changes) s.latest s.dues s.events block c.in-Some.offer.next.id part there c.self-2.invariant)
 
 pub returns-in_default-clause-does : goal.returns-in_default-clause-does
 returns-in_default-clause-does c = λ c' h was.

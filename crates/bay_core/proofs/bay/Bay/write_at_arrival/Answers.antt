@@ -11,7 +11,7 @@ use Rattle.data_sets.specs.Books.{Book}
 use Rattle.report_block.specs.declared.block.ReportBlock.{ReportBlock}
 use Rattle.report_block.specs.Alls.{all_pieces, for_general}
 use Rattle.report_block.specs.Components.{after_writing}
-use Rattle.report_block.specs.Due.{earliest}
+use Rattle.report_block.specs.Due.{IsBefore}
 use Rattle.report_block.specs.Writes.{without_effect, write_answer}
 use Rattle.bay_core.specs.Put.{answer_at, written_at}
 use Rattle.bay_core.specs.State.{State}
@@ -122,7 +122,8 @@ invariant_of-self c =
     let new = c.write_any-answer.new.self in
     record {
       furnished = record { servable = f.servable; values = f.values; count = f.count; booked = f.booked; sets = f.sets; windows = f.windows; watch = f.watch; entry = c.write_any-answer.ensures.room ∙ fit.entry; changes = f.changes };
-      quiet = subst (λ (d : Option ℕ). AreQuietUntil s.latest d (slice_set parts b new)) (sym (c.earliest-self-inside.ensures ∙ ap (earliest s.due) c.due_at.ensures)) (quiet-set s.latest s.due parts b new c.self.invariant.quiet);
+      quiet = subst (λ (dues : List (Option ℕ)). AreQuietUntil s.latest dues (slice_set parts b new)) (sym c.put.ensures)
+          (quiet-set s.latest s.dues parts b c.due_at-due.result new (λ now before. subst (IsBefore now) c.due_at-due.ensures before) c.self.invariant.quiet);
       roomy = c.self.invariant.roomy;
     }
 
