@@ -82,7 +82,7 @@ arrives s c n t past all st = record {
   is_latest = latest;
   values = values.stands-arrival s.stored (configured_model c) t n past st.values;
   associations = associations.stands-arrival (configured_model c) t n past s.rows st.associations;
-  empty = st.empty;
+  edits = st.edits;
   sets = st.sets;
   blocks = subst (BlocksStand (configured_model c) (arrival n t ∷ past)) (sym same)
       (parts-arrive c n t past s.parts s.stored (subst (λ d. HasAll d s.stored s.parts) st.is_config all) st.values st.sets st.blocks);

@@ -25,9 +25,9 @@ use Rattle.bay_model.specs.Lookups.{attr_of}
 use Rattle.bay_model.specs.Model.{Model}
 use Rattle.bay_model.specs.Named.{configured_model}
 use Rattle.bay_model.specs.NamedLines.{is_setting}
-use Rattle.bay_model.specs.Points.{Past, valued}
+use Rattle.bay_model.specs.Points.{Deed, Past}
 use Rattle.bay_model.specs.Settings.{set_to}
-use Rattle.bay_model.specs.Values.{value_at}
+use Rattle.bay_model.specs.Values.{gives, value_at}
 use Rattle.object_model.specs.Fits.{attr_types, is_sound, is_typed, setting_fits, fits}
 use Rattle.object_model.specs.Tables as tables
 use Rattle.object_model.proofs.AttributeLaws.{flags-are}
@@ -48,14 +48,18 @@ given-value : (o : Option Value) (was : Stored) → (given o was).held.value ≡
 given-value None was = refl
 given-value (Some v) was = refl
 
-pub values-stand : (c : Model) (n t : ℕ) (before : Past) (old new : List Stored) (settings : List Setting)
-    → Stands old c (arrival n t ∷ before) → ((x : ℕ) → attribute new x ≡ last_set settings x (attribute old x)) → length new ≡ length old → Stands new c (at n t (valued settings) ∷ before)
-values-stand c n t before old new settings stands set count = stands-deed old new c t n (valued settings) before stands count
-    (λ x below. ap (λ (s : Stored). s.held.value) (set x) ∙ given-value (set_to x settings) (attribute old x))
+-- the deed gives each attribute what these settings make of it
+abbrev pub Sets : Model → Deed → Past → List Setting → Type 0
+Sets c d before settings = (x : ℕ) → set_to x settings ≡ gives c x d before
+
+pub values-stand : (c : Model) (n t : ℕ) (d : Deed) (before : Past) (old new : List Stored) (settings : List Setting) → Sets c d before settings
+    → Stands old c (arrival n t ∷ before) → ((x : ℕ) → attribute new x ≡ last_set settings x (attribute old x)) → length new ≡ length old → Stands new c (at n t d ∷ before)
+values-stand c n t d before old new settings given_by stands set count = stands-deed old new c t n d before stands count
+    (λ x below. ap (λ (s : Stored). s.held.value) (set x) ∙ (given-value (set_to x settings) (attribute old x) ∙ ap (λ o. unwrap_or o (attribute old x).held.value) (given_by x)))
 
 -- ---- the changes are those of the point
 
-abbrev IsThere : List Stored → Setting → Type 0
+abbrev pub IsThere : List Stored → Setting → Type 0
 IsThere stored s = s.attr.0 < length stored
 
 -- an attribute that is set is there
@@ -86,10 +90,10 @@ changes-same : (c : Config) (stored : List Stored) (x : ℕ) (before : Past) (o 
 changes-same c stored x before None is = refl
 changes-same c stored x before (Some v) is = ap Some (change-same c stored x before v (is refl))
 
-pub are-changes : (c : Config) (before : Past) (stored : List Stored) (settings : List Setting) (changes : List Change)
-    → Stands stored (configured_model c) before → All (IsThere stored) settings → AreMade c stored settings changes → AreChanges (configured_model c) (valued settings) before changes
-are-changes c before stored settings changes stands there made = λ x.
-    made x ∙ changes-same c stored x before (set_to x settings) (λ is. stands x (set-there stored x settings there is))
+pub are-changes : (c : Config) (d : Deed) (before : Past) (stored : List Stored) (settings : List Setting) (changes : List Change) → Sets (configured_model c) d before settings
+    → Stands stored (configured_model c) before → All (IsThere stored) settings → AreMade c stored settings changes → AreChanges (configured_model c) d before changes
+are-changes c d before stored settings changes given_by stands there made = λ x.
+    made x ∙ (changes-same c stored x before (set_to x settings) (λ is. stands x (set-there stored x settings there is)) ∙ ap (option_map (change_to (configured_model c) x before)) (given_by x))
 
 -- ---- each attribute keeps a value of its type
 
@@ -113,6 +117,10 @@ given-kind : (o : Option Value) (was : Stored) → (given o was).held.kind ≡ w
 given-kind None was = refl
 given-kind (Some v) was = refl
 
+given-writable : (o : Option Value) (was : Stored) → (given o was).is_writable ≡ was.is_writable
+given-writable None was = refl
+given-writable (Some v) was = refl
+
 cell-given : (c : Config) (x : ℕ) (o : Option Value) (was : Stored) → was.held.kind ≡ kind_of (attr_type c x) → IsSoundCell was.held → ((v : Value) → o ≡ Some v → IsValueOf c x v) → IsSoundCell (given o was).held
 cell-given c x None was is cell set = cell
 cell-given c x (Some v) was is cell set =
@@ -129,6 +137,7 @@ held-after c old new settings held typed set count = record {
   kinds = λ x below. ap (λ (s : Stored). s.held.kind) (set x) ∙ (given-kind (set_to x settings) (attribute old x) ∙ held.kinds x (omega (arith, below, count)));
   sound = λ x below. subst (λ (s : Stored). IsSoundCell s.held) (sym (set x))
       (cell-given c x (set_to x settings) (attribute old x) (held.kinds x (omega (arith, below, count))) (held.sound x (omega (arith, below, count))) (set-value (IsValueOf c) x settings (typed-values c settings typed)));
+  writable = λ x below. ap (λ (s : Stored). s.is_writable) (set x) ∙ (given-writable (set_to x settings) (attribute old x) ∙ held.writable x (omega (arith, below, count)));
 }
 
 -- ---- what a step that fits sets

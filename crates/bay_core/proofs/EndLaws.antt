@@ -54,7 +54,7 @@ opening n t a e = at n t (opened a e.opener.0 e.writer.0 e.size)
 
 pub opened-at : (s : State) (c : Config) (n t a : ℕ) (e : Ends) (past : Past) → IsNumber a → StandsAt s c n (arrival n t ∷ past)
     → StandsAt (record s { steps = suc s.steps; rows = started s.rows a e }) c (suc n) (opening n t a e ∷ past)
-opened-at s c n t a e past number st = passed s c n t (opened a e.opener.0 e.writer.0 e.size) past s.parts (record { number = number; puts = λ k. refl; gives = λ k. refl; sets = refl }) (λ x. refl)
+opened-at s c n t a e past number st = passed s c n t (opened a e.opener.0 e.writer.0 e.size) past s.parts (record { number = number; puts = λ k. refl; edits = λ k. refl; sets = refl }) (λ x. refl)
     (record { note = λ b. refl; cuts = λ b. refl }) (λ b q there. (q, there, refl)) st
 
 -- ---- lost
@@ -64,7 +64,7 @@ losing n t a = at n t (lost a)
 
 pub lost-at : (s : State) (c : Config) (n t : ℕ) (a : AssocNo) (past : Past) → IsNumber a.0 → StandsAt s c n (arrival n t ∷ past)
     → StandsAt (record s { steps = suc s.steps; parts = after_loss_all a s.parts; rows = ended s.rows a.0 }) c (suc n) (losing n t a.0 ∷ past)
-lost-at s c n t a past number st = passed s c n t (lost a.0) past (after_loss_all a s.parts) (record { number = number; puts = λ k. refl; gives = λ k. refl; sets = refl }) (λ x. refl)
+lost-at s c n t a past number st = passed s c n t (lost a.0) past (after_loss_all a s.parts) (record { number = number; puts = λ k. refl; edits = λ k. refl; sets = refl }) (λ x. refl)
     (record { note = λ b. refl; cuts = λ b. refl }) (got-map (lost_by a) s.parts) st
 
 -- ---- why an opening or a loss is refused

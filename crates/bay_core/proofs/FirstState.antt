@@ -92,7 +92,7 @@ stands-first s c served config steps latest values are rows = (
     is_latest = latest;
     values = subst (λ all. ValuesStand all (configured_model c) []) (sym values) (opened_stands c served.domains);
     associations = subst (λ all. AssociationsStand all (configured_model c) []) (sym rows) (stands-empty (configured_model c));
-    empty = λ a. refl;
+    edits = λ d. refl;
     sets = refl;
     blocks = parts-stand c (booked (set_rows c)) s.parts are;
   },

@@ -18,8 +18,10 @@ use Rattle.bay_model.specs.Model.{Kind}
 use Rattle.bay_model.specs.NamedLines.{is_setting}
 use Rattle.object_model.specs.Fits.{attr_types, is_sound}
 use Rattle.value_store.specs.Opened.{HasValue, value_in, stored_line, stored_twin, stored_control, stored_parameter, place_in, is_written, opened}
-use Rattle.value_store.specs.Stored.{Stored, no_attribute}
-use Rattle.value_store.proofs.OpenedLaws.{length_opened}
+use Rattle.value_store.specs.Stored.{Stored, attribute, no_attribute}
+use Rattle.value_store.proofs.OpenedLaws.{length_opened, opened_kinds, opened_writable}
+use Rattle.bay_model.specs.Lookups.{attr_of}
+use Rattle.bay_model.specs.Named.{configured_model}
 use Rattle.bay_config.specs.Servable.{IsServable, HasSoundValues}
 use Rattle.bay_core.specs.State.{AreHeld, IsSoundCell}
 use Rattle.bay_core.proofs.ChangeLaws.{types-count}
@@ -85,4 +87,11 @@ opened-held c served = record {
   count = length_opened c served.domains;
   kinds = λ x below. same-at kind_held kind_of (opened c) (attr_types c) x no_attribute types.Bool (kind_of types.Bool) (opened-kinds c) below (omega (arith, below, length_opened c served.domains, types-count c));
   sound = λ x below. opened-sound c served x no_attribute below;
+  writable = λ x below. opened_writable c x served.domains (omega (arith, below, length_opened c served.domains));
 }
+
+-- the kind of an attribute is that of its value
+pub kind-told : (c : Config) (stored : List Stored) (x : ℕ) → IsServable c → AreHeld c stored → x < length stored → (attr_of (configured_model c) x).kind ≡ (attribute stored x).held.kind
+kind-told c stored x served held below =
+    let own : x < length (opened c) = omega (arith, below, held.count, length_opened c served.domains) in
+    sym (opened_kinds c x served.domains (omega (arith, below, held.count))) ∙ ((opened-held c served).kinds x own ∙ sym (held.kinds x below))

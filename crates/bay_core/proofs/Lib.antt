@@ -7,6 +7,12 @@ pub mod MoveLaws
 pub mod AllLaws
 pub mod ArriveLaws
 pub mod QuietLaws
+-- what waits for associations, and requests
+pub mod QueueLaws
+pub mod AskLaws
+pub mod LentLaws
+pub mod RoleLaws
+pub mod AnswerLaws
 -- openings and losses
 pub mod EndLaws
 pub mod MentionLaws

@@ -1,14 +1,15 @@
 -- A step of one point: the state of a bay from its arrival to what its deed makes of it.
-use Rattle.std.proofs.Common.{◌≡◌, ℕ, suc, Bool, true, false, List, [], ◌∷◌, None, refl, ap, ◌∙◌, sym, subst}
+use Rattle.std.proofs.Common.{◌≡◌, ◌≤◌, ℕ, suc, max, Bool, true, false, List, [], ◌∷◌, None, refl, ap, arith, ◌∙◌, sym, subst}
 use Rattle.std.specs.Prelude.{length, if◌then◌else◌, unwrap_or}
 use Rattle.sv_base.specs.declared.config.Config.{Config}
 use Rattle.bay_model.specs.Model.{Model}
 use Rattle.bay_model.specs.Named.{configured_model}
-use Rattle.bay_model.specs.Points.{Deed, Past, nothing}
+use Rattle.bay_model.specs.Points.{Deed, Point, Past, nothing, now}
 use Rattle.bay_model.specs.Values.{gives}
 use Rattle.bay_model.specs.Sets.{dynamic}
 use Rattle.bay_model.specs.Singles.{arrival}
-use Rattle.bay_model.specs.Waiting.{Waiting, waiting, put_by, is_start, is_giving}
+use Rattle.bay_model.specs.Settings.{edit_after}
+use Rattle.bay_model.specs.Waiting.{put_by}
 use Rattle.bay_model.specs.Answers.{Turn, History, points, turned}
 use Rattle.bay_model.specs.Acceptance.{fault}
 use Rattle.value_store.specs.Stored.{Stored, attribute}
@@ -21,42 +22,69 @@ use Rattle.window_core.specs.Points.{at}
 use Rattle.report_block.specs.declared.block.ReportBlock.{ReportBlock}
 use Rattle.bay_core.specs.State.{State}
 use Rattle.report_block.specs.Standing.{BlocksStand}
+use Rattle.report_block.proofs.StandLaws.{again-stands}
 use Rattle.bay_core.specs.Standing.{StandsAt, StandsFor}
 use Rattle.bay_core.proofs.PartLaws.{IsApart, AreLeft, parts-left}
 
--- a deed that puts nothing, takes nothing that waits, and defines and deletes no data set
+-- a deed that puts nothing, begins to edit no setting group, and defines and deletes no data set
 pub record IsSilent (m : Model) (n t : ℕ) (d : Deed) (past : Past) : Type 0 where
   pub number : IsNumbered d
   pub puts : (a : ℕ) → put_by m a n d past ≡ []
-  pub gives : (a : ℕ) → is_giving a d ≡ false
+  pub edits : (e : ℕ) → edit_after e d None ≡ None
   pub sets : dynamic (at n t d ∷ past) ≡ dynamic past
-
--- nothing waits after it
-waits-none : (m : Model) (a n t : ℕ) (d : Deed) (past : Past) → waiting m a past ≡ [] → put_by m a n d past ≡ [] → is_giving a d ≡ false → waiting m a (at n t d ∷ past) ≡ []
-waits-none m a n t d past empty puts gives = rw (gives, empty, puts) (by (is_start a d)) where
-  by : (t : Bool) → ◌≡◌ {A = List Waiting} (if t then [] else []) []
-  by true = refl
-  by false = refl
 
 -- the associations after a deed that puts nothing
 abbrev pub rows_after : Deed → List Row → List Row
 rows_after d rows = came d nothing_put rows
 
--- after the deed of a step, which leaves these values and blocks
-pub done : (s : State) (c : Config) (n t : ℕ) (d : Deed) (past : Past) (stored : List Stored) (parts : List ReportBlock) → IsSilent (configured_model c) n t d past
+-- after a deed of a step that is being made, which leaves these values and blocks
+pub came-of : (s : State) (c : Config) (n t : ℕ) (d : Deed) (past : Past) (stored : List Stored) (parts : List ReportBlock) → IsSilent (configured_model c) n t d past
     → ValuesStand stored (configured_model c) (at n t d ∷ past) → BlocksStand (configured_model c) (at n t d ∷ past) parts → StandsAt s c n (arrival n t ∷ past)
-    → StandsAt (record s { steps = suc s.steps; stored = stored; parts = parts; rows = rows_after d s.rows }) c (suc n) (at n t d ∷ past)
-done s c n t d past stored parts silent values blocks st = record {
+    → StandsAt (record s { stored = stored; parts = parts; rows = rows_after d s.rows }) c n (at n t d ∷ past)
+came-of s c n t d past stored parts silent values blocks st = record {
   is_config = st.is_config;
-  is_steps = ap suc st.is_steps;
+  is_steps = st.is_steps;
   is_latest = st.is_latest;
   values = values;
   associations = associations.stands-deed (configured_model c) t n d past s.rows nothing_put st.associations
       (record { number = silent.number; puts = silent.puts 0; for_one = λ some. absurd (some refl); for_no_other = λ e other. silent.puts e });
-  empty = λ a. waits-none (configured_model c) a n t d past (st.empty a) (silent.puts a) (silent.gives a);
+  edits = λ e. ap (edit_after e d) (st.edits e) ∙ silent.edits e;
   sets = silent.sets ∙ st.sets;
   blocks = blocks;
 }
+
+-- the step is counted
+pub counts : (s : State) (c : Config) (n : ℕ) (past : Past) → StandsAt s c n past → StandsAt (record s { steps = suc s.steps }) c (suc n) past
+counts s c n past st = record {
+  is_config = st.is_config;
+  is_steps = ap suc st.is_steps;
+  is_latest = st.is_latest;
+  values = st.values;
+  associations = st.associations;
+  edits = st.edits;
+  sets = st.sets;
+  blocks = st.blocks;
+}
+
+-- a further point of the step: its arrival brings nothing
+pub again : (s : State) (c : Config) (n t : ℕ) (q : Point) (past : Past) → t ≤ now (q ∷ past) → StandsAt s c n (q ∷ past) → StandsAt s c n (arrival n t ∷ q ∷ past)
+again s c n t q past same st = record {
+  is_config = st.is_config;
+  is_steps = st.is_steps;
+  is_latest = omega (arith, same, st.is_latest);
+  values = st.values;
+  associations = associations.stands-arrival (configured_model c) t n (q ∷ past) s.rows st.associations;
+  edits = st.edits;
+  sets = st.sets;
+  blocks = λ b part there. again-stands (configured_model c) b t n q past part same (st.blocks b part there);
+}
+
+-- after the deed of a step, which leaves these values and blocks
+pub done : (s : State) (c : Config) (n t : ℕ) (d : Deed) (past : Past) (stored : List Stored) (parts : List ReportBlock) → IsSilent (configured_model c) n t d past
+    → ValuesStand stored (configured_model c) (at n t d ∷ past) → BlocksStand (configured_model c) (at n t d ∷ past) parts → StandsAt s c n (arrival n t ∷ past)
+    → StandsAt (record s { steps = suc s.steps; stored = stored; parts = parts; rows = rows_after d s.rows }) c (suc n) (at n t d ∷ past)
+done s c n t d past stored parts silent values blocks st =
+    counts (record s { stored = stored; parts = parts; rows = rows_after d s.rows }) c n (at n t d ∷ past) (came-of s c n t d past stored parts silent values blocks st)
 
 -- a step whose deed leaves all values, and the entries of all blocks
 pub passed : (s : State) (c : Config) (n t : ℕ) (d : Deed) (past : Past) (parts : List ReportBlock) → IsSilent (configured_model c) n t d past
@@ -74,7 +102,7 @@ left-as-they-are parts = λ b q there. (q, there, refl)
 
 -- a step that nothing came of
 pub still : (s : State) (c : Config) (n t : ℕ) (past : Past) → StandsAt s c n (arrival n t ∷ past) → StandsAt (record s { steps = suc s.steps }) c (suc n) (arrival n t ∷ past)
-still s c n t past here = passed s c n t nothing past s.parts (record { number = tt; puts = λ a. refl; gives = λ a. refl; sets = refl }) (λ x. refl)
+still s c n t past here = passed s c n t nothing past s.parts (record { number = tt; puts = λ a. refl; edits = λ k. refl; sets = refl }) (λ x. refl)
     (record { note = λ b. refl; cuts = λ b. refl }) (left-as-they-are s.parts) here
 
 -- an accepted step, of a state that is known by an equation

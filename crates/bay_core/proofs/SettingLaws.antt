@@ -18,10 +18,10 @@ use Rattle.bay_model.specs.Answers.{History, points}
 use Rattle.bay_model.specs.Lookups.{node_of}
 use Rattle.bay_model.specs.Model.{Parameters}
 use Rattle.bay_model.specs.Named.{configured_model}
-use Rattle.bay_model.specs.Notes.{note, union_of}
-use Rattle.bay_model.specs.Parameters.{parameters_at}
+use Rattle.bay_model.specs.Notes.{note, note_by, union_of}
+use Rattle.bay_model.specs.Parameters.{parameters_at, is_interrogation, is_purging_change, purges}
 use Rattle.bay_model.specs.Singles.{arrival}
-use Rattle.bay_model.specs.Points.{Point, Past, now, valued}
+use Rattle.bay_model.specs.Points.{Deed, Point, Past, now, valued, put}
 use Rattle.bay_rooms.specs.Rooms.{Filled}
 use Rattle.bay_model.specs.Sets.{members, dynamic}
 use Rattle.object_model.specs.Fits.{fits}
@@ -38,7 +38,12 @@ use Rattle.window_core.specs.Standing.{piece_of}
 use Rattle.window_core.specs.Pieces.{Piece}
 use Rattle.report_block.specs.Coming.{noting}
 use Rattle.report_block.specs.Events.{after_noting, pieces_of}
-use Rattle.report_block.specs.Standing.{Stands as BlockStands, BlocksStand}
+use Rattle.report_block.specs.Standing.{Stands as BlockStands, BlocksStand, AreKeptMembers}
+use Rattle.brcb_state.specs.Standing.{after_deed}
+use Rattle.brcb_state.specs.declared.block.Block.{Block}
+use Rattle.assoc_table.specs.Seats.{Row}
+use Rattle.sv_base.specs.declared.value.Value.{Value}
+use Rattle.bay_model.specs.Model.{Model}
 use Rattle.report_block.proofs.PassLaws.{event-came}
 use Rattle.report_block.proofs.StandLaws.{deed-stands}
 use Rattle.report_block.specs.EntryOctets.{IsWritable}
@@ -50,24 +55,60 @@ use Rattle.bay_core.specs.Watched.{IsIndexed, IsLent, IsWatching, AreBlank, memb
 use Rattle.std.proofs.lemmas.List.{length-map}
 use Rattle.bay_core.proofs.BookLaws.{largest-few, part-lent, part-members, within-largest}
 use Rattle.bay_core.proofs.ArriveLaws.{HaveMembers}
-use Rattle.bay_core.proofs.ChangeLaws.{values-stand, are-changes, settings-there, typed-settings, held-after}
+use Rattle.bay_core.proofs.ChangeLaws.{Sets, IsThere, values-stand, are-changes, settings-there, typed-settings, held-after}
 use Rattle.bay_core.proofs.EventLaws.{note-kept, note-readable, all-writable}
 use Rattle.bay_core.proofs.FurnishLaws.{furnished-map}
-use Rattle.bay_core.proofs.MoveLaws.{done, accepted-as}
+use Rattle.bay_core.proofs.MoveLaws.{IsSilent, rows_after, came-of, counts, accepted-as}
 use Rattle.bay_core.proofs.ServedLaws.{served-few}
 use Rattle.bay_core.proofs.ShapeLaws.{AreServed, node_shapes, nodes_named, served_members, served-set, members-named, are-shapes}
-
-abbrev pub setting : ℕ → ℕ → List Setting → Point
-setting n t settings = at n t (valued settings)
 
 -- a point of which nothing is so
 off : {A : Type 0} → false ≡ true → A
 off h = cc
 
+-- The deed sets attributes, as these settings have it: it is an event of the blocks, and touches nothing else.
+pub record IsSetting (m : Model) (n t : ℕ) (d : Deed) (past : Past) (settings : List Setting) : Type 0 where
+  pub sets : Sets m d past settings
+  pub is_noted : (b : ℕ) → note m b (at n t d) past ≡ note_by m b (at n t d) past
+  pub general : (b : ℕ) → false ≡ is_interrogation b d
+  pub purge : (b : ℕ) → false ≡ purges m b d past
+  pub change : (b : ℕ) → false ≡ is_purging_change m b d past
+  pub block : (b front : ℕ) (k : Block) → after_deed b d front k ≡ k
+  pub silent : IsSilent m n t d past
+  pub rows : (rs : List Row) → rows_after d rs ≡ rs
+
+pub process-sets : (m : Model) (n t : ℕ) (settings : List Setting) (past : Past) → IsSetting m n t (valued settings) past settings
+process-sets m n t settings past = record {
+  sets = λ x. refl;
+  is_noted = λ b. refl;
+  general = λ b. refl;
+  purge = λ b. refl;
+  change = λ b. refl;
+  block = λ b front k. refl;
+  silent = record { number = tt; puts = λ a. refl; edits = λ e. refl; sets = refl };
+  rows = λ rs. refl;
+}
+
+-- a client's write of an attribute
+abbrev pub one_set : ℕ → Value → List Setting
+one_set x v = record { attr = record { 0 = x }; value = v } ∷ []
+
+pub client-sets : (m : Model) (n t a x : ℕ) (v : Value) (past : Past) → IsSetting m n t (put a x v) past (one_set x v)
+client-sets m n t a x v past = record {
+  sets = λ y. refl;
+  is_noted = λ b. refl;
+  general = λ b. refl;
+  purge = λ b. refl;
+  change = λ b. refl;
+  block = λ b front k. refl;
+  silent = record { number = tt; puts = λ e. refl; edits = λ e. refl; sets = refl };
+  rows = λ rs. refl;
+}
+
 -- ---- a block
 
-module _ (c : Config) (b n t : ℕ) (settings : List Setting) (past : Past) (part : ReportBlock) (shapes : List MemberShape) (stored : List Stored) (changes : List Change) (served : IsServable c) (held : AreHeld c stored)
-    (values : ValuesStand stored (configured_model c) (setting n t settings ∷ past)) (made : AreChanges (configured_model c) (valued settings) past changes)
+module _ (c : Config) (b n t : ℕ) (d : Deed) (settings : List Setting) (past : Past) (part : ReportBlock) (shapes : List MemberShape) (stored : List Stored) (changes : List Change) (served : IsServable c) (held : AreHeld c stored)
+    (sets : IsSetting (configured_model c) n t d past settings) (values : ValuesStand stored (configured_model c) (at n t d ∷ past)) (made : AreChanges (configured_model c) d past changes)
     (has : shapes ≡ served_members c part.block.options.dat_set) (none : dynamic past ≡ []) (st : BlockStands part (configured_model c) b (arrival n t ∷ past)) where
   nodes-same : members (configured_model c) b past ≡ nodes_named (configured_model c).sets part.block.options.dat_set
   nodes-same = members-named (configured_model c) b past part.block.options.dat_set (ap (λ (o : Parameters). o.dat_set) st.block.options) none
@@ -78,69 +119,76 @@ module _ (c : Config) (b n t : ℕ) (settings : List Setting) (past : Past) (par
   shapes-are : shapes ≡ node_shapes c (members (configured_model c) b past)
   shapes-are = has ∙ ap (node_shapes c) (sym nodes-same)
 
-  mentions-are : mentions_of changes shapes part ≡ map mention (note (configured_model c) b (setting n t settings) past)
+  mentions-are : mentions_of changes shapes part ≡ map mention (note (configured_model c) b (at n t d) past)
   mentions-are = ap₂ (λ (o : Parameters) (l : List MemberShape). noted changes (trg_of o.trg_ops) 1 l) st.block.options shapes-are
-      ∙ note_is_noted (configured_model c) b (setting n t settings) past changes (node_shapes c (members (configured_model c) b past)) made (are-shapes c (members (configured_model c) b past) nodes-served.members)
+      ∙ note_is_noted (configured_model c) b (at n t d) past changes (node_shapes c (members (configured_model c) b past)) made (are-shapes c (members (configured_model c) b past) nodes-served.members)
 
   -- why each node is a member of the note
   abbrev reasons : ℕ → Reasons
-  reasons k = union_of (configured_model c) (parameters_at (configured_model c) b past).trg_ops (valued settings) past (node_of (configured_model c) k).attrs
+  reasons k = union_of (configured_model c) (parameters_at (configured_model c) b past).trg_ops d past (node_of (configured_model c) k).attrs
 
-  pieces-are : pieces_of stored shapes (mentions_of changes shapes part) ≡ map piece_of (note (configured_model c) b (setting n t settings) past)
+  pieces-are : pieces_of stored shapes (mentions_of changes shapes part) ≡ map piece_of (note (configured_model c) b (at n t d) past)
   pieces-are = ap₂ (λ (l : List MemberShape) (ms : List Mention). pieces_of stored l ms) shapes-are mentions-are
-      ∙ note-kept c stored (setting n t settings ∷ past) (members (configured_model c) b past) served held values nodes-served reasons
+      ∙ subst (λ ks. pieces_of stored (node_shapes c (members (configured_model c) b past)) (map mention ks) ≡ map piece_of ks) (sym (sets.is_noted b))
+      (note-kept c stored (at n t d ∷ past) (members (configured_model c) b past) served held values nodes-served reasons)
 
-  pub part-set : BlockStands (after_noting (max t (now past)) n (pieces_of stored shapes (mentions_of changes shapes part)) part) (configured_model c) b (setting n t settings ∷ past)
+  pub part-set : BlockStands (after_noting (max t (now past)) n (pieces_of stored shapes (mentions_of changes shapes part)) part) (configured_model c) b (at n t d ∷ past)
   part-set =
       let ps = pieces_of stored shapes (mentions_of changes shapes part) in
-      subst (λ x. BlockStands x (configured_model c) b (setting n t settings ∷ past)) (event-came b (valued settings) (max t (now past)) n ps part refl)
-      (deed-stands (configured_model c) b t n (valued settings) past part (noting ps) st (record {
-        note = record { are = pieces-are; readable = note-readable c stored (setting n t settings ∷ past) (members (configured_model c) b past) served held values nodes-served reasons };
-        general = refl;
-        all = λ is. off is;
-        purge = refl;
-        change = refl;
+      subst (λ x. BlockStands x (configured_model c) b (at n t d ∷ past)) (event-came b d (max t (now past)) n ps part (sets.block b part.ring.front part.block))
+      (deed-stands (configured_model c) b t n d past part (noting ps) st (record {
+        note = record { are = pieces-are; readable = subst AreKeptMembers (sym (sets.is_noted b)) (note-readable c stored (at n t d ∷ past) (members (configured_model c) b past) served held values nodes-served reasons) };
+        general = sets.general b;
+        all = λ is. off (sets.general b ∙ is);
+        purge = sets.purge b;
+        change = sets.change b;
       }))
 
 -- ---- all blocks
 
 module _ (rows : List NodeRow) (book : Book) where
-  parts-set : (c : Config) (n t : ℕ) (settings : List Setting) (past : Past) (parts : List ReportBlock) (stored : List Stored) (changes : List Change) → IsServable c → AreHeld c stored
-      → ValuesStand stored (configured_model c) (setting n t settings ∷ past) → AreChanges (configured_model c) (valued settings) past changes
+  parts-set : (c : Config) (n t : ℕ) (d : Deed) (settings : List Setting) (past : Past) (parts : List ReportBlock) (stored : List Stored) (changes : List Change) → IsServable c → AreHeld c stored
+      → IsSetting (configured_model c) n t d past settings → ValuesStand stored (configured_model c) (at n t d ∷ past) → AreChanges (configured_model c) d past changes
       → HaveMembers rows book c parts → dynamic past ≡ [] → BlocksStand (configured_model c) (arrival n t ∷ past) parts
-      → BlocksStand (configured_model c) (setting n t settings ∷ past) (after_events rows book stored changes (max t (now past)) n parts)
-  parts-set c n t settings past parts stored changes served held values made has none st = λ b part there.
+      → BlocksStand (configured_model c) (at n t d ∷ past) (after_events rows book stored changes (max t (now past)) n parts)
+  parts-set c n t d settings past parts stored changes served held sets values made has none st = λ b part there.
       let was = got-map (after_event rows book stored changes (max t (now past)) n) parts b part there in
-      subst (λ x. BlockStands x (configured_model c) b (setting n t settings ∷ past)) was.2
-      (part-set c b n t settings past was.0 (members_in rows book was.0) stored changes served held values made (has b was.0 was.1) none (st b was.0 was.1))
+      subst (λ x. BlockStands x (configured_model c) b (at n t d ∷ past)) was.2
+      (part-set c b n t d settings past was.0 (members_in rows book was.0) stored changes served held sets values made (has b was.0 was.1) none (st b was.0 was.1))
 
-  -- what the step makes of the state at its arrival
+  -- what the setting makes of the state at its arrival
   abbrev pub set_at : State → List Stored → List Change → State
-  set_at a stored changes = record a { steps = suc a.steps; stored = stored; parts = after_events rows book stored changes a.latest a.steps a.parts }
+  set_at a stored changes = record a { stored = stored; parts = after_events rows book stored changes a.latest a.steps a.parts }
 
-  stands-set : (a : State) (c : Config) (n t : ℕ) (settings : List Setting) (past : Past) (stored : List Stored) (changes : List Change) → IsServable c → AreHeld c stored → AreFit a.stored settings
+  pub stands-set : (a : State) (c : Config) (n t : ℕ) (d : Deed) (settings : List Setting) (past : Past) (stored : List Stored) (changes : List Change) → IsServable c → AreHeld c stored
+      → IsSetting (configured_model c) n t d past settings → All (IsThere a.stored) settings
       → HaveMembers rows book c a.parts → ((x : ℕ) → attribute stored x ≡ last_set settings x (attribute a.stored x)) → length stored ≡ length a.stored → AreMade c a.stored settings changes
-      → ValuesStand a.stored (configured_model c) past → StandsAt a c n (arrival n t ∷ past) → StandsAt (set_at a stored changes) c (suc n) (setting n t settings ∷ past)
-  stands-set a c n t settings past stored changes served held fit has set count made was here =
+      → StandsAt a c n (arrival n t ∷ past) → StandsAt (set_at a stored changes) c n (at n t d ∷ past)
+  stands-set a c n t d settings past stored changes served held sets there has set count made here =
       let m = configured_model c in
-      let values = values-stand m n t past a.stored stored settings here.values set count in
-      let are = are-changes c past a.stored settings changes was (settings-there c a.stored settings fit) made in
-      done a c n t (valued settings) past stored (after_events rows book stored changes a.latest a.steps a.parts) (record { number = tt; puts = λ a. refl; gives = λ a. refl; sets = refl }) values
-      (subst (BlocksStand m (setting n t settings ∷ past)) (ap₂ (λ (now step : ℕ). after_events rows book stored changes now step a.parts) (sym here.is_latest) (sym here.is_steps))
-      (parts-set c n t settings past a.parts stored changes served held values are has here.sets here.blocks)) here
+      let values = values-stand m n t d past a.stored stored settings sets.sets here.values set count in
+      let are = are-changes c d past a.stored settings changes sets.sets here.values there made in
+      let after : List ReportBlock = after_events rows book stored changes a.latest a.steps a.parts in
+      subst (λ rs. StandsAt (record a { stored = stored; parts = after; rows = rs }) c n (at n t d ∷ past)) (sets.rows a.rows)
+      (came-of a c n t d past stored after sets.silent values
+      (subst (BlocksStand m (at n t d ∷ past)) (ap₂ (λ (now step : ℕ). after_events rows book stored changes now step a.parts) (sym here.is_latest) (sym here.is_steps))
+      (parts-set c n t d settings past a.parts stored changes served held sets values are has here.sets here.blocks)) here)
 
   -- the same of a step of a history, with what is known of the configuration that the state has
   pub set-for : (s a t : State) (c : Config) (h : History) (moment actor : ℕ) (settings : List Setting) (stored : List Stored) (changes : List Change)
       → IsServable a.config → AreHeld a.config stored → AreFit a.stored settings → HaveMembers rows book a.config a.parts
       → ((x : ℕ) → attribute stored x ≡ last_set settings x (attribute a.stored x)) → length stored ≡ length a.stored → AreMade a.config a.stored settings changes
-      → a.stored ≡ s.stored → StandsAt a c (length h) (arrival (length h) moment ∷ points (configured_model c) h) → t ≡ set_at a stored changes → StandsFor s c h
+      → StandsAt a c (length h) (arrival (length h) moment ∷ points (configured_model c) h) → t ≡ record (set_at a stored changes) { steps = suc a.steps } → StandsFor s c h
       → StandsFor t c (record { moment = moment; actor = actor; step = steps.Value settings } ∷ h)
-  set-for s a t c h moment actor settings stored changes served held fit has set count made kept here is st =
+  set-for s a t c h moment actor settings stored changes served held fit has set count made here is st =
       let same = here.is_config in
-      let was = subst (λ l. ValuesStand l (configured_model c) (points (configured_model c) h)) (sym kept) st.1.values in
-      accepted-as s t (set_at a stored changes) c h (record { moment = moment; actor = actor; step = steps.Value settings }) st refl is
-      (stands-set a c (length h) moment settings (points (configured_model c) h) stored changes (subst IsServable same served) (subst (λ q. AreHeld q stored) same held) fit
-      (subst (λ q. HaveMembers rows book q a.parts) same has) set count (subst (λ q. AreMade q a.stored settings changes) same made) was here)
+      let past : Past = points (configured_model c) h in
+      let point : Past = at (length h) moment (valued settings) ∷ past in
+      accepted-as s t (record (set_at a stored changes) { steps = suc a.steps }) c h (record { moment = moment; actor = actor; step = steps.Value settings }) st refl is
+      (counts (set_at a stored changes) c (length h) point
+      (stands-set a c (length h) moment (valued settings) settings past stored changes (subst IsServable same served) (subst (λ q. AreHeld q stored) same held)
+      (process-sets (configured_model c) (length h) moment settings past) (settings-there a.config a.stored settings fit)
+      (subst (λ q. HaveMembers rows book q a.parts) same has) set count (subst (λ q. AreMade q a.stored settings changes) same made) here))
 
 -- ---- the parts fit the configuration afterwards
 

@@ -30,7 +30,7 @@ use Rattle.bay_config.specs.Servable.{IsServable, IsServedSet, IsMember}
 -- ---- the nodes of a data set
 
 -- what is found has what all have
-found : {A : Type 0} (P : A → Type 0) (test : A → Bool) (xs : List A) → All P xs → (x : A) → find test xs ≡ Some x → P x
+pub found : {A : Type 0} (P : A → Type 0) (test : A → Bool) (xs : List A) → All P xs → (x : A) → find test xs ≡ Some x → P x
 found {A = A} P test [] all x is = cc
 found {A = A} P test (y ∷ ys) all x is = by (test y) (All-head P y ys all) (found P test ys (All-tail P y ys all) x) is
   where

@@ -1,5 +1,5 @@
 -- A bay after a Take.
-use Rattle.std.proofs.Common.{◌≡◌, ℕ, suc, true, List, ◌∷◌, Option, None, Some, length, refl, ap, arith, ◌∙◌, sym, subst, slice_set, inl, inr}
+use Rattle.std.proofs.Common.{◌≡◌, ℕ, suc, max, true, List, [], ◌∷◌, map, drop, Option, None, Some, length, refl, ap, arith, ◌∙◌, sym, subst, slice_set, inl, inr}
 use Rattle.std.specs.Prelude.{slice_get, ◌==◌, if◌then◌else◌}
 use Rattle.list_laws.proofs.Places.{got-set, same-number, other-number}
 use Rattle.std.specs.Option.{option_map}
@@ -22,13 +22,17 @@ use Rattle.bay_model.specs.Configured.{block_defined}
 use Rattle.bay_model.specs.Model.{Model, Parameters}
 use Rattle.bay_model.specs.Named.{configured_model}
 use Rattle.bay_model.specs.Notes.{Kept}
-use Rattle.bay_model.specs.Points.{Past, reported, nothing}
+use Rattle.bay_model.specs.Points.{Past, reported, nothing, took}
+use Rattle.bay_model.specs.Waiting as queue
 use Rattle.bay_model.specs.Singles.{arrival}
 use Rattle.bay_model.specs.Takes.{Given, taken}
 use Rattle.assoc_table.specs.declared.waiting.Ends.{Ends}
 use Rattle.assoc_table.specs.Seats.{Row}
-use Rattle.assoc_table.specs.Standing.{Stands as AssociationsStand, ends_of}
-use Rattle.assoc_table.specs.Tables.{IsNumber, row_of}
+use Rattle.assoc_table.specs.Standing.{Stands as AssociationsStand, ends_of, waiting_of}
+use Rattle.bay_core.proofs.QueueLaws.{nothing-waits, first-told}
+use Rattle.assoc_table.specs.declared.waiting.Waiting.TheVariants.{Reply}
+use Rattle.bay_model.specs.declared.answer.Output.{Output}
+use Rattle.assoc_table.specs.Tables.{IsNumber, row_of, taken as taken_row}
 use Rattle.report_block.specs.declared.block.ReportBlock.{ReportBlock}
 use Rattle.report_block.specs.Blanks.{AreFew}
 use Rattle.report_block.specs.Offers.{Offered, first_offered}
@@ -39,8 +43,8 @@ use Rattle.report_block.specs.Reporting.{report_by}
 use Rattle.bay_config.specs.Servable.{IsServable}
 use Rattle.bay_core.specs.Standing.{StandsAt, StandsFor}
 use Rattle.bay_core.specs.State.{State}
-use Rattle.bay_core.proofs.MoveLaws.{passed, still, accepted-as}
-use Rattle.bay_core.proofs.PartLaws.{AreLeft}
+use Rattle.bay_core.proofs.MoveLaws.{passed, still, came-of, counts, accepted-as}
+use Rattle.bay_core.proofs.PartLaws.{AreLeft, parts-left}
 use Rattle.bay_core.proofs.ServedLaws.{served-now}
 use Rattle.bay_core.proofs.ShapeLaws.{served_members}
 use Rattle.bay_core.proofs.TakeLaws.{none, given, closed}
@@ -49,7 +53,7 @@ use Rattle.bay_core.proofs.TakeLaws.{none, given, closed}
 pub reported-at : (s : State) (c : Config) (n t a b id : ℕ) (part : ReportBlock) (past : Past) → slice_get s.parts b ≡ Some part → StandsAt s c n (arrival n t ∷ past)
     → StandsAt (record s { steps = suc s.steps; parts = slice_set s.parts b (reported_by id part) }) c (suc n) (at n t (reported a b id) ∷ past)
 reported-at s c n t a b id part past there st = passed s c n t (reported a b id) past (slice_set s.parts b (reported_by id part))
-    (record { number = tt; puts = λ k. refl; gives = λ k. refl; sets = refl }) (λ x. refl) (record { note = λ k. refl; cuts = λ k. refl }) left st
+    (record { number = tt; puts = λ k. refl; edits = λ k. refl; sets = refl }) (λ x. refl) (record { note = λ k. refl; cuts = λ k. refl }) left st
   where
     left : AreLeft (reported a b id) s.parts (slice_set s.parts b (reported_by id part))
     left = λ k q got. elim (got-set s.parts b k (reported_by id part) q got) [
@@ -118,22 +122,52 @@ module _ (s at new : State) (c : Config) (h : History) (t : ℕ) (actor : ActorN
       let fine : fault m h turn ≡ None = rw shut refl in
       nothing-came answers.Closed is fine (closed m a (length h) t past shut)
 
-  pub empty-for : (w : ActorNo) → new ≡ record at { steps = suc at.steps } → option_map (λ (e : Ends). e.writer) (row_of s.rows a.0).ends ≡ Some w → actor.0 ≡ w.0
+  pub empty-for : (w : ActorNo) → new ≡ record at { steps = suc at.steps } → option_map (λ (e : Ends). e.writer) (row_of s.rows a.0).ends ≡ Some w → actor.0 ≡ w.0 → (row_of s.rows a.0).waiting ≡ []
       → length at.parts ≡ length c.blocks → first_offered a 0 at.parts ≡ None → IsDone answers.Empty
-  empty-for w is writer same all nothing_left =
+  empty-for w is writer same empty all nothing_left =
       let e = writer-told m s.rows past a.0 w st.1.associations number writer in
-      nothing-came answers.Empty is (writer-may w writer same) (none m a (length h) t past at.parts (count all) here.blocks e.0 nothing_left e.1 (st.1.empty a.0))
+      nothing-came answers.Empty is (writer-may w writer same) (none m a (length h) t past at.parts (count all) here.blocks e.0 nothing_left e.1 (nothing-waits m s.rows past a.0 st.1.associations number empty))
 
   pub given-for : (w : ActorNo) (o : Offered) (shapes : List MemberShape) (part : ReportBlock) (r : Report) → new ≡ record at { steps = suc at.steps; parts = slice_set at.parts o.block (reported_by o.next.id part) }
-      → option_map (λ (e : Ends). e.writer) (row_of s.rows a.0).ends ≡ Some w → actor.0 ≡ w.0 → length at.parts ≡ length c.blocks → first_offered a 0 at.parts ≡ Some o → slice_get at.parts o.block ≡ Some part
+      → option_map (λ (e : Ends). e.writer) (row_of s.rows a.0).ends ≡ Some w → actor.0 ≡ w.0 → (row_of s.rows a.0).waiting ≡ [] → length at.parts ≡ length c.blocks → first_offered a 0 at.parts ≡ Some o → slice_get at.parts o.block ≡ Some part
       → shapes ≡ served_members c part.block.options.dat_set → ((ks : List Kept) → AreFew 256 o.entry.kept ks → r ≡ report_by m shapes part o ks) → IsDone (answers.Taken (outputs.Report r))
-  given-for w o shapes part r is writer same all first there are is_report =
+  given-for w o shapes part r is writer same empty all first there are is_report =
       let e = writer-told m s.rows past a.0 w st.1.associations number writer in
       let dat_set = ap (λ (p : Parameters). p.dat_set) (here.blocks o.block part there).block.options in
       let nodes = served-now c served part.block.options.dat_set o.block past shapes are dat_set st.1.sets in
-      let came = given m a (length h) t past at.parts (count all) here.blocks e.0 o shapes part r first e.1 (st.1.empty a.0) there nodes is_report in
+      let came = given m a (length h) t past at.parts (count all) here.blocks e.0 o shapes part r first e.1 (nothing-waits m s.rows past a.0 st.1.associations number empty) there nodes is_report in
       let after : State = record at { steps = suc at.steps; parts = slice_set at.parts o.block (reported_by o.next.id part) } in (
         sym (ap (λ (g : Given). g.answer) came),
         accepted-as s new after c h turn st (writer-may w writer same) is
             (subst (λ (g : Given). StandsAt after c (suc (length h)) (record { moment = t; step = length h; deed = g.deed } ∷ past)) (sym came) (reported-at at c (length h) t a.0 o.block o.next.id part past there here)),
       )
+
+-- a Take of what waits: the reply that waits longest is given, and taken from the rows
+took-at : (z : State) (c : Config) (n t a : ℕ) (past : Past) → IsNumber a → StandsAt z c n (arrival n t ∷ past) → StandsAt (record z { rows = taken_row z.rows a }) c n (at n t (took a) ∷ past)
+took-at z c n t a past number st =
+    came-of z c n t (took a) past z.stored z.parts (record { number = number; puts = λ k. refl; edits = λ e. refl; sets = refl }) st.values
+    (parts-left (configured_model c) n t (took a) past z.parts z.parts (record { note = λ b. refl; cuts = λ b. refl }) (λ b q there. (q, there, refl)) st.blocks) st
+
+first-given : (m : Model) (a n t : ℕ) (past : Past) (e : model.Ends) (output : Output) (rest : List queue.Waiting) → ends a past ≡ Some e → queue.waiting m a past ≡ queue.reply output ∷ rest
+    → taken m a (arrival n t ∷ past) ≡ record { answer = answers.Taken output; deed = took a }
+first-given m a n t past e output rest opened waits_ = rw (opened, waits_) refl
+
+pub took-for : (s z u : State) (c : Config) (h : History) (t : ℕ) (actor : ActorNo) (a : AssocNo) (output : Output) (w : ActorNo) → IsNumber a.0 → StandsFor s c h
+    → option_map (λ (e : Ends). e.writer) (row_of s.rows a.0).ends ≡ Some w → actor.0 ≡ w.0 → slice_get (row_of s.rows a.0).waiting 0 ≡ Some (Reply output)
+    → StandsAt z c (length h) (arrival (length h) t ∷ points (configured_model c) h) → u ≡ record z { steps = suc z.steps; rows = taken_row z.rows a.0 }
+    → (answers.Taken output ≡ answer (configured_model c) h (record { moment = t; actor = actor.0; step = steps.Take a })) × StandsFor u c (record { moment = t; actor = actor.0; step = steps.Take a } ∷ h)
+took-for s z u c h t actor a output w number st writer same first here is =
+    let m = configured_model c in
+    let n = length h in
+    let past : Past = points m h in
+    let turn : Turn = record { moment = t; actor = actor.0; step = steps.Take a } in
+    let e = writer-told m s.rows past a.0 w st.1.associations number writer in
+    let yours : (actor.0 == e.0.writer) ≡ true = grind (arith, nat_tests, same, e.2) in
+    let fine : fault m h turn ≡ None = rw (e.1, yours) refl in
+    let gave = first-given m a.0 n t past e.0 output (map waiting_of (drop 1 (row_of s.rows a.0).waiting)) e.1 (first-told m s.rows past a.0 output st.1.associations number first) in
+    let after : State = record z { rows = taken_row z.rows a.0 } in (
+      sym (ap (λ (g : Given). g.answer) gave),
+      accepted-as s u (record after { steps = suc z.steps }) c h turn st fine is
+          (subst (λ (g : Given). StandsAt (record after { steps = suc z.steps }) c (suc n) (at n t g.deed ∷ past)) (sym gave)
+          (counts after c n (at n t (took a.0) ∷ past) (took-at z c n t a.0 past number here))),
+    )

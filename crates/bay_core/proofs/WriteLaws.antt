@@ -47,7 +47,7 @@ use Rattle.bay_core.specs.Standing.{StandsAt, StandsFor}
 use Rattle.bay_core.specs.Written.{named_by}
 use Rattle.bay_core.proofs.BookLaws.{known-booked}
 use Rattle.bay_core.proofs.WatchLaws.{KeepsSet}
-use Rattle.bay_core.proofs.MoveLaws.{done, still, accepted-as}
+use Rattle.bay_core.proofs.MoveLaws.{came-of, counts, accepted-as}
 
 -- the effect of an accepted write
 effect-told : (ts : List (Bool × ℕ)) (effect e : Effect) → first_of ts effect ≡ Ok e → e ≡ effect
@@ -119,24 +119,24 @@ module _ (m : Model) (n t b : ℕ) (a : AssocNo) (comp : Comp) (v : Value) (name
 
 -- the state behind a write that was answered so, from that at its arrival
 abbrev pub behind : State → ℕ → ReportBlock → State
-behind z b part = record z { steps = suc z.steps; parts = slice_set z.parts b part }
+behind z b part = record z { parts = slice_set z.parts b part }
 
 unchanged : (parts : List ReportBlock) (b : ℕ) (part : ReportBlock) → slice_get parts b ≡ Some part → slice_set parts b part ≡ parts
 unchanged parts b part there = ap (slice_set parts b) (sym (get_or_from_slice_get parts b part part there)) ∙ set-get_or parts b part
 
 module _ (z : State) (c : Config) (n t b : ℕ) (a : AssocNo) (comp : Comp) (v : Value) (named : Option ℕ) (all : List Piece) (past : Past) (part : ReportBlock) (there : slice_get z.parts b ≡ Some part) (are : AreAll (configured_model c) n t b a comp v named past all)
     (here : StandsAt z c n (arrival n t ∷ past)) where
-  wrote-at : (e : Effect) → write_answer a comp v named part ≡ Ok e → StandsAt (behind z b (after_writing a comp v named z.latest z.steps all part (Ok e))) c (suc n) (at n t (deed b a comp v) ∷ past)
+  wrote-at : (e : Effect) → write_answer a comp v named part ≡ Ok e → StandsAt (behind z b (after_writing a comp v named z.latest z.steps all part (Ok e))) c n (at n t (deed b a comp v) ∷ past)
   wrote-at e is =
       let set = parts-wrote (configured_model c) n t b a comp v named past z.parts part all e there are here.blocks is in
-      done z c n t (deed b a comp v) past z.stored _ (record { number = tt; puts = λ k. refl; gives = λ k. refl; sets = refl }) here.values
+      came-of z c n t (deed b a comp v) past z.stored _ (record { number = tt; puts = λ k. refl; edits = λ k. refl; sets = refl }) here.values
       (subst (BlocksStand (configured_model c) (at n t (deed b a comp v) ∷ past)) (ap₂ (λ (now step : ℕ). slice_set z.parts b (after_writing a comp v named now step all part (Ok e))) (sym here.is_latest) (sym here.is_steps)) set) here
 
-  refused-at : StandsAt (behind z b part) c (suc n) (arrival n t ∷ past)
-  refused-at = subst (λ ps. StandsAt (record z { steps = suc z.steps; parts = ps }) c (suc n) (arrival n t ∷ past)) (sym (unchanged z.parts b part there)) (still z c n t past here)
+  refused-at : StandsAt (behind z b part) c n (arrival n t ∷ past)
+  refused-at = subst (λ ps. StandsAt (record z { parts = ps }) c n (arrival n t ∷ past)) (sym (unchanged z.parts b part there)) here
 
   written-at : (r : Result Effect ℕ) → write_answer a comp v named part ≡ r
-      → StandsAt (behind z b (after_writing a comp v named z.latest z.steps all part r)) c (suc n) (at n t (deed_of (outcome_of (deed b a comp v) r)) ∷ past)
+      → StandsAt (behind z b (after_writing a comp v named z.latest z.steps all part r)) c n (at n t (deed_of (outcome_of (deed b a comp v) r)) ∷ past)
   written-at (Ok e) is = wrote-at e is
   written-at (Err code) is = refused-at
 
@@ -144,23 +144,36 @@ answered-code : (k b : ℕ) (comp : Comp) (v : Value) (r : Result Effect ℕ) �
 answered-code k b comp v (Ok e) = refl
 answered-code k b comp v (Err code) = refl
 
+-- a write of a component, from the state at its arrival: what it is answered, and what the state then stands for
+pub component-wrote : (z : State) (c : Config) (n t b : ℕ) (a : AssocNo) (comp : Comp) (v : Value) (named : Option ℕ) (all : List Piece) (past : Past) (part : ReportBlock)
+    → named ≡ named_by comp v (booked (set_rows c)) → slice_get z.parts b ≡ Some part → AreAll (configured_model c) n t b a comp v named past all
+    → StandsAt z c n (arrival n t ∷ past)
+    → (without_effect (write_answer a comp v named part) ≡ code_of (write_component (configured_model c) a.0 b comp v (arrival n t ∷ past)))
+    × StandsAt (behind z b (after_writing a comp v named z.latest z.steps all part (write_answer a comp v named part))) c n (at n t (deed_of (write_component (configured_model c) a.0 b comp v (arrival n t ∷ past))) ∷ past)
+component-wrote z c n t b a comp v named all past part is_named there are here =
+    let known = ap (λ k. names_nothing (retained_of part) (is_some k) comp v) is_named ∙ known-told c (arrival n t ∷ past) (retained_of part) comp v here.sets in
+    let told = outcome-told (configured_model c) n t b a comp v named past part known (here.blocks b part there) in
+    let after : State = behind z b (after_writing a comp v named z.latest z.steps all part (write_answer a comp v named part)) in (
+      sym (ap code_of (sym told) ∙ answered-code a.0 b comp v (write_answer a comp v named part)),
+      subst (λ o. StandsAt after c n (at n t (deed_of o) ∷ past)) told (written-at z c n t b a comp v named all past part there are here (write_answer a comp v named part) refl),
+    )
+
 -- a write at the end of a history; the second state is that at its arrival
 pub wrote-for : (s z u : State) (c : Config) (h : History) (t actor : ℕ) (b : BlockNo) (a : AssocNo) (comp : Comp) (v : Value) (named : Option ℕ) (all : List Piece) (part : ReportBlock)
     → named ≡ named_by comp v (booked (set_rows c)) → slice_get z.parts b.0 ≡ Some part → AreAll (configured_model c) (length h) t b.0 a comp v named (points (configured_model c) h) all
     → StandsAt z c (length h) (arrival (length h) t ∷ points (configured_model c) h) → StandsFor s c h
     → fault (configured_model c) h (record { moment = t; actor = actor; step = steps.Write a b comp v }) ≡ None
-    → u ≡ behind z b.0 (after_writing a comp v named z.latest z.steps all part (write_answer a comp v named part))
+    → u ≡ record (behind z b.0 (after_writing a comp v named z.latest z.steps all part (write_answer a comp v named part))) { steps = suc z.steps }
     → (answers.Wrote (without_effect (write_answer a comp v named part)) ≡ answer (configured_model c) h (record { moment = t; actor = actor; step = steps.Write a b comp v }))
     × StandsFor u c (record { moment = t; actor = actor; step = steps.Write a b comp v } ∷ h)
 wrote-for s z u c h t actor b a comp v named all part is_named there are here st none is =
     let past : Past = points (configured_model c) h in
-    let known = ap (λ k. names_nothing (retained_of part) (is_some k) comp v) is_named ∙ known-told c (arrival (length h) t ∷ past) (retained_of part) comp v here.sets in
-    let told = outcome-told (configured_model c) (length h) t b.0 a comp v named past part known (here.blocks b.0 part there) in
+    let n : ℕ = length h in
+    let wrote = component-wrote z c n t b.0 a comp v named all past part is_named there are here in
     let after : State = behind z b.0 (after_writing a comp v named z.latest z.steps all part (write_answer a comp v named part)) in
-    let code = ap code_of (sym told) ∙ answered-code a.0 b.0 comp v (write_answer a comp v named part) in (
-      ap answers.Wrote (sym code),
-      accepted-as s u after c h (record { moment = t; actor = actor; step = steps.Write a b comp v }) st none is
-          (subst (λ o. StandsAt after c (suc (length h)) (at (length h) t (deed_of o) ∷ past)) told (written-at z c (length h) t b.0 a comp v named all past part there are here (write_answer a comp v named part) refl)),
+    let d : Deed = deed_of (write_component (configured_model c) a.0 b.0 comp v (arrival n t ∷ past)) in (
+      ap answers.Wrote wrote.0,
+      accepted-as s u (record after { steps = suc z.steps }) c h (record { moment = t; actor = actor; step = steps.Write a b comp v }) st none is (counts after c n (at n t d ∷ past) wrote.1),
     )
 
 -- ---- the data set of the block that is written

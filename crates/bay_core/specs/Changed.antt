@@ -1,6 +1,6 @@
 -- What a step of the process makes of the values of attributes, and what is handed on of each attribute that it set
 -- (IEC 61850-7-2, DataAttribute and TriggerConditions).
-use Rattle.std.specs.Prelude.{◌≡◌, ◌≢◌, ◌<◌, ℕ, not, true, List, length, slice_index_or, Option, None, Some}
+use Rattle.std.specs.Prelude.{◌≡◌, ◌≢◌, ◌<◌, ℕ, not, true, List, length, slice_index_or, Option, None, Some, Result, Ok, Err}
 use Rattle.std.specs.Option.{option_map}
 use Rattle.std.specs.List.{All}
 use Rattle.sv_base.specs.Same.{is_same}
@@ -15,6 +15,8 @@ use Rattle.bay_model.specs.Named.{configured_model}
 use Rattle.bay_model.specs.Settings.{set_to}
 use Rattle.object_model.specs.Fits.{is_sound}
 use Rattle.object_model.specs.Tables.{flags_of}
+use Rattle.value_store.specs.declared.fault.SetFault.{SetFault}
+use Rattle.value_store.specs.declared.store.Changed.{Changed}
 use Rattle.value_store.specs.Stored.{Stored, attribute, with_value}
 use Rattle.trigger_core.specs.Noted.{change_of}
 use Rattle.bay_config.specs.Servable.{attr_type}
@@ -62,3 +64,8 @@ pub record IsTyped (c : Config) (s : Setting) : Type 0 where
 
 abbrev pub AreTyped : Config → List Setting → Type 0
 AreTyped c settings = All (IsTyped c) settings
+
+-- what a setting is answered, whether it changed the value or not
+abbrev pub without_change : Result Changed SetFault → Result (Unit {0}) SetFault
+without_change (Ok changed) = Ok tt
+without_change (Err fault) = Err fault

@@ -16,5 +16,9 @@ pub mod Watched
 -- what a write makes of the data set that a block reports
 pub mod Written
 pub mod Put
+-- what waits for associations
+pub mod Queued
+-- requests
+pub mod Asked
 -- losses
 pub mod Parting

@@ -1,10 +1,10 @@
 -- What a bay stands for: a history of accepted steps, by one equation for each part.
-use Rattle.std.specs.Prelude.{◌≡◌, ℕ, [], length}
+use Rattle.std.specs.Prelude.{◌≡◌, ℕ, [], length, None}
 use Rattle.sv_base.specs.declared.config.Config.{Config}
 use Rattle.bay_model.specs.Named.{configured_model}
 use Rattle.bay_model.specs.Points.{Past, now}
 use Rattle.bay_model.specs.Sets.{dynamic}
-use Rattle.bay_model.specs.Waiting.{waiting}
+use Rattle.bay_model.specs.Settings.{edit}
 use Rattle.bay_model.specs.Answers.{History, points}
 use Rattle.bay_model.specs.Acceptance.{IsHistory}
 use Rattle.value_store.specs.Wholes.{Stands as ValuesStand}
@@ -19,7 +19,7 @@ pub record StandsAt (s : State) (c : Config) (count : ℕ) (past : Past) : Type 
   pub is_latest : s.latest ≡ now past
   pub values : ValuesStand s.stored (configured_model c) past
   pub associations : AssociationsStand s.rows (configured_model c) past
-  pub empty : (a : ℕ) → waiting (configured_model c) a past ≡ []
+  pub edits : (d : ℕ) → edit d past ≡ None
   pub sets : dynamic past ≡ []
   pub blocks : BlocksStand (configured_model c) past s.parts
 

@@ -10,6 +10,9 @@ use Rattle.object_model.specs.Fits.{is_sound}
 use Rattle.object_model.specs.Nodes.{node_rows}
 use Rattle.object_model.specs.Tables.{set_rows}
 use Rattle.data_sets.specs.Books.{Book, largest, number_referred, opened}
+use Rattle.bay_model.specs.Lookups.{attr_of}
+use Rattle.bay_model.specs.Named.{configured_model}
+use Rattle.value_store.specs.Opened.{is_writable}
 use Rattle.value_store.specs.Stored.{Stored, attribute}
 use Rattle.assoc_table.specs.Seats.{Row}
 use Rattle.report_block.specs.declared.block.ReportBlock.{ReportBlock}
@@ -31,11 +34,12 @@ pub record IsSoundCell (h : Held) : Type 0 where
   pub range : is_in_range h.kind h.value ≡ true
   pub sound : is_sound h.value ≡ true
 
--- each attribute of the configuration has a value of its type
+-- each attribute of the configuration has a value of its type, and the right of clients to write it
 pub record AreHeld (c : Config) (stored : List Stored) : Type 0 where
   pub count : length stored ≡ length (attributes c)
   pub kinds : (x : ℕ) → x < length stored → (attribute stored x).held.kind ≡ kind_of (attr_type c x)
   pub sound : (x : ℕ) → x < length stored → IsSoundCell (attribute stored x).held
+  pub writable : (x : ℕ) → x < length stored → (attribute stored x).is_writable ≡ is_writable (attr_of (configured_model c) x).access
 
 -- the parts fit the configuration, each has the number of the data set that its DatSet names, the index has the members of their
 -- data sets, and the room that entries and changes need was made

@@ -6,15 +6,16 @@ use Rattle.bay_model.specs.declared.step.Step.{Step}
 use Rattle.bay_model.specs.declared.step.Step.TheVariants as steps
 use Rattle.bay_model.specs.Named.{configured_model}
 use Rattle.bay_model.specs.Answers.{Turn, History, answer}
-use Rattle.bay_model.specs.Acceptance.{Fault, IsOpen, NotOpen, NotYours, fault}
+use Rattle.bay_model.specs.Acceptance.{Fault, IsOpen, NotOpen, NotYours, QueueFull, fault}
+use Rattle.bay_replies.specs.Asking.{IsReading}
 use Rattle.bay_core.specs.declared.fault.StepFault.{StepFault}
 use Rattle.bay_core.specs.declared.fault.StepFault.TheVariants as faults
 use Rattle.bay_core.specs.State.{State}
 use Rattle.bay_core.specs.Standing.{StandsFor}
 
--- the steps that a bay takes
+-- the steps that a bay takes: of the requests those that write nothing
 abbrev pub IsBuilt : Step → Type 0
-IsBuilt (steps.Ask a r) = ⊥
+IsBuilt (steps.Ask a r) = IsReading r.service
 IsBuilt (steps.Done k good) = ⊥
 IsBuilt (steps.Block k flag) = ⊥
 IsBuilt _ = Unit {0}
@@ -24,6 +25,7 @@ abbrev pub named : StepFault → Option Fault
 named (faults.IsOpen a) = Some (IsOpen a.0)
 named (faults.NotOpen a) = Some (NotOpen a.0)
 named (faults.NotYours a) = Some (NotYours a.0)
+named (faults.QueueFull a) = Some (QueueFull a.0)
 named faults.Memory = None
 
 -- From old to new by a turn: an accepted one is answered as the definitions have it, and new stands for the longer history;

@@ -1,9 +1,9 @@
 //! A bay.
 
 use crate::dues::Dues;
+use crate::queues::Queues;
 use crate::values::Values;
 use crate::watch::Watch;
-use assoc_table::Assocs;
 use bay_model::{Answer, Change, Fixed, Output, Report};
 use data_sets::SetBook;
 use object_model::Model;
@@ -22,7 +22,7 @@ pub struct Bay {
     pub(crate) parts: Vec<ReportBlock>,
     /// Before these moments, block by block, none has anything due.
     pub(crate) dues: Dues,
-    pub(crate) associations: Assocs,
+    pub(crate) associations: Queues,
     /// The members of all data sets by their attributes, with the notes of the step that is being made.
     pub(crate) watch: Watch,
     /// The changes of the step that is being made; of no account between steps, as are the octets of an event and of an entry.

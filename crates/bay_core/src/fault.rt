@@ -16,6 +16,9 @@ pub enum StepFault {
     /// The actor isn't the one who may make this step of the association.
     #[error("the actor may not act for association {}", .0.0)]
     NotYours(AssocNo),
+    /// 16 replies wait for the association.
+    #[error("16 replies wait for association {}", .0.0)]
+    QueueFull(AssocNo),
     /// Memory is wanted.
     #[error("out of memory")]
     Memory,

@@ -5,11 +5,13 @@
 mod bay;
 mod dues;
 mod opening;
+mod queues;
 mod source;
 mod values;
 mod watch;
 
 // its steps, and why one is refused
+mod asking;
 mod associations;
 mod fault;
 mod laws;

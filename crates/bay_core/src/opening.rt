@@ -14,9 +14,9 @@ ghost use Rattle.bay_core.specs.Opened.{seen, part_defined};
 
 use crate::bay::Bay;
 use crate::dues::Dues;
+use crate::queues::Queues;
 use crate::values::Values;
 use crate::watch::Watch;
-use assoc_table::Assocs;
 use bay_model::{Change, Fixed};
 use data_sets::SetBook;
 use object_model::Model;
@@ -61,7 +61,7 @@ struct Made {
     sets: SetBook,
     parts: Vec<ReportBlock>,
     dues: Dues,
-    associations: Assocs,
+    associations: Queues,
     watch: Watch,
     changes: Vec<Change>,
     events: EventRoom,
@@ -96,7 +96,7 @@ fn parts_made(alloc: Global, model: &Model) -> Result<Made, AllocError>
         sets,
         parts,
         dues,
-        associations: Assocs::open(alloc)?,
+        associations: Queues::open(alloc)?,
         watch,
         changes,
         events: EventRoom::new(alloc, 256)?,

@@ -58,7 +58,7 @@ fn keep_all(
 
 /// Some attributes were set: each block whose data set they are in takes in its event (IEC 61850-7-2, TrgOps); no other is looked
 /// at. It takes no memory.
-fn event_all(
+pub(crate) fn event_all(
     parts: &mut Vec<ReportBlock>,
     dues: &mut Dues,
     watch: &mut Watch,

@@ -14,9 +14,9 @@ impl Bay {
     /// Makes a step at a moment; one that lies below the newest moment so far is taken as that.
     ///
     /// The step fits the model, and there were fewer than 2^62. Refuses, in this order, to open an association that is open
-    /// (IsOpen); a write or a loss of one that isn't open (NotOpen); a write by another than the opener, a take by another
-    /// than the writer of an open one, and a loss by neither (NotYours). A refused step changes nothing and isn't counted,
-    /// for want of memory too.
+    /// (IsOpen); a request, a write or a loss of one that isn't open (NotOpen); a request or a write by another than the opener,
+    /// a take by another than the writer of an open one, and a loss by neither (NotYours); a request where 16 replies wait
+    /// (QueueFull). A refused step changes nothing and isn't counted, for want of memory too.
     pub fn step(
         &mut self,
         alloc: Global,
@@ -43,7 +43,8 @@ impl Bay {
             Step::Lost(a) => self.lose(moment, actor, *a),
             Step::Value(sets) => self.set(moment, actor, sets),
             Step::Tick => self.tick(moment, actor),
-            Step::Ask(..) | Step::Done(..) | Step::Block(..) => unreachable!(),
+            Step::Ask(a, request) => self.ask(alloc, moment, actor, *a, request),
+            Step::Done(..) | Step::Block(..) => unreachable!(),
         }
     }
 }

@@ -12,9 +12,10 @@ use sv_base::{ActorNo, AssocNo, Moment};
 const MOST_MEMBERS: u32 = 256;
 
 impl Bay {
-    ghost use Rattle.std.specs.Prelude.{◌≡◌, ◌<◌, ◌^◌, Some, max, IfOk};
+    ghost use Rattle.std.specs.Prelude.{◌≡◌, ◌<◌, ◌^◌, [], suc, Some, max, IfOk};
     ghost use Rattle.std.specs.List.{All};
     ghost use Rattle.std.specs.Option.{option_map};
+    ghost use Rattle.bay_model.specs.declared.answer.Answer.TheVariants.{Taken};
     ghost use Rattle.bay_model.specs.declared.step.Step.TheVariants as steps;
     ghost use Rattle.assoc_table.specs.declared.waiting.Ends.{Ends};
     ghost use Rattle.assoc_table.specs.Tables.{IsNumber, row_of};
@@ -22,7 +23,7 @@ impl Bay {
     ghost use Rattle.bay_core.specs.Timed.{at_arrival};
     ghost use Rattle.bay_core.specs.Turns.{Does, IsCounted};
 
-    /// The writer of an association takes the report that comes next.
+    /// The writer of an association takes what waits longest for it, else the report that comes next.
     pub(crate) fn take(
         &mut self,
         alloc: Global,
@@ -43,6 +44,38 @@ impl Bay {
         if actor.0 != writer.0 {
             return Err(StepFault::NotYours(a));
         }
+        match self.associations.pop(a) {
+            Some(output) => Ok(self.give(moment, output)),
+            None => self.take_report(alloc, moment, actor, a),
+        }
+    }
+
+    /// The writer takes an output that waited.
+    fn give(&mut self, moment: Moment, output: Output) -> Answer
+        requires { self.old.steps < 2 ^ 62 }
+        ensures answer { result ≡ Taken output }
+        ensures state { self.new ≡ record (at_arrival moment self.old) { steps = suc self.old.steps } }
+    {
+        self.arrive(moment);
+        self.count();
+        Answer::Taken(output)
+    }
+
+    /// The writer takes where no output waits.
+    fn take_report(
+        &mut self,
+        alloc: Global,
+        moment: Moment,
+        actor: ActorNo,
+        a: AssocNo,
+    ) -> Result<Answer, StepFault>
+        requires number { IsNumber a.0 }
+        requires few { self.old.steps < 2 ^ 62 }
+        requires writer { option_map (λ (e : Ends). e.writer) (row_of self.old.rows a.0).ends ≡ Some actor }
+        requires empty { (row_of self.old.rows a.0).waiting ≡ [] }
+        ensures does { Does self.old self.new (record { moment = moment; actor = actor.0; step = steps.Take a }) result }
+        ensures counted { IsCounted self.old self.new result }
+    {
         if self.dues.have_come(self.latest.later(moment)) {
             self.take_due(alloc, moment, actor, a)
         } else {
@@ -61,6 +94,7 @@ impl Bay {
         requires number { IsNumber a.0 }
         requires few { self.old.steps < 2 ^ 62 }
         requires writer { option_map (λ (e : Ends). e.writer) (row_of self.old.rows a.0).ends ≡ Some actor }
+        requires empty { (row_of self.old.rows a.0).waiting ≡ [] }
         requires quiet { at_arrival moment self.old ≡ record self.old { latest = max self.old.latest moment } }
         ensures does { Does self.old self.new (record { moment = moment; actor = actor.0; step = steps.Take a }) result }
         ensures counted { IsCounted self.old self.new result }
@@ -118,6 +152,7 @@ impl Bay {
         requires number { IsNumber a.0 }
         requires few { self.old.steps < 2 ^ 62 }
         requires writer { option_map (λ (e : Ends). e.writer) (row_of self.old.rows a.0).ends ≡ Some actor }
+        requires empty { (row_of self.old.rows a.0).waiting ≡ [] }
         ensures does { Does self.old self.new (record { moment = moment; actor = actor.0; step = steps.Take a }) result }
         ensures counted { IsCounted self.old self.new result }
     {

@@ -31,7 +31,7 @@ impl Bay {
     ghost use Rattle.bay_core.specs.Turns.{Does, IsCounted, KeepsLean};
 
     /// An association writes a component of a block, at the moment that time has come to. It takes no memory.
-    fn write_at_arrival(
+    pub(crate) fn write_at_arrival(
         &mut self,
         a: AssocNo,
         b: BlockNo,

@@ -56,7 +56,7 @@ returns-clause-does c = λ c' h was.
           (have-members c.self.inside.model c.as_slice-2.result.now c.self.inside.values c.self.inside.sets c.self.inside.parts.items c.self.inside.watch c.self.inside.octets (vec_capacity c.self.inside.changes) (c.as_slice-2.ensures ∙ c.nodes.ensures) c.self.invariant.furnished)
           (λ x. c.set.ensures.set x ∙ ap (λ (l : List Setting). last_set l x (attribute c.self.inside.values x)) c.as_slice.ensures) c.set.ensures.count
           (subst (λ (l : List Setting). AreMade c.self.inside.model c.self.inside.values l c.set.new.changes.items) c.as_slice.ensures c.set.ensures.changes)
-          (ap (λ (s : State). s.stored) (c.self.view_is ∙ c.arrive.ensures.state)) here
+          here
           (c.count.ensures ∙ ap (λ (ps : List ReportBlock). record { config = c.self.inside.model; steps = suc c.self.inside.steps; latest = c.self.inside.latest; stored = c.set.new.self; parts = ps; rows = c.self.inside.associations }) parts)
           was,
     )

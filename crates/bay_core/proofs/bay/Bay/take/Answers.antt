@@ -1,19 +1,20 @@
-use Rattle.std.proofs.Common.{◌≡◌, ◌∙◌, ℕ, List, None, length, max, arith, sym, subst, ap}
+use Rattle.std.proofs.Common.{◌≡◌, ◌∙◌, List, None, suc, length, refl, sym, subst, ap, vec_capacity}
 use Rattle.std.specs.Option.{option_map}
 use Rattle.bay_model.specs.Answers.{points}
 use Rattle.bay_model.specs.Named.{configured_model}
-use Rattle.object_model.specs.Nodes.{node_rows}
-use Rattle.object_model.specs.Tables.{set_rows}
-use Rattle.data_sets.specs.Books.{opened}
 use Rattle.assoc_table.specs.declared.waiting.Ends.{Ends}
-use Rattle.assoc_table.specs.Tables.{row_of}
-use Rattle.report_block.specs.declared.block.ReportBlock.{ReportBlock}
+use Rattle.object_model.specs.Nodes.{node_rows}
+use Rattle.assoc_table.specs.declared.waiting.Waiting.TheVariants.{Reply}
+use Rattle.assoc_table.specs.Seats.{Row}
+use Rattle.assoc_table.specs.Tables.{row_of, taken}
 use Rattle.bay_config.specs.Servable.{IsServable}
-use Rattle.bay_core.specs.Dues.{AreBefore}
+use Rattle.bay_core.specs.Standing.{StandsFor}
 use Rattle.bay_core.specs.State.{State}
 use Rattle.bay_core.specs.Timed.{at_arrival}
-use Rattle.bay_core.proofs.QuietLaws.{none-arrives}
-use Rattle.bay_core.proofs.TakenLaws.{closed-for}
+use Rattle.bay_core.proofs.ArriveLaws.{HasAll, HaveMembers, arrives}
+use Rattle.bay_core.proofs.QueueLaws.{none-waits}
+use Rattle.bay_core.proofs.SettingLaws.{have-members}
+use Rattle.bay_core.proofs.TakenLaws.{closed-for, took-for}
 use Rattle.bay_core.proofs.bay.Bay.take.Goals as goal
 
 pub returns-in_default-clause-does : goal.returns-in_default-clause-does
@@ -23,11 +24,27 @@ returns-in_default-clause-does c = λ c' h was.
     closed-for c.args.self.now c.arrive.new.self c.count.new.self c' h c.args.moment c.args.actor c.args.a (subst IsServable config c.self.invariant.furnished.servable) c.requires.number was here c.count.ensures
     (subst (λ (t : State). option_map (λ (e : Ends). e.writer) (row_of t.rows c.args.a.0).ends ≡ None) c.self.view_is (sym c.writer.ensures ∙ c.in_default.is))
 
-pub take_quiet-requires-clause-quiet : goal.take_quiet-requires-clause-quiet
-take_quiet-requires-clause-quiet c =
+pub take_report-requires-clause-empty : goal.take_report-requires-clause-empty
+take_report-requires-clause-empty c =
+    let rows = c.self.inside.associations in
+    let a = c.args.a.0 in
+    let left : c.pop.new.self ≡ rows = c.in-None.ensures.left in
+    ap (λ (rs : List Row). (row_of rs a).waiting) left ∙ none-waits rows a (sym c.pop.ensures.value ∙ ap (option_map Reply) c.in-None.is)
+
+pub returns-in-Some-pop-clause-does : goal.returns-in-Some-pop-clause-does
+returns-in-Some-pop-clause-does c = λ c' h was.
     let s = c.self.inside in
-    let now : ℕ = max s.latest c.args.moment in
-    let before : AreBefore now s.dues = subst (λ k. AreBefore k s.dues) c.later.ensures (c.have_come.ensures c.if-have_come.false) in
-    let stay = none-arrives s.latest now (omega arith) s.dues before (node_rows s.model) (opened (set_rows s.model)) s.values s.steps s.parts.items c.self.invariant.quiet in
-    subst (λ (t : State). at_arrival c.args.moment t ≡ record t { latest = max t.latest c.args.moment }) c.self.view_is
-    (ap (λ (ps : List ReportBlock). record { config = s.model; steps = s.steps; latest = now; stored = s.values; parts = ps; rows = s.associations }) stay)
+    let fit = c.self.invariant.furnished in
+    let z : State = record { config = s.model; steps = s.steps; latest = s.latest; stored = s.values; parts = s.parts.items; rows = s.associations } in
+    let st = subst (λ (t : State). StandsFor t c' h) (sym c.self.view_is) was in
+    let all : HasAll s.model s.values s.parts.items = record {
+      servable = fit.servable;
+      values = fit.values;
+      members = subst (λ b. HaveMembers (node_rows s.model) b s.model s.parts.items) fit.booked (have-members s.model (node_rows s.model) s.values s.sets s.parts.items s.watch s.octets (vec_capacity s.changes) refl fit);
+    } in
+    let here = arrives z c' (length h) c.args.moment (points (configured_model c') h) all st.1 in
+    let first = sym c.pop.ensures.value ∙ ap (option_map Reply) c.in-Some-pop.is in
+    let taken_ : c.pop.new.self ≡ taken s.associations c.args.a.0 = c.in-Some-pop.ensures.left in
+    let behind = c.give.ensures.state ∙ ap (λ (rs : List Row). record (at_arrival c.args.moment z) { steps = suc s.steps; rows = rs }) taken_ in
+    let took = took-for z (at_arrival c.args.moment z) c.give.new.self c' h c.args.moment c.args.actor c.args.a c.in-Some-pop.output c.in-Some.writer c.requires.number st (sym c.writer.ensures ∙ c.in-Some.is) c.if-actor-writer.false first here behind in
+    (c.give.ensures.answer ∙ took.0, took.1)

@@ -103,7 +103,7 @@ returns-in_default-first_offer-clause-does c = λ c' h was.
     let stay : z.parts ≡ u.parts.items = sym (ap (λ (t : State). t.parts) c.self.view_is) in
     let none = ap (first_offered c.args.a 0) (stay ∙ sym c.deref.ensures.value) ∙ (sym c.first_offer.ensures.first ∙ ap (option_map offered) c.in_default-first_offer.is) in
     empty-for c.args.self.now z c.count.new.self c' h c.args.moment c.args.actor c.args.a (subst IsServable config c.self.invariant.furnished.servable) c.requires.number was here c.args.actor
-    (c.count.ensures ∙ ap (λ (t : State). record t { steps = suc t.steps }) c.keep.ensures) c.requires.writer refl
+    (c.count.ensures ∙ ap (λ (t : State). record t { steps = suc t.steps }) c.keep.ensures) c.requires.writer refl c.requires.empty
     (ap (λ (ps : List ReportBlock). length ps) stay ∙ (c.self.invariant.furnished.count ∙ ap (λ (d : Config). length d.blocks) config)) none
 
 pub returns-clause-does : goal.returns-clause-does
@@ -125,6 +125,6 @@ returns-clause-does c = λ c' h was.
     let is_report = subst (λ (m : Config). (ks : List Kept) → AreFew 256 (offered o).entry.kept ks → c.filled-report.result.0 ≡ report_by (configured_model m) c.set_of-set.result part (offered o) ks) config
     (λ ks few. c.filled-report.ensures.report ks (subst (λ n. AreFew n (offered o).entry.kept ks) (sym room) few)) in
     given-for c.args.self.now z c.count-2.new.self c' h c.args.moment c.args.actor c.args.a (subst IsServable config c.self.invariant.furnished.servable) c.requires.number was here c.args.actor (offered o) c.set_of-set.result part c.filled-report.result.0
-    is c.requires.writer refl (ap (λ (ps : List ReportBlock). length ps) stay ∙ (c.self.invariant.furnished.count ∙ ap (λ (d : Config). length d.blocks) config))
+    is c.requires.writer refl c.requires.empty (ap (λ (ps : List ReportBlock). length ps) stay ∙ (c.self.invariant.furnished.count ∙ ap (λ (d : Config). length d.blocks) config))
     (ap (first_offered c.args.a 0) (stay ∙ sym c.deref.ensures.value) ∙ (sym c.first_offer.ensures.first ∙ ap (option_map offered) c.in-Some.is)) (subst (λ (ps : List ReportBlock). slice_get ps o.block ≡ Some part) (sym stay) there)
     (subst (λ (m : Config). c.set_of-set.result ≡ served_members m part.block.options.dat_set) config shapes) is_report

@@ -67,7 +67,7 @@ returns-in_default-clause-does c = λ c' h was.
     let here = c.arrive.ensures.stands c' (length h) (points (configured_model c') h) was.1 in
     let stay = ap (λ (t : State). t.parts) (c.arrive.ensures.state ∙ c.requires.quiet) ∙ sym (ap (λ (t : State). t.parts) c.self.view_is) in
     let none = ap (first_offered c.args.a 0) (stay ∙ sym c.deref.ensures.value) ∙ (sym c.first_offer.ensures.first ∙ ap (option_map offered) c.in_default.is) in
-    empty-for c.args.self.now c.arrive.new.self c.count.new.self c' h c.args.moment c.args.actor c.args.a (subst IsServable config c.self.invariant.furnished.servable) c.requires.number was here c.args.actor c.count.ensures c.requires.writer refl
+    empty-for c.args.self.now c.arrive.new.self c.count.new.self c' h c.args.moment c.args.actor c.args.a (subst IsServable config c.self.invariant.furnished.servable) c.requires.number was here c.args.actor c.count.ensures c.requires.writer refl c.requires.empty
     (ap (λ (ps : List ReportBlock). length ps) stay ∙ (c.self.invariant.furnished.count ∙ ap (λ (d : Config). length d.blocks) config)) none
 
 pub returns-clause-does : goal.returns-clause-does
@@ -91,6 +91,6 @@ returns-clause-does c = λ c' h was.
     let is = c.count-2.ensures ∙ (ap after c.sent.ensures ∙ (ap (λ p. after (reported_by o.next.id p)) same ∙ ap (λ (t : State). record t { steps = suc t.steps; parts = slice_set t.parts o.block (reported_by o.next.id part) }) c.self-2.view_is)) in
     let is_report = subst (λ (m : Config). (ks : List Kept) → AreKept (offered o).entry.kept ks → c.in-Ok.report ≡ report_by (configured_model m) c.set_of-set.result part (offered o) ks) config c.in-Ok.ensures in
     given-for c.args.self.now z c.count-2.new.self c' h c.args.moment c.args.actor c.args.a (subst IsServable config c.self.invariant.furnished.servable) c.requires.number was here c.args.actor (offered o) c.set_of-set.result part c.in-Ok.report
-    is c.requires.writer refl (ap (λ (ps : List ReportBlock). length ps) stay ∙ (c.self.invariant.furnished.count ∙ ap (λ (d : Config). length d.blocks) config))
+    is c.requires.writer refl c.requires.empty (ap (λ (ps : List ReportBlock). length ps) stay ∙ (c.self.invariant.furnished.count ∙ ap (λ (d : Config). length d.blocks) config))
     (ap (first_offered c.args.a 0) (stay ∙ sym c.deref.ensures.value) ∙ (sym c.first_offer.ensures.first ∙ ap (option_map offered) c.in-Some.is)) (subst (λ (ps : List ReportBlock). slice_get ps o.block ≡ Some part) (sym stay) there)
     (subst (λ (m : Config). c.set_of-set.result ≡ served_members m part.block.options.dat_set) config shapes) (λ ks few. is_report ks few.kept)

@@ -1,0 +1,106 @@
+-- What a request makes of a bay: its reply, and the bay behind its single reads and writes, at the arrival of the reply's point
+-- (ISO 9506-2, the confirmed services).
+use Rattle.std.specs.Prelude.{◌≡◌, ℕ, List, ◌∷◌, ◌<◌, length, Bool, true, false, Option, Result, map, if◌then◌else◌}
+use Rattle.sv_base.specs.declared.config.Config.{Config}
+use Rattle.bay_model.specs.declared.reply.Reply.{Reply}
+use Rattle.bay_model.specs.declared.request.Service.{Service}
+use Rattle.bay_model.specs.declared.request.Service.TheVariants as services
+use Rattle.bay_model.specs.declared.request.Target.{Target}
+use Rattle.bay_model.specs.declared.request.Target.TheVariants as targets
+use Rattle.bay_model.specs.declared.request.Write.{Write}
+use Rattle.std.specs.List.{All}
+use Rattle.std.specs.Option.{option_map}
+use Rattle.std.specs.declared.vec.Vec.{Vec}
+use Rattle.std.specs.declared.alloc.Global.{Global}
+use Rattle.sv_base.specs.declared.numbers.NodeId.{NodeId}
+use Rattle.sv_base.specs.declared.value.Value.{Value}
+use Rattle.object_model.specs.Fits.{is_sound}
+use Rattle.bay_model.specs.Model as model
+use Rattle.bay_model.specs.Model.{Model, Access, DataSet}
+use Rattle.bay_model.specs.Named.{configured_model, nodes as nodes_of}
+use Rattle.bay_model.specs.Outcomes.{Outcome, code_of, deed_of}
+use Rattle.bay_model.specs.Points.{Past}
+use Rattle.bay_model.specs.Services.{reply, singles_of}
+use Rattle.bay_model.specs.Singles.{Single, arrival, outcomes, after_singles}
+use Rattle.bay_model.specs.Sets.{set_named}
+use Rattle.bay_model.specs.Sizes.{size_of}
+use Rattle.object_model.specs.Tables.{node_id}
+use Rattle.value_store.specs.declared.fault.SetFault.{SetFault}
+use Rattle.value_store.specs.declared.fault.SetFault.TheVariants as faults
+use Rattle.window_core.specs.Points.{at}
+use Rattle.bay_core.specs.Standing.{StandsAt}
+use Rattle.bay_core.specs.State.{State}
+
+-- the reply to a's request at this moment, after all points that the state stands for
+abbrev pub IsReplyAt : State → ℕ → ℕ → Service → Reply → Type 0
+IsReplyAt s moment a service r = (c : Config) (n : ℕ) (past : Past) → StandsAt s c n past
+    → r ≡ reply (configured_model c) past (size_of a past) service (outcomes (configured_model c) a n moment (singles_of (configured_model c) past service) past)
+
+-- and the new state stands for the points of its singles and the arrival of one more
+abbrev pub IsAnswered : State → State → ℕ → ℕ → Service → Reply → Type 0
+IsAnswered old new moment a service r = IsReplyAt old moment a service r
+    × ((c : Config) (n : ℕ) (past : Past) → StandsAt old c n past → StandsAt new c n (arrival n moment ∷ after_singles (configured_model c) a n moment (singles_of (configured_model c) past service) past))
+
+-- no step is counted yet, and what waits for the associations stays
+pub record IsKept (old new : State) : Type 0 where
+  pub config : new.config ≡ old.config
+  pub steps : new.steps ≡ old.steps
+  pub rows : new.rows ≡ old.rows
+
+-- A write from the state at its arrival, of which this comes by the definitions: it is answered so, and the new state stands for its
+-- point and the arrival of one more.
+abbrev pub IsWrite : State → State → (Model → Past → Outcome) → Result (Unit {0}) ℕ → Type 0
+IsWrite old new comes code = (c : Config) (n t : ℕ) (past : Past) → StandsAt old c n (arrival n t ∷ past)
+    → (code ≡ code_of (comes (configured_model c) (arrival n t ∷ past))) × StandsAt new c n (arrival n t ∷ at n t (deed_of (comes (configured_model c) (arrival n t ∷ past))) ∷ past)
+
+-- the same of a's writes, each after those before it
+abbrev pub AreWrites : State → State → ℕ → List Single → List (Result (Unit {0}) ℕ) → Type 0
+AreWrites old new a ss codes = (c : Config) (n t : ℕ) (past : Past) → StandsAt old c n (arrival n t ∷ past)
+    → (codes ≡ map code_of (outcomes (configured_model c) a n t ss past)) × StandsAt new c n (arrival n t ∷ after_singles (configured_model c) a n t ss past)
+
+-- the attribute stands under SE
+abbrev pub is_edited : Access → Bool
+is_edited model.edited = true
+is_edited _ = false
+
+-- the code of a refused write of an attribute; under SE nobody holds the edit
+abbrev pub set_code : Bool → SetFault → ℕ
+set_code edited faults.Kind = 7
+set_code edited faults.ReadOnly = if edited then 2 else 3
+set_code edited faults.TooLong = 11
+
+-- the target and the value of a write that fits the configuration
+abbrev pub IsFit : Config → Target → Value → Type 0
+IsFit c (targets.Node n name) v = (n.0 < length (nodes_of c)) × (is_sound v ≡ true)
+IsFit c _ v = Unit {0}
+
+abbrev pub AreFit : Config → List Write → Type 0
+AreFit c ws = All (λ (w : Write). IsFit c w.target w.value) ws
+
+-- the services that are answered: all but those that define and delete data sets
+abbrev pub IsAnswerable : Service → Type 0
+IsAnswerable (services.Define domain item members) = ⊥
+IsAnswerable (services.Delete scope names) = ⊥
+IsAnswerable _ = Unit {0}
+
+-- writes of a's request at this moment, after all points that the old state stands for: their codes, and the new state stands for
+-- their points and the arrival of one more
+abbrev pub AreWritten : State → State → ℕ → ℕ → List Single → List (Result (Unit {0}) ℕ) → Type 0
+AreWritten old new moment a ss codes = (c : Config) (n : ℕ) (past : Past) → StandsAt old c n past
+    → (codes ≡ map code_of (outcomes (configured_model c) a n moment ss past)) × StandsAt new c n (arrival n moment ∷ after_singles (configured_model c) a n moment ss past)
+
+-- the members of the configured data set of a name
+abbrev pub members_of : Option (Vec NodeId Global) → Option (List NodeId)
+members_of found = option_map (λ (v : Vec NodeId Global). v.items) found
+
+abbrev pub set_members : Config → List ℕ → List ℕ → Option (List NodeId)
+set_members c domain item = option_map (λ (s : DataSet). map node_id s.nodes) (set_named (record { domain = domain; item = item }) (configured_model c).sets)
+
+abbrev pub node_numbers : List NodeId → List ℕ
+node_numbers ns = map (λ (n : NodeId). n.0) ns
+
+-- as many values as nodes, which are there, and sound values
+pub record AreMembersFit (c : Config) (ns : List NodeId) (vs : List Value) : Type 0 where
+  pub count : length ns ≡ length vs
+  pub nodes : All (λ (n : NodeId). n.0 < length (nodes_of c)) ns
+  pub sound : All (λ v. is_sound v ≡ true) vs
