@@ -1,1 +1,3 @@
+-- Texts that were added to, and what the tests of an output tell.
 pub mod PrefixLaws
+pub mod SendableLaws

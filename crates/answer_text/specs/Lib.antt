@@ -1,2 +1,3 @@
--- The lines of answers.
+-- The lines of answers, and which outputs can be sent.
 pub mod Texts
+pub mod Sendable

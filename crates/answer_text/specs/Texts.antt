@@ -1,5 +1,5 @@
--- The answer lines of a direct association.
-use Rattle.std.specs.Prelude.{ℕ, Bool, List, [], ◌∷◌, ◌++◌, codes, decimal, Option, None, Some, Ok, Err, slice_get, if◌then◌else◌}
+-- The answer lines of an association, in its shape.
+use Rattle.std.specs.Prelude.{◌≤◌, ℕ, Bool, List, [], ◌∷◌, ◌++◌, codes, decimal, Option, None, Some, Ok, Err, slice_get, if◌then◌else◌}
 use Rattle.std.specs.List.{flat_map}
 use Rattle.hex.specs.Hex.{encode_lower}
 use Rattle.sv_base.specs.declared.config.Config.{Config}
@@ -7,10 +7,16 @@ use Rattle.sv_base.specs.declared.config.BlockDef.{BlockDef}
 use Rattle.bay_model.specs.Configured.{block_defined}
 use Rattle.bay_model.specs.declared.answer.Answer.{Answer}
 use Rattle.bay_model.specs.declared.answer.Answer.TheVariants as answers
+use Rattle.bay_model.specs.declared.answer.Output.{Output}
 use Rattle.bay_model.specs.declared.answer.Output.TheVariants as outputs
+use Rattle.bay_model.specs.declared.step.Step.{Step}
+use Rattle.bay_model.specs.declared.step.Step.TheVariants as steps
 use Rattle.bay_model.specs.declared.report.Member.{Member}
 use Rattle.bay_model.specs.declared.report.Report.{Report}
 use Rattle.bay_model.specs.declared.report.Reasons.{Reasons}
+use Rattle.bay_answers.specs.Replies.{output_pdus}
+use Rattle.answer_text.specs.declared.shape.Shape.{Shape}
+use Rattle.answer_text.specs.declared.shape.Shape.TheVariants as shapes
 
 abbrev pub letter_if : Bool → ℕ → List ℕ
 letter_if there letter = if there then letter ∷ [] else []
@@ -35,11 +41,40 @@ report_head c a r = decimal a ++ codes " report " ++ block_text (slice_get c.blo
 abbrev pub report_text : Config → ℕ → Report → List ℕ
 report_text c a r = report_head c a r ++ flat_map member_text r.members ++ codes "\n"
 
--- the lines of an answer to association a: a write and a take have one
-abbrev pub answer_lines : Config → ℕ → Answer → List ℕ
-answer_lines c a (answers.Wrote (Ok u)) = decimal a ++ codes " ok\n"
-answer_lines c a (answers.Wrote (Err code)) = decimal a ++ codes " refused " ++ decimal code ++ codes "\n"
-answer_lines c a answers.Empty = decimal a ++ codes " empty\n"
-answer_lines c a answers.Closed = decimal a ++ codes " closed\n"
-answer_lines c a (answers.Taken (outputs.Report r)) = report_text c a r
-answer_lines c a _ = []
+-- a PDU, as a line
+abbrev pub pdu_line : ℕ → List ℕ → List ℕ
+pdu_line a octets = decimal a ++ codes " pdu " ++ encode_lower octets ++ codes "\n"
+
+-- What association a took: a direct one tells reports, one of MMS each PDU. What else a direct association may take has no
+-- line: a reply or a termination is none of its own.
+abbrev pub output_lines : Config → Shape → ℕ → Output → List ℕ
+output_lines c shapes.Direct a (outputs.Report r) = report_text c a r
+output_lines c shapes.Direct a _ = []
+output_lines c (shapes.Mms size) a output = flat_map (pdu_line a) (output_pdus c size output)
+
+-- the lines of an answer to association a: a write has one, and so has a take that gives nothing
+abbrev pub answer_lines : Config → Shape → ℕ → Answer → List ℕ
+answer_lines c shape a (answers.Wrote (Ok u)) = decimal a ++ codes " ok\n"
+answer_lines c shape a (answers.Wrote (Err code)) = decimal a ++ codes " refused " ++ decimal code ++ codes "\n"
+answer_lines c shape a answers.Empty = decimal a ++ codes " empty\n"
+answer_lines c shape a answers.Closed = decimal a ++ codes " closed\n"
+answer_lines c shape a (answers.Taken output) = output_lines c shape a output
+answer_lines c shape a _ = []
+
+-- the association that a step is of, and 0 where it is of none
+abbrev pub step_association : Step → ℕ
+step_association (steps.Open a size writer) = a.0
+step_association (steps.Ask a r) = a.0
+step_association (steps.Write a b comp v) = a.0
+step_association (steps.Take a) = a.0
+step_association (steps.Lost a) = a.0
+step_association _ = 0
+
+-- the text of one step's answer, in the shape of its association
+abbrev pub lines_of : Config → Shape → Step → Answer → List ℕ
+lines_of c shape step answer = answer_lines c shape (step_association step) answer
+
+-- PDUs of an association have a size of 1024 to 65000 octets
+abbrev pub IsShape : Shape → Type 0
+IsShape shapes.Direct = Unit {0}
+IsShape (shapes.Mms size) = (1024 ≤ size) × (size ≤ 65000)

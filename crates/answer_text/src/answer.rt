@@ -1,20 +1,22 @@
 //! The lines of an answer.
 
-ghost use Rattle.std.specs.Prelude.{◌≡◌, ◌++◌, decimal, length, take, OnOk, OnErr};
+ghost use Rattle.std.specs.Prelude.{◌≡◌, ◌≤◌, ◌++◌, decimal, length, take, OnOk, OnErr};
 ghost use Rattle.sv_base.specs.declared.config.Config.{Config};
 ghost use Rattle.bay_model.specs.declared.answer.Answer.TheVariants.{Wrote};
-ghost use Rattle.answer_text.specs.Texts.{answer_lines};
+ghost use Rattle.answer_text.specs.Texts.{step_association, output_lines, answer_lines, lines_of as text_of, IsShape};
 
 use crate::number::push_number;
+use crate::pdus::push_output;
 use crate::report::push_report;
-use bay_model::{Answer, Output};
+use crate::shape::Shape;
+use bay_model::{Answer, Output, Step};
 use object_model::Model;
-use std::alloc::AllocError;
-use sv_base::ActorNo;
+use std::alloc::{AllocError, Global};
+use sv_base::AssocNo;
 
 /// Writes the outcome of a write.
-fn push_outcome(out: &mut Vec<u8>, a: ActorNo, outcome: Result<(), u8>) -> Result<(), AllocError>
-    ensures ok { (c : Config) → OnOk result (out.new.items ≡ out.old.items ++ answer_lines c a.0 (Wrote outcome)) }
+fn push_outcome(out: &mut Vec<u8>, a: AssocNo, outcome: Result<(), u8>) -> Result<(), AllocError>
+    ensures ok { (c : Config) (shape : Shape) → OnOk result (out.new.items ≡ out.old.items ++ answer_lines c shape a.0 (Wrote outcome)) }
     ensures err { OnErr result (take (length out.old.items) out.new.items ≡ out.old.items) }
 {
     push_number(out, u64::from(a.0))?;
@@ -30,7 +32,7 @@ fn push_outcome(out: &mut Vec<u8>, a: ActorNo, outcome: Result<(), u8>) -> Resul
 }
 
 /// Writes an answer of one word.
-fn push_word(out: &mut Vec<u8>, a: ActorNo, word: &[u8]) -> Result<(), AllocError>
+fn push_word(out: &mut Vec<u8>, a: AssocNo, word: &[u8]) -> Result<(), AllocError>
     ensures ok { OnOk result (out.new.items ≡ out.old.items ++ (decimal a.0 ++ word.now)) }
     ensures err { OnErr result (take (length out.old.items) out.new.items ≡ out.old.items) }
 {
@@ -38,37 +40,78 @@ fn push_word(out: &mut Vec<u8>, a: ActorNo, word: &[u8]) -> Result<(), AllocErro
     out.extend_from_slice(word)
 }
 
-/// Writes the lines of an answer to a step of an association's.
-fn push_lines(
+/// Writes what an association took.
+fn push_taken(
+    alloc: Global,
     out: &mut Vec<u8>,
     model: &Model,
-    a: ActorNo,
+    shape: Shape,
+    a: AssocNo,
+    output: &Output,
+) -> Result<(), AllocError>
+    requires { IsShape shape }
+    ensures ok { OnOk result (out.new.items ≡ out.old.items ++ output_lines model.now shape a.0 output.now) }
+    ensures err { OnErr result (take (length out.old.items) out.new.items ≡ out.old.items) }
+{
+    match (shape, output) {
+        (Shape::Mms(size), _) => push_output(alloc, out, model, size, a, output),
+        (Shape::Direct, Output::Report(report)) => push_report(out, model, a, report),
+        (Shape::Direct, _) => Ok(()),
+    }
+}
+
+/// Writes the lines of an answer to an association.
+fn push_lines(
+    alloc: Global,
+    out: &mut Vec<u8>,
+    model: &Model,
+    shape: Shape,
+    a: AssocNo,
     answer: &Answer,
 ) -> Result<(), AllocError>
-    ensures ok { OnOk result (out.new.items ≡ out.old.items ++ answer_lines model.now a.0 answer.now) }
+    requires { IsShape shape }
+    ensures ok { OnOk result (out.new.items ≡ out.old.items ++ answer_lines model.now shape a.0 answer.now) }
     ensures err { OnErr result (take (length out.old.items) out.new.items ≡ out.old.items) }
 {
     match answer {
         Answer::Wrote(outcome) => push_outcome(out, a, *outcome),
         Answer::Empty => push_word(out, a, b" empty\n"),
         Answer::Closed => push_word(out, a, b" closed\n"),
-        Answer::Taken(Output::Report(report)) => push_report(out, model, a, report),
+        Answer::Taken(output) => push_taken(alloc, out, model, shape, a, output),
         _ => Ok(()),
     }
 }
 
-/// Adds the lines of an answer to a step of an association's. Fails for want of memory alone, and then `out` stays as it was.
-pub fn push_answer(
-    out: &mut Vec<u8>,
+/// The association that a step is of, and 0 where it is of none.
+fn association(step: &Step) -> AssocNo
+    ensures { result.0 ≡ step_association step.now }
+{
+    match step {
+        Step::Open { a, .. } => *a,
+        Step::Ask(a, _) => *a,
+        Step::Write(a, ..) => *a,
+        Step::Take(a) => *a,
+        Step::Lost(a) => *a,
+        _ => AssocNo(0),
+    }
+}
+
+/// Adds the lines of a step's answer, in the shape of its association. Fails for want of memory alone, and then `out` stays
+/// as it was.
+pub fn lines_of(
+    alloc: Global,
     model: &Model,
-    a: ActorNo,
+    shape: Shape,
+    step: &Step,
     answer: &Answer,
+    out: &mut Vec<u8>,
 ) -> Result<(), AllocError>
-    ensures ok { OnOk result (out.new.items ≡ out.old.items ++ answer_lines model.now a.0 answer.now) }
+    requires { IsShape shape }
+    ensures ok { OnOk result (out.new.items ≡ out.old.items ++ text_of model.now shape step.now answer.now) }
     ensures err { OnErr result (out.new.items ≡ out.old.items) }
 {
     let before = out.len();
-    let done = push_lines(out, model, a, answer);
+    let done = push_lines(alloc, out, model, shape, association(step), answer);
     if done.is_err() {
         out.truncate(before);
     }

@@ -1,11 +1,17 @@
-//! The text of answers: the lines in which a direct association is answered.
+//! The text of answers: the lines in which an association is answered, in its shape.
 #![tactic(auto)]
 
 // the lines of an answer
 mod answer;
+mod pdus;
 mod report;
+mod shape;
 
-pub use answer::push_answer;
+pub use answer::lines_of;
+pub use shape::Shape;
+
+// whether an output has PDUs
+mod sendable;
 
 // numbers, wherever a line has them
 mod number;

@@ -8,7 +8,7 @@ use crate::number::{push_hex, push_number};
 use bay_model::{Member, Reasons, Report};
 use object_model::Model;
 use std::alloc::AllocError;
-use sv_base::{ActorNo, BlockNo};
+use sv_base::{AssocNo, BlockNo};
 
 /// Writes a letter where a reason is there.
 fn push_letter(out: &mut Vec<u8>, there: bool, letter: u8) -> Result<(), AllocError>
@@ -81,7 +81,7 @@ fn push_block(out: &mut Vec<u8>, model: &Model, block: BlockNo) -> Result<(), Al
 fn push_head(
     out: &mut Vec<u8>,
     model: &Model,
-    a: ActorNo,
+    a: AssocNo,
     report: &Report,
 ) -> Result<(), AllocError>
     ensures ok { OnOk result (out.new.items ≡ out.old.items ++ report_head model.now a.0 report.now) }
@@ -104,7 +104,7 @@ fn push_head(
 pub fn push_report(
     out: &mut Vec<u8>,
     model: &Model,
-    a: ActorNo,
+    a: AssocNo,
     report: &Report,
 ) -> Result<(), AllocError>
     ensures ok { OnOk result (out.new.items ≡ out.old.items ++ report_text model.now a.0 report.now) }

@@ -1,17 +1,128 @@
 -- The reply to a request, and the bay at the arrival of its point.
-use Rattle.std.proofs.Common.{◌∷◌, ℕ}
+use Rattle.std.proofs.Common.{◌≡◌, ◌<◌, ◌∙◌, ℕ, suc, Bool, true, false, List, [], ◌∷◌, ◌++◌, append-nil, map, length, Option, None, Some, Result, refl, ap, sym, subst, arith, cond, if◌then◌else◌}
+use Rattle.std.specs.Prelude.{◌==◌, ◌&&◌, nat_lt}
+use Rattle.std.specs.Option.{option_map, option_map_or}
+use Rattle.std.specs.List.{All, list_all}
+use Rattle.std.specs.Str.{bytes_eq}
+use Rattle.std.proofs.lemmas.Bool.{and_parts}
+use Rattle.std.proofs.lemmas.Bool.Decides.{nat_tests}
+use Rattle.std.proofs.lemmas.List.{length-map}
+use Rattle.list_laws.proofs.Options.{some_is}
+use Rattle.std.proofs.lemmas.List.Elements.{All-nil, All-cons, All-map}
+use Rattle.sv_base.proofs.RowLaws.{seen-value}
+use Rattle.sv_base.specs.Same.{value_of, values_of}
+use Rattle.sv_base.specs.Tree.{Row, none, more}
 use Rattle.sv_base.specs.declared.config.Config.{Config}
+use Rattle.sv_base.specs.declared.numbers.AssocNo.{AssocNo}
+use Rattle.sv_base.specs.declared.numbers.NodeId.{NodeId}
+use Rattle.sv_base.specs.declared.value.Value.{Value}
 use Rattle.bay_model.specs.declared.reply.Reply.{Reply}
+use Rattle.bay_model.specs.declared.reply.Reply.TheVariants as replies
+use Rattle.bay_model.specs.declared.request.Request.{Request}
 use Rattle.bay_model.specs.declared.request.Service.{Service}
-use Rattle.bay_model.specs.Named.{configured_model}
+use Rattle.bay_model.specs.declared.request.Service.TheVariants as services
+use Rattle.bay_model.specs.declared.request.SetName.{SetName}
+use Rattle.bay_model.specs.declared.request.Target.{Target}
+use Rattle.bay_model.specs.declared.request.Target.TheVariants as targets
+use Rattle.bay_model.specs.declared.request.Write.{Write}
+use Rattle.bay_model.specs.declared.step.Step.TheVariants as steps
+use Rattle.bay_model.specs.Model.{DataSet}
+use Rattle.bay_model.specs.Named.{configured_model, nodes}
 use Rattle.bay_model.specs.Points.{Past}
-use Rattle.bay_model.specs.Services.{singles_of}
-use Rattle.bay_model.specs.Singles.{arrival}
-use Rattle.bay_replies.specs.Asking.{IsReading}
-use Rattle.bay_core.specs.Asked.{IsAnswered, IsReplyAt}
+use Rattle.bay_model.specs.Services.{set_found, set_name, singles_of, write_set_reply, written_set}
+use Rattle.bay_model.specs.Sets.{set_named, is_named}
+use Rattle.bay_model.specs.Singles.{Single, arrival, outcomes, after_singles, write_of, writes_of}
+use Rattle.object_model.specs.Fits.{is_association, is_sound_seen, are_sound, fits, is_sound, service_fits, set_fits, target_fits, write_fits, name_fits}
+use Rattle.object_model.specs.declared.fitting.Counts.{Counts}
+use Rattle.object_model.specs.Nodes.{node_rows}
+use Rattle.object_model.specs.Tables.{node_id, set_row, set_rows}
+use Rattle.object_model.proofs.TableLaws.{count-rows}
+use Rattle.data_sets.specs.Books.{Booked, Book, booked, number_named, opened, set_at}
+use Rattle.bay_config.specs.Servable.{IsServable, IsServedSet}
+use Rattle.bay_replies.specs.Asking.{IsFitting, IsReading}
+use Rattle.bay_core.specs.Asked.{AreFit, AreMembersFit, AreWrites, AreWritten, IsAnswerable, IsAnswered, IsFit, IsReplyAt, node_numbers, set_members}
 use Rattle.bay_core.specs.Standing.{StandsAt}
 use Rattle.bay_core.specs.State.{State}
 use Rattle.bay_core.proofs.AskLaws.{reads-of, singles-stand}
+use Rattle.bay_core.proofs.LentLaws.{back}
+use Rattle.bay_core.proofs.ShapeLaws.{found}
+
+-- ---- a request that fits
+
+abbrev counts_of : Config → Counts
+counts_of c = record { nodes = length (node_rows c); blocks = length c.blocks; controls = length c.controls }
+
+pub fitting : (c : Config) (a : AssocNo) (r : Request) → fits c (steps.Ask a r) ≡ true → IsFitting c r.service
+fitting c a r is = (and_parts (is_association a.0) (service_fits (counts_of c) r.service) is).1
+
+fit-target : (c : Config) (t : Target) (v : Value) → target_fits (counts_of c) t ≡ true → is_sound v ≡ true → IsFit c t v
+fit-target c (targets.Node n name) v is sound =
+    let below : nat_lt n.0 (length (node_rows c)) ≡ true = (and_parts (nat_lt n.0 (length (node_rows c))) (name_fits name) is).0 in
+    let there : n.0 < length (node_rows c) = grind (arith, nat_tests, below) in
+    (omega (arith, there, count-rows c), sound)
+fit-target c (targets.Missing name) v is sound = tt
+fit-target c (targets.Alternate name) v is sound = tt
+
+abbrev IsWriteFit : Config → Write → Type 0
+IsWriteFit c w = IsFit c w.target w.value
+
+fit-writes : (c : Config) (ws : List Write) → list_all (write_fits (counts_of c)) ws ≡ true → All (IsWriteFit c) ws
+fit-writes c [] is = All-nil (IsWriteFit c)
+fit-writes c (w ∷ ws) is =
+    let parts = and_parts (write_fits (counts_of c) w) (list_all (write_fits (counts_of c)) ws) is in
+    let own = and_parts (target_fits (counts_of c) w.target) (is_sound w.value) parts.0 in
+    All-cons (IsWriteFit c) w ws (fit-target c w.target w.value own.0 own.1) (fit-writes c ws parts.1)
+
+pub writes-fit : (c : Config) (ws : List Write) → IsFitting c (services.WriteVars ws) → AreFit c ws
+writes-fit c ws is = fit-writes c ws is
+
+sound-values : (r : Row) → are_sound r ≡ true → All (λ v. is_sound v ≡ true) (values_of r)
+sound-values none is = All-nil (λ v. is_sound v ≡ true)
+sound-values (more s r) is =
+    let parts = and_parts (is_sound_seen s) (are_sound r) is in
+    All-cons (λ v. is_sound v ≡ true) (value_of s) (values_of r) (ap is_sound_seen (seen-value s) ∙ parts.0) (sound-values r parts.1)
+
+-- ---- the data set of a name
+
+-- in the book, as in the model
+suc-members : (r : Booked) (rest : List Booked) (n : ℕ) (o : Option ℕ)
+    → option_map (λ k. (set_at (record { configured = suc n; sets = r ∷ rest }) k).nodes) (option_map suc o) ≡ option_map (λ k. (set_at (record { configured = n; sets = rest }) k).nodes) o
+suc-members r rest n None = refl
+suc-members r rest n (Some k) = refl
+
+members-booked : (name : SetName) (ss : List DataSet) → option_map (λ k. (set_at (opened (map set_row ss)) k).nodes) (number_named name (opened (map set_row ss))) ≡ option_map (λ (s : DataSet). map node_id s.nodes) (set_named name ss)
+members-booked name [] = refl
+members-booked name (s ∷ ss) = by (bytes_eq name.domain s.domain && bytes_eq name.item s.item) (members-booked name ss) where
+  by : (t : Bool) → option_map (λ k. (set_at (opened (map set_row ss)) k).nodes) (number_named name (opened (map set_row ss))) ≡ option_map (λ (s : DataSet). map node_id s.nodes) (set_named name ss)
+      → option_map (λ k. (set_at (opened (set_row s ∷ map set_row ss)) k).nodes) (if t then Some 0 else option_map suc (number_named name (opened (map set_row ss))))
+      ≡ option_map (λ (s : DataSet). map node_id s.nodes) (cond t (Some s) (set_named name ss))
+  by true same = refl
+  by false same = suc-members (booked (set_row s)) (map booked (map set_row ss)) (length (map set_row ss)) (number_named name (opened (map set_row ss))) ∙ same
+
+pub found-members : (c : Config) (book : Book) (name : SetName) → book ≡ opened (set_rows c) → option_map (λ k. (set_at book k).nodes) (number_named name book) ≡ set_members c name.domain name.item
+found-members c book name is = subst (λ b. option_map (λ k. (set_at b k).nodes) (number_named name b) ≡ set_members c name.domain name.item) (sym is) (members-booked name (configured_model c).sets)
+
+-- the set behind the members that were found
+none-named : (o : Option DataSet) → option_map (λ (s : DataSet). map node_id s.nodes) o ≡ None → o ≡ None
+none-named None is = refl
+none-named (Some s) is = cc
+
+some-named : (o : Option DataSet) (ns : List NodeId) → option_map (λ (s : DataSet). map node_id s.nodes) o ≡ Some ns → (s : DataSet) × (o ≡ Some s) × (map node_id s.nodes ≡ ns)
+some-named None ns is = cc
+some-named (Some s) ns is = (s, refl, some_is (map node_id s.nodes) ns is)
+
+count-named : (s : DataSet) (ns : List NodeId) → map node_id s.nodes ≡ ns → length s.nodes ≡ length ns
+count-named s ns same = sym (length-map s.nodes node_id) ∙ ap (λ (l : List NodeId). length l) same
+
+-- ---- the replies
+
+module _ (old : State) (domain item : List ℕ) where
+  -- the set that is found, while no set is defined
+  found-told : (c : Config) (n : ℕ) (past : Past) (o : Option DataSet) → set_named (set_name domain item) (configured_model old.config).sets ≡ o → StandsAt old c n past → set_found (configured_model c) past (set_name domain item) ≡ o
+  found-told c n past o is st =
+      ap (λ (ds : List DataSet). set_named (set_name domain item) ((configured_model c).sets ++ ds)) st.sets
+      ∙ (ap (set_named (set_name domain item)) (append-nil (configured_model c).sets)
+      ∙ (ap (λ (d : Config). set_named (set_name domain item) (configured_model d).sets) (sym st.is_config) ∙ is))
 
 module _ (old new : State) (moment a : ℕ) (arrived : (c : Config) (n : ℕ) (past : Past) → StandsAt old c n past → StandsAt new c n (arrival n moment ∷ past)) where
   pub read-answered : (service : Service) (r : Reply) → IsReading service → IsReplyAt old moment a service r → IsAnswered old new moment a service r
@@ -19,3 +130,80 @@ module _ (old new : State) (moment a : ℕ) (arrived : (c : Config) (n : ℕ) (p
     is,
     λ c n past st. singles-stand new c a n moment (singles_of (configured_model c) past service) past (reads-of (configured_model c) past service reading) (arrived c n past st),
   )
+
+  module _ (domain item : List ℕ) (vs : Row) where
+    abbrev service : Service
+    service = services.WriteSet domain item vs
+
+    -- nothing is written
+    unwritten : (r : Reply) (o : Option DataSet) → set_named (set_name domain item) (configured_model old.config).sets ≡ o → option_map_or (λ (s : DataSet). written_set s vs) o [] ≡ [] → r ≡ write_set_reply vs [] o
+        → IsAnswered old new moment a service r
+    unwritten r o is empty same = (
+      (λ c n past st.
+          let m = configured_model c in
+          subst (λ p. r ≡ write_set_reply vs (outcomes m a n moment (option_map_or (λ (s : DataSet). written_set s vs) p []) past) p) (sym (found-told old domain item c n past o is st))
+          (subst (λ ss. r ≡ write_set_reply vs (outcomes m a n moment ss past) o) (sym empty) same)),
+      (λ c n past st.
+          let m = configured_model c in
+          subst (λ p. StandsAt new c n (arrival n moment ∷ after_singles m a n moment (option_map_or (λ (s : DataSet). written_set s vs) p []) past)) (sym (found-told old domain item c n past o is st))
+          (subst (λ ss. StandsAt new c n (arrival n moment ∷ after_singles m a n moment ss past)) (sym empty) (arrived c n past st))),
+    )
+
+    pub no-set : set_members old.config domain item ≡ None → IsAnswered old new moment a service (replies.Error 7 2)
+    no-set none_ = unwritten (replies.Error 7 2) None (none-named (set_named (set_name domain item) (configured_model old.config).sets) none_) refl refl
+
+    pub other-count : (ns : List NodeId) → set_members old.config domain item ≡ Some ns → (length ns == length (values_of vs)) ≡ false → IsAnswered old new moment a service (replies.Reject 3)
+    other-count ns some differs =
+        let s = some-named (set_named (set_name domain item) (configured_model old.config).sets) ns some in
+        let test : (length s.0.nodes == length (values_of vs)) ≡ false = ap (λ k. k == length (values_of vs)) (count-named s.0 ns s.2) ∙ differs in
+        unwritten (replies.Reject 3) (Some s.0) s.1 (rw test refl) (rw test refl)
+
+module _ (old new : State) (moment a : ℕ) (domain item : List ℕ) (vs : Row) where
+  pub members-answered : (ns : List NodeId) (codes : List (Result (Unit {0}) ℕ)) → set_members old.config domain item ≡ Some ns → (length ns == length (values_of vs)) ≡ true
+      → AreWritten old new moment a (writes_of (node_numbers ns) (values_of vs)) codes → IsAnswered old new moment a (services.WriteSet domain item vs) (replies.Wrote codes)
+  members-answered ns codes some count written =
+      let s = some-named (set_named (set_name domain item) (configured_model old.config).sets) ns some in
+      let test : (length s.0.nodes == length (values_of vs)) ≡ true = ap (λ k. k == length (values_of vs)) (count-named s.0 ns s.2) ∙ count in
+      let numbers : node_numbers ns ≡ s.0.nodes = ap node_numbers (sym s.2) ∙ back s.0.nodes in
+      let singles : written_set s.0 vs ≡ writes_of (node_numbers ns) (values_of vs) = rw test (ap (λ l. writes_of l (values_of vs)) (sym numbers)) in (
+        (λ c n past st.
+            let m = configured_model c in
+            subst (λ p. replies.Wrote codes ≡ write_set_reply vs (outcomes m a n moment (option_map_or (λ (s : DataSet). written_set s vs) p []) past) p) (sym (found-told old domain item c n past (Some s.0) s.1 st))
+            (subst (λ ss. replies.Wrote codes ≡ write_set_reply vs (outcomes m a n moment ss past) (Some s.0)) (sym singles) (rw test (ap replies.Wrote (written c n past st).0)))),
+        (λ c n past st.
+            let m = configured_model c in
+            subst (λ p. StandsAt new c n (arrival n moment ∷ after_singles m a n moment (option_map_or (λ (s : DataSet). written_set s vs) p []) past)) (sym (found-told old domain item c n past (Some s.0) s.1 st))
+            (subst (λ ss. StandsAt new c n (arrival n moment ∷ after_singles m a n moment ss past)) (sym singles) (written c n past st).1)),
+      )
+
+-- ---- the members of a set can be written
+
+members-there : (c : Config) (s : DataSet) → IsServedSet c s → All (λ (n : NodeId). n.0 < length (nodes c)) (map node_id s.nodes)
+members-there c s served = All-map (λ (n : NodeId). n.0 < length (nodes c)) node_id s.nodes (λ k d below. (served.members k d below).there)
+
+pub members-fit : (c : Config) (domain item : List ℕ) (vs : Row) (ns : List NodeId) → IsServable c → IsFitting c (services.WriteSet domain item vs) → set_members c domain item ≡ Some ns → (length ns == length (values_of vs)) ≡ true
+    → AreMembersFit c ns (values_of vs)
+members-fit c domain item vs ns served fit some count =
+    let s = some-named (set_named (set_name domain item) (configured_model c).sets) ns some in
+    record {
+      count = grind (arith, nat_tests, count);
+      nodes = subst (All (λ (n : NodeId). n.0 < length (nodes c))) s.2 (members-there c s.0 (found (IsServedSet c) (is_named (set_name domain item)) (configured_model c).sets served.sets s.0 s.1));
+      sound = sound-values vs (and_parts (set_fits domain item) (are_sound vs) fit).1;
+    }
+
+-- a service that isn't a write
+pub reading-of : (s : Service) → IsAnswerable s → ((ws : List Write) → s ≡ services.WriteVars ws → ⊥) → ((domain item : List ℕ) (vs : Row) → s ≡ services.WriteSet domain item vs → ⊥) → IsReading s
+reading-of (services.WriteVars ws) is one other = absurd (one ws refl)
+reading-of (services.WriteSet domain item vs) is one other = absurd (other domain item vs refl)
+reading-of (services.Define domain item members) is one other = absurd is
+reading-of (services.Delete scope names) is one other = absurd is
+reading-of _ is one other = tt
+
+-- ---- writes of a request, from its arrival
+
+pub writes-written : (old z new : State) (moment a : ℕ) (ss : List Single) (codes : List (Result (Unit {0}) ℕ)) → ((c : Config) (n : ℕ) (past : Past) → StandsAt old c n past → StandsAt z c n (arrival n moment ∷ past))
+    → AreWrites z new a ss codes → AreWritten old new moment a ss codes
+writes-written old z new moment a ss codes arrived writes = λ c n past st. writes c n moment past (arrived c n past st)
+
+pub variables-answered : (old new : State) (moment a : ℕ) (ws : List Write) (codes : List (Result (Unit {0}) ℕ)) → AreWritten old new moment a (map write_of ws) codes → IsAnswered old new moment a (services.WriteVars ws) (replies.Wrote codes)
+variables-answered old new moment a ws codes written = ((λ c n past st. ap replies.Wrote (written c n past st).0), (λ c n past st. (written c n past st).1))

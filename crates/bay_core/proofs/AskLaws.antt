@@ -1,5 +1,5 @@
 -- A request that writes nothing: its single reads leave the bay as it is, and its reply waits.
-use Rattle.std.proofs.Common.{◌≡◌, ◌≢◌, ◌≤◌, ℕ, suc, max, Bool, true, false, not, List, [], ◌∷◌, map, Option, None, Some, Result, Ok, Err, length, refl, ap, ap₂, sym, ◌∙◌, subst, arith, unwrap_or}
+use Rattle.std.proofs.Common.{◌≡◌, ◌≢◌, ℕ, suc, Bool, true, false, not, List, [], ◌∷◌, map, Option, None, Some, Result, Ok, Err, length, refl, ap, ap₂, sym, ◌∙◌, subst, arith, unwrap_or}
 use Rattle.std.specs.Prelude.{◌==◌, nat_le, if◌then◌else◌}
 use Rattle.std.specs.Option.{option_map, option_map_or}
 use Rattle.std.specs.List.{filter_map}
@@ -13,7 +13,6 @@ use Rattle.bay_model.specs.declared.answer.Answer.TheVariants as answers
 use Rattle.bay_model.specs.declared.answer.Output.{Output}
 use Rattle.bay_model.specs.declared.components.Comp.{Comp}
 use Rattle.bay_model.specs.declared.answer.Output.TheVariants as outputs
-use Rattle.bay_model.specs.declared.control.Act.{Act}
 use Rattle.bay_model.specs.declared.control.ApplError.{ApplError}
 use Rattle.bay_model.specs.declared.reply.Reply.{Reply}
 use Rattle.bay_model.specs.declared.request.Request.{Request}
@@ -41,17 +40,15 @@ use Rattle.bay_model.specs.Model.{Model, DataSet, Access, reported, writable, ac
 use Rattle.bay_model.specs.Named.{configured_model}
 use Rattle.bay_model.specs.Outcomes.{Outcome, gave, did, refused, deed_of, error_in, first_code}
 use Rattle.bay_model.specs.Outcomes as came
-use Rattle.bay_model.specs.Points.{Deed, Change, Past, Point, now, nothing, put, copied, wrote, called, selected_control, answered, unchanged}
+use Rattle.bay_model.specs.Points.{Deed, Change, Past, nothing, put, copied, wrote, called, selected_control, answered, unchanged}
 use Rattle.bay_model.specs.Reads.{outcome_of_read, read_role, read_node, read_tree}
 use Rattle.bay_model.specs.Services.{reply, singles_of, set_found, set_name, change_of}
 use Rattle.bay_model.specs.Singles.{Single, reads, writes, fails, read_of, arrival, outcome_of, outcome_at, outcomes, after_single, after_singles, act_of, acts_in}
 use Rattle.bay_model.specs.Sizes.{size_of}
 use Rattle.bay_model.specs.Waiting as queue
 use Rattle.bay_model.specs.Waiting.{put_by, tests, tests_of, waiting_replies}
-use Rattle.assoc_table.specs.declared.waiting.Waiting.{Waiting}
 use Rattle.assoc_table.specs.declared.waiting.Waiting.TheVariants as waits
 use Rattle.assoc_table.specs.declared.waiting.Ends.{Ends}
-use Rattle.assoc_table.specs.Coming.{Coming}
 use Rattle.assoc_table.specs.Seats.{Row, replies}
 use Rattle.assoc_table.specs.Standing.{Stands as AssociationsStand, ends_of}
 use Rattle.assoc_table.specs.Tables.{IsNumber, row_of, extended}

@@ -1,27 +1,20 @@
 -- What a bay lends to a reply.
-use Rattle.std.proofs.Common.{◌≡◌, ◌≢◌, ◌<◌, ◌∙◌, ℕ, zero, suc, List, [], ◌∷◌, ◌++◌, map, length, max, true, refl, ap, sym, subst, arith, append-nil, unwrap_or}
+use Rattle.std.proofs.Common.{◌≡◌, ◌≢◌, ◌<◌, ◌∙◌, ℕ, zero, suc, List, [], ◌∷◌, ◌++◌, map, length, max, refl, ap, sym, subst, arith, append-nil, unwrap_or}
 use Rattle.std.proofs.lemmas.List.{length-map}
 use Rattle.std.specs.Prelude.{slice_index_or}
 use Rattle.sv_base.specs.declared.config.Config.{Config}
 use Rattle.sv_base.specs.declared.config.SetDef.{SetDef}
-use Rattle.sv_base.specs.declared.numbers.AssocNo.{AssocNo}
 use Rattle.bay_rooms.specs.Rooms.{Filled}
-use Rattle.bay_model.specs.declared.request.Request.{Request}
-use Rattle.bay_model.specs.declared.tables.SetRow.{SetRow}
-use Rattle.bay_model.specs.declared.step.Step.TheVariants as steps
 use Rattle.bay_model.specs.Generated.{within}
-use Rattle.bay_model.specs.Model.{Model, DataSet, Node}
+use Rattle.bay_model.specs.Model.{DataSet, Node}
 use Rattle.bay_model.specs.Named.{configured_model, nodes, set_defined}
 use Rattle.bay_model.specs.Points.{Past}
-use Rattle.bay_model.specs.Sets.{sets, dynamic}
-use Rattle.object_model.specs.Fits.{fits}
-use Rattle.object_model.specs.Nodes.{node_rows}
+use Rattle.bay_model.specs.Sets.{dynamic}
 use Rattle.object_model.specs.Tables.{node_id, set_row, set_rows}
-use Rattle.data_sets.specs.Books.{Booked, Book, booked, no_set, opened, set_at}
+use Rattle.data_sets.specs.Books.{Book, booked, no_set, opened}
 use Rattle.data_sets.specs.Standing.{data_set}
 use Rattle.value_store.specs.Stored.{Stored}
 use Rattle.report_block.specs.declared.block.ReportBlock.{ReportBlock}
-use Rattle.bay_replies.specs.Asking.{IsFitting}
 use Rattle.bay_replies.specs.Standing.{IsReplyTo, IsServed, SetsStand, StandAt}
 use Rattle.std.specs.Option.{option_map}
 use Rattle.assoc_table.specs.declared.waiting.Ends.{Ends}
@@ -34,7 +27,6 @@ use Rattle.report_block.specs.Standing.{BlocksStand}
 use Rattle.value_store.specs.Wholes.{Stands as ValuesStand}
 use Rattle.bay_core.specs.Asked.{IsReplyAt}
 use Rattle.bay_core.proofs.AskLaws.{size-told}
-use Rattle.bay_core.specs.Standing.{StandsAt}
 use Rattle.bay_core.specs.State.{State, IsFurnished}
 use Rattle.bay_core.specs.declared.watch.Watch.{Watch}
 use Rattle.bay_core.proofs.BookLaws.{sets-lent}

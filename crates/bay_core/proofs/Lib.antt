@@ -30,6 +30,7 @@ pub mod EventLaws
 pub mod SettingLaws
 -- writes
 pub mod WriteLaws
+pub mod SingleLaws
 -- reports
 pub mod TakeLaws
 pub mod TakenLaws

@@ -1,6 +1,6 @@
 -- A step of one point: the state of a bay from its arrival to what its deed makes of it.
-use Rattle.std.proofs.Common.{◌≡◌, ◌≤◌, ℕ, suc, max, Bool, true, false, List, [], ◌∷◌, None, refl, ap, arith, ◌∙◌, sym, subst}
-use Rattle.std.specs.Prelude.{length, if◌then◌else◌, unwrap_or}
+use Rattle.std.proofs.Common.{◌≡◌, ◌≤◌, ℕ, suc, List, [], ◌∷◌, None, refl, ap, arith, ◌∙◌, sym, subst}
+use Rattle.std.specs.Prelude.{length, unwrap_or}
 use Rattle.sv_base.specs.declared.config.Config.{Config}
 use Rattle.bay_model.specs.Model.{Model}
 use Rattle.bay_model.specs.Named.{configured_model}

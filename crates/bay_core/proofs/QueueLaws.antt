@@ -1,20 +1,18 @@
 -- What waits for an association, by the rows of a bay.
-use Rattle.std.proofs.Common.{◌≡◌, ℕ, suc, ◌-◌, true, List, [], ◌∷◌, ◌++◌, map, drop, Option, None, Some, length, refl, ap, sym, subst, ◌∙◌, arith}
-use Rattle.std.specs.Prelude.{slice_get, slice_index_or}
-use Rattle.std.specs.Option.{option_map}
+use Rattle.std.proofs.Common.{◌≡◌, ℕ, suc, ◌-◌, List, [], ◌∷◌, map, drop, None, Some, refl, ap, sym, subst, ◌∙◌}
+use Rattle.std.specs.Prelude.{slice_get}
 use Rattle.std.specs.List.{All}
 use Rattle.std.proofs.lemmas.List.{set-get_or}
-use Rattle.std.proofs.lemmas.List.Elements.{All-nil, All-cons, All-head, All-tail, All-append, All-set}
+use Rattle.std.proofs.lemmas.List.Elements.{All-nil, All-head, All-tail, All-set}
 use Rattle.list_laws.proofs.Places.{at-or}
 use Rattle.bay_model.specs.declared.answer.Output.{Output}
 use Rattle.bay_model.specs.Model.{Model}
 use Rattle.bay_model.specs.Points.{Past}
 use Rattle.bay_model.specs.Waiting as queue
-use Rattle.assoc_table.specs.declared.waiting.Ends.{Ends}
 use Rattle.assoc_table.specs.declared.waiting.Waiting.{Waiting}
 use Rattle.assoc_table.specs.declared.waiting.Waiting.TheVariants.{Reply, Termination}
 use Rattle.assoc_table.specs.Seats.{Row, closed, replies}
-use Rattle.assoc_table.specs.Tables.{IsNumber, row_of, with_row, started, ended, extended, taken}
+use Rattle.assoc_table.specs.Tables.{IsNumber, row_of, with_row, taken}
 use Rattle.assoc_table.specs.Standing.{Stands as AssociationsStand, waiting_of}
 use Rattle.bay_core.specs.Queued.{IsReply, HoldReplies}
 

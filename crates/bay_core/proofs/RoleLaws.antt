@@ -1,6 +1,6 @@
 -- What stands at the names of a configuration without controls and setting groups: an attribute or a component of a report block,
 -- whose number is that of one, or a structure (IEC 61850-8-1, the names of MMS variables).
-use Rattle.std.proofs.Common.{◌≡◌, ◌≤◌, ◌<◌, ◌+◌, ℕ, zero, suc, Bool, true, false, List, [], ◌∷◌, ◌++◌, map, flat_map, length, Option, None, Some, unwrap_or, refl, ap, sym, subst, arith, if◌then◌else◌, cond, length-append}
+use Rattle.std.proofs.Common.{◌≡◌, ◌≤◌, ◌<◌, ◌+◌, ℕ, zero, suc, Bool, true, false, List, [], ◌∷◌, ◌++◌, map, flat_map, length, Some, unwrap_or, refl, ap, sym, subst, arith, if◌then◌else◌, cond, length-append}
 use Rattle.std.specs.Prelude.{slice_get, nat_le, codes}
 use Rattle.std.specs.Option.{option_map}
 use Rattle.std.specs.List.{filter, find}
@@ -8,18 +8,16 @@ use Rattle.sv_base.specs.declared.config.Config.{Config}
 use Rattle.sv_base.specs.declared.config.AttrDef.{AttrDef}
 use Rattle.sv_base.specs.declared.config.BlockDef.{BlockDef}
 use Rattle.sv_base.specs.declared.config.CtlDef.{CtlDef}
-use Rattle.sv_base.specs.declared.config.LnDef.{LnDef}
 use Rattle.sv_base.specs.declared.config.SgDef.{SgDef}
 use Rattle.std.specs.Str.{bytes_eq}
-use Rattle.bay_model.specs.declared.components.Comp.{Comp}
 use Rattle.bay_model.specs.Attributes.{attributes, attr_defined, attrs_defined, attrs_generated, twins}
 use Rattle.bay_model.specs.ComponentTable.{components, comp_name, comp_kind}
 use Rattle.bay_rooms.specs.Kinds.{type_of}
-use Rattle.bay_model.specs.Generated.{Named, Parameter, parameters, end_named, within}
+use Rattle.bay_model.specs.Generated.{Named, parameters, end_named, within}
 use Rattle.bay_model.specs.Lookups.{node_of}
 use Rattle.bay_model.specs.Model.{Node, Role, single, several, attribute, component, edited}
 use Rattle.bay_model.specs.Named.{configured_model, nodes, places_in}
-use Rattle.bay_model.specs.NamedLines.{Line, node_line, attribute_lines, attribute_names, block_lines, block_line, control_lines, group_line, domain_number, domains, generated, path_item, lines, insert_line, in_order, names_in, is_setting}
+use Rattle.bay_model.specs.NamedLines.{Line, node_line, attribute_lines, attribute_names, block_lines, control_lines, group_line, domain_number, domains, generated, path_item, lines, insert_line, in_order, names_in, is_setting}
 use Rattle.bay_model.specs.NameTree.{Forest, nothing, named, below, rest_of, is_itself, role_of, own_type, side_by_side, first_names, grown, tree_of, longest}
 use Rattle.bay_model.specs.Places.{Place, places, node_at}
 

@@ -5,10 +5,12 @@ ghost use Rattle.std.specs.Prelude.{◌≡◌, []};
 
 use crate::bay::Bay;
 use crate::fault::StepFault;
-use bay_model::{Acts, Answer, ApplErrors, Output, Reply, Request, Service};
+use bay_model::{
+    Acts, Answer, ApplErrors, Codes, Output, Reply, Request, Service, SetName, Writes,
+};
 use bay_replies::Replies;
 use std::alloc::{AllocError, Global};
-use sv_base::{ActorNo, AssocNo, Moment};
+use sv_base::{ActorNo, AssocNo, Moment, NodeId, Octs, Value, Values};
 
 /// No control is to act. It takes no memory.
 fn no_acts(alloc: Global) -> Acts
@@ -26,7 +28,9 @@ impl Bay {
     ghost use Rattle.assoc_table.specs.Seats.{replies};
     ghost use Rattle.assoc_table.specs.Tables.{IsNumber, extended, row_of};
     ghost use Rattle.bay_replies.specs.Asking.{IsReading, IsFitting};
-    ghost use Rattle.bay_core.specs.Asked.{IsAnswered, IsReplyAt, IsKept};
+    ghost use Rattle.bay_model.specs.declared.request.Service.TheVariants as services;
+    ghost use Rattle.bay_model.specs.Singles.{writes_of};
+    ghost use Rattle.bay_core.specs.Asked.{AreMembersFit, AreWritten, IsAnswerable, IsAnswered, IsReplyAt, IsKept, members_of, node_numbers, set_members};
     ghost use Rattle.bay_core.specs.Turns.{Does, IsCounted};
 
     /// The reply to a request that writes nothing, as of the arrival of a step at a moment.
@@ -74,6 +78,120 @@ impl Bay {
         Ok(reply)
     }
 
+    /// Answers a write of variables: room for the codes is made, and then time passes and each is written.
+    fn answer_writes(
+        &mut self,
+        alloc: Global,
+        moment: Moment,
+        a: AssocNo,
+        writes: &Writes,
+    ) -> Result<Reply, AllocError>
+        requires { IsFitting self.old.config (services.WriteVars writes.now) }
+        ensures answered { IfOk result (λ r. IsAnswered self.old self.new moment a.0 (services.WriteVars writes.now) r) }
+        ensures kept { OnOk result (IsKept self.old self.new) }
+        ensures refused { OnErr result (self.new ≡ self.old) }
+    {
+        let mut codes = Vec::with_capacity(alloc, writes.len())?;
+        self.arrive(moment);
+        self.write_all(a, writes.as_slice(), &mut codes);
+        Ok(Reply::Wrote(Codes::from_vec(codes)))
+    }
+
+    /// The members of a data set by its name; none exactly where it isn't there.
+    fn members_named(
+        &self,
+        alloc: Global,
+        domain: &Octs,
+        item: &Octs,
+    ) -> Result<Option<Vec<NodeId>>, AllocError>
+        ensures { IfOk result (λ found. members_of found ≡ set_members self.now.config domain.now item.now) }
+    {
+        let name = SetName {
+            domain: domain.copy(alloc)?,
+            item: item.copy(alloc)?,
+        };
+        match self.sets.number_named(&name) {
+            Some(number) => Ok(Some(Vec::from_slice(alloc, self.sets.nodes(number))?)),
+            None => Ok(None),
+        }
+    }
+
+    /// Answers a write of as many members of a data set as there are values: room for the codes is made, and then time passes and
+    /// each is written.
+    fn answer_members(
+        &mut self,
+        alloc: Global,
+        moment: Moment,
+        a: AssocNo,
+        nodes: &[NodeId],
+        values: &[Value],
+    ) -> Result<Vec<Result<(), u8>>, AllocError>
+        requires fit { AreMembersFit self.old.config nodes.now values.now }
+        ensures written { IfOk result (λ codes. AreWritten self.old self.new moment a.0 (writes_of (node_numbers nodes.now) values.now) codes.items) }
+        ensures kept { OnOk result (IsKept self.old self.new) }
+        ensures refused { OnErr result (self.new ≡ self.old) }
+    {
+        let mut codes = Vec::with_capacity(alloc, nodes.len())?;
+        self.arrive(moment);
+        self.write_members(a, nodes, values, &mut codes);
+        Ok(codes)
+    }
+
+    /// Answers a write by the name of a data set: another count of values than members is rejected as invalid arguments.
+    fn answer_set(
+        &mut self,
+        alloc: Global,
+        moment: Moment,
+        a: AssocNo,
+        domain: &Octs,
+        item: &Octs,
+        values: &Values,
+    ) -> Result<Reply, AllocError>
+        requires { IsFitting self.old.config (services.WriteSet domain.now item.now values.now) }
+        ensures answered { IfOk result (λ r. IsAnswered self.old self.new moment a.0 (services.WriteSet domain.now item.now values.now) r) }
+        ensures kept { OnOk result (IsKept self.old self.new) }
+        ensures refused { OnErr result (self.new ≡ self.old) }
+    {
+        // the members of its data sets are nodes that are there
+        let _model = self.model();
+        let Some(nodes) = self.members_named(alloc, domain, item)? else {
+            self.arrive(moment);
+            return Ok(Reply::Error { class: 7, code: 2 });
+        };
+        if nodes.len() != values.len() {
+            self.arrive(moment);
+            return Ok(Reply::Reject(3));
+        }
+        let codes = self.answer_members(alloc, moment, a, nodes.as_slice(), values.as_slice())?;
+        Ok(Reply::Wrote(Codes::from_vec(codes)))
+    }
+
+    /// Answers a request, at its arrival.
+    fn answer(
+        &mut self,
+        alloc: Global,
+        moment: Moment,
+        a: AssocNo,
+        service: &Service,
+    ) -> Result<Reply, AllocError>
+        requires number { IsNumber a.0 }
+        requires fits { IsFitting self.old.config service.now }
+        requires answerable { IsAnswerable service.now }
+        ensures answered { IfOk result (λ r. IsAnswered self.old self.new moment a.0 service.now r) }
+        ensures kept { OnOk result (IsKept self.old self.new) }
+        ensures refused { OnErr result (self.new ≡ self.old) }
+    {
+        match service {
+            Service::WriteVars(writes) => self.answer_writes(alloc, moment, a, writes),
+            Service::WriteSet {
+                domain,
+                item,
+                values,
+            } => self.answer_set(alloc, moment, a, domain, item, values),
+            _ => self.answer_read(alloc, moment, a, service),
+        }
+    }
+
     /// A reply without errors before it waits for an association. It takes no memory.
     fn queue(&mut self, alloc: Global, a: AssocNo, invoke: u32, reply: Reply)
         requires number { IsNumber a.0 }
@@ -99,7 +217,7 @@ impl Bay {
     ) -> Result<Answer, StepFault>
         requires number { IsNumber a.0 }
         requires fits { fits_in self.old.config (steps.Ask a request.now) ≡ true }
-        requires reading { IsReading request.now.service }
+        requires answerable { IsAnswerable request.now.service }
         requires few { self.old.steps < 2 ^ 62 }
         ensures does { Does self.old self.new (record { moment = moment; actor = actor.0; step = steps.Ask a request.now }) result }
         ensures counted { IsCounted self.old self.new result }
@@ -113,7 +231,7 @@ impl Bay {
         if self.associations.is_full(a) {
             return Err(StepFault::QueueFull(a));
         }
-        let reply = match self.answer_read(alloc, moment, a, &request.service) {
+        let reply = match self.answer(alloc, moment, a, &request.service) {
             Ok(reply) => reply,
             Err(_) => return Err(StepFault::Memory),
         };

@@ -1,4 +1,4 @@
-//! The state machine of a bay: associations, attribute values and buffered reporting (IEC 61850-7-2), step by step.
+//! The state machine of a bay: associations with their requests, attribute values and buffered reporting (IEC 61850-7-2), step by step.
 #![tactic(auto)]
 
 // a bay, and how it begins
@@ -16,6 +16,7 @@ mod associations;
 mod fault;
 mod laws;
 mod setting;
+mod singles;
 mod step;
 mod taking;
 mod time;

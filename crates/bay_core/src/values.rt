@@ -13,8 +13,8 @@ ghost use Rattle.bay_core.specs.Marked.{IsBlank, AreNoted, IsDone, marked_in};
 use bay_model::{Change, Setting};
 use object_model::Model;
 use std::alloc::{AllocError, Global};
-use sv_base::Config;
-use value_store::Store;
+use sv_base::{AttrId, Config, Value};
+use value_store::{SetFault, Store};
 
 /// The values of all attributes. Contracts see the list of them.
 #[derive(Drop)]
@@ -128,13 +128,13 @@ fn unmark(marks: &mut [bool], changes: &[Change])
 }
 
 impl Values {
-    ghost use Rattle.std.specs.Prelude.{◌≡◌, ◌≤◌, ◌<◌, [], ℕ, length, vec_capacity, IfOk};
+    ghost use Rattle.std.specs.Prelude.{◌≡◌, ◌≤◌, ◌<◌, ◌∷◌, [], ℕ, true, length, slice_set, vec_capacity, IfOk, OnOk, OnErr};
     ghost use Rattle.std.specs.List.{All};
     ghost use Rattle.bay_model.specs.declared.flags.Change.{Change as ChangeValue};
     ghost use Rattle.bay_model.specs.Attributes.{attributes};
     ghost use Rattle.value_store.specs.Opened.{IsStorable, opened};
-    ghost use Rattle.value_store.specs.Stored.{attribute};
-    ghost use Rattle.bay_core.specs.Changed.{last_set, AreMade, AreDistinct, AreFit};
+    ghost use Rattle.value_store.specs.Stored.{attribute, outcome, with_value};
+    ghost use Rattle.bay_core.specs.Changed.{change_from, last_set, without_change, AreMade, AreDistinct, AreFit};
 
     /// The configured values.
     pub(crate) fn open(alloc: Global, config: &Config) -> Result<Values, AllocError>
@@ -175,5 +175,36 @@ impl Values {
             changes,
         );
         unmark(self.marks.as_mut_slice(), changes.as_slice());
+    }
+
+    /// Sets an attribute as a client does; adds to `changes` what became of it. It takes no memory, since `changes` has room.
+    ///
+    /// Refuses, in this order, a value of another kind, a write of what clients may not write, and a value out of the type's range
+    /// or above its greatest length. A refusal leaves all as it was.
+    pub(crate) fn write(
+        &mut self,
+        model: &Model,
+        attr: AttrId,
+        value: &Value,
+        changes: &mut Vec<Change>,
+    ) -> Result<(), SetFault>
+        requires there { attr.0 < length self.old }
+        requires flags { length self.old ≡ length (attributes model.now) }
+        requires empty { changes.old.items ≡ [] }
+        requires room { 0 < vec_capacity changes.old }
+        ensures answer { result ≡ without_change (outcome (attribute self.old attr.0) value.now true) }
+        ensures set { OnOk result (self.new ≡ slice_set self.old attr.0 (with_value value.now (attribute self.old attr.0))) }
+        ensures noted { OnOk result (changes.new.items ≡ change_from model.now self.old attr.0 value.now ∷ []) }
+        ensures kept { OnErr result (self.new ≡ self.old) }
+        ensures room { vec_capacity changes.old ≤ vec_capacity changes.new }
+    {
+        let flags = model.flags(attr);
+        let changed = self.store.set(attr, value, true)?;
+        let _ = changes.push(Change {
+            attr,
+            flags,
+            differs: changed.differs,
+        });
+        Ok(())
     }
 }

@@ -221,6 +221,7 @@ no_fault : (f : StepFault) (step : Step) → is_lean step ≡ true → KeepsLean
 no_fault (stepfaults.IsOpen a) step l k e = cc e
 no_fault (stepfaults.NotOpen a) step l k e = cc e
 no_fault (stepfaults.NotYours a) step l k e = cc e
+no_fault (stepfaults.QueueFull a) step l k e = cc e
 no_fault stepfaults.Memory step l k e = never_both (is_lean step) l k
 
 pub process_goes : (c : Config) (h : History) (moment actor : ℕ) (step : Step) (f : StepFault) → KeepsLean step (Err f)

@@ -7,6 +7,8 @@ mod runs;
 
 // records, configurations, and command lines
 #[cfg(test)]
+mod associations;
+#[cfg(test)]
 mod configurations;
 #[cfg(test)]
 mod faults;

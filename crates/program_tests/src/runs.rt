@@ -12,7 +12,8 @@ use sv_io::{Calls, MemSink, MemSource};
 pub type Row = (&'static str, &'static str, Status, &'static str);
 
 /// What a mark stands for: `[` and `>` the lines of a configuration before a block's BUFTM and behind its CAPACITY, `*` nine values
-/// at nine moments, `@` the reference of the attribute that is set, `&` that of the block, and `!` the front of a moment.
+/// at nine moments, `@` the reference of the attribute that is set, `&` that of the block, `!` the front of a moment, and `%` four
+/// PDUs that ask for the status.
 fn marked(mark: u8) -> Option<&'static str> {
     match mark {
         b'[' => Some(
@@ -34,6 +35,9 @@ fn marked(mark: u8) -> Option<&'static str> {
         b'@' => Some("BAY1/MMXU1$MX$TotW$mag$i"),
         b'&' => Some("BAY1/LLN0$BR$brcbEv01"),
         b'!' => Some("4417632000"),
+        b'%' => Some(
+            "pdu 1 a006020101800100\npdu 1 a006020101800100\npdu 1 a006020101800100\npdu 1 a006020101800100\n",
+        ),
         _ => None,
     }
 }

@@ -15,14 +15,20 @@ use Rattle.object_model.specs.References.{block_references}
 use Rattle.run_record.specs.Judging.{line_at}
 use Rattle.run_record.specs.Spelled.{words}
 use Rattle.run_record.specs.declared.line.OpenForm.{OpenForm}
-use Rattle.run_record.specs.declared.line.OpenForm.TheVariants as forms
+use Rattle.run_record.specs.declared.line.OpenForm.TheVariants as opens
 use Rattle.run_record.specs.declared.line.RecLine.{RecLine}
 use Rattle.run_record.specs.declared.line.RecLine.TheVariants as lines
 use Rattle.run_record.proofs.ToldLaws.{line-told}
 use Rattle.run_record.specs.Grammar.{Spells}
+use Rattle.text_words.specs.Values.{hex_at}
+use Rattle.bay_model.specs.declared.request.Request.{Request}
 use Rattle.record_steps.specs.Shapes.{shape_at}
+use Rattle.record_steps.specs.Forms.{is_shut, is_direct}
+use Rattle.record_steps.specs.Asks.{asked_by, is_unbuilt}
+use Rattle.record_steps.specs.declared.form.Form.{Form}
+use Rattle.record_steps.specs.declared.form.Form.TheVariants as forms
 use Rattle.record_steps.specs.Settings.{are_named, settings_at}
-use Rattle.record_steps.specs.Resolved.{turn_of, opened_as, valued_as, written_as, set_to, told_of}
+use Rattle.record_steps.specs.Resolved.{turn_of, opened_in, valued_as, written_as, asked_as, spelled_as, sent_as, set_to, told_of}
 use Rattle.record_steps.specs.Told.{Told, turn, refused, last}
 
 turn-goes : (c : Config) (actor : ℕ) (step : Step) → turn_of c actor step ≡ last → ⊥
@@ -35,43 +41,57 @@ if-goes : (b : Bool) (t : Told) (kind : ℕ) → (t ≡ last → ⊥) → (if b 
 if-goes true t kind goes h = goes h
 if-goes false t kind goes h = absurd cc
 
-open-goes : (c : Config) (there : Bool) (a : AssocNo) (form : OpenForm) → opened_as c there a form ≡ last → ⊥
-open-goes c true a forms.Direct h = absurd cc
-open-goes c false a forms.Direct h = turn-goes c a.0 (steps.Open a 65000 (record { 0 = a.0 })) h
-open-goes c true a (forms.Mms size) h = absurd cc
-open-goes c false a (forms.Mms size) h = absurd cc
-open-goes c true a forms.Wire h = absurd cc
-open-goes c false a forms.Wire h = absurd cc
+unless-goes : (b : Bool) (t : Told) (kind : ℕ) → (t ≡ last → ⊥) → (if b then refused kind else t) ≡ last → ⊥
+unless-goes true t kind goes h = absurd cc
+unless-goes false t kind goes h = goes h
+
+shut-goes : (c : Config) (a : AssocNo) (asked : OpenForm) → opened_in c a asked ≡ last → ⊥
+shut-goes c a opens.Direct h = turn-goes c a.0 (steps.Open a 65000 (record { 0 = a.0 })) h
+shut-goes c a (opens.Mms size) h = turn-goes c a.0 (steps.Open a size (record { 0 = a.0 })) h
+shut-goes c a opens.Wire h = absurd cc
 
 value-goes : (c : Config) (a : AssocNo) (b : ℕ) (comp : Comp) (o : Option Value) → valued_as c a b comp o ≡ last → ⊥
 value-goes c a b comp None h = absurd cc
 value-goes c a b comp (Some v) h = turn-goes c a.0 (steps.Write a (record { 0 = b }) comp v) h
 
-write-goes : (c : Config) (there : Bool) (a : AssocNo) (block : Option ℕ) (comp : Option Comp) (word : List ℕ) → written_as c there a block comp word ≡ last → ⊥
-write-goes c there a (Some b) (Some comp) word h = if-goes there (valued_as c a b comp (shape_at comp word)) 5 (value-goes c a b comp (shape_at comp word)) h
-write-goes c there a (Some b) None word h = absurd cc
-write-goes c there a None (Some comp) word h = absurd cc
-write-goes c there a None None word h = absurd cc
+write-goes : (c : Config) (form : Form) (a : AssocNo) (block : Option ℕ) (comp : Option Comp) (word : List ℕ) → written_as c form a block comp word ≡ last → ⊥
+write-goes c form a (Some b) (Some comp) word h = if-goes (is_direct form) (valued_as c a b comp (shape_at comp word)) 5 (value-goes c a b comp (shape_at comp word)) h
+write-goes c form a (Some b) None word h = absurd cc
+write-goes c form a None (Some comp) word h = absurd cc
+write-goes c form a None None word h = absurd cc
+
+ask-goes : (c : Config) (a : AssocNo) (o : Option Request) → asked_as c a o ≡ last → ⊥
+ask-goes c a None h = absurd cc
+ask-goes c a (Some r) h = unless-goes (is_unbuilt r.service) (turn_of c a.0 (steps.Ask a r)) 9 (turn-goes c a.0 (steps.Ask a r)) h
+
+spelled-goes : (c : Config) (a : AssocNo) (o : Option (List ℕ)) → spelled_as c a o ≡ last → ⊥
+spelled-goes c a None h = absurd cc
+spelled-goes c a (Some octets) h = ask-goes c a (asked_by c octets) h
+
+send-goes : (c : Config) (form : Form) (a : AssocNo) (hex : List ℕ) → sent_as c form a hex ≡ last → ⊥
+send-goes c forms.Shut a hex h = absurd cc
+send-goes c forms.Direct a hex h = absurd cc
+send-goes c (forms.Mms size) a hex h = spelled-goes c a (hex_at hex) h
 
 set-goes : (c : Config) (o : Option (List Setting)) → set_to c o ≡ last → ⊥
 set-goes c None h = absurd cc
 set-goes c (Some settings) h = turn-goes c 0 (steps.Value settings) h
 
-pub told-last : (c : Config) (there : Bool) (line : RecLine) → told_of c there line ≡ last → line ≡ lines.End
+pub told-last : (c : Config) (form : Form) (line : RecLine) → told_of c form line ≡ last → line ≡ lines.End
 unfolding told_of
-told-last c there lines.Skip h = absurd cc
-told-last c there (lines.At moment) h = absurd cc
-told-last c there (lines.Open a form) h = absurd (open-goes c there a form h)
-told-last c there (lines.Write a block comp value) h = absurd (write-goes c there a (number_in (block_references c) block) (comp_named comp) value h)
-told-last c there (lines.Pdu a hex) h = absurd cc
-told-last c there (lines.Piece a hex) h = absurd cc
-told-last c there (lines.Take a) h = absurd (turn-goes c a.0 (steps.Take a) h)
-told-last c there (lines.Lost a) h = absurd (if-goes there (turn_of c a.0 (steps.Lost a)) 5 (turn-goes c a.0 (steps.Lost a)) h)
-told-last c there (lines.Set pairs) h = absurd (if-goes (are_named c pairs) (set_to c (settings_at c pairs)) 3 (set-goes c (settings_at c pairs)) h)
-told-last c there (lines.Done control well) h = absurd cc
-told-last c there (lines.Block control on) h = absurd cc
-told-last c there lines.Tick h = absurd (turn-goes c 0 steps.Tick h)
-told-last c there lines.End h = refl
+told-last c form lines.Skip h = absurd cc
+told-last c form (lines.At moment) h = absurd cc
+told-last c form (lines.Open a asked) h = absurd (if-goes (is_shut form) (opened_in c a asked) 5 (shut-goes c a asked) h)
+told-last c form (lines.Write a block comp value) h = absurd (write-goes c form a (number_in (block_references c) block) (comp_named comp) value h)
+told-last c form (lines.Pdu a hex) h = absurd (send-goes c form a hex h)
+told-last c form (lines.Piece a hex) h = absurd cc
+told-last c form (lines.Take a) h = absurd (turn-goes c a.0 (steps.Take a) h)
+told-last c form (lines.Lost a) h = absurd (unless-goes (is_shut form) (turn_of c a.0 (steps.Lost a)) 5 (turn-goes c a.0 (steps.Lost a)) h)
+told-last c form (lines.Set pairs) h = absurd (if-goes (are_named c pairs) (set_to c (settings_at c pairs)) 3 (set-goes c (settings_at c pairs)) h)
+told-last c form (lines.Done control well) h = absurd cc
+told-last c form (lines.Block control on) h = absurd cc
+told-last c form lines.Tick h = absurd (turn-goes c 0 steps.Tick h)
+told-last c form lines.End h = refl
 
 pub end-line : (text : List ℕ) → line_at text ≡ Ok lines.End → text ≡ codes "end"
 unfolding words

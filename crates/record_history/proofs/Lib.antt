@@ -1,2 +1,1 @@
-pub mod SaidLaws
 pub mod LastLaws

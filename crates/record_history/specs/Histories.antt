@@ -1,21 +1,24 @@
 -- The configuration and the history of a record, from its lines alone: what they say, not how they are read. All of it is
 -- defined for the lines before any line too. Where lines are looked back on, the newest is the first.
-use Rattle.std.specs.Prelude.{ℕ, ◌==◌, not, Bool, true, false, List, [], ◌∷◌, ◌++◌, codes, Option, None, Some, Result, Ok, Err, if◌then◌else◌}
+use Rattle.std.specs.Prelude.{ℕ, ◌==◌, List, [], ◌∷◌, ◌++◌, codes, Option, None, Some, Result, Ok, Err, if◌then◌else◌}
 use Rattle.std.specs.List.{slice_split, flat_map}
 use Rattle.std.specs.Option.{option_map, option_and_then}
 use Rattle.std.specs.Str.{bytes_eq}
 use Rattle.sv_base.specs.declared.config.Config.{Config}
 use Rattle.bay_model.specs.Points.{least_moment}
 use Rattle.bay_model.specs.Answers.{Turn}
+use Rattle.answer_text.specs.declared.shape.Shape.{Shape}
 use Rattle.text_words.specs.Octets.{is_skipped}
 use Rattle.cfg_parser.specs.Looking.{config_at}
 use Rattle.cfg_parser.specs.declared.fault.CfgFault.{CfgFault}
 use Rattle.run_record.specs.Judging.{line_at, number_of}
 use Rattle.run_record.specs.declared.fault.Kind.{Kind}
 use Rattle.run_record.specs.declared.line.RecLine.{RecLine}
-use Rattle.run_record.specs.declared.line.RecLine.TheVariants as lines
-use Rattle.record_steps.specs.Resolved.{told_of}
+use Rattle.record_steps.specs.Forms.{shape_of, form_behind}
+use Rattle.record_steps.specs.Resolved.{association_of, told_of}
 use Rattle.record_steps.specs.Told.{Told, pass_to, turn, refused}
+use Rattle.record_steps.specs.declared.form.Form.{Form}
+use Rattle.record_steps.specs.declared.form.Form.TheVariants as forms
 
 -- all pieces but the last, behind which there is no newline
 abbrev pub ended_pieces : List (List ℕ) → List (List ℕ)
@@ -49,14 +52,27 @@ parted (line ∷ more) = if bytes_eq line (codes "end") then Some (record { conf
 abbrev pub octets_of : List (List ℕ) → List ℕ
 octets_of ls = flat_map (λ line. line ++ 10 ∷ []) ls
 
--- what a line says of itself: an association that it opens isn't open, and every other that it names is
-abbrev pub opens : RecLine → Bool
-opens (lines.Open a form) = true
-opens _ = false
+-- what association a is behind lines: a line that is refused leaves it as it was
+abbrev pub form_after : ℕ → Result RecLine Kind → Form → Form
+form_after a (Ok line) was = form_behind a line was
+form_after a (Err kind) was = was
 
-abbrev pub said : Config → Result RecLine Kind → Told
-said c (Ok line) = told_of c (not (opens line)) line
-said c (Err kind) = refused (number_of kind)
+abbrev pub form_at : ℕ → List (List ℕ) → Form
+form_at a [] = forms.Shut
+form_at a (line ∷ before) = form_after a (line_at line) (form_at a before)
+
+-- what the association that a line names is before it
+abbrev pub form_of : List (List ℕ) → Result RecLine Kind → Form
+form_of before (Ok line) = form_at (association_of line) before
+form_of before (Err kind) = forms.Shut
+
+-- what a line tells, behind others
+abbrev pub said_in : Config → Form → Result RecLine Kind → Told
+said_in c form (Ok line) = told_of c form line
+said_in c form (Err kind) = refused (number_of kind)
+
+abbrev pub said : Config → List (List ℕ) → List ℕ → Told
+said c before line = said_in c (form_of before (line_at line)) (line_at line)
 
 -- the moment of the next step: that of the newest `at` line
 abbrev pub moment_after : Told → ℕ → ℕ
@@ -65,16 +81,21 @@ moment_after _ was = was
 
 abbrev pub moment_of : Config → List (List ℕ) → ℕ
 moment_of c [] = least_moment
-moment_of c (line ∷ before) = moment_after (said c (line_at line)) (moment_of c before)
+moment_of c (line ∷ before) = moment_after (said c before line) (moment_of c before)
 
-abbrev pub step_in : ℕ → Told → Option Turn
-step_in moment (turn actor step) = Some (record { moment = moment; actor = actor; step = step })
-step_in moment _ = None
+-- a part of what a line comes to: a step, which is answered in this shape
+pub data Part : Type 0 where
+  stepped : Turn → Shape → Part
 
--- what each line comes to: a step at the moment of the newest `at` line before it, or none
-abbrev pub steps_of : Config → List (List ℕ) → List (Option Turn)
+-- the parts of a line, the newest first, where its association is of this form
+abbrev pub parts_in : ℕ → Form → Told → List Part
+parts_in moment form (turn actor step) = stepped (record { moment = moment; actor = actor; step = step }) (shape_of form) ∷ []
+parts_in moment form _ = []
+
+-- what each line comes to: a step at the moment of the newest `at` line before it, or nothing
+abbrev pub steps_of : Config → List (List ℕ) → List (List Part)
 steps_of c [] = []
-steps_of c (line ∷ before) = step_in (moment_of c before) (said c (line_at line)) ∷ steps_of c before
+steps_of c (line ∷ before) = parts_in (moment_of c before) (form_of before (line_at line)) (said c before line) ∷ steps_of c before
 
 -- a list, turned around, in front of another
 abbrev pub onto : {A : Type 0} → List A → List A → List A
@@ -84,7 +105,7 @@ onto before (x ∷ xs) = onto (x ∷ before) xs
 -- a configuration, and what the lines of the steps come to
 pub record Recorded : Type 0 where
   pub config : Config
-  pub steps : List (Option Turn)
+  pub steps : List (List Part)
 
 abbrev pub recorded : Result Config CfgFault → List (List ℕ) → Option Recorded
 recorded (Ok c) steps = Some (record { config = c; steps = steps_of c (onto [] steps) })

@@ -3,20 +3,30 @@ use Rattle.std.specs.Prelude.{ℕ, List, [], ◌∷◌, ◌++◌, Option, None, 
 use Rattle.sv_base.specs.declared.config.Config.{Config}
 use Rattle.bay_model.specs.Named.{configured_model}
 use Rattle.bay_model.specs.Answers.{Turn, History, answer}
-use Rattle.answer_text.specs.Texts.{answer_lines}
-use Rattle.record_history.specs.Histories.{Recorded}
+use Rattle.answer_text.specs.Texts.{lines_of}
+use Rattle.record_history.specs.Histories.{Part, stepped, Recorded}
 
--- the history that is made of lines, some of which make no step
-abbrev pub turns_in : List (Option Turn) → History
-turns_in [] = []
-turns_in (None ∷ before) = turns_in before
-turns_in (Some t ∷ before) = t ∷ turns_in before
+-- the parts of lines one after another, the newest first
+abbrev pub parts_of : List (List Part) → List Part
+parts_of [] = []
+parts_of (parts ∷ before) = parts ++ parts_of before
+
+-- the history that is made of them
+abbrev pub turns_of : List Part → History
+turns_of [] = []
+turns_of (stepped t shape ∷ before) = t ∷ turns_of before
+
+abbrev pub turns_in : List (List Part) → History
+turns_in lines = turns_of (parts_of lines)
+
+-- each step is answered in its shape
+abbrev pub text_behind : Config → List Part → List ℕ
+text_behind c [] = []
+text_behind c (stepped t shape ∷ before) = text_behind c before ++ lines_of c shape t.step (answer (configured_model c) (turns_of before) t)
 
 -- a line that makes no step is answered by no line
-abbrev pub text_of : Config → List (Option Turn) → List ℕ
-text_of c [] = []
-text_of c (None ∷ before) = text_of c before
-text_of c (Some t ∷ before) = text_of c before ++ answer_lines c t.actor (answer (configured_model c) (turns_in before) t)
+abbrev pub text_of : Config → List (List Part) → List ℕ
+text_of c lines = text_behind c (parts_of lines)
 
 -- the text of a record; none where its configuration isn't whole
 abbrev pub record_text : Option Recorded → List ℕ

@@ -11,14 +11,15 @@ use Rattle.run_record.specs.Judging as judging
 use Rattle.run_record.specs.Judging.{is_long}
 use Rattle.run_record.specs.Spelled.{words}
 use Rattle.run_record.specs.Grammar.{Spells}
+use Rattle.run_record.specs.declared.line.RecLine.{RecLine}
 use Rattle.run_record.specs.declared.line.RecLine.TheVariants as lines
 use Rattle.run_record.proofs.ReadLaws.{line-read}
 use Rattle.record_steps.specs.Resolved.{association_of, told_of}
 use Rattle.record_steps.specs.Told.{Told, skip, pass_to, turn, refused, last}
-use Rattle.record_history.specs.Histories.{octets_of, said, steps_of, onto}
+use Rattle.record_steps.specs.Forms.{shape_of}
+use Rattle.record_history.specs.Histories.{octets_of, form_at, steps_of, onto}
 use Rattle.record_history.specs.Texts.{turns_in}
-use Rattle.record_history.proofs.SaidLaws.{IsRefused, said-same}
-use Rattle.record_outcome.specs.Played.{Played, start, turn_at, is_open}
+use Rattle.record_outcome.specs.Played.{Played, start, turn_at, past_line}
 use Rattle.record_outcome.specs.Moves.{Place, goes, stops, opening, configuring, playing}
 use Rattle.record_outcome.specs.Openings.{headed, opening_at, unbuilt_line, started_by, started, configuring_at}
 use Rattle.record_outcome.specs.Steps.{accepted, played, told_at, step_at}
@@ -30,7 +31,7 @@ use Rattle.record_outcome.proofs.LineLaws.{run-line}
 use Rattle.std.proofs.Math.Seq.{take-append-add}
 use Rattle.std.proofs.lemmas.List.Elements.{All-from_recursion}
 use Rattle.record_laws.specs.Grammar.{CanBeDone, IsStepLine, AreStepLines, IsRemark, IsInner, Each, record_octets, IsRecord}
-use Rattle.record_outcome.proofs.HistoryLaws.{standing, grown}
+use Rattle.record_outcome.proofs.HistoryLaws.{standing, grown, onto-line}
 
 -- the first of some lines
 line-first : (line : List ℕ) (ls : List (List ℕ)) (more : List ℕ) → octets_of (line ∷ ls) ++ more ≡ line ++ 10 ∷ (octets_of ls ++ more)
@@ -100,29 +101,22 @@ end-starts n text c is none = ap (started n) is ∙ ap (started_by n c) none
 
 -- the lines of the steps
 module _ (c : Config) (before : List (List ℕ)) (number : ℕ) where
-  done : (t : Told) → CanBeDone c before t → (text : List ℕ) × (played number c (standing c before) t ≡ goes (playing c (grown c before t)) text)
+  done : (l : RecLine) (t : Told) → CanBeDone c before t → (text : List ℕ)
+      × (played number c (past_line (standing c before) l) (shape_of (form_at (association_of l) before)) t ≡ goes (playing c (grown c before (Ok l) t)) text)
   unfolding played
-  done skip can = ([], refl)
-  done (pass_to moment) can = ([], refl)
-  done (turn actor step) can = (_, ap (accepted number c (standing c before) (turn_at (standing c before) actor step)) can)
-  done (refused kind) can = absurd can
-  done last can = absurd can
-
-  never-refused : (t : Told) → CanBeDone c before t → IsRefused t → ⊥
-  never-refused skip can r = let no : skip ≡ refused r.0 = r.1 in cc
-  never-refused (pass_to moment) can r = let no : pass_to moment ≡ refused r.0 = r.1 in cc
-  never-refused (turn actor step) can r = let no : turn actor step ≡ refused r.0 = r.1 in cc
-  never-refused (refused kind) can r = can
-  never-refused last can r = can
+  done l skip can = ([], refl)
+  done l (pass_to moment) can = ([], refl)
+  done l (turn actor step) can = (_, ap (accepted number c (past_line (standing c before) l) (shape_of (form_at (association_of l) before)) (turn_at (standing c before) actor step)) can)
+  done l (refused kind) can = absurd can
+  done l last can = absurd can
 
   step-goes : (line : List ℕ) → IsStepLine c before line → (text : List ℕ) × (step_at number c (standing c before) line ≡ goes (playing c (standing c (line ∷ before))) text)
   unfolding step_at
   step-goes line s =
-      let t : Told = told_of c (is_open c (turns_in (steps_of c before)) (association_of s.line)) s.line in
+      let t : Told = told_of c (form_at (association_of s.line) before) s.line in
       let read : judging.line_at line ≡ Ok s.line = line-read line s.line s.spelled in
-      let says : said c (judging.line_at line) ≡ t = ap (said c) read ∙ sym (said-same c (is_open c (turns_in (steps_of c before)) (association_of s.line)) s.line (never-refused t s.done)) in
-      let d = done t s.done in
-      (d.0, ap (told_at number c (standing c before)) read ∙ (d.1 ∙ ap (λ u. goes (playing c (grown c before u)) d.0) (sym says)))
+      let d = done s.line t s.done in
+      (d.0, ap (told_at number c (standing c before)) read ∙ (d.1 ∙ ap (λ p. goes (playing c p) d.0) (onto-line c before line (Ok s.line) t read refl (λ q u. grown c before (Ok s.line) t ≡ grown c before q u) refl)))
 
 steps-go : (long : Bool) (count : ℕ) (c : Config) (before ls : List (List ℕ)) (more : List ℕ) → AreStepLines c before ls → count + length ls ≤ most_lines
     → status-of long count (playing c (standing c before)) (octets_of ls ++ more) ≡ status-of long (count + length ls) (playing c (standing c (onto before ls))) more

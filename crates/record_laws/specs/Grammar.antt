@@ -12,9 +12,8 @@ use Rattle.run_record.specs.Grammar.{Spells}
 use Rattle.run_record.specs.declared.line.RecLine.{RecLine}
 use Rattle.record_steps.specs.Resolved.{association_of, told_of}
 use Rattle.record_steps.specs.Told.{Told, skip, pass_to, turn, refused, last}
-use Rattle.record_history.specs.Histories.{octets_of, moment_of, steps_of}
+use Rattle.record_history.specs.Histories.{octets_of, form_at, moment_of, steps_of}
 use Rattle.record_history.specs.Texts.{turns_in}
-use Rattle.record_outcome.specs.Played.{is_open}
 use Rattle.record_outcome.specs.Openings.{unbuilt_line}
 use Rattle.record_outcome.specs.Records.{limit, most_lines, NoNewline}
 
@@ -26,13 +25,13 @@ CanBeDone c before (turn actor step) = fault (configured_model c) (turns_in (ste
 CanBeDone c before (refused kind) = ⊥
 CanBeDone c before last = ⊥
 
--- a line that spells something, whose names are there and whose values are of their types, and whose association is open or isn't
--- as it asks for
+-- a line that spells something, whose names are there and whose values are of their types, and whose association is what it asks
+-- for, with fewer than 16 replies waiting at a request
 pub record IsStepLine (c : Config) (before : List (List ℕ)) (text : List ℕ) : Type 0 where
   pub line : RecLine
   pub whole : NoNewline text
   pub spelled : Spells text line
-  pub done : CanBeDone c before (told_of c (is_open c (turns_in (steps_of c before)) (association_of line)) line)
+  pub done : CanBeDone c before (told_of c (form_at (association_of line) before) line)
 
 abbrev pub AreStepLines : Config → List (List ℕ) → List (List ℕ) → Type 0
 AreStepLines c before [] = Unit {0}

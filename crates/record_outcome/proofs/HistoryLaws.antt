@@ -5,7 +5,9 @@ use Rattle.std.specs.Option.{option_map, option_and_then}
 use Rattle.std.specs.Str.{bytes_eq}
 use Rattle.sv_base.specs.declared.config.Config.{Config}
 use Rattle.bay_model.specs.Named.{configured_model}
-use Rattle.bay_model.specs.Acceptance.{Fault, fault, IsHistory}
+use Rattle.bay_model.specs.Acceptance.{Fault, IsOpen, NotOpen, NotYours, QueueFull, fault, IsHistory}
+use Rattle.answer_text.specs.declared.shape.Shape.{Shape}
+use Rattle.bay_model.specs.declared.step.Step.{Step}
 use Rattle.text_words.specs.Octets.{is_skipped}
 use Rattle.text_words.specs.Words.{words_of}
 use Rattle.cfg_parser.specs.Kinds as cfg
@@ -18,18 +20,18 @@ use Rattle.run_record.specs.declared.fault.Kind.{Kind}
 use Rattle.run_record.specs.declared.line.RecLine.{RecLine}
 use Rattle.record_steps.specs.Resolved.{association_of, told_of}
 use Rattle.record_steps.specs.Told.{Told, skip, pass_to, turn, refused, last}
-use Rattle.record_history.specs.Histories.{ended_pieces, behind_heading, Parted, with_line, parted, octets_of, said, moment_after, moment_of, step_in, steps_of, onto, Recorded, recorded, lines_of, history_of}
+use Rattle.record_steps.specs.Forms.{shape_of}
+use Rattle.record_history.specs.Histories.{ended_pieces, behind_heading, Parted, with_line, parted, octets_of, form_after, form_at, form_of, said_in, said, moment_after, moment_of, Part, stepped, parts_in, steps_of, onto, Recorded, recorded, lines_of, history_of}
 use Rattle.record_history.specs.Texts.{turns_in, text_of, record_text}
-use Rattle.record_history.proofs.SaidLaws.{IsRefused, said-same}
 use Rattle.record_history.proofs.LastLaws.{told-last, end-line}
-use Rattle.record_outcome.specs.Played.{Played, start, turn_at, is_open}
+use Rattle.record_outcome.specs.Played.{Played, start, turn_at, past_line}
 use Rattle.record_outcome.specs.Moves.{Place, Move, goes, stops, opening, configuring, playing}
 use Rattle.record_outcome.specs.Openings.{headed, opening_at, unbuilt_line, started_by, started, configuring_at}
 use Rattle.record_outcome.specs.Steps.{accepted, played, told_at, step_at}
 use Rattle.record_outcome.specs.Records.{Outcome, limit, most_lines, pieces, refused_before, passed, missing, has_begun, unended, ended, lines_at, line_at, behind, moved, run, outcome}
 use Rattle.record_outcome.specs.declared.status.Status.{Status}
 use Rattle.record_outcome.specs.declared.status.Status.TheVariants as statuses
-use Rattle.record_outcome.specs.Written.{IsAccepted, IsUnplayed, StopsBehind, end_of, IsWritten, TextIsOfHistory, WritesHistory}
+use Rattle.record_outcome.specs.Written.{IsAccepted, IsUnplayed, MeetsFull, HasCause, StopsBehind, end_of, IsWritten, TextIsOfHistory, WritesHistory}
 use Rattle.record_outcome.specs.Judgements.{Answers}
 
 abbrev Of : Type 0
@@ -41,10 +43,19 @@ configured text ls = option_and_then (λ (p : Parted). recorded (config_at (text
 
 -- behind step lines, the newest of them first
 abbrev pub standing : Config → List (List ℕ) → Played
-standing c before = record { moment = moment_of c before; turns = turns_in (steps_of c before) }
+standing c before = record { moment = moment_of c before; turns = turns_in (steps_of c before); form = λ a. form_at a before }
 
-abbrev pub grown : Config → List (List ℕ) → Told → Played
-grown c before t = record { moment = moment_after t (moment_of c before); turns = turns_in (step_in (moment_of c before) t ∷ steps_of c before) }
+-- behind one line more, which is read so and tells this
+abbrev pub parts_by : Config → List (List ℕ) → Result RecLine Kind → Told → List Part
+parts_by c before r t = parts_in (moment_of c before) (form_of before r) t
+
+abbrev pub grown : Config → List (List ℕ) → Result RecLine Kind → Told → Played
+grown c before r t = record { moment = moment_after t (moment_of c before); turns = turns_in (parts_by c before r t ∷ steps_of c before); form = λ a. form_after a r (form_at a before) }
+
+-- what holds where a line is read so and tells this holds behind it
+pub onto-line : (c : Config) (before : List (List ℕ)) (line : List ℕ) (r : Result RecLine Kind) (t : Told) → judging.line_at line ≡ r → said_in c (form_of before r) r ≡ t → (P : Result RecLine Kind → Told → Type 0) → P r t
+    → P (judging.line_at line) (said c before line)
+onto-line c before line r t is says P p = subst (λ r. P r (said_in c (form_of before r) r)) (sym is) (subst (P r) (sym says) p)
 
 -- the history of the lines that follow, where the reading is, and what was written before
 abbrev IsFrom : Place → Of → List ℕ → Type 0
@@ -106,10 +117,10 @@ module _ (h : Of) (count : ℕ) (ls : List (List ℕ)) where
     by false = (refl, none)
   refused-stops n status (Err faults.Memory) none s = s
 
-  passed-stops : (which : ℕ) (place : Place) (written : List ℕ) → IsFrom place h written → StopsHere h (passed which (suc count) place) [] count ls
-  passed-stops which opening written f = (refl, refl)
-  passed-stops which (configuring n text) written f = refused-stops n (statuses.Limit which (suc count)) (config_at text) (f.0 []) (refl, refl)
-  passed-stops which (playing c s) written f = (refl, refl)
+  passed-stops : (which : ℕ) (place : Place) (written : List ℕ) → (which ≡ 2 → ⊥) → IsFrom place h written → StopsHere h (passed which (suc count) place) [] count ls
+  passed-stops which opening written other f = (refl, (refl, λ e. absurd (other e)))
+  passed-stops which (configuring n text) written other f = refused-stops n (statuses.Limit which (suc count)) (config_at text) (f.0 []) (refl, (refl, λ e. absurd (other e)))
+  passed-stops which (playing c s) written other f = (refl, (refl, λ e. absurd (other e)))
 
   missing-stops : (place : Place) (written : List ℕ) → IsFrom place h written → StopsHere h (missing (suc count) place) [] count ls
   missing-stops opening written f = (refl, inl refl)
@@ -120,8 +131,8 @@ module _ (h : Of) (count : ℕ) (ls : List (List ℕ)) where
   unfolding ended unended
   ended-stops long begun place written f = by long (begun && nat_lt most_lines (suc count)) where
     by : (a b : Bool) → StopsHere h (if a then passed 3 (suc count) place else if b then passed 1 (suc count) place else missing (suc count) place) [] count ls
-    by true b = passed-stops 3 place written f
-    by false true = passed-stops 1 place written f
+    by true b = passed-stops 3 place written (λ e. cc) f
+    by false true = passed-stops 1 place written (λ e. cc) f
     by false false = missing-stops place written f
 
 -- a line with which the reading stops
@@ -163,23 +174,44 @@ module _ (h : Of) (count : ℕ) (line : List ℕ) (ls : List (List ℕ)) (status
   started-stops n (Err (faults.Refused l kind)) none whole e = stop-by (statuses.Config (n + l) (cfg.number_of kind)) [] e (refl, none)
   started-stops n (Err faults.Memory) none whole e = stop-by statuses.Memory [] e (refl, none)
 
-  played-stops : (c : Config) (s : Played) (t : Told) → (t ≡ last → line ≡ codes "end") → played (suc count) c s t ≡ stops status text → Here
-  unfolding played
-  played-stops c s skip ends e = absurd cc
-  played-stops c s (pass_to moment) ends e = absurd cc
-  played-stops c s (turn actor step) ends e = by (fault (configured_model c) s.turns (turn_at s actor step)) e where
-    by : (o : Option Fault) → accepted (suc count) c s (turn_at s actor step) o ≡ stops status text → Here
-    by None e = absurd cc
-    by (Some f) e = record-stops 5 e
-  played-stops c s (refused kind) ends e = record-stops kind e
-  played-stops c s last ends e = stop-by statuses.Ok (codes "end\n") e (refl, (ls, ap (λ l. l ∷ ls) (ends refl)))
+  -- a step line, behind others
+  module _ (c : Config) (before : List (List ℕ)) (history : (ls : List (List ℕ)) → h ls ≡ Some (record { config = c; steps = steps_of c (onto before ls) })) where
+    -- a step of it finds the queue full
+    full : (r : Result RecLine Kind) (actor : ℕ) (step : Step) (a : ℕ) → judging.line_at line ≡ r → said_in c (form_of before r) r ≡ turn actor step → fault (configured_model c) (turns_in (steps_of c before)) (turn_at (standing c before) actor step) ≡ Some (QueueFull a)
+        → MeetsFull (h (line ∷ []))
+    full r actor step a is says cause = subst MeetsFull (sym (history (line ∷ []))) (record {
+      later = [];
+      turn = turn_at (standing c before) actor step;
+      shape = shape_of (form_of before r);
+      earlier = [];
+      before = steps_of c before;
+      association = a;
+      line = onto-line c before line r (turn actor step) is says (λ q t. parts_by c before q t ∷ steps_of c before ≡ (stepped (turn_at (standing c before) actor step) (shape_of (form_of before r)) ∷ []) ∷ steps_of c before) refl;
+      cause = cause;
+    })
 
-  step-stops : (c : Config) (s : Played) → step_at (suc count) c s line ≡ stops status text → Here
-  unfolding step_at
-  step-stops c s e = by (judging.line_at line) refl e where
-    by : (r : Result RecLine Kind) → judging.line_at line ≡ r → told_at (suc count) c s r ≡ stops status text → Here
-    by (Err kind) is e = record-stops (number_of kind) e
-    by (Ok l) is e = played-stops c s (told_of c (is_open c s.turns (association_of l)) l) (λ t. end-line line (is ∙ ap Ok (told-last c (is_open c s.turns (association_of l)) l t))) e
+    played-stops : (l : RecLine) (t : Told) → judging.line_at line ≡ Ok l → told_of c (form_at (association_of l) before) l ≡ t → (t ≡ last → line ≡ codes "end")
+        → played (suc count) c (past_line (standing c before) l) (shape_of (form_at (association_of l) before)) t ≡ stops status text → Here
+    unfolding played
+    played-stops l skip is says ends e = absurd cc
+    played-stops l (pass_to moment) is says ends e = absurd cc
+    played-stops l (turn actor step) is says ends e = by (fault (configured_model c) (turns_in (steps_of c before)) (turn_at (standing c before) actor step)) refl e where
+      by : (o : Option Fault) → fault (configured_model c) (turns_in (steps_of c before)) (turn_at (standing c before) actor step) ≡ o
+          → accepted (suc count) c (past_line (standing c before) l) (shape_of (form_at (association_of l) before)) (turn_at (standing c before) actor step) o ≡ stops status text → Here
+      by None found e = absurd cc
+      by (Some (IsOpen a)) found e = record-stops 5 e
+      by (Some (NotOpen a)) found e = record-stops 5 e
+      by (Some (NotYours a)) found e = record-stops 5 e
+      by (Some (QueueFull a)) found e = stop-by (statuses.Limit 2 (suc count)) [] e (refl, (refl, λ two. full (Ok l) actor step a is says found))
+    played-stops l (refused kind) is says ends e = record-stops kind e
+    played-stops l last is says ends e = stop-by statuses.Ok (codes "end\n") e (refl, (ls, ap (λ l. l ∷ ls) (ends refl)))
+
+    step-stops : step_at (suc count) c (standing c before) line ≡ stops status text → Here
+    unfolding step_at
+    step-stops e = by (judging.line_at line) refl e where
+      by : (r : Result RecLine Kind) → judging.line_at line ≡ r → told_at (suc count) c (standing c before) r ≡ stops status text → Here
+      by (Err kind) is e = record-stops (number_of kind) e
+      by (Ok l) is e = played-stops l (told_of c (form_at (association_of l) before) l) is refl (λ t. end-line line (is ∙ ap Ok (told-last c (form_at (association_of l) before) l t))) e
 
 -- the octets of a configuration whose line is the last one, and of one with a line more
 last-whole : (text line : List ℕ) → text ++ octets_of (line ∷ []) ≡ text ++ (line ++ 10 ∷ [])
@@ -213,10 +245,10 @@ stops-here place h written count line ls status text f e = by (nat_lt most_lines
         → StopsHere h status text count (line ∷ ls)
     end true ends e = started-stops h count line ls status text n (config_at (before ++ (line ++ 10 ∷ []))) (f.0 []) (λ c is. unplayed c ends is) e
     end false ends e = absurd cc
-  below (playing c s) f e = step-stops h count line ls status text c s e
+  below (playing c s) f e = step-stops h count line ls status text c f.0 f.1 (ap (λ s. step_at (suc count) c s line) (sym f.3) ∙ e)
 
   by : (b : Bool) → (if b then stops (passed 1 (suc count) place) [] else lines_at (suc count) place line) ≡ stops status text → StopsHere h status text count (line ∷ ls)
-  by true e = stop-by h count line ls status text (passed 1 (suc count) place) [] e (passed-stops h count (line ∷ ls) 1 place written f)
+  by true e = stop-by h count line ls status text (passed 1 (suc count) place) [] e (passed-stops h count (line ∷ ls) 1 place written (λ e. cc) f)
   by false e = below place f e
 
 -- a line behind which the reading goes on
@@ -264,40 +296,37 @@ started-on h written line n (Err faults.Memory) to text none whole e = absurd cc
 -- a step line
 module _ (h : Of) (written line : List ℕ) (c : Config) (before : List (List ℕ)) (number : ℕ) (to : Place) (text : List ℕ) where
   module _ (history : (ls : List (List ℕ)) → h ls ≡ Some (record { config = c; steps = steps_of c (onto before ls) })) (wrote : written ≡ text_of c (steps_of c before)) (is-history : IsHistory (configured_model c) (turns_in (steps_of c before))) where
-    -- the line says t
-    module _ (t : Told) (says : said c (judging.line_at line) ≡ t) where
-      abbrev After : Told → Type 0
-      After t = (more : List ℕ) → (text_of c (step_in (moment_of c before) t ∷ steps_of c before) ≡ text_of c (steps_of c before) ++ more) → IsHistory (configured_model c) (turns_in (step_in (moment_of c before) t ∷ steps_of c before))
-          → goes (playing c (grown c before t)) more ≡ goes to text → On h written line to text
-
-      after : After t
-      after more told is e = on-by h written line (playing c (grown c before t)) to more text e (
+    -- the line is read so, and says t
+    module _ (r : Result RecLine Kind) (t : Told) (is : judging.line_at line ≡ r) (says : said_in c (form_of before r) r ≡ t) where
+      after : (more : List ℕ) → text_of c (parts_by c before r t ∷ steps_of c before) ≡ text_of c (steps_of c before) ++ more → IsHistory (configured_model c) (turns_in (parts_by c before r t ∷ steps_of c before))
+          → goes (playing c (grown c before r t)) more ≡ goes to text → On h written line to text
+      after more told held e = on-by h written line (playing c (grown c before r t)) to more text e (
         line ∷ before,
         λ ls. history (line ∷ ls),
-        ap (λ w. w ++ more) wrote ∙ (sym told ∙ ap (λ u. text_of c (step_in (moment_of c before) u ∷ steps_of c before)) (sym says)),
-        ap (grown c before) (sym says),
-        subst (λ u. IsHistory (configured_model c) (turns_in (step_in (moment_of c before) u ∷ steps_of c before))) (sym says) is,
+        ap (λ w. w ++ more) wrote ∙ sym (onto-line c before line r t is says (λ q u. text_of c (parts_by c before q u ∷ steps_of c before) ≡ text_of c (steps_of c before) ++ more) told),
+        onto-line c before line r t is says (λ q u. grown c before r t ≡ grown c before q u) refl,
+        onto-line c before line r t is says (λ q u. IsHistory (configured_model c) (turns_in (parts_by c before q u ∷ steps_of c before))) held,
       )
 
-    played-on : (t : Told) → ((IsRefused t → ⊥) → said c (judging.line_at line) ≡ t) → played number c (standing c before) t ≡ goes to text → On h written line to text
+    played-on : (l : RecLine) (t : Told) → judging.line_at line ≡ Ok l → told_of c (form_at (association_of l) before) l ≡ t
+        → played number c (past_line (standing c before) l) (shape_of (form_at (association_of l) before)) t ≡ goes to text → On h written line to text
     unfolding played
-    played-on skip says e = after skip (says (λ r. let no : skip ≡ refused r.0 = r.1 in absurd cc)) [] (sym (append-nil (text_of c (steps_of c before)))) is-history e
-    played-on (pass_to moment) says e = after (pass_to moment) (says (λ r. let no : pass_to moment ≡ refused r.0 = r.1 in absurd cc)) [] (sym (append-nil (text_of c (steps_of c before)))) is-history e
-    played-on (turn actor step) says e = by (fault (configured_model c) (turns_in (steps_of c before)) (turn_at (standing c before) actor step)) refl e where
-      by : (o : Option Fault) → fault (configured_model c) (turns_in (steps_of c before)) (turn_at (standing c before) actor step) ≡ o → accepted number c (standing c before) (turn_at (standing c before) actor step) o ≡ goes to text
-          → On h written line to text
-      by None is e = after (turn actor step) (says (λ r. let no : turn actor step ≡ refused r.0 = r.1 in absurd cc)) _ refl (is-history, is) e
-      by (Some f) is e = absurd cc
-    played-on (refused kind) says e = absurd cc
-    played-on last says e = absurd cc
+    played-on l skip is says e = after (Ok l) skip is says [] (sym (append-nil (text_of c (steps_of c before)))) is-history e
+    played-on l (pass_to moment) is says e = after (Ok l) (pass_to moment) is says [] (sym (append-nil (text_of c (steps_of c before)))) is-history e
+    played-on l (turn actor step) is says e = by (fault (configured_model c) (turns_in (steps_of c before)) (turn_at (standing c before) actor step)) refl e where
+      by : (o : Option Fault) → fault (configured_model c) (turns_in (steps_of c before)) (turn_at (standing c before) actor step) ≡ o
+          → accepted number c (past_line (standing c before) l) (shape_of (form_at (association_of l) before)) (turn_at (standing c before) actor step) o ≡ goes to text → On h written line to text
+      by None none e = after (Ok l) (turn actor step) is says _ refl (is-history, none) e
+      by (Some f) some e = absurd cc
+    played-on l (refused kind) is says e = absurd cc
+    played-on l last is says e = absurd cc
 
     step-on : step_at number c (standing c before) line ≡ goes to text → On h written line to text
     unfolding step_at
     step-on e = by (judging.line_at line) refl e where
       by : (r : Result RecLine Kind) → judging.line_at line ≡ r → told_at number c (standing c before) r ≡ goes to text → On h written line to text
       by (Err kind) is e = absurd cc
-      by (Ok l) is e = played-on (told_of c (is_open c (turns_in (steps_of c before)) (association_of l)) l)
-          (λ other. ap (said c) is ∙ sym (said-same c (is_open c (turns_in (steps_of c before)) (association_of l)) l other)) e
+      by (Ok l) is e = played-on l (told_of c (form_at (association_of l) before) l) is refl e
 
 goes-on : (place : Place) (h : Of) (written : List ℕ) (number : ℕ) (line : List ℕ) (to : Place) (text : List ℕ) → IsFrom place h written → line_at number place line ≡ goes to text → On h written line to text
 unfolding line_at configuring_at

@@ -1,9 +1,11 @@
 -- What is written to a record: the text of the history of its lines, before the one with which the reading stops.
 use Rattle.std.specs.Prelude.{◌≡◌, ◌≤◌, ◌⊎◌, ℕ, suc, ◌+◌, List, [], ◌∷◌, ◌++◌, length, take, drop, codes, Option, None, Some, IfSome}
 use Rattle.bay_model.specs.Named.{configured_model}
-use Rattle.bay_model.specs.Acceptance.{IsHistory}
+use Rattle.bay_model.specs.Acceptance.{QueueFull, fault, IsHistory}
+use Rattle.bay_model.specs.Answers.{Turn}
+use Rattle.answer_text.specs.declared.shape.Shape.{Shape}
 use Rattle.std.specs.Io.KnownBytes.{Appends}
-use Rattle.record_history.specs.Histories.{Recorded, lines_of, history_of}
+use Rattle.record_history.specs.Histories.{Part, stepped, Recorded, lines_of, history_of}
 use Rattle.record_history.specs.Texts.{turns_in, record_text}
 use Rattle.record_outcome.specs.Records.{Outcome, limit, outcome}
 use Rattle.record_outcome.specs.declared.status.Status.{Status}
@@ -18,12 +20,31 @@ abbrev pub IsUnplayed : Option Recorded → Type 0
 IsUnplayed None = ⊥
 IsUnplayed (Some r) = r.steps ≡ []
 
+-- a step of a record's newest line finds 16 replies waiting for its association, behind what came before it
+pub record MeetsFullQueue (r : Recorded) : Type 0 where
+  pub later : List Part
+  pub turn : Turn
+  pub shape : Shape
+  pub earlier : List Part
+  pub before : List (List Part)
+  pub association : ℕ
+  pub line : r.steps ≡ (later ++ stepped turn shape ∷ earlier) ∷ before
+  pub cause : fault (configured_model r.config) (turns_in (earlier ∷ before)) turn ≡ Some (QueueFull association)
+
+abbrev pub MeetsFull : Option Recorded → Type 0
+MeetsFull None = ⊥
+MeetsFull (Some r) = MeetsFullQueue r
+
+-- the cause of a limit that a line passes, where it is one of the history: of limit 2
+abbrev pub HasCause : ℕ → Option Recorded → Type 0
+HasCause which history = which ≡ 2 → MeetsFull history
+
 -- Behind line k the reading stops with this status: at the `end` of the steps; at the line that the status names, or in a
--- configuration that is refused, or at the `end` of one that has what isn't built.
+-- configuration that is refused, or at the `end` of one that has what isn't built; a line that passes limit 2 has a step for it.
 abbrev pub StopsBehind : (List (List ℕ) → Option Recorded) → Status → ℕ → ℕ → List (List ℕ) → Type 0
 StopsBehind history statuses.Ok number k ls = (rest : List (List ℕ)) × (drop k ls ≡ codes "end" ∷ rest)
 StopsBehind history (statuses.Record line kind) number k ls = (line ≡ suc number) ⊎ ((kind ≡ 9) × IsUnplayed (history (take (suc k) ls)))
-StopsBehind history (statuses.Limit which line) number k ls = line ≡ suc number
+StopsBehind history (statuses.Limit which line) number k ls = (line ≡ suc number) × HasCause which (history (take (suc k) ls))
 StopsBehind history _ number k ls = history (take k ls) ≡ None
 
 -- `end` is written exactly at status 0

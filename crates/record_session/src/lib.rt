@@ -7,6 +7,7 @@ mod scan;
 mod session;
 
 // the parts of a record, one after another: the first line, the configuration, the steps
+mod forms;
 mod playing;
 mod stage;
 mod starting;

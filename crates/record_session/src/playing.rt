@@ -1,23 +1,66 @@
 //! The steps of a record, performed on a bay.
 
-use answer_text::push_answer;
-use bay_core::Bay;
+ghost use Rattle.std.specs.Prelude.{◌≡◌, ◌≤◌, IfSome};
+ghost use Rattle.run_record.specs.Grammar.{IsLine};
+ghost use Rattle.run_record.specs.Seen.{line_seen};
+ghost use Rattle.record_steps.specs.Resolved.{association_of};
+ghost use Rattle.std.specs.Option.{option_map};
+ghost use Rattle.bay_core.specs.Turns.{named};
+ghost use Rattle.record_outcome.specs.Steps.{stop_of};
+ghost use Rattle.record_outcome.specs.Judgements.{IsJudgement};
+
+use crate::forms::Forms;
+use answer_text::{Shape, lines_of};
+use bay_core::{Bay, StepFault};
 use bay_model::Step;
 use record_outcome::status::Status;
-use record_steps::{Told, association, tell};
+use record_steps::{Form, Told, association, behind, tell};
 use run_record::{LineView, view_line};
 use std::alloc::{AllocError, Global};
-use sv_base::{ActorNo, Moment};
+use sv_base::{ActorNo, AssocNo, Moment};
 
-/// A bay, and the moment of the next step.
+/// The status of a line whose step is refused; none where memory is wanting.
+fn stop(number: u64, fault: StepFault) -> Option<Status>
+    ensures status { result ≡ option_map (stop_of number) (named fault) }
+    ensures judged { IfSome result IsJudgement }
+{
+    match fault {
+        StepFault::QueueFull(_) => Some(Status::Limit {
+            which: 2,
+            line: number,
+        }),
+        StepFault::IsOpen(_) | StepFault::NotOpen(_) | StepFault::NotYours(_) => {
+            Some(Status::Record {
+                line: number,
+                kind: 5,
+            })
+        }
+        StepFault::Memory => None,
+    }
+}
+
+/// The number of the association that a line names, and 0 where it names none.
+fn number_in(line: &LineView<'_>) -> AssocNo
+    requires { IsLine (line_seen line.now) }
+    ensures number { result.0 ≡ association_of (line_seen line.now) }
+    ensures within { result.0 ≤ 16 }
+{
+    match association(line) {
+        Some(a) => a,
+        None => AssocNo(0),
+    }
+}
+
+/// A bay, the moment of the next step, and what the associations are.
 #[derive(Drop)]
 pub struct Playing {
     bay: Bay,
     moment: Moment,
+    forms: Forms,
 }
 
 impl Playing {
-    ghost use Rattle.std.specs.Prelude.{◌≡◌, ◌≤◌, ◌<◌, ◌^◌, suc, true, [], None, IfOk, IfSome, IfNone, OnOk, OnErr};
+    ghost use Rattle.std.specs.Prelude.{◌≡◌, ◌≤◌, ◌<◌, ◌^◌, suc, true, [], None, IfOk, IfSome, IfNone, OnErr};
     ghost use Rattle.sv_base.specs.declared.config.Config.{Config};
     ghost use Rattle.bay_model.specs.Named.{configured_model};
     ghost use Rattle.bay_model.specs.Acceptance.{fault};
@@ -26,60 +69,115 @@ impl Playing {
     ghost use Rattle.object_model.specs.Fits.{fits};
     ghost use Rattle.bay_core.specs.Standing.{StandsFor};
     ghost use Rattle.bay_core.specs.Turns.{IsBuilt};
-    ghost use Rattle.record_steps.specs.Resolved.{association_of, told_of};
-    ghost use Rattle.record_steps.specs.Own.{IsOwn};
-    ghost use Rattle.record_outcome.specs.Played.{Played, start, turn_at, is_open as is_open_after};
+    ghost use Rattle.answer_text.specs.Texts.{IsShape};
+    ghost use Rattle.record_steps.specs.Forms.{IsSized};
+    ghost use Rattle.record_steps.specs.Resolved.{association_of};
+    ghost use Rattle.record_outcome.specs.Played.{Played, start, turn_at};
     ghost use Rattle.record_outcome.specs.Steps.{step_at};
-    ghost use Rattle.record_session.specs.Plays.{Plays, PlaysOn, Performs, plays_told};
+    ghost use Rattle.record_session.specs.Formed.{form_in};
+    ghost use Rattle.record_session.specs.Plays.{Plays, PlaysOn, PlaysSlot, Performs, Passes, IsReady, plays_told};
     ghost use Rattle.record_outcome.specs.Judgements.{IsJudgement};
 
-    /// A bay before its first step.
-    pub fn new(bay: Bay) -> Playing
+    /// A bay before its first step, where no association is open.
+    pub fn new(alloc: Global, bay: Bay) -> Result<Playing, AllocError>
         requires { StandsFor bay bay.config [] }
-        ensures plays { Plays result bay.config start }
-        ensures steps { result.bay.steps ≡ bay.steps }
+        ensures plays { IfOk result (λ p. Plays p bay.config start) }
+        ensures steps { IfOk result (λ p. p.bay.steps ≡ bay.steps) }
     {
-        Playing {
+        let forms = Forms::new(alloc)?;
+        Ok(Playing {
             bay,
             moment: Moment::first(),
-        }
+            forms,
+        })
     }
 
-    /// The association that a line names is open.
-    fn is_open(&self, line: &LineView<'_>) -> bool
+    /// What the association is that a line names.
+    fn form_of(&self, line: &LineView<'_>) -> Form
         requires { IsLine (line_seen line.now) }
-        ensures { (c : Config) (s : Played) → Plays self.now c s → told_of c result (line_seen line.now) ≡ told_of c (is_open_after c s.turns (association_of (line_seen line.now))) (line_seen line.now) }
+        ensures form { result ≡ form_in self.now.forms (association_of (line_seen line.now)) }
+        ensures sized { IsSized result }
     {
-        match association(line) {
-            Some(a) => self.bay.is_open(a),
-            None => false,
-        }
+        self.forms.of(number_in(line))
     }
 
-    /// Performs the step that a line tells, and writes the answer to it. Such a step has no fault, so memory alone may be
-    /// wanting.
+    /// Makes of the associations what a line makes of them, where its own is of this form.
+    fn pass(&mut self, line: &LineView<'_>, form: Form)
+        requires ranges { IsLine (line_seen line.now) }
+        requires form { form ≡ form_in self.old.forms (association_of (line_seen line.now)) }
+        requires sized { IsSized form }
+        ensures passes { Passes self.old self.new (line_seen line.now) }
+        ensures bay { self.new.bay ≡ self.old.bay }
+    {
+        self.forms.set(number_in(line), behind(line, form));
+    }
+
+    /// Performs the step of a line, and writes the answer to it in this shape; or gives the status with which the reading
+    /// stops. A step that comes to nothing has no fault, so memory alone may be wanting.
     fn perform(
         &mut self,
         alloc: Global,
         out: &mut Vec<u8>,
+        number: u64,
+        shape: Shape,
         actor: ActorNo,
         step: &Step,
-    ) -> Result<(), AllocError>
+    ) -> Result<Option<Status>, AllocError>
         requires fits { fits self.old.bay.config step.now ≡ true }
         requires built { IsBuilt step.now }
-        requires own { (c : Config) (s : Played) → Plays self.old c s → IsOwn (is_open_after c s.turns) actor.0 step.now }
+        requires shape { IsShape shape }
         requires few { self.old.bay.steps < 2 ^ 62 }
-        ensures performs { OnOk result (Performs self.old self.new actor.0 step.now out.old.items out.new.items) }
+        ensures performs { IfOk result (λ s. Performs s self.old self.new number shape actor.0 step.now out.old.items out.new.items) }
+        ensures judged { IfOk result (λ s. IfSome s IsJudgement) }
         ensures faultless { OnErr result ((c : Config) (s : Played) → Plays self.old c s → fault (configured_model c) s.turns (turn_at s actor.0 step.now) ≡ None) }
-        ensures few { OnOk result (self.new.bay.steps ≤ suc self.old.bay.steps) }
+        ensures few { IfOk result (λ s. IfNone s (self.new.bay.steps ≤ suc self.old.bay.steps)) }
     {
         match self.bay.step(alloc, self.moment, actor, step) {
             Ok(answer) => {
-                push_answer(out, self.bay.model(), actor, &answer)?;
+                lines_of(alloc, self.bay.model(), shape, step, &answer, out)?;
                 self.bay.reuse(answer);
-                Ok(())
+                Ok(None)
             }
-            Err(_) => Err(AllocError),
+            Err(fault) => match stop(number, fault) {
+                Some(status) => Ok(Some(status)),
+                None => Err(AllocError),
+            },
+        }
+    }
+
+    /// Does what was told, whose step stands in a slot, and writes the answer to it in this shape; or gives the status with
+    /// which the reading stops.
+    fn act(
+        &mut self,
+        alloc: Global,
+        out: &mut Vec<u8>,
+        number: u64,
+        shape: Shape,
+        told: Told,
+        slot: &Step,
+    ) -> Result<Option<Status>, AllocError>
+        requires ready { IsReady self.old.bay.config told slot.now }
+        requires shape { IsShape shape }
+        requires few { self.old.bay.steps < 2 ^ 62 }
+        ensures plays { IfOk result (λ s. PlaysSlot s self.old self.new number shape told slot.now out.old.items out.new.items) }
+        ensures judged { IfOk result (λ s. IfSome s IsJudgement) }
+        ensures few { IfOk result (λ s. IfNone s (self.new.bay.steps ≤ suc self.old.bay.steps)) }
+    {
+        match told {
+            Told::Nothing => Ok(None),
+            Told::At(moment) => {
+                self.moment = moment;
+                Ok(None)
+            }
+            Told::Step(actor) => self.perform(alloc, out, number, shape, actor, slot),
+            Told::Refused(kind) => Ok(Some(Status::Record {
+                line: number,
+                kind: kind.number(),
+            })),
+            Told::End => {
+                out.extend_from_slice(b"end\n")?;
+                Ok(Some(Status::Ok))
+            }
         }
     }
 
@@ -90,7 +188,7 @@ impl Playing {
         out: &mut Vec<u8>,
         number: u64,
         line: &LineView<'_>,
-        step: &mut Step,
+        slot: &mut Step,
     ) -> Result<Option<Status>, AllocError>
         requires ranges { IsLine (line_seen line.now) }
         requires few { self.old.bay.steps < 2 ^ 62 }
@@ -98,26 +196,10 @@ impl Playing {
         ensures judged { IfOk result (λ s. IfSome s IsJudgement) }
         ensures few { IfOk result (λ s. IfNone s (self.new.bay.steps ≤ suc self.old.bay.steps)) }
     {
-        let is_open = self.is_open(line);
-        match tell(alloc, self.bay.model(), is_open, line, step)? {
-            Told::Nothing => Ok(None),
-            Told::At(moment) => {
-                self.moment = moment;
-                Ok(None)
-            }
-            Told::Step(actor) => {
-                self.perform(alloc, out, actor, step)?;
-                Ok(None)
-            }
-            Told::Refused(kind) => Ok(Some(Status::Record {
-                line: number,
-                kind: kind.number(),
-            })),
-            Told::End => {
-                out.extend_from_slice(b"end\n")?;
-                Ok(Some(Status::Ok))
-            }
-        }
+        let form = self.form_of(line);
+        self.pass(line, form);
+        let told = tell(alloc, self.bay.model(), &form, line, slot)?;
+        self.act(alloc, out, number, form.shape(), told, slot)
     }
 
     /// Reads a step line, without its newline, and writes the answer to it; or gives the status with which the reading stops.

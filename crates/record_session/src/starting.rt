@@ -47,7 +47,7 @@ pub fn start(alloc: Global, before: u64, text: &[u8]) -> Result<Started, AllocEr
     }
     let model = Model::build(alloc, config)?;
     let bay = Bay::open(alloc, model)?;
-    Ok(Started::Plays(Playing::new(bay)))
+    Ok(Started::Plays(Playing::new(alloc, bay)?))
 }
 
 /// The status of a configuration that isn't whole before a line, behind so many lines: that of its first refused line, or else

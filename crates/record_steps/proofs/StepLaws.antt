@@ -1,9 +1,9 @@
 -- The steps that lines tell fit the configuration: associations are 1 to 16, blocks are there, and values are sound.
-use Rattle.std.proofs.Common.{◌≡◌, ℕ, ◌<◌, Bool, true, false, cond, List, [], ◌∷◌, length, map, refl, sym, ap, ◌∙◌, arith}
+use Rattle.std.proofs.Common.{◌≡◌, ℕ, ◌<◌, ◌≤◌, Bool, true, false, cond, List, [], ◌∷◌, length, map, refl, sym, ap, ◌∙◌, arith}
 use Rattle.std.specs.Prelude.{Option, None, Some, codes, ◌==◌, nat_lt, if◌then◌else◌}
 use Rattle.std.specs.List.{list_all, position_or_len}
 use Rattle.std.specs.Str.{bytes_eq}
-use Rattle.std.proofs.lemmas.Bool.{and_from}
+use Rattle.std.proofs.lemmas.Bool.{and_from, le-leb}
 use Rattle.std.proofs.lemmas.List.{length-map}
 use Rattle.std.proofs.lemmas.Bool.Decides.{nat_tests}
 use Rattle.sv_base.specs.declared.config.Config.{Config}
@@ -14,6 +14,8 @@ use Rattle.sv_base.specs.declared.types.TypeOf.TheVariants as types
 use Rattle.sv_base.specs.declared.value.Value.{Value}
 use Rattle.sv_base.specs.declared.value.Value.TheVariants as values
 use Rattle.bay_model.specs.declared.components.Comp.{Comp}
+use Rattle.bay_model.specs.declared.request.Request.{Request}
+use Rattle.bay_answers.specs.Requests.{IsFitting}
 use Rattle.bay_model.specs.declared.step.Step.{Step}
 use Rattle.bay_model.specs.declared.step.Step.TheVariants as steps
 use Rattle.text_words.specs.Words.{behind}
@@ -86,8 +88,11 @@ module _ (c : Config) (a : AssocNo) (is : IsAssoc a) where
   fitting : (actor : ℕ) (step : Step) → fits c step ≡ true → turn actor step ≡ turn_of c actor step
   fitting actor step h = sym (ap (λ b. if b then turn actor step else refused 4) h)
 
-  pub open-told : (writer : ActorNo) → turn a.0 (steps.Open a 65000 writer) ≡ turn_of c a.0 (steps.Open a 65000 writer)
-  open-told writer = fitting a.0 (steps.Open a 65000 writer) (and_from _ _ (is_numbered a is) refl)
+  pub open-told : (writer : ActorNo) (size : ℕ) → 1024 ≤ size → size ≤ 65000 → turn a.0 (steps.Open a size writer) ≡ turn_of c a.0 (steps.Open a size writer)
+  open-told writer size least most = fitting a.0 (steps.Open a size writer) (and_from _ _ (is_numbered a is) (and_from _ _ (le-leb 1024 size least) (le-leb size 65000 most)))
+
+  pub ask-told : (r : Request) → IsFitting c r → turn a.0 (steps.Ask a r) ≡ turn_of c a.0 (steps.Ask a r)
+  ask-told r fit = fitting a.0 (steps.Ask a r) (fit a (is_numbered a is))
 
   pub take-told : turn a.0 (steps.Take a) ≡ turn_of c a.0 (steps.Take a)
   take-told = fitting a.0 (steps.Take a) (is_numbered a is)

@@ -2,6 +2,8 @@
 pub mod Shapes
 pub mod Settings
 pub mod Told
+pub mod Forms
+pub mod Asks
 pub mod Resolved
 pub mod Found
 pub mod Telling

@@ -1,5 +1,5 @@
 -- What is told where a step stands in a slot, and the association that a line names.
-use Rattle.std.specs.Prelude.{◌≡◌, ℕ}
+use Rattle.std.specs.Prelude.{◌≡◌}
 use Rattle.sv_base.specs.declared.numbers.AssocNo.{AssocNo}
 use Rattle.bay_model.specs.declared.step.Step.{Step}
 use Rattle.run_record.specs.Judging.{number_of}

@@ -6,6 +6,11 @@ mod telling;
 
 pub use telling::{Told, association, tell};
 
+// what an association is, and what a line makes of it
+mod form;
+
+pub use form::{Form, behind};
+
 // the values of lines
 mod settings;
 mod shapes;

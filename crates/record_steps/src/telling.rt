@@ -1,22 +1,28 @@
 //! What a line tells: a step in a slot that is lent, or the first cause for which there is none.
 
-ghost use Rattle.std.specs.Prelude.{◌≡◌, IfOk, MatchOption};
-ghost use Rattle.run_record.specs.Grammar.{IsAssoc, IsLine};
+ghost use Rattle.std.specs.Prelude.{◌≡◌, IfOk, IfSome, MatchOption};
+ghost use Rattle.run_record.specs.Grammar.{IsAssoc, IsForm, IsLine};
+ghost use Rattle.text_words.specs.Values.{hex_at};
+ghost use Rattle.bay_answers.specs.Requests.{IsFitting};
 ghost use Rattle.run_record.specs.Seen.{line_seen, pairs_seen};
 ghost use Rattle.object_model.specs.Numbers.{number_in};
 ghost use Rattle.object_model.specs.References.{block_references};
 ghost use Rattle.bay_model.specs.ComponentTable.{comp_named};
-ghost use Rattle.record_steps.specs.Resolved.{opened_as, written_as, lost_as, set_as, turn_of, told_of};
+ghost use Rattle.record_steps.specs.Resolved.{opened_in, opened_as, written_as, lost_as, asked_as, spelled_as, sent_as, set_as, turn_of, told_of};
+ghost use Rattle.record_steps.specs.Asks.{asked_by, is_unbuilt as is_unbuilt_service};
 ghost use Rattle.record_steps.specs.Telling.{telling, NamesNone, Names};
 ghost use Rattle.bay_model.specs.declared.step.Step.TheVariants as steps;
 
+use crate::form::Form;
 use crate::settings::{Found, settings_of};
 use crate::shapes::shape;
-use bay_model::{Comp, Sets, Step};
+use bay_answers::read_request;
+use bay_model::{Comp, Request, Service, Sets, Step};
 use object_model::Model;
 use run_record::{Kind, LineView, OpenForm, PairsView};
 use std::alloc::{AllocError, Global};
 use sv_base::{ActorNo, AssocNo, Moment};
+use text_words::hex_octets;
 
 /// What a line tells, where a step stands in the slot that was lent.
 #[derive(Clone, Copy, Debug, PartialEq, Eq)]
@@ -41,31 +47,39 @@ fn put(slot: &mut Step, step: Step)
     *slot = step;
 }
 
-/// An association is opened, if it isn't open.
-fn open(model: &Model, is_open: bool, a: AssocNo, form: OpenForm, step: &mut Step) -> Told
-    requires { IsAssoc a }
-    ensures { telling result step.new ≡ opened_as model.now is_open a form }
+/// An association that isn't open is opened.
+fn open_shut(model: &Model, a: AssocNo, asked: OpenForm, step: &mut Step) -> Told
+    requires number { IsAssoc a }
+    requires size { IsForm asked }
+    ensures { telling result step.new ≡ opened_in model.now a asked }
 {
-    if is_open {
-        return Told::Refused(Kind::State);
-    }
+    let writer = ActorNo(a.0);
+    let size = match asked {
+        OpenForm::Direct => 65000,
+        OpenForm::Mms(size) => size,
+        OpenForm::Wire => return Told::Refused(Kind::NotBuilt),
+    };
+    put(step, Step::Open { a, size, writer });
+    Told::Step(writer)
+}
+
+/// An association is opened, if it isn't open.
+fn open(model: &Model, form: &Form, a: AssocNo, asked: OpenForm, step: &mut Step) -> Told
+    requires number { IsAssoc a }
+    requires size { IsForm asked }
+    ensures { telling result step.new ≡ opened_as model.now form.now a asked }
+{
     match form {
-        OpenForm::Direct => {
-            let writer = ActorNo(a.0);
-            let size = 65000;
-            put(step, Step::Open { a, size, writer });
-            Told::Step(writer)
-        }
-        OpenForm::Mms(_) => Told::Refused(Kind::NotBuilt),
-        OpenForm::Wire => Told::Refused(Kind::NotBuilt),
+        Form::Shut => open_shut(model, a, asked, step),
+        Form::Direct | Form::Mms(_) => Told::Refused(Kind::State),
     }
 }
 
-/// An association writes a component, if both have their names and it is open.
+/// An association writes a component, if both have their names and it is direct.
 fn write(
     alloc: Global,
     model: &Model,
-    is_open: bool,
+    form: &Form,
     a: AssocNo,
     block: &[u8],
     comp: &[u8],
@@ -73,7 +87,7 @@ fn write(
     step: &mut Step,
 ) -> Result<Told, AllocError>
     requires { IsAssoc a }
-    ensures { IfOk result (λ told. telling told step.new ≡ written_as model.now is_open a (number_in (block_references model.now) block.now) (comp_named comp.now) value.now) }
+    ensures { IfOk result (λ told. telling told step.new ≡ written_as model.now form.now a (number_in (block_references model.now) block.now) (comp_named comp.now) value.now) }
 {
     let Some(block) = model.block(block) else {
         return Ok(Told::Refused(Kind::Name));
@@ -81,7 +95,7 @@ fn write(
     let Some(comp) = Comp::of_name(comp) else {
         return Ok(Told::Refused(Kind::Name));
     };
-    if !is_open {
+    if !form.is_direct() {
         return Ok(Told::Refused(Kind::State));
     }
     let Some(value) = shape(alloc, comp, value)? else {
@@ -101,15 +115,75 @@ fn take(model: &Model, a: AssocNo, step: &mut Step) -> Told
 }
 
 /// An association is lost, if it is open.
-fn lose(model: &Model, is_open: bool, a: AssocNo, step: &mut Step) -> Told
+fn lose(model: &Model, form: &Form, a: AssocNo, step: &mut Step) -> Told
     requires { IsAssoc a }
-    ensures { telling result step.new ≡ lost_as model.now is_open a }
+    ensures { telling result step.new ≡ lost_as model.now form.now a }
 {
-    if is_open {
-        put(step, Step::Lost(a));
-        Told::Step(ActorNo(a.0))
-    } else {
-        Told::Refused(Kind::State)
+    match form {
+        Form::Shut => Told::Refused(Kind::State),
+        Form::Direct | Form::Mms(_) => {
+            put(step, Step::Lost(a));
+            Told::Step(ActorNo(a.0))
+        }
+    }
+}
+
+/// A request of this service isn't built.
+fn is_unbuilt(service: &Service) -> bool
+    ensures { result ≡ is_unbuilt_service service.now }
+{
+    matches!(service, Service::Define { .. } | Service::Delete { .. })
+}
+
+/// An association asks, if there is something that it asks.
+fn ask(model: &Model, a: AssocNo, asked: Option<Request>, step: &mut Step) -> Told
+    requires number { IsAssoc a }
+    requires fits { IfSome asked (IsFitting model.now) }
+    ensures { telling result step.new ≡ asked_as model.now a asked }
+{
+    let Some(request) = asked else {
+        return Told::Nothing;
+    };
+    if is_unbuilt(&request.service) {
+        return Told::Refused(Kind::NotBuilt);
+    }
+    put(step, Step::Ask(a, request));
+    Told::Step(ActorNo(a.0))
+}
+
+/// An association of MMS sends a PDU, if it is spelled in hexadecimal.
+fn send_spelled(
+    alloc: Global,
+    model: &Model,
+    a: AssocNo,
+    hex: &[u8],
+    step: &mut Step,
+) -> Result<Told, AllocError>
+    requires { IsAssoc a }
+    ensures { IfOk result (λ told. telling told step.new ≡ spelled_as model.now a (hex_at hex.now)) }
+{
+    let Some(octets) = hex_octets(alloc, hex)? else {
+        return Ok(Told::Refused(Kind::Hex));
+    };
+    let asked = read_request(alloc, model, &octets)?;
+    Ok(ask(model, a, asked, step))
+}
+
+/// An association sends a PDU, if it is one of MMS.
+fn send(
+    alloc: Global,
+    model: &Model,
+    form: &Form,
+    a: AssocNo,
+    hex: &[u8],
+    step: &mut Step,
+) -> Result<Told, AllocError>
+    requires { IsAssoc a }
+    ensures { IfOk result (λ told. telling told step.new ≡ sent_as model.now form.now a hex.now) }
+{
+    match form {
+        Form::Mms(_) => send_spelled(alloc, model, a, hex, step),
+        Form::Shut | Form::Direct => Ok(Told::Refused(Kind::State)),
     }
 }
 
@@ -153,31 +227,32 @@ pub fn association(line: &LineView<'_>) -> Option<AssocNo>
     }
 }
 
-/// What a line tells, where the association that it names is open or isn't. A step is made in the slot, and fits the model.
+/// What a line tells, by what the association that it names is. A step is made in the slot, and fits the model.
 #[tactic(auto, unfolding(crate::specs::Resolved::told_of))]
 pub fn tell(
     alloc: Global,
     model: &Model,
-    is_open: bool,
+    form: &Form,
     line: &LineView<'_>,
     step: &mut Step,
 ) -> Result<Told, AllocError>
     requires ranges { IsLine (line_seen line.now) }
-    ensures told { IfOk result (λ told. telling told step.new ≡ told_of model.now is_open (line_seen line.now)) }
+    ensures told { IfOk result (λ told. telling told step.new ≡ told_of model.now form.now (line_seen line.now)) }
 {
     match line {
         LineView::Skip => Ok(Told::Nothing),
         LineView::At(moment) => Ok(Told::At(*moment)),
-        LineView::Open { a, form } => Ok(open(model, is_open, *a, *form, step)),
+        LineView::Open { a, form: asked } => Ok(open(model, form, *a, *asked, step)),
         LineView::Write {
             a,
             block,
             comp,
             value,
-        } => write(alloc, model, is_open, *a, block, comp, value, step),
-        LineView::Pdu(..) | LineView::Piece(..) => Ok(Told::Refused(Kind::State)),
+        } => write(alloc, model, form, *a, block, comp, value, step),
+        LineView::Pdu(a, hex) => send(alloc, model, form, *a, hex, step),
+        LineView::Piece(..) => Ok(Told::Refused(Kind::State)),
         LineView::Take(a) => Ok(take(model, *a, step)),
-        LineView::Lost(a) => Ok(lose(model, is_open, *a, step)),
+        LineView::Lost(a) => Ok(lose(model, form, *a, step)),
         LineView::Set(pairs) => set(alloc, model, pairs, step),
         LineView::Done(..) | LineView::Block(..) => Ok(Told::Refused(Kind::Name)),
         LineView::Tick => {

@@ -1,4 +1,4 @@
-use Rattle.std.proofs.Common.{◌≡◌, ◌∙◌, ◌∷◌, ℕ, [], Some, None, suc, true, false, length, refl, ap, sym, subst}
+use Rattle.std.proofs.Common.{◌≡◌, ◌∙◌, [], Some, suc, true, false, length, refl, ap, sym, subst}
 use Rattle.std.specs.Prelude.{nat_le}
 use Rattle.std.specs.Option.{option_map}
 use Rattle.sv_base.specs.declared.config.Config.{Config}
@@ -10,7 +10,7 @@ use Rattle.assoc_table.specs.Seats.{replies}
 use Rattle.assoc_table.specs.Tables.{row_of}
 use Rattle.bay_core.specs.Standing.{StandsAt}
 use Rattle.bay_core.specs.State.{State}
-use Rattle.bay_core.proofs.AskLaws.{answerable, asked-for, fine-for, full-for}
+use Rattle.bay_core.proofs.AskLaws.{asked-for, fine-for, full-for}
 use Rattle.bay_core.proofs.bay.Bay.ask.Goals as goal
 
 pub returns-then-is_full-clause-does : goal.returns-then-is_full-clause-does
@@ -39,8 +39,8 @@ returns-clause-does c = λ c' h was.
     let config : c.self.inside.model ≡ c' = st.is_config in
     let served = c.self.invariant.furnished.servable in
     let answered = c.in-Ok.ensures.answered in
-    let asked = asked-for c.args.self.now c' h c.args.moment c.args.actor c.args.a c.args.request.now c.in-Some.opener c.requires.number was is c.if-actor-opener.false c.answer_read.new.self c.count.new.self c.in-Ok.reply
-    (subst (λ (d : Config). d.controls ≡ []) config served.controls) (subst (λ (d : Config). d.groups ≡ []) config served.groups) (answerable c.args.request.now.service c.requires.reading) room
+    let asked = asked-for c.args.self.now c' h c.args.moment c.args.actor c.args.a c.args.request.now c.in-Some.opener c.requires.number was is c.if-actor-opener.false c.answer.new.self c.count.new.self c.in-Ok.reply
+    (subst (λ (d : Config). d.controls ≡ []) config served.controls) (subst (λ (d : Config). d.groups ≡ []) config served.groups) c.requires.answerable room
     (answered.1 c' (length h) (points (configured_model c') h) was.1) (answered.0 c' (length h) (points (configured_model c') h) was.1)
     (c.count.ensures ∙ ap (λ (t : State). record t { steps = suc t.steps }) c.queue.ensures) in
     (ap answers.Asked c.no_acts.ensures ∙ asked.0, asked.1)

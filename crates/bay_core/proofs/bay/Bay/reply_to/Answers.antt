@@ -1,9 +1,6 @@
-use Rattle.std.proofs.Common.{◌≡◌, ◌∙◌, ℕ, List, Option, unwrap_or, Result, Ok, Err, refl, ap, sym, subst, vec_capacity}
+use Rattle.std.proofs.Common.{◌∙◌, ℕ, List, Option, unwrap_or, Result, Ok, Err, refl, ap, sym, subst, vec_capacity}
 use Rattle.std.specs.Prelude.{IfOk}
-use Rattle.sv_base.specs.declared.config.Config.{Config}
 use Rattle.bay_model.specs.declared.reply.Reply.{Reply}
-use Rattle.object_model.specs.Tables.{set_rows}
-use Rattle.data_sets.specs.Books.{opened}
 use Rattle.value_store.specs.Stored.{Stored}
 use Rattle.report_block.specs.declared.block.ReportBlock.{ReportBlock}
 use Rattle.bay_replies.specs.Standing.{IsServed}

@@ -1,9 +1,8 @@
-use Rattle.std.proofs.Common.{◌≡◌, ◌∙◌, Some, None, List, ap, sym, subst, true, false}
-use Rattle.std.specs.Prelude.{slice_get}
+use Rattle.std.proofs.Common.{◌≡◌, ◌∙◌, Some, List, ap, sym, subst, true, false}
 use Rattle.assoc_table.specs.declared.waiting.Waiting.TheVariants.{Termination}
 use Rattle.assoc_table.specs.Seats.{Row}
 use Rattle.assoc_table.specs.Tables.{row_of, taken}
-use Rattle.bay_core.specs.Queued.{HoldReplies, IsReply, left_by}
+use Rattle.bay_core.specs.Queued.{HoldReplies, left_by}
 use Rattle.bay_core.proofs.QueueLaws.{no-termination, row-holds, taken-holds, taken-none}
 use Rattle.bay_core.proofs.queues.Queues.pop.Goals as goal
 use Rattle.bay_core.proofs.queues.Queues.pop.Goals.{in-Some-Reply, in-None}

@@ -1,0 +1,5 @@
+use Rattle.std.proofs.Common.{length}
+use Rattle.answer_text.proofs.sendable.+ascend.Given as goal
+
+abbrev pub decreases-ascend : goal.decreases-ascend
+decreases-ascend l = length l.members.now

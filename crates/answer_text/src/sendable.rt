@@ -1,0 +1,153 @@
+//! Whether an output of a bay has PDUs.
+
+ghost use Rattle.std.specs.Prelude.{◌≡◌, IsTrue, length};
+ghost use Rattle.std.specs.List.{All, list_all, AllByRecursion};
+ghost use Rattle.sv_base.specs.Seen.{seen_of, row_of};
+ghost use Rattle.sv_base.specs.Tree.{Seen};
+ghost use Rattle.mms_data.specs.Grammar.{IsSpelled};
+ghost use Rattle.report_cut.specs.Pdus.{Ascend, IsShort, HasData, CanBeCut};
+ghost use Rattle.bay_answers.specs.Replies.{IsNode, CanBeReplied, CanBeSent};
+ghost use Rattle.answer_text.specs.Sendable.{is_seen_writable, are_writable as are_row_writable, is_result_writable as is_written_result, are_nodes as are_nodes_below};
+
+use bay_model::{Member, Output, Reply, Report};
+use ber_view::whole;
+use mms_data::view_data;
+use object_model::Model;
+use sv_base::{NodeId, Value};
+
+/// Whether a value has a spelling as Data, at most so deep.
+#[cycle(writable)]
+fn is_writable(value: &Value, depth: u8) -> bool
+    ensures { result ≡ is_seen_writable depth (seen_of value.now) }
+{
+    if depth == 0 {
+        return false;
+    }
+    match value {
+        Value::Other => false,
+        Value::Time(time) => time.frac < 16777216,
+        Value::Struct(values) => are_writable(values.as_slice(), depth - 1),
+        _ => true,
+    }
+}
+
+#[cycle(writable)]
+fn are_writable(values: &[Value], depth: u8) -> bool
+    ensures { result ≡ are_row_writable depth (row_of values.now) }
+{
+    for value in values {
+        if !is_writable(value, depth) {
+            return false;
+        }
+    }
+    true
+}
+
+fn is_result_writable(one: &Result<Value, u8>) -> bool
+    ensures { result ≡ is_written_result one.now }
+{
+    match one {
+        Ok(value) => is_writable(value, 10),
+        Err(_) => true,
+    }
+}
+
+fn are_results_writable(results: &[Result<Value, u8>]) -> bool
+    ensures { result ≡ list_all is_written_result results.now }
+{
+    for one in results {
+        if !is_result_writable(one) {
+            return false;
+        }
+    }
+    true
+}
+
+/// Whether these are numbers of nodes, of which there are so many.
+fn are_nodes(count: usize, nodes: &[NodeId]) -> bool
+    ensures { result ≡ are_nodes_below count nodes.now }
+{
+    for node in nodes {
+        if node.0 as usize >= count {
+            return false;
+        }
+    }
+    true
+}
+
+/// Whether a reply has a PDU.
+fn can_be_replied(model: &Model, reply: &Reply) -> bool
+    ensures { IsTrue result → CanBeReplied model.now reply.now }
+{
+    match reply {
+        Reply::TypeOfNode(node) => (node.0 as usize) < model.nodes().len(),
+        Reply::Read { results, .. } => are_results_writable(results.as_slice()),
+        Reply::SetOf { members, .. } => are_nodes(model.nodes().len(), members.as_slice()),
+        Reply::Reject(number) => 1 <= *number && *number <= 4,
+        _ => true,
+    }
+}
+
+/// Whether octets are one Data.
+fn is_data(octets: &[u8]) -> bool
+    ensures { IsTrue result → (s : Seen) × IsSpelled octets.now s }
+{
+    match whole(octets) {
+        Some(part) => view_data(&part).is_ok(),
+        None => false,
+    }
+}
+
+/// Whether a member can stand in a PDU.
+fn is_member(member: &Member) -> bool
+    ensures { IsTrue result → IsShort member.now × HasData member.now }
+{
+    member.reference.len() <= 129 && member.octets.len() <= 500 && is_data(member.octets.as_slice())
+}
+
+fn are_members(members: &[Member]) -> bool
+    ensures { IsTrue result → AllByRecursion IsShort members.now × AllByRecursion HasData members.now }
+{
+    match members {
+        [] => true,
+        [member, more @ ..] => is_member(member) && are_members(more),
+    }
+}
+
+/// Whether numbers ascend, above one and up to another.
+fn ascend(last: u32, total: u32, members: &[Member]) -> bool
+    ensures { IsTrue result → Ascend last total members.now }
+{
+    match members {
+        [] => true,
+        [member, more @ ..] => {
+            last < member.number.0
+                && member.number.0 <= total
+                && ascend(member.number.0, total, more)
+        }
+    }
+}
+
+/// Whether a report has PDUs.
+fn can_be_cut(report: &Report) -> bool
+    ensures { IsTrue result → CanBeCut report.now }
+{
+    report.opt_flds.len() == 10
+        && 1 <= report.total
+        && report.total <= 256
+        && report.rpt_id.len() <= 129
+        && report.dat_set.len() <= 129
+        && ascend(0, report.total, report.members.as_slice())
+        && are_members(report.members.as_slice())
+}
+
+/// Whether an output has PDUs.
+pub fn can_be_sent(model: &Model, output: &Output) -> bool
+    ensures { IsTrue result → CanBeSent model.now output.now }
+{
+    match output {
+        Output::Reply { before, reply, .. } => before.is_empty() && can_be_replied(model, reply),
+        Output::Report(report) => can_be_cut(report),
+        Output::Termination(_) => false,
+    }
+}
