@@ -4,6 +4,7 @@
 #![tactic(auto)]
 
 pub mod calls;
+pub mod gate;
 pub mod mem_sink;
 pub mod mem_source;
 pub mod outside;
@@ -12,6 +13,7 @@ mod tests;
 pub mod traits;
 
 pub use calls::Calls;
+pub use gate::{Gate, OpenGate};
 pub use mem_sink::MemSink;
 pub use mem_source::MemSource;
 pub use outside::{ReadSource, WriteSink};
