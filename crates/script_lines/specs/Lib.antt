@@ -1,0 +1,5 @@
+-- The lines of scripts.
+pub mod Owners
+pub mod Lines
+pub mod Grammar
+pub mod Seen

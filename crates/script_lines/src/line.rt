@@ -1,0 +1,23 @@
+//! What a line among scripts tells.
+
+use crate::owner::Owner;
+use run_record::{LineView, RecLine};
+
+/// What a line among scripts tells.
+#[derive(Debug, Drop)]
+pub enum ScriptLine {
+    /// A script begins.
+    Begins(Owner),
+    /// It ends.
+    Closes,
+    /// A line of a record.
+    Step(RecLine),
+}
+
+/// The same, with its words lent by the line's text.
+#[derive(Clone, Copy, Debug)]
+pub enum ScriptView<'a> {
+    Begins(Owner),
+    Closes,
+    Step(LineView<'a>),
+}
