@@ -1,0 +1,5 @@
+pub mod Lists
+pub mod Plays
+pub mod Races
+pub mod SendLaws
+pub mod Closures

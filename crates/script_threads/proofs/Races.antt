@@ -1,0 +1,233 @@
+-- Passes that were dealt, played and joined again.
+use Rattle.std.proofs.Common.{◌≡◌, ◌≢◌, ℕ, zero, suc, ◌+◌, ◌<◌, ◌≤◌, eqb, eq-eqb, ne_eqb, cond, List, [], ◌∷◌, ◌++◌, length, take, map, get_or, inl, inr, ⊎_elim, ◌⊎◌, sym, refl, ap, subst, ◌∙◌, arith, append_assoc}
+use Rattle.std.specs.List.{All}
+use mathlib.Core.Logic.{dite}
+use native.Mathlib.Decide.{ℕ_discrete, dec_lt}
+use Rattle.sv_base.specs.declared.config.Config.{Config}
+use Rattle.bay_model.specs.Answers.{Turn, History}
+use Rattle.history_lock.specs.Histories.{IsEarlier, by, IsLegal}
+use Rattle.history_lock.specs.Passes.{Site, Known, IsIn, InSome, HasNumber, IsSamePass, Joined}
+use Rattle.history_lock.proofs.Steps.{by-append, nothing_more}
+use Rattle.script_threads.specs.declared.script.Script.{Script}
+use Rattle.script_threads.specs.declared.part.Reply.{Reply}
+use Rattle.script_threads.specs.declared.part.Part.{Part}
+use Rattle.script_threads.specs.declared.job.Played.{Played}
+use Rattle.script_threads.specs.declared.job.Job.{Job}
+use Rattle.script_threads.specs.Scripts.{turns_onto, turns_by, replies_of}
+use Rattle.script_threads.specs.Playing.{IsOf, StopsAt, Plays, Went}
+use Rattle.script_threads.specs.Dealing.{IsRest, IsFresh, Dealt, AllWent}
+use Rattle.script_threads.specs.Races.{beginnings, IsPart, AreParts, IsRaced, Gathers, AllGathered}
+use Rattle.script_threads.proofs.Plays.{same_numbers}
+use Rattle.script_threads.proofs.Lists.{replies_skip}
+
+-- ---- dealing
+
+-- the next pass is below those that were dealt
+pub dealt_more : (h : Site) (low high : ℕ) (xs : List (Known × Script)) (x : Known × Script) → Dealt h low high xs → IsFresh h x → x.0.first + x.0.count ≡ low
+    → Dealt h x.0.first high (xs ++ x ∷ [])
+dealt_more h low high [] x is fresh next = (fresh, next ∙ is, refl)
+dealt_more h low high (y ∷ ys) x dealt fresh next = (dealt.0, dealt.1, dealt_more h low y.0.first ys x dealt.2 fresh next)
+
+dealt_low : (h : Site) (low high : ℕ) (xs : List (Known × Script)) → Dealt h low high xs → low ≤ high
+dealt_low h low high [] is = omega (arith, is)
+dealt_low h low high (x ∷ xs) dealt = omega (arith, dealt.0.1, dealt.1, dealt_low h low x.0.first xs dealt.2)
+
+-- ---- joining
+
+in_left : (k : ℕ) (xs ys : List (ℕ × ℕ)) → InSome k xs → InSome k (xs ++ ys)
+in_left k [] ys h = absurd h
+in_left k (x ∷ xs) ys h = ⊎_elim (λ (i : IsIn k x). inl i) (λ (i : InSome k xs). inr (in_left k xs ys i)) h
+
+in_right : (k : ℕ) (xs ys : List (ℕ × ℕ)) → InSome k ys → InSome k (xs ++ ys)
+in_right k [] ys h = h
+in_right k (x ∷ xs) ys h = inr (in_right k xs ys h)
+
+ranges_of : (p q r : Known) → Joined p q r → (r.first, r.count) ∷ r.joined ≡ (p.first, p.count) ∷ (p.joined ++ (q.first, q.count) ∷ q.joined)
+ranges_of p q r j = λ i. (j.place.2 i, j.place.3 i) ∷ j.ranges i
+
+pub gathers_self : (p : Known) → Gathers p p
+gathers_self p = record { earlier = ([], refl); numbers = λ k has. (has, refl) }
+
+pub gathers_ours : (p q r : Known) → Joined p q r → Gathers p r
+gathers_ours p q r j = record {
+  earlier = j.this;
+  numbers = λ k has.
+      (subst (InSome k) (sym (ranges_of p q r j)) (⊎_elim (λ (i : IsIn k (p.first, p.count)). inl i) (λ (i : InSome k p.joined). inr (in_left k p.joined ((q.first, q.count) ∷ q.joined) i)) has), j.ours k has);
+}
+
+pub gathers_theirs : (p q r : Known) → Joined p q r → Gathers q r
+gathers_theirs p q r j = record {
+  earlier = j.that;
+  numbers = λ k has. (subst (InSome k) (sym (ranges_of p q r j)) (inr (in_right k p.joined ((q.first, q.count) ∷ q.joined) has)), j.theirs k has);
+}
+
+earlier_more : (xs ys zs : History) → IsEarlier xs ys → IsEarlier ys zs → IsEarlier xs zs
+earlier_more xs ys zs a b = (b.0 ++ a.0, append_assoc b.0 a.0 xs ∙ (ap (λ (l : History). b.0 ++ l) a.1 ∙ b.1))
+
+pub gathers_more : (a b c : Known) → Gathers a b → Gathers b c → Gathers a c
+gathers_more a b c g h = record {
+  earlier = earlier_more a.seen b.seen c.seen g.earlier h.earlier;
+  numbers = λ k has. let x = g.numbers k has in let y = h.numbers k x.0 in (y.0, y.1 ∙ x.1);
+}
+
+pub legal_joined : (config : Config) (p q r : Known) → Joined p q r → IsLegal config p.seen → IsLegal config q.seen → IsLegal config r.seen
+legal_joined config p q r j a b = ⊎_elim (λ (e : r.seen ≡ p.seen). subst (IsLegal config) (sym e) a) (λ (e : r.seen ≡ q.seen). subst (IsLegal config) (sym e) b) j.longer
+
+-- ---- what came of all scripts
+
+abbrev pub scripts_of : List (Known × Script) → List Script
+scripts_of xs = map (λ (x : Known × Script). x.1) xs
+
+abbrev pub parts_of : List Played → List Part
+parts_of ds = map (λ (d : Played). d.part) ds
+
+not_first : (s : Script) (p : Part) (ss : List Script) (ps : List Part) (k : ℕ) → s.actor ≢ k → beginnings (s ∷ ss) (p ∷ ps) k ≡ beginnings ss ps k
+not_first s p ss ps k ne = ap (λ b. cond b (turns_by k (take (length p.replies.items) s.steps.items)) (beginnings ss ps k)) (ne_eqb s.actor k ne)
+
+the_first : (s : Script) (p : Part) (ss : List Script) (ps : List Part) (k : ℕ) → s.actor ≡ k → beginnings (s ∷ ss) (p ∷ ps) k ≡ turns_by k (take (length p.replies.items) s.steps.items)
+the_first s p ss ps k is = ap (λ b. cond b (turns_by k (take (length p.replies.items) s.steps.items)) (beginnings ss ps k)) (eq-eqb s.actor k is)
+
+-- no script is of a number that was not dealt
+none_above : (h : Site) (low high : ℕ) (xs : List (Known × Script)) (ps : List Part) (k : ℕ) → Dealt h low high xs → high ≤ k → beginnings (scripts_of xs) ps k ≡ []
+none_above h low high [] ps k dealt le = refl
+none_above h low high (x ∷ xs) [] k dealt le = refl
+none_above h low high (x ∷ xs) (p ∷ ps) k dealt le =
+    not_first x.1 p (scripts_of xs) ps k (λ e. absurd (omega (arith, e, dealt.0.4, dealt.0.1, dealt.1, le)))
+    ∙ none_above h low x.0.first xs ps k dealt.2 (omega (arith, dealt.1, le))
+
+none_below : (h : Site) (low high : ℕ) (xs : List (Known × Script)) (ps : List Part) (k : ℕ) → Dealt h low high xs → k < low → beginnings (scripts_of xs) ps k ≡ []
+none_below h low high [] ps k dealt lt = refl
+none_below h low high (x ∷ xs) [] k dealt lt = refl
+none_below h low high (x ∷ xs) (p ∷ ps) k dealt lt =
+    not_first x.1 p (scripts_of xs) ps k (λ e. absurd (omega (arith, e, dealt.0.4, dealt_low h low x.0.first xs dealt.2, lt)))
+    ∙ none_below h low x.0.first xs ps k dealt.2 lt
+
+-- the numbers of one actor's pass
+module _ (h : Site) (x : Known × Script) (d : Played) (q : Known) (fresh : IsFresh h x) (went : Went x.0 x.1 d) (gathered : Gathers d.pass q) where
+  pub number_held : (k : ℕ) → x.0.first ≤ k → k < x.0.first + x.0.count → HasNumber q k × (by k q.seen ≡ by k d.pass.seen)
+  number_held k low near = gathered.numbers k (same_numbers x.0 d.pass went.plays.same k (inl (low, near)))
+
+  pub own_steps : by x.0.first d.pass.seen ≡ turns_by x.0.first (take (length d.part.replies.items) x.1.steps.items)
+  own_steps = went.plays.own ∙ ap (λ (l : History). turns_onto x.0.first (take (length d.part.replies.items) x.1.steps.items) (by x.0.first l)) fresh.3
+
+  pub no_steps : (k : ℕ) → x.0.first < k → k < x.0.first + x.0.count → by k d.pass.seen ≡ []
+  no_steps k above near = went.plays.others k (inl (omega (arith, above), near)) (λ e. absurd (omega (arith, e, above))) ∙ ap (by k) fresh.3
+
+abbrev Held : Known → List Script → List Part → ℕ → Type 0
+Held q ss ps k = HasNumber q k × (by k q.seen ≡ beginnings ss ps k)
+
+-- each number that was dealt is held by q, with the beginning of its script
+pub dealt_held : (h : Site) (low high : ℕ) (xs : List (Known × Script)) (ds : List Played) (q : Known) → Dealt h low high xs → AllWent xs ds → AllGathered q ds
+    → (k : ℕ) → low ≤ k → k < high → Held q (scripts_of xs) (parts_of ds) k
+dealt_held h low high [] ds q dealt went gathered k le lt = absurd (omega (arith, dealt, le, lt))
+dealt_held h low high (x ∷ xs) [] q dealt went gathered k le lt = absurd went
+dealt_held h low high (x ∷ xs) (d ∷ ds) q dealt went gathered k le lt =
+    dite (ℕ_discrete k x.0.first) mine
+    (λ ne. dite (dec_lt k x.0.first) (λ less. below (dealt_held h low x.0.first xs ds q dealt.2 went.1 gathered.1 k le less) less) (λ ge. above (omega (arith, ne, ge))))
+  where
+    near : x.0.first ≤ k → k < x.0.first + x.0.count
+    near from = omega (arith, lt, dealt.1)
+
+    mine : k ≡ x.0.first → Held q (scripts_of (x ∷ xs)) (parts_of (d ∷ ds)) k
+    mine e =
+        let held = number_held h x d q dealt.0 went.0 gathered.0 k (omega (arith, e)) (near (omega (arith, e))) in (
+          held.0,
+          held.1 ∙ (ap (λ (n : ℕ). by n d.pass.seen) e ∙ (own_steps h x d q dealt.0 went.0 gathered.0
+              ∙ (ap (λ (n : ℕ). turns_by n (take (length d.part.replies.items) x.1.steps.items)) (sym e)
+              ∙ sym (the_first x.1 d.part (scripts_of xs) (parts_of ds) k (dealt.0.4 ∙ sym e))))),
+        )
+
+    below : Held q (scripts_of xs) (parts_of ds) k → k < x.0.first → Held q (scripts_of (x ∷ xs)) (parts_of (d ∷ ds)) k
+    below rest less =
+        (rest.0, rest.1 ∙ sym (not_first x.1 d.part (scripts_of xs) (parts_of ds) k (λ e. absurd (omega (arith, e, dealt.0.4, less)))))
+
+    above : x.0.first < k → Held q (scripts_of (x ∷ xs)) (parts_of (d ∷ ds)) k
+    above more =
+        let held = number_held h x d q dealt.0 went.0 gathered.0 k (omega (arith, more)) (near (omega (arith, more))) in (
+          held.0,
+          held.1 ∙ (no_steps h x d q dealt.0 went.0 gathered.0 k more (near (omega (arith, more)))
+              ∙ sym (not_first x.1 d.part (scripts_of xs) (parts_of ds) k (λ e. absurd (omega (arith, e, dealt.0.4, more)))
+              ∙ none_above h low x.0.first xs (parts_of ds) k dealt.2 (omega (arith, more)))),
+        )
+
+-- so is every number below, of which there are no steps
+pub all_held : (h : Site) (p : Known) (high : ℕ) (xs : List (Known × Script)) (ds : List Played) (q : Known) → p.first ≡ 0 → p.seen ≡ [] → Dealt h p.count high xs → AllWent xs ds
+    → Gathers p q → AllGathered q ds → (k : ℕ) → k < high → Held q (scripts_of xs) (parts_of ds) k
+all_held h p high xs ds q first none dealt went own gathered k lt =
+    dite (dec_lt k p.count)
+    (λ less. let held = own.numbers k (inl (omega (arith, first), omega (arith, first, less))) in
+    (held.0, held.1 ∙ (ap (by k) none ∙ sym (none_below h p.count high xs (parts_of ds) k dealt less))))
+    (λ ge. dealt_held h p.count high xs ds q dealt went gathered k (omega (arith, ge)) lt)
+
+-- what was answered, in the whole history
+no_more : (a b : History) (k : ℕ) → IsEarlier a b → by k b ≡ by k a → (c : Config) → replies_of c k b ≡ replies_of c k a
+no_more a b k earlier same c =
+    let none : by k earlier.0 ≡ [] = nothing_more (by k a) (by k earlier.0) (sym (by-append k earlier.0 a) ∙ (ap (by k) earlier.1 ∙ same)) in
+    ap (replies_of c k) (sym earlier.1) ∙ replies_skip c k earlier.0 a none
+
+a_part : (h : Site) (x : Known × Script) (d : Played) (q : Known) → IsFresh h x → Went x.0 x.1 d → Gathers d.pass q → IsPart h.config q.seen x.1 d.part
+a_part h x d q fresh went gathered = record {
+  actor = went.actor;
+  few = went.plays.few;
+  told = told;
+  before = d.pass.seen;
+  earlier = gathered.earlier;
+  stops = subst (λ (c : Config). StopsAt c x.1.actor x.1.steps.items (length d.part.replies.items) d.part.fault d.pass.seen) fresh.0.1
+      (subst (λ (k : ℕ). StopsAt x.0.config k x.1.steps.items (length d.part.replies.items) d.part.fault d.pass.seen) (sym fresh.4) went.stops);
+}
+  where
+    held : by x.0.first q.seen ≡ by x.0.first d.pass.seen
+    held = (number_held h x d q fresh went gathered x.0.first (omega arith) (omega (arith, fresh.1))).1
+
+    first : x.0.first ≡ d.part.actor
+    first = sym fresh.4 ∙ sym went.actor
+
+    told : d.part.replies.items ≡ replies_of h.config d.part.actor q.seen
+    told =
+        sym (went.plays.told ∙ ap (λ (l : History). replies_of x.0.config x.0.first l ++ d.part.replies.items) fresh.3)
+        ∙ (sym (no_more d.pass.seen q.seen x.0.first gathered.earlier held x.0.config)
+        ∙ (λ i. replies_of (fresh.0.1 i) (first i) q.seen))
+
+pub all_parts : (h : Site) (low high : ℕ) (xs : List (Known × Script)) (ds : List Played) (q : Known) → Dealt h low high xs → AllWent xs ds → AllGathered q ds
+    → AreParts h.config q.seen (scripts_of xs) (parts_of ds)
+all_parts h low high [] [] q dealt went gathered = tt
+all_parts h low high [] (d ∷ ds) q dealt went gathered = went
+all_parts h low high (x ∷ xs) [] q dealt went gathered = went
+all_parts h low high (x ∷ xs) (d ∷ ds) q dealt went gathered = (a_part h x d q dealt.0 went.0 gathered.0, all_parts h low x.0.first xs ds q dealt.2 went.1 gathered.1)
+
+pub all_more : (p q : Known) (ds : List Played) (d : Played) → AllGathered p ds → Gathers p q → Gathers d.pass q → AllGathered q (ds ++ d ∷ [])
+all_more p q [] d all ours theirs = (theirs, tt)
+all_more p q (x ∷ ds) d all ours theirs = (gathers_more x.pass p q all.0 ours, all_more p q ds d all.1 ours theirs)
+
+-- ---- the race
+
+pub went_all : (xs : List (Known × Script)) (ds : List Played) → length ds ≡ length xs
+    → ((i : ℕ) (x : Known × Script) (d : Played) → i < length xs → Went (get_or xs i x).0 (get_or xs i x).1 (get_or ds i d)) → AllWent xs ds
+went_all [] [] same each = tt
+went_all [] (d ∷ ds) same each = absurd (omega (arith, same))
+went_all (x ∷ xs) [] same each = absurd (omega (arith, same))
+went_all (x ∷ xs) (d ∷ ds) same each = (each 0 x d (omega arith), went_all xs ds (omega (arith, same)) (λ i y e near. each (suc i) y e (omega (arith, near))))
+
+fine : (h : Site) (x : Known × Script) (d : Played) → IsFresh h x → Went x.0 x.1 d → IsOf h d.pass × IsLegal h.config d.pass.seen
+fine h x d fresh went =
+    let same = went.plays.same in
+    ((same.0 ∙ fresh.0.0, same.1 ∙ fresh.0.1), subst (λ (c : Config). IsLegal c d.pass.seen) fresh.0.1 (went.plays.legal (subst (IsLegal x.0.config) (sym fresh.3) tt)))
+
+pub all_fine : (h : Site) (low high : ℕ) (xs : List (Known × Script)) (ds : List Played) → Dealt h low high xs → AllWent xs ds
+    → All (λ (d : Played). IsOf h d.pass × IsLegal h.config d.pass.seen) ds
+all_fine h low high xs [] dealt went k e near = absurd (omega (arith, near))
+all_fine h low high [] (d ∷ ds) dealt went k e near = absurd went
+all_fine h low high (x ∷ xs) (d ∷ ds) dealt went zero e near = fine h x d dealt.0 went.0
+all_fine h low high (x ∷ xs) (d ∷ ds) dealt went (suc k) e near = all_fine h low x.0.first xs ds dealt.2 went.1 k e (omega (arith, near))
+
+pub scripts_paired : {X : Type 0} (jobs : List (Job X)) → scripts_of (map (λ (j : Job X). (j.pass, j.script)) jobs) ≡ map (λ (j : Job X). j.script) jobs
+scripts_paired [] = refl
+scripts_paired (j ∷ jobs) = ap (λ (l : List Script). j.script ∷ l) (scripts_paired jobs)
+
+pub raced : (h : Site) (p q : Known) (xs : List (Known × Script)) (ds : List Played) → IsRest h p.count p → Dealt h p.count 33 xs → AllWent xs ds → Gathers p q → AllGathered q ds
+    → IsLegal h.config q.seen → ((k : ℕ) → 33 ≤ k → by k q.seen ≡ []) → IsRaced h.config (scripts_of xs) (parts_of ds) q.seen
+raced h p q xs ds rest dealt went own gathered legal beyond = record {
+  legal = legal;
+  shuffle = (λ k near. (all_held h p 33 xs ds q rest.1 rest.4 dealt went own gathered k near).1, λ k far. beyond k far);
+  parts_ = all_parts h p.count 33 xs ds q dealt went gathered;
+}

@@ -1,0 +1,13 @@
+use Rattle.std.proofs.Common.{◌≡◌, ◌++◌, length}
+use Rattle.std.specs.List.{All}
+use Rattle.sv_base.specs.declared.config.Config.{Config}
+use Rattle.bay_model.specs.Answers.{History}
+use Rattle.script_threads.specs.declared.part.Part.{Part}
+use Rattle.script_threads.specs.Scripts.{made_of}
+use Rattle.script_threads.specs.Merging.{AreRight, AreOf}
+use Rattle.script_threads.proofs.merging.merge.Given as goal
+
+abbrev pub invariant-loop-part : goal.invariant-loop-part
+invariant-loop-part l =
+    (length l.places.items ≡ l.fn.total) × (l.yielded ++ l.part-iterator.rest.items ≡ l.fn.parts.items)
+    × ((c : Config) (h : History) → AreOf c h l.fn.parts.items → AreRight (made_of c h) l.places.items)

@@ -1,0 +1,11 @@
+use Rattle.std.proofs.Common.{◌≡◌, ◌++◌, length}
+use Rattle.sv_base.specs.declared.config.Config.{Config}
+use Rattle.bay_model.specs.Answers.{History}
+use Rattle.script_threads.specs.Scripts.{replies_of, made_of}
+use Rattle.script_threads.specs.Merging.{AreRight}
+use Rattle.script_threads.proofs.merging.put_part.Given as goal
+
+abbrev pub invariant-loop-reply : goal.invariant-loop-reply
+invariant-loop-reply l =
+    (length l.places ≡ length l.initial.places) × (l.index ≡ length l.yielded) × (l.yielded ++ l.reply-iterator.rest.items ≡ l.fn.part.replies.items)
+    × ((c : Config) (h : History) → l.fn.part.replies.items ≡ replies_of c l.fn.part.actor h → AreRight (made_of c h) l.initial.places → AreRight (made_of c h) l.places)

@@ -1,0 +1,42 @@
+-- Passes that are dealt to actors.
+use Rattle.std.specs.Prelude.{◌≡◌, ◌+◌, ◌*◌, ◌<◌, ◌≤◌, ◌^◌, ℕ, List, [], ◌∷◌, length, Vec, vec_capacity}
+use Rattle.std.specs.declared.alloc.Global.{Global}
+use Rattle.sv_base.specs.declared.config.Config.{Config}
+use Rattle.history_lock.specs.Passes.{Site, Known}
+use Rattle.script_threads.specs.declared.script.Script.{Script}
+use Rattle.script_threads.specs.declared.part.Reply.{Reply}
+use Rattle.script_threads.specs.declared.job.Played.{Played}
+use Rattle.script_threads.specs.Playing.{IsOf, AreFit, Went}
+
+-- the numbers of actors fall, from below `high`; 0 is none
+abbrev pub AreFalling : ℕ → List ℕ → Type 0
+AreFalling high [] = Unit {0}
+AreFalling high (n ∷ ns) = (0 < n) × (n < high) × AreFalling n ns
+
+-- a script of fewer steps than an actor has turns, which a bay of this configuration can be given
+abbrev pub CanPlay : Config → Script → Type 0
+CanPlay c s = AreFit c s.steps.items × (length s.steps.items ≤ 2 ^ 55)
+
+-- the caller's pass, which has the numbers below `above`, and turns for the actors of these
+abbrev pub IsRest : Site → ℕ → Known → Type 0
+IsRest h above p = IsOf h p × (p.first ≡ 0) × (p.count ≡ above) × (p.joined ≡ []) × (p.seen ≡ []) × (above * 2 ^ 55 ≤ p.left)
+
+-- a pass of this history that has seen nothing, with so many turns, whose lowest number is the script's
+abbrev pub IsFresh : Site → Known × Script → Type 0
+IsFresh h x = IsOf h x.0 × (0 < x.0.count) × (x.0.left ≡ 2 ^ 55) × (x.0.seen ≡ []) × (x.1.actor ≡ x.0.first)
+
+-- an actor can play its script with this pass, and there is room for the replies
+abbrev pub IsReady : Site → Known → Script → Vec Reply Global → Type 0
+IsReady h p s replies = IsOf h p × (0 < p.count) × (length s.steps.items ≤ p.left) × AreFit h.config s.steps.items
+    × (replies.items ≡ []) × (length s.steps.items ≤ vec_capacity replies)
+
+-- passes of the numbers from `low` below `high`, the highest first, each with its script
+abbrev pub Dealt : Site → ℕ → ℕ → List (Known × Script) → Type 0
+Dealt h low high [] = low ≡ high
+Dealt h low high (x ∷ xs) = IsFresh h x × (x.0.first + x.0.count ≡ high) × Dealt h low x.0.first xs
+
+-- what came of each
+abbrev pub AllWent : List (Known × Script) → List Played → Type 0
+AllWent [] [] = Unit {0}
+AllWent (x ∷ xs) (d ∷ ds) = Went x.0 x.1 d × AllWent xs ds
+AllWent _ _ = ⊥
