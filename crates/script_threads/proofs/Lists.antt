@@ -1,11 +1,10 @@
 -- Replies and steps of a history, by their places.
-use Rattle.std.proofs.Common.{◌≡◌, ℕ, zero, suc, ◌+◌, ◌<◌, ◌≤◌, Bool, true, false, cond, eqb, eq-eqb, List, [], ◌∷◌, ◌++◌, length, get_or, map, set, sym, refl, ap, ◌∙◌, arith, length-append, Some, inl, inr, ◌⊎◌}
+use Rattle.std.proofs.Common.{◌≡◌, ℕ, zero, suc, ◌<◌, ◌≤◌, Bool, true, false, cond, eqb, List, [], ◌∷◌, ◌++◌, length, get_or, map, set, sym, refl, ap, ◌∙◌, arith, length-append, Some, inl, inr, ◌⊎◌}
 use Rattle.std.specs.Prelude.{Option, Result, Ok, Err, IfOk, slice_get}
 use Rattle.std.specs.List.{All}
 use Rattle.std.proofs.lemmas.Bool.{eqb-true}
 use Rattle.sv_base.specs.declared.config.Config.{Config}
-use Rattle.bay_model.specs.Named.{configured_model}
-use Rattle.bay_model.specs.Answers.{Turn, History, answer}
+use Rattle.bay_model.specs.Answers.{Turn, History}
 use Rattle.history_lock.specs.Histories.{turn_of, by}
 use Rattle.script_threads.specs.declared.script.TimedStep.{TimedStep}
 use Rattle.script_threads.specs.declared.part.Reply.{Reply}

@@ -1,17 +1,16 @@
 -- A pass that has played a part of a script plays on.
-use Rattle.std.proofs.Common.{◌≡◌, ◌≢◌, ℕ, ◌+◌, ◌-◌, ◌<◌, ◌≤◌, eq-eqb, cond, List, [], ◌∷◌, ◌++◌, length, take, get_or, inl, ◌⊎◌, sym, refl, ap, subst, ◌∙◌, arith, length-append, append_assoc}
+use Rattle.std.proofs.Common.{◌≡◌, ◌≢◌, ℕ, ◌+◌, ◌<◌, eq-eqb, cond, List, [], ◌∷◌, ◌++◌, length, take, get_or, inl, sym, refl, ap, subst, ◌∙◌, arith, length-append, append_assoc}
 use Rattle.std.specs.Prelude.{Ok, Err, Some, slice_get}
 use Rattle.std.proofs.lemmas.List.{take_more}
 use Rattle.sv_base.specs.declared.config.Config.{Config}
 use Rattle.bay_model.specs.declared.answer.Answer.{Answer}
-use Rattle.bay_model.specs.declared.step.Step.{Step}
 use Rattle.bay_model.specs.Named.{configured_model}
 use Rattle.bay_model.specs.Answers.{Turn, History, answer}
 use Rattle.bay_core.specs.declared.fault.StepFault.{StepFault}
 use Rattle.history_lock.specs.declared.fault.TurnFault.TheVariants as faults
 use Rattle.history_lock.specs.Histories.{turn_of, by, IsLegal, IsRefused}
-use Rattle.history_lock.specs.Passes.{Known, InSome, HasNumber, OfOthers, IsSamePass, Turned, later, own}
-use Rattle.history_lock.proofs.Steps.{by-append, by_mine, by_none}
+use Rattle.history_lock.specs.Passes.{Known, InSome, HasNumber, OfOthers, IsSamePass, Turned, own}
+use Rattle.history_lock.proofs.Steps.{by-append, by_none}
 use Rattle.script_threads.specs.declared.script.TimedStep.{TimedStep}
 use Rattle.script_threads.specs.declared.part.Reply.{Reply}
 use Rattle.script_threads.specs.Scripts.{turns_onto, reply_to, replies_of}

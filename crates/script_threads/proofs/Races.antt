@@ -1,20 +1,19 @@
 -- Passes that were dealt, played and joined again.
-use Rattle.std.proofs.Common.{◌≡◌, ◌≢◌, ℕ, zero, suc, ◌+◌, ◌<◌, ◌≤◌, eqb, eq-eqb, ne_eqb, cond, List, [], ◌∷◌, ◌++◌, length, take, map, get_or, inl, inr, ⊎_elim, ◌⊎◌, sym, refl, ap, subst, ◌∙◌, arith, append_assoc}
+use Rattle.std.proofs.Common.{◌≡◌, ◌≢◌, ℕ, zero, suc, ◌+◌, ◌<◌, ◌≤◌, eq-eqb, ne_eqb, cond, List, [], ◌∷◌, ◌++◌, length, take, map, get_or, inl, inr, ⊎_elim, sym, refl, ap, subst, ◌∙◌, arith, append_assoc}
 use Rattle.std.specs.List.{All}
 use mathlib.Core.Logic.{dite}
 use native.Mathlib.Decide.{ℕ_discrete, dec_lt}
 use Rattle.sv_base.specs.declared.config.Config.{Config}
-use Rattle.bay_model.specs.Answers.{Turn, History}
+use Rattle.bay_model.specs.Answers.{History}
 use Rattle.history_lock.specs.Histories.{IsEarlier, by, IsLegal}
-use Rattle.history_lock.specs.Passes.{Site, Known, IsIn, InSome, HasNumber, IsSamePass, Joined}
+use Rattle.history_lock.specs.Passes.{Site, Known, IsIn, InSome, HasNumber, Joined}
 use Rattle.history_lock.proofs.Steps.{by-append, nothing_more}
 use Rattle.script_threads.specs.declared.script.Script.{Script}
-use Rattle.script_threads.specs.declared.part.Reply.{Reply}
 use Rattle.script_threads.specs.declared.part.Part.{Part}
 use Rattle.script_threads.specs.declared.job.Played.{Played}
 use Rattle.script_threads.specs.declared.job.Job.{Job}
 use Rattle.script_threads.specs.Scripts.{turns_onto, turns_by, replies_of}
-use Rattle.script_threads.specs.Playing.{IsOf, StopsAt, Plays, Went}
+use Rattle.script_threads.specs.Playing.{IsOf, StopsAt, Went}
 use Rattle.script_threads.specs.Dealing.{IsRest, IsFresh, Dealt, AllWent}
 use Rattle.script_threads.specs.Races.{beginnings, IsPart, AreParts, IsRaced, Gathers, AllGathered}
 use Rattle.script_threads.proofs.Plays.{same_numbers}

@@ -1,7 +1,7 @@
-use Rattle.std.proofs.Common.{◌≡◌, ℕ, suc, ◌<◌, List, [], ◌∷◌, ◌++◌, map, length, sym, ap, subst, ◌∙◌, arith, append_assoc}
+use Rattle.std.proofs.Common.{◌≡◌, ℕ, suc, List, [], ◌∷◌, ◌++◌, map, sym, ap, subst, ◌∙◌, arith, append_assoc}
 use Rattle.std.specs.List.{All}
 use Rattle.std.proofs.lemmas.List.Elements.{All-push}
-use Rattle.history_lock.specs.Passes.{Site, Known}
+use Rattle.history_lock.specs.Passes.{Site}
 use Rattle.script_threads.specs.declared.script.Script.{Script}
 use Rattle.script_threads.specs.declared.job.Actor.{Actor}
 use Rattle.script_threads.specs.declared.job.Job.{Job}

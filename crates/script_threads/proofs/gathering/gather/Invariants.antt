@@ -1,5 +1,4 @@
 use Rattle.std.proofs.Common.{◌≡◌, ◌++◌, map}
-use Rattle.std.specs.List.{All}
 use Rattle.history_lock.specs.Histories.{IsLegal}
 use Rattle.script_threads.specs.declared.job.Played.{Played}
 use Rattle.script_threads.specs.Playing.{IsOf}

@@ -1,8 +1,6 @@
 use Rattle.std.proofs.Common.{◌≡◌, ◌++◌, length}
-use Rattle.std.specs.List.{All}
 use Rattle.sv_base.specs.declared.config.Config.{Config}
 use Rattle.bay_model.specs.Answers.{History}
-use Rattle.script_threads.specs.declared.part.Part.{Part}
 use Rattle.script_threads.specs.Scripts.{made_of}
 use Rattle.script_threads.specs.Merging.{AreRight, AreOf}
 use Rattle.script_threads.proofs.merging.merge.Given as goal

@@ -4,7 +4,7 @@ use Rattle.sv_base.specs.declared.config.Config.{Config}
 use Rattle.bay_model.specs.Answers.{History}
 use Rattle.script_threads.specs.declared.part.Reply.{Reply}
 use Rattle.script_threads.specs.declared.made.Made.{Made}
-use Rattle.script_threads.specs.Scripts.{replies_of, made_of, made}
+use Rattle.script_threads.specs.Scripts.{made_of, made}
 use Rattle.script_threads.specs.Merging.{AreRight}
 use Rattle.script_threads.proofs.Lists.{get_here, stands_there, right_set}
 use Rattle.script_threads.proofs.merging.put_part.Goals as goal

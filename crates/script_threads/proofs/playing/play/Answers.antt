@@ -1,9 +1,8 @@
-use Rattle.std.proofs.Common.{◌≡◌, ℕ, ◌+◌, ◌-◌, ◌<◌, List, ◌∷◌, [], ◌++◌, length, get_or, Ok, Err, Some, sym, ap, subst, ◌∙◌, arith, length-append}
-use Rattle.std.specs.Prelude.{slice_get, vec_capacity}
+use Rattle.std.proofs.Common.{ℕ, List, ◌∷◌, [], ◌++◌, length, get_or, Err, sym, ap, subst, ◌∙◌, arith, length-append}
 use Rattle.history_lock.specs.Passes.{Known, Turned}
 use Rattle.script_threads.specs.declared.script.TimedStep.{TimedStep}
 use Rattle.script_threads.specs.declared.part.Reply.{Reply}
-use Rattle.script_threads.specs.Playing.{StopsAt, Plays}
+use Rattle.script_threads.specs.Playing.{Plays}
 use Rattle.script_threads.proofs.Lists.{get_some}
 use Rattle.script_threads.proofs.Plays.{plays_more, plays_still, refused_there}
 use Rattle.script_threads.proofs.playing.play.Goals as goal

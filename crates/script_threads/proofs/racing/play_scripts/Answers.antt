@@ -1,14 +1,13 @@
-use Rattle.std.proofs.Common.{◌≡◌, ℕ, ◌<◌, ◌≤◌, List, [], map, length, get_or, sym, ap, subst, ◌∙◌, arith}
+use Rattle.std.proofs.Common.{◌≡◌, ℕ, ◌<◌, List, map, length, get_or, sym, subst, ◌∙◌, arith}
 use Rattle.std.proofs.lemmas.List.{length-map}
-use Rattle.std.specs.List.{All}
 use Rattle.bay_model.specs.Answers.{History}
-use Rattle.history_lock.specs.Histories.{by, IsLegal}
+use Rattle.history_lock.specs.Histories.{IsLegal}
 use Rattle.history_lock.specs.Passes.{Site, Known, HasNumber}
 use Rattle.script_threads.specs.declared.script.Script.{Script}
 use Rattle.script_threads.specs.declared.part.Part.{Part}
 use Rattle.script_threads.specs.declared.job.Job.{Job}
 use Rattle.script_threads.specs.declared.job.Played.{Played}
-use Rattle.script_threads.specs.Playing.{IsOf, Went}
+use Rattle.script_threads.specs.Playing.{Went}
 use Rattle.script_threads.specs.Dealing.{IsRest, Dealt, AllWent}
 use Rattle.script_threads.specs.Races.{IsRaced, HasNoOthers, Gathers, AllGathered}
 use Rattle.script_threads.proofs.Lists.{ok_with}

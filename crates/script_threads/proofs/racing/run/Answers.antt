@@ -1,6 +1,5 @@
-use Rattle.std.proofs.Common.{◌≡◌, ℕ, ◌<◌, ◌≤◌, ◌*◌, ◌^◌, sym, refl, subst, arith}
-use Rattle.history_lock.specs.Histories.{by}
-use Rattle.history_lock.specs.Passes.{Site, Known, HasNumber, first_of}
+use Rattle.std.proofs.Common.{◌≡◌, sym, refl, subst, arith}
+use Rattle.history_lock.specs.Passes.{Site, first_of}
 use Rattle.script_threads.specs.Dealing.{IsRest}
 use Rattle.script_threads.proofs.racing.run.Goals as goal
 
