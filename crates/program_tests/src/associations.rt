@@ -65,118 +65,79 @@ const ROWS: [Row; 20] = [
     (
         "a seventeenth",
         "record 1\n[0 011001 0 200>open 1 mms 65000\n%%%%pdu 1 a006020101800100\nend\n",
-        Status::Limit {
-            which: 2,
-            line: 39,
-        },
+        Status::Limit { which: 2, line: 39 },
         "",
     ),
     (
         "a seventeenth behind an answer",
         "record 1\n[0 011001 0 200>open 2 direct\nwrite 2 & RptEna T\nopen 1 mms 65000\n%%%%pdu 1 a100\npdu 1 8b00\nend\n",
-        Status::Limit {
-            which: 2,
-            line: 42,
-        },
+        Status::Limit { which: 2, line: 42 },
         "2 ok\n",
     ),
     (
         "a PDU of a direct association",
         "record 1\n[0 011001 0 200>open 1 direct\npdu 1 8b00\nend\n",
-        Status::Record {
-            line: 23,
-            kind: 5,
-        },
+        Status::Record { line: 23, kind: 5 },
         "",
     ),
     (
         "a PDU of one that isn't open",
         "record 1\n[0 011001 0 200>pdu 1 zz\nend\n",
-        Status::Record {
-            line: 22,
-            kind: 5,
-        },
+        Status::Record { line: 22, kind: 5 },
         "",
     ),
     (
         "a write of one of MMS",
         "record 1\n[0 011001 0 200>open 1 mms 65000\nwrite 1 & RptEna T\nend\n",
-        Status::Record {
-            line: 23,
-            kind: 5,
-        },
+        Status::Record { line: 23, kind: 5 },
         "",
     ),
     (
         "a write of one of MMS, of a block that isn't there",
         "record 1\n[0 011001 0 200>open 1 mms 65000\nwrite 1 X RptEna T\nend\n",
-        Status::Record {
-            line: 23,
-            kind: 3,
-        },
+        Status::Record { line: 23, kind: 3 },
         "",
     ),
     (
         "no hexadecimal",
         "record 1\n[0 011001 0 200>open 1 mms 65000\npdu 1 8b0\nend\n",
-        Status::Record {
-            line: 23,
-            kind: 6,
-        },
+        Status::Record { line: 23, kind: 6 },
         "",
     ),
     (
         "hexadecimal of another case",
         "record 1\n[0 011001 0 200>open 1 mms 65000\npdu 1 8B00\nend\n",
-        Status::Record {
-            line: 23,
-            kind: 6,
-        },
+        Status::Record { line: 23, kind: 6 },
         "",
     ),
     (
         "a piece of one of MMS",
         "record 1\n[0 011001 0 200>open 1 mms 65000\nin 1 03\nend\n",
-        Status::Record {
-            line: 23,
-            kind: 5,
-        },
+        Status::Record { line: 23, kind: 5 },
         "",
     ),
     (
         "a definition",
         "record 1\n[0 011001 0 200>open 1 mms 65000\npdu 1 a017020101ab12a10e1a04424159311a064c4c4e302458a000\nend\n",
-        Status::Record {
-            line: 23,
-            kind: 9,
-        },
+        Status::Record { line: 23, kind: 9 },
         "",
     ),
     (
         "a deletion behind sixteen that wait",
         "record 1\n[0 011001 0 200>open 1 mms 65000\n%%%%pdu 1 a005020101ad00\nend\n",
-        Status::Record {
-            line: 39,
-            kind: 9,
-        },
+        Status::Record { line: 39, kind: 9 },
         "",
     ),
     (
         "a stream",
         "record 1\n[0 011001 0 200>open 1 wire\nend\n",
-        Status::Record {
-            line: 22,
-            kind: 9,
-        },
+        Status::Record { line: 22, kind: 9 },
         "",
     ),
     (
         "an open of an open one",
         "record 1\n[0 011001 0 200>open 1 mms 65000\nopen 1 wire\nend\n",
-        Status::Record {
-            line: 23,
-            kind: 5,
-        },
+        Status::Record { line: 23, kind: 5 },
         "",
     ),
 ];

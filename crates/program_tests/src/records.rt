@@ -413,9 +413,9 @@ const JUDGED: [Row; 40] = [
         "",
     ),
     (
-        "what isn't built",
-        "record 1\n[0 011001 0 200>open 1 mms 1024\n",
-        Status::Record { line: 22, kind: 9 },
+        "what isn't built, of an association that is open",
+        "record 1\n[0 011001 0 200>open 1 mms 1024\nopen 1 wire\n",
+        Status::Record { line: 23, kind: 5 },
         "",
     ),
     // the first line

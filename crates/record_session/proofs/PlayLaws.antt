@@ -144,9 +144,9 @@ pub performs-stop : (old new : Playing) (number : ℕ) (shape : Shape) (actor : 
     → option_map (stop_of number) (named f) ≡ Some status → Performs (Some status) old new number shape actor step before before
 performs-stop old new number shape actor step f bay status before does is = λ c s p.
     by c s (fault (configured_model c) s.turns (turn_at s actor step)) (sym (ap (option_map (stop_of number)) (refused-fault old actor step f bay does c s p)) ∙ is) where
-  by : (c : Config) (s : Played) (o : Option Fault) → option_map (stop_of number) o ≡ Some status → PlaysTo (Some status) new (accepted number c s shape (turn_at s actor step) o) before before
-  by c s None e = absurd cc
-  by c s (Some g) e = (let same : stop_of number g ≡ status = cc in sym same, nothing-written before before refl)
+      by : (c : Config) (s : Played) (o : Option Fault) → option_map (stop_of number) o ≡ Some status → PlaysTo (Some status) new (accepted number c s shape (turn_at s actor step) o) before before
+      by c s None e = absurd cc
+      by c s (Some g) e = (let same : stop_of number g ≡ status = cc in sym same, nothing-written before before refl)
 
 pub faultless-memory : (old : Playing) (number actor : ℕ) (step : Step) (f : StepFault) (bay : State) → Does old.bay bay (turn actor old.moment step) (Err f) → option_map (stop_of number) (named f) ≡ None
     → (c : Config) (s : Played) → Plays old c s → fault (configured_model c) s.turns (turn_at s actor step) ≡ None
