@@ -1,0 +1,62 @@
+//! A configuration of one domain, BAY1, whose MMXU1 has an integer, TotW$mag$i.
+
+ghost use Rattle.std.specs.Prelude.{IfOk};
+ghost use Rattle.std.specs.List.{All};
+ghost use Rattle.sv_base.specs.declared.config.AttrDef.{AttrDef as AttrLine};
+ghost use Rattle.bay_rooms.specs.Slots.{IsSettable};
+
+use object_model::Model;
+use std::alloc::{AllocError, Global};
+use sv_base::{
+    AttrDef, AttrDefs, BlockDefs, Config, CtlDefs, LnDef, LnDefs, Octs, SetDefs, SgDefs, TypeOf,
+    Values,
+};
+
+pub fn octs(alloc: Global, octets: &[u8]) -> Result<Octs, AllocError> {
+    Ok(Octs::from_vec(Vec::from_slice(alloc, octets)?))
+}
+
+fn attrs(alloc: Global) -> Result<AttrDefs, AllocError>
+    ensures { IfOk result (All (λ (a : AttrLine). IsSettable a.kind)) }
+{
+    let attr = AttrDef {
+        line: 5,
+        domain: octs(alloc, b"BAY1")?,
+        ln: octs(alloc, b"MMXU1")?,
+        fc: octs(alloc, b"MX")?,
+        path: octs(alloc, b"TotW$mag$i")?,
+        kind: TypeOf::Int(32),
+        dchg: true,
+        qchg: false,
+        dupd: false,
+        values: Values::from_vec(Vec::new(alloc)),
+    };
+    Ok(AttrDefs::from_vec(vec![in alloc; attr]?))
+}
+
+fn config(alloc: Global) -> Result<Config, AllocError>
+    ensures { IfOk result (λ c. All (λ (a : AttrLine). IsSettable a.kind) c.attrs) }
+{
+    let node = LnDef {
+        line: 4,
+        domain: octs(alloc, b"BAY1")?,
+        ln: octs(alloc, b"MMXU1")?,
+    };
+    Ok(Config {
+        vendor: octs(alloc, b"Demo")?,
+        model: octs(alloc, b"Bay")?,
+        revision: octs(alloc, b"1")?,
+        nodes: LnDefs::from_vec(vec![in alloc; node]?),
+        attrs: attrs(alloc)?,
+        sets: SetDefs::from_vec(Vec::new(alloc)),
+        blocks: BlockDefs::from_vec(Vec::new(alloc)),
+        controls: CtlDefs::from_vec(Vec::new(alloc)),
+        groups: SgDefs::from_vec(Vec::new(alloc)),
+    })
+}
+
+/// Its model.
+pub fn model(alloc: Global) -> Result<Model, AllocError> {
+    let config = config(alloc)?;
+    Model::build(alloc, config)
+}
