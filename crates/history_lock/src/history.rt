@@ -114,9 +114,20 @@ impl History {
         ensures history { IfOk result (λ r. (r.0.actors ≡ actors) × (r.0.config ≡ bay.config)) }
         ensures pass { IfOk result (λ r. r.1 ≡ first_of r.0) }
     {
-        let about = about_of(alloc, &bay, actors)?;
-        let (lock, seat) = Lock::new(alloc, bay, &about)?;
-        Ok(begun(alloc, lock, seat, about, actors))
+        let about = match about_of(alloc, &bay, actors) {
+            Ok(about) => about,
+            Err(error) => {
+                drop(bay);
+                return Err(error);
+            }
+        };
+        match Lock::new(alloc, bay, &about) {
+            Ok((lock, seat)) => Ok(begun(alloc, lock, seat, about, actors)),
+            Err(error) => {
+                drop(about);
+                Err(error)
+            }
+        }
     }
 
     /// Hands the last `numbers` of the pass's range, and so many turns, to a new pass that has seen the same. The pass keeps
@@ -218,9 +229,10 @@ impl History {
     {
         let History {
             lock,
-            about: _,
+            about,
             alloc: _,
         } = self;
+        drop(about);
         let Pass {
             seat,
             first: _,

@@ -39,11 +39,20 @@ impl Lock {
         ensures { IfOk result (λ r. (r.0.table.shared.key ≡ about.now) × (r.1.table_id ≡ r.0.table.shared.table_id)
             × (r.1.me ≡ (whole about.now.actors about.now.model, []))) }
     {
-        let mut slots = Vec::with_capacity(alloc, 1)?;
+        let mut slots = match Vec::with_capacity(alloc, 1) {
+            Ok(slots) => slots,
+            Err(error) => {
+                drop(bay);
+                return Err(error);
+            }
+        };
         slots.push_reserved(Some(bay));
         match Table::new(alloc, &[0, 0, 0], slots, about) {
             Ok((table, seat)) => Ok((Lock { table }, seat)),
-            Err(Refused { slots: _ }) => Err(AllocError),
+            Err(Refused { slots }) => {
+                drop(slots);
+                Err(AllocError)
+            }
         }
     }
 
