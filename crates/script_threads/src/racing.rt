@@ -91,7 +91,14 @@ fn run<R: Threads + Wait + Sync, G: Gate>(
     ensures { IfOk result (λ r. (h : TheHistory) × (r.total ≡ length h) × IsRaced history.config (map (λ a. a.script) actors.items) r.parts.items h) }
 {
     let mut pass = pass;
-    let parts = play_scripts(rt, alloc, &history, &mut pass, actors)?;
+    let parts = match play_scripts(rt, alloc, &history, &mut pass, actors) {
+        Ok(parts) => parts,
+        Err(error) => {
+            drop(history);
+            drop(pass);
+            return Err(error);
+        }
+    };
     let total = history.close(pass);
     Ok(Raced { total, parts })
 }
