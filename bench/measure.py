@@ -27,11 +27,12 @@ def version_of(command):
 
 
 def print_machine(*compilers):
-    """Prints the processor, how many there are, the kernel, and the version of rt and of other compilers."""
+    """Prints the processor, how many there are, the kernel, how busy they are, and the version of rt and of other compilers."""
     name = platform.machine()
     with open("/proc/cpuinfo") as f:
         names = [line.split(":", 1)[1].strip() for line in f if line.startswith("model name")]
     print(f"machine: {names[0] if names else name}, {os.cpu_count()} processors, {platform.system()} {platform.release()}")
+    print("load: " + " ".join(f"{it:.2f}" for it in os.getloadavg()))
     print(f"compiler: {version_of(['rt', 'version'])}")
     for compiler in compilers:
         print(f"compiler: {version_of([compiler, '--version'])}")
@@ -50,6 +51,81 @@ def least_seconds(program, path, times):
             sys.exit(f"bench: status {status} on {path}")
         least = took if least is None else min(least, took)
     return least
+
+
+def replay_seconds(program, path):
+    """The user and the system seconds of the processor for one replay of the record at this path; the answers go to /dev/null."""
+    with open(path, "rb") as source:
+        run = subprocess.Popen([program, "replay"], stdin=source, stdout=subprocess.DEVNULL)
+        _, status, usage = os.wait4(run.pid, 0)
+        run.returncode = os.waitstatus_to_exitcode(status)
+    if run.returncode != 0:
+        sys.exit(f"bench: status {run.returncode} on {path}")
+    return usage.ru_utime, usage.ru_stime
+
+
+def need_rt():
+    """Status 2 where there is no rt."""
+    if not shutil.which("rt"):
+        print("bench: there is no rt", file=sys.stderr)
+        sys.exit(2)
+
+
+def crates_below(*names):
+    """These crates and those that they stand on, each with what its line in crates.txt names."""
+    lines = {}
+    with open(os.path.join(TOP, "crates.txt")) as f:
+        for line in f:
+            if ":" in line and not line.startswith("#"):
+                crate, below = line.split(":")
+                lines[crate.strip()] = below.split()
+    found, wanted = {}, list(names)
+    while wanted:
+        crate = wanted.pop()
+        if crate not in found:
+            found[crate] = lines[crate]
+            wanted += [below for below in lines[crate] if below in lines]
+    return found
+
+
+def copy_crates(folder, program, *names):
+    """Copies these crates and those that they stand on into the folder, with the libraries that are proved already, and makes
+    room there for a program that stands on them; gives the program's folder."""
+    crates = crates_below(*names)
+    for crate in crates:
+        for part in ("src", "specs", "proofs", os.path.join("out", "rlib")):
+            source = os.path.join(TOP, "crates", crate, part)
+            if os.path.isdir(source):
+                shutil.copytree(source, os.path.join(folder, "crates", crate, part))
+    crates[program] = list(crates)
+    with open(os.path.join(folder, "crates.txt"), "w") as f:
+        f.writelines(f"{crate}: {' '.join(below)}\n" for crate, below in crates.items())
+    shutil.copy(os.path.join(TOP, "HANDLES"), folder)
+    made = os.path.join(folder, "crates", program)
+    os.makedirs(os.path.join(made, "src"))
+    return made
+
+
+def proved(folder, *words):
+    """The program, proved and built in its folder by a run with these words; where it isn't, what was said, and status 2."""
+    program = os.path.basename(folder)
+    print(f"bench: proving {program} and the crates that it stands on", file=sys.stderr)
+    run = subprocess.run(["rt", "run", "--", *words], cwd=folder, input=b"", stdout=subprocess.PIPE, stderr=subprocess.PIPE)
+    if run.returncode != 0:
+        print(f"bench: no {program}:\n" + run.stderr.decode(errors="replace"), file=sys.stderr)
+        sys.exit(2)
+    return os.path.join(folder, "out", program)
+
+
+def built_by_rustc(folder, name):
+    """The program of bench/NAME.rs, in plain Rust, built in this folder; None where there is no rustc."""
+    if not shutil.which("rustc"):
+        return None
+    program = os.path.join(folder, name)
+    if subprocess.run(["rustc", "--edition", "2021", "-O", "-o", program, os.path.join(TOP, "bench", name + ".rs")]).returncode != 0:
+        print(f"bench: rustc refuses {name}.rs", file=sys.stderr)
+        sys.exit(2)
+    return program
 
 
 def processor_seconds(command, octets, wanted):
