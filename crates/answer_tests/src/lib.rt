@@ -1,4 +1,4 @@
-//! Tests of requests as MMS on octets from outside (ISO 9506-2; IEC 61850-8-1).
+//! Tests of requests and answers as MMS on octets from outside (ISO 9506-2; IEC 61850-8-1).
 #![tactic(auto)]
 
 // the configuration that they are of
@@ -10,3 +10,11 @@ mod plant;
 mod asked;
 #[cfg(test)]
 mod requests;
+
+// an answer of the bay becomes PDUs
+#[cfg(test)]
+mod made;
+#[cfg(test)]
+mod replies;
+#[cfg(test)]
+mod sizes;

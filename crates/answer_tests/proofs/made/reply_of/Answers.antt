@@ -1,0 +1,4 @@
+use Rattle.answer_tests.proofs.made.reply_of.Goals as goal
+
+pub returns-in-Plain : goal.returns-in-Plain
+returns-in-Plain c = c.plain_of.ensures c.args.model.now
