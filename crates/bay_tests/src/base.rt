@@ -12,6 +12,18 @@ fn octs(alloc: Global, octets: &[u8]) -> Result<Octs, AllocError> {
     Ok(Octs::from_vec(octets.to_vec(alloc)?))
 }
 
+/// The list with one more item.
+fn with<T: Drop>(items: Vec<T>, item: T) -> Result<Vec<T>, AllocError> {
+    let mut items = items;
+    items.push(item)?;
+    Ok(items)
+}
+
+/// A list of one item.
+fn one<T: Drop>(alloc: Global, item: T) -> Result<Vec<T>, AllocError> {
+    with(Vec::new(alloc), item)
+}
+
 fn bits(alloc: Global, count: usize) -> Result<Value, AllocError> {
     Ok(Value::Bits(Bits::from_vec(vec![in alloc; false; count]?)))
 }
@@ -20,6 +32,17 @@ fn text(alloc: Global, count: usize) -> Result<Value, AllocError> {
     Ok(Value::Text(Octs::from_vec(vec![in alloc; b'a'; count]?)))
 }
 
+/// A structure of two parts.
+fn pair(alloc: Global, first: Value, second: Value) -> Result<Value, AllocError> {
+    Ok(Value::Struct(Values::from_vec(with(one(alloc, first)?, second)?)))
+}
+
+const TIME: Utc = Utc {
+    secs: 1,
+    frac: 0xffffff,
+    quality: 0x0a,
+};
+
 /// A boolean, a quality and a time: `a2128301ff840303000091080000000000000000`.
 fn status(alloc: Global) -> Result<Value, AllocError> {
     let time = Utc {
@@ -27,130 +50,184 @@ fn status(alloc: Global) -> Result<Value, AllocError> {
         frac: 0,
         quality: 0,
     };
-    let parts = vec![in alloc; Value::Bool(true), bits(alloc, 13)?, Value::Time(time)]?;
-    Ok(Value::Struct(Values::from_vec(parts)))
+    let parts = with(one(alloc, Value::Bool(true))?, bits(alloc, 13)?)?;
+    Ok(Value::Struct(Values::from_vec(with(parts, Value::Time(time))?)))
+}
+
+// 85 01 05, 85 02 01 2C and so on
+const SIGNED: [(i64, u32); 12] = [
+    (0, 3),
+    (5, 3),
+    (127, 3),
+    (128, 4),
+    (300, 4),
+    (-1, 3),
+    (-128, 3),
+    (-129, 4),
+    (32767, 4),
+    (32768, 5),
+    (i64::MAX, 10),
+    (i64::MIN, 10),
+];
+
+const UNSIGNED: [(u64, u32); 8] = [
+    (0, 3),
+    (127, 3),
+    (128, 4),
+    (255, 4),
+    (256, 4),
+    (32768, 5),
+    (1 << 63, 11),
+    (u64::MAX, 11),
+];
+
+#[test]
+fn integers_have_the_fewest_octets(rt: HostRuntime) {
+    for (number, want) in &SIGNED {
+        assert!(rt; data_len(&Value::Int(*number)) == *want, "integer {number}");
+    }
 }
 
 #[test]
-fn numbers_have_the_fewest_octets(rt: HostRuntime) {
-    // 85 01 05, 85 02 01 2C and so on
-    let signed = [
-        (0, 3),
-        (5, 3),
-        (127, 3),
-        (128, 4),
-        (300, 4),
-        (-1, 3),
-        (-128, 3),
-        (-129, 4),
-        (32767, 4),
-        (32768, 5),
-        (i64::MAX, 10),
-        (i64::MIN, 10),
-    ];
-    for (number, want) in signed {
-        assert!(rt; data_len(&Value::Int(number)) == want, "integer {number}");
-    }
-    let unsigned = [
-        (0, 3),
-        (127, 3),
-        (128, 4),
-        (255, 4),
-        (256, 4),
-        (32768, 5),
-        (1 << 63, 11),
-        (u64::MAX, 11),
-    ];
-    for (number, want) in unsigned {
-        assert!(rt; data_len(&Value::Uint(number)) == want, "unsigned {number}");
+fn unsigned_numbers_have_the_fewest_octets(rt: HostRuntime) {
+    for (number, want) in &UNSIGNED {
+        assert!(rt;
+            data_len(&Value::Uint(*number)) == *want,
+            "unsigned {number}"
+        );
     }
 }
 
 #[test]
-fn plain_values_have_their_lengths(rt: HostRuntime) -> Result<(), Fail> {
-    let mut right = true;
-    let alloc = rt.alloc();
-    right &= data_len(&Value::Bool(false)) == 3;
-    right &= data_len(&Value::Time(Utc {
-        secs: 1,
-        frac: 0xffffff,
-        quality: 0x0a,
-    })) == 10;
-    right &= data_len(&Value::Stamp(Stamp {
+fn values_of_a_fixed_length_have_it(rt: HostRuntime) {
+    let stamp = Stamp {
         ms: 86399999,
         days: 65535,
-    })) == 8;
-    right &= data_len(&Value::Text(octs(alloc, b"Ev1")?)) == 5;
-    right &= data_len(&Value::Octets(octs(alloc, &[0; 8])?)) == 10;
-    right &= data_len(&Value::Other) == 0;
-    for (count, want) in [
-        (0, 3),
-        (1, 4),
-        (2, 4),
-        (8, 4),
-        (9, 5),
-        (13, 5),
-        (16, 5),
-        (64, 11),
-    ] {
-        assert!(rt; data_len(&bits(alloc, count)?) == want, "{count} bits");
+    };
+    assert!(rt;
+        data_len(&Value::Bool(false)) == 3
+            && data_len(&Value::Time(TIME)) == 10
+            && data_len(&Value::Stamp(stamp)) == 8
+            && data_len(&Value::Other) == 0
+    );
+}
+
+#[test]
+fn texts_and_octets_have_their_lengths(rt: HostRuntime) -> Result<(), Fail> {
+    let text = Value::Text(octs(rt.alloc(), b"Ev1")?);
+    let octets = Value::Octets(octs(rt.alloc(), &[0; 8])?);
+    assert!(rt; data_len(&text) == 5 && data_len(&octets) == 10);
+    Ok(())
+}
+
+/// Counts of bits, and the lengths of bit strings.
+const BITS: [(usize, u32); 8] = [
+    (0, 3),
+    (1, 4),
+    (2, 4),
+    (8, 4),
+    (9, 5),
+    (13, 5),
+    (16, 5),
+    (64, 11),
+];
+
+#[test]
+fn bit_strings_have_their_lengths(rt: HostRuntime) -> Result<(), Fail> {
+    for (count, want) in &BITS {
+        assert!(rt;
+            data_len(&bits(rt.alloc(), *count)?) == *want,
+            "{count} bits"
+        );
     }
-    // a length of one octet, 81 and one, 82 and two, 83 and three
-    for (count, want) in [
-        (0, 2),
-        (127, 129),
-        (128, 131),
-        (255, 258),
-        (256, 260),
-        (65535, 65539),
-        (65536, 65541),
-    ] {
-        assert!(rt; data_len(&text(alloc, count)?) == want, "{count} octets");
+    Ok(())
+}
+
+// a length of one octet, 81 and one, 82 and two, 83 and three
+const TEXTS: [(usize, u32); 7] = [
+    (0, 2),
+    (127, 129),
+    (128, 131),
+    (255, 258),
+    (256, 260),
+    (65535, 65539),
+    (65536, 65541),
+];
+
+#[test]
+fn long_texts_have_long_lengths(rt: HostRuntime) -> Result<(), Fail> {
+    for (count, want) in &TEXTS {
+        assert!(rt;
+            data_len(&text(rt.alloc(), *count)?) == *want,
+            "{count} octets"
+        );
     }
-    assert!(rt; right);
     Ok(())
 }
 
 #[test]
 fn structures_have_a_head_and_their_parts(rt: HostRuntime) -> Result<(), Fail> {
-    let mut right = true;
-    let alloc = rt.alloc();
-    right &= data_len(&Value::Struct(Values::from_vec(Vec::new(alloc)))) == 2;
-    right &= data_len(&status(alloc)?) == 20;
-    let pair = vec![in alloc;
-        status(alloc)?,
-        Value::Struct(Values::from_vec(vec![in alloc; Value::Int(300)]?)),
-    ]?;
-    right &= data_len(&Value::Struct(Values::from_vec(pair))) == 28;
-    let long = vec![in alloc; text(alloc, 255)?, Value::Bool(true)]?;
-    right &= data_len(&Value::Struct(Values::from_vec(long))) == 265;
-    assert!(rt; right);
+    let empty = Value::Struct(Values::from_vec(Vec::new(rt.alloc())));
+    let status = status(rt.alloc())?;
+    assert!(rt; data_len(&empty) == 2 && data_len(&status) == 20);
     Ok(())
 }
 
 #[test]
-fn a_moment_is_within_its_range(rt: HostRuntime) -> Result<(), Fail> {
-    let mut right = true;
-    for (ms, is_moment) in [
-        (0, false),
-        (441763199999, false),
-        (FIRST_MS, true),
-        (LAST_MS, true),
-        (4294967296000, false),
-        (u64::MAX, false),
-    ] {
+fn structures_stand_in_structures(rt: HostRuntime) -> Result<(), Fail> {
+    let number = Value::Struct(Values::from_vec(one(rt.alloc(), Value::Int(300))?));
+    let value = pair(rt.alloc(), status(rt.alloc())?, number)?;
+    assert!(rt; data_len(&value) == 28);
+    Ok(())
+}
+
+#[test]
+fn a_long_structure_has_a_long_length(rt: HostRuntime) -> Result<(), Fail> {
+    let value = pair(rt.alloc(), text(rt.alloc(), 255)?, Value::Bool(true))?;
+    assert!(rt; data_len(&value) == 265);
+    Ok(())
+}
+
+/// Milliseconds, and whether a moment may have them.
+const EDGES: [(u64, bool); 6] = [
+    (0, false),
+    (441763199999, false),
+    (FIRST_MS, true),
+    (LAST_MS, true),
+    (4294967296000, false),
+    (u64::MAX, false),
+];
+
+/// The milliseconds of a moment that is made of them.
+fn again(ms: u64) -> Option<u64> {
+    Moment::new(ms).map(Moment::ms)
+}
+
+#[test]
+fn a_moment_is_within_its_range(rt: HostRuntime) {
+    for (ms, is_moment) in &EDGES {
         assert!(rt;
-            Moment::new(ms).map(Moment::ms) == if is_moment { Some(ms) } else { None },
+            again(*ms) == if *is_moment { Some(*ms) } else { None },
             "{ms}"
         );
     }
-    let last = Moment::new(4294967295999).ok_or("last")?;
-    right &= Moment::first().ms() == 441763200000;
-    right &= last.later(Moment::first()) == last;
-    right &= Moment::first().later(last) == last;
-    right &= Moment::first() < last;
-    assert!(rt; right);
-    Ok(())
+}
+
+/// The first moment stands before the last.
+fn is_before(first: Moment, last: Moment) -> bool {
+    last.later(first) == last && first.later(last) == last && first < last
+}
+
+#[test]
+fn the_first_moment_is_before_the_last(rt: HostRuntime) {
+    let first = Moment::first();
+    assert!(rt;
+        first.ms() == 441763200000
+            && match Moment::new(4294967295999) {
+                Some(last) => is_before(first, last),
+                None => false,
+            }
+    );
 }
 
 /// The bits of a bit string's type, and 0 of another's.
@@ -161,40 +238,51 @@ fn bits_of(part: &Part1) -> u16 {
     }
 }
 
-#[test]
-fn lists_keep_what_they_are_given(rt: HostRuntime) -> Result<(), Fail> {
-    let mut right = true;
-    let alloc = rt.alloc();
-    let values = Values::from_vec(vec![in alloc; Value::Int(1), Value::Int(300)]?);
-    right &= values.len() == 2;
-    right &= values.get(1).map(data_len) == Some(4);
-    right &= values.get(2).is_none();
-    right &= values.into_vec().len() == 2;
-
-    let quality = Part1 {
-        name: octs(alloc, b"q")?,
-        kind: TypeOf::Bits(13),
-    };
-    let parts = Parts::from_vec(vec![in alloc; quality]?);
-    right &= parts.len() == 1;
-    right &= parts.get(0).map(bits_of) == Some(13);
-    right &= parts.as_slice().len() == 1;
-    right &= parts.into_vec().len() == 1;
-
-    let names = OctsList::from_vec(vec![in alloc; octs(alloc, b"a")?, octs(alloc, b"bc")?]?);
-    right &= names.len() == 2;
-    right &= names.get(1).map(Octs::len) == Some(2);
-    right &= names.get(2).is_none();
-    right &= names.into_vec().len() == 2;
-    assert!(rt; right);
-    Ok(())
+fn has_two_values(values: &Values) -> bool {
+    values.len() == 2 && values.get(1).map(data_len) == Some(4) && values.get(2).is_none()
 }
 
 #[test]
-fn a_configuration_keeps_its_lines(rt: HostRuntime) -> Result<(), Fail> {
-    let mut right = true;
-    let alloc = rt.alloc();
-    let attr = AttrDef {
+fn values_keep_their_order(rt: HostRuntime) -> Result<(), Fail> {
+    let items = with(one(rt.alloc(), Value::Int(1))?, Value::Int(300))?;
+    let values = Values::from_vec(items);
+    assert!(rt; has_two_values(&values) && values.into_vec().len() == 2);
+    Ok(())
+}
+
+/// A part of a quality.
+fn quality(alloc: Global) -> Result<Part1, AllocError> {
+    Ok(Part1 {
+        name: octs(alloc, b"q")?,
+        kind: TypeOf::Bits(13),
+    })
+}
+
+fn has_the_quality(parts: &Parts) -> bool {
+    parts.len() == 1 && parts.get(0).map(bits_of) == Some(13) && parts.as_slice().len() == 1
+}
+
+#[test]
+fn parts_keep_their_order(rt: HostRuntime) -> Result<(), Fail> {
+    let parts = Parts::from_vec(one(rt.alloc(), quality(rt.alloc())?)?);
+    assert!(rt; has_the_quality(&parts) && parts.into_vec().len() == 1);
+    Ok(())
+}
+
+fn has_two_names(names: &OctsList) -> bool {
+    names.len() == 2 && names.get(1).map(Octs::len) == Some(2) && names.get(2).is_none()
+}
+
+#[test]
+fn lists_of_octets_keep_their_order(rt: HostRuntime) -> Result<(), Fail> {
+    let first = one(rt.alloc(), octs(rt.alloc(), b"a")?)?;
+    let names = OctsList::from_vec(with(first, octs(rt.alloc(), b"bc")?)?);
+    assert!(rt; has_two_names(&names) && names.into_vec().len() == 2);
+    Ok(())
+}
+
+fn attr(alloc: Global) -> Result<AttrDef, AllocError> {
+    Ok(AttrDef {
         line: 5,
         domain: octs(alloc, b"LD1")?,
         ln: octs(alloc, b"LLN0")?,
@@ -204,34 +292,43 @@ fn a_configuration_keeps_its_lines(rt: HostRuntime) -> Result<(), Fail> {
         dchg: true,
         qchg: false,
         dupd: false,
-        values: Values::from_vec(vec![in alloc; Value::Int(1)]?),
-    };
-    let attrs = AttrDefs::from_vec(vec![in alloc; attr]?);
-    right &= attrs.len() == 1;
-    right &= attrs.get(0).map(|attr| attr.line) == Some(5);
-    right &= attrs.get(1).is_none();
-    right &= attrs.into_vec().len() == 1;
-    assert!(rt; right);
+        values: Values::from_vec(one(alloc, Value::Int(1))?),
+    })
+}
+
+fn has_one_attribute(attrs: &AttrDefs) -> bool {
+    attrs.len() == 1 && attrs.get(0).map(|attr| attr.line) == Some(5) && attrs.get(1).is_none()
+}
+
+#[test]
+fn a_configuration_keeps_its_lines(rt: HostRuntime) -> Result<(), Fail> {
+    let attrs = AttrDefs::from_vec(one(rt.alloc(), attr(rt.alloc())?)?);
+    assert!(rt; has_one_attribute(&attrs) && attrs.into_vec().len() == 1);
     Ok(())
 }
 
 #[test]
-fn copies_are_the_same(rt: HostRuntime) -> Result<(), Fail> {
-    let alloc = rt.alloc();
-    let name = Value::Text(octs(alloc, b"Pos")?);
-    let nested = vec![in alloc; status(alloc)?, name, Value::Other]?;
-    let copy = copy_value(alloc, &Value::Struct(Values::from_vec(nested)))?;
+fn a_copy_is_as_long(rt: HostRuntime) -> Result<(), Fail> {
+    let name = Value::Text(octs(rt.alloc(), b"Pos")?);
+    let parts = with(one(rt.alloc(), status(rt.alloc())?)?, name)?;
+    let value = Value::Struct(Values::from_vec(with(parts, Value::Other)?));
     // a2 1b, the status of 20 octets, 8a 03 'Pos'
-    assert!(rt; data_len(&copy) == 27);
+    assert!(rt; data_len(&copy_value(rt.alloc(), &value)?) == 27);
+    Ok(())
+}
 
-    let quality = Part1 {
-        name: octs(alloc, b"q")?,
-        kind: TypeOf::Bits(13),
-    };
-    let parts = Parts::from_vec(vec![in alloc; quality]?);
-    match copy_type(alloc, &TypeOf::Struct(parts))? {
-        TypeOf::Struct(parts) => assert_eq!(rt; parts.get(0).map(bits_of), Some(13)),
-        _ => assert!(rt; false, "a structure"),
+/// The bits of the first part of a structure's type, if it is one.
+fn first_bits(kind: &TypeOf) -> Option<u16> {
+    match kind {
+        TypeOf::Struct(parts) => parts.get(0).map(bits_of),
+        _ => None,
     }
+}
+
+#[test]
+fn a_copy_of_a_type_has_its_parts(rt: HostRuntime) -> Result<(), Fail> {
+    let parts = Parts::from_vec(one(rt.alloc(), quality(rt.alloc())?)?);
+    let copy = copy_type(rt.alloc(), &TypeOf::Struct(parts))?;
+    assert!(rt; first_bits(&copy) == Some(13));
     Ok(())
 }

@@ -13,6 +13,18 @@ fn octs(alloc: Global, octets: &[u8]) -> Result<Octs, AllocError> {
     Ok(Octs::from_vec(octets.to_vec(alloc)?))
 }
 
+/// The list with one more item.
+fn with<T: Drop>(items: Vec<T>, item: T) -> Result<Vec<T>, AllocError> {
+    let mut items = items;
+    items.push(item)?;
+    Ok(items)
+}
+
+/// A list of one item.
+fn one<T: Drop>(alloc: Global, item: T) -> Result<Vec<T>, AllocError> {
+    with(Vec::new(alloc), item)
+}
+
 fn named(alloc: Global, item: &[u8]) -> Result<Target, AllocError> {
     let name = ObjName::Domain {
         domain: octs(alloc, b"BAY1")?,
@@ -21,205 +33,288 @@ fn named(alloc: Global, item: &[u8]) -> Result<Target, AllocError> {
     Ok(Target::Node(NodeId(7), name))
 }
 
-#[test]
-fn lists_of_a_report_keep_their_order(rt: HostRuntime) -> Result<(), Fail> {
-    let mut right = true;
-    let alloc = rt.alloc();
-    let why = Reasons {
-        dchg: true,
-        qchg: false,
-        dupd: false,
-        intg: false,
-        gi: false,
-    };
-    let member = Member {
+fn member(alloc: Global) -> Result<Member, AllocError> {
+    Ok(Member {
         number: MemberNo(3),
         reference: octs(alloc, b"BAY1/MMXU1$MX$TotW$mag$i")?,
         octets: octs(alloc, &[0x85, 1, 5])?,
-        reasons: why,
-    };
-    let members = Members::from_vec(vec![in alloc; member]?);
-    right &= members.len() == 1;
-    right &= !members.is_empty();
-    right &= members.get(0).map(|member| member.octets.len()) == Some(3);
-    right &= members.get(1).is_none();
-    right &= members.as_slice().len() == 1;
-    right &= members.into_vec().len() == 1;
-    assert!(rt; right);
-    Ok(())
+        reasons: Reasons {
+            dchg: true,
+            qchg: false,
+            dupd: false,
+            intg: false,
+            gi: false,
+        },
+    })
+}
+
+fn has_one_member(members: &Members) -> bool {
+    members.len() == 1
+        && !members.is_empty()
+        && members.get(0).map(|member| member.octets.len()) == Some(3)
+        && members.get(1).is_none()
+        && members.as_slice().len() == 1
 }
 
 #[test]
-fn lists_of_a_control_keep_their_order(rt: HostRuntime) -> Result<(), Fail> {
-    let mut right = true;
-    let alloc = rt.alloc();
-    let error = ApplError {
+fn members_keep_their_order(rt: HostRuntime) -> Result<(), Fail> {
+    let members = Members::from_vec(one(rt.alloc(), member(rt.alloc())?)?);
+    assert!(rt; has_one_member(&members) && members.into_vec().len() == 1);
+    Ok(())
+}
+
+fn error(alloc: Global) -> Result<ApplError, AllocError> {
+    Ok(ApplError {
         object: octs(alloc, b"BAY1/CSWI1$CO$Pos$Oper")?,
         or_cat: 2,
         or_ident: octs(alloc, b"")?,
         ctl_num: 1,
         cause: 27,
-    };
-    let errors = ApplErrors::from_vec(vec![in alloc; error]?);
-    right &= errors.len() == 1;
-    right &= !errors.is_empty();
-    right &= errors.get(0).map(|error| error.cause) == Some(27);
-    right &= errors.as_slice().len() == 1;
-    right &= errors.into_vec().len() == 1;
+    })
+}
 
+fn has_one_error(errors: &ApplErrors) -> bool {
+    errors.len() == 1
+        && !errors.is_empty()
+        && errors.get(0).map(|error| error.cause) == Some(27)
+        && errors.as_slice().len() == 1
+}
+
+#[test]
+fn errors_keep_their_order(rt: HostRuntime) -> Result<(), Fail> {
+    let errors = ApplErrors::from_vec(one(rt.alloc(), error(rt.alloc())?)?);
+    assert!(rt; has_one_error(&errors) && errors.into_vec().len() == 1);
+    Ok(())
+}
+
+fn has_one_act(acts: &Acts) -> bool {
+    acts.len() == 1
+        && !acts.is_empty()
+        && acts.get(0).map(|act| act.by) == Some(AssocNo(1))
+        && acts.get(1).is_none()
+        && acts.as_slice().len() == 1
+}
+
+#[test]
+fn acts_keep_their_order(rt: HostRuntime) -> Result<(), Fail> {
     let act = Act {
         control: CtlNo(0),
         value: Value::Bool(true),
         by: AssocNo(1),
     };
-    let acts = Acts::from_vec(vec![in alloc; act]?);
-    right &= acts.len() == 1;
-    right &= !acts.is_empty();
-    right &= acts.get(0).map(|act| act.by) == Some(AssocNo(1));
-    right &= acts.get(1).is_none();
-    right &= acts.as_slice().len() == 1;
-    right &= acts.into_vec().len() == 1;
-    assert!(rt; right);
+    let acts = Acts::from_vec(one(rt.alloc(), act)?);
+    assert!(rt; has_one_act(&acts) && acts.into_vec().len() == 1);
     Ok(())
 }
 
-#[test]
-fn lists_of_a_reply_keep_their_order(rt: HostRuntime) -> Result<(), Fail> {
-    let mut right = true;
-    let alloc = rt.alloc();
-    let names = Names::from_vec(vec![in alloc; octs(alloc, b"LLN0")?, octs(alloc, b"MMXU1")?]?);
-    right &= names.len() == 2;
-    right &= !names.is_empty();
-    right &= names.get(1).map(Octs::len) == Some(5);
-    right &= names.get(2).is_none();
-    right &= names.as_slice().len() == 2;
-    right &= names.into_vec().len() == 2;
-
-    let results = Results::from_vec(vec![in alloc; Ok(Value::Int(5)), Err(10)]?);
-    right &= results.len() == 2;
-    right &= !results.is_empty();
-    right &= matches!(results.get(1), Some(Err(10)));
-    right &= matches!(results.as_slice(), [Ok(Value::Int(5)), Err(10)]);
-    right &= results.into_vec().len() == 2;
-
-    let codes = Codes::from_vec(vec![in alloc; Ok(()), Err(3)]?);
-    right &= codes.len() == 2;
-    right &= !codes.is_empty();
-    right &= matches!(codes.get(0), Some(Ok(())));
-    right &= matches!(codes.as_slice(), [Ok(()), Err(3)]);
-    right &= codes.into_vec().len() == 2;
-
-    let nodes = Nodes::from_vec(vec![in alloc; NodeId(18), NodeId(24)]?);
-    right &= nodes.len() == 2;
-    right &= !nodes.is_empty();
-    right &= nodes.get(1).copied() == Some(NodeId(24));
-    right &= nodes.as_slice().len() == 2;
-    right &= nodes.into_vec().len() == 2;
-    assert!(rt; right);
-    Ok(())
+fn has_two_names(names: &Names) -> bool {
+    names.len() == 2
+        && !names.is_empty()
+        && names.get(1).map(Octs::len) == Some(5)
+        && names.get(2).is_none()
+        && names.as_slice().len() == 2
 }
 
 #[test]
-fn lists_of_a_request_keep_their_order(rt: HostRuntime) -> Result<(), Fail> {
-    let mut right = true;
-    let alloc = rt.alloc();
-    let targets = Targets::from_vec(vec![in alloc; named(alloc, b"MMXU1$MX$TotW$mag$i")?]?);
-    right &= targets.len() == 1;
-    right &= !targets.is_empty();
-    right &= matches!(targets.get(0), Some(Target::Node(NodeId(7), _)));
-    right &= targets.as_slice().len() == 1;
-    right &= targets.into_vec().len() == 1;
+fn names_keep_their_order(rt: HostRuntime) -> Result<(), Fail> {
+    let first = one(rt.alloc(), octs(rt.alloc(), b"LLN0")?)?;
+    let names = Names::from_vec(with(first, octs(rt.alloc(), b"MMXU1")?)?);
+    assert!(rt; has_two_names(&names) && names.into_vec().len() == 2);
+    Ok(())
+}
 
+fn has_two_results(results: &Results) -> bool {
+    results.len() == 2
+        && !results.is_empty()
+        && matches!(results.get(1), Some(Err(10)))
+        && matches!(results.as_slice(), [Ok(Value::Int(5)), Err(10)])
+}
+
+#[test]
+fn results_keep_their_order(rt: HostRuntime) -> Result<(), Fail> {
+    let first = one(rt.alloc(), Ok(Value::Int(5)))?;
+    let results = Results::from_vec(with(first, Err(10))?);
+    assert!(rt; has_two_results(&results) && results.into_vec().len() == 2);
+    Ok(())
+}
+
+fn has_two_codes(codes: &Codes) -> bool {
+    codes.len() == 2
+        && !codes.is_empty()
+        && matches!(codes.get(0), Some(Ok(())))
+        && matches!(codes.as_slice(), [Ok(()), Err(3)])
+}
+
+#[test]
+fn codes_keep_their_order(rt: HostRuntime) -> Result<(), Fail> {
+    let codes = Codes::from_vec(with(one(rt.alloc(), Ok(()))?, Err(3))?);
+    assert!(rt; has_two_codes(&codes) && codes.into_vec().len() == 2);
+    Ok(())
+}
+
+fn has_two_nodes(nodes: &Nodes) -> bool {
+    nodes.len() == 2
+        && !nodes.is_empty()
+        && nodes.get(1).copied() == Some(NodeId(24))
+        && nodes.as_slice().len() == 2
+}
+
+#[test]
+fn nodes_keep_their_order(rt: HostRuntime) -> Result<(), Fail> {
+    let nodes = Nodes::from_vec(with(one(rt.alloc(), NodeId(18))?, NodeId(24))?);
+    assert!(rt; has_two_nodes(&nodes) && nodes.into_vec().len() == 2);
+    Ok(())
+}
+
+fn has_one_target(targets: &Targets) -> bool {
+    targets.len() == 1
+        && !targets.is_empty()
+        && matches!(targets.get(0), Some(Target::Node(NodeId(7), _)))
+        && targets.as_slice().len() == 1
+}
+
+#[test]
+fn targets_keep_their_order(rt: HostRuntime) -> Result<(), Fail> {
+    let target = named(rt.alloc(), b"MMXU1$MX$TotW$mag$i")?;
+    let targets = Targets::from_vec(one(rt.alloc(), target)?);
+    assert!(rt; has_one_target(&targets) && targets.into_vec().len() == 1);
+    Ok(())
+}
+
+fn has_one_write(writes: &Writes) -> bool {
+    writes.len() == 1
+        && !writes.is_empty()
+        && writes.get(1).is_none()
+        && writes.as_slice().len() == 1
+}
+
+#[test]
+fn writes_keep_their_order(rt: HostRuntime) -> Result<(), Fail> {
     let write = Write {
-        target: named(alloc, b"LLN0$SP$x")?,
+        target: named(rt.alloc(), b"LLN0$SP$x")?,
         value: Value::Uint(2),
     };
-    let writes = Writes::from_vec(vec![in alloc; write]?);
-    right &= writes.len() == 1;
-    right &= !writes.is_empty();
-    right &= writes.get(1).is_none();
-    right &= writes.as_slice().len() == 1;
-    right &= writes.into_vec().len() == 1;
+    let writes = Writes::from_vec(one(rt.alloc(), write)?);
+    assert!(rt; has_one_write(&writes) && writes.into_vec().len() == 1);
+    Ok(())
+}
 
-    let name = SetName {
+/// BAY1/LLN0$Events.
+fn events(alloc: Global) -> Result<SetName, AllocError> {
+    Ok(SetName {
         domain: octs(alloc, b"BAY1")?,
         item: octs(alloc, b"LLN0$Events")?,
-    };
-    let names = SetNames::from_vec(vec![in alloc; name]?);
-    right &= names.len() == 1;
-    right &= !names.is_empty();
-    right &= names.get(0).map(|name| name.item.len()) == Some(11);
-    right &= names.as_slice().len() == 1;
-    right &= names.into_vec().len() == 1;
-    assert!(rt; right);
+    })
+}
+
+fn has_one_set_name(names: &SetNames) -> bool {
+    names.len() == 1
+        && !names.is_empty()
+        && names.get(0).map(|name| name.item.len()) == Some(11)
+        && names.as_slice().len() == 1
+}
+
+#[test]
+fn names_of_sets_keep_their_order(rt: HostRuntime) -> Result<(), Fail> {
+    let names = SetNames::from_vec(one(rt.alloc(), events(rt.alloc())?)?);
+    assert!(rt; has_one_set_name(&names) && names.into_vec().len() == 1);
     Ok(())
+}
+
+fn has_two_settings(sets: &Sets) -> bool {
+    sets.len() == 2
+        && !sets.is_empty()
+        && sets.get(1).map(|setting| setting.attr) == Some(AttrId(3))
+        && sets.get(2).is_none()
+        && sets.as_slice().len() == 2
+}
+
+fn setting(attr: u32, value: Value) -> Setting {
+    Setting {
+        attr: AttrId(attr),
+        value,
+    }
 }
 
 #[test]
 fn settings_keep_their_order(rt: HostRuntime) -> Result<(), Fail> {
-    let mut right = true;
-    let alloc = rt.alloc();
-    let first = Setting {
-        attr: AttrId(6),
-        value: Value::Int(5),
-    };
-    let second = Setting {
-        attr: AttrId(3),
-        value: Value::Bool(true),
-    };
-    let sets = Sets::from_vec(vec![in alloc; first, second]?);
-    right &= sets.len() == 2;
-    right &= !sets.is_empty();
-    right &= sets.get(1).map(|setting| setting.attr) == Some(AttrId(3));
-    right &= sets.get(2).is_none();
-    right &= sets.as_slice().len() == 2;
-    right &= sets.into_vec().len() == 2;
-    right &= Sets::from_vec(Vec::new(alloc)).is_empty();
-    assert!(rt; right);
+    let first = one(rt.alloc(), setting(6, Value::Int(5)))?;
+    let sets = Sets::from_vec(with(first, setting(3, Value::Bool(true)))?);
+    assert!(rt; has_two_settings(&sets) && sets.into_vec().len() == 2);
     Ok(())
 }
 
 #[test]
-fn tables_keep_their_order(rt: HostRuntime) -> Result<(), Fail> {
-    let mut right = true;
-    let alloc = rt.alloc();
-    let attrs = AttrIds::from_vec(vec![in alloc; AttrId(4), AttrId(2)]?);
-    right &= attrs.len() == 2;
-    right &= !attrs.is_empty();
-    right &= attrs.get(1) == Some(&AttrId(2));
-    right &= attrs.get(2).is_none();
-    right &= attrs.as_slice().len() == 2;
-    let row = NodeRow {
+fn a_list_of_nothing_is_empty(rt: HostRuntime) {
+    let sets = Sets::from_vec(Vec::new(rt.alloc()));
+    let attrs = AttrIds::from_vec(Vec::new(rt.alloc()));
+    assert!(rt; sets.is_empty() && attrs.into_vec().is_empty());
+}
+
+fn has_two_attributes(attrs: &AttrIds) -> bool {
+    attrs.len() == 2
+        && !attrs.is_empty()
+        && attrs.get(1) == Some(&AttrId(2))
+        && attrs.get(2).is_none()
+        && attrs.as_slice().len() == 2
+}
+
+fn two_attributes(alloc: Global) -> Result<AttrIds, AllocError> {
+    Ok(AttrIds::from_vec(with(one(alloc, AttrId(4))?, AttrId(2))?))
+}
+
+#[test]
+fn numbers_of_attributes_keep_their_order(rt: HostRuntime) -> Result<(), Fail> {
+    let attrs = two_attributes(rt.alloc())?;
+    assert!(rt; has_two_attributes(&attrs) && attrs.into_vec().len() == 2);
+    Ok(())
+}
+
+fn row(alloc: Global) -> Result<NodeRow, AllocError> {
+    Ok(NodeRow {
         allowed: true,
         octets: 6,
         shape: MemberShape {
             node: NodeId(9),
             kind: TypeOf::Int(32),
-            attrs,
+            attrs: two_attributes(alloc)?,
         },
-    };
-    let nodes = NodeTable::from_vec(vec![in alloc; row]?);
-    right &= nodes.len() == 1;
-    right &= !nodes.is_empty();
-    right &= nodes.get(0).map(|row| row.octets) == Some(6);
-    right &= nodes.get(1).is_none();
-    right &= nodes.as_slice().len() == 1;
-    right &= nodes.into_vec().len() == 1;
-    let set = SetRow {
-        name: SetName {
-            domain: octs(alloc, b"BAY1")?,
-            item: octs(alloc, b"LLN0$Events")?,
-        },
-        nodes: Nodes::from_vec(vec![in alloc; NodeId(9)]?),
-    };
-    let sets = SetTable::from_vec(vec![in alloc; set]?);
-    right &= sets.len() == 1;
-    right &= !sets.is_empty();
-    right &= sets.get(0).map(|set| set.nodes.len()) == Some(1);
-    right &= sets.get(1).is_none();
-    right &= sets.as_slice().len() == 1;
-    right &= sets.into_vec().len() == 1;
-    right &= AttrIds::from_vec(Vec::new(alloc)).into_vec().len() == 0;
-    assert!(rt; right);
+    })
+}
+
+fn has_one_row(nodes: &NodeTable) -> bool {
+    nodes.len() == 1
+        && !nodes.is_empty()
+        && nodes.get(0).map(|row| row.octets) == Some(6)
+        && nodes.get(1).is_none()
+        && nodes.as_slice().len() == 1
+}
+
+#[test]
+fn rows_of_nodes_keep_their_order(rt: HostRuntime) -> Result<(), Fail> {
+    let nodes = NodeTable::from_vec(one(rt.alloc(), row(rt.alloc())?)?);
+    assert!(rt; has_one_row(&nodes) && nodes.into_vec().len() == 1);
+    Ok(())
+}
+
+fn set(alloc: Global) -> Result<SetRow, AllocError> {
+    Ok(SetRow {
+        name: events(alloc)?,
+        nodes: Nodes::from_vec(one(alloc, NodeId(9))?),
+    })
+}
+
+fn has_one_set(sets: &SetTable) -> bool {
+    sets.len() == 1
+        && !sets.is_empty()
+        && sets.get(0).map(|set| set.nodes.len()) == Some(1)
+        && sets.get(1).is_none()
+        && sets.as_slice().len() == 1
+}
+
+#[test]
+fn rows_of_sets_keep_their_order(rt: HostRuntime) -> Result<(), Fail> {
+    let sets = SetTable::from_vec(one(rt.alloc(), set(rt.alloc())?)?);
+    assert!(rt; has_one_set(&sets) && sets.into_vec().len() == 1);
     Ok(())
 }

@@ -94,6 +94,22 @@ fn config(alloc: Global) -> Result<Config, AllocError>
     })
 }
 
+/// What a value is made of: a boolean of 0 or 1, a signed or an unsigned number.
+#[derive(Clone, Copy)]
+enum Kind {
+    Bool,
+    Int,
+    Uint,
+}
+
+fn value(kind: Kind, number: i64) -> Value {
+    match kind {
+        Kind::Bool => Value::Bool(number == 1),
+        Kind::Int => Value::Int(number),
+        Kind::Uint => Value::Uint(number.unsigned_abs()),
+    }
+}
+
 /// What comes of a setting.
 fn outcome(
     store: &mut Store,
@@ -124,37 +140,65 @@ fn number(store: &Store, attr: u32) -> i64 {
     }
 }
 
-// IEC 61850-7-2: the functional constraints CF, DC, SP and SV are writable, MX and ST are not; of the control model
-// sbo-with-enhanced-security (4), CF has ctlModel, sboTimeout and sboClass.
+/// An attribute, the value that it is set to, whether by a client, and what comes of it: whether the value differs, or a refusal.
+type Setting = (u32, Kind, i64, bool, Result<bool, SetFault>);
+
+const SETTINGS: [Setting; 10] = [
+    (0, Kind::Int, 8, false, Ok(true)),
+    (0, Kind::Int, 8, false, Ok(false)),
+    (0, Kind::Uint, 8, true, Err(SetFault::Kind)),
+    (0, Kind::Int, 9, true, Err(SetFault::ReadOnly)),
+    (0, Kind::Int, 32768, true, Err(SetFault::ReadOnly)),
+    (0, Kind::Int, 32768, false, Err(SetFault::TooLong)),
+    (0, Kind::Int, -32769, false, Err(SetFault::TooLong)),
+    (1, Kind::Bool, 0, true, Ok(true)),
+    (2, Kind::Bool, 1, true, Err(SetFault::ReadOnly)),
+    (5, Kind::Int, 0, true, Err(SetFault::ReadOnly)),
+];
+
+/// The number of the attributes, and their numbers.
+fn numbers(store: &Store) -> (usize, [i64; 6]) {
+    let numbers = [
+        number(store, 0),
+        number(store, 1),
+        number(store, 2),
+        number(store, 3),
+        number(store, 4),
+        number(store, 5),
+    ];
+    (store.len(), numbers)
+}
+
+/// A setting comes out so.
+fn is_set_so(store: &mut Store, setting: &Setting) -> bool {
+    let (attr, kind, number, by_client, wanted) = *setting;
+    outcome(store, attr, &value(kind, number), by_client) == Some(wanted)
+}
+
+/// The place in the table of the first setting that comes out otherwise.
+fn first_wrong(store: &mut Store) -> Option<usize> {
+    for (i, setting) in SETTINGS.iter().enumerate() {
+        if !is_set_so(store, setting) {
+            return Some(i);
+        }
+    }
+    None
+}
+
+// Of the control model sbo-with-enhanced-security (4), CF has ctlModel, sboTimeout and sboClass.
+#[test]
+fn a_store_begins_as_it_is_configured(rt: HostRuntime) -> Result<(), Fail> {
+    let store = Store::open(rt.alloc(), &config(rt.alloc())?)?;
+    assert!(rt; numbers(&store) == (6, [7, 1, 0, 4, 30000, 1]));
+    Ok(())
+}
+
+// IEC 61850-7-2: the functional constraints CF, DC, SP and SV are writable, MX and ST are not.
 #[test]
 fn sets_in_the_order_of_refusals(rt: HostRuntime) -> Result<(), Fail> {
-    let alloc = rt.alloc();
-    let mut store = Store::open(alloc, &config(alloc)?)?;
-    assert!(rt; store.len() == 6);
-    for (attr, wanted) in [(0, 7), (1, 1), (2, 0), (3, 4), (4, 30000), (5, 1)] {
-        assert!(rt; number(&store, attr) == wanted, "configured");
-    }
-    let cases = [
-        (0, Value::Int(8), false, Some(Ok(true))),
-        (0, Value::Int(8), false, Some(Ok(false))),
-        (0, Value::Uint(8), true, Some(Err(SetFault::Kind))),
-        (0, Value::Int(9), true, Some(Err(SetFault::ReadOnly))),
-        (0, Value::Int(32768), true, Some(Err(SetFault::ReadOnly))),
-        (0, Value::Int(32768), false, Some(Err(SetFault::TooLong))),
-        (0, Value::Int(-32769), false, Some(Err(SetFault::TooLong))),
-        (1, Value::Bool(false), true, Some(Ok(true))),
-        (2, Value::Bool(true), true, Some(Err(SetFault::ReadOnly))),
-        (5, Value::Int(0), true, Some(Err(SetFault::ReadOnly))),
-    ];
-    for (attr, value, by_client, wanted) in &cases {
-        assert!(rt;
-            outcome(&mut store, *attr, value, *by_client) == *wanted,
-            "setting"
-        );
-    }
-    for (attr, wanted) in [(0, 8), (1, 0), (2, 0), (5, 1)] {
-        assert!(rt; number(&store, attr) == wanted, "afterwards");
-    }
+    let mut store = Store::open(rt.alloc(), &config(rt.alloc())?)?;
+    let wrong = first_wrong(&mut store);
+    assert!(rt; wrong == None && numbers(&store) == (6, [8, 0, 0, 4, 30000, 1]));
     Ok(())
 }
 
