@@ -5,7 +5,6 @@ ghost use Rattle.control_core.specs.Opening.{IsCtlKind};
 use bay_model::{ApplError, Termination};
 use control_core::{Call, Controls, Went};
 use std::alloc::{AllocError, Global};
-use std::process::Abort;
 use std::test::*;
 use sv_base::moment::FIRST_MS;
 use sv_base::{
@@ -43,8 +42,10 @@ fn kind(is_int: bool) -> TypeOf
 }
 
 /// BAY1/CSWI1$CO$Pos of this ctlModel and sboClass, with a ctlVal of INT32 or BOOLEAN and five seconds of sboTimeout.
-fn controls(alloc: Global, model: u8, class: u8, is_int: bool) -> Result<Controls, AllocError> {
-    let control = CtlDef {
+fn control(alloc: Global, model: u8, class: u8, is_int: bool) -> Result<CtlDef, AllocError>
+    ensures { IfOk result (λ d. IsCtlKind d.kind) }
+{
+    Ok(CtlDef {
         line: 5,
         domain: octets(alloc, b"BAY1")?,
         ln: octets(alloc, b"CSWI1")?,
@@ -53,11 +54,16 @@ fn controls(alloc: Global, model: u8, class: u8, is_int: bool) -> Result<Control
         timeout: 5000,
         class,
         kind: kind(is_int),
-    };
+    })
+}
+
+/// The control of a configuration that has nothing else.
+fn controls(alloc: Global, model: u8, class: u8, is_int: bool) -> Result<Controls, AllocError> {
+    let control = control(alloc, model, class, is_int)?;
     let config = Config {
-        vendor: octets(alloc, b"V")?,
-        model: octets(alloc, b"M")?,
-        revision: octets(alloc, b"1")?,
+        vendor: Octs::from_vec(Vec::new(alloc)),
+        model: Octs::from_vec(Vec::new(alloc)),
+        revision: Octs::from_vec(Vec::new(alloc)),
         nodes: LnDefs::from_vec(Vec::new(alloc)),
         attrs: AttrDefs::from_vec(Vec::new(alloc)),
         sets: SetDefs::from_vec(Vec::new(alloc)),
@@ -66,6 +72,24 @@ fn controls(alloc: Global, model: u8, class: u8, is_int: bool) -> Result<Control
         groups: SgDefs::from_vec(Vec::new(alloc)),
     };
     Controls::open(alloc, &config)
+}
+
+const TIME: Utc = Utc {
+    secs: 7,
+    frac: 0,
+    quality: 10,
+};
+
+/// orCat 2 and this orIdent.
+fn origin(alloc: Global, ident: &[u8]) -> Result<Value, AllocError> {
+    let mut parts = Vec::new(alloc);
+    parts.push(Value::Int(2))?;
+    parts.push(Value::Octets(octets(alloc, ident)?))?;
+    Ok(Value::Struct(Values::from_vec(parts)))
+}
+
+fn check(alloc: Global) -> Result<Value, AllocError> {
+    Ok(Value::Bits(Bits::from_vec(Vec::from_slice(alloc, &[false, true])?)))
 }
 
 /// This ctlVal, orCat 2, this orIdent and ctlNum, T, this Test, and, but for a Cancel, Check.
@@ -77,21 +101,14 @@ fn with_value(
     num: u64,
     test: bool,
 ) -> Result<Value, AllocError> {
-    let time = Utc {
-        secs: 7,
-        frac: 0,
-        quality: 10,
-    };
-    let origin = vec![in alloc; Value::Int(2), Value::Octets(octets(alloc, ident)?)]?;
-    let mut parts = vec![in alloc;
-        value,
-        Value::Struct(Values::from_vec(origin)),
-        Value::Uint(num),
-        Value::Time(time),
-        Value::Bool(test),
-    ]?;
+    let mut parts = Vec::new(alloc);
+    parts.push(value)?;
+    parts.push(origin(alloc, ident)?)?;
+    parts.push(Value::Uint(num))?;
+    parts.push(Value::Time(TIME))?;
+    parts.push(Value::Bool(test))?;
     if call != Call::Cancel {
-        parts.push(Value::Bits(Bits::from_vec(vec![in alloc; false, true]?)))?;
+        parts.push(check(alloc)?)?;
     }
     Ok(Value::Struct(Values::from_vec(parts)))
 }
@@ -101,13 +118,16 @@ fn command(alloc: Global, call: Call, num: u64, test: bool) -> Result<Value, All
     with_value(alloc, Value::Bool(true), b"op", call, num, test)
 }
 
-/// What is done to the control.
-#[derive(Clone, Copy, Debug, PartialEq, Eq)]
+/// What is done to the control; a command has this ctlNum.
+#[derive(Clone, Copy)]
 enum Deed {
     /// A read of SBO.
     Sbo,
-    /// An SBOw, an Oper or a Cancel with this ctlNum and Test.
-    Write(Call, u64, bool),
+    Sbow(u64),
+    Oper(u64),
+    /// An Oper with Test TRUE.
+    TestOper(u64),
+    Cancel(u64),
     Done,
     Taken,
     Block(bool),
@@ -126,17 +146,7 @@ enum Told {
 }
 
 /// At so many milliseconds an association does this, and is told that.
-#[derive(Clone, Copy)]
-struct Trial {
-    ms: u32,
-    a: AssocNo,
-    deed: Deed,
-    told: Told,
-}
-
-fn row(ms: u32, a: AssocNo, deed: Deed, told: Told) -> Trial {
-    Trial { ms, a, deed, told }
-}
+type Trial = (u32, AssocNo, Deed, Told);
 
 fn write(controls: &mut Controls, a: AssocNo, call: Call, value: &Value) -> Told {
     if controls.is_empty() || a.0 < 1 || 16 < a.0 {
@@ -156,57 +166,63 @@ fn write(controls: &mut Controls, a: AssocNo, call: Call, value: &Value) -> Told
     }
 }
 
-fn tell(controls: &mut Controls, alloc: Global, trial: Trial) -> Result<Told, AllocError> {
-    controls.advance(at(trial.ms));
-    if controls.is_empty() {
-        return Ok(Told::Nothing);
+/// The command that a deed is, its ctlNum and its Test.
+fn command_of(deed: Deed) -> Option<(Call, u64, bool)> {
+    match deed {
+        Deed::Sbow(num) => Some((Call::Select, num, false)),
+        Deed::Oper(num) => Some((Call::Operate, num, false)),
+        Deed::TestOper(num) => Some((Call::Operate, num, true)),
+        Deed::Cancel(num) => Some((Call::Cancel, num, false)),
+        _ => None,
     }
-    let mut told = Told::Nothing;
-    match trial.deed {
-        Deed::Sbo => told = Told::Selects(controls.select(POS, trial.a)),
-        Deed::Write(call, num, test) => {
-            told = write(controls, trial.a, call, &command(alloc, call, num, test)?)
-        }
-        Deed::Done => told = Told::Due(controls.done(POS, true)),
+}
+
+/// What comes of a deed other than a command.
+fn turn(controls: &mut Controls, a: AssocNo, deed: Deed) -> Told {
+    if controls.is_empty() {
+        return Told::Nothing;
+    }
+    match deed {
+        Deed::Sbo => return Told::Selects(controls.select(POS, a)),
+        Deed::Done => return Told::Due(controls.done(POS, true)),
         Deed::Taken => controls.taken(POS),
         Deed::Block(flag) => controls.block(POS, flag),
-        Deed::Lost => controls.lost(trial.a),
+        Deed::Lost => controls.lost(a),
+        _ => {}
     }
-    Ok(told)
+    Told::Nothing
 }
 
-/// Each trial is told what it is to be told.
-fn run(
-    rt: &impl Abort,
-    controls: &mut Controls,
+fn tell(controls: &mut Controls, alloc: Global, trial: &Trial) -> Result<Told, AllocError> {
+    let (ms, a, deed, _) = *trial;
+    controls.advance(at(ms));
+    match command_of(deed) {
+        Some((call, num, test)) => {
+            let value = command(alloc, call, num, test)?;
+            Ok(write(controls, a, call, &value))
+        }
+        None => Ok(turn(controls, a, deed)),
+    }
+}
+
+/// Makes the trials in order; gives the place of the first that is told otherwise.
+fn first_wrong(
     alloc: Global,
+    controls: &mut Controls,
     trials: &[Trial],
-) -> Result<(), AllocError> {
-    for trial in trials {
-        assert_eq!(rt;
-            tell(controls, alloc, *trial)?,
-            trial.told,
-            "at {}",
-            trial.ms
-        );
+) -> Result<Option<usize>, AllocError> {
+    for (i, trial) in trials.iter().enumerate() {
+        if tell(controls, alloc, trial)? != trial.3 {
+            return Ok(Some(i));
+        }
     }
-    Ok(())
+    Ok(None)
 }
 
-fn sbow(num: u64) -> Deed {
-    Deed::Write(Call::Select, num, false)
-}
-
-fn oper(num: u64) -> Deed {
-    Deed::Write(Call::Operate, num, false)
-}
-
-fn test_oper(num: u64) -> Deed {
-    Deed::Write(Call::Operate, num, true)
-}
-
-fn cancel(num: u64) -> Deed {
-    Deed::Write(Call::Cancel, num, false)
+/// A control of BOOLEAN, of this ctlModel and sboClass, is told what the trials say.
+fn is_told_so(alloc: Global, model: u8, class: u8, trials: &[Trial]) -> Result<bool, AllocError> {
+    let mut controls = controls(alloc, model, class, false)?;
+    Ok(first_wrong(alloc, &mut controls, trials)? == None)
 }
 
 const ACT: Told = Told::Went(Went::Act);
@@ -214,116 +230,122 @@ const ACT: Told = Told::Went(Went::Act);
 const PLAIN: Told = Told::Went(Went::Plain);
 
 // IEC 61850-7-2, SBO control with enhanced security, sboClass operate-once: AddCauses 9, 12, 18, 19, 26 and 27.
+const SELECTED_ENHANCED: [Trial; 34] = [
+    (0, ONE, Deed::Oper(1), Told::Cause(18)),
+    (0, ONE, Deed::Sbow(1), PLAIN),
+    (0, TWO, Deed::Sbow(1), Told::Cause(19)),
+    (0, TWO, Deed::Oper(1), Told::Cause(27)),
+    (0, TWO, Deed::Cancel(1), Told::Cause(27)),
+    (0, ONE, Deed::Oper(2), Told::Cause(26)),
+    (0, ONE, Deed::TestOper(1), Told::Cause(26)),
+    (0, ONE, Deed::Cancel(2), Told::Cause(26)),
+    (0, ONE, Deed::Oper(256), Told::Mistyped),
+    (5000, ONE, Deed::Oper(1), Told::Cause(18)),
+    (5000, ONE, Deed::Cancel(1), Told::Cause(18)),
+    (5000, TWO, Deed::Sbow(1), PLAIN),
+    (9999, TWO, Deed::Block(true), Told::Nothing),
+    (9999, TWO, Deed::Oper(256), Told::Mistyped),
+    (9999, TWO, Deed::Oper(1), Told::Cause(9)),
+    (9999, ONE, Deed::Oper(1), Told::Cause(27)),
+    (9999, TWO, Deed::Block(false), Told::Nothing),
+    (9999, TWO, Deed::Oper(1), ACT),
+    (9999, TWO, Deed::Oper(1), Told::Cause(12)),
+    (9999, ONE, Deed::Sbow(1), Told::Cause(12)),
+    (9999, TWO, Deed::Cancel(1), Told::Cause(12)),
+    (9999, ONE, Deed::Done, Told::Due(Some(TWO))),
+    (9999, ONE, Deed::Done, Told::Due(None)),
+    (9999, ONE, Deed::Oper(1), Told::Cause(12)),
+    (9999, TWO, Deed::Taken, Told::Nothing),
+    (9999, TWO, Deed::Oper(1), Told::Cause(18)),
+    (9999, ONE, Deed::Block(true), Told::Nothing),
+    (9999, ONE, Deed::Sbow(1), Told::Cause(9)),
+    (9999, ONE, Deed::Block(false), Told::Nothing),
+    (9999, ONE, Deed::Sbow(1), PLAIN),
+    (9999, ONE, Deed::Lost, Told::Nothing),
+    (9999, TWO, Deed::Sbow(1), PLAIN),
+    (9999, TWO, Deed::Cancel(1), PLAIN),
+    (9999, TWO, Deed::Cancel(1), Told::Cause(18)),
+];
+
 #[test]
 fn a_selected_control_with_enhanced_security_is_judged(rt: HostRuntime) -> Result<(), Fail> {
-    let trials = [
-        row(0, ONE, oper(1), Told::Cause(18)),
-        row(0, ONE, sbow(1), PLAIN),
-        row(0, TWO, sbow(1), Told::Cause(19)),
-        row(0, TWO, oper(1), Told::Cause(27)),
-        row(0, TWO, cancel(1), Told::Cause(27)),
-        row(0, ONE, oper(2), Told::Cause(26)),
-        row(0, ONE, test_oper(1), Told::Cause(26)),
-        row(0, ONE, cancel(2), Told::Cause(26)),
-        row(0, ONE, oper(256), Told::Mistyped),
-        row(5000, ONE, oper(1), Told::Cause(18)),
-        row(5000, ONE, cancel(1), Told::Cause(18)),
-        row(5000, TWO, sbow(1), PLAIN),
-        row(9999, TWO, Deed::Block(true), Told::Nothing),
-        row(9999, TWO, oper(256), Told::Mistyped),
-        row(9999, TWO, oper(1), Told::Cause(9)),
-        row(9999, ONE, oper(1), Told::Cause(27)),
-        row(9999, TWO, Deed::Block(false), Told::Nothing),
-        row(9999, TWO, oper(1), ACT),
-        row(9999, TWO, oper(1), Told::Cause(12)),
-        row(9999, ONE, sbow(1), Told::Cause(12)),
-        row(9999, TWO, cancel(1), Told::Cause(12)),
-        row(9999, ONE, Deed::Done, Told::Due(Some(TWO))),
-        row(9999, ONE, Deed::Done, Told::Due(None)),
-        row(9999, ONE, oper(1), Told::Cause(12)),
-        row(9999, TWO, Deed::Taken, Told::Nothing),
-        row(9999, TWO, oper(1), Told::Cause(18)),
-        row(9999, ONE, Deed::Block(true), Told::Nothing),
-        row(9999, ONE, sbow(1), Told::Cause(9)),
-        row(9999, ONE, Deed::Block(false), Told::Nothing),
-        row(9999, ONE, sbow(1), PLAIN),
-        row(9999, ONE, Deed::Lost, Told::Nothing),
-        row(9999, TWO, sbow(1), PLAIN),
-        row(9999, TWO, cancel(1), PLAIN),
-        row(9999, TWO, cancel(1), Told::Cause(18)),
-    ];
-    let mut controls = controls(rt.alloc(), 4, 0, false)?;
-    run(&rt, &mut controls, rt.alloc(), &trials)?;
+    assert!(rt; is_told_so(rt.alloc(), 4, 0, &SELECTED_ENHANCED)?);
     Ok(())
 }
 
 // IEC 61850-7-2, direct control with enhanced security: CommandTermination, and the loss of its association before and after.
+const DIRECT_ENHANCED: [Trial; 13] = [
+    (0, ONE, Deed::Done, Told::Due(None)),
+    (0, ONE, Deed::Oper(1), ACT),
+    (0, ONE, Deed::Lost, Told::Nothing),
+    (0, TWO, Deed::Oper(1), Told::Cause(12)),
+    (0, TWO, Deed::Done, Told::Due(None)),
+    (0, TWO, Deed::TestOper(1), Told::Went(Went::Tested)),
+    (0, TWO, Deed::Done, Told::Due(None)),
+    (0, TWO, Deed::Oper(1), Told::Cause(12)),
+    (0, TWO, Deed::Taken, Told::Nothing),
+    (0, TWO, Deed::Oper(1), ACT),
+    (0, TWO, Deed::Done, Told::Due(Some(TWO))),
+    (0, TWO, Deed::Lost, Told::Nothing),
+    (0, ONE, Deed::Oper(1), ACT),
+];
+
 #[test]
 fn a_direct_control_with_enhanced_security_runs_until_its_end(rt: HostRuntime) -> Result<(), Fail> {
-    let trials = [
-        row(0, ONE, Deed::Done, Told::Due(None)),
-        row(0, ONE, oper(1), ACT),
-        row(0, ONE, Deed::Lost, Told::Nothing),
-        row(0, TWO, oper(1), Told::Cause(12)),
-        row(0, TWO, Deed::Done, Told::Due(None)),
-        row(0, TWO, test_oper(1), Told::Went(Went::Tested)),
-        row(0, TWO, Deed::Done, Told::Due(None)),
-        row(0, TWO, oper(1), Told::Cause(12)),
-        row(0, TWO, Deed::Taken, Told::Nothing),
-        row(0, TWO, oper(1), ACT),
-        row(0, TWO, Deed::Done, Told::Due(Some(TWO))),
-        row(0, TWO, Deed::Lost, Told::Nothing),
-        row(0, ONE, oper(1), ACT),
-    ];
-    let mut controls = controls(rt.alloc(), 3, 0, false)?;
-    run(&rt, &mut controls, rt.alloc(), &trials)?;
+    assert!(rt; is_told_so(rt.alloc(), 3, 0, &DIRECT_ENHANCED)?);
     Ok(())
 }
 
 // IEC 61850-7-2, SBO control with normal security, sboClass operate-many: each Oper starts the time again.
+const SELECTED_NORMAL: [Trial; 14] = [
+    (0, ONE, Deed::Block(true), Told::Nothing),
+    (0, ONE, Deed::Sbo, Told::Selects(false)),
+    (0, ONE, Deed::Block(false), Told::Nothing),
+    (0, ONE, Deed::Sbo, Told::Selects(true)),
+    (0, TWO, Deed::Sbo, Told::Selects(false)),
+    (0, TWO, Deed::Oper(1), Told::Cause(27)),
+    (4000, ONE, Deed::TestOper(1), PLAIN),
+    (8999, ONE, Deed::Oper(9), ACT),
+    (13998, ONE, Deed::Oper(3), ACT),
+    (18998, ONE, Deed::Oper(3), Told::Cause(18)),
+    (18998, TWO, Deed::Sbo, Told::Selects(true)),
+    (18998, ONE, Deed::Cancel(1), Told::Cause(27)),
+    (18998, TWO, Deed::Cancel(1), PLAIN),
+    (18998, ONE, Deed::Done, Told::Due(None)),
+];
+
 #[test]
 fn a_selected_control_with_normal_security_is_operated_many_times(
     rt: HostRuntime,
 ) -> Result<(), Fail> {
-    let trials = [
-        row(0, ONE, Deed::Block(true), Told::Nothing),
-        row(0, ONE, Deed::Sbo, Told::Selects(false)),
-        row(0, ONE, Deed::Block(false), Told::Nothing),
-        row(0, ONE, Deed::Sbo, Told::Selects(true)),
-        row(0, TWO, Deed::Sbo, Told::Selects(false)),
-        row(0, TWO, oper(1), Told::Cause(27)),
-        row(4000, ONE, test_oper(1), PLAIN),
-        row(8999, ONE, oper(9), ACT),
-        row(13998, ONE, oper(3), ACT),
-        row(18998, ONE, oper(3), Told::Cause(18)),
-        row(18998, TWO, Deed::Sbo, Told::Selects(true)),
-        row(18998, ONE, cancel(1), Told::Cause(27)),
-        row(18998, TWO, cancel(1), PLAIN),
-        row(18998, ONE, Deed::Done, Told::Due(None)),
-    ];
-    let mut controls = controls(rt.alloc(), 2, 1, false)?;
-    run(&rt, &mut controls, rt.alloc(), &trials)?;
+    assert!(rt; is_told_so(rt.alloc(), 2, 1, &SELECTED_NORMAL)?);
     Ok(())
 }
 
-// IEC 61850-7-2, status-only, and direct control with normal security.
+// IEC 61850-7-2, status-only.
+const STATUS_ONLY: [Trial; 2] = [
+    (0, ONE, Deed::Block(true), Told::Nothing),
+    (0, ONE, Deed::Oper(1), Told::Cause(1)),
+];
+
 #[test]
-fn other_controls_are_judged(rt: HostRuntime) -> Result<(), Fail> {
-    let trials = [
-        row(0, ONE, Deed::Block(true), Told::Nothing),
-        row(0, ONE, oper(1), Told::Cause(1)),
-    ];
-    let mut status_only = controls(rt.alloc(), 0, 0, false)?;
-    run(&rt, &mut status_only, rt.alloc(), &trials)?;
-    let trials = [
-        row(0, ONE, oper(1), ACT),
-        row(0, TWO, test_oper(1), PLAIN),
-        row(0, ONE, Deed::Done, Told::Due(None)),
-        row(0, TWO, Deed::Block(true), Told::Nothing),
-        row(0, TWO, oper(1), Told::Cause(9)),
-    ];
-    let mut direct = controls(rt.alloc(), 1, 0, false)?;
-    run(&rt, &mut direct, rt.alloc(), &trials)?;
+fn a_control_that_is_status_only_is_not_operated(rt: HostRuntime) -> Result<(), Fail> {
+    assert!(rt; is_told_so(rt.alloc(), 0, 0, &STATUS_ONLY)?);
+    Ok(())
+}
+
+// IEC 61850-7-2, direct control with normal security.
+const DIRECT: [Trial; 5] = [
+    (0, ONE, Deed::Oper(1), ACT),
+    (0, TWO, Deed::TestOper(1), PLAIN),
+    (0, ONE, Deed::Done, Told::Due(None)),
+    (0, TWO, Deed::Block(true), Told::Nothing),
+    (0, TWO, Deed::Oper(1), Told::Cause(9)),
+];
+
+#[test]
+fn a_direct_control_with_normal_security_is_judged(rt: HostRuntime) -> Result<(), Fail> {
+    assert!(rt; is_told_so(rt.alloc(), 1, 0, &DIRECT)?);
     Ok(())
 }
 
@@ -375,39 +397,54 @@ fn says(error: &ApplError, object: &[u8], ident: &[u8], ctl_num: u8, cause: u8) 
         && error.cause == cause
 }
 
+fn is_late(error: &Option<ApplError>) -> bool {
+    match error {
+        Some(error) => says(error, b"BAY1/CSWI1$CO$Pos$Oper", b"op", 3, 16),
+        None => false,
+    }
+}
+
+/// The terminations and the Oper have the ctlNum 3.
+fn are_of_the_oper(ends: &Running) -> bool {
+    ctl_num(&ends.good.oper) == Some(3)
+        && ctl_num(&ends.bad.oper) == Some(3)
+        && ctl_num(&ends.oper) == Some(3)
+}
+
+/// The terminations are of the control, the negative one with its error.
+fn are_terminations(ends: &Running) -> bool {
+    ends.is_named
+        && ends.good.control == POS
+        && ends.bad.control == POS
+        && ends.good.error.is_none()
+        && is_late(&ends.bad.error)
+}
+
+fn say_what_was_written(ends: &Running) -> bool {
+    are_terminations(ends)
+        && are_of_the_oper(ends)
+        && says(&ends.refused, b"BAY1/CSWI1$CO$Pos$Cancel", b"", 4, 12)
+}
+
+#[test]
+fn nothing_runs_at_first(rt: HostRuntime) -> Result<(), Fail> {
+    let controls = controls(rt.alloc(), 3, 0, false)?;
+    assert!(rt; ends(&controls, rt.alloc())?.is_none());
+    Ok(())
+}
+
+const OPER: [Trial; 1] = [(0, ONE, Deed::Oper(3), ACT)];
+
 // IEC 61850-8-1, LastApplError and CommandTermination: the variable, origin, ctlNum and AddCause, 16 time-limit-over.
 #[test]
 fn errors_and_terminations_say_what_was_written(rt: HostRuntime) -> Result<(), Fail> {
     let mut controls = controls(rt.alloc(), 3, 0, false)?;
-    assert!(rt; ends(&controls, rt.alloc())?.is_none(), "nothing runs");
-    let trials = [row(0, ONE, oper(3), ACT)];
-    run(&rt, &mut controls, rt.alloc(), &trials)?;
-    let Some(ends) = ends(&controls, rt.alloc())? else {
-        assert!(rt; false, "it runs");
-        return Ok(());
+    let wrong = first_wrong(rt.alloc(), &mut controls, &OPER)?;
+    let is_said = match ends(&controls, rt.alloc())? {
+        Some(ends) => say_what_was_written(&ends),
+        None => false,
     };
-    assert!(rt;
-        ends.good.control == POS && ends.bad.control == POS,
-        "control"
-    );
-    for oper in [&ends.good.oper, &ends.bad.oper, &ends.oper] {
-        assert!(rt; ctl_num(oper) == Some(3), "ctlNum");
-    }
-    assert!(rt; ends.is_named, "reference");
-    assert!(rt; ends.good.error.is_none(), "positive");
-    match &ends.bad.error {
-        Some(error) => {
-            assert!(rt;
-                says(error, b"BAY1/CSWI1$CO$Pos$Oper", b"op", 3, 16),
-                "negative"
-            )
-        }
-        None => assert!(rt; false, "negative"),
-    }
-    assert!(rt;
-        says(&ends.refused, b"BAY1/CSWI1$CO$Pos$Cancel", b"", 4, 12),
-        "refused"
-    );
+    assert!(rt; wrong == None && is_said);
     Ok(())
 }
 
@@ -430,21 +467,39 @@ fn told_by(alloc: Global, is_int: bool, value: Value) -> Result<Option<i64>, All
     Ok(number(&controls.ctl_val(POS, &oper)))
 }
 
+/// What a ctlVal is made of: a BOOLEAN of 0 or 1, an INTEGER, an unsigned number.
+#[derive(Clone, Copy)]
+enum Given {
+    Bool,
+    Int,
+    Uint,
+}
+
+fn value(given: Given, number: i64) -> Value {
+    match given {
+        Given::Bool => Value::Bool(number == 1),
+        Given::Int => Value::Int(number),
+        Given::Uint => Value::Uint(number.unsigned_abs()),
+    }
+}
+
+/// Whether the control is of INT32, a value, and the ctlVal that is told.
+const CTL_VALS: [(bool, Given, i64, Option<i64>); 8] = [
+    (false, Given::Bool, 1, Some(1)),
+    (false, Given::Bool, 0, Some(0)),
+    (false, Given::Int, 1, None),
+    (true, Given::Int, 2147483647, Some(2147483647)),
+    (true, Given::Int, -2147483648, Some(-2147483648)),
+    (true, Given::Int, 2147483648, None),
+    (true, Given::Uint, 1, None),
+    (true, Given::Bool, 1, None),
+];
+
 // IEC 61850-7-3, ctlVal of SPC and DPC (BOOLEAN) and of INC (INT32).
 #[test]
 fn ctl_vals_are_of_their_type(rt: HostRuntime) -> Result<(), Fail> {
-    let rows = [
-        (false, Value::Bool(true), Some(1)),
-        (false, Value::Bool(false), Some(0)),
-        (false, Value::Int(1), None),
-        (true, Value::Int(2147483647), Some(2147483647)),
-        (true, Value::Int(-2147483648), Some(-2147483648)),
-        (true, Value::Int(2147483648), None),
-        (true, Value::Uint(1), None),
-        (true, Value::Bool(true), None),
-    ];
-    for (is_int, value, wanted) in rows {
-        assert_eq!(rt; told_by(rt.alloc(), is_int, value)?, wanted, "ctlVal");
+    for (is_int, given, number, wanted) in &CTL_VALS {
+        assert!(rt; told_by(rt.alloc(), *is_int, value(*given, *number))? == *wanted);
     }
     Ok(())
 }
