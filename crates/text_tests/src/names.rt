@@ -6,24 +6,14 @@ ghost use Rattle.sv_base.specs.declared.config.AttrDef.{AttrDef as AttrLine};
 ghost use Rattle.bay_rooms.specs.Slots.{IsSettable};
 
 use bay_model::Step;
+use cfg_text::read_config;
 use object_model::{Model, domains};
 use std::alloc::{AllocError, Global};
 use std::test::*;
-use sv_base::{
-    AssocNo, AttrDef, AttrDefs, Bits, BlockDef, BlockDefs, Config, CtlDef, CtlDefs, LnDef, LnDefs,
-    Octs, SetDefs, SgDefs, TypeOf, Values,
-};
+use sv_base::{AssocNo, AttrDef, AttrDefs, Config, Octs, TypeOf, Values};
 
 fn octs(alloc: Global, octets: &[u8]) -> Result<Octs, AllocError> {
     Ok(Octs::from_vec(octets.to_vec(alloc)?))
-}
-
-fn node(alloc: Global, line: u32, domain: &[u8], ln: &[u8]) -> Result<LnDef, AllocError> {
-    Ok(LnDef {
-        line,
-        domain: octs(alloc, domain)?,
-        ln: octs(alloc, ln)?,
-    })
 }
 
 /// An attribute at a place: domain, logical node, functional constraint and path.
@@ -89,60 +79,33 @@ fn attrs(alloc: Global) -> Result<AttrDefs, AllocError>
     Ok(AttrDefs::from_vec(items))
 }
 
-fn blocks(alloc: Global) -> Result<BlockDefs, AllocError> {
-    let block = BlockDef {
-        line: 5,
-        domain: octs(alloc, b"BAY1")?,
-        ln: octs(alloc, b"LLN0")?,
-        name: octs(alloc, b"brcb1")?,
-        rpt_id: octs(alloc, b"")?,
-        dat_set: octs(alloc, b"")?,
-        conf_rev: 1,
-        opt_flds: Bits::from_vec(Vec::new(alloc)),
-        buf_tm: 0,
-        trg_ops: Bits::from_vec(Vec::new(alloc)),
-        intg_pd: 0,
-        capacity: 200,
-    };
-    Ok(BlockDefs::from_vec(vec![in alloc; block]?))
-}
+/// The lines of two domains but for those of their attributes: a block, a breaker's control, direct with normal security, and
+/// measurements of the same name.
+const LINES: &[u8] = b"config 1
+server V M 1
+ld BAY1
+ln LLN0
+brcb brcb1 ' ' 1 0000000000 0 000000 0 200
+ln XCBR1
+# position
+ctl Pos 1 30000 0 bool
+ln MMXU1
+# power
+ld BAY2
+ln MMXU1
+# power
+end
+";
 
-/// The breaker's control, direct with normal security.
-fn controls(alloc: Global) -> Result<CtlDefs, AllocError> {
-    let control = CtlDef {
-        line: 8,
-        domain: octs(alloc, b"BAY1")?,
-        ln: octs(alloc, b"XCBR1")?,
-        path: octs(alloc, b"Pos")?,
-        model: 1,
-        timeout: 30000,
-        class: 0,
-        kind: TypeOf::Bool,
-    };
-    Ok(CtlDefs::from_vec(vec![in alloc; control]?))
-}
-
-/// Two domains with a measurement of the same name; the first also has a block, a breaker and its control.
+/// The configuration of the lines, with the attributes where remarks stand for them.
 fn config(alloc: Global) -> Result<Config, AllocError>
     ensures { IfOk result (λ c. All (λ (a : AttrLine). IsSettable a.kind) c.attrs) }
 {
-    let nodes = vec![in alloc;
-        node(alloc, 4, b"BAY1", b"LLN0")?,
-        node(alloc, 6, b"BAY1", b"XCBR1")?,
-        node(alloc, 9, b"BAY1", b"MMXU1")?,
-        node(alloc, 12, b"BAY2", b"MMXU1")?,
-    ]?;
-    Ok(Config {
-        vendor: octs(alloc, b"V")?,
-        model: octs(alloc, b"M")?,
-        revision: octs(alloc, b"1")?,
-        nodes: LnDefs::from_vec(nodes),
-        attrs: attrs(alloc)?,
-        sets: SetDefs::from_vec(Vec::new(alloc)),
-        blocks: blocks(alloc)?,
-        controls: controls(alloc)?,
-        groups: SgDefs::from_vec(Vec::new(alloc)),
-    })
+    let Ok(mut config) = read_config(alloc, LINES) else {
+        return Err(AllocError);
+    };
+    config.attrs = attrs(alloc)?;
+    Ok(config)
 }
 
 // A node stands before its parts, and names in the order in which lines first name them: LLN0 with 15 nodes of its block,
@@ -263,8 +226,13 @@ fn nodes_are_found_by_domain_and_item(rt: HostRuntime) -> Result<(), Fail> {
 #[test]
 fn references_have_the_numbers_of_their_lines(rt: HostRuntime) -> Result<(), Fail> {
     let model = built(rt.alloc())?;
-    assert!(rt; first_wrong_attr(&model).is_none());
-    assert!(rt; has_its_parts(&model));
+    assert!(rt; first_wrong_attr(&model).is_none() && has_its_parts(&model));
+    Ok(())
+}
+
+#[test]
+fn domains_are_counted_once(rt: HostRuntime) -> Result<(), Fail> {
+    let model = built(rt.alloc())?;
     assert!(rt; domains(rt.alloc(), model.config().nodes.as_slice())?.len() == 2);
     Ok(())
 }
