@@ -11,6 +11,6 @@ play_scripts-requires-clause-pass g c κs within = subst (IsRest c.args.history 
 
 pub returns : goal.returns
 returns g c =
-    let n = c.in_ok-parts.ensures.numbers in
+    let n = c.in-Ok.ensures.numbers in
     let w = c.close-total.ensures.whole (λ k near. n.1 k (omega (arith, near, c.requires.actors))) in
-    (c.play_scripts.new.pass.seen, w.0, c.in_ok-parts.ensures.raced (λ k far. w.1.1 k (omega (arith, far, c.requires.actors))))
+    (c.play_scripts.new.pass.seen, w.0, c.in-Ok.ensures.raced (λ k far. w.1.1 k (omega (arith, far, c.requires.actors))))
