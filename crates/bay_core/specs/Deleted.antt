@@ -1,8 +1,7 @@
 -- Data sets that clients define and delete, and what the blocks have then (ISO 9506-2, DefineNamedVariableList and
 -- DeleteNamedVariableList; IEC 61850-7-2, CreateDataSet and DeleteDataSet).
-use Rattle.std.specs.Prelude.{◌≡◌, ◌≢◌, ◌<◌, ◌+◌, ◌-◌, ℕ, Bool, nat_lt, List, [], ◌∷◌, length, map, Option, None, Result, Ok, Err, if◌then◌else◌}
+use Rattle.std.specs.Prelude.{◌≡◌, ◌≢◌, ◌<◌, ◌+◌, ◌-◌, ℕ, Bool, List, [], ◌∷◌, length, map, None, Result, Ok, Err, if◌then◌else◌}
 use Rattle.std.specs.List.{list_any}
-use Rattle.std.specs.Option.{option_map}
 use Rattle.std.specs.Str.{bytes_eq}
 use Rattle.sv_base.specs.declared.config.Config.{Config}
 use Rattle.bay_model.specs.declared.request.SetName.{SetName}
@@ -14,6 +13,7 @@ use Rattle.data_sets.specs.Standing.{data_set}
 use Rattle.data_sets.specs.Turns.{is_going, is_there}
 use Rattle.bay_config.specs.Servable.{IsServedSet}
 use Rattle.report_block.specs.declared.block.ReportBlock.{ReportBlock}
+use Rattle.report_block.specs.Writes.{renumbered}
 use Rattle.bay_core.specs.Marked.{one_if}
 use Rattle.bay_core.specs.State.{State}
 
@@ -36,13 +36,6 @@ unless_used used (Err fault) = Err fault
 -- the number of the data set that goes by a name, or why none does
 abbrev pub deletion_at : State → SetName → Result ℕ DeleteFault
 deletion_at s n = unless_used (is_reported s.parts n) (deletion s.book n)
-
--- the number of a set after that of number k went, and the blocks with their numbers
-abbrev pub moved : ℕ → Option ℕ → Option ℕ
-moved k set = option_map (λ j. if nat_lt k j then j - 1 else j) set
-
-abbrev pub renumbered : ℕ → ReportBlock → ReportBlock
-renumbered k part = record part { set = moved k part.set }
 
 -- after the deletion of one, and of several, each judged after those before it
 abbrev pub after_deletion : Result ℕ DeleteFault → State → State
