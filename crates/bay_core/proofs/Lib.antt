@@ -37,6 +37,7 @@ pub mod TakenLaws
 pub mod SentLaws
 -- how a bay begins
 pub mod FirstValues
+pub mod FirstBook
 pub mod FirstState
 pub mod OpenLaws
 -- the parts after a write

@@ -52,7 +52,7 @@ pub record IsBooked (c : Config) (book : Book) : Type 0 where
   pub served : AreServedSets c book
   pub named : (k : ℕ) → k < length book.sets → (set_at book k).name.item ≢ []
   pub apart : (j k : ℕ) → j < length book.sets → book.configured ≤ k → k < length book.sets → (set_at book j).name ≡ (set_at book k).name → j ≡ k
-  pub free : (k : ℕ) → (set_at book k).holds ≡ 0
+  pub free : (k : ℕ) → k < length book.sets → (set_at book k).holds ≡ 0
 
 -- the parts fit the configuration, each has an empty DatSet or one that names a data set, and the number of that; the index has the
 -- members of their data sets, and the room that entries of 256 members and changes need was made
