@@ -225,15 +225,16 @@ module _ (c : Config) (served : IsServable c) where
   pub new-set : (book : Book) (name : SetName) (named : Bool) (ts : List Target) → named ≡ is_set_name (configured_model c) name → define_fault book name named (node_rows c) ts ≡ None → IsNewSet c book (defined_set name ts)
   new-set book name named ts is fine =
       let tests = no-fault (is_some (number_named name book)) (not named || is_empty ts || not (list_all (is_member (node_rows c)) ts)) (nat_lt 256 (length ts) || nat_le 64 (length book.sets - book.configured)) fine in
-      let fit = or-both (not named) (is_empty ts || not (list_all (is_member (node_rows c)) ts)) tests.1 in
+      let fit = or-both (not named || is_empty ts) (not (list_all (is_member (node_rows c)) ts)) tests.1 in
+      let front = or-both (not named) (is_empty ts) fit.0 in
       let few = or-both (nat_lt 256 (length ts)) (nat_le 64 (length book.sets - book.configured)) tests.2 in
-      let members = members-of ts (not-false (list_all (is_member (node_rows c)) ts) (or-both (is_empty ts) (not (list_all (is_member (node_rows c)) ts)) fit.1).1) in
+      let members = members-of ts (not-false (list_all (is_member (node_rows c)) ts) fit.1) in
       let most : length ts ≤ 256 = grind (arith, nat_tests, few.0) in
       let room : length book.sets - book.configured < 64 = grind (arith, nat_tests, few.1) in
       record {
         few = room;
         served = record { few = omega (arith, most, length-map (map node_in ts) (λ (n : NodeId). n.0), length-map ts node_in); members = members.0; short = members.1 };
         name = none-some (number_named name book) tests.0;
-        named = some-item name (sym is ∙ not-false named fit.0);
+        named = some-item name (sym is ∙ not-false named front.0);
         free = refl;
       }

@@ -118,14 +118,14 @@ going-by : (s : State) (n : SetName) (k : ℕ) (o : Option ℕ) → number_named
 going-by s n k None at is = cc
 going-by s n k (Some j) at is = by (nat_lt j s.book.configured) (nat_lt 0 (set_at s.book j).holds) (is_reported s.parts n) refl refl is
   where
-    number : Ok j ≡ Ok k → number_named n s.book ≡ Some k
+    number : ◌≡◌ {A = Result ℕ DeleteFault} (Ok j) (Ok k) → number_named n s.book ≡ Some k
     number e = at ∙ ap (λ (r : Result ℕ DeleteFault). first r) e
       where
         first : Result ℕ DeleteFault → Option ℕ
         first (Ok i) = Some i
         first (Err f) = None
 
-    by : (x h u : Bool) → nat_lt j s.book.configured ≡ x → is_reported s.parts n ≡ u → unless_used u (if x then Err faults.NotDeletable else (if h then Err faults.InUse else Ok j)) ≡ Ok k → IsGoing s n k
+    by : (x h u : Bool) → nat_lt j s.book.configured ≡ x → is_reported s.parts n ≡ u → ◌≡◌ {A = Result ℕ DeleteFault} (unless_used u (if x then Err faults.NotDeletable else (if h then Err faults.InUse else Ok j))) (Ok k) → IsGoing s n k
     by true h u one two e = cc
     by false true u one two e = cc
     by false false true one two e = cc
@@ -207,7 +207,7 @@ module _ (c : Config) (past : Past) (s : State) (all dyn : List DataSet) (before
 
 -- ---- deletions in turn
 
-pub going_in : List SetName → State → List SetName
+abbrev pub going_in : List SetName → State → List SetName
 going_in [] s = []
 going_in (n ∷ ns) s = (if is_going (deletion_at s n) then n ∷ [] else []) ++ going_in ns (after_deletion (deletion_at s n) s)
 

@@ -1,10 +1,11 @@
 -- Names that a data set may have: the logical node is there.
-use Rattle.std.proofs.Common.{◌≡◌, ◌∙◌, ◌∷◌, ℕ, suc, Bool, true, false, List, [], Option, None, Some, is_some, refl, ap, ap₂, sym, arith}
+use Rattle.std.proofs.Common.{◌≡◌, ◌+◌, ◌∙◌, ◌∷◌, ℕ, suc, Bool, true, false, List, [], Option, None, Some, is_some, refl, ap, ap₂, sym, arith}
 use Rattle.std.specs.Prelude.{◌&&◌, ◌||◌, position, if◌then◌else◌}
 use Rattle.std.specs.Option.{option_map}
 use Rattle.std.specs.List.{list_any}
 use Rattle.std.specs.Str.{bytes_eq}
 use Rattle.std.proofs.lemmas.Slice.Eq.{bytes_eq-Decides}
+use Rattle.list_laws.proofs.Places.{place-cons}
 use Rattle.sv_base.specs.declared.config.Config.{Config}
 use Rattle.sv_base.specs.declared.numbers.NodeId.{NodeId}
 use Rattle.bay_model.specs.Definitions.{has_node}
@@ -23,10 +24,10 @@ turned a b = by (bytes_eq a b) (bytes_eq b a) refl refl where
 
 some-at : (p q : Node → Bool) → ((n : Node) → p n ≡ q n) → (ns : List Node) → is_some (position p ns) ≡ list_any q ns
 some-at p q same [] = refl
-some-at p q same (n ∷ ns) = by (p n) (q n) (same n) (some-at p q same ns) where
-  by : (x y : Bool) → x ≡ y → is_some (position p ns) ≡ list_any q ns → is_some (if x then Some 0 else option_map suc (position p ns)) ≡ (y || list_any q ns)
+some-at p q same (n ∷ ns) = ap is_some (place-cons p n ns) ∙ by (p n) (q n) (same n) (some-at p q same ns) where
+  by : (x y : Bool) → x ≡ y → is_some (position p ns) ≡ list_any q ns → is_some (if x then Some 0 else option_map (λ i. i + 1) (position p ns)) ≡ (y || list_any q ns)
   by true true e later = refl
-  by false false e later = some-mapped suc (position p ns) ∙ later
+  by false false e later = some-mapped (λ i. i + 1) (position p ns) ∙ later
   by true false e later = cc
   by false true e later = cc
 

@@ -122,11 +122,13 @@ name-there book n k is =
 none-reports : (parts : List ReportBlock) (r : List ℕ) (b : ℕ) (part : ReportBlock) → list_any (λ (p : ReportBlock). bytes_eq p.block.options.dat_set r) parts ≡ false → slice_get parts b ≡ Some part
     → bytes_eq part.block.options.dat_set r ≡ false
 none-reports [] r b part none at = cc
-none-reports (p ∷ parts) r b part none at = by (bytes_eq p.block.options.dat_set r) refl none b at where
-  by : (t : Bool) → bytes_eq p.block.options.dat_set r ≡ t → (t || list_any (λ (p : ReportBlock). bytes_eq p.block.options.dat_set r) parts) ≡ false → (b : ℕ) → slice_get (p ∷ parts) b ≡ Some part → bytes_eq part.block.options.dat_set r ≡ false
-  by true is none b at = cc
-  by false is none zero at = let same : p ≡ part = cc in ap (λ (q : ReportBlock). bytes_eq q.block.options.dat_set r) (sym same) ∙ is
-  by false is none (suc b) at = none-reports parts r b part none at
+none-reports (p ∷ parts) r b part none at = by (bytes_eq p.block.options.dat_set r) refl none (none-reports parts r) b at where
+  by : (t : Bool) → bytes_eq p.block.options.dat_set r ≡ t → (t || list_any (λ (p : ReportBlock). bytes_eq p.block.options.dat_set r) parts) ≡ false
+      → ((i : ℕ) (q : ReportBlock) → list_any (λ (p : ReportBlock). bytes_eq p.block.options.dat_set r) parts ≡ false → slice_get parts i ≡ Some q → bytes_eq q.block.options.dat_set r ≡ false)
+      → (b : ℕ) → slice_get (p ∷ parts) b ≡ Some part → bytes_eq part.block.options.dat_set r ≡ false
+  by true is none later b at = cc
+  by false is none later zero at = let same : p ≡ part = cc in ap (λ (q : ReportBlock). bytes_eq q.block.options.dat_set r) (sym same) ∙ is
+  by false is none later (suc b) at = later b part none at
 
 -- ---- the book without it
 

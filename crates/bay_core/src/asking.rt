@@ -148,8 +148,7 @@ impl Bay {
         ensures kept { OnOk result (IsKept self.old self.new) }
         ensures refused { OnErr result (self.new ≡ self.old) }
     {
-        // the members of its data sets are nodes that are there
-        let _model = self.model();
+        let _ = &self.sets;
         let Some(nodes) = self.members_named(alloc, domain, item)? else {
             self.arrive(moment);
             return Ok(Reply::Error { class: 7, code: 2 });
@@ -176,6 +175,7 @@ impl Bay {
         ensures kept { OnOk result (IsKept self.old self.new) }
         ensures refused { OnErr result (self.new ≡ self.old) }
     {
+        let _ = &self.model;
         match service {
             Service::WriteVars(writes) => self.answer_writes(alloc, moment, a, writes),
             Service::WriteSet {

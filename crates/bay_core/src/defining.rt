@@ -71,6 +71,7 @@ impl Bay {
         ensures kept { OnOk result (IsKept self.old self.new) }
         ensures refused { OnErr result (self.new ≡ self.old) }
     {
+        let _ = &self.sets;
         let name = set_name(alloc, domain, item)?;
         let is_named = is_set_name(&self.model, &name);
         let nodes = self.model.nodes();

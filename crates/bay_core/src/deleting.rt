@@ -8,7 +8,7 @@ ghost use Rattle.bay_core.specs.Marked.{one_if};
 
 use crate::bay::Bay;
 use bay_model::{Reply, SetName, SetNames};
-use data_sets::{DeleteFault, is_reference};
+use data_sets::{is_reference, DeleteFault};
 use report_block::ReportBlock;
 use std::alloc::AllocError;
 use sv_base::{AssocNo, Moment};
@@ -118,6 +118,7 @@ impl Bay {
         ensures kept { OnOk result (IsKept self.old self.new) }
         ensures refused { OnErr result (self.new ≡ self.old) }
     {
+        let _ = &self.sets;
         if scope != 0 {
             self.arrive(moment);
             return Ok(Reply::Error { class: 7, code: 3 });

@@ -2,7 +2,7 @@
 
 ghost use Rattle.std.specs.Prelude.{◌≡◌, ◌≤◌, ◌==◌, length};
 ghost use Rattle.std.specs.List.{list_all, position_or_len, before_first, after_first};
-ghost use Rattle.bay_model.specs.Definitions.{is_letter as is_letter_in, is_name as is_name_in, is_name_octet as is_octet_in, is_set_name as is_set_name_in};
+ghost use Rattle.bay_model.specs.Definitions.{has_node as has_node_in, is_letter as is_letter_in, is_name as is_name_in, is_name_octet as is_octet_in, is_set_name as is_set_name_in};
 ghost use Rattle.bay_model.specs.Named.{configured_model};
 
 use bay_model::SetName;
@@ -71,11 +71,19 @@ fn behind(item: &[u8]) -> &[u8]
     }
 }
 
+/// The domain has a logical node of this name.
+fn has_node(model: &Model, domain: &[u8], node: &[u8]) -> bool
+    ensures { result ≡ has_node_in (configured_model model.now) domain.now node.now }
+{
+    model.resolve(domain, node).is_some()
+}
+
 /// A client may define a data set of this name: it is `LN$NAME` of a logical node that is there, in at most 64 octets.
 pub(crate) fn is_set_name(model: &Model, name: &SetName) -> bool
     ensures { result ≡ is_set_name_in (configured_model model.now) name.now }
 {
     let item = name.item.as_slice();
-    let node = model.resolve(name.domain.as_slice(), front(item));
-    node.is_some() && is_name(behind(item)) && item.len() <= OCTETS
+    let has_node = has_node(model, name.domain.as_slice(), front(item));
+    let has_name = is_name(behind(item));
+    has_node && has_name && item.len() <= OCTETS
 }
