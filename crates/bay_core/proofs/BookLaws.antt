@@ -59,7 +59,7 @@ number-there ref book = by (number_referred ref book) refl
 
 -- ---- the nodes of all sets
 
-lent-nodes : (c : Config) (ns : List NodeId) → All (IsMember c) (map (λ (n : NodeId). n.0) ns) → AreThere (length (node_rows c)) ns
+pub lent-nodes : (c : Config) (ns : List NodeId) → All (IsMember c) (map (λ (n : NodeId). n.0) ns) → AreThere (length (node_rows c)) ns
 lent-nodes c [] are = All-nil (λ (n : NodeId). n.0 < length (node_rows c))
 lent-nodes c (n ∷ ns) are = All-cons (λ (n : NodeId). n.0 < length (node_rows c)) n ns
     (omega (arith, (All-head (IsMember c) n.0 (map (λ (n : NodeId). n.0) ns) are).there, count-rows c))

@@ -45,7 +45,7 @@ use Rattle.bay_core.specs.State.{IsBooked, IsFurnished}
 use Rattle.bay_core.specs.Watched.{IsRoomier, IsWatching}
 use Rattle.bay_core.specs.Whole.{IsWhole}
 use Rattle.bay_core.proofs.BookLaws.{number-there}
-use Rattle.bay_core.proofs.RoomLaws.{indexed-defined}
+use Rattle.bay_core.proofs.RoomLaws.{indexed-defined, indexed-roomier}
 
 -- ---- what is found as before
 
@@ -145,6 +145,32 @@ whole-defined c stored book s parts w v octets room latest dues events new same 
         windows = f.windows;
         watch = subst (IsWatching (node_rows c) (with_set s book) (length stored) parts) (sym same) (record {
           index = indexed-defined (node_rows c) book s (length stored) parts w.index v.index f.watch.index more (λ b part at. subst (IsSet book) (sym (f.sets b part at)) (number-there part.block.options.dat_set book)) roomy;
+          options = f.watch.options;
+          notes = f.watch.notes;
+        });
+        entry = f.entry;
+        changes = f.changes;
+      };
+      quiet = whole.quiet;
+      roomy = whole.roomy;
+    }
+
+-- more room alone leaves a bay whole
+pub whole-roomier : (c : Config) (stored : List Stored) (book : Book) (parts : List ReportBlock) (w v : Watch) (octets : Filled ℕ) (room latest : ℕ) (dues : List (Option ℕ)) (events : EventRoom)
+    → v ≡ record w { index = v.index } → IsRoomier w.index v.index → IsWhole c stored book parts w octets room latest dues events → IsWhole c stored book parts v octets room latest dues events
+whole-roomier c stored book parts w v octets room latest dues events same more whole =
+    let f = whole.furnished in
+    record {
+      furnished = record {
+        servable = f.servable;
+        values = f.values;
+        count = f.count;
+        booked = f.booked;
+        sets = f.sets;
+        dat_sets = f.dat_sets;
+        windows = f.windows;
+        watch = subst (IsWatching (node_rows c) book (length stored) parts) (sym same) (record {
+          index = indexed-roomier (node_rows c) book (length stored) parts w.index v.index more f.watch.index;
           options = f.watch.options;
           notes = f.watch.notes;
         });

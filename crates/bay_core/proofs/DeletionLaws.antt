@@ -27,6 +27,7 @@ use Rattle.data_sets.proofs.DeleteLaws.{kept_front, some_there}
 use Rattle.report_block.specs.declared.block.ReportBlock.{ReportBlock}
 use Rattle.report_block.specs.Standing.{Stands as BlockStands, BlocksStand}
 use Rattle.report_block.specs.Writes.{renumbered}
+use Rattle.bay_core.specs.Asked.{IsKept}
 use Rattle.bay_core.specs.Deleted.{after_deletion, after_deletions, deleted_in, deletion_at, is_reported, matched_in, unless_used}
 use Rattle.bay_core.specs.Marked.{one_if}
 use Rattle.bay_core.specs.State.{State, IsBooked}
@@ -266,3 +267,15 @@ are-gone c past (n ∷ ns) s all dyn before = by (deletion_at s n) refl (one-goe
           others = state ∙ (rest.others ∙ ap (λ (t : State). record s { book = t.book; parts = t.parts }) (sym state));
           blocks = λ p st. subst (λ (t : State). BlocksStand m p t.parts) (sym state) (rest.blocks p st);
         }
+
+-- what waits for associations and the count of steps are as before
+kept-one : (r : Result ℕ DeleteFault) (s : State) → IsKept s (after_deletion r s)
+kept-one (Ok k) s = record { config = refl; steps = refl; rows = refl }
+kept-one (Err f) s = record { config = refl; steps = refl; rows = refl }
+
+pub kept-deleted : (ns : List SetName) (s : State) → IsKept s (after_deletions ns s)
+kept-deleted [] s = record { config = refl; steps = refl; rows = refl }
+kept-deleted (n ∷ ns) s =
+    let first = kept-one (deletion_at s n) s in
+    let later = kept-deleted ns (after_deletion (deletion_at s n) s) in
+    record { config = later.config ∙ first.config; steps = later.steps ∙ first.steps; rows = later.rows ∙ first.rows }

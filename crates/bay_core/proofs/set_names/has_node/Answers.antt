@@ -1,5 +1,4 @@
 use Rattle.std.proofs.Common.{◌∙◌}
-use Rattle.bay_core.proofs.ChangedLaws.{deletions-done}
 use Rattle.bay_core.proofs.NameLaws.{has-told}
 use Rattle.bay_core.proofs.set_names.has_node.Goals as goal
 
