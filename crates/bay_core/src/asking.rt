@@ -4,8 +4,8 @@
 ghost use Rattle.std.specs.Prelude.{◌≡◌, []};
 
 use crate::bay::Bay;
-use crate::fault::StepFault;
 use crate::defining::set_name;
+use crate::fault::StepFault;
 use bay_model::{Acts, Answer, ApplErrors, Codes, Output, Reply, Request, Service, Writes};
 use bay_replies::Replies;
 use std::alloc::{AllocError, Global};

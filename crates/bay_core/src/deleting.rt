@@ -8,7 +8,7 @@ ghost use Rattle.bay_core.specs.Marked.{one_if};
 
 use crate::bay::Bay;
 use bay_model::{Reply, SetName, SetNames};
-use data_sets::{is_reference, DeleteFault};
+use data_sets::{DeleteFault, is_reference};
 use report_block::ReportBlock;
 use std::alloc::AllocError;
 use sv_base::{AssocNo, Moment};

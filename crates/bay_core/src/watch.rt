@@ -144,11 +144,7 @@ impl Watch {
     }
 
     /// Makes room for a data set of these members in the index of every block.
-    pub(crate) fn reserve(
-        &mut self,
-        nodes: &[NodeId],
-        rows: &[NodeRow],
-    ) -> Result<(), AllocError>
+    pub(crate) fn reserve(&mut self, nodes: &[NodeId], rows: &[NodeRow]) -> Result<(), AllocError>
         requires there { AreThere (length rows.now) nodes.now }
         requires count { length self.old.options.items ≡ length self.old.index.blocks }
         ensures grown { IsRoomier self.old.index self.new.index }

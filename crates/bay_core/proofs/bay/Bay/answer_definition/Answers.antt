@@ -48,7 +48,7 @@ returns-in-Some-clause-answered c =
     = sym (ap (λ (t : State). define_fault t.book name named (node_rows t.config) ts) c.self.view_is) ∙ (sym same ∙ (sym c.define_fault.ensures ∙ c.in-Some.is)) in
     subst (λ (r : Reply). IsReplied old c.arrive.new.self c.args.moment c.args.a.0 (services.Define c.args.domain.now c.args.item.now ts) r) (sym c.refusal.ensures)
     (definition-refused old c.args.moment c.args.a.0 c.args.domain.now c.args.item.now ts c.requires.number (subst (λ (t : State). HasAll t.config t.stored t.book t.parts) c.self.view_is all) named is
-        c.arrive.new.self c.in-Some.fault fails c.arrive.ensures.state)
+    c.arrive.new.self c.in-Some.fault fails c.arrive.ensures.state)
 
 pub define-requires : goal.define-requires
 define-requires c =
@@ -89,5 +89,5 @@ returns-clause-answered c =
     definition-done old c.args.moment c.args.a.0 c.args.domain.now c.args.item.now ts c.requires.number (subst (λ (t : State). HasAll t.config t.stored t.book t.parts) c.self.view_is all) named is
     c.arrive-2.new.self fine
     (subst (λ (t : State). (b : ℕ) (part : ReportBlock) → slice_get t.parts b ≡ Some part → IsSet t.book part.set) c.self.view_is
-        (λ b part at. subst (IsSet s.sets) (sym (f.sets b part at)) (number-there part.block.options.dat_set s.sets)))
+    (λ b part at. subst (IsSet s.sets) (sym (f.sets b part at)) (number-there part.block.options.dat_set s.sets)))
     behind

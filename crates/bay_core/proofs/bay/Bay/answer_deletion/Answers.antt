@@ -34,10 +34,10 @@ returns-clause-answered c =
     subst (λ (r : Reply). IsReplied old c.delete_all-matched.new.self c.args.moment c.args.a.0 (services.Delete c.args.scope names) r) (ap₂ (λ (i j : ℕ). replies.Deleted i j) (sym matched) (sym gone))
     (subst (λ (t : State). IsReplied old t c.args.moment c.args.a.0 (services.Delete c.args.scope names) (replies.Deleted (matched_in names z) (deleted_in names z))) (sym new)
     (deletions-done old z c.args.moment c.args.a.0 c.args.scope names
-        (subst (λ (t : State). IsServable t.config) c.self.view_is f.servable)
-        (subst (λ (t : State). length t.parts ≡ length t.config.blocks) c.self.view_is f.count)
-        (subst (λ (t : State). IsBooked t.config t.book) c.self.view_is f.booked)
-        c.requires.number all c.arrive-2.ensures.state c.arrive-2.ensures.stands))
+    (subst (λ (t : State). IsServable t.config) c.self.view_is f.servable)
+    (subst (λ (t : State). length t.parts ≡ length t.config.blocks) c.self.view_is f.count)
+    (subst (λ (t : State). IsBooked t.config t.book) c.self.view_is f.booked)
+    c.requires.number all c.arrive-2.ensures.state c.arrive-2.ensures.stands))
 
 pub returns-clause-kept : goal.returns-clause-kept
 returns-clause-kept c =

@@ -24,4 +24,4 @@ invariant_of-self c =
     let goes = going-is z c.args.name.now k is in
     subst (λ (b : Book). IsWhole s.model s.values b c.renumber_all.new.parts.items s.watch s.octets (vec_capacity s.changes) s.latest s.dues s.events) (sym c.delete.ensures)
     (whole-deleted s.model s.values s.sets s.parts.items c.renumber_all.new.parts.items s.watch s.octets (vec_capacity s.changes) s.latest s.dues s.events c.args.name.now k
-        goes.number goes.from goes.unused c.renumber_all.ensures c.self.invariant)
+    goes.number goes.from goes.unused c.renumber_all.ensures c.self.invariant)
