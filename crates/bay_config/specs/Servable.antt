@@ -1,6 +1,6 @@
 -- Which configurations a bay serves: as a configuration's text has them, without controls and setting groups
 -- (IEC 61850-7-2, DATA-SET and BRCB attributes).
-use Rattle.std.specs.Prelude.{◌≡◌, ◌<◌, ◌≤◌, ℕ, true, [], map, length, slice_index_or}
+use Rattle.std.specs.Prelude.{◌≡◌, ◌<◌, ◌≤◌, ◌⊎◌, ℕ, true, List, [], map, length, is_some, slice_index_or}
 use Rattle.std.specs.List.{All}
 use Rattle.sv_base.specs.Fields.{shape_of}
 use Rattle.sv_base.specs.Same.{values_of}
@@ -13,6 +13,7 @@ use Rattle.bay_model.specs.Model.{DataSet}
 use Rattle.bay_model.specs.Attributes.{attributes}
 use Rattle.bay_model.specs.Lookups.{node_of}
 use Rattle.bay_model.specs.Reports.{reference_at}
+use Rattle.bay_model.specs.Sets.{set_referred}
 use Rattle.bay_model.specs.Named.{configured_model, nodes}
 use Rattle.object_model.specs.Fits.{attr_types, is_sound}
 use Rattle.object_model.specs.Tables.{node_type}
@@ -33,6 +34,11 @@ pub record IsMember (c : Config) (n : ℕ) : Type 0 where
   pub within : All (λ x. x < length (attributes c)) (node_of (configured_model c) n).attrs
   pub kinds : leaf_shapes (shape_of (node_type c n)) ≡ map (λ x. shape_of (attr_type c x)) (node_of (configured_model c) n).attrs
 
+-- a node that may be a member can be one, and has a short reference `LD/item` (IEC 61850-7-2, ObjectReference)
+pub record IsShortMember (c : Config) (n : ℕ) : Type 0 where
+  pub member : IsMember c n
+  pub short : length (reference_at (configured_model c) n) ≤ 129
+
 pub record IsServedSet (c : Config) (s : DataSet) : Type 0 where
   pub few : length s.nodes ≤ 256
   pub members : All (IsMember c) s.nodes
@@ -43,6 +49,10 @@ pub record IsServedSet (c : Config) (s : DataSet) : Type 0 where
 pub record IsServedBlock (b : BlockDef) : Type 0 where
   pub opt_flds : length b.opt_flds ≡ 10
   pub trg_ops : length b.trg_ops ≡ 6
+
+-- a DatSet that is empty or the reference of a configured data set
+abbrev pub IsReferred : Config → List ℕ → Type 0
+IsReferred c d = (d ≡ []) ⊎ (is_some (set_referred d (configured_model c).sets) ≡ true)
 
 -- the values of an attribute's line have parts of a second below one, and visible texts
 abbrev pub HasSoundValues : AttrDef → Type 0
@@ -57,3 +67,6 @@ pub record IsServable (c : Config) : Type 0 where
   pub blocks : All IsServedBlock c.blocks
   pub few : length c.blocks ≤ 32
   pub sets : All (IsServedSet c) (configured_model c).sets
+  pub named : All (λ (b : BlockDef). IsReferred c b.dat_set) c.blocks
+  -- what clients may define data sets of
+  pub allowed : (n : ℕ) → (node_of (configured_model c) n).allowed ≡ true → IsShortMember c n

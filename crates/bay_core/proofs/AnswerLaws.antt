@@ -1,14 +1,13 @@
 -- The reply to a request, and the bay at the arrival of its point.
-use Rattle.std.proofs.Common.{◌≡◌, ◌<◌, ◌∙◌, ℕ, suc, Bool, true, false, List, [], ◌∷◌, ◌++◌, append-nil, map, length, Option, None, Some, Result, refl, ap, sym, subst, arith, cond, if◌then◌else◌}
-use Rattle.std.specs.Prelude.{◌==◌, ◌&&◌, nat_lt}
+use Rattle.std.proofs.Common.{◌≡◌, ◌<◌, ◌∙◌, ℕ, true, false, List, [], ◌∷◌, map, length, Option, None, Some, Result, refl, ap, sym, subst, arith}
+use Rattle.std.specs.Prelude.{◌==◌, nat_lt}
 use Rattle.std.specs.Option.{option_map, option_map_or}
 use Rattle.std.specs.List.{All, list_all}
-use Rattle.std.specs.Str.{bytes_eq}
 use Rattle.std.proofs.lemmas.Bool.{and_parts}
 use Rattle.std.proofs.lemmas.Bool.Decides.{nat_tests}
 use Rattle.std.proofs.lemmas.List.{length-map}
 use Rattle.list_laws.proofs.Options.{some_is}
-use Rattle.std.proofs.lemmas.List.Elements.{All-nil, All-cons, All-map}
+use Rattle.std.proofs.lemmas.List.Elements.{All-nil, All-cons, All-head, All-tail}
 use Rattle.sv_base.proofs.RowLaws.{seen-value}
 use Rattle.sv_base.specs.Same.{value_of, values_of}
 use Rattle.sv_base.specs.Tree.{Row, none, more}
@@ -35,17 +34,17 @@ use Rattle.bay_model.specs.Singles.{Single, arrival, outcomes, after_singles, wr
 use Rattle.object_model.specs.Fits.{is_association, is_sound_seen, are_sound, fits, is_sound, service_fits, set_fits, target_fits, write_fits, name_fits}
 use Rattle.object_model.specs.declared.fitting.Counts.{Counts}
 use Rattle.object_model.specs.Nodes.{node_rows}
-use Rattle.object_model.specs.Tables.{node_id, set_row, set_rows}
 use Rattle.object_model.proofs.TableLaws.{count-rows}
-use Rattle.data_sets.specs.Books.{Booked, Book, booked, number_named, opened, set_at}
-use Rattle.bay_config.specs.Servable.{IsServable, IsServedSet}
+use Rattle.data_sets.specs.Books.{Booked, Book, is_name, number_named, set_at}
+use Rattle.data_sets.specs.Standing.{data_set}
+use Rattle.data_sets.proofs.HistoryLaws as history
+use Rattle.bay_config.specs.Servable.{IsServedSet}
 use Rattle.bay_replies.specs.Asking.{IsFitting, IsReading}
-use Rattle.bay_core.specs.Asked.{AreFit, AreMembersFit, AreWrites, AreWritten, IsAnswerable, IsAnswered, IsFit, IsReplyAt, node_numbers, set_members}
+use Rattle.bay_core.specs.Asked.{AreFit, AreMembersFit, AreWrites, AreWritten, IsAnswered, IsFit, IsReplyAt, node_numbers, set_members}
 use Rattle.bay_core.specs.Standing.{StandsAt}
-use Rattle.bay_core.specs.State.{State}
+use Rattle.bay_core.specs.State.{State, AreServedSets}
 use Rattle.bay_core.proofs.AskLaws.{reads-of, singles-stand}
-use Rattle.bay_core.proofs.LentLaws.{back}
-use Rattle.bay_core.proofs.ShapeLaws.{found}
+use Rattle.bay_core.proofs.ShapeLaws.{all-served, found, sets_in}
 
 -- ---- a request that fits
 
@@ -84,45 +83,35 @@ sound-values (more s r) is =
 
 -- ---- the data set of a name
 
--- in the book, as in the model
-suc-members : (r : Booked) (rest : List Booked) (n : ℕ) (o : Option ℕ)
-    → option_map (λ k. (set_at (record { configured = suc n; sets = r ∷ rest }) k).nodes) (option_map suc o) ≡ option_map (λ k. (set_at (record { configured = n; sets = rest }) k).nodes) o
-suc-members r rest n None = refl
-suc-members r rest n (Some k) = refl
+-- the model's set behind the members that were found in the book
+set-told : (book : Book) (name : SetName) → option_map (λ k. data_set (set_at book k)) (number_named name book) ≡ set_named name (sets_in book)
+set-told book name = history.found (λ (s : Booked). is_name name s.name) (is_named name) (λ s. refl) book.sets
 
-members-booked : (name : SetName) (ss : List DataSet) → option_map (λ k. (set_at (opened (map set_row ss)) k).nodes) (number_named name (opened (map set_row ss))) ≡ option_map (λ (s : DataSet). map node_id s.nodes) (set_named name ss)
-members-booked name [] = refl
-members-booked name (s ∷ ss) = by (bytes_eq name.domain s.domain && bytes_eq name.item s.item) (members-booked name ss) where
-  by : (t : Bool) → option_map (λ k. (set_at (opened (map set_row ss)) k).nodes) (number_named name (opened (map set_row ss))) ≡ option_map (λ (s : DataSet). map node_id s.nodes) (set_named name ss)
-      → option_map (λ k. (set_at (opened (set_row s ∷ map set_row ss)) k).nodes) (if t then Some 0 else option_map suc (number_named name (opened (map set_row ss))))
-      ≡ option_map (λ (s : DataSet). map node_id s.nodes) (cond t (Some s) (set_named name ss))
-  by true same = refl
-  by false same = suc-members (booked (set_row s)) (map booked (map set_row ss)) (length (map set_row ss)) (number_named name (opened (map set_row ss))) ∙ same
+none-named : (book : Book) (o : Option ℕ) (f : Option DataSet) → option_map (λ k. data_set (set_at book k)) o ≡ f → option_map (λ k. (set_at book k).nodes) o ≡ None → f ≡ None
+none-named book None f same is = sym same
+none-named book (Some k) f same is = cc
 
-pub found-members : (c : Config) (book : Book) (name : SetName) → book ≡ opened (set_rows c) → option_map (λ k. (set_at book k).nodes) (number_named name book) ≡ set_members c name.domain name.item
-found-members c book name is = subst (λ b. option_map (λ k. (set_at b k).nodes) (number_named name b) ≡ set_members c name.domain name.item) (sym is) (members-booked name (configured_model c).sets)
+some-named : (book : Book) (o : Option ℕ) (f : Option DataSet) (ns : List NodeId) → option_map (λ k. data_set (set_at book k)) o ≡ f → option_map (λ k. (set_at book k).nodes) o ≡ Some ns
+    → (s : DataSet) × (f ≡ Some s) × (s.nodes ≡ node_numbers ns)
+some-named book None f ns same is = cc
+some-named book (Some k) f ns same is = (data_set (set_at book k), sym same, ap (map (λ (n : NodeId). n.0)) (some_is (set_at book k).nodes ns is))
 
--- the set behind the members that were found
-none-named : (o : Option DataSet) → option_map (λ (s : DataSet). map node_id s.nodes) o ≡ None → o ≡ None
-none-named None is = refl
-none-named (Some s) is = cc
-
-some-named : (o : Option DataSet) (ns : List NodeId) → option_map (λ (s : DataSet). map node_id s.nodes) o ≡ Some ns → (s : DataSet) × (o ≡ Some s) × (map node_id s.nodes ≡ ns)
-some-named None ns is = cc
-some-named (Some s) ns is = (s, refl, some_is (map node_id s.nodes) ns is)
-
-count-named : (s : DataSet) (ns : List NodeId) → map node_id s.nodes ≡ ns → length s.nodes ≡ length ns
-count-named s ns same = sym (length-map s.nodes node_id) ∙ ap (λ (l : List NodeId). length l) same
+count-named : (s : DataSet) (ns : List NodeId) → s.nodes ≡ node_numbers ns → length s.nodes ≡ length ns
+count-named s ns same = ap (λ (l : List ℕ). length l) same ∙ length-map ns (λ (n : NodeId). n.0)
 
 -- ---- the replies
 
 module _ (old : State) (domain item : List ℕ) where
-  -- the set that is found, while no set is defined
-  found-told : (c : Config) (n : ℕ) (past : Past) (o : Option DataSet) → set_named (set_name domain item) (configured_model old.config).sets ≡ o → StandsAt old c n past → set_found (configured_model c) past (set_name domain item) ≡ o
-  found-told c n past o is st =
-      ap (λ (ds : List DataSet). set_named (set_name domain item) ((configured_model c).sets ++ ds)) st.sets
-      ∙ (ap (set_named (set_name domain item)) (append-nil (configured_model c).sets)
-      ∙ (ap (λ (d : Config). set_named (set_name domain item) (configured_model d).sets) (sym st.is_config) ∙ is))
+  -- the set that is found
+  found-told : (c : Config) (n : ℕ) (past : Past) (o : Option DataSet) → set_named (set_name domain item) (sets_in old.book) ≡ o → StandsAt old c n past → set_found (configured_model c) past (set_name domain item) ≡ o
+  found-told c n past o is st = ap (set_named (set_name domain item)) (sym st.sets) ∙ is
+
+  -- none, and one of these members
+  pub none-told : set_members old.book domain item ≡ None → set_named (set_name domain item) (sets_in old.book) ≡ None
+  none-told is = none-named old.book (number_named (set_name domain item) old.book) (set_named (set_name domain item) (sets_in old.book)) (set-told old.book (set_name domain item)) is
+
+  pub some-told : (ns : List NodeId) → set_members old.book domain item ≡ Some ns → (s : DataSet) × (set_named (set_name domain item) (sets_in old.book) ≡ Some s) × (s.nodes ≡ node_numbers ns)
+  some-told ns is = some-named old.book (number_named (set_name domain item) old.book) (set_named (set_name domain item) (sets_in old.book)) ns (set-told old.book (set_name domain item)) is
 
 module _ (old new : State) (moment a : ℕ) (arrived : (c : Config) (n : ℕ) (past : Past) → StandsAt old c n past → StandsAt new c n (arrival n moment ∷ past)) where
   pub read-answered : (service : Service) (r : Reply) → IsReading service → IsReplyAt old moment a service r → IsAnswered old new moment a service r
@@ -136,7 +125,7 @@ module _ (old new : State) (moment a : ℕ) (arrived : (c : Config) (n : ℕ) (p
     service = services.WriteSet domain item vs
 
     -- nothing is written
-    unwritten : (r : Reply) (o : Option DataSet) → set_named (set_name domain item) (configured_model old.config).sets ≡ o → option_map_or (λ (s : DataSet). written_set s vs) o [] ≡ [] → r ≡ write_set_reply vs [] o
+    unwritten : (r : Reply) (o : Option DataSet) → set_named (set_name domain item) (sets_in old.book) ≡ o → option_map_or (λ (s : DataSet). written_set s vs) o [] ≡ [] → r ≡ write_set_reply vs [] o
         → IsAnswered old new moment a service r
     unwritten r o is empty same = (
       (λ c n past st.
@@ -149,22 +138,22 @@ module _ (old new : State) (moment a : ℕ) (arrived : (c : Config) (n : ℕ) (p
           (subst (λ ss. StandsAt new c n (arrival n moment ∷ after_singles m a n moment ss past)) (sym empty) (arrived c n past st))),
     )
 
-    pub no-set : set_members old.config domain item ≡ None → IsAnswered old new moment a service (replies.Error 7 2)
-    no-set none_ = unwritten (replies.Error 7 2) None (none-named (set_named (set_name domain item) (configured_model old.config).sets) none_) refl refl
+    pub no-set : set_members old.book domain item ≡ None → IsAnswered old new moment a service (replies.Error 7 2)
+    no-set none_ = unwritten (replies.Error 7 2) None (none-told old domain item none_) refl refl
 
-    pub other-count : (ns : List NodeId) → set_members old.config domain item ≡ Some ns → (length ns == length (values_of vs)) ≡ false → IsAnswered old new moment a service (replies.Reject 3)
+    pub other-count : (ns : List NodeId) → set_members old.book domain item ≡ Some ns → (length ns == length (values_of vs)) ≡ false → IsAnswered old new moment a service (replies.Reject 3)
     other-count ns some differs =
-        let s = some-named (set_named (set_name domain item) (configured_model old.config).sets) ns some in
+        let s = some-told old domain item ns some in
         let test : (length s.0.nodes == length (values_of vs)) ≡ false = ap (λ k. k == length (values_of vs)) (count-named s.0 ns s.2) ∙ differs in
         unwritten (replies.Reject 3) (Some s.0) s.1 (rw test refl) (rw test refl)
 
 module _ (old new : State) (moment a : ℕ) (domain item : List ℕ) (vs : Row) where
-  pub members-answered : (ns : List NodeId) (codes : List (Result (Unit {0}) ℕ)) → set_members old.config domain item ≡ Some ns → (length ns == length (values_of vs)) ≡ true
+  pub members-answered : (ns : List NodeId) (codes : List (Result (Unit {0}) ℕ)) → set_members old.book domain item ≡ Some ns → (length ns == length (values_of vs)) ≡ true
       → AreWritten old new moment a (writes_of (node_numbers ns) (values_of vs)) codes → IsAnswered old new moment a (services.WriteSet domain item vs) (replies.Wrote codes)
   members-answered ns codes some count written =
-      let s = some-named (set_named (set_name domain item) (configured_model old.config).sets) ns some in
+      let s = some-told old domain item ns some in
       let test : (length s.0.nodes == length (values_of vs)) ≡ true = ap (λ k. k == length (values_of vs)) (count-named s.0 ns s.2) ∙ count in
-      let numbers : node_numbers ns ≡ s.0.nodes = ap node_numbers (sym s.2) ∙ back s.0.nodes in
+      let numbers : node_numbers ns ≡ s.0.nodes = sym s.2 in
       let singles : written_set s.0 vs ≡ writes_of (node_numbers ns) (values_of vs) = rw test (ap (λ l. writes_of l (values_of vs)) (sym numbers)) in (
         (λ c n past st.
             let m = configured_model c in
@@ -178,26 +167,32 @@ module _ (old new : State) (moment a : ℕ) (domain item : List ℕ) (vs : Row) 
 
 -- ---- the members of a set can be written
 
-members-there : (c : Config) (s : DataSet) → IsServedSet c s → All (λ (n : NodeId). n.0 < length (nodes c)) (map node_id s.nodes)
-members-there c s served = All-map (λ (n : NodeId). n.0 < length (nodes c)) node_id s.nodes (λ k d below. (served.members k d below).there)
+numbered : (c : Config) (ns : List NodeId) → All (λ n. n < length (nodes c)) (node_numbers ns) → All (λ (n : NodeId). n.0 < length (nodes c)) ns
+numbered c [] all = All-nil (λ (n : NodeId). n.0 < length (nodes c))
+numbered c (n ∷ ns) all = All-cons (λ (n : NodeId). n.0 < length (nodes c)) n ns (All-head (λ n. n < length (nodes c)) n.0 (node_numbers ns) all) (numbered c ns (All-tail (λ n. n < length (nodes c)) n.0 (node_numbers ns) all))
 
-pub members-fit : (c : Config) (domain item : List ℕ) (vs : Row) (ns : List NodeId) → IsServable c → IsFitting c (services.WriteSet domain item vs) → set_members c domain item ≡ Some ns → (length ns == length (values_of vs)) ≡ true
-    → AreMembersFit c ns (values_of vs)
-members-fit c domain item vs ns served fit some count =
-    let s = some-named (set_named (set_name domain item) (configured_model c).sets) ns some in
+members-there : (c : Config) (s : DataSet) → IsServedSet c s → All (λ n. n < length (nodes c)) s.nodes
+members-there c s served = λ k d below. (served.members k d below).there
+
+pub members-fit : (s : State) (domain item : List ℕ) (vs : Row) (ns : List NodeId) → AreServedSets s.config s.book → IsFitting s.config (services.WriteSet domain item vs) → set_members s.book domain item ≡ Some ns → (length ns == length (values_of vs)) ≡ true
+    → AreMembersFit s.config ns (values_of vs)
+members-fit s domain item vs ns served fit some count =
+    let c = s.config in
+    let t = some-told s domain item ns some in
     record {
       count = grind (arith, nat_tests, count);
-      nodes = subst (All (λ (n : NodeId). n.0 < length (nodes c))) s.2 (members-there c s.0 (found (IsServedSet c) (is_named (set_name domain item)) (configured_model c).sets served.sets s.0 s.1));
+      nodes = numbered c ns (subst (All (λ n. n < length (nodes c))) t.2 (members-there c t.0 (found (IsServedSet c) (is_named (set_name domain item)) (sets_in s.book) (all-served c s.book served) t.0 t.1)));
       sound = sound-values vs (and_parts (set_fits domain item) (are_sound vs) fit).1;
     }
 
--- a service that isn't a write
-pub reading-of : (s : Service) → IsAnswerable s → ((ws : List Write) → s ≡ services.WriteVars ws → ⊥) → ((domain item : List ℕ) (vs : Row) → s ≡ services.WriteSet domain item vs → ⊥) → IsReading s
-reading-of (services.WriteVars ws) is one other = absurd (one ws refl)
-reading-of (services.WriteSet domain item vs) is one other = absurd (other domain item vs refl)
-reading-of (services.Define domain item members) is one other = absurd is
-reading-of (services.Delete scope names) is one other = absurd is
-reading-of _ is one other = tt
+-- a service that writes nothing, and defines and deletes no data set
+pub reading-of : (s : Service) → ((ws : List Write) → s ≡ services.WriteVars ws → ⊥) → ((domain item : List ℕ) (vs : Row) → s ≡ services.WriteSet domain item vs → ⊥)
+    → ((domain item : List ℕ) (members : List Target) → s ≡ services.Define domain item members → ⊥) → ((scope : ℕ) (names : List SetName) → s ≡ services.Delete scope names → ⊥) → IsReading s
+reading-of (services.WriteVars ws) one two three four = absurd (one ws refl)
+reading-of (services.WriteSet domain item vs) one two three four = absurd (two domain item vs refl)
+reading-of (services.Define domain item members) one two three four = absurd (three domain item members refl)
+reading-of (services.Delete scope names) one two three four = absurd (four scope names refl)
+reading-of _ one two three four = tt
 
 -- ---- writes of a request, from its arrival
 

@@ -22,11 +22,10 @@ use Rattle.bay_model.specs.declared.tables.NodeRow.{NodeRow}
 use Rattle.bay_model.specs.Model.{Parameters}
 use Rattle.bay_model.specs.Named.{configured_model}
 use Rattle.bay_model.specs.Points.{Past, now, wrote}
-use Rattle.bay_model.specs.Sets.{dynamic}
+use Rattle.bay_model.specs.Sets.{sets}
 use Rattle.bay_model.specs.Singles.{arrival}
 use Rattle.object_model.specs.Nodes.{node_rows}
-use Rattle.object_model.specs.Tables.{set_rows}
-use Rattle.data_sets.specs.Books.{Book, opened}
+use Rattle.data_sets.specs.Books.{Book}
 use Rattle.value_store.specs.Stored.{Stored}
 use Rattle.value_store.specs.Wholes.{Stands as ValuesStand}
 use Rattle.value_store.proofs.StandLaws as values
@@ -40,42 +39,43 @@ use Rattle.report_block.specs.Standing.{Stands as BlockStands, BlocksStand}
 use Rattle.report_block.proofs.StandLaws.{arrival-stands}
 use Rattle.bay_config.specs.Servable.{IsServable}
 use Rattle.bay_core.specs.Standing.{StandsAt}
-use Rattle.bay_core.specs.State.{State, AreHeld, IsFurnished}
+use Rattle.bay_core.specs.State.{State, AreHeld, AreServedSets, IsFurnished}
 use Rattle.bay_core.specs.declared.watch.Watch.{Watch}
 use Rattle.bay_core.specs.Timed.{arrived_part, arrived_all, at_arrival}
 use Rattle.bay_core.specs.Watched.{members_in}
 use Rattle.bay_core.proofs.AllLaws.{all-are}
 use Rattle.bay_core.proofs.FurnishLaws.{furnished-map}
-use Rattle.bay_core.proofs.ShapeLaws.{served_members}
+use Rattle.bay_core.proofs.ShapeLaws.{served_members, sets_in}
 
 -- each part has the members of the data set that its DatSet names
 abbrev pub HaveMembers : List NodeRow → Book → Config → List ReportBlock → Type 0
-HaveMembers rows book c parts = (b : ℕ) (part : ReportBlock) → slice_get parts b ≡ Some part → members_in rows book part ≡ served_members c part.block.options.dat_set
+HaveMembers rows book c parts = (b : ℕ) (part : ReportBlock) → slice_get parts b ≡ Some part → members_in rows book part ≡ served_members c book part.block.options.dat_set
 
--- what a bay has beside what it stands for: its configuration can be served, each attribute has a value of its type, and the members
--- of each part are those of its DatSet
-pub record HasAll (c : Config) (stored : List Stored) (parts : List ReportBlock) : Type 0 where
+-- what a bay has beside what it stands for: its configuration and its data sets can be served, each attribute has a value of its type,
+-- and the members of each part are those of its DatSet
+pub record HasAll (c : Config) (stored : List Stored) (book : Book) (parts : List ReportBlock) : Type 0 where
   pub servable : IsServable c
+  pub sets : AreServedSets c book
   pub values : AreHeld c stored
-  pub members : HaveMembers (node_rows c) (opened (set_rows c)) c parts
+  pub members : HaveMembers (node_rows c) book c parts
 
-pub part-arrives : (c : Config) (b n t : ℕ) (past : Past) (part : ReportBlock) (stored : List Stored) (shapes : List MemberShape) → IsServable c → AreHeld c stored → ValuesStand stored (configured_model c) past
-    → shapes ≡ served_members c part.block.options.dat_set → dynamic past ≡ [] → BlockStands part (configured_model c) b past
+pub part-arrives : (c : Config) (b n t : ℕ) (past : Past) (part : ReportBlock) (stored : List Stored) (book : Book) (shapes : List MemberShape) → IsServable c → AreServedSets c book → AreHeld c stored → ValuesStand stored (configured_model c) past
+    → shapes ≡ served_members c book part.block.options.dat_set → sets_in book ≡ sets (configured_model c) past → BlockStands part (configured_model c) b past
     → BlockStands (arrived (now past) (max t (now past)) n (all_pieces stored shapes for_integrity) part) (configured_model c) b (arrival n t ∷ past)
-part-arrives c b n t past part stored shapes served held values has none st =
+part-arrives c b n t past part stored book shapes served booked held values has same st =
     arrival-stands (configured_model c) b t n past part (all_pieces stored shapes for_integrity) st
-    (λ ended. all-are c b for_integrity refl past past stored shapes part.block.options.dat_set served held values has (ap (λ (o : Parameters). o.dat_set) st.block.options) none)
+    (λ ended. all-are c b for_integrity refl past past stored book shapes part.block.options.dat_set served booked held values has (ap (λ (o : Parameters). o.dat_set) st.block.options) same)
 
-pub parts-arrive : (c : Config) (n t : ℕ) (past : Past) (parts : List ReportBlock) (stored : List Stored) → HasAll c stored parts → ValuesStand stored (configured_model c) past → dynamic past ≡ []
+pub parts-arrive : (c : Config) (n t : ℕ) (past : Past) (parts : List ReportBlock) (stored : List Stored) (book : Book) → HasAll c stored book parts → ValuesStand stored (configured_model c) past → sets_in book ≡ sets (configured_model c) past
     → BlocksStand (configured_model c) past parts
-    → BlocksStand (configured_model c) (arrival n t ∷ past) (arrived_all (node_rows c) (opened (set_rows c)) stored (now past) (max t (now past)) n parts)
-parts-arrive c n t past parts stored all values none st = λ b part there.
-    let was = got-map (arrived_part (node_rows c) (opened (set_rows c)) stored (now past) (max t (now past)) n) parts b part there in
+    → BlocksStand (configured_model c) (arrival n t ∷ past) (arrived_all (node_rows c) book stored (now past) (max t (now past)) n parts)
+parts-arrive c n t past parts stored book all values same st = λ b part there.
+    let was = got-map (arrived_part (node_rows c) book stored (now past) (max t (now past)) n) parts b part there in
     subst (λ p. BlockStands p (configured_model c) b (arrival n t ∷ past)) was.2
-    (part-arrives c b n t past was.0 stored (members_in (node_rows c) (opened (set_rows c)) was.0) all.servable all.values values (all.members b was.0 was.1) none (st b was.0 was.1))
+    (part-arrives c b n t past was.0 stored book (members_in (node_rows c) book was.0) all.servable all.sets all.values values (all.members b was.0 was.1) same (st b was.0 was.1))
 
 -- time has passed, up to the moment of a step
-pub arrives : (s : State) (c : Config) (n t : ℕ) (past : Past) → HasAll s.config s.stored s.parts → StandsAt s c n past → StandsAt (at_arrival t s) c n (arrival n t ∷ past)
+pub arrives : (s : State) (c : Config) (n t : ℕ) (past : Past) → HasAll s.config s.stored s.book s.parts → StandsAt s c n past → StandsAt (at_arrival t s) c n (arrival n t ∷ past)
 arrives s c n t past all st = record {
   is_config = st.is_config;
   is_steps = st.is_steps;
@@ -84,27 +84,28 @@ arrives s c n t past all st = record {
   associations = associations.stands-arrival (configured_model c) t n past s.rows st.associations;
   edits = st.edits;
   sets = st.sets;
+  configured = st.configured;
   blocks = subst (BlocksStand (configured_model c) (arrival n t ∷ past)) (sym same)
-      (parts-arrive c n t past s.parts s.stored (subst (λ d. HasAll d s.stored s.parts) st.is_config all) st.values st.sets st.blocks);
+      (parts-arrive c n t past s.parts s.stored s.book (subst (λ d. HasAll d s.stored s.book s.parts) st.is_config all) st.values st.sets st.blocks);
 } where
   latest : max s.latest t ≡ now (arrival n t ∷ past)
   latest = omega (arith, st.is_latest)
 
-  same : (at_arrival t s).parts ≡ arrived_all (node_rows c) (opened (set_rows c)) s.stored (now past) (max t (now past)) n s.parts
-  same = ap (λ (d : Config). arrived_all (node_rows d) (opened (set_rows d)) s.stored s.latest (max s.latest t) s.steps s.parts) st.is_config
-      ∙ (ap₂ (λ (was moment : ℕ). arrived_all (node_rows c) (opened (set_rows c)) s.stored was moment s.steps s.parts) st.is_latest latest
-      ∙ ap (λ (k : ℕ). arrived_all (node_rows c) (opened (set_rows c)) s.stored (now past) (max t (now past)) k s.parts) st.is_steps)
+  same : (at_arrival t s).parts ≡ arrived_all (node_rows c) s.book s.stored (now past) (max t (now past)) n s.parts
+  same = ap (λ (d : Config). arrived_all (node_rows d) s.book s.stored s.latest (max s.latest t) s.steps s.parts) st.is_config
+      ∙ (ap₂ (λ (was moment : ℕ). arrived_all (node_rows c) s.book s.stored was moment s.steps s.parts) st.is_latest latest
+      ∙ ap (λ (k : ℕ). arrived_all (node_rows c) s.book s.stored (now past) (max t (now past)) k s.parts) st.is_steps)
 
 -- the blocks are as many as before
 pub arrived-count : (s : State) (t : ℕ) → length (at_arrival t s).parts ≡ length s.parts
-arrived-count s t = length-map s.parts (arrived_part (node_rows s.config) (opened (set_rows s.config)) s.stored s.latest (max s.latest t) s.steps)
+arrived-count s t = length-map s.parts (arrived_part (node_rows s.config) s.book s.stored s.latest (max s.latest t) s.steps)
 
 -- all members of a block, as a general interrogation takes them, are those of the model
-pub general-are : (s : State) (a : AssocNo) (b : ℕ) (comp : Comp) (v : Value) (part : ReportBlock) → HasAll s.config s.stored s.parts → slice_get s.parts b ≡ Some part → AreGeneral a b comp v part s
+pub general-are : (s : State) (a : AssocNo) (b : ℕ) (comp : Comp) (v : Value) (part : ReportBlock) → HasAll s.config s.stored s.book s.parts → slice_get s.parts b ≡ Some part → AreGeneral a b comp v part s
 general-are s a b comp v part has there = λ c n t past here.
-    let all = subst (λ d. HasAll d s.stored s.parts) here.is_config has in
-    subst (λ (d : Config). AreOf (all_pieces s.stored (members_in (node_rows d) (opened (set_rows d)) part) for_general) (all_members (configured_model c) b (record no_reason { gi = true }) past (at n t (wrote a.0 b comp v) ∷ past))) (sym here.is_config)
-    (all-are c b for_general refl past (at n t (wrote a.0 b comp v) ∷ past) s.stored (members_in (node_rows c) (opened (set_rows c)) part) part.block.options.dat_set all.servable all.values here.values (all.members b part there)
+    let all = subst (λ d. HasAll d s.stored s.book s.parts) here.is_config has in
+    subst (λ (d : Config). AreOf (all_pieces s.stored (members_in (node_rows d) s.book part) for_general) (all_members (configured_model c) b (record no_reason { gi = true }) past (at n t (wrote a.0 b comp v) ∷ past))) (sym here.is_config)
+    (all-are c b for_general refl past (at n t (wrote a.0 b comp v) ∷ past) s.stored s.book (members_in (node_rows c) s.book part) part.block.options.dat_set all.servable all.sets all.values here.values (all.members b part there)
     (ap (λ (o : Parameters). o.dat_set) (here.blocks b part there).block.options) here.sets)
 
 -- ---- the parts fit the configuration then
@@ -127,7 +128,7 @@ pub furnished-arrived : (c : Config) (stored lent : List Stored) (book : Book) (
 furnished-arrived c stored lent book parts w octets kept room rows was now step old entry =
     let same : (p : ReportBlock) → IsKept p (arrived_part rows book lent was now step p) = λ p. kept-by (is_due was now p) now step (all_pieces lent (members_in rows book p) for_integrity) p in
     let f = furnished-map c stored book parts w octets room old (arrived_part rows book lent was now step) (λ p. (same p).set) (λ p. (same p).room) (λ p. (same p).options) in
-    record { servable = f.servable; values = f.values; count = f.count; booked = f.booked; sets = f.sets; windows = f.windows; watch = f.watch; entry = entry; changes = f.changes }
+    record { servable = f.servable; values = f.values; count = f.count; booked = f.booked; sets = f.sets; dat_sets = f.dat_sets; windows = f.windows; watch = f.watch; entry = entry; changes = f.changes }
 
 -- ---- the texts of their reports
 

@@ -53,9 +53,14 @@ use Rattle.assoc_table.specs.Seats.{Row, replies}
 use Rattle.assoc_table.specs.Standing.{Stands as AssociationsStand, ends_of}
 use Rattle.assoc_table.specs.Tables.{IsNumber, row_of, extended}
 use Rattle.assoc_table.proofs.StandLaws as associations
+use Rattle.bay_config.specs.Servable.{IsServable}
 use Rattle.bay_replies.specs.Asking.{IsReading}
+use Rattle.bay_model.specs.Sets.{sets}
+use Rattle.data_sets.specs.Standing.{data_set}
+use Rattle.report_block.specs.Standing.{BlocksStand}
+use Rattle.value_store.specs.Wholes.{Stands as ValuesStand}
 use Rattle.window_core.specs.Points.{at}
-use Rattle.bay_core.specs.Asked.{IsAnswerable}
+use Rattle.bay_core.specs.Asked.{IsAnswered, IsReplied, replied}
 use Rattle.bay_core.specs.State.{State}
 use Rattle.bay_core.specs.Standing.{StandsAt, StandsFor}
 use Rattle.bay_core.proofs.EndLaws.{opener-told}
@@ -103,12 +108,17 @@ reads-of m past (services.Delete scope names) is = absurd is
 reads-of m past _ is = tt
 
 -- no data set is defined or deleted
-pub answerable : (service : Service) → IsReading service → IsAnswerable service
-answerable (services.Define domain item members) is = absurd is
-answerable (services.Delete scope names) is = absurd is
-answerable _ is = tt
+abbrev pub IsQuietService : Service → Type 0
+IsQuietService (services.Define domain item members) = ⊥
+IsQuietService (services.Delete scope names) = ⊥
+IsQuietService _ = Unit {0}
 
-pub unchanged-by : (m : Model) (past : Past) (service : Service) → IsAnswerable service → change_of m past service ≡ unchanged
+pub quiet-read : (service : Service) → IsReading service → IsQuietService service
+quiet-read (services.Define domain item members) is = absurd is
+quiet-read (services.Delete scope names) is = absurd is
+quiet-read _ is = tt
+
+pub unchanged-by : (m : Model) (past : Past) (service : Service) → IsQuietService service → change_of m past service ≡ unchanged
 unchanged-by m past (services.Define domain item members) is = absurd is
 unchanged-by m past (services.Delete scope names) is = absurd is
 unchanged-by m past _ is = refl
@@ -251,37 +261,55 @@ no-tests m n (p ∷ before) none = rw (no-tests m n before none, no-test m p.dee
   by false = refl
 
 -- the reply alone is put, and for the association that asked
-puts-reply : (m : Model) (a n : ℕ) (output : Output) (past : Past) → m.controls ≡ [] → put_by m a n (answered a output unchanged) past ≡ queue.reply output ∷ []
-puts-reply m a n output past none = rw (same-number a, no-tests m n past none) refl
+puts-reply : (m : Model) (a n : ℕ) (output : Output) (change : Change) (past : Past) → m.controls ≡ [] → put_by m a n (answered a output change) past ≡ queue.reply output ∷ []
+puts-reply m a n output change past none = rw (same-number a, no-tests m n past none) refl
 
-puts-no-other : (m : Model) (a e n : ℕ) (output : Output) (past : Past) → e ≢ a → put_by m e n (answered a output unchanged) past ≡ []
-puts-no-other m a e n output past other = rw (other-number a e other) refl
+puts-no-other : (m : Model) (a e n : ℕ) (output : Output) (change : Change) (past : Past) → e ≢ a → put_by m e n (answered a output change) past ≡ []
+puts-no-other m a e n output change past other = rw (other-number a e other) refl
 
--- the reply was put behind what waits for a
-abbrev pub replied : State → ℕ → Output → State
-replied z a output = record z { rows = extended z.rows a (waits.Reply output ∷ []) }
-
-pub answered-at : (z : State) (c : Config) (n t a : ℕ) (output : Output) (past : Past) → c.controls ≡ [] → IsNumber a → StandsAt z c n (arrival n t ∷ past)
-    → StandsAt (replied z a output) c n (at n t (answered a output unchanged) ∷ past)
-answered-at z c n t a output past none number here =
+-- behind a reply with what came of the data sets, where the book and the numbers of the blocks' sets are those then
+pub changed-at : (z w : State) (c : Config) (n t a : ℕ) (output : Output) (change : Change) (past : Past) → c.controls ≡ [] → IsNumber a → StandsAt z c n (arrival n t ∷ past)
+    → w ≡ record z { book = w.book; parts = w.parts } → BlocksStand (configured_model c) (arrival n t ∷ past) w.parts
+    → map data_set w.book.sets ≡ sets (configured_model c) (at n t (answered a output change) ∷ past) → w.book.configured ≡ z.book.configured
+    → StandsAt (replied w a output) c n (at n t (answered a output change) ∷ past)
+changed-at z w c n t a output change past none number here same blocks all configured =
     let m = configured_model c in
-    let d : Deed = answered a output unchanged in
+    let d : Deed = answered a output change in
     let controls : m.controls ≡ [] = ap (map control_defined) none in
     record {
-      is_config = here.is_config;
-      is_steps = here.is_steps;
-      is_latest = here.is_latest;
-      values = here.values;
-      associations = associations.stands-deed m t n d past z.rows (record { a = a; items = waits.Reply output ∷ [] }) here.associations (record {
-        number = tt;
-        puts = puts-reply m a n output past controls;
-        for_one = λ some. number;
-        for_no_other = λ e other. puts-no-other m a e n output past other;
-      });
+      is_config = ap (λ (s : State). s.config) same ∙ here.is_config;
+      is_steps = ap (λ (s : State). s.steps) same ∙ here.is_steps;
+      is_latest = ap (λ (s : State). s.latest) same ∙ here.is_latest;
+      values = subst (λ l. ValuesStand l m (at n t d ∷ past)) (sym (ap (λ (s : State). s.stored) same)) here.values;
+      associations = subst (λ rows. AssociationsStand (extended rows a (waits.Reply output ∷ [])) m (at n t d ∷ past)) (sym (ap (λ (s : State). s.rows) same))
+          (associations.stands-deed m t n d past z.rows (record { a = a; items = waits.Reply output ∷ [] }) here.associations (record {
+            number = tt;
+            puts = puts-reply m a n output change past controls;
+            for_one = λ some. number;
+            for_no_other = λ e other. puts-no-other m a e n output change past other;
+          }));
       edits = here.edits;
-      sets = here.sets;
-      blocks = parts-left m n t d past z.parts z.parts (record { note = λ b. refl; cuts = λ b. refl }) (λ b q there. (q, there, refl)) here.blocks;
+      sets = all;
+      configured = configured ∙ here.configured;
+      blocks = parts-left m n t d past w.parts w.parts (record { note = λ b. refl; cuts = λ b. refl }) (λ b q there. (q, there, refl)) blocks;
     }
+
+-- nothing came of them
+pub answered-at : (z : State) (c : Config) (n t a : ℕ) (output : Output) (past : Past) → c.controls ≡ [] → IsNumber a → StandsAt z c n (arrival n t ∷ past)
+    → StandsAt (replied z a output) c n (at n t (answered a output unchanged) ∷ past)
+answered-at z c n t a output past none number here = changed-at z z c n t a output unchanged past none number here refl here.blocks here.sets refl
+
+-- a request that leaves the data sets alone is answered, and its reply put
+pub answered-replied : (old new : State) (moment a : ℕ) (service : Service) (r : Reply) → IsServable old.config → IsNumber a → IsQuietService service → IsAnswered old new moment a service r → IsReplied old new moment a service r
+answered-replied old new moment a service r served number quiet is = (
+  is.0,
+  λ c n past output st.
+      let m = configured_model c in
+      let none = subst (λ (d : Config). d.controls ≡ []) st.is_config served.controls in
+      let after : Past = after_singles m a n moment (singles_of m past service) past in
+      subst (λ (k : Change). StandsAt (replied new a output) c n (at n moment (answered a output k) ∷ after)) (sym (unchanged-by m past service quiet))
+      (answered-at new c n moment a output after none number (is.1 c n past st)),
+)
 
 -- ---- a request is answered, and the bay stands for it
 
@@ -321,23 +349,22 @@ module _ (s : State) (c : Config) (h : History) (t : ℕ) (actor : ActorNo) (a :
       let e = opener-told (configured_model c) s.rows past a.0 opener st.1.associations number is in
       ask-fault (configured_model c) past actor.0 a.0 e.0 e.1 (equal-number actor.0 e.0.opener (yours ∙ sym e.2)) (count-told ∙ room)
 
-  -- the second state is that at the arrival of the reply's point
-  pub asked-for : (z u : State) (answer_ : Reply) → c.controls ≡ [] → c.groups ≡ [] → IsAnswerable r.service → nat_le 16 (replies (row_of s.rows a.0).waiting) ≡ false
-      → StandsAt z c (length h) (arrival (length h) t ∷ after_singles (configured_model c) a.0 (length h) t (singles_of (configured_model c) past r.service) past)
+  -- the second state is that before its reply is put
+  pub asked-for : (z u : State) (answer_ : Reply) → c.controls ≡ [] → c.groups ≡ [] → nat_le 16 (replies (row_of s.rows a.0).waiting) ≡ false
+      → ((output : Output) → StandsAt (replied z a.0 output) c (length h) (at (length h) t (answered a.0 output (change_of (configured_model c) past r.service)) ∷ after_singles (configured_model c) a.0 (length h) t (singles_of (configured_model c) past r.service) past))
       → answer_ ≡ reply (configured_model c) past (size_of a.0 past) r.service (outcomes_of (configured_model c) (length h) t a.0 r past)
       → u ≡ record (replied z a.0 (outputs.Reply [] r.invoke answer_)) { steps = suc z.steps }
       → (answers.Asked [] ≡ answer (configured_model c) h turn) × StandsFor u c (turn ∷ h)
-  asked-for z u answer_ none empty answerable room here is_reply behind =
+  asked-for z u answer_ none empty room here is_reply behind =
       let m = configured_model c in
       let n = length h in
       let fine = fine-for room in
       let ss = singles_of m past r.service in
-      let quiet = unchanged-by m past r.service answerable in
+      let change = change_of m past r.service in
       let output = outputs.Reply [] r.invoke answer_ in
       let same : output ≡ output_for m n t a.0 r past = ap₂ (λ (es : List ApplError) (x : Reply). outputs.Reply es r.invoke x) (sym (errors-none c none empty a.0 n t ss past)) is_reply in
-      let at_reply = answered-at z c n t a.0 output (after_singles m a.0 n t ss past) none number here in
-      let stands = counts (replied z a.0 output) c n (at n t (answered a.0 output unchanged) ∷ after_singles m a.0 n t ss past) at_reply in
-      let deed : answered a.0 output unchanged ≡ answered a.0 (output_for m n t a.0 r past) (change_of m past r.service) = ap₂ (λ (o : Output) (k : Change). answered a.0 o k) same (sym quiet) in (
+      let stands = counts (replied z a.0 output) c n (at n t (answered a.0 output change) ∷ after_singles m a.0 n t ss past) (here output) in
+      let deed : answered a.0 output change ≡ answered a.0 (output_for m n t a.0 r past) change = ap (λ (o : Output). answered a.0 o change) same in (
         ap answers.Asked (sym (acts-none c none empty a.0 n t ss past)),
         accepted-as s u (record (replied z a.0 output) { steps = suc z.steps }) c h turn st fine behind
             (subst (λ (d : Deed). StandsAt (record (replied z a.0 output) { steps = suc z.steps }) c (suc n) (at n t d ∷ after_singles m a.0 n t ss past)) deed stands),

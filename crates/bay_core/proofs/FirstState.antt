@@ -1,5 +1,5 @@
 -- The state of a bay that was opened: its parts fit the configuration, and it stands for the history of no step.
-use Rattle.std.proofs.Common.{◌≡◌, ◌<◌, ◌≤◌, ℕ, List, [], ◌∷◌, get_or, arith, map, replicate, refl, ap, sym, ◌∙◌, subst, length}
+use Rattle.std.proofs.Common.{◌≡◌, ◌<◌, ◌≤◌, ℕ, List, [], ◌∷◌, get_or, arith, map, replicate, refl, ap, sym, ◌∙◌, subst, length, append-nil}
 use Rattle.std.specs.List.{All}
 use Rattle.std.proofs.lemmas.List.{length-map, get_or-map}
 use Rattle.std.proofs.lemmas.List.Elements.{All-head, All-tail}
@@ -13,7 +13,7 @@ use Rattle.bay_config.specs.Servable.{IsMember}
 use Rattle.touch_index.specs.Indexed.{AreAmong}
 use Rattle.bay_core.proofs.BookLaws.{part-lent, part-members}
 use Rattle.bay_core.proofs.ServedLaws.{served-few}
-use Rattle.bay_core.proofs.ShapeLaws.{node_shape, node_shapes, nodes_named, member-shape, served-set}
+use Rattle.bay_core.proofs.ShapeLaws.{node_shape, node_shapes, nodes_named, member-shape, served-set, sets_in}
 use Rattle.sv_base.specs.declared.config.Config.{Config}
 use Rattle.bay_model.specs.Named.{configured_model}
 use Rattle.bay_model.specs.Points.{now}
@@ -31,9 +31,11 @@ use Rattle.bay_core.specs.Watched.{IsWatching, IsWatchable, members_in}
 use Rattle.bay_core.specs.Opened.{seen, part_defined}
 use Rattle.bay_config.specs.Servable.{IsServable}
 use Rattle.bay_core.specs.Standing.{StandsFor}
-use Rattle.bay_core.specs.State.{State, IsFurnished, AreHeld}
+use Rattle.data_sets.specs.Standing.{data_set}
+use Rattle.bay_core.specs.State.{State, IsBooked, IsFurnished, AreHeld, AreServedSets}
 use Rattle.bay_core.proofs.FirstValues.{opened-held}
-use Rattle.bay_core.proofs.OpenLaws.{parts-sets, parts-windows, parts-stand}
+use Rattle.bay_core.proofs.FirstBook.{booked-first, count-back, sets-back}
+use Rattle.bay_core.proofs.OpenLaws.{parts-named, parts-sets, parts-windows, parts-stand}
 
 pub furnished-first : (c : Config) (stored : List Stored) (book : Book) (parts : List ReportBlock) (w : Watch) (octets : Filled ℕ) (room : ℕ) → IsServable c → stored ≡ opened c → book ≡ booked (set_rows c)
     → map seen parts ≡ map (part_defined (booked (set_rows c))) c.blocks → IsWatching (node_rows c) book (length stored) parts w → octets.room ≡ 129024 → length stored ≤ room → IsFurnished c stored book parts w octets room
@@ -43,8 +45,9 @@ furnished-first c stored book parts w octets room served values is are watch kep
       servable = served;
       values = subst (AreHeld c) (sym values) (opened-held c served);
       count = sym (length-map parts seen) ∙ (ap length are ∙ length-map c.blocks (part_defined (booked (set_rows c))));
-      booked = is;
+      booked = subst (IsBooked c) (sym is) (booked-first c served);
       sets = parts-sets c book parts own;
+      dat_sets = parts-named c book parts served is own;
       windows = parts-windows c book parts own;
       watch = watch;
       entry = kept;
@@ -63,16 +66,16 @@ among-shapes c (n ∷ ns) are =
     )
 
 -- the index can hold the data set of a part that has the number of the data set which its DatSet names
-pub watchable : (c : Config) (n : ℕ) (book : Book) (part : ReportBlock) → IsServable c → book ≡ booked (set_rows c) → part.set ≡ number_referred part.block.options.dat_set book → n ≡ length (attributes c)
+pub watchable : (c : Config) (n : ℕ) (book : Book) (part : ReportBlock) → AreServedSets c book → part.set ≡ number_referred part.block.options.dat_set book → n ≡ length (attributes c)
     → IsWatchable (node_rows c) book n part
-watchable c n book part served is has count =
-    let members = part-members c served book part is has in
+watchable c n book part are has count =
+    let members = part-members c book are part has in
     let reference = part.block.options.dat_set in
     record {
-      lent = part-lent c served book part is has;
-      few = omega (arith, served-few c served reference, ap length members);
+      lent = part-lent c book are part has;
+      few = omega (arith, served-few c book are reference, ap length members);
       among = subst (λ k. AreAmong k (members_in (node_rows c) book part)) (sym count)
-          (subst (AreAmong (length (attributes c))) (sym members) (among-shapes c (nodes_named (configured_model c).sets reference) (served-set c reference served).members));
+          (subst (AreAmong (length (attributes c))) (sym members) (among-shapes c (nodes_named (sets_in book) reference) (served-set c book reference are).members));
     }
 
 -- and that of each part
@@ -80,11 +83,11 @@ pub watchable-first : (c : Config) (n : ℕ) (book : Book) (parts : List ReportB
     → All (IsWatchable (node_rows c) book n) parts
 watchable-first c n book parts served is are count = λ b d below.
     let part = get_or parts b d in
-    watchable c n book part served is (parts-sets c book parts are b part (slice_get-get_or parts b d below)) count
+    watchable c n book part (subst (AreServedSets c) (sym is) (booked-first c served).served) (parts-sets c book parts are b part (slice_get-get_or parts b d below)) count
 
-pub stands-first : (s : State) (c : Config) → IsServable c → s.config ≡ c → s.steps ≡ 0 → s.latest ≡ now [] → s.stored ≡ opened c
+pub stands-first : (s : State) (c : Config) → IsServable c → s.config ≡ c → s.steps ≡ 0 → s.latest ≡ now [] → s.stored ≡ opened c → s.book ≡ booked (set_rows c)
     → map seen s.parts ≡ map (part_defined (booked (set_rows c))) c.blocks → s.rows ≡ replicate 16 closed → StandsFor s c []
-stands-first s c served config steps latest values are rows = (
+stands-first s c served config steps latest values book are rows = (
   tt,
   record {
     is_config = config;
@@ -93,7 +96,8 @@ stands-first s c served config steps latest values are rows = (
     values = subst (λ all. ValuesStand all (configured_model c) []) (sym values) (opened_stands c served.domains);
     associations = subst (λ all. AssociationsStand all (configured_model c) []) (sym rows) (stands-empty (configured_model c));
     edits = λ d. refl;
-    sets = refl;
+    sets = ap (λ (b : Book). map data_set b.sets) book ∙ (sets-back c ∙ sym (append-nil (configured_model c).sets));
+    configured = ap (λ (b : Book). b.configured) book ∙ count-back c;
     blocks = parts-stand c (booked (set_rows c)) s.parts are;
   },
 )

@@ -11,6 +11,8 @@ pub mod QuietLaws
 pub mod QueueLaws
 pub mod AskLaws
 pub mod LentLaws
+-- names of data sets
+pub mod NameLaws
 pub mod RoleLaws
 pub mod AnswerLaws
 -- openings and losses
@@ -37,10 +39,17 @@ pub mod TakenLaws
 pub mod SentLaws
 -- how a bay begins
 pub mod FirstValues
+pub mod FirstBook
 pub mod FirstState
 pub mod OpenLaws
 -- the parts after a write
 pub mod WrittenLaws
+-- data sets that clients define and delete
+pub mod RoomLaws
+pub mod DefineLaws
+pub mod RemoveLaws
+pub mod DeletionLaws
+pub mod ChangedLaws
 -- threads
 pub mod SendLaws
 pub mod SyncLaws

@@ -1,8 +1,8 @@
 -- A step of one point: the state of a bay from its arrival to what its deed makes of it.
-use Rattle.std.proofs.Common.{◌≡◌, ◌≤◌, ℕ, suc, List, [], ◌∷◌, None, refl, ap, arith, ◌∙◌, sym, subst}
+use Rattle.std.proofs.Common.{◌≡◌, ◌≤◌, ℕ, suc, List, [], ◌∷◌, ◌++◌, None, refl, ap, arith, ◌∙◌, sym, subst}
 use Rattle.std.specs.Prelude.{length, unwrap_or}
 use Rattle.sv_base.specs.declared.config.Config.{Config}
-use Rattle.bay_model.specs.Model.{Model}
+use Rattle.bay_model.specs.Model.{Model, DataSet}
 use Rattle.bay_model.specs.Named.{configured_model}
 use Rattle.bay_model.specs.Points.{Deed, Point, Past, nothing, now}
 use Rattle.bay_model.specs.Values.{gives}
@@ -49,7 +49,8 @@ came-of s c n t d past stored parts silent values blocks st = record {
   associations = associations.stands-deed (configured_model c) t n d past s.rows nothing_put st.associations
       (record { number = silent.number; puts = silent.puts 0; for_one = λ some. absurd (some refl); for_no_other = λ e other. silent.puts e });
   edits = λ e. ap (edit_after e d) (st.edits e) ∙ silent.edits e;
-  sets = silent.sets ∙ st.sets;
+  sets = st.sets ∙ ap (λ (all : List DataSet). (configured_model c).sets ++ all) (sym silent.sets);
+  configured = st.configured;
   blocks = blocks;
 }
 
@@ -63,6 +64,7 @@ counts s c n past st = record {
   associations = st.associations;
   edits = st.edits;
   sets = st.sets;
+  configured = st.configured;
   blocks = st.blocks;
 }
 
@@ -76,6 +78,7 @@ again s c n t q past same st = record {
   associations = associations.stands-arrival (configured_model c) t n (q ∷ past) s.rows st.associations;
   edits = st.edits;
   sets = st.sets;
+  configured = st.configured;
   blocks = λ b part there. again-stands (configured_model c) b t n q past part same (st.blocks b part there);
 }
 

@@ -1,22 +1,26 @@
 -- How a bay begins: what each block stands for.
-use Rattle.std.proofs.Common.{◌≡◌, ℕ, List, [], map, Some, unwrap_or, ap, sym, ◌∙◌}
+use Rattle.std.proofs.Common.{◌≡◌, ℕ, List, [], map, Some, unwrap_or, ap, sym, subst, ◌∙◌}
 use Rattle.std.specs.Prelude.{slice_get}
 use Rattle.std.specs.Option.{option_map}
 use Rattle.std.proofs.lemmas.Option.{slice_get-map}
-use Rattle.list_laws.proofs.Places.{got-map}
+use Rattle.list_laws.proofs.Places.{all-at, got-map}
 use Rattle.sv_base.specs.declared.config.Config.{Config}
 use Rattle.sv_base.specs.declared.config.BlockDef.{BlockDef}
 use Rattle.bay_model.specs.Configured.{block_defined}
 use Rattle.bay_model.specs.Lookups.{block_of, no_parameters}
 use Rattle.bay_model.specs.Model.{Block}
 use Rattle.bay_model.specs.Named.{configured_model}
-use Rattle.data_sets.specs.Books.{Book, largest, number_referred}
+use Rattle.object_model.specs.Tables.{set_rows}
+use Rattle.data_sets.specs.Books.{Book, number_referred, opened as booked}
+use Rattle.data_sets.specs.Standing.{IsNamed}
+use Rattle.bay_config.specs.Servable.{IsReferred, IsServable}
 use Rattle.brcb_state.specs.Changes.{configured}
 use Rattle.entry_ring.specs.Standing.{empty}
 use Rattle.window_core.specs.Windows.{Windowed, empty as empty_window}
 use Rattle.report_block.proofs.StandLaws.{opened}
 use Rattle.report_block.specs.declared.block.ReportBlock.{ReportBlock}
 use Rattle.bay_core.specs.Opened.{PartSeen, seen, part_defined}
+use Rattle.bay_core.proofs.FirstBook.{referred-first}
 use Rattle.report_block.specs.Standing.{BlocksStand}
 
 -- ---- a block by its number
@@ -39,7 +43,13 @@ parts-sets c book parts are b part at =
     let known = part-at c book parts are b part at in
     ap (λ (s : PartSeen). s.set) (sym known.2) ∙ ap (λ (s : PartSeen). number_referred s.block.options.dat_set book) known.2
 
-pub parts-windows : (c : Config) (book : Book) (parts : List ReportBlock) → map seen parts ≡ map (part_defined book) c.blocks → (b : ℕ) (part : ReportBlock) → slice_get parts b ≡ Some part → part.window.members ≡ largest book
+pub parts-named : (c : Config) (book : Book) (parts : List ReportBlock) → IsServable c → book ≡ booked (set_rows c) → map seen parts ≡ map (part_defined book) c.blocks
+    → (b : ℕ) (part : ReportBlock) → slice_get parts b ≡ Some part → IsNamed book part.block.options.dat_set
+parts-named c book parts served is are b part at =
+    let known = part-at c book parts are b part at in
+    subst (λ (s : PartSeen). IsNamed book s.block.options.dat_set) known.2 (referred-first c book known.0.dat_set is (all-at (λ (d : BlockDef). IsReferred c d.dat_set) c.blocks b known.0 served.named known.1))
+
+pub parts-windows : (c : Config) (book : Book) (parts : List ReportBlock) → map seen parts ≡ map (part_defined book) c.blocks → (b : ℕ) (part : ReportBlock) → slice_get parts b ≡ Some part → part.window.members ≡ 256
 parts-windows c book parts are b part at =
     let known = part-at c book parts are b part at in
     ap (λ (s : PartSeen). s.window.members) (sym known.2)

@@ -19,7 +19,7 @@ use Rattle.bay_core.proofs.WatchLaws.{watching-same}
 pub whole-sent : (c : Config) (stored : List Stored) (book : Book) (parts : List ReportBlock) (w : Watch) (octets : Filled ℕ) (room latest : ℕ) (dues : List (Option ℕ)) (events : EventRoom) (b id : ℕ) (part : ReportBlock)
     → slice_get parts b ≡ Some part → IsWhole c stored book parts w octets room latest dues events → IsWhole c stored book (slice_set parts b (reported_by id part)) w octets room latest dues events
 whole-sent c stored book parts w octets room latest dues events b id part there whole = record {
-  furnished = furnished-set c stored book parts w octets room whole.furnished b part (reported_by id part) w there (whole.furnished.sets b part there) refl
+  furnished = furnished-set c stored book parts w octets room whole.furnished b part (reported_by id part) w there (whole.furnished.sets b part there) (whole.furnished.dat_sets b part there) refl
       (watching-same (node_rows c) book (length stored) parts w b part (reported_by id part) there refl refl whole.furnished.watch);
   quiet = quiet-same latest dues parts b part (reported_by id part) there refl whole.quiet;
   roomy = whole.roomy;

@@ -1,4 +1,4 @@
--- The data sets of a configuration that a bay serves: the members of a block are there, and have the shapes of their nodes.
+-- The data sets that a bay serves: the members of a block are there, and have the shapes of their nodes.
 use Rattle.std.proofs.Common.{◌≡◌, ◌≤◌, ◌<◌, ℕ, List, [], ◌∷◌, length, map, get_or, refl, sym, subst, ap, ◌∙◌, arith}
 use Rattle.std.specs.List.{All}
 use Rattle.std.proofs.lemmas.List.{length-map}
@@ -10,7 +10,8 @@ use Rattle.bay_model.specs.declared.tables.MemberShape.{MemberShape}
 use Rattle.bay_model.specs.Named.{configured_model, nodes}
 use Rattle.bay_model.specs.Points.{Past}
 use Rattle.bay_model.specs.Parameters.{parameters_at}
-use Rattle.bay_model.specs.Sets.{dynamic, members}
+use Rattle.bay_model.specs.Sets.{sets, members}
+use Rattle.data_sets.specs.Books.{Book}
 use Rattle.object_model.specs.Nodes.{node_rows}
 use Rattle.object_model.specs.Tables.{node_id}
 use Rattle.object_model.proofs.TableLaws.{count-rows, rows-are-nodes}
@@ -18,22 +19,23 @@ use Rattle.set_view.specs.Shapes.{HasNumber, no_row, node_numbers, shape_of}
 use Rattle.data_sets.proofs.SetLaws.{numbers_of_shapes}
 use Rattle.report_block.specs.Blanks.{AreShort, IsShortSet}
 use Rattle.report_block.specs.Again.{AreNodes}
-use Rattle.bay_config.specs.Servable.{IsServable, IsMember}
-use Rattle.bay_core.proofs.ShapeLaws.{nodes_named, served_members, served-set, members-named}
+use Rattle.bay_config.specs.Servable.{IsMember}
+use Rattle.bay_core.specs.State.{AreServedSets}
+use Rattle.bay_core.proofs.ShapeLaws.{nodes_named, served_members, served-set, members-named, sets_in}
 
 all-of : {A : Type 0} (P Q : A → Type 0) → ((x : A) → P x → Q x) → (xs : List A) → All P xs → All Q xs
 all-of P Q f [] all = All-nil Q
 all-of P Q f (x ∷ xs) all = All-cons Q x xs (f x (All-head P x xs all)) (all-of P Q f xs (All-tail P x xs all))
 
-module _ (c : Config) (served : IsServable c) (reference : List ℕ) where
+module _ (c : Config) (book : Book) (are : AreServedSets c book) (reference : List ℕ) where
   abbrev IsThere : ℕ → Type 0
   IsThere n = n < length (nodes c)
 
   abbrev mine : List ℕ
-  mine = nodes_named (configured_model c).sets reference
+  mine = nodes_named (sets_in book) reference
 
   pub members-there : All IsThere mine
-  members-there = all-of (IsMember c) IsThere (λ n h. h.there) mine (served-set c reference served).members
+  members-there = all-of (IsMember c) IsThere (λ n h. h.there) mine (served-set c book reference are).members
 
   -- the row of a node has its number
   row-number : (n : ℕ) → n < length (nodes c) → HasNumber (node_rows c) (node_id n)
@@ -44,22 +46,22 @@ module _ (c : Config) (served : IsServable c) (reference : List ℕ) where
   ids-same (n ∷ ns) = ap (λ l. n ∷ l) (ids-same ns)
 
   -- the shapes of the members have their nodes
-  served-nodes : node_numbers (served_members c reference) ≡ mine
+  served-nodes : node_numbers (served_members c book reference) ≡ mine
   served-nodes = numbers_of_shapes (node_rows c) (map node_id mine) (All-map (HasNumber (node_rows c)) node_id mine (all-of IsThere (λ n. HasNumber (node_rows c) (node_id n)) row-number mine members-there)) ∙ ids-same mine
 
-  pub served-few : length (served_members c reference) ≤ 256
-  served-few = omega (arith, length-map (map node_id mine) (shape_of (node_rows c)), length-map mine node_id, (served-set c reference served).few)
+  pub served-few : length (served_members c book reference) ≤ 256
+  served-few = omega (arith, length-map (map node_id mine) (shape_of (node_rows c)), length-map mine node_id, (served-set c book reference are).few)
 
   -- the references of the members are short
-  pub shapes-short : IsShortSet (configured_model c) (served_members c reference)
-  shapes-short = subst (AreShort (configured_model c)) (sym served-nodes) (served-set c reference served).short
+  pub shapes-short : IsShortSet (configured_model c) (served_members c book reference)
+  shapes-short = subst (AreShort (configured_model c)) (sym served-nodes) (served-set c book reference are).short
 
   -- each shape is that of a node that is there
-  pub shapes-there : AreNodes c (served_members c reference)
+  pub shapes-there : AreNodes c (served_members c book reference)
   shapes-there = All-map (λ (s : MemberShape). s.node.0 < length (nodes c)) (shape_of (node_rows c)) (map node_id mine)
       (All-map (λ (n : NodeId). (shape_of (node_rows c) n).node.0 < length (nodes c)) node_id mine (all-of IsThere (λ n. (shape_of (node_rows c) (node_id n)).node.0 < length (nodes c)) (λ n h. omega (arith, h, row-number n h)) mine members-there))
 
   -- the members of a block whose DatSet is the reference
-  pub served-now : (b : ℕ) (past : Past) (shapes : List MemberShape) → shapes ≡ served_members c reference → reference ≡ (parameters_at (configured_model c) b past).dat_set → dynamic past ≡ []
+  pub served-now : (b : ℕ) (past : Past) (shapes : List MemberShape) → shapes ≡ served_members c book reference → reference ≡ (parameters_at (configured_model c) b past).dat_set → sets_in book ≡ sets (configured_model c) past
       → node_numbers shapes ≡ members (configured_model c) b past
-  served-now b past shapes is dat_set sets = ap node_numbers is ∙ (served-nodes ∙ sym (members-named (configured_model c) b past reference dat_set sets))
+  served-now b past shapes is dat_set same = ap node_numbers is ∙ (served-nodes ∙ sym (members-named (configured_model c) b past book reference dat_set same))

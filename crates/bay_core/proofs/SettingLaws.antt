@@ -11,8 +11,7 @@ use Rattle.bay_model.specs.declared.step.Setting.{Setting}
 use Rattle.bay_model.specs.declared.tables.MemberShape.{MemberShape}
 use Rattle.bay_model.specs.declared.tables.NodeRow.{NodeRow}
 use Rattle.object_model.specs.Nodes.{node_rows}
-use Rattle.object_model.specs.Tables.{set_rows}
-use Rattle.data_sets.specs.Books.{Book, largest, opened}
+use Rattle.data_sets.specs.Books.{Book}
 use Rattle.bay_model.specs.declared.step.Step.TheVariants as steps
 use Rattle.bay_model.specs.Answers.{History, points}
 use Rattle.bay_model.specs.Lookups.{node_of}
@@ -23,7 +22,7 @@ use Rattle.bay_model.specs.Parameters.{parameters_at, is_interrogation, is_purgi
 use Rattle.bay_model.specs.Singles.{arrival}
 use Rattle.bay_model.specs.Points.{Deed, Past, now, valued, put}
 use Rattle.bay_rooms.specs.Rooms.{Filled}
-use Rattle.bay_model.specs.Sets.{members, dynamic}
+use Rattle.bay_model.specs.Sets.{members, sets as model_sets}
 use Rattle.object_model.specs.Fits.{fits}
 use Rattle.trigger_core.specs.Noted.{noted}
 use Rattle.trigger_core.specs.Points.{AreChanges, mention, trg_of}
@@ -49,18 +48,18 @@ use Rattle.report_block.proofs.StandLaws.{deed-stands}
 use Rattle.report_block.specs.EntryOctets.{IsWritable}
 use Rattle.bay_config.specs.Servable.{IsServable}
 use Rattle.bay_core.specs.Standing.{StandsAt, StandsFor}
-use Rattle.bay_core.specs.State.{State, AreHeld, IsFurnished}
+use Rattle.bay_core.specs.State.{State, AreHeld, AreServedSets, IsFurnished}
 use Rattle.bay_core.specs.declared.watch.Watch.{Watch}
 use Rattle.bay_core.specs.Watched.{IsIndexed, IsLent, IsWatching, AreBlank, members_in}
 use Rattle.std.proofs.lemmas.List.{length-map}
-use Rattle.bay_core.proofs.BookLaws.{largest-few, part-lent, part-members, within-largest}
+use Rattle.bay_core.proofs.BookLaws.{part-lent, part-members}
 use Rattle.bay_core.proofs.ArriveLaws.{HaveMembers}
 use Rattle.bay_core.proofs.ChangeLaws.{Sets, IsThere, values-stand, are-changes, settings-there, typed-settings, held-after}
 use Rattle.bay_core.proofs.EventLaws.{note-kept, note-readable, all-writable}
 use Rattle.bay_core.proofs.FurnishLaws.{furnished-map}
 use Rattle.bay_core.proofs.MoveLaws.{IsSilent, rows_after, came-of, counts, accepted-as}
 use Rattle.bay_core.proofs.ServedLaws.{served-few}
-use Rattle.bay_core.proofs.ShapeLaws.{AreServed, node_shapes, nodes_named, served_members, served-set, members-named, are-shapes}
+use Rattle.bay_core.proofs.ShapeLaws.{AreServed, node_shapes, nodes_named, served_members, served-set, sets_in, members-named, are-shapes}
 
 -- a point of which nothing is so
 off : {A : Type 0} → false ≡ true → A
@@ -107,14 +106,14 @@ client-sets m n t a x v past = record {
 
 -- ---- a block
 
-module _ (c : Config) (b n t : ℕ) (d : Deed) (settings : List Setting) (past : Past) (part : ReportBlock) (shapes : List MemberShape) (stored : List Stored) (changes : List Change) (served : IsServable c) (held : AreHeld c stored)
+module _ (c : Config) (b n t : ℕ) (d : Deed) (settings : List Setting) (past : Past) (part : ReportBlock) (book : Book) (shapes : List MemberShape) (stored : List Stored) (changes : List Change) (served : IsServable c) (booked : AreServedSets c book) (held : AreHeld c stored)
     (sets : IsSetting (configured_model c) n t d past settings) (values : ValuesStand stored (configured_model c) (at n t d ∷ past)) (made : AreChanges (configured_model c) d past changes)
-    (has : shapes ≡ served_members c part.block.options.dat_set) (none : dynamic past ≡ []) (st : BlockStands part (configured_model c) b (arrival n t ∷ past)) where
-  nodes-same : members (configured_model c) b past ≡ nodes_named (configured_model c).sets part.block.options.dat_set
-  nodes-same = members-named (configured_model c) b past part.block.options.dat_set (ap (λ (o : Parameters). o.dat_set) st.block.options) none
+    (has : shapes ≡ served_members c book part.block.options.dat_set) (same : sets_in book ≡ model_sets (configured_model c) past) (st : BlockStands part (configured_model c) b (arrival n t ∷ past)) where
+  nodes-same : members (configured_model c) b past ≡ nodes_named (sets_in book) part.block.options.dat_set
+  nodes-same = members-named (configured_model c) b past book part.block.options.dat_set (ap (λ (o : Parameters). o.dat_set) st.block.options) same
 
   nodes-served : AreServed c (members (configured_model c) b past)
-  nodes-served = subst (AreServed c) (sym nodes-same) (served-set c part.block.options.dat_set served)
+  nodes-served = subst (AreServed c) (sym nodes-same) (served-set c book part.block.options.dat_set booked)
 
   shapes-are : shapes ≡ node_shapes c (members (configured_model c) b past)
   shapes-are = has ∙ ap (node_shapes c) (sym nodes-same)
@@ -147,48 +146,49 @@ module _ (c : Config) (b n t : ℕ) (d : Deed) (settings : List Setting) (past :
 -- ---- all blocks
 
 module _ (rows : List NodeRow) (book : Book) where
-  parts-set : (c : Config) (n t : ℕ) (d : Deed) (settings : List Setting) (past : Past) (parts : List ReportBlock) (stored : List Stored) (changes : List Change) → IsServable c → AreHeld c stored
+  parts-set : (c : Config) (n t : ℕ) (d : Deed) (settings : List Setting) (past : Past) (parts : List ReportBlock) (stored : List Stored) (changes : List Change) → IsServable c → AreServedSets c book → AreHeld c stored
       → IsSetting (configured_model c) n t d past settings → ValuesStand stored (configured_model c) (at n t d ∷ past) → AreChanges (configured_model c) d past changes
-      → HaveMembers rows book c parts → dynamic past ≡ [] → BlocksStand (configured_model c) (arrival n t ∷ past) parts
+      → HaveMembers rows book c parts → sets_in book ≡ model_sets (configured_model c) past → BlocksStand (configured_model c) (arrival n t ∷ past) parts
       → BlocksStand (configured_model c) (at n t d ∷ past) (after_events rows book stored changes (max t (now past)) n parts)
-  parts-set c n t d settings past parts stored changes served held sets values made has none st = λ b part there.
+  parts-set c n t d settings past parts stored changes served booked held sets values made has same st = λ b part there.
       let was = got-map (after_event rows book stored changes (max t (now past)) n) parts b part there in
       subst (λ x. BlockStands x (configured_model c) b (at n t d ∷ past)) was.2
-      (part-set c b n t d settings past was.0 (members_in rows book was.0) stored changes served held sets values made (has b was.0 was.1) none (st b was.0 was.1))
+      (part-set c b n t d settings past was.0 book (members_in rows book was.0) stored changes served booked held sets values made (has b was.0 was.1) same (st b was.0 was.1))
 
+module _ (rows : List NodeRow) where
   -- what the setting makes of the state at its arrival
   abbrev pub set_at : State → List Stored → List Change → State
-  set_at a stored changes = record a { stored = stored; parts = after_events rows book stored changes a.latest a.steps a.parts }
+  set_at a stored changes = record a { stored = stored; parts = after_events rows a.book stored changes a.latest a.steps a.parts }
 
-  pub stands-set : (a : State) (c : Config) (n t : ℕ) (d : Deed) (settings : List Setting) (past : Past) (stored : List Stored) (changes : List Change) → IsServable c → AreHeld c stored
+  pub stands-set : (a : State) (c : Config) (n t : ℕ) (d : Deed) (settings : List Setting) (past : Past) (stored : List Stored) (changes : List Change) → IsServable c → AreServedSets c a.book → AreHeld c stored
       → IsSetting (configured_model c) n t d past settings → All (IsThere a.stored) settings
-      → HaveMembers rows book c a.parts → ((x : ℕ) → attribute stored x ≡ last_set settings x (attribute a.stored x)) → length stored ≡ length a.stored → AreMade c a.stored settings changes
+      → HaveMembers rows a.book c a.parts → ((x : ℕ) → attribute stored x ≡ last_set settings x (attribute a.stored x)) → length stored ≡ length a.stored → AreMade c a.stored settings changes
       → StandsAt a c n (arrival n t ∷ past) → StandsAt (set_at a stored changes) c n (at n t d ∷ past)
-  stands-set a c n t d settings past stored changes served held sets there has set count made here =
+  stands-set a c n t d settings past stored changes served booked held sets there has set count made here =
       let m = configured_model c in
       let values = values-stand m n t d past a.stored stored settings sets.sets here.values set count in
       let are = are-changes c d past a.stored settings changes sets.sets here.values there made in
-      let after : List ReportBlock = after_events rows book stored changes a.latest a.steps a.parts in
+      let after : List ReportBlock = after_events rows a.book stored changes a.latest a.steps a.parts in
       subst (λ rs. StandsAt (record a { stored = stored; parts = after; rows = rs }) c n (at n t d ∷ past)) (sets.rows a.rows)
       (came-of a c n t d past stored after sets.silent values
-      (subst (BlocksStand m (at n t d ∷ past)) (ap₂ (λ (now step : ℕ). after_events rows book stored changes now step a.parts) (sym here.is_latest) (sym here.is_steps))
-      (parts-set c n t d settings past a.parts stored changes served held sets values are has here.sets here.blocks)) here)
+      (subst (BlocksStand m (at n t d ∷ past)) (ap₂ (λ (now step : ℕ). after_events rows a.book stored changes now step a.parts) (sym here.is_latest) (sym here.is_steps))
+      (parts-set rows a.book c n t d settings past a.parts stored changes served booked held sets values are has here.sets here.blocks)) here)
 
   -- the same of a step of a history, with what is known of the configuration that the state has
   pub set-for : (s a t : State) (c : Config) (h : History) (moment actor : ℕ) (settings : List Setting) (stored : List Stored) (changes : List Change)
-      → IsServable a.config → AreHeld a.config stored → AreFit a.stored settings → HaveMembers rows book a.config a.parts
+      → IsServable a.config → AreServedSets a.config a.book → AreHeld a.config stored → AreFit a.stored settings → HaveMembers rows a.book a.config a.parts
       → ((x : ℕ) → attribute stored x ≡ last_set settings x (attribute a.stored x)) → length stored ≡ length a.stored → AreMade a.config a.stored settings changes
       → StandsAt a c (length h) (arrival (length h) moment ∷ points (configured_model c) h) → t ≡ record (set_at a stored changes) { steps = suc a.steps } → StandsFor s c h
       → StandsFor t c (record { moment = moment; actor = actor; step = steps.Value settings } ∷ h)
-  set-for s a t c h moment actor settings stored changes served held fit has set count made here is st =
+  set-for s a t c h moment actor settings stored changes served booked held fit has set count made here is st =
       let same = here.is_config in
       let past : Past = points (configured_model c) h in
       let point : Past = at (length h) moment (valued settings) ∷ past in
       accepted-as s t (record (set_at a stored changes) { steps = suc a.steps }) c h (record { moment = moment; actor = actor; step = steps.Value settings }) st refl is
       (counts (set_at a stored changes) c (length h) point
-      (stands-set a c (length h) moment (valued settings) settings past stored changes (subst IsServable same served) (subst (λ q. AreHeld q stored) same held)
+      (stands-set a c (length h) moment (valued settings) settings past stored changes (subst IsServable same served) (subst (λ q. AreServedSets q a.book) same booked) (subst (λ q. AreHeld q stored) same held)
       (process-sets (configured_model c) (length h) moment settings past) (settings-there a.config a.stored settings fit)
-      (subst (λ q. HaveMembers rows book q a.parts) same has) set count (subst (λ q. AreMade q a.stored settings changes) same made) here))
+      (subst (λ q. HaveMembers rows a.book q a.parts) same has) set count (subst (λ q. AreMade q a.stored settings changes) same made) here))
 
 -- ---- the parts fit the configuration afterwards
 
@@ -216,6 +216,7 @@ furnished-all c book old stored lent parts w v octets kept room more changes row
       count = f.count;
       booked = f.booked;
       sets = f.sets;
+      dat_sets = f.dat_sets;
       windows = f.windows;
       watch = subst (IsWatching (node_rows c) book (length stored) (map after parts)) (sym is) (record {
         index = subst (λ n. IsIndexed (node_rows c) book n (map after parts) w.index) (sym same) f.watch.index;
@@ -227,17 +228,17 @@ furnished-all c book old stored lent parts w v octets kept room more changes row
     }
 
 -- each part has room for its entry
-ready-at : (c : Config) (rows : List NodeRow) (book : Book) (stored : List Stored) (part : ReportBlock) → IsServable c → AreHeld c stored → IsLent rows book part → members_in rows book part ≡ served_members c part.block.options.dat_set
-    → book ≡ opened (set_rows c) → part.window.members ≡ largest book → IsReady rows book stored part
-ready-at c rows book stored part served held lent has booked rooms =
+ready-at : (c : Config) (rows : List NodeRow) (book : Book) (stored : List Stored) (part : ReportBlock) → IsServable c → AreServedSets c book → AreHeld c stored → IsLent rows book part → members_in rows book part ≡ served_members c book part.block.options.dat_set
+    → part.window.members ≡ 256 → IsReady rows book stored part
+ready-at c rows book stored part served booked held lent has rooms =
     let reference = part.block.options.dat_set in
-    let are = served-set c reference served in
+    let are = served-set c book reference booked in
     record {
       lent = lent;
-      few = omega (arith, served-few c served reference, ap length has);
-      writable = subst (All (IsWritable stored)) (sym has) (all-writable c stored (nodes_named (configured_model c).sets reference) served held are.members);
-      within = omega (arith, within-largest rows book part.set lent.set, rooms);
-      gathers = omega (arith, rooms, ap largest booked, largest-few c served);
+      few = omega (arith, served-few c book booked reference, ap length has);
+      writable = subst (All (IsWritable stored)) (sym has) (all-writable c stored (nodes_named (sets_in book) reference) served held are.members);
+      within = omega (arith, served-few c book booked reference, ap length has, rooms);
+      gathers = omega (arith, rooms);
     }
 
 pub are-ready : (c : Config) (rows : List NodeRow) (old stored : List Stored) (book : Book) (parts : List ReportBlock) (w : Watch) (octets : Filled ℕ) (room : ℕ) → rows ≡ node_rows c → IsFurnished c old book parts w octets room → AreHeld c stored
@@ -245,8 +246,8 @@ pub are-ready : (c : Config) (rows : List NodeRow) (old stored : List Stored) (b
 are-ready c rows old stored book parts w octets room same was held = subst (λ all. AreReady all book stored parts) (sym same) (λ b d below.
     let part = slice_index_or parts b d in
     let has = was.sets b part (slice_get-get_or parts b d below) in
-    ready-at c (node_rows c) book stored part was.servable held (part-lent c was.servable book part was.booked has) (part-members c was.servable book part was.booked has) was.booked (was.windows b part (slice_get-get_or parts b d below)))
+    ready-at c (node_rows c) book stored part was.servable was.booked.served held (part-lent c book was.booked.served part has) (part-members c book was.booked.served part has) (was.windows b part (slice_get-get_or parts b d below)))
 
 -- and the members of the data set that its DatSet names
 pub have-members : (c : Config) (rows : List NodeRow) (stored : List Stored) (book : Book) (parts : List ReportBlock) (w : Watch) (octets : Filled ℕ) (room : ℕ) → rows ≡ node_rows c → IsFurnished c stored book parts w octets room → HaveMembers rows book c parts
-have-members c rows stored book parts w octets room same was = subst (λ all. HaveMembers all book c parts) (sym same) (λ b part at. part-members c was.servable book part was.booked (was.sets b part at))
+have-members c rows stored book parts w octets room same was = subst (λ all. HaveMembers all book c parts) (sym same) (λ b part at. part-members c book was.booked.served part (was.sets b part at))

@@ -1,5 +1,5 @@
--- The members of a block's data set, where it has the configured ones: each is a node of the configuration, with its row.
-use Rattle.std.proofs.Common.{◌≡◌, ◌<◌, ◌≤◌, ℕ, suc, Bool, true, false, cond, List, [], ◌∷◌, ◌++◌, length, map, slice_index_or, Option, Some, None, unwrap_or, refl, ap, ap₂, sym, ◌∙◌, subst, arith, append-nil}
+-- The members of a block's data set: each is a node of the configuration, with its row.
+use Rattle.std.proofs.Common.{◌≡◌, ◌<◌, ◌≤◌, ℕ, suc, Bool, true, false, cond, List, [], ◌∷◌, ◌++◌, length, map, slice_index_or, Option, Some, None, unwrap_or, refl, ap, ap₂, sym, ◌∙◌, subst, arith}
 use Rattle.std.specs.Prelude.{min, nat_le}
 use Rattle.std.specs.List.{All, find}
 use Rattle.std.specs.Option.{option_map}
@@ -17,7 +17,9 @@ use Rattle.bay_model.specs.Named.{configured_model}
 use Rattle.bay_model.specs.Parameters.{parameters_at}
 use Rattle.bay_model.specs.Places.{largest}
 use Rattle.bay_model.specs.Points.{Past}
-use Rattle.bay_model.specs.Sets.{members, dynamic, set_referred}
+use Rattle.bay_model.specs.Sets.{members, sets, set_referred}
+use Rattle.data_sets.specs.Books.{Booked, Book, no_set}
+use Rattle.data_sets.specs.Standing.{data_set}
 use Rattle.object_model.specs.declared.growth.Spot.{Spot}
 use Rattle.object_model.specs.Nodes.{node_rows, rows_from}
 use Rattle.object_model.specs.Rows.{IsRowOf}
@@ -25,7 +27,8 @@ use Rattle.object_model.specs.Tables.{node_type, node_id}
 use Rattle.object_model.proofs.TableLaws.{count-rows, rows-are-nodes}
 use Rattle.set_view.specs.Shapes.{no_row, shape_of, shapes_of}
 use Rattle.trigger_core.specs.Points.{AreShapes}
-use Rattle.bay_config.specs.Servable.{IsServable, IsServedSet, IsMember}
+use Rattle.bay_config.specs.Servable.{IsServedSet, IsMember}
+use Rattle.bay_core.specs.State.{AreServedSets}
 
 -- ---- the nodes of a data set
 
@@ -55,14 +58,23 @@ served-of c (Some s) is = let t = is s refl in record { few = t.few; members = t
 abbrev pub nodes_named : List DataSet → List ℕ → List ℕ
 nodes_named sets reference = unwrap_or (option_map (λ (s : DataSet). s.nodes) (set_referred reference sets)) []
 
-pub served-set : (c : Config) (reference : List ℕ) → IsServable c → AreServed c (nodes_named (configured_model c).sets reference)
-served-set c reference served =
-    let all = (configured_model c).sets in
-    served-of c (set_referred reference all) (λ s is. found (IsServedSet c) _ all served.sets s is)
+-- the data sets of the book
+abbrev pub sets_in : Book → List DataSet
+sets_in book = map data_set book.sets
 
--- the members of a block whose DatSet is this reference, where no set was defined
-pub members-named : (m : Model) (b : ℕ) (past : Past) (reference : List ℕ) → reference ≡ (parameters_at m b past).dat_set → dynamic past ≡ [] → members m b past ≡ nodes_named m.sets reference
-members-named m b past reference is none = ap₂ (λ (r : List ℕ) (ds : List DataSet). nodes_named (m.sets ++ ds) r) (sym is) none ∙ ap (λ all. nodes_named all reference) (append-nil m.sets)
+all-sets : (P : DataSet → Type 0) (bs : List Booked) → ((k : ℕ) → k < length bs → P (data_set (slice_index_or bs k no_set))) → All P (map data_set bs)
+all-sets P [] each = All-nil P
+all-sets P (b ∷ bs) each = All-cons P (data_set b) (map data_set bs) (each 0 (omega arith)) (all-sets P bs (λ k below. each (suc k) (omega (arith, below))))
+
+pub all-served : (c : Config) (book : Book) → AreServedSets c book → All (IsServedSet c) (sets_in book)
+all-served c book are = all-sets (IsServedSet c) book.sets are
+
+pub served-set : (c : Config) (book : Book) (reference : List ℕ) → AreServedSets c book → AreServed c (nodes_named (sets_in book) reference)
+served-set c book reference are = served-of c (set_referred reference (sets_in book)) (λ s is. found (IsServedSet c) _ (sets_in book) (all-served c book are) s is)
+
+-- the members of a block whose DatSet is this reference, by the sets that are there
+pub members-named : (m : Model) (b : ℕ) (past : Past) (book : Book) (reference : List ℕ) → reference ≡ (parameters_at m b past).dat_set → sets_in book ≡ sets m past → members m b past ≡ nodes_named (sets_in book) reference
+members-named m b past book reference is same = ap₂ (λ (r : List ℕ) (all : List DataSet). nodes_named all r) (sym is) (sym same)
 
 -- ---- their shapes
 
@@ -97,8 +109,8 @@ member-shape c n member =
     row-shape c n r (rows-are-nodes c n r (slice_get-get_or (node_rows c) n no_row below)) (All-get_or IsSized (node_rows c) n no_row below (rows-sized 0 _)) member.allowed
 
 -- the shapes of the members of the data set that a reference names
-abbrev pub served_members : Config → List ℕ → List MemberShape
-served_members c reference = node_shapes c (nodes_named (configured_model c).sets reference)
+abbrev pub served_members : Config → Book → List ℕ → List MemberShape
+served_members c book reference = node_shapes c (nodes_named (sets_in book) reference)
 
 pub are-shapes : (c : Config) (ns : List ℕ) → All (IsMember c) ns → AreShapes (configured_model c) ns (node_shapes c ns)
 are-shapes c [] are = tt

@@ -49,13 +49,11 @@ use Rattle.bay_core.specs.Changed.{given, last_set, change_from, without_change,
 use Rattle.bay_core.specs.Put.{AreGeneral, answer_at, general_at, written_at}
 use Rattle.bay_core.specs.Written.{named_by}
 use Rattle.object_model.specs.Fits.{is_sound}
-use Rattle.object_model.specs.Tables.{set_rows}
-use Rattle.data_sets.specs.Books.{Book, opened}
 use Rattle.report_block.specs.declared.block.ReportBlock.{ReportBlock}
 use Rattle.report_block.specs.Writes.{without_effect}
 use Rattle.trigger_core.specs.Noted.{change_of}
 use Rattle.bay_core.specs.Standing.{StandsAt}
-use Rattle.bay_core.specs.State.{State, AreHeld}
+use Rattle.bay_core.specs.State.{State, AreHeld, AreServedSets}
 use Rattle.bay_core.proofs.FirstValues.{kind-told}
 use Rattle.bay_core.proofs.MoveLaws.{again}
 use Rattle.bay_core.proofs.RoleLaws.{Each, IsRole, count-defined, roles}
@@ -235,19 +233,19 @@ module _ (z : State) (served : IsServable z.config) (held : AreHeld z.config z.s
   one-held stored is sound ok = subst (AreHeld z.config) (sym is)
       (held-after z.config z.stored (slice_set z.stored x (with_value v (attribute z.stored x))) (one_set x v) held (one-typed sound ok) one-set-values (length-set z.stored x (with_value v (attribute z.stored x))))
 
-  pub attribute-set : (u : State) (rows : List NodeRow) (book : Book) (stored : List Stored) (changes : List Change) (a : ℕ) → HaveMembers rows book z.config z.parts → is_sound v ≡ true
+  pub attribute-set : (u : State) (rows : List NodeRow) (stored : List Stored) (changes : List Change) (a : ℕ) → AreServedSets z.config z.book → HaveMembers rows z.book z.config z.parts → is_sound v ≡ true
       → Ok tt ≡ without_change (outcome (attribute z.stored x) v true) → stored ≡ slice_set z.stored x (with_value v (attribute z.stored x)) → changes ≡ change_from z.config z.stored x v ∷ []
-      → u ≡ set_at rows book z stored changes → IsWrite z u (attribute_comes a x v) (Ok tt)
-  attribute-set u rows book stored changes a has sound ok values are is = by-outcome z u (attribute_comes a x v) (λ m past. did (put a x v)) (Ok tt)
+      → u ≡ set_at rows z stored changes → IsWrite z u (attribute_comes a x v) (Ok tt)
+  attribute-set u rows stored changes a booked has sound ok values are is = by-outcome z u (attribute_comes a x v) (λ m past. did (put a x v)) (Ok tt)
       (λ c n t past here. comes a c n t past here ∙ ap (comes_by a x v edited) (sym ok)) (λ c n t past here. (
         refl,
         let same = here.is_config in
             let set = subst (λ l. (y : ℕ) → attribute l y ≡ last_set (one_set x v) y (attribute z.stored y)) (sym values) one-set-values in
             let count = ap (λ (l : List Stored). length l) values ∙ length-set z.stored x (with_value v (attribute z.stored x)) in
             let made = subst (AreMade z.config z.stored (one_set x v)) (sym are) one-made in
-            let stands = stands-set rows book z c n t (put a x v) (one_set x v) past stored changes (subst IsServable same served) (subst (λ q. AreHeld q stored) same (one-held stored values sound ok))
+            let stands = stands-set rows z c n t (put a x v) (one_set x v) past stored changes (subst IsServable same served) (subst (λ q. AreServedSets q z.book) same booked) (subst (λ q. AreHeld q stored) same (one-held stored values sound ok))
             (client-sets (configured_model c) n t a x v past) (All-cons (IsThere z.stored) (record { attr = record { 0 = x }; value = v }) [] there (All-nil (IsThere z.stored)))
-            (subst (λ q. HaveMembers rows book q z.parts) same has) set count (subst (λ q. AreMade q z.stored (one_set x v) changes) same made) here in
+            (subst (λ q. HaveMembers rows z.book q z.parts) same has) set count (subst (λ q. AreMade q z.stored (one_set x v) changes) same made) here in
             again u c n t (at n t (put a x v)) past (omega arith) (subst (λ w. StandsAt w c n (at n t (put a x v) ∷ past)) (sym is) stands),
       ))
 
@@ -256,9 +254,9 @@ module _ (z : State) (served : IsServable z.config) (held : AreHeld z.config z.s
 pub component-write : (z u : State) (a : AssocNo) (b : ℕ) (comp : Comp) (v : Value) (part : ReportBlock) (code : Result (Unit {0}) ℕ) → slice_get z.parts b ≡ Some part → AreGeneral a b comp v part z
     → code ≡ without_effect (answer_at a comp v part z) → u ≡ written_at a b comp v part z → IsWrite z u (λ m past. write_component m a.0 b comp v past) code
 component-write z u a b comp v part code there general answer is = λ c n t past here.
-    let named = named_by comp v (opened (set_rows z.config)) in
+    let named = named_by comp v z.book in
     let d : Deed = deed_of (write_component (configured_model c) a.0 b comp v (arrival n t ∷ past)) in
-    let wrote = component-wrote z c n t b a comp v named (general_at part z) past part (ap (λ (e : Config). named_by comp v (opened (set_rows e))) here.is_config) there (general c n t past here) here in
+    let wrote = component-wrote z c n t b a comp v named (general_at part z) past part refl there (general c n t past here) here in
     (answer ∙ wrote.0, again u c n t (at n t d) past (omega arith) (subst (λ w. StandsAt w c n (at n t d ∷ past)) (sym is) wrote.1))
 
 -- ---- a node

@@ -42,7 +42,7 @@ use Rattle.brcb_state.specs.Changes.{after_report}
 use Rattle.report_block.specs.Reporting.{report_by}
 use Rattle.bay_config.specs.Servable.{IsServable}
 use Rattle.bay_core.specs.Standing.{StandsAt, StandsFor}
-use Rattle.bay_core.specs.State.{State}
+use Rattle.bay_core.specs.State.{State, AreServedSets}
 use Rattle.bay_core.proofs.MoveLaws.{passed, still, came-of, counts, accepted-as}
 use Rattle.bay_core.proofs.PartLaws.{AreLeft, parts-left}
 use Rattle.bay_core.proofs.ServedLaws.{served-now}
@@ -130,11 +130,11 @@ module _ (s at new : State) (c : Config) (h : History) (t : ℕ) (actor : ActorN
 
   pub given-for : (w : ActorNo) (o : Offered) (shapes : List MemberShape) (part : ReportBlock) (r : Report) → new ≡ record at { steps = suc at.steps; parts = slice_set at.parts o.block (reported_by o.next.id part) }
       → option_map (λ (e : Ends). e.writer) (row_of s.rows a.0).ends ≡ Some w → actor.0 ≡ w.0 → (row_of s.rows a.0).waiting ≡ [] → length at.parts ≡ length c.blocks → first_offered a 0 at.parts ≡ Some o → slice_get at.parts o.block ≡ Some part
-      → shapes ≡ served_members c part.block.options.dat_set → ((ks : List Kept) → AreFew 256 o.entry.kept ks → r ≡ report_by m shapes part o ks) → IsDone (answers.Taken (outputs.Report r))
-  given-for w o shapes part r is writer same empty all first there are is_report =
+      → AreServedSets c at.book → shapes ≡ served_members c at.book part.block.options.dat_set → ((ks : List Kept) → AreFew 256 o.entry.kept ks → r ≡ report_by m shapes part o ks) → IsDone (answers.Taken (outputs.Report r))
+  given-for w o shapes part r is writer same empty all first there booked are is_report =
       let e = writer-told m s.rows past a.0 w st.1.associations number writer in
       let dat_set = ap (λ (p : Parameters). p.dat_set) (here.blocks o.block part there).block.options in
-      let nodes = served-now c served part.block.options.dat_set o.block past shapes are dat_set st.1.sets in
+      let nodes = served-now c at.book booked part.block.options.dat_set o.block past shapes are dat_set here.sets in
       let came = given m a (length h) t past at.parts (count all) here.blocks e.0 o shapes part r first e.1 (nothing-waits m s.rows past a.0 st.1.associations number empty) there nodes is_report in
       let after : State = record at { steps = suc at.steps; parts = slice_set at.parts o.block (reported_by o.next.id part) } in (
         sym (ap (λ (g : Given). g.answer) came),

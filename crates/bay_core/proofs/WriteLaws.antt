@@ -1,5 +1,5 @@
 -- A write of a component: the block that is written, the others, and the bay.
-use Rattle.std.proofs.Common.{rules, ◌≡◌, ◌≢◌, ◌<◌, ℕ, suc, max, Bool, true, false, List, [], ◌∷◌, ◌++◌, append-nil, Option, Some, None, is_some, Result, Ok, Err, refl, ap, ap₂, ◌∙◌, sym, subst, length, arith, inl, inr}
+use Rattle.std.proofs.Common.{rules, ◌≡◌, ◌≢◌, ◌<◌, ℕ, suc, max, Bool, true, false, List, [], ◌∷◌, Option, Some, None, is_some, Result, Ok, Err, refl, ap, ap₂, ◌∙◌, sym, subst, length, arith, inl, inr}
 use Rattle.std.specs.Prelude.{slice_get, slice_set, slice_index_or, ◌==◌, ◌&&◌, ◌||◌, not}
 use Rattle.std.proofs.lemmas.List.{set-get_or}
 use Rattle.std.proofs.lemmas.Option.{get_or_from_slice_get, slice_get-get_or, slice_get_cases}
@@ -20,7 +20,7 @@ use Rattle.bay_model.specs.Points.{Deed, Past, now, wrote}
 use Rattle.bay_model.specs.Singles.{arrival}
 use Rattle.bay_model.specs.Parameters.{is_interrogation, purges}
 use Rattle.bay_model.specs.Breaks.{cuts, is_empty}
-use Rattle.bay_model.specs.Sets.{dynamic, set_referred}
+use Rattle.bay_model.specs.Sets.{sets, set_referred}
 use Rattle.bay_model.specs.BlockWrites.{write_component}
 use Rattle.bay_model.specs.Outcomes.{deed_of, code_of}
 use Rattle.bay_model.specs.Answers.{History, points, answer}
@@ -40,12 +40,13 @@ use Rattle.report_block.specs.Offers.{retained_of}
 use Rattle.report_block.specs.Standing.{Stands as BlockStands, BlocksStand}
 use Rattle.report_block.specs.Writes.{set_after, write_answer, without_effect}
 use Rattle.report_block.proofs.PlainLaws.{left-alone, write-any-stands}
-use Rattle.object_model.specs.Tables.{set_rows}
-use Rattle.data_sets.specs.Books.{Book, number_referred, opened as booked}
+use Rattle.data_sets.specs.Books.{Book, number_referred}
+use Rattle.data_sets.specs.Standing.{IsNamed}
 use Rattle.bay_core.specs.State.{State}
 use Rattle.bay_core.specs.Standing.{StandsAt, StandsFor}
 use Rattle.bay_core.specs.Written.{named_by}
 use Rattle.bay_core.proofs.BookLaws.{known-booked}
+use Rattle.bay_core.proofs.ShapeLaws.{sets_in}
 use Rattle.bay_core.proofs.WatchLaws.{KeepsSet}
 use Rattle.bay_core.proofs.MoveLaws.{came-of, counts, accepted-as}
 
@@ -55,13 +56,37 @@ effect-told [] effect e is = cc
 effect-told ((true, code) ∷ ts) effect e is = cc
 effect-told ((false, code) ∷ ts) effect e is = effect-told ts effect e is
 
+-- and none of its tests is true
+abbrev AreFalse : List (Bool × ℕ) → Type 0
+AreFalse [] = Unit {0}
+AreFalse (t ∷ ts) = (t.0 ≡ false) × AreFalse ts
+
+all-passed : (ts : List (Bool × ℕ)) (effect e : Effect) → first_of ts effect ≡ Ok e → AreFalse ts
+all-passed [] effect e is = tt
+all-passed ((true, code) ∷ ts) effect e is = cc
+all-passed ((false, code) ∷ ts) effect e is = (refl, all-passed ts effect e is)
+
+or-second : (x y : Bool) → (x || y) ≡ false → y ≡ false
+or-second true y is = cc
+or-second false y is = is
+
+empty-is : (t : List ℕ) → is_empty t ≡ true → t ≡ []
+empty-is [] is = refl
+empty-is (o ∷ t) is = cc
+
+known-or-empty : (book : Book) (t : List ℕ) (named : Option ℕ) → named ≡ number_referred t book → (not (is_empty t) && not (is_some named)) ≡ false → IsNamed book t
+known-or-empty book t named is passes = by (is_empty t) (is_some named) refl refl passes where
+  by : (x y : Bool) → is_empty t ≡ x → is_some named ≡ y → (not x && not y) ≡ false → IsNamed book t
+  by true y empty some h = inl (empty-is t empty)
+  by false true empty some h = inr (ap is_some (sym is) ∙ some)
+  by false false empty some h = cc
+
 -- a written DatSet has the number of a set exactly where it names one of the model's
-known-told : (c : Config) (past : Past) (kept : Kept) (comp : Comp) (v : Value) → dynamic past ≡ []
-    → names_nothing kept (is_some (named_by comp v (booked (set_rows c)))) comp v ≡ names_nothing kept (is_known (configured_model c) past v) comp v
-known-told c past kept comps.DatSet (kinds.Text t) none =
-    ap (λ k. not (is_empty t) && not k) (known-booked t (configured_model c).sets ∙ ap (λ all. is_some (set_referred t all)) (sym (append-nil (configured_model c).sets) ∙ ap (λ ds. (configured_model c).sets ++ ds) (sym none)))
-known-told c past kept comps.DatSet _ none = refl
-known-told c past kept _ v none = refl
+known-told : (c : Config) (past : Past) (book : Book) (kept : Kept) (comp : Comp) (v : Value) → sets_in book ≡ sets (configured_model c) past
+    → names_nothing kept (is_some (named_by comp v book)) comp v ≡ names_nothing kept (is_known (configured_model c) past v) comp v
+known-told c past book kept comps.DatSet (kinds.Text t) same = ap (λ k. not (is_empty t) && not k) (known-booked t book ∙ ap (λ all. is_some (set_referred t all)) same)
+known-told c past book kept comps.DatSet _ same = refl
+known-told c past book kept _ v same = refl
 
 answered : (m : Model) (a : AssocNo) (b : ℕ) (comp : Comp) (v : Value) (past : Past) (s : Block) → AttributesStand s m b past
     → outcome_of (wrote a.0 b comp v) (answer_to a comp v (names_nothing (kept_at m b past) (is_known m past v) comp v) s) ≡ write_component m a.0 b comp v past
@@ -146,12 +171,12 @@ answered-code k b comp v (Err code) = refl
 
 -- a write of a component, from the state at its arrival: what it is answered, and what the state then stands for
 pub component-wrote : (z : State) (c : Config) (n t b : ℕ) (a : AssocNo) (comp : Comp) (v : Value) (named : Option ℕ) (all : List Piece) (past : Past) (part : ReportBlock)
-    → named ≡ named_by comp v (booked (set_rows c)) → slice_get z.parts b ≡ Some part → AreAll (configured_model c) n t b a comp v named past all
+    → named ≡ named_by comp v z.book → slice_get z.parts b ≡ Some part → AreAll (configured_model c) n t b a comp v named past all
     → StandsAt z c n (arrival n t ∷ past)
     → (without_effect (write_answer a comp v named part) ≡ code_of (write_component (configured_model c) a.0 b comp v (arrival n t ∷ past)))
     × StandsAt (behind z b (after_writing a comp v named z.latest z.steps all part (write_answer a comp v named part))) c n (at n t (deed_of (write_component (configured_model c) a.0 b comp v (arrival n t ∷ past))) ∷ past)
 component-wrote z c n t b a comp v named all past part is_named there are here =
-    let known = ap (λ k. names_nothing (retained_of part) (is_some k) comp v) is_named ∙ known-told c (arrival n t ∷ past) (retained_of part) comp v here.sets in
+    let known = ap (λ k. names_nothing (retained_of part) (is_some k) comp v) is_named ∙ known-told c (arrival n t ∷ past) z.book (retained_of part) comp v here.sets in
     let told = outcome-told (configured_model c) n t b a comp v named past part known (here.blocks b part there) in
     let after : State = behind z b (after_writing a comp v named z.latest z.steps all part (write_answer a comp v named part)) in (
       sym (ap code_of (sym told) ∙ answered-code a.0 b comp v (write_answer a comp v named part)),
@@ -160,7 +185,7 @@ component-wrote z c n t b a comp v named all past part is_named there are here =
 
 -- a write at the end of a history; the second state is that at its arrival
 pub wrote-for : (s z u : State) (c : Config) (h : History) (t actor : ℕ) (b : BlockNo) (a : AssocNo) (comp : Comp) (v : Value) (named : Option ℕ) (all : List Piece) (part : ReportBlock)
-    → named ≡ named_by comp v (booked (set_rows c)) → slice_get z.parts b.0 ≡ Some part → AreAll (configured_model c) (length h) t b.0 a comp v named (points (configured_model c) h) all
+    → named ≡ named_by comp v z.book → slice_get z.parts b.0 ≡ Some part → AreAll (configured_model c) (length h) t b.0 a comp v named (points (configured_model c) h) all
     → StandsAt z c (length h) (arrival (length h) t ∷ points (configured_model c) h) → StandsFor s c h
     → fault (configured_model c) h (record { moment = t; actor = actor; step = steps.Write a b comp v }) ≡ None
     → u ≡ record (behind z b.0 (after_writing a comp v named z.latest z.steps all part (write_answer a comp v named part))) { steps = suc z.steps }
@@ -199,6 +224,32 @@ module _ (now step : ℕ) (a : AssocNo) (comp : Comp) (v : Value) (named : Optio
   has-set book (Ok e) has is answer = by comp v named is answer where
     by : (comp : Comp) (v : Value) (named : Option ℕ) → named ≡ named_by comp v book → write_answer a comp v named part ≡ Ok e → set_after comp named part.set ≡ number_referred (written a comp v part.ring.front part.block).options.dat_set book
     by comps.DatSet (kinds.Text t) named is answer = is
+    by comps.DatSet _ named is answer = cc
+    by comps.RptEna (kinds.Bool on) named is answer = has
+    by comps.RptEna _ named is answer = has
+    by comps.EntryID (kinds.Octets o) named is answer = has
+    by comps.EntryID _ named is answer = has
+    by comps.RptID (kinds.Text t) named is answer = has
+    by comps.RptID _ named is answer = has
+    by comps.OptFlds (kinds.Bits t) named is answer = has
+    by comps.OptFlds _ named is answer = has
+    by comps.BufTm (kinds.Uint n) named is answer = has
+    by comps.BufTm _ named is answer = has
+    by comps.TrgOps (kinds.Bits t) named is answer = has
+    by comps.TrgOps _ named is answer = has
+    by comps.IntgPd (kinds.Uint n) named is answer = has
+    by comps.IntgPd _ named is answer = has
+    by _ v named is answer = has
+
+  -- which is empty or names a set
+  pub has-named : (book : Book) (r : Result Effect ℕ) → IsNamed book part.block.options.dat_set → named ≡ named_by comp v book → write_answer a comp v named part ≡ r
+      → IsNamed book (after_writing a comp v named now step all part r).block.options.dat_set
+  has-named book (Err code) has is answer = has
+  has-named book (Ok e) has is answer = by comp v named is answer where
+    by : (comp : Comp) (v : Value) (named : Option ℕ) → named ≡ named_by comp v book → write_answer a comp v named part ≡ Ok e → IsNamed book (written a comp v part.ring.front part.block).options.dat_set
+    by comps.DatSet (kinds.Text t) named is answer =
+        let passed = all-passed (refusals a comps.DatSet (kinds.Text t) (names_nothing (retained_of part) (is_some named) comps.DatSet (kinds.Text t)) part.block) (effect_of comps.DatSet (kinds.Text t) part.block) e answer in
+        known-or-empty book t named is (or-second _ _ passed.1.1.1.1.0)
     by comps.DatSet _ named is answer = cc
     by comps.RptEna (kinds.Bool on) named is answer = has
     by comps.RptEna _ named is answer = has

@@ -10,6 +10,7 @@ use Rattle.bay_rooms.specs.Rooms.{Filled}
 use Rattle.bay_model.specs.declared.components.Comp.{Comp}
 use Rattle.object_model.specs.Nodes.{node_rows}
 use Rattle.data_sets.specs.Books.{Book, number_referred}
+use Rattle.data_sets.specs.Standing.{IsNamed}
 use Rattle.brcb_state.specs.Components.{trg_of}
 use Rattle.value_store.specs.Stored.{Stored}
 use Rattle.touch_index.specs.Indexed.{AreAmong}
@@ -25,7 +26,7 @@ use Rattle.bay_core.proofs.BookLaws.{part-lent}
 use Rattle.bay_core.proofs.FirstState.{watchable}
 use Rattle.bay_core.proofs.FurnishLaws.{furnished-set}
 use Rattle.bay_core.proofs.WatchLaws.{KeepsSet, room-for, watching-written}
-use Rattle.bay_core.proofs.WriteLaws.{keeps-set, has-set, windows-stay}
+use Rattle.bay_core.proofs.WriteLaws.{keeps-set, has-named, has-set, windows-stay}
 
 -- what is known where the part of a place was written to be another
 pub record IsWrittenAt (c : Config) (stored : List Stored) (book : Book) (parts : List ReportBlock) (w : Watch) (octets : Filled ℕ) (most : ℕ) (b : ℕ) (comp : Comp) (new : ReportBlock) : Type 0 where
@@ -40,6 +41,10 @@ module _ (c : Config) (stored : List Stored) (book : Book) (parts : List ReportB
   has : new.set ≡ number_referred new.block.options.dat_set book
   has = subst (λ (q : ReportBlock). q.set ≡ number_referred q.block.options.dat_set book) (sym written) (has-set now step a comp v named all part book (write_answer a comp v named part) (old.sets b part there) is_named refl)
 
+  -- which is empty or names one
+  named-then : IsNamed book new.block.options.dat_set
+  named-then = subst (λ (q : ReportBlock). IsNamed book q.block.options.dat_set) (sym written) (has-named now step a comp v named all part book (write_answer a comp v named part) (old.dat_sets b part there) is_named refl)
+
   within : b < length parts
   within = slice_get_within parts b part there
 
@@ -51,8 +56,8 @@ module _ (c : Config) (stored : List Stored) (book : Book) (parts : List ReportB
 
   pub written-at : IsWrittenAt c stored book parts w octets most b comp new
   written-at =
-      let lent = part-lent c old.servable book new old.booked has in
-      let fits = watchable c (length stored) book new old.servable old.booked has old.values.count in
+      let lent = part-lent c book old.booked.served new has in
+      let fits = watchable c (length stored) book new old.booked.served has old.values.count in
       let indexed : b < length w.index.blocks = omega (arith, within, old.watch.index.count) in
       record {
         follows = record {
@@ -64,5 +69,5 @@ module _ (c : Config) (stored : List Stored) (book : Book) (parts : List ReportB
           among = subst (λ n. AreAmong n (members_in (node_rows c) book new)) (sym old.watch.index.attrs) fits.among;
         };
         furnished = λ u index notes options.
-            furnished-set c stored book parts w octets most old b part new u there has rooms (watching-written (node_rows c) book (length stored) parts w u b comp part new there keeps index notes options old.watch);
+            furnished-set c stored book parts w octets most old b part new u there has named-then rooms (watching-written (node_rows c) book (length stored) parts w u b comp part new there keeps index notes options old.watch);
       }

@@ -1,10 +1,10 @@
 -- What a request makes of a bay: its reply, and the bay behind its single reads and writes, at the arrival of the reply's point
 -- (ISO 9506-2, the confirmed services).
-use Rattle.std.specs.Prelude.{◌≡◌, ℕ, List, ◌∷◌, ◌<◌, length, Bool, true, false, Option, Result, map, if◌then◌else◌}
+use Rattle.std.specs.Prelude.{◌≡◌, ℕ, List, [], ◌∷◌, ◌<◌, length, Bool, true, false, Option, Result, map, if◌then◌else◌}
 use Rattle.sv_base.specs.declared.config.Config.{Config}
+use Rattle.bay_model.specs.declared.answer.Output.{Output}
 use Rattle.bay_model.specs.declared.reply.Reply.{Reply}
 use Rattle.bay_model.specs.declared.request.Service.{Service}
-use Rattle.bay_model.specs.declared.request.Service.TheVariants as services
 use Rattle.bay_model.specs.declared.request.Target.{Target}
 use Rattle.bay_model.specs.declared.request.Target.TheVariants as targets
 use Rattle.bay_model.specs.declared.request.Write.{Write}
@@ -16,15 +16,16 @@ use Rattle.sv_base.specs.declared.numbers.NodeId.{NodeId}
 use Rattle.sv_base.specs.declared.value.Value.{Value}
 use Rattle.object_model.specs.Fits.{is_sound}
 use Rattle.bay_model.specs.Model as model
-use Rattle.bay_model.specs.Model.{Model, Access, DataSet}
+use Rattle.bay_model.specs.Model.{Model, Access}
 use Rattle.bay_model.specs.Named.{configured_model, nodes as nodes_of}
 use Rattle.bay_model.specs.Outcomes.{Outcome, code_of, deed_of}
-use Rattle.bay_model.specs.Points.{Past}
-use Rattle.bay_model.specs.Services.{reply, singles_of}
+use Rattle.bay_model.specs.Points.{Past, answered}
+use Rattle.bay_model.specs.Services.{reply, singles_of, set_name, change_of}
 use Rattle.bay_model.specs.Singles.{Single, arrival, outcomes, after_singles}
-use Rattle.bay_model.specs.Sets.{set_named}
 use Rattle.bay_model.specs.Sizes.{size_of}
-use Rattle.object_model.specs.Tables.{node_id}
+use Rattle.assoc_table.specs.declared.waiting.Waiting.TheVariants as waits
+use Rattle.assoc_table.specs.Tables.{extended}
+use Rattle.data_sets.specs.Books.{Book, number_named, set_at}
 use Rattle.value_store.specs.declared.fault.SetFault.{SetFault}
 use Rattle.value_store.specs.declared.fault.SetFault.TheVariants as faults
 use Rattle.window_core.specs.Points.{at}
@@ -40,6 +41,17 @@ IsReplyAt s moment a service r = (c : Config) (n : ℕ) (past : Past) → Stands
 abbrev pub IsAnswered : State → State → ℕ → ℕ → Service → Reply → Type 0
 IsAnswered old new moment a service r = IsReplyAt old moment a service r
     × ((c : Config) (n : ℕ) (past : Past) → StandsAt old c n past → StandsAt new c n (arrival n moment ∷ after_singles (configured_model c) a n moment (singles_of (configured_model c) past service) past))
+
+-- the reply was put behind what waits for a
+abbrev pub replied : State → ℕ → Output → State
+replied s a output = record s { rows = extended s.rows a (waits.Reply output ∷ []) }
+
+-- And behind the reply, once it is put for a, the new state stands for the points of the request, the last of which says what came of
+-- the data sets.
+abbrev pub IsReplied : State → State → ℕ → ℕ → Service → Reply → Type 0
+IsReplied old new moment a service r = IsReplyAt old moment a service r
+    × ((c : Config) (n : ℕ) (past : Past) (output : Output) → StandsAt old c n past
+    → StandsAt (replied new a output) c n (at n moment (answered a output (change_of (configured_model c) past service)) ∷ after_singles (configured_model c) a n moment (singles_of (configured_model c) past service) past))
 
 -- no step is counted yet, and what waits for the associations stays
 pub record IsKept (old new : State) : Type 0 where
@@ -77,24 +89,18 @@ IsFit c _ v = Unit {0}
 abbrev pub AreFit : Config → List Write → Type 0
 AreFit c ws = All (λ (w : Write). IsFit c w.target w.value) ws
 
--- the services that are answered: all but those that define and delete data sets
-abbrev pub IsAnswerable : Service → Type 0
-IsAnswerable (services.Define domain item members) = ⊥
-IsAnswerable (services.Delete scope names) = ⊥
-IsAnswerable _ = Unit {0}
-
 -- writes of a's request at this moment, after all points that the old state stands for: their codes, and the new state stands for
 -- their points and the arrival of one more
 abbrev pub AreWritten : State → State → ℕ → ℕ → List Single → List (Result (Unit {0}) ℕ) → Type 0
 AreWritten old new moment a ss codes = (c : Config) (n : ℕ) (past : Past) → StandsAt old c n past
     → (codes ≡ map code_of (outcomes (configured_model c) a n moment ss past)) × StandsAt new c n (arrival n moment ∷ after_singles (configured_model c) a n moment ss past)
 
--- the members of the configured data set of a name
+-- the members of the data set of a name
 abbrev pub members_of : Option (Vec NodeId Global) → Option (List NodeId)
 members_of found = option_map (λ (v : Vec NodeId Global). v.items) found
 
-abbrev pub set_members : Config → List ℕ → List ℕ → Option (List NodeId)
-set_members c domain item = option_map (λ (s : DataSet). map node_id s.nodes) (set_named (record { domain = domain; item = item }) (configured_model c).sets)
+abbrev pub set_members : Book → List ℕ → List ℕ → Option (List NodeId)
+set_members book domain item = option_map (λ k. (set_at book k).nodes) (number_named (set_name domain item) book)
 
 abbrev pub node_numbers : List NodeId → List ℕ
 node_numbers ns = map (λ (n : NodeId). n.0) ns

@@ -20,5 +20,6 @@ pub mod Put
 pub mod Queued
 -- requests
 pub mod Asked
+pub mod Deleted
 -- losses
 pub mod Parting

@@ -1,9 +1,9 @@
--- How a bay begins: each report block as it is configured, with an empty buffer and the number of the data set that its DatSet
--- names (IEC 61850-7-2, BRCB attribute DatSet).
+-- How a bay begins: each report block as it is configured, with an empty buffer, room for the members of any data set, and the number of
+-- the one that its DatSet names (IEC 61850-7-2, BRCB attribute DatSet).
 use Rattle.std.specs.Prelude.{ℕ, Option, None}
 use Rattle.sv_base.specs.declared.config.BlockDef.{BlockDef}
 use Rattle.bay_model.specs.Configured.{block_defined}
-use Rattle.data_sets.specs.Books.{Book, largest, number_referred}
+use Rattle.data_sets.specs.Books.{Book, number_referred}
 use Rattle.brcb_state.specs.Changes.{configured}
 use Rattle.brcb_state.specs.declared.block.Block.{Block}
 use Rattle.entry_ring.specs.Ringed.{Ringed}
@@ -26,7 +26,7 @@ abbrev pub part_defined : Book → BlockDef → PartSeen
 part_defined book def = record {
   block = configured (block_defined def);
   ring = empty def.capacity;
-  window = empty_window (largest book) def.buf_tm;
+  window = empty_window 256 def.buf_tm;
   origin = None;
   set = number_referred def.dat_set book;
 }

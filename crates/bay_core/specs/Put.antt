@@ -9,8 +9,6 @@ use Rattle.bay_model.specs.Notes.{all_members, no_reason}
 use Rattle.bay_model.specs.Points.{Past, wrote}
 use Rattle.bay_model.specs.Singles.{arrival}
 use Rattle.object_model.specs.Nodes.{node_rows}
-use Rattle.object_model.specs.Tables.{set_rows}
-use Rattle.data_sets.specs.Books.{opened}
 use Rattle.brcb_state.specs.declared.told.Effect.{Effect}
 use Rattle.report_block.specs.declared.block.ReportBlock.{ReportBlock}
 use Rattle.report_block.specs.Alls.{all_pieces, for_general}
@@ -26,11 +24,11 @@ use Rattle.bay_core.specs.Written.{named_by}
 
 -- what the block answers
 abbrev pub answer_at : AssocNo → Comp → Value → ReportBlock → State → Result Effect ℕ
-answer_at a comp v part s = write_answer a comp v (named_by comp v (opened (set_rows s.config))) part
+answer_at a comp v part s = write_answer a comp v (named_by comp v s.book) part
 
 -- all members of the block's data set with their values, as a general interrogation takes them
 abbrev pub general_at : ReportBlock → State → List Piece
-general_at part s = all_pieces s.stored (members_in (node_rows s.config) (opened (set_rows s.config)) part) for_general
+general_at part s = all_pieces s.stored (members_in (node_rows s.config) s.book part) for_general
 
 -- they are those of the model, for block b and a write, after all points that the state stands for
 abbrev pub AreGeneral : AssocNo → ℕ → Comp → Value → ReportBlock → State → Type 0
@@ -40,5 +38,5 @@ AreGeneral a b comp v part s = (c : Config) (n t : ℕ) (past : Past) → Stands
 -- the state then; part is the block of number b
 abbrev pub written_at : AssocNo → ℕ → Comp → Value → ReportBlock → State → State
 written_at a b comp v part s = record s {
-  parts = slice_set s.parts b (after_writing a comp v (named_by comp v (opened (set_rows s.config))) s.latest s.steps (general_at part s) part (answer_at a comp v part s));
+  parts = slice_set s.parts b (after_writing a comp v (named_by comp v s.book) s.latest s.steps (general_at part s) part (answer_at a comp v part s));
 }

@@ -2,8 +2,7 @@
 use Rattle.std.specs.Prelude.{◌≡◌, ℕ, max, List, map, Option, Some, length, slice_get}
 use Rattle.bay_model.specs.declared.tables.NodeRow.{NodeRow}
 use Rattle.object_model.specs.Nodes.{node_rows}
-use Rattle.object_model.specs.Tables.{set_rows}
-use Rattle.data_sets.specs.Books.{Book, opened}
+use Rattle.data_sets.specs.Books.{Book}
 use Rattle.value_store.specs.Stored.{Stored}
 use Rattle.report_block.specs.declared.block.ReportBlock.{ReportBlock}
 use Rattle.report_block.specs.Alls.{all_pieces, for_integrity}
@@ -32,5 +31,5 @@ pub record AreQuietUntil (at : ℕ) (dues : List (Option ℕ)) (parts : List Rep
 abbrev pub at_arrival : ℕ → State → State
 at_arrival t s = record s {
   latest = max s.latest t;
-  parts = arrived_all (node_rows s.config) (opened (set_rows s.config)) s.stored s.latest (max s.latest t) s.steps s.parts;
+  parts = arrived_all (node_rows s.config) s.book s.stored s.latest (max s.latest t) s.steps s.parts;
 }

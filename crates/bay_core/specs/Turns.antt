@@ -7,7 +7,6 @@ use Rattle.bay_model.specs.declared.step.Step.TheVariants as steps
 use Rattle.bay_model.specs.Named.{configured_model}
 use Rattle.bay_model.specs.Answers.{Turn, History, answer}
 use Rattle.bay_model.specs.Acceptance.{Fault, IsOpen, NotOpen, NotYours, QueueFull, fault}
-use Rattle.bay_core.specs.Asked.{IsAnswerable}
 use Rattle.bay_core.specs.declared.fault.StepFault.{StepFault}
 use Rattle.bay_core.specs.declared.fault.StepFault.TheVariants as faults
 use Rattle.bay_core.specs.State.{State}
@@ -15,7 +14,6 @@ use Rattle.bay_core.specs.Standing.{StandsFor}
 
 -- the steps that a bay takes
 abbrev pub IsBuilt : Step → Type 0
-IsBuilt (steps.Ask a r) = IsAnswerable r.service
 IsBuilt (steps.Done k good) = ⊥
 IsBuilt (steps.Block k flag) = ⊥
 IsBuilt _ = Unit {0}

@@ -47,6 +47,13 @@ pub record IsIndexed (rows : List NodeRow) (book : Book) (n : ℕ) (parts : List
   pub touches : (b : ℕ) (part : ReportBlock) → slice_get parts b ≡ Some part → IsSetOf x.blocks b (members_in rows book part)
   pub roomy : (b k : ℕ) → b < length x.blocks → k < length book.sets → pairs (members_at rows book k) ≤ (block_at x.blocks b).room
 
+-- the index has what it had, in as much room at least
+pub record IsRoomier (old new : Indexed) : Type 0 where
+  pub attrs : new.attrs ≡ old.attrs
+  pub count : length new.blocks ≡ length old.blocks
+  pub items : (b : ℕ) → (block_at new.blocks b).items ≡ (block_at old.blocks b).items
+  pub rooms : (b : ℕ) → (block_at old.blocks b).room ≤ (block_at new.blocks b).room
+
 -- the trigger options of each block
 abbrev pub options_in : List ReportBlock → List Trg
 options_in parts = map (λ (p : ReportBlock). trg_of p.block.options.trg_ops) parts

@@ -4,10 +4,9 @@
 ghost use Rattle.std.specs.Prelude.{◌≡◌, []};
 
 use crate::bay::Bay;
+use crate::defining::set_name;
 use crate::fault::StepFault;
-use bay_model::{
-    Acts, Answer, ApplErrors, Codes, Output, Reply, Request, Service, SetName, Writes,
-};
+use bay_model::{Acts, Answer, ApplErrors, Codes, Output, Reply, Request, Service, Writes};
 use bay_replies::Replies;
 use std::alloc::{AllocError, Global};
 use sv_base::{ActorNo, AssocNo, Moment, NodeId, Octs, Value, Values};
@@ -30,7 +29,7 @@ impl Bay {
     ghost use Rattle.bay_replies.specs.Asking.{IsReading, IsFitting};
     ghost use Rattle.bay_model.specs.declared.request.Service.TheVariants as services;
     ghost use Rattle.bay_model.specs.Singles.{writes_of};
-    ghost use Rattle.bay_core.specs.Asked.{AreMembersFit, AreWritten, IsAnswerable, IsAnswered, IsReplyAt, IsKept, members_of, node_numbers, set_members};
+    ghost use Rattle.bay_core.specs.Asked.{AreMembersFit, AreWritten, IsAnswered, IsReplied, IsReplyAt, IsKept, members_of, node_numbers, set_members};
     ghost use Rattle.bay_core.specs.Turns.{Does, IsCounted};
 
     /// The reply to a request that writes nothing, as of the arrival of a step at a moment.
@@ -104,12 +103,9 @@ impl Bay {
         domain: &Octs,
         item: &Octs,
     ) -> Result<Option<Vec<NodeId>>, AllocError>
-        ensures { IfOk result (λ found. members_of found ≡ set_members self.now.config domain.now item.now) }
+        ensures { IfOk result (λ found. members_of found ≡ set_members self.now.book domain.now item.now) }
     {
-        let name = SetName {
-            domain: domain.copy(alloc)?,
-            item: item.copy(alloc)?,
-        };
+        let name = set_name(alloc, domain, item)?;
         match self.sets.number_named(&name) {
             Some(number) => Ok(Some(Vec::from_slice(alloc, self.sets.nodes(number))?)),
             None => Ok(None),
@@ -152,8 +148,7 @@ impl Bay {
         ensures kept { OnOk result (IsKept self.old self.new) }
         ensures refused { OnErr result (self.new ≡ self.old) }
     {
-        // the members of its data sets are nodes that are there
-        let _model = self.model();
+        let _ = &self.sets;
         let Some(nodes) = self.members_named(alloc, domain, item)? else {
             self.arrive(moment);
             return Ok(Reply::Error { class: 7, code: 2 });
@@ -166,7 +161,7 @@ impl Bay {
         Ok(Reply::Wrote(Codes::from_vec(codes)))
     }
 
-    /// Answers a request, at its arrival.
+    /// Answers a request, at its arrival. What a request makes of the data sets belongs to the point of its reply.
     fn answer(
         &mut self,
         alloc: Global,
@@ -176,11 +171,11 @@ impl Bay {
     ) -> Result<Reply, AllocError>
         requires number { IsNumber a.0 }
         requires fits { IsFitting self.old.config service.now }
-        requires answerable { IsAnswerable service.now }
-        ensures answered { IfOk result (λ r. IsAnswered self.old self.new moment a.0 service.now r) }
+        ensures answered { IfOk result (λ r. IsReplied self.old self.new moment a.0 service.now r) }
         ensures kept { OnOk result (IsKept self.old self.new) }
         ensures refused { OnErr result (self.new ≡ self.old) }
     {
+        let _ = &self.model;
         match service {
             Service::WriteVars(writes) => self.answer_writes(alloc, moment, a, writes),
             Service::WriteSet {
@@ -188,6 +183,12 @@ impl Bay {
                 item,
                 values,
             } => self.answer_set(alloc, moment, a, domain, item, values),
+            Service::Define {
+                domain,
+                item,
+                members,
+            } => self.answer_definition(alloc, moment, a, domain, item, members),
+            Service::Delete { scope, names } => self.answer_deletion(moment, a, *scope, names),
             _ => self.answer_read(alloc, moment, a, service),
         }
     }
@@ -217,7 +218,6 @@ impl Bay {
     ) -> Result<Answer, StepFault>
         requires number { IsNumber a.0 }
         requires fits { fits_in self.old.config (steps.Ask a request.now) ≡ true }
-        requires answerable { IsAnswerable request.now.service }
         requires few { self.old.steps < 2 ^ 62 }
         ensures does { Does self.old self.new (record { moment = moment; actor = actor.0; step = steps.Ask a request.now }) result }
         ensures counted { IsCounted self.old self.new result }

@@ -47,7 +47,7 @@ impl std::marker::Model for Bay {
 
     ghost coded = { Prim.hlevel (codes, row_code, fields_code) };
 
-    ghost view = { λ b. record { config = b.model; steps = b.steps; latest = b.latest; stored = b.values; parts = b.parts.items; rows = b.associations } };
+    ghost view = { λ b. record { config = b.model; steps = b.steps; latest = b.latest; stored = b.values; book = b.sets; parts = b.parts.items; rows = b.associations } };
 
     ghost invariant = { λ b. IsWhole b.model b.values b.sets b.parts.items b.watch b.octets (vec_capacity b.changes) b.latest b.dues b.events };
 }

@@ -6,6 +6,7 @@ mod bay;
 mod dues;
 mod opening;
 mod queues;
+mod set_names;
 mod source;
 mod values;
 mod watch;
@@ -13,6 +14,8 @@ mod watch;
 // its steps, and why one is refused
 mod asking;
 mod associations;
+mod defining;
+mod deleting;
 mod fault;
 mod laws;
 mod setting;

@@ -1,9 +1,9 @@
 //! A bay is opened.
 
-ghost use Rattle.std.specs.Prelude.{◌≡◌, [], ◌≤◌, IfOk, Some, length, map, replicate, vec_capacity};
+ghost use Rattle.std.specs.Prelude.{◌≡◌, ◌≤◌, [], IfOk, Some, length, map, replicate, vec_capacity};
 ghost use Rattle.object_model.specs.Nodes.{node_rows};
 ghost use Rattle.object_model.specs.Tables.{set_rows};
-ghost use Rattle.data_sets.specs.Books.{largest, opened as booked};
+ghost use Rattle.data_sets.specs.Books.{opened as booked};
 ghost use Rattle.assoc_table.specs.Seats.{closed};
 ghost use Rattle.value_store.specs.Opened.{opened};
 ghost use Rattle.report_block.specs.Events.{HasRoom};
@@ -15,6 +15,7 @@ ghost use Rattle.bay_core.specs.Opened.{seen, part_defined};
 use crate::bay::Bay;
 use crate::dues::Dues;
 use crate::queues::Queues;
+use crate::taking::MOST_MEMBERS;
 use crate::values::Values;
 use crate::watch::Watch;
 use bay_model::{Change, Fixed};
@@ -24,32 +25,23 @@ use report_block::{EventRoom, ReportBlock};
 use std::alloc::{AllocError, Global};
 use sv_base::{BlockDef, Moment};
 
-/// A block with an empty buffer.
-fn part_of(
-    alloc: Global,
-    book: &SetBook,
-    most: u32,
-    def: &BlockDef,
-) -> Result<ReportBlock, AllocError>
-    requires most { most ≡ largest book.now }
-    requires few { most ≤ 256 }
-    requires served { IsServedBlock def.now }
+/// A block with an empty buffer, and room for the members of any data set, of those too that clients may define.
+fn part_of(alloc: Global, book: &SetBook, def: &BlockDef) -> Result<ReportBlock, AllocError>
+    requires { IsServedBlock def.now }
     ensures { IfOk result (λ p. seen p ≡ part_defined book.now def.now) }
 {
     let set = book.number_referred(def.dat_set.as_slice());
-    ReportBlock::open(alloc, def, set, most)
+    ReportBlock::open(alloc, def, set, MOST_MEMBERS)
 }
 
 /// The blocks in the order of the configuration.
 fn parts_of(alloc: Global, model: &Model, book: &SetBook) -> Result<Vec<ReportBlock>, AllocError>
-    requires servable { IsServable model.now }
-    requires few { largest book.now ≤ 256 }
+    requires { IsServable model.now }
     ensures { IfOk result (λ v. map seen v.items ≡ map (part_defined book.now) model.now.blocks) }
 {
-    let most = book.largest() as u32;
     let mut parts = Vec::new(alloc);
     for def in model.config().blocks.as_slice() {
-        parts.push(part_of(alloc, book, most, def)?)?;
+        parts.push(part_of(alloc, book, def)?)?;
     }
     Ok(parts)
 }

@@ -9,7 +9,7 @@ use std::alloc::{AllocError, Global};
 use sv_base::{ActorNo, AssocNo, Moment};
 
 /// How many members a data set, and so a report, has at most.
-const MOST_MEMBERS: u32 = 256;
+pub(crate) const MOST_MEMBERS: u32 = 256;
 
 impl Bay {
     ghost use Rattle.std.specs.Prelude.{◌≡◌, ◌<◌, ◌^◌, [], suc, Some, max, IfOk};

@@ -3,7 +3,8 @@
 ghost use Rattle.std.specs.Prelude.{◌≡◌, ◌≤◌, ◌<◌, ◌^◌, ℕ, OnOk, IfOk, length};
 ghost use Rattle.std.specs.List.{All};
 ghost use Rattle.touch_index.specs.Indexed.{pairs, with_members, with_room, AreAmong};
-ghost use Rattle.bay_core.specs.Watched.{AreLent, IsWatchable, IsIndexed, IsWatching, members_at, options_in};
+ghost use Rattle.touch_index.specs.Indexed.{block_at};
+ghost use Rattle.bay_core.specs.Watched.{AreLent, IsRoomier, IsWatchable, IsIndexed, IsWatching, members_at, options_in};
 
 use crate::source::set_of;
 use bay_model::{Comp, NodeRow, Trg};
@@ -12,7 +13,7 @@ use object_model::Model;
 use report_block::ReportBlock;
 use set_view::SetView;
 use std::alloc::{AllocError, Global};
-use sv_base::BlockNo;
+use sv_base::{BlockNo, NodeId};
 use touch_index::{Index, Notes};
 
 /// The index of the members of all data sets, the trigger options of each block, and room for the notes of a point.
@@ -89,6 +90,18 @@ fn index_of(
     Ok(index)
 }
 
+/// Makes room for so many pairs in the index of every block.
+fn reserve_all(index: &mut Index, blocks: u32, pairs: u32) -> Result<(), AllocError>
+    requires { blocks ≡ length index.old.blocks }
+    ensures grown { IsRoomier index.old index.new }
+    ensures made { OnOk result ((b : ℕ) → b < length index.old.blocks → pairs ≤ (block_at index.new.blocks b).room) }
+{
+    for b in 0..blocks {
+        index.reserve(BlockNo(b), pairs)?;
+    }
+    Ok(())
+}
+
 /// The trigger options of all blocks.
 fn options_of(alloc: Global, parts: &[ReportBlock]) -> Result<Vec<Trg>, AllocError>
     ensures { IfOk result (λ v. v.items ≡ options_in parts.now) }
@@ -101,12 +114,14 @@ fn options_of(alloc: Global, parts: &[ReportBlock]) -> Result<Vec<Trg>, AllocErr
 }
 
 impl Watch {
-    ghost use Rattle.std.specs.Prelude.{◌≡◌, ◌<◌, ◌^◌, IfOk, length, slice_set};
+    ghost use Rattle.std.specs.Prelude.{◌≡◌, ◌≤◌, ◌<◌, ◌^◌, ℕ, IfOk, OnOk, length, slice_set};
+    ghost use Rattle.set_view.specs.Shapes.{AreThere, shapes_of};
+    ghost use Rattle.touch_index.specs.Indexed.{block_at, pairs};
     ghost use Rattle.object_model.specs.Nodes.{node_rows};
     ghost use Rattle.brcb_state.specs.Components.{trg_of};
     ghost use Rattle.bay_core.specs.Written.{index_after};
     ghost use Rattle.std.specs.List.{All};
-    ghost use Rattle.bay_core.specs.Watched.{AreLent, IsFollowed, IsWatching, IsWatchable, members_in};
+    ghost use Rattle.bay_core.specs.Watched.{AreLent, IsFollowed, IsRoomier, IsWatching, IsWatchable, members_in};
 
     /// The data sets of all blocks by their attributes. It takes the room that notes need.
     pub(crate) fn open(
@@ -126,6 +141,21 @@ impl Watch {
             options: options_of(alloc, parts)?,
             notes: Notes::new(alloc, parts.len() as u32, 256)?,
         })
+    }
+
+    /// Makes room for a data set of these members in the index of every block.
+    pub(crate) fn reserve(&mut self, nodes: &[NodeId], rows: &[NodeRow]) -> Result<(), AllocError>
+        requires there { AreThere (length rows.now) nodes.now }
+        requires count { length self.old.options.items ≡ length self.old.index.blocks }
+        ensures grown { IsRoomier self.old.index self.new.index }
+        ensures kept { self.new ≡ record self.old { index = self.new.index } }
+        ensures made { OnOk result ((b : ℕ) → b < length self.old.index.blocks → pairs (shapes_of rows.now nodes.now) ≤ (block_at self.new.index.blocks b).room) }
+    {
+        let pairs = pairs_of(&SetView::new(nodes, rows))?;
+        let Ok(blocks) = u32::try_from(self.options.len()) else {
+            return Err(AllocError);
+        };
+        reserve_all(&mut self.index, blocks, pairs)
     }
 
     /// A component of a block was written, which is this by now: if it was DatSet the index has the members of its data set, and

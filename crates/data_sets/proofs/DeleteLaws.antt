@@ -35,9 +35,12 @@ some_mapped : {A : Type 0} {B : Type 0} (f : A → B) (o : Option A) → is_some
 some_mapped f None = refl
 some_mapped f (Some x) = refl
 
-pub some_named : (b : Book) (n : ℕ) (all : List DataSet) (used : List (List ℕ)) (name : SetName) → StandsFor b n all used → is_some (set_named name all) ≡ is_some (number_named name b)
-some_named b n all used name h = ap is_some (sym (found (λ s. is_name name s.name) (is_named name) (λ s. refl) b.sets ∙ ap (find (is_named name)) h.sets))
+pub some_there : (b : Book) (all : List DataSet) (name : SetName) → map data_set b.sets ≡ all → is_some (set_named name all) ≡ is_some (number_named name b)
+some_there b all name same = ap is_some (sym (found (λ s. is_name name s.name) (is_named name) (λ s. refl) b.sets ∙ ap (find (is_named name)) same))
     ∙ some_mapped (λ k. data_set (set_at b k)) (number_named name b)
+
+pub some_named : (b : Book) (n : ℕ) (all : List DataSet) (used : List (List ℕ)) (name : SetName) → StandsFor b n all used → is_some (set_named name all) ≡ is_some (number_named name b)
+some_named b n all used name h = some_there b all name h.sets
 
 members_same : (c : Model) (rows : List NodeRow) (ts : List Target) → AreRows c rows → list_all (may_be c) ts ≡ list_all (is_member rows) ts
 members_same c rows [] are = refl
@@ -60,16 +63,21 @@ chains false true t = refl
 chains false false true = refl
 chains false false false = refl
 
-pub errors : (b : Book) (c : Model) (past : Past) (rows : List NodeRow) (name : SetName) (ts : List Target) → Stands b c past → AreRows c rows
+-- it is asked of the book that its sets are those of the history
+pub errors_told : (b : Book) (c : Model) (past : Past) (rows : List NodeRow) (name : SetName) (ts : List Target) → map data_set b.sets ≡ sets c past → b.configured ≡ length c.sets → AreRows c rows
     → definition_error c past name ts ≡ option_map error_of (define_fault b name (is_set_name c name) rows ts)
-errors b c past rows name ts h are =
-    let count : length (dynamic past) ≡ length b.sets - b.configured = omega (arith, ap length h.sets, length-map b.sets data_set, length-append c.sets (dynamic past), h.count) in
+errors_told b c past rows name ts same configured are =
+    let count : length (dynamic past) ≡ length b.sets - b.configured = omega (arith, ap length same, length-map b.sets data_set, length-append c.sets (dynamic past), configured) in
     let r : Bool → Bool = λ x. not (is_set_name c name) || is_empty ts || not x in
     let t : ℕ → Bool = λ x. nat_lt 256 (length ts) || nat_le 64 x in
-    ap (λ p. error_chain p (r (list_all (may_be c) ts)) (t (length (dynamic past)))) (some_named b (length c.sets) (sets c past) (dat_sets c past) name h)
+    ap (λ p. error_chain p (r (list_all (may_be c) ts)) (t (length (dynamic past)))) (some_there b (sets c past) name same)
     ∙ (ap (λ x. error_chain (is_some (number_named name b)) (r x) (t (length (dynamic past)))) (members_same c rows ts are)
     ∙ (ap (λ x. error_chain (is_some (number_named name b)) (r (list_all (is_member rows) ts)) (t x)) count
     ∙ chains (is_some (number_named name b)) (r (list_all (is_member rows) ts)) (t (length b.sets - b.configured))))
+
+pub errors : (b : Book) (c : Model) (past : Past) (rows : List NodeRow) (name : SetName) (ts : List Target) → Stands b c past → AreRows c rows
+    → definition_error c past name ts ≡ option_map error_of (define_fault b name (is_set_name c name) rows ts)
+errors b c past rows name ts h are = errors_told b c past rows name ts h.sets h.count are
 
 -- ---- deletions in turn
 

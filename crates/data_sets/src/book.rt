@@ -93,7 +93,7 @@ fn is_name(one: &SetName, other: &SetName) -> bool
 }
 
 /// Whether a text is the reference `LD/LN$NAME` of an item of a domain.
-fn is_reference(text: &[u8], domain: &[u8], item: &[u8]) -> bool
+pub fn is_reference(text: &[u8], domain: &[u8], item: &[u8]) -> bool
     ensures { result ≡ bytes_eq text.now (reference_of domain.now item.now) }
 {
     match text {
@@ -212,6 +212,13 @@ impl Definition {
             holds: 0,
         };
         Ok(Definition { entry })
+    }
+
+    /// Its members.
+    pub fn nodes(&self) -> &[NodeId]
+        ensures { result.now ≡ self.now.nodes }
+    {
+        &self.entry.nodes
     }
 }
 

@@ -6,7 +6,7 @@ mod book;
 mod laws;
 
 // the sets by their numbers, their names and their references
-pub use book::{DefineFault, Definition, DeleteFault, SetBook};
+pub use book::{DefineFault, Definition, DeleteFault, SetBook, is_reference};
 
 // their laws
 pub use laws::{

@@ -24,7 +24,7 @@ use Rattle.text_words.specs.Values.{hex_at}
 use Rattle.bay_model.specs.declared.request.Request.{Request}
 use Rattle.record_steps.specs.Shapes.{shape_at}
 use Rattle.record_steps.specs.Forms.{is_shut, is_direct}
-use Rattle.record_steps.specs.Asks.{asked_by, is_unbuilt}
+use Rattle.record_steps.specs.Asks.{asked_by}
 use Rattle.record_steps.specs.declared.form.Form.{Form}
 use Rattle.record_steps.specs.declared.form.Form.TheVariants as forms
 use Rattle.record_steps.specs.Settings.{are_named, settings_at}
@@ -62,7 +62,7 @@ write-goes c form a None None word h = absurd cc
 
 ask-goes : (c : Config) (a : AssocNo) (o : Option Request) → asked_as c a o ≡ last → ⊥
 ask-goes c a None h = absurd cc
-ask-goes c a (Some r) h = unless-goes (is_unbuilt r.service) (turn_of c a.0 (steps.Ask a r)) 9 (turn-goes c a.0 (steps.Ask a r)) h
+ask-goes c a (Some r) h = turn-goes c a.0 (steps.Ask a r) h
 
 spelled-goes : (c : Config) (a : AssocNo) (o : Option (List ℕ)) → spelled_as c a o ≡ last → ⊥
 spelled-goes c a None h = absurd cc

@@ -22,7 +22,7 @@ use Rattle.record_steps.specs.Settings.{are_named, settings_at}
 use Rattle.text_words.specs.Values.{hex_at}
 use Rattle.bay_model.specs.declared.request.Request.{Request}
 use Rattle.record_steps.specs.Forms.{is_shut, is_direct}
-use Rattle.record_steps.specs.Asks.{asked_by, is_unbuilt}
+use Rattle.record_steps.specs.Asks.{asked_by}
 use Rattle.record_steps.specs.declared.form.Form.{Form}
 use Rattle.record_steps.specs.declared.form.Form.TheVariants as forms
 use Rattle.record_steps.specs.Resolved.{association_of, turn_of, opened_in, opened_as, valued_as, written_as, lost_as, asked_as, spelled_as, sent_as, set_to, set_as, told_of}
@@ -99,10 +99,7 @@ module _ (c : Config) (is_open : ℕ → Bool) (form : Form) (actor : ℕ) (step
 
   ask-own : (a : AssocNo) (o : Option Request) → is_open a.0 ≡ true → asked_as c a o ≡ turn actor step → Own
   ask-own a None opened h = absurd cc
-  ask-own a (Some r) opened h = by (is_unbuilt r.service) refl h where
-    by : (b : Bool) → is_unbuilt r.service ≡ b → (if b then refused 9 else turn_of c a.0 (steps.Ask a r)) ≡ turn actor step → Own
-    by true e h = absurd cc
-    by false e h = turned c a.0 actor (steps.Ask a r) step (IsOwn is_open) h (opened, refl, e)
+  ask-own a (Some r) opened h = turned c a.0 actor (steps.Ask a r) step (IsOwn is_open) h (opened, refl)
 
   spelled-own : (a : AssocNo) (o : Option (List ℕ)) → is_open a.0 ≡ true → spelled_as c a o ≡ turn actor step → Own
   spelled-own a None opened h = absurd cc

@@ -1,13 +1,12 @@
--- A step that an association makes for itself, as its own opener and writer: it opens where it isn't open, and writes, asks for
--- what is built, and is lost where it is. A step of the process is of no association.
+-- A step that an association makes for itself, as its own opener and writer: it opens where it isn't open, and writes, asks
+-- and is lost where it is. A step of the process is of no association.
 use Rattle.std.specs.Prelude.{◌≡◌, ℕ, Bool, true, false}
 use Rattle.bay_model.specs.declared.step.Step.{Step}
 use Rattle.bay_model.specs.declared.step.Step.TheVariants as steps
-use Rattle.record_steps.specs.Asks.{is_unbuilt}
 
 abbrev pub IsOwn : (ℕ → Bool) → ℕ → Step → Type 0
 IsOwn is_open actor (steps.Open a size writer) = (is_open a.0 ≡ false) × (actor ≡ a.0) × (writer.0 ≡ a.0)
-IsOwn is_open actor (steps.Ask a r) = (is_open a.0 ≡ true) × (actor ≡ a.0) × (is_unbuilt r.service ≡ false)
+IsOwn is_open actor (steps.Ask a r) = (is_open a.0 ≡ true) × (actor ≡ a.0)
 IsOwn is_open actor (steps.Write a b comp v) = (is_open a.0 ≡ true) × (actor ≡ a.0)
 IsOwn is_open actor (steps.Take a) = actor ≡ a.0
 IsOwn is_open actor (steps.Lost a) = (is_open a.0 ≡ true) × (actor ≡ a.0)

@@ -22,7 +22,7 @@ use Rattle.bay_model.specs.ComponentTable.{comp_named}
 use Rattle.text_words.specs.Values.{hex_at}
 use Rattle.record_steps.specs.Shapes.{shape_at}
 use Rattle.record_steps.specs.Forms.{is_shut, is_direct}
-use Rattle.record_steps.specs.Asks.{asked_by, is_unbuilt}
+use Rattle.record_steps.specs.Asks.{asked_by}
 use Rattle.record_steps.specs.declared.form.Form.{Form}
 use Rattle.record_steps.specs.declared.form.Form.TheVariants as forms
 use Rattle.record_steps.specs.Settings.{are_named, settings_at}
@@ -65,7 +65,7 @@ lost_as c form a = if is_shut form then refused 5 else turn_of c a.0 (steps.Lost
 -- a PDU that asks nothing makes no step
 abbrev pub asked_as : Config → AssocNo → Option Request → Told
 asked_as c a None = skip
-asked_as c a (Some r) = if is_unbuilt r.service then refused 9 else turn_of c a.0 (steps.Ask a r)
+asked_as c a (Some r) = turn_of c a.0 (steps.Ask a r)
 
 abbrev pub spelled_as : Config → AssocNo → Option (List ℕ) → Told
 spelled_as c a None = refused 6

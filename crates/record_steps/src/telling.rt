@@ -9,7 +9,7 @@ ghost use Rattle.object_model.specs.Numbers.{number_in};
 ghost use Rattle.object_model.specs.References.{block_references};
 ghost use Rattle.bay_model.specs.ComponentTable.{comp_named};
 ghost use Rattle.record_steps.specs.Resolved.{opened_in, opened_as, written_as, lost_as, asked_as, spelled_as, sent_as, set_as, turn_of, told_of};
-ghost use Rattle.record_steps.specs.Asks.{asked_by, is_unbuilt as is_unbuilt_service};
+ghost use Rattle.record_steps.specs.Asks.{asked_by};
 ghost use Rattle.record_steps.specs.Telling.{telling, NamesNone, Names};
 ghost use Rattle.bay_model.specs.declared.step.Step.TheVariants as steps;
 
@@ -17,7 +17,7 @@ use crate::form::Form;
 use crate::settings::{Found, settings_of};
 use crate::shapes::shape;
 use bay_answers::read_request;
-use bay_model::{Comp, Request, Service, Sets, Step};
+use bay_model::{Comp, Request, Sets, Step};
 use object_model::Model;
 use run_record::{Kind, LineView, OpenForm, PairsView};
 use std::alloc::{AllocError, Global};
@@ -128,13 +128,6 @@ fn lose(model: &Model, form: &Form, a: AssocNo, step: &mut Step) -> Told
     }
 }
 
-/// A request of this service isn't built.
-fn is_unbuilt(service: &Service) -> bool
-    ensures { result ≡ is_unbuilt_service service.now }
-{
-    matches!(service, Service::Define { .. } | Service::Delete { .. })
-}
-
 /// An association asks, if there is something that it asks.
 fn ask(model: &Model, a: AssocNo, asked: Option<Request>, step: &mut Step) -> Told
     requires number { IsAssoc a }
@@ -144,9 +137,6 @@ fn ask(model: &Model, a: AssocNo, asked: Option<Request>, step: &mut Step) -> To
     let Some(request) = asked else {
         return Told::Nothing;
     };
-    if is_unbuilt(&request.service) {
-        return Told::Refused(Kind::NotBuilt);
-    }
     put(step, Step::Ask(a, request));
     Told::Step(ActorNo(a.0))
 }

@@ -1,5 +1,6 @@
 -- What writes, reports and losses make of a block (IEC 61850-7-2, BRCB attributes).
-use Rattle.std.specs.Prelude.{ℕ, [], Option, Some, is_some, Result, Ok, Err, if◌then◌else◌}
+use Rattle.std.specs.Prelude.{ℕ, ◌-◌, nat_lt, [], Option, Some, is_some, Result, Ok, Err, if◌then◌else◌}
+use Rattle.std.specs.Option.{option_map}
 use Rattle.sv_base.specs.declared.numbers.AssocNo.{AssocNo}
 use Rattle.sv_base.specs.declared.value.Value.{Value}
 use Rattle.bay_model.specs.declared.components.Comp.{Comp}
@@ -28,6 +29,13 @@ without_effect (Err code) = Err code
 abbrev pub set_after : Comp → Option ℕ → Option ℕ → Option ℕ
 set_after comps.DatSet named was = named
 set_after _ named was = was
+
+-- the number of a data set after that of another, k, was deleted: those above move down by one
+abbrev pub moved : ℕ → Option ℕ → Option ℕ
+moved k set = option_map (λ j. if nat_lt k j then j - 1 else j) set
+
+abbrev pub renumbered : ℕ → ReportBlock → ReportBlock
+renumbered k part = record part { set = moved k part.set }
 
 -- what a write is answered
 abbrev pub write_answer : AssocNo → Comp → Value → Option ℕ → ReportBlock → Result Effect ℕ

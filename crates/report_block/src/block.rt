@@ -1,7 +1,7 @@
 //! One report block: its attributes, its buffer, what it has gathered, and the number of its data set.
 
 ghost use Rattle.std.specs.Prelude.{◌≡◌};
-ghost use Rattle.report_block.specs.Writes.{set_after as set_number};
+ghost use Rattle.report_block.specs.Writes.{moved as moved_down, set_after as set_number};
 
 use crate::entry_octets::put_note;
 use bay_model::{Comp, Fixed, Mention};
@@ -34,6 +34,16 @@ pub(crate) fn set_after(comp: Comp, named: Option<usize>, was: Option<usize>) ->
     }
 }
 
+/// The number of a data set after that of another was deleted.
+fn moved(set: Option<usize>, gone: usize) -> Option<usize>
+    ensures { result ≡ moved_down gone set }
+{
+    match set {
+        Some(number) => Some(if gone < number { number - 1 } else { number }),
+        None => None,
+    }
+}
+
 impl ReportBlock {
     ghost use Rattle.std.specs.Prelude.{◌≡◌, ◌≤◌, ◌*◌, length, None, Some, IfOk, if◌then◌else◌};
     ghost use Rattle.std.specs.List.{All};
@@ -47,7 +57,7 @@ impl ReportBlock {
     ghost use Rattle.report_block.specs.Coming.{after_bodies};
     ghost use Rattle.report_block.specs.EntryOctets.{IsKeepable};
     ghost use Rattle.report_block.specs.Events.{with_note};
-    ghost use Rattle.report_block.specs.Writes.{settled, lost_by, reported_by};
+    ghost use Rattle.report_block.specs.Writes.{settled, lost_by, renumbered, reported_by};
 
     /// A block as it is configured, with the data set of this number, no entry and nothing gathered. It takes all the memory that it
     /// needs, its entries' and that of a group of so many members, as many as any data set has.
@@ -80,6 +90,20 @@ impl ReportBlock {
         ensures { result ≡ self.now.set }
     {
         self.set
+    }
+
+    /// The reference of the data set that it reports (IEC 61850-7-2, BRCB attribute DatSet); empty where it reports none.
+    pub fn dat_set(&self) -> &[u8]
+        ensures { result.now ≡ self.now.block.options.dat_set }
+    {
+        self.block.dat_set()
+    }
+
+    /// The data set of a number was deleted, which isn't the block's own: the numbers above move down by one.
+    pub fn renumber(&mut self, gone: usize)
+        ensures { self.new ≡ renumbered gone self.old }
+    {
+        self.set = moved(self.set, gone);
     }
 
     /// Bits 1 to 5 of TrgOps.

@@ -6,6 +6,7 @@ use Rattle.sv_base.specs.Same.{values_of}
 use Rattle.sv_base.specs.declared.config.LnDef.{LnDef}
 use Rattle.sv_base.specs.declared.config.AttrDef.{AttrDef}
 use Rattle.text_words.specs.Names.{is_fc}
+use Rattle.bay_model.specs.NamedLines.{path_item}
 use Rattle.cfg_lines.specs.Keys.{is_among}
 use Rattle.cfg_lines.specs.Paths.{item_key, above, clashes, is_taken}
 use Rattle.cfg_lines.specs.Before.{domain_of, node_of, groups_of}
@@ -27,12 +28,13 @@ pub record IsRead (nodes : List LnDef) (a : AttrDef) : Type 0 where
   pub constraint : is_fc a.fc ≡ true
   pub setting : bytes_eq a.fc (codes "SG") ≡ false
   pub path : IsPath a.path
+  pub short : length (path_item a.ln a.fc a.path) ≤ 64
   pub type_ : IsType a.kind
   pub values : AreOfType a.kind (values_of a.values)
   pub one : length (values_of a.values) ≡ 1
 
 read-more : (nodes : List LnDef) (node : LnDef) (a : AttrDef) → IsRead nodes a → IsRead (nodes ++ node ∷ []) a
-read-more nodes node a h = record { node = in-more nodes node a.domain a.ln h.node; constraint = h.constraint; setting = h.setting; path = h.path; type_ = h.type_; values = h.values; one = h.one }
+read-more nodes node a h = record { node = in-more nodes node a.domain a.ln h.node; constraint = h.constraint; setting = h.setting; path = h.path; short = h.short; type_ = h.type_; values = h.values; one = h.one }
 
 attribute-read : (before : List Line) (nodes : List LnDef) (attr : AttrDef) → groups_of before ≡ 0 → IsIn nodes (domain_of before) (node_of before) → IsAttribute before attr → IsRead nodes attr
 attribute-read before nodes attr none node h = record {
@@ -40,6 +42,7 @@ attribute-read before nodes attr none node h = record {
   constraint = h.constraint;
   setting = by (bytes_eq attr.fc (codes "SG")) h.count.0;
   path = h.path;
+  short = subst (λ l. length (path_item l attr.fc attr.path) ≤ 64) (sym (ap (λ (a : AttrDef). a.ln) h.here)) h.short;
   type_ = h.type_;
   values = h.values;
   one = count (bytes_eq attr.fc (codes "SG")) h.count.0 h.count.1;

@@ -85,7 +85,7 @@ module _ (kind : ℕ → TypeOf) (n : ℕ) where
     is_data = h.is_data;
   }
 
-  formed : (item : List ℕ) (r : Role) (k : TypeOf) (parts : Forest) → IsPart r k parts → AreFormed parts → IsFormed (place item r k parts)
+  pub formed : (item : List ℕ) (r : Role) (k : TypeOf) (parts : Forest) → IsPart r k parts → AreFormed parts → IsFormed (place item r k parts)
   formed item (single (attribute x)) k parts h go = subst (λ q. IsFormed (place item (single (attribute x)) k q)) (sym h.1) (subst (λ t. IsFormed (place item (single (attribute x)) t nothing)) (sym h.0) (formed-leaf item x h.2))
   formed item (single (component b c)) k parts h go = absurd h
   formed item (single (setting d p)) k parts h go = absurd h

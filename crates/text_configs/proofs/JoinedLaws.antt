@@ -23,11 +23,11 @@ first item = before_first (λ o. o == 36) item
 abbrev pub rest : List ℕ → List ℕ
 rest item = after_first (λ o. o == 36) item
 
-first-more : (o : ℕ) (os : List ℕ) → (o == 36) ≡ false → first (o ∷ os) ≡ o ∷ first os
+pub first-more : (o : ℕ) (os : List ℕ) → (o == 36) ≡ false → first (o ∷ os) ≡ o ∷ first os
 first-more o os e = let next : 1 + position_or_len (λ o. o == 36) os ≡ suc (position_or_len (λ o. o == 36) os) = omega arith in
     ap (λ b. take (cond (not b) (1 + position_or_len (λ o. o == 36) os) 0) (o ∷ os)) e ∙ ap (λ n. take n (o ∷ os)) next
 
-rest-more : (o : ℕ) (os : List ℕ) → (o == 36) ≡ false → rest (o ∷ os) ≡ rest os
+pub rest-more : (o : ℕ) (os : List ℕ) → (o == 36) ≡ false → rest (o ∷ os) ≡ rest os
 rest-more o os e = let next : 1 + position_or_len (λ o. o == 36) os + 1 ≡ suc (position_or_len (λ o. o == 36) os + 1) = omega arith in
     ap (λ b. drop (cond (not b) (1 + position_or_len (λ o. o == 36) os) 0 + 1) (o ∷ os)) e ∙ ap (λ n. drop n (o ∷ os)) next
 

@@ -22,4 +22,5 @@ pub mod CountLaws
 pub mod BelowLaws
 pub mod MemberLaws
 pub mod ReferenceLaws
+pub mod AllowedLaws
 pub mod ServableLaws

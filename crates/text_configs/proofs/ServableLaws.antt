@@ -1,16 +1,16 @@
 -- What a configuration's text spells can be served by a bay.
-use Rattle.std.proofs.Common.{◌≡◌, ℕ, ◌-◌, ◌≤◌, Bool, true, false, not, ◌||◌, List, [], ◌∷◌, length, map, nat_lt, is_some, position, refl, sym, ap, subst, ◌∙◌, arith, true≢false, if◌then◌else◌}
+use Rattle.std.proofs.Common.{◌≡◌, ◌⊎◌, inl, inr, ℕ, ◌-◌, ◌≤◌, Bool, true, false, not, ◌||◌, List, [], ◌∷◌, length, map, nat_lt, is_some, position, refl, sym, ap, subst, ◌∙◌, arith, true≢false, if◌then◌else◌}
 use Rattle.std.specs.List.{All}
 use Rattle.std.specs.Str.{bytes_eq}
 use Rattle.std.proofs.lemmas.Bool.{and_parts}
 use Rattle.std.proofs.lemmas.Bool.Decides.{nat_tests}
 use Rattle.std.proofs.lemmas.List.{length-map}
-use Rattle.std.proofs.lemmas.List.Elements.{All-nil}
+use Rattle.std.proofs.lemmas.List.Elements.{All-nil, All-head, All-tail}
 use Rattle.sv_base.specs.declared.config.Config.{Config}
 use Rattle.sv_base.specs.declared.config.AttrDef.{AttrDef}
 use Rattle.sv_base.specs.declared.config.SetDef.{SetDef}
 use Rattle.sv_base.specs.declared.config.CtlDef.{CtlDef}
-use Rattle.bay_model.specs.Configured.{groups_defined}
+use Rattle.bay_model.specs.Configured.{block_defined, groups_defined}
 use Rattle.bay_model.specs.NamedLines.{domains}
 use Rattle.bay_model.specs.Reports.{reference_at}
 use Rattle.bay_model.specs.Named.{nodes, member_number, set_defined, configured_model}
@@ -22,8 +22,13 @@ use Rattle.cfg_grammar.specs.Texts.{AreLines, IsFound, AreFound, SpellsConfig}
 use Rattle.cfg_lines.specs.declared.leaf.Leaf.{Leaf}
 use Rattle.cfg_lines.specs.declared.line.Line.{Line}
 use Rattle.cfg_lines.specs.declared.line.Line.TheVariants as lines
-use Rattle.bay_config.specs.Servable.{IsMember, IsServedSet, IsServedBlock, HasSoundValues, IsServable}
-use Rattle.list_laws.proofs.Among.{Among, all-of, source}
+use Rattle.sv_base.specs.declared.config.BlockDef.{BlockDef}
+use Rattle.bay_model.specs.Model.{Block}
+use Rattle.bay_model.specs.Sets.{set_referred}
+use Rattle.data_sets.specs.Opening.{AreNamed}
+use Rattle.text_sets.proofs.NamedLaws.{sets-named}
+use Rattle.bay_config.specs.Servable.{IsMember, IsReferred, IsServedSet, IsServedBlock, HasSoundValues, IsServable}
+use Rattle.list_laws.proofs.Among.{Among, all-of, mapped, source}
 use Rattle.text_configs.proofs.FindLaws.{found, domain-there}
 use Rattle.text_configs.proofs.NamedLaws.{bytes-same, not-not}
 use Rattle.text_configs.proofs.StandLaws.{IsPlainText, plain-text, nodes-read}
@@ -34,7 +39,13 @@ use Rattle.text_configs.proofs.ValueLaws.{first-value}
 use Rattle.text_configs.proofs.PathLaws.{IsReference, reference-of}
 use Rattle.text_configs.proofs.CountLaws.{counted}
 use Rattle.text_configs.proofs.BelowLaws.{IsTold}
+use Rattle.text_configs.proofs.AllowedLaws.{allowed-member}
 use Rattle.text_configs.proofs.ReferenceLaws.{member, member-reference}
+
+all-among : {X : Type 0} (P : X → Type 0) (xs : List X) → All P xs → (x : X) → Among x xs → P x
+all-among P [] all x i = absurd i
+all-among P (y ∷ ys) all x (inl e) = subst P (sym e) (All-head P y ys all)
+all-among P (y ∷ ys) all x (inr i) = all-among P ys (All-tail P y ys all) x i
 
 names-of : (as_ : List AttrDef) → map (λ (leaf : Leaf). leaf.name) (map leaf_of as_) ≡ map key_of as_
 names-of [] = refl
@@ -107,8 +118,8 @@ module _ (told : List Line) (text : List ℕ) (are : AreLines text told) (found_
       let d : Among a.domain (domains (config_of told)) = subst (λ d. Among d (domains (config_of told))) n.domain_is (domain-there n.node [] (config_of told).nodes n.there) in
       ap is_some (found (bytes_eq a.domain) a.domain (domains (config_of told)) d (bytes-same a.domain a.domain refl)).is
 
-  pub served : IsServable (config_of told)
-  served = record {
+  pub served : AreNamed (configured_model (config_of told)) → IsServable (config_of told)
+  served names = record {
     controls = controls;
     groups = groups;
     storable = record {
@@ -120,9 +131,13 @@ module _ (told : List Line) (text : List ℕ) (are : AreLines text told) (found_
     domains = all-of (λ (a : AttrDef). is_some (position (bytes_eq a.domain) (domains (config_of told))) ≡ true) (config_of told).attrs has-domain;
     blocks = all-of IsServedBlock (config_of told).blocks (λ b i. let h = is-told.blocks b i in record { opt_flds = h.opt_flds; trg_ops = h.trg_ops });
     few = let f = few-blocks told text are in omega (arith, f.0, f.1);
+    named = all-of (λ (b : BlockDef). IsReferred (config_of told) b.dat_set) (config_of told).blocks (λ b i.
+        all-among (λ (k : Block). (k.initial.dat_set ≡ []) ⊎ (is_some (set_referred k.initial.dat_set (configured_model (config_of told)).sets) ≡ true)) (configured_model (config_of told)).blocks names.named (block_defined b) (mapped block_defined b (config_of told).blocks i));
+    allowed = allowed-member (config_of told) is-told;
     sets = all-of (IsServedSet (config_of told)) (configured_model (config_of told)).sets (λ s i. let d = source (set_defined (nodes (config_of told))) s (config_of told).sets i in subst (IsServedSet (config_of told)) (sym d.2) (set-served d.0 d.1));
   }
 
 pub texts-are-served : (text : List ℕ) (c : Config) → SpellsConfig text c → c.controls ≡ [] → c.groups ≡ [] → IsServable c
 texts-are-served text c h controls groups =
-    subst IsServable (sym h.makes) (served h.told text h.are h.found (sym (ap (λ (d : Config). d.controls) h.makes) ∙ controls) (sym (ap (λ (d : Config). d.groups) h.makes) ∙ groups))
+    subst IsServable (sym h.makes) (served h.told text h.are h.found (sym (ap (λ (d : Config). d.controls) h.makes) ∙ controls) (sym (ap (λ (d : Config). d.groups) h.makes) ∙ groups)
+    (subst (λ (d : Config). AreNamed (configured_model d)) h.makes (sets-named text c h)))

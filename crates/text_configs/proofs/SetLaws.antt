@@ -24,6 +24,7 @@ pub record IsReadBlock (b : BlockDef) : Type 0 where
   pub opt_flds : length b.opt_flds ≡ 10
   pub trg_ops : length b.trg_ops ≡ 6
   pub ln : is_name b.ln ≡ true
+  pub name : is_name b.name ≡ true
 
 pub blocks-read : (told : List Line) (text : List ℕ) → AreLines text told → (b : BlockDef) → Among b (config_of told).blocks → IsReadBlock b
 blocks-read [] text h b i = absurd i
@@ -34,6 +35,7 @@ blocks-read (lines.Brcb block ∷ before) text h b i = by (ending b (config_of b
       opt_flds = h.4.follows.bits.0;
       trg_ops = h.4.follows.bits.1;
       ln = ap is_name (ap (λ (d : BlockDef). d.ln) h.4.follows.here) ∙ (in-node before h.0 h.3 h.4.follows.stands).ln_name;
+      name = h.4.follows.name;
     }
 
     by : Among b (config_of before).blocks ⊎ (b ≡ block) → (Among b (config_of before).blocks → IsReadBlock b) → IsReadBlock b

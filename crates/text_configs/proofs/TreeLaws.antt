@@ -116,7 +116,7 @@ module _ (kind : ℕ → TypeOf) (n : ℕ) where
   abbrev part : ℕ → List Named → Type 0
   part l ns = IsPart kind n (role_of ns) (own_type ns) (grown l ns) × IsTree kind n (grown l ns)
 
-  part-of : (l : ℕ) (es : List Entry) → AreEntries kind n es → IsTree kind n (grown l (map (named_of kind) es)) → part l (map (named_of kind) es)
+  pub part-of : (l : ℕ) (es : List Entry) → AreEntries kind n es → IsTree kind n (grown l (map (named_of kind) es)) → part l (map (named_of kind) es)
   part-of l es h tree = by (ends-or-not kind es h.plain)
     where
       ended : (r : Role) (k : TypeOf) (parts : Forest) (x : ℕ) → r ≡ single (attribute x) → k ≡ kind x → parts ≡ nothing → IsNumber kind n x → IsPart kind n r k parts

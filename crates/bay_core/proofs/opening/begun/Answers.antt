@@ -11,4 +11,4 @@ invariant_of-result c = record {
 }
 
 pub returns-clause-stands : goal.returns-clause-stands
-returns-clause-stands c = stands-first _ c.args.model c.requires.servable refl refl c.first.ensures c.requires.values c.requires.parts c.requires.associations
+returns-clause-stands c = stands-first _ c.args.model c.requires.servable refl refl c.first.ensures c.requires.values c.requires.sets c.requires.parts c.requires.associations

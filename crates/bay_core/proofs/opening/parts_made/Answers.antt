@@ -1,23 +1,22 @@
-use Rattle.std.proofs.Common.{◌≤◌, ◌∙◌, ap, sym, subst, length, List}
+use Rattle.std.proofs.Common.{◌∙◌, ap, sym, subst, length, List}
 use Rattle.std.specs.List.{All}
 use Rattle.bay_model.specs.declared.tables.NodeRow.{NodeRow}
-use Rattle.data_sets.specs.Books.{Book, largest, opened as booked}
+use Rattle.data_sets.specs.Books.{opened as booked}
 use Rattle.object_model.specs.Nodes.{node_rows}
 use Rattle.value_store.specs.Opened.{opened}
 use Rattle.value_store.specs.Stored.{Stored}
 use Rattle.bay_core.specs.Watched.{AreLent, IsWatchable}
-use Rattle.bay_core.proofs.BookLaws.{largest-few, sets-lent}
+use Rattle.object_model.specs.Tables.{set_rows}
+use Rattle.bay_core.proofs.BookLaws.{sets-lent}
+use Rattle.bay_core.proofs.FirstBook.{booked-first}
 use Rattle.bay_core.proofs.FirstValues.{opened-held}
 use Rattle.bay_core.proofs.FirstState.{watchable-first}
 use Rattle.bay_core.proofs.opening.parts_made.Goals as goal
 
-pub parts_of-requires-clause-few : goal.parts_of-requires-clause-few
-parts_of-requires-clause-few c = subst (λ (b : Book). largest b ≤ 256) (sym (c.in_ok-sets.ensures ∙ ap booked c.sets.ensures)) (largest-few c.args.model.now c.requires)
-
 pub open-requires-3-clause-lent : goal.open-requires-3-clause-lent
 open-requires-3-clause-lent c =
     let m = c.args.model.now in
-    subst (λ (rows : List NodeRow). AreLent rows c.in_ok-sets.sets) (sym (c.as_slice.ensures ∙ c.nodes.ensures)) (subst (AreLent (node_rows m)) (sym (c.in_ok-sets.ensures ∙ ap booked c.sets.ensures)) (sets-lent m c.requires))
+    subst (λ (rows : List NodeRow). AreLent rows c.in_ok-sets.sets) (sym (c.as_slice.ensures ∙ c.nodes.ensures)) (subst (AreLent (node_rows m)) (sym (c.in_ok-sets.ensures ∙ ap booked c.sets.ensures)) (sets-lent m (booked (set_rows m)) (booked-first m c.requires).served))
 
 pub open-requires-3-clause-watchable : goal.open-requires-3-clause-watchable
 open-requires-3-clause-watchable c =

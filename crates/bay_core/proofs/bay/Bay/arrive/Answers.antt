@@ -2,15 +2,13 @@ use Rattle.std.proofs.Common.{◌∙◌, ◌∷◌, ℕ, List, refl, ap, ap₂, 
 use Rattle.bay_model.specs.declared.tables.NodeRow.{NodeRow}
 use Rattle.bay_model.specs.Singles.{arrival}
 use Rattle.object_model.specs.Nodes.{node_rows}
-use Rattle.object_model.specs.Tables.{set_rows}
-use Rattle.data_sets.specs.Books.{Book, opened}
 use Rattle.value_store.specs.Stored.{Stored}
 use Rattle.report_block.specs.declared.block.ReportBlock.{ReportBlock}
 use Rattle.bay_core.specs.Events.{AreReady}
 use Rattle.bay_core.specs.Standing.{StandsAt}
 use Rattle.bay_core.specs.State.{State, IsFurnished}
 use Rattle.bay_core.specs.Timed.{arrived_all, at_arrival}
-use Rattle.bay_core.proofs.ArriveLaws.{HasAll, HaveMembers, arrives, furnished-arrived}
+use Rattle.bay_core.proofs.ArriveLaws.{HasAll, arrives, furnished-arrived}
 use Rattle.bay_core.proofs.SettingLaws.{are-ready, have-members}
 use Rattle.bay_core.proofs.bay.Bay.arrive.Goals as goal
 
@@ -34,19 +32,19 @@ returns-clause-state c =
     let s = c.self.inside in
     let parts = c.pass_due.ensures.parts
     ∙ (ap (λ (rows : List NodeRow). arrived_all rows s.sets c.store.result.now s.latest c.later-now.result s.steps s.parts.items) (c.as_slice.ensures ∙ c.nodes.ensures)
-    ∙ (ap (λ (b : Book). arrived_all (node_rows s.model) b c.store.result.now s.latest c.later-now.result s.steps s.parts.items) c.self.invariant.furnished.booked
-    ∙ ap₂ (λ (all : List Stored) (now : ℕ). arrived_all (node_rows s.model) (opened (set_rows s.model)) all s.latest now s.steps s.parts.items) c.store.ensures c.later-now.ensures)) in
-    ap₂ (λ (now : ℕ) (ps : List ReportBlock). record { config = s.model; steps = s.steps; latest = now; stored = s.values; parts = ps; rows = s.associations }) c.later-now.ensures parts
+    ∙ ap₂ (λ (all : List Stored) (now : ℕ). arrived_all (node_rows s.model) s.sets all s.latest now s.steps s.parts.items) c.store.ensures c.later-now.ensures) in
+    ap₂ (λ (now : ℕ) (ps : List ReportBlock). record { config = s.model; steps = s.steps; latest = now; stored = s.values; book = s.sets; parts = ps; rows = s.associations }) c.later-now.ensures parts
     ∙ ap (at_arrival c.args.moment) c.self.view_is
 
 pub returns-clause-stands : goal.returns-clause-stands
 returns-clause-stands c = λ c' n past st.
     let s = c.self.inside in
     let fit = c.self.invariant.furnished in
-    let all : HasAll s.model s.values s.parts.items = record {
+    let all : HasAll s.model s.values s.sets s.parts.items = record {
       servable = fit.servable;
+      sets = fit.booked.served;
       values = fit.values;
-      members = subst (λ b. HaveMembers (node_rows s.model) b s.model s.parts.items) fit.booked (have-members s.model (node_rows s.model) s.values s.sets s.parts.items s.watch s.octets (vec_capacity s.changes) refl fit);
+      members = have-members s.model (node_rows s.model) s.values s.sets s.parts.items s.watch s.octets (vec_capacity s.changes) refl fit;
     } in
     subst (λ (t : State). StandsAt t c' n (arrival n c.args.moment ∷ past)) (sym (returns-clause-state c))
-    (arrives c.args.self.now c' n c.args.moment past (subst (λ (t : State). HasAll t.config t.stored t.parts) c.self.view_is all) st)
+    (arrives c.args.self.now c' n c.args.moment past (subst (λ (t : State). HasAll t.config t.stored t.book t.parts) c.self.view_is all) st)

@@ -16,5 +16,5 @@ invariant_of-self c = record {
 }
 
 pub returns : goal.returns
-returns c = ap₂ (λ ps rs. record { config = c.self.inside.model; steps = c.self.inside.steps; latest = c.self.inside.latest; stored = c.self.inside.values; parts = ps; rows = rs }) c.lose_all.ensures c.end.ensures
+returns c = ap₂ (λ ps rs. record { config = c.self.inside.model; steps = c.self.inside.steps; latest = c.self.inside.latest; stored = c.self.inside.values; book = c.self.inside.sets; parts = ps; rows = rs }) c.lose_all.ensures c.end.ensures
     ∙ ap (λ (s : State). record s { rows = ended s.rows c.args.a.0; parts = after_loss_all c.args.a s.parts }) c.self.view_is

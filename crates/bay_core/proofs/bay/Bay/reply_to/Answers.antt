@@ -23,8 +23,8 @@ if-ok P Q (Err e) goes is = is
 pub returns : goal.returns
 returns c =
     let s = c.self.inside in
-    let z : State = record { config = s.model; steps = s.steps; latest = s.latest; stored = s.values; parts = s.parts.items; rows = s.associations } in
+    let z : State = record { config = s.model; steps = s.steps; latest = s.latest; stored = s.values; book = s.sets; parts = s.parts.items; rows = s.associations } in
     subst (λ (w : State). IfOk c.reply.result (λ (r : Reply). IsReplyAt w c.args.moment c.args.a.0 c.args.service.now r)) c.self.view_is
     (if-ok _ (λ (r : Reply). IsReplyAt z c.args.moment c.args.a.0 c.args.service.now r) c.reply.result
-    (λ r is. reply-at z s.model c.store.result.now c.deref.result.now s.sets s.latest c.later.result c.unwrap_or-size.result c.args.moment c.args.a.0 c.args.service.now r refl c.store.ensures c.deref.ensures.value c.self.invariant.furnished.booked refl c.later.ensures c.requires.number (c.unwrap_or-size.ensures ∙ ap (λ (o : Option ℕ). unwrap_or o 0) c.size.ensures) is)
+    (λ r is. reply-at z s.model c.store.result.now c.deref.result.now s.sets s.latest c.later.result c.unwrap_or-size.result c.args.moment c.args.a.0 c.args.service.now r refl c.store.ensures c.deref.ensures.value refl refl c.later.ensures c.requires.number (c.unwrap_or-size.ensures ∙ ap (λ (o : Option ℕ). unwrap_or o 0) c.size.ensures) is)
     c.reply.ensures)

@@ -51,12 +51,12 @@ returns-clause-does c = λ c' h was.
     let parts = c.event_all.ensures.parts ∙ (ap (λ (all : List Stored). after_events c.as_slice-2.result.now c.self.inside.sets all c.as_slice-3.result.now c.self.inside.latest c.self.inside.steps c.self.inside.parts.items) c.store.ensures
     ∙ ap (λ (changes : List Change). after_events c.as_slice-2.result.now c.self.inside.sets c.set.new.self changes c.self.inside.latest c.self.inside.steps c.self.inside.parts.items) c.as_slice-3.ensures.value) in (
       refl,
-      set-for c.as_slice-2.result.now c.self.inside.sets c.args.self.now _ c.count.new.self c' h c.args.moment c.args.actor.0 c.args.sets.now c.set.new.self c.set.new.changes.items
-          c.self.invariant.furnished.servable held (fits-settings c.self.inside.model c.self.inside.values c.args.sets.now fit c.self.invariant.furnished.values).0
+      set-for c.as_slice-2.result.now c.args.self.now _ c.count.new.self c' h c.args.moment c.args.actor.0 c.args.sets.now c.set.new.self c.set.new.changes.items
+          c.self.invariant.furnished.servable c.self.invariant.furnished.booked.served held (fits-settings c.self.inside.model c.self.inside.values c.args.sets.now fit c.self.invariant.furnished.values).0
           (have-members c.self.inside.model c.as_slice-2.result.now c.self.inside.values c.self.inside.sets c.self.inside.parts.items c.self.inside.watch c.self.inside.octets (vec_capacity c.self.inside.changes) (c.as_slice-2.ensures ∙ c.nodes.ensures) c.self.invariant.furnished)
           (λ x. c.set.ensures.set x ∙ ap (λ (l : List Setting). last_set l x (attribute c.self.inside.values x)) c.as_slice.ensures) c.set.ensures.count
           (subst (λ (l : List Setting). AreMade c.self.inside.model c.self.inside.values l c.set.new.changes.items) c.as_slice.ensures c.set.ensures.changes)
           here
-          (c.count.ensures ∙ ap (λ (ps : List ReportBlock). record { config = c.self.inside.model; steps = suc c.self.inside.steps; latest = c.self.inside.latest; stored = c.set.new.self; parts = ps; rows = c.self.inside.associations }) parts)
+          (c.count.ensures ∙ ap (λ (ps : List ReportBlock). record { config = c.self.inside.model; steps = suc c.self.inside.steps; latest = c.self.inside.latest; stored = c.set.new.self; book = c.self.inside.sets; parts = ps; rows = c.self.inside.associations }) parts)
           was,
     )

@@ -11,7 +11,7 @@ use Rattle.bay_config.specs.Servable.{IsServable}
 use Rattle.bay_core.specs.Standing.{StandsFor}
 use Rattle.bay_core.specs.State.{State}
 use Rattle.bay_core.specs.Timed.{at_arrival}
-use Rattle.bay_core.proofs.ArriveLaws.{HasAll, HaveMembers, arrives}
+use Rattle.bay_core.proofs.ArriveLaws.{HasAll, arrives}
 use Rattle.bay_core.proofs.QueueLaws.{none-waits}
 use Rattle.bay_core.proofs.SettingLaws.{have-members}
 use Rattle.bay_core.proofs.TakenLaws.{closed-for, took-for}
@@ -35,12 +35,13 @@ pub returns-in-Some-pop-clause-does : goal.returns-in-Some-pop-clause-does
 returns-in-Some-pop-clause-does c = λ c' h was.
     let s = c.self.inside in
     let fit = c.self.invariant.furnished in
-    let z : State = record { config = s.model; steps = s.steps; latest = s.latest; stored = s.values; parts = s.parts.items; rows = s.associations } in
+    let z : State = record { config = s.model; steps = s.steps; latest = s.latest; stored = s.values; book = s.sets; parts = s.parts.items; rows = s.associations } in
     let st = subst (λ (t : State). StandsFor t c' h) (sym c.self.view_is) was in
-    let all : HasAll s.model s.values s.parts.items = record {
+    let all : HasAll s.model s.values s.sets s.parts.items = record {
       servable = fit.servable;
+      sets = fit.booked.served;
       values = fit.values;
-      members = subst (λ b. HaveMembers (node_rows s.model) b s.model s.parts.items) fit.booked (have-members s.model (node_rows s.model) s.values s.sets s.parts.items s.watch s.octets (vec_capacity s.changes) refl fit);
+      members = have-members s.model (node_rows s.model) s.values s.sets s.parts.items s.watch s.octets (vec_capacity s.changes) refl fit;
     } in
     let here = arrives z c' (length h) c.args.moment (points (configured_model c') h) all st.1 in
     let first = sym c.pop.ensures.value ∙ ap (option_map Reply) c.in-Some-pop.is in

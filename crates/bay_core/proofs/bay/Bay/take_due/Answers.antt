@@ -9,8 +9,7 @@ use Rattle.bay_model.specs.declared.tables.MemberShape.{MemberShape}
 use Rattle.bay_model.specs.Named.{configured_model}
 use Rattle.bay_model.specs.Notes.{Kept}
 use Rattle.object_model.specs.Nodes.{node_rows}
-use Rattle.object_model.specs.Tables.{set_rows}
-use Rattle.data_sets.specs.Books.{opened}
+use Rattle.data_sets.specs.Books.{Book}
 use Rattle.report_block.specs.declared.block.ReportBlock.{ReportBlock}
 use Rattle.report_block.specs.Again.{AreNodes}
 use Rattle.report_block.specs.Blanks.{AreFew, AreShortTexts, IsShortSet}
@@ -19,7 +18,7 @@ use Rattle.report_block.specs.Writes.{reported_by}
 use Rattle.report_block.specs.Reporting.{offered, report_by}
 use Rattle.bay_config.specs.Servable.{IsServable}
 use Rattle.bay_core.specs.Standing.{StandsAt}
-use Rattle.bay_core.specs.State.{State}
+use Rattle.bay_core.specs.State.{State, AreServedSets}
 use Rattle.bay_core.specs.Timed.{at_arrival}
 use Rattle.bay_core.specs.Whole.{IsWhole}
 use Rattle.bay_core.proofs.ArriveLaws.{texts-arrived}
@@ -48,7 +47,7 @@ filled-report-requires-clause-few c =
     let within = subst (λ (ps : List ReportBlock). block < length ps) c.deref.ensures.value c.in-Some.ensures.within in
     let there = at-place u.parts.items block part within c.index-part.ensures in
     let shapes = c.set_of-set.ensures ∙ (part-fits u.model u.values u.sets u.parts.items u.watch u.octets (vec_capacity u.changes) c.self.invariant.furnished block part there).1 in
-    omega (arith, ap (λ (l : List MemberShape). length l) shapes, served-few u.model c.self.invariant.furnished.servable part.block.options.dat_set)
+    omega (arith, ap (λ (l : List MemberShape). length l) shapes, served-few u.model u.sets c.self.invariant.furnished.booked.served part.block.options.dat_set)
 
 pub filled-report-requires-clause-nodes : goal.filled-report-requires-clause-nodes
 filled-report-requires-clause-nodes c =
@@ -58,7 +57,7 @@ filled-report-requires-clause-nodes c =
     let within = subst (λ (ps : List ReportBlock). block < length ps) c.deref.ensures.value c.in-Some.ensures.within in
     let there = at-place u.parts.items block part within c.index-part.ensures in
     let shapes = c.set_of-set.ensures ∙ (part-fits u.model u.values u.sets u.parts.items u.watch u.octets (vec_capacity u.changes) c.self.invariant.furnished block part there).1 in
-    subst (AreNodes u.model) (sym shapes) (shapes-there u.model c.self.invariant.furnished.servable part.block.options.dat_set)
+    subst (AreNodes u.model) (sym shapes) (shapes-there u.model u.sets c.self.invariant.furnished.booked.served part.block.options.dat_set)
 
 pub filled-report-requires-clause-short : goal.filled-report-requires-clause-short
 filled-report-requires-clause-short c =
@@ -68,7 +67,7 @@ filled-report-requires-clause-short c =
     let within = subst (λ (ps : List ReportBlock). block < length ps) c.deref.ensures.value c.in-Some.ensures.within in
     let there = at-place u.parts.items block part within c.index-part.ensures in
     let shapes = c.set_of-set.ensures ∙ (part-fits u.model u.values u.sets u.parts.items u.watch u.octets (vec_capacity u.changes) c.self.invariant.furnished block part there).1 in
-    subst (IsShortSet (configured_model u.model)) (sym shapes) (shapes-short u.model c.self.invariant.furnished.servable part.block.options.dat_set)
+    subst (IsShortSet (configured_model u.model)) (sym shapes) (shapes-short u.model u.sets c.self.invariant.furnished.booked.served part.block.options.dat_set)
 
 pub filled-report-requires-clause-texts : goal.filled-report-requires-clause-texts
 filled-report-requires-clause-texts c =
@@ -79,7 +78,7 @@ filled-report-requires-clause-texts c =
     let within = subst (λ (ps : List ReportBlock). block < length ps) c.deref.ensures.value c.in-Some.ensures.within in
     let there = at-place u.parts.items block part within c.index-part.ensures in
     let most = c.in-Ok.blank.texts in
-    let after = texts-arrived most (node_rows s.config) (opened (set_rows s.config)) s.stored s.latest (max s.latest c.args.moment) s.steps s.parts c.in-Ok.ensures.texts in
+    let after = texts-arrived most (node_rows s.config) s.book s.stored s.latest (max s.latest c.args.moment) s.steps s.parts c.in-Ok.ensures.texts in
     let is = c.self.view_is ∙ (c.arrive.ensures.state ∙ ap (at_arrival c.args.moment) c.blank.ensures.state) in
     let all = subst (All (AreShortTexts most)) (sym (ap (λ (t : State). t.parts) is)) after in
     all-at (AreShortTexts most) u.parts.items block part all there
@@ -113,13 +112,15 @@ returns-clause-does c = λ c' h was.
     let here = c.arrive.ensures.stands c' (length h) (points (configured_model c') h) (subst (λ (t : State). StandsAt t c' (length h) (points (configured_model c') h)) (sym c.blank.ensures.state) was.1) in
     let config : u.model ≡ c' = ap (λ (t : State). t.config) c.self.view_is ∙ here.is_config in
     let stay : z.parts ≡ u.parts.items = sym (ap (λ (t : State). t.parts) c.self.view_is) in
+    let book : z.book ≡ u.sets = sym (ap (λ (t : State). t.book) c.self.view_is) in
+    let booked = subst (λ (b : Book). AreServedSets c' b) (sym book) (subst (λ (m : Config). AreServedSets m u.sets) config c.self.invariant.furnished.booked.served) in
     let o = c.in-Some.offer in
     let part = c.index-part.result.now in
     let within = subst (λ (ps : List ReportBlock). o.block < length ps) c.deref.ensures.value c.in-Some.ensures.within in
     let there = at-place u.parts.items o.block part within c.index-part.ensures in
     let shapes = c.set_of-set.ensures ∙ (part-fits u.model u.values u.sets u.parts.items u.watch u.octets (vec_capacity u.changes) c.self.invariant.furnished o.block part there).1 in
     let same = same-part u.parts.items o.block c.index_mut.result.now part (at-place u.parts.items o.block c.index_mut.result.now within c.index_mut.ensures.value) there in
-    let after : ReportBlock → State = λ p. record { config = u.model; steps = suc u.steps; latest = u.latest; stored = u.values; parts = slice_set u.parts.items o.block p; rows = u.associations } in
+    let after : ReportBlock → State = λ p. record { config = u.model; steps = suc u.steps; latest = u.latest; stored = u.values; book = u.sets; parts = slice_set u.parts.items o.block p; rows = u.associations } in
     let is = c.count-2.ensures ∙ (ap after c.sent.ensures ∙ (ap (λ p. after (reported_by o.next.id p)) same ∙ ap (λ (t : State). record t { steps = suc t.steps; parts = slice_set t.parts o.block (reported_by o.next.id part) }) c.self.view_is)) in
     let room = c.in-Ok.ensures.members in
     let is_report = subst (λ (m : Config). (ks : List Kept) → AreFew 256 (offered o).entry.kept ks → c.filled-report.result.0 ≡ report_by (configured_model m) c.set_of-set.result part (offered o) ks) config
@@ -127,4 +128,4 @@ returns-clause-does c = λ c' h was.
     given-for c.args.self.now z c.count-2.new.self c' h c.args.moment c.args.actor c.args.a (subst IsServable config c.self.invariant.furnished.servable) c.requires.number was here c.args.actor (offered o) c.set_of-set.result part c.filled-report.result.0
     is c.requires.writer refl c.requires.empty (ap (λ (ps : List ReportBlock). length ps) stay ∙ (c.self.invariant.furnished.count ∙ ap (λ (d : Config). length d.blocks) config))
     (ap (first_offered c.args.a 0) (stay ∙ sym c.deref.ensures.value) ∙ (sym c.first_offer.ensures.first ∙ ap (option_map offered) c.in-Some.is)) (subst (λ (ps : List ReportBlock). slice_get ps o.block ≡ Some part) (sym stay) there)
-    (subst (λ (m : Config). c.set_of-set.result ≡ served_members m part.block.options.dat_set) config shapes) is_report
+    booked (subst (λ (b : Book). c.set_of-set.result ≡ served_members c' b part.block.options.dat_set) (sym book) (subst (λ (m : Config). c.set_of-set.result ≡ served_members m u.sets part.block.options.dat_set) config shapes)) is_report

@@ -12,7 +12,8 @@ use Rattle.report_block.specs.Writes.{reported_by}
 use Rattle.report_block.specs.Reporting.{offered, report_by}
 use Rattle.bay_config.specs.Servable.{IsServable}
 use Rattle.bay_core.specs.Standing.{StandsAt}
-use Rattle.bay_core.specs.State.{State}
+use Rattle.data_sets.specs.Books.{Book}
+use Rattle.bay_core.specs.State.{State, AreServedSets}
 use Rattle.bay_core.specs.Timed.{at_arrival}
 use Rattle.bay_core.specs.Whole.{IsWhole}
 use Rattle.bay_core.proofs.ShapeLaws.{served_members}
@@ -38,7 +39,7 @@ report_of-requires-clause-few c =
     let within = subst (λ (ps : List ReportBlock). block < length ps) c.deref.ensures.value c.in-Some.ensures.within in
     let shapes = c.set_of-set.ensures ∙ (part-fits s.model s.values s.sets s.parts.items s.watch s.octets (vec_capacity s.changes) c.self.invariant.furnished block c.index-part.result.now
     (at-place s.parts.items block c.index-part.result.now within c.index-part.ensures)).1 in
-    omega (arith, ap length shapes, served-few s.model c.self.invariant.furnished.servable c.index-part.result.now.block.options.dat_set)
+    omega (arith, ap length shapes, served-few s.model s.sets c.self.invariant.furnished.booked.served c.index-part.result.now.block.options.dat_set)
 
 pub report_of-requires-clause-nodes : goal.report_of-requires-clause-nodes
 report_of-requires-clause-nodes c =
@@ -47,7 +48,7 @@ report_of-requires-clause-nodes c =
     let within = subst (λ (ps : List ReportBlock). block < length ps) c.deref.ensures.value c.in-Some.ensures.within in
     let shapes = c.set_of-set.ensures ∙ (part-fits s.model s.values s.sets s.parts.items s.watch s.octets (vec_capacity s.changes) c.self.invariant.furnished block c.index-part.result.now
     (at-place s.parts.items block c.index-part.result.now within c.index-part.ensures)).1 in
-    subst (AreNodes s.model) (sym shapes) (shapes-there s.model c.self.invariant.furnished.servable c.index-part.result.now.block.options.dat_set)
+    subst (AreNodes s.model) (sym shapes) (shapes-there s.model s.sets c.self.invariant.furnished.booked.served c.index-part.result.now.block.options.dat_set)
 
 pub invariant_of-self-3 : goal.invariant_of-self-3
 invariant_of-self-3 c =
@@ -83,14 +84,16 @@ returns-clause-does c = λ c' h was.
     let within = subst (λ (ps : List ReportBlock). o.block < length ps) c.deref.ensures.value c.in-Some.ensures.within in
     let there = at-place s.parts.items o.block part within c.index-part.ensures in
     let shapes = c.set_of-set.ensures ∙ (part-fits s.model s.values s.sets s.parts.items s.watch s.octets (vec_capacity s.changes) c.self.invariant.furnished o.block part there).1 in
+    let book : z.book ≡ s.sets = ap (λ (t : State). t.book) (c.arrive-2.ensures.state ∙ ap (at_arrival c.args.moment) c.self.view_is) ∙ sym (ap (λ (t : State). t.book) c.self.view_is) in
+    let booked = subst (λ (b : Book). AreServedSets c' b) (sym book) (subst (λ (m : Config). AreServedSets m s.sets) config c.self.invariant.furnished.booked.served) in
     let moved : u.parts.items ≡ s.parts.items = ap (λ (t : State). t.parts) c.self-2.view_is ∙ stay in
     let below : o.block < length u.parts.items = subst (λ (ps : List ReportBlock). o.block < length ps) (sym moved) within in
     let again = subst (λ (ps : List ReportBlock). slice_get ps o.block ≡ Some c.index_mut.result.now) moved (at-place u.parts.items o.block c.index_mut.result.now below c.index_mut.ensures.value) in
     let same = same-part s.parts.items o.block c.index_mut.result.now part again there in
-    let after : ReportBlock → State = λ p. record { config = u.model; steps = suc u.steps; latest = u.latest; stored = u.values; parts = slice_set u.parts.items o.block p; rows = u.associations } in
+    let after : ReportBlock → State = λ p. record { config = u.model; steps = suc u.steps; latest = u.latest; stored = u.values; book = u.sets; parts = slice_set u.parts.items o.block p; rows = u.associations } in
     let is = c.count-2.ensures ∙ (ap after c.sent.ensures ∙ (ap (λ p. after (reported_by o.next.id p)) same ∙ ap (λ (t : State). record t { steps = suc t.steps; parts = slice_set t.parts o.block (reported_by o.next.id part) }) c.self-2.view_is)) in
     let is_report = subst (λ (m : Config). (ks : List Kept) → AreKept (offered o).entry.kept ks → c.in-Ok.report ≡ report_by (configured_model m) c.set_of-set.result part (offered o) ks) config c.in-Ok.ensures in
     given-for c.args.self.now z c.count-2.new.self c' h c.args.moment c.args.actor c.args.a (subst IsServable config c.self.invariant.furnished.servable) c.requires.number was here c.args.actor (offered o) c.set_of-set.result part c.in-Ok.report
     is c.requires.writer refl c.requires.empty (ap (λ (ps : List ReportBlock). length ps) stay ∙ (c.self.invariant.furnished.count ∙ ap (λ (d : Config). length d.blocks) config))
     (ap (first_offered c.args.a 0) (stay ∙ sym c.deref.ensures.value) ∙ (sym c.first_offer.ensures.first ∙ ap (option_map offered) c.in-Some.is)) (subst (λ (ps : List ReportBlock). slice_get ps o.block ≡ Some part) (sym stay) there)
-    (subst (λ (m : Config). c.set_of-set.result ≡ served_members m part.block.options.dat_set) config shapes) (λ ks few. is_report ks few.kept)
+    booked (subst (λ (b : Book). c.set_of-set.result ≡ served_members c' b part.block.options.dat_set) (sym book) (subst (λ (m : Config). c.set_of-set.result ≡ served_members m s.sets part.block.options.dat_set) config shapes)) (λ ks few. is_report ks few.kept)

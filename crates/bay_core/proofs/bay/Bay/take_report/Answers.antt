@@ -1,7 +1,5 @@
 use Rattle.std.proofs.Common.{◌≡◌, ℕ, List, max, arith, subst, ap}
 use Rattle.object_model.specs.Nodes.{node_rows}
-use Rattle.object_model.specs.Tables.{set_rows}
-use Rattle.data_sets.specs.Books.{opened}
 use Rattle.report_block.specs.declared.block.ReportBlock.{ReportBlock}
 use Rattle.bay_core.specs.Dues.{AreBefore}
 use Rattle.bay_core.specs.State.{State}
@@ -14,6 +12,6 @@ take_quiet-requires-clause-quiet c =
     let s = c.self.inside in
     let now : ℕ = max s.latest c.args.moment in
     let before : AreBefore now s.dues = subst (λ k. AreBefore k s.dues) c.later.ensures (c.have_come.ensures c.if-have_come.false) in
-    let stay = none-arrives s.latest now (omega arith) s.dues before (node_rows s.model) (opened (set_rows s.model)) s.values s.steps s.parts.items c.self.invariant.quiet in
+    let stay = none-arrives s.latest now (omega arith) s.dues before (node_rows s.model) s.sets s.values s.steps s.parts.items c.self.invariant.quiet in
     subst (λ (t : State). at_arrival c.args.moment t ≡ record t { latest = max t.latest c.args.moment }) c.self.view_is
-    (ap (λ (ps : List ReportBlock). record { config = s.model; steps = s.steps; latest = now; stored = s.values; parts = ps; rows = s.associations }) stay)
+    (ap (λ (ps : List ReportBlock). record { config = s.model; steps = s.steps; latest = now; stored = s.values; book = s.sets; parts = ps; rows = s.associations }) stay)

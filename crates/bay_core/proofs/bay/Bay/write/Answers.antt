@@ -1,11 +1,8 @@
-use Rattle.std.proofs.Common.{◌<◌, ◌∙◌, length, suc, ap, sym, subst, arith}
-use Rattle.sv_base.specs.declared.config.Config.{Config}
+use Rattle.std.proofs.Common.{◌<◌, ◌∙◌, length, suc, refl, ap, sym, subst, arith}
 use Rattle.bay_model.specs.declared.answer.Answer.TheVariants as answers
 use Rattle.bay_model.specs.Answers.{points}
 use Rattle.bay_model.specs.Named.{configured_model}
 use Rattle.bay_model.specs.Points.{Past}
-use Rattle.object_model.specs.Tables.{set_rows}
-use Rattle.data_sets.specs.Books.{opened}
 use Rattle.bay_core.specs.Put.{general_at}
 use Rattle.bay_core.specs.Standing.{StandsFor}
 use Rattle.bay_core.specs.State.{State}
@@ -34,7 +31,7 @@ returns-clause-does c = λ c' h was.
     let part = is-at z.parts b below in
     let open_ = opener-told (configured_model c') c.self.inside.associations past c.args.a.0 c.in-Some.opener st.1.associations c.requires.number (sym c.opener.ensures ∙ c.in-Some.is) in
     let none = opener-fault past c.args.actor.0 c.args.a.0 open_.0 open_.1 (same-number-told c.args.actor.0 open_.0.opener (c.if-actor-opener.false ∙ sym open_.2)) in
-    let wrote = wrote-for c.args.self.now z c.count.new.self c' h c.args.moment c.args.actor.0 c.args.b c.args.a c.args.comp v (named_by c.args.comp v (opened (set_rows z.config))) (general_at part.0 z) part.0
-    (ap (λ (d : Config). named_by c.args.comp v (opened (set_rows d))) here.is_config) part.1 (c.write_at_arrival-answer.ensures.general part.0 part.1 c' (length h) c.args.moment past here) here was none
+    let wrote = wrote-for c.args.self.now z c.count.new.self c' h c.args.moment c.args.actor.0 c.args.b c.args.a c.args.comp v (named_by c.args.comp v z.book) (general_at part.0 z) part.0
+    refl part.1 (c.write_at_arrival-answer.ensures.general part.0 part.1 c' (length h) c.args.moment past here) here was none
     (c.count.ensures ∙ ap (λ (s : State). record s { steps = suc s.steps }) (c.write_at_arrival-answer.ensures.written part.0 part.1)) in
     (ap answers.Wrote (c.write_at_arrival-answer.ensures.answer part.0 part.1) ∙ wrote.0, wrote.1)

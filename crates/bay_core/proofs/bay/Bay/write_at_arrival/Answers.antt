@@ -7,7 +7,6 @@ use Rattle.object_model.specs.Nodes.{node_rows}
 use Rattle.value_store.specs.Stored.{Stored}
 use Rattle.report_block.specs.EntryOctets.{IsWritable}
 use Rattle.bay_core.specs.Events.{IsReady}
-use Rattle.data_sets.specs.Books.{Book}
 use Rattle.report_block.specs.declared.block.ReportBlock.{ReportBlock}
 use Rattle.report_block.specs.Alls.{all_pieces, for_general}
 use Rattle.report_block.specs.Components.{after_writing}
@@ -17,10 +16,9 @@ use Rattle.bay_core.specs.Put.{answer_at, written_at}
 use Rattle.bay_core.specs.State.{State}
 use Rattle.bay_core.specs.Timed.{AreQuietUntil}
 use Rattle.bay_core.specs.Watched.{members_in}
-use Rattle.bay_core.specs.Written.{named_by}
 use Rattle.bay_core.proofs.QuietLaws.{quiet-set}
 use Rattle.bay_core.proofs.TakenLaws.{same-part}
-use Rattle.bay_core.proofs.ArriveLaws.{HasAll, HaveMembers, general-are}
+use Rattle.bay_core.proofs.ArriveLaws.{HasAll, general-are}
 use Rattle.bay_core.proofs.WrittenLaws.{written-at}
 use Rattle.bay_core.proofs.BookLaws.{part-lent}
 use Rattle.bay_core.proofs.SettingLaws.{are-ready, have-members}
@@ -36,7 +34,7 @@ set_of-set-requires c =
     let fit = c.self.invariant.furnished in
     let below : b < length parts = subst (λ (t : State). b < length t.parts) (sym c.self.view_is) c.requires in
     let there = at-place parts b part below c.index_mut-part.ensures.value in
-    part-lent s.model fit.servable s.sets part fit.booked (fit.sets b part there)
+    part-lent s.model s.sets fit.booked.served part (fit.sets b part there)
 
 pub write_any-answer-requires-clause-few : goal.write_any-answer-requires-clause-few
 write_any-answer-requires-clause-few c =
@@ -121,7 +119,7 @@ invariant_of-self c =
     let f = wrote.furnished c.follow.new.self c.follow.ensures.index c.follow.ensures.notes c.follow.ensures.options in
     let new = c.write_any-answer.new.self in
     record {
-      furnished = record { servable = f.servable; values = f.values; count = f.count; booked = f.booked; sets = f.sets; windows = f.windows; watch = f.watch; entry = c.write_any-answer.ensures.room ∙ fit.entry; changes = f.changes };
+      furnished = record { servable = f.servable; values = f.values; count = f.count; booked = f.booked; sets = f.sets; dat_sets = f.dat_sets; windows = f.windows; watch = f.watch; entry = c.write_any-answer.ensures.room ∙ fit.entry; changes = f.changes };
       quiet = subst (λ (dues : List (Option ℕ)). AreQuietUntil s.latest dues (slice_set parts b new)) (sym c.put.ensures)
           (quiet-set s.latest s.dues parts b c.due_at-due.result new (λ now before. subst (IsBefore now) c.due_at-due.ensures before) c.self.invariant.quiet);
       roomy = c.self.invariant.roomy;
@@ -138,7 +136,7 @@ returns-clause-answer c = λ own found.
     let there = at-place parts b part below c.index_mut-part.ensures.value in
     let v = c.args.value.now in
     let same = same-part parts b part own there (subst (λ (t : State). slice_get t.parts b ≡ Some own) (sym c.self.view_is) found) in
-    let is_named = c.set_named.ensures ∙ ap (named_by c.args.comp v) fit.booked in
+    let is_named = c.set_named.ensures in
     c.write_any-answer.ensures.answer
     ∙ (ap₂ (λ (n : Option ℕ) (p : ReportBlock). without_effect (write_answer c.args.a c.args.comp v n p)) is_named same
     ∙ ap (λ (t : State). without_effect (answer_at c.args.a c.args.comp v own t)) c.self.view_is)
@@ -158,19 +156,20 @@ returns-clause-written c = λ own found.
     let kept : c.write_any-answer.new.self ≡ after_writing c.args.a c.args.comp v named s.latest s.steps all part (write_answer c.args.a c.args.comp v named part)
     = c.write_any-answer.ensures.written ∙ ap₂ (λ (st : List Stored) (l : List MemberShape). after_writing c.args.a c.args.comp v named s.latest s.steps (all_pieces st l for_general) part (write_answer c.args.a c.args.comp v named part)) c.store.ensures c.set_of-set.ensures in
     let same = same-part parts b part own there (subst (λ (t : State). slice_get t.parts b ≡ Some own) (sym c.self.view_is) found) in
-    let with : Option ℕ → Book → ReportBlock → ReportBlock
-    = λ n book p. after_writing c.args.a c.args.comp v n s.latest s.steps (all_pieces s.values (members_in (node_rows s.model) book p) for_general) p (write_answer c.args.a c.args.comp v n p) in
-    let is = kept ∙ (ap (λ n. with n s.sets part) c.set_named.ensures ∙ ap₂ (λ (book : Book) (p : ReportBlock). with (named_by c.args.comp v book) book p) fit.booked same) in
-    ap (λ (p : ReportBlock). record { config = s.model; steps = s.steps; latest = s.latest; stored = s.values; parts = slice_set parts b p; rows = s.associations }) is
+    let with : Option ℕ → ReportBlock → ReportBlock
+    = λ n p. after_writing c.args.a c.args.comp v n s.latest s.steps (all_pieces s.values (members_in (node_rows s.model) s.sets p) for_general) p (write_answer c.args.a c.args.comp v n p) in
+    let is = kept ∙ ap₂ with c.set_named.ensures same in
+    ap (λ (p : ReportBlock). record { config = s.model; steps = s.steps; latest = s.latest; stored = s.values; book = s.sets; parts = slice_set parts b p; rows = s.associations }) is
     ∙ ap (λ (t : State). written_at c.args.a b c.args.comp v own t) c.self.view_is
 
 pub returns-clause-general : goal.returns-clause-general
 returns-clause-general c = λ own found.
     let s = c.self.inside in
     let fit = c.self.invariant.furnished in
-    let all : HasAll s.model s.values s.parts.items = record {
+    let all : HasAll s.model s.values s.sets s.parts.items = record {
       servable = fit.servable;
+      sets = fit.booked.served;
       values = fit.values;
-      members = subst (λ b. HaveMembers (node_rows s.model) b s.model s.parts.items) fit.booked (have-members s.model (node_rows s.model) s.values s.sets s.parts.items s.watch s.octets (vec_capacity s.changes) refl fit);
+      members = have-members s.model (node_rows s.model) s.values s.sets s.parts.items s.watch s.octets (vec_capacity s.changes) refl fit;
     } in
-    general-are c.args.self.now c.args.a c.args.b.0 c.args.comp c.args.value.now own (subst (λ (t : State). HasAll t.config t.stored t.parts) c.self.view_is all) found
+    general-are c.args.self.now c.args.a c.args.b.0 c.args.comp c.args.value.now own (subst (λ (t : State). HasAll t.config t.stored t.book t.parts) c.self.view_is all) found

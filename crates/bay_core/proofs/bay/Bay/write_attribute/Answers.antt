@@ -15,7 +15,7 @@ returns-in-Err-clause-written c = λ a.
     let s = c.self.inside in
     let x = c.args.attr.0 in
     let v = c.args.value.now in
-    let z : State = record { config = s.model; steps = s.steps; latest = s.latest; stored = s.values; parts = s.parts.items; rows = s.associations } in
+    let z : State = record { config = s.model; steps = s.steps; latest = s.latest; stored = s.values; book = s.sets; parts = s.parts.items; rows = s.associations } in
     let fit = c.self.invariant.furnished in
     let there : x < length s.values = subst (λ (t : State). x < length t.stored) (sym c.self.view_is) c.requires.there in
     let code = c.refusal.ensures ∙ ap (λ e. set_code e c.in-Err.fault) c.is_edited.ensures in
@@ -29,7 +29,7 @@ event_all-requires-clause-ready c =
     let s = c.self.inside in
     let x = c.args.attr.0 in
     let v = c.args.value.now in
-    let z : State = record { config = s.model; steps = s.steps; latest = s.latest; stored = s.values; parts = s.parts.items; rows = s.associations } in
+    let z : State = record { config = s.model; steps = s.steps; latest = s.latest; stored = s.values; book = s.sets; parts = s.parts.items; rows = s.associations } in
     let fit = c.self.invariant.furnished in
     let there : x < length s.values = subst (λ (t : State). x < length t.stored) (sym c.self.view_is) c.requires.there in
     let held = one-held z fit.servable fit.values x v there c.write.new.self c.in_default.ensures.set c.requires.sound (sym c.in_default.is ∙ c.write.ensures.answer) in
@@ -41,7 +41,7 @@ invariant_of-self-2 c =
     let s = c.self.inside in
     let x = c.args.attr.0 in
     let v = c.args.value.now in
-    let z : State = record { config = s.model; steps = s.steps; latest = s.latest; stored = s.values; parts = s.parts.items; rows = s.associations } in
+    let z : State = record { config = s.model; steps = s.steps; latest = s.latest; stored = s.values; book = s.sets; parts = s.parts.items; rows = s.associations } in
     let fit = c.self.invariant.furnished in
     let there : x < length s.values = subst (λ (t : State). x < length t.stored) (sym c.self.view_is) c.requires.there in
     let held = one-held z fit.servable fit.values x v there c.write.new.self c.in_default.ensures.set c.requires.sound (sym c.in_default.is ∙ c.write.ensures.answer) in
@@ -59,7 +59,7 @@ returns-clause-written c = λ a.
     let s = c.self.inside in
     let x = c.args.attr.0 in
     let v = c.args.value.now in
-    let z : State = record { config = s.model; steps = s.steps; latest = s.latest; stored = s.values; parts = s.parts.items; rows = s.associations } in
+    let z : State = record { config = s.model; steps = s.steps; latest = s.latest; stored = s.values; book = s.sets; parts = s.parts.items; rows = s.associations } in
     let fit = c.self.invariant.furnished in
     let there : x < length s.values = subst (λ (t : State). x < length t.stored) (sym c.self.view_is) c.requires.there in
     let rows = c.as_slice.result.now in
@@ -67,6 +67,6 @@ returns-clause-written c = λ a.
     let parts = c.event_all.ensures.parts ∙ (ap (λ (all : List Stored). after_events rows s.sets all c.as_slice-2.result.now s.latest s.steps s.parts.items) c.store.ensures
     ∙ ap (λ (changes : List Change). after_events rows s.sets c.write.new.self changes s.latest s.steps s.parts.items) c.as_slice-2.ensures.value) in
     subst (λ (w : State). IsWrite w (new c.event_all.new.parts.items) (attribute_comes a x v) (Ok tt)) c.self.view_is
-    (attribute-set z fit.servable fit.values x v there (new c.event_all.new.parts.items) rows s.sets c.write.new.self c.write.new.changes.items a
+    (attribute-set z fit.servable fit.values x v there (new c.event_all.new.parts.items) rows c.write.new.self c.write.new.changes.items a fit.booked.served
     (have-members s.model rows s.values s.sets s.parts.items s.watch s.octets (vec_capacity s.changes) (c.as_slice.ensures ∙ c.nodes.ensures) fit)
     c.requires.sound (sym c.in_default.is ∙ c.write.ensures.answer) c.in_default.ensures.set c.in_default.ensures.noted (ap new parts))

@@ -1,0 +1,76 @@
+-- The book of the configured data sets alone.
+use Rattle.std.proofs.Common.{◌≡◌, ◌≢◌, ◌<◌, ◌≤◌, ℕ, zero, suc, List, [], ◌∷◌, map, length, refl, ap, sym, ◌∙◌, subst, arith, slice_index_or, inl, inr}
+use Rattle.std.specs.List.{All}
+use Rattle.std.proofs.lemmas.List.{length-map}
+use Rattle.std.proofs.lemmas.List.Elements.{All-head, All-tail}
+use Rattle.sv_base.specs.declared.config.Config.{Config}
+use Rattle.sv_base.specs.declared.config.SetDef.{SetDef}
+use Rattle.bay_model.specs.declared.tables.SetRow.{SetRow}
+use Rattle.bay_model.specs.Generated.{within}
+use Rattle.bay_model.specs.Model.{DataSet, Node}
+use Rattle.bay_model.specs.Named.{configured_model, nodes, set_defined}
+use Rattle.bay_model.specs.Sets.{set_referred}
+use Rattle.std.specs.Prelude.{is_some, true}
+use Rattle.object_model.specs.Tables.{node_id, set_row, set_rows}
+use Rattle.data_sets.specs.Books.{Book, booked, no_set, opened}
+use Rattle.data_sets.specs.Standing.{IsNamed, data_set}
+use Rattle.bay_config.specs.Servable.{IsReferred, IsServable, IsServedSet}
+use Rattle.bay_core.specs.State.{IsBooked}
+use Rattle.bay_core.proofs.BookLaws.{known-booked}
+
+-- ---- its sets are those of the model
+
+pub back : (ns : List ℕ) → map (λ n. n.0) (map node_id ns) ≡ ns
+back [] = refl
+back (n ∷ ns) = ap (λ l. n ∷ l) (back ns)
+
+set-back : (s : DataSet) → data_set (booked (set_row s)) ≡ s
+set-back s = ap (λ l. record { domain = s.domain; item = s.item; nodes = l }) (back s.nodes)
+
+rows-back : (ss : List DataSet) → map data_set (map booked (map set_row ss)) ≡ ss
+rows-back [] = refl
+rows-back (s ∷ ss) = ap (λ d. d ∷ map data_set (map booked (map set_row ss))) (set-back s) ∙ ap (λ l. s ∷ l) (rows-back ss)
+
+pub sets-back : (c : Config) → map data_set (opened (set_rows c)).sets ≡ (configured_model c).sets
+sets-back c = rows-back (configured_model c).sets
+
+pub count-back : (c : Config) → (opened (set_rows c)).configured ≡ length (configured_model c).sets
+count-back c = length-map (configured_model c).sets set_row
+
+-- ---- each can be served and has a name, and no block is counted
+
+served-at : (c : Config) (ss : List DataSet) (k : ℕ) → All (IsServedSet c) ss → k < length (map booked (map set_row ss)) → IsServedSet c (data_set (slice_index_or (map booked (map set_row ss)) k no_set))
+served-at c [] k all below = absurd (omega (arith, below))
+served-at c (s ∷ ss) zero all below = subst (IsServedSet c) (sym (set-back s)) (All-head (IsServedSet c) s ss all)
+served-at c (s ∷ ss) (suc k) all below = served-at c ss k (All-tail (IsServedSet c) s ss all) (omega (arith, below))
+
+not-empty : (a b : List ℕ) → within a b ≡ [] → ⊥
+not-empty [] b is = cc
+not-empty (x ∷ a) b is = cc
+
+named-one : (ns : List Node) (d : SetDef) → (booked (set_row (set_defined ns d))).name.item ≢ []
+named-one ns d = not-empty d.ln d.name
+
+named-at : (ns : List Node) (ds : List SetDef) (k : ℕ) → k < length (map booked (map set_row (map (set_defined ns) ds))) → (slice_index_or (map booked (map set_row (map (set_defined ns) ds))) k no_set).name.item ≢ []
+named-at ns [] k below = absurd (omega (arith, below))
+named-at ns (d ∷ ds) zero below = named-one ns d
+named-at ns (d ∷ ds) (suc k) below = named-at ns ds k (omega (arith, below))
+
+free-at : (rows : List SetRow) (k : ℕ) → (slice_index_or (map booked rows) k no_set).holds ≡ 0
+free-at [] k = refl
+free-at (r ∷ rows) zero = refl
+free-at (r ∷ rows) (suc k) = free-at rows k
+
+pub booked-first : (c : Config) → IsServable c → IsBooked c (opened (set_rows c))
+booked-first c served = record {
+  served = λ k below. served-at c (configured_model c).sets k served.sets below;
+  named = λ k below. named-at (nodes c) c.sets k below;
+  apart = λ j k first from below same. absurd (omega (arith, from, below, length-map (set_rows c) booked));
+  free = λ k below. free-at (set_rows c) k;
+}
+
+-- ---- a DatSet
+
+pub referred-first : (c : Config) (book : Book) (d : List ℕ) → book ≡ opened (set_rows c) → IsReferred c d → IsNamed book d
+referred-first c book d is (inl e) = inl e
+referred-first c book d is (inr some) = inr (known-booked d book ∙ (ap (λ all. is_some (set_referred d all)) (ap (λ (b : Book). map data_set b.sets) is ∙ sets-back c) ∙ some))

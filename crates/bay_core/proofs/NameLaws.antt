@@ -1,0 +1,36 @@
+-- Names that a data set may have: the logical node is there.
+use Rattle.std.proofs.Common.{◌≡◌, ◌+◌, ◌∙◌, ◌∷◌, ℕ, suc, Bool, true, false, List, [], Option, None, Some, is_some, refl, ap, ap₂, sym, arith}
+use Rattle.std.specs.Prelude.{◌&&◌, ◌||◌, position, if◌then◌else◌}
+use Rattle.std.specs.Option.{option_map}
+use Rattle.std.specs.List.{list_any}
+use Rattle.std.specs.Str.{bytes_eq}
+use Rattle.std.proofs.lemmas.Slice.Eq.{bytes_eq-Decides}
+use Rattle.list_laws.proofs.Places.{place-cons}
+use Rattle.sv_base.specs.declared.config.Config.{Config}
+use Rattle.sv_base.specs.declared.numbers.NodeId.{NodeId}
+use Rattle.bay_model.specs.Definitions.{has_node}
+use Rattle.bay_model.specs.Model.{Node}
+use Rattle.bay_model.specs.Named.{configured_model, nodes}
+use Rattle.object_model.specs.Tables.{node_named}
+use Rattle.bay_core.proofs.BookLaws.{some-mapped}
+
+turned : (a b : List ℕ) → bytes_eq a b ≡ bytes_eq b a
+turned a b = by (bytes_eq a b) (bytes_eq b a) refl refl where
+  by : (x y : Bool) → bytes_eq a b ≡ x → bytes_eq b a ≡ y → x ≡ y
+  by true true one two = refl
+  by false false one two = refl
+  by true false one two = let same : a ≡ b = grind (arith, bytes_eq-Decides a b, one) in grind (arith, bytes_eq-Decides b a, two, same)
+  by false true one two = let same : b ≡ a = grind (arith, bytes_eq-Decides b a, two) in grind (arith, bytes_eq-Decides a b, one, same)
+
+some-at : (p q : Node → Bool) → ((n : Node) → p n ≡ q n) → (ns : List Node) → is_some (position p ns) ≡ list_any q ns
+some-at p q same [] = refl
+some-at p q same (n ∷ ns) = ap is_some (place-cons p n ns) ∙ by (p n) (q n) (same n) (some-at p q same ns) where
+  by : (x y : Bool) → x ≡ y → is_some (position p ns) ≡ list_any q ns → is_some (if x then Some 0 else option_map (λ i. i + 1) (position p ns)) ≡ (y || list_any q ns)
+  by true true e later = refl
+  by false false e later = some-mapped (λ i. i + 1) (position p ns) ∙ later
+  by true false e later = cc
+  by false true e later = cc
+
+pub has-told : (c : Config) (o : Option NodeId) (domain item : List ℕ) → option_map (λ (n : NodeId). n.0) o ≡ node_named (nodes c) domain item → is_some o ≡ has_node (configured_model c) domain item
+has-told c o domain item is = sym (some-mapped (λ (n : NodeId). n.0) o) ∙ (ap is_some is
+    ∙ some-at (λ (n : Node). bytes_eq domain n.domain && bytes_eq item n.item) (λ (n : Node). bytes_eq n.domain domain && bytes_eq n.item item) (λ n. ap₂ (λ x y. x && y) (turned domain n.domain) (turned item n.item)) (nodes c))

@@ -1,0 +1,10 @@
+use Rattle.std.proofs.Common.{refl, rules, ◌<◌, length, ap, ◌∙◌, slice_set}
+use Rattle.report_block.specs.Writes.{renumbered}
+use Rattle.list_laws.proofs.EachLaws.{one-more}
+use Rattle.bay_core.proofs.deleting.renumber_all.Goals as goal
+
+pub loop-place-preserved : goal.loop-place-preserved
+loop-place-preserved c =
+    let below : c.loop-place.place < length c.loop-place.parts.items = search rules in
+    let done = one-more (renumbered c.args.gone) c.args.parts.now.items c.loop-place.parts.items c.loop-place.place c.index_mut.result.now c.loop-place.invariant.0 below c.index_mut.ensures.value in
+    (ap (slice_set c.loop-place.parts.items c.loop-place.place) c.renumber.ensures ∙ done.0, done.1, refl)

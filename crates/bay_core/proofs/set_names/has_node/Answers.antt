@@ -1,0 +1,6 @@
+use Rattle.std.proofs.Common.{◌∙◌}
+use Rattle.bay_core.proofs.NameLaws.{has-told}
+use Rattle.bay_core.proofs.set_names.has_node.Goals as goal
+
+pub returns : goal.returns
+returns c = c.is_some.ensures ∙ has-told c.args.model.now c.resolve.result c.args.domain.now c.args.node.now c.resolve.ensures

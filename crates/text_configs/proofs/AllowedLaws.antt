@@ -1,0 +1,242 @@
+-- Each node of a text's configuration that may be a member of a data set can be one, and has a short reference.
+use Rattle.std.proofs.Common.{◌≡◌, ℕ, zero, suc, ◌+◌, ◌<◌, ◌≤◌, ◌==◌, ◌&&◌, ◌⊎◌, inl, inr, Bool, true, false, List, [], ◌∷◌, ◌++◌, length, map, unwrap_or, nat_le, slice_get, refl, sym, ap, ap₂, subst, ◌∙◌, arith, append_assoc, append-nil, true≢false, length-append}
+use Rattle.std.specs.List.{list_all, list_any}
+use Rattle.std.specs.Prelude.{codes}
+use Rattle.std.specs.Str.{bytes_eq}
+use Rattle.std.proofs.lemmas.Bool.{and_parts}
+use Rattle.std.proofs.lemmas.Bool.Decides.{eqb_tells, nat_tests}
+use Rattle.std.proofs.lemmas.List.{append_cancel_left}
+use Rattle.list_laws.proofs.Distinct.{octets_same}
+use Rattle.sv_base.specs.declared.config.Config.{Config}
+use Rattle.sv_base.specs.declared.types.TypeOf.{TypeOf}
+use Rattle.bay_model.specs.declared.components.Comp.{Comp}
+use Rattle.bay_model.specs.declared.components.Comp.TheVariants as comps
+use Rattle.bay_model.specs.Model.{Node, structure, none, several}
+use Rattle.bay_model.specs.Attributes.{attributes}
+use Rattle.bay_model.specs.ComponentTable.{comp_name}
+use Rattle.bay_model.specs.Generated.{Named}
+use Rattle.bay_model.specs.Lookups.{node_of}
+use Rattle.bay_model.specs.NamedLines as named
+use Rattle.bay_model.specs.NameTree.{below, first_name, grown, is_itself, longest, own_type, rest_of, role_of}
+use Rattle.bay_model.specs.Named.{configured_model, nodes, places_in}
+use Rattle.bay_model.specs.Places.{Place, constraint, largest, may_be_member, member_constraints, node_at, place, places}
+use Rattle.bay_model.specs.Reports.{reference_at}
+use Rattle.text_words.specs.Names.{is_fc, is_letter, is_name, is_name_octet}
+use Rattle.bay_config.specs.Servable.{IsMember, IsShortMember, attr_type}
+use Rattle.list_laws.proofs.Among.{Among, At, at-among, of-each, some-passes}
+use Rattle.text_configs.proofs.JoinedLaws.{NoDollar, first, rest, first-more, rest-more, rest-alone}
+use Rattle.text_configs.proofs.NamedLaws.{IsFirst, first-of, below-of, placed, place_at, deeper}
+use Rattle.text_configs.proofs.EntryLaws.{named_of}
+use Rattle.text_configs.proofs.FormLaws.{IsFormed, IsTree, are-formed, formed, places-formed}
+use Rattle.text_configs.proofs.TreeLaws.{grown-tree, part-of}
+use Rattle.text_configs.proofs.PlaceLaws.{first-without, dollar-within, item-behind, descend}
+use Rattle.text_configs.proofs.OrderLaws.{IsAttributeName, IsComponentName, IsNodeName, named-in}
+use Rattle.text_configs.proofs.BelowLaws.{IsTold, all-entries, entries-below}
+use Rattle.text_configs.proofs.FindLaws.{domain-of}
+use Rattle.text_configs.proofs.MemberLaws.{IsFit, member-of, node-at-place}
+
+-- ---- items
+
+-- an item goes on behind its first name, or is that
+pub split-at : (item : List ℕ) → (item ≡ first item ++ 36 ∷ rest item) ⊎ (item ≡ first item)
+split-at [] = inr refl
+split-at (o ∷ os) = by (eqb_tells o 36) (split-at os) where
+  by : ((o == 36) ≡ true × (o ≡ 36)) ⊎ ((o == 36) ≡ false × (o ≡ 36 → ⊥)) → (os ≡ first os ++ 36 ∷ rest os) ⊎ (os ≡ first os) → ((o ∷ os) ≡ first (o ∷ os) ++ 36 ∷ rest (o ∷ os)) ⊎ ((o ∷ os) ≡ first (o ∷ os))
+  by (inl t) go = inl (subst (λ x. (x ∷ os) ≡ first (x ∷ os) ++ 36 ∷ rest (x ∷ os)) (sym t.1) refl)
+  by (inr t) (inl s) = inl (ap (λ l. o ∷ l) s ∙ sym (ap₂ (λ f r. f ++ 36 ∷ r) (first-more o os t.0) (rest-more o os t.0)))
+  by (inr t) (inr s) = inr (ap (λ l. o ∷ l) s ∙ sym (first-more o os t.0))
+
+-- the item of a place is where that of a name begins
+begins : (l : ℕ) (ns : List Named) (before : List ℕ) (p : Place) → Among p (places before (grown l ns)) → (n : Named) × Among n ns × (is_itself n ≡ false) × (g : List ℕ) × (before ++ n.item ≡ p.item ++ g)
+begins zero ns before p i = absurd i
+begins (suc l) ns before p i =
+    let s = placed before l ns p i in
+    by s.0 (first-of ns s.0 s.1.name) s.1.at (λ j. begins l (below s.0 ns) (before ++ s.0 ++ 36 ∷ []) p j)
+  where
+    whole : (n : Named) (f : List ℕ) → f ≡ first_name n → (before ++ f) ≡ p.item → (n.item ≡ first n.item ++ 36 ∷ rest n.item) ⊎ (n.item ≡ first n.item) → (g : List ℕ) × (before ++ n.item ≡ p.item ++ g)
+    whole n f is item (inl s) = (36 ∷ rest n.item, ap (λ l. before ++ l) (s ∙ ap (λ l. l ++ 36 ∷ rest n.item) (sym is)) ∙ (sym (append_assoc before f (36 ∷ rest n.item)) ∙ ap (λ l. l ++ 36 ∷ rest n.item) item))
+    whole n f is item (inr s) = ([], ap (λ l. before ++ l) (s ∙ sym is) ∙ (item ∙ sym (append-nil p.item)))
+
+    longer : (n m : Named) (f : List ℕ) → f ≡ first_name n → m ≡ rest_of n → is_itself m ≡ false → (n.item ≡ first n.item ++ 36 ∷ rest n.item) ⊎ (n.item ≡ first n.item) → n.item ≡ f ++ 36 ∷ m.item
+    longer n m f is left more (inl s) = s ∙ ap₂ (λ x y. x ++ 36 ∷ y) (sym is) (sym (ap (λ (q : Named). q.item) left))
+    longer n m f is left more (inr s) =
+        let empty : m.item ≡ [] = ap (λ (q : Named). q.item) left ∙ (ap rest s ∙ rest-alone (first n.item) (first-without n.item)) in
+        absurd (true≢false (sym (ap (λ t. length t == 0) empty) ∙ more))
+
+    by : (f : List ℕ) → (n : Named) × IsFirst ns f n → (p ≡ place_at before l ns f) ⊎ Among p (deeper before l ns f)
+        → (Among p (deeper before l ns f) → (m : Named) × Among m (below f ns) × (is_itself m ≡ false) × (g : List ℕ) × ((before ++ f ++ 36 ∷ []) ++ m.item ≡ p.item ++ g))
+        → (n : Named) × Among n ns × (is_itself n ≡ false) × (g : List ℕ) × (before ++ n.item ≡ p.item ++ g)
+    by f n (inl e) go = let w = whole n.0 f n.1.is (sym (ap (λ (q : Place). q.item) e)) (split-at n.0.item) in (n.0, n.1.there, n.1.longer, w.0, w.1)
+    by f n (inr j) go =
+        let m = go j in
+        let up = below-of ns f m.0 m.1 in
+        let item = longer up.0 m.0 f up.1.is up.1.left m.2 (split-at up.0.item) in
+        (up.0, up.1.there, up.1.longer, m.3, ap (λ l. before ++ l) item ∙ (sym (append_assoc before f (36 ∷ m.0.item) ∙ refl) ∙ (ends before f m.0.item ∙ m.4)))
+      where
+        ends : (b f i : List ℕ) → (b ++ f) ++ 36 ∷ i ≡ (b ++ f ++ 36 ∷ []) ++ i
+        ends b f i = sym (ap (λ l. l ++ i) (sym (append_assoc b f (36 ∷ []))) ∙ append_assoc (b ++ f) (36 ∷ []) i)
+
+-- ---- names are short
+
+name-short : (name : List ℕ) → is_name name ≡ true → length name ≤ 32
+name-short [] h = omega arith
+name-short (o ∷ octets) h =
+    let limit = (and_parts (is_letter o && list_all is_name_octet octets) (nat_le (length octets) 31) h).1 in
+    let few : length octets ≤ 31 = grind (arith, nat_tests, limit) in
+    omega (arith, few)
+
+comp-short : (k : Comp) → length (comp_name k) ≤ 11
+comp-short comps.RptID = omega arith
+comp-short comps.RptEna = omega arith
+comp-short comps.DatSet = omega arith
+comp-short comps.ConfRev = omega arith
+comp-short comps.OptFlds = omega arith
+comp-short comps.BufTm = omega arith
+comp-short comps.SqNum = omega arith
+comp-short comps.TrgOps = omega arith
+comp-short comps.IntgPd = omega arith
+comp-short comps.GI = omega arith
+comp-short comps.PurgeBuf = omega arith
+comp-short comps.EntryID = omega arith
+comp-short comps.TimeofEntry = omega arith
+
+known-of : (fc : List ℕ) → list_any (bytes_eq fc) member_constraints ≡ true → is_fc fc ≡ true
+known-of fc h =
+    let s = some-passes (bytes_eq fc) member_constraints h in
+    subst (λ f. is_fc f ≡ true) (sym (octets_same fc s.0 s.2)) (of-each (λ f. is_fc f ≡ true) member_constraints s.0 (refl, (refl, (refl, (refl, (refl, (refl, (refl, (refl, tt)))))))) s.1)
+
+-- ---- a node that may be a member
+
+node-there : (ns : List Node) (n : ℕ) → (unwrap_or (slice_get ns n) (record { domain = []; item = []; role = several; tree = structure none; attrs = []; allowed = false })).allowed ≡ true
+    → (y : Node) × At n y ns × (unwrap_or (slice_get ns n) (record { domain = []; item = []; role = several; tree = structure none; attrs = []; allowed = false }) ≡ y)
+node-there [] n h = absurd (true≢false (sym h))
+node-there (y ∷ ns) zero h = (y, refl, refl)
+node-there (y ∷ ns) (suc n) h = node-there ns n h
+
+module _ (c : Config) (told : IsTold c) where
+  abbrev kind : ℕ → TypeOf
+  kind = attr_type c
+
+  abbrev count : ℕ
+  count = length (attributes c)
+
+  module _ (domain : List ℕ) (p : Place) (i : Among p (places_in c domain)) (constrained : list_any (bytes_eq (constraint p.item)) member_constraints ≡ true) where
+    abbrev ns : List Named
+    ns = named.names_in c domain
+
+    abbrev ln : List ℕ
+    ln = first p.item
+
+    abbrev behind : List ℕ
+    behind = rest p.item
+
+    abbrev fc : List ℕ
+    fc = first behind
+
+    known : is_fc fc ≡ true
+    known = known-of fc constrained
+
+    -- it goes on behind a logical node
+    whole : p.item ≡ ln ++ 36 ∷ behind
+    whole = by (split-at p.item) where
+      by : (p.item ≡ first p.item ++ 36 ∷ rest p.item) ⊎ (p.item ≡ first p.item) → p.item ≡ ln ++ 36 ∷ behind
+      by (inl s) = s
+      by (inr s) =
+          let empty : rest p.item ≡ [] = ap rest s ∙ rest-alone (first p.item) (first-without p.item) in
+          absurd (true≢false (sym constrained ∙ ap (λ r. list_any (bytes_eq (first r)) member_constraints) empty))
+
+    one : (l : ℕ) × Among p (places (ln ++ 36 ∷ []) (grown l (below ln ns)))
+    one = descend [] (suc (longest ns)) ns p ln behind [] (first-without p.item) whole i
+
+    item-one : p.item ≡ (ln ++ 36 ∷ []) ++ behind
+    item-one = whole ∙ sym (append_assoc ln (36 ∷ []) behind)
+
+    tree-of-entries : (l : ℕ) → IsTree kind count (grown l (map (named_of kind) (all-entries c told domain ln fc known).entries))
+    tree-of-entries l =
+        let all = all-entries c told domain ln fc known in
+        grown-tree kind count l all.entries (entries-below c told domain ln fc known 10 (omega arith) all.entries all.each).entries
+
+    -- below a functional constraint
+    within : (more : List ℕ) → behind ≡ fc ++ 36 ∷ more → IsFormed kind count p
+    within more is =
+        let before : List ℕ = (ln ++ 36 ∷ []) ++ fc ++ 36 ∷ [] in
+        let two = descend (ln ++ 36 ∷ []) one.0 (below ln ns) p fc more [] (first-without behind) (item-one ∙ ap (λ l. (ln ++ 36 ∷ []) ++ l) is) one.1 in
+        let all = all-entries c told domain ln fc known in
+        let among : Among p (places before (grown two.0 (map (named_of kind) all.entries))) = subst (λ ms. Among p (places before (grown two.0 ms))) all.named two.1 in
+        of-each (IsFormed kind count) (places before (grown two.0 (map (named_of kind) all.entries))) p (places-formed kind count before (grown two.0 (map (named_of kind) all.entries)) (tree-of-entries two.0)) among
+
+    -- the functional constraint itself
+    itself : behind ≡ fc → IsFormed kind count p
+    itself is = by one.0 one.1 where
+      before : List ℕ
+      before = ln ++ 36 ∷ []
+
+      here : (l : ℕ) (f : List ℕ) → f ≡ fc → p ≡ place_at before l (below ln ns) f → IsFormed kind count p
+      here l f same e =
+          let all = all-entries c told domain ln fc known in
+          let part = part-of kind count l all.entries (entries-below c told domain ln fc known 10 (omega arith) all.entries all.each).entries (tree-of-entries l) in
+          let it = subst (λ ms. IsFormed kind count (place (before ++ fc) (role_of ms) (own_type ms) (grown l ms))) (sym all.named)
+              (formed kind count (before ++ fc) _ _ _ part.0 (are-formed kind count _ part.1)) in
+          subst (IsFormed kind count) (sym (e ∙ ap (place_at before l (below ln ns)) same)) it
+
+      at : (l : ℕ) (f : List ℕ) → (p ≡ place_at before l (below ln ns) f) ⊎ Among p (deeper before l (below ln ns) f) → IsFormed kind count p
+      at l f (inl e) = here l f (append_cancel_left before f fc (sym (ap (λ (q : Place). q.item) e) ∙ (item-one ∙ ap (λ r. before ++ r) is))) e
+      at l f (inr j) =
+          let g = item-behind (before ++ f ++ 36 ∷ []) (grown l (below f (below ln ns))) p j in
+          let tail : f ++ 36 ∷ g.0 ≡ fc = append_cancel_left before (f ++ 36 ∷ g.0) fc (sym (g.1 ∙ (append_assoc (before ++ f) (36 ∷ []) g.0 ∙ append_assoc before f (36 ∷ g.0))) ∙ (item-one ∙ ap (λ r. before ++ r) is)) in
+          absurd (dollar-within f g.0 (subst NoDollar (sym tail) (first-without behind)))
+
+      by : (l : ℕ) → Among p (places before (grown l (below ln ns))) → IsFormed kind count p
+      by zero j = absurd j
+      by (suc l) j = let s = placed before l (below ln ns) p j in at l s.0 s.1.at
+
+    is-formed : IsFormed kind count p
+    is-formed = by (split-at behind) where
+      by : (behind ≡ first behind ++ 36 ∷ rest behind) ⊎ (behind ≡ first behind) → IsFormed kind count p
+      by (inl s) = within (rest behind) s
+      by (inr s) = itself s
+
+    -- its item is short
+    short-by : (n : Named) → IsNodeName c n ⊎ (IsAttributeName c domain n ⊎ IsComponentName c n) → length n.item ≤ 96
+    short-by n (inl h) = omega (arith, ap (λ (q : Named). length q.item) h.is, name-short h.node.ln (told.nodes h.node h.there).0)
+    short-by n (inr (inl h)) = omega (arith, ap (λ (q : Named). length q.item) h.is, (told.attrs h.attr (at-among h.at h.attr c.attrs h.there)).short)
+    short-by n (inr (inr h)) =
+        let b = told.blocks h.block h.there in
+        let item : n.item ≡ ((h.block.ln ++ 36 ∷ codes "BR") ++ 36 ∷ h.block.name) ++ 36 ∷ comp_name h.part = ap (λ (q : Named). q.item) h.is in
+        omega (
+          arith,
+          ap length item,
+          length-append ((h.block.ln ++ 36 ∷ codes "BR") ++ 36 ∷ h.block.name) (36 ∷ comp_name h.part),
+          length-append (h.block.ln ++ 36 ∷ codes "BR") (36 ∷ h.block.name),
+          length-append h.block.ln (36 ∷ codes "BR"),
+          name-short h.block.ln b.ln,
+          name-short h.block.name b.name,
+          comp-short h.part,
+        )
+
+    item-short : length p.item ≤ 96
+    item-short =
+        let b = begins (suc (longest ns)) ns [] p i in
+        omega (arith, short-by b.0 (named-in c told.bare domain b.0 b.1), ap length b.4, length-append p.item b.3)
+
+  domain-short : (domain : List ℕ) → Among domain (named.domains c) → length domain ≤ 32
+  domain-short domain i = by (domain-of domain [] c.nodes i) where
+    by : ⊥ ⊎ ((n : _) × Among n c.nodes × (domain ≡ n.domain)) → length domain ≤ 32
+    by (inl j) = absurd j
+    by (inr h) = name-short domain (ap is_name h.2 ∙ (told.nodes h.0 h.1).1)
+
+  pub allowed-member : (n : ℕ) → (node_of (configured_model c) n).allowed ≡ true → IsShortMember c n
+  allowed-member n h =
+      let y = node-there (nodes c) n h in
+      let at = node-at-place (places_in c) (named.domains c) n y.0 y.1 in
+      let d = at.domain in
+      let p = at.place in
+      let node : node_of (configured_model c) n ≡ node_at d p = y.2 ∙ at.is in
+      let open_ : (may_be_member p && nat_le (largest p.kind) 500) ≡ true = sym (ap (λ (m : Node). m.allowed) node) ∙ h in
+      let both = and_parts (may_be_member p) (nat_le (largest p.kind) 500) open_ in
+      let constrained = (and_parts p.is_data (list_any (bytes_eq (constraint p.item)) member_constraints) both.0).1 in
+      let small : largest p.kind ≤ 500 = grind (arith, nat_tests, both.1) in
+      record {
+        member = member-of c n d p y.0 y.1 at.is at.kind (record { formed = is-formed d p at.place_there constrained; constrained = constrained; small = small });
+        short = (let reference = ap (λ (m : Node). length (m.domain ++ 47 ∷ m.item)) node in omega (arith, reference, length-append d (47 ∷ p.item), domain-short d at.domain_there, item-short d p at.place_there constrained));
+      }
