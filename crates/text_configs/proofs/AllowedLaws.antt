@@ -176,7 +176,7 @@ module _ (c : Config) (told : IsTold c) where
           let all = all-entries c told domain ln fc known in
           let part = part-of kind count l all.entries (entries-below c told domain ln fc known 10 (omega arith) all.entries all.each).entries (tree-of-entries l) in
           let it = subst (λ ms. IsFormed kind count (place (before ++ fc) (role_of ms) (own_type ms) (grown l ms))) (sym all.named)
-              (formed kind count (before ++ fc) _ _ _ part.0 (are-formed kind count _ part.1)) in
+          (formed kind count (before ++ fc) _ _ _ part.0 (are-formed kind count _ part.1)) in
           subst (IsFormed kind count) (sym (e ∙ ap (place_at before l (below ln ns)) same)) it
 
       at : (l : ℕ) (f : List ℕ) → (p ≡ place_at before l (below ln ns) f) ⊎ Among p (deeper before l (below ln ns) f) → IsFormed kind count p
