@@ -37,6 +37,6 @@ returns-in-WriteSet-clause-answered c =
 pub returns-in_default-clause-answered : goal.returns-in_default-clause-answered
 returns-in_default-clause-answered c =
     let k = c.args.service.now in
-    quiet-goes c.args.self.now c.answer_read.new.self c.args.moment c.args.a.0 {k} {k} c.answer_read.result refl
+    quiet-goes c.args.self.now c.answer_read.new.self c.args.moment c.args.a.0 {s = k} {k = k} c.answer_read.result refl
     (quiet-read k (reading-of k c.in_default.not-WriteVars c.in_default.not-WriteSet c.in_default.not-Define c.in_default.not-Delete))
     (subst (λ (t : State). IsServable t.config) c.self.view_is c.self.invariant.furnished.servable) c.requires.number c.answer_read.ensures.answered
