@@ -71,10 +71,10 @@ begins (suc l) ns before p i =
         let m = go j in
         let up = below-of ns f m.0 m.1 in
         let item = longer up.0 m.0 f up.1.is up.1.left m.2 (split-at up.0.item) in
-        (up.0, up.1.there, up.1.longer, m.3, ap (λ l. before ++ l) item ∙ (sym (append_assoc before f (36 ∷ m.0.item) ∙ refl) ∙ (ends before f m.0.item ∙ m.4)))
+        (up.0, up.1.there, up.1.longer, m.3, ap (λ l. before ++ l) item ∙ (ends before f m.0.item ∙ m.4))
       where
-        ends : (b f i : List ℕ) → (b ++ f) ++ 36 ∷ i ≡ (b ++ f ++ 36 ∷ []) ++ i
-        ends b f i = sym (ap (λ l. l ++ i) (sym (append_assoc b f (36 ∷ []))) ∙ append_assoc (b ++ f) (36 ∷ []) i)
+        ends : (b f i : List ℕ) → b ++ (f ++ 36 ∷ i) ≡ (b ++ f ++ 36 ∷ []) ++ i
+        ends b f i = sym (append_assoc b f (36 ∷ i)) ∙ sym (append_assoc (b ++ f) (36 ∷ []) i)
 
 -- ---- names are short
 
