@@ -84,7 +84,10 @@ impl Playing {
         ensures plays { IfOk result (λ p. Plays p bay.config start) }
         ensures steps { IfOk result (λ p. p.bay.steps ≡ bay.steps) }
     {
-        let forms = Forms::new(alloc)?;
+        let Ok(forms) = Forms::new(alloc) else {
+            drop(bay);
+            return Err(AllocError);
+        };
         Ok(Playing {
             bay,
             moment: Moment::first(),
@@ -134,8 +137,9 @@ impl Playing {
     {
         match self.bay.step(alloc, self.moment, actor, step) {
             Ok(answer) => {
-                lines_of(alloc, self.bay.model(), shape, step, &answer, out)?;
+                let written = lines_of(alloc, self.bay.model(), shape, step, &answer, out);
                 self.bay.reuse(answer);
+                written?;
                 Ok(None)
             }
             Err(fault) => match stop(number, fault) {
