@@ -1,5 +1,6 @@
 //! What calls of a control are answered, by ctlModel: AddCauses, acts and terminations (IEC 61850-7-2, the control class model).
 
+ghost use Rattle.std.specs.Prelude.{IfOk};
 ghost use Rattle.control_core.specs.Opening.{IsCtlKind};
 
 use bay_model::{ApplError, Termination};
