@@ -117,15 +117,22 @@ const ROWS: [Row; 20] = [
         "",
     ),
     (
-        "a definition",
-        "record 1\n[0 011001 0 200>open 1 mms 65000\npdu 1 a017020101ab12a10e1a04424159311a064c4c4e302458a000\nend\n",
-        Status::Record { line: 23, kind: 9 },
-        "",
+        "a data set that a client defines",
+        "record 1\n[0 011001 0 200>open 1 direct\nopen 2 mms 65000\n\
+            pdu 2 a03a020101ab35a1101a04424159311a084c4c4e302444796ea021301fa01da11b1a04424159311a134d4d585531244d5824546f7457246d61672469\n\
+            take 2\n\
+            pdu 2 a03a020101ab35a1101a04424159311a084c4c4e302444796ea021301fa01da11b1a04424159311a134d4d585531244d5824546f7457246d61672469\n\
+            take 2\npdu 2 a012020102a10da003800102a106810442415931\ntake 2\nwrite 1 & DatSet 'BAY1/LLN0$Dyn\nat !10\nset @ 5\n\
+            write 1 & RptEna T\ntake 1\nend\n",
+        Status::Ok,
+        "2 pdu a1050201018b00\n2 pdu a20a800101a205a003820105\n\
+            2 pdu a121020102a11ca0171a084c4c4e302444796e1a0b4c4c4e30244576656e7473810100\n1 ok\n1 ok\n\
+            1 report & sq 0 id 1 time !10 ovfl 0 1=d:850105\nend\n",
     ),
     (
         "a deletion behind sixteen that wait",
         "record 1\n[0 011001 0 200>open 1 mms 65000\n%%%%pdu 1 a005020101ad00\nend\n",
-        Status::Record { line: 39, kind: 9 },
+        Status::Limit { which: 2, line: 39 },
         "",
     ),
     (
