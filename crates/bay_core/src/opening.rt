@@ -130,6 +130,13 @@ fn begun(model: Model, made: Made) -> Bay
     ensures steps { result.steps ≡ 0 }
     ensures stands { StandsFor result model [] }
 {
+    let Rooms {
+        dues,
+        associations,
+        changes,
+        events,
+        octets,
+    } = made.rooms;
     Bay {
         model,
         steps: 0,
@@ -137,12 +144,12 @@ fn begun(model: Model, made: Made) -> Bay
         values: made.values,
         sets: made.sets,
         parts: made.parts,
-        dues: made.rooms.dues,
-        associations: made.rooms.associations,
+        dues,
+        associations,
         watch: made.watch,
-        changes: made.rooms.changes,
-        events: made.rooms.events,
-        octets: made.rooms.octets,
+        changes,
+        events,
+        octets,
         spare: None,
         rooms: None,
     }
@@ -160,7 +167,10 @@ impl Bay {
         ensures steps { IfOk result (λ b. b.steps ≡ 0) }
         ensures stands { IfOk result (λ b. StandsFor b model []) }
     {
-        let made = parts_made(alloc, &model)?;
+        let Ok(made) = parts_made(alloc, &model) else {
+            drop(model);
+            return Err(AllocError);
+        };
         Ok(begun(model, made))
     }
 }
