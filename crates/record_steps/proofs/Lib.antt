@@ -2,5 +2,7 @@
 pub mod SettingLaws
 pub mod FitLaws
 pub mod StepLaws
+pub mod FormLaws
+pub mod StreamLaws
 pub mod ToldLaws
 mod WorkedLines
