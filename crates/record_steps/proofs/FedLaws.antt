@@ -1,6 +1,6 @@
 -- What a piece of a stream comes to, by what its stack gives for it.
 use Rattle.std.proofs.Common.{◌≡◌, ◌≤◌, ◌*◌, ℕ, suc, List, [], ◌∷◌, ◌++◌, length, sym, ap, subst, ◌∙◌, refl, arith}
-use Rattle.std.specs.Prelude.{Option, None, Some}
+use Rattle.std.specs.Prelude.{Option, None, Some, Result, Ok, Err, IfOk}
 use Rattle.ber_grammar.specs.Octets.{IsBytes}
 use Rattle.osi_stack.specs.Sides.{StandsFor}
 use Rattle.osi_stack.specs.declared.events.Event.{Event}
@@ -83,3 +83,9 @@ pub fed-few : (c : Config) (a : AssocNo) (w : Wired) (u : Upper) (before piece :
 fed-few c a w u before piece es heard was bytes is =
     let most = made-through c a (events_behind before piece) (refusal_behind before piece) w in
     subst (λ (hs : List Heard). made hs ≤ suc (length piece)) (sym is) (omega (arith, most, events-few u before piece es was bytes))
+
+-- ---- what a result has by two clauses
+
+pub both-ok : {A E : Type 0} → (r : Result A E) (P Q R : A → Type 0) → ((a : A) → P a → Q a → R a) → IfOk r P → IfOk r Q → IfOk r R
+both-ok (Ok a) P Q R h p q = h a p q
+both-ok (Err e) P Q R h p q = tt
