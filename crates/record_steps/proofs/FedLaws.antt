@@ -1,5 +1,5 @@
 -- What a piece of a stream comes to, by what its stack gives for it.
-use Rattle.std.proofs.Common.{◌≡◌, ◌≤◌, ◌*◌, ℕ, suc, List, [], ◌∷◌, ◌++◌, length, sym, ap, subst, ◌∙◌, refl, arith}
+use Rattle.std.proofs.Common.{◌≡◌, ◌≤◌, ℕ, suc, List, [], ◌∷◌, ◌++◌, length, sym, ap, subst, ◌∙◌, refl, arith}
 use Rattle.std.specs.Prelude.{Option, None, Some, Result, Ok, Err, IfOk}
 use Rattle.ber_grammar.specs.Octets.{IsBytes}
 use Rattle.osi_stack.specs.Sides.{StandsFor}

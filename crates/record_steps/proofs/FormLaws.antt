@@ -1,5 +1,5 @@
 -- What a program keeps of an association, and what a line that is no piece tells by that alone.
-use Rattle.std.proofs.Common.{◌≡◌, ◌==◌, ℕ, Bool, true, false, List, [], refl, ap, sym, subst, ◌∙◌}
+use Rattle.std.proofs.Common.{◌≡◌, ◌==◌, ℕ, false, List, [], refl, ap, subst, ◌∙◌}
 use Rattle.std.specs.Prelude.{Option, None, Some, if◌then◌else◌}
 use Rattle.sv_base.specs.declared.config.Config.{Config}
 use Rattle.sv_base.specs.declared.numbers.AssocNo.{AssocNo}
@@ -7,7 +7,6 @@ use Rattle.bay_model.specs.declared.components.Comp.{Comp}
 use Rattle.bay_model.specs.ComponentTable.{comp_named}
 use Rattle.object_model.specs.Numbers.{number_in}
 use Rattle.object_model.specs.References.{block_references}
-use Rattle.answer_text.specs.declared.shape.Shape.{Shape}
 use Rattle.osi_stack.specs.Sides.{StandsFor}
 use Rattle.osi_stack.specs.declared.events.Event.{Event}
 use Rattle.osi_stack.specs.declared.events.Line.{Line}
@@ -19,7 +18,6 @@ use Rattle.record_steps.specs.declared.form.Form.TheVariants as kept
 use Rattle.record_steps.specs.Forms.{Form, shut, direct, mms, dialling, wire, is_shut, is_direct, shape_of, plain, Stands, opened_form, form_behind, form_fed}
 use Rattle.record_steps.specs.Resolved.{association_of, opened_as, written_as, lost_as, sent_as, told_of}
 use Rattle.record_steps.specs.Streams.{piece_at}
-use Rattle.record_steps.specs.Told.{Told}
 use Rattle.record_steps.specs.Telling.{IsPlain}
 
 -- without the octets of its stream

@@ -1,20 +1,16 @@
 -- What a line that is no piece tells and leaves, and what a piece comes to by what its association is.
-use Rattle.std.proofs.Common.{◌≡◌, ◌≤◌, ◌==◌, ℕ, Bool, true, false, List, [], sym, ap, subst, ◌∙◌, refl, arith}
-use Rattle.std.specs.Prelude.{Option, None, Some, if◌then◌else◌}
+use Rattle.std.proofs.Common.{◌≡◌, ℕ, List, [], ap, ◌∙◌, refl}
 use Rattle.sv_base.specs.declared.config.Config.{Config}
 use Rattle.sv_base.specs.declared.numbers.AssocNo.{AssocNo}
 use Rattle.bay_model.specs.declared.step.Step.{Step}
-use Rattle.run_record.specs.declared.line.OpenForm.{OpenForm}
 use Rattle.run_record.specs.declared.line.RecLine.{RecLine}
 use Rattle.run_record.specs.declared.line.RecLine.TheVariants as lines
 use Rattle.record_steps.specs.declared.form.Form as programs
 use Rattle.record_steps.specs.declared.heard.Heard.{Heard}
 use Rattle.record_steps.specs.declared.telling.Told.{Told}
-use Rattle.list_laws.proofs.Places.{same-number}
-use Rattle.record_steps.specs.Forms.{Form, shut, plain, Stands, opened_form, form_behind, form_fed}
+use Rattle.record_steps.specs.Forms.{Form, plain, Stands}
 use Rattle.record_steps.specs.Resolved.{told_of, fed_as}
-use Rattle.record_steps.specs.Streams.{made, piece_at}
-use Rattle.record_steps.specs.Telling.{telling, IsPlain, most_steps}
+use Rattle.record_steps.specs.Telling.{telling, IsPlain}
 use Rattle.record_steps.proofs.FormLaws.{told-plain}
 
 -- ---- a line that is no piece

@@ -1,4 +1,4 @@
-use Rattle.std.proofs.Common.{◌≡◌, List, [], ◌++◌, subst, ◌∙◌, ap, arith}
+use Rattle.std.proofs.Common.{List, ◌++◌, ◌∙◌, ap, arith}
 use Rattle.osi_stack.specs.declared.events.Event.{Event}
 use Rattle.record_steps.specs.Streams.{heard_through, wired_through}
 use Rattle.record_steps.proofs.FedLaws.{fed-heard, fed-stands, fed-few}

@@ -1,4 +1,4 @@
-use Rattle.std.proofs.Common.{List, [], ◌++◌, subst}
+use Rattle.std.proofs.Common.{List, ◌++◌, subst}
 use Rattle.osi_stack.specs.declared.events.Event.{Event}
 use Rattle.osi_stack.specs.Sides.{GoesOn, Refuses}
 use Rattle.osi_stack.specs.declared.fault.StackFault.{StackFault}

@@ -1,6 +1,5 @@
-use Rattle.std.proofs.Common.{◌≡◌, ◌≤◌, ℕ, List, suc, length, subst}
+use Rattle.std.proofs.Common.{◌≡◌, ◌≤◌, suc, length, subst}
 use Rattle.std.specs.Prelude.{IfOk, OnOk}
-use Rattle.osi_stack.specs.declared.events.Event.{Event}
 use Rattle.record_steps.specs.declared.form.Form as programs
 use Rattle.record_steps.specs.declared.telling.Told.{Told}
 use Rattle.record_steps.specs.Forms.{Form, HasShape, IsSized, Stands, form_fed}
