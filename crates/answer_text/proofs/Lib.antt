@@ -1,3 +1,4 @@
 -- Texts that were added to, and what the tests of an output tell.
 pub mod PrefixLaws
 pub mod SendableLaws
+pub mod FrameLaws

@@ -6,7 +6,7 @@ ghost use Rattle.bay_model.specs.declared.answer.Answer.TheVariants.{Wrote};
 ghost use Rattle.answer_text.specs.Texts.{step_association, output_lines, answer_lines, lines_of as text_of, IsShape};
 
 use crate::number::push_number;
-use crate::pdus::push_output;
+use crate::pdus::{push_output, push_sent};
 use crate::report::push_report;
 use crate::shape::Shape;
 use bay_model::{Answer, Output, Step};
@@ -55,6 +55,7 @@ fn push_taken(
 {
     match (shape, output) {
         (Shape::Mms(size), _) => push_output(alloc, out, model, size, a, output),
+        (Shape::Wire(line), _) => push_sent(alloc, out, model, line, a, output),
         (Shape::Direct, Output::Report(report)) => push_report(out, model, a, report),
         (Shape::Direct, _) => Ok(()),
     }

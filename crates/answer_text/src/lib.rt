@@ -10,6 +10,11 @@ mod shape;
 pub use answer::lines_of;
 pub use shape::Shape;
 
+// what a stack answers of itself
+mod stream;
+
+pub use stream::{push_aborted, push_fault, push_frame, push_released};
+
 // whether an output has PDUs
 mod sendable;
 

@@ -1,15 +1,19 @@
-//! The lines of what an association of MMS takes.
+//! The lines of what associations of MMS take, as PDUs or in frames.
 
-ghost use Rattle.std.specs.Prelude.{◌≡◌, ◌≤◌, ◌++◌, length, take, OnOk, OnErr};
-ghost use Rattle.std.specs.List.{flat_map};
+ghost use Rattle.std.specs.Prelude.{◌≡◌, ◌≤◌, ◌++◌, length, take, IfOk, OnOk, OnErr};
+ghost use Rattle.std.specs.List.{flat_map, AllByRecursion};
 ghost use Rattle.bay_answers.specs.Replies.{output_pdus};
-ghost use Rattle.answer_text.specs.Texts.{pdu_line};
+ghost use Rattle.osi_stack.specs.Lines.{IsLine};
+ghost use Rattle.answer_text.specs.Texts.{pdu_line, framed_line};
 
 use crate::number::{push_hex, push_number};
 use crate::sendable::can_be_sent;
+use crate::stream::push_frame;
 use bay_answers::to_bytes;
 use bay_model::Output;
 use object_model::Model;
+use osi_stack::{Line, frames};
+use report_cut::Pdus;
 use std::alloc::{AllocError, Global};
 use sv_base::{AssocNo, Octs};
 
@@ -36,8 +40,61 @@ fn push_all(out: &mut Vec<u8>, a: AssocNo, pdus: &[Octs]) -> Result<(), AllocErr
     Ok(())
 }
 
-/// Writes what an association took whose PDUs have at most so many octets. An output that can't be sent, which is none of a
-/// bay's, fails as want of memory does.
+/// Writes a PDU of at most 65000 octets in its frame on this line.
+#[tactic(auto, using(crate::proofs::FrameLaws::pdu_fits))]
+fn push_one(
+    alloc: Global,
+    out: &mut Vec<u8>,
+    line: Line,
+    a: AssocNo,
+    pdu: &[u8],
+) -> Result<(), AllocError>
+    requires line { IsLine line }
+    requires short { length pdu.now ≤ 65000 }
+    ensures ok { OnOk result (out.new.items ≡ out.old.items ++ framed_line line a.0 pdu.now) }
+    ensures err { OnErr result (take (length out.old.items) out.new.items ≡ out.old.items) }
+{
+    let octets = frames(alloc, line, pdu)?;
+    push_frame(out, a, octets.as_slice())
+}
+
+/// Writes PDUs of at most 65000 octets, each in its frame on this line.
+fn push_framed(
+    alloc: Global,
+    out: &mut Vec<u8>,
+    line: Line,
+    a: AssocNo,
+    pdus: &[Octs],
+) -> Result<(), AllocError>
+    requires line { IsLine line }
+    requires short { AllByRecursion (λ o. length o ≤ 65000) pdus.now }
+    ensures ok { OnOk result (out.new.items ≡ out.old.items ++ flat_map (framed_line line a.0) pdus.now) }
+    ensures err { OnErr result (take (length out.old.items) out.new.items ≡ out.old.items) }
+{
+    match pdus {
+        [] => Ok(()),
+        [pdu, more @ ..] => {
+            push_one(alloc, out, line, a, pdu.as_slice())?;
+            push_framed(alloc, out, line, a, more)
+        }
+    }
+}
+
+/// The PDUs of an output, of at most so many octets each. An output that can't be sent, which is none of a bay's, fails as want
+/// of memory does.
+fn pdus_of(alloc: Global, model: &Model, size: u32, output: &Output) -> Result<Pdus, AllocError>
+    requires least { 1024 ≤ size }
+    requires most { size ≤ 65000 }
+    ensures pdus { IfOk result (λ p. p ≡ output_pdus model.now size output.now) }
+    ensures short { IfOk result (λ p. AllByRecursion (λ o. length o ≤ size) p) }
+{
+    if !can_be_sent(model, output) {
+        return Err(AllocError);
+    }
+    to_bytes(alloc, model, output, size)
+}
+
+/// Writes what an association took whose PDUs have at most so many octets.
 pub fn push_output(
     alloc: Global,
     out: &mut Vec<u8>,
@@ -51,9 +108,23 @@ pub fn push_output(
     ensures ok { OnOk result (out.new.items ≡ out.old.items ++ flat_map (pdu_line a.0) (output_pdus model.now size output.now)) }
     ensures err { OnErr result (take (length out.old.items) out.new.items ≡ out.old.items) }
 {
-    if !can_be_sent(model, output) {
-        return Err(AllocError);
-    }
-    let pdus = to_bytes(alloc, model, output, size)?;
+    let pdus = pdus_of(alloc, model, size, output)?;
     push_all(out, a, pdus.as_slice())
+}
+
+/// Writes what an association on the wire took.
+pub fn push_sent(
+    alloc: Global,
+    out: &mut Vec<u8>,
+    model: &Model,
+    line: Line,
+    a: AssocNo,
+    output: &Output,
+) -> Result<(), AllocError>
+    requires { IsLine line }
+    ensures ok { OnOk result (out.new.items ≡ out.old.items ++ flat_map (framed_line line a.0) (output_pdus model.now line.size output.now)) }
+    ensures err { OnErr result (take (length out.old.items) out.new.items ≡ out.old.items) }
+{
+    let pdus = pdus_of(alloc, model, line.size, output)?;
+    push_framed(alloc, out, line, a, pdus.as_slice())
 }

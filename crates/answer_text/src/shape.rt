@@ -1,5 +1,7 @@
 //! The shapes in which associations are answered.
 
+use osi_stack::Line;
+
 /// How an association is answered.
 #[derive(Clone, Copy, Debug, PartialEq, Eq)]
 pub enum Shape {
@@ -7,4 +9,6 @@ pub enum Shape {
     Direct,
     /// By MMS PDUs (ISO 9506-2) of at most so many octets, 1024 to 65000.
     Mms(u32),
+    /// By MMS PDUs in frames on this line.
+    Wire(Line),
 }

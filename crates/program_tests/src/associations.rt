@@ -5,7 +5,7 @@ use record_outcome::status::Status;
 use std::test::*;
 
 /// Records whose associations send PDUs and take them.
-const ROWS: [Row; 20] = [
+const ROWS: [Row; 18] = [
     (
         "names, an unknown service and a conclude",
         "record 1\n[0 011001 0 200>open 1 mms 65000\npdu 1 a00e020101a109a003800109a1028000\ntake 1\npdu 1 a006020107bf4d00\n\
@@ -133,12 +133,6 @@ const ROWS: [Row; 20] = [
         "a deletion behind sixteen that wait",
         "record 1\n[0 011001 0 200>open 1 mms 65000\n%%%%pdu 1 a005020101ad00\nend\n",
         Status::Limit { which: 2, line: 39 },
-        "",
-    ),
-    (
-        "a stream",
-        "record 1\n[0 011001 0 200>open 1 wire\nend\n",
-        Status::Record { line: 22, kind: 9 },
         "",
     ),
     (

@@ -16,3 +16,5 @@ mod faults;
 mod lines;
 #[cfg(test)]
 mod records;
+#[cfg(test)]
+mod streams;

@@ -13,7 +13,8 @@ pub type Row = (&'static str, &'static str, Status, &'static str);
 
 /// What a mark stands for: `[` and `>` the lines of a configuration before a block's BUFTM and behind its CAPACITY, `*` nine values
 /// at nine moments, `@` the reference of the attribute that is set, `&` that of the block, `!` the front of a moment, and `%` four
-/// PDUs that ask for the status.
+/// PDUs that ask for the status; of streams `~` a CR, `^` a CONNECT, and `{` the lines of what answers both, `?` the frame of a PDU
+/// that asks for the status, and `;` the line of what answers that.
 fn marked(mark: u8) -> Option<&'static str> {
     match mark {
         b'[' => Some(
@@ -37,6 +38,22 @@ fn marked(mark: u8) -> Option<&'static str> {
         b'!' => Some("4417632000"),
         b'%' => Some(
             "pdu 1 a006020101800100\npdu 1 a006020101800100\npdu 1 a006020101800100\npdu 1 a006020101800100\n",
+        ),
+        b'~' => Some("0300001611e00000000100c0010dc2020001c1020001"),
+        b'^' => Some(
+            "030000a302f0800d9a0506130100160102140200023302000134020001c184318181a003800101a27a810400000001820400000001a423\
+             300f0201010604520100013004060251013010020103060528ca22020130040602510161473045020101a040603ea107060528ca220203\
+             be33283106025101020103a028a826800300fde881010582010583010aa416800101810305f100820c03ee1c00000408000079ef18",
+        ),
+        b'{' => Some(
+            "1 frame 0300001611d00001000100c0010dc2020001c1020001\n1 frame 0300008902f0800e80050613010016010214020002c17231\
+             70a003800101a269a51230078001008102510130078001008102510161533051020101a04c614aa107060528ca220203a203020100a305\
+             a103020100be33283106025101020103a028a926800300fde881010582010583010aa416800101810305f100820c03ee1c000000000000\
+             000110\n",
+        ),
+        b'?' => Some("0300001c02f08001000100610f300d020103a008a006020101800100"),
+        b';' => Some(
+            "1 frame 0300002102f0800100010061143012020103a00da10b020101a006800100810100\n",
         ),
         _ => None,
     }

@@ -1,6 +1,7 @@
 -- The line that tells that it is the last is `end`.
 use Rattle.std.proofs.Common.{◌≡◌, ℕ, Bool, true, false, List, refl}
 use Rattle.std.specs.Prelude.{Option, None, Some, Ok, codes, if◌then◌else◌}
+use Rattle.std.specs.List.{list_any}
 use Rattle.sv_base.specs.declared.config.Config.{Config}
 use Rattle.sv_base.specs.declared.numbers.AssocNo.{AssocNo}
 use Rattle.sv_base.specs.declared.value.Value.{Value}
@@ -23,13 +24,15 @@ use Rattle.run_record.specs.Grammar.{Spells}
 use Rattle.text_words.specs.Values.{hex_at}
 use Rattle.bay_model.specs.declared.request.Request.{Request}
 use Rattle.record_steps.specs.Shapes.{shape_at}
-use Rattle.record_steps.specs.Forms.{is_shut, is_direct}
+use Rattle.record_steps.specs.Forms.{Form, shut, direct, mms, dialling, wire, is_shut, is_direct}
 use Rattle.record_steps.specs.Asks.{asked_by}
-use Rattle.record_steps.specs.declared.form.Form.{Form}
-use Rattle.record_steps.specs.declared.form.Form.TheVariants as forms
 use Rattle.record_steps.specs.Settings.{are_named, settings_at}
-use Rattle.record_steps.specs.Resolved.{turn_of, opened_in, valued_as, written_as, asked_as, spelled_as, sent_as, set_to, told_of}
-use Rattle.record_steps.specs.Told.{Told, turn, refused, last}
+use Rattle.record_steps.specs.Resolved.{turn_of, opened_in, valued_as, written_as, lost_as, asked_as, spelled_as, sent_as, piece_as, fed_as, set_to, told_of}
+use Rattle.record_steps.specs.Streams.{piece_at, events_behind, refusal_behind, heard_through}
+use Rattle.record_steps.specs.Told.{Told, turn, heard, refused, last}
+use Rattle.record_steps.specs.declared.heard.Heard.{Heard}
+use Rattle.record_steps.specs.declared.heard.Wired.{Wired}
+use Rattle.record_steps.specs.declared.heard.Wired.TheVariants.{Dialling, On}
 
 turn-goes : (c : Config) (actor : ℕ) (step : Step) → turn_of c actor step ≡ last → ⊥
 turn-goes c actor step h = by (fits c step) h where
@@ -69,9 +72,29 @@ spelled-goes c a None h = absurd cc
 spelled-goes c a (Some octets) h = ask-goes c a (asked_by c octets) h
 
 send-goes : (c : Config) (form : Form) (a : AssocNo) (hex : List ℕ) → sent_as c form a hex ≡ last → ⊥
-send-goes c forms.Shut a hex h = absurd cc
-send-goes c forms.Direct a hex h = absurd cc
-send-goes c (forms.Mms size) a hex h = spelled-goes c a (hex_at hex) h
+send-goes c shut a hex h = absurd cc
+send-goes c direct a hex h = absurd cc
+send-goes c (mms size) a hex h = spelled-goes c a (hex_at hex) h
+send-goes c (dialling octets) a hex h = absurd cc
+send-goes c (wire line octets) a hex h = absurd cc
+
+piece-goes : (c : Config) (w : Wired) (a : AssocNo) (octets : List ℕ) (o : Option (List ℕ)) → piece_as c w a octets o ≡ last → ⊥
+piece-goes c w a octets None h = absurd cc
+piece-goes c w a octets (Some piece) h = absurd cc
+
+feed-goes : (c : Config) (form : Form) (a : AssocNo) (hex : List ℕ) → fed_as c form a hex ≡ last → ⊥
+feed-goes c shut a hex h = absurd cc
+feed-goes c direct a hex h = absurd cc
+feed-goes c (mms size) a hex h = absurd cc
+feed-goes c (dialling octets) a hex h = piece-goes c Dialling a octets (piece_at hex) h
+feed-goes c (wire line octets) a hex h = piece-goes c (On line) a octets (piece_at hex) h
+
+lose-goes : (c : Config) (form : Form) (a : AssocNo) → lost_as c form a ≡ last → ⊥
+lose-goes c shut a h = absurd cc
+lose-goes c direct a h = turn-goes c a.0 (steps.Lost a) h
+lose-goes c (mms size) a h = turn-goes c a.0 (steps.Lost a) h
+lose-goes c (dialling octets) a h = absurd cc
+lose-goes c (wire line octets) a h = turn-goes c a.0 (steps.Lost a) h
 
 set-goes : (c : Config) (o : Option (List Setting)) → set_to c o ≡ last → ⊥
 set-goes c None h = absurd cc
@@ -84,9 +107,9 @@ told-last c form (lines.At moment) h = absurd cc
 told-last c form (lines.Open a asked) h = absurd (if-goes (is_shut form) (opened_in c a asked) 5 (shut-goes c a asked) h)
 told-last c form (lines.Write a block comp value) h = absurd (write-goes c form a (number_in (block_references c) block) (comp_named comp) value h)
 told-last c form (lines.Pdu a hex) h = absurd (send-goes c form a hex h)
-told-last c form (lines.Piece a hex) h = absurd cc
+told-last c form (lines.Piece a hex) h = absurd (feed-goes c form a hex h)
 told-last c form (lines.Take a) h = absurd (turn-goes c a.0 (steps.Take a) h)
-told-last c form (lines.Lost a) h = absurd (unless-goes (is_shut form) (turn_of c a.0 (steps.Lost a)) 5 (turn-goes c a.0 (steps.Lost a)) h)
+told-last c form (lines.Lost a) h = absurd (lose-goes c form a h)
 told-last c form (lines.Set pairs) h = absurd (if-goes (are_named c pairs) (set_to c (settings_at c pairs)) 3 (set-goes c (settings_at c pairs)) h)
 told-last c form (lines.Done control well) h = absurd cc
 told-last c form (lines.Block control on) h = absurd cc

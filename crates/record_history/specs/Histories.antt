@@ -1,6 +1,6 @@
 -- The configuration and the history of a record, from its lines alone: what they say, not how they are read. All of it is
 -- defined for the lines before any line too. Where lines are looked back on, the newest is the first.
-use Rattle.std.specs.Prelude.{ℕ, ◌==◌, List, [], ◌∷◌, ◌++◌, codes, Option, None, Some, Result, Ok, Err, if◌then◌else◌}
+use Rattle.std.specs.Prelude.{ℕ, ◌==◌, List, [], ◌∷◌, ◌++◌, map, codes, Option, None, Some, Result, Ok, Err, if◌then◌else◌}
 use Rattle.std.specs.List.{slice_split, flat_map}
 use Rattle.std.specs.Option.{option_map, option_and_then}
 use Rattle.std.specs.Str.{bytes_eq}
@@ -14,11 +14,11 @@ use Rattle.cfg_parser.specs.declared.fault.CfgFault.{CfgFault}
 use Rattle.run_record.specs.Judging.{line_at, number_of}
 use Rattle.run_record.specs.declared.fault.Kind.{Kind}
 use Rattle.run_record.specs.declared.line.RecLine.{RecLine}
-use Rattle.record_steps.specs.Forms.{shape_of, form_behind}
+use Rattle.record_steps.specs.Forms.{Form, shut, shape_of, form_behind}
 use Rattle.record_steps.specs.Resolved.{association_of, told_of}
-use Rattle.record_steps.specs.Told.{Told, pass_to, turn, refused}
-use Rattle.record_steps.specs.declared.form.Form.{Form}
-use Rattle.record_steps.specs.declared.form.Form.TheVariants as forms
+use Rattle.record_steps.specs.Told.{Told, pass_to, turn, heard, refused}
+use Rattle.record_steps.specs.declared.heard.Heard.{Heard}
+use Rattle.record_steps.specs.declared.heard.Heard.TheVariants.{Tells, Makes}
 
 -- all pieces but the last, behind which there is no newline
 abbrev pub ended_pieces : List (List ℕ) → List (List ℕ)
@@ -58,13 +58,13 @@ form_after a (Ok line) was = form_behind a line was
 form_after a (Err kind) was = was
 
 abbrev pub form_at : ℕ → List (List ℕ) → Form
-form_at a [] = forms.Shut
+form_at a [] = shut
 form_at a (line ∷ before) = form_after a (line_at line) (form_at a before)
 
 -- what the association that a line names is before it
 abbrev pub form_of : List (List ℕ) → Result RecLine Kind → Form
 form_of before (Ok line) = form_at (association_of line) before
-form_of before (Err kind) = forms.Shut
+form_of before (Err kind) = shut
 
 -- what a line tells, behind others
 abbrev pub said_in : Config → Form → Result RecLine Kind → Told
@@ -83,24 +83,30 @@ abbrev pub moment_of : Config → List (List ℕ) → ℕ
 moment_of c [] = least_moment
 moment_of c (line ∷ before) = moment_after (said c before line) (moment_of c before)
 
--- a part of what a line comes to: a step, which is answered in this shape
+-- a part of what a line comes to: a step, which is answered in this shape, or text that a stack answers of itself
 pub data Part : Type 0 where
   stepped : Turn → Shape → Part
-
--- the parts of a line, the newest first, where its association is of this form
-abbrev pub parts_in : ℕ → Form → Told → List Part
-parts_in moment form (turn actor step) = stepped (record { moment = moment; actor = actor; step = step }) (shape_of form) ∷ []
-parts_in moment form _ = []
-
--- what each line comes to: a step at the moment of the newest `at` line before it, or nothing
-abbrev pub steps_of : Config → List (List ℕ) → List (List Part)
-steps_of c [] = []
-steps_of c (line ∷ before) = parts_in (moment_of c before) (form_of before (line_at line)) (said c before line) ∷ steps_of c before
+  written : List ℕ → Part
 
 -- a list, turned around, in front of another
 abbrev pub onto : {A : Type 0} → List A → List A → List A
 onto before [] = before
 onto before (x ∷ xs) = onto (x ∷ before) xs
+
+abbrev pub part_of : ℕ → Shape → Heard → Part
+part_of moment shape (Tells text) = written text
+part_of moment shape (Makes actor step) = stepped (record { moment = moment; actor = actor.0; step = step }) shape
+
+-- the parts of a line, the newest first, where its association is of this form
+abbrev pub parts_in : ℕ → Form → Told → List Part
+parts_in moment form (turn actor step) = stepped (record { moment = moment; actor = actor; step = step }) (shape_of form) ∷ []
+parts_in moment form (heard hs) = onto [] (map (part_of moment (shape_of form)) hs)
+parts_in moment form _ = []
+
+-- what each line comes to: nothing, or steps at the moment of the newest `at` line before it, and text
+abbrev pub steps_of : Config → List (List ℕ) → List (List Part)
+steps_of c [] = []
+steps_of c (line ∷ before) = parts_in (moment_of c before) (form_of before (line_at line)) (said c before line) ∷ steps_of c before
 
 -- a configuration, and what the lines of the steps come to
 pub record Recorded : Type 0 where

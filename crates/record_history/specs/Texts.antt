@@ -4,7 +4,7 @@ use Rattle.sv_base.specs.declared.config.Config.{Config}
 use Rattle.bay_model.specs.Named.{configured_model}
 use Rattle.bay_model.specs.Answers.{Turn, History, answer}
 use Rattle.answer_text.specs.Texts.{lines_of}
-use Rattle.record_history.specs.Histories.{Part, stepped, Recorded}
+use Rattle.record_history.specs.Histories.{Part, stepped, written, Recorded}
 
 -- the parts of lines one after another, the newest first
 abbrev pub parts_of : List (List Part) → List Part
@@ -15,16 +15,18 @@ parts_of (parts ∷ before) = parts ++ parts_of before
 abbrev pub turns_of : List Part → History
 turns_of [] = []
 turns_of (stepped t shape ∷ before) = t ∷ turns_of before
+turns_of (written text ∷ before) = turns_of before
 
 abbrev pub turns_in : List (List Part) → History
 turns_in lines = turns_of (parts_of lines)
 
--- each step is answered in its shape
+-- each step is answered in its shape, and what a stack answers of itself stands between
 abbrev pub text_behind : Config → List Part → List ℕ
 text_behind c [] = []
 text_behind c (stepped t shape ∷ before) = text_behind c before ++ lines_of c shape t.step (answer (configured_model c) (turns_of before) t)
+text_behind c (written text ∷ before) = text_behind c before ++ text
 
--- a line that makes no step is answered by no line
+-- a line that comes to nothing is answered by no line
 abbrev pub text_of : Config → List (List Part) → List ℕ
 text_of c lines = text_behind c (parts_of lines)
 

@@ -1,6 +1,10 @@
 -- A whole record is read to its end.
 use Rattle.std.proofs.Common.{◌≡◌, ◌≤◌, ◌+◌, ◌-◌, ◌==◌, ℕ, suc, Bool, false, List, [], ◌∷◌, ◌++◌, length, take, refl, sym, ap, ◌∙◌, arith, append_assoc, append-nil, inl, inr}
-use Rattle.std.specs.Prelude.{None, Ok, codes, nat_lt, if◌then◌else◌}
+use Rattle.std.specs.Prelude.{None, Ok, codes, map, nat_lt, if◌then◌else◌}
+use Rattle.answer_text.specs.Texts as texts
+use Rattle.answer_text.specs.declared.shape.Shape.{Shape}
+use Rattle.bay_model.specs.Named.{configured_model}
+use Rattle.bay_model.specs.Answers.{Turn, answer}
 use Rattle.std.specs.Str.{bytes_eq}
 use Rattle.sv_base.specs.declared.config.Config.{Config}
 use Rattle.text_words.specs.Octets.{is_skipped}
@@ -15,14 +19,16 @@ use Rattle.run_record.specs.declared.line.RecLine.{RecLine}
 use Rattle.run_record.specs.declared.line.RecLine.TheVariants as lines
 use Rattle.run_record.proofs.ReadLaws.{line-read}
 use Rattle.record_steps.specs.Resolved.{association_of, told_of}
-use Rattle.record_steps.specs.Told.{Told, skip, pass_to, turn, refused, last}
-use Rattle.record_steps.specs.Forms.{shape_of}
-use Rattle.record_history.specs.Histories.{octets_of, form_at, steps_of, onto}
-use Rattle.record_history.specs.Texts.{turns_in}
+use Rattle.record_steps.specs.Told.{Told, skip, pass_to, turn, heard, refused, last}
+use Rattle.record_steps.specs.declared.heard.Heard.{Heard}
+use Rattle.record_steps.specs.declared.heard.Heard.TheVariants.{Tells, Makes}
+use Rattle.record_steps.specs.Forms.{Form, shape_of, form_behind}
+use Rattle.record_history.specs.Histories.{octets_of, form_at, moment_of, Part, stepped, written, part_of, steps_of, onto}
+use Rattle.record_history.specs.Texts.{parts_of, turns_of, turns_in}
 use Rattle.record_outcome.specs.Played.{Played, start, turn_at, past_line}
 use Rattle.record_outcome.specs.Moves.{Place, goes, stops, opening, configuring, playing}
 use Rattle.record_outcome.specs.Openings.{headed, opening_at, unbuilt_line, started_by, started, configuring_at}
-use Rattle.record_outcome.specs.Steps.{accepted, played, told_at, step_at}
+use Rattle.record_outcome.specs.Steps.{accepted, then_on, heard_on, played, told_at, step_at}
 use Rattle.record_outcome.specs.Records.{Outcome, limit, most_lines, pieces, passed, lines_at, line_at, moved, run, outcome, NoNewline}
 use Rattle.record_outcome.specs.declared.status.Status.{Status}
 use Rattle.record_outcome.specs.declared.status.Status.TheVariants as statuses
@@ -30,8 +36,8 @@ use Rattle.std.proofs.lemmas.Bool.Decides.{leb_tells}
 use Rattle.record_outcome.proofs.LineLaws.{run-line}
 use Rattle.std.proofs.Math.Seq.{take-append-add}
 use Rattle.std.proofs.lemmas.List.Elements.{All-from_recursion}
-use Rattle.record_laws.specs.Grammar.{CanBeDone, IsStepLine, AreStepLines, IsRemark, IsInner, Each, record_octets, IsRecord}
-use Rattle.record_outcome.proofs.HistoryLaws.{standing, grown, onto-line}
+use Rattle.record_laws.specs.Grammar.{AreDone, CanBeDone, IsStepLine, AreStepLines, IsRemark, IsInner, Each, record_octets, IsRecord}
+use Rattle.record_outcome.proofs.HistoryLaws.{standing, grown, onto-line, onto-behind, at, onwards}
 
 -- the first of some lines
 line-first : (line : List ℕ) (ls : List (List ℕ)) (more : List ℕ) → octets_of (line ∷ ls) ++ more ≡ line ++ 10 ∷ (octets_of ls ++ more)
@@ -99,6 +105,17 @@ end-starts : (n : ℕ) (text : List ℕ) (c : Config) → config_at (text ++ (co
 unfolding configuring_at
 end-starts n text c is none = ap (started n) is ∙ ap (started_by n c) none
 
+-- the parts of a piece, each step of which is accepted
+module _ (number : ℕ) (c : Config) (shape : Shape) (moment : ℕ) (form : ℕ → Form) where
+  parts-go : (hs : List Heard) (ps : List Part) (so_far : List ℕ) → AreDone c moment hs (turns_of ps)
+      → (out : List ℕ) × (heard_on number c shape hs (at number c shape moment form ps) so_far ≡ goes (playing c (at number c shape moment form (onwards number c shape moment form ps hs))) out)
+  parts-go [] ps so_far done = (so_far, refl)
+  parts-go (Tells text ∷ hs) ps so_far done = parts-go hs (written text ∷ ps) (so_far ++ text) done
+  parts-go (Makes actor step ∷ hs) ps so_far done =
+      let t : Turn = turn_at (at number c shape moment form ps) actor.0 step in
+      let g = parts-go hs (stepped t shape ∷ ps) (so_far ++ texts.lines_of c shape t.step (answer (configured_model c) (turns_of ps) t)) done.1 in
+      (g.0, ap (then_on number c (heard_on number c shape hs) (at number c shape moment form ps) shape so_far t) done.0 ∙ g.1)
+
 -- the lines of the steps
 module _ (c : Config) (before : List (List ℕ)) (number : ℕ) where
   done : (l : RecLine) (t : Told) → CanBeDone c before t → (text : List ℕ)
@@ -107,6 +124,12 @@ module _ (c : Config) (before : List (List ℕ)) (number : ℕ) where
   done l skip can = ([], refl)
   done l (pass_to moment) can = ([], refl)
   done l (turn actor step) can = (_, ap (accepted number c (past_line (standing c before) l) (shape_of (form_at (association_of l) before)) (turn_at (standing c before) actor step)) can)
+  done l (heard hs) can =
+      let shape : Shape = shape_of (form_at (association_of l) before) in
+      let forms : ℕ → Form = λ a. form_behind a l (form_at a before) in
+      let behind_it : List Part = parts_of (steps_of c before) in
+      let g = parts-go number c shape (moment_of c before) forms hs behind_it [] can in
+      (g.0, g.1 ∙ ap (λ ps. goes (playing c (record { moment = moment_of c before; turns = turns_of ps; form = forms })) g.0) (onto-behind (map (part_of (moment_of c before) shape) hs) [] behind_it))
   done l (refused kind) can = absurd can
   done l last can = absurd can
 

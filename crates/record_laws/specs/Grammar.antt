@@ -5,28 +5,39 @@ use Rattle.std.specs.Str.{bytes_eq}
 use Rattle.sv_base.specs.declared.config.Config.{Config}
 use Rattle.bay_model.specs.Named.{configured_model}
 use Rattle.bay_model.specs.Acceptance.{fault}
+use Rattle.bay_model.specs.Answers.{History}
 use Rattle.text_words.specs.Octets.{is_skipped}
 use Rattle.cfg_grammar.specs.Texts.{SpellsConfig}
 use Rattle.run_record.specs.Judging.{is_long}
 use Rattle.run_record.specs.Grammar.{Spells}
 use Rattle.run_record.specs.declared.line.RecLine.{RecLine}
 use Rattle.record_steps.specs.Resolved.{association_of, told_of}
-use Rattle.record_steps.specs.Told.{Told, skip, pass_to, turn, refused, last}
+use Rattle.record_steps.specs.Told.{Told, skip, pass_to, turn, heard, refused, last}
+use Rattle.record_steps.specs.declared.heard.Heard.{Heard}
+use Rattle.record_steps.specs.declared.heard.Heard.TheVariants.{Tells, Makes}
 use Rattle.record_history.specs.Histories.{octets_of, form_at, moment_of, steps_of}
 use Rattle.record_history.specs.Texts.{turns_in}
 use Rattle.record_outcome.specs.Openings.{unbuilt_line}
 use Rattle.record_outcome.specs.Records.{limit, most_lines, NoNewline}
 
--- behind these lines: nothing is to be done, or another moment is told, or a step that is accepted
+-- of the parts of a piece, behind these steps: each step is accepted after those before it
+abbrev pub AreDone : Config → ℕ → List Heard → History → Type 0
+AreDone c moment [] turns = Unit {0}
+AreDone c moment (Tells text ∷ hs) turns = AreDone c moment hs turns
+AreDone c moment (Makes actor step ∷ hs) turns =
+    (fault (configured_model c) turns (record { moment = moment; actor = actor.0; step = step }) ≡ None) × AreDone c moment hs (record { moment = moment; actor = actor.0; step = step } ∷ turns)
+
+-- behind these lines: nothing is to be done, or another moment is told, or steps that are accepted
 abbrev pub CanBeDone : Config → List (List ℕ) → Told → Type 0
 CanBeDone c before skip = Unit {0}
 CanBeDone c before (pass_to moment) = Unit {0}
 CanBeDone c before (turn actor step) = fault (configured_model c) (turns_in (steps_of c before)) (record { moment = moment_of c before; actor = actor; step = step }) ≡ None
+CanBeDone c before (heard hs) = AreDone c (moment_of c before) hs (turns_in (steps_of c before))
 CanBeDone c before (refused kind) = ⊥
 CanBeDone c before last = ⊥
 
 -- a line that spells something, whose names are there and whose values are of their types, and whose association is what it asks
--- for, with fewer than 16 replies waiting at a request
+-- for, with fewer than 16 replies waiting at each request
 pub record IsStepLine (c : Config) (before : List (List ℕ)) (text : List ℕ) : Type 0 where
   pub line : RecLine
   pub whole : NoNewline text

@@ -1,11 +1,13 @@
 -- The text that is written to a record is that of its history.
 use Rattle.std.proofs.Common.{◌≡◌, ◌+◌, ◌==◌, ◌&&◌, ℕ, suc, Bool, true, false, not, List, [], ◌∷◌, ◌++◌, length, take, refl, sym, ap, subst, ◌∙◌, arith, inl, inr, append_assoc, append-nil}
-use Rattle.std.specs.Prelude.{Option, None, Some, IfSome, Result, Ok, Err, codes, nat_lt, if◌then◌else◌}
+use Rattle.std.specs.Prelude.{Option, None, Some, IfSome, Result, Ok, Err, codes, map, nat_lt, if◌then◌else◌}
 use Rattle.std.specs.Option.{option_map, option_and_then}
 use Rattle.std.specs.Str.{bytes_eq}
 use Rattle.sv_base.specs.declared.config.Config.{Config}
 use Rattle.bay_model.specs.Named.{configured_model}
+use Rattle.bay_model.specs.Answers.{Turn, History, answer}
 use Rattle.bay_model.specs.Acceptance.{Fault, IsOpen, NotOpen, NotYours, QueueFull, fault, IsHistory}
+use Rattle.answer_text.specs.Texts as texts
 use Rattle.answer_text.specs.declared.shape.Shape.{Shape}
 use Rattle.bay_model.specs.declared.step.Step.{Step}
 use Rattle.text_words.specs.Octets.{is_skipped}
@@ -19,20 +21,81 @@ use Rattle.run_record.specs.Judging.{is_long, number_of}
 use Rattle.run_record.specs.declared.fault.Kind.{Kind}
 use Rattle.run_record.specs.declared.line.RecLine.{RecLine}
 use Rattle.record_steps.specs.Resolved.{association_of, told_of}
-use Rattle.record_steps.specs.Told.{Told, skip, pass_to, turn, refused, last}
-use Rattle.record_steps.specs.Forms.{shape_of}
-use Rattle.record_history.specs.Histories.{ended_pieces, behind_heading, Parted, with_line, parted, octets_of, form_after, form_at, form_of, said_in, said, moment_after, moment_of, Part, stepped, parts_in, steps_of, onto, Recorded, recorded, lines_of, history_of}
-use Rattle.record_history.specs.Texts.{turns_in, text_of, record_text}
+use Rattle.record_steps.specs.Told.{Told, skip, pass_to, turn, heard, refused, last}
+use Rattle.record_steps.specs.declared.heard.Heard.{Heard}
+use Rattle.record_steps.specs.declared.heard.Heard.TheVariants.{Tells, Makes}
+use Rattle.record_steps.specs.Forms.{Form, shape_of, form_behind}
+use Rattle.record_history.specs.Histories.{ended_pieces, behind_heading, Parted, with_line, parted, octets_of, form_after, form_at, form_of, said_in, said, moment_after, moment_of, Part, stepped, written as told, part_of, parts_in, steps_of, onto, Recorded, recorded, lines_of, history_of}
+use Rattle.record_history.specs.Texts.{parts_of, turns_of, turns_in, text_behind, text_of, record_text}
 use Rattle.record_history.proofs.LastLaws.{told-last, end-line}
 use Rattle.record_outcome.specs.Played.{Played, start, turn_at, past_line}
 use Rattle.record_outcome.specs.Moves.{Place, Move, goes, stops, opening, configuring, playing}
 use Rattle.record_outcome.specs.Openings.{headed, opening_at, unbuilt_line, started_by, started, configuring_at}
-use Rattle.record_outcome.specs.Steps.{accepted, played, told_at, step_at}
+use Rattle.record_outcome.specs.Steps.{stop_of, accepted, then_on, heard_on, played, told_at, step_at}
 use Rattle.record_outcome.specs.Records.{Outcome, limit, most_lines, pieces, refused_before, passed, missing, has_begun, unended, ended, lines_at, line_at, behind, moved, run, outcome}
 use Rattle.record_outcome.specs.declared.status.Status.{Status}
 use Rattle.record_outcome.specs.declared.status.Status.TheVariants as statuses
 use Rattle.record_outcome.specs.Written.{IsAccepted, IsUnplayed, MeetsFull, HasCause, StopsBehind, end_of, IsWritten, TextIsOfHistory, WritesHistory}
 use Rattle.record_outcome.specs.Judgements.{Answers}
+
+-- ---- the parts of a piece
+
+pub onto-behind : {A : Type 0} (xs ys zs : List A) → onto (ys ++ zs) xs ≡ onto ys xs ++ zs
+onto-behind [] ys zs = refl
+onto-behind (x ∷ xs) ys zs = onto-behind xs (x ∷ ys) zs
+
+-- Behind parts that made these turns and this text, the steps of a piece are made at one moment, and answered in one shape.
+module _ (number : ℕ) (c : Config) (shape : Shape) (moment : ℕ) (form : ℕ → Form) where
+  abbrev pub at : List Part → Played
+  at ps = record { moment = moment; turns = turns_of ps; form = form }
+
+  abbrev pub onwards : List Part → List Heard → List Part
+  onwards ps hs = onto ps (map (part_of moment shape) hs)
+
+  -- the reading goes on: with the steps of all parts, which are accepted, and the text of all
+  abbrev HasGone : List Part → List Heard → List ℕ → Place → List ℕ → Type 0
+  HasGone ps hs so_far to out = (to ≡ playing c (at (onwards ps hs)))
+      × ((before : List ℕ) → text_behind c ps ≡ before ++ so_far → text_behind c (onwards ps hs) ≡ before ++ out)
+      × (IsHistory (configured_model c) (turns_of ps) → IsHistory (configured_model c) (turns_of (onwards ps hs)))
+
+  heard-on : (hs : List Heard) (ps : List Part) (so_far : List ℕ) (to : Place) (out : List ℕ) → heard_on number c shape hs (at ps) so_far ≡ goes to out → HasGone ps hs so_far to out
+  heard-on [] ps so_far to out e =
+      let one : playing c (at ps) ≡ to = cc in let other : so_far ≡ out = cc in
+      (sym one, λ before is. is ∙ ap (λ t. before ++ t) other, λ h. h)
+  heard-on (Tells more ∷ hs) ps so_far to out e =
+      let g = heard-on hs (told more ∷ ps) (so_far ++ more) to out e in
+      (g.0, λ before is. g.1 before (ap (λ t. t ++ more) is ∙ append_assoc before so_far more), g.2)
+  heard-on (Makes actor step ∷ hs) ps so_far to out e = by (fault (configured_model c) (turns_of ps) (turn_at (at ps) actor.0 step)) refl e where
+    t : Turn
+    t = turn_at (at ps) actor.0 step
+
+    lines : List ℕ
+    lines = texts.lines_of c shape t.step (answer (configured_model c) (turns_of ps) t)
+
+    by : (o : Option Fault) → fault (configured_model c) (turns_of ps) t ≡ o → then_on number c (heard_on number c shape hs) (at ps) shape so_far t o ≡ goes to out → HasGone ps (Makes actor step ∷ hs) so_far to out
+    by None none e =
+        let g = heard-on hs (stepped t shape ∷ ps) (so_far ++ lines) to out e in
+        (g.0, λ before is. g.1 before (ap (λ t. t ++ lines) is ∙ append_assoc before so_far lines), λ h. g.2 (h, none))
+    by (Some f) some e = absurd cc
+
+  -- the reading stops, at a step that is refused behind those before it
+  abbrev HasStopped : List Part → List Part → List Heard → Status → List ℕ → Type 0
+  HasStopped ps behind hs status out = (later : List Part) × (t : Turn) × (earlier : List Part) × (f : Fault) × (onwards ps hs ≡ later ++ stepped t shape ∷ earlier)
+      × (fault (configured_model c) (turns_of (earlier ++ behind)) t ≡ Some f) × (stops (stop_of number f) [] ≡ stops status out)
+
+  heard-stops : (hs : List Heard) (ps behind : List Part) (so_far : List ℕ) (status : Status) (out : List ℕ) → heard_on number c shape hs (at (ps ++ behind)) so_far ≡ stops status out → HasStopped ps behind hs status out
+  heard-stops [] ps behind so_far status out e = absurd cc
+  heard-stops (Tells more ∷ hs) ps behind so_far status out e = heard-stops hs (told more ∷ ps) behind (so_far ++ more) status out e
+  heard-stops (Makes actor step ∷ hs) ps behind so_far status out e = by (fault (configured_model c) (turns_of (ps ++ behind)) (turn_at (at (ps ++ behind)) actor.0 step)) refl e where
+    t : Turn
+    t = turn_at (at (ps ++ behind)) actor.0 step
+
+    lines : List ℕ
+    lines = texts.lines_of c shape t.step (answer (configured_model c) (turns_of (ps ++ behind)) t)
+
+    by : (o : Option Fault) → fault (configured_model c) (turns_of (ps ++ behind)) t ≡ o → then_on number c (heard_on number c shape hs) (at (ps ++ behind)) shape so_far t o ≡ stops status out → HasStopped ps behind (Makes actor step ∷ hs) status out
+    by None none e = heard-stops hs (stepped t shape ∷ ps) behind (so_far ++ lines) status out e
+    by (Some f) some e = (onto [] (map (part_of moment shape) hs), t, ps, f, onto-behind (map (part_of moment shape) hs) [] (stepped t shape ∷ ps), some, e)
 
 abbrev Of : Type 0
 Of = List (List ℕ) → Option Recorded
@@ -176,19 +239,28 @@ module _ (h : Of) (count : ℕ) (line : List ℕ) (ls : List (List ℕ)) (status
 
   -- a step line, behind others
   module _ (c : Config) (before : List (List ℕ)) (history : (ls : List (List ℕ)) → h ls ≡ Some (record { config = c; steps = steps_of c (onto before ls) })) where
-    -- a step of it finds the queue full
-    full : (r : Result RecLine Kind) (actor : ℕ) (step : Step) (a : ℕ) → judging.line_at line ≡ r → said_in c (form_of before r) r ≡ turn actor step → fault (configured_model c) (turns_in (steps_of c before)) (turn_at (standing c before) actor step) ≡ Some (QueueFull a)
-        → MeetsFull (h (line ∷ []))
-    full r actor step a is says cause = subst MeetsFull (sym (history (line ∷ []))) (record {
-      later = [];
-      turn = turn_at (standing c before) actor step;
-      shape = shape_of (form_of before r);
-      earlier = [];
+    -- a step of it finds the queue full, behind the parts of it that come before
+    full : (r : Result RecLine Kind) (told_ : Told) (later earlier : List Part) (t : Turn) (shape : Shape) (a : ℕ) → judging.line_at line ≡ r → said_in c (form_of before r) r ≡ told_ → parts_by c before r told_ ≡ later ++ stepped t shape ∷ earlier
+        → fault (configured_model c) (turns_in (earlier ∷ steps_of c before)) t ≡ Some (QueueFull a) → MeetsFull (h (line ∷ []))
+    full r told_ later earlier t shape a is says parts cause = subst MeetsFull (sym (history (line ∷ []))) (record {
+      later = later;
+      turn = t;
+      shape = shape;
+      earlier = earlier;
       before = steps_of c before;
       association = a;
-      line = onto-line c before line r (turn actor step) is says (λ q t. parts_by c before q t ∷ steps_of c before ≡ (stepped (turn_at (standing c before) actor step) (shape_of (form_of before r)) ∷ []) ∷ steps_of c before) refl;
+      line = onto-line c before line r told_ is says (λ q u. parts_by c before q u ∷ steps_of c before ≡ (later ++ stepped t shape ∷ earlier) ∷ steps_of c before) (ap (λ ps. ps ∷ steps_of c before) parts);
       cause = cause;
     })
+
+    -- where a step that is refused stops the reading, with this status
+    fault-stops : (r : Result RecLine Kind) (told_ : Told) (later earlier : List Part) (t : Turn) (shape : Shape) (f : Fault) → judging.line_at line ≡ r → said_in c (form_of before r) r ≡ told_
+        → parts_by c before r told_ ≡ later ++ stepped t shape ∷ earlier → fault (configured_model c) (turns_in (earlier ∷ steps_of c before)) t ≡ Some f → stops (stop_of (suc count) f) [] ≡ stops status text → Here
+    fault-stops r told_ later earlier t shape (IsOpen a) is says parts found e = record-stops 5 e
+    fault-stops r told_ later earlier t shape (NotOpen a) is says parts found e = record-stops 5 e
+    fault-stops r told_ later earlier t shape (NotYours a) is says parts found e = record-stops 5 e
+    fault-stops r told_ later earlier t shape (QueueFull a) is says parts found e =
+        stop-by (statuses.Limit 2 (suc count)) [] e (refl, (refl, λ two. full r told_ later earlier t shape a is says parts found))
 
     played-stops : (l : RecLine) (t : Told) → judging.line_at line ≡ Ok l → told_of c (form_at (association_of l) before) l ≡ t → (t ≡ last → line ≡ codes "end")
         → played (suc count) c (past_line (standing c before) l) (shape_of (form_at (association_of l) before)) t ≡ stops status text → Here
@@ -199,10 +271,11 @@ module _ (h : Of) (count : ℕ) (line : List ℕ) (ls : List (List ℕ)) (status
       by : (o : Option Fault) → fault (configured_model c) (turns_in (steps_of c before)) (turn_at (standing c before) actor step) ≡ o
           → accepted (suc count) c (past_line (standing c before) l) (shape_of (form_at (association_of l) before)) (turn_at (standing c before) actor step) o ≡ stops status text → Here
       by None found e = absurd cc
-      by (Some (IsOpen a)) found e = record-stops 5 e
-      by (Some (NotOpen a)) found e = record-stops 5 e
-      by (Some (NotYours a)) found e = record-stops 5 e
-      by (Some (QueueFull a)) found e = stop-by (statuses.Limit 2 (suc count)) [] e (refl, (refl, λ two. full (Ok l) actor step a is says found))
+      by (Some f) found e = fault-stops (Ok l) (turn actor step) [] [] (turn_at (standing c before) actor step) (shape_of (form_at (association_of l) before)) f is says refl found e
+    played-stops l (heard hs) is says ends e =
+        let shape : Shape = shape_of (form_at (association_of l) before) in
+        let s = heard-stops (suc count) c shape (moment_of c before) (λ a. form_behind a l (form_at a before)) hs [] (parts_of (steps_of c before)) [] status text e in
+        fault-stops (Ok l) (heard hs) s.0 s.2 s.1 shape s.3 is says s.4 s.5 s.6
     played-stops l (refused kind) is says ends e = record-stops kind e
     played-stops l last is says ends e = stop-by statuses.Ok (codes "end\n") e (refl, (ls, ap (λ l. l ∷ ls) (ends refl)))
 
@@ -318,6 +391,16 @@ module _ (h : Of) (written line : List ℕ) (c : Config) (before : List (List �
           → accepted number c (past_line (standing c before) l) (shape_of (form_at (association_of l) before)) (turn_at (standing c before) actor step) o ≡ goes to text → On h written line to text
       by None none e = after (Ok l) (turn actor step) is says _ refl (is-history, none) e
       by (Some f) some e = absurd cc
+    played-on l (heard hs) is says e =
+        let shape : Shape = shape_of (form_at (association_of l) before) in
+        let behind_it : List Part = parts_of (steps_of c before) in
+        let forms : ℕ → Form = λ a. form_behind a l (form_at a before) in
+        let g = heard-on number c shape (moment_of c before) forms hs behind_it [] to text e in
+        let same : onto behind_it (map (part_of (moment_of c before) shape) hs) ≡ onto [] (map (part_of (moment_of c before) shape) hs) ++ behind_it = onto-behind (map (part_of (moment_of c before) shape) hs) [] behind_it in
+        after (Ok l) (heard hs) is says text
+        (ap (text_behind c) (sym same) ∙ g.1 (text_behind c behind_it) (sym (append-nil (text_behind c behind_it))))
+        (subst (λ ps. IsHistory (configured_model c) (turns_of ps)) same (g.2 is-history))
+        (ap (λ ps. goes (playing c (record { moment = moment_of c before; turns = turns_of ps; form = forms })) text) (sym same) ∙ ap (λ p. goes p text) (sym g.0))
     played-on l (refused kind) is says e = absurd cc
     played-on l last is says e = absurd cc
 

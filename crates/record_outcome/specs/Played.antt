@@ -4,9 +4,7 @@ use Rattle.bay_model.specs.declared.step.Step.{Step}
 use Rattle.bay_model.specs.Points.{least_moment}
 use Rattle.bay_model.specs.Answers.{Turn, History}
 use Rattle.run_record.specs.declared.line.RecLine.{RecLine}
-use Rattle.record_steps.specs.Forms.{form_behind}
-use Rattle.record_steps.specs.declared.form.Form.{Form}
-use Rattle.record_steps.specs.declared.form.Form.TheVariants as forms
+use Rattle.record_steps.specs.Forms.{Form, shut, form_behind}
 
 pub record Played : Type 0 where
   pub moment : ℕ
@@ -15,7 +13,7 @@ pub record Played : Type 0 where
   pub form : ℕ → Form
 
 abbrev pub start : Played
-start = record { moment = least_moment; turns = []; form = λ a. forms.Shut }
+start = record { moment = least_moment; turns = []; form = λ a. shut }
 
 abbrev pub turn_at : Played → ℕ → Step → Turn
 turn_at s actor step = record { moment = s.moment; actor = actor; step = step }

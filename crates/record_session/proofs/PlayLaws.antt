@@ -1,5 +1,8 @@
 -- What a line does, by what it tells.
-use Rattle.std.proofs.Common.{◌≡◌, ◌++◌, ◌∷◌, ◌==◌, ℕ, Bool, true, false, not, List, [], sym, ap, subst, refl, ◌∙◌, append-nil, inl, inr, arith}
+use Rattle.std.proofs.Common.{◌≡◌, ◌≤◌, ◌++◌, ◌∷◌, ◌==◌, ◌||◌, ℕ, suc, Bool, true, false, not, List, [], length, take, sym, ap, subst, refl, ◌∙◌, append-nil, append_assoc, length-append, inl, inr, arith}
+use Rattle.std.proofs.Math.Seq.{take-append_seam}
+use Rattle.std.specs.Fmt.{decimal}
+use Rattle.std.specs.List.{AllByRecursion, list_any}
 use Rattle.std.specs.Prelude.{Option, None, Some, Result, Ok, Err, OnErr, codes, if◌then◌else◌}
 use Rattle.std.specs.Option.{option_map}
 use Rattle.std.proofs.lemmas.Bool.Decides.{eqb_tells, nat_tests}
@@ -11,7 +14,9 @@ use Rattle.bay_model.specs.Acceptance.{Fault, fault}
 use Rattle.bay_model.specs.Answers.{Turn, answer}
 use Rattle.bay_model.specs.declared.answer.Answer.{Answer}
 use Rattle.bay_model.specs.declared.step.Step.{Step}
-use Rattle.run_record.specs.Grammar.{IsAssoc, IsLine}
+use Rattle.bay_model.specs.declared.step.Step.TheVariants as steps
+use Rattle.run_record.specs.Grammar.{IsAssoc, IsLine, Spells}
+use Rattle.run_record.specs.Spelled.{words}
 use Rattle.run_record.specs.Judging.{line_at, number_of}
 use Rattle.run_record.specs.declared.fault.Kind.{Kind}
 use Rattle.run_record.specs.declared.line.RecLine.{RecLine}
@@ -23,25 +28,33 @@ use Rattle.bay_core.specs.Turns.{Does, IsBuilt, named}
 use Rattle.bay_core.specs.declared.fault.StepFault.{StepFault}
 use Rattle.answer_text.specs.Texts.{lines_of}
 use Rattle.answer_text.specs.declared.shape.Shape.{Shape}
-use Rattle.record_steps.specs.Forms.{is_shut, shape_of, opened_form, form_behind}
+use Rattle.record_steps.specs.Forms.{Form, is_shut, shape_of, plain, Stands, form_behind}
+use Rattle.record_steps.specs.Own.{IsFittingPart}
+use Rattle.record_steps.specs.Streams.{made}
+use Rattle.record_steps.specs.declared.heard.Heard.{Heard}
+use Rattle.record_steps.specs.declared.heard.Heard.TheVariants.{Tells, Makes}
 use Rattle.record_steps.specs.Resolved.{association_of, told_of}
 use Rattle.record_steps.specs.Told as tells
 use Rattle.record_steps.specs.Told.{Told}
-use Rattle.record_steps.specs.Telling.{telling, NamesNone, Names}
-use Rattle.record_steps.specs.declared.form.Form.{Form}
-use Rattle.record_steps.specs.declared.form.Form.TheVariants as forms
+use Rattle.record_steps.specs.Telling.{telling, most_steps, NamesNone, Names}
+use Rattle.record_steps.specs.declared.form.Form as programs
 use Rattle.record_steps.specs.declared.telling.Told as told_as
 use Rattle.record_steps.specs.declared.telling.Told.TheVariants as tolds
+use Rattle.record_steps.proofs.FormLaws.{form-elsewhere, shape-plain}
 use Rattle.record_steps.proofs.ToldLaws.{told-own}
 use Rattle.record_outcome.specs.Moves.{goes, playing, stops}
-use Rattle.record_outcome.specs.Played.{Played, turn_at, past_line}
-use Rattle.record_outcome.specs.Steps.{stop_of, accepted, played, told_at, step_at}
+use Rattle.record_outcome.specs.Played.{Played, turn_at, with_turn, past_line}
+use Rattle.record_outcome.specs.Steps.{stop_of, accepted, then_on, heard_on, played, told_at, step_at}
 use Rattle.record_session.specs.Formed.{form_in}
-use Rattle.record_session.specs.Plays.{Plays, PlaysTo, PlaysOn, PlaysSlot, Performs, Passes, IsReady, plays_told}
+use Rattle.record_session.specs.Plays.{Plays, PlaysTo, PlaysOn, PlaysSlot, Performs, DoesPart, DoesParts, IsReadyPart, IsReady, most_of, plays_told}
 use Rattle.record_session.specs.declared.playing.Playing.{Playing}
 use Rattle.record_outcome.specs.declared.status.Status.{Status}
 use Rattle.record_outcome.specs.declared.status.Status.TheVariants as statuses
 use Rattle.record_session.proofs.BuiltLaws.{own-built}
+
+or_none : (a b : Bool) → (a || b) ≡ false → (a ≡ false) × (b ≡ false)
+or_none true b h = absurd cc
+or_none false b h = (refl, h)
 
 abbrev turn : ℕ → ℕ → Step → Turn
 turn actor moment step = record { moment = moment; actor = actor; step = step }
@@ -77,43 +90,23 @@ unnamed-is _ h = refl
 
 -- ---- what a line makes of the associations
 
-same-number : (x : ℕ) → (x == x) ≡ true
-same-number x = grind (arith, nat_tests)
-
-kept-form : (b a : ℕ) (form : ℕ → Form) → (if b == a then form b else form a) ≡ form a
-kept-form b a form = elim (eqb_tells b a) [
-  | inl t ↦ ap (λ (x : Bool). if x then form b else form a) t.0 ∙ ap form t.1
-  | inr t ↦ ap (λ (x : Bool). if x then form b else form a) t.0
-]
-
-module _ (old new : Playing) (s : Played) (was : (a : ℕ) → form_in old.forms a ≡ s.form a) (k : ℕ) (f : Form) (sets : (a : ℕ) → form_in new.forms a ≡ (if k == a then f else form_in old.forms a)) where
-  set-to : (b : ℕ) (g : Form) → k ≡ b → f ≡ g → (a : ℕ) → form_in new.forms a ≡ (if b == a then g else s.form a)
-  set-to b g same is a = sets a ∙ (ap (λ k. if k == a then f else form_in old.forms a) same ∙ (ap (λ f. if b == a then f else form_in old.forms a) is ∙ ap (λ o. if b == a then g else o) (was a)))
-
-  left : (b : ℕ) → k ≡ b → f ≡ form_in old.forms b → (a : ℕ) → form_in new.forms a ≡ s.form a
-  left b same is a = set-to b (s.form b) same (is ∙ was b) a ∙ kept-form b a s.form
-
-  line-forms : (line : RecLine) → k ≡ association_of line → f ≡ form_behind (association_of line) line (form_in old.forms (association_of line)) → (a : ℕ) → form_in new.forms a ≡ form_behind a line (s.form a)
-  line-forms (lines.Open b form) names is a = set-to b.0 (opened_form form) names (is ∙ ap (λ (x : Bool). if x then opened_form form else form_in old.forms b.0) (same-number b.0)) a
-  line-forms (lines.Lost b) names is a = set-to b.0 forms.Shut names (is ∙ ap (λ (x : Bool). if x then forms.Shut else form_in old.forms b.0) (same-number b.0)) a
-  line-forms lines.Skip names is a = left 0 names is a
-  line-forms (lines.At moment) names is a = left 0 names is a
-  line-forms (lines.Write b block comp value) names is a = left b.0 names is a
-  line-forms (lines.Pdu b hex) names is a = left b.0 names is a
-  line-forms (lines.Piece b hex) names is a = left b.0 names is a
-  line-forms (lines.Take b) names is a = left b.0 names is a
-  line-forms (lines.Set pairs) names is a = left 0 names is a
-  line-forms (lines.Done control well) names is a = left 0 names is a
-  line-forms (lines.Block control on) names is a = left 0 names is a
-  line-forms lines.Tick names is a = left 0 names is a
-  line-forms lines.End names is a = left 0 names is a
-
-pub passes-line : (old new : Playing) (line : RecLine) (k : ℕ) (f : Form) → new.bay ≡ old.bay → new.moment ≡ old.moment → ((a : ℕ) → form_in new.forms a ≡ (if k == a then f else form_in old.forms a)) → k ≡ association_of line
-    → f ≡ form_behind (association_of line) line (form_in old.forms (association_of line)) → Passes old new line
-passes-line old new line k f bay moment sets names is = λ c s p. record {
+-- what is kept of the associations behind a line: of its own this, and of each other what was
+pub passes-line : (old mid : Playing) (line : RecLine) (k : ℕ) (after left : programs.Form) → mid.bay ≡ old.bay → mid.moment ≡ old.moment
+    → ((a : ℕ) → form_in mid.forms a ≡ (if k == a then after else (if k == a then left else form_in old.forms a))) → k ≡ association_of line
+    → ((f : Form) → Stands (form_in old.forms k) f → Stands after (form_behind (association_of line) line f)) → (c : Config) (s : Played) → Plays old c s → Plays mid c (past_line s line)
+passes-line old mid line k after left bay moment sets names stands c s p = record {
   moment = moment ∙ p.moment;
   stands = subst (λ b. StandsFor b c s.turns) (sym bay) p.stands;
-  forms = line-forms old new s p.forms k f sets line names is;
+  forms = λ a. elim (eqb_tells k a) [
+    | inl t ↦
+      let kept : form_in mid.forms a ≡ after = sets a ∙ ap (λ x. if x then after else (if x then left else form_in old.forms a)) t.0 in
+      let own : Stands after (form_behind (association_of line) line (s.form k)) = stands (s.form k) (p.forms k) in
+      subst (λ f. Stands f (form_behind a line (s.form a))) (sym kept) (subst (λ b. Stands after (form_behind b line (s.form a))) (sym names ∙ t.1) (subst (λ b. Stands after (form_behind (association_of line) line (s.form b))) t.1 own))
+    | inr t ↦
+      let kept : form_in mid.forms a ≡ form_in old.forms a = sets a ∙ ap (λ x. if x then after else (if x then left else form_in old.forms a)) t.0 in
+      let other : (association_of line == a) ≡ false = ap (λ b. b == a) (sym names) ∙ t.0 in
+      subst (λ f. Stands f (form_behind a line (s.form a))) (sym kept) (subst (Stands (form_in old.forms a)) (sym (form-elsewhere line a (s.form a) other)) (p.forms a))
+  ];
 }
 
 -- ---- a step
@@ -160,46 +153,163 @@ pub faultless-answered : (old : Playing) (actor : ℕ) (step : Step) (given : An
 faultless-answered old actor step given bay does c s p =
     sym (ap (λ m. fault (configured_model c) s.turns (turn actor m step)) p.moment) ∙ (does c s.turns p.stands).1.0.1
 
+-- ---- the parts of a piece
+
+-- of all parts those before these were done: what is played so far, and the text so far
+abbrev pub DoneSo : Playing → Playing → ℕ → Shape → (all rest : List Heard) → (before now : List ℕ) → Type 0
+DoneSo old here number shape all rest before now = (c : Config) (s : Played) → Plays old c s
+    → (mid : Played) × (text : List ℕ) × Plays here c mid × (now ≡ before ++ text) × (heard_on number c shape all s [] ≡ heard_on number c shape rest mid text)
+
+module _ (old : Playing) (number : ℕ) (shape : Shape) (all : List Heard) (before : List ℕ) where
+  pub done-none : DoneSo old old number shape all all before before
+  done-none = λ c s p. (s, [], p, nothing-written before before refl, refl)
+
+  pub done-more : (here new : Playing) (part : Heard) (rest : List Heard) (now later : List ℕ) → DoneSo old here number shape all (part ∷ rest) before now → DoesPart None here new number shape part now later
+      → DoneSo old new number shape all rest before later
+  done-more here new (Tells more) rest now later so does = λ c s p.
+      let h = so c s p in
+      (h.0, h.1 ++ more, subst (λ (q : Playing). Plays q c h.0) (sym does.0) h.2, does.1 ∙ (ap (λ o. o ++ more) h.3 ∙ append_assoc before h.1 more), h.4)
+  done-more here new (Makes actor step) rest now later so does = λ c s p.
+      let h = so c s p in
+      by c s h.0 h.1 h.3 h.4 (fault (configured_model c) h.0.turns (turn_at h.0 actor.0 step)) refl (does c h.0 h.2) where
+        by : (c : Config) (s mid : Played) (text : List ℕ) → now ≡ before ++ text → heard_on number c shape all s [] ≡ heard_on number c shape (Makes actor step ∷ rest) mid text → (o : Option Fault) → fault (configured_model c) mid.turns (turn_at mid actor.0 step) ≡ o
+            → PlaysTo None new (accepted number c mid shape (turn_at mid actor.0 step) o) now later
+            → (mid : Played) × (text : List ℕ) × Plays new c mid × (later ≡ before ++ text) × (heard_on number c shape all s [] ≡ heard_on number c shape rest mid text)
+        by c s mid text is same None none h =
+            let t : Turn = turn_at mid actor.0 step in
+            let more : List ℕ = lines_of c shape t.step (answer (configured_model c) mid.turns t) in
+            (with_turn mid t, text ++ more, h.0, h.1 ∙ (ap (λ o. o ++ more) is ∙ append_assoc before text more), same ∙ ap (then_on number c (heard_on number c shape rest) mid shape text t) none)
+        by c s mid text is same (Some f) some h = absurd h
+
+  pub done-all : (new : Playing) (now : List ℕ) → DoneSo old new number shape all [] before now → DoesParts None old new number shape all before now
+  done-all new now so = λ c s p.
+      let h = so c s p in
+      subst (λ m. PlaysTo None new m before now) (sym h.4) (h.2, h.3)
+
+  taken-back : (text later : List ℕ) → later ≡ before ++ text → take (length before) later ≡ before ++ []
+  taken-back text later is = ap (take (length before)) is ∙ (take-append_seam before text ∙ sym (append-nil before))
+
+  pub done-stop : (here new : Playing) (part : Heard) (rest : List Heard) (now later : List ℕ) (status : Status) → DoneSo old here number shape all (part ∷ rest) before now → DoesPart (Some status) here new number shape part now later
+      → DoesParts (Some status) old new number shape all before (take (length before) later)
+  done-stop here new (Tells more) rest now later status so does = absurd does
+  done-stop here new (Makes actor step) rest now later status so does = λ c s p.
+      let h = so c s p in
+      subst (λ m. PlaysTo (Some status) new m before (take (length before) later)) (sym h.4) (by c h.0 h.1 h.3 (fault (configured_model c) h.0.turns (turn_at h.0 actor.0 step)) (does c h.0 h.2)) where
+        by : (c : Config) (mid : Played) (text : List ℕ) → now ≡ before ++ text → (o : Option Fault) → PlaysTo (Some status) new (accepted number c mid shape (turn_at mid actor.0 step) o) now later
+            → PlaysTo (Some status) new (then_on number c (heard_on number c shape rest) mid shape text (turn_at mid actor.0 step) o) before (take (length before) later)
+        by c mid text is None h = absurd h
+        by c mid text is (Some f) h = (h.0, taken-back text later (h.1 ∙ (append-nil now ∙ is)))
+
 -- ---- what was told
 
--- a step that a line tells fits, and is one that a bay takes
-pub told-ready : (c : Config) (form : Form) (line : RecLine) (told : told_as.Told) (slot : Step) → telling told slot ≡ told_of c form line → IsReady c told slot
-told-ready c form line (tolds.Step actor) slot is =
-    let own = told-own c (λ a. not (is_shut form)) form actor.0 slot line refl (sym is) in (own.1, own-built (λ a. not (is_shut form)) actor.0 slot own.0)
-told-ready c form line _ slot is = tt
+-- each part of a piece that is to be heard is one that a bay takes
+ready-part : (c : Config) (part : Heard) → IsFittingPart c part → IsReadyPart c part
+ready-part c (Tells text) fit = tt
+ready-part c (Makes actor (steps.Open a size writer)) fit = (fit.0, tt)
+ready-part c (Makes actor (steps.Ask a r)) fit = (fit.0, tt)
+ready-part c (Makes actor (steps.Write a b comp v)) fit = absurd fit.1
+ready-part c (Makes actor (steps.Take a)) fit = absurd fit.1
+ready-part c (Makes actor (steps.Lost a)) fit = (fit.0, tt)
+ready-part c (Makes actor (steps.Value settings)) fit = absurd fit.1
+ready-part c (Makes actor (steps.Done k good)) fit = absurd fit.1
+ready-part c (Makes actor (steps.Block k flag)) fit = absurd fit.1
+ready-part c (Makes actor steps.Tick) fit = absurd fit.1
 
-module _ (old : Playing) (number : ℕ) (shape : Shape) (slot : Step) (before : List ℕ) where
-  pub slot-nothing : PlaysSlot None old old number shape tolds.Nothing slot before before
+ready-parts : (c : Config) (hs : List Heard) → AllByRecursion (IsFittingPart c) hs → AllByRecursion (IsReadyPart c) hs
+ready-parts c [] fit = tt
+ready-parts c (h ∷ hs) fit = (ready-part c h fit.0, ready-parts c hs fit.1)
+
+-- what a line tells fits, and is what a bay takes
+pub told-ready : (c : Config) (form : Form) (line : RecLine) (told : told_as.Told) (slot : Step) (hs : List Heard) → telling told slot hs ≡ told_of c form line → AllByRecursion (IsFittingPart c) hs → IsReady c told slot hs
+told-ready c form line (tolds.Step actor) slot hs is fit =
+    let own = told-own c (λ a. not (is_shut form)) form actor.0 slot line refl (sym is) in (own.1, own-built (λ a. not (is_shut form)) actor.0 slot own.0)
+told-ready c form line tolds.Heard slot hs is fit = ready-parts c hs fit
+told-ready c form line tolds.Nothing slot hs is fit = tt
+told-ready c form line (tolds.At moment) slot hs is fit = tt
+told-ready c form line (tolds.Refused kind) slot hs is fit = tt
+told-ready c form line tolds.End slot hs is fit = tt
+
+-- it makes no more steps than the line may
+some-steps : (line : RecLine) → 1 ≤ most_steps line
+some-steps (lines.Piece a hex) = omega arith
+some-steps lines.Skip = omega arith
+some-steps (lines.At moment) = omega arith
+some-steps (lines.Open a form) = omega arith
+some-steps (lines.Write a block comp value) = omega arith
+some-steps (lines.Pdu a hex) = omega arith
+some-steps (lines.Take a) = omega arith
+some-steps (lines.Lost a) = omega arith
+some-steps (lines.Set pairs) = omega arith
+some-steps (lines.Done control well) = omega arith
+some-steps (lines.Block control on) = omega arith
+some-steps lines.Tick = omega arith
+some-steps lines.End = omega arith
+
+pub most-told : (line : RecLine) (told : told_as.Told) (hs : List Heard) → made hs ≤ most_steps line → most_of told hs ≤ most_steps line
+most-told line tolds.Heard hs few = few
+most-told line tolds.Nothing hs few = some-steps line
+most-told line (tolds.At moment) hs few = some-steps line
+most-told line (tolds.Step actor) hs few = some-steps line
+most-told line (tolds.Refused kind) hs few = some-steps line
+most-told line tolds.End hs few = some-steps line
+
+-- and a line may no more than it has octets, and one
+in-text : (number hex text : List ℕ) → text ≡ codes "in" ++ 32 ∷ (number ++ 32 ∷ hex) → length hex ≤ length text
+in-text number hex text is = omega (arith, ap length is, length-append number (32 ∷ hex))
+
+pub line-steps : (text : List ℕ) (line : RecLine) → Spells text line → most_steps line ≤ suc (length text)
+unfolding words
+line-steps text (lines.Piece a hex) s = omega (arith, in-text (decimal a.0) hex text s.text_)
+line-steps text lines.Skip s = omega arith
+line-steps text (lines.At moment) s = omega arith
+line-steps text (lines.Open a form) s = omega arith
+line-steps text (lines.Write a block comp value) s = omega arith
+line-steps text (lines.Pdu a hex) s = omega arith
+line-steps text (lines.Take a) s = omega arith
+line-steps text (lines.Lost a) s = omega arith
+line-steps text (lines.Set pairs) s = omega arith
+line-steps text (lines.Done control well) s = omega arith
+line-steps text (lines.Block control on) s = omega arith
+line-steps text lines.Tick s = omega arith
+line-steps text lines.End s = omega arith
+
+module _ (old : Playing) (number : ℕ) (shape : Shape) (slot : Step) (heard : List Heard) (before : List ℕ) where
+  pub slot-nothing : PlaysSlot None old old number shape tolds.Nothing slot heard before before
   unfolding played
   slot-nothing = λ c s p. (p, nothing-written before before refl)
 
-  pub slot-pass : (moment : ℕ) → PlaysSlot None old (record old { moment = moment }) number shape (tolds.At moment) slot before before
+  pub slot-pass : (moment : ℕ) → PlaysSlot None old (record old { moment = moment }) number shape (tolds.At moment) slot heard before before
   unfolding played
   slot-pass moment = λ c s p. (record { moment = refl; stands = p.stands; forms = p.forms }, nothing-written before before refl)
 
-  pub slot-step : (stop : Option Status) (new : Playing) (actor : ActorNo) (now : List ℕ) → Performs stop old new number shape actor.0 slot before now → PlaysSlot stop old new number shape (tolds.Step actor) slot before now
+  pub slot-step : (stop : Option Status) (new : Playing) (actor : ActorNo) (now : List ℕ) → Performs stop old new number shape actor.0 slot before now → PlaysSlot stop old new number shape (tolds.Step actor) slot heard before now
   unfolding played
   slot-step stop new actor now performs = performs
 
-  pub slot-refused : (kind : Kind) → PlaysSlot (Some (statuses.Record number (number_of kind))) old old number shape (tolds.Refused kind) slot before before
+  pub slot-heard : (stop : Option Status) (new : Playing) (now : List ℕ) → DoesParts stop old new number shape heard before now → PlaysSlot stop old new number shape tolds.Heard slot heard before now
+  unfolding played
+  slot-heard stop new now does = does
+
+  pub slot-refused : (kind : Kind) → PlaysSlot (Some (statuses.Record number (number_of kind))) old old number shape (tolds.Refused kind) slot heard before before
   unfolding played
   slot-refused kind = λ c s p. (refl, nothing-written before before refl)
 
-  pub slot-end : (now : List ℕ) → now ≡ before ++ codes "end\n" → PlaysSlot (Some statuses.Ok) old old number shape tolds.End slot before now
+  pub slot-end : (now : List ℕ) → now ≡ before ++ codes "end\n" → PlaysSlot (Some statuses.Ok) old old number shape tolds.End slot heard before now
   unfolding played
   slot-end now out = λ c s p. (refl, out)
 
 -- ---- a line
 
 -- its association passes it, and then what it tells is done
-pub plays-line : (old mid new : Playing) (number : ℕ) (line : RecLine) (form : Form) (shape : Shape) (told : told_as.Told) (slot : Step) (stop : Option Status) (model : Config) (before now : List ℕ) → Passes old mid line → form ≡ form_in old.forms (association_of line)
-    → shape ≡ shape_of form → model ≡ mid.bay.config → telling told slot ≡ told_of model form line → PlaysSlot stop mid new number shape told slot before now → PlaysOn stop old new (plays_told number line) before now
-plays-line old mid new number line form shape told slot stop model before now pass is shaped same tells plays = λ c s p.
+pub plays-line : (old mid new : Playing) (number : ℕ) (line : RecLine) (form : programs.Form) (shape : Shape) (told : told_as.Told) (slot : Step) (heard : List Heard) (stop : Option Status) (model : Config) (before now : List ℕ)
+    → ((c : Config) (s : Played) → Plays old c s → Plays mid c (past_line s line)) → form ≡ form_in old.forms (association_of line) → shape ≡ shape_of (plain form) → model ≡ mid.bay.config
+    → ((f : Form) → Stands form f → telling told slot heard ≡ told_of model f line) → PlaysSlot stop mid new number shape told slot heard before now → PlaysOn stop old new (plays_told number line) before now
+plays-line old mid new number line form shape told slot heard stop model before now pass is shaped same tells plays = λ c s p.
     let q = pass c s p in
-    let f : form ≡ s.form (association_of line) = is ∙ p.forms (association_of line) in
-    let t : telling told slot ≡ told_of c (s.form (association_of line)) line = tells ∙ (ap (λ k. told_of k form line) (same ∙ q.stands.1.is_config) ∙ ap (λ f. told_of c f line) f) in
+    let stands : Stands form (s.form (association_of line)) = subst (λ f. Stands f (s.form (association_of line))) (sym is) (p.forms (association_of line)) in
+    let t : telling told slot heard ≡ told_of c (s.form (association_of line)) line = tells (s.form (association_of line)) stands ∙ ap (λ k. told_of k (s.form (association_of line)) line) (same ∙ q.stands.1.is_config) in
     subst (λ t. PlaysTo stop new (played number c (past_line s line) (shape_of (s.form (association_of line))) t) before now) t
-    (subst (λ h. PlaysTo stop new (played number c (past_line s line) h (telling told slot)) before now) (shaped ∙ ap shape_of f) (plays c (past_line s line) q))
+    (subst (λ h. PlaysTo stop new (played number c (past_line s line) h (telling told slot heard)) before now) (shaped ∙ shape-plain form (s.form (association_of line)) stands) (plays c (past_line s line) q))
 
 -- a line that tells something, and one that is refused
 module _ (old new : Playing) (number : ℕ) (text before now : List ℕ) where

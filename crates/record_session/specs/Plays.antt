@@ -1,5 +1,6 @@
 -- What a bay under play stands for, and what its steps come to.
 use Rattle.std.specs.Prelude.{◌≡◌, ℕ, true, List, [], ◌++◌, Option, None, Some, Ok}
+use Rattle.std.specs.List.{AllByRecursion}
 use Rattle.sv_base.specs.declared.config.Config.{Config}
 use Rattle.bay_model.specs.Named.{configured_model}
 use Rattle.bay_model.specs.Acceptance.{fault}
@@ -9,12 +10,16 @@ use Rattle.bay_core.specs.Standing.{StandsFor}
 use Rattle.bay_core.specs.Turns.{IsBuilt}
 use Rattle.object_model.specs.Fits.{fits}
 use Rattle.answer_text.specs.declared.shape.Shape.{Shape}
+use Rattle.record_steps.specs.Forms.{Stands}
+use Rattle.record_steps.specs.Streams.{made}
 use Rattle.record_steps.specs.Telling.{telling}
+use Rattle.record_steps.specs.declared.heard.Heard.{Heard}
+use Rattle.record_steps.specs.declared.heard.Heard.TheVariants.{Tells, Makes}
 use Rattle.record_steps.specs.declared.telling.Told.{Told}
 use Rattle.record_steps.specs.declared.telling.Told.TheVariants as tolds
-use Rattle.record_outcome.specs.Played.{Played, turn_at, past_line}
+use Rattle.record_outcome.specs.Played.{Played, turn_at}
 use Rattle.record_outcome.specs.Moves.{playing, Move, goes, stops}
-use Rattle.record_outcome.specs.Steps.{accepted, played, told_at}
+use Rattle.record_outcome.specs.Steps.{accepted, heard_on, played, told_at}
 use Rattle.record_outcome.specs.Judgements.{IsJudgement}
 use Rattle.record_session.specs.Formed.{form_in}
 use Rattle.record_session.specs.declared.playing.Playing.{Playing}
@@ -22,11 +27,11 @@ use Rattle.record_session.specs.declared.starting.Started.{Started}
 use Rattle.record_session.specs.declared.starting.Started.TheVariants as starteds
 use Rattle.record_outcome.specs.declared.status.Status.{Status}
 
--- the bay, the moment and what the associations are are those of what was played
+-- the bay and the moment are those of what was played, and what is kept of the associations stands for them
 pub record Plays (p : Playing) (c : Config) (s : Played) : Type 0 where
   pub moment : p.moment ≡ s.moment
   pub stands : StandsFor p.bay c s.turns
-  pub forms : (a : ℕ) → form_in p.forms a ≡ s.form a
+  pub forms : (a : ℕ) → Stands (form_in p.forms a) (s.form a)
 
 -- what is played, or the status with which the reading stops, is what a line does
 abbrev pub PlaysTo : Option Status → Playing → Move → List ℕ → List ℕ → Type 0
@@ -42,22 +47,39 @@ abbrev pub Performs : Option Status → Playing → Playing → ℕ → Shape �
 Performs status old new number shape actor step before now =
     PlaysOn status old new (λ c s. accepted number c s shape (turn_at s actor step) (fault (configured_model c) s.turns (turn_at s actor step))) before now
 
--- what a slot holds is done, where it was told
-abbrev pub PlaysSlot : Option Status → Playing → Playing → ℕ → Shape → Told → Step → List ℕ → List ℕ → Type 0
-PlaysSlot status old new number shape told slot before now = PlaysOn status old new (λ c s. played number c s shape (telling told slot)) before now
+-- a part of a piece is done: its text is written, or its step performed
+abbrev pub DoesPart : Option Status → Playing → Playing → ℕ → Shape → Heard → List ℕ → List ℕ → Type 0
+DoesPart None old new number shape (Tells text) before now = (new ≡ old) × (now ≡ before ++ text)
+DoesPart (Some status) old new number shape (Tells text) before now = ⊥
+DoesPart status old new number shape (Makes actor step) before now = Performs status old new number shape actor.0 step before now
 
--- the step in a slot, where one is told, fits the configuration and is one that a bay takes
-abbrev pub IsReady : Config → Told → Step → Type 0
-IsReady c (tolds.Step actor) slot = (fits c slot ≡ true) × IsBuilt slot
-IsReady c _ slot = Unit {0}
+-- and parts one after another, behind nothing
+abbrev pub DoesParts : Option Status → Playing → Playing → ℕ → Shape → List Heard → List ℕ → List ℕ → Type 0
+DoesParts status old new number shape heard before now = PlaysOn status old new (λ c s. heard_on number c shape heard s []) before now
+
+-- what a slot and a list hold is done, where it was told
+abbrev pub PlaysSlot : Option Status → Playing → Playing → ℕ → Shape → Told → Step → List Heard → List ℕ → List ℕ → Type 0
+PlaysSlot status old new number shape told slot heard before now = PlaysOn status old new (λ c s. played number c s shape (telling told slot heard)) before now
+
+-- a step fits the configuration and is one that a bay takes
+abbrev pub IsReadyPart : Config → Heard → Type 0
+IsReadyPart c (Tells text) = Unit {0}
+IsReadyPart c (Makes actor step) = (fits c step ≡ true) × IsBuilt step
+
+-- and so does the step in a slot, where one is told, and each of a list
+abbrev pub IsReady : Config → Told → Step → List Heard → Type 0
+IsReady c (tolds.Step actor) slot heard = (fits c slot ≡ true) × IsBuilt slot
+IsReady c tolds.Heard slot heard = AllByRecursion (IsReadyPart c) heard
+IsReady c _ slot heard = Unit {0}
+
+-- how many steps are told
+abbrev pub most_of : Told → List Heard → ℕ
+most_of tolds.Heard heard = made heard
+most_of _ heard = 1
 
 -- what a line does
 abbrev pub plays_told : ℕ → RecLine → Config → Played → Move
 plays_told number line c s = told_at number c s (Ok line)
-
--- what a line makes of the associations
-abbrev pub Passes : Playing → Playing → RecLine → Type 0
-Passes old new line = (c : Config) (s : Played) → Plays old c s → Plays new c (past_line s line)
 
 abbrev pub Starts : Started → Move → Type 0
 Starts (starteds.Plays p) (goes (playing c s) text) = Plays p c s × (text ≡ [])

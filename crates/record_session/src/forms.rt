@@ -3,6 +3,7 @@
 use record_steps::Form;
 use std::alloc::{AllocError, Global};
 use std::marker::Model;
+use std::mem::replace;
 use sv_base::AssocNo;
 
 /// One more than the greatest number of an association.
@@ -38,17 +39,31 @@ impl Forms {
         ensures { IfOk result (λ f. (a : ℕ) → form_in f a ≡ Shut) }
     {
         let mut forms = Vec::new(alloc);
-        forms.resize(COUNT, Form::Shut)?;
+        for _number in 0..COUNT {
+            forms.push(Form::Shut)?;
+        }
         Ok(Forms { forms })
     }
 
-    /// What an association is.
-    pub fn of(&self, a: AssocNo) -> Form
-        requires { a.0 ≤ 16 }
-        ensures form { result ≡ form_in self.now a.0 }
+    /// Puts another one in the place of what an association is.
+    fn exchange(&mut self, a: AssocNo, form: Form) -> Form
+        requires number { a.0 ≤ 16 }
+        requires sized { IsSized form }
+        ensures form { result ≡ form_in self.old a.0 }
         ensures sized { IsSized result }
+        ensures forms { (b : ℕ) → form_in self.new b ≡ (if a.0 == b then form else form_in self.old b) }
     {
-        self.forms[a.0 as usize]
+        replace(&mut self.forms[a.0 as usize], form)
+    }
+
+    /// Takes what an association is, and leaves it shut.
+    pub fn take(&mut self, a: AssocNo) -> Form
+        requires number { a.0 ≤ 16 }
+        ensures form { result ≡ form_in self.old a.0 }
+        ensures sized { IsSized result }
+        ensures forms { (b : ℕ) → form_in self.new b ≡ (if a.0 == b then Shut else form_in self.old b) }
+    {
+        self.exchange(a, Form::Shut)
     }
 
     /// Makes it another.
@@ -57,6 +72,6 @@ impl Forms {
         requires sized { IsSized form }
         ensures { (b : ℕ) → form_in self.new b ≡ (if a.0 == b then form else form_in self.old b) }
     {
-        self.forms[a.0 as usize] = form;
+        drop(self.exchange(a, form));
     }
 }

@@ -14,7 +14,7 @@ use answer_text::{Shape, lines_of};
 use bay_core::{Bay, StepFault};
 use bay_model::Step;
 use record_outcome::status::Status;
-use record_steps::{Form, Told, association, behind, tell};
+use record_steps::{Heard, Told, association, tell};
 use run_record::{LineView, view_line};
 use std::alloc::{AllocError, Global};
 use sv_base::{ActorNo, AssocNo, Moment};
@@ -60,7 +60,8 @@ pub struct Playing {
 }
 
 impl Playing {
-    ghost use Rattle.std.specs.Prelude.{◌≡◌, ◌≤◌, ◌<◌, ◌^◌, suc, true, [], None, IfOk, IfSome, IfNone, OnErr};
+    ghost use Rattle.std.specs.Prelude.{◌≡◌, ◌≤◌, ◌<◌, ◌+◌, ◌^◌, suc, true, [], ◌∷◌, length, None, IfOk, IfSome, IfNone, OnErr};
+    ghost use Rattle.std.specs.List.{AllByRecursion};
     ghost use Rattle.sv_base.specs.declared.config.Config.{Config};
     ghost use Rattle.bay_model.specs.Named.{configured_model};
     ghost use Rattle.bay_model.specs.Acceptance.{fault};
@@ -70,12 +71,11 @@ impl Playing {
     ghost use Rattle.bay_core.specs.Standing.{StandsFor};
     ghost use Rattle.bay_core.specs.Turns.{IsBuilt};
     ghost use Rattle.answer_text.specs.Texts.{IsShape};
-    ghost use Rattle.record_steps.specs.Forms.{IsSized};
-    ghost use Rattle.record_steps.specs.Resolved.{association_of};
+    ghost use Rattle.record_steps.specs.Streams.{made};
+    ghost use Rattle.record_steps.specs.Telling.{most_steps};
     ghost use Rattle.record_outcome.specs.Played.{Played, start, turn_at};
     ghost use Rattle.record_outcome.specs.Steps.{step_at};
-    ghost use Rattle.record_session.specs.Formed.{form_in};
-    ghost use Rattle.record_session.specs.Plays.{Plays, PlaysOn, PlaysSlot, Performs, Passes, IsReady, plays_told};
+    ghost use Rattle.record_session.specs.Plays.{Plays, PlaysOn, PlaysSlot, Performs, DoesPart, DoesParts, IsReadyPart, IsReady, most_of, plays_told};
     ghost use Rattle.record_outcome.specs.Judgements.{IsJudgement};
 
     /// A bay before its first step, where no association is open.
@@ -93,26 +93,6 @@ impl Playing {
             moment: Moment::first(),
             forms,
         })
-    }
-
-    /// What the association is that a line names.
-    fn form_of(&self, line: &LineView<'_>) -> Form
-        requires { IsLine (line_seen line.now) }
-        ensures form { result ≡ form_in self.now.forms (association_of (line_seen line.now)) }
-        ensures sized { IsSized result }
-    {
-        self.forms.of(number_in(line))
-    }
-
-    /// Makes of the associations what a line makes of them, where its own is of this form.
-    fn pass(&mut self, line: &LineView<'_>, form: Form)
-        requires ranges { IsLine (line_seen line.now) }
-        requires form { form ≡ form_in self.old.forms (association_of (line_seen line.now)) }
-        requires sized { IsSized form }
-        ensures passes { Passes self.old self.new (line_seen line.now) }
-        ensures bay { self.new.bay ≡ self.old.bay }
-    {
-        self.forms.set(number_in(line), behind(line, form));
     }
 
     /// Performs the step of a line, and writes the answer to it in this shape; or gives the status with which the reading
@@ -149,8 +129,61 @@ impl Playing {
         }
     }
 
-    /// Does what was told, whose step stands in a slot, and writes the answer to it in this shape; or gives the status with
+    /// Does a part of a piece behind those before it: writes what the stack answers, or performs a step; or gives the status with
     /// which the reading stops.
+    fn do_part(
+        &mut self,
+        alloc: Global,
+        out: &mut Vec<u8>,
+        number: u64,
+        shape: Shape,
+        part: &Heard,
+    ) -> Result<Option<Status>, AllocError>
+        requires ready { IsReadyPart self.old.bay.config part.now }
+        requires shape { IsShape shape }
+        requires few { self.old.bay.steps < 2 ^ 62 }
+        ensures does { IfOk result (λ s. DoesPart s self.old self.new number shape part.now out.old.items out.new.items) }
+        ensures judged { IfOk result (λ s. IfSome s IsJudgement) }
+        ensures few { IfOk result (λ s. IfNone s (self.new.bay.steps ≤ self.old.bay.steps + made (part.now ∷ []))) }
+        ensures same { IfOk result (λ s. IfNone s (self.new.bay.config ≡ self.old.bay.config)) }
+    {
+        match part {
+            Heard::Tells(text) => {
+                out.extend_from_slice(text.as_slice())?;
+                Ok(None)
+            }
+            Heard::Makes(actor, step) => self.perform(alloc, out, number, shape, *actor, step),
+        }
+    }
+
+    /// Does the parts of a piece one after another; where a step is refused, what was written of them is taken back.
+    fn do_parts(
+        &mut self,
+        alloc: Global,
+        out: &mut Vec<u8>,
+        number: u64,
+        shape: Shape,
+        heard: &[Heard],
+    ) -> Result<Option<Status>, AllocError>
+        requires ready { AllByRecursion (IsReadyPart self.old.bay.config) heard.now }
+        requires shape { IsShape shape }
+        requires few { self.old.bay.steps + made heard.now < 2 ^ 62 }
+        ensures does { IfOk result (λ s. DoesParts s self.old self.new number shape heard.now out.old.items out.new.items) }
+        ensures judged { IfOk result (λ s. IfSome s IsJudgement) }
+        ensures few { IfOk result (λ s. IfNone s (self.new.bay.steps ≤ self.old.bay.steps + made heard.now)) }
+    {
+        let before = out.len();
+        for part in heard {
+            if let Some(status) = self.do_part(alloc, out, number, shape, part)? {
+                out.truncate(before);
+                return Ok(Some(status));
+            }
+        }
+        Ok(None)
+    }
+
+    /// Does what was told, whose step stands in a slot and whose parts in a list, and writes the answer to it in this shape; or
+    /// gives the status with which the reading stops.
     fn act(
         &mut self,
         alloc: Global,
@@ -159,13 +192,14 @@ impl Playing {
         shape: Shape,
         told: Told,
         slot: &Step,
+        heard: &[Heard],
     ) -> Result<Option<Status>, AllocError>
-        requires ready { IsReady self.old.bay.config told slot.now }
+        requires ready { IsReady self.old.bay.config told slot.now heard.now }
         requires shape { IsShape shape }
-        requires few { self.old.bay.steps < 2 ^ 62 }
-        ensures plays { IfOk result (λ s. PlaysSlot s self.old self.new number shape told slot.now out.old.items out.new.items) }
+        requires few { self.old.bay.steps + most_of told heard.now < 2 ^ 62 }
+        ensures plays { IfOk result (λ s. PlaysSlot s self.old self.new number shape told slot.now heard.now out.old.items out.new.items) }
         ensures judged { IfOk result (λ s. IfSome s IsJudgement) }
-        ensures few { IfOk result (λ s. IfNone s (self.new.bay.steps ≤ suc self.old.bay.steps)) }
+        ensures few { IfOk result (λ s. IfNone s (self.new.bay.steps ≤ self.old.bay.steps + most_of told heard.now)) }
     {
         match told {
             Told::Nothing => Ok(None),
@@ -174,6 +208,7 @@ impl Playing {
                 Ok(None)
             }
             Told::Step(actor) => self.perform(alloc, out, number, shape, actor, slot),
+            Told::Heard => self.do_parts(alloc, out, number, shape, heard),
             Told::Refused(kind) => Ok(Some(Status::Record {
                 line: number,
                 kind: kind.number(),
@@ -195,18 +230,22 @@ impl Playing {
         slot: &mut Step,
     ) -> Result<Option<Status>, AllocError>
         requires ranges { IsLine (line_seen line.now) }
-        requires few { self.old.bay.steps < 2 ^ 62 }
+        requires few { self.old.bay.steps + most_steps (line_seen line.now) < 2 ^ 62 }
         ensures plays { IfOk result (λ s. PlaysOn s self.old self.new (plays_told number (line_seen line.now)) out.old.items out.new.items) }
         ensures judged { IfOk result (λ s. IfSome s IsJudgement) }
-        ensures few { IfOk result (λ s. IfNone s (self.new.bay.steps ≤ suc self.old.bay.steps)) }
+        ensures few { IfOk result (λ s. IfNone s (self.new.bay.steps ≤ self.old.bay.steps + most_steps (line_seen line.now))) }
     {
-        let form = self.form_of(line);
-        self.pass(line, form);
-        let told = tell(alloc, self.bay.model(), &form, line, slot)?;
-        self.act(alloc, out, number, form.shape(), told, slot)
+        let a = number_in(line);
+        let form = self.forms.take(a);
+        let shape = form.shape();
+        let mut heard = Vec::new(alloc);
+        let (after, told) = tell(alloc, self.bay.model(), form, line, slot, &mut heard)?;
+        self.forms.set(a, after);
+        self.act(alloc, out, number, shape, told, slot, &heard)
     }
 
-    /// Reads a step line, without its newline, and writes the answer to it; or gives the status with which the reading stops.
+    /// Reads a step line, without its newline, and writes the answer to it; or gives the status with which the reading stops. It makes
+    /// at most as many steps as the line has octets, and one.
     pub fn read(
         &mut self,
         alloc: Global,
@@ -214,10 +253,10 @@ impl Playing {
         number: u64,
         line: &[u8],
     ) -> Result<Option<Status>, AllocError>
-        requires few { self.old.bay.steps < 2 ^ 62 }
+        requires few { self.old.bay.steps + length line.now < 2 ^ 61 }
         ensures plays { IfOk result (λ s. PlaysOn s self.old self.new (λ c p. step_at number c p line.now) out.old.items out.new.items) }
         ensures judged { IfOk result (λ s. IfSome s IsJudgement) }
-        ensures few { IfOk result (λ s. IfNone s (self.new.bay.steps ≤ suc self.old.bay.steps)) }
+        ensures few { IfOk result (λ s. IfNone s (self.new.bay.steps ≤ suc (self.old.bay.steps + length line.now))) }
     {
         match view_line(line) {
             Ok(line) => self.play(alloc, out, number, &line, &mut Step::Tick),

@@ -53,7 +53,7 @@ impl Reader {
     pub fn new(alloc: Global) -> Reader
         ensures fed { Fed result [] [] }
         ensures part { NoNewline result.held.items }
-        ensures steps { steps_in result.session.stage ≡ 0 }
+        ensures steps { steps_in result.session.stage + length result.held.items ≡ 0 }
         ensures early { IsEarly result.session.stage }
         ensures lines { result.session.lines ≡ 0 }
     {
@@ -87,7 +87,7 @@ impl Reader {
         ensures feeds { IfOk result (λ stop. Feeds stop self.old self.new piece.now out.old.items out.new.items) }
         ensures judged { IfOk result (λ stop. IfSome stop IsJudgement) }
         ensures part { OnOk result (NoNewline self.new.held.items) }
-        ensures few { IfOk result (λ stop. IfNone stop (steps_in self.new.session.stage ≤ steps_in self.old.session.stage + length piece.now)) }
+        ensures few { IfOk result (λ stop. IfNone stop (steps_in self.new.session.stage + length self.new.held.items ≤ steps_in self.old.session.stage + length piece.now)) }
         ensures early { IfOk result (λ stop. IfNone stop (IsEarly self.new.session.stage)) }
         ensures lines { OnOk result (self.new.session.lines ≤ self.old.session.lines + length piece.now) }
     {
@@ -108,14 +108,14 @@ impl Reader {
         out: &mut Vec<u8>,
         piece: &[u8],
     ) -> Result<Option<Status>, AllocError>
-        requires few { steps_in self.old.session.stage + length piece.now < 2 ^ 61 }
+        requires few { steps_in self.old.session.stage + length self.old.held.items + length piece.now < 2 ^ 61 }
         requires early { IsEarly self.old.session.stage }
         requires lines { self.old.session.lines + length piece.now < 2 ^ 61 }
         requires part { NoNewline self.old.held.items }
         ensures feeds { IfOk result (λ stop. Feeds stop self.old self.new piece.now out.old.items out.new.items) }
         ensures judged { IfOk result (λ stop. IfSome stop IsJudgement) }
         ensures part { OnOk result (NoNewline self.new.held.items) }
-        ensures few { IfOk result (λ stop. IfNone stop (steps_in self.new.session.stage ≤ steps_in self.old.session.stage + length piece.now)) }
+        ensures few { IfOk result (λ stop. IfNone stop (steps_in self.new.session.stage + length self.new.held.items ≤ steps_in self.old.session.stage + length self.old.held.items + length piece.now)) }
         ensures early { IfOk result (λ stop. IfNone stop (IsEarly self.new.session.stage)) }
         ensures lines { OnOk result (self.new.session.lines ≤ self.old.session.lines + length piece.now) }
     {

@@ -25,7 +25,7 @@ pub struct Session {
 }
 
 impl Session {
-    ghost use Rattle.std.specs.Prelude.{◌≡◌, ◌<◌, ◌≤◌, ◌^◌, ◌++◌, ◌∷◌, [], suc, IfOk, IfSome, IfNone, OnOk};
+    ghost use Rattle.std.specs.Prelude.{◌≡◌, ◌<◌, ◌≤◌, ◌+◌, ◌^◌, ◌++◌, ◌∷◌, [], suc, length, IfOk, IfSome, IfNone, OnOk};
     ghost use Rattle.record_outcome.specs.Moves.{Place};
     ghost use Rattle.record_outcome.specs.Records.{line_at, unended as unended_at, ended as ended_at, NoNewline};
     ghost use Rattle.record_session.specs.Sessions.{IsAt, AdvancesOn, Reads, Moves, steps_in, IsEarly};
@@ -51,12 +51,12 @@ impl Session {
         out: &mut Vec<u8>,
         line: &[u8],
     ) -> Result<Option<Status>, AllocError>
-        requires few { steps_in self.old.stage < 2 ^ 62 }
+        requires few { steps_in self.old.stage + length line.now < 2 ^ 61 }
         requires early { IsEarly self.old.stage }
         requires lines { self.old.lines < 2 ^ 61 }
         ensures moves { IfOk result (λ s. AdvancesOn s self.old.stage self.new.stage (λ place. line_at (suc self.old.lines) place line.now) out.old.items out.new.items) }
         ensures judged { IfOk result (λ s. IfSome s IsJudgement) }
-        ensures few { IfOk result (λ s. IfNone s (steps_in self.new.stage ≤ suc (steps_in self.old.stage))) }
+        ensures few { IfOk result (λ s. IfNone s (steps_in self.new.stage ≤ suc (steps_in self.old.stage + length line.now))) }
         ensures early { IfOk result (λ s. IfNone s (IsEarly self.new.stage)) }
         ensures lines { OnOk result (self.new.lines ≡ suc self.old.lines) }
     {
@@ -76,13 +76,13 @@ impl Session {
         out: &mut Vec<u8>,
         line: &[u8],
     ) -> Result<Option<Status>, AllocError>
-        requires few { steps_in self.old.stage < 2 ^ 62 }
+        requires few { steps_in self.old.stage + length line.now < 2 ^ 61 }
         requires early { IsEarly self.old.stage }
         requires lines { self.old.lines < 2 ^ 61 }
         requires whole { NoNewline line.now }
         ensures moves { IfOk result (λ s. Moves s self.old self.new (line.now ++ 10 ∷ []) out.old.items out.new.items) }
         ensures judged { IfOk result (λ s. IfSome s IsJudgement) }
-        ensures few { IfOk result (λ s. IfNone s (steps_in self.new.stage ≤ suc (steps_in self.old.stage))) }
+        ensures few { IfOk result (λ s. IfNone s (steps_in self.new.stage ≤ suc (steps_in self.old.stage + length line.now))) }
         ensures early { IfOk result (λ s. IfNone s (IsEarly self.new.stage)) }
         ensures lines { OnOk result (self.new.lines ≤ suc self.old.lines) }
     {

@@ -33,7 +33,7 @@ pub enum Stage {
 }
 
 impl Stage {
-    ghost use Rattle.std.specs.Prelude.{◌≡◌, ◌<◌, ◌≤◌, ◌^◌, suc, IfOk, IfSome, IfNone};
+    ghost use Rattle.std.specs.Prelude.{◌≡◌, ◌<◌, ◌≤◌, ◌+◌, ◌^◌, suc, length, IfOk, IfSome, IfNone};
     ghost use Rattle.record_outcome.specs.Moves.{Place, Move};
     ghost use Rattle.record_session.specs.Plays.{Starts, IsSound};
     ghost use Rattle.record_outcome.specs.Openings.{opening_at};
@@ -104,12 +104,12 @@ impl Stage {
         number: u64,
         line: &[u8],
     ) -> Result<Option<Status>, AllocError>
-        requires few { steps_in self.old < 2 ^ 62 }
+        requires few { steps_in self.old + length line.now < 2 ^ 61 }
         requires early { IsEarly self.old }
         requires number { number < 2 ^ 62 }
         ensures moves { IfOk result (λ s. AdvancesOn s self.old self.new (λ place. lines_at number place line.now) out.old.items out.new.items) }
         ensures judged { IfOk result (λ s. IfSome s IsJudgement) }
-        ensures few { IfOk result (λ s. IfNone s (steps_in self.new ≤ suc (steps_in self.old))) }
+        ensures few { IfOk result (λ s. IfNone s (steps_in self.new ≤ suc (steps_in self.old + length line.now))) }
         ensures early { IfOk result (λ s. IfNone s (IsEarly self.new)) }
     {
         match self {

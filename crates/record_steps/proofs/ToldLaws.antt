@@ -21,12 +21,13 @@ use Rattle.record_steps.specs.Shapes.{shape_at}
 use Rattle.record_steps.specs.Settings.{are_named, settings_at}
 use Rattle.text_words.specs.Values.{hex_at}
 use Rattle.bay_model.specs.declared.request.Request.{Request}
-use Rattle.record_steps.specs.Forms.{is_shut, is_direct}
+use Rattle.record_steps.specs.Forms.{Form, shut, direct, mms, dialling, wire, is_shut, is_direct}
 use Rattle.record_steps.specs.Asks.{asked_by}
-use Rattle.record_steps.specs.declared.form.Form.{Form}
-use Rattle.record_steps.specs.declared.form.Form.TheVariants as forms
-use Rattle.record_steps.specs.Resolved.{association_of, turn_of, opened_in, opened_as, valued_as, written_as, lost_as, asked_as, spelled_as, sent_as, set_to, set_as, told_of}
+use Rattle.record_steps.specs.Resolved.{association_of, turn_of, opened_in, opened_as, valued_as, written_as, lost_as, asked_as, spelled_as, sent_as, piece_as, fed_as, set_to, set_as, told_of}
+use Rattle.record_steps.specs.Streams.{piece_at}
 use Rattle.record_steps.specs.Told.{turn, refused}
+use Rattle.record_steps.specs.declared.heard.Wired.{Wired}
+use Rattle.record_steps.specs.declared.heard.Wired.TheVariants.{Dialling, On}
 use Rattle.record_steps.specs.Telling.{NamesNone}
 use Rattle.record_steps.specs.Own.{IsOwn}
 
@@ -87,9 +88,11 @@ module _ (c : Config) (is_open : ℕ → Bool) (form : Form) (actor : ℕ) (step
   value-own a b comp (Some v) opened h = turned c a.0 actor (steps.Write a (record { 0 = b }) comp v) step (IsOwn is_open) h (opened, refl)
 
   direct-own : (a : AssocNo) (b : ℕ) (comp : Comp) (word : List ℕ) (f : Form) → is_open a.0 ≡ not (is_shut f) → (if is_direct f then valued_as c a b comp (shape_at comp word) else refused 5) ≡ turn actor step → Own
-  direct-own a b comp word forms.Shut agrees h = absurd cc
-  direct-own a b comp word forms.Direct agrees h = value-own a b comp (shape_at comp word) agrees h
-  direct-own a b comp word (forms.Mms size) agrees h = absurd cc
+  direct-own a b comp word shut agrees h = absurd cc
+  direct-own a b comp word direct agrees h = value-own a b comp (shape_at comp word) agrees h
+  direct-own a b comp word (mms size) agrees h = absurd cc
+  direct-own a b comp word (dialling octets) agrees h = absurd cc
+  direct-own a b comp word (wire line octets) agrees h = absurd cc
 
   write-own : (a : AssocNo) (block : Option ℕ) (comp : Option Comp) (word : List ℕ) → is_open a.0 ≡ not (is_shut form) → written_as c form a block comp word ≡ turn actor step → Own
   write-own a (Some b) (Some comp) word agrees h = direct-own a b comp word form agrees h
@@ -106,15 +109,29 @@ module _ (c : Config) (is_open : ℕ → Bool) (form : Form) (actor : ℕ) (step
   spelled-own a (Some octets) opened h = ask-own a (asked_by c octets) opened h
 
   send-own : (a : AssocNo) (hex : List ℕ) (f : Form) → is_open a.0 ≡ not (is_shut f) → sent_as c f a hex ≡ turn actor step → Own
-  send-own a hex forms.Shut agrees h = absurd cc
-  send-own a hex forms.Direct agrees h = absurd cc
-  send-own a hex (forms.Mms size) agrees h = spelled-own a (hex_at hex) agrees h
+  send-own a hex shut agrees h = absurd cc
+  send-own a hex direct agrees h = absurd cc
+  send-own a hex (mms size) agrees h = spelled-own a (hex_at hex) agrees h
+  send-own a hex (dialling octets) agrees h = absurd cc
+  send-own a hex (wire line octets) agrees h = absurd cc
 
-  lost-own : (a : AssocNo) → is_open a.0 ≡ not (is_shut form) → lost_as c form a ≡ turn actor step → Own
-  lost-own a agrees h = by (is_shut form) agrees h where
-    by : (t : Bool) → is_open a.0 ≡ not t → (if t then refused 5 else turn_of c a.0 (steps.Lost a)) ≡ turn actor step → Own
-    by true e h = absurd cc
-    by false e h = turned c a.0 actor (steps.Lost a) step (IsOwn is_open) h (e, refl)
+  lost-own : (a : AssocNo) (f : Form) → is_open a.0 ≡ not (is_shut f) → lost_as c f a ≡ turn actor step → Own
+  lost-own a shut agrees h = absurd cc
+  lost-own a direct agrees h = turned c a.0 actor (steps.Lost a) step (IsOwn is_open) h (agrees, refl)
+  lost-own a (mms size) agrees h = turned c a.0 actor (steps.Lost a) step (IsOwn is_open) h (agrees, refl)
+  lost-own a (dialling octets) agrees h = absurd cc
+  lost-own a (wire line octets) agrees h = turned c a.0 actor (steps.Lost a) step (IsOwn is_open) h (agrees, refl)
+
+  piece-own : (w : Wired) (a : AssocNo) (octets : List ℕ) (o : Option (List ℕ)) → piece_as c w a octets o ≡ turn actor step → Own
+  piece-own w a octets None h = absurd cc
+  piece-own w a octets (Some piece) h = absurd cc
+
+  fed-own : (a : AssocNo) (hex : List ℕ) (f : Form) → fed_as c f a hex ≡ turn actor step → Own
+  fed-own a hex shut h = absurd cc
+  fed-own a hex direct h = absurd cc
+  fed-own a hex (mms size) h = absurd cc
+  fed-own a hex (dialling octets) h = piece-own Dialling a octets (piece_at hex) h
+  fed-own a hex (wire line octets) h = piece-own (On line) a octets (piece_at hex) h
 
   set-own : (pairs : List Pair) → set_as c pairs ≡ turn actor step → Own
   set-own pairs h = by (are_named c pairs) (settings_at c pairs) h where
@@ -131,9 +148,9 @@ module _ (c : Config) (is_open : ℕ → Bool) (form : Form) (actor : ℕ) (step
   told-own (lines.Open a asked) agrees h = open-own a asked agrees h
   told-own (lines.Write a block comp value) agrees h = write-own a (number_in (block_references c) block) (comp_named comp) value agrees h
   told-own (lines.Pdu a hex) agrees h = send-own a hex form agrees h
-  told-own (lines.Piece a hex) agrees h = absurd cc
+  told-own (lines.Piece a hex) agrees h = fed-own a hex form h
   told-own (lines.Take a) agrees h = turned c a.0 actor (steps.Take a) step (IsOwn is_open) h refl
-  told-own (lines.Lost a) agrees h = lost-own a agrees h
+  told-own (lines.Lost a) agrees h = lost-own a form agrees h
   told-own (lines.Set pairs) agrees h = set-own pairs h
   told-own (lines.Done control well) agrees h = absurd cc
   told-own (lines.Block control on) agrees h = absurd cc

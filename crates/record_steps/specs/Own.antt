@@ -3,6 +3,10 @@
 use Rattle.std.specs.Prelude.{◌≡◌, ℕ, Bool, true, false}
 use Rattle.bay_model.specs.declared.step.Step.{Step}
 use Rattle.bay_model.specs.declared.step.Step.TheVariants as steps
+use Rattle.object_model.specs.Fits.{fits}
+use Rattle.sv_base.specs.declared.config.Config.{Config}
+use Rattle.record_steps.specs.declared.heard.Heard.{Heard}
+use Rattle.record_steps.specs.declared.heard.Heard.TheVariants.{Tells, Makes}
 
 abbrev pub IsOwn : (ℕ → Bool) → ℕ → Step → Type 0
 IsOwn is_open actor (steps.Open a size writer) = (is_open a.0 ≡ false) × (actor ≡ a.0) × (writer.0 ≡ a.0)
@@ -13,3 +17,14 @@ IsOwn is_open actor (steps.Lost a) = (is_open a.0 ≡ true) × (actor ≡ a.0)
 IsOwn is_open actor (steps.Value settings) = Unit {0}
 IsOwn is_open actor steps.Tick = Unit {0}
 IsOwn is_open actor _ = ⊥
+
+-- a part of what a piece comes to: its step is one that fits the configuration, and that an association of a stream makes
+abbrev pub IsOfStream : Step → Type 0
+IsOfStream (steps.Open a size writer) = Unit {0}
+IsOfStream (steps.Ask a r) = Unit {0}
+IsOfStream (steps.Lost a) = Unit {0}
+IsOfStream _ = ⊥
+
+abbrev pub IsFittingPart : Config → Heard → Type 0
+IsFittingPart c (Tells text) = Unit {0}
+IsFittingPart c (Makes actor step) = (fits c step ≡ true) × IsOfStream step

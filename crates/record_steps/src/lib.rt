@@ -1,7 +1,7 @@
 //! The steps of a record: what a line tells a bay, with names looked up in its model and values read.
 #![tactic(auto)]
 
-// what a line tells: a step in a slot that is lent, or the first cause for which there is none
+// what a line tells: a step in a slot that is lent, the parts of a piece, or the first cause for which there is none
 mod telling;
 
 pub use telling::{Told, association, tell};
@@ -9,7 +9,13 @@ pub use telling::{Told, association, tell};
 // what an association is, and what a line makes of it
 mod form;
 
-pub use form::{Form, behind};
+pub use form::Form;
+
+// the streams of associations on the wire
+mod heard;
+mod stream;
+
+pub use heard::Heard;
 
 // the values of lines
 mod settings;

@@ -1,6 +1,7 @@
-//! What a line tells: a step in a slot that is lent, or the first cause for which there is none.
+//! What a line tells: a step in a slot that is lent, the parts of a piece in a list, or the first cause for which there is none.
 
-ghost use Rattle.std.specs.Prelude.{◌≡◌, IfOk, IfSome, MatchOption};
+ghost use Rattle.std.specs.Prelude.{◌≡◌, ◌≤◌, [], IfOk, OnOk, IfSome, MatchOption};
+ghost use Rattle.std.specs.List.{AllByRecursion};
 ghost use Rattle.run_record.specs.Grammar.{IsAssoc, IsForm, IsLine};
 ghost use Rattle.text_words.specs.Values.{hex_at};
 ghost use Rattle.bay_answers.specs.Requests.{IsFitting};
@@ -8,14 +9,20 @@ ghost use Rattle.run_record.specs.Seen.{line_seen, pairs_seen};
 ghost use Rattle.object_model.specs.Numbers.{number_in};
 ghost use Rattle.object_model.specs.References.{block_references};
 ghost use Rattle.bay_model.specs.ComponentTable.{comp_named};
-ghost use Rattle.record_steps.specs.Resolved.{opened_in, opened_as, written_as, lost_as, asked_as, spelled_as, sent_as, set_as, turn_of, told_of};
+ghost use Rattle.record_steps.specs.Resolved.{opened_in, opened_as, written_as, lost_as, asked_as, spelled_as, sent_as, set_as, turn_of, association_of, told_of};
 ghost use Rattle.record_steps.specs.Asks.{asked_by};
-ghost use Rattle.record_steps.specs.Telling.{telling, NamesNone, Names};
+ghost use Rattle.record_steps.specs.Forms as specs;
+ghost use Rattle.record_steps.specs.Forms.{IsSized, Stands, plain, form_behind};
+ghost use Rattle.record_steps.specs.Own.{IsFittingPart};
+ghost use Rattle.record_steps.specs.Streams.{made};
+ghost use Rattle.record_steps.specs.Telling.{telling, IsPlain, most_steps, NamesNone, Names};
 ghost use Rattle.bay_model.specs.declared.step.Step.TheVariants as steps;
 
-use crate::form::Form;
+use crate::form::{Form, behind};
+use crate::heard::Heard;
 use crate::settings::{Found, settings_of};
 use crate::shapes::shape;
+use crate::stream::hear;
 use bay_answers::read_request;
 use bay_model::{Comp, Request, Sets, Step};
 use object_model::Model;
@@ -24,7 +31,7 @@ use std::alloc::{AllocError, Global};
 use sv_base::{ActorNo, AssocNo, Moment};
 use text_words::hex_octets;
 
-/// What a line tells, where a step stands in the slot that was lent.
+/// What a line tells, where a step stands in the slot that was lent, and the parts of a piece in the list.
 #[derive(Clone, Copy, Debug, PartialEq, Eq)]
 pub enum Told {
     /// Nothing.
@@ -33,6 +40,8 @@ pub enum Told {
     At(Moment),
     /// The step in the slot, of this actor.
     Step(ActorNo),
+    /// The parts in the list, of a piece of a stream.
+    Heard,
     /// The line is refused.
     Refused(Kind),
     /// It is the last line.
@@ -47,17 +56,17 @@ fn put(slot: &mut Step, step: Step)
     *slot = step;
 }
 
-/// An association that isn't open is opened.
+/// An association that isn't open is opened; one of a stream opens when it is connected.
 fn open_shut(model: &Model, a: AssocNo, asked: OpenForm, step: &mut Step) -> Told
     requires number { IsAssoc a }
     requires size { IsForm asked }
-    ensures { telling result step.new ≡ opened_in model.now a asked }
+    ensures { telling result step.new [] ≡ opened_in model.now a asked }
 {
     let writer = ActorNo(a.0);
     let size = match asked {
         OpenForm::Direct => 65000,
         OpenForm::Mms(size) => size,
-        OpenForm::Wire => return Told::Refused(Kind::NotBuilt),
+        OpenForm::Wire => return Told::Nothing,
     };
     put(step, Step::Open { a, size, writer });
     Told::Step(writer)
@@ -67,11 +76,13 @@ fn open_shut(model: &Model, a: AssocNo, asked: OpenForm, step: &mut Step) -> Tol
 fn open(model: &Model, form: &Form, a: AssocNo, asked: OpenForm, step: &mut Step) -> Told
     requires number { IsAssoc a }
     requires size { IsForm asked }
-    ensures { telling result step.new ≡ opened_as model.now form.now a asked }
+    ensures { telling result step.new [] ≡ opened_as model.now (plain form.now) a asked }
 {
     match form {
         Form::Shut => open_shut(model, a, asked, step),
-        Form::Direct | Form::Mms(_) => Told::Refused(Kind::State),
+        Form::Direct | Form::Mms(_) | Form::Dialling(_) | Form::Wire(..) => {
+            Told::Refused(Kind::State)
+        }
     }
 }
 
@@ -87,7 +98,7 @@ fn write(
     step: &mut Step,
 ) -> Result<Told, AllocError>
     requires { IsAssoc a }
-    ensures { IfOk result (λ told. telling told step.new ≡ written_as model.now form.now a (number_in (block_references model.now) block.now) (comp_named comp.now) value.now) }
+    ensures { IfOk result (λ told. telling told step.new [] ≡ written_as model.now (plain form.now) a (number_in (block_references model.now) block.now) (comp_named comp.now) value.now) }
 {
     let Some(block) = model.block(block) else {
         return Ok(Told::Refused(Kind::Name));
@@ -108,20 +119,21 @@ fn write(
 /// An association takes what waits for it.
 fn take(model: &Model, a: AssocNo, step: &mut Step) -> Told
     requires { IsAssoc a }
-    ensures { telling result step.new ≡ turn_of model.now a.0 (steps.Take a) }
+    ensures { telling result step.new [] ≡ turn_of model.now a.0 (steps.Take a) }
 {
     put(step, Step::Take(a));
     Told::Step(ActorNo(a.0))
 }
 
-/// An association is lost, if it is open.
+/// An association is lost, if it is open; one that dials ends without a step.
 fn lose(model: &Model, form: &Form, a: AssocNo, step: &mut Step) -> Told
     requires { IsAssoc a }
-    ensures { telling result step.new ≡ lost_as model.now form.now a }
+    ensures { telling result step.new [] ≡ lost_as model.now (plain form.now) a }
 {
     match form {
         Form::Shut => Told::Refused(Kind::State),
-        Form::Direct | Form::Mms(_) => {
+        Form::Dialling(_) => Told::Nothing,
+        Form::Direct | Form::Mms(_) | Form::Wire(..) => {
             put(step, Step::Lost(a));
             Told::Step(ActorNo(a.0))
         }
@@ -132,7 +144,7 @@ fn lose(model: &Model, form: &Form, a: AssocNo, step: &mut Step) -> Told
 fn ask(model: &Model, a: AssocNo, asked: Option<Request>, step: &mut Step) -> Told
     requires number { IsAssoc a }
     requires fits { IfSome asked (IsFitting model.now) }
-    ensures { telling result step.new ≡ asked_as model.now a asked }
+    ensures { telling result step.new [] ≡ asked_as model.now a asked }
 {
     let Some(request) = asked else {
         return Told::Nothing;
@@ -150,7 +162,7 @@ fn send_spelled(
     step: &mut Step,
 ) -> Result<Told, AllocError>
     requires { IsAssoc a }
-    ensures { IfOk result (λ told. telling told step.new ≡ spelled_as model.now a (hex_at hex.now)) }
+    ensures { IfOk result (λ told. telling told step.new [] ≡ spelled_as model.now a (hex_at hex.now)) }
 {
     let Some(octets) = hex_octets(alloc, hex)? else {
         return Ok(Told::Refused(Kind::Hex));
@@ -169,11 +181,13 @@ fn send(
     step: &mut Step,
 ) -> Result<Told, AllocError>
     requires { IsAssoc a }
-    ensures { IfOk result (λ told. telling told step.new ≡ sent_as model.now form.now a hex.now) }
+    ensures { IfOk result (λ told. telling told step.new [] ≡ sent_as model.now (plain form.now) a hex.now) }
 {
     match form {
         Form::Mms(_) => send_spelled(alloc, model, a, hex, step),
-        Form::Shut | Form::Direct => Ok(Told::Refused(Kind::State)),
+        Form::Shut | Form::Direct | Form::Dialling(_) | Form::Wire(..) => {
+            Ok(Told::Refused(Kind::State))
+        }
     }
 }
 
@@ -184,7 +198,7 @@ fn set(
     pairs: &PairsView<'_>,
     step: &mut Step,
 ) -> Result<Told, AllocError>
-    ensures { IfOk result (λ told. telling told step.new ≡ set_as model.now (pairs_seen pairs.now)) }
+    ensures { IfOk result (λ told. telling told step.new [] ≡ set_as model.now (pairs_seen pairs.now)) }
 {
     match settings_of(alloc, model, pairs)? {
         Found::Settings(settings) => {
@@ -217,9 +231,10 @@ pub fn association(line: &LineView<'_>) -> Option<AssocNo>
     }
 }
 
-/// What a line tells, by what the association that it names is. A step is made in the slot, and fits the model.
+/// What a line tells that is no piece of a stream, by what the association that it names is. A step is made in the slot, and
+/// fits the model.
 #[tactic(auto, unfolding(crate::specs::Resolved::told_of))]
-pub fn tell(
+fn say(
     alloc: Global,
     model: &Model,
     form: &Form,
@@ -227,7 +242,8 @@ pub fn tell(
     step: &mut Step,
 ) -> Result<Told, AllocError>
     requires ranges { IsLine (line_seen line.now) }
-    ensures told { IfOk result (λ told. telling told step.new ≡ told_of model.now form.now (line_seen line.now)) }
+    requires plain { IsPlain (line_seen line.now) }
+    ensures told { IfOk result (λ told. telling told step.new [] ≡ told_of model.now (plain form.now) (line_seen line.now)) }
 {
     match line {
         LineView::Skip => Ok(Told::Nothing),
@@ -250,5 +266,44 @@ pub fn tell(
             Ok(Told::Step(ActorNo(0)))
         }
         LineView::End => Ok(Told::End),
+    }
+}
+
+/// What a line tells, by what the association that it names is, and what that is behind it. A step is made in the slot, and the
+/// parts of a piece are put into the list, which is empty; each step fits the model.
+pub fn tell(
+    alloc: Global,
+    model: &Model,
+    form: Form,
+    line: &LineView<'_>,
+    step: &mut Step,
+    heard: &mut Vec<Heard>,
+) -> Result<(Form, Told), AllocError>
+    requires ranges { IsLine (line_seen line.now) }
+    requires sized { IsSized form }
+    requires none { heard.old.items ≡ [] }
+    ensures told { (f : specs.Form) → Stands form f → IfOk result (λ r. telling r.1 step.new heard.new.items ≡ told_of model.now f (line_seen line.now)) }
+    ensures form { (f : specs.Form) → Stands form f → IfOk result (λ r. Stands r.0 (form_behind (association_of (line_seen line.now)) (line_seen line.now) f)) }
+    ensures sized { IfOk result (λ r. IsSized r.0) }
+    ensures fits { OnOk result (AllByRecursion (IsFittingPart model.now) heard.new.items) }
+    ensures few { OnOk result (made heard.new.items ≤ most_steps (line_seen line.now)) }
+{
+    match line {
+        LineView::Piece(a, hex) => hear(alloc, model, *a, form, hex, heard),
+        LineView::Skip
+        | LineView::At(_)
+        | LineView::Open { .. }
+        | LineView::Write { .. }
+        | LineView::Pdu(..)
+        | LineView::Take(_)
+        | LineView::Lost(_)
+        | LineView::Set(_)
+        | LineView::Done(..)
+        | LineView::Block(..)
+        | LineView::Tick
+        | LineView::End => {
+            let told = say(alloc, model, &form, line, step)?;
+            Ok((behind(line, form), told))
+        }
     }
 }

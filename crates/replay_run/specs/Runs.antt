@@ -1,5 +1,5 @@
 -- What a replay stands for: the octets that were read, and the answers that the sink took.
-use Rattle.std.specs.Prelude.{◌≡◌, ◌≤◌, ℕ, List, [], length, Option, None, Some, IfSome}
+use Rattle.std.specs.Prelude.{◌≡◌, ◌≤◌, ◌+◌, ℕ, List, [], length, Option, None, Some, IfSome}
 use Rattle.std.specs.Io.KnownBytes.{Appends, Consumes}
 use Rattle.record_outcome.specs.Records.{NoNewline, limit}
 use Rattle.record_session.specs.Sessions.{Fed, steps_in, IsEarly}
@@ -11,7 +11,7 @@ use Rattle.record_outcome.specs.declared.status.Status.{Status}
 -- between two pieces
 pub record IsReady (replay : Replay) : Type 0 where
   pub part : NoNewline replay.reader.held.items
-  pub few : steps_in replay.reader.session.stage ≤ replay.count
+  pub few : steps_in replay.reader.session.stage + length replay.reader.held.items ≤ replay.count
   pub early : IsEarly replay.reader.session.stage
   pub lines : replay.reader.session.lines ≤ replay.count
   pub within : replay.count ≤ limit

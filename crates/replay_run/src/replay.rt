@@ -52,7 +52,7 @@ fn take_piece<K: Sink>(
     piece: &[u8],
     sink: &mut K,
 ) -> Result<Option<Status>, Halt>
-    requires few { steps_in reader.old.session.stage + length piece.now < 2 ^ 61 }
+    requires few { steps_in reader.old.session.stage + length reader.old.held.items + length piece.now < 2 ^ 61 }
     requires early { IsEarly reader.old.session.stage }
     requires lines { reader.old.session.lines + length piece.now < 2 ^ 61 }
     requires part { NoNewline reader.old.held.items }
@@ -60,7 +60,7 @@ fn take_piece<K: Sink>(
     ensures takes { IfOk result (λ stop. Takes stop reader.old reader.new piece.now (K.taken sink.old) (K.taken sink.new)) }
     ensures judged { IfOk result (λ stop. IfSome stop IsJudgement) }
     ensures part { OnOk result (NoNewline reader.new.held.items) }
-    ensures few { IfOk result (λ stop. IfNone stop (steps_in reader.new.session.stage ≤ steps_in reader.old.session.stage + length piece.now)) }
+    ensures few { IfOk result (λ stop. IfNone stop (steps_in reader.new.session.stage + length reader.new.held.items ≤ steps_in reader.old.session.stage + length reader.old.held.items + length piece.now)) }
     ensures early { IfOk result (λ stop. IfNone stop (IsEarly reader.new.session.stage)) }
     ensures lines { OnOk result (reader.new.session.lines ≤ reader.old.session.lines + length piece.now) }
     ensures empty { OnOk result (out.new.items ≡ []) }
