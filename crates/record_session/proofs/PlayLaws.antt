@@ -121,7 +121,7 @@ performs old new number shape actor step given before now moment forms does out 
     let stands : StandsFor new.bay c (turn actor s.moment step ∷ s.turns) = subst (λ m. StandsFor new.bay c (turn actor m step ∷ s.turns)) p.moment d.1 in
     let same : given ≡ answer (configured_model c) s.turns (turn actor s.moment step) = d.0 ∙ ap (λ m. answer (configured_model c) s.turns (turn actor m step)) p.moment in
     subst (λ f. PlaysTo None new (accepted number c s shape (turn_at s actor step) f) before now) (sym stands.0.1) (
-      record { moment = moment ∙ p.moment; stands = stands; forms = λ a. ap (λ f. form_in f a) forms ∙ p.forms a },
+      record { moment = moment ∙ p.moment; stands = stands; forms = λ a. subst (λ f. Stands (form_in f a) (s.form a)) (sym forms) (p.forms a) },
       out ∙ (ap (λ k. before ++ lines_of k shape step given) stands.1.is_config ∙ ap (λ g. before ++ lines_of c shape step g) same),
     )
 
@@ -180,8 +180,8 @@ module _ (all : List Heard) (i : ℕ) (part : Heard) (there : i < length all) (i
   pub made-from : made (drop i all) ≡ made (part ∷ []) + made (drop (i + 1) all)
   made-from = ap made parts-from ∙ by part where
     by : (p : Heard) → made (p ∷ drop (i + 1) all) ≡ made (p ∷ []) + made (drop (i + 1) all)
-    by (Tells text) = refl
-    by (Makes actor step) = refl
+    by (Tells text) = omega arith
+    by (Makes actor step) = omega arith
 
 -- of all parts those before these were done: what is played so far, and the text so far
 abbrev pub DoneSo : Playing → Playing → ℕ → Shape → (all rest : List Heard) → (before now : List ℕ) → Type 0
