@@ -1,9 +1,7 @@
-use Rattle.std.proofs.Common.{◌≡◌, sym, subst, ◌∙◌, arith}
+use Rattle.std.proofs.Common.{sym, subst, ◌∙◌, arith}
 use Rattle.std.proofs.lemmas.List.{length-set}
 use Rattle.std.proofs.lemmas.List.Elements.{All-set}
-use Rattle.record_steps.specs.declared.form.Form.TheVariants.{Shut}
 use Rattle.record_steps.specs.Forms.{IsSized}
-use Rattle.record_session.specs.Formed.{form_in}
 use Rattle.record_session.proofs.forms.Forms.exchange.Goals as goal
 
 pub invariant_of-self : goal.invariant_of-self
@@ -14,5 +12,4 @@ invariant_of-self c = (
 
 pub returns-clause-sized : goal.returns-clause-sized
 returns-clause-sized c =
-    let is : c.replace.result ≡ form_in c.self.inside.forms.items c.args.a.0 = search rules in
-    subst IsSized (sym is) (c.self.invariant.1 c.args.a.0 Shut (omega (arith, c.self.invariant.0, c.requires.number)))
+    subst IsSized (sym (c.replace.ensures.value ∙ c.index_mut.ensures.value)) (c.self.invariant.1 c.args.a.0 c.index_mut.result.now (omega (arith, c.self.invariant.0, c.requires.number)))
