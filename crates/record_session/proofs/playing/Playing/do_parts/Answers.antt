@@ -29,7 +29,7 @@ returns-in-Some-clause-does c =
     let part : Heard = c.part-item.result in
     let done = subst (λ (l : List Heard). DoneSo c.args.self.now c.loop-part.self c.args.number c.args.shape all l c.args.out.now.items c.loop-part.out.items) (parts-from all i part c.loop-part-test.true c.part-item.is) c.loop-part.invariant.done in
     let count : length c.args.out.now.items ≡ vec_len c.args.out.now = omega (arith, c.args.out.now.ok.0) in
-    subst (DoesParts (Some c.in-Some.status) c.args.self.now c.do_part.new.self c.args.number c.args.shape all c.args.out.now.items) (ap (λ n. take n c.do_part.new.out.items) count ∙ sym c.truncate.ensures.items)
+    subst (DoesParts (Some c.in-Some.status) c.args.self.now c.do_part.new.self c.args.number c.args.shape all c.args.out.now.items) (ap (λ n. take n c.do_part.new.out.items) (count ∙ sym c.len-before.ensures) ∙ sym c.truncate.ensures.items)
     (done-stop c.args.self.now c.args.number c.args.shape all c.args.out.now.items c.loop-part.self c.do_part.new.self part (drop (i + 1) all) c.loop-part.out.items c.do_part.new.out.items c.in-Some.status done
     (rw c.in-Some.is at c.in_ok-status.ensures.does))
 
