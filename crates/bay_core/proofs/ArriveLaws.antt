@@ -39,7 +39,8 @@ use Rattle.report_block.specs.Standing.{Stands as BlockStands, BlocksStand}
 use Rattle.report_block.proofs.StandLaws.{arrival-stands}
 use Rattle.bay_config.specs.Servable.{IsServable}
 use Rattle.bay_core.specs.Standing.{StandsAt}
-use Rattle.bay_core.specs.State.{State, AreHeld, AreServedSets, IsFurnished}
+use Rattle.bay_core.specs.State.{State, AreServedSets, IsFurnished}
+use Rattle.bay_values.specs.Held.{AreHeld}
 use Rattle.bay_core.specs.declared.watch.Watch.{Watch}
 use Rattle.bay_core.specs.Timed.{arrived_part, arrived_all, at_arrival}
 use Rattle.bay_core.specs.Watched.{members_in}

@@ -32,8 +32,9 @@ use Rattle.bay_core.specs.Opened.{seen, part_defined}
 use Rattle.bay_config.specs.Servable.{IsServable}
 use Rattle.bay_core.specs.Standing.{StandsFor}
 use Rattle.data_sets.specs.Standing.{data_set}
-use Rattle.bay_core.specs.State.{State, IsBooked, IsFurnished, AreHeld, AreServedSets}
-use Rattle.bay_core.proofs.FirstValues.{opened-held}
+use Rattle.bay_core.specs.State.{State, IsBooked, IsFurnished, AreServedSets}
+use Rattle.bay_values.specs.Held.{AreHeld}
+use Rattle.bay_values.proofs.FirstValues.{opened-held}
 use Rattle.bay_core.proofs.FirstBook.{booked-first, count-back, sets-back}
 use Rattle.bay_core.proofs.OpenLaws.{parts-named, parts-sets, parts-windows, parts-stand}
 

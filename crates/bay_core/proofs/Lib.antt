@@ -1,5 +1,3 @@
--- changes of each attribute at most one
-pub mod DistinctChanges
 -- the blocks, and the bay, at the arrival of a point and after a deed
 pub mod PartLaws
 pub mod MoveLaws
@@ -21,9 +19,6 @@ pub mod MentionLaws
 pub mod WatchLaws
 pub mod FurnishLaws
 -- settings: the values, the notes of the blocks, and the entries
-pub mod SettingSteps
-pub mod MarkLaws
-pub mod ChangeLaws
 pub mod ShapeLaws
 pub mod ServedLaws
 pub mod BookLaws
@@ -38,7 +33,6 @@ pub mod TakeLaws
 pub mod TakenLaws
 pub mod SentLaws
 -- how a bay begins
-pub mod FirstValues
 pub mod FirstBook
 pub mod FirstState
 pub mod OpenLaws

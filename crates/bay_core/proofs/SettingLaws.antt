@@ -30,7 +30,7 @@ use Rattle.trigger_core.proofs.NoteLaws.{note_is_noted}
 use Rattle.value_store.specs.Stored.{Stored, attribute}
 use Rattle.value_store.specs.Wholes.{Stands as ValuesStand}
 use Rattle.report_block.specs.declared.block.ReportBlock.{ReportBlock}
-use Rattle.bay_core.specs.Changed.{last_set, AreMade, AreFit}
+use Rattle.bay_values.specs.Changed.{last_set, AreMade, AreFit}
 use Rattle.bay_core.specs.Events.{mentions_of, after_event, after_events, IsReady, AreReady}
 use Rattle.window_core.specs.Points.{at}
 use Rattle.window_core.specs.Standing.{piece_of}
@@ -48,13 +48,14 @@ use Rattle.report_block.proofs.StandLaws.{deed-stands}
 use Rattle.report_block.specs.EntryOctets.{IsWritable}
 use Rattle.bay_config.specs.Servable.{IsServable}
 use Rattle.bay_core.specs.Standing.{StandsAt, StandsFor}
-use Rattle.bay_core.specs.State.{State, AreHeld, AreServedSets, IsFurnished}
+use Rattle.bay_core.specs.State.{State, AreServedSets, IsFurnished}
+use Rattle.bay_values.specs.Held.{AreHeld}
 use Rattle.bay_core.specs.declared.watch.Watch.{Watch}
 use Rattle.bay_core.specs.Watched.{IsIndexed, IsLent, IsWatching, AreBlank, members_in}
 use Rattle.std.proofs.lemmas.List.{length-map}
 use Rattle.bay_core.proofs.BookLaws.{part-lent, part-members}
 use Rattle.bay_core.proofs.ArriveLaws.{HaveMembers}
-use Rattle.bay_core.proofs.ChangeLaws.{Sets, IsThere, values-stand, are-changes, settings-there, typed-settings, held-after}
+use Rattle.bay_values.proofs.ChangeLaws.{Sets, IsThere, values-stand, are-changes, settings-there, typed-settings, held-after}
 use Rattle.bay_core.proofs.EventLaws.{note-kept, note-readable, all-writable}
 use Rattle.bay_core.proofs.FurnishLaws.{furnished-map}
 use Rattle.bay_core.proofs.MoveLaws.{IsSilent, rows_after, came-of, counts, accepted-as}

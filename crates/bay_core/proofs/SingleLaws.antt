@@ -45,7 +45,7 @@ use Rattle.value_store.specs.Stored.{Stored, attribute, no_attribute, outcome, w
 use Rattle.window_core.specs.Points.{at}
 use Rattle.bay_config.specs.Servable.{IsServable}
 use Rattle.bay_core.specs.Asked.{IsKept, IsWrite, AreWrites, is_edited, node_numbers, set_code}
-use Rattle.bay_core.specs.Changed.{given, last_set, change_from, without_change, AreMade, AreTyped, IsTyped}
+use Rattle.bay_values.specs.Changed.{given, last_set, change_from, without_change, AreMade, AreTyped, IsTyped}
 use Rattle.bay_core.specs.Put.{AreGeneral, answer_at, general_at, written_at}
 use Rattle.bay_core.specs.Written.{named_by}
 use Rattle.object_model.specs.Fits.{is_sound}
@@ -53,12 +53,13 @@ use Rattle.report_block.specs.declared.block.ReportBlock.{ReportBlock}
 use Rattle.report_block.specs.Writes.{without_effect}
 use Rattle.trigger_core.specs.Noted.{change_of}
 use Rattle.bay_core.specs.Standing.{StandsAt}
-use Rattle.bay_core.specs.State.{State, AreHeld, AreServedSets}
-use Rattle.bay_core.proofs.FirstValues.{kind-told}
+use Rattle.bay_core.specs.State.{State, AreServedSets}
+use Rattle.bay_values.specs.Held.{AreHeld}
+use Rattle.bay_values.proofs.FirstValues.{kind-told}
 use Rattle.bay_core.proofs.MoveLaws.{again}
 use Rattle.bay_core.proofs.RoleLaws.{Each, IsRole, count-defined, roles}
 use Rattle.bay_core.proofs.ArriveLaws.{HaveMembers}
-use Rattle.bay_core.proofs.ChangeLaws.{IsThere, held-after}
+use Rattle.bay_values.proofs.ChangeLaws.{IsThere, held-after}
 use Rattle.bay_core.proofs.WriteLaws.{component-wrote}
 use Rattle.bay_core.proofs.SettingLaws.{one_set, client-sets, set_at, stands-set}
 

@@ -5,7 +5,7 @@ use Rattle.bay_model.specs.declared.step.Step.TheVariants as steps
 use Rattle.object_model.specs.Fits.{fits}
 use Rattle.value_store.specs.Stored.{Stored, attribute}
 use Rattle.report_block.specs.declared.block.ReportBlock.{ReportBlock}
-use Rattle.bay_core.specs.Changed.{AreFit, AreMade, AreDistinct, last_set}
+use Rattle.bay_values.specs.Changed.{AreFit, AreMade, AreDistinct, last_set}
 use Rattle.touch_index.proofs.GatherLaws.{once_where_distinct}
 use Rattle.bay_core.specs.Events.{AreReady, after_events}
 use Rattle.bay_core.specs.State.{State, IsFurnished}
@@ -13,7 +13,7 @@ use Rattle.bay_model.specs.Answers.{points}
 use Rattle.bay_model.specs.Named.{configured_model}
 use Rattle.bay_model.specs.Singles.{arrival}
 use Rattle.bay_core.specs.Standing.{StandsAt}
-use Rattle.bay_core.proofs.ChangeLaws.{fits-settings}
+use Rattle.bay_values.proofs.ChangeLaws.{fits-settings}
 use Rattle.bay_core.proofs.SettingLaws.{set-for, held-set, furnished-all, are-ready, have-members}
 use Rattle.bay_core.proofs.bay.Bay.set.Goals as goal
 

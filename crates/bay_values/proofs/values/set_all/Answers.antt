@@ -1,8 +1,8 @@
 use Rattle.std.proofs.Common.{◌≡◌, ◌<◌, ◌-◌, [], ◌∷◌, drop, length, ap₂, sym, ◌∙◌, subst, arith}
 use Rattle.std.proofs.lemmas.List.{drop_more, drop_all}
-use Rattle.bay_core.specs.Marked.{IsDone}
-use Rattle.bay_core.proofs.MarkLaws.{done_first}
-use Rattle.bay_core.proofs.values.set_all.Goals as goal
+use Rattle.bay_values.specs.Marked.{IsDone}
+use Rattle.bay_values.proofs.MarkLaws.{done_first}
+use Rattle.bay_values.proofs.values.set_all.Goals as goal
 
 pub loop-i-init : goal.loop-i-init
 loop-i-init c = record {

@@ -1,6 +1,6 @@
 use Rattle.std.proofs.Common.{arith, ap, length}
-use Rattle.bay_core.proofs.MarkLaws.{within_all}
-use Rattle.bay_core.proofs.values.Values.set.Goals as goal
+use Rattle.bay_values.proofs.MarkLaws.{within_all}
+use Rattle.bay_values.proofs.values.Values.set.Goals as goal
 
 pub unmark-requires-clause-within : goal.unmark-requires-clause-within
 unmark-requires-clause-within c = λ k d below.

@@ -1,6 +1,6 @@
 use Rattle.std.proofs.Common.{arith}
-use Rattle.bay_core.proofs.SettingSteps.{done_set, room_left}
-use Rattle.bay_core.proofs.values.set_once.Goals as goal
+use Rattle.bay_values.proofs.SettingSteps.{done_set, room_left}
+use Rattle.bay_values.proofs.values.set_once.Goals as goal
 
 pub returns-then-not-marks-setting-clause-done : goal.returns-then-not-marks-setting-clause-done
 returns-then-not-marks-setting-clause-done c = λ before later done.

@@ -7,8 +7,8 @@ ghost use Rattle.bay_model.specs.Attributes.{attributes};
 ghost use Rattle.value_store.specs.Stored.{Stored, attribute, with_value};
 ghost use Rattle.bay_model.specs.declared.step.Setting.{Setting as SettingValue};
 ghost use Rattle.bay_model.specs.declared.flags.Change.{Change as ChangeValue};
-ghost use Rattle.bay_core.specs.Changed.{change_from, IsFit, AreFit};
-ghost use Rattle.bay_core.specs.Marked.{IsBlank, AreNoted, IsDone, marked_in};
+ghost use Rattle.bay_values.specs.Changed.{change_from, IsFit, AreFit};
+ghost use Rattle.bay_values.specs.Marked.{IsBlank, AreNoted, IsDone, marked_in};
 
 use bay_model::{Change, Setting};
 use object_model::Model;
@@ -18,8 +18,8 @@ use value_store::{SetFault, Store};
 
 /// The values of all attributes. Contracts see the list of them.
 #[derive(Drop)]
-pub(crate) struct Values {
-    store: Store,
+pub struct Values {
+    pub(crate) store: Store,
     /// Which attributes the step that is being made has set; none between steps.
     marks: Vec<bool>,
 }
@@ -27,7 +27,7 @@ pub(crate) struct Values {
 impl std::marker::Model for Values {
     ghost use Rattle.std.specs.Prelude.{◌≡◌, List, length};
     ghost use Rattle.value_store.specs.Stored.{Stored};
-    ghost use Rattle.bay_core.specs.Marked.{IsBlank};
+    ghost use Rattle.bay_values.specs.Marked.{IsBlank};
 
     ghost Value = { List Stored };
 
@@ -134,10 +134,10 @@ impl Values {
     ghost use Rattle.bay_model.specs.Attributes.{attributes};
     ghost use Rattle.value_store.specs.Opened.{IsStorable, opened};
     ghost use Rattle.value_store.specs.Stored.{attribute, outcome, with_value};
-    ghost use Rattle.bay_core.specs.Changed.{change_from, last_set, without_change, AreMade, AreDistinct, AreFit};
+    ghost use Rattle.bay_values.specs.Changed.{change_from, last_set, without_change, AreMade, AreDistinct, AreFit};
 
     /// The configured values.
-    pub(crate) fn open(alloc: Global, config: &Config) -> Result<Values, AllocError>
+    pub fn open(alloc: Global, config: &Config) -> Result<Values, AllocError>
         requires { IsStorable config.now }
         ensures { IfOk result (λ v. v ≡ opened config.now) }
     {
@@ -147,7 +147,7 @@ impl Values {
     }
 
     /// The values, to be read.
-    pub(crate) fn store(&self) -> &Store
+    pub fn store(&self) -> &Store
         ensures { result.now ≡ self.now }
     {
         &self.store
@@ -155,7 +155,7 @@ impl Values {
 
     /// Sets attributes as the process does, of one that is named twice the last time; adds to `changes` what became of
     /// each, once. It takes no memory, since `changes` has room for as many as there are attributes.
-    pub(crate) fn set(&mut self, model: &Model, settings: &[Setting], changes: &mut Vec<Change>)
+    pub fn set(&mut self, model: &Model, settings: &[Setting], changes: &mut Vec<Change>)
         requires fits { AreFit self.old settings.now }
         requires flags { length self.old ≡ length (attributes model.now) }
         requires empty { changes.old.items ≡ [] }
@@ -181,7 +181,7 @@ impl Values {
     ///
     /// Refuses, in this order, a value of another kind, a write of what clients may not write, and a value out of the type's range
     /// or above its greatest length. A refusal leaves all as it was.
-    pub(crate) fn write(
+    pub fn write(
         &mut self,
         model: &Model,
         attr: AttrId,

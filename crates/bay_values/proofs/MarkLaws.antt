@@ -12,9 +12,9 @@ use Rattle.bay_model.specs.declared.step.Setting.{Setting}
 use Rattle.bay_model.specs.Settings.{set_to}
 use Rattle.value_store.specs.Stored.{Stored}
 use Rattle.trigger_core.specs.Noted.{change_of}
-use Rattle.bay_core.specs.Changed.{change_from}
-use Rattle.bay_core.specs.Marked.{is_marked, one_if, marked_in, IsBlank, AreNoted, IsDone}
-use Rattle.bay_core.proofs.DistinctChanges.{found}
+use Rattle.bay_values.specs.Changed.{change_from}
+use Rattle.bay_values.specs.Marked.{is_marked, one_if, marked_in, IsBlank, AreNoted, IsDone}
+use Rattle.bay_values.proofs.DistinctChanges.{found}
 
 -- where no change is left, nothing is marked
 pub blank_at_end : (marks : List Bool) → AreNoted [] marks → IsBlank marks

@@ -5,7 +5,7 @@ use Rattle.std.proofs.lemmas.Bool.Decides.{Decides-eqb}
 use Rattle.std.proofs.lemmas.List.{get_or_append_left, get_or_push, length_push}
 use Rattle.bay_model.specs.declared.flags.Change.{Change}
 use Rattle.trigger_core.specs.Noted.{change_of}
-use Rattle.bay_core.specs.Changed.{AreDistinct}
+use Rattle.bay_values.specs.Changed.{AreDistinct}
 
 -- of each change that stands there one is found
 pub found : (changes : List Change) (k : ℕ) (d : Change) → k < length changes → is_some (change_of changes (slice_index_or changes k d).attr) ≡ true

@@ -1,6 +1,6 @@
 use Rattle.std.proofs.Common.{◌≤◌, drop, vec_capacity}
-use Rattle.bay_core.specs.Marked.{IsDone}
-use Rattle.bay_core.proofs.values.set_all.Given as goal
+use Rattle.bay_values.specs.Marked.{IsDone}
+use Rattle.bay_values.proofs.values.set_all.Given as goal
 
 abbrev pub invariant-loop-i : goal.invariant-loop-i
 invariant-loop-i l = record {

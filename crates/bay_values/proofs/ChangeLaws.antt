@@ -38,9 +38,9 @@ use Rattle.window_core.specs.Points.{at}
 use Rattle.bay_model.specs.Singles.{arrival}
 use Rattle.trigger_core.specs.Points as points
 use Rattle.trigger_core.specs.Points.{AreChanges, change_to}
-use Rattle.bay_core.specs.Changed.{given, last_set, change_from, AreMade, AreFit, IsValueOf, IsTyped, AreTyped}
+use Rattle.bay_values.specs.Changed.{given, last_set, change_from, AreMade, AreFit, IsValueOf, IsTyped, AreTyped}
 use Rattle.bay_config.specs.Servable.{attr_type}
-use Rattle.bay_core.specs.State.{AreHeld, IsSoundCell}
+use Rattle.bay_values.specs.Held.{AreHeld, IsSoundCell}
 
 -- ---- the values stand
 

@@ -18,9 +18,9 @@ use Rattle.bay_model.specs.Settings.{set_to}
 use Rattle.object_model.specs.Tables.{flags_of}
 use Rattle.value_store.specs.Stored.{Stored, attribute, no_attribute, with_value}
 use Rattle.trigger_core.specs.Noted.{change_of}
-use Rattle.bay_core.specs.Changed.{given, change_from}
-use Rattle.bay_core.specs.Marked.{is_marked, one_if, marked_in, IsDone}
-use Rattle.bay_core.proofs.DistinctChanges.{distinct-push}
+use Rattle.bay_values.specs.Changed.{given, change_from}
+use Rattle.bay_values.specs.Marked.{is_marked, one_if, marked_in, IsDone}
+use Rattle.bay_values.proofs.DistinctChanges.{distinct-push}
 
 -- ---- an attribute that a later setting names
 

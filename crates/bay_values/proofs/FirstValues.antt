@@ -23,8 +23,8 @@ use Rattle.value_store.proofs.OpenedLaws.{length_opened, opened_kinds, opened_wr
 use Rattle.bay_model.specs.Lookups.{attr_of}
 use Rattle.bay_model.specs.Named.{configured_model}
 use Rattle.bay_config.specs.Servable.{IsServable, HasSoundValues}
-use Rattle.bay_core.specs.State.{AreHeld, IsSoundCell}
-use Rattle.bay_core.proofs.ChangeLaws.{types-count}
+use Rattle.bay_values.specs.Held.{AreHeld, IsSoundCell}
+use Rattle.bay_values.proofs.ChangeLaws.{types-count}
 
 -- ---- their kinds
 

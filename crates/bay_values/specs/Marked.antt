@@ -8,7 +8,7 @@ use Rattle.bay_model.specs.declared.step.Setting.{Setting}
 use Rattle.bay_model.specs.Settings.{set_to}
 use Rattle.value_store.specs.Stored.{Stored, attribute}
 use Rattle.trigger_core.specs.Noted.{change_of}
-use Rattle.bay_core.specs.Changed.{last_set, AreMade, AreDistinct}
+use Rattle.bay_values.specs.Changed.{last_set, AreMade, AreDistinct}
 
 abbrev pub is_marked : List Bool → ℕ → Bool
 is_marked marks x = slice_index_or marks x false
