@@ -6,3 +6,5 @@ pub mod MarkLaws
 pub mod ChangeLaws
 -- the configured values
 pub mod FirstValues
+-- what setting groups make of them
+pub mod LoadLaws

@@ -43,7 +43,7 @@ same y x is = by (eqb_tells y x) where
   by (inr e) = cc
 
 -- it counts for nothing
-passed : (x : ℕ) (s : Setting) (later : List Setting) → is_some (set_to s.attr.0 later) ≡ true → set_to x (s ∷ later) ≡ set_to x later
+pub passed : (x : ℕ) (s : Setting) (later : List Setting) → is_some (set_to s.attr.0 later) ≡ true → set_to x (s ∷ later) ≡ set_to x later
 passed x s later is = passed_by (s.attr.0 == x) (set_to x later) s.value (λ e. ap (λ y. is_some (set_to y later)) (sym (same s.attr.0 x e)) ∙ is)
 
 -- ---- an attribute that none names

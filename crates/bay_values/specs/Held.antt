@@ -9,8 +9,8 @@ use Rattle.bay_model.specs.Named.{configured_model}
 use Rattle.object_model.specs.Fits.{is_sound}
 use Rattle.value_store.specs.Opened.{is_writable}
 use Rattle.value_store.specs.Stored.{Stored, attribute}
-use Rattle.setting_groups.specs.Frames.{Holds, IsFramed}
-use Rattle.setting_groups.specs.Grouped.{Grouped, setting_at}
+use Rattle.setting_groups.specs.Frames.{IsFit}
+use Rattle.setting_groups.specs.Grouped.{Grouped}
 use Rattle.bay_config.specs.Servable.{attr_type}
 
 -- a value of its kind, within its range, with visible texts and parts of a second below one
@@ -27,6 +27,5 @@ pub record AreHeld (c : Config) (stored : List Stored) : Type 0 where
   pub writable : (x : ℕ) → x < length stored → (attribute stored x).is_writable ≡ is_writable (attr_of (configured_model c) x).access
 
 -- the setting groups are those of the configuration, and all that they hold is sound
-pub record AreGrouped (c : Config) (groups : Grouped) : Type 0 where
-  pub framed : IsFramed c groups
-  pub sound : (k : ℕ) → k < length groups.settings → Holds IsSoundCell (setting_at groups k)
+abbrev pub AreGrouped : Config → Grouped → Type 0
+AreGrouped c groups = IsFit c IsSoundCell groups

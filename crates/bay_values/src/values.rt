@@ -21,7 +21,7 @@ use value_store::{SetFault, Store};
 pub struct Values {
     pub(crate) store: Store,
     /// Which attributes the step that is being made has set; none between steps.
-    marks: Vec<bool>,
+    pub(crate) marks: Vec<bool>,
 }
 
 impl std::marker::Model for Values {
@@ -117,7 +117,7 @@ fn set_all(
 }
 
 /// Unmarks the attributes of changes.
-fn unmark(marks: &mut [bool], changes: &[Change])
+pub(crate) fn unmark(marks: &mut [bool], changes: &[Change])
     requires within { All (λ (ch : ChangeValue). ch.attr.0 < length marks.old) changes.now }
     requires noted { AreNoted changes.now marks.old }
     ensures { IsBlank marks.new }

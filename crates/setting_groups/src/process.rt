@@ -12,10 +12,11 @@ impl Groups {
 
     /// The place of an attribute among the SG attributes; none exactly where it is none.
     fn place(&self, attr: AttrId) -> Option<usize>
-        ensures { result ≡ place_in attr.0 self.now.settings }
+        ensures place { result ≡ place_in attr.0 self.now.settings }
+        ensures within { (k : ℕ) → result ≡ Some k → k < length self.now.settings }
     {
         for at in 0..self.settings.len() {
-            if self.settings[at].attr().0 == attr.0 {
+            if attr.0 == self.settings[at].attr().0 {
                 return Some(at);
             }
         }
@@ -28,9 +29,7 @@ impl Groups {
         ensures { self.new ≡ after_setting setting.now self.old }
     {
         if let Some(at) = self.place(setting.attr) {
-            let domain = self.settings[at].domain();
-            let place = self.domains[domain as usize].active_place();
-            self.settings[at].put(place, &setting.value);
+            self.put(at, &setting.value);
         }
     }
 
