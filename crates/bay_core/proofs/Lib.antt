@@ -11,7 +11,6 @@ pub mod AskLaws
 pub mod LentLaws
 -- names of data sets
 pub mod NameLaws
-pub mod RoleLaws
 pub mod AnswerLaws
 -- openings and losses
 pub mod EndLaws
@@ -28,6 +27,7 @@ pub mod SettingLaws
 -- writes
 pub mod WriteLaws
 pub mod SingleLaws
+pub mod GroupLaws
 -- reports
 pub mod TakeLaws
 pub mod TakenLaws

@@ -9,7 +9,7 @@ use Rattle.data_sets.specs.Books.{Book, number_referred, set_at}
 use Rattle.data_sets.specs.Standing.{IsNamed, data_set}
 use Rattle.value_store.specs.Stored.{Stored}
 use Rattle.setting_groups.specs.Grouped.{Grouped}
-use Rattle.bay_values.specs.Held.{AreHeld, AreGrouped}
+use Rattle.bay_values.specs.Held.{AreHeld}
 use Rattle.assoc_table.specs.Seats.{Row}
 use Rattle.report_block.specs.declared.block.ReportBlock.{ReportBlock}
 use Rattle.bay_core.specs.declared.watch.Watch.{Watch}
@@ -40,10 +40,9 @@ pub record IsBooked (c : Config) (book : Book) : Type 0 where
 
 -- the parts fit the configuration, each has an empty DatSet or one that names a data set, and the number of that; the index has the
 -- members of their data sets, and the room that entries of 256 members and changes need was made
-pub record IsFurnished (c : Config) (stored : List Stored) (groups : Grouped) (book : Book) (parts : List ReportBlock) (w : Watch) (octets : Filled ℕ) (room : ℕ) : Type 0 where
+pub record IsFurnished (c : Config) (stored : List Stored) (book : Book) (parts : List ReportBlock) (w : Watch) (octets : Filled ℕ) (room : ℕ) : Type 0 where
   pub servable : IsServable c
   pub values : AreHeld c stored
-  pub grouped : AreGrouped c groups
   pub count : length parts ≡ length c.blocks
   pub booked : IsBooked c book
   pub sets : (b : ℕ) (part : ReportBlock) → slice_get parts b ≡ Some part → part.set ≡ number_referred part.block.options.dat_set book

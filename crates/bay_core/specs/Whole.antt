@@ -1,5 +1,5 @@
--- What is so of a bay between steps: its parts fit its configuration, there is room for events, and each block has nothing due before
--- the moment that the bay knows of it.
+-- What is so of a bay between steps: its parts and its setting groups fit its configuration, there is room for events, and each block
+-- has nothing due before the moment that the bay knows of it.
 use Rattle.std.specs.Prelude.{ℕ, List, Option}
 use Rattle.sv_base.specs.declared.config.Config.{Config}
 use Rattle.bay_rooms.specs.Rooms.{Filled}
@@ -11,9 +11,11 @@ use Rattle.report_block.specs.declared.events.EventRoom.{EventRoom}
 use Rattle.report_block.specs.Events.{HasRoom}
 use Rattle.bay_core.specs.declared.watch.Watch.{Watch}
 use Rattle.bay_core.specs.State.{IsFurnished}
+use Rattle.bay_values.specs.Held.{AreGrouped}
 use Rattle.bay_core.specs.Timed.{AreQuietUntil}
 
 pub record IsWhole (c : Config) (stored : List Stored) (groups : Grouped) (book : Book) (parts : List ReportBlock) (w : Watch) (octets : Filled ℕ) (room : ℕ) (latest : ℕ) (dues : List (Option ℕ)) (events : EventRoom) : Type 0 where
-  pub furnished : IsFurnished c stored groups book parts w octets room
+  pub furnished : IsFurnished c stored book parts w octets room
+  pub grouped : AreGrouped c groups
   pub quiet : AreQuietUntil latest dues parts
   pub roomy : HasRoom 256 events

@@ -45,7 +45,7 @@ pub record StandAt (c : Config) (stored : List Stored) (groups : Grouped) (parts
   pub blocks : BlocksStand (configured_model c) past parts
   pub sets : SetsStand book (configured_model c) past
   pub is_latest : latest ≡ now past
-  pub groups : GroupsStand groups (configured_model c) past
+  pub settings : GroupsStand groups (configured_model c) past
 
 -- the reply to a's request as step n at moment m, by which it is now, after any past for which the parts stand
 abbrev pub IsReplyTo : Config → List Stored → Grouped → List ReportBlock → Book → (was now size : ℕ) → Service → Reply → Type 0

@@ -34,7 +34,7 @@ use Rattle.object_model.proofs.AttributeLaws.{flags-are}
 use Rattle.value_store.specs.Stored.{Stored, attribute}
 use Rattle.value_store.specs.Wholes.{Stands}
 use Rattle.value_store.proofs.StandLaws.{stands-deed}
-use Rattle.window_core.specs.Points.{at}
+use Rattle.setting_groups.specs.Standing.{at}
 use Rattle.bay_model.specs.Singles.{arrival}
 use Rattle.trigger_core.specs.Points as points
 use Rattle.trigger_core.specs.Points.{AreChanges, change_to}

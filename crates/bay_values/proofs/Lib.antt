@@ -8,3 +8,4 @@ pub mod ChangeLaws
 pub mod FirstValues
 -- what setting groups make of them
 pub mod LoadLaws
+pub mod GroupLaws

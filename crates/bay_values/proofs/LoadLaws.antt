@@ -1,20 +1,19 @@
 -- One SG attribute more is given what its active group holds.
-use Rattle.std.proofs.Common.{◌≡◌, ◌≢◌, ◌<◌, ◌≤◌, ◌+◌, ◌-◌, ◌∷◌, ◌∙◌, ℕ, zero, suc, Bool, true, false, List, [], drop, length, is_some, refl, sym, ap, subst, arith, slice_set, slice_index_or, if◌then◌else◌, ◌⊎◌, inl, inr}
+use Rattle.std.proofs.Common.{◌≡◌, ◌≢◌, ◌<◌, ◌+◌, ◌∷◌, ◌∙◌, ℕ, Bool, true, false, List, drop, length, is_some, refl, sym, ap, subst, arith, slice_set, if◌then◌else◌, ◌⊎◌, inl, inr}
 use Rattle.std.specs.Prelude.{◌==◌}
 use Rattle.std.specs.Option.{option_map}
 use Rattle.std.proofs.lemmas.Bool.Decides.{eqb_tells}
-use Rattle.std.proofs.lemmas.List.{length-set, drop_more, drop_all}
+use Rattle.std.proofs.lemmas.List.{length-set, drop_more}
 use Rattle.sv_base.specs.declared.config.Config.{Config}
 use Rattle.sv_base.specs.declared.value.Value.{Value}
-use Rattle.bay_rooms.specs.Kinds.{Kind}
 use Rattle.bay_model.specs.declared.flags.Change.{Change}
 use Rattle.bay_model.specs.declared.step.Setting.{Setting}
 use Rattle.list_laws.proofs.Places.{at_own, same-number}
 use Rattle.value_store.specs.Stored.{Stored, attribute, no_attribute, with_value}
-use Rattle.setting_groups.specs.Grouped.{Grouped, Settled, active_of, active_place, domain_at, no_setting, setting_at}
-use Rattle.setting_groups.specs.Loaded.{active_settings, loading, loading_if, loadings}
+use Rattle.setting_groups.specs.Grouped.{Grouped, active_place, domain_at, no_setting, setting_at}
+use Rattle.setting_groups.specs.Loaded.{loading_if, loadings}
 use Rattle.bay_values.specs.Changed.{change_from, given}
-use Rattle.bay_values.specs.Loaded.{AreLoadable, IsLoadable, active_setting}
+use Rattle.bay_values.specs.Loaded.{AreLoadable, active_setting}
 use Rattle.bay_values.specs.Marked.{IsDone, is_marked}
 use Rattle.bay_values.proofs.SettingSteps.{passed}
 

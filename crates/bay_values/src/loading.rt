@@ -105,13 +105,7 @@ impl Values {
 
     /// Gives the SG attributes of a domain what its active group holds; adds to `changes` what became of each, once. It takes no
     /// memory, since `changes` has room for as many as there are attributes.
-    pub fn load(
-        &mut self,
-        model: &Model,
-        groups: &Groups,
-        domain: u32,
-        changes: &mut Vec<Change>,
-    )
+    pub fn load(&mut self, model: &Model, groups: &Groups, domain: u32, changes: &mut Vec<Change>)
         requires fit { AreLoadable self.old groups.now }
         requires flags { length self.old ≡ length (attributes model.now) }
         requires empty { changes.old.items ≡ [] }

@@ -1,9 +1,10 @@
 -- What the frame of a configuration tells of the setting groups: which attributes are among them, and in which domains.
-use Rattle.std.proofs.Common.{◌≡◌, ◌≢◌, ◌≤◌, ◌<◌, ◌+◌, ℕ, zero, suc, Bool, true, false, List, [], ◌∷◌, ◌++◌, length, map, flat_map, refl, sym, ap, ap₂, ◌∙◌, arith, Option, None, Some, is_some, slice_index_or, slice_get, unwrap_or, length-append}
+use Rattle.std.proofs.Common.{◌≡◌, ◌≢◌, ◌≤◌, ◌<◌, ◌+◌, ℕ, zero, suc, Bool, true, false, List, [], ◌∷◌, ◌++◌, length, map, flat_map, refl, sym, ap, ap₂, subst, ◌∙◌, arith, Option, None, Some, is_some, slice_index_or, slice_get, unwrap_or, length-append, position, inl, inr, ◌⊎◌, true≢false}
 use Rattle.std.specs.Prelude.{◌==◌, ◌||◌, codes, nat_lt, if◌then◌else◌}
-use Rattle.std.specs.List.{All}
+use Rattle.std.specs.List.{All, find}
 use Rattle.std.specs.Option.{option_map}
 use Rattle.std.specs.Str.{bytes_eq}
+use Rattle.std.specs.Cmp.Lexicographic.{bytes_decides}
 use Rattle.std.proofs.lemmas.Bool.{ltb-true, ltb-false}
 use Rattle.std.proofs.lemmas.List.{length-map}
 use Rattle.std.proofs.lemmas.List.Elements.{All-head, All-tail, All-nil, All-cons, All-map}
@@ -11,6 +12,7 @@ use Rattle.sv_base.specs.Same.{values_of}
 use Rattle.sv_base.specs.declared.config.Config.{Config}
 use Rattle.sv_base.specs.declared.config.AttrDef.{AttrDef}
 use Rattle.sv_base.specs.declared.config.CtlDef.{CtlDef}
+use Rattle.sv_base.specs.declared.config.SgDef.{SgDef}
 use Rattle.sv_base.specs.declared.value.Value.TheVariants as kinds
 use Rattle.bay_rooms.specs.Kinds.{kind_of}
 use Rattle.bay_rooms.specs.Slots.{Held}
@@ -20,8 +22,9 @@ use Rattle.bay_model.specs.Lookups.{attr_of, groups_of, no_attr}
 use Rattle.bay_model.specs.Model as model
 use Rattle.bay_model.specs.Model.{Access, Attr, Groups, Model}
 use Rattle.bay_model.specs.Named.{configured_model}
-use Rattle.bay_model.specs.NamedLines.{domains, is_setting}
-use Rattle.list_laws.proofs.Places.{equal-number}
+use Rattle.bay_model.specs.NamedLines.{domain_number, domains, is_setting}
+use Rattle.list_laws.proofs.Among.{Among}
+use Rattle.list_laws.proofs.Places.{at_position, equal-number}
 use Rattle.setting_groups.specs.Frames.{Frame, frame, count_in, IsFramed, IsComplete, Holds, IsFit}
 use Rattle.setting_groups.specs.Grouped.{Settled, Grouped, no_setting, setting_at, place_in}
 use Rattle.setting_groups.specs.Opened.{block_defined, held_as, opened, place_in as place_of, setting_defined, settings_from, HasValues, IsGrouped}
@@ -277,3 +280,32 @@ module _ (c : Config) (P : Held → Type 0) where
 
   pub first-fit : IsGrouped c → All AreSo c.attrs → IsFit c P (opened c (domains c))
   first-fit h so = record { framed = record { settings = refl; domains = refl }; holds = first-holds (domains c) 0 c.attrs h.values so }
+
+-- ---- the domains of the blocks have groups
+
+bytes-own : (d : List ℕ) → bytes_eq d d ≡ true
+bytes-own d = (bytes_decides d d).1 refl
+
+some-count : (gs : List SgDef) (d : List ℕ) (g : SgDef) → All (λ (q : SgDef). (1 ≤ q.active) × (q.active ≤ q.count)) gs → Among g gs → bytes_eq d g.domain ≡ true → 0 < (groups_defined gs d).count
+some-count [] d g are i is = absurd i
+some-count (q ∷ gs) d g are i is = by (bytes_eq d q.domain) refl i (some-count gs d g (All-tail (λ (k : SgDef). (1 ≤ k.active) × (k.active ≤ k.count)) q gs are))
+  where
+    own : (1 ≤ q.active) × (q.active ≤ q.count)
+    own = All-head (λ (k : SgDef). (1 ≤ k.active) × (k.active ≤ k.count)) q gs are
+
+    by : (b : Bool) → bytes_eq d q.domain ≡ b → (g ≡ q) ⊎ Among g gs → (Among g gs → bytes_eq d g.domain ≡ true → 0 < (groups_defined gs d).count)
+        → 0 < (unwrap_or {T = Groups} (option_map (λ (k : SgDef). record { count = k.count; active = k.active }) (if b then Some q else find (λ (k : SgDef). bytes_eq d k.domain) gs)) (record { count = 0; active = 0 })).count
+    by true test j later = omega (arith, own.0, own.1)
+    by false test (inl e) later = absurd (true≢false (sym (ap (λ (k : SgDef). bytes_eq d k.domain) (sym e) ∙ is) ∙ test))
+    by false test (inr j) later = later j is
+
+pub groups-there : (c : Config) → IsGrouped c → (g : SgDef) → Among g c.groups → 0 < (groups_of (configured_model c) (domain_number c g.domain)).count
+groups-there c h g i =
+    let there : is_some (position (bytes_eq g.domain) (domains c)) ≡ true = among-all (λ (q : SgDef). is_some (position (bytes_eq q.domain) (domains c)) ≡ true) c.groups h.there g i in
+    let same : groups_of (configured_model c) (domain_number c g.domain) ≡ groups_defined c.groups g.domain = at_position (groups_defined c.groups) (record { count = 0; active = 0 }) g.domain (domains c) there in
+    omega (arith, ap (λ (k : Groups). k.count) same, some-count c.groups g.domain g h.groups i (bytes-own g.domain))
+  where
+    among-all : {X : Type 0} (P : X → Type 0) (xs : List X) → All P xs → (x : X) → Among x xs → P x
+    among-all P [] all x i = absurd i
+    among-all P (y ∷ ys) all x (inl e) = subst P (sym e) (All-head P y ys all)
+    among-all P (y ∷ ys) all x (inr i) = among-all P ys (All-tail P y ys all) x i

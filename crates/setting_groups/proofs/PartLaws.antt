@@ -8,16 +8,18 @@ use Rattle.sv_base.specs.declared.value.Value.TheVariants as kinds
 use Rattle.bay_model.specs.declared.components.SettingComp.{SettingComp}
 use Rattle.bay_model.specs.declared.components.SettingComp.TheVariants.{NumOfSG, ActSG, EditSG, CnfEdit, LActTm}
 use Rattle.bay_model.specs.Components.{read_setting, utc_of, no_utc}
-use Rattle.bay_model.specs.Lookups.{groups_of}
+use Rattle.bay_model.specs.Lookups.{attr_of, groups_of}
 use Rattle.bay_model.specs.Model.{Model}
 use Rattle.bay_model.specs.Outcomes.{first_code, first_of, outcome_by}
-use Rattle.bay_model.specs.Points.{Deed, Past, now, activated, edited, confirmed, nothing}
-use Rattle.bay_model.specs.Settings.{Edit, is_held_by}
-use Rattle.bay_model.specs.SettingWrites.{act_refusals, edit_refusals, confirm_refusals, write_part}
+use Rattle.bay_model.specs.Points.{Deed, Past, now, activated, copied, edited, confirmed, nothing}
+use Rattle.bay_model.specs.Model as model
+use Rattle.bay_model.specs.Reads.{read_attribute}
+use Rattle.bay_model.specs.Settings.{Edit, copy, edit, is_held_by, stored}
+use Rattle.bay_model.specs.SettingWrites.{act_refusals, attribute_refusals, edit_refusals, confirm_refusals, holds_edit, write_attribute, write_part}
 use Rattle.bay_model.proofs.RefusalLaws.{as_answered}
-use Rattle.setting_groups.specs.Grouped.{Domained, Grouped, domain_at, act_answer, edit_answer, stored_answer, edit_number, number_in, is_on}
+use Rattle.setting_groups.specs.Grouped.{Domained, Grouped, Settled, act_answer, copy_answer, domain_at, edit_answer, edit_number, holds, is_on, number_in, setting_at, stored_answer}
 use Rattle.setting_groups.specs.Parts.{told, part_answer, part_deed, part_read, after_part}
-use Rattle.setting_groups.specs.Standing.{Stands, StandsBlock, at}
+use Rattle.setting_groups.specs.Standing.{IsTwin, Stands, StandsBlock, at}
 use Rattle.setting_groups.proofs.SettingLaws.{edits, confirms}
 use Rattle.setting_groups.proofs.StandLaws.{acts, quiets}
 
@@ -81,6 +83,32 @@ module _ (c : Model) (s : Grouped) (d : ℕ) (past : Past) (block : StandsBlock 
   reads EditSG = ap (λ e. kinds.Uint (option_map_or (λ (x : Edit). x.group) e 0)) (sym block.edit)
   reads CnfEdit = refl
   reads LActTm = ap (λ o. kinds.Time (option_map_or utc_of o no_utc)) (sym block.last)
+
+-- what the edit copy of an attribute reads
+pub copy-reads : (c : Model) (s : Grouped) (k y : ℕ) (past : Past) → Stands s c past → k < length s.settings → IsTwin c y (setting_at s k)
+    → read_attribute c model.edited y past ≡ (if is_some (domain_at s (setting_at s k).domain).edit then Ok (setting_at s k).copy.value else Err 2)
+copy-reads c s k y past h below twin =
+    let t : Settled = setting_at s k in
+    let block_ = h.blocks t.domain (h.within k below) (h.grouped k below) in
+    ap₂ (λ (d x : ℕ). if is_some (edit d past) then Ok (stored c x past copy) else Err 2) twin.domain twin.original
+    ∙ (by (edit t.domain past) (λ some. sym ((h.settings k below).copy some)) ∙ ap (λ o. if is_some o then Ok t.copy.value else Err 2) (sym block_.edit))
+  where
+    by : (o : Option Edit) → (is_some o ≡ true → stored c (setting_at s k).attr past copy ≡ (setting_at s k).copy.value)
+        → ◌≡◌ {A = Result Value ℕ} (if is_some o then Ok (stored c (setting_at s k).attr past copy) else Err 2) (if is_some o then Ok (setting_at s k).copy.value else Err 2)
+    by None same = refl
+    by (Some e) same = ap Ok (same refl)
+
+-- what comes of a write into it
+pub copy-written : (c : Model) (s : Grouped) (a k y : ℕ) (v : Value) (past : Past) → Stands s c past → k < length s.settings → IsTwin c y (setting_at s k)
+    → write_attribute c a y v model.edited past ≡ outcome_by (copy_answer (holds a (domain_at s (setting_at s k).domain)) (setting_at s k) v) (copied a (setting_at s k).attr v)
+copy-written c s a k y v past h below twin =
+    let t = setting_at s k in
+    let block_ = h.blocks t.domain (h.within k below) (h.grouped k below) in
+    let held : holds_edit a (attr_of c y).domain past ≡ holds a (domain_at s t.domain) = ap (λ d. holds_edit a d past) twin.domain ∙ ap (is_held_by a) (sym block_.edit) in
+    ap (λ q. first_code (attribute_refusals q v (not (holds_edit a (attr_of c y).domain past))) (copied a (attr_of c y).original v)) twin.kind
+    ∙ (ap (λ b. first_code (attribute_refusals t.copy.kind v (not b)) (copied a (attr_of c y).original v)) held
+    ∙ (ap (λ x. first_code (attribute_refusals t.copy.kind v (not (holds a (domain_at s t.domain)))) (copied a x v)) twin.original
+    ∙ as_answered (attribute_refusals t.copy.kind v (not (holds a (domain_at s t.domain)))) tt (copied a t.attr v)))
 
 -- ---- what is so where it is accepted
 
