@@ -4,6 +4,7 @@ use Rattle.std.specs.Prelude.{slice_get, slice_set, ◌&&◌, nat_le, ◌==◌, 
 use Rattle.std.specs.Option.{option_map}
 use Rattle.std.specs.Str.{bytes_eq}
 use Rattle.std.proofs.lemmas.List.{length-set, map-append}
+use Rattle.std.proofs.Common.{length-append}
 use Rattle.std.proofs.lemmas.Bool.Decides.{eqb_tells, nat_tests}
 use Rattle.std.proofs.lemmas.List.Elements.{All-nil, All-cons}
 use Rattle.list_laws.proofs.Options.{some_is}
@@ -88,6 +89,14 @@ own-at c y (a ∷ ls) others (suc x) below = own-at c (1 + y) ls others x (omega
 
 own-line : (c : Config) (x : ℕ) → x < length c.attrs → IsOwn (attr_of (configured_model c) x).access
 own-line c x below = own-at c 0 c.attrs (flat_map (attrs_generated c) c.controls ++ twins c 0 c.attrs) x below
+
+-- it is one of those that have values
+pub line-there : (c : Config) (stored : List Stored) → AreHeld c stored → (x : ℕ) → x < length c.attrs → x < length stored
+line-there c stored held x line = omega (arith, line, held.count, length-append (attrs_defined c 0 c.attrs) (flat_map (attrs_generated c) c.controls ++ twins c 0 c.attrs), lines-count 0 c.attrs)
+  where
+    lines-count : (y : ℕ) (ls : List AttrDef) → length (attrs_defined c y ls) ≡ length ls
+    lines-count y [] = refl
+    lines-count y (a ∷ ls) = ap suc (lines-count (1 + y) ls)
 
 -- ---- what comes of a client's write of an attribute
 

@@ -36,6 +36,10 @@ invariant_of-self c =
       furnished = subst (λ ps. IsFurnished c.self.inside.model c.set.new.self c.self.inside.sets ps c.event_all.new.watch c.event_all.new.octets (vec_capacity c.set.new.changes)) (sym c.event_all.ensures.parts)
           (furnished-all c.self.inside.model c.self.inside.sets c.self.inside.values c.set.new.self c.store.result.now c.self.inside.parts.items c.self.inside.watch c.event_all.new.watch c.self.inside.octets c.event_all.new.octets (vec_capacity c.self.inside.changes) (vec_capacity c.set.new.changes) c.as_slice-3.result.now c.as_slice-2.result.now c.self.inside.latest c.self.inside.steps
           c.self.invariant.furnished held c.set.ensures.count c.event_all.ensures.watch c.event_all.ensures.blank c.event_all.ensures.entry (omega (arith, c.clear.ensures.capacity, c.set.ensures.room)));
+      grouped = subst (AreGrouped c.self.inside.model) (sym c.set_all.ensures)
+          (fit-values c.self.inside.model IsSoundCell c.as_slice-2.result.now c.self.inside.groups c.self.invariant.grouped
+          (are-held-once c.self.inside.model c.self.invariant.furnished.servable c.self.inside.values c.self.invariant.furnished.values c.self.inside.groups c.self.invariant.grouped c.as_slice-2.result.now
+          (subst (AreTyped c.self.inside.model) (sym c.as_slice-2.ensures) (typed-settings c.self.inside.model c.args.sets.now (ap (λ (s : State). fits s.config (steps.Value c.args.sets.now)) (c.self.view_is ∙ c.arrive.ensures.state) ∙ c.requires.fits)))));
       quiet = c.event_all.ensures.quiet;
       roomy = c.event_all.ensures.events;
     }
@@ -57,6 +61,6 @@ returns-clause-does c = λ c' h was.
           (λ x. c.set.ensures.set x ∙ ap (λ (l : List Setting). last_set l x (attribute c.self.inside.values x)) c.as_slice.ensures) c.set.ensures.count
           (subst (λ (l : List Setting). AreMade c.self.inside.model c.self.inside.values l c.set.new.changes.items) c.as_slice.ensures c.set.ensures.changes)
           here
-          (c.count.ensures ∙ ap (λ (ps : List ReportBlock). record { config = c.self.inside.model; steps = suc c.self.inside.steps; latest = c.self.inside.latest; stored = c.set.new.self; book = c.self.inside.sets; parts = ps; rows = c.self.inside.associations }) parts)
+          (c.count.ensures ∙ ap (λ (ps : List ReportBlock). record { config = c.self.inside.model; steps = suc c.self.inside.steps; latest = c.self.inside.latest; stored = c.set.new.self; book = c.self.inside.sets; parts = ps; rows = c.self.inside.associations; groups = c.self.inside.groups }) parts)
           was,
     )

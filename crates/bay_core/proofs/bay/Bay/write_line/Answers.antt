@@ -7,31 +7,33 @@ use Rattle.bay_core.specs.Asked.{IsWrite, set_code}
 use Rattle.bay_core.specs.Events.{AreReady, after_events}
 use Rattle.bay_core.specs.State.{State, IsFurnished}
 use Rattle.bay_core.proofs.SettingLaws.{are-ready, furnished-all, have-members}
-use Rattle.bay_core.proofs.SingleLaws.{attribute_comes, attribute-refused, attribute-set, one-held}
-use Rattle.bay_core.proofs.bay.Bay.write_attribute.Goals as goal
+use Rattle.bay_core.proofs.SingleLaws.{attribute_comes, attribute-refused, attribute-set, line-there, one-held}
+use Rattle.bay_core.proofs.bay.Bay.write_line.Goals as goal
 
 pub returns-in-Err-clause-written : goal.returns-in-Err-clause-written
 returns-in-Err-clause-written c = λ a.
     let s = c.self.inside in
     let x = c.args.attr.0 in
     let v = c.args.value.now in
-    let z : State = record { config = s.model; steps = s.steps; latest = s.latest; stored = s.values; book = s.sets; parts = s.parts.items; rows = s.associations } in
+    let z : State = record { config = s.model; steps = s.steps; latest = s.latest; stored = s.values; book = s.sets; parts = s.parts.items; rows = s.associations; groups = s.groups } in
     let fit = c.self.invariant.furnished in
-    let there : x < length s.values = subst (λ (t : State). x < length t.stored) (sym c.self.view_is) c.requires.there in
-    let code = c.refusal.ensures ∙ ap (λ e. set_code e c.in-Err.fault) c.is_edited.ensures in
+    let line : x < length s.model.attrs = subst (λ (t : State). x < length t.config.attrs) (sym c.self.view_is) c.requires.there in
+    let there : x < length s.values = line-there s.model s.values fit.values x line in
+    let code = c.refusal.ensures in
     subst (λ (w : State). IsWrite w (record z { stored = c.write.new.self }) (attribute_comes a x v) (Err c.refusal.result)) c.self.view_is
     (subst (λ (l : List Stored). IsWrite z (record z { stored = l }) (attribute_comes a x v) (Err c.refusal.result)) (sym c.in-Err.ensures.kept)
     (subst (λ (k : ℕ). IsWrite z z (attribute_comes a x v) (Err k)) (sym code)
-    (attribute-refused z fit.servable fit.values x v there c.in-Err.fault a (sym c.in-Err.is ∙ c.write.ensures.answer))))
+    (attribute-refused z fit.servable fit.values x v there line c.in-Err.fault a (sym c.in-Err.is ∙ c.write.ensures.answer))))
 
 pub event_all-requires-clause-ready : goal.event_all-requires-clause-ready
 event_all-requires-clause-ready c =
     let s = c.self.inside in
     let x = c.args.attr.0 in
     let v = c.args.value.now in
-    let z : State = record { config = s.model; steps = s.steps; latest = s.latest; stored = s.values; book = s.sets; parts = s.parts.items; rows = s.associations } in
+    let z : State = record { config = s.model; steps = s.steps; latest = s.latest; stored = s.values; book = s.sets; parts = s.parts.items; rows = s.associations; groups = s.groups } in
     let fit = c.self.invariant.furnished in
-    let there : x < length s.values = subst (λ (t : State). x < length t.stored) (sym c.self.view_is) c.requires.there in
+    let line : x < length s.model.attrs = subst (λ (t : State). x < length t.config.attrs) (sym c.self.view_is) c.requires.there in
+    let there : x < length s.values = line-there s.model s.values fit.values x line in
     let held = one-held z fit.servable fit.values x v there c.write.new.self c.in_default.ensures.set c.requires.sound (sym c.in_default.is ∙ c.write.ensures.answer) in
     subst (λ (all : List Stored). AreReady c.as_slice.result.now s.sets all s.parts.items) (sym c.store.ensures)
     (are-ready s.model c.as_slice.result.now s.values c.write.new.self s.sets s.parts.items s.watch s.octets (vec_capacity s.changes) (c.as_slice.ensures ∙ c.nodes.ensures) fit held)
@@ -41,15 +43,17 @@ invariant_of-self-2 c =
     let s = c.self.inside in
     let x = c.args.attr.0 in
     let v = c.args.value.now in
-    let z : State = record { config = s.model; steps = s.steps; latest = s.latest; stored = s.values; book = s.sets; parts = s.parts.items; rows = s.associations } in
+    let z : State = record { config = s.model; steps = s.steps; latest = s.latest; stored = s.values; book = s.sets; parts = s.parts.items; rows = s.associations; groups = s.groups } in
     let fit = c.self.invariant.furnished in
-    let there : x < length s.values = subst (λ (t : State). x < length t.stored) (sym c.self.view_is) c.requires.there in
+    let line : x < length s.model.attrs = subst (λ (t : State). x < length t.config.attrs) (sym c.self.view_is) c.requires.there in
+    let there : x < length s.values = line-there s.model s.values fit.values x line in
     let held = one-held z fit.servable fit.values x v there c.write.new.self c.in_default.ensures.set c.requires.sound (sym c.in_default.is ∙ c.write.ensures.answer) in
     let count = ap (λ (l : List Stored). length l) c.in_default.ensures.set ∙ length-set s.values x (with_value v (attribute s.values x)) in
     record {
       furnished = subst (λ ps. IsFurnished s.model c.write.new.self s.sets ps c.event_all.new.watch c.event_all.new.octets (vec_capacity c.write.new.changes)) (sym c.event_all.ensures.parts)
           (furnished-all s.model s.sets s.values c.write.new.self c.store.result.now s.parts.items s.watch c.event_all.new.watch s.octets c.event_all.new.octets (vec_capacity s.changes) (vec_capacity c.write.new.changes) c.as_slice-2.result.now c.as_slice.result.now s.latest s.steps
           fit held count c.event_all.ensures.watch c.event_all.ensures.blank c.event_all.ensures.entry (omega (arith, c.clear.ensures.capacity, c.write.ensures.room)));
+      grouped = c.self.invariant.grouped;
       quiet = c.event_all.ensures.quiet;
       roomy = c.event_all.ensures.events;
     }
@@ -59,14 +63,15 @@ returns-clause-written c = λ a.
     let s = c.self.inside in
     let x = c.args.attr.0 in
     let v = c.args.value.now in
-    let z : State = record { config = s.model; steps = s.steps; latest = s.latest; stored = s.values; book = s.sets; parts = s.parts.items; rows = s.associations } in
+    let z : State = record { config = s.model; steps = s.steps; latest = s.latest; stored = s.values; book = s.sets; parts = s.parts.items; rows = s.associations; groups = s.groups } in
     let fit = c.self.invariant.furnished in
-    let there : x < length s.values = subst (λ (t : State). x < length t.stored) (sym c.self.view_is) c.requires.there in
+    let line : x < length s.model.attrs = subst (λ (t : State). x < length t.config.attrs) (sym c.self.view_is) c.requires.there in
+    let there : x < length s.values = line-there s.model s.values fit.values x line in
     let rows = c.as_slice.result.now in
     let new : List ReportBlock → State = λ ps. record z { stored = c.write.new.self; parts = ps } in
     let parts = c.event_all.ensures.parts ∙ (ap (λ (all : List Stored). after_events rows s.sets all c.as_slice-2.result.now s.latest s.steps s.parts.items) c.store.ensures
     ∙ ap (λ (changes : List Change). after_events rows s.sets c.write.new.self changes s.latest s.steps s.parts.items) c.as_slice-2.ensures.value) in
     subst (λ (w : State). IsWrite w (new c.event_all.new.parts.items) (attribute_comes a x v) (Ok tt)) c.self.view_is
-    (attribute-set z fit.servable fit.values x v there (new c.event_all.new.parts.items) rows c.write.new.self c.write.new.changes.items a fit.booked.served
+    (attribute-set z fit.servable fit.values x v there line (new c.event_all.new.parts.items) rows c.write.new.self c.write.new.changes.items a fit.booked.served
     (have-members s.model rows s.values s.sets s.parts.items s.watch s.octets (vec_capacity s.changes) (c.as_slice.ensures ∙ c.nodes.ensures) fit)
     c.requires.sound (sym c.in_default.is ∙ c.write.ensures.answer) c.in_default.ensures.set c.in_default.ensures.noted (ap new parts))
