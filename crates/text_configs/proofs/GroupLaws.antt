@@ -1,6 +1,6 @@
 -- What a text tells of its setting groups, and of its attributes, which under SG have a value for each group.
 use Rattle.std.proofs.Common.{◌≡◌, ℕ, ◌+◌, ◌≤◌, ◌⊎◌, inl, inr, Bool, true, false, List, [], ◌∷◌, ◌++◌, length, is_some, refl, sym, ap, subst, ◌∙◌, arith, true≢false, length-append, cond, None, Some, unwrap_or, if◌then◌else◌}
-use Rattle.std.specs.Prelude.{codes}
+use Rattle.std.specs.Prelude.{codes, position}
 use Rattle.std.specs.Option.{option_map, option_or}
 use Rattle.std.specs.List.{find, list_any}
 use Rattle.std.specs.Str.{bytes_eq}
@@ -26,7 +26,7 @@ use Rattle.cfg_grammar.specs.Texts.{AreLines, SpellsConfig}
 use Rattle.cfg_grammar.specs.Follows.{value_count, IsAttribute}
 use Rattle.cfg_lines.specs.declared.line.Line.{Line}
 use Rattle.cfg_lines.specs.declared.line.Line.TheVariants as lines
-use Rattle.list_laws.proofs.Among.{Among, all-of, right, ending, passes}
+use Rattle.list_laws.proofs.Among.{Among, all-of, left, right, ending, passes}
 use Rattle.setting_groups.specs.Opened.{HasValues, IsHeld, IsSetting, IsGrouped}
 use Rattle.text_configs.proofs.FindLaws.{found, domain-there}
 use Rattle.text_configs.proofs.NamedLaws.{bytes-same}
@@ -138,6 +138,20 @@ groups-read (lines.Sgcb groups ∷ before) text h g i = by (ending g (config_of 
     by (inr e) go = subst IsActive (sym e) h.4.follows.active
 groups-read (line ∷ before) text h g i = groups-read before h.0 h.3 g i
 
+-- the domain of a block is that of a logical node
+abbrev HasNode : Config → List ℕ → Type 0
+HasNode c d = (n : LnDef) × Among n c.nodes × (n.domain ≡ d)
+
+groups-stand : (told : List Line) (text : List ℕ) → AreLines text told → (g : SgDef) → Among g (config_of told).groups → HasNode (config_of told) g.domain
+groups-stand [] text h g i = absurd i
+groups-stand (lines.Ln node ∷ before) text h g i = let r = groups-stand before h.0 h.3 g i in (r.0, left r.0 (config_of before).nodes (node ∷ []) r.1, r.2)
+groups-stand (lines.Sgcb groups ∷ before) text h g i = by (ending g (config_of before).groups groups i) (groups-stand before h.0 h.3 g)
+  where
+    by : Among g (config_of before).groups ⊎ (g ≡ groups) → (Among g (config_of before).groups → HasNode (config_of before) g.domain) → HasNode (config_of before) g.domain
+    by (inl j) go = go j
+    by (inr e) go = let f = h.4.follows in let n = in-node before h.0 h.3 f.stands.0 in (n.node, n.there, n.domain_is ∙ sym (ap (λ (x : SgDef). x.domain) (e ∙ f.here)))
+groups-stand (line ∷ before) text h g i = groups-stand before h.0 h.3 g i
+
 -- ---- the attributes
 
 all-held : (k : TypeOf) → IsType k → (vs : List Value) → AreOfType k vs → (v : Value) → Among v vs → IsHeld k v
@@ -222,24 +236,28 @@ groups_told g = record { count = g.count; active = g.active }
 abbrev no_groups : Groups
 no_groups = record { count = 0; active = 0 }
 
+is-there : (c : Config) (d : List ℕ) → HasNode c d → is_some (position (bytes_eq d) (domains c)) ≡ true
+is-there c d h =
+    let there : Among d (domains c) = subst (λ x. Among x (domains c)) h.2 (domain-there h.0 [] c.nodes h.1) in
+    ap is_some (found (bytes_eq d) d (domains c) there (bytes-same d d refl)).is
+
 is-a-setting : (c : Config) (a : AttrDef) → IsValued c a → is_setting a ≡ true → IsSetting c a
 is-a-setting c a h is =
     let have = h.groups is in
     let count : (groups_defined c.groups a.domain).count ≡ length (values_of a.values) =
     ap (λ o. (unwrap_or (option_map groups_told o) no_groups).count) have.1 ∙ have.2 in
-    let there : Among a.domain (domains c) =
-    subst (λ d. Among d (domains c)) h.node.domain_is (domain-there h.node.node [] c.nodes h.node.there) in
     record {
-      domain = ap is_some (found (bytes_eq a.domain) a.domain (domains c) there (bytes-same a.domain a.domain refl)).is;
+      domain = is-there c a.domain (h.node.node, h.node.there, h.node.domain_is);
       some = omega (arith, count, h.values.some);
       values = sym count;
     }
 
-are-grouped : (told : List Line) (text : List ℕ) → AreLines text told → IsGrouped (config_of told)
+pub are-grouped : (told : List Line) (text : List ℕ) → AreLines text told → IsGrouped (config_of told)
 are-grouped told text are = let c : Config = config_of told in record {
   values = all-of HasValues c.attrs (λ a i. (attrs-valued told text are a i).values);
   settings = all-of (λ (a : AttrDef). is_setting a ≡ true → IsSetting c a) c.attrs (λ a i. is-a-setting c a (attrs-valued told text are a i));
   groups = all-of IsActive c.groups (groups-read told text are);
+  there = all-of (λ (g : SgDef). is_some (position (bytes_eq g.domain) (domains c)) ≡ true) c.groups (λ g i. is-there c g.domain (groups-stand told text are g i));
   domains = let f = few-nodes told text are in omega (arith, f.0, f.1, few-domains [] c.nodes);
   few = let f = few-attrs told text are in omega (arith, f.0, f.1);
 }
