@@ -1,6 +1,6 @@
 -- Writes of setting groups: what the bay makes of them is what the definitions have.
 use Rattle.std.proofs.Common.{◌≡◌, ◌≤◌, ◌<◌, ◌∙◌, ℕ, suc, max, Bool, true, false, List, [], ◌∷◌, ◌++◌, map, None, Some, Result, Ok, Err, length, refl, ap, ap₂, sym, subst, arith, unwrap_or, not}
-use Rattle.std.specs.Prelude.{◌&&◌, ◌+◌, is_some, if◌then◌else◌}
+use Rattle.std.specs.Prelude.{◌&&◌, ◌+◌, is_some, if◌then◌else◌, OnOk, OnErr}
 use Rattle.std.specs.List.{All}
 use Rattle.std.specs.Option.{option_map_or}
 use Rattle.sv_base.specs.Same.{is_same}
@@ -291,3 +291,11 @@ module _ (z : State) (served : IsServable z.config) (held : AreHeld z.config z.s
 
     pub fit-copied : Ok tt ≡ answer → is_sound v ≡ true → AreGrouped z.config (after_copy k v z.groups)
     fit-copied is sound = fit-copy z.config IsSoundCell z.groups fit k v within (copy-sound (setting_at z.groups k) v (holds a (domain_at z.groups (setting_at z.groups k).domain)) (sym is) sound)
+
+    pub copy-done : (g : Grouped) (code : Result (Unit {0}) ℕ) → code ≡ answer → OnOk code (g ≡ after_copy k v z.groups) → OnErr code (g ≡ z.groups) → IsWrite z (record z { groups = g }) copy_comes code
+    copy-done g (Ok u) is set kept = copy-set (record z { groups = g }) is (ap (λ (q : Grouped). record z { groups = q }) set)
+    copy-done g (Err e) is set kept = subst (λ (q : Grouped). IsWrite z (record z { groups = q }) copy_comes (Err e)) (sym kept) (copy-refused e is)
+
+    pub fit-done : (g : Grouped) (code : Result (Unit {0}) ℕ) → code ≡ answer → OnOk code (g ≡ after_copy k v z.groups) → OnErr code (g ≡ z.groups) → is_sound v ≡ true → AreGrouped z.config g
+    fit-done g (Ok u) is set kept sound = subst (AreGrouped z.config) (sym set) (fit-copied is sound)
+    fit-done g (Err e) is set kept sound = subst (AreGrouped z.config) (sym kept) fit
