@@ -1,5 +1,5 @@
 -- Writes of setting groups: what the bay makes of them is what the definitions have.
-use Rattle.std.proofs.Common.{◌≡◌, ◌≤◌, ◌<◌, ◌∙◌, ℕ, suc, max, Bool, true, false, List, [], ◌∷◌, ◌++◌, map, None, Some, Result, Ok, Err, length, refl, ap, ap₂, sym, subst, arith, unwrap_or, not}
+use Rattle.std.proofs.Common.{◌≡◌, ◌≤◌, ◌<◌, ◌∙◌, ℕ, suc, max, Bool, true, false, List, [], ◌∷◌, ◌++◌, map, None, Some, Result, Ok, Err, length, refl, ap, ap₂, sym, subst, arith, unwrap_or, not, true≢false}
 use Rattle.std.specs.Prelude.{◌&&◌, ◌+◌, is_some, if◌then◌else◌, OnOk, OnErr}
 use Rattle.std.specs.List.{All}
 use Rattle.std.specs.Option.{option_map_or}
@@ -18,7 +18,7 @@ use Rattle.bay_model.specs.Lookups.{attr_of, groups_of, node_of}
 use Rattle.bay_model.specs.Model as model
 use Rattle.bay_model.specs.Model.{Model}
 use Rattle.bay_model.specs.Named.{configured_model}
-use Rattle.bay_model.specs.Notes.{note, note_by, noted, no_reason, reasons_of, union_of}
+use Rattle.bay_model.specs.Notes.{note, note_by, noted, no_reason, reasons_of, union, union_of}
 use Rattle.bay_model.specs.Outcomes.{Outcome, did, refused, outcome_by}
 use Rattle.bay_model.specs.Parameters.{bit, is_interrogation, is_purging_change, parameters_at, purges}
 use Rattle.bay_model.specs.Points.{Deed, Past, now, activated, copied, edited, confirmed, nothing}
@@ -36,7 +36,7 @@ use Rattle.value_store.specs.Stored.{Stored, attribute}
 use Rattle.value_store.proofs.StandLaws as values
 use Rattle.window_core.specs.Points.{at}
 use Rattle.setting_groups.specs.Frames.{IsComplete}
-use Rattle.setting_groups.specs.Grouped.{Grouped, after_copy, copy_answer, domain_at, holds, setting_at}
+use Rattle.setting_groups.specs.Grouped.{Grouped, after_copy, copy_answer, domain_at, edit_answer, holds, setting_at}
 use Rattle.setting_groups.specs.Loaded.{active_settings}
 use Rattle.setting_groups.specs.Parts.{after_part, part_answer, part_deed, told}
 use Rattle.setting_groups.specs.Standing.{IsTwin, Stands as GroupsStand}
@@ -63,14 +63,14 @@ use Rattle.bay_core.proofs.SingleLaws.{by-outcome, refused-write}
 -- ---- deeds of setting groups
 
 -- a deed that puts nothing, and breaks and changes no block
-record IsOfGroups (m : Model) (n t : ℕ) (d : Deed) (past : Past) : Type 0 where
-  silent : IsSilent m n t d past
-  rows : (rs : List Row) → rows_after d rs ≡ rs
-  block : (b front : ℕ) (k : Block) → after_deed b d front k ≡ k
-  general : (b : ℕ) → false ≡ is_interrogation b d
-  purge : (b : ℕ) → false ≡ purges m b d past
-  change : (b : ℕ) → false ≡ is_purging_change m b d past
-  cuts : (b : ℕ) → cuts m b d past ≡ false
+pub record IsOfGroups (m : Model) (n t : ℕ) (d : Deed) (past : Past) : Type 0 where
+  pub silent : IsSilent m n t d past
+  pub rows : (rs : List Row) → rows_after d rs ≡ rs
+  pub block : (b front : ℕ) (k : Block) → after_deed b d front k ≡ k
+  pub general : (b : ℕ) → false ≡ is_interrogation b d
+  pub purge : (b : ℕ) → false ≡ purges m b d past
+  pub change : (b : ℕ) → false ≡ is_purging_change m b d past
+  pub cuts : (b : ℕ) → cuts m b d past ≡ false
 
 of-act : (m : Model) (n t a d g : ℕ) (past : Past) → IsOfGroups m n t (activated a d g) past
 of-act m n t a d g past = record { silent = record { number = tt; puts = λ e. refl; sets = refl }; rows = λ rs. refl; block = λ b front k. refl; general = λ b. refl; purge = λ b. refl; change = λ b. refl; cuts = λ b. refl }
@@ -122,7 +122,7 @@ module _ (m : Model) (deed : Deed) (before : Past) (none : (x : ℕ) → gives m
 
   unions-none : (trg : List Bool) (xs : List ℕ) → union_of m trg deed before xs ≡ no_reason
   unions-none trg [] = refl
-  unions-none trg (x ∷ xs) = rw (reasons-none trg x, unions-none trg xs) refl
+  unions-none trg (x ∷ xs) = ap₂ union (reasons-none trg x) (unions-none trg xs)
 
   noted-none : (reasons : ℕ → Reasons) (past : Past) (i : ℕ) (ns : List ℕ) → ((k : ℕ) → reasons k ≡ no_reason) → noted m reasons past i ns ≡ []
   noted-none reasons past i [] are = refl
@@ -153,22 +153,29 @@ quiet-note m a d b n t CnfEdit v before none = by v none
 quiet-note m a d b n t LActTm v before none = refl
 
 -- of one that sets attributes
+no-code : (code : ℕ) (b : Bool) → ◌≡◌ {A = Result Bool ℕ} (Err code) (Ok b) → ⊥
+no-code code b is = cc
+
+none-told : (r : Result (Unit {0}) ℕ) → told false r ≡ Ok true → ⊥
+none-told (Ok u) is = cc
+none-told (Err code) is = cc
+
 set-note : (m : Model) (s : Grouped) (a d b n t : ℕ) (part : SettingComp) (v : Value) (before : Past) → part_answer a (domain_at s d) part v ≡ Ok true → note m b (at n t (part_deed a d part v)) before ≡ note_by m b (at n t (part_deed a d part v)) before
-set-note m s a d b n t NumOfSG v before is = cc
+set-note m s a d b n t NumOfSG v before is = absurd (no-code _ true is)
 set-note m s a d b n t ActSG v before is = refl
-set-note m s a d b n t EditSG v before is = cc
+set-note m s a d b n t EditSG v before is = absurd (none-told (edit_answer a (domain_at s d) v) is)
 set-note m s a d b n t CnfEdit (kinds.Bool true) before is = refl
-set-note m s a d b n t CnfEdit (kinds.Bool false) before is = let r = confirm-held a (domain_at s d).edit false true is in cc
-set-note m s a d b n t CnfEdit (kinds.Int z) before is = cc
-set-note m s a d b n t CnfEdit (kinds.Uint k) before is = cc
-set-note m s a d b n t CnfEdit (kinds.Bits bs) before is = cc
-set-note m s a d b n t CnfEdit (kinds.Time u) before is = cc
-set-note m s a d b n t CnfEdit (kinds.Stamp u) before is = cc
-set-note m s a d b n t CnfEdit (kinds.Text u) before is = cc
-set-note m s a d b n t CnfEdit (kinds.Octets o) before is = cc
-set-note m s a d b n t CnfEdit (kinds.Struct vs) before is = cc
-set-note m s a d b n t CnfEdit kinds.Other before is = cc
-set-note m s a d b n t LActTm v before is = cc
+set-note m s a d b n t CnfEdit (kinds.Bool false) before is = absurd (true≢false (confirm-held a (domain_at s d).edit false true is).1)
+set-note m s a d b n t CnfEdit (kinds.Int z) before is = absurd (no-code 7 true is)
+set-note m s a d b n t CnfEdit (kinds.Uint k) before is = absurd (no-code 7 true is)
+set-note m s a d b n t CnfEdit (kinds.Bits bs) before is = absurd (no-code 7 true is)
+set-note m s a d b n t CnfEdit (kinds.Time u) before is = absurd (no-code 7 true is)
+set-note m s a d b n t CnfEdit (kinds.Stamp u) before is = absurd (no-code 7 true is)
+set-note m s a d b n t CnfEdit (kinds.Text u) before is = absurd (no-code 7 true is)
+set-note m s a d b n t CnfEdit (kinds.Octets o) before is = absurd (no-code 7 true is)
+set-note m s a d b n t CnfEdit (kinds.Struct vs) before is = absurd (no-code 7 true is)
+set-note m s a d b n t CnfEdit kinds.Other before is = absurd (no-code 7 true is)
+set-note m s a d b n t LActTm v before is = absurd (no-code _ true is)
 
 -- ---- a state whose groups were written
 

@@ -1,10 +1,12 @@
 use Rattle.std.proofs.Common.{◌<◌, ◌≡◌, ℕ, length, ap, sym, subst, Result}
 use Rattle.std.specs.Prelude.{◌+◌}
+use Rattle.bay_model.specs.Lookups.{attr_of}
+use Rattle.bay_model.specs.Writes.{write_attribute}
 use Rattle.setting_groups.specs.Grouped.{Grouped}
 use Rattle.setting_groups.proofs.FirstLaws.{within}
 use Rattle.bay_core.specs.Asked.{IsWrite}
 use Rattle.bay_core.specs.State.{State}
-use Rattle.bay_core.proofs.GroupLaws.{copy_comes, copy-done, fit-done}
+use Rattle.bay_core.proofs.GroupLaws.{copy-done, fit-done}
 use Rattle.bay_core.proofs.bay.Bay.write_copy.Goals as goal
 
 pub write_se-requires-clause-domain : goal.write_se-requires-clause-domain
