@@ -10,6 +10,19 @@ use Rattle.bay_core.proofs.SettingLaws.{are-ready, furnished-all, have-members}
 use Rattle.bay_core.proofs.SingleLaws.{attribute_comes, attribute-refused, attribute-set, line-there, one-held}
 use Rattle.bay_core.proofs.bay.Bay.write_line.Goals as goal
 
+pub write-requires-clause-there : goal.write-requires-clause-there
+write-requires-clause-there c =
+    let s = c.self.inside in
+    let line : c.args.attr.0 < length s.model.attrs = subst (λ (t : State). c.args.attr.0 < length t.config.attrs) (sym c.self.view_is) c.requires.there in
+    line-there s.model s.values c.self.invariant.furnished.values c.args.attr.0 line
+
+pub write-requires-clause-room : goal.write-requires-clause-room
+write-requires-clause-room c =
+    let s = c.self.inside in
+    let fit = c.self.invariant.furnished in
+    let line : c.args.attr.0 < length s.model.attrs = subst (λ (t : State). c.args.attr.0 < length t.config.attrs) (sym c.self.view_is) c.requires.there in
+    omega (arith, line-there s.model s.values fit.values c.args.attr.0 line, fit.changes, c.clear.ensures.capacity)
+
 pub returns-in-Err-clause-written : goal.returns-in-Err-clause-written
 returns-in-Err-clause-written c = λ a.
     let s = c.self.inside in
