@@ -1,5 +1,5 @@
 -- Writes of setting groups: what the bay makes of them is what the definitions have.
-use Rattle.std.proofs.Common.{◌≡◌, ◌≤◌, ◌<◌, ◌∙◌, ℕ, suc, max, Bool, true, false, List, [], ◌∷◌, ◌++◌, map, None, Some, Result, Ok, Err, length, refl, ap, ap₂, sym, subst, arith, unwrap_or, not, true≢false}
+use Rattle.std.proofs.Common.{◌≡◌, ◌<◌, ◌∙◌, ℕ, suc, Bool, true, false, List, [], ◌∷◌, None, Result, Ok, Err, length, refl, ap, ap₂, sym, subst, arith, unwrap_or, not, true≢false}
 use Rattle.std.specs.Prelude.{◌&&◌, ◌+◌, is_some, if◌then◌else◌, OnOk, OnErr}
 use Rattle.std.specs.List.{All}
 use Rattle.std.specs.Option.{option_map_or}
@@ -11,7 +11,6 @@ use Rattle.bay_model.specs.declared.components.SettingComp.{SettingComp}
 use Rattle.bay_model.specs.declared.components.SettingComp.TheVariants.{NumOfSG, ActSG, EditSG, CnfEdit, LActTm}
 use Rattle.bay_model.specs.declared.flags.Change.{Change}
 use Rattle.bay_model.specs.declared.report.Reasons.{Reasons}
-use Rattle.bay_model.specs.declared.step.Setting.{Setting}
 use Rattle.bay_model.specs.declared.tables.NodeRow.{NodeRow}
 use Rattle.bay_model.specs.Breaks.{cuts}
 use Rattle.bay_model.specs.Lookups.{attr_of, groups_of, node_of}
@@ -21,7 +20,7 @@ use Rattle.bay_model.specs.Named.{configured_model}
 use Rattle.bay_model.specs.Notes.{note, note_by, noted, no_reason, reasons_of, union, union_of}
 use Rattle.bay_model.specs.Outcomes.{Outcome, did, refused, outcome_by}
 use Rattle.bay_model.specs.Parameters.{bit, is_interrogation, is_purging_change, parameters_at, purges}
-use Rattle.bay_model.specs.Points.{Deed, Past, now, activated, copied, edited, confirmed, nothing}
+use Rattle.bay_model.specs.Points.{Deed, Past, activated, copied, edited, confirmed, nothing}
 use Rattle.bay_model.specs.Sets.{members}
 use Rattle.bay_model.specs.Settings.{set_to}
 use Rattle.bay_model.specs.SettingWrites.{write_attribute, write_part}
@@ -47,7 +46,7 @@ use Rattle.setting_groups.proofs.PartLaws.{answered, confirm-held, copy-written,
 use Rattle.setting_groups.proofs.SettingLaws.{copies}
 use Rattle.setting_groups.proofs.StandLaws.{arrived}
 use Rattle.bay_config.specs.Servable.{IsServable}
-use Rattle.bay_values.specs.Changed.{AreMade, AreTyped, IsTyped, last_set}
+use Rattle.bay_values.specs.Changed.{AreMade, AreTyped, last_set}
 use Rattle.bay_values.specs.Held.{AreGrouped, AreHeld, IsSoundCell}
 use Rattle.bay_values.proofs.ChangeLaws.{IsThere, held-after}
 use Rattle.bay_values.proofs.GroupLaws.{active-typed, copy-sound}

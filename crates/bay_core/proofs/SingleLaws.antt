@@ -1,11 +1,11 @@
 -- Single writes: what the store and the blocks answer is what the definitions have.
-use Rattle.std.proofs.Common.{◌≡◌, ◌≤◌, ◌<◌, ◌∙◌, ℕ, zero, suc, Bool, true, false, not, List, [], ◌∷◌, ◌++◌, map, take, None, Some, Result, Ok, Err, length, refl, ap, ap₂, sym, subst, arith, unwrap_or, if◌then◌else◌, inl, inr, flat_map, ◌+◌}
-use Rattle.std.specs.Prelude.{slice_get, slice_set, ◌&&◌, nat_le, ◌==◌, ◌||◌, codes}
+use Rattle.std.proofs.Common.{◌≡◌, ◌<◌, ◌∙◌, ℕ, zero, suc, Bool, true, false, not, List, [], ◌∷◌, ◌++◌, map, take, None, Some, Result, Ok, Err, length, refl, ap, ap₂, sym, subst, arith, unwrap_or, if◌then◌else◌, inl, inr, flat_map, ◌+◌}
+use Rattle.std.specs.Prelude.{slice_get, slice_set, ◌&&◌, ◌==◌, ◌||◌, codes}
 use Rattle.std.specs.Option.{option_map}
 use Rattle.std.specs.Str.{bytes_eq}
 use Rattle.std.proofs.lemmas.List.{length-set, map-append}
 use Rattle.std.proofs.Common.{length-append}
-use Rattle.std.proofs.lemmas.Bool.Decides.{eqb_tells, nat_tests}
+use Rattle.std.proofs.lemmas.Bool.Decides.{eqb_tells}
 use Rattle.std.proofs.lemmas.List.Elements.{All-nil, All-cons}
 use Rattle.list_laws.proofs.Options.{some_is}
 use Rattle.list_laws.proofs.Places.{at_own, same-number}
@@ -16,7 +16,6 @@ use Rattle.sv_base.specs.declared.numbers.NodeId.{NodeId}
 use Rattle.bay_model.specs.declared.request.Write.{Write}
 use Rattle.sv_base.specs.declared.config.Config.{Config}
 use Rattle.sv_base.specs.declared.config.AttrDef.{AttrDef}
-use Rattle.sv_base.specs.declared.config.CtlDef.{CtlDef}
 use Rattle.sv_base.specs.Same.{is_same}
 use Rattle.sv_base.specs.declared.numbers.AssocNo.{AssocNo}
 use Rattle.sv_base.specs.declared.value.Value.{Value}
@@ -30,7 +29,7 @@ use Rattle.bay_replies.specs.Plain.{HasGroups, IsPlainRole}
 use Rattle.bay_replies.proofs.NodeLaws.{each-among, node-plain}
 use Rattle.bay_model.specs.declared.flags.Change.{Change}
 use Rattle.bay_model.specs.declared.tables.NodeRow.{NodeRow}
-use Rattle.bay_model.specs.Attributes.{access_of, attributes, attr_defined, attrs_defined, attrs_generated, twins}
+use Rattle.bay_model.specs.Attributes.{access_of, attributes, attrs_defined, attrs_generated, twins}
 use Rattle.bay_model.specs.BlockWrites.{write_component}
 use Rattle.bay_model.specs.Lookups.{attr_of, node_of, no_attr}
 use Rattle.bay_model.specs.Model as model
@@ -38,10 +37,10 @@ use Rattle.bay_model.specs.Model.{Model, Access, Attr, Role}
 use Rattle.bay_model.specs.Named.{configured_model}
 use Rattle.bay_model.specs.NamedLines.{domain_number}
 use Rattle.bay_model.specs.Outcomes.{Outcome, did, refused, deed_of, code_of}
-use Rattle.bay_model.specs.Points.{Deed, Past, put, copied}
-use Rattle.bay_model.specs.Settings.{edit, is_held_by, set_to}
+use Rattle.bay_model.specs.Points.{Deed, Past, put}
+use Rattle.bay_model.specs.Settings.{set_to}
 use Rattle.bay_model.specs.Writes.{write_node, write_role}
-use Rattle.bay_model.specs.SettingWrites.{attribute_refusals, holds_edit, write_attribute}
+use Rattle.bay_model.specs.SettingWrites.{attribute_refusals, write_attribute}
 use Rattle.bay_model.specs.Outcomes.{first_code}
 use Rattle.bay_model.specs.Singles.{Single, writes, write_of, writes_of, arrival, outcome_at, outcome_of, outcomes, after_single, after_singles}
 use Rattle.value_store.specs.declared.fault.SetFault.{SetFault}

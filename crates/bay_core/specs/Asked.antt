@@ -1,6 +1,6 @@
 -- What a request makes of a bay: its reply, and the bay behind its single reads and writes, at the arrival of the reply's point
 -- (ISO 9506-2, the confirmed services).
-use Rattle.std.specs.Prelude.{◌≡◌, ℕ, List, [], ◌∷◌, ◌<◌, length, Bool, true, false, Option, Result, map, if◌then◌else◌}
+use Rattle.std.specs.Prelude.{◌≡◌, ℕ, List, [], ◌∷◌, ◌<◌, length, true, Option, Result, map}
 use Rattle.sv_base.specs.declared.config.Config.{Config}
 use Rattle.bay_model.specs.declared.answer.Output.{Output}
 use Rattle.bay_model.specs.declared.reply.Reply.{Reply}

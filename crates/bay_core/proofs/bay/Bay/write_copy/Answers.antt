@@ -1,8 +1,7 @@
-use Rattle.std.proofs.Common.{◌<◌, ◌≡◌, ℕ, length, ap, sym, subst, Result}
+use Rattle.std.proofs.Common.{◌<◌, length, sym, subst}
 use Rattle.std.specs.Prelude.{◌+◌}
 use Rattle.bay_model.specs.Lookups.{attr_of}
 use Rattle.bay_model.specs.Writes.{write_attribute}
-use Rattle.setting_groups.specs.Grouped.{Grouped}
 use Rattle.setting_groups.proofs.FirstLaws.{within}
 use Rattle.bay_core.specs.Asked.{IsWrite}
 use Rattle.bay_core.specs.State.{State}

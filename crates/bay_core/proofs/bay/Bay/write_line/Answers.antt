@@ -3,7 +3,7 @@ use Rattle.std.proofs.lemmas.List.{length-set}
 use Rattle.bay_model.specs.declared.flags.Change.{Change}
 use Rattle.value_store.specs.Stored.{Stored, attribute, with_value}
 use Rattle.report_block.specs.declared.block.ReportBlock.{ReportBlock}
-use Rattle.bay_core.specs.Asked.{IsWrite, set_code}
+use Rattle.bay_core.specs.Asked.{IsWrite}
 use Rattle.bay_core.specs.Events.{AreReady, after_events}
 use Rattle.bay_core.specs.State.{State, IsFurnished}
 use Rattle.bay_core.proofs.SettingLaws.{are-ready, furnished-all, have-members}

@@ -69,7 +69,7 @@ write_part-requires c =
     let s = c.self.inside in
     let fit = c.self.invariant.furnished in
     let some : HasGroups s.model c.in-Setting.domain = subst (λ (w : What). IsPlainRole (length (attributes s.model)) (length s.model.blocks) (HasGroups s.model) (role_seen w)) c.in-Setting.is (role-told s.model c.args.node.0 c.role_of.result fit.servable.controls fit.servable.grouped c.role_of.ensures) in
-    subst (λ (t : State). HasGroups t.config c.in-Setting.domain) c.self.view_is some
+    record { grouped = subst (λ (t : State). HasGroups t.config c.in-Setting.domain) c.self.view_is some }
 
 pub returns-in-Setting-clause-written : goal.returns-in-Setting-clause-written
 returns-in-Setting-clause-written c =

@@ -1,16 +1,15 @@
-use Rattle.std.proofs.Common.{rules, ◌≡◌, ◌<◌, ◌∙◌, ℕ, Bool, true, false, not, List, Ok, Err, Result, length, ap, ap₂, sym, subst, arith, refl, vec_capacity}
+use Rattle.std.proofs.Common.{rules, ◌≡◌, ◌<◌, ◌∙◌, ℕ, List, Ok, Err, ap, ap₂, sym, subst, arith, vec_capacity}
 use Rattle.bay_model.specs.Lookups.{groups_of}
 use Rattle.bay_model.specs.Named.{configured_model}
 use Rattle.bay_model.specs.Writes.{write_part}
 use Rattle.bay_model.specs.declared.flags.Change.{Change}
 use Rattle.value_store.specs.Stored.{Stored, attribute}
 use Rattle.report_block.specs.declared.block.ReportBlock.{ReportBlock}
-use Rattle.setting_groups.specs.Grouped.{Grouped, domain_at}
+use Rattle.setting_groups.specs.Grouped.{Grouped}
 use Rattle.setting_groups.specs.Loaded.{active_settings}
-use Rattle.setting_groups.specs.Parts.{after_part, part_answer}
 use Rattle.touch_index.proofs.GatherLaws.{once_where_distinct}
 use Rattle.bay_values.specs.Changed.{AreDistinct, AreMade, last_set}
-use Rattle.bay_values.specs.Held.{AreGrouped, AreHeld}
+use Rattle.bay_values.specs.Held.{AreGrouped}
 use Rattle.bay_values.proofs.GroupLaws.{loadable}
 use Rattle.bay_core.specs.Asked.{IsWrite}
 use Rattle.bay_core.specs.Events.{AreReady, after_events}
