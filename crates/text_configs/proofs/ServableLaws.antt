@@ -29,6 +29,7 @@ use Rattle.data_sets.specs.Opening.{AreNamed}
 use Rattle.text_sets.proofs.NamedLaws.{sets-named}
 use Rattle.bay_config.specs.Servable.{IsMember, IsReferred, IsServedSet, IsServedBlock, HasSoundValues, IsServable}
 use Rattle.list_laws.proofs.Among.{Among, all-of, mapped, source}
+use Rattle.text_configs.proofs.GroupLaws.{are-grouped}
 use Rattle.text_configs.proofs.FindLaws.{found, domain-there}
 use Rattle.text_configs.proofs.NamedLaws.{bytes-same, not-not}
 use Rattle.text_configs.proofs.StandLaws.{IsPlainText, plain-text, nodes-read}
@@ -122,6 +123,7 @@ module _ (told : List Line) (text : List ℕ) (are : AreLines text told) (found_
   served names = record {
     controls = controls;
     groups = groups;
+    grouped = are-grouped told text are;
     storable = record {
       lines = all-of (λ a. HasValue a (place_in (config_of told) a)) (config_of told).attrs (λ a i. subst (HasValue a) (place-first a i) (has-value a i));
       twins = all-of (λ a. HasValue a 0) (config_of told).attrs has-value;
