@@ -43,11 +43,3 @@ largest-counted (types.Octets n) h = omega arith
 largest-counted types.Stamp h = absurd h
 largest-counted types.EntryId h = absurd h
 largest-counted (types.Struct f) h = absurd h
-
--- the one value of an attribute
-pub first-value : (a : AttrDef) → IsType a.kind → AreOfType a.kind (values_of a.values) → length (values_of a.values) ≡ 1 → HasValue a 0
-first-value a t h one = by (values_of a.values) refl h one
-  where
-    by : (vs : List Value) → values_of a.values ≡ vs → AreOfType a.kind vs → length vs ≡ 1 → HasValue a 0
-    by [] e h one = absurd (omega (arith, one))
-    by (v ∷ vs) e h one = record { settable = settable a.kind t; value = v; there = ap (λ l. slice_get l 0) e; kind = of-kind a.kind v h.0; range = in-range a.kind v t h.0 }
