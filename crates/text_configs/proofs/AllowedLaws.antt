@@ -1,10 +1,10 @@
 -- Each node of a text's configuration that may be a member of a data set can be one, and has a short reference.
-use Rattle.std.proofs.Common.{◌≡◌, ℕ, zero, suc, ◌+◌, ◌<◌, ◌≤◌, ◌==◌, ◌&&◌, ◌⊎◌, inl, inr, Bool, true, false, List, [], ◌∷◌, ◌++◌, length, map, unwrap_or, nat_le, slice_get, refl, sym, ap, ap₂, subst, ◌∙◌, arith, append_assoc, append-nil, true≢false, length-append}
+use Rattle.std.proofs.Common.{◌≡◌, ℕ, zero, suc, ◌≤◌, ◌==◌, ◌&&◌, ◌⊎◌, inl, inr, true, false, List, [], ◌∷◌, ◌++◌, length, map, unwrap_or, nat_le, slice_get, refl, sym, ap, ap₂, subst, ◌∙◌, arith, append_assoc, append-nil, true≢false, length-append}
 use Rattle.std.specs.List.{list_all, list_any}
 use Rattle.std.specs.Prelude.{codes}
 use Rattle.std.specs.Str.{bytes_eq}
 use Rattle.std.proofs.lemmas.Bool.{and_parts}
-use Rattle.std.proofs.lemmas.Bool.Decides.{eqb_tells, nat_tests}
+use Rattle.std.proofs.lemmas.Bool.Decides.{nat_tests}
 use Rattle.std.proofs.lemmas.List.{append_cancel_left}
 use Rattle.list_laws.proofs.Distinct.{octets_same}
 use Rattle.sv_base.specs.declared.config.Config.{Config}
@@ -22,9 +22,8 @@ use Rattle.bay_model.specs.NamedLines as named
 use Rattle.bay_model.specs.NameTree.{below, first_name, grown, is_itself, longest, own_type, rest_of, role_of}
 use Rattle.bay_model.specs.Named.{configured_model, nodes, places_in}
 use Rattle.bay_model.specs.Places.{Place, are_data, constraint, is_data_role, largest, may_be_member, member_constraints, node_at, place, places}
-use Rattle.bay_model.specs.Reports.{reference_at}
 use Rattle.text_words.specs.Names.{is_fc, is_letter, is_name, is_name_octet}
-use Rattle.bay_config.specs.Servable.{IsMember, IsShortMember, attr_type}
+use Rattle.bay_config.specs.Servable.{IsShortMember, attr_type}
 use Rattle.list_laws.proofs.Among.{Among, At, at-among, of-each, some-passes}
 use Rattle.text_configs.proofs.JoinedLaws.{NoDollar, first, rest, rest-alone, split-at}
 use Rattle.text_configs.proofs.NamedLaws.{IsFirst, IsPlaced, first-of, below-of, placed, place_at, deeper}
@@ -37,7 +36,7 @@ use Rattle.text_configs.proofs.DepthLaws.{IsUnder, under}
 use Rattle.text_configs.proofs.OrderLaws.{IsOne, named-in, within-longest}
 use Rattle.text_configs.proofs.BelowLaws.{IsTold, all-entries, apart-here, entries-below, longer-here}
 use Rattle.text_configs.proofs.FindLaws.{domain-of}
-use Rattle.text_configs.proofs.MemberLaws.{IsFit, member-of, node-at-place}
+use Rattle.text_configs.proofs.MemberLaws.{member-of, node-at-place}
 
 -- ---- items
 

@@ -11,7 +11,7 @@ use Rattle.bay_model.specs.NameTree.{first_name, rest_of, is_itself, below, firs
 use Rattle.bay_model.specs.Places.{Place, place, places, is_data_role, are_data}
 use Rattle.list_laws.proofs.Among.{Among, kept}
 use Rattle.text_configs.proofs.JoinedLaws.{first, rest, rest-alone, split-at}
-use Rattle.text_configs.proofs.NamedLaws.{IsFirst, IsPlaced, first-of, is-first, below-of, is-below, not-not, place_at, deeper, forest, placed, is-placed, is-deeper}
+use Rattle.text_configs.proofs.NamedLaws.{IsFirst, IsPlaced, first-of, is-first, below-of, is-below, place_at, deeper, forest, placed, is-placed, is-deeper}
 use Rattle.text_configs.proofs.PlaceLaws.{first-without}
 
 abbrev pub is_held : Named → Bool

@@ -1,15 +1,10 @@
 -- The values that a text gives its attributes: their types can be set, and hold the first value.
-use Rattle.std.proofs.Common.{◌≡◌, ℕ, ◌≤◌, inl, inr, List, [], ◌∷◌, length, slice_get, refl, sym, ap, subst, arith}
-use Rattle.sv_base.specs.Same.{values_of}
-use Rattle.sv_base.specs.declared.value.Value.{Value}
+use Rattle.std.proofs.Common.{◌≡◌, inl, inr, sym, subst, arith}
 use Rattle.sv_base.specs.declared.types.TypeOf.{TypeOf}
 use Rattle.sv_base.specs.declared.types.TypeOf.TheVariants as types
-use Rattle.sv_base.specs.declared.config.AttrDef.{AttrDef}
 use Rattle.bay_rooms.specs.Slots.{IsSettable}
 use Rattle.bay_model.specs.Places.{largest}
-use Rattle.value_store.specs.Opened.{HasValue}
-use Rattle.text_words.specs.Grammar.{IsType, AreOfType}
-use Rattle.text_values.proofs.ValueLaws.{of-kind, in-range}
+use Rattle.text_words.specs.Grammar.{IsType}
 use Rattle.cfg_lines.specs.Sizes.{most_octets}
 
 pub settable : (k : TypeOf) → IsType k → IsSettable k
