@@ -6,7 +6,6 @@ use Rattle.std.specs.Str.{bytes_eq}
 use Rattle.sv_base.specs.declared.config.Config.{Config}
 use Rattle.bay_model.specs.Named.{configured_model}
 use Rattle.bay_model.specs.Acceptance.{Fault, IsOpen, NotOpen, NotYours, QueueFull, fault, IsHistory}
-use Rattle.answer_text.specs.declared.shape.Shape.{Shape}
 use Rattle.bay_model.specs.declared.step.Step.{Step}
 use Rattle.text_words.specs.Octets.{is_skipped}
 use Rattle.text_words.specs.Words.{words_of}
@@ -31,7 +30,7 @@ use Rattle.record_outcome.specs.Steps.{accepted, played, told_at, step_at}
 use Rattle.record_outcome.specs.Records.{Outcome, limit, most_lines, pieces, refused_before, passed, missing, has_begun, unended, ended, lines_at, line_at, behind, moved, run, outcome}
 use Rattle.record_outcome.specs.declared.status.Status.{Status}
 use Rattle.record_outcome.specs.declared.status.Status.TheVariants as statuses
-use Rattle.record_outcome.specs.Written.{IsAccepted, IsUnplayed, MeetsFull, HasCause, StopsBehind, end_of, IsWritten, TextIsOfHistory, WritesHistory}
+use Rattle.record_outcome.specs.Written.{IsAccepted, IsUnplayed, MeetsFull, StopsBehind, end_of, IsWritten, TextIsOfHistory, WritesHistory}
 use Rattle.record_outcome.specs.Judgements.{Answers}
 
 abbrev Of : Type 0
