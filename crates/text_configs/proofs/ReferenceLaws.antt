@@ -127,8 +127,8 @@ module _ (c : Config) (told : IsTold c) where
       let path : names_in a.path ≡ b ∷ (more ++ behind) = tails a.fc fc (names_in a.path) (b ∷ (more ++ behind)) (tails a.ln ln (a.fc ∷ names_in a.path) (fc ∷ b ∷ (more ++ behind)) goes) in
       let begins : first a.path ≡ s.0 = ap first (sym (path-joined a.path) ∙ ap joined path) ∙ (first-joined b (more ++ behind) plain.1.1.0.1 ∙ sym name) in
       let held = held-place two.depth (below fc (below ln ns)) before p s.0 s.1 (λ n j is. beside-block c told domain ln fc known a here of_domain
-          (heads a.ln ln (a.fc ∷ names_in a.path) (fc ∷ b ∷ (more ++ behind)) goes)
-          (heads a.fc fc (names_in a.path) (b ∷ (more ++ behind)) (tails a.ln ln (a.fc ∷ names_in a.path) (fc ∷ b ∷ (more ++ behind)) goes)) n j (begins ∙ is)) in
+      (heads a.ln ln (a.fc ∷ names_in a.path) (fc ∷ b ∷ (more ++ behind)) goes)
+      (heads a.fc fc (names_in a.path) (b ∷ (more ++ behind)) (tails a.ln ln (a.fc ∷ names_in a.path) (fc ∷ b ∷ (more ++ behind)) goes)) n j (begins ∙ is)) in
       let all = all-entries c told domain ln fc known in
       let among : Among p (places before (grown (suc two.depth) (map (named_of (attr_type c)) all.entries))) = subst (λ ms. Among p (places before (grown (suc two.depth) ms))) all.named held in
       let under = entries-below c told domain ln fc known 10 (omega arith) all.entries all.each in
