@@ -1,6 +1,5 @@
--- Which configurations a bay serves: as a configuration's text has them, without controls and setting groups. The bay itself asks only
--- that the groups be those of a text (`grouped`).
--- (IEC 61850-7-2, DATA-SET and BRCB attributes).
+-- Which configurations a bay serves: as a configuration's text has them, without controls (IEC 61850-7-2, DATA-SET, BRCB and SGCB
+-- attributes).
 use Rattle.std.specs.Prelude.{◌≡◌, ◌<◌, ◌≤◌, ◌⊎◌, ℕ, true, List, [], map, length, is_some, slice_index_or}
 use Rattle.std.specs.List.{All}
 use Rattle.sv_base.specs.Fields.{shape_of}
@@ -62,7 +61,6 @@ HasSoundValues a = All (λ v. is_sound v ≡ true) (values_of a.values)
 
 pub record IsServable (c : Config) : Type 0 where
   pub controls : c.controls ≡ []
-  pub groups : c.groups ≡ []
   pub grouped : IsGrouped c
   pub storable : IsStorable c
   pub sound : All HasSoundValues c.attrs

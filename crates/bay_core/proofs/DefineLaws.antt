@@ -153,7 +153,7 @@ whole-defined c stored groups book s parts w v octets room latest dues events ne
       };
       quiet = whole.quiet;
       grouped = whole.grouped;
-  roomy = whole.roomy;
+      roomy = whole.roomy;
     }
 
 -- more room alone leaves a bay whole
@@ -180,7 +180,7 @@ whole-roomier c stored groups book parts w v octets room latest dues events same
       };
       quiet = whole.quiet;
       grouped = whole.grouped;
-  roomy = whole.roomy;
+      roomy = whole.roomy;
     }
 
 -- ---- what is asked of a definition

@@ -481,9 +481,15 @@ const JUDGED: [Row; 39] = [
     ),
     (
         "configurations",
-        "# a remark\nrecord 1\nconfig 1\nserver a b c\nld A\nln LLN0\nsgcb 2 1\nend\n",
-        Status::Record { line: 7, kind: 9 },
+        "# a remark\nrecord 1\nconfig 1\nserver a b c\nld A\nln LLN0\nsgcb 2 1\nctl Pos 4 5000 0 bool\nend\n",
+        Status::Record { line: 8, kind: 9 },
         "",
+    ),
+    (
+        "configurations",
+        "record 1\nconfig 1\nserver a b c\nld A\nln LLN0\nsgcb 2 1\nattr SG S$setMag int32 d 10 20\nend\ntake 1\nend\n",
+        Status::Ok,
+        "1 closed\nend\n",
     ),
     (
         "configurations",

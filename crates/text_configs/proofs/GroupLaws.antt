@@ -1,6 +1,6 @@
 -- What a text tells of its setting groups, and of its attributes, which under SG have a value for each group.
-use Rattle.std.proofs.Common.{◌≡◌, ℕ, ◌+◌, ◌≤◌, ◌⊎◌, inl, inr, Bool, true, false, List, [], ◌∷◌, ◌++◌, length, is_some, refl, sym, ap, subst, ◌∙◌, arith, true≢false, length-append, cond, None, Some, unwrap_or, if◌then◌else◌}
-use Rattle.std.specs.Prelude.{codes, position}
+use Rattle.std.proofs.Common.{◌≡◌, ℕ, zero, suc, ◌+◌, ◌-◌, ◌<◌, ◌≤◌, ◌⊎◌, inl, inr, Bool, true, false, List, [], ◌∷◌, ◌++◌, length, is_some, refl, sym, ap, subst, ◌∙◌, arith, true≢false, length-append, cond, None, Some, unwrap_or, if◌then◌else◌}
+use Rattle.std.specs.Prelude.{codes, position, slice_get, slice_index_or}
 use Rattle.std.specs.Option.{option_map, option_or}
 use Rattle.std.specs.List.{find, list_any}
 use Rattle.std.specs.Str.{bytes_eq}
@@ -13,6 +13,7 @@ use Rattle.sv_base.specs.declared.config.AttrDef.{AttrDef}
 use Rattle.sv_base.specs.declared.config.SgDef.{SgDef}
 use Rattle.sv_base.specs.declared.types.TypeOf.{TypeOf}
 use Rattle.sv_base.specs.declared.value.Value.{Value}
+use Rattle.sv_base.specs.declared.value.Value.TheVariants as kinds
 use Rattle.bay_model.specs.Configured.{groups_defined, with_domain, domains_after}
 use Rattle.bay_model.specs.Model.{Groups}
 use Rattle.bay_model.specs.NamedLines.{is_setting, domains}
@@ -27,6 +28,7 @@ use Rattle.cfg_grammar.specs.Follows.{value_count, IsAttribute}
 use Rattle.cfg_lines.specs.declared.line.Line.{Line}
 use Rattle.cfg_lines.specs.declared.line.Line.TheVariants as lines
 use Rattle.list_laws.proofs.Among.{Among, all-of, left, right, ending, passes}
+use Rattle.value_store.specs.Opened.{HasValue, place_in}
 use Rattle.setting_groups.specs.Opened.{HasValues, IsHeld, IsSetting, IsGrouped}
 use Rattle.text_configs.proofs.FindLaws.{found, domain-there}
 use Rattle.text_configs.proofs.NamedLaws.{bytes-same}
@@ -69,7 +71,7 @@ is-of d g = bytes_eq d g.domain
 abbrev key : List ℕ → List ℕ
 key d = group_key d (codes "LLN0")
 
-group-claimed : (told : List Line) (g : SgDef) → Among g (config_of told).groups → Among (key g.domain) (claims told)
+pub group-claimed : (told : List Line) (g : SgDef) → Among g (config_of told).groups → Among (key g.domain) (claims told)
 group-claimed [] g i = absurd i
 group-claimed (lines.Sgcb groups ∷ before) g i = by (ending g (config_of before).groups groups i) (group-claimed before g)
   where
@@ -264,3 +266,51 @@ are-grouped told text are = let c : Config = config_of told in record {
 
 pub texts-are-grouped : (text : List ℕ) (c : Config) → SpellsConfig text c → IsGrouped c
 texts-are-grouped text c h = subst IsGrouped (sym h.makes) (are-grouped h.told text h.are)
+
+-- ---- the value that an attribute begins with
+
+got : (vs : List Value) (p : ℕ) (d : Value) → p < length vs → slice_get vs p ≡ Some (slice_index_or vs p d)
+got [] p d below = absurd (omega (arith, below))
+got (v ∷ vs) zero d below = refl
+got (v ∷ vs) (suc p) d below = got vs p d (omega (arith, below))
+
+value-at : (a : AttrDef) (p : ℕ) → HasValues a → p < length (values_of a.values) → HasValue a p
+value-at a p h below = let held = h.held p kinds.Other below in record {
+  settable = held.settable;
+  value = slice_index_or (values_of a.values) p kinds.Other;
+  there = got (values_of a.values) p kinds.Other below;
+  kind = held.kind;
+  range = held.range;
+}
+
+active-within : (gs : List SgDef) (d : List ℕ) → ((g : SgDef) → Among g gs → IsActive g) → 0 < (groups_defined gs d).count → (groups_defined gs d).active - 1 < (groups_defined gs d).count
+active-within [] d h some = absurd (omega (arith, some))
+active-within (g ∷ gs) d h some = by (bytes_eq d g.domain) some (active-within gs d (λ k i. h k (inr i)))
+  where
+    of : Bool → Groups
+    of b = unwrap_or (option_map groups_told (cond b (Some g) (find (is-of d) gs))) no_groups
+
+    by : (b : Bool) → 0 < (of b).count → (0 < (groups_defined gs d).count → (groups_defined gs d).active - 1 < (groups_defined gs d).count) → (of b).active - 1 < (of b).count
+    by true some go = omega (arith, (h g (inl refl)).0, (h g (inl refl)).1)
+    by false some go = go some
+
+module _ (told : List Line) (text : List ℕ) (are : AreLines text told) where
+  values-told : (a : AttrDef) → Among a (config_of told).attrs → HasValues a
+  values-told a i = (attrs-valued told text are a i).values
+
+  pub first-value : (a : AttrDef) → Among a (config_of told).attrs → HasValue a 0
+  first-value a i = value-at a 0 (values-told a i) (values-told a i).some
+
+  pub begins : (a : AttrDef) → Among a (config_of told).attrs → HasValue a (place_in (config_of told) a)
+  begins a i = by (is_setting a) refl
+    where
+      groups : Groups
+      groups = groups_defined (config_of told).groups a.domain
+
+      within : is_setting a ≡ true → groups.active - 1 < length (values_of a.values)
+      within is = let s = is-a-setting (config_of told) a (attrs-valued told text are a i) is in
+          omega (arith, s.values, active-within (config_of told).groups a.domain (groups-read told text are) s.some)
+
+      by : (b : Bool) → is_setting a ≡ b → HasValue a (if b then groups.active - 1 else 0)
+      by true is = value-at a (groups.active - 1) (values-told a i) (within is)
+      by false is = first-value a i

@@ -123,7 +123,7 @@ invariant_of-self c =
       quiet = subst (λ (dues : List (Option ℕ)). AreQuietUntil s.latest dues (slice_set parts b new)) (sym c.put.ensures)
           (quiet-set s.latest s.dues parts b c.due_at-due.result new (λ now before. subst (IsBefore now) c.due_at-due.ensures before) c.self.invariant.quiet);
       grouped = c.self.invariant.grouped;
-  roomy = c.self.invariant.roomy;
+      roomy = c.self.invariant.roomy;
     }
 
 pub returns-clause-answer : goal.returns-clause-answer
