@@ -1,0 +1,4 @@
+-- The laws of a rehearsal's input.
+pub mod TellLaws
+pub mod RunLaws
+pub mod SoundLaws

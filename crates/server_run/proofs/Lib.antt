@@ -1,0 +1,3 @@
+-- The laws of rehearsals.
+pub mod CastLaws
+pub mod RaceLaws

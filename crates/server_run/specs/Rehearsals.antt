@@ -1,0 +1,70 @@
+-- What a rehearsal writes, and the causes of its statuses.
+use Rattle.std.specs.Prelude.{◌≡◌, ◌⊎◌, ℕ, List, [], ◌++◌, Option, None, Some, Result, Ok, Err}
+use Rattle.std.specs.Io.KnownBytes.{Appends}
+use Rattle.std.specs.declared.alloc.Global.{Global}
+use Rattle.std.specs.Prelude.{Vec}
+use Rattle.sv_io.specs.Causes.{GrowsByFront}
+use Rattle.bay_model.specs.Answers.{History}
+use Rattle.history_lock.specs.Histories.{IsLegal, IsShuffle}
+use Rattle.record_outcome.specs.declared.status.Status.{Status}
+use Rattle.record_outcome.specs.declared.status.Status.TheVariants as statuses
+use Rattle.script_reading.specs.Plans.{Plan, turns_of}
+use Rattle.script_reading.specs.Inputs.{Outcome, refused, ready}
+use Rattle.script_threads.specs.Races.{actors, IsRaced}
+use Rattle.script_threads.specs.declared.part.Part.{Part}
+use Rattle.script_threads.specs.declared.script.Script.{Script as Part_}
+use Rattle.merged_records.specs.Merged.{book_of, record_of, answers_to}
+use Rattle.merged_records.specs.ReadBack.{IsReadBack}
+use Rattle.server_run.specs.Casting.{AreOfPlan}
+use Rattle.server_run.specs.Verdicts.{lowest_full}
+
+-- the most octets that are read of an input, one more than any has
+abbrev pub most : ℕ
+most = 67108865
+
+-- threads made this history: each step was accepted after those before it, and it is a shuffle of the whole scripts of the plan
+abbrev pub IsMade : Plan → History → Type 0
+IsMade p h = IsLegal p.config h × IsShuffle actors (turns_of p) h
+
+-- the record that the scripts made in a history, and its answers; it is read back as that history
+pub record IsWritten (p : Plan) (octets : List ℕ) : Type 0 where
+  pub history : History
+  pub made : IsMade p history
+  pub octets_ : octets ≡ record_of p history ++ answers_to p history
+  pub back : IsReadBack p history
+
+-- In a history that has of each script a beginning and no other step, the next turn of the script to which this line belongs was
+-- answered that its queue is full; no lower line's turn was.
+pub record MeetsFull (p : Plan) (line : ℕ) : Type 0 where
+  pub history : History
+  pub scripts : List Part_
+  pub are : AreOfPlan p scripts
+  pub parts : List Part
+  pub raced : IsRaced p.config scripts parts history
+  pub lowest : lowest_full (book_of p) parts ≡ Some line
+
+-- the performance of a plan: its record, or the status with which it ends
+abbrev pub Performs : Plan → Result (Vec ℕ Global) Status → Type 0
+Performs p (Ok out) = IsWritten p out.items
+Performs p (Err (statuses.Limit which line)) = (which ≡ 2) × MeetsFull p line
+Performs p (Err _) = ⊥
+
+-- of an input that comes to this
+abbrev pub PerformsInput : Outcome → Result (Vec ℕ Global) Status → Type 0
+PerformsInput o (Ok out) = (p : Plan) × (o ≡ ready p) × IsWritten p out.items
+PerformsInput o (Err (statuses.Record line kind)) = o ≡ refused (statuses.Record line kind)
+PerformsInput o (Err (statuses.Config line kind)) = o ≡ refused (statuses.Config line kind)
+PerformsInput o (Err (statuses.Limit which line)) = (o ≡ refused (statuses.Limit which line)) ⊎ ((p : Plan) × (o ≡ ready p) × (which ≡ 2) × MeetsFull p line)
+PerformsInput o (Err _) = ⊥
+
+-- The status has its cause in what the input comes to, and this is what the sink took: nothing unless all turns went.
+abbrev pub Rehearses : Outcome → Status → Option (List ℕ) → Option (List ℕ) → Type 0
+Rehearses o statuses.Ok old new = (p : Plan) × (octets : List ℕ) × (o ≡ ready p) × IsWritten p octets × Appends old new octets
+Rehearses o statuses.WriteFault old new = (p : Plan) × (octets : List ℕ) × (o ≡ ready p) × IsWritten p octets × GrowsByFront old new octets
+Rehearses o (statuses.Record line kind) old new = (o ≡ refused (statuses.Record line kind)) × Appends old new []
+Rehearses o (statuses.Config line kind) old new = (o ≡ refused (statuses.Config line kind)) × Appends old new []
+Rehearses o (statuses.Limit which line) old new =
+    ((o ≡ refused (statuses.Limit which line)) ⊎ ((p : Plan) × (o ≡ ready p) × (which ≡ 2) × MeetsFull p line)) × Appends old new []
+Rehearses o statuses.Memory old new = Appends old new []
+Rehearses o statuses.ReadFault old new = Appends old new []
+Rehearses o statuses.Words old new = ⊥

@@ -1,0 +1,16 @@
+//! Rehearsals: scripts race over one bay, and what they made is written as a record with its answers.
+#![tactic(auto)]
+
+// the actors of a plan
+mod casting;
+
+// what came of their race
+mod verdict;
+
+// the whole
+mod rehearse;
+
+pub use rehearse::{rehearse, rehearse_gated};
+
+#[cfg(test)]
+mod tests;

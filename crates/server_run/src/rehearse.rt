@@ -1,0 +1,197 @@
+//! A rehearsal.
+
+ghost use Rattle.std.specs.Prelude.{◌≡◌, ◌≢◌, ◌≤◌, ℕ, [], length, take, map, IfOk, IfSome};
+ghost use Rattle.std.specs.List.{All};
+ghost use Rattle.bay_config.specs.Servable.{IsServable};
+ghost use Rattle.bay_model.specs.Answers.{History as TheHistory};
+ghost use Rattle.record_steps.specs.Forms.{IsSized};
+ghost use Rattle.replay_run.specs.Tool.{TakesAtMost};
+ghost use Rattle.sv_io.specs.Causes.{Rose};
+ghost use Rattle.script_reading.specs.Inputs.{outcome};
+ghost use Rattle.script_reading.specs.Readings.{plan_seen};
+ghost use Rattle.script_reading.specs.Sound.{IsSound};
+ghost use Rattle.script_reading.specs.declared.line.StepLine.{StepLine as TheLine};
+ghost use Rattle.script_threads.specs.Dealing.{AreFalling, CanPlay};
+ghost use Rattle.script_threads.specs.Races.{IsRaced};
+ghost use Rattle.script_threads.specs.declared.made.Made.{Made as TheMade};
+ghost use Rattle.bay_model.specs.Points.{least_moment};
+ghost use Rattle.std.specs.Prelude.{◌++◌, Some, codes};
+ghost use Rattle.merged_records.specs.Merged.{line_of, book_seen, merged, record_with, answered};
+ghost use Rattle.server_run.specs.Rehearsals.{most, Performs, PerformsInput, Rehearses};
+
+use crate::casting::{cast, part};
+use crate::verdict::{all_went, lowest_full};
+use bay_core::Bay;
+use merged_records::{write_answers, write_record};
+use object_model::Model;
+use record_outcome::status::Status;
+use replay_run::whole::{Halt, read_whole};
+use script_reading::{Plan, StepLine, read_rehearsal};
+use script_threads::{Actor, Made, Raced, merge, race};
+use std::alloc::{AllocError, Global};
+use std::sync::Wait;
+use std::thread::Threads;
+use sv_io::{Failed, Gate, OpenGate, Sink, Source};
+
+/// One octet more than an input may have.
+const MOST: usize = 67108865;
+
+/// The most scripts of an input.
+const MOST_SCRIPTS: u32 = 16;
+
+/// Opens a bay of a model, and lets actors race over it.
+fn race_over<R: Threads + Wait + Sync, G: Gate>(
+    rt: &R,
+    alloc: Global,
+    model: &Model,
+    actors: Vec<Actor<G>>,
+) -> Result<Raced, AllocError>
+    requires model { IsServable model.now }
+    requires numbers { AreFalling 33 (map (λ a. a.script.actor) actors.items) }
+    requires steps { All (λ a. CanPlay model.now a.script) actors.items }
+    ensures { IfOk result (λ r. (h : TheHistory) × (r.total ≡ length h) × IsRaced model.now (map (λ a. a.script) actors.items) r.parts.items h) }
+{
+    let copy = model.copy(alloc)?;
+    let bay = Bay::open(alloc, copy)?;
+    race(rt, alloc, bay, actors)
+}
+
+/// The record of steps that were made, and the answers to it.
+fn record_of(
+    alloc: Global,
+    model: &Model,
+    text: &[u8],
+    book: &[Vec<StepLine>],
+    made: &[Made],
+) -> Result<Vec<u8>, AllocError>
+    requires { (m : TheMade) (l : TheLine) → line_of (book_seen book.now) m ≡ Some l → IsSized l.form }
+    ensures { IfOk result (λ v. v.items ≡ record_with text.now (merged (book_seen book.now) least_moment made.now) ++ (answered model.now (book_seen book.now) made.now ++ codes "end\n")) }
+{
+    let mut out = Vec::new(alloc);
+    write_record(&mut out, text, book, made)?;
+    write_answers(alloc, &mut out, model, book, made)?;
+    out.extend_from_slice(b"end\n")?;
+    Ok(out)
+}
+
+/// Lets the scripts of a plan race: the record that they made with its answers, or the status where a turn was refused.
+fn perform<R: Threads + Wait + Sync, G: Gate>(
+    rt: &R,
+    alloc: Global,
+    plan: Plan,
+    gates: Vec<G>,
+) -> Result<Result<Vec<u8>, Status>, AllocError>
+    requires { IsSound (plan_seen plan) }
+    ensures { IfOk result (Performs (plan_seen plan)) }
+{
+    let Plan {
+        model, text, slots, ..
+    } = plan;
+    let (roles, book) = part(alloc, slots)?;
+    let actors = cast(alloc, roles, gates)?;
+    let Raced { total, parts } = race_over(rt, alloc, &model, actors)?;
+    if let Some(line) = lowest_full(&book, &parts) {
+        return Ok(Err(Status::Limit { which: 2, line }));
+    }
+    if !all_went(&parts) {
+        return Err(AllocError);
+    }
+    let made = merge(alloc, parts, total)?;
+    let out = record_of(alloc, &model, &text, &book, &made)?;
+    Ok(Ok(out))
+}
+
+/// Reads a plan whole, and performs it.
+fn perform_input<R: Threads + Wait + Sync, G: Gate>(
+    rt: &R,
+    alloc: Global,
+    gates: Vec<G>,
+    octets: Vec<u8>,
+) -> Result<Result<Vec<u8>, Status>, AllocError>
+    requires { length octets.items ≤ 67108865 }
+    ensures { IfOk result (PerformsInput (outcome octets.items)) }
+{
+    match read_rehearsal(alloc, &octets)? {
+        Ok(plan) => {
+            drop(octets);
+            perform(rt, alloc, plan, gates)
+        }
+        Err(status) => Ok(Err(status)),
+    }
+}
+
+/// Reads a configuration and one script per actor, and checks every script before any thread starts. Then each actor plays its
+/// script in a thread of its own against one history, one turn a line, and passes its gate before each turn: the i-th gate is
+/// that of the i-th script. Where all turns went, the record that they made is written, and behind it its answers.
+pub fn rehearse_gated<R: Threads + Wait + Sync, S: Source, K: Sink, G: Gate>(
+    rt: &R,
+    alloc: Global,
+    gates: Vec<G>,
+    source: &mut S,
+    sink: &mut K,
+) -> Status
+    requires gates { length gates.items ≡ 16 }
+
+    // Every status and what the sink took, by what the input comes to.
+    ensures rehearses { IfSome (S.left source.old) (λ b. Rehearses (outcome (take most b)) result (K.taken sink.old) (K.taken sink.new)) }
+
+    // At most one octet more is taken from the source than an input may have.
+    ensures taken { TakesAtMost 67108865 (S.left source.old) (S.left source.new) }
+
+    // Faults have their causes.
+    ensures words { result ≢ Status.Words }
+    ensures read { result ≡ Status.ReadFault → Rose (S.faults source.old) (S.faults source.new) }
+    ensures write { result ≡ Status.WriteFault → Rose (K.faults sink.old) (K.faults sink.new) }
+    ensures later { (S.faults source.old ≤ S.faults source.new) × (K.faults sink.old ≤ K.faults sink.new) }
+{
+    let octets = match read_whole(alloc, source, MOST) {
+        Ok(octets) => octets,
+        Err(Halt::Read) => return Status::ReadFault,
+        Err(Halt::Memory) => return Status::Memory,
+    };
+    let out = match perform_input(rt, alloc, gates, octets) {
+        Ok(Ok(out)) => out,
+        Ok(Err(status)) => return status,
+        Err(AllocError) => return Status::Memory,
+    };
+    match sink.write_all(&out) {
+        Ok(()) => Status::Ok,
+        Err(Failed) => Status::WriteFault,
+    }
+}
+
+/// So many open gates.
+fn open_gates(alloc: Global) -> Result<Vec<OpenGate>, AllocError>
+    ensures { IfOk result (λ v. length v.items ≡ 16) }
+{
+    let mut gates = Vec::new(alloc);
+    for _ in 0..MOST_SCRIPTS {
+        gates.push(OpenGate)?;
+    }
+    Ok(gates)
+}
+
+/// A rehearsal whose actors wait for no gate.
+pub fn rehearse<R: Threads + Wait + Sync, S: Source, K: Sink>(
+    rt: &R,
+    alloc: Global,
+    source: &mut S,
+    sink: &mut K,
+) -> Status
+    // Every status and what the sink took, by what the input comes to.
+    ensures rehearses { IfSome (S.left source.old) (λ b. Rehearses (outcome (take most b)) result (K.taken sink.old) (K.taken sink.new)) }
+
+    // At most one octet more is taken from the source than an input may have.
+    ensures taken { TakesAtMost 67108865 (S.left source.old) (S.left source.new) }
+
+    // Faults have their causes.
+    ensures words { result ≢ Status.Words }
+    ensures read { result ≡ Status.ReadFault → Rose (S.faults source.old) (S.faults source.new) }
+    ensures write { result ≡ Status.WriteFault → Rose (K.faults sink.old) (K.faults sink.new) }
+    ensures later { (S.faults source.old ≤ S.faults source.new) × (K.faults sink.old ≤ K.faults sink.new) }
+{
+    match open_gates(alloc) {
+        Ok(gates) => rehearse_gated(rt, alloc, gates, source, sink),
+        Err(AllocError) => Status::Memory,
+    }
+}
