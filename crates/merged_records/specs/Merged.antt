@@ -16,6 +16,7 @@ use Rattle.record_steps.specs.Told.{Told, turn}
 use Rattle.record_history.specs.Histories.{octets_of, said_in}
 use Rattle.script_threads.specs.Scripts.{made_of}
 use Rattle.script_threads.specs.declared.made.Made.{Made}
+use Rattle.script_reading.specs.Forms.{form_in}
 use Rattle.script_reading.specs.Plans.{Script, Plan}
 use Rattle.script_reading.specs.declared.line.StepLine.{StepLine}
 
@@ -68,7 +69,7 @@ lines_told c shape _ answer = []
 
 abbrev pub answer_to : Config → Option StepLine → Answer → List ℕ
 answer_to c None answer = []
-answer_to c (Some l) answer = lines_told c (shape_of l.form) (said_in c l.form (line_at l.text)) answer
+answer_to c (Some l) answer = lines_told c (shape_of (form_in l.form)) (said_in c (form_in l.form) (line_at l.text)) answer
 
 abbrev pub answered : Config → Book → List Made → List ℕ
 answered c book [] = []

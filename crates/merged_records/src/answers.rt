@@ -1,7 +1,7 @@
 //! The answers are written.
 
 ghost use Rattle.std.specs.Prelude.{◌≡◌, ◌++◌, ℕ, Some, OnOk};
-ghost use Rattle.record_steps.specs.Forms.{IsSized};
+ghost use Rattle.script_reading.specs.Forms.{IsFit};
 ghost use Rattle.script_reading.specs.declared.line.StepLine.{StepLine as TheLine};
 ghost use Rattle.script_threads.specs.declared.made.Made.{Made as TheMade};
 ghost use Rattle.merged_records.specs.Merged.{line_of as line_there, answer_to, answered, book_seen};
@@ -10,7 +10,7 @@ use crate::book::line_of;
 use answer_text::lines_of;
 use bay_model::{Answer, Step};
 use object_model::Model;
-use record_steps::{Told, tell};
+use record_steps::Told;
 use run_record::view_line;
 use script_reading::StepLine;
 use script_threads::Made;
@@ -24,16 +24,18 @@ fn push_answer(
     line: &StepLine,
     answer: &Answer,
 ) -> Result<(), AllocError>
-    requires { IsSized line.now.form }
+    requires { IsFit line.now.form }
     ensures { OnOk result (out.new.items ≡ out.old.items ++ answer_to model.now (Some line.now) answer.now) }
 {
     let Ok(view) = view_line(line.text.as_slice()) else {
         return Err(AllocError);
     };
     let mut step = Step::Tick;
-    match tell(alloc, model, &line.form, &view, &mut step)? {
-        Told::Step(_) => lines_of(alloc, model, line.form.shape(), &step, answer, out),
-        _ => Err(AllocError),
+    let told = line.form.tell(alloc, model, &view, &mut step)?;
+    if matches!(told, Told::Step(_)) {
+        lines_of(alloc, model, line.form.shape(), &step, answer, out)
+    } else {
+        Err(AllocError)
     }
 }
 
@@ -45,7 +47,7 @@ pub fn write_answers(
     book: &[Vec<StepLine>],
     made: &[Made],
 ) -> Result<(), AllocError>
-    requires { (m : TheMade) (l : TheLine) → line_there (book_seen book.now) m ≡ Some l → IsSized l.form }
+    requires { (m : TheMade) (l : TheLine) → line_there (book_seen book.now) m ≡ Some l → IsFit l.form }
     ensures { OnOk result (out.new.items ≡ out.old.items ++ answered model.now (book_seen book.now) made.now) }
 {
     for step in made {

@@ -1,4 +1,6 @@
 -- A rehearsal's input: its lines, what each does, and what they come to.
+-- what an association is
+pub mod Forms
 pub mod Plans
 pub mod Moves
 pub mod Scripting

@@ -3,7 +3,6 @@ use Rattle.std.specs.Prelude.{◌≡◌, ◌<◌, ◌≤◌, ◌^◌, ◌==◌, 
 use Rattle.run_record.specs.Grammar.{IsLine}
 use Rattle.run_record.specs.Judging.{number_of}
 use Rattle.run_record.specs.declared.fault.Kind.{Kind}
-use Rattle.record_steps.specs.Forms.{IsSized}
 use Rattle.record_outcome.specs.Records.{NoNewline, pieces}
 use Rattle.record_outcome.specs.declared.status.Status.{Status}
 use Rattle.record_outcome.specs.declared.status.Status.TheVariants as statuses
@@ -11,6 +10,7 @@ use Rattle.script_lines.specs.Grammar.{IsOwner}
 use Rattle.script_lines.specs.declared.owner.Owner.{Owner}
 use Rattle.script_lines.specs.declared.line.ScriptLine.{ScriptLine}
 use Rattle.script_lines.specs.declared.line.ScriptLine.TheVariants as lines
+use Rattle.script_reading.specs.Forms.{IsFit}
 use Rattle.script_reading.specs.Plans.{Plan, script_of}
 use Rattle.script_reading.specs.Moves.{Place, opening, configuring, between, inside, Move, goes, stops, ends}
 use Rattle.script_reading.specs.Scripting.{most_scripts, actor_for, counted, opened}
@@ -81,7 +81,7 @@ abbrev pub IsRoomy : Held → Type 0
 IsRoomy x = (length x.slots.items ≡ 33) × (x.count ≤ 16) × (x.processes ≤ x.count)
 
 abbrev pub IsWellOpened : Opened → Type 0
-IsWellOpened o = (o.actor < 33) × IsSized o.form
+IsWellOpened o = (o.actor < 33) × IsFit o.form
 
 abbrev pub IsWellScripts : Scripts → Type 0
 IsWellScripts x = IsRoomy x.plan × IfSome x.current IsWellOpened

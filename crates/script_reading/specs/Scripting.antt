@@ -7,11 +7,9 @@ use Rattle.run_record.specs.Judging.{number_of}
 use Rattle.run_record.specs.declared.fault.Kind.{Kind}
 use Rattle.run_record.specs.declared.line.RecLine.{RecLine}
 use Rattle.run_record.specs.declared.line.RecLine.TheVariants as lines
-use Rattle.record_steps.specs.Forms.{form_behind}
-use Rattle.record_steps.specs.Resolved.{association_of, told_of}
-use Rattle.record_steps.specs.Told.{Told, skip, pass_to, turn, refused, last}
-use Rattle.record_steps.specs.declared.form.Form.{Form}
-use Rattle.record_steps.specs.declared.form.Form.TheVariants as forms
+use Rattle.record_steps.specs.Forms.{shut}
+use Rattle.record_steps.specs.Resolved.{told_of}
+use Rattle.record_steps.specs.Told.{Told, skip, pass_to, turn, heard, refused, last}
 use Rattle.record_outcome.specs.declared.status.Status.TheVariants as statuses
 use Rattle.script_lines.specs.Lines.{script_line_at}
 use Rattle.script_lines.specs.Owners.{may_have}
@@ -19,8 +17,11 @@ use Rattle.script_lines.specs.declared.owner.Owner.{Owner}
 use Rattle.script_lines.specs.declared.owner.Owner.TheVariants as owners
 use Rattle.script_lines.specs.declared.line.ScriptLine.{ScriptLine}
 use Rattle.script_lines.specs.declared.line.ScriptLine.TheVariants as scripts
+use Rattle.script_reading.specs.Forms.{form_in, form_passed}
 use Rattle.script_reading.specs.Plans.{Script, Plan, script_of, with_script, with_line}
 use Rattle.script_reading.specs.Moves.{Move, goes, stops, ends, between, inside}
+use Rattle.script_reading.specs.declared.form.ScriptForm.{ScriptForm}
+use Rattle.script_reading.specs.declared.form.ScriptForm.TheVariants as forms
 use Rattle.script_reading.specs.declared.opened.Opened.{Opened}
 
 -- ---- where a script begins
@@ -59,7 +60,7 @@ strange_as (refused kind) = if kind == 3 then 3 else 5
 strange_as _ = 5
 
 abbrev pub strange : Config → RecLine → ℕ
-strange c line = strange_as (told_of c forms.Shut line)
+strange c line = strange_as (told_of c shut line)
 
 -- ---- between scripts
 
@@ -91,7 +92,7 @@ abbrev pub at_moment : Opened → ℕ → Opened
 at_moment o moment = record { owner = o.owner; actor = o.actor; form = o.form; moment = moment; script = o.script }
 
 -- behind a line that makes one, and makes its association of this form
-abbrev pub taken : Opened → ℕ → List ℕ → Form → Step → Opened
+abbrev pub taken : Opened → ℕ → List ℕ → ScriptForm → Step → Opened
 taken o number text form step = record {
   owner = o.owner;
   actor = o.actor;
@@ -100,17 +101,18 @@ taken o number text form step = record {
   script = with_line o.script (record { number = number; text = text; form = o.form; moment = o.moment }) (record { moment = o.moment; step = step });
 }
 
--- by what it tells, where its association is what the script's lines before it made of it
+-- by what it tells, where its association is what the script's lines before it made of it; it has no stream
 abbrev pub told_in : ℕ → Plan → Opened → List ℕ → RecLine → Told → Move
 told_in number p o text line skip = goes (inside p o)
 told_in number p o text line (pass_to moment) = goes (inside p (at_moment o moment))
-told_in number p o text line (turn actor step) = goes (inside p (taken o number text (form_behind (association_of line) line o.form) step))
+told_in number p o text line (turn actor step) = goes (inside p (taken o number text (form_passed line o.form) step))
+told_in number p o text line (heard parts) = stops (statuses.Record number 5)
 told_in number p o text line (refused kind) = stops (statuses.Record number kind)
 told_in number p o text line last = stops (statuses.Record number 5)
 
 abbrev pub inside_step : ℕ → Plan → Opened → List ℕ → RecLine → Move
 inside_step number p o text line =
-    if may_have o.owner line then told_in number p o text line (told_of p.config o.form line) else stops (statuses.Record number (strange p.config line))
+    if may_have o.owner line then told_in number p o text line (told_of p.config (form_in o.form) line) else stops (statuses.Record number (strange p.config line))
 
 abbrev pub inside_line : ℕ → Plan → Opened → List ℕ → ScriptLine → Move
 inside_line number p o text (scripts.Begins owner) = stops (statuses.Record number 5)

@@ -6,11 +6,8 @@ use Rattle.sv_base.specs.declared.config.Config.{Config}
 use Rattle.cfg_parser.specs.Looking.{config_at}
 use Rattle.run_record.specs.Judging.{line_at}
 use Rattle.run_record.specs.declared.line.RecLine.{RecLine}
-use Rattle.record_steps.specs.Forms.{IsSized}
 use Rattle.record_steps.specs.Resolved.{told_of}
 use Rattle.record_steps.specs.Told.{turn}
-use Rattle.record_steps.specs.declared.form.Form.{Form}
-use Rattle.record_steps.specs.declared.form.Form.TheVariants as forms
 use Rattle.record_history.specs.Histories.{octets_of, form_at}
 use Rattle.record_outcome.specs.Openings.{unbuilt_line}
 use Rattle.record_outcome.specs.Records.{most_lines}
@@ -21,13 +18,16 @@ use Rattle.script_lines.specs.declared.owner.Owner.TheVariants as owners
 use Rattle.script_threads.specs.Playing.{AreFit}
 use Rattle.script_threads.specs.declared.script.TimedStep.{TimedStep}
 use Rattle.written_histories.specs.Written.{actor_of}
+use Rattle.script_reading.specs.Forms.{form_in, IsFit}
 use Rattle.script_reading.specs.Plans.{Script, Plan, script_of}
+use Rattle.script_reading.specs.declared.form.ScriptForm.{ScriptForm}
+use Rattle.script_reading.specs.declared.form.ScriptForm.TheVariants as forms
 use Rattle.script_reading.specs.declared.line.StepLine.{StepLine}
 use Rattle.script_reading.specs.Inputs.{outcome, ready}
 
 -- actor k is this owner's, whose association is of this form behind these lines, the newest first; no line of the process has one
-abbrev pub IsActor : ℕ → Owner → List (List ℕ) → Form → Type 0
-IsActor k (owners.Association a) before form = (k ≡ a.0) × (form ≡ form_at k before)
+abbrev pub IsActor : ℕ → Owner → List (List ℕ) → ScriptForm → Type 0
+IsActor k (owners.Association a) before form = (k ≡ a.0) × (form_in form ≡ form_at k before)
 IsActor k owners.Process before form = (16 < k) × (form ≡ forms.Shut)
 
 -- behind these lines of its script, the newest first, a line tells this step
@@ -37,11 +37,11 @@ pub record IsTold (c : Config) (k : ℕ) (before : List (List ℕ)) (l : StepLin
   pub read : line_at l.text ≡ Ok line
   pub may : may_have owner line ≡ true
   pub actor : IsActor k owner before l.form
-  pub told : told_of c l.form line ≡ turn (actor_of k s.step) s.step
+  pub told : told_of c (form_in l.form) line ≡ turn (actor_of k s.step) s.step
   pub moment : l.moment ≡ s.moment
   pub early : 441763200000 ≤ l.moment
   pub late : l.moment ≤ 4294967295999
-  pub sized : IsSized l.form
+  pub fit : IsFit l.form
 
 abbrev pub AreTold : Config → ℕ → List (List ℕ) → List StepLine → List TimedStep → Type 0
 AreTold c k before [] [] = Unit {0}

@@ -2,6 +2,7 @@
 #![tactic(auto)]
 
 // what an input comes to
+mod form;
 mod line;
 mod plan;
 mod script;
@@ -24,6 +25,7 @@ mod stage;
 // what holds of every plan
 mod laws;
 
+pub use form::ScriptForm;
 pub use laws::plans_are_sound;
 pub use line::StepLine;
 pub use plan::Plan;

@@ -1,6 +1,6 @@
 //! A line of a script.
 
-use record_steps::Form;
+use crate::form::ScriptForm;
 use sv_base::{Moment, Octs};
 
 /// A line of a script that makes a step.
@@ -11,7 +11,7 @@ pub struct StepLine {
     /// Its text, without a newline.
     pub text: Octs,
     /// What its association is before it.
-    pub form: Form,
+    pub form: ScriptForm,
     /// The moment of its step.
     pub moment: Moment,
 }

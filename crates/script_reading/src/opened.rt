@@ -1,7 +1,7 @@
 //! A script that is being read.
 
+use crate::form::ScriptForm;
 use crate::script::Script;
-use record_steps::Form;
 use script_lines::Owner;
 use sv_base::Moment;
 
@@ -11,7 +11,7 @@ use sv_base::Moment;
 pub struct Opened {
     pub owner: Owner,
     pub actor: u32,
-    pub form: Form,
+    pub form: ScriptForm,
     pub moment: Moment,
     pub script: Script,
 }

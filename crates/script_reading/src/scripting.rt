@@ -8,6 +8,7 @@ ghost use Rattle.script_reading.specs.Scripting.{strange as strange_kind};
 ghost use Rattle.script_reading.specs.Readings.{IsDecided};
 ghost use Rattle.record_outcome.specs.declared.status.Status.TheVariants.{Record};
 
+use crate::form::ScriptForm;
 use crate::line::StepLine;
 use crate::next::Next;
 use crate::opened::Opened;
@@ -16,7 +17,7 @@ use crate::script::Script;
 use bay_model::Step;
 use object_model::Model;
 use record_outcome::status::Status;
-use record_steps::{Form, Told, behind, tell};
+use record_steps::Told;
 use run_record::{Kind, LineView};
 use script_lines::{Owner, ScriptView, view_script_line};
 use script_threads::TimedStep;
@@ -44,17 +45,21 @@ fn strange(alloc: Global, model: &Model, line: &LineView<'_>) -> Result<Kind, Al
     requires { IsLine (line_seen line.now) }
     ensures { IfOk result (λ k. number_of k ≡ strange_kind model.now (line_seen line.now)) }
 {
-    match tell(alloc, model, &Form::Shut, line, &mut Step::Tick)? {
+    let mut step = Step::Tick;
+    let told = ScriptForm::Shut.tell(alloc, model, line, &mut step)?;
+    drop(step);
+    match told {
         Told::Refused(Kind::Name) => Ok(Kind::Name),
         _ => Ok(Kind::State),
     }
 }
 
 impl Opened {
-    ghost use Rattle.std.specs.Prelude.{◌≡◌, IfOk, OnOk};
+    ghost use Rattle.std.specs.Prelude.{◌≡◌, List, IfOk, OnOk};
     ghost use Rattle.run_record.specs.Grammar.{IsLine};
     ghost use Rattle.run_record.specs.Seen.{line_seen};
     ghost use Rattle.record_steps.specs.Telling.{telling};
+    ghost use Rattle.record_steps.specs.declared.heard.Heard.{Heard as TheHeard};
     ghost use Rattle.script_reading.specs.Plans.{Plan as ThePlan};
     ghost use Rattle.script_reading.specs.Moves.{inside};
     ghost use Rattle.script_reading.specs.Scripting.{taken, told_in, inside_step};
@@ -66,7 +71,7 @@ impl Opened {
         alloc: Global,
         number: u64,
         text: &[u8],
-        form: Form,
+        form: ScriptForm,
         step: Step,
     ) -> Result<(), AllocError>
         ensures { OnOk result (self.new ≡ taken self.old number text.now form step) }
@@ -100,7 +105,7 @@ impl Opened {
     ) -> Result<Next, AllocError>
         requires ranges { IsLine (line_seen line.now) }
         requires well { IsWellOpened self.old }
-        ensures moves { IfOk result (λ n. (p : ThePlan) → Moved n (inside p self.new) (told_in number p self.old text.now (line_seen line.now) (telling told step))) }
+        ensures moves { IfOk result (λ n. (p : ThePlan) (heard : List TheHeard) → Moved n (inside p self.new) (told_in number p self.old text.now (line_seen line.now) (telling told step heard))) }
         ensures decided { IfOk result IsDecided }
         ensures well { OnOk result (IsWellOpened self.new) }
     {
@@ -111,12 +116,12 @@ impl Opened {
                 Ok(Next::On)
             }
             Told::Step(_) => {
-                let form = behind(line, self.form);
+                let form = self.form.behind(line);
                 self.take(alloc, number, text, form, step)?;
                 Ok(Next::On)
             }
             Told::Refused(kind) => Ok(stop(number, kind)),
-            Told::End => Ok(stop(number, Kind::State)),
+            Told::Heard | Told::End => Ok(stop(number, Kind::State)),
         }
     }
 
@@ -140,7 +145,7 @@ impl Opened {
             return Ok(stop(number, kind));
         }
         let mut step = Step::Tick;
-        let told = tell(alloc, model, &self.form, line, &mut step)?;
+        let told = self.form.tell(alloc, model, line, &mut step)?;
         self.act(alloc, number, text, line, told, step)
     }
 }
@@ -221,7 +226,7 @@ impl Plan {
         Some(Opened {
             owner,
             actor,
-            form: Form::Shut,
+            form: ScriptForm::Shut,
             moment: Moment::first(),
             script,
         })

@@ -4,9 +4,9 @@ ghost use Rattle.std.specs.Prelude.{◌≡◌, ◌≢◌, ◌≤◌, ℕ, [], le
 ghost use Rattle.std.specs.List.{All};
 ghost use Rattle.bay_config.specs.Servable.{IsServable};
 ghost use Rattle.bay_model.specs.Answers.{History as TheHistory};
-ghost use Rattle.record_steps.specs.Forms.{IsSized};
 ghost use Rattle.replay_run.specs.Tool.{TakesAtMost};
 ghost use Rattle.sv_io.specs.Causes.{Rose};
+ghost use Rattle.script_reading.specs.Forms.{IsFit};
 ghost use Rattle.script_reading.specs.Inputs.{outcome};
 ghost use Rattle.script_reading.specs.Readings.{plan_seen};
 ghost use Rattle.script_reading.specs.Sound.{IsSound};
@@ -64,7 +64,7 @@ fn record_of(
     book: &[Vec<StepLine>],
     made: &[Made],
 ) -> Result<Vec<u8>, AllocError>
-    requires { (m : TheMade) (l : TheLine) → line_of (book_seen book.now) m ≡ Some l → IsSized l.form }
+    requires { (m : TheMade) (l : TheLine) → line_of (book_seen book.now) m ≡ Some l → IsFit l.form }
     ensures { IfOk result (λ v. v.items ≡ record_with text.now (merged (book_seen book.now) least_moment made.now) ++ (answered model.now (book_seen book.now) made.now ++ codes "end\n")) }
 {
     let mut out = Vec::new(alloc);
