@@ -26,11 +26,9 @@ use Rattle.run_record.specs.Judging as judging
 use Rattle.run_record.specs.declared.fault.Kind.{Kind}
 use Rattle.run_record.specs.declared.line.RecLine.{RecLine}
 use Rattle.run_record.specs.declared.line.RecLine.TheVariants as lines
-use Rattle.record_steps.specs.Forms.{is_shut, IsSized, form_behind}
+use Rattle.record_steps.specs.Forms.{Form, is_shut, form_behind}
 use Rattle.record_steps.specs.Resolved.{association_of, told_of}
-use Rattle.record_steps.specs.Told.{Told, skip, pass_to, turn, refused, last}
-use Rattle.record_steps.specs.declared.form.Form.{Form}
-use Rattle.record_steps.specs.declared.form.Form.TheVariants as forms
+use Rattle.record_steps.specs.Told.{Told, skip, pass_to, turn, heard, refused, last}
 use Rattle.record_steps.proofs.ToldLaws.{told-own}
 use Rattle.record_history.specs.Histories.{octets_of, form_after, form_at, onto}
 use Rattle.record_outcome.specs.Openings.{unbuilt_line}
@@ -50,6 +48,7 @@ use Rattle.script_threads.specs.Playing.{AreFit}
 use Rattle.script_threads.specs.declared.script.TimedStep.{TimedStep}
 use Rattle.script_threads.proofs.Lists.{map_last}
 use Rattle.written_histories.specs.Written.{actor_of}
+use Rattle.script_reading.specs.Forms.{form_in, form_passed, IsFit}
 use Rattle.script_reading.specs.Plans.{Script, Plan, script_of, without_scripts, with_script, no_scripts}
 use Rattle.script_reading.specs.Moves.{Place, opening, configuring, between, inside, Move, goes, stops, ends}
 use Rattle.script_reading.specs.Scripting.{most_scripts, actor_for, processes_with, counted, opened, begins, strange, ended, between_step, between_line, between_as, between_at, at_moment, taken, told_in, inside_step, inside_line, inside_as, inside_at}
@@ -58,8 +57,10 @@ use Rattle.script_reading.specs.Inputs as inputs
 use Rattle.script_reading.specs.Inputs.{passed, lines_at, Outcome, ready, moved, run, outcome}
 use Rattle.script_reading.specs.Sound.{IsActor, IsTold, AreTold, IsScript, IsScriptOrNone, IsText, IsSound, PlansAreSound}
 use Rattle.script_reading.specs.declared.line.StepLine.{StepLine}
+use Rattle.script_reading.specs.declared.form.ScriptForm.{ScriptForm}
+use Rattle.script_reading.specs.declared.form.ScriptForm.TheVariants as forms
 use Rattle.script_reading.specs.declared.opened.Opened.{Opened}
-use Rattle.script_reading.proofs.TellLaws.{Keeps, same, association-made, process-made, process-stays, sized-behind, passed-at}
+use Rattle.script_reading.proofs.TellLaws.{Keeps, same, association-made, process-made, passed-in, process-passed, fit-behind, passed-at}
 use Rattle.record_outcome.specs.declared.status.Status.{Status}
 use Rattle.record_outcome.specs.declared.status.Status.TheVariants as statuses
 
@@ -138,7 +139,7 @@ pub record GoodOpened (n : ℕ) (c : Config) (o : Opened) : Type 0 where
   pub actor : IsActor o.actor o.owner (onto [] (texts o.script.lines)) o.form
   pub early : 441763200000 ≤ o.moment
   pub late : o.moment ≤ 4294967295999
-  pub sized : IsSized o.form
+  pub fit : IsFit o.form
 
 abbrev pub Good : ℕ → Place → Type 0
 Good n opening = Unit {0}
@@ -162,7 +163,7 @@ more-plan : (n m : ℕ) (p : Plan) → n ≤ m → GoodPlan n p → GoodPlan m p
 more-plan n m p le g = record { text = g.text; places = g.places; scripts = λ k. more-or n m p.config k (script_of p k) le (g.scripts k); count = g.count; processes = g.processes }
 
 more-opened : (n m : ℕ) (c : Config) (o : Opened) → n ≤ m → GoodOpened n c o → GoodOpened m c o
-more-opened n m c o le g = record { good = more-script n m c o.actor o.script le g.good; actor = g.actor; early = g.early; late = g.late; sized = g.sized }
+more-opened n m c o le g = record { good = more-script n m c o.actor o.script le g.good; actor = g.actor; early = g.early; late = g.late; fit = g.fit }
 
 sound-or : (c : Config) (k : ℕ) (o : Option Script) → GoodOrNone most_lines c k o → IsScriptOrNone c k o
 sound-or c k None g = tt
@@ -253,7 +254,7 @@ begins-good n number p owner is good = by (p.count == most_scripts) refl (is_som
       actor = actor-is owner p;
       early = omega arith;
       late = omega arith;
-      sized = tt;
+      fit = tt;
     },
   )
 
@@ -291,30 +292,31 @@ between-good n number p text good = by (script_line_at text) refl where
 -- ---- in a script
 
 -- who makes a step is written as its script has it
-actor-told : (c : Config) (form : Form) (k w : ℕ) (owner : Owner) (line : RecLine) (step : Step) (before : List (List ℕ)) → IsActor k owner before form → may_have owner line ≡ true → told_of c form line ≡ turn w step
-    → told_of c form line ≡ turn (actor_of k step) step
+actor-told : (c : Config) (form : ScriptForm) (k w : ℕ) (owner : Owner) (line : RecLine) (step : Step) (before : List (List ℕ)) → IsActor k owner before form → may_have owner line ≡ true → told_of c (form_in form) line ≡ turn w step
+    → told_of c (form_in form) line ≡ turn (actor_of k step) step
 actor-told c form k w (owners.Association a) line step before is may says =
-    let made = association-made c form w step a line may says in
+    let made = association-made c (form_in form) w step a line may says in
     says ∙ ap (λ n. turn n step) (made.1.0 ∙ (sym is.0 ∙ sym (made.1.1 k)))
 actor-told c form k w owners.Process line step before is may says =
-    let made = process-made c form w step line may says in
+    let made = process-made c (form_in form) w step line may says in
     says ∙ ap (λ n. turn n step) (made.1.0 ∙ sym (made.1.1 k))
 
 -- the association behind the line
-actor-behind : (c : Config) (form : Form) (k w : ℕ) (owner : Owner) (text : List ℕ) (line : RecLine) (step : Step) (before : List (List ℕ)) → IsActor k owner before form → may_have owner line ≡ true → judging.line_at text ≡ Ok line
-    → told_of c form line ≡ turn w step → IsActor k owner (text ∷ before) (form_behind (association_of line) line form)
+actor-behind : (c : Config) (form : ScriptForm) (k w : ℕ) (owner : Owner) (text : List ℕ) (line : RecLine) (step : Step) (before : List (List ℕ)) → IsActor k owner before form → may_have owner line ≡ true → judging.line_at text ≡ Ok line
+    → told_of c (form_in form) line ≡ turn w step → IsActor k owner (text ∷ before) (form_passed line form)
 actor-behind c form k w (owners.Association a) text line step before is may reads says =
-    let made = association-made c form w step a line may says in
-    (is.0, ap (λ n. form_behind n line form) (made.0 ∙ sym is.0) ∙ (ap (form_behind k line) is.1 ∙ ap (λ r. form_after k r (form_at k before)) (sym reads)))
-actor-behind c form k w owners.Process text line step before is may reads says = (is.0, process-stays line (association_of line) form may ∙ is.1)
+    let made = association-made c (form_in form) w step a line may says in
+    (is.0, passed-in (owners.Association a) line form may
+    ∙ (ap (λ n. form_behind n line (form_in form)) (made.0 ∙ sym is.0) ∙ (ap (form_behind k line) is.1 ∙ ap (λ r. form_after k r (form_at k before)) (sym reads))))
+actor-behind c form k w owners.Process text line step before is may reads says = (is.0, process-passed line form may ∙ is.1)
 
 module _ (n number : ℕ) (p : Plan) (o : Opened) (text : List ℕ) (line : RecLine) (next : number ≡ suc n) (spells : Spells text line) (reads : judging.line_at text ≡ Ok line) (plan : GoodPlan n p) (good : GoodOpened n p.config o) where
-  taken-good : (w : ℕ) (step : Step) → may_have o.owner line ≡ true → told_of p.config o.form line ≡ turn w step → GoodOpened (suc n) p.config (taken o number text (form_behind (association_of line) line o.form) step)
+  taken-good : (w : ℕ) (step : Step) → may_have o.owner line ≡ true → told_of p.config (form_in o.form) line ≡ turn w step → GoodOpened (suc n) p.config (taken o number text (form_passed line o.form) step)
   taken-good w step may says =
       let l : StepLine = record { number = number; text = text; form = o.form; moment = o.moment } in
       let s : TimedStep = record { moment = o.moment; step = step } in
       let before : List (List ℕ) = onto [] (texts o.script.lines) in
-      let own = told-own p.config (λ a. not (is_shut o.form)) o.form w step line refl says in
+      let own = told-own p.config (λ a. not (is_shut (form_in o.form))) (form_in o.form) w step line refl says in
       record {
         good = record {
           some = good.good.some;
@@ -329,33 +331,34 @@ module _ (n number : ℕ) (p : Plan) (o : Opened) (text : List ℕ) (line : RecL
             moment = refl;
             early = good.early;
             late = good.late;
-            sized = good.sized;
+            fit = good.fit;
           });
-          fit = All-push (λ (s : TimedStep). (fits p.config s.step ≡ true) × IsBuilt s.step) o.script.steps s good.good.fit (own.1, own-built (λ a. not (is_shut o.form)) w step own.0);
+          fit = All-push (λ (s : TimedStep). (fits p.config s.step ≡ true) × IsBuilt s.step) o.script.steps s good.good.fit (own.1, own-built (λ a. not (is_shut (form_in o.form))) w step own.0);
           short = omega (arith, length-append o.script.steps (s ∷ []), good.good.short);
         };
-        actor = subst (λ b. IsActor o.actor o.owner b (form_behind (association_of line) line o.form)) (sym (newest-push o.script.lines l)) (actor-behind p.config o.form o.actor w o.owner text line step before good.actor may reads says);
+        actor = subst (λ b. IsActor o.actor o.owner b (form_passed line o.form)) (sym (newest-push o.script.lines l)) (actor-behind p.config o.form o.actor w o.owner text line step before good.actor may reads says);
         early = good.early;
         late = good.late;
-        sized = sized-behind (association_of line) line o.form spells.ranges good.sized;
+        fit = fit-behind line o.form spells.ranges good.fit;
       }
 
-  passed-good : (moment : ℕ) → told_of p.config o.form line ≡ pass_to moment → GoodOpened (suc n) p.config (at_moment o moment)
+  passed-good : (moment : ℕ) → told_of p.config (form_in o.form) line ≡ pass_to moment → GoodOpened (suc n) p.config (at_moment o moment)
   passed-good moment says =
-      let range = subst IsLine (passed-at p.config o.form line moment says) spells.ranges in
-      record { good = more-script n (suc n) p.config o.actor o.script (omega arith) good.good; actor = good.actor; early = range.0; late = range.1; sized = good.sized }
+      let range = subst IsLine (passed-at p.config (form_in o.form) line moment says) spells.ranges in
+      record { good = more-script n (suc n) p.config o.actor o.script (omega arith) good.good; actor = good.actor; early = range.0; late = range.1; fit = good.fit }
 
-  told-good : (t : Told) → may_have o.owner line ≡ true → told_of p.config o.form line ≡ t → GoodMove (suc n) (told_in number p o text line t)
+  told-good : (t : Told) → may_have o.owner line ≡ true → told_of p.config (form_in o.form) line ≡ t → GoodMove (suc n) (told_in number p o text line t)
   told-good skip may says = (more-plan n (suc n) p (omega arith) plan, more-opened n (suc n) p.config o (omega arith) good)
   told-good (pass_to moment) may says = (more-plan n (suc n) p (omega arith) plan, passed-good moment says)
   told-good (turn w step) may says = (more-plan n (suc n) p (omega arith) plan, taken-good w step may says)
+  told-good (heard parts) may says = tt
   told-good (refused kind) may says = tt
   told-good last may says = tt
 
   step-good : GoodMove (suc n) (inside_step number p o text line)
   step-good = by (may_have o.owner line) refl where
-    by : (b : Bool) → may_have o.owner line ≡ b → GoodMove (suc n) (if b then told_in number p o text line (told_of p.config o.form line) else stops (statuses.Record number (strange p.config line)))
-    by true may = told-good (told_of p.config o.form line) may refl
+    by : (b : Bool) → may_have o.owner line ≡ b → GoodMove (suc n) (if b then told_in number p o text line (told_of p.config (form_in o.form) line) else stops (statuses.Record number (strange p.config line)))
+    by true may = told-good (told_of p.config (form_in o.form) line) may refl
     by false may = tt
 
 -- the script of another actor stays

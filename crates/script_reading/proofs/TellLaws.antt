@@ -1,5 +1,5 @@
 -- What the lines of scripts tell: whose a step is, and what a line makes of the associations.
-use Rattle.std.proofs.Common.{◌≡◌, ◌==◌, ◌&&◌, ℕ, Bool, true, false, List, refl, sym, ap, subst, ◌∙◌}
+use Rattle.std.proofs.Common.{◌≡◌, ◌==◌, ◌&&◌, eq-eqb, ℕ, Bool, true, false, List, refl, sym, ap, subst, ◌∙◌}
 use Rattle.std.specs.Prelude.{Option, None, Some, if◌then◌else◌}
 use Rattle.std.proofs.lemmas.Bool.{eqb-true}
 use Rattle.sv_base.specs.declared.config.Config.{Config}
@@ -21,16 +21,22 @@ use Rattle.run_record.specs.declared.line.OpenForm.TheVariants as opens
 use Rattle.run_record.specs.declared.line.RecLine.{RecLine}
 use Rattle.run_record.specs.declared.line.RecLine.TheVariants as lines
 use Rattle.run_record.specs.declared.pairs.Pair.{Pair}
-use Rattle.record_steps.specs.Asks.{asked_by, is_unbuilt}
-use Rattle.record_steps.specs.Forms.{is_shut, is_direct, IsSized, opened_form, form_behind}
-use Rattle.record_steps.specs.Resolved.{association_of, turn_of, opened_in, opened_as, valued_as, written_as, lost_as, asked_as, spelled_as, sent_as, set_to, set_as, told_of}
+use Rattle.record_steps.specs.Asks.{asked_by}
+use Rattle.record_steps.specs.Forms.{Form, shut, direct, mms, dialling, wire, is_shut, is_direct, opened_form, form_behind}
+use Rattle.record_steps.specs.Resolved.{association_of, turn_of, opened_in, opened_as, valued_as, written_as, lost_as, asked_as, spelled_as, sent_as, piece_as, fed_as, set_to, set_as, told_of}
 use Rattle.record_steps.specs.Settings.{are_named, settings_at}
 use Rattle.record_steps.specs.Shapes.{shape_at}
+use Rattle.record_steps.specs.Streams.{piece_at}
 use Rattle.record_steps.specs.Told.{Told, pass_to, turn, refused}
-use Rattle.record_steps.specs.declared.form.Form.{Form}
-use Rattle.record_steps.specs.declared.form.Form.TheVariants as forms
-use Rattle.script_lines.specs.Owners.{is_no_stream, is_of, is_of_process}
+use Rattle.record_steps.specs.declared.heard.Wired.{Wired}
+use Rattle.record_steps.specs.declared.heard.Wired.TheVariants.{Dialling, On}
+use Rattle.script_lines.specs.Owners.{is_no_stream, is_of, is_of_process, may_have}
+use Rattle.script_lines.specs.declared.owner.Owner.{Owner}
+use Rattle.script_lines.specs.declared.owner.Owner.TheVariants as owners
 use Rattle.written_histories.specs.Written.{actor_of}
+use Rattle.script_reading.specs.Forms.{form_in, opened_so, form_passed, IsFit}
+use Rattle.script_reading.specs.declared.form.ScriptForm.{ScriptForm}
+use Rattle.script_reading.specs.declared.form.ScriptForm.TheVariants as forms
 
 -- ---- whose a step is
 
@@ -77,25 +83,25 @@ module _ (c : Config) (form : Form) (actor : ℕ) (step : Step) where
 
   ask-made : (a : AssocNo) (o : Option Request) → asked_as c a o ≡ turn actor step → Keeps same a.0 actor step
   ask-made a None h = absurd cc
-  ask-made a (Some r) h = by (is_unbuilt r.service) h where
-    by : (b : Bool) → (if b then refused 9 else turn_of c a.0 (steps.Ask a r)) ≡ turn actor step → Keeps same a.0 actor step
-    by true h = absurd cc
-    by false h = made c a.0 actor (steps.Ask a r) step (Keeps same a.0) h (refl, λ k. refl)
+  ask-made a (Some r) h = made c a.0 actor (steps.Ask a r) step (Keeps same a.0) h (refl, λ k. refl)
 
   spelled-made : (a : AssocNo) (o : Option (List ℕ)) → spelled_as c a o ≡ turn actor step → Keeps same a.0 actor step
   spelled-made a None h = absurd cc
   spelled-made a (Some octets) h = ask-made a (asked_by c octets) h
 
   send-made : (a : AssocNo) (hex : List ℕ) (f : Form) → sent_as c f a hex ≡ turn actor step → Keeps same a.0 actor step
-  send-made a hex forms.Shut h = absurd cc
-  send-made a hex forms.Direct h = absurd cc
-  send-made a hex (forms.Mms size) h = spelled-made a (hex_at hex) h
+  send-made a hex shut h = absurd cc
+  send-made a hex direct h = absurd cc
+  send-made a hex (mms size) h = spelled-made a (hex_at hex) h
+  send-made a hex (dialling octets) h = absurd cc
+  send-made a hex (wire line octets) h = absurd cc
 
-  lost-made : (a : AssocNo) → lost_as c form a ≡ turn actor step → Keeps same a.0 actor step
-  lost-made a h = by (is_shut form) h where
-    by : (t : Bool) → (if t then refused 5 else turn_of c a.0 (steps.Lost a)) ≡ turn actor step → Keeps same a.0 actor step
-    by true h = absurd cc
-    by false h = made c a.0 actor (steps.Lost a) step (Keeps same a.0) h (refl, λ k. refl)
+  lost-made : (a : AssocNo) (f : Form) → lost_as c f a ≡ turn actor step → Keeps same a.0 actor step
+  lost-made a shut h = absurd cc
+  lost-made a direct h = made c a.0 actor (steps.Lost a) step (Keeps same a.0) h (refl, λ k. refl)
+  lost-made a (mms size) h = made c a.0 actor (steps.Lost a) step (Keeps same a.0) h (refl, λ k. refl)
+  lost-made a (dialling octets) h = absurd cc
+  lost-made a (wire line octets) h = made c a.0 actor (steps.Lost a) step (Keeps same a.0) h (refl, λ k. refl)
 
   set-made : (pairs : List Pair) → set_as c pairs ≡ turn actor step → Keeps zero_of 0 actor step
   set-made pairs h = by (are_named c pairs) (settings_at c pairs) h where
@@ -119,7 +125,7 @@ module _ (c : Config) (form : Form) (actor : ℕ) (step : Step) where
   association-made own (lines.Piece a hex) may h = absurd cc
   association-made own (lines.Take a) may h =
       let mine = eqb-true own.0 a.0 may in (sym mine, subst (λ n. Keeps same n actor step) (sym mine) (made c a.0 actor (steps.Take a) step (Keeps same a.0) h (refl, λ k. refl)))
-  association-made own (lines.Lost a) may h = let mine = eqb-true own.0 a.0 may in (sym mine, subst (λ n. Keeps same n actor step) (sym mine) (lost-made a h))
+  association-made own (lines.Lost a) may h = let mine = eqb-true own.0 a.0 may in (sym mine, subst (λ n. Keeps same n actor step) (sym mine) (lost-made a form h))
   association-made own (lines.Set pairs) may h = absurd cc
   association-made own (lines.Done control well) may h = absurd cc
   association-made own (lines.Block control on) may h = absurd cc
@@ -156,10 +162,10 @@ others-stay own (lines.Open b asked) a was may other = by (own.0 == b.0) refl ma
   by false is may y same = absurd cc
 others-stay own (lines.Write b block comp value) a was may other = refl
 others-stay own (lines.Pdu b hex) a was may other = refl
-others-stay own (lines.Piece b hex) a was may other = refl
+others-stay own (lines.Piece b hex) a was may other = absurd cc
 others-stay own (lines.Take b) a was may other = refl
 others-stay own (lines.Lost b) a was may other = by (b.0 == a) refl where
-  by : (y : Bool) → (b.0 == a) ≡ y → (if y then forms.Shut else was) ≡ was
+  by : (y : Bool) → (b.0 == a) ≡ y → (if y then shut else was) ≡ was
   by true same = absurd (other (eqb-true own.0 b.0 may ∙ eqb-true b.0 a same))
   by false same = refl
 others-stay own (lines.Set pairs) a was may other = refl
@@ -174,7 +180,7 @@ process-stays (lines.At moment) a was may = refl
 process-stays (lines.Open b asked) a was may = absurd cc
 process-stays (lines.Write b block comp value) a was may = refl
 process-stays (lines.Pdu b hex) a was may = refl
-process-stays (lines.Piece b hex) a was may = refl
+process-stays (lines.Piece b hex) a was may = absurd cc
 process-stays (lines.Take b) a was may = refl
 process-stays (lines.Lost b) a was may = absurd cc
 process-stays (lines.Set pairs) a was may = refl
@@ -183,21 +189,71 @@ process-stays (lines.Block control on) a was may = refl
 process-stays lines.Tick a was may = refl
 process-stays lines.End a was may = refl
 
-pub sized-behind : (a : ℕ) (line : RecLine) (was : Form) → IsLine line → IsSized was → IsSized (form_behind a line was)
-sized-behind a (lines.Open b form) was is sized = by (b.0 == a) where
-  opened : (form : OpenForm) → IsForm form → IsSized (opened_form form)
-  opened opens.Direct is = tt
-  opened (opens.Mms size) is = is
-  opened opens.Wire is = tt
+same-number : (n : ℕ) → (n == n) ≡ true
+same-number n = eq-eqb n n refl
 
-  by : (x : Bool) → IsSized (if x then opened_form form else was)
-  by true = opened form is.1
-  by false = sized
-sized-behind a (lines.Lost b) was is sized = by (b.0 == a) where
-  by : (x : Bool) → IsSized (if x then forms.Shut else was)
-  by true = tt
-  by false = sized
-sized-behind a _ was is sized = sized
+-- of its own what the script makes of it
+opened-in : (own : AssocNo) (a : AssocNo) (asked : OpenForm) (was : ScriptForm) → ((own.0 == a.0) && is_no_stream asked) ≡ true → form_in (form_passed (lines.Open a asked) was) ≡ form_behind a.0 (lines.Open a asked) (form_in was)
+opened-in own a opens.Direct was may = sym (ap (λ x. if x then direct else form_in was) (same-number a.0))
+opened-in own a (opens.Mms size) was may = sym (ap (λ x. if x then mms size else form_in was) (same-number a.0))
+opened-in own a opens.Wire was may = by (own.0 == a.0) may where
+  by : (x : Bool) → (x && false) ≡ true → form_in was ≡ form_behind a.0 (lines.Open a opens.Wire) (form_in was)
+  by true may = absurd cc
+  by false may = absurd cc
+
+pub passed-in : (owner : Owner) (line : RecLine) (was : ScriptForm) → may_have owner line ≡ true → form_in (form_passed line was) ≡ form_behind (association_of line) line (form_in was)
+passed-in (owners.Association own) lines.Skip was may = refl
+passed-in (owners.Association own) (lines.At moment) was may = refl
+passed-in (owners.Association own) (lines.Open a asked) was may = opened-in own a asked was may
+passed-in (owners.Association own) (lines.Write a block comp value) was may = refl
+passed-in (owners.Association own) (lines.Pdu a hex) was may = refl
+passed-in (owners.Association own) (lines.Piece a hex) was may = absurd cc
+passed-in (owners.Association own) (lines.Take a) was may = refl
+passed-in (owners.Association own) (lines.Lost a) was may = sym (ap (λ x. if x then shut else form_in was) (same-number a.0))
+passed-in (owners.Association own) (lines.Set pairs) was may = refl
+passed-in (owners.Association own) (lines.Done control well) was may = refl
+passed-in (owners.Association own) (lines.Block control on) was may = refl
+passed-in (owners.Association own) lines.Tick was may = refl
+passed-in (owners.Association own) lines.End was may = refl
+passed-in owners.Process lines.Skip was may = refl
+passed-in owners.Process (lines.At moment) was may = refl
+passed-in owners.Process (lines.Open a asked) was may = absurd cc
+passed-in owners.Process (lines.Write a block comp value) was may = refl
+passed-in owners.Process (lines.Pdu a hex) was may = refl
+passed-in owners.Process (lines.Piece a hex) was may = absurd cc
+passed-in owners.Process (lines.Take a) was may = refl
+passed-in owners.Process (lines.Lost a) was may = absurd cc
+passed-in owners.Process (lines.Set pairs) was may = refl
+passed-in owners.Process (lines.Done control well) was may = refl
+passed-in owners.Process (lines.Block control on) was may = refl
+passed-in owners.Process lines.Tick was may = refl
+passed-in owners.Process lines.End was may = refl
+
+-- no line of the process makes anything of an association
+pub process-passed : (line : RecLine) (was : ScriptForm) → is_of_process line ≡ true → form_passed line was ≡ was
+process-passed lines.Skip was may = refl
+process-passed (lines.At moment) was may = refl
+process-passed (lines.Open a asked) was may = absurd cc
+process-passed (lines.Write a block comp value) was may = refl
+process-passed (lines.Pdu a hex) was may = refl
+process-passed (lines.Piece a hex) was may = refl
+process-passed (lines.Take a) was may = refl
+process-passed (lines.Lost a) was may = absurd cc
+process-passed (lines.Set pairs) was may = refl
+process-passed (lines.Done control well) was may = refl
+process-passed (lines.Block control on) was may = refl
+process-passed lines.Tick was may = refl
+process-passed lines.End was may = refl
+
+opened-fit : (asked : OpenForm) (was : ScriptForm) → IsForm asked → IsFit was → IsFit (opened_so asked was)
+opened-fit opens.Direct was is fit = tt
+opened-fit (opens.Mms size) was is fit = is
+opened-fit opens.Wire was is fit = fit
+
+pub fit-behind : (line : RecLine) (was : ScriptForm) → IsLine line → IsFit was → IsFit (form_passed line was)
+fit-behind (lines.Open b asked) was is fit = opened-fit asked was is.1 fit
+fit-behind (lines.Lost b) was is fit = tt
+fit-behind _ was is fit = fit
 
 -- ---- a moment
 
@@ -233,16 +289,36 @@ write-none c form a (Some b) None word = tt
 
 ask-none : (c : Config) (a : AssocNo) (o : Option Request) → NoMoment (asked_as c a o)
 ask-none c a None = tt
-ask-none c a (Some r) = if-none (is_unbuilt r.service) (refused 9) (turn_of c a.0 (steps.Ask a r)) tt (turn-none c a.0 (steps.Ask a r))
+ask-none c a (Some r) = turn-none c a.0 (steps.Ask a r)
 
 spelled-none : (c : Config) (a : AssocNo) (o : Option (List ℕ)) → NoMoment (spelled_as c a o)
 spelled-none c a None = tt
 spelled-none c a (Some octets) = ask-none c a (asked_by c octets)
 
 send-none : (c : Config) (form : Form) (a : AssocNo) (hex : List ℕ) → NoMoment (sent_as c form a hex)
-send-none c forms.Shut a hex = tt
-send-none c forms.Direct a hex = tt
-send-none c (forms.Mms size) a hex = spelled-none c a (hex_at hex)
+send-none c shut a hex = tt
+send-none c direct a hex = tt
+send-none c (mms size) a hex = spelled-none c a (hex_at hex)
+send-none c (dialling octets) a hex = tt
+send-none c (wire line octets) a hex = tt
+
+piece-none : (c : Config) (w : Wired) (a : AssocNo) (octets : List ℕ) (o : Option (List ℕ)) → NoMoment (piece_as c w a octets o)
+piece-none c w a octets None = tt
+piece-none c w a octets (Some piece) = tt
+
+fed-none : (c : Config) (form : Form) (a : AssocNo) (hex : List ℕ) → NoMoment (fed_as c form a hex)
+fed-none c shut a hex = tt
+fed-none c direct a hex = tt
+fed-none c (mms size) a hex = tt
+fed-none c (dialling octets) a hex = piece-none c Dialling a octets (piece_at hex)
+fed-none c (wire line octets) a hex = piece-none c (On line) a octets (piece_at hex)
+
+lost-none : (c : Config) (form : Form) (a : AssocNo) → NoMoment (lost_as c form a)
+lost-none c shut a = tt
+lost-none c direct a = turn-none c a.0 (steps.Lost a)
+lost-none c (mms size) a = turn-none c a.0 (steps.Lost a)
+lost-none c (dialling octets) a = tt
+lost-none c (wire line octets) a = turn-none c a.0 (steps.Lost a)
 
 set-none : (c : Config) (o : Option (List Setting)) → NoMoment (set_to c o)
 set-none c None = tt
@@ -260,10 +336,9 @@ passed-at c form (lines.Open a asked) moment h = not-told (opened_as c form a as
 passed-at c form (lines.Write a block comp value) moment h =
     not-told (written_as c form a (number_in (block_references c) block) (comp_named comp) value) moment _ (write-none c form a (number_in (block_references c) block) (comp_named comp) value) h
 passed-at c form (lines.Pdu a hex) moment h = not-told (sent_as c form a hex) moment _ (send-none c form a hex) h
-passed-at c form (lines.Piece a hex) moment h = absurd cc
+passed-at c form (lines.Piece a hex) moment h = not-told (fed_as c form a hex) moment _ (fed-none c form a hex) h
 passed-at c form (lines.Take a) moment h = not-told (turn_of c a.0 (steps.Take a)) moment _ (turn-none c a.0 (steps.Take a)) h
-passed-at c form (lines.Lost a) moment h =
-    not-told (lost_as c form a) moment _ (if-none (is_shut form) (refused 5) (turn_of c a.0 (steps.Lost a)) tt (turn-none c a.0 (steps.Lost a))) h
+passed-at c form (lines.Lost a) moment h = not-told (lost_as c form a) moment _ (lost-none c form a) h
 passed-at c form (lines.Set pairs) moment h = not-told (set_as c pairs) moment _ (if-none (are_named c pairs) (set_to c (settings_at c pairs)) (refused 3) (set-none c (settings_at c pairs)) tt) h
 passed-at c form (lines.Done control well) moment h = absurd cc
 passed-at c form (lines.Block control on) moment h = absurd cc
