@@ -20,11 +20,9 @@ use Rattle.run_record.proofs.WordLaws.{all-words}
 use Rattle.text_words.proofs.SpelledWordLaws.{decimal-word}
 use Rattle.run_record.specs.declared.line.RecLine.{RecLine}
 use Rattle.run_record.specs.declared.line.RecLine.TheVariants as lines
-use Rattle.record_steps.specs.Forms.{shape_of, form_behind}
+use Rattle.record_steps.specs.Forms.{Form, shut, shape_of, form_behind}
 use Rattle.record_steps.specs.Resolved.{association_of, told_of}
 use Rattle.record_steps.specs.Told.{Told, pass_to, turn}
-use Rattle.record_steps.specs.declared.form.Form.{Form}
-use Rattle.record_steps.specs.declared.form.Form.TheVariants as forms
 use Rattle.record_history.specs.Histories.{form_after, form_at, form_of, said_in, said, moment_after, moment_of, Part, stepped, parts_in, steps_of, onto}
 use Rattle.record_history.specs.Texts.{parts_of, turns_of, turns_in, text_behind, text_of}
 use Rattle.history_lock.specs.Histories.{by, IsShuffle}
@@ -38,6 +36,7 @@ use Rattle.script_threads.specs.declared.made.Made.{Made}
 use Rattle.script_threads.specs.declared.script.TimedStep.{TimedStep}
 use Rattle.written_histories.specs.Written.{actor_of, as_written, history_written}
 use Rattle.written_histories.proofs.WrittenLaws.{answer_written}
+use Rattle.script_reading.specs.Forms.{form_in}
 use Rattle.script_reading.specs.Plans as plans
 use Rattle.script_reading.specs.Plans.{Script, Plan, script_of, script_turns}
 use Rattle.script_reading.specs.Sound.{IsActor, IsTold, AreTold, IsScript, IsScriptOrNone, IsSound}
@@ -47,7 +46,7 @@ use Rattle.script_reading.proofs.TellLaws.{association-made, process-made, other
 use Rattle.merged_records.specs.Merged.{Book, lines_in, book_of, line_of, at_lines, lines_behind, moment_behind, merged, lines_told, answer_to, answered}
 use Rattle.merged_records.proofs.Listed.{take-get, book-at, onto-append, length-turns, IsNewest, newest-turn, told-at, was_after, was-push, merged-push, answered-push}
 
-abbrev steps_in : Option Script → List TimedStep
+abbrev pub steps_in : Option Script → List TimedStep
 steps_in None = []
 steps_in (Some s) = s.steps
 
@@ -100,25 +99,25 @@ between c before was m is early late = by (was == m) refl where
 
 -- the line tells the step of its script, and its association is what it was there
 record IsSaid (c : Config) (before : List (List ℕ)) (l : StepLine) (k : ℕ) (s : TimedStep) : Type 0 where
-  form : form_of before (line_at l.text) ≡ l.form
+  form : form_of before (line_at l.text) ≡ form_in l.form
   told : said c before l.text ≡ turn (actor_of k s.step) s.step
 
 module _ (c : Config) (k : ℕ) (own before : List (List ℕ)) (l : StepLine) (s : TimedStep) (is : IsTold c k own l s) where
-  said-by : form_at (association_of is.line) before ≡ l.form → IsSaid c before l k s
+  said-by : form_at (association_of is.line) before ≡ form_in l.form → IsSaid c before l k s
   said-by form = record {
     form = ap (form_of before) is.read ∙ form;
     told = ap (λ r. said_in c (form_of before r) r) is.read ∙ (ap (λ f. told_of c f is.line) form ∙ is.told);
   }
 
-  said-here : (form_at k before ≡ form_at k own) → (form_at 0 before ≡ forms.Shut) → IsSaid c before l k s
-  said-here same shut = by is.owner is.may is.actor where
+  said-here : (form_at k before ≡ form_at k own) → (form_at 0 before ≡ shut) → IsSaid c before l k s
+  said-here same none = by is.owner is.may is.actor where
     by : (owner : Owner) → may_have owner is.line ≡ true → IsActor k owner own l.form → IsSaid c before l k s
     by (owners.Association a) may actor =
-        let made = association-made c l.form (actor_of k s.step) s.step a is.line may is.told in
+        let made = association-made c (form_in l.form) (actor_of k s.step) s.step a is.line may is.told in
         said-by (ap (λ n. form_at n before) (made.0 ∙ sym actor.0) ∙ (same ∙ sym actor.1))
     by owners.Process may actor =
-        let made = process-made c l.form (actor_of k s.step) s.step is.line may is.told in
-        said-by (ap (λ n. form_at n before) made.0 ∙ (shut ∙ sym actor.1))
+        let made = process-made c (form_in l.form) (actor_of k s.step) s.step is.line may is.told in
+        said-by (ap (λ n. form_at n before) made.0 ∙ (none ∙ sym (ap form_in actor.1)))
 
   -- what the line makes of the associations: of its actor's what it makes of it in its script, and of others nothing
   own-behind : form_at k before ≡ form_at k own → form_at k (l.text ∷ before) ≡ form_at k (l.text ∷ own)
@@ -139,14 +138,14 @@ module _ (p : Plan) (sound : IsSound p) where
   abbrev book : Book
   book = book_of p
 
-  abbrev steps_by : ℕ → List TimedStep
+  abbrev pub steps_by : ℕ → List TimedStep
   steps_by k = steps_in (script_of p k)
 
-  abbrev lines_by : ℕ → List StepLine
+  abbrev pub lines_by : ℕ → List StepLine
   lines_by k = lines_in (script_of p k)
 
   -- of each actor the history has a beginning of its script
-  abbrev IsWithin : History → Type 0
+  abbrev pub IsWithin : History → Type 0
   IsWithin h = (k : ℕ) → by k h ≡ turns_by k (take (length (by k h)) (steps_by k))
 
   script-turns : (k : ℕ) (o : Option Script) → script_turns k o ≡ turns_by k (steps_in o)
@@ -184,7 +183,7 @@ module _ (p : Plan) (sound : IsSound p) where
     mine : by t.actor (t ∷ h) ≡ t ∷ by t.actor h
     mine = ap (λ b. cond b (t ∷ by t.actor h) (by t.actor h)) (eq-eqb t.actor t.actor refl)
 
-    newest : IsNewest t.actor (steps_by t.actor) t (by t.actor h)
+    pub newest : IsNewest t.actor (steps_by t.actor) t (by t.actor h)
     newest = newest-turn t.actor (steps_by t.actor) t (by t.actor h)
         (sym mine ∙ (within t.actor ∙ ap (λ (l : History). turns_by t.actor (take (length l) (steps_by t.actor))) mine))
 
@@ -194,13 +193,13 @@ module _ (p : Plan) (sound : IsSound p) where
       | inr e ↦ ap (λ b. cond b (t ∷ by k h) (by k h)) e.0
     ]
 
-    earlier : IsWithin h
+    pub earlier : IsWithin h
     earlier k = elim (eqb_tells t.actor k) [
       | inl e ↦ subst (λ k. by k h ≡ turns_by k (take (length (by k h)) (steps_by k))) e.1 newest.before
       | inr e ↦ sym (other-turns k e.1) ∙ (within k ∙ ap (λ (l : History). turns_by k (take (length l) (steps_by k))) (other-turns k e.1))
     ]
 
-    told : (l : StepLine) × (slice_get (lines_by t.actor) (length (by t.actor h)) ≡ Some l) × IsTold c t.actor (onto [] (texts (take (length (by t.actor h)) (lines_by t.actor)))) l newest.step
+    pub told : (l : StepLine) × (slice_get (lines_by t.actor) (length (by t.actor h)) ≡ Some l) × IsTold c t.actor (onto [] (texts (take (length (by t.actor h)) (lines_by t.actor)))) l newest.step
     told = told-at c t.actor [] (lines_by t.actor) (steps_by t.actor) (length (by t.actor h)) newest.step (told-all t.actor (script_of p t.actor) (sound.scripts t.actor)) newest.there
 
     line-is : line_of book (made_from c h t) ≡ Some told.0
@@ -224,9 +223,9 @@ module _ (p : Plan) (sound : IsSound p) where
     turns : turns_in (steps_of c (back h)) ≡ history_written h
     text : text_of c (steps_of c (back h)) ≡ answered c book (made_of c h)
 
-  first-shut : (h : History) → form_at 0 (so_far 0 h) ≡ forms.Shut
+  first-shut : (h : History) → form_at 0 (so_far 0 h) ≡ shut
   first-shut h = ap (λ ls. form_at 0 (onto [] (texts (take (length (by 0 h)) ls)))) (none-first (script_of p 0) (sound.scripts 0)) ∙ empty (length (by 0 h)) where
-    empty : (n : ℕ) → form_at 0 (onto [] (texts (take n no_lines))) ≡ forms.Shut
+    empty : (n : ℕ) → form_at 0 (onto [] (texts (take n no_lines))) ≡ shut
     empty zero = refl
     empty (suc n) = refl
 
@@ -269,7 +268,7 @@ module _ (p : Plan) (sound : IsSound p) where
         let turn_is : t ≡ histories.turn_of s.moment k s.step = (newest t h within).turn in
         (λ i. record { moment = line-told.moment i; actor = actor_of k s.step; step = s.step }) ∙ sym (ap as_written turn_is)
 
-    parts : parts_of (steps_of c (l.text ∷ before)) ≡ stepped read (shape_of l.form) ∷ parts_of (steps_of c (back h))
+    parts : parts_of (steps_of c (l.text ∷ before)) ≡ stepped read (shape_of (form_in l.form)) ∷ parts_of (steps_of c (back h))
     parts =
         (λ i. parts_in (here.now i) (said-so.form i) (said-so.told i) ++ here.parts i)
 
@@ -283,18 +282,18 @@ module _ (p : Plan) (sound : IsSound p) where
     answer-is =
         (λ i. answer (configured_model c) (is.turns i) (read-is i)) ∙ answer_written (configured_model c) h t
 
-    told-alone : said_in c l.form (line_at l.text) ≡ turn (actor_of k s.step) s.step
-    told-alone = ap (said_in c l.form) line-told.read ∙ line-told.told
+    told-alone : said_in c (form_in l.form) (line_at l.text) ≡ turn (actor_of k s.step) s.step
+    told-alone = ap (said_in c (form_in l.form)) line-told.read ∙ line-told.told
 
-    answer-told : answer_to c (line_of book (made_from c h t)) (answer (configured_model c) h t) ≡ answer_texts.lines_of c (shape_of l.form) s.step (answer (configured_model c) h t)
+    answer-told : answer_to c (line_of book (made_from c h t)) (answer (configured_model c) h t) ≡ answer_texts.lines_of c (shape_of (form_in l.form)) s.step (answer (configured_model c) h t)
     answer-told =
-        ap (λ o. answer_to c o (answer (configured_model c) h t)) (line-is t h within) ∙ ap (λ said. lines_told c (shape_of l.form) said (answer (configured_model c) h t)) told-alone
+        ap (λ o. answer_to c o (answer (configured_model c) h t)) (line-is t h within) ∙ ap (λ said. lines_told c (shape_of (form_in l.form)) said (answer (configured_model c) h t)) told-alone
 
     text-more : text_of c (steps_of c (back (t ∷ h))) ≡ answered c book (made_of c (t ∷ h))
     text-more =
         ap (λ b. text_of c (steps_of c b)) back-is
         ∙ (ap (text_behind c) parts
-        ∙ ((λ i. is.text i ++ answer_texts.lines_of c (shape_of l.form) s.step (answer-is i))
+        ∙ ((λ i. is.text i ++ answer_texts.lines_of c (shape_of (form_in l.form)) s.step (answer-is i))
         ∙ (ap (λ o. answered c book (made_of c h) ++ o) (sym answer-told) ∙ sym (answered-push c book (made_of c h) (made_from c h t)))))
 
     now-more : moment_of c (back (t ∷ h)) ≡ was_after book least_moment (made_of c (t ∷ h))
@@ -323,7 +322,7 @@ module _ (p : Plan) (sound : IsSound p) where
     back-more : IsBack (t ∷ h)
     back-more = record { now = now-more; form = form-more; turns = turns-more; text = text-more }
 
-  none-so-far : (a : ℕ) → form_at a (so_far a []) ≡ forms.Shut
+  none-so-far : (a : ℕ) → form_at a (so_far a []) ≡ shut
   none-so-far a = refl
 
   reads-back : (h : History) → IsWithin h → IsBack h

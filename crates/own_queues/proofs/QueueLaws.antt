@@ -23,7 +23,7 @@ use Rattle.bay_model.specs.Answers.{Turn, History, points, deed_at, singles_afte
 use Rattle.bay_model.specs.Acceptance.{Fault, IsHistory, IsOpen, QueueFull, fault_at, fault, if_open, if_yours}
 use Rattle.bay_model.proofs.Deeds.{OfSingles, outcome, component_}
 use Rattle.bay_model.proofs.EveryPoint.{point}
-use Rattle.own_queues.specs.Queues.{open_behind, is_open, waits_behind, waits, IsPlain, IsItsOwn, AreTheirOwn, IsInOrder, own_fault, OpenBySteps, WaitsBySteps, AcceptedBySteps}
+use Rattle.own_queues.specs.Queues.{open_behind, is_open, waits_behind, waits, IsPlain, IsItsOwn, AreTheirOwn, IsInOrder, own_fault, OpenBySteps, WaitsBySteps, AcceptedBySteps, AskedWithRoom}
 
 -- a deed that opens and loses nothing, puts no reply and gives none
 abbrev IsQuiet : Deed → Type 0
@@ -362,3 +362,18 @@ accepted c plain h legal own t steps.Tick mine order = refl
 
 pub accepted_by_steps : AcceptedBySteps
 accepted_by_steps c plain h legal own t mine order = accepted c plain h legal own t t.step mine order
+
+-- ---- an accepted request
+
+found-room : (x : Option Ends) (a n : ℕ) (f : Ends → Bool) → if_open x a f (if nat_le 16 n then Some (QueueFull a) else None) ≡ None → nat_le 16 n ≡ false
+found-room None a n f h = absurd cc
+found-room (Some e) a n f h = either (f e) (nat_le 16 n) refl h where
+  either : (y b : Bool) → nat_le 16 n ≡ b → if_yours y a (if b then Some (QueueFull a) else None) ≡ None → nat_le 16 n ≡ false
+  either false b is h = absurd cc
+  either true true is h = absurd cc
+  either true false is h = is
+
+pub asked_with_room : AskedWithRoom
+asked_with_room c plain h legal t a r is goes =
+    ap (λ n. nat_le 16 n) (sym (waits-by c plain h legal a.0))
+    ∙ found-room (ends a.0 (points c h)) a.0 (waiting_replies c a.0 (points c h)) (λ e. t.actor == e.opener) (sym (ap (fault_at c t.actor (points c h)) is) ∙ goes)

@@ -1,6 +1,8 @@
 -- Whether an association is open, and how many replies wait for it, by the steps that name it (that an association has room for 16
 -- replies is this profile's own).
 use Rattle.std.specs.Prelude.{◌≡◌, ◌-◌, ℕ, suc, Bool, true, false, ◌==◌, nat_le, [], ◌∷◌, Option, None, Some, is_some, if◌then◌else◌}
+use Rattle.sv_base.specs.declared.numbers.AssocNo.{AssocNo}
+use Rattle.bay_model.specs.declared.request.Request.{Request}
 use Rattle.bay_model.specs.declared.step.Step.{Step}
 use Rattle.bay_model.specs.declared.step.Step.TheVariants as steps
 use Rattle.bay_model.specs.Model.{Model}
@@ -73,3 +75,8 @@ WaitsBySteps = (c : Model) → IsPlain c → (h : History) → IsHistory c h →
 abbrev pub AcceptedBySteps : Type 0
 AcceptedBySteps = (c : Model) → IsPlain c → (h : History) → IsHistory c h → AreTheirOwn h → (t : Turn) → IsItsOwn t t.step
     → IsInOrder (λ a. is_open a h) t.step → fault c h t ≡ own_fault t.step (λ a. waits a h)
+
+-- an accepted request found fewer than 16 replies waiting
+abbrev pub AskedWithRoom : Type 0
+AskedWithRoom = (c : Model) → IsPlain c → (h : History) → IsHistory c h → (t : Turn) (a : AssocNo) (r : Request) → t.step ≡ steps.Ask a r → fault c h t ≡ None
+    → nat_le 16 (waits a.0 h) ≡ false

@@ -50,7 +50,7 @@ same k = k
 abbrev pub zero_of : ℕ → ℕ
 zero_of k = 0
 
-made : (c : Config) (k actor : ℕ) (s step : Step) (P : ℕ → Step → Type 0) → turn_of c k s ≡ turn actor step → P k s → P actor step
+pub made : (c : Config) (k actor : ℕ) (s step : Step) (P : ℕ → Step → Type 0) → turn_of c k s ≡ turn actor step → P k s → P actor step
 made c k actor s step P is p = by (fits c s) is where
   by : (b : Bool) → (if b then turn k s else refused 4) ≡ turn actor step → P actor step
   by true h = let step_is : s ≡ step = cc in let who : k ≡ actor = cc in subst (λ k. P k step) who (subst (λ s. P k s) step_is p)

@@ -15,6 +15,7 @@ use Rattle.script_threads.specs.Playing.{AreFit}
 use Rattle.script_threads.specs.Scripts.{turns_by}
 use Rattle.script_threads.specs.declared.script.Script.{Script as Part}
 use Rattle.script_threads.specs.declared.script.TimedStep.{TimedStep}
+use Rattle.race_verdicts.specs.Known.{Role as Known, role_of, roles_from, AreScripts}
 use Rattle.server_run.specs.Casting.{script_steps, role_steps, cast_from, turns_among, AreOfPlan}
 use Rattle.server_run.specs.declared.casting.Role.{Role}
 
@@ -130,6 +131,23 @@ falls-first [] long none = tt
 falls-first (None ∷ rs) long none = cast-falls 33 1 rs (omega arith) (omega (arith, long))
 falls-first (Some r ∷ rs) long none = absurd (cc none)
 
+-- the actors have the numbers and the steps of the scripts
+roles-push : (ss : List Part) (s : Part) → map role_of (ss ++ s ∷ []) ≡ map role_of ss ++ role_of s ∷ []
+roles-push [] s = refl
+roles-push (x ∷ xs) s = ap (λ (l : List Known). role_of x ∷ l) (roles-push xs s)
+
+cast-roles : (n : ℕ) (rs : Roles) (ss : List (Option Script)) → map role_steps rs ≡ map script_steps ss → map role_of (cast_from n rs) ≡ roles_from n ss
+cast-roles n [] [] same = refl
+cast-roles n [] (s ∷ ss) same = absurd (cc same)
+cast-roles n (r ∷ rs) [] same = absurd (cc same)
+cast-roles n (None ∷ rs) (None ∷ ss) same = cast-roles (suc n) rs ss (cc same)
+cast-roles n (None ∷ rs) (Some s ∷ ss) same = absurd (cc same)
+cast-roles n (Some r ∷ rs) (None ∷ ss) same = absurd (cc same)
+cast-roles n (Some r ∷ rs) (Some s ∷ ss) same =
+    let steps : r.steps.items ≡ s.steps = cc same in
+    roles-push (cast_from (suc n) rs) (record { actor = n; steps = r.steps })
+    ∙ (ap (λ (l : List Known). l ++ (n, r.steps.items) ∷ []) (cast-roles (suc n) rs ss (cc same)) ∙ ap (λ st. roles_from (suc n) ss ++ (n, st) ∷ []) steps)
+
 module _ (p : Plan) (sound : IsSound p) (rs : Roles) (same : map role_steps rs ≡ map script_steps p.scripts) where
   role-is : (k : ℕ) → role_steps (get_or rs k nobody) ≡ script_steps (script_of p k)
   role-is k = sym (role-at rs k) ∙ (ap (λ l. get_or l k None) same ∙ script-at p.scripts k)
@@ -145,3 +163,6 @@ module _ (p : Plan) (sound : IsSound p) (rs : Roles) (same : map role_steps rs �
 
   pub plan-turns : AreOfPlan p (cast_from 0 rs)
   plan-turns k = cast-turns 0 rs k k refl ∙ (ap (steps_turns k) (role-is k) ∙ script-turns k (script_of p k))
+
+  pub plan-roles : AreScripts p (cast_from 0 rs)
+  plan-roles = cast-roles 0 rs p.scripts same

@@ -15,8 +15,9 @@ use Rattle.script_threads.specs.declared.part.Part.{Part}
 use Rattle.script_threads.specs.declared.script.Script.{Script as Part_}
 use Rattle.merged_records.specs.Merged.{book_of, record_of, answers_to}
 use Rattle.merged_records.specs.ReadBack.{IsReadBack}
-use Rattle.server_run.specs.Casting.{AreOfPlan}
-use Rattle.server_run.specs.Verdicts.{lowest_full}
+use Rattle.race_verdicts.specs.Bounds.{lowest_beyond}
+use Rattle.race_verdicts.specs.Known.{AreScripts}
+use Rattle.race_verdicts.specs.Verdicts.{lowest_full}
 
 -- the most octets that are read of an input, one more than any has
 abbrev pub most : ℕ
@@ -33,34 +34,41 @@ pub record IsWritten (p : Plan) (octets : List ℕ) : Type 0 where
   pub octets_ : octets ≡ record_of p history ++ answers_to p history
   pub back : IsReadBack p history
 
--- In a history that has of each script a beginning and no other step, the next turn of the script to which this line belongs was
--- answered that its queue is full; no lower line's turn was.
+-- No script asks where its own bound is 16: threads made a history of all of the scripts, and this is what is written of it.
+pub record Goes (p : Plan) (octets : List ℕ) : Type 0 where
+  pub room : lowest_beyond p ≡ None
+  pub written : IsWritten p octets
+
+-- This is the lowest line that asks where the bound of its own script is 16. In a history that has of each script a beginning and no
+-- other step, the next turn of its script was answered that the queue is full; no lower line's turn was.
 pub record MeetsFull (p : Plan) (line : ℕ) : Type 0 where
+  pub first : lowest_beyond p ≡ Some line
   pub history : History
   pub scripts : List Part_
-  pub are : AreOfPlan p scripts
+  pub are : AreScripts p scripts
   pub parts : List Part
   pub raced : IsRaced p.config scripts parts history
   pub lowest : lowest_full (book_of p) parts ≡ Some line
 
 -- the performance of a plan: its record, or the status with which it ends
 abbrev pub Performs : Plan → Result (Vec ℕ Global) Status → Type 0
-Performs p (Ok out) = IsWritten p out.items
+Performs p (Ok out) = Goes p out.items
 Performs p (Err (statuses.Limit which line)) = (which ≡ 2) × MeetsFull p line
 Performs p (Err _) = ⊥
 
 -- of an input that comes to this
 abbrev pub PerformsInput : Outcome → Result (Vec ℕ Global) Status → Type 0
-PerformsInput o (Ok out) = (p : Plan) × (o ≡ ready p) × IsWritten p out.items
+PerformsInput o (Ok out) = (p : Plan) × (o ≡ ready p) × Goes p out.items
 PerformsInput o (Err (statuses.Record line kind)) = o ≡ refused (statuses.Record line kind)
 PerformsInput o (Err (statuses.Config line kind)) = o ≡ refused (statuses.Config line kind)
 PerformsInput o (Err (statuses.Limit which line)) = (o ≡ refused (statuses.Limit which line)) ⊎ ((p : Plan) × (o ≡ ready p) × (which ≡ 2) × MeetsFull p line)
 PerformsInput o (Err _) = ⊥
 
--- The status has its cause in what the input comes to, and this is what the sink took: nothing unless all turns went.
+-- The status has its cause in what the input comes to, and this is what the sink took: nothing unless all turns went. Since an input
+-- comes to one thing, each of these statuses comes exactly where its cause is there, but for want of memory and faults.
 abbrev pub Rehearses : Outcome → Status → Option (List ℕ) → Option (List ℕ) → Type 0
-Rehearses o statuses.Ok old new = (p : Plan) × (octets : List ℕ) × (o ≡ ready p) × IsWritten p octets × Appends old new octets
-Rehearses o statuses.WriteFault old new = (p : Plan) × (octets : List ℕ) × (o ≡ ready p) × IsWritten p octets × GrowsByFront old new octets
+Rehearses o statuses.Ok old new = (p : Plan) × (octets : List ℕ) × (o ≡ ready p) × Goes p octets × Appends old new octets
+Rehearses o statuses.WriteFault old new = (p : Plan) × (octets : List ℕ) × (o ≡ ready p) × Goes p octets × GrowsByFront old new octets
 Rehearses o (statuses.Record line kind) old new = (o ≡ refused (statuses.Record line kind)) × Appends old new []
 Rehearses o (statuses.Config line kind) old new = (o ≡ refused (statuses.Config line kind)) × Appends old new []
 Rehearses o (statuses.Limit which line) old new =

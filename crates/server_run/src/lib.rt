@@ -4,9 +4,6 @@
 // the actors of a plan
 mod casting;
 
-// what came of their race
-mod verdict;
-
 // the whole
 mod rehearse;
 

@@ -20,10 +20,10 @@ ghost use Rattle.merged_records.specs.Merged.{line_of, book_seen, merged, record
 ghost use Rattle.server_run.specs.Rehearsals.{most, Performs, PerformsInput, Rehearses};
 
 use crate::casting::{cast, part};
-use crate::verdict::{all_went, lowest_full};
 use bay_core::Bay;
 use merged_records::{write_answers, write_record};
 use object_model::Model;
+use race_verdicts::{lacks_memory, lowest_full};
 use record_outcome::status::Status;
 use replay_run::whole::{Halt, read_whole};
 use script_reading::{Plan, StepLine, read_rehearsal};
@@ -90,11 +90,11 @@ fn perform<R: Threads + Wait + Sync, G: Gate>(
     let (roles, book) = part(alloc, slots)?;
     let actors = cast(alloc, roles, gates)?;
     let Raced { total, parts } = race_over(rt, alloc, &model, actors)?;
+    if lacks_memory(&parts) {
+        return Err(AllocError);
+    }
     if let Some(line) = lowest_full(&book, &parts) {
         return Ok(Err(Status::Limit { which: 2, line }));
-    }
-    if !all_went(&parts) {
-        return Err(AllocError);
     }
     let made = merge(alloc, parts, total)?;
     let out = record_of(alloc, &model, &text, &book, &made)?;

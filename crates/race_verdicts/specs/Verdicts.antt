@@ -1,5 +1,5 @@
 -- What came of a race.
-use Rattle.std.specs.Prelude.{ℕ, min, Bool, true, false, List, [], ◌∷◌, ◌&&◌, length, Option, None, Some, slice_get, slice_index_or}
+use Rattle.std.specs.Prelude.{ℕ, min, Bool, true, false, List, [], ◌∷◌, ◌&&◌, ◌||◌, length, Option, None, Some, slice_get, slice_index_or}
 use Rattle.std.specs.Option.{option_map}
 use Rattle.bay_core.specs.declared.fault.StepFault.{StepFault}
 use Rattle.bay_core.specs.declared.fault.StepFault.TheVariants as faults
@@ -37,3 +37,12 @@ went (Some fault) = false
 abbrev pub all_went : List Part → Bool
 all_went [] = true
 all_went (part ∷ parts) = went part.fault && all_went parts
+
+abbrev pub wants_memory : Option StepFault → Bool
+wants_memory (Some faults.Memory) = true
+wants_memory _ = false
+
+-- a turn was refused for want of memory
+abbrev pub lacks_memory : List Part → Bool
+lacks_memory [] = false
+lacks_memory (part ∷ parts) = wants_memory part.fault || lacks_memory parts

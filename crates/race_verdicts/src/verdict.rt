@@ -1,8 +1,8 @@
-//! What came of a race: whether all turns went, and which line met a full queue.
+//! What came of a race: whether memory was wanting, and which line met a full queue.
 
 ghost use Rattle.std.specs.Prelude.{◌≡◌};
 ghost use Rattle.merged_records.specs.Merged.{book_seen};
-ghost use Rattle.server_run.specs.Verdicts.{number_at, full_line as full_line_of, lesser as lesser_of, lowest_full as lowest_of, all_went as have_gone};
+ghost use Rattle.race_verdicts.specs.Verdicts.{number_at, full_line as full_line_of, lesser as lesser_of, lowest_full as lowest_of, lacks_memory as lacks_memory_in};
 
 use bay_core::StepFault;
 use script_reading::StepLine;
@@ -48,12 +48,14 @@ pub fn lowest_full(book: &[Vec<StepLine>], parts: &[Part]) -> Option<u64>
     }
 }
 
-/// All turns went.
-pub fn all_went(parts: &[Part]) -> bool
-    ensures { result ≡ have_gone parts.now }
+/// A turn was refused for want of memory.
+pub fn lacks_memory(parts: &[Part]) -> bool
+    ensures { result ≡ lacks_memory_in parts.now }
 {
     match parts {
-        [] => true,
-        [part, more @ ..] => part.fault.is_none() && all_went(more),
+        [] => false,
+        [part, more @ ..] => {
+            matches!(part.fault, Some(StepFault::Memory)) || lacks_memory(more)
+        }
     }
 }
