@@ -253,8 +253,8 @@ fn is_asked(service: &Service, ask: &Ask) -> bool {
 }
 
 /// Whether the request has this invoke number and asks this; there is none where nothing is asked.
-pub fn asks(request: Option<Request>, told: &Option<(u32, Ask)>) -> bool {
-    match (&request, told) {
+pub fn asks(request: &Option<Request>, told: &Option<(u32, Ask)>) -> bool {
+    match (request, told) {
         (Some(request), Some((invoke, ask))) => {
             request.invoke == *invoke && is_asked(&request.service, ask)
         }

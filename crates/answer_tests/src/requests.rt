@@ -224,7 +224,7 @@ const ROWS: [Row; 31] = [
 fn row_is_asked(alloc: Global, model: &Model, row: &Row) -> Result<bool, AllocError> {
     let (octets, told) = row;
     let request = read_request(alloc, model, octets)?;
-    Ok(asks(request, told))
+    Ok(asks(&request, told))
 }
 
 fn are_asked(alloc: Global, model: &Model) -> Result<bool, AllocError> {
@@ -238,7 +238,9 @@ fn are_asked(alloc: Global, model: &Model) -> Result<bool, AllocError> {
 
 fn all_are_asked(alloc: Global) -> Result<bool, AllocError> {
     let model = model(alloc)?;
-    are_asked(alloc, &model)
+    let answer = are_asked(alloc, &model);
+    drop(model);
+    answer
 }
 
 #[test]

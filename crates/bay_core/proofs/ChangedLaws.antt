@@ -1,12 +1,10 @@
 -- The reply to a definition and to deletions, and the bay behind it.
-use Rattle.std.proofs.Common.{◌≡◌, ◌<◌, ◌∙◌, ◌∷◌, ◌++◌, ℕ, suc, max, Bool, true, false, List, [], length, map, Option, None, Some, is_some, refl, ap, ap₂, sym, subst, arith, append_assoc}
+use Rattle.std.proofs.Common.{◌≡◌, ◌∙◌, ◌∷◌, ◌++◌, ℕ, suc, max, Bool, true, false, List, [], length, map, Option, None, Some, is_some, refl, ap, ap₂, sym, subst, append_assoc}
 use Rattle.std.specs.Prelude.{◌==◌, slice_get, if◌then◌else◌}
 use Rattle.std.specs.Option.{option_map, option_map_or}
 use Rattle.std.proofs.lemmas.List.{length-map}
 use Rattle.sv_base.specs.declared.config.Config.{Config}
 use Rattle.sv_base.specs.declared.numbers.NodeId.{NodeId}
-use Rattle.bay_model.specs.declared.answer.Output.{Output}
-use Rattle.bay_model.specs.declared.reply.Reply.{Reply}
 use Rattle.bay_model.specs.declared.reply.Reply.TheVariants as replies
 use Rattle.bay_model.specs.declared.request.Service.TheVariants as services
 use Rattle.bay_model.specs.declared.request.SetName.{SetName}
@@ -14,16 +12,15 @@ use Rattle.bay_model.specs.declared.request.Target.{Target}
 use Rattle.bay_model.specs.declared.request.Target.TheVariants as targets
 use Rattle.bay_model.specs.declared.tables.NodeRow.{NodeRow}
 use Rattle.bay_model.specs.Configured.{block_defined}
-use Rattle.bay_model.specs.Definitions.{definition_change, definition_error, definition_reply, is_set_name, number_of}
-use Rattle.bay_model.specs.Deletions.{deletion_change, gone, matched}
-use Rattle.bay_model.specs.Model.{DataSet, Model}
+use Rattle.bay_model.specs.Definitions.{definition_change, definition_error, is_set_name, number_of}
+use Rattle.bay_model.specs.Deletions.{deletion_change}
+use Rattle.bay_model.specs.Model.{DataSet}
 use Rattle.bay_model.specs.Named.{configured_model}
 use Rattle.bay_model.specs.Points.{Change, Past, answered, defined, deleted, unchanged}
 use Rattle.bay_model.specs.Services.{set_name}
 use Rattle.bay_model.specs.Sets.{dynamic, sets}
 use Rattle.bay_model.specs.Singles.{arrival}
 use Rattle.object_model.specs.Nodes.{node_rows}
-use Rattle.set_view.specs.Shapes.{shapes_of}
 use Rattle.data_sets.specs.declared.book.DefineFault.{DefineFault}
 use Rattle.data_sets.specs.Books.{Booked, Book, IsSet, define_fault, defined_set, node_in, with_set}
 use Rattle.data_sets.specs.Standing.{data_set}

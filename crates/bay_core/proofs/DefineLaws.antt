@@ -18,7 +18,7 @@ use Rattle.bay_model.specs.declared.request.Target.{Target}
 use Rattle.bay_model.specs.declared.request.Target.TheVariants as targets
 use Rattle.bay_model.specs.declared.tables.NodeRow.{NodeRow}
 use Rattle.bay_model.specs.Breaks.{is_empty}
-use Rattle.bay_model.specs.Definitions.{has_node, is_name as is_name_text, is_set_name, number_of}
+use Rattle.bay_model.specs.Definitions.{has_node, is_name as is_name_text, is_set_name}
 use Rattle.bay_model.specs.Lookups.{node_of}
 use Rattle.bay_model.specs.Model.{Node, several, structure, none}
 use Rattle.bay_model.specs.Named.{configured_model, nodes}
@@ -26,9 +26,8 @@ use Rattle.bay_model.specs.Reports.{reference_at}
 use Rattle.object_model.specs.Nodes.{node_rows}
 use Rattle.object_model.proofs.TableLaws.{count-rows, rows-are-nodes}
 use Rattle.set_view.specs.Shapes.{no_row}
-use Rattle.data_sets.specs.declared.book.DefineFault.{DefineFault}
 use Rattle.data_sets.specs.declared.book.DefineFault.TheVariants as define
-use Rattle.data_sets.specs.Books.{Booked, Book, IsSet, define_fault, defined_set, is_member, is_name, no_set, node_in, number_named, number_referred, place_of, reference, row_of, set_at, with_set}
+use Rattle.data_sets.specs.Books.{Booked, Book, IsSet, define_fault, defined_set, is_member, is_name, no_set, node_in, number_named, number_referred, place_of, reference, set_at, with_set}
 use Rattle.data_sets.specs.Standing.{IsNamed, data_set}
 use Rattle.data_sets.specs.Turns.{AreRows}
 use Rattle.data_sets.proofs.BookLaws.{IsPlace, at_front, at_last, is_place, length_more, no-reference}
@@ -41,7 +40,7 @@ use Rattle.set_view.specs.Shapes.{shapes_of}
 use Rattle.bay_config.specs.Servable.{IsMember, IsServable, IsServedSet}
 use Rattle.bay_core.specs.declared.watch.Watch.{Watch}
 use Rattle.bay_core.specs.Deleted.{IsNewSet}
-use Rattle.bay_core.specs.State.{IsBooked, IsFurnished}
+use Rattle.bay_core.specs.State.{IsBooked}
 use Rattle.bay_core.specs.Watched.{IsRoomier, IsWatching}
 use Rattle.bay_core.specs.Whole.{IsWhole}
 use Rattle.bay_core.proofs.BookLaws.{number-there}

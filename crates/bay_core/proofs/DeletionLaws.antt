@@ -1,11 +1,10 @@
 -- Deletions in turn: which data sets go, how many were there at their turn, and what the blocks stand for then.
-use Rattle.std.proofs.Common.{◌≡◌, ◌≢◌, ◌<◌, ◌≤◌, ◌+◌, ◌∙◌, ◌∷◌, ◌++◌, ℕ, zero, suc, Bool, true, false, not, List, [], length, map, Option, None, Some, is_some, Result, Ok, Err, refl, ap, ap₂, sym, subst, arith, inl, inr, true≢false, drop}
-use Rattle.std.specs.Prelude.{◌==◌, ◌&&◌, ◌||◌, is_none, nat_lt, slice_get, slice_index_or, if◌then◌else◌}
+use Rattle.std.proofs.Common.{◌≡◌, ◌≢◌, ◌<◌, ◌≤◌, ◌+◌, ◌∙◌, ◌∷◌, ◌++◌, ℕ, suc, Bool, true, false, not, List, [], length, map, Option, None, Some, is_some, Result, Ok, Err, refl, ap, ap₂, sym, subst, arith, inl, inr, drop}
+use Rattle.std.specs.Prelude.{◌&&◌, ◌||◌, is_none, nat_lt, slice_get, slice_index_or, if◌then◌else◌}
 use Rattle.std.specs.List.{find, list_any}
 use Rattle.std.specs.Option.{option_map}
 use Rattle.std.specs.Str.{bytes_eq}
 use Rattle.std.proofs.lemmas.Bool.Decides.{leb_tells, nat_tests}
-use Rattle.std.proofs.lemmas.List.{length-map}
 use Rattle.list_laws.proofs.Places.{got-map}
 use Rattle.sv_base.specs.declared.config.Config.{Config}
 use Rattle.bay_model.specs.declared.request.SetName.{SetName}
@@ -15,11 +14,11 @@ use Rattle.bay_model.specs.Model.{Block, DataSet, Model}
 use Rattle.bay_model.specs.Named.{configured_model}
 use Rattle.bay_model.specs.Parameters.{parameters_at}
 use Rattle.bay_model.specs.Points.{Past}
-use Rattle.bay_model.specs.Sets.{is_named, set_named, sets, without, without_all}
+use Rattle.bay_model.specs.Sets.{is_named, set_named, without, without_all}
 use Rattle.bay_model.specs.Singles.{arrival}
 use Rattle.data_sets.specs.declared.book.DeleteFault.{DeleteFault}
 use Rattle.data_sets.specs.declared.book.DeleteFault.TheVariants as faults
-use Rattle.data_sets.specs.Books.{Booked, Book, after_delete, deletion_of, is_name, number_named, place_of, set_at}
+use Rattle.data_sets.specs.Books.{Booked, deletion_of, is_name, number_named, place_of, set_at}
 use Rattle.data_sets.specs.Standing.{data_set}
 use Rattle.data_sets.specs.Turns.{is_going, is_there}
 use Rattle.data_sets.proofs.BookLaws.{IsPlace, is_place, removed_is}

@@ -1,5 +1,5 @@
 -- The book of the configured data sets alone.
-use Rattle.std.proofs.Common.{◌≡◌, ◌≢◌, ◌<◌, ◌≤◌, ℕ, zero, suc, List, [], ◌∷◌, map, length, refl, ap, sym, ◌∙◌, subst, arith, slice_index_or, inl, inr}
+use Rattle.std.proofs.Common.{◌≡◌, ◌≢◌, ◌<◌, ℕ, zero, suc, List, [], ◌∷◌, map, length, refl, ap, sym, ◌∙◌, subst, arith, slice_index_or, inl, inr}
 use Rattle.std.specs.List.{All}
 use Rattle.std.proofs.lemmas.List.{length-map}
 use Rattle.std.proofs.lemmas.List.Elements.{All-head, All-tail}
@@ -10,7 +10,7 @@ use Rattle.bay_model.specs.Generated.{within}
 use Rattle.bay_model.specs.Model.{DataSet, Node}
 use Rattle.bay_model.specs.Named.{configured_model, nodes, set_defined}
 use Rattle.bay_model.specs.Sets.{set_referred}
-use Rattle.std.specs.Prelude.{is_some, true}
+use Rattle.std.specs.Prelude.{is_some}
 use Rattle.object_model.specs.Tables.{node_id, set_row, set_rows}
 use Rattle.data_sets.specs.Books.{Book, booked, no_set, opened}
 use Rattle.data_sets.specs.Standing.{IsNamed, data_set}

@@ -3,7 +3,6 @@ use Rattle.std.proofs.Common.{◌≡◌, ◌∙◌, ℕ, List, map, max, ap, sym
 use Rattle.sv_base.specs.declared.config.Config.{Config}
 use Rattle.bay_rooms.specs.Rooms.{Filled}
 use Rattle.bay_model.specs.Named.{configured_model}
-use Rattle.bay_model.specs.Points.{Past}
 use Rattle.data_sets.specs.Books.{Book}
 use Rattle.data_sets.specs.Standing.{data_set}
 use Rattle.value_store.specs.Stored.{Stored}

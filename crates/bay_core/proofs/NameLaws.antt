@@ -1,5 +1,5 @@
 -- Names that a data set may have: the logical node is there.
-use Rattle.std.proofs.Common.{◌≡◌, ◌+◌, ◌∙◌, ◌∷◌, ℕ, suc, Bool, true, false, List, [], Option, None, Some, is_some, refl, ap, ap₂, sym, arith}
+use Rattle.std.proofs.Common.{◌≡◌, ◌+◌, ◌∙◌, ◌∷◌, ℕ, Bool, true, false, List, [], Option, Some, is_some, refl, ap, ap₂, sym, arith}
 use Rattle.std.specs.Prelude.{◌&&◌, ◌||◌, position, if◌then◌else◌}
 use Rattle.std.specs.Option.{option_map}
 use Rattle.std.specs.List.{list_any}

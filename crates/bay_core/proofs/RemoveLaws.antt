@@ -1,5 +1,5 @@
 -- A data set that goes from the book: what is found then, and the blocks with their numbers.
-use Rattle.std.proofs.Common.{◌≡◌, ◌≢◌, ◌<◌, ◌≤◌, ◌-◌, ◌∙◌, ◌∷◌, ◌++◌, ℕ, zero, suc, Bool, true, false, List, [], length, map, take, drop, Option, None, Some, is_some, refl, ap, ap₂, sym, subst, arith, inl, inr, true≢false, ◌⊎◌}
+use Rattle.std.proofs.Common.{◌≡◌, ◌≢◌, ◌<◌, ◌≤◌, ◌-◌, ◌∙◌, ◌∷◌, ◌++◌, ℕ, zero, suc, Bool, true, false, List, [], length, map, take, drop, Option, None, Some, is_some, refl, ap, ap₂, sym, subst, arith, inl, inr, true≢false}
 use Rattle.std.specs.Prelude.{◌&&◌, ◌||◌, nat_lt, slice_get, slice_index_or, if◌then◌else◌}
 use Rattle.std.specs.List.{list_any}
 use Rattle.std.specs.Option.{option_map}
@@ -11,12 +11,10 @@ use Rattle.sv_base.specs.declared.config.Config.{Config}
 use Rattle.bay_rooms.specs.Rooms.{Filled}
 use Rattle.bay_model.specs.declared.flags.Trg.{Trg}
 use Rattle.bay_model.specs.declared.request.SetName.{SetName}
-use Rattle.bay_model.specs.declared.tables.MemberShape.{MemberShape}
-use Rattle.bay_model.specs.declared.tables.NodeRow.{NodeRow}
 use Rattle.bay_model.specs.Lookups.{reference_of}
 use Rattle.object_model.specs.Nodes.{node_rows}
 use Rattle.set_view.specs.Shapes.{shapes_of}
-use Rattle.data_sets.specs.Books.{Booked, Book, IsSet, after_delete, is_name, no_set, nodes_in, number_named, number_referred, place_of, reference, set_at}
+use Rattle.data_sets.specs.Books.{Booked, Book, after_delete, is_name, no_set, nodes_in, number_named, number_referred, place_of, reference, set_at}
 use Rattle.data_sets.specs.Standing.{IsNamed, data_set}
 use Rattle.data_sets.proofs.BookLaws.{IsPlace, at_removed, is_place, old, old_below, same_octets}
 use Rattle.brcb_state.specs.Components.{trg_of}
@@ -30,9 +28,9 @@ use Rattle.bay_config.specs.Servable.{IsServedSet}
 use Rattle.bay_core.specs.declared.watch.Watch.{Watch}
 use Rattle.bay_core.specs.Deleted.{is_reported}
 use Rattle.bay_core.specs.State.{IsBooked, IsFurnished}
-use Rattle.bay_core.specs.Watched.{AreBlank, IsIndexed, IsWatching, members_in, options_in}
+use Rattle.bay_core.specs.Watched.{AreBlank, members_in, options_in}
 use Rattle.bay_core.specs.Whole.{IsWhole}
-use Rattle.bay_core.proofs.BookLaws.{number-there, some-mapped}
+use Rattle.bay_core.proofs.BookLaws.{some-mapped}
 use Rattle.bay_core.proofs.QuietLaws.{quiet-map}
 
 -- ---- the places before and after

@@ -1,5 +1,5 @@
 -- The index in more room, and with one data set more.
-use Rattle.std.proofs.Common.{◌≡◌, ◌<◌, ◌≤◌, ◌∙◌, ℕ, suc, List, length, map, refl, ap, sym, subst, arith, inl, inr, None, Some}
+use Rattle.std.proofs.Common.{◌≡◌, ◌<◌, ◌≤◌, ◌∙◌, ℕ, suc, List, length, refl, ap, sym, subst, arith, inl, inr, None, Some}
 use Rattle.std.specs.Prelude.{slice_get, max, Option}
 use Rattle.std.proofs.lemmas.Bool.{cases_eq}
 use Rattle.std.proofs.lemmas.Bool.Decides.{leb_tells}
@@ -13,7 +13,7 @@ use Rattle.touch_index.specs.declared.touch.Touch.{Touch}
 use Rattle.touch_index.specs.Indexed.{Indexed, none, pairs, block_at, with_room}
 use Rattle.touch_index.specs.Gathered.{IsSetOf}
 use Rattle.report_block.specs.declared.block.ReportBlock.{ReportBlock}
-use Rattle.bay_core.specs.Watched.{IsIndexed, IsRoomier, members_in}
+use Rattle.bay_core.specs.Watched.{IsIndexed, IsRoomier}
 
 -- ---- more room
 

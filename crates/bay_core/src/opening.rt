@@ -46,18 +46,41 @@ fn parts_of(alloc: Global, model: &Model, book: &SetBook) -> Result<Vec<ReportBl
     Ok(parts)
 }
 
+/// Room for what the blocks wait for and what associations wait for, for changes, and for events and replies.
+#[derive(Drop)]
+struct Rooms {
+    dues: Dues,
+    associations: Queues,
+    changes: Vec<Change>,
+    events: EventRoom,
+    octets: Fixed,
+}
+
+/// Room for so many blocks and so many attributes, with no open association.
+fn rooms_made(alloc: Global, blocks: usize, attrs: u32) -> Result<Rooms, AllocError>
+    ensures dues { IfOk result (λ r. r.dues ≡ replicate blocks (Some 0)) }
+    ensures associations { IfOk result (λ r. r.associations ≡ replicate 16 closed) }
+    ensures changes { IfOk result (λ r. attrs ≤ vec_capacity r.changes) }
+    ensures events { IfOk result (λ r. HasRoom 256 r.events) }
+    ensures octets { IfOk result (λ r. r.octets.room ≡ 129024) }
+{
+    Ok(Rooms {
+        dues: Dues::open(alloc, blocks)?,
+        associations: Queues::open(alloc)?,
+        changes: Vec::with_capacity(alloc, attrs as usize)?,
+        events: EventRoom::new(alloc, 256)?,
+        octets: Fixed::new(alloc, 129024)?,
+    })
+}
+
 /// What a bay has besides its model.
 #[derive(Drop)]
 struct Made {
     values: Values,
     sets: SetBook,
     parts: Vec<ReportBlock>,
-    dues: Dues,
-    associations: Queues,
     watch: Watch,
-    changes: Vec<Change>,
-    events: EventRoom,
-    octets: Fixed,
+    rooms: Rooms,
 }
 
 /// The values, the data sets and the blocks as they are configured, no open association, and the room that notes, entries and
@@ -67,32 +90,27 @@ fn parts_made(alloc: Global, model: &Model) -> Result<Made, AllocError>
     ensures values { IfOk result (λ m. m.values ≡ opened model.now) }
     ensures sets { IfOk result (λ m. m.sets ≡ booked (set_rows model.now)) }
     ensures parts { IfOk result (λ m. map seen m.parts.items ≡ map (part_defined (booked (set_rows model.now))) model.now.blocks) }
-    ensures dues { IfOk result (λ m. m.dues ≡ replicate (length m.parts.items) (Some 0)) }
-    ensures associations { IfOk result (λ m. m.associations ≡ replicate 16 closed) }
     ensures watch { IfOk result (λ m. IsWatching (node_rows model.now) m.sets (length m.values) m.parts.items m.watch) }
-    ensures events { IfOk result (λ m. HasRoom 256 m.events) }
-    ensures octets { IfOk result (λ m. m.octets.room ≡ 129024) }
-    ensures changes { IfOk result (λ m. length m.values ≤ vec_capacity m.changes) }
+    ensures dues { IfOk result (λ m. m.rooms.dues ≡ replicate (length m.parts.items) (Some 0)) }
+    ensures associations { IfOk result (λ m. m.rooms.associations ≡ replicate 16 closed) }
+    ensures events { IfOk result (λ m. HasRoom 256 m.rooms.events) }
+    ensures octets { IfOk result (λ m. m.rooms.octets.room ≡ 129024) }
+    ensures changes { IfOk result (λ m. length m.values ≤ vec_capacity m.rooms.changes) }
 {
     let values = Values::open(alloc, model.config())?;
-    let sets = SetBook::open(alloc, model.sets())?;
-    let parts = parts_of(alloc, model, &sets)?;
     let Ok(attrs) = u32::try_from(values.store().len()) else {
         return Err(AllocError);
     };
+    let sets = SetBook::open(alloc, model.sets())?;
+    let parts = parts_of(alloc, model, &sets)?;
     let watch = Watch::open(alloc, attrs, &parts, &sets, model.nodes().as_slice())?;
-    let changes = Vec::with_capacity(alloc, attrs as usize)?;
-    let dues = Dues::open(alloc, parts.len())?;
+    let rooms = rooms_made(alloc, parts.len(), attrs)?;
     Ok(Made {
         values,
         sets,
         parts,
-        dues,
-        associations: Queues::open(alloc)?,
         watch,
-        changes,
-        events: EventRoom::new(alloc, 256)?,
-        octets: Fixed::new(alloc, 129024)?,
+        rooms,
     })
 }
 
@@ -102,16 +120,23 @@ fn begun(model: Model, made: Made) -> Bay
     requires values { made.values ≡ opened model }
     requires sets { made.sets ≡ booked (set_rows model) }
     requires parts { map seen made.parts.items ≡ map (part_defined (booked (set_rows model))) model.blocks }
-    requires dues { made.dues ≡ replicate (length made.parts.items) (Some 0) }
-    requires associations { made.associations ≡ replicate 16 closed }
+    requires dues { made.rooms.dues ≡ replicate (length made.parts.items) (Some 0) }
+    requires associations { made.rooms.associations ≡ replicate 16 closed }
     requires watch { IsWatching (node_rows model) made.sets (length made.values) made.parts.items made.watch }
-    requires events { HasRoom 256 made.events }
-    requires octets { made.octets.room ≡ 129024 }
-    requires changes { length made.values ≤ vec_capacity made.changes }
+    requires events { HasRoom 256 made.rooms.events }
+    requires octets { made.rooms.octets.room ≡ 129024 }
+    requires changes { length made.values ≤ vec_capacity made.rooms.changes }
     ensures config { result.config ≡ model }
     ensures steps { result.steps ≡ 0 }
     ensures stands { StandsFor result model [] }
 {
+    let Rooms {
+        dues,
+        associations,
+        changes,
+        events,
+        octets,
+    } = made.rooms;
     Bay {
         model,
         steps: 0,
@@ -119,12 +144,12 @@ fn begun(model: Model, made: Made) -> Bay
         values: made.values,
         sets: made.sets,
         parts: made.parts,
-        dues: made.dues,
-        associations: made.associations,
+        dues,
+        associations,
         watch: made.watch,
-        changes: made.changes,
-        events: made.events,
-        octets: made.octets,
+        changes,
+        events,
+        octets,
         spare: None,
         rooms: None,
     }
@@ -142,7 +167,10 @@ impl Bay {
         ensures steps { IfOk result (λ b. b.steps ≡ 0) }
         ensures stands { IfOk result (λ b. StandsFor b model []) }
     {
-        let made = parts_made(alloc, &model)?;
+        let Ok(made) = parts_made(alloc, &model) else {
+            drop(model);
+            return Err(AllocError);
+        };
         Ok(begun(model, made))
     }
 }

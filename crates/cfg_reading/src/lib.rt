@@ -3,6 +3,8 @@
 
 mod claiming;
 mod draft;
+mod kept;
 mod reading;
 
-pub use reading::{Counts, Reading};
+pub use kept::Counts;
+pub use reading::Reading;

@@ -1,49 +1,11 @@
 //! The lines that were read, and what is kept of them.
 
-ghost use Rattle.std.specs.Prelude.{◌≡◌, true, codes, if◌then◌else◌};
-ghost use Rattle.std.specs.Str.{bytes_eq};
-
-use crate::claiming::{add_node, add_set, with_attribute, with_block, with_control, with_groups};
 use crate::draft::config_of;
-use cfg_lines::{Keys, Line, Names, Place};
+use crate::kept::{Counts, Kept};
+use cfg_lines::{Line, Place};
 use std::alloc::{AllocError, Global};
 use std::marker::Model;
-use sv_base::{AttrDef, BlockDef, Config, CtlDef, LnDef, Octs, SetDef, SgDef};
-use text_words::{empty, owned};
-
-/// The functional constraint is SG, or there was one.
-fn is_settings(fc: &[u8], before: bool) -> bool
-    ensures { result ≡ (if bytes_eq fc.now (codes "SG") then true else before) }
-{
-    if fc == b"SG".as_slice() { true } else { before }
-}
-
-/// How many lines of a kind there are; of members those of the last data set.
-#[derive(Clone, Copy, Debug, PartialEq, Eq)]
-pub struct Counts {
-    pub domains: u32,
-    pub nodes: u32,
-    pub attributes: u32,
-    pub sets: u32,
-    pub members: u32,
-    pub blocks: u32,
-    pub controls: u32,
-}
-
-/// The lines that were read, and what is kept of them so that none is looked at again.
-#[derive(Drop)]
-struct Kept {
-    lines: Vec<Line>,
-    place: Place,
-    domain: Octs,
-    node: Octs,
-    groups: u8,
-    has_settings: bool,
-    counts: Counts,
-    heads: Keys,
-    sets: Keys,
-    names: Names,
-}
+use sv_base::Config;
 
 /// The lines that were read, and what they tell of the next. Contracts see it as the list of the lines, the last first.
 #[derive(Drop)]
@@ -57,7 +19,7 @@ impl Model for Reading {
     ghost use Rattle.sv_base.specs.Tree.{row_code};
     ghost use Rattle.sv_base.specs.Types.{fields_code};
     ghost use Rattle.cfg_lines.specs.declared.line.Line.{Line};
-    ghost use Rattle.cfg_reading.specs.Known.{Known, kept_facts};
+    ghost use Rattle.cfg_reading.specs.Known.{Known, facts_kept};
 
     ghost Value = { List Line };
 
@@ -65,12 +27,11 @@ impl Model for Reading {
 
     ghost view = { λ r. reverse r.kept.lines.items };
 
-    ghost invariant = { λ r. Known (reverse r.kept.lines.items) (kept_facts r.kept.place r.kept.domain r.kept.node r.kept.groups r.kept.has_settings r.kept.counts) r.kept.heads r.kept.sets r.kept.names };
+    ghost invariant = { λ r. Known (reverse r.kept.lines.items) (facts_kept r.kept) r.kept.heads r.kept.sets r.kept.names };
 }
 
 impl Reading {
     ghost use Rattle.std.specs.Prelude.{◌≡◌, ◌≤◌, ◌<◌, ◌∷◌, [], length, IfOk};
-    ghost use Rattle.cfg_lines.specs.declared.line.Line.TheVariants.{Skip, Config as ConfigLine, Server, Ld, Ln, Attr, Set, Member, Brcb, Ctl, Sgcb, End};
     ghost use Rattle.cfg_lines.specs.Before.{number_of, place_of, domain_of, node_of, groups_of, has_settings as has_settings_before, domains as domains_before, nodes as nodes_before, attributes as attributes_before, sets as sets_before, members as members_before, blocks as blocks_before, controls as controls_before};
     ghost use Rattle.std.specs.Prelude.{map, reverse};
     ghost use Rattle.std.specs.List.{list_any};
@@ -84,26 +45,7 @@ impl Reading {
         ensures { result ≡ [] }
     {
         Reading {
-            kept: Kept {
-                lines: Vec::new(alloc),
-                place: Place::Start,
-                domain: empty(alloc),
-                node: empty(alloc),
-                groups: 0,
-                has_settings: false,
-                counts: Counts {
-                    domains: 0,
-                    nodes: 0,
-                    attributes: 0,
-                    sets: 0,
-                    members: 0,
-                    blocks: 0,
-                    controls: 0,
-                },
-                heads: Keys::new(alloc),
-                sets: Keys::new(alloc),
-                names: Names::new(alloc),
-            },
+            kept: Kept::new(alloc),
         }
     }
 
@@ -206,174 +148,17 @@ impl Reading {
         self.kept.names.is_one_taken(paths)
     }
 
-    fn with_skip(self) -> Result<Reading, AllocError>
-        requires few { length self < 20000 }
-        ensures { IfOk result (λ r. r ≡ Skip ∷ self) }
-    {
-        let Reading { mut kept } = self;
-        kept.lines.push(Line::Skip)?;
-        Ok(Reading { kept })
-    }
-
-    fn with_config(self) -> Result<Reading, AllocError>
-        requires few { length self < 20000 }
-        ensures { IfOk result (λ r. r ≡ ConfigLine ∷ self) }
-    {
-        let Reading { mut kept } = self;
-        kept.place = Place::Configured;
-        kept.lines.push(Line::Config)?;
-        Ok(Reading { kept })
-    }
-
-    fn with_server(self, vendor: Octs, model: Octs, revision: Octs) -> Result<Reading, AllocError>
-        requires few { length self < 20000 }
-        ensures { IfOk result (λ r. r ≡ Server vendor model revision ∷ self) }
-    {
-        let Reading { mut kept } = self;
-        kept.place = Place::Served;
-        kept.lines.push(Line::Server {
-            vendor,
-            model,
-            revision,
-        })?;
-        Ok(Reading { kept })
-    }
-
-    fn with_domain(self, alloc: Global, name: Octs) -> Result<Reading, AllocError>
-        requires few { length self < 20000 }
-        ensures { IfOk result (λ r. r ≡ Ld name ∷ self) }
-    {
-        let Reading { mut kept } = self;
-        kept.place = Place::InDomain;
-        kept.domain = owned(alloc, name.as_slice())?;
-        kept.node = empty(alloc);
-        kept.groups = 0;
-        kept.has_settings = false;
-        kept.counts.domains += 1;
-        kept.heads.add(name.as_slice())?;
-        kept.lines.push(Line::Ld(name))?;
-        Ok(Reading { kept })
-    }
-
-    fn with_node(self, alloc: Global, node: LnDef) -> Result<Reading, AllocError>
-        requires few { length self < 20000 }
-        ensures { IfOk result (λ r. r ≡ Ln node ∷ self) }
-    {
-        let Reading { mut kept } = self;
-        kept.place = Place::InNode;
-        kept.node = owned(alloc, node.ln.as_slice())?;
-        kept.counts.nodes += 1;
-        add_node(alloc, &mut kept.heads, &node)?;
-        kept.lines.push(Line::Ln(node))?;
-        Ok(Reading { kept })
-    }
-
-    fn with_attribute(self, alloc: Global, attr: AttrDef) -> Result<Reading, AllocError>
-        requires few { length self < 20000 }
-        ensures { IfOk result (λ r. r ≡ Attr attr ∷ self) }
-    {
-        let Reading { mut kept } = self;
-        kept.place = Place::InNode;
-        kept.has_settings = is_settings(attr.fc.as_slice(), kept.has_settings);
-        kept.counts.attributes += 1;
-        kept.names = with_attribute(alloc, kept.names, &attr)?;
-        kept.lines.push(Line::Attr(attr))?;
-        Ok(Reading { kept })
-    }
-
-    fn with_set(self, alloc: Global, set: SetDef) -> Result<Reading, AllocError>
-        requires few { length self < 20000 }
-        ensures { IfOk result (λ r. r ≡ Set set ∷ self) }
-    {
-        let Reading { mut kept } = self;
-        kept.place = Place::InSet;
-        kept.counts.sets += 1;
-        kept.counts.members = 0;
-        add_set(alloc, &mut kept.sets, &set)?;
-        kept.lines.push(Line::Set(set))?;
-        Ok(Reading { kept })
-    }
-
-    fn with_member(self, reference: Octs) -> Result<Reading, AllocError>
-        requires few { length self < 20000 }
-        ensures { IfOk result (λ r. r ≡ Member reference ∷ self) }
-    {
-        let Reading { mut kept } = self;
-        kept.place = Place::InMembers;
-        kept.counts.members += 1;
-        kept.lines.push(Line::Member(reference))?;
-        Ok(Reading { kept })
-    }
-
-    fn with_block(self, alloc: Global, block: BlockDef) -> Result<Reading, AllocError>
-        requires few { length self < 20000 }
-        ensures { IfOk result (λ r. r ≡ Brcb block ∷ self) }
-    {
-        let Reading { mut kept } = self;
-        kept.place = Place::InNode;
-        kept.counts.blocks += 1;
-        kept.names = with_block(alloc, kept.names, &block)?;
-        kept.lines.push(Line::Brcb(block))?;
-        Ok(Reading { kept })
-    }
-
-    fn with_control(self, alloc: Global, control: CtlDef) -> Result<Reading, AllocError>
-        requires few { length self < 20000 }
-        ensures { IfOk result (λ r. r ≡ Ctl control ∷ self) }
-    {
-        let Reading { mut kept } = self;
-        kept.place = Place::InNode;
-        kept.counts.controls += 1;
-        kept.names = with_control(alloc, kept.names, &control)?;
-        kept.lines.push(Line::Ctl(control))?;
-        Ok(Reading { kept })
-    }
-
-    fn with_groups(self, alloc: Global, groups: SgDef) -> Result<Reading, AllocError>
-        requires few { length self < 20000 }
-        ensures { IfOk result (λ r. r ≡ Sgcb groups ∷ self) }
-    {
-        let Reading { mut kept } = self;
-        kept.place = Place::InNode;
-        kept.groups = groups.count;
-        kept.names = with_groups(alloc, kept.names, &groups)?;
-        kept.lines.push(Line::Sgcb(groups))?;
-        Ok(Reading { kept })
-    }
-
-    fn with_end(self) -> Result<Reading, AllocError>
-        requires few { length self < 20000 }
-        ensures { IfOk result (λ r. r ≡ End ∷ self) }
-    {
-        let Reading { mut kept } = self;
-        kept.place = Place::Ended;
-        kept.lines.push(Line::End)?;
-        Ok(Reading { kept })
-    }
-
     /// With one more line.
     pub fn with(self, alloc: Global, line: Line) -> Result<Reading, AllocError>
         requires few { length self < 20000 }
         ensures { IfOk result (λ r. r ≡ line ∷ self) }
     {
-        match line {
-            Line::Skip => self.with_skip(),
-            Line::Config => self.with_config(),
-            Line::Server {
-                vendor,
-                model,
-                revision,
-            } => self.with_server(vendor, model, revision),
-            Line::Ld(name) => self.with_domain(alloc, name),
-            Line::Ln(node) => self.with_node(alloc, node),
-            Line::Attr(attr) => self.with_attribute(alloc, attr),
-            Line::Set(set) => self.with_set(alloc, set),
-            Line::Member(reference) => self.with_member(reference),
-            Line::Brcb(block) => self.with_block(alloc, block),
-            Line::Ctl(control) => self.with_control(alloc, control),
-            Line::Sgcb(groups) => self.with_groups(alloc, groups),
-            Line::End => self.with_end(),
-        }
+        let Reading { mut kept } = self;
+        let Ok(()) = kept.add(alloc, line) else {
+            drop(kept);
+            return Err(AllocError);
+        };
+        Ok(Reading { kept })
     }
 
     /// The configuration that the lines make.

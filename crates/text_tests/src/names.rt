@@ -211,35 +211,60 @@ pub fn built(alloc: Global) -> Result<Model, AllocError> {
     Model::build(alloc, config)
 }
 
-fn copied(alloc: Global) -> Result<Model, AllocError> {
-    let model = built(alloc)?;
-    model.copy(alloc)
+/// Whether a copy of the model finds the nodes. Here and below the model ends before anything is told of it.
+fn finds_nodes(alloc: Global, model: Model) -> Result<bool, AllocError> {
+    let Ok(copy) = model.copy(alloc) else {
+        drop(model);
+        return Err(AllocError);
+    };
+    drop(model);
+    let wrong = first_wrong_node(&copy);
+    drop(copy);
+    Ok(wrong.is_none())
+}
+
+fn finds_references(model: Model) -> bool {
+    let finds = first_wrong_attr(&model).is_none() && has_its_parts(&model);
+    drop(model);
+    finds
+}
+
+fn count_of_domains(alloc: Global, model: &Model) -> Result<usize, AllocError> {
+    Ok(domains(alloc, model.config().nodes.as_slice())?.len())
+}
+
+fn counts_domains(alloc: Global, model: Model) -> Result<bool, AllocError> {
+    let count = count_of_domains(alloc, &model);
+    drop(model);
+    Ok(count? == 2)
+}
+
+fn goes_on(alloc: Global, model: Model) -> Result<bool, AllocError> {
+    let wrong = first_wrong_names(alloc, &model);
+    drop(model);
+    Ok(wrong?.is_none())
 }
 
 #[test]
 fn nodes_are_found_by_domain_and_item(rt: HostRuntime) -> Result<(), Fail> {
-    let model = copied(rt.alloc())?;
-    assert!(rt; first_wrong_node(&model).is_none());
+    assert!(rt; finds_nodes(rt.alloc(), built(rt.alloc())?)?);
     Ok(())
 }
 
 #[test]
 fn references_have_the_numbers_of_their_lines(rt: HostRuntime) -> Result<(), Fail> {
-    let model = built(rt.alloc())?;
-    assert!(rt; first_wrong_attr(&model).is_none() && has_its_parts(&model));
+    assert!(rt; finds_references(built(rt.alloc())?));
     Ok(())
 }
 
 #[test]
 fn domains_are_counted_once(rt: HostRuntime) -> Result<(), Fail> {
-    let model = built(rt.alloc())?;
-    assert!(rt; domains(rt.alloc(), model.config().nodes.as_slice())?.len() == 2);
+    assert!(rt; counts_domains(rt.alloc(), built(rt.alloc())?)?);
     Ok(())
 }
 
 #[test]
 fn names_go_on_behind_a_name(rt: HostRuntime) -> Result<(), Fail> {
-    let model = built(rt.alloc())?;
-    assert!(rt; first_wrong_names(rt.alloc(), &model)?.is_none());
+    assert!(rt; goes_on(rt.alloc(), built(rt.alloc())?)?);
     Ok(())
 }

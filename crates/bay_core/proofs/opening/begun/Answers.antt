@@ -5,8 +5,8 @@ use Rattle.bay_core.proofs.opening.begun.Goals as goal
 
 pub invariant_of-result : goal.invariant_of-result
 invariant_of-result c = record {
-  furnished = furnished-first c.args.model c.args.made.values c.args.made.sets c.args.made.parts.items c.args.made.watch c.args.made.octets (vec_capacity c.args.made.changes) c.requires.servable c.requires.values c.requires.sets c.requires.parts c.requires.watch c.requires.octets c.requires.changes;
-  quiet = quiet-first c.first.result c.args.made.dues c.args.made.parts.items c.requires.dues;
+  furnished = furnished-first c.args.model c.args.made.values c.args.made.sets c.args.made.parts.items c.args.made.watch c.args.made.rooms.octets (vec_capacity c.args.made.rooms.changes) c.requires.servable c.requires.values c.requires.sets c.requires.parts c.requires.watch c.requires.octets c.requires.changes;
+  quiet = quiet-first c.first.result c.args.made.rooms.dues c.args.made.parts.items c.requires.dues;
   roomy = c.requires.events;
 }
 

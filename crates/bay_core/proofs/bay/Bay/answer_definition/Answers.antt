@@ -1,4 +1,4 @@
-use Rattle.std.proofs.Common.{◌≡◌, ◌∙◌, ℕ, List, Bool, Option, None, Some, length, refl, ap, sym, subst, vec_capacity}
+use Rattle.std.proofs.Common.{◌≡◌, ◌∙◌, ℕ, List, Bool, None, Some, refl, ap, sym, subst, vec_capacity}
 use Rattle.std.specs.Prelude.{slice_get}
 use Rattle.bay_model.specs.declared.reply.Reply.{Reply}
 use Rattle.bay_model.specs.declared.request.Service.TheVariants as services
@@ -10,7 +10,6 @@ use Rattle.bay_model.specs.Named.{configured_model}
 use Rattle.bay_model.specs.Services.{set_name}
 use Rattle.object_model.specs.Nodes.{node_rows}
 use Rattle.bay_config.specs.Servable.{IsServable}
-use Rattle.data_sets.specs.declared.book.DefineFault.{DefineFault}
 use Rattle.data_sets.specs.Books.{Booked, Book, IsSet, define_fault, defined_set, with_set}
 use Rattle.report_block.specs.declared.block.ReportBlock.{ReportBlock}
 use Rattle.bay_core.specs.Asked.{IsReplied}

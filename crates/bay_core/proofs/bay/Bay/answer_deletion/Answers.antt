@@ -1,4 +1,4 @@
-use Rattle.std.proofs.Common.{◌≡◌, ◌∙◌, ℕ, true, false, length, List, ap, ap₂, sym, subst, arith, refl}
+use Rattle.std.proofs.Common.{◌≡◌, ◌∙◌, ℕ, true, false, length, List, ap, ap₂, sym, subst, arith}
 use Rattle.std.specs.Prelude.{◌==◌}
 use Rattle.std.proofs.lemmas.Bool.Decides.{nat_tests}
 use Rattle.bay_model.specs.declared.reply.Reply.{Reply}
@@ -6,10 +6,9 @@ use Rattle.bay_model.specs.declared.reply.Reply.TheVariants as replies
 use Rattle.bay_model.specs.declared.request.Service.TheVariants as services
 use Rattle.bay_model.specs.declared.request.SetName.{SetName}
 use Rattle.bay_config.specs.Servable.{IsServable}
-use Rattle.bay_core.specs.Asked.{IsKept, IsReplied}
+use Rattle.bay_core.specs.Asked.{IsReplied}
 use Rattle.bay_core.specs.Deleted.{after_deletions, deleted_in, matched_in}
 use Rattle.bay_core.specs.State.{State, IsBooked}
-use Rattle.bay_core.specs.Timed.{at_arrival}
 use Rattle.bay_core.proofs.ChangedLaws.{deletions-done, scope-refused}
 use Rattle.bay_core.proofs.DeletionLaws.{kept-deleted}
 use Rattle.bay_core.proofs.bay.Bay.answer_deletion.Goals as goal

@@ -1,4 +1,4 @@
-use Rattle.std.proofs.Common.{◌∙◌, ℕ, Some, ap, sym}
+use Rattle.std.proofs.Common.{◌∙◌, Some, ap, sym}
 use Rattle.std.specs.Option.{option_map}
 use Rattle.bay_model.specs.declared.request.SetName.{SetName}
 use Rattle.data_sets.specs.Books.{is_name, number_named, set_at}
