@@ -8,6 +8,3 @@ mod casting;
 mod rehearse;
 
 pub use rehearse::{rehearse, rehearse_gated};
-
-#[cfg(test)]
-mod tests;
