@@ -33,11 +33,7 @@ fn push_line(out: &mut Vec<u8>, was: Moment, line: &StepLine) -> Result<(), Allo
 }
 
 /// Adds the lines of steps that were made.
-fn push_lines(
-    out: &mut Vec<u8>,
-    book: &[Vec<StepLine>],
-    made: &[Made],
-) -> Result<(), AllocError>
+fn push_lines(out: &mut Vec<u8>, book: &[Vec<StepLine>], made: &[Made]) -> Result<(), AllocError>
     ensures { OnOk result (out.new.items ≡ out.old.items ++ octets_of (merged (book_seen book.now) least_moment made.now)) }
 {
     let mut was = Moment::first();

@@ -186,10 +186,10 @@ module _ (p : Plan) (sound : IsSound p) where
   begins (s ∷ ss) [] k all = (0, ap (turns_by k) (sym (take-zero (steps_by p sound k))))
   begins (s ∷ ss) (q ∷ qs) k all = elim (eqb_tells s.actor k) [
     | inl e ↦ (
-        length q.replies.items,
-        ap (λ b. cond b (turns_by k (take (length q.replies.items) s.steps.items)) (beginnings ss qs k)) e.0
-        ∙ ap (λ l. turns_by k (take (length q.replies.items) l)) (sym all.0 ∙ ap (steps_by p sound) e.1),
-      )
+      length q.replies.items,
+      ap (λ b. cond b (turns_by k (take (length q.replies.items) s.steps.items)) (beginnings ss qs k)) e.0
+          ∙ ap (λ l. turns_by k (take (length q.replies.items) l)) (sym all.0 ∙ ap (steps_by p sound) e.1),
+    )
     | inr e ↦
         let rest = begins ss qs k all.1 in
         (rest.0, ap (λ b. cond b (turns_by k (take (length q.replies.items) s.steps.items)) (beginnings ss qs k)) e.0 ∙ rest.1)
@@ -323,8 +323,7 @@ module _ (p : Plan) (sound : IsSound p) where
   all-verdicts h legal own (s ∷ ss) (q ∷ qs) are all lean =
       let leans = or-parts (wants_memory q.fault) (lacks_memory qs) lean in
       let v = verdict h legal own s q are.0 all.0 leans.0 in
-      let rest = all-verdicts h legal own ss qs are.1 all.1 leans.1 in
-      (
+      let rest = all-verdicts h legal own ss qs are.1 all.1 leans.1 in (
         (λ i. lesser (v.known i) (rest.0 i)),
         λ e. let nones = lesser-none (full_line (book_of p) q) (lowest_full (book_of p) qs) e in both-went (went q.fault) (all_went qs) (v.all nones.0) (rest.1 nones.1),
       )

@@ -75,9 +75,9 @@ pub never-full : (c : Model) → IsPlain c → (k : ℕ) (h : History) → IsHis
 never-full c plain k [] legal own = tt
 never-full c plain k (t ∷ h) legal own = elim (eqb_tells t.actor k) [
   | inl e ↦ subst (λ b. NeverFull k (cond b (t ∷ by k h) (by k h))) (sym e.0) (
-      never-full c plain k h legal.0 own.0,
-      ap (λ n. is_beyond n t.step) (sym (own-waits k h own.0) ∙ ap (λ a. waits a h) (sym e.1)) ∙ room c plain h legal.0 own.0 t t.step refl legal own.1,
-    )
+    never-full c plain k h legal.0 own.0,
+    ap (λ n. is_beyond n t.step) (sym (own-waits k h own.0) ∙ ap (λ a. waits a h) (sym e.1)) ∙ room c plain h legal.0 own.0 t t.step refl legal own.1,
+  )
   | inr e ↦ subst (λ b. NeverFull k (cond b (t ∷ by k h) (by k h))) (sym e.0) (never-full c plain k h legal.0 own.0)
 ]
 

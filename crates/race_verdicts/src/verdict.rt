@@ -54,8 +54,6 @@ pub fn lacks_memory(parts: &[Part]) -> bool
 {
     match parts {
         [] => false,
-        [part, more @ ..] => {
-            matches!(part.fault, Some(StepFault::Memory)) || lacks_memory(more)
-        }
+        [part, more @ ..] => { matches!(part.fault, Some(StepFault::Memory)) || lacks_memory(more) }
     }
 }

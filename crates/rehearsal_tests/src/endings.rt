@@ -58,14 +58,27 @@ const REFUSED: [Refused; 21] = [
     ("rehearse 1\n[script association 1\nin 1 03\n", 23, 5),
     ("rehearse 1\n[script association 1\nopen 2 direct\n", 23, 5),
     ("rehearse 1\n[script association 1\ntick\n", 23, 5),
-    ("rehearse 1\n[script association 1\nset BAY1/XCBR1$ST$None T\n", 23, 3),
+    (
+        "rehearse 1\n[script association 1\nset BAY1/XCBR1$ST$None T\n",
+        23,
+        3,
+    ),
     ("rehearse 1\n[script association 1\nlost 1\n", 23, 5),
-    ("rehearse 1\n[script association 1\nopen 1 direct\npdu 1 zz\n", 24, 5),
-    ("rehearse 1\n[script association 1\nclose\nscript association 1\n", 24, 5),
+    (
+        "rehearse 1\n[script association 1\nopen 1 direct\npdu 1 zz\n",
+        24,
+        5,
+    ),
+    (
+        "rehearse 1\n[script association 1\nclose\nscript association 1\n",
+        24,
+        5,
+    ),
 ];
 
 /// The second script's seventeenth request, behind a loss, finds 16 replies waiting; so does a line of the third one, below it.
-const FULL: &str = "rehearse 1\n[script process\nclose\nscript association 1\nopen 1 mms 65000\n%%take 1\npdu 1 8b00\nlost 1\n\
+const FULL: &str =
+    "rehearse 1\n[script process\nclose\nscript association 1\nopen 1 mms 65000\n%%take 1\npdu 1 8b00\nlost 1\n\
     open 1 mms 65000\n%%pdu 1 8b00\npdu 1 8b00\nclose\nscript association 2\nopen 2 mms 65000\n;;;;pdu 2 8b00\nclose\nend\n";
 
 #[test]
@@ -74,7 +87,11 @@ fn a_script_that_goes_is_its_record(rt: HostRuntime) -> Result<(), Fail> {
     for (name, text, wanted, written) in ROWS {
         let (status, output) = rehearsed(&rt, alloc, text)?;
         assert_eq!(rt; status, wanted, "{name}");
-        assert_eq!(rt; output.octets(), unmarked(alloc, written)?.as_slice(), "{name}");
+        assert_eq!(rt;
+            output.octets(),
+            unmarked(alloc, written)?.as_slice(),
+            "{name}"
+        );
     }
     Ok(())
 }
@@ -106,9 +123,15 @@ fn a_fault_of_an_end_is_the_status(rt: HostRuntime) -> Result<(), Fail> {
     let first = Calls::from_vec(vec![in alloc; 1]?);
     let mut output = MemSink::new(alloc, first);
     let mut input = source(alloc, unmarked(alloc, text)?);
-    assert_eq!(rt; rehearse(&rt, alloc, &mut input, &mut output), Status::WriteFault);
+    assert_eq!(rt;
+        rehearse(&rt, alloc, &mut input, &mut output),
+        Status::WriteFault
+    );
     let octets = Octs::from_vec(unmarked(alloc, text)?);
     let mut broken = MemSource::new(octets, Calls::from_vec(vec![in alloc; 1]?));
-    assert_eq!(rt; rehearse(&rt, alloc, &mut broken, &mut sink(alloc)), Status::ReadFault);
+    assert_eq!(rt;
+        rehearse(&rt, alloc, &mut broken, &mut sink(alloc)),
+        Status::ReadFault
+    );
     Ok(())
 }

@@ -7,7 +7,8 @@ use std::alloc::{AllocError, Global};
 use std::test::*;
 
 /// Three associations and the process race for one block.
-const RACE: &str = "rehearse 1\n[script process\nat !01\nset @ 1\nat !02\nset @ 2\nat !03\nset @ 3\nat !04\nset @ 4\nclose\n\
+const RACE: &str =
+    "rehearse 1\n[script process\nat !01\nset @ 1\nat !02\nset @ 2\nat !03\nset @ 3\nat !04\nset @ 4\nclose\n\
     script association 1\nopen 1 direct\nwrite 1 & RptEna T\ntake 1\ntake 1\nwrite 1 & RptEna F\nlost 1\nclose\n\
     script association 2\nopen 2 direct\nwrite 2 & EntryID x0000000000000001\nwrite 2 & RptEna T\ntake 2\ntake 2\nclose\n\
     script association 3\nopen 3 mms 65000\npdu 3 a006020101800100\ntake 3\npdu 3 8b00\ntake 3\nlost 3\nclose\n\

@@ -305,9 +305,11 @@ actor-told c form k w owners.Process line step before is may says =
 actor-behind : (c : Config) (form : ScriptForm) (k w : ℕ) (owner : Owner) (text : List ℕ) (line : RecLine) (step : Step) (before : List (List ℕ)) → IsActor k owner before form → may_have owner line ≡ true → judging.line_at text ≡ Ok line
     → told_of c (form_in form) line ≡ turn w step → IsActor k owner (text ∷ before) (form_passed line form)
 actor-behind c form k w (owners.Association a) text line step before is may reads says =
-    let made = association-made c (form_in form) w step a line may says in
-    (is.0, passed-in (owners.Association a) line form may
-    ∙ (ap (λ n. form_behind n line (form_in form)) (made.0 ∙ sym is.0) ∙ (ap (form_behind k line) is.1 ∙ ap (λ r. form_after k r (form_at k before)) (sym reads))))
+    let made = association-made c (form_in form) w step a line may says in (
+      is.0,
+      passed-in (owners.Association a) line form may
+          ∙ (ap (λ n. form_behind n line (form_in form)) (made.0 ∙ sym is.0) ∙ (ap (form_behind k line) is.1 ∙ ap (λ r. form_after k r (form_at k before)) (sym reads))),
+    )
 actor-behind c form k w owners.Process text line step before is may reads says = (is.0, process-passed line form may ∙ is.1)
 
 module _ (n number : ℕ) (p : Plan) (o : Opened) (text : List ℕ) (line : RecLine) (next : number ≡ suc n) (spells : Spells text line) (reads : judging.line_at text ≡ Ok line) (plan : GoodPlan n p) (good : GoodOpened n p.config o) where

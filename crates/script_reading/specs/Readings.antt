@@ -3,6 +3,8 @@ use Rattle.std.specs.Prelude.{◌≡◌, ◌<◌, ◌≤◌, ◌^◌, ◌==◌, 
 use Rattle.run_record.specs.Grammar.{IsLine}
 use Rattle.run_record.specs.Judging.{number_of}
 use Rattle.run_record.specs.declared.fault.Kind.{Kind}
+use Rattle.record_steps.specs.declared.telling.Told.{Told}
+use Rattle.record_steps.specs.declared.telling.Told.TheVariants as tolds
 use Rattle.record_outcome.specs.Records.{NoNewline, pieces}
 use Rattle.record_outcome.specs.declared.status.Status.{Status}
 use Rattle.record_outcome.specs.declared.status.Status.TheVariants as statuses
@@ -52,6 +54,11 @@ Moved nexts.End now move = (p : Plan) × (now ≡ between p) × (move ≡ ends p
 abbrev pub Begins : Option Opened → Owner → Plan → Plan → Type 0
 Begins None owner p q = (p.count == most_scripts || is_some (script_of p (actor_for p owner))) ≡ true
 Begins (Some o) owner p q = ((p.count == most_scripts || is_some (script_of p (actor_for p owner))) ≡ false) × (o ≡ opened p owner) × (q ≡ counted p owner)
+
+-- no step is told
+abbrev pub IsStepless : Told → Type 0
+IsStepless (tolds.Step actor) = ⊥
+IsStepless _ = Unit {0}
 
 -- a status that the octets of an input decide
 abbrev pub IsRefusal : Status → Type 0

@@ -55,10 +55,7 @@ fn planned(session: Session) -> Plan
 /// Reads the input of a rehearsal: a plan, or the status with which it is refused. Every line is checked.
 ///
 /// Fails for want of memory alone.
-pub fn read_rehearsal(
-    alloc: Global,
-    octets: &[u8],
-) -> Result<Result<Plan, Status>, AllocError>
+pub fn read_rehearsal(alloc: Global, octets: &[u8]) -> Result<Result<Plan, Status>, AllocError>
     requires { length octets.now < 2 ^ 61 }
     ensures reads { IfOk result (λ r. Reads r (outcome octets.now)) }
     ensures refused { IfOk result IsRefused }

@@ -55,15 +55,19 @@ fn strange(alloc: Global, model: &Model, line: &LineView<'_>) -> Result<Kind, Al
 }
 
 impl Opened {
-    ghost use Rattle.std.specs.Prelude.{◌≡◌, List, IfOk, OnOk};
+    ghost use Rattle.std.specs.Prelude.{◌≡◌, ℕ, List, IfOk, OnOk};
+    ghost use Rattle.bay_model.specs.declared.step.Step.{Step as TheStep};
     ghost use Rattle.run_record.specs.Grammar.{IsLine};
     ghost use Rattle.run_record.specs.Seen.{line_seen};
+    ghost use Rattle.run_record.specs.declared.line.RecLine.{RecLine};
+    ghost use Rattle.record_steps.specs.Resolved.{told_of};
     ghost use Rattle.record_steps.specs.Telling.{telling};
     ghost use Rattle.record_steps.specs.declared.heard.Heard.{Heard as TheHeard};
+    ghost use Rattle.script_reading.specs.Forms.{form_in};
     ghost use Rattle.script_reading.specs.Plans.{Plan as ThePlan};
     ghost use Rattle.script_reading.specs.Moves.{inside};
     ghost use Rattle.script_reading.specs.Scripting.{taken, told_in, inside_step};
-    ghost use Rattle.script_reading.specs.Readings.{Moved, IsDecided, IsWellOpened};
+    ghost use Rattle.script_reading.specs.Readings.{Moved, IsDecided, IsStepless, IsWellOpened};
 
     /// Takes a line with its step, behind which its association is of this form.
     fn take(
@@ -93,6 +97,25 @@ impl Opened {
         Ok(())
     }
 
+    /// Does what was told of a line that makes no step.
+    fn pass(&mut self, number: u64, told: Told) -> Next
+        requires none { IsStepless told }
+        requires well { IsWellOpened self.old }
+        ensures moves { (p : ThePlan) (text : List ℕ) (line : RecLine) (step : TheStep) (heard : List TheHeard) → Moved result (inside p self.new) (told_in number p self.old text line (telling told step heard)) }
+        ensures decided { IsDecided result }
+        ensures well { IsWellOpened self.new }
+    {
+        match told {
+            Told::Nothing => Next::On,
+            Told::At(moment) => {
+                self.moment = moment;
+                Next::On
+            }
+            Told::Refused(kind) => stop(number, kind),
+            Told::Step(_) | Told::Heard | Told::End => stop(number, Kind::State),
+        }
+    }
+
     /// Does what was told of a line, whose step is in the slot.
     fn act(
         &mut self,
@@ -110,18 +133,40 @@ impl Opened {
         ensures well { OnOk result (IsWellOpened self.new) }
     {
         match told {
-            Told::Nothing => Ok(Next::On),
-            Told::At(moment) => {
-                self.moment = moment;
-                Ok(Next::On)
-            }
             Told::Step(_) => {
                 let form = self.form.behind(line);
                 self.take(alloc, number, text, form, step)?;
                 Ok(Next::On)
             }
-            Told::Refused(kind) => Ok(stop(number, kind)),
-            Told::Heard | Told::End => Ok(stop(number, Kind::State)),
+            Told::Nothing | Told::At(_) | Told::Heard | Told::Refused(_) | Told::End => {
+                drop(step);
+                Ok(self.pass(number, told))
+            }
+        }
+    }
+
+    /// Reads a line of a record that the script may have.
+    fn play(
+        &mut self,
+        alloc: Global,
+        model: &Model,
+        number: u64,
+        text: &[u8],
+        line: &LineView<'_>,
+    ) -> Result<Next, AllocError>
+        requires ranges { IsLine (line_seen line.now) }
+        requires well { IsWellOpened self.old }
+        ensures moves { IfOk result (λ n. (p : ThePlan) → p.config ≡ model.now → Moved n (inside p self.new) (told_in number p self.old text.now (line_seen line.now) (told_of model.now (form_in self.old.form) (line_seen line.now)))) }
+        ensures decided { IfOk result IsDecided }
+        ensures well { OnOk result (IsWellOpened self.new) }
+    {
+        let mut step = Step::Tick;
+        match self.form.tell(alloc, model, line, &mut step) {
+            Ok(told) => self.act(alloc, number, text, line, told, step),
+            Err(error) => {
+                drop(step);
+                Err(error)
+            }
         }
     }
 
@@ -140,13 +185,11 @@ impl Opened {
         ensures decided { IfOk result IsDecided }
         ensures well { OnOk result (IsWellOpened self.new) }
     {
-        if !self.owner.may_have(line) {
-            let kind = strange(alloc, model, line)?;
-            return Ok(stop(number, kind));
+        if self.owner.may_have(line) {
+            return self.play(alloc, model, number, text, line);
         }
-        let mut step = Step::Tick;
-        let told = self.form.tell(alloc, model, line, &mut step)?;
-        self.act(alloc, number, text, line, told, step)
+        let kind = strange(alloc, model, line)?;
+        Ok(stop(number, kind))
     }
 }
 
@@ -386,12 +429,7 @@ impl Scripts {
     }
 
     /// Reads a line, without its newline.
-    pub fn read(
-        &mut self,
-        alloc: Global,
-        number: u64,
-        line: &[u8],
-    ) -> Result<Next, AllocError>
+    pub fn read(&mut self, alloc: Global, number: u64, line: &[u8]) -> Result<Next, AllocError>
         requires well { IsWellScripts self.old }
         ensures moves { IfOk result (λ n. Moved n (scripts_seen self.new) (lines_at number (scripts_seen self.old) line.now)) }
         ensures decided { IfOk result IsDecided }

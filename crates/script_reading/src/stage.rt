@@ -98,12 +98,7 @@ impl Stage {
     }
 
     /// Reads a line, without its newline.
-    pub fn read(
-        &mut self,
-        alloc: Global,
-        number: u64,
-        line: &[u8],
-    ) -> Result<Next, AllocError>
+    pub fn read(&mut self, alloc: Global, number: u64, line: &[u8]) -> Result<Next, AllocError>
         requires well { IsWell self.old }
         requires number { number < 2 ^ 62 }
         ensures moves { IfOk result (λ n. Moved n (place_of self.new) (lines_at number (place_of self.old) line.now)) }

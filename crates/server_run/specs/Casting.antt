@@ -16,6 +16,11 @@ abbrev pub role_steps : Option Role → Option (List TimedStep)
 role_steps None = None
 role_steps (Some r) = Some r.steps.items
 
+-- the script of the actor of this number, if it has a role
+abbrev pub cast_one : ℕ → Option Role → List Part
+cast_one n None = []
+cast_one n (Some r) = record { actor = n; steps = r.steps } ∷ []
+
 -- the scripts of roles, which have the numbers from n up, the highest first
 abbrev pub cast_from : ℕ → List (Option Role) → List Part
 cast_from n [] = []
@@ -30,3 +35,7 @@ turns_among (s ∷ ss) k = cond (s.actor == k) (turns_by k s.steps.items) (turns
 -- the scripts are those of the plan
 abbrev pub AreOfPlan : Plan → List Part → Type 0
 AreOfPlan p ss = (k : ℕ) → turns_among ss k ≡ turns_of p k
+
+-- the actors are those of these scripts
+abbrev pub IsCast : List Part → List (Option Script) → Type 0
+IsCast ss slots = (roles : List (Option Role)) × (map role_steps roles ≡ map script_steps slots) × (ss ≡ cast_from 0 roles)

@@ -1,9 +1,9 @@
 //! The actors of a plan, and the lines of their scripts.
 
-ghost use Rattle.std.specs.Prelude.{◌≡◌, map, length, IfOk};
+ghost use Rattle.std.specs.Prelude.{◌≡◌, ◌≤◌, ◌<◌, ◌++◌, ◌∷◌, [], map, length, IfOk, OnOk};
 ghost use Rattle.script_reading.specs.Plans.{Script as TheScript};
 ghost use Rattle.merged_records.specs.Merged.{lines_in, book_seen};
-ghost use Rattle.server_run.specs.Casting.{script_steps, role_steps, cast_from};
+ghost use Rattle.server_run.specs.Casting.{script_steps, role_steps, cast_one, cast_from};
 
 use script_reading::{Script, StepLine};
 use script_threads::{Actor, Script as Part, TimedStep};
@@ -18,6 +18,57 @@ pub struct Role {
     steps: Vec<TimedStep>,
 }
 
+/// The role of an actor and the lines of its script, if it has one.
+fn split(alloc: Global, slot: Option<Script>) -> (Option<Role>, Vec<StepLine>)
+    ensures role { role_steps result.0 ≡ script_steps slot }
+    ensures lines { result.1.items ≡ lines_in slot }
+{
+    match slot {
+        Some(script) => {
+            let place = script.place();
+            let (lines, steps) = script.into_parts();
+            (Some(Role { place, steps }), lines)
+        }
+        None => (None, Vec::new(alloc)),
+    }
+}
+
+/// Adds the role of one actor more, and the lines of its script.
+fn add_role(
+    alloc: Global,
+    roles: &mut Vec<Option<Role>>,
+    book: &mut Vec<Vec<StepLine>>,
+    slot: Option<Script>,
+) -> Result<(), AllocError>
+    ensures roles { OnOk result (map role_steps roles.new.items ≡ map role_steps roles.old.items ++ script_steps slot ∷ []) }
+    ensures book { OnOk result (book_seen book.new.items ≡ book_seen book.old.items ++ lines_in slot ∷ []) }
+{
+    let (role, lines) = split(alloc, slot);
+    if roles.push(role).is_err() {
+        drop(lines);
+        return Err(AllocError);
+    }
+    book.push(lines)?;
+    Ok(())
+}
+
+/// Adds the roles of all actors, and the lines of their scripts.
+fn add_roles(
+    alloc: Global,
+    roles: &mut Vec<Option<Role>>,
+    book: &mut Vec<Vec<StepLine>>,
+    slots: Vec<Option<Script>>,
+) -> Result<(), AllocError>
+    requires none { (roles.old.items ≡ []) × (book.old.items ≡ []) }
+    ensures roles { OnOk result (map role_steps roles.new.items ≡ map script_steps slots.items) }
+    ensures book { OnOk result (book_seen book.new.items ≡ map lines_in slots.items) }
+{
+    for slot in slots {
+        add_role(alloc, roles, book, slot)?;
+    }
+    Ok(())
+}
+
 /// The roles of actors and the lines of their scripts, both by the actors' numbers.
 pub fn part(
     alloc: Global,
@@ -28,21 +79,14 @@ pub fn part(
 {
     let mut roles = Vec::new(alloc);
     let mut book = Vec::new(alloc);
-    for slot in slots {
-        match slot {
-            Some(script) => {
-                let place = script.place();
-                let (lines, steps) = script.into_parts();
-                roles.push(Some(Role { place, steps }))?;
-                book.push(lines)?;
-            }
-            None => {
-                roles.push(None)?;
-                book.push(Vec::new(alloc))?;
-            }
+    match add_roles(alloc, &mut roles, &mut book, slots) {
+        Ok(()) => Ok((roles, book)),
+        Err(error) => {
+            drop(roles);
+            drop(book);
+            Err(error)
         }
     }
-    Ok((roles, book))
 }
 
 /// Each gate in a place of its own.
@@ -60,6 +104,43 @@ fn take_gate<G: Gate>(gates: &mut Vec<Option<G>>, place: u32) -> Option<G> {
     replace(gate, None)
 }
 
+/// Adds the actor of this number, if it has a role.
+fn add_actor<G: Gate>(
+    gates: &mut Vec<Option<G>>,
+    actors: &mut Vec<Actor<G>>,
+    actor: u32,
+    role: Option<Role>,
+) -> Result<(), AllocError>
+    ensures { OnOk result (map (λ a. a.script) actors.new.items ≡ map (λ a. a.script) actors.old.items ++ cast_one actor role) }
+{
+    let Some(Role { place, steps }) = role else {
+        return Ok(());
+    };
+    let Some(gate) = take_gate(gates, place) else {
+        drop(steps);
+        return Err(AllocError);
+    };
+    let script = Part { actor, steps };
+    actors.push(Actor { script, gate })?;
+    Ok(())
+}
+
+/// Adds the actors of these roles, the one with the highest number first.
+fn add_actors<G: Gate>(
+    gates: &mut Vec<Option<G>>,
+    actors: &mut Vec<Actor<G>>,
+    roles: &mut Vec<Option<Role>>,
+) -> Result<(), AllocError>
+    requires few { length roles.old.items ≤ 33 }
+    requires none { actors.old.items ≡ [] }
+    ensures { OnOk result (map (λ a. a.script) actors.new.items ≡ cast_from 0 roles.old.items) }
+{
+    while let Some(role) = roles.pop() {
+        add_actor(gates, actors, roles.len() as u32, role)?;
+    }
+    Ok(())
+}
+
 /// The actors of these roles, the one with the highest number first. The gate of a script is the one at its place; each place is
 /// that of one script alone.
 pub fn cast<G: Gate>(
@@ -67,23 +148,26 @@ pub fn cast<G: Gate>(
     roles: Vec<Option<Role>>,
     gates: Vec<G>,
 ) -> Result<Vec<Actor<G>>, AllocError>
-    requires { length roles.items ≡ 33 }
+    requires { length roles.items ≤ 33 }
     ensures { IfOk result (λ actors. map (λ a. a.script) actors.items ≡ cast_from 0 roles.items) }
 {
     let mut roles = roles;
-    let mut gates = placed(alloc, gates)?;
+    let mut gates = match placed(alloc, gates) {
+        Ok(gates) => gates,
+        Err(error) => {
+            drop(roles);
+            return Err(error);
+        }
+    };
     let mut actors = Vec::new(alloc);
-    while let Some(role) = roles.pop() {
-        if let Some(role) = role {
-            let Some(gate) = take_gate(&mut gates, role.place) else {
-                return Err(AllocError);
-            };
-            let script = Part {
-                actor: roles.len() as u32,
-                steps: role.steps,
-            };
-            actors.push(Actor { script, gate })?;
+    let added = add_actors(&mut gates, &mut actors, &mut roles);
+    drop(gates);
+    drop(roles);
+    match added {
+        Ok(()) => Ok(actors),
+        Err(error) => {
+            drop(actors);
+            Err(error)
         }
     }
-    Ok(actors)
 }

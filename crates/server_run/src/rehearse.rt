@@ -1,22 +1,27 @@
 //! A rehearsal.
 
-ghost use Rattle.std.specs.Prelude.{◌≡◌, ◌≢◌, ◌≤◌, ℕ, [], length, take, map, IfOk, IfSome};
+ghost use Rattle.std.specs.Prelude.{◌≡◌, ◌≢◌, ◌≤◌, ℕ, List, [], length, take, map, IfOk, IfSome};
 ghost use Rattle.std.specs.List.{All};
 ghost use Rattle.bay_config.specs.Servable.{IsServable};
+ghost use Rattle.bay_core.specs.Standing.{StandsFor};
 ghost use Rattle.bay_model.specs.Answers.{History as TheHistory};
 ghost use Rattle.replay_run.specs.Tool.{TakesAtMost};
 ghost use Rattle.sv_io.specs.Causes.{Rose};
 ghost use Rattle.script_reading.specs.Forms.{IsFit};
 ghost use Rattle.script_reading.specs.Inputs.{outcome};
+ghost use Rattle.script_reading.specs.Plans.{Plan as ThePlan};
 ghost use Rattle.script_reading.specs.Readings.{plan_seen};
 ghost use Rattle.script_reading.specs.Sound.{IsSound};
 ghost use Rattle.script_reading.specs.declared.line.StepLine.{StepLine as TheLine};
 ghost use Rattle.script_threads.specs.Dealing.{AreFalling, CanPlay};
 ghost use Rattle.script_threads.specs.Races.{IsRaced};
 ghost use Rattle.script_threads.specs.declared.made.Made.{Made as TheMade};
+ghost use Rattle.script_threads.specs.declared.script.Script.{Script as ThePart};
 ghost use Rattle.bay_model.specs.Points.{least_moment};
 ghost use Rattle.std.specs.Prelude.{◌++◌, Some, codes};
-ghost use Rattle.merged_records.specs.Merged.{line_of, book_seen, merged, record_with, answered};
+ghost use Rattle.merged_records.specs.Merged.{line_of, lines_in, book_seen, merged, record_with, answered};
+ghost use Rattle.server_run.specs.Casting.{IsCast};
+ghost use Rattle.server_run.specs.Races.{IsOfPlan, IsOfRace};
 ghost use Rattle.server_run.specs.Rehearsals.{most, Performs, PerformsInput, Rehearses};
 
 use crate::casting::{cast, part};
@@ -26,7 +31,7 @@ use object_model::Model;
 use race_verdicts::{lacks_memory, lowest_full};
 use record_outcome::status::Status;
 use replay_run::whole::{Halt, read_whole};
-use script_reading::{Plan, StepLine, read_rehearsal};
+use script_reading::{Plan, Script, StepLine, read_rehearsal};
 use script_threads::{Actor, Made, Raced, merge, race};
 use std::alloc::{AllocError, Global};
 use std::sync::Wait;
@@ -38,6 +43,15 @@ const MOST: usize = 67108865;
 
 /// The most scripts of an input.
 const MOST_SCRIPTS: u32 = 16;
+
+/// A bay of a model, which stays.
+fn open_bay(alloc: Global, model: &Model) -> Result<Bay, AllocError>
+    requires { IsServable model.now }
+    ensures { IfOk result (λ b. (b.config ≡ model.now) × StandsFor b b.config []) }
+{
+    let copy = model.copy(alloc)?;
+    Bay::open(alloc, copy)
+}
 
 /// Opens a bay of a model, and lets actors race over it.
 fn race_over<R: Threads + Wait + Sync, G: Gate>(
@@ -51,9 +65,13 @@ fn race_over<R: Threads + Wait + Sync, G: Gate>(
     requires steps { All (λ a. CanPlay model.now a.script) actors.items }
     ensures { IfOk result (λ r. (h : TheHistory) × (r.total ≡ length h) × IsRaced model.now (map (λ a. a.script) actors.items) r.parts.items h) }
 {
-    let copy = model.copy(alloc)?;
-    let bay = Bay::open(alloc, copy)?;
-    race(rt, alloc, bay, actors)
+    match open_bay(alloc, model) {
+        Ok(bay) => race(rt, alloc, bay, actors),
+        Err(error) => {
+            drop(actors);
+            Err(error)
+        }
+    }
 }
 
 /// The record of steps that were made, and the answers to it.
@@ -74,7 +92,58 @@ fn record_of(
     Ok(out)
 }
 
-/// Lets the scripts of a plan race: the record that they made with its answers, or the status where a turn was refused.
+/// What a race comes to: the record that the scripts made with its answers, or the status where a turn met a full queue.
+fn settle(
+    alloc: Global,
+    model: &Model,
+    text: &[u8],
+    book: &[Vec<StepLine>],
+    raced: Raced,
+) -> Result<Result<Vec<u8>, Status>, AllocError>
+    requires fit { (m : TheMade) (l : TheLine) → line_of (book_seen book.now) m ≡ Some l → IsFit l.form }
+    ensures { (p : ThePlan) (ss : List ThePart) → IsOfPlan p model.now text.now (book_seen book.now) ss → IsOfRace p.config ss raced → IfOk result (Performs p) }
+{
+    let Raced { total, parts } = raced;
+    if lacks_memory(&parts) {
+        drop(parts);
+        return Err(AllocError);
+    }
+    if let Some(line) = lowest_full(book, &parts) {
+        drop(parts);
+        return Ok(Err(Status::Limit { which: 2, line }));
+    }
+    let made = merge(alloc, parts, total)?;
+    let out = record_of(alloc, model, text, book, &made)?;
+    Ok(Ok(out))
+}
+
+/// The actors of scripts, and the lines of these.
+fn cast_scripts<G: Gate>(
+    alloc: Global,
+    slots: Vec<Option<Script>>,
+    gates: Vec<G>,
+) -> Result<(Vec<Actor<G>>, Vec<Vec<StepLine>>), AllocError>
+    requires { length slots.items ≤ 33 }
+    ensures book { IfOk result (λ r. book_seen r.1.items ≡ map lines_in slots.items) }
+    ensures actors { IfOk result (λ r. IsCast (map (λ a. a.script) r.0.items) slots.items) }
+{
+    let (roles, book) = match part(alloc, slots) {
+        Ok(parts) => parts,
+        Err(error) => {
+            drop(gates);
+            return Err(error);
+        }
+    };
+    match cast(alloc, roles, gates) {
+        Ok(actors) => Ok((actors, book)),
+        Err(error) => {
+            drop(book);
+            Err(error)
+        }
+    }
+}
+
+/// Lets the scripts of a plan race: the record that they made with its answers, or the status where a turn met a full queue.
 fn perform<R: Threads + Wait + Sync, G: Gate>(
     rt: &R,
     alloc: Global,
@@ -85,20 +154,15 @@ fn perform<R: Threads + Wait + Sync, G: Gate>(
     ensures { IfOk result (Performs (plan_seen plan)) }
 {
     let Plan {
-        model, text, slots, ..
+        model,
+        text,
+        slots,
+        count: _,
+        processes: _,
     } = plan;
-    let (roles, book) = part(alloc, slots)?;
-    let actors = cast(alloc, roles, gates)?;
-    let Raced { total, parts } = race_over(rt, alloc, &model, actors)?;
-    if lacks_memory(&parts) {
-        return Err(AllocError);
-    }
-    if let Some(line) = lowest_full(&book, &parts) {
-        return Ok(Err(Status::Limit { which: 2, line }));
-    }
-    let made = merge(alloc, parts, total)?;
-    let out = record_of(alloc, &model, &text, &book, &made)?;
-    Ok(Ok(out))
+    let (actors, book) = cast_scripts(alloc, slots, gates)?;
+    let raced = race_over(rt, alloc, &model, actors)?;
+    settle(alloc, &model, &text, &book, raced)
 }
 
 /// Reads a plan whole, and performs it.
