@@ -1,5 +1,5 @@
 -- What a program keeps of an association, and what a line that is no piece tells by that alone.
-use Rattle.std.proofs.Common.{◌≡◌, ◌==◌, ℕ, Bool, true, false, List, [], refl, ap, sym, ◌∙◌}
+use Rattle.std.proofs.Common.{◌≡◌, ◌==◌, ℕ, false, List, [], refl, ap, subst, ◌∙◌}
 use Rattle.std.specs.Prelude.{Option, None, Some, if◌then◌else◌}
 use Rattle.sv_base.specs.declared.config.Config.{Config}
 use Rattle.sv_base.specs.declared.numbers.AssocNo.{AssocNo}
@@ -7,7 +7,6 @@ use Rattle.bay_model.specs.declared.components.Comp.{Comp}
 use Rattle.bay_model.specs.ComponentTable.{comp_named}
 use Rattle.object_model.specs.Numbers.{number_in}
 use Rattle.object_model.specs.References.{block_references}
-use Rattle.answer_text.specs.declared.shape.Shape.{Shape}
 use Rattle.osi_stack.specs.Sides.{StandsFor}
 use Rattle.osi_stack.specs.declared.events.Event.{Event}
 use Rattle.osi_stack.specs.declared.events.Line.{Line}
@@ -19,7 +18,6 @@ use Rattle.record_steps.specs.declared.form.Form.TheVariants as kept
 use Rattle.record_steps.specs.Forms.{Form, shut, direct, mms, dialling, wire, is_shut, is_direct, shape_of, plain, Stands, opened_form, form_behind, form_fed}
 use Rattle.record_steps.specs.Resolved.{association_of, opened_as, written_as, lost_as, sent_as, told_of}
 use Rattle.record_steps.specs.Streams.{piece_at}
-use Rattle.record_steps.specs.Told.{Told}
 use Rattle.record_steps.specs.Telling.{IsPlain}
 
 -- without the octets of its stream
@@ -32,26 +30,26 @@ emptied (wire line octets) = wire line []
 
 -- ---- what stands for an association is what it is, but for the octets
 
-of-shut : (f : Form) → Stands kept.Shut f → plain kept.Shut ≡ emptied f
-of-shut shut s = refl
-of-shut direct s = absurd s
-of-shut (mms n) s = absurd s
-of-shut (dialling octets) s = absurd s
-of-shut (wire line octets) s = absurd s
+pub at-shut : (f : Form) → Stands kept.Shut f → (P : Form → Type 0) → P shut → P f
+at-shut shut s P p = p
+at-shut direct s P p = absurd s
+at-shut (mms n) s P p = absurd s
+at-shut (dialling octets) s P p = absurd s
+at-shut (wire line octets) s P p = absurd s
 
-of-direct : (f : Form) → Stands kept.Direct f → plain kept.Direct ≡ emptied f
-of-direct direct s = refl
-of-direct shut s = absurd s
-of-direct (mms n) s = absurd s
-of-direct (dialling octets) s = absurd s
-of-direct (wire line octets) s = absurd s
+pub at-direct : (f : Form) → Stands kept.Direct f → (P : Form → Type 0) → P direct → P f
+at-direct direct s P p = p
+at-direct shut s P p = absurd s
+at-direct (mms n) s P p = absurd s
+at-direct (dialling octets) s P p = absurd s
+at-direct (wire line octets) s P p = absurd s
 
-of-mms : (size : ℕ) (f : Form) → Stands (kept.Mms size) f → plain (kept.Mms size) ≡ emptied f
-of-mms size (mms n) s = ap mms s
-of-mms size shut s = absurd s
-of-mms size direct s = absurd s
-of-mms size (dialling octets) s = absurd s
-of-mms size (wire line octets) s = absurd s
+pub at-mms : (size : ℕ) (f : Form) → Stands (kept.Mms size) f → (P : Form → Type 0) → P (mms size) → P f
+at-mms size (mms n) s P p = subst (λ (n : ℕ). P (mms n)) s p
+at-mms size shut s P p = absurd s
+at-mms size direct s P p = absurd s
+at-mms size (dialling octets) s P p = absurd s
+at-mms size (wire line octets) s P p = absurd s
 
 -- one of a stream is one whose octets the stack stands for
 pub of-dialling : (u : Upper) (f : Form) → Stands (kept.Dialling u) f → (P : Form → Type 0) → ((octets : List ℕ) (events : List Event) → StandsFor u octets events → P (dialling octets)) → P f
@@ -61,19 +59,19 @@ of-dialling u direct s P go = absurd s
 of-dialling u (mms n) s P go = absurd s
 of-dialling u (wire line octets) s P go = absurd s
 
-pub of-wire : (l : Line) (u : Upper) (f : Form) → Stands (kept.Wire l u) f → (P : Form → Type 0) → ((line : Line) (octets : List ℕ) (events : List Event) → l ≡ line → StandsFor u octets events → P (wire line octets)) → P f
-of-wire l u (wire line octets) s P go = go line octets s.1 s.0 s.2
+pub of-wire : (l : Line) (u : Upper) (f : Form) → Stands (kept.Wire l u) f → (P : Form → Type 0) → ((octets : List ℕ) (events : List Event) → StandsFor u octets events → P (wire l octets)) → P f
+of-wire l u (wire line octets) s P go = subst (λ (l : Line). P (wire l octets)) s.0 (go octets s.1 s.2)
 of-wire l u shut s P go = absurd s
 of-wire l u direct s P go = absurd s
 of-wire l u (mms n) s P go = absurd s
 of-wire l u (dialling octets) s P go = absurd s
 
 pub stands-plain : (p : programs.Form) (f : Form) → Stands p f → plain p ≡ emptied f
-stands-plain kept.Shut f s = of-shut f s
-stands-plain kept.Direct f s = of-direct f s
-stands-plain (kept.Mms size) f s = of-mms size f s
+stands-plain kept.Shut f s = at-shut f s (λ f. shut ≡ emptied f) refl
+stands-plain kept.Direct f s = at-direct f s (λ f. direct ≡ emptied f) refl
+stands-plain (kept.Mms size) f s = at-mms size f s (λ f. mms size ≡ emptied f) refl
 stands-plain (kept.Dialling u) f s = of-dialling u f s (λ f. dialling [] ≡ emptied f) (λ octets events h. refl)
-stands-plain (kept.Wire l u) f s = of-wire l u f s (λ f. wire l [] ≡ emptied f) (λ line octets events e h. ap (λ l. wire l []) e)
+stands-plain (kept.Wire l u) f s = of-wire l u f s (λ f. wire l [] ≡ emptied f) (λ octets events h. refl)
 
 -- ---- the octets of a stream make no difference
 

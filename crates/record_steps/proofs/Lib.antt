@@ -4,5 +4,7 @@ pub mod FitLaws
 pub mod StepLaws
 pub mod FormLaws
 pub mod StreamLaws
+pub mod FedLaws
+pub mod TellLaws
 pub mod ToldLaws
 mod WorkedLines

@@ -1,20 +1,19 @@
 -- What pieces of a stream come to: their events as a stack gives them, how many these are, and the steps that they make.
-use Rattle.std.proofs.Common.{◌≡◌, ◌≤◌, ◌<◌, ◌+◌, ℕ, zero, suc, Bool, true, false, List, [], ◌∷◌, ◌++◌, length, take, drop, refl, sym, ap, subst, ◌∙◌, arith, inl, inr, ◌⊎◌, append_assoc, append-nil, length-append}
-use Rattle.std.specs.Prelude.{Option, None, Some, Result, Ok, Err, IfSome, IsTrue, ◌&&◌, if◌then◌else◌}
-use Rattle.std.specs.Option.{option_to_list, option_map}
+use Rattle.std.proofs.Common.{◌≡◌, ◌≤◌, ◌<◌, ◌+◌, ℕ, zero, suc, Bool, true, false, List, [], ◌∷◌, ◌++◌, length, get_or, take, drop, refl, sym, ap, subst, ◌∙◌, arith, inl, inr, ◌⊎◌, append_assoc, length-append}
+use Rattle.std.specs.Prelude.{Option, None, Some, Result, Ok, Err, IfSome, if◌then◌else◌}
+use Rattle.std.specs.Option.{option_map}
 use Rattle.std.specs.List.{AllByRecursion, flat_map}
 use Rattle.std.proofs.Math.Seq.{take-append_seam, drop-append_seam}
-use Rattle.std.proofs.lemmas.List.{take-append-le}
+use Rattle.std.proofs.lemmas.List.{take-append-le, drop_more, drop_all}
 use Rattle.sv_base.specs.declared.config.Config.{Config}
 use Rattle.sv_base.specs.declared.numbers.AssocNo.{AssocNo}
 use Rattle.bay_model.specs.declared.request.Request.{Request}
-use Rattle.bay_model.specs.declared.step.Step.TheVariants as steps
 use Rattle.object_model.specs.Fits.{fits}
 use Rattle.run_record.specs.Grammar.{IsAssoc}
 use Rattle.ber_grammar.specs.Octets.{IsBytes}
 use Rattle.ber_grammar.proofs.OctetLaws.{IsBytes-append, IsBytes-back}
 use Rattle.tpkt_cotp.specs.declared.fault.TpFault.{TpFault}
-use Rattle.tpkt_cotp.specs.Packet.{packet, packet_at, IsTpdu, IsPartial}
+use Rattle.tpkt_cotp.specs.Packet.{packet, packet_at}
 use Rattle.tpkt_cotp.proofs.PacketLaws.{packet_whole, packet_again, partial_again}
 use Rattle.tpkt_cotp.proofs.StreamLaws.{after_fits}
 use Rattle.osi_stack.specs.declared.cause.Cause.{Cause}
@@ -25,7 +24,7 @@ use Rattle.osi_stack.specs.declared.fault.StackFault.{StackFault}
 use Rattle.osi_stack.specs.declared.fault.StackFault.TheVariants as faults
 use Rattle.osi_stack.specs.declared.upper.Upper.{Upper}
 use Rattle.osi_stack.specs.Lines.{IsLine, HasLine}
-use Rattle.osi_stack.specs.Running.{Came, run, run_within, left_at, behind, after_step, after_packet, further, further_from, refusal}
+use Rattle.osi_stack.specs.Running.{Came, run, run_within, left_at, after_step, after_packet, further_from}
 use Rattle.osi_stack.specs.Sides.{StandsFor, GoesOn, Refuses}
 use Rattle.osi_stack.specs.Stream.{Stand, called, has_ended, step_at, count_of}
 use Rattle.osi_stack.proofs.RunLaws.{came}
@@ -127,6 +126,26 @@ module _ (c : Config) (a : AssocNo) (fault : Option StackFault) (all : List Even
         lines = h.lines.1;
         fits_ = λ f. h.fits_ (all-both (IsFittingPart c) (heard_by c a w e) (heard_through c a rest fault (wired_by e w)) fit f);
       })
+
+-- the next event of all
+pub going-on : (c : Config) (a : AssocNo) (fault : Option StackFault) (all : List Event) (from : Wired) (before : List Heard) (n : ℕ) (e : Event) (w v : Wired) (now later : List Heard) → n < length all → e ≡ get_or all n e
+    → Going c a fault all from (drop n all) w before now → later ≡ now ++ heard_by c a w e → v ≡ wired_by e w → IsWired v → AllByRecursion (IsFittingPart c) (heard_by c a w e) → Going c a fault all from (drop (n + 1) all) v before later
+going-on c a fault all from before n e w v now later within is g grew on agreed fit =
+    going-more c a fault all from before e (drop (n + 1) all) (drop n all) w v now later (drop_more all n e within ∙ ap (λ (x : Event). x ∷ drop (n + 1) all) (sym is)) g grew on agreed fit
+
+-- and behind the last one there is the refusal
+module _ (c : Config) (a : AssocNo) (fault : Option StackFault) (all : List Event) (from : Wired) (before : List Heard) (n : ℕ) (w v : Wired) (now later : List Heard) (over : length all ≤ n) (g : Going c a fault all from (drop n all) w before now) where
+  at-end : Going c a fault all from [] w before now
+  at-end = subst (λ (l : List Event). Going c a fault all from l w before now) (drop_all n all over) g
+
+  pub ends-heard : later ≡ now ++ heard_through c a [] fault w → later ≡ before ++ heard_through c a all fault from
+  ends-heard grew = grew ∙ at-end.heard
+
+  pub ends-wired : v ≡ wired_through [] fault w → v ≡ wired_through all fault from
+  ends-wired on = on ∙ at-end.wired
+
+  pub ends-fit : AllByRecursion (IsFittingPart c) (heard_through c a [] fault w) → AllByRecursion (IsFittingPart c) (heard_through c a all fault from)
+  ends-fit fit = at-end.fits_ fit
 
 -- ---- how many events a piece has
 

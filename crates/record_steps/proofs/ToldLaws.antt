@@ -1,7 +1,6 @@
 -- What lines tell, by what is known of them; and a step that a line tells is its association's own, and fits.
 use Rattle.std.proofs.Common.{◌≡◌, ℕ, Bool, true, false, not, List, refl, sym, ap, subst, ◌∙◌}
 use Rattle.std.specs.Prelude.{Option, None, Some, if◌then◌else◌}
-use Rattle.std.specs.List.{list_any}
 use Rattle.sv_base.specs.declared.config.Config.{Config}
 use Rattle.sv_base.specs.declared.numbers.AssocNo.{AssocNo}
 use Rattle.sv_base.specs.declared.value.Value.{Value}
@@ -25,9 +24,8 @@ use Rattle.bay_model.specs.declared.request.Request.{Request}
 use Rattle.record_steps.specs.Forms.{Form, shut, direct, mms, dialling, wire, is_shut, is_direct}
 use Rattle.record_steps.specs.Asks.{asked_by}
 use Rattle.record_steps.specs.Resolved.{association_of, turn_of, opened_in, opened_as, valued_as, written_as, lost_as, asked_as, spelled_as, sent_as, piece_as, fed_as, set_to, set_as, told_of}
-use Rattle.record_steps.specs.Streams.{piece_at, events_behind, refusal_behind, heard_through}
-use Rattle.record_steps.specs.Told.{turn, heard, refused}
-use Rattle.record_steps.specs.declared.heard.Heard.{Heard}
+use Rattle.record_steps.specs.Streams.{piece_at}
+use Rattle.record_steps.specs.Told.{turn, refused}
 use Rattle.record_steps.specs.declared.heard.Wired.{Wired}
 use Rattle.record_steps.specs.declared.heard.Wired.TheVariants.{Dialling, On}
 use Rattle.record_steps.specs.Telling.{NamesNone}

@@ -21,7 +21,7 @@ use Rattle.run_record.specs.declared.pairs.Pair.{Pair}
 use Rattle.bay_model.specs.ComponentTable.{comp_named}
 use Rattle.text_words.specs.Values.{hex_at}
 use Rattle.record_steps.specs.Shapes.{shape_at}
-use Rattle.record_steps.specs.Forms.{Form, shut, direct, mms, dialling, wire, is_shut, is_direct}
+use Rattle.record_steps.specs.Forms.{Form, shut, mms, dialling, wire, is_shut, is_direct}
 use Rattle.record_steps.specs.Asks.{asked_by}
 use Rattle.record_steps.specs.Settings.{are_named, settings_at}
 use Rattle.record_steps.specs.Streams.{piece_at, events_behind, refusal_behind, heard_through}
