@@ -294,9 +294,9 @@ module _ (p : Plan) (sound : IsSound p) where
     by-fault (Some (faults.QueueFull a)) g stops lean =
         let r = numbered (faults.QueueFull a) (QueueFull a.0) refl stops.0 stops.1 stops.2 in
         (r ∙ sym (first (faults.QueueFull a) (QueueFull a.0) refl stops.0 stops.1 stops.2), λ e. absurd (cc (sym r ∙ e)))
-    by-fault (Some (faults.IsOpen a)) g stops lean = let r = beyond (faults.IsOpen a) (IsOpen a.0) refl stops.0 stops.1 stops.2 in absurd (cc r.1.1)
-    by-fault (Some (faults.NotOpen a)) g stops lean = let r = beyond (faults.NotOpen a) (NotOpen a.0) refl stops.0 stops.1 stops.2 in absurd (cc r.1.1)
-    by-fault (Some (faults.NotYours a)) g stops lean = let r = beyond (faults.NotYours a) (NotYours a.0) refl stops.0 stops.1 stops.2 in absurd (cc r.1.1)
+    by-fault (Some (faults.IsOpen a)) g stops lean = let r = beyond (faults.IsOpen a) (IsOpen a.0) refl stops.0 stops.1 stops.2 in absurd (cc r.2)
+    by-fault (Some (faults.NotOpen a)) g stops lean = let r = beyond (faults.NotOpen a) (NotOpen a.0) refl stops.0 stops.1 stops.2 in absurd (cc r.2)
+    by-fault (Some (faults.NotYours a)) g stops lean = let r = beyond (faults.NotYours a) (NotYours a.0) refl stops.0 stops.1 stops.2 in absurd (cc r.2)
 
     verdict : wants_memory q.fault ≡ false → IsVerdict k q
     verdict lean = let v = by-fault q.fault refl is.stops lean in record { known = v.0; all = v.1 }
@@ -330,7 +330,8 @@ module _ (p : Plan) (sound : IsSound p) where
 
 pub verdicts_are_known : VerdictsAreKnown
 verdicts_are_known p ss ps h sound are raced lean =
-    let all = subst (AllOfPlan p sound) (sym are) (of-plan p sound 0 p.scripts (λ j. refl)) in
+    let whole : IsTail p sound 0 p.scripts = λ j. let same : j ≡ 0 + j = omega arith in ap (script_of p) same in
+    let all = subst (AllOfPlan p sound) (sym are) (of-plan p sound 0 p.scripts whole) in
     let own = their-own p sound h (within p sound ss ps h all raced.shuffle) in
     let v = all-verdicts p sound h raced.legal own ss ps raced.parts_ all lean in
-    (v.0 ∙ (ap (lowest_of p sound) are ∙ lowest-plan p sound 0 p.scripts (λ j. refl)), v.1)
+    (v.0 ∙ (ap (lowest_of p sound) are ∙ lowest-plan p sound 0 p.scripts whole), v.1)

@@ -13,7 +13,7 @@ min-swap-le a b c =
     let rest : min a (min b c) ≤ min b c = min-le_right a (min b c) in
     let second : min b c ≤ b = min-le_left b c in
     let third : min b c ≤ c = min-le_right b c in
-    le-min (min a (min b c)) b (min a c) (omega (arith, rest, second)) (le-min (min a (min b c)) a c first (omega (arith, rest, third)))
+    le-min (omega (arith, rest, second)) (le-min first (omega (arith, rest, third)))
 
 min-swap : (a b c : ℕ) → min a (min b c) ≡ min b (min a c)
 min-swap a b c = anti (min a (min b c)) (min b (min a c)) (min-swap-le a b c) (min-swap-le b a c)

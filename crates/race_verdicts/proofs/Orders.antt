@@ -149,7 +149,7 @@ abbrev IsOfNone : Step → Type 0
 IsOfNone s = (k : ℕ) → actor_of k s ≡ 0
 
 none-one : (n : ℕ) → n ≡ 1 → n ≡ 0 → ⊥
-none-one n is no = let e : 1 ≡ 0 = sym is ∙ no in absurd cc
+none-one n is other = let e : 1 ≡ 0 = sym is ∙ other in absurd cc
 
 process-own : (k m : ℕ) (s : Step) → IsOfNone s → IsItsOwn (histories.turn_of m k s) s
 process-own k m (steps.Open e size writer) h = absurd (none-one 1 refl (h 1))

@@ -1,4 +1,5 @@
 -- The laws of a rehearsal's input.
 pub mod TellLaws
 pub mod RunLaws
+pub mod ReadingLaws
 pub mod SoundLaws

@@ -1,3 +1,4 @@
 -- The laws of rehearsals.
 pub mod CastLaws
 pub mod RaceLaws
+pub mod SettleLaws
