@@ -1,7 +1,6 @@
 -- The line that tells that it is the last is `end`.
 use Rattle.std.proofs.Common.{◌≡◌, ℕ, Bool, true, false, List, refl}
 use Rattle.std.specs.Prelude.{Option, None, Some, Ok, codes, if◌then◌else◌}
-use Rattle.std.specs.List.{list_any}
 use Rattle.sv_base.specs.declared.config.Config.{Config}
 use Rattle.sv_base.specs.declared.numbers.AssocNo.{AssocNo}
 use Rattle.sv_base.specs.declared.value.Value.{Value}
@@ -28,9 +27,8 @@ use Rattle.record_steps.specs.Forms.{Form, shut, direct, mms, dialling, wire, is
 use Rattle.record_steps.specs.Asks.{asked_by}
 use Rattle.record_steps.specs.Settings.{are_named, settings_at}
 use Rattle.record_steps.specs.Resolved.{turn_of, opened_in, valued_as, written_as, lost_as, asked_as, spelled_as, sent_as, piece_as, fed_as, set_to, told_of}
-use Rattle.record_steps.specs.Streams.{piece_at, events_behind, refusal_behind, heard_through}
-use Rattle.record_steps.specs.Told.{Told, turn, heard, refused, last}
-use Rattle.record_steps.specs.declared.heard.Heard.{Heard}
+use Rattle.record_steps.specs.Streams.{piece_at}
+use Rattle.record_steps.specs.Told.{Told, turn, refused, last}
 use Rattle.record_steps.specs.declared.heard.Wired.{Wired}
 use Rattle.record_steps.specs.declared.heard.Wired.TheVariants.{Dialling, On}
 

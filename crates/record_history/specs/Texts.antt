@@ -2,7 +2,7 @@
 use Rattle.std.specs.Prelude.{ℕ, List, [], ◌∷◌, ◌++◌, Option, None, Some}
 use Rattle.sv_base.specs.declared.config.Config.{Config}
 use Rattle.bay_model.specs.Named.{configured_model}
-use Rattle.bay_model.specs.Answers.{Turn, History, answer}
+use Rattle.bay_model.specs.Answers.{History, answer}
 use Rattle.answer_text.specs.Texts.{lines_of}
 use Rattle.record_history.specs.Histories.{Part, stepped, written, Recorded}
 

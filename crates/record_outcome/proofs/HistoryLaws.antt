@@ -5,11 +5,10 @@ use Rattle.std.specs.Option.{option_map, option_and_then}
 use Rattle.std.specs.Str.{bytes_eq}
 use Rattle.sv_base.specs.declared.config.Config.{Config}
 use Rattle.bay_model.specs.Named.{configured_model}
-use Rattle.bay_model.specs.Answers.{Turn, History, answer}
+use Rattle.bay_model.specs.Answers.{Turn, answer}
 use Rattle.bay_model.specs.Acceptance.{Fault, IsOpen, NotOpen, NotYours, QueueFull, fault, IsHistory}
 use Rattle.answer_text.specs.Texts as texts
 use Rattle.answer_text.specs.declared.shape.Shape.{Shape}
-use Rattle.bay_model.specs.declared.step.Step.{Step}
 use Rattle.text_words.specs.Octets.{is_skipped}
 use Rattle.text_words.specs.Words.{words_of}
 use Rattle.cfg_parser.specs.Kinds as cfg
@@ -25,7 +24,7 @@ use Rattle.record_steps.specs.Told.{Told, skip, pass_to, turn, heard, refused, l
 use Rattle.record_steps.specs.declared.heard.Heard.{Heard}
 use Rattle.record_steps.specs.declared.heard.Heard.TheVariants.{Tells, Makes}
 use Rattle.record_steps.specs.Forms.{Form, shape_of, form_behind}
-use Rattle.record_history.specs.Histories.{ended_pieces, behind_heading, Parted, with_line, parted, octets_of, form_after, form_at, form_of, said_in, said, moment_after, moment_of, Part, stepped, written as told, part_of, parts_in, steps_of, onto, Recorded, recorded, lines_of, history_of}
+use Rattle.record_history.specs.Histories.{ended_pieces, behind_heading, Parted, with_line, parted, octets_of, form_after, form_at, form_of, said_in, said, moment_after, moment_of, Part, stepped, written as answered, part_of, parts_in, steps_of, onto, Recorded, recorded, lines_of, history_of}
 use Rattle.record_history.specs.Texts.{parts_of, turns_of, turns_in, text_behind, text_of, record_text}
 use Rattle.record_history.proofs.LastLaws.{told-last, end-line}
 use Rattle.record_outcome.specs.Played.{Played, start, turn_at, past_line}
@@ -35,7 +34,7 @@ use Rattle.record_outcome.specs.Steps.{stop_of, accepted, then_on, heard_on, pla
 use Rattle.record_outcome.specs.Records.{Outcome, limit, most_lines, pieces, refused_before, passed, missing, has_begun, unended, ended, lines_at, line_at, behind, moved, run, outcome}
 use Rattle.record_outcome.specs.declared.status.Status.{Status}
 use Rattle.record_outcome.specs.declared.status.Status.TheVariants as statuses
-use Rattle.record_outcome.specs.Written.{IsAccepted, IsUnplayed, MeetsFull, HasCause, StopsBehind, end_of, IsWritten, TextIsOfHistory, WritesHistory}
+use Rattle.record_outcome.specs.Written.{IsAccepted, IsUnplayed, MeetsFull, StopsBehind, end_of, IsWritten, TextIsOfHistory, WritesHistory}
 use Rattle.record_outcome.specs.Judgements.{Answers}
 
 -- ---- the parts of a piece
@@ -63,20 +62,21 @@ module _ (number : ℕ) (c : Config) (shape : Shape) (moment : ℕ) (form : ℕ 
       let one : playing c (at ps) ≡ to = cc in let other : so_far ≡ out = cc in
       (sym one, λ before is. is ∙ ap (λ t. before ++ t) other, λ h. h)
   heard-on (Tells more ∷ hs) ps so_far to out e =
-      let g = heard-on hs (told more ∷ ps) (so_far ++ more) to out e in
+      let g = heard-on hs (answered more ∷ ps) (so_far ++ more) to out e in
       (g.0, λ before is. g.1 before (ap (λ t. t ++ more) is ∙ append_assoc before so_far more), g.2)
-  heard-on (Makes actor step ∷ hs) ps so_far to out e = by (fault (configured_model c) (turns_of ps) (turn_at (at ps) actor.0 step)) refl e where
+  heard-on (Makes actor step ∷ hs) ps so_far to out e = by (heard-on hs) (fault (configured_model c) (turns_of ps) (turn_at (at ps) actor.0 step)) refl e where
     t : Turn
     t = turn_at (at ps) actor.0 step
 
     lines : List ℕ
     lines = texts.lines_of c shape t.step (answer (configured_model c) (turns_of ps) t)
 
-    by : (o : Option Fault) → fault (configured_model c) (turns_of ps) t ≡ o → then_on number c (heard_on number c shape hs) (at ps) shape so_far t o ≡ goes to out → HasGone ps (Makes actor step ∷ hs) so_far to out
-    by None none e =
-        let g = heard-on hs (stepped t shape ∷ ps) (so_far ++ lines) to out e in
+    by : ((ps : List Part) (so_far : List ℕ) (to : Place) (out : List ℕ) → heard_on number c shape hs (at ps) so_far ≡ goes to out → HasGone ps hs so_far to out)
+        → (o : Option Fault) → fault (configured_model c) (turns_of ps) t ≡ o → then_on number c (heard_on number c shape hs) (at ps) shape so_far t o ≡ goes to out → HasGone ps (Makes actor step ∷ hs) so_far to out
+    by rest None none e =
+        let g = rest (stepped t shape ∷ ps) (so_far ++ lines) to out e in
         (g.0, λ before is. g.1 before (ap (λ t. t ++ lines) is ∙ append_assoc before so_far lines), λ h. g.2 (h, none))
-    by (Some f) some e = absurd cc
+    by rest (Some f) some e = absurd cc
 
   -- the reading stops, at a step that is refused behind those before it
   abbrev HasStopped : List Part → List Part → List Heard → Status → List ℕ → Type 0
@@ -85,17 +85,18 @@ module _ (number : ℕ) (c : Config) (shape : Shape) (moment : ℕ) (form : ℕ 
 
   heard-stops : (hs : List Heard) (ps behind : List Part) (so_far : List ℕ) (status : Status) (out : List ℕ) → heard_on number c shape hs (at (ps ++ behind)) so_far ≡ stops status out → HasStopped ps behind hs status out
   heard-stops [] ps behind so_far status out e = absurd cc
-  heard-stops (Tells more ∷ hs) ps behind so_far status out e = heard-stops hs (told more ∷ ps) behind (so_far ++ more) status out e
-  heard-stops (Makes actor step ∷ hs) ps behind so_far status out e = by (fault (configured_model c) (turns_of (ps ++ behind)) (turn_at (at (ps ++ behind)) actor.0 step)) refl e where
+  heard-stops (Tells more ∷ hs) ps behind so_far status out e = heard-stops hs (answered more ∷ ps) behind (so_far ++ more) status out e
+  heard-stops (Makes actor step ∷ hs) ps behind so_far status out e = by (heard-stops hs) (fault (configured_model c) (turns_of (ps ++ behind)) (turn_at (at (ps ++ behind)) actor.0 step)) refl e where
     t : Turn
     t = turn_at (at (ps ++ behind)) actor.0 step
 
     lines : List ℕ
     lines = texts.lines_of c shape t.step (answer (configured_model c) (turns_of (ps ++ behind)) t)
 
-    by : (o : Option Fault) → fault (configured_model c) (turns_of (ps ++ behind)) t ≡ o → then_on number c (heard_on number c shape hs) (at (ps ++ behind)) shape so_far t o ≡ stops status out → HasStopped ps behind (Makes actor step ∷ hs) status out
-    by None none e = heard-stops hs (stepped t shape ∷ ps) behind (so_far ++ lines) status out e
-    by (Some f) some e = (onto [] (map (part_of moment shape) hs), t, ps, f, onto-behind (map (part_of moment shape) hs) [] (stepped t shape ∷ ps), some, e)
+    by : ((ps behind : List Part) (so_far : List ℕ) (status : Status) (out : List ℕ) → heard_on number c shape hs (at (ps ++ behind)) so_far ≡ stops status out → HasStopped ps behind hs status out)
+        → (o : Option Fault) → fault (configured_model c) (turns_of (ps ++ behind)) t ≡ o → then_on number c (heard_on number c shape hs) (at (ps ++ behind)) shape so_far t o ≡ stops status out → HasStopped ps behind (Makes actor step ∷ hs) status out
+    by rest None none e = rest (stepped t shape ∷ ps) behind (so_far ++ lines) status out e
+    by rest (Some f) some e = (onto [] (map (part_of moment shape) hs), t, ps, f, onto-behind (map (part_of moment shape) hs) [] (stepped t shape ∷ ps), some, e)
 
 abbrev Of : Type 0
 Of = List (List ℕ) → Option Recorded

@@ -1,9 +1,9 @@
 -- What a line does, by what it tells.
-use Rattle.std.proofs.Common.{◌≡◌, ◌≤◌, ◌++◌, ◌∷◌, ◌==◌, ◌||◌, ℕ, suc, Bool, true, false, not, List, [], length, take, sym, ap, subst, refl, ◌∙◌, append-nil, append_assoc, length-append, inl, inr, arith}
+use Rattle.std.proofs.Common.{◌≡◌, ◌≤◌, ◌<◌, ◌+◌, ◌++◌, ◌∷◌, ◌==◌, ℕ, suc, Bool, true, false, not, List, [], length, get_or, take, drop, drop-cons, sym, ap, subst, refl, ◌∙◌, append-nil, append_assoc, length-append, inl, inr, arith}
 use Rattle.std.proofs.Math.Seq.{take-append_seam}
 use Rattle.std.specs.Fmt.{decimal}
-use Rattle.std.specs.List.{AllByRecursion, list_any}
-use Rattle.std.specs.Prelude.{Option, None, Some, Result, Ok, Err, OnErr, codes, if◌then◌else◌}
+use Rattle.std.specs.List.{AllByRecursion}
+use Rattle.std.specs.Prelude.{Option, None, Some, Result, Ok, Err, OnErr, IfNone, codes, if◌then◌else◌}
 use Rattle.std.specs.Option.{option_map}
 use Rattle.std.proofs.lemmas.Bool.Decides.{eqb_tells, nat_tests}
 use Rattle.sv_base.specs.declared.config.Config.{Config}
@@ -51,10 +51,6 @@ use Rattle.record_session.specs.declared.playing.Playing.{Playing}
 use Rattle.record_outcome.specs.declared.status.Status.{Status}
 use Rattle.record_outcome.specs.declared.status.Status.TheVariants as statuses
 use Rattle.record_session.proofs.BuiltLaws.{own-built}
-
-or_none : (a b : Bool) → (a || b) ≡ false → (a ≡ false) × (b ≡ false)
-or_none true b h = absurd cc
-or_none false b h = (refl, h)
 
 abbrev turn : ℕ → ℕ → Step → Turn
 turn actor moment step = record { moment = moment; actor = actor; step = step }
@@ -125,7 +121,7 @@ performs old new number shape actor step given before now moment forms does out 
     let stands : StandsFor new.bay c (turn actor s.moment step ∷ s.turns) = subst (λ m. StandsFor new.bay c (turn actor m step ∷ s.turns)) p.moment d.1 in
     let same : given ≡ answer (configured_model c) s.turns (turn actor s.moment step) = d.0 ∙ ap (λ m. answer (configured_model c) s.turns (turn actor m step)) p.moment in
     subst (λ f. PlaysTo None new (accepted number c s shape (turn_at s actor step) f) before now) (sym stands.0.1) (
-      record { moment = moment ∙ p.moment; stands = stands; forms = λ a. ap (λ f. form_in f a) forms ∙ p.forms a },
+      record { moment = moment ∙ p.moment; stands = stands; forms = λ a. subst (λ f. Stands (form_in f a) (s.form a)) (sym forms) (p.forms a) },
       out ∙ (ap (λ k. before ++ lines_of k shape step given) stands.1.is_config ∙ ap (λ g. before ++ lines_of c shape step g) same),
     )
 
@@ -154,6 +150,38 @@ faultless-answered old actor step given bay does c s p =
     sym (ap (λ m. fault (configured_model c) s.turns (turn actor m step)) p.moment) ∙ (does c s.turns p.stands).1.0.1
 
 -- ---- the parts of a piece
+
+-- a step of one is performed
+pub does-step : (status : Option Status) (old new : Playing) (number : ℕ) (shape : Shape) (actor : ActorNo) (step : Step) (before now : List ℕ) → Performs status old new number shape actor.0 step before now
+    → DoesPart status old new number shape (Makes actor step) before now
+does-step None old new number shape actor step before now h = h
+does-step (Some status) old new number shape actor step before now h = h
+
+pub within-more : (status : Option Status) (now was most more : ℕ) → most ≤ more → IfNone status (now ≤ was + most) → IfNone status (now ≤ was + more)
+within-more None now was most more le h = omega (arith, le, h)
+within-more (Some status) now was most more le h = tt
+
+pub within-line : (status : Option Status) (now was most octets : ℕ) → most ≤ suc octets → IfNone status (now ≤ was + most) → IfNone status (now ≤ suc (was + octets))
+within-line None now was most octets le h = omega (arith, le, h)
+within-line (Some status) now was most octets le h = tt
+
+pub within-one : (status : Option Status) (now was most : ℕ) → most ≡ 1 → IfNone status (now ≤ suc was) → IfNone status (now ≤ was + most)
+within-one None now was most is h = omega (arith, is, h)
+within-one (Some status) now was most is h = tt
+
+-- the first of some parts, and the rest
+module _ (all : List Heard) (i : ℕ) (part : Heard) (there : i < length all) (is : part ≡ get_or all i part) where
+  pub parts-from : drop i all ≡ part ∷ drop (i + 1) all
+  parts-from = let next : suc i ≡ i + 1 = omega arith in drop-cons all i part there ∙ (ap (λ p. p ∷ drop (suc i) all) (sym is) ∙ ap (λ n. part ∷ drop n all) next)
+
+  pub ready-from : (c : Config) → AllByRecursion (IsReadyPart c) (drop i all) → IsReadyPart c part × AllByRecursion (IsReadyPart c) (drop (i + 1) all)
+  ready-from c h = subst (AllByRecursion (IsReadyPart c)) parts-from h
+
+  pub made-from : made (drop i all) ≡ made (part ∷ []) + made (drop (i + 1) all)
+  made-from = ap made parts-from ∙ by part where
+    by : (p : Heard) → made (p ∷ drop (i + 1) all) ≡ made (p ∷ []) + made (drop (i + 1) all)
+    by (Tells text) = omega arith
+    by (Makes actor step) = omega arith
 
 -- of all parts those before these were done: what is played so far, and the text so far
 abbrev pub DoneSo : Playing → Playing → ℕ → Shape → (all rest : List Heard) → (before now : List ℕ) → Type 0

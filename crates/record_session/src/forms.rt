@@ -39,7 +39,7 @@ impl Forms {
         ensures { IfOk result (λ f. (a : ℕ) → form_in f a ≡ Shut) }
     {
         let mut forms = Vec::new(alloc);
-        for _number in 0..COUNT {
+        for _ in 0..COUNT {
             forms.push(Form::Shut)?;
         }
         Ok(Forms { forms })

@@ -114,6 +114,7 @@ impl Playing {
         ensures judged { IfOk result (λ s. IfSome s IsJudgement) }
         ensures faultless { OnErr result ((c : Config) (s : Played) → Plays self.old c s → fault (configured_model c) s.turns (turn_at s actor.0 step.now) ≡ None) }
         ensures few { IfOk result (λ s. IfNone s (self.new.bay.steps ≤ suc self.old.bay.steps)) }
+        ensures same { IfOk result (λ s. IfNone s (self.new.bay.config ≡ self.old.bay.config)) }
     {
         match self.bay.step(alloc, self.moment, actor, step) {
             Ok(answer) => {

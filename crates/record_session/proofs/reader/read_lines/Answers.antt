@@ -6,6 +6,11 @@ use Rattle.record_session.proofs.reader.read_lines.Goals as goal
 pub loop-line-init : goal.loop-line-init
 loop-line-init c = record { read = read-none c.args.session.now c.args.octets.now c.args.out.now.items; lines = omega arith; few = omega arith; early = c.requires.early }
 
+pub read-requires-clause-few : goal.read-requires-clause-few
+read-requires-clause-few c =
+    let shorter : length c.loop-line.rest.now ≡ length (c.in-Some.line.now ++ 10 ∷ c.in-Some.after.now) = ap length c.in-Some.ensures.0 in
+    omega (arith, c.requires.few, c.loop-line.invariant.few, shorter, length-append c.in-Some.line.now (10 ∷ c.in-Some.after.now))
+
 pub returns-in-Some-2-clause-read : goal.returns-in-Some-2-clause-read
 returns-in-Some-2-clause-read c =
     let moves = rw c.in-Some-2.is at c.in_ok-stop.ensures.moves in

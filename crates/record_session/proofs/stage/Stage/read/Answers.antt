@@ -1,4 +1,4 @@
-use Rattle.std.proofs.Common.{◌≡◌, ◌≤◌, suc, true, false, refl, sym, subst, rules}
+use Rattle.std.proofs.Common.{◌≡◌, ◌≤◌, ◌+◌, suc, length, true, false, refl, sym, subst, rules}
 use Rattle.std.specs.Prelude.{codes, IfNone}
 use Rattle.std.specs.Str.{bytes_eq}
 use Rattle.std.proofs.lemmas.Result.{IfOk-weaker}
@@ -24,7 +24,7 @@ pub returns-in-Opening-clause-judged : goal.returns-in-Opening-clause-judged
 returns-in-Opening-clause-judged c = c.open.ensures.judged
 
 pub returns-in-Opening-clause-few : goal.returns-in-Opening-clause-few
-returns-in-Opening-clause-few c = IfOk-weaker c.open.result _ _ (λ s h. few-none s (steps_in c.open.new.self) (steps_in c.args.self.now) h) c.open.ensures.few
+returns-in-Opening-clause-few c = IfOk-weaker c.open.result _ _ (λ s h. few-none s (steps_in c.open.new.self) (steps_in c.args.self.now + length c.args.line.now) h) c.open.ensures.few
 
 pub returns-in-Opening-clause-early : goal.returns-in-Opening-clause-early
 returns-in-Opening-clause-early c = c.open.ensures.early
@@ -45,4 +45,4 @@ pub returns-in-Playing-clause-judged : goal.returns-in-Playing-clause-judged
 returns-in-Playing-clause-judged c = c.read.ensures.judged
 
 pub returns-in-Playing-clause-few : goal.returns-in-Playing-clause-few
-returns-in-Playing-clause-few c = IfOk-weaker c.read.result _ _ (λ s h. subst (λ o. IfNone s (c.read.new.self.bay.steps ≤ suc (steps_in o))) (sym c.in-Playing.is) h) c.read.ensures.few
+returns-in-Playing-clause-few c = IfOk-weaker c.read.result _ _ (λ s h. subst (λ o. IfNone s (c.read.new.self.bay.steps ≤ suc (steps_in o + length c.args.line.now))) (sym c.in-Playing.is) h) c.read.ensures.few
