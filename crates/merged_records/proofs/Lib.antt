@@ -2,3 +2,4 @@
 pub mod Listed
 pub mod BackLaws
 pub mod OctetLaws
+pub mod WritingLaws

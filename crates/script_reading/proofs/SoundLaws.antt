@@ -34,7 +34,6 @@ use Rattle.record_history.specs.Histories.{octets_of, form_after, form_at, onto}
 use Rattle.record_outcome.specs.Openings.{unbuilt_line}
 use Rattle.record_outcome.specs.Records.{limit, most_lines, NoNewline, pieces}
 use Rattle.record_laws.specs.Grammar.{IsInner, Each}
-use Rattle.record_session.proofs.BuiltLaws.{own-built}
 use Rattle.script_lines.specs.Grammar.{IsOwner, SpellsScript}
 use Rattle.script_lines.specs.Lines.{script_line_at}
 use Rattle.script_lines.specs.Owners.{may_have}
@@ -60,7 +59,7 @@ use Rattle.script_reading.specs.declared.line.StepLine.{StepLine}
 use Rattle.script_reading.specs.declared.form.ScriptForm.{ScriptForm}
 use Rattle.script_reading.specs.declared.form.ScriptForm.TheVariants as forms
 use Rattle.script_reading.specs.declared.opened.Opened.{Opened}
-use Rattle.script_reading.proofs.TellLaws.{Keeps, same, association-made, process-made, passed-in, process-passed, fit-behind, passed-at}
+use Rattle.script_reading.proofs.TellLaws.{Keeps, same, association-made, process-made, passed-in, process-passed, fit-behind, own-built, passed-at}
 use Rattle.record_outcome.specs.declared.status.Status.{Status}
 use Rattle.record_outcome.specs.declared.status.Status.TheVariants as statuses
 

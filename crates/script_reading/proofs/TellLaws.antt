@@ -21,8 +21,10 @@ use Rattle.run_record.specs.declared.line.OpenForm.TheVariants as opens
 use Rattle.run_record.specs.declared.line.RecLine.{RecLine}
 use Rattle.run_record.specs.declared.line.RecLine.TheVariants as lines
 use Rattle.run_record.specs.declared.pairs.Pair.{Pair}
+use Rattle.bay_core.specs.Turns.{IsBuilt}
 use Rattle.record_steps.specs.Asks.{asked_by}
 use Rattle.record_steps.specs.Forms.{Form, shut, direct, mms, dialling, wire, is_shut, is_direct, opened_form, form_behind}
+use Rattle.record_steps.specs.Own.{IsOwn}
 use Rattle.record_steps.specs.Resolved.{association_of, turn_of, opened_in, opened_as, valued_as, written_as, lost_as, asked_as, spelled_as, sent_as, piece_as, fed_as, set_to, set_as, told_of}
 use Rattle.record_steps.specs.Settings.{are_named, settings_at}
 use Rattle.record_steps.specs.Shapes.{shape_at}
@@ -254,6 +256,19 @@ pub fit-behind : (line : RecLine) (was : ScriptForm) → IsLine line → IsFit w
 fit-behind (lines.Open b asked) was is fit = opened-fit asked was is.1 fit
 fit-behind (lines.Lost b) was is fit = tt
 fit-behind _ was is fit = fit
+
+-- ---- a bay takes it
+
+pub own-built : (is_open : ℕ → Bool) (actor : ℕ) (step : Step) → IsOwn is_open actor step → IsBuilt step
+own-built is_open actor (steps.Open k size writer) own = tt
+own-built is_open actor (steps.Ask k r) own = tt
+own-built is_open actor (steps.Write k b comp v) own = tt
+own-built is_open actor (steps.Take k) own = tt
+own-built is_open actor (steps.Lost k) own = tt
+own-built is_open actor (steps.Value settings) own = tt
+own-built is_open actor (steps.Done k good) own = absurd own
+own-built is_open actor (steps.Block k flag) own = absurd own
+own-built is_open actor steps.Tick own = tt
 
 -- ---- a moment
 

@@ -1,10 +1,10 @@
 -- The actors of a plan: their numbers fall, and each is to do what its script has.
-use Rattle.std.proofs.Common.{◌≡◌, ◌≤◌, ◌<◌, ◌+◌, ◌*◌, ◌^◌, ◌==◌, ℕ, zero, suc, Bool, true, false, cond, List, [], ◌∷◌, ◌++◌, length, map, get_or, eq-eqb, refl, sym, ap, subst, ◌∙◌, arith, inl, inr}
+use Rattle.std.proofs.Common.{◌≡◌, ◌≤◌, ◌<◌, ◌+◌, ◌*◌, ◌^◌, ◌==◌, ℕ, zero, suc, Bool, true, false, cond, List, [], ◌∷◌, ◌++◌, length, map, get_or, eq-eqb, refl, sym, ap, subst, ◌∙◌, arith, inl, inr, append_assoc, append-nil}
 use Rattle.std.specs.Prelude.{Option, None, Some}
 use Rattle.std.specs.List.{All}
 use Rattle.std.proofs.lemmas.Bool.Decides.{eqb_tells}
 use Rattle.std.proofs.lemmas.List.{length-map}
-use Rattle.std.proofs.lemmas.List.Elements.{All-nil, All-push}
+use Rattle.std.proofs.lemmas.List.Elements.{All-nil, All-cons, All-push}
 use Rattle.sv_base.specs.declared.config.Config.{Config}
 use Rattle.bay_model.specs.Answers.{History}
 use Rattle.record_outcome.specs.Records.{most_lines}
@@ -13,10 +13,12 @@ use Rattle.script_reading.specs.Sound.{IsScript, IsScriptOrNone, IsSound}
 use Rattle.script_threads.specs.Dealing.{AreFalling, CanPlay}
 use Rattle.script_threads.specs.Playing.{AreFit}
 use Rattle.script_threads.specs.Scripts.{turns_by}
+use Rattle.script_threads.specs.declared.job.Actor.{Actor}
 use Rattle.script_threads.specs.declared.script.Script.{Script as Part}
 use Rattle.script_threads.specs.declared.script.TimedStep.{TimedStep}
 use Rattle.race_verdicts.specs.Known.{Role as Known, role_of, roles_from, AreScripts}
-use Rattle.server_run.specs.Casting.{script_steps, role_steps, cast_from, turns_among, AreOfPlan}
+use Rattle.merged_records.specs.Merged.{Book, lines_in, book_seen}
+use Rattle.server_run.specs.Casting.{script_steps, role_steps, cast_one, cast_from, turns_among, AreOfPlan}
 use Rattle.server_run.specs.declared.casting.Role.{Role}
 
 abbrev Roles : Type 0
@@ -24,6 +26,32 @@ Roles = List (Option Role)
 
 abbrev nobody : Option Role
 nobody = None
+
+-- ---- actors are cast one by one, the one with the highest number first
+
+cast-last : (n : ℕ) (rs : Roles) (r : Option Role) → cast_from n (rs ++ r ∷ []) ≡ cast_one (n + length rs) r ++ cast_from n rs
+cast-last n [] None = refl
+cast-last n [] (Some r) = let same : n ≡ n + 0 = omega arith in ap (λ k. record { actor = k; steps = r.steps } ∷ []) same
+cast-last n (None ∷ rs) r =
+    let same : suc n + length rs ≡ n + suc (length rs) = omega arith in
+    cast-last (suc n) rs r ∙ ap (λ k. cast_one k r ++ cast_from (suc n) rs) same
+cast-last n (Some x ∷ rs) r =
+    let same : suc n + length rs ≡ n + suc (length rs) = omega arith in
+    let one : List Part = record { actor = n; steps = x.steps } ∷ [] in
+    ap (λ (l : List Part). l ++ one) (cast-last (suc n) rs r ∙ ap (λ k. cast_one k r ++ cast_from (suc n) rs) same) ∙ append_assoc (cast_one (n + suc (length rs)) r) (cast_from (suc n) rs) one
+
+-- one more is cast
+pub cast-more : (actors : List Part) (now : List Part) (old rs : Roles) (r : Option Role) (number : ℕ) (whole : List Part) → old ≡ rs ++ r ∷ [] → number ≡ length rs → actors ++ cast_from 0 old ≡ whole → now ≡ actors ++ cast_one number r
+    → now ++ cast_from 0 rs ≡ whole
+cast-more actors now old rs r number whole popped is so_far made =
+    let same : number ≡ 0 + length rs = omega (arith, is) in
+    ap (λ (l : List Part). l ++ cast_from 0 rs) (made ∙ ap (λ k. actors ++ cast_one k r) same)
+    ∙ (append_assoc actors (cast_one (0 + length rs) r) (cast_from 0 rs)
+    ∙ (ap (λ (l : List Part). actors ++ l) (sym (cast-last 0 rs r)) ∙ (ap (λ l. actors ++ cast_from 0 l) (sym popped) ∙ so_far)))
+
+-- all are cast
+pub cast-all : (actors whole : List Part) (rs : Roles) → rs ≡ [] → actors ++ cast_from 0 rs ≡ whole → actors ≡ whole
+cast-all actors whole rs none so_far = sym (append-nil actors) ∙ (ap (λ l. actors ++ cast_from 0 l) (sym none) ∙ so_far)
 
 -- ---- numbers
 
@@ -166,3 +194,13 @@ module _ (p : Plan) (sound : IsSound p) (rs : Roles) (same : map role_steps rs �
 
   pub plan-roles : AreScripts p (cast_from 0 rs)
   plan-roles = cast-roles 0 rs p.scripts same
+
+-- ---- the scripts of actors
+
+pub numbers-of : {X : Type 0} (as : List (Actor X)) → numbers (map (λ (a : Actor X). a.script) as) ≡ map (λ (a : Actor X). a.script.actor) as
+numbers-of [] = refl
+numbers-of (a ∷ as) = ap (λ (l : List ℕ). a.script.actor ∷ l) (numbers-of as)
+
+pub of-scripts : {X : Type 0} (P : Part → Type 0) (as : List (Actor X)) → All P (map (λ (a : Actor X). a.script) as) → All (λ (a : Actor X). P a.script) as
+of-scripts P [] all = All-nil (λ (a : Actor _). P a.script)
+of-scripts P (a ∷ as) all = All-cons (λ (a : Actor _). P a.script) a as (all 0 a.script (omega arith)) (of-scripts P as (λ i d near. all (suc i) d (omega (arith, near))))

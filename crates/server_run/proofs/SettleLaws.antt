@@ -1,9 +1,13 @@
 -- What a race of a plan comes to, and what is written of it.
-use Rattle.std.proofs.Common.{◌≡◌, ℕ, false, List, ◌++◌, length, sym, ap, ◌∙◌}
+use Rattle.std.proofs.Common.{◌≡◌, ℕ, false, List, ◌++◌, length, map, refl, sym, ap, subst, ◌∙◌}
+use Rattle.std.specs.List.{All}
 use Rattle.std.specs.Prelude.{Option, None, Some, codes}
 use Rattle.sv_base.specs.declared.config.Config.{Config}
+use Rattle.bay_config.specs.Servable.{IsServable}
 use Rattle.bay_model.specs.Points.{least_moment}
 use Rattle.bay_model.specs.Answers.{History}
+use Rattle.record_outcome.proofs.StartLaws.{is_served}
+use Rattle.script_threads.specs.Dealing.{AreFalling, CanPlay}
 use Rattle.script_threads.specs.Merging.{AreOf}
 use Rattle.script_threads.specs.Races.{IsRaced}
 use Rattle.script_threads.specs.Scripts.{made_of}
@@ -11,14 +15,20 @@ use Rattle.script_threads.specs.declared.made.Made.{Made}
 use Rattle.script_threads.specs.declared.part.Part.{Part as Given}
 use Rattle.script_threads.specs.declared.racing.Raced.{Raced}
 use Rattle.script_threads.specs.declared.script.Script.{Script as Part}
+use Rattle.script_reading.specs.Forms.{IsFit}
 use Rattle.script_reading.specs.Plans.{Plan}
-use Rattle.merged_records.specs.Merged.{Book, book_of, merged, record_with, answered}
-use Rattle.merged_records.proofs.OctetLaws.{merged_are_read_back}
+use Rattle.script_reading.specs.Sound.{IsSound}
+use Rattle.script_reading.specs.declared.line.StepLine.{StepLine}
+use Rattle.merged_records.specs.Merged.{Book, lines_in, book_of, line_of, merged, record_with, answered}
+use Rattle.merged_records.proofs.OctetLaws.{book-told, merged_are_read_back}
 use Rattle.race_verdicts.specs.Bounds.{lowest_beyond}
+use Rattle.race_verdicts.specs.Known.{AreScripts}
 use Rattle.race_verdicts.specs.Verdicts.{lowest_full, all_went, lacks_memory}
 use Rattle.race_verdicts.proofs.KnownLaws.{verdicts_are_known}
+use Rattle.server_run.specs.Casting.{AreOfPlan, IsCast}
 use Rattle.server_run.specs.Races.{IsOfPlan, IsOfRace}
 use Rattle.server_run.specs.Rehearsals.{IsMade, IsWritten, Goes, MeetsFull}
+use Rattle.server_run.proofs.CastLaws.{plan-roles, plan-turns, plan-falls, plan-plays}
 use Rattle.server_run.proofs.RaceLaws.{parts-of, made-whole}
 
 module _ (p : Plan) (c : Config) (text : List ℕ) (book : Book) (ss : List Part) (is : IsOfPlan p c text book ss) (r : Raced) (race : IsOfRace p.config ss r) where
@@ -61,3 +71,25 @@ module _ (p : Plan) (c : Config) (text : List ℕ) (book : Book) (ss : List Part
         back = merged_are_read_back p h is.sound (made-all none).1;
       };
     }
+
+-- ---- a plan's actors
+
+-- no line is of another form than a script's can be
+pub fit-lines : (p : Plan) (c : Config) (text : List ℕ) (book : Book) (ss : List Part) → IsOfPlan p c text book ss → (m : Made) (l : StepLine) → line_of book m ≡ Some l → IsFit l.form
+fit-lines p c text book ss is m l there = (book-told p m l is.sound (ap (λ b. line_of b m) is.book_ ∙ there)).2.fit
+
+pub served-plan : (p : Plan) (c : Config) (text : List ℕ) (book : Book) (ss : List Part) → IsOfPlan p c text book ss → IsServable c
+served-plan p c text book ss is = subst IsServable is.config (is_served p.text p.config is.sound.text.config is.sound.text.built)
+
+-- actors that are cast of a sound plan's scripts are of the plan
+pub cast-plan : (p : Plan) (ss : List Part) (book : Book) → IsSound p → IsCast ss p.scripts → book ≡ map lines_in p.scripts → IsOfPlan p p.config p.text book ss
+cast-plan p ss book sound cast is = record {
+  sound = sound;
+  config = refl;
+  text_ = refl;
+  book_ = sym is;
+  scripts = subst (AreScripts p) (sym cast.2) (plan-roles p sound cast.0 cast.1);
+  turns = subst (AreOfPlan p) (sym cast.2) (plan-turns p sound cast.0 cast.1);
+  falls = subst (λ l. AreFalling 33 (map (λ (s : Part). s.actor) l)) (sym cast.2) (plan-falls p sound cast.0 cast.1);
+  plays = subst (All (λ (s : Part). CanPlay p.config s)) (sym cast.2) (plan-plays p sound cast.0 cast.1);
+}

@@ -143,6 +143,22 @@ fn cast_scripts<G: Gate>(
     }
 }
 
+/// Lets the scripts of a plan race whose actors are cast.
+fn play_cast<R: Threads + Wait + Sync, G: Gate>(
+    rt: &R,
+    alloc: Global,
+    model: &Model,
+    text: &[u8],
+    book: &[Vec<StepLine>],
+    actors: Vec<Actor<G>>,
+) -> Result<Result<Vec<u8>, Status>, AllocError>
+    requires plan { (p : ThePlan) × IsOfPlan p model.now text.now (book_seen book.now) (map (λ a. a.script) actors.items) }
+    ensures { (p : ThePlan) → IsOfPlan p model.now text.now (book_seen book.now) (map (λ a. a.script) actors.items) → IfOk result (Performs p) }
+{
+    let raced = race_over(rt, alloc, model, actors)?;
+    settle(alloc, model, text, book, raced)
+}
+
 /// Lets the scripts of a plan race: the record that they made with its answers, or the status where a turn met a full queue.
 fn perform<R: Threads + Wait + Sync, G: Gate>(
     rt: &R,
@@ -160,9 +176,10 @@ fn perform<R: Threads + Wait + Sync, G: Gate>(
         count: _,
         processes: _,
     } = plan;
-    let (actors, book) = cast_scripts(alloc, slots, gates)?;
-    let raced = race_over(rt, alloc, &model, actors)?;
-    settle(alloc, &model, &text, &book, raced)
+    match cast_scripts(alloc, slots, gates) {
+        Ok((actors, book)) => play_cast(rt, alloc, &model, &text, &book, actors),
+        Err(error) => Err(error),
+    }
 }
 
 /// Reads a plan whole, and performs it.
