@@ -1,13 +1,17 @@
 -- Lines that were read one after another.
-use Rattle.std.proofs.Common.{◌≡◌, ℕ, suc, Bool, List, ◌∷◌, ◌++◌, refl, sym, ap, subst, ◌∙◌}
-use Rattle.record_outcome.specs.Records.{NoNewline, pieces}
-use Rattle.script_reading.specs.Moves.{Place, Move, goes, stops, ends}
-use Rattle.script_reading.specs.Inputs.{line_at, Outcome, moved, run}
-use Rattle.script_reading.specs.Readings.{place_of, Moved, LinesRead}
+use Rattle.std.proofs.Common.{◌≡◌, ℕ, suc, Bool, List, ◌∷◌, ◌++◌, length, take, refl, sym, ap, subst, ◌∙◌}
+use Rattle.std.specs.Prelude.{Result, nat_lt}
+use Rattle.record_outcome.specs.Records.{limit, NoNewline, pieces, has_begun}
+use Rattle.record_outcome.specs.declared.status.Status.{Status}
+use Rattle.script_reading.specs.Moves.{Place, opening, Move, goes, stops, ends}
+use Rattle.script_reading.specs.Inputs.{line_at, Outcome, refused, ended, moved, run, outcome}
+use Rattle.script_reading.specs.Readings.{place_of, Moved, Reads, LinesRead, EndsBetween, Concludes}
+use Rattle.script_reading.specs.declared.plan.Plan.{Plan as Held}
 use Rattle.script_reading.specs.declared.next.Next.{Next}
 use Rattle.script_reading.specs.declared.next.Next.TheVariants as nexts
 use Rattle.script_reading.specs.declared.session.Session.{Session}
-use Rattle.script_reading.proofs.RunLaws.{run-line}
+use Rattle.script_reading.specs.declared.stage.Stage.TheVariants as stages
+use Rattle.script_reading.proofs.RunLaws.{run-line, run-rest}
 
 abbrev run-at : Bool → Session → List ℕ → Outcome
 run-at long x octets = run long x.lines (place_of x.stage) (pieces octets)
@@ -34,3 +38,26 @@ module _ (old mid : Session) (octets rest line after : List ℕ) (read : HasRead
   read-end nexts.On new off does = absurd (off refl)
   read-end (nexts.Stop status) new off does = λ long. then-line long (stops status) does
   read-end nexts.End new off does = (does.0, does.1, λ long. then-line long (ends does.0) does.2)
+
+-- ---- the whole
+
+pub ends-between : (next : Next) (rest : List ℕ) (old new : Session) (octets : List ℕ) → LinesRead next rest old new octets → EndsBetween next (place_of new.stage)
+ends-between nexts.On rest old new octets read = tt
+ends-between (nexts.Stop status) rest old new octets read = tt
+ends-between nexts.End rest old new octets read = (read.0, read.1)
+
+-- of an input whose octets within the limit were read from the beginning
+pub concludes : (r : Result Held Status) (next : Next) (rest octets : List ℕ) (old new : Session) (long begun : Bool) → old ≡ record { lines = 0; stage = stages.Opening } → LinesRead next rest old new (take limit octets)
+    → long ≡ nat_lt limit (length octets) → begun ≡ has_begun rest → Concludes r new long next begun → Reads r (outcome octets)
+unfolding outcome
+concludes r next rest octets old new long begun first read is-long is-begun made = subst (Reads r) start (told next read made) where
+  whole : Outcome
+  whole = run-at long old (take limit octets)
+
+  start : whole ≡ run (nat_lt limit (length octets)) 0 opening (pieces (take limit octets))
+  start = (λ i. run (is-long i) (first i).lines (place_of (first i).stage) (pieces (take limit octets)))
+
+  told : (next : Next) → LinesRead next rest old new (take limit octets) → Concludes r new long next begun → Reads r whole
+  told nexts.On read made = subst (Reads r) (sym (read.1 long ∙ (run-rest long new.lines (place_of new.stage) rest read.0 ∙ ap (λ b. refused (ended long b (suc new.lines) (place_of new.stage))) (sym is-begun)))) made
+  told (nexts.Stop status) read made = subst (Reads r) (sym (read long)) made
+  told nexts.End read made = subst (Reads r) (sym (read.2 long)) (made read.0 read.1)

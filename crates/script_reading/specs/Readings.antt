@@ -1,5 +1,5 @@
 -- What the reading of a rehearsal's input stands for.
-use Rattle.std.specs.Prelude.{◌≡◌, ◌<◌, ◌≤◌, ◌^◌, ◌==◌, ◌||◌, ℕ, Bool, true, false, List, [], length, Option, None, Some, is_some, Result, Ok, Err, IfSome}
+use Rattle.std.specs.Prelude.{◌≡◌, ◌<◌, ◌≤◌, ◌^◌, ◌==◌, ◌||◌, ℕ, suc, Bool, true, false, List, [], length, Option, None, Some, is_some, Result, Ok, Err, IfSome}
 use Rattle.run_record.specs.Grammar.{IsLine}
 use Rattle.run_record.specs.Judging.{number_of}
 use Rattle.run_record.specs.declared.fault.Kind.{Kind}
@@ -16,7 +16,7 @@ use Rattle.script_reading.specs.Forms.{IsFit}
 use Rattle.script_reading.specs.Plans.{Plan, script_of}
 use Rattle.script_reading.specs.Moves.{Place, opening, configuring, between, inside, Move, goes, stops, ends}
 use Rattle.script_reading.specs.Scripting.{most_scripts, actor_for, counted, opened}
-use Rattle.script_reading.specs.Inputs.{Outcome, refused, ready, run}
+use Rattle.script_reading.specs.Inputs.{Outcome, refused, ready, ended, run}
 use Rattle.script_reading.specs.declared.plan.Plan.{Plan as Held}
 use Rattle.script_reading.specs.declared.opened.Opened.{Opened}
 use Rattle.script_reading.specs.declared.next.Next.{Next}
@@ -126,3 +126,14 @@ IsBetween place = (p : Plan) × (place ≡ between p)
 abbrev pub IsRefused : Result Held Status → Type 0
 IsRefused (Ok x) = Unit {0}
 IsRefused (Err status) = IsRefusal status
+
+-- behind the last line no script is left open
+abbrev pub EndsBetween : Next → Place → Type 0
+EndsBetween nexts.End place = IsBetween place
+EndsBetween _ place = Unit {0}
+
+-- what is made of where the reading is, and of how it came there
+abbrev pub Concludes : Result Held Status → Session → Bool → Next → Bool → Type 0
+Concludes r x long nexts.On begun = Reads r (refused (ended long begun (suc x.lines) (place_of x.stage)))
+Concludes r x long (nexts.Stop status) begun = Reads r (refused status)
+Concludes r x long nexts.End begun = (p : Plan) → place_of x.stage ≡ between p → Reads r (ready p)

@@ -4,7 +4,7 @@ ghost use Rattle.std.specs.Prelude.{◌≡◌, ◌≤◌, ◌<◌, ◌+◌, ◌^
 ghost use Rattle.script_reading.specs.Inputs.{outcome};
 ghost use Rattle.script_reading.specs.Plans.{Plan as ThePlan};
 ghost use Rattle.script_reading.specs.Moves.{between};
-ghost use Rattle.script_reading.specs.Readings.{place_of, plan_seen, Reads, IsRefused, IsBetween, IsDecided, IsWell, LinesRead};
+ghost use Rattle.script_reading.specs.Readings.{place_of, plan_seen, Reads, IsRefused, IsBetween, IsDecided, IsWell, LinesRead, EndsBetween, Concludes};
 
 use crate::next::Next;
 use crate::plan::Plan;
@@ -33,10 +33,11 @@ fn read_lines<'a>(
     let mut rest = octets;
     while let Some((line, after)) = split_line(rest) {
         let next = session.read(alloc, line)?;
-        if next != Next::On {
-            return Ok((next, after));
+        match next {
+            Next::On => rest = after,
+            Next::Stop(status) => return Ok((Next::Stop(status), after)),
+            Next::End => return Ok((Next::End, after)),
         }
-        rest = after;
     }
     Ok((Next::On, rest))
 }
@@ -47,8 +48,37 @@ fn planned(session: Session) -> Plan
     ensures { (p : ThePlan) → place_of session.stage ≡ between p → plan_seen result ≡ p }
 {
     match session.stage {
-        Stage::Scripts(scripts) => scripts.plan,
-        _ => unreachable!(),
+        Stage::Scripts(scripts) => scripts.into_plan(),
+        Stage::Opening | Stage::Configuring { .. } => unreachable!(),
+    }
+}
+
+/// What the reading of an input comes to, behind its whole lines, or behind the one with which it stopped or ended.
+fn conclude(
+    alloc: Global,
+    session: Session,
+    long: bool,
+    next: Next,
+    begun: bool,
+) -> Result<Result<Plan, Status>, AllocError>
+    requires well { IsWell session.stage }
+    requires lines { session.lines < 2 ^ 61 }
+    requires decided { IsDecided next }
+    requires ended { EndsBetween next (place_of session.stage) }
+    ensures reads { IfOk result (λ r. Concludes r session long next begun) }
+    ensures refused { IfOk result IsRefused }
+{
+    match next {
+        Next::On => {
+            let status = session.ended(alloc, long, begun);
+            drop(session);
+            Ok(Err(status?))
+        }
+        Next::Stop(status) => {
+            drop(session);
+            Ok(Err(status))
+        }
+        Next::End => Ok(Ok(planned(session))),
     }
 }
 
@@ -61,15 +91,13 @@ pub fn read_rehearsal(alloc: Global, octets: &[u8]) -> Result<Result<Plan, Statu
     ensures refused { IfOk result IsRefused }
 {
     let long = octets.len() > LIMIT;
-    let mut session = Session::new();
     let within = &octets[..octets.len().min(LIMIT)];
-    let (next, rest) = read_lines(alloc, &mut session, within)?;
-    match next {
-        Next::On => {
-            let status = session.ended(alloc, long, !rest.is_empty())?;
-            Ok(Err(status))
+    let mut session = Session::new();
+    match read_lines(alloc, &mut session, within) {
+        Ok((next, rest)) => conclude(alloc, session, long, next, !rest.is_empty()),
+        Err(error) => {
+            drop(session);
+            Err(error)
         }
-        Next::Stop(status) => Ok(Err(status)),
-        Next::End => Ok(Ok(planned(session))),
     }
 }

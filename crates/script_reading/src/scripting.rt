@@ -303,6 +303,15 @@ impl Scripts {
         }
     }
 
+    /// The scripts that have ended.
+    pub fn into_plan(self) -> Plan
+        ensures { result ≡ self.plan }
+    {
+        let Scripts { plan, current } = self;
+        drop(current);
+        plan
+    }
+
     /// A script begins, between others.
     fn begin(&mut self, alloc: Global, number: u64, owner: Owner) -> Next
         requires between { self.old.current ≡ None }

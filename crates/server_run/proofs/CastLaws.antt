@@ -197,10 +197,10 @@ module _ (p : Plan) (sound : IsSound p) (rs : Roles) (same : map role_steps rs �
 
 -- ---- the scripts of actors
 
-pub numbers-of : {X : Type 0} (as : List (Actor X)) → numbers (map (λ (a : Actor X). a.script) as) ≡ map (λ (a : Actor X). a.script.actor) as
+pub numbers-of : {X : Type 0} (xs : List (Actor X)) → numbers (map (λ (a : Actor X). a.script) xs) ≡ map (λ (a : Actor X). a.script.actor) xs
 numbers-of [] = refl
-numbers-of (a ∷ as) = ap (λ (l : List ℕ). a.script.actor ∷ l) (numbers-of as)
+numbers-of (a ∷ xs) = ap (λ (l : List ℕ). a.script.actor ∷ l) (numbers-of xs)
 
-pub of-scripts : {X : Type 0} (P : Part → Type 0) (as : List (Actor X)) → All P (map (λ (a : Actor X). a.script) as) → All (λ (a : Actor X). P a.script) as
+pub of-scripts : {X : Type 0} (P : Part → Type 0) (xs : List (Actor X)) → All P (map (λ (a : Actor X). a.script) xs) → All (λ (a : Actor X). P a.script) xs
 of-scripts P [] all = All-nil (λ (a : Actor _). P a.script)
-of-scripts P (a ∷ as) all = All-cons (λ (a : Actor _). P a.script) a as (all 0 a.script (omega arith)) (of-scripts P as (λ i d near. all (suc i) d (omega (arith, near))))
+of-scripts P (a ∷ xs) all = All-cons (λ (a : Actor _). P a.script) a xs (all 0 a.script (omega arith)) (of-scripts P xs (λ i d near. all (suc i) d (omega (arith, near))))

@@ -2,3 +2,4 @@
 pub mod CastLaws
 pub mod RaceLaws
 pub mod SettleLaws
+pub mod EndingLaws

@@ -76,3 +76,26 @@ Rehearses o (statuses.Limit which line) old new =
 Rehearses o statuses.Memory old new = Appends old new []
 Rehearses o statuses.ReadFault old new = Appends old new []
 Rehearses o statuses.Words old new = ⊥
+
+-- ---- how a rehearsal ends
+
+-- by the lowest line that asks where its script's own bound is 16, if there is one
+abbrev pub ends_at : Option ℕ → Status
+ends_at None = statuses.Ok
+ends_at (Some line) = statuses.Limit 2 line
+
+-- the status of an input that comes to this, where memory isn't wanting and neither end fails
+abbrev pub status_of : Outcome → Status
+status_of (refused status) = status
+status_of (ready p) = ends_at (lowest_beyond p)
+
+-- a status that is neither for want of memory nor for a fault
+abbrev pub IsEnding : Status → Type 0
+IsEnding statuses.Memory = ⊥
+IsEnding statuses.ReadFault = ⊥
+IsEnding statuses.WriteFault = ⊥
+IsEnding _ = Unit {0}
+
+-- every such status is that of the input, so that no race has a say in it
+abbrev pub EndingsAreKnown : Type 0
+EndingsAreKnown = (o : Outcome) (status : Status) (old new : Option (List ℕ)) → Rehearses o status old new → IsEnding status → status ≡ status_of o

@@ -8,3 +8,8 @@ mod casting;
 mod rehearse;
 
 pub use rehearse::{rehearse, rehearse_gated};
+
+// how it ends
+mod laws;
+
+pub use laws::endings_are_known;
