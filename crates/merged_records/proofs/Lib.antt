@@ -2,4 +2,3 @@
 pub mod Listed
 pub mod BackLaws
 pub mod OctetLaws
-pub mod WritingLaws

@@ -2,4 +2,5 @@
 pub mod TellLaws
 pub mod RunLaws
 pub mod ReadingLaws
+pub mod StageLaws
 pub mod SoundLaws

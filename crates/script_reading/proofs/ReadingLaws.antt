@@ -1,6 +1,9 @@
 -- Lines that were read one after another.
-use Rattle.std.proofs.Common.{◌≡◌, ℕ, suc, Bool, List, ◌∷◌, ◌++◌, length, take, refl, sym, ap, subst, ◌∙◌}
-use Rattle.std.specs.Prelude.{Result, nat_lt}
+use Rattle.std.proofs.Common.{◌≡◌, ℕ, suc, Bool, List, ◌∷◌, ◌++◌, length, take, refl, sym, ap, subst, ◌∙◌, inl, inr, arith}
+use Rattle.std.specs.Prelude.{min, Result, nat_lt}
+use Rattle.std.proofs.Math.Nat.{min_comm, min-eq_left}
+use Rattle.std.proofs.lemmas.Bool.Decides.{leb_tells}
+use Rattle.std.proofs.lemmas.List.{take_all}
 use Rattle.record_outcome.specs.Records.{limit, NoNewline, pieces, has_begun}
 use Rattle.record_outcome.specs.declared.status.Status.{Status}
 use Rattle.script_reading.specs.Moves.{Place, opening, Move, goes, stops, ends}
@@ -40,6 +43,12 @@ module _ (old mid : Session) (octets rest line after : List ℕ) (read : HasRead
   read-end nexts.End new off does = (does.0, does.1, λ long. then-line long (ends does.0) does.2)
 
 -- ---- the whole
+
+pub take-min : (n : ℕ) (xs : List ℕ) → take (min (length xs) n) xs ≡ take n xs
+take-min n xs = elim (leb_tells (length xs) n) [
+  | inl t ↦ ap (λ m. take m xs) (min-eq_left t.1) ∙ (take_all (length xs) xs (omega arith) ∙ sym (take_all n xs t.1))
+  | inr t ↦ ap (λ m. take m xs) (min_comm (length xs) n ∙ min-eq_left (omega (arith, t.1)))
+]
 
 pub ends-between : (next : Next) (rest : List ℕ) (old new : Session) (octets : List ℕ) → LinesRead next rest old new octets → EndsBetween next (place_of new.stage)
 ends-between nexts.On rest old new octets read = tt

@@ -15,6 +15,9 @@ use record_outcome::unbuilt::unbuilt_line;
 use run_record::Kind;
 use std::alloc::{AllocError, Global};
 
+/// A place for each number of an actor.
+const PLACES: usize = 33;
+
 /// What becomes of a whole configuration.
 #[derive(Drop)]
 pub enum Started {
@@ -27,7 +30,7 @@ fn no_scripts(alloc: Global) -> Result<Vec<Option<Script>>, AllocError>
     ensures { IfOk result (λ v. v.items ≡ replicate 33 None) }
 {
     let mut slots = Vec::new(alloc);
-    for _ in 0..33 {
+    for _ in 0..PLACES {
         slots.push(None)?;
     }
     Ok(slots)

@@ -3,3 +3,4 @@ pub mod CastLaws
 pub mod RaceLaws
 pub mod SettleLaws
 pub mod EndingLaws
+pub mod DeliveryLaws

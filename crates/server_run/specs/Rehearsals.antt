@@ -77,6 +77,12 @@ Rehearses o statuses.Memory old new = Appends old new []
 Rehearses o statuses.ReadFault old new = Appends old new []
 Rehearses o statuses.Words old new = ⊥
 
+-- a status that doesn't speak of the words and of the source
+abbrev pub IsListed : Status → Type 0
+IsListed statuses.Words = ⊥
+IsListed statuses.ReadFault = ⊥
+IsListed _ = Unit {0}
+
 -- ---- how a rehearsal ends
 
 -- by the lowest line that asks where its script's own bound is 16, if there is one

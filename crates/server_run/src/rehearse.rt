@@ -8,7 +8,7 @@ ghost use Rattle.bay_model.specs.Answers.{History as TheHistory};
 ghost use Rattle.replay_run.specs.Tool.{TakesAtMost};
 ghost use Rattle.sv_io.specs.Causes.{Rose};
 ghost use Rattle.script_reading.specs.Forms.{IsFit};
-ghost use Rattle.script_reading.specs.Inputs.{outcome};
+ghost use Rattle.script_reading.specs.Inputs.{Outcome, outcome};
 ghost use Rattle.script_reading.specs.Plans.{Plan as ThePlan};
 ghost use Rattle.script_reading.specs.Readings.{plan_seen};
 ghost use Rattle.script_reading.specs.Sound.{IsSound};
@@ -22,7 +22,7 @@ ghost use Rattle.std.specs.Prelude.{◌++◌, Some, codes};
 ghost use Rattle.merged_records.specs.Merged.{line_of, lines_in, book_seen, merged, record_with, answered};
 ghost use Rattle.server_run.specs.Casting.{IsCast};
 ghost use Rattle.server_run.specs.Races.{IsOfPlan, IsOfRace};
-ghost use Rattle.server_run.specs.Rehearsals.{most, Performs, PerformsInput, Rehearses};
+ghost use Rattle.server_run.specs.Rehearsals.{most, Performs, PerformsInput, Rehearses, IsListed};
 
 use crate::casting::{cast, part};
 use bay_core::Bay;
@@ -201,6 +201,24 @@ fn perform_input<R: Threads + Wait + Sync, G: Gate>(
     }
 }
 
+/// Writes what a performance came to, if it came to a record with its answers: the status.
+fn deliver<K: Sink>(performed: Result<Result<Vec<u8>, Status>, AllocError>, sink: &mut K) -> Status
+    requires { (o : Outcome) × IfOk performed (PerformsInput o) }
+    ensures rehearses { (o : Outcome) → IfOk performed (PerformsInput o) → Rehearses o result (K.taken sink.old) (K.taken sink.new) }
+    ensures listed { IsListed result }
+    ensures write { result ≡ Status.WriteFault → Rose (K.faults sink.old) (K.faults sink.new) }
+    ensures later { K.faults sink.old ≤ K.faults sink.new }
+{
+    match performed {
+        Ok(Ok(out)) => match sink.write_all(&out) {
+            Ok(()) => Status::Ok,
+            Err(Failed) => Status::WriteFault,
+        },
+        Ok(Err(status)) => status,
+        Err(AllocError) => Status::Memory,
+    }
+}
+
 /// Reads a configuration and one script per actor, and checks every script before any thread starts. Then each actor plays its
 /// script in a thread of its own against one history, one turn a line, and passes its gate before each turn: the i-th gate is
 /// that of the i-th script. Where all turns went, the record that they made is written, and behind it its answers.
@@ -225,19 +243,10 @@ pub fn rehearse_gated<R: Threads + Wait + Sync, S: Source, K: Sink, G: Gate>(
     ensures write { result ≡ Status.WriteFault → Rose (K.faults sink.old) (K.faults sink.new) }
     ensures later { (S.faults source.old ≤ S.faults source.new) × (K.faults sink.old ≤ K.faults sink.new) }
 {
-    let octets = match read_whole(alloc, source, MOST) {
-        Ok(octets) => octets,
-        Err(Halt::Read) => return Status::ReadFault,
-        Err(Halt::Memory) => return Status::Memory,
-    };
-    let out = match perform_input(rt, alloc, gates, octets) {
-        Ok(Ok(out)) => out,
-        Ok(Err(status)) => return status,
-        Err(AllocError) => return Status::Memory,
-    };
-    match sink.write_all(&out) {
-        Ok(()) => Status::Ok,
-        Err(Failed) => Status::WriteFault,
+    match read_whole(alloc, source, MOST) {
+        Ok(octets) => deliver(perform_input(rt, alloc, gates, octets), sink),
+        Err(Halt::Read) => Status::ReadFault,
+        Err(Halt::Memory) => Status::Memory,
     }
 }
 
