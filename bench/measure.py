@@ -11,9 +11,9 @@ import time
 TOP = os.path.dirname(os.path.dirname(os.path.abspath(__file__)))
 
 
-def program_of(arguments):
-    """The program that is named, or bin/bay_tool, which scripts/build makes where it isn't there."""
-    program = os.path.abspath(arguments[1] if len(arguments) > 1 else os.path.join(TOP, "bin", "bay_tool"))
+def program_of(arguments, name="bay_tool"):
+    """The program that is named, or the one of this name in bin/, which scripts/build makes where it isn't there."""
+    program = os.path.abspath(arguments[1] if len(arguments) > 1 else os.path.join(TOP, "bin", name))
     if not os.path.exists(program):
         subprocess.run([os.path.join(TOP, "scripts", "build")], check=True)
     return program

@@ -10,4 +10,4 @@ mod replay;
 
 // a configuration alone
 mod check;
-mod whole;
+pub mod whole;

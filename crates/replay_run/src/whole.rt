@@ -19,6 +19,7 @@ pub enum Halt {
 /// Reads a source to its end, and no more than so many octets of it.
 pub fn read_whole<S: Source>(alloc: Global, source: &mut S, most: usize) -> Result<Vec<u8>, Halt>
     ensures whole { IfOk result (λ v. IfSome (S.left source.old) (λ b. v.items ≡ take most b)) }
+    ensures few { IfOk result (λ v. length v.items ≤ most) }
     ensures taken { TakesAtMost most (S.left source.old) (S.left source.new) }
     ensures read { result ≡ Err Halt.Read → Rose (S.faults source.old) (S.faults source.new) }
     ensures later { S.faults source.old ≤ S.faults source.new }

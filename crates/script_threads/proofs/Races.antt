@@ -171,6 +171,7 @@ a_part h x d q fresh went gathered = record {
   told = told;
   before = d.pass.seen;
   earlier = gathered.earlier;
+  own = subst (λ (k : ℕ). by k d.pass.seen ≡ turns_by k (take (length d.part.replies.items) x.1.steps.items)) (sym fresh.4) (own_steps h x d q fresh went gathered);
   stops = subst (λ (c : Config). StopsAt c x.1.actor x.1.steps.items (length d.part.replies.items) d.part.fault d.pass.seen) fresh.0.1
       (subst (λ (k : ℕ). StopsAt x.0.config k x.1.steps.items (length d.part.replies.items) d.part.fault d.pass.seen) (sym fresh.4) went.stops);
 }

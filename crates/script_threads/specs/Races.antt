@@ -28,6 +28,8 @@ pub record IsPart (c : Config) (h : History) (s : Script) (p : Part) : Type 0 wh
   pub told : p.replies.items ≡ replies_of c p.actor h
   pub before : History
   pub earlier : IsEarlier before h
+  -- by then the actor had made all that it made
+  pub own : by s.actor before ≡ turns_by s.actor (take (length p.replies.items) s.steps.items)
   pub stops : StopsAt c s.actor s.steps.items (length p.replies.items) p.fault before
 
 abbrev pub AreParts : Config → History → List Script → List Part → Type 0

@@ -1,0 +1,5 @@
+-- What comes of a race is known.
+pub mod Lows
+pub mod Owns
+pub mod Orders
+pub mod KnownLaws

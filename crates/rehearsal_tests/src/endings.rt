@@ -1,0 +1,137 @@
+//! Rehearsals that end in one way: of one script, and of inputs that are refused.
+
+use crate::runs::{rehearsed, sink, source, unmarked};
+use record_outcome::status::Status;
+use server_run::rehearse;
+use std::test::*;
+use sv_base::Octs;
+use sv_io::{Calls, MemSink, MemSource};
+
+/// A rehearsal: its name, its input, its status, and what it writes, both texts with marks.
+type Row = (&'static str, &'static str, Status, &'static str);
+
+const ROWS: [Row; 4] = [
+    (
+        "one script is its record",
+        "rehearse 1\n[script association 1\nopen 1 direct\nat !10\nwrite 1 & RptEna T\ntake 1\nclose\nend\n",
+        Status::Ok,
+        "record 1\n[open 1 direct\nat !10\nwrite 1 & RptEna T\ntake 1\nend\n1 ok\n1 empty\nend\n",
+    ),
+    (
+        "lines that make no step aren't copied, and a moment goes back",
+        "rehearse 1\n[# scripts\nscript process\nat !20\n\nset @ 5\nat !10\nat !20\nset @ 6\nat !10\nset @ 7\nclose\nend\nand more\n",
+        Status::Ok,
+        "record 1\n[at !20\nset @ 5\nset @ 6\nat !10\nset @ 7\nend\nend\n",
+    ),
+    (
+        "a PDU that asks nothing makes no step",
+        "rehearse 1\n[script association 1\nopen 1 mms 65000\npdu 1 a100\npdu 1 8b00\ntake 1\nclose\nend\n",
+        Status::Ok,
+        "record 1\n[open 1 mms 65000\npdu 1 8b00\ntake 1\nend\n1 pdu 8c00\nend\n",
+    ),
+    (
+        "sixteen replies wait, and another one when one is taken",
+        "rehearse 1\n[script association 1\nopen 1 mms 65000\n%%take 1\npdu 1 8b00\nlost 1\nopen 1 mms 65000\n%%close\nend\n",
+        Status::Ok,
+        "record 1\n[open 1 mms 65000\n%%take 1\npdu 1 8b00\nlost 1\nopen 1 mms 65000\n%%end\n1 pdu a10b020101a006800100810100\nend\n",
+    ),
+];
+
+/// An input that is refused at a line, and the number of the kind. The last line of the configuration has number 21.
+type Refused = (&'static str, u64, u8);
+
+const REFUSED: [Refused; 21] = [
+    ("rehearse 1\n[end\n", 22, 5),
+    ("record 1\n[end\n", 1, 1),
+    ("rehearse 2\n[end\n", 1, 2),
+    ("rehearse 1\n[script association 17\n", 22, 2),
+    ("rehearse 1\n[script station\n", 22, 1),
+    ("rehearse 1\n[close\n", 22, 5),
+    ("rehearse 1\n[tick\n", 22, 5),
+    ("rehearse 1\n[set BAY1/XCBR1$ST$None T\n", 22, 3),
+    ("rehearse 1\n[script process\nscript process\n", 23, 5),
+    ("rehearse 1\n[script process\nend\n", 23, 5),
+    ("rehearse 1\n[script process\ntick\n", 24, 7),
+    ("rehearse 1\n[script process\nopen 1 direct\n", 23, 5),
+    ("rehearse 1\n[script process\nset @ T\n", 23, 4),
+    ("rehearse 1\n[script association 1\nopen 1 wire\n", 23, 5),
+    ("rehearse 1\n[script association 1\nin 1 03\n", 23, 5),
+    ("rehearse 1\n[script association 1\nopen 2 direct\n", 23, 5),
+    ("rehearse 1\n[script association 1\ntick\n", 23, 5),
+    (
+        "rehearse 1\n[script association 1\nset BAY1/XCBR1$ST$None T\n",
+        23,
+        3,
+    ),
+    ("rehearse 1\n[script association 1\nlost 1\n", 23, 5),
+    (
+        "rehearse 1\n[script association 1\nopen 1 direct\npdu 1 zz\n",
+        24,
+        5,
+    ),
+    (
+        "rehearse 1\n[script association 1\nclose\nscript association 1\n",
+        24,
+        5,
+    ),
+];
+
+/// The second script's seventeenth request, behind a loss, finds 16 replies waiting; so does a line of the third one, below it.
+const FULL: &str =
+    "rehearse 1\n[script process\nclose\nscript association 1\nopen 1 mms 65000\n%%take 1\npdu 1 8b00\nlost 1\n\
+    open 1 mms 65000\n%%pdu 1 8b00\npdu 1 8b00\nclose\nscript association 2\nopen 2 mms 65000\n;;;;pdu 2 8b00\nclose\nend\n";
+
+#[test]
+fn a_script_that_goes_is_its_record(rt: HostRuntime) -> Result<(), Fail> {
+    let alloc = rt.alloc();
+    for (name, text, wanted, written) in ROWS {
+        let (status, output) = rehearsed(&rt, alloc, text)?;
+        assert_eq!(rt; status, wanted, "{name}");
+        assert_eq!(rt;
+            output.octets(),
+            unmarked(alloc, written)?.as_slice(),
+            "{name}"
+        );
+    }
+    Ok(())
+}
+
+#[test]
+fn what_is_refused_writes_nothing(rt: HostRuntime) -> Result<(), Fail> {
+    let alloc = rt.alloc();
+    for (text, line, kind) in REFUSED {
+        let (status, output) = rehearsed(&rt, alloc, text)?;
+        assert_eq!(rt; status, Status::Record { line, kind }, "{text}");
+        assert!(rt; output.octets().is_empty(), "{text}");
+    }
+    Ok(())
+}
+
+#[test]
+fn the_lowest_line_that_meets_a_full_queue_is_named(rt: HostRuntime) -> Result<(), Fail> {
+    let alloc = rt.alloc();
+    let (status, output) = rehearsed(&rt, alloc, FULL)?;
+    assert_eq!(rt; status, Status::Limit { which: 2, line: 62 });
+    assert!(rt; output.octets().is_empty());
+    Ok(())
+}
+
+#[test]
+fn a_fault_of_an_end_is_the_status(rt: HostRuntime) -> Result<(), Fail> {
+    let alloc = rt.alloc();
+    let text = ROWS[0].1;
+    let first = Calls::from_vec(vec![in alloc; 1]?);
+    let mut output = MemSink::new(alloc, first);
+    let mut input = source(alloc, unmarked(alloc, text)?);
+    assert_eq!(rt;
+        rehearse(&rt, alloc, &mut input, &mut output),
+        Status::WriteFault
+    );
+    let octets = Octs::from_vec(unmarked(alloc, text)?);
+    let mut broken = MemSource::new(octets, Calls::from_vec(vec![in alloc; 1]?));
+    assert_eq!(rt;
+        rehearse(&rt, alloc, &mut broken, &mut sink(alloc)),
+        Status::ReadFault
+    );
+    Ok(())
+}

@@ -1,0 +1,103 @@
+//! A whole input of a rehearsal.
+
+ghost use Rattle.std.specs.Prelude.{◌≡◌, ◌≤◌, ◌<◌, ◌+◌, ◌^◌, length, IfOk, OnOk};
+ghost use Rattle.script_reading.specs.Inputs.{outcome};
+ghost use Rattle.script_reading.specs.Plans.{Plan as ThePlan};
+ghost use Rattle.script_reading.specs.Moves.{between};
+ghost use Rattle.script_reading.specs.Readings.{place_of, plan_seen, Reads, IsRefused, IsBetween, IsDecided, IsWell, LinesRead, EndsBetween, Concludes};
+
+use crate::next::Next;
+use crate::plan::Plan;
+use crate::scan::split_line;
+use crate::session::Session;
+use crate::stage::Stage;
+use record_outcome::status::Status;
+use std::alloc::{AllocError, Global};
+
+/// The most octets of an input.
+const LIMIT: usize = 67108864;
+
+/// Reads the whole lines at the front of these octets, up to one with which the reading stops or ends, and gives the rest.
+fn read_lines<'a>(
+    alloc: Global,
+    session: &mut Session,
+    octets: &'a [u8],
+) -> Result<(Next, &'a [u8]), AllocError>
+    requires well { IsWell session.old.stage }
+    requires lines { session.old.lines + length octets.now < 2 ^ 61 }
+    ensures read { IfOk result (λ r. LinesRead r.0 r.1.now session.old session.new octets.now) }
+    ensures decided { IfOk result (λ r. IsDecided r.0) }
+    ensures well { OnOk result (IsWell session.new.stage) }
+    ensures lines { OnOk result (session.new.lines ≤ session.old.lines + length octets.now) }
+{
+    let mut rest = octets;
+    while let Some((line, after)) = split_line(rest) {
+        let next = session.read(alloc, line)?;
+        match next {
+            Next::On => rest = after,
+            Next::Stop(status) => return Ok((Next::Stop(status), after)),
+            Next::End => return Ok((Next::End, after)),
+        }
+    }
+    Ok((Next::On, rest))
+}
+
+/// The plan that stands behind the last line.
+fn planned(session: Session) -> Plan
+    requires { IsBetween (place_of session.stage) }
+    ensures { (p : ThePlan) → place_of session.stage ≡ between p → plan_seen result ≡ p }
+{
+    match session.stage {
+        Stage::Scripts(scripts) => scripts.into_plan(),
+        Stage::Opening | Stage::Configuring { .. } => unreachable!(),
+    }
+}
+
+/// What the reading of an input comes to, behind its whole lines, or behind the one with which it stopped or ended.
+fn conclude(
+    alloc: Global,
+    session: Session,
+    long: bool,
+    next: Next,
+    begun: bool,
+) -> Result<Result<Plan, Status>, AllocError>
+    requires well { IsWell session.stage }
+    requires lines { session.lines < 2 ^ 61 }
+    requires decided { IsDecided next }
+    requires ended { EndsBetween next (place_of session.stage) }
+    ensures reads { IfOk result (λ r. Concludes r session long next begun) }
+    ensures refused { IfOk result IsRefused }
+{
+    match next {
+        Next::On => {
+            let status = session.ended(alloc, long, begun);
+            drop(session);
+            Ok(Err(status?))
+        }
+        Next::Stop(status) => {
+            drop(session);
+            Ok(Err(status))
+        }
+        Next::End => Ok(Ok(planned(session))),
+    }
+}
+
+/// Reads the input of a rehearsal: a plan, or the status with which it is refused. Every line is checked.
+///
+/// Fails for want of memory alone.
+pub fn read_rehearsal(alloc: Global, octets: &[u8]) -> Result<Result<Plan, Status>, AllocError>
+    requires { length octets.now < 2 ^ 61 }
+    ensures reads { IfOk result (λ r. Reads r (outcome octets.now)) }
+    ensures refused { IfOk result IsRefused }
+{
+    let long = octets.len() > LIMIT;
+    let within = &octets[..octets.len().min(LIMIT)];
+    let mut session = Session::new();
+    match read_lines(alloc, &mut session, within) {
+        Ok((next, rest)) => conclude(alloc, session, long, next, !rest.is_empty()),
+        Err(error) => {
+            drop(session);
+            Err(error)
+        }
+    }
+}

@@ -1,0 +1,100 @@
+//! The configuration of a rehearsal.
+
+ghost use Rattle.std.specs.Prelude.{◌≡◌, ◌<◌, ◌^◌, None, replicate, IfOk};
+ghost use Rattle.cfg_parser.specs.Looking.{config_at};
+ghost use Rattle.record_outcome.specs.Records.{refused_before as refused_before_number};
+ghost use Rattle.script_reading.specs.Openings.{started};
+ghost use Rattle.script_reading.specs.Readings.{Starts, IsSoundStart, IsRefusal};
+
+use crate::plan::Plan;
+use crate::script::Script;
+use cfg_text::{CfgFault, read_config};
+use object_model::Model;
+use record_outcome::status::Status;
+use record_outcome::unbuilt::unbuilt_line;
+use run_record::Kind;
+use std::alloc::{AllocError, Global};
+
+/// A place for each number of an actor.
+const PLACES: usize = 33;
+
+/// What becomes of a whole configuration.
+#[derive(Drop)]
+pub enum Started {
+    Plans(Plan),
+    Refused(Status),
+}
+
+/// A place for each actor, without its script.
+fn no_scripts(alloc: Global) -> Result<Vec<Option<Script>>, AllocError>
+    ensures { IfOk result (λ v. v.items ≡ replicate 33 None) }
+{
+    let mut slots = Vec::new(alloc);
+    for _ in 0..PLACES {
+        slots.push(None)?;
+    }
+    Ok(slots)
+}
+
+/// Reads the configuration of this text, behind so many lines.
+pub fn start(alloc: Global, before: u64, text: Vec<u8>) -> Result<Started, AllocError>
+    requires { before < 2 ^ 62 }
+    ensures starts { IfOk result (λ s. Starts s (started before text.items (config_at text.items))) }
+    ensures sound { IfOk result IsSoundStart }
+{
+    let config = match read_config(alloc, &text) {
+        Ok(config) => config,
+        Err(CfgFault::Refused { line, kind }) => {
+            return Ok(Started::Refused(Status::Config {
+                line: before + u64::from(line),
+                kind: kind.number(),
+            }));
+        }
+        Err(CfgFault::Memory) => return Err(AllocError),
+    };
+    if let Some(line) = unbuilt_line(&config) {
+        return Ok(Started::Refused(Status::Record {
+            line: before + u64::from(line),
+            kind: Kind::NotBuilt.number(),
+        }));
+    }
+    let model = Model::build(alloc, config)?;
+    let slots = no_scripts(alloc)?;
+    Ok(Started::Plans(Plan {
+        model,
+        text,
+        slots,
+        count: 0,
+        processes: 0,
+    }))
+}
+
+/// The status of a configuration that isn't whole before a line, behind so many lines: that of its first refused line, or else
+/// this one.
+pub fn refused_before(
+    alloc: Global,
+    number: u64,
+    before: u64,
+    text: &[u8],
+    status: Status,
+) -> Result<Status, AllocError>
+    requires few { before < 2 ^ 62 }
+    requires refusal { IsRefusal status }
+    ensures status { IfOk result (λ s. s ≡ refused_before_number number before status (config_at text.now)) }
+    ensures refusal { IfOk result IsRefusal }
+{
+    match read_config(alloc, text) {
+        Err(CfgFault::Refused { line, kind }) => {
+            let line = before + u64::from(line);
+            if line == number {
+                return Ok(status);
+            }
+            Ok(Status::Config {
+                line,
+                kind: kind.number(),
+            })
+        }
+        Err(CfgFault::Memory) => Err(AllocError),
+        Ok(_) => Ok(status),
+    }
+}

@@ -1,0 +1,6 @@
+-- The laws of rehearsals.
+pub mod CastLaws
+pub mod RaceLaws
+pub mod SettleLaws
+pub mod EndingLaws
+pub mod DeliveryLaws

@@ -1,0 +1,95 @@
+-- What a race of a plan comes to, and what is written of it.
+use Rattle.std.proofs.Common.{◌≡◌, ℕ, false, List, ◌++◌, length, map, refl, sym, ap, subst, ◌∙◌}
+use Rattle.std.specs.List.{All}
+use Rattle.std.specs.Prelude.{Option, None, Some, codes}
+use Rattle.sv_base.specs.declared.config.Config.{Config}
+use Rattle.bay_config.specs.Servable.{IsServable}
+use Rattle.bay_model.specs.Points.{least_moment}
+use Rattle.bay_model.specs.Answers.{History}
+use Rattle.record_outcome.proofs.StartLaws.{is_served}
+use Rattle.script_threads.specs.Dealing.{AreFalling, CanPlay}
+use Rattle.script_threads.specs.Merging.{AreOf}
+use Rattle.script_threads.specs.Races.{IsRaced}
+use Rattle.script_threads.specs.Scripts.{made_of}
+use Rattle.script_threads.specs.declared.made.Made.{Made}
+use Rattle.script_threads.specs.declared.part.Part.{Part as Given}
+use Rattle.script_threads.specs.declared.racing.Raced.{Raced}
+use Rattle.script_threads.specs.declared.script.Script.{Script as Part}
+use Rattle.script_reading.specs.Forms.{IsFit}
+use Rattle.script_reading.specs.Plans.{Plan}
+use Rattle.script_reading.specs.Sound.{IsSound}
+use Rattle.script_reading.specs.declared.line.StepLine.{StepLine}
+use Rattle.merged_records.specs.Merged.{Book, lines_in, book_of, line_of, merged, record_with, answered}
+use Rattle.merged_records.proofs.OctetLaws.{book-told, merged_are_read_back}
+use Rattle.race_verdicts.specs.Bounds.{lowest_beyond}
+use Rattle.race_verdicts.specs.Known.{AreScripts}
+use Rattle.race_verdicts.specs.Verdicts.{lowest_full, all_went, lacks_memory}
+use Rattle.race_verdicts.proofs.KnownLaws.{verdicts_are_known}
+use Rattle.server_run.specs.Casting.{AreOfPlan, IsCast}
+use Rattle.server_run.specs.Races.{IsOfPlan, IsOfRace}
+use Rattle.server_run.specs.Rehearsals.{IsMade, IsWritten, Goes, MeetsFull}
+use Rattle.server_run.proofs.CastLaws.{plan-roles, plan-turns, plan-falls, plan-plays}
+use Rattle.server_run.proofs.RaceLaws.{parts-of, made-whole}
+
+module _ (p : Plan) (c : Config) (text : List ℕ) (book : Book) (ss : List Part) (is : IsOfPlan p c text book ss) (r : Raced) (race : IsOfRace p.config ss r) where
+  abbrev h : History
+  h = race.0
+
+  abbrev parts : List Given
+  parts = r.parts.items
+
+  raced : IsRaced p.config ss parts h
+  raced = race.2
+
+  pub many : r.total ≡ length h
+  many = race.1
+
+  pub of-history : AreOf p.config h parts
+  of-history = parts-of p.config h ss parts raced.parts_
+
+  same-lowest : (o : Option ℕ) → lowest_full book parts ≡ o → lowest_full (book_of p) parts ≡ o
+  same-lowest o e = ap (λ b. lowest_full b parts) is.book_ ∙ e
+
+  module _ (lean : lacks_memory parts ≡ false) where
+    pub meets : (line : ℕ) → lowest_full book parts ≡ Some line → MeetsFull p line
+    meets line full =
+        let at = same-lowest (Some line) full in
+        let known = verdicts_are_known p ss parts h is.sound is.scripts raced lean in
+        record { first = sym known.0 ∙ at; history = h; scripts = ss; are = is.scripts; parts = parts; raced = raced; lowest = at }
+
+    made-all : lowest_full book parts ≡ None → IsMade p h
+    made-all none = made-whole p ss parts h is.turns raced ((verdicts_are_known p ss parts h is.sound is.scripts raced lean).1 (same-lowest None none))
+
+    pub goes : (made : List Made) (out : List ℕ) → lowest_full book parts ≡ None → made ≡ made_of p.config h
+        → out ≡ record_with text (merged book least_moment made) ++ (answered c book made ++ codes "end\n") → Goes p out
+    goes made out none made-is out-is = record {
+      room = sym (verdicts_are_known p ss parts h is.sound is.scripts raced lean).0 ∙ same-lowest None none;
+      written = record {
+        history = h;
+        made = made-all none;
+        octets_ = out-is ∙ (λ i. record_with (sym is.text_ i) (merged (sym is.book_ i) least_moment (made-is i)) ++ (answered (sym is.config i) (sym is.book_ i) (made-is i) ++ codes "end\n"));
+        back = merged_are_read_back p h is.sound (made-all none).1;
+      };
+    }
+
+-- ---- a plan's actors
+
+-- no line is of another form than a script's can be
+pub fit-lines : (p : Plan) (c : Config) (text : List ℕ) (book : Book) (ss : List Part) → IsOfPlan p c text book ss → (m : Made) (l : StepLine) → line_of book m ≡ Some l → IsFit l.form
+fit-lines p c text book ss is m l there = (book-told p m l is.sound (ap (λ b. line_of b m) is.book_ ∙ there)).2.fit
+
+pub served-plan : (p : Plan) (c : Config) (text : List ℕ) (book : Book) (ss : List Part) → IsOfPlan p c text book ss → IsServable c
+served-plan p c text book ss is = subst IsServable is.config (is_served p.text p.config is.sound.text.config is.sound.text.built)
+
+-- actors that are cast of a sound plan's scripts are of the plan
+pub cast-plan : (p : Plan) (ss : List Part) (book : Book) → IsSound p → IsCast ss p.scripts → book ≡ map lines_in p.scripts → IsOfPlan p p.config p.text book ss
+cast-plan p ss book sound cast is = record {
+  sound = sound;
+  config = refl;
+  text_ = refl;
+  book_ = sym is;
+  scripts = subst (AreScripts p) (sym cast.2) (plan-roles p sound cast.0 cast.1);
+  turns = subst (AreOfPlan p) (sym cast.2) (plan-turns p sound cast.0 cast.1);
+  falls = subst (λ l. AreFalling 33 (map (λ (s : Part). s.actor) l)) (sym cast.2) (plan-falls p sound cast.0 cast.1);
+  plays = subst (All (λ (s : Part). CanPlay p.config s)) (sym cast.2) (plan-plays p sound cast.0 cast.1);
+}

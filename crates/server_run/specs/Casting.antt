@@ -1,0 +1,41 @@
+-- The actors of a plan.
+use Rattle.std.specs.Prelude.{◌≡◌, ℕ, suc, ◌==◌, List, [], ◌∷◌, ◌++◌, map, cond, Option, None, Some}
+use Rattle.bay_model.specs.Answers.{History}
+use Rattle.script_reading.specs.Plans.{Script, Plan, turns_of}
+use Rattle.script_threads.specs.Scripts.{turns_by}
+use Rattle.script_threads.specs.declared.script.Script.{Script as Part}
+use Rattle.script_threads.specs.declared.script.TimedStep.{TimedStep}
+use Rattle.server_run.specs.declared.casting.Role.{Role}
+
+-- what the actor of a script, and that of a role, is to do
+abbrev pub script_steps : Option Script → Option (List TimedStep)
+script_steps None = None
+script_steps (Some s) = Some s.steps
+
+abbrev pub role_steps : Option Role → Option (List TimedStep)
+role_steps None = None
+role_steps (Some r) = Some r.steps.items
+
+-- the script of the actor of this number, if it has a role
+abbrev pub cast_one : ℕ → Option Role → List Part
+cast_one n None = []
+cast_one n (Some r) = record { actor = n; steps = r.steps } ∷ []
+
+-- the scripts of roles, which have the numbers from n up, the highest first
+abbrev pub cast_from : ℕ → List (Option Role) → List Part
+cast_from n [] = []
+cast_from n (None ∷ rs) = cast_from (suc n) rs
+cast_from n (Some r ∷ rs) = cast_from (suc n) rs ++ record { actor = n; steps = r.steps } ∷ []
+
+-- the turns of actor k, where one of the scripts is its
+abbrev pub turns_among : List Part → ℕ → History
+turns_among [] k = []
+turns_among (s ∷ ss) k = cond (s.actor == k) (turns_by k s.steps.items) (turns_among ss k)
+
+-- the scripts are those of the plan
+abbrev pub AreOfPlan : Plan → List Part → Type 0
+AreOfPlan p ss = (k : ℕ) → turns_among ss k ≡ turns_of p k
+
+-- the actors are those of these scripts
+abbrev pub IsCast : List Part → List (Option Script) → Type 0
+IsCast ss slots = (roles : List (Option Role)) × (map role_steps roles ≡ map script_steps slots) × (ss ≡ cast_from 0 roles)

@@ -1,0 +1,4 @@
+-- What a rehearsal comes to.
+pub mod Casting
+pub mod Races
+pub mod Rehearsals

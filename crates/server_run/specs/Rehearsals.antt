@@ -1,0 +1,107 @@
+-- What a rehearsal writes, and the causes of its statuses.
+use Rattle.std.specs.Prelude.{◌≡◌, ◌⊎◌, ℕ, List, [], ◌++◌, Option, None, Some, Result, Ok, Err}
+use Rattle.std.specs.Io.KnownBytes.{Appends}
+use Rattle.std.specs.declared.alloc.Global.{Global}
+use Rattle.std.specs.Prelude.{Vec}
+use Rattle.sv_io.specs.Causes.{GrowsByFront}
+use Rattle.bay_model.specs.Answers.{History}
+use Rattle.history_lock.specs.Histories.{IsLegal, IsShuffle}
+use Rattle.record_outcome.specs.declared.status.Status.{Status}
+use Rattle.record_outcome.specs.declared.status.Status.TheVariants as statuses
+use Rattle.script_reading.specs.Plans.{Plan, turns_of}
+use Rattle.script_reading.specs.Inputs.{Outcome, refused, ready}
+use Rattle.script_threads.specs.Races.{actors, IsRaced}
+use Rattle.script_threads.specs.declared.part.Part.{Part}
+use Rattle.script_threads.specs.declared.script.Script.{Script as Part_}
+use Rattle.merged_records.specs.Merged.{book_of, record_of, answers_to}
+use Rattle.merged_records.specs.ReadBack.{IsReadBack}
+use Rattle.race_verdicts.specs.Bounds.{lowest_beyond}
+use Rattle.race_verdicts.specs.Known.{AreScripts}
+use Rattle.race_verdicts.specs.Verdicts.{lowest_full}
+
+-- the most octets that are read of an input, one more than any has
+abbrev pub most : ℕ
+most = 67108865
+
+-- threads made this history: each step was accepted after those before it, and it is a shuffle of the whole scripts of the plan
+abbrev pub IsMade : Plan → History → Type 0
+IsMade p h = IsLegal p.config h × IsShuffle actors (turns_of p) h
+
+-- the record that the scripts made in a history, and its answers; it is read back as that history
+pub record IsWritten (p : Plan) (octets : List ℕ) : Type 0 where
+  pub history : History
+  pub made : IsMade p history
+  pub octets_ : octets ≡ record_of p history ++ answers_to p history
+  pub back : IsReadBack p history
+
+-- No script asks where its own bound is 16: threads made a history of all of the scripts, and this is what is written of it.
+pub record Goes (p : Plan) (octets : List ℕ) : Type 0 where
+  pub room : lowest_beyond p ≡ None
+  pub written : IsWritten p octets
+
+-- This is the lowest line that asks where the bound of its own script is 16. In a history that has of each script a beginning and no
+-- other step, the next turn of its script was answered that the queue is full; no lower line's turn was.
+pub record MeetsFull (p : Plan) (line : ℕ) : Type 0 where
+  pub first : lowest_beyond p ≡ Some line
+  pub history : History
+  pub scripts : List Part_
+  pub are : AreScripts p scripts
+  pub parts : List Part
+  pub raced : IsRaced p.config scripts parts history
+  pub lowest : lowest_full (book_of p) parts ≡ Some line
+
+-- the performance of a plan: its record, or the status with which it ends
+abbrev pub Performs : Plan → Result (Vec ℕ Global) Status → Type 0
+Performs p (Ok out) = Goes p out.items
+Performs p (Err (statuses.Limit which line)) = (which ≡ 2) × MeetsFull p line
+Performs p (Err _) = ⊥
+
+-- of an input that comes to this
+abbrev pub PerformsInput : Outcome → Result (Vec ℕ Global) Status → Type 0
+PerformsInput o (Ok out) = (p : Plan) × (o ≡ ready p) × Goes p out.items
+PerformsInput o (Err (statuses.Record line kind)) = o ≡ refused (statuses.Record line kind)
+PerformsInput o (Err (statuses.Config line kind)) = o ≡ refused (statuses.Config line kind)
+PerformsInput o (Err (statuses.Limit which line)) = (o ≡ refused (statuses.Limit which line)) ⊎ ((p : Plan) × (o ≡ ready p) × (which ≡ 2) × MeetsFull p line)
+PerformsInput o (Err _) = ⊥
+
+-- The status has its cause in what the input comes to, and this is what the sink took: nothing unless all turns went. Since an input
+-- comes to one thing, each of these statuses comes exactly where its cause is there, but for want of memory and faults.
+abbrev pub Rehearses : Outcome → Status → Option (List ℕ) → Option (List ℕ) → Type 0
+Rehearses o statuses.Ok old new = (p : Plan) × (octets : List ℕ) × (o ≡ ready p) × Goes p octets × Appends old new octets
+Rehearses o statuses.WriteFault old new = (p : Plan) × (octets : List ℕ) × (o ≡ ready p) × Goes p octets × GrowsByFront old new octets
+Rehearses o (statuses.Record line kind) old new = (o ≡ refused (statuses.Record line kind)) × Appends old new []
+Rehearses o (statuses.Config line kind) old new = (o ≡ refused (statuses.Config line kind)) × Appends old new []
+Rehearses o (statuses.Limit which line) old new =
+    ((o ≡ refused (statuses.Limit which line)) ⊎ ((p : Plan) × (o ≡ ready p) × (which ≡ 2) × MeetsFull p line)) × Appends old new []
+Rehearses o statuses.Memory old new = Appends old new []
+Rehearses o statuses.ReadFault old new = Appends old new []
+Rehearses o statuses.Words old new = ⊥
+
+-- a status that doesn't speak of the words and of the source
+abbrev pub IsListed : Status → Type 0
+IsListed statuses.Words = ⊥
+IsListed statuses.ReadFault = ⊥
+IsListed _ = Unit {0}
+
+-- ---- how a rehearsal ends
+
+-- by the lowest line that asks where its script's own bound is 16, if there is one
+abbrev pub ends_at : Option ℕ → Status
+ends_at None = statuses.Ok
+ends_at (Some line) = statuses.Limit 2 line
+
+-- the status of an input that comes to this, where memory isn't wanting and neither end fails
+abbrev pub status_of : Outcome → Status
+status_of (refused status) = status
+status_of (ready p) = ends_at (lowest_beyond p)
+
+-- a status that is neither for want of memory nor for a fault
+abbrev pub IsEnding : Status → Type 0
+IsEnding statuses.Memory = ⊥
+IsEnding statuses.ReadFault = ⊥
+IsEnding statuses.WriteFault = ⊥
+IsEnding _ = Unit {0}
+
+-- every such status is that of the input, so that no race has a say in it
+abbrev pub EndingsAreKnown : Type 0
+EndingsAreKnown = (o : Outcome) (status : Status) (old new : Option (List ℕ)) → Rehearses o status old new → IsEnding status → status ≡ status_of o

@@ -1,0 +1,15 @@
+//! Rehearsals: scripts race over one bay, and what they made is written as a record with its answers.
+#![tactic(auto)]
+
+// the actors of a plan
+mod casting;
+
+// the whole
+mod rehearse;
+
+pub use rehearse::{rehearse, rehearse_gated};
+
+// how it ends
+mod laws;
+
+pub use laws::endings_are_known;

@@ -1,0 +1,287 @@
+//! A rehearsal.
+
+ghost use Rattle.std.specs.Prelude.{◌≡◌, ◌≢◌, ◌≤◌, ℕ, List, [], length, take, map, IfOk, IfSome};
+ghost use Rattle.std.specs.List.{All};
+ghost use Rattle.bay_config.specs.Servable.{IsServable};
+ghost use Rattle.bay_core.specs.Standing.{StandsFor};
+ghost use Rattle.bay_model.specs.Answers.{History as TheHistory};
+ghost use Rattle.replay_run.specs.Tool.{TakesAtMost};
+ghost use Rattle.sv_io.specs.Causes.{Rose};
+ghost use Rattle.script_reading.specs.Forms.{IsFit};
+ghost use Rattle.script_reading.specs.Inputs.{Outcome, outcome};
+ghost use Rattle.script_reading.specs.Plans.{Plan as ThePlan};
+ghost use Rattle.script_reading.specs.Readings.{plan_seen};
+ghost use Rattle.script_reading.specs.Sound.{IsSound};
+ghost use Rattle.script_reading.specs.declared.line.StepLine.{StepLine as TheLine};
+ghost use Rattle.script_threads.specs.Dealing.{AreFalling, CanPlay};
+ghost use Rattle.script_threads.specs.Races.{IsRaced};
+ghost use Rattle.script_threads.specs.declared.made.Made.{Made as TheMade};
+ghost use Rattle.script_threads.specs.declared.script.Script.{Script as ThePart};
+ghost use Rattle.bay_model.specs.Points.{least_moment};
+ghost use Rattle.std.specs.Prelude.{◌++◌, Some, codes};
+ghost use Rattle.merged_records.specs.Merged.{line_of, lines_in, book_seen, merged, record_with, answered};
+ghost use Rattle.server_run.specs.Casting.{IsCast};
+ghost use Rattle.server_run.specs.Races.{IsOfPlan, IsOfRace};
+ghost use Rattle.server_run.specs.Rehearsals.{most, Performs, PerformsInput, Rehearses, IsListed};
+
+use crate::casting::{cast, part};
+use bay_core::Bay;
+use merged_records::{write_answers, write_record};
+use object_model::Model;
+use race_verdicts::{lacks_memory, lowest_full};
+use record_outcome::status::Status;
+use replay_run::whole::{Halt, read_whole};
+use script_reading::{Plan, Script, StepLine, read_rehearsal};
+use script_threads::{Actor, Made, Raced, merge, race};
+use std::alloc::{AllocError, Global};
+use std::sync::Wait;
+use std::thread::Threads;
+use sv_io::{Failed, Gate, OpenGate, Sink, Source};
+
+/// One octet more than an input may have.
+const MOST: usize = 67108865;
+
+/// The most scripts of an input.
+const MOST_SCRIPTS: u32 = 16;
+
+/// A bay of a model, which stays.
+fn open_bay(alloc: Global, model: &Model) -> Result<Bay, AllocError>
+    requires { IsServable model.now }
+    ensures { IfOk result (λ b. (b.config ≡ model.now) × StandsFor b b.config []) }
+{
+    let copy = model.copy(alloc)?;
+    Bay::open(alloc, copy)
+}
+
+/// Opens a bay of a model, and lets actors race over it.
+fn race_over<R: Threads + Wait + Sync, G: Gate>(
+    rt: &R,
+    alloc: Global,
+    model: &Model,
+    actors: Vec<Actor<G>>,
+) -> Result<Raced, AllocError>
+    requires model { IsServable model.now }
+    requires numbers { AreFalling 33 (map (λ a. a.script.actor) actors.items) }
+    requires steps { All (λ a. CanPlay model.now a.script) actors.items }
+    ensures { IfOk result (λ r. (h : TheHistory) × (r.total ≡ length h) × IsRaced model.now (map (λ a. a.script) actors.items) r.parts.items h) }
+{
+    match open_bay(alloc, model) {
+        Ok(bay) => race(rt, alloc, bay, actors),
+        Err(error) => {
+            drop(actors);
+            Err(error)
+        }
+    }
+}
+
+/// The record of steps that were made, and the answers to it.
+fn record_of(
+    alloc: Global,
+    model: &Model,
+    text: &[u8],
+    book: &[Vec<StepLine>],
+    made: &[Made],
+) -> Result<Vec<u8>, AllocError>
+    requires { (m : TheMade) (l : TheLine) → line_of (book_seen book.now) m ≡ Some l → IsFit l.form }
+    ensures { IfOk result (λ v. v.items ≡ record_with text.now (merged (book_seen book.now) least_moment made.now) ++ (answered model.now (book_seen book.now) made.now ++ codes "end\n")) }
+{
+    let mut out = Vec::new(alloc);
+    write_record(&mut out, text, book, made)?;
+    write_answers(alloc, &mut out, model, book, made)?;
+    out.extend_from_slice(b"end\n")?;
+    Ok(out)
+}
+
+/// What a race comes to: the record that the scripts made with its answers, or the status where a turn met a full queue.
+fn settle(
+    alloc: Global,
+    model: &Model,
+    text: &[u8],
+    book: &[Vec<StepLine>],
+    raced: Raced,
+) -> Result<Result<Vec<u8>, Status>, AllocError>
+    requires fit { (m : TheMade) (l : TheLine) → line_of (book_seen book.now) m ≡ Some l → IsFit l.form }
+    ensures { (p : ThePlan) (ss : List ThePart) → IsOfPlan p model.now text.now (book_seen book.now) ss → IsOfRace p.config ss raced → IfOk result (Performs p) }
+{
+    let Raced { total, parts } = raced;
+    if lacks_memory(&parts) {
+        drop(parts);
+        return Err(AllocError);
+    }
+    if let Some(line) = lowest_full(book, &parts) {
+        drop(parts);
+        return Ok(Err(Status::Limit { which: 2, line }));
+    }
+    let made = merge(alloc, parts, total)?;
+    let out = record_of(alloc, model, text, book, &made)?;
+    Ok(Ok(out))
+}
+
+/// The actors of scripts, and the lines of these.
+fn cast_scripts<G: Gate>(
+    alloc: Global,
+    slots: Vec<Option<Script>>,
+    gates: Vec<G>,
+) -> Result<(Vec<Actor<G>>, Vec<Vec<StepLine>>), AllocError>
+    requires { length slots.items ≤ 33 }
+    ensures book { IfOk result (λ r. book_seen r.1.items ≡ map lines_in slots.items) }
+    ensures actors { IfOk result (λ r. IsCast (map (λ a. a.script) r.0.items) slots.items) }
+{
+    let (roles, book) = match part(alloc, slots) {
+        Ok(parts) => parts,
+        Err(error) => {
+            drop(gates);
+            return Err(error);
+        }
+    };
+    match cast(alloc, roles, gates) {
+        Ok(actors) => Ok((actors, book)),
+        Err(error) => {
+            drop(book);
+            Err(error)
+        }
+    }
+}
+
+/// Lets the scripts of a plan race whose actors are cast.
+fn play_cast<R: Threads + Wait + Sync, G: Gate>(
+    rt: &R,
+    alloc: Global,
+    model: &Model,
+    text: &[u8],
+    book: &[Vec<StepLine>],
+    actors: Vec<Actor<G>>,
+) -> Result<Result<Vec<u8>, Status>, AllocError>
+    requires plan { (p : ThePlan) × IsOfPlan p model.now text.now (book_seen book.now) (map (λ a. a.script) actors.items) }
+    ensures { (p : ThePlan) → IsOfPlan p model.now text.now (book_seen book.now) (map (λ a. a.script) actors.items) → IfOk result (Performs p) }
+{
+    let raced = race_over(rt, alloc, model, actors)?;
+    settle(alloc, model, text, book, raced)
+}
+
+/// Lets the scripts of a plan race: the record that they made with its answers, or the status where a turn met a full queue.
+fn perform<R: Threads + Wait + Sync, G: Gate>(
+    rt: &R,
+    alloc: Global,
+    plan: Plan,
+    gates: Vec<G>,
+) -> Result<Result<Vec<u8>, Status>, AllocError>
+    requires { IsSound (plan_seen plan) }
+    ensures { IfOk result (Performs (plan_seen plan)) }
+{
+    let Plan {
+        model,
+        text,
+        slots,
+        count: _,
+        processes: _,
+    } = plan;
+    match cast_scripts(alloc, slots, gates) {
+        Ok((actors, book)) => play_cast(rt, alloc, &model, &text, &book, actors),
+        Err(error) => Err(error),
+    }
+}
+
+/// Reads a plan whole, and performs it.
+fn perform_input<R: Threads + Wait + Sync, G: Gate>(
+    rt: &R,
+    alloc: Global,
+    gates: Vec<G>,
+    octets: Vec<u8>,
+) -> Result<Result<Vec<u8>, Status>, AllocError>
+    requires { length octets.items ≤ 67108865 }
+    ensures { IfOk result (PerformsInput (outcome octets.items)) }
+{
+    match read_rehearsal(alloc, &octets)? {
+        Ok(plan) => {
+            drop(octets);
+            perform(rt, alloc, plan, gates)
+        }
+        Err(status) => Ok(Err(status)),
+    }
+}
+
+/// Writes what a performance came to, if it came to a record with its answers: the status.
+fn deliver<K: Sink>(performed: Result<Result<Vec<u8>, Status>, AllocError>, sink: &mut K) -> Status
+    requires { (o : Outcome) × IfOk performed (PerformsInput o) }
+    ensures rehearses { (o : Outcome) → IfOk performed (PerformsInput o) → Rehearses o result (K.taken sink.old) (K.taken sink.new) }
+    ensures listed { IsListed result }
+    ensures write { result ≡ Status.WriteFault → Rose (K.faults sink.old) (K.faults sink.new) }
+    ensures later { K.faults sink.old ≤ K.faults sink.new }
+{
+    match performed {
+        Ok(Ok(out)) => match sink.write_all(&out) {
+            Ok(()) => Status::Ok,
+            Err(Failed) => Status::WriteFault,
+        },
+        Ok(Err(status)) => status,
+        Err(AllocError) => Status::Memory,
+    }
+}
+
+/// Reads a configuration and one script per actor, and checks every script before any thread starts. Then each actor plays its
+/// script in a thread of its own against one history, one turn a line, and passes its gate before each turn: the i-th gate is
+/// that of the i-th script. Where all turns went, the record that they made is written, and behind it its answers.
+pub fn rehearse_gated<R: Threads + Wait + Sync, S: Source, K: Sink, G: Gate>(
+    rt: &R,
+    alloc: Global,
+    gates: Vec<G>,
+    source: &mut S,
+    sink: &mut K,
+) -> Status
+    requires gates { length gates.items ≡ 16 }
+
+    // Every status and what the sink took, by what the input comes to.
+    ensures rehearses { IfSome (S.left source.old) (λ b. Rehearses (outcome (take most b)) result (K.taken sink.old) (K.taken sink.new)) }
+
+    // At most one octet more is taken from the source than an input may have.
+    ensures taken { TakesAtMost 67108865 (S.left source.old) (S.left source.new) }
+
+    // Faults have their causes.
+    ensures words { result ≢ Status.Words }
+    ensures read { result ≡ Status.ReadFault → Rose (S.faults source.old) (S.faults source.new) }
+    ensures write { result ≡ Status.WriteFault → Rose (K.faults sink.old) (K.faults sink.new) }
+    ensures later { (S.faults source.old ≤ S.faults source.new) × (K.faults sink.old ≤ K.faults sink.new) }
+{
+    match read_whole(alloc, source, MOST) {
+        Ok(octets) => deliver(perform_input(rt, alloc, gates, octets), sink),
+        Err(Halt::Read) => Status::ReadFault,
+        Err(Halt::Memory) => Status::Memory,
+    }
+}
+
+/// So many open gates.
+fn open_gates(alloc: Global) -> Result<Vec<OpenGate>, AllocError>
+    ensures { IfOk result (λ v. length v.items ≡ 16) }
+{
+    let mut gates = Vec::new(alloc);
+    for _ in 0..MOST_SCRIPTS {
+        gates.push(OpenGate)?;
+    }
+    Ok(gates)
+}
+
+/// A rehearsal whose actors wait for no gate.
+pub fn rehearse<R: Threads + Wait + Sync, S: Source, K: Sink>(
+    rt: &R,
+    alloc: Global,
+    source: &mut S,
+    sink: &mut K,
+) -> Status
+    // Every status and what the sink took, by what the input comes to.
+    ensures rehearses { IfSome (S.left source.old) (λ b. Rehearses (outcome (take most b)) result (K.taken sink.old) (K.taken sink.new)) }
+
+    // At most one octet more is taken from the source than an input may have.
+    ensures taken { TakesAtMost 67108865 (S.left source.old) (S.left source.new) }
+
+    // Faults have their causes.
+    ensures words { result ≢ Status.Words }
+    ensures read { result ≡ Status.ReadFault → Rose (S.faults source.old) (S.faults source.new) }
+    ensures write { result ≡ Status.WriteFault → Rose (K.faults sink.old) (K.faults sink.new) }
+    ensures later { (S.faults source.old ≤ S.faults source.new) × (K.faults sink.old ≤ K.faults sink.new) }
+{
+    match open_gates(alloc) {
+        Ok(gates) => rehearse_gated(rt, alloc, gates, source, sink),
+        Err(AllocError) => Status::Memory,
+    }
+}
