@@ -6,7 +6,7 @@ ghost use Rattle.assoc_table.specs.Seats.{IsNew};
 
 use assoc_table::{Assocs, Ends, Waiting};
 use bay_model::{ApplErrors, Output, Reply};
-use std::alloc::Global;
+use std::alloc::{AllocError, Global};
 use std::test::*;
 use sv_base::{ActorNo, AssocNo};
 
@@ -20,27 +20,48 @@ fn reply(alloc: Global, invoke: u32) -> Waiting
     })
 }
 
+const A: AssocNo = AssocNo(16);
+
+const ENDS: Ends = Ends {
+    opener: ActorNo(3),
+    writer: ActorNo(4),
+    size: 65000,
+};
+
+fn is_open_with_its_ends(table: &Assocs) -> bool {
+    table.opener(A) == Some(ActorNo(3))
+        && table.writer(A) == Some(ActorNo(4))
+        && table.size(A) == Some(65000)
+}
+
+/// Whether a reply can be put, is there, and is given once.
+fn waits(alloc: Global, table: &mut Assocs) -> bool {
+    table.queue(A, reply(alloc, 7)).is_ok()
+        && !table.is_full(A)
+        && table.oldest(A).is_some()
+        && table.pop(A).is_some()
+        && table.pop(A).is_none()
+}
+
+/// Whether an association that is opened has its ends, and a reply waits for it.
+fn opens(alloc: Global, table: &mut Assocs) -> bool {
+    if table.is_open(A) {
+        return false;
+    }
+    table.end(A);
+    table.start(A, ENDS);
+    is_open_with_its_ends(table) && waits(alloc, table)
+}
+
+fn opens_in_a_new_table(alloc: Global) -> Result<bool, AllocError> {
+    let mut table = Assocs::open(alloc)?;
+    let opens = opens(alloc, &mut table);
+    drop(table);
+    Ok(opens)
+}
+
 #[test]
 fn a_reply_waits_until_it_is_taken(rt: HostRuntime) -> Result<(), Fail> {
-    let mut right = true;
-    let a = AssocNo(16);
-    let mut table = Assocs::open(rt.alloc())?;
-    right &= !table.is_open(a);
-    table.end(a);
-    let ends = Ends {
-        opener: ActorNo(3),
-        writer: ActorNo(4),
-        size: 65000,
-    };
-    table.start(a, ends);
-    right &= table.opener(a) == Some(ActorNo(3));
-    right &= table.writer(a) == Some(ActorNo(4));
-    right &= table.size(a) == Some(65000);
-    right &= table.queue(a, reply(rt.alloc(), 7)).is_ok();
-    right &= !table.is_full(a);
-    right &= table.oldest(a).is_some();
-    right &= table.pop(a).is_some();
-    right &= table.pop(a).is_none();
-    assert!(rt; right);
+    assert!(rt; opens_in_a_new_table(rt.alloc())?);
     Ok(())
 }

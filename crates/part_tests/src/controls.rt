@@ -350,34 +350,6 @@ fn a_direct_control_with_normal_security_is_judged(rt: HostRuntime) -> Result<()
     Ok(())
 }
 
-/// What control_core tells of the control while it runs.
-#[derive(Drop)]
-struct Running {
-    good: Termination,
-    bad: Termination,
-    oper: Value,
-    refused: ApplError,
-    is_named: bool,
-}
-
-/// The terminations and the Oper of the control, and the LastApplError of a Cancel that is refused; none where nothing runs.
-fn ends(controls: &Controls, alloc: Global) -> Result<Option<Running>, AllocError> {
-    let value = with_value(alloc, Value::Bool(false), b"", Call::Cancel, 4, true)?;
-    if controls.len() != 1
-        || !controls.is_running(POS)
-        || !controls.is_typed(POS, Call::Cancel, &value)
-    {
-        return Ok(None);
-    }
-    Ok(Some(Running {
-        good: controls.termination(alloc, POS, true)?,
-        bad: controls.termination(alloc, POS, false)?,
-        oper: controls.oper(alloc, POS)?,
-        refused: controls.error(alloc, POS, Call::Cancel, &value, 12)?,
-        is_named: controls.reference(POS) == b"BAY1/CSWI1$CO$Pos".as_slice(),
-    }))
-}
-
 /// The ctlNum of a command.
 fn ctl_num(value: &Value) -> Option<u64> {
     match value {
@@ -405,47 +377,93 @@ fn is_late(error: &Option<ApplError>) -> bool {
     }
 }
 
-/// The terminations and the Oper have the ctlNum 3.
-fn are_of_the_oper(ends: &Running) -> bool {
-    ctl_num(&ends.good.oper) == Some(3)
-        && ctl_num(&ends.bad.oper) == Some(3)
-        && ctl_num(&ends.oper) == Some(3)
+/// A termination is of the control and of its Oper, and a negative one has its error.
+fn says_end(end: &Termination, is_good: bool) -> bool {
+    let is_told = if is_good {
+        end.error.is_none()
+    } else {
+        is_late(&end.error)
+    };
+    is_told && end.control == POS && ctl_num(&end.oper) == Some(3)
 }
 
-/// The terminations are of the control, the negative one with its error.
-fn are_terminations(ends: &Running) -> bool {
-    ends.is_named
-        && ends.good.control == POS
-        && ends.bad.control == POS
-        && ends.good.error.is_none()
-        && is_late(&ends.bad.error)
+/// What runs is terminated so.
+fn ends_so(controls: &Controls, alloc: Global, is_good: bool) -> Result<bool, AllocError> {
+    if controls.len() != 1 || !controls.is_running(POS) {
+        return Ok(false);
+    }
+    let end = controls.termination(alloc, POS, is_good)?;
+    Ok(says_end(&end, is_good))
 }
 
-fn say_what_was_written(ends: &Running) -> bool {
-    are_terminations(ends)
-        && are_of_the_oper(ends)
-        && says(&ends.refused, b"BAY1/CSWI1$CO$Pos$Cancel", b"", 4, 12)
+/// What runs has the ctlNum 3.
+fn runs_so(controls: &Controls, alloc: Global) -> Result<bool, AllocError> {
+    if controls.len() != 1 || !controls.is_running(POS) {
+        return Ok(false);
+    }
+    let oper = controls.oper(alloc, POS)?;
+    Ok(ctl_num(&oper) == Some(3))
+}
+
+/// The LastApplError of a Cancel that is refused names the variable that was written.
+fn is_refused_so(controls: &Controls, alloc: Global) -> Result<bool, AllocError> {
+    let value = with_value(alloc, Value::Bool(false), b"", Call::Cancel, 4, true)?;
+    if controls.len() != 1 || !controls.is_typed(POS, Call::Cancel, &value) {
+        return Ok(false);
+    }
+    let error = controls.error(alloc, POS, Call::Cancel, &value, 12)?;
+    Ok(says(&error, b"BAY1/CSWI1$CO$Pos$Cancel", b"", 4, 12))
+}
+
+fn is_named(controls: &Controls) -> bool {
+    controls.len() == 1 && controls.reference(POS) == b"BAY1/CSWI1$CO$Pos".as_slice()
+}
+
+/// Errors and terminations say what was written.
+fn say_what_was_written(controls: &Controls, alloc: Global) -> Result<bool, AllocError> {
+    Ok(
+        is_named(controls)
+            && ends_so(controls, alloc, true)?
+            && ends_so(controls, alloc, false)?
+            && runs_so(controls, alloc)?
+            && is_refused_so(controls, alloc)?,
+    )
+}
+
+/// Nothing runs before the first Oper.
+fn rests(alloc: Global) -> Result<bool, AllocError> {
+    let controls = controls(alloc, 3, 0, false)?;
+    let rests = is_named(&controls) && controls.len() == 1 && !controls.is_running(POS);
+    drop(controls);
+    Ok(rests)
 }
 
 #[test]
 fn nothing_runs_at_first(rt: HostRuntime) -> Result<(), Fail> {
-    let controls = controls(rt.alloc(), 3, 0, false)?;
-    assert!(rt; ends(&controls, rt.alloc())?.is_none());
+    assert!(rt; rests(rt.alloc())?);
     Ok(())
 }
 
 const OPER: [Trial; 1] = [(0, ONE, Deed::Oper(3), ACT)];
 
+fn oper_says_what_was_written(alloc: Global, controls: &mut Controls) -> Result<bool, AllocError> {
+    if first_wrong(alloc, controls, &OPER)? != None {
+        return Ok(false);
+    }
+    say_what_was_written(controls, alloc)
+}
+
+fn running_says_what_was_written(alloc: Global) -> Result<bool, AllocError> {
+    let mut controls = controls(alloc, 3, 0, false)?;
+    let is_said = oper_says_what_was_written(alloc, &mut controls);
+    drop(controls);
+    is_said
+}
+
 // IEC 61850-8-1, LastApplError and CommandTermination: the variable, origin, ctlNum and AddCause, 16 time-limit-over.
 #[test]
 fn errors_and_terminations_say_what_was_written(rt: HostRuntime) -> Result<(), Fail> {
-    let mut controls = controls(rt.alloc(), 3, 0, false)?;
-    let wrong = first_wrong(rt.alloc(), &mut controls, &OPER)?;
-    let is_said = match ends(&controls, rt.alloc())? {
-        Some(ends) => say_what_was_written(&ends),
-        None => false,
-    };
-    assert!(rt; wrong == None && is_said);
+    assert!(rt; running_says_what_was_written(rt.alloc())?);
     Ok(())
 }
 

@@ -249,7 +249,7 @@ const ANSWERED: [Row; 31] = [
 ];
 
 /// Records that are refused at a line, or end there.
-const JUDGED: [Row; 40] = [
+const JUDGED: [Row; 39] = [
     // records that end, or don't
     (
         "records that end",
@@ -405,15 +405,8 @@ const JUDGED: [Row; 40] = [
         Status::Ok,
         "1 refused 7\nend\n",
     ),
-    // what isn't built
     (
-        "what isn't built",
-        "record 1\n[0 011001 0 200>open 1 wire\n",
-        Status::Record { line: 22, kind: 9 },
-        "",
-    ),
-    (
-        "what isn't built, of an association that is open",
+        "an open of an association that is open",
         "record 1\n[0 011001 0 200>open 1 mms 1024\nopen 1 wire\n",
         Status::Record { line: 23, kind: 5 },
         "",

@@ -5,7 +5,7 @@ use record_outcome::status::Status;
 use std::test::*;
 
 /// Records whose associations send streams, and take frames.
-const ROWS: [Row; 16] = [
+const ROWS: [Row; 15] = [
     (
         "a stream, cut anywhere",
         "record 1\n[0 011001 0 200>open 1 wire\nin 1 03\nin 1 000016\nin 1 11e00000000100c0010dc2020001c1020001^0300001c02\nin \
@@ -63,13 +63,6 @@ const ROWS: [Row; 16] = [
         "record 1\n[0 011001 0 200>open 1 wire\nin 1 ~^?????????????????\nend\n",
         Status::Limit { which: 2, line: 23 },
         "",
-    ),
-    (
-        "a definition behind a request",
-        "record 1\n[0 011001 0 200>open 1 wire\nin 1 ~^\nin 1 ?0300002d02f080010001006120301e020103a019a017020101ab12a10e1a0442\
-            4159311a064c4c4e302458a000\nend\n",
-        Status::Record { line: 24, kind: 9 },
-        "{",
     ),
     (
         "a piece of a direct one",

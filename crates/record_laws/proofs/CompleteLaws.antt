@@ -24,7 +24,7 @@ use Rattle.record_steps.specs.declared.heard.Heard.{Heard}
 use Rattle.record_steps.specs.declared.heard.Heard.TheVariants.{Tells, Makes}
 use Rattle.record_steps.specs.Forms.{Form, shape_of, form_behind}
 use Rattle.record_history.specs.Histories.{octets_of, form_at, moment_of, Part, stepped, written, part_of, steps_of, onto}
-use Rattle.record_history.specs.Texts.{parts_of, turns_of, turns_in}
+use Rattle.record_history.specs.Texts.{parts_of, turns_of}
 use Rattle.record_outcome.specs.Played.{Played, start, turn_at, past_line}
 use Rattle.record_outcome.specs.Moves.{Place, goes, stops, opening, configuring, playing}
 use Rattle.record_outcome.specs.Openings.{headed, opening_at, unbuilt_line, started_by, started, configuring_at}

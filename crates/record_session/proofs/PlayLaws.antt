@@ -1,11 +1,11 @@
 -- What a line does, by what it tells.
-use Rattle.std.proofs.Common.{◌≡◌, ◌≤◌, ◌<◌, ◌+◌, ◌++◌, ◌∷◌, ◌==◌, ℕ, suc, Bool, true, false, not, List, [], length, get_or, take, drop, drop-cons, sym, ap, subst, refl, ◌∙◌, append-nil, append_assoc, length-append, inl, inr, arith}
+use Rattle.std.proofs.Common.{◌≡◌, ◌≤◌, ◌<◌, ◌+◌, ◌++◌, ◌∷◌, ◌==◌, ℕ, suc, false, not, List, [], length, get_or, take, drop, drop-cons, sym, ap, subst, refl, ◌∙◌, append-nil, append_assoc, length-append, inl, inr, arith}
 use Rattle.std.proofs.Math.Seq.{take-append_seam}
 use Rattle.std.specs.Fmt.{decimal}
 use Rattle.std.specs.List.{AllByRecursion}
 use Rattle.std.specs.Prelude.{Option, None, Some, Result, Ok, Err, OnErr, IfNone, codes, if◌then◌else◌}
 use Rattle.std.specs.Option.{option_map}
-use Rattle.std.proofs.lemmas.Bool.Decides.{eqb_tells, nat_tests}
+use Rattle.std.proofs.lemmas.Bool.Decides.{eqb_tells}
 use Rattle.sv_base.specs.declared.config.Config.{Config}
 use Rattle.sv_base.specs.declared.numbers.ActorNo.{ActorNo}
 use Rattle.sv_base.specs.declared.numbers.AssocNo.{AssocNo}
@@ -21,10 +21,9 @@ use Rattle.run_record.specs.Judging.{line_at, number_of}
 use Rattle.run_record.specs.declared.fault.Kind.{Kind}
 use Rattle.run_record.specs.declared.line.RecLine.{RecLine}
 use Rattle.run_record.specs.declared.line.RecLine.TheVariants as lines
-use Rattle.object_model.specs.Fits.{fits}
 use Rattle.bay_core.specs.State.{State}
 use Rattle.bay_core.specs.Standing.{StandsFor}
-use Rattle.bay_core.specs.Turns.{Does, IsBuilt, named}
+use Rattle.bay_core.specs.Turns.{Does, named}
 use Rattle.bay_core.specs.declared.fault.StepFault.{StepFault}
 use Rattle.answer_text.specs.Texts.{lines_of}
 use Rattle.answer_text.specs.declared.shape.Shape.{Shape}
@@ -34,15 +33,12 @@ use Rattle.record_steps.specs.Streams.{made}
 use Rattle.record_steps.specs.declared.heard.Heard.{Heard}
 use Rattle.record_steps.specs.declared.heard.Heard.TheVariants.{Tells, Makes}
 use Rattle.record_steps.specs.Resolved.{association_of, told_of}
-use Rattle.record_steps.specs.Told as tells
-use Rattle.record_steps.specs.Told.{Told}
 use Rattle.record_steps.specs.Telling.{telling, most_steps, NamesNone, Names}
 use Rattle.record_steps.specs.declared.form.Form as programs
 use Rattle.record_steps.specs.declared.telling.Told as told_as
 use Rattle.record_steps.specs.declared.telling.Told.TheVariants as tolds
 use Rattle.record_steps.proofs.FormLaws.{form-elsewhere, shape-plain}
 use Rattle.record_steps.proofs.ToldLaws.{told-own}
-use Rattle.record_outcome.specs.Moves.{goes, playing, stops}
 use Rattle.record_outcome.specs.Played.{Played, turn_at, with_turn, past_line}
 use Rattle.record_outcome.specs.Steps.{stop_of, accepted, then_on, heard_on, played, told_at, step_at}
 use Rattle.record_session.specs.Formed.{form_in}
@@ -95,13 +91,13 @@ passes-line old mid line k after left bay moment sets names stands c s p = recor
   stands = subst (λ b. StandsFor b c s.turns) (sym bay) p.stands;
   forms = λ a. elim (eqb_tells k a) [
     | inl t ↦
-      let kept : form_in mid.forms a ≡ after = sets a ∙ ap (λ x. if x then after else (if x then left else form_in old.forms a)) t.0 in
-      let own : Stands after (form_behind (association_of line) line (s.form k)) = stands (s.form k) (p.forms k) in
-      subst (λ f. Stands f (form_behind a line (s.form a))) (sym kept) (subst (λ b. Stands after (form_behind b line (s.form a))) (sym names ∙ t.1) (subst (λ b. Stands after (form_behind (association_of line) line (s.form b))) t.1 own))
+        let kept : form_in mid.forms a ≡ after = sets a ∙ ap (λ x. if x then after else (if x then left else form_in old.forms a)) t.0 in
+        let own : Stands after (form_behind (association_of line) line (s.form k)) = stands (s.form k) (p.forms k) in
+        subst (λ f. Stands f (form_behind a line (s.form a))) (sym kept) (subst (λ b. Stands after (form_behind b line (s.form a))) (sym names ∙ t.1) (subst (λ b. Stands after (form_behind (association_of line) line (s.form b))) t.1 own))
     | inr t ↦
-      let kept : form_in mid.forms a ≡ form_in old.forms a = sets a ∙ ap (λ x. if x then after else (if x then left else form_in old.forms a)) t.0 in
-      let other : (association_of line == a) ≡ false = ap (λ b. b == a) (sym names) ∙ t.0 in
-      subst (λ f. Stands f (form_behind a line (s.form a))) (sym kept) (subst (Stands (form_in old.forms a)) (sym (form-elsewhere line a (s.form a) other)) (p.forms a))
+        let kept : form_in mid.forms a ≡ form_in old.forms a = sets a ∙ ap (λ x. if x then after else (if x then left else form_in old.forms a)) t.0 in
+        let other : (association_of line == a) ≡ false = ap (λ b. b == a) (sym names) ∙ t.0 in
+        subst (λ f. Stands f (form_behind a line (s.form a))) (sym kept) (subst (Stands (form_in old.forms a)) (sym (form-elsewhere line a (s.form a) other)) (p.forms a))
   ];
 }
 

@@ -21,18 +21,6 @@ use Rattle.record_steps.proofs.StreamLaws.{made-through, events-few}
 
 -- ---- the octets of a piece
 
-pub piece-none : (o : Option (List ℕ)) → None ≡ o → None ≡ some_octets o
-piece-none None is = refl
-piece-none (Some octets) is = absurd cc
-
-pub piece-empty : (octets : List ℕ) (o : Option (List ℕ)) → Some octets ≡ o → length octets ≡ 0 → None ≡ some_octets o
-piece-empty [] o is none = ap some_octets is
-piece-empty (octet ∷ more) o is none = absurd (omega (arith, none))
-
-pub piece-some : (octets : List ℕ) (o : Option (List ℕ)) → Some octets ≡ o → (length octets ≡ 0 → ⊥) → Some octets ≡ some_octets o
-piece-some [] o is some = absurd (some refl)
-piece-some (octet ∷ more) o is some = ap some_octets is
-
 -- it has no more octets than digits
 pub piece-few : (hex octets : List ℕ) → Some octets ≡ piece_at hex → length octets ≤ length hex
 piece-few hex octets is = by (hex_at hex) refl is where

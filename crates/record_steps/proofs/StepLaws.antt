@@ -81,18 +81,12 @@ sound-shape comp word v h = by (truth_at word) h where
   by (Some b) h = let same : values.Bool b ≡ v = cc in ap is_sound (sym same)
 
 -- the steps
-pub is_numbered : (a : AssocNo) → IsAssoc a → is_association a.0 ≡ true
+is_numbered : (a : AssocNo) → IsAssoc a → is_association a.0 ≡ true
 is_numbered a h = grind (arith, nat_tests)
 
 module _ (c : Config) (a : AssocNo) (is : IsAssoc a) where
   fitting : (actor : ℕ) (step : Step) → fits c step ≡ true → turn actor step ≡ turn_of c actor step
   fitting actor step h = sym (ap (λ b. if b then turn actor step else refused 4) h)
-
-  pub open-fits : (size : ℕ) → 1024 ≤ size → size ≤ 65000 → fits c (steps.Open a size (record { 0 = a.0 })) ≡ true
-  open-fits size least most = and_from _ _ (is_numbered a is) (and_from _ _ (le-leb 1024 size least) (le-leb size 65000 most))
-
-  pub lost-fits : fits c (steps.Lost a) ≡ true
-  lost-fits = is_numbered a is
 
   pub open-told : (writer : ActorNo) (size : ℕ) → 1024 ≤ size → size ≤ 65000 → turn a.0 (steps.Open a size writer) ≡ turn_of c a.0 (steps.Open a size writer)
   open-told writer size least most = fitting a.0 (steps.Open a size writer) (and_from _ _ (is_numbered a is) (and_from _ _ (le-leb 1024 size least) (le-leb size 65000 most)))

@@ -1,15 +1,14 @@
--- What pieces of a stream come to: their events as a stack gives them, how many these are, and the steps that they make.
-use Rattle.std.proofs.Common.{◌≡◌, ◌≤◌, ◌<◌, ◌+◌, ℕ, zero, suc, Bool, true, false, List, [], ◌∷◌, ◌++◌, length, get_or, take, drop, refl, sym, ap, subst, ◌∙◌, arith, inl, inr, ◌⊎◌, append_assoc, length-append}
-use Rattle.std.specs.Prelude.{Option, None, Some, Result, Ok, Err, IfSome, if◌then◌else◌}
+-- What pieces of a stream come to: their events as a stack gives them, and how many events and steps these are.
+use Rattle.std.proofs.Common.{◌≡◌, ◌≤◌, ◌<◌, ◌+◌, ℕ, zero, suc, Bool, true, false, List, [], ◌∷◌, ◌++◌, length, take, drop, refl, sym, ap, subst, ◌∙◌, arith, inl, inr, ◌⊎◌, length-append}
+use Rattle.std.specs.Prelude.{Option, None, Some, Result, Ok, Err, if◌then◌else◌}
 use Rattle.std.specs.Option.{option_map}
 use Rattle.std.specs.List.{AllByRecursion, flat_map}
 use Rattle.std.proofs.Math.Seq.{take-append_seam, drop-append_seam}
-use Rattle.std.proofs.lemmas.List.{take-append-le, drop_more, drop_all}
+use Rattle.std.proofs.lemmas.List.{take-append-le}
 use Rattle.sv_base.specs.declared.config.Config.{Config}
 use Rattle.sv_base.specs.declared.numbers.AssocNo.{AssocNo}
 use Rattle.bay_model.specs.declared.request.Request.{Request}
 use Rattle.object_model.specs.Fits.{fits}
-use Rattle.run_record.specs.Grammar.{IsAssoc}
 use Rattle.ber_grammar.specs.Octets.{IsBytes}
 use Rattle.ber_grammar.proofs.OctetLaws.{IsBytes-append, IsBytes-back}
 use Rattle.tpkt_cotp.specs.declared.fault.TpFault.{TpFault}
@@ -19,18 +18,16 @@ use Rattle.tpkt_cotp.proofs.StreamLaws.{after_fits}
 use Rattle.osi_stack.specs.declared.cause.Cause.{Cause}
 use Rattle.osi_stack.specs.declared.events.Event.{Event}
 use Rattle.osi_stack.specs.declared.events.Event.TheVariants.{Answer, Connected, Pdu, Released, Aborted}
-use Rattle.osi_stack.specs.declared.events.Line.{Line}
 use Rattle.osi_stack.specs.declared.fault.StackFault.{StackFault}
 use Rattle.osi_stack.specs.declared.fault.StackFault.TheVariants as faults
 use Rattle.osi_stack.specs.declared.upper.Upper.{Upper}
-use Rattle.osi_stack.specs.Lines.{IsLine, HasLine}
+use Rattle.osi_stack.specs.Lines.{HasLine}
 use Rattle.osi_stack.specs.Running.{Came, run, run_within, left_at, after_step, after_packet, further_from}
 use Rattle.osi_stack.specs.Sides.{StandsFor, GoesOn, Refuses}
 use Rattle.osi_stack.specs.Stream.{Stand, called, has_ended, step_at, count_of}
 use Rattle.osi_stack.proofs.RunLaws.{came}
 use Rattle.osi_stack.proofs.RunSideLaws.{kept_run, stopped_run, further_run}
 use Rattle.osi_stack.proofs.StreamLaws.{Ends}
-use Rattle.bay_answers.specs.Requests.{IsFitting}
 use Rattle.record_steps.specs.declared.heard.Heard.{Heard}
 use Rattle.record_steps.specs.declared.heard.Heard.TheVariants.{Tells, Makes}
 use Rattle.record_steps.specs.declared.heard.Wired.{Wired}
@@ -38,7 +35,6 @@ use Rattle.record_steps.specs.declared.heard.Wired.TheVariants.{Dialling, On, Of
 use Rattle.record_steps.specs.Asks.{asked_by}
 use Rattle.record_steps.specs.Own.{IsFittingPart}
 use Rattle.record_steps.specs.Streams.{events_behind, refusal_behind, IsWired, lost_by, asked_heard, heard_by, heard_fault, heard_through, wired_by, wired_through, made}
-use Rattle.record_steps.proofs.StepLaws.{is_numbered, open-fits, lost-fits}
 
 -- ---- how many steps there are
 
@@ -72,35 +68,6 @@ made-through c a [] None w = omega arith
 made-through c a [] (Some f) w = made-fault a w f
 made-through c a (e ∷ es) f w = omega (arith, made-append (heard_by c a w e) (heard_through c a es f (wired_by e w)), made-by c a w e, made-through c a es f (wired_by e w))
 
--- ---- the steps fit
-
-pub all-both : {A : Type 0} (P : A → Type 0) (xs ys : List A) → AllByRecursion P xs → AllByRecursion P ys → AllByRecursion P (xs ++ ys)
-all-both P [] ys p q = q
-all-both P (x ∷ xs) ys p q = (p.0, all-both P xs ys p.1 q)
-
-module _ (c : Config) (a : AssocNo) (is : IsAssoc a) where
-  lost-part : (w : Wired) → AllByRecursion (IsFittingPart c) (lost_by a w)
-  lost-part Dialling = tt
-  lost-part (On line) = ((lost-fits c a is, tt), tt)
-  lost-part Off = tt
-
-  pub fault-parts : (w : Wired) (f : StackFault) → AllByRecursion (IsFittingPart c) (heard_fault a w f)
-  fault-parts w faults.Memory = tt
-  fault-parts w (faults.Refused layer code octets) = (tt, lost-part w)
-
-  pub asked-parts : (o : Option Request) → IfSome o (IsFitting c) → AllByRecursion (IsFittingPart c) (asked_heard a o)
-  asked-parts None fit = tt
-  asked-parts (Some r) fit = ((fit a (is_numbered a is), tt), tt)
-
-  pub connected-parts : (w : Wired) (line : Line) (octets : List ℕ) → IsLine line → AllByRecursion (IsFittingPart c) (heard_by c a w (Connected line octets))
-  connected-parts w line octets l = ((open-fits c a is line.size l.least l.most, tt), (tt, tt))
-
-  pub released-parts : (w : Wired) (octets : List ℕ) → AllByRecursion (IsFittingPart c) (heard_by c a w (Released octets))
-  released-parts w octets = (tt, lost-part w)
-
-  pub aborted-parts : (w : Wired) → AllByRecursion (IsFittingPart c) (heard_by c a w Aborted)
-  aborted-parts w = (tt, lost-part w)
-
 -- ---- events one after another
 
 -- of all events these are left; the association is this, and this was heard
@@ -110,42 +77,6 @@ pub record Going (c : Config) (a : AssocNo) (fault : Option StackFault) (all : L
   pub agreed : IsWired w
   pub lines : AllByRecursion HasLine rest
   pub fits_ : AllByRecursion (IsFittingPart c) (heard_through c a rest fault w) → AllByRecursion (IsFittingPart c) (heard_through c a all fault from)
-
-module _ (c : Config) (a : AssocNo) (fault : Option StackFault) (all : List Event) (from : Wired) (before : List Heard) where
-  pub going-none : IsWired from → AllByRecursion HasLine all → Going c a fault all from all from before before
-  going-none agreed lines = record { heard = refl; wired = refl; agreed = agreed; lines = lines; fits_ = λ f. f }
-
-  pub going-more : (e : Event) (rest left : List Event) (w v : Wired) (now later : List Heard) → left ≡ e ∷ rest → Going c a fault all from left w before now → later ≡ now ++ heard_by c a w e → v ≡ wired_by e w → IsWired v
-      → AllByRecursion (IsFittingPart c) (heard_by c a w e) → Going c a fault all from rest v before later
-  going-more e rest left w v now later is g grew on agreed fit =
-      let h : Going c a fault all from (e ∷ rest) w before now = subst (λ (l : List Event). Going c a fault all from l w before now) is g in
-      subst (λ v. Going c a fault all from rest v before later) (sym on) (record {
-        heard = ap (λ (o : List Heard). o ++ heard_through c a rest fault (wired_by e w)) grew ∙ (append_assoc now (heard_by c a w e) (heard_through c a rest fault (wired_by e w)) ∙ h.heard);
-        wired = h.wired;
-        agreed = subst IsWired on agreed;
-        lines = h.lines.1;
-        fits_ = λ f. h.fits_ (all-both (IsFittingPart c) (heard_by c a w e) (heard_through c a rest fault (wired_by e w)) fit f);
-      })
-
--- the next event of all
-pub going-on : (c : Config) (a : AssocNo) (fault : Option StackFault) (all : List Event) (from : Wired) (before : List Heard) (n : ℕ) (e : Event) (w v : Wired) (now later : List Heard) → n < length all → e ≡ get_or all n e
-    → Going c a fault all from (drop n all) w before now → later ≡ now ++ heard_by c a w e → v ≡ wired_by e w → IsWired v → AllByRecursion (IsFittingPart c) (heard_by c a w e) → Going c a fault all from (drop (n + 1) all) v before later
-going-on c a fault all from before n e w v now later within is g grew on agreed fit =
-    going-more c a fault all from before e (drop (n + 1) all) (drop n all) w v now later (drop_more all n e within ∙ ap (λ (x : Event). x ∷ drop (n + 1) all) (sym is)) g grew on agreed fit
-
--- and behind the last one there is the refusal
-module _ (c : Config) (a : AssocNo) (fault : Option StackFault) (all : List Event) (from : Wired) (before : List Heard) (n : ℕ) (w v : Wired) (now later : List Heard) (over : length all ≤ n) (g : Going c a fault all from (drop n all) w before now) where
-  at-end : Going c a fault all from [] w before now
-  at-end = subst (λ (l : List Event). Going c a fault all from l w before now) (drop_all n all over) g
-
-  pub ends-heard : later ≡ now ++ heard_through c a [] fault w → later ≡ before ++ heard_through c a all fault from
-  ends-heard grew = grew ∙ at-end.heard
-
-  pub ends-wired : v ≡ wired_through [] fault w → v ≡ wired_through all fault from
-  ends-wired on = on ∙ at-end.wired
-
-  pub ends-fit : AllByRecursion (IsFittingPart c) (heard_through c a [] fault w) → AllByRecursion (IsFittingPart c) (heard_through c a all fault from)
-  ends-fit fit = at-end.fits_ fit
 
 -- ---- how many events a piece has
 

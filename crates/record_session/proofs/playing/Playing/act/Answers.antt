@@ -1,10 +1,8 @@
-use Rattle.std.proofs.Common.{◌≤◌, ◌+◌, ap, sym, subst, arith, refl, ◌∙◌}
+use Rattle.std.proofs.Common.{◌≤◌, ◌+◌, ap, sym, subst, arith}
 use Rattle.std.specs.Prelude.{None, Some, IfNone}
 use Rattle.std.proofs.lemmas.Result.{IfOk-weaker}
 use Rattle.run_record.specs.Judging.{number_of}
 use Rattle.record_session.specs.Plays.{PlaysSlot, IsReady, most_of}
-use Rattle.record_steps.specs.Streams.{made}
-use Rattle.record_steps.specs.declared.telling.Told.TheVariants as tolds
 use Rattle.record_outcome.specs.declared.status.Status.TheVariants as statuses
 use Rattle.record_session.proofs.PlayLaws.{slot-nothing, slot-pass, slot-step, slot-heard, slot-refused, slot-end, within-one}
 use Rattle.record_session.proofs.playing.Playing.act.Goals as goal

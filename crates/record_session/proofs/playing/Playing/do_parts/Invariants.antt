@@ -1,4 +1,4 @@
-use Rattle.std.proofs.Common.{◌≡◌, ◌≤◌, ◌+◌, drop}
+use Rattle.std.proofs.Common.{◌≤◌, ◌+◌, drop}
 use Rattle.std.specs.List.{AllByRecursion}
 use Rattle.record_steps.specs.Streams.{made}
 use Rattle.record_session.specs.Plays.{IsReadyPart}

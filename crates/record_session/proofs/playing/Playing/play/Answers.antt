@@ -1,6 +1,5 @@
 use Rattle.std.proofs.Common.{◌≡◌, ◌≤◌, ◌==◌, ℕ, List, sym, subst, refl, ◌∙◌, ap, arith}
 use Rattle.std.specs.Prelude.{if◌then◌else◌}
-use Rattle.std.specs.List.{AllByRecursion}
 use Rattle.std.proofs.lemmas.Result.{IfOk-weaker}
 use Rattle.run_record.specs.Seen.{line_seen}
 use Rattle.run_record.specs.declared.line.RecLine.{RecLine}
@@ -9,7 +8,6 @@ use Rattle.record_steps.specs.declared.form.Form.{Form}
 use Rattle.record_steps.specs.declared.form.Form.TheVariants.{Shut}
 use Rattle.record_steps.specs.declared.heard.Heard.{Heard}
 use Rattle.record_steps.specs.Forms.{Stands}
-use Rattle.record_steps.specs.Own.{IsFittingPart}
 use Rattle.record_steps.specs.Streams.{made}
 use Rattle.record_steps.specs.Telling.{telling, most_steps}
 use Rattle.record_session.specs.Formed.{form_in}
