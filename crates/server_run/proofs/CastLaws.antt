@@ -27,6 +27,15 @@ Roles = List (Option Role)
 abbrev nobody : Option Role
 nobody = None
 
+-- ---- scripts that were gone over
+
+none-left : (xs : List (Option Script)) → length xs ≡ 0 → xs ≡ []
+none-left [] e = refl
+none-left (x ∷ xs) e = absurd (omega (arith, e))
+
+pub all-yielded : (done rest all : List (Option Script)) → length rest ≡ 0 → done ++ rest ≡ all → done ≡ all
+all-yielded done rest all none is = sym (append-nil done) ∙ (ap (λ (xs : List (Option Script)). done ++ xs) (sym (none-left rest none)) ∙ is)
+
 -- ---- actors are cast one by one, the one with the highest number first
 
 cast-last : (n : ℕ) (rs : Roles) (r : Option Role) → cast_from n (rs ++ r ∷ []) ≡ cast_one (n + length rs) r ++ cast_from n rs

@@ -1,0 +1,32 @@
+use Rattle.std.proofs.Common.{◌≡◌, ◌++◌, ◌∷◌, [], List, map, length, sym, ap, ◌∙◌, append_assoc, append-nil, arith}
+use Rattle.std.specs.Prelude.{Option}
+use Rattle.script_reading.specs.Plans.{Script}
+use Rattle.merged_records.specs.Merged.{lines_in}
+use Rattle.script_threads.proofs.Lists.{map_last}
+use Rattle.server_run.specs.Casting.{script_steps}
+use Rattle.server_run.proofs.CastLaws.{all-yielded}
+use Rattle.server_run.proofs.casting.add_roles.Goals as goal
+
+pub loop-slot-preserved : goal.loop-slot-preserved
+loop-slot-preserved c =
+    let i = c.loop-slot.invariant in
+    let slot : Option Script = c.in-Some.slot in
+    let done : List (Option Script) = c.loop-slot.yielded in
+    let rest : List (Option Script) = c.next.new.self.rest.items in
+    let whole : done ++ slot ∷ rest ≡ c.args.slots.items = ap (λ (xs : List (Option Script)). done ++ xs) (sym c.in-Some.ensures.steps.0) ∙ i.2 in (
+      c.in_ok-add_role.ensures.roles ∙ (ap (λ l. l ++ script_steps slot ∷ []) i.0 ∙ sym (map_last script_steps done slot)),
+      c.in_ok-add_role.ensures.book ∙ (ap (λ l. l ++ lines_in slot ∷ []) i.1 ∙ sym (map_last lines_in done slot)),
+      append_assoc done (slot ∷ []) rest ∙ whole,
+    )
+
+pub returns-clause-roles : goal.returns-clause-roles
+returns-clause-roles c =
+    let i = c.loop-slot.invariant in
+    let r = c.loop-slot.slot-iterator.rest in
+    i.0 ∙ ap (map script_steps) (all-yielded c.loop-slot.yielded r.items c.args.slots.items (omega (arith, r.ok, c.in-None.ensures.steps.0)) i.2)
+
+pub returns-clause-book : goal.returns-clause-book
+returns-clause-book c =
+    let i = c.loop-slot.invariant in
+    let r = c.loop-slot.slot-iterator.rest in
+    i.1 ∙ ap (map lines_in) (all-yielded c.loop-slot.yielded r.items c.args.slots.items (omega (arith, r.ok, c.in-None.ensures.steps.0)) i.2)
