@@ -249,7 +249,7 @@ const ANSWERED: [Row; 31] = [
 ];
 
 /// Records that are refused at a line, or end there.
-const JUDGED: [Row; 39] = [
+const JUDGED: [Row; 41] = [
     // records that end, or don't
     (
         "records that end",
