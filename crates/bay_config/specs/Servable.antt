@@ -1,5 +1,5 @@
--- Which configurations a bay serves: as a configuration's text has them, without controls and setting groups
--- (IEC 61850-7-2, DATA-SET and BRCB attributes).
+-- Which configurations a bay serves: as a configuration's text has them, without controls (IEC 61850-7-2, DATA-SET, BRCB and SGCB
+-- attributes).
 use Rattle.std.specs.Prelude.{◌≡◌, ◌<◌, ◌≤◌, ◌⊎◌, ℕ, true, List, [], map, length, is_some, slice_index_or}
 use Rattle.std.specs.List.{All}
 use Rattle.sv_base.specs.Fields.{shape_of}
@@ -17,6 +17,7 @@ use Rattle.bay_model.specs.Sets.{set_referred}
 use Rattle.bay_model.specs.Named.{configured_model, nodes}
 use Rattle.object_model.specs.Fits.{attr_types, is_sound}
 use Rattle.object_model.specs.Tables.{node_type}
+use Rattle.setting_groups.specs.Opened.{IsGrouped}
 use Rattle.value_store.specs.Leaves.{leaf_shapes}
 use Rattle.value_store.specs.Opened.{IsStorable, HasDomains}
 use Rattle.value_store.specs.Wholes.{HasForm, tree_attrs}
@@ -60,7 +61,7 @@ HasSoundValues a = All (λ v. is_sound v ≡ true) (values_of a.values)
 
 pub record IsServable (c : Config) : Type 0 where
   pub controls : c.controls ≡ []
-  pub groups : c.groups ≡ []
+  pub grouped : IsGrouped c
   pub storable : IsStorable c
   pub sound : All HasSoundValues c.attrs
   pub domains : HasDomains c

@@ -21,7 +21,8 @@ use Rattle.report_block.specs.Alls.{all_from, all_pieces}
 use Rattle.report_block.specs.Coming.{AreOf}
 use Rattle.report_block.specs.Events.{pieces_of}
 use Rattle.bay_config.specs.Servable.{IsServable}
-use Rattle.bay_core.specs.State.{AreHeld, AreServedSets}
+use Rattle.bay_core.specs.State.{AreServedSets}
+use Rattle.bay_values.specs.Held.{AreHeld}
 use Rattle.bay_core.proofs.EventLaws.{note-kept, note-readable}
 use Rattle.bay_core.proofs.ShapeLaws.{AreServed, node_shapes, nodes_named, served_members, served-set, sets_in, members-named}
 

@@ -16,6 +16,7 @@ use Rattle.report_block.specs.Coming.{AreOf}
 use Rattle.report_block.specs.Blanks.{AreShortTexts}
 use Rattle.bay_model.specs.Reports.{report_id}
 use Rattle.brcb_state.specs.declared.block.Block.{Block}
+use Rattle.setting_groups.proofs.StandLaws as settings
 use Rattle.bay_core.specs.Put.{AreGeneral}
 use Rattle.bay_model.specs.declared.tables.MemberShape.{MemberShape}
 use Rattle.bay_model.specs.declared.tables.NodeRow.{NodeRow}
@@ -39,7 +40,8 @@ use Rattle.report_block.specs.Standing.{Stands as BlockStands, BlocksStand}
 use Rattle.report_block.proofs.StandLaws.{arrival-stands}
 use Rattle.bay_config.specs.Servable.{IsServable}
 use Rattle.bay_core.specs.Standing.{StandsAt}
-use Rattle.bay_core.specs.State.{State, AreHeld, AreServedSets, IsFurnished}
+use Rattle.bay_core.specs.State.{State, AreServedSets, IsFurnished}
+use Rattle.bay_values.specs.Held.{AreHeld}
 use Rattle.bay_core.specs.declared.watch.Watch.{Watch}
 use Rattle.bay_core.specs.Timed.{arrived_part, arrived_all, at_arrival}
 use Rattle.bay_core.specs.Watched.{members_in}
@@ -82,7 +84,7 @@ arrives s c n t past all st = record {
   is_latest = latest;
   values = values.stands-arrival s.stored (configured_model c) t n past st.values;
   associations = associations.stands-arrival (configured_model c) t n past s.rows st.associations;
-  edits = st.edits;
+  groups = settings.arrives (configured_model c) past n t s.groups st.groups;
   sets = st.sets;
   configured = st.configured;
   blocks = subst (BlocksStand (configured_model c) (arrival n t ∷ past)) (sym same)

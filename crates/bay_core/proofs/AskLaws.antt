@@ -12,6 +12,9 @@ use Rattle.sv_base.specs.declared.value.Value.TheVariants as kinds
 use Rattle.bay_model.specs.declared.answer.Answer.TheVariants as answers
 use Rattle.bay_model.specs.declared.answer.Output.{Output}
 use Rattle.bay_model.specs.declared.components.Comp.{Comp}
+use Rattle.bay_model.specs.declared.components.SettingComp.{SettingComp}
+use Rattle.bay_model.specs.declared.components.SettingComp.TheVariants.{NumOfSG, ActSG, EditSG, CnfEdit, LActTm}
+use Rattle.sv_base.specs.declared.config.SgDef.{SgDef}
 use Rattle.bay_model.specs.declared.answer.Output.TheVariants as outputs
 use Rattle.bay_model.specs.declared.control.ApplError.{ApplError}
 use Rattle.bay_model.specs.declared.reply.Reply.{Reply}
@@ -31,16 +34,20 @@ use Rattle.bay_model.specs.Controls.{is_enhanced}
 use Rattle.bay_model.specs.Attributes.{attributes}
 use Rattle.bay_model.specs.Blocks.{enabler}
 use Rattle.bay_model.specs.BlockWrites.{component_refusals, is_of_nothing, write_component}
-use Rattle.bay_model.specs.Lookups.{attr_of, control_of, node_of}
+use Rattle.bay_model.specs.Lookups.{attr_of, control_of, groups_of, node_of}
+use Rattle.bay_model.specs.NamedLines.{domain_number}
 use Rattle.bay_model.specs.Parameters.{parameters_at}
-use Rattle.bay_model.specs.SettingWrites.{attribute_refusals, holds_edit, write_attribute}
+use Rattle.bay_model.specs.ComponentTable.{setting_comp_kind}
+use Rattle.bay_model.specs.Settings.{edit}
+use Rattle.bay_model.specs.SettingWrites.{act_refusals, attribute_refusals, confirm_refusals, edit_refusals, holds_edit, write_attribute, write_part}
 use Rattle.bay_model.specs.Writes.{write_role}
 use Rattle.bay_rooms.specs.Kinds.{is_kind}
 use Rattle.bay_model.specs.Model.{Model, DataSet, Access, reported, writable, active, edited, Role, Tree, single, several, selecting, calling, attribute, component, setting, withheld, Control, operate}
 use Rattle.bay_model.specs.Named.{configured_model}
 use Rattle.bay_model.specs.Outcomes.{Outcome, gave, did, refused, deed_of, error_in, first_code}
 use Rattle.bay_model.specs.Outcomes as came
-use Rattle.bay_model.specs.Points.{Deed, Change, Past, nothing, put, copied, wrote, called, selected_control, answered, unchanged}
+use Rattle.bay_model.specs.Points.{edited as edited_group}
+use Rattle.bay_model.specs.Points.{Deed, Change, Past, nothing, put, copied, activated, confirmed, wrote, called, selected_control, answered, unchanged}
 use Rattle.bay_model.specs.Reads.{outcome_of_read, read_role, read_node, read_tree}
 use Rattle.bay_model.specs.Services.{reply, singles_of, set_found, set_name, change_of}
 use Rattle.bay_model.specs.Singles.{Single, reads, writes, fails, read_of, arrival, outcome_of, outcome_at, outcomes, after_single, after_singles, act_of, acts_in}
@@ -58,16 +65,22 @@ use Rattle.bay_replies.specs.Asking.{IsReading}
 use Rattle.bay_model.specs.Sets.{sets}
 use Rattle.data_sets.specs.Standing.{data_set}
 use Rattle.report_block.specs.Standing.{BlocksStand}
+use Rattle.setting_groups.specs.Standing.{Stands as GroupsStand}
 use Rattle.value_store.specs.Wholes.{Stands as ValuesStand}
 use Rattle.window_core.specs.Points.{at}
 use Rattle.bay_core.specs.Asked.{IsAnswered, IsReplied, replied}
 use Rattle.bay_core.specs.State.{State}
 use Rattle.bay_core.specs.Standing.{StandsAt, StandsFor}
 use Rattle.bay_core.proofs.EndLaws.{opener-told}
-use Rattle.bay_core.proofs.MoveLaws.{came-of, counts, again, accepted-as}
+use Rattle.bay_core.proofs.MoveLaws.{came-of, counts, again, accepted-as, groups-quiet}
 use Rattle.bay_core.proofs.PartLaws.{parts-left}
 use Rattle.bay_core.proofs.QueueLaws.{replies-told}
-use Rattle.bay_core.proofs.RoleLaws.{IsRole, roles}
+use Rattle.bay_replies.specs.Plain.{IsPlainRole}
+use Rattle.bay_replies.proofs.NodeLaws.{each-among, node-plain}
+
+-- whatever domain
+abbrev IsAny : ℕ → Type 0
+IsAny d = Unit {0}
 
 -- ---- the single reads
 
@@ -198,14 +211,49 @@ quiet-attribute m a x v active past = quiet-refused (if is_kind (attr_of m x).ki
 quiet-component : (m : Model) (a b : ℕ) (comp : Comp) (v : Value) (past : Past) → IsQuiet (write_component m a b comp v past)
 quiet-component m a b comp v past = quiet-first (component_refusals (λ e. e == a) comp v (is_of_nothing m b comp v past) (enabler b past) (parameters_at m b past)) (wrote a b comp v) refl
 
-module _ (c : Config) (none : c.controls ≡ []) (empty : c.groups ≡ []) where
+quiet-part : (m : Model) (a d : ℕ) (part : SettingComp) (v : Value) (past : Past) → IsQuiet (write_part m a d part v past)
+quiet-part m a d NumOfSG v past = quiet-refused (if is_kind (setting_comp_kind NumOfSG) v then 3 else 7)
+quiet-part m a d LActTm v past = quiet-refused (if is_kind (setting_comp_kind LActTm) v then 3 else 7)
+quiet-part m a d ActSG (kinds.Bool b) past = quiet-refused 7
+quiet-part m a d ActSG (kinds.Int z) past = quiet-refused 7
+quiet-part m a d ActSG (kinds.Uint n) past = quiet-first (act_refusals (groups_of m d).count n) (activated a d n) refl
+quiet-part m a d ActSG (kinds.Bits bs) past = quiet-refused 7
+quiet-part m a d ActSG (kinds.Time t) past = quiet-refused 7
+quiet-part m a d ActSG (kinds.Stamp t) past = quiet-refused 7
+quiet-part m a d ActSG (kinds.Text t) past = quiet-refused 7
+quiet-part m a d ActSG (kinds.Octets o) past = quiet-refused 7
+quiet-part m a d ActSG (kinds.Struct vs) past = quiet-refused 7
+quiet-part m a d ActSG kinds.Other past = quiet-refused 7
+quiet-part m a d EditSG (kinds.Bool b) past = quiet-refused 7
+quiet-part m a d EditSG (kinds.Int z) past = quiet-refused 7
+quiet-part m a d EditSG (kinds.Uint n) past = quiet-first (edit_refusals a (groups_of m d).count n (edit d past)) (edited_group a d n) refl
+quiet-part m a d EditSG (kinds.Bits bs) past = quiet-refused 7
+quiet-part m a d EditSG (kinds.Time t) past = quiet-refused 7
+quiet-part m a d EditSG (kinds.Stamp t) past = quiet-refused 7
+quiet-part m a d EditSG (kinds.Text t) past = quiet-refused 7
+quiet-part m a d EditSG (kinds.Octets o) past = quiet-refused 7
+quiet-part m a d EditSG (kinds.Struct vs) past = quiet-refused 7
+quiet-part m a d EditSG kinds.Other past = quiet-refused 7
+quiet-part m a d CnfEdit (kinds.Bool true) past = quiet-first (confirm_refusals a (edit d past)) (confirmed a d) refl
+quiet-part m a d CnfEdit (kinds.Bool false) past = quiet-first (confirm_refusals a (edit d past)) nothing refl
+quiet-part m a d CnfEdit (kinds.Int z) past = quiet-refused 7
+quiet-part m a d CnfEdit (kinds.Uint n) past = quiet-refused 7
+quiet-part m a d CnfEdit (kinds.Bits bs) past = quiet-refused 7
+quiet-part m a d CnfEdit (kinds.Time t) past = quiet-refused 7
+quiet-part m a d CnfEdit (kinds.Stamp t) past = quiet-refused 7
+quiet-part m a d CnfEdit (kinds.Text t) past = quiet-refused 7
+quiet-part m a d CnfEdit (kinds.Octets o) past = quiet-refused 7
+quiet-part m a d CnfEdit (kinds.Struct vs) past = quiet-refused 7
+quiet-part m a d CnfEdit kinds.Other past = quiet-refused 7
+
+module _ (c : Config) (none : c.controls ≡ []) where
   abbrev mine : Model
   mine = configured_model c
 
-  quiet-role : (a : ℕ) (r : Role) (v : Value) (past : Past) → IsRole (length (attributes c)) (length c.blocks) r → IsQuiet (write_role mine a r v past)
+  quiet-role : (a : ℕ) (r : Role) (v : Value) (past : Past) → IsPlainRole (length (attributes c)) (length c.blocks) IsAny r → IsQuiet (write_role mine a r v past)
   quiet-role a (single (attribute x)) v past is = quiet-attribute mine a x v (attr_of mine x).access past
   quiet-role a (single (component b comp)) v past is = quiet-component mine a b comp v past
-  quiet-role a (single (setting d part)) v past is = absurd is
+  quiet-role a (single (setting d part)) v past is = quiet-part mine a d part v past
   quiet-role a (single withheld) v past is = absurd is
   quiet-role a (selecting k) v past is = absurd is
   quiet-role a (calling k call) v past is = absurd is
@@ -213,7 +261,7 @@ module _ (c : Config) (none : c.controls ≡ []) (empty : c.groups ≡ []) where
 
   quiet-single : (a : ℕ) (s : Single) (past : Past) → IsQuiet (outcome_of mine a s past)
   quiet-single a (reads n) past = quiet-plain (read_node mine a n past) (plain-role mine a (node_of mine n).role (node_of mine n).tree past)
-  quiet-single a (writes n v) past = quiet-role a (node_of mine n).role v past (roles c n none empty)
+  quiet-single a (writes n v) past = quiet-role a (node_of mine n).role v past (node-plain c none IsAny (each-among (λ (g : SgDef). IsAny (domain_number c g.domain)) c.groups (λ g i. tt)) n).role
   quiet-single a (fails code) past = quiet-refused code
 
   pub acts-none : (a n t : ℕ) (ss : List Single) (past : Past) → acts_in (outcomes mine a n t ss past) ≡ []
@@ -229,8 +277,8 @@ module _ (c : Config) (none : c.controls ≡ []) (empty : c.groups ≡ []) where
 idled : (z : State) (c : Config) (n t : ℕ) (d : Deed) (past : Past) → IsIdle d → StandsAt z c n (arrival n t ∷ past) → StandsAt z c n (at n t d ∷ past)
 idled z c n t nothing past is here = here
 idled z c n t (selected_control a k) past is here =
-    came-of z c n t (selected_control a k) past z.stored z.parts (record { number = tt; puts = λ e. refl; edits = λ e. refl; sets = refl }) here.values
-    (parts-left (configured_model c) n t (selected_control a k) past z.parts z.parts (record { note = λ b. refl; cuts = λ b. refl }) (λ b q there. (q, there, refl)) here.blocks) here
+    came-of z c n t (selected_control a k) past z.stored z.parts z.groups (record { number = tt; puts = λ e. refl; sets = refl }) here.values
+    (parts-left (configured_model c) n t (selected_control a k) past z.parts z.parts (record { note = λ b. refl; cuts = λ b. refl }) (λ b q there. (q, there, refl)) here.blocks) (groups-quiet z c n t (selected_control a k) past tt here) here
 idled z c n t _ past is here = absurd is
 
 -- it stands for the singles as it is
@@ -288,7 +336,7 @@ changed-at z w c n t a output change past none number here same blocks all confi
             for_one = λ some. number;
             for_no_other = λ e other. puts-no-other m a e n output change past other;
           }));
-      edits = here.edits;
+      groups = subst (λ g. GroupsStand g m (at n t d ∷ past)) (sym (ap (λ (s : State). s.groups) same)) (groups-quiet z c n t d past tt here);
       sets = all;
       configured = configured ∙ here.configured;
       blocks = parts-left m n t d past w.parts w.parts (record { note = λ b. refl; cuts = λ b. refl }) (λ b q there. (q, there, refl)) blocks;
@@ -350,22 +398,22 @@ module _ (s : State) (c : Config) (h : History) (t : ℕ) (actor : ActorNo) (a :
       ask-fault (configured_model c) past actor.0 a.0 e.0 e.1 (equal-number actor.0 e.0.opener (yours ∙ sym e.2)) (count-told ∙ room)
 
   -- the second state is that before its reply is put
-  pub asked-for : (z u : State) (answer_ : Reply) → c.controls ≡ [] → c.groups ≡ [] → nat_le 16 (replies (row_of s.rows a.0).waiting) ≡ false
+  pub asked-for : (z u : State) (answer_ : Reply) → c.controls ≡ [] → nat_le 16 (replies (row_of s.rows a.0).waiting) ≡ false
       → ((output : Output) → StandsAt (replied z a.0 output) c (length h) (at (length h) t (answered a.0 output (change_of (configured_model c) past r.service)) ∷ after_singles (configured_model c) a.0 (length h) t (singles_of (configured_model c) past r.service) past))
       → answer_ ≡ reply (configured_model c) past (size_of a.0 past) r.service (outcomes_of (configured_model c) (length h) t a.0 r past)
       → u ≡ record (replied z a.0 (outputs.Reply [] r.invoke answer_)) { steps = suc z.steps }
       → (answers.Asked [] ≡ answer (configured_model c) h turn) × StandsFor u c (turn ∷ h)
-  asked-for z u answer_ none empty room here is_reply behind =
+  asked-for z u answer_ none room here is_reply behind =
       let m = configured_model c in
       let n = length h in
       let fine = fine-for room in
       let ss = singles_of m past r.service in
       let change = change_of m past r.service in
       let output = outputs.Reply [] r.invoke answer_ in
-      let same : output ≡ output_for m n t a.0 r past = ap₂ (λ (es : List ApplError) (x : Reply). outputs.Reply es r.invoke x) (sym (errors-none c none empty a.0 n t ss past)) is_reply in
+      let same : output ≡ output_for m n t a.0 r past = ap₂ (λ (es : List ApplError) (x : Reply). outputs.Reply es r.invoke x) (sym (errors-none c none a.0 n t ss past)) is_reply in
       let stands = counts (replied z a.0 output) c n (at n t (answered a.0 output change) ∷ after_singles m a.0 n t ss past) (here output) in
       let deed : answered a.0 output change ≡ answered a.0 (output_for m n t a.0 r past) change = ap (λ (o : Output). answered a.0 o change) same in (
-        ap answers.Asked (sym (acts-none c none empty a.0 n t ss past)),
+        ap answers.Asked (sym (acts-none c none a.0 n t ss past)),
         accepted-as s u (record (replied z a.0 output) { steps = suc z.steps }) c h turn st fine behind
             (subst (λ (d : Deed). StandsAt (record (replied z a.0 output) { steps = suc z.steps }) c (suc n) (at n t d ∷ after_singles m a.0 n t ss past)) deed stands),
       )

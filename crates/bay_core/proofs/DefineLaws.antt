@@ -33,6 +33,7 @@ use Rattle.data_sets.specs.Turns.{AreRows}
 use Rattle.data_sets.proofs.BookLaws.{IsPlace, at_front, at_last, is_place, length_more, no-reference}
 use Rattle.data_sets.proofs.PlaceLaws.{no_place}
 use Rattle.value_store.specs.Stored.{Stored}
+use Rattle.setting_groups.specs.Grouped.{Grouped}
 use Rattle.report_block.specs.declared.block.ReportBlock.{ReportBlock}
 use Rattle.report_block.specs.declared.events.EventRoom.{EventRoom}
 use Rattle.touch_index.specs.Indexed.{block_at, pairs}
@@ -128,10 +129,10 @@ module _ (c : Config) (book : Book) (s : Booked) (old : IsBooked c book) (new : 
 
 -- ---- the parts with it
 
-pub whole-defined : (c : Config) (stored : List Stored) (book : Book) (s : Booked) (parts : List ReportBlock) (w v : Watch) (octets : Filled ℕ) (room latest : ℕ) (dues : List (Option ℕ)) (events : EventRoom)
+pub whole-defined : (c : Config) (stored : List Stored) (groups : Grouped) (book : Book) (s : Booked) (parts : List ReportBlock) (w v : Watch) (octets : Filled ℕ) (room latest : ℕ) (dues : List (Option ℕ)) (events : EventRoom)
     → IsNewSet c book s → v ≡ record w { index = v.index } → IsRoomier w.index v.index → ((b : ℕ) → b < length w.index.blocks → pairs (shapes_of (node_rows c) s.nodes) ≤ (block_at v.index.blocks b).room)
-    → IsWhole c stored book parts w octets room latest dues events → IsWhole c stored (with_set s book) parts v octets room latest dues events
-whole-defined c stored book s parts w v octets room latest dues events new same more roomy whole =
+    → IsWhole c stored groups book parts w octets room latest dues events → IsWhole c stored groups (with_set s book) parts v octets room latest dues events
+whole-defined c stored groups book s parts w v octets room latest dues events new same more roomy whole =
     let f = whole.furnished in
     record {
       furnished = record {
@@ -151,13 +152,14 @@ whole-defined c stored book s parts w v octets room latest dues events new same 
         changes = f.changes;
       };
       quiet = whole.quiet;
+      grouped = whole.grouped;
       roomy = whole.roomy;
     }
 
 -- more room alone leaves a bay whole
-pub whole-roomier : (c : Config) (stored : List Stored) (book : Book) (parts : List ReportBlock) (w v : Watch) (octets : Filled ℕ) (room latest : ℕ) (dues : List (Option ℕ)) (events : EventRoom)
-    → v ≡ record w { index = v.index } → IsRoomier w.index v.index → IsWhole c stored book parts w octets room latest dues events → IsWhole c stored book parts v octets room latest dues events
-whole-roomier c stored book parts w v octets room latest dues events same more whole =
+pub whole-roomier : (c : Config) (stored : List Stored) (groups : Grouped) (book : Book) (parts : List ReportBlock) (w v : Watch) (octets : Filled ℕ) (room latest : ℕ) (dues : List (Option ℕ)) (events : EventRoom)
+    → v ≡ record w { index = v.index } → IsRoomier w.index v.index → IsWhole c stored groups book parts w octets room latest dues events → IsWhole c stored groups book parts v octets room latest dues events
+whole-roomier c stored groups book parts w v octets room latest dues events same more whole =
     let f = whole.furnished in
     record {
       furnished = record {
@@ -177,6 +179,7 @@ whole-roomier c stored book parts w v octets room latest dues events same more w
         changes = f.changes;
       };
       quiet = whole.quiet;
+      grouped = whole.grouped;
       roomy = whole.roomy;
     }
 

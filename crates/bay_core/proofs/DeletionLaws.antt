@@ -28,7 +28,7 @@ use Rattle.report_block.specs.Standing.{Stands as BlockStands, BlocksStand}
 use Rattle.report_block.specs.Writes.{renumbered}
 use Rattle.bay_core.specs.Asked.{IsKept}
 use Rattle.bay_core.specs.Deleted.{after_deletion, after_deletions, deleted_in, deletion_at, is_reported, matched_in, unless_used}
-use Rattle.bay_core.specs.Marked.{one_if}
+use Rattle.bay_values.specs.Marked.{one_if}
 use Rattle.bay_core.specs.State.{State, IsBooked}
 use Rattle.bay_core.proofs.RemoveLaws.{booked-deleted, name-same, name-there}
 

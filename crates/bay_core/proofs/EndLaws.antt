@@ -9,6 +9,7 @@ use Rattle.sv_base.specs.declared.config.Config.{Config}
 use Rattle.sv_base.specs.declared.numbers.AssocNo.{AssocNo}
 use Rattle.sv_base.specs.declared.numbers.ActorNo.{ActorNo}
 use Rattle.bay_model.specs.Model.{Model}
+use Rattle.bay_model.specs.Named.{configured_model}
 use Rattle.bay_model.specs.Points.{Point, Past, opened, lost}
 use Rattle.bay_model.specs.Singles.{arrival}
 use Rattle.bay_model.specs.Associations as model
@@ -19,11 +20,13 @@ use Rattle.assoc_table.specs.Seats.{Row}
 use Rattle.assoc_table.specs.Tables.{IsNumber, row_of, started, ended}
 use Rattle.assoc_table.specs.Standing.{Stands as AssociationsStand, ends_of}
 use Rattle.window_core.specs.Points.{at}
+use Rattle.setting_groups.specs.Grouped.{after_loss}
+use Rattle.setting_groups.proofs.StandLaws.{arrived, loses}
 use Rattle.report_block.specs.Writes.{lost_by}
 use Rattle.bay_core.specs.Parting.{after_loss_all}
 use Rattle.bay_core.specs.State.{State}
 use Rattle.bay_core.specs.Standing.{StandsAt}
-use Rattle.bay_core.proofs.MoveLaws.{passed}
+use Rattle.bay_core.proofs.MoveLaws.{groups-quiet, passed}
 
 -- ---- the ends of an association
 
@@ -54,8 +57,8 @@ opening n t a e = at n t (opened a e.opener.0 e.writer.0 e.size)
 
 pub opened-at : (s : State) (c : Config) (n t a : ℕ) (e : Ends) (past : Past) → IsNumber a → StandsAt s c n (arrival n t ∷ past)
     → StandsAt (record s { steps = suc s.steps; rows = started s.rows a e }) c (suc n) (opening n t a e ∷ past)
-opened-at s c n t a e past number st = passed s c n t (opened a e.opener.0 e.writer.0 e.size) past s.parts (record { number = number; puts = λ k. refl; edits = λ k. refl; sets = refl }) (λ x. refl)
-    (record { note = λ b. refl; cuts = λ b. refl }) (λ b q there. (q, there, refl)) st
+opened-at s c n t a e past number st = passed s c n t (opened a e.opener.0 e.writer.0 e.size) past s.parts s.groups (record { number = number; puts = λ k. refl; sets = refl }) (λ x. refl)
+    (record { note = λ b. refl; cuts = λ b. refl }) (λ b q there. (q, there, refl)) (groups-quiet s c n t (opened a e.opener.0 e.writer.0 e.size) past tt st) st
 
 -- ---- lost
 
@@ -63,9 +66,9 @@ abbrev pub losing : ℕ → ℕ → ℕ → Point
 losing n t a = at n t (lost a)
 
 pub lost-at : (s : State) (c : Config) (n t : ℕ) (a : AssocNo) (past : Past) → IsNumber a.0 → StandsAt s c n (arrival n t ∷ past)
-    → StandsAt (record s { steps = suc s.steps; parts = after_loss_all a s.parts; rows = ended s.rows a.0 }) c (suc n) (losing n t a.0 ∷ past)
-lost-at s c n t a past number st = passed s c n t (lost a.0) past (after_loss_all a s.parts) (record { number = number; puts = λ k. refl; edits = λ k. refl; sets = refl }) (λ x. refl)
-    (record { note = λ b. refl; cuts = λ b. refl }) (got-map (lost_by a) s.parts) st
+    → StandsAt (record s { steps = suc s.steps; parts = after_loss_all a s.parts; rows = ended s.rows a.0; groups = after_loss a.0 s.groups }) c (suc n) (losing n t a.0 ∷ past)
+lost-at s c n t a past number st = passed s c n t (lost a.0) past (after_loss_all a s.parts) (after_loss a.0 s.groups) (record { number = number; puts = λ k. refl; sets = refl }) (λ x. refl)
+    (record { note = λ b. refl; cuts = λ b. refl }) (got-map (lost_by a) s.parts) (loses (configured_model c) past n t s.groups (arrived (configured_model c) past n t s.groups st.groups) a.0) st
 
 -- ---- why an opening or a loss is refused
 

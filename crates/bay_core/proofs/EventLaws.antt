@@ -28,7 +28,7 @@ use Rattle.window_core.specs.Pieces.{Piece}
 use Rattle.window_core.specs.Standing.{piece_of}
 use Rattle.report_block.specs.Events.{pieces_of}
 use Rattle.report_block.specs.Standing.{IsMemberKept}
-use Rattle.bay_core.specs.State.{AreHeld}
+use Rattle.bay_values.specs.Held.{AreHeld}
 use Rattle.bay_core.proofs.ShapeLaws.{AreServed, IsShapeOf, node_shape, node_shapes, member-shape}
 use Rattle.bay_core.proofs.WritableLaws.{shape-writable, shape-one, one-some}
 

@@ -1,5 +1,5 @@
 -- The state of a bay that was opened: its parts fit the configuration, and it stands for the history of no step.
-use Rattle.std.proofs.Common.{◌≡◌, ◌<◌, ◌≤◌, ℕ, List, [], ◌∷◌, get_or, arith, map, replicate, refl, ap, sym, ◌∙◌, subst, length, append-nil}
+use Rattle.std.proofs.Common.{◌≡◌, ◌<◌, ◌≤◌, ℕ, List, [], ◌∷◌, get_or, arith, map, replicate, ap, sym, ◌∙◌, subst, length, append-nil}
 use Rattle.std.specs.List.{All}
 use Rattle.std.proofs.lemmas.List.{length-map, get_or-map}
 use Rattle.std.proofs.lemmas.List.Elements.{All-head, All-tail}
@@ -25,6 +25,10 @@ use Rattle.value_store.specs.Opened.{opened}
 use Rattle.value_store.specs.Stored.{Stored}
 use Rattle.value_store.specs.Wholes.{Stands as ValuesStand}
 use Rattle.value_store.proofs.OpenedLaws.{opened_stands}
+use Rattle.bay_model.specs.NamedLines.{domains}
+use Rattle.setting_groups.specs.Opened.{opened as grouped}
+use Rattle.setting_groups.specs.Standing.{Stands as GroupsStand}
+use Rattle.setting_groups.proofs.OpenLaws.{opened_stands as groups_stand}
 use Rattle.report_block.specs.declared.block.ReportBlock.{ReportBlock}
 use Rattle.bay_core.specs.declared.watch.Watch.{Watch}
 use Rattle.bay_core.specs.Watched.{IsWatching, IsWatchable, members_in}
@@ -32,8 +36,9 @@ use Rattle.bay_core.specs.Opened.{seen, part_defined}
 use Rattle.bay_config.specs.Servable.{IsServable}
 use Rattle.bay_core.specs.Standing.{StandsFor}
 use Rattle.data_sets.specs.Standing.{data_set}
-use Rattle.bay_core.specs.State.{State, IsBooked, IsFurnished, AreHeld, AreServedSets}
-use Rattle.bay_core.proofs.FirstValues.{opened-held}
+use Rattle.bay_core.specs.State.{State, IsBooked, IsFurnished, AreServedSets}
+use Rattle.bay_values.specs.Held.{AreHeld}
+use Rattle.bay_values.proofs.FirstValues.{opened-held}
 use Rattle.bay_core.proofs.FirstBook.{booked-first, count-back, sets-back}
 use Rattle.bay_core.proofs.OpenLaws.{parts-named, parts-sets, parts-windows, parts-stand}
 
@@ -86,8 +91,8 @@ watchable-first c n book parts served is are count = λ b d below.
     watchable c n book part (subst (AreServedSets c) (sym is) (booked-first c served).served) (parts-sets c book parts are b part (slice_get-get_or parts b d below)) count
 
 pub stands-first : (s : State) (c : Config) → IsServable c → s.config ≡ c → s.steps ≡ 0 → s.latest ≡ now [] → s.stored ≡ opened c → s.book ≡ booked (set_rows c)
-    → map seen s.parts ≡ map (part_defined (booked (set_rows c))) c.blocks → s.rows ≡ replicate 16 closed → StandsFor s c []
-stands-first s c served config steps latest values book are rows = (
+    → map seen s.parts ≡ map (part_defined (booked (set_rows c))) c.blocks → s.rows ≡ replicate 16 closed → s.groups ≡ grouped c (domains c) → StandsFor s c []
+stands-first s c served config steps latest values book are rows groups = (
   tt,
   record {
     is_config = config;
@@ -95,7 +100,7 @@ stands-first s c served config steps latest values book are rows = (
     is_latest = latest;
     values = subst (λ all. ValuesStand all (configured_model c) []) (sym values) (opened_stands c served.domains);
     associations = subst (λ all. AssociationsStand all (configured_model c) []) (sym rows) (stands-empty (configured_model c));
-    edits = λ d. refl;
+    groups = subst (λ g. GroupsStand g (configured_model c) []) (sym groups) (groups_stand c served.grouped);
     sets = ap (λ (b : Book). map data_set b.sets) book ∙ (sets-back c ∙ sym (append-nil (configured_model c).sets));
     configured = ap (λ (b : Book). b.configured) book ∙ count-back c;
     blocks = parts-stand c (booked (set_rows c)) s.parts are;

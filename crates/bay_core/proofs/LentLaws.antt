@@ -6,6 +6,9 @@ use Rattle.bay_model.specs.Named.{configured_model}
 use Rattle.data_sets.specs.Books.{Book}
 use Rattle.data_sets.specs.Standing.{data_set}
 use Rattle.value_store.specs.Stored.{Stored}
+use Rattle.setting_groups.specs.Grouped.{Grouped}
+use Rattle.setting_groups.specs.Standing.{Stands as GroupsStand}
+use Rattle.bay_values.specs.Held.{AreGrouped}
 use Rattle.report_block.specs.declared.block.ReportBlock.{ReportBlock}
 use Rattle.bay_replies.specs.Standing.{IsReplyTo, IsServed, StandAt}
 use Rattle.std.specs.Option.{option_map}
@@ -23,10 +26,11 @@ use Rattle.bay_core.specs.State.{State, IsFurnished}
 use Rattle.bay_core.specs.declared.watch.Watch.{Watch}
 use Rattle.bay_core.proofs.BookLaws.{sets-lent}
 
-pub served-parts : (c : Config) (stored : List Stored) (book : Book) (parts : List ReportBlock) (w : Watch) (octets : Filled ℕ) (room : ℕ) → IsFurnished c stored book parts w octets room → IsServed c stored parts book
-served-parts c stored book parts w octets room f = record {
+pub served-parts : (c : Config) (stored : List Stored) (groups : Grouped) (book : Book) (parts : List ReportBlock) (w : Watch) (octets : Filled ℕ) (room : ℕ) → IsFurnished c stored book parts w octets room → AreGrouped c groups → IsServed c stored groups parts book
+served-parts c stored groups book parts w octets room f fit = record {
   controls = f.servable.controls;
-  groups = f.servable.groups;
+  grouped = f.servable.grouped;
+  framed = fit.framed;
   values = f.values.count;
   blocks = f.count;
   lent = sets-lent c book f.booked.served;
@@ -34,11 +38,11 @@ served-parts c stored book parts w octets room f = record {
 }
 
 -- the reply that they give is that after all points that the state stands for
-pub reply-at : (s : State) (mine : Config) (stored : List Stored) (parts : List ReportBlock) (book : Book) (was now size moment a : ℕ) (service : Service) (r : Reply) → mine ≡ s.config → stored ≡ s.stored → parts ≡ s.parts → book ≡ s.book
-    → was ≡ s.latest → now ≡ max s.latest moment → IsNumber a → size ≡ unwrap_or (option_map (λ (e : Ends). e.size) (row_of s.rows a).ends) 0 → IsReplyTo mine stored parts book was now size service r → IsReplyAt s moment a service r
-reply-at s mine stored parts book was now size moment a service r config values blocks booked_ from to number sized is = λ c n past st.
+pub reply-at : (s : State) (mine : Config) (stored : List Stored) (groups : Grouped) (parts : List ReportBlock) (book : Book) (was now size moment a : ℕ) (service : Service) (r : Reply) → mine ≡ s.config → stored ≡ s.stored → groups ≡ s.groups → parts ≡ s.parts → book ≡ s.book
+    → was ≡ s.latest → now ≡ max s.latest moment → IsNumber a → size ≡ unwrap_or (option_map (λ (e : Ends). e.size) (row_of s.rows a).ends) 0 → IsReplyTo mine stored groups parts book was now size service r → IsReplyAt s moment a service r
+reply-at s mine stored groups parts book was now size moment a service r config values grouped blocks booked_ from to number sized is = λ c n past st.
     let m = configured_model c in
-    let stand : StandAt c stored parts book was past = record {
+    let stand : StandAt c stored groups parts book was past = record {
       values = subst (λ l. ValuesStand l m past) (sym values) st.values;
       blocks = subst (BlocksStand m past) (sym blocks) st.blocks;
       sets = record {
@@ -46,7 +50,7 @@ reply-at s mine stored parts book was now size moment a service r config values 
         count = ap (λ (b : Book). b.configured) booked_ ∙ st.configured;
       };
       is_latest = from ∙ st.is_latest;
-      unedited = st.edits;
+      settings = subst (λ g. GroupsStand g m past) (sym grouped) st.groups;
     } in
-    let told = subst (λ (d : Config). IsReplyTo d stored parts book was now size service r) (config ∙ st.is_config) is a n moment past stand (omega (arith, from, to)) in
+    let told = subst (λ (d : Config). IsReplyTo d stored groups parts book was now size service r) (config ∙ st.is_config) is a n moment past stand (omega (arith, from, to)) in
     subst (λ k. r ≡ reply m past k service (outcomes m a n moment (singles_of m past service) past)) (sized ∙ size-told m s.rows past a st.associations number) told

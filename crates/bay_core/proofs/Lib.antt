@@ -1,5 +1,3 @@
--- changes of each attribute at most one
-pub mod DistinctChanges
 -- the blocks, and the bay, at the arrival of a point and after a deed
 pub mod PartLaws
 pub mod MoveLaws
@@ -13,7 +11,6 @@ pub mod AskLaws
 pub mod LentLaws
 -- names of data sets
 pub mod NameLaws
-pub mod RoleLaws
 pub mod AnswerLaws
 -- openings and losses
 pub mod EndLaws
@@ -21,9 +18,6 @@ pub mod MentionLaws
 pub mod WatchLaws
 pub mod FurnishLaws
 -- settings: the values, the notes of the blocks, and the entries
-pub mod SettingSteps
-pub mod MarkLaws
-pub mod ChangeLaws
 pub mod ShapeLaws
 pub mod ServedLaws
 pub mod BookLaws
@@ -33,12 +27,12 @@ pub mod SettingLaws
 -- writes
 pub mod WriteLaws
 pub mod SingleLaws
+pub mod GroupLaws
 -- reports
 pub mod TakeLaws
 pub mod TakenLaws
 pub mod SentLaws
 -- how a bay begins
-pub mod FirstValues
 pub mod FirstBook
 pub mod FirstState
 pub mod OpenLaws

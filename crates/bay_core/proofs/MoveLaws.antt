@@ -8,13 +8,15 @@ use Rattle.bay_model.specs.Points.{Deed, Point, Past, nothing, now}
 use Rattle.bay_model.specs.Values.{gives}
 use Rattle.bay_model.specs.Sets.{dynamic}
 use Rattle.bay_model.specs.Singles.{arrival}
-use Rattle.bay_model.specs.Settings.{edit_after}
 use Rattle.bay_model.specs.Waiting.{put_by}
 use Rattle.bay_model.specs.Answers.{Turn, History, points, turned}
 use Rattle.bay_model.specs.Acceptance.{fault}
 use Rattle.value_store.specs.Stored.{Stored, attribute}
 use Rattle.value_store.specs.Wholes.{Stands as ValuesStand}
 use Rattle.value_store.proofs.StandLaws as values
+use Rattle.setting_groups.specs.Grouped.{Grouped}
+use Rattle.setting_groups.specs.Standing.{IsQuiet, Stands as GroupsStand}
+use Rattle.setting_groups.proofs.StandLaws as settings
 use Rattle.assoc_table.specs.Seats.{Row}
 use Rattle.assoc_table.specs.Coming.{nothing_put, came, IsNumbered}
 use Rattle.assoc_table.proofs.StandLaws as associations
@@ -26,29 +28,28 @@ use Rattle.report_block.proofs.StandLaws.{again-stands}
 use Rattle.bay_core.specs.Standing.{StandsAt, StandsFor}
 use Rattle.bay_core.proofs.PartLaws.{IsApart, AreLeft, parts-left}
 
--- a deed that puts nothing, begins to edit no setting group, and defines and deletes no data set
+-- a deed that puts nothing, and defines and deletes no data set
 pub record IsSilent (m : Model) (n t : ℕ) (d : Deed) (past : Past) : Type 0 where
   pub number : IsNumbered d
   pub puts : (a : ℕ) → put_by m a n d past ≡ []
-  pub edits : (e : ℕ) → edit_after e d None ≡ None
   pub sets : dynamic (at n t d ∷ past) ≡ dynamic past
 
 -- the associations after a deed that puts nothing
 abbrev pub rows_after : Deed → List Row → List Row
 rows_after d rows = came d nothing_put rows
 
--- after a deed of a step that is being made, which leaves these values and blocks
-pub came-of : (s : State) (c : Config) (n t : ℕ) (d : Deed) (past : Past) (stored : List Stored) (parts : List ReportBlock) → IsSilent (configured_model c) n t d past
-    → ValuesStand stored (configured_model c) (at n t d ∷ past) → BlocksStand (configured_model c) (at n t d ∷ past) parts → StandsAt s c n (arrival n t ∷ past)
-    → StandsAt (record s { stored = stored; parts = parts; rows = rows_after d s.rows }) c n (at n t d ∷ past)
-came-of s c n t d past stored parts silent values blocks st = record {
+-- after a deed of a step that is being made, which leaves these values, blocks and setting groups
+pub came-of : (s : State) (c : Config) (n t : ℕ) (d : Deed) (past : Past) (stored : List Stored) (parts : List ReportBlock) (groups : Grouped) → IsSilent (configured_model c) n t d past
+    → ValuesStand stored (configured_model c) (at n t d ∷ past) → BlocksStand (configured_model c) (at n t d ∷ past) parts → GroupsStand groups (configured_model c) (at n t d ∷ past) → StandsAt s c n (arrival n t ∷ past)
+    → StandsAt (record s { stored = stored; parts = parts; rows = rows_after d s.rows; groups = groups }) c n (at n t d ∷ past)
+came-of s c n t d past stored parts groups silent values blocks held st = record {
   is_config = st.is_config;
   is_steps = st.is_steps;
   is_latest = st.is_latest;
   values = values;
   associations = associations.stands-deed (configured_model c) t n d past s.rows nothing_put st.associations
       (record { number = silent.number; puts = silent.puts 0; for_one = λ some. absurd (some refl); for_no_other = λ e other. silent.puts e });
-  edits = λ e. ap (edit_after e d) (st.edits e) ∙ silent.edits e;
+  groups = held;
   sets = st.sets ∙ ap (λ (all : List DataSet). (configured_model c).sets ++ all) (sym silent.sets);
   configured = st.configured;
   blocks = blocks;
@@ -62,7 +63,7 @@ counts s c n past st = record {
   is_latest = st.is_latest;
   values = st.values;
   associations = st.associations;
-  edits = st.edits;
+  groups = st.groups;
   sets = st.sets;
   configured = st.configured;
   blocks = st.blocks;
@@ -76,28 +77,32 @@ again s c n t q past same st = record {
   is_latest = omega (arith, same, st.is_latest);
   values = st.values;
   associations = associations.stands-arrival (configured_model c) t n (q ∷ past) s.rows st.associations;
-  edits = st.edits;
+  groups = settings.arrives (configured_model c) (q ∷ past) n t s.groups st.groups;
   sets = st.sets;
   configured = st.configured;
   blocks = λ b part there. again-stands (configured_model c) b t n q past part same (st.blocks b part there);
 }
 
--- after the deed of a step, which leaves these values and blocks
-pub done : (s : State) (c : Config) (n t : ℕ) (d : Deed) (past : Past) (stored : List Stored) (parts : List ReportBlock) → IsSilent (configured_model c) n t d past
-    → ValuesStand stored (configured_model c) (at n t d ∷ past) → BlocksStand (configured_model c) (at n t d ∷ past) parts → StandsAt s c n (arrival n t ∷ past)
-    → StandsAt (record s { steps = suc s.steps; stored = stored; parts = parts; rows = rows_after d s.rows }) c (suc n) (at n t d ∷ past)
-done s c n t d past stored parts silent values blocks st =
-    counts (record s { stored = stored; parts = parts; rows = rows_after d s.rows }) c n (at n t d ∷ past) (came-of s c n t d past stored parts silent values blocks st)
+-- after the deed of a step, which leaves these values, blocks and setting groups
+pub done : (s : State) (c : Config) (n t : ℕ) (d : Deed) (past : Past) (stored : List Stored) (parts : List ReportBlock) (groups : Grouped) → IsSilent (configured_model c) n t d past
+    → ValuesStand stored (configured_model c) (at n t d ∷ past) → BlocksStand (configured_model c) (at n t d ∷ past) parts → GroupsStand groups (configured_model c) (at n t d ∷ past) → StandsAt s c n (arrival n t ∷ past)
+    → StandsAt (record s { steps = suc s.steps; stored = stored; parts = parts; rows = rows_after d s.rows; groups = groups }) c (suc n) (at n t d ∷ past)
+done s c n t d past stored parts groups silent values blocks held st =
+    counts (record s { stored = stored; parts = parts; rows = rows_after d s.rows; groups = groups }) c n (at n t d ∷ past) (came-of s c n t d past stored parts groups silent values blocks held st)
 
 -- a step whose deed leaves all values, and the entries of all blocks
-pub passed : (s : State) (c : Config) (n t : ℕ) (d : Deed) (past : Past) (parts : List ReportBlock) → IsSilent (configured_model c) n t d past
-    → ((x : ℕ) → gives (configured_model c) x d past ≡ None) → IsApart (configured_model c) n t d past → AreLeft d s.parts parts → StandsAt s c n (arrival n t ∷ past)
-    → StandsAt (record s { steps = suc s.steps; parts = parts; rows = rows_after d s.rows }) c (suc n) (at n t d ∷ past)
-passed s c n t d past parts silent same apart left here =
-    done s c n t d past s.stored parts silent (values-same here.values) (parts-left (configured_model c) n t d past s.parts parts apart left here.blocks) here
+pub passed : (s : State) (c : Config) (n t : ℕ) (d : Deed) (past : Past) (parts : List ReportBlock) (groups : Grouped) → IsSilent (configured_model c) n t d past
+    → ((x : ℕ) → gives (configured_model c) x d past ≡ None) → IsApart (configured_model c) n t d past → AreLeft d s.parts parts → GroupsStand groups (configured_model c) (at n t d ∷ past) → StandsAt s c n (arrival n t ∷ past)
+    → StandsAt (record s { steps = suc s.steps; parts = parts; rows = rows_after d s.rows; groups = groups }) c (suc n) (at n t d ∷ past)
+passed s c n t d past parts groups silent same apart left held here =
+    done s c n t d past s.stored parts groups silent (values-same here.values) (parts-left (configured_model c) n t d past s.parts parts apart left here.blocks) held here
   where
     values-same : ValuesStand s.stored (configured_model c) (arrival n t ∷ past) → ValuesStand s.stored (configured_model c) (at n t d ∷ past)
     values-same stand = values.stands-deed s.stored s.stored (configured_model c) t n d past stand refl (λ x below. ap (λ o. unwrap_or o (attribute s.stored x).held.value) (sym (same x)))
+
+-- the setting groups stay as they are where the deed isn't one of theirs
+pub groups-quiet : (s : State) (c : Config) (n t : ℕ) (d : Deed) (past : Past) → IsQuiet d → StandsAt s c n (arrival n t ∷ past) → GroupsStand s.groups (configured_model c) (at n t d ∷ past)
+groups-quiet s c n t d past is here = settings.quiets (configured_model c) past n t d s.groups is (settings.arrived (configured_model c) past n t s.groups here.groups)
 
 -- all blocks stay as they are where the deed isn't one of theirs
 pub left-as-they-are : (parts : List ReportBlock) → AreLeft nothing parts parts
@@ -105,8 +110,8 @@ left-as-they-are parts = λ b q there. (q, there, refl)
 
 -- a step that nothing came of
 pub still : (s : State) (c : Config) (n t : ℕ) (past : Past) → StandsAt s c n (arrival n t ∷ past) → StandsAt (record s { steps = suc s.steps }) c (suc n) (arrival n t ∷ past)
-still s c n t past here = passed s c n t nothing past s.parts (record { number = tt; puts = λ a. refl; edits = λ k. refl; sets = refl }) (λ x. refl)
-    (record { note = λ b. refl; cuts = λ b. refl }) (left-as-they-are s.parts) here
+still s c n t past here = passed s c n t nothing past s.parts s.groups (record { number = tt; puts = λ a. refl; sets = refl }) (λ x. refl)
+    (record { note = λ b. refl; cuts = λ b. refl }) (left-as-they-are s.parts) (groups-quiet s c n t nothing past tt here) here
 
 -- an accepted step, of a state that is known by an equation
 pub accepted-as : (s t u : State) (c : Config) (h : History) (turn : Turn) → StandsFor s c h → fault (configured_model c) h turn ≡ None → t ≡ u

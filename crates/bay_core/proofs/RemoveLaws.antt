@@ -19,6 +19,7 @@ use Rattle.data_sets.specs.Standing.{IsNamed, data_set}
 use Rattle.data_sets.proofs.BookLaws.{IsPlace, at_removed, is_place, old, old_below, same_octets}
 use Rattle.brcb_state.specs.Components.{trg_of}
 use Rattle.value_store.specs.Stored.{Stored}
+use Rattle.setting_groups.specs.Grouped.{Grouped}
 use Rattle.touch_index.specs.Indexed.{block_at, pairs}
 use Rattle.touch_index.specs.Gathered.{IsSetOf}
 use Rattle.report_block.specs.declared.block.ReportBlock.{ReportBlock}
@@ -204,11 +205,12 @@ module _ (c : Config) (stored : List Stored) (book : Book) (parts : List ReportB
     changes = f.changes;
   }
 
-pub whole-deleted : (c : Config) (stored : List Stored) (book : Book) (parts new : List ReportBlock) (w : Watch) (octets : Filled ℕ) (room latest : ℕ) (dues : List (Option ℕ)) (events : EventRoom) (n : SetName) (k : ℕ)
+pub whole-deleted : (c : Config) (stored : List Stored) (groups : Grouped) (book : Book) (parts new : List ReportBlock) (w : Watch) (octets : Filled ℕ) (room latest : ℕ) (dues : List (Option ℕ)) (events : EventRoom) (n : SetName) (k : ℕ)
     → number_named n book ≡ Some k → book.configured ≤ k → is_reported parts n ≡ false → new ≡ map (renumbered k) parts
-    → IsWhole c stored book parts w octets room latest dues events → IsWhole c stored (after_delete k book) new w octets room latest dues events
-whole-deleted c stored book parts new w octets room latest dues events n k is from unused are whole = record {
+    → IsWhole c stored groups book parts w octets room latest dues events → IsWhole c stored groups (after_delete k book) new w octets room latest dues events
+whole-deleted c stored groups book parts new w octets room latest dues events n k is from unused are whole = record {
   furnished = subst (λ ps. IsFurnished c stored (after_delete k book) ps w octets room) (sym are) (furnished-deleted c stored book parts w octets room whole.furnished n k is from unused);
   quiet = quiet-map latest dues (renumbered k) (λ p. refl) parts new are whole.quiet;
+  grouped = whole.grouped;
   roomy = whole.roomy;
 }

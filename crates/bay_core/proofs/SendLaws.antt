@@ -32,17 +32,14 @@ use Rattle.assoc_table.proofs.SendLaws.{associations_send, output_field_send, va
 use Rattle.data_sets.proofs.book.SetBook.TheSendSync as book
 use Rattle.entry_ring.proofs.ring.Ring.TheSendSync as ring
 use Rattle.brcb_state.proofs.block.Block.TheSendSync as block
-use Rattle.value_store.proofs.store.Store.TheSendSync as store
+use Rattle.bay_values.proofs.values.Values.TheSendSync as values
+use Rattle.setting_groups.proofs.groups.Groups.TheSendSync as groups
 use Rattle.bay_core.specs.contracts.queues.Queues as Queues
-use Rattle.bay_core.specs.contracts.values.Values as HeldValues
 use Rattle.report_block.specs.contracts.block.ReportBlock as ReportBlock
 use Rattle.window_core.proofs.window.Window.TheSendSync as window
 use Rattle.report_block.proofs.room.Rooms.TheSendSync as rooms
 use Rattle.bay_core.proofs.dues.Dues.TheSendSync as dues
 use Rattle.bay_core.specs.contracts.bay.Bay as Bay
-
-values_send : IsSend HeldValues.the_row
-values_send = search (store.the_send, crosses, sendable) depth 60
 
 queues_send : IsSend Queues.the_row
 queues_send = search (associations_send, crosses, sendable) depth 60
@@ -51,7 +48,7 @@ part_send : IsSend ReportBlock.the_row
 part_send = search (ring.the_send, block.the_field_send, window.the_send, moment.the_send, crosses, sendable) depth 60
 
 pub bay_send : IsSend Bay.the_row
-bay_send = search (model_send, moment.the_send, values_send, book.the_send, part_send, queues_send, fixed.the_send, report.the_send, dues.the_send, rooms.the_send, crosses, sendable) depth 60 fits 20000
+bay_send = search (model_send, moment.the_send, values.the_send, groups.the_send, book.the_send, part_send, queues_send, fixed.the_send, report.the_send, dues.the_send, rooms.the_send, crosses, sendable) depth 60 fits 20000
 
 -- a step
 data_values_send : IsSend DataValues.the_row

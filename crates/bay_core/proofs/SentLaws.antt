@@ -6,6 +6,7 @@ use Rattle.bay_rooms.specs.Rooms.{Filled}
 use Rattle.object_model.specs.Nodes.{node_rows}
 use Rattle.data_sets.specs.Books.{Book}
 use Rattle.value_store.specs.Stored.{Stored}
+use Rattle.setting_groups.specs.Grouped.{Grouped}
 use Rattle.report_block.specs.declared.block.ReportBlock.{ReportBlock}
 use Rattle.report_block.specs.declared.events.EventRoom.{EventRoom}
 use Rattle.report_block.specs.Writes.{reported_by}
@@ -16,11 +17,12 @@ use Rattle.bay_core.proofs.QuietLaws.{quiet-same}
 use Rattle.bay_core.proofs.WatchLaws.{watching-same}
 
 -- it is whole as before
-pub whole-sent : (c : Config) (stored : List Stored) (book : Book) (parts : List ReportBlock) (w : Watch) (octets : Filled ℕ) (room latest : ℕ) (dues : List (Option ℕ)) (events : EventRoom) (b id : ℕ) (part : ReportBlock)
-    → slice_get parts b ≡ Some part → IsWhole c stored book parts w octets room latest dues events → IsWhole c stored book (slice_set parts b (reported_by id part)) w octets room latest dues events
-whole-sent c stored book parts w octets room latest dues events b id part there whole = record {
+pub whole-sent : (c : Config) (stored : List Stored) (groups : Grouped) (book : Book) (parts : List ReportBlock) (w : Watch) (octets : Filled ℕ) (room latest : ℕ) (dues : List (Option ℕ)) (events : EventRoom) (b id : ℕ) (part : ReportBlock)
+    → slice_get parts b ≡ Some part → IsWhole c stored groups book parts w octets room latest dues events → IsWhole c stored groups book (slice_set parts b (reported_by id part)) w octets room latest dues events
+whole-sent c stored groups book parts w octets room latest dues events b id part there whole = record {
   furnished = furnished-set c stored book parts w octets room whole.furnished b part (reported_by id part) w there (whole.furnished.sets b part there) (whole.furnished.dat_sets b part there) refl
       (watching-same (node_rows c) book (length stored) parts w b part (reported_by id part) there refl refl whole.furnished.watch);
   quiet = quiet-same latest dues parts b part (reported_by id part) there refl whole.quiet;
+  grouped = whole.grouped;
   roomy = whole.roomy;
 }

@@ -29,8 +29,12 @@ use Rattle.trigger_core.specs.Points.{AreChanges, mention, trg_of}
 use Rattle.trigger_core.proofs.NoteLaws.{note_is_noted}
 use Rattle.value_store.specs.Stored.{Stored, attribute}
 use Rattle.value_store.specs.Wholes.{Stands as ValuesStand}
+use Rattle.setting_groups.specs.Grouped.{Grouped, after_values}
+use Rattle.setting_groups.specs.Standing.{Stands as GroupsStand}
+use Rattle.setting_groups.proofs.StandLaws.{arrived}
+use Rattle.setting_groups.proofs.ValueLaws.{values as values-put}
 use Rattle.report_block.specs.declared.block.ReportBlock.{ReportBlock}
-use Rattle.bay_core.specs.Changed.{last_set, AreMade, AreFit}
+use Rattle.bay_values.specs.Changed.{last_set, AreMade, AreFit}
 use Rattle.bay_core.specs.Events.{mentions_of, after_event, after_events, IsReady, AreReady}
 use Rattle.window_core.specs.Points.{at}
 use Rattle.window_core.specs.Standing.{piece_of}
@@ -48,13 +52,14 @@ use Rattle.report_block.proofs.StandLaws.{deed-stands}
 use Rattle.report_block.specs.EntryOctets.{IsWritable}
 use Rattle.bay_config.specs.Servable.{IsServable}
 use Rattle.bay_core.specs.Standing.{StandsAt, StandsFor}
-use Rattle.bay_core.specs.State.{State, AreHeld, AreServedSets, IsFurnished}
+use Rattle.bay_core.specs.State.{State, AreServedSets, IsFurnished}
+use Rattle.bay_values.specs.Held.{AreHeld}
 use Rattle.bay_core.specs.declared.watch.Watch.{Watch}
 use Rattle.bay_core.specs.Watched.{IsIndexed, IsLent, IsWatching, AreBlank, members_in}
 use Rattle.std.proofs.lemmas.List.{length-map}
 use Rattle.bay_core.proofs.BookLaws.{part-lent, part-members}
 use Rattle.bay_core.proofs.ArriveLaws.{HaveMembers}
-use Rattle.bay_core.proofs.ChangeLaws.{Sets, IsThere, values-stand, are-changes, settings-there, typed-settings, held-after}
+use Rattle.bay_values.proofs.ChangeLaws.{Sets, IsThere, values-stand, are-changes, settings-there, typed-settings, held-after}
 use Rattle.bay_core.proofs.EventLaws.{note-kept, note-readable, all-writable}
 use Rattle.bay_core.proofs.FurnishLaws.{furnished-map}
 use Rattle.bay_core.proofs.MoveLaws.{IsSilent, rows_after, came-of, counts, accepted-as}
@@ -84,7 +89,7 @@ process-sets m n t settings past = record {
   purge = λ b. refl;
   change = λ b. refl;
   block = λ b front k. refl;
-  silent = record { number = tt; puts = λ a. refl; edits = λ e. refl; sets = refl };
+  silent = record { number = tt; puts = λ a. refl; sets = refl };
   rows = λ rs. refl;
 }
 
@@ -100,7 +105,7 @@ client-sets m n t a x v past = record {
   purge = λ b. refl;
   change = λ b. refl;
   block = λ b front k. refl;
-  silent = record { number = tt; puts = λ e. refl; edits = λ e. refl; sets = refl };
+  silent = record { number = tt; puts = λ e. refl; sets = refl };
   rows = λ rs. refl;
 }
 
@@ -157,38 +162,39 @@ module _ (rows : List NodeRow) (book : Book) where
 
 module _ (rows : List NodeRow) where
   -- what the setting makes of the state at its arrival
-  abbrev pub set_at : State → List Stored → List Change → State
-  set_at a stored changes = record a { stored = stored; parts = after_events rows a.book stored changes a.latest a.steps a.parts }
+  abbrev pub set_at : State → List Stored → Grouped → List Change → State
+  set_at a stored groups changes = record a { stored = stored; parts = after_events rows a.book stored changes a.latest a.steps a.parts; groups = groups }
 
-  pub stands-set : (a : State) (c : Config) (n t : ℕ) (d : Deed) (settings : List Setting) (past : Past) (stored : List Stored) (changes : List Change) → IsServable c → AreServedSets c a.book → AreHeld c stored
+  pub stands-set : (a : State) (c : Config) (n t : ℕ) (d : Deed) (settings : List Setting) (past : Past) (stored : List Stored) (groups : Grouped) (changes : List Change) → IsServable c → AreServedSets c a.book → AreHeld c stored
       → IsSetting (configured_model c) n t d past settings → All (IsThere a.stored) settings
       → HaveMembers rows a.book c a.parts → ((x : ℕ) → attribute stored x ≡ last_set settings x (attribute a.stored x)) → length stored ≡ length a.stored → AreMade c a.stored settings changes
-      → StandsAt a c n (arrival n t ∷ past) → StandsAt (set_at a stored changes) c n (at n t d ∷ past)
-  stands-set a c n t d settings past stored changes served booked held sets there has set count made here =
+      → GroupsStand groups (configured_model c) (at n t d ∷ past) → StandsAt a c n (arrival n t ∷ past) → StandsAt (set_at a stored groups changes) c n (at n t d ∷ past)
+  stands-set a c n t d settings past stored groups changes served booked held sets there has set count made grouped here =
       let m = configured_model c in
       let values = values-stand m n t d past a.stored stored settings sets.sets here.values set count in
       let are = are-changes c d past a.stored settings changes sets.sets here.values there made in
       let after : List ReportBlock = after_events rows a.book stored changes a.latest a.steps a.parts in
-      subst (λ rs. StandsAt (record a { stored = stored; parts = after; rows = rs }) c n (at n t d ∷ past)) (sets.rows a.rows)
-      (came-of a c n t d past stored after sets.silent values
+      subst (λ rs. StandsAt (record a { stored = stored; parts = after; rows = rs; groups = groups }) c n (at n t d ∷ past)) (sets.rows a.rows)
+      (came-of a c n t d past stored after groups sets.silent values
       (subst (BlocksStand m (at n t d ∷ past)) (ap₂ (λ (now step : ℕ). after_events rows a.book stored changes now step a.parts) (sym here.is_latest) (sym here.is_steps))
-      (parts-set rows a.book c n t d settings past a.parts stored changes served booked held sets values are has here.sets here.blocks)) here)
+      (parts-set rows a.book c n t d settings past a.parts stored changes served booked held sets values are has here.sets here.blocks)) grouped here)
 
   -- the same of a step of a history, with what is known of the configuration that the state has
   pub set-for : (s a t : State) (c : Config) (h : History) (moment actor : ℕ) (settings : List Setting) (stored : List Stored) (changes : List Change)
       → IsServable a.config → AreServedSets a.config a.book → AreHeld a.config stored → AreFit a.stored settings → HaveMembers rows a.book a.config a.parts
       → ((x : ℕ) → attribute stored x ≡ last_set settings x (attribute a.stored x)) → length stored ≡ length a.stored → AreMade a.config a.stored settings changes
-      → StandsAt a c (length h) (arrival (length h) moment ∷ points (configured_model c) h) → t ≡ record (set_at a stored changes) { steps = suc a.steps } → StandsFor s c h
+      → StandsAt a c (length h) (arrival (length h) moment ∷ points (configured_model c) h) → t ≡ record (set_at a stored (after_values settings a.groups) changes) { steps = suc a.steps } → StandsFor s c h
       → StandsFor t c (record { moment = moment; actor = actor; step = steps.Value settings } ∷ h)
   set-for s a t c h moment actor settings stored changes served booked held fit has set count made here is st =
       let same = here.is_config in
       let past : Past = points (configured_model c) h in
       let point : Past = at (length h) moment (valued settings) ∷ past in
-      accepted-as s t (record (set_at a stored changes) { steps = suc a.steps }) c h (record { moment = moment; actor = actor; step = steps.Value settings }) st refl is
-      (counts (set_at a stored changes) c (length h) point
-      (stands-set a c (length h) moment (valued settings) settings past stored changes (subst IsServable same served) (subst (λ q. AreServedSets q a.book) same booked) (subst (λ q. AreHeld q stored) same held)
+      accepted-as s t (record (set_at a stored (after_values settings a.groups) changes) { steps = suc a.steps }) c h (record { moment = moment; actor = actor; step = steps.Value settings }) st refl is
+      (counts (set_at a stored (after_values settings a.groups) changes) c (length h) point
+      (stands-set a c (length h) moment (valued settings) settings past stored (after_values settings a.groups) changes (subst IsServable same served) (subst (λ q. AreServedSets q a.book) same booked) (subst (λ q. AreHeld q stored) same held)
       (process-sets (configured_model c) (length h) moment settings past) (settings-there a.config a.stored settings fit)
-      (subst (λ q. HaveMembers rows a.book q a.parts) same has) set count (subst (λ q. AreMade q a.stored settings changes) same made) here))
+      (subst (λ q. HaveMembers rows a.book q a.parts) same has) set count (subst (λ q. AreMade q a.stored settings changes) same made)
+      (values-put (configured_model c) past (length h) moment a.groups (arrived (configured_model c) past (length h) moment a.groups here.groups) settings) here))
 
 -- ---- the parts fit the configuration afterwards
 

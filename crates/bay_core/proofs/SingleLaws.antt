@@ -1,10 +1,11 @@
 -- Single writes: what the store and the blocks answer is what the definitions have.
-use Rattle.std.proofs.Common.{◌≡◌, ◌≤◌, ◌<◌, ◌∙◌, ℕ, zero, suc, Bool, true, false, not, List, [], ◌∷◌, ◌++◌, map, take, None, Some, Result, Ok, Err, length, refl, ap, ap₂, sym, subst, arith, unwrap_or, if◌then◌else◌, inl, inr, flat_map, ◌+◌}
-use Rattle.std.specs.Prelude.{slice_get, slice_set, ◌&&◌, nat_le, ◌==◌, ◌||◌, codes}
+use Rattle.std.proofs.Common.{◌≡◌, ◌<◌, ◌∙◌, ℕ, zero, suc, Bool, true, false, not, List, [], ◌∷◌, ◌++◌, map, take, None, Some, Result, Ok, Err, length, refl, ap, ap₂, sym, subst, arith, unwrap_or, if◌then◌else◌, inl, inr, flat_map, ◌+◌}
+use Rattle.std.specs.Prelude.{slice_get, slice_set, ◌&&◌, ◌==◌, ◌||◌, codes}
 use Rattle.std.specs.Option.{option_map}
 use Rattle.std.specs.Str.{bytes_eq}
 use Rattle.std.proofs.lemmas.List.{length-set, map-append}
-use Rattle.std.proofs.lemmas.Bool.Decides.{eqb_tells, nat_tests}
+use Rattle.std.proofs.Common.{length-append}
+use Rattle.std.proofs.lemmas.Bool.Decides.{eqb_tells}
 use Rattle.std.proofs.lemmas.List.Elements.{All-nil, All-cons}
 use Rattle.list_laws.proofs.Options.{some_is}
 use Rattle.list_laws.proofs.Places.{at_own, same-number}
@@ -15,26 +16,31 @@ use Rattle.sv_base.specs.declared.numbers.NodeId.{NodeId}
 use Rattle.bay_model.specs.declared.request.Write.{Write}
 use Rattle.sv_base.specs.declared.config.Config.{Config}
 use Rattle.sv_base.specs.declared.config.AttrDef.{AttrDef}
-use Rattle.sv_base.specs.declared.config.CtlDef.{CtlDef}
 use Rattle.sv_base.specs.Same.{is_same}
 use Rattle.sv_base.specs.declared.numbers.AssocNo.{AssocNo}
 use Rattle.sv_base.specs.declared.value.Value.{Value}
 use Rattle.bay_rooms.specs.Kinds.{is_kind, is_in_range}
 use Rattle.bay_model.specs.declared.components.Comp.{Comp}
+use Rattle.bay_model.specs.declared.components.SettingComp.{SettingComp}
+use Rattle.sv_base.specs.declared.config.SgDef.{SgDef}
+use Rattle.setting_groups.specs.Opened.{IsGrouped}
+use Rattle.setting_groups.proofs.FirstLaws.{groups-there}
+use Rattle.bay_replies.specs.Plain.{HasGroups, IsPlainRole}
+use Rattle.bay_replies.proofs.NodeLaws.{each-among, node-plain}
 use Rattle.bay_model.specs.declared.flags.Change.{Change}
 use Rattle.bay_model.specs.declared.tables.NodeRow.{NodeRow}
-use Rattle.bay_model.specs.Attributes.{access_of, attributes, attr_defined, attrs_defined, attrs_generated, twins}
+use Rattle.bay_model.specs.Attributes.{access_of, attributes, attrs_defined, attrs_generated, twins}
 use Rattle.bay_model.specs.BlockWrites.{write_component}
 use Rattle.bay_model.specs.Lookups.{attr_of, node_of, no_attr}
 use Rattle.bay_model.specs.Model as model
 use Rattle.bay_model.specs.Model.{Model, Access, Attr, Role}
 use Rattle.bay_model.specs.Named.{configured_model}
-use Rattle.bay_model.specs.NamedLines.{is_setting}
+use Rattle.bay_model.specs.NamedLines.{domain_number}
 use Rattle.bay_model.specs.Outcomes.{Outcome, did, refused, deed_of, code_of}
-use Rattle.bay_model.specs.Points.{Deed, Past, put, copied}
-use Rattle.bay_model.specs.Settings.{edit, is_held_by, set_to}
+use Rattle.bay_model.specs.Points.{Deed, Past, put}
+use Rattle.bay_model.specs.Settings.{set_to}
 use Rattle.bay_model.specs.Writes.{write_node, write_role}
-use Rattle.bay_model.specs.SettingWrites.{attribute_refusals, holds_edit, write_attribute}
+use Rattle.bay_model.specs.SettingWrites.{attribute_refusals, write_attribute}
 use Rattle.bay_model.specs.Outcomes.{first_code}
 use Rattle.bay_model.specs.Singles.{Single, writes, write_of, writes_of, arrival, outcome_at, outcome_of, outcomes, after_single, after_singles}
 use Rattle.value_store.specs.declared.fault.SetFault.{SetFault}
@@ -44,8 +50,8 @@ use Rattle.value_store.specs.Opened.{is_writable}
 use Rattle.value_store.specs.Stored.{Stored, attribute, no_attribute, outcome, with_value}
 use Rattle.window_core.specs.Points.{at}
 use Rattle.bay_config.specs.Servable.{IsServable}
-use Rattle.bay_core.specs.Asked.{IsKept, IsWrite, AreWrites, is_edited, node_numbers, set_code}
-use Rattle.bay_core.specs.Changed.{given, last_set, change_from, without_change, AreMade, AreTyped, IsTyped}
+use Rattle.bay_core.specs.Asked.{IsKept, IsWrite, AreWrites, node_numbers, set_code}
+use Rattle.bay_values.specs.Changed.{given, last_set, change_from, without_change, AreMade, AreTyped, IsTyped}
 use Rattle.bay_core.specs.Put.{AreGeneral, answer_at, general_at, written_at}
 use Rattle.bay_core.specs.Written.{named_by}
 use Rattle.object_model.specs.Fits.{is_sound}
@@ -53,116 +59,76 @@ use Rattle.report_block.specs.declared.block.ReportBlock.{ReportBlock}
 use Rattle.report_block.specs.Writes.{without_effect}
 use Rattle.trigger_core.specs.Noted.{change_of}
 use Rattle.bay_core.specs.Standing.{StandsAt}
-use Rattle.bay_core.specs.State.{State, AreHeld, AreServedSets}
-use Rattle.bay_core.proofs.FirstValues.{kind-told}
-use Rattle.bay_core.proofs.MoveLaws.{again}
-use Rattle.bay_core.proofs.RoleLaws.{Each, IsRole, count-defined, roles}
+use Rattle.bay_core.specs.State.{State, AreServedSets}
+use Rattle.bay_values.specs.Held.{AreHeld}
+use Rattle.bay_values.proofs.FirstValues.{kind-told}
+use Rattle.bay_core.proofs.MoveLaws.{again, groups-quiet}
 use Rattle.bay_core.proofs.ArriveLaws.{HaveMembers}
-use Rattle.bay_core.proofs.ChangeLaws.{IsThere, held-after}
+use Rattle.bay_values.proofs.ChangeLaws.{IsThere, held-after}
 use Rattle.bay_core.proofs.WriteLaws.{component-wrote}
 use Rattle.bay_core.proofs.SettingLaws.{one_set, client-sets, set_at, stands-set}
 
--- ---- the attributes under SE are those without a line of their own
+-- ---- the attribute of a line doesn't stand under SE
 
-abbrev IsOwn : Attr → Type 0
-IsOwn a = is_edited a.access ≡ false
+abbrev IsOwn : Access → Type 0
+IsOwn model.edited = ⊥
+IsOwn _ = Unit {0}
 
-abbrev IsTwin : Attr → Type 0
-IsTwin a = is_edited a.access ≡ true
-
-own-access : (fc : List ℕ) → is_edited (access_of fc) ≡ false
+own-access : (fc : List ℕ) → IsOwn (access_of fc)
 own-access fc = by (bytes_eq fc (codes "SG")) (bytes_eq fc (codes "CF") || bytes_eq fc (codes "DC") || bytes_eq fc (codes "SP") || bytes_eq fc (codes "SV")) where
-  by : (s t : Bool) → is_edited (if s then model.active else (if t then model.writable else model.reported)) ≡ false
-  by true t = refl
-  by false true = refl
-  by false false = refl
+  by : (s t : Bool) → IsOwn (if s then model.active else (if t then model.writable else model.reported))
+  by true t = tt
+  by false true = tt
+  by false false = tt
 
-own-defined : (c : Config) (x : ℕ) (ls : List AttrDef) → Each IsOwn (attrs_defined c x ls)
-own-defined c x [] = tt
-own-defined c x (a ∷ ls) = (own-access a.fc, own-defined c (1 + x) ls)
+own-at : (c : Config) (y : ℕ) (ls : List AttrDef) (others : List Attr) (x : ℕ) → x < length ls → IsOwn (unwrap_or (slice_get (attrs_defined c y ls ++ others) x) no_attr).access
+own-at c y [] others x below = absurd (omega (arith, below))
+own-at c y (a ∷ ls) others zero below = own-access a.fc
+own-at c y (a ∷ ls) others (suc x) below = own-at c (1 + y) ls others x (omega (arith, below))
 
-twins-edited : (c : Config) (x : ℕ) (ls : List AttrDef) → Each IsTwin (twins c x ls)
-twins-edited c x [] = tt
-twins-edited c x (a ∷ ls) = by (is_setting a) (twins-edited c (1 + x) ls) where
-  by : (t : Bool) → Each IsTwin (twins c (1 + x) ls) → Each IsTwin (if t then record (attr_defined c x a) { access = model.edited } ∷ twins c (1 + x) ls else twins c (1 + x) ls)
-  by true rest = (refl, rest)
-  by false rest = rest
+own-line : (c : Config) (x : ℕ) → x < length c.attrs → IsOwn (attr_of (configured_model c) x).access
+own-line c x below = own-at c 0 c.attrs (flat_map (attrs_generated c) c.controls ++ twins c 0 c.attrs) x below
 
-in-list : {A : Type 0} (P : A → Type 0) (ys : List A) (x : ℕ) (d : A) → x < length ys → Each P ys → P (unwrap_or (slice_get ys x) d)
-in-list P [] x d below all = absurd (omega (arith, below))
-in-list P (y ∷ ys) zero d below all = all.0
-in-list P (y ∷ ys) (suc x) d below all = in-list P ys x d (omega (arith, below)) all.1
-
-in-first : {A : Type 0} (P : A → Type 0) (xs ys : List A) (x : ℕ) (d : A) → x < length xs → Each P xs → P (unwrap_or (slice_get (xs ++ ys) x) d)
-in-first P [] ys x d below all = absurd (omega (arith, below))
-in-first P (a ∷ xs) ys zero d below all = all.0
-in-first P (a ∷ xs) ys (suc x) d below all = in-first P xs ys x d (omega (arith, below)) all.1
-
-in-second : {A : Type 0} (P : A → Type 0) (xs ys : List A) (x : ℕ) (d : A) → length xs ≤ x → x < length (xs ++ ys) → Each P ys → P (unwrap_or (slice_get (xs ++ ys) x) d)
-in-second P [] ys x d from below all = in-list P ys x d below all
-in-second P (a ∷ xs) ys zero d from below all = absurd (omega (arith, from))
-in-second P (a ∷ xs) ys (suc x) d from below all = in-second P xs ys x d (omega (arith, from)) (omega (arith, below)) all
-
-module _ (c : Config) (none : c.controls ≡ []) (x : ℕ) (below : x < length (attributes c)) where
-  abbrev others : List Attr
-  others = flat_map (attrs_generated c) c.controls ++ twins c 0 c.attrs
-
-  others-twins : Each IsTwin others
-  others-twins = subst (λ (ks : List CtlDef). Each IsTwin (flat_map (attrs_generated c) ks ++ twins c 0 c.attrs)) (sym none) (twins-edited c 0 c.attrs)
-
-  pub own-line : x < length c.attrs → is_edited (attr_of (configured_model c) x).access ≡ false
-  own-line h = in-first IsOwn (attrs_defined c 0 c.attrs) others x no_attr (omega (arith, h, count-defined c 0 c.attrs)) (own-defined c 0 c.attrs)
-
-  pub no-line : length c.attrs ≤ x → is_edited (attr_of (configured_model c) x).access ≡ true
-  no-line h = in-second IsTwin (attrs_defined c 0 c.attrs) others x no_attr (omega (arith, h, count-defined c 0 c.attrs)) below others-twins
-
-  pub edited-at : (n : ℕ) → n ≡ length c.attrs → nat_le n x ≡ is_edited (attr_of (configured_model c) x).access
-  edited-at n same = by (nat_le n x) refl where
-    by : (t : Bool) → nat_le n x ≡ t → nat_le n x ≡ is_edited (attr_of (configured_model c) x).access
-    by true is = let h : length c.attrs ≤ x = grind (arith, nat_tests, is, same) in is ∙ sym (no-line h)
-    by false is = let h : x < length c.attrs = grind (arith, nat_tests, is, same) in is ∙ sym (own-line h)
+-- it is one of those that have values
+pub line-there : (c : Config) (stored : List Stored) → AreHeld c stored → (x : ℕ) → x < length c.attrs → x < length stored
+line-there c stored held x line = omega (arith, line, held.count, length-append (attrs_defined c 0 c.attrs) (flat_map (attrs_generated c) c.controls ++ twins c 0 c.attrs), lines-count 0 c.attrs)
+  where
+    lines-count : (y : ℕ) (ls : List AttrDef) → length (attrs_defined c y ls) ≡ length ls
+    lines-count y [] = refl
+    lines-count y (a ∷ ls) = ap suc (lines-count (1 + y) ls)
 
 -- ---- what comes of a client's write of an attribute
 
 -- as the store answers it
-abbrev pub comes_by : ℕ → ℕ → Value → Bool → Result (Unit {0}) SetFault → Outcome
-comes_by a x v edited (Ok u) = did (put a x v)
-comes_by a x v edited (Err fault) = refused (set_code edited fault)
+abbrev pub comes_by : ℕ → ℕ → Value → Result (Unit {0}) SetFault → Outcome
+comes_by a x v (Ok u) = did (put a x v)
+comes_by a x v (Err fault) = refused (set_code fault)
 
 abbrev stored_by : (k w r : Bool) → Changed → Result Changed SetFault
 stored_by k w r ch = if k then (if true && not w then Err faults.ReadOnly else (if r then Ok ch else Err faults.TooLong)) else Err faults.Kind
 
-writable-told : (a x : ℕ) (v : Value) (k w r : Bool) (ch : Changed) → w ≡ true → first_code ((not k, 7) ∷ (false, 2) ∷ (not r, 11) ∷ []) (put a x v) ≡ comes_by a x v false (without_change (stored_by k w r ch))
+writable-told : (a x : ℕ) (v : Value) (k w r : Bool) (ch : Changed) → w ≡ true → first_code ((not k, 7) ∷ (false, 2) ∷ (not r, 11) ∷ []) (put a x v) ≡ comes_by a x v (without_change (stored_by k w r ch))
 writable-told a x v true true true ch is = refl
 writable-told a x v true true false ch is = refl
 writable-told a x v true false r ch is = cc
 writable-told a x v false w r ch is = refl
 
-denied-told : (a x : ℕ) (v : Value) (k w r : Bool) (ch : Changed) → w ≡ false → ◌≡◌ {A = Outcome} (refused (if k then 3 else 7)) (comes_by a x v false (without_change (stored_by k w r ch)))
+denied-told : (a x : ℕ) (v : Value) (k w r : Bool) (ch : Changed) → w ≡ false → ◌≡◌ {A = Outcome} (refused (if k then 3 else 7)) (comes_by a x v (without_change (stored_by k w r ch)))
 denied-told a x v true false r ch is = refl
 denied-told a x v true true r ch is = cc
 denied-told a x v false w r ch is = refl
 
-edited-told : (a x y : ℕ) (v : Value) (k w r h : Bool) (ch : Changed) → w ≡ false → h ≡ false → first_code ((not k, 7) ∷ (not h, 2) ∷ (not r, 11) ∷ []) (copied a y v) ≡ comes_by a x v true (without_change (stored_by k w r ch))
-edited-told a x y v true false r false ch is held = refl
-edited-told a x y v true false r true ch is held = cc
-edited-told a x y v true true r h ch is held = cc
-edited-told a x y v false w r h ch is held = refl
-
-attribute-told : (m : Model) (a x : ℕ) (v : Value) (s : Stored) (access : Access) (past : Past) → (attr_of m x).kind ≡ s.held.kind → s.is_writable ≡ is_writable access → ((d : ℕ) → edit d past ≡ None)
-    → write_attribute m a x v access past ≡ comes_by a x v (is_edited access) (without_change (outcome s v true))
-attribute-told m a x v s model.writable past kind may unedited =
-    subst (λ k. first_code (attribute_refusals k v false) (put a x v) ≡ comes_by a x v false (without_change (outcome s v true))) (sym kind)
+attribute-told : (m : Model) (a x : ℕ) (v : Value) (s : Stored) (access : Access) (past : Past) → (attr_of m x).kind ≡ s.held.kind → s.is_writable ≡ is_writable access → IsOwn access
+    → write_attribute m a x v access past ≡ comes_by a x v (without_change (outcome s v true))
+attribute-told m a x v s model.writable past kind may own =
+    subst (λ k. first_code (attribute_refusals k v false) (put a x v) ≡ comes_by a x v (without_change (outcome s v true))) (sym kind)
     (writable-told a x v (is_kind s.held.kind v) s.is_writable (is_in_range s.held.kind v) (record { differs = not (is_same v s.held.value) }) may)
-attribute-told m a x v s model.edited past kind may unedited =
-    let nobody : holds_edit a (attr_of m x).domain past ≡ false = ap (is_held_by a) (unedited (attr_of m x).domain) in
-    subst (λ k. first_code (attribute_refusals k v (not (holds_edit a (attr_of m x).domain past))) (copied a (attr_of m x).original v) ≡ comes_by a x v true (without_change (outcome s v true))) (sym kind)
-    (edited-told a x (attr_of m x).original v (is_kind s.held.kind v) s.is_writable (is_in_range s.held.kind v) (holds_edit a (attr_of m x).domain past) (record { differs = not (is_same v s.held.value) }) may nobody)
-attribute-told m a x v s model.reported past kind may unedited =
-    subst (λ k. ◌≡◌ {A = Outcome} (refused (if is_kind k v then 3 else 7)) (comes_by a x v false (without_change (outcome s v true)))) (sym kind)
+attribute-told m a x v s model.edited past kind may own = absurd own
+attribute-told m a x v s model.reported past kind may own =
+    subst (λ k. ◌≡◌ {A = Outcome} (refused (if is_kind k v then 3 else 7)) (comes_by a x v (without_change (outcome s v true)))) (sym kind)
     (denied-told a x v (is_kind s.held.kind v) s.is_writable (is_in_range s.held.kind v) (record { differs = not (is_same v s.held.value) }) may)
-attribute-told m a x v s model.active past kind may unedited =
-    subst (λ k. ◌≡◌ {A = Outcome} (refused (if is_kind k v then 3 else 7)) (comes_by a x v false (without_change (outcome s v true)))) (sym kind)
+attribute-told m a x v s model.active past kind may own =
+    subst (λ k. ◌≡◌ {A = Outcome} (refused (if is_kind k v then 3 else 7)) (comes_by a x v (without_change (outcome s v true)))) (sym kind)
     (denied-told a x v (is_kind s.held.kind v) s.is_writable (is_in_range s.held.kind v) (record { differs = not (is_same v s.held.value) }) may)
 
 -- an accepted value is of the attribute's kind and within its range
@@ -193,19 +159,16 @@ abbrev pub attribute_comes : ℕ → ℕ → Value → Model → Past → Outcom
 attribute_comes a x v m past = write_attribute m a x v (attr_of m x).access past
 
 module _ (z : State) (served : IsServable z.config) (held : AreHeld z.config z.stored) (x : ℕ) (v : Value) (there : x < length z.stored) where
-  abbrev edited : Bool
-  edited = is_edited (attr_of (configured_model z.config) x).access
+  comes : x < length z.config.attrs → (a : ℕ) (c : Config) (n t : ℕ) (past : Past) → StandsAt z c n (arrival n t ∷ past)
+      → attribute_comes a x v (configured_model c) (arrival n t ∷ past) ≡ comes_by a x v (without_change (outcome (attribute z.stored x) v true))
+  comes line a c n t past here =
+      subst (λ (d : Config). attribute_comes a x v (configured_model d) (arrival n t ∷ past) ≡ comes_by a x v (without_change (outcome (attribute z.stored x) v true))) here.is_config
+      (attribute-told (configured_model z.config) a x v (attribute z.stored x) (attr_of (configured_model z.config) x).access (arrival n t ∷ past) (kind-told z.config z.stored x served held there) (held.writable x there) (own-line z.config x line))
 
-  comes : (a : ℕ) (c : Config) (n t : ℕ) (past : Past) → StandsAt z c n (arrival n t ∷ past)
-      → attribute_comes a x v (configured_model c) (arrival n t ∷ past) ≡ comes_by a x v edited (without_change (outcome (attribute z.stored x) v true))
-  comes a c n t past here =
-      subst (λ (d : Config). attribute_comes a x v (configured_model d) (arrival n t ∷ past) ≡ comes_by a x v edited (without_change (outcome (attribute z.stored x) v true))) here.is_config
-      (attribute-told (configured_model z.config) a x v (attribute z.stored x) (attr_of (configured_model z.config) x).access (arrival n t ∷ past) (kind-told z.config z.stored x served held there) (held.writable x there) here.edits)
-
-  pub attribute-refused : (fault : SetFault) (a : ℕ) → Err fault ≡ without_change (outcome (attribute z.stored x) v true) → IsWrite z z (attribute_comes a x v) (Err (set_code edited fault))
-  attribute-refused fault a is =
-      by-outcome z z (attribute_comes a x v) (λ m past. refused (set_code edited fault)) (Err (set_code edited fault))
-      (λ c n t past here. comes a c n t past here ∙ ap (comes_by a x v edited) (sym is)) (refused-write z (set_code edited fault))
+  pub attribute-refused : x < length z.config.attrs → (fault : SetFault) (a : ℕ) → Err fault ≡ without_change (outcome (attribute z.stored x) v true) → IsWrite z z (attribute_comes a x v) (Err (set_code fault))
+  attribute-refused line fault a is =
+      by-outcome z z (attribute_comes a x v) (λ m past. refused (set_code fault)) (Err (set_code fault))
+      (λ c n t past here. comes line a c n t past here ∙ ap (comes_by a x v) (sym is)) (refused-write z (set_code fault))
 
   -- what becomes of the values is what one setting makes of them
   pub one-set-values : (y : ℕ) → attribute (slice_set z.stored x (with_value v (attribute z.stored x))) y ≡ last_set (one_set x v) y (attribute z.stored y)
@@ -233,19 +196,19 @@ module _ (z : State) (served : IsServable z.config) (held : AreHeld z.config z.s
   one-held stored is sound ok = subst (AreHeld z.config) (sym is)
       (held-after z.config z.stored (slice_set z.stored x (with_value v (attribute z.stored x))) (one_set x v) held (one-typed sound ok) one-set-values (length-set z.stored x (with_value v (attribute z.stored x))))
 
-  pub attribute-set : (u : State) (rows : List NodeRow) (stored : List Stored) (changes : List Change) (a : ℕ) → AreServedSets z.config z.book → HaveMembers rows z.book z.config z.parts → is_sound v ≡ true
+  pub attribute-set : x < length z.config.attrs → (u : State) (rows : List NodeRow) (stored : List Stored) (changes : List Change) (a : ℕ) → AreServedSets z.config z.book → HaveMembers rows z.book z.config z.parts → is_sound v ≡ true
       → Ok tt ≡ without_change (outcome (attribute z.stored x) v true) → stored ≡ slice_set z.stored x (with_value v (attribute z.stored x)) → changes ≡ change_from z.config z.stored x v ∷ []
-      → u ≡ set_at rows z stored changes → IsWrite z u (attribute_comes a x v) (Ok tt)
-  attribute-set u rows stored changes a booked has sound ok values are is = by-outcome z u (attribute_comes a x v) (λ m past. did (put a x v)) (Ok tt)
-      (λ c n t past here. comes a c n t past here ∙ ap (comes_by a x v edited) (sym ok)) (λ c n t past here. (
+      → u ≡ set_at rows z stored z.groups changes → IsWrite z u (attribute_comes a x v) (Ok tt)
+  attribute-set line u rows stored changes a booked has sound ok values are is = by-outcome z u (attribute_comes a x v) (λ m past. did (put a x v)) (Ok tt)
+      (λ c n t past here. comes line a c n t past here ∙ ap (comes_by a x v) (sym ok)) (λ c n t past here. (
         refl,
         let same = here.is_config in
             let set = subst (λ l. (y : ℕ) → attribute l y ≡ last_set (one_set x v) y (attribute z.stored y)) (sym values) one-set-values in
             let count = ap (λ (l : List Stored). length l) values ∙ length-set z.stored x (with_value v (attribute z.stored x)) in
             let made = subst (AreMade z.config z.stored (one_set x v)) (sym are) one-made in
-            let stands = stands-set rows z c n t (put a x v) (one_set x v) past stored changes (subst IsServable same served) (subst (λ q. AreServedSets q z.book) same booked) (subst (λ q. AreHeld q stored) same (one-held stored values sound ok))
+            let stands = stands-set rows z c n t (put a x v) (one_set x v) past stored z.groups changes (subst IsServable same served) (subst (λ q. AreServedSets q z.book) same booked) (subst (λ q. AreHeld q stored) same (one-held stored values sound ok))
             (client-sets (configured_model c) n t a x v past) (All-cons (IsThere z.stored) (record { attr = record { 0 = x }; value = v }) [] there (All-nil (IsThere z.stored)))
-            (subst (λ q. HaveMembers rows z.book q z.parts) same has) set count (subst (λ q. AreMade q z.stored (one_set x v) changes) same made) here in
+            (subst (λ q. HaveMembers rows z.book q z.parts) same has) set count (subst (λ q. AreMade q z.stored (one_set x v) changes) same made) (groups-quiet z c n t (put a x v) past tt here) here in
             again u c n t (at n t (put a x v)) past (omega arith) (subst (λ w. StandsAt w c n (at n t (put a x v) ∷ past)) (sym is) stands),
       ))
 
@@ -292,17 +255,18 @@ one-write-more z y u a ss s codes_ code before own = λ c n t past here.
 
 -- ---- what stands at a node
 
-pub role-told : (c : Config) (n : ℕ) (w : What) → c.controls ≡ [] → c.groups ≡ [] → role_seen w ≡ (node_of (configured_model c) n).role → IsRole (length (attributes c)) (length c.blocks) (role_seen w)
-role-told c n w none empty is = subst (IsRole (length (attributes c)) (length c.blocks)) (sym is) (roles c n none empty)
+pub role-told : (c : Config) (n : ℕ) (w : What) → c.controls ≡ [] → IsGrouped c → role_seen w ≡ (node_of (configured_model c) n).role → IsPlainRole (length (attributes c)) (length c.blocks) (HasGroups c) (role_seen w)
+role-told c n w none grouped is = subst (IsPlainRole (length (attributes c)) (length c.blocks) (HasGroups c)) (sym is)
+    (node-plain c none (HasGroups c) (each-among (λ (g : SgDef). HasGroups c (domain_number c g.domain)) c.groups (groups-there c grouped)) n).role
 
-pub no-other : (attrs blocks : ℕ) (w : What) → IsRole attrs blocks (role_seen w) → ((x : ℕ) → w ≡ whats.Attribute x → ⊥) → ((b : ℕ) (comp : Comp) → w ≡ whats.Component b comp → ⊥) → (w ≡ whats.Structure → ⊥) → ⊥
-no-other attrs blocks (whats.Attribute x) is one two three = one x refl
-no-other attrs blocks (whats.Component b comp) is one two three = two b comp refl
-no-other attrs blocks whats.Structure is one two three = three refl
-no-other attrs blocks (whats.Setting d part) is one two three = absurd is
-no-other attrs blocks whats.Withheld is one two three = absurd is
-no-other attrs blocks (whats.Selecting k) is one two three = absurd is
-no-other attrs blocks (whats.Calling k call) is one two three = absurd is
+pub no-other : (attrs blocks : ℕ) (G : ℕ → Type 0) (w : What) → IsPlainRole attrs blocks G (role_seen w) → ((x : ℕ) → w ≡ whats.Attribute x → ⊥) → ((b : ℕ) (comp : Comp) → w ≡ whats.Component b comp → ⊥) → ((d : ℕ) (part : SettingComp) → w ≡ whats.Setting d part → ⊥) → (w ≡ whats.Structure → ⊥) → ⊥
+no-other attrs blocks G (whats.Attribute x) is one two three four = one x refl
+no-other attrs blocks G (whats.Component b comp) is one two three four = two b comp refl
+no-other attrs blocks G whats.Structure is one two three four = four refl
+no-other attrs blocks G (whats.Setting d part) is one two three four = three d part refl
+no-other attrs blocks G whats.Withheld is one two three four = absurd is
+no-other attrs blocks G (whats.Selecting k) is one two three four = absurd is
+no-other attrs blocks G (whats.Calling k call) is one two three four = absurd is
 
 -- ---- one member more
 

@@ -43,7 +43,7 @@ use Rattle.report_block.specs.Reporting.{report_by}
 use Rattle.bay_config.specs.Servable.{IsServable}
 use Rattle.bay_core.specs.Standing.{StandsAt, StandsFor}
 use Rattle.bay_core.specs.State.{State, AreServedSets}
-use Rattle.bay_core.proofs.MoveLaws.{passed, still, came-of, counts, accepted-as}
+use Rattle.bay_core.proofs.MoveLaws.{groups-quiet, passed, still, came-of, counts, accepted-as}
 use Rattle.bay_core.proofs.PartLaws.{AreLeft, parts-left}
 use Rattle.bay_core.proofs.ServedLaws.{served-now}
 use Rattle.bay_core.proofs.ShapeLaws.{served_members}
@@ -52,8 +52,8 @@ use Rattle.bay_core.proofs.TakeLaws.{none, given, closed}
 -- after the report of an entry of block b
 pub reported-at : (s : State) (c : Config) (n t a b id : ℕ) (part : ReportBlock) (past : Past) → slice_get s.parts b ≡ Some part → StandsAt s c n (arrival n t ∷ past)
     → StandsAt (record s { steps = suc s.steps; parts = slice_set s.parts b (reported_by id part) }) c (suc n) (at n t (reported a b id) ∷ past)
-reported-at s c n t a b id part past there st = passed s c n t (reported a b id) past (slice_set s.parts b (reported_by id part))
-    (record { number = tt; puts = λ k. refl; edits = λ k. refl; sets = refl }) (λ x. refl) (record { note = λ k. refl; cuts = λ k. refl }) left st
+reported-at s c n t a b id part past there st = passed s c n t (reported a b id) past (slice_set s.parts b (reported_by id part)) s.groups
+    (record { number = tt; puts = λ k. refl; sets = refl }) (λ x. refl) (record { note = λ k. refl; cuts = λ k. refl }) left (groups-quiet s c n t (reported a b id) past tt st) st
   where
     left : AreLeft (reported a b id) s.parts (slice_set s.parts b (reported_by id part))
     left = λ k q got. elim (got-set s.parts b k (reported_by id part) q got) [
@@ -145,8 +145,8 @@ module _ (s at new : State) (c : Config) (h : History) (t : ℕ) (actor : ActorN
 -- a Take of what waits: the reply that waits longest is given, and taken from the rows
 took-at : (z : State) (c : Config) (n t a : ℕ) (past : Past) → IsNumber a → StandsAt z c n (arrival n t ∷ past) → StandsAt (record z { rows = taken_row z.rows a }) c n (at n t (took a) ∷ past)
 took-at z c n t a past number st =
-    came-of z c n t (took a) past z.stored z.parts (record { number = number; puts = λ k. refl; edits = λ e. refl; sets = refl }) st.values
-    (parts-left (configured_model c) n t (took a) past z.parts z.parts (record { note = λ b. refl; cuts = λ b. refl }) (λ b q there. (q, there, refl)) st.blocks) st
+    came-of z c n t (took a) past z.stored z.parts z.groups (record { number = number; puts = λ k. refl; sets = refl }) st.values
+    (parts-left (configured_model c) n t (took a) past z.parts z.parts (record { note = λ b. refl; cuts = λ b. refl }) (λ b q there. (q, there, refl)) st.blocks) (groups-quiet z c n t (took a) past tt st) st
 
 first-given : (m : Model) (a n t : ℕ) (past : Past) (e : model.Ends) (output : Output) (rest : List queue.Waiting) → ends a past ≡ Some e → queue.waiting m a past ≡ queue.reply output ∷ rest
     → taken m a (arrival n t ∷ past) ≡ record { answer = answers.Taken output; deed = took a }

@@ -37,7 +37,7 @@ use Rattle.value_store.proofs.WholeLaws.{attrs_of_form}
 use Rattle.report_block.specs.Again.{IsOneElement}
 use Rattle.report_block.specs.EntryOctets.{IsWritable}
 use Rattle.bay_config.specs.Servable.{IsServable, IsMember, attr_type}
-use Rattle.bay_core.specs.State.{AreHeld}
+use Rattle.bay_values.specs.Held.{AreHeld}
 use Rattle.report_block.proofs.OneElement.{member_is_one}
 use Rattle.bay_core.proofs.ShapeLaws.{IsShapeOf}
 

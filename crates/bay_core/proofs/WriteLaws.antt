@@ -48,7 +48,7 @@ use Rattle.bay_core.specs.Written.{named_by}
 use Rattle.bay_core.proofs.BookLaws.{known-booked}
 use Rattle.bay_core.proofs.ShapeLaws.{sets_in}
 use Rattle.bay_core.proofs.WatchLaws.{KeepsSet}
-use Rattle.bay_core.proofs.MoveLaws.{came-of, counts, accepted-as}
+use Rattle.bay_core.proofs.MoveLaws.{came-of, counts, accepted-as, groups-quiet}
 
 -- the effect of an accepted write
 effect-told : (ts : List (Bool × ℕ)) (effect e : Effect) → first_of ts effect ≡ Ok e → e ≡ effect
@@ -154,8 +154,8 @@ module _ (z : State) (c : Config) (n t b : ℕ) (a : AssocNo) (comp : Comp) (v :
   wrote-at : (e : Effect) → write_answer a comp v named part ≡ Ok e → StandsAt (behind z b (after_writing a comp v named z.latest z.steps all part (Ok e))) c n (at n t (deed b a comp v) ∷ past)
   wrote-at e is =
       let set = parts-wrote (configured_model c) n t b a comp v named past z.parts part all e there are here.blocks is in
-      came-of z c n t (deed b a comp v) past z.stored _ (record { number = tt; puts = λ k. refl; edits = λ k. refl; sets = refl }) here.values
-      (subst (BlocksStand (configured_model c) (at n t (deed b a comp v) ∷ past)) (ap₂ (λ (now step : ℕ). slice_set z.parts b (after_writing a comp v named now step all part (Ok e))) (sym here.is_latest) (sym here.is_steps)) set) here
+      came-of z c n t (deed b a comp v) past z.stored _ z.groups (record { number = tt; puts = λ k. refl; sets = refl }) here.values
+      (subst (BlocksStand (configured_model c) (at n t (deed b a comp v) ∷ past)) (ap₂ (λ (now step : ℕ). slice_set z.parts b (after_writing a comp v named now step all part (Ok e))) (sym here.is_latest) (sym here.is_steps)) set) (groups-quiet z c n t (deed b a comp v) past tt here) here
 
   refused-at : StandsAt (behind z b part) c n (arrival n t ∷ past)
   refused-at = subst (λ ps. StandsAt (record z { parts = ps }) c n (arrival n t ∷ past)) (sym (unchanged z.parts b part there)) here

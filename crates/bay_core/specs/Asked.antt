@@ -1,6 +1,6 @@
 -- What a request makes of a bay: its reply, and the bay behind its single reads and writes, at the arrival of the reply's point
 -- (ISO 9506-2, the confirmed services).
-use Rattle.std.specs.Prelude.{◌≡◌, ℕ, List, [], ◌∷◌, ◌<◌, length, Bool, true, false, Option, Result, map, if◌then◌else◌}
+use Rattle.std.specs.Prelude.{◌≡◌, ℕ, List, [], ◌∷◌, ◌<◌, length, true, Option, Result, map}
 use Rattle.sv_base.specs.declared.config.Config.{Config}
 use Rattle.bay_model.specs.declared.answer.Output.{Output}
 use Rattle.bay_model.specs.declared.reply.Reply.{Reply}
@@ -15,8 +15,7 @@ use Rattle.std.specs.declared.alloc.Global.{Global}
 use Rattle.sv_base.specs.declared.numbers.NodeId.{NodeId}
 use Rattle.sv_base.specs.declared.value.Value.{Value}
 use Rattle.object_model.specs.Fits.{is_sound}
-use Rattle.bay_model.specs.Model as model
-use Rattle.bay_model.specs.Model.{Model, Access}
+use Rattle.bay_model.specs.Model.{Model}
 use Rattle.bay_model.specs.Named.{configured_model, nodes as nodes_of}
 use Rattle.bay_model.specs.Outcomes.{Outcome, code_of, deed_of}
 use Rattle.bay_model.specs.Points.{Past, answered}
@@ -70,16 +69,11 @@ abbrev pub AreWrites : State → State → ℕ → List Single → List (Result 
 AreWrites old new a ss codes = (c : Config) (n t : ℕ) (past : Past) → StandsAt old c n (arrival n t ∷ past)
     → (codes ≡ map code_of (outcomes (configured_model c) a n t ss past)) × StandsAt new c n (arrival n t ∷ after_singles (configured_model c) a n t ss past)
 
--- the attribute stands under SE
-abbrev pub is_edited : Access → Bool
-is_edited model.edited = true
-is_edited _ = false
-
--- the code of a refused write of an attribute; under SE nobody holds the edit
-abbrev pub set_code : Bool → SetFault → ℕ
-set_code edited faults.Kind = 7
-set_code edited faults.ReadOnly = if edited then 2 else 3
-set_code edited faults.TooLong = 11
+-- the code of a refused write of an attribute that doesn't stand under SE
+abbrev pub set_code : SetFault → ℕ
+set_code faults.Kind = 7
+set_code faults.ReadOnly = 3
+set_code faults.TooLong = 11
 
 -- the target and the value of a write that fits the configuration
 abbrev pub IsFit : Config → Target → Value → Type 0

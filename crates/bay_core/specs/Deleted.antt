@@ -14,7 +14,7 @@ use Rattle.data_sets.specs.Turns.{is_going, is_there}
 use Rattle.bay_config.specs.Servable.{IsServedSet}
 use Rattle.report_block.specs.declared.block.ReportBlock.{ReportBlock}
 use Rattle.report_block.specs.Writes.{renumbered}
-use Rattle.bay_core.specs.Marked.{one_if}
+use Rattle.bay_values.specs.Marked.{one_if}
 use Rattle.bay_core.specs.State.{State}
 
 -- a set that may come into the book: it can be served, and has a name that is nobody's

@@ -9,8 +9,6 @@ pub mod Whole
 -- how it begins
 pub mod Opened
 -- what the process sets, and the entries that blocks get of it
-pub mod Changed
-pub mod Marked
 pub mod Events
 pub mod Watched
 -- what a write makes of the data set that a block reports

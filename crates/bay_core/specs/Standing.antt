@@ -1,15 +1,15 @@
 -- What a bay stands for: a history of accepted steps, by one equation for each part.
-use Rattle.std.specs.Prelude.{◌≡◌, ℕ, map, length, None}
+use Rattle.std.specs.Prelude.{◌≡◌, ℕ, map, length}
 use Rattle.sv_base.specs.declared.config.Config.{Config}
 use Rattle.bay_model.specs.Named.{configured_model}
 use Rattle.bay_model.specs.Points.{Past, now}
 use Rattle.bay_model.specs.Sets.{sets}
-use Rattle.bay_model.specs.Settings.{edit}
 use Rattle.bay_model.specs.Answers.{History, points}
 use Rattle.bay_model.specs.Acceptance.{IsHistory}
 use Rattle.value_store.specs.Wholes.{Stands as ValuesStand}
 use Rattle.data_sets.specs.Standing.{data_set}
 use Rattle.assoc_table.specs.Standing.{Stands as AssociationsStand}
+use Rattle.setting_groups.specs.Standing.{Stands as GroupsStand}
 use Rattle.report_block.specs.Standing.{BlocksStand}
 use Rattle.bay_core.specs.State.{State}
 
@@ -20,7 +20,7 @@ pub record StandsAt (s : State) (c : Config) (count : ℕ) (past : Past) : Type 
   pub is_latest : s.latest ≡ now past
   pub values : ValuesStand s.stored (configured_model c) past
   pub associations : AssociationsStand s.rows (configured_model c) past
-  pub edits : (d : ℕ) → edit d past ≡ None
+  pub groups : GroupsStand s.groups (configured_model c) past
   -- the configured data sets and those that clients defined
   pub sets : map data_set s.book.sets ≡ sets (configured_model c) past
   pub configured : s.book.configured ≡ length (configured_model c).sets

@@ -1,18 +1,21 @@
--- What is so of a bay between steps: its parts fit its configuration, there is room for events, and each block has nothing due before
--- the moment that the bay knows of it.
+-- What is so of a bay between steps: its parts and its setting groups fit its configuration, there is room for events, and each block
+-- has nothing due before the moment that the bay knows of it.
 use Rattle.std.specs.Prelude.{ℕ, List, Option}
 use Rattle.sv_base.specs.declared.config.Config.{Config}
 use Rattle.bay_rooms.specs.Rooms.{Filled}
 use Rattle.data_sets.specs.Books.{Book}
 use Rattle.value_store.specs.Stored.{Stored}
+use Rattle.setting_groups.specs.Grouped.{Grouped}
 use Rattle.report_block.specs.declared.block.ReportBlock.{ReportBlock}
 use Rattle.report_block.specs.declared.events.EventRoom.{EventRoom}
 use Rattle.report_block.specs.Events.{HasRoom}
 use Rattle.bay_core.specs.declared.watch.Watch.{Watch}
 use Rattle.bay_core.specs.State.{IsFurnished}
+use Rattle.bay_values.specs.Held.{AreGrouped}
 use Rattle.bay_core.specs.Timed.{AreQuietUntil}
 
-pub record IsWhole (c : Config) (stored : List Stored) (book : Book) (parts : List ReportBlock) (w : Watch) (octets : Filled ℕ) (room : ℕ) (latest : ℕ) (dues : List (Option ℕ)) (events : EventRoom) : Type 0 where
+pub record IsWhole (c : Config) (stored : List Stored) (groups : Grouped) (book : Book) (parts : List ReportBlock) (w : Watch) (octets : Filled ℕ) (room : ℕ) (latest : ℕ) (dues : List (Option ℕ)) (events : EventRoom) : Type 0 where
   pub furnished : IsFurnished c stored book parts w octets room
+  pub grouped : AreGrouped c groups
   pub quiet : AreQuietUntil latest dues parts
   pub roomy : HasRoom 256 events

@@ -48,6 +48,7 @@ impl Bay {
         let replies = Replies {
             model: &self.model,
             store: self.values.store(),
+            groups: &self.groups,
             blocks: &self.parts,
             book: &self.sets,
             was: self.latest,

@@ -25,6 +25,7 @@ impl Bay {
     ghost use Rattle.std.specs.Prelude.{◌≡◌, ◌<◌, ◌^◌, None};
     ghost use Rattle.bay_model.specs.declared.step.Step.TheVariants as steps;
     ghost use Rattle.assoc_table.specs.Tables.{IsNumber, ended, row_of, started};
+    ghost use Rattle.setting_groups.specs.Grouped.{after_loss};
     ghost use Rattle.bay_core.specs.Parting.{after_loss_all};
     ghost use Rattle.bay_core.specs.Turns.{Does, IsCounted, KeepsLean};
 
@@ -37,13 +38,14 @@ impl Bay {
         self.associations.start(a, ends);
     }
 
-    /// An association ends, and with it what it has enabled.
+    /// An association ends, and with it what it has enabled and what it edits.
     fn end(&mut self, a: AssocNo)
         requires { IsNumber a.0 }
-        ensures { self.new ≡ record self.old { rows = ended self.old.rows a.0; parts = after_loss_all a self.old.parts } }
+        ensures { self.new ≡ record self.old { rows = ended self.old.rows a.0; parts = after_loss_all a self.old.parts; groups = after_loss a.0 self.old.groups } }
     {
         self.associations.end(a);
         lose_all(&mut self.parts, a);
+        self.groups.lost(a);
     }
 
     /// Time passes.

@@ -2,12 +2,13 @@
 
 use crate::dues::Dues;
 use crate::queues::Queues;
-use crate::values::Values;
 use crate::watch::Watch;
 use bay_model::{Answer, Change, Fixed, Output, Report};
+use bay_values::Values;
 use data_sets::SetBook;
 use object_model::Model;
 use report_block::{EventRoom, ReportBlock, Rooms};
+use setting_groups::Groups;
 use sv_base::{AssocNo, Moment};
 
 /// A bay: its configuration and all that its steps came to. Contracts see the state that `specs/` defines.
@@ -17,6 +18,8 @@ pub struct Bay {
     pub(crate) steps: u64,
     pub(crate) latest: Moment,
     pub(crate) values: Values,
+    /// What the setting groups hold; the values of SG attributes are those of the active ones.
+    pub(crate) groups: Groups,
     /// The data sets that are there: a report block holds the number of its own.
     pub(crate) sets: SetBook,
     pub(crate) parts: Vec<ReportBlock>,
@@ -47,9 +50,9 @@ impl std::marker::Model for Bay {
 
     ghost coded = { Prim.hlevel (codes, row_code, fields_code) };
 
-    ghost view = { λ b. record { config = b.model; steps = b.steps; latest = b.latest; stored = b.values; book = b.sets; parts = b.parts.items; rows = b.associations } };
+    ghost view = { λ b. record { config = b.model; steps = b.steps; latest = b.latest; stored = b.values; book = b.sets; parts = b.parts.items; rows = b.associations; groups = b.groups } };
 
-    ghost invariant = { λ b. IsWhole b.model b.values b.sets b.parts.items b.watch b.octets (vec_capacity b.changes) b.latest b.dues b.events };
+    ghost invariant = { λ b. IsWhole b.model b.values b.groups b.sets b.parts.items b.watch b.octets (vec_capacity b.changes) b.latest b.dues b.events };
 }
 
 impl Bay {

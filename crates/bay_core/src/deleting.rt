@@ -4,7 +4,7 @@ ghost use Rattle.std.specs.Prelude.{◌≡◌, map};
 ghost use Rattle.data_sets.specs.Turns.{is_going, is_there};
 ghost use Rattle.report_block.specs.Writes.{renumbered};
 ghost use Rattle.bay_core.specs.Deleted.{is_reported as is_reported_by};
-ghost use Rattle.bay_core.specs.Marked.{one_if};
+ghost use Rattle.bay_values.specs.Marked.{one_if};
 
 use crate::bay::Bay;
 use bay_model::{Reply, SetName, SetNames};

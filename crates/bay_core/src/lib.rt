@@ -8,7 +8,6 @@ mod opening;
 mod queues;
 mod set_names;
 mod source;
-mod values;
 mod watch;
 
 // its steps, and why one is refused
@@ -19,6 +18,7 @@ mod deleting;
 mod fault;
 mod laws;
 mod setting;
+mod settings;
 mod singles;
 mod step;
 mod taking;

@@ -6,6 +6,8 @@ ghost use Rattle.object_model.specs.Tables.{set_rows};
 ghost use Rattle.data_sets.specs.Books.{opened as booked};
 ghost use Rattle.assoc_table.specs.Seats.{closed};
 ghost use Rattle.value_store.specs.Opened.{opened};
+ghost use Rattle.bay_model.specs.NamedLines.{domains as domains_of};
+ghost use Rattle.setting_groups.specs.Opened.{opened as grouped};
 ghost use Rattle.report_block.specs.Events.{HasRoom};
 ghost use Rattle.bay_config.specs.Servable.{IsServable, IsServedBlock};
 ghost use Rattle.bay_core.specs.Standing.{StandsFor};
@@ -16,12 +18,13 @@ use crate::bay::Bay;
 use crate::dues::Dues;
 use crate::queues::Queues;
 use crate::taking::MOST_MEMBERS;
-use crate::values::Values;
 use crate::watch::Watch;
 use bay_model::{Change, Fixed};
+use bay_values::Values;
 use data_sets::SetBook;
-use object_model::Model;
+use object_model::{Model, domains};
 use report_block::{EventRoom, ReportBlock};
+use setting_groups::Groups;
 use std::alloc::{AllocError, Global};
 use sv_base::{BlockDef, Moment};
 
@@ -73,21 +76,33 @@ fn rooms_made(alloc: Global, blocks: usize, attrs: u32) -> Result<Rooms, AllocEr
     })
 }
 
+/// The setting groups of all domains, as they are configured.
+fn groups_of(alloc: Global, model: &Model) -> Result<Groups, AllocError>
+    requires { IsServable model.now }
+    ensures { IfOk result (λ g. g ≡ grouped model.now (domains_of model.now)) }
+{
+    let config = model.config();
+    let domains = domains(alloc, config.nodes.as_slice())?;
+    Groups::open(alloc, config, domains.as_slice())
+}
+
 /// What a bay has besides its model.
 #[derive(Drop)]
 struct Made {
     values: Values,
+    groups: Groups,
     sets: SetBook,
     parts: Vec<ReportBlock>,
     watch: Watch,
     rooms: Rooms,
 }
 
-/// The values, the data sets and the blocks as they are configured, no open association, and the room that notes, entries and
+/// The values, the setting groups, the data sets and the blocks as they are configured, no open association, and the room that notes, entries and
 /// changes need.
 fn parts_made(alloc: Global, model: &Model) -> Result<Made, AllocError>
     requires { IsServable model.now }
     ensures values { IfOk result (λ m. m.values ≡ opened model.now) }
+    ensures groups { IfOk result (λ m. m.groups ≡ grouped model.now (domains_of model.now)) }
     ensures sets { IfOk result (λ m. m.sets ≡ booked (set_rows model.now)) }
     ensures parts { IfOk result (λ m. map seen m.parts.items ≡ map (part_defined (booked (set_rows model.now))) model.now.blocks) }
     ensures watch { IfOk result (λ m. IsWatching (node_rows model.now) m.sets (length m.values) m.parts.items m.watch) }
@@ -101,12 +116,14 @@ fn parts_made(alloc: Global, model: &Model) -> Result<Made, AllocError>
     let Ok(attrs) = u32::try_from(values.store().len()) else {
         return Err(AllocError);
     };
+    let groups = groups_of(alloc, model)?;
     let sets = SetBook::open(alloc, model.sets())?;
     let parts = parts_of(alloc, model, &sets)?;
     let watch = Watch::open(alloc, attrs, &parts, &sets, model.nodes().as_slice())?;
     let rooms = rooms_made(alloc, parts.len(), attrs)?;
     Ok(Made {
         values,
+        groups,
         sets,
         parts,
         watch,
@@ -118,6 +135,7 @@ fn parts_made(alloc: Global, model: &Model) -> Result<Made, AllocError>
 fn begun(model: Model, made: Made) -> Bay
     requires servable { IsServable model }
     requires values { made.values ≡ opened model }
+    requires groups { made.groups ≡ grouped model (domains_of model) }
     requires sets { made.sets ≡ booked (set_rows model) }
     requires parts { map seen made.parts.items ≡ map (part_defined (booked (set_rows model))) model.blocks }
     requires dues { made.rooms.dues ≡ replicate (length made.parts.items) (Some 0) }
@@ -142,6 +160,7 @@ fn begun(model: Model, made: Made) -> Bay
         steps: 0,
         latest: Moment::first(),
         values: made.values,
+        groups: made.groups,
         sets: made.sets,
         parts: made.parts,
         dues,

@@ -121,6 +121,7 @@ impl Bay {
         self.changes.clear();
         self.values
             .set(&self.model, sets.as_slice(), &mut self.changes);
+        self.groups.set_all(sets.as_slice());
         let source = Source {
             store: self.values.store(),
             book: &self.sets,

@@ -1,36 +1,24 @@
 //! The single writes of a request, each judged after those before it (ISO 9506-2, Write; IEC 61850-7-2, SetDataValues and
 //! SetBRCBValues).
 
-ghost use Rattle.std.specs.Prelude.{◌≡◌, ◌≤◌, ◌<◌, ◌++◌, ◌∷◌, [], length, vec_len, vec_capacity};
-ghost use Rattle.bay_model.specs.Attributes.{attributes};
-ghost use Rattle.bay_model.specs.Lookups.{attr_of};
-ghost use Rattle.bay_model.specs.Named.{configured_model};
-ghost use Rattle.bay_core.specs.Asked.{is_edited as is_edited_by, set_code};
+ghost use Rattle.std.specs.Prelude.{◌≡◌, ◌≤◌, ◌<◌, ◌++◌, ◌∷◌, [], vec_len, vec_capacity};
+ghost use Rattle.bay_core.specs.Asked.{set_code};
 
 use crate::bay::Bay;
 use crate::setting::event_all;
 use crate::source::Source;
 use bay_model::{Target, Write};
-use object_model::{Model, What};
+use object_model::What;
 use sv_base::{AssocNo, AttrId, BlockNo, NodeId, Value};
 use value_store::SetFault;
 
-/// An attribute of a configuration without controls stands under SE: it is one of those that have no line of their own.
-fn is_edited(model: &Model, attr: AttrId) -> bool
-    requires there { attr.0 < length (attributes model.now) }
-    requires controls { model.now.controls ≡ [] }
-    ensures { result ≡ is_edited_by (attr_of (configured_model model.now) attr.0).access }
-{
-    model.config().attrs.as_slice().len() <= attr.0 as usize
-}
-
-/// The code of a refused write of an attribute (ISO 9506-2, DataAccessError); one under SE isn't edited by anybody.
-fn refusal(fault: SetFault, edited: bool) -> u8
-    ensures { result ≡ set_code edited fault }
+/// The code of a refused write of an attribute that doesn't stand under SE (ISO 9506-2, DataAccessError).
+fn refusal(fault: SetFault) -> u8
+    ensures { result ≡ set_code fault }
 {
     match fault {
         SetFault::Kind => 7,
-        SetFault::ReadOnly => { if edited { 2 } else { 3 } }
+        SetFault::ReadOnly => 3,
         SetFault::TooLong => 11,
     }
 }
@@ -53,9 +41,10 @@ impl Bay {
     ghost use Rattle.object_model.specs.Fits.{is_sound};
     ghost use Rattle.bay_core.specs.Asked.{AreFit, AreMembersFit, AreWrites, IsFit, IsKept, IsWrite, node_numbers};
 
-    /// A client writes an attribute, at the moment that time has come to, and each block takes in its event. It takes no memory.
-    fn write_attribute(&mut self, attr: AttrId, value: &Value) -> Result<(), u8>
-        requires there { attr.0 < length self.old.stored }
+    /// A client writes an attribute of a line, at the moment that time has come to, and each block takes in its event. It takes no
+    /// memory.
+    fn write_line(&mut self, attr: AttrId, value: &Value) -> Result<(), u8>
+        requires there { attr.0 < length self.old.config.attrs }
         requires sound { is_sound value.now ≡ true }
         ensures kept { IsKept self.old self.new }
         ensures written { (a : ℕ) → IsWrite self.old self.new (λ m past. write_attribute m a attr.0 value.now (attr_of m attr.0).access past) result }
@@ -65,7 +54,7 @@ impl Bay {
             .values
             .write(&self.model, attr, value, &mut self.changes)
         {
-            return Err(refusal(fault, is_edited(&self.model, attr)));
+            return Err(refusal(fault));
         }
         let source = Source {
             store: self.values.store(),
@@ -86,6 +75,23 @@ impl Bay {
         Ok(())
     }
 
+    /// An association writes an attribute, at the moment that time has come to: one of a line, or an edit copy, which stand behind
+    /// these. It takes no memory.
+    fn write_attribute(&mut self, a: AssocNo, attr: AttrId, value: &Value) -> Result<(), u8>
+        requires there { attr.0 < length self.old.stored }
+        requires sound { is_sound value.now ≡ true }
+        ensures kept { IsKept self.old self.new }
+        ensures written { IsWrite self.old self.new (λ m past. write_attribute m a.0 attr.0 value.now (attr_of m attr.0).access past) result }
+    {
+        let number = attr.0 as usize;
+        let lines = self.model.config().attrs.len();
+        if number < lines {
+            self.write_line(attr, value)
+        } else {
+            self.write_copy(a, number - lines, value)
+        }
+    }
+
     /// An association writes a node, at the moment that time has come to. It takes no memory.
     fn write_node(&mut self, a: AssocNo, node: NodeId, value: &Value) -> Result<(), u8>
         requires there { node.0 < length (nodes_of self.old.config) }
@@ -94,10 +100,11 @@ impl Bay {
         ensures written { IsWrite self.old self.new (λ m past. write_node m a.0 node.0 value.now past) result }
     {
         match self.model.role_of(node) {
-            What::Attribute(attr) => self.write_attribute(AttrId(attr), value),
+            What::Attribute(attr) => self.write_attribute(a, AttrId(attr), value),
             What::Component(b, comp) => self.write_at_arrival(a, BlockNo(b), comp, value),
+            What::Setting(domain, part) => self.write_part(a, domain, part, value),
             What::Structure => Err(3),
-            // there is no control and no setting group
+            // there is no control
             _ => unreachable!(),
         }
     }

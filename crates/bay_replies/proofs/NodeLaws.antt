@@ -1,5 +1,5 @@
--- The nodes of a configuration without controls and setting groups are plain.
-use Rattle.std.proofs.Common.{◌≡◌, ◌≤◌, ◌<◌, ℕ, zero, suc, ◌+◌, Bool, true, false, cond, not, ◌&&◌, List, [], ◌∷◌, ◌++◌, length, map, filter, flat_map, refl, sym, subst, ap, ◌∙◌, arith, length-append}
+-- The nodes of a configuration without controls are plain.
+use Rattle.std.proofs.Common.{◌≡◌, ◌≤◌, ◌<◌, inl, inr, ℕ, zero, suc, ◌+◌, Bool, true, false, cond, not, ◌&&◌, List, [], ◌∷◌, ◌++◌, length, map, filter, flat_map, refl, sym, subst, ap, ◌∙◌, arith, length-append}
 use Rattle.std.specs.Prelude.{if◌then◌else◌, codes, nat_le, Some, unwrap_or, slice_get}
 use Rattle.std.specs.Option.{option_map}
 use Rattle.std.specs.List.{find}
@@ -11,20 +11,25 @@ use Rattle.sv_base.specs.declared.config.BlockDef.{BlockDef}
 use Rattle.sv_base.specs.declared.config.CtlDef.{CtlDef}
 use Rattle.sv_base.specs.declared.config.SgDef.{SgDef}
 use Rattle.bay_model.specs.declared.components.Comp.{Comp}
+use Rattle.bay_model.specs.declared.components.SettingComp.{SettingComp}
 use Rattle.bay_model.specs.Attributes.{attributes, attr_defined, attrs_defined, attrs_generated, twins}
 use Rattle.bay_rooms.specs.Kinds.{type_of}
-use Rattle.bay_model.specs.ComponentTable.{components, comp_name, comp_kind}
-use Rattle.bay_model.specs.Generated.{Named, parameters}
+use Rattle.bay_model.specs.ComponentTable.{components, comp_name, comp_kind, setting_components}
+use Rattle.bay_model.specs.Generated.{Named, parameters, setting_named}
 use Rattle.bay_model.specs.Lookups.{node_of}
 use Rattle.bay_model.specs.Model.{attribute, component, structure, Trees, none, more, Role, single, selecting, calling, several, Node, edited}
 use Rattle.bay_model.specs.Named.{configured_model, nodes, places_in}
 use Rattle.bay_model.specs.NamedLines.{Line, is_setting, path_item, attribute_lines, node_line, block_lines, control_lines, group_line, domains, domain_number, generated, lines, insert_line, in_order, names_in}
 use Rattle.bay_model.specs.NameTree.{Forest, nothing, named, rest_of, first_name, is_itself, below, first_names, role_of, own_type, side_by_side, grown, longest, tree_of}
 use Rattle.bay_model.specs.Places.{Place, places, node_at, trees, tree_with}
-use Rattle.list_laws.proofs.Among.{Each, each-both}
+use Rattle.list_laws.proofs.Among.{Among, Each, each-both}
 use Rattle.bay_replies.specs.Plain.{IsPlainTree, ArePlainTrees, IsPlainRole, IsPlainNode}
 
 -- ---- lists
+
+pub each-among : {X : Type 0} (P : X → Type 0) (xs : List X) → ((x : X) → Among x xs → P x) → Each P xs
+each-among P [] h = tt
+each-among P (x ∷ xs) h = (h x (inl refl), each-among P xs (λ y i. h y (inr i)))
 
 each-filter : {X : Type 0} (P : X → Type 0) (p : X → Bool) (xs : List X) → Each P xs → Each P (filter p xs)
 each-filter P p [] h = tt
@@ -38,9 +43,9 @@ each-spread : {X Y : Type 0} (P : Y → Type 0) (f : X → List Y) (xs : List X)
 each-spread P f [] h = tt
 each-spread P f (x ∷ xs) h = each-both P (f x) (flat_map f xs) h.0 (each-spread P f xs h.1)
 
-module _ (attrs blocks : ℕ) where
+module _ (attrs blocks : ℕ) (G : ℕ → Type 0) where
   abbrev IsRole : Role → Type 0
-  IsRole r = IsPlainRole attrs blocks r
+  IsRole r = IsPlainRole attrs blocks G r
 
   abbrev IsName : Named → Type 0
   IsName n = IsRole n.role
@@ -54,7 +59,7 @@ module _ (attrs blocks : ℕ) where
   AreRoles nothing = Unit {0}
   AreRoles (named n r k parts others) = IsRole r × AreRoles parts × AreRoles others
 
-  tree-plain : (r : Role) (ts : Trees) → IsRole r → ArePlainTrees attrs blocks ts → IsPlainTree attrs blocks (tree_with r ts)
+  tree-plain : (r : Role) (ts : Trees) → IsRole r → ArePlainTrees attrs blocks G ts → IsPlainTree attrs blocks G (tree_with r ts)
   tree-plain (single l) none is all = is
   tree-plain (single l) (more t ts) is all = all
   tree-plain (selecting k) ts is all = absurd is
@@ -62,12 +67,12 @@ module _ (attrs blocks : ℕ) where
   tree-plain several none is all = all
   tree-plain several (more t ts) is all = all
 
-  trees-plain : (f : Forest) → AreRoles f → ArePlainTrees attrs blocks (trees f)
+  trees-plain : (f : Forest) → AreRoles f → ArePlainTrees attrs blocks G (trees f)
   trees-plain nothing h = tt
   trees-plain (named n r k parts others) h = (tree-plain r (trees parts) h.0 (trees-plain parts h.1), trees-plain others h.2)
 
   abbrev IsPlace : Place → Type 0
-  IsPlace p = IsRole p.role × IsPlainTree attrs blocks p.tree
+  IsPlace p = IsRole p.role × IsPlainTree attrs blocks G p.tree
 
   places-plain : (before : List ℕ) (f : Forest) → AreRoles f → Each IsPlace (places before f)
   places-plain before nothing h = tt
@@ -125,6 +130,14 @@ module _ (attrs blocks : ℕ) where
   block-lines b [] h = tt
   block-lines b (d ∷ rest) h = (component-names b (path_item d.ln (codes "BR") d.name) components (omega (arith, h)), block-lines (b + 1) rest (omega (arith, h)))
 
+  settings-names : (d : ℕ) (ks : List SettingComp) → G d → Each IsName (map (setting_named d) ks)
+  settings-names d [] h = tt
+  settings-names d (k ∷ ks) h = (h, settings-names d ks h)
+
+  groups-lines : (c : Config) (gs : List SgDef) → Each (λ (g : SgDef). G (domain_number c g.domain)) gs → Each IsLine (map (λ (g : SgDef). group_line (domain_number c g.domain) g) gs)
+  groups-lines c [] h = tt
+  groups-lines c (g ∷ gs) h = (settings-names (domain_number c g.domain) setting_components h.0, groups-lines c gs h.1)
+
   insert-plain : (l : Line) (ls : List Line) → IsLine l → Each IsLine ls → Each IsLine (insert_line l ls)
   insert-plain l [] is all = (is, tt)
   insert-plain l (m ∷ ms) is all = by (nat_le l.line m.line) (insert-plain l ms is all.1)
@@ -152,7 +165,7 @@ count-twins c x (a ∷ rest) = by (is_setting a) (count-twins c (1 + x) rest)
     by true go = ap suc go
     by false go = go
 
-module _ (c : Config) (controls : c.controls ≡ []) (groups : c.groups ≡ []) where
+module _ (c : Config) (controls : c.controls ≡ []) (G : ℕ → Type 0) (groups : Each (λ (g : SgDef). G (domain_number c g.domain)) c.groups) where
   abbrev pub counted : ℕ
   counted = length (attributes c)
 
@@ -160,28 +173,28 @@ module _ (c : Config) (controls : c.controls ≡ []) (groups : c.groups ≡ []) 
   count-attributes = length-append (attrs_defined c 0 c.attrs) (flat_map (attrs_generated c) c.controls ++ twins c 0 c.attrs)
       ∙ omega (arith, count-lines c 0 c.attrs, length-append (flat_map (attrs_generated c) c.controls) (twins c 0 c.attrs), ap (λ ks. length (flat_map (attrs_generated c) ks)) controls, count-twins c 0 c.attrs)
 
-  lines-plain : Each (IsLine (length (attributes c)) (length c.blocks)) (lines c)
+  lines-plain : Each (IsLine (length (attributes c)) (length c.blocks) G) (lines c)
   lines-plain =
-      let P : Line → Type 0 = IsLine (length (attributes c)) (length c.blocks) in
+      let P : Line → Type 0 = IsLine (length (attributes c)) (length c.blocks) G in
       let twin : ℕ = length c.attrs + length (generated c) in
       let ks : List Line = control_lines 0 (length c.attrs) c.controls in
       let gs : List Line = map (λ (g : SgDef). group_line (domain_number c g.domain) g) c.groups in
       let none : length (generated c) ≡ 0 = ap (λ ks. length (flat_map parameters ks)) controls in
-      each-both P (map node_line c.nodes) (attribute_lines 0 twin c.attrs ++ (block_lines 0 c.blocks ++ (ks ++ gs))) (node-lines (length (attributes c)) (length c.blocks) c.nodes)
-      (each-both P (attribute_lines 0 twin c.attrs) (block_lines 0 c.blocks ++ (ks ++ gs)) (attribute-lines (length (attributes c)) (length c.blocks) 0 twin c.attrs (omega (arith, count-attributes)) (omega (arith, count-attributes, none)))
-      (each-both P (block_lines 0 c.blocks) (ks ++ gs) (block-lines (length (attributes c)) (length c.blocks) 0 c.blocks (omega arith))
+      each-both P (map node_line c.nodes) (attribute_lines 0 twin c.attrs ++ (block_lines 0 c.blocks ++ (ks ++ gs))) (node-lines (length (attributes c)) (length c.blocks) G c.nodes)
+      (each-both P (attribute_lines 0 twin c.attrs) (block_lines 0 c.blocks ++ (ks ++ gs)) (attribute-lines (length (attributes c)) (length c.blocks) G 0 twin c.attrs (omega (arith, count-attributes)) (omega (arith, count-attributes, none)))
+      (each-both P (block_lines 0 c.blocks) (ks ++ gs) (block-lines (length (attributes c)) (length c.blocks) G 0 c.blocks (omega arith))
       (each-both P ks gs (subst (λ (xs : List CtlDef). Each P (control_lines 0 (length c.attrs) xs)) (sym controls) tt)
-      (subst (λ (xs : List SgDef). Each P (map (λ (g : SgDef). group_line (domain_number c g.domain) g) xs)) (sym groups) tt))))
+      (groups-lines (length (attributes c)) (length c.blocks) G c c.groups groups))))
 
-  names-plain : (domain : List ℕ) → Each (IsName (length (attributes c)) (length c.blocks)) (names_in c domain)
+  names-plain : (domain : List ℕ) → Each (IsName (length (attributes c)) (length c.blocks) G) (names_in c domain)
   names-plain domain =
-      each-spread (IsName (length (attributes c)) (length c.blocks)) (λ (l : Line). l.names) (filter (λ (l : Line). bytes_eq l.domain domain) (in_order (lines c)))
-      (each-filter (IsLine (length (attributes c)) (length c.blocks)) (λ (l : Line). bytes_eq l.domain domain) (in_order (lines c)) (order-plain (length (attributes c)) (length c.blocks) (lines c) lines-plain))
+      each-spread (IsName (length (attributes c)) (length c.blocks) G) (λ (l : Line). l.names) (filter (λ (l : Line). bytes_eq l.domain domain) (in_order (lines c)))
+      (each-filter (IsLine (length (attributes c)) (length c.blocks) G) (λ (l : Line). bytes_eq l.domain domain) (in_order (lines c)) (order-plain (length (attributes c)) (length c.blocks) G (lines c) lines-plain))
 
   abbrev IsNode : Node → Type 0
-  IsNode n = IsPlainNode (length (attributes c)) (length c.blocks) n
+  IsNode n = IsPlainNode (length (attributes c)) (length c.blocks) G n
 
-  nodes-of : (domain : List ℕ) (ps : List Place) → Each (IsPlace (length (attributes c)) (length c.blocks)) ps → Each IsNode (map (node_at domain) ps)
+  nodes-of : (domain : List ℕ) (ps : List Place) → Each (IsPlace (length (attributes c)) (length c.blocks) G) ps → Each IsNode (map (node_at domain) ps)
   nodes-of domain [] h = tt
   nodes-of domain (p ∷ ps) h = (record { role = h.0.0; tree = h.0.1 }, nodes-of domain ps h.1)
 
@@ -191,7 +204,7 @@ module _ (c : Config) (controls : c.controls ≡ []) (groups : c.groups ≡ []) 
       in-domains : (ds : List (List ℕ)) → Each (λ domain. Each IsNode (map (node_at domain) (places_in c domain))) ds
       in-domains [] = tt
       in-domains (d ∷ ds) = (
-        nodes-of d (places_in c d) (places-plain (length (attributes c)) (length c.blocks) [] (tree_of (names_in c d)) (grown-plain (length (attributes c)) (length c.blocks) (suc (longest (names_in c d))) (names_in c d) (names-plain d))),
+        nodes-of d (places_in c d) (places-plain (length (attributes c)) (length c.blocks) G [] (tree_of (names_in c d)) (grown-plain (length (attributes c)) (length c.blocks) G (suc (longest (names_in c d))) (names_in c d) (names-plain d))),
         in-domains ds,
       )
 

@@ -1,11 +1,13 @@
 -- Nothing comes of the single reads of a configuration without controls, whatever they read.
 use Rattle.std.proofs.Common.{◌≡◌, ℕ, zero, suc, List, [], ◌∷◌, length, map, refl, ap, ap₂, ◌∙◌}
 use Rattle.sv_base.specs.declared.config.Config.{Config}
+use Rattle.sv_base.specs.declared.config.SgDef.{SgDef}
 use Rattle.bay_model.specs.declared.request.Service.{Service}
 use Rattle.bay_model.specs.Attributes.{attributes}
 use Rattle.bay_model.specs.Lookups.{node_of}
 use Rattle.bay_model.specs.Model.{Model, Role, single, selecting, calling, several, Tree}
 use Rattle.bay_model.specs.Named.{configured_model}
+use Rattle.bay_model.specs.NamedLines.{domain_number}
 use Rattle.bay_model.specs.Outcomes.{deed_of}
 use Rattle.bay_model.specs.Points.{Deed, nothing, Past}
 use Rattle.bay_model.specs.Reads.{read_tree, read_role}
@@ -14,22 +16,26 @@ use Rattle.bay_model.specs.Singles.{Single, reads, writes, fails, outcome_at, af
 use Rattle.bay_replies.specs.Asking.{IsReading}
 use Rattle.bay_replies.specs.Plain.{IsPlainRole}
 use Rattle.bay_replies.specs.Points.{arrivals}
-use Rattle.bay_replies.proofs.NodeLaws.{node-plain}
+use Rattle.bay_replies.proofs.NodeLaws.{each-among, node-plain}
 use Rattle.bay_replies.proofs.PointLaws.{ReadsOnly, nothing-read, rest-only}
 use Rattle.bay_replies.proofs.ReplyLaws.{reading-only}
 
-module _ (c : Config) (controls : c.controls ≡ []) (groups : c.groups ≡ []) (a n m : ℕ) where
+-- whatever domain
+abbrev IsAny : ℕ → Type 0
+IsAny d = Unit {0}
+
+module _ (c : Config) (controls : c.controls ≡ []) (a n m : ℕ) where
   abbrev cm : Model
   cm = configured_model c
 
-  role-quiet : (role : Role) (tree : Tree) (past : Past) → IsPlainRole (length (attributes c)) (length c.blocks) role → deed_of (read_role cm a role tree past) ≡ nothing
+  role-quiet : (role : Role) (tree : Tree) (past : Past) → IsPlainRole (length (attributes c)) (length c.blocks) IsAny role → deed_of (read_role cm a role tree past) ≡ nothing
   role-quiet (single l) tree past h = nothing-read (read_tree cm past tree)
   role-quiet (selecting k) tree past h = absurd h
   role-quiet (calling k call) tree past h = absurd h
   role-quiet several tree past h = nothing-read (read_tree cm past tree)
 
   single-quiet : (s : Single) (ss : List Single) (past : Past) → ReadsOnly (s ∷ ss) → deed_of (outcome_at cm a n m s past) ≡ nothing
-  single-quiet (reads x) ss past h = role-quiet (node_of cm x).role (node_of cm x).tree _ (node-plain c controls groups x).role
+  single-quiet (reads x) ss past h = role-quiet (node_of cm x).role (node_of cm x).tree _ (node-plain c controls IsAny (each-among (λ (g : SgDef). IsAny (domain_number c g.domain)) c.groups (λ g i. tt)) x).role
   single-quiet (writes x v) ss past h = absurd h
   single-quiet (fails code) ss past h = refl
 
@@ -48,10 +54,10 @@ module _ (c : Config) (controls : c.controls ≡ []) (groups : c.groups ≡ []) 
   all-arrivals [] past h = refl
   all-arrivals (s ∷ ss) past h = ap (after_singles cm a n m ss) (after-quiet s ss past h) ∙ (all-arrivals ss (arrivals n m (suc zero) past) (rest-only s ss h) ∙ arrivals-more (length ss) past)
 
-pub reads-come-to-nothing : (c : Config) (a n m : ℕ) (past : Past) (s : Service) → c.controls ≡ [] → c.groups ≡ [] → IsReading s
+pub reads-come-to-nothing : (c : Config) (a n m : ℕ) (past : Past) (s : Service) → c.controls ≡ [] → IsReading s
     → map deed_of (outcomes (configured_model c) a n m (singles_of (configured_model c) past s) past) ≡ map (λ o. nothing) (singles_of (configured_model c) past s)
-reads-come-to-nothing c a n m past s controls groups reading = all-quiet c controls groups a n m (singles_of (configured_model c) past s) past (reading-only (configured_model c) past s reading)
+reads-come-to-nothing c a n m past s controls reading = all-quiet c controls a n m (singles_of (configured_model c) past s) past (reading-only (configured_model c) past s reading)
 
-pub points-are-arrivals : (c : Config) (a n m : ℕ) (past : Past) (s : Service) → c.controls ≡ [] → c.groups ≡ [] → IsReading s
+pub points-are-arrivals : (c : Config) (a n m : ℕ) (past : Past) (s : Service) → c.controls ≡ [] → IsReading s
     → after_singles (configured_model c) a n m (singles_of (configured_model c) past s) past ≡ arrivals n m (length (singles_of (configured_model c) past s)) past
-points-are-arrivals c a n m past s controls groups reading = all-arrivals c controls groups a n m (singles_of (configured_model c) past s) past (reading-only (configured_model c) past s reading)
+points-are-arrivals c a n m past s controls reading = all-arrivals c controls a n m (singles_of (configured_model c) past s) past (reading-only (configured_model c) past s reading)

@@ -131,7 +131,7 @@ module _ (r : Replies) (c : Model) (past : Past) (n : SetName) (stand : SetsStan
 
 -- ---- the replies
 
-module _ (r : Replies) (served : IsServed r.model.now r.store.now r.blocks.now r.book.now) (a n m : ℕ) (past : Past) (stand : StandAt r.model.now r.store.now r.blocks.now r.book.now r.was past) (later : r.now ≡ max m r.was) (moment : r.was ≤ 4294967295999) (size : ℕ) where
+module _ (r : Replies) (served : IsServed r.model.now r.store.now r.groups.now r.blocks.now r.book.now) (a n m : ℕ) (past : Past) (stand : StandAt r.model.now r.store.now r.groups.now r.blocks.now r.book.now r.was past) (later : r.now ≡ max m r.was) (moment : r.was ≤ 4294967295999) (size : ℕ) where
   abbrev cm : Model
   cm = configured_model r.model.now
 

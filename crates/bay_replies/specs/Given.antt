@@ -1,36 +1,47 @@
 -- What the leaves of nodes and whole nodes read as, by what is lent of a bay.
-use Rattle.std.specs.Prelude.{ℕ, ◌&&◌, nat_lt, List, length, Option, None, Some, Result, Ok, Err, slice_get, if◌then◌else◌}
+use Rattle.std.specs.Prelude.{ℕ, ◌-◌, nat_le, nat_lt, List, length, Option, None, Some, Result, Ok, Err, slice_get, if◌then◌else◌}
 use Rattle.sv_base.specs.declared.config.Config.{Config}
 use Rattle.sv_base.specs.declared.value.Value.{Value}
 use Rattle.bay_model.specs.declared.components.Comp.{Comp}
 use Rattle.bay_model.specs.declared.request.Target.{Target}
 use Rattle.bay_model.specs.declared.request.Target.TheVariants as targets
 use Rattle.bay_model.specs.Lookups.{node_of}
-use Rattle.bay_model.specs.Model.{Leaf, attribute, component}
+use Rattle.bay_model.specs.Model.{Leaf, attribute, component, setting, withheld}
 use Rattle.bay_model.specs.Named.{configured_model}
 use Rattle.node_reads.specs.Reading.{read_by, leaf_read}
+use Rattle.bay_rooms.specs.Slots.{Held}
+use Rattle.setting_groups.specs.Grouped.{Grouped, copy_in, domain_at}
+use Rattle.setting_groups.specs.Parts.{part_read}
 use Rattle.value_store.specs.Stored as store
 use Rattle.value_store.specs.Stored.{Stored}
 use Rattle.report_block.specs.declared.block.ReportBlock.{ReportBlock}
 use Rattle.report_block.specs.Reading.{reading}
 use Rattle.bay_replies.specs.declared.replies.Replies.{Replies}
 
--- the attribute of a line has its value; the edit copies stand behind these, and nobody holds them
-abbrev pub attribute_read : Config → List Stored → ℕ → Result Value ℕ
-attribute_read c stored x = if nat_lt x (length c.attrs) && nat_lt x (length stored) then Ok (store.attribute stored x).held.value else Err 2
+-- what the edit copy holds, while somebody holds the edit
+abbrev pub copy_read : Option Held → Result Value ℕ
+copy_read None = Err 2
+copy_read (Some h) = Ok h.value
+
+-- the attribute of a line has its value; the edit copies stand behind these
+abbrev pub attribute_read : Config → List Stored → Grouped → ℕ → Result Value ℕ
+attribute_read c stored groups x =
+    if nat_le (length c.attrs) x then copy_read (copy_in groups (x - length c.attrs))
+    else if nat_lt x (length stored) then Ok (store.attribute stored x).held.value else Err 2
 
 abbrev pub component_read : (was now : ℕ) → Comp → Option ReportBlock → Result Value ℕ
 component_read was now comp None = Err 3
 component_read was now comp (Some part) = Ok (reading was now comp part)
 
-abbrev pub leaf_by : Config → List Stored → List ReportBlock → (was now : ℕ) → Leaf → Result Value ℕ
-leaf_by c stored parts was now (attribute x) = attribute_read c stored x
-leaf_by c stored parts was now (component b comp) = component_read was now comp (slice_get parts b)
-leaf_by c stored parts was now _ = Err 3
+abbrev pub leaf_by : Config → List Stored → Grouped → List ReportBlock → (was now : ℕ) → Leaf → Result Value ℕ
+leaf_by c stored groups parts was now (attribute x) = attribute_read c stored groups x
+leaf_by c stored groups parts was now (component b comp) = component_read was now comp (slice_get parts b)
+leaf_by c stored groups parts was now (setting d part) = Ok (part_read (domain_at groups d) part)
+leaf_by c stored groups parts was now withheld = Err 3
 
 -- of what is lent
 abbrev pub given_by : Replies → Leaf → Result Value ℕ
-given_by r l = leaf_by r.model.now r.store.now r.blocks.now r.was r.now l
+given_by r l = leaf_by r.model.now r.store.now r.groups.now r.blocks.now r.was r.now l
 
 abbrev pub node_read : Replies → ℕ → Result Value ℕ
 node_read r n = read_by (leaf_read (given_by r)) (node_of (configured_model r.model.now) n).tree

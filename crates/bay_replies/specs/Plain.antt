@@ -1,28 +1,36 @@
--- What stands at the nodes of a configuration without controls and setting groups: attributes and components of report blocks that
--- are there.
+-- What stands at the nodes of a configuration without controls: attributes and components of report blocks that are there, and those of
+-- the setting group blocks of some domains.
 use Rattle.std.specs.Prelude.{◌<◌, ℕ}
-use Rattle.bay_model.specs.Model.{Leaf, attribute, component, Tree, leaf, structure, Trees, none, more, Role, single, several, Node}
+use Rattle.sv_base.specs.declared.config.Config.{Config}
+use Rattle.bay_model.specs.Lookups.{groups_of}
+use Rattle.bay_model.specs.Model.{Leaf, attribute, component, setting, withheld, Tree, leaf, structure, Trees, none, more, Role, single, several, Node}
+use Rattle.bay_model.specs.Named.{configured_model}
 
--- one of so many attributes, or of the components of so many blocks
-abbrev pub IsPlainLeaf : (attrs blocks : ℕ) → Leaf → Type 0
-IsPlainLeaf attrs blocks (attribute x) = x < attrs
-IsPlainLeaf attrs blocks (component b k) = b < blocks
-IsPlainLeaf attrs blocks _ = ⊥
+-- the domain has groups
+abbrev pub HasGroups : Config → ℕ → Type 0
+HasGroups c d = 0 < (groups_of (configured_model c) d).count
+
+-- one of so many attributes, of the components of so many blocks, or of the setting group block of such a domain
+abbrev pub IsPlainLeaf : (attrs blocks : ℕ) → (ℕ → Type 0) → Leaf → Type 0
+IsPlainLeaf attrs blocks G (attribute x) = x < attrs
+IsPlainLeaf attrs blocks G (component b k) = b < blocks
+IsPlainLeaf attrs blocks G (setting d k) = G d
+IsPlainLeaf attrs blocks G withheld = ⊥
 
 abbrev mutual
-  pub IsPlainTree : (attrs blocks : ℕ) → Tree → Type 0
-  IsPlainTree attrs blocks (leaf l) = IsPlainLeaf attrs blocks l
-  IsPlainTree attrs blocks (structure ts) = ArePlainTrees attrs blocks ts
+  pub IsPlainTree : (attrs blocks : ℕ) → (ℕ → Type 0) → Tree → Type 0
+  IsPlainTree attrs blocks G (leaf l) = IsPlainLeaf attrs blocks G l
+  IsPlainTree attrs blocks G (structure ts) = ArePlainTrees attrs blocks G ts
 
-  pub ArePlainTrees : (attrs blocks : ℕ) → Trees → Type 0
-  ArePlainTrees attrs blocks none = Unit {0}
-  ArePlainTrees attrs blocks (more t ts) = IsPlainTree attrs blocks t × ArePlainTrees attrs blocks ts
+  pub ArePlainTrees : (attrs blocks : ℕ) → (ℕ → Type 0) → Trees → Type 0
+  ArePlainTrees attrs blocks G none = Unit {0}
+  ArePlainTrees attrs blocks G (more t ts) = IsPlainTree attrs blocks G t × ArePlainTrees attrs blocks G ts
 
-abbrev pub IsPlainRole : (attrs blocks : ℕ) → Role → Type 0
-IsPlainRole attrs blocks (single l) = IsPlainLeaf attrs blocks l
-IsPlainRole attrs blocks several = Unit {0}
-IsPlainRole attrs blocks _ = ⊥
+abbrev pub IsPlainRole : (attrs blocks : ℕ) → (ℕ → Type 0) → Role → Type 0
+IsPlainRole attrs blocks G (single l) = IsPlainLeaf attrs blocks G l
+IsPlainRole attrs blocks G several = Unit {0}
+IsPlainRole attrs blocks G _ = ⊥
 
-pub record IsPlainNode (attrs blocks : ℕ) (n : Node) : Type 0 where
-  pub role : IsPlainRole attrs blocks n.role
-  pub tree : IsPlainTree attrs blocks n.tree
+pub record IsPlainNode (attrs blocks : ℕ) (G : ℕ → Type 0) (n : Node) : Type 0 where
+  pub role : IsPlainRole attrs blocks G n.role
+  pub tree : IsPlainTree attrs blocks G n.tree

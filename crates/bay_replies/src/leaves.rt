@@ -1,4 +1,5 @@
-//! What attributes and components of report blocks read as (IEC 61850-7-2, GetDataValues and GetBRCBValues).
+//! What attributes and components of report blocks and of setting group blocks read as (IEC 61850-7-2, GetDataValues, GetEditSGValue,
+//! GetBRCBValues and GetSGCBValues).
 
 ghost use Rattle.std.specs.Prelude.{◌≡◌, IfOk, option_copied};
 ghost use Rattle.bay_replies.specs.Given.{component_read};
@@ -30,14 +31,29 @@ fn component_of(
 
 impl<'a> Replies<'a> {
     ghost use Rattle.std.specs.Prelude.{◌≡◌, IfOk, slice_get};
-    ghost use Rattle.bay_replies.specs.Given.{attribute_read, component_read};
+    ghost use Rattle.bay_replies.specs.Given.{attribute_read, component_read, copy_read};
+    ghost use Rattle.setting_groups.specs.Grouped.{copy_in};
 
-    /// An attribute. The edit copies of settings stand behind those of the configuration's lines, and nobody holds them.
+    /// The edit copy of the SG attribute at a place among these, where somebody holds the edit.
+    fn copy_of(&self, alloc: Global, place: usize) -> Result<Result<Value, u8>, AllocError>
+        ensures { IfOk result (λ r. r ≡ copy_read (copy_in self.entry.now.groups.now place)) }
+    {
+        match self.groups.copy_at(place) {
+            Some(slot) => Ok(Ok(owned(alloc, slot.get())?)),
+            None => Ok(Err(2)),
+        }
+    }
+
+    /// An attribute. The edit copies of settings stand behind those of the configuration's lines.
     fn attribute(&self, alloc: Global, attr: AttrId) -> Result<Result<Value, u8>, AllocError>
-        ensures { IfOk result (λ r. r ≡ attribute_read self.entry.now.model.now self.entry.now.store.now attr.0) }
+        ensures { IfOk result (λ r. r ≡ attribute_read self.entry.now.model.now self.entry.now.store.now self.entry.now.groups.now attr.0) }
     {
         let number = attr.0 as usize;
-        if number < self.model.config().attrs.len() && number < self.store.len() {
+        let lines = self.model.config().attrs.len();
+        if number >= lines {
+            return self.copy_of(alloc, number - lines);
+        }
+        if number < self.store.len() {
             Ok(Ok(owned(alloc, self.store.get(attr))?))
         } else {
             Ok(Err(2))
@@ -72,7 +88,8 @@ impl<'a> LeafValues for Replies<'a> {
         match leaf {
             Leaf::Attribute(attr) => self.attribute(alloc, attr),
             Leaf::Component(block, comp) => self.component(alloc, block, comp),
-            Leaf::Setting(..) | Leaf::Withheld => Ok(Err(3)),
+            Leaf::Setting(domain, part) => Ok(Ok(self.groups.read(domain, part))),
+            Leaf::Withheld => Ok(Err(3)),
         }
     }
 }

@@ -10,16 +10,18 @@ use bay_model::{Asked, Reply, Service, Target, Targets};
 use data_sets::SetBook;
 use object_model::Model;
 use report_block::ReportBlock;
+use setting_groups::Groups;
 use std::alloc::{AllocError, Global};
 use sv_base::Moment;
 use value_store::Store;
 
-/// What a bay lends to a reply: its model, its values, its report blocks and its data sets; its newest moment so far, and that of
-/// the step that is to be made.
+/// What a bay lends to a reply: its model, its values, its setting groups, its report blocks and its data sets; its newest moment so
+/// far, and that of the step that is to be made.
 #[derive(Drop)]
 pub struct Replies<'a> {
     pub model: &'a Model,
     pub store: &'a Store,
+    pub groups: &'a Groups,
     pub blocks: &'a [ReportBlock],
     pub book: &'a SetBook,
     pub was: Moment,
@@ -55,7 +57,7 @@ impl<'a> Replies<'a> {
 
     /// The reply by its service.
     fn answer(&self, alloc: Global, size: u32, service: &Service) -> Result<Reply, AllocError>
-        requires served { IsServed self.now.model.now self.now.store.now self.now.blocks.now self.now.book.now }
+        requires served { IsServed self.now.model.now self.now.store.now self.now.groups.now self.now.blocks.now self.now.book.now }
         requires fits { IsFitting self.now.model.now service.now }
         ensures { IfOk result (λ r. r ≡ replied self.entry.now size service.now) }
     {
@@ -90,10 +92,10 @@ impl<'a> Replies<'a> {
     /// codes alone are longer than that it is the error of class 4, service, with code 3, pdu-size; a data set or a domain that isn't
     /// there gives that of class 7, access, with code 2, object-non-existent.
     pub fn reply(&self, alloc: Global, size: u32, service: &Service) -> Result<Reply, AllocError>
-        requires served { IsServed self.now.model.now self.now.store.now self.now.blocks.now self.now.book.now }
+        requires served { IsServed self.now.model.now self.now.store.now self.now.groups.now self.now.blocks.now self.now.book.now }
         requires fits { IsFitting self.now.model.now service.now }
         requires reading { IsReading service.now }
-        ensures { IfOk result (λ r. IsReplyTo self.entry.now.model.now self.entry.now.store.now self.entry.now.blocks.now self.entry.now.book.now self.entry.now.was self.entry.now.now size service.now r) }
+        ensures { IfOk result (λ r. IsReplyTo self.entry.now.model.now self.entry.now.store.now self.entry.now.groups.now self.entry.now.blocks.now self.entry.now.book.now self.entry.now.was self.entry.now.now size service.now r) }
     {
         // no moment lies above the last that a step can have
         let _last = self.was.ms();

@@ -17,14 +17,11 @@ const CONFIGURATION: &str =
     ln GGIO1\nattr ST Ind1$stVal bool d F\nattr ST Ind1$q quality q 0000000000000\nattr ST Ind1$t time - 0000000000000000\n\
     ln MMXU1\nattr MX TotW$mag$i int32 d 0\nattr CF TotW$db uint32 - 0\nend\n";
 
-/// A configuration without controls and setting groups.
+/// A configuration without controls.
 fn is_served(config: &Config) -> bool
-    ensures { IsTrue result → (config.now.controls ≡ []) × (config.now.groups ≡ []) }
+    ensures { IsTrue result → config.now.controls ≡ [] }
 {
-    matches!(
-        (config.controls.as_slice(), config.groups.as_slice()),
-        ([], [])
-    )
+    matches!(config.controls.as_slice(), [])
 }
 
 /// The bay of a configuration's text, where a bay serves it.

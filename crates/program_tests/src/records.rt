@@ -481,9 +481,24 @@ const JUDGED: [Row; 39] = [
     ),
     (
         "configurations",
-        "# a remark\nrecord 1\nconfig 1\nserver a b c\nld A\nln LLN0\nsgcb 2 1\nend\n",
-        Status::Record { line: 7, kind: 9 },
+        "# a remark\nrecord 1\nconfig 1\nserver a b c\nld A\nln LLN0\nsgcb 2 1\nctl Pos 4 5000 0 bool\nend\n",
+        Status::Record { line: 8, kind: 9 },
         "",
+    ),
+    (
+        "configurations",
+        "record 1\nconfig 1\nserver a b c\nld A\nln LLN0\nsgcb 2 1\nattr SG S$setMag int32 d 10 20\nend\ntake 1\nend\n",
+        Status::Ok,
+        "1 closed\nend\n",
+    ),
+    // ActSG is made 2, and the attribute is read
+    (
+        "setting groups",
+        "record 1\nconfig 1\nserver a b c\nld BAY1\nln LLN0\nsgcb 2 1\nln MMXU1\nattr SG StrVal$setMag int32 d 10 20\nend\nopen 1 mms 65000\n\
+        pdu 1 a02c020103a527a020301ea01ca11a1a04424159311a124c4c4e302453502453474342244163745347a003860102\ntake 1\n\
+        pdu 1 a02d020104a428a126a0243022a020a11e1a04424159311a164d4d5855312453472453747256616c247365744d6167\ntake 1\nend\n",
+        Status::Ok,
+        "1 pdu a107020103a5028100\n1 pdu a10a020104a405a103850114\nend\n",
     ),
     (
         "configurations",

@@ -1,5 +1,5 @@
 -- What comes of a race is known from the scripts: an actor stops at the first request for which its own script leaves no room.
-use Rattle.std.proofs.Common.{◌≡◌, ◌≤◌, ◌<◌, ◌+◌, ◌==◌, ◌||◌, ◌&&◌, ℕ, zero, suc, Bool, true, false, cond, not, List, [], ◌∷◌, ◌++◌, length, take, map, get_or, refl, sym, ap, subst, ◌∙◌, arith, inl, inr}
+use Rattle.std.proofs.Common.{◌≡◌, ◌+◌, ◌==◌, ◌||◌, ◌&&◌, ℕ, zero, suc, Bool, true, false, cond, not, List, [], ◌∷◌, ◌++◌, length, take, map, get_or, refl, sym, ap, subst, ◌∙◌, arith, inl, inr}
 use Rattle.std.specs.Prelude.{Option, None, Some, nat_le, slice_get, unwrap_or, if◌then◌else◌}
 use Rattle.std.specs.Option.{option_map}
 use Rattle.std.proofs.lemmas.Bool.Decides.{eqb_tells, leb_tells}
@@ -12,7 +12,7 @@ use Rattle.bay_model.specs.Model.{Control, truth}
 use Rattle.bay_model.specs.Configured.{control_defined}
 use Rattle.bay_model.specs.Named.{configured_model}
 use Rattle.bay_model.specs.Acceptance.{Fault, IsOpen, NotOpen, NotYours, QueueFull, fault}
-use Rattle.bay_model.specs.Answers.{Turn, History}
+use Rattle.bay_model.specs.Answers.{History}
 use Rattle.bay_core.specs.declared.fault.StepFault.{StepFault}
 use Rattle.bay_core.specs.declared.fault.StepFault.TheVariants as faults
 use Rattle.bay_core.specs.Turns.{named}
@@ -22,7 +22,7 @@ use Rattle.record_outcome.proofs.StartLaws.{is_served}
 use Rattle.history_lock.specs.Histories as histories
 use Rattle.history_lock.specs.Histories.{by, IsEarlier, IsLegal, IsShuffle}
 use Rattle.script_threads.specs.Playing.{StopsAt}
-use Rattle.script_threads.specs.Races.{actors, beginnings, IsPart, AreParts, IsRaced}
+use Rattle.script_threads.specs.Races.{actors, beginnings, IsPart, AreParts}
 use Rattle.script_threads.specs.Scripts.{turns_onto, turns_by}
 use Rattle.script_threads.specs.declared.part.Part.{Part}
 use Rattle.script_threads.specs.declared.script.Script.{Script as Played}
@@ -30,15 +30,15 @@ use Rattle.script_threads.specs.declared.script.TimedStep.{TimedStep}
 use Rattle.own_queues.specs.Queues.{open_behind, is_open, waits_behind, waits, IsPlain, IsItsOwn, AreTheirOwn, IsInOrder, own_fault}
 use Rattle.own_queues.proofs.QueueLaws.{accepted_by_steps}
 use Rattle.script_reading.specs.Plans.{Script, Plan, script_of}
-use Rattle.script_reading.specs.Sound.{IsTold, AreTold, IsScript, IsScriptOrNone, IsSound}
+use Rattle.script_reading.specs.Sound.{IsTold, AreTold, IsScriptOrNone, IsSound}
 use Rattle.script_reading.specs.declared.line.StepLine.{StepLine}
 use Rattle.script_reading.proofs.SoundLaws.{texts}
-use Rattle.merged_records.specs.Merged.{Book, lines_in, book_of}
+use Rattle.merged_records.specs.Merged.{lines_in, book_of}
 use Rattle.merged_records.proofs.BackLaws.{steps_in, steps_by, lines_by, IsWithin, newest, earlier, told}
 use Rattle.merged_records.proofs.Listed.{book-at, length-turns, told-at}
 use Rattle.race_verdicts.specs.Verdicts.{number_at, full_by, full_line, lesser, lowest_full, went, all_went, wants_memory, lacks_memory}
-use Rattle.race_verdicts.specs.Bounds.{is_beyond, first_beyond, beyond_in, lowest_from, lowest_beyond}
-use Rattle.race_verdicts.specs.Known.{Role, role_of, roles_from, AreScripts, VerdictsAreKnown}
+use Rattle.race_verdicts.specs.Bounds.{is_beyond, first_beyond, beyond_in, lowest_from}
+use Rattle.race_verdicts.specs.Known.{Role, role_of, roles_from, VerdictsAreKnown}
 use Rattle.race_verdicts.proofs.Lows.{lesser-swap}
 use Rattle.race_verdicts.proofs.Owns.{own-waits, own-opened, NeverFull, never-full, own-earlier, legal-earlier}
 use Rattle.race_verdicts.proofs.Orders.{own-step, in-order, open-more}

@@ -1,5 +1,5 @@
 -- The lesser of numbers, in any order.
-use Rattle.std.proofs.Common.{◌≡◌, ◌≤◌, ℕ, refl, sym, ap, ◌∙◌, arith, inl, inr}
+use Rattle.std.proofs.Common.{◌≡◌, ◌≤◌, ℕ, refl, ap, arith}
 use Rattle.std.specs.Prelude.{min, Option, None, Some}
 use Rattle.std.proofs.Math.Nat.{min_comm, min-le_left, min-le_right, le-min}
 use Rattle.race_verdicts.specs.Verdicts.{lesser}

@@ -1,7 +1,6 @@
 -- The steps that the lines of a script tell are its association's own, and in order.
-use Rattle.std.proofs.Common.{◌≡◌, ◌==◌, ℕ, Bool, true, false, not, List, [], ◌∷◌, refl, sym, ap, subst, ◌∙◌}
+use Rattle.std.proofs.Common.{◌≡◌, ◌==◌, ℕ, zero, suc, Bool, true, false, not, List, ◌∷◌, refl, sym, ap, subst, ◌∙◌}
 use Rattle.std.specs.Prelude.{Option, None, Some, if◌then◌else◌}
-use Rattle.std.proofs.lemmas.Bool.{eqb-true}
 use Rattle.sv_base.specs.declared.config.Config.{Config}
 use Rattle.sv_base.specs.declared.numbers.AssocNo.{AssocNo}
 use Rattle.sv_base.specs.declared.value.Value.{Value}
@@ -20,13 +19,13 @@ use Rattle.run_record.specs.declared.line.RecLine.{RecLine}
 use Rattle.run_record.specs.declared.line.RecLine.TheVariants as lines
 use Rattle.run_record.specs.declared.pairs.Pair.{Pair}
 use Rattle.record_steps.specs.Asks.{asked_by}
-use Rattle.record_steps.specs.Forms.{Form, shut, direct, mms, dialling, wire, is_shut, is_direct, opened_form, form_behind}
+use Rattle.record_steps.specs.Forms.{Form, shut, direct, mms, dialling, wire, is_shut, is_direct, form_behind}
 use Rattle.record_steps.specs.Own.{IsOwn}
-use Rattle.record_steps.specs.Resolved.{association_of, turn_of, opened_in, opened_as, valued_as, written_as, lost_as, asked_as, spelled_as, sent_as, piece_as, fed_as, set_to, set_as, told_of}
+use Rattle.record_steps.specs.Resolved.{opened_in, opened_as, valued_as, written_as, lost_as, asked_as, spelled_as, sent_as, piece_as, fed_as, set_to, set_as, told_of}
 use Rattle.record_steps.specs.Settings.{are_named, settings_at}
 use Rattle.record_steps.specs.Shapes.{shape_at}
 use Rattle.record_steps.specs.Streams.{piece_at}
-use Rattle.record_steps.specs.Told.{Told, turn, refused}
+use Rattle.record_steps.specs.Told.{turn, refused}
 use Rattle.record_steps.specs.declared.heard.Wired.{Wired}
 use Rattle.record_steps.specs.declared.heard.Wired.TheVariants.{Dialling, On}
 use Rattle.record_steps.proofs.ToldLaws.{told-own}
@@ -40,7 +39,6 @@ use Rattle.written_histories.specs.Written.{actor_of}
 use Rattle.own_queues.specs.Queues.{open_behind, IsItsOwn, IsInOrder}
 use Rattle.script_reading.specs.Forms.{form_in}
 use Rattle.script_reading.specs.Sound.{IsActor, IsTold}
-use Rattle.script_reading.specs.declared.form.ScriptForm.{ScriptForm}
 use Rattle.script_reading.specs.declared.line.StepLine.{StepLine}
 use Rattle.script_reading.proofs.TellLaws.{made, association-made, process-made, process-stays}
 
@@ -149,7 +147,8 @@ abbrev IsOfNone : Step → Type 0
 IsOfNone s = (k : ℕ) → actor_of k s ≡ 0
 
 none-one : (n : ℕ) → n ≡ 1 → n ≡ 0 → ⊥
-none-one n is other = let e : 1 ≡ 0 = sym is ∙ other in absurd cc
+none-one zero is other = absurd (cc is)
+none-one (suc n) is other = absurd (cc other)
 
 process-own : (k m : ℕ) (s : Step) → IsOfNone s → IsItsOwn (histories.turn_of m k s) s
 process-own k m (steps.Open e size writer) h = absurd (none-one 1 refl (h 1))

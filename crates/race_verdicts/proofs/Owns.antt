@@ -1,16 +1,14 @@
 -- The steps of a history whose associations make their own.
-use Rattle.std.proofs.Common.{◌≡◌, ◌≢◌, ◌==◌, ℕ, suc, ◌-◌, Bool, true, false, cond, List, [], ◌∷◌, ◌++◌, refl, sym, ap, subst, ◌∙◌, inl, inr}
-use Rattle.std.specs.Prelude.{Option, None, Some, nat_le, if◌then◌else◌}
-use Rattle.std.proofs.lemmas.Bool.{eqb-true}
+use Rattle.std.proofs.Common.{◌≡◌, ◌==◌, ℕ, suc, ◌-◌, Bool, true, false, cond, [], ◌∷◌, ◌++◌, refl, sym, ap, subst, ◌∙◌, inl, inr}
+use Rattle.std.specs.Prelude.{nat_le, if◌then◌else◌}
 use Rattle.std.proofs.lemmas.Bool.Decides.{eqb_tells}
-use Rattle.sv_base.specs.declared.config.Config.{Config}
 use Rattle.bay_model.specs.declared.step.Step.{Step}
 use Rattle.bay_model.specs.declared.step.Step.TheVariants as steps
 use Rattle.bay_model.specs.Model.{Model}
 use Rattle.bay_model.specs.Answers.{Turn, History}
 use Rattle.bay_model.specs.Acceptance.{IsHistory}
 use Rattle.history_lock.specs.Histories.{IsEarlier, by}
-use Rattle.own_queues.specs.Queues.{open_behind, is_open, waits_behind, waits, IsPlain, IsItsOwn, AreTheirOwn, IsInOrder}
+use Rattle.own_queues.specs.Queues.{open_behind, is_open, waits_behind, waits, IsPlain, IsItsOwn, AreTheirOwn}
 use Rattle.own_queues.proofs.QueueLaws.{asked_with_room}
 use Rattle.race_verdicts.specs.Bounds.{is_beyond}
 

@@ -1,6 +1,6 @@
 -- A script's own bound at a line: how many replies its association can have waiting there, by the lines of the script before it. A
 -- request adds one, and a `take` takes one away, where one is there.
-use Rattle.std.specs.Prelude.{ℕ, suc, Bool, false, List, [], ◌∷◌, ◌++◌, nat_le, Option, None, Some, if◌then◌else◌}
+use Rattle.std.specs.Prelude.{ℕ, suc, Bool, false, List, [], ◌∷◌, nat_le, Option, None, Some, if◌then◌else◌}
 use Rattle.bay_model.specs.declared.step.Step.{Step}
 use Rattle.bay_model.specs.declared.step.Step.TheVariants as steps
 use Rattle.own_queues.specs.Queues.{waits_behind}

@@ -7,5 +7,5 @@ use Rattle.cfg_text.proofs.WholeLaws.{config-told}
 use Rattle.bay_config.specs.Servable.{IsServable}
 use Rattle.text_configs.proofs.ServableLaws.{texts-are-served}
 
-pub served : (text : List ℕ) (c : Config) → config_at text ≡ Ok c → c.controls ≡ [] → c.groups ≡ [] → IsServable c
-served text c read controls groups = texts-are-served text c (config-told text c read) controls groups
+pub served : (text : List ℕ) (c : Config) → config_at text ≡ Ok c → c.controls ≡ [] → IsServable c
+served text c read controls = texts-are-served text c (config-told text c read) controls

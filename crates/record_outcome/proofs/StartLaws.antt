@@ -5,7 +5,6 @@ use Rattle.std.specs.List.{All}
 use Rattle.sv_base.specs.declared.config.Config.{Config}
 use Rattle.sv_base.specs.declared.config.AttrDef.{AttrDef}
 use Rattle.sv_base.specs.declared.config.CtlDef.{CtlDef}
-use Rattle.sv_base.specs.declared.config.SgDef.{SgDef}
 use Rattle.bay_rooms.specs.Slots.{IsSettable}
 use Rattle.cfg_parser.specs.Looking.{config_at}
 use Rattle.bay_config.specs.Servable.{IsServable}
@@ -16,15 +15,12 @@ none-with : (n : ℕ) (o : Option ℕ) → least_with n o ≡ None → ⊥
 none-with n None h = cc
 none-with n (Some m) h = cc
 
-none-of : {A : Type 0} (f : A → ℕ) (xs : List A) (other : Option ℕ) → least_of (map f xs) other ≡ None → (xs ≡ []) × (other ≡ None)
-none-of f [] other h = (refl, h)
-none-of f (x ∷ xs) other h = absurd (none-with (f x) (least_of (map f xs) other) h)
+none-of : {A : Type 0} (f : A → ℕ) (xs : List A) → least_of (map f xs) ≡ None → xs ≡ []
+none-of f [] h = refl
+none-of f (x ∷ xs) h = absurd (none-with (f x) (least_of (map f xs)) h)
 
 pub is_served : (text : List ℕ) (c : Config) → config_at text ≡ Ok c → unbuilt_line c ≡ None → IsServable c
-is_served text c read none =
-    let controls = none-of (λ (k : CtlDef). k.line) c.controls (least_of (map (λ (g : SgDef). g.line) c.groups) None) none in
-    let groups = none-of (λ (g : SgDef). g.line) c.groups None controls.1 in
-    served text c read controls.0 groups.0
+is_served text c read none = served text c read (none-of (λ (k : CtlDef). k.line) c.controls none)
 
 pub settable : (c : Config) → IsServable c → All (λ (a : AttrDef). IsSettable a.kind) c.attrs
 settable c s = λ i d lt. (s.storable.lines i d lt).settable

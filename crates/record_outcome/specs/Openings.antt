@@ -3,7 +3,6 @@ use Rattle.std.specs.Prelude.{ℕ, ◌+◌, ◌==◌, ◌&&◌, not, List, [], �
 use Rattle.std.specs.Str.{bytes_eq}
 use Rattle.sv_base.specs.declared.config.Config.{Config}
 use Rattle.sv_base.specs.declared.config.CtlDef.{CtlDef}
-use Rattle.sv_base.specs.declared.config.SgDef.{SgDef}
 use Rattle.text_words.specs.Octets.{is_skipped}
 use Rattle.text_words.specs.Words.{words_of}
 use Rattle.cfg_parser.specs.Kinds.{number_of}
@@ -29,18 +28,18 @@ opening_at number line =
     else if is_skipped line then goes opening []
     else headed number (words_of line)
 
--- the least of numbers and of another one
+-- the least of numbers
 abbrev pub least_with : ℕ → Option ℕ → Option ℕ
 least_with n None = Some n
 least_with n (Some m) = Some (min n m)
 
-abbrev pub least_of : List ℕ → Option ℕ → Option ℕ
-least_of [] other = other
-least_of (n ∷ ns) other = least_with n (least_of ns other)
+abbrev pub least_of : List ℕ → Option ℕ
+least_of [] = None
+least_of (n ∷ ns) = least_with n (least_of ns)
 
--- the first line of what isn't built, counted in the configuration: a control or setting groups
+-- the first line of what isn't built, counted in the configuration: a control
 abbrev pub unbuilt_line : Config → Option ℕ
-unbuilt_line c = least_of (map (λ (k : CtlDef). k.line) c.controls) (least_of (map (λ (g : SgDef). g.line) c.groups) None)
+unbuilt_line c = least_of (map (λ (k : CtlDef). k.line) c.controls)
 
 abbrev pub started_by : ℕ → Config → Option ℕ → Move
 started_by before c None = goes (playing c start) []

@@ -1,11 +1,10 @@
 //! What of a configuration isn't built.
 
-ghost use Rattle.std.specs.Prelude.{◌≡◌, None, map};
+ghost use Rattle.std.specs.Prelude.{◌≡◌, map};
 ghost use Rattle.sv_base.specs.declared.config.CtlDef.{CtlDef as Control};
-ghost use Rattle.sv_base.specs.declared.config.SgDef.{SgDef as Groups};
 ghost use Rattle.record_outcome.specs.Openings.{least_with, least_of, unbuilt_line as first_unbuilt};
 
-use sv_base::{Config, CtlDef, SgDef};
+use sv_base::{Config, CtlDef};
 
 /// The lesser of a number and another one, if there is one.
 fn lesser(n: u32, other: Option<u32>) -> Option<u32>
@@ -17,23 +16,13 @@ fn lesser(n: u32, other: Option<u32>) -> Option<u32>
     }
 }
 
-/// The first line of setting groups.
-fn groups_line(groups: &[SgDef]) -> Option<u32>
-    ensures { result ≡ least_of (map (λ (g : Groups). g.line) groups.now) None }
-{
-    match groups {
-        [] => None,
-        [group, more @ ..] => lesser(group.line, groups_line(more)),
-    }
-}
-
-/// The first line of a control, or another one before it.
-fn control_line(controls: &[CtlDef], other: Option<u32>) -> Option<u32>
-    ensures { result ≡ least_of (map (λ (k : Control). k.line) controls.now) other }
+/// The first line of a control.
+fn control_line(controls: &[CtlDef]) -> Option<u32>
+    ensures { result ≡ least_of (map (λ (k : Control). k.line) controls.now) }
 {
     match controls {
-        [] => other,
-        [control, more @ ..] => lesser(control.line, control_line(more, other)),
+        [] => None,
+        [control, more @ ..] => lesser(control.line, control_line(more)),
     }
 }
 
@@ -41,8 +30,5 @@ fn control_line(controls: &[CtlDef], other: Option<u32>) -> Option<u32>
 pub fn unbuilt_line(config: &Config) -> Option<u32>
     ensures { result ≡ first_unbuilt config.now }
 {
-    control_line(
-        config.controls.as_slice(),
-        groups_line(config.groups.as_slice()),
-    )
+    control_line(config.controls.as_slice())
 }

@@ -38,11 +38,11 @@ value_at_place t (v ∷ vs) (suc k) d below = value_at_place t vs k d (omega (ar
 
 -- ---- domains by their places
 
-place_is : (d : List ℕ) (ds : List (List ℕ)) → place_at d ds ≡ position (bytes_eq d) ds
+pub place_is : (d : List ℕ) (ds : List (List ℕ)) → place_at d ds ≡ position (bytes_eq d) ds
 place_is d [] = refl
 place_is d (e ∷ es) = ap (λ p. cond (bytes_eq d e) (Some 0) (option_map (λ n. n + 1) p)) (place_is d es) ∙ sym (place-cons (bytes_eq d) e es)
 
-place_within : (d : List ℕ) (ds : List (List ℕ)) → is_some (place_at d ds) ≡ true → unwrap_or (place_at d ds) 0 < length ds
+pub place_within : (d : List ℕ) (ds : List (List ℕ)) → is_some (place_at d ds) ≡ true → unwrap_or (place_at d ds) 0 < length ds
 place_within d [] there = absurd (true≢false (sym there))
 place_within d (e ∷ es) there = by (bytes_eq d e) (place_at d es) there (place_within d es)
   where

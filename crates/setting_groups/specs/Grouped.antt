@@ -1,6 +1,6 @@
 -- The setting group blocks of the domains, and the values of the SG attributes: how they go as clients and the process
 -- write (IEC 61850-7-2, SelectActiveSG, SelectEditSG, SetEditSGValue and ConfirmEditSGValues).
-use Rattle.std.specs.Prelude.{ℕ, suc, ◌-◌, Bool, false, not, ◌&&◌, ◌==◌, List, [], ◌∷◌, map, Option, None, Some, Result, Err, slice_index_or, slice_set, is_some, if◌then◌else◌}
+use Rattle.std.specs.Prelude.{ℕ, suc, ◌-◌, Bool, false, not, ◌&&◌, ◌==◌, List, [], ◌∷◌, map, Option, None, Some, Result, Err, slice_index_or, slice_set, is_some, nat_lt, length, if◌then◌else◌}
 use Rattle.std.specs.Option.{option_map, option_map_or}
 use Rattle.sv_base.specs.declared.value.Value.{Value}
 use Rattle.sv_base.specs.declared.value.Value.TheVariants as kinds
@@ -131,6 +131,10 @@ active_of s k = slice_index_or (setting_at s k).groups (active_place (domain_at 
 
 abbrev pub copy_of : Grouped → ℕ → Option Held
 copy_of s k = if is_some (domain_at s (setting_at s k).domain).edit then Some (setting_at s k).copy else None
+
+-- none of what isn't there
+abbrev pub copy_in : Grouped → ℕ → Option Held
+copy_in s k = if nat_lt k (length s.settings) then copy_of s k else None
 
 abbrev pub shown_of : Grouped → ℕ → Bool → Option Held
 shown_of s k is_edited = if is_edited then copy_of s k else Some (active_of s k)

@@ -67,5 +67,6 @@ pub record IsGrouped (c : Config) : Type 0 where
   pub values : All HasValues c.attrs
   pub settings : All (λ (a : AttrDef). is_setting a ≡ true → IsSetting c a) c.attrs
   pub groups : All (λ (g : SgDef). (1 ≤ g.active) × (g.active ≤ g.count)) c.groups
+  pub there : All (λ (g : SgDef). is_some (position (bytes_eq g.domain) (domains c)) ≡ true) c.groups
   pub domains : length (domains c) < 2 ^ 32
   pub few : length c.attrs < 2 ^ 32

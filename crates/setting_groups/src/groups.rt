@@ -13,8 +13,8 @@ use sv_base::{AssocNo, AttrId, Moment, Value};
 /// numbers, all in room that was made before: no call but those that open takes memory. Contracts see both lists.
 #[derive(Debug, Drop)]
 pub struct Groups {
-    domains: Vec<Domain>,
-    settings: Vec<Setting>,
+    pub(crate) domains: Vec<Domain>,
+    pub(crate) settings: Vec<Setting>,
 }
 
 impl Model for Groups {
@@ -100,16 +100,16 @@ impl Groups {
 
     /// A client's write of the copy of an SG attribute. Refuses, in this order, with 7 a value of another kind, with 2 where
     /// the association doesn't hold the edit, and with 11 a value out of range or too long.
-    pub fn write_se(&mut self, a: AssocNo, setting: u32, value: &Value) -> Result<(), u8>
+    pub fn write_se(&mut self, a: AssocNo, setting: usize, value: &Value) -> Result<(), u8>
         requires there { setting < length self.old.settings }
         requires domain { (setting_at self.old setting).domain < length self.old.domains }
         ensures answer { result ≡ copy_answer (holds a.0 (domain_at self.old (setting_at self.old setting).domain)) (setting_at self.old setting) value.now }
         ensures set { OnOk result (self.new ≡ after_copy setting value.now self.old) }
         ensures kept { OnErr result (self.new ≡ self.old) }
     {
-        let domain = self.settings[setting as usize].domain();
+        let domain = self.settings[setting].domain();
         let is_held = self.domains[domain as usize].is_held_by(a);
-        self.settings[setting as usize].write_copy(value, is_held)
+        self.settings[setting].write_copy(value, is_held)
     }
 
     /// A client's write of CnfEdit: TRUE stores the copy as its group and ends the edit, FALSE does nothing. Tells whether the
@@ -139,16 +139,16 @@ impl Groups {
     }
 
     /// The process sets an SG attribute: the active group takes the value, which is of the attribute's type and size.
-    pub fn put(&mut self, setting: u32, value: &Value)
+    pub fn put(&mut self, setting: usize, value: &Value)
         requires there { setting < length self.old.settings }
         requires domain { (setting_at self.old setting).domain < length self.old.domains }
         requires kind { is_kind (setting_at self.old setting).copy.kind value.now ≡ true }
         requires range { is_in_range (setting_at self.old setting).copy.kind value.now ≡ true }
         ensures { self.new ≡ after_put setting value.now self.old }
     {
-        let domain = self.settings[setting as usize].domain();
+        let domain = self.settings[setting].domain();
         let place = self.domains[domain as usize].active_place();
-        self.settings[setting as usize].put(place, value);
+        self.settings[setting].put(place, value);
     }
 
     /// How many SG attributes there are.
@@ -166,41 +166,41 @@ impl Groups {
     }
 
     /// The number of an SG attribute.
-    pub fn attr(&self, setting: u32) -> AttrId
+    pub fn attr(&self, setting: usize) -> AttrId
         requires { setting < length self.now.settings }
         ensures { result.0 ≡ (setting_at self.now setting).attr }
     {
-        self.settings[setting as usize].attr()
+        self.settings[setting].attr()
     }
 
     /// The number of the domain of an SG attribute.
-    pub fn domain(&self, setting: u32) -> u32
+    pub fn domain(&self, setting: usize) -> u32
         requires { setting < length self.now.settings }
         ensures { result ≡ (setting_at self.now setting).domain }
     {
-        self.settings[setting as usize].domain()
+        self.settings[setting].domain()
     }
 
     /// What the active group holds of an SG attribute.
-    pub fn active(&self, setting: u32) -> &Slot
+    pub fn active(&self, setting: usize) -> &Slot
         requires there { setting < length self.now.settings }
         requires domain { (setting_at self.now setting).domain < length self.now.domains }
         ensures { result.now ≡ active_of self.now setting }
     {
-        let domain = self.settings[setting as usize].domain();
+        let domain = self.settings[setting].domain();
         let place = self.domains[domain as usize].active_place();
-        self.settings[setting as usize].group(place)
+        self.settings[setting].group(place)
     }
 
     /// What the edit copy holds of an SG attribute; none exactly where nobody holds the edit.
-    pub fn copy(&self, setting: u32) -> Option<&Slot>
+    pub fn copy(&self, setting: usize) -> Option<&Slot>
         requires there { setting < length self.now.settings }
         requires domain { (setting_at self.now setting).domain < length self.now.domains }
         ensures { option_map (λ s. s.now) result ≡ copy_of self.now setting }
     {
-        let domain = self.settings[setting as usize].domain();
+        let domain = self.settings[setting].domain();
         if self.domains[domain as usize].is_edited() {
-            Some(self.settings[setting as usize].copy())
+            Some(self.settings[setting].copy())
         } else {
             None
         }
@@ -208,7 +208,7 @@ impl Groups {
 
     /// What is read of an SG attribute: under SG what the active group holds, and under SE what the edit copy holds, none exactly
     /// where nobody holds the edit.
-    pub fn shown(&self, setting: u32, is_edited: bool) -> Option<&Slot>
+    pub fn shown(&self, setting: usize, is_edited: bool) -> Option<&Slot>
         requires there { setting < length self.now.settings }
         requires domain { (setting_at self.now setting).domain < length self.now.domains }
         ensures { option_map (λ s. s.now) result ≡ shown_of self.now setting is_edited }

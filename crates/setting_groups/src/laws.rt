@@ -1,7 +1,7 @@
 //! The setting groups stand for each history, and each call comes to what the definitions say. The functions run nothing: each
 //! contract is a law.
 
-ghost use Rattle.std.specs.Prelude.{◌≡◌, ◌<◌, ◌≤◌, ◌-◌, ◌&&◌, ◌==◌, ℕ, List, [], ◌∷◌, length, is_some, true, slice_index_or, Ok, Err, if◌then◌else◌};
+ghost use Rattle.std.specs.Prelude.{◌≡◌, ◌<◌, ◌≤◌, ◌+◌, ◌-◌, ◌&&◌, ◌==◌, ℕ, Bool, List, [], ◌∷◌, length, is_some, true, slice_index_or, Ok, Err, if◌then◌else◌};
 ghost use Rattle.sv_base.specs.declared.value.Value.{Value};
 ghost use Rattle.sv_base.specs.declared.value.Value.TheVariants as kinds;
 ghost use Rattle.bay_model.specs.declared.step.Setting.{Setting};
@@ -18,9 +18,13 @@ ghost use Rattle.setting_groups.specs.Opened.{opened, IsGrouped};
 ghost use Rattle.bay_model.specs.Points.{Deed, Point, Past, now, activated, edited, copied, confirmed, lost, valued, nothing};
 ghost use Rattle.bay_model.specs.Outcomes.{outcome_by};
 ghost use Rattle.bay_model.specs.Reads.{read_attribute};
-ghost use Rattle.bay_model.specs.Settings.{active, edit, stored, group};
+ghost use Rattle.bay_model.specs.Settings.{active, edit, set_to, stored, group};
 ghost use Rattle.bay_model.specs.SettingWrites.{write_part, write_attribute};
-ghost use Rattle.bay_model.specs.Values.{value_at};
+ghost use Rattle.bay_model.specs.Values.{gives, value_at};
+ghost use Rattle.bay_model.specs.declared.components.SettingComp.{SettingComp};
+ghost use Rattle.setting_groups.specs.Frames.{IsComplete, IsFramed};
+ghost use Rattle.setting_groups.specs.Loaded.{active_settings};
+ghost use Rattle.setting_groups.specs.Parts.{after_part, part_answer, part_deed, part_read};
 ghost use Rattle.setting_groups.specs.Grouped.{Grouped, domain_at, setting_at, act_answer, edit_answer, copy_answer, stored_answer, number_in, edit_number, is_on, holds, active_place, after_act, after_edit, after_copy, after_confirm, after_loss, after_values};
 ghost use Rattle.setting_groups.specs.Standing.{Stands, IsQuiet, IsTwin, at};
 
@@ -77,4 +81,27 @@ pub fn values_are_set()
         → value_at c (setting_at s k).attr (at n m (activated a d g) ∷ before) ≡ (if (setting_at s k).domain == d then (slice_index_or (setting_at s k).groups (g - 1) (setting_at s k).copy).value else value_at c (setting_at s k).attr before) }
     ensures confirm { (c : Model) (s : Grouped) (a d k n m : ℕ) (before : Past) → Stands s c before → d < length s.domains → is_some (edit d before) ≡ true → k < length s.settings
         → value_at c (setting_at s k).attr (at n m (confirmed a d) ∷ before) ≡ (if ((setting_at s k).domain == d) && (edit_number (domain_at s d) == (domain_at s d).active) then (setting_at s k).copy.value else value_at c (setting_at s k).attr before) }
+{}
+
+/// What comes of a client's write of a component of the setting group block of a domain, and what such a component reads, is what the
+/// model of the bay has; after an accepted write the groups stand for its point, and the attributes that it sets are given what the
+/// active group then holds.
+pub fn parts_are_written()
+    ensures answered { (c : Model) (s : Grouped) (a d : ℕ) (part : SettingComp) (v : Value) (past : Past) → Stands s c past → d < length s.domains → 1 ≤ (groups_of c d).count
+        → write_part c a d part v past ≡ outcome_by (part_answer a (domain_at s d) part v) (part_deed a d part v) }
+    ensures read { (c : Model) (s : Grouped) (d : ℕ) (part : SettingComp) (past : Past) → Stands s c past → d < length s.domains → 1 ≤ (groups_of c d).count
+        → read_setting c d part past ≡ part_read (domain_at s d) part }
+    ensures stands { (c : Model) (s : Grouped) (a d n m : ℕ) (part : SettingComp) (v : Value) (before : Past) (is_set : Bool) → Stands s c before → d < length s.domains → 1 ≤ (groups_of c d).count
+        → part_answer a (domain_at s d) part v ≡ Ok is_set
+        → Stands (after_part d a part v (now (at n m (part_deed a d part v) ∷ before)) s) c (at n m (part_deed a d part v) ∷ before) }
+    ensures given { (c : Model) (s : Grouped) (a d moment x : ℕ) (part : SettingComp) (v : Value) (before : Past) (is_set : Bool) → Stands s c before → IsComplete c s → d < length s.domains → 1 ≤ (groups_of c d).count
+        → part_answer a (domain_at s d) part v ≡ Ok is_set
+        → set_to x (if is_set then active_settings d (after_part d a part v moment s) else []) ≡ gives c x (part_deed a d part v) before }
+{}
+
+/// What the configuration of setting groups tells of them, whatever was written: each SG attribute is among the settings, and their edit
+/// copies stand behind the attributes of lines, in the order of the settings.
+pub fn frames_tell_attributes()
+    ensures complete { (c : Config) (s : Grouped) → c.controls ≡ [] → IsFramed c s → IsComplete (configured_model c) s }
+    ensures twins { (c : Config) (s : Grouped) (k : ℕ) → c.controls ≡ [] → IsFramed c s → k < length s.settings → IsTwin (configured_model c) (length c.attrs + k) (setting_at s k) }
 {}

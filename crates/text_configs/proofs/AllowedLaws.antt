@@ -1,50 +1,44 @@
 -- Each node of a text's configuration that may be a member of a data set can be one, and has a short reference.
-use Rattle.std.proofs.Common.{◌≡◌, ℕ, zero, suc, ◌+◌, ◌<◌, ◌≤◌, ◌==◌, ◌&&◌, ◌⊎◌, inl, inr, Bool, true, false, List, [], ◌∷◌, ◌++◌, length, map, unwrap_or, nat_le, slice_get, refl, sym, ap, ap₂, subst, ◌∙◌, arith, append_assoc, append-nil, true≢false, length-append}
+use Rattle.std.proofs.Common.{◌≡◌, ℕ, zero, suc, ◌≤◌, ◌==◌, ◌&&◌, ◌⊎◌, inl, inr, true, false, List, [], ◌∷◌, ◌++◌, length, map, unwrap_or, nat_le, slice_get, refl, sym, ap, ap₂, subst, ◌∙◌, arith, append_assoc, append-nil, true≢false, length-append}
 use Rattle.std.specs.List.{list_all, list_any}
 use Rattle.std.specs.Prelude.{codes}
 use Rattle.std.specs.Str.{bytes_eq}
 use Rattle.std.proofs.lemmas.Bool.{and_parts}
-use Rattle.std.proofs.lemmas.Bool.Decides.{eqb_tells, nat_tests}
+use Rattle.std.proofs.lemmas.Bool.Decides.{nat_tests}
 use Rattle.std.proofs.lemmas.List.{append_cancel_left}
 use Rattle.list_laws.proofs.Distinct.{octets_same}
 use Rattle.sv_base.specs.declared.config.Config.{Config}
 use Rattle.sv_base.specs.declared.types.TypeOf.{TypeOf}
 use Rattle.bay_model.specs.declared.components.Comp.{Comp}
 use Rattle.bay_model.specs.declared.components.Comp.TheVariants as comps
+use Rattle.bay_model.specs.declared.components.SettingComp.{SettingComp}
+use Rattle.bay_model.specs.declared.components.SettingComp.TheVariants as settings
 use Rattle.bay_model.specs.Model.{Node, structure, none, several}
 use Rattle.bay_model.specs.Attributes.{attributes}
-use Rattle.bay_model.specs.ComponentTable.{comp_name}
+use Rattle.bay_model.specs.ComponentTable.{comp_name, setting_comp_name}
 use Rattle.bay_model.specs.Generated.{Named}
 use Rattle.bay_model.specs.Lookups.{node_of}
 use Rattle.bay_model.specs.NamedLines as named
 use Rattle.bay_model.specs.NameTree.{below, first_name, grown, is_itself, longest, own_type, rest_of, role_of}
 use Rattle.bay_model.specs.Named.{configured_model, nodes, places_in}
-use Rattle.bay_model.specs.Places.{Place, constraint, largest, may_be_member, member_constraints, node_at, place, places}
-use Rattle.bay_model.specs.Reports.{reference_at}
+use Rattle.bay_model.specs.Places.{Place, are_data, constraint, is_data_role, largest, may_be_member, member_constraints, node_at, place, places}
 use Rattle.text_words.specs.Names.{is_fc, is_letter, is_name, is_name_octet}
-use Rattle.bay_config.specs.Servable.{IsMember, IsShortMember, attr_type}
+use Rattle.bay_config.specs.Servable.{IsShortMember, attr_type}
 use Rattle.list_laws.proofs.Among.{Among, At, at-among, of-each, some-passes}
-use Rattle.text_configs.proofs.JoinedLaws.{NoDollar, first, rest, first-more, rest-more, rest-alone}
-use Rattle.text_configs.proofs.NamedLaws.{IsFirst, first-of, below-of, placed, place_at, deeper}
+use Rattle.text_configs.proofs.JoinedLaws.{NoDollar, first, rest, rest-alone, split-at}
+use Rattle.text_configs.proofs.NamedLaws.{IsFirst, IsPlaced, first-of, below-of, placed, place_at, deeper}
 use Rattle.text_configs.proofs.EntryLaws.{named_of}
 use Rattle.text_configs.proofs.FormLaws.{IsFormed, IsTree, are-formed, formed, places-formed}
 use Rattle.text_configs.proofs.TreeLaws.{grown-tree, part-of}
-use Rattle.text_configs.proofs.PlaceLaws.{first-without, dollar-within, item-behind, descend}
-use Rattle.text_configs.proofs.OrderLaws.{IsAttributeName, IsComponentName, IsNodeName, named-in}
-use Rattle.text_configs.proofs.BelowLaws.{IsTold, all-entries, entries-below}
+use Rattle.text_configs.proofs.PlaceLaws.{first-without, dollar-within, item-behind}
+use Rattle.text_configs.proofs.DataLaws.{data-place, all-held}
+use Rattle.text_configs.proofs.DepthLaws.{IsUnder, under}
+use Rattle.text_configs.proofs.OrderLaws.{IsOne, named-in, within-longest}
+use Rattle.text_configs.proofs.BelowLaws.{IsTold, all-entries, apart-here, entries-below, longer-here}
 use Rattle.text_configs.proofs.FindLaws.{domain-of}
-use Rattle.text_configs.proofs.MemberLaws.{IsFit, member-of, node-at-place}
+use Rattle.text_configs.proofs.MemberLaws.{member-of, node-at-place}
 
 -- ---- items
-
--- an item goes on behind its first name, or is that
-pub split-at : (item : List ℕ) → (item ≡ first item ++ 36 ∷ rest item) ⊎ (item ≡ first item)
-split-at [] = inr refl
-split-at (o ∷ os) = by (eqb_tells o 36) (split-at os) where
-  by : ((o == 36) ≡ true × (o ≡ 36)) ⊎ ((o == 36) ≡ false × (o ≡ 36 → ⊥)) → (os ≡ first os ++ 36 ∷ rest os) ⊎ (os ≡ first os) → ((o ∷ os) ≡ first (o ∷ os) ++ 36 ∷ rest (o ∷ os)) ⊎ ((o ∷ os) ≡ first (o ∷ os))
-  by (inl t) go = inl (subst (λ x. (x ∷ os) ≡ first (x ∷ os) ++ 36 ∷ rest (x ∷ os)) (sym t.1) refl)
-  by (inr t) (inl s) = inl (ap (λ l. o ∷ l) s ∙ sym (ap₂ (λ f r. f ++ 36 ∷ r) (first-more o os t.0) (rest-more o os t.0)))
-  by (inr t) (inr s) = inr (ap (λ l. o ∷ l) s ∙ sym (first-more o os t.0))
 
 -- the item of a place is where that of a name begins
 begins : (l : ℕ) (ns : List Named) (before : List ℕ) (p : Place) → Among p (places before (grown l ns)) → (n : Named) × Among n ns × (is_itself n ≡ false) × (g : List ℕ) × (before ++ n.item ≡ p.item ++ g)
@@ -100,6 +94,13 @@ comp-short comps.PurgeBuf = omega arith
 comp-short comps.EntryID = omega arith
 comp-short comps.TimeofEntry = omega arith
 
+part-short : (k : SettingComp) → length (setting_comp_name k) ≤ 11
+part-short settings.NumOfSG = omega arith
+part-short settings.ActSG = omega arith
+part-short settings.EditSG = omega arith
+part-short settings.CnfEdit = omega arith
+part-short settings.LActTm = omega arith
+
 known-of : (fc : List ℕ) → list_any (bytes_eq fc) member_constraints ≡ true → is_fc fc ≡ true
 known-of fc h =
     let s = some-passes (bytes_eq fc) member_constraints h in
@@ -120,7 +121,7 @@ module _ (c : Config) (told : IsTold c) where
   abbrev count : ℕ
   count = length (attributes c)
 
-  module _ (domain : List ℕ) (p : Place) (i : Among p (places_in c domain)) (constrained : list_any (bytes_eq (constraint p.item)) member_constraints ≡ true) where
+  module _ (domain : List ℕ) (p : Place) (i : Among p (places_in c domain)) (sure : p.is_data ≡ true) (constrained : list_any (bytes_eq (constraint p.item)) member_constraints ≡ true) where
     abbrev ns : List Named
     ns = named.names_in c domain
 
@@ -145,8 +146,8 @@ module _ (c : Config) (told : IsTold c) where
           let empty : rest p.item ≡ [] = ap rest s ∙ rest-alone (first p.item) (first-without p.item) in
           absurd (true≢false (sym constrained ∙ ap (λ r. list_any (bytes_eq (first r)) member_constraints) empty))
 
-    one : (l : ℕ) × Among p (places (ln ++ 36 ∷ []) (grown l (below ln ns)))
-    one = descend [] (suc (longest ns)) ns p ln behind [] (first-without p.item) whole i
+    one : IsUnder [] ns p ln
+    one = under [] (longest ns) ns p ln behind [] (first-without p.item) whole (within-longest ns) i
 
     item-one : p.item ≡ (ln ++ 36 ∷ []) ++ behind
     item-one = whole ∙ sym (append_assoc ln (36 ∷ []) behind)
@@ -160,35 +161,42 @@ module _ (c : Config) (told : IsTold c) where
     within : (more : List ℕ) → behind ≡ fc ++ 36 ∷ more → IsFormed kind count p
     within more is =
         let before : List ℕ = (ln ++ 36 ∷ []) ++ fc ++ 36 ∷ [] in
-        let two = descend (ln ++ 36 ∷ []) one.0 (below ln ns) p fc more [] (first-without behind) (item-one ∙ ap (λ l. (ln ++ 36 ∷ []) ++ l) is) one.1 in
+        let two = under (ln ++ 36 ∷ []) one.depth (below ln ns) p fc more [] (first-without behind) (item-one ∙ ap (λ l. (ln ++ 36 ∷ []) ++ l) is) one.within one.there in
         let all = all-entries c told domain ln fc known in
-        let among : Among p (places before (grown two.0 (map (named_of kind) all.entries))) = subst (λ ms. Among p (places before (grown two.0 ms))) all.named two.1 in
-        of-each (IsFormed kind count) (places before (grown two.0 (map (named_of kind) all.entries))) p (places-formed kind count before (grown two.0 (map (named_of kind) all.entries)) (tree-of-entries two.0)) among
+        let among : Among p (places before (grown (suc two.depth) (map (named_of kind) all.entries))) = subst (λ ms. Among p (places before (grown (suc two.depth) ms))) all.named
+        (data-place two.depth (below fc (below ln ns)) before p (apart-here c told domain ln fc known) two.within sure two.there) in
+        of-each (IsFormed kind count) (places before (grown (suc two.depth) (map (named_of kind) all.entries))) p (places-formed kind count before (grown (suc two.depth) (map (named_of kind) all.entries)) (tree-of-entries (suc two.depth))) among
 
     -- the functional constraint itself
     itself : behind ≡ fc → IsFormed kind count p
-    itself is = by one.0 one.1 where
-      before : List ℕ
-      before = ln ++ 36 ∷ []
+    itself is = at (placed before one.depth (below ln ns) p one.there)
+      where
+        before : List ℕ
+        before = ln ++ 36 ∷ []
 
-      here : (l : ℕ) (f : List ℕ) → f ≡ fc → p ≡ place_at before l (below ln ns) f → IsFormed kind count p
-      here l f same e =
-          let all = all-entries c told domain ln fc known in
-          let part = part-of kind count l all.entries (entries-below c told domain ln fc known 10 (omega arith) all.entries all.each).entries (tree-of-entries l) in
-          let it = subst (λ ms. IsFormed kind count (place (before ++ fc) (role_of ms) (own_type ms) (grown l ms))) (sym all.named)
-          (formed kind count (before ++ fc) _ _ _ part.0 (are-formed kind count _ part.1)) in
-          subst (IsFormed kind count) (sym (e ∙ ap (place_at before l (below ln ns)) same)) it
+        l : ℕ
+        l = one.depth
 
-      at : (l : ℕ) (f : List ℕ) → (p ≡ place_at before l (below ln ns) f) ⊎ Among p (deeper before l (below ln ns) f) → IsFormed kind count p
-      at l f (inl e) = here l f (append_cancel_left before f fc (sym (ap (λ (q : Place). q.item) e) ∙ (item-one ∙ ap (λ r. before ++ r) is))) e
-      at l f (inr j) =
-          let g = item-behind (before ++ f ++ 36 ∷ []) (grown l (below f (below ln ns))) p j in
-          let tail : f ++ 36 ∷ g.0 ≡ fc = append_cancel_left before (f ++ 36 ∷ g.0) fc (sym (g.1 ∙ (append_assoc (before ++ f) (36 ∷ []) g.0 ∙ append_assoc before f (36 ∷ g.0))) ∙ (item-one ∙ ap (λ r. before ++ r) is)) in
-          absurd (dollar-within f g.0 (subst NoDollar (sym tail) (first-without behind)))
+        here : (f : List ℕ) → f ≡ fc → p ≡ place_at before l (below ln ns) f → IsFormed kind count p
+        here f same e =
+            let own : p ≡ place_at before l (below ln ns) fc = e ∙ ap (place_at before l (below ln ns)) same in
+            let held : are_data (grown l (below fc (below ln ns))) ≡ true = (and_parts (is_data_role (role_of (below fc (below ln ns)))) (are_data (grown l (below fc (below ln ns)))) (sym (ap (λ (q : Place). q.is_data) own) ∙ sure)).1 in
+            let all = all-entries c told domain ln fc known in
+            let named = all-held l (below ln ns) fc (apart-here c told domain ln fc known) one.within (longer-here c told domain ln fc known) held ∙ all.named in
+            let part = part-of kind count l all.entries (entries-below c told domain ln fc known 10 (omega arith) all.entries all.each).entries (tree-of-entries l) in
+            let it = subst (λ ms. IsFormed kind count (place (before ++ fc) (role_of ms) (own_type ms) (grown l ms))) (sym named)
+            (formed kind count (before ++ fc) _ _ _ part.0 (are-formed kind count _ part.1)) in
+            subst (IsFormed kind count) (sym own) it
 
-      by : (l : ℕ) → Among p (places before (grown l (below ln ns))) → IsFormed kind count p
-      by zero j = absurd j
-      by (suc l) j = let s = placed before l (below ln ns) p j in at l s.0 s.1.at
+        at : (f : List ℕ) × IsPlaced before l (below ln ns) p f → IsFormed kind count p
+        at (f, s) = by f s.at
+          where
+            by : (f : List ℕ) → (p ≡ place_at before l (below ln ns) f) ⊎ Among p (deeper before l (below ln ns) f) → IsFormed kind count p
+            by f (inl e) = here f (append_cancel_left before f fc (sym (ap (λ (q : Place). q.item) e) ∙ (item-one ∙ ap (λ r. before ++ r) is))) e
+            by f (inr j) =
+                let g = item-behind (before ++ f ++ 36 ∷ []) (grown l (below f (below ln ns))) p j in
+                let tail : f ++ 36 ∷ g.0 ≡ fc = append_cancel_left before (f ++ 36 ∷ g.0) fc (sym (g.1 ∙ (append_assoc (before ++ f) (36 ∷ []) g.0 ∙ append_assoc before f (36 ∷ g.0))) ∙ (item-one ∙ ap (λ r. before ++ r) is)) in
+                absurd (dollar-within f g.0 (subst NoDollar (sym tail) (first-without behind)))
 
     is-formed : IsFormed kind count p
     is-formed = by (split-at behind) where
@@ -197,10 +205,10 @@ module _ (c : Config) (told : IsTold c) where
       by (inr s) = itself s
 
     -- its item is short
-    short-by : (n : Named) → IsNodeName c n ⊎ (IsAttributeName c domain n ⊎ IsComponentName c n) → length n.item ≤ 96
+    short-by : (n : Named) → IsOne c domain n → length n.item ≤ 96
     short-by n (inl h) = omega (arith, ap (λ (q : Named). length q.item) h.is, name-short h.node.ln (told.nodes h.node h.there).0)
     short-by n (inr (inl h)) = omega (arith, ap (λ (q : Named). length q.item) h.is, (told.attrs h.attr (at-among h.at h.attr c.attrs h.there)).short)
-    short-by n (inr (inr h)) =
+    short-by n (inr (inr (inl h))) =
         let b = told.blocks h.block h.there in
         let item : n.item ≡ ((h.block.ln ++ 36 ∷ codes "BR") ++ 36 ∷ h.block.name) ++ 36 ∷ comp_name h.part = ap (λ (q : Named). q.item) h.is in
         omega (
@@ -213,6 +221,20 @@ module _ (c : Config) (told : IsTold c) where
           name-short h.block.name b.name,
           comp-short h.part,
         )
+    short-by n (inr (inr (inr (inl h)))) =
+        let a = h.attr in
+        let fc : a.fc ≡ codes "SG" = octets_same a.fc (codes "SG") h.setting in
+        omega (
+          arith,
+          ap (λ (q : Named). length q.item) h.is,
+          length-append (a.ln ++ 36 ∷ codes "SE") (36 ∷ a.path),
+          length-append a.ln (36 ∷ codes "SE"),
+          length-append (a.ln ++ 36 ∷ a.fc) (36 ∷ a.path),
+          length-append a.ln (36 ∷ a.fc),
+          ap (λ (x : List ℕ). length x) fc,
+          (told.attrs a h.there).short,
+        )
+    short-by n (inr (inr (inr (inr h)))) = omega (arith, ap (λ (q : Named). length q.item) h.is, length-append (codes "LLN0$SP$SGCB") (36 ∷ setting_comp_name h.part), part-short h.part)
 
     item-short : length p.item ≤ 96
     item-short =
@@ -234,9 +256,10 @@ module _ (c : Config) (told : IsTold c) where
       let node : node_of (configured_model c) n ≡ node_at d p = y.2 ∙ at.is in
       let open_ : (may_be_member p && nat_le (largest p.kind) 500) ≡ true = sym (ap (λ (m : Node). m.allowed) node) ∙ h in
       let both = and_parts (may_be_member p) (nat_le (largest p.kind) 500) open_ in
-      let constrained = (and_parts p.is_data (list_any (bytes_eq (constraint p.item)) member_constraints) both.0).1 in
+      let may = and_parts p.is_data (list_any (bytes_eq (constraint p.item)) member_constraints) both.0 in
+      let constrained = may.1 in
       let small : largest p.kind ≤ 500 = grind (arith, nat_tests, both.1) in
       record {
-        member = member-of c n d p y.0 y.1 at.is at.kind (record { formed = is-formed d p at.place_there constrained; constrained = constrained; small = small });
-        short = (let reference = ap (λ (m : Node). length (m.domain ++ 47 ∷ m.item)) node in omega (arith, reference, length-append d (47 ∷ p.item), domain-short d at.domain_there, item-short d p at.place_there constrained));
+        member = member-of c n d p y.0 y.1 at.is at.kind (record { formed = is-formed d p at.place_there may.0 constrained; constrained = constrained; small = small });
+        short = (let reference = ap (λ (m : Node). length (m.domain ++ 47 ∷ m.item)) node in omega (arith, reference, length-append d (47 ∷ p.item), domain-short d at.domain_there, item-short d p at.place_there may.0 constrained));
       }

@@ -1,6 +1,5 @@
 -- What a text tells of its attributes: each by itself, and that none stands at or above another's reference.
-use Rattle.std.proofs.Common.{◌≡◌, ℕ, ◌≤◌, ◌⊎◌, ◌||◌, inl, inr, Bool, true, false, List, [], ◌∷◌, ◌++◌, length, refl, sym, ap, subst, ◌∙◌, arith, true≢false, if◌then◌else◌}
-use Rattle.std.specs.Prelude.{codes}
+use Rattle.std.proofs.Common.{◌≡◌, ℕ, ◌≤◌, ◌⊎◌, ◌||◌, inl, inr, Bool, true, false, List, [], ◌∷◌, ◌++◌, length, refl, sym, ap, subst, ◌∙◌, true≢false}
 use Rattle.std.specs.Str.{bytes_eq}
 use Rattle.sv_base.specs.Same.{values_of}
 use Rattle.sv_base.specs.declared.config.LnDef.{LnDef}
@@ -9,7 +8,7 @@ use Rattle.text_words.specs.Names.{is_fc}
 use Rattle.bay_model.specs.NamedLines.{path_item}
 use Rattle.cfg_lines.specs.Keys.{is_among}
 use Rattle.cfg_lines.specs.Paths.{item_key, above, clashes, is_taken}
-use Rattle.cfg_lines.specs.Before.{domain_of, node_of, groups_of}
+use Rattle.cfg_lines.specs.Before.{domain_of, node_of}
 use Rattle.cfg_lines.specs.Claims.{claims_by, claims}
 use Rattle.cfg_lines.specs.Configs.{config_of}
 use Rattle.text_words.specs.Grammar.{IsType, AreOfType}
@@ -20,53 +19,39 @@ use Rattle.cfg_lines.specs.declared.line.Line.TheVariants as lines
 use Rattle.list_laws.proofs.Among.{Among, At, at-among, at-last, right, ending, passes}
 use Rattle.text_configs.proofs.NamedLaws.{bytes-same}
 use Rattle.text_configs.proofs.ReachLaws.{above-has}
-use Rattle.text_configs.proofs.StandLaws.{IsPlainText, no-groups, IsIn, in-more, in-node}
+use Rattle.text_configs.proofs.StandLaws.{IsIn, in-more, in-node}
 
--- an attribute that was read, with one value
+-- an attribute that was read
 pub record IsRead (nodes : List LnDef) (a : AttrDef) : Type 0 where
   pub node : IsIn nodes a.domain a.ln
   pub constraint : is_fc a.fc ≡ true
-  pub setting : bytes_eq a.fc (codes "SG") ≡ false
   pub path : IsPath a.path
   pub short : length (path_item a.ln a.fc a.path) ≤ 64
   pub type_ : IsType a.kind
   pub values : AreOfType a.kind (values_of a.values)
-  pub one : length (values_of a.values) ≡ 1
 
 read-more : (nodes : List LnDef) (node : LnDef) (a : AttrDef) → IsRead nodes a → IsRead (nodes ++ node ∷ []) a
-read-more nodes node a h = record { node = in-more nodes node a.domain a.ln h.node; constraint = h.constraint; setting = h.setting; path = h.path; short = h.short; type_ = h.type_; values = h.values; one = h.one }
+read-more nodes node a h = record { node = in-more nodes node a.domain a.ln h.node; constraint = h.constraint; path = h.path; short = h.short; type_ = h.type_; values = h.values }
 
-attribute-read : (before : List Line) (nodes : List LnDef) (attr : AttrDef) → groups_of before ≡ 0 → IsIn nodes (domain_of before) (node_of before) → IsAttribute before attr → IsRead nodes attr
-attribute-read before nodes attr none node h = record {
+attribute-read : (before : List Line) (nodes : List LnDef) (attr : AttrDef) → IsIn nodes (domain_of before) (node_of before) → IsAttribute before attr → IsRead nodes attr
+attribute-read before nodes attr node h = record {
   node = subst (λ d. IsIn nodes d attr.ln) (sym (ap (λ (a : AttrDef). a.domain) h.here)) (subst (λ l. IsIn nodes (domain_of before) l) (sym (ap (λ (a : AttrDef). a.ln) h.here)) node);
   constraint = h.constraint;
-  setting = by (bytes_eq attr.fc (codes "SG")) h.count.0;
   path = h.path;
   short = subst (λ l. length (path_item l attr.fc attr.path) ≤ 64) (sym (ap (λ (a : AttrDef). a.ln) h.here)) h.short;
   type_ = h.type_;
   values = h.values;
-  one = count (bytes_eq attr.fc (codes "SG")) h.count.0 h.count.1;
 }
-  where
-    by : (b : Bool) → 1 ≤ (if b then groups_of before else 1) → b ≡ false
-    by true le = absurd (omega (arith, le, none))
-    by false le = refl
 
-    count : (b : Bool) → 1 ≤ (if b then groups_of before else 1) → length (values_of attr.values) ≡ (if b then groups_of before else 1) → length (values_of attr.values) ≡ 1
-    count true le e = absurd (omega (arith, le, none))
-    count false le e = e
-
-pub attrs-read : (told : List Line) (text : List ℕ) → AreLines text told → IsPlainText told → (a : AttrDef) → Among a (config_of told).attrs → IsRead (config_of told).nodes a
-attrs-read [] text h p a i = absurd i
-attrs-read (lines.Ln node ∷ before) text h p a i = read-more (config_of before).nodes node a (attrs-read before h.0 h.3 p a i)
-attrs-read (lines.Attr attr ∷ before) text h p a i = by (ending a (config_of before).attrs attr i) (attrs-read before h.0 h.3 p a)
+pub attrs-read : (told : List Line) (text : List ℕ) → AreLines text told → (a : AttrDef) → Among a (config_of told).attrs → IsRead (config_of told).nodes a
+attrs-read [] text h a i = absurd i
+attrs-read (lines.Ln node ∷ before) text h a i = read-more (config_of before).nodes node a (attrs-read before h.0 h.3 a i)
+attrs-read (lines.Attr attr ∷ before) text h a i = by (ending a (config_of before).attrs attr i) (attrs-read before h.0 h.3 a)
   where
     by : Among a (config_of before).attrs ⊎ (a ≡ attr) → (Among a (config_of before).attrs → IsRead (config_of before).nodes a) → IsRead (config_of before).nodes a
     by (inl j) go = go j
-    by (inr e) go = subst (IsRead (config_of before).nodes) (sym e) (attribute-read before (config_of before).nodes attr (no-groups before p) (in-node before h.0 h.3 h.4.follows.stands) h.4.follows)
-attrs-read (lines.Ctl control ∷ before) text h p a i = absurd p
-attrs-read (lines.Sgcb groups ∷ before) text h p a i = absurd p
-attrs-read (line ∷ before) text h p a i = attrs-read before h.0 h.3 p a i
+    by (inr e) go = subst (IsRead (config_of before).nodes) (sym e) (attribute-read before (config_of before).nodes attr (in-node before h.0 h.3 h.4.follows.stands) h.4.follows)
+attrs-read (line ∷ before) text h a i = attrs-read before h.0 h.3 a i
 
 -- ---- references
 

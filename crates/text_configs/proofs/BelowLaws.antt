@@ -1,34 +1,37 @@
 -- Below a functional constraint of a logical node stand the attributes of it alone.
-use Rattle.std.proofs.Common.{◌≡◌, ℕ, ◌+◌, ◌≤◌, ◌==◌, ◌⊎◌, inl, inr, true, false, List, [], ◌∷◌, ◌++◌, length, map, flat_map, refl, sym, ap, subst, ◌∙◌, arith, append_assoc, append-nil, suc, true≢false, length-append}
+use Rattle.std.proofs.Common.{◌≡◌, ℕ, ◌+◌, ◌<◌, ◌≤◌, ◌==◌, ◌⊎◌, inl, inr, true, false, List, [], ◌∷◌, ◌++◌, length, map, flat_map, refl, sym, ap, subst, ◌∙◌, arith, append_assoc, append-nil, suc, true≢false, length-append}
 use Rattle.std.specs.Prelude.{codes}
-use Rattle.std.proofs.lemmas.Bool.Decides.{eqb_tells}
+use Rattle.std.proofs.lemmas.Bool.Decides.{eqb_tells, nat_tests}
 use Rattle.sv_base.specs.declared.config.Config.{Config}
 use Rattle.sv_base.specs.declared.config.AttrDef.{AttrDef}
 use Rattle.sv_base.specs.declared.config.BlockDef.{BlockDef}
+use Rattle.sv_base.specs.declared.config.SgDef.{SgDef}
 use Rattle.sv_base.specs.declared.types.TypeOf.{TypeOf}
 use Rattle.bay_model.specs.Attributes.{attributes, attrs_defined, attrs_generated, twins}
 use Rattle.bay_model.specs.Model.{attribute}
 use Rattle.bay_model.specs.Generated.{Named, end_named}
-use Rattle.bay_model.specs.ComponentTable.{comp_name}
+use Rattle.bay_model.specs.ComponentTable.{comp_name, setting_comp_name}
 use Rattle.bay_model.specs.NamedLines.{path_item}
 use Rattle.bay_model.specs.NamedLines as named
 use Rattle.bay_model.specs.NameTree.{first_name, rest_of, is_itself, below}
 use Rattle.text_words.specs.Names.{is_name}
 use Rattle.text_words.specs.Names.{is_fc}
+use Rattle.cfg_lines.specs.Claims.{group_key}
 use Rattle.cfg_lines.specs.Sizes.{children}
 use Rattle.bay_model.specs.Slots.{IsSettable}
 use Rattle.bay_config.specs.Servable.{attr_type}
-use Rattle.list_laws.proofs.Among.{Among, At, at-among, at-within, at-same}
-use Rattle.text_configs.proofs.JoinedLaws.{ArePlain, joined, first, rest, first-joined, rest-joined, rest-alone, first-before, rest-before, joined-behind}
+use Rattle.list_laws.proofs.Among.{Among, At, at-among, at-within, at-same, passed}
+use Rattle.text_configs.proofs.JoinedLaws.{ArePlain, joined, first, rest, first-joined, rest-joined, rest-alone, split-at, first-before, rest-before, joined-behind}
 use Rattle.text_configs.proofs.NamedLaws.{IsBelow, below-of}
 use Rattle.text_configs.proofs.EntryLaws.{Entry, entry, named_of, same-entry}
 use Rattle.text_configs.proofs.FormLaws.{IsNumber}
 use Rattle.text_configs.proofs.SizeLaws.{AreBelow}
-use Rattle.text_configs.proofs.OrderLaws.{IsBare, IsNodeName, IsAttributeName, IsComponentName, named-in}
+use Rattle.text_configs.proofs.OrderLaws.{IsNodeName, IsAttributeName, IsComponentName, IsTwinName, IsPartName, IsOne, named-in}
+use Rattle.text_configs.proofs.DataLaws.{AreApart, is_held, held_of}
 use Rattle.text_configs.proofs.AttrLaws.{IsRead, key_of, AreBeside, AreAllBeside}
 use Rattle.text_configs.proofs.SetLaws.{IsReadBlock}
 use Rattle.text_configs.proofs.ValueLaws.{settable}
-use Rattle.text_configs.proofs.PathLaws.{name-plain, fc-plain, fc-of-block, names_in, path-plain, path-count, item_names, reference_names, item-joined, key-joined}
+use Rattle.text_configs.proofs.PathLaws.{name-plain, fc-plain, fc-of-block, fc-of-edit, names_in, path-joined, path-plain, path-count, item_names, reference_names, item-joined, key-joined}
 use Rattle.text_configs.proofs.CountLaws.{Known, counted, type-at, is-count}
 
 -- entries of what is named, each with a fact
@@ -43,11 +46,12 @@ gather kind P (n ∷ ns) h = let here = h n (inl refl) in let go = gather kind P
 
 -- the facts that a text's configuration has
 pub record IsTold (c : Config) : Type 0 where
-  pub bare : IsBare c
+  pub bare : c.controls ≡ []
   pub nodes : (n : _) → Among n c.nodes → (is_name n.ln ≡ true) × (is_name n.domain ≡ true)
   pub attrs : (a : AttrDef) → Among a c.attrs → IsRead c.nodes a
   pub beside : AreAllBeside c.attrs
   pub blocks : (b : BlockDef) → Among b c.blocks → IsReadBlock b
+  pub groups : (g : SgDef) → Among g c.groups → (a : AttrDef) → Among a c.attrs → AreBeside (key_of a) (group_key g.domain (codes "LLN0"))
 
 -- an entry below a functional constraint is an attribute's
 pub record IsOf (c : Config) (domain ln fc : List ℕ) (e : Entry) : Type 0 where
@@ -57,6 +61,37 @@ pub record IsOf (c : Config) (domain ln fc : List ℕ) (e : Entry) : Type 0 wher
   pub ln_is : attr.ln ≡ ln
   pub fc_is : attr.fc ≡ fc
   pub path : e.path ≡ names_in attr.path
+
+-- what a component of a setting group block leaves below its functional constraint
+pub record IsPart (c : Config) (domain ln fc : List ℕ) (m : Named) : Type 0 where
+  pub groups : SgDef
+  pub there : Among groups c.groups
+  pub domain_is : groups.domain ≡ domain
+  pub ln_is : ln ≡ codes "LLN0"
+  pub fc_is : fc ≡ codes "SP"
+  pub name : first_name m ≡ codes "SGCB"
+  pub longer : is_itself m ≡ false
+  pub none : is_held m ≡ false
+
+not-empty : (k : ℕ) → 0 < k → (k == 0) ≡ false
+not-empty k some = grind (arith, nat_tests)
+
+-- none stands at or below the block of its domain
+pub clash : (c : Config) → IsTold c → (a : AttrDef) → Among a c.attrs → (g : SgDef) → Among g c.groups → a.domain ≡ g.domain → a.ln ≡ codes "LLN0" → a.fc ≡ codes "SP" → first a.path ≡ codes "SGCB" → ⊥
+clash c told a i g j d l f p = by (split-at a.path)
+  where
+    apart : AreBeside (key_of a) (group_key g.domain (codes "LLN0"))
+    apart = told.groups g j a i
+
+    front : List ℕ
+    front = (g.domain ++ 47 ∷ codes "LLN0") ++ 36 ∷ codes "SP"
+
+    key : key_of a ≡ front ++ 36 ∷ a.path
+    key = ap (λ x. ((x ++ 47 ∷ a.ln) ++ 36 ∷ a.fc) ++ 36 ∷ a.path) d ∙ (ap (λ x. ((g.domain ++ 47 ∷ x) ++ 36 ∷ a.fc) ++ 36 ∷ a.path) l ∙ ap (λ x. ((g.domain ++ 47 ∷ codes "LLN0") ++ 36 ∷ x) ++ 36 ∷ a.path) f)
+
+    by : (a.path ≡ first a.path ++ 36 ∷ rest a.path) ⊎ (a.path ≡ first a.path) → ⊥
+    by (inl s) = apart.below (rest a.path) (key ∙ (ap (λ x. front ++ 36 ∷ x) (s ∙ ap (λ x. x ++ 36 ∷ rest a.path) p) ∙ sym (append_assoc front (36 ∷ codes "SGCB") (36 ∷ rest a.path))))
+    by (inr s) = apart.other (key ∙ ap (λ x. front ++ 36 ∷ x) (s ∙ p))
 
 module _ (c : Config) (told : IsTold c) (domain ln fc : List ℕ) (constraint : is_fc fc ≡ true) where
   item-plain : (a : AttrDef) → Among a c.attrs → ArePlain (item_names a)
@@ -80,6 +115,29 @@ module _ (c : Config) (told : IsTold c) (domain ln fc : List ℕ) (constraint : 
       let below : l.item ≡ codes "BR" ++ 36 ∷ (h.block.name ++ 36 ∷ comp_name h.part) = ap (λ (x : Named). x.item) left ∙ (ap rest item ∙ rest-before h.block.ln _ (name-plain h.block.ln (told.blocks h.block h.there).ln).1) in
       fc-of-block fc constraint (is ∙ (ap first below ∙ first-before (codes "BR") (h.block.name ++ 36 ∷ comp_name h.part) (refl, (refl, tt))))
 
+  not-twin : (n l : Named) → IsTwinName c n → l ≡ rest_of n → fc ≡ first_name l → ⊥
+  not-twin n l h left is =
+      let item : n.item ≡ h.attr.ln ++ 36 ∷ (codes "SE" ++ 36 ∷ h.attr.path) = ap (λ (x : Named). x.item) h.is ∙ append_assoc h.attr.ln (36 ∷ codes "SE") (36 ∷ h.attr.path) in
+      let below : l.item ≡ codes "SE" ++ 36 ∷ h.attr.path = ap (λ (x : Named). x.item) left ∙ (ap rest item ∙ rest-before h.attr.ln _ (name-plain h.attr.ln (told.attrs h.attr h.there).node.ln_name).1) in
+      fc-of-edit fc constraint (is ∙ (ap first below ∙ first-before (codes "SE") h.attr.path (refl, (refl, tt))))
+
+  of-part : (n l m : Named) → IsPartName c domain n → l ≡ rest_of n → m ≡ rest_of l → ln ≡ first_name n → fc ≡ first_name l → IsPart c domain ln fc m
+  of-part n l m h left right is below_is =
+      let name : List ℕ = setting_comp_name h.part in
+      let item : n.item ≡ codes "LLN0" ++ 36 ∷ (codes "SP" ++ 36 ∷ (codes "SGCB" ++ 36 ∷ name)) = ap (λ (x : Named). x.item) h.is in
+      let next : l.item ≡ codes "SP" ++ 36 ∷ (codes "SGCB" ++ 36 ∷ name) = ap (λ (x : Named). x.item) left ∙ (ap rest item ∙ rest-before (codes "LLN0") (codes "SP" ++ 36 ∷ (codes "SGCB" ++ 36 ∷ name)) (refl, (refl, (refl, (refl, tt))))) in
+      let last : m.item ≡ codes "SGCB" ++ 36 ∷ name = ap (λ (x : Named). x.item) right ∙ (ap rest next ∙ rest-before (codes "SP") (codes "SGCB" ++ 36 ∷ name) (refl, (refl, tt))) in
+      record {
+        groups = h.groups;
+        there = h.there;
+        domain_is = h.domain_is;
+        ln_is = is ∙ (ap first item ∙ first-before (codes "LLN0") (codes "SP" ++ 36 ∷ (codes "SGCB" ++ 36 ∷ name)) (refl, (refl, (refl, (refl, tt)))));
+        fc_is = below_is ∙ (ap first next ∙ first-before (codes "SP") (codes "SGCB" ++ 36 ∷ name) (refl, (refl, tt)));
+        name = ap first last ∙ first-before (codes "SGCB") name (refl, (refl, (refl, (refl, tt))));
+        longer = not-empty (length m.item) (omega (arith, ap (λ (x : List ℕ). length x) last));
+        none = ap is_held right ∙ (ap is_held left ∙ ap is_held h.is);
+      }
+
   of-attribute : (n l m : Named) → IsAttributeName c domain n → l ≡ rest_of n → m ≡ rest_of l → ln ≡ first_name n → fc ≡ first_name l → Is m
   of-attribute n l m h left right is below_is =
       let i = at-among h.at h.attr c.attrs h.there in
@@ -100,25 +158,70 @@ module _ (c : Config) (told : IsTold c) (domain ln fc : List ℕ) (constraint : 
         },
       )
 
-  below-is : (m : Named) → Among m (below fc (below ln (named.names_in c domain))) → Is m
+  abbrev here : List Named
+  here = below fc (below ln (named.names_in c domain))
+
+  below-is : (m : Named) → Among m here → Is m ⊎ IsPart c domain ln fc m
   below-is m i =
       let outer = below-of (below ln (named.names_in c domain)) fc m i in
       let inner = below-of (named.names_in c domain) ln outer.0 outer.1.there in
       by inner.0 outer.0 outer.1 inner.1 (named-in c told.bare domain inner.0 inner.1.there)
     where
-      by : (n l : Named) → IsBelow (below ln (named.names_in c domain)) fc m l → IsBelow (named.names_in c domain) ln l n → IsNodeName c n ⊎ (IsAttributeName c domain n ⊎ IsComponentName c n) → Is m
+      by : (n l : Named) → IsBelow (below ln (named.names_in c domain)) fc m l → IsBelow (named.names_in c domain) ln l n → IsOne c domain n → Is m ⊎ IsPart c domain ln fc m
       by n l o k (inl h) = absurd (not-node n l h k.left o.longer)
-      by n l o k (inr (inl h)) = of-attribute n l m h k.left o.left k.is o.is
-      by n l o k (inr (inr h)) = absurd (not-component n l h k.left o.is)
+      by n l o k (inr (inl h)) = inl (of-attribute n l m h k.left o.left k.is o.is)
+      by n l o k (inr (inr (inl h))) = absurd (not-component n l h k.left o.is)
+      by n l o k (inr (inr (inr (inl h)))) = absurd (not-twin n l h k.left o.is)
+      by n l o k (inr (inr (inr (inr h)))) = inr (of-part n l m h k.left o.left k.is o.is)
 
-  -- the entries below the functional constraint
+  holds-data : (m : Named) → Is m → is_held m ≡ true
+  holds-data m h = ap is_held h.1
+
+  -- an attribute doesn't begin with the name of a block
+  meets : (m n : Named) → Is m → IsPart c domain ln fc n → first_name m ≡ first_name n → ⊥
+  meets m n h o same =
+      let a = h.2.attr in
+      let item : m.item ≡ a.path = ap (λ (x : Named). x.item) h.1 ∙ (ap joined h.2.path ∙ path-joined a.path) in
+      clash c told a (at-among h.0.number a c.attrs h.2.at) o.groups o.there (h.2.domain_is ∙ sym o.domain_is) (h.2.ln_is ∙ o.ln_is) (h.2.fc_is ∙ o.fc_is) (ap first (sym item) ∙ (same ∙ o.name))
+
+  pub apart-here : AreApart here
+  apart-here m n i j same holds none = by (below-is m i) (below-is n j)
+    where
+      by : Is m ⊎ IsPart c domain ln fc m → Is n ⊎ IsPart c domain ln fc n → ⊥
+      by (inr o) q = true≢false (sym holds ∙ o.none)
+      by (inl h) (inl k) = true≢false (sym (holds-data n k) ∙ none)
+      by (inl h) (inr o) = meets m n h o same
+
+  pub longer-here : (n : Named) → Among n here → is_held n ≡ false → is_itself n ≡ false
+  longer-here n i none = by (below-is n i)
+    where
+      by : Is n ⊎ IsPart c domain ln fc n → is_itself n ≡ false
+      by (inl h) = absurd (true≢false (sym (holds-data n h) ∙ none))
+      by (inr o) = o.longer
+
+  -- what begins as the path of an attribute holds data
+  pub beside-block : (a : AttrDef) → Among a c.attrs → a.domain ≡ domain → a.ln ≡ ln → a.fc ≡ fc → (n : Named) → Among n here → first a.path ≡ first_name n → is_held n ≡ true
+  beside-block a i d l f n j same = by (below-is n j)
+    where
+      by : Is n ⊎ IsPart c domain ln fc n → is_held n ≡ true
+      by (inl h) = holds-data n h
+      by (inr o) = absurd (clash c told a i o.groups o.there (d ∙ sym o.domain_is) (l ∙ o.ln_is) (f ∙ o.fc_is) (same ∙ o.name))
+
+  -- the entries below the functional constraint, those of attributes
   pub record Entries : Type 0 where
     pub entries : List Entry
-    pub named : below fc (below ln (named.names_in c domain)) ≡ map (named_of (attr_type c)) entries
+    pub named : held_of here ≡ map (named_of (attr_type c)) entries
     pub each : (e : Entry) → Among e entries → IsOf c domain ln fc e
 
   pub all-entries : Entries
-  all-entries = let g = gather (attr_type c) (IsOf c domain ln fc) (below fc (below ln (named.names_in c domain))) below-is in record { entries = g.0; named = g.1; each = g.2 }
+  all-entries = let g = gather (attr_type c) (IsOf c domain ln fc) (held_of here) own in record { entries = g.0; named = g.1; each = g.2 }
+    where
+      own : (m : Named) → Among m (held_of here) → Is m
+      own m i = let p = passed is_held m here i in by p.1 (below-is m p.0)
+        where
+          by : is_held m ≡ true → Is m ⊎ IsPart c domain ln fc m → Is m
+          by holds (inl h) = h
+          by holds (inr o) = absurd (true≢false (sym holds ∙ o.none))
 
   abbrev pub front : List (List ℕ)
   front = (domain ++ 47 ∷ ln) ∷ fc ∷ []

@@ -1,6 +1,7 @@
 -- Names that are joined by `$`: the first of them, those behind it, and the names that a path is made of.
-use Rattle.std.proofs.Common.{◌≡◌, ℕ, suc, ◌+◌, ◌<◌, ◌≤◌, ◌==◌, false, cond, not, List, [], ◌∷◌, ◌++◌, length, take, drop, refl, sym, ap, ◌∙◌, arith, length-append, append_assoc}
+use Rattle.std.proofs.Common.{◌≡◌, ℕ, suc, ◌+◌, ◌<◌, ◌≤◌, ◌==◌, ◌⊎◌, inl, inr, true, false, cond, not, List, [], ◌∷◌, ◌++◌, length, take, drop, refl, sym, ap, ap₂, subst, ◌∙◌, arith, length-append, append_assoc}
 use Rattle.std.specs.List.{before_first, after_first, position_or_len, join_with_byte}
+use Rattle.std.proofs.lemmas.Bool.Decides.{eqb_tells}
 use Rattle.list_laws.proofs.Among.{Each}
 
 abbrev pub NoDollar : List ℕ → Type 0
@@ -82,3 +83,12 @@ same-joined (a ∷ as_) (b ∷ bs) h k e =
     let head : a ≡ b = sym (first-joined a as_ h.0.1) ∙ (ap first e ∙ first-joined b bs k.0.1) in
     let tail : as_ ≡ bs = same-joined as_ bs h.1 k.1 (sym (rest-joined a as_ h.0.1) ∙ (ap rest e ∙ rest-joined b bs k.0.1)) in
     ap (λ x. x ∷ as_) head ∙ ap (λ l. b ∷ l) tail
+
+-- an item goes on behind its first name, or is that
+pub split-at : (item : List ℕ) → (item ≡ first item ++ 36 ∷ rest item) ⊎ (item ≡ first item)
+split-at [] = inr refl
+split-at (o ∷ os) = by (eqb_tells o 36) (split-at os) where
+  by : ((o == 36) ≡ true × (o ≡ 36)) ⊎ ((o == 36) ≡ false × (o ≡ 36 → ⊥)) → (os ≡ first os ++ 36 ∷ rest os) ⊎ (os ≡ first os) → ((o ∷ os) ≡ first (o ∷ os) ++ 36 ∷ rest (o ∷ os)) ⊎ ((o ∷ os) ≡ first (o ∷ os))
+  by (inl t) go = inl (subst (λ x. (x ∷ os) ≡ first (x ∷ os) ++ 36 ∷ rest (x ∷ os)) (sym t.1) refl)
+  by (inr t) (inl s) = inl (ap (λ l. o ∷ l) s ∙ sym (ap₂ (λ f r. f ++ 36 ∷ r) (first-more o os t.0) (rest-more o os t.0)))
+  by (inr t) (inr s) = inr (ap (λ l. o ∷ l) s ∙ sym (first-more o os t.0))

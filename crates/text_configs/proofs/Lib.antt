@@ -5,6 +5,8 @@ pub mod EntryLaws
 pub mod FormLaws
 pub mod TreeLaws
 pub mod PlaceLaws
+pub mod DataLaws
+pub mod DepthLaws
 pub mod OrderLaws
 pub mod FindLaws
 -- how many octets a value has
@@ -16,6 +18,8 @@ pub mod StandLaws
 pub mod AttrLaws
 pub mod SetLaws
 pub mod ValueLaws
+pub mod GroupLaws
+pub mod ClashLaws
 pub mod PathLaws
 -- the members of its data sets, and all of it
 pub mod CountLaws

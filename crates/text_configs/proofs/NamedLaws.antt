@@ -112,7 +112,7 @@ pub record IsPlaced (before : List ℕ) (l : ℕ) (ns : List Named) (p : Place) 
   pub name : Among f (first_names ns)
   pub at : (p ≡ place_at before l ns f) ⊎ Among p (deeper before l ns f)
 
-abbrev forest : ℕ → List Named → List (List ℕ) → Forest
+abbrev pub forest : ℕ → List Named → List (List ℕ) → Forest
 forest l ns names = side_by_side (λ name others. named name (role_of (below name ns)) (own_type (below name ns)) (grown l (below name ns)) others) names
 
 side-of : (before : List ℕ) (l : ℕ) (ns : List Named) (names : List (List ℕ)) (p : Place) → Among p (places before (forest l ns names)) → (f : List ℕ) × Among f names × ((p ≡ place_at before l ns f) ⊎ Among p (deeper before l ns f))

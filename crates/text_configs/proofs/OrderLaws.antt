@@ -9,9 +9,10 @@ use Rattle.sv_base.specs.declared.config.AttrDef.{AttrDef}
 use Rattle.sv_base.specs.declared.config.BlockDef.{BlockDef}
 use Rattle.sv_base.specs.declared.config.SgDef.{SgDef}
 use Rattle.bay_model.specs.declared.components.Comp.{Comp}
+use Rattle.bay_model.specs.declared.components.SettingComp.{SettingComp}
 use Rattle.bay_model.specs.Model.{attribute, several, component}
-use Rattle.bay_model.specs.Generated.{Named, within, end_named, structure_named}
-use Rattle.bay_model.specs.ComponentTable.{comp_name, components, comp_kind}
+use Rattle.bay_model.specs.Generated.{Named, within, end_named, structure_named, setting_named}
+use Rattle.bay_model.specs.ComponentTable.{comp_name, components, comp_kind, setting_components}
 use Rattle.bay_rooms.specs.Kinds.{type_of}
 use Rattle.bay_model.specs.NamedLines.{Line, is_setting, path_item, attribute_names, attribute_line, attribute_lines, node_line, block_line, block_lines, control_lines, group_line, domain_number, generated, lines, insert_line, in_order, names_in}
 use Rattle.bay_model.specs.NameTree.{longest}
@@ -57,13 +58,16 @@ from-ordered (l ∷ ls) x i = by (from-inserted l (in_order ls) x i) (from-order
 
 -- ---- the lines of each kind
 
--- a name that an attribute's line names, the attribute having no twin
-attribute-name : (x twin : ℕ) (a : AttrDef) (n : Named) → is_setting a ≡ false → Among n (attribute_names x twin a) → n ≡ end_named (path_item a.ln a.fc a.path) (attribute x) a.kind
-attribute-name x twin a n free i = by (is_setting a) free i
+-- what an attribute's line names: the attribute, and its edit copy
+attribute-name : (x twin : ℕ) (a : AttrDef) (n : Named) → Among n (attribute_names x twin a)
+    → (n ≡ end_named (path_item a.ln a.fc a.path) (attribute x) a.kind) ⊎ ((is_setting a ≡ true) × (n ≡ end_named (path_item a.ln (codes "SE") a.path) (attribute twin) a.kind))
+attribute-name x twin a n i = by (is_setting a) refl i
   where
-    by : (b : Bool) → b ≡ false → Among n (end_named (path_item a.ln a.fc a.path) (attribute x) a.kind ∷ (if b then end_named (path_item a.ln (codes "SE") a.path) (attribute twin) a.kind ∷ [] else [])) → n ≡ end_named (path_item a.ln a.fc a.path) (attribute x) a.kind
-    by b e (inl j) = j
-    by true e (inr j) = absurd cc
+    by : (b : Bool) → is_setting a ≡ b → Among n (end_named (path_item a.ln a.fc a.path) (attribute x) a.kind ∷ (if b then end_named (path_item a.ln (codes "SE") a.path) (attribute twin) a.kind ∷ [] else []))
+        → (n ≡ end_named (path_item a.ln a.fc a.path) (attribute x) a.kind) ⊎ ((is_setting a ≡ true) × (n ≡ end_named (path_item a.ln (codes "SE") a.path) (attribute twin) a.kind))
+    by b e (inl j) = inl j
+    by true e (inr (inl j)) = inr (e, j)
+    by true e (inr (inr j)) = absurd j
     by false e (inr j) = absurd j
 
 -- attribute x has a line
@@ -112,15 +116,29 @@ pub record IsComponentName (c : Config) (n : Named) : Type 0 where
   pub there : Among block c.blocks
   pub is : n ≡ end_named (within (path_item block.ln (codes "BR") block.name) (comp_name part)) (component at part) (type_of (comp_kind part))
 
--- no controls, no setting groups, and no attributes under SG
-pub record IsBare (c : Config) : Type 0 where
-  pub controls : c.controls ≡ []
-  pub groups : c.groups ≡ []
-  pub settings : (a : AttrDef) → Among a c.attrs → is_setting a ≡ false
+-- the edit copy of an attribute under SG
+pub record IsTwinName (c : Config) (n : Named) : Type 0 where
+  pub attr : AttrDef
+  pub twin : ℕ
+  pub there : Among attr c.attrs
+  pub setting : is_setting attr ≡ true
+  pub is : n ≡ end_named (path_item attr.ln (codes "SE") attr.path) (attribute twin) attr.kind
 
-module _ (c : Config) (bare : IsBare c) where
+-- a component of the setting group block of the domain
+pub record IsPartName (c : Config) (domain : List ℕ) (n : Named) : Type 0 where
+  pub groups : SgDef
+  pub part : SettingComp
+  pub there : Among groups c.groups
+  pub domain_is : groups.domain ≡ domain
+  pub is : n ≡ setting_named (domain_number c groups.domain) part
+
+-- what is named in a domain of a configuration without controls
+abbrev pub IsOne : Config → List ℕ → Named → Type 0
+IsOne c domain n = IsNodeName c n ⊎ (IsAttributeName c domain n ⊎ (IsComponentName c n ⊎ (IsTwinName c n ⊎ IsPartName c domain n)))
+
+module _ (c : Config) (bare : c.controls ≡ []) where
   abbrev Is : List ℕ → Named → Type 0
-  Is domain n = IsNodeName c n ⊎ (IsAttributeName c domain n ⊎ IsComponentName c n)
+  Is domain n = IsOne c domain n
 
   of-node : (domain : List ℕ) (l : Line) (n : Named) → Among l (map node_line c.nodes) → Among n l.names → Is domain n
   of-node domain l n i j = let s = source node_line l c.nodes i in
@@ -131,28 +149,38 @@ module _ (c : Config) (bare : IsBare c) where
       by m k (inr k') = absurd k'
 
   of-attribute : (domain : List ℕ) (l : Line) (n : Named) (first : ℕ) → first ≡ 0 → IsAttributeLine c.attrs first l → l.domain ≡ domain → Among n l.names → Is domain n
-  of-attribute domain l n first zero_is h d j = inr (inl (record {
-    attr = h.attr;
-    at = h.at;
-    there = h.there;
-    domain_is = sym (ap (λ (x : Line). x.domain) h.is) ∙ d;
-    is = attribute-name (first + h.at) h.twin h.attr n (bare.settings h.attr (at-among h.at h.attr c.attrs h.there)) (subst (λ (x : Line). Among n x.names) h.is j) ∙ ap (λ k. end_named (path_item h.attr.ln h.attr.fc h.attr.path) (attribute k) h.attr.kind) (omega (arith, zero_is));
-  }))
+  of-attribute domain l n first zero_is h d j = by (attribute-name (first + h.at) h.twin h.attr n (subst (λ (x : Line). Among n x.names) h.is j))
+    where
+      by : (n ≡ end_named (path_item h.attr.ln h.attr.fc h.attr.path) (attribute (first + h.at)) h.attr.kind) ⊎ ((is_setting h.attr ≡ true) × (n ≡ end_named (path_item h.attr.ln (codes "SE") h.attr.path) (attribute h.twin) h.attr.kind)) → Is domain n
+      by (inl e) = inr (inl (record {
+        attr = h.attr;
+        at = h.at;
+        there = h.there;
+        domain_is = sym (ap (λ (x : Line). x.domain) h.is) ∙ d;
+        is = e ∙ ap (λ k. end_named (path_item h.attr.ln h.attr.fc h.attr.path) (attribute k) h.attr.kind) (omega (arith, zero_is));
+      }))
+      by (inr e) = inr (inr (inr (inl (record { attr = h.attr; twin = h.twin; there = at-among h.at h.attr c.attrs h.there; setting = e.0; is = e.1 }))))
 
   of-block : (domain : List ℕ) (l : Line) (n : Named) → (d : BlockDef) × (k : ℕ) × Among d c.blocks × (l ≡ block_line k d) → Among n l.names → Is domain n
   of-block domain l n h j = let s = source (λ k. end_named (within (path_item h.0.ln (codes "BR") h.0.name) (comp_name k)) (component h.1 k) (type_of (comp_kind k))) n components (subst (λ (x : Line). Among n x.names) h.3 j) in
-      inr (inr (record { block = h.0; part = s.0; at = h.1; there = h.2; is = s.2 }))
+      inr (inr (inl (record { block = h.0; part = s.0; at = h.1; there = h.2; is = s.2 })))
+
+  of-group : (domain : List ℕ) (l : Line) (n : Named) → Among l (map (λ (g : SgDef). group_line (domain_number c g.domain) g) c.groups) → l.domain ≡ domain → Among n l.names → Is domain n
+  of-group domain l n i d j =
+      let g = source (λ (g : SgDef). group_line (domain_number c g.domain) g) l c.groups i in
+      let k = source (setting_named (domain_number c g.0.domain)) n setting_components (subst (λ (x : Line). Among n x.names) g.2 j) in
+      inr (inr (inr (inr (record { groups = g.0; part = k.0; there = g.1; domain_is = sym (ap (λ (x : Line). x.domain) g.2) ∙ d; is = k.2 }))))
 
   of-line : (domain : List ℕ) (l : Line) (n : Named) → Among l (lines c) → l.domain ≡ domain → Among n l.names → Is domain n
   of-line domain l n i d j = first (either l (map node_line c.nodes) _ i)
     where
-      none : Among l (control_lines 0 (length c.attrs) c.controls) ⊎ Among l (map (λ (g : SgDef). group_line (domain_number c g.domain) g) c.groups) → ⊥
-      none (inl k) = subst (λ cs. Among l (control_lines 0 (length c.attrs) cs)) bare.controls k
-      none (inr k) = subst (λ gs. Among l (map (λ (g : SgDef). group_line (domain_number c g.domain) g) gs)) bare.groups k
+      fourth : Among l (control_lines 0 (length c.attrs) c.controls) ⊎ Among l (map (λ (g : SgDef). group_line (domain_number c g.domain) g) c.groups) → Is domain n
+      fourth (inl k) = absurd (subst (λ cs. Among l (control_lines 0 (length c.attrs) cs)) bare k)
+      fourth (inr k) = of-group domain l n k d j
 
       third : Among l (block_lines 0 c.blocks) ⊎ Among l (control_lines 0 (length c.attrs) c.controls ++ map (λ (g : SgDef). group_line (domain_number c g.domain) g) c.groups) → Is domain n
       third (inl k) = of-block domain l n (block-line c.blocks 0 l k) j
-      third (inr k) = absurd (none (either l (control_lines 0 (length c.attrs) c.controls) _ k))
+      third (inr k) = fourth (either l (control_lines 0 (length c.attrs) c.controls) _ k)
 
       second : Among l (attribute_lines 0 (length c.attrs + length (generated c)) c.attrs) ⊎ Among l (block_lines 0 c.blocks ++ (control_lines 0 (length c.attrs) c.controls ++ map (λ (g : SgDef). group_line (domain_number c g.domain) g) c.groups)) → Is domain n
       second (inl k) = of-attribute domain l n 0 refl (attribute-line c.attrs 0 _ l k) d j

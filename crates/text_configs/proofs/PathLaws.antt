@@ -89,6 +89,9 @@ fc-member fc h = of-each (λ fc. list_any (bytes_eq fc) member_constraints ≡ t
 pub fc-of-block : (fc : List ℕ) → is_fc fc ≡ true → fc ≡ codes "BR" → ⊥
 fc-of-block fc h e = true≢false (sym h ∙ ap is_fc e)
 
+pub fc-of-edit : (fc : List ℕ) → is_fc fc ≡ true → fc ≡ codes "SE" → ⊥
+fc-of-edit fc h e = true≢false (sym h ∙ ap is_fc e)
+
 -- ---- paths
 
 abbrev pub names_in : List ℕ → List (List ℕ)

@@ -24,20 +24,22 @@ use Rattle.text_words.specs.Names.{is_name}
 use Rattle.cfg_lines.specs.Nodes.{reaches}
 use Rattle.bay_config.specs.Servable.{IsMember, attr_type}
 use Rattle.list_laws.proofs.Among.{Among, At, of-each, at-get, at-among, among-at, spread, mapped, source, some-passes, heads, tails}
-use Rattle.text_configs.proofs.JoinedLaws.{ArePlain, joined, first, rest, first-joined, rest-joined, joined-longer, same-joined}
-use Rattle.text_configs.proofs.NamedLaws.{bytes-same}
+use Rattle.text_configs.proofs.JoinedLaws.{ArePlain, NoDollar, joined, first, rest, first-joined, rest-joined, joined-longer, same-joined}
+use Rattle.text_configs.proofs.NamedLaws.{bytes-same, first-of, placed}
 use Rattle.text_configs.proofs.EntryLaws.{named_of}
 use Rattle.text_configs.proofs.FormLaws.{IsFormed, places-formed}
 use Rattle.text_configs.proofs.TreeLaws.{grown-tree}
 use Rattle.text_configs.proofs.SizeLaws.{places-small}
-use Rattle.text_configs.proofs.PlaceLaws.{descend, exists}
+use Rattle.text_configs.proofs.PlaceLaws.{exists, first-without}
+use Rattle.text_configs.proofs.DataLaws.{held-place}
+use Rattle.text_configs.proofs.DepthLaws.{same-name, under}
 use Rattle.text_configs.proofs.OrderLaws.{attribute-named, within-longest}
 use Rattle.text_configs.proofs.ReachLaws.{above-back}
 use Rattle.text_configs.proofs.FindLaws.{IsFound, found, domain-there, domain-of}
 use Rattle.text_configs.proofs.AttrLaws.{key_of}
 use Rattle.text_configs.proofs.PathLaws.{name-plain, NoSlash, name-whole, same-reference, fc-plain, fc-member, names_in, path-plain, path-joined, item_names, item-joined, key-joined, joined-domain, GoOn, prefix-joined, IsReference}
 use Rattle.text_configs.proofs.CountLaws.{Known, counted, is-count}
-use Rattle.text_configs.proofs.BelowLaws.{IsTold, all-entries, entries-below, front}
+use Rattle.text_configs.proofs.BelowLaws.{IsTold, all-entries, beside-block, entries-below, front}
 use Rattle.text_configs.proofs.MemberLaws.{node-at-place, IsFit, member-of}
 
 module _ (c : Config) (told : IsTold c) where
@@ -112,24 +114,33 @@ module _ (c : Config) (told : IsTold c) where
 
   -- a place at the names of a functional constraint and below
   fit : (domain : List ℕ) (p : Place) (ln fc b : List ℕ) (more : List (List ℕ)) → is_fc fc ≡ true → ArePlain (ln ∷ fc ∷ b ∷ more) → Among p (places_in c domain) → p.item ≡ joined (ln ∷ fc ∷ b ∷ more)
-      → counted c told.attrs told.beside 10 (domain ++ 47 ∷ p.item) ≤ 500 → IsFit c p
-  fit domain p ln fc b more known plain i item few =
+      → (a : AttrDef) → Among a c.attrs → a.domain ≡ domain → (behind : List (List ℕ)) → item_names a ≡ (ln ∷ fc ∷ b ∷ more) ++ behind → counted c told.attrs told.beside 10 (domain ++ 47 ∷ p.item) ≤ 500 → IsFit c p
+  fit domain p ln fc b more known plain i item a here of_domain behind goes few =
       let ns : List Named = named.names_in c domain in
-      let one = descend [] (suc (longest ns)) ns p ln fc (b ∷ more) plain.0.1 item i in
+      let one = under [] (longest ns) ns p ln fc (b ∷ more) plain.0.1 item (within-longest ns) i in
       let item_one : p.item ≡ (ln ++ 36 ∷ []) ++ joined (fc ∷ b ∷ more) = item ∙ sym (append_assoc ln (36 ∷ []) (joined (fc ∷ b ∷ more))) in
-      let two = descend (ln ++ 36 ∷ []) one.0 (below ln ns) p fc b more plain.1.0.1 item_one one.1 in
+      let two = under (ln ++ 36 ∷ []) one.depth (below ln ns) p fc b more plain.1.0.1 item_one one.within one.there in
+      let item_two : p.item ≡ before ++ joined (b ∷ more) = item_one ∙ sym (append_assoc ((ln ++ 36 ∷ []) ++ fc) (36 ∷ []) (joined (b ∷ more)) ∙ append_assoc (ln ++ 36 ∷ []) fc (36 ∷ joined (b ∷ more))) in
+      let s = placed before two.depth (below fc (below ln ns)) p two.there in
+      let o = first-of (below fc (below ln ns)) s.0 s.1.name in
+      let name : s.0 ≡ b = same-name before two.depth (below fc (below ln ns)) p s.0 b more (subst NoDollar (sym o.1.is) (first-without o.0.item)) plain.1.1.0.1 item_two s.1.at in
+      let path : names_in a.path ≡ b ∷ (more ++ behind) = tails a.fc fc (names_in a.path) (b ∷ (more ++ behind)) (tails a.ln ln (a.fc ∷ names_in a.path) (fc ∷ b ∷ (more ++ behind)) goes) in
+      let begins : first a.path ≡ s.0 = ap first (sym (path-joined a.path) ∙ ap joined path) ∙ (first-joined b (more ++ behind) plain.1.1.0.1 ∙ sym name) in
+      let held = held-place two.depth (below fc (below ln ns)) before p s.0 s.1 (λ n j is. beside-block c told domain ln fc known a here of_domain
+      (heads a.ln ln (a.fc ∷ names_in a.path) (fc ∷ b ∷ (more ++ behind)) goes)
+      (heads a.fc fc (names_in a.path) (b ∷ (more ++ behind)) (tails a.ln ln (a.fc ∷ names_in a.path) (fc ∷ b ∷ (more ++ behind)) goes)) n j (begins ∙ is)) in
       let all = all-entries c told domain ln fc known in
-      let among : Among p (places before (grown two.0 (map (named_of (attr_type c)) all.entries))) = subst (λ ms. Among p (places before (grown two.0 ms))) all.named two.1 in
+      let among : Among p (places before (grown (suc two.depth) (map (named_of (attr_type c)) all.entries))) = subst (λ ms. Among p (places before (grown (suc two.depth) ms))) all.named held in
       let under = entries-below c told domain ln fc known 10 (omega arith) all.entries all.each in
       record {
-        formed = of-each (IsFormed (attr_type c) (length (attributes c))) (places before (grown two.0 (map (named_of (attr_type c)) all.entries))) p
-            (places-formed (attr_type c) (length (attributes c)) before (grown two.0 (map (named_of (attr_type c)) all.entries)) (grown-tree (attr_type c) (length (attributes c)) two.0 all.entries under.entries)) among;
+        formed = of-each (IsFormed (attr_type c) (length (attributes c))) (places before (grown (suc two.depth) (map (named_of (attr_type c)) all.entries))) p
+            (places-formed (attr_type c) (length (attributes c)) before (grown (suc two.depth) (map (named_of (attr_type c)) all.entries)) (grown-tree (attr_type c) (length (attributes c)) (suc two.depth) all.entries under.entries)) among;
         constrained = ap (λ f. list_any (bytes_eq f) member_constraints) constraint_is ∙ fc-member fc known;
         small = omega (
           arith,
           few,
           places-small (attr_type c) (length (attributes c)) (Known c told.attrs told.beside) (counted c told.attrs told.beside) (children (map key_of c.attrs)) (is-count c told.attrs told.beside)
-              two.0 10 all.entries (front c told domain ln fc known) domain before under link p among few,
+              (suc two.depth) 10 all.entries (front c told domain ln fc known) domain before under link p among few,
         );
       }
     where
@@ -168,12 +179,12 @@ module _ (c : Config) (told : IsTold c) where
   fit-at r s h few d p i j is =
       let both = same-reference s.domain d s.item p.item (name-whole s.domain s.domain_name) (domain-whole d i) (sym s.is ∙ is) in
       let t = third (names_in s.item) s.many in
-      by t.0 t.1 t.2 t.3 t.4 (sym both.1 ∙ sym (path-joined s.item))
+      by both.0 t.0 t.1 t.2 t.3 t.4 (sym both.1 ∙ sym (path-joined s.item))
     where
-      by : (ln fc b : List ℕ) (more : List (List ℕ)) → names_in s.item ≡ ln ∷ fc ∷ b ∷ more → p.item ≡ joined (names_in s.item) → IsFit c p
-      by ln fc b more e item =
+      by : s.domain ≡ d → (ln fc b : List ℕ) (more : List (List ℕ)) → names_in s.item ≡ ln ∷ fc ∷ b ∷ more → p.item ≡ joined (names_in s.item) → IsFit c p
+      by same ln fc b more e item =
           let known : is_fc fc ≡ true = ap is_fc (sym (same-constraint h.attr ln fc b more h.go.more (h.go.is ∙ ap (λ l. l ++ h.go.more) e))) ∙ (told.attrs h.attr (at-among h.number h.attr c.attrs h.at)).constraint in
-          fit d p ln fc b more known (subst ArePlain e (path-plain s.item s.path)) j (item ∙ ap joined e) (omega (arith, few, ap (λ (x : List ℕ). counted c told.attrs told.beside 10 x) is))
+          fit d p ln fc b more known (subst ArePlain e (path-plain s.item s.path)) j (item ∙ ap joined e) h.attr (at-among h.number h.attr c.attrs h.at) (h.domain_is ∙ same) h.go.more (h.go.is ∙ ap (λ l. l ++ h.go.more) e) (omega (arith, few, ap (λ (x : List ℕ). counted c told.attrs told.beside 10 x) is))
 
   -- the node that such a reference has, has it
   pub member-reference : (r : List ℕ) → IsReference r → reaches (map key_of c.attrs) r ≡ true → reference_at (configured_model c) (member_number (nodes c) r) ≡ r

@@ -1,5 +1,5 @@
 -- What a configuration's text spells can be served by a bay.
-use Rattle.std.proofs.Common.{◌≡◌, ◌⊎◌, inl, inr, ℕ, ◌-◌, ◌≤◌, Bool, true, false, not, ◌||◌, List, [], ◌∷◌, length, map, nat_lt, is_some, position, refl, sym, ap, subst, ◌∙◌, arith, true≢false, if◌then◌else◌}
+use Rattle.std.proofs.Common.{◌≡◌, ◌⊎◌, inl, inr, ℕ, ◌≤◌, Bool, true, false, not, ◌||◌, List, [], ◌∷◌, length, map, nat_lt, is_some, position, refl, sym, ap, subst, ◌∙◌, arith, true≢false}
 use Rattle.std.specs.List.{All}
 use Rattle.std.specs.Str.{bytes_eq}
 use Rattle.std.proofs.lemmas.Bool.{and_parts}
@@ -10,7 +10,7 @@ use Rattle.sv_base.specs.declared.config.Config.{Config}
 use Rattle.sv_base.specs.declared.config.AttrDef.{AttrDef}
 use Rattle.sv_base.specs.declared.config.SetDef.{SetDef}
 use Rattle.sv_base.specs.declared.config.CtlDef.{CtlDef}
-use Rattle.bay_model.specs.Configured.{block_defined, groups_defined}
+use Rattle.bay_model.specs.Configured.{block_defined}
 use Rattle.bay_model.specs.NamedLines.{domains}
 use Rattle.bay_model.specs.Reports.{reference_at}
 use Rattle.bay_model.specs.Named.{nodes, member_number, set_defined, configured_model}
@@ -29,13 +29,14 @@ use Rattle.data_sets.specs.Opening.{AreNamed}
 use Rattle.text_sets.proofs.NamedLaws.{sets-named}
 use Rattle.bay_config.specs.Servable.{IsMember, IsReferred, IsServedSet, IsServedBlock, HasSoundValues, IsServable}
 use Rattle.list_laws.proofs.Among.{Among, all-of, mapped, source}
+use Rattle.text_configs.proofs.GroupLaws.{are-grouped, begins, first-value}
+use Rattle.text_configs.proofs.ClashLaws.{groups-beside}
 use Rattle.text_configs.proofs.FindLaws.{found, domain-there}
 use Rattle.text_configs.proofs.NamedLaws.{bytes-same, not-not}
 use Rattle.text_configs.proofs.StandLaws.{IsPlainText, plain-text, nodes-read}
 use Rattle.text_configs.proofs.AttrLaws.{key_of, attrs-read, attrs-beside}
 use Rattle.text_configs.proofs.SetLaws.{blocks-read, few-blocks, sets-read, member-named, found-of, leaf_of, leaves-are}
 use Rattle.text_values.proofs.ValueLaws.{all-sound}
-use Rattle.text_configs.proofs.ValueLaws.{first-value}
 use Rattle.text_configs.proofs.PathLaws.{IsReference, reference-of}
 use Rattle.text_configs.proofs.CountLaws.{counted}
 use Rattle.text_configs.proofs.BelowLaws.{IsTold}
@@ -58,17 +59,18 @@ or-second false b h e = absurd (true≢false (sym h ∙ e))
 at-most : (n : ℕ) → nat_lt 500 n ≡ false → n ≤ 500
 at-most n h = grind (arith, nat_tests)
 
-module _ (told : List Line) (text : List ℕ) (are : AreLines text told) (found_all : AreFound told told) (controls : (config_of told).controls ≡ []) (groups : (config_of told).groups ≡ []) where
+module _ (told : List Line) (text : List ℕ) (are : AreLines text told) (found_all : AreFound told told) (controls : (config_of told).controls ≡ []) where
   plain : IsPlainText told
-  plain = plain-text told controls groups
+  plain = plain-text told controls
 
   is-told : IsTold (config_of told)
   is-told = record {
-    bare = record { controls = controls; groups = groups; settings = λ a i. (attrs-read told text are plain a i).setting };
+    bare = controls;
     nodes = nodes-read told text are;
-    attrs = attrs-read told text are plain;
+    attrs = attrs-read told text are;
     beside = attrs-beside told text are;
     blocks = blocks-read told text are;
+    groups = groups-beside told text are;
   }
 
   names-are : leaf_names told ≡ map key_of (config_of told).attrs
@@ -107,12 +109,6 @@ module _ (told : List Line) (text : List ℕ) (are : AreLines text told) (found_
     short = all-of IsShort (map (member_number (nodes (config_of told))) s.members) (λ n j. let r = source (member_number (nodes (config_of told))) n s.members j in subst IsShort (sym r.2) (member-short r.0 (h.told_of r.0 r.1)));
   }
 
-  place-first : (a : AttrDef) → Among a (config_of told).attrs → 0 ≡ place_in (config_of told) a
-  place-first a i = sym (ap (λ b. if b then (groups_defined (config_of told).groups a.domain).active - 1 else 0) (is-told.attrs a i).setting)
-
-  has-value : (a : AttrDef) → Among a (config_of told).attrs → HasValue a 0
-  has-value a i = let r = is-told.attrs a i in first-value a r.type_ r.values r.one
-
   has-domain : (a : AttrDef) → Among a (config_of told).attrs → is_some (position (bytes_eq a.domain) (domains (config_of told))) ≡ true
   has-domain a i = let n = (is-told.attrs a i).node in
       let d : Among a.domain (domains (config_of told)) = subst (λ d. Among d (domains (config_of told))) n.domain_is (domain-there n.node [] (config_of told).nodes n.there) in
@@ -121,10 +117,10 @@ module _ (told : List Line) (text : List ℕ) (are : AreLines text told) (found_
   pub served : AreNamed (configured_model (config_of told)) → IsServable (config_of told)
   served names = record {
     controls = controls;
-    groups = groups;
+    grouped = are-grouped told text are;
     storable = record {
-      lines = all-of (λ a. HasValue a (place_in (config_of told) a)) (config_of told).attrs (λ a i. subst (HasValue a) (place-first a i) (has-value a i));
-      twins = all-of (λ a. HasValue a 0) (config_of told).attrs has-value;
+      lines = all-of (λ a. HasValue a (place_in (config_of told) a)) (config_of told).attrs (begins told text are);
+      twins = all-of (λ a. HasValue a 0) (config_of told).attrs (first-value told text are);
       controls = subst (All (λ (k : CtlDef). (k.model ≤ 4) × (k.class ≤ 1))) (sym controls) (All-nil (λ (k : CtlDef). (k.model ≤ 4) × (k.class ≤ 1)));
     };
     sound = all-of HasSoundValues (config_of told).attrs (λ a i. all-sound a.kind _ (is-told.attrs a i).values);
@@ -137,7 +133,7 @@ module _ (told : List Line) (text : List ℕ) (are : AreLines text told) (found_
     sets = all-of (IsServedSet (config_of told)) (configured_model (config_of told)).sets (λ s i. let d = source (set_defined (nodes (config_of told))) s (config_of told).sets i in subst (IsServedSet (config_of told)) (sym d.2) (set-served d.0 d.1));
   }
 
-pub texts-are-served : (text : List ℕ) (c : Config) → SpellsConfig text c → c.controls ≡ [] → c.groups ≡ [] → IsServable c
-texts-are-served text c h controls groups =
-    subst IsServable (sym h.makes) (served h.told text h.are h.found (sym (ap (λ (d : Config). d.controls) h.makes) ∙ controls) (sym (ap (λ (d : Config). d.groups) h.makes) ∙ groups)
+pub texts-are-served : (text : List ℕ) (c : Config) → SpellsConfig text c → c.controls ≡ [] → IsServable c
+texts-are-served text c h controls =
+    subst IsServable (sym h.makes) (served h.told text h.are h.found (sym (ap (λ (d : Config). d.controls) h.makes) ∙ controls)
     (subst (λ (d : Config). AreNamed (configured_model d)) h.makes (sets-named text c h)))

@@ -148,5 +148,4 @@ pub leaves-are : (told : List Line) → IsPlainText told → leaves told ≡ map
 leaves-are [] p = refl
 leaves-are (lines.Attr attr ∷ before) p = ap (λ l. l ++ leaf_of attr ∷ []) (leaves-are before p) ∙ sym (map-append leaf_of (config_of before).attrs (attr ∷ []))
 leaves-are (lines.Ctl control ∷ before) p = absurd p
-leaves-are (lines.Sgcb groups ∷ before) p = absurd p
 leaves-are (line ∷ before) p = none-more before (leaves-are before p)

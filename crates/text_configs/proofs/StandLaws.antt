@@ -3,7 +3,7 @@ use Rattle.std.proofs.Common.{◌≡◌, ℕ, ◌⊎◌, inl, inr, true, List, [
 use Rattle.list_laws.proofs.Appended.{some-left}
 use Rattle.sv_base.specs.declared.config.LnDef.{LnDef}
 use Rattle.text_words.specs.Names.{is_name}
-use Rattle.cfg_lines.specs.Before.{place_of, domain_of, node_of, groups_of}
+use Rattle.cfg_lines.specs.Before.{place_of, domain_of, node_of}
 use Rattle.cfg_lines.specs.Configs.{config_of}
 use Rattle.cfg_grammar.specs.Follows.{IsInNode}
 use Rattle.cfg_grammar.specs.Texts.{AreLines}
@@ -13,25 +13,16 @@ use Rattle.cfg_lines.specs.declared.line.Place.{Place}
 use Rattle.cfg_lines.specs.declared.line.Place.TheVariants as places
 use Rattle.list_laws.proofs.Among.{Among, left, right, ending}
 
--- no controls and no setting groups
+-- no controls
 abbrev pub IsPlainText : List Line → Type 0
 IsPlainText [] = Unit {0}
 IsPlainText (lines.Ctl control ∷ before) = ⊥
-IsPlainText (lines.Sgcb groups ∷ before) = ⊥
 IsPlainText (line ∷ before) = IsPlainText before
 
-pub plain-text : (told : List Line) → (config_of told).controls ≡ [] → (config_of told).groups ≡ [] → IsPlainText told
-plain-text [] c g = tt
-plain-text (lines.Ctl control ∷ before) c g = absurd (some-left (config_of before).controls control c)
-plain-text (lines.Sgcb groups ∷ before) c g = absurd (some-left (config_of before).groups groups g)
-plain-text (line ∷ before) c g = plain-text before c g
-
-pub no-groups : (told : List Line) → IsPlainText told → groups_of told ≡ 0
-no-groups [] h = refl
-no-groups (lines.Ld name ∷ before) h = refl
-no-groups (lines.Ctl control ∷ before) h = absurd h
-no-groups (lines.Sgcb groups ∷ before) h = absurd h
-no-groups (line ∷ before) h = no-groups before h
+pub plain-text : (told : List Line) → (config_of told).controls ≡ [] → IsPlainText told
+plain-text [] c = tt
+plain-text (lines.Ctl control ∷ before) c = absurd (some-left (config_of before).controls control c)
+plain-text (line ∷ before) c = plain-text before c
 
 -- a logical node of these, in a domain
 pub record IsIn (nodes : List LnDef) (domain ln : List ℕ) : Type 0 where

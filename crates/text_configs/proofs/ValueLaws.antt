@@ -1,15 +1,10 @@
 -- The values that a text gives its attributes: their types can be set, and hold the first value.
-use Rattle.std.proofs.Common.{◌≡◌, ℕ, ◌≤◌, inl, inr, List, [], ◌∷◌, length, slice_get, refl, sym, ap, subst, arith}
-use Rattle.sv_base.specs.Same.{values_of}
-use Rattle.sv_base.specs.declared.value.Value.{Value}
+use Rattle.std.proofs.Common.{◌≡◌, inl, inr, sym, subst, arith}
 use Rattle.sv_base.specs.declared.types.TypeOf.{TypeOf}
 use Rattle.sv_base.specs.declared.types.TypeOf.TheVariants as types
-use Rattle.sv_base.specs.declared.config.AttrDef.{AttrDef}
 use Rattle.bay_rooms.specs.Slots.{IsSettable}
 use Rattle.bay_model.specs.Places.{largest}
-use Rattle.value_store.specs.Opened.{HasValue}
-use Rattle.text_words.specs.Grammar.{IsType, AreOfType}
-use Rattle.text_values.proofs.ValueLaws.{of-kind, in-range}
+use Rattle.text_words.specs.Grammar.{IsType}
 use Rattle.cfg_lines.specs.Sizes.{most_octets}
 
 pub settable : (k : TypeOf) → IsType k → IsSettable k
@@ -43,11 +38,3 @@ largest-counted (types.Octets n) h = omega arith
 largest-counted types.Stamp h = absurd h
 largest-counted types.EntryId h = absurd h
 largest-counted (types.Struct f) h = absurd h
-
--- the one value of an attribute
-pub first-value : (a : AttrDef) → IsType a.kind → AreOfType a.kind (values_of a.values) → length (values_of a.values) ≡ 1 → HasValue a 0
-first-value a t h one = by (values_of a.values) refl h one
-  where
-    by : (vs : List Value) → values_of a.values ≡ vs → AreOfType a.kind vs → length vs ≡ 1 → HasValue a 0
-    by [] e h one = absurd (omega (arith, one))
-    by (v ∷ vs) e h one = record { settable = settable a.kind t; value = v; there = ap (λ l. slice_get l 0) e; kind = of-kind a.kind v h.0; range = in-range a.kind v t h.0 }

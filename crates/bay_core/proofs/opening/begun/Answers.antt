@@ -1,4 +1,6 @@
-use Rattle.std.proofs.Common.{refl, vec_capacity}
+use Rattle.std.proofs.Common.{refl, subst, sym, vec_capacity}
+use Rattle.bay_values.specs.Held.{AreGrouped}
+use Rattle.bay_values.proofs.GroupLaws.{grouped-first}
 use Rattle.bay_core.proofs.FirstState.{furnished-first, stands-first}
 use Rattle.bay_core.proofs.QuietLaws.{quiet-first}
 use Rattle.bay_core.proofs.opening.begun.Goals as goal
@@ -6,9 +8,10 @@ use Rattle.bay_core.proofs.opening.begun.Goals as goal
 pub invariant_of-result : goal.invariant_of-result
 invariant_of-result c = record {
   furnished = furnished-first c.args.model c.args.made.values c.args.made.sets c.args.made.parts.items c.args.made.watch c.args.made.rooms.octets (vec_capacity c.args.made.rooms.changes) c.requires.servable c.requires.values c.requires.sets c.requires.parts c.requires.watch c.requires.octets c.requires.changes;
+  grouped = subst (AreGrouped c.args.model) (sym c.requires.groups) (grouped-first c.args.model c.requires.servable);
   quiet = quiet-first c.first.result c.args.made.rooms.dues c.args.made.parts.items c.requires.dues;
   roomy = c.requires.events;
 }
 
 pub returns-clause-stands : goal.returns-clause-stands
-returns-clause-stands c = stands-first _ c.args.model c.requires.servable refl refl c.first.ensures c.requires.values c.requires.sets c.requires.parts c.requires.associations
+returns-clause-stands c = stands-first _ c.args.model c.requires.servable refl refl c.first.ensures c.requires.values c.requires.sets c.requires.parts c.requires.associations c.requires.groups

@@ -9,7 +9,7 @@ use Rattle.bay_core.specs.Watched.{AreLent, IsWatchable}
 use Rattle.object_model.specs.Tables.{set_rows}
 use Rattle.bay_core.proofs.BookLaws.{sets-lent}
 use Rattle.bay_core.proofs.FirstBook.{booked-first}
-use Rattle.bay_core.proofs.FirstValues.{opened-held}
+use Rattle.bay_values.proofs.FirstValues.{opened-held}
 use Rattle.bay_core.proofs.FirstState.{watchable-first}
 use Rattle.bay_core.proofs.opening.parts_made.Goals as goal
 

@@ -2,4 +2,4 @@ use Rattle.std.proofs.Common.{refl}
 use Rattle.record_outcome.proofs.unbuilt.unbuilt_line.Goals as goal
 
 pub returns : goal.returns
-returns c = rw (c.control_line.ensures, c.groups_line.ensures, c.as_slice.ensures, c.as_slice-2.ensures) refl
+returns c = rw (c.control_line.ensures, c.as_slice.ensures) refl

@@ -1,6 +1,6 @@
 use Rattle.cfg_text.proofs.WholeLaws.{config-told}
 use Rattle.setting_groups.proofs.OpenLaws.{opened_stands}
-use Rattle.text_groups.proofs.GroupLaws.{texts-are-grouped}
+use Rattle.text_configs.proofs.GroupLaws.{texts-are-grouped}
 use Rattle.text_groups.proofs.laws.texts_have_groups.Goals as goal
 
 pub returns-clause-grouped : goal.returns-clause-grouped

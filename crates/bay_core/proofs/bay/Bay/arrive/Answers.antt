@@ -24,6 +24,7 @@ invariant_of-self c = record {
       (furnished-arrived c.self.inside.model c.self.inside.values c.store.result.now c.self.inside.sets c.self.inside.parts.items c.self.inside.watch c.self.inside.octets c.pass_due.new.octets (vec_capacity c.self.inside.changes)
       c.as_slice.result.now c.self.inside.latest c.later-now.result c.self.inside.steps c.self.invariant.furnished c.pass_due.ensures.entry);
   quiet = c.pass_due.ensures.quiet;
+  grouped = c.self.invariant.grouped;
   roomy = c.self.invariant.roomy;
 }
 
@@ -33,7 +34,7 @@ returns-clause-state c =
     let parts = c.pass_due.ensures.parts
     ∙ (ap (λ (rows : List NodeRow). arrived_all rows s.sets c.store.result.now s.latest c.later-now.result s.steps s.parts.items) (c.as_slice.ensures ∙ c.nodes.ensures)
     ∙ ap₂ (λ (all : List Stored) (now : ℕ). arrived_all (node_rows s.model) s.sets all s.latest now s.steps s.parts.items) c.store.ensures c.later-now.ensures) in
-    ap₂ (λ (now : ℕ) (ps : List ReportBlock). record { config = s.model; steps = s.steps; latest = now; stored = s.values; book = s.sets; parts = ps; rows = s.associations }) c.later-now.ensures parts
+    ap₂ (λ (now : ℕ) (ps : List ReportBlock). record { config = s.model; steps = s.steps; latest = now; stored = s.values; book = s.sets; parts = ps; rows = s.associations; groups = s.groups }) c.later-now.ensures parts
     ∙ ap (at_arrival c.args.moment) c.self.view_is
 
 pub returns-clause-stands : goal.returns-clause-stands

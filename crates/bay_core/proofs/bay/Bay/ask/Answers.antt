@@ -40,7 +40,7 @@ returns-clause-does c = λ c' h was.
     let served = c.self.invariant.furnished.servable in
     let answered = c.in-Ok.ensures.answered in
     let asked = asked-for c.args.self.now c' h c.args.moment c.args.actor c.args.a c.args.request.now c.in-Some.opener c.requires.number was is c.if-actor-opener.false c.answer.new.self c.count.new.self c.in-Ok.reply
-    (subst (λ (d : Config). d.controls ≡ []) config served.controls) (subst (λ (d : Config). d.groups ≡ []) config served.groups) room
+    (subst (λ (d : Config). d.controls ≡ []) config served.controls) room
     (λ output. answered.1 c' (length h) (points (configured_model c') h) output was.1) (answered.0 c' (length h) (points (configured_model c') h) was.1)
     (c.count.ensures ∙ ap (λ (t : State). record t { steps = suc t.steps }) c.queue.ensures) in
     (ap answers.Asked c.no_acts.ensures ∙ asked.0, asked.1)

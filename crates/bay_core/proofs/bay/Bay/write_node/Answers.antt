@@ -3,10 +3,10 @@ use Rattle.object_names.specs.declared.named.What.{What}
 use Rattle.object_names.specs.Seen.{role_seen}
 use Rattle.bay_model.specs.Attributes.{attributes}
 use Rattle.bay_model.specs.Lookups.{node_of}
-use Rattle.bay_model.specs.Model.{single, several, attribute, component}
+use Rattle.bay_model.specs.Model.{single, several, attribute, component, setting}
 use Rattle.bay_model.specs.Named.{configured_model}
 use Rattle.bay_core.specs.State.{State}
-use Rattle.bay_core.proofs.RoleLaws.{IsRole}
+use Rattle.bay_replies.specs.Plain.{HasGroups, IsPlainRole}
 use Rattle.bay_core.proofs.SingleLaws.{by-role, component-write, no-other, refused-write, role-told}
 use Rattle.bay_core.proofs.WriteLaws.{is-at}
 use Rattle.bay_core.proofs.bay.Bay.write_node.Goals as goal
@@ -16,7 +16,7 @@ write_attribute-requires-clause-there c =
     let s = c.self.inside in
     let fit = c.self.invariant.furnished in
     let x = c.in-Attribute.attr in
-    let below : x < length (attributes s.model) = subst (λ (w : What). IsRole (length (attributes s.model)) (length s.model.blocks) (role_seen w)) c.in-Attribute.is (role-told s.model c.args.node.0 c.role_of.result fit.servable.controls fit.servable.groups c.role_of.ensures) in
+    let below : x < length (attributes s.model) = subst (λ (w : What). IsPlainRole (length (attributes s.model)) (length s.model.blocks) (HasGroups s.model) (role_seen w)) c.in-Attribute.is (role-told s.model c.args.node.0 c.role_of.result fit.servable.controls fit.servable.grouped c.role_of.ensures) in
     subst (λ (t : State). x < length t.stored) c.self.view_is (omega (arith, below, fit.values.count))
 
 pub write_at_arrival-requires : goal.write_at_arrival-requires
@@ -24,29 +24,29 @@ write_at_arrival-requires c =
     let s = c.self.inside in
     let fit = c.self.invariant.furnished in
     let b = c.in-Component.b in
-    let below : b < length s.model.blocks = subst (λ (w : What). IsRole (length (attributes s.model)) (length s.model.blocks) (role_seen w)) c.in-Component.is (role-told s.model c.args.node.0 c.role_of.result fit.servable.controls fit.servable.groups c.role_of.ensures) in
+    let below : b < length s.model.blocks = subst (λ (w : What). IsPlainRole (length (attributes s.model)) (length s.model.blocks) (HasGroups s.model) (role_seen w)) c.in-Component.is (role-told s.model c.args.node.0 c.role_of.result fit.servable.controls fit.servable.grouped c.role_of.ensures) in
     subst (λ (t : State). b < length t.parts) c.self.view_is (omega (arith, below, fit.count))
 
 pub unreachable-requires : goal.unreachable-requires
 unreachable-requires c =
     let s = c.self.inside in
     let fit = c.self.invariant.furnished in
-    no-other (length (attributes s.model)) (length s.model.blocks) c.role_of.result (role-told s.model c.args.node.0 c.role_of.result fit.servable.controls fit.servable.groups c.role_of.ensures)
-    c.in_default.not-Attribute c.in_default.not-Component c.in_default.not-Structure
+    no-other (length (attributes s.model)) (length s.model.blocks) (HasGroups s.model) c.role_of.result (role-told s.model c.args.node.0 c.role_of.result fit.servable.controls fit.servable.grouped c.role_of.ensures)
+    c.in_default.not-Attribute c.in_default.not-Component c.in_default.not-Setting c.in_default.not-Structure
 
 pub returns-in-Attribute-clause-written : goal.returns-in-Attribute-clause-written
 returns-in-Attribute-clause-written c =
     let z = c.args.self.now in
     let role : single (attribute c.in-Attribute.attr) ≡ (node_of (configured_model z.config) c.args.node.0).role
     = ap role_seen (sym c.in-Attribute.is) ∙ (c.role_of.ensures ∙ ap (λ (t : State). (node_of (configured_model t.config) c.args.node.0).role) c.self.view_is) in
-    by-role z c.write_attribute.new.self c.args.a.0 c.args.node.0 c.args.value.now (single (attribute c.in-Attribute.attr)) c.write_attribute.result role (c.write_attribute.ensures.written c.args.a.0)
+    by-role z c.write_attribute.new.self c.args.a.0 c.args.node.0 c.args.value.now (single (attribute c.in-Attribute.attr)) c.write_attribute.result role c.write_attribute.ensures.written
 
 pub returns-in-Component-clause-kept : goal.returns-in-Component-clause-kept
 returns-in-Component-clause-kept c =
     let s = c.self.inside in
     let fit = c.self.invariant.furnished in
     let b = c.in-Component.b in
-    let below : b < length s.model.blocks = subst (λ (w : What). IsRole (length (attributes s.model)) (length s.model.blocks) (role_seen w)) c.in-Component.is (role-told s.model c.args.node.0 c.role_of.result fit.servable.controls fit.servable.groups c.role_of.ensures) in
+    let below : b < length s.model.blocks = subst (λ (w : What). IsPlainRole (length (attributes s.model)) (length s.model.blocks) (HasGroups s.model) (role_seen w)) c.in-Component.is (role-told s.model c.args.node.0 c.role_of.result fit.servable.controls fit.servable.grouped c.role_of.ensures) in
     let part = is-at c.args.self.now.parts b (subst (λ (t : State). b < length t.parts) c.self.view_is (omega (arith, below, fit.count))) in
     let wrote = c.write_at_arrival.ensures.written part.0 part.1 in
     record { config = ap (λ (t : State). t.config) wrote; steps = ap (λ (t : State). t.steps) wrote; rows = ap (λ (t : State). t.rows) wrote }
@@ -57,12 +57,26 @@ returns-in-Component-clause-written c =
     let z = c.args.self.now in
     let fit = c.self.invariant.furnished in
     let b = c.in-Component.b in
-    let below : b < length s.model.blocks = subst (λ (w : What). IsRole (length (attributes s.model)) (length s.model.blocks) (role_seen w)) c.in-Component.is (role-told s.model c.args.node.0 c.role_of.result fit.servable.controls fit.servable.groups c.role_of.ensures) in
+    let below : b < length s.model.blocks = subst (λ (w : What). IsPlainRole (length (attributes s.model)) (length s.model.blocks) (HasGroups s.model) (role_seen w)) c.in-Component.is (role-told s.model c.args.node.0 c.role_of.result fit.servable.controls fit.servable.grouped c.role_of.ensures) in
     let part = is-at z.parts b (subst (λ (t : State). b < length t.parts) c.self.view_is (omega (arith, below, fit.count))) in
     let role : single (component b c.in-Component.comp) ≡ (node_of (configured_model z.config) c.args.node.0).role
     = ap role_seen (sym c.in-Component.is) ∙ (c.role_of.ensures ∙ ap (λ (t : State). (node_of (configured_model t.config) c.args.node.0).role) c.self.view_is) in
     by-role z c.write_at_arrival.new.self c.args.a.0 c.args.node.0 c.args.value.now (single (component b c.in-Component.comp)) c.write_at_arrival.result role
     (component-write z c.write_at_arrival.new.self c.args.a b c.in-Component.comp c.args.value.now part.0 c.write_at_arrival.result part.1 (c.write_at_arrival.ensures.general part.0 part.1) (c.write_at_arrival.ensures.answer part.0 part.1) (c.write_at_arrival.ensures.written part.0 part.1))
+
+pub write_part-requires : goal.write_part-requires
+write_part-requires c =
+    let s = c.self.inside in
+    let fit = c.self.invariant.furnished in
+    let some : HasGroups s.model c.in-Setting.domain = subst (λ (w : What). IsPlainRole (length (attributes s.model)) (length s.model.blocks) (HasGroups s.model) (role_seen w)) c.in-Setting.is (role-told s.model c.args.node.0 c.role_of.result fit.servable.controls fit.servable.grouped c.role_of.ensures) in
+    record { grouped = subst (λ (t : State). HasGroups t.config c.in-Setting.domain) c.self.view_is some }
+
+pub returns-in-Setting-clause-written : goal.returns-in-Setting-clause-written
+returns-in-Setting-clause-written c =
+    let z = c.args.self.now in
+    let role : single (setting c.in-Setting.domain c.in-Setting.part) ≡ (node_of (configured_model z.config) c.args.node.0).role
+    = ap role_seen (sym c.in-Setting.is) ∙ (c.role_of.ensures ∙ ap (λ (t : State). (node_of (configured_model t.config) c.args.node.0).role) c.self.view_is) in
+    by-role z c.write_part.new.self c.args.a.0 c.args.node.0 c.args.value.now (single (setting c.in-Setting.domain c.in-Setting.part)) c.write_part.result role c.write_part.ensures.written
 
 pub returns-in-Structure-clause-written : goal.returns-in-Structure-clause-written
 returns-in-Structure-clause-written c =

@@ -1,0 +1,4 @@
+pub mod Changed
+pub mod Marked
+pub mod Held
+pub mod Loaded
