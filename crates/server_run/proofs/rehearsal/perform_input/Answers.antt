@@ -1,0 +1,15 @@
+use Rattle.std.proofs.Common.{subst, sym, ap, ◌∙◌}
+use Rattle.script_reading.specs.Inputs.{outcome}
+use Rattle.script_reading.specs.Readings.{plan_seen, Reads, IsRefused}
+use Rattle.script_reading.proofs.SoundLaws.{plans_are_sound}
+use Rattle.server_run.proofs.DeliveryLaws.{performed-by, refused-by}
+use Rattle.server_run.proofs.rehearsal.perform_input.Goals as goal
+
+pub perform-requires : goal.perform-requires
+perform-requires g c = plans_are_sound c.deref.result.now (plan_seen c.in-Ok.plan) c.in-Ok.ensures.reads
+
+pub returns-in-Ok : goal.returns-in-Ok
+returns-in-Ok g c = performed-by (outcome c.args.octets.items) (plan_seen c.in-Ok.plan) c.perform.result (sym (ap outcome c.deref.ensures.value) ∙ c.in-Ok.ensures.reads) c.perform.ensures
+
+pub returns-in-Err : goal.returns-in-Err
+returns-in-Err g c = refused-by (outcome c.args.octets.items) c.in-Err.status (sym (ap outcome c.deref.ensures.value) ∙ c.in-Err.ensures.reads) c.in-Err.ensures.refused
