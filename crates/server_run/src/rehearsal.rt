@@ -192,7 +192,8 @@ fn perform_input<R: Threads + Wait + Sync, G: Gate>(
     requires { length octets.items ≤ 67108865 }
     ensures { IfOk result (PerformsInput (outcome octets.items)) }
 {
-    match read_rehearsal(alloc, &octets)? {
+    let read = read_rehearsal(alloc, &octets)?;
+    match read {
         Ok(plan) => {
             drop(octets);
             perform(rt, alloc, plan, gates)

@@ -9,12 +9,12 @@ pub play_cast-requires-clause-plan : goal.play_cast-requires-clause-plan
 play_cast-requires-clause-plan g c κs within =
     let p = plan_seen c.args.plan in
     let ss = map (λ a. a.script) c.in-Ok.actors.items in
-    let book = book_seen c.deref-2.result.now in
-    (p, subst (λ t. IsOfPlan p c.args.plan.model t book ss) (sym c.deref.ensures.value) (cast-plan p ss book c.requires c.in-Ok.ensures.actors (ap book_seen c.deref-2.ensures.value ∙ c.in-Ok.ensures.book)))
+    let book = book_seen c.deref-in-Ok.result.now in
+    (p, subst (λ t. IsOfPlan p c.args.plan.model t book ss) (sym c.deref.ensures.value) (cast-plan p ss book c.requires c.in-Ok.ensures.actors (ap book_seen c.deref-in-Ok.ensures.value ∙ c.in-Ok.ensures.book)))
 
 pub returns-in-Ok : goal.returns-in-Ok
 returns-in-Ok g c =
     let p = plan_seen c.args.plan in
     let ss = map (λ a. a.script) c.in-Ok.actors.items in
-    let book = book_seen c.deref-2.result.now in
-    c.play_cast.ensures p (subst (λ t. IsOfPlan p c.args.plan.model t book ss) (sym c.deref.ensures.value) (cast-plan p ss book c.requires c.in-Ok.ensures.actors (ap book_seen c.deref-2.ensures.value ∙ c.in-Ok.ensures.book)))
+    let book = book_seen c.deref-in-Ok.result.now in
+    c.play_cast.ensures p (subst (λ t. IsOfPlan p c.args.plan.model t book ss) (sym c.deref.ensures.value) (cast-plan p ss book c.requires c.in-Ok.ensures.actors (ap book_seen c.deref-in-Ok.ensures.value ∙ c.in-Ok.ensures.book)))

@@ -1,4 +1,5 @@
 use Rattle.std.proofs.Common.{subst, sym, ap, ◌∙◌}
+use Rattle.std.specs.Prelude.{Ok, Err}
 use Rattle.script_reading.specs.Inputs.{outcome}
 use Rattle.script_reading.specs.Readings.{plan_seen, Reads, IsRefused}
 use Rattle.script_reading.proofs.SoundLaws.{plans_are_sound}
@@ -6,10 +7,14 @@ use Rattle.server_run.proofs.DeliveryLaws.{performed-by, refused-by}
 use Rattle.server_run.proofs.rehearsal.perform_input.Goals as goal
 
 pub perform-requires : goal.perform-requires
-perform-requires g c = plans_are_sound c.deref.result.now (plan_seen c.in-Ok.plan) c.in-Ok.ensures.reads
+perform-requires g c = plans_are_sound c.deref.result.now (plan_seen c.in-Ok.plan) (subst (λ r. Reads r (outcome c.deref.result.now)) c.in-Ok.is c.in_ok-read.ensures.reads)
 
 pub returns-in-Ok : goal.returns-in-Ok
-returns-in-Ok g c = performed-by (outcome c.args.octets.items) (plan_seen c.in-Ok.plan) c.perform.result (sym (ap outcome c.deref.ensures.value) ∙ c.in-Ok.ensures.reads) c.perform.ensures
+returns-in-Ok g c =
+    performed-by (outcome c.args.octets.items) (plan_seen c.in-Ok.plan) c.perform.result
+    (sym (ap outcome c.deref.ensures.value) ∙ subst (λ r. Reads r (outcome c.deref.result.now)) c.in-Ok.is c.in_ok-read.ensures.reads) c.perform.ensures
 
 pub returns-in-Err : goal.returns-in-Err
-returns-in-Err g c = refused-by (outcome c.args.octets.items) c.in-Err.status (sym (ap outcome c.deref.ensures.value) ∙ c.in-Err.ensures.reads) c.in-Err.ensures.refused
+returns-in-Err g c =
+    refused-by (outcome c.args.octets.items) c.in-Err.status
+    (sym (ap outcome c.deref.ensures.value) ∙ subst (λ r. Reads r (outcome c.deref.result.now)) c.in-Err.is c.in_ok-read.ensures.reads) (subst IsRefused c.in-Err.is c.in_ok-read.ensures.refused)
