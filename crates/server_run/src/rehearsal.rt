@@ -166,7 +166,7 @@ fn perform<R: Threads + Wait + Sync, G: Gate>(
     plan: Plan,
     gates: Vec<G>,
 ) -> Result<Result<Vec<u8>, Status>, AllocError>
-    requires { IsSound (plan_seen plan) }
+    requires sound { IsSound (plan_seen plan) }
     ensures { IfOk result (Performs (plan_seen plan)) }
 {
     let Plan {

@@ -6,8 +6,8 @@ use Rattle.script_reading.proofs.SoundLaws.{plans_are_sound}
 use Rattle.server_run.proofs.DeliveryLaws.{performed-by, refused-by}
 use Rattle.server_run.proofs.rehearsal.perform_input.Goals as goal
 
-pub perform-requires : goal.perform-requires
-perform-requires g c = plans_are_sound c.deref.result.now (plan_seen c.in-Ok.plan) (subst (λ r. Reads r (outcome c.deref.result.now)) c.in-Ok.is c.in_ok-read.ensures.reads)
+pub perform-requires-clause-sound : goal.perform-requires-clause-sound
+perform-requires-clause-sound g c κs within = plans_are_sound c.deref.result.now (plan_seen c.in-Ok.plan) (subst (λ r. Reads r (outcome c.deref.result.now)) c.in-Ok.is c.in_ok-read.ensures.reads)
 
 pub returns-in-Ok : goal.returns-in-Ok
 returns-in-Ok g c =
