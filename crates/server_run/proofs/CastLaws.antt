@@ -114,7 +114,7 @@ turns-other : (ss : List Part) (s : Part) (k : ℕ) → (s.actor ≡ k → ⊥) 
 turns-other [] s k other = elim (eqb_tells s.actor k) [ inl t ↦ absurd (other t.1) | inr t ↦ ap (λ b. cond b (turns_by k s.steps.items) []) t.0 ]
 turns-other (x ∷ xs) s k other = ap (cond (x.actor == k) (turns_by k x.steps.items)) (turns-other xs s k other)
 
-steps_turns : ℕ → Option (List TimedStep) → History
+abbrev steps_turns : ℕ → Option (List TimedStep) → History
 steps_turns k None = []
 steps_turns k (Some steps) = turns_by k steps
 
@@ -199,7 +199,7 @@ module _ (p : Plan) (sound : IsSound p) (rs : Roles) (same : map role_steps rs �
   plan-plays = cast-plays p.config 0 rs (λ k. subst (FitsOrNone p.config) (sym (role-is k)) (script-fits p.config k (script_of p k) (sound.scripts k)))
 
   pub plan-turns : AreOfPlan p (cast_from 0 rs)
-  plan-turns k = cast-turns 0 rs k k refl ∙ (ap (steps_turns k) (role-is k) ∙ script-turns k (script_of p k))
+  plan-turns k = let same : k ≡ 0 + k = omega arith in cast-turns 0 rs k k same ∙ (ap (steps_turns k) (role-is k) ∙ script-turns k (script_of p k))
 
   pub plan-roles : AreScripts p (cast_from 0 rs)
   plan-roles = cast-roles 0 rs p.scripts same

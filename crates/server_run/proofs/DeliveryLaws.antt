@@ -1,6 +1,6 @@
 -- What is written of an input, and with which status.
 use Rattle.std.proofs.Common.{◌≡◌, ℕ, List, [], ◌++◌, sym, append-nil, inl, inr}
-use Rattle.std.specs.Prelude.{Vec, Option, None, Some, Result, Ok, Err, IfOk}
+use Rattle.std.specs.Prelude.{Vec, Option, None, Some, Result, Ok, Err, IfOk, IfSome}
 use Rattle.std.specs.Io.KnownBytes.{Appends}
 use Rattle.std.specs.declared.alloc.Global.{Global}
 use Rattle.sv_io.specs.Causes.{GrowsByFront}
@@ -66,3 +66,9 @@ status-listed o statuses.Words is = absurd is
 status-listed o statuses.Memory is = absurd is
 status-listed o statuses.ReadFault is = absurd is
 status-listed o statuses.WriteFault is = absurd is
+
+-- ---- where octets are told
+
+pub if-some : {A : Type 0} (P Q : A → Type 0) (o : Option A) → IfSome o P → ((a : A) → P a → Q a) → IfSome o Q
+if-some P Q None h f = tt
+if-some P Q (Some a) h f = f a h

@@ -45,6 +45,5 @@ parts-of c h (s ∷ ss) (p ∷ ps) are = All-cons (λ (p : Given). p.replies.ite
 pub made-whole : (p : Plan) (ss : List Part) (ps : List Given) (h : History) → AreOfPlan p ss → IsRaced p.config ss ps h → all_went ps ≡ true → IsMade p h
 made-whole p ss ps h are raced all = (
   raced.legal,
-  (λ k low. raced.shuffle.0 k low ∙ (whole-parts p.config h ss ps k raced.parts_ all ∙ are k)),
-  raced.shuffle.1,
+  ((λ k low. raced.shuffle.0 k low ∙ (whole-parts p.config h ss ps k raced.parts_ all ∙ are k)), raced.shuffle.1),
 )

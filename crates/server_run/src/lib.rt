@@ -5,9 +5,9 @@
 mod casting;
 
 // the whole
-mod rehearse;
+mod rehearsal;
 
-pub use rehearse::{rehearse, rehearse_gated};
+pub use rehearsal::{rehearse, rehearse_gated};
 
 // how it ends
 mod laws;

@@ -3,7 +3,7 @@ use Rattle.server_run.specs.Casting.{cast_from}
 use Rattle.server_run.proofs.casting.add_actors.Given as goal
 
 abbrev pub invariant-loop-role : goal.invariant-loop-role
-invariant-loop-role l = (length l.roles.items ≤ 33) × (map (λ a. a.script) l.actors.items ++ cast_from 0 l.roles.items ≡ cast_from 0 l.fn.roles.items)
+invariant-loop-role g l = (length l.roles.items ≤ 33) × (map (λ a. a.script) l.actors.items ++ cast_from 0 l.roles.items ≡ cast_from 0 l.fn.roles.items)
 
 abbrev pub decreases-loop-role : goal.decreases-loop-role
-decreases-loop-role l = length l.roles.items
+decreases-loop-role g l = length l.roles.items

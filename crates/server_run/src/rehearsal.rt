@@ -166,7 +166,7 @@ fn perform<R: Threads + Wait + Sync, G: Gate>(
     plan: Plan,
     gates: Vec<G>,
 ) -> Result<Result<Vec<u8>, Status>, AllocError>
-    requires { IsSound (plan_seen plan) }
+    requires sound { IsSound (plan_seen plan) }
     ensures { IfOk result (Performs (plan_seen plan)) }
 {
     let Plan {
@@ -192,7 +192,8 @@ fn perform_input<R: Threads + Wait + Sync, G: Gate>(
     requires { length octets.items ≤ 67108865 }
     ensures { IfOk result (PerformsInput (outcome octets.items)) }
 {
-    match read_rehearsal(alloc, &octets)? {
+    let read = read_rehearsal(alloc, &octets)?;
+    match read {
         Ok(plan) => {
             drop(octets);
             perform(rt, alloc, plan, gates)

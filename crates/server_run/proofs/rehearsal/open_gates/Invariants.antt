@@ -1,5 +1,5 @@
 use Rattle.std.proofs.Common.{◌≡◌, length}
-use Rattle.server_run.proofs.rehearse.open_gates.Given as goal
+use Rattle.server_run.proofs.rehearsal.open_gates.Given as goal
 
 abbrev pub invariant-loop : goal.invariant-loop
 invariant-loop l = length l.gates.items ≡ l.counter

@@ -1,0 +1,8 @@
+use Rattle.std.proofs.Common.{subst, sym}
+use Rattle.std.specs.List.{All}
+use Rattle.script_threads.specs.Dealing.{CanPlay}
+use Rattle.script_threads.specs.declared.job.Actor.{Actor}
+use Rattle.server_run.proofs.rehearsal.race_over.Goals as goal
+
+pub race-requires-clause-steps : goal.race-requires-clause-steps
+race-requires-clause-steps g c κs within = subst (λ k. All (λ (a : Actor _). CanPlay k a.script) c.args.actors.items) (sym c.in-Ok.ensures.0) c.requires.steps
