@@ -63,3 +63,8 @@ def delete(invoke, item):
 def deleted(invoke):
     """The reply to a deletion of one data set, which was there and went."""
     return response(invoke, element(0xAD, bytes([0x80, 1, 1, 0x81, 1, 1])))
+
+
+def failed(invoke, error_class, code):
+    """The error of a confirmed request."""
+    return element(0xA2, element(0x80, number(invoke)) + element(0xA2, element(0xA0, element(0x80 + error_class, number(code)))))
