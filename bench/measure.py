@@ -139,8 +139,18 @@ def processor_seconds(command, octets, wanted):
 
 
 def peak(program, text, answers):
-    """The peak of memory in kB of a replay of this record, as the kernel says when all answers but the last line's are
-    there; the answers have to be these. The last line is held back until then."""
+    """The peak of memory in kB of a replay of this record, as the kernel says when all answers but the last line's are there."""
+    return kilobytes_of(program, text, answers, "status", "VmHWM")
+
+
+def anonymous(program, text, answers):
+    """The kB that the replay itself has written then, without pages of files: exact, where the peak may be some hundred off."""
+    return kilobytes_of(program, text, answers, "smaps_rollup", "Anonymous")
+
+
+def kilobytes_of(program, text, answers, file, name):
+    """What a line of a file of /proc says of a replay of this record, when all answers but the last line's are there; the answers
+    have to be these. The last line is held back until then."""
     run = subprocess.Popen([program, "replay"], stdin=subprocess.PIPE, stdout=subprocess.PIPE)
     last = len("end\n")
 
@@ -152,8 +162,8 @@ def peak(program, text, answers):
     feeder.start()
     got = run.stdout.read(len(answers) - last)
     feeder.join()
-    with open(f"/proc/{run.pid}/status") as f:
-        kilobytes = next(int(line.split()[1]) for line in f if line.startswith("VmHWM"))
+    with open(f"/proc/{run.pid}/{file}") as f:
+        kilobytes = next(int(line.split()[1]) for line in f if line.startswith(f"{name}:"))
     got += run.communicate(text[-last:])[0]
     if got != answers or run.returncode != 0:
         sys.exit("bench: the answers are not those of the model")
