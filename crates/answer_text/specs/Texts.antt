@@ -4,7 +4,10 @@ use Rattle.std.specs.List.{flat_map}
 use Rattle.hex.specs.Hex.{encode_lower}
 use Rattle.sv_base.specs.declared.config.Config.{Config}
 use Rattle.sv_base.specs.declared.config.BlockDef.{BlockDef}
-use Rattle.bay_model.specs.Configured.{block_defined}
+use Rattle.sv_base.specs.declared.config.CtlDef.{CtlDef}
+use Rattle.sv_base.specs.Data.{data_of}
+use Rattle.bay_model.specs.Configured.{block_defined, control_defined}
+use Rattle.bay_model.specs.declared.control.Act.{Act}
 use Rattle.bay_model.specs.declared.answer.Answer.{Answer}
 use Rattle.bay_model.specs.declared.answer.Answer.TheVariants as answers
 use Rattle.bay_model.specs.declared.answer.Output.{Output}
@@ -75,8 +78,22 @@ output_lines c shapes.Direct a _ = []
 output_lines c (shapes.Mms size) a output = flat_map (pdu_line a) (output_pdus c size output)
 output_lines c (shapes.Wire line) a output = flat_map (framed_line line a) (output_pdus c line.size output)
 
--- the lines of an answer to association a: a write has one, and so has a take that gives nothing
+-- the reference `LD/LN$CO$DO` of a control, if it is there
+abbrev pub control_text : Option CtlDef → List ℕ
+control_text None = []
+control_text (Some k) = (control_defined k).reference
+
+-- an act: the control, the Data of its ctlVal, and who asked
+abbrev pub act_line : Config → Act → List ℕ
+act_line c x = codes "act " ++ control_text (slice_get c.controls x.control.0) ++ codes " " ++ encode_lower (data_of x.value) ++ codes " by " ++ decimal x.by.0 ++ codes "\n"
+
+-- the acts of a step, in order
+abbrev pub act_lines : Config → List Act → List ℕ
+act_lines c acts = flat_map (act_line c) acts
+
+-- the lines of an answer to association a: a request has one for each act, a write has one, and so has a take that gives nothing
 abbrev pub answer_lines : Config → Shape → ℕ → Answer → List ℕ
+answer_lines c shape a (answers.Asked acts) = act_lines c acts
 answer_lines c shape a (answers.Wrote (Ok u)) = decimal a ++ codes " ok\n"
 answer_lines c shape a (answers.Wrote (Err code)) = decimal a ++ codes " refused " ++ decimal code ++ codes "\n"
 answer_lines c shape a answers.Empty = decimal a ++ codes " empty\n"

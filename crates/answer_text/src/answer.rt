@@ -5,6 +5,7 @@ ghost use Rattle.sv_base.specs.declared.config.Config.{Config};
 ghost use Rattle.bay_model.specs.declared.answer.Answer.TheVariants.{Wrote};
 ghost use Rattle.answer_text.specs.Texts.{step_association, output_lines, answer_lines, lines_of as text_of, IsShape};
 
+use crate::acts::push_acts;
 use crate::number::push_number;
 use crate::pdus::{push_output, push_sent};
 use crate::report::push_report;
@@ -79,6 +80,7 @@ fn push_lines(
         Answer::Empty => push_word(out, a, b" empty\n"),
         Answer::Closed => push_word(out, a, b" closed\n"),
         Answer::Taken(output) => push_taken(alloc, out, model, shape, a, output),
+        Answer::Asked(acts) => push_acts(alloc, out, model, acts.as_slice()),
         _ => Ok(()),
     }
 }

@@ -2,6 +2,7 @@
 #![tactic(auto)]
 
 // the lines of an answer
+mod acts;
 mod answer;
 mod pdus;
 mod report;

@@ -1,23 +1,24 @@
 //! Whether an output of a bay has PDUs.
 
-ghost use Rattle.std.specs.Prelude.{◌≡◌, IsTrue, length};
+ghost use Rattle.std.specs.Prelude.{◌≡◌, IsTrue, Ok, length};
 ghost use Rattle.std.specs.List.{All, list_all, AllByRecursion};
 ghost use Rattle.sv_base.specs.Seen.{seen_of, row_of};
 ghost use Rattle.sv_base.specs.Tree.{Seen};
 ghost use Rattle.mms_data.specs.Grammar.{IsSpelled};
 ghost use Rattle.report_cut.specs.Pdus.{Ascend, IsShort, HasData, CanBeCut};
-ghost use Rattle.bay_answers.specs.Replies.{IsNode, CanBeReplied, CanBeSent};
+ghost use Rattle.bay_answers.specs.ControlPdus.{HasShortName, IsShortError, IsShortTermination};
+ghost use Rattle.bay_answers.specs.Replies.{IsNode, IsWritable, CanBeReplied, CanBeSent};
 ghost use Rattle.answer_text.specs.Sendable.{is_seen_writable, are_writable as are_row_writable, is_result_writable as is_written_result, are_nodes as are_nodes_below};
 
-use bay_model::{Member, Output, Reply, Report};
+use bay_model::{ApplError, Member, Output, Reply, Report, Termination};
 use ber_view::whole;
 use mms_data::view_data;
 use object_model::Model;
-use sv_base::{NodeId, Value};
+use sv_base::{CtlDef, NodeId, Value, data_len};
 
 /// Whether a value has a spelling as Data, at most so deep.
 #[cycle(writable)]
-fn is_writable(value: &Value, depth: u8) -> bool
+pub(crate) fn is_writable(value: &Value, depth: u8) -> bool
     ensures { result ≡ is_seen_writable depth (seen_of value.now) }
 {
     if depth == 0 {
@@ -141,13 +142,59 @@ fn can_be_cut(report: &Report) -> bool
         && are_members(report.members.as_slice())
 }
 
+/// Whether a LastApplError has at most the octets of its type.
+fn is_short_error(error: &ApplError) -> bool
+    ensures { IsTrue result → IsShortError error.now }
+{
+    error.object.len() <= 129 && error.or_ident.len() <= 64
+}
+
+fn are_short_errors(errors: &[ApplError]) -> bool
+    ensures { IsTrue result → All IsShortError errors.now }
+{
+    for error in errors {
+        if !is_short_error(error) {
+            return false;
+        }
+    }
+    true
+}
+
+/// Whether the name of a control's Oper has at most the octets of its type.
+fn has_short_name(control: &CtlDef) -> bool
+    ensures { IsTrue result → HasShortName control.now }
+{
+    let ln = control.ln.len();
+    let path = control.path.len();
+    control.domain.len() <= 129 && ln <= 64 && path <= 56
+}
+
+/// Whether a termination has a PDU: its control is there, and all in it is of its type's octets.
+fn can_end(model: &Model, termination: &Termination) -> bool
+    ensures { IsTrue result → IsShortTermination model.now termination.now × IsWritable (Ok termination.now.oper) }
+{
+    let Some(control) = model.config().controls.get(termination.control.0 as usize) else {
+        return false;
+    };
+    let is_error_short = match &termination.error {
+        Some(error) => is_short_error(error),
+        None => true,
+    };
+    has_short_name(control)
+        && is_error_short
+        && is_writable(&termination.oper, 10)
+        && data_len(&termination.oper) <= 300
+}
+
 /// Whether an output has PDUs.
 pub fn can_be_sent(model: &Model, output: &Output) -> bool
     ensures { IsTrue result → CanBeSent model.now output.now }
 {
     match output {
-        Output::Reply { before, reply, .. } => before.is_empty() && can_be_replied(model, reply),
+        Output::Reply { before, reply, .. } => {
+            are_short_errors(before.as_slice()) && can_be_replied(model, reply)
+        }
         Output::Report(report) => can_be_cut(report),
-        Output::Termination(_) => false,
+        Output::Termination(termination) => can_end(model, termination),
     }
 }

@@ -3,6 +3,7 @@ pub mod RequestFits
 pub mod RepliesSizeLaws
 pub mod RepliesContentsLaws
 pub mod RepliesNamesLaws
+pub mod ControlPduLaws
 pub mod RepliesShortLaws
 pub mod RepliesToldLaws
 pub mod RepliesAskedLaws

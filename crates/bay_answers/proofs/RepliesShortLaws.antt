@@ -1,7 +1,7 @@
 -- No PDU of an output is longer than the size.
-use Rattle.std.proofs.Common.{◌≡◌, ℕ, ◌≤◌, Bool, true, false, List, [], ◌++◌, length, refl, subst, Option, Some, None, arith}
+use Rattle.std.proofs.Common.{◌≡◌, ℕ, suc, ◌≤◌, Bool, true, false, List, [], ◌∷◌, ◌++◌, length, map, refl, subst, Option, Some, None, arith}
 use Rattle.std.specs.Prelude.{if◌then◌else◌, nat_le, nat_lt, ◌==◌, ◌||◌}
-use Rattle.std.specs.List.{AllByRecursion}
+use Rattle.std.specs.List.{All, AllByRecursion}
 use Rattle.std.proofs.lemmas.Bool.{leb-true}
 use Rattle.std.proofs.lemmas.List.{length-append}
 use Rattle.ber_write.specs.Minimal.{octets_of, uint_octets}
@@ -14,6 +14,9 @@ use Rattle.bay_model.specs.declared.reply.Reply.TheVariants as replies
 use Rattle.bay_model.specs.declared.answer.Output.{Output}
 use Rattle.bay_model.specs.declared.answer.Output.TheVariants as outputs
 use Rattle.report_cut.proofs.FitLaws.{pdus_fit}
+use Rattle.bay_model.specs.declared.control.ApplError.{ApplError}
+use Rattle.bay_answers.specs.ControlPdus.{error_pdu, IsShortError}
+use Rattle.bay_answers.proofs.ControlPduLaws.{error-short, termination-short}
 use Rattle.bay_answers.specs.Replies.{response, names_response, names_octets, shown, reply_octets, output_pdus, CanBeSent}
 use Rattle.bay_answers.proofs.RepliesNamesLaws.{as_long, shown_fit}
 
@@ -72,6 +75,9 @@ reply_short c size invoke (replies.Error class code) least = omega (arith, least
 reply_short c size invoke (replies.Reject n) least = omega (arith, least, reject_short (if n == 2 || n == 3 then Some invoke else None) n)
 
 pub output_short : (c : Config) (size : ℕ) (o : Output) → CanBeSent c o → 1024 ≤ size → AllByRecursion (λ p. length p ≤ size) (output_pdus c size o)
-output_short c size (outputs.Reply before invoke r) h least = (reply_short c size invoke r least, tt)
+output_short c size (outputs.Reply before invoke r) h least = behind before h.0 where
+  behind : (es : List ApplError) → All IsShortError es → AllByRecursion (λ p. length p ≤ size) (map error_pdu es ++ reply_octets c size invoke r ∷ [])
+  behind [] all = (reply_short c size invoke r least, tt)
+  behind (e ∷ es) all = (omega (arith, least, error-short e (all 0 e (omega arith))), behind es (λ k d below. all (suc k) d (omega (arith, below))))
 output_short c size (outputs.Report r) h least = pdus_fit r size h least
-output_short c size (outputs.Termination t) h least = tt
+output_short c size (outputs.Termination t) h least = (omega (arith, least, termination-short c t h.0), tt)

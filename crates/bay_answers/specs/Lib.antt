@@ -4,6 +4,8 @@ pub mod Requests
 pub mod RepliesVariables
 pub mod RepliesContents
 pub mod RepliesSizes
+-- what is sent of controls
+pub mod ControlPdus
 -- the PDUs of what a bay answers, and what they tell
 pub mod Replies
 pub mod RepliesTold

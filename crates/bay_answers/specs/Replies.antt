@@ -1,6 +1,6 @@
 -- The PDUs of what a bay answers (ISO 9506-2, MMSpdu; IEC 61850-8-1, the mapping of its services).
 use Rattle.std.specs.Prelude.{◌≡◌, ℕ, ◌<◌, ◌≤◌, ◌==◌, ◌||◌, Bool, true, false, nat_le, nat_lt, if◌then◌else◌}
-use Rattle.std.specs.Prelude.{List, [], ◌∷◌, ◌++◌, length, None, Some, Result, Ok, Err}
+use Rattle.std.specs.Prelude.{List, [], ◌∷◌, ◌++◌, length, map, None, Some, Result, Ok, Err}
 use Rattle.std.specs.List.{All}
 use Rattle.sv_base.specs.Seen.{seen_of}
 use Rattle.sv_base.specs.Depth.{depth, HasNoOther}
@@ -17,6 +17,7 @@ use Rattle.bay_model.specs.declared.answer.Output.{Output}
 use Rattle.bay_model.specs.declared.answer.Output.TheVariants as outputs
 use Rattle.object_model.specs.Tables.{node_type}
 use Rattle.report_cut.specs.Pdus.{pdus, CanBeCut}
+use Rattle.bay_answers.specs.ControlPdus.{error_pdu, termination_pdu, IsShortError, IsShortTermination}
 use Rattle.bay_answers.specs.RepliesContents.{status_content, identify_content, names_content, type_content}
 use Rattle.bay_answers.specs.RepliesContents.{read_content, written_content, set_content, deleted_content}
 
@@ -70,11 +71,11 @@ reply_octets c size invoke (replies.Reject n) = rejected invoke n
 
 -- ---- outputs
 
--- The LastApplErrors before a reply, and terminations, are none yet: `CanBeSent`.
+-- The LastApplErrors of a reply stand before it, in order.
 abbrev pub output_pdus : Config → ℕ → Output → List (List ℕ)
-output_pdus c size (outputs.Reply before invoke reply) = reply_octets c size invoke reply ∷ []
+output_pdus c size (outputs.Reply before invoke reply) = map error_pdu before ++ reply_octets c size invoke reply ∷ []
 output_pdus c size (outputs.Report r) = pdus r size
-output_pdus c size (outputs.Termination t) = []
+output_pdus c size (outputs.Termination t) = termination_pdu c t ∷ []
 
 -- ---- what can be sent
 
@@ -95,9 +96,9 @@ CanBeReplied c (replies.Reject n) = (1 ≤ n) × (n ≤ 4)
 CanBeReplied c _ = Unit {0}
 
 abbrev pub CanBeSent : Config → Output → Type 0
-CanBeSent c (outputs.Reply before invoke reply) = (before ≡ []) × CanBeReplied c reply
+CanBeSent c (outputs.Reply before invoke reply) = All IsShortError before × CanBeReplied c reply
 CanBeSent c (outputs.Report r) = CanBeCut r
-CanBeSent c (outputs.Termination t) = ⊥
+CanBeSent c (outputs.Termination t) = IsShortTermination c t × IsWritable (Ok t.oper)
 
 -- ---- as many names as fit, without saying how they are found
 

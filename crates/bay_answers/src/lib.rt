@@ -4,6 +4,7 @@
 //! Both need the names of the configuration alone, so they run beside the bay and not in it.
 #![tactic(auto)]
 
+mod control_pdus;
 mod replies;
 mod replies_contents;
 mod replies_elements;

@@ -1,14 +1,16 @@
 //! The PDUs of what a bay answers (ISO 9506-2, MMSpdu; IEC 61850-8-1, the mapping of its services).
 
-ghost use Rattle.std.specs.Prelude.{◌≡◌, ◌≤◌, ◌∷◌, [], length, IfOk};
+ghost use Rattle.std.specs.Prelude.{◌≡◌, ◌≤◌, ◌∷◌, ◌++◌, [], length, map, Ok, IfOk, OnOk};
 ghost use Rattle.std.specs.List.{AllByRecursion};
 ghost use Rattle.mms_pdu.specs.ReplyOctets.{concluded_octets};
-ghost use Rattle.bay_answers.specs.Replies.{rejected as rejected_of, reply_octets as octets_of_reply, output_pdus as pdus_of, CanBeReplied, CanBeSent};
+ghost use Rattle.bay_answers.specs.Replies.{rejected as rejected_of, reply_octets as octets_of_reply, output_pdus as pdus_of, CanBeReplied, CanBeSent, IsWritable};
+ghost use Rattle.bay_answers.specs.ControlPdus.{error_pdu as pdu_of_error, termination_pdu as pdu_of_termination, IsShortTermination};
 
+use crate::control_pdus::{error_pdu, termination_pdu};
 use crate::replies_contents::{deleted, identify, members_of_set, read, type_of_node, wrote};
 use crate::replies_elements::respond;
 use crate::replies_names::names;
-use bay_model::{Output, Reply};
+use bay_model::{ApplError, ApplErrors, Output, Reply, Termination};
 use mms_pdu::{write_error, write_reject};
 use object_model::Model;
 use report_cut::{Pdus, cut};
@@ -69,6 +71,47 @@ fn reply_octets(
     }
 }
 
+/// Adds the LastApplErrors before a reply.
+fn add_errors(alloc: Global, pdus: &mut Vec<Octs>, before: &[ApplError]) -> Result<(), AllocError>
+    ensures { OnOk result (pdus.new.items ≡ pdus.old.items ++ map pdu_of_error before.now) }
+{
+    for error in before {
+        pdus.push(error_pdu(alloc, error)?)?;
+    }
+    Ok(())
+}
+
+/// The PDUs of a reply: the LastApplErrors before it, in order, and its own.
+fn replied(
+    alloc: Global,
+    model: &Model,
+    size: u32,
+    before: &ApplErrors,
+    invoke: u32,
+    reply: &Reply,
+) -> Result<Pdus, AllocError>
+    requires reply { CanBeReplied model.now reply.now }
+    requires least { 1024 ≤ size }
+    requires most { size ≤ 65000 }
+    ensures { IfOk result (λ p. p ≡ map pdu_of_error before.now ++ octets_of_reply model.now size invoke reply.now ∷ []) }
+{
+    let mut pdus = Vec::new(alloc);
+    add_errors(alloc, &mut pdus, before.as_slice())?;
+    pdus.push(reply_octets(alloc, model, size, invoke, reply)?)?;
+    Ok(Pdus::from_vec(pdus))
+}
+
+/// The PDU of the end of a command.
+fn ended(alloc: Global, model: &Model, termination: &Termination) -> Result<Pdus, AllocError>
+    requires short { IsShortTermination model.now termination.now }
+    requires oper { IsWritable (Ok termination.now.oper) }
+    ensures { IfOk result (λ p. p ≡ pdu_of_termination model.now termination.now ∷ []) }
+{
+    let mut pdus = Vec::new(alloc);
+    pdus.push(termination_pdu(alloc, model, termination)?)?;
+    Ok(Pdus::from_vec(pdus))
+}
+
 /// The PDUs of an output, as the definition has them.
 fn output_pdus(alloc: Global, model: &Model, output: &Output, size: u32) -> Result<Pdus, AllocError>
     requires output { CanBeSent model.now output.now }
@@ -77,25 +120,24 @@ fn output_pdus(alloc: Global, model: &Model, output: &Output, size: u32) -> Resu
     ensures { IfOk result (λ p. p ≡ pdus_of model.now size output.now) }
 {
     match output {
-        Output::Reply { invoke, reply, .. } => {
-            let octets = reply_octets(alloc, model, size, *invoke, reply)?;
-            let mut pdus = Vec::with_capacity(alloc, 1)?;
-            pdus.push(octets)?;
-            Ok(Pdus::from_vec(pdus))
-        }
+        Output::Reply {
+            before,
+            invoke,
+            reply,
+        } => replied(alloc, model, size, before, *invoke, reply),
         Output::Report(report) => cut(alloc, report, size),
-        Output::Termination(_) => unreachable!(),
+        Output::Termination(termination) => ended(alloc, model, termination),
     }
 }
 
-/// The PDUs of what a Take gives to an association whose PDUs have at most `size` octets, 1024 to 65000: of a reply one, of
-/// a report one or its segments.
+/// The PDUs of what a Take gives to an association whose PDUs have at most `size` octets, 1024 to 65000: of a reply its own behind
+/// one for each LastApplError before it, of a report one or its segments, of a termination one.
 ///
 /// Each is in minimal form. A response that is longer than the size is the error service, pdu-size. GetNameList has as many
 /// names as fit, and moreFollows exactly where there is a further one. What was read is written back where it was asked for.
 ///
-/// Each node in the output is one of the model's, a reject has the number of a refusal, 1 to 4, a report is one that can be
-/// cut, and a value has a spelling at most ten deep. Controls aren't served yet: there is no LastApplError and no termination.
+/// Each node and control in the output is one of the model's, a reject has the number of a refusal, 1 to 4, a report is one that can
+/// be cut, and a value has a spelling at most ten deep. What is said of a command has at most the octets of its type.
 ///
 /// Fails only for want of memory.
 pub fn to_bytes(

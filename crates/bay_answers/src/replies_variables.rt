@@ -14,7 +14,11 @@ use std::alloc::{AllocError, Global};
 use sv_base::NodeId;
 
 /// A domain-specific name.
-fn domain_octets(alloc: Global, domain: &[u8], item: &[u8]) -> Result<Vec<u8>, AllocError>
+pub(crate) fn domain_octets(
+    alloc: Global,
+    domain: &[u8],
+    item: &[u8],
+) -> Result<Vec<u8>, AllocError>
     ensures { IfOk result (λ v. v.items ≡ domain_name domain.now item.now) }
 {
     let mut both = enclosed(alloc, 0x1a, domain)?;
@@ -38,7 +42,7 @@ fn name(alloc: Global, name: &ObjName) -> Result<Vec<u8>, AllocError>
 }
 
 /// Adds an item of a list: a name, and what stands behind it.
-fn add_variable(
+pub(crate) fn add_variable(
     alloc: Global,
     out: &mut Vec<u8>,
     name: &[u8],

@@ -1,5 +1,5 @@
--- Which configurations a bay serves: as a configuration's text has them, without controls (IEC 61850-7-2, DATA-SET, BRCB and SGCB
--- attributes).
+-- Which configurations a bay serves: as a configuration's text has them (IEC 61850-7-2, DATA-SET, BRCB and SGCB attributes, and the control
+-- class model).
 use Rattle.std.specs.Prelude.{◌≡◌, ◌<◌, ◌≤◌, ◌⊎◌, ℕ, true, List, [], map, length, is_some, slice_index_or}
 use Rattle.std.specs.List.{All}
 use Rattle.sv_base.specs.Fields.{shape_of}
@@ -7,6 +7,7 @@ use Rattle.sv_base.specs.Same.{values_of}
 use Rattle.sv_base.specs.declared.config.Config.{Config}
 use Rattle.sv_base.specs.declared.config.AttrDef.{AttrDef}
 use Rattle.sv_base.specs.declared.config.BlockDef.{BlockDef}
+use Rattle.sv_base.specs.declared.config.CtlDef.{CtlDef}
 use Rattle.sv_base.specs.declared.types.TypeOf.{TypeOf}
 use Rattle.sv_base.specs.declared.types.TypeOf.TheVariants as types
 use Rattle.bay_model.specs.Model.{DataSet}
@@ -18,6 +19,7 @@ use Rattle.bay_model.specs.Named.{configured_model, nodes}
 use Rattle.object_model.specs.Fits.{attr_types, is_sound}
 use Rattle.object_model.specs.Tables.{node_type}
 use Rattle.setting_groups.specs.Opened.{IsGrouped}
+use Rattle.control_core.specs.Opening.{IsCtlKind}
 use Rattle.value_store.specs.Leaves.{leaf_shapes}
 use Rattle.value_store.specs.Opened.{IsStorable, HasDomains}
 use Rattle.value_store.specs.Wholes.{HasForm, tree_attrs}
@@ -60,7 +62,9 @@ abbrev pub HasSoundValues : AttrDef → Type 0
 HasSoundValues a = All (λ v. is_sound v ≡ true) (values_of a.values)
 
 pub record IsServable (c : Config) : Type 0 where
-  pub controls : c.controls ≡ []
+  -- ctlVals are truth values or numbers of 32 bits
+  pub controls : All (λ (k : CtlDef). IsCtlKind k.kind) c.controls
+  pub few_controls : length c.controls ≤ 64
   pub grouped : IsGrouped c
   pub storable : IsStorable c
   pub sound : All HasSoundValues c.attrs

@@ -1,11 +1,13 @@
 -- The state of a bay that was opened: its parts fit the configuration, and it stands for the history of no step.
-use Rattle.std.proofs.Common.{◌≡◌, ◌<◌, ◌≤◌, ℕ, List, [], ◌∷◌, get_or, arith, map, replicate, ap, sym, ◌∙◌, subst, length, append-nil}
+use Rattle.std.proofs.Common.{◌≡◌, ◌<◌, ◌≤◌, ℕ, List, [], ◌∷◌, get_or, arith, map, replicate, refl, ap, sym, ◌∙◌, subst, length, append-nil}
 use Rattle.std.specs.List.{All}
 use Rattle.std.proofs.lemmas.List.{length-map, get_or-map}
 use Rattle.std.proofs.lemmas.List.Elements.{All-head, All-tail}
 use Rattle.std.proofs.lemmas.Option.{slice_get-get_or}
 use Rattle.sv_base.specs.declared.numbers.AttrId.{AttrId}
 use Rattle.bay_model.specs.Attributes.{attributes}
+use Rattle.bay_model.specs.Configured.{control_defined}
+use Rattle.bay_model.specs.Model.{Control}
 use Rattle.object_model.specs.Nodes.{node_rows}
 use Rattle.object_model.specs.Tables.{set_rows}
 use Rattle.data_sets.specs.Books.{Book, number_referred, opened as booked}
@@ -21,6 +23,10 @@ use Rattle.bay_rooms.specs.Rooms.{Filled}
 use Rattle.assoc_table.specs.Seats.{closed}
 use Rattle.assoc_table.specs.Standing.{Stands as AssociationsStand}
 use Rattle.assoc_table.proofs.StandLaws.{stands-empty}
+use Rattle.control_core.specs.Controls.{ControlState, idle}
+use Rattle.control_core.specs.Tables.{opened_of}
+use Rattle.control_core.specs.Standing.{Stands as ControlsStand}
+use Rattle.control_core.proofs.StandLaws.{stands-opened}
 use Rattle.value_store.specs.Opened.{opened}
 use Rattle.value_store.specs.Stored.{Stored}
 use Rattle.value_store.specs.Wholes.{Stands as ValuesStand}
@@ -90,9 +96,14 @@ watchable-first c n book parts served is are count = λ b d below.
     let part = get_or parts b d in
     watchable c n book part (subst (AreServedSets c) (sym is) (booked-first c served).served) (parts-sets c book parts are b part (slice_get-get_or parts b d below)) count
 
+-- controls as they are opened have their configurations
+pub configs-opened : (cs : List Control) → map (λ (s : ControlState). s.config) (map idle cs) ≡ cs
+configs-opened [] = refl
+configs-opened (c ∷ cs) = ap (λ l. c ∷ l) (configs-opened cs)
+
 pub stands-first : (s : State) (c : Config) → IsServable c → s.config ≡ c → s.steps ≡ 0 → s.latest ≡ now [] → s.stored ≡ opened c → s.book ≡ booked (set_rows c)
-    → map seen s.parts ≡ map (part_defined (booked (set_rows c))) c.blocks → s.rows ≡ replicate 16 closed → s.groups ≡ grouped c (domains c) → StandsFor s c []
-stands-first s c served config steps latest values book are rows groups = (
+    → map seen s.parts ≡ map (part_defined (booked (set_rows c))) c.blocks → s.rows ≡ replicate 16 closed → s.controls ≡ opened_of (map control_defined c.controls) → s.groups ≡ grouped c (domains c) → StandsFor s c []
+stands-first s c served config steps latest values book are rows controls groups = (
   tt,
   record {
     is_config = config;
@@ -101,6 +112,7 @@ stands-first s c served config steps latest values book are rows groups = (
     values = subst (λ all. ValuesStand all (configured_model c) []) (sym values) (opened_stands c served.domains);
     associations = subst (λ all. AssociationsStand all (configured_model c) []) (sym rows) (stands-empty (configured_model c));
     groups = subst (λ g. GroupsStand g (configured_model c) []) (sym groups) (groups_stand c served.grouped);
+    controls = subst (λ t. ControlsStand t (configured_model c) []) (sym controls) (stands-opened (configured_model c));
     sets = ap (λ (b : Book). map data_set b.sets) book ∙ (sets-back c ∙ sym (append-nil (configured_model c).sets));
     configured = ap (λ (b : Book). b.configured) book ∙ count-back c;
     blocks = parts-stand c (booked (set_rows c)) s.parts are;

@@ -22,6 +22,7 @@ use Rattle.bay_model.specs.Points.{Past, answered}
 use Rattle.bay_model.specs.Services.{reply, singles_of, set_name, change_of}
 use Rattle.bay_model.specs.Singles.{Single, arrival, outcomes, after_singles}
 use Rattle.bay_model.specs.Sizes.{size_of}
+use Rattle.bay_model.specs.Waiting.{tests}
 use Rattle.assoc_table.specs.declared.waiting.Waiting.TheVariants as waits
 use Rattle.assoc_table.specs.Tables.{extended}
 use Rattle.data_sets.specs.Books.{Book, number_named, set_at}
@@ -49,7 +50,7 @@ replied s a output = record s { rows = extended s.rows a (waits.Reply output ∷
 -- the data sets.
 abbrev pub IsReplied : State → State → ℕ → ℕ → Service → Reply → Type 0
 IsReplied old new moment a service r = IsReplyAt old moment a service r
-    × ((c : Config) (n : ℕ) (past : Past) (output : Output) → StandsAt old c n past
+    × ((c : Config) (n : ℕ) (past : Past) (output : Output) → StandsAt old c n past → tests (configured_model c) n past ≡ []
     → StandsAt (replied new a output) c n (at n moment (answered a output (change_of (configured_model c) past service)) ∷ after_singles (configured_model c) a n moment (singles_of (configured_model c) past service) past))
 
 -- no step is counted yet, and what waits for the associations stays

@@ -14,10 +14,11 @@ pub mod Watched
 -- what a write makes of the data set that a block reports
 pub mod Written
 pub mod Put
--- what waits for associations
-pub mod Queued
 -- requests
 pub mod Asked
 pub mod Deleted
+-- calls of controls
+pub mod Commanded
+pub mod Came
 -- losses
 pub mod Parting

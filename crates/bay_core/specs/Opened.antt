@@ -1,6 +1,6 @@
 -- How a bay begins: each report block as it is configured, with an empty buffer, room for the members of any data set, and the number of
 -- the one that its DatSet names (IEC 61850-7-2, BRCB attribute DatSet).
-use Rattle.std.specs.Prelude.{ℕ, Option, None}
+use Rattle.std.specs.Prelude.{ℕ, Option, None, map, replicate}
 use Rattle.sv_base.specs.declared.config.BlockDef.{BlockDef}
 use Rattle.bay_model.specs.Configured.{block_defined}
 use Rattle.data_sets.specs.Books.{Book, number_referred}
@@ -10,6 +10,11 @@ use Rattle.entry_ring.specs.Ringed.{Ringed}
 use Rattle.entry_ring.specs.Standing.{empty}
 use Rattle.window_core.specs.Windows.{Windowed, empty as empty_window}
 use Rattle.report_block.specs.declared.block.ReportBlock.{ReportBlock}
+use Rattle.assoc_table.specs.Seats.{closed}
+use Rattle.bay_model.specs.Configured.{control_defined}
+use Rattle.control_core.specs.Tables.{opened_of}
+use Rattle.bay_queues.specs.Queued.{Queued}
+use Rattle.sv_base.specs.declared.config.Config.{Config}
 
 -- a block: its attributes, its entries, what it gathers, the origin of its periods, and the number of its data set
 pub record PartSeen : Type 0 where
@@ -30,3 +35,7 @@ part_defined book def = record {
   origin = None;
   set = number_referred def.dat_set book;
 }
+
+-- no association is open, and each control is as it is configured
+abbrev pub queues_opened : Config → Queued
+queues_opened c = record { rows = replicate 16 closed; table = opened_of (map control_defined c.controls) }

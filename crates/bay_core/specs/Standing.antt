@@ -10,6 +10,7 @@ use Rattle.value_store.specs.Wholes.{Stands as ValuesStand}
 use Rattle.data_sets.specs.Standing.{data_set}
 use Rattle.assoc_table.specs.Standing.{Stands as AssociationsStand}
 use Rattle.setting_groups.specs.Standing.{Stands as GroupsStand}
+use Rattle.control_core.specs.Standing.{Stands as ControlsStand}
 use Rattle.report_block.specs.Standing.{BlocksStand}
 use Rattle.bay_core.specs.State.{State}
 
@@ -21,6 +22,7 @@ pub record StandsAt (s : State) (c : Config) (count : ℕ) (past : Past) : Type 
   pub values : ValuesStand s.stored (configured_model c) past
   pub associations : AssociationsStand s.rows (configured_model c) past
   pub groups : GroupsStand s.groups (configured_model c) past
+  pub controls : ControlsStand s.controls (configured_model c) past
   -- the configured data sets and those that clients defined
   pub sets : map data_set s.book.sets ≡ sets (configured_model c) past
   pub configured : s.book.configured ≡ length (configured_model c).sets

@@ -11,6 +11,7 @@ use Rattle.value_store.specs.Stored.{Stored}
 use Rattle.setting_groups.specs.Grouped.{Grouped}
 use Rattle.bay_values.specs.Held.{AreHeld}
 use Rattle.assoc_table.specs.Seats.{Row}
+use Rattle.control_core.specs.Tables.{Table}
 use Rattle.report_block.specs.declared.block.ReportBlock.{ReportBlock}
 use Rattle.bay_core.specs.declared.watch.Watch.{Watch}
 use Rattle.bay_core.specs.Watched.{IsWatching}
@@ -25,6 +26,7 @@ pub record State : Type 0 where
   pub parts : List ReportBlock
   pub rows : List Row
   pub groups : Grouped
+  pub controls : Table
 
 -- each data set can be served
 abbrev pub AreServedSets : Config → Book → Type 0

@@ -8,6 +8,7 @@ use Rattle.report_block.specs.declared.block.ReportBlock.{ReportBlock}
 use Rattle.report_block.specs.Alls.{all_pieces, for_integrity}
 use Rattle.report_block.specs.Coming.{arrived}
 use Rattle.report_block.specs.Due.{due_at, IsBefore}
+use Rattle.control_core.specs.Tables.{at_moment}
 use Rattle.bay_core.specs.State.{State}
 use Rattle.bay_core.specs.Watched.{members_in}
 
@@ -32,4 +33,5 @@ abbrev pub at_arrival : ℕ → State → State
 at_arrival t s = record s {
   latest = max s.latest t;
   parts = arrived_all (node_rows s.config) s.book s.stored s.latest (max s.latest t) s.steps s.parts;
+  controls = at_moment (max s.latest t) s.controls;
 }

@@ -12,12 +12,6 @@ use Rattle.bay_core.specs.declared.fault.StepFault.TheVariants as faults
 use Rattle.bay_core.specs.State.{State}
 use Rattle.bay_core.specs.Standing.{StandsFor}
 
--- the steps that a bay takes
-abbrev pub IsBuilt : Step → Type 0
-IsBuilt (steps.Done k good) = ⊥
-IsBuilt (steps.Block k flag) = ⊥
-IsBuilt _ = Unit {0}
-
 -- the fault that a refusal names; want of memory is no fault of the step
 abbrev pub named : StepFault → Option Fault
 named (faults.IsOpen a) = Some (IsOpen a.0)

@@ -1,8 +1,11 @@
--- What is so of a bay between steps: its parts and its setting groups fit its configuration, there is room for events, and each block
--- has nothing due before the moment that the bay knows of it.
-use Rattle.std.specs.Prelude.{ℕ, List, Option}
+-- What is so of a bay between steps: its parts, its setting groups and its controls fit its configuration, there is room for events, and
+-- each block has nothing due before the moment that the bay knows of it.
+use Rattle.std.specs.Prelude.{◌≡◌, ℕ, List, map, Option}
 use Rattle.sv_base.specs.declared.config.Config.{Config}
 use Rattle.bay_rooms.specs.Rooms.{Filled}
+use Rattle.bay_model.specs.Configured.{control_defined}
+use Rattle.control_core.specs.Tables.{Table}
+use Rattle.bay_queues.specs.Queued.{configs}
 use Rattle.data_sets.specs.Books.{Book}
 use Rattle.value_store.specs.Stored.{Stored}
 use Rattle.setting_groups.specs.Grouped.{Grouped}
@@ -14,8 +17,9 @@ use Rattle.bay_core.specs.State.{IsFurnished}
 use Rattle.bay_values.specs.Held.{AreGrouped}
 use Rattle.bay_core.specs.Timed.{AreQuietUntil}
 
-pub record IsWhole (c : Config) (stored : List Stored) (groups : Grouped) (book : Book) (parts : List ReportBlock) (w : Watch) (octets : Filled ℕ) (room : ℕ) (latest : ℕ) (dues : List (Option ℕ)) (events : EventRoom) : Type 0 where
+pub record IsWhole (c : Config) (stored : List Stored) (groups : Grouped) (book : Book) (parts : List ReportBlock) (w : Watch) (octets : Filled ℕ) (room : ℕ) (latest : ℕ) (dues : List (Option ℕ)) (events : EventRoom) (controls : Table) : Type 0 where
   pub furnished : IsFurnished c stored book parts w octets room
   pub grouped : AreGrouped c groups
   pub quiet : AreQuietUntil latest dues parts
   pub roomy : HasRoom 256 events
+  pub controls : configs controls ≡ map control_defined c.controls

@@ -6,16 +6,45 @@ ghost use Rattle.std.specs.Prelude.{◌≡◌, []};
 use crate::bay::Bay;
 use crate::defining::set_name;
 use crate::fault::StepFault;
-use bay_model::{Acts, Answer, ApplErrors, Codes, Output, Reply, Request, Service, Writes};
+use bay_model::{
+    Act, Acts, Answer, ApplError, ApplErrors, Codes, Output, Reply, Request, Service, Writes,
+};
+use bay_queues::Heard;
 use bay_replies::Replies;
 use std::alloc::{AllocError, Global};
-use sv_base::{ActorNo, AssocNo, Moment, NodeId, Octs, Value, Values};
+use sv_base::{ActorNo, AssocNo, CtlNo, Moment, NodeId, Octs, Value, Values};
 
-/// No control is to act. It takes no memory.
-fn no_acts(alloc: Global) -> Acts
-    ensures { result ≡ [] }
+/// What a request came to: its reply with the errors before it, the controls that act, and those whose terminations follow the reply.
+#[derive(Drop)]
+pub(crate) struct Came {
+    pub(crate) reply: Reply,
+    pub(crate) before: Vec<ApplError>,
+    pub(crate) acts: Vec<Act>,
+    pub(crate) tests: Vec<CtlNo>,
+}
+
+/// A request came to its reply alone. It takes no memory.
+fn alone(alloc: Global, reply: Reply) -> Came
+    ensures reply { result.reply ≡ reply }
+    ensures none { (result.before.items ≡ []) × (result.acts.items ≡ []) × (result.tests.items ≡ []) }
 {
-    Acts::from_vec(Vec::new(alloc))
+    Came {
+        reply,
+        before: Vec::new(alloc),
+        acts: Vec::new(alloc),
+        tests: Vec::new(alloc),
+    }
+}
+
+/// A write came to its codes, and to what its commands came to.
+fn wrote(heard: Heard) -> Came {
+    let parts = heard.parts();
+    Came {
+        reply: Reply::Wrote(Codes::from_vec(parts.codes)),
+        before: parts.before,
+        acts: parts.acts,
+        tests: parts.tests,
+    }
 }
 
 impl Bay {
@@ -30,9 +59,24 @@ impl Bay {
     ghost use Rattle.bay_model.specs.declared.request.Service.TheVariants as services;
     ghost use Rattle.bay_model.specs.Singles.{writes_of};
     ghost use Rattle.bay_core.specs.Asked.{AreMembersFit, AreWritten, IsAnswered, IsReplied, IsReplyAt, IsKept, members_of, node_numbers, set_members};
+    ghost use Rattle.bay_core.specs.Came.{IsCome, put_after};
+    ghost use Rattle.bay_core.specs.Commanded.{AreNoCommands, AreTestsOf, CallsNothing};
     ghost use Rattle.bay_core.specs.Turns.{Does, IsCounted};
 
-    /// The reply to a request that writes nothing, as of the arrival of a step at a moment.
+    /// What a reply is made of, as of the arrival of a step at a moment.
+    pub(crate) fn replies(&self, moment: Moment) -> Replies<'_> {
+        Replies {
+            model: &self.model,
+            store: self.values.store(),
+            groups: &self.groups,
+            blocks: &self.parts,
+            book: &self.sets,
+            was: self.latest,
+            now: self.latest.later(moment),
+        }
+    }
+
+    /// The reply to a request that reads and writes no variable, as of the arrival of a step at a moment.
     fn reply_to(
         &self,
         alloc: Global,
@@ -45,20 +89,11 @@ impl Bay {
         requires reading { IsReading service.now }
         ensures { IfOk result (λ r. IsReplyAt self.now moment a.0 service.now r) }
     {
-        let replies = Replies {
-            model: &self.model,
-            store: self.values.store(),
-            groups: &self.groups,
-            blocks: &self.parts,
-            book: &self.sets,
-            was: self.latest,
-            now: self.latest.later(moment),
-        };
         let size = self.associations.size(a).unwrap_or(0);
-        replies.reply(alloc, size, service)
+        self.replies(moment).reply(alloc, size, service)
     }
 
-    /// Answers a request that writes nothing: the reply is made, and then time passes.
+    /// Answers a request that reads and writes no variable: the reply is made, and then time passes.
     fn answer_read(
         &mut self,
         alloc: Global,
@@ -78,23 +113,26 @@ impl Bay {
         Ok(reply)
     }
 
-    /// Answers a write of variables: room for the codes is made, and then time passes and each is written.
+    /// Answers a write of variables: room for what comes of it and the errors that commands may have are made, and then time passes and
+    /// each is written.
     fn answer_writes(
         &mut self,
         alloc: Global,
         moment: Moment,
         a: AssocNo,
         writes: &Writes,
-    ) -> Result<Reply, AllocError>
-        requires { IsFitting self.old.config (services.WriteVars writes.now) }
-        ensures answered { IfOk result (λ r. IsAnswered self.old self.new moment a.0 (services.WriteVars writes.now) r) }
+    ) -> Result<Came, AllocError>
+        requires number { IsNumber a.0 }
+        requires fits { IsFitting self.old.config (services.WriteVars writes.now) }
+        ensures came { IfOk result (λ x. IsCome self.old self.new moment a.0 (services.WriteVars writes.now) x) }
         ensures kept { OnOk result (IsKept self.old self.new) }
         ensures refused { OnErr result (self.new ≡ self.old) }
     {
-        let mut codes = Vec::with_capacity(alloc, writes.len())?;
+        let mut blames = self.blames(alloc, writes.as_slice())?;
+        let mut heard = Heard::new(alloc, writes.len())?;
         self.arrive(moment);
-        self.write_all(a, writes.as_slice(), &mut codes);
-        Ok(Reply::Wrote(Codes::from_vec(codes)))
+        self.write_all(a, writes.as_slice(), &mut blames, &mut heard);
+        Ok(wrote(heard))
     }
 
     /// The members of a data set by its name; none exactly where it isn't there.
@@ -162,8 +200,9 @@ impl Bay {
         Ok(Reply::Wrote(Codes::from_vec(codes)))
     }
 
-    /// Answers a request, at its arrival. What a request makes of the data sets belongs to the point of its reply.
-    fn answer(
+    /// Answers a request in which no command can be, at its arrival. What a request makes of the data sets belongs to the point of its
+    /// reply.
+    fn answer_plain(
         &mut self,
         alloc: Global,
         moment: Moment,
@@ -172,13 +211,16 @@ impl Bay {
     ) -> Result<Reply, AllocError>
         requires number { IsNumber a.0 }
         requires fits { IsFitting self.old.config service.now }
+        requires plain { CallsNothing service.now }
         ensures answered { IfOk result (λ r. IsReplied self.old self.new moment a.0 service.now r) }
         ensures kept { OnOk result (IsKept self.old self.new) }
         ensures refused { OnErr result (self.new ≡ self.old) }
     {
         let _ = &self.model;
         match service {
-            Service::WriteVars(writes) => self.answer_writes(alloc, moment, a, writes),
+            Service::Read { targets, spec } => {
+                self.answer_variables(alloc, moment, a, targets, *spec)
+            }
             Service::WriteSet {
                 domain,
                 item,
@@ -194,18 +236,45 @@ impl Bay {
         }
     }
 
-    /// A reply without errors before it waits for an association. It takes no memory.
-    fn queue(&mut self, alloc: Global, a: AssocNo, invoke: u32, reply: Reply)
+    /// Answers a request, at its arrival.
+    fn answer(
+        &mut self,
+        alloc: Global,
+        moment: Moment,
+        a: AssocNo,
+        service: &Service,
+    ) -> Result<Came, AllocError>
+        requires number { IsNumber a.0 }
+        requires fits { IsFitting self.old.config service.now }
+        ensures came { IfOk result (λ x. IsCome self.old self.new moment a.0 service.now x) }
+        ensures kept { OnOk result (IsKept self.old self.new) }
+        ensures refused { OnErr result (self.new ≡ self.old) }
+    {
+        match service {
+            Service::WriteVars(writes) => self.answer_writes(alloc, moment, a, writes),
+            _ => {
+                let reply = self.answer_plain(alloc, moment, a, service)?;
+                Ok(alone(alloc, reply))
+            }
+        }
+    }
+
+    /// What a request came to waits for its association: the reply with the errors before it, and the terminations of its tests behind
+    /// it; gives the acts. It takes no memory.
+    fn put_reply(&mut self, a: AssocNo, invoke: u32, came: Came) -> Acts
         requires number { IsNumber a.0 }
         requires room { nat_le 16 (replies (row_of self.old.rows a.0).waiting) ≡ false }
-        ensures { self.new ≡ record self.old { rows = extended self.old.rows a.0 (waits.Reply (outputs.Reply [] invoke reply) ∷ []) } }
+        requires tests { AreTestsOf self.old a.0 came.tests.items }
+        ensures acts { result ≡ came.acts.items }
+        ensures put { self.new ≡ put_after a.0 invoke came self.old }
     {
         let output = Output::Reply {
-            before: ApplErrors::from_vec(Vec::new(alloc)),
+            before: ApplErrors::from_vec(came.before),
             invoke,
-            reply,
+            reply: came.reply,
         };
-        self.associations.queue(a, output);
+        self.associations.answer(a, output, came.tests.as_slice());
+        Acts::from_vec(came.acts)
     }
 
     /// An association makes a request.
@@ -232,12 +301,12 @@ impl Bay {
         if self.associations.is_full(a) {
             return Err(StepFault::QueueFull(a));
         }
-        let reply = match self.answer(alloc, moment, a, &request.service) {
-            Ok(reply) => reply,
+        let came = match self.answer(alloc, moment, a, &request.service) {
+            Ok(came) => came,
             Err(_) => return Err(StepFault::Memory),
         };
-        self.queue(alloc, a, request.invoke, reply);
+        let acts = self.put_reply(a, request.invoke, came);
         self.count();
-        Ok(Answer::Asked(no_acts(alloc)))
+        Ok(Answer::Asked(acts))
     }
 }

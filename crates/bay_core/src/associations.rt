@@ -26,6 +26,8 @@ impl Bay {
     ghost use Rattle.bay_model.specs.declared.step.Step.TheVariants as steps;
     ghost use Rattle.assoc_table.specs.Tables.{IsNumber, ended, row_of, started};
     ghost use Rattle.setting_groups.specs.Grouped.{after_loss};
+    ghost use Rattle.bay_model.specs.Points.{lost as lost_deed};
+    ghost use Rattle.control_core.specs.Tables.{after_deed};
     ghost use Rattle.bay_core.specs.Parting.{after_loss_all};
     ghost use Rattle.bay_core.specs.Turns.{Does, IsCounted, KeepsLean};
 
@@ -38,10 +40,10 @@ impl Bay {
         self.associations.start(a, ends);
     }
 
-    /// An association ends, and with it what it has enabled and what it edits.
+    /// An association ends, and with it what it has enabled, what it edits and what it has selected.
     fn end(&mut self, a: AssocNo)
         requires { IsNumber a.0 }
-        ensures { self.new ≡ record self.old { rows = ended self.old.rows a.0; parts = after_loss_all a self.old.parts; groups = after_loss a.0 self.old.groups } }
+        ensures { self.new ≡ record self.old { rows = ended self.old.rows a.0; parts = after_loss_all a self.old.parts; groups = after_loss a.0 self.old.groups; controls = after_deed (lost_deed a.0) self.old.controls } }
     {
         self.associations.end(a);
         lose_all(&mut self.parts, a);

@@ -1,9 +1,9 @@
 //! A bay.
 
 use crate::dues::Dues;
-use crate::queues::Queues;
 use crate::watch::Watch;
 use bay_model::{Answer, Change, Fixed, Output, Report};
+use bay_queues::Queues;
 use bay_values::Values;
 use data_sets::SetBook;
 use object_model::Model;
@@ -25,6 +25,7 @@ pub struct Bay {
     pub(crate) parts: Vec<ReportBlock>,
     /// Before these moments, block by block, none has anything due.
     pub(crate) dues: Dues,
+    /// The associations and what waits for them, and the controls.
     pub(crate) associations: Queues,
     /// The members of all data sets by their attributes, with the notes of the step that is being made.
     pub(crate) watch: Watch,
@@ -43,16 +44,17 @@ impl std::marker::Model for Bay {
     ghost use Rattle.std.specs.Coded.{codes};
     ghost use Rattle.sv_base.specs.Tree.{row_code};
     ghost use Rattle.sv_base.specs.Types.{fields_code};
+    ghost use Rattle.control_core.specs.Coding.{seen_code, phase_code, kind_code};
     ghost use Rattle.bay_core.specs.State.{State};
     ghost use Rattle.bay_core.specs.Whole.{IsWhole};
 
     ghost Value = { State };
 
-    ghost coded = { Prim.hlevel (codes, row_code, fields_code) };
+    ghost coded = { Prim.hlevel (codes, row_code, fields_code, seen_code, phase_code, kind_code) };
 
-    ghost view = { λ b. record { config = b.model; steps = b.steps; latest = b.latest; stored = b.values; book = b.sets; parts = b.parts.items; rows = b.associations; groups = b.groups } };
+    ghost view = { λ b. record { config = b.model; steps = b.steps; latest = b.latest; stored = b.values; book = b.sets; parts = b.parts.items; rows = b.associations.rows; groups = b.groups; controls = b.associations.table } };
 
-    ghost invariant = { λ b. IsWhole b.model b.values b.groups b.sets b.parts.items b.watch b.octets (vec_capacity b.changes) b.latest b.dues b.events };
+    ghost invariant = { λ b. IsWhole b.model b.values b.groups b.sets b.parts.items b.watch b.octets (vec_capacity b.changes) b.latest b.dues b.events b.associations.table };
 }
 
 impl Bay {

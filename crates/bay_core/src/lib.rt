@@ -1,11 +1,11 @@
-//! The state machine of a bay: associations with their requests, attribute values and buffered reporting (IEC 61850-7-2), step by step.
+//! The state machine of a bay: associations with their requests, attribute values, controls and buffered reporting (IEC 61850-7-2), step by
+//! step.
 #![tactic(auto)]
 
 // a bay, and how it begins
 mod bay;
 mod dues;
 mod opening;
-mod queues;
 mod set_names;
 mod source;
 mod watch;
@@ -13,10 +13,12 @@ mod watch;
 // its steps, and why one is refused
 mod asking;
 mod associations;
+mod commands;
 mod defining;
 mod deleting;
 mod fault;
 mod laws;
+mod reading;
 mod setting;
 mod settings;
 mod singles;

@@ -4,7 +4,6 @@ ghost use Rattle.std.specs.Prelude.{◌≡◌, ◌≤◌, [], IfOk, Some, length
 ghost use Rattle.object_model.specs.Nodes.{node_rows};
 ghost use Rattle.object_model.specs.Tables.{set_rows};
 ghost use Rattle.data_sets.specs.Books.{opened as booked};
-ghost use Rattle.assoc_table.specs.Seats.{closed};
 ghost use Rattle.value_store.specs.Opened.{opened};
 ghost use Rattle.bay_model.specs.NamedLines.{domains as domains_of};
 ghost use Rattle.setting_groups.specs.Opened.{opened as grouped};
@@ -12,21 +11,21 @@ ghost use Rattle.report_block.specs.Events.{HasRoom};
 ghost use Rattle.bay_config.specs.Servable.{IsServable, IsServedBlock};
 ghost use Rattle.bay_core.specs.Standing.{StandsFor};
 ghost use Rattle.bay_core.specs.Watched.{IsWatching};
-ghost use Rattle.bay_core.specs.Opened.{seen, part_defined};
+ghost use Rattle.bay_core.specs.Opened.{seen, part_defined, queues_opened};
 
 use crate::bay::Bay;
 use crate::dues::Dues;
-use crate::queues::Queues;
 use crate::taking::MOST_MEMBERS;
 use crate::watch::Watch;
 use bay_model::{Change, Fixed};
+use bay_queues::Queues;
 use bay_values::Values;
 use data_sets::SetBook;
 use object_model::{Model, domains};
 use report_block::{EventRoom, ReportBlock};
 use setting_groups::Groups;
 use std::alloc::{AllocError, Global};
-use sv_base::{BlockDef, Moment};
+use sv_base::{BlockDef, Config, Moment};
 
 /// A block with an empty buffer, and room for the members of any data set, of those too that clients may define.
 fn part_of(alloc: Global, book: &SetBook, def: &BlockDef) -> Result<ReportBlock, AllocError>
@@ -59,17 +58,23 @@ struct Rooms {
     octets: Fixed,
 }
 
-/// Room for so many blocks and so many attributes, with no open association.
-fn rooms_made(alloc: Global, blocks: usize, attrs: u32) -> Result<Rooms, AllocError>
+/// Room for so many blocks and so many attributes, with no open association and the controls as they are configured.
+fn rooms_made(
+    alloc: Global,
+    config: &Config,
+    blocks: usize,
+    attrs: u32,
+) -> Result<Rooms, AllocError>
+    requires { IsServable config.now }
     ensures dues { IfOk result (λ r. r.dues ≡ replicate blocks (Some 0)) }
-    ensures associations { IfOk result (λ r. r.associations ≡ replicate 16 closed) }
+    ensures associations { IfOk result (λ r. r.associations ≡ queues_opened config.now) }
     ensures changes { IfOk result (λ r. attrs ≤ vec_capacity r.changes) }
     ensures events { IfOk result (λ r. HasRoom 256 r.events) }
     ensures octets { IfOk result (λ r. r.octets.room ≡ 129024) }
 {
     Ok(Rooms {
         dues: Dues::open(alloc, blocks)?,
-        associations: Queues::open(alloc)?,
+        associations: Queues::open(alloc, config)?,
         changes: Vec::with_capacity(alloc, attrs as usize)?,
         events: EventRoom::new(alloc, 256)?,
         octets: Fixed::new(alloc, 129024)?,
@@ -97,8 +102,8 @@ struct Made {
     rooms: Rooms,
 }
 
-/// The values, the setting groups, the data sets and the blocks as they are configured, no open association, and the room that notes, entries and
-/// changes need.
+/// The values, the setting groups, the data sets, the controls and the blocks as they are configured, no open association, and the room that
+/// notes, entries and changes need.
 fn parts_made(alloc: Global, model: &Model) -> Result<Made, AllocError>
     requires { IsServable model.now }
     ensures values { IfOk result (λ m. m.values ≡ opened model.now) }
@@ -107,7 +112,7 @@ fn parts_made(alloc: Global, model: &Model) -> Result<Made, AllocError>
     ensures parts { IfOk result (λ m. map seen m.parts.items ≡ map (part_defined (booked (set_rows model.now))) model.now.blocks) }
     ensures watch { IfOk result (λ m. IsWatching (node_rows model.now) m.sets (length m.values) m.parts.items m.watch) }
     ensures dues { IfOk result (λ m. m.rooms.dues ≡ replicate (length m.parts.items) (Some 0)) }
-    ensures associations { IfOk result (λ m. m.rooms.associations ≡ replicate 16 closed) }
+    ensures associations { IfOk result (λ m. m.rooms.associations ≡ queues_opened model.now) }
     ensures events { IfOk result (λ m. HasRoom 256 m.rooms.events) }
     ensures octets { IfOk result (λ m. m.rooms.octets.room ≡ 129024) }
     ensures changes { IfOk result (λ m. length m.values ≤ vec_capacity m.rooms.changes) }
@@ -120,7 +125,7 @@ fn parts_made(alloc: Global, model: &Model) -> Result<Made, AllocError>
     let sets = SetBook::open(alloc, model.sets())?;
     let parts = parts_of(alloc, model, &sets)?;
     let watch = Watch::open(alloc, attrs, &parts, &sets, model.nodes().as_slice())?;
-    let rooms = rooms_made(alloc, parts.len(), attrs)?;
+    let rooms = rooms_made(alloc, model.config(), parts.len(), attrs)?;
     Ok(Made {
         values,
         groups,
@@ -139,7 +144,7 @@ fn begun(model: Model, made: Made) -> Bay
     requires sets { made.sets ≡ booked (set_rows model) }
     requires parts { map seen made.parts.items ≡ map (part_defined (booked (set_rows model))) model.blocks }
     requires dues { made.rooms.dues ≡ replicate (length made.parts.items) (Some 0) }
-    requires associations { made.rooms.associations ≡ replicate 16 closed }
+    requires associations { made.rooms.associations ≡ queues_opened model }
     requires watch { IsWatching (node_rows model) made.sets (length made.values) made.parts.items made.watch }
     requires events { HasRoom 256 made.rooms.events }
     requires octets { made.rooms.octets.room ≡ 129024 }

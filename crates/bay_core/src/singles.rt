@@ -1,13 +1,15 @@
 //! The single writes of a request, each judged after those before it (ISO 9506-2, Write; IEC 61850-7-2, SetDataValues and
 //! SetBRCBValues).
 
-ghost use Rattle.std.specs.Prelude.{◌≡◌, ◌≤◌, ◌<◌, ◌++◌, ◌∷◌, [], vec_len, vec_capacity};
+ghost use Rattle.std.specs.Prelude.{◌≡◌, ◌≤◌, ◌<◌, ◌++◌, ◌∷◌, [], vec_len, vec_capacity, if◌then◌else◌};
 ghost use Rattle.bay_core.specs.Asked.{set_code};
+ghost use Rattle.bay_rooms.specs.Kinds.{is_kind, text};
 
 use crate::bay::Bay;
 use crate::setting::event_all;
 use crate::source::Source;
-use bay_model::{Target, Write};
+use bay_model::{ApplError, Target, Write};
+use bay_queues::Heard;
 use object_model::What;
 use sv_base::{AssocNo, AttrId, BlockNo, NodeId, Value};
 use value_store::SetFault;
@@ -32,6 +34,17 @@ fn add_code(codes: &mut Vec<Result<(), u8>>, code: Result<(), u8>)
     let _ = codes.push(code);
 }
 
+/// The code of a write of SBO (ISO 9506-2, DataAccessError): object-access-denied behind type-inconsistent.
+fn selecting_code(value: &Value) -> u8
+    ensures { result ≡ (if is_kind (text 129) value.now then 3 else 7) }
+{
+    if matches!(value, Value::Text(_)) {
+        3
+    } else {
+        7
+    }
+}
+
 impl Bay {
     ghost use Rattle.std.specs.Prelude.{◌≡◌, ◌≤◌, ◌<◌, [], ℕ, true, length, map, vec_capacity};
     ghost use Rattle.bay_model.specs.Lookups.{attr_of, node_of};
@@ -39,12 +52,18 @@ impl Bay {
     ghost use Rattle.bay_model.specs.Singles.{outcome_of, write_of, write_to, writes, writes_of};
     ghost use Rattle.bay_model.specs.Writes.{write_attribute, write_node};
     ghost use Rattle.object_model.specs.Fits.{is_sound};
+    ghost use Rattle.bay_model.specs.declared.request.Write.{Write as WriteValue};
+    ghost use Rattle.bay_model.specs.Named.{configured_model};
+    ghost use Rattle.assoc_table.specs.Tables.{IsNumber};
+    ghost use Rattle.bay_replies.specs.Given.{copies_from};
+    ghost use Rattle.bay_queues.specs.Heard.{unheard};
     ghost use Rattle.bay_core.specs.Asked.{AreFit, AreMembersFit, AreWrites, IsFit, IsKept, IsWrite, node_numbers};
+    ghost use Rattle.bay_core.specs.Commanded.{blame_to, AreNoCommands, AreSingles, IsNoCommand, IsSingle};
 
-    /// A client writes an attribute of a line, at the moment that time has come to, and each block takes in its event. It takes no
-    /// memory.
+    /// A client writes an attribute of a line or of a control, at the moment that time has come to, and each block takes in its event. It
+    /// takes no memory.
     fn write_line(&mut self, attr: AttrId, value: &Value) -> Result<(), u8>
-        requires there { attr.0 < length self.old.config.attrs }
+        requires there { attr.0 < copies_from self.old.stored self.old.groups }
         requires sound { is_sound value.now ≡ true }
         ensures kept { IsKept self.old self.new }
         ensures written { (a : ℕ) → IsWrite self.old self.new (λ m past. write_attribute m a attr.0 value.now (attr_of m attr.0).access past) result }
@@ -75,8 +94,8 @@ impl Bay {
         Ok(())
     }
 
-    /// An association writes an attribute, at the moment that time has come to: one of a line, or an edit copy, which stand behind
-    /// these. It takes no memory.
+    /// An association writes an attribute, at the moment that time has come to: one of a line or of a control, or an edit copy, which
+    /// stand behind these. It takes no memory.
     fn write_attribute(&mut self, a: AssocNo, attr: AttrId, value: &Value) -> Result<(), u8>
         requires there { attr.0 < length self.old.stored }
         requires sound { is_sound value.now ≡ true }
@@ -84,18 +103,19 @@ impl Bay {
         ensures written { IsWrite self.old self.new (λ m past. write_attribute m a.0 attr.0 value.now (attr_of m attr.0).access past) result }
     {
         let number = attr.0 as usize;
-        let lines = self.model.config().attrs.len();
-        if number < lines {
+        let copies = self.values.store().len().saturating_sub(self.groups.len());
+        if number < copies {
             self.write_line(attr, value)
         } else {
-            self.write_copy(a, number - lines, value)
+            self.write_copy(a, number - copies, value)
         }
     }
 
-    /// An association writes a node, at the moment that time has come to. It takes no memory.
-    fn write_node(&mut self, a: AssocNo, node: NodeId, value: &Value) -> Result<(), u8>
+    /// An association writes a node that is no command, at the moment that time has come to. It takes no memory.
+    pub(crate) fn write_node(&mut self, a: AssocNo, node: NodeId, value: &Value) -> Result<(), u8>
         requires there { node.0 < length (nodes_of self.old.config) }
         requires sound { is_sound value.now ≡ true }
+        requires plain { IsNoCommand (node_of (configured_model self.old.config) node.0).role }
         ensures kept { IsKept self.old self.new }
         ensures written { IsWrite self.old self.new (λ m past. write_node m a.0 node.0 value.now past) result }
     {
@@ -103,48 +123,60 @@ impl Bay {
             What::Attribute(attr) => self.write_attribute(a, AttrId(attr), value),
             What::Component(b, comp) => self.write_at_arrival(a, BlockNo(b), comp, value),
             What::Setting(domain, part) => self.write_part(a, domain, part, value),
-            What::Structure => Err(3),
-            // there is no control
-            _ => unreachable!(),
+            What::Selecting(_) => Err(selecting_code(value)),
+            What::Structure | What::Withheld => Err(3),
+            What::Calling(..) => unreachable!(),
         }
     }
 
-    /// An association writes what a request names, at the moment that time has come to. It takes no memory.
-    fn write_target(&mut self, a: AssocNo, target: &Target, value: &Value) -> Result<(), u8>
-        requires { IsFit self.old.config target.now value.now }
-        ensures kept { IsKept self.old self.new }
-        ensures written { IsWrite self.old self.new (λ m past. outcome_of m a.0 (write_to target.now value.now) past) result }
+    /// An association writes what a request names, in its turn; `blame` is the LastApplError that a command would have. It takes no
+    /// memory.
+    fn write_target(
+        &mut self,
+        a: AssocNo,
+        target: &Target,
+        value: &Value,
+        blame: Option<ApplError>,
+        heard: &mut Heard,
+    )
+        requires number { IsNumber a.0 }
+        requires fit { IsFit self.old.config target.now value.now }
+        requires blame { blame ≡ blame_to self.old.config target.now value.now }
+        requires room { length heard.old.codes < heard.old.room }
+        ensures single { IsSingle self.old self.new a.0 heard.old heard.new (λ m past. outcome_of m a.0 (write_to target.now value.now) past) }
     {
         match target {
-            Target::Node(node, _) => self.write_node(a, *node, value),
-            Target::Missing(_) => Err(10),
-            Target::Alternate(_) => Err(9),
+            Target::Node(node, _) => self.write_in_turn(a, *node, value, blame, heard),
+            Target::Missing(_) => heard.code(Err(10)),
+            Target::Alternate(_) => heard.code(Err(9)),
         }
     }
 
-    /// An association writes variables in their order; the codes are added to `codes`, in room that was made before.
+    /// An association writes variables, each in its turn; `blames` are the LastApplErrors that commands would have.
     pub(crate) fn write_all(
         &mut self,
         a: AssocNo,
         writes: &[Write],
-        codes: &mut Vec<Result<(), u8>>,
+        blames: &mut Vec<Option<ApplError>>,
+        heard: &mut Heard,
     )
+        requires number { IsNumber a.0 }
         requires fit { AreFit self.old.config writes.now }
-        requires empty { codes.old.items ≡ [] }
-        requires room { length writes.now ≤ vec_capacity codes.old }
-        ensures kept { IsKept self.old self.new }
-        ensures written { AreWrites self.old self.new a.0 (map write_of writes.now) codes.new.items }
+        requires blames { blames.old.items ≡ map (λ (w : WriteValue). blame_to self.old.config w.target w.value) writes.now }
+        requires heard { heard.old ≡ unheard (length writes.now) }
+        ensures singles { AreSingles self.old self.new a.0 (map write_of writes.now) heard.old heard.new }
     {
-        for write in writes {
-            let code = self.write_target(a, &write.target, &write.value);
-            add_code(codes, code);
+        for i in 0..writes.len() {
+            let blame = blames[i].take();
+            self.write_target(a, &writes[i].target, &writes[i].value, blame, heard);
         }
     }
 
-    /// An association writes a member of a data set, at the moment that time has come to. It takes no memory.
+    /// An association writes a member of a data set, which is no command, at the moment that time has come to. It takes no memory.
     fn write_member(&mut self, a: AssocNo, node: &NodeId, value: &Value) -> Result<(), u8>
         requires there { node.now.0 < length (nodes_of self.old.config) }
         requires sound { is_sound value.now ≡ true }
+        requires plain { IsNoCommand (node_of (configured_model self.old.config) node.now.0).role }
         ensures kept { IsKept self.old self.new }
         ensures written { IsWrite self.old self.new (λ m past. outcome_of m a.0 (writes node.now.0 value.now) past) result }
     {
@@ -160,6 +192,7 @@ impl Bay {
         codes: &mut Vec<Result<(), u8>>,
     )
         requires fit { AreMembersFit self.old.config nodes.now values.now }
+        requires plain { AreNoCommands self.old.config nodes.now }
         requires empty { codes.old.items ≡ [] }
         requires room { length nodes.now ≤ vec_capacity codes.old }
         ensures kept { IsKept self.old self.new }

@@ -9,7 +9,7 @@ use sv_base::{ActorNo, Moment};
 impl Bay {
     ghost use Rattle.std.specs.Prelude.{◌≡◌, ◌<◌, ◌^◌, true};
     ghost use Rattle.object_model.specs.Fits.{fits as fits_in};
-    ghost use Rattle.bay_core.specs.Turns.{Does, IsCounted, IsBuilt, KeepsLean};
+    ghost use Rattle.bay_core.specs.Turns.{Does, IsCounted, KeepsLean};
 
     /// Makes a step at a moment; one that lies below the newest moment so far is taken as that.
     ///
@@ -25,7 +25,6 @@ impl Bay {
         step: &Step,
     ) -> Result<Answer, StepFault>
         requires fits { fits_in self.old.config step.now ≡ true }
-        requires built { IsBuilt step.now }
         requires few { self.old.steps < 2 ^ 62 }
         // The answer is the one that the definitions give after every history that the bay stands for, and then it stands
         // for the longer one; a refusal is the one that they name, and then the bay is as it was.
@@ -44,7 +43,8 @@ impl Bay {
             Step::Value(sets) => self.set(moment, actor, sets),
             Step::Tick => self.tick(moment, actor),
             Step::Ask(a, request) => self.ask(alloc, moment, actor, *a, request),
-            Step::Done(..) | Step::Block(..) => unreachable!(),
+            Step::Done(control, good) => self.end_command(moment, actor, *control, *good),
+            Step::Block(control, on) => self.block_control(moment, actor, *control, *on),
         }
     }
 }

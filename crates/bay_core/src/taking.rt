@@ -44,9 +44,10 @@ impl Bay {
         if actor.0 != writer.0 {
             return Err(StepFault::NotYours(a));
         }
-        match self.associations.pop(a) {
-            Some(output) => Ok(self.give(moment, output)),
-            None => self.take_report(alloc, moment, actor, a),
+        match self.associations.take(alloc, a) {
+            Ok(Some(output)) => Ok(self.give(moment, output)),
+            Ok(None) => self.take_report(alloc, moment, actor, a),
+            Err(_) => Err(StepFault::Memory),
         }
     }
 

@@ -122,6 +122,7 @@ impl Bay {
             self.steps,
             &mut self.octets,
         );
+        self.associations.advance(now);
         self.latest = now;
     }
 

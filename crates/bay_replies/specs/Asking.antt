@@ -7,8 +7,9 @@ use Rattle.bay_model.specs.declared.request.Service.TheVariants as services
 use Rattle.object_model.specs.Fits.{service_fits}
 use Rattle.object_model.specs.Nodes.{node_rows}
 
--- it writes no variable, and defines and deletes no data set
+-- it reads and writes no variable, and defines and deletes no data set; to read a data set selects nothing
 abbrev pub IsReading : Service → Type 0
+IsReading (services.Read ts spec) = ⊥
 IsReading (services.WriteVars ws) = ⊥
 IsReading (services.WriteSet domain item vs) = ⊥
 IsReading (services.Define domain item members) = ⊥

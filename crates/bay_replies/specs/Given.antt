@@ -1,6 +1,5 @@
 -- What the leaves of nodes and whole nodes read as, by what is lent of a bay.
 use Rattle.std.specs.Prelude.{ℕ, ◌-◌, nat_le, nat_lt, List, length, Option, None, Some, Result, Ok, Err, slice_get, if◌then◌else◌}
-use Rattle.sv_base.specs.declared.config.Config.{Config}
 use Rattle.sv_base.specs.declared.value.Value.{Value}
 use Rattle.bay_model.specs.declared.components.Comp.{Comp}
 use Rattle.bay_model.specs.declared.request.Target.{Target}
@@ -23,25 +22,29 @@ abbrev pub copy_read : Option Held → Result Value ℕ
 copy_read None = Err 2
 copy_read (Some h) = Ok h.value
 
--- the attribute of a line has its value; the edit copies stand behind these
-abbrev pub attribute_read : Config → List Stored → Grouped → ℕ → Result Value ℕ
-attribute_read c stored groups x =
-    if nat_le (length c.attrs) x then copy_read (copy_in groups (x - length c.attrs))
+-- The attribute of a line has its value, and so has one that a control generates; the edit copies, as many as there are settings, stand
+-- behind these.
+abbrev pub copies_from : List Stored → Grouped → ℕ
+copies_from stored groups = length stored - length groups.settings
+
+abbrev pub attribute_read : List Stored → Grouped → ℕ → Result Value ℕ
+attribute_read stored groups x =
+    if nat_le (copies_from stored groups) x then copy_read (copy_in groups (x - copies_from stored groups))
     else if nat_lt x (length stored) then Ok (store.attribute stored x).held.value else Err 2
 
 abbrev pub component_read : (was now : ℕ) → Comp → Option ReportBlock → Result Value ℕ
 component_read was now comp None = Err 3
 component_read was now comp (Some part) = Ok (reading was now comp part)
 
-abbrev pub leaf_by : Config → List Stored → Grouped → List ReportBlock → (was now : ℕ) → Leaf → Result Value ℕ
-leaf_by c stored groups parts was now (attribute x) = attribute_read c stored groups x
-leaf_by c stored groups parts was now (component b comp) = component_read was now comp (slice_get parts b)
-leaf_by c stored groups parts was now (setting d part) = Ok (part_read (domain_at groups d) part)
-leaf_by c stored groups parts was now withheld = Err 3
+abbrev pub leaf_by : List Stored → Grouped → List ReportBlock → (was now : ℕ) → Leaf → Result Value ℕ
+leaf_by stored groups parts was now (attribute x) = attribute_read stored groups x
+leaf_by stored groups parts was now (component b comp) = component_read was now comp (slice_get parts b)
+leaf_by stored groups parts was now (setting d part) = Ok (part_read (domain_at groups d) part)
+leaf_by stored groups parts was now withheld = Err 3
 
 -- of what is lent
 abbrev pub given_by : Replies → Leaf → Result Value ℕ
-given_by r l = leaf_by r.model.now r.store.now r.groups.now r.blocks.now r.was r.now l
+given_by r l = leaf_by r.store.now r.groups.now r.blocks.now r.was r.now l
 
 abbrev pub node_read : Replies → ℕ → Result Value ℕ
 node_read r n = read_by (leaf_read (given_by r)) (node_of (configured_model r.model.now) n).tree

@@ -21,7 +21,7 @@ use Rattle.data_sets.specs.Books.{number_named, set_at, items_in, deletion}
 use Rattle.data_sets.specs.declared.book.DeleteFault.{DeleteFault}
 use Rattle.data_sets.specs.declared.book.DeleteFault.TheVariants as faults
 use Rattle.bay_replies.specs.declared.replies.Replies.{Replies}
-use Rattle.bay_replies.specs.Given.{node_read, target_read}
+use Rattle.bay_replies.specs.Given.{node_read}
 
 -- ---- names
 
@@ -66,7 +66,6 @@ replied r size services.Identify = replies.Identify
 replied r size services.Conclude = replies.Conclude
 replied r size (services.Names class scope after) = names_by r size class scope after
 replied r size (services.TypeOfNode t) = type_reply t
-replied r size (services.Read ts spec) = read_reply size (if spec then asked.Vars ts else asked.No) (map (target_read r) ts)
 replied r size (services.ReadSet domain item spec) = read_set_by r size (set_name domain item) spec (number_named (set_name domain item) r.book.now)
 replied r size (services.SetOf domain item) = set_by r (set_name domain item) (number_named (set_name domain item) r.book.now)
 replied r size (services.Reject n) = replies.Reject n

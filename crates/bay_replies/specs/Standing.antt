@@ -1,5 +1,8 @@
 -- What is lent to a reply, what it stands for, and the reply that the model gives.
-use Rattle.std.specs.Prelude.{◌≡◌, ◌≢◌, ◌<◌, ℕ, max, List, [], map, length}
+use Rattle.std.specs.Prelude.{◌≡◌, ◌≢◌, ◌<◌, ℕ, true, max, List, [], map, length}
+use Rattle.std.specs.List.{All}
+use Rattle.sv_base.specs.declared.numbers.NodeId.{NodeId}
+use Rattle.bay_model.specs.Lookups.{node_of}
 use Rattle.sv_base.specs.declared.config.Config.{Config}
 use Rattle.bay_model.specs.declared.reply.Reply.{Reply}
 use Rattle.bay_model.specs.declared.request.Service.{Service}
@@ -23,16 +26,17 @@ use Rattle.setting_groups.specs.Standing.{Stands as GroupsStand}
 use Rattle.report_block.specs.declared.block.ReportBlock.{ReportBlock}
 use Rattle.report_block.specs.Standing.{BlocksStand}
 
--- The parts are those of a configuration without controls: its attributes, its setting groups and report blocks, and data sets
--- whose members are nodes that are there, each with a name.
+-- The parts are those of a configuration: its attributes, its setting groups and report blocks, and data sets whose members are nodes
+-- that are there, each with a name.
 pub record IsServed (c : Config) (stored : List Stored) (groups : Grouped) (parts : List ReportBlock) (book : Book) : Type 0 where
-  pub controls : c.controls ≡ []
   pub grouped : IsGrouped c
   pub framed : IsFramed c groups
   pub values : length stored ≡ length (attributes c)
   pub blocks : length parts ≡ length c.blocks
   pub lent : (k : ℕ) → k < length book.sets → AreThere (length (node_rows c)) (set_at book k).nodes
   pub named : (k : ℕ) → k < length book.sets → (set_at book k).name.item ≢ []
+  -- what may be a member selects nothing when it is read
+  pub plain : (k : ℕ) → k < length book.sets → All (λ (n : NodeId). (node_of (configured_model c) n.0).allowed ≡ true) (set_at book k).nodes
 
 -- the book has the data sets of a history, the first of which are configured
 pub record SetsStand (book : Book) (c : Model) (past : Past) : Type 0 where

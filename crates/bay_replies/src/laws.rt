@@ -17,22 +17,22 @@ ghost use Rattle.data_sets.specs.Books.{opened, set_at};
 ghost use Rattle.setting_groups.specs.Opened.{IsGrouped};
 ghost use Rattle.bay_replies.specs.Asking.{IsReading};
 ghost use Rattle.bay_replies.specs.Plain.{HasGroups, IsPlainNode};
-ghost use Rattle.bay_replies.specs.Points.{arrivals};
+ghost use Rattle.bay_replies.specs.Points.{arrivals, AreAllowed};
 ghost use Rattle.bay_replies.specs.Standing.{SetsStand};
 
-/// Of a configuration without controls nothing comes of the single reads of a request that writes nothing: its points are as many
-/// arrivals.
+/// Nothing comes of the single reads of a request that reads and writes no variable, where the members of data sets are nodes that may be
+/// members: its points are as many arrivals.
 pub fn nothing_comes_of_reads()
-    ensures deeds { (c : Config) (a n m : ℕ) (past : Past) (s : Service) → c.controls ≡ [] → IsReading s
+    ensures deeds { (c : Config) (a n m : ℕ) (past : Past) (s : Service) → AreAllowed c past → IsReading s
         → map deed_of (outcomes (configured_model c) a n m (singles_of (configured_model c) past s) past) ≡ map (λ o. nothing) (singles_of (configured_model c) past s) }
-    ensures points { (c : Config) (a n m : ℕ) (past : Past) (s : Service) → c.controls ≡ [] → IsReading s
+    ensures points { (c : Config) (a n m : ℕ) (past : Past) (s : Service) → AreAllowed c past → IsReading s
         → after_singles (configured_model c) a n m (singles_of (configured_model c) past s) past ≡ arrivals n m (length (singles_of (configured_model c) past s)) past }
 {}
 
-/// The nodes of a configuration without controls are attributes, components of report blocks and of setting group blocks, and
-/// structures of these, all of which are there.
+/// The nodes of a configuration are attributes, components of report blocks and of setting group blocks, what controls have, and
+/// structures of these, all of which are there; an SBO may be no member of a data set.
 pub fn nodes_are_plain()
-    ensures { (c : Config) (n : ℕ) → c.controls ≡ [] → IsGrouped c → IsPlainNode (length (attributes c)) (length c.blocks) (HasGroups c) (node_of (configured_model c) n) }
+    ensures { (c : Config) (n : ℕ) → IsGrouped c → IsPlainNode (length (attributes c)) (length c.blocks) (length c.controls) (HasGroups c) (node_of (configured_model c) n) }
 {}
 
 /// The opened book has the data sets of each history in which clients defined none, and each of them has a name.

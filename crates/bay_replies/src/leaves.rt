@@ -44,14 +44,14 @@ impl<'a> Replies<'a> {
         }
     }
 
-    /// An attribute. The edit copies of settings stand behind those of the configuration's lines.
+    /// An attribute. The edit copies of settings stand behind all that have values.
     fn attribute(&self, alloc: Global, attr: AttrId) -> Result<Result<Value, u8>, AllocError>
-        ensures { IfOk result (λ r. r ≡ attribute_read self.entry.now.model.now self.entry.now.store.now self.entry.now.groups.now attr.0) }
+        ensures { IfOk result (λ r. r ≡ attribute_read self.entry.now.store.now self.entry.now.groups.now attr.0) }
     {
         let number = attr.0 as usize;
-        let lines = self.model.config().attrs.len();
-        if number >= lines {
-            return self.copy_of(alloc, number - lines);
+        let copies = self.store.len().saturating_sub(self.groups.len());
+        if number >= copies {
+            return self.copy_of(alloc, number - copies);
         }
         if number < self.store.len() {
             Ok(Ok(owned(alloc, self.store.get(attr))?))

@@ -20,4 +20,6 @@ mod owned;
 mod laws;
 
 pub use laws::{nodes_are_plain, nothing_comes_of_reads, opened_books_are_served};
-pub use replies::Replies;
+pub use reads::Read;
+pub use replies::{Replies, asked_variables};
+pub use sizes::are_too_long;

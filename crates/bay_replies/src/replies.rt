@@ -1,11 +1,10 @@
-//! The reply to a request that writes nothing.
+//! The reply to a request that reads and writes no variable.
 
 ghost use Rattle.std.specs.Prelude.{◌≡◌, IfOk, if◌then◌else◌};
 ghost use Rattle.bay_model.specs.declared.reply.Asked.TheVariants as asked;
 ghost use Rattle.bay_model.specs.Services.{type_reply};
 
 use crate::copies::copy_targets;
-use crate::sets::read_reply;
 use bay_model::{Asked, Reply, Service, Target, Targets};
 use data_sets::SetBook;
 use object_model::Model;
@@ -39,7 +38,7 @@ fn type_of(target: &Target) -> Reply
 }
 
 /// The specification of variables, where it is to be written back.
-fn asked_variables(alloc: Global, spec: bool, targets: &Targets) -> Result<Asked, AllocError>
+pub fn asked_variables(alloc: Global, spec: bool, targets: &Targets) -> Result<Asked, AllocError>
     ensures { IfOk result (λ a. a ≡ (if spec then asked.Vars targets.now else asked.No)) }
 {
     if spec {
@@ -71,24 +70,21 @@ impl<'a> Replies<'a> {
                 after,
             } => self.names_reply(alloc, size, *class, scope, after.as_ref()),
             Service::TypeOfNode(target) => Ok(type_of(target)),
-            Service::Read { targets, spec } => {
-                let results = self.read_targets(alloc, size, targets.as_slice())?;
-                Ok(read_reply(asked_variables(alloc, *spec, targets)?, results))
-            }
             Service::ReadSet { domain, item, spec } => {
                 self.read_set(alloc, size, domain, item, *spec)
             }
             Service::SetOf { domain, item } => self.set_reply(alloc, domain, item),
             Service::Reject(number) => Ok(Reply::Reject(*number)),
-            Service::WriteVars(_)
+            Service::Read { .. }
+            | Service::WriteVars(_)
             | Service::WriteSet { .. }
             | Service::Define { .. }
             | Service::Delete { .. } => Ok(Reply::Reject(1)),
         }
     }
 
-    /// The reply to a request that writes nothing (ISO 9506-2: Status, Identify, Conclude, GetNameList, GetVariableAccessAttributes,
-    /// Read, GetNamedVariableListAttributes, and a Reject), for an association with PDUs of this size in octets. Where values and
+    /// The reply to a request that reads and writes no variable (ISO 9506-2: Status, Identify, Conclude, GetNameList,
+    /// GetVariableAccessAttributes, Read of a named variable list, GetNamedVariableListAttributes, and a Reject), for an association with PDUs of this size in octets. Where values and
     /// codes alone are longer than that it is the error of class 4, service, with code 3, pdu-size; a data set or a domain that isn't
     /// there gives that of class 7, access, with code 2, object-non-existent.
     pub fn reply(&self, alloc: Global, size: u32, service: &Service) -> Result<Reply, AllocError>

@@ -1,7 +1,7 @@
 //! How many octets results and names have, and what is left behind them (ISO 9506-2, AccessResult and Identifier).
 
 ghost use Rattle.std.specs.Prelude.{◌≡◌, ℕ, length, min, take, IfOk};
-ghost use Rattle.bay_model.specs.Sizes.{access_result, identifier, within};
+ghost use Rattle.bay_model.specs.Sizes.{access_result, are_too_long as are_too_long_in, identifier, within};
 ghost use Rattle.bay_replies.specs.Reading.{left_of};
 
 use std::alloc::AllocError;
@@ -15,6 +15,17 @@ pub(crate) fn result_len(one: &Result<Value, u8>) -> u32
         Ok(value) => data_len(value),
         Err(_) => 3,
     }
+}
+
+/// Values and codes are longer than a PDU of this size.
+pub fn are_too_long(size: u32, results: &[Result<Value, u8>]) -> bool
+    ensures { result ≡ are_too_long_in size results.now }
+{
+    let mut sum = 0u32;
+    for one in results {
+        sum = sum.saturating_add(result_len(one));
+    }
+    size < sum
 }
 
 /// How many octets a name has as an Identifier, and 4294967295 where there are more.

@@ -3,7 +3,6 @@
 ghost use Rattle.std.specs.Prelude.{◌≡◌, ◌-◌, ◌+◌, ◌<◌, ◌≤◌, List, ◌∷◌, [], ◌++◌, length, IfOk, ℕ, cond, nat_lt, true};
 ghost use Rattle.object_model.specs.Fits.{fits as fits_in};
 ghost use Rattle.bay_model.specs.Answers.{History as TheHistory};
-ghost use Rattle.bay_core.specs.Turns.{IsBuilt};
 ghost use Rattle.bay_core.specs.Standing.{StandsFor};
 ghost use Rattle.history_lock.specs.Histories.{IsEarlier, by, IsShuffle};
 ghost use Rattle.history_lock.specs.Rule.{whole};
@@ -172,7 +171,6 @@ impl History {
     ) -> Result<(Answer, u64), TurnFault>
         requires pass { (pass.old.table ≡ self.now.table) × (pass.old.config ≡ self.now.config) }
         requires fits { fits_in self.now.config step.now ≡ true }
-        requires built { IsBuilt step.now }
         ensures same { IsSamePass pass.old pass.new }
         ensures own { OwnGrew pass.old moment step.now result pass.new }
         ensures told { ToldGrew pass.old result pass.new }

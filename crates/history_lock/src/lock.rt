@@ -4,7 +4,7 @@ ghost use Rattle.std.specs.Prelude.{◌≡◌, ◌+◌, ◌^◌, ◌<◌, ◌≤
 ghost use Rattle.sv_base.specs.declared.config.Config.{Config};
 ghost use Rattle.object_model.specs.Fits.{fits as fits_in};
 ghost use Rattle.bay_model.specs.Answers.{History};
-ghost use Rattle.bay_core.specs.Turns.{IsBuilt, KeepsLean};
+ghost use Rattle.bay_core.specs.Turns.{KeepsLean};
 ghost use Rattle.bay_core.specs.Standing.{StandsFor};
 ghost use Rattle.bay_core.specs.declared.bay.Bay.{Bay as TheBay};
 ghost use Rattle.history_lock.specs.Histories.{IsEarlier, by, turn_of};
@@ -196,7 +196,6 @@ impl Lock {
         requires mine { 0 < mine actor.0 seat.old.me.0 }
         requires config { seat.old.me.0.config ≡ Some config }
         requires fits { fits_in config step.now ≡ true }
-        requires built { IsBuilt step.now }
         ensures table { seat.new.table_id ≡ seat.old.table_id }
         ensures lean { KeepsLean step.now (bay_result result) }
         ensures turn { Took config seat.old.me (turn_of moment actor.0 step.now) result seat.new.me }

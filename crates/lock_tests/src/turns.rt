@@ -2,7 +2,6 @@
 
 ghost use Rattle.std.specs.Prelude.{◌≡◌, ◌<◌, ◌≤◌};
 ghost use Rattle.std.specs.Thread.{IsSync};
-ghost use Rattle.bay_core.specs.Turns.{IsBuilt};
 
 use crate::example::opened_bay;
 use crate::work::{NOTHING, Tally, Work, step_of, with_answer};
@@ -18,7 +17,6 @@ use sv_base::{AssocNo, Moment};
 /// The answer to a step; none where it is refused or doesn't fit the configuration.
 fn answered<R: Wait>(rt: &R, history: &History, pass: &mut Pass, step: &Step) -> Option<Answer>
     requires pass { (pass.old.table ≡ history.now.table) × (pass.old.config ≡ history.now.config) }
-    requires built { IsBuilt step.now }
     ensures same { (pass.new.table ≡ pass.old.table) × (pass.new.config ≡ pass.old.config) }
 {
     if !history.model().fits(step) {

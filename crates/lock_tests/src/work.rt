@@ -1,7 +1,6 @@
 //! What a thread does: the steps of its turns, and what it was answered.
 
 ghost use Rattle.std.specs.Prelude.{IfOk};
-ghost use Rattle.bay_core.specs.Turns.{IsBuilt};
 
 use bay_model::{
     Answer, Asked, ObjName, Output, Reply, Request, Service, Sets, Setting, Step, Target, Targets,
@@ -27,9 +26,7 @@ fn octs(alloc: Global, octets: &[u8]) -> Result<Octs, AllocError> {
 }
 
 /// A step that sets the power.
-fn value(alloc: Global, attr: AttrId, number: u32) -> Result<Step, AllocError>
-    ensures { IfOk result IsBuilt }
-{
+fn value(alloc: Global, attr: AttrId, number: u32) -> Result<Step, AllocError> {
     let setting = Setting {
         attr,
         value: Value::Int(i64::from(number)),
@@ -38,9 +35,7 @@ fn value(alloc: Global, attr: AttrId, number: u32) -> Result<Step, AllocError>
 }
 
 /// Association `a` opens; actor 1 takes for it.
-fn opening(a: u32) -> Step
-    ensures { IsBuilt result }
-{
+fn opening(a: u32) -> Step {
     Step::Open {
         a: AssocNo(a),
         size: 65000,
@@ -58,9 +53,7 @@ fn deadband(alloc: Global, node: NodeId) -> Result<Target, AllocError> {
 }
 
 /// A step of association 1 that reads the deadband.
-fn read(alloc: Global, node: NodeId, invoke: u32) -> Result<Step, AllocError>
-    ensures { IfOk result IsBuilt }
-{
+fn read(alloc: Global, node: NodeId, invoke: u32) -> Result<Step, AllocError> {
     let target = deadband(alloc, node)?;
     let targets = Targets::from_vec(vec![in alloc; target]?);
     let service = Service::Read {
@@ -71,9 +64,7 @@ fn read(alloc: Global, node: NodeId, invoke: u32) -> Result<Step, AllocError>
 }
 
 /// A step of association 2 that writes its number to the deadband.
-fn write(alloc: Global, node: NodeId, invoke: u32) -> Result<Step, AllocError>
-    ensures { IfOk result IsBuilt }
-{
+fn write(alloc: Global, node: NodeId, invoke: u32) -> Result<Step, AllocError> {
     let target = deadband(alloc, node)?;
     let value = Value::Uint(u64::from(invoke));
     let writes = Writes::from_vec(vec![in alloc; Write { target, value }]?);
@@ -82,9 +73,7 @@ fn write(alloc: Global, node: NodeId, invoke: u32) -> Result<Step, AllocError>
 }
 
 /// A step of a client, whose first one is the opening of its association.
-fn client_step(alloc: Global, model: &Model, reads: bool, n: u32) -> Result<Step, AllocError>
-    ensures { IfOk result IsBuilt }
-{
+fn client_step(alloc: Global, model: &Model, reads: bool, n: u32) -> Result<Step, AllocError> {
     if n == 0 {
         return Ok(opening(if reads { 1 } else { 2 }));
     }
@@ -99,9 +88,7 @@ fn client_step(alloc: Global, model: &Model, reads: bool, n: u32) -> Result<Step
 }
 
 /// The thread's step of turn `n`, counted from 0.
-pub fn step_of(alloc: Global, model: &Model, work: Work, n: u32) -> Result<Step, AllocError>
-    ensures { IfOk result IsBuilt }
-{
+pub fn step_of(alloc: Global, model: &Model, work: Work, n: u32) -> Result<Step, AllocError> {
     match work {
         Work::Values => {
             let Some(power) = model.attr(b"BAY1/MMXU1$MX$TotW$mag$i") else {

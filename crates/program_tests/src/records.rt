@@ -475,15 +475,15 @@ const JUDGED: [Row; 41] = [
     ),
     (
         "configurations",
-        "record 1\nconfig 1\nserver a b c\nld A\nln LLN0\nctl Pos 4 5000 0 bool\nld B\nln LLN0\nsgcb 2 1\nend\n",
-        Status::Record { line: 6, kind: 9 },
-        "",
+        "record 1\nconfig 1\nserver a b c\nld A\nln LLN0\nctl Pos 4 5000 0 bool\nld B\nln LLN0\nsgcb 2 1\nend\ndone A/LLN0$CO$Pos T\nend\n",
+        Status::Ok,
+        "end\n",
     ),
     (
         "configurations",
-        "# a remark\nrecord 1\nconfig 1\nserver a b c\nld A\nln LLN0\nsgcb 2 1\nctl Pos 4 5000 0 bool\nend\n",
-        Status::Record { line: 8, kind: 9 },
-        "",
+        "# a remark\nrecord 1\nconfig 1\nserver a b c\nld A\nln LLN0\nsgcb 2 1\nctl Pos 4 5000 0 bool\nend\nblock A/LLN0$CO$Pos T\ntick\nend\n",
+        Status::Ok,
+        "end\n",
     ),
     (
         "configurations",
@@ -503,7 +503,7 @@ const JUDGED: [Row; 41] = [
     (
         "configurations",
         "record 1\nconfig 1\nserver a b c\nld A\nln LLN0\nctl Pos 4 5000 0 bool\nend\n",
-        Status::Record { line: 6, kind: 9 },
+        Status::Record { line: 8, kind: 7 },
         "",
     ),
 ];

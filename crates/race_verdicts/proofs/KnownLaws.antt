@@ -18,7 +18,6 @@ use Rattle.bay_core.specs.declared.fault.StepFault.TheVariants as faults
 use Rattle.bay_core.specs.Turns.{named}
 use Rattle.record_steps.specs.Forms.{is_shut}
 use Rattle.record_history.specs.Histories.{form_at, onto}
-use Rattle.record_outcome.proofs.StartLaws.{is_served}
 use Rattle.history_lock.specs.Histories as histories
 use Rattle.history_lock.specs.Histories.{by, IsEarlier, IsLegal, IsShuffle}
 use Rattle.script_threads.specs.Playing.{StopsAt}
@@ -30,6 +29,7 @@ use Rattle.script_threads.specs.declared.script.TimedStep.{TimedStep}
 use Rattle.own_queues.specs.Queues.{open_behind, is_open, waits_behind, waits, IsPlain, IsItsOwn, AreTheirOwn, IsInOrder, own_fault}
 use Rattle.own_queues.proofs.QueueLaws.{accepted_by_steps}
 use Rattle.script_reading.specs.Plans.{Script, Plan, script_of}
+use Rattle.script_reading.specs.Unbuilt.{is_enhanced, least_with, first_enhanced}
 use Rattle.script_reading.specs.Sound.{IsTold, AreTold, IsScriptOrNone, IsSound}
 use Rattle.script_reading.specs.declared.line.StepLine.{StepLine}
 use Rattle.script_reading.proofs.SoundLaws.{texts}
@@ -120,7 +120,7 @@ full-beyond k m (steps.Done x good) n o own h = absurd cc
 full-beyond k m (steps.Block x flag) n o own h = absurd cc
 full-beyond k m steps.Tick n o own h = absurd cc
 
--- ---- in no configuration of a plan is a control
+-- ---- in no configuration of a plan is a control under enhanced security
 
 abbrev control_in : List Control → ℕ → Control
 control_in ks k = unwrap_or (slice_get ks k) (record { reference = []; model = 0; timeout = 0; sbo_class = 0; kind = truth })
@@ -128,12 +128,24 @@ control_in ks k = unwrap_or (slice_get ks k) (record { reference = []; model = 0
 abbrev enhanced_in : List Control → ℕ → Bool
 enhanced_in ks k = ((control_in ks k).model == 3) || ((control_in ks k).model == 4)
 
+least-there : (n : ℕ) (o : Option ℕ) → least_with n o ≡ None → ⊥
+least-there n None h = cc
+least-there n (Some m) h = cc
+
+none-enhanced : (ks : List CtlDef) (k : ℕ) → first_enhanced ks ≡ None → enhanced_in (map control_defined ks) k ≡ false
+none-enhanced [] k none = refl
+none-enhanced (d ∷ ds) k none = by (is_enhanced d) refl none k where
+  by : (b : Bool) → is_enhanced d ≡ b → (if b then least_with d.line (first_enhanced ds) else first_enhanced ds) ≡ None → (k : ℕ) → enhanced_in (map control_defined (d ∷ ds)) k ≡ false
+  by true is none k = absurd (least-there d.line (first_enhanced ds) none)
+  by false is none zero = is
+  by false is none (suc k) = none-enhanced ds k none
+
 module _ (p : Plan) (sound : IsSound p) where
   abbrev c : Config
   c = p.config
 
   plain : IsPlain (configured_model c)
-  plain k = ap (λ (ks : List CtlDef). enhanced_in (map control_defined ks) k) (is_served p.text c sound.text.config sound.text.built).controls
+  plain k = none-enhanced c.controls k sound.text.built
 
   -- ---- the scripts that are played
 

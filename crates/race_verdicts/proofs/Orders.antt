@@ -11,7 +11,7 @@ use Rattle.bay_model.specs.declared.step.Step.{Step}
 use Rattle.bay_model.specs.declared.step.Step.TheVariants as steps
 use Rattle.bay_model.specs.ComponentTable.{comp_named}
 use Rattle.object_model.specs.Numbers.{number_in}
-use Rattle.object_model.specs.References.{block_references}
+use Rattle.object_model.specs.References.{block_references, control_references}
 use Rattle.text_words.specs.Values.{hex_at}
 use Rattle.run_record.specs.declared.line.OpenForm.{OpenForm}
 use Rattle.run_record.specs.declared.line.OpenForm.TheVariants as opens
@@ -21,7 +21,7 @@ use Rattle.run_record.specs.declared.pairs.Pair.{Pair}
 use Rattle.record_steps.specs.Asks.{asked_by}
 use Rattle.record_steps.specs.Forms.{Form, shut, direct, mms, dialling, wire, is_shut, is_direct, form_behind}
 use Rattle.record_steps.specs.Own.{IsOwn}
-use Rattle.record_steps.specs.Resolved.{opened_in, opened_as, valued_as, written_as, lost_as, asked_as, spelled_as, sent_as, piece_as, fed_as, set_to, set_as, told_of}
+use Rattle.record_steps.specs.Resolved.{opened_in, opened_as, valued_as, written_as, lost_as, asked_as, spelled_as, sent_as, piece_as, fed_as, set_to, set_as, ended_as, blocked_as, told_of}
 use Rattle.record_steps.specs.Settings.{are_named, settings_at}
 use Rattle.record_steps.specs.Shapes.{shape_at}
 use Rattle.record_steps.specs.Streams.{piece_at}
@@ -84,6 +84,14 @@ module _ (c : Config) (k actor : ℕ) (step : Step) where
     by true None h = absurd cc
     by false o h = absurd cc
 
+  end-still : (o : Option ℕ) (well : Bool) → ended_as c o well ≡ turn actor step → IsStill actor step
+  end-still None well h = absurd cc
+  end-still (Some n) well h = made c 0 actor (steps.Done (record { 0 = n }) well) step IsStill h (λ was. refl)
+
+  block-still : (o : Option ℕ) (on : Bool) → blocked_as c o on ≡ turn actor step → IsStill actor step
+  block-still None on h = absurd cc
+  block-still (Some n) on h = made c 0 actor (steps.Block (record { 0 = n }) on) step IsStill h (λ was. refl)
+
   piece-never : (w : Wired) (a : AssocNo) (octets : List ℕ) (o : Option (List ℕ)) → piece_as c w a octets o ≡ turn actor step → ⊥
   piece-never w a octets None h = absurd cc
   piece-never w a octets (Some piece) h = absurd cc
@@ -135,8 +143,8 @@ module _ (c : Config) (k actor : ℕ) (step : Step) where
   line-agrees f (lines.Take a) h = sym (made c a.0 actor (steps.Take a) step IsStill h (λ was. refl) (not (is_shut f)))
   line-agrees f (lines.Lost a) h = lost-agrees a f h
   line-agrees f (lines.Set pairs) h = sym (set-still pairs h (not (is_shut f)))
-  line-agrees f (lines.Done control well) h = absurd cc
-  line-agrees f (lines.Block control on) h = absurd cc
+  line-agrees f (lines.Done control well) h = sym (end-still (number_in (control_references c) control) well h (not (is_shut f)))
+  line-agrees f (lines.Block control on) h = sym (block-still (number_in (control_references c) control) on h (not (is_shut f)))
   line-agrees f lines.Tick h = sym (made c 0 actor steps.Tick step IsStill h (λ was. refl) (not (is_shut f)))
   line-agrees f lines.End h = absurd cc
 

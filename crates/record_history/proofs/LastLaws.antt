@@ -11,7 +11,7 @@ use Rattle.bay_model.specs.declared.step.Step.TheVariants as steps
 use Rattle.bay_model.specs.ComponentTable.{comp_named}
 use Rattle.object_model.specs.Fits.{fits}
 use Rattle.object_model.specs.Numbers.{number_in}
-use Rattle.object_model.specs.References.{block_references}
+use Rattle.object_model.specs.References.{block_references, control_references}
 use Rattle.run_record.specs.Judging.{line_at}
 use Rattle.run_record.specs.Spelled.{words}
 use Rattle.run_record.specs.declared.line.OpenForm.{OpenForm}
@@ -26,7 +26,7 @@ use Rattle.record_steps.specs.Shapes.{shape_at}
 use Rattle.record_steps.specs.Forms.{Form, shut, direct, mms, dialling, wire, is_shut, is_direct}
 use Rattle.record_steps.specs.Asks.{asked_by}
 use Rattle.record_steps.specs.Settings.{are_named, settings_at}
-use Rattle.record_steps.specs.Resolved.{turn_of, opened_in, valued_as, written_as, lost_as, asked_as, spelled_as, sent_as, piece_as, fed_as, set_to, told_of}
+use Rattle.record_steps.specs.Resolved.{turn_of, opened_in, valued_as, written_as, lost_as, asked_as, spelled_as, sent_as, piece_as, fed_as, set_to, ended_as, blocked_as, told_of}
 use Rattle.record_steps.specs.Streams.{piece_at}
 use Rattle.record_steps.specs.Told.{Told, turn, refused, last}
 use Rattle.record_steps.specs.declared.heard.Wired.{Wired}
@@ -98,6 +98,14 @@ set-goes : (c : Config) (o : Option (List Setting)) → set_to c o ≡ last → 
 set-goes c None h = absurd cc
 set-goes c (Some settings) h = turn-goes c 0 (steps.Value settings) h
 
+end-goes : (c : Config) (o : Option ℕ) (well : Bool) → ended_as c o well ≡ last → ⊥
+end-goes c None well h = absurd cc
+end-goes c (Some k) well h = turn-goes c 0 (steps.Done (record { 0 = k }) well) h
+
+block-goes : (c : Config) (o : Option ℕ) (on : Bool) → blocked_as c o on ≡ last → ⊥
+block-goes c None on h = absurd cc
+block-goes c (Some k) on h = turn-goes c 0 (steps.Block (record { 0 = k }) on) h
+
 pub told-last : (c : Config) (form : Form) (line : RecLine) → told_of c form line ≡ last → line ≡ lines.End
 unfolding told_of
 told-last c form lines.Skip h = absurd cc
@@ -109,8 +117,8 @@ told-last c form (lines.Piece a hex) h = absurd (feed-goes c form a hex h)
 told-last c form (lines.Take a) h = absurd (turn-goes c a.0 (steps.Take a) h)
 told-last c form (lines.Lost a) h = absurd (lose-goes c form a h)
 told-last c form (lines.Set pairs) h = absurd (if-goes (are_named c pairs) (set_to c (settings_at c pairs)) 3 (set-goes c (settings_at c pairs)) h)
-told-last c form (lines.Done control well) h = absurd cc
-told-last c form (lines.Block control on) h = absurd cc
+told-last c form (lines.Done control well) h = absurd (end-goes c (number_in (control_references c) control) well h)
+told-last c form (lines.Block control on) h = absurd (block-goes c (number_in (control_references c) control) on h)
 told-last c form lines.Tick h = absurd (turn-goes c 0 steps.Tick h)
 told-last c form lines.End h = refl
 

@@ -27,7 +27,7 @@ use Rattle.record_history.specs.Histories.{octets_of, form_at, moment_of, Part, 
 use Rattle.record_history.specs.Texts.{parts_of, turns_of}
 use Rattle.record_outcome.specs.Played.{Played, start, turn_at, past_line}
 use Rattle.record_outcome.specs.Moves.{Place, goes, stops, opening, configuring, playing}
-use Rattle.record_outcome.specs.Openings.{headed, opening_at, unbuilt_line, started_by, started, configuring_at}
+use Rattle.record_outcome.specs.Openings.{headed, opening_at, started, configuring_at}
 use Rattle.record_outcome.specs.Steps.{accepted, then_on, heard_on, played, told_at, step_at}
 use Rattle.record_outcome.specs.Records.{Outcome, limit, most_lines, pieces, passed, lines_at, line_at, moved, run, outcome, NoNewline}
 use Rattle.record_outcome.specs.declared.status.Status.{Status}
@@ -101,9 +101,9 @@ inner-go long count n text (l ∷ ls) more are low =
     ∙ (ap (λ m. status-of long m (configuring n ((text ++ (l ++ 10 ∷ [])) ++ octets_of ls)) more) next
     ∙ ap (λ t. status-of long (count + suc (length ls)) (configuring n t) more) (append_assoc text (l ++ 10 ∷ []) (octets_of ls)))))
 
-end-starts : (n : ℕ) (text : List ℕ) (c : Config) → config_at (text ++ (codes "end" ++ 10 ∷ [])) ≡ Ok c → unbuilt_line c ≡ None → configuring_at n text (codes "end") ≡ goes (playing c start) []
+end-starts : (n : ℕ) (text : List ℕ) (c : Config) → config_at (text ++ (codes "end" ++ 10 ∷ [])) ≡ Ok c → configuring_at n text (codes "end") ≡ goes (playing c start) []
 unfolding configuring_at
-end-starts n text c is none = ap (started n) is ∙ ap (started_by n c) none
+end-starts n text c is = ap (started n) is
 
 -- the parts of a piece, each step of which is accepted
 module _ (number : ℕ) (c : Config) (shape : Shape) (moment : ℕ) (form : ℕ → Form) where
@@ -169,9 +169,9 @@ no-newline-head = All-from_recursion (λ b. (b == 10) ≡ false) (codes "record 
 rest-behind : (remarks inner steps : List (List ℕ)) (rest : List ℕ) → record_octets remarks inner steps rest ≡ record_octets remarks inner steps [] ++ rest
 rest-behind remarks inner steps rest = sym (simp append_assoc refl)
 
-record-ends : (long : Bool) (remarks inner steps : List (List ℕ)) (rest : List ℕ) (c : Config) → Each IsRemark remarks → Each IsInner inner → config_at (octets_of inner ++ (codes "end" ++ 10 ∷ [])) ≡ Ok c → unbuilt_line c ≡ None
+record-ends : (long : Bool) (remarks inner steps : List (List ℕ)) (rest : List ℕ) (c : Config) → Each IsRemark remarks → Each IsInner inner → config_at (octets_of inner ++ (codes "end" ++ 10 ∷ [])) ≡ Ok c
     → AreStepLines c [] steps → length remarks + length inner + length steps + 3 ≤ most_lines → status-of long 0 opening (record_octets remarks inner steps rest) ≡ statuses.Ok
-record-ends long remarks inner steps rest c are-remarks are-inner whole built are-steps low =
+record-ends long remarks inner steps rest c are-remarks are-inner whole are-steps low =
     let n : ℕ = 0 + length remarks in
     let m : ℕ = suc n + length inner in
     let k : ℕ = suc m + length steps in
@@ -180,7 +180,7 @@ record-ends long remarks inner steps rest c are-remarks are-inner whole built ar
     (within (suc n) opening (codes "record 1") (omega (arith, low)) ∙ head-goes (suc n))
     ∙ (inner-go long (suc n) (suc n) [] inner (codes "end" ++ 10 ∷ (octets_of steps ++ (codes "end" ++ 10 ∷ rest))) are-inner (omega (arith, low))
     ∙ (line-goes long m (configuring (suc n) (octets_of inner)) (playing c start) (codes "end") [] (octets_of steps ++ (codes "end" ++ 10 ∷ rest)) no-newline-end
-    (within (suc m) (configuring (suc n) (octets_of inner)) (codes "end") (omega (arith, low)) ∙ end-starts (suc n) (octets_of inner) c whole built)
+    (within (suc m) (configuring (suc n) (octets_of inner)) (codes "end") (omega (arith, low)) ∙ end-starts (suc n) (octets_of inner) c whole)
     ∙ (steps-go long (suc m) c [] steps (codes "end" ++ 10 ∷ rest) are-steps (omega (arith, low))
     ∙ line-stops long k (playing c (standing c (onto [] steps))) (codes "end") (codes "end\n") rest statuses.Ok no-newline-end
     (within (suc k) (playing c (standing c (onto [] steps))) (codes "end") (omega (arith, low)) ∙ end-stops (suc k) c (standing c (onto [] steps)))))))
@@ -195,4 +195,4 @@ records-end octets c r =
     let kept : take limit octets ≡ record_octets r.remarks r.inner r.steps (take (limit - length front) r.rest) =
     ap (take limit) (r.octets_ ∙ rest-behind r.remarks r.inner r.steps r.rest) ∙ (take-front limit front r.rest r.short ∙ sym (rest-behind r.remarks r.inner r.steps (take (limit - length front) r.rest))) in
     ap (λ o. status-of (nat_lt limit (length octets)) 0 opening o) kept
-    ∙ record-ends (nat_lt limit (length octets)) r.remarks r.inner r.steps (take (limit - length front) r.rest) c r.are_remarks r.are_inner (config-read (octets_of r.inner ++ (codes "end" ++ 10 ∷ [])) c r.configuration) r.built r.are_steps r.lines
+    ∙ record-ends (nat_lt limit (length octets)) r.remarks r.inner r.steps (take (limit - length front) r.rest) c r.are_remarks r.are_inner (config-read (octets_of r.inner ++ (codes "end" ++ 10 ∷ [])) c r.configuration) r.are_steps r.lines

@@ -17,7 +17,6 @@ use Rattle.record_steps.specs.declared.heard.Heard.{Heard}
 use Rattle.record_steps.specs.declared.heard.Heard.TheVariants.{Tells, Makes}
 use Rattle.record_history.specs.Histories.{octets_of, form_at, moment_of, steps_of}
 use Rattle.record_history.specs.Texts.{turns_in}
-use Rattle.record_outcome.specs.Openings.{unbuilt_line}
 use Rattle.record_outcome.specs.Records.{limit, most_lines, NoNewline}
 
 -- of the parts of a piece, behind these steps: each step is accepted after those before it
@@ -74,6 +73,5 @@ pub record IsRecord (octets : List ℕ) (c : Config) : Type 0 where
   pub are_inner : Each IsInner inner
   pub configuration : SpellsConfig (octets_of inner ++ (codes "end" ++ 10 ∷ [])) c
   pub are_steps : AreStepLines c [] steps
-  pub built : unbuilt_line c ≡ None
   pub lines : length remarks + length inner + length steps + 3 ≤ most_lines
   pub short : length (record_octets remarks inner steps []) ≤ limit

@@ -1,5 +1,5 @@
 -- The text that is written to a record is that of its history.
-use Rattle.std.proofs.Common.{◌≡◌, ◌+◌, ◌==◌, ◌&&◌, ℕ, suc, Bool, true, false, not, List, [], ◌∷◌, ◌++◌, length, take, refl, sym, ap, subst, ◌∙◌, arith, inl, inr, append_assoc, append-nil}
+use Rattle.std.proofs.Common.{◌≡◌, ◌+◌, ◌==◌, ◌&&◌, ℕ, suc, Bool, true, false, not, List, [], ◌∷◌, ◌++◌, length, take, refl, sym, ap, subst, ◌∙◌, arith, append_assoc, append-nil}
 use Rattle.std.specs.Prelude.{Option, None, Some, IfSome, Result, Ok, Err, codes, map, nat_lt, if◌then◌else◌}
 use Rattle.std.specs.Option.{option_map, option_and_then}
 use Rattle.std.specs.Str.{bytes_eq}
@@ -30,12 +30,12 @@ use Rattle.record_history.specs.Texts.{parts_of, turns_of, turns_in, text_behind
 use Rattle.record_history.proofs.LastLaws.{told-last, end-line}
 use Rattle.record_outcome.specs.Played.{Played, start, turn_at, past_line}
 use Rattle.record_outcome.specs.Moves.{Place, Move, goes, stops, opening, configuring, playing}
-use Rattle.record_outcome.specs.Openings.{headed, opening_at, unbuilt_line, started_by, started, configuring_at}
+use Rattle.record_outcome.specs.Openings.{headed, opening_at, started, configuring_at}
 use Rattle.record_outcome.specs.Steps.{stop_of, accepted, then_on, heard_on, played, told_at, step_at}
 use Rattle.record_outcome.specs.Records.{Outcome, limit, most_lines, pieces, refused_before, passed, missing, has_begun, unended, ended, lines_at, line_at, behind, moved, run, outcome}
 use Rattle.record_outcome.specs.declared.status.Status.{Status}
 use Rattle.record_outcome.specs.declared.status.Status.TheVariants as statuses
-use Rattle.record_outcome.specs.Written.{IsAccepted, IsUnplayed, MeetsFull, StopsBehind, end_of, IsWritten, TextIsOfHistory, WritesHistory}
+use Rattle.record_outcome.specs.Written.{IsAccepted, MeetsFull, StopsBehind, end_of, IsWritten, TextIsOfHistory, WritesHistory}
 use Rattle.record_outcome.specs.Judgements.{Answers}
 
 -- ---- the parts of a piece
@@ -188,9 +188,9 @@ module _ (h : Of) (count : ℕ) (ls : List (List ℕ)) where
   passed-stops which (playing c s) written other f = (refl, (refl, λ e. absurd (other e)))
 
   missing-stops : (place : Place) (written : List ℕ) → IsFrom place h written → StopsHere h (missing (suc count) place) [] count ls
-  missing-stops opening written f = (refl, inl refl)
+  missing-stops opening written f = (refl, refl)
   missing-stops (configuring n text) written f = refused-stops n (statuses.Config (suc count) 2) (config_at text) (f.0 []) (refl, f.0 [])
-  missing-stops (playing c s) written f = (refl, inl refl)
+  missing-stops (playing c s) written f = (refl, refl)
 
   ended-stops : (long begun : Bool) (place : Place) (written : List ℕ) → IsFrom place h written → StopsHere h (ended long begun (suc count) place) [] count ls
   unfolding ended unended
@@ -211,7 +211,7 @@ module _ (h : Of) (count : ℕ) (line : List ℕ) (ls : List (List ℕ)) (status
       subst (λ t. StopsHere h status t count (line ∷ ls)) other (subst (λ s. StopsHere h s written count (line ∷ ls)) one s)
 
   record-stops : (kind : ℕ) → stops (statuses.Record (suc count) kind) [] ≡ stops status text → Here
-  record-stops kind e = stop-by (statuses.Record (suc count) kind) [] e (refl, inl refl)
+  record-stops kind e = stop-by (statuses.Record (suc count) kind) [] e (refl, refl)
 
   headed-stops : (ws : List (List ℕ)) → headed (suc count) ws ≡ stops status text → Here
   headed-stops [] e = record-stops 1 e
@@ -231,13 +231,10 @@ module _ (h : Of) (count : ℕ) (line : List ℕ) (ls : List (List ℕ)) (status
     by false true e = absurd cc
     by false false e = headed-stops (words_of line) e
 
-  started-stops : (n : ℕ) (r : Result Config CfgFault) → h [] ≡ None → ((c : Config) → r ≡ Ok c → IsUnplayed (h (line ∷ []))) → started n r ≡ stops status text → Here
-  started-stops n (Ok c) none whole e = by (unbuilt_line c) e where
-    by : (o : Option ℕ) → started_by n c o ≡ stops status text → Here
-    by None e = absurd cc
-    by (Some l) e = stop-by (statuses.Record (n + l) 9) [] e (refl, inr (refl, whole c refl))
-  started-stops n (Err (faults.Refused l kind)) none whole e = stop-by (statuses.Config (n + l) (cfg.number_of kind)) [] e (refl, none)
-  started-stops n (Err faults.Memory) none whole e = stop-by statuses.Memory [] e (refl, none)
+  started-stops : (n : ℕ) (r : Result Config CfgFault) → h [] ≡ None → started n r ≡ stops status text → Here
+  started-stops n (Ok c) none e = absurd cc
+  started-stops n (Err (faults.Refused l kind)) none e = stop-by (statuses.Config (n + l) (cfg.number_of kind)) [] e (refl, none)
+  started-stops n (Err faults.Memory) none e = stop-by statuses.Memory [] e (refl, none)
 
   -- a step line, behind others
   module _ (c : Config) (before : List (List ℕ)) (history : (ls : List (List ℕ)) → h ls ≡ Some (record { config = c; steps = steps_of c (onto before ls) })) where
@@ -313,12 +310,9 @@ stops-here place h written count line ls status text f e = by (nat_lt most_lines
   below : (place : Place) → IsFrom place h written → lines_at (suc count) place line ≡ stops status text → StopsHere h status text count (line ∷ ls)
   below opening f e = opening-stops h count line ls status text e
   below (configuring n before) f e = end (bytes_eq line (codes "end")) refl e where
-    unplayed : (c : Config) → bytes_eq line (codes "end") ≡ true → config_at (before ++ (line ++ 10 ∷ [])) ≡ Ok c → IsUnplayed (h (line ∷ []))
-    unplayed c ends is = subst IsUnplayed (sym (f.0 (line ∷ []) ∙ (configured-end before line [] ends ∙ ap (λ r. recorded r []) is))) refl
-
     end : (b : Bool) → bytes_eq line (codes "end") ≡ b → (if b then started n (config_at (before ++ (line ++ 10 ∷ []))) else goes (configuring n (before ++ (line ++ 10 ∷ []))) []) ≡ stops status text
         → StopsHere h status text count (line ∷ ls)
-    end true ends e = started-stops h count line ls status text n (config_at (before ++ (line ++ 10 ∷ []))) (f.0 []) (λ c is. unplayed c ends is) e
+    end true ends e = started-stops h count line ls status text n (config_at (before ++ (line ++ 10 ∷ []))) (f.0 []) e
     end false ends e = absurd cc
   below (playing c s) f e = step-stops h count line ls status text c f.0 f.1 (ap (λ s. step_at (suc count) c s line) (sym f.3) ∙ e)
 
@@ -361,10 +355,7 @@ opening-on h written line number to text f e = by (is_long line) (is_skipped lin
 
 started-on : (h : Of) (written line : List ℕ) (n : ℕ) (r : Result Config CfgFault) (to : Place) (text : List ℕ) → written ≡ [] → ((ls : List (List ℕ)) → h (line ∷ ls) ≡ recorded r ls) → started n r ≡ goes to text
     → On h written line to text
-started-on h written line n (Ok c) to text none whole e = by (unbuilt_line c) e where
-  by : (o : Option ℕ) → started_by n c o ≡ goes to text → On h written line to text
-  by None e = on-by h written line (playing c start) to [] text e ([], whole, none-more written none, refl, tt)
-  by (Some l) e = absurd cc
+started-on h written line n (Ok c) to text none whole e = on-by h written line (playing c start) to [] text e ([], whole, none-more written none, refl, tt)
 started-on h written line n (Err (faults.Refused l kind)) to text none whole e = absurd cc
 started-on h written line n (Err faults.Memory) to text none whole e = absurd cc
 

@@ -1,5 +1,5 @@
--- A configuration's text without what isn't built is one that a bay serves.
-use Rattle.std.proofs.Common.{◌≡◌, ℕ, List, []}
+-- A configuration's text is one that a bay serves.
+use Rattle.std.proofs.Common.{◌≡◌, ℕ, List}
 use Rattle.std.specs.Prelude.{Ok}
 use Rattle.sv_base.specs.declared.config.Config.{Config}
 use Rattle.cfg_parser.specs.Looking.{config_at}
@@ -7,5 +7,5 @@ use Rattle.cfg_text.proofs.WholeLaws.{config-told}
 use Rattle.bay_config.specs.Servable.{IsServable}
 use Rattle.text_configs.proofs.ServableLaws.{texts-are-served}
 
-pub served : (text : List ℕ) (c : Config) → config_at text ≡ Ok c → c.controls ≡ [] → IsServable c
-served text c read controls = texts-are-served text c (config-told text c read) controls
+pub served : (text : List ℕ) (c : Config) → config_at text ≡ Ok c → IsServable c
+served text c read = texts-are-served text c (config-told text c read)

@@ -1,8 +1,7 @@
 -- What the lines before the steps do: the line `record 1`, and those of the configuration up to `end`.
-use Rattle.std.specs.Prelude.{ℕ, ◌+◌, ◌==◌, ◌&&◌, not, List, [], ◌∷◌, ◌++◌, length, map, codes, Option, None, Some, Result, Ok, Err, min, if◌then◌else◌}
+use Rattle.std.specs.Prelude.{ℕ, ◌+◌, ◌==◌, ◌&&◌, not, List, [], ◌∷◌, ◌++◌, length, codes, Result, Ok, Err, if◌then◌else◌}
 use Rattle.std.specs.Str.{bytes_eq}
 use Rattle.sv_base.specs.declared.config.Config.{Config}
-use Rattle.sv_base.specs.declared.config.CtlDef.{CtlDef}
 use Rattle.text_words.specs.Octets.{is_skipped}
 use Rattle.text_words.specs.Words.{words_of}
 use Rattle.cfg_parser.specs.Kinds.{number_of}
@@ -28,26 +27,9 @@ opening_at number line =
     else if is_skipped line then goes opening []
     else headed number (words_of line)
 
--- the least of numbers
-abbrev pub least_with : ℕ → Option ℕ → Option ℕ
-least_with n None = Some n
-least_with n (Some m) = Some (min n m)
-
-abbrev pub least_of : List ℕ → Option ℕ
-least_of [] = None
-least_of (n ∷ ns) = least_with n (least_of ns)
-
--- the first line of what isn't built, counted in the configuration: a control
-abbrev pub unbuilt_line : Config → Option ℕ
-unbuilt_line c = least_of (map (λ (k : CtlDef). k.line) c.controls)
-
-abbrev pub started_by : ℕ → Config → Option ℕ → Move
-started_by before c None = goes (playing c start) []
-started_by before c (Some line) = stops (statuses.Record (before + line) 9) []
-
 -- the configuration is whole, behind so many lines
 abbrev pub started : ℕ → Result Config CfgFault → Move
-started before (Ok c) = started_by before c (unbuilt_line c)
+started before (Ok c) = goes (playing c start) []
 started before (Err (faults.Refused line kind)) = stops (statuses.Config (before + line) (number_of kind)) []
 started before (Err faults.Memory) = stops statuses.Memory []
 

@@ -1,5 +1,5 @@
 -- What is written to a record: the text of the history of its lines, before the one with which the reading stops.
-use Rattle.std.specs.Prelude.{◌≡◌, ◌≤◌, ◌⊎◌, ℕ, suc, ◌+◌, List, [], ◌∷◌, ◌++◌, length, take, drop, codes, Option, None, Some, IfSome}
+use Rattle.std.specs.Prelude.{◌≡◌, ◌≤◌, ℕ, suc, ◌+◌, List, [], ◌∷◌, ◌++◌, length, take, drop, codes, Option, None, Some, IfSome}
 use Rattle.bay_model.specs.Named.{configured_model}
 use Rattle.bay_model.specs.Acceptance.{QueueFull, fault, IsHistory}
 use Rattle.bay_model.specs.Answers.{Turn}
@@ -14,11 +14,6 @@ use Rattle.record_outcome.specs.declared.status.Status.TheVariants as statuses
 -- each step is accepted after those before it
 abbrev pub IsAccepted : Recorded → Type 0
 IsAccepted r = IsHistory (configured_model r.config) (turns_in r.steps)
-
--- a record's configuration is whole, and no step follows it
-abbrev pub IsUnplayed : Option Recorded → Type 0
-IsUnplayed None = ⊥
-IsUnplayed (Some r) = r.steps ≡ []
 
 -- a step of a record's newest line finds 16 replies waiting for its association, behind what came before it
 pub record MeetsFullQueue (r : Recorded) : Type 0 where
@@ -40,10 +35,10 @@ abbrev pub HasCause : ℕ → Option Recorded → Type 0
 HasCause which history = which ≡ 2 → MeetsFull history
 
 -- Behind line k the reading stops with this status: at the `end` of the steps; at the line that the status names, or in a
--- configuration that is refused, or at the `end` of one that has what isn't built; a line that passes limit 2 has a step for it.
+-- configuration that is refused; a line that passes limit 2 has a step for it.
 abbrev pub StopsBehind : (List (List ℕ) → Option Recorded) → Status → ℕ → ℕ → List (List ℕ) → Type 0
 StopsBehind history statuses.Ok number k ls = (rest : List (List ℕ)) × (drop k ls ≡ codes "end" ∷ rest)
-StopsBehind history (statuses.Record line kind) number k ls = (line ≡ suc number) ⊎ ((kind ≡ 9) × IsUnplayed (history (take (suc k) ls)))
+StopsBehind history (statuses.Record line kind) number k ls = line ≡ suc number
 StopsBehind history (statuses.Limit which line) number k ls = (line ≡ suc number) × HasCause which (history (take (suc k) ls))
 StopsBehind history _ number k ls = history (take k ls) ≡ None
 

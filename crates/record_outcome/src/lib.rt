@@ -4,9 +4,8 @@
 // how the reading of a record ends, as every run of the program
 pub mod status;
 
-// what stands before the steps: the lines up to `record 1`, and what of a configuration isn't built
+// what stands before the steps: the lines up to `record 1`
 pub mod openings;
-pub mod unbuilt;
 
 // what is answered to a record, by its history
 pub mod laws;

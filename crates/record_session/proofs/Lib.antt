@@ -1,5 +1,4 @@
 -- The laws of a record's parts, of its lines as they are read, and of the octets that they are read from.
-pub mod BuiltLaws
 pub mod PlayLaws
 pub mod StageLaws
 pub mod LimitLaws

@@ -46,7 +46,6 @@ use Rattle.record_session.specs.Plays.{Plays, PlaysTo, PlaysOn, PlaysSlot, Perfo
 use Rattle.record_session.specs.declared.playing.Playing.{Playing}
 use Rattle.record_outcome.specs.declared.status.Status.{Status}
 use Rattle.record_outcome.specs.declared.status.Status.TheVariants as statuses
-use Rattle.record_session.proofs.BuiltLaws.{own-built}
 
 abbrev turn : ℕ → ℕ → Step → Turn
 turn actor moment step = record { moment = moment; actor = actor; step = step }
@@ -226,27 +225,19 @@ module _ (old : Playing) (number : ℕ) (shape : Shape) (all : List Heard) (befo
 
 -- ---- what was told
 
--- each part of a piece that is to be heard is one that a bay takes
+-- each part of a piece that is to be heard fits
 ready-part : (c : Config) (part : Heard) → IsFittingPart c part → IsReadyPart c part
 ready-part c (Tells text) fit = tt
-ready-part c (Makes actor (steps.Open a size writer)) fit = (fit.0, tt)
-ready-part c (Makes actor (steps.Ask a r)) fit = (fit.0, tt)
-ready-part c (Makes actor (steps.Write a b comp v)) fit = absurd fit.1
-ready-part c (Makes actor (steps.Take a)) fit = absurd fit.1
-ready-part c (Makes actor (steps.Lost a)) fit = (fit.0, tt)
-ready-part c (Makes actor (steps.Value settings)) fit = absurd fit.1
-ready-part c (Makes actor (steps.Done k good)) fit = absurd fit.1
-ready-part c (Makes actor (steps.Block k flag)) fit = absurd fit.1
-ready-part c (Makes actor steps.Tick) fit = absurd fit.1
+ready-part c (Makes actor step) fit = fit.0
 
 ready-parts : (c : Config) (hs : List Heard) → AllByRecursion (IsFittingPart c) hs → AllByRecursion (IsReadyPart c) hs
 ready-parts c [] fit = tt
 ready-parts c (h ∷ hs) fit = (ready-part c h fit.0, ready-parts c hs fit.1)
 
--- what a line tells fits, and is what a bay takes
+-- what a line tells fits
 pub told-ready : (c : Config) (form : Form) (line : RecLine) (told : told_as.Told) (slot : Step) (hs : List Heard) → telling told slot hs ≡ told_of c form line → AllByRecursion (IsFittingPart c) hs → IsReady c told slot hs
 told-ready c form line (tolds.Step actor) slot hs is fit =
-    let own = told-own c (λ a. not (is_shut form)) form actor.0 slot line refl (sym is) in (own.1, own-built (λ a. not (is_shut form)) actor.0 slot own.0)
+    (told-own c (λ a. not (is_shut form)) form actor.0 slot line refl (sym is)).1
 told-ready c form line tolds.Heard slot hs is fit = ready-parts c hs fit
 told-ready c form line tolds.Nothing slot hs is fit = tt
 told-ready c form line (tolds.At moment) slot hs is fit = tt

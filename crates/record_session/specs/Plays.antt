@@ -7,7 +7,6 @@ use Rattle.bay_model.specs.Acceptance.{fault}
 use Rattle.bay_model.specs.declared.step.Step.{Step}
 use Rattle.run_record.specs.declared.line.RecLine.{RecLine}
 use Rattle.bay_core.specs.Standing.{StandsFor}
-use Rattle.bay_core.specs.Turns.{IsBuilt}
 use Rattle.object_model.specs.Fits.{fits}
 use Rattle.answer_text.specs.declared.shape.Shape.{Shape}
 use Rattle.record_steps.specs.Forms.{Stands}
@@ -61,14 +60,14 @@ DoesParts status old new number shape heard before now = PlaysOn status old new 
 abbrev pub PlaysSlot : Option Status → Playing → Playing → ℕ → Shape → Told → Step → List Heard → List ℕ → List ℕ → Type 0
 PlaysSlot status old new number shape told slot heard before now = PlaysOn status old new (λ c s. played number c s shape (telling told slot heard)) before now
 
--- a step fits the configuration and is one that a bay takes
+-- a step fits the configuration
 abbrev pub IsReadyPart : Config → Heard → Type 0
 IsReadyPart c (Tells text) = Unit {0}
-IsReadyPart c (Makes actor step) = (fits c step ≡ true) × IsBuilt step
+IsReadyPart c (Makes actor step) = fits c step ≡ true
 
 -- and so does the step in a slot, where one is told, and each of a list
 abbrev pub IsReady : Config → Told → Step → List Heard → Type 0
-IsReady c (tolds.Step actor) slot heard = (fits c slot ≡ true) × IsBuilt slot
+IsReady c (tolds.Step actor) slot heard = fits c slot ≡ true
 IsReady c tolds.Heard slot heard = AllByRecursion (IsReadyPart c) heard
 IsReady c _ slot heard = Unit {0}
 

@@ -69,7 +69,6 @@ impl Playing {
     ghost use Rattle.run_record.specs.Seen.{line_seen};
     ghost use Rattle.object_model.specs.Fits.{fits};
     ghost use Rattle.bay_core.specs.Standing.{StandsFor};
-    ghost use Rattle.bay_core.specs.Turns.{IsBuilt};
     ghost use Rattle.answer_text.specs.Texts.{IsShape};
     ghost use Rattle.record_steps.specs.Streams.{made};
     ghost use Rattle.record_steps.specs.Telling.{most_steps};
@@ -107,7 +106,6 @@ impl Playing {
         step: &Step,
     ) -> Result<Option<Status>, AllocError>
         requires fits { fits self.old.bay.config step.now ≡ true }
-        requires built { IsBuilt step.now }
         requires shape { IsShape shape }
         requires few { self.old.bay.steps < 2 ^ 62 }
         ensures performs { IfOk result (λ s. Performs s self.old self.new number shape actor.0 step.now out.old.items out.new.items) }

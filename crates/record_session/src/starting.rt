@@ -12,8 +12,6 @@ use bay_core::Bay;
 use cfg_text::{CfgFault, read_config};
 use object_model::Model;
 use record_outcome::status::Status;
-use record_outcome::unbuilt::unbuilt_line;
-use run_record::Kind;
 use std::alloc::{AllocError, Global};
 
 /// What becomes of a whole configuration.
@@ -39,12 +37,6 @@ pub fn start(alloc: Global, before: u64, text: &[u8]) -> Result<Started, AllocEr
         }
         Err(CfgFault::Memory) => return Err(AllocError),
     };
-    if let Some(line) = unbuilt_line(&config) {
-        return Ok(Started::Refused(Status::Record {
-            line: before + u64::from(line),
-            kind: Kind::NotBuilt.number(),
-        }));
-    }
     let model = Model::build(alloc, config)?;
     let bay = Bay::open(alloc, model)?;
     Ok(Started::Plays(Playing::new(alloc, bay)?))

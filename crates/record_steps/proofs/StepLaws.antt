@@ -10,6 +10,7 @@ use Rattle.sv_base.specs.declared.config.Config.{Config}
 use Rattle.sv_base.specs.declared.numbers.ActorNo.{ActorNo}
 use Rattle.sv_base.specs.declared.numbers.AssocNo.{AssocNo}
 use Rattle.sv_base.specs.declared.numbers.BlockNo.{BlockNo}
+use Rattle.sv_base.specs.declared.numbers.CtlNo.{CtlNo}
 use Rattle.sv_base.specs.declared.types.TypeOf.TheVariants as types
 use Rattle.sv_base.specs.declared.value.Value.{Value}
 use Rattle.sv_base.specs.declared.value.Value.TheVariants as values
@@ -23,10 +24,10 @@ use Rattle.text_words.specs.Numbers.{number_at, int_at}
 use Rattle.text_words.specs.Values.{read_as, truth_at, is_graphic, is_binary, hex_at}
 use Rattle.object_model.specs.Fits.{fits, is_association, is_sound}
 use Rattle.object_model.specs.Numbers.{number_in}
-use Rattle.object_model.specs.References.{block_references}
+use Rattle.object_model.specs.References.{block_references, control_references}
 use Rattle.run_record.specs.Grammar.{IsAssoc}
 use Rattle.record_steps.specs.Shapes.{is_bits, bits_of, signed_of, number_of, text_of, marked_at, truth_or, shape_at}
-use Rattle.record_steps.specs.Resolved.{turn_of}
+use Rattle.record_steps.specs.Resolved.{turn_of, ended_as, blocked_as}
 use Rattle.record_steps.specs.Told.{turn, refused}
 use Rattle.text_values.proofs.ValueLaws.{sound}
 
@@ -39,6 +40,9 @@ place-within m n i h = by (nat_lt m n) refl h where
 
 pub block-within : (c : Config) (word : List ℕ) (b : ℕ) → number_in (block_references c) word ≡ Some b → nat_lt b (length c.blocks) ≡ true
 block-within c word b h = let low = place-within (position_or_len (bytes_eq word) (block_references c)) (length (block_references c)) b h in grind (arith, nat_tests, length-map)
+
+pub control-within : (c : Config) (word : List ℕ) (k : ℕ) → number_in (control_references c) word ≡ Some k → nat_lt k (length c.controls) ≡ true
+control-within c word k h = let low = place-within (position_or_len (bytes_eq word) (control_references c)) (length (control_references c)) k h in grind (arith, nat_tests, length-map)
 
 -- a value that a text has by its shape is sound
 sound-read : {A : Type 0} (kind : A → Value) → ((a : A) → is_sound (kind a) ≡ true) → (o : Option A) (v : Value) → read_as kind o ≡ Some v → is_sound v ≡ true
@@ -104,3 +108,14 @@ module _ (c : Config) (a : AssocNo) (is : IsAssoc a) where
       → turn a.0 (steps.Write a b comp v) ≡ turn_of c a.0 (steps.Write a b comp v)
   write-told reference word b comp v there shape =
       fitting a.0 (steps.Write a b comp v) (and_from _ _ (is_numbered a is) (and_from _ _ (block-within c reference b.0 there) (sound-shape comp word v shape)))
+
+-- of the process, whose control has this number
+module _ (c : Config) (reference : List ℕ) (k : CtlNo) (there : number_in (control_references c) reference ≡ Some k.0) where
+  telling-it : (step : Step) → fits c step ≡ true → turn 0 step ≡ turn_of c 0 step
+  telling-it step h = sym (ap (λ b. if b then turn 0 step else refused 4) h)
+
+  pub done-told : (well : Bool) → turn 0 (steps.Done k well) ≡ ended_as c (number_in (control_references c) reference) well
+  done-told well = telling-it (steps.Done k well) (control-within c reference k.0 there) ∙ sym (ap (λ o. ended_as c o well) there)
+
+  pub block-told : (on : Bool) → turn 0 (steps.Block k on) ≡ blocked_as c (number_in (control_references c) reference) on
+  block-told on = telling-it (steps.Block k on) (control-within c reference k.0 there) ∙ sym (ap (λ o. blocked_as c o on) there)

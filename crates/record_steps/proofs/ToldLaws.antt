@@ -10,7 +10,7 @@ use Rattle.bay_model.specs.declared.step.Step.{Step}
 use Rattle.bay_model.specs.declared.step.Step.TheVariants as steps
 use Rattle.object_model.specs.Fits.{fits}
 use Rattle.object_model.specs.Numbers.{number_in}
-use Rattle.object_model.specs.References.{block_references}
+use Rattle.object_model.specs.References.{block_references, control_references}
 use Rattle.run_record.specs.declared.line.OpenForm.{OpenForm}
 use Rattle.run_record.specs.declared.line.OpenForm.TheVariants as opens
 use Rattle.run_record.specs.declared.line.RecLine.{RecLine}
@@ -23,7 +23,7 @@ use Rattle.text_words.specs.Values.{hex_at}
 use Rattle.bay_model.specs.declared.request.Request.{Request}
 use Rattle.record_steps.specs.Forms.{Form, shut, direct, mms, dialling, wire, is_shut, is_direct}
 use Rattle.record_steps.specs.Asks.{asked_by}
-use Rattle.record_steps.specs.Resolved.{association_of, turn_of, opened_in, opened_as, valued_as, written_as, lost_as, asked_as, spelled_as, sent_as, piece_as, fed_as, set_to, set_as, told_of}
+use Rattle.record_steps.specs.Resolved.{association_of, turn_of, opened_in, opened_as, valued_as, written_as, lost_as, asked_as, spelled_as, sent_as, piece_as, fed_as, set_to, set_as, ended_as, blocked_as, told_of}
 use Rattle.record_steps.specs.Streams.{piece_at}
 use Rattle.record_steps.specs.Told.{turn, refused}
 use Rattle.record_steps.specs.declared.heard.Wired.{Wired}
@@ -140,6 +140,14 @@ module _ (c : Config) (is_open : ℕ → Bool) (form : Form) (actor : ℕ) (step
     by true None h = absurd cc
     by false o h = absurd cc
 
+  end-own : (o : Option ℕ) (well : Bool) → ended_as c o well ≡ turn actor step → Own
+  end-own None well h = absurd cc
+  end-own (Some k) well h = turned c 0 actor (steps.Done (record { 0 = k }) well) step (IsOwn is_open) h tt
+
+  block-own : (o : Option ℕ) (on : Bool) → blocked_as c o on ≡ turn actor step → Own
+  block-own None on h = absurd cc
+  block-own (Some k) on h = turned c 0 actor (steps.Block (record { 0 = k }) on) step (IsOwn is_open) h tt
+
   -- the association that the line names is open where its form isn't shut
   pub told-own : (line : RecLine) → is_open (association_of line) ≡ not (is_shut form) → told_of c form line ≡ turn actor step → Own
   unfolding told_of
@@ -152,7 +160,7 @@ module _ (c : Config) (is_open : ℕ → Bool) (form : Form) (actor : ℕ) (step
   told-own (lines.Take a) agrees h = turned c a.0 actor (steps.Take a) step (IsOwn is_open) h refl
   told-own (lines.Lost a) agrees h = lost-own a form agrees h
   told-own (lines.Set pairs) agrees h = set-own pairs h
-  told-own (lines.Done control well) agrees h = absurd cc
-  told-own (lines.Block control on) agrees h = absurd cc
+  told-own (lines.Done control well) agrees h = end-own (number_in (control_references c) control) well h
+  told-own (lines.Block control on) agrees h = block-own (number_in (control_references c) control) on h
   told-own lines.Tick agrees h = turned c 0 actor steps.Tick step (IsOwn is_open) h tt
   told-own lines.End agrees h = absurd cc

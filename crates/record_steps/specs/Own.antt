@@ -15,8 +15,9 @@ IsOwn is_open actor (steps.Write a b comp v) = (is_open a.0 ≡ true) × (actor 
 IsOwn is_open actor (steps.Take a) = actor ≡ a.0
 IsOwn is_open actor (steps.Lost a) = (is_open a.0 ≡ true) × (actor ≡ a.0)
 IsOwn is_open actor (steps.Value settings) = Unit {0}
+IsOwn is_open actor (steps.Done k well) = Unit {0}
+IsOwn is_open actor (steps.Block k on) = Unit {0}
 IsOwn is_open actor steps.Tick = Unit {0}
-IsOwn is_open actor _ = ⊥
 
 -- a part of what a piece comes to: its step is one that fits the configuration, and that an association of a stream makes
 abbrev pub IsOfStream : Step → Type 0

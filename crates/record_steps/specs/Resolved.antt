@@ -1,7 +1,7 @@
 -- What a line of a record tells a bay: names are looked up in its configuration, and values are read. Of several causes for
 -- a refusal the first one counts: 3 a name of nothing, 5 an association that isn't open or is of another form, 6 no hexadecimal or
--- no octet, 4 no value, 9 what isn't built.
-use Rattle.std.specs.Prelude.{ℕ, List, Option, None, Some, if◌then◌else◌}
+-- no octet, 4 no value.
+use Rattle.std.specs.Prelude.{ℕ, Bool, List, Option, None, Some, if◌then◌else◌}
 use Rattle.sv_base.specs.declared.config.Config.{Config}
 use Rattle.sv_base.specs.declared.numbers.AssocNo.{AssocNo}
 use Rattle.sv_base.specs.declared.value.Value.{Value}
@@ -12,7 +12,7 @@ use Rattle.bay_model.specs.declared.step.Step.{Step}
 use Rattle.bay_model.specs.declared.step.Step.TheVariants as steps
 use Rattle.object_model.specs.Fits.{fits}
 use Rattle.object_model.specs.Numbers.{number_in}
-use Rattle.object_model.specs.References.{block_references}
+use Rattle.object_model.specs.References.{block_references, control_references}
 use Rattle.run_record.specs.declared.line.OpenForm.{OpenForm}
 use Rattle.run_record.specs.declared.line.OpenForm.TheVariants as opens
 use Rattle.run_record.specs.declared.line.RecLine.{RecLine}
@@ -96,7 +96,16 @@ set_to c (Some settings) = turn_of c 0 (steps.Value settings)
 abbrev pub set_as : Config → List Pair → Told
 set_as c pairs = if are_named c pairs then set_to c (settings_at c pairs) else refused 3
 
--- a line, by what the association that it names is; there is no control
+-- the process ends what a control executes, well or not, and it blocks a control or unblocks it
+abbrev pub ended_as : Config → Option ℕ → Bool → Told
+ended_as c None well = refused 3
+ended_as c (Some k) well = turn_of c 0 (steps.Done (record { 0 = k }) well)
+
+abbrev pub blocked_as : Config → Option ℕ → Bool → Told
+blocked_as c None on = refused 3
+blocked_as c (Some k) on = turn_of c 0 (steps.Block (record { 0 = k }) on)
+
+-- a line, by what the association that it names is
 unfoldable pub told_of : Config → Form → RecLine → Told
 told_of c form lines.Skip = skip
 told_of c form (lines.At moment) = pass_to moment
@@ -107,7 +116,7 @@ told_of c form (lines.Piece a hex) = fed_as c form a hex
 told_of c form (lines.Take a) = turn_of c a.0 (steps.Take a)
 told_of c form (lines.Lost a) = lost_as c form a
 told_of c form (lines.Set pairs) = set_as c pairs
-told_of c form (lines.Done control well) = refused 3
-told_of c form (lines.Block control on) = refused 3
+told_of c form (lines.Done control well) = ended_as c (number_in (control_references c) control) well
+told_of c form (lines.Block control on) = blocked_as c (number_in (control_references c) control) on
 told_of c form lines.Tick = turn_of c 0 steps.Tick
 told_of c form lines.End = last

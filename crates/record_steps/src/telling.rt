@@ -7,9 +7,9 @@ ghost use Rattle.text_words.specs.Values.{hex_at};
 ghost use Rattle.bay_answers.specs.Requests.{IsFitting};
 ghost use Rattle.run_record.specs.Seen.{line_seen, pairs_seen};
 ghost use Rattle.object_model.specs.Numbers.{number_in};
-ghost use Rattle.object_model.specs.References.{block_references};
+ghost use Rattle.object_model.specs.References.{block_references, control_references};
 ghost use Rattle.bay_model.specs.ComponentTable.{comp_named};
-ghost use Rattle.record_steps.specs.Resolved.{opened_in, opened_as, written_as, lost_as, asked_as, spelled_as, sent_as, set_as, turn_of, association_of, told_of};
+ghost use Rattle.record_steps.specs.Resolved.{opened_in, opened_as, written_as, lost_as, asked_as, spelled_as, sent_as, set_as, ended_as, blocked_as, turn_of, association_of, told_of};
 ghost use Rattle.record_steps.specs.Asks.{asked_by};
 ghost use Rattle.record_steps.specs.Forms as specs;
 ghost use Rattle.record_steps.specs.Forms.{IsSized, Stands, plain, form_behind};
@@ -210,6 +210,28 @@ fn set(
     }
 }
 
+/// The process ends what a control executes, if the control is there.
+fn end(model: &Model, control: &[u8], well: bool, step: &mut Step) -> Told
+    ensures { telling result step.new [] ≡ ended_as model.now (number_in (control_references model.now) control.now) well }
+{
+    let Some(control) = model.control(control) else {
+        return Told::Refused(Kind::Name);
+    };
+    put(step, Step::Done(control, well));
+    Told::Step(ActorNo(0))
+}
+
+/// The process blocks a control or unblocks it, if it is there.
+fn block(model: &Model, control: &[u8], on: bool, step: &mut Step) -> Told
+    ensures { telling result step.new [] ≡ blocked_as model.now (number_in (control_references model.now) control.now) on }
+{
+    let Some(control) = model.control(control) else {
+        return Told::Refused(Kind::Name);
+    };
+    put(step, Step::Block(control, on));
+    Told::Step(ActorNo(0))
+}
+
 /// The association that a line names.
 pub fn association(line: &LineView<'_>) -> Option<AssocNo>
     ensures { MatchOption result (NamesNone (line_seen line.now)) (Names (line_seen line.now)) }
@@ -260,7 +282,8 @@ fn say(
         LineView::Take(a) => Ok(take(model, *a, step)),
         LineView::Lost(a) => Ok(lose(model, form, *a, step)),
         LineView::Set(pairs) => set(alloc, model, pairs, step),
-        LineView::Done(..) | LineView::Block(..) => Ok(Told::Refused(Kind::Name)),
+        LineView::Done(control, well) => Ok(end(model, control, *well, step)),
+        LineView::Block(control, on) => Ok(block(model, control, *on, step)),
         LineView::Tick => {
             put(step, Step::Tick);
             Ok(Told::Step(ActorNo(0)))

@@ -10,7 +10,7 @@ use sv_io::{Calls, MemSink, MemSource};
 /// A rehearsal: its name, its input, its status, and what it writes, both texts with marks.
 type Row = (&'static str, &'static str, Status, &'static str);
 
-const ROWS: [Row; 4] = [
+const ROWS: [Row; 5] = [
     (
         "one script is its record",
         "rehearse 1\n[script association 1\nopen 1 direct\nat !10\nwrite 1 & RptEna T\ntake 1\nclose\nend\n",
@@ -35,12 +35,20 @@ const ROWS: [Row; 4] = [
         Status::Ok,
         "record 1\n[open 1 mms 65000\n%%take 1\npdu 1 8b00\nlost 1\nopen 1 mms 65000\n%%end\n1 pdu a10b020101a006800100810100\nend\n",
     ),
+    (
+        "the process blocks a control and ends what it executes",
+        "rehearse 1\nconfig 1\nserver a b c\nld A\nln LLN0\nctl Pos 2 5000 0 bool\nend\nscript process\nat !20\n\
+        block A/LLN0$CO$Pos T\ndone A/LLN0$CO$Pos F\nclose\nend\n",
+        Status::Ok,
+        "record 1\nconfig 1\nserver a b c\nld A\nln LLN0\nctl Pos 2 5000 0 bool\nend\nat !20\n\
+        block A/LLN0$CO$Pos T\ndone A/LLN0$CO$Pos F\nend\nend\n",
+    ),
 ];
 
 /// An input that is refused at a line, and the number of the kind. The last line of the configuration has number 21.
 type Refused = (&'static str, u64, u8);
 
-const REFUSED: [Refused; 21] = [
+const REFUSED: [Refused; 23] = [
     ("rehearse 1\n[end\n", 22, 5),
     ("record 1\n[end\n", 1, 1),
     ("rehearse 2\n[end\n", 1, 2),
@@ -52,6 +60,12 @@ const REFUSED: [Refused; 21] = [
     ("rehearse 1\n[script process\nscript process\n", 23, 5),
     ("rehearse 1\n[script process\nend\n", 23, 5),
     ("rehearse 1\n[script process\ntick\n", 24, 7),
+    ("rehearse 1\n[script process\ndone A/LLN0$CO$Pos T\n", 23, 3),
+    (
+        "rehearse 1\nconfig 1\nserver a b c\nld A\nln LLN0\nctl Pos 2 5000 0 bool\nctl Mod 3 5000 0 bool\nctl Beh 4 5000 0 bool\nend\n",
+        7,
+        9,
+    ),
     ("rehearse 1\n[script process\nopen 1 direct\n", 23, 5),
     ("rehearse 1\n[script process\nset @ T\n", 23, 4),
     ("rehearse 1\n[script association 1\nopen 1 wire\n", 23, 5),

@@ -13,7 +13,6 @@ use Rattle.sv_base.specs.declared.config.Config.{Config}
 use Rattle.sv_base.specs.declared.numbers.AssocNo.{AssocNo}
 use Rattle.bay_model.specs.Points.{least_moment}
 use Rattle.bay_model.specs.declared.step.Step.{Step}
-use Rattle.bay_core.specs.Turns.{IsBuilt}
 use Rattle.object_model.specs.Fits.{fits}
 use Rattle.text_words.specs.Octets.{is_skipped}
 use Rattle.text_words.specs.Words.{words_of}
@@ -31,7 +30,6 @@ use Rattle.record_steps.specs.Resolved.{association_of, told_of}
 use Rattle.record_steps.specs.Told.{Told, skip, pass_to, turn, heard, refused, last}
 use Rattle.record_steps.proofs.ToldLaws.{told-own}
 use Rattle.record_history.specs.Histories.{octets_of, form_after, form_at, onto}
-use Rattle.record_outcome.specs.Openings.{unbuilt_line}
 use Rattle.record_outcome.specs.Records.{limit, most_lines, NoNewline, pieces}
 use Rattle.record_laws.specs.Grammar.{IsInner, Each}
 use Rattle.script_lines.specs.Grammar.{IsOwner, SpellsScript}
@@ -52,6 +50,7 @@ use Rattle.script_reading.specs.Plans.{Script, Plan, script_of, without_scripts,
 use Rattle.script_reading.specs.Moves.{Place, opening, configuring, between, inside, Move, goes, stops, ends}
 use Rattle.script_reading.specs.Scripting.{most_scripts, actor_for, processes_with, counted, opened, begins, strange, ended, between_step, between_line, between_as, between_at, at_moment, taken, told_in, inside_step, inside_line, inside_as, inside_at}
 use Rattle.script_reading.specs.Openings.{headed, opening_at, started_by, started, configuring_at}
+use Rattle.script_reading.specs.Unbuilt.{unbuilt_line}
 use Rattle.script_reading.specs.Inputs as inputs
 use Rattle.script_reading.specs.Inputs.{passed, lines_at, Outcome, ready, moved, run, outcome}
 use Rattle.script_reading.specs.Sound.{IsActor, IsTold, AreTold, IsScript, IsScriptOrNone, IsText, IsSound, PlansAreSound}
@@ -59,7 +58,7 @@ use Rattle.script_reading.specs.declared.line.StepLine.{StepLine}
 use Rattle.script_reading.specs.declared.form.ScriptForm.{ScriptForm}
 use Rattle.script_reading.specs.declared.form.ScriptForm.TheVariants as forms
 use Rattle.script_reading.specs.declared.opened.Opened.{Opened}
-use Rattle.script_reading.proofs.TellLaws.{Keeps, same, association-made, process-made, passed-in, process-passed, fit-behind, own-built, passed-at}
+use Rattle.script_reading.proofs.TellLaws.{Keeps, same, association-made, process-made, passed-in, process-passed, fit-behind, passed-at}
 use Rattle.record_outcome.specs.declared.status.Status.{Status}
 use Rattle.record_outcome.specs.declared.status.Status.TheVariants as statuses
 
@@ -247,7 +246,7 @@ begins-good n number p owner is good = by (p.count == most_scripts) refl (is_som
         some = actor-some owner p is;
         few = actor-low owner p is (omega (arith, low, good.processes));
         told = tt;
-        fit = All-nil (λ (s : TimedStep). (fits p.config s.step ≡ true) × IsBuilt s.step);
+        fit = All-nil (λ (s : TimedStep). fits p.config s.step ≡ true);
         short = omega arith;
       };
       actor = actor-is owner p;
@@ -334,7 +333,7 @@ module _ (n number : ℕ) (p : Plan) (o : Opened) (text : List ℕ) (line : RecL
             late = good.late;
             fit = good.fit;
           });
-          fit = All-push (λ (s : TimedStep). (fits p.config s.step ≡ true) × IsBuilt s.step) o.script.steps s good.good.fit (own.1, own-built (λ a. not (is_shut (form_in o.form))) w step own.0);
+          fit = All-push (λ (s : TimedStep). fits p.config s.step ≡ true) o.script.steps s good.good.fit own.1;
           short = omega (arith, length-append o.script.steps (s ∷ []), good.good.short);
         };
         actor = subst (λ b. IsActor o.actor o.owner b (form_passed line o.form)) (sym (newest-push o.script.lines l)) (actor-behind p.config o.form o.actor w o.owner text line step before good.actor may reads says);

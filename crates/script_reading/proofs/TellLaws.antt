@@ -13,7 +13,7 @@ use Rattle.bay_model.specs.declared.step.Step.TheVariants as steps
 use Rattle.bay_model.specs.ComponentTable.{comp_named}
 use Rattle.object_model.specs.Fits.{fits}
 use Rattle.object_model.specs.Numbers.{number_in}
-use Rattle.object_model.specs.References.{block_references}
+use Rattle.object_model.specs.References.{block_references, control_references}
 use Rattle.text_words.specs.Values.{hex_at}
 use Rattle.run_record.specs.Grammar.{IsForm, IsLine}
 use Rattle.run_record.specs.declared.line.OpenForm.{OpenForm}
@@ -21,11 +21,9 @@ use Rattle.run_record.specs.declared.line.OpenForm.TheVariants as opens
 use Rattle.run_record.specs.declared.line.RecLine.{RecLine}
 use Rattle.run_record.specs.declared.line.RecLine.TheVariants as lines
 use Rattle.run_record.specs.declared.pairs.Pair.{Pair}
-use Rattle.bay_core.specs.Turns.{IsBuilt}
 use Rattle.record_steps.specs.Asks.{asked_by}
 use Rattle.record_steps.specs.Forms.{Form, shut, direct, mms, dialling, wire, is_shut, is_direct, opened_form, form_behind}
-use Rattle.record_steps.specs.Own.{IsOwn}
-use Rattle.record_steps.specs.Resolved.{association_of, turn_of, opened_in, opened_as, valued_as, written_as, lost_as, asked_as, spelled_as, sent_as, piece_as, fed_as, set_to, set_as, told_of}
+use Rattle.record_steps.specs.Resolved.{association_of, turn_of, opened_in, opened_as, valued_as, written_as, lost_as, asked_as, spelled_as, sent_as, piece_as, fed_as, set_to, set_as, ended_as, blocked_as, told_of}
 use Rattle.record_steps.specs.Settings.{are_named, settings_at}
 use Rattle.record_steps.specs.Shapes.{shape_at}
 use Rattle.record_steps.specs.Streams.{piece_at}
@@ -112,6 +110,14 @@ module _ (c : Config) (form : Form) (actor : ℕ) (step : Step) where
     by true None h = absurd cc
     by false o h = absurd cc
 
+  end-made : (o : Option ℕ) (well : Bool) → ended_as c o well ≡ turn actor step → Keeps zero_of 0 actor step
+  end-made None well h = absurd cc
+  end-made (Some k) well h = made c 0 actor (steps.Done (record { 0 = k }) well) step (Keeps zero_of 0) h (refl, λ k. refl)
+
+  block-made : (o : Option ℕ) (on : Bool) → blocked_as c o on ≡ turn actor step → Keeps zero_of 0 actor step
+  block-made None on h = absurd cc
+  block-made (Some k) on h = made c 0 actor (steps.Block (record { 0 = k }) on) step (Keeps zero_of 0) h (refl, λ k. refl)
+
   -- a step that a line of an association tells
   pub association-made : (own : AssocNo) (line : RecLine) → is_of own line ≡ true → told_of c form line ≡ turn actor step → (association_of line ≡ own.0) × Keeps same own.0 actor step
   unfolding told_of
@@ -146,8 +152,8 @@ module _ (c : Config) (form : Form) (actor : ℕ) (step : Step) where
   process-made (lines.Take a) may h = absurd cc
   process-made (lines.Lost a) may h = absurd cc
   process-made (lines.Set pairs) may h = (refl, set-made pairs h)
-  process-made (lines.Done control well) may h = absurd cc
-  process-made (lines.Block control on) may h = absurd cc
+  process-made (lines.Done control well) may h = (refl, end-made (number_in (control_references c) control) well h)
+  process-made (lines.Block control on) may h = (refl, block-made (number_in (control_references c) control) on h)
   process-made lines.Tick may h = (refl, made c 0 actor steps.Tick step (Keeps zero_of 0) h (refl, λ k. refl))
   process-made lines.End may h = absurd cc
 
@@ -257,19 +263,6 @@ fit-behind (lines.Open b asked) was is fit = opened-fit asked was is.1 fit
 fit-behind (lines.Lost b) was is fit = tt
 fit-behind _ was is fit = fit
 
--- ---- a bay takes it
-
-pub own-built : (is_open : ℕ → Bool) (actor : ℕ) (step : Step) → IsOwn is_open actor step → IsBuilt step
-own-built is_open actor (steps.Open k size writer) own = tt
-own-built is_open actor (steps.Ask k r) own = tt
-own-built is_open actor (steps.Write k b comp v) own = tt
-own-built is_open actor (steps.Take k) own = tt
-own-built is_open actor (steps.Lost k) own = tt
-own-built is_open actor (steps.Value settings) own = tt
-own-built is_open actor (steps.Done k good) own = absurd own
-own-built is_open actor (steps.Block k flag) own = absurd own
-own-built is_open actor steps.Tick own = tt
-
 -- ---- a moment
 
 -- no moment is told
@@ -339,6 +332,14 @@ set-none : (c : Config) (o : Option (List Setting)) → NoMoment (set_to c o)
 set-none c None = tt
 set-none c (Some settings) = turn-none c 0 (steps.Value settings)
 
+end-none : (c : Config) (o : Option ℕ) (well : Bool) → NoMoment (ended_as c o well)
+end-none c None well = tt
+end-none c (Some k) well = turn-none c 0 (steps.Done (record { 0 = k }) well)
+
+block-none : (c : Config) (o : Option ℕ) (on : Bool) → NoMoment (blocked_as c o on)
+block-none c None on = tt
+block-none c (Some k) on = turn-none c 0 (steps.Block (record { 0 = k }) on)
+
 not-told : (t : Told) (moment : ℕ) (P : Type 0) → NoMoment t → t ≡ pass_to moment → P
 not-told t moment P none is = absurd (subst NoMoment is none)
 
@@ -355,7 +356,7 @@ passed-at c form (lines.Piece a hex) moment h = not-told (fed_as c form a hex) m
 passed-at c form (lines.Take a) moment h = not-told (turn_of c a.0 (steps.Take a)) moment _ (turn-none c a.0 (steps.Take a)) h
 passed-at c form (lines.Lost a) moment h = not-told (lost_as c form a) moment _ (lost-none c form a) h
 passed-at c form (lines.Set pairs) moment h = not-told (set_as c pairs) moment _ (if-none (are_named c pairs) (set_to c (settings_at c pairs)) (refused 3) (set-none c (settings_at c pairs)) tt) h
-passed-at c form (lines.Done control well) moment h = absurd cc
-passed-at c form (lines.Block control on) moment h = absurd cc
+passed-at c form (lines.Done control well) moment h = not-told (ended_as c (number_in (control_references c) control) well) moment _ (end-none c (number_in (control_references c) control) well) h
+passed-at c form (lines.Block control on) moment h = not-told (blocked_as c (number_in (control_references c) control) on) moment _ (block-none c (number_in (control_references c) control) on) h
 passed-at c form lines.Tick moment h = not-told (turn_of c 0 steps.Tick) moment _ (turn-none c 0 steps.Tick) h
 passed-at c form lines.End moment h = absurd cc

@@ -9,10 +9,10 @@ use Rattle.cfg_parser.specs.Looking.{config_at}
 use Rattle.cfg_parser.specs.declared.fault.CfgFault.{CfgFault}
 use Rattle.cfg_parser.specs.declared.fault.CfgFault.TheVariants as faults
 use Rattle.run_record.specs.Judging.{is_long}
-use Rattle.record_outcome.specs.Openings.{unbuilt_line}
 use Rattle.record_outcome.specs.declared.status.Status.TheVariants as statuses
 use Rattle.script_reading.specs.Plans.{without_scripts}
 use Rattle.script_reading.specs.Moves.{Move, goes, stops, opening, configuring, between}
+use Rattle.script_reading.specs.Unbuilt.{unbuilt_line}
 
 -- the words are `rehearse 1`: another word or count of words is kind 1, another number kind 2
 abbrev pub headed : ℕ → List (List ℕ) → Move

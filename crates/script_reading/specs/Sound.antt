@@ -9,7 +9,6 @@ use Rattle.run_record.specs.declared.line.RecLine.{RecLine}
 use Rattle.record_steps.specs.Resolved.{told_of}
 use Rattle.record_steps.specs.Told.{turn}
 use Rattle.record_history.specs.Histories.{octets_of, form_at}
-use Rattle.record_outcome.specs.Openings.{unbuilt_line}
 use Rattle.record_outcome.specs.Records.{most_lines}
 use Rattle.record_laws.specs.Grammar.{IsInner, Each}
 use Rattle.script_lines.specs.Owners.{may_have}
@@ -24,6 +23,7 @@ use Rattle.script_reading.specs.declared.form.ScriptForm.{ScriptForm}
 use Rattle.script_reading.specs.declared.form.ScriptForm.TheVariants as forms
 use Rattle.script_reading.specs.declared.line.StepLine.{StepLine}
 use Rattle.script_reading.specs.Inputs.{outcome, ready}
+use Rattle.script_reading.specs.Unbuilt.{unbuilt_line}
 
 -- actor k is this owner's, whose association is of this form behind these lines, the newest first; no line of the process has one
 abbrev pub IsActor : ℕ → Owner → List (List ℕ) → ScriptForm → Type 0

@@ -15,6 +15,7 @@ mod scripting;
 // the lines before them
 mod openings;
 mod starting;
+mod unbuilt;
 
 // the whole input
 mod reading;

@@ -8,10 +8,10 @@ ghost use Rattle.script_reading.specs.Readings.{Starts, IsSoundStart, IsRefusal}
 
 use crate::plan::Plan;
 use crate::script::Script;
+use crate::unbuilt::unbuilt_line;
 use cfg_text::{CfgFault, read_config};
 use object_model::Model;
 use record_outcome::status::Status;
-use record_outcome::unbuilt::unbuilt_line;
 use run_record::Kind;
 use std::alloc::{AllocError, Global};
 

@@ -5,7 +5,6 @@ use Rattle.sv_base.specs.declared.config.Config.{Config}
 use Rattle.object_model.specs.Fits.{fits}
 use Rattle.bay_model.specs.Answers.{History}
 use Rattle.bay_core.specs.declared.fault.StepFault.{StepFault}
-use Rattle.bay_core.specs.Turns.{IsBuilt}
 use Rattle.history_lock.specs.Histories.{turn_of, by, IsLegal, IsRefused}
 use Rattle.history_lock.specs.Passes.{Site, Known, HasNumber, IsSamePass}
 use Rattle.script_threads.specs.declared.script.TimedStep.{TimedStep}
@@ -20,7 +19,7 @@ IsOf h p = (p.table ≡ h.table) × (p.config ≡ h.config)
 
 -- steps that a bay of this configuration can be given
 abbrev pub AreFit : Config → List TimedStep → Type 0
-AreFit c steps = All (λ (s : TimedStep). (fits c s.step ≡ true) × IsBuilt s.step) steps
+AreFit c steps = All (λ (s : TimedStep). fits c s.step ≡ true) steps
 
 -- Why actor k stopped once n steps were answered: none are left, or the next one was refused after what the actor had then seen.
 abbrev pub StopsAt : Config → ℕ → List TimedStep → ℕ → Option StepFault → History → Type 0

@@ -79,7 +79,7 @@ pub fit-lines : (p : Plan) (c : Config) (text : List ℕ) (book : Book) (ss : Li
 fit-lines p c text book ss is m l there = (book-told p m l is.sound (ap (λ b. line_of b m) is.book_ ∙ there)).2.fit
 
 pub served-plan : (p : Plan) (c : Config) (text : List ℕ) (book : Book) (ss : List Part) → IsOfPlan p c text book ss → IsServable c
-served-plan p c text book ss is = subst IsServable is.config (is_served p.text p.config is.sound.text.config is.sound.text.built)
+served-plan p c text book ss is = subst IsServable is.config (is_served p.text p.config is.sound.text.config)
 
 -- actors that are cast of a sound plan's scripts are of the plan
 pub cast-plan : (p : Plan) (ss : List Part) (book : Book) → IsSound p → IsCast ss p.scripts → book ≡ map lines_in p.scripts → IsOfPlan p p.config p.text book ss

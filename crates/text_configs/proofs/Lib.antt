@@ -22,6 +22,7 @@ pub mod GroupLaws
 pub mod ClashLaws
 pub mod PathLaws
 -- the members of its data sets, and all of it
+pub mod ControlLaws
 pub mod CountLaws
 pub mod BelowLaws
 pub mod MemberLaws

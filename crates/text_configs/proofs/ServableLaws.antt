@@ -38,6 +38,7 @@ use Rattle.text_configs.proofs.AttrLaws.{key_of, attrs-read, attrs-beside}
 use Rattle.text_configs.proofs.SetLaws.{blocks-read, few-blocks, sets-read, member-named, found-of, leaf_of, leaves-are}
 use Rattle.text_values.proofs.ValueLaws.{all-sound}
 use Rattle.text_configs.proofs.PathLaws.{IsReference, reference-of}
+use Rattle.text_configs.proofs.ControlLaws.{are-ctl-kinds, are-in-range, few-controls}
 use Rattle.text_configs.proofs.CountLaws.{counted}
 use Rattle.text_configs.proofs.BelowLaws.{IsTold}
 use Rattle.text_configs.proofs.AllowedLaws.{allowed-member}
@@ -116,12 +117,13 @@ module _ (told : List Line) (text : List ℕ) (are : AreLines text told) (found_
 
   pub served : AreNamed (configured_model (config_of told)) → IsServable (config_of told)
   served names = record {
-    controls = controls;
+    controls = are-ctl-kinds told text are;
+    few_controls = let k = few-controls told text are in omega (arith, k.0, k.1);
     grouped = are-grouped told text are;
     storable = record {
       lines = all-of (λ a. HasValue a (place_in (config_of told) a)) (config_of told).attrs (begins told text are);
       twins = all-of (λ a. HasValue a 0) (config_of told).attrs (first-value told text are);
-      controls = subst (All (λ (k : CtlDef). (k.model ≤ 4) × (k.class ≤ 1))) (sym controls) (All-nil (λ (k : CtlDef). (k.model ≤ 4) × (k.class ≤ 1)));
+      controls = are-in-range told text are;
     };
     sound = all-of HasSoundValues (config_of told).attrs (λ a i. all-sound a.kind _ (is-told.attrs a i).values);
     domains = all-of (λ (a : AttrDef). is_some (position (bytes_eq a.domain) (domains (config_of told))) ≡ true) (config_of told).attrs has-domain;

@@ -5,7 +5,7 @@ ghost use Rattle.sv_base.specs.declared.config.Config.{Config};
 ghost use Rattle.cfg_parser.specs.Looking.{config_at};
 ghost use Rattle.bay_config.specs.Servable.{IsServable};
 
-/// A configuration that is read from a text can be served by a bay, where it has no controls.
+/// A configuration that is read from a text can be served by a bay.
 pub fn texts_are_served()
-    ensures { (text : List ℕ) (c : Config) → config_at text ≡ Ok c → c.controls ≡ [] → IsServable c }
+    ensures { (text : List ℕ) (c : Config) → config_at text ≡ Ok c → IsServable c }
 {}

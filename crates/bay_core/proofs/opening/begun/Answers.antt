@@ -1,7 +1,9 @@
-use Rattle.std.proofs.Common.{refl, subst, sym, vec_capacity}
+use Rattle.std.proofs.Common.{◌≡◌, refl, ap, subst, sym, map, vec_capacity}
+use Rattle.bay_model.specs.Configured.{control_defined}
+use Rattle.bay_queues.specs.Queued.{Queued, configs}
 use Rattle.bay_values.specs.Held.{AreGrouped}
 use Rattle.bay_values.proofs.GroupLaws.{grouped-first}
-use Rattle.bay_core.proofs.FirstState.{furnished-first, stands-first}
+use Rattle.bay_core.proofs.FirstState.{furnished-first, stands-first, configs-opened}
 use Rattle.bay_core.proofs.QuietLaws.{quiet-first}
 use Rattle.bay_core.proofs.opening.begun.Goals as goal
 
@@ -11,7 +13,8 @@ invariant_of-result c = record {
   grouped = subst (AreGrouped c.args.model) (sym c.requires.groups) (grouped-first c.args.model c.requires.servable);
   quiet = quiet-first c.first.result c.args.made.rooms.dues c.args.made.parts.items c.requires.dues;
   roomy = c.requires.events;
+  controls = subst (λ (q : Queued). configs q.table ≡ map control_defined c.args.model.controls) (sym c.requires.associations) (configs-opened (map control_defined c.args.model.controls));
 }
 
 pub returns-clause-stands : goal.returns-clause-stands
-returns-clause-stands c = stands-first _ c.args.model c.requires.servable refl refl c.first.ensures c.requires.values c.requires.sets c.requires.parts c.requires.associations c.requires.groups
+returns-clause-stands c = stands-first _ c.args.model c.requires.servable refl refl c.first.ensures c.requires.values c.requires.sets c.requires.parts (ap (λ (q : Queued). q.rows) c.requires.associations) (ap (λ (q : Queued). q.table) c.requires.associations) c.requires.groups

@@ -1,10 +1,10 @@
-use Rattle.std.proofs.Common.{subst, sym, ◌∙◌}
+use Rattle.std.proofs.Common.{subst, sym}
 use Rattle.bay_config.specs.Servable.{IsServable}
 use Rattle.record_outcome.proofs.StartLaws.{is_served, settable}
 use Rattle.record_session.proofs.starting.start.Goals as goal
 
 pub build-requires : goal.build-requires
-build-requires c = settable c.in-Ok.config (is_served c.args.text.now c.in-Ok.config c.in-Ok.ensures (sym c.unbuilt_line.ensures ∙ c.in_default.is))
+build-requires c = settable c.in-Ok.config (is_served c.args.text.now c.in-Ok.config c.in-Ok.ensures)
 
 pub open-requires : goal.open-requires
-open-requires c = subst IsServable (sym c.in_ok-model.ensures) (is_served c.args.text.now c.in-Ok.config c.in-Ok.ensures (sym c.unbuilt_line.ensures ∙ c.in_default.is))
+open-requires c = subst IsServable (sym c.in_ok-model.ensures) (is_served c.args.text.now c.in-Ok.config c.in-Ok.ensures)

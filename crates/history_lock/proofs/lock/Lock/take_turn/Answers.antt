@@ -24,7 +24,7 @@ pub step-result-requires-clause-fits : goal.step-result-requires-clause-fits
 step-result-requires-clause-fits g c =
     let s = stands_now c.args.seat.now.me c.draw-ticket.new.seat.me c.wait_turn.new.seat.me c.draw-ticket.result g.config c.unwrap-bay.result
     c.exchange.result c.draw-ticket.ensures.seat c.requires.1.1.1.1.1.0 c.wait_turn.ensures.got c.exchange.ensures.2 c.unwrap-bay.ensures in
-    subst (λ (x : Config). fits_in x c.args.step.now ≡ true) (sym s.1.is_config) c.requires.1.1.1.1.1.1.0
+    subst (λ (x : Config). fits_in x c.args.step.now ≡ true) (sym s.1.is_config) c.requires.1.1.1.1.1.1
 
 pub step-result-requires-clause-few : goal.step-result-requires-clause-few
 step-result-requires-clause-few g c =

@@ -8,10 +8,7 @@ use Rattle.record_session.proofs.PlayLaws.{slot-nothing, slot-pass, slot-step, s
 use Rattle.record_session.proofs.playing.Playing.act.Goals as goal
 
 pub perform-requires-clause-fits : goal.perform-requires-clause-fits
-perform-requires-clause-fits c = (subst (λ t. IsReady c.args.self.now.bay.config t c.args.slot.now c.args.heard.now) c.in-Step.is c.requires.ready).0
-
-pub perform-requires-clause-built : goal.perform-requires-clause-built
-perform-requires-clause-built c = (subst (λ t. IsReady c.args.self.now.bay.config t c.args.slot.now c.args.heard.now) c.in-Step.is c.requires.ready).1
+perform-requires-clause-fits c = subst (λ t. IsReady c.args.self.now.bay.config t c.args.slot.now c.args.heard.now) c.in-Step.is c.requires.ready
 
 pub perform-requires-clause-few : goal.perform-requires-clause-few
 perform-requires-clause-few c = omega (arith, c.requires.few)

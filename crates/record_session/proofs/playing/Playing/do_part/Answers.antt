@@ -8,10 +8,7 @@ use Rattle.record_session.proofs.PlayLaws.{does-step, within-one}
 use Rattle.record_session.proofs.playing.Playing.do_part.Goals as goal
 
 pub perform-requires-clause-fits : goal.perform-requires-clause-fits
-perform-requires-clause-fits c = (subst (IsReadyPart c.args.self.now.bay.config) c.in-Makes.is c.requires.ready).0
-
-pub perform-requires-clause-built : goal.perform-requires-clause-built
-perform-requires-clause-built c = (subst (IsReadyPart c.args.self.now.bay.config) c.in-Makes.is c.requires.ready).1
+perform-requires-clause-fits c = subst (IsReadyPart c.args.self.now.bay.config) c.in-Makes.is c.requires.ready
 
 pub returns-in_ok-extend_from_slice-in-Tells-clause-does : goal.returns-in_ok-extend_from_slice-in-Tells-clause-does
 returns-in_ok-extend_from_slice-in-Tells-clause-does c =

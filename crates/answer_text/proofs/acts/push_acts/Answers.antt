@@ -1,0 +1,8 @@
+use Rattle.std.proofs.lemmas.Result.{err_from_is_err_and}
+use Rattle.answer_text.proofs.PrefixLaws.{still-begins}
+use Rattle.answer_text.proofs.acts.push_acts.Goals as goal
+
+pub returns-in_err-push_act-clause-err : goal.returns-in_err-push_act-clause-err
+returns-in_err-push_act-clause-err c =
+    let failed = err_from_is_err_and c.from_residual.result c.from_residual.ensures.1 in
+    rw (failed.1) (still-begins _ _ _ _ c.loop-act.invariant c.in_err-push_act.ensures.err)

@@ -1,0 +1,7 @@
+use Rattle.std.proofs.Common.{drop}
+use Rattle.std.specs.List.{All}
+use Rattle.bay_answers.specs.ControlPdus.{IsShortError}
+use Rattle.answer_text.proofs.sendable.are_short_errors.Given as goal
+
+abbrev pub invariant-loop-error : goal.invariant-loop-error
+invariant-loop-error l = All IsShortError (drop l.error-index l.errors) → All IsShortError l.errors

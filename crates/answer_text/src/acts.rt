@@ -1,0 +1,74 @@
+//! The lines of controls that act.
+
+ghost use Rattle.std.specs.Prelude.{◌≡◌, ◌++◌, length, take, OnOk, OnErr, slice_get, IfOk, Ok};
+ghost use Rattle.std.specs.List.{All};
+ghost use Rattle.sv_base.specs.Data.{data_of};
+ghost use Rattle.sv_base.specs.declared.value.Value.{Value as Said};
+ghost use Rattle.answer_text.specs.Texts.{act_line, act_lines, control_text};
+
+use crate::number::{push_hex, push_number};
+use crate::sendable::is_writable;
+use bay_model::Act;
+use mms_data::write_data;
+use object_model::Model;
+use std::alloc::{AllocError, Global};
+use sv_base::{CtlNo, Value};
+
+/// The Data of a value. One that has none, which is no ctlVal, fails as want of memory does.
+fn data(alloc: Global, value: &Value) -> Result<Vec<u8>, AllocError>
+    ensures { IfOk result (λ v. v.items ≡ data_of value.now) }
+{
+    if !is_writable(value, 10) {
+        return Err(AllocError);
+    }
+    let mut octets = Vec::new(alloc);
+    write_data(value, &mut octets)?;
+    Ok(octets)
+}
+
+/// Writes the reference of a control.
+fn push_control(out: &mut Vec<u8>, model: &Model, control: CtlNo) -> Result<(), AllocError>
+    ensures ok { OnOk result (out.new.items ≡ out.old.items ++ control_text (slice_get model.now.controls control.0)) }
+    ensures err { OnErr result (take (length out.old.items) out.new.items ≡ out.old.items) }
+{
+    if let Some(line) = model.config().controls.get(control.0 as usize) {
+        out.extend_from_slice(line.domain.as_slice())?;
+        out.extend_from_slice(b"/")?;
+        out.extend_from_slice(line.ln.as_slice())?;
+        out.extend_from_slice(b"$CO$")?;
+        out.extend_from_slice(line.path.as_slice())?;
+    }
+    Ok(())
+}
+
+/// Writes an act.
+fn push_act(alloc: Global, out: &mut Vec<u8>, model: &Model, act: &Act) -> Result<(), AllocError>
+    ensures ok { OnOk result (out.new.items ≡ out.old.items ++ act_line model.now act.now) }
+    ensures err { OnErr result (take (length out.old.items) out.new.items ≡ out.old.items) }
+{
+    let value = data(alloc, &act.value)?;
+    out.extend_from_slice(b"act ")?;
+    push_control(out, model, act.control)?;
+    out.push(b' ')?;
+    push_hex(out, value.as_slice())?;
+    out.extend_from_slice(b" by ")?;
+    push_number(out, u64::from(act.by.0))?;
+    out.push(b'\n')?;
+    Ok(())
+}
+
+/// Writes acts, in order.
+pub fn push_acts(
+    alloc: Global,
+    out: &mut Vec<u8>,
+    model: &Model,
+    acts: &[Act],
+) -> Result<(), AllocError>
+    ensures ok { OnOk result (out.new.items ≡ out.old.items ++ act_lines model.now acts.now) }
+    ensures err { OnErr result (take (length out.old.items) out.new.items ≡ out.old.items) }
+{
+    for act in acts {
+        push_act(alloc, out, model, act)?;
+    }
+    Ok(())
+}

@@ -1,0 +1,70 @@
+-- What is sent of controls, as information reports (IEC 61850-8-1, LastApplError and CommandTermination; ISO 9506-2,
+-- InformationReport), in the minimal spelling of each element.
+use Rattle.std.specs.Prelude.{◌≡◌, ◌≤◌, ◌<◌, ℕ, pos, List, [], ◌++◌, length, codes, Option, None, Some, IfSome, slice_get, slice_index_or}
+use Rattle.std.specs.Option.{option_map_or}
+use Rattle.ber_write.specs.Minimal.{octets_of, uint_octets, int_octets}
+use Rattle.sv_base.specs.Data.{data_of}
+use Rattle.sv_base.specs.declared.config.Config.{Config}
+use Rattle.sv_base.specs.declared.config.CtlDef.{CtlDef}
+use Rattle.mms_pdu.specs.AskingOctets.{domain_name}
+use Rattle.mms_pdu.specs.ReplyOctets.{report_octets}
+use Rattle.bay_model.specs.declared.control.ApplError.{ApplError}
+use Rattle.bay_model.specs.declared.control.Termination.{Termination}
+use Rattle.bay_answers.specs.RepliesVariables.{variable_octets}
+
+-- the variable LastApplError, which is vmd-specific, 0x80
+abbrev pub error_variable : List ℕ
+error_variable = variable_octets (octets_of 0x80 (codes "LastApplError")) []
+
+-- Origin: orCat, 0x85, and orIdent, 0x89
+abbrev pub origin_octets : ApplError → List ℕ
+origin_octets e = octets_of 0x85 (int_octets e.or_cat) ++ octets_of 0x89 e.or_ident
+
+-- CntrlObj, a visible string, 0x8A; Error, which is 1; Origin, a structure, 0xA2; ctlNum, 0x86; AddCause, an integer that isn't negative
+abbrev pub error_parts : ApplError → List ℕ
+error_parts e = octets_of 0x8A e.object ++ (octets_of 0x85 (int_octets (pos 1)) ++ (octets_of 0xA2 (origin_octets e) ++ (octets_of 0x86 (uint_octets e.ctl_num) ++ octets_of 0x85 (uint_octets e.cause))))
+
+-- its value, a structure
+unfoldable pub error_data : ApplError → List ℕ
+error_data e = octets_of 0xA2 (error_parts e)
+
+-- the variable Oper of a control's line, `LN$CO$DO$Oper` of its domain
+abbrev pub oper_item : CtlDef → List ℕ
+oper_item k = k.ln ++ (codes "$CO$" ++ (k.path ++ codes "$Oper"))
+
+abbrev pub oper_variable : CtlDef → List ℕ
+oper_variable k = variable_octets (domain_name k.domain (oper_item k)) []
+
+-- an information report of a list of variables, 0xA0, and their values
+abbrev pub report_of : List ℕ → List ℕ → List ℕ
+report_of variables values = report_octets (octets_of 0xA0 variables) values
+
+-- a LastApplError before a reply
+abbrev pub error_pdu : ApplError → List ℕ
+error_pdu e = report_of error_variable (error_data e)
+
+-- A positive termination has the variable Oper with its value; a negative one LastApplError and Oper, in one report.
+abbrev pub termination_of : CtlDef → Termination → Option ApplError → List ℕ
+termination_of k t None = report_of (oper_variable k) (data_of t.oper)
+termination_of k t (Some e) = report_of (error_variable ++ oper_variable k) (error_data e ++ data_of t.oper)
+
+abbrev pub termination_pdu : Config → Termination → List ℕ
+termination_pdu c t = option_map_or (λ k. termination_of k t t.error) (slice_get c.controls t.control.0) []
+
+-- ---- what can be sent
+
+-- an ObjectReference (IEC 61850-7-2) and an orIdent of their greatest length at most
+pub record IsShortError (e : ApplError) : Type 0 where
+  pub object : length e.object ≤ 129
+  pub ident : length e.or_ident ≤ 64
+
+pub record HasShortName (k : CtlDef) : Type 0 where
+  pub domain : length k.domain ≤ 129
+  pub item : length (oper_item k) ≤ 129
+
+-- the control is there, and its name and the values are short
+pub record IsShortTermination (c : Config) (t : Termination) : Type 0 where
+  pub control : t.control.0 < length c.controls
+  pub name : (k : CtlDef) → slice_get c.controls t.control.0 ≡ Some k → HasShortName k
+  pub oper : length (data_of t.oper) ≤ 300
+  pub error : IfSome t.error IsShortError
