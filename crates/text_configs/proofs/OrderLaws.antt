@@ -129,7 +129,7 @@ control-of (c ∷ ks) k x l (inr i) = let h = control-of ks (k + 1) (x + length 
   is = h.is ∙ ap (λ y. control_line h.number y h.control) (omega (arith, length-map (parameters c) (parameter_attr c)));
 }
 
-parameter-of : (x : ℕ) (item : List ℕ) (ps : List Parameter) (n : Named) → Among n (parameter_names x item ps) → (m : ℕ) (p : Parameter) × At m p ps × (n ≡ end_named (within item p.name) (attribute (x + m)) p.kind)
+parameter-of : (x : ℕ) (item : List ℕ) (ps : List Parameter) (n : Named) → Among n (parameter_names x item ps) → (m : ℕ) × (p : Parameter) × At m p ps × (n ≡ end_named (within item p.name) (attribute (x + m)) p.kind)
 parameter-of x item [] n i = absurd i
 parameter-of x item (p ∷ ps) n (inl e) = (0, p, refl, e ∙ ap (λ y. end_named (within item p.name) (attribute y) p.kind) (omega arith))
 parameter-of x item (p ∷ ps) n (inr i) = let s = parameter-of (x + 1) item ps n i in
