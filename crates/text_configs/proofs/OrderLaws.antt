@@ -18,7 +18,7 @@ use Rattle.bay_model.specs.ComponentTable.{comp_name, components, comp_kind, set
 use Rattle.bay_rooms.specs.Kinds.{type_of}
 use Rattle.bay_model.specs.NamedLines.{Line, is_setting, path_item, attribute_names, attribute_line, attribute_lines, node_line, block_line, block_lines, control_line, control_lines, group_line, domain_number, generated, lines, insert_line, in_order, names_in}
 use Rattle.bay_model.specs.NameTree.{longest}
-use Rattle.list_laws.proofs.Among.{Among, At, at-among, at-left, at-map, mapped, left, right, either, source, kept, passed, spread, gathered}
+use Rattle.list_laws.proofs.Among.{Among, At, at-among, at-left, at-map, left, right, either, source, kept, passed, spread, gathered}
 use Rattle.text_configs.proofs.NamedLaws.{bytes-same}
 use Rattle.text_configs.proofs.ParameterLaws.{parameter_attr, parameter_attrs, all_attrs, at-either, at-right, at-source}
 use Rattle.text_configs.proofs.CommandLaws.{IsWithin, command-within}
