@@ -23,7 +23,6 @@ number_of kinds.State = 5
 number_of kinds.Hex = 6
 number_of kinds.NoEnd = 7
 number_of kinds.Long = 8
-number_of kinds.NotBuilt = 9
 
 -- what a function returned is what is read; of want of memory nothing is said
 abbrev pub Gives : {A : Type 0} → Result A RecFault → Result A Kind → Type 0

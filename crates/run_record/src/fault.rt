@@ -31,16 +31,13 @@ pub enum Kind {
     /// A word that is no hexadecimal.
     #[error("a word that is no hexadecimal")]
     Hex,
-    /// What is not built yet.
-    #[error("not built yet")]
-    NotBuilt,
     /// The input ends before the line `end` is whole.
     #[error("the input ends before `end`")]
     NoEnd,
 }
 
 impl Kind {
-    /// Its number, 1 to 9.
+    /// Its number, 1 to 8.
     pub fn number(self) -> u8
         ensures { result ≡ number_of self }
     {
@@ -53,7 +50,6 @@ impl Kind {
             Kind::Hex => 6,
             Kind::NoEnd => 7,
             Kind::Long => 8,
-            Kind::NotBuilt => 9,
         }
     }
 }

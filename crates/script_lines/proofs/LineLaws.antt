@@ -126,7 +126,6 @@ beside-told text line (Err kinds.Name) is told = absurd (cc told)
 beside-told text line (Err kinds.State) is told = absurd (cc told)
 beside-told text line (Err kinds.Value) is told = absurd (cc told)
 beside-told text line (Err kinds.Hex) is told = absurd (cc told)
-beside-told text line (Err kinds.NotBuilt) is told = absurd (cc told)
 beside-told text line (Err kinds.NoEnd) is told = absurd (cc told)
 
 pub line-told : (text : List ℕ) (line : ScriptLine) → script_line_at text ≡ Ok line → SpellsScript text line
