@@ -119,12 +119,13 @@ module _ (c : Model) (k : ℕ) where
   none-beyond : (n m : ℕ) (ls : List StepLine) (ss : List TimedStep) (line : ℕ) → first_beyond c k n m ls ss ≡ None → IsBeyond c k n m ls ss line → ⊥
   none-beyond n m [] ss line none is = is
   none-beyond n m (l ∷ ls) [] line none is = is
-  none-beyond n m (l ∷ ls) (s ∷ ss) line none is = by (is_beyond (n + m) s.step) refl none is where
+  none-beyond n m (l ∷ ls) (s ∷ ss) line none is = by (is_beyond (n + m) s.step) refl none is (none-beyond (waits_behind k s.step n) (opers_behind c k s.step m) ls ss line) where
     by : (b : Bool) → is_beyond (n + m) s.step ≡ b → (if b then Some l.number else first_beyond c k (waits_behind k s.step n) (opers_behind c k s.step m) ls ss) ≡ None
-        → ((is_beyond (n + m) s.step ≡ true) × (l.number ≡ line)) ⊎ IsBeyond c k (waits_behind k s.step n) (opers_behind c k s.step m) ls ss line → ⊥
-    by true so none is = cc none
-    by false so none (inl full) = cc (sym so ∙ full.0)
-    by false so none (inr more) = none-beyond (waits_behind k s.step n) (opers_behind c k s.step m) ls ss line none more
+        → ((is_beyond (n + m) s.step ≡ true) × (l.number ≡ line)) ⊎ IsBeyond c k (waits_behind k s.step n) (opers_behind c k s.step m) ls ss line
+        → (first_beyond c k (waits_behind k s.step n) (opers_behind c k s.step m) ls ss ≡ None → IsBeyond c k (waits_behind k s.step n) (opers_behind c k s.step m) ls ss line → ⊥) → ⊥
+    by true so none is rest = cc none
+    by false so none (inl full) rest = cc (sym so ∙ full.0)
+    by false so none (inr more) rest = rest none more
 
 -- ---- of all scripts
 
