@@ -8,6 +8,10 @@ pub mod QuietLaws
 -- what waits for associations, and requests
 pub mod QueueLaws
 pub mod AskLaws
+-- reads of variables
+pub mod IdleLaws
+pub mod TurnLaws
+pub mod ReadLaws
 pub mod LentLaws
 -- names of data sets
 pub mod NameLaws

@@ -1,7 +1,7 @@
 //! Reads of variables (ISO 9506-2, Read; IEC 61850-7-2, Select): the values are made before a step, and the reads of SBO select in
 //! their turn.
 
-ghost use Rattle.std.specs.Prelude.{◌≡◌, ℕ, Ok, slice_set, length, map};
+ghost use Rattle.std.specs.Prelude.{◌≡◌, ◌<◌, slice_set, map};
 ghost use Rattle.std.specs.List.{All};
 ghost use Rattle.std.specs.Option.{option_map};
 ghost use Rattle.sv_base.specs.declared.numbers.CtlNo.{CtlNo as Control};
@@ -22,6 +22,7 @@ use sv_base::{AssocNo, CtlNo, Moment, Octs, Value};
 /// The reply to Read, where the results are these, or were cut since they are longer than a PDU of this size: the error of class 4,
 /// service, with code 3, pdu-size, where they are longer.
 fn read_reply(size: u32, asked: Asked, read: Read) -> Reply
+    requires { size < 4294967295 }
     ensures { result ≡ reply_of size asked read.is_cut read.results.items }
 {
     if read.is_cut || are_too_long(size, read.results.as_slice()) {
@@ -107,6 +108,23 @@ impl Bay {
     ghost use Rattle.bay_replies.specs.Asking.{IsFitting};
     ghost use Rattle.bay_core.specs.Asked.{IsAnswered, IsKept};
 
+    /// The variables of a request are read in their turn, where the values were made before.
+    fn turn(&mut self, alloc: Global, a: AssocNo, targets: &Targets, read: &mut Read)
+        requires { All (IsTarget self.old.config) targets.now }
+        ensures controls { self.new ≡ record self.old { controls = after_turns a.0 self.old.config targets.now self.old.controls } }
+        ensures results { read.new.results.items ≡ in_turns a.0 self.old.config targets.now self.old.controls read.old.results.items }
+        ensures cut { read.new.is_cut ≡ read.old.is_cut }
+    {
+        read_all(
+            alloc,
+            &self.model,
+            &mut self.associations,
+            a,
+            targets.as_slice(),
+            &mut read.results,
+        );
+    }
+
     /// Answers a read of variables: the values are made, then time passes, and the reads of SBO select in their turn.
     pub(crate) fn answer_variables(
         &mut self,
@@ -130,22 +148,5 @@ impl Bay {
         self.arrive(moment);
         self.turn(alloc, a, targets, &mut read);
         Ok(read_reply(size, asked, read))
-    }
-
-    /// The variables of a request are read in their turn, where the values were made before.
-    fn turn(&mut self, alloc: Global, a: AssocNo, targets: &Targets, read: &mut Read)
-        requires { All (IsTarget self.old.config) targets.now }
-        ensures controls { self.new ≡ record self.old { controls = after_turns a.0 self.old.config targets.now self.old.controls } }
-        ensures results { read.new.results.items ≡ in_turns a.0 self.old.config targets.now self.old.controls read.old.results.items }
-        ensures cut { read.new.is_cut ≡ read.old.is_cut }
-    {
-        read_all(
-            alloc,
-            &self.model,
-            &mut self.associations,
-            a,
-            targets.as_slice(),
-            &mut read.results,
-        );
     }
 }
