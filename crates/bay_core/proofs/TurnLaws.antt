@@ -1,6 +1,6 @@
 -- Reads of variables in their turn come to what the definitions have.
-use Rattle.std.proofs.Common.{◌≡◌, ◌≤◌, ◌<◌, ◌∙◌, ◌+◌, ℕ, zero, suc, List, [], ◌∷◌, map, length, refl, sym, ap, ap₂, subst, arith, length-append}
-use Rattle.std.specs.Prelude.{Bool, true, false, if◌then◌else◌, nat_lt, Option, None, Some, Result, Ok, Err, slice_get, unwrap_or}
+use Rattle.std.proofs.Common.{◌≡◌, ◌≤◌, ◌<◌, ◌∙◌, ◌+◌, ℕ, zero, suc, List, [], ◌∷◌, ◌++◌, map, length, take, drop, refl, sym, ap, ap₂, subst, arith, length-append}
+use Rattle.std.specs.Prelude.{Bool, true, false, if◌then◌else◌, nat_lt, Option, None, Some, Result, Ok, Err, slice_get, slice_set, unwrap_or}
 use Rattle.std.specs.Int.{to_be_bytes, w32}
 use Rattle.std.specs.List.{flat_map}
 use Rattle.std.proofs.Math.Seq.{map-set_same}
@@ -35,7 +35,7 @@ use Rattle.bay_replies.specs.declared.replies.Replies.{Replies}
 use Rattle.bay_replies.specs.Given.{node_read, target_read}
 use Rattle.bay_replies.specs.Reading.{selecting_of, selecting_in, reference_read, early_read, early_len, early_reads, least_len, IsReadBy}
 use Rattle.window_core.specs.Points.{at}
-use Rattle.bay_core.specs.Turned.{after_turn, after_turns, empty_text, in_turn, in_turns, reply_of, selects}
+use Rattle.bay_core.specs.Turned.{after_turn, after_turns, empty_text, in_turn, in_turns, reply_of, selects, with_turn}
 use Rattle.bay_core.proofs.IdleLaws.{IsIdle, idle-target, nothing-read, tree-idle}
 
 -- ---- which controls there are
@@ -54,6 +54,43 @@ turn-configs a (Some k) t = by (selects t k) where
 pub turns-configs : (a : ℕ) (c : Config) (xs : List Target) (t : Table) → configs (after_turns a c xs t) ≡ configs t
 turns-configs a c [] t = refl
 turns-configs a c (x ∷ xs) t = turns-configs a c xs (after_turn a (selecting_in c x) t) ∙ turn-configs a (selecting_in c x) t
+
+-- ---- results at their places
+
+none-behind : (a : ℕ) (c : Config) (xs : List Target) (t : Table) → in_turns a c xs t [] ≡ []
+none-behind a c [] t = refl
+none-behind a c (x ∷ xs) t = refl
+
+turn-none : (i : ℕ) (o : Option ℕ) (t : Table) → with_turn i o t [] ≡ []
+turn-none i None t = refl
+turn-none i (Some k) t = by (selects t k) where
+  by : (b : Bool) → (if b then [] else slice_set [] i empty_text) ≡ []
+  by true = refl
+  by false = refl
+
+turn-first : (o : Option ℕ) (t : Table) (r : Result Value ℕ) (rs : List (Result Value ℕ)) → with_turn 0 o t (r ∷ rs) ≡ in_turn o t r ∷ rs
+turn-first None t r rs = refl
+turn-first (Some k) t r rs = by (selects t k) where
+  by : (b : Bool) → (if b then r ∷ rs else slice_set (r ∷ rs) 0 empty_text) ≡ (if b then r else empty_text) ∷ rs
+  by true = refl
+  by false = refl
+
+turn-later : (i : ℕ) (o : Option ℕ) (t : Table) (r : Result Value ℕ) (rs : List (Result Value ℕ)) → with_turn (suc i) o t (r ∷ rs) ≡ r ∷ with_turn i o t rs
+turn-later i None t r rs = refl
+turn-later i (Some k) t r rs = by (selects t k) where
+  by : (b : Bool) → (if b then r ∷ rs else slice_set (r ∷ rs) (suc i) empty_text) ≡ r ∷ (if b then rs else slice_set rs i empty_text)
+  by true = refl
+  by false = refl
+
+-- those before this place were read in their turn, and the one there is
+pub place-next : (a : ℕ) (c : Config) (i : ℕ) (x : Target) (xs : List Target) (t : Table) (rs : List (Result Value ℕ))
+    → take (suc i) (with_turn i (selecting_in c x) t rs) ++ in_turns a c xs (after_turn a (selecting_in c x) t) (drop (suc i) (with_turn i (selecting_in c x) t rs)) ≡ take i rs ++ in_turns a c (x ∷ xs) t (drop i rs)
+place-next a c i x xs t [] = rw (turn-none i (selecting_in c x) t, none-behind a c xs (after_turn a (selecting_in c x) t)) (by i) where
+  by : (i : ℕ) → [] ≡ take i [] ++ in_turns a c (x ∷ xs) t (drop i [])
+  by zero = refl
+  by (suc i) = refl
+place-next a c zero x xs t (r ∷ rs) = rw (turn-first (selecting_in c x) t r rs) refl
+place-next a c (suc i) x xs t (r ∷ rs) = rw (turn-later i (selecting_in c x) t r rs) (ap (λ l. r ∷ l) (place-next a c i x xs t rs))
 
 -- ---- one in its turn
 
