@@ -54,7 +54,9 @@ use Rattle.bay_core.specs.Asked.{IsWrite}
 use Rattle.bay_core.specs.Standing.{StandsAt}
 use Rattle.bay_core.specs.State.{State, AreServedSets}
 use Rattle.bay_core.proofs.ArriveLaws.{HaveMembers}
-use Rattle.bay_core.proofs.MoveLaws.{IsSilent, again, came-of, rows_after}
+use Rattle.control_core.specs.Tables as tables
+use Rattle.control_core.specs.Tables.{Table}
+use Rattle.bay_core.proofs.MoveLaws.{IsSilent, again, came-quiet, rows_after}
 use Rattle.bay_core.proofs.PartLaws.{parts-left}
 use Rattle.bay_core.proofs.SettingLaws.{IsSetting, set_at, stands-set}
 use Rattle.bay_core.proofs.SingleLaws.{by-outcome, refused-write}
@@ -65,6 +67,7 @@ use Rattle.bay_core.proofs.SingleLaws.{by-outcome, refused-write}
 pub record IsOfGroups (m : Model) (n t : ℕ) (d : Deed) (past : Past) : Type 0 where
   pub silent : IsSilent m n t d past
   pub rows : (rs : List Row) → rows_after d rs ≡ rs
+  pub controls : (u : Table) → tables.after_deed d u ≡ u
   pub block : (b front : ℕ) (k : Block) → after_deed b d front k ≡ k
   pub general : (b : ℕ) → false ≡ is_interrogation b d
   pub purge : (b : ℕ) → false ≡ purges m b d past
@@ -72,19 +75,19 @@ pub record IsOfGroups (m : Model) (n t : ℕ) (d : Deed) (past : Past) : Type 0 
   pub cuts : (b : ℕ) → cuts m b d past ≡ false
 
 of-act : (m : Model) (n t a d g : ℕ) (past : Past) → IsOfGroups m n t (activated a d g) past
-of-act m n t a d g past = record { silent = record { number = tt; puts = λ e. refl; sets = refl }; rows = λ rs. refl; block = λ b front k. refl; general = λ b. refl; purge = λ b. refl; change = λ b. refl; cuts = λ b. refl }
+of-act m n t a d g past = record { silent = record { number = tt; puts = λ e. refl; sets = refl }; rows = λ rs. refl; controls = λ u. refl; block = λ b front k. refl; general = λ b. refl; purge = λ b. refl; change = λ b. refl; cuts = λ b. refl }
 
 of-edit : (m : Model) (n t a d g : ℕ) (past : Past) → IsOfGroups m n t (edited a d g) past
-of-edit m n t a d g past = record { silent = record { number = tt; puts = λ e. refl; sets = refl }; rows = λ rs. refl; block = λ b front k. refl; general = λ b. refl; purge = λ b. refl; change = λ b. refl; cuts = λ b. refl }
+of-edit m n t a d g past = record { silent = record { number = tt; puts = λ e. refl; sets = refl }; rows = λ rs. refl; controls = λ u. refl; block = λ b front k. refl; general = λ b. refl; purge = λ b. refl; change = λ b. refl; cuts = λ b. refl }
 
 of-confirm : (m : Model) (n t a d : ℕ) (past : Past) → IsOfGroups m n t (confirmed a d) past
-of-confirm m n t a d past = record { silent = record { number = tt; puts = λ e. refl; sets = refl }; rows = λ rs. refl; block = λ b front k. refl; general = λ b. refl; purge = λ b. refl; change = λ b. refl; cuts = λ b. refl }
+of-confirm m n t a d past = record { silent = record { number = tt; puts = λ e. refl; sets = refl }; rows = λ rs. refl; controls = λ u. refl; block = λ b front k. refl; general = λ b. refl; purge = λ b. refl; change = λ b. refl; cuts = λ b. refl }
 
 of-nothing : (m : Model) (n t : ℕ) (past : Past) → IsOfGroups m n t nothing past
-of-nothing m n t past = record { silent = record { number = tt; puts = λ e. refl; sets = refl }; rows = λ rs. refl; block = λ b front k. refl; general = λ b. refl; purge = λ b. refl; change = λ b. refl; cuts = λ b. refl }
+of-nothing m n t past = record { silent = record { number = tt; puts = λ e. refl; sets = refl }; rows = λ rs. refl; controls = λ u. refl; block = λ b front k. refl; general = λ b. refl; purge = λ b. refl; change = λ b. refl; cuts = λ b. refl }
 
 of-copy : (m : Model) (n t a x : ℕ) (v : Value) (past : Past) → IsOfGroups m n t (copied a x v) past
-of-copy m n t a x v past = record { silent = record { number = tt; puts = λ e. refl; sets = refl }; rows = λ rs. refl; block = λ b front k. refl; general = λ b. refl; purge = λ b. refl; change = λ b. refl; cuts = λ b. refl }
+of-copy m n t a x v past = record { silent = record { number = tt; puts = λ e. refl; sets = refl }; rows = λ rs. refl; controls = λ u. refl; block = λ b front k. refl; general = λ b. refl; purge = λ b. refl; change = λ b. refl; cuts = λ b. refl }
 
 of-confirmed : (m : Model) (n t a d : ℕ) (on : Bool) (past : Past) → IsOfGroups m n t (if on then confirmed a d else nothing) past
 of-confirmed m n t a d true past = of-confirm m n t a d past
@@ -183,10 +186,9 @@ module _ (z : State) (c : Config) (n t : ℕ) (d : Deed) (past : Past) (groups :
   -- nothing but the groups changed
   pub groups-wrote : StandsAt (record z { groups = groups }) c n (arrival n t ∷ at n t d ∷ past)
   groups-wrote = again (record z { groups = groups }) c n t (at n t d) past (omega arith)
-      (subst (λ rs. StandsAt (record z { rows = rs; groups = groups }) c n (at n t d ∷ past)) (of.rows z.rows)
-      (came-of z c n t d past z.stored z.parts groups of.silent
+      (came-quiet z c n t d past z.stored z.parts groups of.silent of.rows of.controls
       (values.stands-deed z.stored z.stored (configured_model c) t n d past here.values refl (λ x below. ap (λ o. unwrap_or o (attribute z.stored x).held.value) (sym (none x))))
-      (parts-left (configured_model c) n t d past z.parts z.parts (record { note = quiet; cuts = of.cuts }) (λ b q there. (q, there, kept b q)) here.blocks) stand here))
+      (parts-left (configured_model c) n t d past z.parts z.parts (record { note = quiet; cuts = of.cuts }) (λ b q there. (q, there, kept b q)) here.blocks) stand here)
     where
       kept : (b : ℕ) (q : ReportBlock) → record q { block = after_deed b d q.ring.front q.block } ≡ q
       kept b q = ap (λ (k : Block). record q { block = k }) (of.block b q.ring.front q.block)
@@ -261,6 +263,7 @@ module _ (z : State) (served : IsServable z.config) (held : AreHeld z.config z.s
                 block = of.block;
                 silent = of.silent;
                 rows = of.rows;
+                controls = of.controls;
               } in
               let there : All (IsThere z.stored) (active_settings d after) = λ k e within. omega (arith, (typed-after k e within).there, held.count) in
               let stands = stands-set rows z c n t deed (active_settings d after) past stored after changes (subst IsServable config served) (subst (λ q. AreServedSets q z.book) config booked) (subst (λ q. AreHeld q stored) config (held-loaded stored set count))

@@ -35,7 +35,7 @@ pub returns-in-Some-pop-clause-does : goal.returns-in-Some-pop-clause-does
 returns-in-Some-pop-clause-does c = λ c' h was.
     let s = c.self.inside in
     let fit = c.self.invariant.furnished in
-    let z : State = record { config = s.model; steps = s.steps; latest = s.latest; stored = s.values; book = s.sets; parts = s.parts.items; rows = s.associations; groups = s.groups } in
+    let z : State = record { config = s.model; steps = s.steps; latest = s.latest; stored = s.values; book = s.sets; parts = s.parts.items; rows = s.associations.rows; groups = s.groups; controls = s.associations.table } in
     let st = subst (λ (t : State). StandsFor t c' h) (sym c.self.view_is) was in
     let all : HasAll s.model s.values s.sets s.parts.items = record {
       servable = fit.servable;

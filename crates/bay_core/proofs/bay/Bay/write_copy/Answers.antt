@@ -18,7 +18,7 @@ write_se-requires-clause-domain c =
 pub invariant_of-self : goal.invariant_of-self
 invariant_of-self c =
     let s = c.self.inside in
-    let z : State = record { config = s.model; steps = s.steps; latest = s.latest; stored = s.values; book = s.sets; parts = s.parts.items; rows = s.associations; groups = s.groups } in
+    let z : State = record { config = s.model; steps = s.steps; latest = s.latest; stored = s.values; book = s.sets; parts = s.parts.items; rows = s.associations.rows; groups = s.groups; controls = s.associations.table } in
     let whole = c.self.invariant in
     let fit = whole.furnished in
     let there : c.args.place < length s.groups.settings = subst (λ (t : State). c.args.place < length t.groups.settings) (sym c.self.view_is) c.requires.there in
@@ -27,12 +27,13 @@ invariant_of-self c =
       grouped = fit-done z fit.servable fit.values whole.grouped c.args.a.0 c.args.place c.args.value.now there c.write_se.new.self c.write_se.result c.write_se.ensures.answer c.write_se.ensures.set c.write_se.ensures.kept c.requires.sound;
       quiet = whole.quiet;
       roomy = whole.roomy;
+      controls = whole.controls;
     }
 
 pub returns-clause-written : goal.returns-clause-written
 returns-clause-written c =
     let s = c.self.inside in
-    let z : State = record { config = s.model; steps = s.steps; latest = s.latest; stored = s.values; book = s.sets; parts = s.parts.items; rows = s.associations; groups = s.groups } in
+    let z : State = record { config = s.model; steps = s.steps; latest = s.latest; stored = s.values; book = s.sets; parts = s.parts.items; rows = s.associations.rows; groups = s.groups; controls = s.associations.table } in
     let whole = c.self.invariant in
     let fit = whole.furnished in
     let there : c.args.place < length s.groups.settings = subst (λ (t : State). c.args.place < length t.groups.settings) (sym c.self.view_is) c.requires.there in
