@@ -20,7 +20,7 @@ use Rattle.setting_groups.proofs.StandLaws as settings
 use Rattle.assoc_table.specs.Seats.{Row}
 use Rattle.assoc_table.specs.Coming.{Coming, IsComing, nothing_put, came, IsNumbered}
 use Rattle.bay_queues.specs.Queued.{Queued}
-use Rattle.bay_queues.specs.Standing.{Stands as QueuesStand}
+use Rattle.bay_queues.specs.Standing.{Stands as QueuesStand, passed_by}
 use Rattle.bay_queues.proofs.StandLaws as waits
 use Rattle.control_core.specs.Tables.{Table, after_deed}
 use Rattle.window_core.specs.Points.{at}
@@ -48,24 +48,29 @@ queued s = record { rows = s.rows; table = s.controls }
 pub queues-stand : (s : State) (c : Config) (n : ℕ) (past : Past) → StandsAt s c n past → QueuesStand (queued s) (configured_model c) past
 queues-stand s c n past st = record { associations = st.associations; controls = st.controls }
 
--- after a deed of a step that is being made, which puts this and leaves these values, blocks and setting groups
+-- after a deed of a step that is being made, which leaves these queues, values, blocks and setting groups
+pub came-stand : (s : State) (c : Config) (n t : ℕ) (d : Deed) (past : Past) (q : Queued) (stored : List Stored) (parts : List ReportBlock) (groups : Grouped) → QueuesStand q (configured_model c) (at n t d ∷ past) → dynamic (at n t d ∷ past) ≡ dynamic past
+    → ValuesStand stored (configured_model c) (at n t d ∷ past) → BlocksStand (configured_model c) (at n t d ∷ past) parts → GroupsStand groups (configured_model c) (at n t d ∷ past) → StandsAt s c n (arrival n t ∷ past)
+    → StandsAt (record s { stored = stored; parts = parts; rows = q.rows; groups = groups; controls = q.table }) c n (at n t d ∷ past)
+came-stand s c n t d past q stored parts groups wait same values blocks held st = record {
+  is_config = st.is_config;
+  is_steps = st.is_steps;
+  is_latest = st.is_latest;
+  values = values;
+  associations = wait.associations;
+  groups = held;
+  controls = wait.controls;
+  sets = st.sets ∙ ap (λ (all : List DataSet). (configured_model c).sets ++ all) (sym same);
+  configured = st.configured;
+  blocks = blocks;
+}
+
+-- which puts this
 pub came-with : (s : State) (c : Config) (n t : ℕ) (d : Deed) (past : Past) (k : Coming) (stored : List Stored) (parts : List ReportBlock) (groups : Grouped) → IsComing k (configured_model c) n d past → dynamic (at n t d ∷ past) ≡ dynamic past
     → ValuesStand stored (configured_model c) (at n t d ∷ past) → BlocksStand (configured_model c) (at n t d ∷ past) parts → GroupsStand groups (configured_model c) (at n t d ∷ past) → StandsAt s c n (arrival n t ∷ past)
     → StandsAt (record s { stored = stored; parts = parts; rows = came d k s.rows; groups = groups; controls = after_deed d s.controls }) c n (at n t d ∷ past)
-came-with s c n t d past k stored parts groups coming same values blocks held st =
-    let wait = waits.stands-deed (configured_model c) n t d k past (queued s) (queues-stand s c n (arrival n t ∷ past) st) coming in
-    record {
-      is_config = st.is_config;
-      is_steps = st.is_steps;
-      is_latest = st.is_latest;
-      values = values;
-      associations = wait.associations;
-      groups = held;
-      controls = wait.controls;
-      sets = st.sets ∙ ap (λ (all : List DataSet). (configured_model c).sets ++ all) (sym same);
-      configured = st.configured;
-      blocks = blocks;
-    }
+came-with s c n t d past k stored parts groups coming same values blocks held st = came-stand s c n t d past (passed_by d k (queued s)) stored parts groups
+    (waits.stands-deed (configured_model c) n t d k past (queued s) (queues-stand s c n (arrival n t ∷ past) st) coming) same values blocks held st
 
 -- which puts nothing
 pub came-of : (s : State) (c : Config) (n t : ℕ) (d : Deed) (past : Past) (stored : List Stored) (parts : List ReportBlock) (groups : Grouped) → IsSilent (configured_model c) n t d past
