@@ -1,11 +1,11 @@
 -- What a control names under CO stands below its path, and isn't long.
-use Rattle.std.proofs.Common.{◌≡◌, ℕ, ◌≤◌, ◌==◌, Bool, true, false, List, [], ◌∷◌, ◌++◌, length, refl, arith, append_assoc, length-append, if◌then◌else◌}
+use Rattle.std.proofs.Common.{◌≡◌, ℕ, ◌≤◌, ◌==◌, Bool, true, false, List, [], ◌∷◌, ◌++◌, length, refl, ◌∙◌, arith, append_assoc, length-append, if◌then◌else◌}
 use Rattle.std.specs.Prelude.{codes}
 use Rattle.sv_base.specs.declared.config.CtlDef.{CtlDef}
 use Rattle.sv_base.specs.declared.types.TypeOf.{TypeOf}
 use Rattle.sv_base.specs.declared.types.TypeOf.TheVariants as types
 use Rattle.bay_model.specs.Model.{Call, select, operate, cancel, selecting, calling}
-use Rattle.bay_model.specs.Generated.{Named, within, end_named, structure_named, value_names, number_names, check_names, command_names, is_selected, sbo_names, sbow_names, oper_names, cancel_names, control_names}
+use Rattle.bay_model.specs.Generated.{Named, within, structure_named, value_names, number_names, check_names, command_names, is_selected, sbo_names, sbow_names, oper_names, cancel_names, control_names}
 use Rattle.list_laws.proofs.Among.{Among, Each, of-each, each-both}
 
 pub record IsWithin (item : List ℕ) (n : Named) : Type 0 where
@@ -32,8 +32,11 @@ module _ (k : ℕ) (kind : TypeOf) (item name : List ℕ) (few : length name ≤
   check-within operate = (part _ (codes "Check") refl (omega arith), tt)
 
   command-parts : (call : Call) → Each (IsWithin item) (command_names k kind (within item name) call)
-  command-parts call = (own call, each-both (IsWithin item) (value_names kind (within item name)) (number_names (within item name) ++ check_names call (within item name)) values-within
-      (each-both (IsWithin item) (number_names (within item name)) (check_names call (within item name)) numbers-within (check-within call)))
+  command-parts call = (
+    own call,
+    each-both (IsWithin item) (value_names kind (within item name)) (number_names (within item name) ++ check_names call (within item name)) values-within
+        (each-both (IsWithin item) (number_names (within item name)) (check_names call (within item name)) numbers-within (check-within call)),
+  )
 
 either-way : (item : List ℕ) (b : Bool) (ns : List Named) → Each (IsWithin item) ns → Each (IsWithin item) (if b then ns else [])
 either-way item true ns h = h
