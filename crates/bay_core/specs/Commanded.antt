@@ -1,6 +1,6 @@
 -- The calls of controls in a bay (IEC 61850-7-2, SelectWithValue, Operate and Cancel): the single writes of a request, each in its turn, with what is
 -- heard of them.
-use Rattle.std.specs.Prelude.{◌≡◌, ℕ, List, ◌∷◌, map, Option, None}
+use Rattle.std.specs.Prelude.{◌≡◌, ◌+◌, ℕ, suc, List, ◌∷◌, length, map, Option, None}
 use Rattle.std.specs.List.{All}
 use Rattle.sv_base.specs.declared.config.Config.{Config}
 use Rattle.sv_base.specs.declared.numbers.CtlNo.{CtlNo}
@@ -73,6 +73,7 @@ AreTestsOf s a ks = AreTests (record { rows = s.rows; table = s.controls }) a ks
 -- point and the arrival of one more.
 pub record IsSingle (old new : State) (a : ℕ) (before after : Heard) (comes : Model → Past → Outcome) : Type 0 where
   pub kept : IsKept old new
+  pub counted : (length after.codes ≡ suc (length before.codes)) × (after.room ≡ before.room)
   pub tests : AreTestsOf old a before.tests → AreTestsOf new a after.tests
   pub heard : (c : Config) (n t : ℕ) (past : Past) → StandsAt old c n (arrival n t ∷ past)
       → after ≡ heard_with (is_enhanced (configured_model c)) (comes (configured_model c) (arrival n t ∷ past)) before
@@ -82,6 +83,7 @@ pub record IsSingle (old new : State) (a : ℕ) (before after : Heard) (comes : 
 -- the same of several, each after those before it
 pub record AreSingles (old new : State) (a : ℕ) (ss : List Single) (before after : Heard) : Type 0 where
   pub kept : IsKept old new
+  pub counted : (length after.codes ≡ length before.codes + length ss) × (after.room ≡ before.room)
   pub tests : AreTestsOf old a before.tests → AreTestsOf new a after.tests
   pub heard : (c : Config) (n t : ℕ) (past : Past) → StandsAt old c n (arrival n t ∷ past)
       → after ≡ heard_all (is_enhanced (configured_model c)) (outcomes (configured_model c) a n t ss past) before
