@@ -1,6 +1,8 @@
 -- the blocks, and the bay, at the arrival of a point and after a deed
 pub mod PartLaws
 pub mod MoveLaws
+-- controls keep their configurations
+pub mod ControlLaws
 -- all members of a data set, and the arrival of a point
 pub mod AllLaws
 pub mod ArriveLaws

@@ -24,18 +24,21 @@ returns-in_default-clause-does c = λ c' h was.
     closed-for c.args.self.now c.arrive.new.self c.count.new.self c' h c.args.moment c.args.actor c.args.a (subst IsServable config c.self.invariant.furnished.servable) c.requires.number was here c.count.ensures
     (subst (λ (t : State). option_map (λ (e : Ends). e.writer) (row_of t.rows c.args.a.0).ends ≡ None) c.self.view_is (sym c.writer.ensures ∙ c.in_default.is))
 
+pub invariant_of-self : goal.invariant_of-self
+invariant_of-self c = whole-taken c.self.inside c.self.invariant c.in-Ok-Some.ensures.left
+
 pub take_report-requires-clause-empty : goal.take_report-requires-clause-empty
 take_report-requires-clause-empty c =
-    let rows = c.self.inside.associations in
+    let q = c.self.inside.associations in
     let a = c.args.a.0 in
-    let left : c.pop.new.self ≡ rows = c.in-None.ensures.left in
-    ap (λ (rs : List Row). (row_of rs a).waiting) left ∙ none-waits rows a (sym c.pop.ensures.value ∙ ap (option_map Reply) c.in-None.is)
+    let empty = none-waits q a c.requires.number c.take.ensures.queued (rw c.in-Ok-None.field-0-is at c.in-Ok-None.ensures.value) in
+    ap (λ (p : Queued). (row_of p.rows a).waiting) c.in-Ok-None.ensures.left ∙ (ap (λ (o : Option Waiting). (row_of (rows_left o a q.rows) a).waiting) (ap (λ (l : List Waiting). slice_get l 0) empty) ∙ empty)
 
-pub returns-in-Some-pop-clause-does : goal.returns-in-Some-pop-clause-does
-returns-in-Some-pop-clause-does c = λ c' h was.
+pub returns-in-Ok-Some-clause-does : goal.returns-in-Ok-Some-clause-does
+returns-in-Ok-Some-clause-does c = λ c' h was.
     let s = c.self.inside in
     let fit = c.self.invariant.furnished in
-    let z : State = record { config = s.model; steps = s.steps; latest = s.latest; stored = s.values; book = s.sets; parts = s.parts.items; rows = s.associations; groups = s.groups } in
+    let z : State = record { config = s.model; steps = s.steps; latest = s.latest; stored = s.values; book = s.sets; parts = s.parts.items; rows = s.associations.rows; groups = s.groups; controls = s.associations.table } in
     let st = subst (λ (t : State). StandsFor t c' h) (sym c.self.view_is) was in
     let all : HasAll s.model s.values s.sets s.parts.items = record {
       servable = fit.servable;
@@ -44,8 +47,8 @@ returns-in-Some-pop-clause-does c = λ c' h was.
       members = have-members s.model (node_rows s.model) s.values s.sets s.parts.items s.watch s.octets (vec_capacity s.changes) refl fit;
     } in
     let here = arrives z c' (length h) c.args.moment (points (configured_model c') h) all st.1 in
-    let first = sym c.pop.ensures.value ∙ ap (option_map Reply) c.in-Some-pop.is in
-    let taken_ : c.pop.new.self ≡ taken s.associations c.args.a.0 = c.in-Some-pop.ensures.left in
-    let behind = c.give.ensures.state ∙ ap (λ (rs : List Row). record (at_arrival c.args.moment z) { steps = suc s.steps; rows = rs }) taken_ in
-    let took = took-for z (at_arrival c.args.moment z) c.give.new.self c' h c.args.moment c.args.actor c.args.a c.in-Some-pop.output c.in-Some.writer c.requires.number st (sym c.writer.ensures ∙ c.in-Some.is) c.if-actor-writer.false first here behind in
+    let left : c.take.new.self ≡ after_take c.args.a.0 s.associations = c.in-Ok-Some.ensures.left in
+    let behind = c.give.ensures.state ∙ ap (λ (q : Queued). record (at_arrival c.args.moment (record z { rows = q.rows; controls = q.table })) { steps = suc s.steps }) left in
+    let took = took-for z c.give.new.self c' h c.args.moment c.args.actor c.args.a c.in-Ok-Some.output c.in-Some.writer c.requires.number st c.take.ensures.queued (sym c.writer.ensures ∙ c.in-Some.is) c.if-actor-writer.false here behind
+    (rw c.in-Ok-Some.field-0-is at c.in-Ok-Some.ensures.value) in
     (c.give.ensures.answer ∙ took.0, took.1)

@@ -14,4 +14,4 @@ take_quiet-requires-clause-quiet c =
     let before : AreBefore now s.dues = subst (λ k. AreBefore k s.dues) c.later.ensures (c.have_come.ensures c.if-have_come.false) in
     let stay = none-arrives s.latest now (omega arith) s.dues before (node_rows s.model) s.sets s.values s.steps s.parts.items c.self.invariant.quiet in
     subst (λ (t : State). at_arrival c.args.moment t ≡ record t { latest = max t.latest c.args.moment }) c.self.view_is
-    (ap (λ (ps : List ReportBlock). record { config = s.model; steps = s.steps; latest = now; stored = s.values; book = s.sets; parts = ps; rows = s.associations; groups = s.groups }) stay)
+    (ap (λ (ps : List ReportBlock). record { config = s.model; steps = s.steps; latest = now; stored = s.values; book = s.sets; parts = ps; rows = s.associations.rows; groups = s.groups; controls = s.associations.table }) stay)
