@@ -1,6 +1,6 @@
 -- The calls of controls in a bay (IEC 61850-7-2, SelectWithValue, Operate and Cancel): the single writes of a request, each in its turn, with what is
 -- heard of them.
-use Rattle.std.specs.Prelude.{◌≡◌, ◌+◌, ℕ, suc, List, ◌∷◌, length, map, Option, None}
+use Rattle.std.specs.Prelude.{◌≡◌, ◌+◌, ℕ, suc, Bool, List, ◌∷◌, length, map, Option, None}
 use Rattle.std.specs.List.{All}
 use Rattle.sv_base.specs.declared.config.Config.{Config}
 use Rattle.sv_base.specs.declared.numbers.CtlNo.{CtlNo}
@@ -16,14 +16,17 @@ use Rattle.bay_model.specs.Lookups.{control_of, node_of}
 use Rattle.bay_model.specs.Model.{Model, Role, calling}
 use Rattle.bay_model.specs.Named.{configured_model}
 use Rattle.bay_model.specs.Outcomes.{Outcome, deed_of}
-use Rattle.bay_model.specs.Points.{Past}
+use Rattle.bay_model.specs.Points.{Past, finished, blocked}
 use Rattle.bay_model.specs.Singles.{Single, arrival, outcomes, after_singles}
 use Rattle.object_names.specs.declared.named.Call.{Call as Node}
 use Rattle.object_names.specs.declared.named.Call.TheVariants as nodes
+use Rattle.control_core.specs.Controls.{due}
+use Rattle.control_core.specs.Tables.{after_deed, control_at}
 use Rattle.control_core.specs.declared.command.Call.{Call}
 use Rattle.control_core.specs.declared.command.Call.TheVariants as calls
 use Rattle.bay_queues.specs.Calling.{AreTests, blame_of}
 use Rattle.bay_queues.specs.Heard.{Heard, heard_with, heard_all}
+use Rattle.bay_queues.specs.Taken.{put_rows}
 use Rattle.window_core.specs.Points.{at}
 use Rattle.bay_core.specs.Asked.{IsKept}
 use Rattle.bay_core.specs.Standing.{StandsAt}
@@ -89,3 +92,15 @@ pub record AreSingles (old new : State) (a : ℕ) (ss : List Single) (before aft
       → after ≡ heard_all (is_enhanced (configured_model c)) (outcomes (configured_model c) a n t ss past) before
   pub stands : (c : Config) (n t : ℕ) (past : Past) → StandsAt old c n (arrival n t ∷ past)
       → StandsAt new c n (arrival n t ∷ after_singles (configured_model c) a n t ss past)
+
+-- ---- the process
+
+-- what a control executes was ended: the termination is put where one is due
+abbrev pub after_end : CtlNo → Bool → State → State
+after_end k good s = record s {
+  rows = put_rows (due (control_at s.controls.controls k.0).execution) k good s.rows;
+  controls = after_deed (finished k.0 good) s.controls;
+}
+
+abbrev pub after_block : CtlNo → Bool → State → State
+after_block k flag s = record s { controls = after_deed (blocked k.0 flag) s.controls }

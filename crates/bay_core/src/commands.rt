@@ -25,7 +25,7 @@ fn call_of(node: Node) -> Call
 }
 
 impl Bay {
-    ghost use Rattle.std.specs.Prelude.{◌≡◌, ◌<◌, ◌^◌, true, length, map, IfOk};
+    ghost use Rattle.std.specs.Prelude.{◌≡◌, ◌<◌, ◌^◌, ℕ, true, length, map, Some, IfOk};
     ghost use Rattle.std.specs.List.{All};
     ghost use Rattle.sv_base.specs.declared.numbers.NodeId.{NodeId as NodeNo};
     ghost use Rattle.bay_model.specs.declared.step.Step.TheVariants as steps;
@@ -35,7 +35,10 @@ impl Bay {
     ghost use Rattle.assoc_table.specs.Tables.{IsNumber};
     ghost use Rattle.object_model.specs.Fits.{is_sound};
     ghost use Rattle.bay_core.specs.Asked.{AreFit, IsFit};
-    ghost use Rattle.bay_core.specs.Commanded.{blame_at, blame_to, IsSingle};
+    ghost use Rattle.control_core.specs.Controls.{due};
+    ghost use Rattle.control_core.specs.Tables.{control_at};
+    ghost use Rattle.bay_queues.specs.Queued.{IsQueued};
+    ghost use Rattle.bay_core.specs.Commanded.{after_block, after_end, blame_at, blame_to, IsSingle};
     ghost use Rattle.bay_core.specs.Turns.{Does, IsCounted, KeepsLean};
 
     /// The LastApplError that the write of a node would have, without its AddCause; none where it isn't a command, or the value isn't of
@@ -112,6 +115,24 @@ impl Bay {
         }
     }
 
+    /// What a control executes ends, at the moment that time has come to. It takes no memory.
+    fn end_execution(&mut self, control: CtlNo, good: bool)
+        requires { control.0 < length self.old.config.controls }
+        ensures state { self.new ≡ after_end control good self.old }
+        ensures queued { IsQueued self.old.rows self.old.controls }
+        ensures number { (a : ℕ) → due (control_at self.old.controls.controls control.0).execution ≡ Some a → IsNumber a }
+    {
+        self.associations.done(control, good);
+    }
+
+    /// A control is blocked or unblocked. It takes no memory.
+    fn block(&mut self, control: CtlNo, on: bool)
+        requires { control.0 < length self.old.config.controls }
+        ensures { self.new ≡ after_block control on self.old }
+    {
+        self.associations.block(control, on);
+    }
+
     /// The process ends what a control executes (IEC 61850-7-2, CommandTermination). It takes no memory.
     pub(crate) fn end_command(
         &mut self,
@@ -127,7 +148,7 @@ impl Bay {
         ensures lean { KeepsLean (steps.Done control good) result }
     {
         self.arrive(moment);
-        self.associations.done(control, good);
+        self.end_execution(control, good);
         self.count();
         Ok(Answer::Went)
     }
@@ -147,7 +168,7 @@ impl Bay {
         ensures lean { KeepsLean (steps.Block control on) result }
     {
         self.arrive(moment);
-        self.associations.block(control, on);
+        self.block(control, on);
         self.count();
         Ok(Answer::Went)
     }

@@ -127,7 +127,8 @@ impl Bay {
             What::Component(b, comp) => self.write_at_arrival(a, BlockNo(b), comp, value),
             What::Setting(domain, part) => self.write_part(a, domain, part, value),
             What::Selecting(_) => Err(selecting_code(value)),
-            What::Structure | What::Withheld => Err(3),
+            What::Structure => Err(3),
+            What::Withheld => Err(3),
             What::Calling(..) => unreachable!(),
         }
     }
