@@ -1,8 +1,9 @@
 -- A request is answered, and its reply waits with the terminations of its tests behind it.
 use Rattle.std.proofs.Common.{◌≡◌, ◌∙◌, ℕ, suc, true, false, List, [], ◌∷◌, ◌++◌, map, Option, None, Some, Result, Ok, Err, length, refl, ap, ap₂, sym, subst, arith, unwrap_or}
-use Rattle.std.specs.Prelude.{◌==◌, ◌<◌, nat_le, slice_index_or, if◌then◌else◌}
+use Rattle.std.specs.Prelude.{◌==◌, nat_le, if◌then◌else◌}
 use Rattle.std.specs.Option.{option_map, option_map_or}
 use Rattle.std.specs.List.{All}
+use Rattle.std.proofs.lemmas.List.Elements.{All-head, All-tail}
 use Rattle.list_laws.proofs.Places.{equal-number}
 use Rattle.sv_base.specs.declared.config.Config.{Config}
 use Rattle.sv_base.specs.declared.numbers.ActorNo.{ActorNo}
@@ -102,9 +103,9 @@ singles-stand z c a n t (s ∷ ss) past are here =
     let st = subst (λ (e : Deed). StandsAt z c n (at n t e ∷ past)) (sym (still-single m a s (arrival n t ∷ past) are.0)) here in
     singles-stand z c a n t ss (at n t d ∷ past) are.1 (again z c n t (at n t d) past (omega arith) st)
 
-still-nodes : (c : Config) (ns : List ℕ) → ((k d : ℕ) → k < length ns → IsMember c (slice_index_or ns k d)) → AreStill (configured_model c) (map reads ns)
+still-nodes : (c : Config) (ns : List ℕ) → All (IsMember c) ns → AreStill (configured_model c) (map reads ns)
 still-nodes c [] all = tt
-still-nodes c (n ∷ ns) all = (member-plain c n (all 0 n (omega arith)).allowed, still-nodes c ns (λ k d below. all (suc k) d (omega (arith, below))))
+still-nodes c (n ∷ ns) all = (member-plain c n (All-head (IsMember c) n ns all).allowed, still-nodes c ns (All-tail (IsMember c) n ns all))
 
 -- the data sets of the book are those of the past
 pub served-sets : (s : State) (c : Config) (n : ℕ) (past : Past) → AreServedSets s.config s.book → StandsAt s c n past → All (IsServedSet c) (sets (configured_model c) past)
