@@ -12,12 +12,12 @@ use Rattle.bay_model.specs.declared.components.SettingComp.TheVariants.{NumOfSG,
 use Rattle.bay_model.specs.declared.flags.Change.{Change}
 use Rattle.bay_model.specs.declared.report.Reasons.{Reasons}
 use Rattle.bay_model.specs.declared.tables.NodeRow.{NodeRow}
-use Rattle.bay_model.specs.Attributes.{attributes}
 use Rattle.bay_model.specs.Breaks.{cuts}
 use Rattle.bay_model.specs.Lookups.{attr_of, groups_of, node_of}
 use Rattle.bay_model.specs.Model as model
 use Rattle.bay_model.specs.Model.{Model}
 use Rattle.bay_model.specs.Named.{configured_model}
+use Rattle.bay_model.specs.NamedLines.{generated}
 use Rattle.bay_model.specs.Notes.{note, note_by, noted, no_reason, reasons_of, union, union_of}
 use Rattle.bay_model.specs.Outcomes.{Outcome, did, refused, outcome_by}
 use Rattle.bay_model.specs.Parameters.{bit, is_interrogation, is_purging_change, parameters_at, purges}
@@ -280,8 +280,8 @@ module _ (z : State) (served : IsServable z.config) (held : AreHeld z.config z.s
     abbrev number : ℕ
     number = copies_from z.stored z.groups + k
 
-    behind-others : copies_from z.stored z.groups + length z.groups.settings ≡ length (attributes z.config)
-    behind-others = omega (arith, held.count, settings-count z.config z.groups fit.framed)
+    copies-are : copies_from z.stored z.groups ≡ length z.config.attrs + length (generated z.config)
+    copies-are = omega (arith, held.count, settings-count z.config z.groups fit.framed)
 
     abbrev copy_comes : Model → Past → Outcome
     copy_comes m past = write_attribute m a number v (attr_of m number).access past
@@ -291,11 +291,10 @@ module _ (z : State) (served : IsServable z.config) (held : AreHeld z.config z.s
 
     copy-came : (c : Config) (n t : ℕ) (past : Past) → StandsAt z c n (arrival n t ∷ past) → copy_comes (configured_model c) (arrival n t ∷ past) ≡ outcome_by answer (copied a (setting_at z.groups k).attr v)
     copy-came c n t past here =
-        let from = copies_from z.stored z.groups in
-        ap (λ access. write_attribute (configured_model c) a number v access (arrival n t ∷ past))
-        (subst (λ (q : Config). (attr_of (configured_model q) number).access ≡ model.edited) here.is_config (twin-edited z.config z.groups fit.framed from k behind-others within))
-        ∙ copy-written (configured_model c) z.groups a k number v (arrival n t ∷ past) here.groups within
-        (subst (λ (q : Config). IsTwin (configured_model q) number (setting_at z.groups k)) here.is_config (is-twin z.config z.groups fit.framed from k behind-others within))
+        let edited_ : (attr_of (configured_model z.config) number).access ≡ model.edited = subst (λ f. (attr_of (configured_model z.config) (f + k)).access ≡ model.edited) (sym copies-are) (twin-edited z.config z.groups fit.framed k within) in
+        let twin = subst (λ f. IsTwin (configured_model z.config) (f + k) (setting_at z.groups k)) (sym copies-are) (is-twin z.config z.groups fit.framed k within) in
+        ap (λ access. write_attribute (configured_model c) a number v access (arrival n t ∷ past)) (subst (λ (q : Config). (attr_of (configured_model q) number).access ≡ model.edited) here.is_config edited_)
+        ∙ copy-written (configured_model c) z.groups a k number v (arrival n t ∷ past) here.groups within (subst (λ (q : Config). IsTwin (configured_model q) number (setting_at z.groups k)) here.is_config twin)
 
     pub copy-refused : (code : ℕ) → Err code ≡ answer → IsWrite z z copy_comes (Err code)
     copy-refused code is = by-outcome z z copy_comes (λ m past. refused code) (Err code) (λ c n t past here. copy-came c n t past here ∙ ap (λ r. outcome_by r (copied a (setting_at z.groups k).attr v)) (sym is)) (refused-write z code)

@@ -1,20 +1,23 @@
 use Rattle.std.proofs.Common.{◌≡◌, ◌∙◌, List, None, suc, length, refl, sym, subst, ap, vec_capacity}
+use Rattle.std.specs.Prelude.{Option, slice_get}
 use Rattle.std.specs.Option.{option_map}
 use Rattle.bay_model.specs.Answers.{points}
 use Rattle.bay_model.specs.Named.{configured_model}
 use Rattle.assoc_table.specs.declared.waiting.Ends.{Ends}
+use Rattle.assoc_table.specs.declared.waiting.Waiting.{Waiting}
+use Rattle.assoc_table.specs.Tables.{row_of}
 use Rattle.object_model.specs.Nodes.{node_rows}
-use Rattle.assoc_table.specs.declared.waiting.Waiting.TheVariants.{Reply}
-use Rattle.assoc_table.specs.Seats.{Row}
-use Rattle.assoc_table.specs.Tables.{row_of, taken}
 use Rattle.bay_config.specs.Servable.{IsServable}
+use Rattle.bay_queues.specs.Queued.{Queued, configs}
+use Rattle.bay_queues.specs.Taken.{after_take, oldest, rows_left}
 use Rattle.bay_core.specs.Standing.{StandsFor}
 use Rattle.bay_core.specs.State.{State}
 use Rattle.bay_core.specs.Timed.{at_arrival}
 use Rattle.bay_core.proofs.ArriveLaws.{HasAll, arrives}
+use Rattle.bay_core.proofs.ControlLaws.{configs-left}
 use Rattle.bay_core.proofs.QueueLaws.{none-waits}
 use Rattle.bay_core.proofs.SettingLaws.{have-members}
-use Rattle.bay_core.proofs.TakenLaws.{closed-for, took-for}
+use Rattle.bay_core.proofs.TakenLaws.{closed-for, took-for, take-fine}
 use Rattle.bay_core.proofs.bay.Bay.take.Goals as goal
 
 pub returns-in_default-clause-does : goal.returns-in_default-clause-does
@@ -25,7 +28,16 @@ returns-in_default-clause-does c = λ c' h was.
     (subst (λ (t : State). option_map (λ (e : Ends). e.writer) (row_of t.rows c.args.a.0).ends ≡ None) c.self.view_is (sym c.writer.ensures ∙ c.in_default.is))
 
 pub invariant_of-self : goal.invariant_of-self
-invariant_of-self c = whole-taken c.self.inside c.self.invariant c.in-Ok-Some.ensures.left
+invariant_of-self c =
+    let w = c.self.invariant in
+    let q = c.self.inside.associations in
+    record {
+      furnished = w.furnished;
+      grouped = w.grouped;
+      quiet = w.quiet;
+      roomy = w.roomy;
+      controls = ap (λ (p : Queued). configs p.table) c.in-Ok-Some.ensures.left ∙ (configs-left (oldest c.args.a.0 q) q.table ∙ w.controls);
+    }
 
 pub take_report-requires-clause-empty : goal.take_report-requires-clause-empty
 take_report-requires-clause-empty c =
@@ -52,3 +64,11 @@ returns-in-Ok-Some-clause-does c = λ c' h was.
     let took = took-for z c.give.new.self c' h c.args.moment c.args.actor c.args.a c.in-Ok-Some.output c.in-Some.writer c.requires.number st c.take.ensures.queued (sym c.writer.ensures ∙ c.in-Some.is) c.if-actor-writer.false here behind
     (rw c.in-Ok-Some.field-0-is at c.in-Ok-Some.ensures.value) in
     (c.give.ensures.answer ∙ took.0, took.1)
+
+pub returns-in-Err-clause-does : goal.returns-in-Err-clause-does
+returns-in-Err-clause-does c =
+    let s = c.self.inside in (
+      ap (λ (q : Queued). record { config = s.model; steps = s.steps; latest = s.latest; stored = s.values; book = s.sets; parts = s.parts.items; rows = q.rows; groups = s.groups; controls = q.table }) c.in-Err.ensures.kept ∙ c.self.view_is,
+      λ c' h was. take-fine c.args.self.now c' h c.args.moment c.args.actor c.args.a c.in-Some.writer c.requires.number was
+          (ap (λ (t : State). option_map (λ (e : Ends). e.writer) (row_of t.rows c.args.a.0).ends) (sym c.self.view_is) ∙ (sym c.writer.ensures ∙ c.in-Some.is)) c.if-actor-writer.false,
+    )
