@@ -16,9 +16,8 @@ use Rattle.bay_model.specs.Lookups.{control_of, node_of}
 use Rattle.bay_model.specs.Model.{Call, Control, Role, single, selecting, calling, several}
 use Rattle.bay_model.specs.Named.{configured_model}
 use Rattle.control_core.specs.Commands.{call_in}
-use Rattle.control_core.specs.Tables.{Table, no_control}
+use Rattle.control_core.specs.Tables.{no_control}
 use Rattle.bay_queues.specs.Calling.{blame_in, blame_of}
-use Rattle.bay_queues.specs.Queued.{configs}
 use Rattle.bay_core.specs.Commanded.{IsNoCommand, blame_at, blame_by, call_seen}
 
 -- a call of the code is one of the model
@@ -34,11 +33,10 @@ control-at (c ∷ cs) (suc k) = control-at cs k
 
 module _ (c : Config) (n : ℕ) (v : Value) where
   -- the blame of a command
-  pub blame-told : (t : Table) (k : ℕ) (call : Node) → configs t ≡ map control_defined c.controls → role_seen (whats.Calling k call) ≡ (node_of (configured_model c) n).role → blame_in (configs t) k (call_in (call_seen call)) v ≡ blame_at c n v
-  blame-told t k call same role =
-      ap (λ (cs : List Control). blame_in cs k (call_in (call_seen call)) v) same
-      ∙ (ap (λ (q : Control). blame_of q (call_in (call_seen call)) v) (control-at (map control_defined c.controls) k)
-      ∙ (ap (λ (q : Call). blame_of (control_of (configured_model c) k) q v) (calls-same call) ∙ ap (λ (r : Role). blame_by c r v) role))
+  pub blame-told : (k : ℕ) (call : Node) → role_seen (whats.Calling k call) ≡ (node_of (configured_model c) n).role → blame_in (map control_defined c.controls) k (call_in (call_seen call)) v ≡ blame_at c n v
+  blame-told k call role =
+      ap (λ (q : Control). blame_of q (call_in (call_seen call)) v) (control-at (map control_defined c.controls) k)
+      ∙ (ap (λ (q : Call). blame_of (control_of (configured_model c) k) q v) (calls-same call) ∙ ap (λ (r : Role). blame_by c r v) role)
 
 -- what isn't one has none
 plain-role : (w : What) → ((k : ℕ) (call : Node) → w ≡ whats.Calling k call → ⊥) → IsNoCommand (role_seen w)

@@ -13,7 +13,7 @@ use Rattle.bay_model.specs.declared.request.Target.{Target}
 use Rattle.bay_model.specs.declared.request.Target.TheVariants as targets
 use Rattle.bay_model.specs.Controls.{is_enhanced}
 use Rattle.bay_model.specs.Lookups.{control_of, node_of}
-use Rattle.bay_model.specs.Model.{Model, Role, calling}
+use Rattle.bay_model.specs.Model.{Model, Role, Call as Calling, calling}
 use Rattle.bay_model.specs.Named.{configured_model}
 use Rattle.bay_model.specs.Outcomes.{Outcome, deed_of}
 use Rattle.bay_model.specs.Points.{Past, finished, blocked}
@@ -24,7 +24,7 @@ use Rattle.control_core.specs.Controls.{due}
 use Rattle.control_core.specs.Tables.{after_deed, control_at}
 use Rattle.control_core.specs.declared.command.Call.{Call}
 use Rattle.control_core.specs.declared.command.Call.TheVariants as calls
-use Rattle.bay_queues.specs.Calling.{AreTests, blame_of}
+use Rattle.bay_queues.specs.Calling.{AreTests, blame_of, outcome_at}
 use Rattle.bay_queues.specs.Heard.{Heard, heard_with, heard_all}
 use Rattle.bay_queues.specs.Taken.{put_rows}
 use Rattle.window_core.specs.Points.{at}
@@ -71,6 +71,10 @@ CallsNothing _ = Unit {0}
 -- the terminations of a's tests of these controls are due, and don't wait yet
 abbrev pub AreTestsOf : State → ℕ → List CtlNo → Type 0
 AreTestsOf s a ks = AreTests (record { rows = s.rows; table = s.controls }) a ks
+
+-- after a call
+abbrev pub after_call : ℕ → ℕ → Calling → Value → State → State
+after_call a k call v s = record s { controls = after_deed (deed_of (outcome_at s.controls a k call v)) s.controls }
 
 -- A single write of a from the state at its arrival, of which this comes by the definitions: it is heard, and the new state stands for its
 -- point and the arrival of one more.
