@@ -28,7 +28,12 @@ invariant_of-self-in_default c =
     let below : c.args.c.0 < length c.self.inside.controls.controls = subst (λ (q : Queued). c.args.c.0 < length q.table.controls) (sym c.self.view_is) c.requires in
     subst (λ u. IsQueued c.self.inside.associations u) (sym c.done.ensures.left) (queued-still c.self.inside.associations c.self.inside.controls c.args.c c.args.good below c.self.invariant)
 
-pub returns-clause-number : goal.returns-clause-number
-returns-clause-number c = λ x some.
+pub returns-in-Some-clause-number : goal.returns-in-Some-clause-number
+returns-in-Some-clause-number c = λ x some.
+    number-told c.done.result (due (control_at c.args.self.now.table.controls c.args.c.0).execution)
+    (c.done.ensures.due ∙ ap (λ (q : Queued). due (control_at q.table.controls c.args.c.0).execution) c.self.view_is) c.done.ensures.number x some
+
+pub returns-in_default-clause-number : goal.returns-in_default-clause-number
+returns-in_default-clause-number c = λ x some.
     number-told c.done.result (due (control_at c.args.self.now.table.controls c.args.c.0).execution)
     (c.done.ensures.due ∙ ap (λ (q : Queued). due (control_at q.table.controls c.args.c.0).execution) c.self.view_is) c.done.ensures.number x some
