@@ -13,6 +13,10 @@ pub mod HeardLaws
 pub mod UncalledLaws
 pub mod AskLaws
 pub mod CameLaws
+-- reads of variables
+pub mod IdleLaws
+pub mod TurnLaws
+pub mod ReadLaws
 pub mod LentLaws
 -- names of data sets
 pub mod NameLaws

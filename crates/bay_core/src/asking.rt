@@ -67,10 +67,15 @@ impl Bay {
     ghost use Rattle.bay_core.specs.Asked.{AreMembersFit, AreWritten, IsAnswered, IsReplied, IsReplyAt, IsKept, members_of, node_numbers, set_members};
     ghost use Rattle.bay_core.specs.Came.{IsCome, put_after};
     ghost use Rattle.bay_core.specs.Commanded.{AreNoCommands, AreTestsOf, CallsNothing};
+    ghost use Rattle.bay_core.specs.Turned.{IsLent};
     ghost use Rattle.bay_core.specs.Turns.{Does, IsCounted};
 
     /// What a reply is made of, as of the arrival of a step at a moment.
-    pub(crate) fn replies(&self, moment: Moment) -> Replies<'_> {
+    pub(crate) fn replies(&self, moment: Moment) -> Replies<'_>
+        ensures { IsLent result self.now moment }
+    {
+        // no moment lies above the last that a step can have
+        let _last = self.latest.ms();
         Replies {
             model: &self.model,
             store: self.values.store(),
