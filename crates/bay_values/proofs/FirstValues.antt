@@ -98,9 +98,13 @@ parameters-sound k h t = by (is_selected k)
     timeout : IsSoundCell (record { value = kinds.Uint k.timeout; kind = uint 32 })
     timeout = record { kind = refl; range = in-word (2 ^ 32) k.timeout t; sound = refl }
 
+    selected : All IsSoundStored (map stored_parameter (selection k))
+    selected = All-cons IsSoundStored (record { held = record { value = kinds.Uint k.timeout; kind = uint 32 }; is_writable = false }) (record { held = record { value = kinds.Int (pos k.class); kind = int 8 }; is_writable = false } ∷ []) timeout
+        (All-cons IsSoundStored (record { held = record { value = kinds.Int (pos k.class); kind = int 8 }; is_writable = false }) [] (number k.class (omega (arith, h.1))) (All-nil IsSoundStored))
+
     by : (b : Bool) → All IsSoundStored (map stored_parameter (model_of k ∷ (if b then selection k else [])))
-    by true = All-cons IsSoundStored _ _ (number k.model h.0) (All-cons IsSoundStored _ _ timeout (All-cons IsSoundStored _ _ (number k.class (omega (arith, h.1))) (All-nil IsSoundStored)))
-    by false = All-cons IsSoundStored _ _ (number k.model h.0) (All-nil IsSoundStored)
+    by true = All-cons IsSoundStored (stored_parameter (model_of k)) (map stored_parameter (selection k)) (number k.model h.0) selected
+    by false = All-cons IsSoundStored (stored_parameter (model_of k)) [] (number k.model h.0) (All-nil IsSoundStored)
 
 controls-sound : (ks : List CtlDef) → All (λ (k : CtlDef). (k.model ≤ 4) × (k.class ≤ 1)) ks → All (λ (k : CtlDef). k.timeout < 2 ^ 32) ks → All IsSoundStored (flat_map stored_control ks)
 controls-sound [] h t = All-nil IsSoundStored

@@ -1,6 +1,7 @@
 -- Below a functional constraint of a logical node stand the attributes of it, and the setting group block of its domain.
 use Rattle.std.proofs.Common.{◌≡◌, ℕ, ◌+◌, ◌<◌, ◌≤◌, ◌==◌, ◌⊎◌, inl, inr, true, false, List, [], ◌∷◌, ◌++◌, length, map, flat_map, refl, sym, ap, subst, ◌∙◌, arith, append_assoc, append-nil, suc, true≢false, length-append}
 use Rattle.std.specs.Prelude.{codes}
+use Rattle.std.specs.Str.{bytes_eq}
 use Rattle.std.proofs.lemmas.Bool.Decides.{eqb_tells, nat_tests}
 use Rattle.std.proofs.lemmas.List.{length-map}
 use Rattle.sv_base.specs.declared.config.Config.{Config}
@@ -85,7 +86,7 @@ clash c told a i g j d l f p = at (either a c.attrs (flat_map parameter_attrs c.
 
     -- those of a control stand under CF
     never : codes "CF" ≡ codes "SP" → ⊥
-    never e = cc
+    never e = true≢false (ap (λ x. bytes_eq (codes "CF") x) e)
 
     at : Among a c.attrs ⊎ Among a (flat_map parameter_attrs c.controls) → ⊥
     at (inl k) = by (told.groups g j a k) (split-at a.path)

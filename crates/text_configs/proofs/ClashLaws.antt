@@ -3,8 +3,7 @@ use Rattle.std.proofs.Common.{◌≡◌, ℕ, ◌⊎◌, false, inl, inr, List, 
 use Rattle.std.specs.Prelude.{codes}
 use Rattle.sv_base.specs.declared.config.AttrDef.{AttrDef}
 use Rattle.sv_base.specs.declared.config.SgDef.{SgDef}
-use Rattle.cfg_lines.specs.Paths.{item_key, is_taken}
-use Rattle.cfg_lines.specs.Before.{domain_of, node_of}
+use Rattle.cfg_lines.specs.Paths.{is_taken}
 use Rattle.cfg_lines.specs.Claims.{claims, group_key}
 use Rattle.cfg_lines.specs.Configs.{config_of}
 use Rattle.cfg_grammar.specs.Texts.{AreLines}

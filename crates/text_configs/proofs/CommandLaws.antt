@@ -1,11 +1,11 @@
 -- What a control names under CO stands below its path, and isn't long.
-use Rattle.std.proofs.Common.{◌≡◌, ℕ, ◌≤◌, ◌==◌, Bool, true, false, List, [], ◌∷◌, ◌++◌, length, refl, arith, append_assoc, length-append, if◌then◌else◌}
+use Rattle.std.proofs.Common.{◌≡◌, ℕ, ◌≤◌, ◌==◌, Bool, true, false, List, [], ◌∷◌, ◌++◌, length, refl, ◌∙◌, arith, append_assoc, length-append, if◌then◌else◌}
 use Rattle.std.specs.Prelude.{codes}
 use Rattle.sv_base.specs.declared.config.CtlDef.{CtlDef}
 use Rattle.sv_base.specs.declared.types.TypeOf.{TypeOf}
 use Rattle.sv_base.specs.declared.types.TypeOf.TheVariants as types
 use Rattle.bay_model.specs.Model.{Call, select, operate, cancel, selecting, calling}
-use Rattle.bay_model.specs.Generated.{Named, within, end_named, structure_named, value_names, number_names, check_names, command_names, is_selected, sbo_names, sbow_names, oper_names, cancel_names, control_names}
+use Rattle.bay_model.specs.Generated.{Named, within, structure_named, value_names, number_names, check_names, command_names, is_selected, sbo_names, sbow_names, oper_names, cancel_names, control_names}
 use Rattle.list_laws.proofs.Among.{Among, Each, of-each, each-both}
 
 pub record IsWithin (item : List ℕ) (n : Named) : Type 0 where

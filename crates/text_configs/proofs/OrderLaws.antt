@@ -18,7 +18,7 @@ use Rattle.bay_model.specs.ComponentTable.{comp_name, components, comp_kind, set
 use Rattle.bay_rooms.specs.Kinds.{type_of}
 use Rattle.bay_model.specs.NamedLines.{Line, is_setting, path_item, attribute_names, attribute_line, attribute_lines, node_line, block_line, block_lines, control_line, control_lines, group_line, domain_number, generated, lines, insert_line, in_order, names_in}
 use Rattle.bay_model.specs.NameTree.{longest}
-use Rattle.list_laws.proofs.Among.{Among, At, at-among, at-left, at-map, mapped, left, right, either, source, kept, passed, spread, gathered}
+use Rattle.list_laws.proofs.Among.{Among, At, at-among, at-left, at-map, left, right, either, source, kept, passed, spread, gathered}
 use Rattle.text_configs.proofs.NamedLaws.{bytes-same}
 use Rattle.text_configs.proofs.ParameterLaws.{parameter_attr, parameter_attrs, all_attrs, at-either, at-right, at-source}
 use Rattle.text_configs.proofs.CommandLaws.{IsWithin, command-within}
@@ -129,7 +129,7 @@ control-of (c ∷ ks) k x l (inr i) = let h = control-of ks (k + 1) (x + length 
   is = h.is ∙ ap (λ y. control_line h.number y h.control) (omega (arith, length-map (parameters c) (parameter_attr c)));
 }
 
-parameter-of : (x : ℕ) (item : List ℕ) (ps : List Parameter) (n : Named) → Among n (parameter_names x item ps) → (m : ℕ) (p : Parameter) × At m p ps × (n ≡ end_named (within item p.name) (attribute (x + m)) p.kind)
+parameter-of : (x : ℕ) (item : List ℕ) (ps : List Parameter) (n : Named) → Among n (parameter_names x item ps) → (m : ℕ) × (p : Parameter) × At m p ps × (n ≡ end_named (within item p.name) (attribute (x + m)) p.kind)
 parameter-of x item [] n i = absurd i
 parameter-of x item (p ∷ ps) n (inl e) = (0, p, refl, e ∙ ap (λ y. end_named (within item p.name) (attribute y) p.kind) (omega arith))
 parameter-of x item (p ∷ ps) n (inr i) = let s = parameter-of (x + 1) item ps n i in

@@ -3,9 +3,9 @@
 use Rattle.std.proofs.Common.{◌≡◌, ℕ, zero, suc, ◌+◌, ◌<◌, ◌≤◌, ◌==◌, ◌||◌, ◌⊎◌, inl, inr, Bool, true, false, List, [], ◌∷◌, ◌++◌, length, map, flat_map, refl, sym, ap, ap₂, subst, ◌∙◌, arith, append_assoc, length-append, true≢false, cond, if◌then◌else◌}
 use Rattle.std.specs.Prelude.{codes, pos}
 use Rattle.std.specs.List.{list_any, list_all, count_by, onto_first, slice_split}
-use Rattle.std.proofs.lemmas.Grind.{list_all-append}
 use Rattle.std.proofs.lemmas.Bool.{and_from}
 use Rattle.std.proofs.lemmas.List.{append_cancel_left}
+use Rattle.std.proofs.lemmas.List.Folds.{list_all-append}
 use Rattle.std.proofs.lemmas.List.Splits.{length-slice_split}
 use Rattle.sv_base.specs.Tree.{none}
 use Rattle.sv_base.specs.declared.config.Config.{Config}

@@ -5,7 +5,7 @@ use Rattle.std.specs.Str.{bytes_eq}
 use Rattle.std.proofs.lemmas.Bool.{and_parts}
 use Rattle.std.proofs.lemmas.Bool.Decides.{nat_tests}
 use Rattle.std.proofs.lemmas.List.{length-map}
-use Rattle.std.proofs.lemmas.List.Elements.{All-nil, All-head, All-tail}
+use Rattle.std.proofs.lemmas.List.Elements.{All-head, All-tail}
 use Rattle.sv_base.specs.declared.config.Config.{Config}
 use Rattle.sv_base.specs.declared.config.AttrDef.{AttrDef}
 use Rattle.sv_base.specs.declared.config.SetDef.{SetDef}
@@ -18,6 +18,7 @@ use Rattle.cfg_lines.specs.Sizes.{leaf_octets, children, octets_of}
 use Rattle.cfg_lines.specs.Nodes.{leaves, leaf_names, closed, reaches}
 use Rattle.cfg_lines.specs.Configs.{config_of}
 use Rattle.cfg_grammar.specs.Texts.{AreLines, IsFound, AreFound, SpellsConfig}
+use Rattle.cfg_lines.specs.declared.leaf.Leaf.{Leaf}
 use Rattle.cfg_lines.specs.declared.line.Line.{Line}
 use Rattle.cfg_lines.specs.declared.line.Line.TheVariants as lines
 use Rattle.sv_base.specs.declared.config.BlockDef.{BlockDef}
@@ -35,7 +36,8 @@ use Rattle.text_values.proofs.ValueLaws.{all-sound}
 use Rattle.text_configs.proofs.PathLaws.{IsReference, reference-of}
 use Rattle.text_configs.proofs.ControlLaws.{are-ctl-kinds, are-in-range, are-timed, few-controls}
 use Rattle.text_configs.proofs.ParameterLaws.{own-attr}
-use Rattle.text_configs.proofs.ToldLaws.{IsTold, is-told}
+use Rattle.text_configs.proofs.ToldLaws.{IsTold, is-told, told-leaves}
+use Rattle.text_configs.proofs.CountLaws.{leaf_keys, counted}
 use Rattle.text_configs.proofs.AllowedLaws.{allowed-member}
 use Rattle.text_configs.proofs.ReferenceLaws.{member, member-reference}
 
@@ -52,7 +54,7 @@ at-most : (n : ℕ) → nat_lt 500 n ≡ false → n ≤ 500
 at-most n h = grind (arith, nat_tests)
 
 module _ (told : List Line) (text : List ℕ) (are : AreLines text told) (found_all : AreFound told told) where
-  facts : IsTold (config_of told)
+  abbrev facts : IsTold (config_of told)
   facts = is-told told text are
 
   -- a member's line has a reference that reaches an attribute
@@ -63,14 +65,17 @@ module _ (told : List Line) (text : List ℕ) (are : AreLines text told) (found_
     apart : (not (reaches (closed told) r) ≡ true) × (not (nat_lt 500 (octets_of 10 (leaf_octets (leaves told)) (children (leaf_names told)) r)) ≡ true)
     apart = and_parts (not (reaches (closed told) r)) (not (nat_lt 500 (octets_of 10 (leaf_octets (leaves told)) (children (leaf_names told)) r))) line-found.1
 
-    reach : reaches (leaf_names told) r ≡ true
-    reach = or-second (reaches (leaf_names told) r) (reaches (closed told) r) line-found.0 (not-not (reaches (closed told) r) apart.0)
+    reach : reaches (leaf_keys (config_of told) facts) r ≡ true
+    reach = ap (λ ls. reaches (map (λ (l : Leaf). l.name) ls) r) (told-leaves told text are) ∙ or-second (reaches (leaf_names told) r) (reaches (closed told) r) line-found.0 (not-not (reaches (closed told) r) apart.0)
+
+    few : counted (config_of told) facts 10 r ≤ 500
+    few = subst (λ ls. octets_of 10 (leaf_octets ls) (children (map (λ (l : Leaf). l.name) ls)) r ≤ 500) (sym (told-leaves told text are)) (at-most (octets_of 10 (leaf_octets (leaves told)) (children (leaf_names told)) r) (not-not _ apart.1))
 
     line-reference : IsReference r
     line-reference = reference-of r (member-named told text r are i).0
 
     member-served : IsMember (config_of told) (member_number (nodes (config_of told)) r)
-    member-served = member (config_of told) facts r line-reference reach (omega (arith, at-most (octets_of 10 (leaf_octets (leaves told)) (children (leaf_names told)) r) (not-not _ apart.1)))
+    member-served = member (config_of told) facts r line-reference reach few
 
     member-short : length (reference_at (configured_model (config_of told)) (member_number (nodes (config_of told)) r)) ≤ 129
     member-short = omega (arith, ap length (member-reference (config_of told) facts r line-reference reach), (member-named told text r are i).1)

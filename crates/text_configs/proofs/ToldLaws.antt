@@ -1,5 +1,5 @@
 -- The facts that a text's configuration has, for what is proved of its names.
-use Rattle.std.proofs.Common.{◌≡◌, ℕ, true, List}
+use Rattle.std.proofs.Common.{◌≡◌, ℕ, true, List, refl}
 use Rattle.std.specs.Prelude.{codes}
 use Rattle.sv_base.specs.declared.config.Config.{Config}
 use Rattle.sv_base.specs.declared.config.LnDef.{LnDef}
@@ -46,3 +46,7 @@ is-told told text are = record {
   leaf_there = leaf-there told;
   leaf_back = leaf-back told;
 }
+
+pub told-leaves : (told : List Line) (text : List ℕ) (are : AreLines text told) → (is-told told text are).leaves ≡ leaves told
+unfolding is-told
+told-leaves told text are = refl
