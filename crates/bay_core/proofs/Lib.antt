@@ -9,7 +9,10 @@ pub mod ArriveLaws
 pub mod QuietLaws
 -- what waits for associations, and requests
 pub mod QueueLaws
+pub mod HeardLaws
+pub mod UncalledLaws
 pub mod AskLaws
+pub mod CameLaws
 -- reads of variables
 pub mod IdleLaws
 pub mod TurnLaws
@@ -33,6 +36,9 @@ pub mod SettingLaws
 -- writes
 pub mod WriteLaws
 pub mod SingleLaws
+pub mod CalledLaws
+pub mod BlameLaws
+pub mod ProcessLaws
 pub mod GroupLaws
 -- reports
 pub mod TakeLaws

@@ -2,6 +2,7 @@
 //! services).
 
 ghost use Rattle.std.specs.Prelude.{◌≡◌, []};
+ghost use Rattle.bay_model.specs.declared.reply.Reply.TheVariants.{Wrote};
 
 use crate::bay::Bay;
 use crate::defining::set_name;
@@ -37,7 +38,12 @@ fn alone(alloc: Global, reply: Reply) -> Came
 }
 
 /// A write came to its codes, and to what its commands came to.
-fn wrote(heard: Heard) -> Came {
+fn wrote(heard: Heard) -> Came
+    ensures reply { result.reply ≡ Wrote heard.codes }
+    ensures before { result.before.items ≡ heard.before }
+    ensures acts { result.acts.items ≡ heard.acts }
+    ensures tests { result.tests.items ≡ heard.tests }
+{
     let parts = heard.parts();
     Came {
         reply: Reply::Wrote(Codes::from_vec(parts.codes)),
@@ -167,6 +173,7 @@ impl Bay {
         values: &[Value],
     ) -> Result<Vec<Result<(), u8>>, AllocError>
         requires fit { AreMembersFit self.old.config nodes.now values.now }
+        requires plain { AreNoCommands self.old.config nodes.now }
         ensures written { IfOk result (λ codes. AreWritten self.old self.new moment a.0 (writes_of (node_numbers nodes.now) values.now) codes.items) }
         ensures kept { OnOk result (IsKept self.old self.new) }
         ensures refused { OnErr result (self.new ≡ self.old) }
