@@ -9,6 +9,7 @@ use Rattle.bay_model.specs.declared.reply.Asked.TheVariants as spelled
 use Rattle.bay_model.specs.declared.reply.Reply.{Reply}
 use Rattle.bay_model.specs.declared.request.Service.TheVariants as services
 use Rattle.bay_model.specs.declared.request.Target.{Target}
+use Rattle.bay_model.specs.declared.request.Target.TheVariants as targets
 use Rattle.bay_model.specs.Attributes.{attributes}
 use Rattle.bay_model.specs.Lookups.{node_of}
 use Rattle.bay_model.specs.Model.{Model, Role, selecting}
@@ -51,6 +52,11 @@ role-there attrs blocks controls G _ plain k is = cc
 
 pub selecting-there : (c : Config) → IsGrouped c → (x k : ℕ) → selecting_of (node_of (configured_model c) x).role ≡ Some k → k < length c.controls
 selecting-there c grouped x = role-there (length (attributes c)) (length c.blocks) (length c.controls) (HasGroups c) (node_of (configured_model c) x).role (plain-at c grouped x).role
+
+pub target-there : (c : Config) → IsGrouped c → (x : Target) (k : ℕ) → selecting_in c x ≡ Some k → k < length c.controls
+target-there c grouped (targets.Node id name) k is = selecting-there c grouped id.0 k is
+target-there c grouped (targets.Missing name) k is = cc
+target-there c grouped (targets.Alternate name) k is = cc
 
 -- ---- the bay behind the reads
 

@@ -18,7 +18,7 @@ use Rattle.bay_model.specs.declared.request.Target.TheVariants as targets
 use Rattle.bay_model.specs.Calls.{can_select}
 use Rattle.bay_model.specs.Configured.{control_defined}
 use Rattle.bay_model.specs.Lookups.{control_of, node_of}
-use Rattle.bay_model.specs.Model.{Model, Role, Tree, selecting}
+use Rattle.bay_model.specs.Model.{Model, Control, Role, Tree, selecting}
 use Rattle.bay_model.specs.Named.{configured_model}
 use Rattle.bay_model.specs.Outcomes.{gave, deed_of, result_of}
 use Rattle.bay_model.specs.Points.{Deed, Past, nothing, selected_control}
@@ -54,6 +54,10 @@ turn-configs a (Some k) t = by (selects t k) where
 pub turns-configs : (a : ℕ) (c : Config) (xs : List Target) (t : Table) → configs (after_turns a c xs t) ≡ configs t
 turns-configs a c [] t = refl
 turns-configs a c (x ∷ xs) t = turns-configs a c xs (after_turn a (selecting_in c x) t) ∙ turn-configs a (selecting_in c x) t
+
+-- they are as many as there are lines
+pub controls-count : (t : Table) (cs : List CtlDef) → configs t ≡ map control_defined cs → length t.controls ≡ length cs
+controls-count t cs same = sym (length-map t.controls (λ (s : ControlState). s.config)) ∙ (ap (λ (ks : List Control). length ks) same ∙ length-map cs control_defined)
 
 -- ---- results at their places
 

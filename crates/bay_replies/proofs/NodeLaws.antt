@@ -1,5 +1,5 @@
 -- The nodes of a configuration are plain.
-use Rattle.std.proofs.Common.{◌≡◌, ◌≤◌, ◌<◌, inl, inr, ℕ, zero, suc, ◌+◌, Bool, true, false, cond, not, ◌&&◌, List, [], ◌∷◌, ◌++◌, length, map, filter, flat_map, refl, sym, subst, ap, ◌∙◌, arith, length-append}
+use Rattle.std.proofs.Common.{◌≡◌, ◌≤◌, ◌<◌, inl, inr, ℕ, zero, suc, ◌+◌, Bool, true, false, cond, not, ◌&&◌, List, [], ◌∷◌, ◌++◌, length, map, filter, flat_map, refl, ap, ◌∙◌, arith, length-append}
 use Rattle.std.specs.Prelude.{if◌then◌else◌, codes, nat_le, ◌==◌, Some, unwrap_or, slice_get}
 use Rattle.std.specs.Option.{option_map}
 use Rattle.std.specs.List.{find, list_any}
@@ -15,11 +15,11 @@ use Rattle.sv_base.specs.declared.types.TypeOf.{TypeOf}
 use Rattle.bay_model.specs.declared.components.Comp.{Comp}
 use Rattle.bay_model.specs.declared.components.SettingComp.{SettingComp}
 use Rattle.bay_model.specs.Attributes.{attributes, attr_defined, attrs_defined, attrs_generated, twins}
-use Rattle.bay_rooms.specs.Kinds.{type_of}
+use Rattle.bay_rooms.specs.Kinds.{kind_of, type_of}
 use Rattle.bay_model.specs.ComponentTable.{components, comp_name, comp_kind, setting_components}
 use Rattle.bay_model.specs.Generated.{Named, Parameter, within, parameters, parameter_names, command_names, is_selected, sbo_names, sbow_names, oper_names, cancel_names, control_names, setting_named}
 use Rattle.bay_model.specs.Lookups.{node_of}
-use Rattle.bay_model.specs.Model.{Call, select, operate, cancel, attribute, component, structure, Trees, none, more, Role, single, selecting, calling, several, Node, edited}
+use Rattle.bay_model.specs.Model.{Call, select, operate, cancel, attribute, component, structure, Trees, none, more, Role, single, selecting, calling, several, Attr, Node, edited, reported}
 use Rattle.bay_model.specs.Named.{configured_model, nodes, places_in}
 use Rattle.bay_model.specs.NamedLines.{Line, is_setting, path_item, attribute_lines, node_line, block_lines, control_lines, group_line, domains, domain_number, generated, lines, insert_line, in_order, names_in}
 use Rattle.bay_model.specs.NameTree.{Forest, nothing, named, rest_of, first_name, is_itself, below, first_names, role_of, own_type, side_by_side, grown, longest, tree_of}
@@ -202,9 +202,12 @@ count-twins c x (a ∷ rest) = by (is_setting a) (count-twins c (1 + x) rest)
     by true go = ap suc go
     by false go = go
 
+abbrev generated_of : Config → CtlDef → Parameter → Attr
+generated_of c k p = record { access = reported; kind = kind_of p.kind; dchg = false; qchg = false; dupd = false; initial = p.value ∷ []; domain = domain_number c k.domain; original = 0 }
+
 pub count-generated : (c : Config) (ks : List CtlDef) → length (flat_map (attrs_generated c) ks) ≡ length (flat_map parameters ks)
 count-generated c [] = refl
-count-generated c (k ∷ ks) = omega (arith, length-append (attrs_generated c k) (flat_map (attrs_generated c) ks), length-append (parameters k) (flat_map parameters ks), length-map (parameters k) _, count-generated c ks)
+count-generated c (k ∷ ks) = omega (arith, length-append (attrs_generated c k) (flat_map (attrs_generated c) ks), length-append (parameters k) (flat_map parameters ks), length-map (parameters k) (generated_of c k), count-generated c ks)
 
 module _ (c : Config) (G : ℕ → Type 0) (groups : Each (λ (g : SgDef). G (domain_number c g.domain)) c.groups) where
   abbrev pub counted : ℕ

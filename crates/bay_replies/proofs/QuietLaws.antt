@@ -16,7 +16,7 @@ use Rattle.bay_model.specs.Outcomes.{deed_of}
 use Rattle.bay_model.specs.Points.{Deed, nothing, Past}
 use Rattle.bay_model.specs.Reads.{read_tree, read_role}
 use Rattle.bay_model.specs.Services.{singles_of, set_name}
-use Rattle.bay_model.specs.Sets.{is_named, sets, set_named}
+use Rattle.bay_model.specs.Sets.{is_named, sets}
 use Rattle.bay_model.specs.Singles.{Single, reads, writes, fails, outcome_at, after_single, after_singles, outcomes}
 use Rattle.bay_replies.specs.Asking.{IsReading}
 use Rattle.bay_replies.specs.Plain.{SelectsNothing}

@@ -8,7 +8,6 @@ use Rattle.std.proofs.lemmas.Bool.Decides.{nat_tests}
 use Rattle.std.specs.List.{All, find}
 use Rattle.std.proofs.lemmas.List.Elements.{All-nil, All-cons, All-head, All-tail}
 use Rattle.sv_base.specs.declared.numbers.NodeId.{NodeId}
-use Rattle.bay_model.specs.declared.reply.Asked.TheVariants as asked
 use Rattle.bay_model.specs.declared.reply.Reply.TheVariants as replies
 use Rattle.bay_model.specs.declared.request.Scope.{Scope}
 use Rattle.bay_model.specs.declared.request.Scope.TheVariants as scopes
@@ -21,7 +20,7 @@ use Rattle.bay_model.specs.Named.{configured_model}
 use Rattle.bay_model.specs.Names.{names_of, is_unknown, variables_of}
 use Rattle.bay_model.specs.Outcomes.{result_of}
 use Rattle.bay_model.specs.Points.{Past}
-use Rattle.bay_model.specs.Services.{reply, singles_of, set_found, set_name, set_reply, read_reply, read_set_reply, node_number}
+use Rattle.bay_model.specs.Services.{reply, singles_of, set_name, set_reply, read_reply, read_set_reply, node_number}
 use Rattle.bay_model.specs.Sets.{is_named, sets, set_named, dynamic}
 use Rattle.bay_model.specs.Singles.{Single, reads, outcomes}
 use Rattle.bay_model.specs.Sizes.{within}

@@ -47,7 +47,7 @@ impl<'a> Replies<'a> {
     /// The control whose SBO a variable is.
     fn selecting(&self, target: &Target) -> Option<u32>
         requires { IsTarget self.now.model.now target.now }
-        ensures { result ≡ selecting_in self.now.model.now target.now }
+        ensures { result ≡ selecting_in self.entry.now.model.now target.now }
     {
         match target {
             Target::Node(node, _) => match self.model.role_of(*node) {
@@ -60,7 +60,7 @@ impl<'a> Replies<'a> {
 
     /// What a control's SBO gives where its read selects.
     fn read_reference(&self, alloc: Global, control: u32) -> Result<Result<Value, u8>, AllocError>
-        ensures { IfOk result (λ r. r ≡ reference_read (slice_get self.now.model.now.controls control)) }
+        ensures { IfOk result (λ r. r ≡ reference_read (slice_get self.entry.now.model.now.controls control)) }
     {
         match self.model.config().controls.get(control as usize) {
             Some(line) => Ok(Ok(Value::Text(reference_of(alloc, line)?))),

@@ -32,8 +32,11 @@ module _ (k : ℕ) (kind : TypeOf) (item name : List ℕ) (few : length name ≤
   check-within operate = (part _ (codes "Check") refl (omega arith), tt)
 
   command-parts : (call : Call) → Each (IsWithin item) (command_names k kind (within item name) call)
-  command-parts call = (own call, each-both (IsWithin item) (value_names kind (within item name)) (number_names (within item name) ++ check_names call (within item name)) values-within
-      (each-both (IsWithin item) (number_names (within item name)) (check_names call (within item name)) numbers-within (check-within call)))
+  command-parts call = (
+    own call,
+    each-both (IsWithin item) (value_names kind (within item name)) (number_names (within item name) ++ check_names call (within item name)) values-within
+        (each-both (IsWithin item) (number_names (within item name)) (check_names call (within item name)) numbers-within (check-within call)),
+  )
 
 either-way : (item : List ℕ) (b : Bool) (ns : List Named) → Each (IsWithin item) ns → Each (IsWithin item) (if b then ns else [])
 either-way item true ns h = h

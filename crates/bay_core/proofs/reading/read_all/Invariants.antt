@@ -8,7 +8,7 @@ abbrev pub invariant-loop-place : goal.invariant-loop-place
 invariant-loop-place l = record {
   rows : l.queues.rows ≡ l.fn.queues.rows;
   configs : configs l.queues.table ≡ configs l.fn.queues.table;
-  controls : after_turns l.fn.a.0 l.fn.model.now (drop l.place l.fn.targets) l.queues.table ≡ after_turns l.fn.a.0 l.fn.model.now l.fn.targets l.fn.queues.table;
-  results : take l.place l.results.items ++ in_turns l.fn.a.0 l.fn.model.now (drop l.place l.fn.targets) l.queues.table (drop l.place l.results.items)
-      ≡ in_turns l.fn.a.0 l.fn.model.now l.fn.targets l.fn.queues.table l.fn.results.items;
+  controls : after_turns l.fn.a.0 l.fn.model (drop l.place l.fn.targets) l.queues.table ≡ after_turns l.fn.a.0 l.fn.model l.fn.targets l.fn.queues.table;
+  results : take l.place l.results.items ++ in_turns l.fn.a.0 l.fn.model (drop l.place l.fn.targets) l.queues.table (drop l.place l.results.items)
+      ≡ in_turns l.fn.a.0 l.fn.model l.fn.targets l.fn.queues.table l.fn.results.items;
 }
