@@ -3,7 +3,6 @@ use Rattle.std.proofs.Common.{◌≡◌, ◌≤◌, ◌<◌, ◌∙◌, ◌+◌,
 use Rattle.std.specs.Prelude.{Bool, true, false, if◌then◌else◌, nat_lt, Option, None, Some, Result, Ok, Err, slice_get, slice_set, unwrap_or}
 use Rattle.std.specs.Int.{to_be_bytes, w32}
 use Rattle.std.specs.List.{flat_map}
-use Rattle.std.proofs.Math.Seq.{map-set_same}
 use Rattle.std.proofs.lemmas.Bool.{lt-ltb}
 use Rattle.std.proofs.lemmas.List.{length-map}
 use Rattle.sv_base.specs.Data.{length_field, without_zeros}
@@ -18,7 +17,7 @@ use Rattle.bay_model.specs.declared.request.Target.TheVariants as targets
 use Rattle.bay_model.specs.Calls.{can_select}
 use Rattle.bay_model.specs.Configured.{control_defined}
 use Rattle.bay_model.specs.Lookups.{control_of, node_of}
-use Rattle.bay_model.specs.Model.{Model, Control, Role, Tree, selecting}
+use Rattle.bay_model.specs.Model.{Model, Role, Tree, selecting}
 use Rattle.bay_model.specs.Named.{configured_model}
 use Rattle.bay_model.specs.Outcomes.{gave, deed_of, result_of}
 use Rattle.bay_model.specs.Points.{Deed, Past, nothing, selected_control}
@@ -26,7 +25,7 @@ use Rattle.bay_model.specs.Reads.{read_tree, read_role, read_node, outcome_of_re
 use Rattle.bay_model.specs.Services.{read_reply}
 use Rattle.bay_model.specs.Singles.{arrival, outcome_at, outcomes, after_single, read_of}
 use Rattle.bay_model.specs.Sizes.{access_result}
-use Rattle.control_core.specs.Controls.{ControlState, can_select_at, idle, selected_by}
+use Rattle.control_core.specs.Controls.{ControlState, can_select_at}
 use Rattle.control_core.specs.Standing.{Stands as ControlsStand}
 use Rattle.control_core.specs.Tables.{Table, control_at, after_deed, no_control}
 use Rattle.control_core.proofs.StandLaws as tables
@@ -36,28 +35,20 @@ use Rattle.bay_replies.specs.Given.{node_read, target_read}
 use Rattle.bay_replies.specs.Reading.{selecting_of, selecting_in, reference_read, early_read, early_len, early_reads, least_len, IsReadBy}
 use Rattle.window_core.specs.Points.{at}
 use Rattle.bay_core.specs.Turned.{after_turn, after_turns, empty_text, in_turn, in_turns, reply_of, selects, with_turn}
+use Rattle.bay_core.proofs.ControlLaws.{configs-deed}
 use Rattle.bay_core.proofs.IdleLaws.{IsIdle, idle-target, nothing-read, tree-idle}
 
--- ---- which controls there are
-
-selected-configs : (t : Table) (a k : ℕ) → configs (after_deed (selected_control a k) t) ≡ configs t
-selected-configs t a k = map-set_same (λ (s : ControlState). s.config) t.controls k (selected_by t.moment a None (control_at t.controls k)) (idle no_control) refl
-
--- they are configured as before
+-- ---- the controls are configured as before
 pub turn-configs : (a : ℕ) (o : Option ℕ) (t : Table) → configs (after_turn a o t) ≡ configs t
 turn-configs a None t = refl
 turn-configs a (Some k) t = by (selects t k) where
   by : (b : Bool) → configs (if b then after_deed (selected_control a k) t else t) ≡ configs t
-  by true = selected-configs t a k
+  by true = configs-deed (selected_control a k) t
   by false = refl
 
 pub turns-configs : (a : ℕ) (c : Config) (xs : List Target) (t : Table) → configs (after_turns a c xs t) ≡ configs t
 turns-configs a c [] t = refl
 turns-configs a c (x ∷ xs) t = turns-configs a c xs (after_turn a (selecting_in c x) t) ∙ turn-configs a (selecting_in c x) t
-
--- they are as many as there are lines
-pub controls-count : (t : Table) (cs : List CtlDef) → configs t ≡ map control_defined cs → length t.controls ≡ length cs
-controls-count t cs same = sym (length-map t.controls (λ (s : ControlState). s.config)) ∙ (ap (λ (ks : List Control). length ks) same ∙ length-map cs control_defined)
 
 -- ---- results at their places
 

@@ -1,2 +1,0 @@
-pub mod IdleLaws
-pub mod TurnLaws

@@ -1,3 +1,0 @@
-pub mod Stand
-pub mod Reading
-pub mod Turned
