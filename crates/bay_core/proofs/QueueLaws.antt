@@ -1,5 +1,5 @@
 -- What waits for an association, by the rows and the controls of a bay.
-use Rattle.std.proofs.Common.{◌≡◌, ◌≤◌, ℕ, suc, List, [], ◌∷◌, map, None, Some, refl, ap, sym, ◌∙◌, arith}
+use Rattle.std.proofs.Common.{◌≡◌, ◌≤◌, ℕ, suc, Bool, List, [], ◌∷◌, map, None, Some, refl, ap, sym, ◌∙◌, arith}
 use Rattle.std.specs.Prelude.{Option, slice_get, if◌then◌else◌}
 use Rattle.std.specs.Option.{option_and_then, option_map}
 use Rattle.sv_base.specs.declared.numbers.CtlNo.{CtlNo}
@@ -17,7 +17,7 @@ use Rattle.control_core.specs.Controls.{ControlState, error_at, terminations}
 use Rattle.control_core.specs.Tables.{Table, at_moment, control_at}
 use Rattle.control_core.specs.TerminationsWait.{due_for}
 use Rattle.bay_queues.specs.Queued.{Queued, IsQueued}
-use Rattle.bay_queues.specs.Taken.{given_of, next_of, table_left}
+use Rattle.bay_queues.specs.Taken.{after_take, given_of, next_of, rows_left, table_left}
 use Rattle.bay_queues.proofs.RowLaws.{ends-oldest}
 
 -- ---- where nothing is taken nothing waits
@@ -38,6 +38,12 @@ none-waits q a number is none = by (row_of q.rows a).waiting refl none where
   by (Termination k good ∷ ws) same none =
       let first : slice_get (row_of q.rows a).waiting 0 ≡ Some (Termination k good) = ap (λ (l : List Waiting). slice_get l 0) same in
       absurd (has-ended k good (control_at q.table.controls k.0) a (omega (arith, is.due a k.0 number, ends-oldest k good (row_of q.rows a).waiting first)) none)
+
+-- and all is left as it was
+pub left-none : (q new : Queued) (a : ℕ) → (row_of q.rows a).waiting ≡ [] → new ≡ after_take a q → new ≡ q
+left-none q new a empty left =
+    let by : Option Waiting → Queued = λ o. record { rows = rows_left o a q.rows; table = table_left o q.table } in
+    left ∙ ap by (ap (λ (l : List Waiting). slice_get l 0) empty)
 
 -- ---- what is taken doesn't depend on the moment
 

@@ -93,15 +93,16 @@ own-lines : (c : Config) (y : ℕ) (ls : List AttrDef) → All IsOwnAttr (attrs_
 own-lines c y [] = All-nil IsOwnAttr
 own-lines c y (a ∷ ls) = All-cons IsOwnAttr (attr_defined c y a) (attrs_defined c (1 + y) ls) (own-access a.fc) (own-lines c (1 + y) ls)
 
+abbrev generated_as : Config → CtlDef → Parameter → Attr
+generated_as c k p = record { access = model.reported; kind = kind_of p.kind; dchg = false; qchg = false; dupd = false; initial = p.value ∷ []; domain = domain_number c k.domain; original = 0 }
+
+own-parameters : (c : Config) (k : CtlDef) (ps : List Parameter) → All IsOwnAttr (map (generated_as c k) ps)
+own-parameters c k [] = All-nil IsOwnAttr
+own-parameters c k (p ∷ ps) = All-cons IsOwnAttr (generated_as c k p) (map (generated_as c k) ps) tt (own-parameters c k ps)
+
 own-generated : (c : Config) (ks : List CtlDef) → All IsOwnAttr (flat_map (attrs_generated c) ks)
 own-generated c [] = All-nil IsOwnAttr
-own-generated c (k ∷ ks) = All-append IsOwnAttr (attrs_generated c k) (flat_map (attrs_generated c) ks) (own (parameters k)) (own-generated c ks) where
-  abbrev reported : Parameter → Attr
-  reported p = record { access = model.reported; kind = kind_of p.kind; dchg = false; qchg = false; dupd = false; initial = p.value ∷ []; domain = domain_number c k.domain; original = 0 }
-
-  own : (ps : List Parameter) → All IsOwnAttr (map reported ps)
-  own [] = All-nil IsOwnAttr
-  own (p ∷ ps) = All-cons IsOwnAttr (reported p) (map reported ps) tt (own ps)
+own-generated c (k ∷ ks) = All-append IsOwnAttr (attrs_generated c k) (flat_map (attrs_generated c) ks) (own-parameters c k (parameters k)) (own-generated c ks)
 
 generated-count : (c : Config) (ks : List CtlDef) → length (flat_map (attrs_generated c) ks) ≡ length (flat_map parameters ks)
 generated-count c [] = refl

@@ -57,7 +57,7 @@ lines-plain : (c : Config) → IsServable c → All HasPlainType c.attrs
 lines-plain c served = λ k d below. (served.storable.lines k d below).settable
 
 -- what a control generates are numbers of 8 and of 32 bits
-kinds-of : CtlDef → List TypeOf
+abbrev kinds-of : CtlDef → List TypeOf
 kinds-of k = map (λ (p : Parameter). p.kind) (parameters k)
 
 parameters-plain : (k : CtlDef) → All IsSettable (kinds-of k)

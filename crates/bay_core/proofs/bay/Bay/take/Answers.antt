@@ -1,21 +1,21 @@
 use Rattle.std.proofs.Common.{◌≡◌, ◌∙◌, List, None, suc, length, refl, sym, subst, ap, vec_capacity}
-use Rattle.std.specs.Prelude.{Option, slice_get}
 use Rattle.std.specs.Option.{option_map}
+use Rattle.bay_model.specs.declared.step.Step.TheVariants as steps
 use Rattle.bay_model.specs.Answers.{points}
 use Rattle.bay_model.specs.Named.{configured_model}
 use Rattle.assoc_table.specs.declared.waiting.Ends.{Ends}
-use Rattle.assoc_table.specs.declared.waiting.Waiting.{Waiting}
 use Rattle.assoc_table.specs.Tables.{row_of}
 use Rattle.object_model.specs.Nodes.{node_rows}
 use Rattle.bay_config.specs.Servable.{IsServable}
 use Rattle.bay_queues.specs.Queued.{Queued, configs}
-use Rattle.bay_queues.specs.Taken.{after_take, oldest, rows_left}
+use Rattle.bay_queues.specs.Taken.{after_take, oldest}
 use Rattle.bay_core.specs.Standing.{StandsFor}
 use Rattle.bay_core.specs.State.{State}
 use Rattle.bay_core.specs.Timed.{at_arrival}
+use Rattle.bay_core.specs.Turns.{Does}
 use Rattle.bay_core.proofs.ArriveLaws.{HasAll, arrives}
 use Rattle.bay_core.proofs.ControlLaws.{configs-left}
-use Rattle.bay_core.proofs.QueueLaws.{none-waits}
+use Rattle.bay_core.proofs.QueueLaws.{left-none, none-waits}
 use Rattle.bay_core.proofs.SettingLaws.{have-members}
 use Rattle.bay_core.proofs.TakenLaws.{closed-for, took-for, take-fine}
 use Rattle.bay_core.proofs.bay.Bay.take.Goals as goal
@@ -42,9 +42,17 @@ invariant_of-self c =
 pub take_report-requires-clause-empty : goal.take_report-requires-clause-empty
 take_report-requires-clause-empty c =
     let q = c.self.inside.associations in
-    let a = c.args.a.0 in
-    let empty = none-waits q a c.requires.number c.take.ensures.queued (rw c.in-Ok-None.field-0-is at c.in-Ok-None.ensures.value) in
-    ap (λ (p : Queued). (row_of p.rows a).waiting) c.in-Ok-None.ensures.left ∙ (ap (λ (o : Option Waiting). (row_of (rows_left o a q.rows) a).waiting) (ap (λ (l : List Waiting). slice_get l 0) empty) ∙ empty)
+    let empty = none-waits q c.args.a.0 c.requires.number c.take.ensures.queued (rw c.in-Ok-None.field-0-is at c.in-Ok-None.ensures.value) in
+    ap (λ (p : Queued). (row_of p.rows c.args.a.0).waiting) (left-none q c.take.new.self c.args.a.0 empty c.in-Ok-None.ensures.left) ∙ empty
+
+pub returns-in-Ok-None-clause-does : goal.returns-in-Ok-None-clause-does
+returns-in-Ok-None-clause-does c =
+    let s = c.self.inside in
+    let q = s.associations in
+    let empty = none-waits q c.args.a.0 c.requires.number c.take.ensures.queued (rw c.in-Ok-None.field-0-is at c.in-Ok-None.ensures.value) in
+    let same = ap (λ (p : Queued). record { config = s.model; steps = s.steps; latest = s.latest; stored = s.values; book = s.sets; parts = s.parts.items; rows = p.rows; groups = s.groups; controls = p.table })
+    (left-none q c.take.new.self c.args.a.0 empty c.in-Ok-None.ensures.left) ∙ c.self.view_is in
+    subst (λ (t : State). Does t c.take_report.new.self (record { moment = c.args.moment; actor = c.args.actor.0; step = steps.Take c.args.a }) c.take_report.result) same c.take_report.ensures.does
 
 pub returns-in-Ok-Some-clause-does : goal.returns-in-Ok-Some-clause-does
 returns-in-Ok-Some-clause-does c = λ c' h was.
