@@ -263,6 +263,7 @@ impl Bay {
         ensures kept { OnOk result (IsKept self.old self.new) }
         ensures refused { OnErr result (self.new ≡ self.old) }
     {
+        let _ = &self.model;
         match service {
             Service::WriteVars(writes) => self.answer_writes(alloc, moment, a, writes),
             _ => {

@@ -26,6 +26,6 @@ returns-in-Alternate c =
     let z = c.args.self.now in
     let h = c.args.heard.now in
     record {
-      single = subst (λ (t : Target). IsSingle z z c.args.a.0 h c.code-2.new.self (λ m past. outcome_of m c.args.a.0 (write_to t c.args.value.now) past)) (sym c.in-Alternate.is)
-          (subst (λ (k : Heard). IsSingle z z c.args.a.0 h k (λ m past. refused 9)) (sym c.code-2.ensures) (refused-single z c.args.a.0 9 h));
+      single = subst (λ (t : Target). IsSingle z z c.args.a.0 h c.code-in-Alternate.new.self (λ m past. outcome_of m c.args.a.0 (write_to t c.args.value.now) past)) (sym c.in-Alternate.is)
+          (subst (λ (k : Heard). IsSingle z z c.args.a.0 h k (λ m past. refused 9)) (sym c.code-in-Alternate.ensures) (refused-single z c.args.a.0 9 h));
     }
