@@ -1,4 +1,4 @@
-use Rattle.std.proofs.Common.{◌≡◌, ◌∙◌, ℕ, List, Option, unwrap_or, refl, ap, ap₂, sym, subst}
+use Rattle.std.proofs.Common.{◌∙◌, ℕ, List, Option, unwrap_or, refl, ap, ap₂, sym, subst}
 use Rattle.std.specs.Prelude.{Bool, Result}
 use Rattle.std.specs.List.{All}
 use Rattle.std.specs.Option.{option_map}
