@@ -106,7 +106,7 @@ own-generated c (k ∷ ks) = All-append IsOwnAttr (attrs_generated c k) (flat_ma
 
 generated-count : (c : Config) (ks : List CtlDef) → length (flat_map (attrs_generated c) ks) ≡ length (flat_map parameters ks)
 generated-count c [] = refl
-generated-count c (k ∷ ks) = omega (arith, length-append (attrs_generated c k) (flat_map (attrs_generated c) ks), length-append (parameters k) (flat_map parameters ks), length-map (parameters k) _, generated-count c ks)
+generated-count c (k ∷ ks) = omega (arith, length-append (attrs_generated c k) (flat_map (attrs_generated c) ks), length-append (parameters k) (flat_map parameters ks), length-map (parameters k) (generated_as c k), generated-count c ks)
 
 lines-count : (c : Config) (y : ℕ) (ls : List AttrDef) → length (attrs_defined c y ls) ≡ length ls
 lines-count c y [] = refl
