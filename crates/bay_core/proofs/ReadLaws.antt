@@ -1,5 +1,5 @@
 -- A bay behind the reads of variables of a request, and the reply to it.
-use Rattle.std.proofs.Common.{◌≡◌, ◌<◌, ◌∙◌, ℕ, zero, max, List, [], ◌∷◌, map, refl, sym, ap, subst, arith, unwrap_or}
+use Rattle.std.proofs.Common.{◌≡◌, ◌<◌, ◌∙◌, ℕ, zero, max, List, [], ◌∷◌, map, length, refl, sym, ap, subst, arith, unwrap_or}
 use Rattle.std.specs.Prelude.{Bool, if◌then◌else◌, Option, None, Some, Result}
 use Rattle.std.specs.Option.{option_map}
 use Rattle.sv_base.specs.declared.config.Config.{Config}
