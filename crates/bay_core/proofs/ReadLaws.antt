@@ -1,6 +1,6 @@
 -- A bay behind the reads of variables of a request, and the reply to it.
-use Rattle.std.proofs.Common.{◌≡◌, ◌<◌, ◌∙◌, ℕ, zero, max, List, [], ◌∷◌, map, length, refl, sym, ap, subst, arith, unwrap_or}
-use Rattle.std.specs.Prelude.{Bool, if◌then◌else◌, Option, None, Some, Result}
+use Rattle.std.proofs.Common.{◌≡◌, ◌<◌, ◌∙◌, ℕ, zero, List, [], ◌∷◌, map, length, refl, sym, ap, subst, arith, unwrap_or}
+use Rattle.std.specs.Prelude.{Bool, if◌then◌else◌, Some, Result}
 use Rattle.std.specs.Option.{option_map}
 use Rattle.sv_base.specs.declared.config.Config.{Config}
 use Rattle.sv_base.specs.declared.value.Value.{Value}
@@ -16,7 +16,7 @@ use Rattle.bay_model.specs.Model.{Model, Role, selecting}
 use Rattle.bay_model.specs.Named.{configured_model}
 use Rattle.bay_model.specs.Outcomes.{deed_of, result_of}
 use Rattle.bay_model.specs.Points.{Deed, Past, nothing, selected_control}
-use Rattle.bay_model.specs.Services.{read_reply, reply, singles_of}
+use Rattle.bay_model.specs.Services.{read_reply, reply}
 use Rattle.bay_model.specs.Singles.{arrival, outcome_at, outcomes, after_single, after_singles, read_of}
 use Rattle.bay_model.specs.Sizes.{size_of}
 use Rattle.assoc_table.specs.declared.waiting.Ends.{Ends}

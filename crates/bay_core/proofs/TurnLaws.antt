@@ -27,7 +27,7 @@ use Rattle.bay_model.specs.Singles.{arrival, outcome_at, outcomes, after_single,
 use Rattle.bay_model.specs.Sizes.{access_result}
 use Rattle.control_core.specs.Controls.{ControlState, can_select_at}
 use Rattle.control_core.specs.Standing.{Stands as ControlsStand}
-use Rattle.control_core.specs.Tables.{Table, control_at, after_deed, no_control}
+use Rattle.control_core.specs.Tables.{Table, after_deed, no_control}
 use Rattle.control_core.proofs.StandLaws as tables
 use Rattle.bay_queues.specs.Queued.{configs}
 use Rattle.bay_replies.specs.declared.replies.Replies.{Replies}
@@ -195,8 +195,12 @@ module _ (r : Replies) (a n t : ℕ) (there : (x k : ℕ) → selecting_of (node
   least-told [] tb past st told = omega arith
   least-told (x ∷ ts) tb past st told =
       let P : Past = after_single own a n t (read_of x) past in
-      omega (arith, (target-result tb past st told x).1, least-told ts (after_turn a (selecting_in r.model.now x) tb) P (turn-stands r.model.now a n t there tb past st x) (told-later x past told),
-      length-append (access_result (result_of (outcome_at own a n t (read_of x) past))) (flat_map access_result (map result_of (outcomes own a n t (map read_of ts) P))))
+      omega (
+        arith,
+        (target-result tb past st told x).1,
+        least-told ts (after_turn a (selecting_in r.model.now x) tb) P (turn-stands r.model.now a n t there tb past st x) (told-later x past told),
+        length-append (access_result (result_of (outcome_at own a n t (read_of x) past))) (flat_map access_result (map result_of (outcomes own a n t (map read_of ts) P))),
+      )
 
   -- and the reply
   pub reply-told : (size : ℕ) (asked : Asked) (ts : List Target) (tb : Table) (past : Past) (results : List (Result Value ℕ)) (is_cut : Bool) → ControlsStand tb own (arrival n t ∷ past) → IsTold past → IsReadBy r size ts results is_cut

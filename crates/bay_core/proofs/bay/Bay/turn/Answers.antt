@@ -1,4 +1,4 @@
-use Rattle.std.proofs.Common.{◌≡◌, ◌∙◌, List, ap, sym, subst}
+use Rattle.std.proofs.Common.{◌∙◌, List, ap, sym, subst}
 use Rattle.std.specs.List.{All}
 use Rattle.bay_model.specs.declared.request.Target.{Target}
 use Rattle.bay_queues.specs.Queued.{Queued, configs}
