@@ -119,6 +119,7 @@ impl Bay {
         ensures kept { OnOk result (IsKept self.old self.new) }
         ensures refused { OnErr result (self.new ≡ self.old) }
     {
+        let _ = &self.sets;
         let reply = self.reply_to(alloc, moment, a, service)?;
         self.arrive(moment);
         Ok(reply)

@@ -14,12 +14,8 @@ calls-nothing : (s : Service) → ((ws : List Write) → s ≡ services.WriteVar
 calls-nothing (services.WriteVars ws) none = absurd (none ws refl)
 calls-nothing _ none = tt
 
-pub answer_plain-reply-requires-clause-plain : goal.answer_plain-reply-requires-clause-plain
-answer_plain-reply-requires-clause-plain c = calls-nothing c.args.service.now c.in_default.not-WriteVars
+pub answer_plain-requires-clause-plain : goal.answer_plain-requires-clause-plain
+answer_plain-requires-clause-plain c = calls-nothing c.args.service.now c.in_default.not-WriteVars
 
-pub returns-in_default-clause-came : goal.returns-in_default-clause-came
-returns-in_default-clause-came c =
-    let none = c.alone.ensures.none in
-    replied-come c.args.self.now c.answer_plain-reply.new.self c.args.moment c.args.a.0 c.args.service.now c.in_ok-reply.reply c.alone.result
-    (subst (λ (t : State). AreServedSets t.config t.book) c.self.view_is c.self.invariant.furnished.booked.served) (answer_plain-reply-requires-clause-plain c)
-    c.alone.ensures.reply none.0 none.1 none.2 c.in_ok-reply.ensures.answered
+pub returns-in_ok-reply-in_default-clause-came : goal.returns-in_ok-reply-in_default-clause-came
+returns-in_ok-reply-in_default-clause-came c = ?

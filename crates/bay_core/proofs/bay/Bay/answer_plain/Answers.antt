@@ -38,5 +38,5 @@ pub returns-in_default-clause-answered : goal.returns-in_default-clause-answered
 returns-in_default-clause-answered c =
     let k = c.args.service.now in
     quiet-goes c.args.self.now c.answer_read.new.self c.args.moment c.args.a.0 {s = k} {k = k} c.answer_read.result refl
-    (quiet-read k (answer_read-requires-clause-reading c)) c.requires.plain
+    (quiet-read k (reading-of k c.requires.plain c.in_default.not-Read c.in_default.not-WriteSet c.in_default.not-Define c.in_default.not-Delete)) c.requires.plain
     (subst (λ (t : State). AreServedSets t.config t.book) c.self.view_is c.self.invariant.furnished.booked.served) c.requires.number c.answer_read.ensures.answered

@@ -11,8 +11,8 @@ use Rattle.bay_core.proofs.AnswerLaws.{writes-fit}
 use Rattle.bay_core.proofs.CameLaws.{writes-come}
 use Rattle.bay_core.proofs.bay.Bay.answer_writes.Goals as goal
 
-pub blames-blames-requires : goal.blames-blames-requires
-blames-blames-requires c = subst (AreFit c.args.self.now.config) (sym c.as_slice.ensures) (writes-fit c.args.self.now.config c.args.writes.now c.requires.fits)
+pub blames-requires : goal.blames-requires
+blames-requires c = subst (AreFit c.args.self.now.config) (sym c.as_slice.ensures) (writes-fit c.args.self.now.config c.args.writes.now c.requires.fits)
 
 pub write_all-requires-clause-fit : goal.write_all-requires-clause-fit
 write_all-requires-clause-fit c =

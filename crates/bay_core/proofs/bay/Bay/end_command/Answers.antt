@@ -15,6 +15,6 @@ returns-clause-does c = λ c' h st. (
   refl,
   accepted-as c.args.self.now c.count.new.self _ c' h (record { moment = c.args.moment; actor = c.args.actor.0; step = steps.Done c.args.control c.args.good }) st refl
       (c.count.ensures ∙ ap (λ (s : State). record s { steps = suc s.steps }) c.end_execution.ensures.state)
-      (ended-at c.arrive.new.self c' (length h) c.args.moment c.args.control c.args.good (points (configured_model c') h) (end_execution-requires c) c.end_execution.ensures.queued c.end_execution.ensures.number
+      (ended-at c.arrive.new.self c' (length h) c.args.moment c.args.control c.args.good (points (configured_model c') h) (subst (λ (t : State). c.args.control.0 < length t.config.controls) (sym c.arrive.ensures.state) c.requires.control) c.end_execution.ensures.queued c.end_execution.ensures.number
       (c.arrive.ensures.stands c' (length h) (points (configured_model c') h) st.1)),
 )

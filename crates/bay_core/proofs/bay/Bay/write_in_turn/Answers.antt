@@ -43,10 +43,16 @@ returns-in-Calling c =
     let h = c.args.heard.now in
     let role : role_seen (whats.Calling k c.in-Calling.call) ≡ (node_of (configured_model z.config) c.args.node.0).role
     = ap role_seen (sym c.in-Calling.is) ∙ (c.role_of.ensures ∙ ap (λ (t : State). (node_of (configured_model t.config) c.args.node.0).role) c.self.view_is) in
+    let s = c.self.inside in
+    let below : k < length z.config.controls
+    = subst (λ (t : State). k < length t.config.controls) c.self.view_is
+    (subst (λ (w : What). IsPlainRole (length (attributes s.model)) (length s.model.blocks) (length s.model.controls) (HasGroups s.model) (role_seen w)) c.in-Calling.is (role-told s.model c.args.node.0 c.role_of.result c.self.invariant.furnished.servable.grouped c.role_of.ensures)) in
     let same : call_in c.call_of.result ≡ role_call c.in-Calling.call = ap call_in c.call_of.ensures ∙ calls-same c.in-Calling.call in
-    called-single z c.call.new.self a c.args.node.0 k (role_call c.in-Calling.call) v h c.call.new.heard role (call-requires-clause-control c)
-    (c.call.ensures.heard ∙ ap (λ (q : Calling). heard_with (enhanced_in z.controls) (outcome_at z.controls a k q v) h) same)
-    (c.call.ensures.state ∙ ap (λ (q : Calling). after_call a k q v z) same) c.call.ensures.tests
+    record {
+      single = called-single z c.call.new.self a c.args.node.0 k (role_call c.in-Calling.call) v h c.call.new.heard role below
+          (c.call.ensures.heard ∙ ap (λ (q : Calling). heard_with (enhanced_in z.controls) (outcome_at z.controls a k q v) h) same)
+          (c.call.ensures.state ∙ ap (λ (q : Calling). after_call a k q v z) same) c.call.ensures.tests;
+    }
 
 pub write_node-code-requires-clause-plain : goal.write_node-code-requires-clause-plain
 write_node-code-requires-clause-plain c =
@@ -55,5 +61,9 @@ write_node-code-requires-clause-plain c =
 
 pub returns-in_default : goal.returns-in_default
 returns-in_default c =
-    node-single c.args.self.now c.write_node-code.new.self c.args.a.0 c.args.node.0 c.args.value.now c.write_node-code.result c.args.heard.now c.code.new.heard c.write_node-code.ensures.kept c.write_node-code.ensures.controls
-    (write_node-code-requires-clause-plain c) c.write_node-code.ensures.written c.code.ensures
+    let z = c.args.self.now in
+    record {
+      single = node-single z c.write_node-code.new.self c.args.a.0 c.args.node.0 c.args.value.now c.write_node-code.result c.args.heard.now c.code.new.self c.write_node-code.ensures.kept c.write_node-code.ensures.controls
+          (role-plain c.role_of.result (node_of (configured_model z.config) c.args.node.0).role c.in_default.not-Calling (c.role_of.ensures ∙ ap (λ (t : State). (node_of (configured_model t.config) c.args.node.0).role) c.self.view_is))
+          c.write_node-code.ensures.written c.code.ensures;
+    }

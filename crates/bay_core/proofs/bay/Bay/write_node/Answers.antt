@@ -56,6 +56,15 @@ returns-in-Component-clause-kept c =
     let wrote = c.write_at_arrival.ensures.written part.0 part.1 in
     record { config = ap (λ (t : State). t.config) wrote; steps = ap (λ (t : State). t.steps) wrote; rows = ap (λ (t : State). t.rows) wrote }
 
+pub returns-in-Component-clause-controls : goal.returns-in-Component-clause-controls
+returns-in-Component-clause-controls c =
+    let s = c.self.inside in
+    let fit = c.self.invariant.furnished in
+    let b = c.in-Component.b in
+    let below : b < length s.model.blocks = subst (λ (w : What). IsPlainRole (length (attributes s.model)) (length s.model.blocks) (length s.model.controls) (HasGroups s.model) (role_seen w)) c.in-Component.is (role-told s.model c.args.node.0 c.role_of.result fit.servable.grouped c.role_of.ensures) in
+    let part = is-at c.args.self.now.parts b (subst (λ (t : State). b < length t.parts) c.self.view_is (omega (arith, below, fit.count))) in
+    ap (λ (t : State). t.controls) (c.write_at_arrival.ensures.written part.0 part.1)
+
 pub returns-in-Component-clause-written : goal.returns-in-Component-clause-written
 returns-in-Component-clause-written c =
     let s = c.self.inside in
