@@ -1,1 +1,4 @@
+pub mod SingleLaws
+pub mod SetLaws
+pub mod OwedLaws
 pub mod QueueLaws

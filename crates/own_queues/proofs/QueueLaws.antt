@@ -1,63 +1,47 @@
 -- Whether an association is open, and what waits for it, turn by turn.
-use Rattle.std.proofs.Common.{◌≡◌, ℕ, suc, ◌+◌, ◌-◌, Bool, true, false, List, [], ◌∷◌, ◌++◌, map, length, drop, refl, sym, ap, subst, ◌∙◌, arith, ◌==◌, eq-eqb}
-use Rattle.std.specs.Prelude.{Option, None, Some, ◌&&◌, ◌||◌, is_none, is_some, nat_le, if◌then◌else◌}
-use Rattle.std.specs.Option.{option_and_then, option_map_or}
+use Rattle.std.proofs.Common.{◌≡◌, ◌≤◌, ℕ, suc, ◌+◌, ◌-◌, Bool, true, false, List, [], ◌∷◌, map, length, drop, refl, sym, ap, subst, ◌∙◌, arith, ◌==◌, eq-eqb, inl, inr}
+use Rattle.std.specs.Prelude.{Option, None, Some, ◌||◌, is_none, is_some, nat_le, if◌then◌else◌}
+use Rattle.std.specs.Option.{option_map_or}
 use Rattle.std.proofs.lemmas.Bool.{eqb-true}
-use Rattle.sv_base.specs.declared.value.Value.{Value}
+use Rattle.std.proofs.lemmas.Bool.Decides.{nat_tests}
+use Rattle.list_laws.proofs.Places.{other-number}
 use Rattle.bay_model.specs.declared.answer.Output.{Output}
 use Rattle.bay_model.specs.declared.answer.Answer.TheVariants as answers
 use Rattle.bay_model.specs.declared.step.Step.{Step}
 use Rattle.bay_model.specs.declared.step.Step.TheVariants as steps
-use Rattle.bay_model.specs.Model.{Model, Call, select, operate, cancel}
-use Rattle.bay_model.specs.Points as points
-use Rattle.bay_model.specs.Points.{Deed, Change, Past, lost, called, took, terminated, reported, nothing, answered, finished, opened}
+use Rattle.bay_model.specs.Model.{Model}
+use Rattle.bay_model.specs.Points.{Deed, Change, Past, opened, lost, took, terminated, reported, nothing, answered, finished}
 use Rattle.bay_model.specs.Associations.{Ends, ends, ends_after}
-use Rattle.bay_model.specs.Controls.{Execution, execution, execution_after, underway, ended, is_enhanced, ends_by_done}
-use Rattle.bay_model.specs.Commands.{is_test}
-use Rattle.bay_model.specs.Waiting.{Waiting, reply, ending, waiting, put_by, extended, is_start, is_giving, ends_for, tests, tests_of, replies_in, waiting_replies}
+use Rattle.bay_model.specs.Controls.{execution}
+use Rattle.bay_model.specs.Waiting.{Waiting, reply, ending, waiting, extended, ends_for, tests, replies_in, waiting_replies}
 use Rattle.bay_model.specs.Singles.{Single, arrival, after_single, after_singles}
 use Rattle.bay_model.specs.Services.{singles_of, change_of}
 use Rattle.bay_model.specs.Reports.{Offer, first_offer}
 use Rattle.bay_model.specs.Takes.{taken, given_by, given_report}
-use Rattle.bay_model.specs.Answers.{Turn, History, points, deed_at, singles_after, output_for}
-use Rattle.bay_model.specs.Acceptance.{Fault, IsHistory, IsOpen, QueueFull, fault_at, fault, if_open, if_yours}
-use Rattle.bay_model.proofs.Deeds.{OfSingles, outcome, component_}
+use Rattle.bay_model.specs.Answers.{Turn, History, points, deed_at, singles_after}
+use Rattle.bay_model.specs.Acceptance.{Fault, IsHistory, IsOpen, QueueFull, fault_at, if_open, if_yours}
 use Rattle.bay_model.proofs.EveryPoint.{point}
-use Rattle.own_queues.specs.Queues.{open_behind, is_open, waits_behind, waits, IsPlain, IsItsOwn, AreTheirOwn, IsInOrder, own_fault, OpenBySteps, WaitsBySteps, AcceptedBySteps, AskedWithRoom}
-
--- a deed that opens and loses nothing, puts no reply and gives none
-abbrev IsQuiet : Deed → Type 0
-IsQuiet (opened e opener writer size) = ⊥
-IsQuiet (lost e) = ⊥
-IsQuiet (answered e output change) = ⊥
-IsQuiet (took e) = ⊥
-IsQuiet (terminated e k) = ⊥
-IsQuiet _ = Unit {0}
-
-of-singles : (c : Model) (past : Past) → OfSingles c past IsQuiet
-of-singles c past = record {
-  of_nothing = tt;
-  of_wrote = λ e b comp v free. tt;
-  of_put = λ e x v is. tt;
-  of_copied = λ e x v. tt;
-  of_activated = λ e d i. tt;
-  of_edited = λ e d i free. tt;
-  of_confirmed = λ e d is. tt;
-  of_called = λ e k j v. tt;
-  of_selected = λ e k. tt;
-}
+use Rattle.own_queues.specs.Opers.{opers_of, AreApart}
+use Rattle.own_queues.specs.Queues.{open_behind, is_open, waits_behind, waits, opers_behind, opers, IsItsOwn, AreTheirOwn, IsInOrder, own_fault, OpenBySteps, WaitsBySteps, AcceptedBySteps, AskedWithRoom}
+use Rattle.own_queues.proofs.SingleLaws.{IsStill, IsOne, opers_single, outcome, component_}
+use Rattle.own_queues.proofs.SetLaws.{opers_singles, named-only}
+use Rattle.own_queues.proofs.OwedLaws.{endings_in, replies-extended, endings-extended, no-replies, all-endings, less, owed, done-level, still-owed, still-waiting, singles-waiting, singles-owe}
 
 -- ---- whether it is open
 
-quiet-ends : (a : ℕ) (d : Deed) (was : Option Ends) → IsQuiet d → ends_after a d was ≡ was
-quiet-ends a (opened e opener writer size) was q = absurd q
-quiet-ends a (lost e) was q = absurd q
-quiet-ends a _ was q = refl
+still-ends : (a : ℕ) (d : Deed) (was : Option Ends) → IsStill d → ends_after a d was ≡ was
+still-ends a (opened e opener writer size) was q = absurd q
+still-ends a (lost e) was q = absurd q
+still-ends a _ was q = refl
+
+one-ends : (c : Model) (a e q : ℕ) (d : Deed) (was : Option Ends) → IsOne c e q d → ends_after a d was ≡ was
+one-ends c a e q d was (inl still) = still-ends a d was still
+one-ends c a e q d was (inr o) = ap (λ x. ends_after a x was) o.2
 
 singles-ends : (c : Model) (a e n m : ℕ) (ss : List Single) (past : Past) → ends a (after_singles c e n m ss past) ≡ ends a past
 singles-ends c a e n m [] past = refl
 singles-ends c a e n m (s ∷ ss) past =
-    singles-ends c a e n m ss (after_single c e n m s past) ∙ quiet-ends a _ (ends a past) (outcome c (arrival n m ∷ past) IsQuiet (of-singles c (arrival n m ∷ past)) e s)
+    singles-ends c a e n m ss (after_single c e n m s past) ∙ one-ends c a e (opers_single c s) _ (ends a past) (outcome c (arrival n m ∷ past) e s)
 
 -- what a Take comes to leaves all associations as they are
 take-ends : (c : Model) (a e n m : ℕ) (past : Past) → ends_after a (taken c e (arrival n m ∷ past)).deed (ends a past) ≡ ends a past
@@ -80,7 +64,7 @@ opened-turn : (c : Model) (a n : ℕ) (t : Turn) (s : Step) (past : Past) → is
 opened-turn c a n t (steps.Open e size writer) past = some-if (e.0 == a) _ (ends a past)
 opened-turn c a n t (steps.Ask e r) past = ap is_some (singles-ends c a e.0 n t.moment (singles_of c past r.service) past)
 opened-turn c a n t (steps.Write e b comp v) past =
-    ap is_some (quiet-ends a _ (ends a past) (component_ c (arrival n t.moment ∷ past) IsQuiet (of-singles c (arrival n t.moment ∷ past)) e.0 b.0 comp v))
+    ap is_some (still-ends a _ (ends a past) (component_ c (arrival n t.moment ∷ past) e.0 b.0 comp v))
 opened-turn c a n t (steps.Take e) past = ap is_some (take-ends c a e.0 n t.moment past)
 opened-turn c a n t (steps.Lost e) past = some-if (e.0 == a) None (ends a past)
 opened-turn c a n t (steps.Value settings) past = refl
@@ -92,215 +76,208 @@ pub open_by_steps : OpenBySteps
 open_by_steps c [] a = refl
 open_by_steps c (t ∷ h) a = opened-turn c a (length h) t t.step (points c h) ∙ ap (open_behind a t.step) (open_by_steps c h a)
 
--- ---- without such controls replies alone wait
+-- ---- an association that isn't open
 
-abbrev AllReplies : List Waiting → Type 0
-AllReplies [] = Unit {0}
-AllReplies (reply o ∷ ws) = AllReplies ws
-AllReplies (ending k good ∷ ws) = ⊥
+-- an Ask is accepted of an association that is open
+asked-open : (x : Option Ends) (a : ℕ) (f : Ends → Bool) (o : Option Fault) → if_open x a f o ≡ None → is_some x ≡ true
+asked-open None a f o h = absurd cc
+asked-open (Some x) a f o h = refl
 
-replies-append : (ws vs : List Waiting) → AllReplies ws → AllReplies vs → AllReplies (ws ++ vs)
-replies-append [] vs h i = i
-replies-append (reply o ∷ ws) vs h i = replies-append ws vs h i
-replies-append (ending k good ∷ ws) vs h i = absurd h
+-- nothing waits for it, and it wrote nothing
+abbrev IsNothing : ℕ → ℕ → Type 0
+IsNothing n o = (n ≡ 0) × (o ≡ 0)
 
-replies-extended : (ws vs : List Waiting) → AllReplies ws → AllReplies vs → AllReplies (extended ws vs)
-replies-extended ws [] h i = h
-replies-extended ws (v ∷ vs) h i = replies-append ws (v ∷ vs) h i
-
-replies-rest : (ws : List Waiting) → AllReplies ws → AllReplies (drop 1 ws)
-replies-rest [] h = tt
-replies-rest (reply o ∷ ws) h = h
-replies-rest (ending k good ∷ ws) h = absurd h
-
--- how many there are
-count-append : (ws vs : List Waiting) → replies_in (ws ++ vs) ≡ replies_in ws + replies_in vs
-count-append [] vs = omega arith
-count-append (reply o ∷ ws) vs = omega (arith, count-append ws vs)
-count-append (ending k good ∷ ws) vs = count-append ws vs
-
-count-extended : (ws vs : List Waiting) → replies_in (extended ws vs) ≡ replies_in ws + replies_in vs
-count-extended ws [] = omega arith
-count-extended ws (v ∷ vs) = count-append ws (v ∷ vs)
-
-count-rest : (ws : List Waiting) → AllReplies ws → replies_in (drop 1 ws) ≡ replies_in ws - 1
-count-rest [] h = omega arith
-count-rest (reply o ∷ ws) h = omega arith
-count-rest (ending k good ∷ ws) h = absurd h
-
-module _ (c : Model) (plain : IsPlain c) where
-  no-test : (d : Deed) → tests_of c d ≡ []
-  no-test (called a k select v) = refl
-  no-test (called a k operate v) = ap (λ b. if b && is_test v then k ∷ [] else []) (plain k)
-  no-test (called a k cancel v) = refl
-  no-test _ = refl
-
-  no-tests : (n : ℕ) (past : Past) → tests c n past ≡ []
-  no-tests n [] = refl
-  no-tests n (p ∷ before) = either (p.step == n) (no-tests n before) where
-    either : (b : Bool) → tests c n before ≡ [] → (if b then tests c n before ++ tests_of c p.deed else []) ≡ []
-    either true none = ap (λ l. l ++ tests_of c p.deed) none ∙ no-test p.deed
-    either false none = refl
-
-  starts-none : (k : ℕ) (j a : ℕ) (v : Value) → execution_after c k (called a j operate v) None ≡ None
-  starts-none k j a v = never (j == k) (Some (record { by = a; oper = v; phase = if is_test v then ended else underway })) where
-    never : (b : Bool) (begun : Option Execution) → (if b && is_enhanced c k then begun else None) ≡ None
-    never true begun = ap (λ b. if b then begun else None) (plain k)
-    never false begun = refl
-
-  abbrev no-one : Option Execution
-  no-one = None
-
-  if-none : (b : Bool) → (if b then no-one else no-one) ≡ no-one
-  if-none true = refl
-  if-none false = refl
-
-  still-none : (k : ℕ) (d : Deed) → execution_after c k d None ≡ None
-  still-none k (called a j select v) = refl
-  still-none k (called a j operate v) = starts-none k j a v
-  still-none k (called a j cancel v) = refl
-  still-none k (finished j good) = if-none (j == k)
-  still-none k (terminated a j) = if-none (j == k)
-  still-none k _ = refl
-
-  no-execution : (k : ℕ) (past : Past) → execution c k past ≡ None
-  no-execution k [] = refl
-  no-execution k (p ∷ before) = ap (execution_after c k p.deed) (no-execution k before) ∙ still-none k p.deed
-
-  puts-replies : (a n : ℕ) (d : Deed) (before : Past) → AllReplies (put_by c a n d before)
-  puts-replies a n (answered e o ch) before = either (e == a) where
-    either : (b : Bool) → AllReplies (if b then reply o ∷ map (λ k. ending k true) (tests c n before) else [])
-    either true = subst (λ ks. AllReplies (map (λ k. ending k true) ks)) (sym (no-tests n before)) tt
-    either false = tt
-  puts-replies a n (finished k good) before = subst (λ e. AllReplies (ends_for a k good e)) (sym (no-execution k before)) tt
-  puts-replies a n _ before = tt
-
-  all-replies : (a : ℕ) (past : Past) → AllReplies (waiting c a past)
-  all-replies a [] = tt
-  all-replies a (p ∷ before) = either (is_start a p.deed) (is_giving a p.deed) (all-replies a before) where
-    either : (s g : Bool) → AllReplies (waiting c a before) → AllReplies (if s then [] else (if g then drop 1 (waiting c a before) else extended (waiting c a before) (put_by c a p.step p.deed before)))
-    either true g all = tt
-    either false true all = replies-rest (waiting c a before) all
-    either false false all = replies-extended (waiting c a before) (put_by c a p.step p.deed before) all (puts-replies a p.step p.deed before)
-
-  -- ---- how many replies wait behind a deed
-
-  module _ (a : ℕ) where
-    abbrev count : Past → ℕ
-    count past = waiting_replies c a past
-
-    if-start : (b : Bool) (ws : List Waiting) → replies_in (if b then [] else ws) ≡ (if b then 0 else replies_in ws)
-    if-start true ws = refl
-    if-start false ws = refl
-
-    if-gives : (b : Bool) (ws : List Waiting) → AllReplies ws → replies_in (if b then drop 1 ws else ws) ≡ (if b then replies_in ws - 1 else replies_in ws)
-    if-gives true ws h = count-rest ws h
-    if-gives false ws h = refl
-
-    if-put : (b : Bool) (o : Output) (ks : List ℕ) (ws : List Waiting) → ks ≡ [] → replies_in (extended ws (if b then reply o ∷ map (λ k. ending k true) ks else [])) ≡ (if b then suc (replies_in ws) else replies_in ws)
-    if-put true o ks ws none = count-append ws (reply o ∷ map (λ k. ending k true) ks) ∙ (ap (λ ks. replies_in ws + suc (replies_in (map (λ k. ending k true) ks))) none ∙ (omega arith))
-    if-put false o ks ws none = refl
-
-    quiet-count : (n m : ℕ) (d : Deed) (past : Past) → IsQuiet d → count (point n m d ∷ past) ≡ count past
-    quiet-count n m (opened e opener writer size) past q = absurd q
-    quiet-count n m (lost e) past q = absurd q
-    quiet-count n m (answered e o ch) past q = absurd q
-    quiet-count n m (took e) past q = absurd q
-    quiet-count n m (terminated e k) past q = absurd q
-    quiet-count n m (finished k good) past q = ap (λ e. replies_in (extended (waiting c a past) (ends_for a k good e))) (no-execution k past)
-    quiet-count n m _ past q = refl
-
-    singles-count : (e n m : ℕ) (ss : List Single) (past : Past) → count (after_singles c e n m ss past) ≡ count past
-    singles-count e n m [] past = refl
-    singles-count e n m (s ∷ ss) past =
-        singles-count e n m ss (after_single c e n m s past) ∙ quiet-count n m _ past (outcome c (arrival n m ∷ past) IsQuiet (of-singles c (arrival n m ∷ past)) e s)
-
-    if-same : (b : Bool) (n : ℕ) → n ≡ (if b then n else n)
-    if-same true n = refl
-    if-same false n = refl
-
-    if-zero : (b : Bool) (n : ℕ) → (b ≡ true → n ≡ 0) → n ≡ (if b then n - 1 else n)
-    if-zero true n h = omega (arith, h refl)
-    if-zero false n h = refl
-
-    -- no reply waits for one that isn't open
-    take-count : (e n m : ℕ) (past : Past) → (is_some (ends a past) ≡ false → count past ≡ 0) → count (point n m (taken c e (arrival n m ∷ past)).deed ∷ past) ≡ (if e == a then count past - 1 else count past)
-    take-count e n m past closed = either (ends e past) refl (waiting c e past) refl where
-      none : (o : Deed) → IsQuiet o → (e ≡ a → count past ≡ 0) → count (point n m o ∷ past) ≡ (if e == a then count past - 1 else count past)
-      none o q zero = quiet-count n m o past q ∙ if-zero (e == a) (count past) (λ is. zero (eqb-true e a is))
-
-      report : (o : Option Offer) → (e ≡ a → count past ≡ 0) → count (point n m (given_report c e (arrival n m ∷ past) o).deed ∷ past) ≡ (if e == a then count past - 1 else count past)
-      report None zero = none nothing tt zero
-      report (Some o) zero = none (reported e o.block o.id) tt zero
-
-      either : (x : Option Ends) → ends e past ≡ x → (ws : List Waiting) → waiting c e past ≡ ws
-          → count (point n m (if is_none x then record { answer = answers.Closed; deed = nothing } else given_by c e (arrival n m ∷ past) ws).deed ∷ past) ≡ (if e == a then count past - 1 else count past)
-      either None shut ws is = none nothing tt (λ same. closed (ap (λ b. is_some (ends b past)) (sym same) ∙ ap is_some shut))
-      either (Some x) shut [] is = report (first_offer c e (arrival n m ∷ past) 0 c.blocks) (λ same. ap (λ b. replies_in (waiting c b past)) (sym same) ∙ ap replies_in is)
-      either (Some x) shut (reply o ∷ ws) is = if-gives (e == a) (waiting c a past) (all-replies a past)
-      either (Some x) shut (ending k good ∷ ws) is = if-gives (e == a) (waiting c a past) (all-replies a past)
-
-    count-turn : (n : ℕ) (t : Turn) (s : Step) (past : Past) → (is_some (ends a past) ≡ false → count past ≡ 0) → count (point n t.moment (deed_at c n t past s) ∷ singles_after c n t past s) ≡ waits_behind a s (count past)
-    count-turn n t (steps.Open e size writer) past closed = if-start (e.0 == a) (waiting c a past)
-    count-turn n t (steps.Ask e r) past closed =
-        let after : Past = after_singles c e.0 n t.moment (singles_of c past r.service) past in
-        if-put (e.0 == a) (output_for c n t.moment e.0 r past) (tests c n after) (waiting c a after) (no-tests n after)
-        ∙ ap (λ k. if e.0 == a then suc k else k) (singles-count e.0 n t.moment (singles_of c past r.service) past)
-    count-turn n t (steps.Write e b comp v) past closed = quiet-count n t.moment _ past (component_ c (arrival n t.moment ∷ past) IsQuiet (of-singles c (arrival n t.moment ∷ past)) e.0 b.0 comp v)
-    count-turn n t (steps.Take e) past closed = take-count e.0 n t.moment past closed
-    count-turn n t (steps.Lost e) past closed = if-start (e.0 == a) (waiting c a past)
-    count-turn n t (steps.Value settings) past closed = refl
-    count-turn n t (steps.Done k good) past closed = quiet-count n t.moment (finished k.0 good) past tt
-    count-turn n t (steps.Block k flag) past closed = refl
-    count-turn n t steps.Tick past closed = refl
-
-  -- ---- histories
-
-  -- an Ask is accepted of an association that is open
-  asked-open : (x : Option Ends) (a : ℕ) (f : Ends → Bool) (o : Option Fault) → if_open x a f o ≡ None → is_some x ≡ true
-  asked-open None a f o h = absurd cc
-  asked-open (Some x) a f o h = refl
-
-  if-shut : (b : Bool) (n : ℕ) (was : Bool) → (was ≡ false → n ≡ 0) → (if b then true else was) ≡ false → (if b then 0 else n) ≡ 0
-  if-shut true n was zero is = refl
-  if-shut false n was zero is = zero is
-
-  if-lost : (b : Bool) (n : ℕ) (was : Bool) → (was ≡ false → n ≡ 0) → (if b then false else was) ≡ false → (if b then 0 else n) ≡ 0
-  if-lost true n was zero is = refl
-  if-lost false n was zero is = zero is
-
-  shut-turn : (a : ℕ) (h : History) (t : Turn) (s : Step) → fault_at c t.actor (points c h) s ≡ None → (is_open a h ≡ false → waits a h ≡ 0) → open_behind a s (is_open a h) ≡ false → waits_behind a s (waits a h) ≡ 0
-  shut-turn a h t (steps.Open e size writer) goes zero is = if-shut (e.0 == a) (waits a h) (is_open a h) zero is
-  shut-turn a h t (steps.Ask e r) goes zero is = either (e.0 == a) refl where
-    either : (b : Bool) → (e.0 == a) ≡ b → (if b then suc (waits a h) else waits a h) ≡ 0
+module _ (c : Model) (a : ℕ) where
+  shut-turn : (h : History) (t : Turn) (s : Step) → fault_at c t.actor (points c h) s ≡ None → (is_open a h ≡ false → IsNothing (waits a h) (opers c a h)) → open_behind a s (is_open a h) ≡ false
+      → IsNothing (waits_behind a s (waits a h)) (opers_behind c a s (opers c a h))
+  shut-turn h t (steps.Open e size writer) goes zero is = either (e.0 == a) is where
+    either : (b : Bool) → (if b then true else is_open a h) ≡ false → IsNothing (if b then 0 else waits a h) (if b then 0 else opers c a h)
+    either true is = (refl, refl)
+    either false is = zero is
+  shut-turn h t (steps.Ask e r) goes zero is = either (e.0 == a) refl where
+    either : (b : Bool) → (e.0 == a) ≡ b → IsNothing (if b then suc (waits a h) else waits a h) (if b then opers c a h + opers_of c r.service else opers c a h)
     either true same =
-        let opened : is_some (ends e.0 (points c h)) ≡ true = asked-open (ends e.0 (points c h)) e.0 (λ x. t.actor == x.opener) (if nat_le 16 (waiting_replies c e.0 (points c h)) then Some (QueueFull e.0) else None) goes in
-        let clash : false ≡ true = sym is ∙ (sym (open_by_steps c h a) ∙ (ap (λ b. is_some (ends b (points c h))) (sym (eqb-true e.0 a same)) ∙ opened)) in
+        let asked : is_some (ends e.0 (points c h)) ≡ true = asked-open (ends e.0 (points c h)) e.0 (λ x. t.actor == x.opener) (if nat_le 16 (waiting_replies c e.0 (points c h)) then Some (QueueFull e.0) else None) goes in
+        let clash : false ≡ true = sym is ∙ (sym (open_by_steps c h a) ∙ (ap (λ b. is_some (ends b (points c h))) (sym (eqb-true e.0 a same)) ∙ asked)) in
         absurd cc
     either false same = zero is
-  shut-turn a h t (steps.Write e b comp v) goes zero is = zero is
-  shut-turn a h t (steps.Take e) goes zero is = either (e.0 == a) where
-    either : (b : Bool) → (if b then waits a h - 1 else waits a h) ≡ 0
-    either true = omega (arith, zero is)
+  shut-turn h t (steps.Write e b comp v) goes zero is = zero is
+  shut-turn h t (steps.Take e) goes zero is = either (e.0 == a) where
+    either : (b : Bool) → IsNothing (if b then waits a h - 1 else waits a h) (opers c a h)
+    either true = (omega (arith, (zero is).0), (zero is).1)
     either false = zero is
-  shut-turn a h t (steps.Lost e) goes zero is = if-lost (e.0 == a) (waits a h) (is_open a h) zero is
-  shut-turn a h t (steps.Value settings) goes zero is = zero is
-  shut-turn a h t (steps.Done k good) goes zero is = zero is
-  shut-turn a h t (steps.Block k flag) goes zero is = zero is
-  shut-turn a h t steps.Tick goes zero is = zero is
+  shut-turn h t (steps.Lost e) goes zero is = either (e.0 == a) is where
+    either : (b : Bool) → (if b then false else is_open a h) ≡ false → IsNothing (if b then 0 else waits a h) (if b then 0 else opers c a h)
+    either true is = (refl, refl)
+    either false is = zero is
+  shut-turn h t (steps.Value settings) goes zero is = zero is
+  shut-turn h t (steps.Done k good) goes zero is = zero is
+  shut-turn h t (steps.Block k flag) goes zero is = zero is
+  shut-turn h t steps.Tick goes zero is = zero is
 
-  shut-waits : (h : History) → IsHistory c h → (a : ℕ) → is_open a h ≡ false → waits a h ≡ 0
-  shut-waits [] legal a is = refl
-  shut-waits (t ∷ h) legal a is = shut-turn a h t t.step legal.1 (shut-waits h legal.0 a) is
+  shut-nothing : (h : History) → IsHistory c h → is_open a h ≡ false → IsNothing (waits a h) (opers c a h)
+  shut-nothing [] legal is = (refl, refl)
+  shut-nothing (t ∷ h) legal is = shut-turn h t t.step legal.1 (shut-nothing h legal.0) is
 
-  pub waits-by : (h : History) → IsHistory c h → (a : ℕ) → waiting_replies c a (points c h) ≡ waits a h
-  waits-by [] legal a = refl
-  waits-by (t ∷ h) legal a =
-      count-turn a (length h) t t.step (points c h) (λ shut. waits-by h legal.0 a ∙ shut-waits h legal.0 a (sym (open_by_steps c h a) ∙ shut))
-      ∙ ap (waits_behind a t.step) (waits-by h legal.0 a)
+-- ---- how many wait
+
+-- r replies and e terminations wait, and k commands will end in one more each, where n replies are counted and o Opers
+abbrev IsLevel : ℕ → ℕ → ℕ → ℕ → ℕ → Type 0
+IsLevel r e k n o = (n ≤ r) × ((r + e) + k ≤ n + o) × (e + k ≤ o)
+
+fewer : (r e k n o j : ℕ) → IsLevel r e k n o → j ≤ k → IsLevel r e j n o
+fewer r e k n o j l le = (l.0, omega (arith, l.1, le), omega (arith, l.2, le))
+
+asked : (r e k n o j t q : ℕ) → IsLevel r e k n o → j + t ≤ k + q → IsLevel (suc r) (e + t) j (suc n) (o + q)
+asked r e k n o j t q l le = (omega (arith, l.0), omega (arith, l.1, le), omega (arith, l.2, le))
+
+ended_ : (r e k n o x j : ℕ) → IsLevel r e k n o → x + j ≤ k → IsLevel r (e + x) j n o
+ended_ r e k n o x j l le = (l.0, omega (arith, l.1, le), omega (arith, l.2, le))
+
+gave-reply : (r e k n o : ℕ) → IsLevel (suc r) e k n o → IsLevel r e k (n - 1) o
+gave-reply r e k n o l = (omega (arith, l.0), omega (arith, l.1, l.2, l.0), l.2)
+
+gave-ending : (r e k n o : ℕ) → IsLevel r (suc e) k n o → IsLevel r e k (n - 1) o
+gave-ending r e k n o l = (omega (arith, l.0), omega (arith, l.1), omega (arith, l.2))
+
+gave-none : (k n o : ℕ) → IsLevel 0 0 k n o → IsLevel 0 0 k (n - 1) o
+gave-none k n o l = (omega (arith, l.0), omega (arith, l.0, l.2), l.2)
+
+started : (r e k n o : ℕ) → IsLevel r e k n o → o ≡ 0 → IsLevel 0 0 k 0 0
+started r e k n o l none = (omega arith, omega (arith, l.2, none), omega (arith, l.2, none))
+
+fresh : (c : Model) (h : History) → tests c (length h) (points c h) ≡ []
+fresh c [] = refl
+fresh c (t ∷ h) = rw (other-number (length h) (suc (length h)) (λ e. omega (arith, e))) refl
+
+module _ (c : Model) (a : ℕ) where
+  abbrev level : Past → ℕ → ℕ → Type 0
+  level past n o = IsLevel (replies_in (waiting c a past)) (endings_in (waiting c a past)) (length (owed c a past)) n o
+
+  still-level : (n m w o : ℕ) (d : Deed) (past : Past) → IsStill d → level past w o → level (point n m d ∷ past) w o
+  still-level n m w o d past q l =
+      subst (λ ws. IsLevel (replies_in ws) (endings_in ws) (length (owed c a (point n m d ∷ past))) w o) (sym (still-waiting c a n m d past q))
+      (fewer _ _ (length (owed c a past)) w o _ l (let same : length (owed c a (point n m d ∷ past)) ≡ length (owed c a past) = ap (λ (ks : List ℕ). length ks) (still-owed c a d (owed c a past) q) in omega (arith, same)))
+
+  ask-level : (e n m w o q : ℕ) (out : Output) (ch : Change) (ss : List Single) (past : Past) → tests c n past ≡ [] → opers_singles c ss ≡ q → level past w o
+      → level (point n m (answered e out ch) ∷ after_singles c e n m ss past) (if e == a then suc w else w) (if e == a then o + q else o)
+  ask-level e n m w o q out ch ss past none many l = either (e == a) (singles-owe c a e n m ss past) where
+    after : Past
+    after = after_singles c e n m ss past
+
+    ws : List Waiting
+    ws = waiting c a past
+
+    either : (b : Bool) → length (owed c a after) + (if b then length (tests c n after) else 0) ≤ (length (owed c a past) + (if b then length (tests c n past) else 0)) + (if b then opers_singles c ss else 0)
+        → IsLevel (replies_in (extended (waiting c a after) (if b then reply out ∷ map (λ k. ending k true) (tests c n after) else [])))
+        (endings_in (extended (waiting c a after) (if b then reply out ∷ map (λ k. ending k true) (tests c n after) else []))) (length (owed c a after)) (if b then suc w else w) (if b then o + q else o)
+    either true le =
+        let ts : List ℕ = tests c n after in
+        let put : List Waiting = reply out ∷ map (λ k. ending k true) ts in
+        let same : waiting c a after ≡ ws = singles-waiting c a e n m ss past in
+        let r : replies_in (extended (waiting c a after) put) ≡ suc (replies_in ws) = omega (arith, replies-extended (waiting c a after) put, no-replies ts, ap replies_in same) in
+        let x : endings_in (extended (waiting c a after) put) ≡ endings_in ws + length ts = omega (arith, endings-extended (waiting c a after) put, all-endings ts, ap endings_in same) in
+        let no : length (tests c n past) ≡ 0 = ap (λ (l : List ℕ). length l) none in
+        subst (λ i. IsLevel i (endings_in (extended (waiting c a after) put)) (length (owed c a after)) (suc w) (o + q)) (sym r)
+        (subst (λ i. IsLevel (suc (replies_in ws)) i (length (owed c a after)) (suc w) (o + q)) (sym x)
+        (asked (replies_in ws) (endings_in ws) (length (owed c a past)) w o (length (owed c a after)) (length ts) q l (omega (arith, le, no, many))))
+    either false le =
+        subst (λ l. IsLevel (replies_in l) (endings_in l) (length (owed c a after)) w o) (sym (singles-waiting c a e n m ss past))
+        (fewer (replies_in ws) (endings_in ws) (length (owed c a past)) w o (length (owed c a after)) l (omega (arith, le)))
+
+  done-turn : (n m k w o : ℕ) (good : Bool) (past : Past) → level past w o → level (point n m (finished k good) ∷ past) w o
+  done-turn n m k w o good past l =
+      let ws = waiting c a past in
+      let vs = ends_for a k good (execution c k past) in
+      let d = done-level c a k good past in
+      let r : replies_in (extended ws vs) ≡ replies_in ws = omega (arith, replies-extended ws vs, d.0) in
+      subst (λ i. IsLevel i (endings_in (extended ws vs)) (length (less k (owed c a past))) w o) (sym r)
+      (subst (λ i. IsLevel (replies_in ws) i (length (less k (owed c a past))) w o) (sym (endings-extended ws vs))
+      (ended_ (replies_in ws) (endings_in ws) (length (owed c a past)) w o (endings_in vs) (length (less k (owed c a past))) l d.1))
+
+  -- nothing waits for one that isn't open
+  take-level : (e n m w o : ℕ) (past : Past) → (is_some (ends a past) ≡ false → w ≡ 0) → level past w o
+      → level (point n m (taken c e (arrival n m ∷ past)).deed ∷ past) (if e == a then w - 1 else w) o
+  take-level e n m w o past shut l = either (ends e past) refl (waiting c e past) refl where
+    -- it gives nothing, where nothing waits
+    none : (d : Deed) → IsStill d → (e ≡ a → w - 1 ≡ w) → level (point n m d ∷ past) (if e == a then w - 1 else w) o
+    none d q zero = by (e == a) refl where
+      by : (b : Bool) → (e == a) ≡ b → level (point n m d ∷ past) (if b then w - 1 else w) o
+      by true is = subst (λ i. level (point n m d ∷ past) i o) (sym (zero (eqb-true e a is))) (still-level n m w o d past q l)
+      by false is = still-level n m w o d past q l
+
+    empty : waiting c e past ≡ [] → e ≡ a → w - 1 ≡ w
+    empty is same =
+        let no : replies_in (waiting c a past) ≡ 0 = ap (λ b. replies_in (waiting c b past)) (sym same) ∙ ap replies_in is in
+        omega (arith, l.0, no)
+
+    report : (x : Option Offer) → (e ≡ a → w - 1 ≡ w) → level (point n m (given_report c e (arrival n m ∷ past) x).deed ∷ past) (if e == a then w - 1 else w) o
+    report None zero = none nothing tt zero
+    report (Some x) zero = none (reported e x.block x.id) tt zero
+
+    given-reply : (out : Output) (ws : List Waiting) → waiting c e past ≡ reply out ∷ ws → level (point n m (took e) ∷ past) (if e == a then w - 1 else w) o
+    given-reply out ws is = by (e == a) refl where
+      by : (b : Bool) → (e == a) ≡ b → IsLevel (replies_in (if b then drop 1 (waiting c a past) else waiting c a past)) (endings_in (if b then drop 1 (waiting c a past) else waiting c a past)) (length (owed c a past)) (if b then w - 1 else w) o
+      by true same =
+          let first : waiting c a past ≡ reply out ∷ ws = ap (λ b. waiting c b past) (sym (eqb-true e a same)) ∙ is in
+          subst (λ l. IsLevel (replies_in (drop 1 l)) (endings_in (drop 1 l)) (length (owed c a past)) (w - 1) o) (sym first)
+          (gave-reply (replies_in ws) (endings_in ws) (length (owed c a past)) w o (subst (λ l. IsLevel (replies_in l) (endings_in l) (length (owed c a past)) w o) first l))
+      by false other = l
+
+    given-ending : (k : ℕ) (good : Bool) (ws : List Waiting) → waiting c e past ≡ ending k good ∷ ws → level (point n m (terminated e k) ∷ past) (if e == a then w - 1 else w) o
+    given-ending k good ws is = by (e == a) refl where
+      by : (b : Bool) → (e == a) ≡ b → IsLevel (replies_in (if b then drop 1 (waiting c a past) else waiting c a past)) (endings_in (if b then drop 1 (waiting c a past) else waiting c a past)) (length (owed c a past)) (if b then w - 1 else w) o
+      by true same =
+          let first : waiting c a past ≡ ending k good ∷ ws = ap (λ b. waiting c b past) (sym (eqb-true e a same)) ∙ is in
+          subst (λ l. IsLevel (replies_in (drop 1 l)) (endings_in (drop 1 l)) (length (owed c a past)) (w - 1) o) (sym first)
+          (gave-ending (replies_in ws) (endings_in ws) (length (owed c a past)) w o (subst (λ l. IsLevel (replies_in l) (endings_in l) (length (owed c a past)) w o) first l))
+      by false other = l
+
+    either : (x : Option Ends) → ends e past ≡ x → (ws : List Waiting) → waiting c e past ≡ ws
+        → level (point n m (if is_none x then record { answer = answers.Closed; deed = nothing } else given_by c e (arrival n m ∷ past) ws).deed ∷ past) (if e == a then w - 1 else w) o
+    either None closed ws is = none nothing tt (λ same. let no : w ≡ 0 = shut (ap (λ b. is_some (ends b past)) (sym same) ∙ ap is_some closed) in omega (arith, no))
+    either (Some x) opened_ [] is = report (first_offer c e (arrival n m ∷ past) 0 c.blocks) (empty is)
+    either (Some x) opened_ (reply out ∷ ws) is = given-reply out ws is
+    either (Some x) opened_ (ending k good ∷ ws) is = given-ending k good ws is
+
+  -- a step of it starts it anew
+  start-level : (b : Bool) (w o : ℕ) (ws : List Waiting) (ks : List ℕ) → IsLevel (replies_in ws) (endings_in ws) (length ks) w o → (b ≡ true → o ≡ 0)
+      → IsLevel (replies_in (if b then [] else ws)) (endings_in (if b then [] else ws)) (length ks) (if b then 0 else w) (if b then 0 else o)
+  start-level true w o ws ks l none = started (replies_in ws) (endings_in ws) (length ks) w o l (none refl)
+  start-level false w o ws ks l none = l
+
+  lost-level : (b : Bool) (w o : ℕ) (ws : List Waiting) (ks : List ℕ) → IsLevel (replies_in ws) (endings_in ws) (length ks) w o
+      → IsLevel (replies_in (if b then [] else ws)) (endings_in (if b then [] else ws)) (length (if b then [] else ks)) (if b then 0 else w) (if b then 0 else o)
+  lost-level true w o ws ks l = (omega arith, omega arith, omega arith)
+  lost-level false w o ws ks l = l
+
+  -- an Open is accepted of an association that isn't open
+  opens : (b : Bool) (e : ℕ) → (if b then Some (IsOpen e) else None) ≡ None → b ≡ false
+  opens true e h = absurd cc
+  opens false e h = refl
+
+  module _ (apart : AreApart c) where
+    level-turn : (h : History) (t : Turn) (s : Step) → fault_at c t.actor (points c h) s ≡ None → (is_some (ends a (points c h)) ≡ false → IsNothing (waits a h) (opers c a h)) → level (points c h) (waits a h) (opers c a h)
+        → level (point (length h) t.moment (deed_at c (length h) t (points c h) s) ∷ singles_after c (length h) t (points c h) s) (waits_behind a s (waits a h)) (opers_behind c a s (opers c a h))
+    level-turn h t (steps.Open e size writer) goes shut l =
+        start-level (e.0 == a) (waits a h) (opers c a h) (waiting c a (points c h)) (owed c a (points c h)) l
+        (λ is. (shut (ap (λ b. is_some (ends b (points c h))) (sym (eqb-true e.0 a is)) ∙ opens (is_some (ends e.0 (points c h))) e.0 goes)).1)
+    level-turn h t (steps.Ask e r) goes shut l =
+        ask-level e.0 (length h) t.moment (waits a h) (opers c a h) (opers_of c r.service) _ (change_of c (points c h) r.service) (singles_of c (points c h) r.service) (points c h) (fresh c h) (named-only c apart h r.service) l
+    level-turn h t (steps.Write e b comp v) goes shut l = still-level (length h) t.moment (waits a h) (opers c a h) _ (points c h) (component_ c (arrival (length h) t.moment ∷ points c h) e.0 b.0 comp v) l
+    level-turn h t (steps.Take e) goes shut l = take-level e.0 (length h) t.moment (waits a h) (opers c a h) (points c h) (λ is. (shut is).0) l
+    level-turn h t (steps.Lost e) goes shut l = lost-level (e.0 == a) (waits a h) (opers c a h) (waiting c a (points c h)) (owed c a (points c h)) l
+    level-turn h t (steps.Value settings) goes shut l = l
+    level-turn h t (steps.Done k good) goes shut l = done-turn (length h) t.moment k.0 (waits a h) (opers c a h) good (points c h) l
+    level-turn h t (steps.Block k flag) goes shut l = l
+    level-turn h t steps.Tick goes shut l = l
+
+    pub level-by : (h : History) → IsHistory c h → level (points c h) (waits a h) (opers c a h)
+    level-by [] legal = (omega arith, omega arith, omega arith)
+    level-by (t ∷ h) legal = level-turn h t t.step legal.1 (λ is. shut-nothing c a h legal.0 (sym (open_by_steps c h a) ∙ is)) (level-by h legal.0)
 
 pub waits_by_steps : WaitsBySteps
-waits_by_steps c plain h legal a = waits-by c plain h legal a
+waits_by_steps c apart h legal a = let l = level-by c a apart h legal in (l.0, omega (arith, l.1))
 
 -- ---- whose an association is
 
@@ -315,7 +292,7 @@ own-turn c a n t (steps.Open e size writer) past own are = either (e.0 == a) ref
   either false is = are
 own-turn c a n t (steps.Ask e r) past own are = subst (AreOwn a) (sym (singles-ends c a e.0 n t.moment (singles_of c past r.service) past)) are
 own-turn c a n t (steps.Write e b comp v) past own are =
-    subst (AreOwn a) (sym (quiet-ends a _ (ends a past) (component_ c (arrival n t.moment ∷ past) IsQuiet (of-singles c (arrival n t.moment ∷ past)) e.0 b.0 comp v))) are
+    subst (AreOwn a) (sym (still-ends a _ (ends a past) (component_ c (arrival n t.moment ∷ past) e.0 b.0 comp v))) are
 own-turn c a n t (steps.Take e) past own are = subst (AreOwn a) (sym (take-ends c a e.0 n t.moment past)) are
 own-turn c a n t (steps.Lost e) past own are = either (e.0 == a) where
   either : (b : Bool) → AreOwn a (if b then None else ends a past)
@@ -347,21 +324,20 @@ taken-yours : (x : Option Ends) (actor a : ℕ) → AreOwn a x → actor ≡ a �
 taken-yours None actor a own mine = refl
 taken-yours (Some e) actor a own mine = ap (λ b. if_yours b a None) (eq-eqb actor e.writer (mine ∙ sym own.1))
 
-accepted : (c : Model) → IsPlain c → (h : History) → IsHistory c h → AreTheirOwn h → (t : Turn) (s : Step) → IsItsOwn t s → IsInOrder (λ a. is_open a h) s → fault_at c t.actor (points c h) s ≡ own_fault s (λ a. waits a h)
-accepted c plain h legal own t (steps.Open e size writer) mine order = ap (λ b. if b then Some (IsOpen e.0) else None) (open_by_steps c h e.0 ∙ order)
-accepted c plain h legal own t (steps.Ask e r) mine order =
+accepted : (c : Model) (h : History) → AreTheirOwn h → (t : Turn) (s : Step) → IsItsOwn t s → IsInOrder (λ a. is_open a h) s → fault_at c t.actor (points c h) s ≡ own_fault s (λ a. waiting_replies c a (points c h))
+accepted c h own t (steps.Open e size writer) mine order = ap (λ b. if b then Some (IsOpen e.0) else None) (open_by_steps c h e.0 ∙ order)
+accepted c h own t (steps.Ask e r) mine order =
     opened-yours (ends e.0 (points c h)) t.actor e.0 (if nat_le 16 (waiting_replies c e.0 (points c h)) then Some (QueueFull e.0) else None) (open_by_steps c h e.0 ∙ order) (own-ends c h own e.0) mine
-    ∙ ap (λ n. if nat_le 16 n then Some (QueueFull e.0) else None) (waits-by c plain h legal e.0)
-accepted c plain h legal own t (steps.Write e b comp v) mine order = opened-yours (ends e.0 (points c h)) t.actor e.0 None (open_by_steps c h e.0 ∙ order) (own-ends c h own e.0) mine
-accepted c plain h legal own t (steps.Take e) mine order = taken-yours (ends e.0 (points c h)) t.actor e.0 (own-ends c h own e.0) mine
-accepted c plain h legal own t (steps.Lost e) mine order = lost-yours (ends e.0 (points c h)) t.actor e.0 (open_by_steps c h e.0 ∙ order) (own-ends c h own e.0) mine
-accepted c plain h legal own t (steps.Value settings) mine order = refl
-accepted c plain h legal own t (steps.Done k good) mine order = refl
-accepted c plain h legal own t (steps.Block k flag) mine order = refl
-accepted c plain h legal own t steps.Tick mine order = refl
+accepted c h own t (steps.Write e b comp v) mine order = opened-yours (ends e.0 (points c h)) t.actor e.0 None (open_by_steps c h e.0 ∙ order) (own-ends c h own e.0) mine
+accepted c h own t (steps.Take e) mine order = taken-yours (ends e.0 (points c h)) t.actor e.0 (own-ends c h own e.0) mine
+accepted c h own t (steps.Lost e) mine order = lost-yours (ends e.0 (points c h)) t.actor e.0 (open_by_steps c h e.0 ∙ order) (own-ends c h own e.0) mine
+accepted c h own t (steps.Value settings) mine order = refl
+accepted c h own t (steps.Done k good) mine order = refl
+accepted c h own t (steps.Block k flag) mine order = refl
+accepted c h own t steps.Tick mine order = refl
 
 pub accepted_by_steps : AcceptedBySteps
-accepted_by_steps c plain h legal own t mine order = accepted c plain h legal own t t.step mine order
+accepted_by_steps c h own t mine order = accepted c h own t t.step mine order
 
 -- ---- an accepted request
 
@@ -373,7 +349,11 @@ found-room (Some e) a n f h = either (f e) (nat_le 16 n) refl h where
   either true true is h = absurd cc
   either true false is h = is
 
+-- what is no more than another number is below 16 where that is
+below : (n m : ℕ) → n ≤ m → nat_le 16 m ≡ false → nat_le 16 n ≡ false
+below n m le h = grind (arith, nat_tests)
+
 pub asked_with_room : AskedWithRoom
-asked_with_room c plain h legal t a r is goes =
-    ap (λ n. nat_le 16 n) (sym (waits-by c plain h legal a.0))
-    ∙ found-room (ends a.0 (points c h)) a.0 (waiting_replies c a.0 (points c h)) (λ e. t.actor == e.opener) (sym (ap (fault_at c t.actor (points c h)) is) ∙ goes)
+asked_with_room c apart h legal t a r is goes =
+    below (waits a.0 h) (waiting_replies c a.0 (points c h)) (waits_by_steps c apart h legal a.0).0
+    (found-room (ends a.0 (points c h)) a.0 (waiting_replies c a.0 (points c h)) (λ e. t.actor == e.opener) (sym (ap (fault_at c t.actor (points c h)) is) ∙ goes))

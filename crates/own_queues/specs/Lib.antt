@@ -1,1 +1,2 @@
+pub mod Opers
 pub mod Queues

@@ -1,18 +1,17 @@
 -- What comes of a race is known from the scripts: an actor stops at the first request for which its own script leaves no room.
-use Rattle.std.proofs.Common.{◌≡◌, ◌+◌, ◌==◌, ◌||◌, ◌&&◌, ℕ, zero, suc, Bool, true, false, cond, not, List, [], ◌∷◌, ◌++◌, length, take, map, get_or, refl, sym, ap, subst, ◌∙◌, arith, inl, inr}
+use Rattle.std.proofs.Common.{◌≡◌, ◌+◌, ◌==◌, ◌||◌, ◌&&◌, ℕ, zero, suc, Bool, true, false, cond, not, List, [], ◌∷◌, ◌++◌, length, take, map, get_or, refl, sym, ap, ap₂, subst, ◌∙◌, arith, inl, inr}
 use Rattle.std.specs.Prelude.{Option, None, Some, nat_le, slice_get, unwrap_or, if◌then◌else◌}
 use Rattle.std.specs.Option.{option_map}
 use Rattle.std.proofs.lemmas.Bool.Decides.{eqb_tells, leb_tells}
 use Rattle.std.proofs.lemmas.List.{take_all}
 use Rattle.sv_base.specs.declared.config.Config.{Config}
-use Rattle.sv_base.specs.declared.config.CtlDef.{CtlDef}
 use Rattle.bay_model.specs.declared.step.Step.{Step}
 use Rattle.bay_model.specs.declared.step.Step.TheVariants as steps
-use Rattle.bay_model.specs.Model.{Control, truth}
-use Rattle.bay_model.specs.Configured.{control_defined}
+use Rattle.bay_model.specs.Model.{Model}
 use Rattle.bay_model.specs.Named.{configured_model}
 use Rattle.bay_model.specs.Acceptance.{Fault, IsOpen, NotOpen, NotYours, QueueFull, fault}
-use Rattle.bay_model.specs.Answers.{History}
+use Rattle.bay_model.specs.Answers.{History, points}
+use Rattle.bay_model.specs.Waiting.{waiting_replies}
 use Rattle.bay_core.specs.declared.fault.StepFault.{StepFault}
 use Rattle.bay_core.specs.declared.fault.StepFault.TheVariants as faults
 use Rattle.bay_core.specs.Turns.{named}
@@ -26,10 +25,11 @@ use Rattle.script_threads.specs.Scripts.{turns_onto, turns_by}
 use Rattle.script_threads.specs.declared.part.Part.{Part}
 use Rattle.script_threads.specs.declared.script.Script.{Script as Played}
 use Rattle.script_threads.specs.declared.script.TimedStep.{TimedStep}
-use Rattle.own_queues.specs.Queues.{open_behind, is_open, waits_behind, waits, IsPlain, IsItsOwn, AreTheirOwn, IsInOrder, own_fault}
-use Rattle.own_queues.proofs.QueueLaws.{accepted_by_steps}
+use Rattle.own_queues.specs.Opers.{AreApart}
+use Rattle.own_queues.specs.Queues.{open_behind, is_open, waits, opers, IsItsOwn, AreTheirOwn, IsInOrder, own_fault}
+use Rattle.own_queues.proofs.QueueLaws.{waits_by_steps, accepted_by_steps}
+use Rattle.record_outcome.proofs.StartLaws.{is_served}
 use Rattle.script_reading.specs.Plans.{Script, Plan, script_of}
-use Rattle.script_reading.specs.Unbuilt.{is_enhanced, least_with, first_enhanced}
 use Rattle.script_reading.specs.Sound.{IsTold, AreTold, IsScriptOrNone, IsSound}
 use Rattle.script_reading.specs.declared.line.StepLine.{StepLine}
 use Rattle.script_reading.proofs.SoundLaws.{texts}
@@ -37,10 +37,13 @@ use Rattle.merged_records.specs.Merged.{lines_in, book_of}
 use Rattle.merged_records.proofs.BackLaws.{steps_in, steps_by, lines_by, IsWithin, newest, earlier, told}
 use Rattle.merged_records.proofs.Listed.{book-at, length-turns, told-at}
 use Rattle.race_verdicts.specs.Verdicts.{number_at, full_by, full_line, lesser, lowest_full, went, all_went, wants_memory, lacks_memory}
-use Rattle.race_verdicts.specs.Bounds.{is_beyond, first_beyond, beyond_in, lowest_from}
-use Rattle.race_verdicts.specs.Known.{Role, role_of, roles_from, VerdictsAreKnown}
+use Rattle.race_verdicts.specs.Bounds.{is_beyond, first_beyond, beyond_in, lowest_from, lowest_beyond, IsBeyond, IsBeyondIn, IsBeyondOf, WriteNoOper, WritesNoOper, IsWithoutOpers}
+use Rattle.race_verdicts.specs.Known.{Role, role_of, roles_from, IsKnown, VerdictsAreKnown}
 use Rattle.race_verdicts.proofs.Lows.{lesser-swap}
-use Rattle.race_verdicts.proofs.Owns.{own-waits, own-opened, NeverFull, never-full, own-earlier, legal-earlier}
+use Rattle.race_verdicts.proofs.Owns.{own-waits, own-opers, own-opened, NeverFull, never-full, own-earlier, legal-earlier}
+use Rattle.race_verdicts.proofs.BoundLaws.{more-beyond, NoneBeyond, forwards, NoneBound, front-idle, bound-idle, none-first, bound, some-first, at-beyond, lesser-none, lesser-one, none-of}
+use Rattle.race_verdicts.proofs.ApartLaws.{are-apart}
+use Rattle.list_laws.proofs.Options.{some_is}
 use Rattle.race_verdicts.proofs.Orders.{own-step, in-order, open-more}
 
 -- ---- lists
@@ -56,38 +59,6 @@ take-long (suc m) (x ∷ xs) = ap (λ (l : List _). x ∷ l) (take-long m xs)
 
 none-here : (n : ℕ) (s : TimedStep) → slice_get [] n ≡ Some s → ⊥
 none-here n s e = absurd (cc e)
-
--- ---- a script's own bound
-
--- there is room for each request of these steps, where so many replies wait before them
-abbrev NoneBeyond : ℕ → ℕ → List TimedStep → Type 0
-NoneBeyond k n [] = Unit {0}
-NoneBeyond k n (s ∷ ss) = (is_beyond n s.step ≡ false) × NoneBeyond k (waits_behind k s.step n) ss
-
-module _ (k : ℕ) where
-  forwards : (ss : List TimedStep) (turns : History) → NeverFull k (turns_onto k ss turns) → NoneBeyond k (waits k turns) ss × NeverFull k turns
-  forwards [] turns full = (tt, full)
-  forwards (s ∷ ss) turns full =
-      let rest = forwards ss (histories.turn_of s.moment k s.step ∷ turns) full in
-      ((rest.1.1, rest.0), rest.1.0)
-
-  none-first : (n : ℕ) (ls : List StepLine) (ss : List TimedStep) → NoneBeyond k n ss → first_beyond k n ls ss ≡ None
-  none-first n [] [] none = refl
-  none-first n [] (s ∷ ss) none = refl
-  none-first n (l ∷ ls) [] none = refl
-  none-first n (l ∷ ls) (s ∷ ss) none =
-      ap (λ b. if b then Some l.number else first_beyond k (waits_behind k s.step n) ls ss) none.0 ∙ none-first (waits_behind k s.step n) ls ss none.1
-
-  some-first : (turns : History) (ls : List StepLine) (ss : List TimedStep) (i : ℕ) (l : StepLine) (s : TimedStep) → NoneBeyond k (waits k turns) (take i ss) → slice_get ls i ≡ Some l → slice_get ss i ≡ Some s
-      → is_beyond (waits k (turns_onto k (take i ss) turns)) s.step ≡ true → first_beyond k (waits k turns) ls ss ≡ Some l.number
-  some-first turns [] ss i l s none at there full = absurd (cc at)
-  some-first turns (x ∷ ls) [] i l s none at there full = absurd (cc there)
-  some-first turns (x ∷ ls) (y ∷ ss) zero l s none at there full =
-      let one : x ≡ l = cc at in let other : y ≡ s = cc there in
-      ap (λ b. if b then Some x.number else first_beyond k (waits_behind k y.step (waits k turns)) ls ss) (ap (λ z. is_beyond (waits k turns) z.step) other ∙ full) ∙ ap (λ z. Some z.number) one
-  some-first turns (x ∷ ls) (y ∷ ss) (suc i) l s none at there full =
-      ap (λ b. if b then Some x.number else first_beyond k (waits_behind k y.step (waits k turns)) ls ss) none.0
-      ∙ some-first (histories.turn_of y.moment k y.step ∷ turns) ls ss i l s none.1 at there full
 
 -- ---- what the association of a script is
 
@@ -120,32 +91,15 @@ full-beyond k m (steps.Done x good) n o own h = absurd cc
 full-beyond k m (steps.Block x flag) n o own h = absurd cc
 full-beyond k m steps.Tick n o own h = absurd cc
 
--- ---- in no configuration of a plan is a control under enhanced security
-
-abbrev control_in : List Control → ℕ → Control
-control_in ks k = unwrap_or (slice_get ks k) (record { reference = []; model = 0; timeout = 0; sbo_class = 0; kind = truth })
-
-abbrev enhanced_in : List Control → ℕ → Bool
-enhanced_in ks k = ((control_in ks k).model == 3) || ((control_in ks k).model == 4)
-
-least-there : (n : ℕ) (o : Option ℕ) → least_with n o ≡ None → ⊥
-least-there n None h = cc
-least-there n (Some m) h = cc
-
-none-enhanced : (ks : List CtlDef) (k : ℕ) → first_enhanced ks ≡ None → enhanced_in (map control_defined ks) k ≡ false
-none-enhanced [] k none = refl
-none-enhanced (d ∷ ds) k none = by (is_enhanced d) refl none k where
-  by : (b : Bool) → is_enhanced d ≡ b → (if b then least_with d.line (first_enhanced ds) else first_enhanced ds) ≡ None → (k : ℕ) → enhanced_in (map control_defined (d ∷ ds)) k ≡ false
-  by true is none k = absurd (least-there d.line (first_enhanced ds) none)
-  by false is none zero = is
-  by false is none (suc k) = none-enhanced ds k none
-
 module _ (p : Plan) (sound : IsSound p) where
   abbrev c : Config
   c = p.config
 
-  plain : IsPlain (configured_model c)
-  plain k = none-enhanced c.controls k sound.text.built
+  abbrev model : Model
+  model = configured_model c
+
+  apart : AreApart model
+  apart = are-apart c (is_served p.text c sound.text.config)
 
   -- ---- the scripts that are played
 
@@ -177,19 +131,19 @@ module _ (p : Plan) (sound : IsSound p) where
   -- the lowest line of so many
   abbrev lowest_of : List Role → Option ℕ
   lowest_of [] = None
-  lowest_of (r ∷ rs) = lesser (beyond_in r.0 (there r.0)) (lowest_of rs)
+  lowest_of (r ∷ rs) = lesser (beyond_in model r.0 (there r.0)) (lowest_of rs)
 
-  lowest-push : (rs : List Role) (r : Role) → lowest_of (rs ++ r ∷ []) ≡ lesser (beyond_in r.0 (there r.0)) (lowest_of rs)
+  lowest-push : (rs : List Role) (r : Role) → lowest_of (rs ++ r ∷ []) ≡ lesser (beyond_in model r.0 (there r.0)) (lowest_of rs)
   lowest-push [] r = refl
-  lowest-push (x ∷ xs) r = ap (lesser (beyond_in x.0 (there x.0))) (lowest-push xs r) ∙ lesser-swap (beyond_in x.0 (there x.0)) (beyond_in r.0 (there r.0)) (lowest_of xs)
+  lowest-push (x ∷ xs) r = ap (lesser (beyond_in model x.0 (there x.0))) (lowest-push xs r) ∙ lesser-swap (beyond_in model x.0 (there x.0)) (beyond_in model r.0 (there r.0)) (lowest_of xs)
 
-  lowest-plan : (n : ℕ) (scs : List (Option Script)) → IsTail n scs → lowest_of (roles_from n scs) ≡ lowest_from n scs
+  lowest-plan : (n : ℕ) (scs : List (Option Script)) → IsTail n scs → lowest_of (roles_from n scs) ≡ lowest_from model n scs
   lowest-plan n [] at = refl
   lowest-plan n (None ∷ scs) at = lowest-plan (suc n) scs (tail-rest n None scs at)
   lowest-plan n (Some s ∷ scs) at =
       lowest-push (roles_from (suc n) scs) (n, s.steps)
-      ∙ (ap (λ o. lesser (beyond_in n o) (lowest_of (roles_from (suc n) scs))) (tail-first n (Some s) scs at)
-      ∙ ap (lesser (beyond_in n (Some s))) (lowest-plan (suc n) scs (tail-rest n (Some s) scs at)))
+      ∙ (ap (λ o. lesser (beyond_in model n o) (lowest_of (roles_from (suc n) scs))) (tail-first n (Some s) scs at)
+      ∙ ap (lesser (beyond_in model n (Some s))) (lowest-plan (suc n) scs (tail-rest n (Some s) scs at)))
 
   -- ---- the history has of each actor a beginning of its script
 
@@ -231,12 +185,21 @@ module _ (p : Plan) (sound : IsSound p) where
   told-all k None is = tt
   told-all k (Some s) is = is.told
 
-  in-all : (k : ℕ) (o : Option Script) → first_beyond k 0 (lines_in o) (steps_in o) ≡ beyond_in k o
+  in-all : (k : ℕ) (o : Option Script) → first_beyond model k 0 0 (lines_in o) (steps_in o) ≡ beyond_in model k o
   in-all k None = refl
   in-all k (Some s) = refl
 
+  beyond-all : (k : ℕ) (o : Option Script) (line : ℕ) → IsBeyond model k 0 0 (lines_in o) (steps_in o) line → IsBeyondIn model k o line
+  beyond-all k None line is = is
+  beyond-all k (Some s) line is = is
+
+  idle-all : (o : Option Script) → WritesNoOper model o → WriteNoOper model (steps_in o)
+  idle-all None idle = tt
+  idle-all (Some s) idle = idle
+
   record IsVerdict (k : ℕ) (q : Part) : Type 0 where
-    known : full_line (book_of p) q ≡ beyond_in k (there k)
+    beyond : (line : ℕ) → full_line (book_of p) q ≡ Some line → IsBeyondIn model k (there k) line
+    exact : WritesNoOper model (there k) → full_line (book_of p) q ≡ beyond_in model k (there k)
     all : full_line (book_of p) q ≡ None → went q.fault ≡ true
 
   module _ (h : History) (legal : IsLegal c h) (own : AreTheirOwn h) (s : Played) (q : Part) (is : IsPart c h s q) (mine : steps_in (there s.actor) ≡ s.steps.items) where
@@ -259,16 +222,20 @@ module _ (p : Plan) (sound : IsSound p) where
     made = is.own ∙ ap (λ l. turns_by k (take n l)) (sym mine)
 
     room-before : NoneBeyond k 0 (take n (steps_in (there k)))
-    room-before = (forwards k (take n (steps_in (there k))) [] (subst (NeverFull k) made (never-full (configured_model c) plain k before legal-before own-before))).0
+    room-before = (forwards k (take n (steps_in (there k))) [] (subst (NeverFull k) made (never-full model apart k before legal-before own-before))).0
+
+    -- the same of the bound
+    bound-before : WritesNoOper model (there k) → NoneBound model k 0 0 (take n (steps_in (there k)))
+    bound-before idle = bound-idle model k 0 0 (take n (steps_in (there k))) (front-idle model k n (steps_in (there k)) (idle-all (there k) idle)) refl room-before
 
     are-told : AreTold c k [] (lines_in (there k)) (steps_in (there k))
     are-told = told-all k (there k) (sound.scripts k)
 
     -- all went
-    went-whole : n ≡ length s.steps.items → None ≡ beyond_in k (there k)
-    went-whole whole =
+    went-whole : n ≡ length s.steps.items → WritesNoOper model (there k) → None ≡ beyond_in model k (there k)
+    went-whole whole idle =
         let all-of : take n (steps_in (there k)) ≡ steps_in (there k) = take_all n (steps_in (there k)) (omega (arith, whole, ap (λ (l : List TimedStep). length l) mine)) in
-        sym (none-first k 0 (lines_in (there k)) (steps_in (there k)) (subst (NoneBeyond k 0) all-of room-before)) ∙ in-all k (there k)
+        sym (none-first model k 0 0 (lines_in (there k)) (steps_in (there k)) (subst (NoneBound model k 0 0) all-of (bound-before idle))) ∙ in-all k (there k)
 
     -- a turn was refused
     module _ (f : StepFault) (o : Fault) (names : named f ≡ Some o) (step : TimedStep) (at : slice_get s.steps.items n ≡ Some step) (no : named f ≡ fault (configured_model c) before (histories.turn_of step.moment k step.step)) where
@@ -284,15 +251,24 @@ module _ (p : Plan) (sound : IsSound p) where
       ordered : IsInOrder (λ a. is_open a before) step.step
       ordered = in-order c k (onto [] (texts (take n (lines_in (there k))))) line.0 step line.2 (λ a. is_open a before) opened
 
-      beyond : (is_beyond (waits k before) step.step ≡ true) × (e : ℕ) × (o ≡ QueueFull e)
-      beyond = full-beyond k step.moment step.step (λ a. waits a before) o mine-step
-          (sym names ∙ (no ∙ accepted_by_steps (configured_model c) plain before legal-before own-before (histories.turn_of step.moment k step.step) mine-step ordered))
+      beyond : (is_beyond (waiting_replies model k (points model before)) step.step ≡ true) × (e : ℕ) × (o ≡ QueueFull e)
+      beyond = full-beyond k step.moment step.step (λ a. waiting_replies model a (points model before)) o mine-step
+          (sym names ∙ (no ∙ accepted_by_steps model before own-before (histories.turn_of step.moment k step.step) mine-step ordered))
 
-      so-full : is_beyond (waits k (turns_onto k (take n (steps_in (there k))) [])) step.step ≡ true
-      so-full = ap (λ m. is_beyond m step.step) (sym (own-waits k before own-before ∙ ap (waits k) made)) ∙ beyond.0
+      waited : bound model k before ≡ bound model k (turns_onto k (take n (steps_in (there k))) [])
+      waited = ap₂ (λ x y. x + y) (own-waits k before own-before ∙ ap (waits k) made) (own-opers model k before own-before ∙ ap (opers model k) made)
 
-      first : beyond_in k (there k) ≡ Some line.0.number
-      first = sym (in-all k (there k)) ∙ some-first k [] (lines_in (there k)) (steps_in (there k)) n line.0 step room-before line.1 (ap (λ l. slice_get l n) mine ∙ at) so-full
+      so-full : is_beyond (bound model k (turns_onto k (take n (steps_in (there k))) [])) step.step ≡ true
+      so-full = ap (λ x. is_beyond x step.step) (sym waited) ∙ more-beyond (waiting_replies model k (points model before)) (bound model k before) step.step (waits_by_steps model apart before legal-before k).1 beyond.0
+
+      mine-at : slice_get (steps_in (there k)) n ≡ Some step
+      mine-at = ap (λ l. slice_get l n) mine ∙ at
+
+      one : IsBeyondIn model k (there k) line.0.number
+      one = beyond-all k (there k) line.0.number (at-beyond model k [] (lines_in (there k)) (steps_in (there k)) n line.0 step line.1 mine-at so-full)
+
+      first : WritesNoOper model (there k) → beyond_in model k (there k) ≡ Some line.0.number
+      first idle = sym (in-all k (there k)) ∙ some-first model k [] (lines_in (there k)) (steps_in (there k)) n line.0 step (bound-before idle) line.1 mine-at so-full
 
       numbered : number_at (book_of p) q.actor n ≡ Some line.0.number
       numbered =
@@ -300,18 +276,24 @@ module _ (p : Plan) (sound : IsSound p) where
           ∙ (ap (λ ls. option_map (λ (l : StepLine). l.number) (slice_get ls n)) (book-at p.scripts k) ∙ ap (option_map (λ (l : StepLine). l.number)) line.1)
 
     -- by its fault
-    by-fault : (g : Option StepFault) → q.fault ≡ g → StopsAt c k s.steps.items n g before → wants_memory g ≡ false → (full_by (book_of p) q g ≡ beyond_in k (there k)) × (full_by (book_of p) q g ≡ None → went g ≡ true)
-    by-fault None g stops lean = (went-whole stops, λ e. refl)
+    abbrev Judged : Option StepFault → Type 0
+    Judged g = ((line : ℕ) → full_by (book_of p) q g ≡ Some line → IsBeyondIn model k (there k) line) × (WritesNoOper model (there k) → full_by (book_of p) q g ≡ beyond_in model k (there k)) × (full_by (book_of p) q g ≡ None → went g ≡ true)
+
+    by-fault : (g : Option StepFault) → q.fault ≡ g → StopsAt c k s.steps.items n g before → wants_memory g ≡ false → Judged g
+    by-fault None g stops lean = (λ line e. absurd (cc e), went-whole stops, λ e. refl)
     by-fault (Some faults.Memory) g stops lean = absurd cc
     by-fault (Some (faults.QueueFull a)) g stops lean =
-        let r = numbered (faults.QueueFull a) (QueueFull a.0) refl stops.0 stops.1 stops.2 in
-        (r ∙ sym (first (faults.QueueFull a) (QueueFull a.0) refl stops.0 stops.1 stops.2), λ e. absurd (cc (sym r ∙ e)))
+        let r = numbered (faults.QueueFull a) (QueueFull a.0) refl stops.0 stops.1 stops.2 in (
+          λ line e. subst (IsBeyondIn model k (there k)) (some_is _ line (sym r ∙ e)) (one (faults.QueueFull a) (QueueFull a.0) refl stops.0 stops.1 stops.2),
+          λ idle. r ∙ sym (first (faults.QueueFull a) (QueueFull a.0) refl stops.0 stops.1 stops.2 idle),
+          λ e. absurd (cc (sym r ∙ e)),
+        )
     by-fault (Some (faults.IsOpen a)) g stops lean = let r = beyond (faults.IsOpen a) (IsOpen a.0) refl stops.0 stops.1 stops.2 in absurd (cc r.2)
     by-fault (Some (faults.NotOpen a)) g stops lean = let r = beyond (faults.NotOpen a) (NotOpen a.0) refl stops.0 stops.1 stops.2 in absurd (cc r.2)
     by-fault (Some (faults.NotYours a)) g stops lean = let r = beyond (faults.NotYours a) (NotYours a.0) refl stops.0 stops.1 stops.2 in absurd (cc r.2)
 
     verdict : wants_memory q.fault ≡ false → IsVerdict k q
-    verdict lean = let v = by-fault q.fault refl is.stops lean in record { known = v.0; all = v.1 }
+    verdict lean = let v = by-fault q.fault refl is.stops lean in record { beyond = v.0; exact = v.1; all = v.2 }
 
   -- ---- of all scripts
 
@@ -319,26 +301,35 @@ module _ (p : Plan) (sound : IsSound p) where
   or-parts true b h = absurd cc
   or-parts false b h = (refl, h)
 
-  lesser-none : (a b : Option ℕ) → lesser a b ≡ None → (a ≡ None) × (b ≡ None)
-  lesser-none (Some x) (Some y) h = absurd cc
-  lesser-none (Some x) None h = absurd cc
-  lesser-none None b h = (refl, h)
-
   both-went : (a b : Bool) → a ≡ true → b ≡ true → (a && b) ≡ true
   both-went a b e f = ap (λ x. x && b) e ∙ f
 
-  all-verdicts : (h : History) → IsLegal c h → AreTheirOwn h → (ss : List Played) (ps : List Part) → AreParts c h ss ps → AllOfPlan (map role_of ss) → lacks_memory ps ≡ false
-      → (lowest_full (book_of p) ps ≡ lowest_of (map role_of ss)) × (lowest_full (book_of p) ps ≡ None → all_went ps ≡ true)
-  all-verdicts h legal own [] [] are all lean = (refl, λ e. refl)
+  abbrev full : List Part → Option ℕ
+  full ps = lowest_full (book_of p) ps
+
+  record AreJudged (ss : List Played) (ps : List Part) : Type 0 where
+    beyond : (line : ℕ) → full ps ≡ Some line → IsBeyondOf p line
+    exact : IsWithoutOpers p → full ps ≡ lowest_of (map role_of ss)
+    went_ : full ps ≡ None → all_went ps ≡ true
+
+  all-verdicts : (h : History) → IsLegal c h → AreTheirOwn h → (ss : List Played) (ps : List Part) → AreParts c h ss ps → AllOfPlan (map role_of ss) → lacks_memory ps ≡ false → AreJudged ss ps
+  all-verdicts h legal own [] [] are all lean = record { beyond = λ line e. absurd (cc e); exact = λ idle. refl; went_ = λ e. refl }
   all-verdicts h legal own [] (q ∷ qs) are all lean = absurd are
   all-verdicts h legal own (s ∷ ss) [] are all lean = absurd are
   all-verdicts h legal own (s ∷ ss) (q ∷ qs) are all lean =
       let leans = or-parts (wants_memory q.fault) (lacks_memory qs) lean in
       let v = verdict h legal own s q are.0 all.0 leans.0 in
-      let rest = all-verdicts h legal own ss qs are.1 all.1 leans.1 in (
-        (λ i. lesser (v.known i) (rest.0 i)),
-        λ e. let nones = lesser-none (full_line (book_of p) q) (lowest_full (book_of p) qs) e in both-went (went q.fault) (all_went qs) (v.all nones.0) (rest.1 nones.1),
-      )
+      let rest = all-verdicts h legal own ss qs are.1 all.1 leans.1 in
+      record {
+        beyond = λ line e. elim (lesser-one (full_line (book_of p) q) (full qs) line e) [ inl i ↦ (s.actor, v.beyond line i) | inr i ↦ rest.beyond line i ];
+        exact = λ idle i. lesser (v.exact (idle s.actor) i) (rest.exact idle i);
+        went_ = λ e. let nones = lesser-none (full_line (book_of p) q) (full qs) e in both-went (went q.fault) (all_went qs) (v.all nones.0) (rest.went_ nones.1);
+      }
+
+-- no line was full where there is no such line
+none-full : (p : Plan) (o : Option ℕ) → ((line : ℕ) → o ≡ Some line → IsBeyondOf p line) → lowest_beyond p ≡ None → o ≡ None
+none-full p None beyond none = refl
+none-full p (Some line) beyond none = absurd (none-of p line none (beyond line refl))
 
 pub verdicts_are_known : VerdictsAreKnown
 verdicts_are_known p ss ps h sound are raced lean =
@@ -346,4 +337,9 @@ verdicts_are_known p ss ps h sound are raced lean =
     let all = subst (AllOfPlan p sound) (sym are) (of-plan p sound 0 p.scripts whole) in
     let own = their-own p sound h (within p sound ss ps h all raced.shuffle) in
     let v = all-verdicts p sound h raced.legal own ss ps raced.parts_ all lean in
-    (v.0 ∙ (ap (lowest_of p sound) are ∙ lowest-plan p sound 0 p.scripts whole), v.1)
+    record {
+      beyond = v.beyond;
+      exact = λ idle. v.exact idle ∙ (ap (lowest_of p sound) are ∙ lowest-plan p sound 0 p.scripts whole);
+      within = none-full p (lowest_full (book_of p) ps) v.beyond;
+      went = v.went_;
+    }

@@ -9,7 +9,7 @@ use Rattle.script_reading.specs.Plans.{Script, Plan}
 use Rattle.script_reading.specs.Sound.{IsSound}
 use Rattle.merged_records.specs.Merged.{book_of}
 use Rattle.race_verdicts.specs.Verdicts.{lowest_full, all_went, lacks_memory}
-use Rattle.race_verdicts.specs.Bounds.{lowest_beyond}
+use Rattle.race_verdicts.specs.Bounds.{lowest_beyond, IsBeyondOf, IsWithoutOpers}
 
 -- an actor's number and its steps
 abbrev pub Role : Type 0
@@ -28,6 +28,13 @@ roles_from n (Some s ∷ ss) = roles_from (suc n) ss ++ (n, s.steps) ∷ []
 abbrev pub AreScripts : Plan → List Played → Type 0
 AreScripts p ss = map role_of ss ≡ roles_from 0 p.scripts
 
+-- The lowest line whose turn met a full queue is one at whose request the script's own bound is 16, and where no script writes an Oper of a
+-- control under enhanced security, it is the lowest such line; where there is no such line, no turn met one. Where none did, all turns went.
+pub record IsKnown (p : Plan) (ps : List Part) : Type 0 where
+  pub beyond : (line : ℕ) → lowest_full (book_of p) ps ≡ Some line → IsBeyondOf p line
+  pub exact : IsWithoutOpers p → lowest_full (book_of p) ps ≡ lowest_beyond p
+  pub within : lowest_beyond p ≡ None → lowest_full (book_of p) ps ≡ None
+  pub went : lowest_full (book_of p) ps ≡ None → all_went ps ≡ true
+
 abbrev pub VerdictsAreKnown : Type 0
-VerdictsAreKnown = (p : Plan) (ss : List Played) (ps : List Part) (h : History) → IsSound p → AreScripts p ss → IsRaced p.config ss ps h → lacks_memory ps ≡ false
-    → (lowest_full (book_of p) ps ≡ lowest_beyond p) × (lowest_full (book_of p) ps ≡ None → all_went ps ≡ true)
+VerdictsAreKnown = (p : Plan) (ss : List Played) (ps : List Part) (h : History) → IsSound p → AreScripts p ss → IsRaced p.config ss ps h → lacks_memory ps ≡ false → IsKnown p ps

@@ -10,7 +10,7 @@ use sv_io::{Calls, MemSink, MemSource};
 /// A rehearsal: its name, its input, its status, and what it writes, both texts with marks.
 type Row = (&'static str, &'static str, Status, &'static str);
 
-const ROWS: [Row; 5] = [
+const ROWS: [Row; 6] = [
     (
         "one script is its record",
         "rehearse 1\n[script association 1\nopen 1 direct\nat !10\nwrite 1 & RptEna T\ntake 1\nclose\nend\n",
@@ -43,12 +43,20 @@ const ROWS: [Row; 5] = [
         "record 1\nconfig 1\nserver a b c\nld A\nln LLN0\nctl Pos 2 5000 0 bool\nend\nat !20\n\
         block A/LLN0$CO$Pos T\ndone A/LLN0$CO$Pos F\nend\nend\n",
     ),
+    (
+        "the termination of a test waits behind its reply, and its take leaves room for 16 replies",
+        "rehearse 1\n{script association 1\nopen 1 mms 65000\npdu 1 }\ntake 1\ntake 1\n%%close\nend\n",
+        Status::Ok,
+        "record 1\n{open 1 mms 65000\npdu 1 }\ntake 1\ntake 1\n%%end\n1 pdu a107020106a5028100\n\
+        1 pdu a346a044a020301ea01ca11a1a04424159311a12435357493124434f24506f7333244f706572a020a21e830100a2058501028900\
+        860101910800000000000000008301ff84020600\nend\n",
+    ),
 ];
 
 /// An input that is refused at a line, and the number of the kind. The last line of the configuration has number 21.
 type Refused = (&'static str, u64, u8);
 
-const REFUSED: [Refused; 23] = [
+const REFUSED: [Refused; 22] = [
     ("rehearse 1\n[end\n", 22, 5),
     ("record 1\n[end\n", 1, 1),
     ("rehearse 2\n[end\n", 1, 2),
@@ -61,11 +69,6 @@ const REFUSED: [Refused; 23] = [
     ("rehearse 1\n[script process\nend\n", 23, 5),
     ("rehearse 1\n[script process\ntick\n", 24, 7),
     ("rehearse 1\n[script process\ndone A/LLN0$CO$Pos T\n", 23, 3),
-    (
-        "rehearse 1\nconfig 1\nserver a b c\nld A\nln LLN0\nctl Pos 2 5000 0 bool\nctl Mod 3 5000 0 bool\nctl Beh 4 5000 0 bool\nend\n",
-        7,
-        9,
-    ),
     ("rehearse 1\n[script process\nopen 1 direct\n", 23, 5),
     ("rehearse 1\n[script process\nset @ T\n", 23, 4),
     ("rehearse 1\n[script association 1\nopen 1 wire\n", 23, 5),
@@ -126,6 +129,19 @@ fn the_lowest_line_that_meets_a_full_queue_is_named(rt: HostRuntime) -> Result<(
     let alloc = rt.alloc();
     let (status, output) = rehearsed(&rt, alloc, FULL)?;
     assert_eq!(rt; status, Status::Limit { which: 2, line: 62 });
+    assert!(rt; output.octets().is_empty());
+    Ok(())
+}
+
+/// A take gives the termination of a test in place of a reply, so that the last request finds 16 replies waiting.
+const TERMINATED: &str =
+    "rehearse 1\n{script association 1\nopen 1 mms 65000\npdu 1 }\n%take 1\ntake 1\n%pdu 1 8b00\nclose\nend\n";
+
+#[test]
+fn a_termination_that_is_taken_leaves_a_reply_waiting(rt: HostRuntime) -> Result<(), Fail> {
+    let alloc = rt.alloc();
+    let (status, output) = rehearsed(&rt, alloc, TERMINATED)?;
+    assert_eq!(rt; status, Status::Limit { which: 2, line: 29 });
     assert!(rt; output.octets().is_empty());
     Ok(())
 }

@@ -14,6 +14,13 @@ const RACE: &str =
     script association 3\nopen 3 mms 65000\npdu 3 a006020101800100\ntake 3\npdu 3 8b00\ntake 3\nlost 3\nclose\n\
     script process\ntick\nset @ 7\ntick\nclose\nend\n";
 
+/// Two associations operate one control with enhanced security, while the process ends what it executes and blocks it for a while.
+const OPERATED: &str =
+    "rehearse 1\n{script process\ndone BAY1/CSWI1$CO$Pos3 T\nblock BAY1/CSWI1$CO$Pos3 T\nblock BAY1/CSWI1$CO$Pos3 F\n\
+    done BAY1/CSWI1$CO$Pos3 F\ndone BAY1/CSWI1$CO$Pos3 T\nclose\n\
+    script association 1\nopen 1 mms 65000\npdu 1 ^\ntake 1\ntake 1\npdu 1 }\npdu 1 ^\ntake 1\ntake 1\nlost 1\nclose\n\
+    script association 2\nopen 2 mms 65000\npdu 2 }\ntake 2\npdu 2 ^\ntake 2\ntake 2\ntake 2\nclose\nend\n";
+
 /// The octets behind the second line `end`; none where there is no such line.
 fn behind_record(octets: &[u8]) -> Option<usize> {
     let mut start = 0;
@@ -45,8 +52,9 @@ fn replayed(alloc: Global, record: &[u8]) -> Result<(Status, Vec<u8>), AllocErro
 #[test]
 fn a_race_is_replayed_to_the_same_answers(rt: HostRuntime) -> Result<(), Fail> {
     let alloc = rt.alloc();
-    for _run in 0..10 {
-        let (status, output) = rehearsed(&rt, alloc, RACE)?;
+    for run in 0..20u32 {
+        let text = if run < 10 { RACE } else { OPERATED };
+        let (status, output) = rehearsed(&rt, alloc, text)?;
         assert_eq!(rt; status, Status::Ok);
         let written = output.octets();
         let end = behind_record(written).unwrap_or(0);

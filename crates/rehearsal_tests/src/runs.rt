@@ -9,8 +9,8 @@ use sv_base::Octs;
 use sv_io::{Calls, Gate, MemSink, MemSource};
 
 /// What a mark stands for: `[` a configuration, `@` the reference of an attribute that the process sets, `&` that of the block, `!` the
-/// front of a moment, `%` eight PDUs of association 1
-/// that ask for the status, and `;` four that association 2 ends with.
+/// front of a moment, `%` eight PDUs of association 1 that ask for the status, `;` four that association 2 ends with, `{` a configuration
+/// with a control of direct control with enhanced security, `^` its Oper, and `}` an Oper of it that is a test.
 fn marked(mark: u8) -> Option<&'static str> {
     match mark {
         b'[' => Some(
@@ -28,6 +28,15 @@ fn marked(mark: u8) -> Option<&'static str> {
              pdu 1 a006020101800100\npdu 1 a006020101800100\npdu 1 a006020101800100\npdu 1 a006020101800100\n",
         ),
         b';' => Some("pdu 2 8b00\npdu 2 8b00\npdu 2 8b00\npdu 2 8b00\n"),
+        b'{' => Some("config 1\nserver a b c\nld BAY1\nln CSWI1\nctl Pos3 3 5000 0 bool\nend\n"),
+        b'^' => Some(
+            "a049020104a544a020301ea01ca11a1a04424159311a12435357493124434f24506f7333244f706572a020a21e8301ffa2058501028900\
+             8601019108000000000000000083010084020600",
+        ),
+        b'}' => Some(
+            "a049020106a544a020301ea01ca11a1a04424159311a12435357493124434f24506f7333244f706572a020a21e830100a2058501028900\
+             860101910800000000000000008301ff84020600",
+        ),
         _ => None,
     }
 }

@@ -49,8 +49,7 @@ use Rattle.script_reading.specs.Forms.{form_in, form_passed, IsFit}
 use Rattle.script_reading.specs.Plans.{Script, Plan, script_of, without_scripts, with_script, no_scripts}
 use Rattle.script_reading.specs.Moves.{Place, opening, configuring, between, inside, Move, goes, stops, ends}
 use Rattle.script_reading.specs.Scripting.{most_scripts, actor_for, processes_with, counted, opened, begins, strange, ended, between_step, between_line, between_as, between_at, at_moment, taken, told_in, inside_step, inside_line, inside_as, inside_at}
-use Rattle.script_reading.specs.Openings.{headed, opening_at, started_by, started, configuring_at}
-use Rattle.script_reading.specs.Unbuilt.{unbuilt_line}
+use Rattle.script_reading.specs.Openings.{headed, opening_at, started, configuring_at}
 use Rattle.script_reading.specs.Inputs as inputs
 use Rattle.script_reading.specs.Inputs.{passed, lines_at, Outcome, ready, moved, run, outcome}
 use Rattle.script_reading.specs.Sound.{IsActor, IsTold, AreTold, IsScript, IsScriptOrNone, IsText, IsSound, PlansAreSound}
@@ -191,16 +190,13 @@ opening-good n number line = by (is_long line) (is_skipped line) where
   by false false = headed-good n number (words_of line)
 
 started-good : (n before : ℕ) (inner : List (List ℕ)) (text : List ℕ) (r : Result Config CfgFault) → text ≡ octets_of inner ++ (codes "end" ++ 10 ∷ []) → Each IsInner inner → config_at text ≡ r → GoodMove n (started before text r)
-started-good n before inner text (Ok c) is each reads = by (unbuilt_line c) refl where
-  by : (o : Option ℕ) → unbuilt_line c ≡ o → GoodMove n (started_by before text c o)
-  by None none = record {
-    text = record { inner = inner; octets = is; are_inner = each; config = reads; built = none };
-    places = length-replicate 33 nothing;
-    scripts = λ k. subst (GoodOrNone n c k) (sym (none-there 33 k)) tt;
-    count = omega arith;
-    processes = omega arith;
-  }
-  by (Some line) some = tt
+started-good n before inner text (Ok c) is each reads = record {
+  text = record { inner = inner; octets = is; are_inner = each; config = reads };
+  places = length-replicate 33 nothing;
+  scripts = λ k. subst (GoodOrNone n c k) (sym (none-there 33 k)) tt;
+  count = omega arith;
+  processes = omega arith;
+}
 started-good n before inner text (Err (faults.Refused line kind)) is each reads = tt
 started-good n before inner text (Err faults.Memory) is each reads = tt
 

@@ -4,8 +4,6 @@ pub mod Forms
 pub mod Plans
 pub mod Moves
 pub mod Scripting
--- what isn't built
-pub mod Unbuilt
 pub mod Openings
 pub mod Inputs
 -- what the reading stands for

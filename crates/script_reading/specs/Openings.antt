@@ -1,5 +1,5 @@
 -- What the lines before the scripts do: the line `rehearse 1`, and those of the configuration up to `end`.
-use Rattle.std.specs.Prelude.{ℕ, ◌+◌, ◌==◌, ◌&&◌, not, List, [], ◌∷◌, ◌++◌, length, codes, Option, None, Some, Result, Ok, Err, if◌then◌else◌}
+use Rattle.std.specs.Prelude.{ℕ, ◌+◌, ◌==◌, ◌&&◌, not, List, [], ◌∷◌, ◌++◌, length, codes, Result, Ok, Err, if◌then◌else◌}
 use Rattle.std.specs.Str.{bytes_eq}
 use Rattle.sv_base.specs.declared.config.Config.{Config}
 use Rattle.text_words.specs.Octets.{is_skipped}
@@ -12,7 +12,6 @@ use Rattle.run_record.specs.Judging.{is_long}
 use Rattle.record_outcome.specs.declared.status.Status.TheVariants as statuses
 use Rattle.script_reading.specs.Plans.{without_scripts}
 use Rattle.script_reading.specs.Moves.{Move, goes, stops, opening, configuring, between}
-use Rattle.script_reading.specs.Unbuilt.{unbuilt_line}
 
 -- the words are `rehearse 1`: another word or count of words is kind 1, another number kind 2
 abbrev pub headed : ℕ → List (List ℕ) → Move
@@ -28,13 +27,9 @@ opening_at number line =
     else if is_skipped line then goes opening
     else headed number (words_of line)
 
-abbrev pub started_by : ℕ → List ℕ → Config → Option ℕ → Move
-started_by before text c None = goes (between (without_scripts c text))
-started_by before text c (Some line) = stops (statuses.Record (before + line) 9)
-
 -- the configuration of this text is whole, behind so many lines
 abbrev pub started : ℕ → List ℕ → Result Config CfgFault → Move
-started before text (Ok c) = started_by before text c (unbuilt_line c)
+started before text (Ok c) = goes (between (without_scripts c text))
 started before text (Err (faults.Refused line kind)) = stops (statuses.Config (before + line) (number_of kind))
 started before text (Err faults.Memory) = stops statuses.Memory
 

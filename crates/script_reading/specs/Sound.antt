@@ -23,7 +23,6 @@ use Rattle.script_reading.specs.declared.form.ScriptForm.{ScriptForm}
 use Rattle.script_reading.specs.declared.form.ScriptForm.TheVariants as forms
 use Rattle.script_reading.specs.declared.line.StepLine.{StepLine}
 use Rattle.script_reading.specs.Inputs.{outcome, ready}
-use Rattle.script_reading.specs.Unbuilt.{unbuilt_line}
 
 -- actor k is this owner's, whose association is of this form behind these lines, the newest first; no line of the process has one
 abbrev pub IsActor : ℕ → Owner → List (List ℕ) → ScriptForm → Type 0
@@ -66,7 +65,6 @@ pub record IsText (c : Config) (text : List ℕ) : Type 0 where
   pub octets : text ≡ octets_of inner ++ (codes "end" ++ 10 ∷ [])
   pub are_inner : Each IsInner inner
   pub config : config_at text ≡ Ok c
-  pub built : unbuilt_line c ≡ None
 
 pub record IsSound (p : Plan) : Type 0 where
   pub text : IsText p.config p.text

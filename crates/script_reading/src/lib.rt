@@ -15,7 +15,6 @@ mod scripting;
 // the lines before them
 mod openings;
 mod starting;
-mod unbuilt;
 
 // the whole input
 mod reading;

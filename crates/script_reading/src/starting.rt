@@ -8,11 +8,9 @@ ghost use Rattle.script_reading.specs.Readings.{Starts, IsSoundStart, IsRefusal}
 
 use crate::plan::Plan;
 use crate::script::Script;
-use crate::unbuilt::unbuilt_line;
 use cfg_text::{CfgFault, read_config};
 use object_model::Model;
 use record_outcome::status::Status;
-use run_record::Kind;
 use std::alloc::{AllocError, Global};
 
 /// A place for each number of an actor.
@@ -52,12 +50,6 @@ pub fn start(alloc: Global, before: u64, text: Vec<u8>) -> Result<Started, Alloc
         }
         Err(CfgFault::Memory) => return Err(AllocError),
     };
-    if let Some(line) = unbuilt_line(&config) {
-        return Ok(Started::Refused(Status::Record {
-            line: before + u64::from(line),
-            kind: Kind::NotBuilt.number(),
-        }));
-    }
     let model = Model::build(alloc, config)?;
     let slots = no_scripts(alloc)?;
     Ok(Started::Plans(Plan {

@@ -55,15 +55,15 @@ module _ (p : Plan) (c : Config) (text : List ℕ) (book : Book) (ss : List Part
     meets line full =
         let at = same-lowest (Some line) full in
         let known = verdicts_are_known p ss parts h is.sound is.scripts raced lean in
-        record { first = sym known.0 ∙ at; history = h; scripts = ss; are = is.scripts; parts = parts; raced = raced; lowest = at }
+        record { beyond = known.beyond line at; first = λ idle. sym (known.exact idle) ∙ at; history = h; scripts = ss; are = is.scripts; parts = parts; raced = raced; lowest = at }
 
     made-all : lowest_full book parts ≡ None → IsMade p h
-    made-all none = made-whole p ss parts h is.turns raced ((verdicts_are_known p ss parts h is.sound is.scripts raced lean).1 (same-lowest None none))
+    made-all none = made-whole p ss parts h is.turns raced ((verdicts_are_known p ss parts h is.sound is.scripts raced lean).went (same-lowest None none))
 
     pub goes : (made : List Made) (out : List ℕ) → lowest_full book parts ≡ None → made ≡ made_of p.config h
         → out ≡ record_with text (merged book least_moment made) ++ (answered c book made ++ codes "end\n") → Goes p out
     goes made out none made-is out-is = record {
-      room = sym (verdicts_are_known p ss parts h is.sound is.scripts raced lean).0 ∙ same-lowest None none;
+      room = λ idle. sym ((verdicts_are_known p ss parts h is.sound is.scripts raced lean).exact idle) ∙ same-lowest None none;
       written = record {
         history = h;
         made = made-all none;

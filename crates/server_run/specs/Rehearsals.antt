@@ -15,7 +15,7 @@ use Rattle.script_threads.specs.declared.part.Part.{Part}
 use Rattle.script_threads.specs.declared.script.Script.{Script as Part_}
 use Rattle.merged_records.specs.Merged.{book_of, record_of, answers_to}
 use Rattle.merged_records.specs.ReadBack.{IsReadBack}
-use Rattle.race_verdicts.specs.Bounds.{lowest_beyond}
+use Rattle.race_verdicts.specs.Bounds.{lowest_beyond, IsBeyondOf, IsWithoutOpers}
 use Rattle.race_verdicts.specs.Known.{AreScripts}
 use Rattle.race_verdicts.specs.Verdicts.{lowest_full}
 
@@ -34,15 +34,18 @@ pub record IsWritten (p : Plan) (octets : List ℕ) : Type 0 where
   pub octets_ : octets ≡ record_of p history ++ answers_to p history
   pub back : IsReadBack p history
 
--- No script asks where its own bound is 16: threads made a history of all of the scripts, and this is what is written of it.
+-- Threads made a history of all of the scripts, and this is what is written of it. Where no script writes an Oper of a control under enhanced
+-- security, none asks where its own bound is 16.
 pub record Goes (p : Plan) (octets : List ℕ) : Type 0 where
-  pub room : lowest_beyond p ≡ None
+  pub room : IsWithoutOpers p → lowest_beyond p ≡ None
   pub written : IsWritten p octets
 
--- This is the lowest line that asks where the bound of its own script is 16. In a history that has of each script a beginning and no
--- other step, the next turn of its script was answered that the queue is full; no lower line's turn was.
+-- This is a line that asks where the bound of its own script is 16, and the lowest such line, where no script writes an Oper of a control
+-- under enhanced security. In a history that has of each script a beginning and no other step, the next turn of its script was answered
+-- that the queue is full; no lower line's turn was.
 pub record MeetsFull (p : Plan) (line : ℕ) : Type 0 where
-  pub first : lowest_beyond p ≡ Some line
+  pub beyond : IsBeyondOf p line
+  pub first : IsWithoutOpers p → lowest_beyond p ≡ Some line
   pub history : History
   pub scripts : List Part_
   pub are : AreScripts p scripts
@@ -65,7 +68,8 @@ PerformsInput o (Err (statuses.Limit which line)) = (o ≡ refused (statuses.Lim
 PerformsInput o (Err _) = ⊥
 
 -- The status has its cause in what the input comes to, and this is what the sink took: nothing unless all turns went. Since an input
--- comes to one thing, each of these statuses comes exactly where its cause is there, but for want of memory and faults.
+-- comes to one thing, each of these statuses comes exactly where its cause is there, but for want of memory and faults, and but for
+-- Limit 2 where a script writes an Oper of a control under enhanced security.
 abbrev pub Rehearses : Outcome → Status → Option (List ℕ) → Option (List ℕ) → Type 0
 Rehearses o statuses.Ok old new = (p : Plan) × (octets : List ℕ) × (o ≡ ready p) × Goes p octets × Appends old new octets
 Rehearses o statuses.WriteFault old new = (p : Plan) × (octets : List ℕ) × (o ≡ ready p) × Goes p octets × GrowsByFront old new octets
@@ -90,10 +94,19 @@ abbrev pub ends_at : Option ℕ → Status
 ends_at None = statuses.Ok
 ends_at (Some line) = statuses.Limit 2 line
 
+-- a rehearsal of a plan ends so
+pub record EndsAs (p : Plan) (status : Status) : Type 0 where
+  -- with a record, or at a line that asks where the bound of its own script is 16
+  pub known : (status ≡ statuses.Ok) ⊎ ((line : ℕ) × (status ≡ statuses.Limit 2 line) × IsBeyondOf p line)
+  -- with a record where there is no such line
+  pub room : lowest_beyond p ≡ None → status ≡ statuses.Ok
+  -- at the lowest of them, where no script writes an Oper of a control under enhanced security
+  pub exact : IsWithoutOpers p → status ≡ ends_at (lowest_beyond p)
+
 -- the status of an input that comes to this, where memory isn't wanting and neither end fails
-abbrev pub status_of : Outcome → Status
-status_of (refused status) = status
-status_of (ready p) = ends_at (lowest_beyond p)
+abbrev pub IsStatusOf : Outcome → Status → Type 0
+IsStatusOf (refused first) status = status ≡ first
+IsStatusOf (ready p) status = EndsAs p status
 
 -- a status that is neither for want of memory nor for a fault
 abbrev pub IsEnding : Status → Type 0
@@ -102,6 +115,6 @@ IsEnding statuses.ReadFault = ⊥
 IsEnding statuses.WriteFault = ⊥
 IsEnding _ = Unit {0}
 
--- every such status is that of the input, so that no race has a say in it
+-- every such status is that of the input; without such Opers no race has a say in it
 abbrev pub EndingsAreKnown : Type 0
-EndingsAreKnown = (o : Outcome) (status : Status) (old new : Option (List ℕ)) → Rehearses o status old new → IsEnding status → status ≡ status_of o
+EndingsAreKnown = (o : Outcome) (status : Status) (old new : Option (List ℕ)) → Rehearses o status old new → IsEnding status → IsStatusOf o status
