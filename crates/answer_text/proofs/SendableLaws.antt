@@ -125,9 +125,12 @@ short_name k domain ln path = record {
 -- a termination of a control that is there
 pub ends : (c : Config) (t : Termination) (k : CtlDef) → slice_get c.controls t.control.0 ≡ Some k → HasShortName k → IfSome t.error IsShortError → is_seen_writable 10 (seen_of t.oper) ≡ true → length (data_of t.oper) ≤ 300
     → IsShortTermination c t × IsWritable (Ok t.oper)
-ends c t k is name error full oper = (record {
-  control = slice_get_within c.controls t.control.0 k is;
-  name = λ other e. let same : k ≡ other = cc in subst HasShortName same name;
-  oper = oper;
-  error = error;
-}, writable t.oper full)
+ends c t k is name error full oper = (
+  record {
+    control = slice_get_within c.controls t.control.0 k is;
+    name = λ other e. let same : k ≡ other = cc in subst HasShortName same name;
+    oper = oper;
+    error = error;
+  },
+  writable t.oper full,
+)
