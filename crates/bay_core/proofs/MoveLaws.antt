@@ -107,17 +107,17 @@ counts s c n past st = record {
 pub again : (s : State) (c : Config) (n t : ℕ) (q : Point) (past : Past) → t ≤ now (q ∷ past) → StandsAt s c n (q ∷ past) → StandsAt s c n (arrival n t ∷ q ∷ past)
 again s c n t q past same st =
     let wait = waits.stands-again (configured_model c) n t q past (queued s) same (queues-stand s c n (q ∷ past) st) in record {
-  is_config = st.is_config;
-  is_steps = st.is_steps;
-  is_latest = omega (arith, same, st.is_latest);
-  values = st.values;
-  associations = wait.associations;
-  groups = settings.arrives (configured_model c) (q ∷ past) n t s.groups st.groups;
-  controls = wait.controls;
-  sets = st.sets;
-  configured = st.configured;
-  blocks = λ b part there. again-stands (configured_model c) b t n q past part same (st.blocks b part there);
-}
+      is_config = st.is_config;
+      is_steps = st.is_steps;
+      is_latest = omega (arith, same, st.is_latest);
+      values = st.values;
+      associations = wait.associations;
+      groups = settings.arrives (configured_model c) (q ∷ past) n t s.groups st.groups;
+      controls = wait.controls;
+      sets = st.sets;
+      configured = st.configured;
+      blocks = λ b part there. again-stands (configured_model c) b t n q past part same (st.blocks b part there);
+    }
 
 -- after the deed of a step, which leaves these values, blocks and setting groups
 pub done : (s : State) (c : Config) (n t : ℕ) (d : Deed) (past : Past) (stored : List Stored) (parts : List ReportBlock) (groups : Grouped) → IsSilent (configured_model c) n t d past
