@@ -28,7 +28,7 @@ use Rattle.bay_model.specs.declared.step.Step.TheVariants as steps
 use Rattle.bay_model.specs.Model.{DataSet}
 use Rattle.bay_model.specs.Named.{configured_model, nodes}
 use Rattle.bay_model.specs.Points.{Past}
-use Rattle.bay_model.specs.Services.{set_found, set_name, singles_of, write_set_reply, written_set}
+use Rattle.bay_model.specs.Services.{set_found, set_name, write_set_reply, written_set}
 use Rattle.bay_model.specs.Sets.{set_named, is_named}
 use Rattle.bay_model.specs.Singles.{Single, arrival, outcomes, after_singles, writes_of}
 use Rattle.object_model.specs.Fits.{is_association, is_sound_seen, are_sound, fits, is_sound, service_fits, set_fits, target_fits, write_fits, name_fits}

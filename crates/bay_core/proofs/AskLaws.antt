@@ -27,12 +27,12 @@ use Rattle.bay_model.specs.Associations.{ends}
 use Rattle.bay_model.specs.Lookups.{node_of}
 use Rattle.bay_model.specs.Model.{Model, DataSet, Role, Tree, single, several, selecting, calling}
 use Rattle.bay_model.specs.Named.{configured_model}
-use Rattle.bay_model.specs.Outcomes.{Outcome, deed_of}
+use Rattle.bay_model.specs.Outcomes.{deed_of}
 use Rattle.bay_model.specs.Points.{Deed, Change, Past, nothing, answered, unchanged}
 use Rattle.bay_model.specs.Reads.{outcome_of_read, read_role, read_tree}
-use Rattle.bay_model.specs.Services.{reply, singles_of, set_found, set_name, change_of}
+use Rattle.bay_model.specs.Services.{singles_of, set_found, set_name, change_of}
 use Rattle.bay_model.specs.Sets.{is_named, sets}
-use Rattle.bay_model.specs.Singles.{Single, reads, writes, fails, arrival, outcome_of, outcome_at, outcomes, after_single, after_singles}
+use Rattle.bay_model.specs.Singles.{Single, reads, writes, fails, arrival, outcome_of, outcome_at, outcomes, after_singles}
 use Rattle.bay_model.specs.Sizes.{size_of}
 use Rattle.bay_model.specs.Waiting.{tests, waiting_replies}
 use Rattle.assoc_table.specs.declared.waiting.Ends.{Ends}
@@ -60,11 +60,11 @@ use Rattle.bay_core.specs.Commanded.{CallsNothing}
 use Rattle.bay_core.specs.State.{State, AreServedSets}
 use Rattle.bay_core.specs.Standing.{StandsAt, StandsFor}
 use Rattle.bay_core.proofs.EndLaws.{opener-told}
-use Rattle.bay_core.proofs.HeardLaws.{AreQuiet, quiet-among, tests-after, tests_among}
+use Rattle.bay_core.proofs.HeardLaws.{quiet-among, tests-after}
 use Rattle.bay_core.proofs.MoveLaws.{counts, again, accepted-as, groups-quiet, queued, queues-stand}
 use Rattle.bay_core.proofs.PartLaws.{parts-left}
 use Rattle.bay_core.proofs.QueueLaws.{replies-told}
-use Rattle.bay_core.proofs.ShapeLaws.{all-served, found, sets_in}
+use Rattle.bay_core.proofs.ShapeLaws.{all-served, found}
 use Rattle.bay_core.proofs.UncalledLaws.{member-plain, quiet-all, service-uncalled}
 
 -- ---- single reads that select nothing

@@ -1,5 +1,5 @@
 -- The error that a command would have, by the controls of a bay.
-use Rattle.std.proofs.Common.{◌≡◌, ◌≤◌, ◌∙◌, ◌∷◌, ℕ, zero, suc, List, [], map, Option, None, Some, refl, ap, sym, subst, arith, unwrap_or}
+use Rattle.std.proofs.Common.{◌≡◌, ◌≤◌, ◌∙◌, ◌∷◌, ℕ, zero, suc, List, [], map, Option, None, Some, refl, ap, subst, arith, unwrap_or}
 use Rattle.std.specs.Prelude.{slice_get, slice_index_or, slice_set}
 use Rattle.std.proofs.lemmas.List.{get_or-set_other}
 use Rattle.list_laws.proofs.Options.{some_is}

@@ -1,5 +1,5 @@
 -- The single writes of a request, commands among them: what is heard of each, and the bay stands for its point.
-use Rattle.std.proofs.Common.{◌≡◌, ◌<◌, ◌∙◌, ◌∷◌, ◌++◌, ℕ, suc, Bool, List, [], map, None, Result, Err, length, refl, ap, ap₂, sym, subst, arith, length-append}
+use Rattle.std.proofs.Common.{◌≡◌, ◌<◌, ◌∙◌, ◌∷◌, ◌++◌, ℕ, Bool, List, [], Result, Err, length, refl, ap, ap₂, sym, subst, arith, length-append}
 use Rattle.std.proofs.lemmas.List.{length-map}
 use Rattle.sv_base.specs.declared.config.Config.{Config}
 use Rattle.sv_base.specs.declared.numbers.CtlNo.{CtlNo}
@@ -12,9 +12,9 @@ use Rattle.bay_model.specs.Model.{Model, Call, Role, calling}
 use Rattle.bay_model.specs.Named.{configured_model}
 use Rattle.bay_model.specs.Outcomes.{Outcome, refused, code_of, deed_of}
 use Rattle.bay_model.specs.Points.{Past, called}
-use Rattle.bay_model.specs.Singles.{Single, arrival, outcome_at, outcome_of, outcomes, after_single, after_singles}
+use Rattle.bay_model.specs.Singles.{Single, arrival, outcome_at, outcome_of, outcomes, after_singles}
 use Rattle.bay_model.specs.Writes.{outcome_of_call, write_node, write_role}
-use Rattle.control_core.specs.Tables.{Table, after_deed}
+use Rattle.control_core.specs.Tables.{after_deed}
 use Rattle.bay_queues.specs.Calling.{AreTests, enhanced_in, outcome_at as call_outcome}
 use Rattle.bay_queues.specs.Heard.{Heard, heard_all, heard_with}
 use Rattle.bay_queues.specs.Queued.{Queued}

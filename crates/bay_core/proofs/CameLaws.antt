@@ -1,9 +1,8 @@
 -- What requests come to: those that call nothing, and writes of variables.
-use Rattle.std.proofs.Common.{◌≡◌, ◌∙◌, ◌∷◌, ◌++◌, ℕ, List, [], map, refl, ap, sym, subst}
+use Rattle.std.proofs.Common.{◌≡◌, ◌∙◌, ◌∷◌, ◌++◌, ℕ, List, [], map, ap, sym, subst}
 use Rattle.std.proofs.lemmas.List.Elements.{All-nil}
 use Rattle.sv_base.specs.declared.config.Config.{Config}
 use Rattle.sv_base.specs.declared.numbers.CtlNo.{CtlNo}
-use Rattle.bay_model.specs.declared.answer.Output.{Output}
 use Rattle.bay_model.specs.declared.reply.Reply.{Reply}
 use Rattle.bay_model.specs.declared.reply.Reply.TheVariants as replies
 use Rattle.bay_model.specs.declared.request.Service.{Service}
@@ -11,17 +10,17 @@ use Rattle.bay_model.specs.declared.request.Service.TheVariants as services
 use Rattle.bay_model.specs.declared.request.Write.{Write}
 use Rattle.bay_model.specs.Controls.{is_enhanced}
 use Rattle.bay_model.specs.Named.{configured_model}
-use Rattle.bay_model.specs.Points.{Past, answered, unchanged}
+use Rattle.bay_model.specs.Points.{Past, answered}
 use Rattle.bay_model.specs.Services.{singles_of, change_of}
 use Rattle.bay_model.specs.Singles.{arrival, outcomes, after_singles, write_of}
 use Rattle.bay_model.specs.Waiting.{tests}
 use Rattle.assoc_table.specs.Tables.{IsNumber}
 use Rattle.bay_queues.specs.Calling.{IsTest}
-use Rattle.bay_queues.specs.Heard.{Heard, heard_all, unheard}
+use Rattle.bay_queues.specs.Heard.{Heard, unheard}
 use Rattle.window_core.specs.Points.{at}
 use Rattle.bay_core.specs.declared.asking.Came.{Came}
 use Rattle.bay_core.specs.Asked.{IsReplied}
-use Rattle.bay_core.specs.Came.{IsCome, IsOf, replied_with}
+use Rattle.bay_core.specs.Came.{IsCome, replied_with}
 use Rattle.bay_core.specs.Commanded.{AreSingles, AreTestsOf, CallsNothing}
 use Rattle.bay_core.specs.Standing.{StandsAt}
 use Rattle.bay_core.specs.State.{State, AreServedSets}

@@ -1,6 +1,6 @@
 -- What is heard of the singles of a request, and the test operates among their points.
-use Rattle.std.proofs.Common.{◌≡◌, ◌∙◌, ◌∷◌, ◌++◌, ℕ, Bool, true, List, [], map, Option, None, Some, Result, refl, sym, ap, append-nil, append_assoc}
-use Rattle.std.specs.Prelude.{◌&&◌, ◌==◌, flat_map, if◌then◌else◌}
+use Rattle.std.proofs.Common.{◌≡◌, ◌∙◌, ◌∷◌, ◌++◌, ℕ, Bool, List, [], map, Option, None, Some, Result, refl, sym, ap, append-nil, append_assoc}
+use Rattle.std.specs.Prelude.{◌&&◌, flat_map, if◌then◌else◌}
 use Rattle.std.specs.List.{filter_map, cons_option}
 use Rattle.list_laws.proofs.Places.{same-number}
 use Rattle.sv_base.specs.declared.numbers.CtlNo.{CtlNo}

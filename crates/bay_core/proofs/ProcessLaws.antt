@@ -1,5 +1,5 @@
 -- What the process does with a control: it ends what the control executes, blocks it or unblocks it.
-use Rattle.std.proofs.Common.{◌≡◌, ◌<◌, ◌∙◌, ◌∷◌, ℕ, suc, Bool, List, None, Some, Option, length, refl, ap, arith, subst}
+use Rattle.std.proofs.Common.{◌≡◌, ◌<◌, ◌∷◌, ℕ, suc, Bool, List, None, Some, Option, length, refl, ap, arith, subst}
 use Rattle.std.proofs.lemmas.List.{length-map}
 use Rattle.sv_base.specs.declared.config.Config.{Config}
 use Rattle.sv_base.specs.declared.numbers.CtlNo.{CtlNo}

@@ -22,7 +22,6 @@ use Rattle.sv_base.specs.declared.numbers.AssocNo.{AssocNo}
 use Rattle.sv_base.specs.declared.value.Value.{Value}
 use Rattle.bay_rooms.specs.Kinds.{is_kind, is_in_range, kind_of}
 use Rattle.bay_model.specs.declared.components.Comp.{Comp}
-use Rattle.bay_model.specs.declared.components.SettingComp.{SettingComp}
 use Rattle.sv_base.specs.declared.config.SgDef.{SgDef}
 use Rattle.setting_groups.specs.Opened.{IsGrouped}
 use Rattle.setting_groups.specs.Frames.{IsFramed}

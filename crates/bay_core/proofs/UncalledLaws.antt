@@ -1,5 +1,5 @@
 -- What comes of singles that are no commands: no control acts, no error stands before the reply, and nothing is tested.
-use Rattle.std.proofs.Common.{◌≡◌, ◌∙◌, ◌∷◌, ℕ, Bool, true, false, not, List, [], map, length, Option, None, Some, Result, Ok, Err, refl, ap, subst}
+use Rattle.std.proofs.Common.{◌≡◌, ◌∷◌, ℕ, Bool, true, false, not, List, [], map, length, Option, None, Some, Result, Ok, Err, refl}
 use Rattle.std.specs.Prelude.{◌==◌, if◌then◌else◌}
 use Rattle.std.specs.Option.{option_map_or}
 use Rattle.std.specs.List.{All}
@@ -26,7 +26,7 @@ use Rattle.bay_model.specs.Lookups.{attr_of, control_of, groups_of, node_of}
 use Rattle.bay_model.specs.Model.{Model, DataSet, Access, reported, writable, active, edited, Role, Tree, single, several, selecting, calling, attribute, component, setting, withheld, text}
 use Rattle.bay_model.specs.Named.{configured_model}
 use Rattle.bay_model.specs.NamedLines.{domain_number}
-use Rattle.bay_model.specs.Outcomes.{Outcome, gave, refused, first_code}
+use Rattle.bay_model.specs.Outcomes.{gave, refused, first_code}
 use Rattle.bay_model.specs.Parameters.{parameters_at}
 use Rattle.bay_model.specs.Points.{edited as edited_group}
 use Rattle.bay_model.specs.Points.{Deed, Past, nothing, put, copied, activated, confirmed, wrote, selected_control}

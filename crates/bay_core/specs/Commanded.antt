@@ -1,6 +1,6 @@
 -- The calls of controls in a bay (IEC 61850-7-2, SelectWithValue, Operate and Cancel): the single writes of a request, each in its turn, with what is
 -- heard of them.
-use Rattle.std.specs.Prelude.{◌≡◌, ◌+◌, ℕ, suc, Bool, List, ◌∷◌, length, map, Option, None}
+use Rattle.std.specs.Prelude.{◌≡◌, ◌+◌, ℕ, suc, Bool, List, ◌∷◌, length, Option, None}
 use Rattle.std.specs.List.{All}
 use Rattle.sv_base.specs.declared.config.Config.{Config}
 use Rattle.sv_base.specs.declared.numbers.CtlNo.{CtlNo}

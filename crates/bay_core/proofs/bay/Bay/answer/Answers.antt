@@ -1,10 +1,7 @@
-use Rattle.std.proofs.Common.{◌≡◌, ℕ, List, Result, Ok, Err, refl, sym, subst}
-use Rattle.std.specs.Prelude.{IfOk}
+use Rattle.std.proofs.Common.{◌≡◌, List, refl, subst}
 use Rattle.bay_model.specs.declared.request.Service.{Service}
 use Rattle.bay_model.specs.declared.request.Service.TheVariants as services
 use Rattle.bay_model.specs.declared.request.Write.{Write}
-use Rattle.bay_core.specs.declared.asking.Came.{Came}
-use Rattle.bay_core.specs.Came.{IsCome}
 use Rattle.bay_core.specs.Commanded.{CallsNothing}
 use Rattle.bay_core.specs.State.{State, AreServedSets}
 use Rattle.bay_core.proofs.CameLaws.{replied-come}

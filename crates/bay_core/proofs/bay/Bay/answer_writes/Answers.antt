@@ -1,6 +1,4 @@
-use Rattle.std.proofs.Common.{◌≡◌, ◌∙◌, ℕ, List, Option, map, length, ap, sym, subst}
-use Rattle.sv_base.specs.declared.config.Config.{Config}
-use Rattle.bay_model.specs.declared.control.ApplError.{ApplError}
+use Rattle.std.proofs.Common.{◌∙◌, List, map, length, ap, sym, subst}
 use Rattle.bay_model.specs.declared.request.Write.{Write}
 use Rattle.bay_model.specs.Singles.{write_of}
 use Rattle.bay_queues.specs.Heard.{Heard, unheard}

@@ -13,7 +13,6 @@ use Rattle.bay_model.specs.Named.{configured_model}
 use Rattle.control_core.specs.Commands.{call_in}
 use Rattle.control_core.specs.declared.command.Call.{Call}
 use Rattle.bay_queues.specs.Calling.{blame_in}
-use Rattle.bay_queues.specs.Queued.{configs}
 use Rattle.bay_replies.specs.Plain.{HasGroups, IsPlainRole}
 use Rattle.bay_core.specs.Commanded.{blame_at}
 use Rattle.bay_core.specs.State.{State}

@@ -4,8 +4,7 @@ use Rattle.bay_model.specs.Configured.{control_defined}
 use Rattle.bay_model.specs.Model.{Control}
 use Rattle.bay_model.specs.Outcomes.{deed_of}
 use Rattle.control_core.specs.Commands.{call_in}
-use Rattle.control_core.specs.Tables.{Table}
-use Rattle.bay_queues.specs.Calling.{AreTests, blame_in, enhanced_in, outcome_at}
+use Rattle.bay_queues.specs.Calling.{blame_in, enhanced_in, outcome_at}
 use Rattle.bay_queues.specs.Heard.{heard_with}
 use Rattle.bay_queues.specs.Queued.{Queued, configs}
 use Rattle.bay_core.specs.Commanded.{AreTestsOf, after_call}

@@ -1,4 +1,4 @@
-use Rattle.std.proofs.Common.{◌≡◌, ◌∙◌, ◌∷◌, ◌++◌, ℕ, List, [], None, Option, length, map, take, ap, sym, subst, arith, add-one, slice_index_or}
+use Rattle.std.proofs.Common.{◌∙◌, List, None, Option, map, take, ap, sym, subst, arith, add-one, slice_index_or}
 use Rattle.std.proofs.lemmas.List.{length-set, take_all}
 use Rattle.std.proofs.lemmas.Option.{slice_get-get_or}
 use Rattle.list_laws.proofs.Places.{at_any}

@@ -1,4 +1,4 @@
-use Rattle.std.proofs.Common.{◌<◌, ◌≡◌, ◌-◌, ◌∙◌, List, length, ap, sym, subst, arith}
+use Rattle.std.proofs.Common.{◌<◌, ◌≡◌, ◌-◌, List, length, ap, sym, subst, arith}
 use Rattle.std.specs.Prelude.{◌+◌}
 use Rattle.bay_model.specs.Lookups.{attr_of}
 use Rattle.bay_model.specs.Writes.{write_attribute}

@@ -1,4 +1,4 @@
-use Rattle.std.proofs.Common.{◌≡◌, ◌<◌, ◌∙◌, map, length, ap, sym, subst, arith}
+use Rattle.std.proofs.Common.{◌≡◌, ◌<◌, ◌∙◌, map, length, ap, sym, subst}
 use Rattle.object_names.specs.declared.named.What.{What}
 use Rattle.object_names.specs.declared.named.What.TheVariants as whats
 use Rattle.object_names.specs.Seen.{call_seen as role_call, role_seen}
@@ -7,13 +7,12 @@ use Rattle.bay_model.specs.Configured.{control_defined}
 use Rattle.bay_model.specs.Lookups.{node_of}
 use Rattle.bay_model.specs.Model.{Call as Calling}
 use Rattle.bay_model.specs.Named.{configured_model}
-use Rattle.bay_model.specs.Writes.{write_node}
 use Rattle.control_core.specs.Commands.{call_in}
 use Rattle.control_core.specs.declared.command.Call.{Call}
 use Rattle.bay_queues.specs.Calling.{blame_in, enhanced_in, outcome_at}
 use Rattle.bay_queues.specs.Heard.{heard_with}
 use Rattle.bay_replies.specs.Plain.{HasGroups, IsPlainRole}
-use Rattle.bay_core.specs.Commanded.{IsNoCommand, IsSingle, after_call, blame_at}
+use Rattle.bay_core.specs.Commanded.{after_call}
 use Rattle.bay_core.specs.State.{State}
 use Rattle.bay_core.proofs.BlameLaws.{blame-told, calls-same, role-plain}
 use Rattle.bay_core.proofs.CalledLaws.{called-single, node-single}

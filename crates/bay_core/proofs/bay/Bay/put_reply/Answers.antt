@@ -1,2 +1,0 @@
-use Rattle.std.proofs.Common.{◌∙◌, ap, sym, subst}
-use Rattle.bay_core.proofs.bay.Bay.put_reply.Goals as goal
