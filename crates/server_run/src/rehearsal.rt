@@ -17,7 +17,7 @@ ghost use Rattle.script_threads.specs.declared.script.Script.{Script as ThePart}
 ghost use Rattle.bay_model.specs.Points.{least_moment};
 ghost use Rattle.std.specs.Prelude.{◌++◌, codes};
 ghost use Rattle.merged_records.specs.Merged.{lines_in, book_seen, merged, record_with, answered, IsAnswerable};
-ghost use Rattle.server_run.specs.Casting.{IsCast};
+ghost use Rattle.server_run.specs.Casting.{script_place, AreSeats, IsCast};
 ghost use Rattle.server_run.specs.Races.{IsOfPlan, IsOfRace};
 ghost use Rattle.server_run.specs.Rehearsals.{most, Performs, PerformsInput, Rehearses, IsListed};
 
@@ -120,7 +120,9 @@ fn cast_scripts<G: Gate>(
     slots: Vec<Option<Script>>,
     gates: Vec<G>,
 ) -> Result<(Vec<Actor<G>>, Vec<Vec<StepLine>>), AllocError>
-    requires { length slots.items ≤ 33 }
+    requires few { length slots.items ≤ 33 }
+    requires seats { AreSeats (map script_place slots.items) }
+    requires gates { length gates.items ≡ 16 }
     ensures book { IfOk result (λ r. book_seen r.1.items ≡ map lines_in slots.items) }
     ensures actors { IfOk result (λ r. IsCast (map (λ a. a.script) r.0.items) slots.items) }
 {
@@ -164,6 +166,7 @@ fn perform<R: Threads + Wait + Sync, G: Gate>(
     gates: Vec<G>,
 ) -> Result<Result<Vec<u8>, Status>, AllocError>
     requires sound { IsSound (plan_seen plan) }
+    requires gates { length gates.items ≡ 16 }
     ensures { IfOk result (Performs (plan_seen plan)) }
 {
     let Plan {
@@ -186,7 +189,8 @@ fn perform_input<R: Threads + Wait + Sync, G: Gate>(
     gates: Vec<G>,
     octets: Vec<u8>,
 ) -> Result<Result<Vec<u8>, Status>, AllocError>
-    requires { length octets.items ≤ 67108865 }
+    requires octets { length octets.items ≤ 67108865 }
+    requires gates { length gates.items ≡ 16 }
     ensures { IfOk result (PerformsInput (outcome octets.items)) }
 {
     let read = read_rehearsal(alloc, &octets)?;
