@@ -1,10 +1,7 @@
 //! The answers are written.
 
-ghost use Rattle.std.specs.Prelude.{◌≡◌, ◌++◌, Some, Ok, OnOk};
+ghost use Rattle.std.specs.Prelude.{◌≡◌, ◌++◌, Some, OnOk};
 ghost use Rattle.std.specs.List.{All};
-ghost use Rattle.sv_base.specs.declared.config.Config.{Config};
-ghost use Rattle.run_record.specs.Judging.{line_at};
-ghost use Rattle.run_record.specs.Seen.{line_seen};
 ghost use Rattle.merged_records.specs.Merged.{answer_to, answered, book_seen, TellsStep, IsAnswerable};
 
 use crate::book::line_made;
@@ -12,21 +9,10 @@ use answer_text::lines_of;
 use bay_model::{Answer, Step};
 use object_model::Model;
 use record_steps::Told;
-use run_record::{LineView, view_line};
+use run_record::view_line;
 use script_reading::StepLine;
 use script_threads::Made;
 use std::alloc::{AllocError, Global};
-
-/// What a line says that tells a step.
-fn view_of(line: &StepLine) -> LineView<'_>
-    requires { (c : Config) × TellsStep c line.now }
-    ensures { Ok (line_seen result.now) ≡ line_at line.now.text }
-{
-    match view_line(line.text.as_slice()) {
-        Ok(view) => view,
-        Err(_) => unreachable!(),
-    }
-}
 
 /// Adds the answer to the step that a line tells.
 fn push_answer(
@@ -39,7 +25,9 @@ fn push_answer(
     requires { TellsStep model.now line.now }
     ensures { OnOk result (out.new.items ≡ out.old.items ++ answer_to model.now (Some line.now) answer.now) }
 {
-    let view = view_of(line);
+    let Ok(view) = view_line(line.text.as_slice()) else {
+        unreachable!()
+    };
     let mut step = Step::Tick;
     let told = line.form.tell(alloc, model, &view, &mut step)?;
     match told {
