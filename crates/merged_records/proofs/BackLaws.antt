@@ -1,10 +1,12 @@
 -- The lines of steps that were made are read back as the history that was made.
 use Rattle.std.proofs.Common.{◌≡◌, ◌≤◌, ◌<◌, ◌==◌, ◌+◌, ℕ, zero, suc, Bool, true, false, cond, List, [], ◌∷◌, ◌++◌, length, take, map, get_or, eq-eqb, refl, sym, ap, subst, ◌∙◌, arith, inl, inr}
-use Rattle.std.specs.Prelude.{Option, None, Some, Result, Ok, Err, codes, decimal, slice_get, if◌then◌else◌}
+use Rattle.std.specs.Prelude.{Option, None, Some, Result, Ok, Err, codes, decimal, slice_get, is_some, if◌then◌else◌}
+use Rattle.std.specs.List.{All}
 use Rattle.std.proofs.lemmas.Bool.{eqb-true, eqb-false}
 use Rattle.std.proofs.lemmas.Bool.Decides.{eqb_tells, leb_tells}
 use Rattle.std.proofs.lemmas.Fmt.{length-decimal-le}
 use Rattle.std.proofs.lemmas.List.{take_all}
+use Rattle.std.proofs.lemmas.List.Elements.{All-nil, All-cons, All-push, All-head, All-tail}
 use Rattle.sv_base.specs.declared.config.Config.{Config}
 use Rattle.sv_base.specs.declared.numbers.AssocNo.{AssocNo}
 use Rattle.bay_model.specs.Named.{configured_model}
@@ -43,7 +45,7 @@ use Rattle.script_reading.specs.Sound.{IsActor, IsTold, AreTold, IsScript, IsScr
 use Rattle.script_reading.specs.declared.line.StepLine.{StepLine}
 use Rattle.script_reading.proofs.SoundLaws.{texts, newest-push}
 use Rattle.script_reading.proofs.TellLaws.{association-made, process-made, others-stay, process-stays}
-use Rattle.merged_records.specs.Merged.{Book, lines_in, book_of, line_of, at_lines, lines_behind, moment_behind, merged, lines_told, answer_to, answered}
+use Rattle.merged_records.specs.Merged.{Book, lines_in, book_of, line_of, at_lines, lines_behind, moment_behind, merged, lines_told, answer_to, answered, HasLine, IsAnswerable}
 use Rattle.merged_records.proofs.Listed.{take-get, book-at, onto-append, length-turns, IsNewest, newest-turn, told-at, was_after, was-push, merged-push, answered-push}
 
 abbrev pub steps_in : Option Script → List TimedStep
@@ -328,6 +330,28 @@ module _ (p : Plan) (sound : IsSound p) where
   reads-back : (h : History) → IsWithin h → IsBack h
   reads-back [] within = record { now = refl; form = λ a. sym (none-so-far a); turns = refl; text = refl }
   reads-back (t ∷ h) within = back-more t h within (reads-back h (earlier t h within))
+
+-- each step that was made has its line, which tells a step
+answerable : (p : Plan) (sound : IsSound p) (h : History) → IsWithin p sound h → All (IsAnswerable p.config (book_of p)) (made_of p.config h)
+answerable p sound [] within = All-nil (IsAnswerable p.config (book_of p))
+answerable p sound (t ∷ h) within =
+    let l = told p sound t h within in
+    let s = newest p sound t h within in
+    All-push (IsAnswerable p.config (book_of p)) (made_of p.config h) (made_from p.config h t) (answerable p sound h (earlier p sound t h within)) (record {
+      line = l.0;
+      there = line-is p sound t h within;
+      tells = (l.2.fit, actor_of t.actor s.step.step, s.step.step, ap (said_in p.config (form_in l.0.form)) l.2.read ∙ l.2.told);
+    })
+
+pub made-answerable : (p : Plan) (h : History) → IsSound p → IsShuffle actors (plans.turns_of p) h → All (IsAnswerable p.config (book_of p)) (made_of p.config h)
+made-answerable p h sound shuffle = answerable p sound h (whole-within p sound h shuffle)
+
+-- so each has its line
+pub lines-there : (c : Config) (book : Book) (ms : List Made) → All (IsAnswerable c book) ms → All (HasLine book) ms
+lines-there c book [] all = All-nil (HasLine book)
+lines-there c book (m ∷ ms) all =
+    let first = All-head (IsAnswerable c book) m ms all in
+    All-cons (HasLine book) m ms (ap is_some first.there) (lines-there c book ms (All-tail (IsAnswerable c book) m ms all))
 
 pub turns-back : (p : Plan) (h : History) → IsSound p → IsShuffle actors (plans.turns_of p) h
     → turns_in (steps_of p.config (onto [] (merged (book_of p) least_moment (made_of p.config h)))) ≡ history_written h

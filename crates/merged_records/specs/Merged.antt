@@ -1,9 +1,10 @@
 -- The record that the scripts of a plan make in a history, and the answers to it: the lines in the order of the history, with an
 -- `at` line exactly where the moment differs from that of the line before.
-use Rattle.std.specs.Prelude.{ℕ, ◌==◌, List, [], ◌∷◌, ◌++◌, map, codes, Vec, Option, None, Some, slice_get, slice_index_or, if◌then◌else◌}
+use Rattle.std.specs.Prelude.{◌≡◌, ℕ, ◌==◌, true, is_some, List, [], ◌∷◌, ◌++◌, map, codes, Vec, Option, None, Some, slice_get, slice_index_or, if◌then◌else◌}
 use Rattle.std.specs.declared.alloc.Global.{Global}
 use Rattle.sv_base.specs.declared.config.Config.{Config}
 use Rattle.bay_model.specs.declared.answer.Answer.{Answer}
+use Rattle.bay_model.specs.declared.step.Step.{Step}
 use Rattle.bay_model.specs.Points.{least_moment}
 use Rattle.bay_model.specs.Answers.{History}
 use Rattle.answer_text.specs.Texts.{lines_of}
@@ -16,7 +17,7 @@ use Rattle.record_steps.specs.Told.{Told, turn}
 use Rattle.record_history.specs.Histories.{octets_of, said_in}
 use Rattle.script_threads.specs.Scripts.{made_of}
 use Rattle.script_threads.specs.declared.made.Made.{Made}
-use Rattle.script_reading.specs.Forms.{form_in}
+use Rattle.script_reading.specs.Forms.{form_in, IsFit}
 use Rattle.script_reading.specs.Plans.{Script, Plan}
 use Rattle.script_reading.specs.declared.line.StepLine.{StepLine}
 
@@ -34,6 +35,19 @@ book_of p = map lines_in p.scripts
 -- the line of a step that was made
 abbrev pub line_of : Book → Made → Option StepLine
 line_of book m = slice_get (slice_index_or book m.actor []) m.index
+
+abbrev pub HasLine : Book → Made → Type 0
+HasLine book m = is_some (line_of book m) ≡ true
+
+-- the line alone tells a step
+abbrev pub TellsStep : Config → StepLine → Type 0
+TellsStep c l = IsFit l.form × (actor : ℕ) × (step : Step) × (said_in c (form_in l.form) (line_at l.text) ≡ turn actor step)
+
+-- a step that was made has its line, which tells a step
+pub record IsAnswerable (c : Config) (book : Book) (m : Made) : Type 0 where
+  pub line : StepLine
+  pub there : line_of book m ≡ Some line
+  pub tells : TellsStep c line
 
 -- ---- the record
 

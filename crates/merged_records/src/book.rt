@@ -1,8 +1,8 @@
 //! The lines of all scripts, by the numbers of their actors.
 
-ghost use Rattle.std.specs.Prelude.{◌≡◌};
+ghost use Rattle.std.specs.Prelude.{◌≡◌, Some};
 ghost use Rattle.std.specs.Option.{option_map};
-ghost use Rattle.merged_records.specs.Merged.{line_of as line_there, book_seen};
+ghost use Rattle.merged_records.specs.Merged.{line_of as line_there, book_seen, HasLine};
 
 use script_reading::StepLine;
 use script_threads::Made;
@@ -13,4 +13,15 @@ pub fn line_of<'a>(book: &'a [Vec<StepLine>], made: &Made) -> Option<&'a StepLin
 {
     let lines = book.get(made.actor as usize)?;
     lines.get(made.index as usize)
+}
+
+/// The line of a step that was made, which a script has.
+pub fn line_made<'a>(book: &'a [Vec<StepLine>], made: &Made) -> &'a StepLine
+    requires { HasLine (book_seen book.now) made.now }
+    ensures { Some result.now ≡ line_there (book_seen book.now) made.now }
+{
+    match line_of(book, made) {
+        Some(line) => line,
+        None => unreachable!(),
+    }
 }

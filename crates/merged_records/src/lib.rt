@@ -7,7 +7,7 @@ mod book;
 mod record;
 
 pub use answers::write_answers;
-pub use book::line_of;
+pub use book::{line_made, line_of};
 pub use record::write_record;
 
 // they are read back

@@ -1,11 +1,12 @@
 //! The record is written.
 
 ghost use Rattle.std.specs.Prelude.{◌≡◌, ◌++◌, Some, OnOk};
+ghost use Rattle.std.specs.List.{All};
 ghost use Rattle.bay_model.specs.Points.{least_moment};
 ghost use Rattle.record_history.specs.Histories.{octets_of};
-ghost use Rattle.merged_records.specs.Merged.{at_lines, lines_behind, merged, record_with, book_seen};
+ghost use Rattle.merged_records.specs.Merged.{at_lines, lines_behind, merged, record_with, book_seen, HasLine};
 
-use crate::book::line_of;
+use crate::book::line_made;
 use run_record::{RecLine, write_line};
 use script_reading::StepLine;
 use script_threads::Made;
@@ -34,13 +35,12 @@ fn push_line(out: &mut Vec<u8>, was: Moment, line: &StepLine) -> Result<(), Allo
 
 /// Adds the lines of steps that were made.
 fn push_lines(out: &mut Vec<u8>, book: &[Vec<StepLine>], made: &[Made]) -> Result<(), AllocError>
+    requires { All (HasLine (book_seen book.now)) made.now }
     ensures { OnOk result (out.new.items ≡ out.old.items ++ octets_of (merged (book_seen book.now) least_moment made.now)) }
 {
     let mut was = Moment::first();
     for step in made {
-        let Some(line) = line_of(book, step) else {
-            return Err(AllocError);
-        };
+        let line = line_made(book, step);
         push_line(out, was, line)?;
         was = line.moment;
     }
@@ -48,13 +48,14 @@ fn push_lines(out: &mut Vec<u8>, book: &[Vec<StepLine>], made: &[Made]) -> Resul
 }
 
 /// Adds a record: the line `record 1`, the lines of a configuration, those of the steps that were made, with an `at` line exactly
-/// where the moment differs from that of the line before, and `end`. Fails for want of memory alone, where each step has its line.
+/// where the moment differs from that of the line before, and `end`.
 pub fn write_record(
     out: &mut Vec<u8>,
     text: &[u8],
     book: &[Vec<StepLine>],
     made: &[Made],
 ) -> Result<(), AllocError>
+    requires { All (HasLine (book_seen book.now)) made.now }
     ensures { OnOk result (out.new.items ≡ out.old.items ++ record_with text.now (merged (book_seen book.now) least_moment made.now)) }
 {
     out.extend_from_slice(b"record 1\n")?;

@@ -1,5 +1,5 @@
 -- Every plan that an input comes to is sound: what holds of where the reading is holds behind each line.
-use Rattle.std.proofs.Common.{◌≡◌, ◌≤◌, ◌<◌, ◌+◌, ◌==◌, ◌&&◌, ◌||◌, ℕ, zero, suc, Bool, true, false, cond, not, List, [], ◌∷◌, ◌++◌, length, take, map, set, replicate, get_or, refl, sym, ap, subst, ◌∙◌, arith, inl, inr, ◌⊎◌, length-append, length-set, append-nil}
+use Rattle.std.proofs.Common.{◌≡◌, ◌≢◌, ◌≤◌, ◌<◌, ◌+◌, ◌==◌, ◌&&◌, ◌||◌, ℕ, zero, suc, Bool, true, false, cond, not, List, [], ◌∷◌, ◌++◌, length, take, map, set, replicate, get_or, refl, sym, ap, subst, ◌∙◌, arith, inl, inr, ◌⊎◌, length-append, length-set, append-nil}
 use Rattle.std.specs.Prelude.{Option, None, Some, is_some, Result, Ok, Err, codes, nat_lt, if◌then◌else◌}
 use Rattle.std.specs.Str.{bytes_eq}
 use Rattle.std.specs.List.{All, slice_split, onto_first}
@@ -52,7 +52,7 @@ use Rattle.script_reading.specs.Scripting.{most_scripts, actor_for, processes_wi
 use Rattle.script_reading.specs.Openings.{headed, opening_at, started, configuring_at}
 use Rattle.script_reading.specs.Inputs as inputs
 use Rattle.script_reading.specs.Inputs.{passed, lines_at, Outcome, ready, moved, run, outcome}
-use Rattle.script_reading.specs.Sound.{IsActor, IsTold, AreTold, IsScript, IsScriptOrNone, IsText, IsSound, PlansAreSound}
+use Rattle.script_reading.specs.Sound.{IsActor, IsTold, AreTold, IsScript, IsScriptOrNone, IsText, IsPlacedBelow, ArePlacedApart, IsSound, PlansAreSound}
 use Rattle.script_reading.specs.declared.line.StepLine.{StepLine}
 use Rattle.script_reading.specs.declared.form.ScriptForm.{ScriptForm}
 use Rattle.script_reading.specs.declared.form.ScriptForm.TheVariants as forms
@@ -130,6 +130,8 @@ pub record GoodPlan (n : ℕ) (p : Plan) : Type 0 where
   pub scripts : (k : ℕ) → GoodOrNone n p.config k (script_of p k)
   pub count : p.count ≤ 16
   pub processes : p.processes ≤ p.count
+  pub low : (k : ℕ) → IsPlacedBelow p.count (script_of p k)
+  pub apart : (j k : ℕ) → j ≢ k → ArePlacedApart (script_of p j) (script_of p k)
 
 pub record GoodOpened (n : ℕ) (c : Config) (o : Opened) : Type 0 where
   pub good : GoodScript n c o.actor o.script
@@ -138,11 +140,15 @@ pub record GoodOpened (n : ℕ) (c : Config) (o : Opened) : Type 0 where
   pub late : o.moment ≤ 4294967295999
   pub fit : IsFit o.form
 
+-- its place is behind those of all scripts before it
+abbrev pub IsSeated : Plan → Opened → Type 0
+IsSeated p o = (o.script.place < p.count) × ((k : ℕ) → IsPlacedBelow o.script.place (script_of p k))
+
 abbrev pub Good : ℕ → Place → Type 0
 Good n opening = Unit {0}
 Good n (configuring before text) = (inner : List (List ℕ)) × (text ≡ octets_of inner) × Each IsInner inner
 Good n (between p) = GoodPlan n p
-Good n (inside p o) = GoodPlan n p × GoodOpened n p.config o
+Good n (inside p o) = GoodPlan n p × GoodOpened n p.config o × IsSeated p o
 
 abbrev pub GoodMove : ℕ → Move → Type 0
 GoodMove n (goes to) = Good n to
@@ -157,7 +163,7 @@ more-or n m c k None le g = tt
 more-or n m c k (Some s) le g = more-script n m c k s le g
 
 more-plan : (n m : ℕ) (p : Plan) → n ≤ m → GoodPlan n p → GoodPlan m p
-more-plan n m p le g = record { text = g.text; places = g.places; scripts = λ k. more-or n m p.config k (script_of p k) le (g.scripts k); count = g.count; processes = g.processes }
+more-plan n m p le g = record { text = g.text; places = g.places; scripts = λ k. more-or n m p.config k (script_of p k) le (g.scripts k); count = g.count; processes = g.processes; low = g.low; apart = g.apart }
 
 more-opened : (n m : ℕ) (c : Config) (o : Opened) → n ≤ m → GoodOpened n c o → GoodOpened m c o
 more-opened n m c o le g = record { good = more-script n m c o.actor o.script le g.good; actor = g.actor; early = g.early; late = g.late; fit = g.fit }
@@ -166,8 +172,18 @@ sound-or : (c : Config) (k : ℕ) (o : Option Script) → GoodOrNone most_lines 
 sound-or c k None g = tt
 sound-or c k (Some s) g = record { some = g.some; few = g.few; told = g.told; fit = g.fit; short = g.short }
 
+below-more : (n m : ℕ) (o : Option Script) → n ≤ m → IsPlacedBelow n o → IsPlacedBelow m o
+below-more n m None le low = tt
+below-more n m (Some s) le low = omega (arith, low, le)
+
 sound-plan : (n : ℕ) (p : Plan) → n ≤ most_lines → GoodPlan n p → IsSound p
-sound-plan n p le g = record { text = g.text; places = g.places; scripts = λ k. sound-or p.config k (script_of p k) (more-or n most_lines p.config k (script_of p k) le (g.scripts k)) }
+sound-plan n p le g = record {
+  text = g.text;
+  places = g.places;
+  scripts = λ k. sound-or p.config k (script_of p k) (more-or n most_lines p.config k (script_of p k) le (g.scripts k));
+  low = λ k. below-more p.count 16 (script_of p k) g.count (g.low k);
+  apart = g.apart;
+}
 
 -- ---- the lines before the scripts
 
@@ -196,6 +212,8 @@ started-good n before inner text (Ok c) is each reads = record {
   scripts = λ k. subst (GoodOrNone n c k) (sym (none-there 33 k)) tt;
   count = omega arith;
   processes = omega arith;
+  low = λ k. subst (IsPlacedBelow 0) (sym (none-there 33 k)) tt;
+  apart = λ j k other. subst (λ o. ArePlacedApart o (get_or (replicate 33 nothing) k nothing)) (sym (none-there 33 j)) tt;
 }
 started-good n before inner text (Err (faults.Refused line kind)) is each reads = tt
 started-good n before inner text (Err faults.Memory) is each reads = tt
@@ -236,7 +254,7 @@ begins-good : (n number : ℕ) (p : Plan) (owner : Owner) → IsOwner owner → 
 begins-good n number p owner is good = by (p.count == most_scripts) refl (is_some (script_of p (actor_for p owner))) where
   fresh : p.count < 16 → Good n (inside (counted p owner) (opened p owner))
   fresh low = (
-    record { text = good.text; places = good.places; scripts = good.scripts; count = omega (arith, low); processes = process-few owner p good.processes },
+    record { text = good.text; places = good.places; scripts = good.scripts; count = omega (arith, low); processes = process-few owner p good.processes; low = λ k. below-more p.count (p.count + 1) (script_of p k) (omega arith) (good.low k); apart = good.apart },
     record {
       good = record {
         some = actor-some owner p is;
@@ -250,6 +268,7 @@ begins-good n number p owner is good = by (p.count == most_scripts) refl (is_som
       late = omega arith;
       fit = tt;
     },
+    (omega arith, good.low),
   )
 
   by : (a : Bool) → (p.count == most_scripts) ≡ a → (b : Bool) → GoodMove n (if a || b then stops (statuses.Record number 5) else goes (inside (counted p owner) (opened p owner)))
@@ -306,7 +325,7 @@ actor-behind c form k w (owners.Association a) text line step before is may read
     )
 actor-behind c form k w owners.Process text line step before is may reads says = (is.0, process-passed line form may ∙ is.1)
 
-module _ (n number : ℕ) (p : Plan) (o : Opened) (text : List ℕ) (line : RecLine) (next : number ≡ suc n) (spells : Spells text line) (reads : judging.line_at text ≡ Ok line) (plan : GoodPlan n p) (good : GoodOpened n p.config o) where
+module _ (n number : ℕ) (p : Plan) (o : Opened) (text : List ℕ) (line : RecLine) (next : number ≡ suc n) (spells : Spells text line) (reads : judging.line_at text ≡ Ok line) (plan : GoodPlan n p) (good : GoodOpened n p.config o) (seated : IsSeated p o) where
   taken-good : (w : ℕ) (step : Step) → may_have o.owner line ≡ true → told_of p.config (form_in o.form) line ≡ turn w step → GoodOpened (suc n) p.config (taken o number text (form_passed line o.form) step)
   taken-good w step may says =
       let l : StepLine = record { number = number; text = text; form = o.form; moment = o.moment } in
@@ -344,9 +363,9 @@ module _ (n number : ℕ) (p : Plan) (o : Opened) (text : List ℕ) (line : RecL
       record { good = more-script n (suc n) p.config o.actor o.script (omega arith) good.good; actor = good.actor; early = range.0; late = range.1; fit = good.fit }
 
   told-good : (t : Told) → may_have o.owner line ≡ true → told_of p.config (form_in o.form) line ≡ t → GoodMove (suc n) (told_in number p o text line t)
-  told-good skip may says = (more-plan n (suc n) p (omega arith) plan, more-opened n (suc n) p.config o (omega arith) good)
-  told-good (pass_to moment) may says = (more-plan n (suc n) p (omega arith) plan, passed-good moment says)
-  told-good (turn w step) may says = (more-plan n (suc n) p (omega arith) plan, taken-good w step may says)
+  told-good skip may says = (more-plan n (suc n) p (omega arith) plan, more-opened n (suc n) p.config o (omega arith) good, seated)
+  told-good (pass_to moment) may says = (more-plan n (suc n) p (omega arith) plan, passed-good moment says, seated)
+  told-good (turn w step) may says = (more-plan n (suc n) p (omega arith) plan, taken-good w step may says, seated)
   told-good (heard parts) may says = tt
   told-good (refused kind) may says = tt
   told-good last may says = tt
@@ -365,25 +384,57 @@ script-set n p k s plan good j = elim (eqb_tells j k) [
   | inr t ↦ subst (GoodOrNone n p.config j) (sym (get_or-set_other p.scripts k j (Some s) None t.1)) (plan.scripts j)
 ]
 
-closed-good : (n : ℕ) (p : Plan) (o : Opened) → GoodPlan n p → GoodOpened n p.config o → GoodPlan n (with_script p o.actor o.script)
-closed-good n p o plan good = record {
-  text = plan.text;
-  places = length-set p.scripts o.actor (Some o.script) ∙ plan.places;
-  scripts = script-set n p o.actor o.script plan good.good;
-  count = plan.count;
-  processes = plan.processes;
-}
+-- what the scripts of two actors are, where that of one is set
+two-set : (P : Option Script → Option Script → Type 0) (p : Plan) (k : ℕ) (s : Script) → k < length p.scripts → (i j : ℕ) → (i ≡ k → j ≢ k → P (Some s) (script_of p j)) → (i ≢ k → j ≡ k → P (script_of p i) (Some s))
+    → (i ≢ k → j ≢ k → P (script_of p i) (script_of p j)) → i ≢ j → P (script_of (with_script p k s) i) (script_of (with_script p k s) j)
+two-set P p k s low i j first second neither other = elim (eqb_tells i k) [
+  | inl t ↦
+      let apart : j ≢ k = λ same. other (t.1 ∙ sym same) in
+      subst (λ o. P o (script_of (with_script p k s) j)) (sym (ap (λ n. get_or (set p.scripts k (Some s)) n None) t.1 ∙ get_or-set_same p.scripts k (Some s) None low))
+      (subst (P (Some s)) (sym (get_or-set_other p.scripts k j (Some s) None apart)) (first t.1 apart))
+  | inr t ↦ subst (λ o. P o (script_of (with_script p k s) j)) (sym (get_or-set_other p.scripts k i (Some s) None t.1)) (elim (eqb_tells j k) [
+    | inl u ↦ subst (P (script_of p i)) (sym (ap (λ n. get_or (set p.scripts k (Some s)) n None) u.1 ∙ get_or-set_same p.scripts k (Some s) None low)) (second t.1 u.1)
+    | inr u ↦ subst (P (script_of p i)) (sym (get_or-set_other p.scripts k j (Some s) None u.1)) (neither t.1 u.1)
+  ])
+]
 
-inside-good : (n : ℕ) (p : Plan) (o : Opened) (text : List ℕ) → GoodPlan n p → GoodOpened n p.config o → GoodMove (suc n) (inside_at (suc n) p o text)
+apart-behind : (s : Script) (o : Option Script) → IsPlacedBelow s.place o → ArePlacedApart (Some s) o
+apart-behind s None low = tt
+apart-behind s (Some t) low = λ same. omega (arith, same, low)
+
+apart-before : (s : Script) (o : Option Script) → IsPlacedBelow s.place o → ArePlacedApart o (Some s)
+apart-before s None low = tt
+apart-before s (Some t) low = λ same. omega (arith, same, low)
+
+low-set : (p : Plan) (k : ℕ) (s : Script) → k < length p.scripts → ((j : ℕ) → IsPlacedBelow p.count (script_of p j)) → s.place < p.count → (j : ℕ) → IsPlacedBelow p.count (script_of (with_script p k s) j)
+low-set p k s there low here j = elim (eqb_tells j k) [
+  | inl t ↦ subst (IsPlacedBelow p.count) (sym (ap (λ n. get_or (set p.scripts k (Some s)) n None) t.1 ∙ get_or-set_same p.scripts k (Some s) None there)) here
+  | inr t ↦ subst (IsPlacedBelow p.count) (sym (get_or-set_other p.scripts k j (Some s) None t.1)) (low j)
+]
+
+closed-good : (n : ℕ) (p : Plan) (o : Opened) → GoodPlan n p → GoodOpened n p.config o → IsSeated p o → GoodPlan n (with_script p o.actor o.script)
+closed-good n p o plan good seated =
+    let there : o.actor < length p.scripts = omega (arith, plan.places, good.good.few) in
+    record {
+      text = plan.text;
+      places = length-set p.scripts o.actor (Some o.script) ∙ plan.places;
+      scripts = script-set n p o.actor o.script plan good.good;
+      count = plan.count;
+      processes = plan.processes;
+      low = low-set p o.actor o.script there plan.low seated.0;
+      apart = λ i j other. two-set ArePlacedApart p o.actor o.script there i j (λ a b. apart-behind o.script (script_of p j) (seated.1 j)) (λ a b. apart-before o.script (script_of p i) (seated.1 i)) (λ a b. plan.apart i j other) other;
+    }
+
+inside-good : (n : ℕ) (p : Plan) (o : Opened) (text : List ℕ) → GoodPlan n p → GoodOpened n p.config o → IsSeated p o → GoodMove (suc n) (inside_at (suc n) p o text)
 unfolding inside_at
-inside-good n p o text plan good = by (script_line_at text) refl where
+inside-good n p o text plan good seated = by (script_line_at text) refl where
   by : (r : Result ScriptLine Kind) → script_line_at text ≡ r → GoodMove (suc n) (inside_as (suc n) p o text r)
   by (Err kind) is = tt
   by (Ok (scripts.Begins owner)) is = tt
-  by (Ok scripts.Closes) is = more-plan n (suc n) (with_script p o.actor o.script) (omega arith) (closed-good n p o plan good)
+  by (Ok scripts.Closes) is = more-plan n (suc n) (with_script p o.actor o.script) (omega arith) (closed-good n p o plan good seated)
   by (Ok (scripts.Step line)) is =
       let spells = step-told text line is in
-      step-good n (suc n) p o text line refl spells (line-read text line spells) plan good
+      step-good n (suc n) p o text line refl spells (line-read text line spells) plan good seated
 
 -- ---- the lines one after another
 
@@ -391,7 +442,7 @@ lines-good : (n : ℕ) (place : Place) (line : List ℕ) → NoNewline line → 
 lines-good n opening line none good = opening-good (suc n) (suc n) line
 lines-good n (configuring before text) line none good = configuring-good (suc n) before text line none good
 lines-good n (between p) line none good = between-good (suc n) (suc n) p line (more-plan n (suc n) p (omega arith) good)
-lines-good n (inside p o) line none good = inside-good n p o line good.0 good.1
+lines-good n (inside p o) line none good = inside-good n p o line good.0 good.1 good.2
 
 -- the line passes the limit of lines, or it is one that may be read
 below : (number : ℕ) (place : Place) (line : List ℕ) (m : Move) → inputs.line_at number place line ≡ m → (m ≡ stops (passed 1 number place)) ⊎ ((number ≤ most_lines) × (lines_at number place line ≡ m))

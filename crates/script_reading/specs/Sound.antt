@@ -1,6 +1,6 @@
 -- What holds of every plan: its configuration is that of its lines, and each line of a script is told by the script's own lines
 -- before it.
-use Rattle.std.specs.Prelude.{◌≡◌, ◌<◌, ◌≤◌, ℕ, true, List, [], ◌∷◌, ◌++◌, length, codes, Option, None, Some, Ok}
+use Rattle.std.specs.Prelude.{◌≡◌, ◌≢◌, ◌<◌, ◌≤◌, ℕ, true, List, [], ◌∷◌, ◌++◌, length, codes, Option, None, Some, Ok}
 use Rattle.std.specs.List.{All}
 use Rattle.sv_base.specs.declared.config.Config.{Config}
 use Rattle.cfg_parser.specs.Looking.{config_at}
@@ -66,10 +66,23 @@ pub record IsText (c : Config) (text : List ℕ) : Type 0 where
   pub are_inner : Each IsInner inner
   pub config : config_at text ≡ Ok c
 
+-- its place among the scripts of the input is below this number
+abbrev pub IsPlacedBelow : ℕ → Option Script → Type 0
+IsPlacedBelow n None = Unit {0}
+IsPlacedBelow n (Some s) = s.place < n
+
+-- they have places of their own
+abbrev pub ArePlacedApart : Option Script → Option Script → Type 0
+ArePlacedApart (Some s) (Some t) = s.place ≢ t.place
+ArePlacedApart _ _ = Unit {0}
+
 pub record IsSound (p : Plan) : Type 0 where
   pub text : IsText p.config p.text
   pub places : length p.scripts ≡ 33
   pub scripts : (k : ℕ) → IsScriptOrNone p.config k (script_of p k)
+  -- each script has its place among the 16 of an input
+  pub low : (k : ℕ) → IsPlacedBelow 16 (script_of p k)
+  pub apart : (j k : ℕ) → j ≢ k → ArePlacedApart (script_of p j) (script_of p k)
 
 abbrev pub PlansAreSound : Type 0
 PlansAreSound = (octets : List ℕ) (p : Plan) → outcome octets ≡ ready p → IsSound p

@@ -15,12 +15,11 @@ use Rattle.script_threads.specs.declared.made.Made.{Made}
 use Rattle.script_threads.specs.declared.part.Part.{Part as Given}
 use Rattle.script_threads.specs.declared.racing.Raced.{Raced}
 use Rattle.script_threads.specs.declared.script.Script.{Script as Part}
-use Rattle.script_reading.specs.Forms.{IsFit}
 use Rattle.script_reading.specs.Plans.{Plan}
 use Rattle.script_reading.specs.Sound.{IsSound}
-use Rattle.script_reading.specs.declared.line.StepLine.{StepLine}
-use Rattle.merged_records.specs.Merged.{Book, lines_in, book_of, line_of, merged, record_with, answered}
-use Rattle.merged_records.proofs.OctetLaws.{book-told, merged_are_read_back}
+use Rattle.merged_records.specs.Merged.{Book, lines_in, book_of, merged, record_with, answered, IsAnswerable}
+use Rattle.merged_records.proofs.BackLaws.{made-answerable}
+use Rattle.merged_records.proofs.OctetLaws.{merged_are_read_back}
 use Rattle.race_verdicts.specs.Bounds.{lowest_beyond}
 use Rattle.race_verdicts.specs.Known.{AreScripts}
 use Rattle.race_verdicts.specs.Verdicts.{lowest_full, all_went, lacks_memory}
@@ -60,6 +59,13 @@ module _ (p : Plan) (c : Config) (text : List ℕ) (book : Book) (ss : List Part
     made-all : lowest_full book parts ≡ None → IsMade p h
     made-all none = made-whole p ss parts h is.turns raced ((verdicts_are_known p ss parts h is.sound is.scripts raced lean).went (same-lowest None none))
 
+    -- each step that was made is answered
+    pub all-answerable : (made : List Made) → lowest_full book parts ≡ None → made ≡ made_of p.config h → All (IsAnswerable c book) made
+    all-answerable made none made-is =
+        subst (All (IsAnswerable c book)) (sym made-is)
+        (subst (λ k. All (IsAnswerable k book) (made_of p.config h)) is.config
+        (subst (λ b. All (IsAnswerable p.config b) (made_of p.config h)) is.book_ (made-answerable p h is.sound (made-all none).1)))
+
     pub goes : (made : List Made) (out : List ℕ) → lowest_full book parts ≡ None → made ≡ made_of p.config h
         → out ≡ record_with text (merged book least_moment made) ++ (answered c book made ++ codes "end\n") → Goes p out
     goes made out none made-is out-is = record {
@@ -73,10 +79,6 @@ module _ (p : Plan) (c : Config) (text : List ℕ) (book : Book) (ss : List Part
     }
 
 -- ---- a plan's actors
-
--- no line is of another form than a script's can be
-pub fit-lines : (p : Plan) (c : Config) (text : List ℕ) (book : Book) (ss : List Part) → IsOfPlan p c text book ss → (m : Made) (l : StepLine) → line_of book m ≡ Some l → IsFit l.form
-fit-lines p c text book ss is m l there = (book-told p m l is.sound (ap (λ b. line_of b m) is.book_ ∙ there)).2.fit
 
 pub served-plan : (p : Plan) (c : Config) (text : List ℕ) (book : Book) (ss : List Part) → IsOfPlan p c text book ss → IsServable c
 served-plan p c text book ss is = subst IsServable is.config (is_served p.text p.config is.sound.text.config)

@@ -1,9 +1,9 @@
 //! The actors of a plan, and the lines of their scripts.
 
-ghost use Rattle.std.specs.Prelude.{◌≡◌, ◌≤◌, ◌<◌, ◌++◌, ◌∷◌, [], map, length, IfOk, OnOk};
+ghost use Rattle.std.specs.Prelude.{◌≡◌, ◌≤◌, ◌<◌, ◌++◌, ◌∷◌, [], None, Some, map, length, slice_set, IfOk, OnOk};
 ghost use Rattle.script_reading.specs.Plans.{Script as TheScript};
 ghost use Rattle.merged_records.specs.Merged.{lines_in, book_seen};
-ghost use Rattle.server_run.specs.Casting.{script_steps, role_steps, cast_one, cast_from};
+ghost use Rattle.server_run.specs.Casting.{script_steps, role_steps, script_place, role_place, AreSeats, HasGate, HaveGates, without_gate, cast_one, cast_from};
 
 use script_reading::{Script, StepLine};
 use script_threads::{Actor, Script as Part, TimedStep};
@@ -21,6 +21,7 @@ pub struct Role {
 /// The role of an actor and the lines of its script, if it has one.
 fn split(alloc: Global, slot: Option<Script>) -> (Option<Role>, Vec<StepLine>)
     ensures role { role_steps result.0 ≡ script_steps slot }
+    ensures place { role_place result.0 ≡ script_place slot }
     ensures lines { result.1.items ≡ lines_in slot }
 {
     match slot {
@@ -41,6 +42,7 @@ fn add_role(
     slot: Option<Script>,
 ) -> Result<(), AllocError>
     ensures roles { OnOk result (map role_steps roles.new.items ≡ map role_steps roles.old.items ++ script_steps slot ∷ []) }
+    ensures places { OnOk result (map role_place roles.new.items ≡ map role_place roles.old.items ++ script_place slot ∷ []) }
     ensures book { OnOk result (book_seen book.new.items ≡ book_seen book.old.items ++ lines_in slot ∷ []) }
 {
     let (role, lines) = split(alloc, slot);
@@ -61,6 +63,7 @@ fn add_roles(
 ) -> Result<(), AllocError>
     requires none { (roles.old.items ≡ []) × (book.old.items ≡ []) }
     ensures roles { OnOk result (map role_steps roles.new.items ≡ map script_steps slots.items) }
+    ensures places { OnOk result (map role_place roles.new.items ≡ map script_place slots.items) }
     ensures book { OnOk result (book_seen book.new.items ≡ map lines_in slots.items) }
 {
     for slot in slots {
@@ -75,6 +78,7 @@ pub fn part(
     slots: Vec<Option<Script>>,
 ) -> Result<(Vec<Option<Role>>, Vec<Vec<StepLine>>), AllocError>
     ensures roles { IfOk result (λ r. map role_steps r.0.items ≡ map script_steps slots.items) }
+    ensures places { IfOk result (λ r. map role_place r.0.items ≡ map script_place slots.items) }
     ensures book { IfOk result (λ r. book_seen r.1.items ≡ map lines_in slots.items) }
 {
     let mut roles = Vec::new(alloc);
@@ -90,7 +94,9 @@ pub fn part(
 }
 
 /// Each gate in a place of its own.
-fn placed<G: Gate>(alloc: Global, gates: Vec<G>) -> Result<Vec<Option<G>>, AllocError> {
+fn placed<G: Gate>(alloc: Global, gates: Vec<G>) -> Result<Vec<Option<G>>, AllocError>
+    ensures { IfOk result (λ v. v.items ≡ map Some gates.items) }
+{
     let mut places = Vec::new(alloc);
     for gate in gates {
         places.push(Some(gate))?;
@@ -98,10 +104,18 @@ fn placed<G: Gate>(alloc: Global, gates: Vec<G>) -> Result<Vec<Option<G>>, Alloc
     Ok(places)
 }
 
-/// Takes the gate of a script; none where it is taken.
-fn take_gate<G: Gate>(gates: &mut Vec<Option<G>>, place: u32) -> Option<G> {
-    let gate = gates.get_mut(place as usize)?;
-    replace(gate, None)
+/// Takes the gate of a script.
+fn take_gate<G: Gate>(gates: &mut Vec<Option<G>>, place: u32) -> G
+    requires { HasGate gates.old.items place }
+    ensures { gates.new.items ≡ slice_set gates.old.items place None }
+{
+    let Some(gate) = gates.get_mut(place as usize) else {
+        unreachable!()
+    };
+    let Some(gate) = replace(gate, None) else {
+        unreachable!()
+    };
+    gate
 }
 
 /// Adds the actor of this number, if it has a role.
@@ -111,15 +125,14 @@ fn add_actor<G: Gate>(
     actor: u32,
     role: Option<Role>,
 ) -> Result<(), AllocError>
-    ensures { OnOk result (map (λ a. a.script) actors.new.items ≡ map (λ a. a.script) actors.old.items ++ cast_one actor role) }
+    requires { HaveGates gates.old.items (role_place role ∷ []) }
+    ensures actors { OnOk result (map (λ a. a.script) actors.new.items ≡ map (λ a. a.script) actors.old.items ++ cast_one actor role) }
+    ensures gates { OnOk result (gates.new.items ≡ without_gate gates.old.items (role_place role)) }
 {
     let Some(Role { place, steps }) = role else {
         return Ok(());
     };
-    let Some(gate) = take_gate(gates, place) else {
-        drop(steps);
-        return Err(AllocError);
-    };
+    let gate = take_gate(gates, place);
     let script = Part { actor, steps };
     actors.push(Actor { script, gate })?;
     Ok(())
@@ -133,6 +146,8 @@ fn add_actors<G: Gate>(
 ) -> Result<(), AllocError>
     requires few { length roles.old.items ≤ 33 }
     requires none { actors.old.items ≡ [] }
+    requires seats { AreSeats (map role_place roles.old.items) }
+    requires gates { HaveGates gates.old.items (map role_place roles.old.items) }
     ensures { OnOk result (map (λ a. a.script) actors.new.items ≡ cast_from 0 roles.old.items) }
 {
     while let Some(role) = roles.pop() {
@@ -141,14 +156,15 @@ fn add_actors<G: Gate>(
     Ok(())
 }
 
-/// The actors of these roles, the one with the highest number first. The gate of a script is the one at its place; each place is
-/// that of one script alone.
+/// The actors of these roles, the one with the highest number first. The gate of a script is the one at its place.
 pub fn cast<G: Gate>(
     alloc: Global,
     roles: Vec<Option<Role>>,
     gates: Vec<G>,
 ) -> Result<Vec<Actor<G>>, AllocError>
-    requires { length roles.items ≤ 33 }
+    requires few { length roles.items ≤ 33 }
+    requires seats { AreSeats (map role_place roles.items) }
+    requires gates { length gates.items ≡ 16 }
     ensures { IfOk result (λ actors. map (λ a. a.script) actors.items ≡ cast_from 0 roles.items) }
 {
     let mut roles = roles;

@@ -7,20 +7,17 @@ ghost use Rattle.bay_core.specs.Standing.{StandsFor};
 ghost use Rattle.bay_model.specs.Answers.{History as TheHistory};
 ghost use Rattle.replay_run.specs.Tool.{TakesAtMost};
 ghost use Rattle.sv_io.specs.Causes.{Rose};
-ghost use Rattle.script_reading.specs.Forms.{IsFit};
 ghost use Rattle.script_reading.specs.Inputs.{Outcome, outcome};
 ghost use Rattle.script_reading.specs.Plans.{Plan as ThePlan};
 ghost use Rattle.script_reading.specs.Readings.{plan_seen};
 ghost use Rattle.script_reading.specs.Sound.{IsSound};
-ghost use Rattle.script_reading.specs.declared.line.StepLine.{StepLine as TheLine};
 ghost use Rattle.script_threads.specs.Dealing.{AreFalling, CanPlay};
 ghost use Rattle.script_threads.specs.Races.{IsRaced};
-ghost use Rattle.script_threads.specs.declared.made.Made.{Made as TheMade};
 ghost use Rattle.script_threads.specs.declared.script.Script.{Script as ThePart};
 ghost use Rattle.bay_model.specs.Points.{least_moment};
-ghost use Rattle.std.specs.Prelude.{◌++◌, Some, codes};
-ghost use Rattle.merged_records.specs.Merged.{line_of, lines_in, book_seen, merged, record_with, answered};
-ghost use Rattle.server_run.specs.Casting.{IsCast};
+ghost use Rattle.std.specs.Prelude.{◌++◌, codes};
+ghost use Rattle.merged_records.specs.Merged.{lines_in, book_seen, merged, record_with, answered, IsAnswerable};
+ghost use Rattle.server_run.specs.Casting.{script_place, AreSeats, IsCast};
 ghost use Rattle.server_run.specs.Races.{IsOfPlan, IsOfRace};
 ghost use Rattle.server_run.specs.Rehearsals.{most, Performs, PerformsInput, Rehearses, IsListed};
 
@@ -82,7 +79,7 @@ fn record_of(
     book: &[Vec<StepLine>],
     made: &[Made],
 ) -> Result<Vec<u8>, AllocError>
-    requires { (m : TheMade) (l : TheLine) → line_of (book_seen book.now) m ≡ Some l → IsFit l.form }
+    requires { All (IsAnswerable model.now (book_seen book.now)) made.now }
     ensures { IfOk result (λ v. v.items ≡ record_with text.now (merged (book_seen book.now) least_moment made.now) ++ (answered model.now (book_seen book.now) made.now ++ codes "end\n")) }
 {
     let mut out = Vec::new(alloc);
@@ -100,7 +97,7 @@ fn settle(
     book: &[Vec<StepLine>],
     raced: Raced,
 ) -> Result<Result<Vec<u8>, Status>, AllocError>
-    requires fit { (m : TheMade) (l : TheLine) → line_of (book_seen book.now) m ≡ Some l → IsFit l.form }
+    requires plan { (p : ThePlan) × (ss : List ThePart) × IsOfPlan p model.now text.now (book_seen book.now) ss × IsOfRace p.config ss raced }
     ensures { (p : ThePlan) (ss : List ThePart) → IsOfPlan p model.now text.now (book_seen book.now) ss → IsOfRace p.config ss raced → IfOk result (Performs p) }
 {
     let Raced { total, parts } = raced;
@@ -123,7 +120,9 @@ fn cast_scripts<G: Gate>(
     slots: Vec<Option<Script>>,
     gates: Vec<G>,
 ) -> Result<(Vec<Actor<G>>, Vec<Vec<StepLine>>), AllocError>
-    requires { length slots.items ≤ 33 }
+    requires few { length slots.items ≤ 33 }
+    requires seats { AreSeats (map script_place slots.items) }
+    requires gates { length gates.items ≡ 16 }
     ensures book { IfOk result (λ r. book_seen r.1.items ≡ map lines_in slots.items) }
     ensures actors { IfOk result (λ r. IsCast (map (λ a. a.script) r.0.items) slots.items) }
 {
@@ -167,6 +166,7 @@ fn perform<R: Threads + Wait + Sync, G: Gate>(
     gates: Vec<G>,
 ) -> Result<Result<Vec<u8>, Status>, AllocError>
     requires sound { IsSound (plan_seen plan) }
+    requires gates { length gates.items ≡ 16 }
     ensures { IfOk result (Performs (plan_seen plan)) }
 {
     let Plan {
@@ -189,7 +189,8 @@ fn perform_input<R: Threads + Wait + Sync, G: Gate>(
     gates: Vec<G>,
     octets: Vec<u8>,
 ) -> Result<Result<Vec<u8>, Status>, AllocError>
-    requires { length octets.items ≤ 67108865 }
+    requires octets { length octets.items ≤ 67108865 }
+    requires gates { length gates.items ≡ 16 }
     ensures { IfOk result (PerformsInput (outcome octets.items)) }
 {
     let read = read_rehearsal(alloc, &octets)?;

@@ -1,9 +1,10 @@
 use Rattle.std.proofs.Common.{◌≡◌, ◌≤◌, ◌++◌, length, map}
-use Rattle.server_run.specs.Casting.{cast_from}
+use Rattle.server_run.specs.Casting.{cast_from, role_place, AreSeats, HaveGates}
 use Rattle.server_run.proofs.casting.add_actors.Given as goal
 
 abbrev pub invariant-loop-role : goal.invariant-loop-role
-invariant-loop-role g l = (length l.roles.items ≤ 33) × (map (λ a. a.script) l.actors.items ++ cast_from 0 l.roles.items ≡ cast_from 0 l.fn.roles.items)
+invariant-loop-role g l =
+    (length l.roles.items ≤ 33) × (map (λ a. a.script) l.actors.items ++ cast_from 0 l.roles.items ≡ cast_from 0 l.fn.roles.items) × AreSeats (map role_place l.roles.items) × HaveGates l.gates.items (map role_place l.roles.items)
 
 abbrev pub decreases-loop-role : goal.decreases-loop-role
 decreases-loop-role g l = length l.roles.items

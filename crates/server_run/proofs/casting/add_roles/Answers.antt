@@ -3,7 +3,7 @@ use Rattle.std.specs.Prelude.{Option}
 use Rattle.script_reading.specs.Plans.{Script}
 use Rattle.merged_records.specs.Merged.{lines_in}
 use Rattle.script_threads.proofs.Lists.{map_last}
-use Rattle.server_run.specs.Casting.{script_steps}
+use Rattle.server_run.specs.Casting.{script_steps, script_place}
 use Rattle.server_run.proofs.CastLaws.{all-yielded}
 use Rattle.server_run.proofs.casting.add_roles.Goals as goal
 
@@ -17,6 +17,7 @@ loop-slot-preserved c =
       c.in_ok-add_role.ensures.roles ∙ (ap (λ l. l ++ script_steps slot ∷ []) i.0 ∙ sym (map_last script_steps done slot)),
       c.in_ok-add_role.ensures.book ∙ (ap (λ l. l ++ lines_in slot ∷ []) i.1 ∙ sym (map_last lines_in done slot)),
       append_assoc done (slot ∷ []) rest ∙ whole,
+      c.in_ok-add_role.ensures.places ∙ (ap (λ l. l ++ script_place slot ∷ []) i.3 ∙ sym (map_last script_place done slot)),
     )
 
 pub returns-clause-roles : goal.returns-clause-roles
@@ -30,3 +31,9 @@ returns-clause-book c =
     let i = c.loop-slot.invariant in
     let r = c.loop-slot.slot-iterator.rest in
     i.1 ∙ ap (map lines_in) (all-yielded c.loop-slot.yielded r.items c.args.slots.items (omega (arith, r.ok, c.in-None.ensures.steps.0)) i.2)
+
+pub returns-clause-places : goal.returns-clause-places
+returns-clause-places c =
+    let i = c.loop-slot.invariant in
+    let r = c.loop-slot.slot-iterator.rest in
+    i.3 ∙ ap (map script_place) (all-yielded c.loop-slot.yielded r.items c.args.slots.items (omega (arith, r.ok, c.in-None.ensures.steps.0)) i.2)

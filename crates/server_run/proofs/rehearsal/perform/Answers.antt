@@ -2,8 +2,12 @@ use Rattle.std.proofs.Common.{map, subst, sym, ap, ◌∙◌}
 use Rattle.merged_records.specs.Merged.{book_seen}
 use Rattle.script_reading.specs.Readings.{plan_seen}
 use Rattle.server_run.specs.Races.{IsOfPlan}
+use Rattle.server_run.proofs.SeatLaws.{plan-seats}
 use Rattle.server_run.proofs.SettleLaws.{cast-plan}
 use Rattle.server_run.proofs.rehearsal.perform.Goals as goal
+
+pub cast_scripts-requires-clause-seats : goal.cast_scripts-requires-clause-seats
+cast_scripts-requires-clause-seats g c = plan-seats (plan_seen c.args.plan) c.requires.sound
 
 pub play_cast-requires-clause-plan : goal.play_cast-requires-clause-plan
 play_cast-requires-clause-plan g c κs within =

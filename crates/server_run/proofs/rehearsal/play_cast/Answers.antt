@@ -4,7 +4,7 @@ use Rattle.script_threads.specs.Dealing.{AreFalling, CanPlay}
 use Rattle.script_threads.specs.declared.script.Script.{Script}
 use Rattle.server_run.specs.Races.{IsOfRace}
 use Rattle.server_run.proofs.CastLaws.{numbers-of, of-scripts}
-use Rattle.server_run.proofs.SettleLaws.{fit-lines, served-plan}
+use Rattle.server_run.proofs.SettleLaws.{served-plan}
 use Rattle.server_run.proofs.rehearsal.play_cast.Goals as goal
 
 pub race_over-requires-clause-model : goal.race_over-requires-clause-model
@@ -17,7 +17,10 @@ pub race_over-requires-clause-steps : goal.race_over-requires-clause-steps
 race_over-requires-clause-steps g c κs within = of-scripts (λ (s : Script). CanPlay c.args.model.now s) c.args.actors.items c.requires.plan.1.plays
 
 pub settle-requires : goal.settle-requires
-settle-requires g c = record { fit = fit-lines c.requires.plan.0 c.args.model.now c.args.text.now (book_seen c.args.book.now) (map (λ a. a.script) c.args.actors.items) c.requires.plan.1 }
+settle-requires g c =
+    let is = c.requires.plan.1 in
+    let ss = map (λ a. a.script) c.args.actors.items in
+    record { plan = (c.requires.plan.0, ss, is, subst (λ k. IsOfRace k ss c.in_ok-raced.raced) (sym is.config) c.in_ok-raced.ensures) }
 
 pub returns : goal.returns
 returns g c = λ p is. c.settle.ensures p (map (λ a. a.script) c.args.actors.items) is (subst (λ k. IsOfRace k (map (λ a. a.script) c.args.actors.items) c.in_ok-raced.raced) (sym is.config) c.in_ok-raced.ensures)
