@@ -328,8 +328,8 @@ module _ (p : Plan) (sound : IsSound p) where
 
 -- no line was full where there is no such line
 none-full : (p : Plan) (o : Option ℕ) → ((line : ℕ) → o ≡ Some line → IsBeyondOf p line) → lowest_beyond p ≡ None → o ≡ None
-none-full p None beyond none = refl
-none-full p (Some line) beyond none = absurd (none-of p line none (beyond line refl))
+none-full p None has none = refl
+none-full p (Some line) has none = absurd (none-of p line none (has line refl))
 
 pub verdicts_are_known : VerdictsAreKnown
 verdicts_are_known p ss ps h sound are raced lean =
