@@ -15,6 +15,9 @@ def program_of(arguments, name="bay_tool"):
     """The program that is named, or the one of this name in bin/, which scripts/build makes where it isn't there."""
     program = os.path.abspath(arguments[1] if len(arguments) > 1 else os.path.join(TOP, "bin", name))
     if not os.path.exists(program):
+        if len(arguments) > 1:
+            print(f"bench: no program {program}", file=sys.stderr)
+            sys.exit(2)
         subprocess.run([os.path.join(TOP, "scripts", "build")], check=True)
     return program
 

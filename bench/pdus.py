@@ -68,3 +68,18 @@ def deleted(invoke):
 def failed(invoke, error_class, code):
     """The error of a confirmed request."""
     return element(0xA2, element(0x80, number(invoke)) + element(0xA2, element(0xA0, element(0x80 + error_class, number(code)))))
+
+
+ERROR = element(0x30, element(0xA0, element(0x80, b"LastApplError")))
+
+
+def information(variables, values):
+    """An information report of these variables and their values."""
+    return element(0xA3, element(0xA0, element(0xA0, b"".join(variables)) + element(0xA0, b"".join(values))))
+
+
+def last_error(written, command, cause):
+    """The value of LastApplError of a command that was written to this variable of BAY1."""
+    origin = element(0xA2, element(0x85, number(command.category)) + element(0x89, command.identity))
+    parts = element(0x8A, b"BAY1/" + written) + element(0x85, number(1)) + origin + element(0x86, number(command.count))
+    return element(0xA2, parts + element(0x85, number(cause)))

@@ -1,9 +1,10 @@
 -- What the tests of an output tell.
-use Rattle.std.proofs.Common.{◌≡◌, ◌≤◌, ◌<◌, ◌-◌, ◌&&◌, ℕ, zero, suc, Bool, true, false, true≢false, List, [], ◌∷◌, length, refl, sym, ap, subst, ◌∙◌, arith, max}
-use Rattle.std.specs.Prelude.{Some, Result, Ok, Err, is_ok, IsTrue, nat_lt}
+use Rattle.std.proofs.Common.{◌≡◌, ◌≤◌, ◌<◌, ◌-◌, ◌&&◌, ◌++◌, length-append, ℕ, zero, suc, Bool, true, false, true≢false, List, [], ◌∷◌, length, refl, sym, ap, subst, ◌∙◌, arith, max}
+use Rattle.std.specs.Prelude.{Some, IfSome, Result, Ok, Err, is_ok, IsTrue, nat_lt, slice_get, codes}
 use Rattle.std.specs.List.{All, list_all, AllByRecursion}
 use Rattle.std.proofs.lemmas.Bool.Decides.{nat_tests}
 use Rattle.std.proofs.lemmas.List.Elements.{All-from_recursion}
+use Rattle.std.proofs.lemmas.Option.{slice_get_within}
 use Rattle.ber_grammar.specs.Fields.{whole_at}
 use Rattle.ber_grammar.specs.Place.{Spot}
 use Rattle.ber_grammar.specs.Reader.{Reads}
@@ -11,7 +12,9 @@ use Rattle.ber_grammar.proofs.FieldLaws.{whole_found}
 use Rattle.sv_base.specs.Tree.{Plain, Seen, Row, plain, structure, none, more, truth, int, uint, bits, time, stamp, text, octets, other}
 use Rattle.sv_base.specs.Seen.{seen_of}
 use Rattle.sv_base.specs.Depth.{IsNotOther, SeenHasNoOther, RowHasNoOther, depth_seen, depth_row}
+use Rattle.sv_base.specs.Data.{data_of}
 use Rattle.sv_base.specs.declared.config.Config.{Config}
+use Rattle.sv_base.specs.declared.config.CtlDef.{CtlDef}
 use Rattle.sv_base.specs.declared.numbers.NodeId.{NodeId}
 use Rattle.sv_base.specs.declared.value.Value.{Value}
 use Rattle.sv_base.specs.declared.value.Value.TheVariants as kinds
@@ -21,10 +24,12 @@ use Rattle.mms_data.specs.View.{IsViewed}
 use Rattle.mms_data.specs.Writable.{IsFraction, SeenHasFractions, RowHasFractions}
 use Rattle.object_model.specs.Nodes.{node_rows}
 use Rattle.object_model.proofs.TableLaws.{count-rows}
+use Rattle.bay_model.specs.declared.control.Termination.{Termination}
 use Rattle.bay_model.specs.declared.reply.Asked.{Asked}
 use Rattle.bay_model.specs.declared.reply.Reply.{Reply}
 use Rattle.bay_model.specs.declared.reply.Reply.TheVariants as replies
 use Rattle.bay_model.specs.declared.tables.NodeRow.{NodeRow}
+use Rattle.bay_answers.specs.ControlPdus.{HasShortName, IsShortError, IsShortTermination}
 use Rattle.bay_answers.specs.Replies.{IsWritable, IsNode, CanBeReplied}
 use Rattle.answer_text.specs.Sendable.{is_plain_writable, is_seen_writable, are_writable, is_result_writable, are_nodes}
 
@@ -105,3 +110,27 @@ pub data-test : (input : List ℕ) (part : Spot) (viewed : Result Spot DataFault
 data-test input part (Ok d) b whole reads told sure =
     let v : IsViewed part d = reads.tells in (v.1, (part.element, whole_found input part.element whole, v.2))
 data-test input part (Err f) b whole reads told sure = absurd (true≢false (sym sure ∙ told))
+
+-- ---- what is said of commands
+
+pub writable : (v : Value) → is_seen_writable 10 (seen_of v) ≡ true → IsWritable (Ok v)
+writable v h = seen-tells 10 (seen_of v) h
+
+pub short_name : (k : CtlDef) → length k.domain ≤ 129 → length k.ln ≤ 64 → length k.path ≤ 56 → HasShortName k
+short_name k domain ln path = record {
+  domain = domain;
+  item = omega (arith, length-append k.ln (codes "$CO$" ++ (k.path ++ codes "$Oper")), length-append (codes "$CO$") (k.path ++ codes "$Oper"), length-append k.path (codes "$Oper"));
+}
+
+-- a termination of a control that is there
+pub ends : (c : Config) (t : Termination) (k : CtlDef) → slice_get c.controls t.control.0 ≡ Some k → HasShortName k → IfSome t.error IsShortError → is_seen_writable 10 (seen_of t.oper) ≡ true → length (data_of t.oper) ≤ 300
+    → IsShortTermination c t × IsWritable (Ok t.oper)
+ends c t k is name error full oper = (
+  record {
+    control = slice_get_within c.controls t.control.0 k is;
+    name = λ other e. let same : k ≡ other = cc in subst HasShortName same name;
+    oper = oper;
+    error = error;
+  },
+  writable t.oper full,
+)

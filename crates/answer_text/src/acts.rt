@@ -1,9 +1,8 @@
 //! The lines of controls that act.
 
-ghost use Rattle.std.specs.Prelude.{◌≡◌, ◌++◌, length, take, OnOk, OnErr, slice_get, IfOk, Ok};
-ghost use Rattle.std.specs.List.{All};
+ghost use Rattle.std.specs.Prelude.{◌≡◌, ◌++◌, length, take, OnOk, OnErr, slice_get, IfOk};
 ghost use Rattle.sv_base.specs.Data.{data_of};
-ghost use Rattle.sv_base.specs.declared.value.Value.{Value as Said};
+ghost use Rattle.bay_model.specs.Configured.{control_defined};
 ghost use Rattle.answer_text.specs.Texts.{act_line, act_lines, control_text};
 
 use crate::number::{push_hex, push_number};
@@ -12,7 +11,7 @@ use bay_model::Act;
 use mms_data::write_data;
 use object_model::Model;
 use std::alloc::{AllocError, Global};
-use sv_base::{CtlNo, Value};
+use sv_base::{CtlDef, CtlNo, Value};
 
 /// The Data of a value. One that has none, which is no ctlVal, fails as want of memory does.
 fn data(alloc: Global, value: &Value) -> Result<Vec<u8>, AllocError>
@@ -26,19 +25,27 @@ fn data(alloc: Global, value: &Value) -> Result<Vec<u8>, AllocError>
     Ok(octets)
 }
 
+/// Writes the reference `LD/LN$CO$DO` of a control's line.
+fn push_reference(out: &mut Vec<u8>, line: &CtlDef) -> Result<(), AllocError>
+    ensures ok { OnOk result (out.new.items ≡ out.old.items ++ (control_defined line.now).reference) }
+    ensures err { OnErr result (take (length out.old.items) out.new.items ≡ out.old.items) }
+{
+    out.extend_from_slice(line.domain.as_slice())?;
+    out.extend_from_slice(b"/")?;
+    out.extend_from_slice(line.ln.as_slice())?;
+    out.extend_from_slice(b"$CO$")?;
+    out.extend_from_slice(line.path.as_slice())
+}
+
 /// Writes the reference of a control.
 fn push_control(out: &mut Vec<u8>, model: &Model, control: CtlNo) -> Result<(), AllocError>
     ensures ok { OnOk result (out.new.items ≡ out.old.items ++ control_text (slice_get model.now.controls control.0)) }
     ensures err { OnErr result (take (length out.old.items) out.new.items ≡ out.old.items) }
 {
-    if let Some(line) = model.config().controls.get(control.0 as usize) {
-        out.extend_from_slice(line.domain.as_slice())?;
-        out.extend_from_slice(b"/")?;
-        out.extend_from_slice(line.ln.as_slice())?;
-        out.extend_from_slice(b"$CO$")?;
-        out.extend_from_slice(line.path.as_slice())?;
+    match model.config().controls.get(control.0 as usize) {
+        Some(line) => push_reference(out, line),
+        None => Ok(()),
     }
-    Ok(())
 }
 
 /// Writes an act.

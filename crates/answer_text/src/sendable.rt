@@ -1,6 +1,6 @@
 //! Whether an output of a bay has PDUs.
 
-ghost use Rattle.std.specs.Prelude.{◌≡◌, IsTrue, Ok, length};
+ghost use Rattle.std.specs.Prelude.{◌≡◌, IsTrue, Ok, IfSome, length};
 ghost use Rattle.std.specs.List.{All, list_all, AllByRecursion};
 ghost use Rattle.sv_base.specs.Seen.{seen_of, row_of};
 ghost use Rattle.sv_base.specs.Tree.{Seen};
@@ -160,13 +160,22 @@ fn are_short_errors(errors: &[ApplError]) -> bool
     true
 }
 
+/// Whether a LastApplError, if there is one, has at most the octets of its type.
+fn is_short_where_there(error: &Option<ApplError>) -> bool
+    ensures { IsTrue result → IfSome error.now IsShortError }
+{
+    match error {
+        Some(error) => is_short_error(error),
+        None => true,
+    }
+}
+
 /// Whether the name of a control's Oper has at most the octets of its type.
+#[tactic(auto, using(crate::proofs::SendableLaws::short_name))]
 fn has_short_name(control: &CtlDef) -> bool
     ensures { IsTrue result → HasShortName control.now }
 {
-    let ln = control.ln.len();
-    let path = control.path.len();
-    control.domain.len() <= 129 && ln <= 64 && path <= 56
+    control.domain.len() <= 129 && control.ln.len() <= 64 && control.path.len() <= 56
 }
 
 /// Whether a termination has a PDU: its control is there, and all in it is of its type's octets.
@@ -176,12 +185,8 @@ fn can_end(model: &Model, termination: &Termination) -> bool
     let Some(control) = model.config().controls.get(termination.control.0 as usize) else {
         return false;
     };
-    let is_error_short = match &termination.error {
-        Some(error) => is_short_error(error),
-        None => true,
-    };
     has_short_name(control)
-        && is_error_short
+        && is_short_where_there(&termination.error)
         && is_writable(&termination.oper, 10)
         && data_len(&termination.oper) <= 300
 }

@@ -1,8 +1,7 @@
 -- How long what is sent of controls is.
-use Rattle.std.proofs.Common.{◌≡◌, ℕ, ℤ, ◌+◌, ◌≤◌, ◌<◌, ◌^◌, List, [], ◌∷◌, ◌++◌, length, map, arith, refl, sym, ap, ◌∙◌, subst, append_assoc}
+use Rattle.std.proofs.Common.{◌≡◌, ℕ, ℤ, ◌+◌, ◌≤◌, ◌<◌, ◌^◌, List, [], ◌++◌, length, arith, refl, ap, ◌∙◌, append_assoc}
 use Rattle.std.specs.Prelude.{codes, pos, Option, None, Some, IfSome, slice_get}
 use Rattle.std.specs.Option.{option_map_or}
-use Rattle.std.specs.List.{All, AllByRecursion}
 use Rattle.std.proofs.lemmas.List.{length-append}
 use Rattle.ber_write.specs.Minimal.{octets_of, written, uint_octets, int_octets}
 use Rattle.ber_write.proofs.ElementLaws.{is_spelling}

@@ -1,6 +1,6 @@
 -- What is sent of controls, as information reports (IEC 61850-8-1, LastApplError and CommandTermination; ISO 9506-2,
 -- InformationReport), in the minimal spelling of each element.
-use Rattle.std.specs.Prelude.{◌≡◌, ◌≤◌, ◌<◌, ℕ, pos, List, [], ◌++◌, length, codes, Option, None, Some, IfSome, slice_get, slice_index_or}
+use Rattle.std.specs.Prelude.{◌≡◌, ◌≤◌, ◌<◌, ℕ, pos, List, [], ◌++◌, length, codes, Option, None, Some, IfSome, slice_get}
 use Rattle.std.specs.Option.{option_map_or}
 use Rattle.ber_write.specs.Minimal.{octets_of, uint_octets, int_octets}
 use Rattle.sv_base.specs.Data.{data_of}

@@ -1,6 +1,6 @@
 -- Which configurations a bay serves: as a configuration's text has them (IEC 61850-7-2, DATA-SET, BRCB and SGCB attributes, and the control
 -- class model).
-use Rattle.std.specs.Prelude.{◌≡◌, ◌<◌, ◌≤◌, ◌⊎◌, ℕ, true, List, [], map, length, is_some, slice_index_or}
+use Rattle.std.specs.Prelude.{◌≡◌, ◌<◌, ◌≤◌, ◌⊎◌, ◌^◌, ℕ, true, List, [], map, length, is_some, slice_index_or}
 use Rattle.std.specs.List.{All}
 use Rattle.sv_base.specs.Fields.{shape_of}
 use Rattle.sv_base.specs.Same.{values_of}
@@ -65,6 +65,8 @@ pub record IsServable (c : Config) : Type 0 where
   -- ctlVals are truth values or numbers of 32 bits
   pub controls : All (λ (k : CtlDef). IsCtlKind k.kind) c.controls
   pub few_controls : length c.controls ≤ 64
+  -- sboTimeouts are numbers of 32 bits
+  pub timeouts : All (λ (k : CtlDef). k.timeout < 2 ^ 32) c.controls
   pub grouped : IsGrouped c
   pub storable : IsStorable c
   pub sound : All HasSoundValues c.attrs

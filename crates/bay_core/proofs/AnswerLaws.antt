@@ -1,5 +1,5 @@
 -- The reply to a request, and the bay at the arrival of its point.
-use Rattle.std.proofs.Common.{◌≡◌, ◌<◌, ◌∙◌, ℕ, true, false, List, [], ◌∷◌, map, length, Option, None, Some, Result, refl, ap, sym, subst, arith}
+use Rattle.std.proofs.Common.{◌≡◌, ◌<◌, ◌∙◌, ℕ, Bool, true, false, List, [], ◌∷◌, map, length, Option, None, Some, Result, refl, ap, sym, subst, arith}
 use Rattle.std.specs.Prelude.{◌==◌, nat_lt}
 use Rattle.std.specs.Option.{option_map, option_map_or}
 use Rattle.std.specs.List.{All, list_all}
@@ -28,9 +28,9 @@ use Rattle.bay_model.specs.declared.step.Step.TheVariants as steps
 use Rattle.bay_model.specs.Model.{DataSet}
 use Rattle.bay_model.specs.Named.{configured_model, nodes}
 use Rattle.bay_model.specs.Points.{Past}
-use Rattle.bay_model.specs.Services.{set_found, set_name, singles_of, write_set_reply, written_set}
+use Rattle.bay_model.specs.Services.{set_found, set_name, write_set_reply, written_set}
 use Rattle.bay_model.specs.Sets.{set_named, is_named}
-use Rattle.bay_model.specs.Singles.{Single, arrival, outcomes, after_singles, write_of, writes_of}
+use Rattle.bay_model.specs.Singles.{Single, arrival, outcomes, after_singles, writes_of}
 use Rattle.object_model.specs.Fits.{is_association, is_sound_seen, are_sound, fits, is_sound, service_fits, set_fits, target_fits, write_fits, name_fits}
 use Rattle.object_model.specs.declared.fitting.Counts.{Counts}
 use Rattle.object_model.specs.Nodes.{node_rows}
@@ -43,8 +43,10 @@ use Rattle.bay_replies.specs.Asking.{IsFitting, IsReading}
 use Rattle.bay_core.specs.Asked.{AreFit, AreMembersFit, AreWrites, AreWritten, IsAnswered, IsFit, IsReplyAt, node_numbers, set_members}
 use Rattle.bay_core.specs.Standing.{StandsAt}
 use Rattle.bay_core.specs.State.{State, AreServedSets}
-use Rattle.bay_core.proofs.AskLaws.{reads-of, singles-stand}
+use Rattle.bay_core.specs.Commanded.{AreNoCommands, CallsNothing}
+use Rattle.bay_core.proofs.AskLaws.{reads-stand, served-sets}
 use Rattle.bay_core.proofs.ShapeLaws.{all-served, found, sets_in}
+use Rattle.bay_core.proofs.UncalledLaws.{IsPlainMember, members-plain}
 
 -- ---- a request that fits
 
@@ -114,10 +116,10 @@ module _ (old : State) (domain item : List ℕ) where
   some-told ns is = some-named old.book (number_named (set_name domain item) old.book) (set_named (set_name domain item) (sets_in old.book)) ns (set-told old.book (set_name domain item)) is
 
 module _ (old new : State) (moment a : ℕ) (arrived : (c : Config) (n : ℕ) (past : Past) → StandsAt old c n past → StandsAt new c n (arrival n moment ∷ past)) where
-  pub read-answered : (service : Service) (r : Reply) → IsReading service → IsReplyAt old moment a service r → IsAnswered old new moment a service r
-  read-answered service r reading is = (
+  pub read-answered : (service : Service) (r : Reply) → AreServedSets old.config old.book → IsReading service → IsReplyAt old moment a service r → IsAnswered old new moment a service r
+  read-answered service r served reading is = (
     is,
-    λ c n past st. singles-stand new c a n moment (singles_of (configured_model c) past service) past (reads-of (configured_model c) past service reading) (arrived c n past st),
+    λ c n past st. reads-stand c past (served-sets old c n past served st) new a n moment service reading (arrived c n past st),
   )
 
   module _ (domain item : List ℕ) (vs : Row) where
@@ -167,9 +169,9 @@ module _ (old new : State) (moment a : ℕ) (domain item : List ℕ) (vs : Row) 
 
 -- ---- the members of a set can be written
 
-numbered : (c : Config) (ns : List NodeId) → All (λ n. n < length (nodes c)) (node_numbers ns) → All (λ (n : NodeId). n.0 < length (nodes c)) ns
-numbered c [] all = All-nil (λ (n : NodeId). n.0 < length (nodes c))
-numbered c (n ∷ ns) all = All-cons (λ (n : NodeId). n.0 < length (nodes c)) n ns (All-head (λ n. n < length (nodes c)) n.0 (node_numbers ns) all) (numbered c ns (All-tail (λ n. n < length (nodes c)) n.0 (node_numbers ns) all))
+numbered : (P : ℕ → Type 0) (ns : List NodeId) → All P (node_numbers ns) → All (λ (n : NodeId). P n.0) ns
+numbered P [] all = All-nil (λ (n : NodeId). P n.0)
+numbered P (n ∷ ns) all = All-cons (λ (n : NodeId). P n.0) n ns (All-head P n.0 (node_numbers ns) all) (numbered P ns (All-tail P n.0 (node_numbers ns) all))
 
 members-there : (c : Config) (s : DataSet) → IsServedSet c s → All (λ n. n < length (nodes c)) s.nodes
 members-there c s served = λ k d below. (served.members k d below).there
@@ -181,24 +183,29 @@ members-fit s domain item vs ns served fit some count =
     let t = some-told s domain item ns some in
     record {
       count = grind (arith, nat_tests, count);
-      nodes = numbered c ns (subst (All (λ n. n < length (nodes c))) t.2 (members-there c t.0 (found (IsServedSet c) (is_named (set_name domain item)) (sets_in s.book) (all-served c s.book served) t.0 t.1)));
+      nodes = numbered (λ n. n < length (nodes c)) ns (subst (All (λ n. n < length (nodes c))) t.2 (members-there c t.0 (found (IsServedSet c) (is_named (set_name domain item)) (sets_in s.book) (all-served c s.book served) t.0 t.1)));
       sound = sound-values vs (and_parts (set_fits domain item) (are_sound vs) fit).1;
     }
 
--- a service that writes nothing, and defines and deletes no data set
-pub reading-of : (s : Service) → ((ws : List Write) → s ≡ services.WriteVars ws → ⊥) → ((domain item : List ℕ) (vs : Row) → s ≡ services.WriteSet domain item vs → ⊥)
+-- and they are no commands
+pub members-uncalled : (s : State) (domain item : List ℕ) (ns : List NodeId) → AreServedSets s.config s.book → set_members s.book domain item ≡ Some ns → AreNoCommands s.config ns
+members-uncalled s domain item ns served some =
+    let c = s.config in
+    let t = some-told s domain item ns some in
+    numbered (IsPlainMember c) ns (subst (All (IsPlainMember c)) t.2 (members-plain c t.0.nodes (found (IsServedSet c) (is_named (set_name domain item)) (sets_in s.book) (all-served c s.book served) t.0 t.1).members))
+
+-- a service that reads and writes no variable, and defines and deletes no data set
+pub reading-of : (s : Service) → CallsNothing s → ((ts : List Target) (spec : Bool) → s ≡ services.Read ts spec → ⊥) → ((domain item : List ℕ) (vs : Row) → s ≡ services.WriteSet domain item vs → ⊥)
     → ((domain item : List ℕ) (members : List Target) → s ≡ services.Define domain item members → ⊥) → ((scope : ℕ) (names : List SetName) → s ≡ services.Delete scope names → ⊥) → IsReading s
-reading-of (services.WriteVars ws) one two three four = absurd (one ws refl)
-reading-of (services.WriteSet domain item vs) one two three four = absurd (two domain item vs refl)
-reading-of (services.Define domain item members) one two three four = absurd (three domain item members refl)
-reading-of (services.Delete scope names) one two three four = absurd (four scope names refl)
-reading-of _ one two three four = tt
+reading-of (services.WriteVars ws) calls one two three four = absurd calls
+reading-of (services.Read ts spec) calls one two three four = absurd (one ts spec refl)
+reading-of (services.WriteSet domain item vs) calls one two three four = absurd (two domain item vs refl)
+reading-of (services.Define domain item members) calls one two three four = absurd (three domain item members refl)
+reading-of (services.Delete scope names) calls one two three four = absurd (four scope names refl)
+reading-of _ calls one two three four = tt
 
 -- ---- writes of a request, from its arrival
 
 pub writes-written : (old z new : State) (moment a : ℕ) (ss : List Single) (codes : List (Result (Unit {0}) ℕ)) → ((c : Config) (n : ℕ) (past : Past) → StandsAt old c n past → StandsAt z c n (arrival n moment ∷ past))
     → AreWrites z new a ss codes → AreWritten old new moment a ss codes
 writes-written old z new moment a ss codes arrived writes = λ c n past st. writes c n moment past (arrived c n past st)
-
-pub variables-answered : (old new : State) (moment a : ℕ) (ws : List Write) (codes : List (Result (Unit {0}) ℕ)) → AreWritten old new moment a (map write_of ws) codes → IsAnswered old new moment a (services.WriteVars ws) (replies.Wrote codes)
-variables-answered old new moment a ws codes written = ((λ c n past st. ap replies.Wrote (written c n past st).0), (λ c n past st. (written c n past st).1))

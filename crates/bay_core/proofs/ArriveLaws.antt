@@ -30,7 +30,10 @@ use Rattle.data_sets.specs.Books.{Book}
 use Rattle.value_store.specs.Stored.{Stored}
 use Rattle.value_store.specs.Wholes.{Stands as ValuesStand}
 use Rattle.value_store.proofs.StandLaws as values
-use Rattle.assoc_table.proofs.StandLaws as associations
+use Rattle.control_core.specs.Standing.{Stands as ControlsStand}
+use Rattle.control_core.specs.Tables.{at_moment}
+use Rattle.bay_queues.specs.Standing.{Stands as QueuesStand}
+use Rattle.bay_queues.proofs.StandLaws as waits
 use Rattle.report_block.specs.declared.block.ReportBlock.{ReportBlock}
 use Rattle.report_block.specs.Alls.{all_pieces, for_general, for_integrity}
 use Rattle.window_core.specs.Pieces.{Piece}
@@ -47,6 +50,7 @@ use Rattle.bay_core.specs.Timed.{arrived_part, arrived_all, at_arrival}
 use Rattle.bay_core.specs.Watched.{members_in}
 use Rattle.bay_core.proofs.AllLaws.{all-are}
 use Rattle.bay_core.proofs.FurnishLaws.{furnished-map}
+use Rattle.bay_core.proofs.MoveLaws.{queued, queues-stand}
 use Rattle.bay_core.proofs.ShapeLaws.{served_members, sets_in}
 
 -- each part has the members of the data set that its DatSet names
@@ -83,8 +87,9 @@ arrives s c n t past all st = record {
   is_steps = st.is_steps;
   is_latest = latest;
   values = values.stands-arrival s.stored (configured_model c) t n past st.values;
-  associations = associations.stands-arrival (configured_model c) t n past s.rows st.associations;
+  associations = wait.associations;
   groups = settings.arrives (configured_model c) past n t s.groups st.groups;
+  controls = subst (λ m. ControlsStand (at_moment m s.controls) (configured_model c) (arrival n t ∷ past)) (sym latest) wait.controls;
   sets = st.sets;
   configured = st.configured;
   blocks = subst (BlocksStand (configured_model c) (arrival n t ∷ past)) (sym same)
@@ -92,6 +97,9 @@ arrives s c n t past all st = record {
 } where
   latest : max s.latest t ≡ now (arrival n t ∷ past)
   latest = omega (arith, st.is_latest)
+
+  wait : QueuesStand (record { rows = s.rows; table = at_moment (now (arrival n t ∷ past)) s.controls }) (configured_model c) (arrival n t ∷ past)
+  wait = waits.stands-arrival (configured_model c) n t past (queued s) (queues-stand s c n past st)
 
   same : (at_arrival t s).parts ≡ arrived_all (node_rows c) s.book s.stored (now past) (max t (now past)) n s.parts
   same = ap (λ (d : Config). arrived_all (node_rows d) s.book s.stored s.latest (max s.latest t) s.steps s.parts) st.is_config

@@ -1,124 +1,134 @@
--- A request that writes nothing: its single reads leave the bay as it is, and its reply waits.
-use Rattle.std.proofs.Common.{◌≡◌, ◌≢◌, ℕ, suc, Bool, true, false, not, List, [], ◌∷◌, map, Option, None, Some, Result, Ok, Err, length, refl, ap, ap₂, sym, ◌∙◌, subst, arith, unwrap_or}
+-- A request is answered, and its reply waits with the terminations of its tests behind it.
+use Rattle.std.proofs.Common.{◌≡◌, ◌∙◌, ℕ, suc, true, false, List, [], ◌∷◌, ◌++◌, map, Option, None, Some, Result, Ok, Err, length, refl, ap, ap₂, sym, subst, arith, unwrap_or}
 use Rattle.std.specs.Prelude.{◌==◌, nat_le, if◌then◌else◌}
 use Rattle.std.specs.Option.{option_map, option_map_or}
-use Rattle.std.specs.List.{filter_map}
-use Rattle.list_laws.proofs.Places.{same-number, other-number, equal-number}
+use Rattle.std.specs.List.{All}
+use Rattle.std.proofs.lemmas.List.Elements.{All-head, All-tail}
+use Rattle.list_laws.proofs.Places.{equal-number}
 use Rattle.sv_base.specs.declared.config.Config.{Config}
 use Rattle.sv_base.specs.declared.numbers.ActorNo.{ActorNo}
 use Rattle.sv_base.specs.declared.numbers.AssocNo.{AssocNo}
+use Rattle.sv_base.specs.declared.numbers.CtlNo.{CtlNo}
 use Rattle.sv_base.specs.declared.value.Value.{Value}
-use Rattle.sv_base.specs.declared.value.Value.TheVariants as kinds
 use Rattle.bay_model.specs.declared.answer.Answer.TheVariants as answers
 use Rattle.bay_model.specs.declared.answer.Output.{Output}
-use Rattle.bay_model.specs.declared.components.Comp.{Comp}
-use Rattle.bay_model.specs.declared.components.SettingComp.{SettingComp}
-use Rattle.bay_model.specs.declared.components.SettingComp.TheVariants.{NumOfSG, ActSG, EditSG, CnfEdit, LActTm}
-use Rattle.sv_base.specs.declared.config.SgDef.{SgDef}
 use Rattle.bay_model.specs.declared.answer.Output.TheVariants as outputs
 use Rattle.bay_model.specs.declared.control.ApplError.{ApplError}
 use Rattle.bay_model.specs.declared.reply.Reply.{Reply}
 use Rattle.bay_model.specs.declared.request.Request.{Request}
 use Rattle.bay_model.specs.declared.request.Service.{Service}
 use Rattle.bay_model.specs.declared.request.Service.TheVariants as services
-use Rattle.bay_model.specs.declared.request.Target.{Target}
-use Rattle.bay_model.specs.declared.request.Target.TheVariants as targets
+use Rattle.bay_model.specs.declared.request.SetName.{SetName}
 use Rattle.bay_model.specs.declared.step.Step.TheVariants as steps
 use Rattle.bay_model.specs.Acceptance.{fault, if_open, QueueFull}
-use Rattle.bay_model.specs.Answers.{Turn, History, answer, points, outcomes_of, output_for}
+use Rattle.bay_model.specs.Answers.{Turn, History, answer, points, output_for}
 use Rattle.bay_model.specs.Associations as model
 use Rattle.bay_model.specs.Associations.{ends}
-use Rattle.bay_model.specs.Calls.{can_select}
-use Rattle.bay_model.specs.Configured.{control_defined}
-use Rattle.bay_model.specs.Controls.{is_enhanced}
-use Rattle.bay_model.specs.Attributes.{attributes}
-use Rattle.bay_model.specs.Blocks.{enabler}
-use Rattle.bay_model.specs.BlockWrites.{component_refusals, is_of_nothing, write_component}
-use Rattle.bay_model.specs.Lookups.{attr_of, control_of, groups_of, node_of}
-use Rattle.bay_model.specs.NamedLines.{domain_number}
-use Rattle.bay_model.specs.Parameters.{parameters_at}
-use Rattle.bay_model.specs.ComponentTable.{setting_comp_kind}
-use Rattle.bay_model.specs.Settings.{edit}
-use Rattle.bay_model.specs.SettingWrites.{act_refusals, attribute_refusals, confirm_refusals, edit_refusals, holds_edit, write_attribute, write_part}
-use Rattle.bay_model.specs.Writes.{write_role}
-use Rattle.bay_rooms.specs.Kinds.{is_kind}
-use Rattle.bay_model.specs.Model.{Model, DataSet, Access, reported, writable, active, edited, Role, Tree, single, several, selecting, calling, attribute, component, setting, withheld, Control, operate}
+use Rattle.bay_model.specs.Lookups.{node_of}
+use Rattle.bay_model.specs.Model.{Model, DataSet, Role, Tree, single, several, selecting, calling}
 use Rattle.bay_model.specs.Named.{configured_model}
-use Rattle.bay_model.specs.Outcomes.{Outcome, gave, did, refused, deed_of, error_in, first_code}
-use Rattle.bay_model.specs.Outcomes as came
-use Rattle.bay_model.specs.Points.{edited as edited_group}
-use Rattle.bay_model.specs.Points.{Deed, Change, Past, nothing, put, copied, activated, confirmed, wrote, called, selected_control, answered, unchanged}
-use Rattle.bay_model.specs.Reads.{outcome_of_read, read_role, read_node, read_tree}
-use Rattle.bay_model.specs.Services.{reply, singles_of, set_found, set_name, change_of}
-use Rattle.bay_model.specs.Singles.{Single, reads, writes, fails, read_of, arrival, outcome_of, outcome_at, outcomes, after_single, after_singles, act_of, acts_in}
+use Rattle.bay_model.specs.Outcomes.{deed_of}
+use Rattle.bay_model.specs.Points.{Deed, Change, Past, nothing, answered, unchanged}
+use Rattle.bay_model.specs.Reads.{outcome_of_read, read_role, read_tree}
+use Rattle.bay_model.specs.Services.{singles_of, set_found, set_name, change_of}
+use Rattle.bay_model.specs.Sets.{is_named, sets}
+use Rattle.bay_model.specs.Singles.{Single, reads, writes, fails, arrival, outcome_of, outcome_at, outcomes, after_singles}
 use Rattle.bay_model.specs.Sizes.{size_of}
-use Rattle.bay_model.specs.Waiting as queue
-use Rattle.bay_model.specs.Waiting.{put_by, tests, tests_of, waiting_replies}
-use Rattle.assoc_table.specs.declared.waiting.Waiting.TheVariants as waits
+use Rattle.bay_model.specs.Waiting.{tests, waiting_replies}
 use Rattle.assoc_table.specs.declared.waiting.Ends.{Ends}
 use Rattle.assoc_table.specs.Seats.{Row, replies}
 use Rattle.assoc_table.specs.Standing.{Stands as AssociationsStand, ends_of}
 use Rattle.assoc_table.specs.Tables.{IsNumber, row_of, extended}
-use Rattle.assoc_table.proofs.StandLaws as associations
-use Rattle.bay_config.specs.Servable.{IsServable}
+use Rattle.control_core.specs.Standing.{Stands as ControlsStand}
+use Rattle.control_core.specs.Tables.{Table}
+use Rattle.control_core.proofs.TurnLaws.{fresh}
+use Rattle.bay_queues.specs.Standing.{reply_coming}
+use Rattle.bay_queues.specs.Taken.{reply_and}
+use Rattle.bay_queues.proofs.StandLaws as waits
+use Rattle.bay_config.specs.Servable.{IsMember, IsServedSet}
 use Rattle.bay_replies.specs.Asking.{IsReading}
-use Rattle.bay_model.specs.Sets.{sets}
+use Rattle.bay_replies.specs.Plain.{SelectsNothing}
 use Rattle.data_sets.specs.Standing.{data_set}
 use Rattle.report_block.specs.Standing.{BlocksStand}
 use Rattle.setting_groups.specs.Standing.{Stands as GroupsStand}
 use Rattle.value_store.specs.Wholes.{Stands as ValuesStand}
 use Rattle.window_core.specs.Points.{at}
+use Rattle.bay_core.specs.declared.asking.Came.{Came}
 use Rattle.bay_core.specs.Asked.{IsAnswered, IsReplied, replied}
-use Rattle.bay_core.specs.State.{State}
+use Rattle.bay_core.specs.Came.{IsCome, put_after, replied_with}
+use Rattle.bay_core.specs.Commanded.{CallsNothing}
+use Rattle.bay_core.specs.State.{State, AreServedSets}
 use Rattle.bay_core.specs.Standing.{StandsAt, StandsFor}
 use Rattle.bay_core.proofs.EndLaws.{opener-told}
-use Rattle.bay_core.proofs.MoveLaws.{came-of, counts, again, accepted-as, groups-quiet}
+use Rattle.bay_core.proofs.HeardLaws.{quiet-among, tests-after}
+use Rattle.bay_core.proofs.MoveLaws.{counts, again, accepted-as, groups-quiet, queued, queues-stand}
 use Rattle.bay_core.proofs.PartLaws.{parts-left}
 use Rattle.bay_core.proofs.QueueLaws.{replies-told}
-use Rattle.bay_replies.specs.Plain.{IsPlainRole}
-use Rattle.bay_replies.proofs.NodeLaws.{each-among, node-plain}
+use Rattle.bay_core.proofs.ShapeLaws.{all-served, found}
+use Rattle.bay_core.proofs.UncalledLaws.{member-plain, quiet-all, service-uncalled}
 
--- whatever domain
-abbrev IsAny : ℕ → Type 0
-IsAny d = Unit {0}
+-- ---- single reads that select nothing
 
--- ---- the single reads
+abbrev pub IsStill : Model → Single → Type 0
+IsStill m (reads n) = SelectsNothing (node_of m n).role
+IsStill m (writes n v) = ⊥
+IsStill m (fails code) = Unit {0}
 
--- a node is read, or a name can't be
-abbrev pub IsRead : Single → Type 0
-IsRead (reads n) = Unit {0}
-IsRead (writes n v) = ⊥
-IsRead (fails code) = Unit {0}
+abbrev pub AreStill : Model → List Single → Type 0
+AreStill m [] = Unit {0}
+AreStill m (s ∷ ss) = IsStill m s × AreStill m ss
 
-abbrev pub AreReads : List Single → Type 0
-AreReads [] = Unit {0}
-AreReads (s ∷ ss) = IsRead s × AreReads ss
+still-value : (r : Result Value ℕ) → deed_of (outcome_of_read r) ≡ nothing
+still-value (Ok v) = refl
+still-value (Err code) = refl
 
-read-target : (t : Target) → IsRead (read_of t)
-read-target (targets.Node n name) = tt
-read-target (targets.Missing name) = tt
-read-target (targets.Alternate name) = tt
+still-role : (m : Model) (a : ℕ) (r : Role) (t : Tree) (past : Past) → SelectsNothing r → deed_of (read_role m a r t past) ≡ nothing
+still-role m a (single l) t past is = still-value (read_tree m past t)
+still-role m a (selecting k) t past is = absurd is
+still-role m a (calling k call) t past is = absurd is
+still-role m a several t past is = still-value (read_tree m past t)
 
-reads-targets : (ts : List Target) → AreReads (map read_of ts)
-reads-targets [] = tt
-reads-targets (t ∷ ts) = (read-target t, reads-targets ts)
+still-single : (m : Model) (a : ℕ) (s : Single) (past : Past) → IsStill m s → deed_of (outcome_of m a s past) ≡ nothing
+still-single m a (reads n) past is = still-role m a (node_of m n).role (node_of m n).tree past is
+still-single m a (writes n v) past is = absurd is
+still-single m a (fails code) past is = refl
 
-reads-nodes : (ns : List ℕ) → AreReads (map reads ns)
-reads-nodes [] = tt
-reads-nodes (n ∷ ns) = (tt, reads-nodes ns)
+-- the bay stands for them as it is
+singles-stand : (z : State) (c : Config) (a n t : ℕ) (ss : List Single) (past : Past) → AreStill (configured_model c) ss → StandsAt z c n (arrival n t ∷ past)
+    → StandsAt z c n (arrival n t ∷ after_singles (configured_model c) a n t ss past)
+singles-stand z c a n t [] past are here = here
+singles-stand z c a n t (s ∷ ss) past are here =
+    let m = configured_model c in
+    let d : Deed = deed_of (outcome_at m a n t s past) in
+    let st = subst (λ (e : Deed). StandsAt z c n (at n t e ∷ past)) (sym (still-single m a s (arrival n t ∷ past) are.0)) here in
+    singles-stand z c a n t ss (at n t d ∷ past) are.1 (again z c n t (at n t d) past (omega arith) st)
 
-reads-set : (o : Option DataSet) → AreReads (option_map_or (λ (s : DataSet). map reads s.nodes) o [])
-reads-set None = tt
-reads-set (Some s) = reads-nodes s.nodes
+still-nodes : (c : Config) (ns : List ℕ) → All (IsMember c) ns → AreStill (configured_model c) (map reads ns)
+still-nodes c [] all = tt
+still-nodes c (n ∷ ns) all = (member-plain c n (All-head (IsMember c) n ns all).allowed, still-nodes c ns (All-tail (IsMember c) n ns all))
 
-pub reads-of : (m : Model) (past : Past) (service : Service) → IsReading service → AreReads (singles_of m past service)
-reads-of m past (services.Read ts spec) is = reads-targets ts
-reads-of m past (services.ReadSet domain item spec) is = reads-set (set_found m past (set_name domain item))
-reads-of m past (services.WriteVars ws) is = absurd is
-reads-of m past (services.WriteSet domain item vs) is = absurd is
-reads-of m past (services.Define domain item members) is = absurd is
-reads-of m past (services.Delete scope names) is = absurd is
-reads-of m past _ is = tt
+-- the data sets of the book are those of the past
+pub served-sets : (s : State) (c : Config) (n : ℕ) (past : Past) → AreServedSets s.config s.book → StandsAt s c n past → All (IsServedSet c) (sets (configured_model c) past)
+served-sets s c n past served st = subst (All (IsServedSet c)) st.sets (all-served c s.book (subst (λ (d : Config). AreServedSets d s.book) st.is_config served))
+
+module _ (c : Config) (past : Past) (served : All (IsServedSet c) (sets (configured_model c) past)) where
+  still-set : (name : SetName) (o : Option DataSet) → set_found (configured_model c) past name ≡ o → AreStill (configured_model c) (option_map_or (λ (s : DataSet). map reads s.nodes) o [])
+  still-set name None is = tt
+  still-set name (Some s) is = still-nodes c s.nodes (found (IsServedSet c) (is_named name) (sets (configured_model c) past) served s is).members
+
+  reads-still : (service : Service) → IsReading service → AreStill (configured_model c) (singles_of (configured_model c) past service)
+  reads-still (services.Read ts spec) is = absurd is
+  reads-still (services.ReadSet domain item spec) is = still-set (set_name domain item) (set_found (configured_model c) past (set_name domain item)) refl
+  reads-still (services.WriteVars ws) is = absurd is
+  reads-still (services.WriteSet domain item vs) is = absurd is
+  reads-still (services.Define domain item members) is = absurd is
+  reads-still (services.Delete scope names) is = absurd is
+  reads-still _ is = tt
+
+  pub reads-stand : (z : State) (a n t : ℕ) (service : Service) → IsReading service → StandsAt z c n (arrival n t ∷ past) → StandsAt z c n (arrival n t ∷ after_singles (configured_model c) a n t (singles_of (configured_model c) past service) past)
+  reads-stand z a n t service is here = singles-stand z c a n t (singles_of (configured_model c) past service) past (reads-still service is) here
+
+-- ---- services
 
 -- no data set is defined or deleted
 abbrev pub IsQuietService : Service → Type 0
@@ -131,232 +141,65 @@ quiet-read (services.Define domain item members) is = absurd is
 quiet-read (services.Delete scope names) is = absurd is
 quiet-read _ is = tt
 
-pub unchanged-by : (m : Model) (past : Past) (service : Service) → IsQuietService service → change_of m past service ≡ unchanged
+unchanged-by : (m : Model) (past : Past) (service : Service) → IsQuietService service → change_of m past service ≡ unchanged
 unchanged-by m past (services.Define domain item members) is = absurd is
 unchanged-by m past (services.Delete scope names) is = absurd is
 unchanged-by m past _ is = refl
 
--- ---- what comes of them
-
--- nothing, or a control was selected
-abbrev pub IsIdle : Deed → Type 0
-IsIdle nothing = Unit {0}
-IsIdle (selected_control a k) = Unit {0}
-IsIdle _ = ⊥
-
-abbrev pub IsPlain : Outcome → Type 0
-IsPlain (gave v d) = IsIdle d
-IsPlain (did d) = ⊥
-IsPlain (refused code) = Unit {0}
-IsPlain (came.barred e) = ⊥
-
-plain-read : (r : Result Value ℕ) → IsPlain (outcome_of_read r)
-plain-read (Ok v) = tt
-plain-read (Err code) = tt
-
-plain-role : (m : Model) (a : ℕ) (r : Role) (t : Tree) (past : Past) → IsPlain (read_role m a r t past)
-plain-role m a (selecting k) t past = by (can_select m k past) where
-  by : (b : Bool) → IsPlain (if b then gave (kinds.Text (control_of m k).reference) (selected_control a k) else gave (kinds.Text []) nothing)
-  by true = tt
-  by false = tt
-plain-role m a _ t past = plain-read (read_tree m past t)
-
-plain-single : (m : Model) (a : ℕ) (s : Single) (past : Past) → IsRead s → IsPlain (outcome_of m a s past)
-plain-single m a (reads n) past is = plain-role m a (node_of m n).role (node_of m n).tree past
-plain-single m a (writes n v) past is = absurd is
-plain-single m a (fails code) past is = tt
-
-idle-of : (o : Outcome) → IsPlain o → IsIdle (deed_of o)
-idle-of (gave v d) is = is
-idle-of (did d) is = absurd is
-idle-of (refused code) is = tt
-idle-of (came.barred e) is = absurd is
-
-no-act : (d : Deed) → IsIdle d → act_of d ≡ None
-no-act nothing is = refl
-no-act (selected_control a k) is = refl
-no-act _ is = absurd is
-
-no-error : (o : Outcome) → IsPlain o → error_in o ≡ None
-no-error (gave v d) is = refl
-no-error (did d) is = absurd is
-no-error (refused code) is = refl
-no-error (came.barred e) is = absurd is
-
--- ---- no control acts, and no error stands before the reply
-
-record IsQuiet (o : Outcome) : Type 0 where
-  act : act_of (deed_of o) ≡ None
-  error : error_in o ≡ None
-
-quiet-plain : (o : Outcome) → IsPlain o → IsQuiet o
-quiet-plain o is = record { act = no-act (deed_of o) (idle-of o is); error = no-error o is }
-
-quiet-refused : (code : ℕ) → IsQuiet (refused code)
-quiet-refused code = record { act = refl; error = refl }
-
-quiet-first : (ts : List (Bool × ℕ)) (d : Deed) → act_of d ≡ None → IsQuiet (first_code ts d)
-quiet-first [] d is = record { act = is; error = refl }
-quiet-first (t ∷ ts) d is = by t.0 (quiet-first ts d is) where
-  by : (b : Bool) → IsQuiet (first_code ts d) → IsQuiet (if b then refused t.1 else first_code ts d)
-  by true rest = quiet-refused t.1
-  by false rest = rest
-
-quiet-attribute : (m : Model) (a x : ℕ) (v : Value) (access : Access) (past : Past) → IsQuiet (write_attribute m a x v access past)
-quiet-attribute m a x v writable past = quiet-first (attribute_refusals (attr_of m x).kind v false) (put a x v) refl
-quiet-attribute m a x v edited past = quiet-first (attribute_refusals (attr_of m x).kind v (not (holds_edit a (attr_of m x).domain past))) (copied a (attr_of m x).original v) refl
-quiet-attribute m a x v reported past = quiet-refused (if is_kind (attr_of m x).kind v then 3 else 7)
-quiet-attribute m a x v active past = quiet-refused (if is_kind (attr_of m x).kind v then 3 else 7)
-
-quiet-component : (m : Model) (a b : ℕ) (comp : Comp) (v : Value) (past : Past) → IsQuiet (write_component m a b comp v past)
-quiet-component m a b comp v past = quiet-first (component_refusals (λ e. e == a) comp v (is_of_nothing m b comp v past) (enabler b past) (parameters_at m b past)) (wrote a b comp v) refl
-
-quiet-part : (m : Model) (a d : ℕ) (part : SettingComp) (v : Value) (past : Past) → IsQuiet (write_part m a d part v past)
-quiet-part m a d NumOfSG v past = quiet-refused (if is_kind (setting_comp_kind NumOfSG) v then 3 else 7)
-quiet-part m a d LActTm v past = quiet-refused (if is_kind (setting_comp_kind LActTm) v then 3 else 7)
-quiet-part m a d ActSG (kinds.Bool b) past = quiet-refused 7
-quiet-part m a d ActSG (kinds.Int z) past = quiet-refused 7
-quiet-part m a d ActSG (kinds.Uint n) past = quiet-first (act_refusals (groups_of m d).count n) (activated a d n) refl
-quiet-part m a d ActSG (kinds.Bits bs) past = quiet-refused 7
-quiet-part m a d ActSG (kinds.Time t) past = quiet-refused 7
-quiet-part m a d ActSG (kinds.Stamp t) past = quiet-refused 7
-quiet-part m a d ActSG (kinds.Text t) past = quiet-refused 7
-quiet-part m a d ActSG (kinds.Octets o) past = quiet-refused 7
-quiet-part m a d ActSG (kinds.Struct vs) past = quiet-refused 7
-quiet-part m a d ActSG kinds.Other past = quiet-refused 7
-quiet-part m a d EditSG (kinds.Bool b) past = quiet-refused 7
-quiet-part m a d EditSG (kinds.Int z) past = quiet-refused 7
-quiet-part m a d EditSG (kinds.Uint n) past = quiet-first (edit_refusals a (groups_of m d).count n (edit d past)) (edited_group a d n) refl
-quiet-part m a d EditSG (kinds.Bits bs) past = quiet-refused 7
-quiet-part m a d EditSG (kinds.Time t) past = quiet-refused 7
-quiet-part m a d EditSG (kinds.Stamp t) past = quiet-refused 7
-quiet-part m a d EditSG (kinds.Text t) past = quiet-refused 7
-quiet-part m a d EditSG (kinds.Octets o) past = quiet-refused 7
-quiet-part m a d EditSG (kinds.Struct vs) past = quiet-refused 7
-quiet-part m a d EditSG kinds.Other past = quiet-refused 7
-quiet-part m a d CnfEdit (kinds.Bool true) past = quiet-first (confirm_refusals a (edit d past)) (confirmed a d) refl
-quiet-part m a d CnfEdit (kinds.Bool false) past = quiet-first (confirm_refusals a (edit d past)) nothing refl
-quiet-part m a d CnfEdit (kinds.Int z) past = quiet-refused 7
-quiet-part m a d CnfEdit (kinds.Uint n) past = quiet-refused 7
-quiet-part m a d CnfEdit (kinds.Bits bs) past = quiet-refused 7
-quiet-part m a d CnfEdit (kinds.Time t) past = quiet-refused 7
-quiet-part m a d CnfEdit (kinds.Stamp t) past = quiet-refused 7
-quiet-part m a d CnfEdit (kinds.Text t) past = quiet-refused 7
-quiet-part m a d CnfEdit (kinds.Octets o) past = quiet-refused 7
-quiet-part m a d CnfEdit (kinds.Struct vs) past = quiet-refused 7
-quiet-part m a d CnfEdit kinds.Other past = quiet-refused 7
-
-module _ (c : Config) (none : c.controls ≡ []) where
-  abbrev mine : Model
-  mine = configured_model c
-
-  quiet-role : (a : ℕ) (r : Role) (v : Value) (past : Past) → IsPlainRole (length (attributes c)) (length c.blocks) IsAny r → IsQuiet (write_role mine a r v past)
-  quiet-role a (single (attribute x)) v past is = quiet-attribute mine a x v (attr_of mine x).access past
-  quiet-role a (single (component b comp)) v past is = quiet-component mine a b comp v past
-  quiet-role a (single (setting d part)) v past is = quiet-part mine a d part v past
-  quiet-role a (single withheld) v past is = absurd is
-  quiet-role a (selecting k) v past is = absurd is
-  quiet-role a (calling k call) v past is = absurd is
-  quiet-role a several v past is = quiet-refused 3
-
-  quiet-single : (a : ℕ) (s : Single) (past : Past) → IsQuiet (outcome_of mine a s past)
-  quiet-single a (reads n) past = quiet-plain (read_node mine a n past) (plain-role mine a (node_of mine n).role (node_of mine n).tree past)
-  quiet-single a (writes n v) past = quiet-role a (node_of mine n).role v past (node-plain c none IsAny (each-among (λ (g : SgDef). IsAny (domain_number c g.domain)) c.groups (λ g i. tt)) n).role
-  quiet-single a (fails code) past = quiet-refused code
-
-  pub acts-none : (a n t : ℕ) (ss : List Single) (past : Past) → acts_in (outcomes mine a n t ss past) ≡ []
-  acts-none a n t [] past = refl
-  acts-none a n t (s ∷ ss) past = rw (quiet-single a s (arrival n t ∷ past)).act (acts-none a n t ss (after_single mine a n t s past))
-
-  pub errors-none : (a n t : ℕ) (ss : List Single) (past : Past) → filter_map error_in (outcomes mine a n t ss past) ≡ []
-  errors-none a n t [] past = refl
-  errors-none a n t (s ∷ ss) past = rw (quiet-single a s (arrival n t ∷ past)).error (errors-none a n t ss (after_single mine a n t s past))
-
--- ---- the bay behind them
-
-idled : (z : State) (c : Config) (n t : ℕ) (d : Deed) (past : Past) → IsIdle d → StandsAt z c n (arrival n t ∷ past) → StandsAt z c n (at n t d ∷ past)
-idled z c n t nothing past is here = here
-idled z c n t (selected_control a k) past is here =
-    came-of z c n t (selected_control a k) past z.stored z.parts z.groups (record { number = tt; puts = λ e. refl; sets = refl }) here.values
-    (parts-left (configured_model c) n t (selected_control a k) past z.parts z.parts (record { note = λ b. refl; cuts = λ b. refl }) (λ b q there. (q, there, refl)) here.blocks) (groups-quiet z c n t (selected_control a k) past tt here) here
-idled z c n t _ past is here = absurd is
-
--- it stands for the singles as it is
-pub singles-stand : (z : State) (c : Config) (a n t : ℕ) (ss : List Single) (past : Past) → AreReads ss → StandsAt z c n (arrival n t ∷ past)
-    → StandsAt z c n (arrival n t ∷ after_singles (configured_model c) a n t ss past)
-singles-stand z c a n t [] past are here = here
-singles-stand z c a n t (s ∷ ss) past are here =
-    let m = configured_model c in
-    let d : Deed = deed_of (outcome_at m a n t s past) in
-    let st = idled z c n t d past (idle-of (outcome_at m a n t s past) (plain-single m a s (arrival n t ∷ past) are.0)) here in
-    singles-stand z c a n t ss (at n t d ∷ past) are.1 (again z c n t (at n t d) past (omega arith) st)
-
 -- ---- the reply
 
--- there is no control whose test operate ends
-not-enhanced : (m : Model) (k : ℕ) → m.controls ≡ [] → is_enhanced m k ≡ false
-not-enhanced m k none = ap (λ (ks : List Control). is_enhanced (record m { controls = ks }) k) none
-
-no-test : (m : Model) (d : Deed) → m.controls ≡ [] → tests_of m d ≡ []
-no-test m (called a k operate v) none = rw (not-enhanced m k none) refl
-no-test m _ none = refl
-
-pub no-tests : (m : Model) (n : ℕ) (past : Past) → m.controls ≡ [] → tests m n past ≡ []
-no-tests m n [] none = refl
-no-tests m n (p ∷ before) none = rw (no-tests m n before none, no-test m p.deed none) (by (p.step == n)) where
-  by : (b : Bool) → ◌≡◌ {A = List ℕ} (if b then [] else []) []
-  by true = refl
-  by false = refl
-
--- the reply alone is put, and for the association that asked
-puts-reply : (m : Model) (a n : ℕ) (output : Output) (change : Change) (past : Past) → m.controls ≡ [] → put_by m a n (answered a output change) past ≡ queue.reply output ∷ []
-puts-reply m a n output change past none = rw (same-number a, no-tests m n past none) refl
-
-puts-no-other : (m : Model) (a e n : ℕ) (output : Output) (change : Change) (past : Past) → e ≢ a → put_by m e n (answered a output change) past ≡ []
-puts-no-other m a e n output change past other = rw (other-number a e other) refl
-
--- behind a reply with what came of the data sets, where the book and the numbers of the blocks' sets are those then
-pub changed-at : (z w : State) (c : Config) (n t a : ℕ) (output : Output) (change : Change) (past : Past) → c.controls ≡ [] → IsNumber a → StandsAt z c n (arrival n t ∷ past)
+-- behind a reply with what came of the data sets, and the terminations of the step's tests, where the book and the numbers of the blocks'
+-- sets are those then
+pub changed-with : (z w : State) (c : Config) (n t a : ℕ) (output : Output) (change : Change) (ks : List CtlNo) (past : Past) → map (λ (k : CtlNo). k.0) ks ≡ tests (configured_model c) n past → IsNumber a → StandsAt z c n (arrival n t ∷ past)
     → w ≡ record z { book = w.book; parts = w.parts } → BlocksStand (configured_model c) (arrival n t ∷ past) w.parts
     → map data_set w.book.sets ≡ sets (configured_model c) (at n t (answered a output change) ∷ past) → w.book.configured ≡ z.book.configured
-    → StandsAt (replied w a output) c n (at n t (answered a output change) ∷ past)
-changed-at z w c n t a output change past none number here same blocks all configured =
+    → StandsAt (replied_with w a output ks) c n (at n t (answered a output change) ∷ past)
+changed-with z w c n t a output change ks past told number here same blocks all configured =
     let m = configured_model c in
     let d : Deed = answered a output change in
-    let controls : m.controls ≡ [] = ap (map control_defined) none in
+    let wait = waits.stands-deed m n t d (reply_coming a output ks) past (queued z) (queues-stand z c n (arrival n t ∷ past) here) (waits.reply-comes m n a output change ks past number told) in
     record {
       is_config = ap (λ (s : State). s.config) same ∙ here.is_config;
       is_steps = ap (λ (s : State). s.steps) same ∙ here.is_steps;
       is_latest = ap (λ (s : State). s.latest) same ∙ here.is_latest;
       values = subst (λ l. ValuesStand l m (at n t d ∷ past)) (sym (ap (λ (s : State). s.stored) same)) here.values;
-      associations = subst (λ rows. AssociationsStand (extended rows a (waits.Reply output ∷ [])) m (at n t d ∷ past)) (sym (ap (λ (s : State). s.rows) same))
-          (associations.stands-deed m t n d past z.rows (record { a = a; items = waits.Reply output ∷ [] }) here.associations (record {
-            number = tt;
-            puts = puts-reply m a n output change past controls;
-            for_one = λ some. number;
-            for_no_other = λ e other. puts-no-other m a e n output change past other;
-          }));
+      associations = subst (λ rows. AssociationsStand (extended rows a (reply_and output ks)) m (at n t d ∷ past)) (sym (ap (λ (s : State). s.rows) same)) wait.associations;
       groups = subst (λ g. GroupsStand g m (at n t d ∷ past)) (sym (ap (λ (s : State). s.groups) same)) (groups-quiet z c n t d past tt here);
+      controls = subst (λ (table : Table). ControlsStand table m (at n t d ∷ past)) (sym (ap (λ (s : State). s.controls) same)) wait.controls;
       sets = all;
       configured = configured ∙ here.configured;
       blocks = parts-left m n t d past w.parts w.parts (record { note = λ b. refl; cuts = λ b. refl }) (λ b q there. (q, there, refl)) blocks;
     }
 
--- nothing came of them
-pub answered-at : (z : State) (c : Config) (n t a : ℕ) (output : Output) (past : Past) → c.controls ≡ [] → IsNumber a → StandsAt z c n (arrival n t ∷ past)
-    → StandsAt (replied z a output) c n (at n t (answered a output unchanged) ∷ past)
-answered-at z c n t a output past none number here = changed-at z z c n t a output unchanged past none number here refl here.blocks here.sets refl
+-- where nothing was tested
+pub changed-at : (z w : State) (c : Config) (n t a : ℕ) (output : Output) (change : Change) (past : Past) → tests (configured_model c) n past ≡ [] → IsNumber a → StandsAt z c n (arrival n t ∷ past)
+    → w ≡ record z { book = w.book; parts = w.parts } → BlocksStand (configured_model c) (arrival n t ∷ past) w.parts
+    → map data_set w.book.sets ≡ sets (configured_model c) (at n t (answered a output change) ∷ past) → w.book.configured ≡ z.book.configured
+    → StandsAt (replied w a output) c n (at n t (answered a output change) ∷ past)
+changed-at z w c n t a output change past none number here same blocks all configured = changed-with z w c n t a output change [] past (sym none) number here same blocks all configured
 
--- a request that leaves the data sets alone is answered, and its reply put
-pub answered-replied : (old new : State) (moment a : ℕ) (service : Service) (r : Reply) → IsServable old.config → IsNumber a → IsQuietService service → IsAnswered old new moment a service r → IsReplied old new moment a service r
-answered-replied old new moment a service r served number quiet is = (
+-- and nothing came of the data sets
+pub answered-with : (z : State) (c : Config) (n t a : ℕ) (output : Output) (ks : List CtlNo) (past : Past) → map (λ (k : CtlNo). k.0) ks ≡ tests (configured_model c) n past → IsNumber a → StandsAt z c n (arrival n t ∷ past)
+    → StandsAt (replied_with z a output ks) c n (at n t (answered a output unchanged) ∷ past)
+answered-with z c n t a output ks past told number here = changed-with z z c n t a output unchanged ks past told number here refl here.blocks here.sets refl
+
+pub answered-at : (z : State) (c : Config) (n t a : ℕ) (output : Output) (past : Past) → tests (configured_model c) n past ≡ [] → IsNumber a → StandsAt z c n (arrival n t ∷ past)
+    → StandsAt (replied z a output) c n (at n t (answered a output unchanged) ∷ past)
+answered-at z c n t a output past none number here = answered-with z c n t a output [] past (sym none) number here
+
+-- a request that calls nothing and leaves the data sets alone is answered, and its reply put
+pub answered-replied : (old new : State) (moment a : ℕ) (service : Service) (r : Reply) → AreServedSets old.config old.book → IsNumber a → IsQuietService service → CallsNothing service → IsAnswered old new moment a service r → IsReplied old new moment a service r
+answered-replied old new moment a service r served number quiet uncalled is = (
   is.0,
-  λ c n past output st.
+  λ c n past output st none.
       let m = configured_model c in
-      let none = subst (λ (d : Config). d.controls ≡ []) st.is_config served.controls in
-      let after : Past = after_singles m a n moment (singles_of m past service) past in
+      let ss = singles_of m past service in
+      let os = outcomes m a n moment ss past in
+      let after : Past = after_singles m a n moment ss past in
+      let still : tests m n after ≡ [] = tests-after m a n moment ss past
+      ∙ ap₂ (λ (xs ys : List ℕ). xs ++ ys) none (quiet-among m os (quiet-all m a n moment ss past (service-uncalled c past (served-sets old c n past served st) service uncalled))) in
       subst (λ (k : Change). StandsAt (replied new a output) c n (at n moment (answered a output k) ∷ after)) (sym (unchanged-by m past service quiet))
-      (answered-at new c n moment a output after none number (is.1 c n past st)),
+      (answered-at new c n moment a output after still number (is.1 c n past st)),
 )
 
 -- ---- a request is answered, and the bay stands for it
@@ -397,23 +240,21 @@ module _ (s : State) (c : Config) (h : History) (t : ℕ) (actor : ActorNo) (a :
       let e = opener-told (configured_model c) s.rows past a.0 opener st.1.associations number is in
       ask-fault (configured_model c) past actor.0 a.0 e.0 e.1 (equal-number actor.0 e.0.opener (yours ∙ sym e.2)) (count-told ∙ room)
 
-  -- the second state is that before its reply is put
-  pub asked-for : (z u : State) (answer_ : Reply) → c.controls ≡ [] → nat_le 16 (replies (row_of s.rows a.0).waiting) ≡ false
-      → ((output : Output) → StandsAt (replied z a.0 output) c (length h) (at (length h) t (answered a.0 output (change_of (configured_model c) past r.service)) ∷ after_singles (configured_model c) a.0 (length h) t (singles_of (configured_model c) past r.service) past))
-      → answer_ ≡ reply (configured_model c) past (size_of a.0 past) r.service (outcomes_of (configured_model c) (length h) t a.0 r past)
-      → u ≡ record (replied z a.0 (outputs.Reply [] r.invoke answer_)) { steps = suc z.steps }
-      → (answers.Asked [] ≡ answer (configured_model c) h turn) × StandsFor u c (turn ∷ h)
-  asked-for z u answer_ none room here is_reply behind =
+  -- the second state is that before what the request came to is put
+  pub asked-for : (z u : State) (x : Came) → nat_le 16 (replies (row_of s.rows a.0).waiting) ≡ false → IsCome s z t a.0 r.service x → u ≡ record (put_after a.0 r.invoke x z) { steps = suc z.steps }
+      → (answers.Asked x.acts.items ≡ answer (configured_model c) h turn) × StandsFor u c (turn ∷ h)
+  asked-for z u x room come behind =
       let m = configured_model c in
       let n = length h in
-      let fine = fine-for room in
       let ss = singles_of m past r.service in
       let change = change_of m past r.service in
-      let output = outputs.Reply [] r.invoke answer_ in
-      let same : output ≡ output_for m n t a.0 r past = ap₂ (λ (es : List ApplError) (x : Reply). outputs.Reply es r.invoke x) (sym (errors-none c none a.0 n t ss past)) is_reply in
-      let stands = counts (replied z a.0 output) c n (at n t (answered a.0 output change) ∷ after_singles m a.0 n t ss past) (here output) in
+      let told = come.is c n past st.1 in
+      let output = outputs.Reply x.before.items r.invoke x.reply in
+      let same : output ≡ output_for m n t a.0 r past = ap₂ (λ (es : List ApplError) (p : Reply). outputs.Reply es r.invoke p) told.before told.reply in
+      let w : State = put_after a.0 r.invoke x z in
+      let stands = counts w c n (at n t (answered a.0 output change) ∷ after_singles m a.0 n t ss past) (come.stands c n past output st.1 (fresh m h)) in
       let deed : answered a.0 output change ≡ answered a.0 (output_for m n t a.0 r past) change = ap (λ (o : Output). answered a.0 o change) same in (
-        ap answers.Asked (sym (acts-none c none a.0 n t ss past)),
-        accepted-as s u (record (replied z a.0 output) { steps = suc z.steps }) c h turn st fine behind
-            (subst (λ (d : Deed). StandsAt (record (replied z a.0 output) { steps = suc z.steps }) c (suc n) (at n t d ∷ after_singles m a.0 n t ss past)) deed stands),
+        ap answers.Asked told.acts,
+        accepted-as s u (record w { steps = suc w.steps }) c h turn st (fine-for room) behind
+            (subst (λ (d : Deed). StandsAt (record w { steps = suc w.steps }) c (suc n) (at n t d ∷ after_singles m a.0 n t ss past)) deed stands),
       )

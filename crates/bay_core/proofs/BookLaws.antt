@@ -1,5 +1,5 @@
 -- The book of data sets: what is found by a DatSet, and whose nodes its members are.
-use Rattle.std.proofs.Common.{◌≡◌, ◌<◌, ℕ, List, [], ◌∷◌, map, length, Option, None, Some, is_some, unwrap_or, refl, ap, sym, ◌∙◌, subst, arith}
+use Rattle.std.proofs.Common.{◌≡◌, ◌<◌, ℕ, true, List, [], ◌∷◌, map, length, Option, None, Some, is_some, unwrap_or, refl, ap, sym, ◌∙◌, subst, arith}
 use Rattle.std.specs.Option.{option_map}
 use Rattle.std.specs.List.{All}
 use Rattle.std.specs.Str.{bytes_eq}
@@ -7,8 +7,9 @@ use Rattle.std.proofs.lemmas.List.Elements.{All-nil, All-cons, All-head, All-tai
 use Rattle.sv_base.specs.declared.config.Config.{Config}
 use Rattle.sv_base.specs.declared.numbers.NodeId.{NodeId}
 use Rattle.bay_model.specs.declared.tables.NodeRow.{NodeRow}
-use Rattle.bay_model.specs.Lookups.{reference_of}
+use Rattle.bay_model.specs.Lookups.{node_of, reference_of}
 use Rattle.bay_model.specs.Model.{DataSet}
+use Rattle.bay_model.specs.Named.{configured_model}
 use Rattle.bay_model.specs.Sets.{set_referred}
 use Rattle.set_view.specs.Shapes.{AreThere, shapes_of}
 use Rattle.object_model.specs.Nodes.{node_rows}
@@ -68,6 +69,15 @@ lent-nodes c (n ∷ ns) are = All-cons (λ (n : NodeId). n.0 < length (node_rows
 -- they are among those of the configuration
 pub sets-lent : (c : Config) (book : Book) → AreServedSets c book → AreLent (node_rows c) book
 sets-lent c book are = λ k below. lent-nodes c (set_at book k).nodes (are k below).members
+
+-- and may be members
+allowed-nodes : (c : Config) (ns : List NodeId) → All (IsMember c) (map (λ (n : NodeId). n.0) ns) → All (λ (n : NodeId). (node_of (configured_model c) n.0).allowed ≡ true) ns
+allowed-nodes c [] are = All-nil (λ (n : NodeId). (node_of (configured_model c) n.0).allowed ≡ true)
+allowed-nodes c (n ∷ ns) are = All-cons (λ (n : NodeId). (node_of (configured_model c) n.0).allowed ≡ true) n ns (All-head (IsMember c) n.0 (map (λ (n : NodeId). n.0) ns) are).allowed
+    (allowed-nodes c ns (All-tail (IsMember c) n.0 (map (λ (n : NodeId). n.0) ns) are))
+
+pub sets-allowed : (c : Config) (book : Book) → AreServedSets c book → (k : ℕ) → k < length book.sets → All (λ (n : NodeId). (node_of (configured_model c) n.0).allowed ≡ true) (set_at book k).nodes
+sets-allowed c book are k below = allowed-nodes c (set_at book k).nodes (are k below).members
 
 -- ---- a part that has the number of the data set that its DatSet names
 

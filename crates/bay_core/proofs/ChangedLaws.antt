@@ -33,7 +33,6 @@ use Rattle.report_block.specs.Coming.{arrived}
 use Rattle.report_block.specs.Standing.{BlocksStand}
 use Rattle.assoc_table.specs.Tables.{IsNumber}
 use Rattle.window_core.specs.Points.{at}
-use Rattle.bay_config.specs.Servable.{IsServable}
 use Rattle.bay_core.specs.Asked.{IsReplied, replied}
 use Rattle.bay_core.specs.Deleted.{after_deletions, deleted_in, matched_in}
 use Rattle.bay_core.specs.Standing.{StandsAt}
@@ -84,22 +83,20 @@ module _ (old : State) (moment a : ℕ) (domain item : List ℕ) (ts : List Targ
   pub definition-refused : (new : State) (f : DefineFault) → fault ≡ Some f → new ≡ at_arrival moment old → IsReplied old new moment a (services.Define domain item ts) (replies.Error (error_of f).0 (error_of f).1)
   definition-refused new f fails behind = (
     λ c n past st. ap (λ o. option_map_or (λ (e : ℕ × ℕ). replies.Error e.0 e.1) o replies.Defined) (sym (error-told c n past st ∙ ap (option_map error_of) fails)),
-    λ c n past output st.
+    λ c n past output st fresh.
         let m = configured_model c in
-        let none = subst (λ (d : Config). d.controls ≡ []) st.is_config all.servable.controls in
         let change : definition_change m past name ts ≡ unchanged = ap (λ (o : Option (ℕ × ℕ)). if is_some o then unchanged else defined name (map number_of ts)) (error-told c n past st ∙ ap (option_map error_of) fails) in
         subst (λ (k : Change). StandsAt (replied new a output) c n (at n moment (answered a output k) ∷ past)) (sym change)
         (subst (λ (z : State). StandsAt (replied z a output) c n (at n moment (answered a output unchanged) ∷ past)) (sym behind)
-        (answered-at (at_arrival moment old) c n moment a output past none number (arrives old c n moment past all st))),
+        (answered-at (at_arrival moment old) c n moment a output past fresh number (arrives old c n moment past all st))),
   )
 
   pub definition-done : (new : State) → fault ≡ None → ((b : ℕ) (part : ReportBlock) → slice_get old.parts b ≡ Some part → IsSet old.book part.set)
       → new ≡ at_arrival moment (record old { book = with_set (defined_set name ts) old.book }) → IsReplied old new moment a (services.Define domain item ts) replies.Defined
   definition-done new fine sets_are behind = (
     λ c n past st. ap (λ o. option_map_or (λ (e : ℕ × ℕ). replies.Error e.0 e.1) o replies.Defined) (sym (error-told c n past st ∙ ap (option_map error_of) fine)),
-    λ c n past output st.
+    λ c n past output st fresh.
         let m = configured_model c in
-        let none = subst (λ (d : Config). d.controls ≡ []) st.is_config all.servable.controls in
         let change : definition_change m past name ts ≡ defined name (map number_of ts) = ap (λ (o : Option (ℕ × ℕ)). if is_some o then unchanged else defined name (map number_of ts)) (error-told c n past st ∙ ap (option_map error_of) fine) in
         let z : State = at_arrival moment old in
         let here = arrives old c n moment past all st in
@@ -111,37 +108,35 @@ module _ (old : State) (moment a : ℕ) (domain item : List ℕ) (ts : List Targ
         = map-end old.book.sets s ∙ (ap₂ (λ (l : List DataSet) (d : DataSet). l ++ d ∷ []) st.sets (ap (λ l. record { domain = domain; item = item; nodes = l }) (numbers-same ts)) ∙ append_assoc m.sets (dynamic past) (one ∷ [])) in
         subst (λ (k : Change). StandsAt (replied new a output) c n (at n moment (answered a output k) ∷ past)) (sym change)
         (subst (λ (v : State). StandsAt (replied v a output) c n (at n moment (answered a output (defined name (map number_of ts))) ∷ past)) (sym behind)
-        (changed-at z w c n moment a output (defined name (map number_of ts)) past none number here refl (subst (BlocksStand m (arrival n moment ∷ past)) (sym parts) here.blocks) sets_then refl)),
+        (changed-at z w c n moment a output (defined name (map number_of ts)) past fresh number here refl (subst (BlocksStand m (arrival n moment ∷ past)) (sym parts) here.blocks) sets_then refl)),
   )
 
 -- ---- deletions
 
-pub scope-refused : (old new : State) (moment a scope : ℕ) (names : List SetName) → IsServable old.config → IsNumber a → (scope == 0) ≡ false
+pub scope-refused : (old new : State) (moment a scope : ℕ) (names : List SetName) → IsNumber a → (scope == 0) ≡ false
     → ((c : Config) (n : ℕ) (past : Past) → StandsAt old c n past → StandsAt new c n (arrival n moment ∷ past)) → IsReplied old new moment a (services.Delete scope names) (replies.Error 7 3)
-scope-refused old new moment a scope names served number other arrived_ = (
+scope-refused old new moment a scope names number other arrived_ = (
   λ c n past st. rw other refl,
-  λ c n past output st.
-      let none = subst (λ (d : Config). d.controls ≡ []) st.is_config served.controls in
+  λ c n past output st fresh.
       let change : deletion_change (configured_model c) past scope names ≡ unchanged = rw other refl in
-      subst (λ (k : Change). StandsAt (replied new a output) c n (at n moment (answered a output k) ∷ past)) (sym change) (answered-at new c n moment a output past none number (arrived_ c n past st)),
+      subst (λ (k : Change). StandsAt (replied new a output) c n (at n moment (answered a output k) ∷ past)) (sym change) (answered-at new c n moment a output past fresh number (arrived_ c n past st)),
 )
 
-pub deletions-done : (old z : State) (moment a scope : ℕ) (names : List SetName) → IsServable old.config → length old.parts ≡ length old.config.blocks → IsBooked old.config old.book → IsNumber a → (scope == 0) ≡ true
+pub deletions-done : (old z : State) (moment a scope : ℕ) (names : List SetName) → length old.parts ≡ length old.config.blocks → IsBooked old.config old.book → IsNumber a → (scope == 0) ≡ true
     → z ≡ at_arrival moment old → ((c : Config) (n : ℕ) (past : Past) → StandsAt old c n past → StandsAt z c n (arrival n moment ∷ past))
     → IsReplied old (after_deletions names z) moment a (services.Delete scope names) (replies.Deleted (matched_in names z) (deleted_in names z))
-deletions-done old z moment a scope names served count booked number all_ behind arrived_ = (
+deletions-done old z moment a scope names count booked number all_ behind arrived_ = (
   λ c n past st.
       let m = configured_model c in
       let went = are c n past st in
       rw all_ (ap₂ (λ k l. replies.Deleted k l) (sym went.matched) (sym (ap length went.gone ∙ went.count))),
-  λ c n past output st.
+  λ c n past output st fresh.
       let m = configured_model c in
       let went = are c n past st in
       let here = arrived_ c n past st in
-      let none = subst (λ (d : Config). d.controls ≡ []) st.is_config served.controls in
       let change : deletion_change m past scope names ≡ deleted (going_in names z) = rw all_ (ap deleted went.gone) in
       subst (λ (k : Change). StandsAt (replied (after_deletions names z) a output) c n (at n moment (answered a output k) ∷ past)) (sym change)
-      (changed-at z (after_deletions names z) c n moment a output (deleted (going_in names z)) past none number here went.others (went.blocks (arrival n moment ∷ past) here.blocks) went.sets went.configured),
+      (changed-at z (after_deletions names z) c n moment a output (deleted (going_in names z)) past fresh number here went.others (went.blocks (arrival n moment ∷ past) here.blocks) went.sets went.configured),
 )
   where
     are : (c : Config) (n : ℕ) (past : Past) → StandsAt old c n past → AreGone c past names z (sets (configured_model c) past) (dynamic past)

@@ -44,6 +44,7 @@ use Rattle.bay_core.specs.Deleted.{IsNewSet}
 use Rattle.bay_core.specs.State.{IsBooked}
 use Rattle.bay_core.specs.Watched.{IsRoomier, IsWatching}
 use Rattle.bay_core.specs.Whole.{IsWhole}
+use Rattle.control_core.specs.Tables.{Table}
 use Rattle.bay_core.proofs.BookLaws.{number-there}
 use Rattle.bay_core.proofs.RoomLaws.{indexed-defined, indexed-roomier}
 
@@ -129,10 +130,10 @@ module _ (c : Config) (book : Book) (s : Booked) (old : IsBooked c book) (new : 
 
 -- ---- the parts with it
 
-pub whole-defined : (c : Config) (stored : List Stored) (groups : Grouped) (book : Book) (s : Booked) (parts : List ReportBlock) (w v : Watch) (octets : Filled ℕ) (room latest : ℕ) (dues : List (Option ℕ)) (events : EventRoom)
+pub whole-defined : (c : Config) (stored : List Stored) (groups : Grouped) (book : Book) (s : Booked) (parts : List ReportBlock) (w v : Watch) (octets : Filled ℕ) (room latest : ℕ) (dues : List (Option ℕ)) (events : EventRoom) (controls : Table)
     → IsNewSet c book s → v ≡ record w { index = v.index } → IsRoomier w.index v.index → ((b : ℕ) → b < length w.index.blocks → pairs (shapes_of (node_rows c) s.nodes) ≤ (block_at v.index.blocks b).room)
-    → IsWhole c stored groups book parts w octets room latest dues events → IsWhole c stored groups (with_set s book) parts v octets room latest dues events
-whole-defined c stored groups book s parts w v octets room latest dues events new same more roomy whole =
+    → IsWhole c stored groups book parts w octets room latest dues events controls → IsWhole c stored groups (with_set s book) parts v octets room latest dues events controls
+whole-defined c stored groups book s parts w v octets room latest dues events controls new same more roomy whole =
     let f = whole.furnished in
     record {
       furnished = record {
@@ -154,12 +155,13 @@ whole-defined c stored groups book s parts w v octets room latest dues events ne
       quiet = whole.quiet;
       grouped = whole.grouped;
       roomy = whole.roomy;
+      controls = whole.controls;
     }
 
 -- more room alone leaves a bay whole
-pub whole-roomier : (c : Config) (stored : List Stored) (groups : Grouped) (book : Book) (parts : List ReportBlock) (w v : Watch) (octets : Filled ℕ) (room latest : ℕ) (dues : List (Option ℕ)) (events : EventRoom)
-    → v ≡ record w { index = v.index } → IsRoomier w.index v.index → IsWhole c stored groups book parts w octets room latest dues events → IsWhole c stored groups book parts v octets room latest dues events
-whole-roomier c stored groups book parts w v octets room latest dues events same more whole =
+pub whole-roomier : (c : Config) (stored : List Stored) (groups : Grouped) (book : Book) (parts : List ReportBlock) (w v : Watch) (octets : Filled ℕ) (room latest : ℕ) (dues : List (Option ℕ)) (events : EventRoom) (controls : Table)
+    → v ≡ record w { index = v.index } → IsRoomier w.index v.index → IsWhole c stored groups book parts w octets room latest dues events controls → IsWhole c stored groups book parts v octets room latest dues events controls
+whole-roomier c stored groups book parts w v octets room latest dues events controls same more whole =
     let f = whole.furnished in
     record {
       furnished = record {
@@ -181,6 +183,7 @@ whole-roomier c stored groups book parts w v octets room latest dues events same
       quiet = whole.quiet;
       grouped = whole.grouped;
       roomy = whole.roomy;
+      controls = whole.controls;
     }
 
 -- ---- what is asked of a definition

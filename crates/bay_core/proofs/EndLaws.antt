@@ -19,6 +19,7 @@ use Rattle.assoc_table.specs.declared.waiting.Ends.{Ends}
 use Rattle.assoc_table.specs.Seats.{Row}
 use Rattle.assoc_table.specs.Tables.{IsNumber, row_of, started, ended}
 use Rattle.assoc_table.specs.Standing.{Stands as AssociationsStand, ends_of}
+use Rattle.control_core.specs.Tables.{after_deed}
 use Rattle.window_core.specs.Points.{at}
 use Rattle.setting_groups.specs.Grouped.{after_loss}
 use Rattle.setting_groups.proofs.StandLaws.{arrived, loses}
@@ -66,7 +67,7 @@ abbrev pub losing : ℕ → ℕ → ℕ → Point
 losing n t a = at n t (lost a)
 
 pub lost-at : (s : State) (c : Config) (n t : ℕ) (a : AssocNo) (past : Past) → IsNumber a.0 → StandsAt s c n (arrival n t ∷ past)
-    → StandsAt (record s { steps = suc s.steps; parts = after_loss_all a s.parts; rows = ended s.rows a.0; groups = after_loss a.0 s.groups }) c (suc n) (losing n t a.0 ∷ past)
+    → StandsAt (record s { steps = suc s.steps; parts = after_loss_all a s.parts; rows = ended s.rows a.0; groups = after_loss a.0 s.groups; controls = after_deed (lost a.0) s.controls }) c (suc n) (losing n t a.0 ∷ past)
 lost-at s c n t a past number st = passed s c n t (lost a.0) past (after_loss_all a s.parts) (after_loss a.0 s.groups) (record { number = number; puts = λ k. refl; sets = refl }) (λ x. refl)
     (record { note = λ b. refl; cuts = λ b. refl }) (got-map (lost_by a) s.parts) (loses (configured_model c) past n t s.groups (arrived (configured_model c) past n t s.groups st.groups) a.0) st
 

@@ -17,6 +17,7 @@ use Rattle.bay_model.specs.Lookups.{attr_of, groups_of, node_of}
 use Rattle.bay_model.specs.Model as model
 use Rattle.bay_model.specs.Model.{Model}
 use Rattle.bay_model.specs.Named.{configured_model}
+use Rattle.bay_model.specs.NamedLines.{generated}
 use Rattle.bay_model.specs.Notes.{note, note_by, noted, no_reason, reasons_of, union, union_of}
 use Rattle.bay_model.specs.Outcomes.{Outcome, did, refused, outcome_by}
 use Rattle.bay_model.specs.Parameters.{bit, is_interrogation, is_purging_change, parameters_at, purges}
@@ -39,13 +40,14 @@ use Rattle.setting_groups.specs.Grouped.{Grouped, after_copy, copy_answer, domai
 use Rattle.setting_groups.specs.Loaded.{active_settings}
 use Rattle.setting_groups.specs.Parts.{after_part, part_answer, part_deed, told}
 use Rattle.setting_groups.specs.Standing.{IsTwin, Stands as GroupsStand}
-use Rattle.setting_groups.proofs.FirstLaws.{complete, domain-within, is-twin, twin-edited}
+use Rattle.setting_groups.proofs.FirstLaws.{complete, domain-within, is-twin, settings-count, twin-edited}
 use Rattle.setting_groups.proofs.FrameLaws.{fit-copy, fit-part}
 use Rattle.setting_groups.proofs.LoadLaws.{part-gives}
 use Rattle.setting_groups.proofs.PartLaws.{answered, confirm-held, copy-written, part-stands}
 use Rattle.setting_groups.proofs.SettingLaws.{copies}
 use Rattle.setting_groups.proofs.StandLaws.{arrived}
 use Rattle.bay_config.specs.Servable.{IsServable}
+use Rattle.bay_replies.specs.Given.{copies_from}
 use Rattle.bay_values.specs.Changed.{AreMade, AreTyped, last_set}
 use Rattle.bay_values.specs.Held.{AreGrouped, AreHeld, IsSoundCell}
 use Rattle.bay_values.proofs.ChangeLaws.{IsThere, held-after}
@@ -54,7 +56,9 @@ use Rattle.bay_core.specs.Asked.{IsWrite}
 use Rattle.bay_core.specs.Standing.{StandsAt}
 use Rattle.bay_core.specs.State.{State, AreServedSets}
 use Rattle.bay_core.proofs.ArriveLaws.{HaveMembers}
-use Rattle.bay_core.proofs.MoveLaws.{IsSilent, again, came-of, rows_after}
+use Rattle.control_core.specs.Tables as tables
+use Rattle.control_core.specs.Tables.{Table}
+use Rattle.bay_core.proofs.MoveLaws.{IsSilent, again, came-quiet, rows_after}
 use Rattle.bay_core.proofs.PartLaws.{parts-left}
 use Rattle.bay_core.proofs.SettingLaws.{IsSetting, set_at, stands-set}
 use Rattle.bay_core.proofs.SingleLaws.{by-outcome, refused-write}
@@ -65,6 +69,7 @@ use Rattle.bay_core.proofs.SingleLaws.{by-outcome, refused-write}
 pub record IsOfGroups (m : Model) (n t : ℕ) (d : Deed) (past : Past) : Type 0 where
   pub silent : IsSilent m n t d past
   pub rows : (rs : List Row) → rows_after d rs ≡ rs
+  pub controls : (u : Table) → tables.after_deed d u ≡ u
   pub block : (b front : ℕ) (k : Block) → after_deed b d front k ≡ k
   pub general : (b : ℕ) → false ≡ is_interrogation b d
   pub purge : (b : ℕ) → false ≡ purges m b d past
@@ -72,19 +77,19 @@ pub record IsOfGroups (m : Model) (n t : ℕ) (d : Deed) (past : Past) : Type 0 
   pub cuts : (b : ℕ) → cuts m b d past ≡ false
 
 of-act : (m : Model) (n t a d g : ℕ) (past : Past) → IsOfGroups m n t (activated a d g) past
-of-act m n t a d g past = record { silent = record { number = tt; puts = λ e. refl; sets = refl }; rows = λ rs. refl; block = λ b front k. refl; general = λ b. refl; purge = λ b. refl; change = λ b. refl; cuts = λ b. refl }
+of-act m n t a d g past = record { silent = record { number = tt; puts = λ e. refl; sets = refl }; rows = λ rs. refl; controls = λ u. refl; block = λ b front k. refl; general = λ b. refl; purge = λ b. refl; change = λ b. refl; cuts = λ b. refl }
 
 of-edit : (m : Model) (n t a d g : ℕ) (past : Past) → IsOfGroups m n t (edited a d g) past
-of-edit m n t a d g past = record { silent = record { number = tt; puts = λ e. refl; sets = refl }; rows = λ rs. refl; block = λ b front k. refl; general = λ b. refl; purge = λ b. refl; change = λ b. refl; cuts = λ b. refl }
+of-edit m n t a d g past = record { silent = record { number = tt; puts = λ e. refl; sets = refl }; rows = λ rs. refl; controls = λ u. refl; block = λ b front k. refl; general = λ b. refl; purge = λ b. refl; change = λ b. refl; cuts = λ b. refl }
 
 of-confirm : (m : Model) (n t a d : ℕ) (past : Past) → IsOfGroups m n t (confirmed a d) past
-of-confirm m n t a d past = record { silent = record { number = tt; puts = λ e. refl; sets = refl }; rows = λ rs. refl; block = λ b front k. refl; general = λ b. refl; purge = λ b. refl; change = λ b. refl; cuts = λ b. refl }
+of-confirm m n t a d past = record { silent = record { number = tt; puts = λ e. refl; sets = refl }; rows = λ rs. refl; controls = λ u. refl; block = λ b front k. refl; general = λ b. refl; purge = λ b. refl; change = λ b. refl; cuts = λ b. refl }
 
 of-nothing : (m : Model) (n t : ℕ) (past : Past) → IsOfGroups m n t nothing past
-of-nothing m n t past = record { silent = record { number = tt; puts = λ e. refl; sets = refl }; rows = λ rs. refl; block = λ b front k. refl; general = λ b. refl; purge = λ b. refl; change = λ b. refl; cuts = λ b. refl }
+of-nothing m n t past = record { silent = record { number = tt; puts = λ e. refl; sets = refl }; rows = λ rs. refl; controls = λ u. refl; block = λ b front k. refl; general = λ b. refl; purge = λ b. refl; change = λ b. refl; cuts = λ b. refl }
 
 of-copy : (m : Model) (n t a x : ℕ) (v : Value) (past : Past) → IsOfGroups m n t (copied a x v) past
-of-copy m n t a x v past = record { silent = record { number = tt; puts = λ e. refl; sets = refl }; rows = λ rs. refl; block = λ b front k. refl; general = λ b. refl; purge = λ b. refl; change = λ b. refl; cuts = λ b. refl }
+of-copy m n t a x v past = record { silent = record { number = tt; puts = λ e. refl; sets = refl }; rows = λ rs. refl; controls = λ u. refl; block = λ b front k. refl; general = λ b. refl; purge = λ b. refl; change = λ b. refl; cuts = λ b. refl }
 
 of-confirmed : (m : Model) (n t a d : ℕ) (on : Bool) (past : Past) → IsOfGroups m n t (if on then confirmed a d else nothing) past
 of-confirmed m n t a d true past = of-confirm m n t a d past
@@ -183,10 +188,9 @@ module _ (z : State) (c : Config) (n t : ℕ) (d : Deed) (past : Past) (groups :
   -- nothing but the groups changed
   pub groups-wrote : StandsAt (record z { groups = groups }) c n (arrival n t ∷ at n t d ∷ past)
   groups-wrote = again (record z { groups = groups }) c n t (at n t d) past (omega arith)
-      (subst (λ rs. StandsAt (record z { rows = rs; groups = groups }) c n (at n t d ∷ past)) (of.rows z.rows)
-      (came-of z c n t d past z.stored z.parts groups of.silent
+      (came-quiet z c n t d past z.stored z.parts groups of.silent of.rows of.controls
       (values.stands-deed z.stored z.stored (configured_model c) t n d past here.values refl (λ x below. ap (λ o. unwrap_or o (attribute z.stored x).held.value) (sym (none x))))
-      (parts-left (configured_model c) n t d past z.parts z.parts (record { note = quiet; cuts = of.cuts }) (λ b q there. (q, there, kept b q)) here.blocks) stand here))
+      (parts-left (configured_model c) n t d past z.parts z.parts (record { note = quiet; cuts = of.cuts }) (λ b q there. (q, there, kept b q)) here.blocks) stand here)
     where
       kept : (b : ℕ) (q : ReportBlock) → record q { block = after_deed b d q.ring.front q.block } ≡ q
       kept b q = ap (λ (k : Block). record q { block = k }) (of.block b q.ring.front q.block)
@@ -218,7 +222,7 @@ module _ (z : State) (served : IsServable z.config) (held : AreHeld z.config z.s
     gives-after : (is_set : Bool) → part_answer a (domain_at z.groups d) part v ≡ Ok is_set → (c : Config) (n t x : ℕ) (past : Past) → StandsAt z c n (arrival n t ∷ past)
         → set_to x (if is_set then active_settings d after else []) ≡ gives (configured_model c) x (part_deed a d part v) past
     gives-after is_set is c n t x past here =
-        part-gives (configured_model c) past z.groups (arrived (configured_model c) past n t z.groups here.groups) (subst (λ (q : Config). IsComplete (configured_model q) z.groups) here.is_config (complete z.config served.controls z.groups fit.framed)) d below
+        part-gives (configured_model c) past z.groups (arrived (configured_model c) past n t z.groups here.groups) (subst (λ (q : Config). IsComplete (configured_model q) z.groups) here.is_config (complete z.config z.groups fit.framed)) d below
         (subst (λ (q : Config). 0 < (groups_of (configured_model q) d).count) here.is_config some) a z.latest x part v is_set is
 
     -- one that sets no attribute
@@ -261,6 +265,7 @@ module _ (z : State) (served : IsServable z.config) (held : AreHeld z.config z.s
                 block = of.block;
                 silent = of.silent;
                 rows = of.rows;
+                controls = of.controls;
               } in
               let there : All (IsThere z.stored) (active_settings d after) = λ k e within. omega (arith, (typed-after k e within).there, held.count) in
               let stands = stands-set rows z c n t deed (active_settings d after) past stored after changes (subst IsServable config served) (subst (λ q. AreServedSets q z.book) config booked) (subst (λ q. AreHeld q stored) config (held-loaded stored set count))
@@ -271,17 +276,25 @@ module _ (z : State) (served : IsServable z.config) (held : AreHeld z.config z.s
   -- ---- an edit copy
 
   module _ (a k : ℕ) (v : Value) (within : k < length z.groups.settings) where
+    -- the number of the copy: the copies stand behind all other attributes
+    abbrev number : ℕ
+    number = copies_from z.stored z.groups + k
+
+    copies-are : copies_from z.stored z.groups ≡ length z.config.attrs + length (generated z.config)
+    copies-are = omega (arith, held.count, settings-count z.config z.groups fit.framed)
+
     abbrev copy_comes : Model → Past → Outcome
-    copy_comes m past = write_attribute m a (length z.config.attrs + k) v (attr_of m (length z.config.attrs + k)).access past
+    copy_comes m past = write_attribute m a number v (attr_of m number).access past
 
     abbrev answer : Result (Unit {0}) ℕ
     answer = copy_answer (holds a (domain_at z.groups (setting_at z.groups k).domain)) (setting_at z.groups k) v
 
     copy-came : (c : Config) (n t : ℕ) (past : Past) → StandsAt z c n (arrival n t ∷ past) → copy_comes (configured_model c) (arrival n t ∷ past) ≡ outcome_by answer (copied a (setting_at z.groups k).attr v)
     copy-came c n t past here =
-        let y = length z.config.attrs + k in
-        ap (λ access. write_attribute (configured_model c) a y v access (arrival n t ∷ past)) (subst (λ (q : Config). (attr_of (configured_model q) y).access ≡ model.edited) here.is_config (twin-edited z.config served.controls z.groups fit.framed k within))
-        ∙ copy-written (configured_model c) z.groups a k y v (arrival n t ∷ past) here.groups within (subst (λ (q : Config). IsTwin (configured_model q) y (setting_at z.groups k)) here.is_config (is-twin z.config served.controls z.groups fit.framed k within))
+        let edited_ : (attr_of (configured_model z.config) number).access ≡ model.edited = subst (λ f. (attr_of (configured_model z.config) (f + k)).access ≡ model.edited) (sym copies-are) (twin-edited z.config z.groups fit.framed k within) in
+        let twin = subst (λ f. IsTwin (configured_model z.config) (f + k) (setting_at z.groups k)) (sym copies-are) (is-twin z.config z.groups fit.framed k within) in
+        ap (λ access. write_attribute (configured_model c) a number v access (arrival n t ∷ past)) (subst (λ (q : Config). (attr_of (configured_model q) number).access ≡ model.edited) here.is_config edited_)
+        ∙ copy-written (configured_model c) z.groups a k number v (arrival n t ∷ past) here.groups within (subst (λ (q : Config). IsTwin (configured_model q) number (setting_at z.groups k)) here.is_config twin)
 
     pub copy-refused : (code : ℕ) → Err code ≡ answer → IsWrite z z copy_comes (Err code)
     copy-refused code is = by-outcome z z copy_comes (λ m past. refused code) (Err code) (λ c n t past here. copy-came c n t past here ∙ ap (λ r. outcome_by r (copied a (setting_at z.groups k).attr v)) (sym is)) (refused-write z code)

@@ -24,17 +24,17 @@ use Rattle.bay_core.specs.Asked.{IsReplyAt}
 use Rattle.bay_core.proofs.AskLaws.{size-told}
 use Rattle.bay_core.specs.State.{State, IsFurnished}
 use Rattle.bay_core.specs.declared.watch.Watch.{Watch}
-use Rattle.bay_core.proofs.BookLaws.{sets-lent}
+use Rattle.bay_core.proofs.BookLaws.{sets-allowed, sets-lent}
 
 pub served-parts : (c : Config) (stored : List Stored) (groups : Grouped) (book : Book) (parts : List ReportBlock) (w : Watch) (octets : Filled ℕ) (room : ℕ) → IsFurnished c stored book parts w octets room → AreGrouped c groups → IsServed c stored groups parts book
 served-parts c stored groups book parts w octets room f fit = record {
-  controls = f.servable.controls;
   grouped = f.servable.grouped;
   framed = fit.framed;
   values = f.values.count;
   blocks = f.count;
   lent = sets-lent c book f.booked.served;
   named = f.booked.named;
+  plain = sets-allowed c book f.booked.served;
 }
 
 -- the reply that they give is that after all points that the state stands for

@@ -1,13 +1,22 @@
 -- the blocks, and the bay, at the arrival of a point and after a deed
 pub mod PartLaws
 pub mod MoveLaws
+-- controls keep their configurations
+pub mod ControlLaws
 -- all members of a data set, and the arrival of a point
 pub mod AllLaws
 pub mod ArriveLaws
 pub mod QuietLaws
 -- what waits for associations, and requests
 pub mod QueueLaws
+pub mod HeardLaws
+pub mod UncalledLaws
 pub mod AskLaws
+pub mod CameLaws
+-- reads of variables
+pub mod IdleLaws
+pub mod TurnLaws
+pub mod ReadLaws
 pub mod LentLaws
 -- names of data sets
 pub mod NameLaws
@@ -27,6 +36,9 @@ pub mod SettingLaws
 -- writes
 pub mod WriteLaws
 pub mod SingleLaws
+pub mod CalledLaws
+pub mod BlameLaws
+pub mod ProcessLaws
 pub mod GroupLaws
 -- reports
 pub mod TakeLaws

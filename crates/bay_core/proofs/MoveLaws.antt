@@ -18,8 +18,11 @@ use Rattle.setting_groups.specs.Grouped.{Grouped}
 use Rattle.setting_groups.specs.Standing.{IsQuiet, Stands as GroupsStand}
 use Rattle.setting_groups.proofs.StandLaws as settings
 use Rattle.assoc_table.specs.Seats.{Row}
-use Rattle.assoc_table.specs.Coming.{nothing_put, came, IsNumbered}
-use Rattle.assoc_table.proofs.StandLaws as associations
+use Rattle.assoc_table.specs.Coming.{Coming, IsComing, nothing_put, came, IsNumbered}
+use Rattle.bay_queues.specs.Queued.{Queued}
+use Rattle.bay_queues.specs.Standing.{Stands as QueuesStand, passed_by}
+use Rattle.bay_queues.proofs.StandLaws as waits
+use Rattle.control_core.specs.Tables.{Table, after_deed}
 use Rattle.window_core.specs.Points.{at}
 use Rattle.report_block.specs.declared.block.ReportBlock.{ReportBlock}
 use Rattle.bay_core.specs.State.{State}
@@ -38,22 +41,52 @@ pub record IsSilent (m : Model) (n t : ℕ) (d : Deed) (past : Past) : Type 0 wh
 abbrev pub rows_after : Deed → List Row → List Row
 rows_after d rows = came d nothing_put rows
 
--- after a deed of a step that is being made, which leaves these values, blocks and setting groups
-pub came-of : (s : State) (c : Config) (n t : ℕ) (d : Deed) (past : Past) (stored : List Stored) (parts : List ReportBlock) (groups : Grouped) → IsSilent (configured_model c) n t d past
+-- what waits in a state, and its controls
+abbrev pub queued : State → Queued
+queued s = record { rows = s.rows; table = s.controls }
+
+pub queues-stand : (s : State) (c : Config) (n : ℕ) (past : Past) → StandsAt s c n past → QueuesStand (queued s) (configured_model c) past
+queues-stand s c n past st = record { associations = st.associations; controls = st.controls }
+
+-- after a deed of a step that is being made, which leaves these queues, values, blocks and setting groups
+pub came-stand : (s : State) (c : Config) (n t : ℕ) (d : Deed) (past : Past) (q : Queued) (stored : List Stored) (parts : List ReportBlock) (groups : Grouped) → QueuesStand q (configured_model c) (at n t d ∷ past) → dynamic (at n t d ∷ past) ≡ dynamic past
     → ValuesStand stored (configured_model c) (at n t d ∷ past) → BlocksStand (configured_model c) (at n t d ∷ past) parts → GroupsStand groups (configured_model c) (at n t d ∷ past) → StandsAt s c n (arrival n t ∷ past)
-    → StandsAt (record s { stored = stored; parts = parts; rows = rows_after d s.rows; groups = groups }) c n (at n t d ∷ past)
-came-of s c n t d past stored parts groups silent values blocks held st = record {
+    → StandsAt (record s { stored = stored; parts = parts; rows = q.rows; groups = groups; controls = q.table }) c n (at n t d ∷ past)
+came-stand s c n t d past q stored parts groups wait same values blocks held st = record {
   is_config = st.is_config;
   is_steps = st.is_steps;
   is_latest = st.is_latest;
   values = values;
-  associations = associations.stands-deed (configured_model c) t n d past s.rows nothing_put st.associations
-      (record { number = silent.number; puts = silent.puts 0; for_one = λ some. absurd (some refl); for_no_other = λ e other. silent.puts e });
+  associations = wait.associations;
   groups = held;
-  sets = st.sets ∙ ap (λ (all : List DataSet). (configured_model c).sets ++ all) (sym silent.sets);
+  controls = wait.controls;
+  sets = st.sets ∙ ap (λ (all : List DataSet). (configured_model c).sets ++ all) (sym same);
   configured = st.configured;
   blocks = blocks;
 }
+
+-- which puts this
+pub came-with : (s : State) (c : Config) (n t : ℕ) (d : Deed) (past : Past) (k : Coming) (stored : List Stored) (parts : List ReportBlock) (groups : Grouped) → IsComing k (configured_model c) n d past → dynamic (at n t d ∷ past) ≡ dynamic past
+    → ValuesStand stored (configured_model c) (at n t d ∷ past) → BlocksStand (configured_model c) (at n t d ∷ past) parts → GroupsStand groups (configured_model c) (at n t d ∷ past) → StandsAt s c n (arrival n t ∷ past)
+    → StandsAt (record s { stored = stored; parts = parts; rows = came d k s.rows; groups = groups; controls = after_deed d s.controls }) c n (at n t d ∷ past)
+came-with s c n t d past k stored parts groups coming same values blocks held st = came-stand s c n t d past (passed_by d k (queued s)) stored parts groups
+    (waits.stands-deed (configured_model c) n t d k past (queued s) (queues-stand s c n (arrival n t ∷ past) st) coming) same values blocks held st
+
+-- which puts nothing
+pub came-of : (s : State) (c : Config) (n t : ℕ) (d : Deed) (past : Past) (stored : List Stored) (parts : List ReportBlock) (groups : Grouped) → IsSilent (configured_model c) n t d past
+    → ValuesStand stored (configured_model c) (at n t d ∷ past) → BlocksStand (configured_model c) (at n t d ∷ past) parts → GroupsStand groups (configured_model c) (at n t d ∷ past) → StandsAt s c n (arrival n t ∷ past)
+    → StandsAt (record s { stored = stored; parts = parts; rows = rows_after d s.rows; groups = groups; controls = after_deed d s.controls }) c n (at n t d ∷ past)
+came-of s c n t d past stored parts groups silent values blocks held st = came-with s c n t d past nothing_put stored parts groups
+    (record { number = silent.number; puts = silent.puts 0; for_one = λ some. absurd (some refl); for_no_other = λ e other. silent.puts e }) silent.sets values blocks held st
+
+-- and opens, ends and takes nothing and touches no control
+pub came-quiet : (s : State) (c : Config) (n t : ℕ) (d : Deed) (past : Past) (stored : List Stored) (parts : List ReportBlock) (groups : Grouped) → IsSilent (configured_model c) n t d past → ((rs : List Row) → rows_after d rs ≡ rs) → ((u : Table) → after_deed d u ≡ u)
+    → ValuesStand stored (configured_model c) (at n t d ∷ past) → BlocksStand (configured_model c) (at n t d ∷ past) parts → GroupsStand groups (configured_model c) (at n t d ∷ past) → StandsAt s c n (arrival n t ∷ past)
+    → StandsAt (record s { stored = stored; parts = parts; groups = groups }) c n (at n t d ∷ past)
+came-quiet s c n t d past stored parts groups silent same stay values blocks held st =
+    subst (λ (rs : List Row). StandsAt (record s { stored = stored; parts = parts; rows = rs; groups = groups }) c n (at n t d ∷ past)) (same s.rows)
+    (subst (λ (u : Table). StandsAt (record s { stored = stored; parts = parts; rows = rows_after d s.rows; groups = groups; controls = u }) c n (at n t d ∷ past)) (stay s.controls)
+    (came-of s c n t d past stored parts groups silent values blocks held st))
 
 -- the step is counted
 pub counts : (s : State) (c : Config) (n : ℕ) (past : Past) → StandsAt s c n past → StandsAt (record s { steps = suc s.steps }) c (suc n) past
@@ -64,6 +97,7 @@ counts s c n past st = record {
   values = st.values;
   associations = st.associations;
   groups = st.groups;
+  controls = st.controls;
   sets = st.sets;
   configured = st.configured;
   blocks = st.blocks;
@@ -71,29 +105,31 @@ counts s c n past st = record {
 
 -- a further point of the step: its arrival brings nothing
 pub again : (s : State) (c : Config) (n t : ℕ) (q : Point) (past : Past) → t ≤ now (q ∷ past) → StandsAt s c n (q ∷ past) → StandsAt s c n (arrival n t ∷ q ∷ past)
-again s c n t q past same st = record {
-  is_config = st.is_config;
-  is_steps = st.is_steps;
-  is_latest = omega (arith, same, st.is_latest);
-  values = st.values;
-  associations = associations.stands-arrival (configured_model c) t n (q ∷ past) s.rows st.associations;
-  groups = settings.arrives (configured_model c) (q ∷ past) n t s.groups st.groups;
-  sets = st.sets;
-  configured = st.configured;
-  blocks = λ b part there. again-stands (configured_model c) b t n q past part same (st.blocks b part there);
-}
+again s c n t q past same st =
+    let wait = waits.stands-again (configured_model c) n t q past (queued s) same (queues-stand s c n (q ∷ past) st) in record {
+      is_config = st.is_config;
+      is_steps = st.is_steps;
+      is_latest = omega (arith, same, st.is_latest);
+      values = st.values;
+      associations = wait.associations;
+      groups = settings.arrives (configured_model c) (q ∷ past) n t s.groups st.groups;
+      controls = wait.controls;
+      sets = st.sets;
+      configured = st.configured;
+      blocks = λ b part there. again-stands (configured_model c) b t n q past part same (st.blocks b part there);
+    }
 
 -- after the deed of a step, which leaves these values, blocks and setting groups
 pub done : (s : State) (c : Config) (n t : ℕ) (d : Deed) (past : Past) (stored : List Stored) (parts : List ReportBlock) (groups : Grouped) → IsSilent (configured_model c) n t d past
     → ValuesStand stored (configured_model c) (at n t d ∷ past) → BlocksStand (configured_model c) (at n t d ∷ past) parts → GroupsStand groups (configured_model c) (at n t d ∷ past) → StandsAt s c n (arrival n t ∷ past)
-    → StandsAt (record s { steps = suc s.steps; stored = stored; parts = parts; rows = rows_after d s.rows; groups = groups }) c (suc n) (at n t d ∷ past)
+    → StandsAt (record s { steps = suc s.steps; stored = stored; parts = parts; rows = rows_after d s.rows; groups = groups; controls = after_deed d s.controls }) c (suc n) (at n t d ∷ past)
 done s c n t d past stored parts groups silent values blocks held st =
-    counts (record s { stored = stored; parts = parts; rows = rows_after d s.rows; groups = groups }) c n (at n t d ∷ past) (came-of s c n t d past stored parts groups silent values blocks held st)
+    counts (record s { stored = stored; parts = parts; rows = rows_after d s.rows; groups = groups; controls = after_deed d s.controls }) c n (at n t d ∷ past) (came-of s c n t d past stored parts groups silent values blocks held st)
 
 -- a step whose deed leaves all values, and the entries of all blocks
 pub passed : (s : State) (c : Config) (n t : ℕ) (d : Deed) (past : Past) (parts : List ReportBlock) (groups : Grouped) → IsSilent (configured_model c) n t d past
     → ((x : ℕ) → gives (configured_model c) x d past ≡ None) → IsApart (configured_model c) n t d past → AreLeft d s.parts parts → GroupsStand groups (configured_model c) (at n t d ∷ past) → StandsAt s c n (arrival n t ∷ past)
-    → StandsAt (record s { steps = suc s.steps; parts = parts; rows = rows_after d s.rows; groups = groups }) c (suc n) (at n t d ∷ past)
+    → StandsAt (record s { steps = suc s.steps; parts = parts; rows = rows_after d s.rows; groups = groups; controls = after_deed d s.controls }) c (suc n) (at n t d ∷ past)
 passed s c n t d past parts groups silent same apart left held here =
     done s c n t d past s.stored parts groups silent (values-same here.values) (parts-left (configured_model c) n t d past s.parts parts apart left here.blocks) held here
   where

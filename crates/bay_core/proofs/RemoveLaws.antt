@@ -31,6 +31,7 @@ use Rattle.bay_core.specs.Deleted.{is_reported}
 use Rattle.bay_core.specs.State.{IsBooked, IsFurnished}
 use Rattle.bay_core.specs.Watched.{AreBlank, members_in, options_in}
 use Rattle.bay_core.specs.Whole.{IsWhole}
+use Rattle.control_core.specs.Tables.{Table}
 use Rattle.bay_core.proofs.BookLaws.{some-mapped}
 use Rattle.bay_core.proofs.QuietLaws.{quiet-map}
 
@@ -205,12 +206,13 @@ module _ (c : Config) (stored : List Stored) (book : Book) (parts : List ReportB
     changes = f.changes;
   }
 
-pub whole-deleted : (c : Config) (stored : List Stored) (groups : Grouped) (book : Book) (parts new : List ReportBlock) (w : Watch) (octets : Filled ℕ) (room latest : ℕ) (dues : List (Option ℕ)) (events : EventRoom) (n : SetName) (k : ℕ)
+pub whole-deleted : (c : Config) (stored : List Stored) (groups : Grouped) (book : Book) (parts new : List ReportBlock) (w : Watch) (octets : Filled ℕ) (room latest : ℕ) (dues : List (Option ℕ)) (events : EventRoom) (controls : Table) (n : SetName) (k : ℕ)
     → number_named n book ≡ Some k → book.configured ≤ k → is_reported parts n ≡ false → new ≡ map (renumbered k) parts
-    → IsWhole c stored groups book parts w octets room latest dues events → IsWhole c stored groups (after_delete k book) new w octets room latest dues events
-whole-deleted c stored groups book parts new w octets room latest dues events n k is from unused are whole = record {
+    → IsWhole c stored groups book parts w octets room latest dues events controls → IsWhole c stored groups (after_delete k book) new w octets room latest dues events controls
+whole-deleted c stored groups book parts new w octets room latest dues events controls n k is from unused are whole = record {
   furnished = subst (λ ps. IsFurnished c stored (after_delete k book) ps w octets room) (sym are) (furnished-deleted c stored book parts w octets room whole.furnished n k is from unused);
   quiet = quiet-map latest dues (renumbered k) (λ p. refl) parts new are whole.quiet;
   grouped = whole.grouped;
   roomy = whole.roomy;
+  controls = whole.controls;
 }

@@ -34,7 +34,8 @@ use Rattle.entry_ring.proofs.ring.Ring.TheSendSync as ring
 use Rattle.brcb_state.proofs.block.Block.TheSendSync as block
 use Rattle.bay_values.proofs.values.Values.TheSendSync as values
 use Rattle.setting_groups.proofs.groups.Groups.TheSendSync as groups
-use Rattle.bay_core.specs.contracts.queues.Queues as Queues
+use Rattle.control_core.proofs.controls.Controls.TheSendSync as controls
+use Rattle.bay_queues.specs.contracts.queues.Queues as Queues
 use Rattle.report_block.specs.contracts.block.ReportBlock as ReportBlock
 use Rattle.window_core.proofs.window.Window.TheSendSync as window
 use Rattle.report_block.proofs.room.Rooms.TheSendSync as rooms
@@ -42,7 +43,7 @@ use Rattle.bay_core.proofs.dues.Dues.TheSendSync as dues
 use Rattle.bay_core.specs.contracts.bay.Bay as Bay
 
 queues_send : IsSend Queues.the_row
-queues_send = search (associations_send, crosses, sendable) depth 60
+queues_send = search (associations_send, controls.the_send, crosses, sendable) depth 60
 
 part_send : IsSend ReportBlock.the_row
 part_send = search (ring.the_send, block.the_field_send, window.the_send, moment.the_send, crosses, sendable) depth 60

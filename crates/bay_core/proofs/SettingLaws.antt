@@ -62,7 +62,9 @@ use Rattle.bay_core.proofs.ArriveLaws.{HaveMembers}
 use Rattle.bay_values.proofs.ChangeLaws.{Sets, IsThere, values-stand, are-changes, settings-there, typed-settings, held-after}
 use Rattle.bay_core.proofs.EventLaws.{note-kept, note-readable, all-writable}
 use Rattle.bay_core.proofs.FurnishLaws.{furnished-map}
-use Rattle.bay_core.proofs.MoveLaws.{IsSilent, rows_after, came-of, counts, accepted-as}
+use Rattle.control_core.specs.Tables as tables
+use Rattle.control_core.specs.Tables.{Table}
+use Rattle.bay_core.proofs.MoveLaws.{IsSilent, rows_after, came-quiet, counts, accepted-as}
 use Rattle.bay_core.proofs.ServedLaws.{served-few}
 use Rattle.bay_core.proofs.ShapeLaws.{AreServed, node_shapes, nodes_named, served_members, served-set, sets_in, members-named, are-shapes}
 
@@ -80,6 +82,7 @@ pub record IsSetting (m : Model) (n t : ℕ) (d : Deed) (past : Past) (settings 
   pub block : (b front : ℕ) (k : Block) → after_deed b d front k ≡ k
   pub silent : IsSilent m n t d past
   pub rows : (rs : List Row) → rows_after d rs ≡ rs
+  pub controls : (u : Table) → tables.after_deed d u ≡ u
 
 pub process-sets : (m : Model) (n t : ℕ) (settings : List Setting) (past : Past) → IsSetting m n t (valued settings) past settings
 process-sets m n t settings past = record {
@@ -91,6 +94,7 @@ process-sets m n t settings past = record {
   block = λ b front k. refl;
   silent = record { number = tt; puts = λ a. refl; sets = refl };
   rows = λ rs. refl;
+  controls = λ u. refl;
 }
 
 -- a client's write of an attribute
@@ -107,6 +111,7 @@ client-sets m n t a x v past = record {
   block = λ b front k. refl;
   silent = record { number = tt; puts = λ e. refl; sets = refl };
   rows = λ rs. refl;
+  controls = λ u. refl;
 }
 
 -- ---- a block
@@ -174,10 +179,9 @@ module _ (rows : List NodeRow) where
       let values = values-stand m n t d past a.stored stored settings sets.sets here.values set count in
       let are = are-changes c d past a.stored settings changes sets.sets here.values there made in
       let after : List ReportBlock = after_events rows a.book stored changes a.latest a.steps a.parts in
-      subst (λ rs. StandsAt (record a { stored = stored; parts = after; rows = rs; groups = groups }) c n (at n t d ∷ past)) (sets.rows a.rows)
-      (came-of a c n t d past stored after groups sets.silent values
+      came-quiet a c n t d past stored after groups sets.silent sets.rows sets.controls values
       (subst (BlocksStand m (at n t d ∷ past)) (ap₂ (λ (now step : ℕ). after_events rows a.book stored changes now step a.parts) (sym here.is_latest) (sym here.is_steps))
-      (parts-set rows a.book c n t d settings past a.parts stored changes served booked held sets values are has here.sets here.blocks)) grouped here)
+      (parts-set rows a.book c n t d settings past a.parts stored changes served booked held sets values are has here.sets here.blocks)) grouped here
 
   -- the same of a step of a history, with what is known of the configuration that the state has
   pub set-for : (s a t : State) (c : Config) (h : History) (moment actor : ℕ) (settings : List Setting) (stored : List Stored) (changes : List Change)

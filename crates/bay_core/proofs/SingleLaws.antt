@@ -3,39 +3,43 @@ use Rattle.std.proofs.Common.{◌≡◌, ◌<◌, ◌∙◌, ℕ, zero, suc, Boo
 use Rattle.std.specs.Prelude.{slice_get, slice_set, ◌&&◌, ◌==◌, ◌||◌, codes}
 use Rattle.std.specs.Option.{option_map}
 use Rattle.std.specs.Str.{bytes_eq}
-use Rattle.std.proofs.lemmas.List.{length-set, map-append}
-use Rattle.std.proofs.Common.{length-append}
+use Rattle.std.proofs.lemmas.List.{length-map, length-set, map-append}
+use Rattle.std.proofs.Common.{append_assoc, length-append}
 use Rattle.std.proofs.lemmas.Bool.Decides.{eqb_tells}
-use Rattle.std.proofs.lemmas.List.Elements.{All-nil, All-cons}
+use Rattle.std.specs.List.{All}
+use Rattle.std.proofs.lemmas.List.Elements.{All-nil, All-cons, All-append, All-head, All-tail}
 use Rattle.list_laws.proofs.Options.{some_is}
 use Rattle.list_laws.proofs.Places.{at_own, same-number}
 use Rattle.object_names.specs.declared.named.What.{What}
-use Rattle.object_names.specs.declared.named.What.TheVariants as whats
 use Rattle.object_names.specs.Seen.{role_seen}
 use Rattle.sv_base.specs.declared.numbers.NodeId.{NodeId}
 use Rattle.bay_model.specs.declared.request.Write.{Write}
 use Rattle.sv_base.specs.declared.config.Config.{Config}
 use Rattle.sv_base.specs.declared.config.AttrDef.{AttrDef}
+use Rattle.sv_base.specs.declared.config.CtlDef.{CtlDef}
 use Rattle.sv_base.specs.Same.{is_same}
 use Rattle.sv_base.specs.declared.numbers.AssocNo.{AssocNo}
 use Rattle.sv_base.specs.declared.value.Value.{Value}
-use Rattle.bay_rooms.specs.Kinds.{is_kind, is_in_range}
+use Rattle.bay_rooms.specs.Kinds.{is_kind, is_in_range, kind_of}
 use Rattle.bay_model.specs.declared.components.Comp.{Comp}
-use Rattle.bay_model.specs.declared.components.SettingComp.{SettingComp}
 use Rattle.sv_base.specs.declared.config.SgDef.{SgDef}
 use Rattle.setting_groups.specs.Opened.{IsGrouped}
-use Rattle.setting_groups.proofs.FirstLaws.{groups-there}
+use Rattle.setting_groups.specs.Frames.{IsFramed}
+use Rattle.setting_groups.specs.Grouped.{Grouped}
+use Rattle.setting_groups.proofs.FirstLaws.{groups-there, settings-count}
+use Rattle.bay_replies.specs.Given.{copies_from}
 use Rattle.bay_replies.specs.Plain.{HasGroups, IsPlainRole}
 use Rattle.bay_replies.proofs.NodeLaws.{each-among, node-plain}
 use Rattle.bay_model.specs.declared.flags.Change.{Change}
 use Rattle.bay_model.specs.declared.tables.NodeRow.{NodeRow}
-use Rattle.bay_model.specs.Attributes.{access_of, attributes, attrs_defined, attrs_generated, twins}
+use Rattle.bay_model.specs.Attributes.{access_of, attributes, attr_defined, attrs_defined, attrs_generated, twins}
+use Rattle.bay_model.specs.Generated.{Parameter, parameters}
 use Rattle.bay_model.specs.BlockWrites.{write_component}
 use Rattle.bay_model.specs.Lookups.{attr_of, node_of, no_attr}
 use Rattle.bay_model.specs.Model as model
 use Rattle.bay_model.specs.Model.{Model, Access, Attr, Role}
 use Rattle.bay_model.specs.Named.{configured_model}
-use Rattle.bay_model.specs.NamedLines.{domain_number}
+use Rattle.bay_model.specs.NamedLines.{domain_number, generated}
 use Rattle.bay_model.specs.Outcomes.{Outcome, did, refused, deed_of, code_of}
 use Rattle.bay_model.specs.Points.{Deed, Past, put}
 use Rattle.bay_model.specs.Settings.{set_to}
@@ -68,9 +72,9 @@ use Rattle.bay_values.proofs.ChangeLaws.{IsThere, held-after}
 use Rattle.bay_core.proofs.WriteLaws.{component-wrote}
 use Rattle.bay_core.proofs.SettingLaws.{one_set, client-sets, set_at, stands-set}
 
--- ---- the attribute of a line doesn't stand under SE
+-- ---- the attribute of a line or of a control doesn't stand under SE
 
-abbrev IsOwn : Access → Type 0
+abbrev pub IsOwn : Access → Type 0
 IsOwn model.edited = ⊥
 IsOwn _ = Unit {0}
 
@@ -81,21 +85,49 @@ own-access fc = by (bytes_eq fc (codes "SG")) (bytes_eq fc (codes "CF") || bytes
   by false true = tt
   by false false = tt
 
-own-at : (c : Config) (y : ℕ) (ls : List AttrDef) (others : List Attr) (x : ℕ) → x < length ls → IsOwn (unwrap_or (slice_get (attrs_defined c y ls ++ others) x) no_attr).access
-own-at c y [] others x below = absurd (omega (arith, below))
-own-at c y (a ∷ ls) others zero below = own-access a.fc
-own-at c y (a ∷ ls) others (suc x) below = own-at c (1 + y) ls others x (omega (arith, below))
+abbrev IsOwnAttr : Attr → Type 0
+IsOwnAttr a = IsOwn a.access
 
-own-line : (c : Config) (x : ℕ) → x < length c.attrs → IsOwn (attr_of (configured_model c) x).access
-own-line c x below = own-at c 0 c.attrs (flat_map (attrs_generated c) c.controls ++ twins c 0 c.attrs) x below
+own-lines : (c : Config) (y : ℕ) (ls : List AttrDef) → All IsOwnAttr (attrs_defined c y ls)
+own-lines c y [] = All-nil IsOwnAttr
+own-lines c y (a ∷ ls) = All-cons IsOwnAttr (attr_defined c y a) (attrs_defined c (1 + y) ls) (own-access a.fc) (own-lines c (1 + y) ls)
 
--- it is one of those that have values
-pub line-there : (c : Config) (stored : List Stored) → AreHeld c stored → (x : ℕ) → x < length c.attrs → x < length stored
-line-there c stored held x line = omega (arith, line, held.count, length-append (attrs_defined c 0 c.attrs) (flat_map (attrs_generated c) c.controls ++ twins c 0 c.attrs), lines-count 0 c.attrs)
-  where
-    lines-count : (y : ℕ) (ls : List AttrDef) → length (attrs_defined c y ls) ≡ length ls
-    lines-count y [] = refl
-    lines-count y (a ∷ ls) = ap suc (lines-count (1 + y) ls)
+abbrev generated_as : Config → CtlDef → Parameter → Attr
+generated_as c k p = record { access = model.reported; kind = kind_of p.kind; dchg = false; qchg = false; dupd = false; initial = p.value ∷ []; domain = domain_number c k.domain; original = 0 }
+
+own-parameters : (c : Config) (k : CtlDef) (ps : List Parameter) → All IsOwnAttr (map (generated_as c k) ps)
+own-parameters c k [] = All-nil IsOwnAttr
+own-parameters c k (p ∷ ps) = All-cons IsOwnAttr (generated_as c k p) (map (generated_as c k) ps) tt (own-parameters c k ps)
+
+own-generated : (c : Config) (ks : List CtlDef) → All IsOwnAttr (flat_map (attrs_generated c) ks)
+own-generated c [] = All-nil IsOwnAttr
+own-generated c (k ∷ ks) = All-append IsOwnAttr (attrs_generated c k) (flat_map (attrs_generated c) ks) (own-parameters c k (parameters k)) (own-generated c ks)
+
+generated-count : (c : Config) (ks : List CtlDef) → length (flat_map (attrs_generated c) ks) ≡ length (flat_map parameters ks)
+generated-count c [] = refl
+generated-count c (k ∷ ks) = omega (arith, length-append (attrs_generated c k) (flat_map (attrs_generated c) ks), length-append (parameters k) (flat_map parameters ks), length-map (parameters k) (generated_as c k), generated-count c ks)
+
+lines-count : (c : Config) (y : ℕ) (ls : List AttrDef) → length (attrs_defined c y ls) ≡ length ls
+lines-count c y [] = refl
+lines-count c y (a ∷ ls) = ap suc (lines-count c (1 + y) ls)
+
+own-among : (xs ys : List Attr) (x : ℕ) → x < length xs → All IsOwnAttr xs → IsOwn (unwrap_or (slice_get (xs ++ ys) x) no_attr).access
+own-among [] ys x below all = absurd (omega (arith, below))
+own-among (a ∷ xs) ys zero below all = All-head IsOwnAttr a xs all
+own-among (a ∷ xs) ys (suc x) below all = own-among xs ys x (omega (arith, below)) (All-tail IsOwnAttr a xs all)
+
+-- where the edit copies begin
+pub copies-from : (c : Config) (stored : List Stored) (groups : Grouped) → AreHeld c stored → IsFramed c groups → copies_from stored groups ≡ length c.attrs + length (generated c)
+copies-from c stored groups held framed = omega (arith, held.count, settings-count c groups framed)
+
+pub own-at : (c : Config) (stored : List Stored) (groups : Grouped) → AreHeld c stored → IsFramed c groups → (x : ℕ) → x < copies_from stored groups → IsOwn (attr_of (configured_model c) x).access
+own-at c stored groups held framed x below =
+    let lines : List Attr = attrs_defined c 0 c.attrs in
+    let controls : List Attr = flat_map (attrs_generated c) c.controls in
+    subst (λ (l : List Attr). IsOwn (unwrap_or (slice_get l x) no_attr).access) (append_assoc lines controls (twins c 0 c.attrs))
+    (own-among (lines ++ controls) (twins c 0 c.attrs) x
+    (omega (arith, below, copies-from c stored groups held framed, length-append lines controls, lines-count c 0 c.attrs, generated-count c c.controls))
+    (All-append IsOwnAttr lines controls (own-lines c 0 c.attrs) (own-generated c c.controls)))
 
 -- ---- what comes of a client's write of an attribute
 
@@ -159,16 +191,16 @@ abbrev pub attribute_comes : ℕ → ℕ → Value → Model → Past → Outcom
 attribute_comes a x v m past = write_attribute m a x v (attr_of m x).access past
 
 module _ (z : State) (served : IsServable z.config) (held : AreHeld z.config z.stored) (x : ℕ) (v : Value) (there : x < length z.stored) where
-  comes : x < length z.config.attrs → (a : ℕ) (c : Config) (n t : ℕ) (past : Past) → StandsAt z c n (arrival n t ∷ past)
+  comes : IsOwn (attr_of (configured_model z.config) x).access → (a : ℕ) (c : Config) (n t : ℕ) (past : Past) → StandsAt z c n (arrival n t ∷ past)
       → attribute_comes a x v (configured_model c) (arrival n t ∷ past) ≡ comes_by a x v (without_change (outcome (attribute z.stored x) v true))
-  comes line a c n t past here =
+  comes own a c n t past here =
       subst (λ (d : Config). attribute_comes a x v (configured_model d) (arrival n t ∷ past) ≡ comes_by a x v (without_change (outcome (attribute z.stored x) v true))) here.is_config
-      (attribute-told (configured_model z.config) a x v (attribute z.stored x) (attr_of (configured_model z.config) x).access (arrival n t ∷ past) (kind-told z.config z.stored x served held there) (held.writable x there) (own-line z.config x line))
+      (attribute-told (configured_model z.config) a x v (attribute z.stored x) (attr_of (configured_model z.config) x).access (arrival n t ∷ past) (kind-told z.config z.stored x served held there) (held.writable x there) own)
 
-  pub attribute-refused : x < length z.config.attrs → (fault : SetFault) (a : ℕ) → Err fault ≡ without_change (outcome (attribute z.stored x) v true) → IsWrite z z (attribute_comes a x v) (Err (set_code fault))
-  attribute-refused line fault a is =
+  pub attribute-refused : IsOwn (attr_of (configured_model z.config) x).access → (fault : SetFault) (a : ℕ) → Err fault ≡ without_change (outcome (attribute z.stored x) v true) → IsWrite z z (attribute_comes a x v) (Err (set_code fault))
+  attribute-refused own fault a is =
       by-outcome z z (attribute_comes a x v) (λ m past. refused (set_code fault)) (Err (set_code fault))
-      (λ c n t past here. comes line a c n t past here ∙ ap (comes_by a x v) (sym is)) (refused-write z (set_code fault))
+      (λ c n t past here. comes own a c n t past here ∙ ap (comes_by a x v) (sym is)) (refused-write z (set_code fault))
 
   -- what becomes of the values is what one setting makes of them
   pub one-set-values : (y : ℕ) → attribute (slice_set z.stored x (with_value v (attribute z.stored x))) y ≡ last_set (one_set x v) y (attribute z.stored y)
@@ -196,11 +228,11 @@ module _ (z : State) (served : IsServable z.config) (held : AreHeld z.config z.s
   one-held stored is sound ok = subst (AreHeld z.config) (sym is)
       (held-after z.config z.stored (slice_set z.stored x (with_value v (attribute z.stored x))) (one_set x v) held (one-typed sound ok) one-set-values (length-set z.stored x (with_value v (attribute z.stored x))))
 
-  pub attribute-set : x < length z.config.attrs → (u : State) (rows : List NodeRow) (stored : List Stored) (changes : List Change) (a : ℕ) → AreServedSets z.config z.book → HaveMembers rows z.book z.config z.parts → is_sound v ≡ true
+  pub attribute-set : IsOwn (attr_of (configured_model z.config) x).access → (u : State) (rows : List NodeRow) (stored : List Stored) (changes : List Change) (a : ℕ) → AreServedSets z.config z.book → HaveMembers rows z.book z.config z.parts → is_sound v ≡ true
       → Ok tt ≡ without_change (outcome (attribute z.stored x) v true) → stored ≡ slice_set z.stored x (with_value v (attribute z.stored x)) → changes ≡ change_from z.config z.stored x v ∷ []
       → u ≡ set_at rows z stored z.groups changes → IsWrite z u (attribute_comes a x v) (Ok tt)
-  attribute-set line u rows stored changes a booked has sound ok values are is = by-outcome z u (attribute_comes a x v) (λ m past. did (put a x v)) (Ok tt)
-      (λ c n t past here. comes line a c n t past here ∙ ap (comes_by a x v) (sym ok)) (λ c n t past here. (
+  attribute-set own u rows stored changes a booked has sound ok values are is = by-outcome z u (attribute_comes a x v) (λ m past. did (put a x v)) (Ok tt)
+      (λ c n t past here. comes own a c n t past here ∙ ap (comes_by a x v) (sym ok)) (λ c n t past here. (
         refl,
         let same = here.is_config in
             let set = subst (λ l. (y : ℕ) → attribute l y ≡ last_set (one_set x v) y (attribute z.stored y)) (sym values) one-set-values in
@@ -231,11 +263,11 @@ by-role z u a n v r code is write = by-outcome z u (λ m past. write_node m a n 
 
 -- ---- several, each after those before it
 
-outcomes-more : (m : Model) (a n t : ℕ) (ss : List Single) (s : Single) (past : Past) → outcomes m a n t (ss ++ s ∷ []) past ≡ outcomes m a n t ss past ++ outcome_at m a n t s (after_singles m a n t ss past) ∷ []
+pub outcomes-more : (m : Model) (a n t : ℕ) (ss : List Single) (s : Single) (past : Past) → outcomes m a n t (ss ++ s ∷ []) past ≡ outcomes m a n t ss past ++ outcome_at m a n t s (after_singles m a n t ss past) ∷ []
 outcomes-more m a n t [] s past = refl
 outcomes-more m a n t (x ∷ ss) s past = ap (λ l. outcome_at m a n t x past ∷ l) (outcomes-more m a n t ss s (after_single m a n t x past))
 
-after-more : (m : Model) (a n t : ℕ) (ss : List Single) (s : Single) (past : Past) → after_singles m a n t (ss ++ s ∷ []) past ≡ after_single m a n t s (after_singles m a n t ss past)
+pub after-more : (m : Model) (a n t : ℕ) (ss : List Single) (s : Single) (past : Past) → after_singles m a n t (ss ++ s ∷ []) past ≡ after_single m a n t s (after_singles m a n t ss past)
 after-more m a n t [] s past = refl
 after-more m a n t (x ∷ ss) s past = after-more m a n t ss s (after_single m a n t x past)
 
@@ -255,18 +287,9 @@ one-write-more z y u a ss s codes_ code before own = λ c n t past here.
 
 -- ---- what stands at a node
 
-pub role-told : (c : Config) (n : ℕ) (w : What) → c.controls ≡ [] → IsGrouped c → role_seen w ≡ (node_of (configured_model c) n).role → IsPlainRole (length (attributes c)) (length c.blocks) (HasGroups c) (role_seen w)
-role-told c n w none grouped is = subst (IsPlainRole (length (attributes c)) (length c.blocks) (HasGroups c)) (sym is)
-    (node-plain c none (HasGroups c) (each-among (λ (g : SgDef). HasGroups c (domain_number c g.domain)) c.groups (groups-there c grouped)) n).role
-
-pub no-other : (attrs blocks : ℕ) (G : ℕ → Type 0) (w : What) → IsPlainRole attrs blocks G (role_seen w) → ((x : ℕ) → w ≡ whats.Attribute x → ⊥) → ((b : ℕ) (comp : Comp) → w ≡ whats.Component b comp → ⊥) → ((d : ℕ) (part : SettingComp) → w ≡ whats.Setting d part → ⊥) → (w ≡ whats.Structure → ⊥) → ⊥
-no-other attrs blocks G (whats.Attribute x) is one two three four = one x refl
-no-other attrs blocks G (whats.Component b comp) is one two three four = two b comp refl
-no-other attrs blocks G whats.Structure is one two three four = four refl
-no-other attrs blocks G (whats.Setting d part) is one two three four = three d part refl
-no-other attrs blocks G whats.Withheld is one two three four = absurd is
-no-other attrs blocks G (whats.Selecting k) is one two three four = absurd is
-no-other attrs blocks G (whats.Calling k call) is one two three four = absurd is
+pub role-told : (c : Config) (n : ℕ) (w : What) → IsGrouped c → role_seen w ≡ (node_of (configured_model c) n).role → IsPlainRole (length (attributes c)) (length c.blocks) (length c.controls) (HasGroups c) (role_seen w)
+role-told c n w grouped is = subst (IsPlainRole (length (attributes c)) (length c.blocks) (length c.controls) (HasGroups c)) (sym is)
+    (node-plain c (HasGroups c) (each-among (λ (g : SgDef). HasGroups c (domain_number c g.domain)) c.groups (groups-there c grouped)) n).role
 
 -- ---- one member more
 

@@ -1,8 +1,8 @@
 -- A bay after a Take.
-use Rattle.std.proofs.Common.{◌≡◌, ℕ, suc, true, List, [], ◌∷◌, map, drop, Option, None, Some, length, refl, ap, arith, ◌∙◌, sym, subst, slice_set, inl, inr}
+use Rattle.std.proofs.Common.{◌≡◌, ℕ, suc, max, true, List, [], ◌∷◌, map, drop, Option, None, Some, length, refl, ap, arith, ◌∙◌, sym, subst, slice_set, inl, inr}
 use Rattle.std.specs.Prelude.{slice_get, ◌==◌, if◌then◌else◌}
 use Rattle.list_laws.proofs.Places.{got-set, same-number, other-number}
-use Rattle.std.specs.Option.{option_map}
+use Rattle.std.specs.Option.{option_and_then, option_map}
 use Rattle.std.proofs.lemmas.List.{length-map}
 use Rattle.std.proofs.lemmas.Bool.Decides.{nat_tests}
 use Rattle.sv_base.specs.declared.config.Config.{Config}
@@ -22,17 +22,23 @@ use Rattle.bay_model.specs.Configured.{block_defined}
 use Rattle.bay_model.specs.Model.{Model, Parameters}
 use Rattle.bay_model.specs.Named.{configured_model}
 use Rattle.bay_model.specs.Notes.{Kept}
-use Rattle.bay_model.specs.Points.{Past, reported, nothing, took}
+use Rattle.bay_model.specs.Outputs.{output_of}
+use Rattle.bay_model.specs.Points.{Past, reported, nothing, took, terminated}
 use Rattle.bay_model.specs.Waiting as queue
 use Rattle.bay_model.specs.Singles.{arrival}
-use Rattle.bay_model.specs.Takes.{Given, taken}
+use Rattle.bay_model.specs.Takes.{Given, deed_of_waiting, taken}
 use Rattle.assoc_table.specs.declared.waiting.Ends.{Ends}
 use Rattle.assoc_table.specs.Seats.{Row}
 use Rattle.assoc_table.specs.Standing.{Stands as AssociationsStand, ends_of, waiting_of}
-use Rattle.bay_core.proofs.QueueLaws.{nothing-waits, first-told}
-use Rattle.assoc_table.specs.declared.waiting.Waiting.TheVariants.{Reply}
+use Rattle.bay_core.proofs.QueueLaws.{given-then, left-then, nothing-waits}
+use Rattle.assoc_table.specs.declared.waiting.Waiting.{Waiting}
+use Rattle.control_core.specs.Tables.{Table}
+use Rattle.bay_queues.specs.Queued.{Queued, IsQueued}
+use Rattle.bay_queues.specs.Standing.{Stands as QueuesStand}
+use Rattle.bay_queues.specs.Taken.{after_take, given_of, next_of, oldest}
+use Rattle.bay_queues.proofs.StandLaws.{oldest-taken}
 use Rattle.bay_model.specs.declared.answer.Output.{Output}
-use Rattle.assoc_table.specs.Tables.{IsNumber, row_of, taken as taken_row}
+use Rattle.assoc_table.specs.Tables.{IsNumber, row_of}
 use Rattle.report_block.specs.declared.block.ReportBlock.{ReportBlock}
 use Rattle.report_block.specs.Blanks.{AreFew}
 use Rattle.report_block.specs.Offers.{Offered, first_offered}
@@ -43,7 +49,8 @@ use Rattle.report_block.specs.Reporting.{report_by}
 use Rattle.bay_config.specs.Servable.{IsServable}
 use Rattle.bay_core.specs.Standing.{StandsAt, StandsFor}
 use Rattle.bay_core.specs.State.{State, AreServedSets}
-use Rattle.bay_core.proofs.MoveLaws.{groups-quiet, passed, still, came-of, counts, accepted-as}
+use Rattle.bay_core.specs.Timed.{at_arrival}
+use Rattle.bay_core.proofs.MoveLaws.{queued, queues-stand, groups-quiet, passed, still, came-stand, counts, accepted-as}
 use Rattle.bay_core.proofs.PartLaws.{AreLeft, parts-left}
 use Rattle.bay_core.proofs.ServedLaws.{served-now}
 use Rattle.bay_core.proofs.ShapeLaws.{served_members}
@@ -142,32 +149,63 @@ module _ (s at new : State) (c : Config) (h : History) (t : ℕ) (actor : ActorN
             (subst (λ (g : Given). StandsAt after c (suc (length h)) (record { moment = t; step = length h; deed = g.deed } ∷ past)) (sym came) (reported-at at c (length h) t a.0 o.block o.next.id part past there here)),
       )
 
--- a Take of what waits: the reply that waits longest is given, and taken from the rows
-took-at : (z : State) (c : Config) (n t a : ℕ) (past : Past) → IsNumber a → StandsAt z c n (arrival n t ∷ past) → StandsAt (record z { rows = taken_row z.rows a }) c n (at n t (took a) ∷ past)
-took-at z c n t a past number st =
-    came-of z c n t (took a) past z.stored z.parts z.groups (record { number = number; puts = λ k. refl; sets = refl }) st.values
+-- ---- a Take of what waits: what waits longest is given, and taken
+
+took-at : (z : State) (c : Config) (n t a : ℕ) (past : Past) (w : queue.Waiting) (q : Queued) → QueuesStand q (configured_model c) (at n t (deed_of_waiting a w) ∷ past) → StandsAt z c n (arrival n t ∷ past)
+    → StandsAt (record z { rows = q.rows; controls = q.table }) c n (at n t (deed_of_waiting a w) ∷ past)
+took-at z c n t a past (queue.reply output) q wait st =
+    came-stand z c n t (took a) past q z.stored z.parts z.groups wait refl st.values
     (parts-left (configured_model c) n t (took a) past z.parts z.parts (record { note = λ b. refl; cuts = λ b. refl }) (λ b q there. (q, there, refl)) st.blocks) (groups-quiet z c n t (took a) past tt st) st
+took-at z c n t a past (queue.ending k good) q wait st =
+    came-stand z c n t (terminated a k) past q z.stored z.parts z.groups wait refl st.values
+    (parts-left (configured_model c) n t (terminated a k) past z.parts z.parts (record { note = λ b. refl; cuts = λ b. refl }) (λ b q there. (q, there, refl)) st.blocks) (groups-quiet z c n t (terminated a k) past tt st) st
 
-first-given : (m : Model) (a n t : ℕ) (past : Past) (e : model.Ends) (output : Output) (rest : List queue.Waiting) → ends a past ≡ Some e → queue.waiting m a past ≡ queue.reply output ∷ rest
-    → taken m a (arrival n t ∷ past) ≡ record { answer = answers.Taken output; deed = took a }
-first-given m a n t past e output rest opened waits_ = rw (opened, waits_) refl
+first-given : (m : Model) (a n t : ℕ) (past : Past) (e : model.Ends) (w : queue.Waiting) (rest : List queue.Waiting) → ends a past ≡ Some e → queue.waiting m a (arrival n t ∷ past) ≡ w ∷ rest
+    → taken m a (arrival n t ∷ past) ≡ record { answer = answers.Taken (output_of m (arrival n t ∷ past) w); deed = deed_of_waiting a w }
+first-given m a n t past e w rest opened waits_ = rw (opened, waits_) refl
 
-pub took-for : (s z u : State) (c : Config) (h : History) (t : ℕ) (actor : ActorNo) (a : AssocNo) (output : Output) (w : ActorNo) → IsNumber a.0 → StandsFor s c h
-    → option_map (λ (e : Ends). e.writer) (row_of s.rows a.0).ends ≡ Some w → actor.0 ≡ w.0 → slice_get (row_of s.rows a.0).waiting 0 ≡ Some (Reply output)
-    → StandsAt z c (length h) (arrival (length h) t ∷ points (configured_model c) h) → u ≡ record z { steps = suc z.steps; rows = taken_row z.rows a.0 }
-    → (answers.Taken output ≡ answer (configured_model c) h (record { moment = t; actor = actor.0; step = steps.Take a })) × StandsFor u c (record { moment = t; actor = actor.0; step = steps.Take a } ∷ h)
-took-for s z u c h t actor a output w number st writer same first here is =
-    let m = configured_model c in
-    let n = length h in
-    let past : Past = points m h in
-    let turn : Turn = record { moment = t; actor = actor.0; step = steps.Take a } in
-    let e = writer-told m s.rows past a.0 w st.1.associations number writer in
+-- the state once what waited longest was taken
+abbrev pub left_of : ℕ → State → State
+left_of a s = record s { rows = (after_take a (queued s)).rows; controls = (after_take a (queued s)).table }
+
+module _ (s u : State) (c : Config) (h : History) (t : ℕ) (actor : ActorNo) (a : AssocNo) (output : Output) (w : ActorNo) (number : IsNumber a.0) (st : StandsFor s c h) (is_queued : IsQueued s.rows s.controls)
+    (writer : option_map (λ (e : Ends). e.writer) (row_of s.rows a.0).ends ≡ Some w) (same : actor.0 ≡ w.0) (here : StandsAt (at_arrival t s) c (length h) (arrival (length h) t ∷ points (configured_model c) h))
+    (behind : u ≡ record (at_arrival t (left_of a.0 s)) { steps = suc s.steps }) where
+  took-one : (x : Waiting) → oldest a.0 (queued s) ≡ Some x → Some output ≡ given_of s.controls x
+      → (answers.Taken output ≡ answer (configured_model c) h (record { moment = t; actor = actor.0; step = steps.Take a })) × StandsFor u c (record { moment = t; actor = actor.0; step = steps.Take a } ∷ h)
+  took-one x first given =
+      let m = configured_model c in
+      let n = length h in
+      let past : Past = points m h in
+      let turn : Turn = record { moment = t; actor = actor.0; step = steps.Take a } in
+      let z : State = at_arrival t s in
+      let e = writer-told m s.rows past a.0 w st.1.associations number writer in
+      let yours : (actor.0 == e.0.writer) ≡ true = grind (arith, nat_tests, same, e.2) in
+      let fine : fault m h turn ≡ None = rw (e.1, yours) refl in
+      let r = oldest-taken m n t a.0 past (queued z) (queues-stand z c n (arrival n t ∷ past) here) (record { count = is_queued.count; few = is_queued.few; due = is_queued.due }) number x first in
+      let gave = first-given m a.0 n t past e.0 (waiting_of x) r.1.0 e.1 r.1.1 in
+      let told : Some output ≡ Some (output_of m (arrival n t ∷ past) (waiting_of x)) = given ∙ (sym (given-then (max s.latest t) s.controls x) ∙ (sym (ap (option_and_then (given_of z.controls)) first) ∙ r.0)) in
+      let is : output ≡ output_of m (arrival n t ∷ past) (waiting_of x) = cc in
+      let q : Queued = after_take a.0 (queued z) in
+      let after : State = record z { rows = q.rows; controls = q.table } in
+      let moved : u ≡ record after { steps = suc z.steps } = behind ∙ ap (λ (v : Table). record z { steps = suc s.steps; rows = q.rows; controls = v }) (left-then (oldest a.0 (queued s)) (max s.latest t) s.controls) in (
+        ap answers.Taken is ∙ sym (ap (λ (g : Given). g.answer) gave),
+        accepted-as s u (record after { steps = suc z.steps }) c h turn st fine moved
+            (subst (λ (g : Given). StandsAt (record after { steps = suc z.steps }) c (suc n) (at n t g.deed ∷ past)) (sym gave)
+            (counts after c n (at n t (deed_of_waiting a.0 (waiting_of x)) ∷ past) (took-at z c n t a.0 past (waiting_of x) q r.2 here))),
+      )
+
+  pub took-for : Some output ≡ next_of a.0 (queued s) → (answers.Taken output ≡ answer (configured_model c) h (record { moment = t; actor = actor.0; step = steps.Take a })) × StandsFor u c (record { moment = t; actor = actor.0; step = steps.Take a } ∷ h)
+  took-for given = by (oldest a.0 (queued s)) refl given where
+    by : (o : Option Waiting) → oldest a.0 (queued s) ≡ o → Some output ≡ option_and_then (given_of s.controls) o
+        → (answers.Taken output ≡ answer (configured_model c) h (record { moment = t; actor = actor.0; step = steps.Take a })) × StandsFor u c (record { moment = t; actor = actor.0; step = steps.Take a } ∷ h)
+    by None first given = absurd cc
+    by (Some x) first given = took-one x first given
+
+-- where there is no memory for what is taken, the Take is no fault
+pub take-fine : (s : State) (c : Config) (h : History) (t : ℕ) (actor : ActorNo) (a : AssocNo) (w : ActorNo) → IsNumber a.0 → StandsFor s c h → option_map (λ (e : Ends). e.writer) (row_of s.rows a.0).ends ≡ Some w → actor.0 ≡ w.0
+    → None ≡ fault (configured_model c) h (record { moment = t; actor = actor.0; step = steps.Take a })
+take-fine s c h t actor a w number st writer same =
+    let e = writer-told (configured_model c) s.rows (points (configured_model c) h) a.0 w st.1.associations number writer in
     let yours : (actor.0 == e.0.writer) ≡ true = grind (arith, nat_tests, same, e.2) in
-    let fine : fault m h turn ≡ None = rw (e.1, yours) refl in
-    let gave = first-given m a.0 n t past e.0 output (map waiting_of (drop 1 (row_of s.rows a.0).waiting)) e.1 (first-told m s.rows past a.0 output st.1.associations number first) in
-    let after : State = record z { rows = taken_row z.rows a.0 } in (
-      sym (ap (λ (g : Given). g.answer) gave),
-      accepted-as s u (record after { steps = suc z.steps }) c h turn st fine is
-          (subst (λ (g : Given). StandsAt (record after { steps = suc z.steps }) c (suc n) (at n t g.deed ∷ past)) (sym gave)
-          (counts after c n (at n t (took a.0) ∷ past) (took-at z c n t a.0 past number here))),
-    )
+    rw (e.1, yours) refl

@@ -1,6 +1,7 @@
 -- The Data of a member can be written, where each attribute has a value of its type.
-use Rattle.std.proofs.Common.{◌≡◌, ◌<◌, ◌≤◌, ℕ, true, List, [], ◌∷◌, ◌++◌, length, map, flat_map, filter, slice_index_or, ap, sym, ◌∙◌, subst, arith, length-append}
+use Rattle.std.proofs.Common.{◌≡◌, ◌<◌, ◌≤◌, ℕ, Bool, true, false, inl, inr, refl, List, [], ◌∷◌, ◌++◌, length, map, flat_map, filter, slice_index_or, ap, sym, ◌∙◌, subst, arith, length-append}
 use Rattle.std.specs.List.{All}
+use Rattle.std.specs.Prelude.{codes, pos, if◌then◌else◌}
 use Rattle.std.proofs.lemmas.Bool.{leb-true, ltb-true, eqb-true}
 use Rattle.std.proofs.lemmas.List.{length-map}
 use Rattle.std.proofs.lemmas.List.Elements.{All-nil, All-cons, All-head, All-tail, All-append, All-map, All-filter}
@@ -20,7 +21,7 @@ use Rattle.sv_base.specs.Types.{Shape, Fields, simple, composed, no_field, field
 use Rattle.bay_model.specs.declared.tables.MemberShape.{MemberShape}
 use Rattle.bay_model.specs.Attributes.{attributes}
 use Rattle.bay_rooms.specs.Kinds.{kind_of, is_kind, is_in_range}
-use Rattle.bay_model.specs.Generated.{Parameter, parameters}
+use Rattle.bay_model.specs.Generated.{Parameter, is_selected, parameters, selection}
 use Rattle.bay_model.specs.Lookups.{node_of}
 use Rattle.bay_model.specs.Named.{configured_model}
 use Rattle.bay_model.specs.NamedLines.{is_setting}
@@ -55,12 +56,25 @@ HasPlainType a = IsSettable a.kind
 lines-plain : (c : Config) → IsServable c → All HasPlainType c.attrs
 lines-plain c served = λ k d below. (served.storable.lines k d below).settable
 
+-- what a control generates are numbers of 8 and of 32 bits
+abbrev kinds-of : CtlDef → List TypeOf
+kinds-of k = map (λ (p : Parameter). p.kind) (parameters k)
+
+parameters-plain : (k : CtlDef) → All IsSettable (kinds-of k)
+parameters-plain k = by (is_selected k) where
+  by : (b : Bool) → All IsSettable (map (λ (p : Parameter). p.kind) (record { name = codes "ctlModel"; kind = types.Int 8; value = kinds.Int (pos k.model) } ∷ (if b then selection k else [])))
+  by true = All-cons IsSettable (types.Int 8) (types.Uint 32 ∷ types.Int 8 ∷ []) (inl refl) (All-cons IsSettable (types.Uint 32) (types.Int 8 ∷ []) (inr (inr (inl refl))) (All-cons IsSettable (types.Int 8) [] (inl refl) (All-nil IsSettable)))
+  by false = All-cons IsSettable (types.Int 8) [] (inl refl) (All-nil IsSettable)
+
+controls-plain : (ks : List CtlDef) → All IsSettable (flat_map (λ (k : CtlDef). map (λ (p : Parameter). p.kind) (parameters k)) ks)
+controls-plain [] = All-nil IsSettable
+controls-plain (k ∷ ks) = All-append IsSettable (kinds-of k) (flat_map (λ (k : CtlDef). map (λ (p : Parameter). p.kind) (parameters k)) ks) (parameters-plain k) (controls-plain ks)
+
 pub types-settable : (c : Config) → IsServable c → All IsSettable (attr_types c)
 types-settable c served =
     let lines = lines-plain c served in
-    let generated = λ (ks : List CtlDef). flat_map (λ (k : CtlDef). map (λ (p : Parameter). p.kind) (parameters k)) ks in
     All-append IsSettable (map (λ (a : AttrDef). a.kind) c.attrs) _ (All-map IsSettable (λ (a : AttrDef). a.kind) c.attrs lines)
-    (All-append IsSettable (generated c.controls) (map (λ (a : AttrDef). a.kind) (filter is_setting c.attrs)) (subst (λ ks. All IsSettable (generated ks)) (sym served.controls) (All-nil IsSettable))
+    (All-append IsSettable (flat_map (λ (k : CtlDef). map (λ (p : Parameter). p.kind) (parameters k)) c.controls) (map (λ (a : AttrDef). a.kind) (filter is_setting c.attrs)) (controls-plain c.controls)
     (All-map IsSettable (λ (a : AttrDef). a.kind) (filter is_setting c.attrs) (All-filter is_setting HasPlainType c.attrs lines)))
 
 pub type-settable : (c : Config) (x : ℕ) → IsServable c → IsSettable (attr_type c x)

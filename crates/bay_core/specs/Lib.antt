@@ -16,6 +16,7 @@ pub mod Written
 pub mod Put
 -- requests
 pub mod Asked
+pub mod Turned
 pub mod Deleted
 -- calls of controls
 pub mod Commanded

@@ -17,9 +17,9 @@ use Rattle.bay_core.specs.State.{IsFurnished}
 use Rattle.bay_values.specs.Held.{AreGrouped}
 use Rattle.bay_core.specs.Timed.{AreQuietUntil}
 
-pub record IsWhole (c : Config) (stored : List Stored) (groups : Grouped) (book : Book) (parts : List ReportBlock) (w : Watch) (octets : Filled ℕ) (room : ℕ) (latest : ℕ) (dues : List (Option ℕ)) (events : EventRoom) (controls : Table) : Type 0 where
+pub record IsWhole (c : Config) (stored : List Stored) (groups : Grouped) (book : Book) (parts : List ReportBlock) (w : Watch) (octets : Filled ℕ) (room : ℕ) (latest : ℕ) (dues : List (Option ℕ)) (events : EventRoom) (table : Table) : Type 0 where
   pub furnished : IsFurnished c stored book parts w octets room
   pub grouped : AreGrouped c groups
   pub quiet : AreQuietUntil latest dues parts
   pub roomy : HasRoom 256 events
-  pub controls : configs controls ≡ map control_defined c.controls
+  pub controls : configs table ≡ map control_defined c.controls

@@ -2,6 +2,7 @@
 //! services).
 
 ghost use Rattle.std.specs.Prelude.{◌≡◌, []};
+ghost use Rattle.bay_model.specs.declared.reply.Reply.TheVariants.{Wrote};
 
 use crate::bay::Bay;
 use crate::defining::set_name;
@@ -37,7 +38,12 @@ fn alone(alloc: Global, reply: Reply) -> Came
 }
 
 /// A write came to its codes, and to what its commands came to.
-fn wrote(heard: Heard) -> Came {
+fn wrote(heard: Heard) -> Came
+    ensures reply { result.reply ≡ Wrote heard.codes }
+    ensures before { result.before.items ≡ heard.before }
+    ensures acts { result.acts.items ≡ heard.acts }
+    ensures tests { result.tests.items ≡ heard.tests }
+{
     let parts = heard.parts();
     Came {
         reply: Reply::Wrote(Codes::from_vec(parts.codes)),
@@ -61,10 +67,15 @@ impl Bay {
     ghost use Rattle.bay_core.specs.Asked.{AreMembersFit, AreWritten, IsAnswered, IsReplied, IsReplyAt, IsKept, members_of, node_numbers, set_members};
     ghost use Rattle.bay_core.specs.Came.{IsCome, put_after};
     ghost use Rattle.bay_core.specs.Commanded.{AreNoCommands, AreTestsOf, CallsNothing};
+    ghost use Rattle.bay_core.specs.Turned.{IsLent};
     ghost use Rattle.bay_core.specs.Turns.{Does, IsCounted};
 
     /// What a reply is made of, as of the arrival of a step at a moment.
-    pub(crate) fn replies(&self, moment: Moment) -> Replies<'_> {
+    pub(crate) fn replies(&self, moment: Moment) -> Replies<'_>
+        ensures { IsLent result self.now moment }
+    {
+        // no moment lies above the last that a step can have
+        let _last = self.latest.ms();
         Replies {
             model: &self.model,
             store: self.values.store(),
@@ -108,6 +119,7 @@ impl Bay {
         ensures kept { OnOk result (IsKept self.old self.new) }
         ensures refused { OnErr result (self.new ≡ self.old) }
     {
+        let _ = &self.sets;
         let reply = self.reply_to(alloc, moment, a, service)?;
         self.arrive(moment);
         Ok(reply)
@@ -162,6 +174,7 @@ impl Bay {
         values: &[Value],
     ) -> Result<Vec<Result<(), u8>>, AllocError>
         requires fit { AreMembersFit self.old.config nodes.now values.now }
+        requires plain { AreNoCommands self.old.config nodes.now }
         ensures written { IfOk result (λ codes. AreWritten self.old self.new moment a.0 (writes_of (node_numbers nodes.now) values.now) codes.items) }
         ensures kept { OnOk result (IsKept self.old self.new) }
         ensures refused { OnErr result (self.new ≡ self.old) }
@@ -250,6 +263,7 @@ impl Bay {
         ensures kept { OnOk result (IsKept self.old self.new) }
         ensures refused { OnErr result (self.new ≡ self.old) }
     {
+        let _ = &self.model;
         match service {
             Service::WriteVars(writes) => self.answer_writes(alloc, moment, a, writes),
             _ => {

@@ -25,7 +25,7 @@ fn call_of(node: Node) -> Call
 }
 
 impl Bay {
-    ghost use Rattle.std.specs.Prelude.{◌≡◌, ◌<◌, ◌^◌, true, length, map, IfOk};
+    ghost use Rattle.std.specs.Prelude.{◌≡◌, ◌<◌, ◌^◌, ℕ, true, length, map, Some, IfOk};
     ghost use Rattle.std.specs.List.{All};
     ghost use Rattle.sv_base.specs.declared.numbers.NodeId.{NodeId as NodeNo};
     ghost use Rattle.bay_model.specs.declared.step.Step.TheVariants as steps;
@@ -35,7 +35,14 @@ impl Bay {
     ghost use Rattle.assoc_table.specs.Tables.{IsNumber};
     ghost use Rattle.object_model.specs.Fits.{is_sound};
     ghost use Rattle.bay_core.specs.Asked.{AreFit, IsFit};
-    ghost use Rattle.bay_core.specs.Commanded.{blame_at, blame_to, IsSingle};
+    ghost use Rattle.control_core.specs.Controls.{due};
+    ghost use Rattle.control_core.specs.Tables.{control_at};
+    ghost use Rattle.bay_model.specs.Configured.{control_defined};
+    ghost use Rattle.control_core.specs.Commands.{call_in};
+    ghost use Rattle.bay_queues.specs.Calling.{blame_in, enhanced_in, outcome_at};
+    ghost use Rattle.bay_queues.specs.Heard.{heard_with};
+    ghost use Rattle.bay_queues.specs.Queued.{IsQueued};
+    ghost use Rattle.bay_core.specs.Commanded.{after_block, after_call, after_end, blame_at, blame_to, AreTestsOf, IsSingle};
     ghost use Rattle.bay_core.specs.Turns.{Does, IsCounted, KeepsLean};
 
     /// The LastApplError that the write of a node would have, without its AddCause; none where it isn't a command, or the value isn't of
@@ -85,6 +92,28 @@ impl Bay {
         Ok(blames)
     }
 
+    /// An association writes the SBOw, Oper or Cancel of a control, at the moment that time has come to. It takes no memory.
+    fn call(
+        &mut self,
+        a: AssocNo,
+        control: CtlNo,
+        call: Call,
+        value: &Value,
+        blame: Option<ApplError>,
+        heard: &mut Heard,
+    )
+        requires number { IsNumber a.0 }
+        requires control { control.0 < length self.old.config.controls }
+        requires blame { blame ≡ blame_in (map control_defined self.old.config.controls) control.0 (call_in call) value.now }
+        requires room { length heard.old.codes < heard.old.room }
+        ensures state { self.new ≡ after_call a.0 control.0 (call_in call) value.now self.old }
+        ensures heard { heard.new ≡ heard_with (enhanced_in self.old.controls) (outcome_at self.old.controls a.0 control.0 (call_in call) value.now) heard.old }
+        ensures tests { AreTestsOf self.old a.0 heard.old.tests → AreTestsOf self.new a.0 heard.new.tests }
+    {
+        self.associations
+            .call(a, control, call, value, blame, heard);
+    }
+
     /// An association writes a node in its turn; `blame` is the LastApplError that a command would have.
     pub(crate) fn write_in_turn(
         &mut self,
@@ -102,14 +131,32 @@ impl Bay {
         ensures single { IsSingle self.old self.new a.0 heard.old heard.new (λ m past. outcome_of m a.0 (writes node.0 value.now) past) }
     {
         match self.model.role_of(node) {
-            What::Calling(control, call) => self
-                .associations
-                .call(a, CtlNo(control), call_of(call), value, blame, heard),
+            What::Calling(control, call) => {
+                self.call(a, CtlNo(control), call_of(call), value, blame, heard);
+            }
             _ => {
                 let code = self.write_node(a, node, value);
                 heard.code(code);
             }
         }
+    }
+
+    /// What a control executes ends, at the moment that time has come to. It takes no memory.
+    fn end_execution(&mut self, control: CtlNo, good: bool)
+        requires { control.0 < length self.old.config.controls }
+        ensures state { self.new ≡ after_end control good self.old }
+        ensures queued { IsQueued self.old.rows self.old.controls }
+        ensures number { (a : ℕ) → due (control_at self.old.controls.controls control.0).execution ≡ Some a → IsNumber a }
+    {
+        self.associations.done(control, good);
+    }
+
+    /// A control is blocked or unblocked. It takes no memory.
+    fn block(&mut self, control: CtlNo, on: bool)
+        requires { control.0 < length self.old.config.controls }
+        ensures { self.new ≡ after_block control on self.old }
+    {
+        self.associations.block(control, on);
     }
 
     /// The process ends what a control executes (IEC 61850-7-2, CommandTermination). It takes no memory.
@@ -127,7 +174,7 @@ impl Bay {
         ensures lean { KeepsLean (steps.Done control good) result }
     {
         self.arrive(moment);
-        self.associations.done(control, good);
+        self.end_execution(control, good);
         self.count();
         Ok(Answer::Went)
     }
@@ -147,7 +194,7 @@ impl Bay {
         ensures lean { KeepsLean (steps.Block control on) result }
     {
         self.arrive(moment);
-        self.associations.block(control, on);
+        self.block(control, on);
         self.count();
         Ok(Answer::Went)
     }

@@ -12,6 +12,7 @@ impl Bay {
     ghost use Rattle.bay_model.specs.Named.{configured_model};
     ghost use Rattle.bay_model.specs.Writes.{write_attribute, write_part};
     ghost use Rattle.object_model.specs.Fits.{is_sound};
+    ghost use Rattle.bay_replies.specs.Given.{copies_from};
     ghost use Rattle.bay_core.specs.Asked.{IsKept, IsWrite};
 
     /// An association writes into the edit copy of the SG attribute at a place among these, at the moment that time has come to. It
@@ -20,7 +21,8 @@ impl Bay {
         requires there { place < length self.old.groups.settings }
         requires sound { is_sound value.now ≡ true }
         ensures kept { IsKept self.old self.new }
-        ensures written { IsWrite self.old self.new (λ m past. write_attribute m a.0 (length self.old.config.attrs + place) value.now (attr_of m (length self.old.config.attrs + place)).access past) result }
+        ensures controls { self.new.controls ≡ self.old.controls }
+        ensures written { IsWrite self.old self.new (λ m past. write_attribute m a.0 (copies_from self.old.stored self.old.groups + place) value.now (attr_of m (copies_from self.old.stored self.old.groups + place)).access past) result }
     {
         self.groups.write_se(a, place, value)
     }
@@ -37,6 +39,7 @@ impl Bay {
     ) -> Result<(), u8>
         requires grouped { 0 < (groups_of (configured_model self.old.config) domain).count }
         ensures kept { IsKept self.old self.new }
+        ensures controls { self.new.controls ≡ self.old.controls }
         ensures written { IsWrite self.old self.new (λ m past. write_part m a.0 domain part value.now past) result }
     {
         if !self.groups.write(domain, a, part, value, self.latest)? {

@@ -66,6 +66,7 @@ impl Bay {
         requires there { attr.0 < copies_from self.old.stored self.old.groups }
         requires sound { is_sound value.now ≡ true }
         ensures kept { IsKept self.old self.new }
+        ensures controls { self.new.controls ≡ self.old.controls }
         ensures written { (a : ℕ) → IsWrite self.old self.new (λ m past. write_attribute m a attr.0 value.now (attr_of m attr.0).access past) result }
     {
         self.changes.clear();
@@ -100,6 +101,7 @@ impl Bay {
         requires there { attr.0 < length self.old.stored }
         requires sound { is_sound value.now ≡ true }
         ensures kept { IsKept self.old self.new }
+        ensures controls { self.new.controls ≡ self.old.controls }
         ensures written { IsWrite self.old self.new (λ m past. write_attribute m a.0 attr.0 value.now (attr_of m attr.0).access past) result }
     {
         let number = attr.0 as usize;
@@ -117,6 +119,7 @@ impl Bay {
         requires sound { is_sound value.now ≡ true }
         requires plain { IsNoCommand (node_of (configured_model self.old.config) node.0).role }
         ensures kept { IsKept self.old self.new }
+        ensures controls { self.new.controls ≡ self.old.controls }
         ensures written { IsWrite self.old self.new (λ m past. write_node m a.0 node.0 value.now past) result }
     {
         match self.model.role_of(node) {
@@ -124,7 +127,8 @@ impl Bay {
             What::Component(b, comp) => self.write_at_arrival(a, BlockNo(b), comp, value),
             What::Setting(domain, part) => self.write_part(a, domain, part, value),
             What::Selecting(_) => Err(selecting_code(value)),
-            What::Structure | What::Withheld => Err(3),
+            What::Structure => Err(3),
+            What::Withheld => Err(3),
             What::Calling(..) => unreachable!(),
         }
     }
@@ -178,6 +182,7 @@ impl Bay {
         requires sound { is_sound value.now ≡ true }
         requires plain { IsNoCommand (node_of (configured_model self.old.config) node.now.0).role }
         ensures kept { IsKept self.old self.new }
+        ensures controls { self.new.controls ≡ self.old.controls }
         ensures written { IsWrite self.old self.new (λ m past. outcome_of m a.0 (writes node.now.0 value.now) past) result }
     {
         self.write_node(a, *node, value)

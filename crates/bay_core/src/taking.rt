@@ -19,6 +19,7 @@ impl Bay {
     ghost use Rattle.bay_model.specs.declared.step.Step.TheVariants as steps;
     ghost use Rattle.assoc_table.specs.declared.waiting.Ends.{Ends};
     ghost use Rattle.assoc_table.specs.Tables.{IsNumber, row_of};
+    ghost use Rattle.control_core.specs.Tables.{at_moment};
     ghost use Rattle.report_block.specs.Blanks.{AreShortTexts, Blank as BlankValue};
     ghost use Rattle.bay_core.specs.Timed.{at_arrival};
     ghost use Rattle.bay_core.specs.Turns.{Does, IsCounted};
@@ -96,7 +97,7 @@ impl Bay {
         requires few { self.old.steps < 2 ^ 62 }
         requires writer { option_map (λ (e : Ends). e.writer) (row_of self.old.rows a.0).ends ≡ Some actor }
         requires empty { (row_of self.old.rows a.0).waiting ≡ [] }
-        requires quiet { at_arrival moment self.old ≡ record self.old { latest = max self.old.latest moment } }
+        requires quiet { at_arrival moment self.old ≡ record self.old { latest = max self.old.latest moment; controls = at_moment (max self.old.latest moment) self.old.controls } }
         ensures does { Does self.old self.new (record { moment = moment; actor = actor.0; step = steps.Take a }) result }
         ensures counted { IsCounted self.old self.new result }
     {

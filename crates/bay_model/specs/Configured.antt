@@ -10,10 +10,8 @@ use Rattle.sv_base.specs.declared.config.LnDef.{LnDef}
 use Rattle.sv_base.specs.declared.config.BlockDef.{BlockDef}
 use Rattle.sv_base.specs.declared.config.CtlDef.{CtlDef}
 use Rattle.sv_base.specs.declared.config.SgDef.{SgDef}
-use Rattle.sv_base.specs.declared.types.TypeOf.{TypeOf}
-use Rattle.sv_base.specs.declared.types.TypeOf.TheVariants as types
 use Rattle.bay_rooms.specs.Kinds.{kind_of}
-use Rattle.bay_model.specs.Model.{Model, Node, Attr, DataSet, Block, Control, Groups, Kind, truth, int, uint, bits, time, stamp, text, octets, entry_id}
+use Rattle.bay_model.specs.Model.{Model, Node, Attr, DataSet, Block, Control, Groups}
 use Rattle.bay_model.specs.Lookups.{reference_of}
 
 -- the tree of names: nodes and attributes by their numbers, and the configured data sets by the numbers of their nodes

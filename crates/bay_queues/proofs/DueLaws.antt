@@ -1,10 +1,12 @@
 -- Of each control no more terminations wait than are due: what the calls make of the rows and of the controls keeps that.
 use Rattle.std.proofs.Common.{◌≡◌, ◌≢◌, ℕ, suc, ◌+◌, ◌-◌, zero, ◌≤◌, ◌<◌, Bool, true, false, List, [], ◌∷◌, ◌++◌, length, map, drop, replicate, refl, sym, ap, ◌∙◌, subst, arith, inl, inr, ◌==◌}
-use Rattle.std.specs.Prelude.{Option, None, Some, is_some, ◌&&◌, if◌then◌else◌, slice_get}
+use Rattle.std.specs.Prelude.{Option, None, Some, IfSome, is_some, ◌&&◌, if◌then◌else◌, slice_get}
+use Rattle.std.specs.Option.{option_map}
 use Rattle.std.specs.List.{list_any}
 use Rattle.std.proofs.lemmas.Bool.Decides.{eqb_tells}
 use Rattle.std.proofs.lemmas.List.{get_or-set_same, get_or-set_other, get_or-replicate, length-set, length-map, length-replicate}
 use Rattle.list_laws.proofs.Places.{same-number as same, other-number as apart}
+use Rattle.sv_base.specs.declared.numbers.AssocNo.{AssocNo}
 use Rattle.sv_base.specs.declared.numbers.CtlNo.{CtlNo}
 use Rattle.sv_base.specs.declared.value.Value.{Value}
 use Rattle.bay_model.specs.Model.{Control, Call, select, operate, cancel}
@@ -33,6 +35,11 @@ use Rattle.bay_queues.proofs.RowLaws.{row-same, row-other, ends-append, ends-dro
 
 abbrev pub run : Table → ℕ → Option Execution
 run t k = (control_at t.controls k).execution
+
+-- for whom a termination is told to be due has a number
+pub number-told : (told : Option AssocNo) (o : Option ℕ) → option_map (λ (a : AssocNo). a.0) told ≡ o → IfSome told (λ (a : AssocNo). IsNumber a.0) → (x : ℕ) → o ≡ Some x → IsNumber x
+number-told None o is number x some = cc
+number-told (Some a) o is number x some = let same : a.0 ≡ x = cc in subst IsNumber same number
 
 -- ---- a row, or the table, is another
 

@@ -89,7 +89,7 @@ fn because(error: ApplError, cause: u8) -> ApplError
 }
 
 impl Queues {
-    ghost use Rattle.std.specs.Prelude.{◌≡◌, ◌≤◌, ◌<◌, ◌∷◌, [], Some, true, false, nat_le, None, is_some, map, length, replicate, option_copied, IfOk, OnOk, OnErr, if◌then◌else◌};
+    ghost use Rattle.std.specs.Prelude.{◌≡◌, ◌≤◌, ◌<◌, ◌∷◌, [], ℕ, Some, true, false, nat_le, None, is_some, map, length, replicate, option_copied, IfOk, OnOk, OnErr, if◌then◌else◌};
     ghost use Rattle.std.specs.Option.{option_map};
     ghost use Rattle.std.specs.List.{All};
     ghost use Rattle.sv_base.specs.declared.config.CtlDef.{CtlDef};
@@ -101,10 +101,10 @@ impl Queues {
     ghost use Rattle.bay_model.specs.Commands.{command_of, is_command};
     ghost use Rattle.control_core.specs.Answers.{went_of};
     ghost use Rattle.control_core.specs.Commands.{call_in};
-    ghost use Rattle.control_core.specs.Controls.{can_select_at, went_at};
+    ghost use Rattle.control_core.specs.Controls.{can_select_at, due, went_at};
     ghost use Rattle.control_core.specs.Opening.{IsCtlKind};
     ghost use Rattle.control_core.specs.Tables.{control_at, opened_of, at_moment, after_deed};
-    ghost use Rattle.bay_queues.specs.Queued.{configs};
+    ghost use Rattle.bay_queues.specs.Queued.{IsQueued, configs};
     ghost use Rattle.bay_queues.specs.Heard.{heard_with};
     ghost use Rattle.bay_queues.specs.Calling.{blame_in, outcome_at, enhanced_in, after_call, AreTests, IsDone};
     ghost use Rattle.assoc_table.specs.declared.waiting.Waiting.TheVariants.{Termination};
@@ -207,7 +207,10 @@ impl Queues {
     /// The process ends what a control executes: the termination is put where one is due.
     pub fn done(&mut self, c: CtlNo, good: bool)
         requires { c.0 < length self.old.table.controls }
-        ensures { self.new ≡ after_done c good self.old }
+        ensures left { self.new ≡ after_done c good self.old }
+        ensures queued { IsQueued self.old.rows self.old.table }
+        // That association has a number.
+        ensures number { (x : ℕ) → due (control_at self.old.table.controls c.0).execution ≡ Some x → IsNumber x }
     {
         if let Some(a) = self.controls.done(c, good) {
             let _ = self.associations.queue(a, Waiting::Termination(c, good));
@@ -400,6 +403,7 @@ impl Queues {
     /// where it is wanting nothing changes.
     pub fn take(&mut self, alloc: Global, a: AssocNo) -> Result<Option<Output>, AllocError>
         requires { IsNumber a.0 }
+        ensures queued { IsQueued self.old.rows self.old.table }
         ensures value { IfOk result (λ o. o ≡ next_of a.0 self.old) }
         ensures left { OnOk result (self.new ≡ after_take a.0 self.old) }
         ensures kept { OnErr result (self.new ≡ self.old) }

@@ -10,6 +10,7 @@ pub mod GivenLaws
 pub mod FitLaws
 pub mod OkLaws
 pub mod SizeLaws
+pub mod EarlyLaws
 pub mod ReplyLaws
 pub mod QuietLaws
 pub mod OpenedLaws

@@ -1,8 +1,9 @@
--- The nodes of a configuration without controls are plain.
-use Rattle.std.proofs.Common.{◌≡◌, ◌≤◌, ◌<◌, inl, inr, ℕ, zero, suc, ◌+◌, Bool, true, false, cond, not, ◌&&◌, List, [], ◌∷◌, ◌++◌, length, map, filter, flat_map, refl, sym, subst, ap, ◌∙◌, arith, length-append}
-use Rattle.std.specs.Prelude.{if◌then◌else◌, codes, nat_le, Some, unwrap_or, slice_get}
+-- The nodes of a configuration are plain.
+use Rattle.std.proofs.Common.{◌≡◌, ◌≤◌, ◌<◌, inl, inr, ℕ, zero, suc, ◌+◌, Bool, true, false, cond, not, ◌&&◌, List, [], ◌∷◌, ◌++◌, length, map, filter, flat_map, refl, ap, ◌∙◌, arith, length-append}
+use Rattle.std.specs.Prelude.{if◌then◌else◌, codes, nat_le, ◌==◌, Some, unwrap_or, slice_get}
 use Rattle.std.specs.Option.{option_map}
-use Rattle.std.specs.List.{find}
+use Rattle.std.specs.List.{find, list_any}
+use Rattle.std.proofs.lemmas.List.{length-map}
 use Rattle.std.specs.Str.{bytes_eq}
 use Rattle.sv_base.specs.declared.config.Config.{Config}
 use Rattle.sv_base.specs.declared.config.LnDef.{LnDef}
@@ -10,20 +11,21 @@ use Rattle.sv_base.specs.declared.config.AttrDef.{AttrDef}
 use Rattle.sv_base.specs.declared.config.BlockDef.{BlockDef}
 use Rattle.sv_base.specs.declared.config.CtlDef.{CtlDef}
 use Rattle.sv_base.specs.declared.config.SgDef.{SgDef}
+use Rattle.sv_base.specs.declared.types.TypeOf.{TypeOf}
 use Rattle.bay_model.specs.declared.components.Comp.{Comp}
 use Rattle.bay_model.specs.declared.components.SettingComp.{SettingComp}
 use Rattle.bay_model.specs.Attributes.{attributes, attr_defined, attrs_defined, attrs_generated, twins}
-use Rattle.bay_rooms.specs.Kinds.{type_of}
+use Rattle.bay_rooms.specs.Kinds.{kind_of, type_of}
 use Rattle.bay_model.specs.ComponentTable.{components, comp_name, comp_kind, setting_components}
-use Rattle.bay_model.specs.Generated.{Named, parameters, setting_named}
+use Rattle.bay_model.specs.Generated.{Named, Parameter, within, parameters, parameter_names, command_names, is_selected, sbo_names, sbow_names, oper_names, cancel_names, control_names, setting_named}
 use Rattle.bay_model.specs.Lookups.{node_of}
-use Rattle.bay_model.specs.Model.{attribute, component, structure, Trees, none, more, Role, single, selecting, calling, several, Node, edited}
+use Rattle.bay_model.specs.Model.{Call, select, operate, cancel, attribute, component, structure, Trees, none, more, Role, single, selecting, calling, several, Attr, Node, edited, reported}
 use Rattle.bay_model.specs.Named.{configured_model, nodes, places_in}
 use Rattle.bay_model.specs.NamedLines.{Line, is_setting, path_item, attribute_lines, node_line, block_lines, control_lines, group_line, domains, domain_number, generated, lines, insert_line, in_order, names_in}
 use Rattle.bay_model.specs.NameTree.{Forest, nothing, named, rest_of, first_name, is_itself, below, first_names, role_of, own_type, side_by_side, grown, longest, tree_of}
-use Rattle.bay_model.specs.Places.{Place, places, node_at, trees, tree_with}
+use Rattle.bay_model.specs.Places.{Place, places, node_at, trees, tree_with, is_data_role, are_data, constraint, member_constraints, largest}
 use Rattle.list_laws.proofs.Among.{Among, Each, each-both}
-use Rattle.bay_replies.specs.Plain.{IsPlainTree, ArePlainTrees, IsPlainRole, IsPlainNode}
+use Rattle.bay_replies.specs.Plain.{IsPlainTree, ArePlainTrees, IsPlainRole, IsPlainNode, SelectsNothing}
 
 -- ---- lists
 
@@ -43,9 +45,9 @@ each-spread : {X Y : Type 0} (P : Y → Type 0) (f : X → List Y) (xs : List X)
 each-spread P f [] h = tt
 each-spread P f (x ∷ xs) h = each-both P (f x) (flat_map f xs) h.0 (each-spread P f xs h.1)
 
-module _ (attrs blocks : ℕ) (G : ℕ → Type 0) where
+module _ (attrs blocks controls : ℕ) (G : ℕ → Type 0) where
   abbrev IsRole : Role → Type 0
-  IsRole r = IsPlainRole attrs blocks G r
+  IsRole r = IsPlainRole attrs blocks controls G r
 
   abbrev IsName : Named → Type 0
   IsName n = IsRole n.role
@@ -62,8 +64,10 @@ module _ (attrs blocks : ℕ) (G : ℕ → Type 0) where
   tree-plain : (r : Role) (ts : Trees) → IsRole r → ArePlainTrees attrs blocks G ts → IsPlainTree attrs blocks G (tree_with r ts)
   tree-plain (single l) none is all = is
   tree-plain (single l) (more t ts) is all = all
-  tree-plain (selecting k) ts is all = absurd is
-  tree-plain (calling k call) ts is all = absurd is
+  tree-plain (selecting k) none is all = tt
+  tree-plain (selecting k) (more t ts) is all = all
+  tree-plain (calling k call) none is all = all
+  tree-plain (calling k call) (more t ts) is all = all
   tree-plain several none is all = all
   tree-plain several (more t ts) is all = all
 
@@ -72,12 +76,19 @@ module _ (attrs blocks : ℕ) (G : ℕ → Type 0) where
   trees-plain (named n r k parts others) h = (tree-plain r (trees parts) h.0 (trees-plain parts h.1), trees-plain others h.2)
 
   abbrev IsPlace : Place → Type 0
-  IsPlace p = IsRole p.role × IsPlainTree attrs blocks G p.tree
+  IsPlace p = IsRole p.role × IsPlainTree attrs blocks G p.tree × (p.is_data ≡ true → SelectsNothing p.role)
+
+  -- attributes alone are data
+  data-quiet : (r : Role) (b : Bool) → (is_data_role r && b) ≡ true → SelectsNothing r
+  data-quiet (single l) b h = tt
+  data-quiet several b h = tt
+  data-quiet (selecting k) b h = absurd cc
+  data-quiet (calling k call) b h = absurd cc
 
   places-plain : (before : List ℕ) (f : Forest) → AreRoles f → Each IsPlace (places before f)
   places-plain before nothing h = tt
   places-plain before (named n r k parts others) h = (
-    (h.0, tree-plain r (trees parts) h.0 (trees-plain parts h.1)),
+    (h.0, tree-plain r (trees parts) h.0 (trees-plain parts h.1), data-quiet r (are_data parts)),
     each-both IsPlace (places (before ++ n ++ 36 ∷ []) parts) (places before others) (places-plain (before ++ n ++ 36 ∷ []) parts h.1) (places-plain before others h.2),
   )
 
@@ -130,6 +141,32 @@ module _ (attrs blocks : ℕ) (G : ℕ → Type 0) where
   block-lines b [] h = tt
   block-lines b (d ∷ rest) h = (component-names b (path_item d.ln (codes "BR") d.name) components (omega (arith, h)), block-lines (b + 1) rest (omega (arith, h)))
 
+  command : (k : ℕ) (kind : TypeOf) (item : List ℕ) (call : Call) → k < controls → Each IsName (command_names k kind item call)
+  command k kind item select h = (h, (tt, (tt, (tt, (tt, (tt, (tt, (tt, tt))))))))
+  command k kind item operate h = (h, (tt, (tt, (tt, (tt, (tt, (tt, (tt, tt))))))))
+  command k kind item cancel h = (h, (tt, (tt, (tt, (tt, (tt, (tt, tt)))))))
+
+  where-so : (b : Bool) (ns : List Named) → Each IsName ns → Each IsName (if b then ns else [])
+  where-so true ns h = h
+  where-so false ns h = tt
+
+  control-names : (k : ℕ) (c : CtlDef) (item : List ℕ) → k < controls → Each IsName (control_names k c item)
+  control-names k c item h = each-both IsName (sbo_names k c item) (sbow_names k c item ++ (oper_names k c item ++ cancel_names k c item)) (where-so (c.model == 2) _ (h, tt))
+      (each-both IsName (sbow_names k c item) (oper_names k c item ++ cancel_names k c item) (where-so (c.model == 4) _ (command k c.kind (within item (codes "SBOw")) select h))
+      (each-both IsName (oper_names k c item) (cancel_names k c item) (command k c.kind (within item (codes "Oper")) operate h) (where-so (is_selected c) _ (command k c.kind (within item (codes "Cancel")) cancel h))))
+
+  parameters-names : (x : ℕ) (item : List ℕ) (ps : List Parameter) → x + length ps ≤ attrs → Each IsName (parameter_names x item ps)
+  parameters-names x item [] h = tt
+  parameters-names x item (p ∷ ps) h = (omega (arith, h), parameters-names (x + 1) item ps (omega (arith, h)))
+
+  control-lines : (k x : ℕ) (cs : List CtlDef) → k + length cs ≤ controls → x + length (flat_map parameters cs) ≤ attrs → Each IsLine (control_lines k x cs)
+  control-lines k x [] below above = tt
+  control-lines k x (c ∷ cs) below above = let both = length-append (parameters c) (flat_map parameters cs) in (
+    each-both IsName (control_names k c (path_item c.ln (codes "CO") c.path)) (parameter_names x (path_item c.ln (codes "CF") c.path) (parameters c))
+        (control-names k c (path_item c.ln (codes "CO") c.path) (omega (arith, below))) (parameters-names x (path_item c.ln (codes "CF") c.path) (parameters c) (omega (arith, above, both))),
+    control-lines (k + 1) (x + length (parameters c)) cs (omega (arith, below)) (omega (arith, above, both)),
+  )
+
   settings-names : (d : ℕ) (ks : List SettingComp) → G d → Each IsName (map (setting_named d) ks)
   settings-names d [] h = tt
   settings-names d (k ∷ ks) h = (h, settings-names d ks h)
@@ -165,38 +202,60 @@ count-twins c x (a ∷ rest) = by (is_setting a) (count-twins c (1 + x) rest)
     by true go = ap suc go
     by false go = go
 
-module _ (c : Config) (controls : c.controls ≡ []) (G : ℕ → Type 0) (groups : Each (λ (g : SgDef). G (domain_number c g.domain)) c.groups) where
+abbrev generated_of : Config → CtlDef → Parameter → Attr
+generated_of c k p = record { access = reported; kind = kind_of p.kind; dchg = false; qchg = false; dupd = false; initial = p.value ∷ []; domain = domain_number c k.domain; original = 0 }
+
+pub count-generated : (c : Config) (ks : List CtlDef) → length (flat_map (attrs_generated c) ks) ≡ length (flat_map parameters ks)
+count-generated c [] = refl
+count-generated c (k ∷ ks) = omega (arith, length-append (attrs_generated c k) (flat_map (attrs_generated c) ks), length-append (parameters k) (flat_map parameters ks), length-map (parameters k) (generated_of c k), count-generated c ks)
+
+module _ (c : Config) (G : ℕ → Type 0) (groups : Each (λ (g : SgDef). G (domain_number c g.domain)) c.groups) where
   abbrev pub counted : ℕ
   counted = length (attributes c)
 
-  pub count-attributes : length (attributes c) ≡ length c.attrs + length (filter is_setting c.attrs)
+  pub count-attributes : length (attributes c) ≡ length c.attrs + (length (generated c) + length (filter is_setting c.attrs))
   count-attributes = length-append (attrs_defined c 0 c.attrs) (flat_map (attrs_generated c) c.controls ++ twins c 0 c.attrs)
-      ∙ omega (arith, count-lines c 0 c.attrs, length-append (flat_map (attrs_generated c) c.controls) (twins c 0 c.attrs), ap (λ ks. length (flat_map (attrs_generated c) ks)) controls, count-twins c 0 c.attrs)
+      ∙ omega (arith, count-lines c 0 c.attrs, length-append (flat_map (attrs_generated c) c.controls) (twins c 0 c.attrs), count-generated c c.controls, count-twins c 0 c.attrs)
 
-  lines-plain : Each (IsLine (length (attributes c)) (length c.blocks) G) (lines c)
+  abbrev IsOwnLine : Line → Type 0
+  IsOwnLine = IsLine (length (attributes c)) (length c.blocks) (length c.controls) G
+
+  abbrev IsOwnName : Named → Type 0
+  IsOwnName = IsName (length (attributes c)) (length c.blocks) (length c.controls) G
+
+  lines-plain : Each IsOwnLine (lines c)
   lines-plain =
-      let P : Line → Type 0 = IsLine (length (attributes c)) (length c.blocks) G in
       let twin : ℕ = length c.attrs + length (generated c) in
       let ks : List Line = control_lines 0 (length c.attrs) c.controls in
       let gs : List Line = map (λ (g : SgDef). group_line (domain_number c g.domain) g) c.groups in
-      let none : length (generated c) ≡ 0 = ap (λ ks. length (flat_map parameters ks)) controls in
-      each-both P (map node_line c.nodes) (attribute_lines 0 twin c.attrs ++ (block_lines 0 c.blocks ++ (ks ++ gs))) (node-lines (length (attributes c)) (length c.blocks) G c.nodes)
-      (each-both P (attribute_lines 0 twin c.attrs) (block_lines 0 c.blocks ++ (ks ++ gs)) (attribute-lines (length (attributes c)) (length c.blocks) G 0 twin c.attrs (omega (arith, count-attributes)) (omega (arith, count-attributes, none)))
-      (each-both P (block_lines 0 c.blocks) (ks ++ gs) (block-lines (length (attributes c)) (length c.blocks) G 0 c.blocks (omega arith))
-      (each-both P ks gs (subst (λ (xs : List CtlDef). Each P (control_lines 0 (length c.attrs) xs)) (sym controls) tt)
-      (groups-lines (length (attributes c)) (length c.blocks) G c c.groups groups))))
+      each-both IsOwnLine (map node_line c.nodes) (attribute_lines 0 twin c.attrs ++ (block_lines 0 c.blocks ++ (ks ++ gs))) (node-lines counted (length c.blocks) (length c.controls) G c.nodes)
+      (each-both IsOwnLine (attribute_lines 0 twin c.attrs) (block_lines 0 c.blocks ++ (ks ++ gs)) (attribute-lines counted (length c.blocks) (length c.controls) G 0 twin c.attrs (omega (arith, count-attributes)) (omega (arith, count-attributes)))
+      (each-both IsOwnLine (block_lines 0 c.blocks) (ks ++ gs) (block-lines counted (length c.blocks) (length c.controls) G 0 c.blocks (omega arith))
+      (each-both IsOwnLine ks gs (control-lines counted (length c.blocks) (length c.controls) G 0 (length c.attrs) c.controls (omega arith) (omega (arith, count-attributes)))
+      (groups-lines counted (length c.blocks) (length c.controls) G c c.groups groups))))
 
-  names-plain : (domain : List ℕ) → Each (IsName (length (attributes c)) (length c.blocks) G) (names_in c domain)
+  names-plain : (domain : List ℕ) → Each IsOwnName (names_in c domain)
   names-plain domain =
-      each-spread (IsName (length (attributes c)) (length c.blocks) G) (λ (l : Line). l.names) (filter (λ (l : Line). bytes_eq l.domain domain) (in_order (lines c)))
-      (each-filter (IsLine (length (attributes c)) (length c.blocks) G) (λ (l : Line). bytes_eq l.domain domain) (in_order (lines c)) (order-plain (length (attributes c)) (length c.blocks) G (lines c) lines-plain))
+      each-spread IsOwnName (λ (l : Line). l.names) (filter (λ (l : Line). bytes_eq l.domain domain) (in_order (lines c)))
+      (each-filter IsOwnLine (λ (l : Line). bytes_eq l.domain domain) (in_order (lines c)) (order-plain counted (length c.blocks) (length c.controls) G (lines c) lines-plain))
 
   abbrev IsNode : Node → Type 0
-  IsNode n = IsPlainNode (length (attributes c)) (length c.blocks) G n
+  IsNode n = IsPlainNode (length (attributes c)) (length c.blocks) (length c.controls) G n
 
-  nodes-of : (domain : List ℕ) (ps : List Place) → Each (IsPlace (length (attributes c)) (length c.blocks) G) ps → Each IsNode (map (node_at domain) ps)
+  allowed-data : (d f n : Bool) → ((d && f) && n) ≡ true → d ≡ true
+  allowed-data true f n h = refl
+  allowed-data false f n h = h
+
+  nodes-of : (domain : List ℕ) (ps : List Place) → Each (IsPlace (length (attributes c)) (length c.blocks) (length c.controls) G) ps → Each IsNode (map (node_at domain) ps)
   nodes-of domain [] h = tt
-  nodes-of domain (p ∷ ps) h = (record { role = h.0.0; tree = h.0.1 }, nodes-of domain ps h.1)
+  nodes-of domain (p ∷ ps) h = (
+    record {
+      role = h.0.0;
+      tree = h.0.1;
+      member = λ e. h.0.2 (allowed-data p.is_data (list_any (bytes_eq (constraint p.item)) member_constraints) (nat_le (largest p.kind) 500) e);
+    },
+    nodes-of domain ps h.1,
+  )
 
   nodes-plain : Each IsNode (nodes c)
   nodes-plain = each-spread IsNode (λ domain. map (node_at domain) (places_in c domain)) (domains c) (in-domains (domains c))
@@ -204,12 +263,12 @@ module _ (c : Config) (controls : c.controls ≡ []) (G : ℕ → Type 0) (group
       in-domains : (ds : List (List ℕ)) → Each (λ domain. Each IsNode (map (node_at domain) (places_in c domain))) ds
       in-domains [] = tt
       in-domains (d ∷ ds) = (
-        nodes-of d (places_in c d) (places-plain (length (attributes c)) (length c.blocks) G [] (tree_of (names_in c d)) (grown-plain (length (attributes c)) (length c.blocks) G (suc (longest (names_in c d))) (names_in c d) (names-plain d))),
+        nodes-of d (places_in c d) (places-plain counted (length c.blocks) (length c.controls) G [] (tree_of (names_in c d)) (grown-plain counted (length c.blocks) (length c.controls) G (suc (longest (names_in c d))) (names_in c d) (names-plain d))),
         in-domains ds,
       )
 
   at-plain : (ns : List Node) (n : ℕ) → Each IsNode ns → IsNode (unwrap_or (slice_get ns n) (record { domain = []; item = []; role = several; tree = structure none; attrs = []; allowed = false }))
-  at-plain [] n h = record { role = tt; tree = tt }
+  at-plain [] n h = record { role = tt; tree = tt; member = λ e. tt }
   at-plain (x ∷ ns) zero h = h.0
   at-plain (x ∷ ns) (suc n) h = at-plain ns n h.1
 

@@ -51,17 +51,17 @@ component-same c b m n comp (suc k) past =
 
 -- ---- single reads
 
--- nodes that are read, and names that fail
-abbrev pub ReadsOnly : List Single → Type 0
-ReadsOnly [] = Unit {0}
-ReadsOnly (reads x ∷ ss) = ReadsOnly ss
-ReadsOnly (writes x v ∷ ss) = ⊥
-ReadsOnly (fails code ∷ ss) = ReadsOnly ss
+-- nodes that are read, each of which is so, and names that fail
+abbrev pub ReadsOnly : (ℕ → Type 0) → List Single → Type 0
+ReadsOnly N [] = Unit {0}
+ReadsOnly N (reads x ∷ ss) = N x × ReadsOnly N ss
+ReadsOnly N (writes x v ∷ ss) = ⊥
+ReadsOnly N (fails code ∷ ss) = ReadsOnly N ss
 
-pub rest-only : (s : Single) (ss : List Single) → ReadsOnly (s ∷ ss) → ReadsOnly ss
-rest-only (reads x) ss h = h
-rest-only (writes x v) ss h = absurd h
-rest-only (fails code) ss h = h
+pub rest-only : (N : ℕ → Type 0) (s : Single) (ss : List Single) → ReadsOnly N (s ∷ ss) → ReadsOnly N ss
+rest-only N (reads x) ss h = h.1
+rest-only N (writes x v) ss h = absurd h
+rest-only N (fails code) ss h = h
 
 -- what each is answered, where nodes read so
 abbrev pub answer_to : (ℕ → Result Value ℕ) → Single → Result Value ℕ
@@ -77,22 +77,22 @@ result-read : (r : Result Value ℕ) → result_of (outcome_of_read r) ≡ r
 result-read (Ok v) = refl
 result-read (Err code) = refl
 
-module _ (c : Model) (a m n : ℕ) (f : ℕ → Result Value ℕ) (past : Past) (told : (k x : ℕ) → read_node c a x (arrivals n m (suc k) past) ≡ outcome_of_read (f x)) where
-  pub outcome-single : (k : ℕ) (s : Single) (ss : List Single) → ReadsOnly (s ∷ ss) → outcome_at c a n m s (arrivals n m k past) ≡ outcome_of_read (answer_to f s)
-  outcome-single k (reads x) ss h = told k x
+module _ (c : Model) (a m n : ℕ) (f : ℕ → Result Value ℕ) (past : Past) (N : ℕ → Type 0) (told : (k x : ℕ) → N x → read_node c a x (arrivals n m (suc k) past) ≡ outcome_of_read (f x)) where
+  pub outcome-single : (k : ℕ) (s : Single) (ss : List Single) → ReadsOnly N (s ∷ ss) → outcome_at c a n m s (arrivals n m k past) ≡ outcome_of_read (answer_to f s)
+  outcome-single k (reads x) ss h = told k x h.0
   outcome-single k (writes x v) ss h = absurd h
   outcome-single k (fails code) ss h = refl
 
-  after-single : (k : ℕ) (s : Single) (ss : List Single) → ReadsOnly (s ∷ ss) → after_single c a n m s (arrivals n m k past) ≡ arrivals n m (suc k) past
+  after-single : (k : ℕ) (s : Single) (ss : List Single) → ReadsOnly N (s ∷ ss) → after_single c a n m s (arrivals n m k past) ≡ arrivals n m (suc k) past
   after-single k s ss h = ap (λ (d : Deed). record { moment = m; step = n; deed = d } ∷ arrivals n m k past) (ap deed_of (outcome-single k s ss h) ∙ nothing-read (answer_to f s))
 
-  pub outcomes-told : (k : ℕ) (ss : List Single) → ReadsOnly ss → outcomes c a n m ss (arrivals n m k past) ≡ map (λ s. outcome_of_read (answer_to f s)) ss
+  pub outcomes-told : (k : ℕ) (ss : List Single) → ReadsOnly N ss → outcomes c a n m ss (arrivals n m k past) ≡ map (λ s. outcome_of_read (answer_to f s)) ss
   outcomes-told k [] h = refl
-  outcomes-told k (s ∷ ss) h = ap₂ (λ o os. o ∷ os) (outcome-single k s ss h) (ap (outcomes c a n m ss) (after-single k s ss h) ∙ outcomes-told (suc k) ss (rest-only s ss h))
+  outcomes-told k (s ∷ ss) h = ap₂ (λ o os. o ∷ os) (outcome-single k s ss h) (ap (outcomes c a n m ss) (after-single k s ss h) ∙ outcomes-told (suc k) ss (rest-only N s ss h))
 
   results-all : (ss : List Single) → map result_of (map (λ s. outcome_of_read (answer_to f s)) ss) ≡ map (answer_to f) ss
   results-all [] = refl
   results-all (s ∷ ss) = ap₂ (λ r rs. r ∷ rs) (result-read (answer_to f s)) (results-all ss)
 
-  pub results-told : (ss : List Single) → ReadsOnly ss → map result_of (outcomes c a n m ss past) ≡ map (answer_to f) ss
+  pub results-told : (ss : List Single) → ReadsOnly N ss → map result_of (outcomes c a n m ss past) ≡ map (answer_to f) ss
   results-told ss h = ap (map result_of) (outcomes-told zero ss h) ∙ results-all ss

@@ -5,70 +5,52 @@ use Rattle.std.specs.Option.{option_map, option_map_or}
 use Rattle.std.specs.Str.{bytes_eq}
 use Rattle.std.proofs.lemmas.Bool.{lt-ltb, le-ltb}
 use Rattle.std.proofs.lemmas.Bool.Decides.{nat_tests}
-use Rattle.std.specs.List.{find}
+use Rattle.std.specs.List.{All, find}
+use Rattle.std.proofs.lemmas.List.Elements.{All-nil, All-cons, All-head, All-tail}
 use Rattle.sv_base.specs.declared.numbers.NodeId.{NodeId}
-use Rattle.bay_model.specs.declared.reply.Asked.TheVariants as asked
 use Rattle.bay_model.specs.declared.reply.Reply.TheVariants as replies
 use Rattle.bay_model.specs.declared.request.Scope.{Scope}
 use Rattle.bay_model.specs.declared.request.Scope.TheVariants as scopes
 use Rattle.bay_model.specs.declared.request.Service.{Service}
 use Rattle.bay_model.specs.declared.request.Service.TheVariants as services
 use Rattle.bay_model.specs.declared.request.SetName.{SetName}
-use Rattle.bay_model.specs.declared.request.Target.{Target}
-use Rattle.bay_model.specs.declared.request.Target.TheVariants as targets
-use Rattle.bay_model.specs.Model.{Model, DataSet}
+use Rattle.bay_model.specs.Lookups.{node_of}
+use Rattle.bay_model.specs.Model.{Model, DataSet, Role, single, several, selecting, calling}
 use Rattle.bay_model.specs.Named.{configured_model}
 use Rattle.bay_model.specs.Names.{names_of, is_unknown, variables_of}
 use Rattle.bay_model.specs.Outcomes.{result_of}
 use Rattle.bay_model.specs.Points.{Past}
-use Rattle.bay_model.specs.Services.{reply, singles_of, set_found, set_name, set_reply, read_reply, read_set_reply, node_number}
+use Rattle.bay_model.specs.Services.{reply, singles_of, set_name, set_reply, read_reply, read_set_reply, node_number}
 use Rattle.bay_model.specs.Sets.{is_named, sets, set_named, dynamic}
-use Rattle.bay_model.specs.Singles.{Single, reads, read_of, outcomes}
+use Rattle.bay_model.specs.Singles.{Single, reads, outcomes}
 use Rattle.bay_model.specs.Sizes.{within}
 use Rattle.data_sets.specs.declared.book.DeleteFault.TheVariants as faults
 use Rattle.data_sets.specs.Books.{Booked, Book, is_name, place_of, number_named, set_at, deletion, deletion_of}
 use Rattle.data_sets.specs.Standing.{data_set}
 use Rattle.data_sets.proofs.HistoryLaws.{found, items}
+use Rattle.data_sets.proofs.PlaceLaws.{within as within-sets}
 use Rattle.list_laws.proofs.Among.{heads, tails}
 use Rattle.bay_replies.specs.declared.replies.Replies.{Replies}
 use Rattle.bay_replies.specs.Asking.{IsReading}
-use Rattle.bay_replies.specs.Given.{node_read, target_read}
+use Rattle.bay_replies.specs.Given.{node_read}
+use Rattle.bay_replies.specs.Plain.{SelectsNothing}
+use Rattle.bay_replies.specs.Reading.{selecting_of}
 use Rattle.bay_replies.specs.Replied.{listed, scoped, is_fixed, set_by, asked_set, read_set_by, replied}
 use Rattle.bay_replies.specs.Standing.{IsServed, StandAt, SetsStand}
-use Rattle.bay_replies.proofs.GivenLaws.{node-told}
+use Rattle.bay_replies.proofs.GivenLaws.{node-told, plain-at}
 use Rattle.bay_replies.proofs.PointLaws.{ReadsOnly, answer_to, results-told}
 
 -- ---- singles that read
 
-targets-only : (ts : List Target) → ReadsOnly (map read_of ts)
-targets-only [] = tt
-targets-only (targets.Node n name ∷ ts) = targets-only ts
-targets-only (targets.Missing name ∷ ts) = targets-only ts
-targets-only (targets.Alternate name ∷ ts) = targets-only ts
+quiet-none : (role : Role) → SelectsNothing role → selecting_of role ≡ None
+quiet-none (single l) h = refl
+quiet-none several h = refl
+quiet-none (selecting k) h = absurd h
+quiet-none (calling k call) h = absurd h
 
-nodes-only : (ns : List ℕ) → ReadsOnly (map reads ns)
-nodes-only [] = tt
-nodes-only (n ∷ ns) = nodes-only ns
-
-set-only : (o : Option DataSet) → ReadsOnly (option_map_or (λ (s : DataSet). map reads s.nodes) o [])
-set-only None = tt
-set-only (Some s) = nodes-only s.nodes
-
--- a request that writes nothing has single reads alone
-pub reading-only : (c : Model) (past : Past) (s : Service) → IsReading s → ReadsOnly (singles_of c past s)
-reading-only c past services.Status h = tt
-reading-only c past services.Identify h = tt
-reading-only c past services.Conclude h = tt
-reading-only c past (services.Names class scope after) h = tt
-reading-only c past (services.TypeOfNode t) h = tt
-reading-only c past (services.Read ts spec) h = targets-only ts
-reading-only c past (services.ReadSet domain item spec) h = set-only (set_found c past (set_name domain item))
-reading-only c past (services.WriteVars ws) h = absurd h
-reading-only c past (services.WriteSet domain item vs) h = absurd h
-reading-only c past (services.Define domain item members) h = absurd h
-reading-only c past (services.SetOf domain item) h = tt
-reading-only c past (services.Delete scope names) h = absurd h
-reading-only c past (services.Reject n) h = tt
+nodes-only : (N : ℕ → Type 0) (ns : List NodeId) → All (λ (x : NodeId). N x.0) ns → ReadsOnly N (map reads (map (λ (x : NodeId). x.0) ns))
+nodes-only N [] h = tt
+nodes-only N (x ∷ ns) h = (All-head (λ (x : NodeId). N x.0) x ns h, nodes-only N ns (All-tail (λ (x : NodeId). N x.0) x ns h))
 
 -- ---- sets
 
@@ -135,14 +117,22 @@ module _ (r : Replies) (served : IsServed r.model.now r.store.now r.groups.now r
   abbrev cm : Model
   cm = configured_model r.model.now
 
-  results-are : (ss : List Single) → ReadsOnly ss → map result_of (outcomes cm a n m ss past) ≡ map (answer_to (node_read r)) ss
-  results-are ss h = results-told cm a m n (node_read r) past (node-told r served m n past stand later moment a) ss h
+  abbrev IsAllowed : NodeId → Type 0
+  IsAllowed x = (node_of cm x.0).allowed ≡ true
 
-  targets-told : (ts : List Target) → map (answer_to (node_read r)) (map read_of ts) ≡ map (target_read r) ts
-  targets-told [] = refl
-  targets-told (targets.Node x name ∷ ts) = ap (λ l. node_read r x.0 ∷ l) (targets-told ts)
-  targets-told (targets.Missing name ∷ ts) = ap (λ l. Err 10 ∷ l) (targets-told ts)
-  targets-told (targets.Alternate name ∷ ts) = ap (λ l. Err 9 ∷ l) (targets-told ts)
+  abbrev IsNoSbo : ℕ → Type 0
+  IsNoSbo x = selecting_of (node_of cm x).role ≡ None
+
+  results-are : (ss : List Single) → ReadsOnly IsNoSbo ss → map result_of (outcomes cm a n m ss past) ≡ map (answer_to (node_read r)) ss
+  results-are ss h = results-told cm a m n (node_read r) past IsNoSbo (λ k x other. node-told r served m n past stand later moment a k x other) ss h
+
+  -- members select nothing
+  members-quiet : (ns : List NodeId) → All IsAllowed ns → All (λ (x : NodeId). IsNoSbo x.0) ns
+  members-quiet [] h = All-nil (λ (x : NodeId). IsNoSbo x.0)
+  members-quiet (x ∷ ns) h = All-cons (λ (x : NodeId). IsNoSbo x.0) x ns (quiet-none (node_of cm x.0).role ((plain-at r.model.now served.grouped x.0).member (All-head IsAllowed x ns h))) (members-quiet ns (All-tail IsAllowed x ns h))
+
+  set-only : (name : SetName) (k : ℕ) → number_named name r.book.now ≡ Some k → ReadsOnly IsNoSbo (map reads (map (λ (x : NodeId). x.0) (set_at r.book.now k).nodes))
+  set-only name k is = nodes-only IsNoSbo (set_at r.book.now k).nodes (members-quiet (set_at r.book.now k).nodes (served.plain k (within-sets (λ (s : Booked). is_name name s.name) r.book.now.sets k is)))
 
   members-told : (ns : List NodeId) → map (answer_to (node_read r)) (map reads (map (λ (x : NodeId). x.0) ns)) ≡ map (λ (x : NodeId). node_read r x.0) ns
   members-told [] = refl
@@ -158,7 +148,7 @@ module _ (r : Replies) (served : IsServed r.model.now r.store.now r.groups.now r
       by : (o : Option ℕ) → number_named name r.book.now ≡ o
           → read_set_by r size name spec o ≡ read_set_reply size name spec (outcomes cm a n m (members_reads (option_map (λ k. data_set (set_at r.book.now k)) o)) past) (option_map (λ k. data_set (set_at r.book.now k)) o)
       by None is = refl
-      by (Some k) is = ap (read_reply size (asked_set spec name)) (sym (results-are (map reads (map (λ (x : NodeId). x.0) (set_at r.book.now k).nodes)) (nodes-only (map (λ (x : NodeId). x.0) (set_at r.book.now k).nodes)) ∙ members-told (set_at r.book.now k).nodes))
+      by (Some k) is = ap (read_reply size (asked_set spec name)) (sym (results-are (map reads (map (λ (x : NodeId). x.0) (set_at r.book.now k).nodes)) (set-only name k is) ∙ members-told (set_at r.book.now k).nodes))
 
   scoped-told : (class : ℕ) (scope : Scope) → scoped r class scope ≡ names_of cm past class scope
   scoped-told class scopes.Vmd = refl
@@ -172,7 +162,7 @@ module _ (r : Replies) (served : IsServed r.model.now r.store.now r.groups.now r
   replied-told services.Conclude h = refl
   replied-told (services.Names class scope after) h = ap (λ l. if is_unknown cm scope then replies.Error 7 2 else replies.Names (within size (listed after l))) (scoped-told class scope)
   replied-told (services.TypeOfNode t) h = refl
-  replied-told (services.Read ts spec) h = ap (read_reply size (if spec then asked.Vars ts else asked.No)) (sym (results-are (map read_of ts) (targets-only ts) ∙ targets-told ts))
+  replied-told (services.Read ts spec) h = absurd h
   replied-told (services.ReadSet domain item spec) h = read-set-told (set_name domain item) spec (number_named (set_name domain item) r.book.now) refl
   replied-told (services.WriteVars ws) h = absurd h
   replied-told (services.WriteSet domain item vs) h = absurd h

@@ -1,8 +1,9 @@
 -- Results and names, as far as a PDU can hold them.
 use Rattle.std.proofs.Common.{◌≡◌, ◌≤◌, ◌<◌, ℕ, zero, suc, ◌+◌, ◌-◌, Bool, true, false, List, [], ◌∷◌, ◌++◌, length, map, take, drop, get_or, refl, sym, ap, ap₂, ◌∙◌, arith, length-append, append_assoc, append-nil}
-use Rattle.std.specs.Prelude.{if◌then◌else◌, nat_le, None, Some, Result}
+use Rattle.std.specs.Prelude.{if◌then◌else◌, nat_le, nat_lt, min, None, Some, Result}
 use Rattle.std.specs.List.{flat_map}
 use Rattle.std.proofs.lemmas.Bool.{leb-true, leb-false, lt-ltb, le-ltb}
+use Rattle.std.proofs.lemmas.Bool.Decides.{nat_tests}
 use Rattle.std.proofs.lemmas.List.{drop_all}
 use Rattle.sv_base.specs.declared.value.Value.{Value}
 use Rattle.bay_model.specs.Sizes.{access_result, identifier, within}
@@ -31,7 +32,7 @@ take-one [] k x below is = absurd (omega (arith, below))
 take-one (y ∷ ys) zero x below is = ap (λ z. z ∷ []) (sym is)
 take-one (y ∷ ys) (suc k) x below is = let next : suc k + 1 ≡ suc (k + 1) = omega arith in ap (λ j. take j (y ∷ ys)) next ∙ ap (λ l. y ∷ l) (take-one ys k x (omega (arith, below)) is)
 
-drop-one : {A : Type 0} (xs : List A) (k : ℕ) (x : A) → k < length xs → x ≡ get_or xs k x → drop k xs ≡ x ∷ drop (k + 1) xs
+pub drop-one : {A : Type 0} (xs : List A) (k : ℕ) (x : A) → k < length xs → x ≡ get_or xs k x → drop k xs ≡ x ∷ drop (k + 1) xs
 drop-one [] k x below is = absurd (omega (arith, below))
 drop-one (y ∷ ys) zero x below is = ap (λ z. z ∷ ys) (sym is)
 drop-one (y ∷ ys) (suc k) x below is = let next : suc (k + 1) ≡ suc k + 1 = omega arith in drop-one ys k x (omega (arith, below)) is ∙ ap (λ j. x ∷ drop j (y ∷ ys)) next
@@ -91,3 +92,16 @@ module _ {A : Type 0} (f : A → Result Value ℕ) (size left k : ℕ) (xs : Lis
       let all : map f xs ≡ done = sym are ∙ (ap (λ l. done ++ map f l) (drop_all k xs past) ∙ append-nil done) in
       let short : length (octets (map f xs)) ≤ size = omega (arith, count, ap (λ l. length (octets l)) all) in
       ap (λ t. if t then None else Some (map f xs)) (le-ltb size (length (octets (map f xs))) short) ∙ ap Some all
+
+-- sum is how many octets they have so far, and 4294967295 where there are more
+module _ (rs : List (Result Value ℕ)) (k sum : ℕ) (are : min (sum + length (octets (drop k rs))) 4294967295 ≡ min (length (octets rs)) 4294967295) where
+  pub sum-next : (one : Result Value ℕ) (next : ℕ) → k < length rs → one ≡ get_or rs k one → next ≡ min (sum + min (length (access_result one)) 4294967295) 4294967295
+      → min (next + length (octets (drop (k + 1) rs))) 4294967295 ≡ min (length (octets rs)) 4294967295
+  sum-next one next below is same =
+      let all : length (octets (drop k rs)) ≡ length (octets (one ∷ drop (k + 1) rs)) = ap (λ l. length (octets l)) (drop-one rs k one below is) in
+      omega (arith, are, same, all, length-append (access_result one) (octets (drop (k + 1) rs)))
+
+  pub sum-all : (size : ℕ) → length rs ≤ k → sum ≤ 4294967295 → size < 4294967295 → nat_lt size sum ≡ nat_lt size (length (octets rs))
+  sum-all size past fits small =
+      let none : length (octets (drop k rs)) ≡ 0 = ap (λ l. length (octets l)) (drop_all k rs past) in
+      grind (arith, nat_tests, are, none, fits, small)

@@ -1,5 +1,5 @@
--- Requests that write nothing (ISO 9506-2: Status, Identify, Conclude, GetNameList, GetVariableAccessAttributes, Read,
--- GetNamedVariableListAttributes, and a Reject).
+-- Requests that read and write no variable (ISO 9506-2: Status, Identify, Conclude, GetNameList, GetVariableAccessAttributes, Read of a
+-- named variable list, GetNamedVariableListAttributes, and a Reject).
 use Rattle.std.specs.Prelude.{◌≡◌, true, length}
 use Rattle.sv_base.specs.declared.config.Config.{Config}
 use Rattle.bay_model.specs.declared.request.Service.{Service}

@@ -33,11 +33,13 @@ IsPlainRole attrs blocks controls G several = Unit {0}
 IsPlainRole attrs blocks controls G (selecting k) = k < controls
 IsPlainRole attrs blocks controls G (calling k call) = k < controls
 
--- a control's SBO may be no member of a data set
+-- it is neither the SBO nor a command of a control
 abbrev pub SelectsNothing : Role → Type 0
 SelectsNothing (selecting k) = ⊥
+SelectsNothing (calling k call) = ⊥
 SelectsNothing _ = Unit {0}
 
+-- what may be a member of a data set neither selects nor calls
 pub record IsPlainNode (attrs blocks controls : ℕ) (G : ℕ → Type 0) (n : Node) : Type 0 where
   pub role : IsPlainRole attrs blocks controls G n.role
   pub tree : IsPlainTree attrs blocks G n.tree

@@ -1,5 +1,5 @@
 -- Results of reads, as far as a PDU can hold them (ISO 9506-2, Read).
-use Rattle.std.specs.Prelude.{◌≡◌, ◌<◌, ℕ, ◌-◌, Bool, true, false, List, ◌++◌, length, map, flat_map, min, Option, None, Some, Result, Ok, Err, nat_le, slice_get, ◌+◌, [], ◌∷◌, if◌then◌else◌}
+use Rattle.std.specs.Prelude.{◌≡◌, ◌<◌, ℕ, ◌+◌, ◌-◌, Bool, true, false, List, [], ◌∷◌, length, map, min, Option, None, Some, Result, Ok, Err, nat_le, slice_get, if◌then◌else◌}
 use Rattle.sv_base.specs.declared.config.Config.{Config}
 use Rattle.sv_base.specs.declared.value.Value.{Value}
 use Rattle.bay_model.specs.declared.request.Target.{Target}
@@ -70,5 +70,7 @@ abbrev pub IsReadBy : Replies → ℕ → List Target → List (Result Value ℕ
 IsReadBy r size ts results false = results ≡ early_reads r ts
 IsReadBy r size ts results true = size < least_len r ts
 
-abbrev pub IsRead : Replies → ℕ → List Target → Read → Type 0
-IsRead r size ts x = IsReadBy r size ts x.results.items x.is_cut
+-- all that were read before their turn; a PDU of the greatest size wants memory
+pub record IsRead (r : Replies) (size : ℕ) (ts : List Target) (x : Read) : Type 0 where
+  pub small : size < 4294967295
+  pub read : IsReadBy r size ts x.results.items x.is_cut

@@ -1,5 +1,5 @@
-//! Replies to requests that write nothing (ISO 9506-2, the confirmed services), by what a bay lends: its model, its values, its
-//! report blocks and its data sets.
+//! Replies to requests that write nothing, and reads of variables before their turn (ISO 9506-2, the confirmed services), by what a
+//! bay lends: its model, its values, its setting groups, its report blocks and its data sets.
 #![tactic(auto)]
 
 // what is lent, and the reply

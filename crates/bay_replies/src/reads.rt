@@ -1,7 +1,6 @@
 //! Reads of variables (ISO 9506-2, Read), before their turn: a read of a control's SBO gives its reference, as if it selects.
 
-ghost use Rattle.std.specs.Prelude.{◌≡◌, ◌≤◌, ℕ, List, Result, length, IfOk};
-ghost use Rattle.sv_base.specs.declared.config.CtlDef.{CtlDef as Line};
+ghost use Rattle.std.specs.Prelude.{◌≡◌, IfOk};
 ghost use Rattle.bay_model.specs.Configured.{control_defined};
 
 use crate::replies::Replies;
@@ -43,13 +42,12 @@ impl<'a> Replies<'a> {
     ghost use Rattle.bay_model.specs.Named.{nodes as nodes_of};
     ghost use Rattle.set_view.specs.Shapes.{AreThere};
     ghost use Rattle.bay_replies.specs.Given.{node_read, target_read};
-    ghost use Rattle.bay_replies.specs.Standing.{IsServed};
     ghost use Rattle.bay_replies.specs.Reading.{held_within, reference_read, selecting_in, IsEarly, IsRead, IsTarget};
 
     /// The control whose SBO a variable is.
-    pub fn selecting(&self, target: &Target) -> Option<u32>
+    fn selecting(&self, target: &Target) -> Option<u32>
         requires { IsTarget self.now.model.now target.now }
-        ensures { result ≡ selecting_in self.now.model.now target.now }
+        ensures { result ≡ selecting_in self.entry.now.model.now target.now }
     {
         match target {
             Target::Node(node, _) => match self.model.role_of(*node) {
@@ -62,7 +60,7 @@ impl<'a> Replies<'a> {
 
     /// What a control's SBO gives where its read selects.
     fn read_reference(&self, alloc: Global, control: u32) -> Result<Result<Value, u8>, AllocError>
-        ensures { IfOk result (λ r. r ≡ reference_read (slice_get self.now.model.now.controls control)) }
+        ensures { IfOk result (λ r. r ≡ reference_read (slice_get self.entry.now.model.now.controls control)) }
     {
         match self.model.config().controls.get(control as usize) {
             Some(line) => Ok(Ok(Value::Text(reference_of(alloc, line)?))),
@@ -101,17 +99,19 @@ impl<'a> Replies<'a> {
     }
 
     /// Variables before their turn. It reads no further than to the first that is too much for a PDU of this size, whichever reads of SBO
-    /// select.
+    /// select. A PDU of 4294967295 octets wants memory.
     pub fn read_targets(
         &self,
         alloc: Global,
         size: u32,
         targets: &[Target],
     ) -> Result<Read, AllocError>
-        requires served { IsServed self.now.model.now self.now.store.now self.now.groups.now self.now.blocks.now self.now.book.now }
-        requires targets { All (IsTarget self.now.model.now) targets.now }
+        requires { All (IsTarget self.now.model.now) targets.now }
         ensures { IfOk result (λ r. IsRead self.entry.now size targets.now r) }
     {
+        if size == u32::MAX {
+            return Err(AllocError);
+        }
         let mut results = Vec::new(alloc);
         let mut left = size;
         for target in targets {

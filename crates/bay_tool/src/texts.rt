@@ -5,7 +5,7 @@ use std::test::Fail;
 use sv_io::{Calls, MemSink};
 
 /// The kinds of refused lines of a record, in the order of their numbers.
-const RECORD_KINDS: [run_record::Kind; 9] = [
+const RECORD_KINDS: [run_record::Kind; 8] = [
     run_record::Kind::Word,
     run_record::Kind::Number,
     run_record::Kind::Name,
@@ -14,7 +14,6 @@ const RECORD_KINDS: [run_record::Kind; 9] = [
     run_record::Kind::Hex,
     run_record::Kind::NoEnd,
     run_record::Kind::Long,
-    run_record::Kind::NotBuilt,
 ];
 
 /// The kinds of refused lines of a configuration.

@@ -1,9 +1,10 @@
 -- The configured values of the attributes: each is of its attribute's type, and sound.
-use Rattle.std.proofs.Common.{◌≡◌, ◌<◌, ℕ, List, [], ◌∷◌, ◌++◌, map, flat_map, filter, length, unwrap_or, refl, ap, ap₂, sym, ◌∙◌, subst, arith, Bool, false}
-use Rattle.std.specs.Prelude.{slice_index_or}
+use Rattle.std.proofs.Common.{◌≡◌, ◌<◌, ◌≤◌, ◌^◌, ℕ, zero, suc, List, [], ◌∷◌, ◌++◌, map, flat_map, filter, length, unwrap_or, nat_lt, refl, ap, ap₂, sym, ◌∙◌, arith, Bool, true, false, if◌then◌else◌}
+use Rattle.std.specs.Prelude.{slice_index_or, pos, codes}
 use Rattle.std.specs.List.{All}
 use Rattle.std.proofs.lemmas.List.{map-append, get_or-map}
-use Rattle.std.proofs.lemmas.List.Elements.{All-append, All-map, All-filter, All-nil}
+use Rattle.std.proofs.lemmas.Bool.Decides.{nat_tests}
+use Rattle.std.proofs.lemmas.List.Elements.{All-append, All-map, All-filter, All-nil, All-cons, All-head, All-tail}
 use Rattle.std.proofs.lemmas.Option.{get_or_from_slice_get, slice_get_within}
 use Rattle.sv_base.specs.Same.{values_of}
 use Rattle.sv_base.specs.declared.config.Config.{Config}
@@ -12,8 +13,8 @@ use Rattle.sv_base.specs.declared.config.CtlDef.{CtlDef}
 use Rattle.sv_base.specs.declared.types.TypeOf.{TypeOf}
 use Rattle.sv_base.specs.declared.types.TypeOf.TheVariants as types
 use Rattle.sv_base.specs.declared.value.Value.TheVariants as kinds
-use Rattle.bay_rooms.specs.Kinds.{kind_of, is_kind, is_in_range}
-use Rattle.bay_model.specs.Generated.{Parameter, parameters}
+use Rattle.bay_rooms.specs.Kinds.{int, uint, kind_of, is_kind, is_in_range}
+use Rattle.bay_model.specs.Generated.{Parameter, parameters, selection, is_selected}
 use Rattle.bay_model.specs.Model.{Kind}
 use Rattle.bay_model.specs.NamedLines.{is_setting}
 use Rattle.object_model.specs.Fits.{attr_types, is_sound}
@@ -60,6 +61,10 @@ same-at f g xs ys x d e z same here there = sym (get_or-map f xs x d z here) ∙
 
 -- ---- they are sound
 
+-- ctlModel, which each control has
+abbrev model_of : CtlDef → Parameter
+model_of k = record { name = codes "ctlModel"; kind = types.Int 8; value = kinds.Int (pos k.model) }
+
 abbrev IsSoundStored : Stored → Type 0
 IsSoundStored s = IsSoundCell s.held
 
@@ -72,12 +77,47 @@ line-sound a place w has sound =
       sound = ap (λ v. is_sound v) (is ∙ sym (get_or_from_slice_get (values_of a.values) place has.value kinds.Other has.there)) ∙ sound place kinds.Other (slice_get_within (values_of a.values) place has.value has.there);
     }
 
+in-octet : (m : ℕ) → m ≤ 4 → is_in_range (int 8) (kinds.Int (pos m)) ≡ true
+in-octet zero h = refl
+in-octet (suc zero) h = refl
+in-octet (suc (suc zero)) h = refl
+in-octet (suc (suc (suc zero))) h = refl
+in-octet (suc (suc (suc (suc zero)))) h = refl
+in-octet (suc (suc (suc (suc (suc m))))) h = absurd (omega (arith, h))
+
+in-word : (most t : ℕ) → t < most → nat_lt t most ≡ true
+in-word most t h = grind (arith, nat_tests)
+
+-- a control's CF attributes are numbers
+parameters-sound : (k : CtlDef) → (k.model ≤ 4) × (k.class ≤ 1) → k.timeout < 2 ^ 32 → All IsSoundStored (stored_control k)
+parameters-sound k h t = by (is_selected k)
+  where
+    number : (m : ℕ) → m ≤ 4 → IsSoundCell (record { value = kinds.Int (pos m); kind = int 8 })
+    number m le = record { kind = refl; range = in-octet m le; sound = refl }
+
+    timeout : IsSoundCell (record { value = kinds.Uint k.timeout; kind = uint 32 })
+    timeout = record { kind = refl; range = in-word (2 ^ 32) k.timeout t; sound = refl }
+
+    selected : All IsSoundStored (map stored_parameter (selection k))
+    selected = All-cons IsSoundStored (record { held = record { value = kinds.Uint k.timeout; kind = uint 32 }; is_writable = false }) (record { held = record { value = kinds.Int (pos k.class); kind = int 8 }; is_writable = false } ∷ []) timeout
+        (All-cons IsSoundStored (record { held = record { value = kinds.Int (pos k.class); kind = int 8 }; is_writable = false }) [] (number k.class (omega (arith, h.1))) (All-nil IsSoundStored))
+
+    by : (b : Bool) → All IsSoundStored (map stored_parameter (model_of k ∷ (if b then selection k else [])))
+    by true = All-cons IsSoundStored (stored_parameter (model_of k)) (map stored_parameter (selection k)) (number k.model h.0) selected
+    by false = All-cons IsSoundStored (stored_parameter (model_of k)) [] (number k.model h.0) (All-nil IsSoundStored)
+
+controls-sound : (ks : List CtlDef) → All (λ (k : CtlDef). (k.model ≤ 4) × (k.class ≤ 1)) ks → All (λ (k : CtlDef). k.timeout < 2 ^ 32) ks → All IsSoundStored (flat_map stored_control ks)
+controls-sound [] h t = All-nil IsSoundStored
+controls-sound (k ∷ ks) h t = All-append IsSoundStored (stored_control k) (flat_map stored_control ks)
+    (parameters-sound k (All-head (λ (k : CtlDef). (k.model ≤ 4) × (k.class ≤ 1)) k ks h) (All-head (λ (k : CtlDef). k.timeout < 2 ^ 32) k ks t))
+    (controls-sound ks (All-tail (λ (k : CtlDef). (k.model ≤ 4) × (k.class ≤ 1)) k ks h) (All-tail (λ (k : CtlDef). k.timeout < 2 ^ 32) k ks t))
+
 opened-sound : (c : Config) → IsServable c → All IsSoundStored (opened c)
 opened-sound c served = All-append IsSoundStored (map (λ a. stored_line a (place_in c a) (is_written a)) c.attrs) (flat_map stored_control c.controls ++ map stored_twin (filter is_setting c.attrs))
     (All-map IsSoundStored (λ a. stored_line a (place_in c a) (is_written a)) c.attrs (λ k d below.
     line-sound (slice_index_or c.attrs k d) (place_in c (slice_index_or c.attrs k d)) (is_written (slice_index_or c.attrs k d)) (served.storable.lines k d below) (served.sound k d below)))
     (All-append IsSoundStored (flat_map stored_control c.controls) (map stored_twin (filter is_setting c.attrs))
-    (subst (λ ks. All IsSoundStored (flat_map stored_control ks)) (sym served.controls) (All-nil IsSoundStored))
+    (controls-sound c.controls served.storable.controls served.timeouts)
     (All-map IsSoundStored stored_twin (filter is_setting c.attrs) (All-filter is_setting (λ a. IsSoundStored (stored_twin a)) c.attrs (λ k d below.
     line-sound (slice_index_or c.attrs k d) 0 false (served.storable.twins k d below) (served.sound k d below)))))
 

@@ -11,6 +11,8 @@ mod associations;
 #[cfg(test)]
 mod configurations;
 #[cfg(test)]
+mod controls;
+#[cfg(test)]
 mod faults;
 #[cfg(test)]
 mod lines;

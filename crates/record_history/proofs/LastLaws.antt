@@ -42,10 +42,6 @@ if-goes : (b : Bool) (t : Told) (kind : ℕ) → (t ≡ last → ⊥) → (if b 
 if-goes true t kind goes h = goes h
 if-goes false t kind goes h = absurd cc
 
-unless-goes : (b : Bool) (t : Told) (kind : ℕ) → (t ≡ last → ⊥) → (if b then refused kind else t) ≡ last → ⊥
-unless-goes true t kind goes h = absurd cc
-unless-goes false t kind goes h = goes h
-
 shut-goes : (c : Config) (a : AssocNo) (asked : OpenForm) → opened_in c a asked ≡ last → ⊥
 shut-goes c a opens.Direct h = turn-goes c a.0 (steps.Open a 65000 (record { 0 = a.0 })) h
 shut-goes c a (opens.Mms size) h = turn-goes c a.0 (steps.Open a size (record { 0 = a.0 })) h

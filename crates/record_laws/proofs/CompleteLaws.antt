@@ -1,6 +1,6 @@
 -- A whole record is read to its end.
 use Rattle.std.proofs.Common.{◌≡◌, ◌≤◌, ◌+◌, ◌-◌, ◌==◌, ℕ, suc, Bool, false, List, [], ◌∷◌, ◌++◌, length, take, refl, sym, ap, ◌∙◌, arith, append_assoc, append-nil, inl, inr}
-use Rattle.std.specs.Prelude.{None, Ok, codes, map, nat_lt, if◌then◌else◌}
+use Rattle.std.specs.Prelude.{Ok, codes, map, nat_lt, if◌then◌else◌}
 use Rattle.answer_text.specs.Texts as texts
 use Rattle.answer_text.specs.declared.shape.Shape.{Shape}
 use Rattle.bay_model.specs.Named.{configured_model}
@@ -12,7 +12,6 @@ use Rattle.text_words.specs.Words.{words_of}
 use Rattle.cfg_parser.specs.Looking.{config_at}
 use Rattle.cfg_text.proofs.WholeLaws.{config-read}
 use Rattle.run_record.specs.Judging as judging
-use Rattle.run_record.specs.Judging.{is_long}
 use Rattle.run_record.specs.Spelled.{words}
 use Rattle.run_record.specs.Grammar.{Spells}
 use Rattle.run_record.specs.declared.line.RecLine.{RecLine}

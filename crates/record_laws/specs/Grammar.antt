@@ -62,7 +62,7 @@ Each P (x ∷ xs) = P x × Each P xs
 abbrev pub record_octets : List (List ℕ) → List (List ℕ) → List (List ℕ) → List ℕ → List ℕ
 record_octets remarks inner steps rest = octets_of remarks ++ (codes "record 1" ++ 10 ∷ (octets_of inner ++ (codes "end" ++ 10 ∷ (octets_of steps ++ (codes "end" ++ 10 ∷ rest)))))
 
--- The octets begin with a record of this configuration, which has nothing that isn't built, within the limits of lines and octets.
+-- The octets begin with a record of this configuration, within the limits of lines and octets.
 pub record IsRecord (octets : List ℕ) (c : Config) : Type 0 where
   pub remarks : List (List ℕ)
   pub inner : List (List ℕ)

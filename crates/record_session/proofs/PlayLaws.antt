@@ -8,14 +8,13 @@ use Rattle.std.specs.Option.{option_map}
 use Rattle.std.proofs.lemmas.Bool.Decides.{eqb_tells}
 use Rattle.sv_base.specs.declared.config.Config.{Config}
 use Rattle.sv_base.specs.declared.numbers.ActorNo.{ActorNo}
-use Rattle.sv_base.specs.declared.numbers.AssocNo.{AssocNo}
 use Rattle.bay_model.specs.Named.{configured_model}
 use Rattle.bay_model.specs.Acceptance.{Fault, fault}
 use Rattle.bay_model.specs.Answers.{Turn, answer}
 use Rattle.bay_model.specs.declared.answer.Answer.{Answer}
 use Rattle.bay_model.specs.declared.step.Step.{Step}
 use Rattle.bay_model.specs.declared.step.Step.TheVariants as steps
-use Rattle.run_record.specs.Grammar.{IsAssoc, IsLine, Spells}
+use Rattle.run_record.specs.Grammar.{Spells}
 use Rattle.run_record.specs.Spelled.{words}
 use Rattle.run_record.specs.Judging.{line_at, number_of}
 use Rattle.run_record.specs.declared.fault.Kind.{Kind}
@@ -33,7 +32,7 @@ use Rattle.record_steps.specs.Streams.{made}
 use Rattle.record_steps.specs.declared.heard.Heard.{Heard}
 use Rattle.record_steps.specs.declared.heard.Heard.TheVariants.{Tells, Makes}
 use Rattle.record_steps.specs.Resolved.{association_of, told_of}
-use Rattle.record_steps.specs.Telling.{telling, most_steps, NamesNone, Names}
+use Rattle.record_steps.specs.Telling.{telling, most_steps}
 use Rattle.record_steps.specs.declared.form.Form as programs
 use Rattle.record_steps.specs.declared.telling.Told as told_as
 use Rattle.record_steps.specs.declared.telling.Told.TheVariants as tolds
@@ -49,35 +48,6 @@ use Rattle.record_outcome.specs.declared.status.Status.TheVariants as statuses
 
 abbrev turn : ℕ → ℕ → Step → Turn
 turn actor moment step = record { moment = moment; actor = actor; step = step }
-
--- ---- the association that a line names
-
-pub named-is : (line : RecLine) (a : AssocNo) → Names line a → association_of line ≡ a.0
-named-is (lines.Open b form) a h = ap (λ (a : AssocNo). a.0) h
-named-is (lines.Write b block comp value) a h = ap (λ (a : AssocNo). a.0) h
-named-is (lines.Pdu b hex) a h = ap (λ (a : AssocNo). a.0) h
-named-is (lines.Piece b hex) a h = ap (λ (a : AssocNo). a.0) h
-named-is (lines.Take b) a h = ap (λ (a : AssocNo). a.0) h
-named-is (lines.Lost b) a h = ap (λ (a : AssocNo). a.0) h
-named-is _ a h = absurd h
-
-pub named-numbered : (line : RecLine) (a : AssocNo) → Names line a → IsLine line → IsAssoc a
-named-numbered (lines.Open b form) a h is = subst IsAssoc h is.0
-named-numbered (lines.Write b block comp value) a h is = subst IsAssoc h is
-named-numbered (lines.Pdu b hex) a h is = subst IsAssoc h is
-named-numbered (lines.Piece b hex) a h is = subst IsAssoc h is
-named-numbered (lines.Take b) a h is = subst IsAssoc h is
-named-numbered (lines.Lost b) a h is = subst IsAssoc h is
-named-numbered _ a h is = absurd h
-
-pub unnamed-is : (line : RecLine) → NamesNone line → association_of line ≡ 0
-unnamed-is (lines.Open b form) h = absurd h
-unnamed-is (lines.Write b block comp value) h = absurd h
-unnamed-is (lines.Pdu b hex) h = absurd h
-unnamed-is (lines.Piece b hex) h = absurd h
-unnamed-is (lines.Take b) h = absurd h
-unnamed-is (lines.Lost b) h = absurd h
-unnamed-is _ h = refl
 
 -- ---- what a line makes of the associations
 

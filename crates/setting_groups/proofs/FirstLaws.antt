@@ -7,7 +7,7 @@ use Rattle.std.specs.Str.{bytes_eq}
 use Rattle.std.specs.Cmp.Lexicographic.{bytes_decides}
 use Rattle.std.proofs.lemmas.Bool.{ltb-true, ltb-false}
 use Rattle.std.proofs.lemmas.List.{length-map}
-use Rattle.std.proofs.lemmas.List.Elements.{All-head, All-tail, All-nil, All-cons, All-map}
+use Rattle.std.proofs.lemmas.List.Elements.{All-head, All-tail, All-nil, All-cons, All-append, All-map}
 use Rattle.sv_base.specs.Same.{values_of}
 use Rattle.sv_base.specs.declared.config.Config.{Config}
 use Rattle.sv_base.specs.declared.config.AttrDef.{AttrDef}
@@ -22,7 +22,8 @@ use Rattle.bay_model.specs.Lookups.{attr_of, groups_of, no_attr}
 use Rattle.bay_model.specs.Model as model
 use Rattle.bay_model.specs.Model.{Access, Attr, Groups, Model}
 use Rattle.bay_model.specs.Named.{configured_model}
-use Rattle.bay_model.specs.NamedLines.{domain_number, domains, is_setting}
+use Rattle.bay_model.specs.Generated.{Parameter, parameters}
+use Rattle.bay_model.specs.NamedLines.{domain_number, domains, generated, is_setting}
 use Rattle.list_laws.proofs.Among.{Among}
 use Rattle.list_laws.proofs.Places.{at_position, equal-number}
 use Rattle.setting_groups.specs.Frames.{Frame, frame, count_in, IsFramed, IsComplete, Holds, IsFit}
@@ -150,21 +151,51 @@ twins-edit c x (a ∷ as_) = by (is_setting a) (twins-edit c (1 + x) as_)
     by true h = All-cons (λ (t : Attr). t.access ≢ model.active) (record (attr_defined c x a) { access = model.edited }) (twins c (1 + x) as_) (λ e. cc) h
     by false h = h
 
-module _ (c : Config) (none : c.controls ≡ []) where
-  edges : attributes c ≡ attrs_defined c 0 c.attrs ++ twins c 0 c.attrs
-  edges = ap (λ (ks : List CtlDef). attrs_defined c 0 c.attrs ++ (flat_map (attrs_generated c) ks ++ twins c 0 c.attrs)) none
+module _ (c : Config) (k : CtlDef) where
+  abbrev generated_of : Parameter → Attr
+  generated_of p = record { access = model.reported; kind = kind_of p.kind; dchg = false; qchg = false; dupd = false; initial = p.value ∷ []; domain = domain_number c k.domain; original = 0 }
+
+  own-report : (ps : List Parameter) → All (λ (a : Attr). a.access ≢ model.active) (map generated_of ps)
+  own-report [] = All-nil (λ (a : Attr). a.access ≢ model.active)
+  own-report (p ∷ ps) = All-cons (λ (a : Attr). a.access ≢ model.active) (generated_of p) (map generated_of ps) (λ e. cc) (own-report ps)
+
+generated-report : (c : Config) (ks : List CtlDef) → All (λ (a : Attr). a.access ≢ model.active) (flat_map (attrs_generated c) ks)
+generated-report c [] = All-nil (λ (a : Attr). a.access ≢ model.active)
+generated-report c (k ∷ ks) = All-append (λ (a : Attr). a.access ≢ model.active) (attrs_generated c k) (flat_map (attrs_generated c) ks) (own-report c k (parameters k)) (generated-report c ks)
+
+generated-count : (c : Config) (ks : List CtlDef) → length (flat_map (attrs_generated c) ks) ≡ length (flat_map parameters ks)
+generated-count c [] = refl
+generated-count c (k ∷ ks) = omega (arith, length-append (attrs_generated c k) (flat_map (attrs_generated c) ks), length-append (parameters k) (flat_map parameters ks), length-map (parameters k) (generated_of c k), generated-count c ks)
+
+slice-behind : {A : Type 0} (xs ys : List A) (p k : ℕ) → p ≡ length xs + k → slice_get (xs ++ ys) p ≡ slice_get ys k
+slice-behind [] ys p k e = ap (slice_get ys) (let same : p ≡ k = omega (arith, e) in same)
+slice-behind (x ∷ xs) ys zero k e = absurd (omega (arith, e))
+slice-behind (x ∷ xs) ys (suc p) k e = slice-behind xs ys p k (omega (arith, e))
+
+module _ (c : Config) where
+  -- what stands behind the lines, and where the twins begin
+  abbrev behind_lines : List Attr
+  behind_lines = flat_map (attrs_generated c) c.controls ++ twins c 0 c.attrs
+
+  abbrev twins_from : ℕ
+  twins_from = length c.attrs + length (generated c)
 
   -- an SG attribute is one of a line under SG
   active-line : (x : ℕ) → (attr_of (configured_model c) x).access ≡ model.active → (a : AttrDef) × (slice_get c.attrs x ≡ Some a) × (is_setting a ≡ true)
   active-line x is = by (nat_lt x (length c.attrs)) refl
     where
-      there : (unwrap_or (slice_get (attrs_defined c 0 c.attrs ++ twins c 0 c.attrs) x) no_attr).access ≡ model.active
-      there = ap (λ (as_ : List Attr). (unwrap_or (slice_get as_ x) no_attr).access) (sym edges) ∙ is
+      none : All (λ (a : Attr). a.access ≢ model.active) behind_lines
+      none = All-append (λ (a : Attr). a.access ≢ model.active) (flat_map (attrs_generated c) c.controls) (twins c 0 c.attrs) (generated-report c c.controls) (twins-edit c 0 c.attrs)
 
       by : (t : Bool) → nat_lt x (length c.attrs) ≡ t → (a : AttrDef) × (slice_get c.attrs x ≡ Some a) × (is_setting a ≡ true)
-      by true test = let r = own-at c 0 c.attrs (twins c 0 c.attrs) x (ltb-true x (length c.attrs) test) in (r.0, r.1, active-setting r.0 (sym r.2 ∙ there))
-      by false test = let r = behind c 0 c.attrs (twins c 0 c.attrs) x (ltb-false x (length c.attrs) test) in
-          absurd (no-active (twins c 0 c.attrs) r.0 (twins-edit c 0 c.attrs) (ap (λ (o : Option Attr). (unwrap_or o no_attr).access) (sym r.2) ∙ there))
+      by true test = let r = own-at c 0 c.attrs behind_lines x (ltb-true x (length c.attrs) test) in (r.0, r.1, active-setting r.0 (sym r.2 ∙ is))
+      by false test = let r = behind c 0 c.attrs behind_lines x (ltb-false x (length c.attrs) test) in
+          absurd (no-active behind_lines r.0 none (ap (λ (o : Option Attr). (unwrap_or o no_attr).access) (sym r.2) ∙ is))
+
+  twin-place : (k : ℕ) → attr_of (configured_model c) (twins_from + k) ≡ unwrap_or (slice_get (twins c 0 c.attrs) k) no_attr
+  twin-place k = ap (λ (o : Option Attr). unwrap_or o no_attr)
+      (slice-behind (attrs_defined c 0 c.attrs) behind_lines (twins_from + k) (length (generated c) + k) (omega (arith, lines-count c 0 c.attrs))
+      ∙ slice-behind (flat_map (attrs_generated c) c.controls) (twins c 0 c.attrs) (length (generated c) + k) k (omega (arith, generated-count c c.controls)))
 
   module _ (s : Grouped) (framed : IsFramed c s) where
     pub complete : IsComplete (configured_model c) s
@@ -173,30 +204,28 @@ module _ (c : Config) (none : c.controls ≡ []) where
         ap is_some (place-frames x s.settings (settings_from (domains c) 0 c.attrs) framed.settings)
         ∙ (ap (λ y. is_some (place_in y (settings_from (domains c) 0 c.attrs))) (let e : x ≡ 0 + x = omega arith in e) ∙ line-placed (domains c) 0 c.attrs x line.0 line.1 line.2)
 
-    -- the twins stand behind the lines, in the order of the settings
-    pub settings-count : length (attributes c) ≡ length c.attrs + length s.settings
-    settings-count = omega (arith, ap (λ (l : List Attr). length l) edges, length-append (attrs_defined c 0 c.attrs) (twins c 0 c.attrs), lines-count c 0 c.attrs, twins-count c (domains c) 0 0 c.attrs, same-length frame s.settings (settings_from (domains c) 0 c.attrs) framed.settings)
+    -- as many as there are settings
+    twins-same : length (twins c 0 c.attrs) ≡ length s.settings
+    twins-same = omega (arith, twins-count c (domains c) 0 0 c.attrs, same-length frame s.settings (settings_from (domains c) 0 c.attrs) framed.settings)
 
-    pub is-twin : (k : ℕ) → k < length s.settings → IsTwin (configured_model c) (length c.attrs + k) (setting_at s k)
+    -- the twins stand behind the lines and what controls generate, in the order of the settings
+    pub settings-count : length (attributes c) ≡ length c.attrs + length (generated c) + length s.settings
+    settings-count = omega (arith, length-append (attrs_defined c 0 c.attrs) behind_lines, length-append (flat_map (attrs_generated c) c.controls) (twins c 0 c.attrs), lines-count c 0 c.attrs, generated-count c c.controls, twins-same)
+
+    pub is-twin : (k : ℕ) → k < length s.settings → IsTwin (configured_model c) (length c.attrs + length (generated c) + k) (setting_at s k)
     is-twin k below =
         let o : Settled = slice_index_or (settings_from (domains c) 0 c.attrs) k no_setting in
         let same : frame (setting_at s k) ≡ frame o = frame-at s.settings (settings_from (domains c) 0 c.attrs) k framed.settings in
         let t = twin-at c 0 0 c.attrs k refl (omega (arith, below, same-length frame s.settings (settings_from (domains c) 0 c.attrs) framed.settings)) in
-        let r = behind c 0 c.attrs (twins c 0 c.attrs) (length c.attrs + k) (omega arith) in
-        let at : attr_of (configured_model c) (length c.attrs + k) ≡ unwrap_or (slice_get (twins c 0 c.attrs) k) no_attr
-        = ap (λ (as_ : List Attr). unwrap_or (slice_get as_ (length c.attrs + k)) no_attr) edges ∙ (ap (λ (p : Option Attr). unwrap_or p no_attr) r.2 ∙ ap (λ j. unwrap_or (slice_get (twins c 0 c.attrs) j) no_attr) (omega (arith, r.1))) in
         record {
-          original = ap (λ (a : Attr). a.original) at ∙ (t.original ∙ sym (ap (λ (f : Frame). f.attr) same));
-          domain = ap (λ (a : Attr). a.domain) at ∙ (t.domain ∙ sym (ap (λ (f : Frame). f.domain) same));
-          kind = ap (λ (a : Attr). a.kind) at ∙ (t.kind ∙ sym (ap (λ (f : Frame). f.kind) same));
+          original = ap (λ (a : Attr). a.original) (twin-place k) ∙ (t.original ∙ sym (ap (λ (f : Frame). f.attr) same));
+          domain = ap (λ (a : Attr). a.domain) (twin-place k) ∙ (t.domain ∙ sym (ap (λ (f : Frame). f.domain) same));
+          kind = ap (λ (a : Attr). a.kind) (twin-place k) ∙ (t.kind ∙ sym (ap (λ (f : Frame). f.kind) same));
         }
 
     -- it stands under SE
-    pub twin-edited : (k : ℕ) → k < length s.settings → (attr_of (configured_model c) (length c.attrs + k)).access ≡ model.edited
-    twin-edited k below = let r = behind c 0 c.attrs (twins c 0 c.attrs) (length c.attrs + k) (omega arith) in
-        ap (λ (as_ : List Attr). (unwrap_or (slice_get as_ (length c.attrs + k)) no_attr).access) edges
-        ∙ (ap (λ (p : Option Attr). (unwrap_or p no_attr).access) r.2
-        ∙ edited-at (twins c 0 c.attrs) r.0 (all-edited 0 c.attrs) (omega (arith, r.1, below, twins-count c (domains c) 0 0 c.attrs, same-length frame s.settings (settings_from (domains c) 0 c.attrs) framed.settings)))
+    pub twin-edited : (k : ℕ) → k < length s.settings → (attr_of (configured_model c) (length c.attrs + length (generated c) + k)).access ≡ model.edited
+    twin-edited k below = ap (λ (a : Attr). a.access) (twin-place k) ∙ edited-at (twins c 0 c.attrs) k (all-edited 0 c.attrs) (omega (arith, below, twins-same))
       where
         edited-at : (ts : List Attr) (j : ℕ) → All (λ (a : Attr). a.access ≡ model.edited) ts → j < length ts → (unwrap_or (slice_get ts j) no_attr).access ≡ model.edited
         edited-at [] j all below = absurd (omega (arith, below))

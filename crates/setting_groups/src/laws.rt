@@ -11,7 +11,7 @@ ghost use Rattle.bay_model.specs.Model as model;
 ghost use Rattle.bay_model.specs.Model.{Model};
 ghost use Rattle.bay_model.specs.declared.components.SettingComp.TheVariants.{NumOfSG, ActSG, EditSG, CnfEdit};
 ghost use Rattle.bay_model.specs.Named.{configured_model};
-ghost use Rattle.bay_model.specs.NamedLines.{domains};
+ghost use Rattle.bay_model.specs.NamedLines.{domains, generated};
 ghost use Rattle.bay_model.specs.Singles.{arrival};
 ghost use Rattle.sv_base.specs.declared.config.Config.{Config};
 ghost use Rattle.setting_groups.specs.Opened.{opened, IsGrouped};
@@ -100,8 +100,8 @@ pub fn parts_are_written()
 {}
 
 /// What the configuration of setting groups tells of them, whatever was written: each SG attribute is among the settings, and their edit
-/// copies stand behind the attributes of lines, in the order of the settings.
+/// copies stand behind the attributes of lines and of controls, in the order of the settings.
 pub fn frames_tell_attributes()
-    ensures complete { (c : Config) (s : Grouped) → c.controls ≡ [] → IsFramed c s → IsComplete (configured_model c) s }
-    ensures twins { (c : Config) (s : Grouped) (k : ℕ) → c.controls ≡ [] → IsFramed c s → k < length s.settings → IsTwin (configured_model c) (length c.attrs + k) (setting_at s k) }
+    ensures complete { (c : Config) (s : Grouped) → IsFramed c s → IsComplete (configured_model c) s }
+    ensures twins { (c : Config) (s : Grouped) (k : ℕ) → IsFramed c s → k < length s.settings → IsTwin (configured_model c) (length c.attrs + length (generated c) + k) (setting_at s k) }
 {}

@@ -34,7 +34,9 @@ use Rattle.text_configs.proofs.PlaceLaws.{first-without, dollar-within, item-beh
 use Rattle.text_configs.proofs.DataLaws.{data-place, all-held}
 use Rattle.text_configs.proofs.DepthLaws.{IsUnder, under}
 use Rattle.text_configs.proofs.OrderLaws.{IsOne, named-in, within-longest}
-use Rattle.text_configs.proofs.BelowLaws.{IsTold, all-entries, apart-here, entries-below, longer-here}
+use Rattle.text_configs.proofs.ParameterLaws.{all_attrs, own-attr}
+use Rattle.text_configs.proofs.ToldLaws.{IsTold}
+use Rattle.text_configs.proofs.BelowLaws.{all-entries, apart-here, entries-below, longer-here}
 use Rattle.text_configs.proofs.FindLaws.{domain-of}
 use Rattle.text_configs.proofs.MemberLaws.{member-of, node-at-place}
 
@@ -207,7 +209,7 @@ module _ (c : Config) (told : IsTold c) where
     -- its item is short
     short-by : (n : Named) → IsOne c domain n → length n.item ≤ 96
     short-by n (inl h) = omega (arith, ap (λ (q : Named). length q.item) h.is, name-short h.node.ln (told.nodes h.node h.there).0)
-    short-by n (inr (inl h)) = omega (arith, ap (λ (q : Named). length q.item) h.is, (told.attrs h.attr (at-among h.at h.attr c.attrs h.there)).short)
+    short-by n (inr (inl h)) = omega (arith, ap (λ (q : Named). length q.item) h.is, (told.attrs h.attr (at-among h.at h.attr (all_attrs c) h.there)).short)
     short-by n (inr (inr (inl h))) =
         let b = told.blocks h.block h.there in
         let item : n.item ≡ ((h.block.ln ++ 36 ∷ codes "BR") ++ 36 ∷ h.block.name) ++ 36 ∷ comp_name h.part = ap (λ (q : Named). q.item) h.is in
@@ -232,14 +234,17 @@ module _ (c : Config) (told : IsTold c) where
           length-append (a.ln ++ 36 ∷ a.fc) (36 ∷ a.path),
           length-append a.ln (36 ∷ a.fc),
           ap (λ (x : List ℕ). length x) fc,
-          (told.attrs a h.there).short,
+          (told.attrs a (own-attr c a h.there)).short,
         )
-    short-by n (inr (inr (inr (inr h)))) = omega (arith, ap (λ (q : Named). length q.item) h.is, length-append (codes "LLN0$SP$SGCB") (36 ∷ setting_comp_name h.part), part-short h.part)
+    short-by n (inr (inr (inr (inr (inl h))))) =
+        let item : List ℕ = named.path_item h.control.ln (codes "CO") h.control.path in
+        omega (arith, ap length h.inside.is, length-append item (36 ∷ h.inside.more), h.inside.short, (told.controls h.control h.there).short)
+    short-by n (inr (inr (inr (inr (inr h))))) = omega (arith, ap (λ (q : Named). length q.item) h.is, length-append (codes "LLN0$SP$SGCB") (36 ∷ setting_comp_name h.part), part-short h.part)
 
     item-short : length p.item ≤ 96
     item-short =
         let b = begins (suc (longest ns)) ns [] p i in
-        omega (arith, short-by b.0 (named-in c told.bare domain b.0 b.1), ap length b.4, length-append p.item b.3)
+        omega (arith, short-by b.0 (named-in c domain b.0 b.1), ap length b.4, length-append p.item b.3)
 
   domain-short : (domain : List ℕ) → Among domain (named.domains c) → length domain ≤ 32
   domain-short domain i = by (domain-of domain [] c.nodes i) where

@@ -1,10 +1,11 @@
 -- What a text tells of its attributes: each by itself, and that none stands at or above another's reference.
-use Rattle.std.proofs.Common.{◌≡◌, ℕ, ◌≤◌, ◌⊎◌, ◌||◌, inl, inr, Bool, true, false, List, [], ◌∷◌, ◌++◌, length, refl, sym, ap, subst, ◌∙◌, true≢false}
+use Rattle.std.proofs.Common.{◌≡◌, ℕ, ◌≤◌, ◌⊎◌, ◌||◌, inl, inr, Bool, true, false, List, [], ◌∷◌, ◌++◌, length, refl, sym, ap, subst, ◌∙◌, arith, true≢false}
+use Rattle.std.specs.List.{count_by}
 use Rattle.std.specs.Str.{bytes_eq}
 use Rattle.sv_base.specs.Same.{values_of}
 use Rattle.sv_base.specs.declared.config.LnDef.{LnDef}
 use Rattle.sv_base.specs.declared.config.AttrDef.{AttrDef}
-use Rattle.text_words.specs.Names.{is_fc}
+use Rattle.text_words.specs.Names.{is_fc, is_path, is_dollar}
 use Rattle.bay_model.specs.NamedLines.{path_item}
 use Rattle.cfg_lines.specs.Keys.{is_among}
 use Rattle.cfg_lines.specs.Paths.{item_key, above, clashes, is_taken}
@@ -12,7 +13,7 @@ use Rattle.cfg_lines.specs.Before.{domain_of, node_of}
 use Rattle.cfg_lines.specs.Claims.{claims_by, claims}
 use Rattle.cfg_lines.specs.Configs.{config_of}
 use Rattle.text_words.specs.Grammar.{IsType, AreOfType}
-use Rattle.cfg_grammar.specs.Follows.{IsPath, IsAttribute}
+use Rattle.cfg_grammar.specs.Follows.{IsAttribute}
 use Rattle.cfg_grammar.specs.Texts.{AreLines}
 use Rattle.cfg_lines.specs.declared.line.Line.{Line}
 use Rattle.cfg_lines.specs.declared.line.Line.TheVariants as lines
@@ -25,7 +26,7 @@ use Rattle.text_configs.proofs.StandLaws.{IsIn, in-more, in-node}
 pub record IsRead (nodes : List LnDef) (a : AttrDef) : Type 0 where
   pub node : IsIn nodes a.domain a.ln
   pub constraint : is_fc a.fc ≡ true
-  pub path : IsPath a.path
+  pub path : (is_path a.path ≡ true) × (count_by is_dollar a.path ≤ 8)
   pub short : length (path_item a.ln a.fc a.path) ≤ 64
   pub type_ : IsType a.kind
   pub values : AreOfType a.kind (values_of a.values)
@@ -37,7 +38,7 @@ attribute-read : (before : List Line) (nodes : List LnDef) (attr : AttrDef) → 
 attribute-read before nodes attr node h = record {
   node = subst (λ d. IsIn nodes d attr.ln) (sym (ap (λ (a : AttrDef). a.domain) h.here)) (subst (λ l. IsIn nodes (domain_of before) l) (sym (ap (λ (a : AttrDef). a.ln) h.here)) node);
   constraint = h.constraint;
-  path = h.path;
+  path = (h.path.0, omega (arith, h.path.1));
   short = subst (λ l. length (path_item l attr.fc attr.path) ≤ 64) (sym (ap (λ (a : AttrDef). a.ln) h.here)) h.short;
   type_ = h.type_;
   values = h.values;
@@ -115,13 +116,15 @@ beside-more as_ attr old new x y a b i j apart = by (at-last x a as_ attr i) (at
     by (inr p) (inl q) = subst (λ c. AreBeside (key_of c) (key_of b)) (sym p.1) (new b (at-among y b as_ q))
     by (inr p) (inr q) = absurd (apart (p.0 ∙ sym q.0))
 
-pub attrs-beside : (told : List Line) (text : List ℕ) → AreLines text told → AreAllBeside (config_of told).attrs
-attrs-beside [] text h = λ x y a b i j apart. absurd i
-attrs-beside (lines.Attr attr ∷ before) text h = beside-more (config_of before).attrs attr (attrs-beside before h.0 h.3) (λ a i. beside (key_of attr) (key_of a) (not-taken (claims before) (key_of attr) (key_of a) new (claimed before a i)))
+-- a new attribute is beside what was there
+pub new-attribute : (before : List Line) (attr : AttrDef) → IsAttribute before attr → is_taken (claims before) (key_of attr) ≡ false
+new-attribute before attr h = ap (is_taken (claims before)) here ∙ h.new
   where
     here : key_of attr ≡ item_key (domain_of before) (node_of before) attr.fc attr.path
-    here = ap (λ d. item_key d attr.ln attr.fc attr.path) (ap (λ (a : AttrDef). a.domain) h.4.follows.here) ∙ ap (λ l. item_key (domain_of before) l attr.fc attr.path) (ap (λ (a : AttrDef). a.ln) h.4.follows.here)
+    here = ap (λ d. item_key d attr.ln attr.fc attr.path) (ap (λ (a : AttrDef). a.domain) h.here) ∙ ap (λ l. item_key (domain_of before) l attr.fc attr.path) (ap (λ (a : AttrDef). a.ln) h.here)
 
-    new : is_taken (claims before) (key_of attr) ≡ false
-    new = ap (is_taken (claims before)) here ∙ h.4.follows.new
+pub attrs-beside : (told : List Line) (text : List ℕ) → AreLines text told → AreAllBeside (config_of told).attrs
+attrs-beside [] text h = λ x y a b i j apart. absurd i
+attrs-beside (lines.Attr attr ∷ before) text h = beside-more (config_of before).attrs attr (attrs-beside before h.0 h.3)
+    (λ a i. beside (key_of attr) (key_of a) (not-taken (claims before) (key_of attr) (key_of a) (new-attribute before attr h.4.follows) (claimed before a i)))
 attrs-beside (line ∷ before) text h = attrs-beside before h.0 h.3

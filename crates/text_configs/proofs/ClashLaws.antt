@@ -3,15 +3,14 @@ use Rattle.std.proofs.Common.{◌≡◌, ℕ, ◌⊎◌, false, inl, inr, List, 
 use Rattle.std.specs.Prelude.{codes}
 use Rattle.sv_base.specs.declared.config.AttrDef.{AttrDef}
 use Rattle.sv_base.specs.declared.config.SgDef.{SgDef}
-use Rattle.cfg_lines.specs.Paths.{item_key, is_taken}
-use Rattle.cfg_lines.specs.Before.{domain_of, node_of}
+use Rattle.cfg_lines.specs.Paths.{is_taken}
 use Rattle.cfg_lines.specs.Claims.{claims, group_key}
 use Rattle.cfg_lines.specs.Configs.{config_of}
 use Rattle.cfg_grammar.specs.Texts.{AreLines}
 use Rattle.cfg_lines.specs.declared.line.Line.{Line}
 use Rattle.cfg_lines.specs.declared.line.Line.TheVariants as lines
 use Rattle.list_laws.proofs.Among.{Among, ending}
-use Rattle.text_configs.proofs.AttrLaws.{AreBeside, beside, beside-turned, claimed, key_of, not-taken}
+use Rattle.text_configs.proofs.AttrLaws.{AreBeside, beside, beside-turned, claimed, key_of, new-attribute, not-taken}
 use Rattle.text_configs.proofs.GroupLaws.{group-claimed}
 
 abbrev block_of : SgDef → List ℕ
@@ -21,15 +20,9 @@ pub groups-beside : (told : List Line) (text : List ℕ) → AreLines text told 
 groups-beside [] text h g i a j = absurd i
 groups-beside (lines.Attr attr ∷ before) text h g i a j = by (ending a (config_of before).attrs attr j) (groups-beside before h.0 h.3 g i a)
   where
-    here : key_of attr ≡ item_key (domain_of before) (node_of before) attr.fc attr.path
-    here = ap (λ d. item_key d attr.ln attr.fc attr.path) (ap (λ (a : AttrDef). a.domain) h.4.follows.here) ∙ ap (λ l. item_key (domain_of before) l attr.fc attr.path) (ap (λ (a : AttrDef). a.ln) h.4.follows.here)
-
-    new : is_taken (claims before) (key_of attr) ≡ false
-    new = ap (is_taken (claims before)) here ∙ h.4.follows.new
-
     by : Among a (config_of before).attrs ⊎ (a ≡ attr) → (Among a (config_of before).attrs → AreBeside (key_of a) (block_of g)) → AreBeside (key_of a) (block_of g)
     by (inl k) go = go k
-    by (inr e) go = subst (λ (b : AttrDef). AreBeside (key_of b) (block_of g)) (sym e) (beside (key_of attr) (block_of g) (not-taken (claims before) (key_of attr) (block_of g) new (group-claimed before g i)))
+    by (inr e) go = subst (λ (b : AttrDef). AreBeside (key_of b) (block_of g)) (sym e) (beside (key_of attr) (block_of g) (not-taken (claims before) (key_of attr) (block_of g) (new-attribute before attr h.4.follows) (group-claimed before g i)))
 groups-beside (lines.Sgcb groups ∷ before) text h g i a j = by (ending g (config_of before).groups groups i) (λ k. groups-beside before h.0 h.3 g k a j)
   where
     new : is_taken (claims before) (block_of groups) ≡ false

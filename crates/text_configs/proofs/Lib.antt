@@ -7,7 +7,6 @@ pub mod TreeLaws
 pub mod PlaceLaws
 pub mod DataLaws
 pub mod DepthLaws
-pub mod OrderLaws
 pub mod FindLaws
 -- how many octets a value has
 pub mod LengthLaws
@@ -20,9 +19,13 @@ pub mod SetLaws
 pub mod ValueLaws
 pub mod GroupLaws
 pub mod ClashLaws
+pub mod ControlLaws
+pub mod ParameterLaws
+pub mod CommandLaws
+pub mod OrderLaws
+pub mod ToldLaws
 pub mod PathLaws
 -- the members of its data sets, and all of it
-pub mod ControlLaws
 pub mod CountLaws
 pub mod BelowLaws
 pub mod MemberLaws

@@ -1,23 +1,27 @@
 -- What a configuration's lines name in a domain.
-use Rattle.std.proofs.Common.{◌≡◌, ℕ, zero, suc, ◌+◌, ◌≤◌, Bool, true, false, ◌⊎◌, inl, inr, List, [], ◌∷◌, ◌++◌, map, filter, length, refl, sym, ap, subst, ◌∙◌, arith, nat_le, if◌then◌else◌}
+use Rattle.std.proofs.Common.{◌≡◌, ℕ, zero, suc, ◌+◌, ◌≤◌, Bool, true, false, ◌⊎◌, inl, inr, List, [], ◌∷◌, ◌++◌, map, flat_map, filter, length, refl, sym, ap, ap₂, subst, ◌∙◌, arith, append_assoc, nat_le, if◌then◌else◌}
 use Rattle.std.specs.Prelude.{codes}
 use Rattle.std.specs.Str.{bytes_eq}
+use Rattle.std.proofs.lemmas.List.{length-map}
 use Rattle.list_laws.proofs.Distinct.{octets_same}
 use Rattle.sv_base.specs.declared.config.Config.{Config}
 use Rattle.sv_base.specs.declared.config.LnDef.{LnDef}
 use Rattle.sv_base.specs.declared.config.AttrDef.{AttrDef}
 use Rattle.sv_base.specs.declared.config.BlockDef.{BlockDef}
+use Rattle.sv_base.specs.declared.config.CtlDef.{CtlDef}
 use Rattle.sv_base.specs.declared.config.SgDef.{SgDef}
 use Rattle.bay_model.specs.declared.components.Comp.{Comp}
 use Rattle.bay_model.specs.declared.components.SettingComp.{SettingComp}
 use Rattle.bay_model.specs.Model.{attribute, several, component}
-use Rattle.bay_model.specs.Generated.{Named, within, end_named, structure_named, setting_named}
+use Rattle.bay_model.specs.Generated.{Named, Parameter, within, end_named, structure_named, setting_named, control_names, parameters, parameter_names}
 use Rattle.bay_model.specs.ComponentTable.{comp_name, components, comp_kind, setting_components}
 use Rattle.bay_rooms.specs.Kinds.{type_of}
-use Rattle.bay_model.specs.NamedLines.{Line, is_setting, path_item, attribute_names, attribute_line, attribute_lines, node_line, block_line, block_lines, control_lines, group_line, domain_number, generated, lines, insert_line, in_order, names_in}
+use Rattle.bay_model.specs.NamedLines.{Line, is_setting, path_item, attribute_names, attribute_line, attribute_lines, node_line, block_line, block_lines, control_line, control_lines, group_line, domain_number, generated, lines, insert_line, in_order, names_in}
 use Rattle.bay_model.specs.NameTree.{longest}
-use Rattle.list_laws.proofs.Among.{Among, At, at-among, left, right, either, source, kept, passed, spread, gathered}
+use Rattle.list_laws.proofs.Among.{Among, At, at-among, at-left, at-map, left, right, either, source, kept, passed, spread, gathered}
 use Rattle.text_configs.proofs.NamedLaws.{bytes-same}
+use Rattle.text_configs.proofs.ParameterLaws.{parameter_attr, parameter_attrs, all_attrs, at-either, at-right, at-source}
+use Rattle.text_configs.proofs.CommandLaws.{IsWithin, command-within}
 
 -- ---- the order of lines changes nothing
 inserted : (l : Line) (ms : List Line) (x : Line) → (x ≡ l) ⊎ Among x ms → Among x (insert_line l ms)
@@ -95,6 +99,88 @@ block-line [] b l i = absurd i
 block-line (d ∷ ds) b l (inl e) = (d, b, inl refl, e)
 block-line (d ∷ ds) b l (inr i) = let s = block-line ds (b + 1) l i in (s.0, s.1, inr s.2, s.3)
 
+-- ---- the lines of controls
+
+-- the parameters of a control are numbered one behind another, behind those of the controls before it
+pub record IsControlLine (ks : List CtlDef) (first : ℕ) (l : Line) : Type 0 where
+  pub control : CtlDef
+  pub number : ℕ
+  pub at : ℕ
+  pub there : Among control ks
+  pub each : (m : ℕ) (q : AttrDef) → At m q (parameter_attrs control) → At (at + m) q (flat_map parameter_attrs ks)
+  pub is : l ≡ control_line number (first + at) control
+
+control-of : (ks : List CtlDef) (k x : ℕ) (l : Line) → Among l (control_lines k x ks) → IsControlLine ks x l
+control-of [] k x l i = absurd i
+control-of (c ∷ ks) k x l (inl e) = record {
+  control = c;
+  number = k;
+  at = 0;
+  there = inl refl;
+  each = λ m q h. subst (λ n. At n q (parameter_attrs c ++ flat_map parameter_attrs ks)) (omega arith) (at-left m q (parameter_attrs c) (flat_map parameter_attrs ks) h);
+  is = e ∙ ap (λ y. control_line k y c) (omega arith);
+}
+control-of (c ∷ ks) k x l (inr i) = let h = control-of ks (k + 1) (x + length (parameters c)) l i in record {
+  control = h.control;
+  number = h.number;
+  at = length (parameter_attrs c) + h.at;
+  there = inr h.there;
+  each = λ m q j. subst (λ n. At n q (parameter_attrs c ++ flat_map parameter_attrs ks)) (omega arith) (at-right (h.at + m) q (parameter_attrs c) (flat_map parameter_attrs ks) (h.each m q j));
+  is = h.is ∙ ap (λ y. control_line h.number y h.control) (omega (arith, length-map (parameters c) (parameter_attr c)));
+}
+
+parameter-of : (x : ℕ) (item : List ℕ) (ps : List Parameter) (n : Named) → Among n (parameter_names x item ps) → (m : ℕ) × (p : Parameter) × At m p ps × (n ≡ end_named (within item p.name) (attribute (x + m)) p.kind)
+parameter-of x item [] n i = absurd i
+parameter-of x item (p ∷ ps) n (inl e) = (0, p, refl, e ∙ ap (λ y. end_named (within item p.name) (attribute y) p.kind) (omega arith))
+parameter-of x item (p ∷ ps) n (inr i) = let s = parameter-of (x + 1) item ps n i in
+    (suc s.0, s.1, s.2, s.3 ∙ ap (λ y. end_named (within item s.1.name) (attribute y) s.1.kind) (omega arith))
+
+parameter-item : (k : CtlDef) (p : Parameter) → within (path_item k.ln (codes "CF") k.path) p.name ≡ path_item k.ln (codes "CF") (k.path ++ 36 ∷ p.name)
+parameter-item k p = append_assoc (within k.ln (codes "CF")) (36 ∷ k.path) (36 ∷ p.name)
+
+-- each has a line
+parameter-there : (x m : ℕ) (item : List ℕ) (ps : List Parameter) (p : Parameter) → At m p ps → Among (end_named (within item p.name) (attribute (x + m)) p.kind) (parameter_names x item ps)
+parameter-there x m item [] p h = absurd h
+parameter-there x zero item (q ∷ ps) p h = inl (ap (λ (d : Parameter). end_named (within item d.name) (attribute (x + 0)) d.kind) h ∙ ap (λ y. end_named (within item q.name) (attribute y) q.kind) (omega arith))
+parameter-there x (suc m) item (q ∷ ps) p h =
+    inr (subst (λ y. Among (end_named (within item p.name) (attribute y) p.kind) (parameter_names (x + 1) item ps)) (omega arith) (parameter-there (x + 1) m item ps p h))
+
+-- the name of attribute x
+abbrev attr_named : ℕ → AttrDef → Named
+attr_named x a = end_named (path_item a.ln a.fc a.path) (attribute x) a.kind
+
+pub record IsNamedLine (ls : List Line) (x : ℕ) (q : AttrDef) : Type 0 where
+  pub line : Line
+  pub there : Among line ls
+  pub domain_is : line.domain ≡ q.domain
+  pub name : Among (attr_named x q) line.names
+
+control-named : (ks : List CtlDef) (k x m : ℕ) (q : AttrDef) → At m q (flat_map parameter_attrs ks) → IsNamedLine (control_lines k x ks) (x + m) q
+control-named [] k x m q h = absurd h
+control-named (c ∷ ks) k x m q h = by (at-either m q (parameter_attrs c) (flat_map parameter_attrs ks) h) (λ n. control-named ks (k + 1) (x + length (parameters c)) n q)
+  where
+    own : (p : Parameter) → At m p (parameters c) → q ≡ parameter_attr c p → IsNamedLine (control_line k x c ∷ control_lines (k + 1) (x + length (parameters c)) ks) (x + m) q
+    own p i e = record {
+      line = control_line k x c;
+      there = inl refl;
+      domain_is = sym (ap (λ (d : AttrDef). d.domain) e);
+      name = subst (λ d. Among (attr_named (x + m) d) (control_line k x c).names) (sym e)
+          (right (attr_named (x + m) (parameter_attr c p)) (control_names k c (path_item c.ln (codes "CO") c.path)) (parameter_names x (path_item c.ln (codes "CF") c.path) (parameters c))
+          (subst (λ i. Among (end_named i (attribute (x + m)) p.kind) (parameter_names x (path_item c.ln (codes "CF") c.path) (parameters c))) (parameter-item c p)
+          (parameter-there x m (path_item c.ln (codes "CF") c.path) (parameters c) p i)));
+    }
+
+    by : At m q (parameter_attrs c) ⊎ ((n : ℕ) × (m ≡ length (parameter_attrs c) + n) × At n q (flat_map parameter_attrs ks))
+        → ((n : ℕ) → At n q (flat_map parameter_attrs ks) → IsNamedLine (control_lines (k + 1) (x + length (parameters c)) ks) ((x + length (parameters c)) + n) q)
+        → IsNamedLine (control_line k x c ∷ control_lines (k + 1) (x + length (parameters c)) ks) (x + m) q
+    by (inl i) go = let s = at-source (parameter_attr c) m q (parameters c) i in own s.0 s.1 s.2
+    by (inr g) go = let h = go g.0 g.2 in record {
+      line = h.line;
+      there = inr h.there;
+      domain_is = h.domain_is;
+      name = subst (λ y. Among (attr_named y q) h.line.names) (omega (arith, g.1, length-map (parameters c) (parameter_attr c))) h.name;
+    }
+
 -- ---- what is named in a domain
 
 pub record IsNodeName (c : Config) (n : Named) : Type 0 where
@@ -105,9 +191,9 @@ pub record IsNodeName (c : Config) (n : Named) : Type 0 where
 pub record IsAttributeName (c : Config) (domain : List ℕ) (n : Named) : Type 0 where
   pub attr : AttrDef
   pub at : ℕ
-  pub there : At at attr c.attrs
+  pub there : At at attr (all_attrs c)
   pub domain_is : attr.domain ≡ domain
-  pub is : n ≡ end_named (path_item attr.ln attr.fc attr.path) (attribute at) attr.kind
+  pub is : n ≡ attr_named at attr
 
 pub record IsComponentName (c : Config) (n : Named) : Type 0 where
   pub block : BlockDef
@@ -132,11 +218,17 @@ pub record IsPartName (c : Config) (domain : List ℕ) (n : Named) : Type 0 wher
   pub domain_is : groups.domain ≡ domain
   pub is : n ≡ setting_named (domain_number c groups.domain) part
 
--- what is named in a domain of a configuration without controls
-abbrev pub IsOne : Config → List ℕ → Named → Type 0
-IsOne c domain n = IsNodeName c n ⊎ (IsAttributeName c domain n ⊎ (IsComponentName c n ⊎ (IsTwinName c n ⊎ IsPartName c domain n)))
+-- SBO, or SBOw, Oper or Cancel of a control, or a part of one of these
+pub record IsCommandName (c : Config) (n : Named) : Type 0 where
+  pub control : CtlDef
+  pub there : Among control c.controls
+  pub inside : IsWithin (path_item control.ln (codes "CO") control.path) n
 
-module _ (c : Config) (bare : c.controls ≡ []) where
+-- what is named in a domain
+abbrev pub IsOne : Config → List ℕ → Named → Type 0
+IsOne c domain n = IsNodeName c n ⊎ (IsAttributeName c domain n ⊎ (IsComponentName c n ⊎ (IsTwinName c n ⊎ (IsCommandName c n ⊎ IsPartName c domain n))))
+
+module _ (c : Config) where
   abbrev Is : List ℕ → Named → Type 0
   Is domain n = IsOne c domain n
 
@@ -155,7 +247,7 @@ module _ (c : Config) (bare : c.controls ≡ []) where
       by (inl e) = inr (inl (record {
         attr = h.attr;
         at = h.at;
-        there = h.there;
+        there = at-left h.at h.attr c.attrs (flat_map parameter_attrs c.controls) h.there;
         domain_is = sym (ap (λ (x : Line). x.domain) h.is) ∙ d;
         is = e ∙ ap (λ k. end_named (path_item h.attr.ln h.attr.fc h.attr.path) (attribute k) h.attr.kind) (omega (arith, zero_is));
       }))
@@ -165,17 +257,39 @@ module _ (c : Config) (bare : c.controls ≡ []) where
   of-block domain l n h j = let s = source (λ k. end_named (within (path_item h.0.ln (codes "BR") h.0.name) (comp_name k)) (component h.1 k) (type_of (comp_kind k))) n components (subst (λ (x : Line). Among n x.names) h.3 j) in
       inr (inr (inl (record { block = h.0; part = s.0; at = h.1; there = h.2; is = s.2 })))
 
+  of-control : (domain : List ℕ) (l : Line) (n : Named) → IsControlLine c.controls (length c.attrs) l → l.domain ≡ domain → Among n l.names → Is domain n
+  of-control domain l n h d j = by (either n (control_names h.number k (path_item k.ln (codes "CO") k.path)) (parameter_names x (path_item k.ln (codes "CF") k.path) (parameters k)) (subst (λ (y : Line). Among n y.names) h.is j))
+    where
+      k : CtlDef
+      k = h.control
+
+      x : ℕ
+      x = length c.attrs + h.at
+
+      parameter : (m : ℕ) (p : Parameter) → At m p (parameters k) → n ≡ end_named (within (path_item k.ln (codes "CF") k.path) p.name) (attribute (x + m)) p.kind → IsAttributeName c domain n
+      parameter m p i e = record {
+        attr = parameter_attr k p;
+        at = length c.attrs + (h.at + m);
+        there = at-right (h.at + m) (parameter_attr k p) c.attrs (flat_map parameter_attrs c.controls) (h.each m (parameter_attr k p) (at-map (parameter_attr k) m p (parameters k) i));
+        domain_is = sym (ap (λ (y : Line). y.domain) h.is) ∙ d;
+        is = e ∙ ap₂ (λ i y. end_named i (attribute y) p.kind) (parameter-item k p) (omega arith);
+      }
+
+      by : Among n (control_names h.number k (path_item k.ln (codes "CO") k.path)) ⊎ Among n (parameter_names x (path_item k.ln (codes "CF") k.path) (parameters k)) → Is domain n
+      by (inl i) = inr (inr (inr (inr (inl (record { control = k; there = h.there; inside = command-within h.number k (path_item k.ln (codes "CO") k.path) n i })))))
+      by (inr i) = let s = parameter-of x (path_item k.ln (codes "CF") k.path) (parameters k) n i in inr (inl (parameter s.0 s.1 s.2 s.3))
+
   of-group : (domain : List ℕ) (l : Line) (n : Named) → Among l (map (λ (g : SgDef). group_line (domain_number c g.domain) g) c.groups) → l.domain ≡ domain → Among n l.names → Is domain n
   of-group domain l n i d j =
       let g = source (λ (g : SgDef). group_line (domain_number c g.domain) g) l c.groups i in
       let k = source (setting_named (domain_number c g.0.domain)) n setting_components (subst (λ (x : Line). Among n x.names) g.2 j) in
-      inr (inr (inr (inr (record { groups = g.0; part = k.0; there = g.1; domain_is = sym (ap (λ (x : Line). x.domain) g.2) ∙ d; is = k.2 }))))
+      inr (inr (inr (inr (inr (record { groups = g.0; part = k.0; there = g.1; domain_is = sym (ap (λ (x : Line). x.domain) g.2) ∙ d; is = k.2 })))))
 
   of-line : (domain : List ℕ) (l : Line) (n : Named) → Among l (lines c) → l.domain ≡ domain → Among n l.names → Is domain n
   of-line domain l n i d j = first (either l (map node_line c.nodes) _ i)
     where
       fourth : Among l (control_lines 0 (length c.attrs) c.controls) ⊎ Among l (map (λ (g : SgDef). group_line (domain_number c g.domain) g) c.groups) → Is domain n
-      fourth (inl k) = absurd (subst (λ cs. Among l (control_lines 0 (length c.attrs) cs)) bare k)
+      fourth (inl k) = of-control domain l n (control-of c.controls 0 (length c.attrs) l k) d j
       fourth (inr k) = of-group domain l n k d j
 
       third : Among l (block_lines 0 c.blocks) ⊎ Among l (control_lines 0 (length c.attrs) c.controls ++ map (λ (g : SgDef). group_line (domain_number c g.domain) g) c.groups) → Is domain n
@@ -197,14 +311,34 @@ module _ (c : Config) (bare : c.controls ≡ []) where
       of-line domain g.0 n (from-ordered (lines c) g.0 p.0) (octets_same g.0.domain domain p.1) g.2
 
 -- an attribute is named in its domain
-pub attribute-named : (c : Config) (x : ℕ) (a : AttrDef) → At x a c.attrs → Among (end_named (path_item a.ln a.fc a.path) (attribute x) a.kind) (names_in c a.domain)
-attribute-named c x a h =
-    let s = line-of c.attrs 0 (length c.attrs + length (generated c)) x a h in
-    let here : Among (attribute_line (0 + x) s.0 a) (lines c) = right _ (map node_line c.nodes) _ (left _ (attribute_lines 0 (length c.attrs + length (generated c)) c.attrs) _ s.1) in
-    let same : 0 + x ≡ x = omega arith in
-    spread (λ (l : Line). l.names) (attribute_line (0 + x) s.0 a) _ (filter (λ (l : Line). bytes_eq l.domain a.domain) (in_order (lines c)))
-    (kept (λ (l : Line). bytes_eq l.domain a.domain) (attribute_line (0 + x) s.0 a) (in_order (lines c)) (ordered (lines c) _ here) (bytes-same a.domain a.domain refl))
-    (inl (ap (λ k. end_named (path_item a.ln a.fc a.path) (attribute k) a.kind) (sym same)))
+module _ (c : Config) (x : ℕ) (a : AttrDef) where
+  line-named : IsNamedLine (lines c) x a → Among (attr_named x a) (names_in c a.domain)
+  line-named h = spread (λ (l : Line). l.names) h.line (attr_named x a) (filter (λ (l : Line). bytes_eq l.domain a.domain) (in_order (lines c)))
+      (kept (λ (l : Line). bytes_eq l.domain a.domain) h.line (in_order (lines c)) (ordered (lines c) h.line h.there) (bytes-same h.line.domain a.domain h.domain_is)) h.name
+
+  of-own : At x a c.attrs → IsNamedLine (lines c) x a
+  of-own h = let s = line-of c.attrs 0 (length c.attrs + length (generated c)) x a h in record {
+    line = attribute_line (0 + x) s.0 a;
+    there = right _ (map node_line c.nodes) _ (left _ (attribute_lines 0 (length c.attrs + length (generated c)) c.attrs) _ s.1);
+    domain_is = refl;
+    name = inl (ap (λ k. attr_named k a) (omega arith));
+  }
+
+  of-parameter : (m : ℕ) → x ≡ length c.attrs + m → At m a (flat_map parameter_attrs c.controls) → IsNamedLine (lines c) x a
+  of-parameter m e h = let s = control-named c.controls 0 (length c.attrs) m a h in record {
+    line = s.line;
+    there = right s.line (map node_line c.nodes) _ (right s.line (attribute_lines 0 (length c.attrs + length (generated c)) c.attrs) _ (right s.line (block_lines 0 c.blocks) _
+        (left s.line (control_lines 0 (length c.attrs) c.controls) _ s.there)));
+    domain_is = s.domain_is;
+    name = subst (λ y. Among (attr_named y a) s.line.names) (sym e) s.name;
+  }
+
+  pub attribute-named : At x a (all_attrs c) → Among (end_named (path_item a.ln a.fc a.path) (attribute x) a.kind) (names_in c a.domain)
+  attribute-named h = line-named (by (at-either x a c.attrs (flat_map parameter_attrs c.controls) h))
+    where
+      by : At x a c.attrs ⊎ ((m : ℕ) × (x ≡ length c.attrs + m) × At m a (flat_map parameter_attrs c.controls)) → IsNamedLine (lines c) x a
+      by (inl i) = of-own i
+      by (inr g) = of-parameter g.0 g.1 g.2
 
 pub within-longest : (ns : List Named) (n : Named) → Among n ns → length n.item ≤ longest ns
 within-longest [] n i = absurd i

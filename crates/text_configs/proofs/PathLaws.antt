@@ -92,6 +92,9 @@ fc-of-block fc h e = true≢false (sym h ∙ ap is_fc e)
 pub fc-of-edit : (fc : List ℕ) → is_fc fc ≡ true → fc ≡ codes "SE" → ⊥
 fc-of-edit fc h e = true≢false (sym h ∙ ap is_fc e)
 
+pub fc-of-command : (fc : List ℕ) → is_fc fc ≡ true → fc ≡ codes "CO" → ⊥
+fc-of-command fc h e = true≢false (sym h ∙ ap is_fc e)
+
 -- ---- paths
 
 abbrev pub names_in : List ℕ → List (List ℕ)

@@ -19,6 +19,7 @@ use Rattle.bay_model.specs.Named.{places_in, nodes, member_number, configured_mo
 use Rattle.cfg_lines.specs.Keys.{is_among}
 use Rattle.cfg_lines.specs.Paths.{above}
 use Rattle.cfg_lines.specs.Sizes.{children}
+use Rattle.cfg_lines.specs.declared.leaf.Leaf.{Leaf}
 use Rattle.text_words.specs.Names.{is_fc}
 use Rattle.text_words.specs.Names.{is_name}
 use Rattle.cfg_lines.specs.Nodes.{reaches}
@@ -37,9 +38,11 @@ use Rattle.text_configs.proofs.OrderLaws.{attribute-named, within-longest}
 use Rattle.text_configs.proofs.ReachLaws.{above-back}
 use Rattle.text_configs.proofs.FindLaws.{IsFound, found, domain-there, domain-of}
 use Rattle.text_configs.proofs.AttrLaws.{key_of}
+use Rattle.text_configs.proofs.ParameterLaws.{all_attrs}
+use Rattle.text_configs.proofs.ToldLaws.{IsTold}
 use Rattle.text_configs.proofs.PathLaws.{name-plain, NoSlash, name-whole, same-reference, fc-plain, fc-member, names_in, path-plain, path-joined, item_names, item-joined, key-joined, joined-domain, GoOn, prefix-joined, IsReference}
-use Rattle.text_configs.proofs.CountLaws.{Known, counted, is-count}
-use Rattle.text_configs.proofs.BelowLaws.{IsTold, all-entries, beside-block, entries-below, front}
+use Rattle.text_configs.proofs.CountLaws.{Known, leaf_keys, counted, is-count}
+use Rattle.text_configs.proofs.BelowLaws.{all-entries, beside-block, entries-below, front}
 use Rattle.text_configs.proofs.MemberLaws.{node-at-place, IsFit, member-of}
 
 module _ (c : Config) (told : IsTold c) where
@@ -47,26 +50,27 @@ module _ (c : Config) (told : IsTold c) where
   pub record IsReached (domain : List ℕ) (names : List (List ℕ)) : Type 0 where
     pub attr : AttrDef
     pub number : ℕ
-    pub at : At number attr c.attrs
+    pub at : At number attr (all_attrs c)
     pub domain_is : attr.domain ≡ domain
     pub go : GoOn (item_names attr) names
 
-  item-plain : (a : AttrDef) → Among a c.attrs → ArePlain (item_names a)
+  item-plain : (a : AttrDef) → Among a (all_attrs c) → ArePlain (item_names a)
   item-plain a i = let r = told.attrs a i in (name-plain a.ln r.node.ln_name, (fc-plain a.fc r.constraint, path-plain a.path r.path.0))
 
   key-is : (a : AttrDef) → key_of a ≡ a.domain ++ 47 ∷ joined (item_names a)
   key-is a = key-joined a ∙ joined-domain a.domain a.ln (a.fc ∷ names_in a.path)
 
-  reached : (r : List ℕ) (s : IsReference r) → reaches (map key_of c.attrs) r ≡ true → IsReached s.domain (names_in s.item)
+  reached : (r : List ℕ) (s : IsReference r) → reaches (leaf_keys c told) r ≡ true → IsReached s.domain (names_in s.item)
   reached r s h =
-      let k = some-passes (λ name. bytes_eq r name || is_among (above name) r) (map key_of c.attrs) h in
-      let a = source key_of k.0 c.attrs k.1 in
-      let at = among-at a.0 c.attrs a.1 in
-      by a.0 at.0 at.1 (or_cases _ _ (subst (λ name. (bytes_eq r name || is_among (above name) r) ≡ true) a.2 k.2))
+      let k = some-passes (λ name. bytes_eq r name || is_among (above name) r) (leaf_keys c told) h in
+      let l = source (λ (l : Leaf). l.name) k.0 told.leaves k.1 in
+      let a = told.leaf_back l.0 l.1 in
+      let at = among-at a.attr (all_attrs c) a.there in
+      by a.attr at.0 at.1 (or_cases _ _ (subst (λ name. (bytes_eq r name || is_among (above name) r) ≡ true) (l.2 ∙ ap (λ (l : Leaf). l.name) a.is) k.2))
     where
-      some : (a : AttrDef) (x : ℕ) → At x a c.attrs → (behind : List ℕ) → key_of a ≡ r ++ 36 ∷ behind → IsReached s.domain (names_in s.item)
+      some : (a : AttrDef) (x : ℕ) → At x a (all_attrs c) → (behind : List ℕ) → key_of a ≡ r ++ 36 ∷ behind → IsReached s.domain (names_in s.item)
       some a x at behind e =
-          let i = at-among x a c.attrs at in
+          let i = at-among x a (all_attrs c) at in
           let both = same-reference a.domain s.domain (joined (item_names a)) (s.item ++ 36 ∷ behind) (name-whole a.domain (told.attrs a i).node.domain_name) (name-whole s.domain s.domain_name)
           (sym (key-is a) ∙ (e ∙ (ap (λ l. l ++ 36 ∷ behind) s.is ∙ append_assoc s.domain (47 ∷ s.item) (36 ∷ behind)))) in
           record {
@@ -77,9 +81,9 @@ module _ (c : Config) (told : IsTold c) where
             go = prefix-joined (item_names a) (names_in s.item) behind (item-plain a i) (path-plain s.item s.path) (omega (arith, s.many)) (both.1 ∙ ap (λ l. l ++ 36 ∷ behind) (sym (path-joined s.item)));
           }
 
-      all : (a : AttrDef) (x : ℕ) → At x a c.attrs → key_of a ≡ r → IsReached s.domain (names_in s.item)
+      all : (a : AttrDef) (x : ℕ) → At x a (all_attrs c) → key_of a ≡ r → IsReached s.domain (names_in s.item)
       all a x at e =
-          let i = at-among x a c.attrs at in
+          let i = at-among x a (all_attrs c) at in
           let both = same-reference a.domain s.domain (joined (item_names a)) s.item (name-whole a.domain (told.attrs a i).node.domain_name) (name-whole s.domain s.domain_name) (sym (key-is a) ∙ (e ∙ s.is)) in
           record {
             attr = a;
@@ -89,7 +93,7 @@ module _ (c : Config) (told : IsTold c) where
             go = record { more = []; is = same-joined (item_names a) (names_in s.item) (item-plain a i) (path-plain s.item s.path) (both.1 ∙ sym (path-joined s.item)) ∙ sym (append-nil (names_in s.item)) };
           }
 
-      by : (a : AttrDef) (x : ℕ) → At x a c.attrs → (bytes_eq r (key_of a) ≡ true) ⊎ (is_among (above (key_of a)) r ≡ true) → IsReached s.domain (names_in s.item)
+      by : (a : AttrDef) (x : ℕ) → At x a (all_attrs c) → (bytes_eq r (key_of a) ≡ true) ⊎ (is_among (above (key_of a)) r ≡ true) → IsReached s.domain (names_in s.item)
       by a x at (inl e) = all a x at (sym (octets_same r (key_of a) e))
       by a x at (inr e) = let b = above-back (key_of a) r e in some a x at b.more b.is
 
@@ -102,7 +106,7 @@ module _ (c : Config) (told : IsTold c) where
       exists (suc (longest (named.names_in c domain))) (named.names_in c domain) [] names h.go.more n plain some (omega (arith, joined-longer names h.go.more plain, ap length item, within-longest (named.names_in c domain) n i)) i item
 
   domain-is-there : (domain : List ℕ) (names : List (List ℕ)) → IsReached domain names → Among domain (named.domains c)
-  domain-is-there domain names h = let r = (told.attrs h.attr (at-among h.number h.attr c.attrs h.at)).node in
+  domain-is-there domain names h = let r = (told.attrs h.attr (at-among h.number h.attr (all_attrs c) h.at)).node in
       subst (λ d. Among d (named.domains c)) (r.domain_is ∙ h.domain_is) (domain-there r.node [] c.nodes r.there)
 
   domain-whole : (domain : List ℕ) → Among domain (named.domains c) → NoSlash domain
@@ -114,7 +118,7 @@ module _ (c : Config) (told : IsTold c) where
 
   -- a place at the names of a functional constraint and below
   fit : (domain : List ℕ) (p : Place) (ln fc b : List ℕ) (more : List (List ℕ)) → is_fc fc ≡ true → ArePlain (ln ∷ fc ∷ b ∷ more) → Among p (places_in c domain) → p.item ≡ joined (ln ∷ fc ∷ b ∷ more)
-      → (a : AttrDef) → Among a c.attrs → a.domain ≡ domain → (behind : List (List ℕ)) → item_names a ≡ (ln ∷ fc ∷ b ∷ more) ++ behind → counted c told.attrs told.beside 10 (domain ++ 47 ∷ p.item) ≤ 500 → IsFit c p
+      → (a : AttrDef) → Among a (all_attrs c) → a.domain ≡ domain → (behind : List (List ℕ)) → item_names a ≡ (ln ∷ fc ∷ b ∷ more) ++ behind → counted c told 10 (domain ++ 47 ∷ p.item) ≤ 500 → IsFit c p
   fit domain p ln fc b more known plain i item a here of_domain behind goes few =
       let ns : List Named = named.names_in c domain in
       let one = under [] (longest ns) ns p ln fc (b ∷ more) plain.0.1 item (within-longest ns) i in
@@ -139,7 +143,7 @@ module _ (c : Config) (told : IsTold c) where
         small = omega (
           arith,
           few,
-          places-small (attr_type c) (length (attributes c)) (Known c told.attrs told.beside) (counted c told.attrs told.beside) (children (map key_of c.attrs)) (is-count c told.attrs told.beside)
+          places-small (attr_type c) (length (attributes c)) (Known c told) (counted c told) (children (leaf_keys c told)) (is-count c told)
               (suc two.depth) 10 all.entries (front c told domain ln fc known) domain before under link p among few,
         );
       }
@@ -175,7 +179,7 @@ module _ (c : Config) (told : IsTold c) where
       (bytes-same r (s.domain ++ 47 ∷ p.0.item) same)
 
   -- each place with the reference is fit
-  fit-at : (r : List ℕ) (s : IsReference r) → IsReached s.domain (names_in s.item) → counted c told.attrs told.beside 10 r ≤ 500 → (d : List ℕ) (p : Place) → Among d (named.domains c) → Among p (places_in c d) → r ≡ d ++ 47 ∷ p.item → IsFit c p
+  fit-at : (r : List ℕ) (s : IsReference r) → IsReached s.domain (names_in s.item) → counted c told 10 r ≤ 500 → (d : List ℕ) (p : Place) → Among d (named.domains c) → Among p (places_in c d) → r ≡ d ++ 47 ∷ p.item → IsFit c p
   fit-at r s h few d p i j is =
       let both = same-reference s.domain d s.item p.item (name-whole s.domain s.domain_name) (domain-whole d i) (sym s.is ∙ is) in
       let t = third (names_in s.item) s.many in
@@ -183,18 +187,18 @@ module _ (c : Config) (told : IsTold c) where
     where
       by : s.domain ≡ d → (ln fc b : List ℕ) (more : List (List ℕ)) → names_in s.item ≡ ln ∷ fc ∷ b ∷ more → p.item ≡ joined (names_in s.item) → IsFit c p
       by same ln fc b more e item =
-          let known : is_fc fc ≡ true = ap is_fc (sym (same-constraint h.attr ln fc b more h.go.more (h.go.is ∙ ap (λ l. l ++ h.go.more) e))) ∙ (told.attrs h.attr (at-among h.number h.attr c.attrs h.at)).constraint in
-          fit d p ln fc b more known (subst ArePlain e (path-plain s.item s.path)) j (item ∙ ap joined e) h.attr (at-among h.number h.attr c.attrs h.at) (h.domain_is ∙ same) h.go.more (h.go.is ∙ ap (λ l. l ++ h.go.more) e) (omega (arith, few, ap (λ (x : List ℕ). counted c told.attrs told.beside 10 x) is))
+          let known : is_fc fc ≡ true = ap is_fc (sym (same-constraint h.attr ln fc b more h.go.more (h.go.is ∙ ap (λ l. l ++ h.go.more) e))) ∙ (told.attrs h.attr (at-among h.number h.attr (all_attrs c) h.at)).constraint in
+          fit d p ln fc b more known (subst ArePlain e (path-plain s.item s.path)) j (item ∙ ap joined e) h.attr (at-among h.number h.attr (all_attrs c) h.at) (h.domain_is ∙ same) h.go.more (h.go.is ∙ ap (λ l. l ++ h.go.more) e) (omega (arith, few, ap (λ (x : List ℕ). counted c told 10 x) is))
 
   -- the node that such a reference has, has it
-  pub member-reference : (r : List ℕ) → IsReference r → reaches (map key_of c.attrs) r ≡ true → reference_at (configured_model c) (member_number (nodes c) r) ≡ r
+  pub member-reference : (r : List ℕ) → IsReference r → reaches (leaf_keys c told) r ≡ true → reference_at (configured_model c) (member_number (nodes c) r) ≡ r
   member-reference r s reach =
       let f = first-node r s (reached r s reach) in
       let number : member_number (nodes c) r ≡ f.number = ap (λ o. unwrap_or o 0) f.is in
       let node : node_of (configured_model c) f.number ≡ f.element = ap (λ o. unwrap_or o (record { domain = []; item = []; role = several; tree = structure none; attrs = []; allowed = false })) (at-get f.number f.element (nodes c) f.at) in
       ap (reference_at (configured_model c)) number ∙ (ap (λ (n : Node). reference_of n.domain n.item) node ∙ sym (octets_same r (reference_of f.element.domain f.element.item) f.passes))
 
-  pub member : (r : List ℕ) → IsReference r → reaches (map key_of c.attrs) r ≡ true → counted c told.attrs told.beside 10 r ≤ 500 → IsMember c (member_number (nodes c) r)
+  pub member : (r : List ℕ) → IsReference r → reaches (leaf_keys c told) r ≡ true → counted c told 10 r ≤ 500 → IsMember c (member_number (nodes c) r)
   member r s reach few =
       let h = reached r s reach in
       let f = first-node r s h in

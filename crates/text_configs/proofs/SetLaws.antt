@@ -1,22 +1,16 @@
--- What a text tells of its blocks and its data sets, and the leaves that its attributes make.
-use Rattle.std.proofs.Common.{◌≡◌, ℕ, ◌+◌, ◌≤◌, ◌⊎◌, inl, inr, true, List, [], ◌∷◌, ◌++◌, length, map, refl, sym, ap, subst, ◌∙◌, arith, length-append, append-nil}
-use Rattle.std.proofs.lemmas.List.{map-append}
-use Rattle.sv_base.specs.declared.config.AttrDef.{AttrDef}
+-- What a text tells of its blocks and its data sets.
+use Rattle.std.proofs.Common.{◌≡◌, ℕ, ◌+◌, ◌≤◌, ◌⊎◌, inl, inr, true, List, [], ◌∷◌, ◌++◌, length, refl, sym, ap, subst, ◌∙◌, arith, length-append}
 use Rattle.sv_base.specs.declared.config.SetDef.{SetDef}
 use Rattle.sv_base.specs.declared.config.BlockDef.{BlockDef}
 use Rattle.text_words.specs.Names.{is_name, is_member}
 use Rattle.cfg_lines.specs.Before.{blocks, members}
 use Rattle.cfg_lines.specs.Configs.{with_member, config_of}
-use Rattle.cfg_lines.specs.Nodes.{leaves}
-use Rattle.cfg_lines.specs.Sizes.{most_octets}
 use Rattle.cfg_grammar.specs.Follows.{Follows}
 use Rattle.cfg_grammar.specs.Texts.{AreLines, IsFound, AreFound}
-use Rattle.cfg_lines.specs.declared.leaf.Leaf.{Leaf}
 use Rattle.cfg_lines.specs.declared.line.Line.{Line}
 use Rattle.cfg_lines.specs.declared.line.Line.TheVariants as lines
 use Rattle.list_laws.proofs.Among.{Among, ending}
-use Rattle.text_configs.proofs.StandLaws.{IsPlainText, in-node}
-use Rattle.text_configs.proofs.AttrLaws.{key_of}
+use Rattle.text_configs.proofs.StandLaws.{in-node}
 
 -- ---- blocks
 
@@ -135,17 +129,3 @@ pub found-of : (all told : List Line) (line : Line) → AreFound all told → Am
 found-of all [] line h i = absurd i
 found-of all (l ∷ before) line h (inl e) = subst (IsFound all) (sym e) h.1
 found-of all (l ∷ before) line h (inr i) = found-of all before line h.0 i
-
--- ---- leaves
-
-abbrev pub leaf_of : AttrDef → Leaf
-leaf_of a = record { name = key_of a; octets = most_octets a.kind }
-
-none-more : (before : List Line) → leaves before ≡ map leaf_of (config_of before).attrs → leaves before ++ [] ≡ map leaf_of (config_of before).attrs
-none-more before e = append-nil (leaves before) ∙ e
-
-pub leaves-are : (told : List Line) → IsPlainText told → leaves told ≡ map leaf_of (config_of told).attrs
-leaves-are [] p = refl
-leaves-are (lines.Attr attr ∷ before) p = ap (λ l. l ++ leaf_of attr ∷ []) (leaves-are before p) ∙ sym (map-append leaf_of (config_of before).attrs (attr ∷ []))
-leaves-are (lines.Ctl control ∷ before) p = absurd p
-leaves-are (line ∷ before) p = none-more before (leaves-are before p)

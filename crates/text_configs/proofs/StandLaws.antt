@@ -1,6 +1,5 @@
 -- Where the lines of a text stand: in a domain, and in one of its logical nodes.
 use Rattle.std.proofs.Common.{◌≡◌, ℕ, ◌⊎◌, inl, inr, true, List, [], ◌∷◌, ◌++◌, refl, ap, subst, ◌∙◌}
-use Rattle.list_laws.proofs.Appended.{some-left}
 use Rattle.sv_base.specs.declared.config.LnDef.{LnDef}
 use Rattle.text_words.specs.Names.{is_name}
 use Rattle.cfg_lines.specs.Before.{place_of, domain_of, node_of}
@@ -12,17 +11,6 @@ use Rattle.cfg_lines.specs.declared.line.Line.TheVariants as lines
 use Rattle.cfg_lines.specs.declared.line.Place.{Place}
 use Rattle.cfg_lines.specs.declared.line.Place.TheVariants as places
 use Rattle.list_laws.proofs.Among.{Among, left, right, ending}
-
--- no controls
-abbrev pub IsPlainText : List Line → Type 0
-IsPlainText [] = Unit {0}
-IsPlainText (lines.Ctl control ∷ before) = ⊥
-IsPlainText (line ∷ before) = IsPlainText before
-
-pub plain-text : (told : List Line) → (config_of told).controls ≡ [] → IsPlainText told
-plain-text [] c = tt
-plain-text (lines.Ctl control ∷ before) c = absurd (some-left (config_of before).controls control c)
-plain-text (line ∷ before) c = plain-text before c
 
 -- a logical node of these, in a domain
 pub record IsIn (nodes : List LnDef) (domain ln : List ℕ) : Type 0 where

@@ -1,6 +1,6 @@
 //! Which configurations of texts can be served.
 
-ghost use Rattle.std.specs.Prelude.{◌≡◌, ℕ, List, [], Ok};
+ghost use Rattle.std.specs.Prelude.{◌≡◌, ℕ, List, Ok};
 ghost use Rattle.sv_base.specs.declared.config.Config.{Config};
 ghost use Rattle.cfg_parser.specs.Looking.{config_at};
 ghost use Rattle.bay_config.specs.Servable.{IsServable};

@@ -1,2 +1,3 @@
 pub mod NoteLaws
 pub mod ReasonLaws
+pub mod BehindLaws

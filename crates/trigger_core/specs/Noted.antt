@@ -1,8 +1,8 @@
 -- The members of a data set that a point is an event of, by the attributes that it set (IEC 61850-7-2,
 -- TriggerConditions, TrgOps and ReasonForInclusion).
-use Rattle.std.specs.Prelude.{ℕ, suc, false, ◌&&◌, ◌==◌, List, [], ◌∷◌, ◌++◌, Option, unwrap_or, if◌then◌else◌}
+use Rattle.std.specs.Prelude.{ℕ, suc, false, ◌<◌, ◌&&◌, ◌==◌, List, [], ◌∷◌, ◌++◌, Option, unwrap_or, if◌then◌else◌}
 use Rattle.std.specs.Option.{option_map}
-use Rattle.std.specs.List.{find}
+use Rattle.std.specs.List.{find, All}
 use Rattle.sv_base.specs.declared.numbers.AttrId.{AttrId}
 use Rattle.bay_model.specs.declared.flags.Change.{Change}
 use Rattle.bay_model.specs.declared.flags.Trg.{Trg}
@@ -36,3 +36,7 @@ noted changes trg i [] = []
 noted changes trg i (m ∷ ms) =
     (if is_any (reasons_in changes trg m.attrs) then record { member = record { 0 = i }; reasons = reasons_in changes trg m.attrs } ∷ [] else [])
     ++ noted changes trg (suc i) ms
+
+-- all members are lower
+abbrev pub AreBelow : ℕ → List Mention → Type 0
+AreBelow i ms = All (λ (m : Mention). m.member.0 < i) ms

@@ -1,11 +1,11 @@
 //! Which members of a data set a point is an event of, and why, by the attributes that it set.
 
-ghost use Rattle.std.specs.Prelude.{◌≡◌, ◌≤◌, ◌<◌, ◌^◌, length, unwrap_or, option_copied};
+ghost use Rattle.std.specs.Prelude.{◌≡◌, ◌≤◌, ◌<◌, ◌^◌, ◌++◌, ◌∷◌, [], length, unwrap_or, option_copied};
 ghost use Rattle.std.specs.Option.{option_map};
 ghost use Rattle.bay_model.specs.Notes.{no_reason, union as union_of};
-ghost use Rattle.trigger_core.specs.Noted.{change_of as change_in, reasons_by as reasons_under, reasons_in as reasons_among, noted};
+ghost use Rattle.trigger_core.specs.Noted.{AreBelow, change_of as change_in, reasons_by as reasons_under, reasons_in as reasons_among, noted};
 
-use bay_model::{Change, MemberShape, Mention, Note, Reasons, Trg};
+use bay_model::{Change, MemberShape, Note, Reasons, Trg};
 use set_view::SetView;
 use sv_base::{AttrId, MemberNo};
 
@@ -61,11 +61,22 @@ fn reasons_in(changes: &[Change], trg: Trg, attrs: &[AttrId]) -> Reasons
     reasons
 }
 
+/// Adds a member behind the others, which are lower.
+#[tactic(auto, using(crate::proofs::BehindLaws::add_behind))]
+fn add_behind(out: &mut Note, member: MemberNo, reasons: Reasons)
+    requires below { AreBelow member.0 out.old.items }
+    requires room { length out.old.items < out.old.room }
+    ensures { out.new ≡ record { items = out.old.items ++ record { member = member; reasons = reasons } ∷ []; room = out.old.room } }
+{
+    out.add(member, reasons);
+}
+
 /// Fills the note of a point with the members of a data set that the point is an event of, in the order of the set:
 /// each that has an attribute which the point set, and which triggers under the block's trigger options. A member has
 /// the reasons of all its attributes (IEC 61850-7-2, ReasonForInclusion).
 ///
 /// `changes` are the attributes that the point set, each once. What stood in `out` goes; it takes no memory.
+#[tactic(auto, using(crate::proofs::BehindLaws::below_more, crate::proofs::BehindLaws::below_same))]
 pub fn note(changes: &[Change], set: &SetView<'_>, trg: Trg, out: &mut Note)
     requires counted { length set.now < 2 ^ 32 }
     requires room { length set.now ≤ out.old.room }
@@ -75,10 +86,7 @@ pub fn note(changes: &[Change], set: &SetView<'_>, trg: Trg, out: &mut Note)
     for place in 0..set.len() {
         let reasons = reasons_in(changes, trg, set.member(place).attrs.as_slice());
         if reasons.is_any() {
-            out.push(Mention {
-                member: MemberNo(place as u32 + 1),
-                reasons,
-            });
+            add_behind(out, MemberNo(place as u32 + 1), reasons);
         }
     }
 }

@@ -4,8 +4,8 @@ use Rattle.lock_tests.proofs.Serving.{served, settable}
 use Rattle.lock_tests.proofs.example.bay_of.Goals as goal
 
 pub build-requires : goal.build-requires
-build-requires c = settable c.in-Ok.config (served c.args.text.now c.in-Ok.config c.in-Ok.ensures (c.is_served.ensures c.if-not-is_served.false))
+build-requires c = settable c.in-Ok.config (served c.args.text.now c.in-Ok.config c.in-Ok.ensures)
 
 pub open-requires : goal.open-requires
 open-requires c = subst IsServable (sym c.in_ok-model.ensures)
-    (served c.args.text.now c.in-Ok.config c.in-Ok.ensures (c.is_served.ensures c.if-not-is_served.false))
+    (served c.args.text.now c.in-Ok.config c.in-Ok.ensures)

@@ -1,42 +1,22 @@
-use Rattle.std.proofs.Common.{◌≡◌, ℕ, Result, Ok, Err, refl, sym, subst}
-use Rattle.std.specs.Prelude.{IfOk}
-use Rattle.bay_model.specs.declared.reply.Reply.{Reply}
+use Rattle.std.proofs.Common.{◌≡◌, List, refl, subst}
 use Rattle.bay_model.specs.declared.request.Service.{Service}
-use Rattle.assoc_table.specs.Tables.{IsNumber}
-use Rattle.bay_config.specs.Servable.{IsServable}
-use Rattle.bay_core.specs.Asked.{IsAnswered, IsReplied}
-use Rattle.bay_core.specs.State.{State}
-use Rattle.bay_core.proofs.AnswerLaws.{reading-of}
-use Rattle.bay_core.proofs.AskLaws.{IsQuietService, answered-replied, quiet-read}
+use Rattle.bay_model.specs.declared.request.Service.TheVariants as services
+use Rattle.bay_model.specs.declared.request.Write.{Write}
+use Rattle.bay_core.specs.Commanded.{CallsNothing}
+use Rattle.bay_core.specs.State.{State, AreServedSets}
+use Rattle.bay_core.proofs.CameLaws.{replied-come}
 use Rattle.bay_core.proofs.bay.Bay.answer.Goals as goal
 
-if-ok : {A E : Type 0} (P Q : A → Type 0) (r : Result A E) → ((x : A) → P x → Q x) → IfOk r P → IfOk r Q
-if-ok P Q (Ok x) goes is = goes x is
-if-ok P Q (Err e) goes is = is
+calls-nothing : (s : Service) → ((ws : List Write) → s ≡ services.WriteVars ws → ⊥) → CallsNothing s
+calls-nothing (services.WriteVars ws) none = absurd (none ws refl)
+calls-nothing _ none = tt
 
-pub answer_read-requires-clause-reading : goal.answer_read-requires-clause-reading
-answer_read-requires-clause-reading c = reading-of c.args.service.now c.in_default.not-WriteVars c.in_default.not-WriteSet c.in_default.not-Define c.in_default.not-Delete
+pub answer_plain-requires-clause-plain : goal.answer_plain-requires-clause-plain
+answer_plain-requires-clause-plain c = calls-nothing c.args.service.now c.in_default.not-WriteVars
 
--- a request that leaves the data sets alone
-quiet-goes : {E : Type 0} (old new : State) (moment a : ℕ) {s k : Service} (r : Result Reply E) → s ≡ k → IsQuietService k → IsServable old.config → IsNumber a
-    → IfOk r (λ (x : Reply). IsAnswered old new moment a k x) → IfOk r (λ (x : Reply). IsReplied old new moment a s x)
-quiet-goes old new moment a {s} {k} r is quiet served number answered =
-    subst (λ (t : Service). IfOk r (λ (x : Reply). IsReplied old new moment a t x)) (sym is)
-    (if-ok (λ (x : Reply). IsAnswered old new moment a k x) (λ (x : Reply). IsReplied old new moment a k x) r (λ x goes. answered-replied old new moment a k x served number quiet goes) answered)
-
-pub returns-in-WriteVars-clause-answered : goal.returns-in-WriteVars-clause-answered
-returns-in-WriteVars-clause-answered c =
-    quiet-goes c.args.self.now c.answer_writes.new.self c.args.moment c.args.a.0 c.answer_writes.result c.in-WriteVars.is tt
-    (subst (λ (t : State). IsServable t.config) c.self.view_is c.self.invariant.furnished.servable) c.requires.number c.answer_writes.ensures.answered
-
-pub returns-in-WriteSet-clause-answered : goal.returns-in-WriteSet-clause-answered
-returns-in-WriteSet-clause-answered c =
-    quiet-goes c.args.self.now c.answer_set.new.self c.args.moment c.args.a.0 c.answer_set.result c.in-WriteSet.is tt
-    (subst (λ (t : State). IsServable t.config) c.self.view_is c.self.invariant.furnished.servable) c.requires.number c.answer_set.ensures.answered
-
-pub returns-in_default-clause-answered : goal.returns-in_default-clause-answered
-returns-in_default-clause-answered c =
-    let k = c.args.service.now in
-    quiet-goes c.args.self.now c.answer_read.new.self c.args.moment c.args.a.0 {s = k} {k = k} c.answer_read.result refl
-    (quiet-read k (reading-of k c.in_default.not-WriteVars c.in_default.not-WriteSet c.in_default.not-Define c.in_default.not-Delete))
-    (subst (λ (t : State). IsServable t.config) c.self.view_is c.self.invariant.furnished.servable) c.requires.number c.answer_read.ensures.answered
+pub returns-in_ok-reply-in_default-clause-came : goal.returns-in_ok-reply-in_default-clause-came
+returns-in_ok-reply-in_default-clause-came c =
+    let none = c.alone.ensures.none in
+    replied-come c.args.self.now c.answer_plain.new.self c.args.moment c.args.a.0 c.args.service.now c.in_ok-reply-in_default.reply c.alone.result
+    (subst (λ (t : State). AreServedSets t.config t.book) c.self.view_is c.self.invariant.furnished.booked.served) (calls-nothing c.args.service.now c.in_default.not-WriteVars)
+    c.alone.ensures.reply none.0 none.1 none.2 c.in_ok-reply-in_default.ensures.answered

@@ -5,7 +5,6 @@ use Rattle.bay_model.specs.declared.reply.Reply.{Reply}
 use Rattle.bay_model.specs.declared.reply.Reply.TheVariants as replies
 use Rattle.bay_model.specs.declared.request.Service.TheVariants as services
 use Rattle.bay_model.specs.declared.request.SetName.{SetName}
-use Rattle.bay_config.specs.Servable.{IsServable}
 use Rattle.bay_core.specs.Asked.{IsReplied}
 use Rattle.bay_core.specs.Deleted.{after_deletions, deleted_in, matched_in}
 use Rattle.bay_core.specs.State.{State, IsBooked}
@@ -16,8 +15,7 @@ use Rattle.bay_core.proofs.bay.Bay.answer_deletion.Goals as goal
 pub returns-then-scope-ne0-clause-answered : goal.returns-then-scope-ne0-clause-answered
 returns-then-scope-ne0-clause-answered c =
     let other : (c.args.scope == 0) ≡ false = grind (arith, nat_tests, c.if-scope-ne0.true) in
-    scope-refused c.args.self.now c.arrive.new.self c.args.moment c.args.a.0 c.args.scope c.args.names.now
-    (subst (λ (s : State). IsServable s.config) c.self.view_is c.self.invariant.furnished.servable) c.requires.number other c.arrive.ensures.stands
+    scope-refused c.args.self.now c.arrive.new.self c.args.moment c.args.a.0 c.args.scope c.args.names.now c.requires.number other c.arrive.ensures.stands
 
 pub returns-clause-answered : goal.returns-clause-answered
 returns-clause-answered c =
@@ -33,7 +31,6 @@ returns-clause-answered c =
     subst (λ (r : Reply). IsReplied old c.delete_all-matched.new.self c.args.moment c.args.a.0 (services.Delete c.args.scope names) r) (ap₂ (λ (i j : ℕ). replies.Deleted i j) (sym matched) (sym gone))
     (subst (λ (t : State). IsReplied old t c.args.moment c.args.a.0 (services.Delete c.args.scope names) (replies.Deleted (matched_in names z) (deleted_in names z))) (sym new)
     (deletions-done old z c.args.moment c.args.a.0 c.args.scope names
-    (subst (λ (t : State). IsServable t.config) c.self.view_is f.servable)
     (subst (λ (t : State). length t.parts ≡ length t.config.blocks) c.self.view_is f.count)
     (subst (λ (t : State). IsBooked t.config t.book) c.self.view_is f.booked)
     c.requires.number all c.arrive-2.ensures.state c.arrive-2.ensures.stands))

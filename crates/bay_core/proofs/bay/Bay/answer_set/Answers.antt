@@ -9,8 +9,9 @@ use Rattle.bay_model.specs.declared.reply.Reply.TheVariants as replies
 use Rattle.bay_model.specs.declared.request.Service.TheVariants as services
 use Rattle.bay_model.specs.Singles.{writes_of}
 use Rattle.bay_core.specs.Asked.{AreMembersFit, AreWritten, IsAnswered, members_of, node_numbers}
+use Rattle.bay_core.specs.Commanded.{AreNoCommands}
 use Rattle.bay_core.specs.State.{State, AreServedSets}
-use Rattle.bay_core.proofs.AnswerLaws.{members-answered, members-fit, no-set, other-count}
+use Rattle.bay_core.proofs.AnswerLaws.{members-answered, members-fit, members-uncalled, no-set, other-count}
 use Rattle.bay_core.proofs.bay.Bay.answer_set.Goals as goal
 
 pub returns-in_default-clause-answered : goal.returns-in_default-clause-answered
@@ -27,10 +28,12 @@ pub answer_members-requires : goal.answer_members-requires
 answer_members-requires c =
     let some = sym c.in_ok-nodes.ensures ∙ ap members_of c.in-Some.is in
     let same : length c.in-Some.nodes.items ≡ length (values_of c.args.values.now) = omega (arith, c.if-len.false, c.len-2.ensures, c.len.ensures, c.as_slice.ensures.len, ap (λ (l : List NodeId). length l) c.as_slice.ensures.value) in
+    let served = subst (λ (t : State). AreServedSets t.config t.book) c.self.view_is c.self.invariant.furnished.booked.served in
     record {
       fit = subst (λ (ns : List NodeId). AreMembersFit c.args.self.now.config ns c.as_slice-2.result.now) (sym c.as_slice.ensures.value)
           (subst (λ (vs : List Value). AreMembersFit c.args.self.now.config c.in-Some.nodes.items vs) (sym c.as_slice-2.ensures.items)
-          (members-fit c.args.self.now c.args.domain.now c.args.item.now c.args.values.now c.in-Some.nodes.items (subst (λ (t : State). AreServedSets t.config t.book) c.self.view_is c.self.invariant.furnished.booked.served) c.requires some (equal-number (length c.in-Some.nodes.items) (length (values_of c.args.values.now)) same)));
+          (members-fit c.args.self.now c.args.domain.now c.args.item.now c.args.values.now c.in-Some.nodes.items served c.requires some (equal-number (length c.in-Some.nodes.items) (length (values_of c.args.values.now)) same)));
+      plain = subst (AreNoCommands c.args.self.now.config) (sym c.as_slice.ensures.value) (members-uncalled c.args.self.now c.args.domain.now c.args.item.now c.in-Some.nodes.items served some);
     }
 
 pub returns-clause-answered : goal.returns-clause-answered

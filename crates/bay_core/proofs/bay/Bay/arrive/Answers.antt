@@ -1,9 +1,12 @@
-use Rattle.std.proofs.Common.{◌∙◌, ◌∷◌, ℕ, List, refl, ap, ap₂, sym, subst, vec_capacity}
+use Rattle.std.proofs.Common.{◌≡◌, map, ◌∙◌, ◌∷◌, ℕ, List, refl, ap, ap₂, sym, subst, vec_capacity}
 use Rattle.bay_model.specs.declared.tables.NodeRow.{NodeRow}
 use Rattle.bay_model.specs.Singles.{arrival}
 use Rattle.object_model.specs.Nodes.{node_rows}
 use Rattle.value_store.specs.Stored.{Stored}
 use Rattle.report_block.specs.declared.block.ReportBlock.{ReportBlock}
+use Rattle.bay_model.specs.Configured.{control_defined}
+use Rattle.control_core.specs.Tables.{at_moment}
+use Rattle.bay_queues.specs.Queued.{Queued, configs}
 use Rattle.bay_core.specs.Events.{AreReady}
 use Rattle.bay_core.specs.Standing.{StandsAt}
 use Rattle.bay_core.specs.State.{State, IsFurnished}
@@ -26,6 +29,7 @@ invariant_of-self c = record {
   quiet = c.pass_due.ensures.quiet;
   grouped = c.self.invariant.grouped;
   roomy = c.self.invariant.roomy;
+  controls = subst (λ (q : Queued). configs q.table ≡ map control_defined c.self.inside.model.controls) (sym c.advance.ensures) c.self.invariant.controls;
 }
 
 pub returns-clause-state : goal.returns-clause-state
@@ -34,8 +38,9 @@ returns-clause-state c =
     let parts = c.pass_due.ensures.parts
     ∙ (ap (λ (rows : List NodeRow). arrived_all rows s.sets c.store.result.now s.latest c.later-now.result s.steps s.parts.items) (c.as_slice.ensures ∙ c.nodes.ensures)
     ∙ ap₂ (λ (all : List Stored) (now : ℕ). arrived_all (node_rows s.model) s.sets all s.latest now s.steps s.parts.items) c.store.ensures c.later-now.ensures) in
-    ap₂ (λ (now : ℕ) (ps : List ReportBlock). record { config = s.model; steps = s.steps; latest = now; stored = s.values; book = s.sets; parts = ps; rows = s.associations; groups = s.groups }) c.later-now.ensures parts
-    ∙ ap (at_arrival c.args.moment) c.self.view_is
+    ap (λ (q : Queued). record { config = s.model; steps = s.steps; latest = c.later-now.result; stored = s.values; book = s.sets; parts = c.pass_due.new.parts.items; rows = q.rows; groups = s.groups; controls = q.table }) c.advance.ensures
+    ∙ (ap₂ (λ (now : ℕ) (ps : List ReportBlock). record { config = s.model; steps = s.steps; latest = now; stored = s.values; book = s.sets; parts = ps; rows = s.associations.rows; groups = s.groups; controls = at_moment now s.associations.table }) c.later-now.ensures parts
+    ∙ ap (at_arrival c.args.moment) c.self.view_is)
 
 pub returns-clause-stands : goal.returns-clause-stands
 returns-clause-stands c = λ c' n past st.

@@ -11,7 +11,7 @@ use Rattle.bay_core.proofs.bay.Bay.delete.Goals as goal
 pub delete-requires-clause-to : goal.delete-requires-clause-to
 delete-requires-clause-to c =
     let s = c.self.inside in
-    let z : State = record { config = s.model; steps = s.steps; latest = s.latest; stored = s.values; book = s.sets; parts = s.parts.items; rows = s.associations; groups = s.groups } in
+    let z : State = record { config = s.model; steps = s.steps; latest = s.latest; stored = s.values; book = s.sets; parts = s.parts.items; rows = s.associations.rows; groups = s.groups; controls = s.associations.table } in
     let is = subst (λ (t : State). ◌≡◌ {A = Result _ DeleteFault} (deletion_at t c.args.name.now) (Ok c.in_ok-number.number)) (sym c.self.view_is) (sym c.in_ok-number.ensures) in
     (name-there s.sets c.args.name.now c.in_ok-number.number (going-is z c.args.name.now c.in_ok-number.number is).number).0
 
@@ -19,9 +19,9 @@ pub invariant_of-self : goal.invariant_of-self
 invariant_of-self c =
     let s = c.self.inside in
     let k = c.in_ok-number.number in
-    let z : State = record { config = s.model; steps = s.steps; latest = s.latest; stored = s.values; book = s.sets; parts = s.parts.items; rows = s.associations; groups = s.groups } in
+    let z : State = record { config = s.model; steps = s.steps; latest = s.latest; stored = s.values; book = s.sets; parts = s.parts.items; rows = s.associations.rows; groups = s.groups; controls = s.associations.table } in
     let is = subst (λ (t : State). ◌≡◌ {A = Result _ DeleteFault} (deletion_at t c.args.name.now) (Ok k)) (sym c.self.view_is) (sym c.in_ok-number.ensures) in
     let goes = going-is z c.args.name.now k is in
-    subst (λ (b : Book). IsWhole s.model s.values s.groups b c.renumber_all.new.parts.items s.watch s.octets (vec_capacity s.changes) s.latest s.dues s.events) (sym c.delete.ensures)
-    (whole-deleted s.model s.values s.groups s.sets s.parts.items c.renumber_all.new.parts.items s.watch s.octets (vec_capacity s.changes) s.latest s.dues s.events c.args.name.now k
+    subst (λ (b : Book). IsWhole s.model s.values s.groups b c.renumber_all.new.parts.items s.watch s.octets (vec_capacity s.changes) s.latest s.dues s.events s.associations.table) (sym c.delete.ensures)
+    (whole-deleted s.model s.values s.groups s.sets s.parts.items c.renumber_all.new.parts.items s.watch s.octets (vec_capacity s.changes) s.latest s.dues s.events s.associations.table c.args.name.now k
     goes.number goes.from goes.unused c.renumber_all.ensures c.self.invariant)

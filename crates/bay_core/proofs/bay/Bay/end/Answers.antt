@@ -1,11 +1,17 @@
-use Rattle.std.proofs.Common.{refl, ap, ap₂, sym, subst, ◌∙◌, vec_capacity}
+use Rattle.std.proofs.Common.{◌≡◌, List, map, refl, ap, ap₂, sym, subst, ◌∙◌, vec_capacity}
 use Rattle.assoc_table.specs.Tables.{ended}
+use Rattle.bay_model.specs.Configured.{control_defined}
+use Rattle.bay_model.specs.Points.{lost}
+use Rattle.control_core.specs.Tables.{after_deed}
+use Rattle.bay_queues.specs.Queued.{Queued, configs}
+use Rattle.report_block.specs.declared.block.ReportBlock.{ReportBlock}
 use Rattle.report_block.specs.Writes.{lost_by}
 use Rattle.setting_groups.specs.Grouped.{Grouped, after_loss}
 use Rattle.setting_groups.proofs.FrameLaws.{fit-loss}
 use Rattle.bay_values.specs.Held.{AreGrouped, IsSoundCell}
 use Rattle.bay_core.specs.Parting.{after_loss_all}
 use Rattle.bay_core.specs.State.{State, IsFurnished}
+use Rattle.bay_core.proofs.ControlLaws.{configs-deed}
 use Rattle.bay_core.proofs.FurnishLaws.{furnished-map}
 use Rattle.bay_core.proofs.QuietLaws.{quiet-map}
 use Rattle.bay_core.proofs.bay.Bay.end.Goals as goal
@@ -17,9 +23,12 @@ invariant_of-self c = record {
   quiet = quiet-map c.self.inside.latest c.self.inside.dues (lost_by c.args.a) (λ p. refl) c.self.inside.parts.items c.lose_all.new.parts.items c.lose_all.ensures c.self.invariant.quiet;
   grouped = subst (AreGrouped c.self.inside.model) (sym c.lost.ensures) (fit-loss c.self.inside.model IsSoundCell c.self.inside.groups c.self.invariant.grouped c.args.a.0);
   roomy = c.self.invariant.roomy;
+  controls = subst (λ (q : Queued). configs q.table ≡ map control_defined c.self.inside.model.controls) (sym c.end.ensures) (configs-deed (lost c.args.a.0) c.self.inside.associations.table ∙ c.self.invariant.controls);
 }
 
 pub returns : goal.returns
-returns c = ap₂ (λ ps rs. record { config = c.self.inside.model; steps = c.self.inside.steps; latest = c.self.inside.latest; stored = c.self.inside.values; book = c.self.inside.sets; parts = ps; rows = rs; groups = c.lost.new.self }) c.lose_all.ensures c.end.ensures
-    ∙ (ap (λ (g : Grouped). record { config = c.self.inside.model; steps = c.self.inside.steps; latest = c.self.inside.latest; stored = c.self.inside.values; book = c.self.inside.sets; parts = after_loss_all c.args.a c.self.inside.parts.items; rows = ended c.self.inside.associations c.args.a.0; groups = g }) c.lost.ensures
-    ∙ ap (λ (s : State). record s { rows = ended s.rows c.args.a.0; parts = after_loss_all c.args.a s.parts; groups = after_loss c.args.a.0 s.groups }) c.self.view_is)
+returns c =
+    let s = c.self.inside in
+    ap₂ (λ (ps : List ReportBlock) (q : Queued). record { config = s.model; steps = s.steps; latest = s.latest; stored = s.values; book = s.sets; parts = ps; rows = q.rows; groups = c.lost.new.self; controls = q.table }) c.lose_all.ensures c.end.ensures
+    ∙ (ap (λ (g : Grouped). record { config = s.model; steps = s.steps; latest = s.latest; stored = s.values; book = s.sets; parts = after_loss_all c.args.a s.parts.items; rows = ended s.associations.rows c.args.a.0; groups = g; controls = after_deed (lost c.args.a.0) s.associations.table }) c.lost.ensures
+    ∙ ap (λ (t : State). record t { rows = ended t.rows c.args.a.0; parts = after_loss_all c.args.a t.parts; groups = after_loss c.args.a.0 t.groups; controls = after_deed (lost c.args.a.0) t.controls }) c.self.view_is)

@@ -12,7 +12,7 @@ pub returns-clause-does : goal.returns-clause-does
 returns-clause-does c = λ c' h was.
     let st = subst (λ s. StandsFor s c' h) (sym c.self.view_is) was in
     let past = points (configured_model c') h in
-    let there = ends-told (configured_model c') c.self.inside.associations past c.args.a.0 c.in-Some.opener c.in-Some-writer.writer st.1.associations c.requires.number (sym c.opener.ensures ∙ c.in-Some.is) (sym c.writer.ensures ∙ c.in-Some-writer.is) in (
+    let there = ends-told (configured_model c') c.self.inside.associations.rows past c.args.a.0 c.in-Some.opener c.in-Some-writer.writer st.1.associations c.requires.number (sym c.opener.ensures ∙ c.in-Some.is) (sym c.writer.ensures ∙ c.in-Some-writer.is) in (
       refl,
       accepted-as c.args.self.now c.count.new.self _ c' h (record { moment = c.args.moment; actor = c.args.actor.0; step = steps.Lost c.args.a }) was
           (lost-fault (configured_model c') past c.args.actor.0 c.args.a.0 there.0 there.1

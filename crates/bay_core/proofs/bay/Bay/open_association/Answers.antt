@@ -14,14 +14,14 @@ use Rattle.bay_core.proofs.bay.Bay.open_association.Goals as goal
 
 pub start-requires-clause-closed : goal.start-requires-clause-closed
 start-requires-clause-closed c =
-    let none = none-where (row_of c.self.inside.associations c.args.a.0).ends (sym c.is_open.ensures ∙ c.if-is_open.false) in
+    let none = none-where (row_of c.self.inside.associations.rows c.args.a.0).ends (sym c.is_open.ensures ∙ c.if-is_open.false) in
     ap (λ (s : State). (row_of s.rows c.args.a.0).ends) (c.arrive.ensures.state ∙ sym (ap (at_arrival c.args.moment) c.self.view_is)) ∙ none
 
 pub returns-clause-does : goal.returns-clause-does
 returns-clause-does c = λ c' h was.
     let st = subst (λ s. StandsFor s c' h) (sym c.self.view_is) was in
     let past = points (configured_model c') h in
-    let shut : is_some (ends c.args.a.0 past) ≡ false = sym (open-told (configured_model c') c.self.inside.associations past c.args.a.0 st.1.associations c.requires.number) ∙ (sym c.is_open.ensures ∙ c.if-is_open.false) in (
+    let shut : is_some (ends c.args.a.0 past) ≡ false = sym (open-told (configured_model c') c.self.inside.associations.rows past c.args.a.0 st.1.associations c.requires.number) ∙ (sym c.is_open.ensures ∙ c.if-is_open.false) in (
       refl,
       accepted-as c.args.self.now c.count.new.self _ c' h (record { moment = c.args.moment; actor = c.args.actor.0; step = steps.Open c.args.a c.args.size c.args.writer }) was
           (open-fault past c.args.a.0 shut)

@@ -53,6 +53,7 @@ invariant_of-self c =
           (subst (AreTyped c.self.inside.model) (sym c.as_slice-2.ensures) (typed-settings c.self.inside.model c.args.sets.now (ap (λ (s : State). fits s.config (steps.Value c.args.sets.now)) (c.self.view_is ∙ c.arrive.ensures.state) ∙ c.requires.fits)))));
       quiet = c.event_all.ensures.quiet;
       roomy = c.event_all.ensures.events;
+      controls = c.self.invariant.controls;
     }
 
 pub event_all-requires-clause-once : goal.event_all-requires-clause-once
@@ -72,6 +73,6 @@ returns-clause-does c = λ c' h was.
           (λ x. c.set.ensures.set x ∙ ap (λ (l : List Setting). last_set l x (attribute c.self.inside.values x)) c.as_slice.ensures) c.set.ensures.count
           (subst (λ (l : List Setting). AreMade c.self.inside.model c.self.inside.values l c.set.new.changes.items) c.as_slice.ensures c.set.ensures.changes)
           here
-          (c.count.ensures ∙ ap₂ (λ (ps : List ReportBlock) (g : Grouped). record { config = c.self.inside.model; steps = suc c.self.inside.steps; latest = c.self.inside.latest; stored = c.set.new.self; book = c.self.inside.sets; parts = ps; rows = c.self.inside.associations; groups = g }) parts (c.set_all.ensures ∙ ap (λ (l : List Setting). after_values l c.self.inside.groups) c.as_slice-2.ensures))
+          (c.count.ensures ∙ ap₂ (λ (ps : List ReportBlock) (g : Grouped). record { config = c.self.inside.model; steps = suc c.self.inside.steps; latest = c.self.inside.latest; stored = c.set.new.self; book = c.self.inside.sets; parts = ps; rows = c.self.inside.associations.rows; groups = g; controls = c.self.inside.associations.table }) parts (c.set_all.ensures ∙ ap (λ (l : List Setting). after_values l c.self.inside.groups) c.as_slice-2.ensures))
           was,
     )

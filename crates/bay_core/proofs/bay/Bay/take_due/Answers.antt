@@ -90,8 +90,8 @@ invariant_of-self c =
     let part = c.index_mut.result.now in
     let within = subst (λ (ps : List ReportBlock). block < length ps) c.deref.ensures.value c.in-Some.ensures.within in
     let there = at-place u.parts.items block part within c.index_mut.ensures.value in
-    subst (λ (p : ReportBlock). IsWhole u.model u.values u.groups u.sets (slice_set u.parts.items block p) u.watch u.octets (vec_capacity u.changes) u.latest u.dues u.events) (sym c.sent.ensures)
-    (whole-sent u.model u.values u.groups u.sets u.parts.items u.watch u.octets (vec_capacity u.changes) u.latest u.dues u.events block c.in-Some.offer.next.id part there c.self.invariant)
+    subst (λ (p : ReportBlock). IsWhole u.model u.values u.groups u.sets (slice_set u.parts.items block p) u.watch u.octets (vec_capacity u.changes) u.latest u.dues u.events u.associations.table) (sym c.sent.ensures)
+    (whole-sent u.model u.values u.groups u.sets u.parts.items u.watch u.octets (vec_capacity u.changes) u.latest u.dues u.events u.associations.table block c.in-Some.offer.next.id part there c.self.invariant)
 
 pub returns-in_default-first_offer-clause-does : goal.returns-in_default-first_offer-clause-does
 returns-in_default-first_offer-clause-does c = λ c' h was.
@@ -120,7 +120,7 @@ returns-clause-does c = λ c' h was.
     let there = at-place u.parts.items o.block part within c.index-part.ensures in
     let shapes = c.set_of-set.ensures ∙ (part-fits u.model u.values u.sets u.parts.items u.watch u.octets (vec_capacity u.changes) c.self.invariant.furnished o.block part there).1 in
     let same = same-part u.parts.items o.block c.index_mut.result.now part (at-place u.parts.items o.block c.index_mut.result.now within c.index_mut.ensures.value) there in
-    let after : ReportBlock → State = λ p. record { config = u.model; steps = suc u.steps; latest = u.latest; stored = u.values; book = u.sets; parts = slice_set u.parts.items o.block p; rows = u.associations; groups = u.groups } in
+    let after : ReportBlock → State = λ p. record { config = u.model; steps = suc u.steps; latest = u.latest; stored = u.values; book = u.sets; parts = slice_set u.parts.items o.block p; rows = u.associations.rows; groups = u.groups; controls = u.associations.table } in
     let is = c.count-2.ensures ∙ (ap after c.sent.ensures ∙ (ap (λ p. after (reported_by o.next.id p)) same ∙ ap (λ (t : State). record t { steps = suc t.steps; parts = slice_set t.parts o.block (reported_by o.next.id part) }) c.self.view_is)) in
     let room = c.in-Ok.ensures.members in
     let is_report = subst (λ (m : Config). (ks : List Kept) → AreFew 256 (offered o).entry.kept ks → c.filled-report.result.0 ≡ report_by (configured_model m) c.set_of-set.result part (offered o) ks) config

@@ -59,8 +59,8 @@ invariant_of-self-3 c =
     let below : block < length s.parts.items = subst (λ (ps : List ReportBlock). block < length ps) (sym stay) within in
     let part = c.index_mut.result.now in
     let there = at-place s.parts.items block part below c.index_mut.ensures.value in
-    subst (λ (p : ReportBlock). IsWhole s.model s.values s.groups s.sets (slice_set s.parts.items block p) s.watch s.octets (vec_capacity s.changes) s.latest s.dues s.events) (sym c.sent.ensures)
-    (whole-sent s.model s.values s.groups s.sets s.parts.items s.watch s.octets (vec_capacity s.changes) s.latest s.dues s.events block c.in-Some.offer.next.id part there c.self-2.invariant)
+    subst (λ (p : ReportBlock). IsWhole s.model s.values s.groups s.sets (slice_set s.parts.items block p) s.watch s.octets (vec_capacity s.changes) s.latest s.dues s.events s.associations.table) (sym c.sent.ensures)
+    (whole-sent s.model s.values s.groups s.sets s.parts.items s.watch s.octets (vec_capacity s.changes) s.latest s.dues s.events s.associations.table block c.in-Some.offer.next.id part there c.self-2.invariant)
 
 pub returns-in_default-clause-does : goal.returns-in_default-clause-does
 returns-in_default-clause-does c = λ c' h was.
@@ -90,7 +90,7 @@ returns-clause-does c = λ c' h was.
     let below : o.block < length u.parts.items = subst (λ (ps : List ReportBlock). o.block < length ps) (sym moved) within in
     let again = subst (λ (ps : List ReportBlock). slice_get ps o.block ≡ Some c.index_mut.result.now) moved (at-place u.parts.items o.block c.index_mut.result.now below c.index_mut.ensures.value) in
     let same = same-part s.parts.items o.block c.index_mut.result.now part again there in
-    let after : ReportBlock → State = λ p. record { config = u.model; steps = suc u.steps; latest = u.latest; stored = u.values; book = u.sets; parts = slice_set u.parts.items o.block p; rows = u.associations; groups = u.groups } in
+    let after : ReportBlock → State = λ p. record { config = u.model; steps = suc u.steps; latest = u.latest; stored = u.values; book = u.sets; parts = slice_set u.parts.items o.block p; rows = u.associations.rows; groups = u.groups; controls = u.associations.table } in
     let is = c.count-2.ensures ∙ (ap after c.sent.ensures ∙ (ap (λ p. after (reported_by o.next.id p)) same ∙ ap (λ (t : State). record t { steps = suc t.steps; parts = slice_set t.parts o.block (reported_by o.next.id part) }) c.self-2.view_is)) in
     let is_report = subst (λ (m : Config). (ks : List Kept) → AreKept (offered o).entry.kept ks → c.in-Ok.report ≡ report_by (configured_model m) c.set_of-set.result part (offered o) ks) config c.in-Ok.ensures in
     given-for c.args.self.now z c.count-2.new.self c' h c.args.moment c.args.actor c.args.a (subst IsServable config c.self.invariant.furnished.servable) c.requires.number was here c.args.actor (offered o) c.set_of-set.result part c.in-Ok.report

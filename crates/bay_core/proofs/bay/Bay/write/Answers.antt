@@ -29,7 +29,7 @@ returns-clause-does c = λ c' h was.
       subst (λ (s : State). b < length s.config.blocks) (sym c.self.view_is) c.requires.block,
     ) in
     let part = is-at z.parts b below in
-    let open_ = opener-told (configured_model c') c.self.inside.associations past c.args.a.0 c.in-Some.opener st.1.associations c.requires.number (sym c.opener.ensures ∙ c.in-Some.is) in
+    let open_ = opener-told (configured_model c') c.self.inside.associations.rows past c.args.a.0 c.in-Some.opener st.1.associations c.requires.number (sym c.opener.ensures ∙ c.in-Some.is) in
     let none = opener-fault past c.args.actor.0 c.args.a.0 open_.0 open_.1 (same-number-told c.args.actor.0 open_.0.opener (c.if-actor-opener.false ∙ sym open_.2)) in
     let wrote = wrote-for c.args.self.now z c.count.new.self c' h c.args.moment c.args.actor.0 c.args.b c.args.a c.args.comp v (named_by c.args.comp v z.book) (general_at part.0 z) part.0
     refl part.1 (c.write_at_arrival-answer.ensures.general part.0 part.1 c' (length h) c.args.moment past here) here was none

@@ -1,33 +1,58 @@
-use Rattle.std.proofs.Common.{◌∙◌, ◌∷◌, ◌++◌, List, Result, [], ℕ, length, map, take, ap, sym, subst, arith, add-one, length-append}
-use Rattle.std.proofs.lemmas.List.{take_all}
+use Rattle.std.proofs.Common.{◌∙◌, List, None, Option, map, take, ap, sym, subst, arith, add-one, slice_index_or}
+use Rattle.std.proofs.lemmas.List.{length-set, take_all}
+use Rattle.std.proofs.lemmas.Option.{slice_get-get_or}
+use Rattle.list_laws.proofs.Places.{at_any}
+use Rattle.sv_base.specs.declared.config.Config.{Config}
+use Rattle.bay_model.specs.declared.control.ApplError.{ApplError}
 use Rattle.bay_model.specs.declared.request.Write.{Write}
-use Rattle.bay_model.specs.Singles.{Single, write_of}
-use Rattle.bay_core.specs.Asked.{AreWrites}
-use Rattle.bay_core.proofs.SingleLaws.{kept-on, one-write-more, variables-more}
-use Rattle.bay_core.proofs.WriteLaws.{at-place}
+use Rattle.bay_model.specs.Singles.{Single, outcome_of, write_of, write_to}
+use Rattle.bay_core.specs.Commanded.{AreSingles, IsSingle, blame_to}
+use Rattle.bay_core.proofs.BlameLaws.{blame-at, left-blames}
+use Rattle.bay_core.proofs.SingleLaws.{variables-more}
+use Rattle.bay_core.proofs.CalledLaws.{one-single-more}
 use Rattle.bay_core.proofs.bay.Bay.write_all.Goals as goal
 
-pub loop-write-preserved : goal.loop-write-preserved
-loop-write-preserved c =
+pub write_target-requires-clause-blame : goal.write_target-requires-clause-blame
+write_target-requires-clause-blame c =
     let ws = c.args.writes.now in
-    let i = c.loop-write.write-index in
-    let w = c.write-item.result in
-    let inv = c.loop-write.invariant in
-    let got = at-place ws i w (omega arith) c.write-item.is in
+    let i = c.loop-i.i in
+    let bs = c.loop-i.blames.items in
+    let inv = c.loop-i.invariant in
+    let config : Config = c.args.self.now.config in
+    let w = slice_index_or ws i c.index-writes-i.result in
+    let got = slice_get-get_or ws i c.index-writes-i.result c.loop-i-test.true in
+    c.take-blame.ensures.value ∙ (c.index_mut.ensures.value
+    ∙ (at_any bs i c.index_mut.result.now None (omega (arith, c.loop-i-test.true, inv.count))
+    ∙ (inv.blames i (omega arith)
+    ∙ (ap (λ (l : List (Option ApplError)). slice_index_or l i None) c.requires.blames
+    ∙ (blame-at (λ (x : Write). blame_to config x.target x.value) ws i w got
+    ∙ (ap (λ (d : Config). blame_to d w.target w.value) (sym inv.singles.kept.config)
+    ∙ ap (λ (x : Write). blame_to c.loop-i.self.config w.target x.value) (at_any ws i c.index-writes-i.result c.index-writes-i-in-loop-i.result c.loop-i-test.true)))))))
+
+pub loop-i-preserved : goal.loop-i-preserved
+loop-i-preserved c =
+    let ws = c.args.writes.now in
+    let i = c.loop-i.i in
     let z = c.args.self.now in
-    let u = c.write_target-code.new.self in
+    let y = c.loop-i.self in
+    let u = c.write_target.new.self in
+    let a = c.args.a.0 in
+    let inv = c.loop-i.invariant in
+    let w = slice_index_or ws i c.index-writes-i.result in
+    let got = slice_get-get_or ws i c.index-writes-i.result c.loop-i-test.true in
     let singles = ap (λ k. map write_of (take k ws)) (add-one i) ∙ variables-more ws i w got in
+    let one = subst (λ (x : Write). IsSingle y u a c.loop-i.heard c.write_target.new.heard (λ m past. outcome_of m a (write_to w.target x.value) past))
+    (sym (at_any ws i c.index-writes-i.result c.index-writes-i-in-loop-i.result c.loop-i-test.true)) c.write_target.ensures.single in
     record {
-      kept = kept-on z c.loop-write.self u inv.kept c.write_target-code.ensures.kept;
-      written = subst (λ (ss : List Single). AreWrites z u c.args.a.0 ss c.add_code.new.codes.items) (sym singles)
-          (subst (λ (cs : List (Result (Unit {0}) ℕ)). AreWrites z u c.args.a.0 (map write_of (take i ws) ++ write_of w ∷ []) cs) (sym c.add_code.ensures.added)
-          (one-write-more z c.loop-write.self u c.args.a.0 (map write_of (take i ws)) (write_of w) c.loop-write.codes.items c.write_target-code.result inv.written c.write_target-code.ensures.written));
-      count = omega (arith, inv.count, ap (λ (cs : List (Result (Unit {0}) ℕ)). length cs) c.add_code.ensures.added, length-append c.loop-write.codes.items (c.write_target-code.result ∷ []));
-      room = omega (arith, inv.room, c.add_code.ensures.room);
+      singles = subst (λ (ss : List Single). AreSingles z u a ss c.args.heard.now c.write_target.new.heard) (sym singles)
+          (one-single-more z y u a (map write_of (take i ws)) (write_of w) c.args.heard.now c.loop-i.heard c.write_target.new.heard inv.singles one);
+      count = length-set c.loop-i.blames.items i c.take-blame.new.self ∙ inv.count;
+      blames = λ k above. left-blames c.loop-i.blames.items c.args.blames.now.items i c.take-blame.new.self inv.blames k (omega (arith, above));
     }
 
-pub returns-clause-written : goal.returns-clause-written
-returns-clause-written c =
+pub returns : goal.returns
+returns c =
     let ws = c.args.writes.now in
-    let i = c.loop-write.write-index in
-    subst (λ (l : List Write). AreWrites c.args.self.now c.loop-write.self c.args.a.0 (map write_of l) c.loop-write.codes.items) (take_all i ws (omega (arith, c.loop-write-test.false))) c.loop-write.invariant.written
+    record {
+      singles = subst (λ (l : List Write). AreSingles c.args.self.now c.loop-i.self c.args.a.0 (map write_of l) c.args.heard.now c.loop-i.heard) (take_all c.loop-i.i ws (omega (arith, c.loop-i-test.false))) c.loop-i.invariant.singles;
+    }

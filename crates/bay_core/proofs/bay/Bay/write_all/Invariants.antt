@@ -1,13 +1,12 @@
-use Rattle.std.proofs.Common.{◌≡◌, ◌≤◌, length, map, take, vec_capacity}
+use Rattle.std.proofs.Common.{◌≡◌, ◌≤◌, ℕ, None, length, map, take, slice_index_or}
 use Rattle.bay_model.specs.Singles.{write_of}
-use Rattle.bay_core.specs.Asked.{AreWrites, IsKept}
+use Rattle.bay_core.specs.Commanded.{AreSingles}
 use Rattle.bay_core.proofs.bay.Bay.write_all.Given as goal
 
--- those before this place were written
-abbrev pub invariant-loop-write : goal.invariant-loop-write
-invariant-loop-write l = record {
-  kept : IsKept l.fn.self l.self;
-  written : AreWrites l.fn.self l.self l.fn.a.0 (map write_of (take l.write-index l.fn.writes)) l.codes.items;
-  count : length l.codes.items ≡ l.write-index;
-  room : length l.fn.writes ≤ vec_capacity l.codes;
+-- those before this place were written, and the errors behind it are there
+abbrev pub invariant-loop-i : goal.invariant-loop-i
+invariant-loop-i l = record {
+  singles : AreSingles l.fn.self l.self l.fn.a.0 (map write_of (take l.i l.fn.writes)) l.fn.heard l.heard;
+  count : length l.blames.items ≡ length l.fn.writes;
+  blames : (k : ℕ) → l.i ≤ k → slice_index_or l.blames.items k None ≡ slice_index_or l.fn.blames.items k None;
 }

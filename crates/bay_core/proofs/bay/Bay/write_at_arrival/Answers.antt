@@ -124,6 +124,7 @@ invariant_of-self c =
           (quiet-set s.latest s.dues parts b c.due_at-due.result new (λ now before. subst (IsBefore now) c.due_at-due.ensures before) c.self.invariant.quiet);
       grouped = c.self.invariant.grouped;
       roomy = c.self.invariant.roomy;
+      controls = c.self.invariant.controls;
     }
 
 pub returns-clause-answer : goal.returns-clause-answer
@@ -160,7 +161,7 @@ returns-clause-written c = λ own found.
     let with : Option ℕ → ReportBlock → ReportBlock
     = λ n p. after_writing c.args.a c.args.comp v n s.latest s.steps (all_pieces s.values (members_in (node_rows s.model) s.sets p) for_general) p (write_answer c.args.a c.args.comp v n p) in
     let is = kept ∙ ap₂ with c.set_named.ensures same in
-    ap (λ (p : ReportBlock). record { config = s.model; steps = s.steps; latest = s.latest; stored = s.values; book = s.sets; parts = slice_set parts b p; rows = s.associations; groups = s.groups }) is
+    ap (λ (p : ReportBlock). record { config = s.model; steps = s.steps; latest = s.latest; stored = s.values; book = s.sets; parts = slice_set parts b p; rows = s.associations.rows; groups = s.groups; controls = s.associations.table }) is
     ∙ ap (λ (t : State). written_at c.args.a b c.args.comp v own t) c.self.view_is
 
 pub returns-clause-general : goal.returns-clause-general

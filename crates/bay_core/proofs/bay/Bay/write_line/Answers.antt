@@ -3,50 +3,51 @@ use Rattle.std.proofs.lemmas.List.{length-set}
 use Rattle.bay_model.specs.declared.flags.Change.{Change}
 use Rattle.value_store.specs.Stored.{Stored, attribute, with_value}
 use Rattle.report_block.specs.declared.block.ReportBlock.{ReportBlock}
+use Rattle.bay_replies.specs.Given.{copies_from}
 use Rattle.bay_core.specs.Asked.{IsWrite}
 use Rattle.bay_core.specs.Events.{AreReady, after_events}
 use Rattle.bay_core.specs.State.{State, IsFurnished}
 use Rattle.bay_core.proofs.SettingLaws.{are-ready, furnished-all, have-members}
-use Rattle.bay_core.proofs.SingleLaws.{attribute_comes, attribute-refused, attribute-set, line-there, one-held}
+use Rattle.bay_core.proofs.SingleLaws.{attribute_comes, attribute-refused, attribute-set, one-held, own-at}
 use Rattle.bay_core.proofs.bay.Bay.write_line.Goals as goal
 
 pub write-requires-clause-there : goal.write-requires-clause-there
 write-requires-clause-there c =
     let s = c.self.inside in
-    let line : c.args.attr.0 < length s.model.attrs = subst (λ (t : State). c.args.attr.0 < length t.config.attrs) (sym c.self.view_is) c.requires.there in
-    line-there s.model s.values c.self.invariant.furnished.values c.args.attr.0 line
+    let below : c.args.attr.0 < copies_from s.values s.groups = subst (λ (t : State). c.args.attr.0 < copies_from t.stored t.groups) (sym c.self.view_is) c.requires.there in
+    omega (arith, below)
 
 pub write-requires-clause-room : goal.write-requires-clause-room
 write-requires-clause-room c =
     let s = c.self.inside in
     let fit = c.self.invariant.furnished in
-    let line : c.args.attr.0 < length s.model.attrs = subst (λ (t : State). c.args.attr.0 < length t.config.attrs) (sym c.self.view_is) c.requires.there in
-    omega (arith, line-there s.model s.values fit.values c.args.attr.0 line, fit.changes, c.clear.ensures.capacity)
+    let below : c.args.attr.0 < copies_from s.values s.groups = subst (λ (t : State). c.args.attr.0 < copies_from t.stored t.groups) (sym c.self.view_is) c.requires.there in
+    omega (arith, below, fit.changes, c.clear.ensures.capacity)
 
 pub returns-in-Err-clause-written : goal.returns-in-Err-clause-written
 returns-in-Err-clause-written c = λ a.
     let s = c.self.inside in
     let x = c.args.attr.0 in
     let v = c.args.value.now in
-    let z : State = record { config = s.model; steps = s.steps; latest = s.latest; stored = s.values; book = s.sets; parts = s.parts.items; rows = s.associations; groups = s.groups } in
+    let z : State = record { config = s.model; steps = s.steps; latest = s.latest; stored = s.values; book = s.sets; parts = s.parts.items; rows = s.associations.rows; groups = s.groups; controls = s.associations.table } in
     let fit = c.self.invariant.furnished in
-    let line : x < length s.model.attrs = subst (λ (t : State). x < length t.config.attrs) (sym c.self.view_is) c.requires.there in
-    let there : x < length s.values = line-there s.model s.values fit.values x line in
+    let below : x < copies_from s.values s.groups = subst (λ (t : State). x < copies_from t.stored t.groups) (sym c.self.view_is) c.requires.there in
+    let there : x < length s.values = omega (arith, below) in
     let code = c.refusal.ensures in
     subst (λ (w : State). IsWrite w (record z { stored = c.write.new.self }) (attribute_comes a x v) (Err c.refusal.result)) c.self.view_is
     (subst (λ (l : List Stored). IsWrite z (record z { stored = l }) (attribute_comes a x v) (Err c.refusal.result)) (sym c.in-Err.ensures.kept)
     (subst (λ (k : ℕ). IsWrite z z (attribute_comes a x v) (Err k)) (sym code)
-    (attribute-refused z fit.servable fit.values x v there line c.in-Err.fault a (sym c.in-Err.is ∙ c.write.ensures.answer))))
+    (attribute-refused z fit.servable fit.values x v there (own-at s.model s.values s.groups fit.values c.self.invariant.grouped.framed x below) c.in-Err.fault a (sym c.in-Err.is ∙ c.write.ensures.answer))))
 
 pub event_all-requires-clause-ready : goal.event_all-requires-clause-ready
 event_all-requires-clause-ready c =
     let s = c.self.inside in
     let x = c.args.attr.0 in
     let v = c.args.value.now in
-    let z : State = record { config = s.model; steps = s.steps; latest = s.latest; stored = s.values; book = s.sets; parts = s.parts.items; rows = s.associations; groups = s.groups } in
+    let z : State = record { config = s.model; steps = s.steps; latest = s.latest; stored = s.values; book = s.sets; parts = s.parts.items; rows = s.associations.rows; groups = s.groups; controls = s.associations.table } in
     let fit = c.self.invariant.furnished in
-    let line : x < length s.model.attrs = subst (λ (t : State). x < length t.config.attrs) (sym c.self.view_is) c.requires.there in
-    let there : x < length s.values = line-there s.model s.values fit.values x line in
+    let below : x < copies_from s.values s.groups = subst (λ (t : State). x < copies_from t.stored t.groups) (sym c.self.view_is) c.requires.there in
+    let there : x < length s.values = omega (arith, below) in
     let held = one-held z fit.servable fit.values x v there c.write.new.self c.in_default.ensures.set c.requires.sound (sym c.in_default.is ∙ c.write.ensures.answer) in
     subst (λ (all : List Stored). AreReady c.as_slice.result.now s.sets all s.parts.items) (sym c.store.ensures)
     (are-ready s.model c.as_slice.result.now s.values c.write.new.self s.sets s.parts.items s.watch s.octets (vec_capacity s.changes) (c.as_slice.ensures ∙ c.nodes.ensures) fit held)
@@ -56,10 +57,10 @@ invariant_of-self-2 c =
     let s = c.self.inside in
     let x = c.args.attr.0 in
     let v = c.args.value.now in
-    let z : State = record { config = s.model; steps = s.steps; latest = s.latest; stored = s.values; book = s.sets; parts = s.parts.items; rows = s.associations; groups = s.groups } in
+    let z : State = record { config = s.model; steps = s.steps; latest = s.latest; stored = s.values; book = s.sets; parts = s.parts.items; rows = s.associations.rows; groups = s.groups; controls = s.associations.table } in
     let fit = c.self.invariant.furnished in
-    let line : x < length s.model.attrs = subst (λ (t : State). x < length t.config.attrs) (sym c.self.view_is) c.requires.there in
-    let there : x < length s.values = line-there s.model s.values fit.values x line in
+    let below : x < copies_from s.values s.groups = subst (λ (t : State). x < copies_from t.stored t.groups) (sym c.self.view_is) c.requires.there in
+    let there : x < length s.values = omega (arith, below) in
     let held = one-held z fit.servable fit.values x v there c.write.new.self c.in_default.ensures.set c.requires.sound (sym c.in_default.is ∙ c.write.ensures.answer) in
     let count = ap (λ (l : List Stored). length l) c.in_default.ensures.set ∙ length-set s.values x (with_value v (attribute s.values x)) in
     record {
@@ -69,6 +70,7 @@ invariant_of-self-2 c =
       grouped = c.self.invariant.grouped;
       quiet = c.event_all.ensures.quiet;
       roomy = c.event_all.ensures.events;
+      controls = c.self.invariant.controls;
     }
 
 pub returns-clause-written : goal.returns-clause-written
@@ -76,15 +78,15 @@ returns-clause-written c = λ a.
     let s = c.self.inside in
     let x = c.args.attr.0 in
     let v = c.args.value.now in
-    let z : State = record { config = s.model; steps = s.steps; latest = s.latest; stored = s.values; book = s.sets; parts = s.parts.items; rows = s.associations; groups = s.groups } in
+    let z : State = record { config = s.model; steps = s.steps; latest = s.latest; stored = s.values; book = s.sets; parts = s.parts.items; rows = s.associations.rows; groups = s.groups; controls = s.associations.table } in
     let fit = c.self.invariant.furnished in
-    let line : x < length s.model.attrs = subst (λ (t : State). x < length t.config.attrs) (sym c.self.view_is) c.requires.there in
-    let there : x < length s.values = line-there s.model s.values fit.values x line in
+    let below : x < copies_from s.values s.groups = subst (λ (t : State). x < copies_from t.stored t.groups) (sym c.self.view_is) c.requires.there in
+    let there : x < length s.values = omega (arith, below) in
     let rows = c.as_slice.result.now in
     let new : List ReportBlock → State = λ ps. record z { stored = c.write.new.self; parts = ps } in
     let parts = c.event_all.ensures.parts ∙ (ap (λ (all : List Stored). after_events rows s.sets all c.as_slice-2.result.now s.latest s.steps s.parts.items) c.store.ensures
     ∙ ap (λ (changes : List Change). after_events rows s.sets c.write.new.self changes s.latest s.steps s.parts.items) c.as_slice-2.ensures.value) in
     subst (λ (w : State). IsWrite w (new c.event_all.new.parts.items) (attribute_comes a x v) (Ok tt)) c.self.view_is
-    (attribute-set z fit.servable fit.values x v there line (new c.event_all.new.parts.items) rows c.write.new.self c.write.new.changes.items a fit.booked.served
+    (attribute-set z fit.servable fit.values x v there (own-at s.model s.values s.groups fit.values c.self.invariant.grouped.framed x below) (new c.event_all.new.parts.items) rows c.write.new.self c.write.new.changes.items a fit.booked.served
     (have-members s.model rows s.values s.sets s.parts.items s.watch s.octets (vec_capacity s.changes) (c.as_slice.ensures ∙ c.nodes.ensures) fit)
     c.requires.sound (sym c.in_default.is ∙ c.write.ensures.answer) c.in_default.ensures.set c.in_default.ensures.noted (ap new parts))

@@ -21,7 +21,7 @@ use Rattle.bay_core.proofs.bay.Bay.write_part.Goals as goal
 pub returns-in_err-write-clause-written : goal.returns-in_err-write-clause-written
 returns-in_err-write-clause-written c =
     let s = c.self.inside in
-    let z : State = record { config = s.model; steps = s.steps; latest = s.latest; stored = s.values; book = s.sets; parts = s.parts.items; rows = s.associations; groups = s.groups } in
+    let z : State = record { config = s.model; steps = s.steps; latest = s.latest; stored = s.values; book = s.sets; parts = s.parts.items; rows = s.associations.rows; groups = s.groups; controls = s.associations.table } in
     let whole = c.self.invariant in
     let fit = whole.furnished in
     let some : 0 < (groups_of (configured_model s.model) c.args.domain).count = subst (λ (t : State). 0 < (groups_of (configured_model t.config) c.args.domain).count) (sym c.self.view_is) c.requires.grouped in
@@ -34,7 +34,7 @@ returns-in_err-write-clause-written c =
 pub invariant_of-self-then-not-branch : goal.invariant_of-self-then-not-branch
 invariant_of-self-then-not-branch c =
     let s = c.self.inside in
-    let z : State = record { config = s.model; steps = s.steps; latest = s.latest; stored = s.values; book = s.sets; parts = s.parts.items; rows = s.associations; groups = s.groups } in
+    let z : State = record { config = s.model; steps = s.steps; latest = s.latest; stored = s.values; book = s.sets; parts = s.parts.items; rows = s.associations.rows; groups = s.groups; controls = s.associations.table } in
     let whole = c.self.invariant in
     let fit = whole.furnished in
     let some : 0 < (groups_of (configured_model s.model) c.args.domain).count = subst (λ (t : State). 0 < (groups_of (configured_model t.config) c.args.domain).count) (sym c.self.view_is) c.requires.grouped in
@@ -43,12 +43,13 @@ invariant_of-self-then-not-branch c =
       grouped = subst (AreGrouped s.model) (sym c.in_ok-write.ensures.set) (fit-after z fit.servable fit.values whole.grouped c.args.a.0 c.args.domain c.args.part c.args.value.now some);
       quiet = whole.quiet;
       roomy = whole.roomy;
+      controls = whole.controls;
     }
 
 pub returns-then-not-branch-clause-written : goal.returns-then-not-branch-clause-written
 returns-then-not-branch-clause-written c =
     let s = c.self.inside in
-    let z : State = record { config = s.model; steps = s.steps; latest = s.latest; stored = s.values; book = s.sets; parts = s.parts.items; rows = s.associations; groups = s.groups } in
+    let z : State = record { config = s.model; steps = s.steps; latest = s.latest; stored = s.values; book = s.sets; parts = s.parts.items; rows = s.associations.rows; groups = s.groups; controls = s.associations.table } in
     let whole = c.self.invariant in
     let fit = whole.furnished in
     let some : 0 < (groups_of (configured_model s.model) c.args.domain).count = subst (λ (t : State). 0 < (groups_of (configured_model t.config) c.args.domain).count) (sym c.self.view_is) c.requires.grouped in
@@ -58,7 +59,7 @@ returns-then-not-branch-clause-written c =
 pub load-requires-clause-fit : goal.load-requires-clause-fit
 load-requires-clause-fit c =
     let s = c.self.inside in
-    let z : State = record { config = s.model; steps = s.steps; latest = s.latest; stored = s.values; book = s.sets; parts = s.parts.items; rows = s.associations; groups = s.groups } in
+    let z : State = record { config = s.model; steps = s.steps; latest = s.latest; stored = s.values; book = s.sets; parts = s.parts.items; rows = s.associations.rows; groups = s.groups; controls = s.associations.table } in
     let whole = c.self.invariant in
     let fit = whole.furnished in
     let some : 0 < (groups_of (configured_model s.model) c.args.domain).count = subst (λ (t : State). 0 < (groups_of (configured_model t.config) c.args.domain).count) (sym c.self.view_is) c.requires.grouped in
@@ -68,7 +69,7 @@ load-requires-clause-fit c =
 pub event_all-requires-clause-ready : goal.event_all-requires-clause-ready
 event_all-requires-clause-ready c =
     let s = c.self.inside in
-    let z : State = record { config = s.model; steps = s.steps; latest = s.latest; stored = s.values; book = s.sets; parts = s.parts.items; rows = s.associations; groups = s.groups } in
+    let z : State = record { config = s.model; steps = s.steps; latest = s.latest; stored = s.values; book = s.sets; parts = s.parts.items; rows = s.associations.rows; groups = s.groups; controls = s.associations.table } in
     let whole = c.self.invariant in
     let fit = whole.furnished in
     let some : 0 < (groups_of (configured_model s.model) c.args.domain).count = subst (λ (t : State). 0 < (groups_of (configured_model t.config) c.args.domain).count) (sym c.self.view_is) c.requires.grouped in
@@ -84,7 +85,7 @@ event_all-requires-clause-once c = once_where_distinct c.as_slice-2.result.now (
 pub invariant_of-self-2 : goal.invariant_of-self-2
 invariant_of-self-2 c =
     let s = c.self.inside in
-    let z : State = record { config = s.model; steps = s.steps; latest = s.latest; stored = s.values; book = s.sets; parts = s.parts.items; rows = s.associations; groups = s.groups } in
+    let z : State = record { config = s.model; steps = s.steps; latest = s.latest; stored = s.values; book = s.sets; parts = s.parts.items; rows = s.associations.rows; groups = s.groups; controls = s.associations.table } in
     let whole = c.self.invariant in
     let fit = whole.furnished in
     let some : 0 < (groups_of (configured_model s.model) c.args.domain).count = subst (λ (t : State). 0 < (groups_of (configured_model t.config) c.args.domain).count) (sym c.self.view_is) c.requires.grouped in
@@ -98,12 +99,13 @@ invariant_of-self-2 c =
       grouped = grouped;
       quiet = c.event_all.ensures.quiet;
       roomy = c.event_all.ensures.events;
+      controls = c.self.invariant.controls;
     }
 
 pub returns-clause-written : goal.returns-clause-written
 returns-clause-written c =
     let s = c.self.inside in
-    let z : State = record { config = s.model; steps = s.steps; latest = s.latest; stored = s.values; book = s.sets; parts = s.parts.items; rows = s.associations; groups = s.groups } in
+    let z : State = record { config = s.model; steps = s.steps; latest = s.latest; stored = s.values; book = s.sets; parts = s.parts.items; rows = s.associations.rows; groups = s.groups; controls = s.associations.table } in
     let whole = c.self.invariant in
     let fit = whole.furnished in
     let some : 0 < (groups_of (configured_model s.model) c.args.domain).count = subst (λ (t : State). 0 < (groups_of (configured_model t.config) c.args.domain).count) (sym c.self.view_is) c.requires.grouped in

@@ -1,10 +1,10 @@
-use Rattle.std.proofs.Common.{◌≡◌, ◌+◌, ◌++◌, length, map, drop}
-use Rattle.bay_replies.specs.Given.{target_read}
-use Rattle.bay_replies.proofs.SizeLaws.{octets}
+use Rattle.std.proofs.Common.{◌≡◌, ◌+◌, ◌++◌, ◌<◌, drop}
+use Rattle.bay_replies.specs.Reading.{early_reads, least_len}
 use Rattle.bay_replies.proofs.replies.Replies.read_targets.Given as goal
 
 abbrev pub invariant-loop-target : goal.invariant-loop-target
 invariant-loop-target l = record {
-  read : l.results.items ++ map (target_read l.self) (drop l.target-index l.targets) ≡ map (target_read l.self) l.targets;
-  count : length (octets l.results.items) + l.left ≡ l.size;
+  small : l.size < 4294967295;
+  read : l.results.items ++ early_reads l.self (drop l.target-index l.targets) ≡ early_reads l.self l.targets;
+  count : least_len l.self l.targets + l.left ≡ l.size + least_len l.self (drop l.target-index l.targets);
 }
