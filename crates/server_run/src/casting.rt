@@ -125,7 +125,7 @@ fn add_actor<G: Gate>(
     actor: u32,
     role: Option<Role>,
 ) -> Result<(), AllocError>
-    requires { HaveGates gates.old.items (role_place role ∷ []) }
+    requires gates { HaveGates gates.old.items (role_place role ∷ []) }
     ensures actors { OnOk result (map (λ a. a.script) actors.new.items ≡ map (λ a. a.script) actors.old.items ++ cast_one actor role) }
     ensures gates { OnOk result (gates.new.items ≡ without_gate gates.old.items (role_place role)) }
 {

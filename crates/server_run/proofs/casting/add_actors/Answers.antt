@@ -3,8 +3,8 @@ use Rattle.server_run.proofs.CastLaws.{cast-more}
 use Rattle.server_run.proofs.SeatLaws.{one-cast, last-gate}
 use Rattle.server_run.proofs.casting.add_actors.Goals as goal
 
-pub add_actor-requires : goal.add_actor-requires
-add_actor-requires g c = last-gate c.loop-role.gates.items c.loop-role.roles.items c.pop.new.self.items c.in-Some.role c.in-Some.ensures.items c.loop-role.invariant.3
+pub add_actor-requires-clause-gates : goal.add_actor-requires-clause-gates
+add_actor-requires-clause-gates g c κs within = last-gate c.loop-role.gates.items c.loop-role.roles.items c.pop.new.self.items c.in-Some.role c.in-Some.ensures.items c.loop-role.invariant.3
 
 pub loop-role-preserved : goal.loop-role-preserved
 loop-role-preserved g c =

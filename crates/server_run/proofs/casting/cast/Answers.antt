@@ -3,5 +3,5 @@ use Rattle.server_run.specs.Casting.{role_place, HaveGates}
 use Rattle.server_run.proofs.SeatLaws.{all-gates}
 use Rattle.server_run.proofs.casting.cast.Goals as goal
 
-pub add_actors-requires-clause-gates : goal.add_actors-requires-clause-gates
-add_actors-requires-clause-gates g c = subst (λ gs. HaveGates gs (map role_place c.args.roles.items)) (sym c.in-Ok.ensures) (all-gates c.args.gates.items (map role_place c.args.roles.items) c.requires.gates c.requires.seats)
+pub add_actors-added-requires-clause-gates : goal.add_actors-added-requires-clause-gates
+add_actors-added-requires-clause-gates g c κs within = subst (λ gs. HaveGates gs (map role_place c.args.roles.items)) (sym c.in-Ok.ensures) (all-gates c.args.gates.items (map role_place c.args.roles.items) c.requires.gates c.requires.seats)

@@ -3,4 +3,4 @@ use Rattle.server_run.specs.Casting.{AreSeats}
 use Rattle.server_run.proofs.rehearsal.cast_scripts.Goals as goal
 
 pub cast-requires-clause-seats : goal.cast-requires-clause-seats
-cast-requires-clause-seats g c = subst AreSeats (sym c.in-Ok.ensures.places) c.requires.seats
+cast-requires-clause-seats g c κs within = subst AreSeats (sym c.in-Ok.ensures.places) c.requires.seats

@@ -7,7 +7,7 @@ use Rattle.server_run.proofs.SettleLaws.{cast-plan}
 use Rattle.server_run.proofs.rehearsal.perform.Goals as goal
 
 pub cast_scripts-requires-clause-seats : goal.cast_scripts-requires-clause-seats
-cast_scripts-requires-clause-seats g c = plan-seats (plan_seen c.args.plan) c.requires.sound
+cast_scripts-requires-clause-seats g c κs within = plan-seats (plan_seen c.args.plan) c.requires.sound
 
 pub play_cast-requires-clause-plan : goal.play_cast-requires-clause-plan
 play_cast-requires-clause-plan g c κs within =
