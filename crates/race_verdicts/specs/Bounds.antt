@@ -18,7 +18,7 @@ abbrev pub is_beyond : ℕ → Step → Bool
 is_beyond n (steps.Ask a r) = nat_le 16 n
 is_beyond n _ = false
 
--- The number of the first line of actor k's script at whose request the bound is 16. Before these lines it is n and m: n replies by
+-- The number of the first line of actor k's script at whose request the bound is at least 16. Before these lines it is n and m: n replies by
 -- requests and `take` lines, and m Opers.
 abbrev pub first_beyond : Model → ℕ → ℕ → ℕ → List StepLine → List TimedStep → Option ℕ
 first_beyond c k n m (l ∷ ls) (s ∷ ss) = if is_beyond (n + m) s.step then Some l.number else first_beyond c k (waits_behind k s.step n) (opers_behind c k s.step m) ls ss
@@ -36,7 +36,7 @@ lowest_from c k (s ∷ ss) = lesser (beyond_in c k s) (lowest_from c (suc k) ss)
 abbrev pub lowest_beyond : Plan → Option ℕ
 lowest_beyond p = lowest_from (configured_model p.config) 0 p.scripts
 
--- this is the number of a line, the first or a later one, at whose request the bound is 16
+-- this is the number of a line, the first or a later one, at whose request the bound is at least 16
 abbrev pub IsBeyond : Model → ℕ → ℕ → ℕ → List StepLine → List TimedStep → ℕ → Type 0
 IsBeyond c k n m (l ∷ ls) (s ∷ ss) line = ((is_beyond (n + m) s.step ≡ true) × (l.number ≡ line)) ⊎ IsBeyond c k (waits_behind k s.step n) (opers_behind c k s.step m) ls ss line
 IsBeyond c k n m _ _ line = ⊥

@@ -28,7 +28,7 @@ roles_from n (Some s ∷ ss) = roles_from (suc n) ss ++ (n, s.steps) ∷ []
 abbrev pub AreScripts : Plan → List Played → Type 0
 AreScripts p ss = map role_of ss ≡ roles_from 0 p.scripts
 
--- The lowest line whose turn met a full queue is one at whose request the script's own bound is 16, and where no script writes an Oper of a
+-- The lowest line whose turn met a full queue is one at whose request the script's own bound is at least 16, and where no script writes an Oper of a
 -- control under enhanced security, it is the lowest such line; where there is no such line, no turn met one. Where none did, all turns went.
 pub record IsKnown (p : Plan) (ps : List Part) : Type 0 where
   pub beyond : (line : ℕ) → lowest_full (book_of p) ps ≡ Some line → IsBeyondOf p line

@@ -37,7 +37,9 @@ pub(crate) fn copied_in<T: Copy>(room: Vec<T>, values: &[T]) -> Vec<T>
 }
 
 /// A member with nothing in it. It takes no memory.
-pub(crate) fn empty_member(alloc: Global) -> Member {
+pub(crate) fn empty_member(alloc: Global) -> Member
+    ensures { (result.reference ≡ []) × (result.octets ≡ []) }
+{
     Member {
         number: MemberNo(0),
         reference: Octs::from_vec(Vec::new(alloc)),

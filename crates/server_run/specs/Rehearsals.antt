@@ -35,12 +35,12 @@ pub record IsWritten (p : Plan) (octets : List ℕ) : Type 0 where
   pub back : IsReadBack p history
 
 -- Threads made a history of all of the scripts, and this is what is written of it. Where no script writes an Oper of a control under enhanced
--- security, none asks where its own bound is 16.
+-- security, none asks where its own bound is at least 16.
 pub record Goes (p : Plan) (octets : List ℕ) : Type 0 where
   pub room : IsWithoutOpers p → lowest_beyond p ≡ None
   pub written : IsWritten p octets
 
--- This is a line that asks where the bound of its own script is 16, and the lowest such line, where no script writes an Oper of a control
+-- This is a line that asks where the bound of its own script is at least 16, and the lowest such line, where no script writes an Oper of a control
 -- under enhanced security. In a history that has of each script a beginning and no other step, the next turn of its script was answered
 -- that the queue is full; no lower line's turn was.
 pub record MeetsFull (p : Plan) (line : ℕ) : Type 0 where
@@ -89,14 +89,14 @@ IsListed _ = Unit {0}
 
 -- ---- how a rehearsal ends
 
--- by the lowest line that asks where its script's own bound is 16, if there is one
+-- by the lowest line that asks where its script's own bound is at least 16, if there is one
 abbrev pub ends_at : Option ℕ → Status
 ends_at None = statuses.Ok
 ends_at (Some line) = statuses.Limit 2 line
 
 -- a rehearsal of a plan ends so
 pub record EndsAs (p : Plan) (status : Status) : Type 0 where
-  -- with a record, or at a line that asks where the bound of its own script is 16
+  -- with a record, or at a line that asks where the bound of its own script is at least 16
   pub known : (status ≡ statuses.Ok) ⊎ ((line : ℕ) × (status ≡ statuses.Limit 2 line) × IsBeyondOf p line)
   -- with a record where there is no such line
   pub room : lowest_beyond p ≡ None → status ≡ statuses.Ok
