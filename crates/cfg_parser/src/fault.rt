@@ -3,7 +3,7 @@
 ghost use Rattle.std.specs.Prelude.{◌≡◌};
 ghost use Rattle.cfg_parser.specs.Kinds.{number_of};
 
-use std::alloc::{AllocError, AllocFailed};
+use std::alloc::AllocError;
 use thiserror::Error;
 
 /// Why a line is refused.
@@ -90,16 +90,6 @@ impl From<AllocError> for CfgFault {
     }
 }
 
-impl<T: Drop> From<AllocFailed<T>> for CfgFault {
-    ghost use Rattle.cfg_parser.specs.declared.fault.CfgFault.TheVariants.{Memory};
-
-    ghost from_gives = { λ _ e. e ≡ Memory };
-
-    fn from(_error: AllocFailed<T>) -> CfgFault {
-        CfgFault::Memory
-    }
-}
-
 /// Why a line can't be told.
 #[derive(Clone, Copy, Debug, PartialEq, Eq)]
 pub enum LineFault {
@@ -113,16 +103,6 @@ impl From<AllocError> for LineFault {
     ghost from_gives = { λ _ e. e ≡ Memory };
 
     fn from(_error: AllocError) -> LineFault {
-        LineFault::Memory
-    }
-}
-
-impl<T: Drop> From<AllocFailed<T>> for LineFault {
-    ghost use Rattle.cfg_parser.specs.declared.fault.LineFault.TheVariants.{Memory};
-
-    ghost from_gives = { λ _ e. e ≡ Memory };
-
-    fn from(_error: AllocFailed<T>) -> LineFault {
         LineFault::Memory
     }
 }

@@ -3,7 +3,6 @@
 ghost use Rattle.std.specs.Prelude.{◌≡◌};
 ghost use Rattle.run_record.specs.Judging.{number_of};
 
-use std::alloc::{AllocError, AllocFailed};
 use thiserror::Error;
 
 /// Why a line of a record is refused. Of several causes on one line the first of these counts; reading alone refuses a line as
@@ -63,24 +62,4 @@ pub enum RecFault {
     /// There was no memory.
     #[error("no memory")]
     Memory,
-}
-
-impl From<AllocError> for RecFault {
-    ghost use Rattle.run_record.specs.declared.fault.RecFault.TheVariants.{Memory};
-
-    ghost from_gives = { λ _ e. e ≡ Memory };
-
-    fn from(_error: AllocError) -> RecFault {
-        RecFault::Memory
-    }
-}
-
-impl<T: Drop> From<AllocFailed<T>> for RecFault {
-    ghost use Rattle.run_record.specs.declared.fault.RecFault.TheVariants.{Memory};
-
-    ghost from_gives = { λ _ e. e ≡ Memory };
-
-    fn from(_error: AllocFailed<T>) -> RecFault {
-        RecFault::Memory
-    }
 }

@@ -316,7 +316,7 @@ fn judge(alloc: Global, line: &[u8]) -> Result<RecLine, RecFault>
     ensures { Gives result (line_at line.now) }
 {
     match view_line(line) {
-        Ok(view) => Ok(view.to_line(alloc)?),
+        Ok(view) => view.to_line(alloc).map_err(|_| RecFault::Memory),
         Err(kind) => Err(RecFault::Refused(kind)),
     }
 }
