@@ -1,15 +1,12 @@
 -- Octet rows found by a number of each.
-use Rattle.std.specs.Prelude.{◌≡◌, ℕ, ◌+◌, ◌*◌, ◌%◌, ◌^◌, ◌||◌, Bool, true, false, List, fold, slice_get, Option, None, Some}
+use Rattle.std.specs.Prelude.{◌≡◌, ℕ, ◌||◌, Bool, true, false, List, slice_get, Option, None, Some}
+use Rattle.std.specs.Hash.FoldHasher as folding
 use Rattle.std.specs.List.{list_any}
 use Rattle.std.specs.Str.{bytes_eq}
 use Rattle.cfg_lines.specs.Keys.{is_among}
 
--- the number with an octet more
-abbrev pub hash_step : ℕ → ℕ → ℕ
-hash_step hash octet = ((hash * 1099511628211) % 2 ^ 64 + octet) % 2 ^ 64
-
-unfoldable pub hash_at : List ℕ → ℕ
-hash_at row = fold hash_step 0 row
+abbrev pub hash_at : List ℕ → ℕ
+hash_at row = folding.finish (folding.write folding.initial row)
 
 -- this row
 abbrev pub is_it : List ℕ → Option (List ℕ) → Bool

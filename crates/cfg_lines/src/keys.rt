@@ -99,6 +99,7 @@ fn note(
 impl Keys {
     ghost use Rattle.std.specs.Prelude.{◌≡◌, ◌||◌, ◌++◌, ◌∷◌, List, ℕ, [], OnOk};
     ghost use Rattle.cfg_lines.specs.Keys.{is_among, added};
+    ghost use Rattle.cfg_lines.specs.Hashed.{hash_at};
     ghost use Rattle.std.specs.Str.{bytes_eq};
 
     /// There is none.
@@ -116,15 +117,25 @@ impl Keys {
     pub fn has(&self, key: &[u8]) -> bool
         ensures { result ≡ is_among self.now key.now }
     {
-        let first = place_of(&self.first, hash_of(key));
+        self.finds(hash_of(key), key)
+    }
+
+    /// The key of this number is there.
+    fn finds(&self, hash: u64, key: &[u8]) -> bool
+        requires { hash ≡ hash_at key.now }
+        ensures { result ≡ is_among self.now key.now }
+    {
+        let first = place_of(&self.first, hash);
         is_at_any(&self.rows, first, &self.further, key)
     }
 
-    fn push(&mut self, key: &[u8]) -> Result<(), AllocError>
+    /// Adds the key of this number.
+    fn push(&mut self, hash: u64, key: &[u8]) -> Result<(), AllocError>
+        requires { hash ≡ hash_at key.now }
         ensures { OnOk result (self.new ≡ self.old ++ key.now ∷ []) }
     {
         let place = self.rows.len();
-        note(&mut self.first, &mut self.further, hash_of(key), place)?;
+        note(&mut self.first, &mut self.further, hash, place)?;
         self.rows.push(key)
     }
 
@@ -133,10 +144,11 @@ impl Keys {
         ensures among { OnOk result ((q : List ℕ) → is_among self.new q ≡ (bytes_eq q key.now || is_among self.old q)) }
         ensures items { OnOk result (self.new ≡ added self.old key.now) }
     {
-        if self.has(key) {
+        let hash = hash_of(key);
+        if self.finds(hash, key) {
             return Ok(());
         }
-        self.push(key)
+        self.push(hash, key)
     }
 }
 

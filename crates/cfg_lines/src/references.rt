@@ -15,15 +15,23 @@ fn extend_below(room: &mut Vec<u8>, name: &[u8]) -> Result<(), AllocError>
     room.extend_from_slice(name)
 }
 
+/// Makes a room hold the reference of a logical node.
+fn put_node(room: &mut Vec<u8>, domain: &[u8], node: &[u8]) -> Result<(), AllocError>
+    ensures { OnOk result (room.new.items ≡ node_key_of domain.now node.now) }
+{
+    room.clear();
+    room.extend_from_slice(domain)?;
+    room.push(b'/')?;
+    room.extend_from_slice(node)
+}
+
 /// A room for the reference of a logical node, with so many octets more, that has the reference.
 fn node_room(alloc: Global, domain: &[u8], node: &[u8], more: usize) -> Result<Vec<u8>, AllocError>
     ensures { IfOk result (λ v. v.items ≡ node_key_of domain.now node.now) }
 {
     let octets = domain.len().saturating_add(node.len()).saturating_add(more);
     let mut key = Vec::with_capacity(alloc, octets.saturating_add(1))?;
-    key.extend_from_slice(domain)?;
-    key.push(b'/')?;
-    key.extend_from_slice(node)?;
+    put_node(&mut key, domain, node)?;
     Ok(key)
 }
 
@@ -59,6 +67,21 @@ pub fn node_item(
     Ok(key)
 }
 
+/// Makes a room hold the reference of a path under a functional constraint of a logical node.
+pub fn put_item_key(
+    room: &mut Vec<u8>,
+    domain: &[u8],
+    node: &[u8],
+    fc: &[u8],
+    path: &[u8],
+) -> Result<(), AllocError>
+    ensures { OnOk result (room.new.items ≡ item_key_of domain.now node.now fc.now path.now) }
+{
+    put_node(room, domain, node)?;
+    extend_below(room, fc)?;
+    extend_below(room, path)
+}
+
 /// The reference of a path under a functional constraint of a logical node.
 pub fn item_key(
     alloc: Global,
@@ -69,10 +92,10 @@ pub fn item_key(
 ) -> Result<Vec<u8>, AllocError>
     ensures { IfOk result (λ v. v.items ≡ item_key_of domain.now node.now fc.now path.now) }
 {
-    let octets = fc.len().saturating_add(path.len());
-    let mut key = node_room(alloc, domain, node, octets.saturating_add(2))?;
-    extend_below(&mut key, fc)?;
-    extend_below(&mut key, path)?;
+    let front = domain.len().saturating_add(node.len());
+    let octets = front.saturating_add(fc.len()).saturating_add(path.len());
+    let mut key = Vec::with_capacity(alloc, octets.saturating_add(3))?;
+    put_item_key(&mut key, domain, node, fc, path)?;
     Ok(key)
 }
 
