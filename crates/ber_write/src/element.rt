@@ -1,27 +1,35 @@
 //! An element: its tag and its length in as few octets as can be, and its content.
 
-ghost use Rattle.std.specs.Prelude.{◌≡◌, ◌<◌, ◌^◌, ◌++◌, length, take, OnOk, OnErr};
+ghost use Rattle.std.specs.Prelude.{◌≡◌, ◌<◌, ◌≤◌, ◌^◌, ◌∷◌, ◌++◌, length, take, OnOk, OnErr};
+ghost use Rattle.std.specs.Int.{to_be_bytes, w32};
+ghost use Rattle.sv_base.specs.Data.{length_field};
 ghost use Rattle.ber_write.specs.Minimal.{tag_octets, length_octets, head_octets, octets_of, CanBeTag};
 
 use std::alloc::AllocError;
+use sv_base::without_zeros;
+
+/// How the length of a content is spelled whose number has these four octets: the first octet, and those behind it, none to
+/// four (X.690, 8.1.3).
+pub fn length_parts(content: u32, octets: &[u8; 4]) -> (u8, &[u8])
+    requires { octets.now ≡ to_be_bytes w32 content }
+    ensures value { result.0 ∷ result.1.now ≡ length_field content }
+    ensures few { length result.1.now ≤ 4 }
+{
+    if content < 128 {
+        return (content as u8, &[]);
+    }
+    let short = without_zeros(octets);
+    (128 + short.len() as u8, short)
+}
 
 /// How many octets the shortest length field of a content of `n` octets has, 1 to 5 (X.690, 8.1.3).
+#[tactic(auto, using(crate::proofs::SameLaws::length_is_field))]
 pub fn length_of(n: u32) -> u32
     ensures { result ≡ length (length_octets n) }
 {
-    if n < 128 {
-        return 1;
-    }
-    if n < 256 {
-        return 2;
-    }
-    if n < 65536 {
-        return 3;
-    }
-    if n < 16777216 {
-        return 4;
-    }
-    5
+    let octets = n.to_be_bytes();
+    let (_, more) = length_parts(n, &octets);
+    1 + more.len() as u32
 }
 
 fn put_tag(out: &mut Vec<u8>, tag: u32) -> Result<(), AllocError>
@@ -42,34 +50,15 @@ fn put_tag(out: &mut Vec<u8>, tag: u32) -> Result<(), AllocError>
     ])
 }
 
+#[tactic(auto, using(crate::proofs::SameLaws::length_is_field))]
 fn put_length(out: &mut Vec<u8>, n: u32) -> Result<(), AllocError>
     ensures ok { OnOk result (out.new.items ≡ out.old.items ++ length_octets n) }
-    ensures err { OnErr result (out.new.items ≡ out.old.items) }
+    ensures err { OnErr result (take (length out.old.items) out.new.items ≡ out.old.items) }
 {
-    if n < 128 {
-        return out.extend_from_slice(&[n as u8]);
-    }
-    if n < 256 {
-        return out.extend_from_slice(&[129, n as u8]);
-    }
-    if n < 65536 {
-        return out.extend_from_slice(&[130, (n / 256) as u8, (n % 256) as u8]);
-    }
-    if n < 16777216 {
-        return out.extend_from_slice(&[
-            131,
-            (n / 65536) as u8,
-            (n / 256 % 256) as u8,
-            (n % 256) as u8,
-        ]);
-    }
-    out.extend_from_slice(&[
-        132,
-        (n / 16777216) as u8,
-        (n / 65536 % 256) as u8,
-        (n / 256 % 256) as u8,
-        (n % 256) as u8,
-    ])
+    let octets = n.to_be_bytes();
+    let (first, more) = length_parts(n, &octets);
+    out.push(first)?;
+    out.extend_from_slice(more)
 }
 
 fn put_both(out: &mut Vec<u8>, tag: u32, len: u32) -> Result<(), AllocError>

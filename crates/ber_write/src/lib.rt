@@ -10,11 +10,11 @@ mod laws;
 mod number;
 
 // Elements.
-pub use element::{length_of, put, put_head};
+pub use element::{length_of, length_parts, put, put_head};
 
 // Elements of numbers and of bit strings.
 pub use bit_string::{bits_len, put_bits};
-pub use number::{int_len, put_int, put_uint, uint_len};
+pub use number::{int_len, put_int, put_uint, uint_len, unsigned};
 
 // What is promised of what is written.
 pub use laws::{

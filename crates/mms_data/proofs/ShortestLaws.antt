@@ -11,10 +11,11 @@ use Rattle.ber_grammar.proofs.OctetLaws.{IsBytes-front, IsBytes-back, Spells-byt
 use Rattle.ber_write.specs.Minimal.{tag_octets, length_octets, octets_of, IsWord, int_octets, uint_octets}
 use Rattle.ber_write.specs.BitString.{bit_octets}
 use Rattle.ber_write.proofs.ElementLaws.{is_minimal}
+use Rattle.ber_write.proofs.SameLaws.{length_is_field}
 use Rattle.ber_write.proofs.BitLaws.{bits_as_long, length_of_bit_octets}
 use Rattle.ber_write.proofs.ShortestLaws.{int_shortest, uint_shortest}
 use Rattle.sv_base.specs.Tree.{Plain, Seen, Row, plain, structure, none, more, truth, int, uint, bits, time, stamp, text, octets, other}
-use Rattle.sv_base.specs.Data.{data_plain, data_seen, data_row}
+use Rattle.sv_base.specs.Data.{length_field, data_plain, data_seen, data_row}
 use Rattle.sv_base.specs.Depth.{IsNotOther, SeenHasNoOther, RowHasNoOther}
 use Rattle.mms_data.specs.Grammar.{IsPlain, IsData, AreData}
 use Rattle.mms_data.proofs.MinimalLaws.{octets-element, bits_written, word_written, uint_written}
@@ -62,6 +63,9 @@ fields_grow m n le =
         ]
       ]
     ]
+
+pub field_grows : (m n : ℕ) → m ≤ n → n < 2 ^ 32 → length (length_field m) ≤ length (length_field n)
+field_grows m n le small = omega (arith, ap (λ (o : List ℕ). length o) (length_is_field m (omega (arith, le, small))), ap (λ (o : List ℕ). length o) (length_is_field n small), fields_grow m n le)
 
 length-octets_of : (tag : ℕ) (content : List ℕ) → length (octets_of tag content) ≡ length (tag_octets tag) + (length (length_octets (length content)) + length content)
 length-octets_of tag content = length-append (tag_octets tag) (length_octets (length content) ++ content) ∙ ap (λ (n : ℕ). length (tag_octets tag) + n) (length-append (length_octets (length content)) content)

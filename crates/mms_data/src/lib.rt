@@ -21,7 +21,7 @@ pub use reading::read_data;
 
 // Data and types, written.
 pub use type_writing::write_type;
-pub use writing::write_data;
+pub use writing::{stamp_octets, time_octets, write_data};
 
 // What is promised of all of it.
 pub use laws::{

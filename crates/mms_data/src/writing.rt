@@ -1,6 +1,7 @@
 //! Data, written.
 
-ghost use Rattle.std.specs.Prelude.{◌≡◌, ◌+◌, ◌<◌, ◌≤◌, ◌-◌, ◌*◌, ◌^◌, ◌++◌, length, take, min, OnOk, OnErr};
+ghost use Rattle.std.specs.Prelude.{◌≡◌, ◌+◌, ◌<◌, ◌≤◌, ◌-◌, ◌*◌, ◌/◌, ◌%◌, ◌^◌, ◌∷◌, ◌++◌, [], length, take, min, OnOk, OnErr};
+ghost use Rattle.std.specs.Int.{to_be_bytes, w16, w32};
 ghost use Rattle.ber_write.specs.Minimal.{CanBeTag};
 ghost use Rattle.sv_base.specs.Tree.{int as int_of, uint as uint_of, bits as bits_of, time as time_of, stamp as stamp_of};
 ghost use Rattle.sv_base.specs.Seen.{row_of, seen_of};
@@ -46,14 +47,33 @@ fn put_unsigned(out: &mut Vec<u8>, value: u64) -> Result<(), AllocError>
     put_uint(out, tags::UNSIGNED, value)
 }
 
+/// A binary time (ISO 9506-2, TimeOfDay).
+pub fn stamp_octets(stamp: Stamp) -> [u8; 6]
+    ensures { result ≡ to_be_bytes w32 stamp.ms ++ to_be_bytes w16 stamp.days }
+{
+    let [a, b, c, d] = stamp.ms.to_be_bytes();
+    let [e, f] = stamp.days.to_be_bytes();
+    [a, b, c, d, e, f]
+}
+
+/// A UTC time (ISO 9506-2, UtcTime).
+pub fn time_octets(time: Utc) -> [u8; 8]
+    requires { time.frac < 2 ^ 24 }
+    ensures { result ≡ to_be_bytes w32 time.secs ++ ((time.frac / 65536) ∷ (time.frac / 256 % 256) ∷ (time.frac % 256) ∷ time.quality ∷ []) }
+{
+    let [a, b, c, d] = time.secs.to_be_bytes();
+    let high = (time.frac / 65536) as u8;
+    let middle = (time.frac / 256 % 256) as u8;
+    let low = (time.frac % 256) as u8;
+    [a, b, c, d, high, middle, low, time.quality]
+}
+
 /// Adds a binary time of six octets (ISO 9506-2, TimeOfDay).
 fn put_stamp(out: &mut Vec<u8>, stamp: Stamp) -> Result<(), AllocError>
     ensures ok { OnOk result (out.new.items ≡ out.old.items ++ data_plain (stamp_of stamp.ms stamp.days)) }
     ensures err { OnErr result (out.new.items ≡ out.old.items) }
 {
-    let [a, b, c, d] = stamp.ms.to_be_bytes();
-    let [e, f] = stamp.days.to_be_bytes();
-    put_element(out, tags::BINARY_TIME, &[a, b, c, d, e, f])
+    put_element(out, tags::BINARY_TIME, &stamp_octets(stamp))
 }
 
 /// Adds a UTC time of eight octets (ISO 9506-2, UtcTime).
@@ -62,15 +82,7 @@ fn put_time(out: &mut Vec<u8>, time: Utc) -> Result<(), AllocError>
     ensures ok { OnOk result (out.new.items ≡ out.old.items ++ data_plain (time_of time.secs time.frac time.quality)) }
     ensures err { OnErr result (out.new.items ≡ out.old.items) }
 {
-    let [a, b, c, d] = time.secs.to_be_bytes();
-    let high = (time.frac / 65536) as u8;
-    let middle = (time.frac / 256 % 256) as u8;
-    let low = (time.frac % 256) as u8;
-    put_element(
-        out,
-        tags::UTC_TIME,
-        &[a, b, c, d, high, middle, low, time.quality],
-    )
+    put_element(out, tags::UTC_TIME, &time_octets(time))
 }
 
 /// How many octets the values have one after another, and 4294967295 where there are more.

@@ -8,21 +8,19 @@ ghost use Rattle.value_store.specs.Written.{adds, IsShort};
 ghost use Rattle.sv_base.specs.declared.value.Value.TheVariants as values;
 
 use bay_model::{Fixed, ValueRef};
-use sv_base::{Stamp, Utc, shortest, without_zeros};
+use ber_write::{length_parts, unsigned};
+use mms_data::{stamp_octets, time_octets};
+use sv_base::{Stamp, Utc, shortest};
 
 /// The octets of a length.
 fn put_length(out: &mut Fixed, content: u32)
     requires { length out.old.items + length (length_field content) ≤ out.old.room }
     ensures { out.new ≡ adds out.old (length_field content) }
 {
-    if content < 128 {
-        out.push(&[content as u8]);
-    } else {
-        let octets = content.to_be_bytes();
-        let short = without_zeros(&octets);
-        out.push(&[128 + short.len() as u8]);
-        out.push(short);
-    }
+    let octets = content.to_be_bytes();
+    let (first, more) = length_parts(content, &octets);
+    out.push(&[first]);
+    out.push(more);
 }
 
 /// The head of a structure whose content begins at a place, put in front of it.
@@ -33,14 +31,10 @@ pub(crate) fn put_head(out: &mut Fixed, at: usize)
     ensures { out.new ≡ record { items = take at out.old.items ++ element_of 162 (drop at out.old.items); room = out.old.room } }
 {
     let content = (out.len() - at) as u32;
-    if content < 128 {
-        out.insert(at, &[0xa2, content as u8]);
-    } else {
-        let octets = content.to_be_bytes();
-        let short = without_zeros(&octets);
-        out.insert(at, short);
-        out.insert(at, &[0xa2, 128 + short.len() as u8]);
-    }
+    let octets = content.to_be_bytes();
+    let (first, more) = length_parts(content, &octets);
+    out.insert(at, more);
+    out.insert(at, &[0xa2, first]);
 }
 
 /// An element of this tag and this content.
@@ -112,8 +106,7 @@ fn put_uint(out: &mut Fixed, value: u64)
     requires { length out.old.items + length (data_of (values.Uint value)) ≤ out.old.room }
     ensures { out.new ≡ adds out.old (data_of (values.Uint value)) }
 {
-    let [a, b, c, d, e, f, g, h] = value.to_be_bytes();
-    put_element(out, 0x86, shortest(&[0, a, b, c, d, e, f, g, h]));
+    put_element(out, 0x86, shortest(&unsigned(value)));
 }
 
 /// A UTC time.
@@ -122,14 +115,7 @@ fn put_time(out: &mut Fixed, time: Utc)
     requires room { length out.old.items + length (data_of (values.Time time)) ≤ out.old.room }
     ensures { out.new ≡ adds out.old (data_of (values.Time time)) }
 {
-    let [a, b, c, d] = time.secs.to_be_bytes();
-    let frac = time.frac;
-    let (e, f, g) = (
-        (frac / 65536) as u8,
-        (frac / 256 % 256) as u8,
-        (frac % 256) as u8,
-    );
-    put_element(out, 0x91, &[a, b, c, d, e, f, g, time.quality]);
+    put_element(out, 0x91, &time_octets(time));
 }
 
 /// A binary time.
@@ -137,9 +123,7 @@ fn put_stamp(out: &mut Fixed, stamp: Stamp)
     requires { length out.old.items + length (data_of (values.Stamp stamp)) ≤ out.old.room }
     ensures { out.new ≡ adds out.old (data_of (values.Stamp stamp)) }
 {
-    let [a, b, c, d] = stamp.ms.to_be_bytes();
-    let [e, f] = stamp.days.to_be_bytes();
-    put_element(out, 0x8c, &[a, b, c, d, e, f]);
+    put_element(out, 0x8c, &stamp_octets(stamp));
 }
 
 /// The Data of a value, whose text, octets or bits are below 2^32.
