@@ -3,7 +3,7 @@
 ghost use Rattle.std.specs.Prelude.{◌≡◌, ◌+◌, ◌<◌, ◌≤◌, ◌-◌, ◌*◌, ◌/◌, ◌%◌, ◌^◌, ◌∷◌, ◌++◌, [], length, take, min, OnOk, OnErr};
 ghost use Rattle.std.specs.Int.{to_be_bytes, w16, w32};
 ghost use Rattle.ber_write.specs.Minimal.{CanBeTag};
-ghost use Rattle.sv_base.specs.Tree.{int as int_of, uint as uint_of, bits as bits_of, time as time_of, stamp as stamp_of};
+ghost use Rattle.sv_base.specs.Tree.{int as int_of, uint as uint_of, bits as bits_of};
 ghost use Rattle.sv_base.specs.Seen.{row_of, seen_of};
 ghost use Rattle.sv_base.specs.Data.{element, data_plain, data_of, data_row};
 ghost use Rattle.sv_base.specs.Depth.{depth, HasNoOther, RowHasNoOther};
@@ -68,23 +68,6 @@ pub fn time_octets(time: Utc) -> [u8; 8]
     [a, b, c, d, high, middle, low, time.quality]
 }
 
-/// Adds a binary time of six octets (ISO 9506-2, TimeOfDay).
-fn put_stamp(out: &mut Vec<u8>, stamp: Stamp) -> Result<(), AllocError>
-    ensures ok { OnOk result (out.new.items ≡ out.old.items ++ data_plain (stamp_of stamp.ms stamp.days)) }
-    ensures err { OnErr result (out.new.items ≡ out.old.items) }
-{
-    put_element(out, tags::BINARY_TIME, &stamp_octets(stamp))
-}
-
-/// Adds a UTC time of eight octets (ISO 9506-2, UtcTime).
-fn put_time(out: &mut Vec<u8>, time: Utc) -> Result<(), AllocError>
-    requires { time.frac < 2 ^ 24 }
-    ensures ok { OnOk result (out.new.items ≡ out.old.items ++ data_plain (time_of time.secs time.frac time.quality)) }
-    ensures err { OnErr result (out.new.items ≡ out.old.items) }
-{
-    put_element(out, tags::UTC_TIME, &time_octets(time))
-}
-
 /// How many octets the values have one after another, and 4294967295 where there are more.
 fn row_len(values: &[Value]) -> u32
     ensures { result ≡ min (length (data_row (row_of values.now))) 4294967295 }
@@ -110,8 +93,8 @@ fn put_value(value: &Value, out: &mut Vec<u8>) -> Result<(), AllocError>
         Value::Uint(n) => put_unsigned(out, *n),
         Value::Octets(octets) => put_element(out, tags::OCTET_STRING, octets.as_slice()),
         Value::Text(octets) => put_element(out, tags::VISIBLE_STRING, octets.as_slice()),
-        Value::Stamp(stamp) => put_stamp(out, *stamp),
-        Value::Time(time) => put_time(out, *time),
+        Value::Stamp(stamp) => put_element(out, tags::BINARY_TIME, &stamp_octets(*stamp)),
+        Value::Time(time) => put_element(out, tags::UTC_TIME, &time_octets(*time)),
         Value::Struct(values) => {
             let values = values.as_slice();
             put_head(out, tags::STRUCTURE, row_len(values))?;

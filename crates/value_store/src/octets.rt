@@ -1,8 +1,7 @@
 //! MMS Data in its minimal spelling (ISO 9506-2, Data; ITU-T X.690), into room that was made before.
 
-ghost use Rattle.std.specs.Prelude.{suc, ◌≡◌, ◌≤◌, ◌<◌, ◌^◌, ◌+◌, ◌-◌, ◌*◌, ◌++◌, ◌∷◌, [], length, take, drop};
-ghost use Rattle.std.specs.Int.{to_be_bytes, cast_unsigned, w64};
-ghost use Rattle.sv_base.specs.Data.{length_field, element as element_of, packed, data_of, shortest as shortest_of};
+ghost use Rattle.std.specs.Prelude.{suc, ◌≡◌, ◌≤◌, ◌<◌, ◌^◌, ◌+◌, ◌-◌, ◌*◌, ◌++◌, length, take, drop};
+ghost use Rattle.sv_base.specs.Data.{length_field, element as element_of, packed, data_of};
 ghost use Rattle.bay_rooms.specs.Slots.{lent};
 ghost use Rattle.value_store.specs.Written.{adds, IsShort};
 ghost use Rattle.sv_base.specs.declared.value.Value.TheVariants as values;
@@ -10,7 +9,7 @@ ghost use Rattle.sv_base.specs.declared.value.Value.TheVariants as values;
 use bay_model::{Fixed, ValueRef};
 use ber_write::{length_parts, unsigned};
 use mms_data::{stamp_octets, time_octets};
-use sv_base::{Stamp, Utc, shortest};
+use sv_base::shortest;
 
 /// The octets of a length.
 fn put_length(out: &mut Fixed, content: u32)
@@ -93,39 +92,6 @@ fn put_bits(out: &mut Fixed, bits: &[bool])
     put_packed(out, 128, 0, bits);
 }
 
-/// A signed number.
-fn put_int(out: &mut Fixed, value: i64)
-    requires { length out.old.items + length (data_of (values.Int value)) ≤ out.old.room }
-    ensures { out.new ≡ adds out.old (data_of (values.Int value)) }
-{
-    put_element(out, 0x85, shortest(&value.to_be_bytes()));
-}
-
-/// An unsigned number.
-fn put_uint(out: &mut Fixed, value: u64)
-    requires { length out.old.items + length (data_of (values.Uint value)) ≤ out.old.room }
-    ensures { out.new ≡ adds out.old (data_of (values.Uint value)) }
-{
-    put_element(out, 0x86, shortest(&unsigned(value)));
-}
-
-/// A UTC time.
-fn put_time(out: &mut Fixed, time: Utc)
-    requires frac { time.frac < 2 ^ 24 }
-    requires room { length out.old.items + length (data_of (values.Time time)) ≤ out.old.room }
-    ensures { out.new ≡ adds out.old (data_of (values.Time time)) }
-{
-    put_element(out, 0x91, &time_octets(time));
-}
-
-/// A binary time.
-fn put_stamp(out: &mut Fixed, stamp: Stamp)
-    requires { length out.old.items + length (data_of (values.Stamp stamp)) ≤ out.old.room }
-    ensures { out.new ≡ adds out.old (data_of (values.Stamp stamp)) }
-{
-    put_element(out, 0x8c, &stamp_octets(stamp));
-}
-
 /// The Data of a value, whose text, octets or bits are below 2^32.
 pub(crate) fn put_value(out: &mut Fixed, value: ValueRef<'_>)
     requires small { IsShort (lent value) }
@@ -134,11 +100,11 @@ pub(crate) fn put_value(out: &mut Fixed, value: ValueRef<'_>)
 {
     match value {
         ValueRef::Bool(b) => out.push(&[0x83, 1, if b { 255 } else { 0 }]),
-        ValueRef::Int(z) => put_int(out, z),
-        ValueRef::Uint(n) => put_uint(out, n),
+        ValueRef::Int(z) => put_element(out, 0x85, shortest(&z.to_be_bytes())),
+        ValueRef::Uint(n) => put_element(out, 0x86, shortest(&unsigned(n))),
         ValueRef::Bits(bits) => put_bits(out, bits),
-        ValueRef::Time(time) => put_time(out, time),
-        ValueRef::Stamp(stamp) => put_stamp(out, stamp),
+        ValueRef::Time(time) => put_element(out, 0x91, &time_octets(time)),
+        ValueRef::Stamp(stamp) => put_element(out, 0x8c, &stamp_octets(stamp)),
         ValueRef::Text(text) => put_element(out, 0x8a, text),
         ValueRef::Octets(octets) => put_element(out, 0x89, octets),
     }
