@@ -9,6 +9,7 @@ pub mod ResolveLaws
 pub mod ApartLaws
 pub mod NameLaws
 pub mod TableLaws
+pub mod CutLaws
 pub mod StandsLaid
 pub mod AttributeLaws
 pub mod KindLaws

@@ -1,5 +1,5 @@
 -- What one more domain does to what is listed.
-use Rattle.std.proofs.Common.{◌≡◌, ℕ, zero, suc, ◌+◌, ◌<◌, List, [], ◌∷◌, ◌++◌, map, flat_map, length, take, get_or, refl, sym, ap, subst, ◌∙◌, arith, length-append}
+use Rattle.std.proofs.Common.{◌≡◌, ℕ, zero, suc, ◌+◌, ◌<◌, List, [], ◌∷◌, ◌++◌, map, flat_map, length, take, get_or, refl, sym, ap, subst, ◌∙◌, arith, length-append, length-take, append_assoc, append-nil}
 use Rattle.std.proofs.Math.Seq.{take-length}
 use Rattle.std.proofs.lemmas.List.{take_more, get_or_default}
 use Rattle.list_laws.proofs.Appended.{flat-more}
@@ -12,7 +12,7 @@ use Rattle.object_model.specs.declared.listing.Listing.{Listing}
 use Rattle.object_model.specs.Stands.{owns, stands_from, all_stands, all_leaves}
 use Rattle.object_model.proofs.StandLaws.{owns-append, stands-append}
 use Rattle.object_names.specs.Indexes.{IndexesFrom}
-use Rattle.object_model.specs.Nodes.{spots_in, row, rows_from, name_at, node_rows, node_names}
+use Rattle.object_model.specs.Nodes.{spots_in, row, rows_from, name_at, names_from, node_rows, node_names}
 use Rattle.object_model.specs.Listed.{items_of, spots_from, first_of, IsDirectory, AllFrom, IsListed, IsOneMore}
 
 pub rows-append : (n : ℕ) (as_ bs : List Spot) → rows_from n (as_ ++ bs) ≡ rows_from n as_ ++ rows_from (n + length as_) bs
@@ -23,6 +23,11 @@ pub length-rows : (n : ℕ) (ss : List Spot) → length (rows_from n ss) ≡ len
 length-rows n [] = refl
 length-rows n (s ∷ ss) = ap suc (length-rows (suc n) ss)
 
+pub names-append : (c : Config) (k : ℕ) (as_ bs : List (List ℕ)) → names_from c k (as_ ++ bs) ≡ names_from c k as_ ++ names_from c (k + length as_) bs
+names-append c k [] bs = ap (λ m. names_from c m bs) (omega arith)
+names-append c k (a ∷ as_) bs = ap (λ l. map (name_at k) (spots_in c a) ++ l) (names-append c (suc k) as_ bs ∙ ap (λ m. names_from c (suc k) as_ ++ names_from c m bs) (omega arith))
+    ∙ sym (append_assoc (map (name_at k) (spots_in c a)) (names_from c (suc k) as_) (names_from c (k + length (a ∷ as_)) bs))
+
 pub all-more : (P : ℕ → Directory → Type 0) (n : ℕ) (ds : List Directory) (d : Directory) → AllFrom P n ds → P (n + length ds) d → AllFrom P n (ds ++ d ∷ [])
 all-more P n [] d a p = (subst (λ k. P k d) (omega arith) p, tt)
 all-more P n (e ∷ es) d a p = (a.0, all-more P (suc n) es d a.1 (subst (λ k. P k d) (omega arith) p))
@@ -32,15 +37,16 @@ all-at P n [] k d a h e = absurd (omega (arith, h))
 all-at P n (x ∷ xs) zero d a h e = subst (λ m. P m d) (omega arith) (subst (λ y. P n y) (sym e) a.0)
 all-at P n (x ∷ xs) (suc k) d a h e = subst (λ m. P m d) (omega arith) (all-at P (suc n) xs k d a.1 (omega (arith, h)) e)
 
-pub listed-more : (c : Config) (i : ℕ) (domain : List ℕ) (old new : Listing) → i < length (domains c) → domain ≡ get_or (domains c) i [] → IsListed c i old → IsOneMore old new domain (spots_in c domain) → IsListed c (i + 1) new
+pub listed-more : (c : Config) (i : ℕ) (domain : List ℕ) (old new : Listing) → i < length (domains c) → domain ≡ get_or (domains c) i [] → IsListed c i old → IsOneMore old new (spots_in c domain) → IsListed c (i + 1) new
 listed-more c i domain old new h e l m =
     let next : take (i + 1) (domains c) ≡ take i (domains c) ++ domain ∷ [] = take_more (domains c) i [] h ∙ ap (λ x. take i (domains c) ++ x ∷ []) (sym e) in
     let first : length old.rows.items ≡ first_of c i = ap length l.rows ∙ length-rows 0 (flat_map (spots_in c) (take i (domains c))) in
+    let number : length old.directories.items ≡ 0 + length (take i (domains c)) = omega (arith, h, l.count, length-take i (domains c)) in
     record {
       rows = m.rows ∙ (ap (λ n. old.rows.items ++ rows_from n (spots_in c domain)) (first ∙ omega arith) ∙ (ap (λ x. x ++ rows_from (0 + first_of c i) (spots_in c domain)) l.rows
           ∙ sym (ap (λ x. rows_from 0 (flat_map (spots_in c) x)) next ∙ (ap (rows_from 0) (flat-more (spots_in c) (take i (domains c)) domain) ∙ rows-append 0 (flat_map (spots_in c) (take i (domains c))) (spots_in c domain)))));
-      names = m.names ∙ (ap (λ x. x ++ map (name_at domain) (spots_in c domain)) l.names
-          ∙ sym (ap (flat_map (λ d. map (name_at d) (spots_in c d))) next ∙ flat-more (λ d. map (name_at d) (spots_in c d)) (take i (domains c)) domain));
+      names = m.names ∙ (ap (λ n. old.names.items ++ map (name_at n) (spots_in c domain)) number ∙ (ap (λ x. x ++ map (name_at (0 + length (take i (domains c)))) (spots_in c domain)) l.names
+          ∙ sym (ap (names_from c 0) next ∙ (names-append c 0 (take i (domains c)) (domain ∷ []) ∙ ap (λ x. names_from c 0 (take i (domains c)) ++ x) (append-nil (map (name_at (0 + length (take i (domains c)))) (spots_in c domain)))))));
       directories = subst (AllFrom (IsDirectory c) 0) (sym m.directories) (all-more (IsDirectory c) 0 old.directories.items m.directory l.directories
           (subst (λ k. IsDirectory c k m.directory) (sym l.count ∙ omega arith) (record { numbers = subst (λ d. IndexesFrom m.directory.numbers (first_of c i) (items_of (spots_in c d))) e (subst (λ n. IndexesFrom m.directory.numbers n (items_of (spots_in c domain))) first m.numbers); ascending = m.ascending ∙ ap (λ d. sorted (items_of (spots_in c d))) e })));
       count = ap length m.directories ∙ (length-append old.directories.items (m.directory ∷ []) ∙ omega (arith, l.count));
@@ -54,11 +60,11 @@ listed-more c i domain old new h e l m =
 pub listed-none : (c : Config) (l : Listing) → l.rows.items ≡ [] → l.names.items ≡ [] → l.directories.items ≡ [] → l.stands.items ≡ [] → l.leaves.items ≡ [] → IsListed c 0 l
 listed-none c l r n d s o = record { rows = r; names = n; stands = s; leaves = o; directories = subst (AllFrom (IsDirectory c) 0) (sym d) tt; count = ap length d }
 
-pub listed-next : (c : Config) (ds : List (List ℕ)) (ls : List Line) (i : ℕ) (domain item : List ℕ) (old new : Listing) → ds ≡ domains c → ls ≡ in_order (lines c) → i < length ds → item ≡ get_or ds i item → domain ≡ item → IsListed c i old → IsOneMore old new domain (spots_from ls domain) → IsListed c (i + 1) new
+pub listed-next : (c : Config) (ds : List (List ℕ)) (ls : List Line) (i : ℕ) (domain item : List ℕ) (old new : Listing) → ds ≡ domains c → ls ≡ in_order (lines c) → i < length ds → item ≡ get_or ds i item → domain ≡ item → IsListed c i old → IsOneMore old new (spots_from ls domain) → IsListed c (i + 1) new
 listed-next c ds ls i domain item old new d k h e q l m =
     let lt : i < length (domains c) = subst (λ x. i < length x) d h in
     let is : domain ≡ get_or (domains c) i [] = q ∙ (e ∙ (ap (λ x. get_or x i item) d ∙ get_or_default (domains c) i item [] lt)) in
-    listed-more c i domain old new lt is l (subst (λ x. IsOneMore old new domain (spots_from x domain)) k m)
+    listed-more c i domain old new lt is l (subst (λ x. IsOneMore old new (spots_from x domain)) k m)
 
 pub directory-at : (c : Config) (ds all : List Directory) (k : ℕ) (d : Directory) → AllFrom (IsDirectory c) 0 all → ds ≡ all → k < length ds → d ≡ get_or ds k d → IsDirectory c k d
 directory-at c ds all k d a s h e = subst (λ n. IsDirectory c n d) (omega arith) (all-at (IsDirectory c) 0 ds k d (subst (AllFrom (IsDirectory c) 0) (sym s) a) h e)
@@ -67,7 +73,7 @@ pub all-rows : (c : Config) (l : Listing) → IsListed c (length (domains c)) l 
 all-rows c l h = h.rows ∙ ap (λ ds. rows_from 0 (flat_map (spots_in c) ds)) (take-length (domains c))
 
 pub all-names : (c : Config) (l : Listing) → IsListed c (length (domains c)) l → l.names.items ≡ node_names c
-all-names c l h = h.names ∙ ap (flat_map (λ domain. map (name_at domain) (spots_in c domain))) (take-length (domains c))
+all-names c l h = h.names ∙ ap (names_from c 0) (take-length (domains c))
 
 pub all-stands-listed : (c : Config) (l : Listing) → IsListed c (length (domains c)) l → l.stands.items ≡ all_stands c
 all-stands-listed c l h = h.stands ∙ ap (λ ds. stands_from 0 (flat_map (spots_in c) ds)) (take-length (domains c))

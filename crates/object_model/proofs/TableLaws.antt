@@ -1,5 +1,5 @@
 -- The tables of a configuration beside the model of it.
-use Rattle.std.proofs.Common.{◌≡◌, ℕ, zero, suc, ◌+◌, ◌<◌, Bool, List, [], ◌∷◌, ◌++◌, map, flat_map, length, get_or, Some, unwrap_or, slice_get, refl, sym, ap, ◌∙◌, arith}
+use Rattle.std.proofs.Common.{◌≡◌, ℕ, zero, suc, ◌+◌, ◌<◌, ◌≤◌, Bool, List, [], ◌∷◌, ◌++◌, map, flat_map, length, get_or, Some, slice_get, refl, sym, ap, ap₂, ◌∙◌, arith}
 use Rattle.std.specs.Str.{bytes_eq}
 use Rattle.std.proofs.Common.{false, None}
 use Rattle.std.proofs.lemmas.List.{get_or_default}
@@ -8,32 +8,27 @@ use Rattle.sv_base.specs.declared.types.TypeOf.{TypeOf}
 use Rattle.sv_base.specs.declared.types.TypeOf.TheVariants as types
 use Rattle.std.proofs.lemmas.List.{map-append, length-map, map-id}
 use Rattle.sv_base.specs.declared.config.Config.{Config}
-use Rattle.sv_base.specs.declared.config.SetDef.{SetDef}
-use Rattle.bay_model.specs.declared.tables.SetRow.{SetRow}
 use Rattle.bay_model.specs.Model.{Node}
 use Rattle.bay_model.specs.declared.tables.NodeRow.{NodeRow}
-use Rattle.bay_model.specs.Lookups.{reference_of, node_of}
+use Rattle.bay_model.specs.Lookups.{node_of}
 use Rattle.sv_base.specs.declared.numbers.AttrId.{AttrId}
 use Rattle.object_model.specs.declared.growth.Spot.{Spot}
 use Rattle.object_model.proofs.ListingLaws.{length-rows}
-use Rattle.bay_model.specs.Generated.{within}
 use Rattle.bay_model.specs.Places.{Place, node_at, may_be_member, largest, constraint, member_constraints}
 use Rattle.bay_model.specs.NamedLines.{domains}
-use Rattle.bay_model.specs.Named.{nodes, places_in, member_number, set_defined, configured_model}
-use Rattle.object_names.specs.declared.index.Index.{Index}
+use Rattle.bay_model.specs.Named.{nodes, places_in, configured_model}
 use Rattle.object_model.specs.declared.nodes.NodeName.{NodeName}
 use Rattle.object_model.specs.Grown.{spot, attr_id}
 use Rattle.object_names.specs.declared.named.What.TheVariants as whats
-use Rattle.object_names.specs.Numbers.{number_in}
-use Rattle.object_names.specs.Indexes.{Indexes}
-use Rattle.object_model.specs.Nodes.{spots_in, name_at, node_names, row, rows_from, node_rows}
+use Rattle.object_model.specs.Nodes.{spots_in, name_at, names_from, node_names, row, rows_from, node_rows}
 use Rattle.std.specs.List.{list_any}
 use Rattle.std.proofs.Common.{◌&&◌, nat_le, min}
 use Rattle.std.proofs.lemmas.Bool.Decides.{nat_tests}
 use Rattle.object_model.specs.Rows.{IsRowOf}
-use Rattle.object_model.specs.Tables.{node_id, node_types, set_row, set_rows, name_references, member_in, row_in}
+use Rattle.object_model.specs.Listed.{domain_at}
+use Rattle.object_model.specs.Tables.{node_types}
 use Rattle.list_laws.proofs.Options.{some_is, not_some}
-use Rattle.list_laws.proofs.Places.{position-map, same_at}
+use Rattle.list_laws.proofs.Places.{same_at}
 
 -- what the code makes of each node and what the model makes of it, where they are the same at each place
 module _ {A B C : Type 0} (of_spot : List ℕ → Spot → B) (of_place : List ℕ → Place → C) (seen_b : B → A) (seen_c : C → A) (same : (d : List ℕ) (p : Place) → seen_b (of_spot d (spot p)) ≡ seen_c (of_place d p)) where
@@ -46,9 +41,6 @@ module _ {A B C : Type 0} (of_spot : List ℕ → Spot → B) (of_place : List �
   in_domains places_of (d ∷ ds) = map-append seen_b (map (of_spot d) (map spot (places_of d))) (flat_map (λ d. map (of_spot d) (map spot (places_of d))) ds)
       ∙ (ap (λ l. l ++ map seen_b (flat_map (λ d. map (of_spot d) (map spot (places_of d))) ds)) (in_domain d (places_of d))
       ∙ (ap (λ l. map seen_c (map (of_place d) (places_of d)) ++ l) (in_domains places_of ds) ∙ sym (map-append seen_c (map (of_place d) (places_of d)) (flat_map (λ d. map (of_place d) (places_of d)) ds))))
-
-pub names-nodes : {A : Type 0} (of_name : NodeName → A) (of_node : Node → A) → ((d : List ℕ) (p : Place) → of_name (name_at d (spot p)) ≡ of_node (node_at d p)) → (c : Config) → map of_name (node_names c) ≡ map of_node (nodes c)
-names-nodes of_name of_node same c = in_domains name_at node_at of_name of_node same (places_in c) (domains c)
 
 flat-self : {X Y : Type 0} (f : X → List Y) (xs : List X) → flat_map (λ x. map (λ y. y) (f x)) xs ≡ flat_map f xs
 flat-self f [] = refl
@@ -72,43 +64,55 @@ ids-back : (xs : List ℕ) → map (λ (x : AttrId). x.0) (map attr_id xs) ≡ x
 ids-back [] = refl
 ids-back (x ∷ xs) = ap (λ l. x ∷ l) (ids-back xs)
 
+-- what the names say of the nodes, the names of domain k + j being those of the place j
+module _ {A : Type 0} (c : Config) (of_name : NodeName → A) (of_node : Node → A) where
+  names-here : (k : ℕ) (d : List ℕ) (ps : List Place) → ((p : Place) → of_name (name_at k (spot p)) ≡ of_node (node_at d p)) → map of_name (map (name_at k) (map spot ps)) ≡ map of_node (map (node_at d) ps)
+  names-here k d [] same = refl
+  names-here k d (p ∷ ps) same = let with : A → List A → List A = λ a as_. a ∷ as_ in ap₂ with (same p) (names-here k d ps same)
+
+  names-nodes : (k : ℕ) (ds : List (List ℕ)) → ((j : ℕ) (p : Place) → j < length ds → of_name (name_at (k + j) (spot p)) ≡ of_node (node_at (get_or ds j []) p))
+      → map of_name (names_from c k ds) ≡ map of_node (flat_map (λ d. map (node_at d) (places_in c d)) ds)
+  names-nodes k [] same = refl
+  names-nodes k (d ∷ ds) same = let none : k ≡ k + 0 = omega arith in map-append of_name (map (name_at k) (spots_in c d)) (names_from c (suc k) ds)
+      ∙ (ap₂ (λ a b. a ++ b) (names-here k d (places_in c d) (λ p. ap (λ m. of_name (name_at m (spot p))) none ∙ same 0 p (omega arith)))
+      (names-nodes (suc k) ds (λ j p h. let more : suc k + j ≡ k + suc j = omega arith in ap (λ m. of_name (name_at m (spot p))) more ∙ same (suc j) p (omega (arith, h))))
+      ∙ sym (map-append of_node (map (node_at d) (places_in c d)) (flat_map (λ d. map (node_at d) (places_in c d)) ds)))
+
+names-items : (c : Config) → map (λ (x : NodeName). x.item) (node_names c) ≡ map (λ (n : Node). n.item) (nodes c)
+names-items c = names-nodes c (λ x. x.item) (λ n. n.item) 0 (domains c) (λ j p h. refl)
+
+names-domains : (c : Config) → map (λ (x : NodeName). domain_at c x.domain) (node_names c) ≡ map (λ (n : Node). n.domain) (nodes c)
+names-domains c = names-nodes c (λ x. domain_at c x.domain) (λ n. n.domain) 0 (domains c) (λ j p h. let none : 0 + j ≡ j = omega arith in ap (domain_at c) none)
+
 -- what the name of node n says
 pub record NameAt (c : Config) (n : ℕ) (x : NodeName) : Type 0 where
-  pub domain : x.domain ≡ (node_of (configured_model c) n).domain
+  pub within : x.domain < length (domains c)
+  pub domain : domain_at c x.domain ≡ (node_of (configured_model c) n).domain
   pub item : x.item ≡ (node_of (configured_model c) n).item
 
 pub count-names : (c : Config) → length (node_names c) ≡ length (nodes c)
-count-names c = sym (length-map (node_names c) (λ (x : NodeName). x.item)) ∙ (ap length (names-nodes (λ x. x.item) (λ (n : Node). n.item) (λ d p. refl) c) ∙ length-map (nodes c) (λ (n : Node). n.item))
+count-names c = sym (length-map (node_names c) (λ (x : NodeName). x.item)) ∙ (ap length (names-items c) ∙ length-map (nodes c) (λ (n : Node). n.item))
+
+-- a name's domain is one of the domains
+names-within : (c : Config) (all k : ℕ) (ds : List (List ℕ)) (n : ℕ) (x : NodeName) → k + length ds ≤ all → n < length (names_from c k ds) → x ≡ get_or (names_from c k ds) n x → x.domain < all
+names-within c all k [] n x h l e = absurd (omega (arith, l))
+names-within c all k (d ∷ ds) n x h l e = first (λ m w g. names-within c all (suc k) ds m x (omega (arith, h)) w g) (spots_in c d) n l e
+  where
+    first : ((m : ℕ) → m < length (names_from c (suc k) ds) → x ≡ get_or (names_from c (suc k) ds) m x → x.domain < all) → (ss : List Spot) (n : ℕ)
+        → n < length (map (name_at k) ss ++ names_from c (suc k) ds) → x ≡ get_or (map (name_at k) ss ++ names_from c (suc k) ds) n x → x.domain < all
+    first later [] n l e = later n l e
+    first later (s ∷ ss) zero l e = omega (arith, h, ap (λ (y : NodeName). y.domain) e)
+    first later (s ∷ ss) (suc n) l e = first later ss n (omega (arith, l)) e
 
 pub name-at : (c : Config) (n : ℕ) (x : NodeName) → n < length (nodes c) → x ≡ get_or (node_names c) n x → NameAt c n x
 name-at c n x h e = record {
-  domain = same_at (λ (x : NodeName). x.domain) (λ (n : Node). n.domain) (node_names c) (nodes c) n x x _ (names-nodes (λ x. x.domain) (λ (n : Node). n.domain) (λ d p. refl) c) h e;
-  item = same_at (λ (x : NodeName). x.item) (λ (n : Node). n.item) (node_names c) (nodes c) n x x _ (names-nodes (λ x. x.item) (λ (n : Node). n.item) (λ d p. refl) c) h e;
+  within = names-within c (length (domains c)) 0 (domains c) n x (omega arith) (omega (arith, h, count-names c)) e;
+  domain = same_at (λ (x : NodeName). domain_at c x.domain) (λ (n : Node). n.domain) (node_names c) (nodes c) n x x _ (names-domains c) h e;
+  item = same_at (λ (x : NodeName). x.item) (λ (n : Node). n.item) (node_names c) (nodes c) n x x _ (names-items c) h e;
 }
 
 pub count-rows : (c : Config) → length (node_rows c) ≡ length (nodes c)
 count-rows c = length-rows 0 (all_spots c) ∙ (sym (length-map (all_spots c) (λ (x : Spot). x.item)) ∙ (ap length (spots-nodes (λ x. x.item) (λ (n : Node). n.item) (λ d p. refl) c) ∙ length-map (nodes c) (λ (n : Node). n.item)))
-
-abbrev node_reference : Node → List ℕ
-node_reference n = reference_of n.domain n.item
-
-abbrev name_reference : NodeName → List ℕ
-name_reference n = reference_of n.domain n.item
-
-member-is : (c : Config) (index : Index) (r : List ℕ) → Indexes index (name_references (node_names c)) → member_in index r ≡ member_number (nodes c) r
-member-is c index r h = ap (λ o. unwrap_or o 0) (h r ∙ (ap (λ l. number_in l r) (names-nodes name_reference node_reference (λ d p. refl) c) ∙ position-map (bytes_eq r) node_reference (nodes c)))
-
-members-are : (c : Config) (index : Index) (rs : List (List ℕ)) → Indexes index (name_references (node_names c)) → map (λ r. node_id (member_in index r)) rs ≡ map node_id (map (member_number (nodes c)) rs)
-members-are c index [] h = refl
-members-are c index (r ∷ rs) h = ap (λ n. node_id n ∷ map (λ r. node_id (member_in index r)) rs) (member-is c index r h) ∙ ap (λ l. node_id (member_number (nodes c) r) ∷ l) (members-are c index rs h)
-
-rows-are : (c : Config) (index : Index) (ss : List SetDef) → Indexes index (name_references (node_names c)) → map (row_in index) ss ≡ map set_row (map (set_defined (nodes c)) ss)
-rows-are c index [] h = refl
-rows-are c index (s ∷ ss) h = ap (λ l. record { name = record { domain = s.domain; item = within s.ln s.name }; nodes = l } ∷ map (row_in index) ss) (members-are c index s.members h)
-    ∙ ap (λ l. set_row (set_defined (nodes c) s) ∷ l) (rows-are c index ss h)
-
-pub sets-are : (c : Config) (index : Index) (names : List NodeName) (ss : List SetDef) (rows : List SetRow) → names ≡ node_names c → Indexes index (name_references names) → ss ≡ c.sets → rows ≡ map (row_in index) ss → rows ≡ set_rows c
-sets-are c index names ss rows n h s e = e ∙ (ap (map (row_in index)) s ∙ rows-are c index c.sets (λ name. h name ∙ ap (λ l. number_in (name_references l) name) n))
 
 -- the row of node n
 type-there : (ks : List TypeOf) (ss : List Spot) (n : ℕ) (s : Spot) (k : TypeOf) → map (λ (s : Spot). s.kind) ss ≡ ks → n < length ss → (get_or ss n s).kind ≡ get_or ks n k
@@ -146,6 +150,12 @@ within-names c model names n v e h = omega (arith, h, ap length e, ap (λ m. len
 
 pub name-of : (c model : Config) (names : List NodeName) (n : ℕ) (x : NodeName) → c ≡ model → names ≡ node_names c → n < length (nodes model) → x ≡ get_or names n x → NameAt model n x
 name-of c model names n x v e h is = name-at model n x h (is ∙ ap (λ l. get_or l n x) (e ∙ ap node_names v))
+
+pub within-domains : (c model : Config) (ds : List (List ℕ)) (n : ℕ) (x : NodeName) → c ≡ model → ds ≡ domains c → NameAt model n x → x.domain < length ds
+within-domains c model ds n x v e at = omega (arith, at.within, ap length e, ap (λ m. length (domains m)) v)
+
+pub domain-of : (c model : Config) (ds : List (List ℕ)) (n : ℕ) (x : NodeName) (d : List ℕ) → c ≡ model → ds ≡ domains c → NameAt model n x → d ≡ get_or ds x.domain d → d ≡ (node_of (configured_model model) n).domain
+domain-of c model ds n x d v e at is = is ∙ (get_or_default ds x.domain d [] (within-domains c model ds n x v e at) ∙ (ap (λ l. get_or l x.domain []) (e ∙ ap domains v) ∙ at.domain))
 
 pub within-rows : (c model : Config) (rows : List NodeRow) (n : ℕ) → c ≡ model → rows ≡ node_rows c → n < length (nodes model) → n < length rows
 within-rows c model rows n v e h = omega (arith, h, ap length e, ap (λ m. length (node_rows m)) v, count-rows model)

@@ -6,6 +6,7 @@ pub mod Grown
 pub mod Nodes
 pub mod Stands
 pub mod Listed
+pub mod Finding
 pub mod Fits
 pub mod Tables
 pub mod Rows

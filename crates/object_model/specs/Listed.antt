@@ -12,7 +12,7 @@ use Rattle.object_model.specs.declared.listing.Listing.{Listing}
 use Rattle.object_names.specs.Indexes.{IndexesFrom}
 use Rattle.object_model.specs.Grown.{spot}
 use Rattle.object_model.specs.Stands.{owns, stands_from}
-use Rattle.object_model.specs.Nodes.{spots_in, rows_from, name_at}
+use Rattle.object_model.specs.Nodes.{spots_in, rows_from, name_at, names_from}
 
 -- the nodes that lines name in a domain
 abbrev pub spots_from : List Line → List ℕ → List Spot
@@ -41,16 +41,16 @@ AllFrom P n (d ∷ ds) = P n d × AllFrom P (suc n) ds
 -- the first i domains are listed
 pub record IsListed (c : Config) (i : ℕ) (l : Listing) : Type 0 where
   pub rows : l.rows.items ≡ rows_from 0 (flat_map (spots_in c) (take i (domains c)))
-  pub names : l.names.items ≡ flat_map (λ domain. map (name_at domain) (spots_in c domain)) (take i (domains c))
+  pub names : l.names.items ≡ names_from c 0 (take i (domains c))
   pub directories : AllFrom (IsDirectory c) 0 l.directories.items
   pub count : length l.directories.items ≡ i
   pub stands : l.stands.items ≡ stands_from 0 (flat_map (spots_in c) (take i (domains c)))
   pub leaves : l.leaves.items ≡ owns (flat_map (spots_in c) (take i (domains c)))
 
 -- one more domain, of these nodes
-pub record IsOneMore (old new : Listing) (domain : List ℕ) (spots : List Spot) : Type 0 where
+pub record IsOneMore (old new : Listing) (spots : List Spot) : Type 0 where
   pub rows : new.rows.items ≡ old.rows.items ++ rows_from (length old.rows.items) spots
-  pub names : new.names.items ≡ old.names.items ++ map (name_at domain) spots
+  pub names : new.names.items ≡ old.names.items ++ map (name_at (length old.directories.items)) spots
   pub directory : Directory
   pub directories : new.directories.items ≡ old.directories.items ++ directory ∷ []
   pub numbers : IndexesFrom directory.numbers (length old.rows.items) (items_of spots)

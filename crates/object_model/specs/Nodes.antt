@@ -1,5 +1,5 @@
 -- The nodes of a configuration as the parts of a bay are given them: each with its domain, its type and its largest Data.
-use Rattle.std.specs.Prelude.{ℕ, suc, ◌&&◌, List, [], ◌∷◌, map, flat_map, min}
+use Rattle.std.specs.Prelude.{ℕ, suc, ◌&&◌, List, [], ◌∷◌, ◌++◌, map, flat_map, min}
 use Rattle.std.specs.List.{list_any}
 use Rattle.std.specs.Str.{bytes_eq}
 use Rattle.sv_base.specs.declared.config.Config.{Config}
@@ -31,9 +31,15 @@ rows_from n (s ∷ ss) = row n s ∷ rows_from (suc n) ss
 abbrev pub node_rows : Config → List NodeRow
 node_rows c = rows_from 0 (flat_map (spots_in c) (domains c))
 
-abbrev pub name_at : List ℕ → Spot → NodeName
-name_at domain s = record { domain = domain; item = s.item }
+-- its domain, by its number
+abbrev pub name_at : ℕ → Spot → NodeName
+name_at k s = record { domain = k; item = s.item }
+
+-- of domains, the first of which is number k
+abbrev pub names_from : Config → ℕ → List (List ℕ) → List NodeName
+names_from c k [] = []
+names_from c k (d ∷ ds) = map (name_at k) (spots_in c d) ++ names_from c (suc k) ds
 
 -- their names
 abbrev pub node_names : Config → List NodeName
-node_names c = flat_map (λ domain. map (name_at domain) (spots_in c domain)) (domains c)
+node_names c = names_from c 0 (domains c)

@@ -1,33 +1,24 @@
--- What is found in a configuration: its nodes by their names, its data sets, and the trigger conditions of its attributes.
-use Rattle.std.specs.Prelude.{◌≡◌, ℕ, ◌&&◌, List, ◌++◌, map, flat_map, filter, position, length, Option, unwrap_or, slice_index_or}
-use Rattle.std.specs.Str.{bytes_eq}
+-- What is found in a configuration: its data sets and the trigger conditions of its attributes.
+use Rattle.std.specs.Prelude.{◌≡◌, ℕ, List, ◌++◌, map, flat_map, filter, slice_index_or}
 use Rattle.sv_base.specs.declared.config.Config.{Config}
 use Rattle.sv_base.specs.declared.config.CtlDef.{CtlDef}
-use Rattle.sv_base.specs.declared.config.SetDef.{SetDef}
 use Rattle.sv_base.specs.declared.numbers.NodeId.{NodeId}
 use Rattle.sv_base.specs.declared.types.TypeOf.{TypeOf}
 use Rattle.sv_base.specs.declared.types.TypeOf.TheVariants as types
 use Rattle.sv_base.specs.Types.{no_field}
 use Rattle.bay_model.specs.declared.flags.Flags.{Flags}
 use Rattle.bay_model.specs.declared.tables.SetRow.{SetRow}
-use Rattle.bay_model.specs.Model.{Node, DataSet, Attr}
-use Rattle.bay_model.specs.Lookups.{reference_of}
-use Rattle.bay_model.specs.Generated.{Parameter, parameters, within}
+use Rattle.bay_model.specs.Model.{DataSet, Attr}
+use Rattle.bay_model.specs.Generated.{Parameter, parameters}
 use Rattle.bay_model.specs.Places.{Place}
 use Rattle.bay_model.specs.NamedLines.{domains, is_setting}
 use Rattle.bay_model.specs.Named.{name_tree, places_in}
 pub use Rattle.object_names.specs.Attributes.{line_flags, no_flags}
 use Rattle.object_model.specs.declared.tables.Tables.{Tables}
-use Rattle.object_names.specs.declared.index.Index.{Index}
-use Rattle.object_model.specs.declared.nodes.NodeName.{NodeName}
-use Rattle.object_names.specs.Indexes.{Indexes, found}
 use Rattle.object_model.specs.Nodes.{node_rows, node_names}
 use Rattle.object_model.specs.Stands.{all_stands, all_leaves}
-use Rattle.object_model.specs.Listed.{AllFrom, IsDirectory}
-
--- the number of the node of an item of a domain
-abbrev pub node_named : List Node → List ℕ → List ℕ → Option ℕ
-node_named ns domain item = position (λ (n : Node). bytes_eq domain n.domain && bytes_eq item n.item) ns
+pub use Rattle.object_model.specs.Finding.{node_named}
+use Rattle.object_model.specs.Finding.{Finds}
 
 -- the types of the nodes, by their numbers
 abbrev pub node_types : Config → List TypeOf
@@ -57,24 +48,10 @@ abbrev pub attr_flags : Config → List Flags
 attr_flags c = map line_flags c.attrs ++ (flat_map control_flags c.controls ++ map line_flags (filter is_setting c.attrs))
 
 pub record IsTables (c : Config) (t : Tables) : Type 0 where
-  pub domain_numbers : Indexes t.domains (domains c)
-  pub directories : AllFrom (IsDirectory c) 0 t.directories.items
-  pub count : length t.directories.items ≡ length (domains c)
+  pub finds : Finds c t.numbers t.directories.items
+  pub domain_names : t.domains.items ≡ domains c
   pub names : t.names.items ≡ node_names c
   pub nodes : t.nodes ≡ node_rows c
   pub sets : t.sets ≡ set_rows c
   pub stands : t.stands.items ≡ all_stands c
   pub leaves : t.leaves.items ≡ all_leaves c
-
--- ---- for the code
-
--- the references `LD/item` of names
-abbrev pub name_references : List NodeName → List (List ℕ)
-name_references names = map (λ (n : NodeName). reference_of n.domain n.item) names
-
-abbrev pub member_in : Index → List ℕ → ℕ
-member_in index reference = unwrap_or (found index reference) 0
-
--- the row of a data set by an index of the references of the nodes
-abbrev pub row_in : Index → SetDef → SetRow
-row_in index s = record { name = record { domain = s.domain; item = within s.ln s.name }; nodes = map (λ r. node_id (member_in index r)) s.members }

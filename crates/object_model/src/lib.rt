@@ -8,6 +8,7 @@ mod growth;
 mod largest;
 
 // its nodes, domain by domain, and what finds them
+mod finding;
 mod listing;
 mod nodes;
 mod stands;

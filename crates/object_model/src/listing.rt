@@ -63,15 +63,16 @@ fn push_domain(
     lines: &[Line<'_>],
     domain: &[u8],
 ) -> Result<(), AllocError>
-    ensures { OnOk result (IsOneMore listing.old listing.new domain.now (spots_from lines.now domain.now)) }
+    ensures { OnOk result (IsOneMore listing.old listing.new (spots_from lines.now domain.now)) }
 {
     let spots = spots_of(alloc, lines, domain)?;
     let first = count(listing.rows.as_slice().len())?;
+    let number = count(listing.directories.as_slice().len())?;
     let numbers = numbers_of(alloc, first, &spots)?;
     let ascending = in_order(items_of(alloc, &spots)?)?;
     listing.directories.push(Directory { numbers, ascending })?;
     push_stands(&mut listing.stands, &mut listing.leaves, &spots)?;
-    push_nodes(alloc, &mut listing.rows, &mut listing.names, domain, spots)?;
+    push_nodes(&mut listing.rows, &mut listing.names, number, spots)?;
     Ok(())
 }
 

@@ -148,9 +148,8 @@ impl Model {
         requires { node.0 < length (nodes_of self.now) }
         ensures { result.now ≡ (node_of (configured_model self.now) node.0).domain }
     {
-        self.tables.names.as_slice()[node.0 as usize]
-            .domain
-            .as_slice()
+        let domain = self.tables.names.as_slice()[node.0 as usize].domain;
+        self.tables.domains.as_slice()[domain as usize].as_slice()
     }
 
     /// The item of a node.

@@ -18,10 +18,10 @@ use object_names::{Line, Named};
 use std::alloc::{AllocError, Global};
 use sv_base::{NodeId, Octs};
 
-/// The name of a node: its domain and its item.
+/// The name of a node: its domain, by its number, and its item.
 #[derive(Drop)]
 pub struct NodeName {
-    pub domain: Octs,
+    pub domain: u32,
     pub item: Octs,
 }
 
@@ -125,20 +125,18 @@ fn row_of(spot: Spot, number: u32) -> (NodeRow, Octs)
 
 /// Adds the rows of the nodes of a domain, the first of them numbered as the next, and their names.
 pub fn push_nodes(
-    alloc: Global,
     rows: &mut Vec<NodeRow>,
     names: &mut Vec<NodeName>,
-    domain: &[u8],
+    domain: u32,
     spots: Vec<Spot>,
 ) -> Result<(), AllocError>
     ensures rows { OnOk result (rows.new.items ≡ rows.old.items ++ rows_from (length rows.old.items) spots.items) }
-    ensures names { OnOk result (names.new.items ≡ names.old.items ++ map (name_at domain.now) spots.items) }
+    ensures names { OnOk result (names.new.items ≡ names.old.items ++ map (name_at domain) spots.items) }
 {
     for spot in spots {
         let number = count(rows.len())?;
         let (row, item) = row_of(spot, number);
         rows.push(row)?;
-        let domain = Octs::from_vec(Vec::from_slice(alloc, domain)?);
         names.push(NodeName { domain, item })?;
     }
     Ok(())

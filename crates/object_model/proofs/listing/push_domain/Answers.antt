@@ -2,14 +2,14 @@ use Rattle.std.proofs.Common.{ap, ◌∙◌, subst, ◌++◌, map, length}
 use Rattle.object_names.specs.Indexes.{IndexesFrom}
 use Rattle.bay_model.specs.Names.{sorted}
 use Rattle.object_model.specs.Nodes.{rows_from, name_at}
-use Rattle.object_model.specs.Listed.{items_of}
+use Rattle.object_model.specs.Listed.{items_of, spots_from}
 use Rattle.object_model.specs.Stands.{owns, stands_from}
 use Rattle.object_model.proofs.listing.push_domain.Goals as goal
 
 pub returns : goal.returns
 returns c = record {
   rows = c.in_ok-push_nodes.ensures.rows ∙ ap (λ l. c.args.listing.now.rows.items ++ rows_from (length c.args.listing.now.rows.items) l) c.in_ok-spots.ensures;
-  names = c.in_ok-push_nodes.ensures.names ∙ ap (λ l. c.args.listing.now.names.items ++ map (name_at c.args.domain.now) l) c.in_ok-spots.ensures;
+  names = c.in_ok-push_nodes.ensures.names ∙ (ap (λ l. c.args.listing.now.names.items ++ map (name_at c.in_ok-number.number) l) c.in_ok-spots.ensures ∙ ap (λ k. c.args.listing.now.names.items ++ map (name_at k) (spots_from c.args.lines.now c.args.domain.now)) (c.in_ok-number.ensures ∙ ap length c.as_slice-2.ensures.value));
   directory = record { numbers = c.in_ok-numbers.numbers; ascending = c.in_ok-ascending.ascending };
   directories = c.in_ok-push.ensures.items;
   numbers = subst (λ l. IndexesFrom c.in_ok-numbers.numbers (length c.args.listing.now.rows.items) (items_of l)) (c.deref.ensures.value ∙ c.in_ok-spots.ensures)

@@ -1,6 +1,9 @@
 use Rattle.std.proofs.Common.{◌≡◌, map, take}
-use Rattle.object_model.specs.Tables.{row_in}
+use Rattle.sv_base.specs.declared.config.Config.{Config}
+use Rattle.bay_model.specs.Named.{nodes, set_defined}
+use Rattle.object_model.specs.Finding.{Finds}
+use Rattle.object_model.specs.Tables.{set_row}
 use Rattle.object_model.proofs.tables.set_rows.Given as goal
 
 abbrev pub invariant-loop-set : goal.invariant-loop-set
-invariant-loop-set l = l.rows.items ≡ map (row_in l.index) (take l.set-index l.sets)
+invariant-loop-set l = (c : Config) → Finds c l.numbers l.directories → l.rows.items ≡ map set_row (map (set_defined (nodes c)) (take l.set-index l.sets))

@@ -1,0 +1,70 @@
+//! The nodes by their names, and by their references.
+
+ghost use Rattle.std.specs.Prelude.{◌≡◌, ◌<◌, length, position};
+ghost use Rattle.std.specs.Str.{bytes_eq};
+ghost use Rattle.sv_base.specs.declared.config.Config.{Config as ModelConfig};
+ghost use Rattle.bay_model.specs.Model.{Node};
+ghost use Rattle.bay_model.specs.Lookups.{reference_of};
+ghost use Rattle.bay_model.specs.Named.{nodes as nodes_of, member_number};
+ghost use Rattle.object_model.specs.Finding.{Finds, node_named, is_cut, least as least_of};
+
+use crate::listing::Directory;
+use object_names::Index;
+
+/// The number of the node of an item of a domain; none exactly where it is not there.
+pub fn number_of(
+    numbers: &Index,
+    directories: &[Directory],
+    domain: &[u8],
+    item: &[u8],
+) -> Option<u32>
+    ensures { (c : ModelConfig) → Finds c numbers.now directories.now → result ≡ node_named (nodes_of c) domain.now item.now }
+{
+    match numbers.number_of(domain) {
+        None => None,
+        Some(number) => match directories.get(number as usize) {
+            None => None,
+            Some(directory) => directory.numbers.number_of(item),
+        },
+    }
+}
+
+/// The first node of a reference `LD/item` whose domain ends at a place of it.
+fn cut_at(numbers: &Index, directories: &[Directory], reference: &[u8], at: usize) -> Option<u32>
+    requires { at < length reference.now }
+    ensures { (c : ModelConfig) → Finds c numbers.now directories.now → result ≡ position (is_cut reference.now at) (nodes_of c) }
+{
+    if reference[at] != b'/' {
+        return None;
+    }
+    number_of(numbers, directories, &reference[..at], &reference[at + 1..])
+}
+
+/// The lesser of two numbers, of those that there are.
+fn least(one: Option<u32>, other: Option<u32>) -> Option<u32>
+    ensures { result ≡ least_of one other }
+{
+    match (one, other) {
+        (None, other) => other,
+        (one, None) => one,
+        (Some(one), Some(other)) => Some(one.min(other)),
+    }
+}
+
+/// The first node of a reference; none exactly where it is not there. The name of a domain may have a `/` as well.
+fn first_of(numbers: &Index, directories: &[Directory], reference: &[u8]) -> Option<u32>
+    ensures { (c : ModelConfig) → Finds c numbers.now directories.now → result ≡ position (λ (n : Node). bytes_eq reference.now (reference_of n.domain n.item)) (nodes_of c) }
+{
+    let mut first = None;
+    for at in 0..reference.len() {
+        first = least(first, cut_at(numbers, directories, reference, at));
+    }
+    first
+}
+
+/// The number of the member of a data set, by its reference; 0 where it is not there.
+pub fn member_of(numbers: &Index, directories: &[Directory], reference: &[u8]) -> u32
+    ensures { (c : ModelConfig) → Finds c numbers.now directories.now → result ≡ member_number (nodes_of c) reference.now }
+{
+    first_of(numbers, directories, reference).unwrap_or(0)
+}
