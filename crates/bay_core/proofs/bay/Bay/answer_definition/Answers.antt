@@ -60,7 +60,7 @@ define-requires c =
     let same = fault-same s.sets named c.in_ok-name.name name c.nodes-nodes.result.now (node_rows s.model) c.as_slice.result.now ts c.in_ok-name.ensures c.nodes-nodes.ensures c.as_slice.ensures in
     let fine : define_fault old.book name named (node_rows old.config) ts ≡ None
     = sym (ap (λ (t : State). define_fault t.book name named (node_rows t.config) ts) c.self.view_is) ∙ (sym same ∙ (sym c.define_fault.ensures ∙ c.in_default.is)) in
-    let made : c.in_ok-definition.definition ≡ defined_set name ts = c.in_ok-definition.ensures ∙ (ap (λ (n : SetName). defined_set n c.as_slice-2.result.now) c.in_ok-name.ensures ∙ ap (λ (l : List Target). defined_set name l) c.as_slice-2.ensures) in
+    let made : c.in-Ok.definition ≡ defined_set name ts = c.in-Ok.ensures ∙ (ap (λ (n : SetName). defined_set n c.as_slice-2.result.now) c.in_ok-name.ensures ∙ ap (λ (l : List Target). defined_set name l) c.as_slice-2.ensures) in
     subst (IsNewSet old.config old.book) (sym made)
     (new-set old.config (subst (λ (t : State). IsServable t.config) c.self.view_is c.self.invariant.furnished.servable) old.book name named ts is fine)
 
@@ -82,7 +82,7 @@ returns-clause-answered c =
     let same = fault-same s.sets named c.in_ok-name.name name c.nodes-nodes.result.now (node_rows s.model) c.as_slice.result.now ts c.in_ok-name.ensures c.nodes-nodes.ensures c.as_slice.ensures in
     let fine : define_fault old.book name named (node_rows old.config) ts ≡ None
     = sym (ap (λ (t : State). define_fault t.book name named (node_rows t.config) ts) c.self.view_is) ∙ (sym same ∙ (sym c.define_fault.ensures ∙ c.in_default.is)) in
-    let made : c.in_ok-definition.definition ≡ defined_set name ts = c.in_ok-definition.ensures ∙ (ap (λ (n : SetName). defined_set n c.as_slice-2.result.now) c.in_ok-name.ensures ∙ ap (λ (l : List Target). defined_set name l) c.as_slice-2.ensures) in
+    let made : c.in-Ok.definition ≡ defined_set name ts = c.in-Ok.ensures ∙ (ap (λ (n : SetName). defined_set n c.as_slice-2.result.now) c.in_ok-name.ensures ∙ ap (λ (l : List Target). defined_set name l) c.as_slice-2.ensures) in
     let behind : c.arrive-2.new.self ≡ at_arrival c.args.moment (record old { book = with_set (defined_set name ts) old.book })
     = c.arrive-2.ensures.state ∙ ap (at_arrival c.args.moment) (c.in_ok-define.ensures.defined ∙ ap (λ (d : Booked). record old { book = with_set d old.book }) made) in
     definition-done old c.args.moment c.args.a.0 c.args.domain.now c.args.item.now ts c.requires.number (subst (λ (t : State). HasAll t.config t.stored t.book t.parts) c.self.view_is all) named is
@@ -90,3 +90,13 @@ returns-clause-answered c =
     (subst (λ (t : State). (b : ℕ) (part : ReportBlock) → slice_get t.parts b ≡ Some part → IsSet t.book part.set) c.self.view_is
     (λ b part at. subst (IsSet s.sets) (sym (f.sets b part at)) (number-there part.block.options.dat_set s.sets)))
     behind
+
+pub returns-clause-kept : goal.returns-clause-kept
+returns-clause-kept c =
+    let behind = c.arrive-2.ensures.state in
+    let new = c.in_ok-define.ensures.defined in
+    record {
+      config = ap (λ (t : State). t.config) behind ∙ ap (λ (t : State). t.config) new;
+      steps = ap (λ (t : State). t.steps) behind ∙ ap (λ (t : State). t.steps) new;
+      rows = ap (λ (t : State). t.rows) behind ∙ ap (λ (t : State). t.rows) new;
+    }
