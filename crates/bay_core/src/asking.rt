@@ -213,13 +213,7 @@ impl Bay {
             self.arrive(moment);
             return Ok(Reply::Reject(3));
         }
-        let Ok(codes) =
-            self.answer_members(alloc, moment, a, nodes.as_slice(), values.as_slice())
-        else {
-            drop(nodes);
-            return Err(AllocError);
-        };
-        drop(nodes);
+        let codes = self.answer_members(alloc, moment, a, nodes.as_slice(), values.as_slice())?;
         Ok(Reply::Wrote(Codes::from_vec(codes)))
     }
 

@@ -136,20 +136,10 @@ impl Watch {
         requires watchable { All (IsWatchable rows.now book.now attrs) parts.now }
         ensures { IfOk result (λ w. IsWatching rows.now book.now attrs parts.now w) }
     {
-        let options = options_of(alloc, parts)?;
-        let Ok(notes) = Notes::new(alloc, parts.len() as u32, 256) else {
-            drop(options);
-            return Err(AllocError);
-        };
-        let Ok(index) = index_of(alloc, attrs, parts, book, rows) else {
-            drop(options);
-            drop(notes);
-            return Err(AllocError);
-        };
         Ok(Watch {
-            index,
-            options,
-            notes,
+            index: index_of(alloc, attrs, parts, book, rows)?,
+            options: options_of(alloc, parts)?,
+            notes: Notes::new(alloc, parts.len() as u32, 256)?,
         })
     }
 

@@ -42,8 +42,8 @@ returns-clause-answered c =
     let same : length c.in-Some.nodes.items ≡ length (values_of c.args.values.now) = omega (arith, c.if-len.false, c.len-2.ensures, c.len.ensures, c.as_slice.ensures.len, ap (λ (l : List NodeId). length l) c.as_slice.ensures.value) in
     let z = c.args.self.now in
     let u = c.answer_members.new.self in
-    let codes = c.in-Ok.codes.items in
+    let codes = c.in_ok-codes.codes.items in
     let written = subst (λ (ns : List NodeId). AreWritten z u c.args.moment c.args.a.0 (writes_of (node_numbers ns) (values_of c.args.values.now)) codes) c.as_slice.ensures.value
-    (subst (λ (vs : List Value). AreWritten z u c.args.moment c.args.a.0 (writes_of (node_numbers c.as_slice.result.now) vs) codes) c.as_slice-2.ensures.items c.in-Ok.ensures.written) in
+    (subst (λ (vs : List Value). AreWritten z u c.args.moment c.args.a.0 (writes_of (node_numbers c.as_slice.result.now) vs) codes) c.as_slice-2.ensures.items c.in_ok-codes.ensures.written) in
     subst (λ (cs : List (Result (Unit {0}) ℕ)). IsAnswered z u c.args.moment c.args.a.0 (services.WriteSet c.args.domain.now c.args.item.now c.args.values.now) (replies.Wrote cs)) (sym c.from_vec.ensures)
     (members-answered z u c.args.moment c.args.a.0 c.args.domain.now c.args.item.now c.args.values.now c.in-Some.nodes.items codes some (equal-number (length c.in-Some.nodes.items) (length (values_of c.args.values.now)) same) written)
