@@ -43,10 +43,7 @@ pub struct Bay {
 fn report_in(answer: Answer) -> Option<Report> {
     match answer {
         Answer::Taken(Output::Report(report)) => Some(report),
-        other => {
-            drop(other);
-            None
-        }
+        _ => None,
     }
 }
 
