@@ -1,8 +1,9 @@
 //! Requests of an association: a request is answered at its arrival, and the reply waits to be taken (ISO 9506-2, the confirmed
 //! services).
 
-ghost use Rattle.std.specs.Prelude.{◌≡◌, []};
+ghost use Rattle.std.specs.Prelude.{◌≡◌, [], IfOk};
 ghost use Rattle.bay_model.specs.declared.reply.Reply.TheVariants.{Wrote};
+ghost use Rattle.bay_core.specs.Asked.{members_of, set_members};
 
 use crate::bay::Bay;
 use crate::defining::set_name;
@@ -12,6 +13,7 @@ use bay_model::{
 };
 use bay_queues::Heard;
 use bay_replies::Replies;
+use data_sets::SetBook;
 use std::alloc::{AllocError, Global};
 use sv_base::{ActorNo, AssocNo, CtlNo, Moment, NodeId, Octs, Value, Values};
 
@@ -53,6 +55,24 @@ fn wrote(heard: Heard) -> Came
     }
 }
 
+/// The members of a data set by its name; none exactly where it isn't there.
+fn members_named(
+    alloc: Global,
+    book: &SetBook,
+    domain: &Octs,
+    item: &Octs,
+) -> Result<Option<Vec<NodeId>>, AllocError>
+    ensures { IfOk result (λ found. members_of found ≡ set_members book.now domain.now item.now) }
+{
+    let name = set_name(alloc, domain, item)?;
+    let number = book.number_named(&name);
+    drop(name);
+    match number {
+        Some(number) => Ok(Some(Vec::from_slice(alloc, book.nodes(number))?)),
+        None => Ok(None),
+    }
+}
+
 impl Bay {
     ghost use Rattle.std.specs.Prelude.{◌≡◌, ◌<◌, ◌^◌, ◌∷◌, [], true, false, nat_le, IfOk, OnOk, OnErr};
     ghost use Rattle.bay_model.specs.declared.answer.Output.TheVariants as outputs;
@@ -64,7 +84,7 @@ impl Bay {
     ghost use Rattle.bay_replies.specs.Asking.{IsReading, IsFitting};
     ghost use Rattle.bay_model.specs.declared.request.Service.TheVariants as services;
     ghost use Rattle.bay_model.specs.Singles.{writes_of};
-    ghost use Rattle.bay_core.specs.Asked.{AreMembersFit, AreWritten, IsAnswered, IsReplied, IsReplyAt, IsKept, members_of, node_numbers, set_members};
+    ghost use Rattle.bay_core.specs.Asked.{AreMembersFit, AreWritten, IsAnswered, IsReplied, IsReplyAt, IsKept, node_numbers};
     ghost use Rattle.bay_core.specs.Came.{IsCome, put_after};
     ghost use Rattle.bay_core.specs.Commanded.{AreNoCommands, AreTestsOf, CallsNothing};
     ghost use Rattle.bay_core.specs.Turned.{IsLent};
@@ -147,22 +167,6 @@ impl Bay {
         Ok(wrote(heard))
     }
 
-    /// The members of a data set by its name; none exactly where it isn't there.
-    fn members_named(
-        &self,
-        alloc: Global,
-        domain: &Octs,
-        item: &Octs,
-    ) -> Result<Option<Vec<NodeId>>, AllocError>
-        ensures { IfOk result (λ found. members_of found ≡ set_members self.now.book domain.now item.now) }
-    {
-        let name = set_name(alloc, domain, item)?;
-        match self.sets.number_named(&name) {
-            Some(number) => Ok(Some(Vec::from_slice(alloc, self.sets.nodes(number))?)),
-            None => Ok(None),
-        }
-    }
-
     /// Answers a write of as many members of a data set as there are values: room for the codes is made, and then time passes and
     /// each is written.
     fn answer_members(
@@ -201,7 +205,7 @@ impl Bay {
         ensures refused { OnErr result (self.new ≡ self.old) }
     {
         let _ = &self.sets;
-        let Some(nodes) = self.members_named(alloc, domain, item)? else {
+        let Some(nodes) = members_named(alloc, &self.sets, domain, item)? else {
             self.arrive(moment);
             return Ok(Reply::Error { class: 7, code: 2 });
         };

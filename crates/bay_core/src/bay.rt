@@ -39,6 +39,14 @@ pub struct Bay {
     pub(crate) rooms: Option<Rooms>,
 }
 
+/// The report that an answer is.
+fn report_in(answer: Answer) -> Option<Report> {
+    match answer {
+        Answer::Taken(Output::Report(report)) => Some(report),
+        _ => None,
+    }
+}
+
 impl std::marker::Model for Bay {
     ghost use Rattle.std.specs.Prelude.{vec_capacity};
     ghost use Rattle.std.specs.Coded.{codes};
@@ -97,7 +105,7 @@ impl Bay {
     pub fn reuse(&mut self, answer: Answer)
         ensures { self.new ≡ self.old }
     {
-        if let Answer::Taken(Output::Report(report)) = answer {
+        if let Some(report) = report_in(answer) {
             self.spare = Some(report);
         }
     }

@@ -49,8 +49,13 @@ impl Bay {
         ensures defined { OnOk result (self.new ≡ record self.old { book = with_set definition self.old.book }) }
         ensures kept { OnErr result (self.new ≡ self.old) }
     {
-        self.watch
-            .reserve(definition.nodes(), self.model.nodes().as_slice())?;
+        let Ok(()) = self
+            .watch
+            .reserve(definition.nodes(), self.model.nodes().as_slice())
+        else {
+            drop(definition);
+            return Err(AllocError);
+        };
         self.sets.define(definition);
         Ok(())
     }
@@ -82,7 +87,11 @@ impl Bay {
             self.arrive(moment);
             return Ok(refusal(fault));
         }
-        let definition = Definition::new(alloc, &name, members.as_slice())?;
+        let Ok(definition) = Definition::new(alloc, &name, members.as_slice()) else {
+            drop(name);
+            return Err(AllocError);
+        };
+        drop(name);
         self.define(definition)?;
         self.arrive(moment);
         Ok(Reply::Defined)

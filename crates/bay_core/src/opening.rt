@@ -74,10 +74,10 @@ fn rooms_made(
 {
     Ok(Rooms {
         dues: Dues::open(alloc, blocks)?,
-        associations: Queues::open(alloc, config)?,
         changes: Vec::with_capacity(alloc, attrs as usize)?,
-        events: EventRoom::new(alloc, 256)?,
         octets: Fixed::new(alloc, 129024)?,
+        events: EventRoom::new(alloc, 256)?,
+        associations: Queues::open(alloc, config)?,
     })
 }
 
@@ -89,6 +89,35 @@ fn groups_of(alloc: Global, model: &Model) -> Result<Groups, AllocError>
     let config = model.config();
     let domains = domains(alloc, config.nodes.as_slice())?;
     Groups::open(alloc, config, domains.as_slice())
+}
+
+/// The data sets, the blocks with the numbers of theirs, and what finds the blocks.
+#[derive(Drop)]
+struct Blocks {
+    sets: SetBook,
+    parts: Vec<ReportBlock>,
+    watch: Watch,
+}
+
+/// The data sets and the blocks as they are configured, with the room that notes need for so many attributes.
+fn blocks_made(alloc: Global, model: &Model, attrs: u32) -> Result<Blocks, AllocError>
+    requires servable { IsServable model.now }
+    requires attrs { attrs ≡ length (opened model.now) }
+    ensures sets { IfOk result (λ b. b.sets ≡ booked (set_rows model.now)) }
+    ensures parts { IfOk result (λ b. map seen b.parts.items ≡ map (part_defined (booked (set_rows model.now))) model.now.blocks) }
+    ensures watch { IfOk result (λ b. IsWatching (node_rows model.now) b.sets attrs b.parts.items b.watch) }
+{
+    let sets = SetBook::open(alloc, model.sets())?;
+    let Ok(parts) = parts_of(alloc, model, &sets) else {
+        drop(sets);
+        return Err(AllocError);
+    };
+    let Ok(watch) = Watch::open(alloc, attrs, &parts, &sets, model.nodes().as_slice()) else {
+        drop(sets);
+        drop(parts);
+        return Err(AllocError);
+    };
+    Ok(Blocks { sets, parts, watch })
 }
 
 /// What a bay has besides its model.
@@ -119,19 +148,30 @@ fn parts_made(alloc: Global, model: &Model) -> Result<Made, AllocError>
 {
     let values = Values::open(alloc, model.config())?;
     let Ok(attrs) = u32::try_from(values.store().len()) else {
+        drop(values);
         return Err(AllocError);
     };
-    let groups = groups_of(alloc, model)?;
-    let sets = SetBook::open(alloc, model.sets())?;
-    let parts = parts_of(alloc, model, &sets)?;
-    let watch = Watch::open(alloc, attrs, &parts, &sets, model.nodes().as_slice())?;
-    let rooms = rooms_made(alloc, model.config(), parts.len(), attrs)?;
+    let Ok(groups) = groups_of(alloc, model) else {
+        drop(values);
+        return Err(AllocError);
+    };
+    let Ok(blocks) = blocks_made(alloc, model, attrs) else {
+        drop(values);
+        drop(groups);
+        return Err(AllocError);
+    };
+    let Ok(rooms) = rooms_made(alloc, model.config(), blocks.parts.len(), attrs) else {
+        drop(values);
+        drop(groups);
+        drop(blocks);
+        return Err(AllocError);
+    };
     Ok(Made {
         values,
         groups,
-        sets,
-        parts,
-        watch,
+        sets: blocks.sets,
+        parts: blocks.parts,
+        watch: blocks.watch,
         rooms,
     })
 }

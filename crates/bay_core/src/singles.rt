@@ -49,7 +49,7 @@ impl Bay {
     ghost use Rattle.std.specs.Prelude.{◌≡◌, ◌≤◌, ◌<◌, [], ℕ, true, length, map, vec_capacity};
     ghost use Rattle.bay_model.specs.Lookups.{attr_of, node_of};
     ghost use Rattle.bay_model.specs.Named.{nodes as nodes_of};
-    ghost use Rattle.bay_model.specs.Singles.{outcome_of, write_of, write_to, writes, writes_of};
+    ghost use Rattle.bay_model.specs.Singles.{outcome_of, write_of, write_to, writes_of};
     ghost use Rattle.bay_model.specs.Writes.{write_attribute, write_node};
     ghost use Rattle.object_model.specs.Fits.{is_sound};
     ghost use Rattle.bay_model.specs.declared.request.Write.{Write as WriteValue};
@@ -176,18 +176,6 @@ impl Bay {
         }
     }
 
-    /// An association writes a member of a data set, which is no command, at the moment that time has come to. It takes no memory.
-    fn write_member(&mut self, a: AssocNo, node: &NodeId, value: &Value) -> Result<(), u8>
-        requires there { node.now.0 < length (nodes_of self.old.config) }
-        requires sound { is_sound value.now ≡ true }
-        requires plain { IsNoCommand (node_of (configured_model self.old.config) node.now.0).role }
-        ensures kept { IsKept self.old self.new }
-        ensures controls { self.new.controls ≡ self.old.controls }
-        ensures written { IsWrite self.old self.new (λ m past. outcome_of m a.0 (writes node.now.0 value.now) past) result }
-    {
-        self.write_node(a, *node, value)
-    }
-
     /// An association writes the members of a data set in their order; the codes are added to `codes`, in room that was made before.
     pub(crate) fn write_members(
         &mut self,
@@ -204,7 +192,7 @@ impl Bay {
         ensures written { AreWrites self.old self.new a.0 (writes_of (node_numbers nodes.now) values.now) codes.new.items }
     {
         for i in 0..nodes.len() {
-            let code = self.write_member(a, &nodes[i], &values[i]);
+            let code = self.write_node(a, nodes[i], &values[i]);
             add_code(codes, code);
         }
     }

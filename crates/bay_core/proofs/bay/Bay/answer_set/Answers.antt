@@ -8,7 +8,7 @@ use Rattle.sv_base.specs.declared.value.Value.{Value}
 use Rattle.bay_model.specs.declared.reply.Reply.TheVariants as replies
 use Rattle.bay_model.specs.declared.request.Service.TheVariants as services
 use Rattle.bay_model.specs.Singles.{writes_of}
-use Rattle.bay_core.specs.Asked.{AreMembersFit, AreWritten, IsAnswered, members_of, node_numbers}
+use Rattle.bay_core.specs.Asked.{AreMembersFit, AreWritten, IsAnswered, members_of, node_numbers, set_members}
 use Rattle.bay_core.specs.Commanded.{AreNoCommands}
 use Rattle.bay_core.specs.State.{State, AreServedSets}
 use Rattle.bay_core.proofs.AnswerLaws.{members-answered, members-fit, members-uncalled, no-set, other-count}
@@ -16,17 +16,17 @@ use Rattle.bay_core.proofs.bay.Bay.answer_set.Goals as goal
 
 pub returns-in_default-clause-answered : goal.returns-in_default-clause-answered
 returns-in_default-clause-answered c =
-    no-set c.args.self.now c.arrive.new.self c.args.moment c.args.a.0 c.arrive.ensures.stands c.args.domain.now c.args.item.now c.args.values.now (sym c.in_ok-nodes.ensures ∙ ap members_of c.in_default.is)
+    no-set c.args.self.now c.arrive.new.self c.args.moment c.args.a.0 c.arrive.ensures.stands c.args.domain.now c.args.item.now c.args.values.now (sym (c.in_ok-nodes.ensures ∙ ap (λ (t : State). set_members t.book c.args.domain.now c.args.item.now) c.self.view_is) ∙ ap members_of c.in_default.is)
 
 pub returns-then-len-clause-answered : goal.returns-then-len-clause-answered
 returns-then-len-clause-answered c =
-    let some = sym c.in_ok-nodes.ensures ∙ ap members_of c.in-Some.is in
+    let some = sym (c.in_ok-nodes.ensures ∙ ap (λ (t : State). set_members t.book c.args.domain.now c.args.item.now) c.self.view_is) ∙ ap members_of c.in-Some.is in
     let differs : (length c.in-Some.nodes.items == length (values_of c.args.values.now)) ≡ false = grind (arith, nat_tests, c.if-len.true, c.len.ensures, c.len-2.ensures, c.in-Some.nodes.ok) in
     other-count c.args.self.now c.arrive-then-len.new.self c.args.moment c.args.a.0 c.arrive-then-len.ensures.stands c.args.domain.now c.args.item.now c.args.values.now c.in-Some.nodes.items some differs
 
 pub answer_members-requires : goal.answer_members-requires
 answer_members-requires c =
-    let some = sym c.in_ok-nodes.ensures ∙ ap members_of c.in-Some.is in
+    let some = sym (c.in_ok-nodes.ensures ∙ ap (λ (t : State). set_members t.book c.args.domain.now c.args.item.now) c.self.view_is) ∙ ap members_of c.in-Some.is in
     let same : length c.in-Some.nodes.items ≡ length (values_of c.args.values.now) = omega (arith, c.if-len.false, c.len-2.ensures, c.len.ensures, c.as_slice.ensures.len, ap (λ (l : List NodeId). length l) c.as_slice.ensures.value) in
     let served = subst (λ (t : State). AreServedSets t.config t.book) c.self.view_is c.self.invariant.furnished.booked.served in
     record {
@@ -38,7 +38,7 @@ answer_members-requires c =
 
 pub returns-clause-answered : goal.returns-clause-answered
 returns-clause-answered c =
-    let some = sym c.in_ok-nodes.ensures ∙ ap members_of c.in-Some.is in
+    let some = sym (c.in_ok-nodes.ensures ∙ ap (λ (t : State). set_members t.book c.args.domain.now c.args.item.now) c.self.view_is) ∙ ap members_of c.in-Some.is in
     let same : length c.in-Some.nodes.items ≡ length (values_of c.args.values.now) = omega (arith, c.if-len.false, c.len-2.ensures, c.len.ensures, c.as_slice.ensures.len, ap (λ (l : List NodeId). length l) c.as_slice.ensures.value) in
     let z = c.args.self.now in
     let u = c.answer_members.new.self in

@@ -36,7 +36,7 @@ invariant_of-self-2 c =
     let d = c.args.definition in
     subst (λ (b : Book). IsWhole s.model s.values s.groups b s.parts.items c.reserve.new.self s.octets (vec_capacity s.changes) s.latest s.dues s.events s.associations.table) (sym c.define.ensures)
     (whole-defined s.model s.values s.groups s.sets d s.parts.items s.watch c.reserve.new.self s.octets (vec_capacity s.changes) s.latest s.dues s.events s.associations.table
-    (subst (λ (t : State). IsNewSet t.config t.book d) (sym c.self.view_is) c.requires) c.in_ok-reserve.ensures.kept c.in_ok-reserve.ensures.grown
+    (subst (λ (t : State). IsNewSet t.config t.book d) (sym c.self.view_is) c.requires) c.in-Ok.ensures.kept c.in-Ok.ensures.grown
     (subst (λ (rows : List NodeRow). (b : ℕ) → b < length s.watch.index.blocks → pairs (shapes_of rows d.nodes) ≤ (block_at c.reserve.new.self.index.blocks b).room) (c.as_slice.ensures ∙ c.nodes-2.ensures)
-    (subst (λ (ns : List NodeId). (b : ℕ) → b < length s.watch.index.blocks → pairs (shapes_of c.as_slice.result.now ns) ≤ (block_at c.reserve.new.self.index.blocks b).room) c.nodes.ensures c.in_ok-reserve.ensures.made))
+    (subst (λ (ns : List NodeId). (b : ℕ) → b < length s.watch.index.blocks → pairs (shapes_of c.as_slice.result.now ns) ≤ (block_at c.reserve.new.self.index.blocks b).room) c.nodes.ensures c.in-Ok.ensures.made))
     c.self.invariant)

@@ -1,8 +1,10 @@
-use Rattle.std.proofs.Common.{refl, suc, ap, ap₂, sym, ◌∷◌, length, subst, ◌∙◌, List, vec_capacity, arith}
+use Rattle.std.proofs.Common.{ℕ, refl, suc, ap, ap₂, sym, ◌∷◌, length, subst, ◌∙◌, List, vec_capacity, arith}
 use Rattle.bay_model.specs.declared.flags.Change.{Change}
 use Rattle.bay_model.specs.declared.step.Setting.{Setting}
+use Rattle.bay_model.specs.declared.tables.NodeRow.{NodeRow}
 use Rattle.bay_model.specs.declared.step.Step.TheVariants as steps
 use Rattle.object_model.specs.Fits.{fits}
+use Rattle.object_model.specs.Nodes.{node_rows}
 use Rattle.value_store.specs.Stored.{Stored, attribute}
 use Rattle.report_block.specs.declared.block.ReportBlock.{ReportBlock}
 use Rattle.bay_values.specs.Changed.{AreFit, AreMade, AreDistinct, AreTyped, last_set}
@@ -12,6 +14,7 @@ use Rattle.setting_groups.proofs.FrameLaws.{fit-values}
 use Rattle.touch_index.proofs.GatherLaws.{once_where_distinct}
 use Rattle.bay_core.specs.Events.{AreReady, after_events}
 use Rattle.bay_core.specs.State.{State, IsFurnished}
+use Rattle.bay_core.specs.Watched.{IsWatching}
 use Rattle.bay_model.specs.Answers.{points}
 use Rattle.bay_model.specs.Named.{configured_model}
 use Rattle.bay_model.specs.Singles.{arrival}
@@ -76,3 +79,23 @@ returns-clause-does c = λ c' h was.
           (c.count.ensures ∙ ap₂ (λ (ps : List ReportBlock) (g : Grouped). record { config = c.self.inside.model; steps = suc c.self.inside.steps; latest = c.self.inside.latest; stored = c.set.new.self; book = c.self.inside.sets; parts = ps; rows = c.self.inside.associations.rows; groups = g; controls = c.self.inside.associations.table }) parts (c.set_all.ensures ∙ ap (λ (l : List Setting). after_values l c.self.inside.groups) c.as_slice-2.ensures))
           was,
     )
+
+pub event_all-requires-clause-watching : goal.event_all-requires-clause-watching
+event_all-requires-clause-watching c =
+    let s = c.self.inside in
+    subst (λ (rows : List NodeRow). IsWatching rows s.sets (length c.store.result.now) s.parts.items s.watch) (sym (c.as_slice-3.ensures ∙ c.nodes.ensures))
+    (subst (λ (n : ℕ). IsWatching (node_rows s.model) s.sets n s.parts.items s.watch) (sym (ap (λ (l : List Stored). length l) c.store.ensures ∙ c.set.ensures.count)) c.self.invariant.furnished.watch)
+
+pub event_all-requires-clause-quiet : goal.event_all-requires-clause-quiet
+event_all-requires-clause-quiet c = c.self.invariant.quiet
+
+pub event_all-requires-clause-events : goal.event_all-requires-clause-events
+event_all-requires-clause-events c = c.self.invariant.roomy
+
+pub event_all-requires-clause-entry : goal.event_all-requires-clause-entry
+event_all-requires-clause-entry c = c.self.invariant.furnished.entry
+
+pub returns-clause-counted : goal.returns-clause-counted
+returns-clause-counted c =
+    let behind = c.self.view_is ∙ c.arrive.ensures.state in
+    (ap (λ (t : State). t.config) c.count.ensures ∙ ap (λ (t : State). t.config) behind, ap (λ (t : State). t.steps) c.count.ensures ∙ ap (λ (t : State). suc t.steps) behind)

@@ -50,6 +50,13 @@ report_of-requires-clause-nodes c =
     (at-place s.parts.items block c.index-part.result.now within c.index-part.ensures)).1 in
     subst (AreNodes s.model) (sym shapes) (shapes-there s.model s.sets c.self.invariant.furnished.booked.served c.index-part.result.now.block.options.dat_set)
 
+pub index_mut-requires : goal.index_mut-requires
+index_mut-requires c =
+    let within = subst (λ (ps : List ReportBlock). c.in-Some.offer.block < length ps) c.deref.ensures.value c.in-Some.ensures.within in
+    let stay = ap (λ (t : State). t.parts) (c.self-2.view_is ∙ (c.arrive-2.ensures.state ∙ (ap (at_arrival c.args.moment) c.self.view_is ∙ c.requires.quiet))) ∙ sym (ap (λ (t : State). t.parts) c.self.view_is) in
+    let below : c.in-Some.offer.block < length c.self-2.inside.parts.items = subst (λ (ps : List ReportBlock). c.in-Some.offer.block < length ps) (sym stay) within in
+    omega (arith, below, c.self-2.inside.parts.ok.0)
+
 pub invariant_of-self-3 : goal.invariant_of-self-3
 invariant_of-self-3 c =
     let s = c.self-2.inside in

@@ -12,6 +12,16 @@ use Rattle.bay_core.proofs.EndLaws.{opener-told, opener-fault, same-number-told}
 use Rattle.bay_core.proofs.WriteLaws.{is-at, wrote-for}
 use Rattle.bay_core.proofs.bay.Bay.write.Goals as goal
 
+pub write_at_arrival-answer-requires : goal.write_at_arrival-answer-requires
+write_at_arrival-answer-requires c = omega (
+  arith,
+  ap (λ (s : State). length s.parts) c.arrive.ensures.state,
+  arrived-count c.args.self.now c.args.moment,
+  ap (λ (s : State). length s.parts) c.self.view_is,
+  c.self.invariant.furnished.count,
+  subst (λ (s : State). c.args.b.0 < length s.config.blocks) (sym c.self.view_is) c.requires.block,
+)
+
 pub returns-clause-does : goal.returns-clause-does
 returns-clause-does c = λ c' h was.
     let st = subst (λ s. StandsFor s c' h) (sym c.self.view_is) was in
@@ -35,3 +45,10 @@ returns-clause-does c = λ c' h was.
     refl part.1 (c.write_at_arrival-answer.ensures.general part.0 part.1 c' (length h) c.args.moment past here) here was none
     (c.count.ensures ∙ ap (λ (s : State). record s { steps = suc s.steps }) (c.write_at_arrival-answer.ensures.written part.0 part.1)) in
     (ap answers.Wrote (c.write_at_arrival-answer.ensures.answer part.0 part.1) ∙ wrote.0, wrote.1)
+
+pub returns-clause-counted : goal.returns-clause-counted
+returns-clause-counted c =
+    let kept = c.write_at_arrival-answer.ensures.kept in (
+      ap (λ (s : State). s.config) c.count.ensures ∙ (kept.0 ∙ ap (λ (s : State). s.config) c.arrive.ensures.state),
+      ap (λ (s : State). s.steps) c.count.ensures ∙ ap suc (kept.1 ∙ ap (λ (s : State). s.steps) c.arrive.ensures.state),
+    )

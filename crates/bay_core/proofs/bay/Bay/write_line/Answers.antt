@@ -1,12 +1,15 @@
 use Rattle.std.proofs.Common.{◌<◌, ◌∙◌, ℕ, List, Ok, Err, length, ap, sym, subst, arith, vec_capacity}
 use Rattle.std.proofs.lemmas.List.{length-set}
 use Rattle.bay_model.specs.declared.flags.Change.{Change}
+use Rattle.bay_model.specs.declared.tables.NodeRow.{NodeRow}
+use Rattle.object_model.specs.Nodes.{node_rows}
 use Rattle.value_store.specs.Stored.{Stored, attribute, with_value}
 use Rattle.report_block.specs.declared.block.ReportBlock.{ReportBlock}
 use Rattle.bay_replies.specs.Given.{copies_from}
 use Rattle.bay_core.specs.Asked.{IsWrite}
 use Rattle.bay_core.specs.Events.{AreReady, after_events}
 use Rattle.bay_core.specs.State.{State, IsFurnished}
+use Rattle.bay_core.specs.Watched.{IsWatching}
 use Rattle.bay_core.proofs.SettingLaws.{are-ready, furnished-all, have-members}
 use Rattle.bay_core.proofs.SingleLaws.{attribute_comes, attribute-refused, attribute-set, one-held, own-at}
 use Rattle.bay_core.proofs.bay.Bay.write_line.Goals as goal
@@ -90,3 +93,38 @@ returns-clause-written c = λ a.
     (attribute-set z fit.servable fit.values x v there (own-at s.model s.values s.groups fit.values c.self.invariant.grouped.framed x below) (new c.event_all.new.parts.items) rows c.write.new.self c.write.new.changes.items a fit.booked.served
     (have-members s.model rows s.values s.sets s.parts.items s.watch s.octets (vec_capacity s.changes) (c.as_slice.ensures ∙ c.nodes.ensures) fit)
     c.requires.sound (sym c.in_default.is ∙ c.write.ensures.answer) c.in_default.ensures.set c.in_default.ensures.noted (ap new parts))
+
+pub event_all-requires-clause-watching : goal.event_all-requires-clause-watching
+event_all-requires-clause-watching c =
+    let s = c.self.inside in
+    subst (λ (rows : List NodeRow). IsWatching rows s.sets (length c.store.result.now) s.parts.items s.watch) (sym (c.as_slice.ensures ∙ c.nodes.ensures))
+    (subst (λ (n : ℕ). IsWatching (node_rows s.model) s.sets n s.parts.items s.watch) (sym (ap (λ (l : List Stored). length l) c.store.ensures ∙ (ap (λ (l : List Stored). length l) c.in_default.ensures.set ∙ length-set s.values c.args.attr.0 (with_value c.args.value.now (attribute s.values c.args.attr.0))))) c.self.invariant.furnished.watch)
+
+pub event_all-requires-clause-quiet : goal.event_all-requires-clause-quiet
+event_all-requires-clause-quiet c = c.self.invariant.quiet
+
+pub event_all-requires-clause-events : goal.event_all-requires-clause-events
+event_all-requires-clause-events c = c.self.invariant.roomy
+
+pub event_all-requires-clause-entry : goal.event_all-requires-clause-entry
+event_all-requires-clause-entry c = c.self.invariant.furnished.entry
+
+pub returns-in-Err-clause-kept : goal.returns-in-Err-clause-kept
+returns-in-Err-clause-kept c = record {
+  config = ap (λ (t : State). t.config) c.self.view_is;
+  steps = ap (λ (t : State). t.steps) c.self.view_is;
+  rows = ap (λ (t : State). t.rows) c.self.view_is;
+}
+
+pub returns-in-Err-clause-controls : goal.returns-in-Err-clause-controls
+returns-in-Err-clause-controls c = ap (λ (t : State). t.controls) c.self.view_is
+
+pub returns-clause-kept : goal.returns-clause-kept
+returns-clause-kept c = record {
+  config = ap (λ (t : State). t.config) c.self.view_is;
+  steps = ap (λ (t : State). t.steps) c.self.view_is;
+  rows = ap (λ (t : State). t.rows) c.self.view_is;
+}
+
+pub returns-clause-controls : goal.returns-clause-controls
+returns-clause-controls c = ap (λ (t : State). t.controls) c.self.view_is

@@ -20,14 +20,14 @@ loop-i-preserved c =
     let gotn = slice_get-get_or ns i (record { 0 = 0 }) c.loop-i-test.true in
     let gotv = at-place vs i v (omega (arith, c.loop-i-test.true, c.requires.fit.count)) c.index-values-i.is in
     let z = c.args.self.now in
-    let u = c.write_member-code.new.self in
+    let u = c.write_node-code.new.self in
     let singles = ap (λ k. writes_of (node_numbers (take k ns)) (take k vs)) (add-one i) ∙ members-more ns vs i n v gotn gotv in
     record {
-      kept = kept-on z c.loop-i.self u inv.kept c.write_member-code.ensures.kept;
+      kept = kept-on z c.loop-i.self u inv.kept c.write_node-code.ensures.kept;
       written = subst (λ (ss : List Single). AreWrites z u c.args.a.0 ss c.add_code.new.codes.items) (sym singles)
           (subst (λ (cs : List (Result (Unit {0}) ℕ)). AreWrites z u c.args.a.0 (writes_of (node_numbers (take i ns)) (take i vs) ++ writes n.0 v ∷ []) cs) (sym c.add_code.ensures.added)
-          (one-write-more z c.loop-i.self u c.args.a.0 (writes_of (node_numbers (take i ns)) (take i vs)) (writes n.0 v) c.loop-i.codes.items c.write_member-code.result inv.written c.write_member-code.ensures.written));
-      count = omega (arith, inv.count, ap (λ (cs : List (Result (Unit {0}) ℕ)). length cs) c.add_code.ensures.added, length-append c.loop-i.codes.items (c.write_member-code.result ∷ []));
+          (one-write-more z c.loop-i.self u c.args.a.0 (writes_of (node_numbers (take i ns)) (take i vs)) (writes n.0 v) c.loop-i.codes.items c.write_node-code.result inv.written c.write_node-code.ensures.written));
+      count = omega (arith, inv.count, ap (λ (cs : List (Result (Unit {0}) ℕ)). length cs) c.add_code.ensures.added, length-append c.loop-i.codes.items (c.write_node-code.result ∷ []));
       room = omega (arith, inv.room, c.add_code.ensures.room);
     }
 

@@ -1,8 +1,11 @@
-use Rattle.std.proofs.Common.{rules, ◌≡◌, ◌<◌, ◌∙◌, ℕ, List, Ok, Err, ap, ap₂, sym, subst, arith, vec_capacity}
+use Rattle.std.proofs.Common.{rules, ◌≡◌, ◌<◌, ◌∙◌, ℕ, List, Ok, Err, length, ap, ap₂, sym, subst, arith, vec_capacity}
+use Rattle.std.specs.List.{All}
+use Rattle.bay_model.specs.declared.tables.NodeRow.{NodeRow}
 use Rattle.bay_model.specs.Lookups.{groups_of}
 use Rattle.bay_model.specs.Named.{configured_model}
 use Rattle.bay_model.specs.Writes.{write_part}
 use Rattle.bay_model.specs.declared.flags.Change.{Change}
+use Rattle.object_model.specs.Nodes.{node_rows}
 use Rattle.value_store.specs.Stored.{Stored, attribute}
 use Rattle.report_block.specs.declared.block.ReportBlock.{ReportBlock}
 use Rattle.setting_groups.specs.Grouped.{Grouped}
@@ -14,6 +17,7 @@ use Rattle.bay_values.proofs.GroupLaws.{loadable}
 use Rattle.bay_core.specs.Asked.{IsWrite}
 use Rattle.bay_core.specs.Events.{AreReady, after_events}
 use Rattle.bay_core.specs.State.{State, IsFurnished}
+use Rattle.bay_core.specs.Watched.{IsWatching}
 use Rattle.bay_core.proofs.GroupLaws.{part-refused, part-quiet, part-set, fit-after, held-loaded}
 use Rattle.bay_core.proofs.SettingLaws.{are-ready, furnished-all, have-members}
 use Rattle.bay_core.proofs.bay.Bay.write_part.Goals as goal
@@ -121,3 +125,54 @@ returns-clause-written c =
     (part-set z fit.servable fit.values whole.grouped c.args.a.0 c.args.domain c.args.part c.args.value.now some (new c.event_all.new.parts.items c.write.new.self) rows c.load.new.self c.load.new.changes.items fit.booked.served
     (have-members s.model rows s.values s.sets s.parts.items s.watch s.octets (vec_capacity s.changes) (c.as_slice.ensures ∙ c.nodes.ensures) fit)
     (ap Ok (sym c.if-not-branch.false) ∙ c.in_ok-write.ensures.answer) set c.load.ensures.count made (ap₂ new parts c.in_ok-write.ensures.set))
+
+pub event_all-requires-clause-watching : goal.event_all-requires-clause-watching
+event_all-requires-clause-watching c =
+    let s = c.self.inside in
+    subst (λ (rows : List NodeRow). IsWatching rows s.sets (length c.store.result.now) s.parts.items s.watch) (sym (c.as_slice.ensures ∙ c.nodes.ensures))
+    (subst (λ (n : ℕ). IsWatching (node_rows s.model) s.sets n s.parts.items s.watch) (sym (ap (λ (l : List Stored). length l) c.store.ensures ∙ c.load.ensures.count)) c.self.invariant.furnished.watch)
+
+pub event_all-requires-clause-quiet : goal.event_all-requires-clause-quiet
+event_all-requires-clause-quiet c = c.self.invariant.quiet
+
+pub event_all-requires-clause-events : goal.event_all-requires-clause-events
+event_all-requires-clause-events c = c.self.invariant.roomy
+
+pub event_all-requires-clause-entry : goal.event_all-requires-clause-entry
+event_all-requires-clause-entry c = c.self.invariant.furnished.entry
+
+pub event_all-requires-clause-attrs : goal.event_all-requires-clause-attrs
+event_all-requires-clause-attrs c =
+    let s = c.self.inside in
+    subst (λ (n : ℕ). All (λ (ch : Change). ch.attr.0 < n) c.as_slice-2.result.now) (sym (ap (λ (l : List Stored). length l) c.store.ensures ∙ c.load.ensures.count))
+    (subst (All (λ (ch : Change). ch.attr.0 < length s.values)) (sym c.as_slice-2.ensures.value) c.load.ensures.within)
+
+pub returns-in_err-write-clause-kept : goal.returns-in_err-write-clause-kept
+returns-in_err-write-clause-kept c = record {
+  config = ap (λ (t : State). t.config) c.self.view_is;
+  steps = ap (λ (t : State). t.steps) c.self.view_is;
+  rows = ap (λ (t : State). t.rows) c.self.view_is;
+}
+
+pub returns-in_err-write-clause-controls : goal.returns-in_err-write-clause-controls
+returns-in_err-write-clause-controls c = ap (λ (t : State). t.controls) c.self.view_is
+
+pub returns-then-not-branch-clause-kept : goal.returns-then-not-branch-clause-kept
+returns-then-not-branch-clause-kept c = record {
+  config = ap (λ (t : State). t.config) c.self.view_is;
+  steps = ap (λ (t : State). t.steps) c.self.view_is;
+  rows = ap (λ (t : State). t.rows) c.self.view_is;
+}
+
+pub returns-then-not-branch-clause-controls : goal.returns-then-not-branch-clause-controls
+returns-then-not-branch-clause-controls c = ap (λ (t : State). t.controls) c.self.view_is
+
+pub returns-clause-kept : goal.returns-clause-kept
+returns-clause-kept c = record {
+  config = ap (λ (t : State). t.config) c.self.view_is;
+  steps = ap (λ (t : State). t.steps) c.self.view_is;
+  rows = ap (λ (t : State). t.rows) c.self.view_is;
+}
+
+pub returns-clause-controls : goal.returns-clause-controls
+returns-clause-controls c = ap (λ (t : State). t.controls) c.self.view_is
