@@ -430,6 +430,35 @@ gathered_is_noted bs b trg chs ms own is once =
     (λ j h. given_reasons b trg (touches_in bs) (attrs_from 1 ms j) j (λ x. met_of bs b x j ms own is) chs (λ k. no_reason) once ∙ more_none (reasons_in chs trg (attrs_from 1 ms j)))
     ∙ sym (noted_members chs trg 1 ms)))
 
+-- ---- a change in front of others
+
+no_reason_in : (trg : Trg) (xs : List AttrId) → reasons_in [] trg xs ≡ no_reason
+no_reason_in trg [] = refl
+no_reason_in trg (x ∷ xs) = ap (λ (s : Reasons). union no_reason s) (no_reason_in trg xs)
+
+pub noted_nothing : (trg : Trg) (i : ℕ) (ms : List MemberShape) → noted [] trg i ms ≡ []
+noted_nothing trg i [] = refl
+noted_nothing trg i (m ∷ ms) = ap (λ (r : Reasons). (if is_any r then here i r ∷ [] else []) ++ noted [] trg (suc i) ms) (no_reason_in trg m.attrs) ∙ noted_nothing trg (suc i) ms
+
+pub once_behind : (chs : List Change) (k : ℕ) (d : Change) → k < length chs → AreOnce chs → change_of (drop (suc k) chs) (get_or chs k d).attr ≡ None
+once_behind [] k d h once = absurd (omega (arith, h))
+once_behind (ch ∷ chs) zero d h once = once.0
+once_behind (ch ∷ chs) (suc k) d h once = once_behind chs k d (omega (arith, h)) once.1
+
+-- it is noted with them
+pub noted_in_front : (bs : List (Filled Touch)) (b : ℕ) (trg : Trg) (ch : Change) (chs : List Change) (ms : List MemberShape) → IsOwnedFrom 0 bs → IsSetOf bs b ms → change_of chs ch.attr ≡ None
+    → add_change b trg (touches_in bs) ch (noted chs trg 1 ms) ≡ noted (ch ∷ chs) trg 1 ms
+noted_in_front bs b trg ch chs ms own is none =
+    let f : ℕ → Reasons = λ j. reasons_in chs trg (attrs_from 1 ms j) in
+    let more : (j : ℕ) → given_all b (reasons_by trg ch) (of_attr ch.attr.0 (touches_in bs)) f j ≡ reasons_in (ch ∷ chs) trg (attrs_from 1 ms j) = λ j.
+        ap (λ c. cond c (union (f j) (reasons_by trg ch)) (f j)) (met_of bs b ch.attr.0 j ms own is)
+        ∙ (give_cond (holds ch.attr.0 (attrs_from 1 ms j)) (reasons_by trg ch) (f j)
+        ∙ (union_comm (f j) (gives_if (holds ch.attr.0 (attrs_from 1 ms j)) (reasons_by trg ch)) ∙ sym (reasons_more ch chs trg (attrs_from 1 ms j) none))) in
+    ap (add_change b trg (touches_in bs) ch) (noted_members chs trg 1 ms)
+    ∙ (change_noted b trg (touches_in bs) ch f 1 (length ms) (range_of bs b ch.attr.0 ms own is)
+    ∙ (noted_alike (given_all b (reasons_by trg ch) (of_attr ch.attr.0 (touches_in bs)) f) (λ j. reasons_in (ch ∷ chs) trg (attrs_from 1 ms j)) 1 (length ms) (λ j h. more j)
+    ∙ sym (noted_members (ch ∷ chs) trg 1 ms)))
+
 pub noted_few : (f : ℕ → Reasons) (i n : ℕ) → length (noted_by f i n) ≤ n
 noted_few f i zero = omega arith
 noted_few f i (suc n) = by (is_any (f i)) (noted_few f (suc i) n) where

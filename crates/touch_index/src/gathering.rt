@@ -53,8 +53,10 @@ impl Index {
         ensures noted { (b : ℕ) (members : List MemberShape) → b < length self.now.blocks → IsSetOf self.now.blocks b members → (note_at out.new.notes b).items ≡ noted changes.now (trg_at trgs.now b) 1 members }
     {
         let _ = &self.blocks;
-        for change in changes {
-            gather_change(*change, self.touched(change.attr), trgs, out);
+        // Steps give on what they set last first, and most set attributes in their order: so most members come behind the others.
+        for i in (0..changes.len()).rev() {
+            let change = changes[i];
+            gather_change(change, self.touched(change.attr), trgs, out);
         }
     }
 }
