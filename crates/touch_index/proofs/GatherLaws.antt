@@ -451,9 +451,9 @@ pub noted_in_front : (bs : List (Filled Touch)) (b : ℕ) (trg : Trg) (ch : Chan
 noted_in_front bs b trg ch chs ms own is none =
     let f : ℕ → Reasons = λ j. reasons_in chs trg (attrs_from 1 ms j) in
     let more : (j : ℕ) → given_all b (reasons_by trg ch) (of_attr ch.attr.0 (touches_in bs)) f j ≡ reasons_in (ch ∷ chs) trg (attrs_from 1 ms j) = λ j.
-        ap (λ c. cond c (union (f j) (reasons_by trg ch)) (f j)) (met_of bs b ch.attr.0 j ms own is)
-        ∙ (give_cond (holds ch.attr.0 (attrs_from 1 ms j)) (reasons_by trg ch) (f j)
-        ∙ (union_comm (f j) (gives_if (holds ch.attr.0 (attrs_from 1 ms j)) (reasons_by trg ch)) ∙ sym (reasons_more ch chs trg (attrs_from 1 ms j) none))) in
+    ap (λ c. cond c (union (f j) (reasons_by trg ch)) (f j)) (met_of bs b ch.attr.0 j ms own is)
+    ∙ (give_cond (holds ch.attr.0 (attrs_from 1 ms j)) (reasons_by trg ch) (f j)
+    ∙ (union_comm (f j) (gives_if (holds ch.attr.0 (attrs_from 1 ms j)) (reasons_by trg ch)) ∙ sym (reasons_more ch chs trg (attrs_from 1 ms j) none))) in
     ap (add_change b trg (touches_in bs) ch) (noted_members chs trg 1 ms)
     ∙ (change_noted b trg (touches_in bs) ch f 1 (length ms) (range_of bs b ch.attr.0 ms own is)
     ∙ (noted_alike (given_all b (reasons_by trg ch) (of_attr ch.attr.0 (touches_in bs)) f) (λ j. reasons_in (ch ∷ chs) trg (attrs_from 1 ms j)) 1 (length ms) (λ j h. more j)

@@ -1,4 +1,4 @@
-use Rattle.std.proofs.Common.{◌≡◌, ◌<◌, ◌≤◌, ◌+◌, ◌-◌, ◌∙◌, ℕ, suc, [], ◌∷◌, ap, ap₂, sym, refl, subst, arith, length, get_or, drop, false}
+use Rattle.std.proofs.Common.{◌≡◌, ◌<◌, ◌≤◌, ◌+◌, ◌-◌, ◌∙◌, ℕ, suc, ap, sym, refl, subst, arith, length, get_or, drop, false}
 use Rattle.std.specs.List.{All}
 use Rattle.std.proofs.lemmas.List.{drop_all, drop_more}
 use Rattle.bay_model.specs.declared.flags.Change.{Change}
@@ -66,5 +66,5 @@ loop-i-preserved c =
           let one : i + 1 ≡ suc i = omega arith in
           let none = ap (λ n. change_of (drop n changes) ch.attr) one ∙ once_behind changes i no_change below c.requires.once in
           next b h ∙ (ap (add_change b trg all ch) (c.loop-i.invariant.so_far b ms h is ∙ ap (λ l. noted l trg 1 ms) (sym behind))
-              ∙ (noted_in_front c.args.self.now.blocks b trg ch (drop (i + 1) changes) ms own is none ∙ ap (λ l. noted l trg 1 ms) (sym (drop_more changes i no_change below))));
+          ∙ (noted_in_front c.args.self.now.blocks b trg ch (drop (i + 1) changes) ms own is none ∙ ap (λ l. noted l trg 1 ms) (sym (drop_more changes i no_change below))));
     }
