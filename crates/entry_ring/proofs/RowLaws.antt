@@ -1,6 +1,7 @@
 -- Entries laid out in a circular room.
 use Rattle.std.proofs.Common.{◌≡◌, ◌≤◌, ◌<◌, ℕ, zero, suc, ◌+◌, ◌-◌, ◌*◌, List, [], ◌∷◌, ◌++◌, length, take, drop, refl, sym, ap, ◌∙◌, arith, inl, inr, length-append}
 use Rattle.std.specs.Prelude.{Option, Some, None, slice_get}
+use Rattle.std.specs.Option.{option_map}
 use Rattle.std.proofs.lemmas.Bool.Decides.{leb_tells}
 use Rattle.std.proofs.lemmas.List.{take-append-le, drop-append-le, length-drop, length-take, drop-drop, drop_all, take_all}
 use Rattle.entry_ring.specs.declared.room.Place.{Place}
@@ -108,3 +109,9 @@ pub found-none : (ps : List Place) (octets : List ℕ) (i : ℕ) → slice_get p
 found-none [] octets i is = refl
 found-none (p ∷ ps) octets zero is = cc
 found-none (p ∷ ps) octets (suc i) is = found-none ps (drop p.len octets) i is
+
+-- an entry came to be at the step that its place names
+pub steps_held : (ps : List Place) (octets : List ℕ) (i : ℕ) → option_map (λ (p : Place). p.step) (slice_get ps i) ≡ option_map (λ (e : Held). e.step) (slice_get (held_in ps octets) i)
+steps_held [] octets i = refl
+steps_held (p ∷ ps) octets zero = refl
+steps_held (p ∷ ps) octets (suc i) = steps_held ps (drop p.len octets) i

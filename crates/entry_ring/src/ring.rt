@@ -40,9 +40,10 @@ impl Model for Ring {
 }
 
 impl Ring {
-    ghost use Rattle.std.specs.Prelude.{◌≡◌, [], None, IfOk};
+    ghost use Rattle.std.specs.Prelude.{◌≡◌, ◌<◌, nat_lt, nat_le, ◌&&◌, true, [], None, IfOk};
     ghost use Rattle.std.specs.Option.{option_map};
     ghost use Rattle.entry_ring.specs.Entries.{held_of};
+    ghost use Rattle.entry_ring.specs.Held.{Held};
     ghost use Rattle.entry_ring.specs.Ringed.{after_entry, after_purge, entry_at};
 
     /// An empty buffer, with all the room for a capacity in octets, 1 to 1048576.
@@ -105,14 +106,32 @@ impl Ring {
         self.room.clear();
     }
 
+    /// The entry of a number is retained.
+    fn is_retained(&self, n: u64) -> bool
+        ensures is { result ≡ (nat_lt self.now.front n && nat_le n self.now.newest) }
+        ensures above { result ≡ true → self.now.front < n }
+    {
+        self.front() < n && n <= self.newest
+    }
+
     /// A retained entry by its number; none exactly where no entry of that number is retained.
     pub fn entry(&self, n: u64) -> Option<Entry<'_>>
         ensures { option_map held_of result ≡ entry_at self.now n }
     {
-        let front = self.front();
-        if n <= front || self.newest < n {
+        if !self.is_retained(n) {
             return None;
         }
-        self.room.get((n - front - 1) as usize)
+        self.room.get((n - self.front() - 1) as usize)
+    }
+
+    /// The number of the step at which a retained entry came to be, by the entry's number; none exactly where no entry of that number
+    /// is retained.
+    pub fn step_of(&self, n: u64) -> Option<u64>
+        ensures { result ≡ option_map (λ (e : Held). e.step) (entry_at self.now n) }
+    {
+        if !self.is_retained(n) {
+            return None;
+        }
+        self.room.step_at((n - self.front() - 1) as usize)
     }
 }

@@ -45,7 +45,7 @@ impl Model for Room {
 impl Room {
     ghost use Rattle.std.specs.Prelude.{◌≡◌, ◌≤◌, ◌+◌, ◌++◌, ◌∷◌, [], length, drop, slice_get, IfOk};
     ghost use Rattle.std.specs.Option.{option_map};
-    ghost use Rattle.entry_ring.specs.Held.{sizes};
+    ghost use Rattle.entry_ring.specs.Held.{Held, sizes};
     ghost use Rattle.entry_ring.specs.Entries.{held_of};
 
     /// No entry, and room for a capacity in octets.
@@ -124,6 +124,17 @@ impl Room {
         self.octets.extend_from_slice(kept);
         self.end = behind(self.capacity, self.end, kept.len());
         self.total += OVERHEAD + kept.len();
+    }
+
+    /// The number of the step at which the entry at a place came to be, counted from the oldest.
+    #[tactic(auto, using(crate::proofs::RowLaws::steps_held))]
+    pub fn step_at(&self, i: usize) -> Option<u64>
+        ensures { result ≡ option_map (λ (e : Held). e.step) (slice_get self.now.entries i) }
+    {
+        match self.places.get(i) {
+            Some(place) => Some(place.step),
+            None => None,
+        }
     }
 
     /// The entry at a place, counted from the oldest.
