@@ -1,7 +1,6 @@
 -- The first of the offers of blocks, block by block.
 use Rattle.std.proofs.Common.{◌≡◌, ◌≤◌, ◌<◌, ◌+◌, ℕ, suc, Bool, true, false, List, ◌∷◌, length, drop, get_or, refl, sym, ap, ◌∙◌, arith, inl, inr}
 use Rattle.std.specs.Prelude.{nat_le, Option, None, Some}
-use Rattle.std.specs.Option.{option_map_or}
 use Rattle.std.proofs.lemmas.Bool.Decides.{leb_tells}
 use Rattle.std.proofs.lemmas.List.{drop_more}
 use Rattle.sv_base.specs.declared.numbers.AssocNo.{AssocNo}
@@ -11,18 +10,6 @@ use Rattle.report_block.specs.Offers.{Offered, offered_by, earlier, first_offere
 pub earlier_none : (x : Option Offered) → earlier x None ≡ x
 earlier_none None = refl
 earlier_none (Some x) = refl
-
--- the offer that was found before came to be no later than y
-abbrev pub is_no_later : Option Offered → Offered → Bool
-is_no_later x y = option_map_or (λ (o : Offered). nat_le o.entry.step y.entry.step) x false
-
-pub earlier_stays : (x : Option Offered) (y : Offered) → is_no_later x y ≡ true → earlier x (Some y) ≡ x
-earlier_stays None y is = cc
-earlier_stays (Some x) y is = rw is refl
-
-pub earlier_goes : (x : Option Offered) (y : Offered) → is_no_later x y ≡ false → earlier x (Some y) ≡ Some y
-earlier_goes None y is = refl
-earlier_goes (Some x) y is = rw is refl
 
 le_when : (m n : ℕ) → nat_le m n ≡ true → m ≤ n
 le_when m n is = elim (leb_tells m n) [ inl t ↦ t.1 | inr t ↦ let not : true ≡ false = sym is ∙ t.0 in cc ]

@@ -1,6 +1,6 @@
 -- Which entry is reported next to an association: of the next entries of the blocks that it has enabled the one that came to
 -- be at the earliest step, at a tie that of the lowest block (the order among blocks is this profile's own).
-use Rattle.std.specs.Prelude.{ℕ, suc, nat_le, List, [], ◌∷◌, Option, None, Some, if◌then◌else◌}
+use Rattle.std.specs.Prelude.{ℕ, suc, nat_le, Bool, false, List, [], ◌∷◌, Option, None, Some, if◌then◌else◌}
 use Rattle.std.specs.Option.{option_map, option_and_then}
 use Rattle.sv_base.specs.declared.numbers.AssocNo.{AssocNo}
 use Rattle.bay_model.specs.Reports.{Offer}
@@ -23,6 +23,11 @@ retained_of part = record { front = part.ring.front; len = part.ring.newest }
 
 abbrev pub offered_by : AssocNo → ℕ → ReportBlock → Option Offered
 offered_by a b part = option_and_then (λ (n : Next). option_map (λ (e : Held). record { block = b; next = n; entry = e }) (entry_at part.ring n.id)) (next_to a (retained_of part) part.block)
+
+-- it came to be no later than at a step
+abbrev pub no_later : Option Offered → ℕ → Bool
+no_later None step = false
+no_later (Some x) step = nat_le x.entry.step step
 
 abbrev pub earlier : Option Offered → Option Offered → Option Offered
 earlier None y = y

@@ -1,14 +1,14 @@
 //! Which entry is reported next, and its report (IEC 61850-7-2, the Report service).
 
-ghost use Rattle.std.specs.Prelude.{◌≡◌, ◌<◌, ◌≤◌, ◌+◌, ◌++◌, nat_le, false, List, map, length, vec_capacity, IfOk, IfSome};
-ghost use Rattle.std.specs.Option.{option_map, option_map_or};
+ghost use Rattle.std.specs.Prelude.{◌≡◌, ◌<◌, ◌≤◌, ◌+◌, ◌++◌, ℕ, List, map, length, vec_capacity, IfOk, IfSome, if◌then◌else◌};
+ghost use Rattle.std.specs.Option.{option_map};
 ghost use Rattle.bay_model.specs.Named.{configured_model};
 ghost use Rattle.bay_model.specs.Model.{Model as Bay};
 ghost use Rattle.bay_model.specs.Notes.{Kept};
 ghost use Rattle.bay_model.specs.Reports.{member_of};
 ghost use Rattle.set_view.specs.Shapes.{node_numbers};
 ghost use Rattle.report_block.specs.Again.{AreKept, AreNodes, reported};
-ghost use Rattle.report_block.specs.Offers.{Offered, offered_by, first_offered};
+ghost use Rattle.report_block.specs.Offers.{offered_by, no_later, earlier, first_offered};
 ghost use Rattle.report_block.specs.Reporting.{AreTextsOf, offered, report_by};
 
 use crate::block::ReportBlock;
@@ -46,10 +46,23 @@ fn offer_of<'a>(part: &'a ReportBlock, block: usize, a: AssocNo) -> Option<Offer
 
 /// An offer was found, and its entry came to be no later than at a step.
 fn is_no_later(found: &Option<Offer<'_>>, step: u64) -> bool
-    ensures { result ≡ option_map_or (λ (o : Offered). nat_le o.entry.step step) (option_map offered found.now) false }
+    ensures { result ≡ no_later (option_map offered found.now) step }
 {
     match found {
         Some(one) => one.entry.step <= step,
+        None => false,
+    }
+}
+
+/// The next entry of a block comes before the offer that was found. Its octets are not looked at.
+fn comes_before(part: &ReportBlock, a: AssocNo, found: &Option<Offer<'_>>) -> bool
+    ensures first { (b : ℕ) → earlier (option_map offered found.now) (offered_by a b part.now) ≡ (if result then offered_by a b part.now else option_map offered found.now) }
+{
+    let Some(next) = part.block.next(a, part.retained()) else {
+        return false;
+    };
+    match part.ring.step_of(next.id) {
+        Some(step) => !is_no_later(found, step),
         None => false,
     }
 }
@@ -62,10 +75,9 @@ pub fn first_offer<'a>(parts: &'a [ReportBlock], a: AssocNo) -> Option<Offer<'a>
 {
     let mut found = None;
     for block in 0..parts.len() {
-        if let Some(next) = offer_of(&parts[block], block, a) {
-            if !is_no_later(&found, next.entry.step) {
-                found = Some(next);
-            }
+        let part = &parts[block];
+        if comes_before(part, a, &found) {
+            found = offer_of(part, block, a);
         }
     }
     found
