@@ -1,7 +1,7 @@
 //! What the next line tells.
 
-ghost use Rattle.std.specs.Prelude.{◌≡◌, ◌<◌, Ok, length, IfOk};
-ghost use Rattle.text_words.specs.Words.{texts};
+ghost use Rattle.std.specs.Prelude.{◌≡◌, ◌<◌, Ok, length, IfOk, OnOk};
+ghost use Rattle.text_words.specs.Words.{texts, words_of};
 ghost use Rattle.cfg_parser.specs.Reader.{Gives};
 ghost use Rattle.cfg_lines.specs.declared.line.Line.TheVariants.{Server};
 ghost use Rattle.cfg_parser.specs.Judging.{content_at, keyed_at, known_at, tell_at, skip_at, line_at};
@@ -15,8 +15,8 @@ use crate::judging::{counts, has_empty, has_long, has_many, is_full, may_stand};
 use crate::keyword::{Keyword, keyword_of};
 use cfg_lines::Line;
 use cfg_reading::Reading;
-use std::alloc::Global;
-use text_words::{are_printable, is_skipped, owned, parts_of};
+use std::alloc::{AllocError, Global};
+use text_words::{are_printable, is_skipped, owned};
 
 /// `server` and its words.
 fn server_line(
@@ -39,6 +39,7 @@ fn server_line(
 fn content(
     alloc: Global,
     before: &Reading,
+    room: &mut Vec<u8>,
     keyword: Keyword,
     words: &[&[u8]],
 ) -> Result<Line, LineFault>
@@ -52,7 +53,7 @@ fn content(
         (Keyword::Ld, [name]) => domain_line(alloc, before, name),
         (Keyword::Ln, [name]) => node_line(alloc, before, name),
         (Keyword::Attr, [fc, path, kind, flags, values @ ..]) => {
-            attribute_line(alloc, before, fc, path, kind, flags, values)
+            attribute_line(alloc, before, room, fc, path, kind, flags, values)
         }
         (Keyword::Set, [name]) => set_line(alloc, before, name),
         (Keyword::Member, [reference]) => member_line(alloc, reference),
@@ -98,6 +99,7 @@ fn content(
 fn keyed(
     alloc: Global,
     before: &Reading,
+    room: &mut Vec<u8>,
     keyword: Keyword,
     words: &[&[u8]],
 ) -> Result<Line, LineFault>
@@ -113,12 +115,18 @@ fn keyed(
     if is_full(before) || has_many(before, keyword, words) {
         return Err(LineFault::Refused(Kind::Many));
     }
-    content(alloc, before, keyword, words)
+    content(alloc, before, room, keyword, words)
 }
 
 /// A line of words.
 #[tactic(auto, unfolding(crate::specs::Judging::tell_at))]
-fn tell(alloc: Global, before: &Reading, text: &[u8], words: &[&[u8]]) -> Result<Line, LineFault>
+fn tell(
+    alloc: Global,
+    before: &Reading,
+    room: &mut Vec<u8>,
+    text: &[u8],
+    words: &[&[u8]],
+) -> Result<Line, LineFault>
     ensures told { Gives result (tell_at before.now text.now (texts words.now)) }
     ensures room { IfOk result (λ _. length before.now < 20000) }
 {
@@ -133,7 +141,7 @@ fn tell(alloc: Global, before: &Reading, text: &[u8], words: &[&[u8]]) -> Result
         return Err(LineFault::Refused(Kind::Word));
     }
     match keyword {
-        Some(keyword) => keyed(alloc, before, keyword, words),
+        Some(keyword) => keyed(alloc, before, room, keyword, words),
         None => Err(LineFault::Refused(Kind::Word)),
     }
 }
@@ -153,9 +161,30 @@ fn skip(before: &Reading, text: &[u8]) -> Result<Line, LineFault>
     Ok(Line::Skip)
 }
 
+/// Makes a room hold the words of a line.
+fn put_words<'a>(words: &mut Vec<&'a [u8]>, text: &'a [u8]) -> Result<(), AllocError>
+    ensures { OnOk result (texts words.new.items ≡ words_of text.now) }
+{
+    words.clear();
+    words.extend(text.split(|octet| *octet == b' '))
+}
+
+/// Rooms that the lines of a text use in turn.
+#[derive(Drop)]
+pub struct Rooms<'a> {
+    pub words: Vec<&'a [u8]>,
+    /// A reference is joined here.
+    pub key: Vec<u8>,
+}
+
 /// What the next line tells.
 #[tactic(auto, unfolding(crate::specs::Judging::line_at))]
-pub fn line(alloc: Global, before: &Reading, text: &[u8]) -> Result<Line, LineFault>
+pub fn line<'a>(
+    alloc: Global,
+    before: &Reading,
+    rooms: &mut Rooms<'a>,
+    text: &'a [u8],
+) -> Result<Line, LineFault>
     ensures told { Gives result (line_at before.now text.now) }
     ensures room { IfOk result (λ _. length before.now < 20000) }
 {
@@ -165,6 +194,6 @@ pub fn line(alloc: Global, before: &Reading, text: &[u8]) -> Result<Line, LineFa
     if is_skipped(text) {
         return skip(before, text);
     }
-    let words = parts_of(alloc, text, b' ')?;
-    tell(alloc, before, text, &words)
+    put_words(&mut rooms.words, text)?;
+    tell(alloc, before, &mut rooms.key, text, &rooms.words)
 }
