@@ -6,7 +6,7 @@ ghost use Rattle.cfg_parser.specs.Reader.{GivesText};
 ghost use Rattle.cfg_parser.specs.Text.{lines_at, ended_at, next_at, fault_at};
 
 use crate::fault::{CfgFault, Kind, LineFault};
-use crate::telling::{self, Rooms};
+use crate::telling;
 use cfg_lines::Place;
 use cfg_reading::Reading;
 use memchr::memchr;
@@ -44,15 +44,15 @@ fn at_line(number: u32, fault: LineFault) -> CfgFault
 }
 
 /// With what the next line tells.
-fn read_line<'a>(
+fn read_line(
     alloc: Global,
     reading: Reading,
-    rooms: &mut Rooms<'a>,
-    text: &'a [u8],
+    room: &mut Vec<u8>,
+    text: &[u8],
 ) -> Result<Reading, CfgFault>
     ensures { GivesText result (next_at reading text.now) }
 {
-    match telling::line(alloc, &reading, rooms, text) {
+    match telling::line(alloc, &reading, room, text) {
         Ok(line) => {
             let reading = reading.with(alloc, line)?;
             Ok(reading)
@@ -70,13 +70,10 @@ pub fn read_lines(alloc: Global, text: &[u8]) -> Result<Reading, CfgFault>
     ensures { GivesText result (lines_at text.now) }
 {
     let mut reading = Reading::new(alloc);
-    let mut rooms = Rooms {
-        words: Vec::new(alloc),
-        key: Vec::new(alloc),
-    };
+    let mut room = Vec::new(alloc);
     let mut rest = text;
     while let Some((line, after)) = split_line(rest) {
-        match read_line(alloc, reading, &mut rooms, line) {
+        match read_line(alloc, reading, &mut room, line) {
             Ok(next) => reading = next,
             Err(fault) => return Err(fault),
         }

@@ -1,7 +1,7 @@
 //! What the next line tells.
 
-ghost use Rattle.std.specs.Prelude.{◌≡◌, ◌<◌, Ok, length, IfOk, OnOk};
-ghost use Rattle.text_words.specs.Words.{texts, words_of};
+ghost use Rattle.std.specs.Prelude.{◌≡◌, ◌<◌, Ok, length, IfOk};
+ghost use Rattle.text_words.specs.Words.{texts};
 ghost use Rattle.cfg_parser.specs.Reader.{Gives};
 ghost use Rattle.cfg_lines.specs.declared.line.Line.TheVariants.{Server};
 ghost use Rattle.cfg_parser.specs.Judging.{content_at, keyed_at, known_at, tell_at, skip_at, line_at};
@@ -15,8 +15,8 @@ use crate::judging::{counts, has_empty, has_long, has_many, is_full, may_stand};
 use crate::keyword::{Keyword, keyword_of};
 use cfg_lines::Line;
 use cfg_reading::Reading;
-use std::alloc::{AllocError, Global};
-use text_words::{are_printable, is_skipped, owned};
+use std::alloc::Global;
+use text_words::{are_printable, is_skipped, owned, parts_of};
 
 /// `server` and its words.
 fn server_line(
@@ -161,29 +161,13 @@ fn skip(before: &Reading, text: &[u8]) -> Result<Line, LineFault>
     Ok(Line::Skip)
 }
 
-/// Makes a room hold the words of a line.
-fn put_words<'a>(words: &mut Vec<&'a [u8]>, text: &'a [u8]) -> Result<(), AllocError>
-    ensures { OnOk result (texts words.new.items ≡ words_of text.now) }
-{
-    words.clear();
-    words.extend(text.split(|octet| *octet == b' '))
-}
-
-/// Rooms that the lines of a text use in turn.
-#[derive(Drop)]
-pub struct Rooms<'a> {
-    pub words: Vec<&'a [u8]>,
-    /// A reference is joined here.
-    pub key: Vec<u8>,
-}
-
 /// What the next line tells.
 #[tactic(auto, unfolding(crate::specs::Judging::line_at))]
-pub fn line<'a>(
+pub fn line(
     alloc: Global,
     before: &Reading,
-    rooms: &mut Rooms<'a>,
-    text: &'a [u8],
+    room: &mut Vec<u8>,
+    text: &[u8],
 ) -> Result<Line, LineFault>
     ensures told { Gives result (line_at before.now text.now) }
     ensures room { IfOk result (λ _. length before.now < 20000) }
@@ -194,6 +178,6 @@ pub fn line<'a>(
     if is_skipped(text) {
         return skip(before, text);
     }
-    put_words(&mut rooms.words, text)?;
-    tell(alloc, before, &mut rooms.key, text, &rooms.words)
+    let words = parts_of(alloc, text, b' ')?;
+    tell(alloc, before, room, text, &words)
 }
