@@ -3,3 +3,4 @@ pub mod IndexLaws
 pub mod PartLaws
 pub mod OctetLaws
 pub mod PartNameLaws
+pub mod PresenceLaws

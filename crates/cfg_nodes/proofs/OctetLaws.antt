@@ -1,11 +1,10 @@
 -- The octets of a node by those of its parts.
-use Rattle.std.proofs.Common.{◌≡◌, ◌≢◌, ℕ, zero, suc, ◌+◌, ◌-◌, ◌<◌, ◌≤◌, List, [], ◌∷◌, length, map, take, get_or, Option, None, Some, unwrap_or, refl, sym, ap, ap₂, ◌∙◌, arith}
-use Rattle.std.specs.Prelude.{Vec}
-use Rattle.std.specs.declared.alloc.Global.{Global}
+use Rattle.std.proofs.Common.{◌≡◌, ◌≢◌, ℕ, zero, suc, ◌+◌, ◌-◌, ◌<◌, ◌≤◌, List, [], ◌∷◌, length, take, get_or, Option, None, Some, unwrap_or, refl, sym, ap, ap₂, ◌∙◌, arith}
+use Rattle.std.specs.Borrow.{Bor}
 use Rattle.std.specs.List.{sum_by}
 use Rattle.std.proofs.lemmas.List.Sums.{sum_by-cons, sum_by_more, sum_by_more_le}
 use Rattle.std.proofs.lemmas.Bool.Decides.{nat_tests}
-use Rattle.cfg_lines.specs.Keys as taken
+use Rattle.text_words.specs.Words.{texts}
 use Rattle.cfg_lines.specs.Sizes.{element_octets, octets_of}
 use Rattle.cfg_nodes.specs.Indexed.{capped}
 
@@ -18,9 +17,9 @@ capped_large n lt = grind (arith, nat_tests)
 pub capped_within : (n : ℕ) → capped n ≤ 501
 capped_within n = grind (arith, nat_tests)
 
-sum_items : (f : List ℕ → ℕ) (items : List (Vec ℕ Global)) → sum_by f (map taken.octets_of items) ≡ sum_by (λ v. f v.items) items
+sum_items : (f : List ℕ → ℕ) (items : List (Bor (List ℕ))) → sum_by f (texts items) ≡ sum_by (λ v. f v.now) items
 sum_items f [] = refl
-sum_items f (v ∷ items) = sum_by-cons f v.items (map taken.octets_of items) ∙ (ap (λ n. f v.items + n) (sum_items f items) ∙ sym (sum_by-cons (λ v. f v.items) v items))
+sum_items f (v ∷ items) = sum_by-cons f v.now (texts items) ∙ (ap (λ n. f v.now + n) (sum_items f items) ∙ sym (sum_by-cons (λ v. f v.now) v items))
 
 sum_same : {X : Type 0} (f g : X → ℕ) → ((x : X) → f x ≡ g x) → (xs : List X) → sum_by f xs ≡ sum_by g xs
 sum_same f g each [] = refl
@@ -42,10 +41,10 @@ module _ (leaf : List ℕ → Option ℕ) (parts : List ℕ → List (List ℕ))
   leaf_found zero n some is = absurd (some refl)
   leaf_found (suc depth) n some is = ap (λ r. unwrap_or r (element_octets (sum_by (λ part. octets_of depth leaf parts part) (parts node)))) is
 
-  abbrev pub sum_below : ℕ → List (Vec ℕ Global) → ℕ
-  sum_below depth items = sum_by (λ v. octets_of depth leaf parts v.items) items
+  abbrev pub sum_below : ℕ → List (Bor (List ℕ)) → ℕ
+  sum_below depth items = sum_by (λ v. octets_of depth leaf parts v.now) items
 
-  pub structure_found : (depth : ℕ) (items : List (Vec ℕ Global)) → depth ≢ 0 → leaf node ≡ None → map taken.octets_of items ≡ parts node → octets_of depth leaf parts node ≡ element_octets (sum_below (depth - 1) items)
+  pub structure_found : (depth : ℕ) (items : List (Bor (List ℕ))) → depth ≢ 0 → leaf node ≡ None → texts items ≡ parts node → octets_of depth leaf parts node ≡ element_octets (sum_below (depth - 1) items)
   unfolding octets_of
   structure_found zero items some none are = absurd (some refl)
   structure_found (suc depth) items some none are =
@@ -56,17 +55,17 @@ module _ (leaf : List ℕ → Option ℕ) (parts : List ℕ → List (List ℕ))
       ∙ sym (ap (λ d. element_octets (sum_below d items)) same)))
 
   -- the sum is above 500 with a part
-  pub structure_large : (depth sum part i : ℕ) (items : List (Vec ℕ Global)) (d : Vec ℕ Global) → depth ≢ 0 → leaf node ≡ None → map taken.octets_of items ≡ parts node → i < length items
-      → sum ≡ sum_below (depth - 1) (take i items) → part ≡ capped (octets_of (depth - 1) leaf parts (get_or items i d).items) → 500 < sum + part → 500 < octets_of depth leaf parts node
-  structure_large depth sum part i items d some none are lt is given over = omega (arith, structure_found depth items some none are, le, sum_by_more_le (λ v. octets_of (depth - 1) leaf parts v.items) items i d lt, is, given, over)
+  pub structure_large : (depth sum part i : ℕ) (items : List (Bor (List ℕ))) (d : Bor (List ℕ)) → depth ≢ 0 → leaf node ≡ None → texts items ≡ parts node → i < length items
+      → sum ≡ sum_below (depth - 1) (take i items) → part ≡ capped (octets_of (depth - 1) leaf parts (get_or items i d).now) → 500 < sum + part → 500 < octets_of depth leaf parts node
+  structure_large depth sum part i items d some none are lt is given over = omega (arith, structure_found depth items some none are, le, sum_by_more_le (λ v. octets_of (depth - 1) leaf parts v.now) items i d lt, is, given, over)
     where
-      le : part ≤ octets_of (depth - 1) leaf parts (get_or items i d).items
+      le : part ≤ octets_of (depth - 1) leaf parts (get_or items i d).now
       le = grind (arith, nat_tests, given)
 
   -- the sum with a part that is at most 500
-  pub structure_more : (depth sum part i : ℕ) (items : List (Vec ℕ Global)) (d : Vec ℕ Global) → i < length items
-      → sum ≡ sum_below (depth - 1) (take i items) → part ≡ capped (octets_of (depth - 1) leaf parts (get_or items i d).items) → sum + part ≤ 500 → sum + part ≡ sum_below (depth - 1) (take (i + 1) items)
+  pub structure_more : (depth sum part i : ℕ) (items : List (Bor (List ℕ))) (d : Bor (List ℕ)) → i < length items
+      → sum ≡ sum_below (depth - 1) (take i items) → part ≡ capped (octets_of (depth - 1) leaf parts (get_or items i d).now) → sum + part ≤ 500 → sum + part ≡ sum_below (depth - 1) (take (i + 1) items)
   structure_more depth sum part i items d lt is given few =
-      let small : capped (octets_of (depth - 1) leaf parts (get_or items i d).items) ≤ 500 = omega (arith, given, few) in
-      let exact : part ≡ octets_of (depth - 1) leaf parts (get_or items i d).items = given ∙ capped_small _ small in
-      omega (arith, sum_by_more (λ v. octets_of (depth - 1) leaf parts v.items) items i d lt, is, exact)
+      let small : capped (octets_of (depth - 1) leaf parts (get_or items i d).now) ≤ 500 = omega (arith, given, few) in
+      let exact : part ≡ octets_of (depth - 1) leaf parts (get_or items i d).now = given ∙ capped_small _ small in
+      omega (arith, sum_by_more (λ v. octets_of (depth - 1) leaf parts v.now) items i d lt, is, exact)

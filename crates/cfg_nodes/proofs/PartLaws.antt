@@ -1,7 +1,6 @@
 -- What is directly below structures, with one more.
 use Rattle.std.proofs.Common.{◌≡◌, ℕ, zero, suc, ◌+◌, ◌<◌, Bool, true, false, cond, not, List, [], ◌∷◌, ◌++◌, length, take, get_or, slice_get, position, fold, map, Option, None, Some, is_some, unwrap_or, refl, sym, ap, subst, ◌∙◌, true≢false, nat_lt, arith}
-use Rattle.std.specs.Prelude.{Vec}
-use Rattle.std.specs.declared.alloc.Global.{Global}
+use Rattle.std.specs.Borrow.{Bor}
 use Rattle.std.specs.List.{position_or_len}
 use Rattle.std.specs.Option.{option_map}
 use Rattle.std.specs.Map.{lookup, keys_of, values_of}
@@ -17,16 +16,16 @@ use Rattle.cfg_nodes.specs.Indexed.{IsAt, parts_at}
 use Rattle.cfg_lines.proofs.PathLaws.{bytes_eq-turned}
 
 abbrev Key : Type 0
-Key = Vec ℕ Global
+Key = Bor (List ℕ)
 
 abbrev Entry : Type 0
 Entry = Key × List (List ℕ)
 
 abbrev is_key : List ℕ → Key → Bool
-is_key node k = bytes_eq node k.items
+is_key node k = bytes_eq node k.now
 
 abbrev same : Key → Key → Bool
-same a b = bytes_eq a.items b.items
+same a b = bytes_eq a.now b.now
 
 -- the first place, one further where the head does not pass
 place : (b : Bool) (m n : ℕ) → cond (nat_lt (cond (not b) (1 + m) 0) (suc n)) (Some (cond (not b) (1 + m) 0)) None ≡ cond b (Some 0) (option_map (λ i. i + 1) (cond (nat_lt m n) (Some m) None))
@@ -51,20 +50,20 @@ at-position node (e ∷ es) i h = by (is_key node e.0) (position (is_key node) (
     by false (Some j) q p k rest = let last : i ≡ j + 1 = cc in let next : suc j ≡ i = omega (arith, last) in subst (IsAt node (e ∷ es)) next (q, rest j p)
 
 -- a node that wasn't there stands last, without parts
-pub at-new : (es : List Entry) (key : Key) → is_some (lookup (is_key key.items) es) ≡ false → IsAt key.items (insert_entry same es key []) (position_or_len (same key) (keys_of es))
-at-new [] key h = (bytes_eq-Decides key.items key.items).1 refl
+pub at-new : (es : List Entry) (key : Key) → is_some (lookup (is_key key.now) es) ≡ false → IsAt key.now (insert_entry same es key []) (position_or_len (same key) (keys_of es))
+at-new [] key h = (bytes_eq-Decides key.now key.now).1 refl
 at-new (e ∷ es) key h = by (same key e.0) refl (λ absent. at-new es key absent)
   where
-    by : (b : Bool) → same key e.0 ≡ b → (is_some (lookup (is_key key.items) es) ≡ false → IsAt key.items (insert_entry same es key []) (position_or_len (same key) (keys_of es))) → IsAt key.items (insert_entry same (e ∷ es) key []) (position_or_len (same key) (keys_of (e ∷ es)))
-    by true q go = absurd (true≢false (sym (ap (λ b. is_some (cond b (Some e.1) (lookup (is_key key.items) es))) q) ∙ h))
+    by : (b : Bool) → same key e.0 ≡ b → (is_some (lookup (is_key key.now) es) ≡ false → IsAt key.now (insert_entry same es key []) (position_or_len (same key) (keys_of es))) → IsAt key.now (insert_entry same (e ∷ es) key []) (position_or_len (same key) (keys_of (e ∷ es)))
+    by true q go = absurd (true≢false (sym (ap (λ b. is_some (cond b (Some e.1) (lookup (is_key key.now) es))) q) ∙ h))
     by false q go =
         let next : suc (position_or_len (same key) (keys_of es)) ≡ 1 + position_or_len (same key) (keys_of es) = omega arith in
-        let rest = go (sym (ap (λ b. is_some (cond b (Some e.1) (lookup (is_key key.items) es))) q) ∙ h) in
-        subst (λ b. IsAt key.items (cond b ((e.0, []) ∷ es) (e ∷ insert_entry same es key [])) (cond (not b) (1 + position_or_len (same key) (keys_of es)) 0)) (sym q)
-        (subst (IsAt key.items (e ∷ insert_entry same es key [])) next (q, rest))
+        let rest = go (sym (ap (λ b. is_some (cond b (Some e.1) (lookup (is_key key.now) es))) q) ∙ h) in
+        subst (λ b. IsAt key.now (cond b ((e.0, []) ∷ es) (e ∷ insert_entry same es key [])) (cond (not b) (1 + position_or_len (same key) (keys_of es)) 0)) (sym q)
+        (subst (IsAt key.now (e ∷ insert_entry same es key [])) next (q, rest))
 
-pub parts-new : (es : List Entry) (key : Key) (other : List ℕ) → is_some (lookup (is_key key.items) es) ≡ false → parts_at (insert_entry same es key []) other ≡ parts_at es other
-parts-new [] key other h = by (bytes_eq other key.items) []
+pub parts-new : (es : List Entry) (key : Key) (other : List ℕ) → is_some (lookup (is_key key.now) es) ≡ false → parts_at (insert_entry same es key []) other ≡ parts_at es other
+parts-new [] key other h = by (bytes_eq other key.now) []
   where
     by : (b : Bool) (none : List (List ℕ)) → unwrap_or (cond b (Some none) None) none ≡ none
     by true none = refl
@@ -75,11 +74,11 @@ parts-new (e ∷ es) key other h = by (same key e.0) refl (λ absent. parts-new 
     further true rest = refl
     further false rest = rest
 
-    by : (b : Bool) → same key e.0 ≡ b → (is_some (lookup (is_key key.items) es) ≡ false → parts_at (insert_entry same es key []) other ≡ parts_at es other)
+    by : (b : Bool) → same key e.0 ≡ b → (is_some (lookup (is_key key.now) es) ≡ false → parts_at (insert_entry same es key []) other ≡ parts_at es other)
         → parts_at (insert_entry same (e ∷ es) key []) other ≡ parts_at (e ∷ es) other
-    by true q go = absurd (true≢false (sym (ap (λ b. is_some (cond b (Some e.1) (lookup (is_key key.items) es))) q) ∙ h))
+    by true q go = absurd (true≢false (sym (ap (λ b. is_some (cond b (Some e.1) (lookup (is_key key.now) es))) q) ∙ h))
     by false q go = ap (λ b. parts_at (cond b ((e.0, []) ∷ es) (e ∷ insert_entry same es key [])) other) q
-        ∙ further (is_key other e.0) (go (sym (ap (λ b. is_some (cond b (Some e.1) (lookup (is_key key.items) es))) q) ∙ h))
+        ∙ further (is_key other e.0) (go (sym (ap (λ b. is_some (cond b (Some e.1) (lookup (is_key key.now) es))) q) ∙ h))
 
 -- one more part of the node at a place
 pub parts-written : (node part : List ℕ) (es : List Entry) (i : ℕ) (w v : List (List ℕ)) → IsAt node es i → slice_get (values_of es) i ≡ Some v → w ≡ added v part
@@ -88,7 +87,7 @@ parts-written node part [] i w v at is new other = absurd at
 parts-written node part (e ∷ es) zero w v at is new other =
     let here : e.1 ≡ v = cc in
     by (is_key other e.0) (new ∙ ap (λ p. added p part) (sym here))
-    ∙ ap (λ (n : List ℕ). cond (bytes_eq other n) (added (parts_at (e ∷ es) other) part) (parts_at (e ∷ es) other)) (sym ((bytes_eq-Decides node e.0.items).0 at))
+    ∙ ap (λ (n : List ℕ). cond (bytes_eq other n) (added (parts_at (e ∷ es) other) part) (parts_at (e ∷ es) other)) (sym ((bytes_eq-Decides node e.0.now).0 at))
   where
     by : (b : Bool) → w ≡ added e.1 part → unwrap_or (cond b (Some w) (lookup (is_key other) es)) []
         ≡ cond b (added (unwrap_or (cond b (Some e.1) (lookup (is_key other) es)) []) part) (unwrap_or (cond b (Some e.1) (lookup (is_key other) es)) [])
@@ -97,7 +96,7 @@ parts-written node part (e ∷ es) zero w v at is new other =
 parts-written node part (e ∷ es) (suc i) w v at is new other = by (is_key other e.0) refl (parts-written node part es i w v at.1 is new other)
   where
     apart : is_key other e.0 ≡ true → bytes_eq other node ≡ false
-    apart q = ap (λ n. bytes_eq n node) ((bytes_eq-Decides other e.0.items).0 q) ∙ (bytes_eq-turned e.0.items node ∙ at.0)
+    apart q = ap (λ n. bytes_eq n node) ((bytes_eq-Decides other e.0.now).0 q) ∙ (bytes_eq-turned e.0.now node ∙ at.0)
 
     by : (b : Bool) → is_key other e.0 ≡ b → parts_at (set_value_at es i w) other ≡ with_edge other (parts_at es other) (node, part) → unwrap_or (cond (is_key other e.0) (Some e.1) (lookup (is_key other) (set_value_at es i w))) []
         ≡ with_edge other (unwrap_or (cond (is_key other e.0) (Some e.1) (lookup (is_key other) es)) []) (node, part)
@@ -107,15 +106,15 @@ parts-written node part (e ∷ es) (suc i) w v at is new other = by (is_key othe
         ∙ (rest ∙ sym (ap (λ b. with_edge other (unwrap_or (cond b (Some e.1) (lookup (is_key other) es)) []) (node, part)) q))
 
 -- the same as it is added
-module _ (es new : List Entry) (key : Key) (parts : List (List ℕ)) (node : List ℕ) (is : key.items ≡ node) (absent : is_some (lookup (is_key node) es) ≡ false) (none : parts ≡ []) (more : new ≡ insert_entry same es key parts) where
-  absent-key : is_some (lookup (is_key key.items) es) ≡ false
+module _ (es new : List Entry) (key : Key) (parts : List (List ℕ)) (node : List ℕ) (is : key.now ≡ node) (absent : is_some (lookup (is_key node) es) ≡ false) (none : parts ≡ []) (more : new ≡ insert_entry same es key parts) where
+  absent-key : is_some (lookup (is_key key.now) es) ≡ false
   absent-key = ap (λ n. is_some (lookup (is_key n) es)) is ∙ absent
 
   without-parts : new ≡ insert_entry same es key []
   without-parts = more ∙ ap (insert_entry same es key) none
 
   pub at-added : (i : ℕ) → i ≡ position_or_len (same key) (keys_of es) → IsAt node new i
-  at-added i last = subst (λ n. IsAt n new i) is (subst (λ l. IsAt key.items l i) (sym without-parts) (subst (IsAt key.items (insert_entry same es key [])) (sym last) (at-new es key absent-key)))
+  at-added i last = subst (λ n. IsAt n new i) is (subst (λ l. IsAt key.now l i) (sym without-parts) (subst (IsAt key.now (insert_entry same es key [])) (sym last) (at-new es key absent-key)))
 
   pub parts-added : (other : List ℕ) → parts_at new other ≡ parts_at es other
   parts-added other = ap (λ l. parts_at l other) without-parts ∙ parts-new es key other absent-key

@@ -1,9 +1,10 @@
 -- The names of a structure's parts as the code holds them.
-use Rattle.std.specs.Prelude.{Vec, ℕ, List, [], map}
-use Rattle.std.specs.declared.alloc.Global.{Global}
-use Rattle.cfg_lines.specs.Keys.{octets_of}
+use Rattle.std.specs.Prelude.{ℕ, List, [], Option}
+use Rattle.std.specs.Borrow.{Bor}
+use Rattle.std.specs.Option.{option_to_list}
+use Rattle.text_words.specs.Words.{texts}
 
 -- those of several, else of the only one
-abbrev pub part_names : List (Vec ℕ Global) → List (Vec ℕ Global) → List (List ℕ)
-part_names one [] = map octets_of one
-part_names one several = map octets_of several
+abbrev pub part_names : Option (Bor (List ℕ)) → List (Bor (List ℕ)) → List (List ℕ)
+part_names one [] = texts (option_to_list one)
+part_names one several = texts several

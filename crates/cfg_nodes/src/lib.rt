@@ -8,4 +8,5 @@ mod part_names;
 mod parts;
 mod sizes;
 
+pub use leaves::leaves_of;
 pub use nodes::Nodes;

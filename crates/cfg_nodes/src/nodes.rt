@@ -1,12 +1,12 @@
 //! The nodes that lines make, to look up what a member of a data set names.
 
-ghost use Rattle.std.specs.Prelude.{◌≡◌, ℕ, List, map, reverse, IfOk};
+ghost use Rattle.std.specs.Prelude.{◌≡◌, ℕ, List, reverse, IfOk};
 ghost use Rattle.cfg_lines.specs.Keys.{is_among};
 ghost use Rattle.cfg_lines.specs.Nodes.{reaches, is_node, is_member_node};
 ghost use Rattle.cfg_nodes.specs.Indexed.{is_node_in, is_member_in, capped};
 
 use crate::closed::closed_of;
-use crate::leaves::{element_octets, leaves_of};
+use crate::leaves::element_octets;
 use crate::parts::Parts;
 use crate::sizes::Sizes;
 use cfg_lines::{Keys, Leaf, Line};
@@ -15,24 +15,13 @@ use sv_base::Octs;
 
 /// The nodes, each found by its reference.
 #[derive(Drop)]
-pub struct Nodes {
-    /// Those that a data set may have, if they are not too large, with what is above them.
-    open: Keys,
+pub struct Nodes<'a> {
     /// Those that no data set may have, with what is above them.
     closed: Keys,
-    sizes: Sizes,
-    parts: Parts,
-}
-
-/// These leaves and what is above them.
-fn open_of(alloc: Global, leaves: &[Leaf]) -> Result<Keys, AllocError>
-    ensures { IfOk result (λ keys. (node : List ℕ) → is_among keys node ≡ reaches (map (λ leaf. leaf.name) leaves.now) node) }
-{
-    let mut keys = Keys::new(alloc);
-    for leaf in leaves {
-        keys.add_with_above(leaf.name.as_slice())?;
-    }
-    Ok(keys)
+    /// Those without parts that a data set may have, if they are not too large.
+    sizes: Sizes<'a>,
+    /// What is above these.
+    parts: Parts<'a>,
 }
 
 /// These names and what is above them.
@@ -53,22 +42,22 @@ fn cap(octets: u32) -> u32
     if octets > 500 { 501 } else { octets }
 }
 
-impl Nodes {
+impl<'a> Nodes<'a> {
+    ghost use Rattle.cfg_lines.specs.Nodes.{leaves as leaves_before};
     ghost use Rattle.cfg_lines.specs.Sizes.{octets_of};
     ghost use Rattle.cfg_nodes.specs.Indexed.{octets_in, parts_in};
 
-    /// The nodes that lines make, from the first to the last.
-    pub fn of(alloc: Global, lines: &[Line]) -> Result<Self, AllocError>
+    /// The nodes that lines make, from the first to the last, by the nodes without parts among them.
+    pub fn of(alloc: Global, lines: &[Line], leaves: &'a [Leaf]) -> Result<Self, AllocError>
+        requires { leaves.now ≡ leaves_before (reverse lines.now) }
         ensures nodes { IfOk result (λ nodes. (node : List ℕ) → is_node_in nodes node ≡ is_node (reverse lines.now) node) }
         ensures members { IfOk result (λ nodes. (node : List ℕ) → is_member_in nodes node ≡ is_member_node (reverse lines.now) node) }
     {
-        let leaves = leaves_of(alloc, lines)?;
         let closed = closed_of(alloc, lines)?;
         Ok(Nodes {
-            open: open_of(alloc, &leaves)?,
             closed: above_of(alloc, &closed)?,
-            sizes: Sizes::of(alloc, &leaves)?,
-            parts: Parts::of(alloc, &leaves)?,
+            sizes: Sizes::of(alloc, leaves)?,
+            parts: Parts::of(alloc, leaves)?,
         })
     }
 
@@ -76,7 +65,7 @@ impl Nodes {
     pub fn has(&self, node: &[u8]) -> bool
         ensures { result ≡ is_node_in self.now node.now }
     {
-        self.open.has(node) || self.closed.has(node)
+        self.sizes.of_node(node).is_some() || self.parts.has(node) || self.closed.has(node)
     }
 
     /// The most octets of the Data of a node, but 501 for all above 500. It goes no deeper than the number says.
@@ -89,8 +78,11 @@ impl Nodes {
         if let Some(octets) = self.sizes.of_node(node) {
             return cap(octets);
         }
+        let Some(parts) = self.parts.of_node(node) else {
+            return cap(element_octets(0));
+        };
         let mut sum = 0;
-        for part in self.parts.of_node(node) {
+        for part in parts.names() {
             sum += self.octets(depth - 1, part);
             if sum > 500 {
                 return 501;

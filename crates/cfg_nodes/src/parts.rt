@@ -12,15 +12,15 @@ use std::alloc::{AllocError, Global};
 
 /// The parts of the structures above some leaves.
 #[derive(Drop)]
-pub struct Parts {
-    below: IndexMap<Vec<u8>, PartNames>,
+pub struct Parts<'a> {
+    below: IndexMap<&'a [u8], PartNames<'a>>,
 }
 
 /// The place of a node, which is added without parts where it isn't there.
-fn place_of(
+fn place_of<'a>(
     alloc: Global,
-    below: &mut IndexMap<Vec<u8>, PartNames>,
-    node: &[u8],
+    below: &mut IndexMap<&'a [u8], PartNames<'a>>,
+    node: &'a [u8],
 ) -> Result<usize, AllocError>
     ensures place { IfOk result (λ i. IsAt node.now below.new.entries i) }
     ensures within { IfOk result (λ i. i < index_map_len below.new) }
@@ -29,30 +29,28 @@ fn place_of(
     if let Some(place) = below.get_index_of(node) {
         return Ok(place);
     }
-    let mut key = Vec::new(alloc);
-    key.extend_from_slice(node)?;
-    let (place, _) = below.insert_full(key, PartNames::new(alloc))?;
+    let (place, _) = below.insert_full(node, PartNames::new(alloc))?;
     Ok(place)
 }
 
-fn add_part(
+fn add_part<'a>(
     alloc: Global,
-    below: &mut IndexMap<Vec<u8>, PartNames>,
-    node: &[u8],
-    part: &[u8],
+    below: &mut IndexMap<&'a [u8], PartNames<'a>>,
+    node: &'a [u8],
+    part: &'a [u8],
 ) -> Result<(), AllocError>
     ensures { OnOk result ((other : List ℕ) → parts_at below.new.entries other ≡ with_edge other (parts_at below.old.entries other) (node.now, part.now)) }
 {
     let place = place_of(alloc, below, node)?;
-    below[place].add(alloc, part)?;
+    below[place].add(part)?;
     Ok(())
 }
 
 /// Adds to each structure above a path what is below it on the way there.
-fn add_path(
+fn add_path<'a>(
     alloc: Global,
-    below: &mut IndexMap<Vec<u8>, PartNames>,
-    path: &[u8],
+    below: &mut IndexMap<&'a [u8], PartNames<'a>>,
+    path: &'a [u8],
 ) -> Result<(), AllocError>
     ensures { OnOk result ((other : List ℕ) → parts_at below.new.entries other ≡ with_name other (parts_at below.old.entries other) path.now) }
 {
@@ -66,12 +64,12 @@ fn add_path(
     Ok(())
 }
 
-impl Parts {
-    ghost use Rattle.cfg_lines.specs.Keys.{octets_of};
-    ghost use Rattle.cfg_nodes.specs.Indexed.{parts_in};
+impl<'a> Parts<'a> {
+    ghost use Rattle.std.specs.Prelude.{[], unwrap_or, option_copied};
+    ghost use Rattle.cfg_nodes.specs.Indexed.{parts_in, has_parts};
 
     /// The parts above these.
-    pub fn of(alloc: Global, leaves: &[Leaf]) -> Result<Self, AllocError>
+    pub fn of(alloc: Global, leaves: &'a [Leaf]) -> Result<Self, AllocError>
         ensures { IfOk result (λ parts. (node : List ℕ) → parts_in parts node ≡ children (map (λ leaf. leaf.name) leaves.now) node) }
     {
         let mut below = IndexMap::new(alloc);
@@ -81,13 +79,20 @@ impl Parts {
         Ok(Parts { below })
     }
 
-    /// What is directly below a node; nothing where it isn't there.
-    pub fn of_node(&self, node: &[u8]) -> &[Vec<u8>]
-        ensures { map octets_of result.now ≡ parts_in self.now node.now }
+    /// A node has parts.
+    pub fn has(&self, node: &[u8]) -> bool
+        ensures { result ≡ has_parts (parts_in self.now node.now) }
     {
-        match self.below.get(node) {
-            Some(parts) => parts.names(),
-            None => &[],
+        match self.of_node(node) {
+            Some(parts) => !parts.names().is_empty(),
+            None => false,
         }
+    }
+
+    /// What is directly below a node, if it is there.
+    pub fn of_node(&self, node: &[u8]) -> Option<&PartNames<'a>>
+        ensures { unwrap_or (option_copied result) [] ≡ parts_in self.now node.now }
+    {
+        self.below.get(node)
     }
 }

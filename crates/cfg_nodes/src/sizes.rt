@@ -12,37 +12,34 @@ use std::alloc::{AllocError, Global};
 
 /// The octets of the nodes of some leaves; of two of one name those of the first.
 #[derive(Drop)]
-pub struct Sizes {
-    octets: IndexMap<Vec<u8>, u32>,
+pub struct Sizes<'a> {
+    octets: IndexMap<&'a [u8], u32>,
 }
 
-fn add(
-    alloc: Global,
-    octets: &mut IndexMap<Vec<u8>, u32>,
-    name: &[u8],
+fn add<'a>(
+    octets: &mut IndexMap<&'a [u8], u32>,
+    name: &'a [u8],
     count: u32,
 ) -> Result<(), AllocError>
-    ensures { OnOk result ((other : List ℕ) → get_by (λ k. bytes_eq other k.items) octets.new ≡ or_one (get_by (λ k. bytes_eq other k.items) octets.old) (bytes_eq other name.now) count) }
+    ensures { OnOk result ((other : List ℕ) → get_by (λ k. bytes_eq other k.now) octets.new ≡ or_one (get_by (λ k. bytes_eq other k.now) octets.old) (bytes_eq other name.now) count) }
 {
     if octets.contains_key(name) {
         return Ok(());
     }
-    let mut key = Vec::new(alloc);
-    key.extend_from_slice(name)?;
-    octets.insert(key, count)?;
+    octets.insert(name, count)?;
     Ok(())
 }
 
-impl Sizes {
+impl<'a> Sizes<'a> {
     ghost use Rattle.cfg_nodes.specs.Indexed.{octets_in};
 
     /// The octets of these.
-    pub fn of(alloc: Global, leaves: &[Leaf]) -> Result<Self, AllocError>
+    pub fn of(alloc: Global, leaves: &'a [Leaf]) -> Result<Self, AllocError>
         ensures { IfOk result (λ sizes. (node : List ℕ) → octets_in sizes node ≡ leaf_octets leaves.now node) }
     {
         let mut octets = IndexMap::new(alloc);
         for leaf in leaves {
-            add(alloc, &mut octets, leaf.name.as_slice(), leaf.octets)?;
+            add(&mut octets, leaf.name.as_slice(), leaf.octets)?;
         }
         Ok(Sizes { octets })
     }

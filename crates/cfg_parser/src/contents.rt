@@ -6,7 +6,7 @@ ghost use Rattle.cfg_parser.specs.Reader.{Gives};
 ghost use Rattle.cfg_parser.specs.Contents.{config_at, domain_at, node_at, set_at, member_at, typed_at, attribute_at, block_texts_at, block_options_at, block_triggers_at, block_fields_at, block_at, control_type_at, model_of as model_number, control_fields_at, control_at, group_fields_at, groups_at};
 
 use crate::fault::{Kind, LineFault};
-use cfg_lines::{Line, control_keys, item_key, node_item, node_key};
+use cfg_lines::{Line, control_keys, item_key, node_item, node_key, put_item_key};
 use cfg_reading::Reading;
 use std::alloc::{AllocError, Global};
 use sv_base::{
@@ -130,11 +130,12 @@ fn typed_line(
     }))
 }
 
-/// `attr` and what describes an attribute.
+/// `attr` and what describes an attribute, whose reference is joined in a room.
 #[tactic(auto, unfolding(crate::specs::Contents::attribute_at))]
 pub fn attribute_line(
     alloc: Global,
     before: &Reading,
+    room: &mut Vec<u8>,
     fc: &[u8],
     path: &[u8],
     kind: &[u8],
@@ -146,8 +147,8 @@ pub fn attribute_line(
     if !is_fc(fc) || !is_path(path) {
         return Err(LineFault::Refused(Kind::Name));
     }
-    let key = item_key(alloc, before.domain(), before.node(), fc, path)?;
-    if before.is_taken(&key) {
+    put_item_key(room, before.domain(), before.node(), fc, path)?;
+    if before.is_taken(room) {
         return Err(LineFault::Refused(Kind::Duplicate));
     }
     typed_line(alloc, before, fc, path, kind, flags, words)

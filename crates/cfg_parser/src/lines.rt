@@ -44,10 +44,15 @@ fn at_line(number: u32, fault: LineFault) -> CfgFault
 }
 
 /// With what the next line tells.
-fn read_line(alloc: Global, reading: Reading, text: &[u8]) -> Result<Reading, CfgFault>
+fn read_line(
+    alloc: Global,
+    reading: Reading,
+    room: &mut Vec<u8>,
+    text: &[u8],
+) -> Result<Reading, CfgFault>
     ensures { GivesText result (next_at reading text.now) }
 {
-    match telling::line(alloc, &reading, text) {
+    match telling::line(alloc, &reading, room, text) {
         Ok(line) => {
             let reading = reading.with(alloc, line)?;
             Ok(reading)
@@ -65,9 +70,10 @@ pub fn read_lines(alloc: Global, text: &[u8]) -> Result<Reading, CfgFault>
     ensures { GivesText result (lines_at text.now) }
 {
     let mut reading = Reading::new(alloc);
+    let mut room = Vec::new(alloc);
     let mut rest = text;
     while let Some((line, after)) = split_line(rest) {
-        match read_line(alloc, reading, line) {
+        match read_line(alloc, reading, &mut room, line) {
             Ok(next) => reading = next,
             Err(fault) => return Err(fault),
         }

@@ -9,14 +9,14 @@ ghost use Rattle.cfg_parser.specs.Looking.{look_at, looked_at, config_at};
 use crate::fault::{CfgFault, Kind};
 use crate::lines::read_lines;
 use cfg_lines::Line;
-use cfg_nodes::Nodes;
+use cfg_nodes::{Nodes, leaves_of};
 use cfg_reading::Reading;
 use std::alloc::Global;
 use sv_base::Config;
 
 /// What a line names is there, and may stand there.
 #[tactic(auto, unfolding(crate::specs::Looking::look_at))]
-fn look(reading: &Reading, nodes: &Nodes, number: u32, line: &Line) -> Result<(), CfgFault>
+fn look(reading: &Reading, nodes: &Nodes<'_>, number: u32, line: &Line) -> Result<(), CfgFault>
     requires nodes { (node : List ℕ) → is_node_in nodes.now node ≡ is_node reading.now node }
     requires members { (node : List ℕ) → is_member_in nodes.now node ≡ is_member_node reading.now node }
     ensures { GivesText result (look_at reading.now number line.now) }
@@ -49,7 +49,8 @@ fn look_up(alloc: Global, reading: &Reading) -> Result<(), CfgFault>
     ensures { GivesText result (looked_at reading.now reading.now) }
 {
     let lines = reading.lines();
-    let nodes = Nodes::of(alloc, lines)?;
+    let leaves = leaves_of(alloc, lines)?;
+    let nodes = Nodes::of(alloc, lines, &leaves)?;
     for (i, line) in lines.iter().enumerate() {
         look(reading, &nodes, i as u32 + 1, line)?;
     }

@@ -39,6 +39,7 @@ fn server_line(
 fn content(
     alloc: Global,
     before: &Reading,
+    room: &mut Vec<u8>,
     keyword: Keyword,
     words: &[&[u8]],
 ) -> Result<Line, LineFault>
@@ -52,7 +53,7 @@ fn content(
         (Keyword::Ld, [name]) => domain_line(alloc, before, name),
         (Keyword::Ln, [name]) => node_line(alloc, before, name),
         (Keyword::Attr, [fc, path, kind, flags, values @ ..]) => {
-            attribute_line(alloc, before, fc, path, kind, flags, values)
+            attribute_line(alloc, before, room, fc, path, kind, flags, values)
         }
         (Keyword::Set, [name]) => set_line(alloc, before, name),
         (Keyword::Member, [reference]) => member_line(alloc, reference),
@@ -98,6 +99,7 @@ fn content(
 fn keyed(
     alloc: Global,
     before: &Reading,
+    room: &mut Vec<u8>,
     keyword: Keyword,
     words: &[&[u8]],
 ) -> Result<Line, LineFault>
@@ -113,12 +115,18 @@ fn keyed(
     if is_full(before) || has_many(before, keyword, words) {
         return Err(LineFault::Refused(Kind::Many));
     }
-    content(alloc, before, keyword, words)
+    content(alloc, before, room, keyword, words)
 }
 
 /// A line of words.
 #[tactic(auto, unfolding(crate::specs::Judging::tell_at))]
-fn tell(alloc: Global, before: &Reading, text: &[u8], words: &[&[u8]]) -> Result<Line, LineFault>
+fn tell(
+    alloc: Global,
+    before: &Reading,
+    room: &mut Vec<u8>,
+    text: &[u8],
+    words: &[&[u8]],
+) -> Result<Line, LineFault>
     ensures told { Gives result (tell_at before.now text.now (texts words.now)) }
     ensures room { IfOk result (λ _. length before.now < 20000) }
 {
@@ -133,7 +141,7 @@ fn tell(alloc: Global, before: &Reading, text: &[u8], words: &[&[u8]]) -> Result
         return Err(LineFault::Refused(Kind::Word));
     }
     match keyword {
-        Some(keyword) => keyed(alloc, before, keyword, words),
+        Some(keyword) => keyed(alloc, before, room, keyword, words),
         None => Err(LineFault::Refused(Kind::Word)),
     }
 }
@@ -155,7 +163,12 @@ fn skip(before: &Reading, text: &[u8]) -> Result<Line, LineFault>
 
 /// What the next line tells.
 #[tactic(auto, unfolding(crate::specs::Judging::line_at))]
-pub fn line(alloc: Global, before: &Reading, text: &[u8]) -> Result<Line, LineFault>
+pub fn line(
+    alloc: Global,
+    before: &Reading,
+    room: &mut Vec<u8>,
+    text: &[u8],
+) -> Result<Line, LineFault>
     ensures told { Gives result (line_at before.now text.now) }
     ensures room { IfOk result (λ _. length before.now < 20000) }
 {
@@ -166,5 +179,5 @@ pub fn line(alloc: Global, before: &Reading, text: &[u8]) -> Result<Line, LineFa
         return skip(before, text);
     }
     let words = parts_of(alloc, text, b' ')?;
-    tell(alloc, before, text, &words)
+    tell(alloc, before, room, text, &words)
 }

@@ -6,7 +6,7 @@ ghost use Rattle.cfg_lines.specs.Keys.{is_among};
 ghost use Rattle.cfg_lines.specs.Paths.{below, node_key as node_key_of, item_key as item_key_of, clashes, is_taken};
 ghost use Rattle.cfg_lines.specs.Claims.{control_keys as control_keys_of, group_key};
 
-use cfg_lines::{Keys, Names, control_keys, item_key, node_item, node_key};
+use cfg_lines::{Keys, Names, control_keys, item_key, node_item, node_key, put_item_key};
 use std::alloc::{AllocError, Global};
 use sv_base::{AttrDef, BlockDef, CtlDef, LnDef, SetDef, SgDef};
 
@@ -31,18 +31,18 @@ pub fn add_set(alloc: Global, sets: &mut Keys, set: &SetDef) -> Result<(), Alloc
     sets.add(&key)
 }
 
-/// With the path of an attribute.
-pub fn with_attribute(alloc: Global, names: Names, attr: &AttrDef) -> Result<Names, AllocError>
+/// With the path of an attribute, which is joined in a room.
+pub fn with_attribute(room: &mut Vec<u8>, names: Names, attr: &AttrDef) -> Result<Names, AllocError>
     ensures { IfOk result (λ n. (q : List ℕ) → is_taken n q ≡ (clashes q (item_key_of attr.now.domain attr.now.ln attr.now.fc attr.now.path) || is_taken names q)) }
 {
-    let key = item_key(
-        alloc,
+    put_item_key(
+        room,
         attr.domain.as_slice(),
         attr.ln.as_slice(),
         attr.fc.as_slice(),
         attr.path.as_slice(),
     )?;
-    names.with(&key)
+    names.with(room)
 }
 
 /// With the path of a report control block.

@@ -42,6 +42,8 @@ pub struct Kept {
     pub heads: Keys,
     pub sets: Keys,
     pub names: Names,
+    /// What a line takes is joined here.
+    pub room: Vec<u8>,
 }
 
 impl Kept {
@@ -77,6 +79,7 @@ impl Kept {
             heads: Keys::new(alloc),
             sets: Keys::new(alloc),
             names: Names::new(alloc),
+            room: Vec::new(alloc),
         }
     }
 
@@ -119,7 +122,7 @@ impl Kept {
         self.has_settings = is_settings(attr.fc.as_slice(), self.has_settings);
         self.counts.attributes += 1;
         let names = self.take_names(alloc);
-        self.names = with_attribute(alloc, names, attr)?;
+        self.names = with_attribute(&mut self.room, names, attr)?;
         Ok(())
     }
 

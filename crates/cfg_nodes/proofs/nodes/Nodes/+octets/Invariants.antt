@@ -10,5 +10,5 @@ decreases-octets l = l.depth
 abbrev pub invariant-loop-part : goal.invariant-loop-part
 invariant-loop-part l = record {
   few : l.sum ≤ 500;
-  is_sum : l.sum ≡ sum_by (λ part. octets_of (l.depth - 1) (octets_in l.self.sizes) (parts_in l.self.parts) part.items) (take l.part-index l.part-items);
+  is_sum : l.sum ≡ sum_by (λ part. octets_of (l.depth - 1) (octets_in l.self.sizes) (parts_in l.self.parts) part.now) (take l.part-index l.part-items);
 }

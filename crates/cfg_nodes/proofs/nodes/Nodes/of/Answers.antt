@@ -1,15 +1,22 @@
-use Rattle.std.proofs.Common.{◌&&◌, not, nat_lt, map, reverse, ap, ap₂, ◌∙◌}
+use Rattle.std.proofs.Common.{◌&&◌, ◌||◌, not, is_some, nat_lt, map, reverse, ap, ap₂, ◌∙◌}
 use Rattle.cfg_lines.specs.Nodes.{leaves, reaches, leaf_names}
 use Rattle.cfg_lines.specs.Sizes.{leaf_octets, children}
-use Rattle.cfg_nodes.specs.Indexed.{octets_in, parts_in}
+use Rattle.cfg_nodes.specs.Indexed.{octets_in, parts_in, has_parts}
 use Rattle.cfg_nodes.proofs.OctetLaws.{octets_same}
+use Rattle.cfg_nodes.proofs.PresenceLaws.{node-there}
 use Rattle.cfg_nodes.proofs.nodes.Nodes.of.Goals as goal
+
+pub returns-clause-nodes : goal.returns-clause-nodes
+returns-clause-nodes c = λ node.
+    ap₂ (λ a b. a || b)
+    (ap₂ (λ r parts. is_some r || has_parts parts) (c.in_ok-of.ensures node) (c.in_ok-of-2.ensures node) ∙ (node-there c.args.leaves.now node ∙ ap (λ l. reaches (map (λ leaf. leaf.name) l) node) c.requires))
+    (c.in_ok-above_of.ensures node ∙ ap (λ names. reaches names node) (c.deref.ensures.value ∙ c.in_ok-closed.ensures))
 
 pub returns-clause-members : goal.returns-clause-members
 returns-clause-members c = λ node.
     let all = reverse c.args.lines.now in
     ap₂ (λ a b. not a && not (nat_lt 500 b))
-    (c.in_ok-above_of.ensures node ∙ ap (λ names. reaches names node) (c.deref-2.ensures.value ∙ c.in_ok-closed.ensures))
+    (c.in_ok-above_of.ensures node ∙ ap (λ names. reaches names node) (c.deref.ensures.value ∙ c.in_ok-closed.ensures))
     (octets_same 10 (octets_in c.in_ok-of.field-0) (leaf_octets (leaves all)) (parts_in c.in_ok-of-2.field-0) (children (leaf_names all))
-    (λ n. c.in_ok-of.ensures n ∙ ap (λ l. leaf_octets l n) (c.deref-3.ensures.value ∙ c.in_ok-leaves.ensures))
-    (λ n. c.in_ok-of-2.ensures n ∙ ap (λ l. children (map (λ leaf. leaf.name) l) n) (c.deref-4.ensures.value ∙ c.in_ok-leaves.ensures)) node)
+    (λ n. c.in_ok-of.ensures n ∙ ap (λ l. leaf_octets l n) c.requires)
+    (λ n. c.in_ok-of-2.ensures n ∙ ap (λ l. children (map (λ leaf. leaf.name) l) n) c.requires) node)
