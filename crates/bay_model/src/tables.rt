@@ -3,7 +3,7 @@
 use crate::{Nodes, SetName};
 use std::alloc::{AllocError, Global};
 use std::marker::Model;
-use sv_base::{AttrId, NodeId, TypeOf, copy_type};
+use sv_base::{AttrId, NodeId, TypeOf};
 
 /// The attributes of a node, in the order of its type.
 #[derive(Debug, Drop)]
@@ -83,7 +83,7 @@ impl MemberShape {
     {
         Ok(MemberShape {
             node: self.node,
-            kind: copy_type(alloc, &self.kind)?,
+            kind: self.kind.share()?,
             attrs: AttrIds::from_vec(Vec::from_slice(alloc, self.attrs.as_slice())?),
         })
     }

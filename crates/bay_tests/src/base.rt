@@ -5,7 +5,7 @@ use std::test::Fail;
 use sv_base::moment::{FIRST_MS, LAST_MS};
 use sv_base::{
     AttrDef, AttrDefs, Bits, Moment, Octs, OctsList, Part1, Parts, Stamp, TypeOf, Utc, Value,
-    Values, copy_type, copy_value, data_len,
+    Values, copy_value, data_len,
 };
 
 fn octs(alloc: Global, octets: &[u8]) -> Result<Octs, AllocError> {
@@ -264,8 +264,8 @@ fn has_the_quality(parts: &Parts) -> bool {
 
 #[test]
 fn parts_keep_their_order(rt: HostRuntime) -> Result<(), Fail> {
-    let parts = Parts::from_vec(one(rt.alloc(), quality(rt.alloc())?)?);
-    assert!(rt; has_the_quality(&parts) && parts.into_vec().len() == 1);
+    let parts = Parts::from_vec(rt.alloc(), one(rt.alloc(), quality(rt.alloc())?)?)?;
+    assert!(rt; has_the_quality(&parts));
     Ok(())
 }
 
@@ -327,8 +327,8 @@ fn first_bits(kind: &TypeOf) -> Option<u16> {
 
 #[test]
 fn a_copy_of_a_type_has_its_parts(rt: HostRuntime) -> Result<(), Fail> {
-    let parts = Parts::from_vec(one(rt.alloc(), quality(rt.alloc())?)?);
-    let copy = copy_type(rt.alloc(), &TypeOf::Struct(parts))?;
+    let parts = Parts::from_vec(rt.alloc(), one(rt.alloc(), quality(rt.alloc())?)?)?;
+    let copy = TypeOf::Struct(parts).share()?;
     assert!(rt; first_bits(&copy) == Some(13));
     Ok(())
 }

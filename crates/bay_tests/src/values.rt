@@ -222,7 +222,7 @@ fn writes_members_in_the_order_of_their_type(rt: HostRuntime) -> Result<(), Fail
     let parts = vec![in alloc; part(alloc, b"general")?, part(alloc, b"phsA")?]?;
     let shape = MemberShape {
         node: NodeId(3),
-        kind: TypeOf::Struct(Parts::from_vec(parts)),
+        kind: TypeOf::Struct(Parts::from_vec(rt.alloc(), parts)?),
         attrs: AttrIds::from_vec(vec![in alloc; AttrId(2), AttrId(1)]?),
     };
     let mut out = Fixed::new(alloc, 8)?;

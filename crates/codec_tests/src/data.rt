@@ -295,7 +295,8 @@ fn structure(alloc: Global) -> Result<TypeOf, AllocError> {
         name: octs(alloc, b"q")?,
         kind: TypeOf::Time,
     };
-    Ok(TypeOf::Struct(Parts::from_vec(vec![in alloc; part]?)))
+    let parts = Parts::from_vec(alloc, vec![in alloc; part]?)?;
+    Ok(TypeOf::Struct(parts))
 }
 
 #[test]

@@ -2,8 +2,8 @@
 use Rattle.std.proofs.Common.{◌≡◌, ℕ, zero, suc, ◌+◌, ◌-◌, ◌<◌, ◌≤◌, ◌==◌, subst, take_all, Bool, true, false, ◌&&◌, List, [], ◌∷◌, ◌++◌, map, length, get_or, take, refl, sym, ap, ◌∙◌, append_assoc, append-nil, arith, length-append}
 use Rattle.std.proofs.lemmas.List.{map-append, take_more}
 use Rattle.std.proofs.Math.Seq.{take-append_seam}
-use Rattle.sv_base.specs.Types.{Fields, no_field, field}
 use Rattle.sv_base.specs.declared.types.TypeOf.{TypeOf}
+use Rattle.sv_base.specs.declared.types.Part1.{Part1}
 use Rattle.sv_base.specs.declared.types.TypeOf.TheVariants as types
 use Rattle.std.proofs.lemmas.Bool.Decides.{nat_tests}
 use Rattle.sv_base.specs.Fields.{fields_of, parts_of, shape_of, type_of}
@@ -116,13 +116,13 @@ grown-more before l gs i g old new b h e o p a = let next : take (i + 1) gs ≡ 
 }
 
 -- a type with parts and one without
-pub with_parts : (own : TypeOf) (fs : Fields) → (length (parts_of fs) == 0) ≡ false → type_with own fs ≡ types.Struct fs
-with_parts own no_field h = absurd (grind (arith, nat_tests))
-with_parts own (field n s fs) h = refl
+pub with_parts : (own : TypeOf) (ps : List Part1) → (length ps == 0) ≡ false → type_with own (fields_of ps) ≡ types.Struct (fields_of ps)
+with_parts own [] h = absurd (grind (arith, nat_tests))
+with_parts own (p ∷ ps) h = refl
 
-pub without_parts : (own : TypeOf) (fs : Fields) → (length (parts_of fs) == 0) ≡ true → type_with own fs ≡ own
-without_parts own no_field h = refl
-without_parts own (field n s fs) h = absurd (grind (arith, nat_tests))
+pub without_parts : (own : TypeOf) (ps : List Part1) → (length ps == 0) ≡ true → type_with own (fields_of ps) ≡ own
+without_parts own [] h = refl
+without_parts own (p ∷ ps) h = absurd (grind (arith, nat_tests))
 
 pub parts_grown : (b : Grown) (before : List ℕ) (l : ℕ) (g : Group) (front : List ℕ) (names : List Named) → front ≡ before ++ g.name ++ 36 ∷ [] → names ≡ g.names → IsGrown b front (grown l names) → IsGrown b (before ++ g.name ++ 36 ∷ []) (grown l g.names)
 parts_grown b before l g front names e n p = subst (λ f. IsGrown b f (grown l g.names)) e (subst (λ ns. IsGrown b front (grown l ns)) n p)

@@ -5,7 +5,7 @@ ghost use Rattle.std.specs.Prelude.{◌≡◌, IfOk};
 use std::alloc::{AllocError, Global};
 use sv_base::{
     AttrDef, AttrDefs, BlockDef, BlockDefs, Config, CtlDef, CtlDefs, LnDef, LnDefs, Octs, OctsList,
-    SetDef, SetDefs, SgDef, SgDefs, Value, Values, copy_type, copy_value,
+    SetDef, SetDefs, SgDef, SgDefs, Value, Values, copy_value,
 };
 
 fn copy_octs(alloc: Global, list: &[Octs]) -> Result<Vec<Octs>, AllocError>
@@ -58,7 +58,7 @@ fn copy_attr(alloc: Global, attr: &AttrDef) -> Result<AttrDef, AllocError>
         ln: attr.ln.copy(alloc)?,
         fc: attr.fc.copy(alloc)?,
         path: attr.path.copy(alloc)?,
-        kind: copy_type(alloc, &attr.kind)?,
+        kind: attr.kind.share()?,
         dchg: attr.dchg,
         qchg: attr.qchg,
         dupd: attr.dupd,
@@ -139,7 +139,7 @@ fn copy_control(alloc: Global, control: &CtlDef) -> Result<CtlDef, AllocError>
         model: control.model,
         timeout: control.timeout,
         class: control.class,
-        kind: copy_type(alloc, &control.kind)?,
+        kind: control.kind.share()?,
     })
 }
 

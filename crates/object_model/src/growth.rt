@@ -16,7 +16,7 @@ use bay_model::AttrIds;
 use object_names::numbers::plus;
 use object_names::{Leaf, What, own_leaf};
 use std::alloc::{AllocError, Global};
-use sv_base::{AttrId, Octs, Part1, Parts, TypeOf, copy_type};
+use sv_base::{AttrId, Octs, Part1, Parts, TypeOf};
 
 /// A node: its item, the type of its Data, its attributes in the order of the type, and whether it holds attributes alone;
 /// what it is, its leaf where it has no parts, and how many leaves it has.
@@ -62,10 +62,10 @@ fn own_type(alloc: Global, cuts: &[Cut<'_>]) -> Result<TypeOf, AllocError>
     for cut in cuts {
         if cut.is_itself() {
             let named = cut.named;
-            return copy_type(alloc, &named.kind);
+            return named.kind.share();
         }
     }
-    Ok(TypeOf::Struct(Parts::from_vec(Vec::new(alloc))))
+    Ok(TypeOf::Struct(Parts::from_vec(alloc, Vec::new(alloc))?))
 }
 
 /// The type of a name: the structure of its parts, where it has some.
@@ -73,11 +73,10 @@ fn own_type(alloc: Global, cuts: &[Cut<'_>]) -> Result<TypeOf, AllocError>
 fn type_of(alloc: Global, cuts: &[Cut<'_>], parts: Vec<Part1>) -> Result<TypeOf, AllocError>
     ensures { IfOk result (λ k. k ≡ type_with (own_type_of cuts.now) (fields_of parts.items)) }
 {
-    let parts = Parts::from_vec(parts);
     if parts.is_empty() {
         return own_type(alloc, cuts);
     }
-    Ok(TypeOf::Struct(parts))
+    Ok(TypeOf::Struct(Parts::from_vec(alloc, parts)?))
 }
 
 fn is_data(what: What) -> bool
@@ -162,7 +161,7 @@ fn add_part(alloc: Global, grown: &mut Grown, name: &[u8], spot: &Spot) -> Resul
     ensures leaves { OnOk result (grown.new.leaves ≡ grown.old.leaves + spot.now.leaves) }
 {
     let name = Octs::from_vec(Vec::from_slice(alloc, name)?);
-    let kind = copy_type(alloc, &spot.kind)?;
+    let kind = spot.kind.share()?;
     grown.parts.push(Part1 { name, kind })?;
     grown.attrs.extend_from_slice(spot.attrs.as_slice())?;
     grown.is_data = grown.is_data && spot.is_data;

@@ -13,7 +13,7 @@ use crate::numbers::plus;
 use crate::references::{is_selected, is_setting, item_at, joined, reference_at};
 use bay_model::Flags;
 use std::alloc::{AllocError, Global};
-use sv_base::{AttrDef, Config, CtlDef, Octs, TypeOf, copy_type};
+use sv_base::{AttrDef, Config, CtlDef, Octs, TypeOf};
 
 /// An attribute: its reference `LD/LN$FC$PATH`, its type and its trigger conditions (IEC 61850-7-2, DataAttribute).
 #[derive(Drop)]
@@ -35,7 +35,7 @@ fn push_at(
     let (domain, ln, path) = (&attr.domain, &attr.ln, &attr.path);
     out.push(AttrRow {
         reference: reference_at(alloc, domain.as_slice(), ln.as_slice(), fc, path.as_slice())?,
-        kind: copy_type(alloc, &attr.kind)?,
+        kind: attr.kind.share()?,
         flags: Flags {
             dchg: attr.dchg,
             qchg: attr.qchg,

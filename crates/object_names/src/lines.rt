@@ -17,7 +17,7 @@ use crate::numbers::{count, plus};
 use crate::references::{is_selected, is_setting, item_at};
 use std::alloc::{AllocError, Global};
 use std::marker::Model;
-use sv_base::{AttrDef, BlockDef, Config, CtlDef, LnDef, Octs, SgDef, copy_type};
+use sv_base::{AttrDef, BlockDef, Config, CtlDef, LnDef, Octs, SgDef};
 
 /// A line, by its number, with the items of its domain that it names.
 #[derive(Drop)]
@@ -76,7 +76,7 @@ fn push_end(
     ensures { OnOk result (out.new.items ≡ out.old.items ++ end_named (path_item attr.now.ln fc.now attr.now.path) (attribute number) attr.now.kind ∷ []) }
 {
     let item = item_at(alloc, attr.ln.as_slice(), fc, attr.path.as_slice())?;
-    let kind = copy_type(alloc, &attr.kind)?;
+    let kind = attr.kind.share()?;
     out.push(Named {
         item: Octs::from_vec(item),
         what: What::Attribute(number),

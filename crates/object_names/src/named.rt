@@ -10,7 +10,7 @@ use crate::references::{is_selected, joined};
 use bay_model::{Comp, SettingComp};
 use std::alloc::{AllocError, Global};
 use std::marker::Model;
-use sv_base::{CtlDef, Octs, Parts, TypeOf, copy_type};
+use sv_base::{CtlDef, Octs, Parts, TypeOf};
 
 /// A service of a control that carries a value (IEC 61850-8-1, SBOw, Oper and Cancel).
 #[derive(Clone, Copy)]
@@ -171,7 +171,7 @@ pub fn push_structure(
     ensures { OnOk result (out.new.items ≡ out.old.items ++ structure_named item.now (role_seen what) ∷ []) }
 {
     let item = Octs::from_vec(Vec::from_slice(alloc, item)?);
-    let kind = TypeOf::Struct(Parts::from_vec(Vec::new(alloc)));
+    let kind = TypeOf::Struct(Parts::from_vec(alloc, Vec::new(alloc))?);
     out.push(Named { item, what, kind })?;
     Ok(())
 }
@@ -184,7 +184,7 @@ fn push_ctl_val(
 ) -> Result<(), AllocError>
     ensures { OnOk result (out.new.items ≡ out.old.items ++ end_named (within item.now (codes "ctlVal")) withheld kind.now ∷ []) }
 {
-    let kind = copy_type(alloc, kind)?;
+    let kind = kind.share()?;
     push_part(alloc, out, item, b"ctlVal", kind)
 }
 

@@ -2,7 +2,7 @@
 
 ghost use Rattle.std.specs.Prelude.{◌≡◌, IfOk};
 
-use crate::{Bits, Octs, Part1, Parts, TypeOf, Value, Values};
+use crate::{Bits, Octs, TypeOf, Value, Values};
 use std::alloc::{AllocError, Global};
 
 impl Octs {
@@ -23,39 +23,24 @@ impl Bits {
     }
 }
 
-/// The same type again.
-#[cycle(copy_types)]
-pub fn copy_type(alloc: Global, kind: &TypeOf) -> Result<TypeOf, AllocError>
-    ensures { IfOk result (λ k. k ≡ kind.now) }
-{
-    match kind {
-        TypeOf::Bool => Ok(TypeOf::Bool),
-        TypeOf::Int(width) => Ok(TypeOf::Int(*width)),
-        TypeOf::Uint(width) => Ok(TypeOf::Uint(*width)),
-        TypeOf::Bits(len) => Ok(TypeOf::Bits(*len)),
-        TypeOf::Time => Ok(TypeOf::Time),
-        TypeOf::Stamp => Ok(TypeOf::Stamp),
-        TypeOf::Text(most) => Ok(TypeOf::Text(*most)),
-        TypeOf::Octets(most) => Ok(TypeOf::Octets(*most)),
-        TypeOf::EntryId => Ok(TypeOf::EntryId),
-        TypeOf::Struct(parts) => {
-            let copies = copy_parts(alloc, parts.as_slice())?;
-            Ok(TypeOf::Struct(Parts::from_vec(copies)))
+impl TypeOf {
+    /// The same type again: a structure's components are shared. It takes no memory.
+    pub fn share(&self) -> Result<TypeOf, AllocError>
+        ensures { IfOk result (λ k. k ≡ self.now) }
+    {
+        match self {
+            TypeOf::Bool => Ok(TypeOf::Bool),
+            TypeOf::Int(width) => Ok(TypeOf::Int(*width)),
+            TypeOf::Uint(width) => Ok(TypeOf::Uint(*width)),
+            TypeOf::Bits(len) => Ok(TypeOf::Bits(*len)),
+            TypeOf::Time => Ok(TypeOf::Time),
+            TypeOf::Stamp => Ok(TypeOf::Stamp),
+            TypeOf::Text(most) => Ok(TypeOf::Text(*most)),
+            TypeOf::Octets(most) => Ok(TypeOf::Octets(*most)),
+            TypeOf::EntryId => Ok(TypeOf::EntryId),
+            TypeOf::Struct(parts) => Ok(TypeOf::Struct(parts.share()?)),
         }
     }
-}
-
-#[cycle(copy_types)]
-fn copy_parts(alloc: Global, parts: &[Part1]) -> Result<Vec<Part1>, AllocError>
-    ensures { IfOk result (λ copies. copies.items ≡ parts.now) }
-{
-    let mut copies = Vec::new(alloc);
-    for part in parts {
-        let name = part.name.copy(alloc)?;
-        let kind = copy_type(alloc, &part.kind)?;
-        copies.push(Part1 { name, kind })?;
-    }
-    Ok(copies)
 }
 
 /// The same value again.

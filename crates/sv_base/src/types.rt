@@ -1,7 +1,9 @@
 //! The types of attributes, of components and of structures of these (ISO 9506-2, TypeSpecification).
 
 use crate::Octs;
+use std::alloc::{AllocError, Global};
 use std::marker::Model;
+use std::sync::Arc;
 
 /// The type of an attribute, of a component or of a structure of these (ISO 9506-2, TypeSpecification).
 #[derive(Debug, Drop)]
@@ -38,7 +40,7 @@ pub struct Part1 {
 #[derive(Debug, Drop)]
 #[cycle(types)]
 pub struct Parts {
-    items: Vec<Part1>,
+    items: Arc<Vec<Part1>>,
 }
 
 impl Model for Parts {
@@ -50,55 +52,58 @@ impl Model for Parts {
 
     ghost use Rattle.sv_base.specs.Fields.{fields_of};
 
-    ghost view = { λ p. fields_of p.items.items };
+    ghost view = { λ p. fields_of p.items.value.items };
 
     ghost size = { weight_fields };
 
     ghost use Rattle.std.proofs.Common.{arith};
     ghost use Rattle.sv_base.specs.Falls.{most-parts-le};
 
-    ghost size_decreases = { λ a h. omega (arith, most-parts-le a.items.items) };
+    ghost size_decreases = { λ a h. omega (arith, most-parts-le a.items.value.items) };
 }
 
 #[tactic(auto, using(crate::proofs::FieldLaws::fields))]
 impl Parts {
-    ghost use Rattle.std.specs.Prelude.{◌≡◌, ◌==◌, length, slice_get, option_copied};
+    ghost use Rattle.std.specs.Prelude.{◌≡◌, ◌==◌, length, slice_get, option_copied, IfOk};
     ghost use Rattle.sv_base.specs.Fields.{fields_of, parts_of};
 
-    /// The components in this order. It takes no memory.
-    pub fn from_vec(items: Vec<Part1>) -> Self
-        ensures { result ≡ fields_of items.items }
+    /// The components in this order.
+    pub fn from_vec(alloc: Global, items: Vec<Part1>) -> Result<Self, AllocError>
+        ensures { IfOk result (λ p. p ≡ fields_of items.items) }
     {
-        Parts { items }
+        Ok(Parts {
+            items: Arc::new(alloc, items)?,
+        })
     }
 
-    /// The components. It takes no memory.
-    pub fn into_vec(self) -> Vec<Part1>
-        ensures fields { fields_of result.items ≡ self }
-        ensures items { result.items ≡ parts_of self }
+    /// The same components again. It takes no memory.
+    pub fn share(&self) -> Result<Self, AllocError>
+        ensures { IfOk result (λ p. p ≡ self.now) }
     {
-        self.items
+        Ok(Parts {
+            items: Arc::try_clone(&self.items)?,
+        })
     }
 
     /// How many components there are.
     pub fn len(&self) -> usize
         ensures { result ≡ length (parts_of self.now) }
     {
-        self.items.len()
+        self.as_slice().len()
     }
 
     /// There is no component.
     pub fn is_empty(&self) -> bool
         ensures { result ≡ (length (parts_of self.now) == 0) }
     {
-        self.items.is_empty()
+        self.as_slice().is_empty()
     }
 
     /// The component at a place, counted from 0; none exactly where there are no more than that.
     pub fn get(&self, i: usize) -> Option<&Part1>
         ensures { option_copied result ≡ slice_get (parts_of self.now) i }
     {
-        self.items.get(i)
+        self.as_slice().get(i)
     }
 
     /// The components, borrowed.
@@ -106,6 +111,6 @@ impl Parts {
         ensures fields { fields_of result.now ≡ self.now }
         ensures items { result.now ≡ parts_of self.now }
     {
-        &self.items
+        self.items.as_slice()
     }
 }

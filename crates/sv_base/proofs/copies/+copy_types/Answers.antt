@@ -1,7 +1,0 @@
-use Rattle.std.proofs.Common.{ap, arith}
-use Rattle.sv_base.specs.declared.types.Parts.TheDeep.{size-TypeOf}
-use Rattle.sv_base.proofs.SizeLaws.{most-parts-size-lt}
-use Rattle.sv_base.proofs.copies.+copy_types.Goals as goal
-
-pub copy_type-copy_parts-requires : goal.copy_type-copy_parts-requires
-copy_type-copy_parts-requires t c = (omega (arith, c.decreases, ap size-TypeOf c.in-Struct.is, most-parts-size-lt c.as_slice.result.now c.in-Struct.parts c.as_slice.ensures.fields), tt)

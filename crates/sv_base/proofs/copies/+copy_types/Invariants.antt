@@ -1,5 +1,0 @@
-use Rattle.std.proofs.Common.{◌≡◌, take}
-use Rattle.sv_base.proofs.copies.+copy_types.Given as goal
-
-abbrev pub invariant-copy_parts-loop-part : goal.invariant-copy_parts-loop-part
-invariant-copy_parts-loop-part l = l.copies.items ≡ take l.part-index l.parts
