@@ -201,7 +201,7 @@ pub fn values_of(
 ) -> Result<Option<Vec<Value>>, AllocError>
     ensures { IfOk result (λ r. option_values r ≡ values_at kind.now (texts words.now)) }
 {
-    let mut values = Vec::new(alloc);
+    let mut values = Vec::with_capacity(alloc, words.len())?;
     for word in words {
         match value(alloc, kind, word)? {
             Some(value) => values.push(value)?,

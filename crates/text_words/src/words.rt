@@ -4,14 +4,15 @@ ghost use Rattle.std.specs.Prelude.{◌≡◌, ◌==◌, IfOk, option_copied};
 ghost use Rattle.text_words.specs.Words.{behind, texts};
 ghost use Rattle.std.specs.List.{slice_split};
 
+use smallvec::SmallVec;
 use std::alloc::{AllocError, Global};
 
-/// What stands between the separators.
+/// What stands between the separators. Up to ten parts take no memory.
 pub fn parts_of<'a>(
     alloc: Global,
     octets: &'a [u8],
     separator: u8,
-) -> Result<Vec<&'a [u8]>, AllocError>
+) -> Result<SmallVec<&'a [u8], 10>, AllocError>
     ensures { IfOk result (λ v. texts v.items ≡ slice_split (λ b. b == separator) octets.now) }
 {
     octets.split(|octet| *octet == separator).collect(alloc)

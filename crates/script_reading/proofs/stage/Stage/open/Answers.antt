@@ -18,10 +18,10 @@ pub returns-in-Some-clause-moves : goal.returns-in-Some-clause-moves
 returns-in-Some-clause-moves c =
     let heads = subst (λ o. Heads o c.args.number (headed c.args.number (texts c.deref.result.now))) c.in-Some.is (c.heading_fault.ensures c.args.number) in
     open-headed c.args.number c.args.line.now (texts c.deref.result.now) _ (sym c.is_long.ensures ∙ c.if-is_long.false) (sym c.is_skipped.ensures ∙ c.if-is_skipped.false)
-    (ap texts c.deref.ensures.value ∙ c.in_ok-words.ensures) (heads ∙ ap (λ k. stops (statuses.Record c.args.number k)) (sym c.number-in-Some.ensures))
+    (ap texts c.deref.ensures ∙ c.in_ok-words.ensures) (heads ∙ ap (λ k. stops (statuses.Record c.args.number k)) (sym c.number-in-Some.ensures))
 
 pub returns-clause-moves : goal.returns-clause-moves
 returns-clause-moves c =
     let heads = subst (λ o. Heads o c.args.number (headed c.args.number (texts c.deref.result.now))) c.in_default.is (c.heading_fault.ensures c.args.number) in
     open-headed c.args.number c.args.line.now (texts c.deref.result.now) _ (sym c.is_long.ensures ∙ c.if-is_long.false) (sym c.is_skipped.ensures ∙ c.if-is_skipped.false)
-    (ap texts c.deref.ensures.value ∙ c.in_ok-words.ensures) (heads ∙ (ap (λ t. goes (configuring c.args.number t)) (sym c.new.ensures.items) ∙ ap (λ s. goes (place_of s)) (sym c.enter.ensures)))
+    (ap texts c.deref.ensures ∙ c.in_ok-words.ensures) (heads ∙ (ap (λ t. goes (configuring c.args.number t)) (sym c.new.ensures.items) ∙ ap (λ s. goes (place_of s)) (sym c.enter.ensures)))
