@@ -15,12 +15,11 @@ use Rattle.bay_model.specs.Lookups.{node_of}
 use Rattle.bay_model.specs.Reports.{reference_at}
 use Rattle.bay_model.specs.Named.{configured_model}
 use Rattle.bay_model.specs.Parameters.{parameters_at}
-use Rattle.bay_model.specs.Places.{largest}
+use Rattle.bay_model.specs.Places.{Place, largest}
 use Rattle.bay_model.specs.Points.{Past}
 use Rattle.bay_model.specs.Sets.{members, sets, set_referred}
 use Rattle.data_sets.specs.Books.{Booked, Book, no_set}
 use Rattle.data_sets.specs.Standing.{data_set}
-use Rattle.object_model.specs.declared.growth.Spot.{Spot}
 use Rattle.object_model.specs.Nodes.{node_rows, rows_from}
 use Rattle.object_model.specs.Rows.{IsRowOf}
 use Rattle.object_model.specs.Tables.{node_type, node_id}
@@ -93,9 +92,9 @@ pub record IsShapeOf (c : Config) (n : ℕ) (shape : MemberShape) : Type 0 where
 abbrev IsSized : NodeRow → Type 0
 IsSized r = r.octets ≡ min (largest r.shape.kind) 4294967295
 
-rows-sized : (n : ℕ) (ss : List Spot) → All IsSized (rows_from n ss)
+rows-sized : (n : ℕ) (ps : List Place) → All IsSized (rows_from n ps)
 rows-sized n [] = All-nil IsSized
-rows-sized n (s ∷ ss) = All-cons IsSized _ (rows_from (suc n) ss) refl (rows-sized (suc n) ss)
+rows-sized n (p ∷ ps) = All-cons IsSized _ (rows_from (suc n) ps) refl (rows-sized (suc n) ps)
 
 row-shape : (c : Config) (n : ℕ) (r : NodeRow) → IsRowOf c n r → IsSized r → (node_of (configured_model c) n).allowed ≡ true → IsShapeOf c n r.shape
 row-shape c n r is sized allowed =

@@ -3,66 +3,95 @@
 use crate::{Nodes, SetName};
 use std::alloc::{AllocError, Global};
 use std::marker::Model;
+use std::sync::Arc;
 use sv_base::{AttrId, NodeId, TypeOf};
 
-/// The attributes of a node, in the order of its type.
+/// The attributes of a node, in the order of its type: a part of a row, which others may share.
 #[derive(Debug, Drop)]
 pub struct AttrIds {
-    items: Vec<AttrId>,
+    row: Arc<Vec<AttrId>>,
+    first: u32,
+    end: u32,
 }
 
 impl Model for AttrIds {
-    ghost use Rattle.std.specs.Prelude.{List};
+    ghost use Rattle.std.specs.Prelude.{List, ◌-◌, ◌≤◌, length, take, drop};
     ghost use Rattle.sv_base.specs.declared.numbers.AttrId.{AttrId};
 
     ghost Value = { List AttrId };
 
-    ghost view = { λ l. l.items.items };
+    ghost view = { λ l. take (l.end - l.first) (drop l.first l.row.value.items) };
+
+    ghost invariant = { λ l. (l.first ≤ l.end) × (l.end ≤ length l.row.value.items) };
 }
 
 impl AttrIds {
-    ghost use Rattle.std.specs.Prelude.{◌≡◌, ◌==◌, length, slice_get, option_copied};
+    ghost use Rattle.std.specs.Prelude.{◌≡◌, ◌==◌, take, drop, length, slice_get, option_copied, IfOk};
 
-    /// The row of these attributes. It takes no memory.
-    pub fn from_vec(items: Vec<AttrId>) -> Self
-        ensures { result ≡ items.items }
+    /// The row of these attributes.
+    pub fn from_vec(alloc: Global, items: Vec<AttrId>) -> Result<Self, AllocError>
+        ensures { IfOk result (λ l. l ≡ items.items) }
     {
-        AttrIds { items }
+        if items.len() > 0xffff_ffff {
+            return Err(AllocError);
+        }
+        let end = items.len() as u32;
+        Ok(AttrIds {
+            row: Arc::new(alloc, items)?,
+            first: 0,
+            end,
+        })
     }
 
-    /// The attributes. It takes no memory.
-    pub fn into_vec(self) -> Vec<AttrId>
-        ensures { result.items ≡ self }
+    /// At most so many of these attributes, from a place on, counted from 0. It takes no memory.
+    pub fn part(&self, first: u32, count: u32) -> Result<Self, AllocError>
+        ensures { IfOk result (λ l. l ≡ take count (drop first self.now)) }
     {
-        self.items
+        let first = self.first + first.min(self.end - self.first);
+        Ok(AttrIds {
+            row: Arc::try_clone(&self.row)?,
+            first,
+            end: first + count.min(self.end - first),
+        })
+    }
+
+    /// The same attributes. It takes no memory.
+    pub fn share(&self) -> Result<Self, AllocError>
+        ensures { IfOk result (λ l. l ≡ self.now) }
+    {
+        Ok(AttrIds {
+            row: Arc::try_clone(&self.row)?,
+            first: self.first,
+            end: self.end,
+        })
     }
 
     /// How many attributes there are.
     pub fn len(&self) -> usize
         ensures { result ≡ length self.now }
     {
-        self.items.len()
+        self.as_slice().len()
     }
 
     /// There is no attribute.
     pub fn is_empty(&self) -> bool
         ensures { result ≡ (length self.now == 0) }
     {
-        self.items.is_empty()
+        self.as_slice().is_empty()
     }
 
     /// The attribute at a place, counted from 0; none exactly where the row is no longer than that.
     pub fn get(&self, i: usize) -> Option<&AttrId>
         ensures { option_copied result ≡ slice_get self.now i }
     {
-        self.items.get(i)
+        self.as_slice().get(i)
     }
 
     /// The attributes, borrowed.
     pub fn as_slice(&self) -> &[AttrId]
         ensures { result.now ≡ self.now }
     {
-        &self.items
+        &self.row.as_slice()[self.first as usize..self.end as usize]
     }
 }
 
@@ -84,7 +113,7 @@ impl MemberShape {
         Ok(MemberShape {
             node: self.node,
             kind: self.kind.share()?,
-            attrs: AttrIds::from_vec(Vec::from_slice(alloc, self.attrs.as_slice())?),
+            attrs: self.attrs.share()?,
         })
     }
 }

@@ -245,10 +245,11 @@ fn settings_keep_their_order(rt: HostRuntime) -> Result<(), Fail> {
 }
 
 #[test]
-fn a_list_of_nothing_is_empty(rt: HostRuntime) {
+fn a_list_of_nothing_is_empty(rt: HostRuntime) -> Result<(), Fail> {
     let sets = Sets::from_vec(Vec::new(rt.alloc()));
-    let attrs = AttrIds::from_vec(Vec::new(rt.alloc()));
-    assert!(rt; sets.is_empty() && attrs.into_vec().is_empty());
+    let attrs = AttrIds::from_vec(rt.alloc(), Vec::new(rt.alloc()))?;
+    assert!(rt; sets.is_empty() && attrs.is_empty());
+    Ok(())
 }
 
 fn has_two_attributes(attrs: &AttrIds) -> bool {
@@ -260,13 +261,22 @@ fn has_two_attributes(attrs: &AttrIds) -> bool {
 }
 
 fn two_attributes(alloc: Global) -> Result<AttrIds, AllocError> {
-    Ok(AttrIds::from_vec(with(one(alloc, AttrId(4))?, AttrId(2))?))
+    AttrIds::from_vec(alloc, with(one(alloc, AttrId(4))?, AttrId(2))?)
 }
 
 #[test]
 fn numbers_of_attributes_keep_their_order(rt: HostRuntime) -> Result<(), Fail> {
     let attrs = two_attributes(rt.alloc())?;
-    assert!(rt; has_two_attributes(&attrs) && attrs.into_vec().len() == 2);
+    assert!(rt; has_two_attributes(&attrs) && has_two_attributes(&attrs.share()?));
+    Ok(())
+}
+
+#[test]
+fn a_part_of_attributes_ends_where_they_end(rt: HostRuntime) -> Result<(), Fail> {
+    let attrs = two_attributes(rt.alloc())?;
+    let second = attrs.part(1, 7)?;
+    assert!(rt; second.len() == 1 && second.get(0) == Some(&AttrId(2)));
+    assert!(rt; second.part(1, 1)?.is_empty() && attrs.part(3, 1)?.is_empty());
     Ok(())
 }
 

@@ -44,7 +44,7 @@ fn row(rt: &HostRuntime, attrs: &[u32]) -> Result<NodeRow, Fail> {
         shape: MemberShape {
             node: NodeId(0),
             kind: TypeOf::Bool,
-            attrs: AttrIds::from_vec(items),
+            attrs: AttrIds::from_vec(rt.alloc(), items)?,
         },
     })
 }

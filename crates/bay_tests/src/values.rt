@@ -223,7 +223,7 @@ fn writes_members_in_the_order_of_their_type(rt: HostRuntime) -> Result<(), Fail
     let shape = MemberShape {
         node: NodeId(3),
         kind: TypeOf::Struct(Parts::from_vec(rt.alloc(), parts)?),
-        attrs: AttrIds::from_vec(vec![in alloc; AttrId(2), AttrId(1)]?),
+        attrs: AttrIds::from_vec(alloc, vec![in alloc; AttrId(2), AttrId(1)]?)?,
     };
     let mut out = Fixed::new(alloc, 8)?;
     let count = store.member_bytes(&shape, &mut out);

@@ -3,4 +3,4 @@
 
 mod sorting;
 
-pub use sorting::{in_order, names_after, sorted};
+pub use sorting::{in_order, name_at, names_after, names_after_at, places_in_order, sorted};

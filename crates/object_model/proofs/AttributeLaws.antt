@@ -15,8 +15,9 @@ use Rattle.bay_model.specs.Attributes.{attr_defined, attrs_defined, attrs_genera
 use Rattle.bay_model.specs.Named.{configured_model}
 use Rattle.object_model.specs.Tables.{flags_of, line_flags, no_flags, control_flags, attr_flags}
 use Rattle.object_model.specs.Fits.{attr_types}
+use Rattle.object_names.specs.declared.attributes.Attribute.{Attribute}
 use Rattle.object_names.specs.declared.attributes.AttrRow.{AttrRow}
-use Rattle.object_names.specs.Attributes.{line_row, twin_row, parameter_row, control_rows, attr_rows, types_of}
+use Rattle.object_names.specs.Attributes.{line_attr, twin_attr, parameter_attr, control_attrs, attrs, rows_of, attr_rows, types_of}
 use Rattle.list_laws.proofs.Places.{same_at}
 
 of_lines : (c : Config) (x : ℕ) (as_ : List AttrDef) → map flags_of (attrs_defined c x as_) ≡ map line_flags as_
@@ -46,31 +47,35 @@ flags-are c = sym (map-append flags_of (attrs_defined c 0 c.attrs) (flat_map (at
     ∙ ap (λ l. map line_flags c.attrs ++ l) (map-append flags_of (flat_map (attrs_generated c) c.controls) (twins c 0 c.attrs)
     ∙ (ap (λ l. l ++ map flags_of (twins c 0 c.attrs)) (of_controls c c.controls) ∙ ap (λ l. flat_map control_flags c.controls ++ l) (of_twins c 0 c.attrs)))))
 
--- the rows, field by field
-module _ {A : Type 0} (field : AttrRow → A) (line : AttrDef → A) (parameter : Parameter → A) (lines : (a : AttrDef) → field (line_row a) ≡ line a) (twins_ : (a : AttrDef) → field (twin_row a) ≡ line a) (parameters_ : (k : CtlDef) (p : Parameter) → field (parameter_row k p) ≡ parameter p) where
-  each : {X : Type 0} (row : X → AttrRow) (f : X → A) → ((x : X) → field (row x) ≡ f x) → (xs : List X) → map field (map row xs) ≡ map f xs
+-- the attributes, field by field
+module _ {A : Type 0} (field : Attribute → A) (line : AttrDef → A) (parameter : Parameter → A) (lines : (a : AttrDef) → field (line_attr a) ≡ line a) (twins_ : (a : AttrDef) → field (twin_attr a) ≡ line a) (parameters_ : (k : CtlDef) (p : Parameter) → field (parameter_attr k p) ≡ parameter p) where
+  each : {X : Type 0} (row : X → Attribute) (f : X → A) → ((x : X) → field (row x) ≡ f x) → (xs : List X) → map field (map row xs) ≡ map f xs
   each row f same [] = refl
   each row f same (x ∷ xs) = let with : A → List A → List A = λ a as_. a ∷ as_ in ap (λ a. with a (map field (map row xs))) (same x) ∙ ap (with (f x)) (each row f same xs)
 
-  of_each : (ks : List CtlDef) → map field (flat_map control_rows ks) ≡ flat_map (λ (k : CtlDef). map parameter (parameters k)) ks
+  of_each : (ks : List CtlDef) → map field (flat_map control_attrs ks) ≡ flat_map (λ (k : CtlDef). map parameter (parameters k)) ks
   of_each [] = refl
-  of_each (k ∷ ks) = map-append field (control_rows k) (flat_map control_rows ks)
-      ∙ (ap (λ l. l ++ map field (flat_map control_rows ks)) (each (parameter_row k) parameter (parameters_ k) (parameters k)) ∙ ap (λ l. map parameter (parameters k) ++ l) (of_each ks))
+  of_each (k ∷ ks) = map-append field (control_attrs k) (flat_map control_attrs ks)
+      ∙ (ap (λ l. l ++ map field (flat_map control_attrs ks)) (each (parameter_attr k) parameter (parameters_ k) (parameters k)) ∙ ap (λ l. map parameter (parameters k) ++ l) (of_each ks))
 
-  pub rows-by : (c : Config) → map field (attr_rows c) ≡ map line c.attrs ++ (flat_map (λ (k : CtlDef). map parameter (parameters k)) c.controls ++ map line (filter is_setting c.attrs))
-  rows-by c = map-append field (map line_row c.attrs) (flat_map control_rows c.controls ++ map twin_row (filter is_setting c.attrs))
-      ∙ (ap (λ l. l ++ map field (flat_map control_rows c.controls ++ map twin_row (filter is_setting c.attrs))) (each line_row line lines c.attrs)
-      ∙ ap (λ l. map line c.attrs ++ l) (map-append field (flat_map control_rows c.controls) (map twin_row (filter is_setting c.attrs))
-      ∙ (ap (λ l. l ++ map field (map twin_row (filter is_setting c.attrs))) (of_each c.controls) ∙ ap (λ l. flat_map (λ (k : CtlDef). map parameter (parameters k)) c.controls ++ l) (each twin_row line twins_ (filter is_setting c.attrs)))))
+  attrs-by : (c : Config) → map field (attrs c) ≡ map line c.attrs ++ (flat_map (λ (k : CtlDef). map parameter (parameters k)) c.controls ++ map line (filter is_setting c.attrs))
+  attrs-by c = map-append field (map line_attr c.attrs) (flat_map control_attrs c.controls ++ map twin_attr (filter is_setting c.attrs))
+      ∙ (ap (λ l. l ++ map field (flat_map control_attrs c.controls ++ map twin_attr (filter is_setting c.attrs))) (each line_attr line lines c.attrs)
+      ∙ ap (λ l. map line c.attrs ++ l) (map-append field (flat_map control_attrs c.controls) (map twin_attr (filter is_setting c.attrs))
+      ∙ (ap (λ l. l ++ map field (map twin_attr (filter is_setting c.attrs))) (of_each c.controls) ∙ ap (λ l. flat_map (λ (k : CtlDef). map parameter (parameters k)) c.controls ++ l) (each twin_attr line twins_ (filter is_setting c.attrs)))))
+
+of_rows : {A : Type 0} (field : AttrRow → A) (as_ : List Attribute) → map field (rows_of as_) ≡ map (λ (a : Attribute). field a.row) as_
+of_rows field [] = refl
+of_rows field (a ∷ as_) = ap (λ l. field a.row ∷ l) (of_rows field as_)
 
 pub rows-types : (c : Config) → types_of (attr_rows c) ≡ attr_types c
-rows-types c = rows-by (λ (r : AttrRow). r.kind) (λ (a : AttrDef). a.kind) (λ (p : Parameter). p.kind) (λ a. refl) (λ a. refl) (λ k p. refl) c
+rows-types c = of_rows (λ (r : AttrRow). r.kind) (attrs c) ∙ attrs-by (λ (a : Attribute). a.row.kind) (λ (a : AttrDef). a.kind) (λ (p : Parameter). p.kind) (λ a. refl) (λ a. refl) (λ k p. refl) c
 
 abbrev flags_at : AttrRow → Flags
 flags_at r = r.flags
 
 rows-flags : (c : Config) → map flags_at (attr_rows c) ≡ map flags_of (attributes c)
-rows-flags c = rows-by flags_at line_flags (λ (p : Parameter). no_flags) (λ a. refl) (λ a. refl) (λ k p. refl) c ∙ flags-are c
+rows-flags c = of_rows flags_at (attrs c) ∙ (attrs-by (λ (a : Attribute). a.row.flags) line_flags (λ (p : Parameter). no_flags) (λ a. refl) (λ a. refl) (λ k p. refl) c ∙ flags-are c)
 
 -- the row of an attribute, by the rows of a model's configuration
 pub within-rows : (c named : Config) (rows : List AttrRow) (n : ℕ) → c ≡ named → rows ≡ attr_rows c → n < length (attributes named) → n < length rows

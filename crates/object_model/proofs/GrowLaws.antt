@@ -17,7 +17,7 @@ use Rattle.object_names.specs.Leaves.{leaves, leaves_side, leaf_code}
 use Rattle.object_model.specs.Leaves.{own, leaves_with}
 use Rattle.object_model.proofs.LeafLaws.{own_tree, count_tree}
 use Rattle.object_model.specs.Groups.{Group, group_at, groups}
-use Rattle.object_model.specs.Grown.{IsGrown, attr_id, spot, spot_with, forest_of}
+use Rattle.object_model.specs.Grown.{IsGrown, spot, spot_with, forest_of}
 use Rattle.object_model.specs.declared.growth.Grown.{Grown}
 use Rattle.object_model.specs.declared.growth.Spot.{Spot}
 
@@ -45,10 +45,14 @@ parts-more : (l : ℕ) (gs : List Group) (g : Group) → parts_of (fields (fores
 parts-more l [] g = ap (λ k. record { name = g.name; kind = k } ∷ []) (type-shape (type_with (own_type g.names) (fields (grown l g.names))))
 parts-more l (h ∷ hs) g = ap (λ ps. record { name = h.name; kind = type_of (shape_of (type_with (own_type h.names) (fields (grown l h.names)))) } ∷ ps) (parts-more l hs g)
 
-attrs-more : (l : ℕ) (gs : List Group) (g : Group) → attrs_in (forest_of l (gs ++ g ∷ [])) ≡ attrs_in (forest_of l gs) ++ (attrs_of_role (role_of g.names) ++ attrs_in (grown l g.names))
-attrs-more l [] g = append-nil (attrs_of_role (role_of g.names) ++ attrs_in (grown l g.names))
-attrs-more l (h ∷ hs) g = ap (λ as_. (attrs_of_role (role_of h.names) ++ attrs_in (grown l h.names)) ++ as_) (attrs-more l hs g)
-    ∙ sym (append_assoc (attrs_of_role (role_of h.names) ++ attrs_in (grown l h.names)) (attrs_in (forest_of l hs)) (attrs_of_role (role_of g.names) ++ attrs_in (grown l g.names)))
+attrs-more : (l : ℕ) (gs : List Group) (g : Group) → length (attrs_in (forest_of l (gs ++ g ∷ []))) ≡ length (attrs_in (forest_of l gs)) + (length (attrs_of_role (role_of g.names)) + length (attrs_in (grown l g.names)))
+attrs-more l [] g = omega (arith, ap length (append-nil (attrs_of_role (role_of g.names) ++ attrs_in (grown l g.names))), length-append (attrs_of_role (role_of g.names)) (attrs_in (grown l g.names)))
+attrs-more l (h ∷ hs) g = omega (
+  arith,
+  attrs-more l hs g,
+  length-append (attrs_of_role (role_of h.names) ++ attrs_in (grown l h.names)) (attrs_in (forest_of l (hs ++ g ∷ []))),
+  length-append (attrs_of_role (role_of h.names) ++ attrs_in (grown l h.names)) (attrs_in (forest_of l hs)),
+)
 
 both : (a b : Bool) → a && b && true ≡ a && b
 both true true = refl
@@ -79,19 +83,19 @@ leaves-is before l g b h = ap (λ fs. leaves_with g fs b.leaves) (ap fields_of h
     ∙ (ap (λ n. leaves_with g (fields (grown l g.names)) n) h.leaves ∙ count_tree (role_of g.names) (grown l g.names))
 
 -- the code's node of a group whose parts have grown
-spot-is : (before : List ℕ) (l : ℕ) (g : Group) (b : Grown) → IsGrown b (before ++ g.name ++ 36 ∷ []) (grown l g.names) → spot_with (before ++ g.name) g (fields_of b.parts.items) b.attrs.items b.is_data b.leaves ≡ spot (node before l g)
-spot-is before l g b h = ap (λ n. record (spot_with (before ++ g.name) g (fields_of b.parts.items) b.attrs.items b.is_data b.leaves) { leaves = n }) (leaves-is before l g b h)
-    ∙ (ap (λ fs. record (spot_with (before ++ g.name) g fs b.attrs.items b.is_data b.leaves) { leaves = length (leaves (tree l g)) }) (ap fields_of h.parts ∙ fields-parts (fields (grown l g.names)))
-    ∙ (ap (λ o. record (spot_with (before ++ g.name) g (fields (grown l g.names)) b.attrs.items b.is_data b.leaves) { leaves = length (leaves (tree l g)); own = option_map leaf_code o }) (own_tree (role_of g.names) (grown l g.names))
+spot-is : (before : List ℕ) (l : ℕ) (g : Group) (b : Grown) → IsGrown b (before ++ g.name ++ 36 ∷ []) (grown l g.names) → spot_with (before ++ g.name) g (fields_of b.parts.items) b.attrs b.is_data b.leaves ≡ spot (node before l g)
+spot-is before l g b h = ap (λ n. record (spot_with (before ++ g.name) g (fields_of b.parts.items) b.attrs b.is_data b.leaves) { leaves = n }) (leaves-is before l g b h)
+    ∙ (ap (λ fs. record (spot_with (before ++ g.name) g fs b.attrs b.is_data b.leaves) { leaves = length (leaves (tree l g)) }) (ap fields_of h.parts ∙ fields-parts (fields (grown l g.names)))
+    ∙ (ap (λ o. record (spot_with (before ++ g.name) g (fields (grown l g.names)) b.attrs b.is_data b.leaves) { leaves = length (leaves (tree l g)); own = option_map leaf_code o }) (own_tree (role_of g.names) (grown l g.names))
     ∙ (ap (λ as_. record (spot (node before l g)) { attrs = as_; is_data = is_data_role (role_of g.names) && b.is_data })
-    (ap (λ as_. map attr_id (attrs_of_role (role_of g.names)) ++ as_) h.attrs ∙ sym (map-append attr_id (attrs_of_role (role_of g.names)) (attrs_in (grown l g.names))))
+    (ap (λ n. length (attrs_of_role (role_of g.names)) + n) h.attrs ∙ sym (length-append (attrs_of_role (role_of g.names)) (attrs_in (grown l g.names))))
     ∙ ap (λ d. record (spot (node before l g)) { is_data = is_data_role (role_of g.names) && d }) h.is_data)))
 
 -- what adding a group does
 pub record Added (old new : Grown) (before : List ℕ) (g : Group) (b : Grown) : Type 0 where
-  pub spots : new.spots.items ≡ old.spots.items ++ (spot_with (before ++ g.name) g (fields_of b.parts.items) b.attrs.items b.is_data b.leaves ∷ b.spots.items)
+  pub spots : new.spots.items ≡ old.spots.items ++ (spot_with (before ++ g.name) g (fields_of b.parts.items) b.attrs b.is_data b.leaves ∷ b.spots.items)
   pub parts : new.parts.items ≡ old.parts.items ++ record { name = g.name; kind = type_with (own_type g.names) (fields_of b.parts.items) } ∷ []
-  pub attrs : new.attrs.items ≡ old.attrs.items ++ (map attr_id (attrs_of_role (role_of g.names)) ++ b.attrs.items)
+  pub attrs : new.attrs ≡ old.attrs + (length (attrs_of_role (role_of g.names)) + b.attrs)
   pub is_data : new.is_data ≡ old.is_data && (is_data_role (role_of g.names) && b.is_data)
   pub leaves : new.leaves ≡ old.leaves + leaves_with g (fields_of b.parts.items) b.leaves
 
@@ -99,7 +103,7 @@ abbrev next : (gs : List Group) (i : ℕ) (g : Group) → i < length gs → g �
 next gs i g h e = take_more gs i g h ∙ ap (λ x. take i gs ++ x ∷ []) (sym e)
 
 pub spots-more : (before : List ℕ) (l : ℕ) (gs : List Group) (i : ℕ) (g : Group) (old new : List Spot) (b : Grown) → i < length gs → g ≡ get_or gs i g → old ≡ map spot (places before (forest_of l (take i gs))) → IsGrown b (before ++ g.name ++ 36 ∷ []) (grown l g.names)
-    → new ≡ old ++ (spot_with (before ++ g.name) g (fields_of b.parts.items) b.attrs.items b.is_data b.leaves ∷ b.spots.items) → new ≡ map spot (places before (forest_of l (take (i + 1) gs)))
+    → new ≡ old ++ (spot_with (before ++ g.name) g (fields_of b.parts.items) b.attrs b.is_data b.leaves ∷ b.spots.items) → new ≡ map spot (places before (forest_of l (take (i + 1) gs)))
 spots-more before l gs i g old new b h e o p a = a ∙ (ap (λ x. old ++ (x ∷ b.spots.items)) (spot-is before l g b p) ∙ (ap (λ x. old ++ (spot (node before l g) ∷ x)) p.spots ∙ (ap (λ x. x ++ (spot (node before l g) ∷ map spot (parts_in before l g))) o
     ∙ sym (ap (λ x. map spot (places before (forest_of l x))) (next gs i g h e) ∙ (ap (map spot) (places-more before l (take i gs) g) ∙ map-append spot (places before (forest_of l (take i gs))) (node before l g ∷ parts_in before l g))))))
 
@@ -109,8 +113,8 @@ grown-more before l gs i g old new b h e o p a = let next : take (i + 1) gs ≡ 
   spots = spots-more before l gs i g old.spots.items new.spots.items b h e o.spots p a.spots;
   parts = a.parts ∙ (ap (λ fs. old.parts.items ++ record { name = g.name; kind = type_with (own_type g.names) fs } ∷ []) (ap fields_of p.parts ∙ fields-parts (fields (grown l g.names)))
       ∙ (ap (λ x. x ++ record { name = g.name; kind = type_with (own_type g.names) (fields (grown l g.names)) } ∷ []) o.parts ∙ sym (ap (λ x. parts_of (fields (forest_of l x))) next ∙ parts-more l (take i gs) g)));
-  attrs = a.attrs ∙ (ap (λ x. old.attrs.items ++ (map attr_id (attrs_of_role (role_of g.names)) ++ x)) p.attrs ∙ (ap (λ x. old.attrs.items ++ x) (sym (map-append attr_id (attrs_of_role (role_of g.names)) (attrs_in (grown l g.names))))
-      ∙ (ap (λ x. x ++ map attr_id (attrs_of_role (role_of g.names) ++ attrs_in (grown l g.names))) o.attrs ∙ sym (ap (λ x. map attr_id (attrs_in (forest_of l x))) next ∙ (ap (map attr_id) (attrs-more l (take i gs) g) ∙ map-append attr_id (attrs_in (forest_of l (take i gs))) (attrs_of_role (role_of g.names) ++ attrs_in (grown l g.names)))))));
+  attrs = a.attrs ∙ (ap (λ x. old.attrs + (length (attrs_of_role (role_of g.names)) + x)) p.attrs ∙ (ap (λ x. x + (length (attrs_of_role (role_of g.names)) + length (attrs_in (grown l g.names)))) o.attrs
+      ∙ sym (ap (λ x. length (attrs_in (forest_of l x))) next ∙ attrs-more l (take i gs) g)));
   is_data = a.is_data ∙ (ap (λ x. old.is_data && (is_data_role (role_of g.names) && x)) p.is_data ∙ (ap (λ x. x && (is_data_role (role_of g.names) && are_data (grown l g.names))) o.is_data ∙ sym (ap (λ x. are_data (forest_of l x)) next ∙ data-more l (take i gs) g)));
   leaves = a.leaves ∙ (ap (λ x. old.leaves + x) (leaves-is before l g b p) ∙ (ap (λ x. x + length (leaves (tree l g))) o.leaves ∙ sym (ap (λ x. length (leaves_side (trees (forest_of l x)))) next ∙ leaves-more l (take i gs) g)));
 }

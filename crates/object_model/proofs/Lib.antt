@@ -4,6 +4,7 @@ pub mod LeafLaws
 pub mod GrowLaws
 pub mod LargestLaws
 pub mod StandLaws
+pub mod AttrLaws
 pub mod ListingLaws
 pub mod ResolveLaws
 pub mod ApartLaws

@@ -1,32 +1,36 @@
 -- What one more domain does to what is listed.
-use Rattle.std.proofs.Common.{◌≡◌, ℕ, zero, suc, ◌+◌, ◌<◌, List, [], ◌∷◌, ◌++◌, map, flat_map, length, take, get_or, refl, sym, ap, subst, ◌∙◌, arith, length-append, length-take, append_assoc, append-nil}
+use Rattle.std.proofs.Common.{◌≡◌, ℕ, zero, suc, ◌+◌, ◌<◌, List, [], ◌∷◌, ◌++◌, flat_map, length, take, get_or, refl, sym, ap, subst, ◌∙◌, arith, length-append, length-take, append_assoc, append-nil}
 use Rattle.std.proofs.Math.Seq.{take-length}
-use Rattle.std.proofs.lemmas.List.{take_more, get_or_default}
+use Rattle.std.proofs.lemmas.List.{take_more, get_or_default, length-map}
 use Rattle.list_laws.proofs.Appended.{flat-more}
 use Rattle.sv_base.specs.declared.config.Config.{Config}
 use Rattle.bay_model.specs.Names.{sorted}
-use Rattle.bay_model.specs.NamedLines.{Line, domains, lines, in_order}
+use Rattle.bay_model.specs.NameTree.{tree_of}
+use Rattle.bay_model.specs.Places.{Place}
+use Rattle.bay_model.specs.Named.{places_in}
+use Rattle.bay_model.specs.NamedLines.{Line, domains, lines, in_order, names_in}
 use Rattle.object_model.specs.declared.growth.Spot.{Spot}
 use Rattle.object_model.specs.declared.listing.Directory.{Directory}
 use Rattle.object_model.specs.declared.listing.Listing.{Listing}
 use Rattle.object_model.specs.Stands.{owns, stands_from, all_stands, all_leaves}
 use Rattle.object_model.proofs.StandLaws.{owns-append, stands-append}
+use Rattle.object_model.proofs.AttrLaws.{rows-append, rows-laid, spots-places}
 use Rattle.object_names.specs.Indexes.{IndexesFrom}
-use Rattle.object_model.specs.Nodes.{spots_in, row, rows_from, name_at, names_from, node_rows, node_names}
+use Rattle.object_model.specs.Grown.{spot}
+use Rattle.object_model.specs.Nodes.{spots_in, rows_from, names_at, names_from, node_rows, node_names}
 use Rattle.object_model.specs.Listed.{items_of, spots_from, first_of, IsDirectory, AllFrom, IsListed, IsOneMore}
 
-pub rows-append : (n : ℕ) (as_ bs : List Spot) → rows_from n (as_ ++ bs) ≡ rows_from n as_ ++ rows_from (n + length as_) bs
-rows-append n [] bs = ap (λ m. rows_from m bs) (omega arith)
-rows-append n (a ∷ as_) bs = ap (λ l. row n a ∷ l) (rows-append (suc n) as_ bs ∙ ap (λ m. rows_from (suc n) as_ ++ rows_from m bs) (omega arith))
-
-pub length-rows : (n : ℕ) (ss : List Spot) → length (rows_from n ss) ≡ length ss
+pub length-rows : (n : ℕ) (ps : List Place) → length (rows_from n ps) ≡ length ps
 length-rows n [] = refl
-length-rows n (s ∷ ss) = ap suc (length-rows (suc n) ss)
+length-rows n (p ∷ ps) = ap suc (length-rows (suc n) ps)
+
+pub count-places : (c : Config) (ds : List (List ℕ)) → length (flat_map (places_in c) ds) ≡ length (flat_map (spots_in c) ds)
+count-places c ds = sym (ap length (spots-places c ds) ∙ length-map (flat_map (places_in c) ds) spot)
 
 pub names-append : (c : Config) (k : ℕ) (as_ bs : List (List ℕ)) → names_from c k (as_ ++ bs) ≡ names_from c k as_ ++ names_from c (k + length as_) bs
 names-append c k [] bs = ap (λ m. names_from c m bs) (omega arith)
-names-append c k (a ∷ as_) bs = ap (λ l. map (name_at k) (spots_in c a) ++ l) (names-append c (suc k) as_ bs ∙ ap (λ m. names_from c (suc k) as_ ++ names_from c m bs) (omega arith))
-    ∙ sym (append_assoc (map (name_at k) (spots_in c a)) (names_from c (suc k) as_) (names_from c (k + length (a ∷ as_)) bs))
+names-append c k (a ∷ as_) bs = ap (λ l. names_at k 0 (spots_in c a) ++ l) (names-append c (suc k) as_ bs ∙ ap (λ m. names_from c (suc k) as_ ++ names_from c m bs) (omega arith))
+    ∙ sym (append_assoc (names_at k 0 (spots_in c a)) (names_from c (suc k) as_) (names_from c (k + length (a ∷ as_)) bs))
 
 pub all-more : (P : ℕ → Directory → Type 0) (n : ℕ) (ds : List Directory) (d : Directory) → AllFrom P n ds → P (n + length ds) d → AllFrom P n (ds ++ d ∷ [])
 all-more P n [] d a p = (subst (λ k. P k d) (omega arith) p, tt)
@@ -40,15 +44,18 @@ all-at P n (x ∷ xs) (suc k) d a h e = subst (λ m. P m d) (omega arith) (all-a
 pub listed-more : (c : Config) (i : ℕ) (domain : List ℕ) (old new : Listing) → i < length (domains c) → domain ≡ get_or (domains c) i [] → IsListed c i old → IsOneMore old new (spots_in c domain) → IsListed c (i + 1) new
 listed-more c i domain old new h e l m =
     let next : take (i + 1) (domains c) ≡ take i (domains c) ++ domain ∷ [] = take_more (domains c) i [] h ∙ ap (λ x. take i (domains c) ++ x ∷ []) (sym e) in
-    let first : length old.rows.items ≡ first_of c i = ap length l.rows ∙ length-rows 0 (flat_map (spots_in c) (take i (domains c))) in
+    let before : List Place = flat_map (places_in c) (take i (domains c)) in
+    let here : List Place = places_in c domain in
+    let rows : length old.rows.items ≡ 0 + length before = ap length l.rows ∙ (length-rows 0 before ∙ omega arith) in
+    let first : length old.rows.items ≡ first_of c i = ap length l.rows ∙ (length-rows 0 before ∙ count-places c (take i (domains c))) in
     let number : length old.directories.items ≡ 0 + length (take i (domains c)) = omega (arith, h, l.count, length-take i (domains c)) in
     record {
-      rows = m.rows ∙ (ap (λ n. old.rows.items ++ rows_from n (spots_in c domain)) (first ∙ omega arith) ∙ (ap (λ x. x ++ rows_from (0 + first_of c i) (spots_in c domain)) l.rows
-          ∙ sym (ap (λ x. rows_from 0 (flat_map (spots_in c) x)) next ∙ (ap (rows_from 0) (flat-more (spots_in c) (take i (domains c)) domain) ∙ rows-append 0 (flat_map (spots_in c) (take i (domains c))) (spots_in c domain)))));
-      names = m.names ∙ (ap (λ n. old.names.items ++ map (name_at n) (spots_in c domain)) number ∙ (ap (λ x. x ++ map (name_at (0 + length (take i (domains c)))) (spots_in c domain)) l.names
-          ∙ sym (ap (names_from c 0) next ∙ (names-append c 0 (take i (domains c)) (domain ∷ []) ∙ ap (λ x. names_from c 0 (take i (domains c)) ++ x) (append-nil (map (name_at (0 + length (take i (domains c)))) (spots_in c domain)))))));
+      rows = m.rows ∙ (ap (λ x. old.rows.items ++ x) (rows-laid (length old.rows.items) (tree_of (names_in c domain))) ∙ (ap (λ n. old.rows.items ++ rows_from n here) rows ∙ (ap (λ x. x ++ rows_from (0 + length before) here) l.rows
+          ∙ sym (ap (λ x. rows_from 0 (flat_map (places_in c) x)) next ∙ (ap (rows_from 0) (flat-more (places_in c) (take i (domains c)) domain) ∙ rows-append 0 before here)))));
+      names = m.names ∙ (ap (λ n. old.names.items ++ names_at n 0 (spots_in c domain)) number ∙ (ap (λ x. x ++ names_at (0 + length (take i (domains c))) 0 (spots_in c domain)) l.names
+          ∙ sym (ap (names_from c 0) next ∙ (names-append c 0 (take i (domains c)) (domain ∷ []) ∙ ap (λ x. names_from c 0 (take i (domains c)) ++ x) (append-nil (names_at (0 + length (take i (domains c))) 0 (spots_in c domain)))))));
       directories = subst (AllFrom (IsDirectory c) 0) (sym m.directories) (all-more (IsDirectory c) 0 old.directories.items m.directory l.directories
-          (subst (λ k. IsDirectory c k m.directory) (sym l.count ∙ omega arith) (record { numbers = subst (λ d. IndexesFrom m.directory.numbers (first_of c i) (items_of (spots_in c d))) e (subst (λ n. IndexesFrom m.directory.numbers n (items_of (spots_in c domain))) first m.numbers); ascending = m.ascending ∙ ap (λ d. sorted (items_of (spots_in c d))) e })));
+          (subst (λ k. IsDirectory c k m.directory) (sym l.count ∙ omega arith) (record { numbers = subst (λ d. IndexesFrom m.directory.numbers (first_of c i) (items_of (spots_in c d))) e (subst (λ n. IndexesFrom m.directory.numbers n (items_of (spots_in c domain))) first m.numbers); items = m.items ∙ ap (λ d. items_of (spots_in c d)) e; ascending = m.ascending ∙ ap (λ d. sorted (items_of (spots_in c d))) e })));
       count = ap length m.directories ∙ (length-append old.directories.items (m.directory ∷ []) ∙ omega (arith, l.count));
       stands = m.stands ∙ (ap (λ n. old.stands.items ++ stands_from n (spots_in c domain)) (ap length l.leaves) ∙ (ap (λ x. x ++ stands_from (length (owns (flat_map (spots_in c) (take i (domains c))))) (spots_in c domain)) l.stands
           ∙ sym (ap (λ x. stands_from 0 (flat_map (spots_in c) x)) next ∙ (ap (stands_from 0) (flat-more (spots_in c) (take i (domains c)) domain) ∙ (stands-append 0 (flat_map (spots_in c) (take i (domains c))) (spots_in c domain)
@@ -70,7 +77,7 @@ pub directory-at : (c : Config) (ds all : List Directory) (k : ℕ) (d : Directo
 directory-at c ds all k d a s h e = subst (λ n. IsDirectory c n d) (omega arith) (all-at (IsDirectory c) 0 ds k d (subst (AllFrom (IsDirectory c) 0) (sym s) a) h e)
 
 pub all-rows : (c : Config) (l : Listing) → IsListed c (length (domains c)) l → l.rows.items ≡ node_rows c
-all-rows c l h = h.rows ∙ ap (λ ds. rows_from 0 (flat_map (spots_in c) ds)) (take-length (domains c))
+all-rows c l h = h.rows ∙ ap (λ ds. rows_from 0 (flat_map (places_in c) ds)) (take-length (domains c))
 
 pub all-names : (c : Config) (l : Listing) → IsListed c (length (domains c)) l → l.names.items ≡ node_names c
 all-names c l h = h.names ∙ ap (names_from c 0) (take-length (domains c))

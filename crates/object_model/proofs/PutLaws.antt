@@ -4,11 +4,10 @@ use Rattle.std.specs.Str.{bytes_eq}
 use Rattle.std.specs.Option.{option_map}
 use Rattle.std.proofs.Math.Seq.{map-set_same, take-append_seam}
 use Rattle.bay_model.specs.Generated.{Named}
-use Rattle.object_model.specs.Groups.{Group, group_name, with_cut, put, IndexesFront}
+use Rattle.object_model.specs.Groups.{Group, group_name, with_cut, put, PlacesFront}
 use Rattle.object_names.specs.Numbers.{number_in, number_or}
-use Rattle.object_names.specs.Indexes.{Indexes, IndexesFrom}
-use Rattle.object_names.specs.declared.index.Index.{Index}
-use Rattle.object_names.proofs.NumberLaws.{from-first}
+use Rattle.object_names.specs.Indexes.{PlacesOf}
+use Rattle.object_names.specs.declared.places.Places.{Places}
 use Rattle.std.proofs.lemmas.List.{map-append, length-map, take_more}
 use Rattle.list_laws.proofs.Options.{some_is, not_some}
 use Rattle.list_laws.proofs.Places.{place-cons, position-push}
@@ -87,15 +86,14 @@ place-front gs last name p h e f = sym (place-split gs last name h e ∙ ap (λ 
 pub place-end : (gs : List Group) (last : Group) (name : List ℕ) (b : Bool) → 0 < length gs → last ≡ get_or gs (length gs - 1) last → ((x : ℕ) → number_in (front gs) name ≡ Some x → ⊥) → bytes_eq name last.name ≡ b → (if b then Some (length gs - 1) else None) ≡ place_of gs name
 place-end gs last name b h e f t = sym (place-split gs last name h e ∙ (ap (λ o. number_or o (bytes_eq name last.name) (length gs - 1)) (none-of (number_in (front gs) name) f) ∙ ap (λ b. if b then Some (length gs - 1) else None) t))
 
--- the index of all but the last, and then of the last
-pub empty_front : (index : Index) (gs : List Group) → length gs < 1 → IndexesFront index (map group_name gs) → Indexes index (map group_name gs)
-empty_front index [] h is = is
-empty_front index (g ∷ gs) h is = absurd (omega (arith, h))
+-- the places of all but the last, and then of the last
+pub empty_front : (places : Places) (gs : List Group) → length gs < 1 → PlacesFront places (map group_name gs) → PlacesOf places (map group_name gs)
+empty_front places [] h is = is
+empty_front places (g ∷ gs) h is = absurd (omega (arith, h))
 
-pub names-last : (old new : Index) (gs : List Group) (last : Group) (name : List ℕ) (n : ℕ) → 0 < length gs → last ≡ get_or gs (length gs - 1) last → name ≡ last.name → n ≡ length gs - 1 → IndexesFront old (map group_name gs)
-    → ((names : List (List ℕ)) (first : ℕ) → IndexesFrom old first names → n ≡ first + length names → IndexesFrom new first (names ++ name ∷ [])) → Indexes new (map group_name gs)
-names-last old new gs last name n h e is k found step = λ other. step (front gs) 0 (λ name. found name ∙ sym (from-first (number_in (front gs) name))) (omega (arith, k, count-front gs h)) other
-    ∙ (from-first (number_in (front gs ++ name ∷ []) other) ∙ ap (λ l. number_in l other) (ap (λ x. front gs ++ x ∷ []) is ∙ sym (names-front gs last h e)))
+pub names-last : (old new : Places) (gs : List Group) (last : Group) (name : List ℕ) (n : ℕ) → 0 < length gs → last ≡ get_or gs (length gs - 1) last → name ≡ last.name → n ≡ length gs - 1 → PlacesFront old (map group_name gs)
+    → ((names : List (List ℕ)) → PlacesOf old names → n ≡ length names → PlacesOf new (names ++ name ∷ [])) → PlacesOf new (map group_name gs)
+names-last old new gs last name n h e is k found step = λ other. step (front gs) found (omega (arith, k, count-front gs h)) other ∙ ap (λ l. number_in l other) (ap (λ x. front gs ++ x ∷ []) is ∙ sym (names-front gs last h e))
 
-pub more-front : (index : Index) (gs more : List Group) (g : Group) → more ≡ gs ++ g ∷ [] → Indexes index (map group_name gs) → IndexesFront index (map group_name more)
-more-front index gs more g e is = λ other. is other ∙ ap (λ l. number_in l other) (sym (ap front e ∙ (ap (λ l. take (length l - 1) l) (map-append group_name gs (g ∷ [])) ∙ front-of (map group_name gs) g.name)))
+pub more-front : (places : Places) (gs more : List Group) (g : Group) → more ≡ gs ++ g ∷ [] → PlacesOf places (map group_name gs) → PlacesFront places (map group_name more)
+more-front places gs more g e is = λ other. is other ∙ ap (λ l. number_in l other) (sym (ap front e ∙ (ap (λ l. take (length l - 1) l) (map-append group_name gs (g ∷ [])) ∙ front-of (map group_name gs) g.name)))

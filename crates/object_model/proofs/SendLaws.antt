@@ -80,7 +80,7 @@ directory_send : IsSend Directory.the_row
 directory_send = search (index_field_send, octs.the_send, crosses, sendable) depth 60
 
 name_send : IsSend NodeName.the_row
-name_send = search (octs.the_send, sendable) depth 60
+name_send = search (sendable) depth 60
 
 stand_send : IsSend Stand.the_row
 stand_send = search (sendable) depth 60

@@ -21,8 +21,8 @@ use Rattle.object_model.specs.Leaves.{own}
 use Rattle.object_model.specs.Stands.{option_list, owns, stands_from, all_leaves, all_stands}
 use Rattle.list_laws.proofs.Places.{same_at}
 use Rattle.object_model.proofs.StandLaws.{owns-append}
-use Rattle.object_model.proofs.TableLaws.{all_spots, count-rows}
-use Rattle.object_model.proofs.ListingLaws.{length-rows}
+use Rattle.object_model.proofs.AttrLaws.{spots-places}
+use Rattle.object_model.proofs.TableLaws.{all_spots, all_places, no_place, places-nodes, count-spots}
 
 abbrev own_list : Tree → List CodeLeaf
 own_list t = option_list (option_map leaf_code (own t))
@@ -113,32 +113,6 @@ module _ (tree_at : List ℕ → Forest) where
       all-append flat (length pre) (of d) (flat_map of ds) (laid flat [] (tree_at d) pre rest (is ∙ ap (λ x. pre ++ (x ++ rest)) (owns-places [] (tree_at d))))
       (subst (λ n. AllAt flat n (flat_map of ds)) (length-append pre here) (laid-domains flat ds (pre ++ here) (is ∙ sym (append_assoc pre here rest))))
 
-  pub spots-places : (ds : List (List ℕ)) → flat_map spots_of ds ≡ map spot (flat_map of ds)
-  spots-places [] = refl
-  spots-places (d ∷ ds) = ap (λ l. spots_of d ++ l) (spots-places ds) ∙ sym (map-append spot (of d) (flat_map of ds))
-
-  pub nodes-places : (ds : List (List ℕ)) → map (λ (p : Place). p.tree) (flat_map of ds) ≡ map (λ (n : Node). n.tree) (flat_map (λ d. map (node_at d) (of d)) ds)
-  nodes-places [] = refl
-  nodes-places (d ∷ ds) = map-append (λ (p : Place). p.tree) (of d) (flat_map of ds)
-      ∙ (ap (λ l. map (λ (p : Place). p.tree) (of d) ++ l) (nodes-places ds)
-      ∙ (ap (λ l. l ++ map (λ (n : Node). n.tree) (flat_map (λ d. map (node_at d) (of d)) ds)) (same (of d))
-      ∙ sym (map-append (λ (n : Node). n.tree) (map (node_at d) (of d)) (flat_map (λ d. map (node_at d) (of d)) ds))))
-    where
-      same : (ps : List Place) → map (λ (p : Place). p.tree) ps ≡ map (λ (n : Node). n.tree) (map (node_at d) ps)
-      same [] = refl
-      same (p ∷ ps) = ap (λ l. p.tree ∷ l) (same ps)
-
-  pub roles-places : (ds : List (List ℕ)) → map (λ (p : Place). p.role) (flat_map of ds) ≡ map (λ (n : Node). n.role) (flat_map (λ d. map (node_at d) (of d)) ds)
-  roles-places [] = refl
-  roles-places (d ∷ ds) = map-append (λ (p : Place). p.role) (of d) (flat_map of ds)
-      ∙ (ap (λ l. map (λ (p : Place). p.role) (of d) ++ l) (roles-places ds)
-      ∙ (ap (λ l. l ++ map (λ (n : Node). n.role) (flat_map (λ d. map (node_at d) (of d)) ds)) (same (of d))
-      ∙ sym (map-append (λ (n : Node). n.role) (map (node_at d) (of d)) (flat_map (λ d. map (node_at d) (of d)) ds))))
-    where
-      same : (ps : List Place) → map (λ (p : Place). p.role) ps ≡ map (λ (n : Node). n.role) (map (node_at d) ps)
-      same [] = refl
-      same (p ∷ ps) = ap (λ l. p.role ∷ l) (same ps)
-
 -- what stands at place n of these
 record AtPlace (flat : List CodeLeaf) (s : Stand) (p : Place) : Type 0 where
   pub leaves : take (s.end - s.first) (drop s.first flat) ≡ map leaf_code (leaves p.tree)
@@ -163,12 +137,6 @@ pub record StandsAt (c : Config) (n : ℕ) (s : Stand) : Type 0 where
   pub within : s.end ≤ length (all_leaves c)
   pub role : role_seen s.what ≡ (node_of (configured_model c) n).role
 
-abbrev all_places : Config → List Place
-all_places c = flat_map (places_in c) (domains c)
-
-abbrev no_place : Place
-no_place = place [] several types.Bool nothing
-
 pub count-stands : (k : ℕ) (ss : List Spot) → length (stands_from k ss) ≡ length ss
 count-stands k [] = refl
 count-stands k (s ∷ ss) = ap suc (count-stands (k + length (option_list s.own)) ss)
@@ -176,19 +144,19 @@ count-stands k (s ∷ ss) = ap suc (count-stands (k + length (option_list s.own)
 pub stands-are : (c : Config) (n : ℕ) (s : Stand) → n < length (nodes c) → s ≡ get_or (all_stands c) n s → StandsAt c n s
 stands-are c n s h e =
     let tree_at : List ℕ → Forest = λ d. tree_of (names_in c d) in
-    let same : all_spots c ≡ map spot (all_places c) = spots-places tree_at (domains c) in
-    let lt : n < length (all_places c) = omega (arith, h, length-map (all_places c) spot, ap length same, count-rows c, length-rows 0 (all_spots c)) in
+    let same : all_spots c ≡ map spot (all_places c) = spots-places c (domains c) in
+    let lt : n < length (all_places c) = omega (arith, h, length-map (all_places c) spot, ap length same, count-spots c) in
     let at : AtPlace (all_leaves c) s (get_or (all_places c) n no_place) = at-place (all_leaves c) 0 (all_places c) n s no_place (laid-domains tree_at (all_leaves c) (domains c) [] refl) lt (e ∙ ap (λ l. get_or (stands_from 0 l) n s) same) in
     record {
       leaves = ap (map leaf_seen) at.leaves ∙ (leaves_there (leaves (get_or (all_places c) n no_place).tree)
-          ∙ ap leaves (same_at (λ (p : Place). p.tree) (λ (n : Node). n.tree) (all_places c) (nodes c) n (get_or (all_places c) n no_place) no_place _ (nodes-places tree_at (domains c)) h (get_or_default (all_places c) n no_place _ lt)));
+          ∙ ap leaves (same_at (λ (p : Place). p.tree) (λ (n : Node). n.tree) (all_places c) (nodes c) n (get_or (all_places c) n no_place) no_place _ (places-nodes (λ p. p.tree) (λ (n : Node). n.tree) (λ d p. refl) c) h (get_or_default (all_places c) n no_place _ lt)));
       ordered = at.ordered;
       within = at.within;
-      role = at.role ∙ same_at (λ (p : Place). p.role) (λ (n : Node). n.role) (all_places c) (nodes c) n (get_or (all_places c) n no_place) no_place _ (roles-places tree_at (domains c)) h (get_or_default (all_places c) n no_place _ lt);
+      role = at.role ∙ same_at (λ (p : Place). p.role) (λ (n : Node). n.role) (all_places c) (nodes c) n (get_or (all_places c) n no_place) no_place _ (places-nodes (λ p. p.role) (λ (n : Node). n.role) (λ d p. refl) c) h (get_or_default (all_places c) n no_place _ lt);
     }
 
 pub count-all-stands : (c : Config) → length (all_stands c) ≡ length (nodes c)
-count-all-stands c = count-stands 0 (all_spots c) ∙ (sym (length-rows 0 (all_spots c)) ∙ count-rows c)
+count-all-stands c = count-stands 0 (all_spots c) ∙ count-spots c
 
 pub within-stands : (c known : Config) (ss : List Stand) (n : ℕ) → c ≡ known → ss ≡ all_stands c → n < length (nodes known) → n < length ss
 within-stands c known ss n v e h = omega (arith, h, ap length e, ap (λ m. length (all_stands m)) v, count-all-stands known)

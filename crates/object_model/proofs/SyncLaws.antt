@@ -80,7 +80,7 @@ directory_sync : IsSync Directory.the_row
 directory_sync = search (index_field_sync, octs.the_sync, crosses, sendable) depth 60
 
 name_sync : IsSync NodeName.the_row
-name_sync = search (octs.the_sync, sendable) depth 60
+name_sync = search (sendable) depth 60
 
 stand_sync : IsSync Stand.the_row
 stand_sync = search (sendable) depth 60

@@ -2,8 +2,8 @@
 use Rattle.std.specs.Prelude.{ℕ, ◌-◌, List, [], ◌∷◌, ◌++◌, length, take, map, if◌then◌else◌}
 use Rattle.std.specs.Str.{bytes_eq}
 use Rattle.bay_model.specs.Generated.{Named}
-use Rattle.object_names.specs.declared.index.Index.{Index}
-use Rattle.object_names.specs.Indexes.{Indexes}
+use Rattle.object_names.specs.declared.places.Places.{Places}
+use Rattle.object_names.specs.Indexes.{PlacesOf}
 use Rattle.bay_model.specs.NameTree.{first_names, first_name, rest_of, is_itself, below}
 
 -- a first name, with what stands below it
@@ -35,6 +35,6 @@ with_named gs n = if is_itself n then gs else put gs (first_name n) (rest_of n)
 
 -- ---- for the code
 
--- all names but the last are found
-abbrev pub IndexesFront : Index → List (List ℕ) → Type 0
-IndexesFront index names = Indexes index (take (length names - 1) names)
+-- the places of all names but the last
+abbrev pub PlacesFront : Places → List (List ℕ) → Type 0
+PlacesFront places names = PlacesOf places (take (length names - 1) names)

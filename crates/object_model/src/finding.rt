@@ -6,9 +6,15 @@ ghost use Rattle.sv_base.specs.declared.config.Config.{Config as ModelConfig};
 ghost use Rattle.bay_model.specs.Model.{Node};
 ghost use Rattle.bay_model.specs.Lookups.{reference_of};
 ghost use Rattle.bay_model.specs.Named.{nodes as nodes_of, member_number};
+ghost use Rattle.bay_model.specs.NamedLines.{domains as domains_of};
+ghost use Rattle.name_order.specs.Sorting.{name_at as name_at_place};
+ghost use Rattle.object_names.specs.declared.index.Index.{Index as IndexModel};
+ghost use Rattle.object_model.specs.Listed.{items_at};
 ghost use Rattle.object_model.specs.Finding.{Finds, node_named, is_cut, least as least_of};
 
 use crate::listing::Directory;
+use crate::nodes::NodeName;
+use name_order::name_at;
 use object_names::Index;
 
 /// The number of the node of an item of a domain; none exactly where it is not there.
@@ -26,6 +32,16 @@ pub fn number_of(
             None => None,
             Some(directory) => directory.numbers.number_of(item),
         },
+    }
+}
+
+/// The item of a node, by where its name is.
+pub fn item_at(directories: &[Directory], name: NodeName) -> &[u8]
+    ensures { (c : ModelConfig) (numbers : IndexModel) → Finds c numbers directories.now → name.domain < length (domains_of c) → result.now ≡ name_at_place (items_at c name.domain) name.place }
+{
+    match directories.get(name.domain as usize) {
+        None => b"".as_slice(),
+        Some(directory) => name_at(&directory.items, name.place),
     }
 }
 

@@ -5,8 +5,8 @@ ghost use Rattle.std.specs.List.{after_first, before_first, position_or_len};
 ghost use Rattle.bay_model.specs.NameTree.{first_name, rest_of};
 ghost use Rattle.object_model.specs.Groups.{Group, with_cut};
 
-use object_names::Named;
-use std::alloc::AllocError;
+use object_names::{Few, Named};
+use std::alloc::{AllocError, Global};
 use std::marker::Model;
 
 /// What is named by the rest of an item, below some of its names.
@@ -94,7 +94,7 @@ pub fn below<'a>(cut: &Cut<'a>) -> Cut<'a>
 #[derive(Drop)]
 pub struct Group<'a> {
     pub name: &'a [u8],
-    pub cuts: Vec<Cut<'a>>,
+    pub cuts: Few<Cut<'a>>,
 }
 
 impl<'a> Model for Group<'a> {
@@ -107,18 +107,18 @@ impl<'a> Model for Group<'a> {
 
     ghost coded = { Prim.hlevel (codes, fields_code) };
 
-    ghost view = { λ g. record { name = g.name.now; names = g.cuts.items } };
+    ghost view = { λ g. record { name = g.name.now; names = g.cuts } };
 }
 
-fn push_cut<'a>(group: &mut Group<'a>, cut: Cut<'a>) -> Result<(), AllocError>
+fn push_cut<'a>(alloc: Global, group: &mut Group<'a>, cut: Cut<'a>) -> Result<(), AllocError>
     ensures { OnOk result (group.new ≡ with_cut group.old cut.entry) }
 {
-    group.cuts.push(cut)?;
-    Ok(())
+    group.cuts.push(alloc, cut)
 }
 
 /// Adds what is named to the group at a place.
 pub fn push_into<'a>(
+    alloc: Global,
     groups: &mut Vec<Group<'a>>,
     place: usize,
     cut: Cut<'a>,
@@ -126,5 +126,5 @@ pub fn push_into<'a>(
     requires { place < length groups.old.items }
     ensures { OnOk result ((d : Group) → groups.new.items ≡ set groups.old.items place (with_cut (get_or groups.old.items place d) cut.entry)) }
 {
-    push_cut(&mut groups[place], cut)
+    push_cut(alloc, &mut groups[place], cut)
 }

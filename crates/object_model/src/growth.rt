@@ -1,43 +1,42 @@
 //! The nodes of a domain, grown out of what its lines name: a node before its parts.
 
-ghost use Rattle.std.specs.Prelude.{◌≡◌, ◌+◌, ◌++◌, ◌∷◌, [], ◌&&◌, suc, map, IfOk, OnOk};
+ghost use Rattle.std.specs.Prelude.{◌≡◌, ◌+◌, ◌++◌, ◌∷◌, [], ◌&&◌, suc, map, length, IfOk, OnOk};
 ghost use Rattle.std.specs.Option.{option_map};
 ghost use Rattle.sv_base.specs.Fields.{fields_of};
 ghost use Rattle.bay_model.specs.NameTree.{role_of, own_type as own_type_of, grown};
 ghost use Rattle.bay_model.specs.Places.{attrs_of_role, is_data_role, type_with, places};
 ghost use Rattle.object_names.specs.Seen.{role_seen};
 ghost use Rattle.object_names.specs.Leaves.{leaf_code};
-ghost use Rattle.object_model.specs.Grown.{IsGrown, attr_id, spot, spot_with};
+ghost use Rattle.object_model.specs.Grown.{IsGrown, spot, spot_with};
 ghost use Rattle.object_model.specs.Leaves.{own_with, own_count, leaves_with};
 
 use crate::grouping::groups;
 use crate::growing::{Cut, Group};
-use bay_model::AttrIds;
 use object_names::numbers::plus;
 use object_names::{Leaf, What, own_leaf};
 use std::alloc::{AllocError, Global};
-use sv_base::{AttrId, Octs, Part1, Parts, TypeOf};
+use sv_base::{Octs, Part1, Parts, TypeOf};
 
-/// A node: its item, the type of its Data, its attributes in the order of the type, and whether it holds attributes alone;
-/// what it is, its leaf where it has no parts, and how many leaves it has.
+/// A node: its item, the type of its Data, how many attributes it has, and whether it holds attributes alone; what it is,
+/// its leaf where it has no parts, and how many leaves it has.
 #[derive(Drop)]
 pub struct Spot {
     pub item: Octs,
     pub kind: TypeOf,
-    pub attrs: AttrIds,
+    pub attrs: u32,
     pub is_data: bool,
     pub what: What,
     pub own: Option<Leaf>,
     pub leaves: u32,
 }
 
-/// Names side by side: their nodes, what they are as the parts of a structure, their attributes, whether they hold
-/// attributes alone, and how many leaves they have.
+/// Names side by side: their nodes, what they are as the parts of a structure, how many attributes they have, whether they
+/// hold attributes alone, and how many leaves they have.
 #[derive(Drop)]
 pub struct Grown {
     pub spots: Vec<Spot>,
     pub parts: Vec<Part1>,
-    pub attrs: Vec<AttrId>,
+    pub attrs: u32,
     pub is_data: bool,
     pub leaves: u32,
 }
@@ -85,23 +84,13 @@ fn is_data(what: What) -> bool
     matches!(what, What::Attribute(_) | What::Structure)
 }
 
-/// An attribute, and those of the parts of its name.
-fn own_and_parts(alloc: Global, number: u32, parts: &[AttrId]) -> Result<AttrIds, AllocError>
-    ensures { IfOk result (λ l. l ≡ attr_id number ∷ parts.now) }
-{
-    let mut attrs = Vec::new(alloc);
-    attrs.push(AttrId(number))?;
-    attrs.extend_from_slice(parts)?;
-    Ok(AttrIds::from_vec(attrs))
-}
-
-/// The attributes of a name: its own and those of its parts.
-fn attrs_of(alloc: Global, what: What, parts: Vec<AttrId>) -> Result<AttrIds, AllocError>
-    ensures { IfOk result (λ l. l ≡ map attr_id (attrs_of_role (role_seen what)) ++ parts.items) }
+/// How many attributes a name has, whose parts have so many.
+fn attrs_of(what: What, below: u32) -> Result<u32, AllocError>
+    ensures { IfOk result (λ n. n ≡ length (attrs_of_role (role_seen what)) + below) }
 {
     match what {
-        What::Attribute(number) => own_and_parts(alloc, number, &parts),
-        _ => Ok(AttrIds::from_vec(parts)),
+        What::Attribute(_) => plus(below, 1),
+        _ => Ok(below),
     }
 }
 
@@ -126,18 +115,18 @@ fn leaves_of(own: Option<Leaf>, below: u32) -> Result<u32, AllocError>
     }
 }
 
-/// The node of a group at an item, of these parts with their attributes.
+/// The node of a group at an item, of these parts with so many attributes.
 #[tactic(auto, using(object_names::proofs::LeafLaws::what_back))]
 fn spot_of(
     alloc: Global,
     item: Vec<u8>,
     group: &Group<'_>,
     parts: Vec<Part1>,
-    attrs: Vec<AttrId>,
+    attrs: u32,
     are_data: bool,
     below: u32,
 ) -> Result<Spot, AllocError>
-    ensures { IfOk result (λ s. s ≡ spot_with item.items group.now (fields_of parts.items) attrs.items are_data below) }
+    ensures { IfOk result (λ s. s ≡ spot_with item.items group.now (fields_of parts.items) attrs are_data below) }
 {
     let what = what_of(&group.cuts);
     let own = own_of(what, &parts);
@@ -147,7 +136,7 @@ fn spot_of(
         leaves: leaves_of(own, below)?,
         item: Octs::from_vec(item),
         kind: type_of(alloc, &group.cuts, parts)?,
-        attrs: attrs_of(alloc, what, attrs)?,
+        attrs: attrs_of(what, attrs)?,
         is_data: is_data(what) && are_data,
     })
 }
@@ -156,14 +145,14 @@ fn spot_of(
 fn add_part(alloc: Global, grown: &mut Grown, name: &[u8], spot: &Spot) -> Result<(), AllocError>
     ensures spots { OnOk result (grown.new.spots.items ≡ grown.old.spots.items) }
     ensures parts { OnOk result (grown.new.parts.items ≡ grown.old.parts.items ++ record { name = name.now; kind = spot.now.kind } ∷ []) }
-    ensures attrs { OnOk result (grown.new.attrs.items ≡ grown.old.attrs.items ++ spot.now.attrs) }
+    ensures attrs { OnOk result (grown.new.attrs ≡ grown.old.attrs + spot.now.attrs) }
     ensures is_data { OnOk result (grown.new.is_data ≡ grown.old.is_data && spot.now.is_data) }
     ensures leaves { OnOk result (grown.new.leaves ≡ grown.old.leaves + spot.now.leaves) }
 {
     let name = Octs::from_vec(Vec::from_slice(alloc, name)?);
     let kind = spot.kind.share()?;
     grown.parts.push(Part1 { name, kind })?;
-    grown.attrs.extend_from_slice(spot.attrs.as_slice())?;
+    grown.attrs = plus(grown.attrs, spot.attrs)?;
     grown.is_data = grown.is_data && spot.is_data;
     grown.leaves = plus(grown.leaves, spot.leaves)?;
     Ok(())
@@ -205,9 +194,9 @@ fn add_group(
     group: &Group<'_>,
     below: Grown,
 ) -> Result<(), AllocError>
-    ensures spots { OnOk result (grown.new.spots.items ≡ grown.old.spots.items ++ (spot_with (before.now ++ group.now.name) group.now (fields_of below.parts.items) below.attrs.items below.is_data below.leaves ∷ below.spots.items)) }
+    ensures spots { OnOk result (grown.new.spots.items ≡ grown.old.spots.items ++ (spot_with (before.now ++ group.now.name) group.now (fields_of below.parts.items) below.attrs below.is_data below.leaves ∷ below.spots.items)) }
     ensures parts { OnOk result (grown.new.parts.items ≡ grown.old.parts.items ++ record { name = group.now.name; kind = type_with (own_type_of group.now.names) (fields_of below.parts.items) } ∷ []) }
-    ensures attrs { OnOk result (grown.new.attrs.items ≡ grown.old.attrs.items ++ (map attr_id (attrs_of_role (role_of group.now.names)) ++ below.attrs.items)) }
+    ensures attrs { OnOk result (grown.new.attrs ≡ grown.old.attrs + (length (attrs_of_role (role_of group.now.names)) + below.attrs)) }
     ensures is_data { OnOk result (grown.new.is_data ≡ grown.old.is_data && (is_data_role (role_of group.now.names) && below.is_data)) }
     ensures leaves { OnOk result (grown.new.leaves ≡ grown.old.leaves + leaves_with group.now (fields_of below.parts.items) below.leaves) }
 {
@@ -238,7 +227,7 @@ pub fn grow(
     let mut all = Grown {
         spots: Vec::new(alloc),
         parts: Vec::new(alloc),
-        attrs: Vec::new(alloc),
+        attrs: 0,
         is_data: true,
         leaves: 0,
     };
@@ -265,7 +254,7 @@ fn push_top(
     group: &Group<'_>,
     below: Grown,
 ) -> Result<(), AllocError>
-    ensures { OnOk result (spots.new.items ≡ spots.old.items ++ (spot_with group.now.name group.now (fields_of below.parts.items) below.attrs.items below.is_data below.leaves ∷ below.spots.items)) }
+    ensures { OnOk result (spots.new.items ≡ spots.old.items ++ (spot_with group.now.name group.now (fields_of below.parts.items) below.attrs below.is_data below.leaves ∷ below.spots.items)) }
 {
     let item = Vec::from_slice(alloc, group.name)?;
     let spot = spot_of(

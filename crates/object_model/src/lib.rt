@@ -8,6 +8,7 @@ mod growth;
 mod largest;
 
 // its nodes, domain by domain, and what finds them
+mod attrs;
 mod finding;
 mod listing;
 mod nodes;

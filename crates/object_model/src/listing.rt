@@ -5,21 +5,23 @@ ghost use Rattle.bay_model.specs.NamedLines.{domains as domains_of, lines as lin
 ghost use Rattle.object_names.specs.Indexes.{IndexesFrom};
 ghost use Rattle.object_model.specs.Listed.{IsListed, IsOneMore, items_of as items_in, spots_from};
 
+use crate::attrs::attrs_of;
 use crate::growth::Spot;
 use crate::nodes::{NodeName, push_nodes, spots_of};
 use crate::stands::{Stand, push_stands};
 use bay_model::NodeRow;
-use name_order::in_order;
+use name_order::places_in_order;
 use object_names::numbers::{count, plus};
 use object_names::{Index, Leaf, Line};
 use std::alloc::{AllocError, Global};
 use sv_base::{Config, Octs};
 
-/// The names of a domain: the numbers of its items, and the items ascending by their octets.
+/// The names of a domain: its items, their numbers, and their places in the ascending order of their octets.
 #[derive(Drop)]
 pub struct Directory {
+    pub items: Vec<Octs>,
     pub numbers: Index,
-    pub ascending: Vec<Octs>,
+    pub ascending: Vec<u32>,
 }
 
 /// The nodes by their numbers: their rows, their names and what stands at them; the names of each domain; and the leaves of
@@ -31,16 +33,6 @@ pub struct Listing {
     pub directories: Vec<Directory>,
     pub stands: Vec<Stand>,
     pub leaves: Vec<Leaf>,
-}
-
-fn items_of(alloc: Global, spots: &[Spot]) -> Result<Vec<Octs>, AllocError>
-    ensures { IfOk result (λ v. v.items ≡ items_in spots.now) }
-{
-    let mut items = Vec::new(alloc);
-    for spot in spots {
-        items.push(spot.item.copy(alloc)?)?;
-    }
-    Ok(items)
 }
 
 /// The numbers of the nodes by their items, counted from the first one's.
@@ -69,10 +61,17 @@ fn push_domain(
     let first = count(listing.rows.as_slice().len())?;
     let number = count(listing.directories.as_slice().len())?;
     let numbers = numbers_of(alloc, first, &spots)?;
-    let ascending = in_order(items_of(alloc, &spots)?)?;
-    listing.directories.push(Directory { numbers, ascending })?;
     push_stands(&mut listing.stands, &mut listing.leaves, &spots)?;
-    push_nodes(&mut listing.rows, &mut listing.names, number, spots)?;
+    let attrs = attrs_of(alloc, &spots)?;
+    let mut items = Vec::with_capacity(alloc, spots.len())?;
+    let (rows, names) = (&mut listing.rows, &mut listing.names);
+    push_nodes(rows, names, &mut items, number, spots, &attrs)?;
+    let ascending = places_in_order(alloc, &items)?;
+    listing.directories.push(Directory {
+        items,
+        numbers,
+        ascending,
+    })?;
     Ok(())
 }
 

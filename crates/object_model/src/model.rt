@@ -1,12 +1,13 @@
 //! The model of a configuration.
 
 use crate::copies::copy_config;
+use crate::finding::item_at;
 use crate::fitting::{Counts, step_fits};
 use crate::stands::between;
 use crate::tables::Tables;
 use bay_model::{Flags, Names, NodeTable, SetTable, Step};
 use object_names::{
-    AttrRow, Index, Leaf, What, attr_index, attr_rows, block_references, control_references,
+    AttrRow, Index, Leaf, What, attrs, block_references, control_references, rows_and_index,
 };
 use std::alloc::{AllocError, Global};
 use sv_base::{AttrId, BlockNo, Config, CtlNo, NodeId, Octs, TypeOf};
@@ -74,8 +75,7 @@ impl Model {
         let references = block_references(alloc, &config)?;
         let blocks = Index::of(alloc, &references)?;
         let controls = Index::of(alloc, &control_references(alloc, &config)?)?;
-        let rows = attr_rows(alloc, &config)?;
-        let attrs = attr_index(alloc, &rows)?;
+        let (rows, attrs) = rows_and_index(alloc, attrs(alloc, &config)?)?;
         let tables = Tables::of(alloc, &config)?;
         Ok(Model {
             config,
@@ -157,9 +157,8 @@ impl Model {
         requires { node.0 < length (nodes_of self.now) }
         ensures { result.now ≡ (node_of (configured_model self.now) node.0).item }
     {
-        self.tables.names.as_slice()[node.0 as usize]
-            .item
-            .as_slice()
+        let name = self.tables.names.as_slice()[node.0 as usize];
+        item_at(&self.tables.directories, name)
     }
 
     /// The type of a node's Data (ISO 9506-2, TypeSpecification).

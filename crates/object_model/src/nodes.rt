@@ -7,22 +7,24 @@ ghost use Rattle.bay_model.specs.NamedLines.{Line as ModelLine};
 ghost use Rattle.bay_model.specs.NameTree.{longest as longest_of, tree_of};
 ghost use Rattle.bay_model.specs.Places.{constraint as constraint_of, member_constraints, places};
 ghost use Rattle.object_model.specs.Grown.{spot};
-ghost use Rattle.object_model.specs.Nodes.{row, rows_from, name_at};
+ghost use Rattle.object_model.specs.Attrs.{row_with, rows_with};
+ghost use Rattle.object_model.specs.Nodes.{items_of, names_at};
 
+use crate::attrs::own_count;
 use crate::growing::{Cut, behind, front};
 use crate::growth::{Spot, grow_top};
 use crate::largest::largest;
-use bay_model::{MemberShape, NodeRow};
-use object_names::numbers::count;
+use bay_model::{AttrIds, MemberShape, NodeRow};
+use object_names::numbers::{count, plus};
 use object_names::{Line, Named};
 use std::alloc::{AllocError, Global};
 use sv_base::{NodeId, Octs};
 
-/// The name of a node: its domain, by its number, and its item.
-#[derive(Drop)]
+/// Where the name of a node is: the number of its domain, and the place of its item among those of the domain.
+#[derive(Clone, Copy)]
 pub struct NodeName {
     pub domain: u32,
-    pub item: Octs,
+    pub place: u32,
 }
 
 fn push_names<'a>(out: &mut Vec<Cut<'a>>, names: &'a [Named]) -> Result<(), AllocError>
@@ -105,9 +107,9 @@ fn is_member_constraint(fc: &[u8]) -> bool
         || fc == b"EX".as_slice()
 }
 
-/// The row of a node, and its item.
-fn row_of(spot: Spot, number: u32) -> (NodeRow, Octs)
-    ensures row { result.0 ≡ row number spot }
+/// The row of a node with these attributes, and its item.
+fn row_of(spot: Spot, number: u32, attrs: AttrIds) -> (NodeRow, Octs)
+    ensures row { result.0 ≡ row_with number spot attrs }
     ensures item { result.1 ≡ spot.item }
 {
     let allowed = spot.is_data && is_member_constraint(constraint(spot.item.as_slice()));
@@ -117,27 +119,51 @@ fn row_of(spot: Spot, number: u32) -> (NodeRow, Octs)
         shape: MemberShape {
             node: NodeId(number),
             kind: spot.kind,
-            attrs: spot.attrs,
+            attrs,
         },
     };
     (row, spot.item)
 }
 
-/// Adds the rows of the nodes of a domain, the first of them numbered as the next, and their names.
+/// Adds the name of a node of a domain, and its item behind those of the domain.
+fn push_name(
+    names: &mut Vec<NodeName>,
+    items: &mut Vec<Octs>,
+    domain: u32,
+    item: Octs,
+) -> Result<(), AllocError>
+    ensures names { OnOk result (names.new.items ≡ names.old.items ++ record { domain = domain; place = length items.old.items } ∷ []) }
+    ensures items { OnOk result (items.new.items ≡ items.old.items ++ item ∷ []) }
+{
+    let place = count(items.len())?;
+    names.push(NodeName { domain, place })?;
+    items.push(item)?;
+    Ok(())
+}
+
+/// Adds the rows of the nodes of a domain, whose attributes stand in a row, the first of them numbered as the next, their names
+/// and their items.
 pub fn push_nodes(
     rows: &mut Vec<NodeRow>,
     names: &mut Vec<NodeName>,
+    items: &mut Vec<Octs>,
     domain: u32,
     spots: Vec<Spot>,
+    attrs: &AttrIds,
 ) -> Result<(), AllocError>
-    ensures rows { OnOk result (rows.new.items ≡ rows.old.items ++ rows_from (length rows.old.items) spots.items) }
-    ensures names { OnOk result (names.new.items ≡ names.old.items ++ map (name_at domain) spots.items) }
+    ensures rows { OnOk result (rows.new.items ≡ rows.old.items ++ rows_with (length rows.old.items) attrs.now spots.items) }
+    ensures names { OnOk result (names.new.items ≡ names.old.items ++ names_at domain (length items.old.items) spots.items) }
+    ensures items { OnOk result (items.new.items ≡ items.old.items ++ items_of spots.items) }
 {
+    let mut first = 0;
     for spot in spots {
         let number = count(rows.len())?;
-        let (row, item) = row_of(spot, number);
+        let next = plus(first, own_count(spot.what))?;
+        let part = attrs.part(first, spot.attrs)?;
+        let (row, item) = row_of(spot, number, part);
         rows.push(row)?;
-        names.push(NodeName { domain, item })?;
+        push_name(names, items, domain, item)?;
+        first = next;
     }
     Ok(())
 }

@@ -12,7 +12,7 @@ use crate::listing::{Directory, list};
 use crate::nodes::NodeName;
 use crate::stands::Stand;
 use bay_model::{NodeTable, Nodes, SetName, SetRow, SetTable};
-use name_order::names_after;
+use name_order::names_after_at;
 use object_names::references::joined;
 use object_names::{Index, Leaf, domains, ordered_lines};
 use std::alloc::{AllocError, Global};
@@ -132,7 +132,8 @@ impl Tables {
             Some(number) => match self.directories.get(number as usize) {
                 None => Ok(Vec::new(alloc)),
                 Some(directory) => {
-                    let names = names_after(alloc, &directory.ascending, after)?;
+                    let (items, places) = (&directory.items, &directory.ascending);
+                    let names = names_after_at(alloc, items, places, after)?;
                     Ok(names)
                 }
             },

@@ -27,6 +27,10 @@ pub number-push : (names : List (List ℕ)) (f n : ℕ) (name other : List ℕ) 
 number-push names f n name other r more k q m = m ∙ (ap (λ r. number_or r (bytes_eq other name) n) q ∙ (ap (number_or (option_map (λ j. f + j) (number_in names other)) (bytes_eq other name)) k
     ∙ sym (ap (option_map (λ j. f + j)) (position-push (bytes_eq other) names name) ∙ shifted f (length names) (number_in names other) (bytes_eq other name))))
 
+-- places are counted from 0
+pub place-push : (names : List (List ℕ)) (n : ℕ) (name other : List ℕ) (r more : Option ℕ) → n ≡ length names → r ≡ number_in names other → more ≡ number_or r (bytes_eq other name) n → more ≡ number_in (names ++ name ∷ []) other
+place-push names n name other r more k q m = m ∙ (ap (λ r. number_or r (bytes_eq other name) n) q ∙ (ap (number_or (number_in names other) (bytes_eq other name)) k ∙ sym (position-push (bytes_eq other) names name)))
+
 -- the next of a list of names
 pub next : (index : Index) (names : List (List ℕ)) (f i : ℕ) (name d : List ℕ) → i < length names → name ≡ get_or names i d → IndexesFrom index f (take i names ++ name ∷ []) → IndexesFrom index f (take (i + 1) names)
 next index names f i name d h e is = subst (IndexesFrom index f) (sym (take_more names i d h ∙ ap (λ n. take i names ++ n ∷ []) (sym e))) is

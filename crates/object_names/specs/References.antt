@@ -3,7 +3,7 @@
 use Rattle.std.specs.Prelude.{ℕ, List, map}
 use Rattle.sv_base.specs.declared.config.Config.{Config}
 use Rattle.bay_model.specs.Configured.{block_defined, control_defined}
-use Rattle.object_names.specs.Attributes.{attr_rows, references_of}
+use Rattle.object_names.specs.Attributes.{attrs, references_of}
 
 abbrev pub block_references : Config → List (List ℕ)
 block_references c = map (λ b. (block_defined b).reference) c.blocks
@@ -12,4 +12,4 @@ abbrev pub control_references : Config → List (List ℕ)
 control_references c = map (λ k. (control_defined k).reference) c.controls
 
 abbrev pub attr_references : Config → List (List ℕ)
-attr_references c = references_of (attr_rows c)
+attr_references c = references_of (attrs c)

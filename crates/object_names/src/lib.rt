@@ -6,8 +6,10 @@
 mod hashing;
 mod index;
 pub mod numbers;
+mod places;
 
 // what lines name
+mod few;
 mod leaves;
 mod lines;
 mod named;
@@ -16,9 +18,11 @@ pub mod references;
 // the attributes by their numbers
 mod attributes;
 
-pub use attributes::{AttrRow, attr_index, attr_rows};
+pub use attributes::{AttrRow, Attribute, attrs, rows_and_index};
+pub use few::Few;
 pub use index::Index;
 pub use leaves::{Leaf, own_leaf};
 pub use lines::{Line, domains, ordered_lines};
 pub use named::{Call, Named, What};
+pub use places::Places;
 pub use references::{block_references, control_references};

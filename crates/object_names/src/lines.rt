@@ -9,9 +9,10 @@ ghost use Rattle.bay_model.specs.NamedLines.{attribute_line, attribute_lines, bl
 ghost use Rattle.bay_model.specs.Model.{attribute};
 ghost use Rattle.object_names.specs.Indexes.{Indexes};
 
+use crate::few::Few;
 use crate::index::Index;
 use crate::named::{
-    Named, What, push_block, push_control, push_parameters, push_settings, push_structure,
+    Named, What, push_block, push_control, push_parameters, push_settings, structure,
 };
 use crate::numbers::{count, plus};
 use crate::references::{is_selected, is_setting, item_at};
@@ -24,7 +25,7 @@ use sv_base::{AttrDef, BlockDef, Config, CtlDef, LnDef, Octs, SgDef};
 pub struct Line<'a> {
     pub number: u32,
     pub domain: &'a [u8],
-    pub names: Vec<Named>,
+    pub names: Few<Named>,
 }
 
 impl<'a> Model for Line<'a> {
@@ -37,7 +38,7 @@ impl<'a> Model for Line<'a> {
 
     ghost coded = { Prim.hlevel (codes, fields_code) };
 
-    ghost view = { λ l. record { line = l.number; domain = l.domain.now; names = l.names.items } };
+    ghost view = { λ l. record { line = l.number; domain = l.domain.now; names = l.names } };
 }
 
 /// Adds a line with what it names.
@@ -45,9 +46,9 @@ fn push_line<'a>(
     out: &mut Vec<Line<'a>>,
     number: u32,
     domain: &'a Octs,
-    names: Vec<Named>,
+    names: Few<Named>,
 ) -> Result<(), AllocError>
-    ensures { OnOk result (out.new.items ≡ out.old.items ++ record { line = number; domain = domain.now; names = names.items } ∷ []) }
+    ensures { OnOk result (out.new.items ≡ out.old.items ++ record { line = number; domain = domain.now; names = names } ∷ []) }
 {
     let domain = domain.as_slice();
     out.push(Line {
@@ -61,44 +62,35 @@ fn push_line<'a>(
 fn push_node<'a>(alloc: Global, out: &mut Vec<Line<'a>>, node: &'a LnDef) -> Result<(), AllocError>
     ensures { OnOk result (out.new.items ≡ out.old.items ++ node_line node.now ∷ []) }
 {
-    let mut names = Vec::new(alloc);
-    push_structure(alloc, &mut names, node.ln.as_slice(), What::Structure)?;
-    push_line(out, node.line, &node.domain, names)
+    let named = structure(alloc, node.ln.as_slice(), What::Structure)?;
+    push_line(out, node.line, &node.domain, Few::one(named))
 }
 
-fn push_end(
-    alloc: Global,
-    out: &mut Vec<Named>,
-    attr: &AttrDef,
-    fc: &[u8],
-    number: u32,
-) -> Result<(), AllocError>
-    ensures { OnOk result (out.new.items ≡ out.old.items ++ end_named (path_item attr.now.ln fc.now attr.now.path) (attribute number) attr.now.kind ∷ []) }
+/// The attribute of a line, under a functional constraint.
+fn end_at(alloc: Global, attr: &AttrDef, fc: &[u8], number: u32) -> Result<Named, AllocError>
+    ensures { IfOk result (λ n. n ≡ end_named (path_item attr.now.ln fc.now attr.now.path) (attribute number) attr.now.kind) }
 {
     let item = item_at(alloc, attr.ln.as_slice(), fc, attr.path.as_slice())?;
-    let kind = attr.kind.share()?;
-    out.push(Named {
+    Ok(Named {
         item: Octs::from_vec(item),
         what: What::Attribute(number),
-        kind,
-    })?;
-    Ok(())
+        kind: attr.kind.share()?,
+    })
 }
 
-fn push_attr_names(
+fn attr_names(
     alloc: Global,
-    out: &mut Vec<Named>,
     attr: &AttrDef,
     number: u32,
     twin: u32,
-) -> Result<(), AllocError>
-    ensures { OnOk result (out.new.items ≡ out.old.items ++ attribute_names number twin attr.now) }
+) -> Result<Few<Named>, AllocError>
+    ensures { IfOk result (λ names. names ≡ attribute_names number twin attr.now) }
 {
-    push_end(alloc, out, attr, attr.fc.as_slice(), number)?;
+    let mut names = Few::one(end_at(alloc, attr, attr.fc.as_slice(), number)?);
     if is_setting(attr) {
-        push_end(alloc, out, attr, b"SE", twin)?;
+        names.push(alloc, end_at(alloc, attr, b"SE", twin)?)?;
     }
-    Ok(())
+    Ok(names)
 }
 
 fn push_attr<'a>(
@@ -110,8 +102,7 @@ fn push_attr<'a>(
 ) -> Result<(), AllocError>
     ensures { OnOk result (out.new.items ≡ out.old.items ++ attribute_line number twin attr.now ∷ []) }
 {
-    let mut names = Vec::with_capacity(alloc, 1)?;
-    push_attr_names(alloc, &mut names, attr, number, twin)?;
+    let names = attr_names(alloc, attr, number, twin)?;
     push_line(out, attr.line, &attr.domain, names)
 }
 
@@ -137,7 +128,7 @@ fn push_block_line<'a>(
 {
     let mut names = Vec::new(alloc);
     push_block_names(alloc, &mut names, block, number)?;
-    push_line(out, block.line, &block.domain, names)?;
+    push_line(out, block.line, &block.domain, Few::many(names))?;
     Ok(())
 }
 
@@ -151,7 +142,7 @@ fn push_group<'a>(
 {
     let mut names = Vec::new(alloc);
     push_settings(alloc, &mut names, domain_number)?;
-    push_line(out, group.line, &group.domain, names)
+    push_line(out, group.line, &group.domain, Few::many(names))
 }
 
 fn push_control_names(
@@ -190,7 +181,7 @@ fn push_control_line<'a>(
     let mut names = Vec::new(alloc);
     push_control_names(alloc, &mut names, control, number)?;
     push_parameter_names(alloc, &mut names, control, first)?;
-    push_line(out, control.line, &control.domain, names)
+    push_line(out, control.line, &control.domain, Few::many(names))
 }
 
 fn push_nodes<'a>(
@@ -354,6 +345,17 @@ fn push_all<'a>(
     Ok(())
 }
 
+/// How many lines name something.
+fn line_count(config: &Config) -> usize {
+    config
+        .nodes
+        .len()
+        .saturating_add(config.attrs.len())
+        .saturating_add(config.blocks.len())
+        .saturating_add(config.controls.len())
+        .saturating_add(config.groups.len())
+}
+
 /// The lines in the order of their numbers.
 pub fn ordered_lines<'a>(
     alloc: Global,
@@ -365,7 +367,7 @@ pub fn ordered_lines<'a>(
     requires domains { domains.now ≡ domains_of config.now }
     ensures { IfOk result (λ v. v.items ≡ in_order (lines_of config.now)) }
 {
-    let mut lines = Vec::new(alloc);
+    let mut lines = Vec::with_capacity(alloc, line_count(config))?;
     push_all(alloc, &mut lines, config, domains, index)?;
     lines.sort_by_key(|line| line.number)?;
     Ok(lines)

@@ -1,6 +1,6 @@
 //! What the lines of a configuration name.
 
-ghost use Rattle.std.specs.Prelude.{◌≡◌, ◌∷◌, ◌++◌, [], codes, map, OnOk};
+ghost use Rattle.std.specs.Prelude.{◌≡◌, ◌∷◌, ◌++◌, [], codes, map, IfOk, OnOk};
 ghost use Rattle.bay_model.specs.Generated.{within, end_named, structure_named, block_names, setting_named, setting_names, value_names, number_names, check_names, command_names, sbo_names, sbow_names, cancel_names, control_names, parameters, selection, parameter_names};
 ghost use Rattle.bay_model.specs.Model.{attribute, withheld};
 ghost use Rattle.object_names.specs.Seen.{role_seen, call_seen};
@@ -161,19 +161,15 @@ fn push_check(
     }
 }
 
-/// Adds a structure.
-pub fn push_structure(
-    alloc: Global,
-    out: &mut Vec<Named>,
-    item: &[u8],
-    what: What,
-) -> Result<(), AllocError>
-    ensures { OnOk result (out.new.items ≡ out.old.items ++ structure_named item.now (role_seen what) ∷ []) }
+/// A structure.
+pub fn structure(alloc: Global, item: &[u8], what: What) -> Result<Named, AllocError>
+    ensures { IfOk result (λ n. n ≡ structure_named item.now (role_seen what)) }
 {
-    let item = Octs::from_vec(Vec::from_slice(alloc, item)?);
-    let kind = TypeOf::Struct(Parts::from_vec(alloc, Vec::new(alloc))?);
-    out.push(Named { item, what, kind })?;
-    Ok(())
+    Ok(Named {
+        item: Octs::from_vec(Vec::from_slice(alloc, item)?),
+        what,
+        kind: TypeOf::Struct(Parts::from_vec(alloc, Vec::new(alloc))?),
+    })
 }
 
 fn push_ctl_val(
@@ -224,7 +220,7 @@ fn push_command(
 ) -> Result<(), AllocError>
     ensures { OnOk result (out.new.items ≡ out.old.items ++ command_names number kind.now item.now (call_seen call)) }
 {
-    push_structure(alloc, out, item, What::Calling(number, call))?;
+    out.push(structure(alloc, item, What::Calling(number, call))?)?;
     push_value(alloc, out, item, kind)?;
     push_number(alloc, out, item)?;
     push_check(alloc, out, item, call)?;

@@ -72,7 +72,7 @@ fn pair(alloc: Global, x: u32, y: u32) -> Result<NodeRow, AllocError>
         shape: MemberShape {
             node: NodeId(0),
             kind: TypeOf::Bool,
-            attrs: AttrIds::from_vec(vec![in alloc; AttrId(x), AttrId(y)]?),
+            attrs: AttrIds::from_vec(alloc, vec![in alloc; AttrId(x), AttrId(y)]?)?,
         },
     })
 }

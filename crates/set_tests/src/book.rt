@@ -22,16 +22,16 @@ fn name(alloc: Global, domain: &[u8], item: &[u8]) -> Result<SetName, AllocError
     })
 }
 
-fn row(alloc: Global, allowed: bool, octets: u32) -> NodeRow {
-    NodeRow {
+fn row(alloc: Global, allowed: bool, octets: u32) -> Result<NodeRow, AllocError> {
+    Ok(NodeRow {
         allowed,
         octets,
         shape: MemberShape {
             node: NodeId(0),
             kind: TypeOf::Bool,
-            attrs: AttrIds::from_vec(Vec::new(alloc)),
+            attrs: AttrIds::from_vec(alloc, Vec::new(alloc))?,
         },
-    }
+    })
 }
 
 /// A node that may be a member, one that is no item for a member, and one that is too large by an octet.
@@ -39,9 +39,9 @@ fn table(alloc: Global) -> Result<NodeTable, AllocError>
     ensures { IfOk result (λ t. length t ≡ 3) }
 {
     let rows = vec![in alloc;
-        row(alloc, true, 500),
-        row(alloc, false, 3),
-        row(alloc, true, 501),
+        row(alloc, true, 500)?,
+        row(alloc, false, 3)?,
+        row(alloc, true, 501)?,
     ]?;
     Ok(NodeTable::from_vec(rows))
 }

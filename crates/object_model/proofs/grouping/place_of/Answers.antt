@@ -7,9 +7,9 @@ use Rattle.object_model.proofs.grouping.place_of.Goals as goal
 
 pub returns-then-eq : goal.returns-then-eq
 returns-then-eq c = ap Some (omega (arith, length-take (length c.args.groups.now - 1) c.args.groups.now))
-    ∙ place-end c.args.groups.now c.last-item.result c.args.name.now _ (omega (arith, c.in-len1-up.len_at_least)) c.last-item.is (λ x q. c.in_default-number_of.not-Some x (c.number_of.ensures ∙ (c.requires c.args.name.now ∙ q)))
+    ∙ place-end c.args.groups.now c.last-item.result c.args.name.now _ (omega (arith, c.in-len1-up.len_at_least)) c.last-item.is (λ x q. c.in_default-place_of.not-Some x (c.place_of.ensures ∙ (c.requires c.args.name.now ∙ q)))
     (ap (λ (g : Group). bytes_eq c.args.name.now g.name) (sym c.last.view_is) ∙ (sym c.eq.ensures ∙ c.if-eq.true))
 
 pub returns : goal.returns
-returns c = place-end c.args.groups.now c.last-item.result c.args.name.now _ (omega (arith, c.in-len1-up.len_at_least)) c.last-item.is (λ x q. c.in_default-number_of.not-Some x (c.number_of.ensures ∙ (c.requires c.args.name.now ∙ q)))
+returns c = place-end c.args.groups.now c.last-item.result c.args.name.now _ (omega (arith, c.in-len1-up.len_at_least)) c.last-item.is (λ x q. c.in_default-place_of.not-Some x (c.place_of.ensures ∙ (c.requires c.args.name.now ∙ q)))
     (ap (λ (g : Group). bytes_eq c.args.name.now g.name) (sym c.last.view_is) ∙ (sym c.eq.ensures ∙ c.if-eq.false))

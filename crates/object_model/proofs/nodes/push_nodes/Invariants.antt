@@ -1,9 +1,11 @@
-use Rattle.std.proofs.Common.{◌≡◌, ◌++◌, map, length}
-use Rattle.object_model.specs.Nodes.{rows_from, name_at}
+use Rattle.std.proofs.Common.{◌≡◌, ◌++◌, length, drop}
+use Rattle.object_model.specs.Nodes.{items_of, names_at}
+use Rattle.object_model.specs.Attrs.{rows_with}
 use Rattle.object_model.proofs.nodes.push_nodes.Given as goal
 
 abbrev pub invariant-loop-spot : goal.invariant-loop-spot
 invariant-loop-spot l = record {
-  rows : l.rows.items ++ rows_from (length l.rows.items) l.spot-iterator.rest.items ≡ l.initial.rows.items ++ rows_from (length l.initial.rows.items) l.initial.spot-iterator.rest.items;
-  names : l.names.items ++ map (name_at l.domain) l.spot-iterator.rest.items ≡ l.initial.names.items ++ map (name_at l.domain) l.initial.spot-iterator.rest.items;
+  rows : l.rows.items ++ rows_with (length l.rows.items) (drop l.first l.attrs) l.spot-iterator.rest.items ≡ l.initial.rows.items ++ rows_with (length l.initial.rows.items) l.attrs l.initial.spot-iterator.rest.items;
+  names : l.names.items ++ names_at l.domain (length l.items.items) l.spot-iterator.rest.items ≡ l.initial.names.items ++ names_at l.domain (length l.initial.items.items) l.initial.spot-iterator.rest.items;
+  items : l.items.items ++ items_of l.spot-iterator.rest.items ≡ l.initial.items.items ++ items_of l.initial.spot-iterator.rest.items;
 }

@@ -9,4 +9,4 @@ number l = l.line
 
 pub returns : goal.returns
 returns c = let keys = answers_always _ _ _ (λ f a r next called. search rules) in
-    sorted_is c.push_all.new.out.items _ (c.in_ok-sort_by_key.ensures.sorted number keys) (c.in_ok-sort_by_key.ensures.stable number keys) ∙ ap in_order (c.in_ok-push_all.ensures ∙ ap (λ l. l ++ lines c.args.config.now) c.new-lines.ensures.items)
+    sorted_is c.push_all.new.out.items _ (c.in_ok-sort_by_key.ensures.sorted number keys) (c.in_ok-sort_by_key.ensures.stable number keys) ∙ ap in_order (c.in_ok-push_all.ensures ∙ ap (λ l. l ++ lines c.args.config.now) c.in_ok-lines.ensures.items)

@@ -1,10 +1,13 @@
-use Rattle.std.proofs.Common.{◌∙◌, ap, sym}
-use Rattle.object_model.specs.declared.nodes.NodeName.{NodeName}
-use Rattle.object_model.proofs.TableLaws.{within-names, name-of}
+use Rattle.std.proofs.Common.{◌∙◌, sym, subst, get_or}
+use Rattle.object_model.specs.Finding.{Finds}
+use Rattle.object_model.proofs.TableLaws.{NameAt, no_name, within-names, name-of}
 use Rattle.object_model.proofs.model.Model.item_of.Goals as goal
 
 pub bounds-as_slice-node : goal.bounds-as_slice-node
 bounds-as_slice-node c = within-names c.self.inside.config c.args.self.now c.as_slice.result.now c.args.node.0 c.self.view_is (c.as_slice.ensures.value ∙ c.self.invariant.3.names) c.requires
 
 pub returns : goal.returns
-returns c = c.as_slice-2.ensures ∙ (ap (λ (x : NodeName). x.item) (sym c.index-as_slice-node.is) ∙ (name-of c.self.inside.config c.args.self.now c.as_slice.result.now c.args.node.0 c.index-as_slice-node.result c.self.view_is (c.as_slice.ensures.value ∙ c.self.invariant.3.names) c.requires c.index-as_slice-node.is).item)
+returns c =
+    let at : NameAt c.args.self.now c.args.node.0 (get_or c.as_slice.result.now c.args.node.0 no_name) = name-of c.self.inside.config c.args.self.now c.as_slice.result.now c.args.node.0 c.self.view_is (c.as_slice.ensures.value ∙ c.self.invariant.3.names) c.requires in
+    let finds : Finds c.args.self.now c.self.inside.tables.numbers c.deref.result.now = subst (λ m. Finds m c.self.inside.tables.numbers c.deref.result.now) c.self.view_is (subst (Finds c.self.inside.config c.self.inside.tables.numbers) (sym c.deref.ensures.value) c.self.invariant.3.finds) in
+    c.item_at.ensures c.args.self.now c.self.inside.tables.numbers finds at.within ∙ at.item

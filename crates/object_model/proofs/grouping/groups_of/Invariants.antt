@@ -1,9 +1,9 @@
 use Rattle.std.proofs.Common.{◌≡◌, map, take}
-use Rattle.object_model.specs.Groups.{groups, group_name, IndexesFront}
-use Rattle.object_model.proofs.grouping.groups.Given as goal
+use Rattle.object_model.specs.Groups.{groups, group_name, PlacesFront}
+use Rattle.object_model.proofs.grouping.groups_of.Given as goal
 
 abbrev pub invariant-loop-cut : goal.invariant-loop-cut
 invariant-loop-cut l = record {
-  placed : IndexesFront l.places (map group_name l.groups.items);
+  placed : PlacesFront l.places (map group_name l.groups.items);
   groups : l.groups.items ≡ groups (take l.cut-index l.cuts);
 }

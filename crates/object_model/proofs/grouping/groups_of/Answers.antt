@@ -2,11 +2,11 @@ use Rattle.std.proofs.Common.{◌-◌, length, take, map, ap, sym, ◌∙◌}
 use Rattle.object_names.specs.Numbers.{number_in}
 use Rattle.object_model.specs.Groups.{group_name}
 use Rattle.object_model.proofs.GroupLaws.{groups-next}
-use Rattle.object_model.proofs.grouping.groups.Goals as goal
+use Rattle.object_model.proofs.grouping.groups_of.Goals as goal
 
 pub loop-cut-init : goal.loop-cut-init
 loop-cut-init c = record {
-  placed = λ name. c.new-places.ensures 0 name ∙ ap (λ gs. number_in (take (length (map group_name gs) - 1) (map group_name gs)) name) (sym c.new-groups.ensures.items);
+  placed = λ name. c.new-places.ensures name ∙ ap (λ gs. number_in (take (length (map group_name gs) - 1) (map group_name gs)) name) (sym c.new-groups.ensures.items);
   groups = c.new-groups.ensures.items;
 }
 
