@@ -67,6 +67,28 @@ def replay_seconds(program, path):
     return usage.ru_utime, usage.ru_stime
 
 
+def least_in_turns(programs, path, times):
+    """The least processor seconds, user and system, of so many replays of the record at this path by each of the programs, which
+    run in turns; the answers go to /dev/null."""
+    least = {}
+    for _ in range(times):
+        for program in programs:
+            seconds = sum(replay_seconds(program, path))
+            least[program] = min(seconds, least.get(program, seconds))
+    return least
+
+
+def instructions(program, path):
+    """How many instructions a replay of the record at this path takes, as valgrind counts them; None where it counts none."""
+    if not shutil.which("valgrind"):
+        return None
+    command = ["valgrind", "--tool=callgrind", "--callgrind-out-file=/dev/null", program, "replay"]
+    with open(path, "rb") as source:
+        run = subprocess.run(command, stdin=source, stdout=subprocess.DEVNULL, stderr=subprocess.PIPE, text=True, errors="replace")
+    counts = [line.split(":")[1] for line in run.stderr.splitlines() if "Collected :" in line]
+    return int(counts[0]) if run.returncode == 0 and counts else None
+
+
 def need_rt():
     """Status 2 where there is no rt."""
     if not shutil.which("rt"):
