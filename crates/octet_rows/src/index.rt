@@ -1,0 +1,174 @@
+//! Rows of octets, each found by its octets.
+
+ghost use Rattle.std.specs.Prelude.{◌≡◌, nat_eq, IfOk, OnOk, OnErr};
+ghost use Rattle.indexmap.specs.IndexMap.{get};
+ghost use Rattle.octet_rows.specs.Found.{is_at as is_row_at, first_at as first_row_at, with_first, IsNoted, IsSame};
+
+use crate::hashing::hash_of;
+use crate::rows::Rows;
+use indexmap::IndexMap;
+use std::alloc::{AllocError, Global};
+use std::marker::Model;
+
+/// Rows of octets, seen by contracts as the list of them. Each is found by its octets at its place, of two that are the same at the first
+/// one's.
+#[derive(Drop)]
+pub struct Index {
+    rows: Rows,
+    /// Of each number the place of the first row that has it.
+    first: IndexMap<u64, u32>,
+    /// The places of the other rows.
+    further: Vec<u32>,
+}
+
+impl Model for Index {
+    ghost use Rattle.std.specs.Prelude.{List, ℕ, nat_eq};
+    ghost use Rattle.indexmap.specs.IndexMap.{get};
+    ghost use Rattle.octet_rows.specs.Found.{Finds};
+
+    ghost Value = { List (List ℕ) };
+
+    ghost view = { λ index. index.rows };
+
+    ghost invariant = { λ index. Finds index.rows (get nat_eq index.first) index.further.items };
+}
+
+/// The row at the place is this one.
+fn is_at(rows: &Rows, place: u32, row: &[u8]) -> bool
+    ensures { result ≡ is_row_at rows.now row.now place }
+{
+    match rows.get(place as usize) {
+        Some(other) => row == other,
+        None => false,
+    }
+}
+
+/// The first of the places at which the row stands.
+fn first_at(rows: &Rows, places: &[u32], row: &[u8]) -> Option<u32>
+    ensures { result ≡ first_row_at rows.now row.now places.now }
+{
+    for place in places {
+        if is_at(rows, *place, row) {
+            return Some(*place);
+        }
+    }
+    None
+}
+
+/// The first place, if there is one, or else the first of the further places, at which the row stands.
+fn place_at(rows: &Rows, first: Option<u32>, further: &[u32], row: &[u8]) -> Option<u32>
+    ensures { result ≡ first_row_at rows.now row.now (with_first first further.now) }
+{
+    let Some(place) = first else {
+        return first_at(rows, further, row);
+    };
+    if is_at(rows, place, row) {
+        return Some(place);
+    }
+    first_at(rows, further, row)
+}
+
+fn first_of(first: &IndexMap<u64, u32>, hash: u64) -> Option<u32>
+    ensures { result ≡ get nat_eq first.now hash }
+{
+    first.get(&hash).copied()
+}
+
+/// The number of a place.
+fn place_of_len(len: usize) -> Result<u32, AllocError>
+    ensures { IfOk result (λ place. place ≡ len) }
+{
+    if len > 0xffff_ffff {
+        return Err(AllocError);
+    }
+    Ok(len as u32)
+}
+
+/// Notes the place of a row with this number. Where it fails, nothing is noted.
+fn note(
+    first: &mut IndexMap<u64, u32>,
+    further: &mut Vec<u32>,
+    hash: u64,
+    place: u32,
+) -> Result<(), AllocError>
+    ensures noted { OnOk result (IsNoted (get nat_eq first.old) further.old.items (get nat_eq first.new) further.new.items hash place) }
+    ensures err { OnErr result (IsSame (get nat_eq first.old) further.old.items (get nat_eq first.new) further.new.items) }
+{
+    if first_of(first, hash).is_some() {
+        further.push(place)?;
+        return Ok(());
+    }
+    first.insert(hash, place)?;
+    Ok(())
+}
+
+impl Index {
+    ghost use Rattle.std.specs.Prelude.{◌≡◌, ◌++◌, ◌∷◌, [], length, slice_get, option_copied, OnOk};
+    ghost use Rattle.octet_rows.specs.Hashing.{hash_at};
+    ghost use Rattle.octet_rows.specs.Found.{place_in};
+
+    /// There is none.
+    pub fn new(alloc: Global) -> Self
+        ensures { result ≡ [] }
+    {
+        Index {
+            rows: Rows::new(alloc),
+            first: IndexMap::new(alloc),
+            further: Vec::new(alloc),
+        }
+    }
+
+    /// How many rows there are.
+    pub fn len(&self) -> usize
+        ensures { result ≡ length self.now }
+    {
+        self.rows.len()
+    }
+
+    /// The row at a place.
+    pub fn get(&self, place: usize) -> Option<&[u8]>
+        ensures { option_copied result ≡ slice_get self.now place }
+    {
+        self.rows.get(place)
+    }
+
+    /// The place of a row by its number; none exactly where it is not there.
+    pub fn place_by(&self, hash: u64, row: &[u8]) -> Option<u32>
+        requires { hash ≡ hash_at row.now }
+        ensures { result ≡ place_in self.now row.now }
+    {
+        let first = first_of(&self.first, hash);
+        place_at(&self.rows, first, &self.further, row)
+    }
+
+    /// The place of a row; none exactly where it is not there.
+    pub fn place_of(&self, row: &[u8]) -> Option<u32>
+        ensures { result ≡ place_in self.now row.now }
+    {
+        self.place_by(hash_of(row), row)
+    }
+
+    /// Adds a row by its number, which may be there already.
+    pub fn push_by(&mut self, hash: u64, row: &[u8]) -> Result<(), AllocError>
+        requires { hash ≡ hash_at row.now }
+        ensures { OnOk result (self.new ≡ self.old ++ row.now ∷ []) }
+    {
+        let len = self.rows.len();
+        let place = place_of_len(len)?;
+        self.rows.push(row)?;
+        match note(&mut self.first, &mut self.further, hash, place) {
+            Ok(()) => Ok(()),
+            Err(error) => {
+                self.rows.truncate(len);
+                Err(error)
+            }
+        }
+    }
+
+    /// Adds a row, which may be there already.
+    pub fn push(&mut self, row: &[u8]) -> Result<(), AllocError>
+        ensures { OnOk result (self.new ≡ self.old ++ row.now ∷ []) }
+    {
+        self.push_by(hash_of(row), row)
+    }
+}
