@@ -71,7 +71,13 @@ fn write_parameter(text: &mut Vec<u8>, control: &CtlDef, name: &[u8]) -> Result<
     ensures { OnOk result (text.new.items ≡ reference_of control.now.domain (within (path_item control.now.ln (codes "CF") control.now.path) name.now)) }
 {
     let (domain, ln, path) = (&control.domain, &control.ln, &control.path);
-    write_reference(text, domain.as_slice(), ln.as_slice(), b"CF", path.as_slice())?;
+    write_reference(
+        text,
+        domain.as_slice(),
+        ln.as_slice(),
+        b"CF",
+        path.as_slice(),
+    )?;
     text.push(b'$')?;
     text.extend_from_slice(name)?;
     Ok(())

@@ -95,11 +95,7 @@ fn push_block(out: &mut Index, text: &mut Vec<u8>, block: &BlockDef) -> Result<(
     out.push(text)
 }
 
-fn push_control(
-    out: &mut Index,
-    text: &mut Vec<u8>,
-    control: &CtlDef,
-) -> Result<(), AllocError>
+fn push_control(out: &mut Index, text: &mut Vec<u8>, control: &CtlDef) -> Result<(), AllocError>
     ensures { OnOk result (out.new ≡ out.old ++ (control_defined control.now).reference ∷ []) }
 {
     write_reference(
