@@ -1,5 +1,5 @@
 -- What one more group grows.
-use Rattle.std.proofs.Common.{◌≡◌, ℕ, zero, suc, ◌+◌, ◌-◌, ◌<◌, ◌≤◌, ◌==◌, subst, take_all, Bool, true, false, ◌&&◌, List, [], ◌∷◌, ◌++◌, map, length, get_or, take, refl, sym, ap, ◌∙◌, append_assoc, append-nil, arith, length-append}
+use Rattle.std.proofs.Common.{◌≡◌, ℕ, zero, suc, ◌+◌, ◌-◌, ◌<◌, ◌≤◌, ◌==◌, subst, take_all, Bool, true, false, ◌&&◌, List, [], ◌∷◌, ◌++◌, map, length, get_or, take, refl, sym, ap, ap₂, ◌∙◌, append_assoc, append-nil, arith, length-append}
 use Rattle.std.proofs.lemmas.List.{map-append, take_more}
 use Rattle.std.proofs.Math.Seq.{take-append_seam}
 use Rattle.sv_base.specs.declared.types.TypeOf.{TypeOf}
@@ -17,7 +17,7 @@ use Rattle.object_names.specs.Leaves.{leaves, leaves_side, leaf_code}
 use Rattle.object_model.specs.Leaves.{own, leaves_with}
 use Rattle.object_model.proofs.LeafLaws.{own_tree, count_tree}
 use Rattle.object_model.specs.Groups.{Group, group_at, groups}
-use Rattle.object_model.specs.Grown.{IsGrown, spot, spot_with, forest_of}
+use Rattle.object_model.specs.Grown.{IsGrown, items_of, spot, spot_with, forest_of}
 use Rattle.object_model.specs.declared.growth.Grown.{Grown}
 use Rattle.object_model.specs.declared.growth.Spot.{Spot}
 
@@ -83,17 +83,17 @@ leaves-is before l g b h = ap (λ fs. leaves_with g fs b.leaves) (ap fields_of h
     ∙ (ap (λ n. leaves_with g (fields (grown l g.names)) n) h.leaves ∙ count_tree (role_of g.names) (grown l g.names))
 
 -- the code's node of a group whose parts have grown
-spot-is : (before : List ℕ) (l : ℕ) (g : Group) (b : Grown) → IsGrown b (before ++ g.name ++ 36 ∷ []) (grown l g.names) → spot_with (before ++ g.name) g (fields_of b.parts.items) b.attrs b.is_data b.leaves ≡ spot (node before l g)
-spot-is before l g b h = ap (λ n. record (spot_with (before ++ g.name) g (fields_of b.parts.items) b.attrs b.is_data b.leaves) { leaves = n }) (leaves-is before l g b h)
-    ∙ (ap (λ fs. record (spot_with (before ++ g.name) g fs b.attrs b.is_data b.leaves) { leaves = length (leaves (tree l g)) }) (ap fields_of h.parts ∙ fields-parts (fields (grown l g.names)))
-    ∙ (ap (λ o. record (spot_with (before ++ g.name) g (fields (grown l g.names)) b.attrs b.is_data b.leaves) { leaves = length (leaves (tree l g)); own = option_map leaf_code o }) (own_tree (role_of g.names) (grown l g.names))
+spot-is : (before : List ℕ) (l : ℕ) (g : Group) (b : Grown) → IsGrown b (before ++ g.name ++ 36 ∷ []) (grown l g.names) → spot_with g (fields_of b.parts.items) b.attrs b.is_data b.leaves ≡ spot (node before l g)
+spot-is before l g b h = ap (λ n. record (spot_with g (fields_of b.parts.items) b.attrs b.is_data b.leaves) { leaves = n }) (leaves-is before l g b h)
+    ∙ (ap (λ fs. record (spot_with g fs b.attrs b.is_data b.leaves) { leaves = length (leaves (tree l g)) }) (ap fields_of h.parts ∙ fields-parts (fields (grown l g.names)))
+    ∙ (ap (λ o. record (spot_with g (fields (grown l g.names)) b.attrs b.is_data b.leaves) { leaves = length (leaves (tree l g)); own = option_map leaf_code o }) (own_tree (role_of g.names) (grown l g.names))
     ∙ (ap (λ as_. record (spot (node before l g)) { attrs = as_; is_data = is_data_role (role_of g.names) && b.is_data })
     (ap (λ n. length (attrs_of_role (role_of g.names)) + n) h.attrs ∙ sym (length-append (attrs_of_role (role_of g.names)) (attrs_in (grown l g.names))))
     ∙ ap (λ d. record (spot (node before l g)) { is_data = is_data_role (role_of g.names) && d }) h.is_data)))
 
 -- what adding a group does
-pub record Added (old new : Grown) (before : List ℕ) (g : Group) (b : Grown) : Type 0 where
-  pub spots : new.spots.items ≡ old.spots.items ++ (spot_with (before ++ g.name) g (fields_of b.parts.items) b.attrs b.is_data b.leaves ∷ b.spots.items)
+pub record Added (old new : Grown) (g : Group) (b : Grown) : Type 0 where
+  pub spots : new.spots.items ≡ old.spots.items ++ (spot_with g (fields_of b.parts.items) b.attrs b.is_data b.leaves ∷ b.spots.items)
   pub parts : new.parts.items ≡ old.parts.items ++ record { name = g.name; kind = type_with (own_type g.names) (fields_of b.parts.items) } ∷ []
   pub attrs : new.attrs ≡ old.attrs + (length (attrs_of_role (role_of g.names)) + b.attrs)
   pub is_data : new.is_data ≡ old.is_data && (is_data_role (role_of g.names) && b.is_data)
@@ -103,11 +103,23 @@ abbrev next : (gs : List Group) (i : ℕ) (g : Group) → i < length gs → g �
 next gs i g h e = take_more gs i g h ∙ ap (λ x. take i gs ++ x ∷ []) (sym e)
 
 pub spots-more : (before : List ℕ) (l : ℕ) (gs : List Group) (i : ℕ) (g : Group) (old new : List Spot) (b : Grown) → i < length gs → g ≡ get_or gs i g → old ≡ map spot (places before (forest_of l (take i gs))) → IsGrown b (before ++ g.name ++ 36 ∷ []) (grown l g.names)
-    → new ≡ old ++ (spot_with (before ++ g.name) g (fields_of b.parts.items) b.attrs b.is_data b.leaves ∷ b.spots.items) → new ≡ map spot (places before (forest_of l (take (i + 1) gs)))
+    → new ≡ old ++ (spot_with g (fields_of b.parts.items) b.attrs b.is_data b.leaves ∷ b.spots.items) → new ≡ map spot (places before (forest_of l (take (i + 1) gs)))
 spots-more before l gs i g old new b h e o p a = a ∙ (ap (λ x. old ++ (x ∷ b.spots.items)) (spot-is before l g b p) ∙ (ap (λ x. old ++ (spot (node before l g) ∷ x)) p.spots ∙ (ap (λ x. x ++ (spot (node before l g) ∷ map spot (parts_in before l g))) o
     ∙ sym (ap (λ x. map spot (places before (forest_of l x))) (next gs i g h e) ∙ (ap (map spot) (places-more before l (take i gs) g) ∙ map-append spot (places before (forest_of l (take i gs))) (node before l g ∷ parts_in before l g))))))
 
-pub grown-more : (before : List ℕ) (l : ℕ) (gs : List Group) (i : ℕ) (g : Group) (old new b : Grown) → i < length gs → g ≡ get_or gs i g → IsGrown old before (forest_of l (take i gs)) → IsGrown b (before ++ g.name ++ 36 ∷ []) (grown l g.names) → Added old new before g b
+-- the item of a group, and those of its parts
+pub items-more : (before front : List ℕ) (l : ℕ) (gs : List Group) (i : ℕ) (g : Group) (names : List Named) (start old mid new : List (List ℕ)) → i < length gs → g ≡ get_or gs i g → front ≡ before ++ g.name ++ 36 ∷ [] → names ≡ g.names
+    → old ≡ start ++ items_of (places before (forest_of l (take i gs))) → mid ≡ old ++ (before ++ g.name) ∷ [] → new ≡ mid ++ items_of (places front (grown l names)) → new ≡ start ++ items_of (places before (forest_of l (take (i + 1) gs)))
+items-more before front l gs i g names start old mid new h e f n o m k =
+    let done : List Place = places before (forest_of l (take i gs)) in
+    let here : List ℕ = before ++ g.name in
+    let parts : List (List ℕ) = items_of (parts_in before l g) in
+    k ∙ (ap₂ (λ x ns. mid ++ items_of (places x (grown l ns))) f n ∙ (ap (λ x. x ++ parts) (m ∙ ap (λ x. x ++ here ∷ []) o)
+    ∙ (append_assoc (start ++ items_of done) (here ∷ []) parts ∙ (append_assoc start (items_of done) (here ∷ parts)
+    ∙ sym (ap (λ x. start ++ items_of (places before (forest_of l x))) (next gs i g h e)
+    ∙ ap (λ x. start ++ x) (ap items_of (places-more before l (take i gs) g) ∙ map-append (λ (p : Place). p.item) done (node before l g ∷ parts_in before l g)))))))
+
+pub grown-more : (before : List ℕ) (l : ℕ) (gs : List Group) (i : ℕ) (g : Group) (old new b : Grown) → i < length gs → g ≡ get_or gs i g → IsGrown old before (forest_of l (take i gs)) → IsGrown b (before ++ g.name ++ 36 ∷ []) (grown l g.names) → Added old new g b
     → IsGrown new before (forest_of l (take (i + 1) gs))
 grown-more before l gs i g old new b h e o p a = let next : take (i + 1) gs ≡ take i gs ++ g ∷ [] = next gs i g h e in record {
   spots = spots-more before l gs i g old.spots.items new.spots.items b h e o.spots p a.spots;
@@ -142,6 +154,12 @@ whole b before levels ns gs i h l e p = subst (λ f. IsGrown b before f) (ap (fo
 pub whole-top : (spots : List Spot) (levels : ℕ) (ns : List Named) (gs : List Group) (i : ℕ) → length gs ≤ i → gs ≡ groups ns → spots ≡ map spot (places [] (forest_of levels (take i gs))) → spots ≡ map spot (places [] (grown (suc levels) ns))
 whole-top spots levels ns gs i l e p = p ∙ ap (λ f. map spot (places [] f)) (ap (forest_of levels) (take_all i gs l ∙ e) ∙ sym (side levels ns (first_names ns)))
 
+pub some-level : (levels : ℕ) → 0 < levels → suc (levels - 1) ≡ levels
+some-level levels h = omega (arith, h)
+
+pub whole-items : (before : List ℕ) (levels : ℕ) (ns : List Named) (gs : List Group) (i : ℕ) (start items : List (List ℕ)) → length gs ≤ i → gs ≡ groups ns → items ≡ start ++ items_of (places before (forest_of levels (take i gs))) → items ≡ start ++ items_of (places before (grown (suc levels) ns))
+whole-items before levels ns gs i start items l e p = p ∙ ap (λ f. start ++ items_of (places before f)) (ap (forest_of levels) (take_all i gs l ∙ e) ∙ sym (side levels ns (first_names ns)))
+
 -- as many levels as the tree has
-pub all-levels : (levels : ℕ) (ns ms most : List Named) → levels ≡ longest most → most ≡ ns → ms ≡ ns → map spot (places [] (grown (suc levels) ms)) ≡ map spot (places [] (tree_of ns))
-all-levels levels ns ms most e f g = ap (λ l. map spot (places [] (grown (suc l) ms))) (e ∙ ap longest f) ∙ ap (λ l. map spot (places [] (grown (suc (longest ns)) l))) g
+pub all-levels : (levels : ℕ) (ns ms most : List Named) → levels ≡ longest most → most ≡ ns → ms ≡ ns → places [] (grown (suc levels) ms) ≡ places [] (tree_of ns)
+all-levels levels ns ms most e f g = ap (λ l. places [] (grown (suc l) ms)) (e ∙ ap longest f) ∙ ap (λ l. places [] (grown (suc (longest ns)) l)) g

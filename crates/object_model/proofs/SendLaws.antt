@@ -21,7 +21,7 @@ use Rattle.bay_model.specs.contracts.tables.MemberShape as MemberShape
 use Rattle.bay_model.specs.contracts.tables.NodeRow as NodeRow
 use Rattle.bay_model.specs.contracts.tables.NodeTable as NodeTable
 use Rattle.object_names.specs.contracts.attributes.AttrRow as AttrRow
-use Rattle.object_names.specs.contracts.index.Index as Index
+use Rattle.octet_rows.proofs.index.Index.TheSendSync as indexes
 use Rattle.object_model.specs.contracts.listing.Directory as Directory
 use Rattle.object_model.specs.contracts.nodes.NodeName as NodeName
 use Rattle.object_model.specs.contracts.stands.Stand as Stand
@@ -73,11 +73,8 @@ node_send = search (shape_field_send, sendable) depth 60
 node_table_send : IsSend NodeTable.the_row
 node_table_send = search (node_send, crosses, sendable) depth 60
 
-index_field_send : IsSend Index.the_field.row
-index_field_send = search (crosses, sendable) depth 60
-
 directory_send : IsSend Directory.the_row
-directory_send = search (index_field_send, octs.the_send, crosses, sendable) depth 60
+directory_send = search (indexes.the_send, crosses, sendable) depth 60
 
 name_send : IsSend NodeName.the_row
 name_send = search (sendable) depth 60
@@ -89,10 +86,10 @@ leaf_send : IsSend Leaf.the_row
 leaf_send = search (sendable) depth 60
 
 tables_field_send : IsSend Tables.the_field.row
-tables_field_send = search (stand_send, leaf_send, node_table_send, index_field_send, directory_send, name_send, set_table.the_send, crosses, sendable) depth 60
+tables_field_send = search (stand_send, leaf_send, node_table_send, indexes.the_send, directory_send, name_send, set_table.the_send, crosses, sendable) depth 60
 
 attr_row_send : IsSend AttrRow.the_row
-attr_row_send = search (kind_field_send, octs.the_send, sendable) depth 60
+attr_row_send = search (kind_field_send, sendable) depth 60
 
 pub model_send : IsSend Model.the_row
-model_send = search (config_field_send, tables_field_send, index_field_send, attr_row_send, octs.the_send, crosses, sendable) depth 60
+model_send = search (config_field_send, tables_field_send, indexes.the_send, attr_row_send, crosses, sendable) depth 60

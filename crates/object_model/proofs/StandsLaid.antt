@@ -3,13 +3,12 @@ use Rattle.std.proofs.Common.{◌≡◌, ℕ, zero, suc, ◌+◌, ◌-◌, ◌<�
 use Rattle.std.specs.Option.{option_map}
 use Rattle.std.proofs.lemmas.List.{map-append, length-map, get_or_default}
 use Rattle.sv_base.specs.declared.config.Config.{Config}
-use Rattle.sv_base.specs.declared.types.TypeOf.TheVariants as types
 use Rattle.bay_model.specs.Model.{Node, Role, Tree, Trees, single, selecting, calling, several}
 use Rattle.bay_model.specs.NameTree.{Forest, nothing, named, tree_of}
-use Rattle.bay_model.specs.Places.{Place, place, places, node_at, trees, tree_with}
+use Rattle.bay_model.specs.Places.{Place, places, trees, tree_with}
 use Rattle.bay_model.specs.Lookups.{node_of}
 use Rattle.bay_model.specs.NamedLines.{domains, names_in}
-use Rattle.bay_model.specs.Named.{configured_model, nodes, places_in}
+use Rattle.bay_model.specs.Named.{configured_model, nodes}
 use Rattle.object_model.specs.declared.growth.Spot.{Spot}
 use Rattle.object_model.specs.declared.stands.Stand.{Stand}
 use Rattle.object_names.specs.declared.leaves.Leaf.{Leaf as CodeLeaf}

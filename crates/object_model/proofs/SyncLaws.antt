@@ -21,7 +21,7 @@ use Rattle.bay_model.specs.contracts.tables.MemberShape as MemberShape
 use Rattle.bay_model.specs.contracts.tables.NodeRow as NodeRow
 use Rattle.bay_model.specs.contracts.tables.NodeTable as NodeTable
 use Rattle.object_names.specs.contracts.attributes.AttrRow as AttrRow
-use Rattle.object_names.specs.contracts.index.Index as Index
+use Rattle.octet_rows.proofs.index.Index.TheSendSync as indexes
 use Rattle.object_model.specs.contracts.listing.Directory as Directory
 use Rattle.object_model.specs.contracts.nodes.NodeName as NodeName
 use Rattle.object_model.specs.contracts.stands.Stand as Stand
@@ -73,11 +73,8 @@ node_sync = search (shape_field_sync, sendable) depth 60
 node_table_sync : IsSync NodeTable.the_row
 node_table_sync = search (node_sync, crosses, sendable) depth 60
 
-index_field_sync : IsSync Index.the_field.row
-index_field_sync = search (crosses, sendable) depth 60
-
 directory_sync : IsSync Directory.the_row
-directory_sync = search (index_field_sync, octs.the_sync, crosses, sendable) depth 60
+directory_sync = search (indexes.the_sync, crosses, sendable) depth 60
 
 name_sync : IsSync NodeName.the_row
 name_sync = search (sendable) depth 60
@@ -89,10 +86,10 @@ leaf_sync : IsSync Leaf.the_row
 leaf_sync = search (sendable) depth 60
 
 tables_field_sync : IsSync Tables.the_field.row
-tables_field_sync = search (stand_sync, leaf_sync, node_table_sync, index_field_sync, directory_sync, name_sync, set_table.the_sync, crosses, sendable) depth 60
+tables_field_sync = search (stand_sync, leaf_sync, node_table_sync, indexes.the_sync, directory_sync, name_sync, set_table.the_sync, crosses, sendable) depth 60
 
 attr_row_sync : IsSync AttrRow.the_row
-attr_row_sync = search (kind_field_sync, octs.the_sync, sendable) depth 60
+attr_row_sync = search (kind_field_sync, sendable) depth 60
 
 pub model_sync : IsSync Model.the_row
-model_sync = search (config_field_sync, tables_field_sync, index_field_sync, attr_row_sync, octs.the_sync, crosses, sendable) depth 60
+model_sync = search (config_field_sync, tables_field_sync, indexes.the_sync, attr_row_sync, crosses, sendable) depth 60

@@ -16,8 +16,8 @@ use Rattle.bay_model.specs.Places.{Place, place, node_at, may_be_member, largest
 use Rattle.bay_model.specs.NamedLines.{domains}
 use Rattle.bay_model.specs.Named.{nodes, places_in, configured_model}
 use Rattle.object_model.specs.declared.nodes.NodeName.{NodeName}
-use Rattle.object_model.specs.Grown.{spot}
-use Rattle.object_model.specs.Nodes.{attr_id, spots_in, items_of, names_at, names_from, node_names, row, rows_from, node_rows}
+use Rattle.object_model.specs.Grown.{items_of, spot}
+use Rattle.object_model.specs.Nodes.{attr_id, spots_in, names_at, names_from, node_names, row, rows_from, node_rows}
 use Rattle.std.proofs.Common.{◌&&◌, nat_le, min}
 use Rattle.std.proofs.lemmas.Bool.Decides.{nat_tests}
 use Rattle.object_model.specs.Rows.{IsRowOf}
@@ -82,7 +82,7 @@ module _ {A : Type 0} (c : Config) (of_name : NodeName → A) (of_node : Node �
       (names-nodes (suc k) ds (λ j i p h w. let more : suc k + j ≡ k + suc j = omega arith in ap (λ m. at m i) more ∙ same (suc j) i p (omega (arith, h)) w))
       ∙ sym (map-append of_node (map (node_at d) (places_in c d)) (flat_map (λ d. map (node_at d) (places_in c d)) ds)))
 
-item-there : (ps : List Place) (i : ℕ) (p : Place) → i < length ps → name_at (items_of (map spot ps)) i ≡ (get_or ps i p).item
+item-there : (ps : List Place) (i : ℕ) (p : Place) → i < length ps → name_at (items_of ps) i ≡ (get_or ps i p).item
 item-there [] i p h = absurd (omega (arith, h))
 item-there (q ∷ ps) zero p h = refl
 item-there (q ∷ ps) (suc i) p h = item-there ps i p (omega (arith, h))
@@ -170,12 +170,6 @@ no_name = record { domain = 0; place = 0 }
 pub name-of : (c model : Config) (names : List NodeName) (n : ℕ) → c ≡ model → names ≡ node_names c → n < length (nodes model) → NameAt model n (get_or names n no_name)
 name-of c model names n v e h = let is : names ≡ node_names model = e ∙ ap node_names v in
     name-at model n (get_or names n no_name) h (ap (λ l. get_or l n no_name) is ∙ get_or_default (node_names model) n no_name (get_or names n no_name) (omega (arith, h, count-names model)))
-
-pub within-domains : (c model : Config) (ds : List (List ℕ)) (n : ℕ) (x : NodeName) → c ≡ model → ds ≡ domains c → NameAt model n x → x.domain < length ds
-within-domains c model ds n x v e at = omega (arith, at.within, ap length e, ap (λ m. length (domains m)) v)
-
-pub domain-of : (c model : Config) (ds : List (List ℕ)) (n : ℕ) (x : NodeName) (d : List ℕ) → c ≡ model → ds ≡ domains c → NameAt model n x → d ≡ get_or ds x.domain d → d ≡ (node_of (configured_model model) n).domain
-domain-of c model ds n x d v e at is = is ∙ (get_or_default ds x.domain d [] (within-domains c model ds n x v e at) ∙ (ap (λ l. get_or l x.domain []) (e ∙ ap domains v) ∙ at.domain))
 
 pub within-rows : (c model : Config) (rows : List NodeRow) (n : ℕ) → c ≡ model → rows ≡ node_rows c → n < length (nodes model) → n < length rows
 within-rows c model rows n v e h = omega (arith, h, ap length e, ap (λ m. length (node_rows m)) v, count-rows model)

@@ -1,5 +1,6 @@
 -- The attributes of the nodes of a domain in one row, in the order of the nodes: those of each node stand side by side.
 use Rattle.std.specs.Prelude.{ℕ, suc, ◌&&◌, List, [], ◌∷◌, map, flat_map, length, take, drop, min}
+use Rattle.name_order.specs.Sorting.{name_at}
 use Rattle.std.specs.List.{list_any}
 use Rattle.std.specs.Str.{bytes_eq}
 use Rattle.sv_base.specs.declared.numbers.AttrId.{AttrId}
@@ -20,15 +21,15 @@ attrs_in_spots ss = flat_map (λ (s : Spot). own_attrs s.what) ss
 
 -- ---- for the code
 
--- node number n with these attributes
-abbrev pub row_with : ℕ → Spot → List AttrId → NodeRow
-row_with n s as_ = record {
-  allowed = s.is_data && list_any (bytes_eq (constraint s.item)) member_constraints;
+-- node number n at an item, with these attributes
+abbrev pub row_with : ℕ → List ℕ → Spot → List AttrId → NodeRow
+row_with n item s as_ = record {
+  allowed = s.is_data && list_any (bytes_eq (constraint item)) member_constraints;
   octets = min (largest s.kind) 4294967295;
   shape = record { node = record { 0 = n }; kind = s.kind; attrs = as_ };
 }
 
--- nodes whose attributes stand in a row: a node's begin behind those that the nodes before it are themselves
-abbrev pub rows_with : ℕ → List AttrId → List Spot → List NodeRow
-rows_with n as_ [] = []
-rows_with n as_ (s ∷ ss) = row_with n s (take s.attrs as_) ∷ rows_with (suc n) (drop (length (own_attrs s.what)) as_) ss
+-- nodes at these items, whose attributes stand in a row: a node's begin behind those that the nodes before it are themselves
+abbrev pub rows_with : ℕ → List (List ℕ) → List AttrId → List Spot → List NodeRow
+rows_with n items as_ [] = []
+rows_with n items as_ (s ∷ ss) = row_with n (name_at items 0) s (take s.attrs as_) ∷ rows_with (suc n) (drop 1 items) (drop (length (own_attrs s.what)) as_) ss

@@ -6,17 +6,15 @@ use Rattle.bay_model.specs.Model.{Node}
 use Rattle.bay_model.specs.Lookups.{reference_of}
 use Rattle.bay_model.specs.NamedLines.{domains}
 use Rattle.object_model.specs.declared.listing.Directory.{Directory}
-use Rattle.object_names.specs.declared.index.Index.{Index}
-use Rattle.object_names.specs.Indexes.{Indexes}
 use Rattle.object_model.specs.Listed.{AllFrom, IsDirectory}
 
 -- the number of the node of an item of a domain
 abbrev pub node_named : List Node → List ℕ → List ℕ → Option ℕ
 node_named ns domain item = position (λ (n : Node). bytes_eq domain n.domain && bytes_eq item n.item) ns
 
--- the numbers of the domains, and for each the numbers of its items
-pub record Finds (c : Config) (numbers : Index) (ds : List Directory) : Type 0 where
-  pub domain_numbers : Indexes numbers (domains c)
+-- the domains, and for each its names
+pub record Finds (c : Config) (names : List (List ℕ)) (ds : List Directory) : Type 0 where
+  pub domain_names : names ≡ domains c
   pub directories : AllFrom (IsDirectory c) 0 ds
   pub count : length ds ≡ length (domains c)
 

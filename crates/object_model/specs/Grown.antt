@@ -1,5 +1,5 @@
 -- What grows out of what is named: the nodes of names side by side, and what these are as parts of a structure.
-use Rattle.std.specs.Prelude.{◌≡◌, ℕ, ◌+◌, List, [], ◌∷◌, ◌++◌, ◌&&◌, Bool, map, length}
+use Rattle.std.specs.Prelude.{◌≡◌, ℕ, ◌+◌, List, [], ◌∷◌, ◌&&◌, Bool, map, length}
 use Rattle.std.specs.Option.{option_map}
 use Rattle.object_names.specs.Leaves.{leaves, leaves_side, leaf_code, what_code}
 use Rattle.object_model.specs.Leaves.{own, own_with, leaves_with}
@@ -11,9 +11,12 @@ use Rattle.object_model.specs.Groups.{Group}
 use Rattle.object_model.specs.declared.growth.Spot.{Spot}
 use Rattle.object_model.specs.declared.growth.Grown.{Grown}
 
--- a node as the code has it
+abbrev pub items_of : List Place → List (List ℕ)
+items_of ps = map (λ (p : Place). p.item) ps
+
+-- a node as the code has it, but for its item
 abbrev pub spot : Place → Spot
-spot p = record { item = p.item; kind = p.kind; attrs = length p.attrs; is_data = p.is_data; what = what_code p.role; own = option_map leaf_code (own p.tree); leaves = length (leaves p.tree) }
+spot p = record { kind = p.kind; attrs = length p.attrs; is_data = p.is_data; what = what_code p.role; own = option_map leaf_code (own p.tree); leaves = length (leaves p.tree) }
 
 -- the nodes of names side by side, each after what stands before it, with what they are as parts
 pub record IsGrown (g : Grown) (before : List ℕ) (f : Forest) : Type 0 where
@@ -28,6 +31,6 @@ abbrev pub forest_of : ℕ → List Group → Forest
 forest_of levels [] = nothing
 forest_of levels (g ∷ gs) = named g.name (role_of g.names) (own_type g.names) (grown levels g.names) (forest_of levels gs)
 
--- the node of a group, at an item, of these parts
-abbrev pub spot_with : List ℕ → Group → Fields → ℕ → Bool → ℕ → Spot
-spot_with item g parts attrs is_data below = record { item = item; kind = type_with (own_type g.names) parts; attrs = length (attrs_of_role (role_of g.names)) + attrs; is_data = is_data_role (role_of g.names) && is_data; what = what_code (role_of g.names); own = option_map leaf_code (own_with (role_of g.names) parts); leaves = leaves_with g parts below }
+-- the node of a group, of these parts
+abbrev pub spot_with : Group → Fields → ℕ → Bool → ℕ → Spot
+spot_with g parts attrs is_data below = record { kind = type_with (own_type g.names) parts; attrs = length (attrs_of_role (role_of g.names)) + attrs; is_data = is_data_role (role_of g.names) && is_data; what = what_code (role_of g.names); own = option_map leaf_code (own_with (role_of g.names) parts); leaves = leaves_with g parts below }

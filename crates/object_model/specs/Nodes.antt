@@ -1,14 +1,20 @@
 -- The nodes of a configuration as the parts of a bay are given them: each with its domain, its type and its largest Data.
-use Rattle.std.specs.Prelude.{ℕ, suc, List, [], ◌∷◌, ◌++◌, map, flat_map, min}
+use Rattle.std.specs.Prelude.{ℕ, suc, List, [], ◌∷◌, ◌++◌, map, flat_map, filter, min}
+use Rattle.std.specs.Str.{bytes_eq}
 use Rattle.sv_base.specs.declared.config.Config.{Config}
 use Rattle.sv_base.specs.declared.numbers.AttrId.{AttrId}
 use Rattle.bay_model.specs.declared.tables.NodeRow.{NodeRow}
-use Rattle.bay_model.specs.Places.{Place, largest, may_be_member}
-use Rattle.bay_model.specs.NamedLines.{domains}
+use Rattle.bay_model.specs.NameTree.{tree_of}
+use Rattle.bay_model.specs.Places.{Place, places, largest, may_be_member}
+use Rattle.bay_model.specs.NamedLines.{Line, domains}
 use Rattle.bay_model.specs.Named.{places_in}
 use Rattle.object_model.specs.declared.growth.Spot.{Spot}
 use Rattle.object_model.specs.declared.nodes.NodeName.{NodeName}
 use Rattle.object_model.specs.Grown.{spot}
+
+-- the nodes that lines name in a domain
+abbrev pub places_from : List Line → List ℕ → List Place
+places_from ls domain = places [] (tree_of (flat_map (λ (l : Line). l.names) (filter (λ (l : Line). bytes_eq l.domain domain) ls)))
 
 -- the nodes of a domain
 abbrev pub spots_in : Config → List ℕ → List Spot
@@ -32,9 +38,6 @@ rows_from n (p ∷ ps) = row n p ∷ rows_from (suc n) ps
 -- the nodes by their numbers, domain by domain
 abbrev pub node_rows : Config → List NodeRow
 node_rows c = rows_from 0 (flat_map (places_in c) (domains c))
-
-abbrev pub items_of : List Spot → List (List ℕ)
-items_of ss = map (λ (s : Spot). s.item) ss
 
 -- the names of nodes of domain k, the first at a place of its own
 abbrev pub names_at : ℕ → ℕ → List Spot → List NodeName

@@ -48,8 +48,7 @@ abbrev pub attr_flags : Config → List Flags
 attr_flags c = map line_flags c.attrs ++ (flat_map control_flags c.controls ++ map line_flags (filter is_setting c.attrs))
 
 pub record IsTables (c : Config) (t : Tables) : Type 0 where
-  pub finds : Finds c t.numbers t.directories.items
-  pub domain_names : t.domains.items ≡ domains c
+  pub finds : Finds c t.domains t.directories.items
   pub names : t.names.items ≡ node_names c
   pub nodes : t.nodes ≡ node_rows c
   pub sets : t.sets ≡ set_rows c

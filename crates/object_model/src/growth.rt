@@ -7,21 +7,21 @@ ghost use Rattle.bay_model.specs.NameTree.{role_of, own_type as own_type_of, gro
 ghost use Rattle.bay_model.specs.Places.{attrs_of_role, is_data_role, type_with, places};
 ghost use Rattle.object_names.specs.Seen.{role_seen};
 ghost use Rattle.object_names.specs.Leaves.{leaf_code};
-ghost use Rattle.object_model.specs.Grown.{IsGrown, spot, spot_with};
+ghost use Rattle.object_model.specs.Grown.{IsGrown, items_of, spot, spot_with};
 ghost use Rattle.object_model.specs.Leaves.{own_with, own_count, leaves_with};
 
 use crate::grouping::groups;
 use crate::growing::{Cut, Group};
 use object_names::numbers::plus;
 use object_names::{Leaf, What, own_leaf};
+use octet_rows::Index;
 use std::alloc::{AllocError, Global};
 use sv_base::{Octs, Part1, Parts, TypeOf};
 
-/// A node: its item, the type of its Data, how many attributes it has, and whether it holds attributes alone; what it is,
-/// its leaf where it has no parts, and how many leaves it has.
+/// A node but for its item: the type of its Data, how many attributes it has, and whether it holds attributes alone; what it
+/// is, its leaf where it has no parts, and how many leaves it has.
 #[derive(Drop)]
 pub struct Spot {
-    pub item: Octs,
     pub kind: TypeOf,
     pub attrs: u32,
     pub is_data: bool,
@@ -115,18 +115,17 @@ fn leaves_of(own: Option<Leaf>, below: u32) -> Result<u32, AllocError>
     }
 }
 
-/// The node of a group at an item, of these parts with so many attributes.
+/// The node of a group, of these parts with so many attributes.
 #[tactic(auto, using(object_names::proofs::LeafLaws::what_back))]
 fn spot_of(
     alloc: Global,
-    item: Vec<u8>,
     group: &Group<'_>,
     parts: Vec<Part1>,
     attrs: u32,
     are_data: bool,
     below: u32,
 ) -> Result<Spot, AllocError>
-    ensures { IfOk result (λ s. s ≡ spot_with item.items group.now (fields_of parts.items) attrs are_data below) }
+    ensures { IfOk result (λ s. s ≡ spot_with group.now (fields_of parts.items) attrs are_data below) }
 {
     let what = what_of(&group.cuts);
     let own = own_of(what, &parts);
@@ -134,7 +133,6 @@ fn spot_of(
         what,
         own,
         leaves: leaves_of(own, below)?,
-        item: Octs::from_vec(item),
         kind: type_of(alloc, &group.cuts, parts)?,
         attrs: attrs_of(what, attrs)?,
         is_data: is_data(what) && are_data,
@@ -167,21 +165,14 @@ fn push_node(spots: &mut Vec<Spot>, spot: Spot, mut below: Vec<Spot>) -> Result<
     Ok(())
 }
 
-/// Two texts, one after the other.
-fn one_after(alloc: Global, before: &[u8], after: &[u8]) -> Result<Vec<u8>, AllocError>
-    ensures { IfOk result (λ v. v.items ≡ before.now ++ after.now) }
-{
-    let mut text = Vec::with_capacity(alloc, before.len().saturating_add(after.len()))?;
-    text.extend_from_slice(before)?;
-    text.extend_from_slice(after)?;
-    Ok(text)
-}
-
-/// Goes from what stands before a name to what stands before its parts: the name and `$` behind it.
-fn enter(path: &mut Vec<u8>, name: &[u8]) -> Result<(), AllocError>
-    ensures { OnOk result (path.new.items ≡ path.old.items ++ name.now ++ 36 ∷ []) }
+/// Adds the item of a name, and goes from what stands before the name to what stands before its parts: the name and `$` behind
+/// it.
+fn enter(items: &mut Index, path: &mut Vec<u8>, name: &[u8]) -> Result<(), AllocError>
+    ensures items { OnOk result (items.new ≡ items.old ++ (path.old.items ++ name.now) ∷ []) }
+    ensures path { OnOk result (path.new.items ≡ path.old.items ++ name.now ++ 36 ∷ []) }
 {
     path.extend_from_slice(name)?;
+    items.push(path)?;
     path.push(b'$')?;
     Ok(())
 }
@@ -190,20 +181,17 @@ fn enter(path: &mut Vec<u8>, name: &[u8]) -> Result<(), AllocError>
 fn add_group(
     alloc: Global,
     grown: &mut Grown,
-    before: &[u8],
     group: &Group<'_>,
     below: Grown,
 ) -> Result<(), AllocError>
-    ensures spots { OnOk result (grown.new.spots.items ≡ grown.old.spots.items ++ (spot_with (before.now ++ group.now.name) group.now (fields_of below.parts.items) below.attrs below.is_data below.leaves ∷ below.spots.items)) }
+    ensures spots { OnOk result (grown.new.spots.items ≡ grown.old.spots.items ++ (spot_with group.now (fields_of below.parts.items) below.attrs below.is_data below.leaves ∷ below.spots.items)) }
     ensures parts { OnOk result (grown.new.parts.items ≡ grown.old.parts.items ++ record { name = group.now.name; kind = type_with (own_type_of group.now.names) (fields_of below.parts.items) } ∷ []) }
     ensures attrs { OnOk result (grown.new.attrs ≡ grown.old.attrs + (length (attrs_of_role (role_of group.now.names)) + below.attrs)) }
     ensures is_data { OnOk result (grown.new.is_data ≡ grown.old.is_data && (is_data_role (role_of group.now.names) && below.is_data)) }
     ensures leaves { OnOk result (grown.new.leaves ≡ grown.old.leaves + leaves_with group.now (fields_of below.parts.items) below.leaves) }
 {
-    let item = one_after(alloc, before, group.name)?;
     let spot = spot_of(
         alloc,
-        item,
         group,
         below.parts,
         below.attrs,
@@ -214,14 +202,16 @@ fn add_group(
     push_node(&mut grown.spots, spot, below.spots)
 }
 
-/// What grows out of what is named, each name after what stands before it, as many levels deep.
+/// What grows out of what is named, as many levels deep. The items are added, each name after what stands before it.
 pub fn grow(
     alloc: Global,
+    items: &mut Index,
     path: &mut Vec<u8>,
     cuts: &[Cut<'_>],
     levels: usize,
 ) -> Result<Grown, AllocError>
     ensures grown { IfOk result (λ g. IsGrown g path.old.items (grown levels cuts.now)) }
+    ensures items { OnOk result (items.new ≡ items.old ++ items_of (places path.old.items (grown levels cuts.now))) }
     ensures path { OnOk result (path.new.items ≡ path.old.items) }
 {
     let mut all = Grown {
@@ -239,10 +229,10 @@ pub fn grow(
     all.spots.reserve_exact(groups.len())?;
     all.parts.reserve_exact(groups.len())?;
     for group in groups.as_slice() {
-        enter(path, group.name)?;
-        let below = grow(alloc, path, &group.cuts, levels - 1)?;
+        enter(items, path, group.name)?;
+        let below = grow(alloc, items, path, &group.cuts, levels - 1)?;
         path.truncate(len);
-        add_group(alloc, &mut all, path, group, below)?;
+        add_group(alloc, &mut all, group, below)?;
     }
     Ok(all)
 }
@@ -254,12 +244,10 @@ fn push_top(
     group: &Group<'_>,
     below: Grown,
 ) -> Result<(), AllocError>
-    ensures { OnOk result (spots.new.items ≡ spots.old.items ++ (spot_with group.now.name group.now (fields_of below.parts.items) below.attrs below.is_data below.leaves ∷ below.spots.items)) }
+    ensures { OnOk result (spots.new.items ≡ spots.old.items ++ (spot_with group.now (fields_of below.parts.items) below.attrs below.is_data below.leaves ∷ below.spots.items)) }
 {
-    let item = Vec::from_slice(alloc, group.name)?;
     let spot = spot_of(
         alloc,
-        item,
         group,
         below.parts,
         below.attrs,
@@ -269,15 +257,21 @@ fn push_top(
     push_node(spots, spot, below.spots)
 }
 
-/// The nodes that grow out of what is named, so many levels deep below the first.
-pub fn grow_top(alloc: Global, cuts: &[Cut<'_>], levels: usize) -> Result<Vec<Spot>, AllocError>
-    ensures { IfOk result (λ v. v.items ≡ map spot (places [] (grown (suc levels) cuts.now))) }
+/// The nodes that grow out of what is named, so many levels deep below the first. Their items are added.
+pub fn grow_top(
+    alloc: Global,
+    items: &mut Index,
+    cuts: &[Cut<'_>],
+    levels: usize,
+) -> Result<Vec<Spot>, AllocError>
+    ensures spots { IfOk result (λ v. v.items ≡ map spot (places [] (grown (suc levels) cuts.now))) }
+    ensures items { OnOk result (items.new ≡ items.old ++ items_of (places [] (grown (suc levels) cuts.now))) }
 {
     let mut spots = Vec::new(alloc);
     let mut path = Vec::new(alloc);
     for group in groups(alloc, cuts)?.as_slice() {
-        enter(&mut path, group.name)?;
-        let below = grow(alloc, &mut path, &group.cuts, levels)?;
+        enter(items, &mut path, group.name)?;
+        let below = grow(alloc, items, &mut path, &group.cuts, levels)?;
         path.clear();
         push_top(alloc, &mut spots, group, below)?;
     }

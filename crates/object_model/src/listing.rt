@@ -1,26 +1,27 @@
 //! The nodes of a configuration, listed domain by domain.
 
-ghost use Rattle.std.specs.Prelude.{◌≡◌, length, map, IfOk, OnOk};
+ghost use Rattle.std.specs.Prelude.{◌≡◌, length, IfOk, OnOk};
 ghost use Rattle.bay_model.specs.NamedLines.{domains as domains_of, lines as lines_of, in_order as lines_in_order};
-ghost use Rattle.object_names.specs.Indexes.{IndexesFrom};
-ghost use Rattle.object_model.specs.Listed.{IsListed, IsOneMore, items_of as items_in, spots_from};
+ghost use Rattle.object_model.specs.Listed.{IsDirectoryOf, IsListed, IsOneMore};
+ghost use Rattle.object_model.specs.Nodes.{places_from};
 
 use crate::attrs::attrs_of;
-use crate::growth::Spot;
 use crate::nodes::{NodeName, push_nodes, spots_of};
 use crate::stands::{Stand, push_stands};
 use bay_model::NodeRow;
 use name_order::places_in_order;
 use object_names::numbers::{count, plus};
-use object_names::{Index, Leaf, Line};
+use object_names::{Leaf, Line};
+use octet_rows::Index;
 use std::alloc::{AllocError, Global};
 use sv_base::{Config, Octs};
 
-/// The names of a domain: its items, their numbers, and their places in the ascending order of their octets.
+/// The names of a domain: the number of its first node, the items of its nodes, one after another, and their places in the
+/// ascending order of their octets.
 #[derive(Drop)]
 pub struct Directory {
-    pub items: Vec<Octs>,
-    pub numbers: Index,
+    pub first: u32,
+    pub items: Index,
     pub ascending: Vec<u32>,
 }
 
@@ -35,17 +36,17 @@ pub struct Listing {
     pub leaves: Vec<Leaf>,
 }
 
-/// The numbers of the nodes by their items, counted from the first one's.
-fn numbers_of(alloc: Global, first: u32, spots: &[Spot]) -> Result<Index, AllocError>
-    ensures { IfOk result (λ index. IndexesFrom index first (items_in spots.now)) }
+/// The names of a domain whose nodes have these items, the first of them this number.
+fn directory_of(alloc: Global, first: u32, items: Index) -> Result<Directory, AllocError>
+    ensures { IfOk result (λ d. IsDirectoryOf first items d) }
 {
-    let mut index = Index::new(alloc);
-    let mut number = first;
-    for spot in spots {
-        index.push(alloc, spot.item.as_slice(), number)?;
-        number = plus(number, 1)?;
-    }
-    Ok(index)
+    let _end = plus(first, count(items.len())?)?;
+    let ascending = places_in_order(alloc, &items)?;
+    Ok(Directory {
+        first,
+        items,
+        ascending,
+    })
 }
 
 /// Adds the nodes of a domain.
@@ -55,23 +56,19 @@ fn push_domain(
     lines: &[Line<'_>],
     domain: &[u8],
 ) -> Result<(), AllocError>
-    ensures { OnOk result (IsOneMore listing.old listing.new (spots_from lines.now domain.now)) }
+    ensures { OnOk result (IsOneMore listing.old listing.new (places_from lines.now domain.now)) }
 {
-    let spots = spots_of(alloc, lines, domain)?;
+    let mut items = Index::new(alloc);
+    let spots = spots_of(alloc, &mut items, lines, domain)?;
     let first = count(listing.rows.as_slice().len())?;
     let number = count(listing.directories.as_slice().len())?;
-    let numbers = numbers_of(alloc, first, &spots)?;
     push_stands(&mut listing.stands, &mut listing.leaves, &spots)?;
     let attrs = attrs_of(alloc, &spots)?;
-    let mut items = Vec::with_capacity(alloc, spots.len())?;
     let (rows, names) = (&mut listing.rows, &mut listing.names);
-    push_nodes(rows, names, &mut items, number, spots, &attrs)?;
-    let ascending = places_in_order(alloc, &items)?;
-    listing.directories.push(Directory {
-        items,
-        numbers,
-        ascending,
-    })?;
+    push_nodes(rows, names, number, &items, spots, &attrs)?;
+    listing
+        .directories
+        .push(directory_of(alloc, first, items)?)?;
     Ok(())
 }
 

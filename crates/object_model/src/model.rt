@@ -6,18 +6,17 @@ use crate::fitting::{Counts, step_fits};
 use crate::stands::between;
 use crate::tables::Tables;
 use bay_model::{Flags, Names, NodeTable, SetTable, Step};
-use object_names::{
-    AttrRow, Index, Leaf, What, attrs, block_references, control_references, rows_and_index,
-};
+use name_order::name_at;
+use object_names::{AttrRow, Attributes, Leaf, What, block_references, control_references};
+use octet_rows::Index;
 use std::alloc::{AllocError, Global};
-use sv_base::{AttrId, BlockNo, Config, CtlNo, NodeId, Octs, TypeOf};
+use sv_base::{AttrId, BlockNo, Config, CtlNo, NodeId, TypeOf};
 
 /// What a configuration names (IEC 61850-7-2, the information model), with its nodes, attributes, blocks and controls by
 /// their numbers. Contracts see it as its configuration.
 #[derive(Drop)]
 pub struct Model {
     config: Config,
-    references: Vec<Octs>,
     blocks: Index,
     controls: Index,
     attrs: Index,
@@ -39,7 +38,6 @@ impl std::marker::Model for Model {
     ghost view = { λ m. m.config };
 
     ghost use Rattle.std.specs.Prelude.{◌≡◌};
-    ghost use Rattle.object_names.specs.Indexes.{Indexes};
     ghost use Rattle.object_names.specs.References.{block_references, control_references, attr_references};
     ghost use Rattle.std.specs.List.{All};
     ghost use Rattle.sv_base.specs.declared.config.AttrDef.{AttrDef};
@@ -47,7 +45,7 @@ impl std::marker::Model for Model {
     ghost use Rattle.object_names.specs.Attributes.{attr_rows};
     ghost use Rattle.object_model.specs.Tables.{IsTables};
 
-    ghost invariant = { λ m. Indexes m.blocks (block_references m.config) × Indexes m.controls (control_references m.config) × Indexes m.attrs (attr_references m.config) × IsTables m.config m.tables × All (λ (a : AttrDef). IsSettable a.kind) m.config.attrs × (m.references.items ≡ block_references m.config) × (m.rows.items ≡ attr_rows m.config) };
+    ghost invariant = { λ m. (m.blocks ≡ block_references m.config) × (m.controls ≡ control_references m.config) × (m.attrs ≡ attr_references m.config) × IsTables m.config m.tables × All (λ (a : AttrDef). IsSettable a.kind) m.config.attrs × (m.rows.items ≡ attr_rows m.config) };
 }
 
 impl Model {
@@ -72,18 +70,16 @@ impl Model {
         requires { All (λ (a : AttrLine). IsSettable a.kind) config.attrs }
         ensures { IfOk result (λ m. m ≡ config) }
     {
-        let references = block_references(alloc, &config)?;
-        let blocks = Index::of(alloc, &references)?;
-        let controls = Index::of(alloc, &control_references(alloc, &config)?)?;
-        let (rows, attrs) = rows_and_index(alloc, attrs(alloc, &config)?)?;
+        let blocks = block_references(alloc, &config)?;
+        let controls = control_references(alloc, &config)?;
+        let attributes = Attributes::of(alloc, &config)?;
         let tables = Tables::of(alloc, &config)?;
         Ok(Model {
             config,
-            references,
             blocks,
             controls,
-            attrs,
-            rows,
+            attrs: attributes.references,
+            rows: attributes.rows,
             tables,
         })
     }
@@ -109,30 +105,28 @@ impl Model {
     pub fn block(&self, reference: &[u8]) -> Option<BlockNo>
         ensures { option_map (λ b. b.0) result ≡ number_in (blocks_of self.now) reference.now }
     {
-        self.blocks.number_of(reference).map(BlockNo)
+        self.blocks.place_of(reference).map(BlockNo)
     }
 
     /// The reference of a report block; none exactly where the block is not there.
     pub fn reference_of(&self, block: BlockNo) -> Option<&[u8]>
         ensures { option_map (λ r. r.now) result ≡ slice_get (blocks_of self.now) block.0 }
     {
-        self.references
-            .get(block.0 as usize)
-            .map(|reference| reference.as_slice())
+        self.blocks.get(block.0 as usize)
     }
 
     /// The control of a reference `LD/LN$CO$DO`; none exactly where it is not there.
     pub fn control(&self, reference: &[u8]) -> Option<CtlNo>
         ensures { option_map (λ k. k.0) result ≡ number_in (controls_of self.now) reference.now }
     {
-        self.controls.number_of(reference).map(CtlNo)
+        self.controls.place_of(reference).map(CtlNo)
     }
 
     /// The attribute of a reference `LD/LN$FC$PATH`; none exactly where it is not there.
     pub fn attr(&self, reference: &[u8]) -> Option<AttrId>
         ensures { option_map (λ x. x.0) result ≡ number_in (attrs_of self.now) reference.now }
     {
-        self.attrs.number_of(reference).map(AttrId)
+        self.attrs.place_of(reference).map(AttrId)
     }
 
     /// The node of an item of a domain (ISO 9506-2, a domain-specific name); none exactly where it is not there. It takes no
@@ -149,7 +143,7 @@ impl Model {
         ensures { result.now ≡ (node_of (configured_model self.now) node.0).domain }
     {
         let domain = self.tables.names.as_slice()[node.0 as usize].domain;
-        self.tables.domains.as_slice()[domain as usize].as_slice()
+        name_at(&self.tables.domains, domain)
     }
 
     /// The item of a node.

@@ -1,24 +1,26 @@
 //! The nodes of a configuration by their numbers.
 
-ghost use Rattle.std.specs.Prelude.{◌≡◌, ◌++◌, ◌∷◌, [], ◌&&◌, ◌==◌, map, filter, flat_map, length, suc, IfOk, OnOk};
+ghost use Rattle.std.specs.Prelude.{◌≡◌, ◌++◌, ◌∷◌, [], ◌&&◌, ◌==◌, map, filter, flat_map, length, IfOk, OnOk};
 ghost use Rattle.std.specs.List.{list_any};
 ghost use Rattle.std.specs.Str.{bytes_eq};
 ghost use Rattle.bay_model.specs.NamedLines.{Line as ModelLine};
-ghost use Rattle.bay_model.specs.NameTree.{longest as longest_of, tree_of};
-ghost use Rattle.bay_model.specs.Places.{constraint as constraint_of, member_constraints, places};
-ghost use Rattle.object_model.specs.Grown.{spot};
+ghost use Rattle.bay_model.specs.NameTree.{longest as longest_of};
+ghost use Rattle.bay_model.specs.Places.{constraint as constraint_of, member_constraints};
+ghost use Rattle.object_model.specs.Grown.{items_of, spot};
 ghost use Rattle.object_model.specs.Attrs.{row_with, rows_with};
-ghost use Rattle.object_model.specs.Nodes.{items_of, names_at};
+ghost use Rattle.object_model.specs.Nodes.{names_at, places_from};
 
 use crate::attrs::own_count;
 use crate::growing::{Cut, behind, front};
 use crate::growth::{Spot, grow_top};
 use crate::largest::largest;
 use bay_model::{AttrIds, MemberShape, NodeRow};
+use name_order::name_at;
 use object_names::numbers::{count, plus};
 use object_names::{Line, Named};
+use octet_rows::Index;
 use std::alloc::{AllocError, Global};
-use sv_base::{NodeId, Octs};
+use sv_base::NodeId;
 
 /// Where the name of a node is: the number of its domain, and the place of its item among those of the domain.
 #[derive(Clone, Copy)]
@@ -78,12 +80,18 @@ fn longest(cuts: &[Cut<'_>]) -> usize
     most
 }
 
-/// The nodes of a domain, each before its parts.
-pub fn spots_of(alloc: Global, lines: &[Line<'_>], domain: &[u8]) -> Result<Vec<Spot>, AllocError>
-    ensures { IfOk result (λ v. v.items ≡ map spot (places [] (tree_of (flat_map (λ (l : ModelLine). l.names) (filter (λ (l : ModelLine). bytes_eq l.domain domain.now) lines.now))))) }
+/// The nodes of a domain, each before its parts. Their items are added.
+pub fn spots_of(
+    alloc: Global,
+    items: &mut Index,
+    lines: &[Line<'_>],
+    domain: &[u8],
+) -> Result<Vec<Spot>, AllocError>
+    ensures spots { IfOk result (λ v. v.items ≡ map spot (places_from lines.now domain.now)) }
+    ensures items { OnOk result (items.new ≡ items.old ++ items_of (places_from lines.now domain.now)) }
 {
     let cuts = names_of(alloc, lines, domain)?;
-    grow_top(alloc, &cuts, longest(&cuts))
+    grow_top(alloc, items, &cuts, longest(&cuts))
 }
 
 /// The functional constraint of an item, its second name (IEC 61850-8-1).
@@ -107,13 +115,12 @@ fn is_member_constraint(fc: &[u8]) -> bool
         || fc == b"EX".as_slice()
 }
 
-/// The row of a node with these attributes, and its item.
-fn row_of(spot: Spot, number: u32, attrs: AttrIds) -> (NodeRow, Octs)
-    ensures row { result.0 ≡ row_with number spot attrs }
-    ensures item { result.1 ≡ spot.item }
+/// The row of a node with these attributes, at an item.
+fn row_of(spot: Spot, item: &[u8], number: u32, attrs: AttrIds) -> NodeRow
+    ensures { result ≡ row_with number item.now spot attrs }
 {
-    let allowed = spot.is_data && is_member_constraint(constraint(spot.item.as_slice()));
-    let row = NodeRow {
+    let allowed = spot.is_data && is_member_constraint(constraint(item));
+    NodeRow {
         allowed,
         octets: largest(&spot.kind),
         shape: MemberShape {
@@ -121,48 +128,31 @@ fn row_of(spot: Spot, number: u32, attrs: AttrIds) -> (NodeRow, Octs)
             kind: spot.kind,
             attrs,
         },
-    };
-    (row, spot.item)
+    }
 }
 
-/// Adds the name of a node of a domain, and its item behind those of the domain.
-fn push_name(
-    names: &mut Vec<NodeName>,
-    items: &mut Vec<Octs>,
-    domain: u32,
-    item: Octs,
-) -> Result<(), AllocError>
-    ensures names { OnOk result (names.new.items ≡ names.old.items ++ record { domain = domain; place = length items.old.items } ∷ []) }
-    ensures items { OnOk result (items.new.items ≡ items.old.items ++ item ∷ []) }
-{
-    let place = count(items.len())?;
-    names.push(NodeName { domain, place })?;
-    items.push(item)?;
-    Ok(())
-}
-
-/// Adds the rows of the nodes of a domain, whose attributes stand in a row, the first of them numbered as the next, their names
-/// and their items.
+/// Adds the rows and the names of the nodes of a domain, at these items, whose attributes stand in a row, the first of them
+/// numbered as the next.
 pub fn push_nodes(
     rows: &mut Vec<NodeRow>,
     names: &mut Vec<NodeName>,
-    items: &mut Vec<Octs>,
     domain: u32,
+    items: &Index,
     spots: Vec<Spot>,
     attrs: &AttrIds,
 ) -> Result<(), AllocError>
-    ensures rows { OnOk result (rows.new.items ≡ rows.old.items ++ rows_with (length rows.old.items) attrs.now spots.items) }
-    ensures names { OnOk result (names.new.items ≡ names.old.items ++ names_at domain (length items.old.items) spots.items) }
-    ensures items { OnOk result (items.new.items ≡ items.old.items ++ items_of spots.items) }
+    ensures rows { OnOk result (rows.new.items ≡ rows.old.items ++ rows_with (length rows.old.items) items.now attrs.now spots.items) }
+    ensures names { OnOk result (names.new.items ≡ names.old.items ++ names_at domain 0 spots.items) }
 {
+    let mut place = 0;
     let mut first = 0;
     for spot in spots {
         let number = count(rows.len())?;
         let next = plus(first, own_count(spot.what))?;
         let part = attrs.part(first, spot.attrs)?;
-        let (row, item) = row_of(spot, number, part);
-        rows.push(row)?;
-        push_name(names, items, domain, item)?;
+        rows.push(row_of(spot, name_at(items, place), number, part))?;
+        names.push(NodeName { domain, place })?;
+        place = plus(place, 1)?;
         first = next;
     }
     Ok(())

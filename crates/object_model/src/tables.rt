@@ -14,16 +14,16 @@ use crate::stands::Stand;
 use bay_model::{NodeTable, Nodes, SetName, SetRow, SetTable};
 use name_order::names_after_at;
 use object_names::references::joined;
-use object_names::{Index, Leaf, domains, ordered_lines};
+use object_names::{Leaf, domains, index_of, ordered_lines};
+use octet_rows::Index;
 use std::alloc::{AllocError, Global};
 use sv_base::{Config, NodeId, Octs, SetDef};
 
-/// The domains, by their numbers; the numbers of the domains and, for each, of its items; the nodes, their names, what stands
-/// at them and the data sets, by their numbers; and the leaves of all nodes.
+/// The domains, by their numbers, and the names of each; the nodes, their names, what stands at them and the data sets, by their
+/// numbers; and the leaves of all nodes.
 #[derive(Drop)]
 pub struct Tables {
-    pub domains: Vec<Octs>,
-    pub numbers: Index,
+    pub domains: Index,
     pub directories: Vec<Directory>,
     pub names: Vec<NodeName>,
     pub nodes: NodeTable,
@@ -35,15 +35,15 @@ pub struct Tables {
 /// The nodes of references.
 fn members_of(
     alloc: Global,
-    numbers: &Index,
+    domains: &Index,
     directories: &[Directory],
     references: &[Octs],
 ) -> Result<Vec<NodeId>, AllocError>
-    ensures { IfOk result (λ v. (c : ModelConfig) → Finds c numbers.now directories.now → v.items ≡ map node_id (map (member_number (nodes_of c)) references.now)) }
+    ensures { IfOk result (λ v. (c : ModelConfig) → Finds c domains.now directories.now → v.items ≡ map node_id (map (member_number (nodes_of c)) references.now)) }
 {
     let mut members = Vec::with_capacity(alloc, references.len())?;
     for reference in references {
-        let member = member_of(numbers, directories, reference.as_slice());
+        let member = member_of(domains, directories, reference.as_slice());
         members.push(NodeId(member))?;
     }
     Ok(members)
@@ -52,18 +52,18 @@ fn members_of(
 /// The row of a data set.
 fn set_row_of(
     alloc: Global,
-    numbers: &Index,
+    domains: &Index,
     directories: &[Directory],
     set: &SetDef,
 ) -> Result<SetRow, AllocError>
-    ensures { IfOk result (λ r. (c : ModelConfig) → Finds c numbers.now directories.now → r ≡ set_row (set_defined (nodes_of c) set.now)) }
+    ensures { IfOk result (λ r. (c : ModelConfig) → Finds c domains.now directories.now → r ≡ set_row (set_defined (nodes_of c) set.now)) }
 {
     let item = joined(alloc, set.ln.as_slice(), b'$', set.name.as_slice())?;
     let name = SetName {
         domain: set.domain.copy(alloc)?,
         item: Octs::from_vec(item),
     };
-    let members = members_of(alloc, numbers, directories, set.members.as_slice())?;
+    let members = members_of(alloc, domains, directories, set.members.as_slice())?;
     let nodes = Nodes::from_vec(members);
     Ok(SetRow { name, nodes })
 }
@@ -71,15 +71,15 @@ fn set_row_of(
 /// The data sets, with the numbers of their members.
 fn set_rows(
     alloc: Global,
-    numbers: &Index,
+    domains: &Index,
     directories: &[Directory],
     sets: &[SetDef],
 ) -> Result<Vec<SetRow>, AllocError>
-    ensures { IfOk result (λ v. (c : ModelConfig) → Finds c numbers.now directories.now → v.items ≡ map set_row (map (set_defined (nodes_of c)) sets.now)) }
+    ensures { IfOk result (λ v. (c : ModelConfig) → Finds c domains.now directories.now → v.items ≡ map set_row (map (set_defined (nodes_of c)) sets.now)) }
 {
     let mut rows = Vec::with_capacity(alloc, sets.len())?;
     for set in sets {
-        rows.push(set_row_of(alloc, numbers, directories, set)?)?;
+        rows.push(set_row_of(alloc, domains, directories, set)?)?;
     }
     Ok(rows)
 }
@@ -89,19 +89,18 @@ impl Tables {
     pub fn of(alloc: Global, config: &Config) -> Result<Self, AllocError>
         ensures { IfOk result (λ t. IsTables config.now t) }
     {
-        let domains = domains(alloc, config.nodes.as_slice())?;
-        let numbers = Index::of(alloc, &domains)?;
-        let lines = ordered_lines(alloc, config, &domains, &numbers)?;
-        let listing = list(alloc, config, &domains, &lines)?;
+        let names = domains(alloc, config.nodes.as_slice())?;
+        let domains = index_of(alloc, &names)?;
+        let lines = ordered_lines(alloc, config, &domains)?;
+        let listing = list(alloc, config, &names, &lines)?;
         let sets = set_rows(
             alloc,
-            &numbers,
+            &domains,
             &listing.directories,
             config.sets.as_slice(),
         )?;
         Ok(Tables {
             domains,
-            numbers,
             directories: listing.directories,
             names: listing.names,
             nodes: NodeTable::from_vec(listing.rows),
@@ -115,7 +114,7 @@ impl Tables {
     pub fn resolve(&self, domain: &[u8], item: &[u8]) -> Option<u32>
         ensures { (c : ModelConfig) → IsTables c self.now → result ≡ node_named (nodes_of c) domain.now item.now }
     {
-        number_of(&self.numbers, &self.directories, domain, item)
+        number_of(&self.domains, &self.directories, domain, item)
     }
 
     /// The items of a domain that come after a name, ascending by their octets.
@@ -127,7 +126,7 @@ impl Tables {
     ) -> Result<Vec<Octs>, AllocError>
         ensures { IfOk result (λ v. (c : ModelConfig) → IsTables c self.now → v.items ≡ variables_after c domain.now after.now) }
     {
-        match self.numbers.number_of(domain) {
+        match self.domains.place_of(domain) {
             None => Ok(Vec::new(alloc)),
             Some(number) => match self.directories.get(number as usize) {
                 None => Ok(Vec::new(alloc)),

@@ -9,8 +9,12 @@ use Rattle.bay_model.specs.declared.flags.Flags.{Flags}
 use Rattle.bay_model.specs.Lookups.{reference_of}
 use Rattle.bay_model.specs.Generated.{within, Parameter, parameters}
 use Rattle.bay_model.specs.NamedLines.{path_item, is_setting}
-use Rattle.object_names.specs.declared.attributes.Attribute.{Attribute}
 use Rattle.object_names.specs.declared.attributes.AttrRow.{AttrRow}
+
+-- an attribute with its reference
+pub record Attribute : Type 0 where
+  pub reference : List ℕ
+  pub row : AttrRow
 
 abbrev pub no_flags : Flags
 no_flags = record { dchg = false; qchg = false; dupd = false }

@@ -1,19 +1,17 @@
 //! The attributes of a configuration by their numbers: those of the lines, then the CF attributes of the controls, then the
 //! SE twins of the SG attributes.
 
-ghost use Rattle.std.specs.Prelude.{◌≡◌, ◌∷◌, ◌++◌, [], map, filter, flat_map, codes, IfOk, OnOk};
+ghost use Rattle.std.specs.Prelude.{◌≡◌, ◌∷◌, ◌++◌, [], map, filter, flat_map, codes, OnOk};
 ghost use Rattle.bay_model.specs.Lookups.{reference_of};
 ghost use Rattle.bay_model.specs.Generated.{selection, within};
 ghost use Rattle.bay_model.specs.NamedLines.{is_setting as is_setting_line, path_item};
-ghost use Rattle.object_names.specs.Attributes.{attr_at, line_attr, twin_attr, parameter_attr, control_attrs, no_flags, attrs as attrs_of, rows_of, references_of};
-ghost use Rattle.object_names.specs.Indexes.{Indexes};
+ghost use Rattle.object_names.specs.Attributes.{attr_at, line_attr, twin_attr, parameter_attr, control_attrs, line_flags, no_flags, references_of, rows_of};
 
-use crate::index::Index;
-use crate::numbers::plus;
-use crate::references::{is_selected, is_setting, item_at, joined, reference_at};
+use crate::references::{is_selected, is_setting, write_reference};
 use bay_model::Flags;
+use octet_rows::Index;
 use std::alloc::{AllocError, Global};
-use sv_base::{AttrDef, Config, CtlDef, Octs, TypeOf};
+use sv_base::{AttrDef, Config, CtlDef, TypeOf};
 
 /// The type of an attribute and its trigger conditions (IEC 61850-7-2, DataAttribute).
 #[derive(Drop)]
@@ -22,156 +20,161 @@ pub struct AttrRow {
     pub flags: Flags,
 }
 
-/// An attribute with its reference `LD/LN$FC$PATH`.
+/// Attributes by their numbers: their references `LD/LN$FC$PATH`, and their rows.
 #[derive(Drop)]
-pub struct Attribute {
-    pub reference: Octs,
-    pub row: AttrRow,
+pub struct Attributes {
+    pub references: Index,
+    pub rows: Vec<AttrRow>,
+    /// The room in which a reference is made before it is added.
+    text: Vec<u8>,
+}
+
+/// The trigger conditions of the attribute of a line.
+fn flags_of(attr: &AttrDef) -> Flags
+    ensures { result ≡ line_flags attr.now }
+{
+    Flags {
+        dchg: attr.dchg,
+        qchg: attr.qchg,
+        dupd: attr.dupd,
+    }
 }
 
 /// Adds the attribute of a line, under a functional constraint.
-fn push_at(
-    alloc: Global,
-    out: &mut Vec<Attribute>,
-    attr: &AttrDef,
-    fc: &[u8],
-) -> Result<(), AllocError>
-    ensures { OnOk result (out.new.items ≡ out.old.items ++ attr_at attr.now fc.now ∷ []) }
+fn push_at(out: &mut Attributes, attr: &AttrDef, fc: &[u8]) -> Result<(), AllocError>
+    ensures references { OnOk result (out.new.references ≡ out.old.references ++ references_of (attr_at attr.now fc.now ∷ [])) }
+    ensures rows { OnOk result (out.new.rows.items ≡ out.old.rows.items ++ rows_of (attr_at attr.now fc.now ∷ [])) }
 {
     let (domain, ln, path) = (&attr.domain, &attr.ln, &attr.path);
-    out.push(Attribute {
-        reference: reference_at(alloc, domain.as_slice(), ln.as_slice(), fc, path.as_slice())?,
-        row: AttrRow {
-            kind: attr.kind.share()?,
-            flags: Flags {
-                dchg: attr.dchg,
-                qchg: attr.qchg,
-                dupd: attr.dupd,
-            },
-        },
+    let text = &mut out.text;
+    write_reference(text, domain.as_slice(), ln.as_slice(), fc, path.as_slice())?;
+    out.references.push(&out.text)?;
+    out.rows.push(AttrRow {
+        kind: attr.kind.share()?,
+        flags: flags_of(attr),
     })?;
     Ok(())
 }
 
-fn push_lines(alloc: Global, out: &mut Vec<Attribute>, attrs: &[AttrDef]) -> Result<(), AllocError>
-    ensures { OnOk result (out.new.items ≡ out.old.items ++ map line_attr attrs.now) }
+fn push_lines(out: &mut Attributes, attrs: &[AttrDef]) -> Result<(), AllocError>
+    ensures references { OnOk result (out.new.references ≡ out.old.references ++ references_of (map line_attr attrs.now)) }
+    ensures rows { OnOk result (out.new.rows.items ≡ out.old.rows.items ++ rows_of (map line_attr attrs.now)) }
 {
     for attr in attrs {
-        push_at(alloc, out, attr, attr.fc.as_slice())?;
+        push_at(out, attr, attr.fc.as_slice())?;
     }
+    Ok(())
+}
+
+/// Makes the text the reference of a CF attribute of a control.
+fn write_parameter(text: &mut Vec<u8>, control: &CtlDef, name: &[u8]) -> Result<(), AllocError>
+    ensures { OnOk result (text.new.items ≡ reference_of control.now.domain (within (path_item control.now.ln (codes "CF") control.now.path) name.now)) }
+{
+    let (domain, ln, path) = (&control.domain, &control.ln, &control.path);
+    write_reference(
+        text,
+        domain.as_slice(),
+        ln.as_slice(),
+        b"CF",
+        path.as_slice(),
+    )?;
+    text.push(b'$')?;
+    text.extend_from_slice(name)?;
     Ok(())
 }
 
 /// Adds a CF attribute of a control, which no change triggers a report by.
 fn push_parameter(
-    alloc: Global,
-    out: &mut Vec<Attribute>,
+    out: &mut Attributes,
     control: &CtlDef,
     name: &[u8],
     kind: TypeOf,
 ) -> Result<(), AllocError>
-    ensures { OnOk result (out.new.items ≡ out.old.items ++ record { reference = reference_of control.now.domain (within (path_item control.now.ln (codes "CF") control.now.path) name.now); row = record { kind = kind; flags = no_flags } } ∷ []) }
+    ensures references { OnOk result (out.new.references ≡ out.old.references ++ reference_of control.now.domain (within (path_item control.now.ln (codes "CF") control.now.path) name.now) ∷ []) }
+    ensures rows { OnOk result (out.new.rows.items ≡ out.old.rows.items ++ record { kind = kind; flags = no_flags } ∷ []) }
 {
-    let front = item_at(alloc, control.ln.as_slice(), b"CF", control.path.as_slice())?;
-    let item = joined(alloc, &front, b'$', name)?;
-    let reference = joined(alloc, control.domain.as_slice(), b'/', &item)?;
-    out.push(Attribute {
-        reference: Octs::from_vec(reference),
-        row: AttrRow {
-            kind,
-            flags: Flags {
-                dchg: false,
-                qchg: false,
-                dupd: false,
-            },
+    write_parameter(&mut out.text, control, name)?;
+    out.references.push(&out.text)?;
+    out.rows.push(AttrRow {
+        kind,
+        flags: Flags {
+            dchg: false,
+            qchg: false,
+            dupd: false,
         },
     })?;
     Ok(())
 }
 
 /// Adds the CF attributes that a control has besides ctlModel.
-fn push_selection(
-    alloc: Global,
-    out: &mut Vec<Attribute>,
-    control: &CtlDef,
-) -> Result<(), AllocError>
-    ensures { OnOk result (out.new.items ≡ out.old.items ++ map (parameter_attr control.now) (selection control.now)) }
+fn push_selection(out: &mut Attributes, control: &CtlDef) -> Result<(), AllocError>
+    ensures references { OnOk result (out.new.references ≡ out.old.references ++ references_of (map (parameter_attr control.now) (selection control.now))) }
+    ensures rows { OnOk result (out.new.rows.items ≡ out.old.rows.items ++ rows_of (map (parameter_attr control.now) (selection control.now))) }
 {
-    push_parameter(alloc, out, control, b"sboTimeout", TypeOf::Uint(32))?;
-    push_parameter(alloc, out, control, b"sboClass", TypeOf::Int(8))?;
+    push_parameter(out, control, b"sboTimeout", TypeOf::Uint(32))?;
+    push_parameter(out, control, b"sboClass", TypeOf::Int(8))?;
     Ok(())
 }
 
-fn push_parameters(
-    alloc: Global,
-    out: &mut Vec<Attribute>,
-    control: &CtlDef,
-) -> Result<(), AllocError>
-    ensures { OnOk result (out.new.items ≡ out.old.items ++ control_attrs control.now) }
+fn push_parameters(out: &mut Attributes, control: &CtlDef) -> Result<(), AllocError>
+    ensures references { OnOk result (out.new.references ≡ out.old.references ++ references_of (control_attrs control.now)) }
+    ensures rows { OnOk result (out.new.rows.items ≡ out.old.rows.items ++ rows_of (control_attrs control.now)) }
 {
-    push_parameter(alloc, out, control, b"ctlModel", TypeOf::Int(8))?;
+    push_parameter(out, control, b"ctlModel", TypeOf::Int(8))?;
     if is_selected(control) {
-        push_selection(alloc, out, control)?;
+        push_selection(out, control)?;
     }
     Ok(())
 }
 
-fn push_generated(
-    alloc: Global,
-    out: &mut Vec<Attribute>,
-    controls: &[CtlDef],
-) -> Result<(), AllocError>
-    ensures { OnOk result (out.new.items ≡ out.old.items ++ flat_map control_attrs controls.now) }
+fn push_generated(out: &mut Attributes, controls: &[CtlDef]) -> Result<(), AllocError>
+    ensures references { OnOk result (out.new.references ≡ out.old.references ++ references_of (flat_map control_attrs controls.now)) }
+    ensures rows { OnOk result (out.new.rows.items ≡ out.old.rows.items ++ rows_of (flat_map control_attrs controls.now)) }
 {
     for control in controls {
-        push_parameters(alloc, out, control)?;
+        push_parameters(out, control)?;
     }
     Ok(())
 }
 
-fn push_twin(alloc: Global, out: &mut Vec<Attribute>, attr: &AttrDef) -> Result<(), AllocError>
-    ensures { OnOk result (out.new.items ≡ out.old.items ++ map twin_attr (filter is_setting_line (attr.now ∷ []))) }
+fn push_twin(out: &mut Attributes, attr: &AttrDef) -> Result<(), AllocError>
+    ensures references { OnOk result (out.new.references ≡ out.old.references ++ references_of (map twin_attr (filter is_setting_line (attr.now ∷ [])))) }
+    ensures rows { OnOk result (out.new.rows.items ≡ out.old.rows.items ++ rows_of (map twin_attr (filter is_setting_line (attr.now ∷ [])))) }
 {
     if is_setting(attr) {
-        push_at(alloc, out, attr, b"SE")?;
+        push_at(out, attr, b"SE")?;
     }
     Ok(())
 }
 
-fn push_twins(alloc: Global, out: &mut Vec<Attribute>, attrs: &[AttrDef]) -> Result<(), AllocError>
-    ensures { OnOk result (out.new.items ≡ out.old.items ++ map twin_attr (filter is_setting_line attrs.now)) }
+fn push_twins(out: &mut Attributes, attrs: &[AttrDef]) -> Result<(), AllocError>
+    ensures references { OnOk result (out.new.references ≡ out.old.references ++ references_of (map twin_attr (filter is_setting_line attrs.now))) }
+    ensures rows { OnOk result (out.new.rows.items ≡ out.old.rows.items ++ rows_of (map twin_attr (filter is_setting_line attrs.now))) }
 {
     for attr in attrs {
-        push_twin(alloc, out, attr)?;
+        push_twin(out, attr)?;
     }
     Ok(())
 }
 
-/// The attributes by their numbers.
-pub fn attrs(alloc: Global, config: &Config) -> Result<Vec<Attribute>, AllocError>
-    ensures { IfOk result (λ v. v.items ≡ attrs_of config.now) }
-{
-    let mut attrs = Vec::new(alloc);
-    push_lines(alloc, &mut attrs, config.attrs.as_slice())?;
-    push_generated(alloc, &mut attrs, config.controls.as_slice())?;
-    push_twins(alloc, &mut attrs, config.attrs.as_slice())?;
-    Ok(attrs)
-}
+impl Attributes {
+    ghost use Rattle.std.specs.Prelude.{◌≡◌, IfOk};
+    ghost use Rattle.object_names.specs.Attributes.{attr_rows};
+    ghost use Rattle.object_names.specs.References.{attr_references};
 
-/// The rows of attributes by their numbers, and the numbers by their references.
-pub fn rows_and_index(
-    alloc: Global,
-    attrs: Vec<Attribute>,
-) -> Result<(Vec<AttrRow>, Index), AllocError>
-    ensures { IfOk result (λ r. (r.0.items ≡ rows_of attrs.items) × Indexes r.1 (references_of attrs.items)) }
-{
-    let mut rows = Vec::with_capacity(alloc, attrs.len())?;
-    let mut index = Index::new(alloc);
-    let mut number = 0;
-    for attr in attrs {
-        index.push_owned(attr.reference.into_vec(), number)?;
-        rows.push(attr.row)?;
-        number = plus(number, 1)?;
+    /// The attributes of a configuration.
+    pub fn of(alloc: Global, config: &Config) -> Result<Self, AllocError>
+        ensures references { IfOk result (λ attrs. attrs.references ≡ attr_references config.now) }
+        ensures rows { IfOk result (λ attrs. attrs.rows.items ≡ attr_rows config.now) }
+    {
+        let mut attrs = Attributes {
+            references: Index::new(alloc),
+            rows: Vec::with_capacity(alloc, config.attrs.len())?,
+            text: Vec::new(alloc),
+        };
+        push_lines(&mut attrs, config.attrs.as_slice())?;
+        push_generated(&mut attrs, config.controls.as_slice())?;
+        push_twins(&mut attrs, config.attrs.as_slice())?;
+        Ok(attrs)
     }
-    Ok((rows, index))
 }

@@ -18,9 +18,9 @@ pub mod references;
 // the attributes by their numbers
 mod attributes;
 
-pub use attributes::{AttrRow, Attribute, attrs, rows_and_index};
+pub use attributes::{AttrRow, Attributes};
 pub use few::Few;
-pub use index::Index;
+pub use index::index_of;
 pub use leaves::{Leaf, own_leaf};
 pub use lines::{Line, domains, ordered_lines};
 pub use named::{Call, Named, What};

@@ -7,15 +7,14 @@ ghost use Rattle.bay_model.specs.Configured.{domains_after, with_domain};
 ghost use Rattle.bay_model.specs.Generated.{structure_named, block_names, setting_names, parameters, parameter_names, control_names, end_named};
 ghost use Rattle.bay_model.specs.NamedLines.{attribute_line, attribute_lines, block_line, block_lines, control_line, control_lines, node_line, group_line, attribute_names, domains as domains_of, domain_number, lines as lines_of, in_order, path_item, is_setting as is_setting_line};
 ghost use Rattle.bay_model.specs.Model.{attribute};
-ghost use Rattle.object_names.specs.Indexes.{Indexes};
 
 use crate::few::Few;
-use crate::index::Index;
 use crate::named::{
     Named, What, push_block, push_control, push_parameters, push_settings, structure,
 };
 use crate::numbers::{count, plus};
 use crate::references::{is_selected, is_setting, item_at};
+use octet_rows::Index;
 use std::alloc::{AllocError, Global};
 use std::marker::Model;
 use sv_base::{AttrDef, BlockDef, Config, CtlDef, LnDef, Octs, SgDef};
@@ -300,14 +299,12 @@ fn push_groups<'a>(
     alloc: Global,
     out: &mut Vec<Line<'a>>,
     groups: &'a [SgDef],
-    domains: &[Octs],
-    index: &Index,
+    domains: &Index,
 ) -> Result<(), AllocError>
-    requires { Indexes index.now domains.now }
     ensures { OnOk result (out.new.items ≡ out.old.items ++ map (λ g. group_line (unwrap_or (position (bytes_eq g.domain) domains.now) 0) g) groups.now) }
 {
     for group in groups {
-        let number = index.number_of(group.domain.as_slice()).unwrap_or(0);
+        let number = domains.place_of(group.domain.as_slice()).unwrap_or(0);
         push_group(alloc, out, group, number)?;
     }
     Ok(())
@@ -328,11 +325,9 @@ fn push_all<'a>(
     alloc: Global,
     out: &mut Vec<Line<'a>>,
     config: &'a Config,
-    domains: &[Octs],
-    index: &Index,
+    domains: &Index,
 ) -> Result<(), AllocError>
-    requires indexed { Indexes index.now domains.now }
-    requires domains { domains.now ≡ domains_of config.now }
+    requires { domains.now ≡ domains_of config.now }
     ensures { OnOk result (out.new.items ≡ out.old.items ++ lines_of config.now) }
 {
     let attr_count = count(config.attrs.len())?;
@@ -341,7 +336,7 @@ fn push_all<'a>(
     push_attrs(alloc, out, config.attrs.as_slice(), first_twin)?;
     push_blocks(alloc, out, config.blocks.as_slice())?;
     push_controls(alloc, out, config.controls.as_slice(), attr_count)?;
-    push_groups(alloc, out, config.groups.as_slice(), domains, index)?;
+    push_groups(alloc, out, config.groups.as_slice(), domains)?;
     Ok(())
 }
 
@@ -360,15 +355,13 @@ fn line_count(config: &Config) -> usize {
 pub fn ordered_lines<'a>(
     alloc: Global,
     config: &'a Config,
-    domains: &[Octs],
-    index: &Index,
+    domains: &Index,
 ) -> Result<Vec<Line<'a>>, AllocError>
-    requires indexed { Indexes index.now domains.now }
-    requires domains { domains.now ≡ domains_of config.now }
+    requires { domains.now ≡ domains_of config.now }
     ensures { IfOk result (λ v. v.items ≡ in_order (lines_of config.now)) }
 {
     let mut lines = Vec::with_capacity(alloc, line_count(config))?;
-    push_all(alloc, &mut lines, config, domains, index)?;
+    push_all(alloc, &mut lines, config, domains)?;
     lines.sort_by_key(|line| line.number)?;
     Ok(lines)
 }

@@ -7,8 +7,9 @@ ghost use Rattle.bay_model.specs.Generated.{is_selected as is_selected_model};
 ghost use Rattle.bay_model.specs.NamedLines.{is_setting as is_setting_line, path_item};
 ghost use Rattle.object_names.specs.References.{block_references as blocks_of, control_references as controls_of};
 
+use octet_rows::Index;
 use std::alloc::{AllocError, Global};
-use sv_base::{AttrDef, BlockDef, Config, CtlDef, Octs};
+use sv_base::{AttrDef, BlockDef, Config, CtlDef};
 
 /// Two texts with an octet between them.
 pub fn joined(alloc: Global, before: &[u8], octet: u8, after: &[u8]) -> Result<Vec<u8>, AllocError>
@@ -51,22 +52,20 @@ pub fn item_at(alloc: Global, ln: &[u8], fc: &[u8], path: &[u8]) -> Result<Vec<u
     Ok(item)
 }
 
-/// `LD/LN$FC$PATH`.
-pub fn reference_at(
-    alloc: Global,
+/// Makes a text `LD/LN$FC$PATH`, in the room that it has.
+pub fn write_reference(
+    text: &mut Vec<u8>,
     domain: &[u8],
     ln: &[u8],
     fc: &[u8],
     path: &[u8],
-) -> Result<Octs, AllocError>
-    ensures { IfOk result (λ r. r ≡ reference_of domain.now (path_item ln.now fc.now path.now)) }
+) -> Result<(), AllocError>
+    ensures { OnOk result (text.new.items ≡ reference_of domain.now (path_item ln.now fc.now path.now)) }
 {
-    let octets = domain.len().saturating_add(item_len(ln, fc, path));
-    let mut reference = Vec::with_capacity(alloc, octets.saturating_add(1))?;
-    reference.extend_from_slice(domain)?;
-    reference.push(b'/')?;
-    extend_item(&mut reference, ln, fc, path)?;
-    Ok(Octs::from_vec(reference))
+    text.clear();
+    text.extend_from_slice(domain)?;
+    text.push(b'/')?;
+    extend_item(text, ln, fc, path)
 }
 
 /// Whether an attribute belongs to a setting group (IEC 61850-7-2, functional constraint SG).
@@ -83,52 +82,52 @@ pub fn is_selected(control: &CtlDef) -> bool
     control.model == 2 || control.model == 4
 }
 
-fn push_block(alloc: Global, out: &mut Vec<Octs>, block: &BlockDef) -> Result<(), AllocError>
-    ensures { OnOk result (out.new.items ≡ out.old.items ++ (block_defined block.now).reference ∷ []) }
+fn push_block(out: &mut Index, text: &mut Vec<u8>, block: &BlockDef) -> Result<(), AllocError>
+    ensures { OnOk result (out.new ≡ out.old ++ (block_defined block.now).reference ∷ []) }
 {
-    let reference = reference_at(
-        alloc,
+    write_reference(
+        text,
         block.domain.as_slice(),
         block.ln.as_slice(),
         b"BR",
         block.name.as_slice(),
     )?;
-    out.push(reference)?;
-    Ok(())
+    out.push(text)
 }
 
-fn push_control(alloc: Global, out: &mut Vec<Octs>, control: &CtlDef) -> Result<(), AllocError>
-    ensures { OnOk result (out.new.items ≡ out.old.items ++ (control_defined control.now).reference ∷ []) }
+fn push_control(out: &mut Index, text: &mut Vec<u8>, control: &CtlDef) -> Result<(), AllocError>
+    ensures { OnOk result (out.new ≡ out.old ++ (control_defined control.now).reference ∷ []) }
 {
-    let reference = reference_at(
-        alloc,
+    write_reference(
+        text,
         control.domain.as_slice(),
         control.ln.as_slice(),
         b"CO",
         control.path.as_slice(),
     )?;
-    out.push(reference)?;
-    Ok(())
+    out.push(text)
 }
 
 /// The references of the blocks.
-pub fn block_references(alloc: Global, config: &Config) -> Result<Vec<Octs>, AllocError>
-    ensures { IfOk result (λ v. v.items ≡ blocks_of config.now) }
+pub fn block_references(alloc: Global, config: &Config) -> Result<Index, AllocError>
+    ensures { IfOk result (λ references. references ≡ blocks_of config.now) }
 {
-    let mut references = Vec::new(alloc);
+    let mut references = Index::new(alloc);
+    let mut text = Vec::new(alloc);
     for block in config.blocks.as_slice() {
-        push_block(alloc, &mut references, block)?;
+        push_block(&mut references, &mut text, block)?;
     }
     Ok(references)
 }
 
 /// The references of the controls.
-pub fn control_references(alloc: Global, config: &Config) -> Result<Vec<Octs>, AllocError>
-    ensures { IfOk result (λ v. v.items ≡ controls_of config.now) }
+pub fn control_references(alloc: Global, config: &Config) -> Result<Index, AllocError>
+    ensures { IfOk result (λ references. references ≡ controls_of config.now) }
 {
-    let mut references = Vec::new(alloc);
+    let mut references = Index::new(alloc);
+    let mut text = Vec::new(alloc);
     for control in config.controls.as_slice() {
-        push_control(alloc, &mut references, control)?;
+        push_control(&mut references, &mut text, control)?;
     }
     Ok(references)
 }

@@ -5,4 +5,4 @@ use Rattle.object_model.specs.Finding.{Finds, is_cut_below}
 use Rattle.object_model.proofs.finding.first_of.Given as goal
 
 abbrev pub invariant-loop-at : goal.invariant-loop-at
-invariant-loop-at l = (c : Config) → Finds c l.numbers l.directories → l.first ≡ position (is_cut_below l.reference l.at) (nodes c)
+invariant-loop-at l = (c : Config) → Finds c l.domains l.directories → l.first ≡ position (is_cut_below l.reference l.at) (nodes c)

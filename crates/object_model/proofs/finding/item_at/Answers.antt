@@ -4,5 +4,5 @@ use Rattle.object_model.proofs.ListingLaws.{directory-at}
 use Rattle.object_model.proofs.finding.item_at.Goals as goal
 
 pub returns-in-Some : goal.returns-in-Some
-returns-in-Some c = λ model numbers finds within. c.name_at.ensures ∙ ap (λ items. name_at items c.args.name.place) (c.deref.ensures.value
-    ∙ (directory-at model c.args.directories.now c.args.directories.now c.args.name.domain c.in-Some.directory.now finds.directories refl c.in-Some.ensures.lookup.3.0 c.in-Some.ensures.lookup.1).items)
+returns-in-Some c = λ model domains finds within. c.name_at.ensures ∙ ap (λ items. name_at items c.args.name.place)
+    (directory-at model c.args.directories.now c.args.directories.now c.args.name.domain c.in-Some.directory.now finds.directories refl c.in-Some.ensures.lookup.3.0 c.in-Some.ensures.lookup.1).items

@@ -1,12 +1,15 @@
-use Rattle.std.proofs.Common.{◌∙◌, sym, refl}
+use Rattle.std.proofs.Common.{◌∙◌, ap, sym, refl}
+use Rattle.object_names.specs.Numbers.{number_in}
+use Rattle.object_model.specs.Listed.{IsDirectory}
 use Rattle.object_model.proofs.ResolveLaws.{resolved, unresolved}
-use Rattle.object_model.proofs.ListingLaws.{directory-at}
+use Rattle.object_model.proofs.ListingLaws.{directory-at, directory-finds}
 use Rattle.object_model.proofs.finding.number_of.Goals as goal
 
 pub returns-in-None : goal.returns-in-None
-returns-in-None c model t = sym (unresolved model c.args.domain.now c.args.item.now (sym (t.domain_numbers c.args.domain.now) ∙ sym c.in-None.ensures))
+returns-in-None c model t = sym (unresolved model c.args.domain.now c.args.item.now (sym (ap (λ ds. number_in ds c.args.domain.now) t.domain_names) ∙ sym c.in-None.ensures))
 
 pub returns-in-Some-get : goal.returns-in-Some-get
-returns-in-Some-get c model t = c.number_of-in-Some-get.ensures
-    ∙ ((directory-at model c.args.directories.now c.args.directories.now c.in-Some.number c.in-Some-get.directory.now t.directories refl c.in-Some-get.ensures.lookup.3.0 c.in-Some-get.ensures.lookup.1).numbers c.args.item.now
-    ∙ sym (resolved model c.args.domain.now c.args.item.now c.in-Some.number (sym (t.domain_numbers c.args.domain.now) ∙ sym c.in-Some.ensures)))
+returns-in-Some-get c model t =
+    let directory : IsDirectory model c.in-Some.number c.in-Some-get.directory.now = directory-at model c.args.directories.now c.args.directories.now c.in-Some.number c.in-Some-get.directory.now t.directories refl c.in-Some-get.ensures.lookup.3.0 c.in-Some-get.ensures.lookup.1 in
+    directory-finds _ _ c.in-Some-get.directory.now c.args.item.now c.number_in_domain.result directory c.number_in_domain.ensures
+    ∙ sym (resolved model c.args.domain.now c.args.item.now c.in-Some.number (sym (ap (λ ds. number_in ds c.args.domain.now) t.domain_names) ∙ sym c.in-Some.ensures))

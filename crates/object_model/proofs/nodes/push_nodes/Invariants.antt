@@ -1,11 +1,10 @@
 use Rattle.std.proofs.Common.{◌≡◌, ◌++◌, length, drop}
-use Rattle.object_model.specs.Nodes.{items_of, names_at}
+use Rattle.object_model.specs.Nodes.{names_at}
 use Rattle.object_model.specs.Attrs.{rows_with}
 use Rattle.object_model.proofs.nodes.push_nodes.Given as goal
 
 abbrev pub invariant-loop-spot : goal.invariant-loop-spot
 invariant-loop-spot l = record {
-  rows : l.rows.items ++ rows_with (length l.rows.items) (drop l.first l.attrs) l.spot-iterator.rest.items ≡ l.initial.rows.items ++ rows_with (length l.initial.rows.items) l.attrs l.initial.spot-iterator.rest.items;
-  names : l.names.items ++ names_at l.domain (length l.items.items) l.spot-iterator.rest.items ≡ l.initial.names.items ++ names_at l.domain (length l.initial.items.items) l.initial.spot-iterator.rest.items;
-  items : l.items.items ++ items_of l.spot-iterator.rest.items ≡ l.initial.items.items ++ items_of l.initial.spot-iterator.rest.items;
+  rows : l.rows.items ++ rows_with (length l.rows.items) (drop l.place l.items) (drop l.first l.attrs) l.spot-iterator.rest.items ≡ l.initial.rows.items ++ rows_with (length l.initial.rows.items) l.items l.attrs l.initial.spot-iterator.rest.items;
+  names : l.names.items ++ names_at l.domain l.place l.spot-iterator.rest.items ≡ l.initial.names.items ++ names_at l.domain 0 l.initial.spot-iterator.rest.items;
 }

@@ -6,4 +6,4 @@ use Rattle.object_model.specs.Tables.{node_id}
 use Rattle.object_model.proofs.tables.members_of.Given as goal
 
 abbrev pub invariant-loop-reference : goal.invariant-loop-reference
-invariant-loop-reference l = (c : Config) → Finds c l.numbers l.directories → l.members.items ≡ map node_id (map (member_number (nodes c)) (take l.reference-index l.references))
+invariant-loop-reference l = (c : Config) → Finds c l.domains l.directories → l.members.items ≡ map node_id (map (member_number (nodes c)) (take l.reference-index l.references))

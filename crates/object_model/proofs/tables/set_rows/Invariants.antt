@@ -6,4 +6,4 @@ use Rattle.object_model.specs.Tables.{set_row}
 use Rattle.object_model.proofs.tables.set_rows.Given as goal
 
 abbrev pub invariant-loop-set : goal.invariant-loop-set
-invariant-loop-set l = (c : Config) → Finds c l.numbers l.directories → l.rows.items ≡ map set_row (map (set_defined (nodes c)) (take l.set-index l.sets))
+invariant-loop-set l = (c : Config) → Finds c l.domains l.directories → l.rows.items ≡ map set_row (map (set_defined (nodes c)) (take l.set-index l.sets))

@@ -9,5 +9,5 @@ bounds-as_slice-node c = within-names c.self.inside.config c.args.self.now c.as_
 pub returns : goal.returns
 returns c =
     let at : NameAt c.args.self.now c.args.node.0 (get_or c.as_slice.result.now c.args.node.0 no_name) = name-of c.self.inside.config c.args.self.now c.as_slice.result.now c.args.node.0 c.self.view_is (c.as_slice.ensures.value ∙ c.self.invariant.3.names) c.requires in
-    let finds : Finds c.args.self.now c.self.inside.tables.numbers c.deref.result.now = subst (λ m. Finds m c.self.inside.tables.numbers c.deref.result.now) c.self.view_is (subst (Finds c.self.inside.config c.self.inside.tables.numbers) (sym c.deref.ensures.value) c.self.invariant.3.finds) in
-    c.item_at.ensures c.args.self.now c.self.inside.tables.numbers finds at.within ∙ at.item
+    let finds : Finds c.args.self.now c.self.inside.tables.domains c.deref.result.now = subst (λ m. Finds m c.self.inside.tables.domains c.deref.result.now) c.self.view_is (subst (Finds c.self.inside.config c.self.inside.tables.domains) (sym c.deref.ensures.value) c.self.invariant.3.finds) in
+    c.item_at.ensures c.args.self.now c.self.inside.tables.domains finds at.within ∙ at.item
