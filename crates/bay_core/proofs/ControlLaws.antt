@@ -1,13 +1,13 @@
 -- The controls of a bay are configured as they were, whatever comes of them.
 use Rattle.std.proofs.Common.{◌≡◌, ℕ, zero, suc, List, [], ◌∷◌, length, map, refl, ap, sym, ◌∙◌}
-use Rattle.std.specs.Prelude.{Option, None, Some, slice_index_or, slice_set}
+use Rattle.std.specs.Prelude.{Option, None, Some, slice_set}
 use Rattle.std.proofs.lemmas.List.{length-map}
-use Rattle.bay_model.specs.Model.{Control, Call, select, operate, cancel}
+use Rattle.bay_model.specs.Model.{Control, select, operate, cancel}
 use Rattle.bay_model.specs.Points.{Deed, opened, lost, valued, finished, blocked, wrote, put, copied, activated, edited, confirmed, called, selected_control, answered, took, terminated, reported, nothing}
 use Rattle.assoc_table.specs.declared.waiting.Waiting.{Waiting}
 use Rattle.assoc_table.specs.declared.waiting.Waiting.TheVariants.{Reply, Termination}
-use Rattle.control_core.specs.Controls.{ControlState, idle, called_by, done, lost_by, selected_by, stopped, blocked_as}
-use Rattle.control_core.specs.Tables.{Table, no_control, control_at, changed, after_deed}
+use Rattle.control_core.specs.Controls.{ControlState, called_by, done, lost_by, selected_by, stopped, blocked_as}
+use Rattle.control_core.specs.Tables.{Table, control_at, changed, after_deed}
 use Rattle.bay_queues.specs.Queued.{configs}
 use Rattle.bay_queues.specs.Taken.{table_left}
 

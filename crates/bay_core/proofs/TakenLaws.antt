@@ -1,5 +1,5 @@
 -- A bay after a Take.
-use Rattle.std.proofs.Common.{◌≡◌, ℕ, suc, max, true, List, [], ◌∷◌, map, drop, Option, None, Some, length, refl, ap, arith, ◌∙◌, sym, subst, slice_set, inl, inr}
+use Rattle.std.proofs.Common.{◌≡◌, ℕ, suc, max, true, List, [], ◌∷◌, Option, None, Some, length, refl, ap, arith, ◌∙◌, sym, subst, slice_set, inl, inr}
 use Rattle.std.specs.Prelude.{slice_get, ◌==◌, if◌then◌else◌}
 use Rattle.list_laws.proofs.Places.{got-set, same-number, other-number}
 use Rattle.std.specs.Option.{option_and_then, option_map}

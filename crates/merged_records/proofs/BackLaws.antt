@@ -1,31 +1,28 @@
 -- The lines of steps that were made are read back as the history that was made.
-use Rattle.std.proofs.Common.{◌≡◌, ◌≤◌, ◌<◌, ◌==◌, ◌+◌, ℕ, zero, suc, Bool, true, false, cond, List, [], ◌∷◌, ◌++◌, length, take, map, get_or, eq-eqb, refl, sym, ap, subst, ◌∙◌, arith, inl, inr}
-use Rattle.std.specs.Prelude.{Option, None, Some, Result, Ok, Err, codes, decimal, slice_get, is_some, if◌then◌else◌}
+use Rattle.std.proofs.Common.{◌≡◌, ◌≤◌, ◌<◌, ◌==◌, ℕ, zero, suc, Bool, true, false, cond, List, [], ◌∷◌, ◌++◌, length, take, eq-eqb, refl, sym, ap, subst, ◌∙◌, arith, inl, inr}
+use Rattle.std.specs.Prelude.{Option, None, Some, Ok, codes, decimal, slice_get, is_some, if◌then◌else◌}
 use Rattle.std.specs.List.{All}
-use Rattle.std.proofs.lemmas.Bool.{eqb-true, eqb-false}
+use Rattle.std.proofs.lemmas.Bool.{eqb-true}
 use Rattle.std.proofs.lemmas.Bool.Decides.{eqb_tells, leb_tells}
 use Rattle.std.proofs.lemmas.Fmt.{length-decimal-le}
 use Rattle.std.proofs.lemmas.List.{take_all}
 use Rattle.std.proofs.lemmas.List.Elements.{All-nil, All-cons, All-push, All-head, All-tail}
 use Rattle.sv_base.specs.declared.config.Config.{Config}
-use Rattle.sv_base.specs.declared.numbers.AssocNo.{AssocNo}
 use Rattle.bay_model.specs.Named.{configured_model}
 use Rattle.bay_model.specs.Points.{least_moment}
 use Rattle.bay_model.specs.Answers.{Turn, History, answer}
 use Rattle.answer_text.specs.Texts as answer_texts
-use Rattle.answer_text.specs.declared.shape.Shape.{Shape}
-use Rattle.run_record.specs.Grammar.{IsLine, Spells}
+use Rattle.run_record.specs.Grammar.{Spells}
 use Rattle.run_record.specs.Judging.{line_at}
 use Rattle.run_record.specs.Spelled.{spelled, words}
 use Rattle.run_record.proofs.ReadLaws.{line-read}
 use Rattle.run_record.proofs.WordLaws.{all-words}
 use Rattle.text_words.proofs.SpelledWordLaws.{decimal-word}
-use Rattle.run_record.specs.declared.line.RecLine.{RecLine}
 use Rattle.run_record.specs.declared.line.RecLine.TheVariants as lines
-use Rattle.record_steps.specs.Forms.{Form, shut, shape_of, form_behind}
+use Rattle.record_steps.specs.Forms.{shut, shape_of, form_behind}
 use Rattle.record_steps.specs.Resolved.{association_of, told_of}
-use Rattle.record_steps.specs.Told.{Told, pass_to, turn}
-use Rattle.record_history.specs.Histories.{form_after, form_at, form_of, said_in, said, moment_after, moment_of, Part, stepped, parts_in, steps_of, onto}
+use Rattle.record_steps.specs.Told.{pass_to, turn}
+use Rattle.record_history.specs.Histories.{form_after, form_at, form_of, said_in, said, moment_after, moment_of, stepped, parts_in, steps_of, onto}
 use Rattle.record_history.specs.Texts.{parts_of, turns_of, turns_in, text_behind, text_of}
 use Rattle.history_lock.specs.Histories.{by, IsShuffle}
 use Rattle.history_lock.specs.Histories as histories
@@ -41,7 +38,7 @@ use Rattle.written_histories.proofs.WrittenLaws.{answer_written}
 use Rattle.script_reading.specs.Forms.{form_in}
 use Rattle.script_reading.specs.Plans as plans
 use Rattle.script_reading.specs.Plans.{Script, Plan, script_of, script_turns}
-use Rattle.script_reading.specs.Sound.{IsActor, IsTold, AreTold, IsScript, IsScriptOrNone, IsSound}
+use Rattle.script_reading.specs.Sound.{IsActor, IsTold, AreTold, IsScriptOrNone, IsSound}
 use Rattle.script_reading.specs.declared.line.StepLine.{StepLine}
 use Rattle.script_reading.proofs.SoundLaws.{texts, newest-push}
 use Rattle.script_reading.proofs.TellLaws.{association-made, process-made, others-stay, process-stays}

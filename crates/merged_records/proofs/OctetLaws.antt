@@ -1,9 +1,8 @@
 -- The octets of the record of a rehearsal are lines, and the record that these are.
-use Rattle.std.proofs.Common.{◌≡◌, ◌≤◌, ◌<◌, ◌==◌, ◌&&◌, ℕ, zero, suc, Bool, true, false, not, List, [], ◌∷◌, ◌++◌, length, take, map, get_or, refl, sym, ap, subst, ◌∙◌, arith, inl, inr, append_assoc, append-nil}
-use Rattle.std.specs.Prelude.{Option, None, Some, Result, Ok, Err, codes, nat_lt, nat_le, ◌||◌, slice_get, if◌then◌else◌}
-use Rattle.std.specs.List.{All, slice_split, list_all}
+use Rattle.std.proofs.Common.{◌≡◌, ◌≤◌, ◌<◌, ◌==◌, ℕ, zero, suc, Bool, true, false, not, List, [], ◌∷◌, ◌++◌, length, refl, sym, ap, subst, ◌∙◌, arith, inl, inr, append_assoc}
+use Rattle.std.specs.Prelude.{Option, None, Some, Ok, Err, codes, nat_lt, nat_le, ◌||◌, slice_get, if◌then◌else◌}
+use Rattle.std.specs.List.{slice_split, list_all}
 use Rattle.std.specs.Option.{option_map, option_and_then}
-use Rattle.std.specs.Str.{bytes_eq}
 use Rattle.std.proofs.lemmas.Bool.{and_parts, leb-true}
 use Rattle.std.proofs.lemmas.Bool.Decides.{eqb_tells}
 use Rattle.std.proofs.lemmas.List.Elements.{All-nil, All-cons, All-from_recursion}
@@ -11,12 +10,11 @@ use Rattle.std.proofs.lemmas.List.Concat.{flat_map-append}
 use Rattle.std.proofs.lemmas.List.Splits.{slice_split_at, length-slice_split}
 use Rattle.sv_base.specs.declared.config.Config.{Config}
 use Rattle.bay_model.specs.Points.{least_moment}
-use Rattle.bay_model.specs.Answers.{Turn, History}
 use Rattle.cfg_parser.specs.Looking.{config_at}
 use Rattle.run_record.specs.Grammar.{Spells}
 use Rattle.text_words.specs.Octets.{is_printable, is_skipped}
 use Rattle.text_words.specs.Words.{words_of}
-use Rattle.run_record.specs.Judging.{tell_at, is_long, line_at}
+use Rattle.run_record.specs.Judging.{tell_at, line_at}
 use Rattle.run_record.specs.declared.fault.Kind.TheVariants as kinds
 use Rattle.run_record.specs.declared.line.RecLine.{RecLine}
 use Rattle.run_record.specs.Spelled.{spelled, words}
@@ -25,20 +23,18 @@ use Rattle.run_record.proofs.ReadLaws.{line-read}
 use Rattle.record_steps.specs.Resolved.{told_of}
 use Rattle.record_steps.specs.Told.{last}
 use Rattle.record_history.specs.Histories.{ended_pieces, lines_of, Parted, with_line, parted, octets_of, form_of, said_in, said, moment_of, parts_in, steps_of, onto, Recorded, recorded, history_of}
-use Rattle.record_history.specs.Texts.{parts_of, turns_in, text_behind, text_of, record_text}
+use Rattle.record_history.specs.Texts.{parts_of, text_behind}
 use Rattle.record_history.specs.Texts as texts
 use Rattle.record_outcome.specs.Records.{NoNewline}
 use Rattle.record_laws.specs.Grammar.{IsInner, Each}
-use Rattle.history_lock.specs.Histories.{IsShuffle}
-use Rattle.script_threads.specs.Races.{actors}
 use Rattle.script_threads.specs.Scripts.{made_of}
 use Rattle.script_threads.specs.declared.made.Made.{Made}
 use Rattle.script_threads.specs.declared.script.TimedStep.{TimedStep}
-use Rattle.script_reading.specs.Plans.{Script, Plan, script_of, turns_of}
-use Rattle.script_reading.specs.Sound.{IsTold, AreTold, IsScript, IsScriptOrNone, IsText, IsSound}
+use Rattle.script_reading.specs.Plans.{Script, Plan, script_of}
+use Rattle.script_reading.specs.Sound.{IsTold, AreTold, IsScriptOrNone, IsText, IsSound}
 use Rattle.script_reading.specs.declared.line.StepLine.{StepLine}
-use Rattle.merged_records.specs.Merged.{Book, lines_in, book_of, line_of, at_lines, lines_behind, moment_behind, merged, record_with, record_of, answered, answers_to}
-use Rattle.merged_records.specs.ReadBack.{IsReadBack, MergedAreReadBack}
+use Rattle.merged_records.specs.Merged.{lines_in, book_of, line_of, at_lines, lines_behind, moment_behind, merged, record_with}
+use Rattle.merged_records.specs.ReadBack.{MergedAreReadBack}
 use Rattle.merged_records.proofs.Listed.{book-at, onto-append}
 use Rattle.merged_records.proofs.BackLaws.{at-line, turns-back, text-back}
 

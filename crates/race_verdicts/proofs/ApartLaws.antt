@@ -1,5 +1,5 @@
 -- No member of a data set of a configuration is an Oper.
-use Rattle.std.proofs.Common.{◌≡◌, ◌+◌, ℕ, true, List, [], ◌∷◌, refl, arith, inl, inr}
+use Rattle.std.proofs.Common.{◌≡◌, ℕ, true, List, [], ◌∷◌, refl, arith, inl, inr}
 use Rattle.std.specs.List.{All}
 use Rattle.list_laws.proofs.Among.{all-of, of-all}
 use Rattle.sv_base.specs.declared.config.Config.{Config}

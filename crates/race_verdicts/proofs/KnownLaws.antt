@@ -1,6 +1,6 @@
 -- What comes of a race is known from the scripts: an actor stops at the first request for which its own script leaves no room.
-use Rattle.std.proofs.Common.{◌≡◌, ◌+◌, ◌==◌, ◌||◌, ◌&&◌, ℕ, zero, suc, Bool, true, false, cond, not, List, [], ◌∷◌, ◌++◌, length, take, map, get_or, refl, sym, ap, ap₂, subst, ◌∙◌, arith, inl, inr}
-use Rattle.std.specs.Prelude.{Option, None, Some, nat_le, slice_get, unwrap_or, if◌then◌else◌}
+use Rattle.std.proofs.Common.{◌≡◌, ◌+◌, ◌||◌, ◌&&◌, ℕ, zero, suc, Bool, true, false, cond, not, List, [], ◌∷◌, ◌++◌, length, take, map, get_or, refl, sym, ap, ap₂, subst, ◌∙◌, arith, inl, inr}
+use Rattle.std.specs.Prelude.{Option, None, Some, nat_le, slice_get, if◌then◌else◌}
 use Rattle.std.specs.Option.{option_map}
 use Rattle.std.proofs.lemmas.Bool.Decides.{eqb_tells, leb_tells}
 use Rattle.std.proofs.lemmas.List.{take_all}
@@ -18,7 +18,7 @@ use Rattle.bay_core.specs.Turns.{named}
 use Rattle.record_steps.specs.Forms.{is_shut}
 use Rattle.record_history.specs.Histories.{form_at, onto}
 use Rattle.history_lock.specs.Histories as histories
-use Rattle.history_lock.specs.Histories.{by, IsEarlier, IsLegal, IsShuffle}
+use Rattle.history_lock.specs.Histories.{by, IsLegal, IsShuffle}
 use Rattle.script_threads.specs.Playing.{StopsAt}
 use Rattle.script_threads.specs.Races.{actors, beginnings, IsPart, AreParts}
 use Rattle.script_threads.specs.Scripts.{turns_onto, turns_by}
@@ -38,7 +38,7 @@ use Rattle.merged_records.proofs.BackLaws.{steps_in, steps_by, lines_by, IsWithi
 use Rattle.merged_records.proofs.Listed.{book-at, length-turns, told-at}
 use Rattle.race_verdicts.specs.Verdicts.{number_at, full_by, full_line, lesser, lowest_full, went, all_went, wants_memory, lacks_memory}
 use Rattle.race_verdicts.specs.Bounds.{is_beyond, first_beyond, beyond_in, lowest_from, lowest_beyond, IsBeyond, IsBeyondIn, IsBeyondOf, WriteNoOper, WritesNoOper, IsWithoutOpers}
-use Rattle.race_verdicts.specs.Known.{Role, role_of, roles_from, IsKnown, VerdictsAreKnown}
+use Rattle.race_verdicts.specs.Known.{Role, role_of, roles_from, VerdictsAreKnown}
 use Rattle.race_verdicts.proofs.Lows.{lesser-swap}
 use Rattle.race_verdicts.proofs.Owns.{own-waits, own-opers, own-opened, NeverFull, never-full, own-earlier, legal-earlier}
 use Rattle.race_verdicts.proofs.BoundLaws.{more-beyond, NoneBeyond, forwards, NoneBound, front-idle, bound-idle, none-first, bound, some-first, at-beyond, lesser-none, lesser-one, none-of}

@@ -3,7 +3,7 @@ use Rattle.std.proofs.Common.{◌≡◌, ◌≤◌, ◌<◌, ◌+◌, ◌++◌, 
 use Rattle.std.proofs.Math.Seq.{take-append_seam}
 use Rattle.std.specs.Fmt.{decimal}
 use Rattle.std.specs.List.{AllByRecursion}
-use Rattle.std.specs.Prelude.{Option, None, Some, Result, Ok, Err, OnErr, IfNone, codes, if◌then◌else◌}
+use Rattle.std.specs.Prelude.{Option, None, Some, Result, Ok, Err, OnErr, IfNone, codes}
 use Rattle.std.specs.Option.{option_map}
 use Rattle.std.proofs.lemmas.Bool.Decides.{eqb_tells}
 use Rattle.sv_base.specs.declared.config.Config.{Config}
@@ -13,7 +13,6 @@ use Rattle.bay_model.specs.Acceptance.{Fault, fault}
 use Rattle.bay_model.specs.Answers.{Turn, answer}
 use Rattle.bay_model.specs.declared.answer.Answer.{Answer}
 use Rattle.bay_model.specs.declared.step.Step.{Step}
-use Rattle.bay_model.specs.declared.step.Step.TheVariants as steps
 use Rattle.run_record.specs.Grammar.{Spells}
 use Rattle.run_record.specs.Spelled.{words}
 use Rattle.run_record.specs.Judging.{line_at, number_of}
@@ -51,22 +50,19 @@ turn actor moment step = record { moment = moment; actor = actor; step = step }
 
 -- ---- what a line makes of the associations
 
--- what is kept of the associations behind a line: of its own this, and of each other what was
-pub passes-line : (old mid : Playing) (line : RecLine) (k : ℕ) (after left : programs.Form) → mid.bay ≡ old.bay → mid.moment ≡ old.moment
-    → ((a : ℕ) → form_in mid.forms a ≡ (if k == a then after else (if k == a then left else form_in old.forms a))) → k ≡ association_of line
-    → ((f : Form) → Stands (form_in old.forms k) f → Stands after (form_behind (association_of line) line f)) → (c : Config) (s : Played) → Plays old c s → Plays mid c (past_line s line)
-passes-line old mid line k after left bay moment sets names stands c s p = record {
+-- what is kept of the associations behind a line: of its own what that is then, and of each other what was
+pub passes-line : (old mid : Playing) (line : RecLine) (k : ℕ) → mid.bay ≡ old.bay → mid.moment ≡ old.moment → ((a : ℕ) → (k == a) ≡ false → form_in mid.forms a ≡ form_in old.forms a) → k ≡ association_of line
+    → ((f : Form) → Stands (form_in old.forms k) f → Stands (form_in mid.forms k) (form_behind (association_of line) line f)) → (c : Config) (s : Played) → Plays old c s → Plays mid c (past_line s line)
+passes-line old mid line k bay moment others names stands c s p = record {
   moment = moment ∙ p.moment;
   stands = subst (λ b. StandsFor b c s.turns) (sym bay) p.stands;
   forms = λ a. elim (eqb_tells k a) [
     | inl t ↦
-        let kept : form_in mid.forms a ≡ after = sets a ∙ ap (λ x. if x then after else (if x then left else form_in old.forms a)) t.0 in
-        let own : Stands after (form_behind (association_of line) line (s.form k)) = stands (s.form k) (p.forms k) in
-        subst (λ f. Stands f (form_behind a line (s.form a))) (sym kept) (subst (λ b. Stands after (form_behind b line (s.form a))) (sym names ∙ t.1) (subst (λ b. Stands after (form_behind (association_of line) line (s.form b))) t.1 own))
+        let own : Stands (form_in mid.forms k) (form_behind k line (s.form k)) = subst (λ b. Stands (form_in mid.forms k) (form_behind b line (s.form k))) (sym names) (stands (s.form k) (p.forms k)) in
+        subst (λ b. Stands (form_in mid.forms b) (form_behind b line (s.form b))) t.1 own
     | inr t ↦
-        let kept : form_in mid.forms a ≡ form_in old.forms a = sets a ∙ ap (λ x. if x then after else (if x then left else form_in old.forms a)) t.0 in
         let other : (association_of line == a) ≡ false = ap (λ b. b == a) (sym names) ∙ t.0 in
-        subst (λ f. Stands f (form_behind a line (s.form a))) (sym kept) (subst (Stands (form_in old.forms a)) (sym (form-elsewhere line a (s.form a) other)) (p.forms a))
+        subst (λ f. Stands f (form_behind a line (s.form a))) (sym (others a t.0)) (subst (Stands (form_in old.forms a)) (sym (form-elsewhere line a (s.form a) other)) (p.forms a))
   ];
 }
 

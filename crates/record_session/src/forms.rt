@@ -1,9 +1,11 @@
 //! What the associations of a record are, by their numbers.
 
-use record_steps::Form;
+use answer_text::Shape;
+use bay_model::Step;
+use object_model::Model;
+use record_steps::{Form, Heard, Told, tell};
+use run_record::LineView;
 use std::alloc::{AllocError, Global};
-use std::marker::Model;
-use std::mem::replace;
 use sv_base::AssocNo;
 
 /// One more than the greatest number of an association.
@@ -15,7 +17,7 @@ pub struct Forms {
     forms: Vec<Form>,
 }
 
-impl Model for Forms {
+impl std::marker::Model for Forms {
     ghost use Rattle.std.specs.Prelude.{◌≡◌, List, length};
     ghost use Rattle.std.specs.List.{All};
     ghost use Rattle.record_steps.specs.declared.form.Form.{Form};
@@ -29,9 +31,16 @@ impl Model for Forms {
 }
 
 impl Forms {
-    ghost use Rattle.std.specs.Prelude.{◌≡◌, ◌≤◌, ◌==◌, ℕ, IfOk, if◌then◌else◌};
+    ghost use Rattle.std.specs.Prelude.{◌≡◌, ◌≤◌, ◌==◌, ℕ, false, [], IfOk, OnOk};
+    ghost use Rattle.std.specs.List.{AllByRecursion};
+    ghost use Rattle.run_record.specs.Grammar.{IsLine};
+    ghost use Rattle.run_record.specs.Seen.{line_seen};
     ghost use Rattle.record_steps.specs.declared.form.Form.TheVariants.{Shut};
-    ghost use Rattle.record_steps.specs.Forms.{IsSized};
+    ghost use Rattle.record_steps.specs.Forms.{Form as FormOf, IsSized, Stands, plain, shape_of, form_behind};
+    ghost use Rattle.record_steps.specs.Own.{IsFittingPart};
+    ghost use Rattle.record_steps.specs.Resolved.{association_of, told_of};
+    ghost use Rattle.record_steps.specs.Streams.{made};
+    ghost use Rattle.record_steps.specs.Telling.{telling, most_steps};
     ghost use Rattle.record_session.specs.Formed.{form_in};
 
     /// None is open.
@@ -45,33 +54,42 @@ impl Forms {
         Ok(Forms { forms })
     }
 
-    /// Puts another one in the place of what an association is.
-    fn exchange(&mut self, a: AssocNo, form: Form) -> Form
-        requires number { a.0 ≤ 16 }
-        requires sized { IsSized form }
-        ensures form { result ≡ form_in self.old a.0 }
-        ensures sized { IsSized result }
-        ensures forms { (b : ℕ) → form_in self.new b ≡ (if a.0 == b then form else form_in self.old b) }
+    /// The shape in which an association is answered.
+    pub fn shape(&self, a: AssocNo) -> Shape
+        requires { a.0 ≤ 16 }
+        ensures shape { result ≡ shape_of (plain (form_in self.now a.0)) }
+        ensures sized { IsSized (form_in self.now a.0) }
     {
-        replace(&mut self.forms[a.0 as usize], form)
+        self.forms[a.0 as usize].shape()
     }
 
-    /// Takes what an association is, and leaves it shut.
-    pub fn take(&mut self, a: AssocNo) -> Form
+    /// What a line tells, by what its association is, which becomes what it is behind the line. A step is made in the slot, and the
+    /// parts of a piece are put into the list, which is empty.
+    pub fn tell(
+        &mut self,
+        alloc: Global,
+        model: &Model,
+        a: AssocNo,
+        line: &LineView<'_>,
+        step: &mut Step,
+        heard: &mut Vec<Heard>,
+    ) -> Result<Told, AllocError>
         requires number { a.0 ≤ 16 }
-        ensures form { result ≡ form_in self.old a.0 }
-        ensures sized { IsSized result }
-        ensures forms { (b : ℕ) → form_in self.new b ≡ (if a.0 == b then Shut else form_in self.old b) }
+        requires ranges { IsLine (line_seen line.now) }
+        requires none { heard.old.items ≡ [] }
+        ensures told { (f : FormOf) → Stands (form_in self.old a.0) f → IfOk result (λ told. telling told step.new heard.new.items ≡ told_of model.now f (line_seen line.now)) }
+        ensures form { (f : FormOf) → Stands (form_in self.old a.0) f → OnOk result (Stands (form_in self.new a.0) (form_behind (association_of (line_seen line.now)) (line_seen line.now) f)) }
+        ensures others { (b : ℕ) → (a.0 == b) ≡ false → form_in self.new b ≡ form_in self.old b }
+        ensures fits { OnOk result (AllByRecursion (IsFittingPart model.now) heard.new.items) }
+        ensures few { OnOk result (made heard.new.items ≤ most_steps (line_seen line.now)) }
     {
-        self.exchange(a, Form::Shut)
-    }
-
-    /// Makes it another.
-    pub fn set(&mut self, a: AssocNo, form: Form)
-        requires number { a.0 ≤ 16 }
-        requires sized { IsSized form }
-        ensures { (b : ℕ) → form_in self.new b ≡ (if a.0 == b then form else form_in self.old b) }
-    {
-        drop(self.exchange(a, form));
+        tell(
+            alloc,
+            model,
+            &mut self.forms[a.0 as usize],
+            line,
+            step,
+            heard,
+        )
     }
 }

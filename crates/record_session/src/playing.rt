@@ -14,7 +14,7 @@ use answer_text::{Shape, lines_of};
 use bay_core::{Bay, StepFault};
 use bay_model::Step;
 use record_outcome::status::Status;
-use record_steps::{Heard, Told, association, tell};
+use record_steps::{Heard, Told, association};
 use run_record::{LineView, view_line};
 use std::alloc::{AllocError, Global};
 use sv_base::{ActorNo, AssocNo, Moment};
@@ -48,6 +48,14 @@ fn number_in(line: &LineView<'_>) -> AssocNo
     match association(line) {
         Some(a) => a,
         None => AssocNo(0),
+    }
+}
+
+/// The slot for the step of a line: the one that is kept where the process sets something, else the other.
+fn slot_of<'s>(line: &LineView<'_>, kept: &'s mut Step, other: &'s mut Step) -> &'s mut Step {
+    match line {
+        LineView::Set(_) => kept,
+        _ => other,
     }
 }
 
@@ -235,22 +243,23 @@ impl Playing {
         ensures few { IfOk result (λ s. IfNone s (self.new.bay.steps ≤ self.old.bay.steps + most_steps (line_seen line.now))) }
     {
         let a = number_in(line);
-        let form = self.forms.take(a);
-        let shape = form.shape();
+        let shape = self.forms.shape(a);
         let mut heard = Vec::new(alloc);
-        let (after, told) = tell(alloc, self.bay.model(), form, line, slot, &mut heard)?;
-        self.forms.set(a, after);
+        let told = self
+            .forms
+            .tell(alloc, self.bay.model(), a, line, slot, &mut heard)?;
         self.act(alloc, out, number, shape, told, slot, &heard)
     }
 
     /// Reads a step line, without its newline, and writes the answer to it; or gives the status with which the reading stops. It makes
-    /// at most as many steps as the line has octets, and one.
+    /// at most as many steps as the line has octets, and one. What the process sets stays in a slot, whose memory serves again.
     pub fn read(
         &mut self,
         alloc: Global,
         out: &mut Vec<u8>,
         number: u64,
         line: &[u8],
+        kept: &mut Step,
     ) -> Result<Option<Status>, AllocError>
         requires few { self.old.bay.steps + length line.now < 2 ^ 61 }
         ensures plays { IfOk result (λ s. PlaysOn s self.old self.new (λ c p. step_at number c p line.now) out.old.items out.new.items) }
@@ -258,7 +267,11 @@ impl Playing {
         ensures few { IfOk result (λ s. IfNone s (self.new.bay.steps ≤ suc (self.old.bay.steps + length line.now))) }
     {
         match view_line(line) {
-            Ok(line) => self.play(alloc, out, number, &line, &mut Step::Tick),
+            Ok(line) => {
+                let mut other = Step::Tick;
+                let slot = slot_of(&line, kept, &mut other);
+                self.play(alloc, out, number, &line, slot)
+            }
             Err(kind) => Ok(Some(Status::Record {
                 line: number,
                 kind: kind.number(),

@@ -1,6 +1,6 @@
 //! The whole lines of pieces, and the part of a line behind them.
 
-ghost use Rattle.std.specs.Prelude.{◌≡◌, ◌<◌, ◌≤◌, ◌+◌, ◌^◌, [], length, IfOk, IfSome, IfNone, OnOk};
+ghost use Rattle.std.specs.Prelude.{◌<◌, ◌≤◌, ◌+◌, ◌^◌, length, IfOk, IfSome, IfNone};
 ghost use Rattle.record_session.specs.Sessions.{LinesRead, steps_in, IsEarly};
 ghost use Rattle.record_outcome.specs.Judgements.{IsJudgement};
 

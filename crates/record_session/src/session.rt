@@ -4,6 +4,7 @@ ghost use Rattle.std.specs.Prelude.{◌≡◌, ◌&&◌, nat_lt};
 ghost use Rattle.record_outcome.specs.Records.{most_lines};
 
 use crate::stage::Stage;
+use bay_model::Step;
 use record_outcome::status::Status;
 use std::alloc::{AllocError, Global};
 
@@ -17,11 +18,12 @@ fn is_over(begun: bool, number: u64) -> bool
     begun && number > MOST_LINES
 }
 
-/// What has been read of a record, line by line: how many lines, and where the reading is.
+/// What has been read of a record, line by line: how many lines, and where the reading is; and what the process set last.
 #[derive(Drop)]
 pub struct Session {
     lines: u64,
     stage: Stage,
+    kept: Step,
 }
 
 impl Session {
@@ -41,6 +43,7 @@ impl Session {
         Session {
             lines: 0,
             stage: Stage::Opening,
+            kept: Step::Tick,
         }
     }
 
@@ -66,7 +69,7 @@ impl Session {
             let status = self.stage.passed(alloc, 1, number)?;
             return Ok(Some(status));
         }
-        self.stage.read(alloc, out, number, line)
+        self.stage.read(alloc, out, number, line, &mut self.kept)
     }
 
     /// Reads a line, without its newline, and writes its answer; or gives the status with which the reading stops.

@@ -5,6 +5,7 @@ ghost use Rattle.std.specs.Str.{bytes_eq};
 
 use crate::playing::Playing;
 use crate::starting::{Started, refused_before, start};
+use bay_model::Step;
 use record_outcome::openings::{Opened, open};
 use record_outcome::status::Status;
 use run_record::Kind;
@@ -42,7 +43,8 @@ impl Stage {
     ghost use Rattle.record_session.specs.Sessions.{IsAt, AdvancesOn, steps_in, IsEarly, OpensOn, Settles};
     ghost use Rattle.record_outcome.specs.Judgements.{IsJudgement};
 
-    /// Goes on to another part.
+    /// Goes on to another part. It stays a call, so that a step line pays for no room of another stage.
+    #[inline(never)]
     fn enter(&mut self, stage: Stage)
         ensures { self.new ≡ stage }
     {
@@ -96,13 +98,15 @@ impl Stage {
         }
     }
 
-    /// Reads a line, without its newline, and writes the answer to it; or gives the status with which the reading stops.
+    /// Reads a line, without its newline, and writes the answer to it; or gives the status with which the reading stops. What the
+    /// process sets stays in a slot, whose memory serves again.
     pub fn read(
         &mut self,
         alloc: Global,
         out: &mut Vec<u8>,
         number: u64,
         line: &[u8],
+        kept: &mut Step,
     ) -> Result<Option<Status>, AllocError>
         requires few { steps_in self.old + length line.now < 2 ^ 61 }
         requires early { IsEarly self.old }
@@ -121,7 +125,7 @@ impl Stage {
                 let started = start(alloc, *before, text)?;
                 Ok(self.settle(started))
             }
-            Stage::Playing(playing) => playing.read(alloc, out, number, line),
+            Stage::Playing(playing) => playing.read(alloc, out, number, line, kept),
         }
     }
 

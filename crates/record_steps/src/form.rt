@@ -1,6 +1,5 @@
 //! What an association of a record is.
 
-ghost use Rattle.std.specs.Prelude.{◌≡◌};
 ghost use Rattle.run_record.specs.Seen.{line_seen};
 ghost use Rattle.run_record.specs.Grammar.{IsForm, IsLine};
 ghost use Rattle.record_steps.specs.Forms as specs;
@@ -63,17 +62,17 @@ fn opened(asked: OpenForm) -> Form
     }
 }
 
-/// What the association that a line names is behind it, if the line is no piece of a stream.
-pub fn behind(line: &LineView<'_>, was: Form) -> Form
+/// Makes of the association that a line names what it is behind the line, if that is no piece of a stream.
+pub fn pass(line: &LineView<'_>, form: &mut Form)
     requires ranges { IsLine (line_seen line.now) }
     requires plain { IsPlain (line_seen line.now) }
-    requires sized { IsSized was }
-    ensures form { (f : specs.Form) → Stands was f → Stands result (form_behind (association_of (line_seen line.now)) (line_seen line.now) f) }
-    ensures sized { IsSized result }
+    requires sized { IsSized form.old }
+    ensures form { (f : specs.Form) → Stands form.old f → Stands form.new (form_behind (association_of (line_seen line.now)) (line_seen line.now) f) }
+    ensures sized { IsSized form.new }
 {
     match line {
-        LineView::Open { form, .. } => opened(*form),
-        LineView::Lost(_) => Form::Shut,
-        _ => was,
+        LineView::Open { form: asked, .. } => *form = opened(*asked),
+        LineView::Lost(_) => *form = Form::Shut,
+        _ => {}
     }
 }

@@ -37,13 +37,19 @@ fn typed(
     }
 }
 
-/// What pairs are.
-pub fn settings_of(alloc: Global, model: &Model, pairs: &PairsView<'_>) -> Result<Found, AllocError>
+/// What pairs are; the memory of other settings serves for these.
+pub fn settings_of(
+    alloc: Global,
+    model: &Model,
+    pairs: &PairsView<'_>,
+    spare: Vec<Setting>,
+) -> Result<Found, AllocError>
     ensures found { IfOk result (AreFound model.now (pairs_seen pairs.now)) }
     ensures fits { IfOk result (IsFitting model.now) }
 {
     let config = model.config();
-    let mut settings = Vec::new(alloc);
+    let mut settings = spare;
+    settings.clear();
     let mut spelled = true;
     let mut rest = *pairs;
     while let Some(pair) = rest.next() {

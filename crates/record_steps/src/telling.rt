@@ -10,7 +10,6 @@ ghost use Rattle.object_model.specs.Numbers.{number_in};
 ghost use Rattle.object_model.specs.References.{block_references, control_references};
 ghost use Rattle.bay_model.specs.ComponentTable.{comp_named};
 ghost use Rattle.record_steps.specs.Resolved.{opened_in, opened_as, written_as, lost_as, asked_as, spelled_as, sent_as, set_as, ended_as, blocked_as, turn_of, association_of, told_of};
-ghost use Rattle.record_steps.specs.Asks.{asked_by};
 ghost use Rattle.record_steps.specs.Forms as specs;
 ghost use Rattle.record_steps.specs.Forms.{IsSized, Stands, plain, form_behind};
 ghost use Rattle.record_steps.specs.Own.{IsFittingPart};
@@ -18,16 +17,17 @@ ghost use Rattle.record_steps.specs.Streams.{made};
 ghost use Rattle.record_steps.specs.Telling.{telling, IsPlain, most_steps, NamesNone, Names};
 ghost use Rattle.bay_model.specs.declared.step.Step.TheVariants as steps;
 
-use crate::form::{Form, behind};
+use crate::form::{Form, pass};
 use crate::heard::Heard;
 use crate::settings::{Found, settings_of};
 use crate::shapes::shape;
 use crate::stream::hear;
 use bay_answers::read_request;
-use bay_model::{Comp, Request, Sets, Step};
+use bay_model::{Comp, Request, Sets, Setting, Step};
 use object_model::Model;
 use run_record::{Kind, LineView, OpenForm, PairsView};
 use std::alloc::{AllocError, Global};
+use std::mem::replace;
 use sv_base::{ActorNo, AssocNo, Moment};
 use text_words::hex_octets;
 
@@ -191,7 +191,17 @@ fn send(
     }
 }
 
-/// The process sets attributes.
+/// The settings of the step in a slot, for the sake of their memory; none where it is another step.
+fn spare_in(alloc: Global, slot: &mut Step) -> Vec<Setting>
+    ensures { slot.new ≡ steps.Tick }
+{
+    match replace(slot, Step::Tick) {
+        Step::Value(sets) => sets.into_vec(),
+        _ => Vec::new(alloc),
+    }
+}
+
+/// The process sets attributes. Those that the step in the slot set lend their memory.
 fn set(
     alloc: Global,
     model: &Model,
@@ -200,7 +210,8 @@ fn set(
 ) -> Result<Told, AllocError>
     ensures { IfOk result (λ told. telling told step.new [] ≡ set_as model.now (pairs_seen pairs.now)) }
 {
-    match settings_of(alloc, model, pairs)? {
+    let spare = spare_in(alloc, step);
+    match settings_of(alloc, model, pairs, spare)? {
         Found::Settings(settings) => {
             put(step, Step::Value(Sets::from_vec(settings)));
             Ok(Told::Step(ActorNo(0)))
@@ -292,27 +303,32 @@ fn say(
     }
 }
 
-/// What a line tells, by what the association that it names is, and what that is behind it. A step is made in the slot, and the
-/// parts of a piece are put into the list, which is empty; each step fits the model.
+/// What a line tells, by what the association that it names is; that becomes what it is behind the line. A step is made in the
+/// slot, and the parts of a piece are put into the list, which is empty; each step fits the model.
 pub fn tell(
     alloc: Global,
     model: &Model,
-    form: Form,
+    form: &mut Form,
     line: &LineView<'_>,
     step: &mut Step,
     heard: &mut Vec<Heard>,
-) -> Result<(Form, Told), AllocError>
+) -> Result<Told, AllocError>
     requires ranges { IsLine (line_seen line.now) }
-    requires sized { IsSized form }
+    requires sized { IsSized form.old }
     requires none { heard.old.items ≡ [] }
-    ensures told { (f : specs.Form) → Stands form f → IfOk result (λ r. telling r.1 step.new heard.new.items ≡ told_of model.now f (line_seen line.now)) }
-    ensures form { (f : specs.Form) → Stands form f → IfOk result (λ r. Stands r.0 (form_behind (association_of (line_seen line.now)) (line_seen line.now) f)) }
-    ensures sized { IfOk result (λ r. IsSized r.0) }
+    ensures told { (f : specs.Form) → Stands form.old f → IfOk result (λ told. telling told step.new heard.new.items ≡ told_of model.now f (line_seen line.now)) }
+    ensures form { (f : specs.Form) → Stands form.old f → OnOk result (Stands form.new (form_behind (association_of (line_seen line.now)) (line_seen line.now) f)) }
+    ensures sized { IsSized form.new }
     ensures fits { OnOk result (AllByRecursion (IsFittingPart model.now) heard.new.items) }
     ensures few { OnOk result (made heard.new.items ≤ most_steps (line_seen line.now)) }
 {
     match line {
-        LineView::Piece(a, hex) => hear(alloc, model, *a, form, hex, heard),
+        LineView::Piece(a, hex) => {
+            let was = replace(form, Form::Shut);
+            let (after, told) = hear(alloc, model, *a, was, hex, heard)?;
+            *form = after;
+            Ok(told)
+        }
         LineView::Skip
         | LineView::At(_)
         | LineView::Open { .. }
@@ -325,8 +341,9 @@ pub fn tell(
         | LineView::Block(..)
         | LineView::Tick
         | LineView::End => {
-            let told = say(alloc, model, &form, line, step)?;
-            Ok((behind(line, form), told))
+            let told = say(alloc, model, form, line, step)?;
+            pass(line, form);
+            Ok(told)
         }
     }
 }

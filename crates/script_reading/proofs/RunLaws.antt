@@ -1,5 +1,5 @@
 -- The lines of an input, one after another.
-use Rattle.std.proofs.Common.{◌≡◌, ◌≤◌, ◌<◌, ◌+◌, ℕ, suc, Bool, true, false, List, [], ◌∷◌, ◌++◌, length, refl, sym, ap, ◌∙◌, arith, inl, inr}
+use Rattle.std.proofs.Common.{◌≡◌, ◌≤◌, ◌<◌, ℕ, suc, Bool, true, false, List, [], ◌∷◌, ◌++◌, length, refl, sym, ap, ◌∙◌, arith, inl, inr}
 use Rattle.std.specs.Prelude.{◌==◌, ◌&&◌, nat_lt, if◌then◌else◌}
 use Rattle.std.proofs.lemmas.Bool.{lt-ltb}
 use Rattle.std.proofs.lemmas.Bool.Decides.{leb_tells}
@@ -7,8 +7,8 @@ use Rattle.std.proofs.lemmas.List.Splits.{slice_split_at, slice_split_none}
 use Rattle.record_outcome.specs.Records.{most_lines, NoNewline, pieces, has_begun}
 use Rattle.record_outcome.specs.declared.status.Status.{Status}
 use Rattle.record_outcome.proofs.LineLaws.{pieces-some}
-use Rattle.script_reading.specs.Moves.{Place, Move, stops}
-use Rattle.script_reading.specs.Inputs.{passed, missing, unended, ended, lines_at, line_at, Outcome, refused, moved, run}
+use Rattle.script_reading.specs.Moves.{Place, stops}
+use Rattle.script_reading.specs.Inputs.{passed, missing, unended, ended, lines_at, line_at, refused, moved, run}
 
 run-on : (long : Bool) (count : ℕ) (place : Place) (line : List ℕ) (more : List (List ℕ)) → 0 < length more
     → run long count place (line ∷ more) ≡ moved (line_at (suc count) place line) (λ to. run long (suc count) to more)

@@ -2,16 +2,14 @@
 use Rattle.std.proofs.Common.{◌≡◌, ◌≢◌, ◌≤◌, ◌<◌, ◌+◌, ◌==◌, ◌&&◌, ◌||◌, ℕ, zero, suc, Bool, true, false, cond, not, List, [], ◌∷◌, ◌++◌, length, take, map, set, replicate, get_or, refl, sym, ap, subst, ◌∙◌, arith, inl, inr, ◌⊎◌, length-append, length-set, append-nil}
 use Rattle.std.specs.Prelude.{Option, None, Some, is_some, Result, Ok, Err, codes, nat_lt, if◌then◌else◌}
 use Rattle.std.specs.Str.{bytes_eq}
-use Rattle.std.specs.List.{All, slice_split, onto_first}
-use Rattle.std.proofs.lemmas.Bool.{eqb-true, eqb-false}
+use Rattle.std.specs.List.{slice_split, onto_first}
+use Rattle.std.proofs.lemmas.Bool.{eqb-false}
 use Rattle.std.proofs.lemmas.Bool.Decides.{leb_tells, eqb_tells}
 use Rattle.std.proofs.lemmas.List.{get_or-set_same, get_or-set_other, length-replicate}
 use Rattle.std.proofs.lemmas.List.Elements.{All-nil, All-cons, All-push}
 use Rattle.std.proofs.lemmas.List.Concat.{flat_map-append}
 use Rattle.std.proofs.lemmas.Slice.Eq.{bytes_eq-Decides}
 use Rattle.sv_base.specs.declared.config.Config.{Config}
-use Rattle.sv_base.specs.declared.numbers.AssocNo.{AssocNo}
-use Rattle.bay_model.specs.Points.{least_moment}
 use Rattle.bay_model.specs.declared.step.Step.{Step}
 use Rattle.object_model.specs.Fits.{fits}
 use Rattle.text_words.specs.Octets.{is_skipped}
@@ -19,20 +17,20 @@ use Rattle.text_words.specs.Words.{words_of}
 use Rattle.cfg_parser.specs.Looking.{config_at}
 use Rattle.cfg_parser.specs.declared.fault.CfgFault.{CfgFault}
 use Rattle.cfg_parser.specs.declared.fault.CfgFault.TheVariants as faults
-use Rattle.run_record.specs.Grammar.{IsAssoc, IsLine, Spells}
+use Rattle.run_record.specs.Grammar.{IsLine, Spells}
 use Rattle.run_record.specs.Judging.{is_long}
 use Rattle.run_record.specs.Judging as judging
 use Rattle.run_record.specs.declared.fault.Kind.{Kind}
 use Rattle.run_record.specs.declared.line.RecLine.{RecLine}
 use Rattle.run_record.specs.declared.line.RecLine.TheVariants as lines
-use Rattle.record_steps.specs.Forms.{Form, is_shut, form_behind}
-use Rattle.record_steps.specs.Resolved.{association_of, told_of}
+use Rattle.record_steps.specs.Forms.{is_shut, form_behind}
+use Rattle.record_steps.specs.Resolved.{told_of}
 use Rattle.record_steps.specs.Told.{Told, skip, pass_to, turn, heard, refused, last}
 use Rattle.record_steps.proofs.ToldLaws.{told-own}
 use Rattle.record_history.specs.Histories.{octets_of, form_after, form_at, onto}
 use Rattle.record_outcome.specs.Records.{limit, most_lines, NoNewline, pieces}
 use Rattle.record_laws.specs.Grammar.{IsInner, Each}
-use Rattle.script_lines.specs.Grammar.{IsOwner, SpellsScript}
+use Rattle.script_lines.specs.Grammar.{IsOwner}
 use Rattle.script_lines.specs.Lines.{script_line_at}
 use Rattle.script_lines.specs.Owners.{may_have}
 use Rattle.script_lines.specs.declared.owner.Owner.{Owner}
@@ -46,19 +44,18 @@ use Rattle.script_threads.specs.declared.script.TimedStep.{TimedStep}
 use Rattle.script_threads.proofs.Lists.{map_last}
 use Rattle.written_histories.specs.Written.{actor_of}
 use Rattle.script_reading.specs.Forms.{form_in, form_passed, IsFit}
-use Rattle.script_reading.specs.Plans.{Script, Plan, script_of, without_scripts, with_script, no_scripts}
+use Rattle.script_reading.specs.Plans.{Script, Plan, script_of, with_script}
 use Rattle.script_reading.specs.Moves.{Place, opening, configuring, between, inside, Move, goes, stops, ends}
-use Rattle.script_reading.specs.Scripting.{most_scripts, actor_for, processes_with, counted, opened, begins, strange, ended, between_step, between_line, between_as, between_at, at_moment, taken, told_in, inside_step, inside_line, inside_as, inside_at}
+use Rattle.script_reading.specs.Scripting.{most_scripts, actor_for, processes_with, counted, opened, begins, strange, ended, between_step, between_as, between_at, at_moment, taken, told_in, inside_step, inside_as, inside_at}
 use Rattle.script_reading.specs.Openings.{headed, opening_at, started, configuring_at}
 use Rattle.script_reading.specs.Inputs as inputs
-use Rattle.script_reading.specs.Inputs.{passed, lines_at, Outcome, ready, moved, run, outcome}
-use Rattle.script_reading.specs.Sound.{IsActor, IsTold, AreTold, IsScript, IsScriptOrNone, IsText, IsPlacedBelow, ArePlacedApart, IsSound, PlansAreSound}
+use Rattle.script_reading.specs.Inputs.{passed, lines_at, ready, moved, run, outcome}
+use Rattle.script_reading.specs.Sound.{IsActor, IsTold, AreTold, IsScriptOrNone, IsText, IsPlacedBelow, ArePlacedApart, IsSound, PlansAreSound}
 use Rattle.script_reading.specs.declared.line.StepLine.{StepLine}
 use Rattle.script_reading.specs.declared.form.ScriptForm.{ScriptForm}
 use Rattle.script_reading.specs.declared.form.ScriptForm.TheVariants as forms
 use Rattle.script_reading.specs.declared.opened.Opened.{Opened}
-use Rattle.script_reading.proofs.TellLaws.{Keeps, same, association-made, process-made, passed-in, process-passed, fit-behind, passed-at}
-use Rattle.record_outcome.specs.declared.status.Status.{Status}
+use Rattle.script_reading.proofs.TellLaws.{same, association-made, process-made, passed-in, process-passed, fit-behind, passed-at}
 use Rattle.record_outcome.specs.declared.status.Status.TheVariants as statuses
 
 -- ---- lists

@@ -36,7 +36,6 @@ use Rattle.script_lines.specs.declared.owner.Owner.TheVariants as owners
 use Rattle.written_histories.specs.Written.{actor_of}
 use Rattle.script_reading.specs.Forms.{form_in, opened_so, form_passed, IsFit}
 use Rattle.script_reading.specs.declared.form.ScriptForm.{ScriptForm}
-use Rattle.script_reading.specs.declared.form.ScriptForm.TheVariants as forms
 
 -- ---- whose a step is
 

@@ -1,5 +1,4 @@
 -- What the association of a script is, as of a record, and behind a line of its script.
-use Rattle.std.specs.Prelude.{ℕ}
 use Rattle.answer_text.specs.Texts.{IsShape}
 use Rattle.record_steps.specs.Forms.{Form, shut, direct, mms, shape_of}
 use Rattle.run_record.specs.declared.line.OpenForm.{OpenForm}

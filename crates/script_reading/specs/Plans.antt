@@ -1,5 +1,5 @@
 -- What a rehearsal's input comes to: a configuration, and a script for each actor that has one.
-use Rattle.std.specs.Prelude.{ℕ, ◌+◌, List, [], ◌∷◌, ◌++◌, Option, None, Some, set, replicate, slice_index_or}
+use Rattle.std.specs.Prelude.{ℕ, List, [], ◌∷◌, ◌++◌, Option, None, Some, set, replicate, slice_index_or}
 use Rattle.sv_base.specs.declared.config.Config.{Config}
 use Rattle.bay_model.specs.Answers.{History}
 use Rattle.script_threads.specs.Scripts.{turns_by}

@@ -1,5 +1,5 @@
 -- What a line among scripts does.
-use Rattle.std.specs.Prelude.{ℕ, ◌+◌, ◌==◌, ◌||◌, Bool, List, [], ◌∷◌, ◌++◌, is_some, Option, None, Some, Result, Ok, Err, if◌then◌else◌}
+use Rattle.std.specs.Prelude.{ℕ, ◌+◌, ◌==◌, ◌||◌, List, [], is_some, Option, None, Some, Result, Ok, Err, if◌then◌else◌}
 use Rattle.sv_base.specs.declared.config.Config.{Config}
 use Rattle.bay_model.specs.declared.step.Step.{Step}
 use Rattle.bay_model.specs.Points.{least_moment}
@@ -18,7 +18,7 @@ use Rattle.script_lines.specs.declared.owner.Owner.TheVariants as owners
 use Rattle.script_lines.specs.declared.line.ScriptLine.{ScriptLine}
 use Rattle.script_lines.specs.declared.line.ScriptLine.TheVariants as scripts
 use Rattle.script_reading.specs.Forms.{form_in, form_passed}
-use Rattle.script_reading.specs.Plans.{Script, Plan, script_of, with_script, with_line}
+use Rattle.script_reading.specs.Plans.{Plan, script_of, with_script, with_line}
 use Rattle.script_reading.specs.Moves.{Move, goes, stops, ends, between, inside}
 use Rattle.script_reading.specs.declared.form.ScriptForm.{ScriptForm}
 use Rattle.script_reading.specs.declared.form.ScriptForm.TheVariants as forms

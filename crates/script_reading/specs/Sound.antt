@@ -1,7 +1,6 @@
 -- What holds of every plan: its configuration is that of its lines, and each line of a script is told by the script's own lines
 -- before it.
 use Rattle.std.specs.Prelude.{◌≡◌, ◌≢◌, ◌<◌, ◌≤◌, ℕ, true, List, [], ◌∷◌, ◌++◌, length, codes, Option, None, Some, Ok}
-use Rattle.std.specs.List.{All}
 use Rattle.sv_base.specs.declared.config.Config.{Config}
 use Rattle.cfg_parser.specs.Looking.{config_at}
 use Rattle.run_record.specs.Judging.{line_at}

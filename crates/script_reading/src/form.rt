@@ -1,9 +1,5 @@
 //! What the association of a script is, and what its lines tell.
 
-ghost use Rattle.std.specs.Prelude.{◌≡◌};
-ghost use Rattle.record_steps.specs.Forms.{IsSized, Stands, shape_of};
-ghost use Rattle.script_reading.specs.Forms.{form_in, IsFit};
-
 use answer_text::Shape;
 use bay_model::Step;
 use object_model::Model;
@@ -86,9 +82,10 @@ impl ScriptForm {
         ensures { IfOk result (λ told. (heard : List TheHeard) × (telling told step.new heard ≡ told_of model.now (form_in self) (line_seen line.now))) }
     {
         let mut heard = Vec::new(alloc);
-        let (form, told) = tell(alloc, model, self.in_record(), line, step, &mut heard)?;
+        let mut form = self.in_record();
+        let told = tell(alloc, model, &mut form, line, step, &mut heard);
         drop(form);
         drop(heard);
-        Ok(told)
+        told
     }
 }

@@ -35,8 +35,7 @@ pub enum Stage {
 }
 
 impl Stage {
-    ghost use Rattle.std.specs.Prelude.{◌≡◌, ◌<◌, ◌^◌, ℕ, List, IfOk, OnOk};
-    ghost use Rattle.cfg_parser.specs.Looking.{config_at};
+    ghost use Rattle.std.specs.Prelude.{◌≡◌, ◌<◌, ◌^◌, IfOk, OnOk};
     ghost use Rattle.script_reading.specs.Moves.{Move};
     ghost use Rattle.script_reading.specs.Openings.{opening_at, started};
     ghost use Rattle.script_reading.specs.Inputs.{lines_at, passed as passed_at, missing as missing_at};

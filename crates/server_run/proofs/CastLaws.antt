@@ -1,5 +1,5 @@
 -- The actors of a plan: their numbers fall, and each is to do what its script has.
-use Rattle.std.proofs.Common.{◌≡◌, ◌≤◌, ◌<◌, ◌+◌, ◌*◌, ◌^◌, ◌==◌, ℕ, zero, suc, Bool, true, false, cond, List, [], ◌∷◌, ◌++◌, length, map, get_or, eq-eqb, refl, sym, ap, subst, ◌∙◌, arith, inl, inr, append_assoc, append-nil}
+use Rattle.std.proofs.Common.{◌≡◌, ◌≤◌, ◌<◌, ◌+◌, ◌^◌, ◌==◌, ℕ, zero, suc, cond, List, [], ◌∷◌, ◌++◌, length, map, get_or, eq-eqb, refl, sym, ap, subst, ◌∙◌, arith, inl, inr, append_assoc, append-nil}
 use Rattle.std.specs.Prelude.{Option, None, Some}
 use Rattle.std.specs.List.{All}
 use Rattle.std.proofs.lemmas.Bool.Decides.{eqb_tells}
@@ -7,9 +7,8 @@ use Rattle.std.proofs.lemmas.List.{length-map}
 use Rattle.std.proofs.lemmas.List.Elements.{All-nil, All-cons, All-push}
 use Rattle.sv_base.specs.declared.config.Config.{Config}
 use Rattle.bay_model.specs.Answers.{History}
-use Rattle.record_outcome.specs.Records.{most_lines}
-use Rattle.script_reading.specs.Plans.{Script, Plan, script_of, script_turns, turns_of}
-use Rattle.script_reading.specs.Sound.{IsScript, IsScriptOrNone, IsSound}
+use Rattle.script_reading.specs.Plans.{Script, Plan, script_of, script_turns}
+use Rattle.script_reading.specs.Sound.{IsScriptOrNone, IsSound}
 use Rattle.script_threads.specs.Dealing.{AreFalling, CanPlay}
 use Rattle.script_threads.specs.Playing.{AreFit}
 use Rattle.script_threads.specs.Scripts.{turns_by}
@@ -17,7 +16,6 @@ use Rattle.script_threads.specs.declared.job.Actor.{Actor}
 use Rattle.script_threads.specs.declared.script.Script.{Script as Part}
 use Rattle.script_threads.specs.declared.script.TimedStep.{TimedStep}
 use Rattle.race_verdicts.specs.Known.{Role as Known, role_of, roles_from, AreScripts}
-use Rattle.merged_records.specs.Merged.{Book, lines_in, book_seen}
 use Rattle.server_run.specs.Casting.{script_steps, role_steps, cast_one, cast_from, turns_among, AreOfPlan}
 use Rattle.server_run.specs.declared.casting.Role.{Role}
 

@@ -1,12 +1,11 @@
 -- How a rehearsal ends is known from its octets.
 use Rattle.std.proofs.Common.{◌≡◌, ℕ, List, refl, sym, ap, subst, ◌∙◌, inl, inr}
-use Rattle.std.specs.Prelude.{Option}
 use Rattle.record_outcome.specs.declared.status.Status.{Status}
 use Rattle.record_outcome.specs.declared.status.Status.TheVariants as statuses
 use Rattle.script_reading.specs.Plans.{Plan}
 use Rattle.script_reading.specs.Inputs.{Outcome, refused}
 use Rattle.race_verdicts.proofs.BoundLaws.{none-of}
-use Rattle.server_run.specs.Rehearsals.{Goes, MeetsFull, Rehearses, ends_at, EndsAs, IsStatusOf, IsEnding, EndingsAreKnown}
+use Rattle.server_run.specs.Rehearsals.{Goes, MeetsFull, ends_at, EndsAs, IsStatusOf, EndingsAreKnown}
 
 refused-so : (o : Outcome) (status : Status) → o ≡ refused status → IsStatusOf o status
 refused-so o status is = subst (λ x. IsStatusOf x status) (sym is) refl

@@ -1,18 +1,16 @@
 -- What came of a race where all turns went.
-use Rattle.std.proofs.Common.{◌≡◌, ◌≤◌, ◌<◌, ◌==◌, ◌&&◌, ℕ, Bool, true, false, cond, List, [], ◌∷◌, length, take, refl, sym, ap, subst, ◌∙◌, arith}
+use Rattle.std.proofs.Common.{◌≡◌, ◌==◌, ℕ, true, cond, List, [], ◌∷◌, length, take, refl, ap, ◌∙◌, arith}
 use Rattle.std.specs.Prelude.{Option, None, Some}
-use Rattle.std.specs.List.{All}
 use Rattle.std.proofs.lemmas.Bool.{and_parts}
 use Rattle.std.proofs.lemmas.List.{take_all}
 use Rattle.std.proofs.lemmas.List.Elements.{All-nil, All-cons}
 use Rattle.sv_base.specs.declared.config.Config.{Config}
 use Rattle.bay_model.specs.Answers.{History}
 use Rattle.bay_core.specs.declared.fault.StepFault.{StepFault}
-use Rattle.history_lock.specs.Histories.{IsShuffle}
-use Rattle.script_reading.specs.Plans.{Plan, turns_of}
+use Rattle.script_reading.specs.Plans.{Plan}
 use Rattle.script_threads.specs.Merging.{AreOf}
 use Rattle.script_threads.specs.Playing.{StopsAt}
-use Rattle.script_threads.specs.Races.{actors, beginnings, IsPart, AreParts, IsRaced}
+use Rattle.script_threads.specs.Races.{beginnings, AreParts, IsRaced}
 use Rattle.script_threads.specs.Scripts.{turns_by, replies_of}
 use Rattle.script_threads.specs.declared.part.Part.{Part as Given}
 use Rattle.script_threads.specs.declared.script.Script.{Script as Part}

@@ -1,6 +1,6 @@
 //! A rehearsal.
 
-ghost use Rattle.std.specs.Prelude.{◌≡◌, ◌≢◌, ◌≤◌, ℕ, List, [], length, take, map, IfOk, IfSome};
+ghost use Rattle.std.specs.Prelude.{◌≡◌, ◌≢◌, ◌≤◌, List, [], length, take, map, IfOk, IfSome};
 ghost use Rattle.std.specs.List.{All};
 ghost use Rattle.bay_config.specs.Servable.{IsServable};
 ghost use Rattle.bay_core.specs.Standing.{StandsFor};

@@ -1,6 +1,6 @@
 //! MMS Data in its minimal spelling (ISO 9506-2, Data; ITU-T X.690), into room that was made before.
 
-ghost use Rattle.std.specs.Prelude.{suc, ◌≡◌, ◌≤◌, ◌<◌, ◌^◌, ◌+◌, ◌-◌, ◌*◌, ◌++◌, length, take, drop};
+ghost use Rattle.std.specs.Prelude.{suc, ◌≡◌, ◌≤◌, ◌<◌, ◌^◌, ◌+◌, ◌-◌, ◌*◌, ◌++◌, ◌∷◌, length, take, drop};
 ghost use Rattle.sv_base.specs.Data.{length_field, element as element_of, packed, data_of};
 ghost use Rattle.bay_rooms.specs.Slots.{lent};
 ghost use Rattle.value_store.specs.Written.{adds, IsShort};
@@ -36,14 +36,26 @@ pub(crate) fn put_head(out: &mut Fixed, at: usize)
     out.insert(at, &[0xa2, first]);
 }
 
+/// The tag of an element, and the length of its content.
+fn put_front(out: &mut Fixed, tag: u8, content: u32)
+    requires { length out.old.items + length (tag ∷ length_field content) ≤ out.old.room }
+    ensures { out.new ≡ adds out.old (tag ∷ length_field content) }
+{
+    if content < 128 {
+        out.push(&[tag, content as u8]);
+        return;
+    }
+    out.push(&[tag]);
+    put_length(out, content);
+}
+
 /// An element of this tag and this content.
 fn put_element(out: &mut Fixed, tag: u8, content: &[u8])
     requires small { length content.now < 2 ^ 32 }
     requires room { length out.old.items + length (element_of tag content.now) ≤ out.old.room }
     ensures { out.new ≡ adds out.old (element_of tag content.now) }
 {
-    out.push(&[tag]);
-    put_length(out, content.len() as u32);
+    put_front(out, tag, content.len() as u32);
     out.push(content);
 }
 

@@ -1,4 +1,4 @@
-use Rattle.std.proofs.Common.{◌≡◌, List, replicate}
+use Rattle.std.proofs.Common.{◌≡◌, replicate}
 use Rattle.std.specs.Prelude.{Option, None}
 use Rattle.script_reading.specs.Plans.{Script}
 use Rattle.script_reading.proofs.starting.no_scripts.Given as goal

@@ -1,4 +1,4 @@
-use Rattle.std.proofs.Common.{◌≡◌, ◌++◌, ◌∷◌, [], map, length, length-append, arith, ap, sym, ◌∙◌}
+use Rattle.std.proofs.Common.{◌≡◌, ◌++◌, ◌∷◌, [], map, length, length-append, arith, ap}
 use Rattle.server_run.proofs.CastLaws.{cast-more}
 use Rattle.server_run.proofs.SeatLaws.{one-cast, last-gate}
 use Rattle.server_run.proofs.casting.add_actors.Goals as goal

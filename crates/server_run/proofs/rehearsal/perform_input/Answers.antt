@@ -1,5 +1,4 @@
 use Rattle.std.proofs.Common.{subst, sym, ap, ◌∙◌}
-use Rattle.std.specs.Prelude.{Ok, Err}
 use Rattle.script_reading.specs.Inputs.{outcome}
 use Rattle.script_reading.specs.Readings.{plan_seen, Reads, IsRefused}
 use Rattle.script_reading.proofs.SoundLaws.{plans_are_sound}

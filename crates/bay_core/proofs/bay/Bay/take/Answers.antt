@@ -1,4 +1,4 @@
-use Rattle.std.proofs.Common.{◌≡◌, ◌∙◌, List, None, suc, length, refl, sym, subst, ap, vec_capacity}
+use Rattle.std.proofs.Common.{◌≡◌, ◌∙◌, None, suc, length, refl, sym, subst, ap, vec_capacity}
 use Rattle.std.specs.Option.{option_map}
 use Rattle.bay_model.specs.declared.step.Step.TheVariants as steps
 use Rattle.bay_model.specs.Answers.{points}

@@ -1,13 +1,9 @@
-use Rattle.std.proofs.Common.{◌≡◌, ◌≤◌, ◌==◌, ℕ, List, sym, subst, refl, ◌∙◌, ap, arith}
-use Rattle.std.specs.Prelude.{if◌then◌else◌}
+use Rattle.std.proofs.Common.{◌≤◌, ℕ, List, sym, subst, refl, ◌∙◌, ap, arith}
 use Rattle.std.proofs.lemmas.Result.{IfOk-weaker}
 use Rattle.run_record.specs.Seen.{line_seen}
 use Rattle.run_record.specs.declared.line.RecLine.{RecLine}
 use Rattle.answer_text.specs.Texts.{IsShape}
-use Rattle.record_steps.specs.declared.form.Form.{Form}
-use Rattle.record_steps.specs.declared.form.Form.TheVariants.{Shut}
 use Rattle.record_steps.specs.declared.heard.Heard.{Heard}
-use Rattle.record_steps.specs.Forms.{Stands}
 use Rattle.record_steps.specs.Streams.{made}
 use Rattle.record_steps.specs.Telling.{telling, most_steps}
 use Rattle.record_session.specs.Formed.{form_in}
@@ -17,38 +13,31 @@ use Rattle.record_session.proofs.playing.Playing.play.Goals as goal
 
 pub act-requires-clause-ready : goal.act-requires-clause-ready
 act-requires-clause-ready c =
-    let sized = c.take-form.ensures.sized in
-    let ready = told-ready c.model.result.now sized.1 (line_seen c.args.line.now) c.in_ok-after.told c.tell.new.step c.tell.new.heard.items (c.in_ok-after.ensures.told sized.1 sized.2) c.in_ok-after.ensures.fits in
-    subst (λ k. IsReady k c.in_ok-after.told c.tell.new.step c.deref.result.now) c.model.ensures.model (subst (IsReady c.model.result.now c.in_ok-after.told c.tell.new.step) (sym c.deref.ensures.value) ready)
+    let sized = c.shape-shape.ensures.sized in
+    let ready = told-ready c.model.result.now sized.1 (line_seen c.args.line.now) c.in_ok-told.told c.tell.new.step c.tell.new.heard.items (c.in_ok-told.ensures.told sized.1 sized.2) c.in_ok-told.ensures.fits in
+    subst (λ k. IsReady k c.in_ok-told.told c.tell.new.step c.deref.result.now) c.model.ensures.model (subst (IsReady c.model.result.now c.in_ok-told.told c.tell.new.step) (sym c.deref.ensures.value) ready)
 
 pub act-requires-clause-shape : goal.act-requires-clause-shape
-act-requires-clause-shape c = subst IsShape (sym c.shape-shape.ensures) c.take-form.ensures.sized.0
+act-requires-clause-shape c = subst IsShape (sym c.shape-shape.ensures.shape) c.shape-shape.ensures.sized.0
 
 pub act-requires-clause-few : goal.act-requires-clause-few
 act-requires-clause-few c =
-    let few = subst (λ (hs : List Heard). made hs ≤ most_steps (line_seen c.args.line.now)) (sym c.deref.ensures.value) c.in_ok-after.ensures.few in
-    omega (arith, c.requires.few, most-told (line_seen c.args.line.now) c.in_ok-after.told c.deref.result.now few)
+    let few = subst (λ (hs : List Heard). made hs ≤ most_steps (line_seen c.args.line.now)) (sym c.deref.ensures.value) c.in_ok-told.ensures.few in
+    omega (arith, c.requires.few, most-told (line_seen c.args.line.now) c.in_ok-told.told c.deref.result.now few)
 
 pub returns-clause-plays : goal.returns-clause-plays
 returns-clause-plays c =
     let line : RecLine = line_seen c.args.line.now in
     let k : ℕ = c.number_in-a.result.0 in
-    let form : Form = c.take-form.result in
-    let after : Form = c.in_ok-after.after in
-    let hs : List Heard = c.deref.result.now in
-    let forms : (a : ℕ) → form_in c.set.new.self a ≡ (if k == a then after else (if k == a then Shut else form_in c.args.self.now.forms a)) =
-    λ a. c.set.ensures a ∙ ap (λ f. if k == a then after else f) (c.take-form.ensures.forms a) in
-    let same : form ≡ form_in c.args.self.now.forms k = c.take-form.ensures.form in
-    let pass = passes-line c.args.self.now (record c.args.self.now { forms = c.set.new.self }) line k after Shut refl refl forms c.number_in-a.ensures.number
-    (λ f s. c.in_ok-after.ensures.form f (subst (λ p. Stands p f) (sym same) s)) in
+    let pass = passes-line c.args.self.now (record c.args.self.now { forms = c.tell.new.self }) line k refl refl c.in_ok-told.ensures.others c.number_in-a.ensures.number c.in_ok-told.ensures.form in
     IfOk-weaker c.act.result _ _
-    (λ s h. plays-line c.args.self.now (record c.args.self.now { forms = c.set.new.self }) c.act.new.self c.args.number line form c.shape-shape.result c.in_ok-after.told c.tell.new.step hs s c.model.result.now c.args.out.now.items c.act.new.out.items
-    pass (same ∙ ap (form_in c.args.self.now.forms) c.number_in-a.ensures.number) c.shape-shape.ensures c.model.ensures.model
-    (λ f s. ap (telling c.in_ok-after.told c.tell.new.step) c.deref.ensures.value ∙ c.in_ok-after.ensures.told f s) h) c.act.ensures.plays
+    (λ s h. plays-line c.args.self.now (record c.args.self.now { forms = c.tell.new.self }) c.act.new.self c.args.number line (form_in c.args.self.now.forms k) c.shape-shape.result c.in_ok-told.told c.tell.new.step c.deref.result.now s c.model.result.now c.args.out.now.items
+    c.act.new.out.items pass (ap (form_in c.args.self.now.forms) c.number_in-a.ensures.number) c.shape-shape.ensures.shape c.model.ensures.model
+    (λ f s. ap (telling c.in_ok-told.told c.tell.new.step) c.deref.ensures.value ∙ c.in_ok-told.ensures.told f s) h) c.act.ensures.plays
 
 pub returns-clause-few : goal.returns-clause-few
 returns-clause-few c =
-    let few = subst (λ (hs : List Heard). made hs ≤ most_steps (line_seen c.args.line.now)) (sym c.deref.ensures.value) c.in_ok-after.ensures.few in
+    let few = subst (λ (hs : List Heard). made hs ≤ most_steps (line_seen c.args.line.now)) (sym c.deref.ensures.value) c.in_ok-told.ensures.few in
     IfOk-weaker c.act.result _ _
-    (λ s h. within-more s c.act.new.self.bay.steps c.args.self.now.bay.steps (most_of c.in_ok-after.told c.deref.result.now) (most_steps (line_seen c.args.line.now))
-    (most-told (line_seen c.args.line.now) c.in_ok-after.told c.deref.result.now few) h) c.act.ensures.few
+    (λ s h. within-more s c.act.new.self.bay.steps c.args.self.now.bay.steps (most_of c.in_ok-told.told c.deref.result.now) (most_steps (line_seen c.args.line.now))
+    (most-told (line_seen c.args.line.now) c.in_ok-told.told c.deref.result.now few) h) c.act.ensures.few
