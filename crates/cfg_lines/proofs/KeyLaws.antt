@@ -1,9 +1,11 @@
 -- A key among others, and after one more.
-use Rattle.std.proofs.Common.{◌≡◌, ℕ, Bool, true, false, ◌||◌, List, [], ◌∷◌, ◌++◌, map, refl, sym, ap, ◌∙◌}
+use Rattle.std.proofs.Common.{◌≡◌, ℕ, ◌+◌, Bool, true, false, cond, ◌||◌, List, [], ◌∷◌, ◌++◌, map, position, Option, None, Some, is_some, refl, sym, ap, ◌∙◌}
+use Rattle.std.specs.Option.{option_map}
 use Rattle.std.specs.List.{list_any}
 use Rattle.std.specs.Str.{bytes_eq}
 use Rattle.std.proofs.lemmas.Bool.{cond_both}
 use Rattle.std.proofs.lemmas.Slice.Eq.{bytes_eq-Decides}
+use Rattle.list_laws.proofs.Places.{place-cons}
 use Rattle.cfg_lines.specs.Keys.{is_among, added}
 
 pub turned : (a b c : Bool) → (a || (b || c)) ≡ (b || (a || c))
@@ -46,3 +48,13 @@ pub shifted : (a b c : Bool) → (c || (a || b)) ≡ ((a || c) || b)
 shifted true b true = refl
 shifted true b false = refl
 shifted false b c = refl
+
+-- a key is among others exactly where it has a place among them
+place-shown : (b : Bool) (r : Option ℕ) → is_some (cond b (Some 0) (option_map (λ n. n + 1) r)) ≡ (b || is_some r)
+place-shown true r = refl
+place-shown false (Some x) = refl
+place-shown false None = refl
+
+pub placed : {X : Type 0} (p : X → Bool) (xs : List X) → is_some (position p xs) ≡ list_any p xs
+placed p [] = refl
+placed p (x ∷ xs) = ap is_some (place-cons p x xs) ∙ (place-shown (p x) (position p xs) ∙ ap (λ b. p x || b) (placed p xs))

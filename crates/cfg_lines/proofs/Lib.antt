@@ -1,6 +1,4 @@
 pub mod KeyLaws
-pub mod HashLaws
-pub mod RowLaws
 pub mod PathLaws
 pub mod NodeFacts
 pub mod FactLaws

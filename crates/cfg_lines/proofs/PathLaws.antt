@@ -1,5 +1,5 @@
 -- Which paths are taken.
-use Rattle.std.proofs.Common.{◌≡◌, ℕ, zero, suc, ◌<◌, Bool, true, false, ◌||◌, List, [], ◌∷◌, take, get_or, refl, sym, ap, ◌∙◌, arith, inl, inr}
+use Rattle.std.proofs.Common.{◌≡◌, ℕ, zero, suc, ◌<◌, Bool, true, false, ◌||◌, List, [], ◌∷◌, take, get_or, None, Some, refl, sym, ap, ◌∙◌, arith, inl, inr, if◌then◌else◌}
 use Rattle.std.specs.List.{list_any}
 use Rattle.std.specs.Str.{bytes_eq}
 use Rattle.std.proofs.lemmas.Bool.{cond_both, cases_eq, cond-true, eq-eqb, or_right}
@@ -52,7 +52,16 @@ taken-split others path = any-or (λ other. bytes_eq path other || is_among (abo
     ∙ (ap (λ b. b || list_any (λ other. is_among (above path) other) others) (any-or (λ other. bytes_eq path other) (λ other. is_among (above other) path) others)
     ∙ ap (λ b. (is_among others path || is_structure others path) || b) (any-turned others (above path)))
 
-pub neither : (a b c : Bool) → a ≡ false → b ≡ false → ((a || b) || c) ≡ c
-neither true b c p q = absurd cc
-neither false true c p q = absurd cc
-neither false false c p q = refl
+pub second : (a b c : Bool) → a ≡ false → c ≡ false → ((a || b) || c) ≡ b
+second true b c p q = absurd cc
+second false true c p q = refl
+second false false c p q = q
+
+-- a number that a path has where nothing is in its way
+pub kept-back : (b : Bool) (n : ℕ) → (if b then None else Some n) ≡ None → b ≡ true
+kept-back true n e = refl
+kept-back false n e = absurd cc
+
+pub let-through : (b : Bool) (n m : ℕ) → (if b then None else Some n) ≡ Some m → b ≡ false
+let-through true n m e = absurd cc
+let-through false n m e = refl

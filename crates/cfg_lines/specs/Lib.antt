@@ -1,6 +1,4 @@
 pub mod Keys
-pub mod Hashed
-pub mod Laid
 pub mod Paths
 pub mod Before
 pub mod Facts

@@ -1,115 +1,35 @@
 //! Octet rows, each once, and paths none of which is above another.
 
-ghost use Rattle.std.specs.Prelude.{◌≡◌, ◌||◌, nat_eq, OnOk};
-ghost use Rattle.std.specs.List.{list_any};
-ghost use Rattle.indexmap.specs.IndexMap.{get};
-ghost use Rattle.cfg_lines.specs.Hashed.{is_at as is_row_at, is_first as is_first_row, StillFinds, FindsAt};
-
-use crate::hashing::hash_of;
-use crate::rows::Rows;
-use indexmap::IndexMap;
+use octet_rows::{Index, RowHash, hash_of};
 use std::alloc::{AllocError, Global};
 use std::marker::Model;
 
 /// Octet rows, each once, seen by contracts as the list of them.
 #[derive(Drop)]
 pub struct Keys {
-    rows: Rows,
-    /// Of each number the place of the first row that has it.
-    first: IndexMap<u64, usize>,
-    /// The places of the other rows.
-    further: Vec<usize>,
+    rows: Index,
 }
 
 impl Model for Keys {
-    ghost use Rattle.std.specs.Prelude.{List, ℕ, nat_eq};
-    ghost use Rattle.indexmap.specs.IndexMap.{get};
-    ghost use Rattle.cfg_lines.specs.Hashed.{AreFound};
+    ghost use Rattle.std.specs.Prelude.{List, ℕ};
 
     ghost Value = { List (List ℕ) };
 
     ghost view = { λ k. k.rows };
-
-    ghost invariant = { λ k. AreFound k.rows (get nat_eq k.first) k.further.items };
-}
-
-/// The row at the place is this one.
-fn is_at(rows: &Rows, place: usize, key: &[u8]) -> bool
-    ensures { result ≡ is_row_at rows.now key.now place }
-{
-    match rows.get(place) {
-        Some(row) => key == row,
-        None => false,
-    }
-}
-
-/// The row at the place, if there is one, is this one.
-fn is_first(rows: &Rows, place: Option<usize>, key: &[u8]) -> bool
-    ensures { result ≡ is_first_row rows.now key.now place }
-{
-    match place {
-        Some(place) => is_at(rows, place, key),
-        None => false,
-    }
-}
-
-/// The row at one of the places is this one.
-fn is_at_one(rows: &Rows, places: &[usize], key: &[u8]) -> bool
-    ensures { result ≡ list_any (is_row_at rows.now key.now) places.now }
-{
-    for place in places {
-        if is_at(rows, *place, key) {
-            return true;
-        }
-    }
-    false
-}
-
-/// The row is at the first place, if there is one, or at one of the further.
-fn is_at_any(rows: &Rows, first: Option<usize>, further: &[usize], key: &[u8]) -> bool
-    ensures { result ≡ (is_first_row rows.now key.now first || list_any (is_row_at rows.now key.now) further.now) }
-{
-    is_first(rows, first, key) || is_at_one(rows, further, key)
-}
-
-fn place_of(first: &IndexMap<u64, usize>, hash: u64) -> Option<usize>
-    ensures { result ≡ get nat_eq first.now hash }
-{
-    first.get(&hash).copied()
-}
-
-/// Notes the place of a row with this number.
-fn note(
-    first: &mut IndexMap<u64, usize>,
-    further: &mut Vec<usize>,
-    hash: u64,
-    place: usize,
-) -> Result<(), AllocError>
-    ensures kept { StillFinds (get nat_eq first.old) further.old.items (get nat_eq first.new) further.new.items }
-    ensures noted { OnOk result (FindsAt (get nat_eq first.new) further.new.items hash place) }
-{
-    if place_of(first, hash).is_some() {
-        further.push(place)?;
-    } else {
-        first.insert(hash, place)?;
-    }
-    Ok(())
 }
 
 impl Keys {
     ghost use Rattle.std.specs.Prelude.{◌≡◌, ◌||◌, ◌++◌, ◌∷◌, List, ℕ, [], OnOk};
-    ghost use Rattle.cfg_lines.specs.Keys.{is_among, added};
-    ghost use Rattle.cfg_lines.specs.Hashed.{hash_at};
     ghost use Rattle.std.specs.Str.{bytes_eq};
+    ghost use Rattle.octet_rows.specs.Hashing.{hash_at};
+    ghost use Rattle.cfg_lines.specs.Keys.{is_among, added};
 
     /// There is none.
     pub fn new(alloc: Global) -> Keys
         ensures { result ≡ [] }
     {
         Keys {
-            rows: Rows::new(alloc),
-            first: IndexMap::new(alloc),
-            further: Vec::new(alloc),
+            rows: Index::new(alloc),
         }
     }
 
@@ -117,26 +37,15 @@ impl Keys {
     pub fn has(&self, key: &[u8]) -> bool
         ensures { result ≡ is_among self.now key.now }
     {
-        self.finds(hash_of(key), key)
+        self.has_by(hash_of(key), key)
     }
 
     /// The key of this number is there.
-    fn finds(&self, hash: u64, key: &[u8]) -> bool
+    fn has_by(&self, hash: u64, key: &[u8]) -> bool
         requires { hash ≡ hash_at key.now }
         ensures { result ≡ is_among self.now key.now }
     {
-        let first = place_of(&self.first, hash);
-        is_at_any(&self.rows, first, &self.further, key)
-    }
-
-    /// Adds the key of this number.
-    fn push(&mut self, hash: u64, key: &[u8]) -> Result<(), AllocError>
-        requires { hash ≡ hash_at key.now }
-        ensures { OnOk result (self.new ≡ self.old ++ key.now ∷ []) }
-    {
-        let place = self.rows.len();
-        note(&mut self.first, &mut self.further, hash, place)?;
-        self.rows.push(key)
+        self.rows.place_by(hash, key).is_some()
     }
 
     /// Adds a key, which may be there already.
@@ -144,42 +53,56 @@ impl Keys {
         ensures among { OnOk result ((q : List ℕ) → is_among self.new q ≡ (bytes_eq q key.now || is_among self.old q)) }
         ensures items { OnOk result (self.new ≡ added self.old key.now) }
     {
-        let hash = hash_of(key);
-        if self.finds(hash, key) {
+        self.add_by(hash_of(key), key)
+    }
+
+    /// Adds the key of this number, which may be there already.
+    fn add_by(&mut self, hash: u64, key: &[u8]) -> Result<(), AllocError>
+        requires { hash ≡ hash_at key.now }
+        ensures among { OnOk result ((q : List ℕ) → is_among self.new q ≡ (bytes_eq q key.now || is_among self.old q)) }
+        ensures items { OnOk result (self.new ≡ added self.old key.now) }
+    {
+        if self.has_by(hash, key) {
             return Ok(());
         }
-        self.push(hash, key)
+        self.rows.push_by(hash, key)
     }
 }
 
 impl Keys {
-    ghost use Rattle.std.specs.Prelude.{◌≡◌, ◌||◌, List, ℕ, [], OnOk};
+    ghost use Rattle.std.specs.Prelude.{◌≡◌, ◌||◌, List, ℕ, None, Some, OnOk, IfOk, if◌then◌else◌};
     ghost use Rattle.std.specs.List.{list_any};
+    ghost use Rattle.octet_rows.specs.Hashing.{hash_at};
     ghost use Rattle.cfg_lines.specs.Keys.{is_among};
     ghost use Rattle.cfg_lines.specs.Paths.{above};
 
-    /// A structure above the path is there.
-    fn has_above(&self, path: &[u8]) -> bool
-        ensures { result ≡ list_any (λ front. is_among self.now front) (above path.now) }
+    /// The number of a path; none exactly where a structure above it is there.
+    fn number_of_free(&self, path: &[u8]) -> Option<u64>
+        ensures { result ≡ (if list_any (λ front. is_among self.now front) (above path.now) then None else Some (hash_at path.now)) }
     {
+        let mut hash = RowHash::new();
         for (i, octet) in path.iter().enumerate() {
-            if *octet == b'$' && self.has(&path[..i]) {
-                return true;
+            if *octet == b'$' && self.has_by(hash.number(), &path[..i]) {
+                return None;
             }
+            hash = hash.with(*octet);
         }
-        false
+        Some(hash.number())
     }
 
-    /// Adds the structures above a path.
-    fn add_above(&mut self, path: &[u8]) -> Result<(), AllocError>
-        ensures { OnOk result ((q : List ℕ) → is_among self.new q ≡ (is_among (above path.now) q || is_among self.old q)) }
+    /// Adds the structures above a path, and gives the path's number.
+    fn add_above(&mut self, path: &[u8]) -> Result<u64, AllocError>
+        ensures number { IfOk result (λ hash. hash ≡ hash_at path.now) }
+        ensures among { OnOk result ((q : List ℕ) → is_among self.new q ≡ (is_among (above path.now) q || is_among self.old q)) }
     {
+        let mut hash = RowHash::new();
         for (i, octet) in path.iter().enumerate() {
             if *octet == b'$' {
-                self.add(&path[..i])?;
+                self.add_by(hash.number(), &path[..i])?;
             }
+            hash = hash.with(*octet);
         }
-        Ok(())
+        Ok(hash.number())
     }
 }
 
@@ -193,8 +116,8 @@ impl Keys {
     pub fn add_with_above(&mut self, path: &[u8]) -> Result<(), AllocError>
         ensures { OnOk result ((q : List ℕ) → is_among self.new q ≡ ((bytes_eq q path.now || is_among (above path.now) q) || is_among self.old q)) }
     {
-        self.add_above(path)?;
-        self.add(path)
+        let hash = self.add_above(path)?;
+        self.add_by(hash, path)
     }
 }
 
@@ -238,13 +161,10 @@ impl Names {
     pub fn is_taken(&self, path: &[u8]) -> bool
         ensures { result ≡ is_taken_by self.now path.now }
     {
-        if self.paths.has(path) {
-            return true;
+        match self.paths.number_of_free(path) {
+            Some(hash) => self.paths.has_by(hash, path) || self.structures.has_by(hash, path),
+            None => true,
         }
-        if self.structures.has(path) {
-            return true;
-        }
-        self.paths.has_above(path)
     }
 
     /// With one more path, which is taken from now on.
@@ -255,8 +175,8 @@ impl Names {
             mut paths,
             mut structures,
         } = self;
-        paths.add(path)?;
-        structures.add_above(path)?;
+        let hash = structures.add_above(path)?;
+        paths.add_by(hash, path)?;
         Ok(Names { paths, structures })
     }
 

@@ -4,12 +4,10 @@
 //! The definitions in `specs/` are those on which the reading, the format and the writing of configurations agree.
 #![tactic(auto)]
 
-mod hashing;
 mod keys;
 mod leaf;
 mod line;
 mod references;
-mod rows;
 
 // a line, and where it may stand
 pub use line::{Line, Place};

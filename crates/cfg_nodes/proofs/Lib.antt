@@ -1,5 +1,6 @@
 pub mod NodeLaws
 pub mod IndexLaws
+pub mod PlaceLaws
 pub mod PartLaws
 pub mod OctetLaws
 pub mod PartNameLaws

@@ -1,34 +1,44 @@
 -- What an index of nodes finds.
-use Rattle.std.specs.Prelude.{◌≡◌, ℕ, zero, suc, ◌||◌, ◌&&◌, not, nat_lt, Bool, true, false, List, [], ◌∷◌, Option, Some, None, is_some, unwrap_or, if◌then◌else◌}
-use Rattle.std.specs.Borrow.{Bor}
-use Rattle.std.specs.Option.{option_or}
-use Rattle.std.specs.Map.{lookup}
-use Rattle.std.specs.Str.{bytes_eq}
-use Rattle.indexmap.specs.IndexMap.{get_by}
+use Rattle.std.specs.Prelude.{◌≡◌, ◌<◌, ℕ, zero, suc, ◌==◌, ◌||◌, ◌&&◌, not, nat_lt, Bool, true, false, List, [], ◌∷◌, length, take, slice_get, slice_index, Option, Some, None, is_some, unwrap_or, if◌then◌else◌}
+use Rattle.octet_rows.specs.Found.{place_in}
 use Rattle.cfg_lines.specs.Keys.{is_among}
-use Rattle.cfg_lines.specs.Sizes.{octets_of}
+use Rattle.cfg_lines.specs.Sizes.{octets_of, leaf_octets, with_edge, with_name}
 use Rattle.cfg_nodes.specs.declared.sizes.Sizes.{Sizes}
 use Rattle.cfg_nodes.specs.declared.parts.Parts.{Parts}
 use Rattle.cfg_nodes.specs.declared.nodes.Nodes.{Nodes}
 
 abbrev pub octets_in : Sizes → List ℕ → Option ℕ
-octets_in sizes node = get_by (λ k. bytes_eq node k.now) sizes.octets
+octets_in sizes node = leaf_octets sizes.leaves.now node
 
--- what is there, or one more
-abbrev pub or_one : Option ℕ → Bool → ℕ → Option ℕ
-or_one given is octets = option_or given (if is then Some octets else None)
-
-abbrev pub parts_at : List (Bor (List ℕ) × List (List ℕ)) → List ℕ → List (List ℕ)
-parts_at entries node = unwrap_or (lookup (λ k. bytes_eq node k.now) entries) []
-
--- the first of the entries that are a node's is at this place
-abbrev pub IsAt : List ℕ → List (Bor (List ℕ) × List (List ℕ)) → ℕ → Type 0
-IsAt node [] i = ⊥
-IsAt node (e ∷ entries) zero = bytes_eq node e.0.now ≡ true
-IsAt node (e ∷ entries) (suc i) = (bytes_eq node e.0.now ≡ false) × IsAt node entries i
+abbrev pub parts_of : List (List (List ℕ)) → Option ℕ → List (List ℕ)
+parts_of parts None = []
+parts_of parts (Some place) = unwrap_or (slice_get parts place) []
 
 abbrev pub parts_in : Parts → List ℕ → List (List ℕ)
-parts_in parts node = parts_at parts.below.entries node
+parts_in parts node = parts_of parts.parts.items (place_in parts.structures node)
+
+-- the place of a structure, if there is one, among those that have parts
+abbrev pub IsWithin : Parts → Option ℕ → Type 0
+IsWithin parts None = Unit {0}
+IsWithin parts (Some place) = place < length parts.parts.items
+
+abbrev pub IsPlaced : Parts → Option (List ℕ) → Option ℕ → Type 0
+IsPlaced parts None place = place ≡ None
+IsPlaced parts (Some front) place = (place ≡ place_in parts.structures front) × (is_some place ≡ true)
+
+-- with one more part of a structure, if there is one
+abbrev pub with_part : List ℕ → List (List ℕ) → Option (List ℕ) → List ℕ → List (List ℕ)
+with_part node parts None part = parts
+with_part node parts (Some front) part = with_edge node parts (front, part)
+
+-- the longest structure above a path, of its first octets
+abbrev pub last_front : ℕ → List ℕ → Option (List ℕ)
+last_front zero path = None
+last_front (suc n) path = if slice_index path n == 36 then Some (take n path) else last_front n path
+
+abbrev pub with_front : List ℕ → List (List ℕ) → Option (List ℕ) → List (List ℕ)
+with_front node parts None = parts
+with_front node parts (Some front) = with_name node parts front
 
 abbrev pub has_parts : List (List ℕ) → Bool
 has_parts [] = false

@@ -1,2 +1,3 @@
+pub mod LeafLists
 pub mod PartNames
 pub mod Indexed

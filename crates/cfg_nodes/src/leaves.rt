@@ -6,9 +6,10 @@ ghost use Rattle.cfg_lines.specs.Paths.{below as below_front, item_key as item_k
 ghost use Rattle.cfg_lines.specs.Sizes.{element_octets as element_octets_of, most_octets as most_octets_of};
 ghost use Rattle.cfg_lines.specs.Nodes.{leaves_by, leaves as leaves_before, setting_leaf};
 
-use cfg_lines::{Leaf, Line, below, item_key};
+use crate::leaf_list::Leaves;
+use cfg_lines::{Line, below, item_key, put_item_key};
 use std::alloc::{AllocError, Global};
-use sv_base::{AttrDef, CtlDef, Octs, TypeOf};
+use sv_base::{AttrDef, CtlDef, TypeOf};
 
 /// The octets of Data with so many octets of content.
 pub fn element_octets(content: u32) -> u32
@@ -40,40 +41,35 @@ fn most_octets(kind: &TypeOf) -> u32
     }
 }
 
-fn push_attribute(alloc: Global, leaves: &mut Vec<Leaf>, attr: &AttrDef) -> Result<(), AllocError>
-    ensures { OnOk result (leaves.new.items ≡ leaves.old.items ++ (record { name = item_key_of attr.now.domain attr.now.ln attr.now.fc attr.now.path; octets = most_octets_of attr.now.kind }) ∷ []) }
+/// Adds the node of an attribute, whose name is joined in a room.
+fn push_attribute(room: &mut Vec<u8>, leaves: &mut Leaves, attr: &AttrDef) -> Result<(), AllocError>
+    ensures { OnOk result (leaves.new ≡ leaves.old ++ (record { name = item_key_of attr.now.domain attr.now.ln attr.now.fc attr.now.path; octets = most_octets_of attr.now.kind }) ∷ []) }
 {
-    let name = item_key(
-        alloc,
+    put_item_key(
+        room,
         attr.domain.as_slice(),
         attr.ln.as_slice(),
         attr.fc.as_slice(),
         attr.path.as_slice(),
     )?;
-    leaves.push(Leaf {
-        name: Octs::from_vec(name),
-        octets: most_octets(&attr.kind),
-    })?;
-    Ok(())
+    leaves.push(room, most_octets(&attr.kind))
 }
 
 fn push_setting(
     alloc: Global,
-    leaves: &mut Vec<Leaf>,
+    leaves: &mut Leaves,
     front: &[u8],
     part: &[u8],
     octets: u32,
 ) -> Result<(), AllocError>
-    ensures { OnOk result (leaves.new.items ≡ leaves.old.items ++ (record { name = below_front front.now part.now; octets = octets }) ∷ []) }
+    ensures { OnOk result (leaves.new ≡ leaves.old ++ (record { name = below_front front.now part.now; octets = octets }) ∷ []) }
 {
-    let name = Octs::from_vec(below(alloc, front, part)?);
-    leaves.push(Leaf { name, octets })?;
-    Ok(())
+    leaves.push(&below(alloc, front, part)?, octets)
 }
 
 /// What a control that is selected first has besides under CF.
-fn push_selection(alloc: Global, leaves: &mut Vec<Leaf>, front: &[u8]) -> Result<(), AllocError>
-    ensures { OnOk result (leaves.new.items ≡ leaves.old.items ++ map (setting_leaf front.now) (codes "sboTimeout" ∷ codes "sboClass" ∷ [])) }
+fn push_selection(alloc: Global, leaves: &mut Leaves, front: &[u8]) -> Result<(), AllocError>
+    ensures { OnOk result (leaves.new ≡ leaves.old ++ map (setting_leaf front.now) (codes "sboTimeout" ∷ codes "sboClass" ∷ [])) }
 {
     push_setting(alloc, leaves, front, b"sboTimeout", 7)?;
     push_setting(alloc, leaves, front, b"sboClass", 3)?;
@@ -83,11 +79,11 @@ fn push_selection(alloc: Global, leaves: &mut Vec<Leaf>, front: &[u8]) -> Result
 /// What a control has under CF.
 fn push_settings(
     alloc: Global,
-    leaves: &mut Vec<Leaf>,
+    leaves: &mut Leaves,
     front: &[u8],
     model: u8,
 ) -> Result<(), AllocError>
-    ensures { OnOk result (leaves.new.items ≡ leaves.old.items ++ map (setting_leaf front.now) (settings model)) }
+    ensures { OnOk result (leaves.new ≡ leaves.old ++ map (setting_leaf front.now) (settings model)) }
 {
     push_setting(alloc, leaves, front, b"ctlModel", 3)?;
     if model == 2 {
@@ -99,8 +95,8 @@ fn push_settings(
     Ok(())
 }
 
-fn push_control(alloc: Global, leaves: &mut Vec<Leaf>, control: &CtlDef) -> Result<(), AllocError>
-    ensures { OnOk result (leaves.new.items ≡ leaves.old.items ++ map (setting_leaf (item_key_of control.now.domain control.now.ln (codes "CF") control.now.path)) (settings control.now.model)) }
+fn push_control(alloc: Global, leaves: &mut Leaves, control: &CtlDef) -> Result<(), AllocError>
+    ensures { OnOk result (leaves.new ≡ leaves.old ++ map (setting_leaf (item_key_of control.now.domain control.now.ln (codes "CF") control.now.path)) (settings control.now.model)) }
 {
     let front = item_key(
         alloc,
@@ -112,23 +108,29 @@ fn push_control(alloc: Global, leaves: &mut Vec<Leaf>, control: &CtlDef) -> Resu
     push_settings(alloc, leaves, &front, control.model)
 }
 
-fn push_leaves(alloc: Global, leaves: &mut Vec<Leaf>, line: &Line) -> Result<(), AllocError>
-    ensures { OnOk result (leaves.new.items ≡ leaves.old.items ++ leaves_by line.now) }
+fn push_leaves(
+    alloc: Global,
+    room: &mut Vec<u8>,
+    leaves: &mut Leaves,
+    line: &Line,
+) -> Result<(), AllocError>
+    ensures { OnOk result (leaves.new ≡ leaves.old ++ leaves_by line.now) }
 {
     match line {
-        Line::Attr(attr) => push_attribute(alloc, leaves, attr),
+        Line::Attr(attr) => push_attribute(room, leaves, attr),
         Line::Ctl(control) => push_control(alloc, leaves, control),
         _ => Ok(()),
     }
 }
 
 /// What lines make, from the first to the last.
-pub fn leaves_of(alloc: Global, lines: &[Line]) -> Result<Vec<Leaf>, AllocError>
-    ensures { IfOk result (λ leaves. leaves.items ≡ leaves_before (reverse lines.now)) }
+pub fn leaves_of(alloc: Global, lines: &[Line]) -> Result<Leaves, AllocError>
+    ensures { IfOk result (λ leaves. leaves ≡ leaves_before (reverse lines.now)) }
 {
-    let mut leaves = Vec::new(alloc);
+    let mut leaves = Leaves::new(alloc);
+    let mut room = Vec::new(alloc);
     for line in lines {
-        push_leaves(alloc, &mut leaves, line)?;
+        push_leaves(alloc, &mut room, &mut leaves, line)?;
     }
     Ok(leaves)
 }

@@ -2,11 +2,13 @@
 #![tactic(auto)]
 
 mod closed;
+mod leaf_list;
 mod leaves;
 mod nodes;
 mod part_names;
 mod parts;
 mod sizes;
 
+pub use leaf_list::Leaves;
 pub use leaves::leaves_of;
 pub use nodes::Nodes;

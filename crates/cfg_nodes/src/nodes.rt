@@ -1,15 +1,18 @@
 //! The nodes that lines make, to look up what a member of a data set names.
 
-ghost use Rattle.std.specs.Prelude.{◌≡◌, ℕ, List, reverse, IfOk};
+ghost use Rattle.std.specs.Prelude.{◌≡◌, ℕ, List, map, reverse, IfOk};
+ghost use Rattle.cfg_lines.specs.Sizes.{children};
 ghost use Rattle.cfg_lines.specs.Keys.{is_among};
 ghost use Rattle.cfg_lines.specs.Nodes.{reaches, is_node, is_member_node};
-ghost use Rattle.cfg_nodes.specs.Indexed.{is_node_in, is_member_in, capped};
+ghost use Rattle.cfg_nodes.specs.Indexed.{is_node_in, is_member_in, parts_in, capped};
 
 use crate::closed::closed_of;
+use crate::leaf_list::Leaves;
 use crate::leaves::element_octets;
 use crate::parts::Parts;
 use crate::sizes::Sizes;
-use cfg_lines::{Keys, Leaf, Line};
+use cfg_lines::{Keys, Line};
+use octet_rows::Index;
 use std::alloc::{AllocError, Global};
 use sv_base::Octs;
 
@@ -35,6 +38,21 @@ fn above_of(alloc: Global, names: &[Octs]) -> Result<Keys, AllocError>
     Ok(keys)
 }
 
+/// The nodes of some leaves, by their octets and by their parts.
+fn of_leaves<'a>(alloc: Global, leaves: &'a Leaves) -> Result<(Sizes<'a>, Parts<'a>), AllocError>
+    ensures sizes { IfOk result (λ both. both.0.leaves.now ≡ leaves.now) }
+    ensures parts { IfOk result (λ both. (node : List ℕ) → parts_in both.1 node ≡ children (map (λ leaf. leaf.name) leaves.now) node) }
+{
+    let mut names = Index::new(alloc);
+    let mut parts = Parts::new(alloc);
+    for place in 0..leaves.len() {
+        let name = leaves.name(place);
+        let hash = parts.add_path(alloc, name)?;
+        names.push_by(hash, name)?;
+    }
+    Ok((Sizes { leaves, names }, parts))
+}
+
 /// The octets, but 501 for all above 500.
 fn cap(octets: u32) -> u32
     ensures { result ≡ capped octets }
@@ -45,19 +63,20 @@ fn cap(octets: u32) -> u32
 impl<'a> Nodes<'a> {
     ghost use Rattle.cfg_lines.specs.Nodes.{leaves as leaves_before};
     ghost use Rattle.cfg_lines.specs.Sizes.{octets_of};
-    ghost use Rattle.cfg_nodes.specs.Indexed.{octets_in, parts_in};
+    ghost use Rattle.cfg_nodes.specs.Indexed.{octets_in};
 
     /// The nodes that lines make, from the first to the last, by the nodes without parts among them.
-    pub fn of(alloc: Global, lines: &[Line], leaves: &'a [Leaf]) -> Result<Self, AllocError>
+    pub fn of(alloc: Global, lines: &[Line], leaves: &'a Leaves) -> Result<Self, AllocError>
         requires { leaves.now ≡ leaves_before (reverse lines.now) }
         ensures nodes { IfOk result (λ nodes. (node : List ℕ) → is_node_in nodes node ≡ is_node (reverse lines.now) node) }
         ensures members { IfOk result (λ nodes. (node : List ℕ) → is_member_in nodes node ≡ is_member_node (reverse lines.now) node) }
     {
-        let closed = closed_of(alloc, lines)?;
+        let closed = above_of(alloc, &closed_of(alloc, lines)?)?;
+        let (sizes, parts) = of_leaves(alloc, leaves)?;
         Ok(Nodes {
-            closed: above_of(alloc, &closed)?,
-            sizes: Sizes::of(alloc, leaves)?,
-            parts: Parts::of(alloc, leaves)?,
+            closed,
+            sizes,
+            parts,
         })
     }
 

@@ -1,83 +1,111 @@
 //! What is directly below each structure.
 
-ghost use Rattle.std.specs.Prelude.{◌≡◌, ◌<◌, ℕ, List, map, IfOk, OnOk};
-ghost use Rattle.indexmap.specs.IndexMap.{index_map_len};
-ghost use Rattle.cfg_lines.specs.Sizes.{with_edge, with_name, children};
-ghost use Rattle.cfg_nodes.specs.Indexed.{IsAt, parts_at};
+ghost use Rattle.std.specs.Prelude.{◌≡◌, ◌<◌, ℕ, List, Option, length, IfOk, OnOk};
+ghost use Rattle.octet_rows.specs.Hashing.{hash_at};
+ghost use Rattle.octet_rows.specs.Found.{place_in};
+ghost use Rattle.cfg_lines.specs.Sizes.{with_name};
+ghost use Rattle.cfg_nodes.specs.Indexed.{IsPlaced, IsWithin, parts_in, with_part};
 
 use crate::part_names::PartNames;
-use cfg_lines::Leaf;
-use indexmap::IndexMap;
+use octet_rows::{Index, RowHash};
 use std::alloc::{AllocError, Global};
 
 /// The parts of the structures above some leaves.
 #[derive(Drop)]
 pub struct Parts<'a> {
-    below: IndexMap<&'a [u8], PartNames<'a>>,
+    structures: Index,
+    /// The parts of each.
+    parts: Vec<PartNames<'a>>,
 }
 
-/// The place of a node, which is added without parts where it isn't there.
-fn place_of<'a>(
-    alloc: Global,
-    below: &mut IndexMap<&'a [u8], PartNames<'a>>,
-    node: &'a [u8],
-) -> Result<usize, AllocError>
-    ensures place { IfOk result (λ i. IsAt node.now below.new.entries i) }
-    ensures within { IfOk result (λ i. i < index_map_len below.new) }
-    ensures same { OnOk result ((other : List ℕ) → parts_at below.new.entries other ≡ parts_at below.old.entries other) }
-{
-    if let Some(place) = below.get_index_of(node) {
-        return Ok(place);
-    }
-    let (place, _) = below.insert_full(node, PartNames::new(alloc))?;
-    Ok(place)
-}
+impl<'a> Parts<'a> {
+    ghost use Rattle.std.specs.Prelude.{[], Some};
 
-fn add_part<'a>(
-    alloc: Global,
-    below: &mut IndexMap<&'a [u8], PartNames<'a>>,
-    node: &'a [u8],
-    part: &'a [u8],
-) -> Result<(), AllocError>
-    ensures { OnOk result ((other : List ℕ) → parts_at below.new.entries other ≡ with_edge other (parts_at below.old.entries other) (node.now, part.now)) }
-{
-    let place = place_of(alloc, below, node)?;
-    below[place].add(part)?;
-    Ok(())
-}
-
-/// Adds to each structure above a path what is below it on the way there.
-fn add_path<'a>(
-    alloc: Global,
-    below: &mut IndexMap<&'a [u8], PartNames<'a>>,
-    path: &'a [u8],
-) -> Result<(), AllocError>
-    ensures { OnOk result ((other : List ℕ) → parts_at below.new.entries other ≡ with_name other (parts_at below.old.entries other) path.now) }
-{
-    let mut part = path;
-    for i in (0..path.len()).rev() {
-        if path[i] == b'$' {
-            add_part(alloc, below, &path[..i], part)?;
-            part = &path[..i];
+    /// There is no structure.
+    pub fn new(alloc: Global) -> Self
+        ensures even { length result.parts.items ≡ length result.structures }
+        ensures none { (other : List ℕ) → parts_in result other ≡ [] }
+    {
+        Parts {
+            structures: Index::new(alloc),
+            parts: Vec::new(alloc),
         }
     }
-    Ok(())
+
+    /// Adds a part to the structure at a place, if there is a place.
+    fn add_part(&mut self, above: Option<usize>, part: &'a [u8]) -> Result<(), AllocError>
+        requires within { IsWithin self.old above }
+        ensures structures { OnOk result (self.new.structures ≡ self.old.structures) }
+        ensures even { OnOk result (length self.new.parts.items ≡ length self.old.parts.items) }
+        ensures parts { OnOk result ((front : Option (List ℕ)) → IsPlaced self.old front above → (other : List ℕ) → parts_in self.new other ≡ with_part other (parts_in self.old other) front part.now) }
+    {
+        if let Some(place) = above {
+            self.parts[place].add(part)?;
+            return Ok(());
+        }
+        Ok(())
+    }
+
+    /// The place of a structure of this number, which is added without parts where it isn't there.
+    fn place_of(&mut self, alloc: Global, hash: u64, node: &[u8]) -> Result<usize, AllocError>
+        requires hash { hash ≡ hash_at node.now }
+        requires even { length self.old.parts.items ≡ length self.old.structures }
+        ensures place { IfOk result (λ place. place_in self.new.structures node.now ≡ Some place) }
+        ensures even { OnOk result (length self.new.parts.items ≡ length self.new.structures) }
+        ensures parts { OnOk result ((other : List ℕ) → parts_in self.new other ≡ parts_in self.old other) }
+    {
+        if let Some(place) = self.structures.place_by(hash, node) {
+            return Ok(place as usize);
+        }
+        let place = self.structures.len();
+        self.structures.push_by(hash, node)?;
+        self.parts.push(PartNames::new(alloc))?;
+        Ok(place)
+    }
+
+    /// Adds a structure of this number below the structure at a place, if there is a place; its place.
+    fn add_structure(
+        &mut self,
+        alloc: Global,
+        above: Option<usize>,
+        hash: u64,
+        node: &'a [u8],
+    ) -> Result<usize, AllocError>
+        requires hash { hash ≡ hash_at node.now }
+        requires even { length self.old.parts.items ≡ length self.old.structures }
+        requires within { IsWithin self.old above }
+        ensures place { IfOk result (λ place. place_in self.new.structures node.now ≡ Some place) }
+        ensures even { OnOk result (length self.new.parts.items ≡ length self.new.structures) }
+        ensures parts { OnOk result ((front : Option (List ℕ)) → IsPlaced self.old front above → (other : List ℕ) → parts_in self.new other ≡ with_part other (parts_in self.old other) front node.now) }
+    {
+        self.add_part(above, node)?;
+        let place = self.place_of(alloc, hash, node)?;
+        Ok(place)
+    }
+
+    /// Adds to each structure above a path what is below it on the way there, and gives the path's number.
+    pub fn add_path(&mut self, alloc: Global, path: &'a [u8]) -> Result<u64, AllocError>
+        requires { length self.old.parts.items ≡ length self.old.structures }
+        ensures number { IfOk result (λ hash. hash ≡ hash_at path.now) }
+        ensures even { OnOk result (length self.new.parts.items ≡ length self.new.structures) }
+        ensures parts { OnOk result ((other : List ℕ) → parts_in self.new other ≡ with_name other (parts_in self.old other) path.now) }
+    {
+        let mut hash = RowHash::new();
+        let mut above = None;
+        for (i, octet) in path.iter().enumerate() {
+            if *octet == b'$' {
+                above = Some(self.add_structure(alloc, above, hash.number(), &path[..i])?);
+            }
+            hash = hash.with(*octet);
+        }
+        self.add_part(above, path)?;
+        Ok(hash.number())
+    }
 }
 
 impl<'a> Parts<'a> {
     ghost use Rattle.std.specs.Prelude.{[], unwrap_or, option_copied};
-    ghost use Rattle.cfg_nodes.specs.Indexed.{parts_in, has_parts};
-
-    /// The parts above these.
-    pub fn of(alloc: Global, leaves: &'a [Leaf]) -> Result<Self, AllocError>
-        ensures { IfOk result (λ parts. (node : List ℕ) → parts_in parts node ≡ children (map (λ leaf. leaf.name) leaves.now) node) }
-    {
-        let mut below = IndexMap::new(alloc);
-        for leaf in leaves {
-            add_path(alloc, &mut below, leaf.name.as_slice())?;
-        }
-        Ok(Parts { below })
-    }
+    ghost use Rattle.cfg_nodes.specs.Indexed.{has_parts};
 
     /// A node has parts.
     pub fn has(&self, node: &[u8]) -> bool
@@ -93,6 +121,7 @@ impl<'a> Parts<'a> {
     pub fn of_node(&self, node: &[u8]) -> Option<&PartNames<'a>>
         ensures { unwrap_or (option_copied result) [] ≡ parts_in self.now node.now }
     {
-        self.below.get(node)
+        let place = self.structures.place_of(node)?;
+        self.parts.get(place as usize)
     }
 }

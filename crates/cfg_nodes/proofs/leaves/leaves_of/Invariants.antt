@@ -3,4 +3,4 @@ use Rattle.cfg_lines.specs.Nodes.{leaves}
 use Rattle.cfg_nodes.proofs.leaves.leaves_of.Given as goal
 
 abbrev pub invariant-loop-line : goal.invariant-loop-line
-invariant-loop-line l = l.leaves.items ≡ leaves (reverse (take l.line-index l.lines))
+invariant-loop-line l = l.leaves ≡ leaves (reverse (take l.line-index l.lines))

@@ -5,10 +5,10 @@ use Rattle.cfg_lines.proofs.KeyLaws.{any-added}
 use Rattle.cfg_lines.proofs.keys.Names.with.Goals as goal
 
 pub invariant_of-result : goal.invariant_of-result
-invariant_of-result c = λ q. c.in_ok-add_above.ensures q
+invariant_of-result c = λ q. c.in_ok-hash.ensures.among q
     ∙ (ap (λ b. is_among (above c.args.path.now) q || b) (c.self.invariant q)
-    ∙ (sym (any-added (λ other. is_among (above other) q) c.self.inside.paths c.args.path.now) ∙ sym (ap (λ ks. is_structure ks q) c.in_ok-add.ensures.items)))
+    ∙ (sym (any-added (λ other. is_among (above other) q) c.self.inside.paths c.args.path.now) ∙ sym (ap (λ ks. is_structure ks q) c.in_ok-add_by.ensures.items)))
 
 pub returns : goal.returns
-returns c = λ q. ap (λ ks. is_taken ks q) c.in_ok-add.ensures.items
+returns c = λ q. ap (λ ks. is_taken ks q) c.in_ok-add_by.ensures.items
     ∙ (any-added (λ other. clashes q other) c.self.inside.paths c.args.path.now ∙ ap (λ ks. clashes q c.args.path.now || is_taken ks q) c.self.view_is)

@@ -9,14 +9,15 @@ use Rattle.cfg_nodes.proofs.nodes.Nodes.of.Goals as goal
 pub returns-clause-nodes : goal.returns-clause-nodes
 returns-clause-nodes c = λ node.
     ap₂ (λ a b. a || b)
-    (ap₂ (λ r parts. is_some r || has_parts parts) (c.in_ok-of.ensures node) (c.in_ok-of-2.ensures node) ∙ (node-there c.args.leaves.now node ∙ ap (λ l. reaches (map (λ leaf. leaf.name) l) node) c.requires))
-    (c.in_ok-above_of.ensures node ∙ ap (λ names. reaches names node) (c.deref.ensures.value ∙ c.in_ok-closed.ensures))
+    (ap₂ (λ r parts. is_some r || has_parts parts) (ap (λ l. leaf_octets l node) c.in_ok-sizes.ensures.sizes) (c.in_ok-sizes.ensures.parts node)
+    ∙ (node-there c.args.leaves.now node ∙ ap (λ l. reaches (map (λ leaf. leaf.name) l) node) c.requires))
+    (c.in_ok-closed.ensures node ∙ ap (λ names. reaches names node) (c.deref.ensures.value ∙ c.in_ok-closed_of.ensures))
 
 pub returns-clause-members : goal.returns-clause-members
 returns-clause-members c = λ node.
     let all = reverse c.args.lines.now in
     ap₂ (λ a b. not a && not (nat_lt 500 b))
-    (c.in_ok-above_of.ensures node ∙ ap (λ names. reaches names node) (c.deref.ensures.value ∙ c.in_ok-closed.ensures))
-    (octets_same 10 (octets_in c.in_ok-of.field-0) (leaf_octets (leaves all)) (parts_in c.in_ok-of-2.field-0) (children (leaf_names all))
-    (λ n. c.in_ok-of.ensures n ∙ ap (λ l. leaf_octets l n) c.requires)
-    (λ n. c.in_ok-of-2.ensures n ∙ ap (λ l. children (map (λ leaf. leaf.name) l) n) c.requires) node)
+    (c.in_ok-closed.ensures node ∙ ap (λ names. reaches names node) (c.deref.ensures.value ∙ c.in_ok-closed_of.ensures))
+    (octets_same 10 (octets_in c.in_ok-sizes.sizes) (leaf_octets (leaves all)) (parts_in c.in_ok-sizes.parts) (children (leaf_names all))
+    (λ n. ap (λ l. leaf_octets l n) (c.in_ok-sizes.ensures.sizes ∙ c.requires))
+    (λ n. c.in_ok-sizes.ensures.parts n ∙ ap (λ l. children (map (λ leaf. leaf.name) l) n) c.requires) node)

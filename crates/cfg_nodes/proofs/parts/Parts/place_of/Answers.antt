@@ -1,0 +1,16 @@
+use Rattle.std.proofs.Common.{Some, [], ◌∷◌, ◌++◌, sym, ap, ap₂, ◌∙◌}
+use Rattle.octet_rows.specs.Found.{place_in}
+use Rattle.cfg_nodes.specs.Indexed.{parts_of}
+use Rattle.cfg_nodes.proofs.PlaceLaws.{parts-pushed, place-pushed}
+use Rattle.cfg_nodes.proofs.parts.Parts.place_of.Goals as goal
+
+pub returns-clause-place : goal.returns-clause-place
+returns-clause-place c =
+    let node = c.args.node.now in
+    ap (λ rows. place_in rows node) c.in_ok-push_by.ensures ∙ (place-pushed c.args.self.now.structures node (sym c.place_by.ensures ∙ c.in_default.is) ∙ ap Some (sym c.len-place.ensures))
+
+pub returns-clause-parts : goal.returns-clause-parts
+returns-clause-parts c = λ other.
+    let items = c.args.self.now.parts.items in
+    ap₂ (λ ps rows. parts_of ps (place_in rows other)) (c.in_ok-push.ensures.items ∙ ap (λ names. items ++ names ∷ []) c.new.ensures) c.in_ok-push_by.ensures
+    ∙ parts-pushed c.args.self.now.structures items c.args.node.now (sym c.place_by.ensures ∙ c.in_default.is) c.requires.even other
