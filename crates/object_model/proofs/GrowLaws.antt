@@ -1,7 +1,7 @@
 -- What one more group grows.
-use Rattle.std.proofs.Common.{◌≡◌, ℕ, zero, suc, ◌+◌, ◌-◌, ◌<◌, ◌≤◌, ◌==◌, subst, take_all, Bool, true, false, ◌&&◌, List, [], ◌∷◌, ◌++◌, map, length, get_or, take, refl, sym, ap, ap₂, ◌∙◌, append_assoc, append-nil, arith, length-append}
+use Rattle.std.proofs.Common.{◌≡◌, ℕ, zero, suc, ◌+◌, ◌-◌, ◌<◌, ◌≤◌, ◌==◌, subst, take_all, Bool, true, false, ◌&&◌, List, [], ◌∷◌, ◌++◌, map, length, get_or, set, take, refl, sym, ap, ap₂, ◌∙◌, append_assoc, append-nil, arith, length-append}
 use Rattle.std.proofs.lemmas.List.{map-append, take_more}
-use Rattle.std.proofs.Math.Seq.{take-append_seam}
+use Rattle.std.proofs.Math.Seq.{take-append_seam, set-append_seam}
 use Rattle.sv_base.specs.declared.types.TypeOf.{TypeOf}
 use Rattle.sv_base.specs.declared.types.Part1.{Part1}
 use Rattle.sv_base.specs.declared.types.TypeOf.TheVariants as types
@@ -17,9 +17,8 @@ use Rattle.object_names.specs.Leaves.{leaves, leaves_side, leaf_code}
 use Rattle.object_model.specs.Leaves.{own, leaves_with}
 use Rattle.object_model.proofs.LeafLaws.{own_tree, count_tree}
 use Rattle.object_model.specs.Groups.{Group, group_at, groups}
-use Rattle.object_model.specs.Grown.{IsGrown, items_of, spot, spot_with, forest_of}
+use Rattle.object_model.specs.Grown.{IsGrown, spot, spot_with, forest_of}
 use Rattle.object_model.specs.declared.growth.Grown.{Grown}
-use Rattle.object_model.specs.declared.growth.Spot.{Spot}
 
 side : (l : ℕ) (ns : List Named) (names : List (List ℕ)) → side_by_side (λ name others. named name (role_of (below name ns)) (own_type (below name ns)) (grown l (below name ns)) others) names ≡ forest_of l (map (group_at ns) names)
 side l ns [] = refl
@@ -78,13 +77,13 @@ leaves-more l [] g = ap length (append-nil (leaves (tree l g))) ∙ omega arith
 leaves-more l (h ∷ hs) g = length-append (leaves (tree l h)) (leaves_side (trees (forest_of l (hs ++ g ∷ [])))) ∙ (ap (λ n. length (leaves (tree l h)) + n) (leaves-more l hs g)
     ∙ (omega arith ∙ ap (λ n. n + length (leaves (tree l g))) (sym (length-append (leaves (tree l h)) (leaves_side (trees (forest_of l hs)))))))
 
-leaves-is : (before : List ℕ) (l : ℕ) (g : Group) (b : Grown) → IsGrown b (before ++ g.name ++ 36 ∷ []) (grown l g.names) → leaves_with g (fields_of b.parts.items) b.leaves ≡ length (leaves (tree l g))
-leaves-is before l g b h = ap (λ fs. leaves_with g fs b.leaves) (ap fields_of h.parts ∙ fields-parts (fields (grown l g.names)))
+leaves-is : (l : ℕ) (g : Group) (b : Grown) → IsGrown b (grown l g.names) → leaves_with g (fields_of b.parts.items) b.leaves ≡ length (leaves (tree l g))
+leaves-is l g b h = ap (λ fs. leaves_with g fs b.leaves) (ap fields_of h.parts ∙ fields-parts (fields (grown l g.names)))
     ∙ (ap (λ n. leaves_with g (fields (grown l g.names)) n) h.leaves ∙ count_tree (role_of g.names) (grown l g.names))
 
 -- the code's node of a group whose parts have grown
-spot-is : (before : List ℕ) (l : ℕ) (g : Group) (b : Grown) → IsGrown b (before ++ g.name ++ 36 ∷ []) (grown l g.names) → spot_with g (fields_of b.parts.items) b.attrs b.is_data b.leaves ≡ spot (node before l g)
-spot-is before l g b h = ap (λ n. record (spot_with g (fields_of b.parts.items) b.attrs b.is_data b.leaves) { leaves = n }) (leaves-is before l g b h)
+pub spot-is : (before : List ℕ) (l : ℕ) (g : Group) (b : Grown) → IsGrown b (grown l g.names) → spot_with g (fields_of b.parts.items) b.attrs b.is_data b.leaves ≡ spot (node before l g)
+spot-is before l g b h = ap (λ n. record (spot_with g (fields_of b.parts.items) b.attrs b.is_data b.leaves) { leaves = n }) (leaves-is l g b h)
     ∙ (ap (λ fs. record (spot_with g fs b.attrs b.is_data b.leaves) { leaves = length (leaves (tree l g)) }) (ap fields_of h.parts ∙ fields-parts (fields (grown l g.names)))
     ∙ (ap (λ o. record (spot_with g (fields (grown l g.names)) b.attrs b.is_data b.leaves) { leaves = length (leaves (tree l g)); own = option_map leaf_code o }) (own_tree (role_of g.names) (grown l g.names))
     ∙ (ap (λ as_. record (spot (node before l g)) { attrs = as_; is_data = is_data_role (role_of g.names) && b.is_data })
@@ -93,7 +92,6 @@ spot-is before l g b h = ap (λ n. record (spot_with g (fields_of b.parts.items)
 
 -- what adding a group does
 pub record Added (old new : Grown) (g : Group) (b : Grown) : Type 0 where
-  pub spots : new.spots.items ≡ old.spots.items ++ (spot_with g (fields_of b.parts.items) b.attrs b.is_data b.leaves ∷ b.spots.items)
   pub parts : new.parts.items ≡ old.parts.items ++ record { name = g.name; kind = type_with (own_type g.names) (fields_of b.parts.items) } ∷ []
   pub attrs : new.attrs ≡ old.attrs + (length (attrs_of_role (role_of g.names)) + b.attrs)
   pub is_data : new.is_data ≡ old.is_data && (is_data_role (role_of g.names) && b.is_data)
@@ -102,33 +100,40 @@ pub record Added (old new : Grown) (g : Group) (b : Grown) : Type 0 where
 abbrev next : (gs : List Group) (i : ℕ) (g : Group) → i < length gs → g ≡ get_or gs i g → take (i + 1) gs ≡ take i gs ++ g ∷ []
 next gs i g h e = take_more gs i g h ∙ ap (λ x. take i gs ++ x ∷ []) (sym e)
 
-pub spots-more : (before : List ℕ) (l : ℕ) (gs : List Group) (i : ℕ) (g : Group) (old new : List Spot) (b : Grown) → i < length gs → g ≡ get_or gs i g → old ≡ map spot (places before (forest_of l (take i gs))) → IsGrown b (before ++ g.name ++ 36 ∷ []) (grown l g.names)
-    → new ≡ old ++ (spot_with g (fields_of b.parts.items) b.attrs b.is_data b.leaves ∷ b.spots.items) → new ≡ map spot (places before (forest_of l (take (i + 1) gs)))
-spots-more before l gs i g old new b h e o p a = a ∙ (ap (λ x. old ++ (x ∷ b.spots.items)) (spot-is before l g b p) ∙ (ap (λ x. old ++ (spot (node before l g) ∷ x)) p.spots ∙ (ap (λ x. x ++ (spot (node before l g) ∷ map spot (parts_in before l g))) o
-    ∙ sym (ap (λ x. map spot (places before (forest_of l x))) (next gs i g h e) ∙ (ap (map spot) (places-more before l (take i gs) g) ∙ map-append spot (places before (forest_of l (take i gs))) (node before l g ∷ parts_in before l g))))))
+-- what is seen of a group's node and of its parts'
+module _ {X : Type 0} (of : Place → X) where
+  pub nodes-more : (before front : List ℕ) (l : ℕ) (gs : List Group) (i : ℕ) (g : Group) (names : List Named) (start old new : List X) (x : X) → i < length gs → g ≡ get_or gs i g → front ≡ before ++ g.name ++ 36 ∷ [] → names ≡ g.names
+      → old ≡ start ++ map of (places before (forest_of l (take i gs))) → x ≡ of (node before l g) → new ≡ old ++ (x ∷ map of (places front (grown l names))) → new ≡ start ++ map of (places before (forest_of l (take (i + 1) gs)))
+  nodes-more before front l gs i g names start old new x h e f n o s k =
+      let done : List Place = places before (forest_of l (take i gs)) in
+      let parts : List X = map of (parts_in before l g) in
+      k ∙ (ap₂ (λ y ns. old ++ (x ∷ map of (places y (grown l ns)))) f n ∙ (ap₂ (λ l (y : X). l ++ (y ∷ parts)) o s
+      ∙ (append_assoc start (map of done) (of (node before l g) ∷ parts)
+      ∙ sym (ap (λ y. start ++ map of (places before (forest_of l y))) (next gs i g h e)
+      ∙ ap (λ y. start ++ y) (ap (map of) (places-more before l (take i gs) g) ∙ map-append of done (node before l g ∷ parts_in before l g))))))
 
--- the item of a group, and those of its parts
-pub items-more : (before front : List ℕ) (l : ℕ) (gs : List Group) (i : ℕ) (g : Group) (names : List Named) (start old mid new : List (List ℕ)) → i < length gs → g ≡ get_or gs i g → front ≡ before ++ g.name ++ 36 ∷ [] → names ≡ g.names
-    → old ≡ start ++ items_of (places before (forest_of l (take i gs))) → mid ≡ old ++ (before ++ g.name) ∷ [] → new ≡ mid ++ items_of (places front (grown l names)) → new ≡ start ++ items_of (places before (forest_of l (take (i + 1) gs)))
-items-more before front l gs i g names start old mid new h e f n o m k =
-    let done : List Place = places before (forest_of l (take i gs)) in
-    let here : List ℕ = before ++ g.name in
-    let parts : List (List ℕ) = items_of (parts_in before l g) in
-    k ∙ (ap₂ (λ x ns. mid ++ items_of (places x (grown l ns))) f n ∙ (ap (λ x. x ++ parts) (m ∙ ap (λ x. x ++ here ∷ []) o)
-    ∙ (append_assoc (start ++ items_of done) (here ∷ []) parts ∙ (append_assoc start (items_of done) (here ∷ parts)
-    ∙ sym (ap (λ x. start ++ items_of (places before (forest_of l x))) (next gs i g h e)
-    ∙ ap (λ x. start ++ x) (ap items_of (places-more before l (take i gs) g) ∙ map-append (λ (p : Place). p.item) done (node before l g ∷ parts_in before l g)))))))
+  pub nodes-whole : (before : List ℕ) (levels : ℕ) (ns : List Named) (gs : List Group) (i : ℕ) (start all : List X) → 0 < levels → length gs ≤ i → gs ≡ groups ns → all ≡ start ++ map of (places before (forest_of (levels - 1) (take i gs))) → all ≡ start ++ map of (places before (grown levels ns))
+  nodes-whole before levels ns gs i start all h l e p = p ∙ ap (λ f. start ++ map of (places before f)) (ap (forest_of (levels - 1)) (take_all i gs l ∙ e) ∙ sym (grown-groups levels ns h))
 
-pub grown-more : (before : List ℕ) (l : ℕ) (gs : List Group) (i : ℕ) (g : Group) (old new b : Grown) → i < length gs → g ≡ get_or gs i g → IsGrown old before (forest_of l (take i gs)) → IsGrown b (before ++ g.name ++ 36 ∷ []) (grown l g.names) → Added old new g b
-    → IsGrown new before (forest_of l (take (i + 1) gs))
-grown-more before l gs i g old new b h e o p a = let next : take (i + 1) gs ≡ take i gs ++ g ∷ [] = next gs i g h e in record {
-  spots = spots-more before l gs i g old.spots.items new.spots.items b h e o.spots p a.spots;
+-- one more, and then others
+pub one-and : {X : Type 0} (old mid new others : List X) (x : X) → mid ≡ old ++ x ∷ [] → new ≡ mid ++ others → new ≡ old ++ (x ∷ others)
+one-and old mid new others x m n = n ∙ (ap (λ l. l ++ others) m ∙ append_assoc old (x ∷ []) others)
+
+-- the same, the one being set behind the others
+pub set-and : {X : Type 0} (old mid now new others : List X) (y x : X) (place : ℕ) → place ≡ length old → mid ≡ old ++ y ∷ [] → now ≡ mid ++ others → new ≡ set now place x → new ≡ old ++ (x ∷ others)
+set-and old mid now new others y x place p m n k = k ∙ (ap₂ (λ l (i : ℕ). set l i x) (one-and old mid now others y m n) p ∙ set-append_seam old y others x)
+
+pub within-set : {X : Type 0} (old mid now others : List X) (y : X) (place : ℕ) → place ≡ length old → mid ≡ old ++ y ∷ [] → now ≡ mid ++ others → place < length now
+within-set old mid now others y place p m n = omega (arith, p, ap length (one-and old mid now others y m n), length-append old (y ∷ others))
+
+pub grown-more : (l : ℕ) (gs : List Group) (i : ℕ) (g : Group) (old new b : Grown) → i < length gs → g ≡ get_or gs i g → IsGrown old (forest_of l (take i gs)) → IsGrown b (grown l g.names) → Added old new g b → IsGrown new (forest_of l (take (i + 1) gs))
+grown-more l gs i g old new b h e o p a = let next : take (i + 1) gs ≡ take i gs ++ g ∷ [] = next gs i g h e in record {
   parts = a.parts ∙ (ap (λ fs. old.parts.items ++ record { name = g.name; kind = type_with (own_type g.names) fs } ∷ []) (ap fields_of p.parts ∙ fields-parts (fields (grown l g.names)))
       ∙ (ap (λ x. x ++ record { name = g.name; kind = type_with (own_type g.names) (fields (grown l g.names)) } ∷ []) o.parts ∙ sym (ap (λ x. parts_of (fields (forest_of l x))) next ∙ parts-more l (take i gs) g)));
   attrs = a.attrs ∙ (ap (λ x. old.attrs + (length (attrs_of_role (role_of g.names)) + x)) p.attrs ∙ (ap (λ x. x + (length (attrs_of_role (role_of g.names)) + length (attrs_in (grown l g.names)))) o.attrs
       ∙ sym (ap (λ x. length (attrs_in (forest_of l x))) next ∙ attrs-more l (take i gs) g)));
   is_data = a.is_data ∙ (ap (λ x. old.is_data && (is_data_role (role_of g.names) && x)) p.is_data ∙ (ap (λ x. x && (is_data_role (role_of g.names) && are_data (grown l g.names))) o.is_data ∙ sym (ap (λ x. are_data (forest_of l x)) next ∙ data-more l (take i gs) g)));
-  leaves = a.leaves ∙ (ap (λ x. old.leaves + x) (leaves-is before l g b p) ∙ (ap (λ x. x + length (leaves (tree l g))) o.leaves ∙ sym (ap (λ x. length (leaves_side (trees (forest_of l x)))) next ∙ leaves-more l (take i gs) g)));
+  leaves = a.leaves ∙ (ap (λ x. old.leaves + x) (leaves-is l g b p) ∙ (ap (λ x. x + length (leaves (tree l g))) o.leaves ∙ sym (ap (λ x. length (leaves_side (trees (forest_of l x)))) next ∙ leaves-more l (take i gs) g)));
 }
 
 -- a type with parts and one without
@@ -140,26 +145,14 @@ pub without_parts : (own : TypeOf) (ps : List Part1) → (length ps == 0) ≡ tr
 without_parts own [] h = refl
 without_parts own (p ∷ ps) h = absurd (grind (arith, nat_tests))
 
-pub parts_grown : (b : Grown) (before : List ℕ) (l : ℕ) (g : Group) (front : List ℕ) (names : List Named) → front ≡ before ++ g.name ++ 36 ∷ [] → names ≡ g.names → IsGrown b front (grown l names) → IsGrown b (before ++ g.name ++ 36 ∷ []) (grown l g.names)
-parts_grown b before l g front names e n p = subst (λ f. IsGrown b f (grown l g.names)) e (subst (λ ns. IsGrown b front (grown l ns)) n p)
-
 -- the path is what it was before a name was entered
 pub back : (before path front after out name : List ℕ) (len : ℕ) → path ≡ before → front ≡ path ++ name ++ 36 ∷ [] → after ≡ front → len ≡ length before → out ≡ take len after → out ≡ before
 back before path front after out name len p f a l o = o ∙ (ap (λ n. take n after) l ∙ (ap (take (length before)) (a ∙ (f ∙ (ap (λ x. x ++ name ++ 36 ∷ []) p ∙ append_assoc before name (36 ∷ [])))) ∙ take-append_seam before (name ++ 36 ∷ [])))
 
 -- all groups
-pub whole : (b : Grown) (before : List ℕ) (levels : ℕ) (ns : List Named) (gs : List Group) (i : ℕ) → 0 < levels → length gs ≤ i → gs ≡ groups ns → IsGrown b before (forest_of (levels - 1) (take i gs)) → IsGrown b before (grown levels ns)
-whole b before levels ns gs i h l e p = subst (λ f. IsGrown b before f) (ap (forest_of (levels - 1)) (take_all i gs l ∙ e) ∙ sym (grown-groups levels ns h)) p
-
-pub whole-top : (spots : List Spot) (levels : ℕ) (ns : List Named) (gs : List Group) (i : ℕ) → length gs ≤ i → gs ≡ groups ns → spots ≡ map spot (places [] (forest_of levels (take i gs))) → spots ≡ map spot (places [] (grown (suc levels) ns))
-whole-top spots levels ns gs i l e p = p ∙ ap (λ f. map spot (places [] f)) (ap (forest_of levels) (take_all i gs l ∙ e) ∙ sym (side levels ns (first_names ns)))
-
-pub some-level : (levels : ℕ) → 0 < levels → suc (levels - 1) ≡ levels
-some-level levels h = omega (arith, h)
-
-pub whole-items : (before : List ℕ) (levels : ℕ) (ns : List Named) (gs : List Group) (i : ℕ) (start items : List (List ℕ)) → length gs ≤ i → gs ≡ groups ns → items ≡ start ++ items_of (places before (forest_of levels (take i gs))) → items ≡ start ++ items_of (places before (grown (suc levels) ns))
-whole-items before levels ns gs i start items l e p = p ∙ ap (λ f. start ++ items_of (places before f)) (ap (forest_of levels) (take_all i gs l ∙ e) ∙ sym (side levels ns (first_names ns)))
+pub whole : (b : Grown) (levels : ℕ) (ns : List Named) (gs : List Group) (i : ℕ) → 0 < levels → length gs ≤ i → gs ≡ groups ns → IsGrown b (forest_of (levels - 1) (take i gs)) → IsGrown b (grown levels ns)
+whole b levels ns gs i h l e p = subst (IsGrown b) (ap (forest_of (levels - 1)) (take_all i gs l ∙ e) ∙ sym (grown-groups levels ns h)) p
 
 -- as many levels as the tree has
-pub all-levels : (levels : ℕ) (ns ms most : List Named) → levels ≡ longest most → most ≡ ns → ms ≡ ns → places [] (grown (suc levels) ms) ≡ places [] (tree_of ns)
-all-levels levels ns ms most e f g = ap (λ l. places [] (grown (suc l) ms)) (e ∙ ap longest f) ∙ ap (λ l. places [] (grown (suc (longest ns)) l)) g
+pub all-levels : (levels : ℕ) (ns ms most : List Named) → levels ≡ suc (longest most) → most ≡ ns → ms ≡ ns → places [] (grown levels ms) ≡ places [] (tree_of ns)
+all-levels levels ns ms most e f g = ap (λ l. places [] (grown l ms)) (e ∙ ap (λ l. suc (longest l)) f) ∙ ap (λ l. places [] (grown (suc (longest ns)) l)) g

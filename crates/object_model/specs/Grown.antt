@@ -1,12 +1,14 @@
 -- What grows out of what is named: the nodes of names side by side, and what these are as parts of a structure.
-use Rattle.std.specs.Prelude.{◌≡◌, ℕ, ◌+◌, List, [], ◌∷◌, ◌&&◌, Bool, map, length}
+use Rattle.std.specs.Prelude.{◌≡◌, ℕ, ◌+◌, List, [], ◌∷◌, ◌&&◌, Bool, false, None, map, length}
 use Rattle.std.specs.Option.{option_map}
+use Rattle.object_names.specs.declared.named.What.TheVariants as whats
 use Rattle.object_names.specs.Leaves.{leaves, leaves_side, leaf_code, what_code}
 use Rattle.object_model.specs.Leaves.{own, own_with, leaves_with}
+use Rattle.sv_base.specs.declared.types.TypeOf.TheVariants as types
 use Rattle.sv_base.specs.Types.{Fields}
 use Rattle.sv_base.specs.Fields.{parts_of}
 use Rattle.bay_model.specs.NameTree.{Forest, nothing, named, role_of, own_type, grown}
-use Rattle.bay_model.specs.Places.{Place, places, fields, attrs_in, are_data, type_with, attrs_of_role, is_data_role, trees}
+use Rattle.bay_model.specs.Places.{Place, fields, attrs_in, are_data, type_with, attrs_of_role, is_data_role, trees}
 use Rattle.object_model.specs.Groups.{Group}
 use Rattle.object_model.specs.declared.growth.Spot.{Spot}
 use Rattle.object_model.specs.declared.growth.Grown.{Grown}
@@ -18,13 +20,16 @@ items_of ps = map (λ (p : Place). p.item) ps
 abbrev pub spot : Place → Spot
 spot p = record { kind = p.kind; attrs = length p.attrs; is_data = p.is_data; what = what_code p.role; own = option_map leaf_code (own p.tree); leaves = length (leaves p.tree) }
 
--- the nodes of names side by side, each after what stands before it, with what they are as parts
-pub record IsGrown (g : Grown) (before : List ℕ) (f : Forest) : Type 0 where
-  pub spots : g.spots.items ≡ map spot (places before f)
+-- names side by side
+pub record IsGrown (g : Grown) (f : Forest) : Type 0 where
   pub parts : g.parts.items ≡ parts_of (fields f)
   pub attrs : g.attrs ≡ length (attrs_in f)
   pub is_data : g.is_data ≡ are_data f
   pub leaves : g.leaves ≡ length (leaves_side (trees f))
+
+-- what stands in the place of a node until its parts have grown
+abbrev pub room : Spot
+room = record { kind = types.Bool; attrs = 0; is_data = false; what = whats.Structure; own = None; leaves = 0 }
 
 -- the names of groups, each as many levels deep
 abbrev pub forest_of : ℕ → List Group → Forest

@@ -1,13 +1,13 @@
 //! The nodes of a domain, grown out of what its lines name: a node before its parts.
 
-ghost use Rattle.std.specs.Prelude.{◌≡◌, ◌+◌, ◌++◌, ◌∷◌, [], ◌&&◌, suc, map, length, IfOk, OnOk};
+ghost use Rattle.std.specs.Prelude.{◌≡◌, ◌<◌, ◌+◌, ◌++◌, ◌∷◌, [], ◌&&◌, set, map, length, IfOk, OnOk};
 ghost use Rattle.std.specs.Option.{option_map};
 ghost use Rattle.sv_base.specs.Fields.{fields_of};
 ghost use Rattle.bay_model.specs.NameTree.{role_of, own_type as own_type_of, grown};
 ghost use Rattle.bay_model.specs.Places.{attrs_of_role, is_data_role, type_with, places};
 ghost use Rattle.object_names.specs.Seen.{role_seen};
 ghost use Rattle.object_names.specs.Leaves.{leaf_code};
-ghost use Rattle.object_model.specs.Grown.{IsGrown, items_of, spot, spot_with};
+ghost use Rattle.object_model.specs.Grown.{IsGrown, items_of, room, spot, spot_with};
 ghost use Rattle.object_model.specs.Leaves.{own_with, own_count, leaves_with};
 
 use crate::grouping::groups;
@@ -30,15 +30,39 @@ pub struct Spot {
     pub leaves: u32,
 }
 
-/// Names side by side: their nodes, what they are as the parts of a structure, how many attributes they have, whether they
-/// hold attributes alone, and how many leaves they have.
+/// The nodes of a domain that have grown so far, their items in the same order, and what stands before the name that grows next.
+#[derive(Drop)]
+pub struct Growth {
+    pub items: Index,
+    pub spots: Vec<Spot>,
+    path: Vec<u8>,
+}
+
+/// Names side by side: what they are as the parts of a structure, how many attributes they have, whether they hold attributes
+/// alone, and how many leaves they have.
 #[derive(Drop)]
 pub struct Grown {
-    pub spots: Vec<Spot>,
     pub parts: Vec<Part1>,
     pub attrs: u32,
     pub is_data: bool,
     pub leaves: u32,
+}
+
+impl Growth {
+    ghost use Rattle.std.specs.Prelude.{◌≡◌, []};
+
+    /// Nothing has grown.
+    pub fn new(alloc: Global) -> Self
+        ensures items { result.items ≡ [] }
+        ensures spots { result.spots.items ≡ [] }
+        ensures path { result.path.items ≡ [] }
+    {
+        Growth {
+            items: Index::new(alloc),
+            spots: Vec::new(alloc),
+            path: Vec::new(alloc),
+        }
+    }
 }
 
 /// What the name itself is; a structure where only parts of it are named.
@@ -141,7 +165,6 @@ fn spot_of(
 
 /// Adds a name to the parts of a structure, by its node.
 fn add_part(alloc: Global, grown: &mut Grown, name: &[u8], spot: &Spot) -> Result<(), AllocError>
-    ensures spots { OnOk result (grown.new.spots.items ≡ grown.old.spots.items) }
     ensures parts { OnOk result (grown.new.parts.items ≡ grown.old.parts.items ++ record { name = name.now; kind = spot.now.kind } ∷ []) }
     ensures attrs { OnOk result (grown.new.attrs ≡ grown.old.attrs + spot.now.attrs) }
     ensures is_data { OnOk result (grown.new.is_data ≡ grown.old.is_data && spot.now.is_data) }
@@ -156,35 +179,38 @@ fn add_part(alloc: Global, grown: &mut Grown, name: &[u8], spot: &Spot) -> Resul
     Ok(())
 }
 
-/// Adds a node and the nodes of its parts.
-fn push_node(spots: &mut Vec<Spot>, spot: Spot, mut below: Vec<Spot>) -> Result<(), AllocError>
-    ensures { OnOk result (spots.new.items ≡ spots.old.items ++ (spot ∷ below.items)) }
+/// Adds the item of a name and room for its node, and goes from what stands before the name to what stands before its parts: the
+/// name and `$` behind it.
+fn enter(growth: &mut Growth, name: &[u8]) -> Result<(), AllocError>
+    ensures items { OnOk result (growth.new.items ≡ growth.old.items ++ (growth.old.path.items ++ name.now) ∷ []) }
+    ensures spots { OnOk result (growth.new.spots.items ≡ growth.old.spots.items ++ room ∷ []) }
+    ensures path { OnOk result (growth.new.path.items ≡ growth.old.path.items ++ name.now ++ 36 ∷ []) }
 {
-    spots.push(spot)?;
-    spots.append(&mut below)?;
+    growth.path.extend_from_slice(name)?;
+    growth.items.push(&growth.path)?;
+    growth.path.push(b'$')?;
+    growth.spots.push(Spot {
+        kind: TypeOf::Bool,
+        attrs: 0,
+        is_data: false,
+        what: What::Structure,
+        own: None,
+        leaves: 0,
+    })?;
     Ok(())
 }
 
-/// Adds the item of a name, and goes from what stands before the name to what stands before its parts: the name and `$` behind
-/// it.
-fn enter(items: &mut Index, path: &mut Vec<u8>, name: &[u8]) -> Result<(), AllocError>
-    ensures items { OnOk result (items.new ≡ items.old ++ (path.old.items ++ name.now) ∷ []) }
-    ensures path { OnOk result (path.new.items ≡ path.old.items ++ name.now ++ 36 ∷ []) }
-{
-    path.extend_from_slice(name)?;
-    items.push(path)?;
-    path.push(b'$')?;
-    Ok(())
-}
-
-/// Adds a group, whose parts have grown.
+/// Adds a group, whose parts have grown, and sets its node.
 fn add_group(
     alloc: Global,
+    spots: &mut Vec<Spot>,
+    place: usize,
     grown: &mut Grown,
     group: &Group<'_>,
     below: Grown,
 ) -> Result<(), AllocError>
-    ensures spots { OnOk result (grown.new.spots.items ≡ grown.old.spots.items ++ (spot_with group.now (fields_of below.parts.items) below.attrs below.is_data below.leaves ∷ below.spots.items)) }
+    requires { place < length spots.old.items }
+    ensures spots { OnOk result (spots.new.items ≡ set spots.old.items place (spot_with group.now (fields_of below.parts.items) below.attrs below.is_data below.leaves)) }
     ensures parts { OnOk result (grown.new.parts.items ≡ grown.old.parts.items ++ record { name = group.now.name; kind = type_with (own_type_of group.now.names) (fields_of below.parts.items) } ∷ []) }
     ensures attrs { OnOk result (grown.new.attrs ≡ grown.old.attrs + (length (attrs_of_role (role_of group.now.names)) + below.attrs)) }
     ensures is_data { OnOk result (grown.new.is_data ≡ grown.old.is_data && (is_data_role (role_of group.now.names) && below.is_data)) }
@@ -199,23 +225,23 @@ fn add_group(
         below.leaves,
     )?;
     add_part(alloc, grown, group.name, &spot)?;
-    push_node(&mut grown.spots, spot, below.spots)
+    spots[place] = spot;
+    Ok(())
 }
 
-/// What grows out of what is named, as many levels deep. The items are added, each name after what stands before it.
+/// What grows out of what is named, as many levels deep: its nodes, a node before its parts, are added with their items.
 pub fn grow(
     alloc: Global,
-    items: &mut Index,
-    path: &mut Vec<u8>,
+    growth: &mut Growth,
     cuts: &[Cut<'_>],
     levels: usize,
 ) -> Result<Grown, AllocError>
-    ensures grown { IfOk result (λ g. IsGrown g path.old.items (grown levels cuts.now)) }
-    ensures items { OnOk result (items.new ≡ items.old ++ items_of (places path.old.items (grown levels cuts.now))) }
-    ensures path { OnOk result (path.new.items ≡ path.old.items) }
+    ensures grown { IfOk result (λ g. IsGrown g (grown levels cuts.now)) }
+    ensures items { OnOk result (growth.new.items ≡ growth.old.items ++ items_of (places growth.old.path.items (grown levels cuts.now))) }
+    ensures spots { OnOk result (growth.new.spots.items ≡ growth.old.spots.items ++ map spot (places growth.old.path.items (grown levels cuts.now))) }
+    ensures path { OnOk result (growth.new.path.items ≡ growth.old.path.items) }
 {
     let mut all = Grown {
-        spots: Vec::new(alloc),
         parts: Vec::new(alloc),
         attrs: 0,
         is_data: true,
@@ -224,56 +250,15 @@ pub fn grow(
     if levels == 0 {
         return Ok(all);
     }
-    let len = path.len();
+    let len = growth.path.len();
     let groups = groups(alloc, cuts)?;
-    all.spots.reserve_exact(groups.len())?;
     all.parts.reserve_exact(groups.len())?;
     for group in groups.as_slice() {
-        enter(items, path, group.name)?;
-        let below = grow(alloc, items, path, &group.cuts, levels - 1)?;
-        path.truncate(len);
-        add_group(alloc, &mut all, group, below)?;
+        let place = growth.spots.len();
+        enter(growth, group.name)?;
+        let below = grow(alloc, growth, &group.cuts, levels - 1)?;
+        growth.path.truncate(len);
+        add_group(alloc, &mut growth.spots, place, &mut all, group, below)?;
     }
     Ok(all)
-}
-
-/// Adds the node of a group at the top, whose parts have grown, and their nodes.
-fn push_top(
-    alloc: Global,
-    spots: &mut Vec<Spot>,
-    group: &Group<'_>,
-    below: Grown,
-) -> Result<(), AllocError>
-    ensures { OnOk result (spots.new.items ≡ spots.old.items ++ (spot_with group.now (fields_of below.parts.items) below.attrs below.is_data below.leaves ∷ below.spots.items)) }
-{
-    let spot = spot_of(
-        alloc,
-        group,
-        below.parts,
-        below.attrs,
-        below.is_data,
-        below.leaves,
-    )?;
-    push_node(spots, spot, below.spots)
-}
-
-/// The nodes that grow out of what is named, so many levels deep below the first. Their items are added.
-pub fn grow_top(
-    alloc: Global,
-    items: &mut Index,
-    cuts: &[Cut<'_>],
-    levels: usize,
-) -> Result<Vec<Spot>, AllocError>
-    ensures spots { IfOk result (λ v. v.items ≡ map spot (places [] (grown (suc levels) cuts.now))) }
-    ensures items { OnOk result (items.new ≡ items.old ++ items_of (places [] (grown (suc levels) cuts.now))) }
-{
-    let mut spots = Vec::new(alloc);
-    let mut path = Vec::new(alloc);
-    for group in groups(alloc, cuts)?.as_slice() {
-        enter(items, &mut path, group.name)?;
-        let below = grow(alloc, items, &mut path, &group.cuts, levels)?;
-        path.clear();
-        push_top(alloc, &mut spots, group, below)?;
-    }
-    Ok(spots)
 }

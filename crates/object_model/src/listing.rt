@@ -6,7 +6,7 @@ ghost use Rattle.object_model.specs.Listed.{IsDirectoryOf, IsListed, IsOneMore};
 ghost use Rattle.object_model.specs.Nodes.{places_from};
 
 use crate::attrs::attrs_of;
-use crate::nodes::{NodeName, push_nodes, spots_of};
+use crate::nodes::{NodeName, growth_of, push_nodes};
 use crate::stands::{Stand, push_stands};
 use bay_model::NodeRow;
 use name_order::places_in_order;
@@ -58,8 +58,8 @@ fn push_domain(
 ) -> Result<(), AllocError>
     ensures { OnOk result (IsOneMore listing.old listing.new (places_from lines.now domain.now)) }
 {
-    let mut items = Index::new(alloc);
-    let spots = spots_of(alloc, &mut items, lines, domain)?;
+    let growth = growth_of(alloc, lines, domain)?;
+    let (items, spots) = (growth.items, growth.spots);
     let first = count(listing.rows.as_slice().len())?;
     let number = count(listing.directories.as_slice().len())?;
     push_stands(&mut listing.stands, &mut listing.leaves, &spots)?;

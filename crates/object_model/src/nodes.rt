@@ -1,6 +1,6 @@
 //! The nodes of a configuration by their numbers.
 
-ghost use Rattle.std.specs.Prelude.{◌≡◌, ◌++◌, ◌∷◌, [], ◌&&◌, ◌==◌, map, filter, flat_map, length, IfOk, OnOk};
+ghost use Rattle.std.specs.Prelude.{◌≡◌, ◌++◌, ◌∷◌, [], ◌&&◌, ◌==◌, map, filter, flat_map, length, suc, IfOk, OnOk};
 ghost use Rattle.std.specs.List.{list_any};
 ghost use Rattle.std.specs.Str.{bytes_eq};
 ghost use Rattle.bay_model.specs.NamedLines.{Line as ModelLine};
@@ -12,7 +12,7 @@ ghost use Rattle.object_model.specs.Nodes.{names_at, places_from};
 
 use crate::attrs::own_count;
 use crate::growing::{Cut, behind, front};
-use crate::growth::{Spot, grow_top};
+use crate::growth::{Growth, Spot, grow};
 use crate::largest::largest;
 use bay_model::{AttrIds, MemberShape, NodeRow};
 use name_order::name_at;
@@ -69,29 +69,26 @@ fn names_of<'a>(
     Ok(cuts)
 }
 
-/// How many octets the longest item has.
-fn longest(cuts: &[Cut<'_>]) -> usize
-    ensures { result ≡ longest_of cuts.now }
+/// How many levels the tree of names has at most: one more than the longest item has octets.
+fn levels_of(cuts: &[Cut<'_>]) -> usize
+    ensures { result ≡ suc (longest_of cuts.now) }
 {
-    let mut most = 0;
+    let mut most = 1;
     for cut in cuts {
-        most = most.max(cut.rest.len());
+        most = most.max(cut.rest.len() + 1);
     }
     most
 }
 
-/// The nodes of a domain, each before its parts. Their items are added.
-pub fn spots_of(
-    alloc: Global,
-    items: &mut Index,
-    lines: &[Line<'_>],
-    domain: &[u8],
-) -> Result<Vec<Spot>, AllocError>
-    ensures spots { IfOk result (λ v. v.items ≡ map spot (places_from lines.now domain.now)) }
-    ensures items { OnOk result (items.new ≡ items.old ++ items_of (places_from lines.now domain.now)) }
+/// The nodes of a domain, each before its parts, and their items.
+pub fn growth_of(alloc: Global, lines: &[Line<'_>], domain: &[u8]) -> Result<Growth, AllocError>
+    ensures items { IfOk result (λ growth. growth.items ≡ items_of (places_from lines.now domain.now)) }
+    ensures spots { IfOk result (λ growth. growth.spots.items ≡ map spot (places_from lines.now domain.now)) }
 {
     let cuts = names_of(alloc, lines, domain)?;
-    grow_top(alloc, items, &cuts, longest(&cuts))
+    let mut growth = Growth::new(alloc);
+    grow(alloc, &mut growth, &cuts, levels_of(&cuts))?;
+    Ok(growth)
 }
 
 /// The functional constraint of an item, its second name (IEC 61850-8-1).

@@ -10,10 +10,10 @@ use Rattle.object_model.proofs.listing.push_domain.Goals as goal
 pub returns : goal.returns
 returns c =
     let ps : List Place = places_from c.args.lines.now c.args.domain.now in
-    let spots : c.in_ok-spots.spots.items ≡ map spot ps = c.in_ok-spots.ensures.spots in
-    let items : c.spots_of.new.items ≡ items_of ps = c.in_ok-spots.ensures.items ∙ ap (λ l. l ++ items_of ps) c.new-items.ensures in record {
-      rows = c.in_ok-push_nodes.ensures.rows ∙ (ap (λ l. c.args.listing.now.rows.items ++ rows_with (length c.args.listing.now.rows.items) l c.in_ok-attrs.attrs c.in_ok-spots.spots.items) items
-          ∙ (ap (λ l. c.args.listing.now.rows.items ++ rows_with (length c.args.listing.now.rows.items) (items_of ps) l c.in_ok-spots.spots.items) (c.in_ok-attrs.ensures ∙ ap attrs_in_spots c.deref-2.ensures.value)
+    let spots : c.in_ok-growth.growth.spots.items ≡ map spot ps = c.in_ok-growth.ensures.spots in
+    let items : c.in_ok-growth.growth.items ≡ items_of ps = c.in_ok-growth.ensures.items in record {
+      rows = c.in_ok-push_nodes.ensures.rows ∙ (ap (λ l. c.args.listing.now.rows.items ++ rows_with (length c.args.listing.now.rows.items) l c.in_ok-attrs.attrs c.in_ok-growth.growth.spots.items) items
+          ∙ (ap (λ l. c.args.listing.now.rows.items ++ rows_with (length c.args.listing.now.rows.items) (items_of ps) l c.in_ok-growth.growth.spots.items) (c.in_ok-attrs.ensures ∙ ap attrs_in_spots c.deref-2.ensures.value)
           ∙ ap (λ l. c.args.listing.now.rows.items ++ rows_with (length c.args.listing.now.rows.items) (items_of ps) (attrs_in_spots l) l) spots));
       names = c.in_ok-push_nodes.ensures.names ∙ (ap (λ l. c.args.listing.now.names.items ++ names_at c.in_ok-number.number 0 l) spots
           ∙ ap (λ k. c.args.listing.now.names.items ++ names_at k 0 (map spot ps)) (c.in_ok-number.ensures ∙ ap length c.as_slice-2.ensures.value));
