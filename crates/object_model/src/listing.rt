@@ -1,6 +1,7 @@
 //! The nodes of a configuration, listed domain by domain.
 
-ghost use Rattle.std.specs.Prelude.{◌≡◌, length, IfOk, OnOk};
+ghost use Rattle.std.specs.Prelude.{◌≡◌, ℕ, length, IfOk, OnOk};
+ghost use Rattle.sv_base.specs.declared.config.Config.{Config as ModelConfig};
 ghost use Rattle.bay_model.specs.NamedLines.{domains as domains_of, lines as lines_of, in_order as lines_in_order};
 ghost use Rattle.object_model.specs.Listed.{IsDirectoryOf, IsListed, IsOneMore};
 ghost use Rattle.object_model.specs.Nodes.{places_from};
@@ -40,7 +41,9 @@ pub struct Listing {
 fn directory_of(alloc: Global, first: u32, items: Index) -> Result<Directory, AllocError>
     ensures { IfOk result (λ d. IsDirectoryOf first items d) }
 {
+    let mut items = items;
     let _end = plus(first, count(items.len())?)?;
+    items.shrink_to_fit();
     let ascending = places_in_order(alloc, &items)?;
     Ok(Directory {
         first,
@@ -72,6 +75,16 @@ fn push_domain(
     Ok(())
 }
 
+/// Gives back the memory beyond what is listed.
+fn fit(listing: &mut Listing)
+    ensures { (c : ModelConfig) (i : ℕ) → IsListed c i listing.old → IsListed c i listing.new }
+{
+    listing.rows.shrink_to_fit();
+    listing.names.shrink_to_fit();
+    listing.stands.shrink_to_fit();
+    listing.leaves.shrink_to_fit();
+}
+
 /// The nodes of the domains, whose lines stand in their order.
 pub fn list(
     alloc: Global,
@@ -93,5 +106,6 @@ pub fn list(
     for domain in domains {
         push_domain(alloc, &mut listing, lines, domain.as_slice())?;
     }
+    fit(&mut listing);
     Ok(listing)
 }

@@ -175,6 +175,7 @@ impl Attributes {
         push_lines(&mut attrs, config.attrs.as_slice())?;
         push_generated(&mut attrs, config.controls.as_slice())?;
         push_twins(&mut attrs, config.attrs.as_slice())?;
+        attrs.references.shrink_to_fit();
         Ok(attrs)
     }
 }

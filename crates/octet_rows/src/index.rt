@@ -1,11 +1,11 @@
 //! Rows of octets, each found by its octets.
 
-ghost use Rattle.std.specs.Prelude.{◌≡◌, nat_eq, IfOk, OnOk, OnErr};
+ghost use Rattle.std.specs.Prelude.{◌≡◌, nat_eq, OnOk, OnErr};
 ghost use Rattle.indexmap.specs.IndexMap.{get};
 ghost use Rattle.octet_rows.specs.Found.{is_at as is_row_at, first_at as first_row_at, with_first, IsNoted, IsSame};
 
 use crate::hashing::hash_of;
-use crate::rows::Rows;
+use crate::rows::{Rows, number_of};
 use indexmap::IndexMap;
 use std::alloc::{AllocError, Global};
 use std::marker::Model;
@@ -74,16 +74,6 @@ fn first_of(first: &IndexMap<u64, u32>, hash: u64) -> Option<u32>
     first.get(&hash).copied()
 }
 
-/// The number of a place.
-fn place_of_len(len: usize) -> Result<u32, AllocError>
-    ensures { IfOk result (λ place. place ≡ len) }
-{
-    if len > 0xffff_ffff {
-        return Err(AllocError);
-    }
-    Ok(len as u32)
-}
-
 /// Notes the place of a row with this number. Where it fails, nothing is noted.
 fn note(
     first: &mut IndexMap<u64, u32>,
@@ -103,7 +93,7 @@ fn note(
 }
 
 impl Index {
-    ghost use Rattle.std.specs.Prelude.{◌≡◌, ◌++◌, ◌∷◌, [], length, slice_get, option_copied, OnOk};
+    ghost use Rattle.std.specs.Prelude.{◌≡◌, ◌++◌, ◌∷◌, [], length, slice_get, option_copied, OnOk, OnErr};
     ghost use Rattle.octet_rows.specs.Hashing.{hash_at};
     ghost use Rattle.octet_rows.specs.Found.{place_in};
 
@@ -148,13 +138,23 @@ impl Index {
         self.place_by(hash_of(row), row)
     }
 
-    /// Adds a row by its number, which may be there already.
+    /// Gives back the memory beyond what the rows take.
+    pub fn shrink_to_fit(&mut self)
+        ensures { self.new ≡ self.old }
+    {
+        self.rows.shrink_to_fit();
+        self.first.shrink_to_fit();
+        self.further.shrink_to_fit();
+    }
+
+    /// Adds a row by its number, which may be there already. Where it fails, none is added.
     pub fn push_by(&mut self, hash: u64, row: &[u8]) -> Result<(), AllocError>
         requires { hash ≡ hash_at row.now }
-        ensures { OnOk result (self.new ≡ self.old ++ row.now ∷ []) }
+        ensures ok { OnOk result (self.new ≡ self.old ++ row.now ∷ []) }
+        ensures err { OnErr result (self.new ≡ self.old) }
     {
         let len = self.rows.len();
-        let place = place_of_len(len)?;
+        let place = number_of(len)?;
         self.rows.push(row)?;
         match note(&mut self.first, &mut self.further, hash, place) {
             Ok(()) => Ok(()),
@@ -165,9 +165,10 @@ impl Index {
         }
     }
 
-    /// Adds a row, which may be there already.
+    /// Adds a row, which may be there already. Where it fails, none is added.
     pub fn push(&mut self, row: &[u8]) -> Result<(), AllocError>
-        ensures { OnOk result (self.new ≡ self.old ++ row.now ∷ []) }
+        ensures ok { OnOk result (self.new ≡ self.old ++ row.now ∷ []) }
+        ensures err { OnErr result (self.new ≡ self.old) }
     {
         self.push_by(hash_of(row), row)
     }

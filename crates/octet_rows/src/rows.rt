@@ -1,13 +1,36 @@
 //! Octet rows that lie one behind the other.
 
+ghost use Rattle.std.specs.Prelude.{◌≡◌, ◌+◌, IfOk};
+
 use std::alloc::{AllocError, Global};
 use std::marker::Model;
 
 /// Where a row lies among the octets of all.
 #[derive(Clone, Copy)]
 struct Extent {
-    start: usize,
-    end: usize,
+    start: u32,
+    end: u32,
+}
+
+/// The number of a place; one that is too large for a number is refused as memory that is wanting.
+pub(crate) fn number_of(place: usize) -> Result<u32, AllocError>
+    ensures { IfOk result (λ number. number ≡ place) }
+{
+    if place > 0xffff_ffff {
+        return Err(AllocError);
+    }
+    Ok(place as u32)
+}
+
+/// Where a row of so many octets lies behind others.
+fn extent_behind(octets: usize, len: usize) -> Result<Extent, AllocError>
+    ensures { IfOk result (λ extent. extent ≡ record { start = octets; end = octets + len }) }
+{
+    let end = octets.checked_add(len).ok_or(AllocError)?;
+    Ok(Extent {
+        start: number_of(octets)?,
+        end: number_of(end)?,
+    })
 }
 
 /// Octet rows, seen by contracts as the list of them.
@@ -53,7 +76,7 @@ impl Rows {
         ensures { option_copied result ≡ slice_get self.now place }
     {
         let extent = self.extents.get(place)?;
-        Some(&self.octets[extent.start..extent.end])
+        Some(&self.octets[extent.start as usize..extent.end as usize])
     }
 
     /// Adds a row. Where it fails, none is added.
@@ -61,16 +84,23 @@ impl Rows {
         ensures ok { OnOk result (self.new ≡ self.old ++ row.now ∷ []) }
         ensures err { OnErr result (self.new ≡ self.old) }
     {
-        let start = self.octets.len();
+        let extent = extent_behind(self.octets.len(), row.len())?;
         self.octets.extend_from_slice(row)?;
-        let end = self.octets.len();
-        self.extents.push(Extent { start, end })?;
+        self.extents.push(extent)?;
         Ok(())
     }
 }
 
 impl Rows {
     ghost use Rattle.std.specs.Prelude.{◌≡◌, take};
+
+    /// Gives back the memory beyond what the rows take.
+    pub fn shrink_to_fit(&mut self)
+        ensures { self.new ≡ self.old }
+    {
+        self.octets.shrink_to_fit();
+        self.extents.shrink_to_fit();
+    }
 
     /// Keeps so many of the first rows.
     pub fn truncate(&mut self, len: usize)

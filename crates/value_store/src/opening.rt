@@ -187,7 +187,7 @@ impl Store {
         requires { IsStorable config.now }
         ensures { IfOk result (λ s. s ≡ opened config.now) }
     {
-        let mut cells = Vec::new(alloc);
+        let mut cells = Vec::with_capacity(alloc, config.attrs.len())?;
         push_lines(alloc, &mut cells, config, config.attrs.as_slice())?;
         push_generated(alloc, &mut cells, config.controls.as_slice())?;
         push_twins(alloc, &mut cells, config.attrs.as_slice())?;

@@ -10,4 +10,4 @@ pub loop-domain-preserved : goal.loop-domain-preserved
 loop-domain-preserved c = listed-next c.args.config.now c.args.domains.now c.args.lines.now c.loop-domain.domain-index c.as_slice.result.now c.domain-item.result c.loop-domain.listing _ c.requires.domains c.requires.lines c.loop-domain-test.true c.domain-item.is c.as_slice.ensures c.loop-domain.invariant c.in_ok-push_domain.ensures
 
 pub returns : goal.returns
-returns c = subst (λ n. IsListed c.args.config.now n c.loop-domain.listing) (omega (arith, c.loop-domain-test.false, c.loop-domain.auto.domain-index-end, ap length c.requires.domains)) c.loop-domain.invariant
+returns c = c.fit.ensures c.args.config.now _ (subst (λ n. IsListed c.args.config.now n c.loop-domain.listing) (omega (arith, c.loop-domain-test.false, c.loop-domain.auto.domain-index-end, ap length c.requires.domains)) c.loop-domain.invariant)
