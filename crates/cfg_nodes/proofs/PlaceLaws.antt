@@ -1,12 +1,13 @@
 -- The parts of the structure at a place, with one more.
-use Rattle.std.proofs.Common.{◌≡◌, ◌<◌, ◌≢◌, ℕ, zero, suc, Bool, true, false, List, [], ◌∷◌, ◌++◌, length, get_or, Option, None, Some, unwrap_or, slice_get, slice_set, refl, sym, ap, ◌∙◌, arith, true≢false, if◌then◌else◌}
+use Rattle.std.proofs.Common.{◌≡◌, ◌<◌, ◌≢◌, ℕ, zero, suc, Bool, true, false, ◌||◌, List, [], ◌∷◌, ◌++◌, length, get_or, Option, None, Some, is_some, unwrap_or, slice_get, slice_set, refl, sym, ap, ◌∙◌, arith, true≢false, if◌then◌else◌}
 use Rattle.std.specs.Option.{option_or}
 use Rattle.std.specs.Str.{bytes_eq}
 use Rattle.std.proofs.lemmas.List.Quantifiers.{position-Some}
 use Rattle.std.proofs.lemmas.Slice.Eq.{bytes_eq-Decides}
 use Rattle.list_laws.proofs.Places.{position-push}
 use Rattle.octet_rows.specs.Found.{place_in}
-use Rattle.cfg_lines.specs.Keys.{added}
+use Rattle.cfg_lines.specs.Keys.{is_among, added}
+use Rattle.cfg_lines.proofs.KeyLaws.{placed}
 use Rattle.cfg_lines.specs.Sizes.{with_edge}
 use Rattle.cfg_nodes.specs.Indexed.{parts_of, parts_in, with_part, IsPlaced}
 use Rattle.cfg_nodes.specs.declared.parts.Parts.{Parts}
@@ -22,6 +23,18 @@ same-place : (structures : Names) (node other : List ℕ) (place : ℕ) → plac
 same-place structures node other place here there =
     (bytes_eq-Decides other (get_or structures place [])).0 (position-Some (bytes_eq other) structures place [] there).1
     ∙ sym ((bytes_eq-Decides node (get_or structures place [])).0 (position-Some (bytes_eq node) structures place [] here).1)
+
+pub assoc : (a b c : Bool) → ((a || b) || c) ≡ (a || (b || c))
+assoc true b c = refl
+assoc false b c = refl
+
+-- a name that has a place is among the structures already
+pub among-there : (structures : Names) (node : List ℕ) (place : ℕ) → place_in structures node ≡ Some place → (q : List ℕ) → (bytes_eq q node || is_among structures q) ≡ is_among structures q
+among-there structures node place is q = by (bytes_eq q node) refl
+  where
+    by : (b : Bool) → bytes_eq q node ≡ b → (b || is_among structures q) ≡ is_among structures q
+    by false e = refl
+    by true e = sym (ap (is_among structures) ((bytes_eq-Decides q node).0 e) ∙ (sym (placed (bytes_eq node) structures) ∙ ap is_some is))
 
 -- ---- a structure without parts
 without-more : (parts : List Names) (place : ℕ) → unwrap_or (slice_get (parts ++ [] ∷ []) place) [] ≡ unwrap_or (slice_get parts place) []
@@ -75,5 +88,5 @@ parts-written structures parts front part place w at lt new other = by (bytes_eq
 -- at the place of a structure that may not be there
 pub part-added : (parts : Parts) (above : Option ℕ) (place : ℕ) (part : List ℕ) (w : Names) → above ≡ Some place → place < length parts.parts.items → w ≡ added (unwrap_or (slice_get parts.parts.items place) []) part
     → (front : Option (List ℕ)) → IsPlaced parts front above → (other : List ℕ) → parts_of (slice_set parts.parts.items place w) (place_in parts.structures other) ≡ with_part other (parts_in parts other) front part
-part-added parts above place part w is lt new None placed other = absurd cc
-part-added parts above place part w is lt new (Some front) placed other = parts-written parts.structures parts.parts.items front part place w (sym placed.0 ∙ is) lt new other
+part-added parts above place part w is lt new None at other = absurd cc
+part-added parts above place part w is lt new (Some front) at other = parts-written parts.structures parts.parts.items front part place w (sym at.0 ∙ is) lt new other

@@ -1,5 +1,5 @@
 -- What an index of nodes finds.
-use Rattle.std.specs.Prelude.{◌≡◌, ◌<◌, ℕ, zero, suc, ◌==◌, ◌||◌, ◌&&◌, not, nat_lt, Bool, true, false, List, [], ◌∷◌, length, take, slice_get, slice_index, Option, Some, None, is_some, unwrap_or, if◌then◌else◌}
+use Rattle.std.specs.Prelude.{◌≡◌, ◌<◌, ℕ, zero, suc, ◌==◌, ◌||◌, ◌&&◌, not, nat_lt, Bool, true, List, [], length, take, slice_get, slice_index, Option, Some, None, is_some, unwrap_or, if◌then◌else◌}
 use Rattle.octet_rows.specs.Found.{place_in}
 use Rattle.cfg_lines.specs.Keys.{is_among}
 use Rattle.cfg_lines.specs.Sizes.{octets_of, leaf_octets, with_edge, with_name}
@@ -40,17 +40,13 @@ abbrev pub with_front : List ℕ → List (List ℕ) → Option (List ℕ) → L
 with_front node parts None = parts
 with_front node parts (Some front) = with_name node parts front
 
-abbrev pub has_parts : List (List ℕ) → Bool
-has_parts [] = false
-has_parts (part ∷ parts) = true
-
 -- a number, if it is at most 500, and else 501
 abbrev pub capped : ℕ → ℕ
 capped octets = if nat_lt 500 octets then 501 else octets
 
--- a node has octets of its own or parts, or no data set may have it
+-- a node has octets of its own or is a structure, or no data set may have it
 abbrev pub is_node_in : Nodes → List ℕ → Bool
-is_node_in nodes node = (is_some (octets_in nodes.sizes node) || has_parts (parts_in nodes.parts node)) || is_among nodes.closed node
+is_node_in nodes node = (is_some (octets_in nodes.sizes node) || is_among nodes.parts.structures node) || is_among nodes.closed node
 
 abbrev pub is_member_in : Nodes → List ℕ → Bool
 is_member_in nodes node = not (is_among nodes.closed node) && not (nat_lt 500 (octets_of 10 (octets_in nodes.sizes) (parts_in nodes.parts) node))

@@ -2,7 +2,9 @@
 
 ghost use Rattle.std.specs.Prelude.{◌≡◌, ℕ, List, map, reverse, IfOk};
 ghost use Rattle.cfg_lines.specs.Sizes.{children};
+ghost use Rattle.std.specs.List.{list_any};
 ghost use Rattle.cfg_lines.specs.Keys.{is_among};
+ghost use Rattle.cfg_lines.specs.Paths.{above};
 ghost use Rattle.cfg_lines.specs.Nodes.{reaches, is_node, is_member_node};
 ghost use Rattle.cfg_nodes.specs.Indexed.{is_node_in, is_member_in, parts_in, capped};
 
@@ -41,6 +43,7 @@ fn above_of(alloc: Global, names: &[Octs]) -> Result<Keys, AllocError>
 /// The nodes of some leaves, by their octets and by their parts.
 fn of_leaves<'a>(alloc: Global, leaves: &'a Leaves) -> Result<(Sizes<'a>, Parts<'a>), AllocError>
     ensures sizes { IfOk result (λ both. both.0.leaves.now ≡ leaves.now) }
+    ensures structures { IfOk result (λ both. (node : List ℕ) → is_among both.1.structures node ≡ list_any (λ name. is_among (above name) node) (map (λ leaf. leaf.name) leaves.now)) }
     ensures parts { IfOk result (λ both. (node : List ℕ) → parts_in both.1 node ≡ children (map (λ leaf. leaf.name) leaves.now) node) }
 {
     let mut names = Index::new(alloc);

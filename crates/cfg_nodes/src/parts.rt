@@ -1,8 +1,11 @@
 //! What is directly below each structure.
 
-ghost use Rattle.std.specs.Prelude.{◌≡◌, ◌<◌, ℕ, List, Option, length, IfOk, OnOk};
+ghost use Rattle.std.specs.Prelude.{◌≡◌, ◌||◌, ℕ, List, Option, length, IfOk, OnOk};
 ghost use Rattle.octet_rows.specs.Hashing.{hash_at};
 ghost use Rattle.octet_rows.specs.Found.{place_in};
+ghost use Rattle.std.specs.Str.{bytes_eq};
+ghost use Rattle.cfg_lines.specs.Keys.{is_among};
+ghost use Rattle.cfg_lines.specs.Paths.{above};
 ghost use Rattle.cfg_lines.specs.Sizes.{with_name};
 ghost use Rattle.cfg_nodes.specs.Indexed.{IsPlaced, IsWithin, parts_in, with_part};
 
@@ -24,6 +27,7 @@ impl<'a> Parts<'a> {
     /// There is no structure.
     pub fn new(alloc: Global) -> Self
         ensures even { length result.parts.items ≡ length result.structures }
+        ensures structures { result.structures ≡ [] }
         ensures none { (other : List ℕ) → parts_in result other ≡ [] }
     {
         Parts {
@@ -51,6 +55,7 @@ impl<'a> Parts<'a> {
         requires hash { hash ≡ hash_at node.now }
         requires even { length self.old.parts.items ≡ length self.old.structures }
         ensures place { IfOk result (λ place. place_in self.new.structures node.now ≡ Some place) }
+        ensures among { OnOk result ((q : List ℕ) → is_among self.new.structures q ≡ (bytes_eq q node.now || is_among self.old.structures q)) }
         ensures even { OnOk result (length self.new.parts.items ≡ length self.new.structures) }
         ensures parts { OnOk result ((other : List ℕ) → parts_in self.new other ≡ parts_in self.old other) }
     {
@@ -75,6 +80,7 @@ impl<'a> Parts<'a> {
         requires even { length self.old.parts.items ≡ length self.old.structures }
         requires within { IsWithin self.old above }
         ensures place { IfOk result (λ place. place_in self.new.structures node.now ≡ Some place) }
+        ensures among { OnOk result ((q : List ℕ) → is_among self.new.structures q ≡ (bytes_eq q node.now || is_among self.old.structures q)) }
         ensures even { OnOk result (length self.new.parts.items ≡ length self.new.structures) }
         ensures parts { OnOk result ((front : Option (List ℕ)) → IsPlaced self.old front above → (other : List ℕ) → parts_in self.new other ≡ with_part other (parts_in self.old other) front node.now) }
     {
@@ -87,6 +93,7 @@ impl<'a> Parts<'a> {
     pub fn add_path(&mut self, alloc: Global, path: &'a [u8]) -> Result<u64, AllocError>
         requires { length self.old.parts.items ≡ length self.old.structures }
         ensures number { IfOk result (λ hash. hash ≡ hash_at path.now) }
+        ensures among { OnOk result ((q : List ℕ) → is_among self.new.structures q ≡ (is_among (above path.now) q || is_among self.old.structures q)) }
         ensures even { OnOk result (length self.new.parts.items ≡ length self.new.structures) }
         ensures parts { OnOk result ((other : List ℕ) → parts_in self.new other ≡ with_name other (parts_in self.old other) path.now) }
     {
@@ -105,16 +112,12 @@ impl<'a> Parts<'a> {
 
 impl<'a> Parts<'a> {
     ghost use Rattle.std.specs.Prelude.{[], unwrap_or, option_copied};
-    ghost use Rattle.cfg_nodes.specs.Indexed.{has_parts};
 
     /// A node has parts.
     pub fn has(&self, node: &[u8]) -> bool
-        ensures { result ≡ has_parts (parts_in self.now node.now) }
+        ensures { result ≡ is_among self.now.structures node.now }
     {
-        match self.of_node(node) {
-            Some(parts) => !parts.names().is_empty(),
-            None => false,
-        }
+        self.structures.place_of(node).is_some()
     }
 
     /// What is directly below a node, if it is there.

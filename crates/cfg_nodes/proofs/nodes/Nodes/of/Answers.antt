@@ -1,7 +1,7 @@
 use Rattle.std.proofs.Common.{◌&&◌, ◌||◌, not, is_some, nat_lt, map, reverse, ap, ap₂, ◌∙◌}
 use Rattle.cfg_lines.specs.Nodes.{leaves, reaches, leaf_names}
 use Rattle.cfg_lines.specs.Sizes.{leaf_octets, children}
-use Rattle.cfg_nodes.specs.Indexed.{octets_in, parts_in, has_parts}
+use Rattle.cfg_nodes.specs.Indexed.{octets_in, parts_in}
 use Rattle.cfg_nodes.proofs.OctetLaws.{octets_same}
 use Rattle.cfg_nodes.proofs.PresenceLaws.{node-there}
 use Rattle.cfg_nodes.proofs.nodes.Nodes.of.Goals as goal
@@ -9,7 +9,7 @@ use Rattle.cfg_nodes.proofs.nodes.Nodes.of.Goals as goal
 pub returns-clause-nodes : goal.returns-clause-nodes
 returns-clause-nodes c = λ node.
     ap₂ (λ a b. a || b)
-    (ap₂ (λ r parts. is_some r || has_parts parts) (ap (λ l. leaf_octets l node) c.in_ok-sizes.ensures.sizes) (c.in_ok-sizes.ensures.parts node)
+    (ap₂ (λ r b. is_some r || b) (ap (λ l. leaf_octets l node) c.in_ok-sizes.ensures.sizes) (c.in_ok-sizes.ensures.structures node)
     ∙ (node-there c.args.leaves.now node ∙ ap (λ l. reaches (map (λ leaf. leaf.name) l) node) c.requires))
     (c.in_ok-closed.ensures node ∙ ap (λ names. reaches names node) (c.deref.ensures.value ∙ c.in_ok-closed_of.ensures))
 

@@ -1,10 +1,7 @@
-use Rattle.std.proofs.Common.{not, ap, ◌∙◌}
-use Rattle.cfg_nodes.specs.Indexed.{has_parts}
-use Rattle.cfg_nodes.proofs.PresenceLaws.{parts-there}
+use Rattle.std.proofs.Common.{is_some, ap, ◌∙◌}
+use Rattle.std.specs.Str.{bytes_eq}
+use Rattle.cfg_lines.proofs.KeyLaws.{placed}
 use Rattle.cfg_nodes.proofs.parts.Parts.has.Goals as goal
 
-pub returns-in-Some : goal.returns-in-Some
-returns-in-Some c = ap not c.is_empty.ensures ∙ parts-there c.names.result.now _ (c.names.ensures ∙ c.in-Some.ensures)
-
-pub returns-in-None : goal.returns-in-None
-returns-in-None c = ap has_parts c.in-None.ensures
+pub returns : goal.returns
+returns c = c.is_some.ensures ∙ (ap is_some c.place_of.ensures ∙ placed (bytes_eq c.args.node.now) c.args.self.now.structures)
