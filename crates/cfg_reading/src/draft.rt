@@ -108,12 +108,14 @@ impl Draft {
     fn into_config(self) -> Config
         ensures { result ≡ drafted self }
     {
+        let mut attrs = self.attrs;
+        attrs.shrink_to_fit();
         Config {
             vendor: self.vendor,
             model: self.model,
             revision: self.revision,
             nodes: LnDefs::from_vec(self.nodes),
-            attrs: AttrDefs::from_vec(self.attrs),
+            attrs: AttrDefs::from_vec(attrs),
             sets: SetDefs::from_vec(self.sets),
             blocks: BlockDefs::from_vec(self.blocks),
             controls: CtlDefs::from_vec(self.controls),

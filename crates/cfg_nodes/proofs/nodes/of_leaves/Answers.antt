@@ -17,7 +17,7 @@ loop-place-preserved c =
     let name = c.name-name.ensures ∙ unwrap_or-slice_get names place [] in
     record {
       even = c.in_ok-hash.ensures.even;
-      names = c.in_ok-push_by.ensures ∙ (ap₂ (λ ns n. ns ++ n ∷ []) c.loop-place.invariant.names name ∙ sym (take_more names place [] lt));
+      names = c.in_ok-push_by.ensures.ok ∙ (ap₂ (λ ns n. ns ++ n ∷ []) c.loop-place.invariant.names name ∙ sym (take_more names place [] lt));
       structures = λ node. c.in_ok-hash.ensures.among node ∙ (ap₂ (λ n b. is_among (above n) node || b) name (c.loop-place.invariant.structures node)
           ∙ sym (ap (list_any (λ n. is_among (above n) node)) (take_more names place [] lt) ∙ any-last (λ n. is_among (above n) node) (take place names) (get_or names place [])));
       parts = λ node. c.in_ok-hash.ensures.parts node ∙ (ap₂ (with_name node) (c.loop-place.invariant.parts node) name ∙ sym (fold_more (with_name node) [] names place [] lt));
