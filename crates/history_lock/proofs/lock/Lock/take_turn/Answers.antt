@@ -6,6 +6,7 @@ use Rattle.bay_model.specs.Answers.{Turn, History}
 use Rattle.bay_core.specs.declared.bay.Bay.{Bay as TheBay}
 use Rattle.bay_core.specs.Standing.{StandsFor}
 use Rattle.history_lock.specs.Histories.{turn_of}
+use Rattle.history_lock.specs.Views.{busy}
 use Rattle.history_lock.specs.Plays.{Seated, resting}
 use Rattle.history_lock.proofs.Turning.{stands_now, few_now, others_now, back_in, added_now}
 use Rattle.history_lock.proofs.lock.Lock.take_turn.Goals as goal
@@ -36,6 +37,14 @@ step-result-requires-clause-few g c =
 pub exchange-requires-2 : goal.exchange-requires-2
 exchange-requires-2 g c = let e = ap (λ (n : Seated). n.1) c.exchange.ensures.3 in
     (search rules, (None, e ∙ ap (λ (l : List (ℕ × Option TheBay)). (0, None) ∷ rest l) (sym e)))
+
+pub pass_on-requires-clause-busy : goal.pass_on-requires-clause-busy
+pass_on-requires-clause-busy g c =
+    let t : Turn = turn_of c.args.moment c.args.actor.0 c.args.step.now in
+    let got = c.wait_turn.ensures.got in
+    let held = back_in c.args.seat.now.me c.draw-ticket.new.seat.me c.wait_turn.new.seat.me c.exchange.new.seat.me c.exchange-2.new.seat.me
+    c.draw-ticket.result c.step-result.new.self c.draw-ticket.ensures.seat c.requires.1.1.0.1 got c.exchange.ensures.3 c.exchange-2.ensures.3 in
+    ap (λ (n : Seated). busy n.0) (added_now c.args.seat.now.me c.exchange-2.new.seat.me c.append-place.new.seat.me c.draw-ticket.result got.1 c.step-result.new.self t held c.append-place.ensures.seat)
 
 pub pass_on-requires-clause-bay : goal.pass_on-requires-clause-bay
 pass_on-requires-clause-bay g c =
