@@ -43,8 +43,7 @@ impl Stage {
     ghost use Rattle.record_session.specs.Sessions.{IsAt, AdvancesOn, steps_in, IsEarly, OpensOn, Settles};
     ghost use Rattle.record_outcome.specs.Judgements.{IsJudgement};
 
-    /// Goes on to another part. It stays a call, so that a step line pays for no room of another stage.
-    #[inline(never)]
+    /// Goes on to another part.
     fn enter(&mut self, stage: Stage)
         ensures { self.new ≡ stage }
     {
@@ -98,9 +97,9 @@ impl Stage {
         }
     }
 
-    /// Reads a line, without its newline, and writes the answer to it; or gives the status with which the reading stops. What the
-    /// process sets stays in a slot, whose memory serves again.
-    pub fn read(
+    /// Reads a line of any part. It stays a call, so that a step line pays for no room that the configuration takes.
+    #[inline(never)]
+    fn read_any(
         &mut self,
         alloc: Global,
         out: &mut Vec<u8>,
@@ -126,6 +125,30 @@ impl Stage {
                 Ok(self.settle(started))
             }
             Stage::Playing(playing) => playing.read(alloc, out, number, line, kept),
+        }
+    }
+
+    /// Reads a line, without its newline, and writes the answer to it; or gives the status with which the reading stops. What the
+    /// process sets stays in a slot, whose memory serves again.
+    pub fn read(
+        &mut self,
+        alloc: Global,
+        out: &mut Vec<u8>,
+        number: u64,
+        line: &[u8],
+        kept: &mut Step,
+    ) -> Result<Option<Status>, AllocError>
+        requires few { steps_in self.old + length line.now < 2 ^ 61 }
+        requires early { IsEarly self.old }
+        requires number { number < 2 ^ 62 }
+        ensures moves { IfOk result (λ s. AdvancesOn s self.old self.new (λ place. lines_at number place line.now) out.old.items out.new.items) }
+        ensures judged { IfOk result (λ s. IfSome s IsJudgement) }
+        ensures few { IfOk result (λ s. IfNone s (steps_in self.new ≤ suc (steps_in self.old + length line.now))) }
+        ensures early { IfOk result (λ s. IfNone s (IsEarly self.new)) }
+    {
+        match self {
+            Stage::Playing(playing) => playing.read(alloc, out, number, line, kept),
+            _ => self.read_any(alloc, out, number, line, kept),
         }
     }
 
