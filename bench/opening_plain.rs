@@ -742,12 +742,17 @@ fn refuse(status: i32, words: &str) -> ! {
     exit(status)
 }
 
-/// A line that is neither empty nor a remark, with how many lines there are up to it, and what stands behind it.
+/// Whether a line of a record is passed over: an empty one, or a remark that is no longer than a line may be, in octets 20 to 7E.
+fn is_skipped(line: &[u8]) -> bool {
+    matches!(line, [] | [b'#', ..]) && line.len() <= 140100 && line.iter().all(|octet| matches!(octet, b' '..=b'~'))
+}
+
+/// A line that isn't passed over, with how many lines there are up to it, and what stands behind it.
 fn next_line(mut text: &[u8], mut number: usize) -> Option<(usize, &[u8], &[u8])> {
     loop {
         let (line, rest) = first_line(text)?;
         number += 1;
-        if !matches!(line, [] | [b'#', ..]) {
+        if !is_skipped(line) {
             return Some((number, line, rest));
         }
         text = rest;
