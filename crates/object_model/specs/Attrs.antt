@@ -1,11 +1,11 @@
 -- The attributes of the nodes of a domain in one row, in the order of the nodes: those of each node stand side by side.
 use Rattle.std.specs.Prelude.{ℕ, suc, ◌&&◌, List, [], ◌∷◌, map, flat_map, length, take, drop, min}
-use Rattle.name_order.specs.Sorting.{name_at}
 use Rattle.std.specs.List.{list_any}
 use Rattle.std.specs.Str.{bytes_eq}
 use Rattle.sv_base.specs.declared.numbers.AttrId.{AttrId}
 use Rattle.bay_model.specs.declared.tables.NodeRow.{NodeRow}
 use Rattle.bay_model.specs.Places.{attrs_of_role, largest, constraint, member_constraints}
+use Rattle.name_order.specs.Sorting.{name_at}
 use Rattle.object_names.specs.declared.named.What.{What}
 use Rattle.object_names.specs.Seen.{role_seen}
 use Rattle.object_model.specs.declared.growth.Spot.{Spot}

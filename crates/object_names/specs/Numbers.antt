@@ -1,10 +1,10 @@
 -- The number of a name: its place in a list of names, counted from 0, of two that are the same the first one's.
-use Rattle.std.specs.Prelude.{ℕ, Bool, List, Option, None, Some, position, if◌then◌else◌}
+use Rattle.std.specs.Prelude.{ℕ, Bool, List, Option, None, Some, if◌then◌else◌}
 use Rattle.std.specs.Option.{option_or}
-use Rattle.std.specs.Str.{bytes_eq}
+use Rattle.octet_rows.specs.Found.{place_in}
 
 abbrev pub number_in : List (List ℕ) → List ℕ → Option ℕ
-number_in names name = position (bytes_eq name) names
+number_in = place_in
 
 -- the number that a name was given, else the number n where it is the one that n is given to
 abbrev pub number_or : Option ℕ → Bool → ℕ → Option ℕ

@@ -1,10 +1,10 @@
 //! The lines of a configuration with the items that each names, in the order of their numbers.
 
-ghost use Rattle.std.specs.Prelude.{◌≡◌, ◌∷◌, ◌++◌, ◌+◌, [], map, codes, length, IfOk, OnOk, MatchOption, List, ℕ, position, unwrap_or, flat_map, if◌then◌else◌};
+ghost use Rattle.std.specs.Prelude.{◌≡◌, ◌∷◌, ◌++◌, ◌+◌, [], map, codes, length, IfOk, OnOk, List, position, unwrap_or, flat_map, if◌then◌else◌};
 ghost use Rattle.std.specs.List.{list_any};
 ghost use Rattle.std.specs.Str.{bytes_eq};
 ghost use Rattle.bay_model.specs.Configured.{domains_after, with_domain};
-ghost use Rattle.bay_model.specs.Generated.{structure_named, block_names, setting_names, parameters, parameter_names, control_names, end_named};
+ghost use Rattle.bay_model.specs.Generated.{block_names, parameters, parameter_names, control_names, end_named};
 ghost use Rattle.bay_model.specs.NamedLines.{attribute_line, attribute_lines, block_line, block_lines, control_line, control_lines, node_line, group_line, attribute_names, domains as domains_of, domain_number, lines as lines_of, in_order, path_item, is_setting as is_setting_line};
 ghost use Rattle.bay_model.specs.Model.{attribute};
 

@@ -1,3 +1,4 @@
 pub mod Laid
 pub mod Hashing
 pub mod Found
+pub mod Chains

@@ -1,12 +1,12 @@
 //! Rows of octets, each found by its octets.
 
-ghost use Rattle.std.specs.Prelude.{◌≡◌, nat_eq, OnOk, OnErr};
-ghost use Rattle.indexmap.specs.IndexMap.{get};
+ghost use Rattle.std.specs.Prelude.{◌≡◌, OnOk, OnErr};
+ghost use Rattle.octet_rows.specs.Chains.{latest, AreChained};
 ghost use Rattle.octet_rows.specs.Found.{is_at as is_row_at, first_at as first_row_at, with_first, IsNoted, IsSame};
 
+use crate::firsts::Firsts;
 use crate::hashing::hash_of;
 use crate::rows::{Rows, number_of};
-use indexmap::IndexMap;
 use std::alloc::{AllocError, Global};
 use std::marker::Model;
 
@@ -16,21 +16,21 @@ use std::marker::Model;
 pub struct Index {
     rows: Rows,
     /// Of each number the place of the first row that has it.
-    first: IndexMap<u64, u32>,
+    first: Firsts,
     /// The places of the other rows.
     further: Vec<u32>,
 }
 
 impl Model for Index {
-    ghost use Rattle.std.specs.Prelude.{List, ℕ, nat_eq};
-    ghost use Rattle.indexmap.specs.IndexMap.{get};
+    ghost use Rattle.std.specs.Prelude.{List, ℕ};
+    ghost use Rattle.octet_rows.specs.Chains.{latest, AreChained};
     ghost use Rattle.octet_rows.specs.Found.{Finds};
 
     ghost Value = { List (List ℕ) };
 
     ghost view = { λ index. index.rows };
 
-    ghost invariant = { λ index. Finds index.rows (get nat_eq index.first) index.further.items };
+    ghost invariant = { λ index. (AreChained index.first.heads.items index.first.entries.items) × (Finds index.rows (latest index.first.entries.items) index.further.items) };
 }
 
 /// The row at the place is this one.
@@ -68,23 +68,14 @@ fn place_at(rows: &Rows, first: Option<u32>, further: &[u32], row: &[u8]) -> Opt
     first_at(rows, further, row)
 }
 
-fn first_of(first: &IndexMap<u64, u32>, hash: u64) -> Option<u32>
-    ensures { result ≡ get nat_eq first.now hash }
-{
-    first.get(&hash).copied()
-}
-
 /// Notes the place of a row with this number. Where it fails, nothing is noted.
-fn note(
-    first: &mut IndexMap<u64, u32>,
-    further: &mut Vec<u32>,
-    hash: u64,
-    place: u32,
-) -> Result<(), AllocError>
-    ensures noted { OnOk result (IsNoted (get nat_eq first.old) further.old.items (get nat_eq first.new) further.new.items hash place) }
-    ensures err { OnErr result (IsSame (get nat_eq first.old) further.old.items (get nat_eq first.new) further.new.items) }
+fn note(first: &mut Firsts, further: &mut Vec<u32>, hash: u64, place: u32) -> Result<(), AllocError>
+    requires { AreChained first.old.heads.items first.old.entries.items }
+    ensures chained { AreChained first.new.heads.items first.new.entries.items }
+    ensures noted { OnOk result (IsNoted (latest first.old.entries.items) further.old.items (latest first.new.entries.items) further.new.items hash place) }
+    ensures err { OnErr result (IsSame (latest first.old.entries.items) further.old.items (latest first.new.entries.items) further.new.items) }
 {
-    if first_of(first, hash).is_some() {
+    if first.get(hash).is_some() {
         further.push(place)?;
         return Ok(());
     }
@@ -103,7 +94,7 @@ impl Index {
     {
         Index {
             rows: Rows::new(alloc),
-            first: IndexMap::new(alloc),
+            first: Firsts::new(alloc),
             further: Vec::new(alloc),
         }
     }
@@ -127,7 +118,7 @@ impl Index {
         requires { hash ≡ hash_at row.now }
         ensures { result ≡ place_in self.now row.now }
     {
-        let first = first_of(&self.first, hash);
+        let first = self.first.get(hash);
         place_at(&self.rows, first, &self.further, row)
     }
 

@@ -5,6 +5,7 @@
 mod rows;
 
 // rows by their octets
+mod firsts;
 mod hashing;
 mod index;
 

@@ -1,5 +1,4 @@
-use Rattle.std.proofs.Common.{sym, ap, ◌∙◌}
-use Rattle.octet_rows.specs.Found.{is_at}
+use Rattle.std.proofs.Common.{sym, ◌∙◌}
 use Rattle.octet_rows.proofs.FoundLaws.{first-found, first-next}
 use Rattle.octet_rows.proofs.index.first_at.Goals as goal
 

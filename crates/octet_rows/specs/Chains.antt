@@ -1,0 +1,29 @@
+-- Numbers, each with a place, in chains: each entry says where the one before it in its chain stands.
+use Rattle.std.specs.Prelude.{◌≡◌, ◌<◌, ◌≤◌, ℕ, zero, suc, ◌%◌, nat_eq, List, [], ◌∷◌, length, slice_index, slice_index_or, Option, Some, None, if◌then◌else◌}
+use Rattle.std.specs.Option.{option_or}
+use Rattle.octet_rows.specs.declared.firsts.Entry.{Entry}
+
+abbrev pub no_entry : Entry
+no_entry = record { number = 0; place = 0; before = 0 }
+
+-- the place that a number was given last
+abbrev pub latest : List Entry → ℕ → Option ℕ
+latest [] number = None
+latest (entry ∷ entries) number = option_or (latest entries number) (if nat_eq entry.number number then Some entry.place else None)
+
+-- the place that a chain gives a number, in so many steps
+abbrev pub walk : ℕ → List Entry → ℕ → ℕ → Option ℕ
+walk zero entries at number = None
+walk (suc steps) entries zero number = None
+walk (suc steps) entries (suc i) number =
+    if nat_eq (slice_index_or entries i no_entry).number number then Some (slice_index_or entries i no_entry).place
+    else walk steps entries (slice_index_or entries i no_entry).before number
+
+abbrev pub head : List ℕ → ℕ → ℕ
+head heads number = slice_index heads (number % length heads)
+
+-- the chain of each number finds the place that it was given last
+pub record AreChained (heads : List ℕ) (entries : List Entry) : Type 0 where
+  pub back : (i : ℕ) → i < length entries → (slice_index_or entries i no_entry).before ≤ i
+  pub within : (q : ℕ) → head heads q ≤ length entries
+  pub found : (q : ℕ) → walk (head heads q) entries (head heads q) q ≡ latest entries q
