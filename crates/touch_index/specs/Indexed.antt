@@ -21,8 +21,12 @@ abbrev pub rooms_in : List (Filled Touch) → ℕ
 rooms_in [] = 0
 rooms_in (b ∷ bs) = b.room + rooms_in bs
 
+-- a block without touches, with room for so many
+abbrev pub bare : ℕ → Filled Touch
+bare room = record { items = []; room = room }
+
 abbrev pub none : Filled Touch
-none = record { items = []; room = 0 }
+none = bare 0
 
 abbrev pub block_at : List (Filled Touch) → ℕ → Filled Touch
 block_at blocks b = slice_index_or blocks b none
@@ -46,14 +50,18 @@ abbrev pub IsOwnedFrom : ℕ → List (Filled Touch) → Type 0
 IsOwnedFrom j [] = Unit {0}
 IsOwnedFrom j (b ∷ bs) = All (λ (t : Touch). t.block.0 ≡ j) b.items × IsOwnedFrom (suc j) bs
 
--- the touches of all blocks lie in order of their attributes where the rows say
-pub record IsSorted (blocks : List (Filled Touch)) (rows : List Row) (sorted : List Touch) : Type 0 where
+-- the touches of all blocks are their own, each in its block's room, and there is room to sort them
+pub record IsFilled (blocks : List (Filled Touch)) (rows : List Row) (sorted : List Touch) : Type 0 where
   pub within : IsWithin (length rows) (touches_in blocks)
-  pub spread : IsSpread (touches_in blocks) (touches_in blocks) rows sorted
   pub room : rooms_in blocks ≤ length sorted
   pub owned : IsOwnedFrom 0 blocks
   pub filled : All (λ (b : Filled Touch). length b.items ≤ b.room) blocks
   pub fits : length (touches_in blocks) ≤ length sorted
+
+-- they lie in order of their attributes where the rows say
+pub record IsSorted (blocks : List (Filled Touch)) (rows : List Row) (sorted : List Touch) : Type 0 where
+  pub is_filled : IsFilled blocks rows sorted
+  pub spread : IsSpread (touches_in blocks) (touches_in blocks) rows sorted
 
 -- each attribute of the members is among so many
 abbrev pub AreAmong : ℕ → List MemberShape → Type 0

@@ -8,11 +8,13 @@ mod touch;
 mod touches;
 
 // the index of all blocks, and the note that it gives
+mod filling;
 mod gathering;
 mod index;
 mod laws;
 mod notes;
 
+pub use filling::Filling;
 pub use index::Index;
 pub use notes::Notes;
 pub use touch::Touch;

@@ -29,14 +29,14 @@ impl Touches {
     ghost use Rattle.std.specs.Prelude.{◌≡◌, ◌≤◌, ◌<◌, ◌+◌, ◌++◌, ◌∷◌, [], length, max, IfOk, OnOk, OnErr};
     ghost use Rattle.touch_index.specs.Indexed.{touches_of};
 
-    /// None, and no room.
-    pub(crate) fn new(alloc: Global) -> Touches
-        ensures { result ≡ record { items = []; room = 0 } }
+    /// None, in room for so many.
+    pub(crate) fn with_room(alloc: Global, room: u32) -> Result<Touches, AllocError>
+        ensures { IfOk result (λ t. t ≡ record { items = []; room = room }) }
     {
-        Touches {
-            items: Vec::new(alloc),
-            room: 0,
-        }
+        Ok(Touches {
+            items: Vec::with_capacity(alloc, room as usize)?,
+            room: room as usize,
+        })
     }
 
     /// How many have room.

@@ -25,14 +25,14 @@ loop-i-init c = record {
 
 pub gather_change-requires-clause-within : goal.gather_change-requires-clause-within
 gather_change-requires-clause-within c =
-    let own : IsOwnedFrom 0 c.args.self.now.blocks = subst (λ (v : Indexed). IsOwnedFrom 0 v.blocks) c.self.view_is c.self.invariant.owned in
+    let own : IsOwnedFrom 0 c.args.self.now.blocks = subst (λ (v : Indexed). IsOwnedFrom 0 v.blocks) c.self.view_is c.self.invariant.is_filled.owned in
     let x = (get_or c.args.changes.now (c.loop-i.i - 1) no_change).attr.0 in
     let same : length c.args.self.now.blocks ≡ length c.loop-i.out.notes = omega (arith, c.requires.count, c.loop-i.invariant.count) in
     subst (All (λ (t : Touch). t.block.0 < length c.loop-i.out.notes)) (sym c.touched.ensures) (touched_within x (length c.loop-i.out.notes) c.args.self.now.blocks same own)
 
 pub gather_change-requires-clause-fits : goal.gather_change-requires-clause-fits
 gather_change-requires-clause-fits c = λ b h.
-    let own : IsOwnedFrom 0 c.args.self.now.blocks = subst (λ (v : Indexed). IsOwnedFrom 0 v.blocks) c.self.view_is c.self.invariant.owned in
+    let own : IsOwnedFrom 0 c.args.self.now.blocks = subst (λ (v : Indexed). IsOwnedFrom 0 v.blocks) c.self.view_is c.self.invariant.is_filled.owned in
     let there : b < length c.args.self.now.blocks = omega (arith, h, c.requires.count, c.loop-i.invariant.count) in
     let known = c.requires.roomy b there in
     let trg = trg_at c.args.trgs.now b in
@@ -54,7 +54,7 @@ loop-i-preserved c =
     let all = touches_in c.args.self.now.blocks in
     let ch : Change = get_or changes i no_change in
     let below : i < length changes = omega (arith, c.loop-i-test.true, c.loop-i.auto.i) in
-    let own : IsOwnedFrom 0 c.args.self.now.blocks = subst (λ (v : Indexed). IsOwnedFrom 0 v.blocks) c.self.view_is c.self.invariant.owned in
+    let own : IsOwnedFrom 0 c.args.self.now.blocks = subst (λ (v : Indexed). IsOwnedFrom 0 v.blocks) c.self.view_is c.self.invariant.is_filled.owned in
     let behind : drop (i + 1) changes ≡ drop c.loop-i.i changes = ap (λ n. drop n changes) (omega (arith, c.loop-i-test.true)) in
     let next : (b : ℕ) → b < length c.args.self.now.blocks → (note_at c.gather_change.new.out.notes b).items ≡ add_change b (trg_at c.args.trgs.now b) all ch (note_at c.loop-i.out.notes b).items
     = λ b h. c.gather_change.ensures.items b (omega (arith, h, c.requires.count, c.loop-i.invariant.count)) ∙ ap (λ ts. add_touched b (trg_at c.args.trgs.now b) ch ts (note_at c.loop-i.out.notes b).items) c.touched.ensures in
