@@ -1,6 +1,6 @@
 -- The index of the members of all data sets follows the blocks, and the notes of a point become their entries.
 use Rattle.std.proofs.Common.{◌≡◌, ◌≢◌, ◌<◌, ◌≤◌, ℕ, zero, suc, List, [], ◌∷◌, length, map, replicate, get_or, refl, ap, ap₂, sym, ◌∙◌, subst, arith, ◌⊎◌, inl, inr, None, Some}
-use Rattle.std.specs.Prelude.{slice_get, slice_set, max, Option}
+use Rattle.std.specs.Prelude.{slice_get, slice_set, Option}
 use Rattle.std.proofs.lemmas.Bool.{cases_eq}
 use Rattle.std.proofs.lemmas.List.{length-map, length-set, map-set, set-get_or, get_or-set_same, get_or-set_other}
 use Rattle.std.proofs.lemmas.List.Elements.{All-nil}
@@ -20,7 +20,7 @@ use Rattle.brcb_state.specs.Components.{trg_of}
 use Rattle.trigger_core.specs.Noted.{noted}
 use Rattle.value_store.specs.Stored.{Stored}
 use Rattle.touch_index.specs.declared.touch.Touch.{Touch}
-use Rattle.touch_index.specs.Indexed.{Indexed, none, pairs, block_at, touches_from, with_members, with_room}
+use Rattle.touch_index.specs.Indexed.{Indexed, none, pairs, block_at, touches_from, with_members}
 use Rattle.touch_index.specs.Gathered.{IsSetOf}
 use Rattle.touch_index.specs.Gathering.{Gathered, no_note, no_trg, note_at, trg_at, with_items, AreEmpty}
 use Rattle.report_block.specs.declared.block.ReportBlock.{ReportBlock}
@@ -78,46 +78,23 @@ pub set-stays : (bs : List (Filled Touch)) (b k : ℕ) (f : Filled Touch) (ms : 
 set-stays bs b k f ms apart is = ap (λ (g : Filled Touch). g.items) (get_or-set_other bs b k f none apart) ∙ is
 
 -- members that were put
-pub set-put : (bs : List (Filled Touch)) (b room : ℕ) (ms : List MemberShape) → b < length bs → IsSetOf (with_members b ms (with_room b room bs)) b ms
-set-put bs b room ms below =
-    let roomy = with_room b room bs in
-    ap (λ (g : Filled Touch). g.items) (get_or-set_same roomy b (record { items = touches_from b 1 ms; room = (block_at roomy b).room }) none (omega (arith, below, length-set bs b (record { items = (block_at bs b).items; room = max (block_at bs b).room room }))))
+pub set-put : (bs : List (Filled Touch)) (b : ℕ) (ms : List MemberShape) → b < length bs → IsSetOf (with_members b ms bs) b ms
+set-put bs b ms below = ap (λ (g : Filled Touch). g.items) (get_or-set_same bs b (record { items = touches_from b 1 ms; room = (block_at bs b).room }) none below)
 
-pub put-stays : (bs : List (Filled Touch)) (b k room : ℕ) (ms own : List MemberShape) → k ≢ b → IsSetOf bs k own → IsSetOf (with_members b ms (with_room b room bs)) k own
-put-stays bs b k room ms own apart is = set-stays (with_room b room bs) b k (record { items = touches_from b 1 ms; room = (block_at (with_room b room bs) b).room }) own apart
-    (set-stays bs b k (record { items = (block_at bs b).items; room = max (block_at bs b).room room }) own apart is)
+pub put-stays : (bs : List (Filled Touch)) (b k : ℕ) (ms own : List MemberShape) → k ≢ b → IsSetOf bs k own → IsSetOf (with_members b ms bs) k own
+put-stays bs b k ms own apart is = set-stays bs b k (record { items = touches_from b 1 ms; room = (block_at bs b).room }) own apart is
 
-pub put-count : (bs : List (Filled Touch)) (b room : ℕ) (ms : List MemberShape) → length (with_members b ms (with_room b room bs)) ≡ length bs
-put-count bs b room ms = length-set (with_room b room bs) b (record { items = touches_from b 1 ms; room = (block_at (with_room b room bs) b).room }) ∙ length-set bs b (record { items = (block_at bs b).items; room = max (block_at bs b).room room })
+pub put-count : (bs : List (Filled Touch)) (b : ℕ) (ms : List MemberShape) → length (with_members b ms bs) ≡ length bs
+put-count bs b ms = length-set bs b (record { items = touches_from b 1 ms; room = (block_at bs b).room })
 
-pub put-room : (bs : List (Filled Touch)) (b room : ℕ) → b < length bs → room ≤ (block_at (with_room b room bs) b).room
-put-room bs b room below =
-    let e = ap (λ (g : Filled Touch). g.room) (get_or-set_same bs b (record { items = (block_at bs b).items; room = max (block_at bs b).room room }) none below) in
-    omega (arith, e)
-
--- the room of a block that was put or whose room was made
-room-stays : (bs : List (Filled Touch)) (b k : ℕ) (f : Filled Touch) → b < length bs → f.room ≡ (block_at bs b).room → (block_at (slice_set bs b f) k).room ≡ (block_at bs k).room
-room-stays bs b k f below same = elim (cases_eq k b) [
-  | inl e ↦ ap (λ j. (block_at (slice_set bs b f) j).room) e ∙ (ap (λ (g : Filled Touch). g.room) (get_or-set_same bs b f none below) ∙ (same ∙ ap (λ j. (block_at bs j).room) (sym e)))
-  | inr e ↦ ap (λ (g : Filled Touch). g.room) (get_or-set_other bs b k f none e)
-]
-
-pub put-roomy : (bs : List (Filled Touch)) (b k room : ℕ) (ms : List MemberShape) → b < length bs → (block_at bs k).room ≤ (block_at (with_members b ms (with_room b room bs)) k).room
-put-roomy bs b k room ms below =
-    let roomy = with_room b room bs in
-    let same = room-stays roomy b k (record { items = touches_from b 1 ms; room = (block_at roomy b).room }) (omega (arith, below, length-set bs b (record { items = (block_at bs b).items; room = max (block_at bs b).room room }))) refl in
-    elim (cases_eq k b) [
-      | inl e ↦ (let most = ap (λ (g : Filled Touch). g.room) (get_or-set_same bs b (record { items = (block_at bs b).items; room = max (block_at bs b).room room }) none below) in
-          let here : (block_at roomy k).room ≡ (block_at roomy b).room = ap (λ j. (block_at roomy j).room) e in
-          let own : (block_at bs k).room ≡ (block_at bs b).room = ap (λ j. (block_at bs j).room) e in omega (arith, same, most, here, own))
-      | inr e ↦ (let other = ap (λ (g : Filled Touch). g.room) (get_or-set_other bs b k (record { items = (block_at bs b).items; room = max (block_at bs b).room room }) none e) in omega (arith, same, other))
-    ]
-
-pub put-most : (bs : List (Filled Touch)) (b room : ℕ) (ms : List MemberShape) → b < length bs → room ≤ (block_at (with_members b ms (with_room b room bs)) b).room
-put-most bs b room ms below =
-    let roomy = with_room b room bs in
-    let same = room-stays roomy b b (record { items = touches_from b 1 ms; room = (block_at roomy b).room }) (omega (arith, below, length-set bs b (record { items = (block_at bs b).items; room = max (block_at bs b).room room }))) refl in
-    omega (arith, same, put-room bs b room below)
+-- the rooms of blocks of which one was put
+pub put-room : (bs : List (Filled Touch)) (b k : ℕ) (ms : List MemberShape) → b < length bs → (block_at (with_members b ms bs) k).room ≡ (block_at bs k).room
+put-room bs b k ms below = room-stays bs b k (record { items = touches_from b 1 ms; room = (block_at bs b).room }) below refl where
+  room-stays : (bs : List (Filled Touch)) (b k : ℕ) (f : Filled Touch) → b < length bs → f.room ≡ (block_at bs b).room → (block_at (slice_set bs b f) k).room ≡ (block_at bs k).room
+  room-stays bs b k f below same = elim (cases_eq k b) [
+    | inl e ↦ ap (λ j. (block_at (slice_set bs b f) j).room) e ∙ (ap (λ (g : Filled Touch). g.room) (get_or-set_same bs b f none below) ∙ (same ∙ ap (λ j. (block_at bs j).room) (sym e)))
+    | inr e ↦ ap (λ (g : Filled Touch). g.room) (get_or-set_other bs b k f none e)
+  ]
 
 -- ---- empty notes
 

@@ -2,8 +2,7 @@
 
 ghost use Rattle.std.specs.Prelude.{◌≡◌, ◌≤◌, ◌<◌, ◌^◌, ℕ, OnOk, IfOk, length};
 ghost use Rattle.std.specs.List.{All};
-ghost use Rattle.touch_index.specs.Indexed.{pairs, with_members, with_room, AreAmong};
-ghost use Rattle.touch_index.specs.Indexed.{block_at};
+ghost use Rattle.touch_index.specs.Indexed.{block_at, pairs};
 ghost use Rattle.bay_core.specs.Watched.{AreLent, IsRoomier, IsWatchable, IsIndexed, IsWatching, members_at, options_in};
 
 use crate::source::set_of;
@@ -14,7 +13,7 @@ use report_block::ReportBlock;
 use set_view::SetView;
 use std::alloc::{AllocError, Global};
 use sv_base::{BlockNo, NodeId};
-use touch_index::{Index, Notes};
+use touch_index::{Filling, Index, Notes};
 
 /// The index of the members of all data sets, the trigger options of each block, and room for the notes of a point.
 #[derive(Drop)]
@@ -50,22 +49,26 @@ fn most_pairs(book: &SetBook, rows: &[NodeRow]) -> Result<u32, AllocError>
     Ok(most)
 }
 
-/// The members of a block's data set are put into the index, in room for so many pairs.
-fn put_members(
-    index: &mut Index,
-    b: BlockNo,
-    set: &SetView<'_>,
-    room: u32,
-) -> Result<(), AllocError>
-    requires block { b.0 < length index.old.blocks }
-    requires few { length set.now ≤ 256 }
-    requires among { AreAmong index.old.attrs set.now }
-    requires room { pairs set.now ≤ room }
-    ensures { OnOk result (index.new ≡ record { attrs = index.old.attrs; blocks = with_members b.0 set.now (with_room b.0 room index.old.blocks) }) }
+/// The members of all blocks' data sets, each in room for the pairs of any data set.
+fn filling_of(
+    alloc: Global,
+    attrs: u32,
+    parts: &[ReportBlock],
+    book: &SetBook,
+    rows: &[NodeRow],
+) -> Result<Filling, AllocError>
+    requires few { length parts.now < 2 ^ 32 }
+    requires lent { AreLent rows.now book.now }
+    requires watchable { All (IsWatchable rows.now book.now attrs) parts.now }
+    ensures { IfOk result (λ x. IsIndexed rows.now book.now attrs parts.now x) }
 {
-    index.reserve(b, room)?;
-    index.put(b, set);
-    Ok(())
+    let room = most_pairs(book, rows)?;
+    let mut filling = Filling::open(alloc, parts.len() as u32, attrs, room)?;
+    for b in 0..parts.len() {
+        let set = book.view(parts[b].set(), rows);
+        filling.put(BlockNo(b as u32), &set);
+    }
+    Ok(filling)
 }
 
 /// The index of the members of all blocks' data sets, each in room for the pairs of any data set.
@@ -81,13 +84,8 @@ fn index_of(
     requires watchable { All (IsWatchable rows.now book.now attrs) parts.now }
     ensures { IfOk result (λ x. IsIndexed rows.now book.now attrs parts.now x) }
 {
-    let room = most_pairs(book, rows)?;
-    let mut index = Index::open(alloc, parts.len() as u32, attrs)?;
-    for b in 0..parts.len() {
-        let set = book.view(parts[b].set(), rows);
-        put_members(&mut index, BlockNo(b as u32), &set, room)?;
-    }
-    Ok(index)
+    let filling = filling_of(alloc, attrs, parts, book, rows)?;
+    Ok(filling.finish())
 }
 
 /// Makes room for so many pairs in the index of every block.
