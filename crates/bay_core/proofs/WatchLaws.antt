@@ -87,14 +87,15 @@ put-stays bs b k ms own apart is = set-stays bs b k (record { items = touches_fr
 pub put-count : (bs : List (Filled Touch)) (b : ℕ) (ms : List MemberShape) → length (with_members b ms bs) ≡ length bs
 put-count bs b ms = length-set bs b (record { items = touches_from b 1 ms; room = (block_at bs b).room })
 
--- the rooms of blocks of which one was put
+-- the room of a block that was put
+room-stays : (bs : List (Filled Touch)) (b k : ℕ) (f : Filled Touch) → b < length bs → f.room ≡ (block_at bs b).room → (block_at (slice_set bs b f) k).room ≡ (block_at bs k).room
+room-stays bs b k f below same = elim (cases_eq k b) [
+  | inl e ↦ ap (λ j. (block_at (slice_set bs b f) j).room) e ∙ (ap (λ (g : Filled Touch). g.room) (get_or-set_same bs b f none below) ∙ (same ∙ ap (λ j. (block_at bs j).room) (sym e)))
+  | inr e ↦ ap (λ (g : Filled Touch). g.room) (get_or-set_other bs b k f none e)
+]
+
 pub put-room : (bs : List (Filled Touch)) (b k : ℕ) (ms : List MemberShape) → b < length bs → (block_at (with_members b ms bs) k).room ≡ (block_at bs k).room
-put-room bs b k ms below = room-stays bs b k (record { items = touches_from b 1 ms; room = (block_at bs b).room }) below refl where
-  room-stays : (bs : List (Filled Touch)) (b k : ℕ) (f : Filled Touch) → b < length bs → f.room ≡ (block_at bs b).room → (block_at (slice_set bs b f) k).room ≡ (block_at bs k).room
-  room-stays bs b k f below same = elim (cases_eq k b) [
-    | inl e ↦ ap (λ j. (block_at (slice_set bs b f) j).room) e ∙ (ap (λ (g : Filled Touch). g.room) (get_or-set_same bs b f none below) ∙ (same ∙ ap (λ j. (block_at bs j).room) (sym e)))
-    | inr e ↦ ap (λ (g : Filled Touch). g.room) (get_or-set_other bs b k f none e)
-  ]
+put-room bs b k ms below = room-stays bs b k (record { items = touches_from b 1 ms; room = (block_at bs b).room }) below refl
 
 -- ---- empty notes
 

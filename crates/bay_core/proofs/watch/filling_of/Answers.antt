@@ -77,8 +77,8 @@ loop-b-preserved c =
       roomy = λ k h. ap (λ (x : Indexed). (block_at x.blocks k).room) put ∙ (put-room bs i k ms below ∙ c.loop-b.invariant.roomy k h);
     }
 
-pub loop-b-entry : goal.loop-b-entry
-loop-b-entry c = record {
+pub loop-b-init : goal.loop-b-init
+loop-b-init c = record {
   attrs = ap (λ (x : Indexed). x.attrs) c.in_ok-filling.ensures;
   count = ap (λ (x : Indexed). length x.blocks) c.in_ok-filling.ensures ∙ length-replicate (length c.args.parts.now) (bare c.in_ok-room.room);
   touches = λ k part h at. absurd (omega (arith, h));
