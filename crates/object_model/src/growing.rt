@@ -5,15 +5,17 @@ ghost use Rattle.std.specs.List.{after_first, before_first, position_or_len};
 ghost use Rattle.bay_model.specs.NameTree.{first_name, rest_of};
 ghost use Rattle.object_model.specs.Groups.{Group, with_cut};
 
-use object_names::{Few, Named};
+use object_names::{Few, What};
 use std::alloc::{AllocError, Global};
 use std::marker::Model;
+use sv_base::TypeOf;
 
 /// What is named by the rest of an item, below some of its names.
 #[derive(Drop)]
 pub struct Cut<'a> {
     pub rest: &'a [u8],
-    pub named: &'a Named,
+    pub what: What,
+    pub kind: &'a TypeOf,
 }
 
 impl<'a> Model for Cut<'a> {
@@ -26,7 +28,9 @@ impl<'a> Model for Cut<'a> {
 
     ghost coded = { Prim.hlevel (codes, fields_code) };
 
-    ghost view = { λ c. record { item = c.rest.now; role = c.named.now.role; kind = c.named.now.kind } };
+    ghost use Rattle.object_names.specs.Seen.{role_seen};
+
+    ghost view = { λ c. record { item = c.rest.now; role = role_seen c.what; kind = c.kind.now } };
 }
 
 impl<'a> Cut<'a> {
@@ -86,7 +90,8 @@ pub fn below<'a>(cut: &Cut<'a>) -> Cut<'a>
 {
     Cut {
         rest: behind(cut.rest),
-        named: cut.named,
+        what: cut.what,
+        kind: cut.kind,
     }
 }
 

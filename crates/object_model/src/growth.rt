@@ -71,8 +71,7 @@ fn what_of(cuts: &[Cut<'_>]) -> What
 {
     for cut in cuts {
         if cut.is_itself() {
-            let named = cut.named;
-            return named.what;
+            return cut.what;
         }
     }
     What::Structure
@@ -84,8 +83,7 @@ fn own_type(alloc: Global, cuts: &[Cut<'_>]) -> Result<TypeOf, AllocError>
 {
     for cut in cuts {
         if cut.is_itself() {
-            let named = cut.named;
-            return named.kind.share();
+            return cut.kind.share();
         }
     }
     Ok(TypeOf::Struct(Parts::from_vec(alloc, Vec::new(alloc))?))

@@ -73,7 +73,7 @@ impl Model {
         let blocks = block_references(alloc, &config)?;
         let controls = control_references(alloc, &config)?;
         let attributes = Attributes::of(alloc, &config)?;
-        let tables = Tables::of(alloc, &config)?;
+        let tables = Tables::of(alloc, &config, &attributes.references)?;
         Ok(Model {
             config,
             blocks,

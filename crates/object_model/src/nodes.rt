@@ -29,13 +29,14 @@ pub struct NodeName {
     pub place: u32,
 }
 
-fn push_names<'a>(out: &mut Vec<Cut<'a>>, names: &'a [Named]) -> Result<(), AllocError>
+fn push_names<'a>(out: &mut Vec<Cut<'a>>, names: &'a [Named<'_>]) -> Result<(), AllocError>
     ensures { OnOk result (out.new.items ≡ out.old.items ++ names.now) }
 {
     for named in names {
         out.push(Cut {
             rest: named.item.as_slice(),
-            named,
+            what: named.what,
+            kind: &named.kind,
         })?;
     }
     Ok(())

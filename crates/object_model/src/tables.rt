@@ -6,6 +6,7 @@ ghost use Rattle.bay_model.specs.Named.{set_defined, member_number, nodes as nod
 ghost use Rattle.object_model.specs.Finding.{Finds, node_named};
 ghost use Rattle.object_model.specs.Sorting.{variables_after};
 ghost use Rattle.object_model.specs.Tables.{IsTables, set_row, node_id};
+ghost use Rattle.object_names.specs.References.{attr_references};
 
 use crate::finding::{member_of, number_of};
 use crate::listing::{Directory, list};
@@ -85,13 +86,14 @@ fn set_rows(
 }
 
 impl Tables {
-    /// The tables of a configuration.
-    pub fn of(alloc: Global, config: &Config) -> Result<Self, AllocError>
+    /// The tables of a configuration, whose attributes have these references.
+    pub fn of(alloc: Global, config: &Config, references: &Index) -> Result<Self, AllocError>
+        requires { references.now ≡ attr_references config.now }
         ensures { IfOk result (λ t. IsTables config.now t) }
     {
         let names = domains(alloc, config.nodes.as_slice())?;
         let domains = index_of(alloc, &names)?;
-        let lines = ordered_lines(alloc, config, &domains)?;
+        let lines = ordered_lines(alloc, config, &domains, references)?;
         let listing = list(alloc, config, &names, &lines)?;
         let sets = set_rows(
             alloc,

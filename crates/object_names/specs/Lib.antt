@@ -6,3 +6,4 @@ pub mod Few
 pub mod Leaves
 pub mod Attributes
 pub mod References
+pub mod Items

@@ -1,16 +1,19 @@
 //! The lines of a configuration with the items that each names, in the order of their numbers.
 
-ghost use Rattle.std.specs.Prelude.{◌≡◌, ◌∷◌, ◌++◌, ◌+◌, [], map, codes, length, IfOk, OnOk, List, position, unwrap_or, flat_map, if◌then◌else◌};
+ghost use Rattle.std.specs.Prelude.{◌≡◌, ◌∷◌, ◌++◌, ◌+◌, [], map, codes, length, IfOk, OnOk, ℕ, Some, slice_get, true, List, position, unwrap_or, flat_map, if◌then◌else◌};
 ghost use Rattle.std.specs.List.{list_any};
 ghost use Rattle.std.specs.Str.{bytes_eq};
 ghost use Rattle.bay_model.specs.Configured.{domains_after, with_domain};
 ghost use Rattle.bay_model.specs.Generated.{block_names, parameters, parameter_names, control_names, end_named};
 ghost use Rattle.bay_model.specs.NamedLines.{attribute_line, attribute_lines, block_line, block_lines, control_line, control_lines, node_line, group_line, attribute_names, domains as domains_of, domain_number, lines as lines_of, in_order, path_item, is_setting as is_setting_line};
 ghost use Rattle.bay_model.specs.Model.{attribute};
+ghost use Rattle.bay_model.specs.Lookups.{reference_of};
+ghost use Rattle.object_names.specs.Items.{HasReference, AreReferenced};
+ghost use Rattle.object_names.specs.References.{attr_references};
 
 use crate::few::Few;
 use crate::named::{
-    Named, What, push_block, push_control, push_parameters, push_settings, structure,
+    Item, Named, What, push_block, push_control, push_parameters, push_settings, structure,
 };
 use crate::numbers::{count, plus};
 use crate::references::{is_selected, is_setting, item_at};
@@ -24,7 +27,7 @@ use sv_base::{AttrDef, BlockDef, Config, CtlDef, LnDef, Octs, SgDef};
 pub struct Line<'a> {
     pub number: u32,
     pub domain: &'a [u8],
-    pub names: Few<Named>,
+    pub names: Few<Named<'a>>,
 }
 
 impl<'a> Model for Line<'a> {
@@ -45,9 +48,9 @@ fn push_line<'a>(
     out: &mut Vec<Line<'a>>,
     number: u32,
     domain: &'a Octs,
-    names: Few<Named>,
+    names: Few<Named<'a>>,
 ) -> Result<(), AllocError>
-    ensures { OnOk result (out.new.items ≡ out.old.items ++ record { line = number; domain = domain.now; names = names } ∷ []) }
+    ensures { OnOk result (out.new.items ≡ out.old.items ++ record { line = number; domain = domain.now; names = names.entry } ∷ []) }
 {
     let domain = domain.as_slice();
     out.push(Line {
@@ -61,33 +64,49 @@ fn push_line<'a>(
 fn push_node<'a>(alloc: Global, out: &mut Vec<Line<'a>>, node: &'a LnDef) -> Result<(), AllocError>
     ensures { OnOk result (out.new.items ≡ out.old.items ++ node_line node.now ∷ []) }
 {
-    let named = structure(alloc, node.ln.as_slice(), What::Structure)?;
+    let named = structure(alloc, Item::lent(node.ln.as_slice()), What::Structure)?;
     push_line(out, node.line, &node.domain, Few::one(named))
 }
 
-/// The attribute of a line, under a functional constraint.
-fn end_at(alloc: Global, attr: &AttrDef, fc: &[u8], number: u32) -> Result<Named, AllocError>
-    ensures { IfOk result (λ n. n ≡ end_named (path_item attr.now.ln fc.now attr.now.path) (attribute number) attr.now.kind) }
+/// The item of the reference of an attribute of a domain, `LD/LN$FC$PATH`.
+fn item_of<'a>(references: &'a Index, number: u32, domain: &[u8]) -> &'a [u8]
+    ensures { (item : List ℕ) → slice_get references.now number ≡ Some (reference_of domain.now item) → result.now ≡ item }
 {
-    let item = item_at(alloc, attr.ln.as_slice(), fc, attr.path.as_slice())?;
+    let Some(reference) = references.get(number as usize) else {
+        return &[];
+    };
+    if reference.len() <= domain.len() {
+        return &[];
+    }
+    &reference[domain.len() + 1..]
+}
+
+/// The attribute of a line, under the functional constraint of its reference.
+fn end_at<'a>(references: &'a Index, attr: &AttrDef, number: u32) -> Result<Named<'a>, AllocError>
+    ensures { IfOk result (λ n. (fc : List ℕ) → HasReference references.now number attr.now fc → n ≡ end_named (path_item attr.now.ln fc attr.now.path) (attribute number) attr.now.kind) }
+{
+    let item = item_of(references, number, attr.domain.as_slice());
     Ok(Named {
-        item: Octs::from_vec(item),
+        item: Item::lent(item),
         what: What::Attribute(number),
         kind: attr.kind.share()?,
     })
 }
 
-fn attr_names(
+fn attr_names<'a>(
     alloc: Global,
+    references: &'a Index,
     attr: &AttrDef,
     number: u32,
     twin: u32,
-) -> Result<Few<Named>, AllocError>
+) -> Result<Few<Named<'a>>, AllocError>
+    requires own { HasReference references.now number attr.now attr.now.fc }
+    requires twin { is_setting_line attr.now ≡ true → HasReference references.now twin attr.now (codes "SE") }
     ensures { IfOk result (λ names. names ≡ attribute_names number twin attr.now) }
 {
-    let mut names = Few::one(end_at(alloc, attr, attr.fc.as_slice(), number)?);
+    let mut names = Few::one(end_at(references, attr, number)?);
     if is_setting(attr) {
-        names.push(alloc, end_at(alloc, attr, b"SE", twin)?)?;
+        names.push(alloc, end_at(references, attr, twin)?)?;
     }
     Ok(names)
 }
@@ -95,19 +114,22 @@ fn attr_names(
 fn push_attr<'a>(
     alloc: Global,
     out: &mut Vec<Line<'a>>,
+    references: &'a Index,
     attr: &'a AttrDef,
     number: u32,
     twin: u32,
 ) -> Result<(), AllocError>
+    requires own { HasReference references.now number attr.now attr.now.fc }
+    requires twin { is_setting_line attr.now ≡ true → HasReference references.now twin attr.now (codes "SE") }
     ensures { OnOk result (out.new.items ≡ out.old.items ++ attribute_line number twin attr.now ∷ []) }
 {
-    let names = attr_names(alloc, attr, number, twin)?;
+    let names = attr_names(alloc, references, attr, number, twin)?;
     push_line(out, attr.line, &attr.domain, names)
 }
 
 fn push_block_names(
     alloc: Global,
-    out: &mut Vec<Named>,
+    out: &mut Vec<Named<'_>>,
     block: &BlockDef,
     number: u32,
 ) -> Result<(), AllocError>
@@ -146,7 +168,7 @@ fn push_group<'a>(
 
 fn push_control_names(
     alloc: Global,
-    out: &mut Vec<Named>,
+    out: &mut Vec<Named<'_>>,
     control: &CtlDef,
     number: u32,
 ) -> Result<(), AllocError>
@@ -158,7 +180,7 @@ fn push_control_names(
 
 fn push_parameter_names(
     alloc: Global,
-    out: &mut Vec<Named>,
+    out: &mut Vec<Named<'_>>,
     control: &CtlDef,
     first: u32,
 ) -> Result<(), AllocError>
@@ -209,15 +231,17 @@ fn next_twin(attr: &AttrDef, twin: u32) -> Result<u32, AllocError>
 fn push_attrs<'a>(
     alloc: Global,
     out: &mut Vec<Line<'a>>,
+    references: &'a Index,
     attrs: &'a [AttrDef],
     first_twin: u32,
 ) -> Result<(), AllocError>
+    requires { AreReferenced references.now 0 first_twin attrs.now }
     ensures { OnOk result (out.new.items ≡ out.old.items ++ attribute_lines 0 first_twin attrs.now) }
 {
     let mut number = 0;
     let mut twin = first_twin;
     for attr in attrs {
-        push_attr(alloc, out, attr, number, twin)?;
+        push_attr(alloc, out, references, attr, number, twin)?;
         number = plus(number, 1)?;
         twin = next_twin(attr, twin)?;
     }
@@ -326,14 +350,16 @@ fn push_all<'a>(
     out: &mut Vec<Line<'a>>,
     config: &'a Config,
     domains: &Index,
+    references: &'a Index,
 ) -> Result<(), AllocError>
-    requires { domains.now ≡ domains_of config.now }
+    requires domains { domains.now ≡ domains_of config.now }
+    requires references { references.now ≡ attr_references config.now }
     ensures { OnOk result (out.new.items ≡ out.old.items ++ lines_of config.now) }
 {
     let attr_count = count(config.attrs.len())?;
     let first_twin = plus(attr_count, generated_count(config.controls.as_slice())?)?;
     push_nodes(alloc, out, config.nodes.as_slice())?;
-    push_attrs(alloc, out, config.attrs.as_slice(), first_twin)?;
+    push_attrs(alloc, out, references, config.attrs.as_slice(), first_twin)?;
     push_blocks(alloc, out, config.blocks.as_slice())?;
     push_controls(alloc, out, config.controls.as_slice(), attr_count)?;
     push_groups(alloc, out, config.groups.as_slice(), domains)?;
@@ -351,17 +377,19 @@ fn line_count(config: &Config) -> usize {
         .saturating_add(config.groups.len())
 }
 
-/// The lines in the order of their numbers.
+/// The lines in the order of their numbers. The references of the attributes lend their items.
 pub fn ordered_lines<'a>(
     alloc: Global,
     config: &'a Config,
     domains: &Index,
+    references: &'a Index,
 ) -> Result<Vec<Line<'a>>, AllocError>
-    requires { domains.now ≡ domains_of config.now }
+    requires domains { domains.now ≡ domains_of config.now }
+    requires references { references.now ≡ attr_references config.now }
     ensures { IfOk result (λ v. v.items ≡ in_order (lines_of config.now)) }
 {
     let mut lines = Vec::with_capacity(alloc, line_count(config))?;
-    push_all(alloc, &mut lines, config, domains)?;
+    push_all(alloc, &mut lines, config, domains, references)?;
     lines.sort_by_key(|line| line.number)?;
     Ok(lines)
 }

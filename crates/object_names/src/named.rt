@@ -33,15 +33,66 @@ pub enum What {
     Structure,
 }
 
+#[derive(Drop)]
+enum ItemOctets<'a> {
+    Lent(&'a [u8]),
+    Made(Octs),
+}
+
+/// An item: lent, as by the reference of an attribute, or made for its name.
+#[derive(Drop)]
+pub struct Item<'a> {
+    octets: ItemOctets<'a>,
+}
+
+impl<'a> Model for Item<'a> {
+    ghost use Rattle.std.specs.Prelude.{List, ℕ};
+    ghost use Rattle.object_names.specs.Items.{item_octets};
+
+    ghost Value = { List ℕ };
+
+    ghost view = { λ item. item_octets item.octets };
+}
+
+impl<'a> Item<'a> {
+    ghost use Rattle.std.specs.Prelude.{◌≡◌};
+
+    pub fn lent(octets: &'a [u8]) -> Self
+        ensures { result ≡ octets.now }
+    {
+        Item {
+            octets: ItemOctets::Lent(octets),
+        }
+    }
+
+    pub fn made(octets: Octs) -> Self
+        ensures { result ≡ octets }
+    {
+        Item {
+            octets: ItemOctets::Made(octets),
+        }
+    }
+
+    /// The octets.
+    pub fn as_slice(&self) -> &[u8]
+        ensures { result.now ≡ self.now }
+    {
+        match &self.octets {
+            ItemOctets::Lent(octets) => octets,
+            ItemOctets::Made(octets) => octets.as_slice(),
+        }
+    }
+}
+
 /// An item that is named, what stands there, and its type where it has no parts.
 #[derive(Drop)]
-pub struct Named {
-    pub item: Octs,
+pub struct Named<'a> {
+    pub item: Item<'a>,
     pub what: What,
     pub kind: TypeOf,
 }
 
-impl Model for Named {
+impl<'a> Model for Named<'a> {
     ghost use Rattle.bay_model.specs.Generated.{Named};
 
     ghost Value = { Named };
@@ -59,7 +110,7 @@ impl Model for Named {
 /// Adds `ITEM$NAME`.
 fn push_within(
     alloc: Global,
-    out: &mut Vec<Named>,
+    out: &mut Vec<Named<'_>>,
     item: &[u8],
     name: &[u8],
     what: What,
@@ -67,7 +118,7 @@ fn push_within(
 ) -> Result<(), AllocError>
     ensures { OnOk result (out.new.items ≡ out.old.items ++ record { item = within item.now name.now; role = role_seen what; kind = kind } ∷ []) }
 {
-    let item = Octs::from_vec(joined(alloc, item, b'$', name)?);
+    let item = Item::made(Octs::from_vec(joined(alloc, item, b'$', name)?));
     out.push(Named { item, what, kind })?;
     Ok(())
 }
@@ -75,7 +126,7 @@ fn push_within(
 /// Adds the components of report block `number` at `LN$BR$NAME`.
 pub fn push_block(
     alloc: Global,
-    out: &mut Vec<Named>,
+    out: &mut Vec<Named<'_>>,
     number: u32,
     item: &[u8],
 ) -> Result<(), AllocError>
@@ -96,7 +147,7 @@ pub fn push_block(
 
 fn push_setting(
     alloc: Global,
-    out: &mut Vec<Named>,
+    out: &mut Vec<Named<'_>>,
     domain: u32,
     comp: SettingComp,
 ) -> Result<(), AllocError>
@@ -114,7 +165,7 @@ fn push_setting(
 
 fn push_comps(
     alloc: Global,
-    out: &mut Vec<Named>,
+    out: &mut Vec<Named<'_>>,
     domain: u32,
     comps: &[SettingComp],
 ) -> Result<(), AllocError>
@@ -127,7 +178,7 @@ fn push_comps(
 }
 
 /// Adds the components of the setting group block of a domain.
-pub fn push_settings(alloc: Global, out: &mut Vec<Named>, domain: u32) -> Result<(), AllocError>
+pub fn push_settings(alloc: Global, out: &mut Vec<Named<'_>>, domain: u32) -> Result<(), AllocError>
     ensures { OnOk result (out.new.items ≡ out.old.items ++ setting_names domain) }
 {
     push_comps(alloc, out, domain, &SettingComp::ALL)
@@ -136,7 +187,7 @@ pub fn push_settings(alloc: Global, out: &mut Vec<Named>, domain: u32) -> Result
 /// Adds a part of a command at `LN$CO$DO$CALL`.
 fn push_part(
     alloc: Global,
-    out: &mut Vec<Named>,
+    out: &mut Vec<Named<'_>>,
     item: &[u8],
     name: &[u8],
     kind: TypeOf,
@@ -148,7 +199,7 @@ fn push_part(
 
 fn push_check(
     alloc: Global,
-    out: &mut Vec<Named>,
+    out: &mut Vec<Named<'_>>,
     item: &[u8],
     call: Call,
 ) -> Result<(), AllocError>
@@ -162,11 +213,11 @@ fn push_check(
 }
 
 /// A structure.
-pub fn structure(alloc: Global, item: &[u8], what: What) -> Result<Named, AllocError>
-    ensures { IfOk result (λ n. n ≡ structure_named item.now (role_seen what)) }
+pub fn structure<'a>(alloc: Global, item: Item<'a>, what: What) -> Result<Named<'a>, AllocError>
+    ensures { IfOk result (λ n. n ≡ structure_named item.entry (role_seen what)) }
 {
     Ok(Named {
-        item: Octs::from_vec(Vec::from_slice(alloc, item)?),
+        item,
         what,
         kind: TypeOf::Struct(Parts::from_vec(alloc, Vec::new(alloc))?),
     })
@@ -174,7 +225,7 @@ pub fn structure(alloc: Global, item: &[u8], what: What) -> Result<Named, AllocE
 
 fn push_ctl_val(
     alloc: Global,
-    out: &mut Vec<Named>,
+    out: &mut Vec<Named<'_>>,
     item: &[u8],
     kind: &TypeOf,
 ) -> Result<(), AllocError>
@@ -187,7 +238,7 @@ fn push_ctl_val(
 /// Adds ctlVal and origin of a command.
 fn push_value(
     alloc: Global,
-    out: &mut Vec<Named>,
+    out: &mut Vec<Named<'_>>,
     item: &[u8],
     kind: &TypeOf,
 ) -> Result<(), AllocError>
@@ -200,7 +251,7 @@ fn push_value(
 }
 
 /// Adds ctlNum, T and Test of a command.
-fn push_number(alloc: Global, out: &mut Vec<Named>, item: &[u8]) -> Result<(), AllocError>
+fn push_number(alloc: Global, out: &mut Vec<Named<'_>>, item: &[u8]) -> Result<(), AllocError>
     ensures { OnOk result (out.new.items ≡ out.old.items ++ number_names item.now) }
 {
     push_part(alloc, out, item, b"ctlNum", TypeOf::Uint(8))?;
@@ -212,7 +263,7 @@ fn push_number(alloc: Global, out: &mut Vec<Named>, item: &[u8]) -> Result<(), A
 /// Adds a command of control `number` at `LN$CO$DO$CALL`, whose ctlVal is of the type.
 fn push_command(
     alloc: Global,
-    out: &mut Vec<Named>,
+    out: &mut Vec<Named<'_>>,
     number: u32,
     kind: &TypeOf,
     item: &[u8],
@@ -220,7 +271,8 @@ fn push_command(
 ) -> Result<(), AllocError>
     ensures { OnOk result (out.new.items ≡ out.old.items ++ command_names number kind.now item.now (call_seen call)) }
 {
-    out.push(structure(alloc, item, What::Calling(number, call))?)?;
+    let made = Item::made(Octs::from_vec(Vec::from_slice(alloc, item)?));
+    out.push(structure(alloc, made, What::Calling(number, call))?)?;
     push_value(alloc, out, item, kind)?;
     push_number(alloc, out, item)?;
     push_check(alloc, out, item, call)?;
@@ -230,7 +282,7 @@ fn push_command(
 /// Adds SBO of a control of ctlModel 2, at `LN$CO$DO`.
 fn push_sbo(
     alloc: Global,
-    out: &mut Vec<Named>,
+    out: &mut Vec<Named<'_>>,
     number: u32,
     control: &CtlDef,
     item: &[u8],
@@ -253,7 +305,7 @@ fn push_sbo(
 /// Adds a command of control `number`, of this name, at `LN$CO$DO`.
 fn push_call(
     alloc: Global,
-    out: &mut Vec<Named>,
+    out: &mut Vec<Named<'_>>,
     number: u32,
     control: &CtlDef,
     item: &[u8],
@@ -269,7 +321,7 @@ fn push_call(
 /// Adds SBOw of a control of ctlModel 4, at `LN$CO$DO`.
 fn push_sbow(
     alloc: Global,
-    out: &mut Vec<Named>,
+    out: &mut Vec<Named<'_>>,
     number: u32,
     control: &CtlDef,
     item: &[u8],
@@ -285,7 +337,7 @@ fn push_sbow(
 /// Adds Cancel of a control that is selected before it operates, at `LN$CO$DO`.
 fn push_cancel(
     alloc: Global,
-    out: &mut Vec<Named>,
+    out: &mut Vec<Named<'_>>,
     number: u32,
     control: &CtlDef,
     item: &[u8],
@@ -301,7 +353,7 @@ fn push_cancel(
 /// Adds what control `number` has at `LN$CO$DO`.
 pub fn push_control(
     alloc: Global,
-    out: &mut Vec<Named>,
+    out: &mut Vec<Named<'_>>,
     number: u32,
     control: &CtlDef,
     item: &[u8],
@@ -318,7 +370,7 @@ pub fn push_control(
 /// Adds the CF attribute of this number of a control, at `LN$CF$DO`.
 fn push_parameter(
     alloc: Global,
-    out: &mut Vec<Named>,
+    out: &mut Vec<Named<'_>>,
     number: u32,
     item: &[u8],
     name: &[u8],
@@ -331,7 +383,7 @@ fn push_parameter(
 
 fn push_selection(
     alloc: Global,
-    out: &mut Vec<Named>,
+    out: &mut Vec<Named<'_>>,
     first: u32,
     control: &CtlDef,
     item: &[u8],
@@ -347,7 +399,7 @@ fn push_selection(
 /// Adds the CF attributes of a control at `LN$CF$DO`, the first being attribute `first`.
 pub fn push_parameters(
     alloc: Global,
-    out: &mut Vec<Named>,
+    out: &mut Vec<Named<'_>>,
     first: u32,
     control: &CtlDef,
     item: &[u8],
