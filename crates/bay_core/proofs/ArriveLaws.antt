@@ -13,7 +13,7 @@ use Rattle.bay_model.specs.declared.components.Comp.{Comp}
 use Rattle.bay_model.specs.Notes.{all_members, no_reason}
 use Rattle.window_core.specs.Points.{at}
 use Rattle.report_block.specs.Coming.{AreOf}
-use Rattle.report_block.specs.Blanks.{AreShortTexts}
+use Rattle.block_reports.specs.Blanks.{AreShortTexts}
 use Rattle.bay_model.specs.Reports.{report_id}
 use Rattle.brcb_state.specs.declared.block.Block.{Block}
 use Rattle.setting_groups.proofs.StandLaws as settings

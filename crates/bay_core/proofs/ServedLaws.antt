@@ -17,8 +17,8 @@ use Rattle.object_model.specs.Tables.{node_id}
 use Rattle.object_model.proofs.TableLaws.{count-rows, rows-are-nodes}
 use Rattle.set_view.specs.Shapes.{HasNumber, no_row, node_numbers, shape_of}
 use Rattle.data_sets.proofs.SetLaws.{numbers_of_shapes}
-use Rattle.report_block.specs.Blanks.{AreShort, IsShortSet}
-use Rattle.report_block.specs.Again.{AreNodes}
+use Rattle.block_reports.specs.Blanks.{AreShort, IsShortSet}
+use Rattle.block_reports.specs.Again.{AreNodes}
 use Rattle.bay_config.specs.Servable.{IsMember}
 use Rattle.bay_core.specs.State.{AreServedSets}
 use Rattle.bay_core.proofs.ShapeLaws.{nodes_named, served_members, served-set, members-named, sets_in}

@@ -17,11 +17,11 @@ use Rattle.bay_model.specs.Singles.{arrival}
 use Rattle.bay_model.specs.Takes.{taken}
 use Rattle.set_view.specs.Shapes.{node_numbers}
 use Rattle.report_block.specs.declared.block.ReportBlock.{ReportBlock}
-use Rattle.report_block.specs.Blanks.{AreFew}
+use Rattle.block_reports.specs.Blanks.{AreFew}
 use Rattle.report_block.specs.Offers.{Offered, first_offered, chosen, chosen_of}
-use Rattle.report_block.specs.Reporting.{report_by}
+use Rattle.block_reports.specs.Reporting.{report_by}
 use Rattle.report_block.proofs.OfferLaws.{AreTold, told, told-choice}
-use Rattle.report_block.proofs.GivenLaws.{given_of, told-given, told-nothing}
+use Rattle.block_reports.proofs.GivenLaws.{given_of, told-given, told-nothing}
 use Rattle.report_block.specs.Standing.{BlocksStand}
 
 module _ (m : Model) (a : AssocNo) (n moment : ℕ) (past : Past) (parts : List ReportBlock) (count : length parts ≡ length m.blocks) (stand : BlocksStand m (arrival n moment ∷ past) parts) where

@@ -40,12 +40,12 @@ use Rattle.bay_queues.proofs.StandLaws.{oldest-taken}
 use Rattle.bay_model.specs.declared.answer.Output.{Output}
 use Rattle.assoc_table.specs.Tables.{IsNumber, row_of}
 use Rattle.report_block.specs.declared.block.ReportBlock.{ReportBlock}
-use Rattle.report_block.specs.Blanks.{AreFew}
+use Rattle.block_reports.specs.Blanks.{AreFew}
 use Rattle.report_block.specs.Offers.{Offered, first_offered}
 use Rattle.report_block.specs.Writes.{reported_by}
 use Rattle.window_core.specs.Points.{at}
 use Rattle.brcb_state.specs.Changes.{after_report}
-use Rattle.report_block.specs.Reporting.{report_by}
+use Rattle.block_reports.specs.Reporting.{report_by}
 use Rattle.bay_config.specs.Servable.{IsServable}
 use Rattle.bay_core.specs.Standing.{StandsAt, StandsFor}
 use Rattle.bay_core.specs.State.{State, AreServedSets}

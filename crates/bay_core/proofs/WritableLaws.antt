@@ -35,11 +35,11 @@ use Rattle.value_store.specs.Stored.{Stored, attribute, IsStored}
 use Rattle.value_store.specs.Written.{IsShort}
 use Rattle.value_store.proofs.LargestLaws.{member_within}
 use Rattle.value_store.proofs.WholeLaws.{attrs_of_form}
-use Rattle.report_block.specs.Again.{IsOneElement}
+use Rattle.block_reports.specs.Again.{IsOneElement}
 use Rattle.report_block.specs.EntryOctets.{IsWritable}
 use Rattle.bay_config.specs.Servable.{IsServable, IsMember, attr_type}
 use Rattle.bay_values.specs.Held.{AreHeld}
-use Rattle.report_block.proofs.OneElement.{member_is_one}
+use Rattle.block_reports.proofs.OneElement.{member_is_one}
 use Rattle.bay_core.proofs.ShapeLaws.{IsShapeOf}
 
 -- ---- lists

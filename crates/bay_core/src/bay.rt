@@ -5,9 +5,10 @@ use crate::watch::Watch;
 use bay_model::{Answer, Change, Fixed, Output, Report};
 use bay_queues::Queues;
 use bay_values::Values;
+use block_reports::Rooms;
 use data_sets::SetBook;
 use object_model::Model;
-use report_block::{EventRoom, ReportBlock, Rooms};
+use report_block::{EventRoom, ReportBlock};
 use setting_groups::Groups;
 use sv_base::{AssocNo, Moment};
 

@@ -4,7 +4,8 @@ use crate::bay::Bay;
 use crate::fault::StepFault;
 use crate::source::set_of;
 use bay_model::{Answer, Output};
-use report_block::{Blank, Rooms, empty_report, first_offer, longest_text, report_of};
+use block_reports::{Blank, Rooms, empty_report, longest_text, report_of};
+use report_block::first_offer;
 use std::alloc::{AllocError, Global};
 use sv_base::{ActorNo, AssocNo, Moment};
 
@@ -20,7 +21,7 @@ impl Bay {
     ghost use Rattle.assoc_table.specs.declared.waiting.Ends.{Ends};
     ghost use Rattle.assoc_table.specs.Tables.{IsNumber, row_of};
     ghost use Rattle.control_core.specs.Tables.{at_moment};
-    ghost use Rattle.report_block.specs.Blanks.{AreShortTexts, Blank as BlankValue};
+    ghost use Rattle.block_reports.specs.Blanks.{AreShortTexts, Blank as BlankValue};
     ghost use Rattle.bay_core.specs.Timed.{at_arrival};
     ghost use Rattle.bay_core.specs.Turns.{Does, IsCounted};
 

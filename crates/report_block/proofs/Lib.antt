@@ -1,13 +1,9 @@
 pub mod BodyLaws
 pub mod StandLaws
 pub mod PlainLaws
--- reports
-pub mod OneElement
-pub mod ReadableLaws
-pub mod AgainLaws
+-- which entry is reported next
 pub mod UpLaws
 pub mod OfferLaws
-pub mod GivenLaws
 pub mod EarlierLaws
 -- the calls of time, of events and of writes
 pub mod AllLaws

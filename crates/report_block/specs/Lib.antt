@@ -1,6 +1,5 @@
--- what a block keeps of an entry, and its members from it
+-- what a block keeps of an entry
 pub mod EntryOctets
-pub mod Again
 -- a block, what it stands for, and what comes of a point
 pub mod Standing
 pub mod Coming
@@ -10,7 +9,5 @@ pub mod Writes
 pub mod Components
 pub mod Due
 pub mod Reading
--- its reports
+-- which entry is reported next
 pub mod Offers
-pub mod Reporting
-pub mod Blanks

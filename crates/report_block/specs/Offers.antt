@@ -7,16 +7,22 @@ use Rattle.bay_model.specs.Reports.{Offer}
 use Rattle.brcb_state.specs.Changes.{next_to}
 use Rattle.brcb_state.specs.declared.told.Kept.{Kept}
 use Rattle.brcb_state.specs.declared.told.Next.{Next}
+use Rattle.entry_ring.specs.Entries.{held_of}
 use Rattle.entry_ring.specs.Held.{Held}
 use Rattle.entry_ring.specs.Ringed.{entry_at}
 use Rattle.entry_ring.specs.Standing.{held}
 use Rattle.report_block.specs.declared.block.ReportBlock.{ReportBlock}
+use Rattle.report_block.specs.declared.offers.Offer.{Offer as Lent}
 
 -- an entry that may be reported next: its block, how it is reported, and what is kept of it
 pub record Offered : Type 0 where
   pub block : ℕ
   pub next : Next
   pub entry : Held
+
+-- as it is lent
+abbrev pub offered : Lent → Offered
+offered o = record { block = o.block; next = o.next; entry = held_of o.entry }
 
 abbrev pub retained_of : ReportBlock → Kept
 retained_of part = record { front = part.ring.front; len = part.ring.newest }

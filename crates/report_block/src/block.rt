@@ -48,6 +48,7 @@ impl ReportBlock {
     ghost use Rattle.std.specs.Prelude.{◌≡◌, ◌≤◌, ◌*◌, length, None, Some, IfOk, if◌then◌else◌};
     ghost use Rattle.std.specs.List.{All};
     ghost use Rattle.bay_model.specs.Configured.{block_defined};
+    ghost use Rattle.bay_model.specs.Reports.{report_id as report_id_of};
     ghost use Rattle.brcb_state.specs.Changes.{configured};
     ghost use Rattle.brcb_state.specs.Components.{trg_of};
     ghost use Rattle.entry_ring.specs.Standing.{empty};
@@ -97,6 +98,27 @@ impl ReportBlock {
         ensures { result.now ≡ self.now.block.options.dat_set }
     {
         self.block.dat_set()
+    }
+
+    /// The id that its reports carry (IEC 61850-7-2, BRCB attribute RptID), or else its reference.
+    pub fn report_id(&self) -> &[u8]
+        ensures { result.now ≡ report_id_of self.now.block.options.rpt_id self.now.block.reference }
+    {
+        self.block.report_id()
+    }
+
+    /// Which optional fields its reports have (IEC 61850-7-2, BRCB attribute OptFlds).
+    pub fn opt_flds(&self) -> &[bool]
+        ensures { result.now ≡ self.now.block.options.opt_flds }
+    {
+        self.block.opt_flds()
+    }
+
+    /// The revision of its configuration (IEC 61850-7-2, BRCB attribute ConfRev).
+    pub fn conf_rev(&self) -> u32
+        ensures { result ≡ self.now.block.revision }
+    {
+        self.block.conf_rev()
     }
 
     /// The data set of a number was deleted, which isn't the block's own: the numbers above move down by one.

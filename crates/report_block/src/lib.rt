@@ -1,5 +1,5 @@
-//! A buffered report control block as one part: its attributes, its buffer, what it gathers under its buffer time, and its reports
-//! (IEC 61850-7-2, BRCB).
+//! A buffered report control block as one part: its attributes, its buffer, what it gathers under its buffer time, and
+//! which of its entries is reported next (IEC 61850-7-2, BRCB).
 #![tactic(auto)]
 
 // the block, and the octets that it keeps of an entry
@@ -15,23 +15,14 @@ mod time_laws;
 // what its components read
 mod reading;
 
-// which entry is reported next, the members that a report has of its octets, and the report whose memory is used again
+// what it stands for, and which entry is reported next
 mod laws;
-mod members;
 mod offers;
-mod spare;
 
-// a report in room that was made before
-mod blank;
-mod room;
-
-pub use blank::{Blank, longest_text};
 pub use block::ReportBlock;
 pub use components::Written;
 pub use events::EventRoom;
-pub use offers::{Offer, first_offer, report_of};
-pub use room::Rooms;
-pub use spare::empty_report;
+pub use offers::{Offer, first_offer};
 pub use time::earliest;
 
 // what a block stands for

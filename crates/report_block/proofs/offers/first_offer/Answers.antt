@@ -3,7 +3,7 @@ use Rattle.std.specs.Option.{option_map}
 use Rattle.std.specs.Prelude.{if◌then◌else◌}
 use Rattle.report_block.specs.declared.offers.Offer.{Offer}
 use Rattle.report_block.specs.Offers.{earlier, offered_by}
-use Rattle.report_block.specs.Reporting.{offered}
+use Rattle.report_block.specs.Offers.{offered}
 use Rattle.report_block.proofs.EarlierLaws.{goes_on}
 use Rattle.report_block.proofs.offers.first_offer.Goals as goal
 use Rattle.report_block.proofs.offers.first_offer.Goals.{then-comes_before, else-comes_before}

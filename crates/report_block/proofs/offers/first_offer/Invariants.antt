@@ -1,7 +1,7 @@
 use Rattle.std.proofs.Common.{◌≡◌, ◌<◌, drop, length, IfSome}
 use Rattle.std.specs.Option.{option_map}
 use Rattle.report_block.specs.Offers.{earlier, first_offered}
-use Rattle.report_block.specs.Reporting.{offered}
+use Rattle.report_block.specs.Offers.{offered}
 use Rattle.report_block.proofs.offers.first_offer.Given as goal
 
 -- with the first offer of the blocks that are left, that of all

@@ -11,11 +11,12 @@ use Rattle.bay_model.specs.Notes.{Kept}
 use Rattle.object_model.specs.Nodes.{node_rows}
 use Rattle.data_sets.specs.Books.{Book}
 use Rattle.report_block.specs.declared.block.ReportBlock.{ReportBlock}
-use Rattle.report_block.specs.Again.{AreNodes}
-use Rattle.report_block.specs.Blanks.{AreFew, AreShortTexts, IsShortSet}
+use Rattle.block_reports.specs.Again.{AreNodes}
+use Rattle.block_reports.specs.Blanks.{AreFew, AreShortTexts, IsShortSet}
 use Rattle.report_block.specs.Offers.{first_offered}
 use Rattle.report_block.specs.Writes.{reported_by}
-use Rattle.report_block.specs.Reporting.{offered, report_by}
+use Rattle.report_block.specs.Offers.{offered}
+use Rattle.block_reports.specs.Reporting.{report_by}
 use Rattle.bay_config.specs.Servable.{IsServable}
 use Rattle.bay_core.specs.Standing.{StandsAt}
 use Rattle.bay_core.specs.State.{State, AreServedSets}

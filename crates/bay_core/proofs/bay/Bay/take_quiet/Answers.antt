@@ -6,10 +6,11 @@ use Rattle.bay_model.specs.Answers.{points}
 use Rattle.bay_model.specs.Named.{configured_model}
 use Rattle.bay_model.specs.Notes.{Kept}
 use Rattle.report_block.specs.declared.block.ReportBlock.{ReportBlock}
-use Rattle.report_block.specs.Again.{AreKept, AreNodes}
+use Rattle.block_reports.specs.Again.{AreKept, AreNodes}
 use Rattle.report_block.specs.Offers.{first_offered}
 use Rattle.report_block.specs.Writes.{reported_by}
-use Rattle.report_block.specs.Reporting.{offered, report_by}
+use Rattle.report_block.specs.Offers.{offered}
+use Rattle.block_reports.specs.Reporting.{report_by}
 use Rattle.bay_config.specs.Servable.{IsServable}
 use Rattle.bay_core.specs.Standing.{StandsAt}
 use Rattle.data_sets.specs.Books.{Book}

@@ -1,0 +1,4 @@
+pub mod OneElement
+pub mod ReadableLaws
+pub mod AgainLaws
+pub mod GivenLaws

@@ -1,0 +1,17 @@
+//! The reports of a buffered report control block (IEC 61850-7-2, the Report service): made of what the block keeps of an entry, in
+//! the memory of another report or in room that was made before.
+#![tactic(auto)]
+
+// the members that a report has of an entry's octets, and the report whose memory is used again
+mod members;
+mod reports;
+mod spare;
+
+// a report in room that was made before
+mod blank;
+mod room;
+
+pub use blank::{Blank, longest_text};
+pub use reports::report_of;
+pub use room::Rooms;
+pub use spare::empty_report;

@@ -1,5 +1,0 @@
-use Rattle.bay_model.specs.Named.{configured_model}
-use Rattle.report_block.proofs.offers.report_of.Goals as goal
-
-pub returns : goal.returns
-returns c = λ ks are. c.report_with.ensures.report (configured_model c.args.model.now) ks (c.in_ok-members.ensures ks are)
