@@ -45,9 +45,9 @@ use Rattle.bay_config.specs.Servable.{IsServable}
 use Rattle.bay_core.specs.Standing.{StandsAt}
 use Rattle.bay_core.specs.State.{State, AreServedSets, IsFurnished}
 use Rattle.bay_values.specs.Held.{AreHeld}
-use Rattle.bay_core.specs.declared.watch.Watch.{Watch}
+use Rattle.block_watch.specs.declared.watch.Watch.{Watch}
 use Rattle.bay_core.specs.Timed.{arrived_part, arrived_all, at_arrival}
-use Rattle.bay_core.specs.Watched.{members_in}
+use Rattle.block_watch.specs.Watched.{members_in}
 use Rattle.bay_core.proofs.AllLaws.{all-are}
 use Rattle.bay_core.proofs.FurnishLaws.{furnished-map}
 use Rattle.bay_core.proofs.MoveLaws.{queued, queues-stand}

@@ -22,7 +22,7 @@ use Rattle.data_sets.proofs.HistoryLaws as history
 use Rattle.report_block.specs.declared.block.ReportBlock.{ReportBlock}
 use Rattle.bay_config.specs.Servable.{IsMember}
 use Rattle.bay_core.specs.State.{AreServedSets}
-use Rattle.bay_core.specs.Watched.{AreLent, IsLent, members_in}
+use Rattle.block_watch.specs.Watched.{AreLent, IsLent, members_in}
 use Rattle.bay_core.proofs.ShapeLaws.{nodes_named, served_members, sets_in}
 
 -- ---- the data set of a reference

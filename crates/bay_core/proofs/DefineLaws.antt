@@ -39,10 +39,10 @@ use Rattle.report_block.specs.declared.events.EventRoom.{EventRoom}
 use Rattle.touch_index.specs.Indexed.{block_at, pairs}
 use Rattle.set_view.specs.Shapes.{shapes_of}
 use Rattle.bay_config.specs.Servable.{IsMember, IsServable, IsServedSet}
-use Rattle.bay_core.specs.declared.watch.Watch.{Watch}
+use Rattle.block_watch.specs.declared.watch.Watch.{Watch}
 use Rattle.bay_core.specs.Deleted.{IsNewSet}
 use Rattle.bay_core.specs.State.{IsBooked}
-use Rattle.bay_core.specs.Watched.{IsRoomier, IsWatching}
+use Rattle.block_watch.specs.Watched.{IsRoomier, IsWatching}
 use Rattle.bay_core.specs.Whole.{IsWhole}
 use Rattle.control_core.specs.Tables.{Table}
 use Rattle.bay_core.proofs.BookLaws.{number-there}

@@ -36,8 +36,8 @@ use Rattle.setting_groups.specs.Opened.{opened as grouped}
 use Rattle.setting_groups.specs.Standing.{Stands as GroupsStand}
 use Rattle.setting_groups.proofs.OpenLaws.{opened_stands as groups_stand}
 use Rattle.report_block.specs.declared.block.ReportBlock.{ReportBlock}
-use Rattle.bay_core.specs.declared.watch.Watch.{Watch}
-use Rattle.bay_core.specs.Watched.{IsWatching, IsWatchable, members_in}
+use Rattle.block_watch.specs.declared.watch.Watch.{Watch}
+use Rattle.block_watch.specs.Watched.{IsWatching, IsWatchable, members_in}
 use Rattle.bay_core.specs.Opened.{seen, part_defined}
 use Rattle.bay_config.specs.Servable.{IsServable}
 use Rattle.bay_core.specs.Standing.{StandsFor}

@@ -11,12 +11,12 @@ use Rattle.data_sets.specs.Books.{Book, number_referred}
 use Rattle.data_sets.specs.Standing.{IsNamed}
 use Rattle.value_store.specs.Stored.{Stored}
 use Rattle.report_block.specs.declared.block.ReportBlock.{ReportBlock}
-use Rattle.bay_core.specs.declared.watch.Watch.{Watch}
+use Rattle.block_watch.specs.declared.watch.Watch.{Watch}
 use Rattle.bay_core.specs.State.{IsFurnished}
-use Rattle.bay_core.specs.Watched.{IsLent, IsWatching, members_in}
+use Rattle.block_watch.specs.Watched.{IsLent, IsWatching, members_in}
 use Rattle.bay_core.proofs.BookLaws.{part-lent, part-members}
 use Rattle.bay_core.proofs.ShapeLaws.{served_members}
-use Rattle.bay_core.proofs.WatchLaws.{watching-map}
+use Rattle.block_watch.proofs.WatchLaws.{watching-map}
 
 module _ (c : Config) (stored : List Stored) (book : Book) (parts : List ReportBlock) (w : Watch) (octets : Filled ℕ) (room : ℕ) (old : IsFurnished c stored book parts w octets room) where
   -- a part has the number of the data set that its DatSet names

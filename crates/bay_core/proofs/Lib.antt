@@ -24,7 +24,7 @@ pub mod AnswerLaws
 -- openings and losses
 pub mod EndLaws
 pub mod MentionLaws
-pub mod WatchLaws
+pub mod NoteLaws
 pub mod FurnishLaws
 -- settings: the values, the notes of the blocks, and the entries
 pub mod ShapeLaws

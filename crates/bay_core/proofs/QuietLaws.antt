@@ -11,21 +11,9 @@ use Rattle.report_block.specs.declared.block.ReportBlock.{ReportBlock}
 use Rattle.report_block.specs.Alls.{all_pieces, for_integrity}
 use Rattle.report_block.specs.Due.{due_at, earliest, IsBefore}
 use Rattle.report_block.proofs.DueLaws.{idle-before, due-stays}
-use Rattle.bay_core.specs.Dues.{AreBefore}
+use Rattle.block_watch.specs.Dues.{AreBefore}
 use Rattle.bay_core.specs.Timed.{arrived_part, arrived_all, IsQuietUntil, AreQuietUntil}
-use Rattle.bay_core.specs.Watched.{members_in}
-
--- ---- the earlier of two moments
-
-pub before-first : (now : ℕ) (x y : Option ℕ) → IsBefore now (earliest x y) → IsBefore now x
-before-first now None y h = tt
-before-first now (Some m) None h = h
-before-first now (Some m) (Some k) h = omega (arith, h)
-
-pub before-second : (now : ℕ) (x y : Option ℕ) → IsBefore now (earliest x y) → IsBefore now y
-before-second now None y h = h
-before-second now (Some m) None h = tt
-before-second now (Some m) (Some k) h = omega (arith, h)
+use Rattle.block_watch.specs.Watched.{members_in}
 
 -- ---- a moment at which nothing is due
 

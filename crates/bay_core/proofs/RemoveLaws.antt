@@ -26,10 +26,10 @@ use Rattle.report_block.specs.declared.block.ReportBlock.{ReportBlock}
 use Rattle.report_block.specs.declared.events.EventRoom.{EventRoom}
 use Rattle.report_block.specs.Writes.{moved, renumbered}
 use Rattle.bay_config.specs.Servable.{IsServedSet}
-use Rattle.bay_core.specs.declared.watch.Watch.{Watch}
+use Rattle.block_watch.specs.declared.watch.Watch.{Watch}
 use Rattle.bay_core.specs.Deleted.{is_reported}
 use Rattle.bay_core.specs.State.{IsBooked, IsFurnished}
-use Rattle.bay_core.specs.Watched.{AreBlank, members_in, options_in}
+use Rattle.block_watch.specs.Watched.{AreBlank, members_in, options_in}
 use Rattle.bay_core.specs.Whole.{IsWhole}
 use Rattle.control_core.specs.Tables.{Table}
 use Rattle.bay_core.proofs.BookLaws.{some-mapped}

@@ -13,7 +13,7 @@ use Rattle.touch_index.specs.declared.touch.Touch.{Touch}
 use Rattle.touch_index.specs.Indexed.{Indexed, none, pairs, block_at, with_room}
 use Rattle.touch_index.specs.Gathered.{IsSetOf}
 use Rattle.report_block.specs.declared.block.ReportBlock.{ReportBlock}
-use Rattle.bay_core.specs.Watched.{IsIndexed, IsRoomier}
+use Rattle.block_watch.specs.Watched.{IsIndexed, IsRoomier}
 
 -- ---- more room
 

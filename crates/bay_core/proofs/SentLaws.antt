@@ -10,12 +10,12 @@ use Rattle.setting_groups.specs.Grouped.{Grouped}
 use Rattle.report_block.specs.declared.block.ReportBlock.{ReportBlock}
 use Rattle.report_block.specs.declared.events.EventRoom.{EventRoom}
 use Rattle.report_block.specs.Writes.{reported_by}
-use Rattle.bay_core.specs.declared.watch.Watch.{Watch}
+use Rattle.block_watch.specs.declared.watch.Watch.{Watch}
 use Rattle.bay_core.specs.Whole.{IsWhole}
 use Rattle.control_core.specs.Tables.{Table}
 use Rattle.bay_core.proofs.FurnishLaws.{furnished-set}
 use Rattle.bay_core.proofs.QuietLaws.{quiet-same}
-use Rattle.bay_core.proofs.WatchLaws.{watching-same}
+use Rattle.block_watch.proofs.WatchLaws.{watching-same}
 
 -- it is whole as before
 pub whole-sent : (c : Config) (stored : List Stored) (groups : Grouped) (book : Book) (parts : List ReportBlock) (w : Watch) (octets : Filled ℕ) (room latest : ℕ) (dues : List (Option ℕ)) (events : EventRoom) (controls : Table) (b id : ℕ) (part : ReportBlock)

@@ -54,8 +54,8 @@ use Rattle.bay_config.specs.Servable.{IsServable}
 use Rattle.bay_core.specs.Standing.{StandsAt, StandsFor}
 use Rattle.bay_core.specs.State.{State, AreServedSets, IsFurnished}
 use Rattle.bay_values.specs.Held.{AreHeld}
-use Rattle.bay_core.specs.declared.watch.Watch.{Watch}
-use Rattle.bay_core.specs.Watched.{IsIndexed, IsLent, IsWatching, AreBlank, members_in}
+use Rattle.block_watch.specs.declared.watch.Watch.{Watch}
+use Rattle.block_watch.specs.Watched.{IsIndexed, IsLent, IsWatching, AreBlank, members_in}
 use Rattle.std.proofs.lemmas.List.{length-map}
 use Rattle.bay_core.proofs.BookLaws.{part-lent, part-members}
 use Rattle.bay_core.proofs.ArriveLaws.{HaveMembers}

@@ -47,7 +47,7 @@ use Rattle.bay_core.specs.Standing.{StandsAt, StandsFor}
 use Rattle.bay_core.specs.Written.{named_by}
 use Rattle.bay_core.proofs.BookLaws.{known-booked}
 use Rattle.bay_core.proofs.ShapeLaws.{sets_in}
-use Rattle.bay_core.proofs.WatchLaws.{KeepsSet}
+use Rattle.block_watch.proofs.WatchLaws.{KeepsSet}
 use Rattle.bay_core.proofs.MoveLaws.{came-of, counts, accepted-as, groups-quiet}
 
 -- the effect of an accepted write
@@ -275,10 +275,7 @@ module _ (now step : ℕ) (a : AssocNo) (comp : Comp) (v : Value) (named : Optio
     by true = refl
     by false = refl
 
-pub at-place : {A : Type 0} (xs : List A) (i : ℕ) (x : A) → i < length xs → x ≡ slice_index_or xs i x → slice_get xs i ≡ Some x
-at-place xs i x below is = slice_get-get_or xs i x below ∙ ap Some (sym is)
-
--- and where a list is long enough there is one
+-- where a list is long enough there is an element
 pub is-at : {A : Type 0} (xs : List A) (i : ℕ) → i < length xs → (x : A) × (slice_get xs i ≡ Some x)
 is-at xs i below = elim ((slice_get_cases xs i).1) [
   | inl here ↦ (here.0, here.2)

@@ -18,14 +18,14 @@ use Rattle.report_block.specs.declared.block.ReportBlock.{ReportBlock}
 use Rattle.report_block.specs.Components.{after_writing}
 use Rattle.report_block.specs.Writes.{write_answer}
 use Rattle.window_core.specs.Pieces.{Piece}
-use Rattle.bay_core.specs.declared.watch.Watch.{Watch}
+use Rattle.block_watch.specs.declared.watch.Watch.{Watch}
 use Rattle.bay_core.specs.State.{IsFurnished}
-use Rattle.bay_core.specs.Watched.{IsFollowed, members_in}
-use Rattle.bay_core.specs.Written.{named_by, index_after}
+use Rattle.block_watch.specs.Watched.{IsFollowed, members_in, index_after}
+use Rattle.bay_core.specs.Written.{named_by}
 use Rattle.bay_core.proofs.BookLaws.{part-lent}
 use Rattle.bay_core.proofs.FirstState.{watchable}
 use Rattle.bay_core.proofs.FurnishLaws.{furnished-set}
-use Rattle.bay_core.proofs.WatchLaws.{KeepsSet, room-for, watching-written}
+use Rattle.block_watch.proofs.WatchLaws.{KeepsSet, room-for, watching-written}
 use Rattle.bay_core.proofs.WriteLaws.{keeps-set, has-named, has-set, windows-stay}
 
 -- what is known where the part of a place was written to be another

@@ -13,7 +13,7 @@ use Rattle.value_store.specs.Stored.{Stored}
 use Rattle.report_block.specs.declared.block.ReportBlock.{ReportBlock}
 use Rattle.report_block.specs.EntryOctets.{IsWritable}
 use Rattle.report_block.specs.Events.{after_noting, pieces_of}
-use Rattle.bay_core.specs.Watched.{IsLent, members_in}
+use Rattle.block_watch.specs.Watched.{IsLent, members_in}
 
 -- the members of a data set of these shapes that the changes are events of, and why
 abbrev pub mentions_of : List Change → List MemberShape → ReportBlock → List Mention

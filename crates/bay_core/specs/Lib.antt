@@ -3,14 +3,12 @@ pub mod State
 pub mod Standing
 pub mod Turns
 -- time
-pub mod Dues
 pub mod Timed
 pub mod Whole
 -- how it begins
 pub mod Opened
 -- what the process sets, and the entries that blocks get of it
 pub mod Events
-pub mod Watched
 -- what a write makes of the data set that a block reports
 pub mod Written
 pub mod Put

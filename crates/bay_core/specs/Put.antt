@@ -19,7 +19,7 @@ use Rattle.window_core.specs.Points.{at}
 use Rattle.report_block.specs.Coming.{AreOf}
 use Rattle.bay_core.specs.Standing.{StandsAt}
 use Rattle.bay_core.specs.State.{State}
-use Rattle.bay_core.specs.Watched.{members_in}
+use Rattle.block_watch.specs.Watched.{members_in}
 use Rattle.bay_core.specs.Written.{named_by}
 
 -- what the block answers

@@ -13,8 +13,8 @@ use Rattle.bay_values.specs.Held.{AreHeld}
 use Rattle.assoc_table.specs.Seats.{Row}
 use Rattle.control_core.specs.Tables.{Table}
 use Rattle.report_block.specs.declared.block.ReportBlock.{ReportBlock}
-use Rattle.bay_core.specs.declared.watch.Watch.{Watch}
-use Rattle.bay_core.specs.Watched.{IsWatching}
+use Rattle.block_watch.specs.declared.watch.Watch.{Watch}
+use Rattle.block_watch.specs.Watched.{IsWatching}
 use Rattle.bay_config.specs.Servable.{IsServable, IsServedSet}
 
 pub record State : Type 0 where

@@ -10,7 +10,7 @@ use Rattle.report_block.specs.Coming.{arrived}
 use Rattle.report_block.specs.Due.{due_at, IsBefore}
 use Rattle.control_core.specs.Tables.{at_moment}
 use Rattle.bay_core.specs.State.{State}
-use Rattle.bay_core.specs.Watched.{members_in}
+use Rattle.block_watch.specs.Watched.{members_in}
 
 -- a block after time has passed between two moments, of which the later is that of a step
 abbrev pub arrived_part : List NodeRow → Book → List Stored → (was now step : ℕ) → ReportBlock → ReportBlock

@@ -12,7 +12,7 @@ use Rattle.setting_groups.specs.Grouped.{Grouped}
 use Rattle.report_block.specs.declared.block.ReportBlock.{ReportBlock}
 use Rattle.report_block.specs.declared.events.EventRoom.{EventRoom}
 use Rattle.report_block.specs.Events.{HasRoom}
-use Rattle.bay_core.specs.declared.watch.Watch.{Watch}
+use Rattle.block_watch.specs.declared.watch.Watch.{Watch}
 use Rattle.bay_core.specs.State.{IsFurnished}
 use Rattle.bay_values.specs.Held.{AreGrouped}
 use Rattle.bay_core.specs.Timed.{AreQuietUntil}

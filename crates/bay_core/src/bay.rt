@@ -1,11 +1,10 @@
 //! A bay.
 
-use crate::dues::Dues;
-use crate::watch::Watch;
 use bay_model::{Answer, Change, Fixed, Output, Report};
 use bay_queues::Queues;
 use bay_values::Values;
 use block_reports::Rooms;
+use block_watch::{Dues, Watch};
 use data_sets::SetBook;
 use object_model::Model;
 use report_block::{EventRoom, ReportBlock};

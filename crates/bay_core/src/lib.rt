@@ -4,11 +4,9 @@
 
 // a bay, and how it begins
 mod bay;
-mod dues;
 mod opening;
 mod set_names;
 mod source;
-mod watch;
 
 // its steps, and why one is refused
 mod asking;

@@ -10,16 +10,15 @@ ghost use Rattle.setting_groups.specs.Opened.{opened as grouped};
 ghost use Rattle.report_block.specs.Events.{HasRoom};
 ghost use Rattle.bay_config.specs.Servable.{IsServable, IsServedBlock};
 ghost use Rattle.bay_core.specs.Standing.{StandsFor};
-ghost use Rattle.bay_core.specs.Watched.{IsWatching};
+ghost use Rattle.block_watch.specs.Watched.{IsWatching};
 ghost use Rattle.bay_core.specs.Opened.{seen, part_defined, queues_opened};
 
 use crate::bay::Bay;
-use crate::dues::Dues;
 use crate::taking::MOST_MEMBERS;
-use crate::watch::Watch;
 use bay_model::{Change, Fixed};
 use bay_queues::Queues;
 use bay_values::Values;
+use block_watch::{Dues, Watch};
 use data_sets::SetBook;
 use object_model::{Model, domains};
 use report_block::{EventRoom, ReportBlock};

@@ -9,14 +9,13 @@ ghost use Rattle.report_block.specs.declared.block.ReportBlock.{ReportBlock as P
 ghost use Rattle.report_block.specs.Events.{HasRoom, after_noting, pieces_of};
 ghost use Rattle.bay_core.specs.Events.{AreReady, after_events};
 ghost use Rattle.bay_core.specs.Timed.{AreQuietUntil};
-ghost use Rattle.bay_core.specs.Watched.{IsNoteOf, IsWatching, AreBlank, members_in};
+ghost use Rattle.block_watch.specs.Watched.{IsNoteOf, IsWatching, AreBlank, members_in};
 
 use crate::bay::Bay;
-use crate::dues::Dues;
 use crate::fault::StepFault;
 use crate::source::Source;
-use crate::watch::Watch;
 use bay_model::{Answer, Change, Fixed, Note, Sets};
+use block_watch::{Dues, Watch};
 use report_block::{EventRoom, ReportBlock};
 use sv_base::{ActorNo, Moment};
 use touch_index::Notes;

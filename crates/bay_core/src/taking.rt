@@ -2,9 +2,9 @@
 
 use crate::bay::Bay;
 use crate::fault::StepFault;
-use crate::source::set_of;
 use bay_model::{Answer, Output};
 use block_reports::{Blank, Rooms, empty_report, longest_text, report_of};
+use block_watch::set_of;
 use report_block::first_offer;
 use std::alloc::{AllocError, Global};
 use sv_base::{ActorNo, AssocNo, Moment};

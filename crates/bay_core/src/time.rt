@@ -5,9 +5,9 @@ ghost use Rattle.bay_core.specs.Events.{AreReady, IsReady};
 ghost use Rattle.bay_core.specs.Timed.{arrived_all, arrived_part, AreQuietUntil, IsQuietUntil};
 
 use crate::bay::Bay;
-use crate::dues::{Dues, has_come};
 use crate::source::Source;
 use bay_model::Fixed;
+use block_watch::{Dues, has_come};
 use report_block::ReportBlock;
 use sv_base::Moment;
 

@@ -5,8 +5,8 @@ ghost use Rattle.bay_core.specs.Written.{named_by};
 
 use crate::bay::Bay;
 use crate::fault::StepFault;
-use crate::source::set_of;
 use bay_model::{Answer, Comp};
+use block_watch::set_of;
 use data_sets::SetBook;
 use report_block::Written;
 use sv_base::{ActorNo, AssocNo, BlockNo, Moment, Value};

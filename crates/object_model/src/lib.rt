@@ -16,7 +16,6 @@ mod stands;
 mod tables;
 
 // the model, and whether a step fits it
-mod copies;
 mod fitting;
 mod laws;
 mod model;

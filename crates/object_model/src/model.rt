@@ -1,11 +1,11 @@
 //! The model of a configuration.
 
-use crate::copies::copy_config;
 use crate::finding::item_at;
 use crate::fitting::{Counts, step_fits};
 use crate::stands::between;
 use crate::tables::Tables;
 use bay_model::{Flags, Names, NodeTable, SetTable, Step};
+use config_copies::copy_config;
 use name_order::name_at;
 use object_names::{AttrRow, Attributes, Leaf, What, block_references, control_references};
 use octet_rows::Index;

@@ -107,9 +107,10 @@ impl ReportBlock {
         self.block.report_id()
     }
 
-    /// Which optional fields its reports have (IEC 61850-7-2, BRCB attribute OptFlds).
+    /// Which optional fields its reports have, ten bits (IEC 61850-7-2, BRCB attribute OptFlds).
     pub fn opt_flds(&self) -> &[bool]
-        ensures { result.now ≡ self.now.block.options.opt_flds }
+        ensures value { result.now ≡ self.now.block.options.opt_flds }
+        ensures ten { length result.now ≡ 10 }
     {
         self.block.opt_flds()
     }

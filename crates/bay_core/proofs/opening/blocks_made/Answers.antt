@@ -3,7 +3,7 @@ use Rattle.std.specs.List.{All}
 use Rattle.bay_model.specs.declared.tables.NodeRow.{NodeRow}
 use Rattle.data_sets.specs.Books.{opened as booked}
 use Rattle.object_model.specs.Nodes.{node_rows}
-use Rattle.bay_core.specs.Watched.{AreLent, IsWatchable}
+use Rattle.block_watch.specs.Watched.{AreLent, IsWatchable}
 use Rattle.object_model.specs.Tables.{set_rows}
 use Rattle.bay_core.proofs.BookLaws.{sets-lent}
 use Rattle.bay_core.proofs.FirstBook.{booked-first}

@@ -3,8 +3,9 @@ use Rattle.list_laws.proofs.Places.{all-at}
 use Rattle.bay_model.specs.declared.note.Mention.{Mention}
 use Rattle.touch_index.specs.Gathering.{note_at}
 use Rattle.bay_core.specs.Events.{after_event, IsReady}
-use Rattle.bay_core.specs.Watched.{members_in}
-use Rattle.bay_core.proofs.WatchLaws.{part-there, made, note-of, noting, mapped}
+use Rattle.block_watch.specs.Watched.{members_in}
+use Rattle.block_watch.proofs.WatchLaws.{part-there, mapped}
+use Rattle.bay_core.proofs.NoteLaws.{made, note-of, noting}
 use Rattle.bay_core.proofs.setting.event_all.Goals as goal
 
 pub gather-requires-clause-roomy : goal.gather-requires-clause-roomy

@@ -16,9 +16,9 @@ use Rattle.touch_index.proofs.GatheringLaws.{room_same}
 use Rattle.report_block.specs.declared.block.ReportBlock.{ReportBlock}
 use Rattle.set_view.specs.Shapes.{AreThere, shapes_of}
 use Rattle.data_sets.specs.Books.{IsSet, nodes_in}
-use Rattle.bay_core.specs.Watched.{IsLent, IsNoteOf}
-use Rattle.bay_core.proofs.WatchLaws.{Left, left-first, left-next, noting, some-same}
-use Rattle.bay_core.proofs.WriteLaws.{at-place}
+use Rattle.block_watch.specs.Watched.{IsLent, IsNoteOf}
+use Rattle.bay_core.proofs.NoteLaws.{Left, left-first, left-next, noting}
+use Rattle.block_watch.proofs.WatchLaws.{some-same, at-place}
 use Rattle.bay_core.proofs.setting.keep_all.Goals as goal
 
 pub loop-b-init : goal.loop-b-init

@@ -4,8 +4,8 @@ use Rattle.touch_index.specs.Gathering.{note_at}
 use Rattle.report_block.specs.declared.block.ReportBlock.{ReportBlock}
 use Rattle.report_block.specs.Events.{HasRoom}
 use Rattle.bay_core.specs.Timed.{AreQuietUntil}
-use Rattle.bay_core.specs.Watched.{IsNoteOf}
-use Rattle.bay_core.proofs.WatchLaws.{noting}
+use Rattle.block_watch.specs.Watched.{IsNoteOf}
+use Rattle.bay_core.proofs.NoteLaws.{noting}
 use Rattle.bay_core.proofs.setting.keep_all.Given as goal
 
 -- each part with what is left of its note comes to what it is to come to

@@ -6,7 +6,7 @@ use Rattle.list_laws.proofs.EachLaws.{one-more}
 use Rattle.list_laws.proofs.Places.{all-at, got-set}
 use Rattle.bay_core.specs.Events.{IsReady}
 use Rattle.bay_core.specs.Timed.{arrived_part, IsQuietUntil}
-use Rattle.bay_core.proofs.WriteLaws.{at-place}
+use Rattle.block_watch.proofs.WatchLaws.{at-place}
 use Rattle.bay_core.proofs.time.pass_all.Goals as goal
 
 pub loop-place-init : goal.loop-place-init

@@ -14,7 +14,7 @@ use Rattle.setting_groups.proofs.FrameLaws.{fit-values}
 use Rattle.touch_index.proofs.GatherLaws.{once_where_distinct}
 use Rattle.bay_core.specs.Events.{AreReady, after_events}
 use Rattle.bay_core.specs.State.{State, IsFurnished}
-use Rattle.bay_core.specs.Watched.{IsWatching}
+use Rattle.block_watch.specs.Watched.{IsWatching}
 use Rattle.bay_model.specs.Answers.{points}
 use Rattle.bay_model.specs.Named.{configured_model}
 use Rattle.bay_model.specs.Singles.{arrival}

@@ -22,7 +22,7 @@ use Rattle.bay_core.proofs.FurnishLaws.{part-fits}
 use Rattle.bay_core.proofs.SentLaws.{whole-sent}
 use Rattle.bay_core.proofs.ServedLaws.{served-few, shapes-there}
 use Rattle.bay_core.proofs.TakenLaws.{empty-for, given-for, same-part}
-use Rattle.bay_core.proofs.WriteLaws.{at-place}
+use Rattle.block_watch.proofs.WatchLaws.{at-place}
 use Rattle.bay_core.proofs.bay.Bay.take_quiet.Goals as goal
 
 pub set_of-set-requires : goal.set_of-set-requires

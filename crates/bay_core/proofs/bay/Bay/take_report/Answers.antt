@@ -2,7 +2,7 @@ use Rattle.std.proofs.Common.{◌≡◌, ℕ, List, max, arith, subst, ap}
 use Rattle.object_model.specs.Nodes.{node_rows}
 use Rattle.report_block.specs.declared.block.ReportBlock.{ReportBlock}
 use Rattle.control_core.specs.Tables.{at_moment}
-use Rattle.bay_core.specs.Dues.{AreBefore}
+use Rattle.block_watch.specs.Dues.{AreBefore}
 use Rattle.bay_core.specs.State.{State}
 use Rattle.bay_core.specs.Timed.{at_arrival}
 use Rattle.bay_core.proofs.QuietLaws.{none-arrives}

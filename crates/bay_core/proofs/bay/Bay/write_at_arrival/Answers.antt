@@ -15,14 +15,14 @@ use Rattle.report_block.specs.Writes.{without_effect, write_answer}
 use Rattle.bay_core.specs.Put.{answer_at, written_at}
 use Rattle.bay_core.specs.State.{State}
 use Rattle.bay_core.specs.Timed.{AreQuietUntil}
-use Rattle.bay_core.specs.Watched.{members_in}
+use Rattle.block_watch.specs.Watched.{members_in}
 use Rattle.bay_core.proofs.QuietLaws.{quiet-set}
 use Rattle.bay_core.proofs.TakenLaws.{same-part}
 use Rattle.bay_core.proofs.ArriveLaws.{HasAll, general-are}
 use Rattle.bay_core.proofs.WrittenLaws.{written-at}
 use Rattle.bay_core.proofs.BookLaws.{part-lent}
 use Rattle.bay_core.proofs.SettingLaws.{are-ready, have-members}
-use Rattle.bay_core.proofs.WriteLaws.{at-place}
+use Rattle.block_watch.proofs.WatchLaws.{at-place}
 use Rattle.bay_core.proofs.bay.Bay.write_at_arrival.Goals as goal
 
 pub set_of-set-requires : goal.set_of-set-requires

@@ -9,7 +9,7 @@ use Rattle.bay_replies.specs.Given.{copies_from}
 use Rattle.bay_core.specs.Asked.{IsWrite}
 use Rattle.bay_core.specs.Events.{AreReady, after_events}
 use Rattle.bay_core.specs.State.{State, IsFurnished}
-use Rattle.bay_core.specs.Watched.{IsWatching}
+use Rattle.block_watch.specs.Watched.{IsWatching}
 use Rattle.bay_core.proofs.SettingLaws.{are-ready, furnished-all, have-members}
 use Rattle.bay_core.proofs.SingleLaws.{attribute_comes, attribute-refused, attribute-set, one-held, own-at}
 use Rattle.bay_core.proofs.bay.Bay.write_line.Goals as goal

@@ -6,7 +6,7 @@ use Rattle.sv_base.specs.declared.value.Value.{Value}
 use Rattle.bay_model.specs.Singles.{Single, writes, writes_of}
 use Rattle.bay_core.specs.Asked.{AreWrites, node_numbers}
 use Rattle.bay_core.proofs.SingleLaws.{kept-on, members-more, one-write-more}
-use Rattle.bay_core.proofs.WriteLaws.{at-place}
+use Rattle.block_watch.proofs.WatchLaws.{at-place}
 use Rattle.bay_core.proofs.bay.Bay.write_members.Goals as goal
 
 pub loop-i-preserved : goal.loop-i-preserved

@@ -17,7 +17,7 @@ use Rattle.bay_values.proofs.GroupLaws.{loadable}
 use Rattle.bay_core.specs.Asked.{IsWrite}
 use Rattle.bay_core.specs.Events.{AreReady, after_events}
 use Rattle.bay_core.specs.State.{State, IsFurnished}
-use Rattle.bay_core.specs.Watched.{IsWatching}
+use Rattle.block_watch.specs.Watched.{IsWatching}
 use Rattle.bay_core.proofs.GroupLaws.{part-refused, part-quiet, part-set, fit-after, held-loaded}
 use Rattle.bay_core.proofs.SettingLaws.{are-ready, furnished-all, have-members}
 use Rattle.bay_core.proofs.bay.Bay.write_part.Goals as goal

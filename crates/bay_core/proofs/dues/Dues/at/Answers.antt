@@ -1,9 +1,0 @@
-use Rattle.std.proofs.Common.{◌∙◌, ◌<◌, List, Option, ℕ, ap, length, subst, sym}
-use Rattle.std.specs.Prelude.{slice_get}
-use Rattle.bay_core.proofs.WriteLaws.{at-place}
-use Rattle.bay_core.proofs.dues.Dues.at.Goals as goal
-
-pub returns : goal.returns
-returns c =
-    let below = subst (λ (l : List (Option ℕ)). c.args.place < length l) (sym c.self.view_is) c.requires in
-    ap (λ (l : List (Option ℕ)). slice_get l c.args.place) (sym c.self.view_is) ∙ at-place c.self.inside.each.items c.args.place c.index.result.now below c.index.ensures

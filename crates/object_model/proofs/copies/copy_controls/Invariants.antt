@@ -1,5 +1,0 @@
-use Rattle.std.proofs.Common.{◌≡◌, take}
-use Rattle.object_model.proofs.copies.copy_controls.Given as goal
-
-abbrev pub invariant-loop-control : goal.invariant-loop-control
-invariant-loop-control l = l.copies.items ≡ take l.control-index l.controls

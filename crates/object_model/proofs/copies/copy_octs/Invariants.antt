@@ -1,5 +1,0 @@
-use Rattle.std.proofs.Common.{◌≡◌, take}
-use Rattle.object_model.proofs.copies.copy_octs.Given as goal
-
-abbrev pub invariant-loop-octs : goal.invariant-loop-octs
-invariant-loop-octs l = l.copies.items ≡ take l.octs-index l.list
