@@ -27,7 +27,7 @@ pub enum Plain {
 
 /// A value, or a structure of values.
 #[derive(Clone, Copy)]
-pub enum Part {
+pub enum Field {
     Plain(Plain),
     Struct(&'static [Plain]),
 }
@@ -36,7 +36,7 @@ pub enum Part {
 #[derive(Clone, Copy)]
 pub enum Datum {
     Plain(Plain),
-    Struct(&'static [Part]),
+    Struct(&'static [Field]),
 }
 
 /// Whose names are asked for: the server's, those of BAY1, or the association's.
@@ -131,15 +131,15 @@ fn are_plain(values: &[Value], told: &[Plain]) -> bool {
     values.len() == told.len()
 }
 
-fn is_part(value: &Value, told: &Part) -> bool {
+fn is_part(value: &Value, told: &Field) -> bool {
     match (value, told) {
-        (_, Part::Plain(told)) => is_plain(value, told),
-        (Value::Struct(values), Part::Struct(told)) => are_plain(values.as_slice(), told),
+        (_, Field::Plain(told)) => is_plain(value, told),
+        (Value::Struct(values), Field::Struct(told)) => are_plain(values.as_slice(), told),
         _ => false,
     }
 }
 
-fn are_parts(values: &[Value], told: &[Part]) -> bool {
+fn are_parts(values: &[Value], told: &[Field]) -> bool {
     for (value, told) in values.iter().zip(told) {
         if !is_part(value, told) {
             return false;

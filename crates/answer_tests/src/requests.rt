@@ -2,7 +2,7 @@
 //!
 //! The octets are what the grammar of PDUs gives (ISO 9506-2, MMSpdu, spelled as ITU-T X.690 says), written apart from the crates.
 
-use crate::asked::{Ask, Datum, Part, Plain, Set, Variable, Whose, asks};
+use crate::asked::{Ask, Datum, Field, Plain, Set, Variable, Whose, asks};
 use crate::plant::model;
 use bay_answers::read_request;
 use object_model::Model;
@@ -26,7 +26,7 @@ const TRUE: Datum = Datum::Plain(Plain::Bool(true));
 
 const FIVE: Datum = Datum::Plain(Plain::Int(5));
 
-const ORIGIN: Part = Part::Struct(&[Plain::Int(2), Plain::Octets(b"")]);
+const ORIGIN: Field = Field::Struct(&[Plain::Int(2), Plain::Octets(b"")]);
 
 const MOMENT: Utc = Utc {
     secs: 0,
@@ -35,22 +35,22 @@ const MOMENT: Utc = Utc {
 };
 
 /// ctlVal, origin, ctlNum, T, Test and Check of a first command, and of a second one.
-const FIRST: &[Part] = &[
-    Part::Plain(Plain::Bool(true)),
+const FIRST: &[Field] = &[
+    Field::Plain(Plain::Bool(true)),
     ORIGIN,
-    Part::Plain(Plain::Uint(1)),
-    Part::Plain(Plain::Time(MOMENT)),
-    Part::Plain(Plain::Bool(false)),
-    Part::Plain(Plain::Bits(&[false, false])),
+    Field::Plain(Plain::Uint(1)),
+    Field::Plain(Plain::Time(MOMENT)),
+    Field::Plain(Plain::Bool(false)),
+    Field::Plain(Plain::Bits(&[false, false])),
 ];
 
-const SECOND: &[Part] = &[
-    Part::Plain(Plain::Bool(true)),
+const SECOND: &[Field] = &[
+    Field::Plain(Plain::Bool(true)),
     ORIGIN,
-    Part::Plain(Plain::Uint(2)),
-    Part::Plain(Plain::Time(MOMENT)),
-    Part::Plain(Plain::Bool(false)),
-    Part::Plain(Plain::Bits(&[false, false])),
+    Field::Plain(Plain::Uint(2)),
+    Field::Plain(Plain::Time(MOMENT)),
+    Field::Plain(Plain::Bool(false)),
+    Field::Plain(Plain::Bits(&[false, false])),
 ];
 
 const ROWS: [Row; 31] = [

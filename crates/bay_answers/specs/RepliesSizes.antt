@@ -12,7 +12,7 @@ service_size invoke n = element_size (length (uint_octets invoke)) + element_siz
 abbrev pub begun : ℕ → ℕ → ℕ → ℕ → Option (List ℕ)
 begun size invoke tag n =
     if nat_le (element_size (service_size invoke n)) size
-    then Some ((head_octets 161 (service_size invoke n) ++ octets_of 2 (uint_octets invoke)) ++ head_octets tag n)
+    then Some ((head_octets 0xA1 (service_size invoke n) ++ octets_of 0x02 (uint_octets invoke)) ++ head_octets tag n)
     else None
 
 -- the PDU of names whose identifiers have n octets

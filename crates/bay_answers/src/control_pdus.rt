@@ -12,8 +12,8 @@ use crate::replies_elements::{add, enclosed};
 use crate::replies_variables::{add_variable, domain_octets};
 use bay_model::{ApplError, Termination};
 use ber_write::{put_int, put_uint};
-use mms_data::write_data;
-use mms_pdu::write_report;
+use mms_data::{tags as data_tags, write_data};
+use mms_pdu::{tags as pdu_tags, write_report};
 use object_model::Model;
 use std::alloc::{AllocError, Global};
 use sv_base::{CtlDef, Octs, Value};
@@ -22,7 +22,7 @@ use sv_base::{CtlDef, Octs, Value};
 fn add_error_variable(alloc: Global, out: &mut Vec<u8>) -> Result<(), AllocError>
     ensures { OnOk result (out.new.items ≡ out.old.items ++ error_variable) }
 {
-    let name = enclosed(alloc, 0x80, b"LastApplError")?;
+    let name = enclosed(alloc, pdu_tags::VMD_SPECIFIC, b"LastApplError")?;
     add_variable(alloc, out, name.as_slice(), &[])
 }
 
@@ -31,8 +31,8 @@ fn origin(alloc: Global, error: &ApplError) -> Result<Vec<u8>, AllocError>
     ensures { IfOk result (λ v. v.items ≡ origin_octets error.now) }
 {
     let mut out = Vec::new(alloc);
-    put_int(&mut out, 0x85, error.or_cat)?;
-    add(&mut out, 0x89, error.or_ident.as_slice())?;
+    put_int(&mut out, data_tags::INTEGER, error.or_cat)?;
+    add(&mut out, data_tags::OCTET_STRING, error.or_ident.as_slice())?;
     Ok(out)
 }
 
@@ -42,11 +42,11 @@ fn parts(alloc: Global, error: &ApplError) -> Result<Vec<u8>, AllocError>
 {
     let origin = origin(alloc, error)?;
     let mut out = Vec::new(alloc);
-    add(&mut out, 0x8a, error.object.as_slice())?;
-    put_int(&mut out, 0x85, 1)?;
-    add(&mut out, 0xa2, origin.as_slice())?;
-    put_uint(&mut out, 0x86, u64::from(error.ctl_num))?;
-    put_uint(&mut out, 0x85, u64::from(error.cause))?;
+    add(&mut out, data_tags::VISIBLE_STRING, error.object.as_slice())?;
+    put_int(&mut out, data_tags::INTEGER, 1)?;
+    add(&mut out, data_tags::STRUCTURE, origin.as_slice())?;
+    put_uint(&mut out, data_tags::UNSIGNED, u64::from(error.ctl_num))?;
+    put_uint(&mut out, data_tags::INTEGER, u64::from(error.cause))?;
     Ok(out)
 }
 
@@ -56,7 +56,7 @@ fn add_error_data(alloc: Global, out: &mut Vec<u8>, error: &ApplError) -> Result
     ensures { OnOk result (out.new.items ≡ out.old.items ++ data_of_error error.now) }
 {
     let parts = parts(alloc, error)?;
-    add(out, 0xa2, parts.as_slice())
+    add(out, data_tags::STRUCTURE, parts.as_slice())
 }
 
 /// The item of a control's Oper.
@@ -84,7 +84,7 @@ fn reported(alloc: Global, variables: &[u8], values: &[u8]) -> Result<Octs, Allo
     requires { length variables.now < 2 ^ 32 }
     ensures { IfOk result (λ o. o ≡ report_of variables.now values.now) }
 {
-    let list = enclosed(alloc, 0xa0, variables)?;
+    let list = enclosed(alloc, pdu_tags::LIST_OF_VARIABLE, variables)?;
     write_report(alloc, list.as_slice(), values)
 }
 

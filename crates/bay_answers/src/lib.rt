@@ -15,6 +15,7 @@ mod requests;
 mod requests_names;
 mod requests_services;
 mod requests_values;
+mod tags;
 
 // the bay's request of a request's octets
 pub use requests::{read_request, to_rejection, to_request};

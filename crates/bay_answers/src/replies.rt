@@ -10,18 +10,23 @@ use crate::control_pdus::{error_pdu, termination_pdu};
 use crate::replies_contents::{deleted, identify, members_of_set, read, type_of_node, wrote};
 use crate::replies_elements::respond;
 use crate::replies_names::names;
+use crate::tags;
 use bay_model::{ApplError, ApplErrors, Output, Reply, Termination};
-use mms_pdu::{write_error, write_reject};
+use mms_pdu::{tags as pdu_tags, write_error, write_reject};
 use object_model::Model;
 use report_cut::{Pdus, cut};
 use std::alloc::{AllocError, Global};
 use sv_base::Octs;
 
+/// What the response of Status holds (ISO 9506-2, Status-Response): vmdLogicalStatus state-changes-allowed, vmdPhysicalStatus
+/// operational.
+const OPERATIONAL: [u8; 6] = [0x80, 1, 0, 0x81, 1, 0];
+
 /// The end of a conclude.
 fn concluded(alloc: Global) -> Result<Octs, AllocError>
     ensures { IfOk result (λ o. o ≡ concluded_octets) }
 {
-    Ok(Octs::from_vec(Vec::from_slice(alloc, &[0x8c, 0])?))
+    Ok(Octs::from_vec(Vec::from_slice(alloc, &[pdu_tags::CONCLUDE_RESPONSE as u8, 0])?))
 }
 
 /// A reject; those that answer a request have its invoke number.
@@ -51,14 +56,14 @@ fn reply_octets(
     ensures { IfOk result (λ o. o ≡ octets_of_reply model.now size invoke reply.now) }
 {
     match reply {
-        Reply::Status => respond(alloc, size, invoke, 0xa0, &[0x80, 1, 0, 0x81, 1, 0]),
+        Reply::Status => respond(alloc, size, invoke, tags::STATUS, &OPERATIONAL),
         Reply::Identify => identify(alloc, model, size, invoke),
         Reply::Conclude => concluded(alloc),
         Reply::Names(list) => names(alloc, size, invoke, list.as_slice()),
         Reply::TypeOfNode(node) => type_of_node(alloc, model, size, invoke, *node),
         Reply::Read { asked, results } => read(alloc, size, invoke, asked, results.as_slice()),
         Reply::Wrote(codes) => wrote(alloc, size, invoke, codes.as_slice()),
-        Reply::Defined => respond(alloc, size, invoke, 0x8b, &[]),
+        Reply::Defined => respond(alloc, size, invoke, tags::DEFINE_LIST, &[]),
         Reply::SetOf { deletable, members } => {
             members_of_set(alloc, model, size, invoke, *deletable, members.as_slice())
         }

@@ -11,10 +11,11 @@ ghost use Rattle.bay_answers.specs.Replies.{IsWritable, IsNode, response};
 
 use crate::replies_elements::{add, add_truth, begin, element_len, respond};
 use crate::replies_variables::{add_nodes, asked_octets};
+use crate::tags;
 use bay_model::Asked;
 use ber_write::{put_head, put_uint, uint_len};
 use mms_data::{write_data, write_type};
-use mms_pdu::write_error;
+use mms_pdu::{tags as pdu_tags, write_error};
 use object_model::Model;
 use std::alloc::{AllocError, Global};
 use sv_base::{NodeId, Octs, Value, data_len};
@@ -27,14 +28,14 @@ pub(crate) fn identify(
     invoke: u32,
 ) -> Result<Octs, AllocError>
     requires { size ≤ 65000 }
-    ensures { IfOk result (λ o. o ≡ response size invoke 162 (identify_content model.now)) }
+    ensures { IfOk result (λ o. o ≡ response size invoke 0xA2 (identify_content model.now)) }
 {
     let config = model.config();
     let mut content = Vec::new(alloc);
-    add(&mut content, 0x80, config.vendor.as_slice())?;
-    add(&mut content, 0x81, config.model.as_slice())?;
-    add(&mut content, 0x82, config.revision.as_slice())?;
-    respond(alloc, size, invoke, 0xa2, content.as_slice())
+    add(&mut content, tags::VENDOR_NAME, config.vendor.as_slice())?;
+    add(&mut content, tags::MODEL_NAME, config.model.as_slice())?;
+    add(&mut content, tags::REVISION, config.revision.as_slice())?;
+    respond(alloc, size, invoke, tags::IDENTIFY, content.as_slice())
 }
 
 /// The response of GetVariableAccessAttributes.
@@ -52,15 +53,21 @@ pub(crate) fn type_of_node(
     let mut kind = Vec::new(alloc);
     write_type(model.type_of(node), &mut kind)?;
     let mut content = Vec::new(alloc);
-    add_truth(&mut content, 0x80, false)?;
-    add(&mut content, 0xa2, kind.as_slice())?;
-    respond(alloc, size, invoke, 0xa6, content.as_slice())
+    add_truth(&mut content, tags::MMS_DELETABLE, false)?;
+    add(&mut content, tags::TYPE_DESCRIPTION, kind.as_slice())?;
+    respond(
+        alloc,
+        size,
+        invoke,
+        pdu_tags::GET_ATTRIBUTES,
+        content.as_slice(),
+    )
 }
 
 /// How many octets a failure has.
 #[tactic(auto, using(crate::proofs::RepliesSizeLaws::length_of_failure))]
 fn failure_len(code: u8) -> u32
-    ensures value { result ≡ length (octets_of 128 (uint_octets code)) }
+    ensures value { result ≡ length (octets_of 0x80 (uint_octets code)) }
     ensures few { result ≤ 15 }
 {
     element_len(uint_len(u64::from(code)))
@@ -93,7 +100,7 @@ fn put_result(out: &mut Vec<u8>, one: &Result<Value, u8>) -> Result<(), AllocErr
 {
     match one {
         Ok(value) => write_data(value, out),
-        Err(code) => put_uint(out, 0x80, u64::from(*code)),
+        Err(code) => put_uint(out, pdu_tags::FAILURE, u64::from(*code)),
     }
 }
 
@@ -117,10 +124,10 @@ fn put_read(
 ) -> Result<(), AllocError>
     requires results { All IsWritable results.now }
     requires len { len ≡ length (results_octets results.now) }
-    ensures { OnOk result (out.new.items ≡ out.old.items ++ (asked.now ++ octets_of 161 (results_octets results.now))) }
+    ensures { OnOk result (out.new.items ≡ out.old.items ++ (asked.now ++ octets_of 0xA1 (results_octets results.now))) }
 {
     out.extend_from_slice(asked)?;
-    put_head(out, 0xa1, len)?;
+    put_head(out, pdu_tags::LIST_OF_RESULT, len)?;
     put_results(out, results)
 }
 
@@ -146,7 +153,7 @@ pub(crate) fn read(
         alloc,
         size,
         invoke,
-        0xa4,
+        pdu_tags::READ,
         asked.len() + element_len(len) as usize,
     )? {
         Some(mut out) => {
@@ -161,8 +168,8 @@ fn put_code(out: &mut Vec<u8>, code: Result<(), u8>) -> Result<(), AllocError>
     ensures { OnOk result (out.new.items ≡ out.old.items ++ written_octets code) }
 {
     match code {
-        Ok(()) => out.extend_from_slice(&[0x81, 0]),
-        Err(code) => put_uint(out, 0x80, u64::from(code)),
+        Ok(()) => out.extend_from_slice(&[pdu_tags::SUCCESS as u8, 0]),
+        Err(code) => put_uint(out, pdu_tags::FAILURE, u64::from(code)),
     }
 }
 
@@ -180,7 +187,7 @@ pub(crate) fn wrote(
     for code in codes {
         put_code(&mut content, *code)?;
     }
-    respond(alloc, size, invoke, 0xa5, content.as_slice())
+    respond(alloc, size, invoke, pdu_tags::WRITE, content.as_slice())
 }
 
 /// The response of GetNamedVariableListAttributes.
@@ -199,9 +206,15 @@ pub(crate) fn members_of_set(
     let mut list = Vec::new(alloc);
     add_nodes(alloc, &mut list, model, members)?;
     let mut content = Vec::new(alloc);
-    add_truth(&mut content, 0x80, deletable)?;
-    add(&mut content, 0xa1, list.as_slice())?;
-    respond(alloc, size, invoke, 0xac, content.as_slice())
+    add_truth(&mut content, tags::MMS_DELETABLE, deletable)?;
+    add(&mut content, tags::LIST_OF_VARIABLE, list.as_slice())?;
+    respond(
+        alloc,
+        size,
+        invoke,
+        pdu_tags::GET_LIST_ATTRIBUTES,
+        content.as_slice(),
+    )
 }
 
 /// The response of DeleteNamedVariableList.
@@ -216,7 +229,13 @@ pub(crate) fn deleted(
     ensures { IfOk result (λ o. o ≡ response size invoke delete_list_tag (deleted_content matched deleted)) }
 {
     let mut content = Vec::new(alloc);
-    put_uint(&mut content, 0x80, u64::from(matched))?;
-    put_uint(&mut content, 0x81, u64::from(deleted))?;
-    respond(alloc, size, invoke, 0xad, content.as_slice())
+    put_uint(&mut content, tags::NUMBER_MATCHED, u64::from(matched))?;
+    put_uint(&mut content, tags::NUMBER_DELETED, u64::from(deleted))?;
+    respond(
+        alloc,
+        size,
+        invoke,
+        pdu_tags::DELETE_LIST,
+        content.as_slice(),
+    )
 }

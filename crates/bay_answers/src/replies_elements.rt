@@ -9,7 +9,7 @@ ghost use Rattle.bay_answers.specs.Replies.{response as response_of};
 ghost use Rattle.bay_answers.specs.RepliesSizes.{service_size, begun};
 
 use ber_write::{length_of, put, put_head, put_uint, uint_len};
-use mms_pdu::write_error;
+use mms_pdu::{tags, write_error};
 use std::alloc::{AllocError, Global};
 use sv_base::Octs;
 
@@ -84,8 +84,8 @@ pub(crate) fn begin(
         return Ok(None);
     }
     let mut out = Vec::with_capacity(alloc, element_len(len) as usize)?;
-    put_head(&mut out, 0xa1, len)?;
-    put_uint(&mut out, 0x02, u64::from(invoke))?;
+    put_head(&mut out, tags::CONFIRMED_RESPONSE, len)?;
+    put_uint(&mut out, tags::INVOKE_ID, u64::from(invoke))?;
     put_head(&mut out, tag, n as u32)?;
     Ok(Some(out))
 }

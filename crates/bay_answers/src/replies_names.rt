@@ -7,7 +7,9 @@ ghost use Rattle.bay_answers.specs.RepliesSizes.{names_size, with_one};
 ghost use Rattle.bay_answers.specs.Replies.{shown, names_response};
 
 use crate::replies_elements::{add, add_truth, element_len, respond, service_len};
+use crate::tags;
 use ber_write::put_head;
+use mms_pdu::tags as pdu_tags;
 use std::alloc::{AllocError, Global};
 use sv_base::Octs;
 
@@ -62,7 +64,7 @@ fn add_identifiers(out: &mut Vec<u8>, names: &[Octs]) -> Result<(), AllocError>
     ensures { OnOk result (out.new.items ≡ out.old.items ++ identifiers names.now) }
 {
     for name in names {
-        add(out, 0x1a, name.as_slice())?;
+        add(out, pdu_tags::IDENTIFIER, name.as_slice())?;
     }
     Ok(())
 }
@@ -81,8 +83,14 @@ pub(crate) fn names(
 {
     let (count, sum) = fitting_names(size, invoke, names);
     let mut content = Vec::new(alloc);
-    put_head(&mut content, 0xa0, sum)?;
+    put_head(&mut content, tags::LIST_OF_IDENTIFIER, sum)?;
     add_identifiers(&mut content, &names[..count])?;
-    add_truth(&mut content, 0x81, count < names.len())?;
-    respond(alloc, size, invoke, 0xa1, content.as_slice())
+    add_truth(&mut content, tags::MORE_FOLLOWS, count < names.len())?;
+    respond(
+        alloc,
+        size,
+        invoke,
+        pdu_tags::GET_NAME_LIST,
+        content.as_slice(),
+    )
 }

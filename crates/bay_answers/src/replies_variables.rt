@@ -1,6 +1,7 @@
 //! Names of variables and lists of variables, written (ISO 9506-2, ObjectName and VariableAccessSpecification).
 
 ghost use Rattle.std.specs.Prelude.{◌≡◌, ◌<◌, ◌++◌, length, OnOk, IfOk};
+ghost use Rattle.ber_write.specs.Minimal.{octets_of, CanBeTag};
 ghost use Rattle.std.specs.List.{All, flat_map};
 ghost use Rattle.mms_pdu.specs.AskingOctets.{domain_name};
 ghost use Rattle.bay_answers.specs.RepliesVariables.{name_octets, variable_octets, target_octets, asked_octets as asked_of};
@@ -8,7 +9,8 @@ ghost use Rattle.bay_answers.specs.RepliesVariables.{node_name as name_of_node, 
 ghost use Rattle.bay_answers.specs.Replies.{IsNode};
 
 use crate::replies_elements::{add, enclosed};
-use bay_model::{Asked, ObjName, Target};
+use bay_model::{Asked, ObjName, SetName, Target};
+use mms_pdu::tags;
 use object_model::Model;
 use std::alloc::{AllocError, Global};
 use sv_base::NodeId;
@@ -21,9 +23,9 @@ pub(crate) fn domain_octets(
 ) -> Result<Vec<u8>, AllocError>
     ensures { IfOk result (λ v. v.items ≡ domain_name domain.now item.now) }
 {
-    let mut both = enclosed(alloc, 0x1a, domain)?;
-    add(&mut both, 0x1a, item)?;
-    enclosed(alloc, 0xa1, both.as_slice())
+    let mut both = enclosed(alloc, tags::IDENTIFIER, domain)?;
+    add(&mut both, tags::IDENTIFIER, item)?;
+    enclosed(alloc, tags::DOMAIN_SPECIFIC, both.as_slice())
 }
 
 /// A name as it was asked for.
@@ -31,13 +33,13 @@ fn name(alloc: Global, name: &ObjName) -> Result<Vec<u8>, AllocError>
     ensures { IfOk result (λ v. v.items ≡ name_octets name.now) }
 {
     match name {
-        ObjName::Vmd(octets) => enclosed(alloc, 0x80, octets.as_slice()),
+        ObjName::Vmd(octets) => enclosed(alloc, tags::VMD_SPECIFIC, octets.as_slice()),
         ObjName::Domain { domain, item } => domain_octets(
             alloc,
             domain.as_slice(),
             item.as_slice(),
         ),
-        ObjName::Assoc(octets) => enclosed(alloc, 0x82, octets.as_slice()),
+        ObjName::Assoc(octets) => enclosed(alloc, tags::AA_SPECIFIC, octets.as_slice()),
     }
 }
 
@@ -50,9 +52,9 @@ pub(crate) fn add_variable(
 ) -> Result<(), AllocError>
     ensures { OnOk result (out.new.items ≡ out.old.items ++ variable_octets name.now behind.now) }
 {
-    let mut content = enclosed(alloc, 0xa0, name)?;
+    let mut content = enclosed(alloc, tags::NAME, name)?;
     content.extend_from_slice(behind)?;
-    add(out, 0x30, content.as_slice())
+    add(out, tags::VARIABLE, content.as_slice())
 }
 
 /// Adds a variable as it was asked for.
@@ -67,7 +69,7 @@ fn add_target(alloc: Global, out: &mut Vec<u8>, target: &Target) -> Result<(), A
             alloc,
             out,
             name(alloc, asked)?.as_slice(),
-            &[0xa5, 0],
+            &[tags::ALTERNATE_ACCESS as u8, 0],
         ),
     }
 }
@@ -81,6 +83,32 @@ fn add_targets(alloc: Global, out: &mut Vec<u8>, targets: &[Target]) -> Result<(
     Ok(())
 }
 
+/// The specification of variables that has this content, under its tag.
+fn specification(alloc: Global, tag: u32, content: &[u8]) -> Result<Vec<u8>, AllocError>
+    requires { CanBeTag tag }
+    ensures { IfOk result (λ v. v.items ≡ octets_of 0xA0 (octets_of tag content.now)) }
+{
+    let inner = enclosed(alloc, tag, content)?;
+    enclosed(alloc, tags::SPECIFICATION_OF_RESULT, inner.as_slice())
+}
+
+/// Variables that were asked for, as a list.
+fn asked_variables(alloc: Global, targets: &[Target]) -> Result<Vec<u8>, AllocError>
+    ensures { IfOk result (λ v. v.items ≡ octets_of 0xA0 (octets_of 0xA0 (flat_map target_octets targets.now))) }
+{
+    let mut list = Vec::new(alloc);
+    add_targets(alloc, &mut list, targets)?;
+    specification(alloc, tags::LIST_OF_VARIABLE, list.as_slice())
+}
+
+/// A data set that was asked for, by its name.
+fn asked_set(alloc: Global, set: &SetName) -> Result<Vec<u8>, AllocError>
+    ensures { IfOk result (λ v. v.items ≡ octets_of 0xA0 (octets_of 0xA1 (domain_name set.now.domain set.now.item))) }
+{
+    let name = domain_octets(alloc, set.domain.as_slice(), set.item.as_slice())?;
+    specification(alloc, tags::VARIABLE_LIST_NAME, name.as_slice())
+}
+
 /// What was asked for, where that is written back.
 #[tactic(auto, unfolding(crate::specs::RepliesVariables::asked_octets))]
 pub(crate) fn asked_octets(alloc: Global, asked: &Asked) -> Result<Vec<u8>, AllocError>
@@ -88,17 +116,8 @@ pub(crate) fn asked_octets(alloc: Global, asked: &Asked) -> Result<Vec<u8>, Allo
 {
     match asked {
         Asked::No => Ok(Vec::new(alloc)),
-        Asked::Vars(targets) => {
-            let mut list = Vec::new(alloc);
-            add_targets(alloc, &mut list, targets.as_slice())?;
-            let specification = enclosed(alloc, 0xa0, list.as_slice())?;
-            enclosed(alloc, 0xa0, specification.as_slice())
-        }
-        Asked::Set(set) => {
-            let name = domain_octets(alloc, set.domain.as_slice(), set.item.as_slice())?;
-            let specification = enclosed(alloc, 0xa1, name.as_slice())?;
-            enclosed(alloc, 0xa0, specification.as_slice())
-        }
+        Asked::Vars(targets) => asked_variables(alloc, targets.as_slice()),
+        Asked::Set(set) => asked_set(alloc, set),
     }
 }
 

@@ -38,7 +38,7 @@ use Rattle.control_core.proofs.controls.Controls.TheSendSync as controls
 use Rattle.bay_queues.specs.contracts.queues.Queues as Queues
 use Rattle.report_block.specs.contracts.block.ReportBlock as ReportBlock
 use Rattle.window_core.proofs.window.Window.TheSendSync as window
-use Rattle.block_reports.proofs.room.Rooms.TheSendSync as rooms
+use Rattle.block_reports.proofs.member_rooms.Rooms.TheSendSync as rooms
 use Rattle.block_watch.proofs.dues.Dues.TheSendSync as dues
 use Rattle.bay_core.specs.contracts.bay.Bay as Bay
 

@@ -30,7 +30,7 @@ use Rattle.brcb_state.specs.Refusals.{answer_to, names_nothing, first_of, refusa
 use Rattle.brcb_state.specs.Standing.{Stands as AttributesStand, outcome_of, after_deed, kept_at, is_known, is_general, is_purging}
 use Rattle.brcb_state.specs.declared.block.Block.{Block}
 use Rattle.brcb_state.specs.declared.told.Effect.{Effect}
-use Rattle.brcb_state.specs.declared.told.Kept.{Kept}
+use Rattle.brcb_state.specs.declared.told.Retained.{Retained}
 use Rattle.window_core.specs.Pieces.{Piece}
 use Rattle.window_core.specs.Points.{at}
 use Rattle.report_block.specs.declared.block.ReportBlock.{ReportBlock}
@@ -82,7 +82,7 @@ known-or-empty book t named is passes = by (is_empty t) (is_some named) refl ref
   by false false empty some h = cc
 
 -- a written DatSet has the number of a set exactly where it names one of the model's
-known-told : (c : Config) (past : Past) (book : Book) (kept : Kept) (comp : Comp) (v : Value) → sets_in book ≡ sets (configured_model c) past
+known-told : (c : Config) (past : Past) (book : Book) (kept : Retained) (comp : Comp) (v : Value) → sets_in book ≡ sets (configured_model c) past
     → names_nothing kept (is_some (named_by comp v book)) comp v ≡ names_nothing kept (is_known (configured_model c) past v) comp v
 known-told c past book kept comps.DatSet (kinds.Text t) same = ap (λ k. not (is_empty t) && not k) (known-booked t book ∙ ap (λ all. is_some (set_referred t all)) same)
 known-told c past book kept comps.DatSet _ same = refl

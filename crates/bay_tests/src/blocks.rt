@@ -1,7 +1,7 @@
 //! What writes of a report block's components are answered, and which report is next.
 
 use bay_model::Comp;
-use brcb_state::{Block, Effect, Kept, Next};
+use brcb_state::{Block, Effect, Next, Retained};
 use std::alloc::{AllocError, Global};
 use std::test::*;
 use sv_base::{AssocNo, Bits, BlockDef, Moment, Octs, Stamp, Value};
@@ -38,8 +38,8 @@ fn block(alloc: Global) -> Result<Block, AllocError> {
     Block::open(alloc, &def)
 }
 
-fn kept(front: u64, len: u64) -> Kept {
-    Kept { front, len }
+fn kept(front: u64, len: u64) -> Retained {
+    Retained { front, len }
 }
 
 fn next(id: u64, ovfl: bool, sq: u16) -> Option<Next> {
@@ -72,7 +72,7 @@ type Trial = (AssocNo, Comp, Given, Result<Effect, u8>);
 fn answer(
     alloc: Global,
     block: &mut Block,
-    kept: Kept,
+    kept: Retained,
     trial: &Trial,
 ) -> Result<Result<Effect, u8>, AllocError> {
     let (a, comp, given, _) = *trial;
@@ -83,7 +83,7 @@ fn answer(
 fn first_wrong(
     alloc: Global,
     block: &mut Block,
-    kept: Kept,
+    kept: Retained,
     trials: &[Trial],
 ) -> Result<Option<usize>, AllocError> {
     for (i, trial) in trials.iter().enumerate() {

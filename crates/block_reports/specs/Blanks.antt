@@ -8,12 +8,12 @@ use Rattle.bay_model.specs.Notes.{Kept}
 use Rattle.bay_model.specs.Reports.{report_id, reference_at}
 use Rattle.set_view.specs.Shapes.{node_numbers}
 use Rattle.report_block.specs.declared.block.ReportBlock.{ReportBlock}
-use Rattle.block_reports.specs.declared.room.Room.{Room}
+use Rattle.block_reports.specs.declared.member_rooms.MemberRoom.{MemberRoom}
 use Rattle.block_reports.specs.Again.{AreKept}
 use Rattle.report_block.specs.Standing.{AreKeptMembers}
 
 -- room for the reference of a member and for its Data
-abbrev pub IsRoom : Room → Type 0
+abbrev pub IsRoom : MemberRoom → Type 0
 IsRoom r = (129 ≤ vec_capacity r.reference) × (500 ≤ vec_capacity r.octets)
 
 -- the members so far, and how many more have room

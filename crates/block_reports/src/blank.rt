@@ -7,8 +7,8 @@ ghost use Rattle.bay_model.specs.Notes.{Kept};
 ghost use Rattle.block_reports.specs.Again.{AreNodes, reported};
 ghost use Rattle.block_reports.specs.Blanks.{longest_text_in, AreShortTexts, IsShortSet, AreFew};
 
+use crate::member_rooms::{Rooms, Row};
 use crate::reports::{Texts, joined_in, report_with};
-use crate::room::{Rooms, Row};
 use crate::spare::{copied_in, emptied, empty_report};
 use bay_model::{Members, Report};
 use entry_ring::Entry;

@@ -9,9 +9,9 @@ mod spare;
 
 // a report in room that was made before
 mod blank;
-mod room;
+mod member_rooms;
 
 pub use blank::{Blank, longest_text};
+pub use member_rooms::Rooms;
 pub use reports::report_of;
-pub use room::Rooms;
 pub use spare::empty_report;

@@ -10,7 +10,8 @@ use sv_base::Moment;
 
 /// A moment has come; where there is none it never does.
 pub fn has_come(due: Option<u64>, now: Moment) -> bool
-    ensures { result ≡ false → IsBefore now due }
+    ensures late { result ≡ false → IsBefore now due }
+    ensures come { IsBefore now due → result ≡ false }
 {
     match due {
         Some(due) => due <= now.ms(),

@@ -10,7 +10,7 @@ use Rattle.bay_model.specs.Model as model
 use Rattle.bay_model.specs.Parameters.{written_to, is_changed_by, next_revision}
 use Rattle.bay_model.specs.Blocks.{is_mine, is_anothers, entry_id}
 use Rattle.brcb_state.specs.declared.block.Block.{Block}
-use Rattle.brcb_state.specs.declared.told.Kept.{Kept}
+use Rattle.brcb_state.specs.declared.told.Retained.{Retained}
 use Rattle.brcb_state.specs.declared.told.Next.{Next}
 use Rattle.brcb_state.specs.declared.told.Effect.{Effect}
 use Rattle.brcb_state.specs.declared.told.Effect.TheVariants as effects
@@ -54,5 +54,5 @@ abbrev pub after_loss : AssocNo → Block → Block
 after_loss a s = record s { enabler = if is_by a s.enabler then None else s.enabler }
 
 -- the entry that is reported to a next
-abbrev pub next_to : AssocNo → Kept → Block → Option Next
+abbrev pub next_to : AssocNo → Retained → Block → Option Next
 next_to a kept s = if is_by a s.enabler && nat_lt (max s.cursor kept.front) kept.len then Some (record { id = suc (max s.cursor kept.front); ovfl = nat_lt s.cursor kept.front; sq = s.count }) else None

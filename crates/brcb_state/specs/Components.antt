@@ -10,14 +10,14 @@ use Rattle.bay_model.specs.declared.flags.Trg.{Trg}
 use Rattle.bay_model.specs.Parameters.{bit}
 use Rattle.bay_model.specs.Components.{stamp_of, no_stamp}
 use Rattle.brcb_state.specs.declared.block.Block.{Block}
-use Rattle.brcb_state.specs.declared.told.Kept.{Kept}
+use Rattle.brcb_state.specs.declared.told.Retained.{Retained}
 
 -- bits 1 to 5 of TrgOps
 abbrev pub trg_of : List Bool → Trg
 trg_of trg_ops = record { dchg = bit 1 trg_ops; qchg = bit 2 trg_ops; dupd = bit 3 trg_ops; intg = bit 4 trg_ops; gi = bit 5 trg_ops }
 
 -- a component, where newest is the moment of the newest entry
-abbrev pub read_of : Comp → Kept → Option ℕ → Block → Value
+abbrev pub read_of : Comp → Retained → Option ℕ → Block → Value
 read_of comps.RptID kept newest s = kinds.Text s.options.rpt_id
 read_of comps.RptEna kept newest s = kinds.Bool (is_some s.enabler)
 read_of comps.DatSet kept newest s = kinds.Text s.options.dat_set

@@ -7,12 +7,12 @@ use Rattle.bay_model.specs.BlockWrites as model
 use Rattle.bay_model.specs.BlockWrites.{component_refusals}
 pub use Rattle.bay_model.specs.Outcomes.{first_of}
 use Rattle.brcb_state.specs.declared.block.Block.{Block}
-use Rattle.brcb_state.specs.declared.told.Kept.{Kept}
+use Rattle.brcb_state.specs.declared.told.Retained.{Retained}
 use Rattle.brcb_state.specs.declared.told.Effect.{Effect}
 use Rattle.brcb_state.specs.Changes.{effect_of}
 
 -- a DatSet that is neither empty nor known, or an EntryID that is neither zero nor of a retained entry
-abbrev pub names_nothing : Kept → Bool → Comp → Value → Bool
+abbrev pub names_nothing : Retained → Bool → Comp → Value → Bool
 names_nothing kept known comp v = model.names_nothing kept.front kept.len known comp v
 
 -- the refusals in order, each with its test; at last whether the value names nothing

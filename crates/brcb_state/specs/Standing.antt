@@ -14,7 +14,7 @@ use Rattle.bay_model.specs.Blocks.{enabler, cursor, sq_num}
 use Rattle.bay_model.specs.BlockWrites as writes
 use Rattle.bay_model.specs.Outcomes.{Outcome, outcome_by}
 use Rattle.brcb_state.specs.declared.block.Block.{Block}
-use Rattle.brcb_state.specs.declared.told.Kept.{Kept}
+use Rattle.brcb_state.specs.declared.told.Retained.{Retained}
 use Rattle.brcb_state.specs.declared.told.Effect.{Effect}
 use Rattle.brcb_state.specs.declared.told.Effect.TheVariants as effects
 use Rattle.brcb_state.specs.Changes.{written, after_report, after_loss}
@@ -28,7 +28,7 @@ pub record Stands (s : Block) (c : Model) (b : ℕ) (past : Past) : Type 0 where
   pub count : s.count ≡ sq_num b past
 
 -- the entries of block b
-abbrev pub kept_at : Model → ℕ → Past → Kept
+abbrev pub kept_at : Model → ℕ → Past → Retained
 kept_at c b past = record { front = front c b past; len = length (selected c b past) }
 
 -- a DatSet that is written names a set

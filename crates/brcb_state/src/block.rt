@@ -5,7 +5,7 @@ ghost use Rattle.bay_model.specs.Configured.{block_defined};
 ghost use Rattle.bay_model.specs.Parameters.{bit as bit_of};
 
 use crate::options::Options;
-use crate::told::{Kept, Next};
+use crate::told::{Next, Retained};
 use bay_model::Trg;
 use std::alloc::{AllocError, Global};
 use sv_base::{AssocNo, BlockDef, Octs};
@@ -90,7 +90,7 @@ impl Block {
 
     /// The report that an association gets next; none where it hasn't enabled the block, or where all entries are
     /// reported.
-    pub fn next(&self, a: AssocNo, kept: Kept) -> Option<Next>
+    pub fn next(&self, a: AssocNo, kept: Retained) -> Option<Next>
         ensures { result ≡ next_to a kept self.now }
     {
         let last = self.cursor.max(kept.front);

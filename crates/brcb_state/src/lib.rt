@@ -12,7 +12,7 @@ mod writes;
 
 // a block, and what it is told of its entries
 pub use block::Block;
-pub use told::{Effect, Kept, Next};
+pub use told::{Effect, Next, Retained};
 
 // its laws
 pub use laws::{

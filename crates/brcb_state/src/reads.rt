@@ -7,7 +7,7 @@ ghost use Rattle.sv_base.specs.declared.value.Value.TheVariants as kinds;
 ghost use Rattle.bay_model.specs.Components.{stamp_of as stamp_at, no_stamp};
 
 use crate::block::Block;
-use crate::told::Kept;
+use crate::told::Retained;
 use bay_model::Comp;
 use std::alloc::{AllocError, Global};
 use sv_base::{Bits, Moment, Octs, Stamp, Value};
@@ -66,7 +66,7 @@ impl Block {
         &self,
         alloc: Global,
         comp: Comp,
-        kept: Kept,
+        kept: Retained,
         newest: Option<Moment>,
     ) -> Result<Value, AllocError>
         ensures { IfOk result (λ v. v ≡ read_of comp kept newest self.now) }

@@ -2,7 +2,7 @@
 
 /// The entries of a block at a moment.
 #[derive(Clone, Copy, Debug, PartialEq, Eq)]
-pub struct Kept {
+pub struct Retained {
     /// The number of the newest entry that is no longer retained, or 0.
     pub front: u64,
     /// The number of the newest entry, or 0.

@@ -9,7 +9,7 @@ ghost use Rattle.brcb_state.specs.declared.told.Effect.TheVariants as effects;
 ghost use Rattle.bay_model.specs.BlockWrites.{is_retained_or_zero};
 
 use crate::block::{Block, bit};
-use crate::told::{Effect, Kept};
+use crate::told::{Effect, Retained};
 use bay_model::Comp;
 use sv_base::{AssocNo, Value};
 
@@ -31,7 +31,7 @@ pub fn is_empty(octets: &[u8]) -> bool
 }
 
 /// The entry of a number is retained, or the number is zero.
-fn is_retained_or_zero(kept: Kept, n: u64) -> bool
+fn is_retained_or_zero(kept: Retained, n: u64) -> bool
     ensures { result ≡ is_retained_or_zero kept.front kept.len n }
 {
     n == 0 || (kept.front < n && n <= kept.len)
@@ -63,7 +63,7 @@ impl Block {
     ghost use Rattle.std.specs.Prelude.{◌≡◌, ◌==◌, ◌&&◌, ℕ, Bool, false, is_none, is_some, min, Result, Ok, Err, OnOk, OnErr, if◌then◌else◌};
     ghost use Rattle.sv_base.specs.declared.value.Value.TheVariants as kinds;
     ghost use Rattle.bay_model.specs.declared.components.Comp.TheVariants as comps;
-    ghost use Rattle.brcb_state.specs.declared.told.Kept.{Kept};
+    ghost use Rattle.brcb_state.specs.declared.told.Retained.{Retained};
     ghost use Rattle.brcb_state.specs.declared.told.Effect.TheVariants as effects;
     ghost use Rattle.brcb_state.specs.Changes.{written, effect_of};
     ghost use Rattle.bay_model.specs.BlockWrites.{is_retained_or_zero};
@@ -126,7 +126,7 @@ impl Block {
         if n == 0 { self.cursor.min(front) } else { n }
     }
 
-    fn resume(&mut self, n: u64, kept: Kept) -> Result<Effect, u8>
+    fn resume(&mut self, n: u64, kept: Retained) -> Result<Effect, u8>
         ensures answer { result ≡ (if is_some self.old.enabler then Err 2 else (if is_retained_or_zero kept.front kept.len n then Ok effects.Nothing else Err 11)) }
         ensures written { OnOk result (self.new ≡ record self.old { cursor = if n == 0 then min self.old.cursor kept.front else n }) }
         ensures unchanged { OnErr result (self.new ≡ self.old) }
@@ -141,7 +141,7 @@ impl Block {
         Ok(Effect::Nothing)
     }
 
-    fn resume_at(&mut self, a: AssocNo, octets: &[u8], kept: Kept) -> Result<Effect, u8>
+    fn resume_at(&mut self, a: AssocNo, octets: &[u8], kept: Retained) -> Result<Effect, u8>
         ensures answer { result ≡ answer_to a comps.EntryID (kinds.Octets octets.now) (names_nothing kept false comps.EntryID (kinds.Octets octets.now)) self.old }
         ensures written { OnOk result (self.new ≡ written a comps.EntryID (kinds.Octets octets.now) kept.front self.old) }
         ensures unchanged { OnErr result (self.new ≡ self.old) }
@@ -152,7 +152,7 @@ impl Block {
         }
     }
 
-    fn write_entry_id(&mut self, a: AssocNo, value: &Value, kept: Kept) -> Result<Effect, u8>
+    fn write_entry_id(&mut self, a: AssocNo, value: &Value, kept: Retained) -> Result<Effect, u8>
         ensures answer { result ≡ answer_to a comps.EntryID value.now (names_nothing kept false comps.EntryID value.now) self.old }
         ensures written { OnOk result (self.new ≡ written a comps.EntryID value.now kept.front self.old) }
         ensures unchanged { OnErr result (self.new ≡ self.old) }
@@ -229,7 +229,7 @@ impl Block {
         a: AssocNo,
         comp: Comp,
         value: &Value,
-        kept: Kept,
+        kept: Retained,
         known: bool,
     ) -> Result<Effect, u8>
         ensures answer { result ≡ answer_to a comp value.now (names_nothing kept known comp value.now) self.old }

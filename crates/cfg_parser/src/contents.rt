@@ -2,6 +2,7 @@
 
 ghost use Rattle.std.specs.Prelude.{◌≡◌, ◌<◌, length, map, IfOk, option_copied};
 ghost use Rattle.text_words.specs.Words.{texts};
+ghost use Rattle.cfg_lines.specs.Before.{domain_of, node_of};
 ghost use Rattle.cfg_parser.specs.Reader.{Gives};
 ghost use Rattle.cfg_parser.specs.Contents.{config_at, domain_at, node_at, set_at, member_at, typed_at, attribute_at, block_texts_at, block_options_at, block_triggers_at, block_fields_at, block_at, control_type_at, model_of as model_number, control_fields_at, control_at, group_fields_at, groups_at};
 
@@ -94,6 +95,23 @@ pub fn member_line(alloc: Global, reference: &[u8]) -> Result<Line, LineFault>
     Ok(Line::Member(owned(alloc, reference)?))
 }
 
+/// The names of an attribute: its domain, its logical node, its functional constraint and its path.
+fn attribute_names(
+    alloc: Global,
+    before: &Reading,
+    fc: &[u8],
+    path: &[u8],
+) -> Result<(Octs, Octs, Octs, Octs), AllocError>
+    ensures { IfOk result (λ names. names ≡ (domain_of before.now, node_of before.now, fc.now, path.now)) }
+{
+    Ok((
+        owned(alloc, before.domain())?,
+        owned(alloc, before.node())?,
+        owned(alloc, fc)?,
+        owned(alloc, path)?,
+    ))
+}
+
 /// The type, trigger options and values of an attribute.
 #[tactic(auto, unfolding(crate::specs::Contents::typed_at))]
 fn typed_line(
@@ -116,12 +134,17 @@ fn typed_line(
     let Some(values) = values_of(alloc, &kind, words)? else {
         return Err(LineFault::Refused(Kind::Value));
     };
+    let Ok((domain, ln, fc, path)) = attribute_names(alloc, before, fc, path) else {
+        drop(values);
+        drop(kind);
+        return Err(LineFault::Memory);
+    };
     Ok(Line::Attr(AttrDef {
         line: before.number(),
-        domain: owned(alloc, before.domain())?,
-        ln: owned(alloc, before.node())?,
-        fc: owned(alloc, fc)?,
-        path: owned(alloc, path)?,
+        domain,
+        ln,
+        fc,
+        path,
         kind,
         dchg: flags.dchg,
         qchg: flags.qchg,

@@ -44,17 +44,30 @@ fn look(reading: &Reading, nodes: &Nodes<'_>, number: u32, line: &Line) -> Resul
     Err(CfgFault::Refused { line: number, kind })
 }
 
+/// Looks up what the lines name among these nodes, in their order.
+fn look_among(reading: &Reading, nodes: &Nodes<'_>) -> Result<(), CfgFault>
+    requires nodes { (node : List ℕ) → is_node_in nodes.now node ≡ is_node reading.now node }
+    requires members { (node : List ℕ) → is_member_in nodes.now node ≡ is_member_node reading.now node }
+    ensures { GivesText result (looked_at reading.now reading.now) }
+{
+    let lines = reading.lines();
+    for (i, line) in lines.iter().enumerate() {
+        look(reading, nodes, i as u32 + 1, line)?;
+    }
+    Ok(())
+}
+
 /// Looks up what the lines name, in their order.
 fn look_up(alloc: Global, reading: &Reading) -> Result<(), CfgFault>
     ensures { GivesText result (looked_at reading.now reading.now) }
 {
     let lines = reading.lines();
     let leaves = leaves_of(alloc, lines)?;
-    let nodes = Nodes::of(alloc, lines, &leaves)?;
-    for (i, line) in lines.iter().enumerate() {
-        look(reading, &nodes, i as u32 + 1, line)?;
-    }
-    Ok(())
+    let looked = match Nodes::of(alloc, lines, &leaves) {
+        Ok(nodes) => look_among(reading, &nodes),
+        Err(error) => Err(CfgFault::from(error)),
+    };
+    looked
 }
 
 /// The configuration of a text.
@@ -67,7 +80,10 @@ pub fn read_config(alloc: Global, text: &[u8]) -> Result<Config, CfgFault>
     ensures { GivesText result (config_at text.now) }
 {
     let reading = read_lines(alloc, text)?;
-    look_up(alloc, &reading)?;
+    if let Err(fault) = look_up(alloc, &reading) {
+        drop(reading);
+        return Err(fault);
+    }
     let config = reading.into_config(alloc)?;
     Ok(config)
 }

@@ -11,7 +11,7 @@ use Rattle.cfg_lines.specs.declared.line.Line.{Line}
 use Rattle.cfg_lines.specs.declared.line.Line.TheVariants as lines
 use Rattle.cfg_lines.proofs.FactLaws.{facts-more}
 use Rattle.cfg_reading.specs.Known.{Known, AreFew, Tells, facts_kept}
-use Rattle.cfg_reading.specs.declared.kept.Kept.{Kept}
+use Rattle.cfg_reading.specs.declared.known_lines.KnownLines.{KnownLines}
 
 -- the line that is put last is the first of those before the next
 pub last-first : (items new : List Line) (line : Line) → new ≡ items ++ line ∷ [] → reverse new ≡ line ∷ reverse items
@@ -31,7 +31,7 @@ any-front : (p : List ℕ → Bool) (front new old now : List (List ℕ)) → li
 any-front p front new old now more same = more ∙ (list_any-append p front old ∙ (ap (λ b. list_any p front || b) same ∙ sym (list_any-append p front now)))
 
 -- so each kind has few
-pub known-few : (k : Kept) → Known (reverse k.lines.items) (facts_kept k) k.heads k.sets k.names → AreFew k.counts
+pub known-few : (k : KnownLines) → Known (reverse k.lines.items) (facts_kept k) k.heads k.sets k.names → AreFew k.counts
 known-few k known =
     let all = few-lines (reverse k.lines.items) in
     let more = known.few in
@@ -46,7 +46,7 @@ known-few k known =
     )
 
 -- with one more line
-pub known-more : (old new : Kept) (line : Line) → Known (reverse old.lines.items) (facts_kept old) old.heads old.sets old.names → length (reverse old.lines.items) < 20000
+pub known-more : (old new : KnownLines) (line : Line) → Known (reverse old.lines.items) (facts_kept old) old.heads old.sets old.names → length (reverse old.lines.items) < 20000
     → new.lines.items ≡ old.lines.items ++ line ∷ [] → Tells line old new → Known (reverse new.lines.items) (facts_kept new) new.heads new.sets new.names
 known-more old new line k few is t = subst (λ b. Known b (facts_kept new) new.heads new.sets new.names) (sym (last-first old.lines.items new.lines.items line is)) (record {
   few = omega (arith, few);

@@ -6,10 +6,10 @@ use Rattle.cfg_lines.specs.Facts.{Facts, facts_of, after}
 use Rattle.cfg_lines.specs.Claims as claimed
 use Rattle.cfg_lines.specs.declared.line.Line.{Line}
 use Rattle.cfg_lines.specs.declared.line.Line.TheVariants as lines
-use Rattle.cfg_reading.specs.declared.kept.Counts.{Counts}
-use Rattle.cfg_reading.specs.declared.kept.Kept.{Kept}
+use Rattle.cfg_reading.specs.declared.known_lines.Counts.{Counts}
+use Rattle.cfg_reading.specs.declared.known_lines.KnownLines.{KnownLines}
 
-abbrev pub facts_kept : Kept → Facts
+abbrev pub facts_kept : KnownLines → Facts
 facts_kept k = record {
   place = k.place;
   domain = k.domain;
@@ -26,14 +26,14 @@ facts_kept k = record {
 }
 
 -- what is kept is that of one line more
-pub record Tells (line : Line) (old new : Kept) : Type 0 where
+pub record Tells (line : Line) (old new : KnownLines) : Type 0 where
   pub facts : facts_kept new ≡ after line (facts_kept old)
   pub heads : (key : List ℕ) → is_among new.heads key ≡ is_among (claimed.heads_by line ++ old.heads) key
   pub sets : (key : List ℕ) → is_among new.sets key ≡ is_among (claimed.sets_by line ++ old.sets) key
   pub names : (path : List ℕ) → is_taken new.names path ≡ is_taken (claimed.claims_by line ++ old.names) path
 
 -- before the line itself is put
-abbrev pub Noted : Line → (old new : Kept) → Type 0
+abbrev pub Noted : Line → (old new : KnownLines) → Type 0
 Noted line old new = (new.lines ≡ old.lines) × Tells line old new
 
 -- lines of which nothing is kept but where the next one stands, and how many members there are

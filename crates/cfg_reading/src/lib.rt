@@ -3,8 +3,8 @@
 
 mod claiming;
 mod draft;
-mod kept;
+mod known_lines;
 mod reading;
 
-pub use kept::Counts;
+pub use known_lines::Counts;
 pub use reading::Reading;

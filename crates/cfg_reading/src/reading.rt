@@ -1,7 +1,7 @@
 //! The lines that were read, and what is kept of them.
 
 use crate::draft::config_of;
-use crate::kept::{Counts, Kept};
+use crate::known_lines::{Counts, KnownLines};
 use cfg_lines::{Line, Place};
 use std::alloc::{AllocError, Global};
 use std::marker::Model;
@@ -10,7 +10,7 @@ use sv_base::Config;
 /// The lines that were read, and what they tell of the next. Contracts see it as the list of the lines, the last first.
 #[derive(Drop)]
 pub struct Reading {
-    kept: Kept,
+    kept: KnownLines,
 }
 
 impl Model for Reading {
@@ -45,7 +45,7 @@ impl Reading {
         ensures { result ≡ [] }
     {
         Reading {
-            kept: Kept::new(alloc),
+            kept: KnownLines::new(alloc),
         }
     }
 

@@ -8,7 +8,7 @@ ghost use Rattle.control_core.specs.Opening.{IsCtlKind};
 
 use crate::command::{Call, CommandRef, CtlKind, read};
 use crate::executed::Executed;
-use crate::kept::error_of;
+use crate::kept_command::error_of;
 use crate::selected::Selected;
 use bay_model::{ApplError, Termination};
 use std::alloc::{AllocError, Global};

@@ -1,7 +1,7 @@
 //! What a control executes.
 
 use crate::command::CommandRef;
-use crate::kept::KeptCommand;
+use crate::kept_command::KeptCommand;
 use bay_model::ApplError;
 use std::alloc::{AllocError, Global};
 use std::marker::Model;

@@ -6,7 +6,7 @@ mod control;
 mod controls;
 mod executed;
 mod history_laws;
-mod kept;
+mod kept_command;
 mod laws;
 mod selected;
 

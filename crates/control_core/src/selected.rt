@@ -1,7 +1,7 @@
 //! Who has selected a control.
 
 use crate::command::CommandRef;
-use crate::kept::KeptCommand;
+use crate::kept_command::KeptCommand;
 use std::alloc::{AllocError, Global};
 use std::marker::Model;
 use sv_base::{AssocNo, Moment};

@@ -15,7 +15,7 @@ use Rattle.history_lock.specs.declared.view.Phase.{Phase}
 use Rattle.history_lock.specs.declared.view.Phase.TheVariants.{Idle, Drawn, Busy, Added}
 use Rattle.history_lock.specs.Histories.{by}
 use Rattle.history_lock.specs.Views.{total, hit, has, has_phase, ticket_of, busy, busy_phase, added, added_phase, mine, aside_of, holds_number, left_of}
-use Rattle.history_lock.specs.Rule.{Kept, Fits, FitsPhase, Table}
+use Rattle.history_lock.specs.Rule.{FollowsRule, Fits, FitsPhase, Table}
 use Rattle.history_lock.specs.Plays.{Seated, drawn, draws, served, looks, extended, appends, resting, passes, counts}
 use Rattle.history_lock.proofs.Sums.{total-set, term_le, terms_le, total_mono, total_less, is_one, is_zero}
 use Rattle.history_lock.proofs.Steps.{by-append, by_none, nothing_more, earlier_more}
@@ -23,7 +23,7 @@ use Rattle.history_lock.proofs.Steps.{by-append, by_none, nothing_more, earlier_
 -- what a step at the word i owes, where the words are ws
 abbrev pub Goes : ℕ → Config → Table → ℕ → (ℕ → ℕ) → ℕ → Seated → (ℕ → Seated → Type 0) → List ℕ → Type 0
 Goes actors config s i f id m then ws = (w : View) × (a : Act (Option Bay)) × Valid s.homes m.1 a
-    × Kept actors config (record { words = set ws i (f (get_or ws i 0)); homes = homes_after s.homes m.1 a; views = set s.views id w })
+    × FollowsRule actors config (record { words = set ws i (f (get_or ws i 0)); homes = homes_after s.homes m.1 a; views = set s.views id w })
     × then (get_or ws i 0) (w, carried_after m.1 a)
 
 pub fits_set : (config : Config) (serving : ℕ) (log : History) (views : List View) (id : ℕ) (w : View)
@@ -67,14 +67,14 @@ busy_fits serving log seen (Busy n) h f = (f.1, λ t. ap (λ (x : ℕ). hit x t)
 busy_fits serving log seen (Added n) h f = (f.1, λ t. ap (λ (x : ℕ). hit x t) f.0)
 
 -- one seat at most has the bay
-busy_few : (actors : ℕ) (config : Config) (s : Table) (k : Kept actors config s) → total busy s.views ≤ total (has k.serving) s.views
+busy_few : (actors : ℕ) (config : Config) (s : Table) (k : FollowsRule actors config s) → total busy s.views ≤ total (has k.serving) s.views
 busy_few actors config s k = total_mono busy (has k.serving) s.views (λ j v e. busy_phase_has k.serving k.log v.seen v.phase (k.seats j v e).phase)
 
 no_wrap : (n : ℕ) → n < 2 ^ 63 → n % 2 ^ 64 ≡ n
 no_wrap n small = omega arith
 
 pub draws_kept : (actors : ℕ) (config : Config) (n id : ℕ) (m : Seated) → m.0.phase ≡ Idle → 0 < m.0.left
-    → Allows (Kept actors config) n id m 0 (λ x. (x + 1) % 2 ^ 64) (draws (step n 0 1 0 none) m)
+    → Allows (FollowsRule actors config) n id m 0 (λ x. (x + 1) % 2 ^ 64) (draws (step n 0 1 0 none) m)
 draws_kept actors config n id m idle some_left s k long at _ =
     let v : View = m.0 in
     let w : View = drawn v k.ticket in
@@ -112,7 +112,7 @@ draws_kept actors config n id m idle some_left s k long at _ =
     )
 
 -- the seat whose ticket is served sees the whole history, and takes the bay
-served_now : (actors : ℕ) (config : Config) (n id : ℕ) (m : Seated) (t : ℕ) → m.0.phase ≡ Drawn t → (s : Table) (k : Kept actors config s)
+served_now : (actors : ℕ) (config : Config) (n id : ℕ) (m : Seated) (t : ℕ) → m.0.phase ≡ Drawn t → (s : Table) (k : FollowsRule actors config s)
     → length s.homes ≡ n → get_elem? s.views id ≡ some m.0 → k.serving ≡ t
     → Goes actors config s 1 (λ x. x) id m (looks (step n 1 0 0 none) m) (k.ticket ∷ k.serving ∷ length k.log ∷ [])
 served_now actors config n id m t waits s k long at here =
@@ -183,28 +183,28 @@ served_now actors config n id m t waits s k long at here =
     le_or_lt a b = dite (dec_le a b) (λ h. inl h) (λ h. inr (omega arith))
 
 -- a look that changes nothing
-not_yet : (actors : ℕ) (config : Config) (n id : ℕ) (m : Seated) (t : ℕ) → m.0.phase ≡ Drawn t → (s : Table) (k : Kept actors config s)
+not_yet : (actors : ℕ) (config : Config) (n id : ℕ) (m : Seated) (t : ℕ) → m.0.phase ≡ Drawn t → (s : Table) (k : FollowsRule actors config s)
     → get_elem? s.views id ≡ some m.0 → k.serving ≢ t
     → Goes actors config s 1 (λ x. x) id m (looks (step n 1 0 0 none) m) (k.ticket ∷ k.serving ∷ length k.log ∷ [])
 not_yet actors config n id m t waits s k at other =
-    let same : Kept actors config (record { words = k.ticket ∷ k.serving ∷ length k.log ∷ []; homes = s.homes; views = s.views }) =
-    subst (λ (ws : List ℕ). Kept actors config (record { words = ws; homes = s.homes; views = s.views })) k.words k in (
+    let same : FollowsRule actors config (record { words = k.ticket ∷ k.serving ∷ length k.log ∷ []; homes = s.homes; views = s.views }) =
+    subst (λ (ws : List ℕ). FollowsRule actors config (record { words = ws; homes = s.homes; views = s.views })) k.words k in (
       m.0,
       keeps,
       tt,
-      subst (λ (vs : List View). Kept actors config (record { words = k.ticket ∷ k.serving ∷ length k.log ∷ []; homes = s.homes; views = vs }))
+      subst (λ (vs : List View). FollowsRule actors config (record { words = k.ticket ∷ k.serving ∷ length k.log ∷ []; homes = s.homes; views = vs }))
           (sym (set_again s.views id m.0 at)) same,
       ((λ e. absurd (other (e ∙ ap ticket_of waits))), λ _. refl),
     )
 
 pub looks_kept : (actors : ℕ) (config : Config) (n id : ℕ) (m : Seated) (t : ℕ) → m.0.phase ≡ Drawn t
-    → Allows (Kept actors config) n id m 1 (λ x. x) (looks (step n 1 0 0 none) m)
+    → Allows (FollowsRule actors config) n id m 1 (λ x. x) (looks (step n 1 0 0 none) m)
 looks_kept actors config n id m t waits s k long at _ =
     subst (Goes actors config s 1 (λ x. x) id m (looks (step n 1 0 0 none) m)) (sym k.words)
     (dite (ℕ_discrete k.serving t) (λ e. served_now actors config n id m t waits s k long at e) (λ ne. not_yet actors config n id m t waits s k at ne))
 
 pub appends_kept : (actors : ℕ) (config : Config) (n id : ℕ) (m : Seated) (e : Turn) (t : ℕ) → m.0.phase ≡ Busy t → 0 < mine e.actor m.0
-    → Allows (Kept actors config) n id m 2 (λ x. (x + 1) % 2 ^ 64) (appends e (step n 2 1 0 none) m)
+    → Allows (FollowsRule actors config) n id m 2 (λ x. (x + 1) % 2 ^ 64) (appends e (step n 2 1 0 none) m)
 appends_kept actors config n id m e t turn some_of s k long at _ =
     let v : View = m.0 in
     let me = k.seats id v at in
@@ -279,7 +279,7 @@ appends_kept actors config n id m e t turn some_of s k long at _ =
 
 -- a seat that has the bay gives it back as it stands for the history, and the next ticket is served
 passes_at : (actors : ℕ) (config : Config) (id : ℕ) (v : View) (bay : Bay) (config' : Config) → busy v ≡ 1 → v.config ≡ Some config'
-    → StandsFor bay config' v.seen → Allows (Kept actors config) 1 id (v, (0, Some bay) ∷ []) 1 (λ x. (x + 1) % 2 ^ 64)
+    → StandsFor bay config' v.seen → Allows (FollowsRule actors config) 1 id (v, (0, Some bay) ∷ []) 1 (λ x. (x + 1) % 2 ^ 64)
     (passes (step 1 1 1 0 none) (v, (0, Some bay) ∷ []))
 passes_at actors config id v bay config' busy_now is stands s k long at _ =
     let m : Seated = (v, (0, Some bay) ∷ []) in
@@ -339,25 +339,25 @@ passes_at actors config id v bay config' busy_now is stands s k long at _ =
     )
 
 pub passes_kept : (actors : ℕ) (config : Config) (id : ℕ) (m : Seated) (bay : Bay) (config' : Config) → busy m.0 ≡ 1 → m.1 ≡ (0, Some bay) ∷ []
-    → m.0.config ≡ Some config' → StandsFor bay config' m.0.seen → Allows (Kept actors config) 1 id m 1 (λ x. (x + 1) % 2 ^ 64) (passes (step 1 1 1 0 none) m)
+    → m.0.config ≡ Some config' → StandsFor bay config' m.0.seen → Allows (FollowsRule actors config) 1 id m 1 (λ x. (x + 1) % 2 ^ 64) (passes (step 1 1 1 0 none) m)
 passes_kept actors config id m bay config' busy_now held is stands =
     let v : View = m.0 in
     let same : (v, (0, Some bay) ∷ []) ≡ m = λ i. (v, sym held i) in
-    subst (λ (x : Seated). Allows (Kept actors config) 1 id x 1 (λ y. (y + 1) % 2 ^ 64) (passes (step 1 1 1 0 none) x)) same
+    subst (λ (x : Seated). Allows (FollowsRule actors config) 1 id x 1 (λ y. (y + 1) % 2 ^ 64) (passes (step 1 1 1 0 none) x)) same
     (passes_at actors config id v bay config' busy_now is stands)
 
 pub counts_kept : (actors : ℕ) (config : Config) (n id : ℕ) (m : Seated) → busy m.0 ≡ 1
-    → Allows (Kept actors config) n id m 2 (λ x. x) (counts (step n 2 0 0 none) m)
+    → Allows (FollowsRule actors config) n id m 2 (λ x. x) (counts (step n 2 0 0 none) m)
 counts_kept actors config n id m busy_now s k long at _ =
     let me = k.seats id m.0 at in
     let fits = busy_fits k.serving k.log m.0.seen m.0.phase busy_now me.phase in
-    let same : Kept actors config (record { words = k.ticket ∷ k.serving ∷ length k.log ∷ []; homes = s.homes; views = s.views }) =
-    subst (λ (ws : List ℕ). Kept actors config (record { words = ws; homes = s.homes; views = s.views })) k.words k in
+    let same : FollowsRule actors config (record { words = k.ticket ∷ k.serving ∷ length k.log ∷ []; homes = s.homes; views = s.views }) =
+    subst (λ (ws : List ℕ). FollowsRule actors config (record { words = ws; homes = s.homes; views = s.views })) k.words k in
     subst (Goes actors config s 2 (λ x. x) id m (counts (step n 2 0 0 none) m)) (sym k.words) (
       m.0,
       keeps,
       tt,
-      subst (λ (vs : List View). Kept actors config (record { words = k.ticket ∷ k.serving ∷ length k.log ∷ []; homes = s.homes; views = vs }))
+      subst (λ (vs : List View). FollowsRule actors config (record { words = k.ticket ∷ k.serving ∷ length k.log ∷ []; homes = s.homes; views = vs }))
           (sym (set_again s.views id m.0 at)) same,
       (refl, ap length (sym fits.0)),
     )

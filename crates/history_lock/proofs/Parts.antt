@@ -14,7 +14,7 @@ use Rattle.history_lock.specs.declared.view.View.{View}
 use Rattle.history_lock.specs.declared.view.Phase.TheVariants.{Idle}
 use Rattle.history_lock.specs.Histories.{IsEarlier, by}
 use Rattle.history_lock.specs.Views.{total, has, has_phase, busy, busy_phase, added, added_phase, inside, mine, aside_of, holds_number, left_of}
-use Rattle.history_lock.specs.Rule.{Kept, Fits, FitsPhase, Table, whole, spent}
+use Rattle.history_lock.specs.Rule.{FollowsRule, Fits, FitsPhase, Table, whole, spent}
 use Rattle.history_lock.specs.Plays.{kept_ranges, cut_ranges, kept_part, cut_part, longer, joined, settled, compares, Seated}
 use Rattle.history_lock.proofs.Sums.{total-append, total-set, term_le}
 use Rattle.history_lock.proofs.Steps.{by-append, nothing_more, earlier_self, earlier_shorter, by_between}
@@ -60,7 +60,7 @@ inside_cut k low count n le =
     ))
 
 pub opens : (actors : ℕ) (config : Config) (bay : Bay) → StandsFor bay config []
-    → Kept actors config (opening (0 ∷ 0 ∷ 0 ∷ []) (Some bay ∷ []) (whole actors config))
+    → FollowsRule actors config (opening (0 ∷ 0 ∷ 0 ∷ []) (Some bay ∷ []) (whole actors config))
 opens actors config bay stands = record {
   ticket = 0;
   serving = 0;
@@ -97,7 +97,7 @@ opens actors config bay stands = record {
 
 -- the last n numbers and some turns go to a new seat
 pub splits_kept : (actors : ℕ) (config : Config) (id : ℕ) (v : View) (low count n turns : ℕ) (others : List (ℕ × ℕ)) → v.ranges ≡ (low, count) ∷ others
-    → n ≤ count → turns ≤ v.left → Splits (Kept actors config) id v (kept_part n turns v) (cut_part n turns v)
+    → n ≤ count → turns ≤ v.left → Splits (FollowsRule actors config) id v (kept_part n turns v) (cut_part n turns v)
 splits_kept actors config id v low count n turns others first fits enough s k at =
     let l : View = kept_part n turns v in
     let r : View = cut_part n turns v in
@@ -152,7 +152,7 @@ splits_kept actors config id v low count n turns others first fits enough s k at
     }
 
 pub joins_kept : (actors : ℕ) (config : Config) (id : ℕ) (v : View) (other : ℕ) (w : View) → v.phase ≡ Idle → w.phase ≡ Idle → v.aside ≡ []
-    → Joins (Kept actors config) id v other w (joined v w) spent
+    → Joins (FollowsRule actors config) id v other w (joined v w) spent
 joins_kept actors config id v other w idle idle' none_aside s k at apart there =
     let b : View = joined v w in
     let views : List View = set (set s.views id b) other spent in
@@ -214,7 +214,7 @@ longer_fits log xs ys p q =
     (q, r, earlier_self ys, (λ k e. by_between k xs ys log r q e), (λ k e. e)))
 
 pub compares_kept : (actors : ℕ) (config : Config) (n id : ℕ) (m : Seated) → m.0.phase ≡ Idle
-    → Allows (Kept actors config) n id m 0 (λ x. x) (compares (step n 0 0 0 none) m)
+    → Allows (FollowsRule actors config) n id m 0 (λ x. x) (compares (step n 0 0 0 none) m)
 compares_kept actors config n id m idle s k long at _ =
     let v : View = m.0 in
     let w : View = settled v in
@@ -263,7 +263,7 @@ compares_kept actors config n id m idle s k long at _ =
     )
 
 -- who has all numbers has seen the whole history
-all_seen : (actors : ℕ) (config : Config) (s : Table) (k : Kept actors config s) (id : ℕ) (v : View) → get_elem? s.views id ≡ some v
+all_seen : (actors : ℕ) (config : Config) (s : Table) (k : FollowsRule actors config s) (id : ℕ) (v : View) → get_elem? s.views id ≡ some v
     → ((x : ℕ) → x < actors → 0 < mine x v) → v.seen ≡ k.log
 all_seen actors config s k id v at all =
     let me = k.seats id v at in
@@ -281,7 +281,7 @@ all_seen actors config s k id v at all =
     nobody (e ∷ es) h = let one : e ∷ by e.actor es ≡ [] = sym (ap (λ b. cond b (e ∷ by e.actor es) (by e.actor es)) (eq-eqb e.actor e.actor refl))
         ∙ h e.actor in absurd (cc one)
 
-pub closes : (actors : ℕ) (config : Config) (id : ℕ) (v : View) (ws : List ℕ) (xs : List (Option Bay)) → Final (Seen (Kept actors config) id v) ws xs
+pub closes : (actors : ℕ) (config : Config) (id : ℕ) (v : View) (ws : List ℕ) (xs : List (Option Bay)) → Final (Seen (FollowsRule actors config) id v) ws xs
     → (log : History) × (get_elem? ws 2 ≡ some (length log)) × IsEarlier v.seen log × (((x : ℕ) → x < actors → 0 < mine x v) → v.seen ≡ log)
     × ((x : ℕ) → actors ≤ x → by x log ≡ [])
 closes actors config id v ws xs f =

@@ -36,7 +36,7 @@ Table = State (Option Bay) View
 abbrev pub AtHome : Config → Table → History → Type 0
 AtHome config s log = (bay : Bay) × (get_elem? s.homes 0 ≡ some (some (Some bay))) × StandsFor bay config log
 
-pub record Kept (actors : ℕ) (config : Config) (s : Table) : Type 0 where
+pub record FollowsRule (actors : ℕ) (config : Config) (s : Table) : Type 0 where
   pub ticket : ℕ
   pub serving : ℕ
   pub log : History

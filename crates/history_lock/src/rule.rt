@@ -9,9 +9,9 @@ use std::marker::{Brand, PhantomData};
 pub struct Law;
 
 impl TableRule<Option<Bay>, View, About> for Law {
-    ghost use Rattle.history_lock.specs.Rule.{Kept, whole};
+    ghost use Rattle.history_lock.specs.Rule.{FollowsRule, whole};
 
-    ghost holds = { λ about s. Kept about.actors about.model s };
+    ghost holds = { λ about s. FollowsRule about.actors about.model s };
 
     ghost first = { λ about. whole about.actors about.model };
 }

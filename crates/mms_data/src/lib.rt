@@ -10,7 +10,7 @@ mod data_view;
 mod fault;
 mod laws;
 mod reading;
-mod tags;
+pub mod tags;
 mod type_writing;
 mod writing;
 

@@ -9,17 +9,17 @@ abbrev pub version_octets : List ℕ
 version_octets = octets_of 0x80 (1 ∷ [])
 
 abbrev pub parameter_octets : List ℕ
-parameter_octets = octets_of 0x81 (5 ∷ 241 ∷ 0 ∷ [])
+parameter_octets = octets_of 0x81 (5 ∷ 0xF1 ∷ 0 ∷ [])
 
 abbrev pub details_with : List ℕ → List ℕ
 details_with services = version_octets ++ (parameter_octets ++ octets_of 0x82 services)
 
 -- what the server does, and what the client names
 abbrev pub answer_services : List ℕ
-answer_services = 3 ∷ 238 ∷ 28 ∷ 0 ∷ 0 ∷ 0 ∷ 0 ∷ 0 ∷ 0 ∷ 0 ∷ 1 ∷ 16 ∷ []
+answer_services = 3 ∷ 0xEE ∷ 0x1C ∷ 0 ∷ 0 ∷ 0 ∷ 0 ∷ 0 ∷ 0 ∷ 0 ∷ 1 ∷ 0x10 ∷ []
 
 abbrev pub request_services : List ℕ
-request_services = 3 ∷ 238 ∷ 28 ∷ 0 ∷ 0 ∷ 4 ∷ 8 ∷ 0 ∷ 0 ∷ 121 ∷ 239 ∷ 24 ∷ []
+request_services = 3 ∷ 0xEE ∷ 0x1C ∷ 0 ∷ 0 ∷ 4 ∷ 8 ∷ 0 ∷ 0 ∷ 0x79 ∷ 0xEF ∷ 0x18 ∷ []
 
 abbrev pub answer_details : List ℕ
 answer_details = details_with answer_services

@@ -62,7 +62,7 @@ CanBeSaid (copies given others) = CanBeSaid others
 -- parameters and the services
 abbrev pub initiate_says : ℕ → Initiate → List ℕ → Said
 initiate_says tag i services = groups tag (counts 0x80 i.size (counts 0x81 i.calling (counts 0x82 i.called (counts 0x83 i.nesting
-    (groups 0xA4 (holds 0x80 (1 ∷ []) (holds 0x81 (5 ∷ 241 ∷ 0 ∷ []) (holds 0x82 services nothing))) nothing))))) nothing
+    (groups 0xA4 (holds 0x80 (1 ∷ []) (holds 0x81 (5 ∷ 0xF1 ∷ 0 ∷ []) (holds 0x82 services nothing))) nothing))))) nothing
 
 -- listOfVariable with one variable by its domain and its item, without alternate access, and then others
 abbrev pub variable_says : List ℕ → List ℕ → Said → Said

@@ -10,6 +10,7 @@ use crate::data_list::{DataList, data_of};
 use crate::number::truth_of;
 use crate::object_name::NameView;
 use crate::service::ServiceView;
+use crate::tags;
 use crate::variable::{VariableList, named_of, variables_of};
 use ber_view::{Elements, Tlv, fields, only};
 
@@ -24,17 +25,17 @@ pub(crate) enum AccessView<'a> {
 pub(crate) fn access_of<'a>(field: &Tlv<'a>) -> Option<AccessView<'a>>
     ensures { option_map access result ≡ access_at (spot field.now) }
 {
-    if field.tag == 0xa0 {
+    if field.tag == tags::LIST_OF_VARIABLE {
         return Some(AccessView::Variables(variables_of(field.content)?));
     }
-    Some(AccessView::Named(named_of(0xa1, field)?))
+    Some(AccessView::Named(named_of(tags::VARIABLE_LIST_NAME, field)?))
 }
 
 #[tactic(auto, unfolding(crate::specs::Access::read_access_at))]
 fn read_access_of<'a>(spec: bool, field: &Tlv<'a>) -> Option<ServiceView<'a>>
     ensures { option_map service result ≡ read_access_at spec (spot field.now) }
 {
-    if field.tag != 0xa1 {
+    if field.tag != tags::ACCESS_SPECIFICATION {
         return None;
     }
     match access_of(&only(field.content)?)? {
@@ -51,7 +52,7 @@ pub(crate) fn read_of<'a>(mut fields: Elements<'a>) -> Option<ServiceView<'a>>
     let Some(second) = fields.next() else {
         return read_access_of(false, &first);
     };
-    if fields.next().is_some() || first.tag != 0x80 {
+    if fields.next().is_some() || first.tag != tags::SPECIFICATION_WITH_RESULT {
         return None;
     }
     let spec = truth_of(first.content)?;
@@ -83,7 +84,7 @@ fn counts_agree(first: &Tlv<'_>, second: &Tlv<'_>) -> Option<bool>
 fn data_list_of<'a>(field: &Tlv<'a>) -> Option<DataList<'a>>
     ensures { result ≡ data_list_at (spot field.now) }
 {
-    if field.tag != 0xa0 {
+    if field.tag != tags::LIST_OF_DATA {
         return None;
     }
     data_of(field.content)

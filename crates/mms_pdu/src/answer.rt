@@ -26,7 +26,7 @@ use sv_base::Octs;
 fn is_read_result(field: &Tlv<'_>) -> bool
     ensures { result ≡ is_result (spot field.now) }
 {
-    if field.tag == 0x80 {
+    if field.tag == tags::FAILURE {
         return octet_of(field.content).is_some();
     }
     view_data(field).is_ok()
@@ -37,10 +37,10 @@ fn is_read_result(field: &Tlv<'_>) -> bool
 fn is_write_result(field: &Tlv<'_>) -> bool
     ensures { result ≡ is_written (spot field.now) }
 {
-    if field.tag == 0x80 {
+    if field.tag == tags::FAILURE {
         return octet_of(field.content).is_some();
     }
-    field.tag == 0x81 && field.content.is_empty()
+    field.tag == tags::SUCCESS && field.content.is_empty()
 }
 
 fn are_read_results(mut fields: Elements<'_>) -> bool
@@ -70,7 +70,7 @@ fn access_in(content: &[u8]) -> bool
 fn specifies(field: &Tlv<'_>) -> bool
     ensures { result ≡ is_specification (spot field.now) }
 {
-    field.tag == 0xa0 && access_in(field.content)
+    field.tag == tags::SPECIFICATION_OF_RESULT && access_in(field.content)
 }
 
 /// Whether an element holds the results of a read.
@@ -78,7 +78,7 @@ fn specifies(field: &Tlv<'_>) -> bool
 fn holds_results(field: &Tlv<'_>) -> bool
     ensures { result ≡ are_results (spot field.now) }
 {
-    if field.tag != 0xa1 {
+    if field.tag != tags::LIST_OF_RESULT {
         return false;
     }
     match fields(field.content) {
@@ -126,7 +126,7 @@ pub fn write_answer(alloc: Global, invoke: u32, tag: u32, body: &[u8]) -> Result
     ensures { IfOk result (λ o. o ≡ answer_octets invoke tag body.now) }
 {
     let mut content = Vec::new(alloc);
-    put_uint(&mut content, 0x02, u64::from(invoke))?;
+    put_uint(&mut content, tags::INVOKE_ID, u64::from(invoke))?;
     add(&mut content, tag, body)?;
     Ok(Octs::from_vec(enclosed(alloc, tags::CONFIRMED_RESPONSE, &content)?))
 }

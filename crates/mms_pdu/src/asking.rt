@@ -19,12 +19,12 @@ fn one_variable_of(alloc: Global, domain: &[u8], item: &[u8]) -> Result<Vec<u8>,
     ensures { IfOk result (λ v. v.items ≡ one_variable domain.now item.now) }
 {
     let mut identifiers = Vec::new(alloc);
-    add(&mut identifiers, 0x1a, domain)?;
-    add(&mut identifiers, 0x1a, item)?;
-    let name = enclosed(alloc, 0xa1, &identifiers)?;
-    let specification = enclosed(alloc, 0xa0, &name)?;
-    let variable = enclosed(alloc, 0x30, &specification)?;
-    enclosed(alloc, 0xa0, &variable)
+    add(&mut identifiers, tags::IDENTIFIER, domain)?;
+    add(&mut identifiers, tags::IDENTIFIER, item)?;
+    let name = enclosed(alloc, tags::DOMAIN_SPECIFIC, &identifiers)?;
+    let specification = enclosed(alloc, tags::NAME, &name)?;
+    let variable = enclosed(alloc, tags::VARIABLE, &specification)?;
+    enclosed(alloc, tags::LIST_OF_VARIABLE, &variable)
 }
 
 /// A confirmed service under its invoke number.
@@ -33,7 +33,7 @@ fn confirmed(alloc: Global, invoke: u32, tag: u32, body: &[u8]) -> Result<Octs, 
     ensures { IfOk result (λ o. o ≡ confirmed_octets invoke tag body.now) }
 {
     let mut content = Vec::new(alloc);
-    put_uint(&mut content, 0x02, u64::from(invoke))?;
+    put_uint(&mut content, tags::INVOKE_ID, u64::from(invoke))?;
     add(&mut content, tag, body)?;
     Ok(Octs::from_vec(enclosed(alloc, tags::CONFIRMED_REQUEST, &content)?))
 }
@@ -53,7 +53,7 @@ pub fn write_read_request(
     ensures { IfOk result (λ o. o ≡ read_request invoke domain.now item.now) }
 {
     let variable = one_variable_of(alloc, domain, item)?;
-    let access = enclosed(alloc, 0xa1, &variable)?;
+    let access = enclosed(alloc, tags::ACCESS_SPECIFICATION, &variable)?;
     confirmed(alloc, invoke, tags::READ, &access)
 }
 
@@ -79,7 +79,7 @@ pub fn write_write_request(
     let mut data = Vec::new(alloc);
     write_data(value, &mut data)?;
     let mut body = one_variable_of(alloc, domain, item)?;
-    add(&mut body, 0xa0, &data)?;
+    add(&mut body, tags::LIST_OF_DATA, &data)?;
     confirmed(alloc, invoke, tags::WRITE, &body)
 }
 
@@ -87,5 +87,5 @@ pub fn write_write_request(
 pub fn write_conclude_request() -> [u8; 2]
     ensures { result ≡ conclude_request }
 {
-    [0x8b, 0]
+    [tags::CONCLUDE_REQUEST as u8, 0]
 }

@@ -36,7 +36,7 @@ fn type_of_node_of<'a>(field: &Tlv<'a>) -> Option<ServiceView<'a>>
     ensures { option_map service result ≡ type_of_node_at (spot field.now) }
 {
     let inner = only(field.content)?;
-    let name = named_of(0xa0, &inner)?;
+    let name = named_of(tags::NAME, &inner)?;
     Some(ServiceView::TypeOfNode(name))
 }
 

@@ -33,9 +33,9 @@ pub fn write_error(alloc: Global, invoke: u32, class: u8, code: u8) -> Result<Oc
 {
     let mut error = Vec::new(alloc);
     put_uint(&mut error, tag_of(class), u64::from(code))?;
-    let class_field = enclosed(alloc, 0xa0, &error)?;
+    let class_field = enclosed(alloc, tags::ERROR_CLASS, &error)?;
     let mut content = Vec::new(alloc);
-    put_uint(&mut content, 0x80, u64::from(invoke))?;
-    add(&mut content, 0xa2, &class_field)?;
+    put_uint(&mut content, tags::ORIGINAL_INVOKE_ID, u64::from(invoke))?;
+    add(&mut content, tags::SERVICE_ERROR, &class_field)?;
     Ok(Octs::from_vec(enclosed(alloc, tags::CONFIRMED_ERROR, &content)?))
 }

@@ -38,7 +38,10 @@ fn has_details(mut fields: Elements<'_>) -> bool
     let Some(services) = fields.next() else {
         return false;
     };
-    fields.next().is_none() && version.tag == 0x80 && parameters.tag == 0x81 && services.tag == 0x82
+    fields.next().is_none()
+        && version.tag == tags::VERSION_NUMBER
+        && parameters.tag == tags::PARAMETER_CBB
+        && services.tag == tags::SERVICES_SUPPORTED
 }
 
 /// The proposal, where the field is the last and of its form.
@@ -46,7 +49,7 @@ fn has_details(mut fields: Elements<'_>) -> bool
 fn with_detail(proposal: Initiate, field: &Tlv<'_>, mut fields: Elements<'_>) -> Option<Initiate>
     ensures { result ≡ detail_at proposal (element field.now ∷ elements fields.entry) }
 {
-    if fields.next().is_some() || field.tag != 0xa4 {
+    if fields.next().is_some() || field.tag != tags::INIT_DETAIL {
         return None;
     }
     let details = parts(field.content).ok()?;
@@ -62,7 +65,7 @@ fn with_nesting(size: u32, calling: u32, called: u32, mut fields: Elements<'_>) 
     ensures { result ≡ nesting_at size calling called (elements fields.entry) }
 {
     let field = fields.next()?;
-    if field.tag != 0x83 {
+    if field.tag != tags::NESTING_LEVEL {
         let proposal = Initiate {
             size,
             calling,
@@ -71,7 +74,7 @@ fn with_nesting(size: u32, calling: u32, called: u32, mut fields: Elements<'_>) 
         };
         return with_detail(proposal, &field, fields);
     }
-    let nesting = number_of(0x83, &field)?;
+    let nesting = number_of(tags::NESTING_LEVEL, &field)?;
     let detail = fields.next()?;
     let proposal = Initiate {
         size,
@@ -88,8 +91,8 @@ fn with_calls(size: u32, field: &Tlv<'_>, mut fields: Elements<'_>) -> Option<In
     ensures { result ≡ calls_at size (element field.now ∷ elements fields.entry) }
 {
     let second = fields.next()?;
-    let calling = number_of(0x81, field)?;
-    let called = number_of(0x82, &second)?;
+    let calling = number_of(tags::OUTSTANDING_CALLING, field)?;
+    let called = number_of(tags::OUTSTANDING_CALLED, &second)?;
     with_nesting(size, calling, called, fields)
 }
 
@@ -98,10 +101,10 @@ fn fields_of(mut fields: Elements<'_>) -> Option<Initiate>
     ensures { result ≡ fields_at (elements fields.entry) }
 {
     let field = fields.next()?;
-    if field.tag != 0x80 {
+    if field.tag != tags::LOCAL_DETAIL {
         return with_calls(65000, &field, fields);
     }
-    let size = number_of(0x80, &field)?;
+    let size = number_of(tags::LOCAL_DETAIL, &field)?;
     let calling = fields.next()?;
     with_calls(size, &calling, fields)
 }

@@ -26,11 +26,19 @@ fn content_of(alloc: Global, numbers: &Initiate, details: &[u8]) -> Result<Vec<u
     ensures { IfOk result (λ v. v.items ≡ initiate_content numbers.now details.now) }
 {
     let mut out = Vec::new(alloc);
-    put_uint(&mut out, 0x80, u64::from(numbers.size))?;
-    put_uint(&mut out, 0x81, u64::from(numbers.calling))?;
-    put_uint(&mut out, 0x82, u64::from(numbers.called))?;
-    put_uint(&mut out, 0x83, u64::from(numbers.nesting))?;
-    add(&mut out, 0xa4, details)?;
+    put_uint(&mut out, tags::LOCAL_DETAIL, u64::from(numbers.size))?;
+    put_uint(
+        &mut out,
+        tags::OUTSTANDING_CALLING,
+        u64::from(numbers.calling),
+    )?;
+    put_uint(
+        &mut out,
+        tags::OUTSTANDING_CALLED,
+        u64::from(numbers.called),
+    )?;
+    put_uint(&mut out, tags::NESTING_LEVEL, u64::from(numbers.nesting))?;
+    add(&mut out, tags::INIT_DETAIL, details)?;
     Ok(out)
 }
 

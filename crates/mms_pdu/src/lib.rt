@@ -26,7 +26,7 @@ mod reject;
 mod reply_view;
 mod report;
 mod service;
-mod tags;
+pub mod tags;
 mod variable;
 mod variable_lists;
 

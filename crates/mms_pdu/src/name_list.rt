@@ -9,25 +9,26 @@ ghost use Rattle.mms_pdu.specs.View.{scope, service};
 
 use crate::number::octet_with;
 use crate::service::{ScopeView, ServiceView};
+use crate::tags;
 use ber_view::{Elements, Tlv, only};
 
 #[tactic(auto, unfolding(crate::specs::NameList::class_at))]
 fn class_of(field: &Tlv<'_>) -> Option<u8>
     ensures { result ≡ class_at (spot field.now) }
 {
-    if field.tag != 0xa0 {
+    if field.tag != tags::EXTENDED_OBJECT_CLASS {
         return None;
     }
-    octet_with(0x80, &only(field.content)?)
+    octet_with(tags::OBJECT_CLASS, &only(field.content)?)
 }
 
 fn inner_scope_of<'a>(field: &Tlv<'a>) -> Option<ScopeView<'a>>
     ensures { option_map scope result ≡ inner_scope_at (spot field.now) }
 {
     match field.tag {
-        0x80 if field.content.is_empty() => Some(ScopeView::Vmd),
-        0x81 => Some(ScopeView::Domain(field.content)),
-        0x82 if field.content.is_empty() => Some(ScopeView::Association),
+        tags::VMD_SCOPE if field.content.is_empty() => Some(ScopeView::Vmd),
+        tags::DOMAIN_SCOPE => Some(ScopeView::Domain(field.content)),
+        tags::AA_SCOPE if field.content.is_empty() => Some(ScopeView::Association),
         _ => None,
     }
 }
@@ -36,7 +37,7 @@ fn inner_scope_of<'a>(field: &Tlv<'a>) -> Option<ScopeView<'a>>
 fn scope_of<'a>(field: &Tlv<'a>) -> Option<ScopeView<'a>>
     ensures { option_map scope result ≡ scope_at (spot field.now) }
 {
-    if field.tag != 0xa1 {
+    if field.tag != tags::OBJECT_SCOPE {
         return None;
     }
     inner_scope_of(&only(field.content)?)
@@ -49,7 +50,7 @@ fn after_of<'a>(mut fields: Elements<'a>) -> Option<Option<&'a [u8]>>
     let Some(field) = fields.next() else {
         return Some(None);
     };
-    if field.tag != 0x82 || fields.next().is_some() {
+    if field.tag != tags::CONTINUE_AFTER || fields.next().is_some() {
         return None;
     }
     Some(Some(field.content))

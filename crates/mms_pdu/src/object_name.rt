@@ -9,6 +9,7 @@ ghost use Rattle.mms_pdu.specs.Each.{is_read, are_read, each_in};
 ghost use Rattle.mms_pdu.specs.ObjectName.{identifier_at, pair_at, name_at};
 ghost use Rattle.mms_pdu.specs.View.{name};
 
+use crate::tags;
 use ber_view::{Elements, Tlv, fields, text};
 use std::marker::Model;
 
@@ -27,7 +28,7 @@ pub enum NameView<'a> {
 fn identifier_of<'a>(field: &Tlv<'a>) -> Option<&'a [u8]>
     ensures { option_map piece result ≡ identifier_at (spot field.now) }
 {
-    if field.tag != 0x1a {
+    if field.tag != tags::IDENTIFIER {
         return None;
     }
     text(field.content).ok()?;
@@ -53,9 +54,9 @@ pub(crate) fn name_of<'a>(field: &Tlv<'a>) -> Option<NameView<'a>>
     ensures { option_map name result ≡ name_at (spot field.now) }
 {
     match field.tag {
-        0x80 => Some(NameView::Vmd(field.content)),
-        0xa1 => pair_of(fields(field.content)?),
-        0x82 => Some(NameView::Association(field.content)),
+        tags::VMD_SPECIFIC => Some(NameView::Vmd(field.content)),
+        tags::DOMAIN_SPECIFIC => pair_of(fields(field.content)?),
+        tags::AA_SPECIFIC => Some(NameView::Association(field.content)),
         _ => None,
     }
 }

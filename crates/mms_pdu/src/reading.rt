@@ -45,14 +45,41 @@ fn is_disregarded_tag(tag: u32) -> bool
     )
 }
 
+/// Whether a tag of one octet is of a PDU that is known.
+fn is_pdu_tag(tag: u32) -> bool
+    ensures { result ≡ is_pdu tag }
+{
+    is_disregarded_tag(tag)
+        || tag == tags::CONFIRMED_REQUEST
+        || tag == tags::CONCLUDE_REQUEST
+        || tag == tags::INITIATE_REQUEST
+}
+
+/// Whether a tag of one octet is of a service that is known.
+fn is_service_tag(tag: u32) -> bool
+    ensures { result ≡ is_service tag }
+{
+    matches!(
+        tag,
+        tags::STATUS
+            | tags::GET_NAME_LIST
+            | tags::IDENTIFY
+            | tags::READ
+            | tags::WRITE
+            | tags::GET_ATTRIBUTES
+            | tags::DEFINE_LIST
+            | tags::GET_LIST_ATTRIBUTES
+            | tags::DELETE_LIST
+    )
+}
+
 /// Whether no PDU that is known begins otherwise.
 pub(crate) fn may_begin_pdu(bytes: &[u8]) -> bool
     ensures { result ≡ may_begin is_pdu bytes.now }
 {
     match bytes {
         [] => true,
-        [0xa0 | 0x8b | 0xa8, ..] => true,
-        [octet, ..] => is_disregarded_tag(u32::from(*octet)),
+        [octet, ..] => is_pdu_tag(u32::from(*octet)),
     }
 }
 
@@ -62,10 +89,7 @@ fn may_begin_service(bytes: &[u8]) -> bool
 {
     match bytes {
         [] => true,
-        [octet, ..] => matches!(
-            *octet,
-            0x80 | 0xa1 | 0x82 | 0xa4 | 0xa5 | 0xa6 | 0xab | 0xac | 0xad
-        ),
+        [octet, ..] => is_service_tag(u32::from(*octet)),
     }
 }
 

@@ -14,7 +14,7 @@ fn put_invoke(out: &mut Vec<u8>, invoke: Option<u32>) -> Result<(), AllocError>
     ensures { OnOk result (out.new.items ≡ out.old.items ++ invoke_octets invoke) }
 {
     match invoke {
-        Some(number) => put_uint(out, 0x80, u64::from(number)),
+        Some(number) => put_uint(out, tags::ORIGINAL_INVOKE_ID, u64::from(number)),
         None => Ok(()),
     }
 }
@@ -24,10 +24,10 @@ fn put_reason(out: &mut Vec<u8>, refusal: u8) -> Result<(), AllocError>
     ensures { OnOk result (out.new.items ≡ out.old.items ++ octets_of (reason_tag refusal) (uint_octets (reason_code refusal))) }
 {
     match refusal {
-        1 => put_uint(out, 0x85, 0),
-        2 => put_uint(out, 0x81, 1),
-        3 => put_uint(out, 0x81, 4),
-        _ => put_uint(out, 0x85, 1),
+        1 => put_uint(out, tags::PDU_REJECTED, 0),
+        2 => put_uint(out, tags::REQUEST_REJECTED, 1),
+        3 => put_uint(out, tags::REQUEST_REJECTED, 4),
+        _ => put_uint(out, tags::PDU_REJECTED, 1),
     }
 }
 

@@ -59,7 +59,7 @@ fn service_of(bytes: &[u8]) -> Option<(u32, &[u8])>
 fn answer_of(content: &[u8]) -> Result<ReplyView<'_>, PduFault>
     ensures { Gives reply_of result (answer_in (piece content.entry)) }
 {
-    let (invoke, rest) = numbered_of(0x02, content).ok_or(PduFault::Invalid)?;
+    let (invoke, rest) = numbered_of(tags::INVOKE_ID, content).ok_or(PduFault::Invalid)?;
     let (tag, body) = service_of(rest).ok_or(PduFault::Argument(invoke))?;
     Ok(ReplyView::Answer { invoke, tag, body })
 }
@@ -88,7 +88,7 @@ fn class_and_code(field: &Tlv<'_>) -> Option<(u8, u8)>
 fn error_class_of(field: &Tlv<'_>) -> Option<(u8, u8)>
     ensures { result ≡ error_class_in (spot field.now) }
 {
-    if field.tag != 0xa0 {
+    if field.tag != tags::ERROR_CLASS {
         return None;
     }
     class_and_code(&only(field.content)?)
@@ -99,7 +99,7 @@ fn service_error_of(bytes: &[u8]) -> Option<(u8, u8)>
     ensures { result ≡ service_error_in (piece bytes.entry) }
 {
     let error = whole(bytes)?;
-    if error.tag != 0xa2 {
+    if error.tag != tags::SERVICE_ERROR {
         return None;
     }
     error_class_of(&only(error.content)?)
@@ -109,7 +109,7 @@ fn service_error_of(bytes: &[u8]) -> Option<(u8, u8)>
 fn error_of(content: &[u8]) -> Result<ReplyView<'_>, PduFault>
     ensures { Gives reply_of result (error_in (piece content.entry)) }
 {
-    let (invoke, rest) = numbered_of(0x80, content).ok_or(PduFault::Invalid)?;
+    let (invoke, rest) = numbered_of(tags::ORIGINAL_INVOKE_ID, content).ok_or(PduFault::Invalid)?;
     let (class, code) = service_error_of(rest).ok_or(PduFault::Argument(invoke))?;
     Ok(ReplyView::Error {
         invoke,
@@ -134,7 +134,7 @@ fn reason_of(bytes: &[u8]) -> Option<u8>
 fn reject_of(content: &[u8]) -> Result<ReplyView<'_>, PduFault>
     ensures { Gives reply_of result (reject_in (piece content.entry)) }
 {
-    match numbered_of(0x80, content) {
+    match numbered_of(tags::ORIGINAL_INVOKE_ID, content) {
         Some((invoke, rest)) => {
             let code = reason_of(rest).ok_or(PduFault::Argument(invoke))?;
             Ok(ReplyView::Reject {

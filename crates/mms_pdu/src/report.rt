@@ -17,7 +17,7 @@ pub fn write_report(alloc: Global, names: &[u8], results: &[u8]) -> Result<Octs,
     ensures { IfOk result (λ o. o ≡ report_octets names.now results.now) }
 {
     let mut fields = Vec::from_slice(alloc, names)?;
-    add(&mut fields, 0xa0, results)?;
-    let report = enclosed(alloc, 0xa0, &fields)?;
+    add(&mut fields, tags::REPORT_RESULTS, results)?;
+    let report = enclosed(alloc, tags::INFORMATION_REPORT, &fields)?;
     Ok(Octs::from_vec(enclosed(alloc, tags::UNCONFIRMED, &report)?))
 }

@@ -10,6 +10,7 @@ ghost use Rattle.mms_pdu.specs.Variable.{alternate_at, named_at, specified_at, v
 ghost use Rattle.mms_pdu.specs.View.{name, variable};
 
 use crate::object_name::{NameView, name_of};
+use crate::tags;
 use ber_view::{Elements, Tlv, fields, only};
 use std::marker::Model;
 
@@ -40,7 +41,7 @@ fn alternate_of(mut fields: Elements<'_>) -> Option<bool>
     let Some(field) = fields.next() else {
         return Some(false);
     };
-    if field.tag != 0xa5 || fields.next().is_some() {
+    if field.tag != tags::ALTERNATE_ACCESS || fields.next().is_some() {
         return None;
     }
     Some(true)
@@ -51,7 +52,7 @@ fn specified_of<'a>(mut fields: Elements<'a>) -> Option<VariableView<'a>>
     ensures { option_map variable result ≡ specified_at fields.entry }
 {
     let first = fields.next()?;
-    let name = named_of(0xa0, &first)?;
+    let name = named_of(tags::NAME, &first)?;
     let alternate = alternate_of(fields)?;
     Some(VariableView { name, alternate })
 }
@@ -61,7 +62,7 @@ fn specified_of<'a>(mut fields: Elements<'a>) -> Option<VariableView<'a>>
 pub(crate) fn variable_of<'a>(field: &Tlv<'a>) -> Option<VariableView<'a>>
     ensures { option_map variable result ≡ variable_at (spot field.now) }
 {
-    if field.tag != 0x30 {
+    if field.tag != tags::VARIABLE {
         return None;
     }
     specified_of(fields(field.content)?)

@@ -9,6 +9,7 @@ ghost use Rattle.mms_pdu.specs.View.{service};
 use crate::number::octet_with;
 use crate::object_name::{NameList, name_of, names_of};
 use crate::service::ServiceView;
+use crate::tags;
 use crate::variable::{VariableList, variables_of};
 use ber_view::{Elements, Tlv};
 
@@ -16,7 +17,7 @@ use ber_view::{Elements, Tlv};
 fn variable_list_of<'a>(field: &Tlv<'a>) -> Option<VariableList<'a>>
     ensures { result ≡ variable_list_at (spot field.now) }
 {
-    if field.tag != 0xa0 {
+    if field.tag != tags::LIST_OF_VARIABLE {
         return None;
     }
     variables_of(field.content)
@@ -53,7 +54,7 @@ fn list_of<'a>(mut fields: Elements<'a>) -> Option<NameList<'a>>
     let Some(field) = fields.next() else {
         return Some(no_names());
     };
-    if field.tag != 0xa1 || fields.next().is_some() {
+    if field.tag != tags::LIST_OF_NAME || fields.next().is_some() {
         return None;
     }
     names_of(field.content)
@@ -69,12 +70,12 @@ pub(crate) fn delete_of<'a>(mut fields: Elements<'a>) -> Option<ServiceView<'a>>
             names: no_names(),
         });
     };
-    if first.tag == 0x80 {
-        let scope = octet_with(0x80, &first)?;
+    if first.tag == tags::SCOPE_OF_DELETE {
+        let scope = octet_with(tags::SCOPE_OF_DELETE, &first)?;
         let names = list_of(fields)?;
         return Some(ServiceView::Delete { scope, names });
     }
-    if first.tag != 0xa1 || fields.next().is_some() {
+    if first.tag != tags::LIST_OF_NAME || fields.next().is_some() {
         return None;
     }
     let names = names_of(first.content)?;

@@ -1,12 +1,15 @@
 //! The nodes of a configuration, listed domain by domain.
 
-ghost use Rattle.std.specs.Prelude.{◌≡◌, ℕ, length, IfOk, OnOk};
+ghost use Rattle.std.specs.Prelude.{◌≡◌, ◌++◌, ℕ, length, IfOk, OnOk};
 ghost use Rattle.sv_base.specs.declared.config.Config.{Config as ModelConfig};
 ghost use Rattle.bay_model.specs.NamedLines.{domains as domains_of, lines as lines_of, in_order as lines_in_order};
 ghost use Rattle.object_model.specs.Listed.{IsDirectoryOf, IsListed, IsOneMore};
-ghost use Rattle.object_model.specs.Nodes.{places_from};
+ghost use Rattle.object_model.specs.Nodes.{names_at, places_from};
+ghost use Rattle.object_model.specs.Attrs.{attrs_in_spots, rows_with};
+ghost use Rattle.object_model.specs.Stands.{owns, stands_from};
 
 use crate::attrs::attrs_of;
+use crate::growth::Spot;
 use crate::nodes::{NodeName, growth_of, push_nodes};
 use crate::stands::{Stand, push_stands};
 use bay_model::NodeRow;
@@ -52,6 +55,26 @@ fn directory_of(alloc: Global, first: u32, items: Index) -> Result<Directory, Al
     })
 }
 
+/// Adds the nodes at these spots, which have these items, of the domain of this number.
+fn push_spots(
+    alloc: Global,
+    listing: &mut Listing,
+    number: u32,
+    items: &Index,
+    spots: Vec<Spot>,
+) -> Result<(), AllocError>
+    ensures directories { listing.new.directories ≡ listing.old.directories }
+    ensures rows { OnOk result (listing.new.rows.items ≡ listing.old.rows.items ++ rows_with (length listing.old.rows.items) items.now (attrs_in_spots spots.items) spots.items) }
+    ensures names { OnOk result (listing.new.names.items ≡ listing.old.names.items ++ names_at number 0 spots.items) }
+    ensures stands { OnOk result (listing.new.stands.items ≡ listing.old.stands.items ++ stands_from (length listing.old.leaves.items) spots.items) }
+    ensures leaves { OnOk result (listing.new.leaves.items ≡ listing.old.leaves.items ++ owns spots.items) }
+{
+    push_stands(&mut listing.stands, &mut listing.leaves, &spots)?;
+    let attrs = attrs_of(alloc, &spots)?;
+    let (rows, names) = (&mut listing.rows, &mut listing.names);
+    push_nodes(rows, names, number, items, spots, &attrs)
+}
+
 /// Adds the nodes of a domain.
 fn push_domain(
     alloc: Global,
@@ -61,17 +84,16 @@ fn push_domain(
 ) -> Result<(), AllocError>
     ensures { OnOk result (IsOneMore listing.old listing.new (places_from lines.now domain.now)) }
 {
-    let growth = growth_of(alloc, lines, domain)?;
-    let (items, spots) = (growth.items, growth.spots);
     let first = count(listing.rows.as_slice().len())?;
     let number = count(listing.directories.as_slice().len())?;
-    push_stands(&mut listing.stands, &mut listing.leaves, &spots)?;
-    let attrs = attrs_of(alloc, &spots)?;
-    let (rows, names) = (&mut listing.rows, &mut listing.names);
-    push_nodes(rows, names, number, &items, spots, &attrs)?;
-    listing
-        .directories
-        .push(directory_of(alloc, first, items)?)?;
+    let growth = growth_of(alloc, lines, domain)?;
+    let (items, spots) = (growth.items, growth.spots);
+    if let Err(error) = push_spots(alloc, listing, number, &items, spots) {
+        drop(items);
+        return Err(error);
+    }
+    let directory = directory_of(alloc, first, items)?;
+    listing.directories.push(directory)?;
     Ok(())
 }
 

@@ -1,5 +1,10 @@
 //! The model of a configuration.
 
+ghost use Rattle.std.specs.Prelude.{◌≡◌, IfOk};
+ghost use Rattle.object_names.specs.Attributes.{attr_rows};
+ghost use Rattle.object_names.specs.References.{block_references as blocks_of, control_references as controls_of, attr_references as attrs_of};
+ghost use Rattle.object_model.specs.Tables.{IsTables};
+
 use crate::finding::item_at;
 use crate::fitting::{Counts, step_fits};
 use crate::stands::between;
@@ -48,6 +53,45 @@ impl std::marker::Model for Model {
     ghost invariant = { λ m. (m.blocks ≡ block_references m.config) × (m.controls ≡ control_references m.config) × (m.attrs ≡ attr_references m.config) × IsTables m.config m.tables × All (λ (a : AttrDef). IsSettable a.kind) m.config.attrs × (m.rows.items ≡ attr_rows m.config) };
 }
 
+/// What is made of a configuration: the references of its blocks, controls and attributes, the rows of these, and its tables.
+#[derive(Drop)]
+struct Parts {
+    blocks: Index,
+    controls: Index,
+    attrs: Index,
+    rows: Vec<AttrRow>,
+    tables: Tables,
+}
+
+/// The references of the blocks and those of the controls.
+fn references_of(alloc: Global, config: &Config) -> Result<(Index, Index), AllocError>
+    ensures blocks { IfOk result (λ r. r.0 ≡ blocks_of config.now) }
+    ensures controls { IfOk result (λ r. r.1 ≡ controls_of config.now) }
+{
+    let blocks = block_references(alloc, config)?;
+    let controls = control_references(alloc, config)?;
+    Ok((blocks, controls))
+}
+
+fn parts_of(alloc: Global, config: &Config) -> Result<Parts, AllocError>
+    ensures blocks { IfOk result (λ p. p.blocks ≡ blocks_of config.now) }
+    ensures controls { IfOk result (λ p. p.controls ≡ controls_of config.now) }
+    ensures attrs { IfOk result (λ p. p.attrs ≡ attrs_of config.now) }
+    ensures rows { IfOk result (λ p. p.rows.items ≡ attr_rows config.now) }
+    ensures tables { IfOk result (λ p. IsTables config.now p.tables) }
+{
+    let attributes = Attributes::of(alloc, config)?;
+    let tables = Tables::of(alloc, config, &attributes.references)?;
+    let (blocks, controls) = references_of(alloc, config)?;
+    Ok(Parts {
+        blocks,
+        controls,
+        attrs: attributes.references,
+        rows: attributes.rows,
+        tables,
+    })
+}
+
 impl Model {
     ghost use Rattle.std.specs.Prelude.{◌≡◌, ◌<◌, length, map, slice_get, IfOk, option_map};
     ghost use Rattle.bay_model.specs.Lookups.{node_of, attr_of};
@@ -70,18 +114,20 @@ impl Model {
         requires { All (λ (a : AttrLine). IsSettable a.kind) config.attrs }
         ensures { IfOk result (λ m. m ≡ config) }
     {
-        let blocks = block_references(alloc, &config)?;
-        let controls = control_references(alloc, &config)?;
-        let attributes = Attributes::of(alloc, &config)?;
-        let tables = Tables::of(alloc, &config, &attributes.references)?;
-        Ok(Model {
-            config,
-            blocks,
-            controls,
-            attrs: attributes.references,
-            rows: attributes.rows,
-            tables,
-        })
+        match parts_of(alloc, &config) {
+            Ok(parts) => Ok(Model {
+                config,
+                blocks: parts.blocks,
+                controls: parts.controls,
+                attrs: parts.attrs,
+                rows: parts.rows,
+                tables: parts.tables,
+            }),
+            Err(error) => {
+                drop(config);
+                Err(error)
+            }
+        }
     }
 
     /// The same model again.

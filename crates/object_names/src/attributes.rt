@@ -5,7 +5,8 @@ ghost use Rattle.std.specs.Prelude.{◌≡◌, ◌∷◌, ◌++◌, [], map, fil
 ghost use Rattle.bay_model.specs.Lookups.{reference_of};
 ghost use Rattle.bay_model.specs.Generated.{selection, within};
 ghost use Rattle.bay_model.specs.NamedLines.{is_setting as is_setting_line, path_item};
-ghost use Rattle.object_names.specs.Attributes.{attr_at, line_attr, twin_attr, parameter_attr, control_attrs, line_flags, no_flags, references_of, rows_of};
+ghost use Rattle.object_names.specs.References.{attr_references};
+ghost use Rattle.object_names.specs.Attributes.{attr_at, attr_rows, line_attr, twin_attr, parameter_attr, control_attrs, line_flags, no_flags, references_of, rows_of};
 
 use crate::references::{is_selected, is_setting, write_reference};
 use bay_model::Flags;
@@ -157,24 +158,35 @@ fn push_twins(out: &mut Attributes, attrs: &[AttrDef]) -> Result<(), AllocError>
     Ok(())
 }
 
+fn push_all(out: &mut Attributes, config: &Config) -> Result<(), AllocError>
+    ensures references { OnOk result (out.new.references ≡ out.old.references ++ attr_references config.now) }
+    ensures rows { OnOk result (out.new.rows.items ≡ out.old.rows.items ++ attr_rows config.now) }
+{
+    push_lines(out, config.attrs.as_slice())?;
+    push_generated(out, config.controls.as_slice())?;
+    push_twins(out, config.attrs.as_slice())
+}
+
 impl Attributes {
     ghost use Rattle.std.specs.Prelude.{◌≡◌, IfOk};
     ghost use Rattle.object_names.specs.Attributes.{attr_rows};
-    ghost use Rattle.object_names.specs.References.{attr_references};
+    ghost use Rattle.object_names.specs.References.{attr_references, attr_references};
 
     /// The attributes of a configuration.
     pub fn of(alloc: Global, config: &Config) -> Result<Self, AllocError>
         ensures references { IfOk result (λ attrs. attrs.references ≡ attr_references config.now) }
         ensures rows { IfOk result (λ attrs. attrs.rows.items ≡ attr_rows config.now) }
     {
+        let rows = Vec::with_capacity(alloc, config.attrs.len())?;
         let mut attrs = Attributes {
             references: Index::new(alloc),
-            rows: Vec::with_capacity(alloc, config.attrs.len())?,
+            rows,
             text: Vec::new(alloc),
         };
-        push_lines(&mut attrs, config.attrs.as_slice())?;
-        push_generated(&mut attrs, config.controls.as_slice())?;
-        push_twins(&mut attrs, config.attrs.as_slice())?;
+        if let Err(error) = push_all(&mut attrs, config) {
+            drop(attrs);
+            return Err(error);
+        }
         attrs.references.shrink_to_fit();
         Ok(attrs)
     }

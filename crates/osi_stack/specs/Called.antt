@@ -50,7 +50,7 @@ unfoldable pub request_at : ℕ → List ℕ → Outcome
 request_at exponent user =
     with_fault of_session (cp_from user) >>= λ cp.
     with_fault of_association (pdu_of_aarq cp.user) >>= λ pdu.
-    with_fault of_initiate (initiate_at 168 pdu) >>= λ asked. Ok (accepted exponent cp asked)
+    with_fault of_initiate (initiate_at 0xA8 pdu) >>= λ asked. Ok (accepted exponent cp asked)
 
 abbrev pub first_spdu : ℕ → Told → Outcome
 first_spdu exponent (connects user) = request_at exponent user

@@ -38,7 +38,7 @@ unfoldable pub asking_at : ℕ → ℕ → List ℕ → Outcome
 asking_at exponent size octets =
     with_fault of_session (ac_from octets) >>= λ apdu.
     with_fault of_association (pdu_of_aare apdu) >>= λ pdu.
-    with_fault of_initiate (initiate_at 169 pdu) >>= λ said. Ok (joined exponent size said)
+    with_fault of_initiate (initiate_at 0xA9 pdu) >>= λ said. Ok (joined exponent size said)
 
 -- ---- the association is there
 

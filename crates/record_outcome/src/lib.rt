@@ -4,6 +4,9 @@
 // how the reading of a record ends, as every run of the program
 pub mod status;
 
+// how long a record may be
+pub mod limits;
+
 // what stands before the steps: the lines up to `record 1`
 pub mod openings;
 

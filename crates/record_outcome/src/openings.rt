@@ -2,12 +2,11 @@
 
 ghost use Rattle.std.specs.Prelude.{◌≡◌, IfOk};
 ghost use Rattle.text_words.specs.Words.{texts};
-ghost use Rattle.run_record.specs.Judging.{is_long as is_long_text};
 ghost use Rattle.record_outcome.specs.Opens.{Opens, HeadedAs};
 
-use run_record::Kind;
+use run_record::{Kind, is_long};
 use std::alloc::{AllocError, Global};
-use text_words::{are_printable, is_skipped, parts_of};
+use text_words::{is_skipped, parts_of};
 
 /// What a line before the configuration is.
 #[derive(Clone, Copy, Debug, PartialEq, Eq)]
@@ -18,13 +17,6 @@ pub enum Opened {
     Head,
     /// Refused.
     Refused(Kind),
-}
-
-/// The line is longer than any, or has an octet that none has.
-fn is_long(line: &[u8]) -> bool
-    ensures { result ≡ is_long_text line.now }
-{
-    line.len() > 140100 || !are_printable(line)
 }
 
 /// The words of the first line.

@@ -1,22 +1,10 @@
 //! The lines of a record, counted.
 
-ghost use Rattle.std.specs.Prelude.{◌≡◌, ◌&&◌, nat_lt};
-ghost use Rattle.record_outcome.specs.Records.{most_lines};
-
 use crate::stage::Stage;
 use bay_model::Step;
+use record_outcome::limits::{MOST_LINES, is_over};
 use record_outcome::status::Status;
 use std::alloc::{AllocError, Global};
-
-/// The most lines of a record.
-const MOST_LINES: u64 = 1000000;
-
-/// The line with this number has begun, and is one too many.
-fn is_over(begun: bool, number: u64) -> bool
-    ensures { result ≡ (begun && nat_lt most_lines number) }
-{
-    begun && number > MOST_LINES
-}
 
 /// What has been read of a record, line by line: how many lines, and where the reading is; and what the process set last.
 #[derive(Drop)]

@@ -6,7 +6,7 @@ ghost use Rattle.sv_io.specs.Causes.{Rose};
 ghost use Rattle.replay_run.specs.Tool.{TakesAtMost};
 ghost use Rattle.replay_run.specs.Checked.{count, counts, IsChecked, IsOfCheck, IsOfTelling, Checks};
 
-use crate::whole::{Halt, read_whole};
+use crate::whole::{Unread, read_whole};
 use answer_text::push_number;
 use cfg_text::{CfgFault, read_config};
 use object_model::domains;
@@ -69,8 +69,8 @@ pub fn check<S: Source, K: Sink>(alloc: Global, source: &mut S, sink: &mut K) ->
 {
     let octets = match read_whole(alloc, source, MOST) {
         Ok(octets) => octets,
-        Err(Halt::Memory) => return Status::Memory,
-        Err(Halt::Read) => return Status::ReadFault,
+        Err(Unread::Memory) => return Status::Memory,
+        Err(Unread::Read) => return Status::ReadFault,
     };
     match read_config(alloc, &octets) {
         Ok(config) => tell(alloc, &config, sink),

@@ -11,13 +11,11 @@ ghost use Rattle.record_outcome.specs.Moves.{Place};
 ghost use Rattle.std.specs.Prelude.{◌≢◌};
 
 use crate::pieces::read_piece;
+use record_outcome::limits::MOST_OCTETS;
 use record_outcome::status::Status;
 use record_session::reader::Reader;
 use std::alloc::{AllocError, Global};
 use sv_io::{Failed, Sink, Source};
-
-/// The most octets of a record.
-const LIMIT: usize = 67108864;
 
 /// Hands what was written to the sink.
 fn flush<K: Sink>(out: &mut Vec<u8>, sink: &mut K) -> Result<(), Failed>
@@ -125,7 +123,7 @@ impl Replay {
     pub fn has_room(&self) -> bool
         ensures { MatchBool result (self.now.count < 67108864) (67108864 ≤ self.now.count) }
     {
-        self.count < LIMIT
+        self.count < MOST_OCTETS
     }
 
     /// Reads a piece and answers the lines that end in it, below the limit of octets; gives the status where that is
@@ -150,7 +148,7 @@ impl Replay {
         ensures write { result ≡ Some statuses.WriteFault → Rose (K.faults sink.old) (K.faults sink.new) }
         ensures later { (S.faults source.old ≤ S.faults source.new) × (K.faults sink.old ≤ K.faults sink.new) }
     {
-        let room = (LIMIT - self.count).min(piece.len());
+        let room = (MOST_OCTETS - self.count).min(piece.len());
         let length = match read_piece(source, piece, room) {
             Ok(length) => length,
             Err(Failed) => return Some(Status::ReadFault),

@@ -11,17 +11,17 @@ use sv_io::{Failed, Source};
 
 /// Why a source isn't read to its end.
 #[derive(Clone, Copy, Debug, PartialEq, Eq)]
-pub enum Halt {
+pub enum Unread {
     Memory,
     Read,
 }
 
 /// Reads a source to its end, and no more than so many octets of it.
-pub fn read_whole<S: Source>(alloc: Global, source: &mut S, most: usize) -> Result<Vec<u8>, Halt>
+pub fn read_whole<S: Source>(alloc: Global, source: &mut S, most: usize) -> Result<Vec<u8>, Unread>
     ensures whole { IfOk result (λ v. IfSome (S.left source.old) (λ b. v.items ≡ take most b)) }
     ensures few { IfOk result (λ v. length v.items ≤ most) }
     ensures taken { TakesAtMost most (S.left source.old) (S.left source.new) }
-    ensures read { result ≡ Err Halt.Read → Rose (S.faults source.old) (S.faults source.new) }
+    ensures read { result ≡ Err Unread.Read → Rose (S.faults source.old) (S.faults source.new) }
     ensures later { S.faults source.old ≤ S.faults source.new }
 {
     let mut octets = Vec::new(alloc);
@@ -30,13 +30,13 @@ pub fn read_whole<S: Source>(alloc: Global, source: &mut S, most: usize) -> Resu
         let room = (most - octets.len()).min(piece.len());
         let length = match read_piece(source, &mut piece, room) {
             Ok(length) => length,
-            Err(Failed) => return Err(Halt::Read),
+            Err(Failed) => return Err(Unread::Read),
         };
         if length == 0 {
             return Ok(octets);
         }
         if octets.extend_from_slice(&piece[..length]).is_err() {
-            return Err(Halt::Memory);
+            return Err(Unread::Memory);
         }
     }
     Ok(octets)

@@ -14,7 +14,7 @@ use Rattle.bay_model.specs.Components.{read_component}
 use Rattle.bay_model.specs.Singles.{arrival}
 use Rattle.bay_model.proofs.OpenGroup.{joined, open_group-quiet, open_group-event}
 use Rattle.brcb_state.specs.declared.block.Block.{Block}
-use Rattle.brcb_state.specs.declared.told.Kept.{Kept}
+use Rattle.brcb_state.specs.declared.told.Retained.{Retained}
 use Rattle.brcb_state.specs.Components.{read_of}
 use Rattle.brcb_state.specs.Standing.{Stands as AttributesStand, kept_at, newest_of}
 use Rattle.brcb_state.proofs.ReadLaws.{reads}
@@ -166,7 +166,7 @@ is-dated c b past part s le = subst IsDated (sym s.window.gathered) (dated (now 
 
 -- ---- the component
 
-only-count : (comp : Comp) (k j : Kept) (x : Option ℕ) (s : Block) → k.len ≡ j.len → read_of comp k x s ≡ read_of comp j x s
+only-count : (comp : Comp) (k j : Retained) (x : Option ℕ) (s : Block) → k.len ≡ j.len → read_of comp k x s ≡ read_of comp j x s
 only-count comps.EntryID k j x s h = ap (λ l. read_of comps.EntryID (record { front = 0; len = l }) x s) h
 only-count comps.RptID k j x s h = refl
 only-count comps.RptEna k j x s h = refl

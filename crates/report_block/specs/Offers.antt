@@ -5,7 +5,7 @@ use Rattle.std.specs.Option.{option_map, option_and_then}
 use Rattle.sv_base.specs.declared.numbers.AssocNo.{AssocNo}
 use Rattle.bay_model.specs.Reports.{Offer}
 use Rattle.brcb_state.specs.Changes.{next_to}
-use Rattle.brcb_state.specs.declared.told.Kept.{Kept}
+use Rattle.brcb_state.specs.declared.told.Retained.{Retained}
 use Rattle.brcb_state.specs.declared.told.Next.{Next}
 use Rattle.entry_ring.specs.Entries.{held_of}
 use Rattle.entry_ring.specs.Held.{Held}
@@ -24,7 +24,7 @@ pub record Offered : Type 0 where
 abbrev pub offered : Lent → Offered
 offered o = record { block = o.block; next = o.next; entry = held_of o.entry }
 
-abbrev pub retained_of : ReportBlock → Kept
+abbrev pub retained_of : ReportBlock → Retained
 retained_of part = record { front = part.ring.front; len = part.ring.newest }
 
 abbrev pub offered_by : AssocNo → ℕ → ReportBlock → Option Offered

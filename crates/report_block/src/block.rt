@@ -5,7 +5,7 @@ ghost use Rattle.report_block.specs.Writes.{moved as moved_down, set_after as se
 
 use crate::entry_octets::put_note;
 use bay_model::{Comp, Fixed, Mention};
-use brcb_state::{Block, Effect, Kept};
+use brcb_state::{Block, Effect, Retained};
 use entry_ring::Ring;
 use set_view::SetView;
 use std::alloc::{AllocError, Global};
@@ -137,10 +137,10 @@ impl ReportBlock {
     }
 
     /// Which entries are retained.
-    pub(crate) fn retained(&self) -> Kept
+    pub(crate) fn retained(&self) -> Retained
         ensures { result ≡ record { front = self.now.ring.front; len = self.now.ring.newest } }
     {
-        Kept {
+        Retained {
             front: self.ring.front(),
             len: self.ring.len(),
         }

@@ -6,7 +6,7 @@ ghost use Rattle.report_block.specs.Reading.{with_entry as with_entry_of, with_g
 
 use crate::block::ReportBlock;
 use bay_model::Comp;
-use brcb_state::Kept;
+use brcb_state::Retained;
 use std::alloc::{AllocError, Global};
 use sv_base::{Moment, Value};
 
@@ -101,7 +101,7 @@ impl ReportBlock {
         // no moment lies above the last that a step can have
         let _last = was.ms();
         let newest = self.foretold(was, now);
-        let kept = Kept {
+        let kept = Retained {
             front: self.ring.front(),
             len: newest.count,
         };

@@ -49,25 +49,25 @@ no_reasons = record { dchg = false; qchg = false; dupd = false; intg = false; gi
 -- ---- in front of the members
 
 abbrev pub IsIdentity : List ℕ → List ℕ → Report → Type 0
-IsIdentity octets rest r = (a : List ℕ) × Takes 138 IsText true [] octets a r.rpt_id × Takes 132 IsOptFlds true [] a rest r.opt_flds
+IsIdentity octets rest r = (a : List ℕ) × Takes 0x8A IsText true [] octets a r.rpt_id × Takes 0x84 IsOptFlds true [] a rest r.opt_flds
 
 abbrev pub IsFirst : List ℕ → List ℕ → Report → Type 0
 IsFirst octets rest r = (a b : List ℕ)
-    × Takes 134 (IsBelow 65536) (bit 1 r.opt_flds) 0 octets a r.sq
-    × Takes 140 IsMoment (bit 2 r.opt_flds) 441763200000 a b r.time
-    × Takes 138 IsText (bit 4 r.opt_flds) [] b rest r.dat_set
+    × Takes 0x86 (IsBelow 65536) (bit 1 r.opt_flds) 0 octets a r.sq
+    × Takes 0x8C IsMoment (bit 2 r.opt_flds) 441763200000 a b r.time
+    × Takes 0x8A IsText (bit 4 r.opt_flds) [] b rest r.dat_set
 
 abbrev pub IsFurther : List ℕ → List ℕ → Report → Type 0
 IsFurther octets rest r = (a b : List ℕ)
-    × Takes 131 IsBoolean (bit 6 r.opt_flds) false octets a r.ovfl
-    × Takes 137 IsEntryId (bit 7 r.opt_flds) 0 a b r.id
-    × Takes 134 (IsBelow (2 ^ 32)) (bit 8 r.opt_flds) 0 b rest r.conf_rev
+    × Takes 0x83 IsBoolean (bit 6 r.opt_flds) false octets a r.ovfl
+    × Takes 0x89 IsEntryId (bit 7 r.opt_flds) 0 a b r.id
+    × Takes 0x86 (IsBelow (2 ^ 32)) (bit 8 r.opt_flds) 0 b rest r.conf_rev
 
 -- SubSqNum and MoreSegmentsFollow, where bit 9 says that the report goes in segments
 abbrev pub IsPlace : List ℕ → List ℕ → ReportPart → Type 0
 IsPlace octets rest p = (a : List ℕ)
-    × Takes 134 (IsBelow (2 ^ 32)) (bit 9 p.report.opt_flds) 0 octets a p.sub
-    × Takes 131 IsBoolean (bit 9 p.report.opt_flds) false a rest p.more
+    × Takes 0x86 (IsBelow (2 ^ 32)) (bit 9 p.report.opt_flds) 0 octets a p.sub
+    × Takes 0x83 IsBoolean (bit 9 p.report.opt_flds) false a rest p.more
 
 -- ---- the members
 
@@ -88,12 +88,12 @@ TakesData octets rest d = (octets ≡ d ++ rest) × (s : Seen) × IsSpelled d s
 abbrev pub AreTold : Bool → Bool → List ℕ → List ℕ → List ℕ → List ℕ → List ℕ → List ℕ → List Member → Type 0
 AreTold referred reasoned a x b y c z [] = (a ≡ x) × (b ≡ y) × (c ≡ z)
 AreTold referred reasoned a x b y c z (m ∷ ms) = (k l n : List ℕ)
-    × Takes 138 IsText referred [] a k m.reference × TakesData b l m.octets × Takes 132 IsReasons reasoned no_reasons c n m.reasons
+    × Takes 0x8A IsText referred [] a k m.reference × TakesData b l m.octets × Takes 0x84 IsReasons reasoned no_reasons c n m.reasons
     × AreTold referred reasoned k x l y n z ms
 
 -- the inclusion bits, the references, the values and the reasons, to the end
 abbrev pub IsBody : List ℕ → Report → Type 0
-IsBody octets r = (bits : List Bool) × (a b c : List ℕ) × Takes 132 IsInclusion true [] octets a bits × (r.total ≡ length bits)
+IsBody octets r = (bits : List Bool) × (a b c : List ℕ) × Takes 0x84 IsInclusion true [] octets a bits × (r.total ≡ length bits)
     × AreMarked 1 bits r.members × AreTold (bit 5 r.opt_flds) (bit 3 r.opt_flds) a b b c c [] r.members
 
 -- ---- the PDU
@@ -103,7 +103,7 @@ IsResults octets p = (a b c d : List ℕ) × IsIdentity octets a p.report × IsF
 
 -- the list name RPT, in any spelling
 abbrev pub IsListName : List ℕ → Type 0
-IsListName names = (v k : Element) × Spells names v × (v.tag ≡ 161) × IsRow v.content (k ∷ []) × (k.tag ≡ 128) × (k.content ≡ 82 ∷ 80 ∷ 84 ∷ [])
+IsListName names = (v k : Element) × Spells names v × (v.tag ≡ 0xA1) × IsRow v.content (k ∷ []) × (k.tag ≡ 0x80) × (k.content ≡ 0x52 ∷ 0x50 ∷ 0x54 ∷ [])
 
 -- The octets are the PDU of a report that tells this. The number of the block is not sent: it is 0.
 abbrev pub IsReportPart : List ℕ → ReportPart → Type 0

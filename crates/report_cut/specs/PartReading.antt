@@ -75,25 +75,25 @@ reasons_in content = and_then (kept (bits_at content)) (λ bits. if length bits 
 
 unfoldable pub identity_at : List ℕ → Option (List ℕ × List Bool × List ℕ)
 identity_at octets =
-    and_then (taken_at 138 text_in true [] octets) (λ x.
-    and_then (taken_at 132 options_in true [] x.1) (λ y. Some (x.0, y.0, y.1)))
+    and_then (taken_at 0x8A text_in true [] octets) (λ x.
+    and_then (taken_at 0x84 options_in true [] x.1) (λ y. Some (x.0, y.0, y.1)))
 
 unfoldable pub first_fields_at : List Bool → List ℕ → Option (ℕ × ℕ × List ℕ × List ℕ)
 first_fields_at opts octets =
-    and_then (taken_at 134 (below_at 65536) (bit 1 opts) 0 octets) (λ x.
-    and_then (taken_at 140 moment_in (bit 2 opts) 441763200000 x.1) (λ y.
-    and_then (taken_at 138 text_in (bit 4 opts) [] y.1) (λ z. Some (x.0, y.0, z.0, z.1))))
+    and_then (taken_at 0x86 (below_at 65536) (bit 1 opts) 0 octets) (λ x.
+    and_then (taken_at 0x8C moment_in (bit 2 opts) 441763200000 x.1) (λ y.
+    and_then (taken_at 0x8A text_in (bit 4 opts) [] y.1) (λ z. Some (x.0, y.0, z.0, z.1))))
 
 unfoldable pub further_fields_at : List Bool → List ℕ → Option (Bool × ℕ × ℕ × List ℕ)
 further_fields_at opts octets =
-    and_then (taken_at 131 truth_in (bit 6 opts) false octets) (λ x.
-    and_then (taken_at 137 id_in (bit 7 opts) 0 x.1) (λ y.
-    and_then (taken_at 134 (below_at (2 ^ 32)) (bit 8 opts) 0 y.1) (λ z. Some (x.0, y.0, z.0, z.1))))
+    and_then (taken_at 0x83 truth_in (bit 6 opts) false octets) (λ x.
+    and_then (taken_at 0x89 id_in (bit 7 opts) 0 x.1) (λ y.
+    and_then (taken_at 0x86 (below_at (2 ^ 32)) (bit 8 opts) 0 y.1) (λ z. Some (x.0, y.0, z.0, z.1))))
 
 unfoldable pub place_at : Bool → List ℕ → Option (ℕ × Bool × List ℕ)
 place_at segmented octets =
-    and_then (taken_at 134 (below_at (2 ^ 32)) segmented 0 octets) (λ x.
-    and_then (taken_at 131 truth_in segmented false x.1) (λ y. Some (x.0, y.0, y.1)))
+    and_then (taken_at 0x86 (below_at (2 ^ 32)) segmented 0 octets) (λ x.
+    and_then (taken_at 0x83 truth_in segmented false x.1) (λ y. Some (x.0, y.0, y.1)))
 
 -- ---- the members
 
@@ -112,9 +112,9 @@ behind_each (true ∷ bits) octets = and_then (kept (first_at octets)) (λ x. be
 
 unfoldable pub member_at : Bool → Bool → ℕ → List ℕ → List ℕ → List ℕ → Option (Member × List ℕ × List ℕ × List ℕ)
 member_at referred reasoned n a b c =
-    and_then (taken_at 138 text_in referred [] a) (λ x.
+    and_then (taken_at 0x8A text_in referred [] a) (λ x.
     and_then (data_in b) (λ y.
-    and_then (taken_at 132 reasons_in reasoned no_reasons c) (λ z.
+    and_then (taken_at 0x84 reasons_in reasoned no_reasons c) (λ z.
     Some (record { number = record { 0 = n }; reference = x.0; octets = y.0; reasons = z.0 }, x.1, y.1, z.1))))
 
 -- the members behind those so far, of the bits from a number on, whose references, Data and reasons begin in three places
@@ -125,7 +125,7 @@ members_at referred reasoned n (true ∷ bits) a b c so_far = and_then (member_a
 
 unfoldable pub body_at : Bool → Bool → List ℕ → Option (ℕ × List Member)
 body_at referred reasoned octets =
-    and_then (taken_at 132 inclusion_in true [] octets) (λ x.
+    and_then (taken_at 0x84 inclusion_in true [] octets) (λ x.
     and_then (if referred then behind_each x.0 x.1 else Some x.1) (λ b.
     and_then (behind_each x.0 b) (λ c.
     and_then (members_at referred reasoned 1 x.0 x.1 b c []) (λ ms. Some (length x.0, ms)))))
@@ -142,11 +142,11 @@ is_rpt (a ∷ b ∷ c ∷ d ∷ rest) = false
 -- the results of a report under the list name RPT
 unfoldable pub results_in : List ℕ → Option (List ℕ)
 results_in input =
-    and_then (enclosed_at 163 input) (λ service.
-    and_then (enclosed_at 160 service) (λ content.
-    and_then (field_at 161 true content) (λ x.
-    and_then (said (enclosed_at 128) [] x.0) (λ name.
-    if is_rpt name then enclosed_at 160 x.1 else None))))
+    and_then (enclosed_at 0xA3 input) (λ service.
+    and_then (enclosed_at 0xA0 service) (λ content.
+    and_then (field_at 0xA1 true content) (λ x.
+    and_then (said (enclosed_at 0x80) [] x.0) (λ name.
+    if is_rpt name then enclosed_at 0xA0 x.1 else None))))
 
 unfoldable pub told_by : List ℕ → Option ReportPart
 told_by results =

@@ -9,6 +9,7 @@ use crate::measure::bit;
 use crate::segment::Segment;
 use bay_model::Report;
 use ber_write::{put, put_bits, put_uint};
+use mms_data::tags;
 use std::alloc::{AllocError, Global};
 use sv_base::{Bits, Moment};
 
@@ -34,12 +35,12 @@ fn add_if(out: &mut Vec<u8>, asked: bool, tag: u32, content: &[u8]) -> Result<()
 }
 
 fn add_uint_if(out: &mut Vec<u8>, asked: bool, value: u64) -> Result<(), AllocError>
-    ensures { OnOk result (out.new.items ≡ out.old.items ++ optional asked (octets_of 134 (uint_octets value))) }
+    ensures { OnOk result (out.new.items ≡ out.old.items ++ optional asked (octets_of 0x86 (uint_octets value))) }
 {
     if !asked {
         return Ok(());
     }
-    put_uint(out, 0x86, value)
+    put_uint(out, tags::UNSIGNED, value)
 }
 
 /// OptFlds as it is sent.
@@ -66,8 +67,8 @@ fn put_identity(
     ensures { OnOk result (out.new.items ≡ out.old.items ++ identity report.now.rpt_id report.now.opt_flds segment) }
 {
     let flags = flags(alloc, &report.opt_flds, segment)?;
-    add(out, 0x8a, report.rpt_id.as_slice())?;
-    put_bits(out, 0x84, &flags)
+    add(out, tags::VISIBLE_STRING, report.rpt_id.as_slice())?;
+    put_bits(out, tags::BIT_STRING, &flags)
 }
 
 /// A binary time (ISO 9506-2, TimeOfDay).
@@ -89,13 +90,13 @@ fn put_first(out: &mut Vec<u8>, report: &Report) -> Result<(), AllocError>
     add_if(
         out,
         bit(&report.opt_flds, 2),
-        0x8c,
+        tags::BINARY_TIME,
         &time_octets(report.time),
     )?;
     add_if(
         out,
         bit(&report.opt_flds, 4),
-        0x8a,
+        tags::VISIBLE_STRING,
         report.dat_set.as_slice(),
     )
 }
@@ -111,11 +112,16 @@ fn truth(b: bool) -> [u8; 1]
 fn put_further(out: &mut Vec<u8>, report: &Report) -> Result<(), AllocError>
     ensures { OnOk result (out.new.items ≡ out.old.items ++ further_fields report.now.opt_flds report.now.ovfl report.now.id report.now.conf_rev) }
 {
-    add_if(out, bit(&report.opt_flds, 6), 0x83, &truth(report.ovfl))?;
+    add_if(
+        out,
+        bit(&report.opt_flds, 6),
+        tags::BOOLEAN,
+        &truth(report.ovfl),
+    )?;
     add_if(
         out,
         bit(&report.opt_flds, 7),
-        0x89,
+        tags::OCTET_STRING,
         &report.id.to_be_bytes(),
     )?;
     add_uint_if(out, bit(&report.opt_flds, 8), report.conf_rev as u64)
@@ -128,8 +134,8 @@ fn put_place(out: &mut Vec<u8>, segment: Option<Segment>) -> Result<(), AllocErr
     match segment {
         None => Ok(()),
         Some(s) => {
-            put_uint(out, 0x86, s.sub as u64)?;
-            add(out, 0x83, &truth(s.more))
+            put_uint(out, tags::UNSIGNED, s.sub as u64)?;
+            add(out, tags::BOOLEAN, &truth(s.more))
         }
     }
 }

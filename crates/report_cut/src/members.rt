@@ -8,6 +8,7 @@ use crate::fields::add;
 use crate::measure::bit;
 use bay_model::{Member, Reasons, Report};
 use ber_write::put_bits;
+use mms_data::tags;
 use std::alloc::{AllocError, Global};
 
 /// One bit a member of the set.
@@ -35,14 +36,14 @@ fn put_inclusion(
     ensures { OnOk result (out.new.items ≡ out.old.items ++ inclusion total members.now) }
 {
     let bits = included(alloc, total, members)?;
-    put_bits(out, 0x84, &bits)
+    put_bits(out, tags::BIT_STRING, &bits)
 }
 
 fn put_references(out: &mut Vec<u8>, members: &[Member]) -> Result<(), AllocError>
     ensures { OnOk result (out.new.items ≡ out.old.items ++ references members.now) }
 {
     for member in members {
-        add(out, 0x8a, member.reference.as_slice())?;
+        add(out, tags::VISIBLE_STRING, member.reference.as_slice())?;
     }
     Ok(())
 }
@@ -77,7 +78,7 @@ fn put_reasons(out: &mut Vec<u8>, members: &[Member]) -> Result<(), AllocError>
     ensures { OnOk result (out.new.items ≡ out.old.items ++ reasons members.now) }
 {
     for member in members {
-        add(out, 0x84, &[1, reason_octet(member.reasons)])?;
+        add(out, tags::BIT_STRING, &[1, reason_octet(member.reasons)])?;
     }
     Ok(())
 }

@@ -11,6 +11,7 @@ use crate::members::put_body;
 use crate::segment::Segment;
 use bay_model::{Member, Report};
 use ber_write::put_head;
+use mms_pdu::tags;
 use std::alloc::{AllocError, Global};
 use sv_base::Octs;
 
@@ -21,10 +22,10 @@ fn put_opening(out: &mut Vec<u8>, n: u32) -> Result<(), AllocError>
     ensures { OnOk result (out.new.items ≡ out.old.items ++ opening n) }
 {
     let content = 7 + element_len(n);
-    put_head(out, 0xa3, element_len(content))?;
-    put_head(out, 0xa0, content)?;
+    put_head(out, tags::UNCONFIRMED, element_len(content))?;
+    put_head(out, tags::INFORMATION_REPORT, content)?;
     out.extend_from_slice(&[0xa1, 5, 0x80, 3, 0x52, 0x50, 0x54])?;
-    put_head(out, 0xa0, n)
+    put_head(out, tags::REPORT_RESULTS, n)
 }
 
 /// Adds the results.

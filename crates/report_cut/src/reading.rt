@@ -19,6 +19,7 @@ use crate::taking::{
 use crate::told::{octs, read_body};
 use bay_model::Report;
 use ber_view::BitView;
+use mms_pdu::tags;
 use std::alloc::Global;
 use sv_base::{Bits, BlockNo, Moment};
 
@@ -115,17 +116,17 @@ fn is_list_name(name: &[u8]) -> bool
 fn results_of(input: &[u8]) -> Option<&[u8]>
     ensures { option_map (λ x. x.now) result ≡ results_in input.now }
 {
-    let service = enclosed(0xa3, input)?;
-    let content = enclosed(0xa0, service)?;
-    let (names, rest) = field(0xa1, true, content)?;
+    let service = enclosed(tags::UNCONFIRMED, input)?;
+    let content = enclosed(tags::INFORMATION_REPORT, service)?;
+    let (names, rest) = field(tags::VARIABLE_LIST_NAME, true, content)?;
     let name = match names {
         None => &[],
-        Some(names) => enclosed(0x80, names)?,
+        Some(names) => enclosed(tags::VMD_SPECIFIC, names)?,
     };
     if !is_list_name(name) {
         return None;
     }
-    enclosed(0xa0, rest)
+    enclosed(tags::REPORT_RESULTS, rest)
 }
 
 #[tactic(auto, unfolding(crate::specs::PartReading::part_at))]

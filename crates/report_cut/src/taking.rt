@@ -11,6 +11,7 @@ use crate::contents::{
 };
 use bay_model::Reasons;
 use ber_view::{BitView, first, whole};
+use mms_data::tags;
 use sv_base::Moment;
 
 /// The content of the one element that the octets are, which has this tag.
@@ -43,9 +44,9 @@ pub(crate) fn field(tag: u32, asked: bool, octets: &[u8]) -> Option<(Option<&[u8
 /// A visible string; else it is empty.
 #[tactic(auto, unfolding(crate::specs::PartReading::taken_at))]
 pub(crate) fn take_text(asked: bool, octets: &[u8]) -> Option<(&[u8], &[u8])>
-    ensures { option_map (λ x. (x.0.now, x.1.now)) result ≡ taken_at 138 text_in asked [] octets.now }
+    ensures { option_map (λ x. (x.0.now, x.1.now)) result ≡ taken_at 0x8A text_in asked [] octets.now }
 {
-    let (content, rest) = field(0x8a, asked, octets)?;
+    let (content, rest) = field(tags::VISIBLE_STRING, asked, octets)?;
     match content {
         None => Some((&[], rest)),
         Some(content) => Some((text_of(content)?, rest)),
@@ -55,9 +56,9 @@ pub(crate) fn take_text(asked: bool, octets: &[u8]) -> Option<(&[u8], &[u8])>
 /// A boolean; else it is false.
 #[tactic(auto, unfolding(crate::specs::PartReading::taken_at))]
 pub(crate) fn take_truth(asked: bool, octets: &[u8]) -> Option<(bool, &[u8])>
-    ensures { option_map (λ x. (x.0, x.1.now)) result ≡ taken_at 131 truth_in asked false octets.now }
+    ensures { option_map (λ x. (x.0, x.1.now)) result ≡ taken_at 0x83 truth_in asked false octets.now }
 {
-    let (content, rest) = field(0x83, asked, octets)?;
+    let (content, rest) = field(tags::BOOLEAN, asked, octets)?;
     match content {
         None => Some((false, rest)),
         Some(content) => Some((truth_of(content)?, rest)),
@@ -67,9 +68,9 @@ pub(crate) fn take_truth(asked: bool, octets: &[u8]) -> Option<(bool, &[u8])>
 /// A number of 16 bits; else it is 0.
 #[tactic(auto, unfolding(crate::specs::PartReading::taken_at))]
 pub(crate) fn take_short(asked: bool, octets: &[u8]) -> Option<(u16, &[u8])>
-    ensures { option_map (λ x. (x.0, x.1.now)) result ≡ taken_at 134 (below_at 65536) asked 0 octets.now }
+    ensures { option_map (λ x. (x.0, x.1.now)) result ≡ taken_at 0x86 (below_at 65536) asked 0 octets.now }
 {
-    let (content, rest) = field(0x86, asked, octets)?;
+    let (content, rest) = field(tags::UNSIGNED, asked, octets)?;
     match content {
         None => Some((0, rest)),
         Some(content) => Some((short_of(content)?, rest)),
@@ -79,9 +80,9 @@ pub(crate) fn take_short(asked: bool, octets: &[u8]) -> Option<(u16, &[u8])>
 /// A number of 32 bits; else it is 0.
 #[tactic(auto, unfolding(crate::specs::PartReading::taken_at))]
 pub(crate) fn take_number(asked: bool, octets: &[u8]) -> Option<(u32, &[u8])>
-    ensures { option_map (λ x. (x.0, x.1.now)) result ≡ taken_at 134 (below_at (2 ^ 32)) asked 0 octets.now }
+    ensures { option_map (λ x. (x.0, x.1.now)) result ≡ taken_at 0x86 (below_at (2 ^ 32)) asked 0 octets.now }
 {
-    let (content, rest) = field(0x86, asked, octets)?;
+    let (content, rest) = field(tags::UNSIGNED, asked, octets)?;
     match content {
         None => Some((0, rest)),
         Some(content) => Some((number_of(content)?, rest)),
@@ -91,9 +92,9 @@ pub(crate) fn take_number(asked: bool, octets: &[u8]) -> Option<(u32, &[u8])>
 /// A binary time of a moment; else it is the least.
 #[tactic(auto, unfolding(crate::specs::PartReading::taken_at))]
 pub(crate) fn take_time(asked: bool, octets: &[u8]) -> Option<(Moment, &[u8])>
-    ensures { option_map (λ x. (x.0, x.1.now)) result ≡ taken_at 140 moment_in asked 441763200000 octets.now }
+    ensures { option_map (λ x. (x.0, x.1.now)) result ≡ taken_at 0x8C moment_in asked 441763200000 octets.now }
 {
-    let (content, rest) = field(0x8c, asked, octets)?;
+    let (content, rest) = field(tags::BINARY_TIME, asked, octets)?;
     match content {
         None => Some((Moment::first(), rest)),
         Some(content) => Some((time_of(content)?, rest)),
@@ -103,9 +104,9 @@ pub(crate) fn take_time(asked: bool, octets: &[u8]) -> Option<(Moment, &[u8])>
 /// An EntryID; else it is 0.
 #[tactic(auto, unfolding(crate::specs::PartReading::taken_at))]
 pub(crate) fn take_id(asked: bool, octets: &[u8]) -> Option<(u64, &[u8])>
-    ensures { option_map (λ x. (x.0, x.1.now)) result ≡ taken_at 137 id_in asked 0 octets.now }
+    ensures { option_map (λ x. (x.0, x.1.now)) result ≡ taken_at 0x89 id_in asked 0 octets.now }
 {
-    let (content, rest) = field(0x89, asked, octets)?;
+    let (content, rest) = field(tags::OCTET_STRING, asked, octets)?;
     match content {
         None => Some((0, rest)),
         Some(content) => Some((id_of(content)?, rest)),
@@ -123,9 +124,9 @@ const NO_REASON: Reasons = Reasons {
 /// ReasonForInclusion; else there is none.
 #[tactic(auto, unfolding(crate::specs::PartReading::taken_at))]
 pub(crate) fn take_reasons(asked: bool, octets: &[u8]) -> Option<(Reasons, &[u8])>
-    ensures { option_map (λ x. (x.0, x.1.now)) result ≡ taken_at 132 reasons_in asked no_reasons octets.now }
+    ensures { option_map (λ x. (x.0, x.1.now)) result ≡ taken_at 0x84 reasons_in asked no_reasons octets.now }
 {
-    let (content, rest) = field(0x84, asked, octets)?;
+    let (content, rest) = field(tags::BIT_STRING, asked, octets)?;
     match content {
         None => Some((NO_REASON, rest)),
         Some(content) => Some((reasons_of(content)?, rest)),
@@ -135,10 +136,10 @@ pub(crate) fn take_reasons(asked: bool, octets: &[u8]) -> Option<(Reasons, &[u8]
 /// OptFlds.
 #[tactic(auto, unfolding(crate::specs::PartReading::taken_at, crate::specs::PartReading::field_at))]
 pub(crate) fn take_options(octets: &[u8]) -> Option<(BitView<'_>, &[u8])>
-    ensures { option_map (λ x. (x.0, x.1.now)) result ≡ taken_at 132 options_in true [] octets.now }
+    ensures { option_map (λ x. (x.0, x.1.now)) result ≡ taken_at 0x84 options_in true [] octets.now }
 {
     let (element, rest) = first(octets).ok()?;
-    if element.tag != 0x84 {
+    if element.tag != tags::BIT_STRING {
         return None;
     }
     Some((options_of(element.content)?, rest))
@@ -147,11 +148,11 @@ pub(crate) fn take_options(octets: &[u8]) -> Option<(BitView<'_>, &[u8])>
 /// The inclusion bits.
 #[tactic(auto, unfolding(crate::specs::PartReading::taken_at, crate::specs::PartReading::field_at))]
 pub(crate) fn take_inclusion(octets: &[u8]) -> Option<(BitView<'_>, &[u8])>
-    ensures value { option_map (λ x. (x.0, x.1.now)) result ≡ taken_at 132 inclusion_in true [] octets.now }
+    ensures value { option_map (λ x. (x.0, x.1.now)) result ≡ taken_at 0x84 inclusion_in true [] octets.now }
     ensures few { IfSome result (λ x. length x.0 ≤ 256) }
 {
     let (element, rest) = first(octets).ok()?;
-    if element.tag != 0x84 {
+    if element.tag != tags::BIT_STRING {
         return None;
     }
     Some((inclusion_of(element.content)?, rest))

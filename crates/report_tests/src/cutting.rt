@@ -1,7 +1,7 @@
 //! Reports that are cut, in octets and in lengths (IEC 61850-8-1, segmentation of reports).
 
 use crate::making::{ASKED, CHANGED, Given, Head, add, alike, pdus_of, usual};
-use crate::spelled::{Part, spelled};
+use crate::spelled::{Element, spelled};
 use std::alloc::{AllocError, Global};
 use std::test::*;
 
@@ -14,7 +14,7 @@ const POINT: &[u8] = &[
 ];
 
 /// The list name RPT, and the others.
-pub const PARTS: [Part; 4] = [
+pub const PARTS: [Element; 4] = [
     (b'L', &[0xa1, 5, 0x80, 3, 0x52, 0x50, 0x54]),
     (b'F', FURTHER),
     (b'P', POINT),

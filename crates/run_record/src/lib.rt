@@ -23,7 +23,7 @@ pub use pairs::{Pair, Pairs};
 pub use view::{LineView, PairView, PairsView};
 
 // reading and writing
-pub use reading::{read_line, view_line};
+pub use reading::{is_long, read_line, view_line};
 pub use writing::write_line;
 
 // what the format and the reading have to do with each other

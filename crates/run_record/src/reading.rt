@@ -274,7 +274,7 @@ fn tell(line: &[u8]) -> Result<LineView<'_>, Kind>
 }
 
 /// The line is longer than any, or has an octet that none has.
-fn is_long(line: &[u8]) -> bool
+pub fn is_long(line: &[u8]) -> bool
     ensures { result ≡ is_long_text line.now }
 {
     line.len() > MOST_OCTETS || !are_printable(line)

@@ -1,5 +1,8 @@
 //! What a line tells, with its words lent.
 
+ghost use Rattle.std.specs.Prelude.{◌≡◌, IfOk};
+ghost use Rattle.run_record.specs.declared.line.RecLine.TheVariants.{Write};
+
 use crate::line::{OpenForm, RecLine};
 use crate::pairs::{Pair, Pairs};
 use crate::words::Words;
@@ -84,6 +87,24 @@ impl<'a> PairsView<'a> {
     }
 }
 
+/// A write, with words of its own.
+fn written(
+    alloc: Global,
+    a: AssocNo,
+    block: &[u8],
+    comp: &[u8],
+    value: &[u8],
+) -> Result<RecLine, AllocError>
+    ensures { IfOk result (λ line. line ≡ Write a block.now comp.now value.now) }
+{
+    Ok(RecLine::Write {
+        a,
+        block: owned(alloc, block)?,
+        comp: owned(alloc, comp)?,
+        value: owned(alloc, value)?,
+    })
+}
+
 impl<'a> LineView<'a> {
     ghost use Rattle.std.specs.Prelude.{◌≡◌, IfOk};
     ghost use Rattle.run_record.specs.Seen.{line_seen};
@@ -92,31 +113,25 @@ impl<'a> LineView<'a> {
     pub fn to_line(&self, alloc: Global) -> Result<RecLine, AllocError>
         ensures { IfOk result (λ line. line ≡ line_seen self.now) }
     {
-        let line = match *self {
-            LineView::Skip => RecLine::Skip,
-            LineView::At(moment) => RecLine::At(moment),
-            LineView::Open { a, form } => RecLine::Open { a, form },
+        match *self {
+            LineView::Skip => Ok(RecLine::Skip),
+            LineView::At(moment) => Ok(RecLine::At(moment)),
+            LineView::Open { a, form } => Ok(RecLine::Open { a, form }),
             LineView::Write {
                 a,
                 block,
                 comp,
                 value,
-            } => RecLine::Write {
-                a,
-                block: owned(alloc, block)?,
-                comp: owned(alloc, comp)?,
-                value: owned(alloc, value)?,
-            },
-            LineView::Pdu(a, hex) => RecLine::Pdu(a, owned(alloc, hex)?),
-            LineView::Piece(a, hex) => RecLine::Piece(a, owned(alloc, hex)?),
-            LineView::Take(a) => RecLine::Take(a),
-            LineView::Lost(a) => RecLine::Lost(a),
-            LineView::Set(pairs) => RecLine::Set(pairs.to_pairs(alloc)?),
-            LineView::Done(control, well) => RecLine::Done(owned(alloc, control)?, well),
-            LineView::Block(control, on) => RecLine::Block(owned(alloc, control)?, on),
-            LineView::Tick => RecLine::Tick,
-            LineView::End => RecLine::End,
-        };
-        Ok(line)
+            } => written(alloc, a, block, comp, value),
+            LineView::Pdu(a, hex) => Ok(RecLine::Pdu(a, owned(alloc, hex)?)),
+            LineView::Piece(a, hex) => Ok(RecLine::Piece(a, owned(alloc, hex)?)),
+            LineView::Take(a) => Ok(RecLine::Take(a)),
+            LineView::Lost(a) => Ok(RecLine::Lost(a)),
+            LineView::Set(pairs) => Ok(RecLine::Set(pairs.to_pairs(alloc)?)),
+            LineView::Done(control, well) => Ok(RecLine::Done(owned(alloc, control)?, well)),
+            LineView::Block(control, on) => Ok(RecLine::Block(owned(alloc, control)?, on)),
+            LineView::Tick => Ok(RecLine::Tick),
+            LineView::End => Ok(RecLine::End),
+        }
     }
 }

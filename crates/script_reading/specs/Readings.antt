@@ -1,5 +1,7 @@
 -- What the reading of a rehearsal's input stands for.
 use Rattle.std.specs.Prelude.{◌≡◌, ◌<◌, ◌≤◌, ◌^◌, ◌==◌, ◌||◌, ℕ, suc, Bool, true, false, List, [], length, Option, None, Some, is_some, Result, Ok, Err, IfSome}
+use Rattle.sv_base.specs.declared.config.Config.{Config}
+use Rattle.cfg_parser.specs.declared.fault.CfgFault.{CfgFault}
 use Rattle.run_record.specs.Grammar.{IsLine}
 use Rattle.run_record.specs.Judging.{number_of}
 use Rattle.run_record.specs.declared.fault.Kind.{Kind}
@@ -16,6 +18,7 @@ use Rattle.script_reading.specs.Forms.{IsFit}
 use Rattle.script_reading.specs.Plans.{Plan, script_of}
 use Rattle.script_reading.specs.Moves.{Place, opening, configuring, between, inside, Move, goes, stops, ends}
 use Rattle.script_reading.specs.Scripting.{most_scripts, actor_for, counted, opened}
+use Rattle.script_reading.specs.Openings.{started}
 use Rattle.script_reading.specs.Inputs.{Outcome, refused, ready, ended, run}
 use Rattle.script_reading.specs.declared.plan.Plan.{Plan as Held}
 use Rattle.script_reading.specs.declared.opened.Opened.{Opened}
@@ -80,6 +83,11 @@ Heads (Some kind) number move = move ≡ stops (statuses.Record number (number_o
 abbrev pub Starts : Started → Move → Type 0
 Starts (starteds.Plans x) move = move ≡ goes (between (plan_seen x))
 Starts (starteds.Refused status) move = move ≡ stops status
+
+-- a model of what the text spells, or the status that it is refused with, behind so many lines
+abbrev pub IsModelOf : ℕ → Result Config Status → Result Config CfgFault → Type 0
+IsModelOf before (Ok c) found = found ≡ Ok c
+IsModelOf before (Err status) found = ((text : List ℕ) → started before text found ≡ stops status) × IsRefusal status
 
 -- ---- what the parts of a reading meet
 

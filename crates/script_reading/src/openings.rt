@@ -2,19 +2,10 @@
 
 ghost use Rattle.std.specs.Prelude.{◌≡◌, ℕ};
 ghost use Rattle.text_words.specs.Words.{texts};
-ghost use Rattle.run_record.specs.Judging.{is_long as is_long_text};
 ghost use Rattle.script_reading.specs.Openings.{headed};
 ghost use Rattle.script_reading.specs.Readings.{Heads};
 
 use run_record::Kind;
-use text_words::are_printable;
-
-/// The line is longer than any, or has an octet that none has.
-pub fn is_long(line: &[u8]) -> bool
-    ensures { result ≡ is_long_text line.now }
-{
-    line.len() > 140100 || !are_printable(line)
-}
 
 /// Why the words of the first line aren't `rehearse 1`; none where they are.
 pub fn heading_fault(words: &[&[u8]]) -> Option<Kind>

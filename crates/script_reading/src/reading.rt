@@ -11,11 +11,9 @@ use crate::plan::Plan;
 use crate::scan::split_line;
 use crate::session::Session;
 use crate::stage::Stage;
+use record_outcome::limits::MOST_OCTETS;
 use record_outcome::status::Status;
 use std::alloc::{AllocError, Global};
-
-/// The most octets of an input.
-const LIMIT: usize = 67108864;
 
 /// Reads the whole lines at the front of these octets, up to one with which the reading stops or ends, and gives the rest.
 fn read_lines<'a>(
@@ -90,8 +88,8 @@ pub fn read_rehearsal(alloc: Global, octets: &[u8]) -> Result<Result<Plan, Statu
     ensures reads { IfOk result (λ r. Reads r (outcome octets.now)) }
     ensures refused { IfOk result IsRefused }
 {
-    let long = octets.len() > LIMIT;
-    let within = &octets[..octets.len().min(LIMIT)];
+    let long = octets.len() > MOST_OCTETS;
+    let within = &octets[..octets.len().min(MOST_OCTETS)];
     let mut session = Session::new();
     match read_lines(alloc, &mut session, within) {
         Ok((next, rest)) => conclude(alloc, session, long, next, !rest.is_empty()),

@@ -45,7 +45,11 @@ impl Script {
     pub fn push(&mut self, line: StepLine, step: TimedStep) -> Result<(), AllocError>
         ensures { OnOk result (self.new ≡ with_line self.old line step) }
     {
-        self.lines.push(line)?;
+        if let Err(lost) = self.lines.push(line) {
+            drop(lost);
+            drop(step);
+            return Err(AllocError);
+        }
         self.steps.push(step)?;
         Ok(())
     }

@@ -46,9 +46,9 @@ fn strange(alloc: Global, model: &Model, line: &LineView<'_>) -> Result<Kind, Al
     ensures { IfOk result (λ k. number_of k ≡ strange_kind model.now (line_seen line.now)) }
 {
     let mut step = Step::Tick;
-    let told = ScriptForm::Shut.tell(alloc, model, line, &mut step)?;
+    let told = ScriptForm::Shut.tell(alloc, model, line, &mut step);
     drop(step);
-    match told {
+    match told? {
         Told::Refused(Kind::Name) => Ok(Kind::Name),
         _ => Ok(Kind::State),
     }
@@ -80,21 +80,22 @@ impl Opened {
     ) -> Result<(), AllocError>
         ensures { OnOk result (self.new ≡ taken self.old number text.now form step) }
     {
+        let moment = self.moment;
+        let text = match owned(alloc, text) {
+            Ok(text) => text,
+            Err(error) => {
+                drop(step);
+                return Err(error);
+            }
+        };
         let line = StepLine {
             number,
-            text: owned(alloc, text)?,
+            text,
             form: self.form,
-            moment: self.moment,
+            moment,
         };
-        self.script.push(
-            line,
-            TimedStep {
-                moment: self.moment,
-                step,
-            },
-        )?;
         self.form = form;
-        Ok(())
+        self.script.push(line, TimedStep { moment, step })
     }
 
     /// Does what was told of a line that makes no step.

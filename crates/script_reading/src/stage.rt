@@ -4,11 +4,11 @@ ghost use Rattle.std.specs.Prelude.{◌≡◌, ◌++◌, ◌∷◌, [], codes, I
 ghost use Rattle.std.specs.Str.{bytes_eq};
 
 use crate::next::Next;
-use crate::openings::{heading_fault, is_long};
+use crate::openings::heading_fault;
 use crate::scripting::Scripts;
 use crate::starting::{Started, refused_before, start};
 use record_outcome::status::Status;
-use run_record::Kind;
+use run_record::{Kind, is_long};
 use std::alloc::{AllocError, Global};
 use std::mem::replace;
 use text_words::{is_skipped, parts_of};

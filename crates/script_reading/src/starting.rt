@@ -1,10 +1,10 @@
 //! The configuration of a rehearsal.
 
-ghost use Rattle.std.specs.Prelude.{◌≡◌, ◌<◌, ◌^◌, None, replicate, IfOk};
+ghost use Rattle.std.specs.Prelude.{◌≡◌, ◌<◌, ◌^◌, ℕ, None, replicate, IfOk};
 ghost use Rattle.cfg_parser.specs.Looking.{config_at};
 ghost use Rattle.record_outcome.specs.Records.{refused_before as refused_before_number};
 ghost use Rattle.script_reading.specs.Openings.{started};
-ghost use Rattle.script_reading.specs.Readings.{Starts, IsSoundStart, IsRefusal};
+ghost use Rattle.script_reading.specs.Readings.{Starts, IsModelOf, IsSoundStart, IsRefusal};
 
 use crate::plan::Plan;
 use crate::script::Script;
@@ -34,31 +34,54 @@ fn no_scripts(alloc: Global) -> Result<Vec<Option<Script>>, AllocError>
     Ok(slots)
 }
 
+/// The model of the configuration of this text, behind so many lines, or the status that refuses it.
+fn model_of(alloc: Global, before: u64, text: &[u8]) -> Result<Result<Model, Status>, AllocError>
+    requires { before < 2 ^ 62 }
+    ensures { IfOk result (λ found. IsModelOf before found (config_at text.now)) }
+{
+    match read_config(alloc, text) {
+        Ok(config) => Ok(Ok(Model::build(alloc, config)?)),
+        Err(CfgFault::Refused { line, kind }) => Ok(Err(Status::Config {
+            line: before + u64::from(line),
+            kind: kind.number(),
+        })),
+        Err(CfgFault::Memory) => Err(AllocError),
+    }
+}
+
+/// What becomes of a text, and the places of actors, by the model that was found or the status that refuses the text.
+fn started_with(found: Result<Model, Status>, text: Vec<u8>, slots: Vec<Option<Script>>) -> Started
+    requires { slots.items ≡ replicate 33 None }
+    ensures starts { (before : ℕ) → IsModelOf before found (config_at text.items) → Starts result (started before text.items (config_at text.items)) }
+    ensures sound { (before : ℕ) → IsModelOf before found (config_at text.items) → IsSoundStart result }
+{
+    match found {
+        Ok(model) => Started::Plans(Plan {
+            model,
+            text,
+            slots,
+            count: 0,
+            processes: 0,
+        }),
+        Err(status) => Started::Refused(status),
+    }
+}
+
 /// Reads the configuration of this text, behind so many lines.
 pub fn start(alloc: Global, before: u64, text: Vec<u8>) -> Result<Started, AllocError>
     requires { before < 2 ^ 62 }
     ensures starts { IfOk result (λ s. Starts s (started before text.items (config_at text.items))) }
     ensures sound { IfOk result IsSoundStart }
 {
-    let config = match read_config(alloc, &text) {
-        Ok(config) => config,
-        Err(CfgFault::Refused { line, kind }) => {
-            return Ok(Started::Refused(Status::Config {
-                line: before + u64::from(line),
-                kind: kind.number(),
-            }));
-        }
-        Err(CfgFault::Memory) => return Err(AllocError),
-    };
-    let model = Model::build(alloc, config)?;
     let slots = no_scripts(alloc)?;
-    Ok(Started::Plans(Plan {
-        model,
-        text,
-        slots,
-        count: 0,
-        processes: 0,
-    }))
+    match model_of(alloc, before, &text) {
+        Ok(found) => Ok(started_with(found, text, slots)),
+        Err(error) => {
+            drop(slots);
+            drop(text);
+            Err(error)
+        }
+    }
 }
 
 /// The status of a configuration that isn't whole before a line, behind so many lines: that of its first refused line, or else

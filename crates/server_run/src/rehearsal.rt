@@ -27,7 +27,7 @@ use merged_records::{write_answers, write_record};
 use object_model::Model;
 use race_verdicts::{lacks_memory, lowest_full};
 use record_outcome::status::Status;
-use replay_run::whole::{Halt, read_whole};
+use replay_run::whole::{Unread, read_whole};
 use script_reading::{Plan, Script, StepLine, read_rehearsal};
 use script_threads::{Actor, Made, Raced, merge, race};
 use std::alloc::{AllocError, Global};
@@ -247,8 +247,8 @@ pub fn rehearse_gated<R: Threads + Wait + Sync, S: Source, K: Sink, G: Gate>(
 {
     match read_whole(alloc, source, MOST) {
         Ok(octets) => deliver(perform_input(rt, alloc, gates, octets), sink),
-        Err(Halt::Read) => Status::ReadFault,
-        Err(Halt::Memory) => Status::Memory,
+        Err(Unread::Read) => Status::ReadFault,
+        Err(Unread::Memory) => Status::Memory,
     }
 }
 

@@ -3,7 +3,7 @@
 
 ghost use Rattle.std.specs.Prelude.{◌≤◌, length};
 
-use crate::spelled::{Part, is_written, spelled};
+use crate::spelled::{Element, is_written, spelled};
 use acse_apdu::{
     AcFault, read_aare, read_aarq, read_rlre, read_rlrq, write_aare, write_aarq, write_rlre,
     write_rlrq,
@@ -43,7 +43,7 @@ const SHORT: [u8; 5] = [0xa8, 3, 0x80, 1, 0x64];
 
 // the name of the context, and the user information with SHORT, or its EXTERNAL or value alone; the result, and the
 // diagnostic of the service user
-const PARTS: [Part; 6] = [
+const PARTS: [Element; 6] = [
     (b'N', &[0xa1, 7, 6, 5, 0x28, 0xca, 0x22, 2, 3]),
     (
         b'I',

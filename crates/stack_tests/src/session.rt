@@ -1,6 +1,6 @@
 //! Octets of SPDUs and PPDUs (ISO 8327-1, ISO 8823-1): what is read, refused, and written.
 
-use crate::spelled::Part;
+use crate::spelled::Element;
 use session_pres::{Cp, write_ac, write_cn, write_cpa, write_data, write_dn, write_fn};
 use std::alloc::AllocError;
 use std::test::*;
@@ -12,7 +12,7 @@ mod refusals;
 mod spdus;
 
 /// The mode, a context of ACSE and one of MMS with BER, user data with an AARQ and with an AARE, and a result that accepts.
-const PARTS: [Part; 6] = [
+const PARTS: [Element; 6] = [
     (b'S', &[0xa0, 3, 0x80, 1, 1]),
     (
         b'A',

@@ -5,7 +5,7 @@ use std::test::*;
 use sv_base::Octs;
 
 /// A capital letter, and the octets that it stands for.
-pub type Part<'a> = (u8, &'a [u8]);
+pub type Element<'a> = (u8, &'a [u8]);
 
 fn digit(octet: u8) -> u8 {
     match octet {
@@ -15,7 +15,7 @@ fn digit(octet: u8) -> u8 {
     }
 }
 
-fn part<'a>(parts: &[Part<'a>], letter: u8) -> &'a [u8] {
+fn part<'a>(parts: &[Element<'a>], letter: u8) -> &'a [u8] {
     for (name, octets) in parts {
         if *name == letter {
             return octets;
@@ -25,7 +25,7 @@ fn part<'a>(parts: &[Part<'a>], letter: u8) -> &'a [u8] {
 }
 
 /// The octets that the text spells.
-pub fn spelled(alloc: Global, text: &[u8], parts: &[Part<'_>]) -> Result<Vec<u8>, AllocError> {
+pub fn spelled(alloc: Global, text: &[u8], parts: &[Element<'_>]) -> Result<Vec<u8>, AllocError> {
     let mut out = Vec::new(alloc);
     let mut high = None;
     for octet in text {
@@ -51,7 +51,7 @@ pub fn is_written(written: Result<Octs, AllocError>, octets: &[u8]) -> bool {
 
 #[test]
 fn digits_and_letters(rt: HostRuntime) -> Result<(), AllocError> {
-    let parts: [Part; 2] = [(b'A', &[1, 2]), (b'N', &[])];
+    let parts: [Element; 2] = [(b'A', &[1, 2]), (b'N', &[])];
     let octets = spelled(rt.alloc(), b"09A9fNa0ffA", &parts)?;
     assert!(rt; octets.as_slice() == [0x09, 1, 2, 0x9f, 0xa0, 0xff, 1, 2].as_slice());
     Ok(())

@@ -9,10 +9,10 @@ use Rattle.bay_core.proofs.time.pass_one.Goals as goal
 
 pub returns-then-not-has_come-clause-part : goal.returns-then-not-has_come-clause-part
 returns-then-not-has_come-clause-part c =
-    sym (one-arrives c.args.was c.args.now c.requires.later c.args.due c.args.part.now (c.has_come.ensures c.if-not-has_come.true) c.requires.quiet c.args.source.now.rows.now c.args.source.now.book.now c.args.source.now.store.now c.args.step)
+    sym (one-arrives c.args.was c.args.now c.requires.later c.args.due c.args.part.now (c.has_come.ensures.late c.if-not-has_come.true) c.requires.quiet c.args.source.now.rows.now c.args.source.now.book.now c.args.source.now.store.now c.args.step)
 
 pub returns-then-not-has_come-clause-quiet : goal.returns-then-not-has_come-clause-quiet
-returns-then-not-has_come-clause-quiet c = one-stays c.args.was c.args.now c.requires.later c.args.due c.args.part.now (c.has_come.ensures c.if-not-has_come.true) c.requires.quiet
+returns-then-not-has_come-clause-quiet c = one-stays c.args.was c.args.now c.requires.later c.args.due c.args.part.now (c.has_come.ensures.late c.if-not-has_come.true) c.requires.quiet
 
 pub returns-clause-part : goal.returns-clause-part
 returns-clause-part c =

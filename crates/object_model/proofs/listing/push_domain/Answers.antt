@@ -1,4 +1,4 @@
-use Rattle.std.proofs.Common.{◌≡◌, List, ap, ◌∙◌, subst, ◌++◌, map, length}
+use Rattle.std.proofs.Common.{◌≡◌, List, [], ◌∷◌, ap, ◌∙◌, subst, ◌++◌, map, length}
 use Rattle.bay_model.specs.Places.{Place}
 use Rattle.object_model.specs.Grown.{items_of, spot}
 use Rattle.object_model.specs.Nodes.{names_at, places_from}
@@ -10,16 +10,16 @@ use Rattle.object_model.proofs.listing.push_domain.Goals as goal
 pub returns : goal.returns
 returns c =
     let ps : List Place = places_from c.args.lines.now c.args.domain.now in
+    let pushed = c.in_default.ensures in
     let spots : c.in_ok-growth.growth.spots.items ≡ map spot ps = c.in_ok-growth.ensures.spots in
     let items : c.in_ok-growth.growth.items ≡ items_of ps = c.in_ok-growth.ensures.items in record {
-      rows = c.in_ok-push_nodes.ensures.rows ∙ (ap (λ l. c.args.listing.now.rows.items ++ rows_with (length c.args.listing.now.rows.items) l c.in_ok-attrs.attrs c.in_ok-growth.growth.spots.items) items
-          ∙ (ap (λ l. c.args.listing.now.rows.items ++ rows_with (length c.args.listing.now.rows.items) (items_of ps) l c.in_ok-growth.growth.spots.items) (c.in_ok-attrs.ensures ∙ ap attrs_in_spots c.deref-2.ensures.value)
-          ∙ ap (λ l. c.args.listing.now.rows.items ++ rows_with (length c.args.listing.now.rows.items) (items_of ps) (attrs_in_spots l) l) spots));
-      names = c.in_ok-push_nodes.ensures.names ∙ (ap (λ l. c.args.listing.now.names.items ++ names_at c.in_ok-number.number 0 l) spots
+      rows = pushed.rows ∙ (ap (λ l. c.args.listing.now.rows.items ++ rows_with (length c.args.listing.now.rows.items) l (attrs_in_spots c.in_ok-growth.growth.spots.items) c.in_ok-growth.growth.spots.items) items
+          ∙ ap (λ l. c.args.listing.now.rows.items ++ rows_with (length c.args.listing.now.rows.items) (items_of ps) (attrs_in_spots l) l) spots);
+      names = pushed.names ∙ (ap (λ l. c.args.listing.now.names.items ++ names_at c.in_ok-number.number 0 l) spots
           ∙ ap (λ k. c.args.listing.now.names.items ++ names_at k 0 (map spot ps)) (c.in_ok-number.ensures ∙ ap length c.as_slice-2.ensures.value));
-      directory = c.in_ok-directory_of.field-0;
-      directories = c.in_ok-push.ensures.items;
-      is_directory = subst (λ n. IsDirectoryOf n (items_of ps) c.in_ok-directory_of.field-0) (c.in_ok-first.ensures ∙ ap length c.as_slice.ensures.value) (subst (λ l. IsDirectoryOf c.in_ok-first.first l c.in_ok-directory_of.field-0) items c.in_ok-directory_of.ensures);
-      stands = c.in_ok-push_stands.ensures.stands ∙ ap (λ l. c.args.listing.now.stands.items ++ stands_from (length c.args.listing.now.leaves.items) l) (c.deref.ensures.value ∙ spots);
-      leaves = c.in_ok-push_stands.ensures.leaves ∙ ap (λ l. c.args.listing.now.leaves.items ++ owns l) (c.deref.ensures.value ∙ spots);
+      directory = c.in_ok-directory.directory;
+      directories = c.in_ok-push.ensures.items ∙ ap (λ l. l ++ c.in_ok-directory.directory ∷ []) (ap (λ v. v.items) c.push_spots.ensures.directories);
+      is_directory = subst (λ n. IsDirectoryOf n (items_of ps) c.in_ok-directory.directory) (c.in_ok-first.ensures ∙ ap length c.as_slice.ensures.value) (subst (λ l. IsDirectoryOf c.in_ok-first.first l c.in_ok-directory.directory) items c.in_ok-directory.ensures);
+      stands = pushed.stands ∙ ap (λ l. c.args.listing.now.stands.items ++ stands_from (length c.args.listing.now.leaves.items) l) spots;
+      leaves = pushed.leaves ∙ ap (λ l. c.args.listing.now.leaves.items ++ owns l) spots;
     }

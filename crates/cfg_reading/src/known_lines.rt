@@ -31,7 +31,7 @@ pub struct Counts {
 
 /// The lines that were read, and what they tell of the next.
 #[derive(Drop)]
-pub struct Kept {
+pub struct KnownLines {
     pub lines: Vec<Line>,
     pub place: Place,
     pub domain: Octs,
@@ -46,21 +46,21 @@ pub struct Kept {
     pub room: Vec<u8>,
 }
 
-impl Kept {
+impl KnownLines {
     ghost use Rattle.std.specs.Prelude.{◌≡◌, ◌++◌, ◌∷◌, [], OnOk};
     ghost use Rattle.cfg_lines.specs.Facts.{facts_of};
     ghost use Rattle.cfg_lines.specs.declared.line.Line.TheVariants.{Ld, Ln, Attr, Set, Brcb, Ctl, Sgcb};
     ghost use Rattle.cfg_reading.specs.Known.{AreFew, IsShort, Noted, Tells, facts_kept};
 
     /// What is kept of no line.
-    pub fn new(alloc: Global) -> Kept
+    pub fn new(alloc: Global) -> KnownLines
         ensures lines { result.lines.items ≡ [] }
         ensures facts { facts_kept result ≡ facts_of [] }
         ensures heads { result.heads ≡ [] }
         ensures sets { result.sets ≡ [] }
         ensures names { result.names ≡ [] }
     {
-        Kept {
+        KnownLines {
             lines: Vec::new(alloc),
             place: Place::Start,
             domain: empty(alloc),
@@ -211,7 +211,10 @@ impl Kept {
         ensures lines { OnOk result (self.new.lines.items ≡ self.old.lines.items ++ line ∷ []) }
         ensures noted { OnOk result (Tells line self.old self.new) }
     {
-        self.note(alloc, &line)?;
+        let Ok(()) = self.note(alloc, &line) else {
+            drop(line);
+            return Err(AllocError);
+        };
         self.lines.push(line)?;
         Ok(())
     }

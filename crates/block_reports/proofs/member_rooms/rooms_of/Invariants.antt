@@ -1,7 +1,7 @@
 use Rattle.std.proofs.Common.{◌≤◌, ◌-◌, length}
 use Rattle.std.specs.List.{All}
 use Rattle.block_reports.specs.Blanks.{IsRoom}
-use Rattle.block_reports.proofs.room.rooms_of.Given as goal
+use Rattle.block_reports.proofs.member_rooms.rooms_of.Given as goal
 
 abbrev pub invariant-loop-alloc : goal.invariant-loop-alloc
 invariant-loop-alloc l = record {

@@ -18,16 +18,16 @@ use sv_base::{MemberNo, Octs};
 
 /// Room for the reference of a member and for its Data.
 #[derive(Drop)]
-pub(crate) struct Room {
+pub(crate) struct MemberRoom {
     pub(crate) reference: Vec<u8>,
     pub(crate) octets: Vec<u8>,
 }
 
 /// Room for one member, in that of another.
-fn room_of(spare: Member) -> Result<Room, AllocError>
+fn room_of(spare: Member) -> Result<MemberRoom, AllocError>
     ensures { IfOk result IsRoom }
 {
-    Ok(Room {
+    Ok(MemberRoom {
         reference: emptied(spare.reference.into_vec(), 129)?,
         octets: emptied(spare.octets.into_vec(), 500)?,
     })
@@ -37,7 +37,7 @@ fn room_of(spare: Member) -> Result<Room, AllocError>
 /// of one report for the next. Contracts see for how many members.
 #[derive(Drop)]
 pub struct Rooms {
-    pub(crate) free: Vec<Room>,
+    pub(crate) free: Vec<MemberRoom>,
     pub(crate) joined: Vec<u8>,
 }
 
@@ -70,10 +70,10 @@ impl Rooms {
 /// So many rooms: these as far as they go, then those of these members, then new ones.
 fn rooms_of(
     alloc: Global,
-    free: Vec<Room>,
+    free: Vec<MemberRoom>,
     spare: &mut Vec<Member>,
     most: usize,
-) -> Result<Vec<Room>, AllocError>
+) -> Result<Vec<MemberRoom>, AllocError>
     requires { All IsRoom free.items }
     ensures rooms { IfOk result (λ r. All IsRoom r.items) }
     ensures count { IfOk result (λ r. length r.items ≡ most) }
@@ -105,7 +105,7 @@ fn member_reference_in(room: Vec<u8>, model: &Model, set: &SetView<'_>, number: 
 }
 
 /// A member of a report, in room that is there. It takes no memory.
-fn member_in(room: Room, model: &Model, set: &SetView<'_>, front: &Front<'_>) -> Member
+fn member_in(room: MemberRoom, model: &Model, set: &SetView<'_>, front: &Front<'_>) -> Member
     requires room { IsRoom room }
     requires nodes { AreNodes model.now set.now }
     requires short { IsShortSet (configured_model model.now) set.now }
@@ -124,7 +124,7 @@ fn member_in(room: Room, model: &Model, set: &SetView<'_>, front: &Front<'_>) ->
 #[derive(Drop)]
 pub(crate) struct Row {
     items: Vec<Member>,
-    rooms: Vec<Room>,
+    rooms: Vec<MemberRoom>,
 }
 
 impl std::marker::Model for Row {
@@ -152,7 +152,7 @@ impl Row {
     /// Room for so many members, made of rooms and of the memory of other members as far as they go.
     pub(crate) fn open(
         alloc: Global,
-        free: Vec<Room>,
+        free: Vec<MemberRoom>,
         spare: Members,
         most: usize,
     ) -> Result<Row, AllocError>
@@ -184,7 +184,7 @@ impl Row {
     }
 
     /// The members, and the rooms that are left.
-    pub(crate) fn into_parts(self) -> (Members, Vec<Room>)
+    pub(crate) fn into_parts(self) -> (Members, Vec<MemberRoom>)
         ensures members { result.0 ≡ self.items }
         ensures rooms { All IsRoom result.1.items }
         ensures count { length result.1.items ≡ self.left }
@@ -200,7 +200,7 @@ impl Row {
         model: &Model,
         set: &SetView<'_>,
         octets: &[u8],
-    ) -> (Members, Vec<Room>)
+    ) -> (Members, Vec<MemberRoom>)
         requires empty { self.items ≡ [] }
         requires nodes { AreNodes model.now set.now }
         requires short { IsShortSet (configured_model model.now) set.now }

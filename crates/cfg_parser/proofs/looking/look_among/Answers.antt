@@ -2,11 +2,11 @@ use Rattle.std.proofs.Common.{◌+◌, subst}
 use Rattle.cfg_parser.specs.Reader.{GivesText}
 use Rattle.cfg_parser.specs.Looking.{look_at, looked_at}
 use Rattle.cfg_parser.proofs.LookLaws.{err_of, passed-on, line-refused}
-use Rattle.cfg_parser.proofs.looking.look_up.Goals as goal
+use Rattle.cfg_parser.proofs.looking.look_among.Goals as goal
 
 pub returns-in_err-look : goal.returns-in_err-look
 returns-in_err-look c =
-    let given = c.from_residual-in_err-look in
+    let given = c.from_residual in
     let all = c.args.reading.now in
     let fault = c.in_err-look.field-0.0 in
     passed-on given.result fault (looked_at all all) given.ensures.1

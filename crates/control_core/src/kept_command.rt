@@ -1,9 +1,10 @@
 //! A command in room that was made before.
 
-ghost use Rattle.std.specs.Prelude.{◌≡◌, ◌<◌, ◌++◌, IfOk};
+ghost use Rattle.std.specs.Prelude.{◌≡◌, ◌<◌, ◌++◌, ◌∷◌, [], IfOk};
 ghost use Rattle.bay_model.specs.Outputs.{name_of_call};
 ghost use Rattle.control_core.specs.Blame.{blame};
 ghost use Rattle.sv_base.specs.Same.{is_same_seen};
+ghost use Rattle.sv_base.specs.declared.value.Value.TheVariants as kinds;
 ghost use Rattle.control_core.specs.Commands.{seen_val, call_in, said};
 
 use crate::command::{Call, Check, CommandRef, CtlVal, check_in};
@@ -94,9 +95,19 @@ fn is_same_val(one: CtlVal, other: CtlVal) -> bool
     }
 }
 
+/// The value of a Check.
+fn check_value(alloc: Global, check: Check) -> Result<Value, AllocError>
+    ensures { IfOk result (λ v. v ≡ kinds.Bits (check.synchro ∷ check.interlock ∷ [])) }
+{
+    let bits = vec![in alloc; check.synchro, check.interlock]?;
+    Ok(Value::Bits(Bits::from_vec(bits)))
+}
+
 impl KeptCommand {
     ghost use Rattle.std.specs.Prelude.{◌≡◌, ◌≤◌, ◌<◌, true, length, IfOk};
     ghost use Rattle.sv_base.specs.Seen.{row_of};
+    ghost use Rattle.sv_base.specs.Tree.{plain, none, more, int, octets};
+    ghost use Rattle.sv_base.specs.declared.value.Value.TheVariants as kinds;
     ghost use Rattle.bay_model.specs.Model.{operate};
     ghost use Rattle.bay_model.specs.Commands.{differs, is_rest};
     ghost use Rattle.control_core.specs.Commands.{said, command_said, value_said, blank};
@@ -152,26 +163,29 @@ impl KeptCommand {
             && command.test == self.test)
     }
 
+    /// The value of its origin.
+    fn origin_value(&self, alloc: Global) -> Result<Value, AllocError>
+        ensures { IfOk result (λ v. v ≡ kinds.Struct (more (plain (int self.now.or_cat)) (more (plain (octets self.now.or_ident)) none))) }
+    {
+        let ident = Octs::from_vec(Vec::from_slice(alloc, self.or_ident.as_slice())?);
+        let parts = vec![in alloc; Value::Int(self.or_cat), Value::Octets(ident)]?;
+        Ok(Value::Struct(Values::from_vec(parts)))
+    }
+
     /// The value that says it.
     pub fn value(&self, alloc: Global) -> Result<Value, AllocError>
         ensures { IfOk result (λ v. v ≡ value_said self.now) }
     {
-        let mut origin = Vec::with_capacity(alloc, 2)?;
-        origin.push(Value::Int(self.or_cat))?;
-        origin.push(Value::Octets(Octs::from_vec(Vec::from_slice(
-            alloc,
-            self.or_ident.as_slice(),
-        )?)))?;
-        let mut bits = Vec::with_capacity(alloc, 2)?;
-        bits.push(self.check.synchro)?;
-        bits.push(self.check.interlock)?;
-        let mut parts = Vec::with_capacity(alloc, 6)?;
-        parts.push(self.value.value())?;
-        parts.push(Value::Struct(Values::from_vec(origin)))?;
-        parts.push(Value::Uint(u64::from(self.ctl_num)))?;
-        parts.push(Value::Time(self.time))?;
-        parts.push(Value::Bool(self.test))?;
-        parts.push(Value::Bits(Bits::from_vec(bits)))?;
+        let origin = self.origin_value(alloc)?;
+        let check = check_value(alloc, self.check)?;
+        let parts = vec![in alloc;
+            self.value.value(),
+            origin,
+            Value::Uint(u64::from(self.ctl_num)),
+            Value::Time(self.time),
+            Value::Bool(self.test),
+            check,
+        ]?;
         Ok(Value::Struct(Values::from_vec(parts)))
     }
 

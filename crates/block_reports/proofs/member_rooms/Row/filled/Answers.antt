@@ -3,7 +3,7 @@ use Rattle.std.specs.Prelude.{option_map}
 use Rattle.bay_model.specs.declared.report.Member.{Member}
 use Rattle.block_reports.specs.Again.{front_member, front_seen}
 use Rattle.block_reports.proofs.AgainLaws.{all_read, fill_first, fill_one}
-use Rattle.block_reports.proofs.room.Row.filled.Goals as goal
+use Rattle.block_reports.proofs.member_rooms.Row.filled.Goals as goal
 
 pub loop-front-init : goal.loop-front-init
 loop-front-init c = record {

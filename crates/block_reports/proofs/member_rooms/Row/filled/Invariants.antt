@@ -2,7 +2,7 @@ use Rattle.std.proofs.Common.{◌≡◌, ◌+◌, List, length}
 use Rattle.bay_model.specs.Notes.{Kept}
 use Rattle.block_reports.specs.Blanks.{AreFew}
 use Rattle.block_reports.proofs.AgainLaws.{Filling}
-use Rattle.block_reports.proofs.room.Row.filled.Given as goal
+use Rattle.block_reports.proofs.member_rooms.Row.filled.Given as goal
 
 -- so many members are read, and there is room for the others; no room is lost
 abbrev pub invariant-loop-front : goal.invariant-loop-front

@@ -1,7 +1,7 @@
 use Rattle.std.proofs.Common.{◌∙◌, arith, sym}
 use Rattle.bay_model.specs.Named.{configured_model}
 use Rattle.block_reports.proofs.AgainLaws.{reference-found, reference-missing, reference-short}
-use Rattle.block_reports.proofs.room.member_reference_in.Goals as goal
+use Rattle.block_reports.proofs.member_rooms.member_reference_in.Goals as goal
 
 pub reference_in-requires-clause-room : goal.reference_in-requires-clause-room
 reference_in-requires-clause-room c =

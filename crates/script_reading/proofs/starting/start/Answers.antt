@@ -1,5 +1,0 @@
-use Rattle.record_outcome.proofs.StartLaws.{is_served, settable}
-use Rattle.script_reading.proofs.starting.start.Goals as goal
-
-pub build-requires : goal.build-requires
-build-requires c = settable c.in-Ok.config (is_served c.deref.result.now c.in-Ok.config c.in-Ok.ensures)
