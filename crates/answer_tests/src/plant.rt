@@ -8,12 +8,16 @@ ghost use Rattle.bay_rooms.specs.Slots.{IsSettable};
 use object_model::Model;
 use std::alloc::{AllocError, Global};
 use sv_base::{
-    AttrDef, AttrDefs, BlockDefs, Config, CtlDefs, LnDef, LnDefs, Octs, SetDefs, SgDefs, TypeOf,
-    Values,
+    AttrDef, AttrDefs, BlockDefs, Config, CtlDefs, Few, FirstValues, LnDef, LnDefs, Octs, SetDefs,
+    SgDefs, SharedOcts, ShortOcts, TypeOf,
 };
 
 pub fn octs(alloc: Global, octets: &[u8]) -> Result<Octs, AllocError> {
     Ok(Octs::from_vec(Vec::from_slice(alloc, octets)?))
+}
+
+fn shared(alloc: Global, octets: &[u8]) -> Result<SharedOcts, AllocError> {
+    SharedOcts::new(alloc, octs(alloc, octets)?)
 }
 
 fn attrs(alloc: Global) -> Result<AttrDefs, AllocError>
@@ -21,15 +25,15 @@ fn attrs(alloc: Global) -> Result<AttrDefs, AllocError>
 {
     let attr = AttrDef {
         line: 5,
-        domain: octs(alloc, b"BAY1")?,
-        ln: octs(alloc, b"MMXU1")?,
-        fc: octs(alloc, b"MX")?,
-        path: octs(alloc, b"TotW$mag$i")?,
+        domain: shared(alloc, b"BAY1")?,
+        ln: shared(alloc, b"MMXU1")?,
+        fc: ShortOcts::from_slice(alloc, b"MX")?,
+        path: ShortOcts::from_slice(alloc, b"TotW$mag$i")?,
         kind: TypeOf::Int(32),
         dchg: true,
         qchg: false,
         dupd: false,
-        values: Values::from_vec(Vec::new(alloc)),
+        values: FirstValues::new(Few::many(Vec::new(alloc))),
     };
     Ok(AttrDefs::from_vec(vec![in alloc; attr]?))
 }

@@ -4,10 +4,10 @@ use Rattle.std.specs.Prelude.{Bool, true, false, if◌then◌else◌, [], Result
 use Rattle.std.specs.Int.{to_be_bytes, w64}
 use Rattle.sv_base.specs.declared.value.Value.{Value}
 use Rattle.sv_base.specs.declared.value.Value.TheVariants as kinds
-use Rattle.bay_model.specs.declared.components.Comp.{Comp}
-use Rattle.bay_model.specs.declared.components.Comp.TheVariants as comps
-use Rattle.bay_model.specs.declared.components.SettingComp.{SettingComp}
-use Rattle.bay_model.specs.declared.components.SettingComp.TheVariants.{NumOfSG, ActSG, EditSG, CnfEdit, LActTm}
+use Rattle.sv_base.specs.declared.components.Comp.{Comp}
+use Rattle.sv_base.specs.declared.components.Comp.TheVariants as comps
+use Rattle.sv_base.specs.declared.components.SettingComp.{SettingComp}
+use Rattle.sv_base.specs.declared.components.SettingComp.TheVariants.{NumOfSG, ActSG, EditSG, CnfEdit, LActTm}
 use Rattle.bay_model.specs.declared.request.Target.{Target}
 use Rattle.bay_model.specs.declared.request.Target.TheVariants as targets
 use Rattle.bay_model.specs.Calls.{can_select}

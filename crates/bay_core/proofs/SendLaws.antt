@@ -16,7 +16,7 @@ use Rattle.bay_model.proofs.request.Scope.TheSendSync as scope
 use Rattle.bay_model.proofs.request.Target.TheSendSync as target
 use Rattle.bay_model.proofs.request.Targets.TheSendSync as targets
 use Rattle.bay_model.proofs.request.SetNames.TheSendSync as set_names
-use Rattle.bay_model.proofs.components.Comp.TheSendSync as component
+use Rattle.sv_base.proofs.components.Comp.TheSendSync as component
 use Rattle.bay_model.specs.contracts.request.Write as Write
 use Rattle.bay_model.specs.contracts.request.Writes as Writes
 use Rattle.bay_model.specs.contracts.request.Service as Service

@@ -10,8 +10,8 @@ use Rattle.sv_base.specs.declared.numbers.BlockNo.{BlockNo}
 use Rattle.sv_base.specs.declared.value.Value.{Value}
 use Rattle.sv_base.specs.declared.value.Value.TheVariants as kinds
 use Rattle.bay_model.specs.declared.answer.Answer.TheVariants as answers
-use Rattle.bay_model.specs.declared.components.Comp.{Comp}
-use Rattle.bay_model.specs.declared.components.Comp.TheVariants as comps
+use Rattle.sv_base.specs.declared.components.Comp.{Comp}
+use Rattle.sv_base.specs.declared.components.Comp.TheVariants as comps
 use Rattle.bay_model.specs.declared.step.Step.TheVariants as steps
 use Rattle.bay_model.specs.Model.{Model}
 use Rattle.bay_model.specs.Notes.{all_members, no_reason}

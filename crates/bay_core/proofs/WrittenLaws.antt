@@ -7,7 +7,7 @@ use Rattle.sv_base.specs.declared.config.Config.{Config}
 use Rattle.sv_base.specs.declared.numbers.AssocNo.{AssocNo}
 use Rattle.sv_base.specs.declared.value.Value.{Value}
 use Rattle.bay_rooms.specs.Rooms.{Filled}
-use Rattle.bay_model.specs.declared.components.Comp.{Comp}
+use Rattle.sv_base.specs.declared.components.Comp.{Comp}
 use Rattle.object_model.specs.Nodes.{node_rows}
 use Rattle.data_sets.specs.Books.{Book, number_referred}
 use Rattle.data_sets.specs.Standing.{IsNamed}

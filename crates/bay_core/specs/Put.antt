@@ -3,7 +3,7 @@ use Rattle.std.specs.Prelude.{ℕ, true, List, ◌∷◌, Result, slice_set}
 use Rattle.sv_base.specs.declared.config.Config.{Config}
 use Rattle.sv_base.specs.declared.numbers.AssocNo.{AssocNo}
 use Rattle.sv_base.specs.declared.value.Value.{Value}
-use Rattle.bay_model.specs.declared.components.Comp.{Comp}
+use Rattle.sv_base.specs.declared.components.Comp.{Comp}
 use Rattle.bay_model.specs.Named.{configured_model}
 use Rattle.bay_model.specs.Notes.{all_members, no_reason}
 use Rattle.bay_model.specs.Points.{Past, wrote}

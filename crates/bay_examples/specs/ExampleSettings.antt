@@ -4,10 +4,10 @@ use Rattle.std.specs.Prelude.{ℕ, pos, List, [], ◌∷◌, ◌++◌, false, co
 use Rattle.sv_base.specs.declared.value.Value.TheVariants as kinds
 use Rattle.bay_model.specs.Model as model
 use Rattle.bay_model.specs.Model.{Model, Node, Attr, Access, Trees, attribute, setting, leaf, structure, none, more, single}
-use Rattle.bay_model.specs.declared.components.SettingComp.{SettingComp}
-use Rattle.bay_model.specs.declared.components.SettingComp.TheVariants.{NumOfSG, ActSG, EditSG, CnfEdit, LActTm}
+use Rattle.sv_base.specs.declared.components.SettingComp.{SettingComp}
+use Rattle.sv_base.specs.declared.components.SettingComp.TheVariants.{NumOfSG, ActSG, EditSG, CnfEdit, LActTm}
 use Rattle.bay_rooms.specs.Kinds.{int}
-use Rattle.bay_model.specs.ComponentTable.{setting_components}
+use Rattle.sv_base.specs.ComponentTable.{setting_components}
 use Rattle.bay_examples.specs.ExampleNodes.{domain, node, nodes, attrs_with, power, attribute_node, within}
 use Rattle.bay_examples.specs.Example.{example}
 

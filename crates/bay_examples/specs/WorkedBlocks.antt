@@ -1,7 +1,7 @@
 -- Worked histories: two blocks of one association (IEC 61850-7-2, BRCB; the order of their reports is this profile's own).
 use Rattle.std.specs.Prelude.{true, [], ◌∷◌}
 use Rattle.sv_base.specs.declared.value.Value.TheVariants as kinds
-use Rattle.bay_model.specs.declared.components.Comp.TheVariants as comps
+use Rattle.sv_base.specs.declared.components.Comp.TheVariants as comps
 use Rattle.bay_model.specs.declared.answer.Answer.TheVariants.{Empty}
 use Rattle.bay_model.specs.Model.{Model}
 use Rattle.bay_examples.specs.Example.{example, block}

@@ -2,7 +2,7 @@
 -- GI and IntgPd).
 use Rattle.std.specs.Prelude.{true, [], ◌∷◌, codes}
 use Rattle.sv_base.specs.declared.value.Value.TheVariants as kinds
-use Rattle.bay_model.specs.declared.components.Comp.TheVariants as comps
+use Rattle.sv_base.specs.declared.components.Comp.TheVariants as comps
 use Rattle.bay_model.specs.declared.answer.Answer.TheVariants.{Went, Empty}
 use Rattle.bay_model.specs.Model.{Model}
 use Rattle.bay_examples.specs.Example.{example_with, options, bits_of}

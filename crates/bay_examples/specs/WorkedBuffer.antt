@@ -1,13 +1,13 @@
 -- Worked histories: what the buffer retains, and when a report is marked (IEC 61850-7-2, BufOvfl and PurgeBuf).
 use Rattle.std.specs.Prelude.{[], ◌∷◌, ◌++◌, codes}
 use Rattle.sv_base.specs.declared.value.Value.TheVariants as kinds
-use Rattle.bay_model.specs.declared.components.Comp.TheVariants as comps
+use Rattle.sv_base.specs.declared.components.Comp.TheVariants as comps
 use Rattle.bay_model.specs.declared.answer.Answer.TheVariants.{Went, Empty}
 use Rattle.bay_examples.specs.Example.{example, bits_of}
 use Rattle.bay_examples.specs.ExampleTurns.{at, open_direct, take, enable, disable, set_power, set_powers, write, Answered, purge, resume_at}
 use Rattle.bay_examples.specs.ExampleAnswers.{ok, refused, report, marked, unmarked, changed, power}
 use Rattle.sv_base.specs.declared.value.Value.{Value}
-use Rattle.bay_model.specs.declared.components.Comp.{Comp}
+use Rattle.sv_base.specs.declared.components.Comp.{Comp}
 
 -- Six of nine entries fit the buffer: the first report is of the oldest of them, and alone is marked.
 abbrev pub GapMark : Type 0

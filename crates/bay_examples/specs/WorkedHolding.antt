@@ -1,7 +1,7 @@
 -- Worked histories: whose writes of a block are refused (IEC 61850-7-2, RptEna and SetBRCBValues).
 use Rattle.std.specs.Prelude.{true, [], ◌∷◌, codes}
 use Rattle.sv_base.specs.declared.value.Value.TheVariants as kinds
-use Rattle.bay_model.specs.declared.components.Comp.TheVariants as comps
+use Rattle.sv_base.specs.declared.components.Comp.TheVariants as comps
 use Rattle.bay_examples.specs.Example.{example, example_with, options, bits_of}
 use Rattle.bay_examples.specs.ExampleTurns.{open_direct, take, enable, disable, interrogate, set_power, write, Answered, lost, resume_at}
 use Rattle.bay_examples.specs.ExampleAnswers.{ok, refused, report, unmarked, changed, power}

@@ -8,7 +8,7 @@ use Rattle.bay_model.specs.declared.request.ObjName.TheVariants as names
 use Rattle.bay_model.specs.declared.request.Service.TheVariants as services
 use Rattle.bay_model.specs.declared.request.Target.{Target}
 use Rattle.bay_model.specs.declared.request.Target.TheVariants as targets
-use Rattle.bay_model.specs.declared.components.Comp.TheVariants as comps
+use Rattle.sv_base.specs.declared.components.Comp.TheVariants as comps
 use Rattle.bay_model.specs.Answers.{Turn}
 use Rattle.bay_examples.specs.Example.{example, block, bits_of}
 use Rattle.bay_examples.specs.ExampleNodes.{domain}

@@ -7,7 +7,7 @@ use Rattle.bay_model.specs.declared.reply.Reply.TheVariants as replies
 use Rattle.bay_model.specs.declared.request.Scope.TheVariants as scopes
 use Rattle.bay_model.specs.declared.request.Service.{Service}
 use Rattle.bay_model.specs.declared.request.Service.TheVariants as services
-use Rattle.bay_model.specs.declared.components.Comp.TheVariants as comps
+use Rattle.sv_base.specs.declared.components.Comp.TheVariants as comps
 use Rattle.bay_model.specs.Sizes.{within}
 use Rattle.bay_model.specs.Answers.{Turn}
 use Rattle.bay_model.specs.Acceptance.{IsOpen, NotOpen, NotYours, QueueFull, fault}

@@ -3,7 +3,7 @@ use Rattle.std.proofs.Common.{not, ◌≡◌, ℕ, Bool, true, false, List, [], 
 use Rattle.std.specs.Prelude.{Result, Ok, Err, ◌==◌, ◌||◌, nat_lt, if◌then◌else◌}
 use Rattle.sv_base.specs.declared.value.Value.{Value}
 use Rattle.sv_base.specs.declared.value.Value.TheVariants as kinds
-use Rattle.bay_model.specs.declared.components.Comp.{Comp}
+use Rattle.sv_base.specs.declared.components.Comp.{Comp}
 use Rattle.bay_model.specs.Model as model
 use Rattle.bay_model.specs.Model.{Model, Access, Role, Block, SettingComp, Call, Tree, single, selecting, calling, several, ActSG, EditSG, CnfEdit}
 use Rattle.bay_model.specs.Lookups.{attr_of, node_of, control_of, groups_of}

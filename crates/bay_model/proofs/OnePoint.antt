@@ -3,7 +3,7 @@ use Rattle.std.proofs.Common.{◌≡◌, ℕ, suc, Bool, true, [], ◌∷◌, le
 use Rattle.std.specs.Prelude.{if◌then◌else◌, ◌==◌, None, Some}
 use Rattle.sv_base.specs.declared.value.Value.{Value}
 use Rattle.sv_base.specs.declared.value.Value.TheVariants as kinds
-use Rattle.bay_model.specs.declared.components.Comp.TheVariants as comps
+use Rattle.sv_base.specs.declared.components.Comp.TheVariants as comps
 use Rattle.bay_model.specs.declared.answer.Output.{Output}
 use Rattle.bay_model.specs.Model.{Model, operate}
 use Rattle.bay_model.specs.Points.{Deed, lost, wrote, called, answered, Change, took, reported, nothing, Past}

@@ -3,7 +3,7 @@ use Rattle.std.proofs.Common.{◌≡◌, ℕ, suc, max, ◌≤◌, Bool, true, f
 use Rattle.std.specs.Prelude.{Some, ◌==◌, ◌&&◌, nat_lt}
 use Rattle.std.proofs.lemmas.Bool.Decides.{Decides-eqb}
 use Rattle.sv_base.specs.declared.value.Value.TheVariants as kinds
-use Rattle.bay_model.specs.declared.components.Comp.TheVariants.{EntryID}
+use Rattle.sv_base.specs.declared.components.Comp.TheVariants.{EntryID}
 use Rattle.bay_model.specs.Model.{Model}
 use Rattle.bay_model.specs.Points.{Deed, wrote, reported, Point, Past}
 use Rattle.bay_model.specs.Entries.{selected}

@@ -7,8 +7,8 @@ use Rattle.sv_base.specs.declared.value.Value.{Value}
 use Rattle.sv_base.specs.declared.value.Value.TheVariants as kinds
 use Rattle.sv_base.specs.declared.value.Stamp.{Stamp}
 use Rattle.sv_base.specs.declared.value.Utc.{Utc}
-use Rattle.bay_model.specs.declared.components.Comp.{Comp}
-use Rattle.bay_model.specs.declared.components.Comp.TheVariants as comps
+use Rattle.sv_base.specs.declared.components.Comp.{Comp}
+use Rattle.sv_base.specs.declared.components.Comp.TheVariants as comps
 use Rattle.bay_model.specs.Model.{Model, SettingComp, NumOfSG, ActSG, EditSG, CnfEdit, LActTm}
 use Rattle.bay_model.specs.Lookups.{groups_of}
 use Rattle.bay_model.specs.Points.{Past}

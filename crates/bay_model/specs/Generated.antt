@@ -8,9 +8,12 @@ use Rattle.sv_base.specs.declared.value.Value.TheVariants as kinds
 use Rattle.sv_base.specs.declared.config.CtlDef.{CtlDef}
 use Rattle.sv_base.specs.declared.types.TypeOf.{TypeOf}
 use Rattle.sv_base.specs.declared.types.TypeOf.TheVariants as types
-use Rattle.bay_rooms.specs.Kinds.{type_of}
+use Rattle.sv_base.specs.declared.parameters.CtlParameter.TheVariants.{CtlModel, SboTimeout, SboClass}
+use Rattle.sv_base.specs.Parameters.{parameter_name, parameter_kind}
 use Rattle.bay_model.specs.Model.{SettingComp, Call, select, operate, cancel, Leaf, attribute, component, setting, withheld, Role, single, selecting, calling}
-use Rattle.bay_model.specs.ComponentTable.{components, comp_name, comp_kind, setting_components, setting_comp_name, setting_comp_kind}
+use Rattle.sv_base.specs.declared.call_parts.CallPart.{CallPart}
+use Rattle.sv_base.specs.CallParts.{cancel_parts, command_parts, part_name, part_type}
+use Rattle.sv_base.specs.ComponentTable.{components, comp_name, setting_components, setting_comp_name, comp_type, setting_comp_type}
 
 -- an item that is named, what it is, and its type where it has no parts
 pub record Named : Type 0 where
@@ -31,29 +34,26 @@ structure_named item role = record { item = item; role = role; kind = types.Stru
 
 -- of report block b at `LN$BR$NAME`
 abbrev pub block_names : ℕ → List ℕ → List Named
-block_names b item = map (λ k. end_named (within item (comp_name k)) (component b k) (type_of (comp_kind k))) components
+block_names b item = map (λ k. end_named (within item (comp_name k)) (component b k) (comp_type k)) components
 
 -- of the setting group block of domain d
 abbrev pub setting_named : ℕ → SettingComp → Named
-setting_named d k = end_named (within (codes "LLN0$SP$SGCB") (setting_comp_name k)) (setting d k) (type_of (setting_comp_kind k))
+setting_named d k = end_named (within (codes "LLN0$SP$SGCB") (setting_comp_name k)) (setting d k) (setting_comp_type k)
 
 abbrev pub setting_names : ℕ → List Named
 setting_names d = map (setting_named d) setting_components
 
--- the parts of a command: ctlVal and origin; ctlNum, T and Test; at SBOw and Oper, Check
-abbrev pub value_names : TypeOf → List ℕ → List Named
-value_names kind item = end_named (within item (codes "ctlVal")) withheld kind ∷ end_named (within item (codes "origin$orCat")) withheld (types.Int 8) ∷ end_named (within item (codes "origin$orIdent")) withheld (types.Octets 64) ∷ []
+-- a part of a command, whose ctlVal is of the type
+abbrev pub part_named : TypeOf → List ℕ → CallPart → Named
+part_named kind item part = end_named (within item (part_name part)) withheld (part_type kind part)
 
-abbrev pub number_names : List ℕ → List Named
-number_names item = end_named (within item (codes "ctlNum")) withheld (types.Uint 8) ∷ end_named (within item (codes "T")) withheld types.Time ∷ end_named (within item (codes "Test")) withheld types.Bool ∷ []
-
-abbrev pub check_names : Call → List ℕ → List Named
-check_names cancel item = []
-check_names _ item = end_named (within item (codes "Check")) withheld (types.Bits 2) ∷ []
+abbrev pub parts_of_call : Call → List CallPart
+parts_of_call cancel = cancel_parts
+parts_of_call _ = command_parts
 
 -- SBOw, Oper or Cancel of control k, whose ctlVal is of the type
 abbrev pub command_names : ℕ → TypeOf → List ℕ → Call → List Named
-command_names k kind item call = structure_named item (calling k call) ∷ (value_names kind item ++ (number_names item ++ check_names call item))
+command_names k kind item call = structure_named item (calling k call) ∷ map (part_named kind item) (parts_of_call call)
 
 -- models 2 and 4 select before they operate
 abbrev pub is_selected : CtlDef → Bool
@@ -82,10 +82,10 @@ pub record Parameter : Type 0 where
   pub value : Value
 
 abbrev pub selection : CtlDef → List Parameter
-selection c = record { name = codes "sboTimeout"; kind = types.Uint 32; value = kinds.Uint c.timeout } ∷ record { name = codes "sboClass"; kind = types.Int 8; value = kinds.Int (pos c.class) } ∷ []
+selection c = record { name = parameter_name SboTimeout; kind = parameter_kind SboTimeout; value = kinds.Uint c.timeout } ∷ record { name = parameter_name SboClass; kind = parameter_kind SboClass; value = kinds.Int (pos c.class) } ∷ []
 
 abbrev pub parameters : CtlDef → List Parameter
-parameters c = record { name = codes "ctlModel"; kind = types.Int 8; value = kinds.Int (pos c.model) } ∷ (if is_selected c then selection c else [])
+parameters c = record { name = parameter_name CtlModel; kind = parameter_kind CtlModel; value = kinds.Int (pos c.model) } ∷ (if is_selected c then selection c else [])
 
 -- at `LN$CF$DO`, the first being attribute x
 abbrev pub parameter_names : ℕ → List ℕ → List Parameter → List Named

@@ -3,7 +3,7 @@
 -- definition looks back over the points: `f (p ∷ before)` says what holds up to p, and `before` leaves p out.
 use Rattle.std.specs.Prelude.{ℕ, Bool, List, [], ◌∷◌, max}
 use Rattle.sv_base.specs.declared.value.Value.{Value}
-use Rattle.bay_model.specs.declared.components.Comp.{Comp}
+use Rattle.sv_base.specs.declared.components.Comp.{Comp}
 use Rattle.bay_model.specs.declared.step.Setting.{Setting}
 use Rattle.bay_model.specs.declared.request.SetName.{SetName}
 use Rattle.bay_model.specs.declared.answer.Output.{Output}

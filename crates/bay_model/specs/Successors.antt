@@ -2,7 +2,7 @@
 -- EntryID; the cursor and the front are this profile's own).
 use Rattle.std.specs.Prelude.{◌≡◌, ⊤, ℕ, suc, max, ◌≤◌, ◌==◌, ◌&&◌, nat_lt, Bool, true, false, not, List, [], ◌∷◌, ◌++◌, length, Some, if◌then◌else◌}
 use Rattle.sv_base.specs.declared.value.Value.TheVariants as kinds
-use Rattle.bay_model.specs.declared.components.Comp.TheVariants.{EntryID}
+use Rattle.sv_base.specs.declared.components.Comp.TheVariants.{EntryID}
 use Rattle.bay_model.specs.Entries.{selected}
 use Rattle.bay_model.specs.Retained.{front}
 use Rattle.bay_model.specs.Model.{Model}

@@ -11,8 +11,8 @@ use Rattle.sv_base.specs.declared.config.CtlDef.{CtlDef}
 use Rattle.sv_base.specs.declared.config.SgDef.{SgDef}
 use Rattle.sv_base.specs.declared.value.Value.{Value}
 use Rattle.bay_model.specs.Attributes.{attributes, attrs_defined, attrs_generated, twins, access_of}
-use Rattle.bay_model.specs.declared.components.SettingComp.{SettingComp}
-use Rattle.bay_model.specs.declared.components.SettingComp.TheVariants.{NumOfSG, ActSG, EditSG, CnfEdit, LActTm}
+use Rattle.sv_base.specs.declared.components.SettingComp.{SettingComp}
+use Rattle.sv_base.specs.declared.components.SettingComp.TheVariants.{NumOfSG, ActSG, EditSG, CnfEdit, LActTm}
 use Rattle.bay_model.specs.Components.{read_component, read_setting}
 use Rattle.bay_model.specs.Lookups.{attr_of, node_of, no_attr}
 use Rattle.bay_model.specs.Model as model

@@ -12,11 +12,11 @@ use Rattle.sv_base.specs.declared.config.BlockDef.{BlockDef}
 use Rattle.sv_base.specs.declared.config.CtlDef.{CtlDef}
 use Rattle.sv_base.specs.declared.config.SgDef.{SgDef}
 use Rattle.sv_base.specs.declared.types.TypeOf.{TypeOf}
-use Rattle.bay_model.specs.declared.components.Comp.{Comp}
-use Rattle.bay_model.specs.declared.components.SettingComp.{SettingComp}
+use Rattle.sv_base.specs.declared.components.Comp.{Comp}
+use Rattle.sv_base.specs.declared.components.SettingComp.{SettingComp}
 use Rattle.bay_model.specs.Attributes.{attributes, attr_defined, attrs_defined, attrs_generated, twins}
-use Rattle.bay_rooms.specs.Kinds.{kind_of, type_of}
-use Rattle.bay_model.specs.ComponentTable.{components, comp_name, comp_kind, setting_components}
+use Rattle.bay_rooms.specs.Kinds.{kind_of}
+use Rattle.sv_base.specs.ComponentTable.{components, comp_name, setting_components, comp_type}
 use Rattle.bay_model.specs.Generated.{Named, Parameter, within, parameters, parameter_names, command_names, is_selected, sbo_names, sbow_names, oper_names, cancel_names, control_names, setting_named}
 use Rattle.bay_model.specs.Lookups.{node_of}
 use Rattle.bay_model.specs.Model.{Call, select, operate, cancel, attribute, component, structure, Trees, none, more, Role, single, selecting, calling, several, Attr, Node, edited, reported}
@@ -133,7 +133,7 @@ module _ (attrs blocks controls : ℕ) (G : ℕ → Type 0) where
   node-lines [] = tt
   node-lines (n ∷ ns) = ((tt, tt), node-lines ns)
 
-  component-names : (b : ℕ) (item : List ℕ) (ks : List Comp) → b < blocks → Each IsName (map (λ k. record { item = item ++ 36 ∷ comp_name k; role = single (component b k); kind = type_of (comp_kind k) }) ks)
+  component-names : (b : ℕ) (item : List ℕ) (ks : List Comp) → b < blocks → Each IsName (map (λ k. record { item = item ++ 36 ∷ comp_name k; role = single (component b k); kind = comp_type k }) ks)
   component-names b item [] h = tt
   component-names b item (k ∷ ks) h = (h, component-names b item ks h)
 

@@ -1,7 +1,7 @@
 -- What the leaves of nodes and whole nodes read as, by what is lent of a bay.
 use Rattle.std.specs.Prelude.{ℕ, ◌-◌, nat_le, nat_lt, List, length, Option, None, Some, Result, Ok, Err, slice_get, if◌then◌else◌}
 use Rattle.sv_base.specs.declared.value.Value.{Value}
-use Rattle.bay_model.specs.declared.components.Comp.{Comp}
+use Rattle.sv_base.specs.declared.components.Comp.{Comp}
 use Rattle.bay_model.specs.declared.request.Target.{Target}
 use Rattle.bay_model.specs.declared.request.Target.TheVariants as targets
 use Rattle.bay_model.specs.Lookups.{node_of}

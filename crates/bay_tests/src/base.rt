@@ -4,12 +4,16 @@ use std::alloc::{AllocError, Global};
 use std::test::Fail;
 use sv_base::moment::{FIRST_MS, LAST_MS};
 use sv_base::{
-    AttrDef, AttrDefs, Bits, Moment, Octs, OctsList, Part1, Parts, Stamp, TypeOf, Utc, Value,
-    Values, copy_value, data_len,
+    AttrDef, AttrDefs, Bits, Few, FirstValues, Moment, Octs, OctsList, Part1, Parts, SharedOcts,
+    ShortOcts, Stamp, TypeOf, Utc, Value, Values, copy_value, data_len,
 };
 
 fn octs(alloc: Global, octets: &[u8]) -> Result<Octs, AllocError> {
     Ok(Octs::from_vec(octets.to_vec(alloc)?))
+}
+
+fn shared(alloc: Global, octets: &[u8]) -> Result<SharedOcts, AllocError> {
+    SharedOcts::new(alloc, octs(alloc, octets)?)
 }
 
 /// The list with one more item.
@@ -253,7 +257,7 @@ fn values_keep_their_order(rt: HostRuntime) -> Result<(), Fail> {
 /// A part of a quality.
 fn quality(alloc: Global) -> Result<Part1, AllocError> {
     Ok(Part1 {
-        name: octs(alloc, b"q")?,
+        name: ShortOcts::from_slice(alloc, b"q")?,
         kind: TypeOf::Bits(13),
     })
 }
@@ -266,6 +270,21 @@ fn has_the_quality(parts: &Parts) -> bool {
 fn parts_keep_their_order(rt: HostRuntime) -> Result<(), Fail> {
     let parts = Parts::from_vec(rt.alloc(), one(rt.alloc(), quality(rt.alloc())?)?)?;
     assert!(rt; has_the_quality(&parts));
+    Ok(())
+}
+
+fn stays(alloc: Global, octets: &[u8]) -> Result<bool, AllocError> {
+    let row = ShortOcts::from_slice(alloc, octets)?;
+    let copy = row.copy(alloc)?;
+    Ok(row.as_slice() == octets && copy.as_slice() == octets)
+}
+
+// Up to 30 octets take no memory.
+#[test]
+fn short_rows_keep_their_octets(rt: HostRuntime) -> Result<(), Fail> {
+    let alloc = rt.alloc();
+    let right = stays(alloc, b"")? && stays(alloc, &[7; 30])? && stays(alloc, &[7; 31])?;
+    assert!(rt; right);
     Ok(())
 }
 
@@ -284,15 +303,15 @@ fn lists_of_octets_keep_their_order(rt: HostRuntime) -> Result<(), Fail> {
 fn attr(alloc: Global) -> Result<AttrDef, AllocError> {
     Ok(AttrDef {
         line: 5,
-        domain: octs(alloc, b"LD1")?,
-        ln: octs(alloc, b"LLN0")?,
-        fc: octs(alloc, b"ST")?,
-        path: octs(alloc, b"Mod$stVal")?,
+        domain: shared(alloc, b"LD1")?,
+        ln: shared(alloc, b"LLN0")?,
+        fc: ShortOcts::from_slice(alloc, b"ST")?,
+        path: ShortOcts::from_slice(alloc, b"Mod$stVal")?,
         kind: TypeOf::Int(8),
         dchg: true,
         qchg: false,
         dupd: false,
-        values: Values::from_vec(one(alloc, Value::Int(1))?),
+        values: FirstValues::new(Few::one(Value::Int(1))),
     })
 }
 

@@ -14,8 +14,8 @@ use bay_model::{AttrIds, Fixed, MemberShape, ValueRef};
 use std::alloc::{AllocError, Global};
 use std::test::*;
 use sv_base::{
-    AttrDef, AttrDefs, AttrId, BlockDefs, Config, CtlDef, CtlDefs, LnDefs, NodeId, Octs, Part1,
-    Parts, SetDefs, SgDefs, TypeOf, Value, Values,
+    AttrDef, AttrDefs, AttrId, BlockDefs, Config, CtlDef, CtlDefs, Few, FirstValues, LnDefs,
+    NodeId, Octs, Part1, Parts, SetDefs, SgDefs, SharedOcts, ShortOcts, TypeOf, Value,
 };
 use value_store::{SetFault, Store};
 
@@ -23,6 +23,12 @@ fn octs(alloc: Global, octets: &[u8]) -> Result<Octs, AllocError>
     ensures { IfOk result (λ o. o ≡ octets.now) }
 {
     Ok(Octs::from_vec(octets.to_vec(alloc)?))
+}
+
+fn shared(alloc: Global, octets: &[u8]) -> Result<SharedOcts, AllocError>
+    ensures { IfOk result (λ o. o ≡ octets.now) }
+{
+    SharedOcts::new(alloc, octs(alloc, octets)?)
 }
 
 /// An attribute under a functional constraint other than SG, with its first value.
@@ -36,15 +42,15 @@ fn attr(alloc: Global, fc: &[u8], kind: TypeOf, value: Value) -> Result<AttrDef,
 {
     Ok(AttrDef {
         line: 5,
-        domain: octs(alloc, b"BAY1")?,
-        ln: octs(alloc, b"MMXU1")?,
-        fc: octs(alloc, fc)?,
-        path: octs(alloc, b"TotW")?,
+        domain: shared(alloc, b"BAY1")?,
+        ln: shared(alloc, b"MMXU1")?,
+        fc: ShortOcts::from_slice(alloc, fc)?,
+        path: ShortOcts::from_slice(alloc, b"TotW")?,
         kind,
         dchg: true,
         qchg: false,
         dupd: false,
-        values: Values::from_vec(vec![in alloc; value]?),
+        values: FirstValues::new(Few::one(value)),
     })
 }
 
@@ -206,7 +212,7 @@ fn part(alloc: Global, name: &[u8]) -> Result<Part1, AllocError>
     ensures { IfOk result (λ p. p.kind ≡ types.Bool) }
 {
     Ok(Part1 {
-        name: octs(alloc, name)?,
+        name: ShortOcts::from_slice(alloc, name)?,
         kind: TypeOf::Bool,
     })
 }

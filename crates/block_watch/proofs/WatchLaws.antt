@@ -6,8 +6,8 @@ use Rattle.std.proofs.lemmas.List.{length-map, length-set, map-set, set-get_or, 
 use Rattle.std.proofs.lemmas.Option.{slice_get-get_or, get_or_from_slice_get, slice_get_within}
 use Rattle.list_laws.proofs.Places.{got-map, got-set}
 use Rattle.bay_rooms.specs.Rooms.{Filled}
-use Rattle.bay_model.specs.declared.components.Comp.{Comp}
-use Rattle.bay_model.specs.declared.components.Comp.TheVariants as comps
+use Rattle.sv_base.specs.declared.components.Comp.{Comp}
+use Rattle.sv_base.specs.declared.components.Comp.TheVariants as comps
 use Rattle.bay_model.specs.declared.flags.Trg.{Trg}
 use Rattle.bay_model.specs.declared.note.Mention.{Mention}
 use Rattle.bay_model.specs.declared.tables.MemberShape.{MemberShape}

@@ -4,8 +4,8 @@ use Rattle.std.specs.Prelude.{ℕ, suc, ◌+◌, ◌%◌, max, min, Bool, false,
 use Rattle.sv_base.specs.declared.numbers.AssocNo.{AssocNo}
 use Rattle.sv_base.specs.declared.value.Value.{Value}
 use Rattle.sv_base.specs.declared.value.Value.TheVariants as kinds
-use Rattle.bay_model.specs.declared.components.Comp.{Comp}
-use Rattle.bay_model.specs.declared.components.Comp.TheVariants as comps
+use Rattle.sv_base.specs.declared.components.Comp.{Comp}
+use Rattle.sv_base.specs.declared.components.Comp.TheVariants as comps
 use Rattle.bay_model.specs.Model as model
 use Rattle.bay_model.specs.Parameters.{written_to, is_changed_by, next_revision}
 use Rattle.bay_model.specs.Blocks.{is_mine, is_anothers, entry_id}

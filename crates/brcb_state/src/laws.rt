@@ -4,7 +4,7 @@ ghost use Rattle.std.specs.Prelude.{◌≡◌, ◌<◌, [], ◌∷◌, ℕ, Bool
 ghost use Rattle.std.specs.Option.{option_map};
 ghost use Rattle.sv_base.specs.declared.numbers.AssocNo.{AssocNo};
 ghost use Rattle.sv_base.specs.declared.value.Value.{Value};
-ghost use Rattle.bay_model.specs.declared.components.Comp.{Comp};
+ghost use Rattle.sv_base.specs.declared.components.Comp.{Comp};
 ghost use Rattle.bay_model.specs.Model.{Model};
 ghost use Rattle.bay_model.specs.Lookups.{block_of};
 ghost use Rattle.bay_model.specs.Points.{Point, Past, wrote};

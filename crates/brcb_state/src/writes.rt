@@ -62,7 +62,7 @@ impl Block {
     ghost use Rattle.sv_base.specs.declared.numbers.AssocNo.{AssocNo};
     ghost use Rattle.std.specs.Prelude.{◌≡◌, ◌==◌, ◌&&◌, ℕ, Bool, false, is_none, is_some, min, Result, Ok, Err, OnOk, OnErr, if◌then◌else◌};
     ghost use Rattle.sv_base.specs.declared.value.Value.TheVariants as kinds;
-    ghost use Rattle.bay_model.specs.declared.components.Comp.TheVariants as comps;
+    ghost use Rattle.sv_base.specs.declared.components.Comp.TheVariants as comps;
     ghost use Rattle.brcb_state.specs.declared.told.Retained.{Retained};
     ghost use Rattle.brcb_state.specs.declared.told.Effect.TheVariants as effects;
     ghost use Rattle.brcb_state.specs.Changes.{written, effect_of};

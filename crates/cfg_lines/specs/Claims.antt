@@ -1,5 +1,7 @@
 -- The names that lines take. The last line is the first of the list.
 use Rattle.std.specs.Prelude.{ℕ, ◌==◌, List, [], ◌∷◌, ◌++◌, map, codes, if◌then◌else◌}
+use Rattle.sv_base.specs.declared.parameters.CtlParameter.TheVariants.{CtlModel, SboTimeout, SboClass}
+use Rattle.sv_base.specs.Parameters.{parameter_name}
 use Rattle.cfg_lines.specs.Paths.{below, node_key, item_key}
 use Rattle.cfg_lines.specs.declared.line.Line.{Line}
 use Rattle.cfg_lines.specs.declared.line.Line.TheVariants as lines
@@ -34,9 +36,9 @@ operations model = if model == 2 then codes "Oper" ∷ codes "SBO" ∷ codes "Ca
     else codes "Oper" ∷ []
 
 abbrev pub settings : ℕ → List (List ℕ)
-settings model = if model == 2 then codes "ctlModel" ∷ codes "sboTimeout" ∷ codes "sboClass" ∷ []
-    else if model == 4 then codes "ctlModel" ∷ codes "sboTimeout" ∷ codes "sboClass" ∷ []
-    else codes "ctlModel" ∷ []
+settings model = if model == 2 then parameter_name CtlModel ∷ parameter_name SboTimeout ∷ parameter_name SboClass ∷ []
+    else if model == 4 then parameter_name CtlModel ∷ parameter_name SboTimeout ∷ parameter_name SboClass ∷ []
+    else parameter_name CtlModel ∷ []
 
 abbrev pub control_keys : List ℕ → List ℕ → List ℕ → ℕ → List (List ℕ)
 control_keys domain node path model = map (λ part. below (item_key domain node (codes "CO") path) part) (operations model)

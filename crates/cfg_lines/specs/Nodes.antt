@@ -4,6 +4,10 @@ use Rattle.std.specs.Prelude.{ℕ, ◌&&◌, ◌||◌, not, nat_lt, Bool, List, 
 use Rattle.std.specs.List.{list_any}
 use Rattle.std.specs.Str.{bytes_eq}
 use Rattle.sv_base.specs.declared.config.AttrDef.{AttrDef}
+use Rattle.sv_base.specs.declared.parameters.CtlParameter.TheVariants.{SboTimeout, SboClass}
+use Rattle.sv_base.specs.Parameters.{parameter_name, parameter_kind}
+use Rattle.sv_base.specs.ComponentTable.{components, comp_name, setting_components, setting_comp_name}
+use Rattle.sv_base.specs.CallParts.{cancel_parts, command_parts, part_name}
 use Rattle.cfg_lines.specs.Keys.{is_among}
 use Rattle.cfg_lines.specs.Paths.{below, item_key, above}
 use Rattle.cfg_lines.specs.Claims.{operations, settings, group_key}
@@ -12,9 +16,9 @@ use Rattle.cfg_lines.specs.declared.leaf.Leaf.{Leaf}
 use Rattle.cfg_lines.specs.declared.line.Line.{Line}
 use Rattle.cfg_lines.specs.declared.line.Line.TheVariants as lines
 
--- a setting of a control under CF
+-- a setting of a control under CF; ctlModel is of sboClass's type
 abbrev pub setting_octets : List ℕ → ℕ
-setting_octets name = if bytes_eq name (codes "sboTimeout") then 7 else 3
+setting_octets name = if bytes_eq name (parameter_name SboTimeout) then most_octets (parameter_kind SboTimeout) else most_octets (parameter_kind SboClass)
 
 abbrev pub setting_leaf : List ℕ → List ℕ → Leaf
 setting_leaf front part = record { name = below front part; octets = setting_octets part }
@@ -31,15 +35,13 @@ leaves (line ∷ before) = leaves before ++ leaves_by line
 
 -- the components of a report control block, of a setting group control block, and of a part of a control
 abbrev pub block_parts : List (List ℕ)
-block_parts = codes "RptID" ∷ codes "RptEna" ∷ codes "DatSet" ∷ codes "ConfRev" ∷ codes "OptFlds" ∷ codes "BufTm" ∷ codes "SqNum" ∷ codes "TrgOps" ∷ codes "IntgPd" ∷ codes "GI"
-    ∷ codes "PurgeBuf" ∷ codes "EntryID" ∷ codes "TimeofEntry" ∷ []
+block_parts = map comp_name components
 
 abbrev pub group_parts : List (List ℕ)
-group_parts = codes "NumOfSG" ∷ codes "ActSG" ∷ codes "EditSG" ∷ codes "CnfEdit" ∷ codes "LActTm" ∷ []
+group_parts = map setting_comp_name setting_components
 
 abbrev pub operation_parts : List ℕ → List (List ℕ)
-operation_parts name = if bytes_eq name (codes "SBO") then [] else codes "ctlVal" ∷ codes "origin$orCat" ∷ codes "origin$orIdent" ∷ codes "ctlNum" ∷ codes "T" ∷ codes "Test"
-    ∷ (if bytes_eq name (codes "Cancel") then [] else codes "Check" ∷ [])
+operation_parts name = if bytes_eq name (codes "SBO") then [] else map part_name (if bytes_eq name (codes "Cancel") then cancel_parts else command_parts)
 
 abbrev pub all_below : List ℕ → List (List ℕ) → List (List ℕ)
 all_below front parts = map (λ part. below front part) parts

@@ -1,5 +1,9 @@
 //! Octet rows, each once, and paths none of which is above another.
 
+ghost use Rattle.std.specs.Prelude.{◌≡◌, ◌||◌, List, ℕ, OnOk};
+ghost use Rattle.cfg_lines.specs.Keys.{added, is_among};
+ghost use Rattle.cfg_lines.specs.Paths.{above};
+
 use octet_rows::{Index, RowHash, hash_of};
 use std::alloc::{AllocError, Global};
 use std::marker::Model;
@@ -19,7 +23,7 @@ impl Model for Keys {
 }
 
 impl Keys {
-    ghost use Rattle.std.specs.Prelude.{◌≡◌, ◌||◌, ◌++◌, ◌∷◌, List, ℕ, [], OnOk};
+    ghost use Rattle.std.specs.Prelude.{◌≡◌, ◌||◌, ◌++◌, ◌∷◌, List, ℕ, [], IfOk, OnOk};
     ghost use Rattle.std.specs.Str.{bytes_eq};
     ghost use Rattle.octet_rows.specs.Hashing.{hash_at};
     ghost use Rattle.cfg_lines.specs.Keys.{is_among, added};
@@ -31,6 +35,15 @@ impl Keys {
         Keys {
             rows: Index::new(alloc),
         }
+    }
+
+    /// There is none, and room for so many with so many octets together.
+    fn with_capacity(alloc: Global, keys: usize, octets: usize) -> Result<Keys, AllocError>
+        ensures { IfOk result (λ k. k ≡ []) }
+    {
+        Ok(Keys {
+            rows: Index::with_capacity(alloc, keys, octets)?,
+        })
     }
 
     /// The key is there.
@@ -121,6 +134,15 @@ impl Keys {
     }
 }
 
+/// Adds a path to the paths, and the structures above it to the structures.
+fn add_path(paths: &mut Keys, structures: &mut Keys, path: &[u8]) -> Result<(), AllocError>
+    ensures structures { OnOk result ((q : List ℕ) → is_among structures.new q ≡ (is_among (above path.now) q || is_among structures.old q)) }
+    ensures paths { OnOk result (paths.new ≡ added paths.old path.now) }
+{
+    let hash = structures.add_above(path)?;
+    paths.add_by(hash, path)
+}
+
 /// The paths that are taken, and the structures above them; seen by contracts as the list of the paths.
 #[derive(Drop)]
 pub struct Names {
@@ -141,7 +163,7 @@ impl Model for Names {
 }
 
 impl Names {
-    ghost use Rattle.std.specs.Prelude.{◌≡◌, ◌||◌, List, ℕ, [], IfOk};
+    ghost use Rattle.std.specs.Prelude.{◌≡◌, ◌||◌, List, ℕ, [], IfOk, OnOk};
     ghost use Rattle.std.specs.Prelude.{map};
     ghost use Rattle.std.specs.List.{list_any};
     ghost use Rattle.cfg_lines.specs.Keys.{octets_of};
@@ -157,6 +179,16 @@ impl Names {
         }
     }
 
+    /// None is taken, and there is room for so many with so many octets together.
+    pub fn with_capacity(alloc: Global, names: usize, octets: usize) -> Result<Names, AllocError>
+        ensures { IfOk result (λ n. n ≡ []) }
+    {
+        Ok(Names {
+            paths: Keys::with_capacity(alloc, names, octets)?,
+            structures: Keys::with_capacity(alloc, names, octets)?,
+        })
+    }
+
     /// The path, or one that it has as a structure above it or below it, is taken.
     pub fn is_taken(&self, path: &[u8]) -> bool
         ensures { result ≡ is_taken_by self.now path.now }
@@ -167,28 +199,25 @@ impl Names {
         }
     }
 
-    /// With one more path, which is taken from now on.
-    pub fn with(self, path: &[u8]) -> Result<Names, AllocError>
-        ensures { IfOk result (λ n. (q : List ℕ) → is_taken_by n q ≡ (clashes q path.now || is_taken_by self q)) }
+    /// One more path is taken from now on. Without memory none is any longer.
+    pub fn add(&mut self, alloc: Global, path: &[u8]) -> Result<(), AllocError>
+        ensures { OnOk result ((q : List ℕ) → is_taken_by self.new q ≡ (clashes q path.now || is_taken_by self.old q)) }
     {
-        let Names {
-            mut paths,
-            mut structures,
-        } = self;
-        let hash = structures.add_above(path)?;
-        paths.add_by(hash, path)?;
-        Ok(Names { paths, structures })
+        let Ok(()) = add_path(&mut self.paths, &mut self.structures, path) else {
+            *self = Names::new(alloc);
+            return Err(AllocError);
+        };
+        Ok(())
     }
 
-    /// With more paths.
-    pub fn with_all(self, paths: &[Vec<u8>]) -> Result<Names, AllocError>
-        ensures { IfOk result (λ n. (q : List ℕ) → is_taken_by n q ≡ (is_taken_by (map octets_of paths.now) q || is_taken_by self q)) }
+    /// More paths are taken. Without memory none is any longer.
+    pub fn add_all(&mut self, alloc: Global, paths: &[Vec<u8>]) -> Result<(), AllocError>
+        ensures { OnOk result ((q : List ℕ) → is_taken_by self.new q ≡ (is_taken_by (map octets_of paths.now) q || is_taken_by self.old q)) }
     {
-        let mut names = self;
         for path in paths {
-            names = names.with(path)?;
+            self.add(alloc, path)?;
         }
-        Ok(names)
+        Ok(())
     }
 
     /// One of the paths can't stand beside those that are taken.

@@ -1,11 +1,14 @@
 //! The references of logical nodes, data sets, attributes and controls.
 
 ghost use Rattle.std.specs.Prelude.{◌≡◌, ◌++◌, ◌∷◌, [], map, codes, IfOk, OnOk};
+ghost use Rattle.sv_base.specs.declared.parameters.CtlParameter.TheVariants.{SboTimeout, SboClass};
+ghost use Rattle.sv_base.specs.Parameters.{parameter_name};
 ghost use Rattle.cfg_lines.specs.Keys.{octets_of};
 ghost use Rattle.cfg_lines.specs.Paths.{below as below_front, node_key as node_key_of, item_key as item_key_of};
 ghost use Rattle.cfg_lines.specs.Claims.{operations, settings, control_keys as control_keys_of};
 
 use std::alloc::{AllocError, Global};
+use sv_base::CtlParameter;
 
 /// Adds a name below what a room holds.
 fn extend_below(room: &mut Vec<u8>, name: &[u8]) -> Result<(), AllocError>
@@ -133,12 +136,23 @@ fn push_operations(
     Ok(())
 }
 
+fn push_parameter(
+    alloc: Global,
+    keys: &mut Vec<Vec<u8>>,
+    front: &[u8],
+    parameter: CtlParameter,
+) -> Result<(), AllocError>
+    ensures { OnOk result (map octets_of keys.new.items ≡ map octets_of keys.old.items ++ below_front front.now (parameter_name parameter) ∷ []) }
+{
+    push_below(alloc, keys, front, parameter.name())
+}
+
 /// What a control that is selected first has besides under CF.
 fn push_selection(alloc: Global, keys: &mut Vec<Vec<u8>>, front: &[u8]) -> Result<(), AllocError>
-    ensures { OnOk result (map octets_of keys.new.items ≡ map octets_of keys.old.items ++ map (λ part. below_front front.now part) (codes "sboTimeout" ∷ codes "sboClass" ∷ [])) }
+    ensures { OnOk result (map octets_of keys.new.items ≡ map octets_of keys.old.items ++ map (λ part. below_front front.now part) (parameter_name SboTimeout ∷ parameter_name SboClass ∷ [])) }
 {
-    push_below(alloc, keys, front, b"sboTimeout")?;
-    push_below(alloc, keys, front, b"sboClass")?;
+    push_parameter(alloc, keys, front, CtlParameter::SboTimeout)?;
+    push_parameter(alloc, keys, front, CtlParameter::SboClass)?;
     Ok(())
 }
 
@@ -151,7 +165,7 @@ fn push_settings(
 ) -> Result<(), AllocError>
     ensures { OnOk result (map octets_of keys.new.items ≡ map octets_of keys.old.items ++ map (λ part. below_front front.now part) (settings model)) }
 {
-    push_below(alloc, keys, front, b"ctlModel")?;
+    push_parameter(alloc, keys, front, CtlParameter::CtlModel)?;
     if model == 2 {
         return push_selection(alloc, keys, front);
     }

@@ -1,46 +1,15 @@
 //! The nodes that no data set may have: report control blocks, setting group control blocks, controls and edited values.
 
-ghost use Rattle.std.specs.Prelude.{◌≡◌, ◌++◌, ◌∷◌, [], codes, reverse, IfOk, OnOk};
+ghost use Rattle.std.specs.Prelude.{◌≡◌, ◌++◌, ◌∷◌, [], codes, map, reverse, IfOk, OnOk};
+ghost use Rattle.sv_base.specs.CallParts.{part_name};
 ghost use Rattle.cfg_lines.specs.Claims.{operations, group_key};
 ghost use Rattle.cfg_lines.specs.Paths.{below as below_front, item_key as item_key_of};
-ghost use Rattle.text_words.specs.Words.{texts};
 ghost use Rattle.cfg_lines.specs.Nodes.{all_below, with_parts, block_parts, group_parts, operation_parts, operations_below, twins, closed_by, closed as closed_before};
 
 use cfg_lines::{Line, below, item_key};
 use std::alloc::{AllocError, Global};
-use sv_base::{AttrDef, BlockDef, CtlDef, Octs, SgDef};
+use sv_base::{AttrDef, BlockDef, CallPart, Comp, CtlDef, Octs, SettingComp, SgDef};
 use text_words::owned;
-
-/// The components of a report control block.
-const BLOCK_PARTS: [&[u8]; 13] = [
-    b"RptID",
-    b"RptEna",
-    b"DatSet",
-    b"ConfRev",
-    b"OptFlds",
-    b"BufTm",
-    b"SqNum",
-    b"TrgOps",
-    b"IntgPd",
-    b"GI",
-    b"PurgeBuf",
-    b"EntryID",
-    b"TimeofEntry",
-];
-
-/// The components of a setting group control block.
-const GROUP_PARTS: [&[u8]; 5] = [b"NumOfSG", b"ActSG", b"EditSG", b"CnfEdit", b"LActTm"];
-
-/// The components of SBOw and Oper. Cancel has all but the last.
-const CALL_PARTS: [&[u8]; 7] = [
-    b"ctlVal",
-    b"origin$orCat",
-    b"origin$orIdent",
-    b"ctlNum",
-    b"T",
-    b"Test",
-    b"Check",
-];
 
 fn push_below(
     alloc: Global,
@@ -55,31 +24,40 @@ fn push_below(
     Ok(())
 }
 
-fn push_parts(
-    alloc: Global,
-    names: &mut Vec<Octs>,
-    front: &[u8],
-    parts: &[&[u8]],
-) -> Result<(), AllocError>
-    ensures { OnOk result (names.new.items ≡ names.old.items ++ all_below front.now (texts parts.now)) }
+fn push_components(alloc: Global, names: &mut Vec<Octs>, front: &[u8]) -> Result<(), AllocError>
+    ensures { OnOk result (names.new.items ≡ names.old.items ++ all_below front.now block_parts) }
 {
-    for part in parts {
-        push_below(alloc, names, front, part)?;
+    for comp in &Comp::ALL {
+        push_below(alloc, names, front, comp.name())?;
     }
     Ok(())
 }
 
-/// A node and its parts.
-fn push_node(
+fn push_setting_components(
     alloc: Global,
     names: &mut Vec<Octs>,
-    node: &[u8],
-    parts: &[&[u8]],
+    front: &[u8],
 ) -> Result<(), AllocError>
-    ensures { OnOk result (names.new.items ≡ names.old.items ++ with_parts node.now (texts parts.now)) }
+    ensures { OnOk result (names.new.items ≡ names.old.items ++ all_below front.now group_parts) }
 {
-    names.push(owned(alloc, node)?)?;
-    push_parts(alloc, names, node, parts)
+    for comp in &SettingComp::ALL {
+        push_below(alloc, names, front, comp.name())?;
+    }
+    Ok(())
+}
+
+fn push_parts(
+    alloc: Global,
+    names: &mut Vec<Octs>,
+    front: &[u8],
+    parts: &[CallPart],
+) -> Result<(), AllocError>
+    ensures { OnOk result (names.new.items ≡ names.old.items ++ all_below front.now (map part_name parts.now)) }
+{
+    for part in parts {
+        push_below(alloc, names, front, part.name())?;
+    }
+    Ok(())
 }
 
 fn push_operation(
@@ -87,12 +65,13 @@ fn push_operation(
     names: &mut Vec<Octs>,
     front: &[u8],
     name: &[u8],
-    parts: &[&[u8]],
+    parts: &[CallPart],
 ) -> Result<(), AllocError>
-    ensures { OnOk result (names.new.items ≡ names.old.items ++ with_parts (below_front front.now name.now) (texts parts.now)) }
+    ensures { OnOk result (names.new.items ≡ names.old.items ++ with_parts (below_front front.now name.now) (map part_name parts.now)) }
 {
     let node = below(alloc, front, name)?;
-    push_node(alloc, names, &node, parts)
+    names.push(owned(alloc, &node)?)?;
+    push_parts(alloc, names, &node, parts)
 }
 
 /// What a control that is selected first has besides under CO.
@@ -101,12 +80,12 @@ fn push_selection(
     names: &mut Vec<Octs>,
     front: &[u8],
     select: &[u8],
-    parts: &[&[u8]],
+    parts: &[CallPart],
 ) -> Result<(), AllocError>
-    ensures { OnOk result (names.new.items ≡ names.old.items ++ (with_parts (below_front front.now select.now) (texts parts.now) ++ with_parts (below_front front.now (codes "Cancel")) (operation_parts (codes "Cancel")))) }
+    ensures { OnOk result (names.new.items ≡ names.old.items ++ (with_parts (below_front front.now select.now) (map part_name parts.now) ++ with_parts (below_front front.now (codes "Cancel")) (operation_parts (codes "Cancel")))) }
 {
     push_operation(alloc, names, front, select, parts)?;
-    push_operation(alloc, names, front, b"Cancel", &CALL_PARTS[..6])?;
+    push_operation(alloc, names, front, b"Cancel", &CallPart::ALL[..6])?;
     Ok(())
 }
 
@@ -119,12 +98,12 @@ fn push_operations(
 ) -> Result<(), AllocError>
     ensures { OnOk result (names.new.items ≡ names.old.items ++ operations_below front.now (operations model)) }
 {
-    push_operation(alloc, names, front, b"Oper", &CALL_PARTS)?;
+    push_operation(alloc, names, front, b"Oper", &CallPart::ALL)?;
     if model == 2 {
         return push_selection(alloc, names, front, b"SBO", &[]);
     }
     if model == 4 {
-        return push_selection(alloc, names, front, b"SBOw", &CALL_PARTS);
+        return push_selection(alloc, names, front, b"SBOw", &CallPart::ALL);
     }
     Ok(())
 }
@@ -169,14 +148,16 @@ fn push_block(alloc: Global, names: &mut Vec<Octs>, block: &BlockDef) -> Result<
         b"BR",
         block.name.as_slice(),
     )?;
-    push_node(alloc, names, &node, &BLOCK_PARTS)
+    names.push(owned(alloc, &node)?)?;
+    push_components(alloc, names, &node)
 }
 
 fn push_groups(alloc: Global, names: &mut Vec<Octs>, groups: &SgDef) -> Result<(), AllocError>
     ensures { OnOk result (names.new.items ≡ names.old.items ++ with_parts (group_key groups.now.domain (codes "LLN0")) group_parts) }
 {
     let node = item_key(alloc, groups.domain.as_slice(), b"LLN0", b"SP", b"SGCB")?;
-    push_node(alloc, names, &node, &GROUP_PARTS)
+    names.push(owned(alloc, &node)?)?;
+    push_setting_components(alloc, names, &node)
 }
 
 fn push_closed(alloc: Global, names: &mut Vec<Octs>, line: &Line) -> Result<(), AllocError>

@@ -24,16 +24,16 @@ impl Model for Leaves {
 }
 
 impl Leaves {
-    ghost use Rattle.std.specs.Prelude.{◌≡◌, ◌++◌, ◌∷◌, [], length, map, slice_get, unwrap_or, OnOk};
+    ghost use Rattle.std.specs.Prelude.{◌≡◌, ◌++◌, ◌∷◌, [], length, map, slice_get, unwrap_or, IfOk, OnOk};
 
-    /// There is none.
-    pub fn new(alloc: Global) -> Leaves
-        ensures { result ≡ [] }
+    /// There is none, and room for so many, at 32 octets a name.
+    pub fn with_capacity(alloc: Global, leaves: usize) -> Result<Leaves, AllocError>
+        ensures { IfOk result (λ l. l ≡ []) }
     {
-        Leaves {
-            names: Rows::new(alloc),
-            octets: Vec::new(alloc),
-        }
+        Ok(Leaves {
+            names: Rows::with_capacity(alloc, leaves, leaves.saturating_mul(32))?,
+            octets: Vec::with_capacity(alloc, leaves)?,
+        })
     }
 
     /// How many there are.

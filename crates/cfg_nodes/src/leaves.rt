@@ -1,6 +1,8 @@
 //! The nodes without parts that lines make, with the most octets of the Data of each.
 
 ghost use Rattle.std.specs.Prelude.{◌≡◌, ◌<◌, ◌++◌, ◌∷◌, [], map, codes, reverse, IfOk, OnOk};
+ghost use Rattle.sv_base.specs.declared.parameters.CtlParameter.TheVariants.{SboTimeout, SboClass};
+ghost use Rattle.sv_base.specs.Parameters.{parameter_name, parameter_kind};
 ghost use Rattle.cfg_lines.specs.Claims.{settings};
 ghost use Rattle.cfg_lines.specs.Paths.{below as below_front, item_key as item_key_of};
 ghost use Rattle.cfg_lines.specs.Sizes.{element_octets as element_octets_of, most_octets as most_octets_of};
@@ -9,7 +11,7 @@ ghost use Rattle.cfg_lines.specs.Nodes.{leaves_by, leaves as leaves_before, sett
 use crate::leaf_list::Leaves;
 use cfg_lines::{Line, below, item_key, put_item_key};
 use std::alloc::{AllocError, Global};
-use sv_base::{AttrDef, CtlDef, TypeOf};
+use sv_base::{AttrDef, CtlDef, CtlParameter, TypeOf};
 
 /// The octets of Data with so many octets of content.
 pub fn element_octets(content: u32) -> u32
@@ -59,20 +61,20 @@ fn push_setting(
     alloc: Global,
     leaves: &mut Leaves,
     front: &[u8],
-    part: &[u8],
-    octets: u32,
+    parameter: CtlParameter,
 ) -> Result<(), AllocError>
-    ensures { OnOk result (leaves.new ≡ leaves.old ++ (record { name = below_front front.now part.now; octets = octets }) ∷ []) }
+    ensures { OnOk result (leaves.new ≡ leaves.old ++ (record { name = below_front front.now (parameter_name parameter); octets = most_octets_of (parameter_kind parameter) }) ∷ []) }
 {
-    leaves.push(&below(alloc, front, part)?, octets)
+    let octets = most_octets(&parameter.kind());
+    leaves.push(&below(alloc, front, parameter.name())?, octets)
 }
 
 /// What a control that is selected first has besides under CF.
 fn push_selection(alloc: Global, leaves: &mut Leaves, front: &[u8]) -> Result<(), AllocError>
-    ensures { OnOk result (leaves.new ≡ leaves.old ++ map (setting_leaf front.now) (codes "sboTimeout" ∷ codes "sboClass" ∷ [])) }
+    ensures { OnOk result (leaves.new ≡ leaves.old ++ map (setting_leaf front.now) (parameter_name SboTimeout ∷ parameter_name SboClass ∷ [])) }
 {
-    push_setting(alloc, leaves, front, b"sboTimeout", 7)?;
-    push_setting(alloc, leaves, front, b"sboClass", 3)?;
+    push_setting(alloc, leaves, front, CtlParameter::SboTimeout)?;
+    push_setting(alloc, leaves, front, CtlParameter::SboClass)?;
     Ok(())
 }
 
@@ -85,7 +87,7 @@ fn push_settings(
 ) -> Result<(), AllocError>
     ensures { OnOk result (leaves.new ≡ leaves.old ++ map (setting_leaf front.now) (settings model)) }
 {
-    push_setting(alloc, leaves, front, b"ctlModel", 3)?;
+    push_setting(alloc, leaves, front, CtlParameter::CtlModel)?;
     if model == 2 {
         return push_selection(alloc, leaves, front);
     }
@@ -127,7 +129,7 @@ fn push_leaves(
 pub fn leaves_of(alloc: Global, lines: &[Line]) -> Result<Leaves, AllocError>
     ensures { IfOk result (λ leaves. leaves ≡ leaves_before (reverse lines.now)) }
 {
-    let mut leaves = Leaves::new(alloc);
+    let mut leaves = Leaves::with_capacity(alloc, lines.len())?;
     let mut room = Vec::new(alloc);
     for line in lines {
         push_leaves(alloc, &mut room, &mut leaves, line)?;

@@ -46,7 +46,8 @@ fn of_leaves<'a>(alloc: Global, leaves: &'a Leaves) -> Result<(Sizes<'a>, Parts<
     ensures structures { IfOk result (λ both. (node : List ℕ) → is_among both.1.structures node ≡ list_any (λ name. is_among (above name) node) (map (λ leaf. leaf.name) leaves.now)) }
     ensures parts { IfOk result (λ both. (node : List ℕ) → parts_in both.1 node ≡ children (map (λ leaf. leaf.name) leaves.now) node) }
 {
-    let mut names = Index::new(alloc);
+    let octets = leaves.len().saturating_mul(32);
+    let mut names = Index::with_capacity(alloc, leaves.len(), octets)?;
     let mut parts = Parts::new(alloc);
     for place in 0..leaves.len() {
         let name = leaves.name(place);

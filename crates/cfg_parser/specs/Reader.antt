@@ -27,3 +27,9 @@ abbrev pub GivesText : {A : Type 0} → Result A CfgFault → Result A CfgFault 
 GivesText (Ok x) read = read ≡ Ok x
 GivesText (Err (faults.Refused line kind)) read = read ≡ Err (faults.Refused line kind)
 GivesText (Err faults.Memory) read = Unit {0}
+
+-- the same, where what is read is a new value of what was there
+abbrev pub GivesNew : {A : Type 0} → A → Result (Unit {0}) CfgFault → Result A CfgFault → Type 0
+GivesNew new (Ok x) read = read ≡ Ok new
+GivesNew new (Err (faults.Refused line kind)) read = read ≡ Err (faults.Refused line kind)
+GivesNew new (Err faults.Memory) read = Unit {0}

@@ -11,7 +11,8 @@ use cfg_lines::{Line, control_keys, item_key, node_item, node_key, put_item_key}
 use cfg_reading::Reading;
 use std::alloc::{AllocError, Global};
 use sv_base::{
-    AttrDef, Bits, BlockDef, CtlDef, LnDef, Octs, OctsList, SetDef, SgDef, TypeOf, Value, Values,
+    AttrDef, Bits, BlockDef, CtlDef, FirstValues, LnDef, Octs, OctsList, SetDef, SgDef, SharedOcts,
+    ShortOcts, TypeOf, Value,
 };
 use text_words::{
     bits, flags_of, is_fc, is_member, is_name, is_path, number_between, owned, text, type_of,
@@ -101,14 +102,14 @@ fn attribute_names(
     before: &Reading,
     fc: &[u8],
     path: &[u8],
-) -> Result<(Octs, Octs, Octs, Octs), AllocError>
+) -> Result<(SharedOcts, SharedOcts, ShortOcts, ShortOcts), AllocError>
     ensures { IfOk result (λ names. names ≡ (domain_of before.now, node_of before.now, fc.now, path.now)) }
 {
     Ok((
-        owned(alloc, before.domain())?,
-        owned(alloc, before.node())?,
-        owned(alloc, fc)?,
-        owned(alloc, path)?,
+        before.share_domain()?,
+        before.share_node()?,
+        ShortOcts::from_slice(alloc, fc)?,
+        ShortOcts::from_slice(alloc, path)?,
     ))
 }
 
@@ -149,7 +150,7 @@ fn typed_line(
         dchg: flags.dchg,
         qchg: flags.qchg,
         dupd: flags.dupd,
-        values: Values::from_vec(values),
+        values: FirstValues::new(values),
     }))
 }
 

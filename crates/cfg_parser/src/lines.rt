@@ -2,7 +2,7 @@
 
 ghost use Rattle.std.specs.Prelude.{◌≡◌, ◌∷◌, ◌++◌, ◌==◌, ◌<◌, false, length, MatchOption};
 ghost use Rattle.std.specs.List.{All};
-ghost use Rattle.cfg_parser.specs.Reader.{GivesText};
+ghost use Rattle.cfg_parser.specs.Reader.{GivesNew, GivesText};
 ghost use Rattle.cfg_parser.specs.Text.{lines_at, ended_at, next_at, fault_at};
 
 use crate::fault::{CfgFault, Kind, LineFault};
@@ -10,7 +10,10 @@ use crate::telling;
 use cfg_lines::Place;
 use cfg_reading::Reading;
 use memchr::memchr;
-use std::alloc::Global;
+use std::alloc::{AllocError, Global};
+
+/// The most octets of a text for whose lines room is made beforehand.
+const MOST_ROOM: usize = 1 << 20;
 
 /// The octets before the first newline, and those after it.
 fn split_line(octets: &[u8]) -> Option<(&[u8], &[u8])>
@@ -43,20 +46,20 @@ fn at_line(number: u32, fault: LineFault) -> CfgFault
     }
 }
 
-/// With what the next line tells.
+/// Adds what the next line tells.
 fn read_line(
     alloc: Global,
-    reading: Reading,
+    reading: &mut Reading,
     room: &mut Vec<u8>,
     text: &[u8],
-) -> Result<Reading, CfgFault>
-    ensures { GivesText result (next_at reading text.now) }
+) -> Result<(), CfgFault>
+    ensures { GivesNew reading.new result (next_at reading.old text.now) }
 {
-    match telling::line(alloc, &reading, room, text) {
-        Ok(line) => {
-            let reading = reading.with(alloc, line)?;
-            Ok(reading)
-        }
+    match telling::line(alloc, reading, room, text) {
+        Ok(line) => match reading.add(alloc, line) {
+            Ok(()) => Ok(()),
+            Err(AllocError) => Err(CfgFault::Memory),
+        },
         Err(fault) => Err(at_line(reading.number(), fault)),
     }
 }
@@ -69,15 +72,15 @@ fn read_line(
 pub fn read_lines(alloc: Global, text: &[u8]) -> Result<Reading, CfgFault>
     ensures { GivesText result (lines_at text.now) }
 {
-    let mut reading = Reading::new(alloc);
+    let octets = text.len().min(MOST_ROOM);
+    let mut reading = Reading::with_capacity(alloc, octets)?;
     let mut room = Vec::new(alloc);
     let mut rest = text;
     while let Some((line, after)) = split_line(rest) {
-        match read_line(alloc, reading, &mut room, line) {
-            Ok(next) => reading = next,
+        match read_line(alloc, &mut reading, &mut room, line) {
+            Ok(()) => rest = after,
             Err(fault) => return Err(fault),
         }
-        rest = after;
     }
     finish(reading, rest)
 }

@@ -1,6 +1,6 @@
 //! The names that a line takes.
 
-ghost use Rattle.std.specs.Prelude.{◌≡◌, ◌||◌, List, ℕ, codes, IfOk, OnOk};
+ghost use Rattle.std.specs.Prelude.{◌≡◌, ◌||◌, List, ℕ, codes, OnOk};
 ghost use Rattle.std.specs.Str.{bytes_eq};
 ghost use Rattle.cfg_lines.specs.Keys.{is_among};
 ghost use Rattle.cfg_lines.specs.Paths.{below, node_key as node_key_of, item_key as item_key_of, clashes, is_taken};
@@ -31,9 +31,14 @@ pub fn add_set(alloc: Global, sets: &mut Keys, set: &SetDef) -> Result<(), Alloc
     sets.add(&key)
 }
 
-/// With the path of an attribute, which is joined in a room.
-pub fn with_attribute(room: &mut Vec<u8>, names: Names, attr: &AttrDef) -> Result<Names, AllocError>
-    ensures { IfOk result (λ n. (q : List ℕ) → is_taken n q ≡ (clashes q (item_key_of attr.now.domain attr.now.ln attr.now.fc attr.now.path) || is_taken names q)) }
+/// Adds the path of an attribute, which is joined in a room.
+pub fn add_attribute(
+    alloc: Global,
+    room: &mut Vec<u8>,
+    names: &mut Names,
+    attr: &AttrDef,
+) -> Result<(), AllocError>
+    ensures { OnOk result ((q : List ℕ) → is_taken names.new q ≡ (clashes q (item_key_of attr.now.domain attr.now.ln attr.now.fc attr.now.path) || is_taken names.old q)) }
 {
     put_item_key(
         room,
@@ -42,12 +47,12 @@ pub fn with_attribute(room: &mut Vec<u8>, names: Names, attr: &AttrDef) -> Resul
         attr.fc.as_slice(),
         attr.path.as_slice(),
     )?;
-    names.with(room)
+    names.add(alloc, room)
 }
 
-/// With the path of a report control block.
-pub fn with_block(alloc: Global, names: Names, block: &BlockDef) -> Result<Names, AllocError>
-    ensures { IfOk result (λ n. (q : List ℕ) → is_taken n q ≡ (clashes q (item_key_of block.now.domain block.now.ln (codes "BR") block.now.name) || is_taken names q)) }
+/// Adds the path of a report control block.
+pub fn add_block(alloc: Global, names: &mut Names, block: &BlockDef) -> Result<(), AllocError>
+    ensures { OnOk result ((q : List ℕ) → is_taken names.new q ≡ (clashes q (item_key_of block.now.domain block.now.ln (codes "BR") block.now.name) || is_taken names.old q)) }
 {
     let key = item_key(
         alloc,
@@ -56,12 +61,12 @@ pub fn with_block(alloc: Global, names: Names, block: &BlockDef) -> Result<Names
         b"BR",
         block.name.as_slice(),
     )?;
-    names.with(&key)
+    names.add(alloc, &key)
 }
 
-/// With the paths of a control.
-pub fn with_control(alloc: Global, names: Names, control: &CtlDef) -> Result<Names, AllocError>
-    ensures { IfOk result (λ n. (q : List ℕ) → is_taken n q ≡ (is_taken (control_keys_of control.now.domain control.now.ln control.now.path control.now.model) q || is_taken names q)) }
+/// Adds the paths of a control.
+pub fn add_control(alloc: Global, names: &mut Names, control: &CtlDef) -> Result<(), AllocError>
+    ensures { OnOk result ((q : List ℕ) → is_taken names.new q ≡ (is_taken (control_keys_of control.now.domain control.now.ln control.now.path control.now.model) q || is_taken names.old q)) }
 {
     let keys = control_keys(
         alloc,
@@ -70,13 +75,13 @@ pub fn with_control(alloc: Global, names: Names, control: &CtlDef) -> Result<Nam
         control.path.as_slice(),
         u32::from(control.model),
     )?;
-    names.with_all(&keys)
+    names.add_all(alloc, &keys)
 }
 
-/// With the path of a setting group control block.
-pub fn with_groups(alloc: Global, names: Names, groups: &SgDef) -> Result<Names, AllocError>
-    ensures { IfOk result (λ n. (q : List ℕ) → is_taken n q ≡ (clashes q (group_key groups.now.domain (codes "LLN0")) || is_taken names q)) }
+/// Adds the path of a setting group control block.
+pub fn add_groups(alloc: Global, names: &mut Names, groups: &SgDef) -> Result<(), AllocError>
+    ensures { OnOk result ((q : List ℕ) → is_taken names.new q ≡ (clashes q (group_key groups.now.domain (codes "LLN0")) || is_taken names.old q)) }
 {
     let key = item_key(alloc, groups.domain.as_slice(), b"LLN0", b"SP", b"SGCB")?;
-    names.with(&key)
+    names.add(alloc, &key)
 }

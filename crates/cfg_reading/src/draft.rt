@@ -60,11 +60,12 @@ fn push_member(sets: &mut Vec<SetDef>, reference: Octs) -> Result<(), AllocError
 }
 
 impl Draft {
-    ghost use Rattle.std.specs.Prelude.{◌≡◌, OnOk};
+    ghost use Rattle.std.specs.Prelude.{◌≡◌, [], OnOk};
     ghost use Rattle.cfg_lines.specs.Configs.{with_line, no_config};
     ghost use Rattle.cfg_reading.specs.Drafts.{drafted};
 
-    fn new(alloc: Global) -> Draft
+    fn new(alloc: Global, attrs: Vec<AttrDef>) -> Draft
+        requires { attrs.items ≡ [] }
         ensures { drafted result ≡ no_config }
     {
         Draft {
@@ -72,7 +73,7 @@ impl Draft {
             model: empty(alloc),
             revision: empty(alloc),
             nodes: Vec::new(alloc),
-            attrs: Vec::new(alloc),
+            attrs,
             sets: Vec::new(alloc),
             blocks: Vec::new(alloc),
             controls: Vec::new(alloc),
@@ -128,10 +129,9 @@ impl Draft {
 pub fn config_of(alloc: Global, lines: Vec<Line>) -> Result<Config, AllocError>
     ensures { IfOk result (λ c. c ≡ config_on no_config lines.items) }
 {
-    let mut draft = Draft::new(alloc);
-    let mut lines = lines;
-    lines.reverse();
-    while let Some(line) = lines.pop() {
+    let attrs = Vec::with_capacity(alloc, lines.len())?;
+    let mut draft = Draft::new(alloc, attrs);
+    for line in lines {
         draft.add(line)?;
     }
     Ok(draft.into_config())

@@ -3,12 +3,11 @@
 ghost use Rattle.std.specs.Prelude.{◌≡◌, true, codes, if◌then◌else◌};
 ghost use Rattle.std.specs.Str.{bytes_eq};
 
-use crate::claiming::{add_node, add_set, with_attribute, with_block, with_control, with_groups};
+use crate::claiming::{add_attribute, add_block, add_control, add_groups, add_node, add_set};
 use cfg_lines::{Keys, Line, Names, Place};
 use std::alloc::{AllocError, Global};
-use std::mem::replace;
-use sv_base::{AttrDef, BlockDef, CtlDef, LnDef, Octs, SetDef, SgDef};
-use text_words::{empty, owned};
+use sv_base::{AttrDef, BlockDef, CtlDef, LnDef, Octs, SetDef, SgDef, SharedOcts};
+use text_words::owned;
 
 /// The functional constraint is SG, or there was one.
 fn is_settings(fc: &[u8], before: bool) -> bool
@@ -34,8 +33,8 @@ pub struct Counts {
 pub struct KnownLines {
     pub lines: Vec<Line>,
     pub place: Place,
-    pub domain: Octs,
-    pub node: Octs,
+    pub domain: SharedOcts,
+    pub node: SharedOcts,
     pub groups: u8,
     pub has_settings: bool,
     pub counts: Counts,
@@ -47,7 +46,7 @@ pub struct KnownLines {
 }
 
 impl KnownLines {
-    ghost use Rattle.std.specs.Prelude.{◌≡◌, ◌++◌, ◌∷◌, [], OnOk};
+    ghost use Rattle.std.specs.Prelude.{◌≡◌, ◌++◌, ◌∷◌, [], IfOk, OnOk};
     ghost use Rattle.cfg_lines.specs.Facts.{facts_of};
     ghost use Rattle.cfg_lines.specs.declared.line.Line.TheVariants.{Ld, Ln, Attr, Set, Brcb, Ctl, Sgcb};
     ghost use Rattle.cfg_reading.specs.Known.{AreFew, IsShort, Noted, Tells, facts_kept};
@@ -60,11 +59,36 @@ impl KnownLines {
         ensures sets { result.sets ≡ [] }
         ensures names { result.names ≡ [] }
     {
+        Self::of(alloc, Vec::new(alloc), Names::new(alloc))
+    }
+
+    /// What is kept of no line, and room for the lines of so many octets, at 24 a line.
+    pub fn with_capacity(alloc: Global, octets: usize) -> Result<KnownLines, AllocError>
+        ensures lines { IfOk result (λ k. k.lines.items ≡ []) }
+        ensures facts { IfOk result (λ k. facts_kept k ≡ facts_of []) }
+        ensures heads { IfOk result (λ k. k.heads ≡ []) }
+        ensures sets { IfOk result (λ k. k.sets ≡ []) }
+        ensures names { IfOk result (λ k. k.names ≡ []) }
+    {
+        let count = octets / 24;
+        let lines = Vec::with_capacity(alloc, count)?;
+        let names = Names::with_capacity(alloc, count, octets)?;
+        Ok(Self::of(alloc, lines, names))
+    }
+
+    /// What is kept of no line, where lines and names have some room.
+    fn of(alloc: Global, lines: Vec<Line>, names: Names) -> KnownLines
+        ensures lines { result.lines.items ≡ lines.items }
+        ensures facts { facts_kept result ≡ facts_of [] }
+        ensures heads { result.heads ≡ [] }
+        ensures sets { result.sets ≡ [] }
+        ensures names { result.names ≡ names }
+    {
         KnownLines {
-            lines: Vec::new(alloc),
+            lines,
             place: Place::Start,
-            domain: empty(alloc),
-            node: empty(alloc),
+            domain: SharedOcts::empty(),
+            node: SharedOcts::empty(),
             groups: 0,
             has_settings: false,
             counts: Counts {
@@ -78,17 +102,9 @@ impl KnownLines {
             },
             heads: Keys::new(alloc),
             sets: Keys::new(alloc),
-            names: Names::new(alloc),
+            names,
             room: Vec::new(alloc),
         }
-    }
-
-    /// Takes the names that are taken, and leaves none.
-    fn take_names(&mut self, alloc: Global) -> Names
-        ensures names { result ≡ self.old.names }
-        ensures rest { self.new ≡ record self.old { names = [] } }
-    {
-        replace(&mut self.names, Names::new(alloc))
     }
 
     fn note_domain(&mut self, alloc: Global, name: &Octs) -> Result<(), AllocError>
@@ -96,8 +112,8 @@ impl KnownLines {
         ensures noted { OnOk result (Noted (Ld name.now) self.old self.new) }
     {
         self.place = Place::InDomain;
-        self.domain = owned(alloc, name.as_slice())?;
-        self.node = empty(alloc);
+        self.domain = SharedOcts::new(alloc, owned(alloc, name.as_slice())?)?;
+        self.node = SharedOcts::empty();
         self.groups = 0;
         self.has_settings = false;
         self.counts.domains += 1;
@@ -109,7 +125,7 @@ impl KnownLines {
         ensures noted { OnOk result (Noted (Ln node.now) self.old self.new) }
     {
         self.place = Place::InNode;
-        self.node = owned(alloc, node.ln.as_slice())?;
+        self.node = SharedOcts::new(alloc, owned(alloc, node.ln.as_slice())?)?;
         self.counts.nodes += 1;
         add_node(alloc, &mut self.heads, node)
     }
@@ -121,9 +137,7 @@ impl KnownLines {
         self.place = Place::InNode;
         self.has_settings = is_settings(attr.fc.as_slice(), self.has_settings);
         self.counts.attributes += 1;
-        let names = self.take_names(alloc);
-        self.names = with_attribute(&mut self.room, names, attr)?;
-        Ok(())
+        add_attribute(alloc, &mut self.room, &mut self.names, attr)
     }
 
     fn note_set(&mut self, alloc: Global, set: &SetDef) -> Result<(), AllocError>
@@ -142,9 +156,7 @@ impl KnownLines {
     {
         self.place = Place::InNode;
         self.counts.blocks += 1;
-        let names = self.take_names(alloc);
-        self.names = with_block(alloc, names, block)?;
-        Ok(())
+        add_block(alloc, &mut self.names, block)
     }
 
     fn note_control(&mut self, alloc: Global, control: &CtlDef) -> Result<(), AllocError>
@@ -153,8 +165,7 @@ impl KnownLines {
     {
         self.place = Place::InNode;
         self.counts.controls += 1;
-        let names = self.take_names(alloc);
-        self.names = with_control(alloc, names, control)?;
+        add_control(alloc, &mut self.names, control)?;
         Ok(())
     }
 
@@ -163,9 +174,7 @@ impl KnownLines {
     {
         self.place = Place::InNode;
         self.groups = groups.count;
-        let names = self.take_names(alloc);
-        self.names = with_groups(alloc, names, groups)?;
-        Ok(())
+        add_groups(alloc, &mut self.names, groups)
     }
 
     /// Notes a line of which nothing is kept but where the next one stands, and that it is one more member.

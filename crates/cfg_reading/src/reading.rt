@@ -5,7 +5,7 @@ use crate::known_lines::{Counts, KnownLines};
 use cfg_lines::{Line, Place};
 use std::alloc::{AllocError, Global};
 use std::marker::Model;
-use sv_base::Config;
+use sv_base::{Config, SharedOcts};
 
 /// The lines that were read, and what they tell of the next. Contracts see it as the list of the lines, the last first.
 #[derive(Drop)]
@@ -31,7 +31,7 @@ impl Model for Reading {
 }
 
 impl Reading {
-    ghost use Rattle.std.specs.Prelude.{◌≡◌, ◌≤◌, ◌<◌, ◌∷◌, [], length, IfOk};
+    ghost use Rattle.std.specs.Prelude.{◌≡◌, ◌≤◌, ◌<◌, ◌∷◌, [], length, IfOk, OnOk};
     ghost use Rattle.cfg_lines.specs.Before.{number_of, place_of, domain_of, node_of, groups_of, has_settings as has_settings_before, domains as domains_before, nodes as nodes_before, attributes as attributes_before, sets as sets_before, members as members_before, blocks as blocks_before, controls as controls_before};
     ghost use Rattle.std.specs.Prelude.{map, reverse};
     ghost use Rattle.std.specs.List.{list_any};
@@ -40,13 +40,13 @@ impl Reading {
     ghost use Rattle.cfg_lines.specs.Configs.{config_of as config_of_lines};
     ghost use Rattle.cfg_lines.specs.Claims.{heads as heads_before, sets as set_keys_before, claims};
 
-    /// No line was read.
-    pub fn new(alloc: Global) -> Reading
-        ensures { result ≡ [] }
+    /// No line was read, and there is room for the lines of so many octets, at 24 a line.
+    pub fn with_capacity(alloc: Global, octets: usize) -> Result<Reading, AllocError>
+        ensures { IfOk result (λ r. r ≡ []) }
     {
-        Reading {
-            kept: KnownLines::new(alloc),
-        }
+        Ok(Reading {
+            kept: KnownLines::with_capacity(alloc, octets)?,
+        })
     }
 
     /// How many lines were read.
@@ -84,6 +84,20 @@ impl Reading {
         ensures { result.now ≡ domain_of self.now }
     {
         self.kept.domain.as_slice()
+    }
+
+    /// The name of the domain again. It takes no memory.
+    pub fn share_domain(&self) -> Result<SharedOcts, AllocError>
+        ensures { IfOk result (λ d. d ≡ domain_of self.now) }
+    {
+        self.kept.domain.share()
+    }
+
+    /// The name of the logical node again. It takes no memory.
+    pub fn share_node(&self) -> Result<SharedOcts, AllocError>
+        ensures { IfOk result (λ n. n ≡ node_of self.now) }
+    {
+        self.kept.node.share()
     }
 
     /// The name of the logical node, empty where there is none.
@@ -148,17 +162,16 @@ impl Reading {
         self.kept.names.is_one_taken(paths)
     }
 
-    /// With one more line.
-    pub fn with(self, alloc: Global, line: Line) -> Result<Reading, AllocError>
-        requires few { length self < 20000 }
-        ensures { IfOk result (λ r. r ≡ line ∷ self) }
+    /// Adds a line. Without memory none is left.
+    pub fn add(&mut self, alloc: Global, line: Line) -> Result<(), AllocError>
+        requires few { length self.old < 20000 }
+        ensures { OnOk result (self.new ≡ line ∷ self.old) }
     {
-        let Reading { mut kept } = self;
-        let Ok(()) = kept.add(alloc, line) else {
-            drop(kept);
+        let Ok(()) = self.kept.add(alloc, line) else {
+            self.kept = KnownLines::new(alloc);
             return Err(AllocError);
         };
-        Ok(Reading { kept })
+        Ok(())
     }
 
     /// The configuration that the lines make.

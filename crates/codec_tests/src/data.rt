@@ -9,7 +9,7 @@ use ber_view::first;
 use mms_data::{DataFault, read_data, view_data, write_data, write_type};
 use std::alloc::{AllocError, Global};
 use std::test::*;
-use sv_base::{Bits, Octs, Part1, Parts, Stamp, TypeOf, Utc, Value, Values};
+use sv_base::{Bits, Octs, Part1, Parts, ShortOcts, Stamp, TypeOf, Utc, Value, Values};
 
 fn octs(alloc: Global, octets: &[u8]) -> Result<Octs, AllocError>
     ensures { IfOk result (λ o. o ≡ octets.now) }
@@ -292,7 +292,7 @@ fn structures_are_written(rt: HostRuntime) -> Result<(), AllocError> {
 /// A structure of one part, a time of the name `q`.
 fn structure(alloc: Global) -> Result<TypeOf, AllocError> {
     let part = Part1 {
-        name: octs(alloc, b"q")?,
+        name: ShortOcts::from_slice(alloc, b"q")?,
         kind: TypeOf::Time,
     };
     let parts = Parts::from_vec(alloc, vec![in alloc; part]?)?;

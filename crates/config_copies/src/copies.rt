@@ -4,8 +4,8 @@ ghost use Rattle.std.specs.Prelude.{◌≡◌, IfOk};
 
 use std::alloc::{AllocError, Global};
 use sv_base::{
-    AttrDef, AttrDefs, BlockDef, BlockDefs, Config, CtlDef, CtlDefs, LnDef, LnDefs, Octs, OctsList,
-    SetDef, SetDefs, SgDef, SgDefs, Value, Values, copy_value,
+    AttrDef, AttrDefs, BlockDef, BlockDefs, Config, CtlDef, CtlDefs, Few, FirstValues, LnDef,
+    LnDefs, Octs, OctsList, SetDef, SetDefs, SgDef, SgDefs, Value, copy_value,
 };
 
 fn copy_octs(alloc: Global, list: &[Octs]) -> Result<Vec<Octs>, AllocError>
@@ -18,14 +18,17 @@ fn copy_octs(alloc: Global, list: &[Octs]) -> Result<Vec<Octs>, AllocError>
     Ok(copies)
 }
 
-fn copy_values(alloc: Global, values: &[Value]) -> Result<Vec<Value>, AllocError>
-    ensures { IfOk result (λ v. v.items ≡ values.now) }
+fn copy_values(alloc: Global, values: &[Value]) -> Result<Few<Value>, AllocError>
+    ensures { IfOk result (λ v. v ≡ values.now) }
 {
+    if let [value] = values {
+        return Ok(Few::one(copy_value(alloc, value)?));
+    }
     let mut copies = Vec::new(alloc);
     for value in values {
         copies.push(copy_value(alloc, value)?)?;
     }
-    Ok(copies)
+    Ok(Few::many(copies))
 }
 
 fn copy_ln(alloc: Global, ln: &LnDef) -> Result<LnDef, AllocError>
@@ -54,15 +57,15 @@ fn copy_attr(alloc: Global, attr: &AttrDef) -> Result<AttrDef, AllocError>
     let values = copy_values(alloc, attr.values.as_slice())?;
     Ok(AttrDef {
         line: attr.line,
-        domain: attr.domain.copy(alloc)?,
-        ln: attr.ln.copy(alloc)?,
+        domain: attr.domain.share()?,
+        ln: attr.ln.share()?,
         fc: attr.fc.copy(alloc)?,
         path: attr.path.copy(alloc)?,
         kind: attr.kind.share()?,
         dchg: attr.dchg,
         qchg: attr.qchg,
         dupd: attr.dupd,
-        values: Values::from_vec(values),
+        values: FirstValues::new(values),
     })
 }
 

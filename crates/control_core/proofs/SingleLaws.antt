@@ -3,9 +3,9 @@ use Rattle.std.proofs.Common.{not, ◌≡◌, ℕ, Bool, true, false, List, [], 
 use Rattle.std.specs.Prelude.{⊤, Result, Ok, Err, ◌==◌, ◌||◌, if◌then◌else◌}
 use Rattle.sv_base.specs.declared.value.Value.{Value}
 use Rattle.sv_base.specs.declared.value.Value.TheVariants as kinds
-use Rattle.bay_model.specs.declared.components.Comp.{Comp}
-use Rattle.bay_model.specs.declared.components.SettingComp.{SettingComp}
-use Rattle.bay_model.specs.declared.components.SettingComp.TheVariants.{ActSG, EditSG, CnfEdit}
+use Rattle.sv_base.specs.declared.components.Comp.{Comp}
+use Rattle.sv_base.specs.declared.components.SettingComp.{SettingComp}
+use Rattle.sv_base.specs.declared.components.SettingComp.TheVariants.{ActSG, EditSG, CnfEdit}
 use Rattle.bay_model.specs.Model as model
 use Rattle.bay_model.specs.Model.{Model, Access, Role, Block, Call, Tree, single, selecting, calling, several, select, operate, cancel}
 use Rattle.bay_model.specs.Lookups.{attr_of, node_of, control_of, groups_of}

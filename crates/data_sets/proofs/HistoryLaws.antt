@@ -10,7 +10,7 @@ use Rattle.bay_model.specs.declared.answer.Output.{Output}
 use Rattle.bay_model.specs.declared.request.SetName.{SetName}
 use Rattle.bay_model.specs.declared.request.Target.{Target}
 use Rattle.bay_model.specs.declared.request.Target.TheVariants as targets
-use Rattle.bay_model.specs.declared.components.Comp.TheVariants as comps
+use Rattle.sv_base.specs.declared.components.Comp.TheVariants as comps
 use Rattle.bay_model.specs.Definitions.{number_of}
 use Rattle.bay_model.specs.Model.{Model, DataSet, Block, Parameters}
 use Rattle.bay_model.specs.Parameters.{parameters_at, written_to}

@@ -5,7 +5,7 @@ use Rattle.std.specs.Str.{bytes_eq}
 use Rattle.bay_model.specs.Model.{Model, DataSet, Block}
 use Rattle.bay_model.specs.Parameters.{parameters_at}
 use Rattle.bay_model.specs.Points.{Deed, Point, Past, unchanged, answered, wrote}
-use Rattle.bay_model.specs.declared.components.Comp.TheVariants as comps
+use Rattle.sv_base.specs.declared.components.Comp.TheVariants as comps
 use Rattle.bay_model.specs.Sets.{sets}
 use Rattle.data_sets.specs.Books.{Booked, Book, reference, set_at, number_referred}
 

@@ -4,7 +4,7 @@ ghost use Rattle.std.specs.Prelude.{◌≡◌, ◌<◌, ◌≤◌, ◌++◌, nat
 ghost use Rattle.bay_model.specs.declared.request.SetName.{SetName};
 ghost use Rattle.bay_model.specs.declared.request.Target.{Target};
 ghost use Rattle.bay_model.specs.declared.answer.Output.{Output};
-ghost use Rattle.bay_model.specs.declared.components.Comp.TheVariants as comps;
+ghost use Rattle.sv_base.specs.declared.components.Comp.TheVariants as comps;
 ghost use Rattle.bay_model.specs.declared.tables.NodeRow.{NodeRow};
 ghost use Rattle.bay_model.specs.declared.tables.SetRow.{SetRow};
 ghost use Rattle.bay_model.specs.Definitions.{number_of, definition_error, is_set_name};

@@ -8,7 +8,7 @@ use Rattle.sv_base.specs.declared.config.SgDef.{SgDef}
 use Rattle.sv_base.specs.declared.types.TypeOf.TheVariants as types
 use Rattle.sv_base.specs.declared.value.Value.TheVariants as kinds
 use Rattle.bay_model.specs.Model.{attribute}
-use Rattle.bay_model.specs.ComponentTable.{setting_components}
+use Rattle.sv_base.specs.ComponentTable.{setting_components}
 use Rattle.bay_model.specs.Generated.{Named, within, end_named, block_names, setting_named, setting_names, control_names, parameters, parameter_names, Parameter, selection}
 use Rattle.bay_model.specs.NamedLines.{is_setting, path_item, attribute_names}
 use Rattle.bay_model.specs.Places.{largest, is_data_role}

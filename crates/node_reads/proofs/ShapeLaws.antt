@@ -16,13 +16,14 @@ use Rattle.sv_base.specs.declared.config.CtlDef.{CtlDef}
 use Rattle.sv_base.specs.declared.config.SgDef.{SgDef}
 use Rattle.sv_base.specs.declared.types.TypeOf.{TypeOf}
 use Rattle.sv_base.specs.declared.types.TypeOf.TheVariants as types
-use Rattle.bay_rooms.specs.Kinds.{Kind, truth, int, uint, bits, time, stamp, text, octets, entry_id, type_of}
 use Rattle.bay_model.specs.Slots.{IsSettable}
-use Rattle.bay_model.specs.declared.components.Comp.{Comp}
-use Rattle.bay_model.specs.declared.components.SettingComp.{SettingComp}
+use Rattle.sv_base.specs.declared.components.Comp.{Comp}
+use Rattle.sv_base.specs.declared.components.Comp.TheVariants as comps
+use Rattle.sv_base.specs.declared.components.SettingComp.{SettingComp}
+use Rattle.sv_base.specs.declared.components.SettingComp.TheVariants.{NumOfSG, ActSG, EditSG, CnfEdit, LActTm}
 use Rattle.bay_model.specs.Model as model
 use Rattle.bay_model.specs.Model.{Role, Node, Call, single, selecting, calling, several}
-use Rattle.bay_model.specs.ComponentTable.{components, comp_name, comp_kind, setting_components, setting_comp_kind}
+use Rattle.sv_base.specs.ComponentTable.{components, comp_name, setting_components, comp_type, setting_comp_type}
 use Rattle.bay_model.specs.Generated.{Named, within, setting_named, command_names, sbo_names, sbow_names, oper_names, cancel_names, control_names, is_selected, parameters, selection, parameter_names}
 use Rattle.bay_model.specs.NamedLines.{Line, is_setting, path_item, attribute_names, attribute_lines, node_line, block_lines, control_lines, group_line, domain_number, generated, domains, lines, insert_line, in_order, names_in}
 use Rattle.bay_model.specs.NameTree.{Forest, nothing, named, first_name, rest_of, is_itself, below, first_names, side_by_side, role_of, own_type, grown, longest, tree_of}
@@ -70,27 +71,27 @@ attribute-own x (types.Octets n) h = tt
 attribute-own x types.EntryId h = absurd h
 attribute-own x (types.Struct f) h = absurd h
 
-component-own : (b : ℕ) (comp : Comp) (k : Kind) → IsOwn (single (model.component b comp)) (type_of k)
-component-own b comp truth = tt
-component-own b comp (int w) = tt
-component-own b comp (uint w) = tt
-component-own b comp (bits n) = tt
-component-own b comp time = tt
-component-own b comp stamp = tt
-component-own b comp (text n) = tt
-component-own b comp (octets n) = tt
-component-own b comp entry_id = tt
+component-own : (b : ℕ) (comp : Comp) → IsOwn (single (model.component b comp)) (comp_type comp)
+component-own b comps.RptID = tt
+component-own b comps.RptEna = tt
+component-own b comps.DatSet = tt
+component-own b comps.ConfRev = tt
+component-own b comps.OptFlds = tt
+component-own b comps.BufTm = tt
+component-own b comps.SqNum = tt
+component-own b comps.TrgOps = tt
+component-own b comps.IntgPd = tt
+component-own b comps.GI = tt
+component-own b comps.PurgeBuf = tt
+component-own b comps.EntryID = tt
+component-own b comps.TimeofEntry = tt
 
-setting-own : (d : ℕ) (comp : SettingComp) (k : Kind) → IsOwn (single (model.setting d comp)) (type_of k)
-setting-own d comp truth = tt
-setting-own d comp (int w) = tt
-setting-own d comp (uint w) = tt
-setting-own d comp (bits n) = tt
-setting-own d comp time = tt
-setting-own d comp stamp = tt
-setting-own d comp (text n) = tt
-setting-own d comp (octets n) = tt
-setting-own d comp entry_id = tt
+setting-own : (d : ℕ) (comp : SettingComp) → IsOwn (single (model.setting d comp)) (setting_comp_type comp)
+setting-own d NumOfSG = tt
+setting-own d ActSG = tt
+setting-own d EditSG = tt
+setting-own d CnfEdit = tt
+setting-own d LActTm = tt
 
 -- ---- what lines name
 
@@ -116,11 +117,11 @@ attribute-lines x twin [] h = tt
 attribute-lines x twin (a ∷ as_) h = (attribute-line x twin a (h 0 a (omega arith)), attribute-lines (x + 1) (if is_setting a then twin + 1 else twin) as_ (All-tail IsSettableLine a as_ h))
 
 abbrev named_component : ℕ → List ℕ → Comp → Named
-named_component b item comp = record { item = within item (comp_name comp); role = single (model.component b comp); kind = type_of (comp_kind comp) }
+named_component b item comp = record { item = within item (comp_name comp); role = single (model.component b comp); kind = comp_type comp }
 
 component-names : (b : ℕ) (item : List ℕ) (comps : List Comp) → AreNamed (map (named_component b item) comps)
 component-names b item [] = tt
-component-names b item (k ∷ ks) = (component-own b k (comp_kind k), component-names b item ks)
+component-names b item (k ∷ ks) = (component-own b k, component-names b item ks)
 
 block-lines : (b : ℕ) (ds : List BlockDef) → Each IsLine (block_lines b ds)
 block-lines b [] = tt
@@ -128,7 +129,7 @@ block-lines b (d ∷ ds) = (component-names b (path_item d.ln (codes "BR") d.nam
 
 setting-comps : (d : ℕ) (comps : List SettingComp) → AreNamed (map (setting_named d) comps)
 setting-comps d [] = tt
-setting-comps d (k ∷ ks) = (setting-own d k (setting_comp_kind k), setting-comps d ks)
+setting-comps d (k ∷ ks) = (setting-own d k, setting-comps d ks)
 
 group-lines : (number : SgDef → ℕ) (gs : List SgDef) → Each IsLine (map (λ (g : SgDef). group_line (number g) g) gs)
 group-lines number [] = tt

@@ -1,5 +1,5 @@
 -- What one more group grows.
-use Rattle.std.proofs.Common.{◌≡◌, ℕ, zero, suc, ◌+◌, ◌-◌, ◌<◌, ◌≤◌, ◌==◌, subst, take_all, Bool, true, false, ◌&&◌, List, [], ◌∷◌, ◌++◌, map, length, get_or, set, take, refl, sym, ap, ap₂, ◌∙◌, append_assoc, append-nil, arith, length-append}
+use Rattle.std.proofs.Common.{◌≡◌, ℕ, zero, suc, ◌+◌, ◌-◌, ◌<◌, ◌≤◌, ◌==◌, subst, take_all, Bool, true, false, ◌&&◌, if◌then◌else◌, List, [], ◌∷◌, ◌++◌, map, length, get_or, set, take, refl, sym, ap, ap₂, ◌∙◌, append_assoc, append-nil, arith, length-append}
 use Rattle.std.proofs.lemmas.List.{map-append, take_more}
 use Rattle.std.proofs.Math.Seq.{take-append_seam, set-append_seam}
 use Rattle.sv_base.specs.declared.types.TypeOf.{TypeOf}
@@ -10,13 +10,15 @@ use Rattle.sv_base.specs.Fields.{fields_of, parts_of, shape_of, type_of}
 use Rattle.sv_base.proofs.FieldLaws.{type-shape, fields-parts}
 use Rattle.bay_model.specs.Model as model
 use Rattle.bay_model.specs.Generated.{Named}
-use Rattle.bay_model.specs.NameTree.{longest, tree_of, named, role_of, own_type, grown, below, side_by_side, first_names}
+use Rattle.bay_model.specs.NameTree.{longest, tree_of, nothing, named, is_itself, first_name, rest_of, role_of, own_type, grown, below, side_by_side, first_names}
 use Rattle.bay_model.specs.Places.{Place, place, places, fields, attrs_in, are_data, type_with, attrs_of_role, is_data_role, trees, tree_with}
+use Rattle.std.specs.Prelude.{Result, Ok, Err, OnOk}
 use Rattle.std.specs.Option.{option_map}
 use Rattle.object_names.specs.Leaves.{leaves, leaves_side, leaf_code}
 use Rattle.object_model.specs.Leaves.{own, leaves_with}
 use Rattle.object_model.proofs.LeafLaws.{own_tree, count_tree}
-use Rattle.object_model.specs.Groups.{Group, group_at, groups}
+use Rattle.object_model.specs.Groups.{Group, group_at, groups, put}
+use Rattle.object_model.proofs.GroupLaws.{groups-more}
 use Rattle.object_model.specs.Grown.{IsGrown, spot, spot_with, forest_of}
 use Rattle.object_model.specs.declared.growth.Grown.{Grown}
 
@@ -35,10 +37,10 @@ node before l g = place (before ++ g.name) (role_of g.names) (own_type g.names) 
 abbrev parts_in : List ℕ → ℕ → Group → List Place
 parts_in before l g = places (before ++ g.name ++ 36 ∷ []) (grown l g.names)
 
-places-more : (before : List ℕ) (l : ℕ) (gs : List Group) (g : Group) → places before (forest_of l (gs ++ g ∷ [])) ≡ places before (forest_of l gs) ++ (node before l g ∷ parts_in before l g)
-places-more before l [] g = ap (λ ps. node before l g ∷ ps) (append-nil (parts_in before l g))
-places-more before l (h ∷ hs) g = ap (λ ps. node before l h ∷ (parts_in before l h ++ ps)) (places-more before l hs g)
-    ∙ ap (λ ps. node before l h ∷ ps) (sym (append_assoc (parts_in before l h) (places before (forest_of l hs)) (node before l g ∷ parts_in before l g)))
+places-after : (before : List ℕ) (l : ℕ) (gs hs : List Group) → places before (forest_of l (gs ++ hs)) ≡ places before (forest_of l gs) ++ places before (forest_of l hs)
+places-after before l [] hs = refl
+places-after before l (g ∷ gs) hs = ap (λ ps. node before l g ∷ (parts_in before l g ++ ps)) (places-after before l gs hs)
+    ∙ ap (λ ps. node before l g ∷ ps) (sym (append_assoc (parts_in before l g) (places before (forest_of l gs)) (places before (forest_of l hs))))
 
 parts-more : (l : ℕ) (gs : List Group) (g : Group) → parts_of (fields (forest_of l (gs ++ g ∷ []))) ≡ parts_of (fields (forest_of l gs)) ++ record { name = g.name; kind = type_with (own_type g.names) (fields (grown l g.names)) } ∷ []
 parts-more l [] g = ap (λ k. record { name = g.name; kind = k } ∷ []) (type-shape (type_with (own_type g.names) (fields (grown l g.names))))
@@ -102,15 +104,20 @@ next gs i g h e = take_more gs i g h ∙ ap (λ x. take i gs ++ x ∷ []) (sym e
 
 -- what is seen of a group's node and of its parts'
 module _ {X : Type 0} (of : Place → X) where
-  pub nodes-more : (before front : List ℕ) (l : ℕ) (gs : List Group) (i : ℕ) (g : Group) (names : List Named) (start old new : List X) (x : X) → i < length gs → g ≡ get_or gs i g → front ≡ before ++ g.name ++ 36 ∷ [] → names ≡ g.names
-      → old ≡ start ++ map of (places before (forest_of l (take i gs))) → x ≡ of (node before l g) → new ≡ old ++ (x ∷ map of (places front (grown l names))) → new ≡ start ++ map of (places before (forest_of l (take (i + 1) gs)))
-  nodes-more before front l gs i g names start old new x h e f n o s k =
+  -- one name, with what grows below it
+  pub one-name : (before front : List ℕ) (l : ℕ) (g : Group) (old new : List X) (x : X) → front ≡ before ++ g.name ++ 36 ∷ [] → x ≡ of (node before l g) → new ≡ old ++ (x ∷ map of (places front (grown l g.names))) → new ≡ old ++ map of (places before (forest_of l (g ∷ [])))
+  one-name before front l g old new x f o k = k ∙ (ap₂ (λ (y : X) fr. old ++ (y ∷ map of (places fr (grown l g.names)))) o f ∙ ap (λ ps. old ++ (of (node before l g) ∷ map of ps)) (sym (append-nil (parts_in before l g))))
+
+  -- one name more
+  pub nodes-more : (before path : List ℕ) (l : ℕ) (gs : List Group) (i : ℕ) (g h : Group) (start old new : List X) → i < length gs → g ≡ get_or gs i g → h ≡ g → path ≡ before
+      → old ≡ start ++ map of (places before (forest_of l (take i gs))) → new ≡ old ++ map of (places path (forest_of l (h ∷ []))) → new ≡ start ++ map of (places before (forest_of l (take (i + 1) gs)))
+  nodes-more before path l gs i g h start old new lt e s p o k =
       let done : List Place = places before (forest_of l (take i gs)) in
-      let parts : List X = map of (parts_in before l g) in
-      k ∙ (ap₂ (λ y ns. old ++ (x ∷ map of (places y (grown l ns)))) f n ∙ (ap₂ (λ l (y : X). l ++ (y ∷ parts)) o s
-      ∙ (append_assoc start (map of done) (of (node before l g) ∷ parts)
-      ∙ sym (ap (λ y. start ++ map of (places before (forest_of l y))) (next gs i g h e)
-      ∙ ap (λ y. start ++ y) (ap (map of) (places-more before l (take i gs) g) ∙ map-append of done (node before l g ∷ parts_in before l g))))))
+      let one : List Place = places before (forest_of l (g ∷ [])) in
+      k ∙ (ap₂ (λ y (x : Group). old ++ map of (places y (forest_of l (x ∷ [])))) p s ∙ (ap (λ x. x ++ map of one) o
+      ∙ (append_assoc start (map of done) (map of one)
+      ∙ sym (ap (λ y. start ++ map of (places before (forest_of l y))) (next gs i g lt e)
+      ∙ ap (λ y. start ++ y) (ap (map of) (places-after before l (take i gs) (g ∷ [])) ∙ map-append of done one)))))
 
   pub nodes-whole : (before : List ℕ) (levels : ℕ) (ns : List Named) (gs : List Group) (i : ℕ) (start all : List X) → 0 < levels → length gs ≤ i → gs ≡ groups ns → all ≡ start ++ map of (places before (forest_of (levels - 1) (take i gs))) → all ≡ start ++ map of (places before (grown levels ns))
   nodes-whole before levels ns gs i start all h l e p = p ∙ ap (λ f. start ++ map of (places before f)) (ap (forest_of (levels - 1)) (take_all i gs l ∙ e) ∙ sym (grown-groups levels ns h))
@@ -126,15 +133,39 @@ set-and old mid now new others y x place p m n k = k ∙ (ap₂ (λ l (i : ℕ).
 pub within-set : {X : Type 0} (old mid now others : List X) (y : X) (place : ℕ) → place ≡ length old → mid ≡ old ++ y ∷ [] → now ≡ mid ++ others → place < length now
 within-set old mid now others y place p m n = omega (arith, p, ap length (one-and old mid now others y m n), length-append old (y ∷ others))
 
-pub grown-more : (l : ℕ) (gs : List Group) (i : ℕ) (g : Group) (old new b : Grown) → i < length gs → g ≡ get_or gs i g → IsGrown old (forest_of l (take i gs)) → IsGrown b (grown l g.names) → Added old new g b → IsGrown new (forest_of l (take (i + 1) gs))
-grown-more l gs i g old new b h e o p a = let next : take (i + 1) gs ≡ take i gs ++ g ∷ [] = next gs i g h e in record {
+pub grown-after : (l : ℕ) (gs : List Group) (g : Group) (old new b : Grown) → IsGrown old (forest_of l gs) → IsGrown b (grown l g.names) → Added old new g b → IsGrown new (forest_of l (gs ++ g ∷ []))
+grown-after l gs g old new b o p a = record {
   parts = a.parts ∙ (ap (λ fs. old.parts.items ++ record { name = g.name; kind = type_with (own_type g.names) fs } ∷ []) (ap fields_of p.parts ∙ fields-parts (fields (grown l g.names)))
-      ∙ (ap (λ x. x ++ record { name = g.name; kind = type_with (own_type g.names) (fields (grown l g.names)) } ∷ []) o.parts ∙ sym (ap (λ x. parts_of (fields (forest_of l x))) next ∙ parts-more l (take i gs) g)));
-  attrs = a.attrs ∙ (ap (λ x. old.attrs + (length (attrs_of_role (role_of g.names)) + x)) p.attrs ∙ (ap (λ x. x + (length (attrs_of_role (role_of g.names)) + length (attrs_in (grown l g.names)))) o.attrs
-      ∙ sym (ap (λ x. length (attrs_in (forest_of l x))) next ∙ attrs-more l (take i gs) g)));
-  is_data = a.is_data ∙ (ap (λ x. old.is_data && (is_data_role (role_of g.names) && x)) p.is_data ∙ (ap (λ x. x && (is_data_role (role_of g.names) && are_data (grown l g.names))) o.is_data ∙ sym (ap (λ x. are_data (forest_of l x)) next ∙ data-more l (take i gs) g)));
-  leaves = a.leaves ∙ (ap (λ x. old.leaves + x) (leaves-is l g b p) ∙ (ap (λ x. x + length (leaves (tree l g))) o.leaves ∙ sym (ap (λ x. length (leaves_side (trees (forest_of l x)))) next ∙ leaves-more l (take i gs) g)));
+      ∙ (ap (λ x. x ++ record { name = g.name; kind = type_with (own_type g.names) (fields (grown l g.names)) } ∷ []) o.parts ∙ sym (parts-more l gs g)));
+  attrs = a.attrs ∙ (ap (λ x. old.attrs + (length (attrs_of_role (role_of g.names)) + x)) p.attrs ∙ (ap (λ x. x + (length (attrs_of_role (role_of g.names)) + length (attrs_in (grown l g.names)))) o.attrs ∙ sym (attrs-more l gs g)));
+  is_data = a.is_data ∙ (ap (λ x. old.is_data && (is_data_role (role_of g.names) && x)) p.is_data ∙ (ap (λ x. x && (is_data_role (role_of g.names) && are_data (grown l g.names))) o.is_data ∙ sym (data-more l gs g)));
+  leaves = a.leaves ∙ (ap (λ x. old.leaves + x) (leaves-is l g b p) ∙ (ap (λ x. x + length (leaves (tree l g))) o.leaves ∙ sym (leaves-more l gs g)));
 }
+
+pub grown-more : (l : ℕ) (gs : List Group) (i : ℕ) (g h : Group) (new : Grown) → i < length gs → g ≡ get_or gs i g → h ≡ g → IsGrown new (forest_of l (take i gs ++ h ∷ [])) → IsGrown new (forest_of l (take (i + 1) gs))
+grown-more l gs i g h new lt e s p = subst (λ x. IsGrown new (forest_of l x)) (ap (λ (x : Group). take i gs ++ x ∷ []) s ∙ sym (next gs i g lt e)) p
+
+-- the same names with more room
+pub with-room : (old new : Grown) → new.parts.items ≡ old.parts.items → new.attrs ≡ old.attrs → new.is_data ≡ old.is_data → new.leaves ≡ old.leaves → IsGrown old nothing → IsGrown new nothing
+with-room old new p a d l h = record { parts = p ∙ h.parts; attrs = a ∙ h.attrs; is_data = d ∙ h.is_data; leaves = l ∙ h.leaves }
+
+-- what grows out of the only one that is named
+grown-only : (levels : ℕ) (n : Named) → 0 < levels → is_itself n ≡ false → grown levels (n ∷ []) ≡ forest_of (levels - 1) (record { name = first_name n; names = rest_of n ∷ [] } ∷ [])
+grown-only levels n h e = grown-groups levels (n ∷ []) h ∙ ap (forest_of (levels - 1)) (groups-more [] n ∙ ap (λ b. if b then [] else put [] (first_name n) (rest_of n)) e)
+
+only : (ns : List Named) (n : Named) → 1 ≤ length ns → length ns < 2 → n ≡ get_or ns 0 n → ns ≡ n ∷ []
+only [] n a b e = absurd (omega (arith, a))
+only (m ∷ []) n a b e = ap (λ x. x ∷ []) (sym e)
+only (m ∷ k ∷ ms) n a b e = absurd (omega (arith, b))
+
+pub only-name : (levels : ℕ) (ns : List Named) (n : Named) (name : List ℕ) (rest : Named) → 0 < levels → 1 ≤ length ns → length ns < 2 → n ≡ get_or ns 0 n → is_itself n ≡ false → name ≡ first_name n → rest ≡ rest_of n
+    → forest_of (levels - 1) (record { name = name; names = rest ∷ [] } ∷ []) ≡ grown levels ns
+only-name levels ns n name rest h a b e i f r = ap₂ (λ x (y : Named). forest_of (levels - 1) (record { name = x; names = y ∷ [] } ∷ [])) f r ∙ sym (ap (grown levels) (only ns n a b e) ∙ grown-only levels n h i)
+
+-- where all four hold
+pub on-four : {A E P Q R S Z : Type 0} (r : Result A E) → (P → Q → R → S → Z) → OnOk r P → OnOk r Q → OnOk r R → OnOk r S → OnOk r Z
+on-four (Ok x) f p q u v = f p q u v
+on-four (Err e) f p q u v = p
 
 -- a type with parts and one without
 pub with_parts : (own : TypeOf) (ps : List Part1) → (length ps == 0) ≡ false → type_with own (fields_of ps) ≡ types.Struct (fields_of ps)

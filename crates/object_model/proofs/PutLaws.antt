@@ -1,16 +1,19 @@
 -- The group of a name by its place.
-use Rattle.std.proofs.Common.{◌≡◌, ℕ, zero, suc, ◌+◌, ◌-◌, ◌<◌, take, take_all, length-append, length-take, Bool, true, false, cond, List, [], ◌∷◌, ◌++◌, map, length, get_or, set, Option, None, Some, refl, sym, ap, ◌∙◌, arith, if◌then◌else◌}
+use Rattle.std.proofs.Common.{◌≡◌, ℕ, zero, suc, ◌+◌, ◌-◌, ◌<◌, take, take_all, length-append, length-take, Bool, true, false, cond, List, [], ◌∷◌, ◌++◌, map, length, get_or, set, Option, None, Some, refl, sym, ap, subst, ◌∙◌, arith, if◌then◌else◌}
 use Rattle.std.specs.Str.{bytes_eq}
-use Rattle.std.specs.Option.{option_map}
+use Rattle.std.specs.Option.{option_map, option_or}
 use Rattle.std.proofs.Math.Seq.{map-set_same, take-append_seam}
 use Rattle.bay_model.specs.Generated.{Named}
-use Rattle.object_model.specs.Groups.{Group, group_name, with_cut, put, PlacesFront}
+use Rattle.object_model.specs.Groups.{Group, group_name, group_at, with_cut, put, AreGroups, PlacesFront}
+use Rattle.object_model.proofs.GroupLaws.{distinct}
+use Rattle.bay_model.specs.NameTree.{first_names}
 use Rattle.object_names.specs.Numbers.{number_in, number_or}
 use Rattle.object_names.specs.Indexes.{PlacesOf}
 use Rattle.object_names.specs.declared.places.Places.{Places}
 use Rattle.std.proofs.lemmas.List.{map-append, length-map, take_more}
 use Rattle.list_laws.proofs.Options.{some_is, not_some}
 use Rattle.list_laws.proofs.Places.{place-cons, position-push}
+use Rattle.list_laws.proofs.Distinct.{Absent, Distinct, octets_same}
 
 abbrev pub place_of : List Group → List ℕ → Option ℕ
 place_of gs name = number_in (map group_name gs) name
@@ -76,15 +79,35 @@ place-split : (gs : List Group) (last : Group) (name : List ℕ) → 0 < length 
 place-split gs last name h e = ap (λ l. number_in l name) (names-front gs last h e) ∙ (position-push (bytes_eq name) (front gs) last.name
     ∙ ap (λ n. number_or (number_in (front gs) name) (bytes_eq name last.name) n) (count-front gs h))
 
-none-of : (o : Option ℕ) → ((x : ℕ) → o ≡ Some x → ⊥) → o ≡ None
-none-of None f = refl
-none-of (Some x) f = absurd (f x refl)
+-- the last of names that stand once each is not among those before it
+absent-last : (m n : List ℕ) (ms : List (List ℕ)) → Absent m (ms ++ n ∷ []) → bytes_eq n m ≡ false
+absent-last m n [] a = a.0
+absent-last m n (k ∷ ms) a = absent-last m n ms a.1
 
-pub place-front : (gs : List Group) (last : Group) (name : List ℕ) (p : ℕ) → 0 < length gs → last ≡ get_or gs (length gs - 1) last → number_in (front gs) name ≡ Some p → Some p ≡ place_of gs name
-place-front gs last name p h e f = sym (place-split gs last name h e ∙ ap (λ o. number_or o (bytes_eq name last.name) (length gs - 1)) f)
+not-before : (names : List (List ℕ)) (n : List ℕ) → Distinct (names ++ n ∷ []) → number_in names n ≡ None
+not-before [] n d = refl
+not-before (m ∷ ms) n d = place-cons (bytes_eq n) m ms ∙ (ap (λ b. cond b (Some 0) (option_map (λ i. i + 1) (number_in ms n))) (absent-last m n ms d.0) ∙ ap (λ o. option_map (λ i. i + 1) o) (not-before ms n d.1))
 
-pub place-end : (gs : List Group) (last : Group) (name : List ℕ) (b : Bool) → 0 < length gs → last ≡ get_or gs (length gs - 1) last → ((x : ℕ) → number_in (front gs) name ≡ Some x → ⊥) → bytes_eq name last.name ≡ b → (if b then Some (length gs - 1) else None) ≡ place_of gs name
-place-end gs last name b h e f t = sym (place-split gs last name h e ∙ (ap (λ o. number_or o (bytes_eq name last.name) (length gs - 1)) (none-of (number_in (front gs) name) f) ∙ ap (λ b. if b then Some (length gs - 1) else None) t))
+names-of : (ns : List Named) (names : List (List ℕ)) → map group_name (map (group_at ns) names) ≡ names
+names-of ns [] = refl
+names-of ns (n ∷ names) = ap (λ l. n ∷ l) (names-of ns names)
+
+distinct-groups : (gs : List Group) → AreGroups gs → Distinct (map group_name gs)
+distinct-groups gs are = subst Distinct (sym (ap (map group_name) are.1 ∙ names-of are.0 (first_names are.0))) (distinct are.0)
+
+none-before : (gs : List Group) (last : Group) (name : List ℕ) → AreGroups gs → 0 < length gs → last ≡ get_or gs (length gs - 1) last → bytes_eq name last.name ≡ true → number_in (front gs) name ≡ None
+none-before gs last name are h e t = ap (number_in (front gs)) (octets_same name last.name t) ∙ not-before (front gs) last.name (subst Distinct (names-front gs last h e) (distinct-groups gs are))
+
+pub place-end : (gs : List Group) (last : Group) (name : List ℕ) → AreGroups gs → 0 < length gs → last ≡ get_or gs (length gs - 1) last → bytes_eq name last.name ≡ true → Some (length gs - 1) ≡ place_of gs name
+place-end gs last name are h e t = sym (place-split gs last name h e ∙ (ap (λ o. number_or o (bytes_eq name last.name) (length gs - 1)) (none-before gs last name are h e t) ∙ ap (λ b. if b then Some (length gs - 1) else None) t))
+
+-- the place of another name is that among all but the last
+or-none : (o : Option ℕ) → o ≡ option_or o None
+or-none (Some n) = refl
+or-none None = refl
+
+pub place-front : (gs : List Group) (last : Group) (name : List ℕ) → 0 < length gs → last ≡ get_or gs (length gs - 1) last → bytes_eq name last.name ≡ false → number_in (front gs) name ≡ place_of gs name
+place-front gs last name h e f = or-none (number_in (front gs) name) ∙ sym (place-split gs last name h e ∙ ap (λ b. number_or (number_in (front gs) name) b (length gs - 1)) f)
 
 -- the places of all but the last, and then of the last
 pub empty_front : (places : Places) (gs : List Group) → length gs < 1 → PlacesFront places (map group_name gs) → PlacesOf places (map group_name gs)

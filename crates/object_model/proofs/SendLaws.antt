@@ -4,12 +4,16 @@ use Rattle.std.proofs.Crossing.{crosses}
 use Rattle.sv_base.proofs.types.Parts.TheLaws.TheKnot as types
 use Rattle.sv_base.proofs.value.Values.TheLaws.TheKnot as values
 use Rattle.sv_base.proofs.octs.Octs.TheSendSync as octs
+use Rattle.sv_base.proofs.short.ShortOcts.TheSendSync as short
+use Rattle.sv_base.proofs.shared.SharedOcts.TheSendSync as shared
 use Rattle.sv_base.proofs.lists.LnDefs.TheSendSync as nodes
 use Rattle.sv_base.proofs.lists.SetDefs.TheSendSync as sets
 use Rattle.sv_base.proofs.lists.BlockDefs.TheSendSync as blocks
 use Rattle.sv_base.proofs.lists.SgDefs.TheSendSync as groups
 use Rattle.sv_base.specs.contracts.types.TypeOf as TypeOf
-use Rattle.sv_base.specs.contracts.value.Values as Values
+use Rattle.sv_base.proofs.few.Few.TheSendSync as few
+use Rattle.sv_base.specs.contracts.value.Value as Value
+use Rattle.sv_base.specs.contracts.first_values.FirstValues as FirstValues
 use Rattle.sv_base.specs.contracts.config.AttrDef as AttrDef
 use Rattle.sv_base.specs.contracts.config.CtlDef as CtlDef
 use Rattle.sv_base.specs.contracts.config.Config as Config
@@ -35,12 +39,15 @@ kind_field_send = search (crosses, types.crosses, sendable) depth 60
 pub kind_send : IsSend TypeOf.the_row
 kind_send = search (kind_field_send, sendable)
 
-values_send : IsSend Values.the_row
-values_send = search (crosses, values.crosses, sendable) depth 60
+value_send : IsSend Value.the_row
+value_send = search (crosses, values.crosses, sendable) depth 60
+
+values_send : IsSend FirstValues.the_row
+values_send = search (value_send, few.the_send, sendable) depth 60
 
 -- what a configuration is made of
 attr_field_send : IsSend AttrDef.the_field.row
-attr_field_send = search (kind_field_send, values_send, octs.the_send, sendable) depth 60
+attr_field_send = search (kind_field_send, values_send, short.the_send, shared.the_send, sendable) depth 60
 
 attr_send : IsSend AttrDef.the_row
 attr_send = search (attr_field_send, sendable)

@@ -4,12 +4,16 @@ use Rattle.std.proofs.Crossing.{crosses}
 use Rattle.sv_base.proofs.types.Parts.TheLaws.TheKnot as types
 use Rattle.sv_base.proofs.value.Values.TheLaws.TheKnot as values
 use Rattle.sv_base.proofs.octs.Octs.TheSendSync as octs
+use Rattle.sv_base.proofs.short.ShortOcts.TheSendSync as short
+use Rattle.sv_base.proofs.shared.SharedOcts.TheSendSync as shared
 use Rattle.sv_base.proofs.lists.LnDefs.TheSendSync as nodes
 use Rattle.sv_base.proofs.lists.SetDefs.TheSendSync as sets
 use Rattle.sv_base.proofs.lists.BlockDefs.TheSendSync as blocks
 use Rattle.sv_base.proofs.lists.SgDefs.TheSendSync as groups
 use Rattle.sv_base.specs.contracts.types.TypeOf as TypeOf
-use Rattle.sv_base.specs.contracts.value.Values as Values
+use Rattle.sv_base.proofs.few.Few.TheSendSync as few
+use Rattle.sv_base.specs.contracts.value.Value as Value
+use Rattle.sv_base.specs.contracts.first_values.FirstValues as FirstValues
 use Rattle.sv_base.specs.contracts.config.AttrDef as AttrDef
 use Rattle.sv_base.specs.contracts.config.CtlDef as CtlDef
 use Rattle.sv_base.specs.contracts.config.Config as Config
@@ -35,12 +39,15 @@ kind_field_sync = search (crosses, types.crosses, sendable) depth 60
 pub kind_sync : IsSync TypeOf.the_row
 kind_sync = search (kind_field_sync, sendable)
 
-values_sync : IsSync Values.the_row
-values_sync = search (crosses, values.crosses, sendable) depth 60
+value_sync : IsSync Value.the_row
+value_sync = search (crosses, values.crosses, sendable) depth 60
+
+values_sync : IsSync FirstValues.the_row
+values_sync = search (value_sync, few.the_sync, sendable) depth 60
 
 -- what a configuration is made of
 attr_field_sync : IsSync AttrDef.the_field.row
-attr_field_sync = search (kind_field_sync, values_sync, octs.the_sync, sendable) depth 60
+attr_field_sync = search (kind_field_sync, values_sync, short.the_sync, shared.the_sync, sendable) depth 60
 
 attr_sync : IsSync AttrDef.the_row
 attr_sync = search (attr_field_sync, sendable)

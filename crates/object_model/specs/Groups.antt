@@ -1,5 +1,5 @@
 -- What is named, in groups by the first name.
-use Rattle.std.specs.Prelude.{ℕ, ◌-◌, List, [], ◌∷◌, ◌++◌, length, take, map, if◌then◌else◌}
+use Rattle.std.specs.Prelude.{◌≡◌, ℕ, ◌-◌, List, [], ◌∷◌, ◌++◌, length, take, map, if◌then◌else◌}
 use Rattle.std.specs.Str.{bytes_eq}
 use Rattle.bay_model.specs.Generated.{Named}
 use Rattle.object_names.specs.declared.places.Places.{Places}
@@ -34,6 +34,10 @@ abbrev pub with_named : List Group → Named → List Group
 with_named gs n = if is_itself n then gs else put gs (first_name n) (rest_of n)
 
 -- ---- for the code
+
+-- they are those of something that is named
+abbrev pub AreGroups : List Group → Type 0
+AreGroups gs = (ns : List Named) × (gs ≡ groups ns)
 
 -- the places of all names but the last
 abbrev pub PlacesFront : Places → List (List ℕ) → Type 0

@@ -1,13 +1,14 @@
 //! What is named, in groups by the first name.
 
 ghost use Rattle.std.specs.Prelude.{◌≡◌, ◌++◌, ◌∷◌, [], map, IfOk, OnOk};
-ghost use Rattle.object_model.specs.Groups.{groups as groups_in, group_name, put as put_in, with_named, PlacesFront};
+ghost use Rattle.object_model.specs.Groups.{groups as groups_in, group_name, put as put_in, with_named, AreGroups, PlacesFront};
 ghost use Rattle.object_names.specs.Indexes.{PlacesOf};
 ghost use Rattle.object_names.specs.Numbers.{number_in};
 
-use crate::growing::{Cut, Group, below, name_of, push_into};
-use object_names::{Few, Places};
+use crate::growing::{Cut, Group, parted, push_into};
+use object_names::Places;
 use std::alloc::{AllocError, Global};
+use sv_base::Few;
 
 /// The group of a name that one is named below.
 fn group_of<'a>(name: &'a [u8], cut: Cut<'a>) -> Group<'a>
@@ -28,21 +29,20 @@ fn push_group<'a>(
     Ok(())
 }
 
-/// The place of the group of a name, none where there is none.
+/// The place of the group of a name, none where there is none. The last group's name, which stands in no group before it, is
+/// looked at first.
 fn place_of(places: &Places<'_>, groups: &[Group<'_>], name: &[u8]) -> Option<usize>
-    requires { PlacesFront places.now (map group_name groups.now) }
+    requires groups { AreGroups groups.now }
+    requires placed { PlacesFront places.now (map group_name groups.now) }
     ensures { result ≡ number_in (map group_name groups.now) name.now }
 {
     let [front @ .., last] = groups else {
         return None;
     };
-    if let Some(place) = places.place_of(name) {
-        return Some(place);
-    }
     if name == last.name {
         return Some(front.len());
     }
-    None
+    places.place_of(name)
 }
 
 /// Gives the last group's name its place.
@@ -66,7 +66,8 @@ fn put<'a>(
     name: &'a [u8],
     cut: Cut<'a>,
 ) -> Result<(), AllocError>
-    requires { PlacesFront places.old (map group_name groups.old.items) }
+    requires groups { AreGroups groups.old.items }
+    requires placed { PlacesFront places.old (map group_name groups.old.items) }
     ensures placed { OnOk result (PlacesFront places.new (map group_name groups.new.items)) }
     ensures groups { OnOk result (groups.new.items ≡ put_in groups.old.items name.now cut.entry) }
 {
@@ -90,28 +91,20 @@ fn put_cut<'a>(
     groups: &mut Vec<Group<'a>>,
     cut: &Cut<'a>,
 ) -> Result<(), AllocError>
-    requires { PlacesFront places.old (map group_name groups.old.items) }
+    requires groups { AreGroups groups.old.items }
+    requires placed { PlacesFront places.old (map group_name groups.old.items) }
     ensures placed { OnOk result (PlacesFront places.new (map group_name groups.new.items)) }
     ensures groups { OnOk result (groups.new.items ≡ with_named groups.old.items cut.now) }
 {
     if cut.is_itself() {
         return Ok(());
     }
-    put(alloc, places, groups, name_of(cut), below(cut))
+    let (name, below) = parted(cut);
+    put(alloc, places, groups, name, below)
 }
 
-/// The group of the only one that is named; the name itself has none.
-fn only_group<'a>(alloc: Global, cut: &Cut<'a>) -> Few<Group<'a>>
-    ensures { result ≡ groups_in (cut.now ∷ []) }
-{
-    if cut.is_itself() {
-        return Few::many(Vec::new(alloc));
-    }
-    Few::one(group_of(name_of(cut), below(cut)))
-}
-
-/// The groups of many, by the places of their names.
-fn groups_of<'a>(alloc: Global, cuts: &[Cut<'a>]) -> Result<Vec<Group<'a>>, AllocError>
+/// One group for each first name, in the order in which they first stand.
+pub fn groups<'a>(alloc: Global, cuts: &[Cut<'a>]) -> Result<Vec<Group<'a>>, AllocError>
     ensures { IfOk result (λ v. v.items ≡ groups_in cuts.now) }
 {
     let mut places = Places::new(alloc);
@@ -120,14 +113,4 @@ fn groups_of<'a>(alloc: Global, cuts: &[Cut<'a>]) -> Result<Vec<Group<'a>>, Allo
         put_cut(alloc, &mut places, &mut groups, cut)?;
     }
     Ok(groups)
-}
-
-/// One group for each first name, in the order in which they first stand.
-pub fn groups<'a>(alloc: Global, cuts: &[Cut<'a>]) -> Result<Few<Group<'a>>, AllocError>
-    ensures { IfOk result (λ v. v ≡ groups_in cuts.now) }
-{
-    if let [cut] = cuts {
-        return Ok(only_group(alloc, cut));
-    }
-    Ok(Few::many(groups_of(alloc, cuts)?))
 }

@@ -5,10 +5,10 @@ ghost use Rattle.std.specs.List.{after_first, before_first, position_or_len};
 ghost use Rattle.bay_model.specs.NameTree.{first_name, rest_of};
 ghost use Rattle.object_model.specs.Groups.{Group, with_cut};
 
-use object_names::{Few, What};
+use object_names::What;
 use std::alloc::{AllocError, Global};
 use std::marker::Model;
-use sv_base::TypeOf;
+use sv_base::{Few, TypeOf};
 
 /// What is named by the rest of an item, below some of its names.
 #[derive(Drop)]
@@ -65,34 +65,38 @@ pub fn front(item: &[u8]) -> &[u8]
     &item[..name_len(item)]
 }
 
+/// What stands behind the first `$`, whose place this is.
+fn behind_at(item: &[u8], place: usize) -> &[u8]
+    requires { place ≡ position_or_len (λ o. o == 36) item.now }
+    ensures { result.now ≡ after_first (λ o. o == 36) item.now }
+{
+    if place < item.len() {
+        &item[place + 1..]
+    } else {
+        &item[item.len()..]
+    }
+}
+
 /// What stands behind the first `$`.
 pub fn behind(item: &[u8]) -> &[u8]
     ensures { result.now ≡ after_first (λ o. o == 36) item.now }
 {
-    let len = name_len(item);
-    if len < item.len() {
-        &item[len + 1..]
-    } else {
-        &item[len..]
-    }
+    behind_at(item, name_len(item))
 }
 
-/// The name up to the first `$`.
-pub fn name_of<'a>(cut: &Cut<'a>) -> &'a [u8]
-    ensures { result.now ≡ first_name cut.now }
+/// The name up to the first `$`, and what is named behind it.
+pub fn parted<'a>(cut: &Cut<'a>) -> (&'a [u8], Cut<'a>)
+    ensures name { result.0.now ≡ first_name cut.now }
+    ensures rest { result.1 ≡ rest_of cut.now }
 {
-    front(cut.rest)
-}
-
-/// What is named behind the first `$`.
-pub fn below<'a>(cut: &Cut<'a>) -> Cut<'a>
-    ensures { result ≡ rest_of cut.now }
-{
-    Cut {
-        rest: behind(cut.rest),
+    let item = cut.rest;
+    let place = name_len(item);
+    let below = Cut {
+        rest: behind_at(item, place),
         what: cut.what,
         kind: cut.kind,
-    }
+    };
+    (&item[..place], below)
 }
 
 /// A first name, with what stands below it.

@@ -1,22 +1,24 @@
 //! The nodes of a domain, grown out of what its lines name: a node before its parts.
 
-ghost use Rattle.std.specs.Prelude.{◌≡◌, ◌<◌, ◌+◌, ◌++◌, ◌∷◌, [], ◌&&◌, set, map, length, IfOk, OnOk};
+ghost use Rattle.std.specs.Prelude.{◌≡◌, ◌<◌, ◌+◌, ◌++◌, ◌∷◌, [], ◌&&◌, List, set, map, length, IfOk, OnOk};
 ghost use Rattle.std.specs.Option.{option_map};
 ghost use Rattle.sv_base.specs.Fields.{fields_of};
 ghost use Rattle.bay_model.specs.NameTree.{role_of, own_type as own_type_of, grown};
 ghost use Rattle.bay_model.specs.Places.{attrs_of_role, is_data_role, type_with, places};
 ghost use Rattle.object_names.specs.Seen.{role_seen};
 ghost use Rattle.object_names.specs.Leaves.{leaf_code};
-ghost use Rattle.object_model.specs.Grown.{IsGrown, items_of, room, spot, spot_with};
+ghost use Rattle.bay_model.specs.NameTree.{nothing};
+ghost use Rattle.object_model.specs.Groups.{Group};
+ghost use Rattle.object_model.specs.Grown.{IsGrown, forest_of, items_of, room, spot, spot_with};
 ghost use Rattle.object_model.specs.Leaves.{own_with, own_count, leaves_with};
 
 use crate::grouping::groups;
-use crate::growing::{Cut, Group};
+use crate::growing::{Cut, parted};
 use object_names::numbers::plus;
 use object_names::{Leaf, What, own_leaf};
 use octet_rows::Index;
 use std::alloc::{AllocError, Global};
-use sv_base::{Octs, Part1, Parts, TypeOf};
+use sv_base::{Part1, Parts, ShortOcts, TypeOf};
 
 /// A node but for its item: the type of its Data, how many attributes it has, and whether it holds attributes alone; what it
 /// is, its leaf where it has no parts, and how many leaves it has.
@@ -49,18 +51,35 @@ pub struct Grown {
 }
 
 impl Growth {
-    ghost use Rattle.std.specs.Prelude.{◌≡◌, []};
+    ghost use Rattle.std.specs.Prelude.{◌≡◌, [], IfOk};
 
-    /// Nothing has grown.
-    pub fn new(alloc: Global) -> Self
-        ensures items { result.items ≡ [] }
-        ensures spots { result.spots.items ≡ [] }
-        ensures path { result.path.items ≡ [] }
+    /// Nothing has grown, and there is room for so many nodes, at 24 octets an item.
+    pub fn with_capacity(alloc: Global, nodes: usize) -> Result<Self, AllocError>
+        ensures items { IfOk result (λ g. g.items ≡ []) }
+        ensures spots { IfOk result (λ g. g.spots.items ≡ []) }
+        ensures path { IfOk result (λ g. g.path.items ≡ []) }
     {
-        Growth {
-            items: Index::new(alloc),
-            spots: Vec::new(alloc),
+        Ok(Growth {
+            items: Index::with_capacity(alloc, nodes, nodes.saturating_mul(24))?,
+            spots: Vec::with_capacity(alloc, nodes)?,
             path: Vec::new(alloc),
+        })
+    }
+}
+
+impl Grown {
+    ghost use Rattle.bay_model.specs.NameTree.{nothing};
+    ghost use Rattle.object_model.specs.Grown.{IsGrown};
+
+    /// No names.
+    pub fn new(alloc: Global) -> Self
+        ensures { IsGrown result nothing }
+    {
+        Grown {
+            parts: Vec::new(alloc),
+            attrs: 0,
+            is_data: true,
+            leaves: 0,
         }
     }
 }
@@ -137,43 +156,40 @@ fn leaves_of(own: Option<Leaf>, below: u32) -> Result<u32, AllocError>
     }
 }
 
-/// The node of a group, of these parts with so many attributes.
+/// Sets the node of a name, of these parts with so many attributes and leaves.
 #[tactic(auto, using(object_names::proofs::LeafLaws::what_back))]
-fn spot_of(
+fn set_spot(
     alloc: Global,
-    group: &Group<'_>,
-    parts: Vec<Part1>,
-    attrs: u32,
-    are_data: bool,
-    below: u32,
-) -> Result<Spot, AllocError>
-    ensures { IfOk result (λ s. s ≡ spot_with group.now (fields_of parts.items) attrs are_data below) }
+    spot: &mut Spot,
+    cuts: &[Cut<'_>],
+    below: Grown,
+) -> Result<(), AllocError>
+    ensures { OnOk result (spot.new ≡ spot_with (record { name = []; names = cuts.now }) (fields_of below.parts.items) below.attrs below.is_data below.leaves) }
 {
-    let what = what_of(&group.cuts);
-    let own = own_of(what, &parts);
-    Ok(Spot {
-        what,
-        own,
-        leaves: leaves_of(own, below)?,
-        kind: type_of(alloc, &group.cuts, parts)?,
-        attrs: attrs_of(what, attrs)?,
-        is_data: is_data(what) && are_data,
-    })
+    let what = what_of(cuts);
+    let own = own_of(what, &below.parts);
+    spot.what = what;
+    spot.own = own;
+    spot.leaves = leaves_of(own, below.leaves)?;
+    spot.attrs = attrs_of(what, below.attrs)?;
+    spot.is_data = is_data(what) && below.is_data;
+    spot.kind = type_of(alloc, cuts, below.parts)?;
+    Ok(())
 }
 
 /// Adds a name to the parts of a structure, by its node.
-fn add_part(alloc: Global, grown: &mut Grown, name: &[u8], spot: &Spot) -> Result<(), AllocError>
-    ensures parts { OnOk result (grown.new.parts.items ≡ grown.old.parts.items ++ record { name = name.now; kind = spot.now.kind } ∷ []) }
-    ensures attrs { OnOk result (grown.new.attrs ≡ grown.old.attrs + spot.now.attrs) }
-    ensures is_data { OnOk result (grown.new.is_data ≡ grown.old.is_data && spot.now.is_data) }
-    ensures leaves { OnOk result (grown.new.leaves ≡ grown.old.leaves + spot.now.leaves) }
+fn add_part(alloc: Global, all: &mut Grown, name: &[u8], spot: &Spot) -> Result<(), AllocError>
+    ensures parts { OnOk result (all.new.parts.items ≡ all.old.parts.items ++ record { name = name.now; kind = spot.now.kind } ∷ []) }
+    ensures attrs { OnOk result (all.new.attrs ≡ all.old.attrs + spot.now.attrs) }
+    ensures is_data { OnOk result (all.new.is_data ≡ all.old.is_data && spot.now.is_data) }
+    ensures leaves { OnOk result (all.new.leaves ≡ all.old.leaves + spot.now.leaves) }
 {
-    let name = Octs::from_vec(Vec::from_slice(alloc, name)?);
+    let name = ShortOcts::from_slice(alloc, name)?;
     let kind = spot.kind.share()?;
-    grown.parts.push(Part1 { name, kind })?;
-    grown.attrs = plus(grown.attrs, spot.attrs)?;
-    grown.is_data = grown.is_data && spot.is_data;
-    grown.leaves = plus(grown.leaves, spot.leaves)?;
+    all.parts.push(Part1 { name, kind })?;
+    all.attrs = plus(all.attrs, spot.attrs)?;
+    all.is_data = all.is_data && spot.is_data;
+    all.leaves = plus(all.leaves, spot.leaves)?;
     Ok(())
 }
 
@@ -198,65 +214,81 @@ fn enter(growth: &mut Growth, name: &[u8]) -> Result<(), AllocError>
     Ok(())
 }
 
-/// Adds a group, whose parts have grown, and sets its node.
-fn add_group(
+/// Adds a name, whose parts have grown, and sets its node.
+fn add_name(
     alloc: Global,
     spots: &mut Vec<Spot>,
     place: usize,
-    grown: &mut Grown,
-    group: &Group<'_>,
+    all: &mut Grown,
+    name: &[u8],
+    cuts: &[Cut<'_>],
     below: Grown,
 ) -> Result<(), AllocError>
     requires { place < length spots.old.items }
-    ensures spots { OnOk result (spots.new.items ≡ set spots.old.items place (spot_with group.now (fields_of below.parts.items) below.attrs below.is_data below.leaves)) }
-    ensures parts { OnOk result (grown.new.parts.items ≡ grown.old.parts.items ++ record { name = group.now.name; kind = type_with (own_type_of group.now.names) (fields_of below.parts.items) } ∷ []) }
-    ensures attrs { OnOk result (grown.new.attrs ≡ grown.old.attrs + (length (attrs_of_role (role_of group.now.names)) + below.attrs)) }
-    ensures is_data { OnOk result (grown.new.is_data ≡ grown.old.is_data && (is_data_role (role_of group.now.names) && below.is_data)) }
-    ensures leaves { OnOk result (grown.new.leaves ≡ grown.old.leaves + leaves_with group.now (fields_of below.parts.items) below.leaves) }
+    ensures spots { OnOk result (spots.new.items ≡ set spots.old.items place (spot_with (record { name = name.now; names = cuts.now }) (fields_of below.parts.items) below.attrs below.is_data below.leaves)) }
+    ensures parts { OnOk result (all.new.parts.items ≡ all.old.parts.items ++ record { name = name.now; kind = type_with (own_type_of cuts.now) (fields_of below.parts.items) } ∷ []) }
+    ensures attrs { OnOk result (all.new.attrs ≡ all.old.attrs + (length (attrs_of_role (role_of cuts.now)) + below.attrs)) }
+    ensures is_data { OnOk result (all.new.is_data ≡ all.old.is_data && (is_data_role (role_of cuts.now) && below.is_data)) }
+    ensures leaves { OnOk result (all.new.leaves ≡ all.old.leaves + leaves_with (record { name = name.now; names = cuts.now }) (fields_of below.parts.items) below.leaves) }
 {
-    let spot = spot_of(
-        alloc,
-        group,
-        below.parts,
-        below.attrs,
-        below.is_data,
-        below.leaves,
-    )?;
-    add_part(alloc, grown, group.name, &spot)?;
-    spots[place] = spot;
-    Ok(())
+    let spot = &mut spots[place];
+    set_spot(alloc, spot, cuts, below)?;
+    add_part(alloc, all, name, spot)
 }
 
-/// What grows out of what is named, as many levels deep: its nodes, a node before its parts, are added with their items.
+/// Adds a name and what grows below it, as many levels deep: its node before those of its parts.
+#[cycle(grow)]
+fn grow_name(
+    alloc: Global,
+    growth: &mut Growth,
+    all: &mut Grown,
+    name: &[u8],
+    cuts: &[Cut<'_>],
+    levels: usize,
+) -> Result<(), AllocError>
+    ensures grown { OnOk result ((gs : List Group) → IsGrown all.old (forest_of levels gs) → IsGrown all.new (forest_of levels (gs ++ record { name = name.now; names = cuts.now } ∷ []))) }
+    ensures items { OnOk result (growth.new.items ≡ growth.old.items ++ items_of (places growth.old.path.items (forest_of levels (record { name = name.now; names = cuts.now } ∷ [])))) }
+    ensures spots { OnOk result (growth.new.spots.items ≡ growth.old.spots.items ++ map spot (places growth.old.path.items (forest_of levels (record { name = name.now; names = cuts.now } ∷ [])))) }
+    ensures path { OnOk result (growth.new.path.items ≡ growth.old.path.items) }
+{
+    let (len, place) = (growth.path.len(), growth.spots.len());
+    enter(growth, name)?;
+    let mut below = Grown::new(alloc);
+    grow(alloc, growth, &mut below, cuts, levels)?;
+    growth.path.truncate(len);
+    add_name(alloc, &mut growth.spots, place, all, name, cuts, below)
+}
+
+/// What grows out of what is named, as many levels deep: its nodes, a node before its parts, are added with their items, and
+/// what it is as parts of a structure, where there were none.
+#[cycle(grow)]
 pub fn grow(
     alloc: Global,
     growth: &mut Growth,
+    all: &mut Grown,
     cuts: &[Cut<'_>],
     levels: usize,
-) -> Result<Grown, AllocError>
-    ensures grown { IfOk result (λ g. IsGrown g (grown levels cuts.now)) }
+) -> Result<(), AllocError>
+    ensures grown { OnOk result (IsGrown all.old nothing → IsGrown all.new (grown levels cuts.now)) }
     ensures items { OnOk result (growth.new.items ≡ growth.old.items ++ items_of (places growth.old.path.items (grown levels cuts.now))) }
     ensures spots { OnOk result (growth.new.spots.items ≡ growth.old.spots.items ++ map spot (places growth.old.path.items (grown levels cuts.now))) }
     ensures path { OnOk result (growth.new.path.items ≡ growth.old.path.items) }
 {
-    let mut all = Grown {
-        parts: Vec::new(alloc),
-        attrs: 0,
-        is_data: true,
-        leaves: 0,
-    };
     if levels == 0 {
-        return Ok(all);
+        return Ok(());
     }
-    let len = growth.path.len();
+    if let [cut] = cuts {
+        if cut.is_itself() {
+            return Ok(());
+        }
+        let (name, below) = parted(cut);
+        all.parts.reserve_exact(1)?;
+        return grow_name(alloc, growth, all, name, &[below], levels - 1);
+    }
     let groups = groups(alloc, cuts)?;
     all.parts.reserve_exact(groups.len())?;
-    for group in groups.as_slice() {
-        let place = growth.spots.len();
-        enter(growth, group.name)?;
-        let below = grow(alloc, growth, &group.cuts, levels - 1)?;
-        growth.path.truncate(len);
-        add_group(alloc, &mut growth.spots, place, &mut all, group, below)?;
+    for group in &groups {
+        grow_name(alloc, growth, all, group.name, &group.cuts, levels - 1)?;
     }
-    Ok(all)
+    Ok(())
 }

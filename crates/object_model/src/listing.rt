@@ -10,7 +10,7 @@ ghost use Rattle.object_model.specs.Stands.{owns, stands_from};
 
 use crate::attrs::attrs_of;
 use crate::growth::Spot;
-use crate::nodes::{NodeName, growth_of, push_nodes};
+use crate::nodes::{NodeName, growth_of, push_nodes, usual_nodes};
 use crate::stands::{Stand, push_stands};
 use bay_model::NodeRow;
 use name_order::places_in_order;
@@ -38,6 +38,27 @@ pub struct Listing {
     pub directories: Vec<Directory>,
     pub stands: Vec<Stand>,
     pub leaves: Vec<Leaf>,
+}
+
+impl Listing {
+    ghost use Rattle.std.specs.Prelude.{◌≡◌, [], IfOk};
+
+    /// Nothing is listed, and there is room for so many nodes.
+    fn with_capacity(alloc: Global, nodes: usize) -> Result<Self, AllocError>
+        ensures rows { IfOk result (λ l. l.rows.items ≡ []) }
+        ensures names { IfOk result (λ l. l.names.items ≡ []) }
+        ensures directories { IfOk result (λ l. l.directories.items ≡ []) }
+        ensures stands { IfOk result (λ l. l.stands.items ≡ []) }
+        ensures leaves { IfOk result (λ l. l.leaves.items ≡ []) }
+    {
+        Ok(Listing {
+            rows: Vec::with_capacity(alloc, nodes)?,
+            names: Vec::with_capacity(alloc, nodes)?,
+            directories: Vec::new(alloc),
+            stands: Vec::with_capacity(alloc, nodes)?,
+            leaves: Vec::with_capacity(alloc, nodes)?,
+        })
+    }
 }
 
 /// The names of a domain whose nodes have these items, the first of them this number.
@@ -118,13 +139,7 @@ pub fn list(
     requires lines { lines.now ≡ lines_in_order (lines_of config.now) }
     ensures { IfOk result (λ l. IsListed config.now (length (domains_of config.now)) l) }
 {
-    let mut listing = Listing {
-        rows: Vec::new(alloc),
-        names: Vec::new(alloc),
-        directories: Vec::new(alloc),
-        stands: Vec::new(alloc),
-        leaves: Vec::new(alloc),
-    };
+    let mut listing = Listing::with_capacity(alloc, usual_nodes(lines.len()))?;
     for domain in domains {
         push_domain(alloc, &mut listing, lines, domain.as_slice())?;
     }

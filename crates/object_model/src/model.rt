@@ -73,6 +73,7 @@ fn references_of(alloc: Global, config: &Config) -> Result<(Index, Index), Alloc
     Ok((blocks, controls))
 }
 
+/// What is made of a configuration.
 fn parts_of(alloc: Global, config: &Config) -> Result<Parts, AllocError>
     ensures blocks { IfOk result (λ p. p.blocks ≡ blocks_of config.now) }
     ensures controls { IfOk result (λ p. p.controls ≡ controls_of config.now) }

@@ -12,7 +12,7 @@ ghost use Rattle.object_model.specs.Nodes.{names_at, places_from};
 
 use crate::attrs::own_count;
 use crate::growing::{Cut, behind, front};
-use crate::growth::{Growth, Spot, grow};
+use crate::growth::{Grown, Growth, Spot, grow};
 use crate::largest::largest;
 use bay_model::{AttrIds, MemberShape, NodeRow};
 use name_order::name_at;
@@ -42,6 +42,20 @@ fn push_names<'a>(out: &mut Vec<Cut<'a>>, names: &'a [Named<'_>]) -> Result<(), 
     Ok(())
 }
 
+/// The names are the same; their last octets, in which names of domains mostly differ, are looked at first.
+fn is_same(one: &[u8], other: &[u8]) -> bool
+    ensures { result ≡ bytes_eq one.now other.now }
+{
+    let len = one.len();
+    if len != other.len() {
+        return false;
+    }
+    if len > 0 && one[len - 1] != other[len - 1] {
+        return false;
+    }
+    one == other
+}
+
 fn push_line<'a>(
     out: &mut Vec<Cut<'a>>,
     line: &'a Line<'_>,
@@ -49,7 +63,7 @@ fn push_line<'a>(
 ) -> Result<(), AllocError>
     ensures { OnOk result (out.new.items ≡ out.old.items ++ flat_map (λ (l : ModelLine). l.names) (filter (λ (l : ModelLine). bytes_eq l.domain domain.now) (line.now ∷ []))) }
 {
-    if line.domain == domain {
+    if is_same(line.domain, domain) {
         push_names(out, &line.names)?;
     }
     Ok(())
@@ -81,14 +95,20 @@ fn levels_of(cuts: &[Cut<'_>]) -> usize
     most
 }
 
+/// How many nodes so many names have mostly, at one structure a name and some above these.
+pub fn usual_nodes(names: usize) -> usize {
+    names.saturating_mul(2).saturating_add(64)
+}
+
 /// The nodes of a domain, each before its parts, and their items.
 pub fn growth_of(alloc: Global, lines: &[Line<'_>], domain: &[u8]) -> Result<Growth, AllocError>
     ensures items { IfOk result (λ growth. growth.items ≡ items_of (places_from lines.now domain.now)) }
     ensures spots { IfOk result (λ growth. growth.spots.items ≡ map spot (places_from lines.now domain.now)) }
 {
     let cuts = names_of(alloc, lines, domain)?;
-    let mut growth = Growth::new(alloc);
-    grow(alloc, &mut growth, &cuts, levels_of(&cuts))?;
+    let mut growth = Growth::with_capacity(alloc, usual_nodes(cuts.len()))?;
+    let mut all = Grown::new(alloc);
+    grow(alloc, &mut growth, &mut all, &cuts, levels_of(&cuts))?;
     Ok(growth)
 }
 

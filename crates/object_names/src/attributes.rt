@@ -2,6 +2,7 @@
 //! SE twins of the SG attributes.
 
 ghost use Rattle.std.specs.Prelude.{◌≡◌, ◌∷◌, ◌++◌, [], map, filter, flat_map, codes, OnOk};
+ghost use Rattle.sv_base.specs.Parameters.{parameter_name, parameter_kind};
 ghost use Rattle.bay_model.specs.Lookups.{reference_of};
 ghost use Rattle.bay_model.specs.Generated.{selection, within};
 ghost use Rattle.bay_model.specs.NamedLines.{is_setting as is_setting_line, path_item};
@@ -12,7 +13,7 @@ use crate::references::{is_selected, is_setting, write_reference};
 use bay_model::Flags;
 use octet_rows::Index;
 use std::alloc::{AllocError, Global};
-use sv_base::{AttrDef, Config, CtlDef, TypeOf};
+use sv_base::{AttrDef, Config, CtlDef, CtlParameter, TypeOf};
 
 /// The type of an attribute and its trigger conditions (IEC 61850-7-2, DataAttribute).
 #[derive(Drop)]
@@ -88,16 +89,15 @@ fn write_parameter(text: &mut Vec<u8>, control: &CtlDef, name: &[u8]) -> Result<
 fn push_parameter(
     out: &mut Attributes,
     control: &CtlDef,
-    name: &[u8],
-    kind: TypeOf,
+    parameter: CtlParameter,
 ) -> Result<(), AllocError>
-    ensures references { OnOk result (out.new.references ≡ out.old.references ++ reference_of control.now.domain (within (path_item control.now.ln (codes "CF") control.now.path) name.now) ∷ []) }
-    ensures rows { OnOk result (out.new.rows.items ≡ out.old.rows.items ++ record { kind = kind; flags = no_flags } ∷ []) }
+    ensures references { OnOk result (out.new.references ≡ out.old.references ++ reference_of control.now.domain (within (path_item control.now.ln (codes "CF") control.now.path) (parameter_name parameter)) ∷ []) }
+    ensures rows { OnOk result (out.new.rows.items ≡ out.old.rows.items ++ record { kind = parameter_kind parameter; flags = no_flags } ∷ []) }
 {
-    write_parameter(&mut out.text, control, name)?;
+    write_parameter(&mut out.text, control, parameter.name())?;
     out.references.push(&out.text)?;
     out.rows.push(AttrRow {
-        kind,
+        kind: parameter.kind(),
         flags: Flags {
             dchg: false,
             qchg: false,
@@ -112,8 +112,8 @@ fn push_selection(out: &mut Attributes, control: &CtlDef) -> Result<(), AllocErr
     ensures references { OnOk result (out.new.references ≡ out.old.references ++ references_of (map (parameter_attr control.now) (selection control.now))) }
     ensures rows { OnOk result (out.new.rows.items ≡ out.old.rows.items ++ rows_of (map (parameter_attr control.now) (selection control.now))) }
 {
-    push_parameter(out, control, b"sboTimeout", TypeOf::Uint(32))?;
-    push_parameter(out, control, b"sboClass", TypeOf::Int(8))?;
+    push_parameter(out, control, CtlParameter::SboTimeout)?;
+    push_parameter(out, control, CtlParameter::SboClass)?;
     Ok(())
 }
 
@@ -121,7 +121,7 @@ fn push_parameters(out: &mut Attributes, control: &CtlDef) -> Result<(), AllocEr
     ensures references { OnOk result (out.new.references ≡ out.old.references ++ references_of (control_attrs control.now)) }
     ensures rows { OnOk result (out.new.rows.items ≡ out.old.rows.items ++ rows_of (control_attrs control.now)) }
 {
-    push_parameter(out, control, b"ctlModel", TypeOf::Int(8))?;
+    push_parameter(out, control, CtlParameter::CtlModel)?;
     if is_selected(control) {
         push_selection(out, control)?;
     }
@@ -170,16 +170,17 @@ fn push_all(out: &mut Attributes, config: &Config) -> Result<(), AllocError>
 impl Attributes {
     ghost use Rattle.std.specs.Prelude.{◌≡◌, IfOk};
     ghost use Rattle.object_names.specs.Attributes.{attr_rows};
-    ghost use Rattle.object_names.specs.References.{attr_references, attr_references};
+    ghost use Rattle.object_names.specs.References.{attr_references};
 
     /// The attributes of a configuration.
     pub fn of(alloc: Global, config: &Config) -> Result<Self, AllocError>
         ensures references { IfOk result (λ attrs. attrs.references ≡ attr_references config.now) }
         ensures rows { IfOk result (λ attrs. attrs.rows.items ≡ attr_rows config.now) }
     {
-        let rows = Vec::with_capacity(alloc, config.attrs.len())?;
+        let count = config.attrs.len();
+        let rows = Vec::with_capacity(alloc, count)?;
         let mut attrs = Attributes {
-            references: Index::new(alloc),
+            references: Index::with_capacity(alloc, count, count.saturating_mul(32))?,
             rows,
             text: Vec::new(alloc),
         };

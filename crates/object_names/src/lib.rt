@@ -9,7 +9,6 @@ pub mod numbers;
 mod places;
 
 // what lines name
-mod few;
 mod leaves;
 mod lines;
 mod named;
@@ -19,7 +18,6 @@ pub mod references;
 mod attributes;
 
 pub use attributes::{AttrRow, Attributes};
-pub use few::Few;
 pub use index::index_of;
 pub use leaves::{Leaf, own_leaf};
 pub use lines::{Line, domains, ordered_lines};

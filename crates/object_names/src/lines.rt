@@ -11,7 +11,6 @@ ghost use Rattle.bay_model.specs.Lookups.{reference_of};
 ghost use Rattle.object_names.specs.Items.{HasReference, AreReferenced};
 ghost use Rattle.object_names.specs.References.{attr_references};
 
-use crate::few::Few;
 use crate::named::{
     Item, Named, What, push_block, push_control, push_parameters, push_settings, structure,
 };
@@ -20,7 +19,7 @@ use crate::references::{is_selected, is_setting, item_at};
 use octet_rows::Index;
 use std::alloc::{AllocError, Global};
 use std::marker::Model;
-use sv_base::{AttrDef, BlockDef, Config, CtlDef, LnDef, Octs, SgDef};
+use sv_base::{AttrDef, BlockDef, Config, CtlDef, Few, LnDef, Octs, SgDef};
 
 /// A line, by its number, with the items of its domain that it names.
 #[derive(Drop)]
@@ -47,12 +46,11 @@ impl<'a> Model for Line<'a> {
 fn push_line<'a>(
     out: &mut Vec<Line<'a>>,
     number: u32,
-    domain: &'a Octs,
+    domain: &'a [u8],
     names: Few<Named<'a>>,
 ) -> Result<(), AllocError>
     ensures { OnOk result (out.new.items ≡ out.old.items ++ record { line = number; domain = domain.now; names = names.entry } ∷ []) }
 {
-    let domain = domain.as_slice();
     out.push(Line {
         number,
         domain,
@@ -65,7 +63,7 @@ fn push_node<'a>(alloc: Global, out: &mut Vec<Line<'a>>, node: &'a LnDef) -> Res
     ensures { OnOk result (out.new.items ≡ out.old.items ++ node_line node.now ∷ []) }
 {
     let named = structure(alloc, Item::lent(node.ln.as_slice()), What::Structure)?;
-    push_line(out, node.line, &node.domain, Few::one(named))
+    push_line(out, node.line, node.domain.as_slice(), Few::one(named))
 }
 
 /// The item of the reference of an attribute of a domain, `LD/LN$FC$PATH`.
@@ -124,7 +122,7 @@ fn push_attr<'a>(
     ensures { OnOk result (out.new.items ≡ out.old.items ++ attribute_line number twin attr.now ∷ []) }
 {
     let names = attr_names(alloc, references, attr, number, twin)?;
-    push_line(out, attr.line, &attr.domain, names)
+    push_line(out, attr.line, attr.domain.as_slice(), names)
 }
 
 fn push_block_names(
@@ -149,7 +147,7 @@ fn push_block_line<'a>(
 {
     let mut names = Vec::new(alloc);
     push_block_names(alloc, &mut names, block, number)?;
-    push_line(out, block.line, &block.domain, Few::many(names))?;
+    push_line(out, block.line, block.domain.as_slice(), Few::many(names))?;
     Ok(())
 }
 
@@ -163,7 +161,7 @@ fn push_group<'a>(
 {
     let mut names = Vec::new(alloc);
     push_settings(alloc, &mut names, domain_number)?;
-    push_line(out, group.line, &group.domain, Few::many(names))
+    push_line(out, group.line, group.domain.as_slice(), Few::many(names))
 }
 
 fn push_control_names(
@@ -202,7 +200,12 @@ fn push_control_line<'a>(
     let mut names = Vec::new(alloc);
     push_control_names(alloc, &mut names, control, number)?;
     push_parameter_names(alloc, &mut names, control, first)?;
-    push_line(out, control.line, &control.domain, Few::many(names))
+    push_line(
+        out,
+        control.line,
+        control.domain.as_slice(),
+        Few::many(names),
+    )
 }
 
 fn push_nodes<'a>(

@@ -1,7 +1,8 @@
 //! What the lines of a configuration name.
 
 ghost use Rattle.std.specs.Prelude.{◌≡◌, ◌∷◌, ◌++◌, [], codes, map, IfOk, OnOk};
-ghost use Rattle.bay_model.specs.Generated.{within, end_named, structure_named, block_names, setting_named, setting_names, value_names, number_names, check_names, command_names, sbo_names, sbow_names, cancel_names, control_names, parameters, selection, parameter_names};
+ghost use Rattle.sv_base.specs.Parameters.{parameter_name, parameter_kind};
+ghost use Rattle.bay_model.specs.Generated.{within, end_named, structure_named, block_names, setting_named, setting_names, part_named, command_names, sbo_names, sbow_names, cancel_names, control_names, parameters, selection, parameter_names};
 ghost use Rattle.bay_model.specs.Model.{attribute, withheld};
 ghost use Rattle.object_names.specs.Seen.{role_seen, call_seen};
 
@@ -10,7 +11,7 @@ use crate::references::{is_selected, joined};
 use bay_model::{Comp, SettingComp};
 use std::alloc::{AllocError, Global};
 use std::marker::Model;
-use sv_base::{CtlDef, Octs, Parts, TypeOf};
+use sv_base::{CallPart, CtlDef, CtlParameter, Octs, Parts, TypeOf};
 
 /// A service of a control that carries a value (IEC 61850-8-1, SBOw, Oper and Cancel).
 #[derive(Clone, Copy)]
@@ -184,34 +185,6 @@ pub fn push_settings(alloc: Global, out: &mut Vec<Named<'_>>, domain: u32) -> Re
     push_comps(alloc, out, domain, &SettingComp::ALL)
 }
 
-/// Adds a part of a command at `LN$CO$DO$CALL`.
-fn push_part(
-    alloc: Global,
-    out: &mut Vec<Named<'_>>,
-    item: &[u8],
-    name: &[u8],
-    kind: TypeOf,
-) -> Result<(), AllocError>
-    ensures { OnOk result (out.new.items ≡ out.old.items ++ end_named (within item.now name.now) withheld kind ∷ []) }
-{
-    push_within(alloc, out, item, name, What::Withheld, kind)
-}
-
-fn push_check(
-    alloc: Global,
-    out: &mut Vec<Named<'_>>,
-    item: &[u8],
-    call: Call,
-) -> Result<(), AllocError>
-    ensures { OnOk result (out.new.items ≡ out.old.items ++ check_names (call_seen call) item.now) }
-{
-    match call {
-        Call::Cancel => Ok(()),
-        Call::Select => push_part(alloc, out, item, b"Check", TypeOf::Bits(2)),
-        Call::Operate => push_part(alloc, out, item, b"Check", TypeOf::Bits(2)),
-    }
-}
-
 /// A structure.
 pub fn structure<'a>(alloc: Global, item: Item<'a>, what: What) -> Result<Named<'a>, AllocError>
     ensures { IfOk result (λ n. n ≡ structure_named item.entry (role_seen what)) }
@@ -223,40 +196,32 @@ pub fn structure<'a>(alloc: Global, item: Item<'a>, what: What) -> Result<Named<
     })
 }
 
-fn push_ctl_val(
+/// Adds a part of a command at `LN$CO$DO$CALL`, whose ctlVal is of the type.
+fn push_part(
     alloc: Global,
     out: &mut Vec<Named<'_>>,
-    item: &[u8],
     kind: &TypeOf,
+    item: &[u8],
+    part: CallPart,
 ) -> Result<(), AllocError>
-    ensures { OnOk result (out.new.items ≡ out.old.items ++ end_named (within item.now (codes "ctlVal")) withheld kind.now ∷ []) }
+    ensures { OnOk result (out.new.items ≡ out.old.items ++ part_named kind.now item.now part ∷ []) }
 {
-    let kind = kind.share()?;
-    push_part(alloc, out, item, b"ctlVal", kind)
+    let own = part.kind(kind)?;
+    push_within(alloc, out, item, part.name(), What::Withheld, own)
 }
 
-/// Adds ctlVal and origin of a command.
-fn push_value(
+fn push_parts(
     alloc: Global,
     out: &mut Vec<Named<'_>>,
-    item: &[u8],
     kind: &TypeOf,
+    item: &[u8],
+    parts: &[CallPart],
 ) -> Result<(), AllocError>
-    ensures { OnOk result (out.new.items ≡ out.old.items ++ value_names kind.now item.now) }
+    ensures { OnOk result (out.new.items ≡ out.old.items ++ map (part_named kind.now item.now) parts.now) }
 {
-    push_ctl_val(alloc, out, item, kind)?;
-    push_part(alloc, out, item, b"origin$orCat", TypeOf::Int(8))?;
-    push_part(alloc, out, item, b"origin$orIdent", TypeOf::Octets(64))?;
-    Ok(())
-}
-
-/// Adds ctlNum, T and Test of a command.
-fn push_number(alloc: Global, out: &mut Vec<Named<'_>>, item: &[u8]) -> Result<(), AllocError>
-    ensures { OnOk result (out.new.items ≡ out.old.items ++ number_names item.now) }
-{
-    push_part(alloc, out, item, b"ctlNum", TypeOf::Uint(8))?;
-    push_part(alloc, out, item, b"T", TypeOf::Time)?;
-    push_part(alloc, out, item, b"Test", TypeOf::Bool)?;
+    for part in parts {
+        push_part(alloc, out, kind, item, *part)?;
+    }
     Ok(())
 }
 
@@ -273,10 +238,10 @@ fn push_command(
 {
     let made = Item::made(Octs::from_vec(Vec::from_slice(alloc, item)?));
     out.push(structure(alloc, made, What::Calling(number, call))?)?;
-    push_value(alloc, out, item, kind)?;
-    push_number(alloc, out, item)?;
-    push_check(alloc, out, item, call)?;
-    Ok(())
+    match call {
+        Call::Cancel => push_parts(alloc, out, kind, item, &CallPart::ALL[..6]),
+        Call::Select | Call::Operate => push_parts(alloc, out, kind, item, &CallPart::ALL),
+    }
 }
 
 /// Adds SBO of a control of ctlModel 2, at `LN$CO$DO`.
@@ -373,12 +338,12 @@ fn push_parameter(
     out: &mut Vec<Named<'_>>,
     number: u32,
     item: &[u8],
-    name: &[u8],
-    kind: TypeOf,
+    parameter: CtlParameter,
 ) -> Result<(), AllocError>
-    ensures { OnOk result (out.new.items ≡ out.old.items ++ end_named (within item.now name.now) (attribute number) kind ∷ []) }
+    ensures { OnOk result (out.new.items ≡ out.old.items ++ end_named (within item.now (parameter_name parameter)) (attribute number) (parameter_kind parameter) ∷ []) }
 {
-    push_within(alloc, out, item, name, What::Attribute(number), kind)
+    let what = What::Attribute(number);
+    push_within(alloc, out, item, parameter.name(), what, parameter.kind())
 }
 
 fn push_selection(
@@ -391,8 +356,8 @@ fn push_selection(
     ensures { OnOk result (out.new.items ≡ out.old.items ++ parameter_names first item.now (selection control.now)) }
 {
     let next = plus(first, 1)?;
-    push_parameter(alloc, out, first, item, b"sboTimeout", TypeOf::Uint(32))?;
-    push_parameter(alloc, out, next, item, b"sboClass", TypeOf::Int(8))?;
+    push_parameter(alloc, out, first, item, CtlParameter::SboTimeout)?;
+    push_parameter(alloc, out, next, item, CtlParameter::SboClass)?;
     Ok(())
 }
 
@@ -406,7 +371,7 @@ pub fn push_parameters(
 ) -> Result<(), AllocError>
     ensures { OnOk result (out.new.items ≡ out.old.items ++ parameter_names first item.now (parameters control.now)) }
 {
-    push_parameter(alloc, out, first, item, b"ctlModel", TypeOf::Int(8))?;
+    push_parameter(alloc, out, first, item, CtlParameter::CtlModel)?;
     if is_selected(control) {
         push_selection(alloc, out, plus(first, 1)?, control, item)?;
     }

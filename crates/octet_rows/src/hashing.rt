@@ -1,7 +1,7 @@
 //! A number for each row of octets, the same for the same row.
 
-ghost use Rattle.std.specs.Prelude.{◌≡◌};
-ghost use Rattle.octet_rows.specs.Hashing.{mixed_with, nothing, gathered, number_of, hash_at};
+ghost use Rattle.std.specs.Prelude.{◌≡◌, ◌<◌, length, fold};
+ghost use Rattle.octet_rows.specs.Hashing.{mixed_with, mixed_to, word_with, nothing, gathered, number_of, hash_at};
 
 /// The octets of a row that is gone over from its front, gathered: eight at a time are mixed into what stands before them. Whoever picks
 /// the octets can make two rows have one number.
@@ -37,7 +37,7 @@ impl RowHash {
     pub fn with(self, octet: u8) -> Self
         ensures { result ≡ gathered self octet }
     {
-        let word = self.word.rotate_left(8) ^ u64::from(octet);
+        let word = joined(self.word, octet);
         if self.octets == 7 {
             return RowHash {
                 mixed: mix(self.mixed, word),
@@ -60,13 +60,36 @@ impl RowHash {
     }
 }
 
+/// A word with one octet more behind it.
+fn joined(word: u64, octet: u8) -> u64
+    ensures { result ≡ word_with word octet }
+{
+    word.rotate_left(8) ^ u64::from(octet)
+}
+
+/// What the words of eight octets at the front are mixed to, and the octets behind them.
+fn mixed_front(row: &[u8]) -> (u64, &[u8])
+    ensures few { length result.1.now < 8 }
+    ensures gathered { fold gathered nothing row.now ≡ fold gathered (mixed_to result.0) result.1.now }
+{
+    let mut mixed = 0;
+    let mut rest = row;
+    while let [a, b, c, d, e, f, g, h, after @ ..] = rest {
+        let front = joined(joined(joined(joined(0, *a), *b), *c), *d);
+        mixed = mix(mixed, joined(joined(joined(joined(front, *e), *f), *g), *h));
+        rest = after;
+    }
+    (mixed, rest)
+}
+
 /// The number of a row.
 pub fn hash_of(row: &[u8]) -> u64
     ensures { result ≡ hash_at row.now }
 {
-    let mut hash = RowHash::new();
-    for octet in row {
-        hash = hash.with(*octet);
+    let (mixed, rest) = mixed_front(row);
+    let mut word = 0;
+    for octet in rest {
+        word = joined(word, *octet);
     }
-    hash.number()
+    mix(mixed, word)
 }

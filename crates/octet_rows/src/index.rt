@@ -1,8 +1,8 @@
 //! Rows of octets, each found by its octets.
 
-ghost use Rattle.std.specs.Prelude.{◌≡◌, OnOk, OnErr};
+ghost use Rattle.std.specs.Prelude.{◌≡◌, ◌∷◌, OnOk, OnErr};
 ghost use Rattle.octet_rows.specs.Chains.{latest, AreChained};
-ghost use Rattle.octet_rows.specs.Found.{is_at as is_row_at, first_at as first_row_at, with_first, IsNoted, IsSame};
+ghost use Rattle.octet_rows.specs.Found.{is_at as is_row_at, first_at as first_row_at, IsNoted, IsSame};
 
 use crate::firsts::Firsts;
 use crate::hashing::hash_of;
@@ -55,13 +55,10 @@ fn first_at(rows: &Rows, places: &[u32], row: &[u8]) -> Option<u32>
     None
 }
 
-/// The first place, if there is one, or else the first of the further places, at which the row stands.
-fn place_at(rows: &Rows, first: Option<u32>, further: &[u32], row: &[u8]) -> Option<u32>
-    ensures { result ≡ first_row_at rows.now row.now (with_first first further.now) }
+/// The first of this place and the further places at which the row stands.
+fn place_at(rows: &Rows, place: u32, further: &[u32], row: &[u8]) -> Option<u32>
+    ensures { result ≡ first_row_at rows.now row.now (place ∷ further.now) }
 {
-    let Some(place) = first else {
-        return first_at(rows, further, row);
-    };
     if is_at(rows, place, row) {
         return Some(place);
     }
@@ -75,16 +72,14 @@ fn note(first: &mut Firsts, further: &mut Vec<u32>, hash: u64, place: u32) -> Re
     ensures noted { OnOk result (IsNoted (latest first.old.entries.items) further.old.items (latest first.new.entries.items) further.new.items hash place) }
     ensures err { OnErr result (IsSame (latest first.old.entries.items) further.old.items (latest first.new.entries.items) further.new.items) }
 {
-    if first.get(hash).is_some() {
+    if first.insert(hash, place)?.is_some() {
         further.push(place)?;
-        return Ok(());
     }
-    first.insert(hash, place)?;
     Ok(())
 }
 
 impl Index {
-    ghost use Rattle.std.specs.Prelude.{◌≡◌, ◌++◌, ◌∷◌, [], length, slice_get, option_copied, OnOk, OnErr};
+    ghost use Rattle.std.specs.Prelude.{◌≡◌, ◌++◌, ◌∷◌, [], length, slice_get, option_copied, IfOk, OnOk, OnErr};
     ghost use Rattle.octet_rows.specs.Hashing.{hash_at};
     ghost use Rattle.octet_rows.specs.Found.{place_in};
 
@@ -97,6 +92,17 @@ impl Index {
             first: Firsts::new(alloc),
             further: Vec::new(alloc),
         }
+    }
+
+    /// There is none, and room for so many with so many octets together.
+    pub fn with_capacity(alloc: Global, rows: usize, octets: usize) -> Result<Self, AllocError>
+        ensures { IfOk result (λ index. index ≡ []) }
+    {
+        Ok(Index {
+            rows: Rows::with_capacity(alloc, rows, octets)?,
+            first: Firsts::with_capacity(alloc, rows)?,
+            further: Vec::new(alloc),
+        })
     }
 
     /// How many rows there are.
@@ -118,8 +124,8 @@ impl Index {
         requires { hash ≡ hash_at row.now }
         ensures { result ≡ place_in self.now row.now }
     {
-        let first = self.first.get(hash);
-        place_at(&self.rows, first, &self.further, row)
+        let place = self.first.get(hash)?;
+        place_at(&self.rows, place, &self.further, row)
     }
 
     /// The place of a row; none exactly where it is not there.

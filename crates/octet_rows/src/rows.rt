@@ -52,7 +52,7 @@ impl Model for Rows {
 }
 
 impl Rows {
-    ghost use Rattle.std.specs.Prelude.{◌≡◌, ◌++◌, ◌∷◌, [], length, slice_get, option_copied, OnOk, OnErr};
+    ghost use Rattle.std.specs.Prelude.{◌≡◌, ◌++◌, ◌∷◌, [], length, slice_get, option_copied, IfOk, OnOk, OnErr};
 
     /// There is none.
     pub fn new(alloc: Global) -> Rows
@@ -62,6 +62,16 @@ impl Rows {
             octets: Vec::new(alloc),
             extents: Vec::new(alloc),
         }
+    }
+
+    /// There is none, and room for so many with so many octets together.
+    pub fn with_capacity(alloc: Global, rows: usize, octets: usize) -> Result<Rows, AllocError>
+        ensures { IfOk result (λ r. r ≡ []) }
+    {
+        Ok(Rows {
+            octets: Vec::with_capacity(alloc, octets)?,
+            extents: Vec::with_capacity(alloc, rows)?,
+        })
     }
 
     /// How many there are.

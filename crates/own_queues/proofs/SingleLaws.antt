@@ -3,10 +3,10 @@ use Rattle.std.proofs.Common.{not, ◌≡◌, ◌≤◌, ◌⊎◌, inl, inr, �
 use Rattle.std.specs.Prelude.{Result, Ok, Err, ◌==◌, ◌||◌, if◌then◌else◌}
 use Rattle.sv_base.specs.declared.value.Value.{Value}
 use Rattle.sv_base.specs.declared.value.Value.TheVariants as kinds
-use Rattle.bay_model.specs.declared.components.Comp.{Comp}
+use Rattle.sv_base.specs.declared.components.Comp.{Comp}
 use Rattle.bay_model.specs.Model as model
-use Rattle.bay_model.specs.declared.components.SettingComp.{SettingComp}
-use Rattle.bay_model.specs.declared.components.SettingComp.TheVariants.{ActSG, EditSG, CnfEdit}
+use Rattle.sv_base.specs.declared.components.SettingComp.{SettingComp}
+use Rattle.sv_base.specs.declared.components.SettingComp.TheVariants.{ActSG, EditSG, CnfEdit}
 use Rattle.bay_model.specs.Model.{Model, Access, Role, Call, Tree, single, selecting, calling, several, select, operate, cancel}
 use Rattle.bay_model.specs.Lookups.{attr_of, node_of, control_of, groups_of}
 use Rattle.bay_model.specs.Points.{Deed, opened, lost, finished, wrote, put, copied, activated, edited, called, answered, took, terminated, nothing, confirmed, selected_control, Past}

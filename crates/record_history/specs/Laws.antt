@@ -1,7 +1,7 @@
 -- What holds of every record, since it holds of every history: the laws of resuming and of the front.
 use Rattle.std.specs.Prelude.{◌≡◌, ◌≤◌, ◌==◌, ℕ, true, false, List, ◌∷◌, ◌++◌, length, drop, Some}
 use Rattle.sv_base.specs.declared.value.Value.TheVariants as kinds
-use Rattle.bay_model.specs.declared.components.Comp.TheVariants.{EntryID}
+use Rattle.sv_base.specs.declared.components.Comp.TheVariants.{EntryID}
 use Rattle.bay_model.specs.Named.{configured_model}
 use Rattle.bay_model.specs.Points.{wrote, Point, Past}
 use Rattle.bay_model.specs.Answers.{points}

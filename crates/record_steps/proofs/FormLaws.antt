@@ -3,8 +3,8 @@ use Rattle.std.proofs.Common.{◌≡◌, ◌==◌, ℕ, false, List, [], refl, a
 use Rattle.std.specs.Prelude.{Option, None, Some, if◌then◌else◌}
 use Rattle.sv_base.specs.declared.config.Config.{Config}
 use Rattle.sv_base.specs.declared.numbers.AssocNo.{AssocNo}
-use Rattle.bay_model.specs.declared.components.Comp.{Comp}
-use Rattle.bay_model.specs.ComponentTable.{comp_named}
+use Rattle.sv_base.specs.declared.components.Comp.{Comp}
+use Rattle.sv_base.specs.ComponentTable.{comp_named}
 use Rattle.object_model.specs.Numbers.{number_in}
 use Rattle.object_model.specs.References.{block_references}
 use Rattle.osi_stack.specs.Sides.{StandsFor}

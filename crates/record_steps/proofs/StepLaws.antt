@@ -14,7 +14,7 @@ use Rattle.sv_base.specs.declared.numbers.CtlNo.{CtlNo}
 use Rattle.sv_base.specs.declared.types.TypeOf.TheVariants as types
 use Rattle.sv_base.specs.declared.value.Value.{Value}
 use Rattle.sv_base.specs.declared.value.Value.TheVariants as values
-use Rattle.bay_model.specs.declared.components.Comp.{Comp}
+use Rattle.sv_base.specs.declared.components.Comp.{Comp}
 use Rattle.bay_model.specs.declared.request.Request.{Request}
 use Rattle.bay_answers.specs.Requests.{IsFitting}
 use Rattle.bay_model.specs.declared.step.Step.{Step}

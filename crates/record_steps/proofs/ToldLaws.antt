@@ -4,7 +4,7 @@ use Rattle.std.specs.Prelude.{Option, None, Some, if◌then◌else◌}
 use Rattle.sv_base.specs.declared.config.Config.{Config}
 use Rattle.sv_base.specs.declared.numbers.AssocNo.{AssocNo}
 use Rattle.sv_base.specs.declared.value.Value.{Value}
-use Rattle.bay_model.specs.declared.components.Comp.{Comp}
+use Rattle.sv_base.specs.declared.components.Comp.{Comp}
 use Rattle.bay_model.specs.declared.step.Setting.{Setting}
 use Rattle.bay_model.specs.declared.step.Step.{Step}
 use Rattle.bay_model.specs.declared.step.Step.TheVariants as steps
@@ -16,7 +16,7 @@ use Rattle.run_record.specs.declared.line.OpenForm.TheVariants as opens
 use Rattle.run_record.specs.declared.line.RecLine.{RecLine}
 use Rattle.run_record.specs.declared.line.RecLine.TheVariants as lines
 use Rattle.run_record.specs.declared.pairs.Pair.{Pair}
-use Rattle.bay_model.specs.ComponentTable.{comp_named}
+use Rattle.sv_base.specs.ComponentTable.{comp_named}
 use Rattle.record_steps.specs.Shapes.{shape_at}
 use Rattle.record_steps.specs.Settings.{are_named, settings_at}
 use Rattle.text_words.specs.Values.{hex_at}

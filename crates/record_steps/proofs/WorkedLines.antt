@@ -2,7 +2,7 @@
 use Rattle.std.proofs.Common.{◌≡◌, ◌∷◌, [], refl}
 use Rattle.std.specs.Prelude.{codes, None, Some, true, false}
 use Rattle.sv_base.specs.declared.value.Value.TheVariants as values
-use Rattle.bay_model.specs.declared.components.Comp.TheVariants as comps
+use Rattle.sv_base.specs.declared.components.Comp.TheVariants as comps
 use Rattle.record_steps.specs.Shapes.{marked_at, shape_at}
 
 -- values by their shapes

@@ -4,7 +4,7 @@ use Rattle.std.specs.Prelude.{◌==◌, Option, None, Some, Ok}
 use Rattle.std.proofs.lemmas.Bool.{eq-eqb}
 use Rattle.sv_base.specs.declared.numbers.AssocNo.{AssocNo}
 use Rattle.sv_base.specs.declared.value.Value.{Value}
-use Rattle.bay_model.specs.declared.components.Comp.{Comp}
+use Rattle.sv_base.specs.declared.components.Comp.{Comp}
 use Rattle.bay_model.specs.declared.note.Mention.{Mention}
 use Rattle.bay_model.specs.declared.tables.MemberShape.{MemberShape}
 use Rattle.bay_model.specs.Points.{Deed, wrote}

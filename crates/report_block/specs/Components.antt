@@ -2,7 +2,7 @@
 use Rattle.std.specs.Prelude.{ℕ, [], ◌||◌, Option, Some, Result, Ok, Err, List, ◌++◌, if◌then◌else◌}
 use Rattle.sv_base.specs.declared.numbers.AssocNo.{AssocNo}
 use Rattle.sv_base.specs.declared.value.Value.{Value}
-use Rattle.bay_model.specs.declared.components.Comp.{Comp}
+use Rattle.sv_base.specs.declared.components.Comp.{Comp}
 use Rattle.brcb_state.specs.Changes.{written}
 use Rattle.brcb_state.specs.Standing.{is_purging, is_change, is_general}
 use Rattle.brcb_state.specs.declared.told.Effect.{Effect}

@@ -3,7 +3,7 @@
 use Rattle.std.specs.Prelude.{ℕ, suc, Bool, true, false, ◌&&◌, nat_lt, nat_le, Option, None, Some, if◌then◌else◌}
 use Rattle.std.specs.Option.{option_and_then}
 use Rattle.sv_base.specs.declared.value.Value.{Value}
-use Rattle.bay_model.specs.declared.components.Comp.{Comp}
+use Rattle.sv_base.specs.declared.components.Comp.{Comp}
 use Rattle.bay_model.specs.Entries.{last_number}
 use Rattle.brcb_state.specs.Components.{read_of}
 use Rattle.entry_ring.specs.Ringed.{Ringed}

@@ -3,8 +3,8 @@ use Rattle.std.specs.Prelude.{ℕ, ◌-◌, nat_lt, [], Option, Some, is_some, R
 use Rattle.std.specs.Option.{option_map}
 use Rattle.sv_base.specs.declared.numbers.AssocNo.{AssocNo}
 use Rattle.sv_base.specs.declared.value.Value.{Value}
-use Rattle.bay_model.specs.declared.components.Comp.{Comp}
-use Rattle.bay_model.specs.declared.components.Comp.TheVariants as comps
+use Rattle.sv_base.specs.declared.components.Comp.{Comp}
+use Rattle.sv_base.specs.declared.components.Comp.TheVariants as comps
 use Rattle.brcb_state.specs.Changes.{after_report, after_loss}
 use Rattle.brcb_state.specs.Refusals.{answer_to, names_nothing}
 use Rattle.brcb_state.specs.Standing.{is_purging, is_change}

@@ -273,7 +273,7 @@ fn tell(line: &[u8]) -> Result<LineView<'_>, Kind>
     }
 }
 
-/// The line is longer than any, or has an octet that none has.
+/// The line is longer than any, so than 140,100 octets, or has an octet that none has: any but 20 to 7E.
 pub fn is_long(line: &[u8]) -> bool
     ensures { result ≡ is_long_text line.now }
 {

@@ -13,14 +13,20 @@ use setting_groups::Groups;
 use std::alloc::{AllocError, Global};
 use std::test::*;
 use sv_base::{
-    AssocNo, AttrDef, AttrDefs, AttrId, BlockDefs, Config, CtlDefs, LnDefs, Moment, Octs, SetDefs,
-    SgDef, SgDefs, TypeOf, Value, Values,
+    AssocNo, AttrDef, AttrDefs, AttrId, BlockDefs, Config, CtlDefs, Few, FirstValues, LnDefs,
+    Moment, Octs, SetDefs, SgDef, SgDefs, SharedOcts, ShortOcts, TypeOf, Value,
 };
 
 fn octs(alloc: Global, octets: &[u8]) -> Result<Octs, AllocError>
     ensures { IfOk result (λ o. o ≡ octets.now) }
 {
     Ok(Octs::from_vec(octets.to_vec(alloc)?))
+}
+
+fn shared(alloc: Global, octets: &[u8]) -> Result<SharedOcts, AllocError>
+    ensures { IfOk result (λ o. o ≡ octets.now) }
+{
+    SharedOcts::new(alloc, octs(alloc, octets)?)
 }
 
 /// The values of three groups.
@@ -38,15 +44,15 @@ fn attr(alloc: Global) -> Result<AttrDef, AllocError>
 {
     Ok(AttrDef {
         line: 5,
-        domain: octs(alloc, b"BAY1")?,
-        ln: octs(alloc, b"PTOC1")?,
-        fc: octs(alloc, b"SG")?,
-        path: octs(alloc, b"StrVal$setMag")?,
+        domain: shared(alloc, b"BAY1")?,
+        ln: shared(alloc, b"PTOC1")?,
+        fc: ShortOcts::from_slice(alloc, b"SG")?,
+        path: ShortOcts::from_slice(alloc, b"StrVal$setMag")?,
         kind: TypeOf::Int(32),
         dchg: true,
         qchg: false,
         dupd: false,
-        values: Values::from_vec(values(alloc)?),
+        values: FirstValues::new(Few::many(values(alloc)?)),
     })
 }
 

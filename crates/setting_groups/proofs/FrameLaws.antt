@@ -9,8 +9,8 @@ use Rattle.sv_base.specs.declared.config.Config.{Config}
 use Rattle.sv_base.specs.declared.value.Value.{Value}
 use Rattle.bay_rooms.specs.Kinds.{Kind, is_kind, is_in_range}
 use Rattle.bay_rooms.specs.Slots.{Held}
-use Rattle.bay_model.specs.declared.components.SettingComp.{SettingComp}
-use Rattle.bay_model.specs.declared.components.SettingComp.TheVariants.{NumOfSG, ActSG, EditSG, CnfEdit, LActTm}
+use Rattle.sv_base.specs.declared.components.SettingComp.{SettingComp}
+use Rattle.sv_base.specs.declared.components.SettingComp.TheVariants.{NumOfSG, ActSG, EditSG, CnfEdit, LActTm}
 use Rattle.bay_model.specs.declared.step.Setting.{Setting}
 use Rattle.list_laws.proofs.Places.{at_set, at-or}
 use Rattle.setting_groups.specs.Frames.{Frame, frame, count_in, Holds, IsFit, ArePut, AreHeldOnce}

@@ -1,7 +1,8 @@
 //! A configuration: what a server is made of (IEC 61850-7-2, the information model).
 
 use crate::{
-    AttrDefs, Bits, BlockDefs, CtlDefs, LnDefs, Octs, OctsList, SetDefs, SgDefs, TypeOf, Values,
+    AttrDefs, Bits, BlockDefs, CtlDefs, FirstValues, LnDefs, Octs, OctsList, SetDefs, SgDefs,
+    SharedOcts, ShortOcts, TypeOf,
 };
 
 /// What a server is made of: the identity that it tells, and the objects of its domains (logical devices of IEC
@@ -37,20 +38,20 @@ pub struct AttrDef {
     /// The number of its line, counted from 1.
     pub line: u32,
     /// The name of its domain.
-    pub domain: Octs,
+    pub domain: SharedOcts,
     /// The name of its logical node.
-    pub ln: Octs,
+    pub ln: SharedOcts,
     /// Its functional constraint, two letters.
-    pub fc: Octs,
+    pub fc: ShortOcts,
     /// The names from the data object down to it, joined by `$`.
-    pub path: Octs,
+    pub path: ShortOcts,
     pub kind: TypeOf,
     /// The trigger options: a change of the data, of the quality, an update.
     pub dchg: bool,
     pub qchg: bool,
     pub dupd: bool,
     /// Its first value; under the functional constraint SG the value of each group.
-    pub values: Values,
+    pub values: FirstValues,
 }
 
 /// A configured data set (IEC 61850-7-2, DATA-SET).

@@ -1,6 +1,6 @@
 //! The types of attributes, of components and of structures of these (ISO 9506-2, TypeSpecification).
 
-use crate::Octs;
+use crate::ShortOcts;
 use std::alloc::{AllocError, Global};
 use std::marker::Model;
 use std::sync::Arc;
@@ -31,7 +31,7 @@ pub enum TypeOf {
 #[derive(Debug, Drop)]
 #[cycle(types)]
 pub struct Part1 {
-    pub name: Octs,
+    pub name: ShortOcts,
     pub kind: TypeOf,
 }
 

@@ -9,13 +9,13 @@ use Rattle.std.proofs.lemmas.List.{append_cancel_left}
 use Rattle.list_laws.proofs.Distinct.{octets_same}
 use Rattle.sv_base.specs.declared.config.Config.{Config}
 use Rattle.sv_base.specs.declared.types.TypeOf.{TypeOf}
-use Rattle.bay_model.specs.declared.components.Comp.{Comp}
-use Rattle.bay_model.specs.declared.components.Comp.TheVariants as comps
-use Rattle.bay_model.specs.declared.components.SettingComp.{SettingComp}
-use Rattle.bay_model.specs.declared.components.SettingComp.TheVariants as settings
+use Rattle.sv_base.specs.declared.components.Comp.{Comp}
+use Rattle.sv_base.specs.declared.components.Comp.TheVariants as comps
+use Rattle.sv_base.specs.declared.components.SettingComp.{SettingComp}
+use Rattle.sv_base.specs.declared.components.SettingComp.TheVariants as settings
 use Rattle.bay_model.specs.Model.{Node, structure, none, several}
 use Rattle.bay_model.specs.Attributes.{attributes}
-use Rattle.bay_model.specs.ComponentTable.{comp_name, setting_comp_name}
+use Rattle.sv_base.specs.ComponentTable.{comp_name, setting_comp_name}
 use Rattle.bay_model.specs.Generated.{Named}
 use Rattle.bay_model.specs.Lookups.{node_of}
 use Rattle.bay_model.specs.NamedLines as named

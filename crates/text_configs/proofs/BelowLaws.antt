@@ -13,7 +13,7 @@ use Rattle.bay_model.specs.Attributes.{attributes, attrs_defined, attrs_generate
 use Rattle.bay_model.specs.Model.{attribute, reported}
 use Rattle.bay_rooms.specs.Kinds.{kind_of}
 use Rattle.bay_model.specs.Generated.{Named, Parameter, parameters, end_named}
-use Rattle.bay_model.specs.ComponentTable.{comp_name, setting_comp_name}
+use Rattle.sv_base.specs.ComponentTable.{comp_name, setting_comp_name}
 use Rattle.bay_model.specs.NamedLines.{path_item, domain_number}
 use Rattle.bay_model.specs.NamedLines as named
 use Rattle.bay_model.specs.NameTree.{first_name, rest_of, is_itself, below}

@@ -1,11 +1,12 @@
 -- What a control names under CO stands below its path, and isn't long.
-use Rattle.std.proofs.Common.{◌≡◌, ℕ, ◌≤◌, ◌==◌, Bool, true, false, List, [], ◌∷◌, ◌++◌, length, refl, ◌∙◌, arith, append_assoc, length-append, if◌then◌else◌}
+use Rattle.std.proofs.Common.{◌≡◌, ℕ, ◌≤◌, ◌==◌, Bool, true, false, List, [], ◌∷◌, ◌++◌, map, length, refl, ◌∙◌, arith, append_assoc, length-append, if◌then◌else◌}
 use Rattle.std.specs.Prelude.{codes}
 use Rattle.sv_base.specs.declared.config.CtlDef.{CtlDef}
 use Rattle.sv_base.specs.declared.types.TypeOf.{TypeOf}
 use Rattle.sv_base.specs.declared.types.TypeOf.TheVariants as types
+use Rattle.sv_base.specs.CallParts.{command_parts}
 use Rattle.bay_model.specs.Model.{Call, select, operate, cancel, selecting, calling}
-use Rattle.bay_model.specs.Generated.{Named, within, structure_named, value_names, number_names, check_names, command_names, is_selected, sbo_names, sbow_names, oper_names, cancel_names, control_names}
+use Rattle.bay_model.specs.Generated.{Named, within, structure_named, part_named, parts_of_call, command_names, is_selected, sbo_names, sbow_names, oper_names, cancel_names, control_names}
 use Rattle.list_laws.proofs.Among.{Among, Each, of-each, each-both}
 
 pub record IsWithin (item : List ℕ) (n : Named) : Type 0 where
@@ -20,23 +21,34 @@ module _ (k : ℕ) (kind : TypeOf) (item name : List ℕ) (few : length name ≤
   own : (call : Call) → IsWithin item (structure_named (within item name) (calling k call))
   own call = record { more = name; is = refl; short = omega (arith, few) }
 
-  values-within : Each (IsWithin item) (value_names kind (within item name))
-  values-within = (part _ (codes "ctlVal") refl (omega arith), (part _ (codes "origin$orCat") refl (omega arith), (part _ (codes "origin$orIdent") refl (omega arith), tt)))
-
-  numbers-within : Each (IsWithin item) (number_names (within item name))
-  numbers-within = (part _ (codes "ctlNum") refl (omega arith), (part _ (codes "T") refl (omega arith), (part _ (codes "Test") refl (omega arith), tt)))
-
-  check-within : (call : Call) → Each (IsWithin item) (check_names call (within item name))
-  check-within cancel = tt
-  check-within select = (part _ (codes "Check") refl (omega arith), tt)
-  check-within operate = (part _ (codes "Check") refl (omega arith), tt)
-
   command-parts : (call : Call) → Each (IsWithin item) (command_names k kind (within item name) call)
-  command-parts call = (
-    own call,
-    each-both (IsWithin item) (value_names kind (within item name)) (number_names (within item name) ++ check_names call (within item name)) values-within
-        (each-both (IsWithin item) (number_names (within item name)) (check_names call (within item name)) numbers-within (check-within call)),
-  )
+  command-parts call = (own call, by call)
+    where
+      with-check : Each (IsWithin item) (map (part_named kind (within item name)) command_parts)
+      with-check = (
+        part _ (codes "ctlVal") refl (omega arith),
+        (
+          part _ (codes "origin$orCat") refl (omega arith),
+          (
+            part _ (codes "origin$orIdent") refl (omega arith),
+            (part _ (codes "ctlNum") refl (omega arith), (part _ (codes "T") refl (omega arith), (part _ (codes "Test") refl (omega arith), (part _ (codes "Check") refl (omega arith), tt)))),
+          ),
+        ),
+      )
+
+      by : (call : Call) → Each (IsWithin item) (map (part_named kind (within item name)) (parts_of_call call))
+      by select = with-check
+      by operate = with-check
+      by cancel = (
+        part _ (codes "ctlVal") refl (omega arith),
+        (
+          part _ (codes "origin$orCat") refl (omega arith),
+          (
+            part _ (codes "origin$orIdent") refl (omega arith),
+            (part _ (codes "ctlNum") refl (omega arith), (part _ (codes "T") refl (omega arith), (part _ (codes "Test") refl (omega arith), tt))),
+          ),
+        ),
+      )
 
 either-way : (item : List ℕ) (b : Bool) (ns : List Named) → Each (IsWithin item) ns → Each (IsWithin item) (if b then ns else [])
 either-way item true ns h = h

@@ -10,12 +10,11 @@ use Rattle.sv_base.specs.declared.config.AttrDef.{AttrDef}
 use Rattle.sv_base.specs.declared.config.BlockDef.{BlockDef}
 use Rattle.sv_base.specs.declared.config.CtlDef.{CtlDef}
 use Rattle.sv_base.specs.declared.config.SgDef.{SgDef}
-use Rattle.bay_model.specs.declared.components.Comp.{Comp}
-use Rattle.bay_model.specs.declared.components.SettingComp.{SettingComp}
+use Rattle.sv_base.specs.declared.components.Comp.{Comp}
+use Rattle.sv_base.specs.declared.components.SettingComp.{SettingComp}
 use Rattle.bay_model.specs.Model.{attribute, several, component}
 use Rattle.bay_model.specs.Generated.{Named, Parameter, within, end_named, structure_named, setting_named, control_names, parameters, parameter_names}
-use Rattle.bay_model.specs.ComponentTable.{comp_name, components, comp_kind, setting_components}
-use Rattle.bay_rooms.specs.Kinds.{type_of}
+use Rattle.sv_base.specs.ComponentTable.{comp_name, components, setting_components, comp_type}
 use Rattle.bay_model.specs.NamedLines.{Line, is_setting, path_item, attribute_names, attribute_line, attribute_lines, node_line, block_line, block_lines, control_line, control_lines, group_line, domain_number, generated, lines, insert_line, in_order, names_in}
 use Rattle.bay_model.specs.NameTree.{longest}
 use Rattle.list_laws.proofs.Among.{Among, At, at-among, at-left, at-map, left, right, either, source, kept, passed, spread, gathered}
@@ -200,7 +199,7 @@ pub record IsComponentName (c : Config) (n : Named) : Type 0 where
   pub part : Comp
   pub at : ℕ
   pub there : Among block c.blocks
-  pub is : n ≡ end_named (within (path_item block.ln (codes "BR") block.name) (comp_name part)) (component at part) (type_of (comp_kind part))
+  pub is : n ≡ end_named (within (path_item block.ln (codes "BR") block.name) (comp_name part)) (component at part) (comp_type part)
 
 -- the edit copy of an attribute under SG
 pub record IsTwinName (c : Config) (n : Named) : Type 0 where
@@ -254,7 +253,7 @@ module _ (c : Config) where
       by (inr e) = inr (inr (inr (inl (record { attr = h.attr; twin = h.twin; there = at-among h.at h.attr c.attrs h.there; setting = e.0; is = e.1 }))))
 
   of-block : (domain : List ℕ) (l : Line) (n : Named) → (d : BlockDef) × (k : ℕ) × Among d c.blocks × (l ≡ block_line k d) → Among n l.names → Is domain n
-  of-block domain l n h j = let s = source (λ k. end_named (within (path_item h.0.ln (codes "BR") h.0.name) (comp_name k)) (component h.1 k) (type_of (comp_kind k))) n components (subst (λ (x : Line). Among n x.names) h.3 j) in
+  of-block domain l n h j = let s = source (λ k. end_named (within (path_item h.0.ln (codes "BR") h.0.name) (comp_name k)) (component h.1 k) (comp_type k)) n components (subst (λ (x : Line). Among n x.names) h.3 j) in
       inr (inr (inl (record { block = h.0; part = s.0; at = h.1; there = h.2; is = s.2 })))
 
   of-control : (domain : List ℕ) (l : Line) (n : Named) → IsControlLine c.controls (length c.attrs) l → l.domain ≡ domain → Among n l.names → Is domain n

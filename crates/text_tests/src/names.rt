@@ -10,10 +10,16 @@ use cfg_text::read_config;
 use object_model::{Model, domains};
 use std::alloc::{AllocError, Global};
 use std::test::*;
-use sv_base::{AssocNo, AttrDef, AttrDefs, Config, Octs, TypeOf, Values};
+use sv_base::{
+    AssocNo, AttrDef, AttrDefs, Config, Few, FirstValues, Octs, SharedOcts, ShortOcts, TypeOf,
+};
 
 fn octs(alloc: Global, octets: &[u8]) -> Result<Octs, AllocError> {
     Ok(Octs::from_vec(octets.to_vec(alloc)?))
+}
+
+fn shared(alloc: Global, octets: &[u8]) -> Result<SharedOcts, AllocError> {
+    SharedOcts::new(alloc, octs(alloc, octets)?)
 }
 
 /// An attribute at a place: domain, logical node, functional constraint and path.
@@ -30,15 +36,15 @@ fn attr(
     let [domain, ln, fc, path] = place;
     Ok(AttrDef {
         line,
-        domain: octs(alloc, domain)?,
-        ln: octs(alloc, ln)?,
-        fc: octs(alloc, fc)?,
-        path: octs(alloc, path)?,
+        domain: shared(alloc, domain)?,
+        ln: shared(alloc, ln)?,
+        fc: ShortOcts::from_slice(alloc, fc)?,
+        path: ShortOcts::from_slice(alloc, path)?,
         kind,
         dchg: true,
         qchg: false,
         dupd,
-        values: Values::from_vec(Vec::new(alloc)),
+        values: FirstValues::new(Few::many(Vec::new(alloc))),
     })
 }
 

@@ -10,7 +10,7 @@ ghost use Rattle.text_words.specs.Numbers.{number_within, greatest};
 use crate::numbers::{int, number_between};
 use hex::FromHexError;
 use std::alloc::{AllocError, Global};
-use sv_base::{Bits, Octs, TypeOf, Utc, Value};
+use sv_base::{Bits, Few, Octs, TypeOf, Utc, Value};
 
 /// These octets, on the heap.
 pub fn owned(alloc: Global, octets: &[u8]) -> Result<Octs, AllocError>
@@ -193,12 +193,8 @@ pub fn value(alloc: Global, kind: &TypeOf, word: &[u8]) -> Result<Option<Value>,
     Ok(read)
 }
 
-/// The values that words spell, if each does.
-pub fn values_of(
-    alloc: Global,
-    kind: &TypeOf,
-    words: &[&[u8]],
-) -> Result<Option<Vec<Value>>, AllocError>
+/// The values that words spell, in a vector, if each does.
+fn listed(alloc: Global, kind: &TypeOf, words: &[&[u8]]) -> Result<Option<Vec<Value>>, AllocError>
     ensures { IfOk result (λ r. option_values r ≡ values_at kind.now (texts words.now)) }
 {
     let mut values = Vec::with_capacity(alloc, words.len())?;
@@ -209,4 +205,24 @@ pub fn values_of(
         }
     }
     Ok(Some(values))
+}
+
+/// The values that words spell, if each does. That of one word takes no memory besides its own.
+pub fn values_of(
+    alloc: Global,
+    kind: &TypeOf,
+    words: &[&[u8]],
+) -> Result<Option<Few<Value>>, AllocError>
+    ensures { IfOk result (λ r. r ≡ values_at kind.now (texts words.now)) }
+{
+    if let [word] = words {
+        return match value(alloc, kind, word)? {
+            Some(value) => Ok(Some(Few::one(value))),
+            None => Ok(None),
+        };
+    }
+    match listed(alloc, kind, words)? {
+        Some(values) => Ok(Some(Few::many(values))),
+        None => Ok(None),
+    }
 }

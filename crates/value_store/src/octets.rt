@@ -8,7 +8,7 @@ ghost use Rattle.sv_base.specs.declared.value.Value.TheVariants as values;
 
 use bay_model::{Fixed, ValueRef};
 use ber_write::{length_parts, unsigned};
-use mms_data::{stamp_octets, time_octets};
+use mms_data::{stamp_octets, tags, time_octets};
 use sv_base::shortest;
 
 /// The octets of a length.
@@ -33,7 +33,7 @@ pub(crate) fn put_head(out: &mut Fixed, at: usize)
     let octets = content.to_be_bytes();
     let (first, more) = length_parts(content, &octets);
     out.insert(at, more);
-    out.insert(at, &[0xa2, first]);
+    out.insert(at, &[tags::STRUCTURE as u8, first]);
 }
 
 /// The tag of an element, and the length of its content.
@@ -98,7 +98,7 @@ fn put_bits(out: &mut Fixed, bits: &[bool])
     requires room { length out.old.items + length (data_of (values.Bits bits.now)) ≤ out.old.room }
     ensures { out.new ≡ adds out.old (data_of (values.Bits bits.now)) }
 {
-    out.push(&[0x84]);
+    out.push(&[tags::BIT_STRING as u8]);
     put_length(out, bits_len(bits));
     out.push(&[((8 - bits.len() % 8) % 8) as u8]);
     put_packed(out, 128, 0, bits);
@@ -111,13 +111,13 @@ pub(crate) fn put_value(out: &mut Fixed, value: ValueRef<'_>)
     ensures { out.new ≡ adds out.old (data_of (lent value.entry)) }
 {
     match value {
-        ValueRef::Bool(b) => out.push(&[0x83, 1, if b { 255 } else { 0 }]),
-        ValueRef::Int(z) => put_element(out, 0x85, shortest(&z.to_be_bytes())),
-        ValueRef::Uint(n) => put_element(out, 0x86, shortest(&unsigned(n))),
+        ValueRef::Bool(b) => out.push(&[tags::BOOLEAN as u8, 1, if b { 255 } else { 0 }]),
+        ValueRef::Int(z) => put_element(out, tags::INTEGER as u8, shortest(&z.to_be_bytes())),
+        ValueRef::Uint(n) => put_element(out, tags::UNSIGNED as u8, shortest(&unsigned(n))),
         ValueRef::Bits(bits) => put_bits(out, bits),
-        ValueRef::Time(time) => put_element(out, 0x91, &time_octets(time)),
-        ValueRef::Stamp(stamp) => put_element(out, 0x8c, &stamp_octets(stamp)),
-        ValueRef::Text(text) => put_element(out, 0x8a, text),
-        ValueRef::Octets(octets) => put_element(out, 0x89, octets),
+        ValueRef::Time(time) => put_element(out, tags::UTC_TIME as u8, &time_octets(time)),
+        ValueRef::Stamp(stamp) => put_element(out, tags::BINARY_TIME as u8, &stamp_octets(stamp)),
+        ValueRef::Text(text) => put_element(out, tags::VISIBLE_STRING as u8, text),
+        ValueRef::Octets(octets) => put_element(out, tags::OCTET_STRING as u8, octets),
     }
 }

@@ -15,7 +15,7 @@ ghost use Rattle.value_store.specs.Stored.{stored};
 use crate::store::{Cell, Store};
 use bay_model::Slot;
 use std::alloc::{AllocError, Global};
-use sv_base::{AttrDef, Config, CtlDef, SgDef, TypeOf, Value};
+use sv_base::{AttrDef, Config, CtlDef, CtlParameter, SgDef, TypeOf, Value};
 
 /// Adds an attribute.
 fn push(
@@ -124,9 +124,15 @@ fn push_selection(alloc: Global, cells: &mut Vec<Cell>, control: &CtlDef) -> Res
     ensures { OnOk result (map stored cells.new.items ≡ map stored cells.old.items ++ map stored_parameter (selection control.now)) }
 {
     let timeout = Value::Uint(u64::from(control.timeout));
-    push(alloc, cells, &TypeOf::Uint(32), &timeout, false)?;
+    push(
+        alloc,
+        cells,
+        &CtlParameter::SboTimeout.kind(),
+        &timeout,
+        false,
+    )?;
     let class = Value::Int(i64::from(control.class));
-    push(alloc, cells, &TypeOf::Int(8), &class, false)?;
+    push(alloc, cells, &CtlParameter::SboClass.kind(), &class, false)?;
     Ok(())
 }
 
@@ -136,7 +142,7 @@ fn push_parameters(alloc: Global, cells: &mut Vec<Cell>, control: &CtlDef) -> Re
     ensures { OnOk result (map stored cells.new.items ≡ map stored cells.old.items ++ stored_control control.now) }
 {
     let model = Value::Int(i64::from(control.model));
-    push(alloc, cells, &TypeOf::Int(8), &model, false)?;
+    push(alloc, cells, &CtlParameter::CtlModel.kind(), &model, false)?;
     if control.model == 2 || control.model == 4 {
         push_selection(alloc, cells, control)?;
     }

@@ -7,8 +7,8 @@ use Rattle.std.proofs.lemmas.Slice.Eq.{bytes_eq-Decides}
 use Rattle.sv_base.specs.Same.{is_same_bit, is_same_bits}
 use Rattle.sv_base.specs.declared.value.Value.{Value}
 use Rattle.sv_base.specs.declared.value.Value.TheVariants as kinds
-use Rattle.bay_model.specs.declared.components.Comp.{Comp}
-use Rattle.bay_model.specs.declared.components.Comp.TheVariants as comps
+use Rattle.sv_base.specs.declared.components.Comp.{Comp}
+use Rattle.sv_base.specs.declared.components.Comp.TheVariants as comps
 use Rattle.bay_model.specs.Model.{Model, Parameters}
 use Rattle.bay_model.specs.Points.{Deed, valued, put, activated, confirmed, wrote, Past}
 use Rattle.bay_model.specs.Parameters.{parameters_at, written_to, is_changed_by, is_purging_change, is_purge, purges, is_interrogation}

@@ -1,7 +1,7 @@
-use Rattle.std.proofs.Common.{◌≡◌, ◌++◌, take}
-use Rattle.text_words.specs.Words.{texts}
+use Rattle.std.proofs.Common.{◌≡◌, ◌++◌, map, take}
+use Rattle.sv_base.specs.CallParts.{part_name}
 use Rattle.cfg_lines.specs.Nodes.{all_below}
 use Rattle.cfg_nodes.proofs.closed.push_parts.Given as goal
 
 abbrev pub invariant-loop-part : goal.invariant-loop-part
-invariant-loop-part l = l.names.items ≡ l.initial.names.items ++ all_below l.front (texts (take l.part-index l.parts))
+invariant-loop-part l = l.names.items ≡ l.initial.names.items ++ all_below l.front (map part_name (take l.part-index l.parts))

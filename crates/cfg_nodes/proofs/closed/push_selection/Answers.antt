@@ -1,7 +1,7 @@
-use Rattle.std.proofs.Common.{◌++◌, ap, ◌∙◌, append_assoc}
+use Rattle.std.proofs.Common.{◌++◌, map, ap, ◌∙◌, append_assoc}
 use Rattle.std.specs.Prelude.{codes}
 use Rattle.cfg_lines.specs.Paths.{below}
-use Rattle.text_words.specs.Words.{texts}
+use Rattle.sv_base.specs.CallParts.{part_name}
 use Rattle.cfg_lines.specs.Nodes.{with_parts, operation_parts}
 use Rattle.cfg_nodes.proofs.closed.push_selection.Goals as goal
 
@@ -9,4 +9,4 @@ pub returns : goal.returns
 returns c =
     let cancel = with_parts (below c.args.front.now (codes "Cancel")) (operation_parts (codes "Cancel")) in
     c.in_ok-push_operation-2.ensures ∙ (ap (λ l. l ++ cancel) c.in_ok-push_operation.ensures
-    ∙ append_assoc c.args.names.now.items (with_parts (below c.args.front.now c.args.select.now) (texts c.args.parts.now)) cancel)
+    ∙ append_assoc c.args.names.now.items (with_parts (below c.args.front.now c.args.select.now) (map part_name c.args.parts.now)) cancel)

@@ -11,7 +11,7 @@ returns-in-Err c = refused-at c.in-Err.fault (told_at c.loop-line.reading (piece
 
 pub loop-line-preserved : goal.loop-line-preserved
 loop-line-preserved c = c.loop-line.invariant
-    ∙ told-next c.loop-line.reading c.in-Ok.next c.loop-line.rest.now c.in-Some.line.now c.in-Some.after.now c.in-Some.ensures.cut.0 c.in-Some.ensures.cut.1 c.in-Ok.ensures
+    ∙ told-next c.loop-line.reading c.read_line.new.reading c.loop-line.rest.now c.in-Some.line.now c.in-Some.after.now c.in-Some.ensures.cut.0 c.in-Some.ensures.cut.1 c.in-Ok.ensures
 
 pub returns : goal.returns
 unfolding lines_at

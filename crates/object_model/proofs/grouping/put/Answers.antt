@@ -9,7 +9,7 @@ push_into-requires c = (put-at c.args.groups.now.items c.args.name.now c.args.cu
 
 pub returns-in_ok-push_into-in-Some-clause-placed : goal.returns-in_ok-push_into-in-Some-clause-placed
 returns-in_ok-push_into-in-Some-clause-placed c = let none : Group = record { name = []; names = [] } in
-    λ other. c.requires other ∙ ap (λ l. number_in (take (length l - 1) l) other) (sym (ap (map group_name) (c.in_ok-push_into-in-Some.ensures none) ∙ names-stay c.args.groups.now.items c.args.cut c.in-Some.place none))
+    λ other. c.requires.placed other ∙ ap (λ l. number_in (take (length l - 1) l) other) (sym (ap (map group_name) (c.in_ok-push_into-in-Some.ensures none) ∙ names-stay c.args.groups.now.items c.args.cut c.in-Some.place none))
 
 pub returns-in_ok-push_into-in-Some-clause-groups : goal.returns-in_ok-push_into-in-Some-clause-groups
 returns-in_ok-push_into-in-Some-clause-groups c = let none : Group = record { name = []; names = [] } in

@@ -4,7 +4,7 @@ use Rattle.object_model.proofs.ListingLaws.{listed-next, listed-none}
 use Rattle.object_model.proofs.listing.list.Goals as goal
 
 pub loop-domain-init : goal.loop-domain-init
-loop-domain-init c = listed-none c.args.config.now _ c.new.ensures.items c.new-2.ensures.items c.new-3.ensures.items c.new-4.ensures.items c.new-5.ensures.items
+loop-domain-init c = listed-none c.args.config.now _ c.in_ok-listing.ensures.rows c.in_ok-listing.ensures.names c.in_ok-listing.ensures.directories c.in_ok-listing.ensures.stands c.in_ok-listing.ensures.leaves
 
 pub loop-domain-preserved : goal.loop-domain-preserved
 loop-domain-preserved c = listed-next c.args.config.now c.args.domains.now c.args.lines.now c.loop-domain.domain-index c.as_slice.result.now c.domain-item.result c.loop-domain.listing _ c.requires.domains c.requires.lines c.loop-domain-test.true c.domain-item.is c.as_slice.ensures c.loop-domain.invariant c.in_ok-push_domain.ensures

@@ -1,9 +1,0 @@
-use Rattle.std.proofs.Common.{◌≡◌, map, take}
-use Rattle.object_model.specs.Groups.{groups, group_name, PlacesFront}
-use Rattle.object_model.proofs.grouping.groups_of.Given as goal
-
-abbrev pub invariant-loop-cut : goal.invariant-loop-cut
-invariant-loop-cut l = record {
-  placed : PlacesFront l.places (map group_name l.groups.items);
-  groups : l.groups.items ≡ groups (take l.cut-index l.cuts);
-}

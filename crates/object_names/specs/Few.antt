@@ -1,8 +1,0 @@
--- What is in a list of few.
-use Rattle.std.specs.Prelude.{List}
-use Rattle.object_names.specs.declared.few.Items.{Items}
-use Rattle.object_names.specs.declared.few.Items.TheVariants as lists
-
-abbrev pub few_items : {T : Type 0} → Items T → List T
-few_items (lists.One xs) = xs
-few_items (lists.Many xs) = xs.items
