@@ -7,24 +7,15 @@ use Rattle.sv_base.specs.declared.config.Config.{Config}
 use Rattle.sv_base.specs.declared.value.Value.{Value}
 use Rattle.object_names.specs.declared.named.What.{What}
 use Rattle.object_names.specs.declared.named.What.TheVariants as whats
-use Rattle.object_names.specs.declared.named.Call.{Call as Node}
-use Rattle.object_names.specs.declared.named.Call.TheVariants as nodes
-use Rattle.object_names.specs.Seen.{call_seen as role_call, role_seen}
+use Rattle.object_names.specs.Seen.{role_seen}
 use Rattle.bay_model.specs.declared.control.ApplError.{ApplError}
 use Rattle.bay_model.specs.Configured.{control_defined}
 use Rattle.bay_model.specs.Lookups.{control_of, node_of}
 use Rattle.bay_model.specs.Model.{Call, Control, Role, single, selecting, calling, several}
 use Rattle.bay_model.specs.Named.{configured_model}
-use Rattle.control_core.specs.Commands.{call_in}
 use Rattle.control_core.specs.Tables.{no_control}
 use Rattle.bay_queues.specs.Calling.{blame_in, blame_of}
-use Rattle.bay_core.specs.Commanded.{IsNoCommand, blame_at, blame_by, call_seen}
-
--- a call of the code is one of the model
-pub calls-same : (call : Node) → call_in (call_seen call) ≡ role_call call
-calls-same nodes.Select = refl
-calls-same nodes.Operate = refl
-calls-same nodes.Cancel = refl
+use Rattle.bay_core.specs.Commanded.{IsNoCommand, blame_at, blame_by}
 
 control-at : (cs : List Control) (k : ℕ) → slice_index_or cs k no_control ≡ unwrap_or (slice_get cs k) no_control
 control-at [] k = refl
@@ -33,13 +24,13 @@ control-at (c ∷ cs) (suc k) = control-at cs k
 
 module _ (c : Config) (n : ℕ) (v : Value) where
   -- the blame of a command
-  pub blame-told : (k : ℕ) (call : Node) → role_seen (whats.Calling k call) ≡ (node_of (configured_model c) n).role → blame_in (map control_defined c.controls) k (call_in (call_seen call)) v ≡ blame_at c n v
+  pub blame-told : (k : ℕ) (call : Call) → role_seen (whats.Calling k call) ≡ (node_of (configured_model c) n).role → blame_in (map control_defined c.controls) k call v ≡ blame_at c n v
   blame-told k call role =
-      ap (λ (q : Control). blame_of q (call_in (call_seen call)) v) (control-at (map control_defined c.controls) k)
-      ∙ (ap (λ (q : Call). blame_of (control_of (configured_model c) k) q v) (calls-same call) ∙ ap (λ (r : Role). blame_by c r v) role)
+      ap (λ (q : Control). blame_of q call v) (control-at (map control_defined c.controls) k)
+      ∙ ap (λ (r : Role). blame_by c r v) role
 
 -- what isn't one has none
-plain-role : (w : What) → ((k : ℕ) (call : Node) → w ≡ whats.Calling k call → ⊥) → IsNoCommand (role_seen w)
+plain-role : (w : What) → ((k : ℕ) (call : Call) → w ≡ whats.Calling k call → ⊥) → IsNoCommand (role_seen w)
 plain-role (whats.Calling k call) none = absurd (none k call refl)
 plain-role (whats.Selecting k) none = tt
 plain-role (whats.Attribute x) none = tt
@@ -48,7 +39,7 @@ plain-role (whats.Setting d part) none = tt
 plain-role whats.Withheld none = tt
 plain-role whats.Structure none = tt
 
-pub role-plain : (w : What) (r : Role) → ((k : ℕ) (call : Node) → w ≡ whats.Calling k call → ⊥) → role_seen w ≡ r → IsNoCommand r
+pub role-plain : (w : What) (r : Role) → ((k : ℕ) (call : Call) → w ≡ whats.Calling k call → ⊥) → role_seen w ≡ r → IsNoCommand r
 role-plain w r none is = subst IsNoCommand is (plain-role w none)
 
 pub no-blame : (c : Config) (v : Value) (r : Role) → IsNoCommand r → None ≡ blame_by c r v

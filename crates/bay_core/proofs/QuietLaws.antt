@@ -9,7 +9,8 @@ use Rattle.data_sets.specs.Books.{Book}
 use Rattle.value_store.specs.Stored.{Stored}
 use Rattle.report_block.specs.declared.block.ReportBlock.{ReportBlock}
 use Rattle.report_block.specs.Alls.{all_pieces, for_integrity}
-use Rattle.report_block.specs.Due.{due_at, earliest, IsBefore}
+use Rattle.window_core.specs.Windows.{end_of}
+use Rattle.report_block.specs.Due.{due_at, earliest, next_integrity, IsBefore}
 use Rattle.report_block.proofs.DueLaws.{idle-before, due-stays}
 use Rattle.block_watch.specs.Dues.{AreBefore}
 use Rattle.bay_core.specs.Timed.{arrived_part, arrived_all, IsQuietUntil, AreQuietUntil}
@@ -61,6 +62,26 @@ quiet-set at dues parts i due q own quiet = record {
     ]
   ];
 }
+
+-- what isn't before the earlier of two isn't before either
+before-second : (now : ℕ) (x y : Option ℕ) → IsBefore now (earliest x y) → IsBefore now y
+before-second now None y h = h
+before-second now (Some m) None h = tt
+before-second now (Some m) (Some n) h = omega (arith, h)
+
+-- a block that gathers nothing, and counts the same periods
+pub quiet-idle : (at : ℕ) (dues : List (Option ℕ)) (parts : List ReportBlock) (i : ℕ) (p q : ReportBlock) → slice_get parts i ≡ Some p → q.window.gathered ≡ None → q.block ≡ p.block → q.origin ≡ p.origin → AreQuietUntil at dues parts
+    → AreQuietUntil at dues (slice_set parts i q)
+quiet-idle at dues parts i p q at_i none block origin quiet =
+    let ends : due_at at q ≡ next_integrity at q = rw none refl in
+    let same : next_integrity at q ≡ next_integrity at p = rw (block, origin) refl in
+    record {
+      count = quiet.count ∙ sym (length-set parts i q);
+      each = λ b d part due there. elim (got-set parts i b q part there) [
+        | inl e ↦ subst (IsQuietUntil at d) (sym e.1) (λ now before. subst (IsBefore now) (sym (ends ∙ same)) (before-second now (end_of p.window) (next_integrity at p) (quiet.each b d p due (ap (slice_get parts) e.0 ∙ at_i) now before)))
+        | inr e ↦ quiet.each b d part due e.1
+      ];
+    }
 
 -- a block that has the same due
 pub quiet-same : (at : ℕ) (dues : List (Option ℕ)) (parts : List ReportBlock) (i : ℕ) (p q : ReportBlock) → slice_get parts i ≡ Some p → due_at at q ≡ due_at at p → AreQuietUntil at dues parts → AreQuietUntil at dues (slice_set parts i q)

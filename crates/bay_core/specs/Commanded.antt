@@ -18,12 +18,8 @@ use Rattle.bay_model.specs.Named.{configured_model}
 use Rattle.bay_model.specs.Outcomes.{Outcome, deed_of}
 use Rattle.bay_model.specs.Points.{Past, finished, blocked}
 use Rattle.bay_model.specs.Singles.{Single, arrival, outcomes, after_singles}
-use Rattle.object_names.specs.declared.named.Call.{Call as Node}
-use Rattle.object_names.specs.declared.named.Call.TheVariants as nodes
 use Rattle.control_core.specs.Controls.{due}
 use Rattle.control_core.specs.Tables.{after_deed, control_at}
-use Rattle.control_core.specs.declared.command.Call.{Call}
-use Rattle.control_core.specs.declared.command.Call.TheVariants as calls
 use Rattle.bay_queues.specs.Calling.{AreTests, blame_of, outcome_at}
 use Rattle.bay_queues.specs.Heard.{Heard, heard_with, heard_all}
 use Rattle.bay_queues.specs.Taken.{put_rows}
@@ -31,12 +27,6 @@ use Rattle.window_core.specs.Points.{at}
 use Rattle.bay_core.specs.Asked.{IsKept}
 use Rattle.bay_core.specs.Standing.{StandsAt}
 use Rattle.bay_core.specs.State.{State}
-
--- the call that a write of a node is
-abbrev pub call_seen : Node → Call
-call_seen nodes.Select = calls.Select
-call_seen nodes.Operate = calls.Operate
-call_seen nodes.Cancel = calls.Cancel
 
 -- ---- the error that a write would have
 

@@ -2,27 +2,14 @@
 //! and what the process does with a control.
 
 ghost use Rattle.std.specs.Prelude.{◌≡◌};
-ghost use Rattle.bay_core.specs.Commanded.{call_seen};
 
 use crate::bay::Bay;
 use crate::fault::StepFault;
 use bay_model::{Answer, ApplError, Target, Write};
 use bay_queues::Heard;
-use control_core::Call;
-use object_model::{Call as Node, What};
+use object_model::What;
 use std::alloc::{AllocError, Global};
-use sv_base::{ActorNo, AssocNo, CtlNo, Moment, NodeId, Value};
-
-/// The call that a write of a node is.
-fn call_of(node: Node) -> Call
-    ensures { result ≡ call_seen node }
-{
-    match node {
-        Node::Select => Call::Select,
-        Node::Operate => Call::Operate,
-        Node::Cancel => Call::Cancel,
-    }
-}
+use sv_base::{ActorNo, AssocNo, Call, CtlNo, Moment, NodeId, Value};
 
 impl Bay {
     ghost use Rattle.std.specs.Prelude.{◌≡◌, ◌<◌, ◌^◌, ℕ, true, length, map, Some, IfOk};
@@ -38,7 +25,6 @@ impl Bay {
     ghost use Rattle.control_core.specs.Controls.{due};
     ghost use Rattle.control_core.specs.Tables.{control_at};
     ghost use Rattle.bay_model.specs.Configured.{control_defined};
-    ghost use Rattle.control_core.specs.Commands.{call_in};
     ghost use Rattle.bay_queues.specs.Calling.{blame_in, enhanced_in, outcome_at};
     ghost use Rattle.bay_queues.specs.Heard.{heard_with};
     ghost use Rattle.bay_queues.specs.Queued.{IsQueued};
@@ -59,7 +45,7 @@ impl Bay {
         match self.model.role_of(node) {
             What::Calling(control, call) => {
                 self.associations
-                    .blame(alloc, CtlNo(control), call_of(call), value)
+                    .blame(alloc, CtlNo(control), call, value)
             }
             _ => Ok(None),
         }
@@ -104,10 +90,10 @@ impl Bay {
     )
         requires number { IsNumber a.0 }
         requires control { control.0 < length self.old.config.controls }
-        requires blame { blame ≡ blame_in (map control_defined self.old.config.controls) control.0 (call_in call) value.now }
+        requires blame { blame ≡ blame_in (map control_defined self.old.config.controls) control.0 call value.now }
         requires room { length heard.old.codes < heard.old.room }
-        ensures state { self.new ≡ after_call a.0 control.0 (call_in call) value.now self.old }
-        ensures heard { heard.new ≡ heard_with (enhanced_in self.old.controls) (outcome_at self.old.controls a.0 control.0 (call_in call) value.now) heard.old }
+        ensures state { self.new ≡ after_call a.0 control.0 call value.now self.old }
+        ensures heard { heard.new ≡ heard_with (enhanced_in self.old.controls) (outcome_at self.old.controls a.0 control.0 call value.now) heard.old }
         ensures tests { AreTestsOf self.old a.0 heard.old.tests → AreTestsOf self.new a.0 heard.new.tests }
     {
         self.associations
@@ -132,7 +118,7 @@ impl Bay {
     {
         match self.model.role_of(node) {
             What::Calling(control, call) => {
-                self.call(a, CtlNo(control), call_of(call), value, blame, heard);
+                self.call(a, CtlNo(control), call, value, blame, heard);
             }
             _ => {
                 let code = self.write_node(a, node, value);

@@ -1,6 +1,6 @@
 //! What the process sets, and the entries that the report blocks get of it.
 
-ghost use Rattle.std.specs.Prelude.{◌≡◌, ◌<◌, ℕ, Some, length, slice_get};
+ghost use Rattle.std.specs.Prelude.{◌≡◌, ◌<◌, ℕ, List, Some, length, slice_get, slice_set};
 ghost use Rattle.std.specs.List.{All};
 ghost use Rattle.bay_model.specs.declared.flags.Change.{Change as ChangeValue};
 ghost use Rattle.touch_index.specs.Gathered.{AreOnce};
@@ -19,6 +19,16 @@ use block_watch::{Dues, Watch};
 use report_block::{EventRoom, ReportBlock};
 use sv_base::{ActorNo, Moment};
 use touch_index::Notes;
+
+/// A block took in an event: by now it may have something else due, if it gathers its events.
+fn keep_due(dues: &mut Dues, b: usize, part: &ReportBlock, moment: Moment)
+    requires { b < length dues.old }
+    ensures { (parts : List PartValue) (was : PartValue) → slice_get parts b ≡ Some was → part.now.block ≡ was.block → part.now.origin ≡ was.origin → AreQuietUntil moment dues.old parts → AreQuietUntil moment dues.new (slice_set parts b part.now) }
+{
+    if part.gathers() {
+        dues.put(b, part.due_at(moment));
+    }
+}
 
 /// Each block whose note has a member takes in its event, and the notes are emptied. It takes no memory.
 fn keep_all(
@@ -50,7 +60,7 @@ fn keep_all(
         let set = source.book.view(part.set(), source.rows);
         let note = notes.note(b).as_slice();
         part.event(source.store, &set, note, moment, step, events, octets);
-        dues.put(b.0 as usize, part.due_at(moment));
+        keep_due(dues, b.0 as usize, part, moment);
         notes.clear_last();
     }
 }

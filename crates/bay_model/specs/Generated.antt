@@ -12,6 +12,8 @@ use Rattle.sv_base.specs.declared.parameters.CtlParameter.TheVariants.{CtlModel,
 use Rattle.sv_base.specs.Parameters.{parameter_name, parameter_kind}
 use Rattle.bay_model.specs.Model.{SettingComp, Call, select, operate, cancel, Leaf, attribute, component, setting, withheld, Role, single, selecting, calling}
 use Rattle.sv_base.specs.declared.call_parts.CallPart.{CallPart}
+use Rattle.sv_base.specs.declared.ctl_services.CtlService.TheVariants as services
+use Rattle.sv_base.specs.CtlServices.{service_name}
 use Rattle.sv_base.specs.CallParts.{cancel_parts, command_parts, part_name, part_type}
 use Rattle.sv_base.specs.ComponentTable.{components, comp_name, setting_components, setting_comp_name, comp_type, setting_comp_type}
 
@@ -61,16 +63,16 @@ is_selected k = (k.model == 2) || (k.model == 4)
 
 -- what control k has at `LN$CO$DO`: model 2 SBO, model 4 SBOw, each Oper, models 2 and 4 Cancel
 abbrev pub sbo_names : ℕ → CtlDef → List ℕ → List Named
-sbo_names k c item = if c.model == 2 then record { item = within item (codes "SBO"); role = selecting k; kind = types.Text 129 } ∷ [] else []
+sbo_names k c item = if c.model == 2 then record { item = within item (service_name services.Sbo); role = selecting k; kind = types.Text 129 } ∷ [] else []
 
 abbrev pub sbow_names : ℕ → CtlDef → List ℕ → List Named
-sbow_names k c item = if c.model == 4 then command_names k c.kind (within item (codes "SBOw")) select else []
+sbow_names k c item = if c.model == 4 then command_names k c.kind (within item (service_name services.SboWithValue)) select else []
 
 abbrev pub oper_names : ℕ → CtlDef → List ℕ → List Named
-oper_names k c item = command_names k c.kind (within item (codes "Oper")) operate
+oper_names k c item = command_names k c.kind (within item (service_name services.Oper)) operate
 
 abbrev pub cancel_names : ℕ → CtlDef → List ℕ → List Named
-cancel_names k c item = if is_selected c then command_names k c.kind (within item (codes "Cancel")) cancel else []
+cancel_names k c item = if is_selected c then command_names k c.kind (within item (service_name services.Cancel)) cancel else []
 
 abbrev pub control_names : ℕ → CtlDef → List ℕ → List Named
 control_names k c item = sbo_names k c item ++ (sbow_names k c item ++ (oper_names k c item ++ cancel_names k c item))

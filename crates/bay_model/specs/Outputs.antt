@@ -1,13 +1,14 @@
 -- The LastApplError of a refused command, and the output that is given for one that waits (IEC 61850-8-1, LastApplError
 -- and CommandTermination).
-use Rattle.std.specs.Prelude.{ℕ, pos, List, [], ◌++◌, None, codes, if◌then◌else◌}
+use Rattle.std.specs.Prelude.{ℕ, pos, List, [], ◌∷◌, ◌++◌, None, if◌then◌else◌}
 use Rattle.std.specs.Option.{option_map_or, option_map}
+use Rattle.sv_base.specs.CtlServices.{service_name, service_of}
 use Rattle.sv_base.specs.declared.value.Value.{Value}
 use Rattle.sv_base.specs.declared.value.Value.TheVariants as kinds
 use Rattle.bay_model.specs.declared.answer.Output.{Output}
 use Rattle.bay_model.specs.declared.answer.Output.TheVariants as outputs
 use Rattle.bay_model.specs.declared.control.ApplError.{ApplError}
-use Rattle.bay_model.specs.Model.{Model, Call, select, operate, cancel}
+use Rattle.bay_model.specs.Model.{Model, Call, operate}
 use Rattle.bay_model.specs.Lookups.{control_of}
 use Rattle.bay_model.specs.Points.{Past}
 use Rattle.bay_model.specs.Controls.{Execution, execution}
@@ -16,9 +17,7 @@ use Rattle.bay_model.specs.Waiting.{Waiting, reply, ending}
 
 -- the end of the name of the variable that is written
 abbrev pub name_of_call : Call → List ℕ
-name_of_call select = codes "$SBOw"
-name_of_call operate = codes "$Oper"
-name_of_call cancel = codes "$Cancel"
+name_of_call call = 36 ∷ service_name (service_of call)
 
 abbrev pub no_command : ApplError
 no_command = record { object = []; or_cat = pos 0; or_ident = []; ctl_num = 0; cause = 0 }

@@ -15,7 +15,7 @@ size_of a past = option_map_or (λ (e : Ends). e.size) (ends a past) 0
 -- an AccessResult: the Data of a value, or 80 and the code of a refusal
 abbrev pub access_result : Result Value ℕ → List ℕ
 access_result (Ok v) = data_of v
-access_result (Err code) = element 128 (code ∷ [])
+access_result (Err code) = element 0x80 (code ∷ [])
 
 -- the values and codes of a read alone are more octets than this size
 abbrev pub are_too_long : ℕ → List (Result Value ℕ) → Bool
@@ -23,7 +23,7 @@ are_too_long size results = nat_lt size (length (flat_map access_result results)
 
 -- an Identifier: 1A and a name
 abbrev pub identifier : List ℕ → List ℕ
-identifier name = element 26 name
+identifier name = element 0x1A name
 
 -- Of these names those that a PDU of this size can hold, and the one after them, which tells that more follow: each before
 -- which the names alone are no more octets than the size.

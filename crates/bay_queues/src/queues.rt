@@ -16,10 +16,10 @@ ghost use Rattle.bay_queues.specs.Heard.{heard_with};
 use crate::heard::Heard;
 use assoc_table::{Assocs, Ends, Waiting};
 use bay_model::{Act, ApplError, Output};
-use control_core::{Call, Controls, Went};
+use control_core::{Controls, Went};
 use std::alloc::{AllocError, Global};
 use std::marker::Model;
-use sv_base::{ActorNo, AssocNo, Config, CtlNo, Moment, Value};
+use sv_base::{ActorNo, AssocNo, Call, Config, CtlNo, Moment, Value};
 
 /// The associations, numbered 1 to 16, and the controls, at most 64. Contracts see a row for each association and the table of the controls.
 #[derive(Drop)]
@@ -100,7 +100,6 @@ impl Queues {
     ghost use Rattle.bay_model.specs.Model.{operate as operate_call, select as select_call, cancel as cancel_call};
     ghost use Rattle.bay_model.specs.Commands.{command_of, is_command};
     ghost use Rattle.control_core.specs.Answers.{went_of};
-    ghost use Rattle.control_core.specs.Commands.{call_in};
     ghost use Rattle.control_core.specs.Controls.{can_select_at, due, went_at};
     ghost use Rattle.control_core.specs.Opening.{IsCtlKind};
     ghost use Rattle.control_core.specs.Tables.{control_at, opened_of, at_moment, after_deed};
@@ -243,7 +242,7 @@ impl Queues {
         value: &Value,
     ) -> Result<Option<ApplError>, AllocError>
         requires { c.0 < length self.now.table.controls }
-        ensures { IfOk result (λ e. e ≡ blame_in (configs self.now.table) c.0 (call_in call) value.now) }
+        ensures { IfOk result (λ e. e ≡ blame_in (configs self.now.table) c.0 call value.now) }
     {
         if !self.controls.is_typed(c, call, value) {
             return Ok(None);
@@ -313,10 +312,10 @@ impl Queues {
     ) -> Result<(), u8>
         requires number { IsNumber a.0 }
         requires control { c.0 < length self.old.table.controls }
-        requires typed { is_command (control_at self.old.table.controls c.0).config.kind (call_in call) (command_of value.now) ≡ true }
+        requires typed { is_command (control_at self.old.table.controls c.0).config.kind call (command_of value.now) ≡ true }
         requires room { length heard.old.codes < heard.old.room }
-        ensures went { went_of result ≡ went_at self.old.table.moment (call_in call) a.0 value.now (control_at self.old.table.controls c.0) }
-        ensures did { OnOk result (IsDone a.0 c.0 (call_in call) value.now self.old self.new heard.old heard.new) }
+        ensures went { went_of result ≡ went_at self.old.table.moment call a.0 value.now (control_at self.old.table.controls c.0) }
+        ensures did { OnOk result (IsDone a.0 c.0 call value.now self.old self.new heard.old heard.new) }
         ensures kept { OnErr result ((self.new ≡ self.old) × (heard.new ≡ heard.old)) }
     {
         match call {
@@ -339,10 +338,10 @@ impl Queues {
     )
         requires number { IsNumber a.0 }
         requires control { c.0 < length self.old.table.controls }
-        requires blame { blame ≡ blame_in (configs self.old.table) c.0 (call_in call) value.now }
+        requires blame { blame ≡ blame_in (configs self.old.table) c.0 call value.now }
         requires room { length heard.old.codes < heard.old.room }
-        ensures heard { heard.new ≡ heard_with (enhanced_in self.old.table) (outcome_at self.old.table a.0 c.0 (call_in call) value.now) heard.old }
-        ensures left { self.new ≡ after_call a.0 c.0 (call_in call) value.now self.old }
+        ensures heard { heard.new ≡ heard_with (enhanced_in self.old.table) (outcome_at self.old.table a.0 c.0 call value.now) heard.old }
+        ensures left { self.new ≡ after_call a.0 c.0 call value.now self.old }
         ensures tests { AreTests self.old a.0 heard.old.tests → AreTests self.new a.0 heard.new.tests }
     {
         let Some(error) = blame else {

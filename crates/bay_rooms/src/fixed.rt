@@ -1,24 +1,39 @@
 //! Octets in room that was made before, so that filling them takes no memory.
 
+ghost use Rattle.std.specs.Prelude.{◌≡◌, ◌≤◌, ◌-◌, ◌++◌, length, replicate, vec_len, vec_capacity};
+
 use std::alloc::{AllocError, Global};
 use std::marker::Model;
+
+/// Zeros behind octets, so that there are so many. It stays a call, since octets that were there once need none.
+#[inline(never)]
+fn lengthen(octets: &mut Vec<u8>, end: usize)
+    requires more { vec_len octets.old ≤ end }
+    requires room { end ≤ vec_capacity octets.old }
+    ensures items { octets.new.items ≡ octets.old.items ++ replicate (end - length octets.old.items) 0 }
+    ensures len { vec_len octets.new ≡ end }
+    ensures room { vec_capacity octets.old ≤ vec_capacity octets.new }
+{
+    let _ = octets.resize(end, 0);
+}
 
 /// Octets in room that was made before. Contracts see the list of them, and how many have room.
 #[derive(Debug, Drop)]
 pub struct Fixed {
     octets: Vec<u8>,
+    len: usize,
     room: usize,
 }
 
 impl Model for Fixed {
-    ghost use Rattle.std.specs.Prelude.{◌≤◌, ℕ, vec_len, vec_capacity};
+    ghost use Rattle.std.specs.Prelude.{◌≤◌, ℕ, take, vec_len, vec_capacity};
     ghost use Rattle.bay_rooms.specs.Rooms.{Filled};
 
     ghost Value = { Filled ℕ };
 
-    ghost view = { λ f. record { items = f.octets.items; room = f.room } };
+    ghost view = { λ f. record { items = take f.len f.octets.items; room = f.room } };
 
-    ghost invariant = { λ f. (vec_len f.octets ≤ f.room) × (f.room ≤ vec_capacity f.octets) };
+    ghost invariant = { λ f. (f.len ≤ vec_len f.octets) × (vec_len f.octets ≤ f.room) × (f.room ≤ vec_capacity f.octets) };
 }
 
 impl Fixed {
@@ -30,6 +45,7 @@ impl Fixed {
     {
         Ok(Fixed {
             octets: Vec::with_capacity(alloc, room as usize)?,
+            len: 0,
             room: room as usize,
         })
     }
@@ -38,7 +54,7 @@ impl Fixed {
     pub fn clear(&mut self)
         ensures { self.new ≡ record { items = []; room = self.old.room } }
     {
-        self.octets.clear();
+        self.len = 0;
     }
 
     /// Adds octets behind the others. It takes no memory.
@@ -46,7 +62,12 @@ impl Fixed {
         requires { length self.old.items + length octets.now ≤ self.old.room }
         ensures { self.new ≡ record { items = self.old.items ++ octets.now; room = self.old.room } }
     {
-        let _ = self.octets.extend_from_slice(octets);
+        let end = self.len + octets.len();
+        if self.octets.len() < end {
+            lengthen(&mut self.octets, end);
+        }
+        self.octets[self.len..end].copy_from_slice(octets);
+        self.len = end;
     }
 
     /// Takes the octets of another one with as much room. It takes no memory.
@@ -55,7 +76,7 @@ impl Fixed {
         ensures { self.new ≡ other.now }
     {
         self.clear();
-        self.push(&other.octets);
+        self.push(&other.octets[..other.len]);
     }
 
     /// Puts octets in front of those from a place on. It takes no memory.
@@ -64,22 +85,24 @@ impl Fixed {
         requires room { length self.old.items + length octets.now ≤ self.old.room }
         ensures { self.new ≡ record { items = take at self.old.items ++ (octets.now ++ drop at self.old.items); room = self.old.room } }
     {
+        self.octets.truncate(self.len);
         let _ = self.octets.extend_from_slice(octets);
         self.octets[at..].rotate_right(octets.len());
+        self.len = self.octets.len();
     }
 
     /// How many octets there are.
     pub fn len(&self) -> usize
         ensures { result ≡ length self.now.items }
     {
-        self.octets.len()
+        self.len
     }
 
     /// There is no octet.
     pub fn is_empty(&self) -> bool
         ensures { result ≡ (length self.now.items == 0) }
     {
-        self.octets.is_empty()
+        self.len == 0
     }
 
     /// How many octets have room.
@@ -93,6 +116,6 @@ impl Fixed {
     pub fn as_slice(&self) -> &[u8]
         ensures { result.now ≡ self.now.items }
     {
-        &self.octets
+        &self.octets[..self.len]
     }
 }

@@ -57,6 +57,10 @@ second true b c p q = absurd cc
 second false true c p q = refl
 second false false c p q = q
 
+pub none-beside : (a b : Bool) → b ≡ false → a ≡ (a || b)
+none-beside true b none = refl
+none-beside false b none = sym none
+
 -- a number that a path has where nothing is in its way
 pub kept-back : (b : Bool) (n : ℕ) → (if b then None else Some n) ≡ None → b ≡ true
 kept-back true n e = refl

@@ -2,6 +2,8 @@
 use Rattle.std.specs.Prelude.{ℕ, ◌==◌, List, [], ◌∷◌, ◌++◌, map, codes, if◌then◌else◌}
 use Rattle.sv_base.specs.declared.parameters.CtlParameter.TheVariants.{CtlModel, SboTimeout, SboClass}
 use Rattle.sv_base.specs.Parameters.{parameter_name}
+use Rattle.sv_base.specs.declared.ctl_services.CtlService.TheVariants as services
+use Rattle.sv_base.specs.CtlServices.{service_name}
 use Rattle.cfg_lines.specs.Paths.{below, node_key, item_key}
 use Rattle.cfg_lines.specs.declared.line.Line.{Line}
 use Rattle.cfg_lines.specs.declared.line.Line.TheVariants as lines
@@ -31,9 +33,9 @@ sets (line ∷ before) = sets_by line ++ sets before
 -- What a control has under CO and under CF by its model (IEC 61850-8-1, control services): 2 and 4 are those with a
 -- selection, by SBO or by SBOw.
 abbrev pub operations : ℕ → List (List ℕ)
-operations model = if model == 2 then codes "Oper" ∷ codes "SBO" ∷ codes "Cancel" ∷ []
-    else if model == 4 then codes "Oper" ∷ codes "SBOw" ∷ codes "Cancel" ∷ []
-    else codes "Oper" ∷ []
+operations model = if model == 2 then service_name services.Oper ∷ service_name services.Sbo ∷ service_name services.Cancel ∷ []
+    else if model == 4 then service_name services.Oper ∷ service_name services.SboWithValue ∷ service_name services.Cancel ∷ []
+    else service_name services.Oper ∷ []
 
 abbrev pub settings : ℕ → List (List ℕ)
 settings model = if model == 2 then parameter_name CtlModel ∷ parameter_name SboTimeout ∷ parameter_name SboClass ∷ []

@@ -8,6 +8,8 @@ use Rattle.sv_base.specs.declared.parameters.CtlParameter.TheVariants.{SboTimeou
 use Rattle.sv_base.specs.Parameters.{parameter_name, parameter_kind}
 use Rattle.sv_base.specs.ComponentTable.{components, comp_name, setting_components, setting_comp_name}
 use Rattle.sv_base.specs.CallParts.{cancel_parts, command_parts, part_name}
+use Rattle.sv_base.specs.declared.ctl_services.CtlService.TheVariants as services
+use Rattle.sv_base.specs.CtlServices.{service_name}
 use Rattle.cfg_lines.specs.Keys.{is_among}
 use Rattle.cfg_lines.specs.Paths.{below, item_key, above}
 use Rattle.cfg_lines.specs.Claims.{operations, settings, group_key}
@@ -41,7 +43,7 @@ abbrev pub group_parts : List (List ℕ)
 group_parts = map setting_comp_name setting_components
 
 abbrev pub operation_parts : List ℕ → List (List ℕ)
-operation_parts name = if bytes_eq name (codes "SBO") then [] else map part_name (if bytes_eq name (codes "Cancel") then cancel_parts else command_parts)
+operation_parts name = if bytes_eq name (service_name services.Sbo) then [] else map part_name (if bytes_eq name (service_name services.Cancel) then cancel_parts else command_parts)
 
 abbrev pub all_below : List ℕ → List (List ℕ) → List (List ℕ)
 all_below front parts = map (λ part. below front part) parts

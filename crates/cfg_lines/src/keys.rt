@@ -103,6 +103,16 @@ impl Keys {
         Some(hash.number())
     }
 
+    /// The path, or a structure above it, is there.
+    pub fn has_or_above(&self, path: &[u8]) -> bool
+        ensures { result ≡ (is_among self.now path.now || list_any (λ front. is_among self.now front) (above path.now)) }
+    {
+        match self.number_of_free(path) {
+            Some(hash) => self.has_by(hash, path),
+            None => true,
+        }
+    }
+
     /// Adds the structures above a path, and gives the path's number.
     fn add_above(&mut self, path: &[u8]) -> Result<u64, AllocError>
         ensures number { IfOk result (λ hash. hash ≡ hash_at path.now) }

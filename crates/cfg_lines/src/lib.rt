@@ -14,7 +14,9 @@ pub use line::{Line, Place};
 
 // references, and sets of them
 pub use keys::{Keys, Names};
-pub use references::{below, control_keys, item_key, node_item, node_key, put_item_key};
+pub use references::{
+    below, control_keys, item_key, node_item, node_key, put_item_key, put_node_key,
+};
 
 // a node without parts
 pub use leaf::Leaf;

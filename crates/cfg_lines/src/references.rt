@@ -3,12 +3,13 @@
 ghost use Rattle.std.specs.Prelude.{◌≡◌, ◌++◌, ◌∷◌, [], map, codes, IfOk, OnOk};
 ghost use Rattle.sv_base.specs.declared.parameters.CtlParameter.TheVariants.{SboTimeout, SboClass};
 ghost use Rattle.sv_base.specs.Parameters.{parameter_name};
+ghost use Rattle.sv_base.specs.CtlServices.{service_name};
 ghost use Rattle.cfg_lines.specs.Keys.{octets_of};
 ghost use Rattle.cfg_lines.specs.Paths.{below as below_front, node_key as node_key_of, item_key as item_key_of};
 ghost use Rattle.cfg_lines.specs.Claims.{operations, settings, control_keys as control_keys_of};
 
 use std::alloc::{AllocError, Global};
-use sv_base::CtlParameter;
+use sv_base::{CtlParameter, CtlService};
 
 /// Adds a name below what a room holds.
 fn extend_below(room: &mut Vec<u8>, name: &[u8]) -> Result<(), AllocError>
@@ -19,7 +20,7 @@ fn extend_below(room: &mut Vec<u8>, name: &[u8]) -> Result<(), AllocError>
 }
 
 /// Makes a room hold the reference of a logical node.
-fn put_node(room: &mut Vec<u8>, domain: &[u8], node: &[u8]) -> Result<(), AllocError>
+pub fn put_node_key(room: &mut Vec<u8>, domain: &[u8], node: &[u8]) -> Result<(), AllocError>
     ensures { OnOk result (room.new.items ≡ node_key_of domain.now node.now) }
 {
     room.clear();
@@ -34,7 +35,7 @@ fn node_room(alloc: Global, domain: &[u8], node: &[u8], more: usize) -> Result<V
 {
     let octets = domain.len().saturating_add(node.len()).saturating_add(more);
     let mut key = Vec::with_capacity(alloc, octets.saturating_add(1))?;
-    put_node(&mut key, domain, node)?;
+    put_node_key(&mut key, domain, node)?;
     Ok(key)
 }
 
@@ -80,7 +81,7 @@ pub fn put_item_key(
 ) -> Result<(), AllocError>
     ensures { OnOk result (room.new.items ≡ item_key_of domain.now node.now fc.now path.now) }
 {
-    put_node(room, domain, node)?;
+    put_node_key(room, domain, node)?;
     extend_below(room, fc)?;
     extend_below(room, path)
 }
@@ -115,6 +116,17 @@ fn push_below(
     Ok(())
 }
 
+fn push_service(
+    alloc: Global,
+    keys: &mut Vec<Vec<u8>>,
+    front: &[u8],
+    service: CtlService,
+) -> Result<(), AllocError>
+    ensures { OnOk result (map octets_of keys.new.items ≡ map octets_of keys.old.items ++ below_front front.now (service_name service) ∷ []) }
+{
+    push_below(alloc, keys, front, service.name())
+}
+
 /// What a control has under CO.
 fn push_operations(
     alloc: Global,
@@ -124,14 +136,14 @@ fn push_operations(
 ) -> Result<(), AllocError>
     ensures { OnOk result (map octets_of keys.new.items ≡ map octets_of keys.old.items ++ map (λ part. below_front front.now part) (operations model)) }
 {
-    push_below(alloc, keys, front, b"Oper")?;
+    push_service(alloc, keys, front, CtlService::Oper)?;
     if model == 2 {
-        push_below(alloc, keys, front, b"SBO")?;
-        return push_below(alloc, keys, front, b"Cancel");
+        push_service(alloc, keys, front, CtlService::Sbo)?;
+        return push_service(alloc, keys, front, CtlService::Cancel);
     }
     if model == 4 {
-        push_below(alloc, keys, front, b"SBOw")?;
-        return push_below(alloc, keys, front, b"Cancel");
+        push_service(alloc, keys, front, CtlService::SboWithValue)?;
+        return push_service(alloc, keys, front, CtlService::Cancel);
     }
     Ok(())
 }

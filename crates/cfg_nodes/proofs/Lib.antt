@@ -5,3 +5,6 @@ pub mod PartLaws
 pub mod OctetLaws
 pub mod PartNameLaws
 pub mod PresenceLaws
+pub mod WantedLaws
+pub mod AskedLaws
+pub mod HeadLaws

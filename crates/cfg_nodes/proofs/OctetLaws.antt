@@ -4,6 +4,7 @@ use Rattle.std.specs.Borrow.{Bor}
 use Rattle.std.specs.List.{sum_by}
 use Rattle.std.proofs.lemmas.List.Sums.{sum_by-cons, sum_by_more, sum_by_more_le}
 use Rattle.std.proofs.lemmas.Bool.Decides.{nat_tests}
+use Rattle.list_laws.proofs.Among.{Each}
 use Rattle.text_words.specs.Words.{texts}
 use Rattle.cfg_lines.specs.Sizes.{element_octets, octets_of}
 use Rattle.cfg_nodes.specs.Indexed.{capped}
@@ -21,19 +22,20 @@ sum_items : (f : List ℕ → ℕ) (items : List (Bor (List ℕ))) → sum_by f 
 sum_items f [] = refl
 sum_items f (v ∷ items) = sum_by-cons f v.now (texts items) ∙ (ap (λ n. f v.now + n) (sum_items f items) ∙ sym (sum_by-cons (λ v. f v.now) v items))
 
-sum_same : {X : Type 0} (f g : X → ℕ) → ((x : X) → f x ≡ g x) → (xs : List X) → sum_by f xs ≡ sum_by g xs
-sum_same f g each [] = refl
-sum_same f g each (x ∷ xs) = sum_by-cons f x xs ∙ (ap₂ (λ a b. a + b) (each x) (sum_same f g each xs) ∙ sym (sum_by-cons g x xs))
+sum_same : {X : Type 0} (P : X → Type 0) (f g : X → ℕ) → ((x : X) → P x → f x ≡ g x) → (xs : List X) → Each P xs → sum_by f xs ≡ sum_by g xs
+sum_same P f g each [] all = refl
+sum_same P f g each (x ∷ xs) all = sum_by-cons f x xs ∙ (ap₂ (λ a b. a + b) (each x all.0) (sum_same P f g each xs all.1) ∙ sym (sum_by-cons g x xs))
 
--- only what is found counts
-pub octets_same : (depth : ℕ) (leaf other : List ℕ → Option ℕ) (parts further : List ℕ → List (List ℕ)) → ((node : List ℕ) → leaf node ≡ other node) → ((node : List ℕ) → parts node ≡ further node)
-    → (node : List ℕ) → octets_of depth leaf parts node ≡ octets_of depth other further node
-unfolding octets_of
-octets_same zero leaf other parts further leaves same node = refl
-octets_same (suc depth) leaf other parts further leaves same node =
-    ap (λ r. unwrap_or r (element_octets (sum_by (λ part. octets_of depth leaf parts part) (parts node)))) (leaves node)
-    ∙ ap (λ n. unwrap_or (other node) (element_octets n)) (ap (λ ps. sum_by (λ part. octets_of depth leaf parts part) ps) (same node)
-    ∙ sum_same (λ part. octets_of depth leaf parts part) (λ part. octets_of depth other further part) (octets_same depth leaf other parts further leaves same) (further node))
+-- only what is found of a node and of what lies below it counts
+module _ (P : List ℕ → Type 0) (leaf other : List ℕ → Option ℕ) (parts further : List ℕ → List (List ℕ)) (leaves : (node : List ℕ) → P node → leaf node ≡ other node)
+    (same : (node : List ℕ) → P node → parts node ≡ further node) (below : (node : List ℕ) → P node → Each P (further node)) where
+  pub octets_same : (depth : ℕ) (node : List ℕ) → P node → octets_of depth leaf parts node ≡ octets_of depth other further node
+  unfolding octets_of
+  octets_same zero node is = refl
+  octets_same (suc depth) node is =
+      ap (λ r. unwrap_or r (element_octets (sum_by (λ part. octets_of depth leaf parts part) (parts node)))) (leaves node is)
+      ∙ ap (λ n. unwrap_or (other node) (element_octets n)) (ap (λ ps. sum_by (λ part. octets_of depth leaf parts part) ps) (same node is)
+      ∙ sum_same P (λ part. octets_of depth leaf parts part) (λ part. octets_of depth other further part) (octets_same depth) (further node) (below node is))
 
 module _ (leaf : List ℕ → Option ℕ) (parts : List ℕ → List (List ℕ)) (node : List ℕ) where
   pub leaf_found : (depth n : ℕ) → depth ≢ 0 → leaf node ≡ Some n → octets_of depth leaf parts node ≡ n

@@ -1,3 +1,4 @@
 pub mod LeafLists
 pub mod PartNames
 pub mod Indexed
+pub mod Asked

@@ -2,13 +2,15 @@
 
 ghost use Rattle.std.specs.Prelude.{◌≡◌, ◌++◌, ◌∷◌, [], codes, map, reverse, IfOk, OnOk};
 ghost use Rattle.sv_base.specs.CallParts.{part_name};
+ghost use Rattle.sv_base.specs.declared.ctl_services.CtlService.TheVariants as services;
+ghost use Rattle.sv_base.specs.CtlServices.{service_name};
 ghost use Rattle.cfg_lines.specs.Claims.{operations, group_key};
 ghost use Rattle.cfg_lines.specs.Paths.{below as below_front, item_key as item_key_of};
 ghost use Rattle.cfg_lines.specs.Nodes.{all_below, with_parts, block_parts, group_parts, operation_parts, operations_below, twins, closed_by, closed as closed_before};
 
 use cfg_lines::{Line, below, item_key};
 use std::alloc::{AllocError, Global};
-use sv_base::{AttrDef, BlockDef, CallPart, Comp, CtlDef, Octs, SettingComp, SgDef};
+use sv_base::{AttrDef, BlockDef, CallPart, Comp, CtlDef, CtlService, Octs, SettingComp, SgDef};
 use text_words::owned;
 
 fn push_below(
@@ -64,12 +66,12 @@ fn push_operation(
     alloc: Global,
     names: &mut Vec<Octs>,
     front: &[u8],
-    name: &[u8],
+    service: CtlService,
     parts: &[CallPart],
 ) -> Result<(), AllocError>
-    ensures { OnOk result (names.new.items ≡ names.old.items ++ with_parts (below_front front.now name.now) (map part_name parts.now)) }
+    ensures { OnOk result (names.new.items ≡ names.old.items ++ with_parts (below_front front.now (service_name service)) (map part_name parts.now)) }
 {
-    let node = below(alloc, front, name)?;
+    let node = below(alloc, front, service.name())?;
     names.push(owned(alloc, &node)?)?;
     push_parts(alloc, names, &node, parts)
 }
@@ -79,13 +81,13 @@ fn push_selection(
     alloc: Global,
     names: &mut Vec<Octs>,
     front: &[u8],
-    select: &[u8],
+    select: CtlService,
     parts: &[CallPart],
 ) -> Result<(), AllocError>
-    ensures { OnOk result (names.new.items ≡ names.old.items ++ (with_parts (below_front front.now select.now) (map part_name parts.now) ++ with_parts (below_front front.now (codes "Cancel")) (operation_parts (codes "Cancel")))) }
+    ensures { OnOk result (names.new.items ≡ names.old.items ++ (with_parts (below_front front.now (service_name select)) (map part_name parts.now) ++ with_parts (below_front front.now (service_name services.Cancel)) (operation_parts (service_name services.Cancel)))) }
 {
     push_operation(alloc, names, front, select, parts)?;
-    push_operation(alloc, names, front, b"Cancel", &CallPart::ALL[..6])?;
+    push_operation(alloc, names, front, CtlService::Cancel, &CallPart::ALL[..6])?;
     Ok(())
 }
 
@@ -98,12 +100,12 @@ fn push_operations(
 ) -> Result<(), AllocError>
     ensures { OnOk result (names.new.items ≡ names.old.items ++ operations_below front.now (operations model)) }
 {
-    push_operation(alloc, names, front, b"Oper", &CallPart::ALL)?;
+    push_operation(alloc, names, front, CtlService::Oper, &CallPart::ALL)?;
     if model == 2 {
-        return push_selection(alloc, names, front, b"SBO", &[]);
+        return push_selection(alloc, names, front, CtlService::Sbo, &[]);
     }
     if model == 4 {
-        return push_selection(alloc, names, front, b"SBOw", &CallPart::ALL);
+        return push_selection(alloc, names, front, CtlService::SboWithValue, &CallPart::ALL);
     }
     Ok(())
 }

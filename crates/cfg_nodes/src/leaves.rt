@@ -1,4 +1,5 @@
-//! The nodes without parts that lines make, with the most octets of the Data of each.
+//! The nodes without parts that lines make, with the most octets of the Data of each: those that are asked for, or have above
+//! them what is.
 
 ghost use Rattle.std.specs.Prelude.{◌≡◌, ◌<◌, ◌++◌, ◌∷◌, [], map, codes, reverse, IfOk, OnOk};
 ghost use Rattle.sv_base.specs.declared.parameters.CtlParameter.TheVariants.{SboTimeout, SboClass};
@@ -7,8 +8,11 @@ ghost use Rattle.cfg_lines.specs.Claims.{settings};
 ghost use Rattle.cfg_lines.specs.Paths.{below as below_front, item_key as item_key_of};
 ghost use Rattle.cfg_lines.specs.Sizes.{element_octets as element_octets_of, most_octets as most_octets_of};
 ghost use Rattle.cfg_lines.specs.Nodes.{leaves_by, leaves as leaves_before, setting_leaf};
+ghost use Rattle.cfg_nodes.specs.Asked.{wanted, IsRight};
 
+use crate::asked::Asked;
 use crate::leaf_list::Leaves;
+use crate::spot::Spot;
 use cfg_lines::{Line, below, item_key, put_item_key};
 use std::alloc::{AllocError, Global};
 use sv_base::{AttrDef, CtlDef, CtlParameter, TypeOf};
@@ -43,10 +47,37 @@ fn most_octets(kind: &TypeOf) -> u32
     }
 }
 
-/// Adds the node of an attribute, whose name is joined in a room.
-fn push_attribute(room: &mut Vec<u8>, leaves: &mut Leaves, attr: &AttrDef) -> Result<(), AllocError>
-    ensures { OnOk result (leaves.new ≡ leaves.old ++ (record { name = item_key_of attr.now.domain attr.now.ln attr.now.fc attr.now.path; octets = most_octets_of attr.now.kind }) ∷ []) }
+/// Adds a node, if it is asked for or has above it what is.
+fn push_wanted(
+    leaves: &mut Leaves,
+    asked: &Asked,
+    name: &[u8],
+    octets: u32,
+) -> Result<(), AllocError>
+    ensures { OnOk result (leaves.new ≡ leaves.old ++ wanted asked.now ((record { name = name.now; octets = octets }) ∷ [])) }
 {
+    if asked.wants(name) {
+        return leaves.push(name, octets);
+    }
+    Ok(())
+}
+
+/// Adds the node of an attribute, whose name is joined in a room, if there is something to be found in its logical node.
+fn push_attribute<'a>(
+    room: &mut Vec<u8>,
+    spot: &mut Spot<'a>,
+    leaves: &mut Leaves,
+    asked: &Asked,
+    attr: &'a AttrDef,
+) -> Result<(), AllocError>
+    requires spot { IsRight asked.now spot.old }
+    ensures spot { OnOk result (IsRight asked.now spot.new) }
+    ensures leaves { OnOk result (leaves.new ≡ leaves.old ++ wanted asked.now ((record { name = item_key_of attr.now.domain attr.now.ln attr.now.fc attr.now.path; octets = most_octets_of attr.now.kind }) ∷ [])) }
+{
+    spot.turn_to(room, asked, attr.domain.as_slice(), attr.ln.as_slice())?;
+    if !spot.is_wanted {
+        return Ok(());
+    }
     put_item_key(
         room,
         attr.domain.as_slice(),
@@ -54,27 +85,34 @@ fn push_attribute(room: &mut Vec<u8>, leaves: &mut Leaves, attr: &AttrDef) -> Re
         attr.fc.as_slice(),
         attr.path.as_slice(),
     )?;
-    leaves.push(room, most_octets(&attr.kind))
+    push_wanted(leaves, asked, room, most_octets(&attr.kind))
 }
 
 fn push_setting(
     alloc: Global,
     leaves: &mut Leaves,
+    asked: &Asked,
     front: &[u8],
     parameter: CtlParameter,
 ) -> Result<(), AllocError>
-    ensures { OnOk result (leaves.new ≡ leaves.old ++ (record { name = below_front front.now (parameter_name parameter); octets = most_octets_of (parameter_kind parameter) }) ∷ []) }
+    ensures { OnOk result (leaves.new ≡ leaves.old ++ wanted asked.now ((record { name = below_front front.now (parameter_name parameter); octets = most_octets_of (parameter_kind parameter) }) ∷ [])) }
 {
     let octets = most_octets(&parameter.kind());
-    leaves.push(&below(alloc, front, parameter.name())?, octets)
+    let name = below(alloc, front, parameter.name())?;
+    push_wanted(leaves, asked, &name, octets)
 }
 
 /// What a control that is selected first has besides under CF.
-fn push_selection(alloc: Global, leaves: &mut Leaves, front: &[u8]) -> Result<(), AllocError>
-    ensures { OnOk result (leaves.new ≡ leaves.old ++ map (setting_leaf front.now) (parameter_name SboTimeout ∷ parameter_name SboClass ∷ [])) }
+fn push_selection(
+    alloc: Global,
+    leaves: &mut Leaves,
+    asked: &Asked,
+    front: &[u8],
+) -> Result<(), AllocError>
+    ensures { OnOk result (leaves.new ≡ leaves.old ++ wanted asked.now (map (setting_leaf front.now) (parameter_name SboTimeout ∷ parameter_name SboClass ∷ []))) }
 {
-    push_setting(alloc, leaves, front, CtlParameter::SboTimeout)?;
-    push_setting(alloc, leaves, front, CtlParameter::SboClass)?;
+    push_setting(alloc, leaves, asked, front, CtlParameter::SboTimeout)?;
+    push_setting(alloc, leaves, asked, front, CtlParameter::SboClass)?;
     Ok(())
 }
 
@@ -82,23 +120,29 @@ fn push_selection(alloc: Global, leaves: &mut Leaves, front: &[u8]) -> Result<()
 fn push_settings(
     alloc: Global,
     leaves: &mut Leaves,
+    asked: &Asked,
     front: &[u8],
     model: u8,
 ) -> Result<(), AllocError>
-    ensures { OnOk result (leaves.new ≡ leaves.old ++ map (setting_leaf front.now) (settings model)) }
+    ensures { OnOk result (leaves.new ≡ leaves.old ++ wanted asked.now (map (setting_leaf front.now) (settings model))) }
 {
-    push_setting(alloc, leaves, front, CtlParameter::CtlModel)?;
+    push_setting(alloc, leaves, asked, front, CtlParameter::CtlModel)?;
     if model == 2 {
-        return push_selection(alloc, leaves, front);
+        return push_selection(alloc, leaves, asked, front);
     }
     if model == 4 {
-        return push_selection(alloc, leaves, front);
+        return push_selection(alloc, leaves, asked, front);
     }
     Ok(())
 }
 
-fn push_control(alloc: Global, leaves: &mut Leaves, control: &CtlDef) -> Result<(), AllocError>
-    ensures { OnOk result (leaves.new ≡ leaves.old ++ map (setting_leaf (item_key_of control.now.domain control.now.ln (codes "CF") control.now.path)) (settings control.now.model)) }
+fn push_control(
+    alloc: Global,
+    leaves: &mut Leaves,
+    asked: &Asked,
+    control: &CtlDef,
+) -> Result<(), AllocError>
+    ensures { OnOk result (leaves.new ≡ leaves.old ++ wanted asked.now (map (setting_leaf (item_key_of control.now.domain control.now.ln (codes "CF") control.now.path)) (settings control.now.model))) }
 {
     let front = item_key(
         alloc,
@@ -107,32 +151,37 @@ fn push_control(alloc: Global, leaves: &mut Leaves, control: &CtlDef) -> Result<
         b"CF",
         control.path.as_slice(),
     )?;
-    push_settings(alloc, leaves, &front, control.model)
+    push_settings(alloc, leaves, asked, &front, control.model)
 }
 
-fn push_leaves(
+fn push_leaves<'a>(
     alloc: Global,
     room: &mut Vec<u8>,
+    spot: &mut Spot<'a>,
     leaves: &mut Leaves,
-    line: &Line,
+    asked: &Asked,
+    line: &'a Line,
 ) -> Result<(), AllocError>
-    ensures { OnOk result (leaves.new ≡ leaves.old ++ leaves_by line.now) }
+    requires spot { IsRight asked.now spot.old }
+    ensures spot { OnOk result (IsRight asked.now spot.new) }
+    ensures leaves { OnOk result (leaves.new ≡ leaves.old ++ wanted asked.now (leaves_by line.now)) }
 {
     match line {
-        Line::Attr(attr) => push_attribute(room, leaves, attr),
-        Line::Ctl(control) => push_control(alloc, leaves, control),
+        Line::Attr(attr) => push_attribute(room, spot, leaves, asked, attr),
+        Line::Ctl(control) => push_control(alloc, leaves, asked, control),
         _ => Ok(()),
     }
 }
 
-/// What lines make, from the first to the last.
-pub fn leaves_of(alloc: Global, lines: &[Line]) -> Result<Leaves, AllocError>
-    ensures { IfOk result (λ leaves. leaves ≡ leaves_before (reverse lines.now)) }
+/// What lines make, from the first to the last, if it is asked for or has above it what is.
+pub fn leaves_of(alloc: Global, lines: &[Line], asked: &Asked) -> Result<Leaves, AllocError>
+    ensures { IfOk result (λ leaves. leaves ≡ wanted asked.now (leaves_before (reverse lines.now))) }
 {
     let mut leaves = Leaves::with_capacity(alloc, lines.len())?;
     let mut room = Vec::new(alloc);
+    let mut spot = Spot::new();
     for line in lines {
-        push_leaves(alloc, &mut room, &mut leaves, line)?;
+        push_leaves(alloc, &mut room, &mut spot, &mut leaves, asked, line)?;
     }
     Ok(leaves)
 }

@@ -18,12 +18,12 @@ use octet_rows::Index;
 use std::alloc::{AllocError, Global};
 use sv_base::Octs;
 
-/// The nodes, each found by its reference.
+/// The nodes that members name, each found by its reference.
 #[derive(Drop)]
 pub struct Nodes<'a> {
     /// Those that no data set may have, with what is above them.
     closed: Keys,
-    /// Those without parts that a data set may have, if they are not too large.
+    /// Those without parts that a data set may have, if they are not too large: what members name, and what lies below it.
     sizes: Sizes<'a>,
     /// What is above these.
     parts: Parts<'a>,
@@ -67,13 +67,16 @@ fn cap(octets: u32) -> u32
 impl<'a> Nodes<'a> {
     ghost use Rattle.cfg_lines.specs.Nodes.{leaves as leaves_before};
     ghost use Rattle.cfg_lines.specs.Sizes.{octets_of};
+    ghost use Rattle.cfg_nodes.specs.Asked.{asked, wanted};
     ghost use Rattle.cfg_nodes.specs.Indexed.{octets_in};
+    ghost use Rattle.std.specs.Prelude.{true};
 
-    /// The nodes that lines make, from the first to the last, by the nodes without parts among them.
+    /// The nodes that lines make, from the first to the last, by those without parts that are wanted. Each that a member names is
+    /// found as if all were there.
     pub fn of(alloc: Global, lines: &[Line], leaves: &'a Leaves) -> Result<Self, AllocError>
-        requires { leaves.now ≡ leaves_before (reverse lines.now) }
-        ensures nodes { IfOk result (λ nodes. (node : List ℕ) → is_node_in nodes node ≡ is_node (reverse lines.now) node) }
-        ensures members { IfOk result (λ nodes. (node : List ℕ) → is_member_in nodes node ≡ is_member_node (reverse lines.now) node) }
+        requires { leaves.now ≡ wanted (asked (reverse lines.now)) (leaves_before (reverse lines.now)) }
+        ensures nodes { IfOk result (λ nodes. (node : List ℕ) → is_among (asked (reverse lines.now)) node ≡ true → is_node_in nodes node ≡ is_node (reverse lines.now) node) }
+        ensures members { IfOk result (λ nodes. (node : List ℕ) → is_among (asked (reverse lines.now)) node ≡ true → is_member_in nodes node ≡ is_member_node (reverse lines.now) node) }
     {
         let closed = above_of(alloc, &closed_of(alloc, lines)?)?;
         let (sizes, parts) = of_leaves(alloc, leaves)?;

@@ -10,6 +10,7 @@ use crate::telling;
 use cfg_lines::Place;
 use cfg_reading::Reading;
 use memchr::memchr;
+use smallvec::SmallVec;
 use std::alloc::{AllocError, Global};
 
 /// The most octets of a text for whose lines room is made beforehand.
@@ -47,15 +48,16 @@ fn at_line(number: u32, fault: LineFault) -> CfgFault
 }
 
 /// Adds what the next line tells.
-fn read_line(
+fn read_line<'a>(
     alloc: Global,
     reading: &mut Reading,
     room: &mut Vec<u8>,
-    text: &[u8],
+    words: &mut SmallVec<&'a [u8], 10>,
+    text: &'a [u8],
 ) -> Result<(), CfgFault>
     ensures { GivesNew reading.new result (next_at reading.old text.now) }
 {
-    match telling::line(alloc, reading, room, text) {
+    match telling::line(alloc, reading, room, words, text) {
         Ok(line) => match reading.add(alloc, line) {
             Ok(()) => Ok(()),
             Err(AllocError) => Err(CfgFault::Memory),
@@ -75,9 +77,10 @@ pub fn read_lines(alloc: Global, text: &[u8]) -> Result<Reading, CfgFault>
     let octets = text.len().min(MOST_ROOM);
     let mut reading = Reading::with_capacity(alloc, octets)?;
     let mut room = Vec::new(alloc);
+    let mut words = SmallVec::new(alloc);
     let mut rest = text;
     while let Some((line, after)) = split_line(rest) {
-        match read_line(alloc, &mut reading, &mut room, line) {
+        match read_line(alloc, &mut reading, &mut room, &mut words, line) {
             Ok(()) => rest = after,
             Err(fault) => return Err(fault),
         }

@@ -1,15 +1,17 @@
 //! What lines name is looked up when all are there.
 
-ghost use Rattle.std.specs.Prelude.{◌≡◌, ℕ, List};
+ghost use Rattle.std.specs.Prelude.{◌≡◌, ℕ, List, true};
 ghost use Rattle.cfg_parser.specs.Reader.{GivesText};
+ghost use Rattle.cfg_lines.specs.Keys.{is_among};
 ghost use Rattle.cfg_lines.specs.Nodes.{is_node, is_member_node};
+ghost use Rattle.cfg_nodes.specs.Asked.{asked, is_asked};
 ghost use Rattle.cfg_nodes.specs.Indexed.{is_node_in, is_member_in};
 ghost use Rattle.cfg_parser.specs.Looking.{look_at, looked_at, config_at};
 
 use crate::fault::{CfgFault, Kind};
 use crate::lines::read_lines;
 use cfg_lines::Line;
-use cfg_nodes::{Nodes, leaves_of};
+use cfg_nodes::{Nodes, asked_of, leaves_of};
 use cfg_reading::Reading;
 use std::alloc::Global;
 use sv_base::Config;
@@ -17,8 +19,9 @@ use sv_base::Config;
 /// What a line names is there, and may stand there.
 #[tactic(auto, unfolding(crate::specs::Looking::look_at))]
 fn look(reading: &Reading, nodes: &Nodes<'_>, number: u32, line: &Line) -> Result<(), CfgFault>
-    requires nodes { (node : List ℕ) → is_node_in nodes.now node ≡ is_node reading.now node }
-    requires members { (node : List ℕ) → is_member_in nodes.now node ≡ is_member_node reading.now node }
+    requires asked { is_asked (asked reading.now) line.now ≡ true }
+    requires nodes { (node : List ℕ) → is_among (asked reading.now) node ≡ true → is_node_in nodes.now node ≡ is_node reading.now node }
+    requires members { (node : List ℕ) → is_among (asked reading.now) node ≡ true → is_member_in nodes.now node ≡ is_member_node reading.now node }
     ensures { GivesText result (look_at reading.now number line.now) }
 {
     let kind = match line {
@@ -46,8 +49,8 @@ fn look(reading: &Reading, nodes: &Nodes<'_>, number: u32, line: &Line) -> Resul
 
 /// Looks up what the lines name among these nodes, in their order.
 fn look_among(reading: &Reading, nodes: &Nodes<'_>) -> Result<(), CfgFault>
-    requires nodes { (node : List ℕ) → is_node_in nodes.now node ≡ is_node reading.now node }
-    requires members { (node : List ℕ) → is_member_in nodes.now node ≡ is_member_node reading.now node }
+    requires nodes { (node : List ℕ) → is_among (asked reading.now) node ≡ true → is_node_in nodes.now node ≡ is_node reading.now node }
+    requires members { (node : List ℕ) → is_among (asked reading.now) node ≡ true → is_member_in nodes.now node ≡ is_member_node reading.now node }
     ensures { GivesText result (looked_at reading.now reading.now) }
 {
     let lines = reading.lines();
@@ -62,7 +65,8 @@ fn look_up(alloc: Global, reading: &Reading) -> Result<(), CfgFault>
     ensures { GivesText result (looked_at reading.now reading.now) }
 {
     let lines = reading.lines();
-    let leaves = leaves_of(alloc, lines)?;
+    let asked = asked_of(alloc, lines)?;
+    let leaves = leaves_of(alloc, lines, &asked)?;
     let looked = match Nodes::of(alloc, lines, &leaves) {
         Ok(nodes) => look_among(reading, &nodes),
         Err(error) => Err(CfgFault::from(error)),

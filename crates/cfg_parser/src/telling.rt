@@ -15,8 +15,9 @@ use crate::judging::{counts, has_empty, has_long, has_many, is_full, may_stand};
 use crate::keyword::{Keyword, keyword_of};
 use cfg_lines::Line;
 use cfg_reading::Reading;
+use smallvec::SmallVec;
 use std::alloc::Global;
-use text_words::{are_printable, is_skipped, owned, parts_of};
+use text_words::{are_printable, is_skipped, owned, put_parts};
 
 /// `server` and its words.
 fn server_line(
@@ -161,13 +162,14 @@ fn skip(before: &Reading, text: &[u8]) -> Result<Line, LineFault>
     Ok(Line::Skip)
 }
 
-/// What the next line tells.
+/// What the next line tells, whose words are put in a room.
 #[tactic(auto, unfolding(crate::specs::Judging::line_at))]
-pub fn line(
+pub fn line<'a>(
     alloc: Global,
     before: &Reading,
     room: &mut Vec<u8>,
-    text: &[u8],
+    words: &mut SmallVec<&'a [u8], 10>,
+    text: &'a [u8],
 ) -> Result<Line, LineFault>
     ensures told { Gives result (line_at before.now text.now) }
     ensures room { IfOk result (λ _. length before.now < 20000) }
@@ -178,6 +180,6 @@ pub fn line(
     if is_skipped(text) {
         return skip(before, text);
     }
-    let words = parts_of(alloc, text, b' ')?;
-    tell(alloc, before, room, text, &words)
+    put_parts(words, text, b' ')?;
+    tell(alloc, before, room, text, words)
 }

@@ -10,8 +10,6 @@ use Rattle.sv_base.specs.declared.value.Value.{Value}
 use Rattle.sv_base.specs.declared.value.Value.TheVariants as kinds
 use Rattle.bay_model.specs.Model.{Kind, select, operate, cancel, Call as Calling}
 use Rattle.bay_rooms.specs.Kinds.{is_kind, is_in_range}
-use Rattle.control_core.specs.declared.command.Call.{Call}
-use Rattle.control_core.specs.declared.command.Call.TheVariants as calls
 use Rattle.bay_model.specs.Model as model
 use Rattle.bay_model.specs.Commands.{Command, is_rest}
 use Rattle.control_core.specs.declared.command.CtlKind.{CtlKind}
@@ -113,11 +111,6 @@ of_kind kind s = option_and_then (λ (s : Said). if is_kind kind (value_of s.val
 -- origin, ctlNum and what follows are within their limits
 abbrev pub is_limited : Calling → Said → Bool
 is_limited call s = int_le (neg_ℤ (pos 128)) s.or_cat && int_le s.or_cat (pos 127) && nat_le (length s.or_ident) 64 && nat_lt s.ctl_num 256 && is_rest call s.rest
-
-abbrev pub call_in : Call → Calling
-call_in calls.Select = select
-call_in calls.Operate = operate
-call_in calls.Cancel = cancel
 
 abbrev pub kind_in : CtlKind → Kind
 kind_in ctl_kinds.Bool = model.truth

@@ -1,14 +1,6 @@
 //! What the value of a command says.
 
-use sv_base::{Utc, Value};
-
-/// The services of a control that carry a value (IEC 61850-7-2): SelectWithValue, Operate and Cancel.
-#[derive(Clone, Copy, Debug, PartialEq, Eq)]
-pub enum Call {
-    Select,
-    Operate,
-    Cancel,
-}
+use sv_base::{Call, Utc, Value};
 
 /// The type of a ctlVal.
 #[derive(Clone, Copy, Debug, PartialEq, Eq)]
@@ -55,7 +47,7 @@ ghost use Rattle.sv_base.specs.Seen.{seen_of, row_of};
 ghost use Rattle.bay_model.specs.Model.{operate};
 ghost use Rattle.bay_rooms.specs.Kinds.{is_kind, is_in_range};
 ghost use Rattle.bay_model.specs.Commands.{command_of as command_in, is_command, is_rest};
-ghost use Rattle.control_core.specs.Commands.{int_in, octets_in, uint_in, time_in, bool_in, kind_in, call_in, origin_row, origin_in, parts_in, said_in, of_kind, seen_val, rest_checked, said, value_said, is_limited};
+ghost use Rattle.control_core.specs.Commands.{int_in, octets_in, uint_in, time_in, bool_in, kind_in, origin_row, origin_in, parts_in, said_in, of_kind, seen_val, rest_checked, said, value_said, is_limited};
 
 fn int_of(value: &Value) -> Option<i64>
     ensures { result ≡ int_in (seen_of value.now) }
@@ -195,7 +187,7 @@ fn check_of(rest: &[Value]) -> Option<Check>
 }
 
 fn is_end(call: Call, rest: &[Value]) -> bool
-    ensures { result ≡ is_rest (call_in call) (row_of rest.now) }
+    ensures { result ≡ is_rest call (row_of rest.now) }
 {
     match call {
         Call::Select | Call::Operate => check_of(rest).is_some(),
@@ -205,7 +197,7 @@ fn is_end(call: Call, rest: &[Value]) -> bool
 
 /// Origin, ctlNum and what follows are within their limits.
 fn is_within(call: Call, command: &CommandRef<'_>) -> bool
-    ensures { result ≡ is_limited (call_in call) (said command.now) }
+    ensures { result ≡ is_limited call (said command.now) }
 {
     -128 <= command.origin.cat
         && command.origin.cat <= 127
@@ -217,10 +209,10 @@ fn is_within(call: Call, command: &CommandRef<'_>) -> bool
 /// Reads a command; none exactly where the value isn't of the type of the call's node, length and range included.
 pub fn read(kind: CtlKind, call: Call, value: &Value) -> Option<CommandRef<'_>>
     ensures found { IfSome result (λ r. value.now ≡ value_said (said r)) }
-    ensures typed { is_some result ≡ is_command (kind_in kind) (call_in call) (command_in value.now) }
+    ensures typed { is_some result ≡ is_command (kind_in kind) call (command_in value.now) }
     ensures short { IfSome result (λ r. length r.origin.ident.now ≤ 64) }
     ensures few { IfSome result (λ r. r.ctl_num < 256) }
-    ensures checked { IfSome result (λ r. is_rest (call_in call) (row_of r.rest.now) ≡ true) }
+    ensures checked { IfSome result (λ r. is_rest call (row_of r.rest.now) ≡ true) }
 {
     let command = command_of(kind, value)?;
     if is_within(call, &command) {

@@ -6,14 +6,14 @@ ghost use Rattle.bay_model.specs.Configured.{control_defined};
 ghost use Rattle.control_core.specs.Commands.{kind_in};
 ghost use Rattle.control_core.specs.Opening.{IsCtlKind};
 
-use crate::command::{Call, CommandRef, CtlKind, read};
+use crate::command::{CommandRef, CtlKind, read};
 use crate::executed::Executed;
 use crate::kept_command::error_of;
 use crate::selected::Selected;
 use bay_model::{ApplError, Termination};
 use std::alloc::{AllocError, Global};
 use std::marker::Model;
-use sv_base::{AssocNo, CtlDef, CtlNo, Moment, Octs, TypeOf, Value};
+use sv_base::{AssocNo, Call, CtlDef, CtlNo, Moment, Octs, TypeOf, Value};
 
 /// The AddCause time-limit-over (IEC 61850-7-2), which a negative CommandTermination carries.
 const TIME_LIMIT_OVER: u8 = 16;
@@ -89,7 +89,7 @@ impl Control {
     ghost use Rattle.bay_model.specs.Calls.{first_cause};
     ghost use Rattle.bay_model.specs.Configured.{control_defined};
     ghost use Rattle.control_core.specs.Opening.{IsCtlKind, IsNumber};
-    ghost use Rattle.control_core.specs.Commands.{said, command_said, value_said, call_in, seen_val};
+    ghost use Rattle.control_core.specs.Commands.{said, command_said, value_said, seen_val};
     ghost use Rattle.bay_model.specs.Selections.{without_a};
     ghost use Rattle.control_core.specs.Controls.{idle, causes_at, went_at, can_select_at, selected_by, cancelled_by, operated_by, done as done_to, due as due_in, lost_by, stopped, blocked_as, is_selectable as is_selectable_in, is_enhanced as is_enhanced_in, error_at, terminations, begun, renewed};
     ghost use Rattle.sv_base.specs.Same.{value_of};
@@ -178,7 +178,7 @@ impl Control {
     }
 
     fn cause(&self, now: Moment, call: Call, a: AssocNo, command: &CommandRef<'_>) -> Option<u8>
-        ensures { result ≡ first_cause (causes_at now (call_in call) a.0 (Some (command_said (said command.now))) self.now) }
+        ensures { result ≡ first_cause (causes_at now call a.0 (Some (command_said (said command.now))) self.now) }
     {
         match call {
             Call::Select => self.cause_of_select(now),
@@ -195,12 +195,12 @@ impl Control {
         a: AssocNo,
         value: &'a Value,
     ) -> Result<CommandRef<'a>, u8>
-        requires typed { is_command self.now.config.kind (call_in call) (command_of value.now) ≡ true }
-        ensures went { went_of result ≡ went_at now (call_in call) a.0 value.now self.now }
+        requires typed { is_command self.now.config.kind call (command_of value.now) ≡ true }
+        ensures went { went_of result ≡ went_at now call a.0 value.now self.now }
         ensures found { IfOk result (λ r. value.now ≡ value_said (said r)) }
         ensures short { IfOk result (λ r. length r.origin.ident.now ≤ 64) }
         ensures few { IfOk result (λ r. r.ctl_num < 256) }
-        ensures checked { IfOk result (λ r. is_rest (call_in call) (row_of r.rest.now) ≡ true) }
+        ensures checked { IfOk result (λ r. is_rest call (row_of r.rest.now) ≡ true) }
     {
         let Some(command) = read(self.kind, call, value) else {
             unreachable!()
@@ -345,7 +345,7 @@ impl Control {
 
     /// The value is of the type of the call's node, length and range included.
     pub fn is_typed(&self, call: Call, value: &Value) -> bool
-        ensures { result ≡ is_command self.now.config.kind (call_in call) (command_of value.now) }
+        ensures { result ≡ is_command self.now.config.kind call (command_of value.now) }
     {
         read(self.kind, call, value).is_some()
     }
@@ -369,8 +369,8 @@ impl Control {
         value: &Value,
         cause: u8,
     ) -> Result<ApplError, AllocError>
-        requires typed { is_command self.now.config.kind (call_in call) (command_of value.now) ≡ true }
-        ensures { IfOk result (λ e. e ≡ error_at self.now.config.reference (call_in call) value.now cause) }
+        requires typed { is_command self.now.config.kind call (command_of value.now) ≡ true }
+        ensures { IfOk result (λ e. e ≡ error_at self.now.config.reference call value.now cause) }
     {
         match read(self.kind, call, value) {
             Some(command) => error_of(alloc, self.reference.as_slice(), call, &command, cause),

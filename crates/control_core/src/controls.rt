@@ -8,12 +8,11 @@ ghost use Rattle.bay_model.specs.Configured.{control_defined};
 ghost use Rattle.control_core.specs.Opening.{IsCtlKind};
 ghost use Rattle.control_core.specs.Controls.{lost_by, idle};
 
-use crate::command::Call;
 use crate::control::{Control, Went};
 use bay_model::{ApplError, Termination};
 use std::alloc::{AllocError, Global};
 use std::marker::Model;
-use sv_base::{AssocNo, Config, CtlDef, CtlNo, Moment, Value};
+use sv_base::{AssocNo, Call, Config, CtlDef, CtlNo, Moment, Value};
 
 /// The controls at a moment. Contracts see the moment, and each control by its number.
 #[derive(Drop)]
@@ -71,7 +70,6 @@ impl Controls {
     ghost use Rattle.bay_model.specs.Configured.{control_defined};
     ghost use Rattle.control_core.specs.declared.control.Went.TheVariants as outcomes;
     ghost use Rattle.control_core.specs.Opening.{IsCtlKind, IsNumber};
-    ghost use Rattle.control_core.specs.Commands.{call_in};
     ghost use Rattle.control_core.specs.Controls.{went_at, can_select_at, due as due_in, stopped, error_at, terminations};
     ghost use Rattle.control_core.specs.Answers.{went_of, effect_at};
     ghost use Rattle.control_core.specs.Tables.{control_at, changed, opened_of, at_moment, after_deed};
@@ -114,7 +112,7 @@ impl Controls {
     /// included.
     pub fn is_typed(&self, c: CtlNo, call: Call, value: &Value) -> bool
         requires { c.0 < length self.now.controls }
-        ensures { result ≡ is_command (control_at self.now.controls c.0).config.kind (call_in call) (command_of value.now) }
+        ensures { result ≡ is_command (control_at self.now.controls c.0).config.kind call (command_of value.now) }
     {
         self.controls[c.0 as usize].is_typed(call, value)
     }
@@ -231,8 +229,8 @@ impl Controls {
         cause: u8,
     ) -> Result<ApplError, AllocError>
         requires control { c.0 < length self.now.controls }
-        requires typed { is_command (control_at self.now.controls c.0).config.kind (call_in call) (command_of value.now) ≡ true }
-        ensures { IfOk result (λ e. e ≡ error_at (control_at self.now.controls c.0).config.reference (call_in call) value.now cause) }
+        requires typed { is_command (control_at self.now.controls c.0).config.kind call (command_of value.now) ≡ true }
+        ensures { IfOk result (λ e. e ≡ error_at (control_at self.now.controls c.0).config.reference call value.now cause) }
     {
         self.controls[c.0 as usize].error(alloc, call, value, cause)
     }

@@ -5,14 +5,14 @@ ghost use Rattle.bay_model.specs.Outputs.{name_of_call};
 ghost use Rattle.control_core.specs.Blame.{blame};
 ghost use Rattle.sv_base.specs.Same.{is_same_seen};
 ghost use Rattle.sv_base.specs.declared.value.Value.TheVariants as kinds;
-ghost use Rattle.control_core.specs.Commands.{seen_val, call_in, said};
+ghost use Rattle.control_core.specs.Commands.{seen_val, said};
 
-use crate::command::{Call, Check, CommandRef, CtlVal, check_in};
+use crate::command::{Check, CommandRef, CtlVal, check_in};
 use bay_model::ApplError;
 use bay_rooms::Fixed;
 use std::alloc::{AllocError, Global};
 use std::marker::Model;
-use sv_base::{Bits, Octs, Utc, Value, Values};
+use sv_base::{Bits, Call, Octs, Utc, Value, Values};
 
 /// The most octets of an orIdent.
 const MOST: u32 = 64;
@@ -48,14 +48,11 @@ impl Model for KeptCommand {
 
 /// The reference of the variable that is written.
 fn object_of(alloc: Global, reference: &[u8], call: Call) -> Result<Octs, AllocError>
-    ensures { IfOk result (λ o. o ≡ reference.now ++ name_of_call (call_in call)) }
+    ensures { IfOk result (λ o. o ≡ reference.now ++ name_of_call call) }
 {
     let mut object = Vec::from_slice(alloc, reference)?;
-    match call {
-        Call::Select => object.extend_from_slice(b"$SBOw")?,
-        Call::Operate => object.extend_from_slice(b"$Oper")?,
-        Call::Cancel => object.extend_from_slice(b"$Cancel")?,
-    }
+    object.push(b'$')?;
+    object.extend_from_slice(call.service().name())?;
     Ok(Octs::from_vec(object))
 }
 
@@ -68,7 +65,7 @@ pub fn error_of(
     cause: u8,
 ) -> Result<ApplError, AllocError>
     requires { command.now.ctl_num < 256 }
-    ensures { IfOk result (λ e. e ≡ blame reference.now (call_in call) (said command.now) cause) }
+    ensures { IfOk result (λ e. e ≡ blame reference.now call (said command.now) cause) }
 {
     Ok(ApplError {
         object: object_of(alloc, reference, call)?,

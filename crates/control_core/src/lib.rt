@@ -11,7 +11,6 @@ mod laws;
 mod selected;
 
 // the controls, and what is said of their calls
-pub use command::Call;
 pub use control::Went;
 pub use controls::Controls;
 

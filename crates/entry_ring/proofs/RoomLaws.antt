@@ -1,6 +1,7 @@
 -- A room with one more entry.
 use Rattle.std.proofs.Common.{◌≡◌, ◌≤◌, ℕ, ◌+◌, ◌-◌, List, [], ◌∷◌, ◌++◌, length, take, drop, refl, sym, ap, ◌∙◌, arith, length-append}
-use Rattle.std.specs.Prelude.{Option, Some, slice_get}
+use Rattle.std.specs.Prelude.{Option, Some, min, slice_get}
+use Rattle.std.proofs.lemmas.List.{take_all}
 use Rattle.circular_buffer.specs.Buffer.{Buffer, buffer, keep_last}
 use Rattle.entry_ring.specs.declared.room.Place.{Place}
 use Rattle.entry_ring.specs.Held.{Held}
@@ -19,14 +20,14 @@ pub record IsPushed (capacity begin end total : ℕ) (places : Buffer Place) (oc
 
 pub pushed : (capacity begin end total : ℕ) (places : Buffer Place) (octets : Buffer ℕ) (p : Place) (row : List ℕ) (more : Buffer Place) (all : Buffer ℕ)
     → IsRoom capacity begin end total places octets → p.at ≡ end → p.len ≡ length row → total + (24 + length row) ≤ capacity
-    → more ≡ buffer (keep_last places.capacity (places.items ++ p ∷ [])) places.capacity → all ≡ buffer (keep_last octets.capacity (octets.items ++ row)) octets.capacity
+    → more ≡ buffer (keep_last places.capacity (places.items ++ p ∷ [])) places.capacity → all ≡ buffer (octets.items ++ take (min (length row) (octets.capacity - length octets.items)) row) octets.capacity
     → IsPushed capacity begin (behind capacity end (length row)) (total + (24 + length row)) more all (held_in places.items octets.items) (record { moment = p.moment; step = p.step; kept = row })
 pushed capacity begin end total places octets p row more all r at len fits m a =
     let sum = laid-sizes capacity begin places.items octets.items r.laid in
     let count : length (places.items ++ p ∷ []) ≤ places.capacity = omega (arith, length-append places.items (p ∷ []), r.place_room, r.sum, sum, fits) in
     let room : length (octets.items ++ row) ≤ octets.capacity = omega (arith, length-append octets.items row, r.octet_room, r.sum, sum, fits) in
     let is_more : more ≡ buffer (places.items ++ p ∷ []) places.capacity = m ∙ ap (λ l. buffer l places.capacity) (keep-all places.capacity (places.items ++ p ∷ []) count) in
-    let is_all : all ≡ buffer (octets.items ++ row) octets.capacity = a ∙ ap (λ l. buffer l octets.capacity) (keep-all octets.capacity (octets.items ++ row) room) in
+    let is_all : all ≡ buffer (octets.items ++ row) octets.capacity = a ∙ ap (λ l. buffer (octets.items ++ l) octets.capacity) (take_all (min (length row) (octets.capacity - length octets.items)) row (omega (arith, room, length-append octets.items row))) in
     let laid = laid-snoc capacity begin places.items octets.items row p r.laid (at ∙ r.ended) len in
     let total_is = laid-sizes capacity begin (places.items ++ p ∷ []) (octets.items ++ row) laid in
     rw (is_more, is_all) (record {

@@ -15,8 +15,8 @@ pub const OVERHEAD: usize = 24;
 struct Place {
     moment: Moment,
     step: u64,
-    at: usize,
-    len: usize,
+    at: u32,
+    len: u32,
 }
 
 /// Entries, the oldest first, in room for a capacity in octets.
@@ -104,10 +104,10 @@ impl Room {
         let Some(oldest) = self.places.pop_front() else {
             return;
         };
-        let left = self.octets.len() - oldest.len;
-        self.octets.truncate_front(left);
-        self.begin = behind(self.capacity, self.begin, oldest.len);
-        self.total -= OVERHEAD + oldest.len;
+        let len = oldest.len as usize;
+        self.octets.truncate_front(self.octets.len() - len);
+        self.begin = behind(self.capacity, self.begin, len);
+        self.total -= OVERHEAD + len;
     }
 
     /// Adds an entry that fits. It takes no memory.
@@ -118,10 +118,10 @@ impl Room {
         self.places.push_back(Place {
             moment,
             step,
-            at: self.end,
-            len: kept.len(),
+            at: self.end as u32,
+            len: kept.len() as u32,
         });
-        self.octets.extend_from_slice(kept);
+        self.octets.fill_from_slice(kept);
         self.end = behind(self.capacity, self.end, kept.len());
         self.total += OVERHEAD + kept.len();
     }
@@ -146,8 +146,8 @@ impl Room {
         let (first, second) = cut(
             first,
             second,
-            offset(self.capacity, self.begin, place.at),
-            place.len,
+            offset(self.capacity, self.begin, place.at as usize),
+            place.len as usize,
         );
         Some(Entry {
             moment: place.moment,

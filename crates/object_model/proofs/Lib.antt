@@ -5,6 +5,7 @@ pub mod GrowLaws
 pub mod LargestLaws
 pub mod StandLaws
 pub mod AttrLaws
+pub mod RunLaws
 pub mod ListingLaws
 pub mod ResolveLaws
 pub mod ApartLaws

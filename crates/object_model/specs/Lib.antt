@@ -4,6 +4,7 @@ pub mod Groups
 pub mod Leaves
 pub mod Grown
 pub mod Nodes
+pub mod Runs
 pub mod Attrs
 pub mod Stands
 pub mod Listed

@@ -48,7 +48,8 @@ fn place_of(places: &Places<'_>, groups: &[Group<'_>], name: &[u8]) -> Option<us
 /// Gives the last group's name its place.
 #[tactic(auto, using(crate::proofs::PutLaws::empty_front))]
 fn place_last<'a>(places: &mut Places<'a>, groups: &[Group<'a>]) -> Result<(), AllocError>
-    requires { PlacesFront places.old (map group_name groups.now) }
+    requires groups { AreGroups groups.now }
+    requires placed { PlacesFront places.old (map group_name groups.now) }
     ensures { OnOk result (PlacesOf places.new (map group_name groups.now)) }
 {
     let [front @ .., last] = groups else {

@@ -12,6 +12,7 @@ mod attrs;
 mod finding;
 mod listing;
 mod nodes;
+mod runs;
 mod stands;
 mod tables;
 
@@ -22,4 +23,4 @@ mod model;
 
 pub use laws::{models_cross_threads, names_find_their_nodes, rows_are_the_nodes};
 pub use model::Model;
-pub use object_names::{Call, Leaf, What, domains};
+pub use object_names::{Leaf, What, domains};

@@ -5,12 +5,14 @@ ghost use Rattle.sv_base.specs.declared.config.Config.{Config as ModelConfig};
 ghost use Rattle.bay_model.specs.NamedLines.{domains as domains_of, lines as lines_of, in_order as lines_in_order};
 ghost use Rattle.object_model.specs.Listed.{IsDirectoryOf, IsListed, IsOneMore};
 ghost use Rattle.object_model.specs.Nodes.{names_at, places_from};
+ghost use Rattle.object_model.specs.Runs.{AreRuns, lines_in};
 ghost use Rattle.object_model.specs.Attrs.{attrs_in_spots, rows_with};
 ghost use Rattle.object_model.specs.Stands.{owns, stands_from};
 
 use crate::attrs::attrs_of;
 use crate::growth::Spot;
 use crate::nodes::{NodeName, growth_of, push_nodes, usual_nodes};
+use crate::runs::{Run, runs_of};
 use crate::stands::{Stand, push_stands};
 use bay_model::NodeRow;
 use name_order::places_in_order;
@@ -100,14 +102,15 @@ fn push_spots(
 fn push_domain(
     alloc: Global,
     listing: &mut Listing,
-    lines: &[Line<'_>],
+    runs: &[Run<'_, '_>],
     domain: &[u8],
 ) -> Result<(), AllocError>
-    ensures { OnOk result (IsOneMore listing.old listing.new (places_from lines.now domain.now)) }
+    requires { AreRuns runs.now }
+    ensures { OnOk result (IsOneMore listing.old listing.new (places_from (lines_in runs.now) domain.now)) }
 {
     let first = count(listing.rows.as_slice().len())?;
     let number = count(listing.directories.as_slice().len())?;
-    let growth = growth_of(alloc, lines, domain)?;
+    let growth = growth_of(alloc, runs, domain)?;
     let (items, spots) = (growth.items, growth.spots);
     if let Err(error) = push_spots(alloc, listing, number, &items, spots) {
         drop(items);
@@ -140,8 +143,9 @@ pub fn list(
     ensures { IfOk result (λ l. IsListed config.now (length (domains_of config.now)) l) }
 {
     let mut listing = Listing::with_capacity(alloc, usual_nodes(lines.len()))?;
+    let runs = runs_of(alloc, lines)?;
     for domain in domains {
-        push_domain(alloc, &mut listing, lines, domain.as_slice())?;
+        push_domain(alloc, &mut listing, &runs, domain.as_slice())?;
     }
     fit(&mut listing);
     Ok(listing)

@@ -9,11 +9,13 @@ ghost use Rattle.bay_model.specs.Places.{constraint as constraint_of, member_con
 ghost use Rattle.object_model.specs.Grown.{items_of, spot};
 ghost use Rattle.object_model.specs.Attrs.{row_with, rows_with};
 ghost use Rattle.object_model.specs.Nodes.{names_at, places_from};
+ghost use Rattle.object_model.specs.Runs.{AreRuns, IsRun, lines_in};
 
 use crate::attrs::own_count;
 use crate::growing::{Cut, behind, front};
 use crate::growth::{Grown, Growth, Spot, grow};
 use crate::largest::largest;
+use crate::runs::{Run, count_of, is_same};
 use bay_model::{AttrIds, MemberShape, NodeRow};
 use name_order::name_at;
 use object_names::numbers::{count, plus};
@@ -42,29 +44,21 @@ fn push_names<'a>(out: &mut Vec<Cut<'a>>, names: &'a [Named<'_>]) -> Result<(), 
     Ok(())
 }
 
-/// The names are the same; their last octets, in which names of domains mostly differ, are looked at first.
-fn is_same(one: &[u8], other: &[u8]) -> bool
-    ensures { result ≡ bytes_eq one.now other.now }
+fn push_lines<'a>(out: &mut Vec<Cut<'a>>, lines: &'a [Line<'_>]) -> Result<(), AllocError>
+    ensures { OnOk result (out.new.items ≡ out.old.items ++ flat_map (λ (l : ModelLine). l.names) lines.now) }
 {
-    let len = one.len();
-    if len != other.len() {
-        return false;
+    for line in lines {
+        push_names(out, &line.names)?;
     }
-    if len > 0 && one[len - 1] != other[len - 1] {
-        return false;
-    }
-    one == other
+    Ok(())
 }
 
-fn push_line<'a>(
-    out: &mut Vec<Cut<'a>>,
-    line: &'a Line<'_>,
-    domain: &[u8],
-) -> Result<(), AllocError>
-    ensures { OnOk result (out.new.items ≡ out.old.items ++ flat_map (λ (l : ModelLine). l.names) (filter (λ (l : ModelLine). bytes_eq l.domain domain.now) (line.now ∷ []))) }
+fn push_run<'a>(out: &mut Vec<Cut<'a>>, run: Run<'a, '_>, domain: &[u8]) -> Result<(), AllocError>
+    requires { IsRun run }
+    ensures { OnOk result (out.new.items ≡ out.old.items ++ flat_map (λ (l : ModelLine). l.names) (filter (λ (l : ModelLine). bytes_eq l.domain domain.now) run.entry.lines.now)) }
 {
-    if is_same(line.domain, domain) {
-        push_names(out, &line.names)?;
+    if is_same(run.domain, domain) {
+        push_lines(out, run.lines)?;
     }
     Ok(())
 }
@@ -72,14 +66,15 @@ fn push_line<'a>(
 /// What the lines of a domain name.
 fn names_of<'a>(
     alloc: Global,
-    lines: &'a [Line<'_>],
+    runs: &[Run<'a, '_>],
     domain: &[u8],
 ) -> Result<Vec<Cut<'a>>, AllocError>
-    ensures { IfOk result (λ v. v.items ≡ flat_map (λ (l : ModelLine). l.names) (filter (λ (l : ModelLine). bytes_eq l.domain domain.now) lines.now)) }
+    requires { AreRuns runs.now }
+    ensures { IfOk result (λ v. v.items ≡ flat_map (λ (l : ModelLine). l.names) (filter (λ (l : ModelLine). bytes_eq l.domain domain.now) (lines_in runs.now))) }
 {
-    let mut cuts = Vec::new(alloc);
-    for line in lines {
-        push_line(&mut cuts, line, domain)?;
+    let mut cuts = Vec::with_capacity(alloc, count_of(runs, domain))?;
+    for run in runs {
+        push_run(&mut cuts, *run, domain)?;
     }
     Ok(cuts)
 }
@@ -96,16 +91,17 @@ fn levels_of(cuts: &[Cut<'_>]) -> usize
 }
 
 /// How many nodes so many names have mostly, at one structure a name and some above these.
-pub fn usual_nodes(names: usize) -> usize {
+pub(crate) fn usual_nodes(names: usize) -> usize {
     names.saturating_mul(2).saturating_add(64)
 }
 
 /// The nodes of a domain, each before its parts, and their items.
-pub fn growth_of(alloc: Global, lines: &[Line<'_>], domain: &[u8]) -> Result<Growth, AllocError>
-    ensures items { IfOk result (λ growth. growth.items ≡ items_of (places_from lines.now domain.now)) }
-    ensures spots { IfOk result (λ growth. growth.spots.items ≡ map spot (places_from lines.now domain.now)) }
+pub fn growth_of(alloc: Global, runs: &[Run<'_, '_>], domain: &[u8]) -> Result<Growth, AllocError>
+    requires { AreRuns runs.now }
+    ensures items { IfOk result (λ growth. growth.items ≡ items_of (places_from (lines_in runs.now) domain.now)) }
+    ensures spots { IfOk result (λ growth. growth.spots.items ≡ map spot (places_from (lines_in runs.now) domain.now)) }
 {
-    let cuts = names_of(alloc, lines, domain)?;
+    let cuts = names_of(alloc, runs, domain)?;
     let mut growth = Growth::with_capacity(alloc, usual_nodes(cuts.len()))?;
     let mut all = Grown::new(alloc);
     grow(alloc, &mut growth, &mut all, &cuts, levels_of(&cuts))?;

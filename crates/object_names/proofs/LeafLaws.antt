@@ -2,17 +2,10 @@
 use Rattle.std.proofs.Common.{◌≡◌, List, [], ◌∷◌, map, refl, ap, ◌∙◌}
 use Rattle.bay_model.specs.Model as model
 use Rattle.bay_model.specs.Model.{Leaf, Role, single, selecting, calling, several, attribute, component, setting, withheld}
-use Rattle.object_names.specs.Seen.{role_seen, call_seen}
-use Rattle.object_names.specs.Leaves.{leaf_seen, call_code, leaf_code, what_code}
+use Rattle.object_names.specs.Seen.{role_seen}
+use Rattle.object_names.specs.Leaves.{leaf_seen, leaf_code, what_code}
 use Rattle.object_names.specs.declared.named.What.{What}
 use Rattle.object_names.specs.declared.named.What.TheVariants as whats
-use Rattle.object_names.specs.declared.named.Call.{Call}
-use Rattle.object_names.specs.declared.named.Call.TheVariants as calls
-
-call_back : (k : Call) → call_code (call_seen k) ≡ k
-call_back calls.Select = refl
-call_back calls.Operate = refl
-call_back calls.Cancel = refl
 
 pub what_back : (w : What) → what_code (role_seen w) ≡ w
 what_back (whats.Attribute x) = refl
@@ -20,13 +13,8 @@ what_back (whats.Component b k) = refl
 what_back (whats.Setting d k) = refl
 what_back whats.Withheld = refl
 what_back (whats.Selecting k) = refl
-what_back (whats.Calling k call) = ap (whats.Calling k) (call_back call)
+what_back (whats.Calling k call) = refl
 what_back whats.Structure = refl
-
-call_there : (k : model.Call) → call_seen (call_code k) ≡ k
-call_there model.select = refl
-call_there model.operate = refl
-call_there model.cancel = refl
 
 pub role_there : (r : Role) → role_seen (what_code r) ≡ r
 role_there (single (attribute x)) = refl
@@ -34,7 +22,7 @@ role_there (single (component b k)) = refl
 role_there (single (setting d k)) = refl
 role_there (single withheld) = refl
 role_there (selecting k) = refl
-role_there (calling k call) = ap (calling k) (call_there call)
+role_there (calling k call) = refl
 role_there several = refl
 
 leaf_there : (l : Leaf) → leaf_seen (leaf_code l) ≡ l

@@ -6,8 +6,6 @@ use Rattle.object_names.specs.declared.leaves.Leaf.{Leaf}
 use Rattle.object_names.specs.declared.leaves.Leaf.TheVariants as ends
 use Rattle.object_names.specs.declared.named.What.{What}
 use Rattle.object_names.specs.declared.named.What.TheVariants as whats
-use Rattle.object_names.specs.declared.named.Call.{Call}
-use Rattle.object_names.specs.declared.named.Call.TheVariants as calls
 
 abbrev pub leaf_seen : Leaf → model.Leaf
 leaf_seen (ends.Attribute x) = attribute x.0
@@ -34,11 +32,6 @@ own_leaf several = None
 
 -- ---- for the code
 
-abbrev pub call_code : model.Call → Call
-call_code model.select = calls.Select
-call_code model.operate = calls.Operate
-call_code model.cancel = calls.Cancel
-
 abbrev pub leaf_code : model.Leaf → Leaf
 leaf_code (attribute x) = ends.Attribute (record { 0 = x })
 leaf_code (component b k) = ends.Component (record { 0 = b }) k
@@ -51,5 +44,5 @@ what_code (single (component b k)) = whats.Component b k
 what_code (single (setting d k)) = whats.Setting d k
 what_code (single withheld) = whats.Withheld
 what_code (selecting k) = whats.Selecting k
-what_code (calling k call) = whats.Calling k (call_code call)
+what_code (calling k call) = whats.Calling k call
 what_code several = whats.Structure

@@ -21,6 +21,6 @@ pub use attributes::{AttrRow, Attributes};
 pub use index::index_of;
 pub use leaves::{Leaf, own_leaf};
 pub use lines::{Line, domains, ordered_lines};
-pub use named::{Call, Item, Named, What};
+pub use named::{Item, Named, What};
 pub use places::Places;
 pub use references::{block_references, control_references};

@@ -2,24 +2,17 @@
 
 ghost use Rattle.std.specs.Prelude.{◌≡◌, ◌∷◌, ◌++◌, [], codes, map, IfOk, OnOk};
 ghost use Rattle.sv_base.specs.Parameters.{parameter_name, parameter_kind};
+ghost use Rattle.sv_base.specs.CtlServices.{service_name, service_of};
 ghost use Rattle.bay_model.specs.Generated.{within, end_named, structure_named, block_names, setting_named, setting_names, part_named, command_names, sbo_names, sbow_names, cancel_names, control_names, parameters, selection, parameter_names};
 ghost use Rattle.bay_model.specs.Model.{attribute, withheld};
-ghost use Rattle.object_names.specs.Seen.{role_seen, call_seen};
+ghost use Rattle.object_names.specs.Seen.{role_seen};
 
 use crate::numbers::plus;
 use crate::references::{is_selected, joined};
 use bay_model::{Comp, SettingComp};
 use std::alloc::{AllocError, Global};
 use std::marker::Model;
-use sv_base::{CallPart, CtlDef, CtlParameter, Octs, Parts, TypeOf};
-
-/// A service of a control that carries a value (IEC 61850-8-1, SBOw, Oper and Cancel).
-#[derive(Clone, Copy)]
-pub enum Call {
-    Select,
-    Operate,
-    Cancel,
-}
+use sv_base::{Call, CallPart, CtlDef, CtlParameter, CtlService, Octs, Parts, TypeOf};
 
 /// What stands at a name: an attribute, a component of a report block or of a domain's setting group block, a part of a
 /// control's command, its SBO, one of its commands, or a structure.
@@ -234,7 +227,7 @@ fn push_command(
     item: &[u8],
     call: Call,
 ) -> Result<(), AllocError>
-    ensures { OnOk result (out.new.items ≡ out.old.items ++ command_names number kind.now item.now (call_seen call)) }
+    ensures { OnOk result (out.new.items ≡ out.old.items ++ command_names number kind.now item.now call) }
 {
     let made = Item::made(Octs::from_vec(Vec::from_slice(alloc, item)?));
     out.push(structure(alloc, made, What::Calling(number, call))?)?;
@@ -259,7 +252,7 @@ fn push_sbo(
             alloc,
             out,
             item,
-            b"SBO",
+            CtlService::Sbo.name(),
             What::Selecting(number),
             TypeOf::Text(129),
         )?;
@@ -267,19 +260,18 @@ fn push_sbo(
     Ok(())
 }
 
-/// Adds a command of control `number`, of this name, at `LN$CO$DO`.
+/// Adds a command of control `number` at `LN$CO$DO`.
 fn push_call(
     alloc: Global,
     out: &mut Vec<Named<'_>>,
     number: u32,
     control: &CtlDef,
     item: &[u8],
-    name: &[u8],
     call: Call,
 ) -> Result<(), AllocError>
-    ensures { OnOk result (out.new.items ≡ out.old.items ++ command_names number control.now.kind (within item.now name.now) (call_seen call)) }
+    ensures { OnOk result (out.new.items ≡ out.old.items ++ command_names number control.now.kind (within item.now (service_name (service_of call))) call) }
 {
-    let item = joined(alloc, item, b'$', name)?;
+    let item = joined(alloc, item, b'$', call.service().name())?;
     push_command(alloc, out, number, &control.kind, &item, call)
 }
 
@@ -294,7 +286,7 @@ fn push_sbow(
     ensures { OnOk result (out.new.items ≡ out.old.items ++ sbow_names number control.now item.now) }
 {
     if control.model == 4 {
-        push_call(alloc, out, number, control, item, b"SBOw", Call::Select)?;
+        push_call(alloc, out, number, control, item, Call::Select)?;
     }
     Ok(())
 }
@@ -310,7 +302,7 @@ fn push_cancel(
     ensures { OnOk result (out.new.items ≡ out.old.items ++ cancel_names number control.now item.now) }
 {
     if is_selected(control) {
-        push_call(alloc, out, number, control, item, b"Cancel", Call::Cancel)?;
+        push_call(alloc, out, number, control, item, Call::Cancel)?;
     }
     Ok(())
 }
@@ -327,7 +319,7 @@ pub fn push_control(
 {
     push_sbo(alloc, out, number, control, item)?;
     push_sbow(alloc, out, number, control, item)?;
-    push_call(alloc, out, number, control, item, b"Oper", Call::Operate)?;
+    push_call(alloc, out, number, control, item, Call::Operate)?;
     push_cancel(alloc, out, number, control, item)?;
     Ok(())
 }

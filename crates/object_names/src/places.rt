@@ -1,6 +1,6 @@
 //! The places of names that stand elsewhere.
 
-ghost use Rattle.std.specs.Prelude.{◌≡◌, ℕ, List, OnOk};
+ghost use Rattle.std.specs.Prelude.{◌≡◌, ℕ, List, None, OnOk};
 ghost use Rattle.std.specs.Str.{bytes_eq};
 ghost use Rattle.indexmap.specs.IndexMap.{get_by};
 ghost use Rattle.object_names.specs.Numbers.{number_or};
@@ -13,25 +13,23 @@ use std::hash::BuildHasherDefault;
 /// Places by name.
 type Numbers<'a> = IndexMap<&'a [u8], usize, BuildHasherDefault<NameHasher>>;
 
-/// Names, each with its place in a list, of two that are the same the first one's.
+/// Different names, each with its place in a list.
 #[derive(Drop)]
 pub struct Places<'a> {
     numbers: Numbers<'a>,
 }
 
-/// Gives a name a place, where it has none.
+/// Gives a name that has none a place.
 fn add<'a>(numbers: &mut Numbers<'a>, name: &'a [u8], place: usize) -> Result<(), AllocError>
+    requires { get_by (λ k. bytes_eq name.now k.now) numbers.old ≡ None }
     ensures { OnOk result ((other : List ℕ) → get_by (λ k. bytes_eq other k.now) numbers.new ≡ number_or (get_by (λ k. bytes_eq other k.now) numbers.old) (bytes_eq other name.now) place) }
 {
-    if numbers.contains_key(name) {
-        return Ok(());
-    }
     numbers.insert(name, place)?;
     Ok(())
 }
 
 impl<'a> Places<'a> {
-    ghost use Rattle.std.specs.Prelude.{◌≡◌, ◌∷◌, ◌++◌, [], ℕ, List, length, OnOk};
+    ghost use Rattle.std.specs.Prelude.{◌≡◌, ◌∷◌, ◌++◌, [], ℕ, List, None, length, OnOk};
     ghost use Rattle.object_names.specs.Indexes.{PlacesOf, place_in};
 
     /// No names.
@@ -45,6 +43,7 @@ impl<'a> Places<'a> {
 
     /// One more name, at the next place.
     pub fn push(&mut self, name: &'a [u8], place: usize) -> Result<(), AllocError>
+        requires { place_in self.old name.now ≡ None }
         ensures { OnOk result ((names : List (List ℕ)) → PlacesOf self.old names → place ≡ length names → PlacesOf self.new (names ++ name.now ∷ [])) }
     {
         add(&mut self.numbers, name, place)?;

@@ -4,12 +4,12 @@ ghost use Rattle.std.specs.Prelude.{IfOk};
 ghost use Rattle.control_core.specs.Opening.{IsCtlKind};
 
 use bay_model::{ApplError, Termination};
-use control_core::{Call, Controls, Went};
+use control_core::{Controls, Went};
 use std::alloc::{AllocError, Global};
 use std::test::*;
 use sv_base::moment::FIRST_MS;
 use sv_base::{
-    AssocNo, AttrDefs, Bits, BlockDefs, Config, CtlDef, CtlDefs, CtlNo, LnDefs, Moment, Octs,
+    AssocNo, AttrDefs, Bits, BlockDefs, Call, Config, CtlDef, CtlDefs, CtlNo, LnDefs, Moment, Octs,
     SetDefs, SgDefs, TypeOf, Utc, Value, Values,
 };
 

@@ -1,5 +1,5 @@
 -- The settings of the process: attributes by their references, each with a value of its type (IEC 61850-7-2, DataAttribute).
-use Rattle.std.specs.Prelude.{ℕ, Bool, List, [], ◌∷◌, ◌++◌, Option, None, Some, is_some, slice_get}
+use Rattle.std.specs.Prelude.{◌≡◌, ℕ, Bool, true, false, List, [], ◌∷◌, ◌++◌, Option, None, Some, is_some, slice_get}
 use Rattle.std.specs.Option.{option_map, option_and_then}
 use Rattle.std.specs.List.{list_all}
 use Rattle.sv_base.specs.declared.config.Config.{Config}
@@ -43,3 +43,8 @@ settings_from c before (p ∷ ps) = settings_from c (option_and_then (λ ss. beh
 
 abbrev pub settings_at : Config → List Pair → Option (List Setting)
 settings_at c pairs = settings_from c (Some []) pairs
+
+-- the setting of attribute x is put behind others, where there is a value for it
+abbrev pub IsPut : Bool → ℕ → Option Value → List Setting → List Setting → Type 0
+IsPut there x None before now = (there ≡ false) × (now ≡ before)
+IsPut there x (Some v) before now = (there ≡ true) × (now ≡ before ++ setting x v ∷ [])

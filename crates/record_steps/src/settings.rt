@@ -2,14 +2,15 @@
 
 ghost use Rattle.std.specs.Prelude.{◌≡◌, IfOk};
 ghost use Rattle.run_record.specs.Seen.{pairs_seen};
-ghost use Rattle.record_steps.specs.Settings.{typed_at};
+ghost use Rattle.record_steps.specs.Settings.{typed_at, IsPut};
 ghost use Rattle.record_steps.specs.Found.{AreFound, IsFitting};
 
 use bay_model::Setting;
 use object_model::Model;
 use run_record::PairsView;
 use std::alloc::{AllocError, Global};
-use sv_base::{AttrId, Config, Value};
+use sv_base::{AttrId, Config, TypeOf, Value};
+use text_words::{int, truth};
 
 /// What the pairs of a line are: references of attributes, each with the text of a value.
 #[derive(Debug, Drop)]
@@ -22,18 +23,42 @@ pub enum Found {
     Unspelled,
 }
 
-/// The value that a text spells of the type of an attribute which has a line of its own.
-fn typed(
+/// Puts the setting of an attribute behind others, where there is a value for it; tells whether there is.
+#[inline(always)] // so that the value is made where it stays
+fn put(settings: &mut Vec<Setting>, attr: AttrId, value: Option<Value>) -> Result<bool, AllocError>
+    ensures { IfOk result (λ there. IsPut there attr.0 value settings.old.items settings.new.items) }
+{
+    match value {
+        Some(value) => {
+            settings.push(Setting { attr, value })?;
+            Ok(true)
+        }
+        None => Ok(false),
+    }
+}
+
+/// Puts the setting of an attribute behind others, where a text spells a value of its type and it has a line of its own; tells
+/// whether that is so.
+#[tactic(auto, unfolding(text_words::specs::Values::value_at))]
+fn put_typed(
     alloc: Global,
     config: &Config,
     attr: AttrId,
     word: &[u8],
-) -> Result<Option<Value>, AllocError>
-    ensures { IfOk result (λ r. r ≡ typed_at config.now word.now attr.0) }
+    settings: &mut Vec<Setting>,
+) -> Result<bool, AllocError>
+    ensures { IfOk result (λ there. IsPut there attr.0 (typed_at config.now word.now attr.0) settings.old.items settings.new.items) }
 {
-    match config.attrs.get(attr.0 as usize) {
-        Some(line) => text_words::value(alloc, &line.kind, word),
-        None => Ok(None),
+    let Some(line) = config.attrs.get(attr.0 as usize) else {
+        return Ok(false);
+    };
+    match &line.kind {
+        TypeOf::Bool => put(settings, attr, truth(word).map(Value::Bool)),
+        TypeOf::Int(bits) => put(settings, attr, int(word, *bits).map(Value::Int)),
+        kind => {
+            let value = text_words::value(alloc, kind, word)?;
+            put(settings, attr, value)
+        }
     }
 }
 
@@ -56,10 +81,7 @@ pub fn settings_of(
         let Some(attr) = model.attr(pair.name) else {
             return Ok(Found::Unnamed);
         };
-        match typed(alloc, config, attr, pair.value)? {
-            Some(value) => settings.push(Setting { attr, value })?,
-            None => spelled = false,
-        }
+        spelled = put_typed(alloc, config, attr, pair.value, &mut settings)? && spelled;
     }
     if spelled {
         Ok(Found::Settings(settings))

@@ -18,9 +18,9 @@ use window_core::Window;
 #[derive(Drop)]
 pub struct ReportBlock {
     pub(crate) block: Block,
+    pub(crate) set: Option<usize>,
     pub(crate) ring: Ring,
     pub(crate) window: Window,
-    pub(crate) set: Option<usize>,
     pub(crate) origin: Option<Moment>,
 }
 
@@ -45,7 +45,7 @@ fn moved(set: Option<usize>, gone: usize) -> Option<usize>
 }
 
 impl ReportBlock {
-    ghost use Rattle.std.specs.Prelude.{◌≡◌, ◌≤◌, ◌*◌, length, None, Some, IfOk, if◌then◌else◌};
+    ghost use Rattle.std.specs.Prelude.{◌≡◌, ◌≤◌, ◌*◌, ◌==◌, not, false, length, None, Some, IfOk, if◌then◌else◌};
     ghost use Rattle.std.specs.List.{All};
     ghost use Rattle.bay_model.specs.Configured.{block_defined};
     ghost use Rattle.bay_model.specs.Reports.{report_id as report_id_of};
@@ -79,9 +79,9 @@ impl ReportBlock {
     {
         Ok(ReportBlock {
             block: Block::open(alloc, def)?,
+            set,
             ring: Ring::open(alloc, def.capacity)?,
             window: Window::open(alloc, most, def.buf_tm)?,
-            set,
             origin: None,
         })
     }
@@ -127,6 +127,14 @@ impl ReportBlock {
         ensures { self.new ≡ renumbered gone self.old }
     {
         self.set = moved(self.set, gone);
+    }
+
+    /// It gathers its events, since BufTm isn't 0. Where it doesn't, nothing is gathered (IEC 61850-7-2, BRCB attribute BufTm).
+    pub fn gathers(&self) -> bool
+        ensures value { result ≡ not (self.now.window.buf_tm == 0) }
+        ensures none { result ≡ false → self.now.window.gathered ≡ None }
+    {
+        self.window.buf_tm() != 0
     }
 
     /// Bits 1 to 5 of TrgOps.

@@ -1,11 +1,12 @@
 //! Which entry is reported next (IEC 61850-7-2, the Report service).
 
-ghost use Rattle.std.specs.Prelude.{◌≡◌, ◌<◌, ℕ, length, IfSome, if◌then◌else◌};
+ghost use Rattle.std.specs.Prelude.{◌≡◌, ◌<◌, ℕ, true, None, length, IfSome, if◌then◌else◌};
 ghost use Rattle.std.specs.Option.{option_map};
-ghost use Rattle.report_block.specs.Offers.{offered, offered_by, no_later, earlier, first_offered};
+ghost use Rattle.report_block.specs.Offers.{offered, offered_by, no_later, earlier, first_offered, retained_of};
+ghost use Rattle.brcb_state.specs.Changes.{next_to};
 
 use crate::block::ReportBlock;
-use brcb_state::Next;
+use brcb_state::{Next, Retained};
 use entry_ring::Entry;
 use sv_base::AssocNo;
 
@@ -41,10 +42,24 @@ fn is_no_later(found: &Option<Offer<'_>>, step: u64) -> bool
     }
 }
 
+/// The association hasn't enabled the block, or the newest of its entries is reported. Where its entries begin is not looked at.
+fn is_done(part: &ReportBlock, a: AssocNo) -> bool
+    ensures { result ≡ true → next_to a (retained_of part.now) part.now.block ≡ None }
+{
+    let all = Retained {
+        front: 0,
+        len: part.ring.len(),
+    };
+    part.block.next(a, all).is_none()
+}
+
 /// The next entry of a block comes before the offer that was found. Its octets are not looked at.
 fn comes_before(part: &ReportBlock, a: AssocNo, found: &Option<Offer<'_>>) -> bool
     ensures first { (b : ℕ) → earlier (option_map offered found.now) (offered_by a b part.now) ≡ (if result then offered_by a b part.now else option_map offered found.now) }
 {
+    if is_done(part, a) {
+        return false;
+    }
     let Some(next) = part.block.next(a, part.retained()) else {
         return false;
     };

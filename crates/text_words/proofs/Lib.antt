@@ -5,3 +5,4 @@ pub mod WordLaws
 pub mod SpelledWordLaws
 pub mod ReadWordLaws
 pub mod NameLaws
+pub mod PartLaws

@@ -11,7 +11,7 @@ mod words;
 
 // the octets of a line, and its words
 pub use octets::{are_printable, is_skipped};
-pub use words::{after_front, parts_of};
+pub use words::{after_front, parts_of, put_parts};
 
 // numbers
 pub use numbers::{int, number, number_between};

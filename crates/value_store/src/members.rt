@@ -2,16 +2,25 @@
 
 ghost use Rattle.std.specs.Prelude.{◌≡◌, ◌≤◌, ◌<◌, ◌^◌, ◌+◌, length, map, drop};
 ghost use Rattle.std.specs.List.{All};
-ghost use Rattle.sv_base.specs.Data.{data_row};
+ghost use Rattle.sv_base.specs.Data.{data_of, data_row};
 ghost use Rattle.sv_base.specs.Fields.{shape_of, fields_of};
 ghost use Rattle.value_store.specs.Members.{leaves, leaves_in, row_with, values_at, member_octets};
-ghost use Rattle.value_store.specs.Stored.{Stored, stored, AreStored};
+ghost use Rattle.value_store.specs.Stored.{Stored, stored, attribute, IsStored, AreStored};
 ghost use Rattle.value_store.specs.Written.{adds};
 
 use crate::octets::{put_head, put_value};
 use crate::store::Store;
 use bay_model::{Fixed, MemberShape};
 use sv_base::{AttrId, Part1, TypeOf};
+
+/// Adds the Data of an attribute.
+fn put_attr(store: &Store, attr: AttrId, out: &mut Fixed)
+    requires there { IsStored store.now attr }
+    requires room { length out.old.items + length (data_of (attribute store.now attr.0).held.value) ≤ out.old.room }
+    ensures { out.new ≡ adds out.old (data_of (attribute store.now attr.0).held.value) }
+{
+    put_value(out, store.get(attr));
+}
 
 /// Adds the Data of a type, with the values of the first attributes; gives the other attributes.
 #[cycle(put)]
@@ -33,7 +42,7 @@ fn put_kind<'a>(store: &Store, kind: &TypeOf, attrs: &'a [AttrId], out: &mut Fix
         _ => match attrs {
             [] => attrs,
             [first, rest @ ..] => {
-                put_value(out, store.get(*first));
+                put_attr(store, *first, out);
                 rest
             }
         },
@@ -78,7 +87,13 @@ impl Store {
         ensures count { result ≡ length (member_octets self.now shape.now.kind shape.now.attrs) }
     {
         let start = out.len();
-        put_kind(self, &shape.kind, shape.attrs.as_slice(), out);
+        match (&shape.kind, shape.attrs.as_slice()) {
+            (TypeOf::Struct(_), attrs) => {
+                put_kind(self, &shape.kind, attrs, out);
+            }
+            (_, [first, ..]) => put_attr(self, *first, out),
+            (_, []) => (),
+        }
         (out.len() - start) as u32
     }
 }

@@ -1,7 +1,9 @@
 //! MMS Data in its minimal spelling (ISO 9506-2, Data; ITU-T X.690), into room that was made before.
 
 ghost use Rattle.std.specs.Prelude.{suc, ◌≡◌, ◌≤◌, ◌<◌, ◌^◌, ◌+◌, ◌-◌, ◌*◌, ◌++◌, ◌∷◌, length, take, drop};
-ghost use Rattle.sv_base.specs.Data.{length_field, element as element_of, packed, data_of};
+ghost use Rattle.mms_data.specs.Tags.{structure_tag};
+ghost use Rattle.std.specs.Int.{to_be_bytes, cast_unsigned, w64};
+ghost use Rattle.sv_base.specs.Data.{length_field, element as element_of, packed, shortest as shortest_in, data_of};
 ghost use Rattle.bay_rooms.specs.Slots.{lent};
 ghost use Rattle.value_store.specs.Written.{adds, IsShort};
 ghost use Rattle.sv_base.specs.declared.value.Value.TheVariants as values;
@@ -26,8 +28,8 @@ fn put_length(out: &mut Fixed, content: u32)
 pub(crate) fn put_head(out: &mut Fixed, at: usize)
     requires place { at ≤ length out.old.items }
     requires small { length out.old.items - at < 2 ^ 32 }
-    requires room { at + length (element_of 162 (drop at out.old.items)) ≤ out.old.room }
-    ensures { out.new ≡ record { items = take at out.old.items ++ element_of 162 (drop at out.old.items); room = out.old.room } }
+    requires room { at + length (element_of structure_tag (drop at out.old.items)) ≤ out.old.room }
+    ensures { out.new ≡ record { items = take at out.old.items ++ element_of structure_tag (drop at out.old.items); room = out.old.room } }
 {
     let content = (out.len() - at) as u32;
     let octets = content.to_be_bytes();
@@ -49,14 +51,29 @@ fn put_front(out: &mut Fixed, tag: u8, content: u32)
     put_length(out, content);
 }
 
-/// An element of this tag and this content.
-fn put_element(out: &mut Fixed, tag: u8, content: &[u8])
+/// An element of this tag and this content, however long it is.
+fn put_long(out: &mut Fixed, tag: u8, content: &[u8])
     requires small { length content.now < 2 ^ 32 }
     requires room { length out.old.items + length (element_of tag content.now) ≤ out.old.room }
     ensures { out.new ≡ adds out.old (element_of tag content.now) }
 {
     put_front(out, tag, content.len() as u32);
     out.push(content);
+}
+
+/// An element of this tag and this content. Most have few octets, and those are added at once.
+fn put_element(out: &mut Fixed, tag: u8, content: &[u8])
+    requires small { length content.now < 2 ^ 32 }
+    requires room { length out.old.items + length (element_of tag content.now) ≤ out.old.room }
+    ensures { out.new ≡ adds out.old (element_of tag content.now) }
+{
+    match content {
+        [a] => out.push(&[tag, 1, *a]),
+        [a, b] => out.push(&[tag, 2, *a, *b]),
+        [a, b, c] => out.push(&[tag, 3, *a, *b, *c]),
+        [a, b, c, d] => out.push(&[tag, 4, *a, *b, *c, *d]),
+        _ => put_long(out, tag, content),
+    }
 }
 
 /// The octets of bits, the first bit the highest. `weight` is that of the next bit, 128 down to 1, and `sum` those of the
@@ -104,6 +121,20 @@ fn put_bits(out: &mut Fixed, bits: &[bool])
     put_packed(out, 128, 0, bits);
 }
 
+/// The octets of a signed number without those in front that say no more than its sign. Most numbers are of 32 bits: all octets
+/// before the last four are such then.
+fn shortest_of(octets: &[u8; 8], z: i64) -> &[u8]
+    requires { octets.now ≡ to_be_bytes w64 (cast_unsigned w64 z) }
+    ensures value { result.now ≡ shortest_in octets.now }
+    ensures shorter { length result.now ≤ length octets.now }
+{
+    if -2147483648 <= z && z < 2147483648 {
+        shortest(&octets[4..])
+    } else {
+        shortest(octets)
+    }
+}
+
 /// The Data of a value, whose text, octets or bits are below 2^32.
 pub(crate) fn put_value(out: &mut Fixed, value: ValueRef<'_>)
     requires small { IsShort (lent value) }
@@ -112,7 +143,9 @@ pub(crate) fn put_value(out: &mut Fixed, value: ValueRef<'_>)
 {
     match value {
         ValueRef::Bool(b) => out.push(&[tags::BOOLEAN as u8, 1, if b { 255 } else { 0 }]),
-        ValueRef::Int(z) => put_element(out, tags::INTEGER as u8, shortest(&z.to_be_bytes())),
+        ValueRef::Int(z) => {
+            put_element(out, tags::INTEGER as u8, shortest_of(&z.to_be_bytes(), z))
+        }
         ValueRef::Uint(n) => put_element(out, tags::UNSIGNED as u8, shortest(&unsigned(n))),
         ValueRef::Bits(bits) => put_bits(out, bits),
         ValueRef::Time(time) => put_element(out, tags::UTC_TIME as u8, &time_octets(time)),

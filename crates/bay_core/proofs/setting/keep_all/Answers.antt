@@ -1,4 +1,4 @@
-use Rattle.std.proofs.Common.{◌≡◌, ◌<◌, ◌∙◌, ap, sym, refl, subst, arith, [], ℕ, List, Option, length}
+use Rattle.std.proofs.Common.{◌≡◌, ◌<◌, ◌∙◌, ap, sym, refl, subst, arith, [], List, length}
 use Rattle.std.specs.Prelude.{slice_set, slice_index_or}
 use Rattle.std.proofs.lemmas.List.{length-set}
 use Rattle.std.proofs.lemmas.Option.{slice_get-get_or}
@@ -7,9 +7,6 @@ use Rattle.bay_model.specs.declared.note.Mention.{Mention}
 use Rattle.bay_model.specs.declared.tables.MemberShape.{MemberShape}
 use Rattle.report_block.specs.EntryOctets.{IsKeepable}
 use Rattle.report_block.specs.Events.{after_noting, pieces_of}
-use Rattle.report_block.specs.Due.{IsBefore}
-use Rattle.bay_core.specs.Timed.{AreQuietUntil}
-use Rattle.bay_core.proofs.QuietLaws.{quiet-set}
 use Rattle.std.specs.List.{All}
 use Rattle.touch_index.specs.Gathering.{Gathered, note_at}
 use Rattle.touch_index.proofs.GatheringLaws.{room_same}
@@ -86,8 +83,8 @@ event-requires-clause-octets c = omega (arith, (is-note c).few, c.loop-b.invaria
 pub event-requires-clause-window : goal.event-requires-clause-window
 event-requires-clause-window c = omega (arith, (is-note c).gathers, c.loop-b.invariant.entry)
 
-pub put-requires : goal.put-requires
-put-requires c =
+pub keep_due-requires : goal.keep_due-requires
+keep_due-requires c =
     let within : c.in-Some.b.0 < length c.loop-b.parts.items = omega (arith, c.in-Some.ensures.within, c.loop-b.invariant.count, c.requires.count, c.loop-b.invariant.parts) in
     omega (arith, within, c.loop-b.invariant.quiet.count)
 
@@ -111,8 +108,7 @@ loop-b-preserved c =
       rooms = λ k. ap (λ (g : Gathered). (note_at g.notes k).room) cleared ∙ (room_same notes b [] below k ∙ c.loop-b.invariant.rooms k);
       entry = c.event.ensures.octets ∙ c.loop-b.invariant.entry;
       events = c.event.ensures.room 256 c.loop-b.invariant.events;
-      quiet = subst (λ (dues : List (Option ℕ)). AreQuietUntil c.args.moment dues (slice_set parts b c.event.new.self)) (sym c.put.ensures)
-          (quiet-set c.args.moment c.loop-b.dues parts b c.due_at.result c.event.new.self (λ now before. subst (IsBefore now) c.due_at.ensures before) c.loop-b.invariant.quiet);
+      quiet = c.keep_due.ensures parts part there (ap (λ (p : ReportBlock). p.block) c.event.ensures.noted) (ap (λ (p : ReportBlock). p.origin) c.event.ensures.noted) c.loop-b.invariant.quiet;
       left = λ k q at.
           let target = noting c.args.source.now.rows.now c.args.source.now.book.now c.args.source.now.store.now c.args.moment c.args.step (note_at c.args.notes.now.notes k).items q in
           subst (λ (p : ReportBlock). Left c.args.source.now.rows.now c.args.source.now.book.now c.args.source.now.store.now c.args.moment c.args.step (slice_set parts b p) c.clear_last.new.self.notes k target) (sym kept)

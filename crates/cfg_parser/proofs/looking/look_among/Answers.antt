@@ -1,8 +1,14 @@
-use Rattle.std.proofs.Common.{◌+◌, subst}
+use Rattle.std.proofs.Common.{◌+◌, sym, ap₂, subst, ◌∙◌}
+use Rattle.cfg_nodes.specs.Asked.{asked, is_asked}
+use Rattle.cfg_nodes.proofs.AskedLaws.{asked-at}
 use Rattle.cfg_parser.specs.Reader.{GivesText}
 use Rattle.cfg_parser.specs.Looking.{look_at, looked_at}
 use Rattle.cfg_parser.proofs.LookLaws.{err_of, passed-on, line-refused}
 use Rattle.cfg_parser.proofs.looking.look_among.Goals as goal
+
+pub look-requires-clause-asked : goal.look-requires-clause-asked
+look-requires-clause-asked c = ap₂ (λ all line. is_asked (asked all) line) (sym c.lines-lines.ensures.value) c.index-lines-i.is
+    ∙ asked-at c.lines-lines.result.now c.loop-i.i c.index-lines-i.result c.loop-i-test.true
 
 pub returns-in_err-look : goal.returns-in_err-look
 returns-in_err-look c =

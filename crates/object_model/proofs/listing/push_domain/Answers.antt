@@ -2,6 +2,7 @@ use Rattle.std.proofs.Common.{◌≡◌, List, [], ◌∷◌, ap, ◌∙◌, sub
 use Rattle.bay_model.specs.Places.{Place}
 use Rattle.object_model.specs.Grown.{items_of, spot}
 use Rattle.object_model.specs.Nodes.{names_at, places_from}
+use Rattle.object_model.specs.Runs.{lines_in}
 use Rattle.object_model.specs.Attrs.{attrs_in_spots, rows_with}
 use Rattle.object_model.specs.Listed.{IsDirectoryOf}
 use Rattle.object_model.specs.Stands.{owns, stands_from}
@@ -9,7 +10,7 @@ use Rattle.object_model.proofs.listing.push_domain.Goals as goal
 
 pub returns : goal.returns
 returns c =
-    let ps : List Place = places_from c.args.lines.now c.args.domain.now in
+    let ps : List Place = places_from (lines_in c.args.runs.now) c.args.domain.now in
     let pushed = c.in_default.ensures in
     let spots : c.in_ok-growth.growth.spots.items ≡ map spot ps = c.in_ok-growth.ensures.spots in
     let items : c.in_ok-growth.growth.items ≡ items_of ps = c.in_ok-growth.ensures.items in record {

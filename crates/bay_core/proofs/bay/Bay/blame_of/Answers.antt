@@ -10,8 +10,6 @@ use Rattle.bay_model.specs.Configured.{control_defined}
 use Rattle.bay_model.specs.Lookups.{node_of}
 use Rattle.bay_model.specs.Model.{Control}
 use Rattle.bay_model.specs.Named.{configured_model}
-use Rattle.control_core.specs.Commands.{call_in}
-use Rattle.control_core.specs.declared.command.Call.{Call}
 use Rattle.bay_queues.specs.Calling.{blame_in}
 use Rattle.bay_replies.specs.Plain.{HasGroups, IsPlainRole}
 use Rattle.bay_core.specs.Commanded.{blame_at}
@@ -38,9 +36,8 @@ returns-in-Calling c =
     let v = c.args.value.now in
     let role : role_seen (whats.Calling c.in-Calling.control c.in-Calling.call) ≡ (node_of (configured_model s.model) c.args.node.0).role = ap role_seen (sym c.in-Calling.is) ∙ c.role_of.ensures in
     told c.blame.result _ _
-    (ap (λ (cs : List Control). blame_in cs c.in-Calling.control (call_in c.call_of.result) v) c.self.invariant.controls
-    ∙ (ap (λ (q : Call). blame_in (map control_defined s.model.controls) c.in-Calling.control (call_in q) v) c.call_of.ensures
-    ∙ (blame-told s.model c.args.node.0 v c.in-Calling.control c.in-Calling.call role ∙ ap (λ (t : State). blame_at t.config c.args.node.0 v) c.self.view_is)))
+    (ap (λ (cs : List Control). blame_in cs c.in-Calling.control c.in-Calling.call v) c.self.invariant.controls
+    ∙ (blame-told s.model c.args.node.0 v c.in-Calling.control c.in-Calling.call role ∙ ap (λ (t : State). blame_at t.config c.args.node.0 v) c.self.view_is))
     c.blame.ensures
 
 pub returns-in_default : goal.returns-in_default

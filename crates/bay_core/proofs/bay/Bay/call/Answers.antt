@@ -3,7 +3,6 @@ use Rattle.std.proofs.lemmas.List.{length-map}
 use Rattle.bay_model.specs.Configured.{control_defined}
 use Rattle.bay_model.specs.Model.{Control}
 use Rattle.bay_model.specs.Outcomes.{deed_of}
-use Rattle.control_core.specs.Commands.{call_in}
 use Rattle.bay_queues.specs.Calling.{blame_in, enhanced_in, outcome_at}
 use Rattle.bay_queues.specs.Heard.{heard_with}
 use Rattle.bay_queues.specs.Queued.{Queued, configs}
@@ -21,8 +20,8 @@ call-requires-clause-control c =
 pub call-requires-clause-blame : goal.call-requires-clause-blame
 call-requires-clause-blame c =
     let s = c.self.inside in
-    c.requires.blame ∙ sym (ap (λ (cs : List Control). blame_in cs c.args.control.0 (call_in c.args.call) c.args.value.now) c.self.invariant.controls
-    ∙ ap (λ (t : State). blame_in (map control_defined t.config.controls) c.args.control.0 (call_in c.args.call) c.args.value.now) c.self.view_is)
+    c.requires.blame ∙ sym (ap (λ (cs : List Control). blame_in cs c.args.control.0 c.args.call c.args.value.now) c.self.invariant.controls
+    ∙ ap (λ (t : State). blame_in (map control_defined t.config.controls) c.args.control.0 c.args.call c.args.value.now) c.self.view_is)
 
 pub invariant_of-self : goal.invariant_of-self
 invariant_of-self c =
@@ -34,18 +33,18 @@ invariant_of-self c =
       quiet = whole.quiet;
       roomy = whole.roomy;
       controls = subst (λ (q : Queued). configs q.table ≡ map control_defined s.model.controls) (sym c.call.ensures.left)
-          (configs-deed (deed_of (outcome_at s.associations.table c.args.a.0 c.args.control.0 (call_in c.args.call) c.args.value.now)) s.associations.table ∙ whole.controls);
+          (configs-deed (deed_of (outcome_at s.associations.table c.args.a.0 c.args.control.0 c.args.call c.args.value.now)) s.associations.table ∙ whole.controls);
     }
 
 pub returns-clause-state : goal.returns-clause-state
 returns-clause-state c =
     let s = c.self.inside in
     ap (λ (q : Queued). record { config = s.model; steps = s.steps; latest = s.latest; stored = s.values; book = s.sets; parts = s.parts.items; rows = q.rows; groups = s.groups; controls = q.table }) c.call.ensures.left
-    ∙ ap (after_call c.args.a.0 c.args.control.0 (call_in c.args.call) c.args.value.now) c.self.view_is
+    ∙ ap (after_call c.args.a.0 c.args.control.0 c.args.call c.args.value.now) c.self.view_is
 
 pub returns-clause-heard : goal.returns-clause-heard
 returns-clause-heard c =
-    c.call.ensures.heard ∙ ap (λ (t : State). heard_with (enhanced_in t.controls) (outcome_at t.controls c.args.a.0 c.args.control.0 (call_in c.args.call) c.args.value.now) c.args.heard.now) c.self.view_is
+    c.call.ensures.heard ∙ ap (λ (t : State). heard_with (enhanced_in t.controls) (outcome_at t.controls c.args.a.0 c.args.control.0 c.args.call c.args.value.now) c.args.heard.now) c.self.view_is
 
 pub returns-clause-tests : goal.returns-clause-tests
 returns-clause-tests c = λ are. c.call.ensures.tests (subst (λ (t : State). AreTestsOf t c.args.a.0 c.args.heard.now.tests) (sym c.self.view_is) are)

@@ -1,20 +1,17 @@
 use Rattle.std.proofs.Common.{◌≡◌, ◌<◌, ◌∙◌, map, length, ap, sym, subst}
 use Rattle.object_names.specs.declared.named.What.{What}
 use Rattle.object_names.specs.declared.named.What.TheVariants as whats
-use Rattle.object_names.specs.Seen.{call_seen as role_call, role_seen}
+use Rattle.object_names.specs.Seen.{role_seen}
 use Rattle.bay_model.specs.Attributes.{attributes}
 use Rattle.bay_model.specs.Configured.{control_defined}
 use Rattle.bay_model.specs.Lookups.{node_of}
-use Rattle.bay_model.specs.Model.{Call as Calling}
 use Rattle.bay_model.specs.Named.{configured_model}
-use Rattle.control_core.specs.Commands.{call_in}
-use Rattle.control_core.specs.declared.command.Call.{Call}
 use Rattle.bay_queues.specs.Calling.{blame_in, enhanced_in, outcome_at}
 use Rattle.bay_queues.specs.Heard.{heard_with}
 use Rattle.bay_replies.specs.Plain.{HasGroups, IsPlainRole}
 use Rattle.bay_core.specs.Commanded.{after_call}
 use Rattle.bay_core.specs.State.{State}
-use Rattle.bay_core.proofs.BlameLaws.{blame-told, calls-same, role-plain}
+use Rattle.bay_core.proofs.BlameLaws.{blame-told, role-plain}
 use Rattle.bay_core.proofs.CalledLaws.{called-single, node-single}
 use Rattle.bay_core.proofs.SingleLaws.{role-told}
 use Rattle.bay_core.proofs.bay.Bay.write_in_turn.Goals as goal
@@ -31,7 +28,7 @@ call-requires-clause-blame c =
     let v = c.args.value.now in
     let role : role_seen (whats.Calling c.in-Calling.control c.in-Calling.call) ≡ (node_of (configured_model z.config) c.args.node.0).role
     = ap role_seen (sym c.in-Calling.is) ∙ (c.role_of.ensures ∙ ap (λ (t : State). (node_of (configured_model t.config) c.args.node.0).role) c.self.view_is) in
-    c.requires.blame ∙ sym (ap (λ (q : Call). blame_in (map control_defined z.config.controls) c.in-Calling.control (call_in q) v) c.call_of.ensures ∙ blame-told z.config c.args.node.0 v c.in-Calling.control c.in-Calling.call role)
+    c.requires.blame ∙ sym (blame-told z.config c.args.node.0 v c.in-Calling.control c.in-Calling.call role)
 
 pub returns-in-Calling : goal.returns-in-Calling
 returns-in-Calling c =
@@ -46,11 +43,9 @@ returns-in-Calling c =
     let below : k < length z.config.controls
     = subst (λ (t : State). k < length t.config.controls) c.self.view_is
     (subst (λ (w : What). IsPlainRole (length (attributes s.model)) (length s.model.blocks) (length s.model.controls) (HasGroups s.model) (role_seen w)) c.in-Calling.is (role-told s.model c.args.node.0 c.role_of.result c.self.invariant.furnished.servable.grouped c.role_of.ensures)) in
-    let same : call_in c.call_of.result ≡ role_call c.in-Calling.call = ap call_in c.call_of.ensures ∙ calls-same c.in-Calling.call in
     record {
-      single = called-single z c.call.new.self a c.args.node.0 k (role_call c.in-Calling.call) v h c.call.new.heard role below
-          (c.call.ensures.heard ∙ ap (λ (q : Calling). heard_with (enhanced_in z.controls) (outcome_at z.controls a k q v) h) same)
-          (c.call.ensures.state ∙ ap (λ (q : Calling). after_call a k q v z) same) c.call.ensures.tests;
+      single = called-single z c.call.new.self a c.args.node.0 k c.in-Calling.call v h c.call.new.heard role below
+          c.call.ensures.heard c.call.ensures.state c.call.ensures.tests;
     }
 
 pub write_node-code-requires-clause-plain : goal.write_node-code-requires-clause-plain
