@@ -44,8 +44,7 @@ impl Bay {
     {
         match self.model.role_of(node) {
             What::Calling(control, call) => {
-                self.associations
-                    .blame(alloc, CtlNo(control), call, value)
+                self.associations.blame(alloc, CtlNo(control), call, value)
             }
             _ => Ok(None),
         }

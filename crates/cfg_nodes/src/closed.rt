@@ -105,7 +105,13 @@ fn push_operations(
         return push_selection(alloc, names, front, CtlService::Sbo, &[]);
     }
     if model == 4 {
-        return push_selection(alloc, names, front, CtlService::SboWithValue, &CallPart::ALL);
+        return push_selection(
+            alloc,
+            names,
+            front,
+            CtlService::SboWithValue,
+            &CallPart::ALL,
+        );
     }
     Ok(())
 }
