@@ -1,11 +1,13 @@
 -- What is sent of controls, as information reports (IEC 61850-8-1, LastApplError and CommandTermination; ISO 9506-2,
 -- InformationReport), in the minimal spelling of each element.
-use Rattle.std.specs.Prelude.{◌≡◌, ◌≤◌, ◌<◌, ℕ, pos, List, [], ◌++◌, length, codes, Option, None, Some, IfSome, slice_get}
+use Rattle.std.specs.Prelude.{◌≡◌, ◌≤◌, ◌<◌, ℕ, pos, List, [], ◌∷◌, ◌++◌, length, codes, Option, None, Some, IfSome, slice_get}
 use Rattle.std.specs.Option.{option_map_or}
 use Rattle.ber_write.specs.Minimal.{octets_of, uint_octets, int_octets}
 use Rattle.sv_base.specs.Data.{data_of}
+use Rattle.sv_base.specs.CtlServices.{service_name}
 use Rattle.sv_base.specs.declared.config.Config.{Config}
 use Rattle.sv_base.specs.declared.config.CtlDef.{CtlDef}
+use Rattle.sv_base.specs.declared.ctl_services.CtlService.TheVariants.{Oper}
 use Rattle.mms_pdu.specs.AskingOctets.{domain_name}
 use Rattle.mms_pdu.specs.ReplyOctets.{report_octets}
 use Rattle.bay_model.specs.declared.control.ApplError.{ApplError}
@@ -30,7 +32,7 @@ error_data e = octets_of 0xA2 (error_parts e)
 
 -- the variable Oper of a control's line, `LN$CO$DO$Oper` of its domain
 abbrev pub oper_item : CtlDef → List ℕ
-oper_item k = k.ln ++ (codes "$CO$" ++ (k.path ++ codes "$Oper"))
+oper_item k = k.ln ++ (codes "$CO$" ++ (k.path ++ 36 ∷ service_name Oper))
 
 abbrev pub oper_variable : CtlDef → List ℕ
 oper_variable k = variable_octets (domain_name k.domain (oper_item k)) []

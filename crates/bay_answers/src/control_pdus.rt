@@ -16,7 +16,7 @@ use mms_data::{tags as data_tags, write_data};
 use mms_pdu::{tags as pdu_tags, write_report};
 use object_model::Model;
 use std::alloc::{AllocError, Global};
-use sv_base::{CtlDef, Octs, Value};
+use sv_base::{CtlDef, CtlService, Octs, Value};
 
 /// Adds the variable LastApplError.
 fn add_error_variable(alloc: Global, out: &mut Vec<u8>) -> Result<(), AllocError>
@@ -66,7 +66,8 @@ fn oper_item(alloc: Global, control: &CtlDef) -> Result<Vec<u8>, AllocError>
     let mut item = Vec::from_slice(alloc, control.ln.as_slice())?;
     item.extend_from_slice(b"$CO$")?;
     item.extend_from_slice(control.path.as_slice())?;
-    item.extend_from_slice(b"$Oper")?;
+    item.push(b'$')?;
+    item.extend_from_slice(CtlService::Oper.name())?;
     Ok(item)
 }
 
