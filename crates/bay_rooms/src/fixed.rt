@@ -1,21 +1,7 @@
 //! Octets in room that was made before, so that filling them takes no memory.
 
-ghost use Rattle.std.specs.Prelude.{◌≡◌, ◌≤◌, ◌-◌, ◌++◌, length, replicate, vec_len, vec_capacity};
-
 use std::alloc::{AllocError, Global};
 use std::marker::Model;
-
-/// Zeros behind octets, so that there are so many. It stays a call, since octets that were there once need none.
-#[inline(never)]
-fn lengthen(octets: &mut Vec<u8>, end: usize)
-    requires more { vec_len octets.old ≤ end }
-    requires room { end ≤ vec_capacity octets.old }
-    ensures items { octets.new.items ≡ octets.old.items ++ replicate (end - length octets.old.items) 0 }
-    ensures len { vec_len octets.new ≡ end }
-    ensures room { vec_capacity octets.old ≤ vec_capacity octets.new }
-{
-    let _ = octets.resize(end, 0);
-}
 
 /// Octets in room that was made before. Contracts see the list of them, and how many have room.
 #[derive(Debug, Drop)]
@@ -63,11 +49,46 @@ impl Fixed {
         ensures { self.new ≡ record { items = self.old.items ++ octets.now; room = self.old.room } }
     {
         let end = self.len + octets.len();
-        if self.octets.len() < end {
-            lengthen(&mut self.octets, end);
+        if end <= self.octets.len() {
+            self.octets[self.len..end].copy_from_slice(octets);
+            self.len = end;
+        } else {
+            self.lengthen(octets);
         }
-        self.octets[self.len..end].copy_from_slice(octets);
-        self.len = end;
+    }
+
+    /// Adds octets behind the others, as many as are known beforehand. It takes no memory.
+    pub fn push_array<const N: usize>(&mut self, octets: [u8; N])
+        requires { length self.old.items + N ≤ self.old.room }
+        ensures { self.new ≡ record { items = self.old.items ++ octets.entry; room = self.old.room } }
+    {
+        let end = self.len + N;
+        if end <= self.octets.len() {
+            self.octets[self.len..end].copy_from_slice(&octets);
+            self.len = end;
+        } else {
+            self.lengthen_by(octets);
+        }
+    }
+
+    /// Adds octets where there were never as many before. It stays a call, so that what is added mostly takes none.
+    #[inline(never)]
+    fn lengthen(&mut self, octets: &[u8])
+        requires { length self.old.items + length octets.now ≤ self.old.room }
+        ensures { self.new ≡ record { items = self.old.items ++ octets.now; room = self.old.room } }
+    {
+        self.octets.truncate(self.len);
+        let _ = self.octets.extend_from_slice(octets);
+        self.len = self.octets.len();
+    }
+
+    /// The same for an array, which is taken whole, so that it needn't lie in memory where there is room.
+    #[inline(never)]
+    fn lengthen_by<const N: usize>(&mut self, octets: [u8; N])
+        requires { length self.old.items + N ≤ self.old.room }
+        ensures { self.new ≡ record { items = self.old.items ++ octets.entry; room = self.old.room } }
+    {
+        self.lengthen(&octets);
     }
 
     /// Takes the octets of another one with as much room. It takes no memory.

@@ -37,7 +37,7 @@ pub(crate) fn put_mention(store: &Store, shape: &MemberShape, mention: Mention, 
 {
     let number = mention.member.0;
     let weights = weights_of(mention.reasons);
-    octets.push(&[(number / 256) as u8, (number % 256) as u8, 0, weights]);
+    octets.push_array([(number / 256) as u8, (number % 256) as u8, 0, weights]);
     store.member_bytes(shape, octets);
 }
 

@@ -20,7 +20,7 @@ fn put_length(out: &mut Fixed, content: u32)
 {
     let octets = content.to_be_bytes();
     let (first, more) = length_parts(content, &octets);
-    out.push(&[first]);
+    out.push_array([first]);
     out.push(more);
 }
 
@@ -44,10 +44,10 @@ fn put_front(out: &mut Fixed, tag: u8, content: u32)
     ensures { out.new ≡ adds out.old (tag ∷ length_field content) }
 {
     if content < 128 {
-        out.push(&[tag, content as u8]);
+        out.push_array([tag, content as u8]);
         return;
     }
-    out.push(&[tag]);
+    out.push_array([tag]);
     put_length(out, content);
 }
 
@@ -68,10 +68,10 @@ fn put_element(out: &mut Fixed, tag: u8, content: &[u8])
     ensures { out.new ≡ adds out.old (element_of tag content.now) }
 {
     match content {
-        [a] => out.push(&[tag, 1, *a]),
-        [a, b] => out.push(&[tag, 2, *a, *b]),
-        [a, b, c] => out.push(&[tag, 3, *a, *b, *c]),
-        [a, b, c, d] => out.push(&[tag, 4, *a, *b, *c, *d]),
+        [a] => out.push_array([tag, 1, *a]),
+        [a, b] => out.push_array([tag, 2, *a, *b]),
+        [a, b, c] => out.push_array([tag, 3, *a, *b, *c]),
+        [a, b, c, d] => out.push_array([tag, 4, *a, *b, *c, *d]),
         _ => put_long(out, tag, content),
     }
 }
@@ -86,13 +86,13 @@ fn put_packed(out: &mut Fixed, weight: u8, sum: u8, bits: &[bool])
     match bits {
         [] => {
             if weight < 128 {
-                out.push(&[sum]);
+                out.push_array([sum]);
             }
         }
         [bit, rest @ ..] => {
             let sum = if *bit { sum + weight } else { sum };
             if weight == 1 {
-                out.push(&[sum]);
+                out.push_array([sum]);
                 put_packed(out, 128, 0, rest);
             } else {
                 put_packed(out, weight / 2, sum, rest);
@@ -115,20 +115,22 @@ fn put_bits(out: &mut Fixed, bits: &[bool])
     requires room { length out.old.items + length (data_of (values.Bits bits.now)) ≤ out.old.room }
     ensures { out.new ≡ adds out.old (data_of (values.Bits bits.now)) }
 {
-    out.push(&[tags::BIT_STRING as u8]);
+    out.push_array([tags::BIT_STRING as u8]);
     put_length(out, bits_len(bits));
-    out.push(&[((8 - bits.len() % 8) % 8) as u8]);
+    out.push_array([((8 - bits.len() % 8) % 8) as u8]);
     put_packed(out, 128, 0, bits);
 }
 
-/// The octets of a signed number without those in front that say no more than its sign. Most numbers are of 32 bits: all octets
-/// before the last four are such then.
+/// The octets of a signed number without those in front that say no more than its sign. Of a number of 16 bits all octets before
+/// the last two are such, of one of 32 bits all before the last four.
 fn shortest_of(octets: &[u8; 8], z: i64) -> &[u8]
     requires { octets.now ≡ to_be_bytes w64 (cast_unsigned w64 z) }
     ensures value { result.now ≡ shortest_in octets.now }
     ensures shorter { length result.now ≤ length octets.now }
 {
-    if -2147483648 <= z && z < 2147483648 {
+    if -32768 <= z && z < 32768 {
+        shortest(&octets[6..])
+    } else if -2147483648 <= z && z < 2147483648 {
         shortest(&octets[4..])
     } else {
         shortest(octets)
@@ -142,7 +144,7 @@ pub(crate) fn put_value(out: &mut Fixed, value: ValueRef<'_>)
     ensures { out.new ≡ adds out.old (data_of (lent value.entry)) }
 {
     match value {
-        ValueRef::Bool(b) => out.push(&[tags::BOOLEAN as u8, 1, if b { 255 } else { 0 }]),
+        ValueRef::Bool(b) => out.push_array([tags::BOOLEAN as u8, 1, if b { 255 } else { 0 }]),
         ValueRef::Int(z) => {
             put_element(out, tags::INTEGER as u8, shortest_of(&z.to_be_bytes(), z))
         }
