@@ -1,5 +1,5 @@
 -- Rows found by their numbers, and after one more.
-use Rattle.std.proofs.Common.{◌≡◌, ◌<◌, ℕ, zero, suc, Bool, true, false, List, [], ◌∷◌, ◌++◌, length, take, Option, None, Some, refl, sym, ap, subst, ◌∙◌, arith, length-append, get_or, ◌+◌, if◌then◌else◌}
+use Rattle.std.proofs.Common.{◌≡◌, ◌<◌, ℕ, zero, suc, Bool, true, false, List, [], ◌∷◌, ◌++◌, length, take, Option, None, Some, refl, sym, ap, subst, ◌∙◌, arith, length-append, get_or, ◌+◌, if◌then◌else◌, inl, inr, ◌⊎◌, true≢false}
 use Rattle.std.specs.Prelude.{nat_eq}
 use Rattle.std.specs.List.{All}
 use Rattle.std.specs.Option.{option_or}
@@ -30,6 +30,13 @@ at-more (r ∷ rows) more row (suc place) lt = at-more rows more row place (omeg
 at-last : (rows : List (List ℕ)) (more row : List ℕ) → is_at (rows ++ more ∷ []) row (length rows) ≡ bytes_eq row more
 at-last [] more row = refl
 at-last (r ∷ rows) more row = at-last rows more row
+
+-- with one more, a row stands where it stood, or at the last place
+at-cases : (rows : List (List ℕ)) (more row : List ℕ) (place : ℕ) → is_at (rows ++ more ∷ []) row place ≡ true → (is_at rows row place ≡ true) ⊎ ((place ≡ length rows) × (bytes_eq row more ≡ true))
+at-cases [] more row zero is = inr (refl, is)
+at-cases [] more row (suc place) is = absurd (true≢false (sym is))
+at-cases (r ∷ rows) more row zero is = inl is
+at-cases (r ∷ rows) more row (suc place) is = elim (at-cases rows more row place is) [ inl there ↦ inl there | inr last ↦ inr (ap suc last.0, last.1) ]
 
 first-more : (rows : List (List ℕ)) (more row : List ℕ) (places : List ℕ) → All (λ place. place < length rows) places → first_at (rows ++ more ∷ []) row places ≡ first_at rows row places
 first-more rows more row [] all = refl
@@ -84,6 +91,7 @@ module _ (rows : List (List ℕ)) (first : ℕ → Option ℕ) (further : List �
     absent = λ row none. by row none (bytes_eq row more) refl;
     first_within = λ hash place is. longer place (finds.first_within hash place (sym (each hash) ∙ is));
     further_within = subst (All (λ place. place < length (rows ++ more ∷ []))) (sym es) (All-push (λ place. place < length (rows ++ more ∷ [])) further (length rows) (all-longer further finds.further_within) last-within);
+    alone = λ row place none is. absurd (omega (arith, ap length (sym es ∙ none), length-append further (length rows ∷ [])));
   }
     where
       by : (row : List ℕ) → next (hash_at row) ≡ None → (b : Bool) → bytes_eq row more ≡ b → place_in (rows ++ more ∷ []) row ≡ None
@@ -96,6 +104,7 @@ module _ (rows : List (List ℕ)) (first : ℕ → Option ℕ) (further : List �
     absent = λ row is. absent-by row is (nat_eq (hash_at more) (hash_at row)) refl;
     first_within = λ hash place is. within-by hash place is (nat_eq (hash_at more) hash) refl;
     further_within = subst (All (λ place. place < length (rows ++ more ∷ []))) (sym es) (all-longer further finds.further_within);
+    alone = λ row place nothing is. elim (at-cases rows more row place is) [ inl there ↦ stood row place (finds.alone row place (sym es ∙ nothing) there) | inr last ↦ stands row place last.0 last.1 ];
   }
     where
       at : (row : List ℕ) (b : Bool) → nat_eq (hash_at more) (hash_at row) ≡ b → next (hash_at row) ≡ (if b then Some (length rows) else first (hash_at row))
@@ -133,6 +142,15 @@ module _ (rows : List (List ℕ)) (first : ℕ → Option ℕ) (further : List �
       absent-by row is true e = absurd (cc (sym (at row true e) ∙ is))
       absent-by row is false e = position-push (bytes_eq row) rows more ∙ (ap (λ b. option_or (place_in rows row) (if b then Some (length rows) else None)) (apart row e) ∙ (or-none (place_in rows row) ∙ finds.absent row (sym (at row false e) ∙ is)))
 
+      stood : (row : List ℕ) (place : ℕ) → place_in rows row ≡ Some place → place_in (rows ++ more ∷ []) row ≡ Some place
+      stood row place is = position-push (bytes_eq row) rows more ∙ ap (λ r. option_or r (if bytes_eq row more then Some (length rows) else None)) is
+
+      stands : (row : List ℕ) (place : ℕ) → place ≡ length rows → bytes_eq row more ≡ true → place_in (rows ++ more ∷ []) row ≡ Some place
+      stands row place last is =
+          let gone : place_in rows row ≡ None = ap (place_in rows) ((bytes_eq-Decides row more).0 is) ∙ finds.absent more none in
+          position-push (bytes_eq row) rows more ∙ (ap (λ r. option_or r (if bytes_eq row more then Some (length rows) else None)) gone
+          ∙ (ap (λ b. option_or None (if b then Some (length rows) else None)) is ∙ ap (λ n. Some n) (sym last)))
+
       within-by : (hash place : ℕ) → next hash ≡ Some place → (b : Bool) → nat_eq (hash_at more) hash ≡ b → place < length (rows ++ more ∷ [])
       within-by hash place is true e = subst (λ p. p < length (rows ++ more ∷ [])) (some-same (sym (each hash ∙ ap (λ b. if b then Some (length rows) else first hash) e) ∙ is)) last-within
       within-by hash place is false e = longer place (finds.first_within hash place (sym (each hash ∙ ap (λ b. if b then Some (length rows) else first hash) e) ∙ is))
@@ -154,6 +172,7 @@ same rows first next further others finds is = record {
   absent = λ row none. finds.absent row (sym (is.1 (hash_at row)) ∙ none);
   first_within = λ hash place there. finds.first_within hash place (sym (is.1 hash) ∙ there);
   further_within = subst (All (λ place. place < length rows)) (sym is.0) finds.further_within;
+  alone = λ row place none there. finds.alone row place (sym is.0 ∙ none) there;
 }
 
 -- ---- the first of some places

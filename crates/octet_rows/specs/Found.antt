@@ -1,5 +1,5 @@
 -- Rows of octets found by a number of each.
-use Rattle.std.specs.Prelude.{◌≡◌, ◌<◌, ℕ, nat_eq, Bool, false, List, [], ◌∷◌, ◌++◌, length, position, slice_get, Option, None, Some, if◌then◌else◌}
+use Rattle.std.specs.Prelude.{◌≡◌, ◌<◌, ℕ, nat_eq, Bool, true, false, List, [], ◌∷◌, ◌++◌, length, position, slice_get, Option, None, Some, if◌then◌else◌}
 use Rattle.std.specs.List.{All}
 use Rattle.std.specs.Str.{bytes_eq}
 use Rattle.octet_rows.specs.Hashing.{hash_at}
@@ -32,12 +32,14 @@ with_first (Some place) further = place ∷ further
 abbrev pub found : List (List ℕ) → (ℕ → Option ℕ) → List ℕ → List ℕ → Option ℕ
 found rows first further row = first_at rows row (with_first (first (hash_at row)) further)
 
--- the first places by the numbers of rows, and the further places, find each row
+-- the first places by the numbers of rows, and the further places, find each row; where there are no further places, each row stands
+-- at one place alone
 pub record Finds (rows : List (List ℕ)) (first : ℕ → Option ℕ) (further : List ℕ) : Type 0 where
   pub places : (row : List ℕ) → found rows first further row ≡ place_in rows row
   pub absent : (row : List ℕ) → first (hash_at row) ≡ None → place_in rows row ≡ None
   pub first_within : (hash place : ℕ) → first hash ≡ Some place → place < length rows
   pub further_within : All (λ place. place < length rows) further
+  pub alone : (row : List ℕ) (place : ℕ) → further ≡ [] → is_at rows row place ≡ true → place_in rows row ≡ Some place
 
 -- nothing is noted
 abbrev pub IsSame : (ℕ → Option ℕ) → List ℕ → (ℕ → Option ℕ) → List ℕ → Type 0

@@ -93,9 +93,16 @@ impl Firsts {
     {
         Ok(Firsts {
             alloc,
-            heads: vec![in alloc; 0; numbers.saturating_add(1)]?,
+            heads: vec![in alloc; 0; numbers.saturating_mul(2).saturating_add(1)]?,
             entries: Vec::with_capacity(alloc, numbers)?,
         })
+    }
+
+    /// How many entries there were with that with which the chain of a number begins, and 0 where it hasn't begun.
+    pub fn begun(&self, number: u64) -> u32
+        ensures { result ≡ head self.now.heads.items number }
+    {
+        head_of(&self.heads, number)
     }
 
     /// The place of a number, if it has one.

@@ -1,6 +1,6 @@
 //! Rows of octets, each found by its octets.
 
-ghost use Rattle.std.specs.Prelude.{◌≡◌, ◌∷◌, OnOk, OnErr};
+ghost use Rattle.std.specs.Prelude.{◌≡◌, ◌∷◌, true, IfSome, OnOk, OnErr};
 ghost use Rattle.octet_rows.specs.Chains.{latest, AreChained};
 ghost use Rattle.octet_rows.specs.Found.{is_at as is_row_at, first_at as first_row_at, IsNoted, IsSame};
 
@@ -40,6 +40,18 @@ fn is_at(rows: &Rows, place: u32, row: &[u8]) -> bool
     match rows.get(place as usize) {
         Some(other) => row == other,
         None => false,
+    }
+}
+
+/// The last of so many places, where the row stands there.
+fn last_at(rows: &Rows, count: u32, row: &[u8]) -> Option<u32>
+    ensures { IfSome result (λ place. is_row_at rows.now row.now place ≡ true) }
+{
+    let last = count.checked_sub(1)?;
+    if is_at(rows, last, row) {
+        Some(last)
+    } else {
+        None
     }
 }
 
@@ -124,6 +136,12 @@ impl Index {
         requires { hash ≡ hash_at row.now }
         ensures { result ≡ place_in self.now row.now }
     {
+        if self.further.is_empty() {
+            // each row has an entry, in their order: that of the last is looked at without its number
+            if let Some(place) = last_at(&self.rows, self.first.begun(hash), row) {
+                return Some(place);
+            }
+        }
         let place = self.first.get(hash)?;
         place_at(&self.rows, place, &self.further, row)
     }
