@@ -12,7 +12,7 @@ ghost use Rattle.record_outcome.specs.Judgements.{IsJudgement};
 use crate::forms::Forms;
 use answer_text::{Shape, lines_of};
 use bay_core::{Bay, StepFault};
-use bay_model::Step;
+use bay_model::{Answer, Step};
 use record_outcome::status::Status;
 use record_steps::{Heard, Told, association};
 use run_record::{LineView, view_line};
@@ -123,6 +123,11 @@ impl Playing {
         ensures same { IfOk result (λ s. IfNone s (self.new.bay.config ≡ self.old.bay.config)) }
     {
         match self.bay.step(alloc, self.moment, actor, step) {
+            Ok(Answer::Went) => Ok(None),
+            Ok(Answer::Empty) => {
+                lines_of(alloc, self.bay.model(), shape, step, &Answer::Empty, out)?;
+                Ok(None)
+            }
             Ok(answer) => {
                 let written = lines_of(alloc, self.bay.model(), shape, step, &answer, out);
                 self.bay.reuse(answer);
@@ -163,7 +168,9 @@ impl Playing {
         }
     }
 
-    /// Does the parts of a piece one after another; where a step is refused, what was written of them is taken back.
+    /// Does the parts of a piece one after another; where a step is refused, what was written of them is taken back. It stays a call,
+    /// so that no other line pays for its room.
+    #[inline(never)]
     fn do_parts(
         &mut self,
         alloc: Global,

@@ -10,11 +10,11 @@ pub returns-in_ok-written-in-Ok-clause-performs : goal.returns-in_ok-written-in-
 returns-in_ok-written-in-Ok-clause-performs c =
     performs c.args.self.now (record c.args.self.now { bay = c.reuse.new.self }) c.args.number c.args.shape c.args.actor.0 c.args.step.now c.in-Ok.answer c.args.out.now.items c.lines_of-written.new.out.items refl refl
     (subst (λ b. Does c.args.self.now.bay b (record { moment = c.args.self.now.moment; actor = c.args.actor.0; step = c.args.step.now }) (Ok c.in-Ok.answer)) (sym c.reuse.ensures) c.in-Ok.ensures.does)
-    (c.in_ok-written-in-Ok.ensures.ok ∙ ap (λ k. c.args.out.now.items ++ lines_of k c.args.shape c.args.step.now c.in-Ok.answer) (c.model.ensures.model ∙ sym (ap (λ (b : State). b.config) c.reuse.ensures)))
+    (c.in_ok-written-in-Ok.ensures.ok ∙ ap (λ k. c.args.out.now.items ++ lines_of k c.args.shape c.args.step.now c.in-Ok.answer) (c.model-in-Ok.ensures.model ∙ sym (ap (λ (b : State). b.config) c.reuse.ensures)))
 
 pub returns-in_err-written-in-Ok-clause-faultless : goal.returns-in_err-written-in-Ok-clause-faultless
 returns-in_err-written-in-Ok-clause-faultless c =
-    on_err c.from_residual.result _ (faultless-answered c.args.self.now c.args.actor.0 c.args.step.now c.in-Ok.answer c.step.new.self c.in-Ok.ensures.does)
+    on_err c.from_residual-in_err-written-in-Ok.result _ (faultless-answered c.args.self.now c.args.actor.0 c.args.step.now c.in-Ok.answer c.step.new.self c.in-Ok.ensures.does)
 
 pub returns-in-Some-clause-performs : goal.returns-in-Some-clause-performs
 returns-in-Some-clause-performs c =
