@@ -12,6 +12,18 @@ ghost use Rattle.sv_io.specs.Causes.{Rose};
 
 #[cfg(test)]
 mod texts;
+// inputs with marks for what most have, and runs of them
+#[cfg(test)]
+mod runs;
+// rehearsals of one outcome
+#[cfg(test)]
+mod endings;
+// rehearsals that are replayed
+#[cfg(test)]
+mod replays;
+// actors that wait for each other
+#[cfg(test)]
+mod meeting;
 
 use record_outcome::status::Status;
 use replay_run::tool::is_word;

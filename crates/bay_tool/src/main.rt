@@ -15,6 +15,24 @@ mod statuses;
 mod stored_records;
 #[cfg(test)]
 mod texts;
+// the runs of rows
+#[cfg(test)]
+mod runs;
+// records, configurations, and command lines
+#[cfg(test)]
+mod associations;
+#[cfg(test)]
+mod configurations;
+#[cfg(test)]
+mod controls;
+#[cfg(test)]
+mod faults;
+#[cfg(test)]
+mod lines;
+#[cfg(test)]
+mod records;
+#[cfg(test)]
+mod streams;
 
 use record_outcome::status::Status;
 use replay_run::tool::{is_word, tool};

@@ -15,7 +15,7 @@ use Rattle.script_threads.specs.Scripts.{turns_by}
 use Rattle.script_threads.specs.declared.job.Actor.{Actor}
 use Rattle.script_threads.specs.declared.script.Script.{Script as Part}
 use Rattle.script_threads.specs.declared.script.TimedStep.{TimedStep}
-use Rattle.race_verdicts.specs.Known.{Role as Known, role_of, roles_from, AreScripts}
+use Rattle.race_records.specs.Known.{Role as Known, role_of, roles_from, AreScripts}
 use Rattle.server_run.specs.Casting.{script_steps, role_steps, cast_one, cast_from, turns_among, AreOfPlan}
 use Rattle.server_run.specs.declared.casting.Role.{Role}
 

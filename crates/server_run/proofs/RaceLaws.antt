@@ -17,7 +17,7 @@ use Rattle.script_threads.specs.declared.script.Script.{Script as Part}
 use Rattle.script_threads.specs.declared.script.TimedStep.{TimedStep}
 use Rattle.server_run.specs.Casting.{turns_among, AreOfPlan}
 use Rattle.server_run.specs.Rehearsals.{IsMade}
-use Rattle.race_verdicts.specs.Verdicts.{went, all_went}
+use Rattle.race_records.specs.Verdicts.{went, all_went}
 
 stops-whole : (c : Config) (k : ℕ) (steps : List TimedStep) (n : ℕ) (fault : Option StepFault) (seen : History) → went fault ≡ true → StopsAt c k steps n fault seen → take n steps ≡ steps
 stops-whole c k steps n None seen all is = take_all n steps (omega (arith, is))

@@ -17,12 +17,12 @@ use Rattle.script_threads.specs.declared.racing.Raced.{Raced}
 use Rattle.script_threads.specs.declared.script.Script.{Script as Part}
 use Rattle.script_reading.specs.Plans.{Plan}
 use Rattle.script_reading.specs.Sound.{IsSound}
-use Rattle.merged_records.specs.Merged.{Book, lines_in, book_of, merged, record_with, answered, IsAnswerable}
-use Rattle.merged_records.proofs.BackLaws.{made-answerable}
-use Rattle.merged_records.proofs.OctetLaws.{merged_are_read_back}
-use Rattle.race_verdicts.specs.Known.{AreScripts}
-use Rattle.race_verdicts.specs.Verdicts.{lowest_full, lacks_memory}
-use Rattle.race_verdicts.proofs.KnownLaws.{verdicts_are_known}
+use Rattle.race_records.specs.Merged.{Book, lines_in, book_of, merged, record_with, answered, IsAnswerable}
+use Rattle.race_records.proofs.BackLaws.{made-answerable}
+use Rattle.race_records.proofs.OctetLaws.{merged_are_read_back}
+use Rattle.race_records.specs.Known.{AreScripts}
+use Rattle.race_records.specs.Verdicts.{lowest_full, lacks_memory}
+use Rattle.race_records.proofs.KnownLaws.{verdicts_are_known}
 use Rattle.server_run.specs.Casting.{AreOfPlan, IsCast}
 use Rattle.server_run.specs.Races.{IsOfPlan, IsOfRace}
 use Rattle.server_run.specs.Rehearsals.{IsMade, Goes, MeetsFull}

@@ -9,8 +9,8 @@ use Rattle.script_threads.specs.declared.racing.Raced.{Raced}
 use Rattle.script_threads.specs.declared.script.Script.{Script as Part}
 use Rattle.script_reading.specs.Plans.{Plan}
 use Rattle.script_reading.specs.Sound.{IsSound}
-use Rattle.merged_records.specs.Merged.{Book, book_of}
-use Rattle.race_verdicts.specs.Known.{AreScripts}
+use Rattle.race_records.specs.Merged.{Book, book_of}
+use Rattle.race_records.specs.Known.{AreScripts}
 use Rattle.server_run.specs.Casting.{AreOfPlan}
 
 -- a sound plan of this configuration and text, whose scripts have these lines and are played so; the numbers of their actors fall

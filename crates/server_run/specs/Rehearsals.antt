@@ -13,11 +13,11 @@ use Rattle.script_reading.specs.Inputs.{Outcome, refused, ready}
 use Rattle.script_threads.specs.Races.{actors, IsRaced}
 use Rattle.script_threads.specs.declared.part.Part.{Part}
 use Rattle.script_threads.specs.declared.script.Script.{Script as Part_}
-use Rattle.merged_records.specs.Merged.{book_of, record_of, answers_to}
-use Rattle.merged_records.specs.ReadBack.{IsReadBack}
-use Rattle.race_verdicts.specs.Bounds.{lowest_beyond, IsBeyondOf, IsWithoutOpers}
-use Rattle.race_verdicts.specs.Known.{AreScripts}
-use Rattle.race_verdicts.specs.Verdicts.{lowest_full}
+use Rattle.race_records.specs.Merged.{book_of, record_of, answers_to}
+use Rattle.race_records.specs.ReadBack.{IsReadBack}
+use Rattle.race_records.specs.Bounds.{lowest_beyond, IsBeyondOf, IsWithoutOpers}
+use Rattle.race_records.specs.Known.{AreScripts}
+use Rattle.race_records.specs.Verdicts.{lowest_full}
 
 -- the most octets that are read of an input, one more than any has
 abbrev pub most : ℕ

@@ -1,7 +1,7 @@
 //! The actors of a plan, and the lines of their scripts.
 
 ghost use Rattle.std.specs.Prelude.{◌≡◌, ◌≤◌, ◌++◌, ◌∷◌, [], None, Some, map, length, slice_set, IfOk, OnOk};
-ghost use Rattle.merged_records.specs.Merged.{lines_in, book_seen};
+ghost use Rattle.race_records.specs.Merged.{lines_in, book_seen};
 ghost use Rattle.server_run.specs.Casting.{script_steps, role_steps, script_place, role_place, AreSeats, HasGate, HaveGates, without_gate, cast_one, cast_from};
 
 use script_reading::{Script, StepLine};

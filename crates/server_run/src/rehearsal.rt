@@ -16,16 +16,15 @@ ghost use Rattle.script_threads.specs.Races.{IsRaced};
 ghost use Rattle.script_threads.specs.declared.script.Script.{Script as ThePart};
 ghost use Rattle.bay_model.specs.Points.{least_moment};
 ghost use Rattle.std.specs.Prelude.{◌++◌, codes};
-ghost use Rattle.merged_records.specs.Merged.{lines_in, book_seen, merged, record_with, answered, IsAnswerable};
+ghost use Rattle.race_records.specs.Merged.{lines_in, book_seen, merged, record_with, answered, IsAnswerable};
 ghost use Rattle.server_run.specs.Casting.{script_place, AreSeats, IsCast};
 ghost use Rattle.server_run.specs.Races.{IsOfPlan, IsOfRace};
 ghost use Rattle.server_run.specs.Rehearsals.{most, Performs, PerformsInput, Rehearses, IsListed};
 
 use crate::casting::{cast, part};
 use bay_core::Bay;
-use merged_records::{write_answers, write_record};
 use object_model::Model;
-use race_verdicts::{lacks_memory, lowest_full};
+use race_records::{lacks_memory, lowest_full, write_answers, write_record};
 use record_outcome::status::Status;
 use replay_run::whole::{Unread, read_whole};
 use script_reading::{Plan, Script, StepLine, read_rehearsal};

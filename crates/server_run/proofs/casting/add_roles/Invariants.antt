@@ -1,5 +1,5 @@
 use Rattle.std.proofs.Common.{◌≡◌, ◌++◌, map}
-use Rattle.merged_records.specs.Merged.{lines_in, book_seen}
+use Rattle.race_records.specs.Merged.{lines_in, book_seen}
 use Rattle.server_run.specs.Casting.{script_steps, role_steps, script_place, role_place}
 use Rattle.server_run.proofs.casting.add_roles.Given as goal
 

@@ -1,5 +1,5 @@
 use Rattle.std.proofs.Common.{map, subst, sym, ap, ◌∙◌}
-use Rattle.merged_records.specs.Merged.{book_seen}
+use Rattle.race_records.specs.Merged.{book_seen}
 use Rattle.script_reading.specs.Readings.{plan_seen}
 use Rattle.server_run.specs.Races.{IsOfPlan}
 use Rattle.server_run.proofs.SeatLaws.{plan-seats}

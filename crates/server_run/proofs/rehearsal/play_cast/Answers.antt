@@ -1,5 +1,5 @@
 use Rattle.std.proofs.Common.{map, subst, sym}
-use Rattle.merged_records.specs.Merged.{book_seen}
+use Rattle.race_records.specs.Merged.{book_seen}
 use Rattle.script_threads.specs.Dealing.{AreFalling, CanPlay}
 use Rattle.script_threads.specs.declared.script.Script.{Script}
 use Rattle.server_run.specs.Races.{IsOfRace}

@@ -1,5 +1,5 @@
-use Rattle.merged_records.specs.Merged.{book_seen}
-use Rattle.merged_records.proofs.BackLaws.{lines-there}
+use Rattle.race_records.specs.Merged.{book_seen}
+use Rattle.race_records.proofs.BackLaws.{lines-there}
 use Rattle.server_run.proofs.rehearsal.record_of.Goals as goal
 
 pub write_record-requires : goal.write_record-requires

@@ -1,7 +1,7 @@
 use Rattle.std.proofs.Common.{◌≡◌, false, refl, sym, ap, ◌∙◌}
 use Rattle.std.specs.Prelude.{None, Some}
-use Rattle.merged_records.specs.Merged.{book_seen}
-use Rattle.race_verdicts.specs.Verdicts.{lowest_full, lacks_memory}
+use Rattle.race_records.specs.Merged.{book_seen}
+use Rattle.race_records.specs.Verdicts.{lowest_full, lacks_memory}
 use Rattle.server_run.proofs.SettleLaws.{many, of-history, meets, all-answerable, goes}
 use Rattle.server_run.proofs.rehearsal.settle.Goals as goal
 

@@ -1,3 +1,0 @@
--- The record of a rehearsal, and that it is read back.
-pub mod Merged
-pub mod ReadBack

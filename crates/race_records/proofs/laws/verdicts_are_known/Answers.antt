@@ -1,0 +1,5 @@
+use Rattle.race_records.proofs.KnownLaws as laws
+use Rattle.race_records.proofs.laws.verdicts_are_known.Goals as goal
+
+pub returns : goal.returns
+returns c = record { known = laws.verdicts_are_known }

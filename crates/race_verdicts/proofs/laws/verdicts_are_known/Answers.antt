@@ -1,5 +1,0 @@
-use Rattle.race_verdicts.proofs.KnownLaws as laws
-use Rattle.race_verdicts.proofs.laws.verdicts_are_known.Goals as goal
-
-pub returns : goal.returns
-returns c = record { known = laws.verdicts_are_known }
