@@ -131,6 +131,11 @@ fn shown(words: &[String]) -> Option<&'static str>
     None
 }
 
+/// Room that is asked for and given back at once, in octets. The C library takes large rooms from the system, and gives them back to
+/// it, one by one; once a room of this size was given back it keeps those up to it, so that what the reader of a configuration no
+/// longer needs serves its model, in pages that are there already.
+const KEPT_ROOM: usize = 4 << 20;
+
 /// Writes a text that is shown, and the status of that.
 fn show<K: Sink>(text: &str, sink: &mut K) -> Status
     ensures told { result ≡ Status.Ok → Appends (K.taken sink.old) (K.taken sink.new) text.now }
@@ -157,6 +162,7 @@ fn main(rt: HostRuntime) -> ExitCode {
     if let Some(text) = shown(&words) {
         return ended(&rt, show(text, &mut sink));
     }
+    let _ = Vec::<u8>::with_capacity(rt.alloc(), KEPT_ROOM);
     let mut source = ReadSource::new(rt.reader());
     let status = tool(rt.alloc(), &words, &mut source, &mut sink);
     ended(&rt, status)
