@@ -1,3 +1,4 @@
+-- what the associations of a bay stand for
 pub mod Seats
 pub mod Tables
 pub mod Standing

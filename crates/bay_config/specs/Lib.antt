@@ -1,1 +1,2 @@
+-- what a bay asks of a configuration
 pub mod Servable

@@ -1,3 +1,4 @@
+-- the values of attributes, and what changed of them
 pub mod Changed
 pub mod Marked
 pub mod Held

@@ -1,3 +1,4 @@
+-- which octets are an element, a row of elements, and the content of each kind
 pub mod Octets
 pub mod Reader
 pub mod Steps

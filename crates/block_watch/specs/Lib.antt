@@ -1,2 +1,3 @@
+-- which blocks are touched, and when they have something due
 pub mod Watched
 pub mod Dues

@@ -1,3 +1,4 @@
+-- what a block without its entries stands for
 pub mod Changes
 pub mod Refusals
 pub mod Components

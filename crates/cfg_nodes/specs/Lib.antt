@@ -1,3 +1,4 @@
+-- the nodes that lines make, and what a member names
 pub mod LeafLists
 pub mod PartNames
 pub mod Indexed

@@ -1,3 +1,4 @@
+-- what the words of a line come to, and the first line that is refused
 pub mod Kinds
 pub mod Keywords
 pub mod Reader

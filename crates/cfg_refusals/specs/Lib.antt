@@ -1,3 +1,4 @@
+-- which line is the first that is refused, and why
 pub mod Kinds
 pub mod Forms
 pub mod Names

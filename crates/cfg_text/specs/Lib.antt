@@ -1,3 +1,4 @@
+-- which texts are read, and as what
 pub mod Numbered
 pub use Rattle.cfg_parser.specs.Judging
 pub use Rattle.cfg_parser.specs.Looking

@@ -1,2 +1,3 @@
+-- the text of a configuration
 pub mod Written
 pub mod Objects

@@ -1,3 +1,4 @@
+-- who has selected a control, what it executes, and what a call comes to
 pub mod Coding
 pub mod Commands
 pub mod Blame

@@ -1,3 +1,4 @@
+-- which entries are retained
 pub mod Held
 pub mod Entries
 pub mod Places

@@ -1,3 +1,4 @@
+-- values and types as octets
 pub mod Tags
 pub mod Grammar
 pub mod Reading

@@ -1,1 +1,2 @@
+-- the order of names
 pub mod Sorting

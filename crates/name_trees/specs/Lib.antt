@@ -1,1 +1,2 @@
+-- the nodes of lines and those of the model
 pub mod ByModel

@@ -1,3 +1,4 @@
+-- the nodes, attributes, blocks and controls of a configuration, by their numbers
 pub use Rattle.object_names.specs.Numbers
 pub use Rattle.object_names.specs.References
 pub mod Groups

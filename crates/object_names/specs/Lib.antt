@@ -1,3 +1,4 @@
+-- what the lines of a configuration name
 pub mod Hashing
 pub mod Numbers
 pub mod Indexes

@@ -1,3 +1,4 @@
+-- rows of octets, and the place of one
 pub mod Laid
 pub mod Hashing
 pub mod Found

@@ -1,1 +1,2 @@
+-- what holds of whole records
 pub mod Grammar

@@ -1,3 +1,4 @@
+-- which texts are the lines of a record
 pub mod Spelled
 pub mod Grammar
 pub mod Contents

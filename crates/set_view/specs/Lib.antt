@@ -1,1 +1,2 @@
+-- the members of a data set
 pub mod Shapes

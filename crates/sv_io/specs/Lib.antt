@@ -1,2 +1,3 @@
+-- what was read and written, and why a call failed
 pub mod Causes
 pub mod Memory

@@ -1,3 +1,4 @@
+-- which words spell a number, a name, a type and a value
 pub mod Octets
 pub mod Words
 pub mod Names

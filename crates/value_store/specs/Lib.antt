@@ -1,3 +1,4 @@
+-- the values of attributes, and the octets of a member
 pub mod Written
 pub mod Stored
 pub mod Opened

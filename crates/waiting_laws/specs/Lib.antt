@@ -1,1 +1,2 @@
+-- what waits for an association
 pub mod WaitsFor

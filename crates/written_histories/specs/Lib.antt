@@ -1,1 +1,2 @@
+-- the history that a record of a race has
 pub mod Written
