@@ -2,4 +2,3 @@
 pub mod Judging
 pub mod ReadWhole
 pub mod TakenLaws
-pub mod OneWord

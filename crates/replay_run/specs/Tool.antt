@@ -1,12 +1,8 @@
 -- What the program answers.
-use Rattle.std.specs.Prelude.{◌≡◌, ◌≤◌, ℕ, length, List, [], ◌∷◌, map, codes, Option, String, ◌⊎◌}
-use Rattle.std.specs.String.{string_bytes}
+use Rattle.std.specs.Prelude.{◌≤◌, ℕ, length, List, codes, Option, String, ◌⊎◌}
 use Rattle.std.specs.declared.alloc.Global.{Global}
 use Rattle.std.specs.Io.KnownBytes.{Consumes}
-
--- the words are this one word
-abbrev pub IsWord : List ℕ → List (String Global) → Type 0
-IsWord word words = map string_bytes words ≡ word ∷ []
+use Rattle.command_line.specs.Words.{IsWord}
 
 abbrev pub IsReplay : List (String Global) → Type 0
 IsReplay words = IsWord (codes "replay") words

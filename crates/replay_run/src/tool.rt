@@ -5,24 +5,15 @@ ghost use Rattle.replay_run.specs.Runs.{IsReady, Run};
 ghost use Rattle.sv_io.specs.Causes.{Rose};
 ghost use Rattle.record_outcome.specs.Written.{WritesHistory};
 ghost use Rattle.replay_run.specs.Checked.{IsChecked, IsOfCheck, Checks};
-ghost use Rattle.replay_run.specs.Tool.{IsWord, IsReplay, IsCheck, IsCommand, TakesAtMost};
+ghost use Rattle.replay_run.specs.Tool.{IsReplay, IsCheck, IsCommand, TakesAtMost};
 ghost use Rattle.record_outcome.specs.Judgements.{IsJudgement, IsOfReplay, Answers};
 
 use crate::check::check;
 use crate::replay::Replay;
+use command_line::is_word;
 use record_outcome::status::Status;
 use std::alloc::Global;
 use sv_io::{Sink, Source};
-
-/// The words of the command line are this one word.
-pub fn is_word(words: &[String], wanted: &str) -> bool
-    ensures { IsTrue result ↔ IsWord wanted.now words.now }
-{
-    match words {
-        [word] => word.as_str() == wanted,
-        _ => false,
-    }
-}
 
 /// Reads pieces of a record until its status is decided.
 fn run<S: Source, K: Sink>(

@@ -1,6 +1,7 @@
 //! What the words `-h`, `--help` and `--version` show, and where to.
-use crate::{USAGE, VERSION, show, shown};
+use command_line::{BAY_SERVER, BAY_TOOL, Program, show};
 use record_outcome::status::Status;
+use std::alloc::{AllocError, Global};
 use std::test::Fail;
 use sv_io::{Calls, MemSink};
 
@@ -36,32 +37,43 @@ const CONFIG_KINDS: [cfg_text::Kind; 12] = [
 fn each_kind_is_named(rt: HostRuntime) -> Result<(), Fail> {
     for kind in RECORD_KINDS {
         let line = format!(in rt.alloc(); "\n  {}  {kind:?}: {kind}\n", kind.number())?;
-        assert!(rt; USAGE.contains(line.as_str()), "{line}");
+        assert!(rt; BAY_TOOL.usage.contains(line.as_str()), "{line}");
     }
     for kind in CONFIG_KINDS {
         let line = format!(in rt.alloc(); "\n  {:>2}  {kind:?}: {kind}\n", kind.number())?;
-        assert!(rt; USAGE.contains(line.as_str()), "{line}");
+        assert!(rt; BAY_TOOL.usage.contains(line.as_str()), "{line}");
     }
     Ok(())
 }
 
+/// These words show this text, of each program.
+fn is_shown(
+    alloc: Global,
+    program: &Program,
+    words: &[&str],
+    text: Option<&str>,
+) -> Result<bool, AllocError> {
+    let mut given = Vec::new(alloc);
+    for word in words {
+        given.push(String::from_str(alloc, word)?)?;
+    }
+    Ok(program.shown(&given) == text)
+}
+
 #[test]
 fn only_a_word_alone_shows_a_text(rt: HostRuntime) -> Result<(), Fail> {
-    let alloc = rt.alloc();
-    for (words, text) in [
-        (["-h"].as_slice(), Some(USAGE)),
-        (["--help"].as_slice(), Some(USAGE)),
-        (["--version"].as_slice(), Some(VERSION)),
-        (["--help", "replay"].as_slice(), None),
-        (["-h", "-h"].as_slice(), None),
-        (["help"].as_slice(), None),
-        ([].as_slice(), None),
-    ] {
-        let mut given = Vec::new(alloc);
-        for word in words {
-            given.push(String::from_str(alloc, word)?)?;
+    for program in [BAY_TOOL, BAY_SERVER] {
+        for (words, text) in [
+            (["-h"].as_slice(), Some(program.usage)),
+            (["--help"].as_slice(), Some(program.usage)),
+            (["--version"].as_slice(), Some(program.version)),
+            (["--help", "replay"].as_slice(), None),
+            (["-h", "-h"].as_slice(), None),
+            (["help"].as_slice(), None),
+            ([].as_slice(), None),
+        ] {
+            assert!(rt; is_shown(rt.alloc(), &program, words, text)?);
         }
-        assert_eq!(rt; shown(&given), text);
     }
     Ok(())
 }
@@ -70,11 +82,11 @@ fn only_a_word_alone_shows_a_text(rt: HostRuntime) -> Result<(), Fail> {
 fn a_text_that_is_not_written_is_a_failed_write(rt: HostRuntime) -> Result<(), Fail> {
     let alloc = rt.alloc();
     for (fails, status, written) in [
-        ([].as_slice(), Status::Ok, VERSION),
+        ([].as_slice(), Status::Ok, BAY_TOOL.version),
         ([1].as_slice(), Status::WriteFault, ""),
     ] {
         let mut sink = MemSink::new(alloc, Calls::from_vec(Vec::from_slice(alloc, fails)?));
-        assert_eq!(rt; show(VERSION, &mut sink), status);
+        assert_eq!(rt; show(BAY_TOOL.version, &mut sink), status);
         assert_eq!(rt; sink.octets(), written.as_bytes());
     }
     Ok(())

@@ -1,6 +1,7 @@
 //! Rehearsals that end in one way: of one script, and of inputs that are refused.
 
-use crate::runs::{rehearsed, sink, source, unmarked};
+use crate::rehearsals::rehearsed;
+use crate::runs::{sink, source, unmarked};
 use record_outcome::status::Status;
 use server_run::rehearse;
 use std::test::*;
@@ -13,27 +14,27 @@ type Row = (&'static str, &'static str, Status, &'static str);
 const ROWS: [Row; 6] = [
     (
         "one script is its record",
-        "rehearse 1\n[script association 1\nopen 1 direct\nat !10\nwrite 1 & RptEna T\ntake 1\nclose\nend\n",
+        "rehearse 1\n[0 011001 0 200>script association 1\nopen 1 direct\nat !10\nwrite 1 & RptEna T\ntake 1\nclose\nend\n",
         Status::Ok,
-        "record 1\n[open 1 direct\nat !10\nwrite 1 & RptEna T\ntake 1\nend\n1 ok\n1 empty\nend\n",
+        "record 1\n[0 011001 0 200>open 1 direct\nat !10\nwrite 1 & RptEna T\ntake 1\nend\n1 ok\n1 empty\nend\n",
     ),
     (
         "lines that make no step aren't copied, and a moment goes back",
-        "rehearse 1\n[# scripts\nscript process\nat !20\n\nset @ 5\nat !10\nat !20\nset @ 6\nat !10\nset @ 7\nclose\nend\nand more\n",
+        "rehearse 1\n[0 011001 0 200># scripts\nscript process\nat !20\n\nset @ 5\nat !10\nat !20\nset @ 6\nat !10\nset @ 7\nclose\nend\nand more\n",
         Status::Ok,
-        "record 1\n[at !20\nset @ 5\nset @ 6\nat !10\nset @ 7\nend\nend\n",
+        "record 1\n[0 011001 0 200>at !20\nset @ 5\nset @ 6\nat !10\nset @ 7\nend\nend\n",
     ),
     (
         "a PDU that asks nothing makes no step",
-        "rehearse 1\n[script association 1\nopen 1 mms 65000\npdu 1 a100\npdu 1 8b00\ntake 1\nclose\nend\n",
+        "rehearse 1\n[0 011001 0 200>script association 1\nopen 1 mms 65000\npdu 1 a100\npdu 1 8b00\ntake 1\nclose\nend\n",
         Status::Ok,
-        "record 1\n[open 1 mms 65000\npdu 1 8b00\ntake 1\nend\n1 pdu 8c00\nend\n",
+        "record 1\n[0 011001 0 200>open 1 mms 65000\npdu 1 8b00\ntake 1\nend\n1 pdu 8c00\nend\n",
     ),
     (
         "sixteen replies wait, and another one when one is taken",
-        "rehearse 1\n[script association 1\nopen 1 mms 65000\n%%take 1\npdu 1 8b00\nlost 1\nopen 1 mms 65000\n%%close\nend\n",
+        "rehearse 1\n[0 011001 0 200>script association 1\nopen 1 mms 65000\n%%%%take 1\npdu 1 8b00\nlost 1\nopen 1 mms 65000\n%%%%close\nend\n",
         Status::Ok,
-        "record 1\n[open 1 mms 65000\n%%take 1\npdu 1 8b00\nlost 1\nopen 1 mms 65000\n%%end\n1 pdu a10b020101a006800100810100\nend\n",
+        "record 1\n[0 011001 0 200>open 1 mms 65000\n%%%%take 1\npdu 1 8b00\nlost 1\nopen 1 mms 65000\n%%%%end\n1 pdu a10b020101a006800100810100\nend\n",
     ),
     (
         "the process blocks a control and ends what it executes",
@@ -45,9 +46,9 @@ const ROWS: [Row; 6] = [
     ),
     (
         "the termination of a test waits behind its reply, and its take leaves room for 16 replies",
-        "rehearse 1\n{script association 1\nopen 1 mms 65000\npdu 1 }\ntake 1\ntake 1\n%%close\nend\n",
+        "rehearse 1\n<script association 1\nopen 1 mms 65000\npdu 1 )\ntake 1\ntake 1\n%%%%close\nend\n",
         Status::Ok,
-        "record 1\n{open 1 mms 65000\npdu 1 }\ntake 1\ntake 1\n%%end\n1 pdu a107020106a5028100\n\
+        "record 1\n<open 1 mms 65000\npdu 1 )\ntake 1\ntake 1\n%%%%end\n1 pdu a107020106a5028100\n\
         1 pdu a346a044a020301ea01ca11a1a04424159311a12435357493124434f24506f7333244f706572a020a21e830100a2058501028900\
         860101910800000000000000008301ff84020600\nend\n",
     ),
@@ -57,37 +58,77 @@ const ROWS: [Row; 6] = [
 type Refused = (&'static str, u64, u8);
 
 const REFUSED: [Refused; 22] = [
-    ("rehearse 1\n[end\n", 22, 5),
-    ("record 1\n[end\n", 1, 1),
-    ("rehearse 2\n[end\n", 1, 2),
-    ("rehearse 1\n[script association 17\n", 22, 2),
-    ("rehearse 1\n[script station\n", 22, 1),
-    ("rehearse 1\n[close\n", 22, 5),
-    ("rehearse 1\n[tick\n", 22, 5),
-    ("rehearse 1\n[set BAY1/XCBR1$ST$None T\n", 22, 3),
-    ("rehearse 1\n[script process\nscript process\n", 23, 5),
-    ("rehearse 1\n[script process\nend\n", 23, 5),
-    ("rehearse 1\n[script process\ntick\n", 24, 7),
-    ("rehearse 1\n[script process\ndone A/LLN0$CO$Pos T\n", 23, 3),
-    ("rehearse 1\n[script process\nopen 1 direct\n", 23, 5),
-    ("rehearse 1\n[script process\nset @ T\n", 23, 4),
-    ("rehearse 1\n[script association 1\nopen 1 wire\n", 23, 5),
-    ("rehearse 1\n[script association 1\nin 1 03\n", 23, 5),
-    ("rehearse 1\n[script association 1\nopen 2 direct\n", 23, 5),
-    ("rehearse 1\n[script association 1\ntick\n", 23, 5),
+    ("rehearse 1\n[0 011001 0 200>end\n", 22, 5),
+    ("record 1\n[0 011001 0 200>end\n", 1, 1),
+    ("rehearse 2\n[0 011001 0 200>end\n", 1, 2),
+    ("rehearse 1\n[0 011001 0 200>script association 17\n", 22, 2),
+    ("rehearse 1\n[0 011001 0 200>script station\n", 22, 1),
+    ("rehearse 1\n[0 011001 0 200>close\n", 22, 5),
+    ("rehearse 1\n[0 011001 0 200>tick\n", 22, 5),
     (
-        "rehearse 1\n[script association 1\nset BAY1/XCBR1$ST$None T\n",
+        "rehearse 1\n[0 011001 0 200>set BAY1/XCBR1$ST$None T\n",
+        22,
+        3,
+    ),
+    (
+        "rehearse 1\n[0 011001 0 200>script process\nscript process\n",
+        23,
+        5,
+    ),
+    ("rehearse 1\n[0 011001 0 200>script process\nend\n", 23, 5),
+    ("rehearse 1\n[0 011001 0 200>script process\ntick\n", 24, 7),
+    (
+        "rehearse 1\n[0 011001 0 200>script process\ndone A/LLN0$CO$Pos T\n",
         23,
         3,
     ),
-    ("rehearse 1\n[script association 1\nlost 1\n", 23, 5),
     (
-        "rehearse 1\n[script association 1\nopen 1 direct\npdu 1 zz\n",
+        "rehearse 1\n[0 011001 0 200>script process\nopen 1 direct\n",
+        23,
+        5,
+    ),
+    (
+        "rehearse 1\n[0 011001 0 200>script process\nset @ T\n",
+        23,
+        4,
+    ),
+    (
+        "rehearse 1\n[0 011001 0 200>script association 1\nopen 1 wire\n",
+        23,
+        5,
+    ),
+    (
+        "rehearse 1\n[0 011001 0 200>script association 1\nin 1 03\n",
+        23,
+        5,
+    ),
+    (
+        "rehearse 1\n[0 011001 0 200>script association 1\nopen 2 direct\n",
+        23,
+        5,
+    ),
+    (
+        "rehearse 1\n[0 011001 0 200>script association 1\ntick\n",
+        23,
+        5,
+    ),
+    (
+        "rehearse 1\n[0 011001 0 200>script association 1\nset BAY1/XCBR1$ST$None T\n",
+        23,
+        3,
+    ),
+    (
+        "rehearse 1\n[0 011001 0 200>script association 1\nlost 1\n",
+        23,
+        5,
+    ),
+    (
+        "rehearse 1\n[0 011001 0 200>script association 1\nopen 1 direct\npdu 1 zz\n",
         24,
         5,
     ),
     (
-        "rehearse 1\n[script association 1\nclose\nscript association 1\n",
+        "rehearse 1\n[0 011001 0 200>script association 1\nclose\nscript association 1\n",
         24,
         5,
     ),
@@ -95,8 +136,8 @@ const REFUSED: [Refused; 22] = [
 
 /// The second script's seventeenth request, behind a loss, finds 16 replies waiting; so does a line of the third one, below it.
 const FULL: &str =
-    "rehearse 1\n[script process\nclose\nscript association 1\nopen 1 mms 65000\n%%take 1\npdu 1 8b00\nlost 1\n\
-    open 1 mms 65000\n%%pdu 1 8b00\npdu 1 8b00\nclose\nscript association 2\nopen 2 mms 65000\n;;;;pdu 2 8b00\nclose\nend\n";
+    "rehearse 1\n[0 011001 0 200>script process\nclose\nscript association 1\nopen 1 mms 65000\n%%%%take 1\npdu 1 8b00\nlost 1\n\
+    open 1 mms 65000\n%%%%pdu 1 8b00\npdu 1 8b00\nclose\nscript association 2\nopen 2 mms 65000\n||||pdu 2 8b00\nclose\nend\n";
 
 #[test]
 fn a_script_that_goes_is_its_record(rt: HostRuntime) -> Result<(), Fail> {
@@ -135,7 +176,7 @@ fn the_lowest_line_that_meets_a_full_queue_is_named(rt: HostRuntime) -> Result<(
 
 /// A take gives the termination of a test in place of a reply, so that the last request finds 16 replies waiting.
 const TERMINATED: &str =
-    "rehearse 1\n{script association 1\nopen 1 mms 65000\npdu 1 }\n%take 1\ntake 1\n%pdu 1 8b00\nclose\nend\n";
+    "rehearse 1\n<script association 1\nopen 1 mms 65000\npdu 1 )\n%%take 1\ntake 1\n%%pdu 1 8b00\nclose\nend\n";
 
 #[test]
 fn a_termination_that_is_taken_leaves_a_reply_waiting(rt: HostRuntime) -> Result<(), Fail> {

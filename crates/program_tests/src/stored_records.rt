@@ -1,10 +1,7 @@
 //! The run of examples/first-run.record in memory.
+use crate::runs::all_end;
 use record_outcome::status::Status;
-use replay_run::tool::tool;
-use std::alloc::{AllocError, Global};
 use std::test::Fail;
-use sv_base::Octs;
-use sv_io::{Calls, MemSink, MemSource};
 
 /// A value, its report, the loss of the association, the resuming by EntryID, and a purge: the record
 /// `examples/first-run.record`.
@@ -73,21 +70,12 @@ const FIRST_RUN_ANSWER: &str = "1 ok
 end
 ";
 
-fn octets(alloc: Global, text: &str) -> Result<Octs, AllocError> {
-    let mut octets = Vec::new(alloc);
-    octets.extend_from_slice(text.as_bytes())?;
-    Ok(Octs::from_vec(octets))
-}
-
 #[test]
 fn the_first_run_is_answered(rt: HostRuntime) -> Result<(), Fail> {
-    let alloc = rt.alloc();
-    let mut words = Vec::new(alloc);
-    words.push(String::from_str(alloc, "replay")?)?;
-    let no_faults = Calls::from_vec(Vec::new(alloc));
-    let mut source = MemSource::new(octets(alloc, FIRST_RUN)?, no_faults);
-    let mut sink = MemSink::new(alloc, Calls::from_vec(Vec::new(alloc)));
-    assert_eq!(rt; tool(alloc, &words, &mut source, &mut sink), Status::Ok);
-    assert_eq!(rt; sink.octets(), FIRST_RUN_ANSWER.as_bytes());
-    Ok(())
+    all_end(
+        &rt,
+        rt.alloc(),
+        "replay",
+        &[("the first run", FIRST_RUN, Status::Ok, FIRST_RUN_ANSWER)],
+    )
 }

@@ -1,6 +1,7 @@
 //! Rehearsals of several scripts, whose records are replayed.
 
-use crate::runs::{rehearsed, sink, source};
+use crate::rehearsals::rehearsed;
+use crate::runs::{one_word, sink, source};
 use record_outcome::status::Status;
 use replay_run::tool::tool;
 use std::alloc::{AllocError, Global};
@@ -8,7 +9,7 @@ use std::test::*;
 
 /// Three associations and the process race for one block.
 const RACE: &str =
-    "rehearse 1\n[script process\nat !01\nset @ 1\nat !02\nset @ 2\nat !03\nset @ 3\nat !04\nset @ 4\nclose\n\
+    "rehearse 1\n[0 011001 0 200>script process\nat !01\nset @ 1\nat !02\nset @ 2\nat !03\nset @ 3\nat !04\nset @ 4\nclose\n\
     script association 1\nopen 1 direct\nwrite 1 & RptEna T\ntake 1\ntake 1\nwrite 1 & RptEna F\nlost 1\nclose\n\
     script association 2\nopen 2 direct\nwrite 2 & EntryID x0000000000000001\nwrite 2 & RptEna T\ntake 2\ntake 2\nclose\n\
     script association 3\nopen 3 mms 65000\npdu 3 a006020101800100\ntake 3\npdu 3 8b00\ntake 3\nlost 3\nclose\n\
@@ -16,10 +17,10 @@ const RACE: &str =
 
 /// Two associations operate one control with enhanced security, while the process ends what it executes and blocks it for a while.
 const OPERATED: &str =
-    "rehearse 1\n{script process\ndone BAY1/CSWI1$CO$Pos3 T\nblock BAY1/CSWI1$CO$Pos3 T\nblock BAY1/CSWI1$CO$Pos3 F\n\
+    "rehearse 1\n<script process\ndone BAY1/CSWI1$CO$Pos3 T\nblock BAY1/CSWI1$CO$Pos3 T\nblock BAY1/CSWI1$CO$Pos3 F\n\
     done BAY1/CSWI1$CO$Pos3 F\ndone BAY1/CSWI1$CO$Pos3 T\nclose\n\
-    script association 1\nopen 1 mms 65000\npdu 1 ^\ntake 1\ntake 1\npdu 1 }\npdu 1 ^\ntake 1\ntake 1\nlost 1\nclose\n\
-    script association 2\nopen 2 mms 65000\npdu 2 }\ntake 2\npdu 2 ^\ntake 2\ntake 2\ntake 2\nclose\nend\n";
+    script association 1\nopen 1 mms 65000\npdu 1 (\ntake 1\ntake 1\npdu 1 )\npdu 1 (\ntake 1\ntake 1\nlost 1\nclose\n\
+    script association 2\nopen 2 mms 65000\npdu 2 )\ntake 2\npdu 2 (\ntake 2\ntake 2\ntake 2\nclose\nend\n";
 
 /// The octets behind the second line `end`; none where there is no such line.
 fn behind_record(octets: &[u8]) -> Option<usize> {
@@ -41,8 +42,7 @@ fn behind_record(octets: &[u8]) -> Option<usize> {
 
 /// The answers of a replay of these octets.
 fn replayed(alloc: Global, record: &[u8]) -> Result<(Status, Vec<u8>), AllocError> {
-    let mut words = Vec::new(alloc);
-    words.push(String::from_str(alloc, "replay")?)?;
+    let words = one_word(alloc, "replay")?;
     let mut input = source(alloc, Vec::from_slice(alloc, record)?);
     let mut output = sink(alloc);
     let status = tool(alloc, &words, &mut input, &mut output);

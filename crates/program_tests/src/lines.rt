@@ -1,12 +1,10 @@
 //! The limit of lines: a line begins with its first octet.
 
-use crate::runs::one_word;
+use crate::runs::{one_word, sink, source};
 use record_outcome::status::Status;
 use replay_run::tool::tool;
 use std::alloc::{AllocError, Global};
 use std::test::*;
-use sv_base::Octs;
-use sv_io::{Calls, MemSink, MemSource};
 
 const TOO_MANY: Status = Status::Limit {
     which: 1,
@@ -32,10 +30,10 @@ fn ends_so(alloc: Global, rest: &str, wanted: Status) -> Result<bool, AllocError
     let mut octets = Vec::new(alloc);
     octets.resize(1000000, b'\n')?;
     octets.extend_from_slice(rest.as_bytes())?;
-    let mut source = MemSource::new(Octs::from_vec(octets), Calls::from_vec(Vec::new(alloc)));
-    let mut sink = MemSink::new(alloc, Calls::from_vec(Vec::new(alloc)));
-    let status = tool(alloc, &words, &mut source, &mut sink);
-    Ok(status == wanted && sink.octets().is_empty())
+    let mut input = source(alloc, octets);
+    let mut output = sink(alloc);
+    let status = tool(alloc, &words, &mut input, &mut output);
+    Ok(status == wanted && output.octets().is_empty())
 }
 
 #[test]

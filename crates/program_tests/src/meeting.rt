@@ -1,6 +1,6 @@
 //! Gates by which two actors meet between their turns.
 
-use crate::runs::rehearsed_gated;
+use crate::rehearsals::rehearsed_gated;
 use record_outcome::status::Status;
 use std::alloc::AllocError;
 use std::sync::atomic::{AtomicU64, Ordering};
@@ -68,7 +68,7 @@ fn actors_at_once(rt: HostRuntime) -> Result<(), Fail> {
         &rt,
         alloc,
         gates(&rt, &one, &two, &late)?,
-        "rehearse 1\n[script process\nset @ 1\nset @ 2\nset @ 3\nclose\n\
+        "rehearse 1\n[0 011001 0 200>script process\nset @ 1\nset @ 2\nset @ 3\nclose\n\
          script association 1\nopen 1 direct\ntake 1\ntake 1\nclose\nend\n",
     )?;
     assert_eq!(rt; met, Some(Status::Ok));

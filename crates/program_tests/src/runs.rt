@@ -1,4 +1,4 @@
-//! Texts with marks for what most rows have, and a run of the program on one.
+//! Texts with marks for what most rows have, ends in memory, and runs of `bay_tool` on a text.
 
 use record_outcome::status::Status;
 use replay_run::tool::tool;
@@ -14,7 +14,8 @@ pub type Row = (&'static str, &'static str, Status, &'static str);
 /// What a mark stands for: `[` and `>` the lines of a configuration before a block's BUFTM and behind its CAPACITY, `*` nine values
 /// at nine moments, `@` the reference of the attribute that is set, `&` that of the block, `!` the front of a moment, and `%` four
 /// PDUs that ask for the status; of streams `~` a CR, `^` a CONNECT, and `{` the lines of what answers both, `?` the frame of a PDU
-/// that asks for the status, and `;` the line of what answers that.
+/// that asks for the status, and `;` the line of what answers that; of rehearsals `|` four PDUs that association 2 ends with, `<` a
+/// configuration with a control of direct control with enhanced security, `(` its Oper, and `)` an Oper of it that is a test.
 fn marked(mark: u8) -> Option<&'static str> {
     match mark {
         b'[' => Some(
@@ -55,6 +56,16 @@ fn marked(mark: u8) -> Option<&'static str> {
         b';' => Some(
             "1 frame 0300002102f0800100010061143012020103a00da10b020101a006800100810100\n",
         ),
+        b'|' => Some("pdu 2 8b00\npdu 2 8b00\npdu 2 8b00\npdu 2 8b00\n"),
+        b'<' => Some("config 1\nserver a b c\nld BAY1\nln CSWI1\nctl Pos3 3 5000 0 bool\nend\n"),
+        b'(' => Some(
+            "a049020104a544a020301ea01ca11a1a04424159311a12435357493124434f24506f7333244f706572a020a21e8301ffa2058501028900\
+             8601019108000000000000000083010084020600",
+        ),
+        b')' => Some(
+            "a049020106a544a020301ea01ca11a1a04424159311a12435357493124434f24506f7333244f706572a020a21e830100a2058501028900\
+             860101910800000000000000008301ff84020600",
+        ),
         _ => None,
     }
 }
@@ -71,6 +82,16 @@ pub fn unmarked(alloc: Global, text: &str) -> Result<Vec<u8>, AllocError> {
     Ok(octets)
 }
 
+/// A source of these octets, without a fault.
+pub fn source(alloc: Global, octets: Vec<u8>) -> MemSource {
+    MemSource::new(Octs::from_vec(octets), Calls::from_vec(Vec::new(alloc)))
+}
+
+/// A sink without a fault.
+pub fn sink(alloc: Global) -> MemSink {
+    MemSink::new(alloc, Calls::from_vec(Vec::new(alloc)))
+}
+
 /// The words of a command line of one word.
 pub fn one_word(alloc: Global, word: &str) -> Result<Vec<String>, AllocError> {
     let mut words = Vec::new(alloc);
@@ -82,13 +103,12 @@ pub fn one_word(alloc: Global, word: &str) -> Result<Vec<String>, AllocError> {
 pub fn all_end(rt: &impl Abort, alloc: Global, word: &str, rows: &[Row]) -> Result<(), Fail> {
     let words = one_word(alloc, word)?;
     for (name, text, wanted, answer) in rows {
-        let octets = Octs::from_vec(unmarked(alloc, text)?);
-        let mut source = MemSource::new(octets, Calls::from_vec(Vec::new(alloc)));
-        let mut sink = MemSink::new(alloc, Calls::from_vec(Vec::new(alloc)));
-        let status = tool(alloc, &words, &mut source, &mut sink);
+        let mut input = source(alloc, unmarked(alloc, text)?);
+        let mut output = sink(alloc);
+        let status = tool(alloc, &words, &mut input, &mut output);
         assert_eq!(rt; status, *wanted, "{name}: {text}");
         assert_eq!(rt;
-            sink.octets(),
+            output.octets(),
             unmarked(alloc, answer)?.as_slice(),
             "{name}: {text}"
         );

@@ -1,0 +1,2 @@
+-- The law of a list of one text.
+pub mod OneWord
