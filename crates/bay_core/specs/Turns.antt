@@ -1,24 +1,17 @@
 -- What a step is answered, and what it makes of the bay.
-use Rattle.std.specs.Prelude.{◌≡◌, suc, ◌∷◌, Bool, true, false, Option, None, Some, Result, Ok, Err}
+use Rattle.std.specs.Prelude.{◌≡◌, suc, ◌∷◌, Bool, true, false, Result, Ok, Err}
 use Rattle.sv_base.specs.declared.config.Config.{Config}
 use Rattle.bay_model.specs.declared.answer.Answer.{Answer}
 use Rattle.bay_model.specs.declared.step.Step.{Step}
 use Rattle.bay_model.specs.declared.step.Step.TheVariants as steps
 use Rattle.bay_model.specs.Named.{configured_model}
 use Rattle.bay_model.specs.Answers.{Turn, History, answer}
-use Rattle.bay_model.specs.Acceptance.{Fault, IsOpen, NotOpen, NotYours, QueueFull, fault}
-use Rattle.bay_core.specs.declared.fault.StepFault.{StepFault}
-use Rattle.bay_core.specs.declared.fault.StepFault.TheVariants as faults
+use Rattle.bay_model.specs.Acceptance.{fault}
+use Rattle.bay_histories.specs.declared.fault.StepFault.{StepFault}
+use Rattle.bay_histories.specs.declared.fault.StepFault.TheVariants as faults
+use Rattle.bay_histories.specs.Faults.{named}
 use Rattle.bay_core.specs.State.{State}
 use Rattle.bay_core.specs.Standing.{StandsFor}
-
--- the fault that a refusal names; want of memory is no fault of the step
-abbrev pub named : StepFault → Option Fault
-named (faults.IsOpen a) = Some (IsOpen a.0)
-named (faults.NotOpen a) = Some (NotOpen a.0)
-named (faults.NotYours a) = Some (NotYours a.0)
-named (faults.QueueFull a) = Some (QueueFull a.0)
-named faults.Memory = None
 
 -- From old to new by a turn: an accepted one is answered as the definitions have it, and new stands for the longer history;
 -- a refused one has the fault that the definitions name, or wants memory where they name none, and leaves all as it was.

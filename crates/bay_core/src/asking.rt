@@ -7,7 +7,7 @@ ghost use Rattle.bay_core.specs.Asked.{members_of, set_members};
 
 use crate::bay::Bay;
 use crate::defining::set_name;
-use crate::fault::StepFault;
+use bay_histories::StepFault;
 use bay_model::{
     Act, Acts, Answer, ApplError, ApplErrors, Codes, Output, Reply, Request, Service, Writes,
 };

@@ -4,8 +4,8 @@ ghost use Rattle.std.specs.Prelude.{◌≡◌};
 ghost use Rattle.bay_core.specs.Parting.{after_loss_all};
 
 use crate::bay::Bay;
-use crate::fault::StepFault;
 use assoc_table::Ends;
+use bay_histories::StepFault;
 use bay_model::Answer;
 use report_block::ReportBlock;
 use sv_base::{ActorNo, AssocNo, Moment};

@@ -4,7 +4,7 @@
 ghost use Rattle.std.specs.Prelude.{◌≡◌};
 
 use crate::bay::Bay;
-use crate::fault::StepFault;
+use bay_histories::StepFault;
 use bay_model::{Answer, ApplError, Target, Write};
 use bay_queues::Heard;
 use object_model::What;

@@ -8,13 +8,12 @@ mod opening;
 mod set_names;
 mod source;
 
-// its steps, and why one is refused
+// its steps
 mod asking;
 mod associations;
 mod commands;
 mod defining;
 mod deleting;
-mod fault;
 mod laws;
 mod reading;
 mod setting;
@@ -26,5 +25,5 @@ mod time;
 mod writing;
 
 pub use bay::Bay;
-pub use fault::StepFault;
+pub use bay_histories::StepFault;
 pub use laws::bays_cross_threads;

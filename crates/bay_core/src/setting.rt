@@ -12,8 +12,8 @@ ghost use Rattle.bay_core.specs.Timed.{AreQuietUntil};
 ghost use Rattle.block_watch.specs.Watched.{IsNoteOf, IsWatching, AreBlank, members_in};
 
 use crate::bay::Bay;
-use crate::fault::StepFault;
 use crate::source::Source;
+use bay_histories::StepFault;
 use bay_model::{Answer, Change, Fixed, Note, Sets};
 use block_watch::{Dues, Watch};
 use report_block::{EventRoom, ReportBlock};

@@ -1,7 +1,7 @@
 //! The steps of a bay.
 
 use crate::bay::Bay;
-use crate::fault::StepFault;
+use bay_histories::StepFault;
 use bay_model::{Answer, Step};
 use std::alloc::Global;
 use sv_base::{ActorNo, Moment};

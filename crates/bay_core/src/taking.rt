@@ -1,7 +1,7 @@
 //! Reports are taken (IEC 61850-7-2, the Report service).
 
 use crate::bay::Bay;
-use crate::fault::StepFault;
+use bay_histories::StepFault;
 use bay_model::{Answer, Output};
 use block_reports::{Blank, Rooms, empty_report, longest_text, report_of};
 use block_watch::set_of;

@@ -4,7 +4,7 @@ ghost use Rattle.std.specs.Prelude.{◌≡◌};
 ghost use Rattle.bay_core.specs.Written.{named_by};
 
 use crate::bay::Bay;
-use crate::fault::StepFault;
+use bay_histories::StepFault;
 use bay_model::{Answer, Comp};
 use block_watch::set_of;
 use data_sets::SetBook;

@@ -1,6 +1,6 @@
 //! The words of a command line.
 
-ghost use Rattle.std.specs.Prelude.{◌≡◌, ◌≢◌, ◌↔◌, IsTrue};
+ghost use Rattle.std.specs.Prelude.{◌≡◌, ◌≢◌, ◌↔◌, ◌⊎◌, IsTrue, IfErr};
 ghost use Rattle.std.specs.IoError.{error_kind};
 ghost use Rattle.command_line.specs.Words.{IsWord};
 
@@ -31,7 +31,9 @@ fn without_words(error: &Error) -> Status
 }
 
 /// The words behind the program's name; else the status that says why there are none: Memory, or Words where one of them isn't UTF-8.
-pub fn words_of(rt: &HostRuntime) -> Result<Vec<String>, Status> {
+pub fn words_of(rt: &HostRuntime) -> Result<Vec<String>, Status>
+    ensures lacking { IfErr result (λ s. (s ≡ Status.Memory) ⊎ (s ≡ Status.Words)) }
+{
     let args = match env::args(rt) {
         Ok(args) => args,
         Err(error) => return Err(without_words(&error)),

@@ -13,7 +13,7 @@ use Rattle.bay_core.specs.Standing.{StandsFor}
 use Rattle.history_lock.specs.declared.view.View.{View}
 use Rattle.history_lock.specs.declared.view.Phase.{Phase}
 use Rattle.history_lock.specs.declared.view.Phase.TheVariants.{Idle, Drawn, Busy, Added}
-use Rattle.history_lock.specs.Histories.{by}
+use Rattle.bay_histories.specs.Histories.{by}
 use Rattle.history_lock.specs.Views.{total, hit, has, has_phase, ticket_of, busy, busy_phase, added, added_phase, mine, aside_of, holds_number, left_of}
 use Rattle.history_lock.specs.Rule.{FollowsRule, Fits, FitsPhase, Table}
 use Rattle.history_lock.specs.Plays.{Seated, drawn, draws, served, looks, extended, appends, resting, passes, counts}

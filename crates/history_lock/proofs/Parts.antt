@@ -12,7 +12,7 @@ use Rattle.sv_base.specs.declared.config.Config.{Config}
 use Rattle.bay_core.specs.Standing.{StandsFor}
 use Rattle.history_lock.specs.declared.view.View.{View}
 use Rattle.history_lock.specs.declared.view.Phase.TheVariants.{Idle}
-use Rattle.history_lock.specs.Histories.{IsEarlier, by}
+use Rattle.bay_histories.specs.Histories.{IsEarlier, by}
 use Rattle.history_lock.specs.Views.{total, has, has_phase, busy, busy_phase, added, added_phase, inside, mine, aside_of, holds_number, left_of}
 use Rattle.history_lock.specs.Rule.{FollowsRule, Fits, FitsPhase, Table, whole, spent}
 use Rattle.history_lock.specs.Plays.{kept_ranges, cut_ranges, kept_part, cut_part, longer, joined, settled, compares, Seated}

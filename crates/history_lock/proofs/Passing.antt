@@ -4,21 +4,22 @@ use mathlib.Core.Logic.{dite}
 use native.Mathlib.Decide.{dec_le}
 use Rattle.bay_model.specs.declared.step.Step.{Step}
 use Rattle.bay_model.specs.declared.answer.Answer.{Answer}
-use Rattle.bay_core.specs.declared.fault.StepFault.{StepFault}
+use Rattle.bay_histories.specs.declared.fault.StepFault.{StepFault}
 use Rattle.bay_model.specs.Answers.{Turn, History}
 use Rattle.bay_core.specs.declared.bay.Bay.{Bay}
 use Rattle.sv_base.specs.declared.config.Config.{Config}
 use Rattle.bay_model.specs.Named.{configured_model}
 use Rattle.bay_model.specs.declared.step.Step.TheVariants as steps
-use Rattle.bay_core.specs.declared.fault.StepFault.TheVariants as stepfaults
-use Rattle.bay_core.specs.Turns.{named, is_lean, KeepsLean}
+use Rattle.bay_histories.specs.declared.fault.StepFault.TheVariants as stepfaults
+use Rattle.bay_histories.specs.Faults.{named}
+use Rattle.bay_core.specs.Turns.{is_lean, KeepsLean}
 use Rattle.bay_model.specs.Answers.{answer}
 use Rattle.atomic_table.specs.declared.shared.Seat.{Seat}
 use Rattle.history_lock.specs.declared.fault.TurnFault.TheVariants as faults
 use Rattle.history_lock.specs.declared.history.Pass.TheInside.{Inside}
 use Rattle.history_lock.specs.contracts.history.Pass.{the_view}
 use Rattle.history_lock.specs.declared.view.View.{View}
-use Rattle.history_lock.specs.Histories.{turn_of, by, IsRefused, answers_of, places_of}
+use Rattle.bay_histories.specs.Histories.{turn_of, by, IsRefused, answers_of, places_of}
 use Rattle.history_lock.specs.Views.{total, inside, mine}
 use Rattle.history_lock.specs.Plays.{Seated, Others, joined, settled, Agree}
 use Rattle.history_lock.specs.Seats.{Took, at_rest, config_or, others_of}

@@ -1,7 +1,7 @@
 -- The steps of one actor, and histories of which one goes on from the other.
 use Rattle.std.proofs.Common.{◌≡◌, ℕ, ◌≤◌, ◌≢◌, [], ◌∷◌, ◌++◌, length, sym, refl, ap, ◌∙◌, arith, cond, Bool, true, false, eqb, eq-eqb, ne_eqb, length-append}
 use Rattle.bay_model.specs.Answers.{Turn, History}
-use Rattle.history_lock.specs.Histories.{IsEarlier, by}
+use Rattle.bay_histories.specs.Histories.{IsEarlier, by}
 
 cond_append : (b : Bool) (t : Turn) (xs ys : History) → cond b (t ∷ (xs ++ ys)) (xs ++ ys) ≡ cond b (t ∷ xs) xs ++ ys
 cond_append true t xs ys = refl

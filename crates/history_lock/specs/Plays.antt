@@ -7,7 +7,7 @@ use Rattle.sv_base.specs.declared.config.Config.{Config}
 use Rattle.bay_core.specs.Standing.{StandsFor}
 use Rattle.history_lock.specs.declared.view.View.{View}
 use Rattle.history_lock.specs.declared.view.Phase.TheVariants.{Idle, Drawn, Busy, Added}
-use Rattle.history_lock.specs.Histories.{IsEarlier, by}
+use Rattle.bay_histories.specs.Histories.{IsEarlier, by}
 use Rattle.history_lock.specs.Views.{view, moved_to, ticket_of, mine, aside_of}
 
 abbrev pub Seated : Type 0

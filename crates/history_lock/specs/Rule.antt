@@ -10,7 +10,7 @@ use Rattle.bay_core.specs.Standing.{StandsFor}
 use Rattle.history_lock.specs.declared.view.View.{View}
 use Rattle.history_lock.specs.declared.view.Phase.{Phase}
 use Rattle.history_lock.specs.declared.view.Phase.TheVariants.{Idle, Drawn, Busy, Added}
-use Rattle.history_lock.specs.Histories.{IsEarlier, by}
+use Rattle.bay_histories.specs.Histories.{IsEarlier, by}
 use Rattle.history_lock.specs.Views.{view, total, has, busy, added, mine, aside_of, holds_number, left_of}
 
 -- the seat that is served has seen the whole history

@@ -4,9 +4,9 @@ use Rattle.sv_base.specs.declared.config.Config.{Config}
 use Rattle.bay_model.specs.declared.answer.Answer.{Answer}
 use Rattle.bay_model.specs.Named.{configured_model}
 use Rattle.bay_model.specs.Answers.{Turn, History, answer}
-use Rattle.bay_core.specs.declared.fault.StepFault.{StepFault}
+use Rattle.bay_histories.specs.declared.fault.StepFault.{StepFault}
 use Rattle.history_lock.specs.declared.view.Phase.TheVariants.{Idle}
-use Rattle.history_lock.specs.Histories.{IsLegal, IsRefused}
+use Rattle.bay_histories.specs.Histories.{IsLegal, IsRefused}
 use Rattle.history_lock.specs.Views.{view, moved_to}
 use Rattle.history_lock.specs.Plays.{Seated, Others}
 

@@ -1,6 +1,6 @@
 //! Why a turn was not accepted.
 
-use bay_core::StepFault;
+use bay_histories::StepFault;
 
 /// Why a turn was not accepted.
 #[derive(Clone, Copy, Debug, PartialEq, Eq)]

@@ -4,7 +4,7 @@ ghost use Rattle.std.specs.Prelude.{◌≡◌, ◌-◌, ◌+◌, ◌<◌, ◌≤
 ghost use Rattle.object_model.specs.Fits.{fits as fits_in};
 ghost use Rattle.bay_model.specs.Answers.{History as TheHistory};
 ghost use Rattle.bay_core.specs.Standing.{StandsFor};
-ghost use Rattle.history_lock.specs.Histories.{IsEarlier, by, IsShuffle};
+ghost use Rattle.bay_histories.specs.Histories.{IsEarlier, by, IsShuffle};
 ghost use Rattle.history_lock.specs.Rule.{whole};
 ghost use Rattle.history_lock.specs.Passes.{HasNumber, IsSamePass, Joined, first_of, kept_of, new_of};
 ghost use Rattle.history_lock.specs.Passes.{OwnGrew, ToldGrew, PlacedGrew, Turned, IsLeanTurn, IsProcessTurn};

@@ -7,7 +7,7 @@ ghost use Rattle.bay_model.specs.Answers.{History};
 ghost use Rattle.bay_core.specs.Turns.{KeepsLean};
 ghost use Rattle.bay_core.specs.Standing.{StandsFor};
 ghost use Rattle.bay_core.specs.declared.bay.Bay.{Bay as TheBay};
-ghost use Rattle.history_lock.specs.Histories.{IsEarlier, by, turn_of};
+ghost use Rattle.bay_histories.specs.Histories.{IsEarlier, by, turn_of};
 ghost use Rattle.history_lock.specs.Views.{mine, busy};
 ghost use Rattle.history_lock.specs.Rule.{whole};
 ghost use Rattle.history_lock.specs.Plays.{Got, drawn, extended, resting, kept_part, cut_part, joined, settled, Agree};

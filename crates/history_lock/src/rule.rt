@@ -42,7 +42,7 @@ pub trait Announced {
 }
 
 impl Announced for Brand {
-    ghost use Rattle.history_lock.specs.Histories.{nothing};
+    ghost use Rattle.bay_histories.specs.Histories.{nothing};
 
     ghost turn = { nothing };
 }

@@ -24,15 +24,15 @@ use Rattle.record_steps.specs.Resolved.{association_of, told_of}
 use Rattle.record_steps.specs.Told.{pass_to, turn}
 use Rattle.record_history.specs.Histories.{form_after, form_at, form_of, said_in, said, moment_after, moment_of, stepped, parts_in, steps_of, onto}
 use Rattle.record_history.specs.Texts.{parts_of, turns_of, turns_in, text_behind, text_of}
-use Rattle.history_lock.specs.Histories.{by, IsShuffle}
-use Rattle.history_lock.specs.Histories as histories
+use Rattle.bay_histories.specs.Histories.{by, IsShuffle}
+use Rattle.bay_histories.specs.Histories as histories
 use Rattle.script_lines.specs.Owners.{may_have}
 use Rattle.script_lines.specs.declared.owner.Owner.{Owner}
 use Rattle.script_lines.specs.declared.owner.Owner.TheVariants as owners
-use Rattle.script_threads.specs.Races.{actors}
-use Rattle.script_threads.specs.Scripts.{turns_by, made_from, made_of}
-use Rattle.script_threads.specs.declared.made.Made.{Made}
-use Rattle.script_threads.specs.declared.script.TimedStep.{TimedStep}
+use Rattle.actor_scripts.specs.Raced.{actors}
+use Rattle.actor_scripts.specs.Scripts.{turns_by, made_from, made_of}
+use Rattle.actor_scripts.specs.declared.made.Made.{Made}
+use Rattle.actor_scripts.specs.declared.script.TimedStep.{TimedStep}
 use Rattle.written_histories.specs.Written.{actor_of, as_written, history_written}
 use Rattle.written_histories.proofs.WrittenLaws.{answer_written}
 use Rattle.script_reading.specs.Forms.{form_in}

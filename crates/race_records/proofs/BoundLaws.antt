@@ -7,9 +7,9 @@ use Rattle.bay_model.specs.declared.step.Step.TheVariants as steps
 use Rattle.bay_model.specs.Model.{Model}
 use Rattle.bay_model.specs.Named.{configured_model}
 use Rattle.bay_model.specs.Answers.{History}
-use Rattle.history_lock.specs.Histories as histories
-use Rattle.script_threads.specs.Scripts.{turns_onto}
-use Rattle.script_threads.specs.declared.script.TimedStep.{TimedStep}
+use Rattle.bay_histories.specs.Histories as histories
+use Rattle.actor_scripts.specs.Scripts.{turns_onto}
+use Rattle.actor_scripts.specs.declared.script.TimedStep.{TimedStep}
 use Rattle.own_queues.specs.Opers.{opers_by}
 use Rattle.own_queues.specs.Queues.{waits_behind, waits, opers_behind, opers}
 use Rattle.script_reading.specs.Plans.{Script, Plan, script_of}

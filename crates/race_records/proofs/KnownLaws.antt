@@ -12,19 +12,19 @@ use Rattle.bay_model.specs.Named.{configured_model}
 use Rattle.bay_model.specs.Acceptance.{Fault, IsOpen, NotOpen, NotYours, QueueFull, fault}
 use Rattle.bay_model.specs.Answers.{History, points}
 use Rattle.bay_model.specs.Waiting.{waiting_replies}
-use Rattle.bay_core.specs.declared.fault.StepFault.{StepFault}
-use Rattle.bay_core.specs.declared.fault.StepFault.TheVariants as faults
-use Rattle.bay_core.specs.Turns.{named}
+use Rattle.bay_histories.specs.declared.fault.StepFault.{StepFault}
+use Rattle.bay_histories.specs.declared.fault.StepFault.TheVariants as faults
+use Rattle.bay_histories.specs.Faults.{named}
 use Rattle.record_steps.specs.Forms.{is_shut}
 use Rattle.record_history.specs.Histories.{form_at, onto}
-use Rattle.history_lock.specs.Histories as histories
-use Rattle.history_lock.specs.Histories.{by, IsLegal, IsShuffle}
-use Rattle.script_threads.specs.Playing.{StopsAt}
-use Rattle.script_threads.specs.Races.{actors, beginnings, IsPart, AreParts}
-use Rattle.script_threads.specs.Scripts.{turns_onto, turns_by}
-use Rattle.script_threads.specs.declared.part.Part.{Part}
-use Rattle.script_threads.specs.declared.script.Script.{Script as Played}
-use Rattle.script_threads.specs.declared.script.TimedStep.{TimedStep}
+use Rattle.bay_histories.specs.Histories as histories
+use Rattle.bay_histories.specs.Histories.{by, IsLegal, IsShuffle}
+use Rattle.actor_scripts.specs.Stops.{StopsAt}
+use Rattle.actor_scripts.specs.Raced.{actors, beginnings, IsPart, AreParts}
+use Rattle.actor_scripts.specs.Scripts.{turns_onto, turns_by}
+use Rattle.actor_scripts.specs.declared.part.Part.{Part}
+use Rattle.actor_scripts.specs.declared.script.Script.{Script as Played}
+use Rattle.actor_scripts.specs.declared.script.TimedStep.{TimedStep}
 use Rattle.own_queues.specs.Opers.{AreApart}
 use Rattle.own_queues.specs.Queues.{open_behind, is_open, waits, opers, IsItsOwn, AreTheirOwn, IsInOrder, own_fault}
 use Rattle.own_queues.proofs.QueueLaws.{waits_by_steps, accepted_by_steps}

@@ -3,12 +3,12 @@ use Rattle.std.proofs.Common.{◌≡◌, ◌≤◌, ℕ, zero, suc, List, [], �
 use Rattle.std.specs.Prelude.{Option, None, Some, slice_get}
 use Rattle.sv_base.specs.declared.config.Config.{Config}
 use Rattle.bay_model.specs.Answers.{Turn, History}
-use Rattle.history_lock.specs.Histories.{turn_of}
+use Rattle.bay_histories.specs.Histories.{turn_of}
 use Rattle.record_history.specs.Histories.{onto}
-use Rattle.script_threads.specs.Scripts.{turns_onto, turns_by}
-use Rattle.script_threads.specs.declared.made.Made.{Made}
-use Rattle.script_threads.specs.declared.script.TimedStep.{TimedStep}
-use Rattle.script_threads.proofs.Lists.{turns_more}
+use Rattle.actor_scripts.specs.Scripts.{turns_onto, turns_by}
+use Rattle.actor_scripts.specs.declared.made.Made.{Made}
+use Rattle.actor_scripts.specs.declared.script.TimedStep.{TimedStep}
+use Rattle.actor_scripts.proofs.Lists.{turns_more}
 use Rattle.script_reading.specs.Plans.{Script}
 use Rattle.script_reading.specs.Sound.{IsTold, AreTold}
 use Rattle.script_reading.specs.declared.line.StepLine.{StepLine}

@@ -27,9 +27,9 @@ use Rattle.record_history.specs.Texts.{parts_of, text_behind}
 use Rattle.record_history.specs.Texts as texts
 use Rattle.record_outcome.specs.Records.{NoNewline}
 use Rattle.record_laws.specs.Grammar.{IsInner, Each}
-use Rattle.script_threads.specs.Scripts.{made_of}
-use Rattle.script_threads.specs.declared.made.Made.{Made}
-use Rattle.script_threads.specs.declared.script.TimedStep.{TimedStep}
+use Rattle.actor_scripts.specs.Scripts.{made_of}
+use Rattle.actor_scripts.specs.declared.made.Made.{Made}
+use Rattle.actor_scripts.specs.declared.script.TimedStep.{TimedStep}
 use Rattle.script_reading.specs.Plans.{Script, Plan, script_of}
 use Rattle.script_reading.specs.Sound.{IsTold, AreTold, IsScriptOrNone, IsText, IsSound}
 use Rattle.script_reading.specs.declared.line.StepLine.{StepLine}

@@ -30,11 +30,11 @@ use Rattle.record_steps.specs.declared.heard.Wired.{Wired}
 use Rattle.record_steps.specs.declared.heard.Wired.TheVariants.{Dialling, On}
 use Rattle.record_steps.proofs.ToldLaws.{told-own}
 use Rattle.record_history.specs.Histories.{form_after, form_at}
-use Rattle.history_lock.specs.Histories as histories
+use Rattle.bay_histories.specs.Histories as histories
 use Rattle.script_lines.specs.Owners.{may_have}
 use Rattle.script_lines.specs.declared.owner.Owner.{Owner}
 use Rattle.script_lines.specs.declared.owner.Owner.TheVariants as owners
-use Rattle.script_threads.specs.declared.script.TimedStep.{TimedStep}
+use Rattle.actor_scripts.specs.declared.script.TimedStep.{TimedStep}
 use Rattle.written_histories.specs.Written.{actor_of}
 use Rattle.own_queues.specs.Queues.{open_behind, IsItsOwn, IsInOrder}
 use Rattle.script_reading.specs.Forms.{form_in}

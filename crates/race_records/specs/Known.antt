@@ -1,10 +1,10 @@
 -- What comes of a race of a plan's scripts, where no turn found memory wanting.
 use Rattle.std.specs.Prelude.{◌≡◌, ℕ, suc, true, false, List, [], ◌∷◌, ◌++◌, map, Option, None, Some}
 use Rattle.bay_model.specs.Answers.{History}
-use Rattle.script_threads.specs.Races.{IsRaced}
-use Rattle.script_threads.specs.declared.part.Part.{Part}
-use Rattle.script_threads.specs.declared.script.Script.{Script as Played}
-use Rattle.script_threads.specs.declared.script.TimedStep.{TimedStep}
+use Rattle.actor_scripts.specs.Raced.{IsRaced}
+use Rattle.actor_scripts.specs.declared.part.Part.{Part}
+use Rattle.actor_scripts.specs.declared.script.Script.{Script as Played}
+use Rattle.actor_scripts.specs.declared.script.TimedStep.{TimedStep}
 use Rattle.script_reading.specs.Plans.{Script, Plan}
 use Rattle.script_reading.specs.Sound.{IsSound}
 use Rattle.race_records.specs.Merged.{book_of}

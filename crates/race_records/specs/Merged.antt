@@ -15,8 +15,8 @@ use Rattle.run_record.specs.declared.line.RecLine.TheVariants as lines
 use Rattle.record_steps.specs.Forms.{shape_of}
 use Rattle.record_steps.specs.Told.{Told, turn}
 use Rattle.record_history.specs.Histories.{octets_of, said_in}
-use Rattle.script_threads.specs.Scripts.{made_of}
-use Rattle.script_threads.specs.declared.made.Made.{Made}
+use Rattle.actor_scripts.specs.Scripts.{made_of}
+use Rattle.actor_scripts.specs.declared.made.Made.{Made}
 use Rattle.script_reading.specs.Forms.{form_in, IsFit}
 use Rattle.script_reading.specs.Plans.{Script, Plan}
 use Rattle.script_reading.specs.declared.line.StepLine.{StepLine}

@@ -2,10 +2,10 @@
 -- every step of the process is actor 0's; and the answers are the text of that history.
 use Rattle.std.specs.Prelude.{◌≡◌, Some, ◌++◌, codes}
 use Rattle.bay_model.specs.Answers.{History}
-use Rattle.history_lock.specs.Histories.{IsShuffle}
+use Rattle.bay_histories.specs.Histories.{IsShuffle}
 use Rattle.record_history.specs.Histories.{Recorded, lines_of, history_of}
 use Rattle.record_history.specs.Texts.{turns_in, record_text}
-use Rattle.script_threads.specs.Races.{actors}
+use Rattle.actor_scripts.specs.Raced.{actors}
 use Rattle.script_reading.specs.Plans.{Plan, turns_of}
 use Rattle.script_reading.specs.Sound.{IsSound}
 use Rattle.written_histories.specs.Written.{history_written}

@@ -1,10 +1,10 @@
 -- What came of a race.
 use Rattle.std.specs.Prelude.{ℕ, min, Bool, true, false, List, [], ◌∷◌, ◌&&◌, ◌||◌, length, Option, None, Some, slice_get, slice_index_or}
 use Rattle.std.specs.Option.{option_map}
-use Rattle.bay_core.specs.declared.fault.StepFault.{StepFault}
-use Rattle.bay_core.specs.declared.fault.StepFault.TheVariants as faults
+use Rattle.bay_histories.specs.declared.fault.StepFault.{StepFault}
+use Rattle.bay_histories.specs.declared.fault.StepFault.TheVariants as faults
 use Rattle.script_reading.specs.declared.line.StepLine.{StepLine}
-use Rattle.script_threads.specs.declared.part.Part.{Part}
+use Rattle.actor_scripts.specs.declared.part.Part.{Part}
 use Rattle.race_records.specs.Merged.{Book}
 
 -- the number of the line of an actor behind so many

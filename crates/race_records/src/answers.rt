@@ -5,13 +5,13 @@ ghost use Rattle.std.specs.List.{All};
 ghost use Rattle.race_records.specs.Merged.{answer_to, answered, book_seen, TellsStep, IsAnswerable};
 
 use crate::book::line_made;
+use actor_scripts::Made;
 use answer_text::lines_of;
 use bay_model::{Answer, Step};
 use object_model::Model;
 use record_steps::Told;
 use run_record::view_line;
 use script_reading::StepLine;
-use script_threads::Made;
 use std::alloc::{AllocError, Global};
 
 /// Adds the answer to the step that a line tells.

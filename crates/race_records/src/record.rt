@@ -7,9 +7,9 @@ ghost use Rattle.record_history.specs.Histories.{octets_of};
 ghost use Rattle.race_records.specs.Merged.{at_lines, lines_behind, merged, record_with, book_seen, HasLine};
 
 use crate::book::line_made;
+use actor_scripts::Made;
 use run_record::{RecLine, write_line};
 use script_reading::StepLine;
-use script_threads::Made;
 use std::alloc::AllocError;
 use sv_base::Moment;
 

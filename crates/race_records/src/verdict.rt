@@ -4,9 +4,9 @@ ghost use Rattle.std.specs.Prelude.{◌≡◌};
 ghost use Rattle.race_records.specs.Merged.{book_seen};
 ghost use Rattle.race_records.specs.Verdicts.{number_at, full_line as full_line_of, lesser as lesser_of, lowest_full as lowest_of, lacks_memory as lacks_memory_in};
 
-use bay_core::StepFault;
+use actor_scripts::Part;
+use bay_histories::StepFault;
 use script_reading::StepLine;
-use script_threads::Part;
 
 /// The number of an actor's line behind so many; none where it has no such line.
 fn number_of(book: &[Vec<StepLine>], actor: u32, index: usize) -> Option<u64>

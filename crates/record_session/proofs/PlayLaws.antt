@@ -21,8 +21,9 @@ use Rattle.run_record.specs.declared.line.RecLine.{RecLine}
 use Rattle.run_record.specs.declared.line.RecLine.TheVariants as lines
 use Rattle.bay_core.specs.State.{State}
 use Rattle.bay_core.specs.Standing.{StandsFor}
-use Rattle.bay_core.specs.Turns.{Does, named}
-use Rattle.bay_core.specs.declared.fault.StepFault.{StepFault}
+use Rattle.bay_histories.specs.Faults.{named}
+use Rattle.bay_core.specs.Turns.{Does}
+use Rattle.bay_histories.specs.declared.fault.StepFault.{StepFault}
 use Rattle.answer_text.specs.Texts.{lines_of}
 use Rattle.answer_text.specs.declared.shape.Shape.{Shape}
 use Rattle.record_steps.specs.Forms.{Form, is_shut, shape_of, plain, Stands, form_behind}

@@ -5,7 +5,7 @@ ghost use Rattle.run_record.specs.Grammar.{IsLine};
 ghost use Rattle.run_record.specs.Seen.{line_seen};
 ghost use Rattle.record_steps.specs.Resolved.{association_of};
 ghost use Rattle.std.specs.Option.{option_map};
-ghost use Rattle.bay_core.specs.Turns.{named};
+ghost use Rattle.bay_histories.specs.Faults.{named};
 ghost use Rattle.record_outcome.specs.Steps.{stop_of};
 ghost use Rattle.record_outcome.specs.Judgements.{IsJudgement};
 

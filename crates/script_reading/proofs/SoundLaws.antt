@@ -39,9 +39,9 @@ use Rattle.script_lines.specs.declared.line.ScriptLine.{ScriptLine}
 use Rattle.script_lines.specs.declared.line.ScriptLine.TheVariants as scripts
 use Rattle.run_record.proofs.ReadLaws.{line-read}
 use Rattle.script_lines.proofs.LineLaws.{line-told}
-use Rattle.script_threads.specs.Playing.{AreFit}
-use Rattle.script_threads.specs.declared.script.TimedStep.{TimedStep}
-use Rattle.script_threads.proofs.Lists.{map_last}
+use Rattle.actor_scripts.specs.Stops.{AreFit}
+use Rattle.actor_scripts.specs.declared.script.TimedStep.{TimedStep}
+use Rattle.actor_scripts.proofs.Lists.{map_last}
 use Rattle.written_histories.specs.Written.{actor_of}
 use Rattle.script_reading.specs.Forms.{form_in, form_passed, IsFit}
 use Rattle.script_reading.specs.Plans.{Script, Plan, script_of, with_script}

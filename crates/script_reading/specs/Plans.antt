@@ -2,8 +2,8 @@
 use Rattle.std.specs.Prelude.{ℕ, List, [], ◌∷◌, ◌++◌, Option, None, Some, set, replicate, slice_index_or}
 use Rattle.sv_base.specs.declared.config.Config.{Config}
 use Rattle.bay_model.specs.Answers.{History}
-use Rattle.script_threads.specs.Scripts.{turns_by}
-use Rattle.script_threads.specs.declared.script.TimedStep.{TimedStep}
+use Rattle.actor_scripts.specs.Scripts.{turns_by}
+use Rattle.actor_scripts.specs.declared.script.TimedStep.{TimedStep}
 use Rattle.script_reading.specs.declared.line.StepLine.{StepLine}
 
 -- How many scripts begin before it; its lines that make steps, and these steps at their moments, in order.

@@ -13,8 +13,8 @@ use Rattle.record_laws.specs.Grammar.{IsInner, Each}
 use Rattle.script_lines.specs.Owners.{may_have}
 use Rattle.script_lines.specs.declared.owner.Owner.{Owner}
 use Rattle.script_lines.specs.declared.owner.Owner.TheVariants as owners
-use Rattle.script_threads.specs.Playing.{AreFit}
-use Rattle.script_threads.specs.declared.script.TimedStep.{TimedStep}
+use Rattle.actor_scripts.specs.Stops.{AreFit}
+use Rattle.actor_scripts.specs.declared.script.TimedStep.{TimedStep}
 use Rattle.written_histories.specs.Written.{actor_of}
 use Rattle.script_reading.specs.Forms.{form_in, IsFit}
 use Rattle.script_reading.specs.Plans.{Script, Plan, script_of}

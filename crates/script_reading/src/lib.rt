@@ -31,3 +31,4 @@ pub use line::StepLine;
 pub use plan::Plan;
 pub use reading::read_rehearsal;
 pub use script::Script;
+pub use scripting::MOST_SCRIPTS;

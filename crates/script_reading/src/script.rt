@@ -1,7 +1,7 @@
 //! A script of a rehearsal: its lines that make steps, and these steps.
 
 use crate::line::StepLine;
-use script_threads::TimedStep;
+use actor_scripts::TimedStep;
 use std::alloc::{AllocError, Global};
 use std::marker::Model;
 

@@ -14,20 +14,20 @@ use crate::next::Next;
 use crate::opened::Opened;
 use crate::plan::Plan;
 use crate::script::Script;
+use actor_scripts::TimedStep;
 use bay_model::Step;
 use object_model::Model;
 use record_outcome::status::Status;
 use record_steps::Told;
 use run_record::{Kind, LineView};
 use script_lines::{Owner, ScriptView, view_script_line};
-use script_threads::TimedStep;
 use std::alloc::{AllocError, Global};
 use std::mem::replace;
 use sv_base::Moment;
 use text_words::owned;
 
 /// The most scripts of an input.
-const MOST_SCRIPTS: u32 = 16;
+pub const MOST_SCRIPTS: u32 = 16;
 
 /// A line is refused.
 fn stop(number: u64, kind: Kind) -> Next

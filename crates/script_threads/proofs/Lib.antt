@@ -1,4 +1,3 @@
-pub mod Lists
 pub mod Plays
 pub mod Races
 pub mod SendLaws

@@ -6,16 +6,17 @@ use Rattle.sv_base.specs.declared.config.Config.{Config}
 use Rattle.bay_model.specs.declared.answer.Answer.{Answer}
 use Rattle.bay_model.specs.Named.{configured_model}
 use Rattle.bay_model.specs.Answers.{Turn, History, answer}
-use Rattle.bay_core.specs.declared.fault.StepFault.{StepFault}
+use Rattle.bay_histories.specs.declared.fault.StepFault.{StepFault}
 use Rattle.history_lock.specs.declared.fault.TurnFault.TheVariants as faults
-use Rattle.history_lock.specs.Histories.{turn_of, by, IsLegal, IsRefused}
+use Rattle.bay_histories.specs.Histories.{turn_of, by, IsLegal, IsRefused}
 use Rattle.history_lock.specs.Passes.{Known, InSome, HasNumber, OfOthers, IsSamePass, Turned, own}
 use Rattle.history_lock.proofs.Steps.{by-append, by_none}
-use Rattle.script_threads.specs.declared.script.TimedStep.{TimedStep}
-use Rattle.script_threads.specs.declared.part.Reply.{Reply}
-use Rattle.script_threads.specs.Scripts.{turns_onto, reply_to, replies_of}
-use Rattle.script_threads.specs.Playing.{StopsAt, Plays}
-use Rattle.script_threads.proofs.Lists.{turns_more, replies_skip}
+use Rattle.actor_scripts.specs.declared.script.TimedStep.{TimedStep}
+use Rattle.actor_scripts.specs.declared.part.Reply.{Reply}
+use Rattle.actor_scripts.specs.Scripts.{turns_onto, reply_to, replies_of}
+use Rattle.actor_scripts.specs.Stops.{StopsAt}
+use Rattle.script_threads.specs.Playing.{Plays}
+use Rattle.actor_scripts.proofs.Lists.{turns_more, replies_skip}
 
 pub plays_nothing : (p : Known) (steps : List TimedStep) → Plays p steps [] p
 plays_nothing p steps = record {

@@ -5,19 +5,21 @@ use mathlib.Core.Logic.{dite}
 use native.Mathlib.Decide.{ℕ_discrete, dec_lt}
 use Rattle.sv_base.specs.declared.config.Config.{Config}
 use Rattle.bay_model.specs.Answers.{History}
-use Rattle.history_lock.specs.Histories.{IsEarlier, by, IsLegal}
+use Rattle.bay_histories.specs.Histories.{IsEarlier, by, IsLegal}
 use Rattle.history_lock.specs.Passes.{Site, Known, IsIn, InSome, HasNumber, Joined}
 use Rattle.history_lock.proofs.Steps.{by-append, nothing_more}
-use Rattle.script_threads.specs.declared.script.Script.{Script}
-use Rattle.script_threads.specs.declared.part.Part.{Part}
+use Rattle.actor_scripts.specs.declared.script.Script.{Script}
+use Rattle.actor_scripts.specs.declared.part.Part.{Part}
 use Rattle.script_threads.specs.declared.job.Played.{Played}
 use Rattle.script_threads.specs.declared.job.Job.{Job}
-use Rattle.script_threads.specs.Scripts.{turns_onto, turns_by, replies_of}
-use Rattle.script_threads.specs.Playing.{IsOf, StopsAt, Went}
+use Rattle.actor_scripts.specs.Scripts.{turns_onto, turns_by, replies_of}
+use Rattle.actor_scripts.specs.Stops.{StopsAt}
+use Rattle.script_threads.specs.Playing.{IsOf, Went}
 use Rattle.script_threads.specs.Dealing.{IsRest, IsFresh, Dealt, AllWent}
-use Rattle.script_threads.specs.Races.{beginnings, IsPart, AreParts, IsRaced, Gathers, AllGathered}
+use Rattle.actor_scripts.specs.Raced.{beginnings, IsPart, AreParts, IsRaced}
+use Rattle.script_threads.specs.Races.{Gathers, AllGathered}
 use Rattle.script_threads.proofs.Plays.{same_numbers}
-use Rattle.script_threads.proofs.Lists.{replies_skip}
+use Rattle.actor_scripts.proofs.Lists.{replies_skip}
 
 -- ---- dealing
 

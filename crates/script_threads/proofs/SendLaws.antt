@@ -8,13 +8,13 @@ use Rattle.bay_model.specs.contracts.control.Act as Act
 use Rattle.bay_model.specs.contracts.control.Acts as Acts
 use Rattle.bay_model.specs.contracts.answer.Answer as Answer
 use Rattle.assoc_table.proofs.SendLaws.{value_field_send, output_field_send}
-use Rattle.bay_core.specs.contracts.fault.StepFault as StepFault
+use Rattle.bay_histories.specs.contracts.fault.StepFault as StepFault
 use Rattle.bay_core.proofs.SendLaws.{step_field_send}
 use Rattle.history_lock.proofs.SendLaws.{pass_send}
-use Rattle.script_threads.specs.contracts.script.TimedStep as TimedStep
-use Rattle.script_threads.specs.contracts.script.Script as Script
-use Rattle.script_threads.specs.contracts.part.Reply as Reply
-use Rattle.script_threads.specs.contracts.part.Part as Part
+use Rattle.actor_scripts.specs.contracts.script.TimedStep as TimedStep
+use Rattle.actor_scripts.specs.contracts.script.Script as Script
+use Rattle.actor_scripts.specs.contracts.part.Reply as Reply
+use Rattle.actor_scripts.specs.contracts.part.Part as Part
 use Rattle.script_threads.specs.contracts.job.Played as Played
 
 timed_field_send : IsSend TimedStep.the_field.row

@@ -3,10 +3,11 @@ use Rattle.std.specs.Prelude.{◌≡◌, ◌+◌, ◌*◌, ◌<◌, ◌≤◌, �
 use Rattle.std.specs.declared.alloc.Global.{Global}
 use Rattle.sv_base.specs.declared.config.Config.{Config}
 use Rattle.history_lock.specs.Passes.{Site, Known}
-use Rattle.script_threads.specs.declared.script.Script.{Script}
-use Rattle.script_threads.specs.declared.part.Reply.{Reply}
+use Rattle.actor_scripts.specs.declared.script.Script.{Script}
+use Rattle.actor_scripts.specs.declared.part.Reply.{Reply}
 use Rattle.script_threads.specs.declared.job.Played.{Played}
-use Rattle.script_threads.specs.Playing.{IsOf, AreFit, Went}
+use Rattle.actor_scripts.specs.Stops.{AreFit}
+use Rattle.script_threads.specs.Playing.{IsOf, Went}
 
 -- the numbers of actors fall, from below `high`; 0 is none
 abbrev pub AreFalling : ℕ → List ℕ → Type 0

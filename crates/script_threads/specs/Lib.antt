@@ -1,6 +1,4 @@
--- Scripts that are played, and the history that they make.
-pub mod Scripts
-pub mod Merging
+-- Scripts that race as threads over one bay, and the history that they make.
 -- an actor's turns
 pub mod Playing
 -- passes for all actors, and what comes of their race

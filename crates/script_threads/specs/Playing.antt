@@ -1,30 +1,17 @@
 -- A script that an actor plays with its pass.
-use Rattle.std.specs.Prelude.{◌≡◌, ◌≢◌, ◌≤◌, ℕ, true, List, ◌++◌, length, take, Option, None, Some, slice_get}
-use Rattle.std.specs.List.{All}
-use Rattle.sv_base.specs.declared.config.Config.{Config}
-use Rattle.object_model.specs.Fits.{fits}
-use Rattle.bay_model.specs.Answers.{History}
-use Rattle.bay_core.specs.declared.fault.StepFault.{StepFault}
-use Rattle.history_lock.specs.Histories.{turn_of, by, IsLegal, IsRefused}
+use Rattle.std.specs.Prelude.{◌≡◌, ◌≢◌, ◌≤◌, ℕ, List, ◌++◌, length, take}
+use Rattle.bay_histories.specs.Histories.{by, IsLegal}
 use Rattle.history_lock.specs.Passes.{Site, Known, HasNumber, IsSamePass}
-use Rattle.script_threads.specs.declared.script.TimedStep.{TimedStep}
-use Rattle.script_threads.specs.declared.script.Script.{Script}
-use Rattle.script_threads.specs.declared.part.Reply.{Reply}
+use Rattle.actor_scripts.specs.declared.script.TimedStep.{TimedStep}
+use Rattle.actor_scripts.specs.declared.script.Script.{Script}
+use Rattle.actor_scripts.specs.declared.part.Reply.{Reply}
 use Rattle.script_threads.specs.declared.job.Played.{Played}
-use Rattle.script_threads.specs.Scripts.{turns_onto, replies_of}
+use Rattle.actor_scripts.specs.Scripts.{turns_onto, replies_of}
+use Rattle.actor_scripts.specs.Stops.{StopsAt}
 
 -- a pass of this history
 abbrev pub IsOf : Site → Known → Type 0
 IsOf h p = (p.table ≡ h.table) × (p.config ≡ h.config)
-
--- steps that a bay of this configuration can be given
-abbrev pub AreFit : Config → List TimedStep → Type 0
-AreFit c steps = All (λ (s : TimedStep). fits c s.step ≡ true) steps
-
--- Why actor k stopped once n steps were answered: none are left, or the next one was refused after what the actor had then seen.
-abbrev pub StopsAt : Config → ℕ → List TimedStep → ℕ → Option StepFault → History → Type 0
-StopsAt c k steps n None seen = n ≡ length steps
-StopsAt c k steps n (Some f) seen = (s : TimedStep) × (slice_get steps n ≡ Some s) × IsRefused c seen (turn_of s.moment k s.step) f
 
 -- the pass p has become q: the actor made the steps that were answered, in order, and no other
 pub record Plays (p : Known) (steps : List TimedStep) (replies : List Reply) (q : Known) : Type 0 where

@@ -2,12 +2,12 @@
 
 ghost use Rattle.std.specs.Prelude.{◌≡◌, map, IfOk};
 ghost use Rattle.std.specs.List.{All};
-ghost use Rattle.history_lock.specs.Histories.{IsLegal};
+ghost use Rattle.bay_histories.specs.Histories.{IsLegal};
 ghost use Rattle.script_threads.specs.Playing.{IsOf};
 ghost use Rattle.script_threads.specs.Races.{Gathers, AllGathered};
 
 use crate::job::Played;
-use crate::part::Part;
+use actor_scripts::Part;
 use history_lock::{History, Pass};
 use std::alloc::{AllocError, Global};
 

@@ -1,7 +1,6 @@
 //! An actor of a race: what it is to do, and what it did.
 
-use crate::part::{Part, Reply};
-use crate::script::Script;
+use actor_scripts::{Part, Reply, Script};
 use history_lock::Pass;
 
 /// An actor of a race: its script, and the gate that it passes before each turn.

@@ -2,13 +2,13 @@
 
 ghost use Rattle.std.specs.Prelude.{◌≡◌, ◌<◌, ◌≤◌, [], length, vec_capacity};
 ghost use Rattle.history_lock.specs.declared.fault.TurnFault.TheVariants.{Ended, Step};
-ghost use Rattle.script_threads.specs.Playing.{IsOf, AreFit, StopsAt, Plays, Went};
+ghost use Rattle.actor_scripts.specs.Stops.{AreFit, StopsAt};
+ghost use Rattle.script_threads.specs.Playing.{IsOf, Plays, Went};
 ghost use Rattle.script_threads.specs.Dealing.{IsReady};
 
 use crate::job::{Job, Played};
-use crate::part::{Part, Reply};
-use crate::script::TimedStep;
-use bay_core::StepFault;
+use actor_scripts::{Part, Reply, TimedStep};
+use bay_histories::StepFault;
 use history_lock::{History, Pass, TurnFault};
 use std::sync::Wait;
 use sv_io::Gate;

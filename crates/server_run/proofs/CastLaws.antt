@@ -10,11 +10,11 @@ use Rattle.bay_model.specs.Answers.{History}
 use Rattle.script_reading.specs.Plans.{Script, Plan, script_of, script_turns}
 use Rattle.script_reading.specs.Sound.{IsScriptOrNone, IsSound}
 use Rattle.script_threads.specs.Dealing.{AreFalling, CanPlay}
-use Rattle.script_threads.specs.Playing.{AreFit}
-use Rattle.script_threads.specs.Scripts.{turns_by}
+use Rattle.actor_scripts.specs.Stops.{AreFit}
+use Rattle.actor_scripts.specs.Scripts.{turns_by}
 use Rattle.script_threads.specs.declared.job.Actor.{Actor}
-use Rattle.script_threads.specs.declared.script.Script.{Script as Part}
-use Rattle.script_threads.specs.declared.script.TimedStep.{TimedStep}
+use Rattle.actor_scripts.specs.declared.script.Script.{Script as Part}
+use Rattle.actor_scripts.specs.declared.script.TimedStep.{TimedStep}
 use Rattle.race_records.specs.Known.{Role as Known, role_of, roles_from, AreScripts}
 use Rattle.server_run.specs.Casting.{script_steps, role_steps, cast_one, cast_from, turns_among, AreOfPlan}
 use Rattle.server_run.specs.declared.casting.Role.{Role}

@@ -6,15 +6,15 @@ use Rattle.std.proofs.lemmas.List.{take_all}
 use Rattle.std.proofs.lemmas.List.Elements.{All-nil, All-cons}
 use Rattle.sv_base.specs.declared.config.Config.{Config}
 use Rattle.bay_model.specs.Answers.{History}
-use Rattle.bay_core.specs.declared.fault.StepFault.{StepFault}
+use Rattle.bay_histories.specs.declared.fault.StepFault.{StepFault}
 use Rattle.script_reading.specs.Plans.{Plan}
-use Rattle.script_threads.specs.Merging.{AreOf}
-use Rattle.script_threads.specs.Playing.{StopsAt}
-use Rattle.script_threads.specs.Races.{beginnings, AreParts, IsRaced}
-use Rattle.script_threads.specs.Scripts.{turns_by, replies_of}
-use Rattle.script_threads.specs.declared.part.Part.{Part as Given}
-use Rattle.script_threads.specs.declared.script.Script.{Script as Part}
-use Rattle.script_threads.specs.declared.script.TimedStep.{TimedStep}
+use Rattle.actor_scripts.specs.Merging.{AreOf}
+use Rattle.actor_scripts.specs.Stops.{StopsAt}
+use Rattle.actor_scripts.specs.Raced.{beginnings, AreParts, IsRaced}
+use Rattle.actor_scripts.specs.Scripts.{turns_by, replies_of}
+use Rattle.actor_scripts.specs.declared.part.Part.{Part as Given}
+use Rattle.actor_scripts.specs.declared.script.Script.{Script as Part}
+use Rattle.actor_scripts.specs.declared.script.TimedStep.{TimedStep}
 use Rattle.server_run.specs.Casting.{turns_among, AreOfPlan}
 use Rattle.server_run.specs.Rehearsals.{IsMade}
 use Rattle.race_records.specs.Verdicts.{went, all_went}

@@ -1,7 +1,7 @@
 -- Each script of a plan finds its gate, since it has a place of its own.
 use Rattle.std.proofs.Common.{◌≡◌, ◌≢◌, ◌<◌, ℕ, zero, suc, List, [], ◌∷◌, ◌++◌, length, map, get_or, refl, sym, ap, subst, ◌∙◌, arith, get_or-set_other, append-nil}
 use Rattle.std.specs.Prelude.{Option, None, Some, is_some, slice_set}
-use Rattle.script_threads.proofs.Lists.{map_last}
+use Rattle.actor_scripts.proofs.Lists.{map_last}
 use Rattle.script_reading.specs.Plans.{Script, Plan}
 use Rattle.script_reading.specs.Sound.{IsPlacedBelow, ArePlacedApart, IsSound}
 use Rattle.server_run.specs.Casting.{script_place, role_place, NoneIs, AreSeats, HasGate, HaveGates, without_gate}

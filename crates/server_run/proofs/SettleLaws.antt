@@ -8,13 +8,13 @@ use Rattle.bay_model.specs.Points.{least_moment}
 use Rattle.bay_model.specs.Answers.{History}
 use Rattle.record_outcome.proofs.StartLaws.{is_served}
 use Rattle.script_threads.specs.Dealing.{AreFalling, CanPlay}
-use Rattle.script_threads.specs.Merging.{AreOf}
-use Rattle.script_threads.specs.Races.{IsRaced}
-use Rattle.script_threads.specs.Scripts.{made_of}
-use Rattle.script_threads.specs.declared.made.Made.{Made}
-use Rattle.script_threads.specs.declared.part.Part.{Part as Given}
+use Rattle.actor_scripts.specs.Merging.{AreOf}
+use Rattle.actor_scripts.specs.Raced.{IsRaced}
+use Rattle.actor_scripts.specs.Scripts.{made_of}
+use Rattle.actor_scripts.specs.declared.made.Made.{Made}
+use Rattle.actor_scripts.specs.declared.part.Part.{Part as Given}
 use Rattle.script_threads.specs.declared.racing.Raced.{Raced}
-use Rattle.script_threads.specs.declared.script.Script.{Script as Part}
+use Rattle.actor_scripts.specs.declared.script.Script.{Script as Part}
 use Rattle.script_reading.specs.Plans.{Plan}
 use Rattle.script_reading.specs.Sound.{IsSound}
 use Rattle.race_records.specs.Merged.{Book, lines_in, book_of, merged, record_with, answered, IsAnswerable}

@@ -2,9 +2,9 @@
 use Rattle.std.specs.Prelude.{◌≡◌, ◌≢◌, ◌<◌, ℕ, suc, true, is_some, slice_index_or, slice_set, ◌==◌, List, [], ◌∷◌, ◌++◌, map, cond, Option, None, Some}
 use Rattle.bay_model.specs.Answers.{History}
 use Rattle.script_reading.specs.Plans.{Script, Plan, turns_of}
-use Rattle.script_threads.specs.Scripts.{turns_by}
-use Rattle.script_threads.specs.declared.script.Script.{Script as Part}
-use Rattle.script_threads.specs.declared.script.TimedStep.{TimedStep}
+use Rattle.actor_scripts.specs.Scripts.{turns_by}
+use Rattle.actor_scripts.specs.declared.script.Script.{Script as Part}
+use Rattle.actor_scripts.specs.declared.script.TimedStep.{TimedStep}
 use Rattle.server_run.specs.declared.casting.Role.{Role}
 
 -- what the actor of a script, and that of a role, is to do

@@ -4,9 +4,9 @@ use Rattle.std.specs.List.{All}
 use Rattle.sv_base.specs.declared.config.Config.{Config}
 use Rattle.bay_model.specs.Answers.{History}
 use Rattle.script_threads.specs.Dealing.{AreFalling, CanPlay}
-use Rattle.script_threads.specs.Races.{IsRaced}
+use Rattle.actor_scripts.specs.Raced.{IsRaced}
 use Rattle.script_threads.specs.declared.racing.Raced.{Raced}
-use Rattle.script_threads.specs.declared.script.Script.{Script as Part}
+use Rattle.actor_scripts.specs.declared.script.Script.{Script as Part}
 use Rattle.script_reading.specs.Plans.{Plan}
 use Rattle.script_reading.specs.Sound.{IsSound}
 use Rattle.race_records.specs.Merged.{Book, book_of}

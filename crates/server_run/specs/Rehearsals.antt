@@ -5,14 +5,14 @@ use Rattle.std.specs.declared.alloc.Global.{Global}
 use Rattle.std.specs.Prelude.{Vec}
 use Rattle.sv_io.specs.Causes.{GrowsByFront}
 use Rattle.bay_model.specs.Answers.{History}
-use Rattle.history_lock.specs.Histories.{IsLegal, IsShuffle}
+use Rattle.bay_histories.specs.Histories.{IsLegal, IsShuffle}
 use Rattle.record_outcome.specs.declared.status.Status.{Status}
 use Rattle.record_outcome.specs.declared.status.Status.TheVariants as statuses
 use Rattle.script_reading.specs.Plans.{Plan, turns_of}
 use Rattle.script_reading.specs.Inputs.{Outcome, refused, ready}
-use Rattle.script_threads.specs.Races.{actors, IsRaced}
-use Rattle.script_threads.specs.declared.part.Part.{Part}
-use Rattle.script_threads.specs.declared.script.Script.{Script as Part_}
+use Rattle.actor_scripts.specs.Raced.{actors, IsRaced}
+use Rattle.actor_scripts.specs.declared.part.Part.{Part}
+use Rattle.actor_scripts.specs.declared.script.Script.{Script as Part_}
 use Rattle.race_records.specs.Merged.{book_of, record_of, answers_to}
 use Rattle.race_records.specs.ReadBack.{IsReadBack}
 use Rattle.race_records.specs.Bounds.{lowest_beyond, IsBeyondOf, IsWithoutOpers}

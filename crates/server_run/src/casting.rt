@@ -4,8 +4,9 @@ ghost use Rattle.std.specs.Prelude.{◌≡◌, ◌≤◌, ◌++◌, ◌∷◌, [
 ghost use Rattle.race_records.specs.Merged.{lines_in, book_seen};
 ghost use Rattle.server_run.specs.Casting.{script_steps, role_steps, script_place, role_place, AreSeats, HasGate, HaveGates, without_gate, cast_one, cast_from};
 
+use actor_scripts::{Script as Part, TimedStep};
 use script_reading::{Script, StepLine};
-use script_threads::{Actor, Script as Part, TimedStep};
+use script_threads::Actor;
 use std::alloc::{AllocError, Global};
 use std::mem::replace;
 use sv_io::Gate;

@@ -12,8 +12,8 @@ ghost use Rattle.script_reading.specs.Plans.{Plan as ThePlan};
 ghost use Rattle.script_reading.specs.Readings.{plan_seen};
 ghost use Rattle.script_reading.specs.Sound.{IsSound};
 ghost use Rattle.script_threads.specs.Dealing.{AreFalling, CanPlay};
-ghost use Rattle.script_threads.specs.Races.{IsRaced};
-ghost use Rattle.script_threads.specs.declared.script.Script.{Script as ThePart};
+ghost use Rattle.actor_scripts.specs.Raced.{IsRaced};
+ghost use Rattle.actor_scripts.specs.declared.script.Script.{Script as ThePart};
 ghost use Rattle.bay_model.specs.Points.{least_moment};
 ghost use Rattle.std.specs.Prelude.{◌++◌, codes};
 ghost use Rattle.race_records.specs.Merged.{lines_in, book_seen, merged, record_with, answered, IsAnswerable};
@@ -22,23 +22,22 @@ ghost use Rattle.server_run.specs.Races.{IsOfPlan, IsOfRace};
 ghost use Rattle.server_run.specs.Rehearsals.{most, Performs, PerformsInput, Rehearses, IsListed};
 
 use crate::casting::{cast, part};
+use actor_scripts::{Made, merge};
 use bay_core::Bay;
 use object_model::Model;
 use race_records::{lacks_memory, lowest_full, write_answers, write_record};
+use record_outcome::limits::MOST_OCTETS;
 use record_outcome::status::Status;
 use replay_run::whole::{Unread, read_whole};
-use script_reading::{Plan, Script, StepLine, read_rehearsal};
-use script_threads::{Actor, Made, Raced, merge, race};
+use script_reading::{MOST_SCRIPTS, Plan, Script, StepLine, read_rehearsal};
+use script_threads::{Actor, Raced, race};
 use std::alloc::{AllocError, Global};
 use std::sync::Wait;
 use std::thread::Threads;
 use sv_io::{Failed, Gate, OpenGate, Sink, Source};
 
 /// One octet more than an input may have.
-const MOST: usize = 67108865;
-
-/// The most scripts of an input.
-const MOST_SCRIPTS: u32 = 16;
+const MOST: usize = MOST_OCTETS + 1;
 
 /// A bay of a model, which stays.
 fn open_bay(alloc: Global, model: &Model) -> Result<Bay, AllocError>

@@ -2,11 +2,11 @@ use Rattle.std.proofs.Common.{◌≡◌, ℕ, suc, List, [], ◌∷◌, ◌++◌
 use Rattle.std.specs.List.{All}
 use Rattle.std.proofs.lemmas.List.Elements.{All-push}
 use Rattle.history_lock.specs.Passes.{Site}
-use Rattle.script_threads.specs.declared.script.Script.{Script}
+use Rattle.actor_scripts.specs.declared.script.Script.{Script}
 use Rattle.script_threads.specs.declared.job.Actor.{Actor}
 use Rattle.script_threads.specs.declared.job.Job.{Job}
 use Rattle.script_threads.specs.Dealing.{AreFalling, CanPlay, IsReady, Dealt}
-use Rattle.script_threads.proofs.Lists.{map_last}
+use Rattle.actor_scripts.proofs.Lists.{map_last}
 use Rattle.script_threads.proofs.Races.{dealt_more}
 use Rattle.script_threads.proofs.dealing.deal.Goals as goal
 

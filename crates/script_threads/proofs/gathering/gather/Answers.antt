@@ -1,11 +1,11 @@
 use Rattle.std.proofs.Common.{◌≡◌, ◌++◌, ◌∷◌, [], List, map, sym, ap, subst, ◌∙◌, length, refl, arith, append_assoc, append-nil}
 use Rattle.std.specs.List.{All}
-use Rattle.history_lock.specs.Histories.{IsLegal}
-use Rattle.script_threads.specs.declared.part.Part.{Part}
+use Rattle.bay_histories.specs.Histories.{IsLegal}
+use Rattle.actor_scripts.specs.declared.part.Part.{Part}
 use Rattle.script_threads.specs.declared.job.Played.{Played}
 use Rattle.script_threads.specs.Playing.{IsOf}
 use Rattle.script_threads.specs.Races.{AllGathered}
-use Rattle.script_threads.proofs.Lists.{all_here}
+use Rattle.actor_scripts.proofs.Lists.{all_here}
 use Rattle.script_threads.proofs.Races.{gathers_more, all_more}
 use Rattle.script_threads.proofs.gathering.gather.Goals as goal
 

@@ -1,5 +1,5 @@
 use Rattle.std.proofs.Common.{◌≡◌, ◌++◌, map}
-use Rattle.history_lock.specs.Histories.{IsLegal}
+use Rattle.bay_histories.specs.Histories.{IsLegal}
 use Rattle.script_threads.specs.declared.job.Played.{Played}
 use Rattle.script_threads.specs.Playing.{IsOf}
 use Rattle.script_threads.specs.Races.{Gathers, AllGathered}

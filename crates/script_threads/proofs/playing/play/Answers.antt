@@ -1,9 +1,9 @@
 use Rattle.std.proofs.Common.{ℕ, List, ◌∷◌, [], ◌++◌, length, get_or, Err, sym, ap, subst, ◌∙◌, arith, length-append}
 use Rattle.history_lock.specs.Passes.{Known, Turned}
-use Rattle.script_threads.specs.declared.script.TimedStep.{TimedStep}
-use Rattle.script_threads.specs.declared.part.Reply.{Reply}
+use Rattle.actor_scripts.specs.declared.script.TimedStep.{TimedStep}
+use Rattle.actor_scripts.specs.declared.part.Reply.{Reply}
 use Rattle.script_threads.specs.Playing.{Plays}
-use Rattle.script_threads.proofs.Lists.{get_some}
+use Rattle.actor_scripts.proofs.Lists.{get_some}
 use Rattle.script_threads.proofs.Plays.{plays_more, plays_still, refused_there}
 use Rattle.script_threads.proofs.playing.play.Goals as goal
 

@@ -1,16 +1,17 @@
 use Rattle.std.proofs.Common.{◌≡◌, ℕ, ◌<◌, List, map, length, get_or, sym, subst, ◌∙◌, arith}
 use Rattle.std.proofs.lemmas.List.{length-map}
 use Rattle.bay_model.specs.Answers.{History}
-use Rattle.history_lock.specs.Histories.{IsLegal}
+use Rattle.bay_histories.specs.Histories.{IsLegal}
 use Rattle.history_lock.specs.Passes.{Site, Known, HasNumber}
-use Rattle.script_threads.specs.declared.script.Script.{Script}
-use Rattle.script_threads.specs.declared.part.Part.{Part}
+use Rattle.actor_scripts.specs.declared.script.Script.{Script}
+use Rattle.actor_scripts.specs.declared.part.Part.{Part}
 use Rattle.script_threads.specs.declared.job.Job.{Job}
 use Rattle.script_threads.specs.declared.job.Played.{Played}
 use Rattle.script_threads.specs.Playing.{Went}
 use Rattle.script_threads.specs.Dealing.{IsRest, Dealt, AllWent}
-use Rattle.script_threads.specs.Races.{IsRaced, HasNoOthers, Gathers, AllGathered}
-use Rattle.script_threads.proofs.Lists.{ok_with}
+use Rattle.actor_scripts.specs.Raced.{IsRaced}
+use Rattle.script_threads.specs.Races.{HasNoOthers, Gathers, AllGathered}
+use Rattle.actor_scripts.proofs.Lists.{ok_with}
 use Rattle.script_threads.proofs.Races.{went_all, all_fine, all_held, raced, scripts_paired, scripts_of}
 use Rattle.script_threads.proofs.racing.play_scripts.Goals as goal
 

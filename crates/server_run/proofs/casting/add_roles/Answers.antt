@@ -2,7 +2,7 @@ use Rattle.std.proofs.Common.{◌≡◌, ◌++◌, ◌∷◌, [], List, map, sym
 use Rattle.std.specs.Prelude.{Option}
 use Rattle.script_reading.specs.Plans.{Script}
 use Rattle.race_records.specs.Merged.{lines_in}
-use Rattle.script_threads.proofs.Lists.{map_last}
+use Rattle.actor_scripts.proofs.Lists.{map_last}
 use Rattle.server_run.specs.Casting.{script_steps, script_place}
 use Rattle.server_run.proofs.CastLaws.{all-yielded}
 use Rattle.server_run.proofs.casting.add_roles.Goals as goal

@@ -1,6 +1,6 @@
 use Rattle.std.proofs.Common.{◌++◌, ◌∷◌, [], map, sym, ap, ◌∙◌, append_assoc, arith}
 use Rattle.std.specs.Prelude.{Some}
-use Rattle.script_threads.proofs.Lists.{map_last}
+use Rattle.actor_scripts.proofs.Lists.{map_last}
 use Rattle.server_run.proofs.SeatLaws.{every-yielded}
 use Rattle.server_run.proofs.casting.placed.Goals as goal
 

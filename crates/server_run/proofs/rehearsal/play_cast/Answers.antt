@@ -1,7 +1,7 @@
 use Rattle.std.proofs.Common.{map, subst, sym}
 use Rattle.race_records.specs.Merged.{book_seen}
 use Rattle.script_threads.specs.Dealing.{AreFalling, CanPlay}
-use Rattle.script_threads.specs.declared.script.Script.{Script}
+use Rattle.actor_scripts.specs.declared.script.Script.{Script}
 use Rattle.server_run.specs.Races.{IsOfRace}
 use Rattle.server_run.proofs.CastLaws.{numbers-of, of-scripts}
 use Rattle.server_run.proofs.SettleLaws.{served-plan}

@@ -1,6 +1,6 @@
 use Rattle.std.proofs.Common.{◌≡◌, ℕ, ◌<◌, ◌≤◌, length, sym, subst, ap, ◌∙◌, refl}
 use Rattle.bay_model.specs.Answers.{History}
-use Rattle.history_lock.specs.Histories.{IsEarlier, by, IsShuffle}
+use Rattle.bay_histories.specs.Histories.{IsEarlier, by, IsShuffle}
 use Rattle.history_lock.specs.declared.view.About.{About}
 use Rattle.history_lock.specs.contracts.history.Pass.{the_view}
 use Rattle.history_lock.specs.contracts.history.History as the_history

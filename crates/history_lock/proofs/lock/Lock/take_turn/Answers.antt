@@ -5,7 +5,7 @@ use Rattle.object_model.specs.Fits.{fits as fits_in}
 use Rattle.bay_model.specs.Answers.{Turn, History}
 use Rattle.bay_core.specs.declared.bay.Bay.{Bay as TheBay}
 use Rattle.bay_core.specs.Standing.{StandsFor}
-use Rattle.history_lock.specs.Histories.{turn_of}
+use Rattle.bay_histories.specs.Histories.{turn_of}
 use Rattle.history_lock.specs.Views.{busy}
 use Rattle.history_lock.specs.Plays.{Seated, resting}
 use Rattle.history_lock.proofs.Turning.{stands_now, few_now, others_now, back_in, added_now}

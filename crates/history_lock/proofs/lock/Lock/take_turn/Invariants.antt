@@ -1,4 +1,4 @@
-use Rattle.history_lock.specs.Histories.{turn_of}
+use Rattle.bay_histories.specs.Histories.{turn_of}
 use Rattle.history_lock.proofs.lock.Lock.take_turn.Given as goal
 
 abbrev pub ghosts-append : goal.ghosts-append

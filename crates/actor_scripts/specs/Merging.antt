@@ -3,9 +3,9 @@ use Rattle.std.specs.Prelude.{◌≡◌, ℕ, List, Option, Some, slice_get}
 use Rattle.std.specs.List.{All}
 use Rattle.sv_base.specs.declared.config.Config.{Config}
 use Rattle.bay_model.specs.Answers.{History}
-use Rattle.script_threads.specs.declared.part.Part.{Part}
-use Rattle.script_threads.specs.declared.made.Made.{Made}
-use Rattle.script_threads.specs.Scripts.{replies_of}
+use Rattle.actor_scripts.specs.declared.part.Part.{Part}
+use Rattle.actor_scripts.specs.declared.made.Made.{Made}
+use Rattle.actor_scripts.specs.Scripts.{replies_of}
 
 -- what is in a place is what the list has there
 abbrev pub AreRight : List Made → List (Option Made) → Type 0

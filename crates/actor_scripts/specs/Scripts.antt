@@ -3,10 +3,10 @@ use Rattle.std.specs.Prelude.{ℕ, ◌==◌, List, [], ◌∷◌, ◌++◌, leng
 use Rattle.sv_base.specs.declared.config.Config.{Config}
 use Rattle.bay_model.specs.Named.{configured_model}
 use Rattle.bay_model.specs.Answers.{Turn, History, answer}
-use Rattle.history_lock.specs.Histories.{turn_of, by}
-use Rattle.script_threads.specs.declared.script.TimedStep.{TimedStep}
-use Rattle.script_threads.specs.declared.part.Reply.{Reply}
-use Rattle.script_threads.specs.declared.made.Made.{Made}
+use Rattle.bay_histories.specs.Histories.{turn_of, by}
+use Rattle.actor_scripts.specs.declared.script.TimedStep.{TimedStep}
+use Rattle.actor_scripts.specs.declared.part.Reply.{Reply}
+use Rattle.actor_scripts.specs.declared.made.Made.{Made}
 
 -- the steps of a script as turns of actor k, the newest first, after those that it made before
 abbrev pub turns_onto : ℕ → List TimedStep → History → History

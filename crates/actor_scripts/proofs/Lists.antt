@@ -5,12 +5,12 @@ use Rattle.std.specs.List.{All}
 use Rattle.std.proofs.lemmas.Bool.{eqb-true}
 use Rattle.sv_base.specs.declared.config.Config.{Config}
 use Rattle.bay_model.specs.Answers.{Turn, History}
-use Rattle.history_lock.specs.Histories.{turn_of, by}
-use Rattle.script_threads.specs.declared.script.TimedStep.{TimedStep}
-use Rattle.script_threads.specs.declared.part.Reply.{Reply}
-use Rattle.script_threads.specs.declared.made.Made.{Made}
-use Rattle.script_threads.specs.Scripts.{turns_onto, reply_to, replies_of, made_from, made_of, made}
-use Rattle.script_threads.specs.Merging.{AreRight}
+use Rattle.bay_histories.specs.Histories.{turn_of, by}
+use Rattle.actor_scripts.specs.declared.script.TimedStep.{TimedStep}
+use Rattle.actor_scripts.specs.declared.part.Reply.{Reply}
+use Rattle.actor_scripts.specs.declared.made.Made.{Made}
+use Rattle.actor_scripts.specs.Scripts.{turns_onto, reply_to, replies_of, made_from, made_of, made}
+use Rattle.actor_scripts.specs.Merging.{AreRight}
 
 -- ---- elements of a list that one was added to
 

@@ -2,12 +2,12 @@ use Rattle.std.proofs.Common.{◌≡◌, ℕ, ◌∷◌, [], ◌++◌, List, len
 use Rattle.std.specs.Prelude.{slice_get}
 use Rattle.sv_base.specs.declared.config.Config.{Config}
 use Rattle.bay_model.specs.Answers.{History}
-use Rattle.script_threads.specs.declared.part.Reply.{Reply}
-use Rattle.script_threads.specs.declared.made.Made.{Made}
-use Rattle.script_threads.specs.Scripts.{made_of, made}
-use Rattle.script_threads.specs.Merging.{AreRight}
-use Rattle.script_threads.proofs.Lists.{get_here, stands_there, right_set}
-use Rattle.script_threads.proofs.merging.put_part.Goals as goal
+use Rattle.actor_scripts.specs.declared.part.Reply.{Reply}
+use Rattle.actor_scripts.specs.declared.made.Made.{Made}
+use Rattle.actor_scripts.specs.Scripts.{made_of, made}
+use Rattle.actor_scripts.specs.Merging.{AreRight}
+use Rattle.actor_scripts.proofs.Lists.{get_here, stands_there, right_set}
+use Rattle.actor_scripts.proofs.merging.put_part.Goals as goal
 
 pub loop-reply-preserved : goal.loop-reply-preserved
 loop-reply-preserved c =

@@ -1,6 +1,6 @@
 //! What comes of a script.
 
-use bay_core::StepFault;
+use bay_histories::StepFault;
 use bay_model::Answer;
 
 /// What a turn was answered.

@@ -3,9 +3,9 @@
 ghost use Rattle.std.specs.Prelude.{◌≡◌, List, length, map, set, Some, IfOk};
 ghost use Rattle.sv_base.specs.declared.config.Config.{Config};
 ghost use Rattle.bay_model.specs.Answers.{History};
-ghost use Rattle.script_threads.specs.declared.made.Made.{Made as MadeStep};
-ghost use Rattle.script_threads.specs.Scripts.{replies_of, made_of};
-ghost use Rattle.script_threads.specs.Merging.{AreRight, AreOf};
+ghost use Rattle.actor_scripts.specs.declared.made.Made.{Made as MadeStep};
+ghost use Rattle.actor_scripts.specs.Scripts.{replies_of, made_of};
+ghost use Rattle.actor_scripts.specs.Merging.{AreRight, AreOf};
 
 use crate::made::Made;
 use crate::part::Part;

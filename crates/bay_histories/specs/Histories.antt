@@ -7,8 +7,8 @@ use Rattle.bay_model.specs.declared.step.Step.TheVariants as steps
 use Rattle.bay_model.specs.Named.{configured_model}
 use Rattle.bay_model.specs.Answers.{Turn, History, answer}
 use Rattle.bay_model.specs.Acceptance.{IsHistory, fault}
-use Rattle.bay_core.specs.declared.fault.StepFault.{StepFault}
-use Rattle.bay_core.specs.Turns.{named}
+use Rattle.bay_histories.specs.declared.fault.StepFault.{StepFault}
+use Rattle.bay_histories.specs.Faults.{named}
 
 -- an actor's step at a moment
 abbrev pub turn_of : ℕ → ℕ → Step → Turn

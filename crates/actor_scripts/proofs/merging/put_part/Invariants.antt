@@ -1,9 +1,9 @@
 use Rattle.std.proofs.Common.{◌≡◌, ◌++◌, length}
 use Rattle.sv_base.specs.declared.config.Config.{Config}
 use Rattle.bay_model.specs.Answers.{History}
-use Rattle.script_threads.specs.Scripts.{replies_of, made_of}
-use Rattle.script_threads.specs.Merging.{AreRight}
-use Rattle.script_threads.proofs.merging.put_part.Given as goal
+use Rattle.actor_scripts.specs.Scripts.{replies_of, made_of}
+use Rattle.actor_scripts.specs.Merging.{AreRight}
+use Rattle.actor_scripts.proofs.merging.put_part.Given as goal
 
 abbrev pub invariant-loop-reply : goal.invariant-loop-reply
 invariant-loop-reply l =

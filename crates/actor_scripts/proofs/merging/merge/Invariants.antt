@@ -1,9 +1,9 @@
 use Rattle.std.proofs.Common.{◌≡◌, ◌++◌, length}
 use Rattle.sv_base.specs.declared.config.Config.{Config}
 use Rattle.bay_model.specs.Answers.{History}
-use Rattle.script_threads.specs.Scripts.{made_of}
-use Rattle.script_threads.specs.Merging.{AreRight, AreOf}
-use Rattle.script_threads.proofs.merging.merge.Given as goal
+use Rattle.actor_scripts.specs.Scripts.{made_of}
+use Rattle.actor_scripts.specs.Merging.{AreRight, AreOf}
+use Rattle.actor_scripts.proofs.merging.merge.Given as goal
 
 abbrev pub invariant-loop-part : goal.invariant-loop-part
 invariant-loop-part l =

@@ -3,11 +3,11 @@ use Rattle.std.specs.Prelude.{Result, Ok, Err, IfOk}
 use Rattle.std.proofs.lemmas.List.{length-map}
 use Rattle.sv_base.specs.declared.config.Config.{Config}
 use Rattle.bay_model.specs.Answers.{History}
-use Rattle.script_threads.specs.declared.made.Made.{Made}
-use Rattle.script_threads.specs.Scripts.{made_of}
-use Rattle.script_threads.specs.Merging.{AreRight}
-use Rattle.script_threads.proofs.Lists.{all_right, length_made}
-use Rattle.script_threads.proofs.merging.merge.Goals as goal
+use Rattle.actor_scripts.specs.declared.made.Made.{Made}
+use Rattle.actor_scripts.specs.Scripts.{made_of}
+use Rattle.actor_scripts.specs.Merging.{AreRight}
+use Rattle.actor_scripts.proofs.Lists.{all_right, length_made}
+use Rattle.actor_scripts.proofs.merging.merge.Goals as goal
 
 ok_on : {A E : Type 0} (P Q : A → Type 0) (r : Result A E) → IfOk r P → ((a : A) → P a → Q a) → IfOk r Q
 ok_on P Q (Ok a) p f = f a p

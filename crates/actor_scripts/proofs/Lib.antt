@@ -1,0 +1,2 @@
+-- Replies and steps of a history, by their places.
+pub mod Lists

@@ -1,0 +1,6 @@
+-- Scripts that are played, and what comes of them in a history.
+pub mod Scripts
+pub mod Merging
+-- where a script stops, and what came of all of them
+pub mod Stops
+pub mod Raced
