@@ -42,13 +42,13 @@ def print_machine(*compilers):
     sys.stdout.flush()
 
 
-def least_seconds(program, path, times):
-    """The least of the seconds of several replays of the record at this path; the answers go to /dev/null."""
+def least_seconds(program, path, times, word="replay"):
+    """The least of the seconds of several runs of the program, with this word, on the text at this path; the answers go to /dev/null."""
     least = None
     for _ in range(times):
         with open(path, "rb") as source:
             start = time.perf_counter()
-            status = subprocess.run([program, "replay"], stdin=source, stdout=subprocess.DEVNULL).returncode
+            status = subprocess.run([program, word], stdin=source, stdout=subprocess.DEVNULL).returncode
             took = time.perf_counter() - start
         if status != 0:
             sys.exit(f"bench: status {status} on {path}")
