@@ -54,85 +54,33 @@ const ROWS: [Row; 6] = [
     ),
 ];
 
-/// An input that is refused at a line, and the number of the kind. The last line of the configuration has number 21.
-type Refused = (&'static str, u64, u8);
-
-const REFUSED: [Refused; 22] = [
-    ("rehearse 1\n[0 011001 0 200>end\n", 22, 5),
-    ("record 1\n[0 011001 0 200>end\n", 1, 1),
-    ("rehearse 2\n[0 011001 0 200>end\n", 1, 2),
-    ("rehearse 1\n[0 011001 0 200>script association 17\n", 22, 2),
-    ("rehearse 1\n[0 011001 0 200>script station\n", 22, 1),
-    ("rehearse 1\n[0 011001 0 200>close\n", 22, 5),
-    ("rehearse 1\n[0 011001 0 200>tick\n", 22, 5),
-    (
-        "rehearse 1\n[0 011001 0 200>set BAY1/XCBR1$ST$None T\n",
-        22,
-        3,
-    ),
-    (
-        "rehearse 1\n[0 011001 0 200>script process\nscript process\n",
-        23,
-        5,
-    ),
-    ("rehearse 1\n[0 011001 0 200>script process\nend\n", 23, 5),
-    ("rehearse 1\n[0 011001 0 200>script process\ntick\n", 24, 7),
-    (
-        "rehearse 1\n[0 011001 0 200>script process\ndone A/LLN0$CO$Pos T\n",
-        23,
-        3,
-    ),
-    (
-        "rehearse 1\n[0 011001 0 200>script process\nopen 1 direct\n",
-        23,
-        5,
-    ),
-    (
-        "rehearse 1\n[0 011001 0 200>script process\nset @ T\n",
-        23,
-        4,
-    ),
-    (
-        "rehearse 1\n[0 011001 0 200>script association 1\nopen 1 wire\n",
-        23,
-        5,
-    ),
-    (
-        "rehearse 1\n[0 011001 0 200>script association 1\nin 1 03\n",
-        23,
-        5,
-    ),
-    (
-        "rehearse 1\n[0 011001 0 200>script association 1\nopen 2 direct\n",
-        23,
-        5,
-    ),
-    (
-        "rehearse 1\n[0 011001 0 200>script association 1\ntick\n",
-        23,
-        5,
-    ),
-    (
-        "rehearse 1\n[0 011001 0 200>script association 1\nset BAY1/XCBR1$ST$None T\n",
-        23,
-        3,
-    ),
-    (
-        "rehearse 1\n[0 011001 0 200>script association 1\nlost 1\n",
-        23,
-        5,
-    ),
-    (
-        "rehearse 1\n[0 011001 0 200>script association 1\nopen 1 direct\npdu 1 zz\n",
-        24,
-        5,
-    ),
-    (
-        "rehearse 1\n[0 011001 0 200>script association 1\nclose\nscript association 1\n",
-        24,
-        5,
-    ),
+/// What stands behind the configuration of an input, and the line at which it is refused, with the number of the kind. The last line of
+/// the configuration has number 21.
+const REFUSED: [(&str, u64, u8); 20] = [
+    ("end\n", 22, 5),
+    ("script association 17\n", 22, 2),
+    ("script station\n", 22, 1),
+    ("close\n", 22, 5),
+    ("tick\n", 22, 5),
+    ("set BAY1/XCBR1$ST$None T\n", 22, 3),
+    ("script process\nscript process\n", 23, 5),
+    ("script process\nend\n", 23, 5),
+    ("script process\ntick\n", 24, 7),
+    ("script process\ndone A/LLN0$CO$Pos T\n", 23, 3),
+    ("script process\nopen 1 direct\n", 23, 5),
+    ("script process\nset @ T\n", 23, 4),
+    ("script association 1\nopen 1 wire\n", 23, 5),
+    ("script association 1\nin 1 03\n", 23, 5),
+    ("script association 1\nopen 2 direct\n", 23, 5),
+    ("script association 1\ntick\n", 23, 5),
+    ("script association 1\nset BAY1/XCBR1$ST$None T\n", 23, 3),
+    ("script association 1\nlost 1\n", 23, 5),
+    ("script association 1\nopen 1 direct\npdu 1 zz\n", 24, 5),
+    ("script association 1\nclose\nscript association 1\n", 24, 5),
 ];
+
+/// First lines that begin no rehearsal, with the numbers of the kinds.
+const MISBEGUN: [(&str, u8); 2] = [("record 1", 1), ("rehearse 2", 2)];
 
 /// The second script's seventeenth request, behind a loss, finds 16 replies waiting; so does a line of the third one, below it.
 const FULL: &str =
@@ -157,10 +105,22 @@ fn a_script_that_goes_is_its_record(rt: HostRuntime) -> Result<(), Fail> {
 #[test]
 fn what_is_refused_writes_nothing(rt: HostRuntime) -> Result<(), Fail> {
     let alloc = rt.alloc();
-    for (text, line, kind) in REFUSED {
-        let (status, output) = rehearsed(&rt, alloc, text)?;
-        assert_eq!(rt; status, Status::Record { line, kind }, "{text}");
-        assert!(rt; output.octets().is_empty(), "{text}");
+    for (rest, line, kind) in REFUSED {
+        let text = format!(in alloc; "rehearse 1\n[0 011001 0 200>{rest}")?;
+        let (status, output) = rehearsed(&rt, alloc, &text)?;
+        assert_eq!(rt; status, Status::Record { line, kind }, "{rest}");
+        assert!(rt; output.octets().is_empty(), "{rest}");
+    }
+    Ok(())
+}
+
+#[test]
+fn another_first_line_is_refused(rt: HostRuntime) -> Result<(), Fail> {
+    let alloc = rt.alloc();
+    for (first, kind) in MISBEGUN {
+        let text = format!(in alloc; "{first}\n[0 011001 0 200>end\n")?;
+        let (status, _) = rehearsed(&rt, alloc, &text)?;
+        assert_eq!(rt; status, Status::Record { line: 1, kind }, "{first}");
     }
     Ok(())
 }

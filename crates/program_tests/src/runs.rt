@@ -15,7 +15,9 @@ pub type Row = (&'static str, &'static str, Status, &'static str);
 /// at nine moments, `@` the reference of the attribute that is set, `&` that of the block, `!` the front of a moment, and `%` four
 /// PDUs that ask for the status; of streams `~` a CR, `^` a CONNECT, and `{` the lines of what answers both, `?` the frame of a PDU
 /// that asks for the status, and `;` the line of what answers that; of rehearsals `|` four PDUs that association 2 ends with, `<` a
-/// configuration with a control of direct control with enhanced security, `(` its Oper, and `)` an Oper of it that is a test.
+/// configuration with a control of direct control with enhanced security, `(` its Oper, and `)` an Oper of it that is a test; of
+/// controls `}` the front of a record with one, up to its model, `+` the front of a write of a part of it, `_` that of the
+/// structure, up to ctlVal, `` ` `` the origin, up to ctlNum, and `,` the time T, up to Test, `.` a LastApplError of its Oper.
 fn marked(mark: u8) -> Option<&'static str> {
     match mark {
         b'[' => Some(
@@ -65,6 +67,15 @@ fn marked(mark: u8) -> Option<&'static str> {
         b')' => Some(
             "a049020106a544a020301ea01ca11a1a04424159311a12435357493124434f24506f7333244f706572a020a21e830100a2058501028900\
              860101910800000000000000008301ff84020600",
+        ),
+        b'}' => Some("record 1\nconfig 1\nserver Demo Bay 1\nld BAY1\nln LLN0\nln CSWI1\nctl Pos "),
+        b'+' => Some("a543a01f301da01ba1191a04424159311a11435357493124434f24506f7324"),
+        b'_' => Some("a020a21e83"),
+        b'`' => Some("a20585010289008601"),
+        b',' => Some("910800000000000000008301"),
+        b'.' => Some(
+            "a343a041a0133011a00f800d4c6173744170706c4572726f72a02aa2288a16424159312f435357493124434f24506f73244f706572850101\
+             a20585010289008601",
         ),
         _ => None,
     }
