@@ -4,16 +4,20 @@ use Rattle.std.specs.List.{list_all}
 use Rattle.sv_base.specs.declared.value.Value.{Value}
 use Rattle.sv_base.specs.declared.value.Value.TheVariants as values
 use Rattle.sv_base.specs.declared.components.Comp.{Comp}
-use Rattle.sv_base.specs.declared.components.Comp.TheVariants as comps
+use Rattle.sv_base.specs.declared.types.TypeOf.{TypeOf}
+use Rattle.sv_base.specs.declared.types.TypeOf.TheVariants as types
+use Rattle.sv_base.specs.ComponentTable.{comp_type}
 use Rattle.text_words.specs.Words.{behind}
 use Rattle.text_words.specs.Numbers.{number_at, int_at}
 use Rattle.text_words.specs.Values.{read_as, truth_at, is_binary, is_graphic, hex_at}
 
--- a component that is a bit string
+-- a component that is a bit string, by its type
+abbrev pub is_bit_type : TypeOf → Bool
+is_bit_type (types.Bits count) = true
+is_bit_type _ = false
+
 abbrev pub is_bits : Comp → Bool
-is_bits comps.OptFlds = true
-is_bits comps.TrgOps = true
-is_bits _ = false
+is_bits comp = is_bit_type (comp_type comp)
 
 -- digits 0 and 1, the first bit first
 abbrev pub bits_of : List ℕ → Option Value

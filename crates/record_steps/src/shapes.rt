@@ -13,7 +13,7 @@ use text_words::{all_binary, all_graphic, hex_octets, owned, truth, truth_values
 fn is_bits(comp: Comp) -> bool
     ensures { result ≡ is_bit_string comp }
 {
-    matches!(comp, Comp::OptFlds | Comp::TrgOps)
+    matches!(comp.kind(), TypeOf::Bits(_))
 }
 
 /// Digits 0 and 1, the first bit first.
@@ -77,7 +77,7 @@ fn marked(alloc: Global, comp: Comp, word: &[u8]) -> Result<Option<Value>, Alloc
 }
 
 /// The value that a text has for a component: `T` or `F`, `'` and a text, `x` and octets in lower-case hexadecimal; else the
-/// bits of OptFlds and TrgOps, and the number of any other component.
+/// bits of a component that is a bit string, and the number of any other one.
 #[tactic(auto, unfolding(crate::specs::Shapes::shape_at))]
 pub fn shape(alloc: Global, comp: Comp, word: &[u8]) -> Result<Option<Value>, AllocError>
     ensures { IfOk result (λ r. r ≡ shape_at comp word.now) }

@@ -4,7 +4,7 @@ ghost use Rattle.std.specs.Prelude.{◌≡◌, ◌≤◌, ◌++◌, ◌∷◌, [
 ghost use Rattle.race_records.specs.Merged.{lines_in, book_seen};
 ghost use Rattle.server_run.specs.Casting.{script_steps, role_steps, script_place, role_place, AreSeats, HasGate, HaveGates, without_gate, cast_one, cast_from};
 
-use actor_scripts::{Script as Part, TimedStep};
+use actor_scripts::{Script as ActorScript, TimedStep};
 use script_reading::{Script, StepLine};
 use script_threads::Actor;
 use std::alloc::{AllocError, Global};
@@ -133,7 +133,7 @@ fn add_actor<G: Gate>(
         return Ok(());
     };
     let gate = take_gate(gates, place);
-    let script = Part { actor, steps };
+    let script = ActorScript { actor, steps };
     actors.push(Actor { script, gate })?;
     Ok(())
 }
