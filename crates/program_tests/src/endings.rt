@@ -1,7 +1,8 @@
 //! Rehearsals that end in one way: of one script, and of inputs that are refused.
 
+use crate::marks::unmarked;
 use crate::rehearsals::rehearsed;
-use crate::runs::{sink, source, unmarked};
+use crate::runs::{sink, source};
 use record_outcome::status::Status;
 use server_run::rehearse;
 use std::test::*;

@@ -1,6 +1,7 @@
 //! Command lines and faults, with their statuses; and a record in its octets.
 
-use crate::runs::{one_word, unmarked};
+use crate::marks::unmarked;
+use crate::runs::one_word;
 use record_outcome::status::Status;
 use replay_run::tool::tool;
 use std::alloc::{AllocError, Global};

@@ -7,7 +7,9 @@ mod statuses;
 #[cfg(test)]
 mod texts;
 
-// the runs of rows
+// marks in the texts of rows, and runs of these
+#[cfg(test)]
+mod marks;
 #[cfg(test)]
 mod runs;
 
@@ -29,7 +31,7 @@ mod stored_records;
 #[cfg(test)]
 mod streams;
 
-// rehearsals: inputs with marks, those of one outcome, those that are replayed, and actors that wait for each other
+// rehearsals: of one outcome, those that are replayed, and actors that wait for each other
 #[cfg(test)]
 mod endings;
 #[cfg(test)]

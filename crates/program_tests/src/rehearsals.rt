@@ -1,6 +1,7 @@
 //! Rehearsals of texts with marks, in memory.
 
-use crate::runs::{sink, source, unmarked};
+use crate::marks::unmarked;
+use crate::runs::{sink, source};
 use record_outcome::status::Status;
 use server_run::{rehearse, rehearse_gated};
 use std::alloc::{AllocError, Global};
