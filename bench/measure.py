@@ -78,11 +78,12 @@ def least_in_turns(programs, path, times):
     return least
 
 
-def instructions(program, path):
-    """How many instructions a replay of the record at this path takes, as valgrind counts them; None where it counts none."""
+def instructions(program, path, word="replay"):
+    """How many instructions the program takes with this word on the text at this path, as valgrind counts them; None where it counts
+    none."""
     if not shutil.which("valgrind"):
         return None
-    command = ["valgrind", "--tool=callgrind", "--callgrind-out-file=/dev/null", program, "replay"]
+    command = ["valgrind", "--tool=callgrind", "--callgrind-out-file=/dev/null", program, word]
     with open(path, "rb") as source:
         run = subprocess.run(command, stdin=source, stdout=subprocess.DEVNULL, stderr=subprocess.PIPE, text=True, errors="replace")
     counts = [line.split(":")[1] for line in run.stderr.splitlines() if "Collected :" in line]
