@@ -5,12 +5,12 @@
 use command_line::{BAY_SERVER, is_word, show, words_of};
 use record_outcome::status::Status;
 use server_run::rehearse;
-use std::io;
 use std::process::ExitCode;
+use std::{env, io};
 use sv_io::{ReadSource, WriteSink};
 
 fn main(rt: HostRuntime) -> ExitCode {
-    let words = match words_of(&rt) {
+    let words = match words_of(rt.alloc(), env::args(&rt)) {
         Ok(words) => words,
         Err(status) => return BAY_SERVER.ended(&rt, status),
     };

@@ -3,8 +3,8 @@
 
 use command_line::{BAY_TOOL, show, words_of};
 use replay_run::tool::tool;
-use std::io;
 use std::process::ExitCode;
+use std::{env, io};
 use sv_io::{ReadSource, WriteSink};
 
 /// Room that is asked for and given back at once, in octets. The C library takes large rooms from the system, and gives them back to
@@ -13,7 +13,7 @@ use sv_io::{ReadSource, WriteSink};
 const KEPT_ROOM: usize = 4 << 20;
 
 fn main(rt: HostRuntime) -> ExitCode {
-    let words = match words_of(&rt) {
+    let words = match words_of(rt.alloc(), env::args(&rt)) {
         Ok(words) => words,
         Err(status) => return BAY_TOOL.ended(&rt, status),
     };

@@ -1,11 +1,13 @@
 //! The words of a command line.
 
-ghost use Rattle.std.specs.Prelude.{◌≡◌, ◌≢◌, ◌↔◌, ◌⊎◌, IsTrue, IfErr};
+ghost use Rattle.std.specs.Prelude.{◌≡◌, ◌≢◌, ◌↔◌, ◌⊎◌, IsTrue, IfOk, IfErr, Err, drop};
+ghost use Rattle.std.specs.Vec.Iter.{into_iter_items};
 ghost use Rattle.std.specs.IoError.{error_kind};
-ghost use Rattle.command_line.specs.Words.{IsWord};
+ghost use Rattle.command_line.specs.Words.{IsWord, IsForeign};
 
 use record_outcome::status::Status;
-use std::env;
+use std::alloc::Global;
+use std::env::Args;
 use std::io::{Error, ErrorKind};
 
 /// The words of the command line are this one word.
@@ -30,16 +32,20 @@ fn without_words(error: &Error) -> Status
     }
 }
 
-/// The words behind the program's name; else the status that says why there are none: Memory, or Words where one of them isn't UTF-8.
-pub fn words_of(rt: &HostRuntime) -> Result<Vec<String>, Status>
+/// The words behind the program's name, of what std gives of a command line; else the status that says why there are none: Words where
+/// one of them isn't UTF-8, Memory for want of memory.
+pub fn words_of(alloc: Global, args: Result<Args, Error>) -> Result<Vec<String>, Status>
+    ensures given { IfOk result (λ v. IfOk args (λ a. v.items ≡ drop 1 (into_iter_items a))) }
+    ensures words { (result ≡ Err Status.Words) ↔ IsForeign args }
     ensures lacking { IfErr result (λ s. (s ≡ Status.Memory) ⊎ (s ≡ Status.Words)) }
 {
-    let args = match env::args(rt) {
+    let mut args = match args {
         Ok(args) => args,
         Err(error) => return Err(without_words(&error)),
     };
-    let mut words = Vec::new(rt.alloc());
-    for word in args.skip(1) {
+    let _ = args.next();
+    let mut words = Vec::new(alloc);
+    for word in args {
         if words.push(word).is_err() {
             return Err(Status::Memory);
         }
