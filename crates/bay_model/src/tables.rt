@@ -261,9 +261,3 @@ impl SetTable {
         &self.items
     }
 }
-
-/// The members of a data set that is there, borrowed.
-#[derive(Clone, Copy, Debug)]
-pub struct SetView<'a> {
-    pub members: &'a [MemberShape],
-}

@@ -1,2 +1,3 @@
+-- the laws of this crate, each file its own subject
 pub mod FreshLaws
 pub mod AgainLaws

@@ -1,3 +1,4 @@
+-- the laws of this crate, each file its own subject
 pub mod StepLaws
 pub mod NameLaws
 pub mod WrongLaws

@@ -1,1 +1,2 @@
+-- the laws of this crate, each file its own subject
 pub mod NameSort

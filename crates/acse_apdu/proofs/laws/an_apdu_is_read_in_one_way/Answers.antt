@@ -1,3 +1,4 @@
+-- why `laws::an_apdu_is_read_in_one_way` answers as its contract says
 use Rattle.acse_apdu.proofs.ApduLaws as laws
 use Rattle.acse_apdu.proofs.laws.an_apdu_is_read_in_one_way.Goals as goal
 

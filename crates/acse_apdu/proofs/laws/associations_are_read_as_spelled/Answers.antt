@@ -1,3 +1,4 @@
+-- why `laws::associations_are_read_as_spelled` answers as its contract says
 use Rattle.acse_apdu.proofs.ApduLaws.{aarq_exact, aare_exact}
 use Rattle.acse_apdu.proofs.AnywhereLaws.{aarq-anywhere, aare-anywhere}
 use Rattle.acse_apdu.proofs.laws.associations_are_read_as_spelled.Goals as goal

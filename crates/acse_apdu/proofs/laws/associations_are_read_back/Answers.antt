@@ -1,3 +1,4 @@
+-- why `laws::associations_are_read_back` answers as its contract says
 use Rattle.acse_apdu.proofs.ReadBackLaws.{aarq_written, aare_written, aarq_read_back, aare_read_back}
 use Rattle.acse_apdu.proofs.laws.associations_are_read_back.Goals as goal
 

@@ -1,3 +1,4 @@
+-- why `laws::releases_are_read_back` answers as its contract says
 use Rattle.std.proofs.Common.{rules}
 use Rattle.acse_apdu.specs.declared.codes.TheConstants.{RLRQ, RLRE}
 use Rattle.acse_apdu.proofs.ReadBackLaws.{release_written, rlrq_read_back, rlre_read_back}

@@ -1,3 +1,4 @@
+-- why `laws::written_apdus_are_minimal` answers as its contract says
 use Rattle.acse_apdu.proofs.ReadBackLaws.{aarq_plain, aare_plain, rlrq_plain, rlre_plain}
 use Rattle.acse_apdu.proofs.ShortestLaws.{aarq_shortest, aare_shortest, release_shortest}
 use Rattle.acse_apdu.proofs.laws.written_apdus_are_minimal.Goals as goal

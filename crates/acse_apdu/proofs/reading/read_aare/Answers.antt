@@ -1,3 +1,4 @@
+-- why `reading::read_aare` answers as its contract says
 use Rattle.std.proofs.Common.{arith}
 use Rattle.ber_grammar.specs.Place.{piece}
 use Rattle.acse_apdu.proofs.ApduLaws.{aare_reads}

@@ -1,3 +1,4 @@
+-- why `reading::read_rlre` answers as its contract says
 use Rattle.ber_grammar.specs.Place.{piece}
 use Rattle.acse_apdu.specs.declared.codes.TheConstants.{RLRE}
 use Rattle.acse_apdu.proofs.ApduLaws.{release_reads}

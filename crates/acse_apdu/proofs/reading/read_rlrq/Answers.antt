@@ -1,3 +1,4 @@
+-- why `reading::read_rlrq` answers as its contract says
 use Rattle.ber_grammar.specs.Place.{piece}
 use Rattle.acse_apdu.specs.declared.codes.TheConstants.{RLRQ}
 use Rattle.acse_apdu.proofs.ApduLaws.{release_reads}

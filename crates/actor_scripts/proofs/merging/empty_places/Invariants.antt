@@ -1,3 +1,4 @@
+-- what the loops of `merging::empty_places` keep
 use Rattle.std.proofs.Common.{◌≡◌, List, length}
 use Rattle.actor_scripts.specs.Merging.{AreRight}
 use Rattle.actor_scripts.specs.declared.made.Made.{Made}

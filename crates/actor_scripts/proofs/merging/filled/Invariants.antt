@@ -1,3 +1,4 @@
+-- what the loops of `merging::filled` keep
 use Rattle.std.proofs.Common.{◌≡◌, ◌++◌, map}
 use Rattle.std.specs.Prelude.{Some}
 use Rattle.actor_scripts.proofs.merging.filled.Given as goal

@@ -1,3 +1,4 @@
+-- why `merging::merge` answers as its contract says
 use Rattle.std.proofs.Common.{List, length, Some, sym, ap, subst, ◌∙◌}
 use Rattle.std.specs.Prelude.{Result, Ok, Err, IfOk}
 use Rattle.std.proofs.lemmas.List.{length-map}

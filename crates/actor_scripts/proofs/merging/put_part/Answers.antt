@@ -1,3 +1,4 @@
+-- why `merging::put_part` answers as its contract says
 use Rattle.std.proofs.Common.{◌≡◌, ℕ, ◌∷◌, [], ◌++◌, List, length, Some, sym, ap, subst, ◌∙◌, arith, length-append, length-set, append_assoc}
 use Rattle.std.specs.Prelude.{slice_get}
 use Rattle.sv_base.specs.declared.config.Config.{Config}

@@ -1,3 +1,4 @@
+-- what the loops of `merging::put_part` keep
 use Rattle.std.proofs.Common.{◌≡◌, ◌++◌, length}
 use Rattle.sv_base.specs.declared.config.Config.{Config}
 use Rattle.bay_model.specs.Answers.{History}

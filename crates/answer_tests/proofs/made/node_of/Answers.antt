@@ -1,3 +1,4 @@
+-- why `made::node_of` answers as its contract says
 use Rattle.std.proofs.Common.{arith, ap, length}
 use Rattle.answer_tests.proofs.NodeLaws.{is_node}
 use Rattle.answer_tests.proofs.made.node_of.Goals as goal

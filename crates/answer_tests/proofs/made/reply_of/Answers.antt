@@ -1,3 +1,4 @@
+-- why `made::reply_of` answers as its contract says
 use Rattle.answer_tests.proofs.made.reply_of.Goals as goal
 
 pub returns-in-Plain : goal.returns-in-Plain

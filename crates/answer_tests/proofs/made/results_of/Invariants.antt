@@ -1,3 +1,4 @@
+-- what the loops of `made::results_of` keep
 use Rattle.std.specs.List.{All}
 use Rattle.bay_answers.specs.Replies.{IsWritable}
 use Rattle.answer_tests.proofs.made.results_of.Given as goal

@@ -1,3 +1,4 @@
+-- why `acts::data` answers as its contract says
 use Rattle.std.proofs.Common.{sym, ◌∙◌}
 use Rattle.answer_text.proofs.SendableLaws.{writable}
 use Rattle.answer_text.proofs.acts.data.Goals as goal

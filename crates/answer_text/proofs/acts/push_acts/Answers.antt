@@ -1,3 +1,4 @@
+-- why `acts::push_acts` answers as its contract says
 use Rattle.std.proofs.lemmas.Result.{err_from_is_err_and}
 use Rattle.answer_text.proofs.PrefixLaws.{still-begins}
 use Rattle.answer_text.proofs.acts.push_acts.Goals as goal

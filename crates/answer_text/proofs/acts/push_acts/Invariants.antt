@@ -1,3 +1,4 @@
+-- what the loops of `acts::push_acts` keep
 use Rattle.std.proofs.Common.{◌≡◌, ◌++◌, take}
 use Rattle.std.specs.List.{flat_map}
 use Rattle.answer_text.specs.Texts.{act_line}

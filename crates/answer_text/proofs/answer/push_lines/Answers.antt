@@ -1,3 +1,4 @@
+-- why `answer::push_lines` answers as its contract says
 use Rattle.answer_text.proofs.answer.push_lines.Goals as goal
 
 pub returns-in-Wrote-clause-ok : goal.returns-in-Wrote-clause-ok

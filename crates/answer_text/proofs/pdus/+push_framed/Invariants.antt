@@ -1,3 +1,4 @@
+-- why `pdus::push_framed` ends
 use Rattle.std.proofs.Common.{length}
 use Rattle.answer_text.proofs.pdus.+push_framed.Given as goal
 

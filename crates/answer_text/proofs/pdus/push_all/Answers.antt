@@ -1,3 +1,4 @@
+-- why `pdus::push_all` answers as its contract says
 use Rattle.std.proofs.lemmas.Result.{err_from_is_err_and}
 use Rattle.answer_text.proofs.PrefixLaws.{still-begins}
 use Rattle.answer_text.proofs.pdus.push_all.Goals as goal

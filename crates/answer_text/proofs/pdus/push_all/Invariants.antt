@@ -1,3 +1,4 @@
+-- what the loops of `pdus::push_all` keep
 use Rattle.std.proofs.Common.{◌≡◌, ◌++◌, take}
 use Rattle.std.specs.List.{flat_map}
 use Rattle.answer_text.specs.Texts.{pdu_line}

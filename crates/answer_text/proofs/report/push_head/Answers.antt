@@ -1,3 +1,4 @@
+-- why `report::push_head` answers as its contract says
 use Rattle.std.proofs.Common.{refl, append_assoc}
 use Rattle.answer_text.proofs.report.push_head.Goals as goal
 

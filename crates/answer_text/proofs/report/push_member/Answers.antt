@@ -1,3 +1,4 @@
+-- why `report::push_member` answers as its contract says
 use Rattle.std.proofs.Common.{◌≡◌, ◌++◌, ap, ◌∙◌}
 use Rattle.std.specs.Prelude.{ℕ, List, codes, decimal}
 use Rattle.answer_text.specs.Texts.{reason_letters}

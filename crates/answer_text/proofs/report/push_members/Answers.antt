@@ -1,3 +1,4 @@
+-- why `report::push_members` answers as its contract says
 use Rattle.std.proofs.lemmas.Result.{err_from_is_err_and}
 use Rattle.answer_text.proofs.PrefixLaws.{still-begins}
 use Rattle.answer_text.proofs.report.push_members.Goals as goal

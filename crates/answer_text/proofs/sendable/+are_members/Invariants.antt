@@ -1,3 +1,4 @@
+-- why `sendable::are_members` ends
 use Rattle.std.proofs.Common.{length}
 use Rattle.answer_text.proofs.sendable.+are_members.Given as goal
 

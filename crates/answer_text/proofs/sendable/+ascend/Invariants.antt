@@ -1,3 +1,4 @@
+-- why `sendable::ascend` ends
 use Rattle.std.proofs.Common.{length}
 use Rattle.answer_text.proofs.sendable.+ascend.Given as goal
 

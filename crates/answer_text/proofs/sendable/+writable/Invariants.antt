@@ -1,3 +1,4 @@
+-- what the loops of `sendable::writable` keep
 use Rattle.std.proofs.Common.{◌≡◌, drop}
 use Rattle.sv_base.specs.Seen.{row_of}
 use Rattle.answer_text.specs.Sendable.{are_writable}

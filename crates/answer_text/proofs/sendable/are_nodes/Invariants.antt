@@ -1,3 +1,4 @@
+-- what the loops of `sendable::are_nodes` keep
 use Rattle.std.proofs.Common.{◌≡◌, drop}
 use Rattle.answer_text.specs.Sendable.{are_nodes}
 use Rattle.answer_text.proofs.sendable.are_nodes.Given as goal

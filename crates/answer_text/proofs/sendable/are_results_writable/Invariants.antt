@@ -1,3 +1,4 @@
+-- what the loops of `sendable::are_results_writable` keep
 use Rattle.std.proofs.Common.{◌≡◌, drop}
 use Rattle.std.specs.List.{list_all}
 use Rattle.answer_text.specs.Sendable.{is_result_writable}

@@ -1,3 +1,4 @@
+-- what the loops of `sendable::are_short_errors` keep
 use Rattle.std.proofs.Common.{drop}
 use Rattle.std.specs.List.{All}
 use Rattle.bay_answers.specs.ControlPdus.{IsShortError}

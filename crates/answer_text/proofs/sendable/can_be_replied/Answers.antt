@@ -1,3 +1,4 @@
+-- why `sendable::can_be_replied` answers as its contract says
 use Rattle.answer_text.proofs.SendableLaws.{results-test, node-test, nodes-test}
 use Rattle.answer_text.proofs.sendable.can_be_replied.Goals as goal
 

@@ -1,3 +1,4 @@
+-- why `sendable::is_data` answers as its contract says
 use Rattle.std.proofs.Common.{sym}
 use Rattle.ber_view.specs.View.{spot}
 use Rattle.answer_text.proofs.SendableLaws.{data-test}

@@ -1,3 +1,4 @@
+-- why `laws::associations_stand` answers as its contract says
 use Rattle.assoc_table.proofs.StandLaws.{stands-empty, stands-arrival, stands-deed}
 use Rattle.std.specs.Prelude.{◌∷◌}
 use Rattle.assoc_table.proofs.laws.associations_stand.Goals as goal

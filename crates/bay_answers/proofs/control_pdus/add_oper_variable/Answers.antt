@@ -1,3 +1,4 @@
+-- why `control_pdus::add_oper_variable` answers as its contract says
 use Rattle.std.proofs.Common.{◌≡◌, ap₂, subst, [], ◌++◌, ◌∙◌}
 use Rattle.std.specs.Prelude.{OnOk}
 use Rattle.mms_pdu.specs.AskingOctets.{domain_name}

@@ -1,3 +1,4 @@
+-- why `control_pdus::bad_end` answers as its contract says
 use Rattle.std.proofs.Common.{ap, sym, subst, ◌^◌, ◌<◌, ◌++◌, ◌∙◌, length, arith, length-append}
 use Rattle.bay_answers.specs.ControlPdus.{error_variable, oper_variable}
 use Rattle.bay_answers.proofs.ControlPduLaws.{error-variable-short, oper-variable-short}

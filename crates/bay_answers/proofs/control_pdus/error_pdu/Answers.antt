@@ -1,3 +1,4 @@
+-- why `control_pdus::error_pdu` answers as its contract says
 use Rattle.std.proofs.Common.{ap, sym, subst, ◌^◌, ◌<◌, ◌++◌, ◌∙◌, length, arith}
 use Rattle.bay_answers.specs.ControlPdus.{error_variable}
 use Rattle.bay_answers.proofs.ControlPduLaws.{error-variable-short}

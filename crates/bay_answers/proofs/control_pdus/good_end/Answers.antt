@@ -1,3 +1,4 @@
+-- why `control_pdus::good_end` answers as its contract says
 use Rattle.std.proofs.Common.{ap, sym, subst, ◌^◌, ◌<◌, ◌++◌, ◌∙◌, length, arith}
 use Rattle.bay_answers.specs.ControlPdus.{oper_variable}
 use Rattle.bay_answers.proofs.ControlPduLaws.{oper-variable-short}

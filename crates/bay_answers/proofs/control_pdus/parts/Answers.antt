@@ -1,3 +1,4 @@
+-- why `control_pdus::parts` answers as its contract says
 use Rattle.std.proofs.Common.{ap, pos, ◌++◌, ◌∙◌}
 use Rattle.ber_write.specs.Minimal.{octets_of, uint_octets, int_octets}
 use Rattle.bay_answers.specs.ControlPdus.{origin_octets}

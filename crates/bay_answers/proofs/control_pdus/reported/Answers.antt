@@ -1,3 +1,4 @@
+-- why `control_pdus::reported` answers as its contract says
 use Rattle.std.proofs.Common.{sym, subst, ◌∙◌}
 use Rattle.mms_pdu.specs.ReplyOctets.{IsSpecificationElement}
 use Rattle.bay_answers.proofs.ControlPduLaws.{is_list}

@@ -1,3 +1,4 @@
+-- what the loops of `replies::add_errors` keep
 use Rattle.std.proofs.Common.{◌≡◌, ◌++◌, map, drop}
 use Rattle.bay_answers.specs.ControlPdus.{error_pdu}
 use Rattle.bay_answers.proofs.replies.add_errors.Given as goal

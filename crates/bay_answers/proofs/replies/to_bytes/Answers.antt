@@ -1,3 +1,4 @@
+-- why `replies::to_bytes` answers as its contract says
 use Rattle.std.proofs.Common.{◌≤◌, ℕ, List, length, sym, subst}
 use Rattle.std.specs.List.{AllByRecursion}
 use Rattle.bay_answers.proofs.RepliesShortLaws.{output_short}

@@ -1,3 +1,4 @@
+-- what the loops of `replies_contents::put_results` keep
 use Rattle.std.proofs.Common.{◌≡◌, ◌++◌, drop}
 use Rattle.bay_answers.specs.RepliesContents.{results_octets}
 use Rattle.bay_answers.proofs.replies_contents.put_results.Given as goal

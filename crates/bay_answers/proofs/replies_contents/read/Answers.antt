@@ -1,3 +1,4 @@
+-- why `replies_contents::read` answers as its contract says
 use Rattle.std.proofs.Common.{◌≡◌, ℕ, ◌+◌, List, ◌++◌, length, Some, sym, ap, ◌∙◌, arith}
 use Rattle.std.specs.Option.{option_map}
 use Rattle.ber_write.specs.Minimal.{octets_of}

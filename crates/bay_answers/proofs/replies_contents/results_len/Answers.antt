@@ -1,3 +1,4 @@
+-- why `replies_contents::results_len` answers as its contract says
 use Rattle.std.proofs.Common.{arith}
 use Rattle.bay_answers.proofs.RepliesContentsLaws.{length_of_one_more}
 use Rattle.bay_answers.proofs.replies_contents.results_len.Goals as goal

@@ -1,3 +1,4 @@
+-- what the loops of `replies_contents::results_len` keep
 use Rattle.std.proofs.Common.{◌≡◌, length, take, min}
 use Rattle.bay_answers.specs.RepliesContents.{results_octets}
 use Rattle.bay_answers.proofs.replies_contents.results_len.Given as goal

@@ -1,3 +1,4 @@
+-- what the loops of `replies_contents::wrote` keep
 use Rattle.std.proofs.Common.{◌≡◌, ◌++◌, drop}
 use Rattle.bay_answers.specs.RepliesContents.{written_content}
 use Rattle.bay_answers.proofs.replies_contents.wrote.Given as goal

@@ -1,3 +1,4 @@
+-- why `replies_laws::responses_are_read_back` answers as its contract says
 use Rattle.bay_answers.proofs.RepliesToldLaws.{read_back, specified_back, written_back}
 use Rattle.bay_answers.proofs.RepliesAskedLaws.{variables_told, set_told}
 use Rattle.bay_answers.proofs.replies_laws.responses_are_read_back.Goals as goal

@@ -1,3 +1,4 @@
+-- what the loops of `replies_names::add_identifiers` keep
 use Rattle.std.proofs.Common.{◌≡◌, ◌++◌, drop}
 use Rattle.bay_answers.specs.RepliesContents.{identifiers}
 use Rattle.bay_answers.proofs.replies_names.add_identifiers.Given as goal

@@ -1,3 +1,4 @@
+-- why `replies_names::fitting_names` answers as its contract says
 use Rattle.std.proofs.Common.{◌≡◌, ◌+◌, ◌≤◌, length, take, sym, ◌∙◌, arith}
 use Rattle.bay_answers.specs.RepliesContents.{identifiers}
 use Rattle.bay_answers.proofs.RepliesNamesLaws.{IsReached, next_one, last_one}

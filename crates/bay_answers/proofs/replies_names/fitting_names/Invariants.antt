@@ -1,3 +1,4 @@
+-- what the loops of `replies_names::fitting_names` keep, and why they end
 use Rattle.std.proofs.Common.{◌≡◌, ◌≤◌, ◌-◌, take, length}
 use Rattle.bay_answers.specs.RepliesContents.{identifiers}
 use Rattle.bay_answers.proofs.RepliesNamesLaws.{IsReached}

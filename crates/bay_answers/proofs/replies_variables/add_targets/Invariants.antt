@@ -1,3 +1,4 @@
+-- what the loops of `replies_variables::add_targets` keep
 use Rattle.std.proofs.Common.{◌≡◌, ◌++◌, drop}
 use Rattle.std.specs.List.{flat_map}
 use Rattle.bay_answers.specs.RepliesVariables.{target_octets}

@@ -1,3 +1,4 @@
+-- why `replies_variables::asked_set` answers as its contract says
 use Rattle.std.proofs.Common.{◌≡◌, ℕ, List, IfOk, ap₂, subst, ◌∙◌}
 use Rattle.ber_write.specs.Minimal.{octets_of}
 use Rattle.mms_pdu.specs.AskingOctets.{domain_name}

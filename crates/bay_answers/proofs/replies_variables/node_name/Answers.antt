@@ -1,3 +1,4 @@
+-- why `replies_variables::node_name` answers as its contract says
 use Rattle.std.proofs.Common.{◌≡◌, ℕ, List, IfOk, subst}
 use Rattle.bay_answers.proofs.RepliesContentsLaws.{named_node}
 use Rattle.bay_answers.proofs.replies_variables.node_name.Goals as goal

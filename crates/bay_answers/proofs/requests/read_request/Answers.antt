@@ -1,3 +1,4 @@
+-- why `requests::read_request` answers as its contract says
 use Rattle.std.proofs.Common.{arith}
 use Rattle.bay_answers.proofs.RequestFits.{read-spelled, read-refused, read-fits}
 use Rattle.bay_answers.proofs.requests.read_request.Goals as goal

@@ -1,3 +1,4 @@
+-- why `requests::to_request` answers as its contract says
 use Rattle.std.proofs.Common.{sym, ◌∙◌}
 use Rattle.mms_pdu.specs.Request.{request_octets}
 use Rattle.mms_pdu.specs.View.{asked}

@@ -1,3 +1,4 @@
+-- what the loops of `requests_names::set_names` keep
 use Rattle.std.proofs.Common.{◌≡◌, ◌++◌, map}
 use Rattle.mms_pdu.specs.ObjectName.{name_octets}
 use Rattle.bay_answers.specs.Requests.{set_name}

@@ -1,3 +1,4 @@
+-- what the loops of `requests_names::targets_of` keep
 use Rattle.std.proofs.Common.{◌≡◌, ◌++◌, map}
 use Rattle.mms_pdu.specs.Variable.{variable_octets}
 use Rattle.bay_answers.specs.Requests.{listed_target}

@@ -1,3 +1,4 @@
+-- why `requests_values::values_of` answers as its contract says
 use Rattle.std.proofs.Common.{◌≡◌, map, ap, ◌∙◌, arith}
 use Rattle.std.proofs.lemmas.Grind.{common_steps}
 use Rattle.sv_base.specs.Seen.{row_of}

@@ -1,3 +1,4 @@
+-- what the loops of `requests_values::values_of` keep
 use Rattle.std.proofs.Common.{◌≡◌, ◌++◌, map}
 use Rattle.sv_base.specs.Same.{value_of}
 use Rattle.mms_pdu.specs.Datum.{value_at}

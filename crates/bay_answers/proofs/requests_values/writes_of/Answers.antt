@@ -1,3 +1,4 @@
+-- why `requests_values::writes_of` answers as its contract says
 use Rattle.std.proofs.Common.{◌≡◌, [], map, arith}
 use Rattle.std.proofs.lemmas.Grind.{common_steps}
 use Rattle.std.specs.List.{zip}

@@ -1,3 +1,4 @@
+-- what the loops of `requests_values::writes_of` keep
 use Rattle.std.proofs.Common.{◌≡◌, ◌++◌, map}
 use Rattle.std.specs.List.{zip}
 use Rattle.std.specs.Iterator.Adapters.{zip_first, zip_second}

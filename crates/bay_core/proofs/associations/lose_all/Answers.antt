@@ -1,3 +1,4 @@
+-- why `associations::lose_all` answers as its contract says
 use Rattle.std.proofs.Common.{refl, rules, ◌<◌, length, ap, ◌∙◌, slice_set}
 use Rattle.report_block.specs.Writes.{lost_by}
 use Rattle.list_laws.proofs.EachLaws.{one-more}

@@ -1,3 +1,4 @@
+-- what the loops of `associations::lose_all` keep, and why they end
 use Rattle.std.proofs.Common.{◌≡◌, ◌-◌, ◌++◌, ◌≤◌, map, take, drop, length}
 use Rattle.report_block.specs.Writes.{lost_by}
 use Rattle.bay_core.proofs.associations.lose_all.Given as goal

@@ -1,3 +1,4 @@
+-- what the loops of `deleting::renumber_all` keep, and why they end
 use Rattle.std.proofs.Common.{◌≡◌, ◌-◌, ◌++◌, ◌≤◌, map, take, drop, length}
 use Rattle.report_block.specs.Writes.{renumbered}
 use Rattle.bay_core.proofs.deleting.renumber_all.Given as goal

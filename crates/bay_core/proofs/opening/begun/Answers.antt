@@ -1,3 +1,4 @@
+-- why `opening::begun` answers as its contract says
 use Rattle.std.proofs.Common.{◌≡◌, refl, ap, subst, sym, map, vec_capacity}
 use Rattle.bay_model.specs.Configured.{control_defined}
 use Rattle.bay_queues.specs.Queued.{Queued, configs}

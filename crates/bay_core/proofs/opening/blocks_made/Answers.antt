@@ -1,3 +1,4 @@
+-- why `opening::blocks_made` answers as its contract says
 use Rattle.std.proofs.Common.{◌∙◌, ap, sym, subst, List}
 use Rattle.std.specs.List.{All}
 use Rattle.bay_model.specs.declared.tables.NodeRow.{NodeRow}

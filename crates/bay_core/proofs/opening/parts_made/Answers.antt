@@ -1,3 +1,4 @@
+-- why `opening::parts_made` answers as its contract says
 use Rattle.std.proofs.Common.{◌∙◌, ap, length, List}
 use Rattle.value_store.specs.Opened.{opened}
 use Rattle.value_store.specs.Stored.{Stored}

@@ -1,3 +1,4 @@
+-- what the loops of `opening::parts_of` keep
 use Rattle.std.proofs.Common.{◌≡◌, take, map}
 use Rattle.bay_core.specs.Opened.{seen, part_defined}
 use Rattle.bay_core.proofs.opening.parts_of.Given as goal

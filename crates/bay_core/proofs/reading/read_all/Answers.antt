@@ -1,3 +1,4 @@
+-- why `reading::read_all` answers as its contract says
 use Rattle.std.proofs.Common.{◌≡◌, ◌∙◌, ◌++◌, ◌+◌, ℕ, List, [], ◌∷◌, take, drop, ap, ap₂, sym, subst, arith, add-one}
 use Rattle.std.specs.Prelude.{Result}
 use Rattle.std.proofs.lemmas.List.{drop_more, drop_all, take-append-drop}

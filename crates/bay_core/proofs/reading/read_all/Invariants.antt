@@ -1,3 +1,4 @@
+-- what the loops of `reading::read_all` keep
 use Rattle.std.proofs.Common.{◌≡◌, ◌++◌, take, drop}
 use Rattle.bay_queues.specs.Queued.{configs}
 use Rattle.bay_core.specs.Turned.{after_turns, in_turns}

@@ -1,3 +1,4 @@
+-- why `reading::read_in_turn` answers as its contract says
 use Rattle.std.proofs.Common.{◌∙◌, map, ap, sym, arith}
 use Rattle.std.specs.Option.{option_map}
 use Rattle.std.proofs.lemmas.List.{length-map}

@@ -1,3 +1,4 @@
+-- why `set_names::has_node` answers as its contract says
 use Rattle.std.proofs.Common.{◌∙◌}
 use Rattle.bay_core.proofs.NameLaws.{has-told}
 use Rattle.bay_core.proofs.set_names.has_node.Goals as goal

@@ -1,3 +1,4 @@
+-- why `set_names::name_len` answers as its contract says
 use Rattle.std.proofs.Common.{sym, arith, length, ◌==◌}
 use Rattle.std.proofs.lemmas.Bool.Decides.{nat_tests}
 use Rattle.std.proofs.lemmas.List.Sums.{position_or_len_is}

@@ -1,3 +1,4 @@
+-- what the loops of `set_names::name_len` keep
 use Rattle.std.proofs.Common.{◌≡◌, ◌<◌, ℕ, false, get_or, ◌==◌}
 use Rattle.bay_core.proofs.set_names.name_len.Given as goal
 

@@ -1,3 +1,4 @@
+-- why `setting::event_all` answers as its contract says
 use Rattle.std.proofs.Common.{◌<◌, ◌∙◌, ap, arith, length, Some, List}
 use Rattle.list_laws.proofs.Places.{all-at}
 use Rattle.bay_model.specs.declared.note.Mention.{Mention}

@@ -1,3 +1,4 @@
+-- why `setting::keep_all` answers as its contract says
 use Rattle.std.proofs.Common.{◌≡◌, ◌<◌, ◌∙◌, ap, sym, refl, subst, arith, [], List, length}
 use Rattle.std.specs.Prelude.{slice_set, slice_index_or}
 use Rattle.std.proofs.lemmas.List.{length-set}

@@ -1,3 +1,4 @@
+-- what the loops of `setting::keep_all` keep, and why they end
 use Rattle.std.proofs.Common.{◌≡◌, ℕ, Some, length}
 use Rattle.std.specs.Prelude.{slice_get}
 use Rattle.touch_index.specs.Gathering.{note_at}

@@ -1,3 +1,4 @@
+-- why `setting::keep_due` answers as its contract says
 use Rattle.bay_core.proofs.QuietLaws.{quiet-idle}
 use Rattle.bay_core.proofs.setting.keep_due.Goals as goal
 

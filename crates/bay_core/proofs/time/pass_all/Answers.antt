@@ -1,3 +1,4 @@
+-- why `time::pass_all` answers as its contract says
 use Rattle.std.proofs.Common.{◌<◌, ◌≤◌, ◌∙◌, length, ap, refl, sym, subst, arith, rules, inl, inr}
 use Rattle.std.specs.Prelude.{slice_get, slice_set}
 use Rattle.std.proofs.lemmas.List.{length-set}

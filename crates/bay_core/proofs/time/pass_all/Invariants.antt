@@ -1,3 +1,4 @@
+-- what the loops of `time::pass_all` keep, and why they end
 use Rattle.std.proofs.Common.{◌≡◌, ◌-◌, ◌++◌, ◌≤◌, ◌<◌, ℕ, Option, Some, map, take, drop, length}
 use Rattle.std.specs.Prelude.{slice_get}
 use Rattle.report_block.specs.declared.block.ReportBlock.{ReportBlock}

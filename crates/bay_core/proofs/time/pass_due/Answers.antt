@@ -1,3 +1,4 @@
+-- why `time::pass_due` answers as its contract says
 use Rattle.std.proofs.Common.{sym}
 use Rattle.bay_core.proofs.QuietLaws.{none-arrives, stays-quiet}
 use Rattle.bay_core.proofs.time.pass_due.Goals as goal

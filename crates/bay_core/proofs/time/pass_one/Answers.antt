@@ -1,3 +1,4 @@
+-- why `time::pass_one` answers as its contract says
 use Rattle.std.proofs.Common.{◌∙◌, ap, sym, subst}
 use Rattle.set_view.specs.Shapes.{shapes_of}
 use Rattle.data_sets.specs.Books.{nodes_in}

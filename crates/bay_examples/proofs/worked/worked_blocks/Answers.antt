@@ -1,3 +1,4 @@
+-- why `worked::worked_blocks` answers as its contract says
 use Rattle.bay_examples.proofs.WorkedBlocks.{tie_of_blocks, earliest_step}
 use Rattle.bay_examples.proofs.worked.worked_blocks.Goals as goal
 

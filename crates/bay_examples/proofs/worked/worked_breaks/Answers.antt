@@ -1,3 +1,4 @@
+-- why `worked::worked_breaks` answers as its contract says
 use Rattle.bay_examples.proofs.WorkedBreaks.{two_members_in_one_window, two_windows, repeated_member, purge_closes_entry, interrogation_closes_entry, integrity_before_effect, periods_begin_anew}
 use Rattle.bay_examples.proofs.worked.worked_breaks.Goals as goal
 

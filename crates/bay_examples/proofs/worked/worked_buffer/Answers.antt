@@ -1,3 +1,4 @@
+-- why `worked::worked_buffer` answers as its contract says
 use Rattle.bay_examples.proofs.WorkedBuffer.{gap_mark, oversized_entry, exact_capacity, purge_of_unsent, purge_of_sent, purging_changes}
 use Rattle.bay_examples.proofs.worked.worked_buffer.Goals as goal
 

@@ -1,3 +1,4 @@
+-- why `worked::worked_controls` answers as its contract says
 use Rattle.bay_examples.proofs.WorkedControls.{refused_opers, act_and_termination, negative_termination, test_operate, cancelled_selection, blocked_and_lost, selected_beside_loss, lost_execution, lost_termination, refused_selects}
 use Rattle.bay_examples.proofs.worked.worked_controls.Goals as goal
 

@@ -1,3 +1,4 @@
+-- why `worked::worked_holding` answers as its contract says
 use Rattle.bay_examples.proofs.WorkedHolding.{holding, loss_of_another, refused_components, refusals_in_order}
 use Rattle.bay_examples.proofs.worked.worked_holding.Goals as goal
 

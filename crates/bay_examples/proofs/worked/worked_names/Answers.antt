@@ -1,3 +1,4 @@
+-- why `worked::worked_names` answers as its contract says
 use Rattle.bay_examples.proofs.WorkedNames.{example_named, first_named, generated_named, attributes_numbered, members_allowed, types_named}
 use Rattle.bay_examples.proofs.worked.worked_names.Goals as goal
 

@@ -1,3 +1,4 @@
+-- why `worked::worked_reads` answers as its contract says
 use Rattle.bay_examples.proofs.WorkedReads.{reads_of_newest_entry, counted_changes, read_of_structure, refused_access, long_reads}
 use Rattle.bay_examples.proofs.worked.worked_reads.Goals as goal
 

@@ -1,3 +1,4 @@
+-- why `worked::worked_reports` answers as its contract says
 use Rattle.bay_examples.proofs.WorkedReports.{one_value, update_flag, trigger_bits, integrity_period, interrogation, moment_below}
 use Rattle.bay_examples.proofs.worked.worked_reports.Goals as goal
 

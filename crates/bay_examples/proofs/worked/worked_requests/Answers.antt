@@ -1,3 +1,4 @@
+-- why `worked::worked_requests` answers as its contract says
 use Rattle.bay_examples.proofs.WorkedRequests.{replies_in_order, enabled_by_request, defined_set, names_and_deletions, names_of_size, waiting_replies_full, terminations_not_counted, refused_steps}
 use Rattle.bay_examples.proofs.worked.worked_requests.Goals as goal
 

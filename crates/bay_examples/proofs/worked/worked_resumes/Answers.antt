@@ -1,3 +1,4 @@
+-- why `worked::worked_resumes` answers as its contract says
 use Rattle.bay_examples.proofs.WorkedResumes.{resume_at_newest, resume_below_front, refused_entry_ids, loss_and_resume, enabled_twice}
 use Rattle.bay_examples.proofs.worked.worked_resumes.Goals as goal
 

@@ -1,3 +1,4 @@
+-- why `worked::worked_selections` answers as its contract says
 use Rattle.bay_examples.proofs.WorkedSelections.{selected_by_sbo, operated_many, direct_control, blocked_sbo}
 use Rattle.bay_examples.proofs.worked.worked_selections.Goals as goal
 

@@ -1,3 +1,4 @@
+-- why `worked::worked_settings` answers as its contract says
 use Rattle.bay_examples.proofs.WorkedSettings.{active_group, edited_group, confirmed_active, held_edit, last_activation, dropped_edit, set_by_process}
 use Rattle.bay_examples.proofs.worked.worked_settings.Goals as goal
 

@@ -1,3 +1,4 @@
+-- why `laws::cursor_rises_by_reports` answers as its contract says
 use Rattle.bay_model.proofs.CursorLaws.{cursor_rests, reports_raise}
 use Rattle.bay_model.proofs.laws.cursor_rises_by_reports.Goals as goal
 

@@ -1,3 +1,4 @@
+-- why `laws::one_edits` answers as its contract says
 use Rattle.bay_model.proofs.EditLaws.{holders_edit, edits_are_held, holder_is_one}
 use Rattle.bay_model.proofs.laws.one_edits.Goals as goal
 

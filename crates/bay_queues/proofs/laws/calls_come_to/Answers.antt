@@ -1,3 +1,4 @@
+-- why `laws::calls_come_to` answers as its contract says
 use Rattle.bay_queues.proofs.StandLaws.{call-comes, enhanced-is}
 use Rattle.bay_queues.proofs.laws.calls_come_to.Goals as goal
 

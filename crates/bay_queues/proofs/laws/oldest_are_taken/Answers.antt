@@ -1,3 +1,4 @@
+-- why `laws::oldest_are_taken` answers as its contract says
 use Rattle.bay_queues.proofs.StandLaws.{oldest-taken}
 use Rattle.bay_queues.proofs.laws.oldest_are_taken.Goals as goal
 

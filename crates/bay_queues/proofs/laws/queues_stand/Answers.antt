@@ -1,3 +1,4 @@
+-- why `laws::queues_stand` answers as its contract says
 use Rattle.bay_queues.proofs.StandLaws.{stands-opened, stands-arrival, stands-deed, stands-again}
 use Rattle.bay_queues.proofs.laws.queues_stand.Goals as goal
 

@@ -1,3 +1,4 @@
+-- why `laws::terminations_come` answers as its contract says
 use Rattle.bay_queues.proofs.StandLaws.{done-comes, reply-comes}
 use Rattle.bay_queues.proofs.laws.terminations_come.Goals as goal
 

@@ -1,3 +1,4 @@
+-- why `queues::end_tests` answers as its contract says
 use Rattle.std.proofs.Common.{◌≡◌, List, [], ◌∷◌, length, map, drop, true, sym, subst, ap, ◌∙◌, arith}
 use Rattle.std.specs.Prelude.{OnOk, slice_index_or}
 use Rattle.sv_base.specs.declared.numbers.CtlNo.{CtlNo}

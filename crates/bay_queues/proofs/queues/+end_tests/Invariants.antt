@@ -1,3 +1,4 @@
+-- why `queues::end_tests` ends
 use Rattle.std.proofs.Common.{length}
 use Rattle.bay_queues.proofs.queues.+end_tests.Given as goal
 

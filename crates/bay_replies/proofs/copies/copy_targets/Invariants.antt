@@ -1,3 +1,4 @@
+-- what the loops of `copies::copy_targets` keep
 use Rattle.std.proofs.Common.{◌≡◌, take}
 use Rattle.bay_replies.proofs.copies.copy_targets.Given as goal
 

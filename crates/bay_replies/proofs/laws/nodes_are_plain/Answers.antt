@@ -1,3 +1,4 @@
+-- why `laws::nodes_are_plain` answers as its contract says
 use Rattle.bay_replies.proofs.GivenLaws.{plain-at}
 use Rattle.bay_replies.proofs.laws.nodes_are_plain.Goals as goal
 

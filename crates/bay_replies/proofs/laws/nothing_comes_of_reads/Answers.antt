@@ -1,3 +1,4 @@
+-- why `laws::nothing_comes_of_reads` answers as its contract says
 use Rattle.bay_replies.proofs.QuietLaws.{reads-come-to-nothing, points-are-arrivals}
 use Rattle.bay_replies.proofs.laws.nothing_comes_of_reads.Goals as goal
 

@@ -1,3 +1,4 @@
+-- why `laws::opened_books_are_served` answers as its contract says
 use Rattle.bay_replies.proofs.OpenedLaws.{sets-stand, items-named}
 use Rattle.bay_replies.proofs.laws.opened_books_are_served.Goals as goal
 

@@ -1,3 +1,4 @@
+-- what the loops of `sizes::are_too_long` keep
 use Rattle.std.proofs.Common.{◌≡◌, ◌+◌, length, drop}
 use Rattle.std.specs.Prelude.{min}
 use Rattle.bay_replies.proofs.SizeLaws.{octets}

@@ -1,3 +1,4 @@
+-- what the loops of `sizes::count_within` keep, and why they end
 use Rattle.std.proofs.Common.{◌≡◌, ◌≤◌, ◌-◌, ◌++◌, length, take, drop}
 use Rattle.bay_model.specs.Sizes.{within}
 use Rattle.bay_replies.proofs.sizes.count_within.Given as goal

@@ -1,3 +1,4 @@
+-- why `slot::are_same` ends
 use Rattle.std.proofs.Common.{length}
 use Rattle.bay_rooms.proofs.slot.+are_same.Given as goal
 

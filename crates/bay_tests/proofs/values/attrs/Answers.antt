@@ -1,3 +1,4 @@
+-- why `values::attrs` answers as its contract says
 use Rattle.std.proofs.Common.{◌≡◌, [], ◌∷◌}
 use Rattle.std.proofs.lemmas.List.Elements.{All-cons, All-nil}
 use Rattle.sv_base.specs.declared.config.AttrDef.{AttrDef}

@@ -1,3 +1,4 @@
+-- why `laws::groups_fit_values` answers as its contract says
 use Rattle.bay_values.proofs.GroupLaws.{active-typed, are-held-once, are-put, copy-sound, grouped-first, loadable}
 use Rattle.bay_values.proofs.laws.groups_fit_values.Goals as goal
 

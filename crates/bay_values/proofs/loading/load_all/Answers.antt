@@ -1,3 +1,4 @@
+-- why `loading::load_all` answers as its contract says
 use Rattle.std.proofs.Common.{◌≡◌, ◌∙◌, ◌<◌, ◌-◌, [], ◌∷◌, drop, length, ap, sym, subst, arith}
 use Rattle.std.proofs.lemmas.List.{drop_all}
 use Rattle.setting_groups.specs.Grouped.{active_place, domain_at}

@@ -1,3 +1,4 @@
+-- what the loops of `loading::load_all` keep
 use Rattle.std.proofs.Common.{◌≤◌, drop, vec_capacity}
 use Rattle.setting_groups.specs.Grouped.{active_place, domain_at}
 use Rattle.setting_groups.specs.Loaded.{loadings}

@@ -1,3 +1,4 @@
+-- why `loading::load_once` answers as its contract says
 use Rattle.std.proofs.Common.{◌≡◌, ◌∙◌, ap, sym, arith, false}
 use Rattle.bay_values.specs.Loaded.{active_setting}
 use Rattle.bay_values.specs.Marked.{is_marked}

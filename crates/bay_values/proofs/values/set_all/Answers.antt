@@ -1,3 +1,4 @@
+-- why `values::set_all` answers as its contract says
 use Rattle.std.proofs.Common.{◌≡◌, ◌<◌, ◌-◌, [], ◌∷◌, drop, length, ap₂, sym, ◌∙◌, subst, arith}
 use Rattle.std.proofs.lemmas.List.{drop_more, drop_all}
 use Rattle.bay_values.specs.Marked.{IsDone}

@@ -1,3 +1,4 @@
+-- what the loops of `values::set_all` keep
 use Rattle.std.proofs.Common.{◌≤◌, drop, vec_capacity}
 use Rattle.bay_values.specs.Marked.{IsDone}
 use Rattle.bay_values.proofs.values.set_all.Given as goal

@@ -1,3 +1,4 @@
+-- why `values::set_once` answers as its contract says
 use Rattle.std.proofs.Common.{arith}
 use Rattle.bay_values.proofs.SettingSteps.{done_set, room_left}
 use Rattle.bay_values.proofs.values.set_once.Goals as goal

@@ -1,3 +1,4 @@
+-- why `values::unmark` answers as its contract says
 use Rattle.std.proofs.Common.{subst}
 use Rattle.std.proofs.lemmas.List.{drop_all}
 use Rattle.bay_values.specs.Marked.{AreNoted}

@@ -1,3 +1,4 @@
+-- what the loops of `values::unmark` keep
 use Rattle.std.proofs.Common.{drop}
 use Rattle.bay_values.specs.Marked.{AreNoted}
 use Rattle.bay_values.proofs.values.unmark.Given as goal

@@ -1,3 +1,4 @@
+-- why `laws::each_content_has_one_row_of_fields` answers as its contract says
 use Rattle.ber_grammar.proofs.FieldLaws.{one_fields, one_field, one_only, one_whole}
 use Rattle.ber_grammar.proofs.laws.each_content_has_one_row_of_fields.Goals as goal
 

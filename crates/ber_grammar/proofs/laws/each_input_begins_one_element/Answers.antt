@@ -1,3 +1,4 @@
+-- why `laws::each_input_begins_one_element` answers as its contract says
 use Rattle.ber_grammar.proofs.Theorems.{read_or_refused, one_element, one_fault, not_both}
 use Rattle.ber_grammar.proofs.laws.each_input_begins_one_element.Goals as goal
 

@@ -1,3 +1,4 @@
+-- why `bit_view::bit_at` answers as its contract says
 use Rattle.std.proofs.Common.{Bool, Some, refl, sym, ap, ◌∙◌}
 use Rattle.ber_view.proofs.BitLaws.{bit_there, no_bit, not_below}
 use Rattle.ber_view.proofs.bit_view.bit_at.Goals as goal

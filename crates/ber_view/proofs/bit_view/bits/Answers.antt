@@ -1,3 +1,4 @@
+-- why `bit_view::bits` answers as its contract says
 use Rattle.ber_grammar.proofs.BitLaws.{bits_reads}
 use Rattle.ber_view.proofs.bit_view.bits.Goals as goal
 

@@ -1,3 +1,4 @@
+-- why `content::int` answers as its contract says
 use Rattle.std.proofs.Common.{arith}
 use Rattle.ber_grammar.proofs.IntLaws.{int_reads}
 use Rattle.ber_view.proofs.content.int.Goals as goal

@@ -1,3 +1,4 @@
+-- why `content::lack_of` answers as its contract says
 use Rattle.std.proofs.Common.{arith}
 use Rattle.ber_grammar.proofs.UintLaws.{room}
 use Rattle.ber_view.proofs.content.lack_of.Goals as goal

@@ -1,3 +1,4 @@
+-- what the loops of `content::lack_of` keep
 use Rattle.std.proofs.Common.{◌≡◌, ◌+◌, ◌^◌, take}
 use Rattle.ber_grammar.specs.Octets.{big_endian}
 use Rattle.ber_view.proofs.content.lack_of.Given as goal

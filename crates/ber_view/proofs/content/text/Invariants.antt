@@ -1,3 +1,4 @@
+-- what the loops of `content::text` keep
 use Rattle.std.proofs.Common.{◌≡◌, ℕ, ◌<◌, get_or, drop}
 use Rattle.ber_grammar.specs.Content.{IsVisible}
 use Rattle.ber_grammar.specs.Reading.{all_visible}

@@ -1,3 +1,4 @@
+-- why `content::uint` answers as its contract says
 use Rattle.std.proofs.Common.{arith}
 use Rattle.ber_grammar.proofs.UintLaws.{uint_reads}
 use Rattle.ber_view.proofs.content.uint.Goals as goal

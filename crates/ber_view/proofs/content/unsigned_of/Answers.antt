@@ -1,3 +1,4 @@
+-- why `content::unsigned_of` answers as its contract says
 use Rattle.std.proofs.Common.{arith}
 use Rattle.ber_grammar.proofs.UintLaws.{room}
 use Rattle.ber_view.proofs.content.unsigned_of.Goals as goal

@@ -1,3 +1,4 @@
+-- what the loops of `content::unsigned_of` keep
 use Rattle.std.proofs.Common.{◌≡◌, ◌<◌, ◌^◌, take}
 use Rattle.ber_grammar.specs.Octets.{big_endian}
 use Rattle.ber_view.proofs.content.unsigned_of.Given as goal

@@ -1,3 +1,4 @@
+-- why `element::first` answers as its contract says
 use Rattle.std.proofs.Common.{arith}
 use Rattle.ber_grammar.proofs.ElementLaws.{first_reads, first_shortens, first_below}
 use Rattle.ber_view.proofs.SliceLaws.{first_slices}

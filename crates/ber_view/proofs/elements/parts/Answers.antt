@@ -1,3 +1,4 @@
+-- why `elements::parts` answers as its contract says
 use Rattle.ber_grammar.proofs.PartsLaws.{parts_reads}
 use Rattle.ber_view.proofs.elements.parts.Goals as goal
 

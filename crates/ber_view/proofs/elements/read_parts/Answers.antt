@@ -1,3 +1,4 @@
+-- why `elements::read_parts` answers as its contract says
 use Rattle.std.proofs.Common.{List, sym, ap, ◌∙◌, Ok}
 use Rattle.std.proofs.lemmas.Result.{err_from_is_err_and}
 use Rattle.ber_grammar.specs.Element.{Element}

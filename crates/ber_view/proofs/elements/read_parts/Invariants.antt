@@ -1,3 +1,4 @@
+-- what the loops of `elements::read_parts` keep, and why they end
 use Rattle.std.proofs.Common.{length}
 use Rattle.ber_grammar.proofs.PartsLaws.{WithFront}
 use Rattle.ber_view.proofs.elements.read_parts.Given as goal

@@ -1,3 +1,4 @@
+-- what the loops of `field::first_of` keep
 use Rattle.std.proofs.Common.{◌≡◌}
 use Rattle.ber_grammar.specs.Fields.{first_with}
 use Rattle.ber_view.proofs.field.first_of.Given as goal

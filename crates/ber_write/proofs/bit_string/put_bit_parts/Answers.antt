@@ -1,3 +1,4 @@
+-- why `bit_string::put_bit_parts` answers as its contract says
 use Rattle.ber_write.specs.Minimal.{head_octets}
 use Rattle.ber_write.proofs.BitLaws.{kept_behind}
 use Rattle.ber_write.proofs.bit_string.put_bit_parts.Goals as goal

@@ -1,3 +1,4 @@
+-- why `bit_string::put_packed` answers as its contract says
 use Rattle.std.proofs.Math.Nat.{pos_of_ne-zero}
 use Rattle.std.proofs.lemmas.Bool.{eqb-false}
 use Rattle.ber_write.proofs.BitLaws.{written_more, kept_push}

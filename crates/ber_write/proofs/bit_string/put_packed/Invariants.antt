@@ -1,3 +1,4 @@
+-- what the loops of `bit_string::put_packed` keep, and why they end
 use Rattle.std.proofs.Common.{◌≡◌, ◌++◌, length, take}
 use Rattle.ber_write.specs.BitString.{packed}
 use Rattle.ber_write.proofs.bit_string.put_packed.Given as goal

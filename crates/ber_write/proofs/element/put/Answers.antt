@@ -1,3 +1,4 @@
+-- why `element::put` answers as its contract says
 use Rattle.ber_write.proofs.ElementLaws.{tag_below}
 use Rattle.ber_write.proofs.element.put.Goals as goal
 

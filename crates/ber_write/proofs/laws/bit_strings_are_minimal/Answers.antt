@@ -1,3 +1,4 @@
+-- why `laws::bit_strings_are_minimal` answers as its contract says
 use Rattle.ber_write.proofs.BitLaws.{bits_spelled, bits_as_long, bits_only}
 use Rattle.ber_write.proofs.laws.bit_strings_are_minimal.Goals as goal
 

@@ -1,3 +1,4 @@
+-- why `laws::numbers_are_minimal` answers as its contract says
 use Rattle.ber_write.proofs.NumberLaws.{signed_written, unsigned_written}
 use Rattle.ber_write.proofs.ShortestLaws.{int_shortest, uint_shortest}
 use Rattle.ber_write.proofs.laws.numbers_are_minimal.Goals as goal

@@ -1,3 +1,4 @@
+-- why `number::signed` answers as its contract says
 use Rattle.std.proofs.Common.{ℕ, List, ap, sym, ◌∙◌, w64}
 use Rattle.std.proofs.lemmas.Int.{to_z-of_z}
 use Rattle.sv_base.specs.Data.{shortest}

@@ -1,3 +1,4 @@
+-- what the loops of `blank::longest_text` keep
 use Rattle.std.proofs.Common.{◌≡◌, drop, max}
 use Rattle.block_reports.specs.Blanks.{longest_text_in}
 use Rattle.block_reports.proofs.blank.longest_text.Given as goal

@@ -1,3 +1,4 @@
+-- why `blank::members_in` answers as its contract says
 use Rattle.std.proofs.Common.{◌∙◌, ◌++◌, arith, length-append, subst, sym}
 use Rattle.block_reports.specs.Blanks.{AreFew}
 use Rattle.block_reports.proofs.AgainLaws.{octets_within}

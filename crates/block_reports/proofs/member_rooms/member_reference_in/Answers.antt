@@ -1,3 +1,4 @@
+-- why `member_rooms::member_reference_in` answers as its contract says
 use Rattle.std.proofs.Common.{◌∙◌, arith, sym}
 use Rattle.bay_model.specs.Named.{configured_model}
 use Rattle.block_reports.proofs.AgainLaws.{reference-found, reference-missing, reference-short}

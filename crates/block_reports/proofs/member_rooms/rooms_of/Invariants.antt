@@ -1,3 +1,4 @@
+-- what the loops of `member_rooms::rooms_of` keep, and why they end
 use Rattle.std.proofs.Common.{◌≤◌, ◌-◌, length}
 use Rattle.std.specs.List.{All}
 use Rattle.block_reports.specs.Blanks.{IsRoom}

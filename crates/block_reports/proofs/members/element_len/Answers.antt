@@ -1,3 +1,4 @@
+-- why `members::element_len` answers as its contract says
 use Rattle.std.proofs.Common.{◌≡◌, ◌++◌, ◌-◌, ℕ, List, length, ap, Some, arith, length-append}
 use Rattle.ber_grammar.specs.declared.fault.BerFault.{BerFault}
 use Rattle.list_laws.proofs.Options.{ok_is}

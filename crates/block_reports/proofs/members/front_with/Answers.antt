@@ -1,3 +1,4 @@
+-- why `members::front_with` answers as its contract says
 use Rattle.std.proofs.Common.{◌≡◌, ◌∙◌, ◌+◌, ◌*◌, ℕ, length, Some, ap, arith}
 use Rattle.block_reports.specs.Again.{reasons_in}
 use Rattle.block_reports.proofs.AgainLaws.{reasons_back, member_back}

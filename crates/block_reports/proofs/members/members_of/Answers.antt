@@ -1,3 +1,4 @@
+-- why `members::members_of` answers as its contract says
 use Rattle.std.proofs.Common.{◌∙◌, ◌+◌, ◌++◌, ◌∷◌, List, [], ap, arith, take}
 use Rattle.std.specs.Prelude.{option_map}
 use Rattle.bay_model.specs.declared.report.Member.{Member}

@@ -1,3 +1,4 @@
+-- what the loops of `members::members_of` keep, and why they end
 use Rattle.std.proofs.Common.{◌≤◌, List, length, take}
 use Rattle.bay_model.specs.Notes.{Kept}
 use Rattle.block_reports.specs.Again.{AreKept}

@@ -1,3 +1,4 @@
+-- why `reports::report_of` answers as its contract says
 use Rattle.bay_model.specs.Named.{configured_model}
 use Rattle.block_reports.proofs.reports.report_of.Goals as goal
 

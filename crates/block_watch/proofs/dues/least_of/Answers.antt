@@ -1,3 +1,4 @@
+-- why `dues::least_of` answers as its contract says
 use Rattle.std.proofs.Common.{subst}
 use Rattle.std.specs.List.{All}
 use Rattle.std.proofs.lemmas.List.{take_all}

@@ -1,3 +1,4 @@
+-- what the loops of `watch::filling_of` keep
 use Rattle.std.proofs.Common.{◌≡◌, ◌<◌, ℕ, Some, length}
 use Rattle.std.specs.Prelude.{slice_get}
 use Rattle.touch_index.specs.Indexed.{block_at}

@@ -1,3 +1,4 @@
+-- what the loops of `watch::most_pairs` keep
 use Rattle.std.proofs.Common.{◌≤◌, ◌<◌, ℕ}
 use Rattle.touch_index.specs.Indexed.{pairs}
 use Rattle.block_watch.specs.Watched.{members_at}

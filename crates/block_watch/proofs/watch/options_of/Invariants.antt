@@ -1,3 +1,4 @@
+-- what the loops of `watch::options_of` keep
 use Rattle.std.proofs.Common.{◌≡◌, take}
 use Rattle.block_watch.specs.Watched.{options_in}
 use Rattle.block_watch.proofs.watch.options_of.Given as goal

@@ -1,3 +1,4 @@
+-- what the loops of `watch::pairs_of` keep
 use Rattle.std.proofs.Common.{◌≡◌, ◌+◌, drop}
 use Rattle.touch_index.specs.Indexed.{pairs}
 use Rattle.block_watch.proofs.watch.pairs_of.Given as goal

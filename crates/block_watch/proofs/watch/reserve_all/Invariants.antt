@@ -1,3 +1,4 @@
+-- what the loops of `watch::reserve_all` keep
 use Rattle.std.proofs.Common.{◌≤◌, ◌<◌, ℕ}
 use Rattle.touch_index.specs.Indexed.{block_at}
 use Rattle.block_watch.specs.Watched.{IsRoomier}

@@ -1,3 +1,4 @@
+-- why `laws::blocks_stand` answers as its contract says
 use Rattle.brcb_state.proofs.WriteLaws.{stands-written}
 use Rattle.brcb_state.proofs.laws.blocks_stand.Goals as goal
 

@@ -1,3 +1,4 @@
+-- why `laws::a_text_is_a_configuration_or_refused_once` answers as its contract says
 use Rattle.cfg_laws.proofs.TextLaws.{once, not-both, either}
 use Rattle.cfg_laws.proofs.laws.a_text_is_a_configuration_or_refused_once.Goals as goal
 

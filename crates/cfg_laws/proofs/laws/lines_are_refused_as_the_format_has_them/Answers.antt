@@ -1,3 +1,4 @@
+-- why `laws::lines_are_refused_as_the_format_has_them` answers as its contract says
 use Rattle.cfg_laws.proofs.LineLaws.{line-refused}
 use Rattle.cfg_laws.proofs.TextLaws.{line-or, line-not-both}
 use Rattle.cfg_laws.proofs.laws.lines_are_refused_as_the_format_has_them.Goals as goal

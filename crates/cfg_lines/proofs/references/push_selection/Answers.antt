@@ -1,3 +1,4 @@
+-- why `references::push_selection` answers as its contract says
 use Rattle.std.proofs.Common.{◌++◌, ◌∷◌, [], map, ap, ◌∙◌, append_assoc}
 use Rattle.sv_base.specs.declared.parameters.CtlParameter.TheVariants.{SboTimeout, SboClass}
 use Rattle.sv_base.specs.Parameters.{parameter_name}

@@ -1,3 +1,4 @@
+-- why `asked::asked_of` answers as its contract says
 use Rattle.std.proofs.Common.{sym, ap, ap₂, ◌∙◌}
 use Rattle.cfg_nodes.specs.Asked.{asked, with_asked}
 use Rattle.cfg_nodes.proofs.NodeLaws.{reversed-more}

@@ -1,3 +1,4 @@
+-- what the loops of `asked::asked_of` keep
 use Rattle.std.proofs.Common.{◌≡◌, take, reverse}
 use Rattle.cfg_nodes.specs.Asked.{asked}
 use Rattle.cfg_nodes.proofs.asked.asked_of.Given as goal

@@ -1,3 +1,4 @@
+-- what the loops of `asked::head_len` keep
 use Rattle.std.proofs.Common.{◌≡◌, ◌<◌, ℕ, false, get_or, ◌==◌}
 use Rattle.cfg_nodes.proofs.asked.head_len.Given as goal
 

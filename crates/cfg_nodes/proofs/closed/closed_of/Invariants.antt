@@ -1,3 +1,4 @@
+-- what the loops of `closed::closed_of` keep
 use Rattle.std.proofs.Common.{◌≡◌, take, reverse}
 use Rattle.cfg_lines.specs.Nodes.{closed}
 use Rattle.cfg_nodes.proofs.closed.closed_of.Given as goal

@@ -1,3 +1,4 @@
+-- what the loops of `closed::push_components` keep
 use Rattle.std.proofs.Common.{◌≡◌, ◌++◌, map, take}
 use Rattle.sv_base.specs.ComponentTable.{comp_name}
 use Rattle.cfg_lines.specs.Nodes.{all_below}

@@ -1,3 +1,4 @@
+-- why `closed::push_operations` answers as its contract says
 use Rattle.std.proofs.Common.{◌≡◌, subst}
 use Rattle.std.specs.Prelude.{OnOk}
 use Rattle.cfg_nodes.proofs.NodeLaws.{direct_operations, enhanced_operations, plain_operations}

@@ -1,3 +1,4 @@
+-- why `closed::push_selection` answers as its contract says
 use Rattle.std.proofs.Common.{◌++◌, map, ap, ◌∙◌, append_assoc}
 use Rattle.sv_base.specs.declared.ctl_services.CtlService.TheVariants as services
 use Rattle.sv_base.specs.CtlServices.{service_name}

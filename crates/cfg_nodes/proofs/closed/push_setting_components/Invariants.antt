@@ -1,3 +1,4 @@
+-- what the loops of `closed::push_setting_components` keep
 use Rattle.std.proofs.Common.{◌≡◌, ◌++◌, map, take}
 use Rattle.sv_base.specs.ComponentTable.{setting_comp_name}
 use Rattle.cfg_lines.specs.Nodes.{all_below}

@@ -1,3 +1,4 @@
+-- why `leaves::leaves_of` answers as its contract says
 use Rattle.std.proofs.Common.{◌++◌, sym, ap₂, ◌∙◌}
 use Rattle.cfg_lines.specs.Nodes.{leaves_by}
 use Rattle.cfg_nodes.specs.Asked.{wanted}

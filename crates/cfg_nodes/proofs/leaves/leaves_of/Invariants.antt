@@ -1,3 +1,4 @@
+-- what the loops of `leaves::leaves_of` keep
 use Rattle.std.proofs.Common.{◌≡◌, take, reverse}
 use Rattle.cfg_lines.specs.Nodes.{leaves}
 use Rattle.cfg_nodes.specs.Asked.{wanted, IsRight}

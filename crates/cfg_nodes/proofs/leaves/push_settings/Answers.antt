@@ -1,3 +1,4 @@
+-- why `leaves::push_settings` answers as its contract says
 use Rattle.std.proofs.Common.{◌≡◌, subst}
 use Rattle.std.specs.Prelude.{OnOk}
 use Rattle.cfg_nodes.proofs.AskedLaws.{direct_settings, enhanced_settings, plain_settings}

@@ -1,3 +1,4 @@
+-- what the loops of `nodes::above_of` keep
 use Rattle.std.proofs.Common.{◌≡◌, ℕ, List, take}
 use Rattle.cfg_lines.specs.Keys.{is_among}
 use Rattle.cfg_lines.specs.Nodes.{reaches}

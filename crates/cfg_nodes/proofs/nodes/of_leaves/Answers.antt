@@ -1,3 +1,4 @@
+-- why `nodes::of_leaves` answers as its contract says
 use Rattle.std.proofs.Common.{◌<◌, ◌||◌, [], ◌∷◌, ◌++◌, length, map, take, get_or, sym, ap, ap₂, ◌∙◌, arith}
 use Rattle.std.proofs.lemmas.List.{take_more, length-map}
 use Rattle.std.proofs.lemmas.List.Sums.{fold_more}

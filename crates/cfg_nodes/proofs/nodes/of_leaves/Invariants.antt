@@ -1,3 +1,4 @@
+-- what the loops of `nodes::of_leaves` keep
 use Rattle.std.proofs.Common.{◌≡◌, ℕ, List, length, map, take}
 use Rattle.std.specs.List.{list_any}
 use Rattle.cfg_lines.specs.Keys.{is_among}

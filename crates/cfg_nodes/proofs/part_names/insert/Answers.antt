@@ -1,3 +1,4 @@
+-- why `part_names::insert` answers as its contract says
 use Rattle.std.proofs.Common.{◌∙◌, ap}
 use Rattle.text_words.specs.Words.{texts}
 use Rattle.cfg_nodes.proofs.PartNameLaws.{texts-inserted}

@@ -1,3 +1,4 @@
+-- why `judging::has_empty` answers as its contract says
 use Rattle.std.proofs.Common.{List, ℕ, length, rules, tests, sym, ◌∙◌}
 use Rattle.std.specs.Prelude.{◌==◌}
 use Rattle.std.specs.Borrow.{Bor}

@@ -1,3 +1,4 @@
+-- why `judging::has_long_of_server` answers as its contract says
 use Rattle.std.proofs.Common.{List, ℕ, length, rules, tests, sym, ◌∙◌}
 use Rattle.std.specs.Prelude.{nat_lt}
 use Rattle.std.specs.Borrow.{Bor}

@@ -1,3 +1,4 @@
+-- why `lines::read_lines` answers as its contract says
 use Rattle.std.proofs.Common.{sym, ◌∙◌, subst}
 use Rattle.cfg_parser.specs.Reader.{GivesText}
 use Rattle.cfg_parser.specs.Text.{pieces, told_at, lines_at}

@@ -1,3 +1,4 @@
+-- what the loops of `lines::read_lines` keep, and why they end
 use Rattle.std.proofs.Common.{◌≡◌, [], length}
 use Rattle.cfg_parser.specs.Text.{pieces, told_at}
 use Rattle.cfg_parser.proofs.lines.read_lines.Given as goal

@@ -1,3 +1,4 @@
+-- why `looking::look_among` answers as its contract says
 use Rattle.std.proofs.Common.{◌+◌, sym, ap₂, subst, ◌∙◌}
 use Rattle.cfg_nodes.specs.Asked.{asked, is_asked}
 use Rattle.cfg_nodes.proofs.AskedLaws.{asked-at}

@@ -1,3 +1,4 @@
+-- what the loops of `looking::look_among` keep
 use Rattle.std.proofs.Common.{◌≡◌, take, reverse}
 use Rattle.std.specs.Prelude.{Ok}
 use Rattle.cfg_parser.specs.Looking.{looked_at}

@@ -1,3 +1,4 @@
+-- why `looking::read_config` answers as its contract says
 use Rattle.cfg_parser.specs.Looking.{config_at}
 use Rattle.cfg_parser.proofs.LookLaws.{passed-on, lines-refused, look-refused, config-read}
 use Rattle.cfg_parser.proofs.looking.read_config.Goals as goal

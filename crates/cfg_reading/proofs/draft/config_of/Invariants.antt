@@ -1,3 +1,4 @@
+-- what the loops of `draft::config_of` keep
 use Rattle.std.proofs.Common.{◌≡◌}
 use Rattle.std.specs.Vec.Iter.{into_iter_items}
 use Rattle.cfg_lines.specs.Configs.{config_on, no_config}

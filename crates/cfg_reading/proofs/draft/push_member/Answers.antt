@@ -1,3 +1,4 @@
+-- why `draft::push_member` answers as its contract says
 use Rattle.std.proofs.Common.{◌∷◌, [], ◌++◌, List, ℕ, sym, ap, ◌∙◌}
 use Rattle.sv_base.specs.declared.config.SetDef.{SetDef}
 use Rattle.cfg_lines.specs.Configs.{with_member}

@@ -1,3 +1,4 @@
+-- why `laws::lines_are_read_as_the_format_has_them` answers as its contract says
 use Rattle.cfg_text.proofs.SpelledLineLaws.{line-read}
 use Rattle.cfg_text.proofs.ReadLineLaws.{line-told}
 use Rattle.cfg_text.proofs.WholeLaws.{has-name}

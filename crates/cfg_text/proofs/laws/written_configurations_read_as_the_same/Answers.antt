@@ -1,3 +1,4 @@
+-- why `laws::written_configurations_read_as_the_same` answers as its contract says
 use Rattle.cfg_text.proofs.RewriteLaws.{rewritten, shortest}
 use Rattle.cfg_text.proofs.laws.written_configurations_read_as_the_same.Goals as goal
 

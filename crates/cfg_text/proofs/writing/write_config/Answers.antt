@@ -1,3 +1,4 @@
+-- why `writing::write_config` answers as its contract says
 use Rattle.std.proofs.Common.{sym, subst}
 use Rattle.cfg_text.specs.Numbered.{ReadsAs}
 use Rattle.cfg_text.proofs.RewriteLaws.{rewritten}

@@ -1,3 +1,4 @@
+-- why `spelling::push_contents` answers as its contract says
 use Rattle.std.proofs.Common.{rules}
 use Rattle.sv_base.specs.Same.{values_of}
 use Rattle.text_words.specs.Spelled.{type_word, flags_word}

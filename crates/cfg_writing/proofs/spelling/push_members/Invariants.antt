@@ -1,3 +1,4 @@
+-- what the loops of `spelling::push_members` keep
 use Rattle.std.proofs.Common.{◌≡◌, ◌++◌, take, map}
 use Rattle.cfg_lines.specs.declared.line.Line.TheVariants.{Member}
 use Rattle.cfg_writing.specs.Written.{text_of}

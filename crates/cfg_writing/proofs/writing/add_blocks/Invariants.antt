@@ -1,3 +1,4 @@
+-- what the loops of `writing::add_blocks` keep
 use Rattle.std.proofs.Common.{◌≡◌, ◌++◌, take, map}
 use Rattle.cfg_lines.specs.declared.line.Line.TheVariants.{Brcb}
 use Rattle.cfg_writing.specs.Objects.{line_of}

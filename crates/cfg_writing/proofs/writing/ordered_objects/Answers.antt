@@ -1,3 +1,4 @@
+-- why `writing::ordered_objects` answers as its contract says
 use Rattle.std.proofs.Common.{rules, ap, ◌∙◌}
 use Rattle.std.proofs.lemmas.List.Sorted.{answers_always}
 use Rattle.cfg_writing.specs.Written.{in_order}

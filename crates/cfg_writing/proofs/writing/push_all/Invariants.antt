@@ -1,3 +1,4 @@
+-- what the loops of `writing::push_all` keep
 use Rattle.std.proofs.Common.{◌≡◌, ◌++◌, [], drop, map}
 use Rattle.cfg_writing.specs.Objects.{line_of}
 use Rattle.cfg_writing.specs.Written.{text_of, with_domains}

@@ -1,3 +1,4 @@
+-- why `words::is_word` answers as its contract says
 use Rattle.std.proofs.Common.{arith}
 use Rattle.command_line.proofs.OneWord.{is_word}
 use Rattle.command_line.proofs.words.is_word.Goals as goal

@@ -1,3 +1,4 @@
+-- what the loops of `words::words_of` keep
 use Rattle.std.proofs.Common.{◌≡◌, ◌++◌}
 use Rattle.command_line.proofs.words.words_of.Given as goal
 

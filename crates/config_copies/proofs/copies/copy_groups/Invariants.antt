@@ -1,3 +1,4 @@
+-- what the loops of `copies::copy_groups` keep
 use Rattle.std.proofs.Common.{◌≡◌, take}
 use Rattle.config_copies.proofs.copies.copy_groups.Given as goal
 

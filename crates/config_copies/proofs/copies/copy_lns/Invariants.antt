@@ -1,3 +1,4 @@
+-- what the loops of `copies::copy_lns` keep
 use Rattle.std.proofs.Common.{◌≡◌, take}
 use Rattle.config_copies.proofs.copies.copy_lns.Given as goal
 

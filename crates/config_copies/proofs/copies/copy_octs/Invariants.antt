@@ -1,3 +1,4 @@
+-- what the loops of `copies::copy_octs` keep
 use Rattle.std.proofs.Common.{◌≡◌, take}
 use Rattle.config_copies.proofs.copies.copy_octs.Given as goal
 

@@ -1,3 +1,4 @@
+-- what the loops of `copies::copy_sets` keep
 use Rattle.std.proofs.Common.{◌≡◌, take}
 use Rattle.config_copies.proofs.copies.copy_sets.Given as goal
 

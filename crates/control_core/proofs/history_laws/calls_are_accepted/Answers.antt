@@ -1,3 +1,4 @@
+-- why `history_laws::calls_are_accepted` answers as its contract says
 use Rattle.control_core.proofs.CallLaws.{calls_are_accepted, calls_are_askers, steps_call_nothing}
 use Rattle.control_core.proofs.history_laws.calls_are_accepted.Goals as goal
 

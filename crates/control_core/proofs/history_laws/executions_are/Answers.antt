@@ -1,3 +1,4 @@
+-- why `history_laws::executions_are` answers as its contract says
 use Rattle.control_core.proofs.ExecutedLaws.{executions_are, terminations_are, other_dones, tests_follow}
 use Rattle.control_core.proofs.history_laws.executions_are.Goals as goal
 

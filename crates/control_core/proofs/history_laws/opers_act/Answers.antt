@@ -1,3 +1,4 @@
+-- why `history_laws::opers_act` answers as its contract says
 use Rattle.control_core.proofs.CallLaws.{opers_act, acts_are_opers}
 use Rattle.control_core.proofs.history_laws.opers_act.Goals as goal
 

@@ -1,3 +1,4 @@
+-- why `history_laws::selections_are` answers as its contract says
 use Rattle.control_core.proofs.SelectedLaws.{selections_are}
 use Rattle.control_core.proofs.history_laws.selections_are.Goals as goal
 

@@ -1,3 +1,4 @@
+-- why `history_laws::terminations_wait` answers as its contract says
 use Rattle.control_core.proofs.TurnLaws.{terminations_wait, running_are_open, tests_are_new}
 use Rattle.control_core.proofs.history_laws.terminations_wait.Goals as goal
 

@@ -1,3 +1,4 @@
+-- why `laws::calls_are_judged` answers as its contract says
 use Rattle.control_core.proofs.StandLaws.{comes-to_one}
 use Rattle.control_core.proofs.laws.calls_are_judged.Goals as goal
 

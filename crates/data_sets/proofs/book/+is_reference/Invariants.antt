@@ -1,3 +1,4 @@
+-- why `book::is_reference` ends
 use Rattle.std.proofs.Common.{length}
 use Rattle.data_sets.proofs.book.+is_reference.Given as goal
 

@@ -1,3 +1,4 @@
+-- what the loops of `book::are_members` keep
 use Rattle.std.proofs.Common.{◌≡◌, drop}
 use Rattle.std.specs.List.{list_all}
 use Rattle.data_sets.specs.Books.{is_member}

@@ -1,3 +1,4 @@
+-- what the loops of `book::items_of` keep
 use Rattle.std.proofs.Common.{◌≡◌, take, map}
 use Rattle.data_sets.specs.Books.{seen, items_in}
 use Rattle.data_sets.proofs.book.items_of.Given as goal

@@ -1,3 +1,4 @@
+-- what the loops of `book::largest_of` keep
 use Rattle.std.proofs.Common.{◌≡◌, map, max, drop}
 use Rattle.data_sets.specs.Books.{largest_in, seen}
 use Rattle.data_sets.proofs.book.largest_of.Given as goal

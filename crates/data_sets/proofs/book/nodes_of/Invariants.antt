@@ -1,3 +1,4 @@
+-- what the loops of `book::nodes_of` keep
 use Rattle.std.proofs.Common.{◌≡◌, take, map}
 use Rattle.data_sets.specs.Books.{node_in}
 use Rattle.data_sets.proofs.book.nodes_of.Given as goal

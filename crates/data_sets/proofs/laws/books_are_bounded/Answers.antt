@@ -1,3 +1,4 @@
+-- why `laws::books_are_bounded` answers as its contract says
 use Rattle.data_sets.proofs.RoomLaws.{bounded_opened, bounded_define, bounded_delete, bounded_hold, bounded_release}
 use Rattle.data_sets.proofs.laws.books_are_bounded.Goals as goal
 

@@ -1,3 +1,4 @@
+-- why `laws::books_stand` answers as its contract says
 use Rattle.data_sets.proofs.HistoryLaws.{book_defines, book_names, book_empties}
 use Rattle.data_sets.proofs.QuietLaws.{book_quiet}
 use Rattle.data_sets.proofs.laws.books_stand.Goals as goal

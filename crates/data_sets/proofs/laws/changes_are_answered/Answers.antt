@@ -1,3 +1,4 @@
+-- why `laws::changes_are_answered` answers as its contract says
 use Rattle.std.proofs.Common.{refl}
 use Rattle.bay_model.specs.Sets.{sets, dynamic}
 use Rattle.data_sets.proofs.DeleteLaws.{errors, goes, book_deletes}

@@ -1,3 +1,4 @@
+-- why `laws::holds_are_uses` answers as its contract says
 use Rattle.data_sets.proofs.RoomLaws.{in_use, holds_few}
 use Rattle.data_sets.proofs.laws.holds_are_uses.Goals as goal
 

@@ -1,3 +1,4 @@
+-- why `laws::opened_books_stand` answers as its contract says
 use Rattle.data_sets.proofs.OpenLaws.{opens}
 use Rattle.data_sets.proofs.laws.opened_books_stand.Goals as goal
 

@@ -1,3 +1,4 @@
+-- why `laws::sets_are_found` answers as its contract says
 use Rattle.std.proofs.Common.{refl, ap, ◌∙◌, List, map, filter}
 use Rattle.std.specs.Str.{bytes_eq}
 use Rattle.std.specs.List.{find}

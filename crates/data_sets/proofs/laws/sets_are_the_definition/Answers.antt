@@ -1,3 +1,4 @@
+-- why `laws::sets_are_the_definition` answers as its contract says
 use Rattle.data_sets.proofs.BookLaws.{defines, deletes, holds_more, holds_less}
 use Rattle.data_sets.proofs.laws.sets_are_the_definition.Goals as goal
 

@@ -1,3 +1,4 @@
+-- why `laws::retained_entries_are_held` answers as its contract says
 use Rattle.bay_model.specs.Singles.{arrival}
 use Rattle.entry_ring.proofs.HoldLaws.{holds-opened, holds-point, holds-deed, holds-again}
 use Rattle.entry_ring.proofs.laws.retained_entries_are_held.Goals as goal

@@ -1,3 +1,4 @@
+-- what the loops of `ring::make_room` keep, and why they end
 use Rattle.std.proofs.Common.{◌≡◌, length, drop}
 use Rattle.entry_ring.specs.Fitting.{least_for}
 use Rattle.entry_ring.proofs.ring.make_room.Given as goal

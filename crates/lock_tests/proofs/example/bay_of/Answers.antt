@@ -1,3 +1,4 @@
+-- why `example::bay_of` answers as its contract says
 use Rattle.std.proofs.Common.{subst, sym}
 use Rattle.bay_config.specs.Servable.{IsServable}
 use Rattle.lock_tests.proofs.Serving.{served, settable}

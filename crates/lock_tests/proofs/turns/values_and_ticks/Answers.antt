@@ -1,3 +1,4 @@
+-- why `turns::values_and_ticks` answers as its contract says
 use denote.Exit.{no}
 use denote.Param.Send.{param_send, arg_send, sendable}
 use Rattle.std.proofs.Crossing.{crosses}

@@ -1,3 +1,4 @@
+-- what the loops of `turns::worked` keep
 use Rattle.std.proofs.Common.{◌≡◌}
 use Rattle.lock_tests.proofs.turns.worked.Given as goal
 

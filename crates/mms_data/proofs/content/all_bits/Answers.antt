@@ -1,3 +1,4 @@
+-- why `content::all_bits` answers as its contract says
 use Rattle.mms_data.proofs.ContentLaws.{one_bit_more, no_bit_more}
 use Rattle.mms_data.proofs.content.all_bits.Goals as goal
 

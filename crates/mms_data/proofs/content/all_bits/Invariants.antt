@@ -1,3 +1,4 @@
+-- what the loops of `content::all_bits` keep, and why they end
 use Rattle.std.proofs.Common.{◌≡◌, ◌≤◌, ◌-◌, take, length}
 use Rattle.mms_data.proofs.content.all_bits.Given as goal
 

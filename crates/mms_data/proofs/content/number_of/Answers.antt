@@ -1,3 +1,4 @@
+-- why `content::number_of` answers as its contract says
 use Rattle.std.proofs.Common.{◌≤◌, ◌^◌, arith}
 use Rattle.std.proofs.Math.Nat.{pow-le-pow_right}
 use Rattle.mms_data.proofs.content.number_of.Goals as goal

@@ -1,3 +1,4 @@
+-- what the loops of `content::number_of` keep
 use Rattle.std.proofs.Common.{◌≡◌, ◌<◌, ◌^◌, take}
 use Rattle.ber_grammar.specs.Octets.{big_endian}
 use Rattle.mms_data.proofs.content.number_of.Given as goal

@@ -1,3 +1,4 @@
+-- why `data_view::check` answers as its contract says
 use Rattle.std.proofs.Common.{sym, ap, ◌∙◌, arith}
 use Rattle.std.proofs.Math.Nat.{pos_of_ne-zero}
 use Rattle.std.proofs.lemmas.Bool.{ne_eqb}

@@ -1,3 +1,4 @@
+-- what the loops of `data_view::check` keep, and why they end
 use Rattle.std.proofs.Common.{◌≡◌, ◌+◌, ◌*◌, length}
 use Rattle.ber_grammar.specs.Rows.{row_at}
 use Rattle.mms_data.specs.Reading.{malformed, data_at}

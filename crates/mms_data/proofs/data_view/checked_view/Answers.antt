@@ -1,3 +1,4 @@
+-- why `data_view::checked_view` answers as its contract says
 use Rattle.ber_view.specs.View.{spot}
 use Rattle.mms_data.proofs.ViewLaws.{viewed, not_viewed}
 use Rattle.mms_data.proofs.data_view.checked_view.Goals as goal

@@ -1,3 +1,4 @@
+-- why `data_view::view_data` answers as its contract says
 use Rattle.ber_view.specs.View.{spot}
 use Rattle.mms_data.proofs.ViewLaws.{view_reads}
 use Rattle.mms_data.proofs.data_view.view_data.Goals as goal

@@ -1,3 +1,4 @@
+-- why `laws::data_is_read_back` answers as its contract says
 use Rattle.sv_base.specs.Seen.{seen_of}
 use Rattle.mms_data.proofs.ReadBackLaws as laws
 use Rattle.mms_data.proofs.laws.data_is_read_back.Goals as goal

@@ -1,3 +1,4 @@
+-- why `laws::short_ones_fit` answers as its contract says
 use Rattle.sv_base.specs.Seen.{seen_of}
 use Rattle.sv_base.specs.Fields.{shape_of}
 use Rattle.mms_data.proofs.FitLaws.{seen_fits, shape_fits}

@@ -1,3 +1,4 @@
+-- why `reading::data` answers as its contract says
 use Rattle.std.proofs.Common.{arith}
 use Rattle.std.proofs.Math.Nat.{pos_of_ne-zero}
 use Rattle.std.proofs.lemmas.Bool.{ne_eqb}

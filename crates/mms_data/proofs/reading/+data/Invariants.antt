@@ -1,3 +1,4 @@
+-- what the loops of `reading::data` keep, and why they end
 use Rattle.std.proofs.Common.{map, length, ◌+◌, ◌*◌}
 use Rattle.ber_grammar.proofs.RowLaws.{Goes}
 use Rattle.sv_base.specs.Seen.{seen_of}

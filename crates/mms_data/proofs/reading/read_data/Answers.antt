@@ -1,3 +1,4 @@
+-- why `reading::read_data` answers as its contract says
 use Rattle.std.proofs.Common.{arith}
 use Rattle.ber_grammar.proofs.ReaderLaws.{reads_or_memory_from}
 use Rattle.sv_base.specs.Seen.{seen_of}

@@ -1,3 +1,4 @@
+-- what the loops of `type_writing::len` keep
 use Rattle.std.proofs.Common.{◌≡◌, length, take, min}
 use Rattle.mms_data.specs.TypeOctets.{parts_octets}
 use Rattle.mms_data.proofs.type_writing.+len.Given as goal

@@ -1,3 +1,4 @@
+-- why `type_writing::put` answers as its contract says
 use Rattle.std.proofs.Common.{◌≡◌, length, take, ap, arith}
 use Rattle.std.proofs.lemmas.Result.{on_err_weaker, err_from_is_err_and}
 use Rattle.sv_base.specs.declared.types.Parts.TheDeep.{size-TypeOf}

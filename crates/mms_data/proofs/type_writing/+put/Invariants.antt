@@ -1,3 +1,4 @@
+-- what the loops of `type_writing::put` keep
 use Rattle.std.proofs.Common.{◌≡◌, ◌++◌, take}
 use Rattle.mms_data.specs.TypeOctets.{parts_octets}
 use Rattle.mms_data.proofs.type_writing.+put.Given as goal

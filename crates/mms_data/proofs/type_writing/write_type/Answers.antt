@@ -1,3 +1,4 @@
+-- why `type_writing::write_type` answers as its contract says
 use Rattle.std.proofs.Common.{arith}
 use Rattle.sv_base.specs.Fields.{shape_of}
 use Rattle.mms_data.proofs.FitLaws.{shape_fits}

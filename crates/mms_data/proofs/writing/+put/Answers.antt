@@ -1,3 +1,4 @@
+-- why `writing::put` answers as its contract says
 use Rattle.std.proofs.Common.{◌≡◌, length, take, ap, arith}
 use Rattle.std.proofs.lemmas.Result.{on_err_weaker, err_from_is_err_and}
 use Rattle.sv_base.specs.declared.value.Values.TheDeep.{size-Value}

@@ -1,3 +1,4 @@
+-- what the loops of `writing::put` keep
 use Rattle.std.proofs.Common.{◌≡◌, ◌++◌, take}
 use Rattle.sv_base.specs.Seen.{row_of}
 use Rattle.sv_base.specs.Data.{data_row}

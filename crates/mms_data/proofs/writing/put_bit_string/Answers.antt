@@ -1,3 +1,4 @@
+-- why `writing::put_bit_string` answers as its contract says
 use Rattle.mms_data.proofs.MinimalLaws.{bits_written, in_other_words}
 use Rattle.mms_data.proofs.writing.put_bit_string.Goals as goal
 

@@ -1,3 +1,4 @@
+-- why `writing::put_integer` answers as its contract says
 use Rattle.std.proofs.Common.{w64}
 use Rattle.std.proofs.lemmas.Int.{to_z-of_z}
 use Rattle.mms_data.proofs.MinimalLaws.{int_written, in_other_words}

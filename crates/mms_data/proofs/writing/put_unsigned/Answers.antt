@@ -1,3 +1,4 @@
+-- why `writing::put_unsigned` answers as its contract says
 use Rattle.mms_data.proofs.MinimalLaws.{uint_written, in_other_words}
 use Rattle.mms_data.proofs.writing.put_unsigned.Goals as goal
 

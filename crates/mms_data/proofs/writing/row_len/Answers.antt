@@ -1,3 +1,4 @@
+-- why `writing::row_len` answers as its contract says
 use Rattle.std.proofs.Common.{arith}
 use Rattle.sv_base.proofs.LengthLaws.{length-data_row-more}
 use Rattle.mms_data.proofs.writing.row_len.Goals as goal

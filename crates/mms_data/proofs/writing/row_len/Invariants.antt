@@ -1,3 +1,4 @@
+-- what the loops of `writing::row_len` keep
 use Rattle.std.proofs.Common.{◌≡◌, length, take, min}
 use Rattle.sv_base.specs.Data.{data_row}
 use Rattle.sv_base.specs.Seen.{row_of}

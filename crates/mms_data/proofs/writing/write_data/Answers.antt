@@ -1,3 +1,4 @@
+-- why `writing::write_data` answers as its contract says
 use Rattle.std.proofs.Common.{arith}
 use Rattle.sv_base.specs.Seen.{seen_of}
 use Rattle.mms_data.proofs.FitLaws.{seen_fits}

@@ -1,3 +1,4 @@
+-- what the loops of `access::are_as_many` keep, and why they end
 use Rattle.std.proofs.Common.{◌≡◌, eqb, length}
 use Rattle.mms_pdu.proofs.access.are_as_many.Given as goal
 

@@ -1,3 +1,4 @@
+-- why `initiate::read_initiate` answers as its contract says
 use Rattle.std.proofs.Common.{arith}
 use Rattle.mms_pdu.proofs.InitiateLaws.{initiate_reads}
 use Rattle.mms_pdu.proofs.initiate.read_initiate.Goals as goal

@@ -1,3 +1,4 @@
+-- why `initiate::read_initiate_answer` answers as its contract says
 use Rattle.std.proofs.Common.{arith}
 use Rattle.mms_pdu.proofs.InitiateLaws.{initiate_reads}
 use Rattle.mms_pdu.proofs.initiate.read_initiate_answer.Goals as goal

@@ -1,3 +1,4 @@
+-- why `initiate_writing::write_initiate_answer` answers as its contract says
 use Rattle.std.proofs.Common.{◌≡◌, IfOk, subst}
 use Rattle.ber_write.specs.Minimal.{octets_of}
 use Rattle.mms_pdu.specs.declared.initiate.Initiate.{Initiate}

@@ -1,3 +1,4 @@
+-- why `laws::each_initiate_says_one_thing` answers as its contract says
 use Rattle.mms_pdu.proofs.InitiateLaws.{initiate_answered, initiate_unique, initiate_one_cause, initiate_not_both}
 use Rattle.mms_pdu.proofs.laws.each_initiate_says_one_thing.Goals as goal
 

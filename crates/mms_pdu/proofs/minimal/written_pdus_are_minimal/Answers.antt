@@ -1,3 +1,4 @@
+-- why `minimal::written_pdus_are_minimal` answers as its contract says
 use Rattle.mms_pdu.proofs.MinimalLaws.{initiate_request_minimal, initiate_answer_minimal, read_minimal, write_minimal, conclude_minimal, answer_minimal, error_minimal, reject_minimal, report_minimal, concluded_minimal}
 use Rattle.mms_pdu.proofs.minimal.written_pdus_are_minimal.Goals as goal
 

@@ -1,3 +1,4 @@
+-- why `read_back::each_input_is_one_reply` answers as its contract says
 use Rattle.mms_pdu.proofs.ReplyAgainLaws as laws
 use Rattle.mms_pdu.proofs.read_back.each_input_is_one_reply.Goals as goal
 

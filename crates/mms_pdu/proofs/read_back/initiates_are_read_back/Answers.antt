@@ -1,3 +1,4 @@
+-- why `read_back::initiates_are_read_back` answers as its contract says
 use Rattle.mms_pdu.proofs.InitiateOctetsLaws as laws
 use Rattle.mms_pdu.proofs.InitiateLaws.{one_initiate}
 use Rattle.mms_pdu.proofs.read_back.initiates_are_read_back.Goals as goal

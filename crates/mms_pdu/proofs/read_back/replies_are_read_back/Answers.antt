@@ -1,3 +1,4 @@
+-- why `read_back::replies_are_read_back` answers as its contract says
 use Rattle.mms_pdu.proofs.ReplyOctetsLaws as laws
 use Rattle.mms_pdu.proofs.read_back.replies_are_read_back.Goals as goal
 

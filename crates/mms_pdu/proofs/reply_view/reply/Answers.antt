@@ -1,3 +1,4 @@
+-- why `reply_view::reply` answers as its contract says
 use Rattle.std.proofs.Common.{arith}
 use Rattle.ber_grammar.specs.Place.{piece}
 use Rattle.mms_pdu.specs.ReplyView.{reply_of}

@@ -1,3 +1,4 @@
+-- why `variable_lists::no_names` answers as its contract says
 use Rattle.std.proofs.Common.{refl, sym, ◌∙◌}
 use Rattle.ber_grammar.proofs.OptionLaws.{some_is}
 use Rattle.mms_pdu.specs.ObjectName.{name_at}

@@ -1,3 +1,4 @@
+-- why `laws::members_are_those_of_the_model` answers as its contract says
 use Rattle.name_trees.proofs.AllowedLaws.{members-agree}
 use Rattle.name_trees.proofs.laws.members_are_those_of_the_model.Goals as goal
 

@@ -1,3 +1,4 @@
+-- why `laws::nodes_are_those_of_the_model` answers as its contract says
 use Rattle.name_trees.proofs.NodeLaws.{nodes-agree}
 use Rattle.name_trees.proofs.laws.nodes_are_those_of_the_model.Goals as goal
 

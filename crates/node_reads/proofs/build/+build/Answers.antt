@@ -1,3 +1,4 @@
+-- why `build::build` answers as its contract says
 use Rattle.std.proofs.Common.{◌≡◌, ◌∙◌, ◌+◌, suc, ap, ap₂, sym, arith, take, drop}
 use Rattle.std.proofs.lemmas.List.{drop-drop}
 use Rattle.sv_base.specs.Seen.{row_of}

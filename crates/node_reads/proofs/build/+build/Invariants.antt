@@ -1,3 +1,4 @@
+-- what the loops of `build::build` keep
 use Rattle.std.proofs.Common.{◌≡◌, take, drop}
 use Rattle.sv_base.specs.Fields.{fields_of}
 use Rattle.sv_base.specs.Seen.{row_of}

@@ -1,3 +1,4 @@
+-- why `laws::reads_are_of_leaves` answers as its contract says
 use Rattle.node_reads.proofs.ReadLaws.{of-leaves}
 use Rattle.node_reads.proofs.laws.reads_are_of_leaves.Goals as goal
 

@@ -1,3 +1,4 @@
+-- why `read::gather` answers as its contract says
 use Rattle.std.proofs.Common.{arith}
 use Rattle.node_reads.specs.Reading.{leaf_at}
 use Rattle.node_reads.proofs.ReadLaws.{gather-all}

@@ -1,3 +1,4 @@
+-- what the loops of `read::gather` keep
 use Rattle.std.proofs.Common.{◌≡◌, drop, Ok}
 use Rattle.node_reads.specs.Reading.{leaf_at}
 use Rattle.node_reads.proofs.ReadLaws.{both, gathered}

@@ -1,3 +1,4 @@
+-- why `read::read_node` answers as its contract says
 use Rattle.std.proofs.Common.{◌≡◌, IfOk, subst}
 use Rattle.bay_model.specs.Lookups.{node_of}
 use Rattle.bay_model.specs.Named.{configured_model}

@@ -1,3 +1,4 @@
+-- what the loops of `attrs::attrs_of` keep
 use Rattle.std.proofs.Common.{◌≡◌, take}
 use Rattle.object_model.specs.Attrs.{attrs_in_spots}
 use Rattle.object_model.proofs.attrs.attrs_of.Given as goal

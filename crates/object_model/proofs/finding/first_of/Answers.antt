@@ -1,3 +1,4 @@
+-- why `finding::first_of` answers as its contract says
 use Rattle.std.proofs.Common.{◌≡◌, ◌∙◌, length, position, sym, ap, ap₂, arith}
 use Rattle.bay_model.specs.Named.{nodes}
 use Rattle.object_model.specs.Finding.{is_cut_below, least}

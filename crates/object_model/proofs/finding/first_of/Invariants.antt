@@ -1,3 +1,4 @@
+-- what the loops of `finding::first_of` keep
 use Rattle.std.proofs.Common.{◌≡◌, position}
 use Rattle.sv_base.specs.declared.config.Config.{Config}
 use Rattle.bay_model.specs.Named.{nodes}

@@ -1,3 +1,4 @@
+-- why `finding::item_at` answers as its contract says
 use Rattle.std.proofs.Common.{◌∙◌, ap, refl}
 use Rattle.name_order.specs.Sorting.{name_at}
 use Rattle.object_model.proofs.ListingLaws.{directory-at}

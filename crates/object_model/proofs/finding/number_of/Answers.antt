@@ -1,3 +1,4 @@
+-- why `finding::number_of` answers as its contract says
 use Rattle.std.proofs.Common.{◌∙◌, ap, sym, refl}
 use Rattle.object_names.specs.Numbers.{number_in}
 use Rattle.object_model.specs.Listed.{IsDirectory}

@@ -1,3 +1,4 @@
+-- what the loops of `fitting::sound` keep
 use Rattle.std.proofs.Common.{◌≡◌, drop}
 use Rattle.sv_base.specs.Seen.{row_of}
 use Rattle.object_model.specs.Fits.{are_sound}

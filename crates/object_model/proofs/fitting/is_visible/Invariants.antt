@@ -1,3 +1,4 @@
+-- what the loops of `fitting::is_visible` keep
 use Rattle.std.proofs.Common.{◌≡◌, drop}
 use Rattle.object_model.specs.Fits.{is_visible}
 use Rattle.object_model.proofs.fitting.is_visible.Given as goal

@@ -1,3 +1,4 @@
+-- what the loops of `fitting::settings_fit` keep
 use Rattle.std.proofs.Common.{◌≡◌, drop}
 use Rattle.std.specs.List.{list_all}
 use Rattle.object_names.specs.Attributes.{types_of}

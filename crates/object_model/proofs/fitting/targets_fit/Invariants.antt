@@ -1,3 +1,4 @@
+-- what the loops of `fitting::targets_fit` keep
 use Rattle.std.proofs.Common.{◌≡◌, drop}
 use Rattle.std.specs.List.{list_all}
 use Rattle.object_model.specs.Fits.{target_fits}

@@ -1,3 +1,4 @@
+-- why `grouping::groups` answers as its contract says
 use Rattle.std.proofs.Common.{◌-◌, length, take, map, ap, sym, ◌∙◌}
 use Rattle.object_names.specs.Numbers.{number_in}
 use Rattle.object_model.specs.Groups.{group_name}

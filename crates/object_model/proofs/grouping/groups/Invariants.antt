@@ -1,3 +1,4 @@
+-- what the loops of `grouping::groups` keep
 use Rattle.std.proofs.Common.{◌≡◌, map, take}
 use Rattle.object_model.specs.Groups.{groups, group_name, PlacesFront}
 use Rattle.object_model.proofs.grouping.groups.Given as goal

@@ -1,3 +1,4 @@
+-- why `grouping::place_last` answers as its contract says
 use Rattle.std.proofs.Common.{◌-◌, length, take, ap, ◌∙◌, arith}
 use Rattle.std.proofs.lemmas.List.{length-take}
 use Rattle.object_model.specs.Groups.{Group}

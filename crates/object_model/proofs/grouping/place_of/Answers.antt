@@ -1,3 +1,4 @@
+-- why `grouping::place_of` answers as its contract says
 use Rattle.std.proofs.Common.{◌-◌, length, Some, ap, sym, ◌∙◌, arith}
 use Rattle.std.proofs.lemmas.List.{length-take}
 use Rattle.std.specs.Str.{bytes_eq}

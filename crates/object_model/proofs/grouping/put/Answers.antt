@@ -1,3 +1,4 @@
+-- why `grouping::put` answers as its contract says
 use Rattle.std.proofs.Common.{◌-◌, ◌∷◌, [], map, take, length, ap, sym, ◌∙◌}
 use Rattle.object_model.specs.Groups.{Group, group_name}
 use Rattle.object_names.specs.Numbers.{number_in}

@@ -1,3 +1,4 @@
+-- what the loops of `growing::name_len` keep
 use Rattle.std.proofs.Common.{◌≡◌, ◌<◌, ℕ, false, get_or, ◌==◌}
 use Rattle.object_model.proofs.growing.name_len.Given as goal
 

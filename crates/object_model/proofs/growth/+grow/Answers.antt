@@ -1,3 +1,4 @@
+-- why `growth::grow` answers as its contract says
 use Rattle.std.proofs.Common.{◌≡◌, ◌++◌, [], ◌-◌, List, ℕ, ap, subst, take, refl, ◌∙◌, sym, map, arith}
 use Rattle.std.proofs.lemmas.Result.{on_ok_weaker}
 use Rattle.bay_model.specs.NameTree.{grown}

@@ -1,3 +1,4 @@
+-- what the loops of `growth::grow` keep, and why they end
 use Rattle.std.proofs.Common.{◌≡◌, ◌+◌, ◌*◌, ◌-◌, ◌++◌, map, take}
 use Rattle.bay_model.specs.NameTree.{nothing}
 use Rattle.bay_model.specs.Places.{places}

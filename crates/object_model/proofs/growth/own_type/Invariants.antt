@@ -1,3 +1,4 @@
+-- what the loops of `growth::own_type` keep
 use Rattle.std.proofs.Common.{◌≡◌, drop}
 use Rattle.bay_model.specs.NameTree.{own_type}
 use Rattle.object_model.proofs.growth.own_type.Given as goal

@@ -1,3 +1,4 @@
+-- what the loops of `growth::what_of` keep
 use Rattle.std.proofs.Common.{◌≡◌, drop}
 use Rattle.bay_model.specs.NameTree.{role_of}
 use Rattle.object_model.proofs.growth.what_of.Given as goal

@@ -1,3 +1,4 @@
+-- why `largest::largest` answers as its contract says
 use Rattle.std.proofs.Common.{ap, arith}
 use Rattle.sv_base.specs.declared.types.Parts.TheDeep.{size-TypeOf}
 use Rattle.sv_base.proofs.SizeLaws.{most-parts-size-lt}

@@ -1,3 +1,4 @@
+-- what the loops of `largest::largest` keep
 use Rattle.std.proofs.Common.{◌≡◌, take, min}
 use Rattle.sv_base.specs.Fields.{fields_of}
 use Rattle.bay_model.specs.Places.{largest_fields}

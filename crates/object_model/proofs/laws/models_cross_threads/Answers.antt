@@ -1,3 +1,4 @@
+-- why `laws::models_cross_threads` answers as its contract says
 use Rattle.object_model.proofs.SendLaws.{model_send}
 use Rattle.object_model.proofs.SyncLaws.{model_sync}
 use Rattle.object_model.proofs.laws.models_cross_threads.Goals as goal

@@ -1,3 +1,4 @@
+-- why `laws::rows_are_the_nodes` answers as its contract says
 use Rattle.object_model.proofs.TableLaws.{count-rows, rows-are-nodes}
 use Rattle.object_model.proofs.laws.rows_are_the_nodes.Goals as goal
 

@@ -1,3 +1,4 @@
+-- why `listing::fit` answers as its contract says
 use Rattle.std.proofs.Common.{ap, length, ◌∙◌}
 use Rattle.object_model.specs.Listed.{IsListed}
 use Rattle.object_model.proofs.listing.fit.Goals as goal

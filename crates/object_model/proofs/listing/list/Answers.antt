@@ -1,3 +1,4 @@
+-- why `listing::list` answers as its contract says
 use Rattle.std.proofs.Common.{ap, subst, length, arith, ◌∙◌}
 use Rattle.object_model.specs.Listed.{IsListed}
 use Rattle.object_model.specs.Runs.{lines_in}

@@ -1,3 +1,4 @@
+-- what the loops of `listing::list` keep
 use Rattle.object_model.specs.Listed.{IsListed}
 use Rattle.object_model.proofs.listing.list.Given as goal
 

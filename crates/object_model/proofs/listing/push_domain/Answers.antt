@@ -1,3 +1,4 @@
+-- why `listing::push_domain` answers as its contract says
 use Rattle.std.proofs.Common.{◌≡◌, List, [], ◌∷◌, ap, ◌∙◌, subst, ◌++◌, map, length}
 use Rattle.bay_model.specs.Places.{Place}
 use Rattle.object_model.specs.Grown.{items_of, spot}

@@ -1,3 +1,4 @@
+-- why `nodes::growth_of` answers as its contract says
 use Rattle.std.proofs.Common.{◌++◌, List, ℕ, map, ap, ap₂, ◌∙◌}
 use Rattle.bay_model.specs.NameTree.{grown}
 use Rattle.bay_model.specs.Places.{places}

@@ -1,3 +1,4 @@
+-- what the loops of `nodes::levels_of` keep
 use Rattle.std.proofs.Common.{◌≡◌, ◌≤◌, suc, max, drop}
 use Rattle.bay_model.specs.NameTree.{longest}
 use Rattle.object_model.proofs.nodes.levels_of.Given as goal

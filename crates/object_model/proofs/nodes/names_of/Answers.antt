@@ -1,3 +1,4 @@
+-- why `nodes::names_of` answers as its contract says
 use Rattle.std.proofs.Common.{subst, sym}
 use Rattle.object_model.specs.Runs.{IsRun}
 use Rattle.object_model.proofs.RunLaws.{run-at, names-more}

@@ -1,3 +1,4 @@
+-- what the loops of `nodes::names_of` keep
 use Rattle.std.proofs.Common.{◌≡◌, take, filter, flat_map}
 use Rattle.std.specs.Str.{bytes_eq}
 use Rattle.bay_model.specs.NamedLines.{Line}

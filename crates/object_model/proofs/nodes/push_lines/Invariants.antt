@@ -1,3 +1,4 @@
+-- what the loops of `nodes::push_lines` keep
 use Rattle.std.proofs.Common.{◌≡◌, ◌++◌, take, flat_map}
 use Rattle.bay_model.specs.NamedLines.{Line}
 use Rattle.object_model.proofs.nodes.push_lines.Given as goal

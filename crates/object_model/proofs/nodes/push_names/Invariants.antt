@@ -1,3 +1,4 @@
+-- what the loops of `nodes::push_names` keep
 use Rattle.std.proofs.Common.{◌≡◌, ◌++◌, take}
 use Rattle.object_model.proofs.nodes.push_names.Given as goal
 

@@ -1,3 +1,4 @@
+-- why `nodes::push_nodes` answers as its contract says
 use Rattle.std.proofs.Common.{ap, ◌∙◌, ◌++◌, ◌∷◌, [], ◌+◌}
 use Rattle.object_model.specs.Attrs.{row_with}
 use Rattle.object_model.proofs.AttrLaws.{rows-next}

@@ -1,3 +1,4 @@
+-- what the loops of `nodes::push_nodes` keep
 use Rattle.std.proofs.Common.{◌≡◌, ◌++◌, length, drop}
 use Rattle.object_model.specs.Nodes.{names_at}
 use Rattle.object_model.specs.Attrs.{rows_with}

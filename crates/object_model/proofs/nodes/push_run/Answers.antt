@@ -1,3 +1,4 @@
+-- why `nodes::push_run` answers as its contract says
 use Rattle.std.proofs.Common.{sym, ◌∙◌}
 use Rattle.object_model.proofs.RunLaws.{run-here, run-elsewhere}
 use Rattle.object_model.proofs.nodes.push_run.Goals as goal

@@ -1,3 +1,4 @@
+-- what the loops of `runs::run_len` keep
 use Rattle.std.proofs.Common.{◌≡◌, ◌<◌, ℕ, true, get_or}
 use Rattle.std.specs.Str.{bytes_eq}
 use Rattle.bay_model.specs.NamedLines.{Line}

@@ -1,3 +1,4 @@
+-- why `runs::runs_of` answers as its contract says
 use Rattle.std.proofs.Common.{◌+◌, refl, sym, ap, subst, arith}
 use Rattle.bay_model.specs.NamedLines.{Line}
 use Rattle.object_model.specs.Runs.{AreRuns}

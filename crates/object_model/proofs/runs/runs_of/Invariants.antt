@@ -1,3 +1,4 @@
+-- what the loops of `runs::runs_of` keep, and why they end
 use Rattle.std.proofs.Common.{◌≡◌, ◌++◌, length}
 use Rattle.object_model.specs.Runs.{AreRuns, lines_in}
 use Rattle.object_model.proofs.runs.runs_of.Given as goal

@@ -1,3 +1,4 @@
+-- why `stands::push_stands` answers as its contract says
 use Rattle.object_model.proofs.StandLaws.{added-none, added-more}
 use Rattle.object_model.proofs.stands.push_stands.Goals as goal
 

@@ -1,3 +1,4 @@
+-- what the loops of `stands::push_stands` keep
 use Rattle.std.proofs.Common.{take}
 use Rattle.object_model.proofs.StandLaws.{AreAdded}
 use Rattle.object_model.proofs.stands.push_stands.Given as goal

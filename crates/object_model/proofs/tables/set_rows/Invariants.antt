@@ -1,3 +1,4 @@
+-- what the loops of `tables::set_rows` keep
 use Rattle.std.proofs.Common.{◌≡◌, map, take}
 use Rattle.sv_base.specs.declared.config.Config.{Config}
 use Rattle.bay_model.specs.Named.{nodes, set_defined}

@@ -1,3 +1,4 @@
+-- what the loops of `attributes::push_generated` keep
 use Rattle.std.proofs.Common.{◌≡◌, ◌++◌, flat_map, take}
 use Rattle.object_names.specs.Attributes.{control_attrs, references_of, rows_of}
 use Rattle.object_names.proofs.attributes.push_generated.Given as goal

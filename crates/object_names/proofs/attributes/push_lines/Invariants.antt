@@ -1,3 +1,4 @@
+-- what the loops of `attributes::push_lines` keep
 use Rattle.std.proofs.Common.{◌≡◌, ◌++◌, map, take}
 use Rattle.object_names.specs.Attributes.{line_attr, references_of, rows_of}
 use Rattle.object_names.proofs.attributes.push_lines.Given as goal

@@ -1,3 +1,4 @@
+-- why `attributes::push_selection` answers as its contract says
 use Rattle.list_laws.proofs.Appended.{two}
 use Rattle.object_names.proofs.attributes.push_selection.Goals as goal
 

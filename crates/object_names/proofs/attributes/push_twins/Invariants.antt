@@ -1,3 +1,4 @@
+-- what the loops of `attributes::push_twins` keep
 use Rattle.std.proofs.Common.{◌≡◌, ◌++◌, map, filter, take}
 use Rattle.bay_model.specs.NamedLines.{is_setting}
 use Rattle.object_names.specs.Attributes.{twin_attr, references_of, rows_of}

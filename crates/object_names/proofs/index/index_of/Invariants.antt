@@ -1,3 +1,4 @@
+-- what the loops of `index::index_of` keep
 use Rattle.std.proofs.Common.{◌≡◌, take}
 use Rattle.object_names.proofs.index.index_of.Given as goal
 

@@ -1,3 +1,4 @@
+-- what the loops of `lines::domains` keep
 use Rattle.std.proofs.Common.{◌≡◌, [], drop}
 use Rattle.bay_model.specs.Configured.{domains_after}
 use Rattle.object_names.proofs.lines.domains.Given as goal

@@ -1,3 +1,4 @@
+-- what the loops of `lines::generated_count` keep
 use Rattle.std.proofs.Common.{◌≡◌, flat_map, length, take}
 use Rattle.bay_model.specs.Generated.{parameters}
 use Rattle.object_names.proofs.lines.generated_count.Given as goal

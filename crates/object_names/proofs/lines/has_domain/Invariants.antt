@@ -1,3 +1,4 @@
+-- what the loops of `lines::has_domain` keep
 use Rattle.std.proofs.Common.{◌≡◌, take, false}
 use Rattle.std.specs.List.{list_any}
 use Rattle.std.specs.Str.{bytes_eq}

@@ -1,3 +1,4 @@
+-- why `lines::ordered_lines` answers as its contract says
 use Rattle.std.proofs.Common.{ℕ, rules, ap, ◌∙◌, ◌++◌}
 use Rattle.std.proofs.lemmas.List.Sorted.{answers_always}
 use Rattle.bay_model.specs.NamedLines.{Line, lines, in_order}

@@ -1,3 +1,4 @@
+-- why `lines::push_all` answers as its contract says
 use Rattle.std.proofs.Common.{refl, sym, ap, subst, arith, length, append_assoc}
 use Rattle.std.specs.Prelude.{flat_map}
 use Rattle.bay_model.specs.Generated.{parameters}

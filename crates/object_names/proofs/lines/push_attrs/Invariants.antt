@@ -1,3 +1,4 @@
+-- what the loops of `lines::push_attrs` keep
 use Rattle.std.proofs.Common.{◌≡◌, ◌++◌, drop}
 use Rattle.bay_model.specs.NamedLines.{attribute_lines}
 use Rattle.object_names.specs.Items.{AreReferenced}

@@ -1,3 +1,4 @@
+-- why `lines::push_block_line` answers as its contract says
 use Rattle.std.proofs.Common.{◌∷◌, ◌++◌, [], ap, ap₂, ◌∙◌, codes, List, ℕ}
 use Rattle.bay_model.specs.Generated.{block_names}
 use Rattle.bay_model.specs.NamedLines.{path_item}

@@ -1,3 +1,4 @@
+-- why `lines::push_blocks` answers as its contract says
 use Rattle.object_names.proofs.LineLaws.{blocks_more}
 use Rattle.object_names.proofs.lines.push_blocks.Goals as goal
 

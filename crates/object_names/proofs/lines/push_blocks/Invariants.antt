@@ -1,3 +1,4 @@
+-- what the loops of `lines::push_blocks` keep
 use Rattle.std.proofs.Common.{◌≡◌, ◌++◌, drop}
 use Rattle.bay_model.specs.NamedLines.{block_lines}
 use Rattle.object_names.proofs.lines.push_blocks.Given as goal

@@ -1,3 +1,4 @@
+-- what the loops of `lines::push_controls` keep
 use Rattle.std.proofs.Common.{◌≡◌, ◌++◌, drop}
 use Rattle.bay_model.specs.NamedLines.{control_lines}
 use Rattle.object_names.proofs.lines.push_controls.Given as goal

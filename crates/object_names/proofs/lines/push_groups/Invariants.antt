@@ -1,3 +1,4 @@
+-- what the loops of `lines::push_groups` keep
 use Rattle.std.proofs.Common.{◌≡◌, ◌++◌, map, take, position, unwrap_or}
 use Rattle.std.specs.Str.{bytes_eq}
 use Rattle.bay_model.specs.NamedLines.{group_line}

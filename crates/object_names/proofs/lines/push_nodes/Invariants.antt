@@ -1,3 +1,4 @@
+-- what the loops of `lines::push_nodes` keep
 use Rattle.std.proofs.Common.{◌≡◌, ◌++◌, map, take}
 use Rattle.bay_model.specs.NamedLines.{node_line}
 use Rattle.object_names.proofs.lines.push_nodes.Given as goal

@@ -1,3 +1,4 @@
+-- what the loops of `named::push_block` keep
 use Rattle.std.proofs.Common.{◌≡◌, ◌++◌, map, take}
 use Rattle.bay_model.specs.Model.{component}
 use Rattle.bay_model.specs.Generated.{within, end_named}

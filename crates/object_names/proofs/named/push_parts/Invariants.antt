@@ -1,3 +1,4 @@
+-- what the loops of `named::push_parts` keep
 use Rattle.std.proofs.Common.{◌≡◌, ◌++◌, map, take}
 use Rattle.bay_model.specs.Generated.{part_named}
 use Rattle.object_names.proofs.named.push_parts.Given as goal

@@ -1,3 +1,4 @@
+-- why `named::push_selection` answers as its contract says
 use Rattle.std.proofs.Common.{refl, append_assoc}
 use Rattle.object_names.proofs.named.push_selection.Goals as goal
 

@@ -1,3 +1,4 @@
+-- why `places::add` answers as its contract says
 use Rattle.std.proofs.Common.{is_some, ap, ◌∙◌, refl}
 use Rattle.std.specs.Map.{lookup}
 use Rattle.std.specs.Str.{bytes_eq}

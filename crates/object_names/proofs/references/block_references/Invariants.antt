@@ -1,3 +1,4 @@
+-- what the loops of `references::block_references` keep
 use Rattle.std.proofs.Common.{◌≡◌, map, take}
 use Rattle.bay_model.specs.Configured.{block_defined}
 use Rattle.object_names.proofs.references.block_references.Given as goal

@@ -1,3 +1,4 @@
+-- what the loops of `references::control_references` keep
 use Rattle.std.proofs.Common.{◌≡◌, map, take}
 use Rattle.bay_model.specs.Configured.{control_defined}
 use Rattle.object_names.proofs.references.control_references.Given as goal

@@ -1,3 +1,4 @@
+-- why `firsts::found_from` answers as its contract says
 use Rattle.std.proofs.Common.{get_or, refl, ◌-◌}
 use Rattle.octet_rows.proofs.ChainLaws.{walk-next}
 use Rattle.octet_rows.specs.Chains.{no_entry, walk}

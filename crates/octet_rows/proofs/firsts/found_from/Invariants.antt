@@ -1,3 +1,4 @@
+-- what the loops of `firsts::found_from` keep, and why they end
 use Rattle.std.proofs.Common.{◌≡◌, ◌≤◌, length}
 use Rattle.octet_rows.specs.Chains.{walk}
 use Rattle.octet_rows.proofs.firsts.found_from.Given as goal

@@ -1,3 +1,4 @@
+-- why `firsts::relink` answers as its contract says
 use Rattle.std.proofs.Common.{◌≡◌, ◌<◌, ◌+◌, ◌==◌, length, take, get_or, slice_set, refl, sym, ap, subst, ◌∙◌, arith, if◌then◌else◌}
 use Rattle.std.proofs.lemmas.List.{length-set, length-take, take_more_set}
 use Rattle.octet_rows.specs.Chains.{no_entry, slot, head, AreChained}

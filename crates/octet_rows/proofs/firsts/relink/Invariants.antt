@@ -1,3 +1,4 @@
+-- what the loops of `firsts::relink` keep
 use Rattle.std.proofs.Common.{◌≡◌, ℕ, length, take}
 use Rattle.octet_rows.specs.Chains.{latest, AreChained}
 use Rattle.octet_rows.proofs.firsts.relink.Given as goal

@@ -1,3 +1,4 @@
+-- what the loops of `hashing::hash_of` keep
 use Rattle.std.proofs.Common.{◌≡◌, take, fold}
 use Rattle.octet_rows.specs.Hashing.{mixed_to, gathered}
 use Rattle.octet_rows.specs.declared.hashing.RowHash.{RowHash}

@@ -1,3 +1,4 @@
+-- what the loops of `hashing::mixed_front` keep, and why they end
 use Rattle.std.proofs.Common.{◌≡◌, length, fold}
 use Rattle.octet_rows.specs.Hashing.{nothing, mixed_to, gathered}
 use Rattle.octet_rows.proofs.hashing.mixed_front.Given as goal

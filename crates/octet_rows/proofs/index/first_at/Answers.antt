@@ -1,3 +1,4 @@
+-- why `index::first_at` answers as its contract says
 use Rattle.std.proofs.Common.{sym, ◌∙◌}
 use Rattle.octet_rows.proofs.FoundLaws.{first-found, first-next}
 use Rattle.octet_rows.proofs.index.first_at.Goals as goal

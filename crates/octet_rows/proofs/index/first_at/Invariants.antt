@@ -1,3 +1,4 @@
+-- what the loops of `index::first_at` keep
 use Rattle.std.proofs.Common.{◌≡◌, None, take}
 use Rattle.octet_rows.specs.Found.{first_at}
 use Rattle.octet_rows.proofs.index.first_at.Given as goal

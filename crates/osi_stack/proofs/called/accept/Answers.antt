@@ -1,3 +1,4 @@
+-- why `called::accept` answers as its contract says
 use Rattle.osi_stack.proofs.FitLaws.{aare_fits}
 use Rattle.osi_stack.proofs.called.accept.Goals as goal
 

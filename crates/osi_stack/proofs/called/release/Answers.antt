@@ -1,3 +1,4 @@
+-- why `called::release` answers as its contract says
 use Rattle.osi_stack.proofs.FitLaws.{release_fits}
 use Rattle.osi_stack.proofs.called.release.Goals as goal
 

@@ -1,3 +1,4 @@
+-- why `called::request` answers as its contract says
 use Rattle.session_pres.specs.Plain.{asked_of}
 use Rattle.osi_stack.proofs.FitLaws.{can_accept}
 use Rattle.osi_stack.proofs.called.request.Goals as goal

@@ -1,3 +1,4 @@
+-- why `called::take_first` answers as its contract says
 use Rattle.std.proofs.Common.{arith}
 use Rattle.session_pres.proofs.AnswerLaws.{connect_within}
 use Rattle.osi_stack.proofs.called.take_first.Goals as goal

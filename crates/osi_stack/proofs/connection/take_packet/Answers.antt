@@ -1,3 +1,4 @@
+-- why `connection::take_packet` answers as its contract says
 use Rattle.std.proofs.Common.{refl, arith}
 use Rattle.std.proofs.lemmas.Result.{err_from_is_err_and}
 use Rattle.tpkt_cotp.proofs.KeptLaws.{step_fits}

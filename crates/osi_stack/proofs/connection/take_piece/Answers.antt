@@ -1,3 +1,4 @@
+-- why `connection::take_piece` answers as its contract says
 use Rattle.osi_stack.proofs.ConnectionLaws.{went_then}
 use Rattle.osi_stack.proofs.connection.take_piece.Goals as goal
 

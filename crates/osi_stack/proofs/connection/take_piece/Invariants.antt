@@ -1,3 +1,4 @@
+-- what the loops of `connection::take_piece` keep, and why they end
 use Rattle.std.proofs.Common.{length}
 use Rattle.osi_stack.specs.Going.{Went}
 use Rattle.osi_stack.proofs.connection.take_piece.Given as goal

@@ -1,3 +1,4 @@
+-- why `laws::a_stream_gives_one_list` answers as its contract says
 use Rattle.osi_stack.proofs.StreamLaws.{one_stream, one_refusal, never_both}
 use Rattle.osi_stack.proofs.AnsweredLaws.{answered, still_refused}
 use Rattle.osi_stack.proofs.laws.a_stream_gives_one_list.Goals as goal

@@ -1,3 +1,4 @@
+-- why `running::streams_are_run` answers as its contract says
 use Rattle.osi_stack.specs.Stream.{called, calling}
 use Rattle.osi_stack.proofs.RunSideLaws.{stands_run, refused_run, kept_run, stopped_run, further_run}
 use Rattle.osi_stack.proofs.running.streams_are_run.Goals as goal

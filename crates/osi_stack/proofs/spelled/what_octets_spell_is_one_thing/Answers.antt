@@ -1,3 +1,4 @@
+-- why `spelled::what_octets_spell_is_one_thing` answers as its contract says
 use Rattle.osi_stack.proofs.GoesLaws.{one_spelled, one_told, one_request, one_response, one_data}
 use Rattle.osi_stack.proofs.spelled.what_octets_spell_is_one_thing.Goals as goal
 

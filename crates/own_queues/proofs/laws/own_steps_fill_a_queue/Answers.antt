@@ -1,3 +1,4 @@
+-- why `laws::own_steps_fill_a_queue` answers as its contract says
 use Rattle.own_queues.proofs.QueueLaws.{open_by_steps, waits_by_steps, accepted_by_steps, asked_with_room}
 use Rattle.own_queues.proofs.laws.own_steps_fill_a_queue.Goals as goal
 

@@ -1,3 +1,4 @@
+-- why `touched::gathered` answers as its contract says
 use Rattle.std.proofs.Common.{◌≡◌, ◌<◌, ◌≤◌, ℕ, zero, suc, List, ap, arith, length}
 use Rattle.bay_rooms.specs.Rooms.{Filled}
 use Rattle.bay_model.specs.declared.note.Mention.{Mention}

@@ -1,3 +1,4 @@
+-- why `answers::push_answer` answers as its contract says
 use Rattle.std.proofs.Common.{sym, ap, ◌∙◌}
 use Rattle.run_record.specs.Seen.{seen, line_seen}
 use Rattle.run_record.proofs.ToldLaws.{line-told}

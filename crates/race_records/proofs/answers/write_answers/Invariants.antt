@@ -1,3 +1,4 @@
+-- what the loops of `answers::write_answers` keep
 use Rattle.std.proofs.Common.{◌≡◌, ◌++◌, drop}
 use Rattle.race_records.specs.Merged.{answered, book_seen}
 use Rattle.race_records.proofs.answers.write_answers.Given as goal

@@ -1,3 +1,4 @@
+-- why `laws::verdicts_are_known` answers as its contract says
 use Rattle.race_records.proofs.KnownLaws as laws
 use Rattle.race_records.proofs.laws.verdicts_are_known.Goals as goal
 

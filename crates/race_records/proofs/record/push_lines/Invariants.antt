@@ -1,3 +1,4 @@
+-- what the loops of `record::push_lines` keep
 use Rattle.std.proofs.Common.{◌≡◌, ◌++◌, drop}
 use Rattle.bay_model.specs.Points.{least_moment}
 use Rattle.record_history.specs.Histories.{octets_of}

@@ -1,3 +1,4 @@
+-- why `verdict::lacks_memory` ends
 use Rattle.std.proofs.Common.{length}
 use Rattle.race_records.proofs.verdict.+lacks_memory.Given as goal
 

@@ -1,3 +1,4 @@
+-- why `verdict::lowest_full` ends
 use Rattle.std.proofs.Common.{length}
 use Rattle.race_records.proofs.verdict.+lowest_full.Given as goal
 

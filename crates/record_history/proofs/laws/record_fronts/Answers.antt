@@ -1,3 +1,4 @@
+-- why `laws::record_fronts` answers as its contract says
 use Rattle.std.proofs.Common.{◌≤◌, sym, subst}
 use Rattle.bay_model.specs.Named.{configured_model}
 use Rattle.bay_model.specs.Retained.{front}

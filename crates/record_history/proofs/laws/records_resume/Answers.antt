@@ -1,3 +1,4 @@
+-- why `laws::records_resume` answers as its contract says
 use Rattle.bay_model.specs.Named.{configured_model}
 use Rattle.bay_model.proofs.Reported.{reports_are_next}
 use Rattle.bay_model.proofs.Resumes.{resumes_after}

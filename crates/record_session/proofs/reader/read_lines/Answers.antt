@@ -1,3 +1,4 @@
+-- why `reader::read_lines` answers as its contract says
 use Rattle.std.proofs.Common.{◌≡◌, ◌++◌, ◌∷◌, length, arith, ap, length-append}
 use Rattle.std.specs.Prelude.{None, Some}
 use Rattle.record_session.proofs.Feeding.{read-none, read-more}

@@ -1,3 +1,4 @@
+-- what the loops of `reader::read_lines` keep, and why they end
 use Rattle.std.proofs.Common.{◌≤◌, ◌+◌, length}
 use Rattle.record_session.specs.Sessions.{steps_in, IsEarly}
 use Rattle.record_session.proofs.Feeding.{HasRead}

@@ -1,3 +1,4 @@
+-- why `starting::start` answers as its contract says
 use Rattle.std.proofs.Common.{subst, sym}
 use Rattle.bay_config.specs.Servable.{IsServable}
 use Rattle.record_outcome.proofs.StartLaws.{is_served, settable}

@@ -1,3 +1,4 @@
+-- why `form::opened` answers as its contract says
 use Rattle.std.proofs.Common.{[], refl, subst}
 use Rattle.run_record.specs.Grammar.{IsForm}
 use Rattle.run_record.specs.declared.line.OpenForm.{OpenForm}

@@ -1,3 +1,4 @@
+-- what the loops of `heard::take_events` keep
 use Rattle.std.proofs.Common.{drop}
 use Rattle.record_steps.proofs.StreamLaws.{Going}
 use Rattle.record_steps.proofs.heard.take_events.Given as goal

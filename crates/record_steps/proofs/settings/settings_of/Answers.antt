@@ -1,3 +1,4 @@
+-- why `settings::settings_of` answers as its contract says
 use Rattle.std.proofs.Common.{ap, ◌∙◌}
 use Rattle.std.specs.Prelude.{Some}
 use Rattle.run_record.specs.Seen.{pairs_seen}

@@ -1,3 +1,4 @@
+-- what the loops of `settings::settings_of` keep, and why they end
 use Rattle.std.proofs.Common.{length}
 use Rattle.run_record.specs.Seen.{pairs_seen}
 use Rattle.record_steps.proofs.SettingLaws.{IsOn}

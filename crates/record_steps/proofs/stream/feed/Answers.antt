@@ -1,3 +1,4 @@
+-- why `stream::feed` answers as its contract says
 use Rattle.std.proofs.Common.{List, ◌++◌, ◌∙◌, ap, arith}
 use Rattle.osi_stack.specs.declared.events.Event.{Event}
 use Rattle.record_steps.specs.Streams.{heard_through, wired_through}

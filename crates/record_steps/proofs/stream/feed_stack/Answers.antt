@@ -1,3 +1,4 @@
+-- why `stream::feed_stack` answers as its contract says
 use Rattle.std.proofs.Common.{List, ◌++◌, subst}
 use Rattle.osi_stack.specs.declared.events.Event.{Event}
 use Rattle.osi_stack.specs.Sides.{GoesOn, Refuses}

@@ -1,3 +1,4 @@
+-- why `stream::hear` answers as its contract says
 use Rattle.std.proofs.Common.{◌≡◌, ◌≤◌, suc, length, subst}
 use Rattle.std.specs.Prelude.{IfOk, OnOk}
 use Rattle.record_steps.specs.declared.form.Form as programs

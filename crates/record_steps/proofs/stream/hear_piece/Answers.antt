@@ -1,3 +1,4 @@
+-- why `stream::hear_piece` answers as its contract says
 use Rattle.std.proofs.Common.{ℕ, List, sym, ap, subst, ◌∙◌, arith}
 use Rattle.std.specs.Prelude.{Option, Some}
 use Rattle.text_words.specs.Values.{option_items}

@@ -1,3 +1,4 @@
+-- why `telling::tell` answers as its contract says
 use Rattle.std.proofs.Common.{◌∙◌, ap, rules, subst, sym}
 use Rattle.run_record.specs.Seen.{line_seen}
 use Rattle.run_record.specs.declared.view.LineView.{LineView}

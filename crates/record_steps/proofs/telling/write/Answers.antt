@@ -1,3 +1,4 @@
+-- why `telling::write` answers as its contract says
 use Rattle.std.proofs.Common.{◌≡◌, true, rules, sym, ap, ◌∙◌}
 use Rattle.std.specs.Option.{option_map}
 use Rattle.sv_base.specs.declared.numbers.BlockNo.{BlockNo}

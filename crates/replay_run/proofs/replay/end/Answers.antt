@@ -1,3 +1,4 @@
+-- why `replay::end` answers as its contract says
 use Rattle.record_outcome.proofs.StatusLaws.{judged_replay, judged_read, judged_write}
 use Rattle.replay_run.proofs.replay.end.Goals as goal
 

@@ -1,3 +1,4 @@
+-- why `replay::take_piece` answers as its contract says
 use Rattle.std.proofs.Common.{◌++◌, ap, subst, ◌∙◌}
 use Rattle.std.specs.Io.KnownBytes.{Appends}
 use Rattle.replay_run.proofs.replay.take_piece.Goals as goal

@@ -1,3 +1,4 @@
+-- why `tool::replay` answers as its contract says
 use Rattle.record_outcome.proofs.HistoryLaws.{writes-history}
 use Rattle.replay_run.proofs.tool.replay.Goals as goal
 

@@ -1,3 +1,4 @@
+-- why `tool::run` answers as its contract says
 use Rattle.std.proofs.Common.{arith, ◌-◌}
 use Rattle.replay_run.proofs.TakenLaws.{takes-none, takes-more}
 use Rattle.replay_run.proofs.tool.run.Goals as goal

@@ -1,3 +1,4 @@
+-- what the loops of `tool::run` keep, and why they end
 use Rattle.std.proofs.Common.{◌≤◌, ◌<◌, ◌-◌, ℕ, List, length}
 use Rattle.std.specs.Prelude.{Option}
 use Rattle.replay_run.specs.Runs.{IsReady, Run}

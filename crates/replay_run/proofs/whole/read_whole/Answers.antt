@@ -1,3 +1,4 @@
+-- why `whole::read_whole` answers as its contract says
 use Rattle.std.proofs.Common.{arith}
 use Rattle.replay_run.proofs.ReadWhole.{taken-more}
 use Rattle.replay_run.proofs.whole.read_whole.Goals as goal

@@ -1,3 +1,4 @@
+-- what the loops of `whole::read_whole` keep, and why they end
 use Rattle.std.proofs.Common.{◌≡◌, ◌≤◌, ◌-◌, length}
 use Rattle.replay_run.proofs.ReadWhole.{Reading}
 use Rattle.replay_run.proofs.whole.read_whole.Given as goal

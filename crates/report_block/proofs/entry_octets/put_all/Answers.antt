@@ -1,3 +1,4 @@
+-- why `entry_octets::put_all` answers as its contract says
 use Rattle.std.proofs.Common.{◌∙◌, ◌+◌, ℕ, ap, sym, subst, arith}
 use Rattle.std.proofs.lemmas.List.Elements.{All-get_or}
 use Rattle.bay_rooms.specs.Rooms.{Filled}

@@ -1,3 +1,4 @@
+-- what the loops of `entry_octets::put_all` keep
 use Rattle.std.proofs.Common.{◌≡◌, ◌≤◌, ◌*◌, ◌++◌, suc, drop, length}
 use Rattle.report_block.specs.Alls.{all_from}
 use Rattle.report_block.specs.EntryOctets.{note_octets}

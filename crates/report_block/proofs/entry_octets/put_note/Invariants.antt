@@ -1,3 +1,4 @@
+-- what the loops of `entry_octets::put_note` keep
 use Rattle.std.proofs.Common.{◌≡◌, ◌≤◌, ◌*◌, length, take}
 use Rattle.report_block.specs.EntryOctets.{note_octets}
 use Rattle.report_block.proofs.entry_octets.put_note.Given as goal

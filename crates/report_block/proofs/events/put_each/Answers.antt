@@ -1,3 +1,4 @@
+-- why `events::put_each` answers as its contract says
 use Rattle.std.proofs.Common.{◌≤◌, ◌∙◌, ◌+◌, ◌*◌, ℕ, List, length, ap, ap₂, sym, subst}
 use Rattle.std.specs.List.{concat}
 use Rattle.bay_rooms.specs.Rooms.{Filled, FilledMembers}

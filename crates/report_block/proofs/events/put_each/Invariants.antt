@@ -1,3 +1,4 @@
+-- what the loops of `events::put_each` keep
 use Rattle.std.proofs.Common.{◌≡◌, ◌≤◌, ◌*◌, map, take, length}
 use Rattle.std.specs.List.{concat}
 use Rattle.bay_model.specs.declared.note.Mention.{Mention}

@@ -1,3 +1,4 @@
+-- why `laws::report_blocks_stand` answers as its contract says
 use Rattle.report_block.proofs.StandLaws.{opened, arrival-stands, deed-stands, again-stands, idle}
 use Rattle.report_block.proofs.laws.report_blocks_stand.Goals as goal
 

@@ -1,3 +1,4 @@
+-- why `offers::first_offer` answers as its contract says
 use Rattle.std.proofs.Common.{◌∙◌, ◌≡◌, ◌<◌, ℕ, IfSome, Option, None, Some, length, ap, sym, subst, arith}
 use Rattle.std.specs.Option.{option_map}
 use Rattle.std.specs.Prelude.{if◌then◌else◌}

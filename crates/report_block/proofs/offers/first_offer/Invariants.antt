@@ -1,3 +1,4 @@
+-- what the loops of `offers::first_offer` keep
 use Rattle.std.proofs.Common.{◌≡◌, ◌<◌, drop, length, IfSome}
 use Rattle.std.specs.Option.{option_map}
 use Rattle.report_block.specs.Offers.{earlier, first_offered}

@@ -1,3 +1,4 @@
+-- why `time_laws::nothing_comes_early` answers as its contract says
 use Rattle.report_block.proofs.DueLaws.{idle-before, due-stays}
 use Rattle.report_block.proofs.time_laws.nothing_comes_early.Goals as goal
 

@@ -1,3 +1,4 @@
+-- why `contents::all_bits` answers as its contract says
 use Rattle.mms_data.proofs.ContentLaws.{one_bit_more, no_bit_more}
 use Rattle.report_cut.proofs.contents.all_bits.Goals as goal
 

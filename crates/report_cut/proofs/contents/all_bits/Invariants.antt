@@ -1,3 +1,4 @@
+-- what the loops of `contents::all_bits` keep, and why they end
 use Rattle.std.proofs.Common.{◌≡◌, ◌≤◌, ◌-◌, take, length}
 use Rattle.report_cut.proofs.contents.all_bits.Given as goal
 

@@ -1,3 +1,4 @@
+-- why `contents::unsigned_of` answers as its contract says
 use Rattle.std.proofs.Common.{arith}
 use Rattle.ber_grammar.proofs.UintLaws.{room}
 use Rattle.report_cut.proofs.contents.unsigned_of.Goals as goal

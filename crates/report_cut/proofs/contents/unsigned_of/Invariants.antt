@@ -1,3 +1,4 @@
+-- what the loops of `contents::unsigned_of` keep
 use Rattle.std.proofs.Common.{◌≡◌, ◌<◌, ◌^◌, take}
 use Rattle.ber_grammar.specs.Octets.{big_endian}
 use Rattle.report_cut.proofs.contents.unsigned_of.Given as goal

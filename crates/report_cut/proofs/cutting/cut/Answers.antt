@@ -1,3 +1,4 @@
+-- why `cutting::cut` answers as its contract says
 use Rattle.std.proofs.Common.{ℕ, ◌≤◌, List, length, sym, subst}
 use Rattle.std.specs.List.{AllByRecursion}
 use Rattle.report_cut.specs.Pdus.{IsCut}

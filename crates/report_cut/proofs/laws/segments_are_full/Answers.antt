@@ -1,3 +1,4 @@
+-- why `laws::segments_are_full` answers as its contract says
 use Rattle.report_cut.proofs.FitLaws.{pdus_fit, segmented_well, pdus_are_cut}
 use Rattle.report_cut.proofs.laws.segments_are_full.Goals as goal
 

@@ -1,3 +1,4 @@
+-- why `told::behind` ends
 use Rattle.std.proofs.Common.{length}
 use Rattle.report_cut.proofs.told.+behind.Given as goal
 

@@ -1,3 +1,4 @@
+-- why `told::read_members` ends
 use Rattle.std.proofs.Common.{length}
 use Rattle.report_cut.proofs.told.+read_members.Given as goal
 

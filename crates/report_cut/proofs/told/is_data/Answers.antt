@@ -1,3 +1,4 @@
+-- why `told::is_data` answers as its contract says
 use Rattle.std.proofs.Common.{refl}
 use Rattle.ber_view.specs.View.{spot}
 use Rattle.report_cut.proofs.ContentLaws.{is_data-viewed}

@@ -1,3 +1,4 @@
+-- why `right::are_short` ends
 use Rattle.std.proofs.Common.{length}
 use Rattle.report_tests.proofs.right.+are_short.Given as goal
 

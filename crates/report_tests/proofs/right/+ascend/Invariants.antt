@@ -1,3 +1,4 @@
+-- why `right::ascend` ends
 use Rattle.std.proofs.Common.{length}
 use Rattle.report_tests.proofs.right.+ascend.Given as goal
 

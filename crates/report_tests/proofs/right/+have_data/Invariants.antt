@@ -1,3 +1,4 @@
+-- why `right::have_data` ends
 use Rattle.std.proofs.Common.{length}
 use Rattle.report_tests.proofs.right.+have_data.Given as goal
 

@@ -1,3 +1,4 @@
+-- why `laws::lines_are_refused_as_the_format_has_them` answers as its contract says
 use Rattle.run_record.proofs.RefusedLaws.{long-told, long-refused, word-told, word-refused, number-told, number-refused}
 use Rattle.run_record.proofs.laws.lines_are_refused_as_the_format_has_them.Goals as goal
 

@@ -1,3 +1,4 @@
+-- why `laws::written_lines_read_as_the_same` answers as its contract says
 use Rattle.run_record.specs.Spelled.{spelled}
 use Rattle.run_record.proofs.ReadLaws.{line-read}
 use Rattle.run_record.proofs.WrittenLaws.{again, shortest}

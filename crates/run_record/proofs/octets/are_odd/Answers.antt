@@ -1,3 +1,4 @@
+-- why `octets::are_odd` answers as its contract says
 use Rattle.std.proofs.Common.{◌+◌, length, ◌∙◌, arith}
 use Rattle.run_record.proofs.OctetLaws.{both-odd, all-odd}
 use Rattle.run_record.proofs.octets.are_odd.Goals as goal

@@ -1,3 +1,4 @@
+-- what the loops of `octets::are_odd` keep, and why they end
 use Rattle.std.proofs.Common.{◌≡◌, ◌-◌, ◌≤◌, length}
 use Rattle.std.specs.List.{slice_range}
 use Rattle.run_record.specs.Octets.{has_odd_spaces}

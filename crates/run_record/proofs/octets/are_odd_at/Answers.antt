@@ -1,3 +1,4 @@
+-- why `octets::are_odd_at` answers as its contract says
 use Rattle.std.proofs.Common.{◌+◌, arith}
 use Rattle.run_record.proofs.OctetLaws.{more-odd}
 use Rattle.run_record.proofs.octets.are_odd_at.Goals as goal

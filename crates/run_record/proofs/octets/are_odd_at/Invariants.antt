@@ -1,3 +1,4 @@
+-- what the loops of `octets::are_odd_at` keep
 use Rattle.std.proofs.Common.{◌≡◌, ◌+◌}
 use Rattle.std.specs.List.{slice_range}
 use Rattle.run_record.specs.Octets.{has_odd_spaces}

@@ -1,3 +1,4 @@
+-- why `octets::are_odd_from` answers as its contract says
 use Rattle.std.proofs.Common.{◌+◌, refl, arith}
 use Rattle.run_record.proofs.OctetLaws.{more-odd}
 use Rattle.run_record.proofs.octets.are_odd_from.Goals as goal

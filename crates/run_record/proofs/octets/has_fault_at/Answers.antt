@@ -1,3 +1,4 @@
+-- why `octets::has_fault_at` answers as its contract says
 use Rattle.std.proofs.Common.{◌+◌, refl, arith}
 use Rattle.run_record.proofs.OctetLaws.{both-told, one-told, told-to}
 use Rattle.run_record.proofs.octets.has_fault_at.Goals as goal

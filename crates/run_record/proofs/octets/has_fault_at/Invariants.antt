@@ -1,3 +1,4 @@
+-- what the loops of `octets::has_fault_at` keep
 use Rattle.std.proofs.Common.{◌≡◌, ◌+◌, ◌↔◌, false}
 use Rattle.run_record.specs.Octets.{IsFaultless}
 use Rattle.run_record.proofs.octets.has_fault_at.Given as goal

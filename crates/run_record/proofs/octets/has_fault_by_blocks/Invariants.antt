@@ -1,3 +1,4 @@
+-- what the loops of `octets::has_fault_by_blocks` keep, and why they end
 use Rattle.std.proofs.Common.{◌-◌, ◌<◌, length}
 use Rattle.run_record.specs.Octets.{IsFaultless}
 use Rattle.run_record.proofs.octets.has_fault_by_blocks.Given as goal

@@ -1,3 +1,4 @@
+-- what the loops of `octets::has_fault_by_one` keep
 use Rattle.run_record.specs.Octets.{IsFaultless}
 use Rattle.run_record.proofs.octets.has_fault_by_one.Given as goal
 

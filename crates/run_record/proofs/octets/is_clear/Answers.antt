@@ -1,3 +1,4 @@
+-- why `octets::is_clear` answers as its contract says
 use Rattle.std.proofs.Common.{arith}
 use Rattle.run_record.proofs.OctetLaws.{bounded-is, unbounded-is}
 use Rattle.run_record.proofs.octets.is_clear.Goals as goal

@@ -1,3 +1,4 @@
+-- why `reading::read_line` answers as its contract says
 use Rattle.run_record.proofs.AnswerLaws.{answered}
 use Rattle.run_record.proofs.reading.read_line.Goals as goal
 

@@ -1,3 +1,4 @@
+-- why `reading::unclear` answers as its contract says
 use Rattle.std.proofs.Common.{sym, ◌∙◌}
 use Rattle.std.proofs.lemmas.Bool.{cond-false}
 use Rattle.run_record.specs.Judging.{line_at}

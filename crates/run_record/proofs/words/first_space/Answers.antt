@@ -1,3 +1,4 @@
+-- why `words::first_space` answers as its contract says
 use Rattle.std.proofs.Common.{rules}
 use Rattle.run_record.proofs.SpaceLaws.{near-space, far-space, no-space}
 use Rattle.run_record.proofs.words.first_space.Goals as goal

@@ -1,3 +1,4 @@
+-- why `writing::push_pairs` answers as its contract says
 use Rattle.std.proofs.lemmas.Result.{err_from_is_err_and}
 use Rattle.run_record.proofs.WordLaws.{still-begins}
 use Rattle.run_record.proofs.writing.push_pairs.Goals as goal

@@ -1,3 +1,4 @@
+-- what the loops of `writing::push_pairs` keep
 use Rattle.std.proofs.Common.{◌≡◌, ◌++◌, take}
 use Rattle.std.specs.List.{flat_map}
 use Rattle.text_words.specs.Spelled.{spaced}

@@ -1,3 +1,4 @@
+-- why `reading::read_lines` answers as its contract says
 use Rattle.std.proofs.Common.{◌≡◌, ◌++◌, ◌∷◌, length, arith, ap, subst, refl, suc, length-append}
 use Rattle.script_reading.specs.Inputs.{line_at}
 use Rattle.script_reading.specs.Readings.{place_of, Moved}

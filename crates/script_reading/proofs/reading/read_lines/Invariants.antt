@@ -1,3 +1,4 @@
+-- what the loops of `reading::read_lines` keep, and why they end
 use Rattle.std.proofs.Common.{◌≤◌, ◌+◌, length}
 use Rattle.script_reading.specs.Readings.{IsWell}
 use Rattle.script_reading.proofs.ReadingLaws.{HasRead}

@@ -1,3 +1,4 @@
+-- why `reading::read_rehearsal` answers as its contract says
 use Rattle.std.proofs.Common.{not, take, refl, ap, subst, ◌∙◌}
 use Rattle.std.proofs.lemmas.Result.{IfOk-weaker}
 use Rattle.record_outcome.specs.Records.{limit}

@@ -1,3 +1,4 @@
+-- why `starting::model_of` answers as its contract says
 use Rattle.record_outcome.proofs.StartLaws.{is_served, settable}
 use Rattle.script_reading.proofs.starting.model_of.Goals as goal
 

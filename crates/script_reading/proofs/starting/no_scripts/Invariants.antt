@@ -1,3 +1,4 @@
+-- what the loops of `starting::no_scripts` keep
 use Rattle.std.proofs.Common.{◌≡◌, replicate}
 use Rattle.std.specs.Prelude.{Option, None}
 use Rattle.script_reading.specs.Plans.{Script}

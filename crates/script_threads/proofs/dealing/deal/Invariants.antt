@@ -1,3 +1,4 @@
+-- what the loops of `dealing::deal` keep
 use Rattle.std.proofs.Common.{◌≡◌, ◌++◌, map}
 use Rattle.std.specs.List.{All}
 use Rattle.script_threads.specs.Dealing.{AreFalling, CanPlay, IsReady, IsRest, Dealt}

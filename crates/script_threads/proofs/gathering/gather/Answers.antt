@@ -1,3 +1,4 @@
+-- why `gathering::gather` answers as its contract says
 use Rattle.std.proofs.Common.{◌≡◌, ◌++◌, ◌∷◌, [], List, map, sym, ap, subst, ◌∙◌, length, refl, arith, append_assoc, append-nil}
 use Rattle.std.specs.List.{All}
 use Rattle.bay_histories.specs.Histories.{IsLegal}

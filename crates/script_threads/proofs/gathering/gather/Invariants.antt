@@ -1,3 +1,4 @@
+-- what the loops of `gathering::gather` keep
 use Rattle.std.proofs.Common.{◌≡◌, ◌++◌, map}
 use Rattle.bay_histories.specs.Histories.{IsLegal}
 use Rattle.script_threads.specs.declared.job.Played.{Played}

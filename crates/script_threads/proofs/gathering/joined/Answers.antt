@@ -1,3 +1,4 @@
+-- why `gathering::joined` answers as its contract says
 use Rattle.std.proofs.Common.{◌∙◌}
 use Rattle.history_lock.specs.Passes.{Joined}
 use Rattle.script_threads.proofs.Races.{gathers_ours, gathers_theirs}

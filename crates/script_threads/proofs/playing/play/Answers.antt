@@ -1,3 +1,4 @@
+-- why `playing::play` answers as its contract says
 use Rattle.std.proofs.Common.{ℕ, List, ◌∷◌, [], ◌++◌, length, get_or, Err, sym, ap, subst, ◌∙◌, arith, length-append}
 use Rattle.history_lock.specs.Passes.{Known, Turned}
 use Rattle.actor_scripts.specs.declared.script.TimedStep.{TimedStep}

@@ -1,3 +1,4 @@
+-- what the loops of `playing::play` keep
 use Rattle.std.proofs.Common.{◌≡◌, ◌+◌, length}
 use Rattle.std.specs.Prelude.{vec_capacity}
 use Rattle.script_threads.specs.Playing.{Plays}

@@ -1,3 +1,4 @@
+-- why `racing::play_all` answers as its contract says
 use denote.Exit.{no}
 use denote.Param.Send.{sendable, param_send, arg_send, param_sync, arg_sync}
 use Rattle.std.proofs.Crossing.{crosses}

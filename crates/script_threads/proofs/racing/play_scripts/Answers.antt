@@ -1,3 +1,4 @@
+-- why `racing::play_scripts` answers as its contract says
 use Rattle.std.proofs.Common.{◌≡◌, ℕ, ◌<◌, List, map, length, get_or, sym, subst, ◌∙◌, arith}
 use Rattle.std.proofs.lemmas.List.{length-map}
 use Rattle.bay_model.specs.Answers.{History}

@@ -1,3 +1,4 @@
+-- why `racing::race` answers as its contract says
 use Rattle.std.proofs.Common.{sym, subst}
 use Rattle.std.specs.List.{All}
 use Rattle.sv_base.specs.declared.config.Config.{Config}

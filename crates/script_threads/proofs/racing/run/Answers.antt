@@ -1,3 +1,4 @@
+-- why `racing::run` answers as its contract says
 use Rattle.std.proofs.Common.{◌≡◌, sym, refl, subst, arith}
 use Rattle.history_lock.specs.Passes.{Site, first_of}
 use Rattle.script_threads.specs.Dealing.{IsRest}

@@ -1,3 +1,4 @@
+-- why `casting::add_actors` answers as its contract says
 use Rattle.std.proofs.Common.{◌≡◌, ◌++◌, ◌∷◌, [], map, length, length-append, arith, ap}
 use Rattle.server_run.proofs.CastLaws.{cast-more}
 use Rattle.server_run.proofs.SeatLaws.{one-cast, last-gate}

@@ -1,3 +1,4 @@
+-- what the loops of `casting::add_actors` keep, and why they end
 use Rattle.std.proofs.Common.{◌≡◌, ◌≤◌, ◌++◌, length, map}
 use Rattle.server_run.specs.Casting.{cast_from, role_place, AreSeats, HaveGates}
 use Rattle.server_run.proofs.casting.add_actors.Given as goal

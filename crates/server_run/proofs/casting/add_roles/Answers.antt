@@ -1,3 +1,4 @@
+-- why `casting::add_roles` answers as its contract says
 use Rattle.std.proofs.Common.{◌≡◌, ◌++◌, ◌∷◌, [], List, map, sym, ap, ◌∙◌, append_assoc, arith}
 use Rattle.std.specs.Prelude.{Option}
 use Rattle.script_reading.specs.Plans.{Script}

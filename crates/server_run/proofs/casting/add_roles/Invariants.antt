@@ -1,3 +1,4 @@
+-- what the loops of `casting::add_roles` keep
 use Rattle.std.proofs.Common.{◌≡◌, ◌++◌, map}
 use Rattle.race_records.specs.Merged.{lines_in, book_seen}
 use Rattle.server_run.specs.Casting.{script_steps, role_steps, script_place, role_place}

@@ -1,3 +1,4 @@
+-- why `casting::cast` answers as its contract says
 use Rattle.std.proofs.Common.{map, subst, sym}
 use Rattle.server_run.specs.Casting.{role_place, HaveGates}
 use Rattle.server_run.proofs.SeatLaws.{all-gates}

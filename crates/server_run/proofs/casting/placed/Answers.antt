@@ -1,3 +1,4 @@
+-- why `casting::placed` answers as its contract says
 use Rattle.std.proofs.Common.{◌++◌, ◌∷◌, [], map, sym, ap, ◌∙◌, append_assoc, arith}
 use Rattle.std.specs.Prelude.{Some}
 use Rattle.actor_scripts.proofs.Lists.{map_last}

@@ -1,3 +1,4 @@
+-- what the loops of `casting::placed` keep
 use Rattle.std.proofs.Common.{◌≡◌, ◌++◌, map}
 use Rattle.std.specs.Prelude.{Some}
 use Rattle.server_run.proofs.casting.placed.Given as goal

@@ -1,3 +1,4 @@
+-- what the loops of `rehearsal::open_gates` keep
 use Rattle.std.proofs.Common.{◌≡◌, length}
 use Rattle.server_run.proofs.rehearsal.open_gates.Given as goal
 

@@ -1,3 +1,4 @@
+-- why `rehearsal::perform` answers as its contract says
 use Rattle.std.proofs.Common.{map, subst, sym, ap, ◌∙◌}
 use Rattle.race_records.specs.Merged.{book_seen}
 use Rattle.script_reading.specs.Readings.{plan_seen}

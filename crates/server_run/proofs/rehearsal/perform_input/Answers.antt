@@ -1,3 +1,4 @@
+-- why `rehearsal::perform_input` answers as its contract says
 use Rattle.std.proofs.Common.{subst, sym, ap, ◌∙◌}
 use Rattle.script_reading.specs.Inputs.{outcome}
 use Rattle.script_reading.specs.Readings.{plan_seen, Reads, IsRefused}

@@ -1,3 +1,4 @@
+-- why `rehearsal::play_cast` answers as its contract says
 use Rattle.std.proofs.Common.{map, subst, sym}
 use Rattle.race_records.specs.Merged.{book_seen}
 use Rattle.script_threads.specs.Dealing.{AreFalling, CanPlay}

@@ -1,3 +1,4 @@
+-- why `rehearsal::race_over` answers as its contract says
 use Rattle.std.proofs.Common.{subst, sym}
 use Rattle.std.specs.List.{All}
 use Rattle.script_threads.specs.Dealing.{CanPlay}

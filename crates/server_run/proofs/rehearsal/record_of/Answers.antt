@@ -1,3 +1,4 @@
+-- why `rehearsal::record_of` answers as its contract says
 use Rattle.race_records.specs.Merged.{book_seen}
 use Rattle.race_records.proofs.BackLaws.{lines-there}
 use Rattle.server_run.proofs.rehearsal.record_of.Goals as goal

@@ -1,3 +1,4 @@
+-- why `rehearsal::rehearse_gated` answers as its contract says
 use Rattle.std.proofs.Common.{◌≡◌, take, subst}
 use Rattle.script_reading.specs.Inputs.{outcome}
 use Rattle.server_run.specs.Rehearsals.{most, Rehearses}

@@ -1,3 +1,4 @@
+-- why `rehearsal::settle` answers as its contract says
 use Rattle.std.proofs.Common.{◌≡◌, false, refl, sym, ap, ◌∙◌}
 use Rattle.std.specs.Prelude.{None, Some}
 use Rattle.race_records.specs.Merged.{book_seen}

@@ -1,3 +1,4 @@
+-- what the loops of `contexts::lists_ber` keep
 use Rattle.std.proofs.Common.{◌≡◌}
 use Rattle.session_pres.specs.ContextReading.{has_ber}
 use Rattle.session_pres.proofs.contexts.lists_ber.Given as goal

@@ -1,3 +1,4 @@
+-- why `contexts::offer_of` answers as its contract says
 use Rattle.std.proofs.Common.{List, Option, sym, ap, ◌∙◌, arith, refl}
 use Rattle.std.specs.Option.{option_map}
 use Rattle.session_pres.specs.ContextList.{Context}

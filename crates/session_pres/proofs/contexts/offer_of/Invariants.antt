@@ -1,3 +1,4 @@
+-- what the loops of `contexts::offer_of` keep
 use Rattle.std.specs.Option.{option_map}
 use Rattle.session_pres.specs.ViewOfContexts.{candidate}
 use Rattle.session_pres.proofs.ContextLaws.{ListGoes}

@@ -1,3 +1,4 @@
+-- why `parameters::are_parameters` answers as its contract says
 use Rattle.std.proofs.Common.{sym}
 use Rattle.session_pres.proofs.ParameterLaws.{CutsAs-more, CutsAs-broken, CutsAs-all, parameter_shorter}
 use Rattle.session_pres.proofs.parameters.are_parameters.Goals as goal

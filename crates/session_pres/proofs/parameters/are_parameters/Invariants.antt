@@ -1,3 +1,4 @@
+-- what the loops of `parameters::are_parameters` keep, and why they end
 use Rattle.std.proofs.Common.{length}
 use Rattle.session_pres.proofs.ParameterLaws.{CutsAs}
 use Rattle.session_pres.proofs.parameters.are_parameters.Given as goal

@@ -1,3 +1,4 @@
+-- why `parameters::user_data` answers as its contract says
 use Rattle.std.proofs.Common.{sym}
 use Rattle.session_pres.proofs.ParameterLaws.{UserGoes-none, UserGoes-more, UserGoes-broken, UserGoes-uncut, UserGoes-all, parameter_shorter}
 use Rattle.session_pres.proofs.parameters.user_data.Goals as goal

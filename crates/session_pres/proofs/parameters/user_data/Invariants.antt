@@ -1,3 +1,4 @@
+-- what the loops of `parameters::user_data` keep, and why they end
 use Rattle.std.proofs.Common.{length}
 use Rattle.std.specs.Option.{option_map}
 use Rattle.ber_grammar.specs.Place.{piece}

@@ -1,3 +1,4 @@
+-- why `pdv::read_data` answers as its contract says
 use Rattle.ber_grammar.specs.Place.{piece}
 use Rattle.session_pres.proofs.UserDataLaws.{data_reads}
 use Rattle.session_pres.specs.Plain.{pdv_octets}

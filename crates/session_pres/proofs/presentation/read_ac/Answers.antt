@@ -1,3 +1,4 @@
+-- why `presentation::read_ac` answers as its contract says
 use Rattle.ber_grammar.specs.Place.{piece}
 use Rattle.session_pres.proofs.PresentationLaws.{ac_reads}
 use Rattle.session_pres.specs.Plain.{octets}

@@ -1,3 +1,4 @@
+-- why `presentation::read_cp` answers as its contract says
 use Rattle.ber_grammar.specs.Place.{piece}
 use Rattle.session_pres.proofs.PresentationLaws.{cp_reads}
 use Rattle.session_pres.specs.Plain.{asked}

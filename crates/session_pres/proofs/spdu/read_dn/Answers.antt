@@ -1,3 +1,4 @@
+-- why `spdu::read_dn` answers as its contract says
 use Rattle.ber_grammar.specs.Place.{piece}
 use Rattle.session_pres.specs.declared.codes.TheConstants.{DISCONNECT}
 use Rattle.session_pres.proofs.UnitLaws.{user_reads}

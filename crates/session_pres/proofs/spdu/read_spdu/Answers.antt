@@ -1,3 +1,4 @@
+-- why `spdu::read_spdu` answers as its contract says
 use Rattle.ber_grammar.specs.Place.{piece}
 use Rattle.session_pres.proofs.UnitLaws.{spdu_reads}
 use Rattle.session_pres.specs.Plain.{told}

@@ -1,3 +1,4 @@
+-- why `writing::put_results` answers as its contract says
 use Rattle.std.proofs.Common.{arith}
 use Rattle.session_pres.proofs.WritingLaws.{results_more}
 use Rattle.session_pres.proofs.writing.put_results.Goals as goal

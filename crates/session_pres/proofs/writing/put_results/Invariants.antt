@@ -1,3 +1,4 @@
+-- what the loops of `writing::put_results` keep
 use Rattle.std.proofs.Common.{◌≡◌, ◌++◌, take}
 use Rattle.std.specs.List.{flat_map}
 use Rattle.session_pres.specs.WrittenPpdu.{result_octets}

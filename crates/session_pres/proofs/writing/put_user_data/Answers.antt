@@ -1,3 +1,4 @@
+-- why `writing::put_user_data` answers as its contract says
 use Rattle.std.proofs.Common.{◌<◌, ◌^◌, ℕ, sym, ap, ◌∙◌, subst}
 use Rattle.session_pres.specs.Written.{element_length}
 use Rattle.session_pres.proofs.WritingLaws.{user_written, pdv_list-length, value_fits}

@@ -1,3 +1,4 @@
+-- why `writing::release_of` answers as its contract says
 use Rattle.session_pres.specs.declared.codes.TheConstants.{USER_DATA}
 use Rattle.session_pres.proofs.WritingLaws.{release_fits, field_fits}
 use Rattle.session_pres.proofs.writing.release_of.Goals as goal

@@ -1,3 +1,4 @@
+-- why `writing::write_ac` answers as its contract says
 use Rattle.session_pres.proofs.WritingLaws.{accept_fits}
 use Rattle.session_pres.proofs.writing.write_ac.Goals as goal
 

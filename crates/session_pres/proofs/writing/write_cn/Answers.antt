@@ -1,3 +1,4 @@
+-- why `writing::write_cn` answers as its contract says
 use Rattle.session_pres.proofs.WritingLaws.{connect_fits}
 use Rattle.session_pres.proofs.writing.write_cn.Goals as goal
 

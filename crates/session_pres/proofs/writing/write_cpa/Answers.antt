@@ -1,3 +1,4 @@
+-- why `writing::write_cpa` answers as its contract says
 use Rattle.session_pres.proofs.WritingLaws.{cpa_fits}
 use Rattle.session_pres.proofs.writing.write_cpa.Goals as goal
 

@@ -1,3 +1,4 @@
+-- why `groups::plays` ends
 use Rattle.std.proofs.Common.{length, ℕ}
 use Rattle.set_tests.proofs.groups.+plays.Given as goal
 

@@ -1,3 +1,4 @@
+-- why `groups::attr` answers as its contract says
 use Rattle.std.proofs.Common.{ap, ◌∙◌}
 use Rattle.sv_base.specs.Seen.{row_of}
 use Rattle.set_tests.proofs.OpenedLaws.{valued}

@@ -1,3 +1,4 @@
+-- why `laws::frames_tell_attributes` answers as its contract says
 use Rattle.setting_groups.proofs.FirstLaws.{complete, is-twin}
 use Rattle.setting_groups.proofs.laws.frames_tell_attributes.Goals as goal
 

@@ -1,3 +1,4 @@
+-- why `laws::parts_are_written` answers as its contract says
 use Rattle.setting_groups.proofs.LoadLaws.{part-gives}
 use Rattle.setting_groups.proofs.PartLaws.{answered, part-stands, reads}
 use Rattle.setting_groups.proofs.laws.parts_are_written.Goals as goal

@@ -1,3 +1,4 @@
+-- why `laws::settings_are_the_definition` answers as its contract says
 use Rattle.setting_groups.proofs.SettingLaws.{edits, copies, confirms}
 use Rattle.setting_groups.proofs.ValueLaws.{values}
 use Rattle.setting_groups.proofs.OpenLaws.{opened_stands}

@@ -1,3 +1,4 @@
+-- why `laws::writes_are_answered` answers as its contract says
 use Rattle.setting_groups.proofs.PartLaws.{copy-written}
 use Rattle.setting_groups.proofs.laws.writes_are_answered.Goals as goal
 

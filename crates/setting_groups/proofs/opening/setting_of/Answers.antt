@@ -1,3 +1,4 @@
+-- why `opening::setting_of` answers as its contract says
 use Rattle.std.proofs.Common.{rules, ◌≡◌, ◌∙◌, List, length, ap, sym, arith, slice_index_or}
 use Rattle.bay_rooms.specs.Kinds.{kind_of}
 use Rattle.bay_rooms.specs.Slots.{Held}

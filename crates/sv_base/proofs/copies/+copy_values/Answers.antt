@@ -1,3 +1,4 @@
+-- why `copies::copy_values` answers as its contract says
 use Rattle.std.proofs.Common.{ap, arith}
 use Rattle.sv_base.specs.declared.value.Values.TheDeep.{size-Value}
 use Rattle.sv_base.proofs.SizeLaws.{most-size-lt}

@@ -1,3 +1,4 @@
+-- what the loops of `copies::copy_values` keep
 use Rattle.std.proofs.Common.{◌≡◌, take}
 use Rattle.sv_base.proofs.copies.+copy_values.Given as goal
 

@@ -1,3 +1,4 @@
+-- why `measure::len` answers as its contract says
 use Rattle.std.proofs.Common.{arith, ap}
 use Rattle.sv_base.specs.declared.value.Values.TheDeep.{size-Value}
 use Rattle.sv_base.proofs.LengthLaws.{length-data_row-more}

@@ -1,3 +1,4 @@
+-- why `measure::without_zeros` ends
 use Rattle.std.proofs.Common.{length}
 use Rattle.sv_base.proofs.measure.+without_zeros.Given as goal
 

@@ -1,3 +1,4 @@
+-- why `measure::bits_len` answers as its contract says
 use Rattle.std.proofs.Common.{arith}
 use Rattle.sv_base.proofs.LengthLaws.{length-packed}
 use Rattle.sv_base.proofs.measure.bits_len.Goals as goal

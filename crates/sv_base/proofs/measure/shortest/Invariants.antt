@@ -1,3 +1,4 @@
+-- what the loops of `measure::shortest` keep, and why they end
 use Rattle.std.proofs.Common.{◌≡◌, ◌≤◌, ◌-◌, drop, length}
 use Rattle.sv_base.specs.Data.{shortest}
 use Rattle.sv_base.proofs.measure.shortest.Given as goal

@@ -1,3 +1,4 @@
+-- why `laws::texts_have_groups` answers as its contract says
 use Rattle.cfg_text.proofs.WholeLaws.{config-told}
 use Rattle.setting_groups.proofs.OpenLaws.{opened_stands}
 use Rattle.text_configs.proofs.GroupLaws.{texts-are-grouped}

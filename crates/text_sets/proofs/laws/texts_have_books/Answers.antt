@@ -1,3 +1,4 @@
+-- why `laws::texts_have_books` answers as its contract says
 use Rattle.cfg_text.proofs.WholeLaws.{config-told}
 use Rattle.bay_model.specs.Named.{configured_model}
 use Rattle.data_sets.proofs.OpenLaws.{opens}

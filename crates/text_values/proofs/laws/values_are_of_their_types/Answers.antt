@@ -1,3 +1,4 @@
+-- why `laws::values_are_of_their_types` answers as its contract says
 use Rattle.text_values.proofs.ValueLaws.{of-kind, in-range, sound}
 use Rattle.text_values.proofs.laws.values_are_of_their_types.Goals as goal
 

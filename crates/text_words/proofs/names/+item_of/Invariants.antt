@@ -1,3 +1,4 @@
+-- why `names::item_of` ends
 use Rattle.std.proofs.Common.{length}
 use Rattle.text_words.proofs.names.+item_of.Given as goal
 

@@ -1,3 +1,4 @@
+-- why `numbers::digits_of` answers as its contract says
 use Rattle.std.proofs.Common.{refl, arith, inl, inr}
 use Rattle.text_words.proofs.DigitLaws.{reads-next, reads-other, reads-all}
 use Rattle.text_words.proofs.numbers.digits_of.Goals as goal

@@ -1,3 +1,4 @@
+-- what the loops of `numbers::digits_of` keep
 use Rattle.text_words.proofs.DigitLaws.{Reads}
 use Rattle.text_words.proofs.numbers.digits_of.Given as goal
 

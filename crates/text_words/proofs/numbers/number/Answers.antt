@@ -1,3 +1,4 @@
+-- why `numbers::number` answers as its contract says
 use Rattle.std.proofs.Common.{◌≡◌, ◌<◌, length, sym, arith}
 use Rattle.std.proofs.lemmas.Bool.Decides.{nat_tests}
 use Rattle.text_words.proofs.DigitLaws.{number_at-empty, number_at-leading_zero, number_at-told}

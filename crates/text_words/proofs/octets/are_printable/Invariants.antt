@@ -1,3 +1,4 @@
+-- what the loops of `octets::are_printable` keep
 use Rattle.std.proofs.Common.{◌≡◌, take}
 use Rattle.std.specs.List.{list_all}
 use Rattle.text_words.specs.Octets.{is_printable}

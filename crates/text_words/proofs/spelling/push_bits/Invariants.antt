@@ -1,3 +1,4 @@
+-- what the loops of `spelling::push_bits` keep
 use Rattle.std.proofs.Common.{◌≡◌, ◌∷◌, ◌++◌, take}
 use Rattle.text_words.specs.Spelled.{bits_word}
 use Rattle.text_words.proofs.spelling.push_bits.Given as goal

@@ -1,3 +1,4 @@
+-- what the loops of `values::listed` keep
 use Rattle.std.proofs.Common.{◌≡◌, take}
 use Rattle.std.specs.Prelude.{Some}
 use Rattle.text_words.specs.Words.{texts}

@@ -1,3 +1,4 @@
+-- why `words::parts_of` answers as its contract says
 use Rattle.std.proofs.Common.{◌≡◌, List, map, ap, ◌∙◌, rules}
 use Rattle.std.specs.Prelude.{◌==◌, Option, Result, Ok, Err, MatchResult, IfOk}
 use Rattle.std.specs.Iterator.{DrainsIf}

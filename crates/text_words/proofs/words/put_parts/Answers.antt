@@ -1,3 +1,4 @@
+-- why `words::put_parts` answers as its contract says
 use Rattle.std.proofs.Common.{◌≡◌, ◌==◌, ◌++◌, ℕ, drop, sym, ap, ap₂, ◌∙◌, arith, refl}
 use Rattle.std.specs.List.{slice_split}
 use Rattle.text_words.specs.Words.{texts}

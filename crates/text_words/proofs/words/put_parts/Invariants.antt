@@ -1,3 +1,4 @@
+-- what the loops of `words::put_parts` keep
 use Rattle.std.proofs.Common.{◌≡◌, ◌≤◌, ◌<◌, ◌++◌, ◌==◌, ℕ, false, drop, get_or, length}
 use Rattle.std.specs.List.{slice_split}
 use Rattle.text_words.specs.Words.{texts}

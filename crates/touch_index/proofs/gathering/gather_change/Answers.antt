@@ -1,3 +1,4 @@
+-- why `gathering::gather_change` answers as its contract says
 use Rattle.std.proofs.Common.{◌≡◌, ◌≢◌, ◌<◌, ◌+◌, ◌∙◌, inl, inr, ℕ, ap, ap₂, sym, refl, arith, length, get_or, drop, true, false}
 use Rattle.std.proofs.lemmas.Bool.{cases_eq}
 use Rattle.std.proofs.lemmas.List.{length-set}

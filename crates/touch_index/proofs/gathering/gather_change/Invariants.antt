@@ -1,3 +1,4 @@
+-- what the loops of `gathering::gather_change` keep
 use Rattle.std.proofs.Common.{◌≡◌, ◌<◌, ℕ, length, drop}
 use Rattle.touch_index.specs.Gathered.{CanAdd}
 use Rattle.touch_index.specs.Gathering.{note_at, trg_at, add_touched}

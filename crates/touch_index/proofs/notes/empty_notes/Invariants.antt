@@ -1,3 +1,4 @@
+-- what the loops of `notes::empty_notes` keep
 use Rattle.std.proofs.Common.{◌≡◌, [], replicate}
 use Rattle.touch_index.proofs.notes.empty_notes.Given as goal
 

@@ -1,3 +1,4 @@
+-- why `laws::tpdus_are_read_as_spelled` answers as its contract says
 use Rattle.tpkt_cotp.proofs.TpduLaws as laws
 use Rattle.tpkt_cotp.proofs.laws.tpdus_are_read_as_spelled.Goals as goal
 

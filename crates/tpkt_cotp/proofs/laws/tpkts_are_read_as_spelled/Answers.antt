@@ -1,3 +1,4 @@
+-- why `laws::tpkts_are_read_as_spelled` answers as its contract says
 use Rattle.tpkt_cotp.proofs.PacketLaws as laws
 use Rattle.tpkt_cotp.proofs.laws.tpkts_are_read_as_spelled.Goals as goal
 

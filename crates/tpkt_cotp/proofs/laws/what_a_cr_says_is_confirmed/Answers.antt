@@ -1,3 +1,4 @@
+-- why `laws::what_a_cr_says_is_confirmed` answers as its contract says
 use Rattle.tpkt_cotp.proofs.KeptLaws as bounds
 use Rattle.tpkt_cotp.proofs.ObjectLaws as laws
 use Rattle.tpkt_cotp.proofs.laws.what_a_cr_says_is_confirmed.Goals as goal

@@ -1,3 +1,4 @@
+-- why `parameters::read_parameters` answers as its contract says
 use Rattle.std.proofs.Common.{◌≡◌, Ok, Some, ◌∙◌}
 use Rattle.std.proofs.lemmas.Result.{err_from_is_err_and}
 use Rattle.tpkt_cotp.specs.Parameters.{parameter_at}

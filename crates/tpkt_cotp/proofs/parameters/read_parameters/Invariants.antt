@@ -1,3 +1,4 @@
+-- what the loops of `parameters::read_parameters` keep, and why they end
 use Rattle.std.proofs.Common.{◌≡◌, length}
 use Rattle.tpkt_cotp.specs.Parameters.{parameters_of}
 use Rattle.tpkt_cotp.proofs.parameters.read_parameters.Given as goal

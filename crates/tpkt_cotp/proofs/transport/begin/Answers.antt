@@ -1,3 +1,4 @@
+-- why `transport::begin` answers as its contract says
 use Rattle.std.proofs.Common.{◌≡◌, Ok, Some, refl, arith}
 use Rattle.std.proofs.lemmas.Result.{err_from_is_err_and}
 use Rattle.tpkt_cotp.specs.Packet.{packet_at}

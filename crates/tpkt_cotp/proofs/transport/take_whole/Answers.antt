@@ -1,3 +1,4 @@
+-- why `transport::take_whole` answers as its contract says
 use Rattle.std.proofs.Common.{◌≡◌, ◌++◌, inl}
 use Rattle.std.specs.Option.{option_to_list}
 use Rattle.tpkt_cotp.specs.Stream.{gift, Advances}

@@ -1,3 +1,4 @@
+-- what the loops of `transport::take_whole` keep, and why they end
 use Rattle.std.proofs.Common.{◌≡◌, ◌⊎◌, [], ◌++◌, length}
 use Rattle.tpkt_cotp.specs.Packet.{IsPartial}
 use Rattle.tpkt_cotp.specs.Stream.{Took}

@@ -1,3 +1,4 @@
+-- why `writing::room_of` answers as its contract says
 use Rattle.std.proofs.Common.{◌≡◌, ◌^◌, ◌∙◌, ap, arith}
 use Rattle.tpkt_cotp.proofs.WrittenLaws.{exponent_bounds}
 use Rattle.tpkt_cotp.proofs.writing.room_of.Goals as goal

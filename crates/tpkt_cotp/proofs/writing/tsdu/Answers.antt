@@ -1,3 +1,4 @@
+-- why `writing::tsdu` answers as its contract says
 use Rattle.std.proofs.Common.{List, ℕ, ◌∷◌, ◌++◌, ap, ◌∙◌, arith}
 use Rattle.tpkt_cotp.specs.declared.codes.TheConstants.{DT}
 use Rattle.tpkt_cotp.specs.Packet.{packet}

@@ -1,3 +1,4 @@
+-- what the loops of `writing::tsdu` keep, and why they end
 use Rattle.std.proofs.Common.{◌≡◌, ◌++◌, length}
 use Rattle.std.specs.List.{flat_map}
 use Rattle.tpkt_cotp.specs.Packet.{packet}

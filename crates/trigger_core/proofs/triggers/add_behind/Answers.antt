@@ -1,3 +1,4 @@
+-- why `triggers::add_behind` answers as its contract says
 use Rattle.std.proofs.Common.{arith}
 use Rattle.std.proofs.lemmas.Grind.{common_steps}
 use Rattle.trigger_core.proofs.BehindLaws.{add_behind}

@@ -1,3 +1,4 @@
+-- what the loops of `triggers::note` keep
 use Rattle.std.proofs.Common.{◌≡◌, ◌≤◌, ◌++◌, suc, drop, length}
 use Rattle.trigger_core.specs.Noted.{noted, AreBelow}
 use Rattle.trigger_core.proofs.triggers.note.Given as goal

@@ -1,3 +1,4 @@
+-- what the loops of `triggers::reasons_in` keep
 use Rattle.std.proofs.Common.{◌≡◌, drop}
 use Rattle.bay_model.specs.Notes.{union}
 use Rattle.trigger_core.specs.Noted.{reasons_in}

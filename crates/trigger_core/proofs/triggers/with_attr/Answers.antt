@@ -1,3 +1,4 @@
+-- why `triggers::with_attr` answers as its contract says
 use Rattle.std.proofs.Common.{◌∙◌, sym, ap, Option, unwrap_or}
 use Rattle.std.specs.Option.{option_map, option_copied}
 use Rattle.bay_model.specs.declared.flags.Change.{Change}

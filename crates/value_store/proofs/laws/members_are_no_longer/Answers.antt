@@ -1,3 +1,4 @@
+-- why `laws::members_are_no_longer` answers as its contract says
 use Rattle.value_store.proofs.LargestLaws.{value_within, member_within}
 use Rattle.value_store.proofs.laws.members_are_no_longer.Goals as goal
 

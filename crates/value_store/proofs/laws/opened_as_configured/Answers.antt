@@ -1,3 +1,4 @@
+-- why `laws::opened_as_configured` answers as its contract says
 use Rattle.value_store.proofs.OpenedLaws.{length_opened, opened_stands, opened_kinds, opened_writable}
 use Rattle.value_store.proofs.laws.opened_as_configured.Goals as goal
 

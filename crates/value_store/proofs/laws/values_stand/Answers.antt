@@ -1,3 +1,4 @@
+-- why `laws::values_stand` answers as its contract says
 use Rattle.std.specs.Prelude.{◌∷◌}
 use Rattle.value_store.proofs.StandLaws.{stands-arrival, stands-deed}
 use Rattle.value_store.proofs.laws.values_stand.Goals as goal

@@ -1,3 +1,4 @@
+-- why `members::put` answers as its contract says
 use Rattle.std.proofs.Common.{◌≡◌, ◌∙◌, ◌+◌, ℕ, suc, ap, ap₂, append_assoc, sym, subst, arith, length, take, drop, length-append, ◌++◌}
 use Rattle.std.proofs.lemmas.List.{drop-drop, length-drop}
 use Rattle.std.proofs.lemmas.List.Elements.{All-drop}

@@ -1,3 +1,4 @@
+-- what the loops of `members::put` keep
 use Rattle.std.proofs.Common.{◌≡◌, take, drop}
 use Rattle.sv_base.specs.Data.{data_row}
 use Rattle.sv_base.specs.Fields.{fields_of}

@@ -1,3 +1,4 @@
+-- why `octets::put_packed` ends
 use Rattle.std.proofs.Common.{length}
 use Rattle.value_store.proofs.octets.+put_packed.Given as goal
 

@@ -1,3 +1,4 @@
+-- why `octets::bits_len` answers as its contract says
 use Rattle.std.proofs.Common.{arith}
 use Rattle.sv_base.proofs.LengthLaws.{length-packed}
 use Rattle.value_store.proofs.octets.bits_len.Goals as goal

@@ -1,3 +1,4 @@
+-- why `opening::active_of` ends
 use Rattle.std.proofs.Common.{length}
 use Rattle.value_store.proofs.opening.+active_of.Given as goal
 

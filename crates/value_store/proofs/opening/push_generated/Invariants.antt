@@ -1,3 +1,4 @@
+-- what the loops of `opening::push_generated` keep
 use Rattle.std.proofs.Common.{◌≡◌, ◌++◌, map, flat_map, take}
 use Rattle.value_store.specs.Opened.{stored_control}
 use Rattle.value_store.specs.Stored.{stored}

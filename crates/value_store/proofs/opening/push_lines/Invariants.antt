@@ -1,3 +1,4 @@
+-- what the loops of `opening::push_lines` keep
 use Rattle.std.proofs.Common.{◌≡◌, ◌++◌, map, take}
 use Rattle.value_store.specs.Opened.{stored_line, place_in, is_written}
 use Rattle.value_store.specs.Stored.{stored}

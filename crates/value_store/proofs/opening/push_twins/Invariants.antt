@@ -1,3 +1,4 @@
+-- what the loops of `opening::push_twins` keep
 use Rattle.std.proofs.Common.{◌≡◌, ◌++◌, map, take}
 use Rattle.std.specs.List.{filter}
 use Rattle.bay_model.specs.NamedLines.{is_setting}

@@ -1,3 +1,4 @@
+-- why `laws::what_waits_was_put_and_not_given` answers as its contract says
 use Rattle.waiting_laws.proofs.RestLaws.{waits_are_the_rest, given_are_few, takes_are_in_order}
 use Rattle.waiting_laws.proofs.ShortLaws.{queues_are_short}
 use Rattle.waiting_laws.proofs.laws.what_waits_was_put_and_not_given.Goals as goal

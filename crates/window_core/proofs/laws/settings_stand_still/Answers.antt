@@ -1,3 +1,4 @@
+-- why `laws::settings_stand_still` answers as its contract says
 use Rattle.window_core.proofs.StillLaws.{points-still}
 use Rattle.window_core.proofs.laws.settings_stand_still.Goals as goal
 

@@ -1,3 +1,4 @@
+-- why `laws::windows_stand` answers as its contract says
 use Rattle.window_core.proofs.StandLaws.{always, at_once}
 use Rattle.window_core.proofs.laws.windows_stand.Goals as goal
 

@@ -1,3 +1,4 @@
+-- why `slots::pour_spans` answers as its contract says
 use Rattle.std.proofs.Common.{◌≡◌, ◌∷◌, [], ◌++◌, ◌∙◌, ℕ, ap, sym, subst, length, drop, slice_index_or, None, arith, length-append, ◌+◌}
 use Rattle.std.proofs.lemmas.List.{drop_more}
 use Rattle.bay_rooms.specs.Rooms.{Filled}

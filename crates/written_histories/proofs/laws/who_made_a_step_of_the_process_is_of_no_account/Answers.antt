@@ -1,3 +1,4 @@
+-- why `laws::who_made_a_step_of_the_process_is_of_no_account` answers as its contract says
 use Rattle.written_histories.proofs.WrittenLaws.{points_written, answer_written, fault_written, legal_written}
 use Rattle.written_histories.proofs.laws.who_made_a_step_of_the_process_is_of_no_account.Goals as goal
 

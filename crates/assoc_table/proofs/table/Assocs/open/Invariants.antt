@@ -1,3 +1,4 @@
+-- what the loops of `table::Assocs::open` keep, and why they end
 use Rattle.std.proofs.Common.{◌≡◌, ◌≤◌, ◌-◌, length, replicate}
 use Rattle.assoc_table.specs.Seats.{closed}
 use Rattle.assoc_table.proofs.table.Assocs.open.Given as goal

@@ -1,3 +1,4 @@
+-- why `bay::Bay::answer` answers as its contract says
 use Rattle.std.proofs.Common.{◌≡◌, List, refl, subst}
 use Rattle.bay_model.specs.declared.request.Service.{Service}
 use Rattle.bay_model.specs.declared.request.Service.TheVariants as services

@@ -1,3 +1,4 @@
+-- why `bay::Bay::answer_definition` answers as its contract says
 use Rattle.std.proofs.Common.{◌≡◌, ◌∙◌, ◌∷◌, [], ℕ, List, Bool, None, Some, true, length, refl, ap, sym, subst, arith, vec_capacity}
 use Rattle.std.specs.Prelude.{nat_lt, slice_get}
 use Rattle.std.specs.List.{list_all}

@@ -1,3 +1,4 @@
+-- why `bay::Bay::answer_deletion` answers as its contract says
 use Rattle.std.proofs.Common.{◌≡◌, ◌∙◌, ℕ, true, false, length, List, ap, ap₂, sym, subst, arith}
 use Rattle.std.specs.Prelude.{◌==◌}
 use Rattle.std.proofs.lemmas.Bool.Decides.{nat_tests}

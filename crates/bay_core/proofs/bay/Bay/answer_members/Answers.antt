@@ -1,3 +1,4 @@
+-- why `bay::Bay::answer_members` answers as its contract says
 use Rattle.bay_model.specs.Singles.{writes_of}
 use Rattle.bay_core.specs.Asked.{node_numbers}
 use Rattle.bay_core.proofs.AnswerLaws.{writes-written}

@@ -1,3 +1,4 @@
+-- why `bay::Bay::answer_plain` answers as its contract says
 use Rattle.std.proofs.Common.{◌≡◌, ℕ, Result, Ok, Err, refl, sym, subst}
 use Rattle.std.specs.Prelude.{IfOk}
 use Rattle.bay_model.specs.declared.reply.Reply.{Reply}

@@ -1,3 +1,4 @@
+-- why `bay::Bay::answer_read` answers as its contract says
 use Rattle.std.proofs.Common.{subst}
 use Rattle.bay_core.specs.State.{State, AreServedSets}
 use Rattle.bay_core.proofs.AnswerLaws.{read-answered}

@@ -1,3 +1,4 @@
+-- why `bay::Bay::answer_set` answers as its contract says
 use Rattle.std.proofs.Common.{◌≡◌, ◌∙◌, ℕ, List, Result, false, length, ap, sym, subst, arith}
 use Rattle.std.specs.Prelude.{◌==◌}
 use Rattle.std.proofs.lemmas.Bool.Decides.{nat_tests}

@@ -1,3 +1,4 @@
+-- why `bay::Bay::answer_variables` answers as its contract says
 use Rattle.std.proofs.Common.{◌∙◌, ℕ, List, Option, unwrap_or, refl, ap, ap₂, sym, subst}
 use Rattle.std.specs.Prelude.{Bool, Result}
 use Rattle.std.specs.List.{All}

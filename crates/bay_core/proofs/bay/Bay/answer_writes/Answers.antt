@@ -1,3 +1,4 @@
+-- why `bay::Bay::answer_writes` answers as its contract says
 use Rattle.std.proofs.Common.{◌∙◌, List, map, length, ap, sym, subst}
 use Rattle.bay_model.specs.declared.request.Write.{Write}
 use Rattle.bay_model.specs.Singles.{write_of}

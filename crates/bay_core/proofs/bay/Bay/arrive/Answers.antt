@@ -1,3 +1,4 @@
+-- why `bay::Bay::arrive` answers as its contract says
 use Rattle.std.proofs.Common.{◌≡◌, map, ◌∙◌, ◌∷◌, ℕ, List, refl, ap, ap₂, sym, subst, vec_capacity}
 use Rattle.bay_model.specs.declared.tables.NodeRow.{NodeRow}
 use Rattle.bay_model.specs.Singles.{arrival}

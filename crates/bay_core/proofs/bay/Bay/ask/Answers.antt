@@ -1,3 +1,4 @@
+-- why `bay::Bay::ask` answers as its contract says
 use Rattle.std.proofs.Common.{◌≡◌, ◌∙◌, List, Some, suc, true, false, refl, ap, sym, subst}
 use Rattle.std.specs.Prelude.{nat_le}
 use Rattle.std.specs.Option.{option_map}

@@ -1,3 +1,4 @@
+-- what the loops of `bay::Bay::blames` keep
 use Rattle.std.proofs.Common.{◌≡◌, map, take}
 use Rattle.bay_model.specs.declared.request.Write.{Write}
 use Rattle.bay_core.specs.Commanded.{blame_to}

@@ -1,3 +1,4 @@
+-- why `bay::Bay::call` answers as its contract says
 use Rattle.std.proofs.Common.{◌≡◌, ◌<◌, ◌∙◌, List, map, length, ap, sym, subst, arith}
 use Rattle.std.proofs.lemmas.List.{length-map}
 use Rattle.bay_model.specs.Configured.{control_defined}

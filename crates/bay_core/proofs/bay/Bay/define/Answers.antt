@@ -1,3 +1,4 @@
+-- why `bay::Bay::define` answers as its contract says
 use Rattle.std.proofs.Common.{◌<◌, ◌≤◌, ◌-◌, ◌∙◌, ℕ, List, length, ap, sym, subst, vec_capacity}
 use Rattle.std.proofs.lemmas.List.{length-map}
 use Rattle.sv_base.specs.declared.numbers.NodeId.{NodeId}

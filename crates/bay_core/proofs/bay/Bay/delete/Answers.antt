@@ -1,3 +1,4 @@
+-- why `bay::Bay::delete` answers as its contract says
 use Rattle.std.proofs.Common.{◌≡◌, Result, Ok, sym, subst, vec_capacity}
 use Rattle.data_sets.specs.declared.book.DeleteFault.{DeleteFault}
 use Rattle.data_sets.specs.Books.{Book}

@@ -1,3 +1,4 @@
+-- what the loops of `bay::Bay::delete_all` keep
 use Rattle.std.proofs.Common.{◌≡◌, ◌≤◌, ◌+◌, drop}
 use Rattle.bay_core.specs.Deleted.{after_deletions, deleted_in, matched_in}
 use Rattle.bay_core.proofs.bay.Bay.delete_all.Given as goal

@@ -1,3 +1,4 @@
+-- why `bay::Bay::end` answers as its contract says
 use Rattle.std.proofs.Common.{◌≡◌, List, map, refl, ap, ap₂, sym, subst, ◌∙◌, vec_capacity}
 use Rattle.assoc_table.specs.Tables.{ended}
 use Rattle.bay_model.specs.Configured.{control_defined}

@@ -1,3 +1,4 @@
+-- why `bay::Bay::is_open` answers as its contract says
 use Rattle.std.proofs.Common.{sym, subst, ◌∙◌}
 use Rattle.bay_model.specs.Answers.{points}
 use Rattle.bay_model.specs.Named.{configured_model}

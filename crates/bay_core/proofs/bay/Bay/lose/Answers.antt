@@ -1,3 +1,4 @@
+-- why `bay::Bay::lose` answers as its contract says
 use Rattle.std.proofs.Common.{refl, suc, ap, sym, subst, length, ◌∙◌}
 use Rattle.bay_model.specs.declared.step.Step.TheVariants as steps
 use Rattle.bay_model.specs.Answers.{points}

@@ -1,3 +1,4 @@
+-- why `bay::Bay::open_association` answers as its contract says
 use Rattle.std.proofs.Common.{refl, suc, ap, sym, subst, false, length, ◌∙◌, ◌≡◌}
 use Rattle.std.specs.Prelude.{is_some}
 use Rattle.bay_model.specs.declared.step.Step.TheVariants as steps

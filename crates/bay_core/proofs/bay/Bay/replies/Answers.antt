@@ -1,3 +1,4 @@
+-- why `bay::Bay::replies` answers as its contract says
 use Rattle.std.proofs.Common.{◌∙◌, List, ap, max, sym, subst, vec_capacity}
 use Rattle.value_store.specs.Stored.{Stored}
 use Rattle.report_block.specs.declared.block.ReportBlock.{ReportBlock}

@@ -1,3 +1,4 @@
+-- why `bay::Bay::reply_to` answers as its contract says
 use Rattle.std.proofs.Common.{◌∙◌, ℕ, Option, unwrap_or, Result, Ok, Err, ap}
 use Rattle.std.specs.Prelude.{IfOk}
 use Rattle.std.specs.Option.{option_map}

@@ -1,3 +1,4 @@
+-- why `bay::Bay::set` answers as its contract says
 use Rattle.std.proofs.Common.{ℕ, refl, suc, ap, ap₂, sym, ◌∷◌, length, subst, ◌∙◌, List, vec_capacity, arith}
 use Rattle.bay_model.specs.declared.flags.Change.{Change}
 use Rattle.bay_model.specs.declared.step.Setting.{Setting}

@@ -1,3 +1,4 @@
+-- why `bay::Bay::start` answers as its contract says
 use Rattle.std.proofs.Common.{◌∙◌, ap}
 use Rattle.assoc_table.specs.Tables.{row_of}
 use Rattle.bay_core.specs.State.{State}

@@ -1,3 +1,4 @@
+-- why `bay::Bay::take` answers as its contract says
 use Rattle.std.proofs.Common.{◌≡◌, ◌∙◌, None, suc, length, refl, sym, subst, ap, vec_capacity}
 use Rattle.std.specs.Option.{option_map}
 use Rattle.bay_model.specs.declared.step.Step.TheVariants as steps

@@ -1,3 +1,4 @@
+-- why `bay::Bay::take_due` answers as its contract says
 use Rattle.std.proofs.Common.{◌≡◌, ◌<◌, ◌∙◌, List, Some, length, max, suc, arith, refl, sym, subst, ap, slice_set, vec_capacity}
 use Rattle.std.specs.Prelude.{slice_get}
 use Rattle.std.specs.List.{All}

@@ -1,3 +1,4 @@
+-- why `bay::Bay::take_quiet` answers as its contract says
 use Rattle.std.proofs.Common.{◌≡◌, ◌<◌, length, Some, List, arith, refl, sym, subst, ap, ◌∙◌, slice_set, suc, vec_capacity}
 use Rattle.std.specs.Prelude.{slice_get}
 use Rattle.std.specs.Option.{option_map}

@@ -1,3 +1,4 @@
+-- why `bay::Bay::take_report` answers as its contract says
 use Rattle.std.proofs.Common.{◌≡◌, ℕ, List, max, arith, subst, ap}
 use Rattle.object_model.specs.Nodes.{node_rows}
 use Rattle.report_block.specs.declared.block.ReportBlock.{ReportBlock}

@@ -1,3 +1,4 @@
+-- why `bay::Bay::tick` answers as its contract says
 use Rattle.std.proofs.Common.{refl, length}
 use Rattle.bay_model.specs.declared.step.Step.TheVariants as steps
 use Rattle.bay_model.specs.Answers.{points}

@@ -1,3 +1,4 @@
+-- why `bay::Bay::turn` answers as its contract says
 use Rattle.std.proofs.Common.{◌∙◌, List, ap, sym, subst}
 use Rattle.std.specs.List.{All}
 use Rattle.bay_model.specs.declared.request.Target.{Target}

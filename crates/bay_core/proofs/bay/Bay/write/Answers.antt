@@ -1,3 +1,4 @@
+-- why `bay::Bay::write` answers as its contract says
 use Rattle.std.proofs.Common.{◌<◌, ◌∙◌, length, suc, refl, ap, sym, subst, arith}
 use Rattle.bay_model.specs.declared.answer.Answer.TheVariants as answers
 use Rattle.bay_model.specs.Answers.{points}

@@ -1,3 +1,4 @@
+-- why `bay::Bay::write_all` answers as its contract says
 use Rattle.std.proofs.Common.{◌∙◌, List, None, Option, map, take, ap, sym, subst, arith, add-one, slice_index_or}
 use Rattle.std.proofs.lemmas.List.{length-set, take_all}
 use Rattle.std.proofs.lemmas.Option.{slice_get-get_or}

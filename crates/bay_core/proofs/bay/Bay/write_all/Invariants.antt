@@ -1,3 +1,4 @@
+-- what the loops of `bay::Bay::write_all` keep
 use Rattle.std.proofs.Common.{◌≡◌, ◌≤◌, ℕ, None, length, map, take, slice_index_or}
 use Rattle.bay_model.specs.Singles.{write_of}
 use Rattle.bay_core.specs.Commanded.{AreSingles}

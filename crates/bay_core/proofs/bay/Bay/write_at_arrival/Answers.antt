@@ -1,3 +1,4 @@
+-- why `bay::Bay::write_at_arrival` answers as its contract says
 use Rattle.std.proofs.Common.{◌≡◌, ◌<◌, ◌∙◌, ℕ, List, Option, Some, length, slice_set, ap, ap₂, sym, subst, refl, arith, vec_capacity}
 use Rattle.std.specs.Prelude.{slice_get}
 use Rattle.std.specs.List.{All}

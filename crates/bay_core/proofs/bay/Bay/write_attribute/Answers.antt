@@ -1,3 +1,4 @@
+-- why `bay::Bay::write_attribute` answers as its contract says
 use Rattle.std.proofs.Common.{◌<◌, ◌≡◌, ◌-◌, List, length, ap, sym, subst, arith}
 use Rattle.std.specs.Prelude.{◌+◌}
 use Rattle.bay_model.specs.Lookups.{attr_of}

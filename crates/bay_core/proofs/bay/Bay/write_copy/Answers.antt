@@ -1,3 +1,4 @@
+-- why `bay::Bay::write_copy` answers as its contract says
 use Rattle.std.proofs.Common.{◌<◌, length, sym, subst}
 use Rattle.std.specs.Prelude.{◌+◌}
 use Rattle.bay_model.specs.Lookups.{attr_of}

@@ -1,3 +1,4 @@
+-- why `bay::Bay::write_line` answers as its contract says
 use Rattle.std.proofs.Common.{◌<◌, ◌∙◌, ℕ, List, Ok, Err, length, ap, sym, subst, arith, vec_capacity}
 use Rattle.std.proofs.lemmas.List.{length-set}
 use Rattle.bay_model.specs.declared.flags.Change.{Change}

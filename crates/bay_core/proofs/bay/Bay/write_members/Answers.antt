@@ -1,3 +1,4 @@
+-- why `bay::Bay::write_members` answers as its contract says
 use Rattle.std.proofs.Common.{◌∙◌, ◌∷◌, ◌++◌, List, Result, [], ℕ, length, take, ap, ap₂, sym, subst, arith, add-one, length-append, slice_index_or}
 use Rattle.std.proofs.lemmas.List.{take_all}
 use Rattle.std.proofs.lemmas.Option.{slice_get-get_or}

@@ -1,3 +1,4 @@
+-- what the loops of `bay::Bay::write_members` keep
 use Rattle.std.proofs.Common.{◌≡◌, ◌≤◌, length, take, vec_capacity}
 use Rattle.bay_model.specs.Singles.{writes_of}
 use Rattle.bay_core.specs.Asked.{AreWrites, IsKept, node_numbers}

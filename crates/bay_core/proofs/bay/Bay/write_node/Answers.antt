@@ -1,3 +1,4 @@
+-- why `bay::Bay::write_node` answers as its contract says
 use Rattle.std.proofs.Common.{◌≡◌, ◌<◌, ◌∙◌, ℕ, Err, length, ap, sym, subst, arith}
 use Rattle.std.specs.Prelude.{if◌then◌else◌}
 use Rattle.object_names.specs.declared.named.What.{What}

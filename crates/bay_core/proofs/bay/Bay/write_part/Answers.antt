@@ -1,3 +1,4 @@
+-- why `bay::Bay::write_part` answers as its contract says
 use Rattle.std.proofs.Common.{rules, ◌≡◌, ◌<◌, ◌∙◌, ℕ, List, Ok, Err, length, ap, ap₂, sym, subst, arith, vec_capacity}
 use Rattle.std.specs.List.{All}
 use Rattle.bay_model.specs.declared.tables.NodeRow.{NodeRow}

@@ -1,3 +1,4 @@
+-- why `bay::Bay::write_target` answers as its contract says
 use Rattle.std.proofs.Common.{sym, subst}
 use Rattle.bay_model.specs.declared.request.Target.{Target}
 use Rattle.bay_model.specs.Outcomes.{refused}

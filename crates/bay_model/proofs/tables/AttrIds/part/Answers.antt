@@ -1,3 +1,4 @@
+-- why `tables::AttrIds::part` answers as its contract says
 use Rattle.std.proofs.Common.{◌+◌, ◌-◌, take, drop, refl, ap, ◌∙◌}
 use Rattle.bay_model.proofs.RangeLaws.{part-is}
 use Rattle.bay_model.proofs.tables.AttrIds.part.Goals as goal

@@ -1,3 +1,4 @@
+-- why `queues::Queues::answer` answers as its contract says
 use Rattle.std.proofs.Common.{◌≡◌, List, [], ◌∷◌, length, map, true, false, sym, subst, ap, ◌∙◌}
 use Rattle.std.specs.Prelude.{OnOk, Ok, Err, nat_le, ◌&&◌, if◌then◌else◌}
 use Rattle.sv_base.specs.declared.numbers.CtlNo.{CtlNo}

@@ -1,3 +1,4 @@
+-- why `queues::Queues::done` answers as its contract says
 use Rattle.std.proofs.Common.{◌≡◌, ◌<◌, [], ◌∷◌, length, ap, sym, subst, ◌∙◌}
 use Rattle.std.specs.Prelude.{OnOk}
 use Rattle.assoc_table.specs.declared.waiting.Waiting.TheVariants.{Termination}

@@ -1,3 +1,4 @@
+-- why `queues::Queues::end` answers as its contract says
 use Rattle.std.proofs.Common.{sym, subst}
 use Rattle.assoc_table.specs.Tables.{ended}
 use Rattle.bay_queues.specs.Queued.{IsQueued}

@@ -1,3 +1,4 @@
+-- why `queues::Queues::open` answers as its contract says
 use Rattle.std.proofs.Common.{sym, subst, map, arith}
 use Rattle.std.proofs.lemmas.List.{length-map}
 use Rattle.bay_model.specs.Configured.{control_defined}

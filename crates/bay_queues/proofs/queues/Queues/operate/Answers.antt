@@ -1,3 +1,4 @@
+-- why `queues::Queues::operate` answers as its contract says
 use Rattle.std.proofs.Common.{◌≡◌, ◌<◌, ◌++◌, length, map, true, sym, subst, ap, None}
 use Rattle.bay_model.specs.Commands.{command_of, is_command}
 use Rattle.bay_model.specs.Model.{operate}

@@ -1,3 +1,4 @@
+-- why `queues::Queues::take_termination` answers as its contract says
 use Rattle.std.proofs.Common.{◌≡◌, sym, subst, Some}
 use Rattle.assoc_table.specs.declared.waiting.Waiting.TheVariants.{Termination}
 use Rattle.assoc_table.specs.Tables.{taken}

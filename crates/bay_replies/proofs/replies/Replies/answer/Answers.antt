@@ -1,3 +1,4 @@
+-- why `replies::Replies::answer` answers as its contract says
 use Rattle.bay_replies.proofs.FitLaws.{members-there}
 use Rattle.bay_replies.proofs.replies.Replies.answer.Goals as goal
 

@@ -1,3 +1,4 @@
+-- why `replies::Replies::domains` answers as its contract says
 use Rattle.std.proofs.Common.{◌≡◌, [], List, ℕ, sym, ap, ◌∙◌}
 use Rattle.std.specs.Prelude.{option_copied}
 use Rattle.bay_model.specs.NamedLines.{domains as domains_of}

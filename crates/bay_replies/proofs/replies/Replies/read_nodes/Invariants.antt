@@ -1,3 +1,4 @@
+-- what the loops of `replies::Replies::read_nodes` keep
 use Rattle.std.proofs.Common.{◌≡◌, ◌+◌, ◌++◌, length, map, drop}
 use Rattle.sv_base.specs.declared.numbers.NodeId.{NodeId}
 use Rattle.bay_replies.specs.Given.{node_read}

@@ -1,3 +1,4 @@
+-- why `replies::Replies::read_set` answers as its contract says
 use Rattle.std.proofs.Common.{◌≡◌, map, sym, ap, ap₂, ◌∙◌}
 use Rattle.sv_base.specs.declared.numbers.NodeId.{NodeId}
 use Rattle.bay_model.specs.Services.{set_name, read_reply}

@@ -1,3 +1,4 @@
+-- what the loops of `replies::Replies::read_targets` keep
 use Rattle.std.proofs.Common.{◌≡◌, ◌+◌, ◌++◌, ◌<◌, drop}
 use Rattle.bay_replies.specs.Reading.{early_reads, least_len}
 use Rattle.bay_replies.proofs.replies.Replies.read_targets.Given as goal

@@ -1,3 +1,4 @@
+-- why `replies::Replies::reply` answers as its contract says
 use Rattle.std.proofs.Common.{◌∙◌}
 use Rattle.bay_replies.proofs.ReplyLaws.{replied-told}
 use Rattle.bay_replies.proofs.replies.Replies.reply.Goals as goal

@@ -1,3 +1,4 @@
+-- why `replies::Replies::set_reply` answers as its contract says
 use Rattle.std.proofs.Common.{sym, ◌∙◌}
 use Rattle.data_sets.specs.Books.{is_name}
 use Rattle.data_sets.proofs.PlaceLaws.{within}

@@ -1,3 +1,4 @@
+-- why `replies::Replies::sets` answers as its contract says
 use Rattle.std.proofs.Common.{◌≡◌, sym, ap, ◌∙◌}
 use Rattle.std.specs.Prelude.{option_copied}
 use Rattle.name_order.specs.Sorting.{names_above}

@@ -1,3 +1,4 @@
+-- why `replies::Replies::variables` answers as its contract says
 use Rattle.std.proofs.Common.{◌≡◌, [], ◌++◌, false, sym, ap, ◌∙◌, subst, position}
 use Rattle.std.specs.Prelude.{IfOk, option_copied, is_some, if◌then◌else◌}
 use Rattle.sv_base.specs.declared.numbers.NodeId.{NodeId}

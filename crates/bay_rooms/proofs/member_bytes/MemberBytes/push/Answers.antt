@@ -1,3 +1,4 @@
+-- why `member_bytes::MemberBytes::push` answers as its contract says
 use Rattle.std.proofs.Common.{◌≡◌, ap, subst, ◌++◌, ◌∷◌, [], rules}
 use Rattle.bay_rooms.specs.Rooms.{FilledMembers, cut_at}
 use Rattle.bay_rooms.specs.contracts.member_bytes.MemberBytes.{the_view}

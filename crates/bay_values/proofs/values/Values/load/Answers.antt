@@ -1,3 +1,4 @@
+-- why `values::Values::load` answers as its contract says
 use Rattle.std.proofs.Common.{arith, ap, length}
 use Rattle.setting_groups.specs.Loaded.{active_settings}
 use Rattle.bay_values.proofs.MarkLaws.{within_all}

@@ -1,3 +1,4 @@
+-- why `values::Values::set` answers as its contract says
 use Rattle.std.proofs.Common.{arith, ap, length}
 use Rattle.bay_values.proofs.MarkLaws.{within_all}
 use Rattle.bay_values.proofs.values.Values.set.Goals as goal

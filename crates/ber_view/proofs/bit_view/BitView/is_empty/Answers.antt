@@ -1,3 +1,4 @@
+-- why `bit_view::BitView::is_empty` answers as its contract says
 use Rattle.std.proofs.Common.{◌≡◌, ◌*◌, ◌-◌, List, Bool, length, ap, sym, ◌∙◌}
 use Rattle.ber_view.proofs.BitLaws.{length-bits_of, is_no_octet}
 use Rattle.ber_view.proofs.bit_view.BitView.is_empty.Goals as goal

@@ -1,3 +1,4 @@
+-- why `elements::ElementsIterator::next` answers as its contract says
 use Rattle.std.proofs.Common.{List, sym, ap, ◌∙◌, length, rules}
 use Rattle.ber_grammar.specs.Element.{Element}
 use Rattle.ber_grammar.specs.Place.{placed}

@@ -1,3 +1,4 @@
+-- why `blank::Blank::filled` answers as its contract says
 use Rattle.std.proofs.Common.{◌++◌, subst, sym}
 use Rattle.bay_model.specs.Named.{configured_model}
 use Rattle.block_reports.specs.Blanks.{Blank, AreFew}

@@ -1,3 +1,4 @@
+-- why `member_rooms::Row::filled` answers as its contract says
 use Rattle.std.proofs.Common.{◌∙◌, List, ap, arith, length, refl}
 use Rattle.std.specs.Prelude.{option_map}
 use Rattle.bay_model.specs.declared.report.Member.{Member}

@@ -1,3 +1,4 @@
+-- what the loops of `member_rooms::Row::filled` keep, and why they end
 use Rattle.std.proofs.Common.{◌≡◌, ◌+◌, List, length}
 use Rattle.bay_model.specs.Notes.{Kept}
 use Rattle.block_reports.specs.Blanks.{AreFew}

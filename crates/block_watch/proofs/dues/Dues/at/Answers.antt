@@ -1,3 +1,4 @@
+-- why `dues::Dues::at` answers as its contract says
 use Rattle.std.proofs.Common.{◌∙◌, ◌<◌, List, Option, ℕ, ap, length, subst, sym}
 use Rattle.std.specs.Prelude.{slice_get}
 use Rattle.block_watch.proofs.WatchLaws.{at-place}

@@ -1,3 +1,4 @@
+-- why `dues::Dues::have_come` answers as its contract says
 use Rattle.std.proofs.Common.{subst}
 use Rattle.block_watch.specs.Dues.{AreBefore}
 use Rattle.block_watch.proofs.dues.Dues.have_come.Goals as goal

@@ -1,3 +1,4 @@
+-- why `dues::Dues::open` answers as its contract says
 use Rattle.std.proofs.Common.{◌≡◌, Some, replicate, rules, subst, sym}
 use Rattle.std.specs.List.{All}
 use Rattle.std.proofs.lemmas.List.Elements.{All-replicate}

@@ -1,3 +1,4 @@
+-- why `dues::Dues::put` answers as its contract says
 use Rattle.std.proofs.Common.{subst}
 use Rattle.std.proofs.lemmas.List.Elements.{All-set}
 use Rattle.report_block.specs.Due.{IsBefore}

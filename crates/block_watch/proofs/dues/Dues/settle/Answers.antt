@@ -1,3 +1,4 @@
+-- why `dues::Dues::settle` answers as its contract says
 use Rattle.std.proofs.Common.{List, Option, ℕ, subst}
 use Rattle.block_watch.specs.Dues.{AreFrom}
 use Rattle.block_watch.proofs.dues.Dues.settle.Goals as goal

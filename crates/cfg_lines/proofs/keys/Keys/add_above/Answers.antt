@@ -1,3 +1,4 @@
+-- why `keys::Keys::add_above` answers as its contract says
 use Rattle.std.proofs.Common.{ap, sym, get_or, ◌∙◌, rules}
 use Rattle.std.proofs.lemmas.List.Sums.{fold_more}
 use Rattle.octet_rows.specs.Hashing.{gathered, nothing}

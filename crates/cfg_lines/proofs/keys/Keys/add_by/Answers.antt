@@ -1,3 +1,4 @@
+-- why `keys::Keys::add_by` answers as its contract says
 use Rattle.std.proofs.Common.{sym, ap, ◌∙◌}
 use Rattle.std.specs.Str.{bytes_eq}
 use Rattle.std.proofs.lemmas.Bool.{cond-true}

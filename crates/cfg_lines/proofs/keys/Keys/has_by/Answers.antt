@@ -1,3 +1,4 @@
+-- why `keys::Keys::has_by` answers as its contract says
 use Rattle.std.proofs.Common.{ap, is_some, ◌∙◌}
 use Rattle.std.specs.Str.{bytes_eq}
 use Rattle.cfg_lines.specs.Keys.{is_among}

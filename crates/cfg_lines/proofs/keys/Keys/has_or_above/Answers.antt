@@ -1,3 +1,4 @@
+-- why `keys::Keys::has_or_above` answers as its contract says
 use Rattle.std.proofs.Common.{sym, ◌∙◌}
 use Rattle.std.proofs.lemmas.Bool.{or_right}
 use Rattle.cfg_lines.proofs.PathLaws.{kept-back, let-through, none-beside}

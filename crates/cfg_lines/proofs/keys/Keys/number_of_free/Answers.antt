@@ -1,3 +1,4 @@
+-- why `keys::Keys::number_of_free` answers as its contract says
 use Rattle.std.proofs.Common.{ap, sym, get_or, ◌∙◌, length, None, Some, rules}
 use Rattle.std.proofs.lemmas.List.Sums.{fold_more}
 use Rattle.octet_rows.specs.Hashing.{hash_at, gathered, nothing}

@@ -1,3 +1,4 @@
+-- what the loops of `keys::Keys::number_of_free` keep
 use Rattle.std.proofs.Common.{◌≡◌, false, take, fold}
 use Rattle.std.specs.List.{list_any}
 use Rattle.octet_rows.specs.Hashing.{nothing, gathered}

@@ -1,3 +1,4 @@
+-- why `keys::Names::add` answers as its contract says
 use Rattle.std.proofs.Common.{◌||◌, sym, ap, ◌∙◌}
 use Rattle.cfg_lines.specs.Keys.{is_among}
 use Rattle.cfg_lines.specs.Paths.{above, clashes, is_structure, is_taken}

@@ -1,3 +1,4 @@
+-- why `keys::Names::add_all` answers as its contract says
 use Rattle.std.proofs.Common.{◌+◌, ◌||◌, map, take, get_or, sym, ap, ◌∙◌}
 use Rattle.std.specs.Prelude.{ℕ, Vec}
 use Rattle.std.specs.declared.alloc.Global.{Global}

@@ -1,3 +1,4 @@
+-- what the loops of `keys::Names::add_all` keep
 use Rattle.std.proofs.Common.{◌≡◌, ℕ, List, ◌||◌, map, take}
 use Rattle.cfg_lines.specs.Keys.{octets_of}
 use Rattle.cfg_lines.specs.Paths.{is_taken}

@@ -1,3 +1,4 @@
+-- why `keys::Names::is_one_taken` answers as its contract says
 use Rattle.std.proofs.Common.{sym, ap, ◌∙◌}
 use Rattle.std.proofs.lemmas.List.Folds.{list_any_at}
 use Rattle.cfg_lines.specs.Keys.{octets_of}

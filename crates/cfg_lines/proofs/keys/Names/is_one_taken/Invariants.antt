@@ -1,3 +1,4 @@
+-- what the loops of `keys::Names::is_one_taken` keep
 use Rattle.std.proofs.Common.{◌≡◌, false, map, take}
 use Rattle.std.specs.List.{list_any}
 use Rattle.cfg_lines.specs.Keys.{octets_of}

@@ -1,3 +1,4 @@
+-- why `keys::Names::is_taken` answers as its contract says
 use Rattle.std.proofs.Common.{ap, ◌∙◌, sym}
 use Rattle.std.proofs.lemmas.Bool.{or_left, or_right}
 use Rattle.cfg_lines.specs.Paths.{is_taken}

@@ -1,3 +1,4 @@
+-- why `asked::Asked::add` answers as its contract says
 use Rattle.cfg_nodes.proofs.HeadLaws.{heads-more}
 use Rattle.cfg_nodes.proofs.asked.Asked.add.Goals as goal
 

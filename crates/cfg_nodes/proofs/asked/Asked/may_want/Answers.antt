@@ -1,3 +1,4 @@
+-- why `asked::Asked::may_want` answers as its contract says
 use Rattle.std.proofs.Common.{ap, subst, sym, ◌∙◌}
 use Rattle.cfg_lines.specs.Keys.{is_among}
 use Rattle.cfg_nodes.specs.Asked.{IsApart}

@@ -1,3 +1,4 @@
+-- why `leaf_list::Leaves::len` answers as its contract says
 use Rattle.std.proofs.Common.{length, ap, ◌∙◌}
 use Rattle.cfg_nodes.proofs.IndexLaws.{leaves-count}
 use Rattle.cfg_nodes.proofs.leaf_list.Leaves.len.Goals as goal

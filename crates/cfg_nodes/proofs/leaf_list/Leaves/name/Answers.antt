@@ -1,3 +1,4 @@
+-- why `leaf_list::Leaves::name` answers as its contract says
 use Rattle.std.proofs.Common.{[], map, slice_get, unwrap_or, sym, ap, ◌∙◌}
 use Rattle.cfg_nodes.proofs.IndexLaws.{names-at, value-or}
 use Rattle.cfg_nodes.proofs.leaf_list.Leaves.name.Goals as goal

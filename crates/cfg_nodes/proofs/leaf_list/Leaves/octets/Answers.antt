@@ -1,3 +1,4 @@
+-- why `leaf_list::Leaves::octets` answers as its contract says
 use Rattle.std.proofs.Common.{map, slice_get, sym, ap, ◌∙◌}
 use Rattle.sv_base.proofs.GetLaws.{got}
 use Rattle.cfg_nodes.proofs.IndexLaws.{octets-at}

@@ -1,3 +1,4 @@
+-- why `leaf_list::Leaves::push` answers as its contract says
 use Rattle.std.proofs.Common.{◌++◌, ◌∷◌, [], ap, ap₂, ◌∙◌}
 use Rattle.cfg_nodes.specs.LeafLists.{leaves_at}
 use Rattle.cfg_nodes.proofs.IndexLaws.{leaves-pushed}

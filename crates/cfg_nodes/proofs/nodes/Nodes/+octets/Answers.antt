@@ -1,3 +1,4 @@
+-- why `nodes::Nodes::octets` answers as its contract says
 use Rattle.std.proofs.Common.{◌-◌, [], sym, ap, ◌∙◌}
 use Rattle.std.proofs.lemmas.List.{take_all}
 use Rattle.cfg_lines.specs.Sizes.{element_octets, octets_of}

@@ -1,3 +1,4 @@
+-- what the loops of `nodes::Nodes::octets` keep, and why they end
 use Rattle.std.proofs.Common.{◌≡◌, ◌≤◌, ◌-◌, take}
 use Rattle.std.specs.List.{sum_by}
 use Rattle.cfg_lines.specs.Sizes.{octets_of}

@@ -1,3 +1,4 @@
+-- why `nodes::Nodes::of` answers as its contract says
 use Rattle.std.proofs.Common.{◌≡◌, ◌&&◌, ◌||◌, true, not, is_some, nat_lt, map, reverse, ap, ap₂, ◌∙◌}
 use Rattle.std.proofs.lemmas.Bool.{or_left}
 use Rattle.cfg_lines.specs.Nodes.{leaves, reaches, leaf_names}

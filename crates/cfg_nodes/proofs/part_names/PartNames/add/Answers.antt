@@ -1,3 +1,4 @@
+-- why `part_names::PartNames::add` answers as its contract says
 use Rattle.std.proofs.Common.{sym, ap, ◌∙◌}
 use Rattle.cfg_nodes.specs.PartNames.{part_names}
 use Rattle.cfg_nodes.proofs.PartNameLaws.{second-added}

@@ -1,3 +1,4 @@
+-- why `parts::Parts::add_part` answers as its contract says
 use Rattle.std.proofs.Common.{[], sym, ap, subst, ◌∙◌}
 use Rattle.std.proofs.lemmas.Option.{unwrap_or-slice_get}
 use Rattle.list_laws.proofs.Places.{at_any}

@@ -1,3 +1,4 @@
+-- what the loops of `parts::Parts::add_path` keep
 use Rattle.std.proofs.Common.{◌≡◌, ◌||◌, ℕ, List, length, take, fold}
 use Rattle.octet_rows.specs.Hashing.{nothing, gathered}
 use Rattle.cfg_lines.specs.Keys.{is_among}

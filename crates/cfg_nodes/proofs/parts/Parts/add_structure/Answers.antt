@@ -1,3 +1,4 @@
+-- why `parts::Parts::add_structure` answers as its contract says
 use Rattle.std.proofs.Common.{◌∙◌}
 use Rattle.cfg_nodes.proofs.parts.Parts.add_structure.Goals as goal
 

@@ -1,3 +1,4 @@
+-- why `parts::Parts::has` answers as its contract says
 use Rattle.std.proofs.Common.{is_some, ap, ◌∙◌}
 use Rattle.std.specs.Str.{bytes_eq}
 use Rattle.cfg_lines.proofs.KeyLaws.{placed}

@@ -1,3 +1,4 @@
+-- why `parts::Parts::place_of` answers as its contract says
 use Rattle.std.proofs.Common.{Some, [], ◌∷◌, ◌++◌, sym, ap, ap₂, ◌∙◌}
 use Rattle.octet_rows.specs.Found.{place_in}
 use Rattle.cfg_nodes.specs.Indexed.{parts_of}

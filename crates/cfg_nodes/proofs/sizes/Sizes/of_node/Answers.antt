@@ -1,3 +1,4 @@
+-- why `sizes::Sizes::of_node` answers as its contract says
 use Rattle.std.proofs.Common.{ap, sym, ◌∙◌}
 use Rattle.octet_rows.specs.Found.{place_in}
 use Rattle.cfg_nodes.proofs.IndexLaws.{leaf-found, octets_by}

@@ -1,3 +1,4 @@
+-- why `known_lines::KnownLines::note_control` answers as its contract says
 use Rattle.std.proofs.Common.{refl, sym, ◌∙◌}
 use Rattle.std.proofs.lemmas.List.Folds.{list_any-append}
 use Rattle.cfg_lines.specs.Claims.{control_keys}

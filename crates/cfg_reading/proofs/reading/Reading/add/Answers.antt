@@ -1,3 +1,4 @@
+-- why `reading::Reading::add` answers as its contract says
 use Rattle.std.proofs.Common.{arith, ap, length}
 use Rattle.cfg_reading.proofs.KnownLaws.{known-more, known-few}
 use Rattle.cfg_reading.proofs.reading.Reading.add.Goals as goal

@@ -1,3 +1,4 @@
+-- why `reading::Reading::into_config` answers as its contract says
 use Rattle.std.proofs.Common.{ap, ◌∙◌}
 use Rattle.cfg_lines.specs.Configs.{config_of}
 use Rattle.cfg_lines.proofs.ConfigLaws.{config-on}

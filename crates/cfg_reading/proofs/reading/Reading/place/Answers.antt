@@ -1,3 +1,4 @@
+-- why `reading::Reading::place` answers as its contract says
 use Rattle.std.proofs.Common.{ap, ◌∙◌}
 use Rattle.cfg_lines.specs.Facts.{Facts}
 use Rattle.cfg_lines.specs.Before.{place_of}

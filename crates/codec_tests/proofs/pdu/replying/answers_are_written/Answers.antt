@@ -1,3 +1,4 @@
+-- why `pdu::replying::answers_are_written` answers as its contract says
 use Rattle.std.proofs.Common.{◌∷◌, [], inl, refl, arith}
 use Rattle.ber_write.specs.Minimal.{written, uint_octets}
 use Rattle.mms_pdu.proofs.WrittenLaws.{written_last, one_octet}

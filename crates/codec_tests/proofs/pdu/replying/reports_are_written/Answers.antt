@@ -1,3 +1,4 @@
+-- why `pdu::replying::reports_are_written` answers as its contract says
 use Rattle.std.proofs.Common.{◌∷◌, [], arith}
 use Rattle.ber_write.specs.Minimal.{written}
 use Rattle.ber_write.proofs.ElementLaws.{is_spelling}

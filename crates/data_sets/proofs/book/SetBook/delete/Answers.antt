@@ -1,3 +1,4 @@
+-- why `book::SetBook::delete` answers as its contract says
 use Rattle.std.proofs.Common.{rules, ◌≡◌, suc, List, ◌++◌, map, take, drop, ap, ◌∙◌}
 use Rattle.data_sets.specs.Books.{Booked, Book, seen}
 use Rattle.data_sets.proofs.PlaceLaws.{map_removed}

@@ -1,3 +1,4 @@
+-- why `book::SetBook::deletion` answers as its contract says
 use Rattle.std.proofs.Common.{rules, ◌≡◌, ◌<◌, suc, inl, inr, List, length, map, sym, ap, ◌∙◌, arith, true, false, slice_index_or, Some, Ok, Err}
 use Rattle.std.specs.Prelude.{nat_lt, if◌then◌else◌}
 use Rattle.std.proofs.lemmas.List.{get_or-map, length-map}

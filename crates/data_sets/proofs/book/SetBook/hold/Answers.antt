@@ -1,3 +1,4 @@
+-- why `book::SetBook::hold` answers as its contract says
 use Rattle.std.proofs.Common.{rules, ◌≡◌, ◌<◌, ◌+◌, List, length, map, sym, ap, ◌∙◌, arith, slice_index_or, slice_set}
 use Rattle.std.proofs.lemmas.List.{get_or-map, length-map, map-set}
 use Rattle.data_sets.specs.Books.{Booked, Book, seen, no_set, set_at, held}

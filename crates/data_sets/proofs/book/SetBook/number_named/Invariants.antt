@@ -1,3 +1,4 @@
+-- what the loops of `book::SetBook::number_named` keep
 use Rattle.std.proofs.Common.{◌≡◌, ◌<◌, ℕ, false, slice_index_or}
 use Rattle.data_sets.specs.Books.{is_name, no_set}
 use Rattle.data_sets.proofs.book.SetBook.number_named.Given as goal

@@ -1,3 +1,4 @@
+-- why `book::SetBook::number_referred` answers as its contract says
 use Rattle.std.proofs.Common.{rules, ◌≡◌, ◌<◌, List, length, map, sym, ap, ◌∙◌, arith, true, slice_index_or, below_more}
 use Rattle.std.proofs.lemmas.List.{get_or-map, length-map}
 use Rattle.std.specs.Str.{bytes_eq}

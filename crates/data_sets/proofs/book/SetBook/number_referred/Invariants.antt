@@ -1,3 +1,4 @@
+-- what the loops of `book::SetBook::number_referred` keep
 use Rattle.std.proofs.Common.{◌≡◌, ◌<◌, ℕ, false, slice_index_or}
 use Rattle.std.specs.Str.{bytes_eq}
 use Rattle.data_sets.specs.Books.{reference, no_set}

@@ -1,3 +1,4 @@
+-- what the loops of `book::SetBook::open` keep
 use Rattle.std.proofs.Common.{◌≡◌, take, map}
 use Rattle.data_sets.specs.Books.{seen, booked}
 use Rattle.data_sets.proofs.book.SetBook.open.Given as goal

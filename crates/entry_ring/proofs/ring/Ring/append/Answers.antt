@@ -1,3 +1,4 @@
+-- why `ring::Ring::append` answers as its contract says
 use Rattle.std.proofs.Common.{◌≡◌, ◌<◌, ◌+◌, ◌-◌, ◌++◌, ◌∷◌, [], List, length, drop, suc, ap, ◌∙◌, subst, arith, refl, Some}
 use Rattle.bay_model.specs.Entries.{last_number}
 use Rattle.entry_ring.specs.Held.{Held, Roomed}

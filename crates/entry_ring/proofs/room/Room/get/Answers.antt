@@ -1,3 +1,4 @@
+-- why `room::Room::get` answers as its contract says
 use Rattle.std.proofs.Common.{◌≡◌, ◌++◌, take, drop, length, length-append, ap, sym, ◌∙◌, arith}
 use Rattle.std.specs.Prelude.{Some, slice_get, option_copied, option_map}
 use Rattle.entry_ring.specs.Held.{Roomed}

@@ -1,3 +1,4 @@
+-- why `room::Room::push` answers as its contract says
 use Rattle.circular_buffer.specs.Buffer.{buffer}
 use Rattle.std.proofs.Common.{◌≤◌, ◌+◌, ◌++◌, ◌∷◌, [], length, take, ap, ◌∙◌, arith, refl}
 use Rattle.entry_ring.specs.declared.room.Place.{Place}

@@ -1,3 +1,4 @@
+-- why `history::History::close` answers as its contract says
 use Rattle.std.proofs.Common.{◌≡◌, ℕ, ◌<◌, ◌≤◌, length, sym, subst, ap, ◌∙◌, refl}
 use Rattle.bay_model.specs.Answers.{History}
 use Rattle.bay_histories.specs.Histories.{IsEarlier, by, IsShuffle}

@@ -1,3 +1,4 @@
+-- why `history::History::join` answers as its contract says
 use Rattle.std.proofs.Common.{◌+◌, subst}
 use Rattle.history_lock.specs.contracts.history.Pass.{the_view}
 use Rattle.history_lock.specs.Passes.{Known, Joined}

@@ -1,3 +1,4 @@
+-- why `history::History::turn` answers as its contract says
 use Rattle.std.proofs.Common.{◌++◌, ◌+◌, ◌-◌, ◌<◌, Ok, Err, subst}
 use Rattle.history_lock.specs.declared.fault.TurnFault.TheVariants as faults
 use Rattle.history_lock.specs.contracts.history.Pass.{the_view}

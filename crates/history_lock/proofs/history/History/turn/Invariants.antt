@@ -1,3 +1,4 @@
+-- what the loops of `history::History::turn` keep
 use Rattle.history_lock.specs.Seats.{config_or}
 use Rattle.history_lock.proofs.history.History.turn.Given as goal
 

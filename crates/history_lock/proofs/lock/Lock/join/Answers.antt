@@ -1,3 +1,4 @@
+-- why `lock::Lock::join` answers as its contract says
 use Rattle.std.proofs.Common.{rules, ap, ◌∙◌}
 use Rattle.history_lock.specs.Plays.{Seated}
 use Rattle.history_lock.proofs.Parts.{joins_kept, compares_kept}

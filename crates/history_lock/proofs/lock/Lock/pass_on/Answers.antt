@@ -1,3 +1,4 @@
+-- why `lock::Lock::pass_on` answers as its contract says
 use Rattle.std.proofs.Common.{rules}
 use Rattle.history_lock.proofs.Moves.{passes_kept}
 use Rattle.history_lock.proofs.lock.Lock.pass_on.Goals as goal

@@ -1,3 +1,4 @@
+-- why `lock::Lock::take_turn` answers as its contract says
 use Rattle.std.proofs.Common.{rules, ap, sym, ◌∙◌, ◌∷◌, [], ◌++◌, ◌<◌, ◌^◌, length, Some, None, ℕ, List, Option, subst, true, ◌≡◌}
 use Rattle.atomic_table.specs.Table.{rest}
 use Rattle.sv_base.specs.declared.config.Config.{Config}

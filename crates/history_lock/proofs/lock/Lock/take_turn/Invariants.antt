@@ -1,3 +1,4 @@
+-- what the loops of `lock::Lock::take_turn` keep
 use Rattle.bay_histories.specs.Histories.{turn_of}
 use Rattle.history_lock.proofs.lock.Lock.take_turn.Given as goal
 

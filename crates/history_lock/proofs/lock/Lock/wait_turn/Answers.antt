@@ -1,3 +1,4 @@
+-- why `lock::Lock::wait_turn` answers as its contract says
 use Rattle.std.proofs.Common.{rules, ap, ◌∙◌, sym, subst, ℕ}
 use Rattle.history_lock.specs.Views.{ticket_of}
 use Rattle.history_lock.specs.Plays.{Seated, Got}

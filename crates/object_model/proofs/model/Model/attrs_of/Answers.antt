@@ -1,3 +1,4 @@
+-- why `model::Model::attrs_of` answers as its contract says
 use Rattle.std.proofs.Common.{◌∙◌, ap, map, sym}
 use Rattle.sv_base.specs.declared.numbers.AttrId.{AttrId}
 use Rattle.object_model.proofs.TableLaws.{within-rows, row-of}

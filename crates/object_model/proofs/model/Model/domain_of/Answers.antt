@@ -1,3 +1,4 @@
+-- why `model::Model::domain_of` answers as its contract says
 use Rattle.std.proofs.Common.{◌∙◌, ap, get_or}
 use Rattle.bay_model.specs.NamedLines.{domains}
 use Rattle.name_order.specs.Sorting.{name_at}

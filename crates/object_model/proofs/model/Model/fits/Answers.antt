@@ -1,3 +1,4 @@
+-- why `model::Model::fits` answers as its contract says
 use Rattle.std.proofs.Common.{◌∙◌}
 use Rattle.object_model.proofs.KindLaws.{settable, fits-is}
 use Rattle.object_model.proofs.model.Model.fits.Goals as goal

@@ -1,3 +1,4 @@
+-- why `model::Model::flags` answers as its contract says
 use Rattle.std.proofs.Common.{◌∙◌, ap, sym}
 use Rattle.object_names.specs.declared.attributes.AttrRow.{AttrRow}
 use Rattle.object_model.proofs.AttributeLaws.{within-rows, flags-read}

@@ -1,3 +1,4 @@
+-- why `model::Model::item_of` answers as its contract says
 use Rattle.std.proofs.Common.{◌∙◌, sym, subst, get_or}
 use Rattle.object_model.specs.Finding.{Finds}
 use Rattle.object_model.proofs.TableLaws.{NameAt, no_name, within-names, name-of}

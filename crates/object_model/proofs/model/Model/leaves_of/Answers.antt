@@ -1,3 +1,4 @@
+-- why `model::Model::leaves_of` answers as its contract says
 use Rattle.std.proofs.Common.{◌∙◌, ◌-◌, ◌≤◌, length, take, drop, map, ap, subst, sym, get_or}
 use Rattle.object_model.specs.declared.stands.Stand.{Stand}
 use Rattle.object_names.specs.declared.named.What.TheVariants as whats

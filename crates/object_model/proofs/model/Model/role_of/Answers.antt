@@ -1,3 +1,4 @@
+-- why `model::Model::role_of` answers as its contract says
 use Rattle.std.proofs.Common.{◌∙◌}
 use Rattle.object_model.specs.declared.stands.Stand.{Stand}
 use Rattle.object_names.specs.declared.named.What.TheVariants as whats

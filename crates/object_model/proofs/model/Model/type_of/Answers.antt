@@ -1,3 +1,4 @@
+-- why `model::Model::type_of` answers as its contract says
 use Rattle.std.proofs.Common.{◌∙◌, ap, sym}
 use Rattle.object_model.proofs.TableLaws.{within-rows, row-of}
 use Rattle.bay_model.specs.declared.tables.NodeRow.{NodeRow}

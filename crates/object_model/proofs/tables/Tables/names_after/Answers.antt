@@ -1,3 +1,4 @@
+-- why `tables::Tables::names_after` answers as its contract says
 use Rattle.std.proofs.Common.{◌∙◌, sym, ap, map}
 use Rattle.name_order.specs.Sorting.{name_at}
 use Rattle.object_names.specs.Numbers.{number_in}

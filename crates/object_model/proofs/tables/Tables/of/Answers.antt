@@ -1,3 +1,4 @@
+-- why `tables::Tables::of` answers as its contract says
 use Rattle.std.proofs.Common.{◌≡◌, ◌∙◌, subst, sym, ap, map, []}
 use Rattle.bay_model.specs.Configured.{domains_after}
 use Rattle.bay_model.specs.Named.{nodes, set_defined}

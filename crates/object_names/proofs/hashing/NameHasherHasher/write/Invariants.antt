@@ -1,3 +1,4 @@
+-- what the loops of `hashing::NameHasherHasher::write` keep
 use Rattle.std.proofs.Common.{◌≡◌, ◌≤◌, length, take, fold}
 use Rattle.object_names.specs.Hashing.{gathered}
 use Rattle.object_names.proofs.hashing.NameHasherHasher.write.Given as goal

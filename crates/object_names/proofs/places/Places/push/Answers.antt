@@ -1,3 +1,4 @@
+-- why `places::Places::push` answers as its contract says
 use Rattle.object_names.proofs.NumberLaws.{place-push}
 use Rattle.object_names.proofs.places.Places.push.Goals as goal
 

@@ -1,3 +1,4 @@
+-- why `firsts::Firsts::insert` answers as its contract says
 use Rattle.std.proofs.Common.{◌≡◌, ◌<◌, ◌+◌, ◌==◌, length, slice_set, Some, sym, ap, subst, ◌∙◌, if◌then◌else◌}
 use Rattle.std.specs.Prelude.{nat_eq}
 use Rattle.octet_rows.specs.Chains.{slot, head, latest, AreChained}

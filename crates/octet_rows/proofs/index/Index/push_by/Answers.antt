@@ -1,3 +1,4 @@
+-- why `index::Index::push_by` answers as its contract says
 use Rattle.std.proofs.Common.{ap₂, take, length, subst, sym, ◌∙◌}
 use Rattle.octet_rows.specs.Chains.{latest}
 use Rattle.octet_rows.specs.Found.{Finds, IsNoted}

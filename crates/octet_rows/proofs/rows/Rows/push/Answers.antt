@@ -1,3 +1,4 @@
+-- why `rows::Rows::push` answers as its contract says
 use Rattle.std.proofs.Common.{◌≡◌, ◌++◌, ◌∷◌, [], length, length-append, ap, ◌∙◌, arith}
 use Rattle.octet_rows.specs.declared.rows.Extent.{Extent}
 use Rattle.octet_rows.specs.Laid.{rows_in}

@@ -1,3 +1,4 @@
+-- why `rows::Rows::truncate` answers as its contract says
 use Rattle.std.proofs.Common.{take, sym, ap, ◌∙◌}
 use Rattle.std.proofs.lemmas.List.{take-map}
 use Rattle.octet_rows.specs.Laid.{row_in, rows_in}

@@ -1,3 +1,4 @@
+-- why `caller::Caller::release` answers as its contract says
 use Rattle.osi_stack.proofs.FitLaws.{release_fits}
 use Rattle.osi_stack.proofs.caller.Caller.release.Goals as goal
 

@@ -1,3 +1,4 @@
+-- why `connection::Connection::called` answers as its contract says
 use Rattle.std.proofs.Common.{false, refl}
 use Rattle.osi_stack.specs.declared.phase.Phase.TheVariants.{Idle}
 use Rattle.osi_stack.proofs.StandingLaws.{nothing_stands}

@@ -1,3 +1,4 @@
+-- why `connection::Connection::calling` answers as its contract says
 use Rattle.std.proofs.Common.{true, refl}
 use Rattle.osi_stack.specs.declared.phase.Phase.TheVariants.{Calling}
 use Rattle.osi_stack.proofs.StandingLaws.{nothing_stands}

@@ -1,3 +1,4 @@
+-- why `connection::Connection::feed` answers as its contract says
 use Rattle.std.proofs.Common.{Option, sym, subst, arith}
 use Rattle.std.proofs.lemmas.Result.{MatchResult-weaker}
 use Rattle.osi_stack.specs.declared.connection.Link.{Link}

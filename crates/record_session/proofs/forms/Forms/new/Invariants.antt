@@ -1,3 +1,4 @@
+-- what the loops of `forms::Forms::new` keep
 use Rattle.std.proofs.Common.{◌≡◌, replicate}
 use Rattle.record_steps.specs.declared.form.Form.TheVariants.{Shut}
 use Rattle.record_session.proofs.forms.Forms.new.Given as goal

@@ -1,3 +1,4 @@
+-- why `forms::Forms::shape` answers as its contract says
 use Rattle.std.proofs.Common.{◌<◌, length, ap, subst, ◌∙◌, arith}
 use Rattle.std.proofs.lemmas.List.{get_or_default}
 use Rattle.record_steps.specs.Forms.{IsSized, plain, shape_of}

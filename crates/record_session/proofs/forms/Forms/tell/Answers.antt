@@ -1,3 +1,4 @@
+-- why `forms::Forms::tell` answers as its contract says
 use Rattle.std.proofs.Common.{◌≡◌, ◌<◌, List, ℕ, length, set, get_or, sym, ap, subst, ◌∙◌, arith}
 use Rattle.std.specs.Prelude.{OnOk}
 use Rattle.std.proofs.lemmas.List.{length-set, get_or_default, get_or-set_same}

@@ -1,3 +1,4 @@
+-- why `playing::Playing::act` answers as its contract says
 use Rattle.std.proofs.Common.{◌≤◌, ◌+◌, ap, sym, subst, arith}
 use Rattle.std.specs.Prelude.{None, Some, IfNone}
 use Rattle.std.proofs.lemmas.Result.{IfOk-weaker}

@@ -1,3 +1,4 @@
+-- why `playing::Playing::do_parts` answers as its contract says
 use Rattle.std.proofs.Common.{◌≡◌, ◌≤◌, ◌+◌, ◌∷◌, [], ℕ, List, length, take, drop, ap, sym, subst, ◌∙◌, arith}
 use Rattle.std.specs.Prelude.{Some, vec_len}
 use Rattle.std.specs.List.{AllByRecursion}

@@ -1,3 +1,4 @@
+-- what the loops of `playing::Playing::do_parts` keep
 use Rattle.std.proofs.Common.{◌≤◌, ◌+◌, drop}
 use Rattle.std.specs.List.{AllByRecursion}
 use Rattle.record_steps.specs.Streams.{made}

@@ -1,3 +1,4 @@
+-- why `playing::Playing::new` answers as its contract says
 use Rattle.std.proofs.Common.{sym, subst}
 use Rattle.record_steps.specs.Forms.{Stands, shut}
 use Rattle.record_session.proofs.playing.Playing.new.Goals as goal

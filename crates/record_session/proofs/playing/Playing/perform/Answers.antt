@@ -1,3 +1,4 @@
+-- why `playing::Playing::perform` answers as its contract says
 use Rattle.std.proofs.Common.{◌++◌, ap, refl, sym, subst, ◌∙◌}
 use Rattle.std.specs.Prelude.{Ok}
 use Rattle.bay_core.specs.State.{State}

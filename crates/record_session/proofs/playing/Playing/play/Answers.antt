@@ -1,3 +1,4 @@
+-- why `playing::Playing::play` answers as its contract says
 use Rattle.std.proofs.Common.{◌≤◌, ℕ, List, sym, subst, refl, ◌∙◌, ap, arith}
 use Rattle.std.proofs.lemmas.Result.{IfOk-weaker}
 use Rattle.run_record.specs.Seen.{line_seen}

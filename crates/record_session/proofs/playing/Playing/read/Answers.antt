@@ -1,3 +1,4 @@
+-- why `playing::Playing::read` answers as its contract says
 use Rattle.std.proofs.Common.{refl, sym, ap, subst, ◌∙◌, length, arith}
 use Rattle.std.specs.Prelude.{Some}
 use Rattle.std.proofs.lemmas.Result.{IfOk-weaker}

@@ -1,3 +1,4 @@
+-- why `reader::Reader::feed` answers as its contract says
 use Rattle.std.proofs.Common.{[], ◌∷◌, ◌++◌, refl, subst, ◌∙◌}
 use Rattle.std.specs.Prelude.{None, Some}
 use Rattle.record_session.specs.Sessions.{Moves}

@@ -1,3 +1,4 @@
+-- why `reader::Reader::feed_lines` answers as its contract says
 use Rattle.std.proofs.Common.{◌++◌, ap, ◌∙◌}
 use Rattle.std.specs.Prelude.{None, Some}
 use Rattle.record_session.proofs.Feeding.{feeds-lines}

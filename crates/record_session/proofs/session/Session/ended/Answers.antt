@@ -1,3 +1,4 @@
+-- why `session::Session::ended` answers as its contract says
 use Rattle.std.proofs.Common.{◌≡◌, ◌+◌, suc, arith}
 use Rattle.std.proofs.lemmas.Result.{IfOk-weaker}
 use Rattle.record_session.proofs.LimitLaws.{ended-long, ended-short}

@@ -1,3 +1,4 @@
+-- why `session::Session::read` answers as its contract says
 use Rattle.record_session.proofs.ReadingOn.{reads-on}
 use Rattle.record_session.proofs.session.Session.read.Goals as goal
 

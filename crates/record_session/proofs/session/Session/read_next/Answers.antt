@@ -1,3 +1,4 @@
+-- why `session::Session::read_next` answers as its contract says
 use Rattle.std.proofs.Common.{◌≡◌, ◌+◌, suc, arith, ap, subst, ◌∙◌}
 use Rattle.std.proofs.lemmas.Result.{IfOk-weaker}
 use Rattle.record_outcome.specs.Records.{passed, lines_at}

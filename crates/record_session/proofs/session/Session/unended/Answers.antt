@@ -1,3 +1,4 @@
+-- why `session::Session::unended` answers as its contract says
 use Rattle.std.proofs.lemmas.Result.{IfOk-weaker}
 use Rattle.record_session.proofs.LimitLaws.{unended-over, unended-missing}
 use Rattle.record_session.proofs.session.Session.unended.Goals as goal

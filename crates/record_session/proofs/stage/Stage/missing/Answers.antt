@@ -1,3 +1,4 @@
+-- why `stage::Stage::missing` answers as its contract says
 use Rattle.std.proofs.Common.{ap, ◌∙◌}
 use Rattle.std.proofs.lemmas.Result.{IfOk-weaker}
 use Rattle.record_outcome.specs.declared.status.Status.TheVariants as statuses

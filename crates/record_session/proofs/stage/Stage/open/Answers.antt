@@ -1,3 +1,4 @@
+-- why `stage::Stage::open` answers as its contract says
 use Rattle.record_session.proofs.StageLaws.{opens-head}
 use Rattle.record_session.proofs.stage.Stage.open.Goals as goal
 

@@ -1,3 +1,4 @@
+-- why `stage::Stage::passed` answers as its contract says
 use Rattle.std.proofs.lemmas.Result.{IfOk-weaker}
 use Rattle.record_session.proofs.LimitLaws.{passed-opening, passed-playing, passed-configuring}
 use Rattle.record_session.proofs.stage.Stage.passed.Goals as goal

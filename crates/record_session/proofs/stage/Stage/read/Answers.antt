@@ -1,3 +1,4 @@
+-- why `stage::Stage::read` answers as its contract says
 use Rattle.std.proofs.Common.{◌≤◌, ◌+◌, suc, length, refl, sym, subst}
 use Rattle.std.specs.Prelude.{IfNone}
 use Rattle.std.proofs.lemmas.Result.{IfOk-weaker}

@@ -1,3 +1,4 @@
+-- why `stage::Stage::read_any` answers as its contract says
 use Rattle.std.proofs.Common.{◌≡◌, ◌≤◌, ◌+◌, suc, length, true, false, refl, sym, subst, rules}
 use Rattle.std.specs.Prelude.{codes, IfNone}
 use Rattle.std.specs.Str.{bytes_eq}

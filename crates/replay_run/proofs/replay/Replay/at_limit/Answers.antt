@@ -1,3 +1,4 @@
+-- why `replay::Replay::at_limit` answers as its contract says
 use Rattle.std.proofs.Common.{◌≡◌, ◌<◌, [], length, take, subst, arith, rules, length-take}
 use Rattle.std.specs.Io.KnownBytes.{Consumes}
 use Rattle.replay_run.proofs.Judging.{run-ends, run-passes}

@@ -1,3 +1,4 @@
+-- why `replay::Replay::new` answers as its contract says
 use Rattle.std.proofs.Common.{arith}
 use Rattle.replay_run.proofs.Judging.{run-none}
 use Rattle.replay_run.proofs.replay.Replay.new.Goals as goal

@@ -1,3 +1,4 @@
+-- why `replay::Replay::turn` answers as its contract says
 use Rattle.std.proofs.Common.{◌≡◌, ◌≤◌, ◌+◌, [], length, take, subst, arith, length-take}
 use Rattle.std.specs.Io.KnownBytes.{Consumes}
 use Rattle.replay_run.specs.Runs.{Run}

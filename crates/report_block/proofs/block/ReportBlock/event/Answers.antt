@@ -1,3 +1,4 @@
+-- why `block::ReportBlock::event` answers as its contract says
 use Rattle.std.proofs.Common.{◌∙◌, ℕ, List, [], refl, ap, sym, subst}
 use Rattle.std.specs.Option.{option_map}
 use Rattle.bay_model.specs.Points.{valued}

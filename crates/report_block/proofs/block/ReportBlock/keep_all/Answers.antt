@@ -1,3 +1,4 @@
+-- why `block::ReportBlock::keep_all` answers as its contract says
 use Rattle.std.proofs.Common.{◌∙◌, ℕ, List, ap, sym}
 use Rattle.bay_rooms.specs.Rooms.{Filled}
 use Rattle.entry_ring.specs.Ringed.{Ringed, after_entry}

@@ -1,3 +1,4 @@
+-- why `block::ReportBlock::read` answers as its contract says
 use Rattle.std.proofs.Common.{◌≡◌, ℕ, ◌∙◌, ap}
 use Rattle.std.specs.Prelude.{max, ◌∷◌, Result, Ok, Err, IfOk}
 use Rattle.sv_base.specs.declared.value.Value.{Value}

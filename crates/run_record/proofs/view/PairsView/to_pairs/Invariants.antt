@@ -1,3 +1,4 @@
+-- what the loops of `view::PairsView::to_pairs` keep, and why they end
 use Rattle.std.proofs.Common.{◌≡◌, ◌++◌, length}
 use Rattle.run_record.specs.Seen.{pairs_seen}
 use Rattle.run_record.proofs.view.PairsView.to_pairs.Given as goal

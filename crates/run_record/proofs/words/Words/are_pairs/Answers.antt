@@ -1,3 +1,4 @@
+-- why `words::Words::are_pairs` answers as its contract says
 use Rattle.run_record.proofs.SeenLaws.{pairs-counted}
 use Rattle.run_record.proofs.words.Words.are_pairs.Goals as goal
 

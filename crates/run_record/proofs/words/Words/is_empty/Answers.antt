@@ -1,3 +1,4 @@
+-- why `words::Words::is_empty` answers as its contract says
 use Rattle.run_record.proofs.SeenLaws.{none-left}
 use Rattle.run_record.proofs.words.Words.is_empty.Goals as goal
 

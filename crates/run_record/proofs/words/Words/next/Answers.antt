@@ -1,3 +1,4 @@
+-- why `words::Words::next` answers as its contract says
 use Rattle.run_record.proofs.SeenLaws.{first-word, last-word}
 use Rattle.run_record.proofs.words.Words.next.Goals as goal
 

@@ -1,3 +1,4 @@
+-- why `form::ScriptForm::in_record` answers as its contract says
 use Rattle.std.proofs.Common.{refl, subst}
 use Rattle.record_steps.specs.Forms.{mms}
 use Rattle.script_reading.specs.Forms.{IsFit}

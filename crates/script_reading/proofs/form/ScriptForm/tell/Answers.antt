@@ -1,3 +1,4 @@
+-- why `form::ScriptForm::tell` answers as its contract says
 use Rattle.std.proofs.lemmas.Result.{IfOk-weaker}
 use Rattle.script_reading.specs.Forms.{form_in}
 use Rattle.script_reading.proofs.form.ScriptForm.tell.Goals as goal

@@ -1,3 +1,4 @@
+-- why `scripting::Scripts::end` answers as its contract says
 use Rattle.std.proofs.Common.{ap, ne_eqb}
 use Rattle.std.specs.Prelude.{if◌then◌else◌}
 use Rattle.record_outcome.specs.declared.status.Status.TheVariants as statuses

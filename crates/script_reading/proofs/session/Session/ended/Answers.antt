@@ -1,3 +1,4 @@
+-- why `session::Session::ended` answers as its contract says
 use Rattle.std.proofs.Common.{◌≡◌, ◌+◌, suc, arith, ap, ◌∙◌}
 use Rattle.std.proofs.lemmas.Result.{IfOk-weaker}
 use Rattle.script_reading.specs.Inputs.{passed, unended}

@@ -1,3 +1,4 @@
+-- why `session::Session::read` answers as its contract says
 use Rattle.std.proofs.Common.{◌≡◌, ◌+◌, suc, arith, sym, ap, subst, ◌∙◌}
 use Rattle.std.proofs.lemmas.Result.{IfOk-weaker}
 use Rattle.script_reading.specs.Inputs.{passed, lines_at}

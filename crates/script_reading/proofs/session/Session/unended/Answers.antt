@@ -1,3 +1,4 @@
+-- why `session::Session::unended` answers as its contract says
 use Rattle.std.proofs.lemmas.Result.{IfOk-weaker}
 use Rattle.script_reading.specs.Readings.{place_of}
 use Rattle.script_reading.proofs.RunLaws.{unended-over, unended-missing}

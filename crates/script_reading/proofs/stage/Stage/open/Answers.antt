@@ -1,3 +1,4 @@
+-- why `stage::Stage::open` answers as its contract says
 use Rattle.std.proofs.Common.{sym, ap, subst, ◌∙◌}
 use Rattle.text_words.specs.Words.{texts}
 use Rattle.script_reading.specs.Openings.{headed}

@@ -1,3 +1,4 @@
+-- why `contexts::Contexts::get` answers as its contract says
 use Rattle.std.proofs.Common.{List, Bool, sym, ap, ◌∙◌, zero-add, refl}
 use Rattle.std.specs.Prelude.{slice_get}
 use Rattle.session_pres.proofs.ContextLaws.{flag_there, no_flag}

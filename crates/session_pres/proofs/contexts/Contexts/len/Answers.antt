@@ -1,3 +1,4 @@
+-- why `contexts::Contexts::len` answers as its contract says
 use Rattle.std.proofs.Common.{List, Bool, length, sym, ap, ◌∙◌}
 use Rattle.session_pres.proofs.ContextLaws.{length-flags}
 use Rattle.session_pres.proofs.contexts.Contexts.len.Goals as goal

@@ -1,3 +1,4 @@
+-- what the loops of `groups::Groups::place` keep
 use Rattle.std.proofs.Common.{◌≡◌, ◌+◌, drop}
 use Rattle.std.specs.Option.{option_map}
 use Rattle.setting_groups.specs.Grouped.{place_in}

@@ -1,3 +1,4 @@
+-- what the loops of `groups::Groups::set_all` keep
 use Rattle.std.proofs.Common.{◌≡◌, drop}
 use Rattle.setting_groups.specs.Frames.{ArePut}
 use Rattle.setting_groups.specs.Grouped.{after_values}

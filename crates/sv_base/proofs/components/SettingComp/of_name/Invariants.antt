@@ -1,3 +1,4 @@
+-- what the loops of `components::SettingComp::of_name` keep
 use Rattle.std.proofs.Common.{◌≡◌, take, None}
 use Rattle.std.specs.List.{find}
 use Rattle.std.specs.Str.{bytes_eq}

@@ -1,3 +1,4 @@
+-- why `types::Parts::get` answers as its contract says
 use Rattle.sv_base.proofs.GetLaws.{got}
 use Rattle.sv_base.proofs.types.Parts.get.Goals as goal
 

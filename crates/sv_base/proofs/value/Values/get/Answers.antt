@@ -1,3 +1,4 @@
+-- why `value::Values::get` answers as its contract says
 use Rattle.sv_base.proofs.RowLaws.{values-row}
 use Rattle.sv_base.proofs.GetLaws.{got}
 use Rattle.sv_base.proofs.value.Values.get.Goals as goal

@@ -1,3 +1,4 @@
+-- why `mem_source::MemSourceSource::read` answers as its contract says
 use Rattle.std.proofs.Common.{◌≡◌, drop, length, min, arith, ap, sym, ◌∙◌}
 use Rattle.sv_io.specs.Memory.{Reading}
 use Rattle.sv_io.proofs.Front.{reads, ended, whole, room}

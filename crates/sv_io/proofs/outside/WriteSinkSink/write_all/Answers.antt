@@ -1,3 +1,4 @@
+-- why `outside::WriteSinkSink::write_all` answers as its contract says
 use Rattle.std.proofs.Common.{refl}
 use Rattle.sv_io.proofs.Front.{written_more}
 use Rattle.sv_io.proofs.outside.WriteSinkSink.write_all.Goals as goal

@@ -1,3 +1,4 @@
+-- what the loops of `outside::WriteSinkSink::write_all` keep, and why they end
 use Rattle.std.proofs.Common.{◌≡◌, length}
 use Rattle.sv_io.proofs.Front.{IsWritten}
 use Rattle.sv_io.proofs.outside.WriteSinkSink.write_all.Given as goal

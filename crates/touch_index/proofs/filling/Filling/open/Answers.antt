@@ -1,3 +1,4 @@
+-- why `filling::Filling::open` answers as its contract says
 use Rattle.touch_index.proofs.IndexLaws.{begun}
 use Rattle.touch_index.proofs.filling.Filling.open.Goals as goal
 

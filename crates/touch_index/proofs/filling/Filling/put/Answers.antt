@@ -1,3 +1,4 @@
+-- why `filling::Filling::put` answers as its contract says
 use Rattle.std.proofs.Common.{◌≤◌, ◌<◌, arith, length, subst, sym, ap, refl, set}
 use Rattle.touch_index.specs.Indexed.{Indexed, AreAmong, block_at, pairs}
 use Rattle.touch_index.proofs.IndexLaws.{block_put, put_is_filled}

@@ -1,3 +1,4 @@
+-- why `index::Index::gather` answers as its contract says
 use Rattle.std.proofs.Common.{◌≡◌, ◌<◌, ◌≤◌, ◌+◌, ◌-◌, ◌∙◌, ℕ, suc, ap, sym, refl, subst, arith, length, get_or, drop, false}
 use Rattle.std.specs.List.{All}
 use Rattle.std.proofs.lemmas.List.{drop_all, drop_more}

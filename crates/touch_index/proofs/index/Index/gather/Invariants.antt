@@ -1,3 +1,4 @@
+-- what the loops of `index::Index::gather` keep
 use Rattle.std.proofs.Common.{◌≡◌, ◌<◌, ℕ, List, length, drop}
 use Rattle.bay_model.specs.declared.tables.MemberShape.{MemberShape}
 use Rattle.trigger_core.specs.Noted.{noted}

@@ -1,3 +1,4 @@
+-- why `notes::Notes::clear_last` answers as its contract says
 use Rattle.std.proofs.Common.{rules, ◌≡◌, ◌++◌, ◌∷◌, [], arith}
 use Rattle.std.proofs.lemmas.List.{length-set}
 use Rattle.touch_index.proofs.NotesLaws.{covered_less, weighs_none}

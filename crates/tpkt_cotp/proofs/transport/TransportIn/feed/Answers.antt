@@ -1,3 +1,4 @@
+-- why `transport::TransportIn::feed` answers as its contract says
 use Rattle.std.proofs.Common.{arith}
 use Rattle.std.proofs.lemmas.Result.{MatchResult-weaker}
 use Rattle.tpkt_cotp.proofs.StreamLaws.{goes_for, refuses, held_fits}

@@ -1,3 +1,4 @@
+-- why `transport::TransportIn::opened` answers as its contract says
 use Rattle.std.proofs.Common.{List, ℕ, false, refl, ap}
 use Rattle.tpkt_cotp.specs.declared.state.State.{State}
 use Rattle.tpkt_cotp.proofs.StreamLaws.{stands_first}

@@ -1,3 +1,4 @@
+-- why `transport::TransportIn::step` answers as its contract says
 use Rattle.std.proofs.Common.{arith}
 use Rattle.std.proofs.lemmas.Result.{MatchResult-weaker}
 use Rattle.tpkt_cotp.specs.declared.transport.TransportIn.{TransportIn}

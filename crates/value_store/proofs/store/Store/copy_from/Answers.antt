@@ -1,3 +1,4 @@
+-- why `store::Store::copy_from` answers as its contract says
 use Rattle.std.proofs.Common.{◌≡◌, ◌<◌, ap, sym, subst, ◌∙◌, arith, List, length, map, slice_set}
 use Rattle.std.proofs.lemmas.List.{map-set, get_or-map, length-map}
 use Rattle.value_store.specs.Stored.{Stored, stored, attribute, no_attribute, with_value}

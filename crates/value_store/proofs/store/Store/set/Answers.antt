@@ -1,3 +1,4 @@
+-- why `store::Store::set` answers as its contract says
 use Rattle.std.proofs.Common.{◌≡◌, ◌<◌, OnOk, ap, sym, subst, ◌∙◌, arith, List, length, map, slice_set}
 use Rattle.std.proofs.lemmas.List.{map-set, get_or-map, length-map}
 use Rattle.std.proofs.lemmas.Result.{on_ok_weaker}

@@ -1,3 +1,4 @@
+-- why `slots::Slots::pour` answers as its contract says
 use Rattle.std.proofs.Common.{ap, arith, length, ℕ}
 use Rattle.bay_rooms.specs.Rooms.{Filled}
 use Rattle.window_core.specs.Slots.{Slotted, total}

@@ -1,3 +1,4 @@
+-- why `slots::Slots::put` answers as its contract says
 use Rattle.std.proofs.Common.{ℕ, length-append, ◌≡◌, ◌-◌, ◌+◌, ◌<◌, ◌∙◌, ap, ap₂, sym, length, None, Some, is_some, slice_index_or, slice_set, arith}
 use Rattle.std.proofs.lemmas.List.{length-set}
 use Rattle.bay_rooms.specs.Rooms.{Filled}
