@@ -8,7 +8,7 @@ use Rattle.list_laws.proofs.Places.{got-map}
 use Rattle.sv_base.specs.declared.config.Config.{Config}
 use Rattle.sv_base.specs.declared.numbers.AssocNo.{AssocNo}
 use Rattle.sv_base.specs.declared.value.Value.{Value}
-use Rattle.bay_rooms.specs.Rooms.{Filled}
+use Rattle.sv_base.specs.Filled.{Filled}
 use Rattle.sv_base.specs.declared.components.Comp.{Comp}
 use Rattle.bay_model.specs.Notes.{all_members, no_reason}
 use Rattle.window_core.specs.Points.{at}

@@ -19,7 +19,7 @@ use Rattle.bay_core.proofs.ShapeLaws.{node_shape, node_shapes, nodes_named, memb
 use Rattle.sv_base.specs.declared.config.Config.{Config}
 use Rattle.bay_model.specs.Named.{configured_model}
 use Rattle.bay_model.specs.Points.{now}
-use Rattle.bay_rooms.specs.Rooms.{Filled}
+use Rattle.sv_base.specs.Filled.{Filled}
 use Rattle.assoc_table.specs.Seats.{closed}
 use Rattle.assoc_table.specs.Standing.{Stands as AssociationsStand}
 use Rattle.assoc_table.proofs.StandLaws.{stands-empty}

@@ -4,7 +4,7 @@ use Rattle.std.specs.Prelude.{slice_get, slice_set}
 use Rattle.std.proofs.lemmas.List.{length-map, length-set}
 use Rattle.list_laws.proofs.Places.{got-map, got-set}
 use Rattle.sv_base.specs.declared.config.Config.{Config}
-use Rattle.bay_rooms.specs.Rooms.{Filled}
+use Rattle.sv_base.specs.Filled.{Filled}
 use Rattle.bay_model.specs.Model.{Parameters}
 use Rattle.object_model.specs.Nodes.{node_rows}
 use Rattle.data_sets.specs.Books.{Book, number_referred}

@@ -1,7 +1,7 @@
 -- What a bay lends to a reply.
 use Rattle.std.proofs.Common.{◌≡◌, ◌∙◌, ℕ, List, map, max, ap, sym, subst, arith, unwrap_or}
 use Rattle.sv_base.specs.declared.config.Config.{Config}
-use Rattle.bay_rooms.specs.Rooms.{Filled}
+use Rattle.sv_base.specs.Filled.{Filled}
 use Rattle.bay_model.specs.Named.{configured_model}
 use Rattle.data_sets.specs.Books.{Book}
 use Rattle.data_sets.specs.Standing.{data_set}

@@ -4,7 +4,7 @@ use Rattle.std.specs.Prelude.{slice_get, max, Option}
 use Rattle.std.proofs.lemmas.Bool.{cases_eq}
 use Rattle.std.proofs.lemmas.Bool.Decides.{leb_tells}
 use Rattle.std.proofs.lemmas.List.{length-set, get_or-set_same, get_or-set_other}
-use Rattle.bay_rooms.specs.Rooms.{Filled}
+use Rattle.sv_base.specs.Filled.{Filled}
 use Rattle.bay_model.specs.declared.tables.NodeRow.{NodeRow}
 use Rattle.set_view.specs.Shapes.{shapes_of}
 use Rattle.data_sets.specs.Books.{Booked, Book, IsSet, nodes_in, no_set, with_set}

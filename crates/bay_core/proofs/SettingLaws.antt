@@ -21,7 +21,7 @@ use Rattle.bay_model.specs.Notes.{note, note_by, union_of}
 use Rattle.bay_model.specs.Parameters.{parameters_at, is_interrogation, is_purging_change, purges}
 use Rattle.bay_model.specs.Singles.{arrival}
 use Rattle.bay_model.specs.Points.{Deed, Past, now, valued, put}
-use Rattle.bay_rooms.specs.Rooms.{Filled}
+use Rattle.sv_base.specs.Filled.{Filled}
 use Rattle.bay_model.specs.Sets.{members, sets as model_sets}
 use Rattle.object_model.specs.Fits.{fits}
 use Rattle.trigger_core.specs.Noted.{noted}

@@ -20,7 +20,7 @@ use Rattle.sv_base.specs.declared.config.CtlDef.{CtlDef}
 use Rattle.sv_base.specs.Same.{is_same}
 use Rattle.sv_base.specs.declared.numbers.AssocNo.{AssocNo}
 use Rattle.sv_base.specs.declared.value.Value.{Value}
-use Rattle.bay_rooms.specs.Kinds.{is_kind, is_in_range, kind_of}
+use Rattle.sv_base.specs.Kinds.{is_kind, is_in_range, kind_of}
 use Rattle.sv_base.specs.declared.components.Comp.{Comp}
 use Rattle.sv_base.specs.declared.config.SgDef.{SgDef}
 use Rattle.setting_groups.specs.Opened.{IsGrouped}

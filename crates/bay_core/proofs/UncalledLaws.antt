@@ -10,7 +10,7 @@ use Rattle.sv_base.specs.declared.config.Config.{Config}
 use Rattle.sv_base.specs.declared.config.SgDef.{SgDef}
 use Rattle.sv_base.specs.declared.value.Value.{Value}
 use Rattle.sv_base.specs.declared.value.Value.TheVariants as kinds
-use Rattle.bay_rooms.specs.Kinds.{is_kind}
+use Rattle.sv_base.specs.Kinds.{is_kind}
 use Rattle.sv_base.specs.declared.components.Comp.{Comp}
 use Rattle.sv_base.specs.declared.components.SettingComp.{SettingComp}
 use Rattle.sv_base.specs.declared.components.SettingComp.TheVariants.{NumOfSG, ActSG, EditSG, CnfEdit, LActTm}

@@ -20,7 +20,7 @@ use Rattle.sv_base.specs.Fields.{shape_of}
 use Rattle.sv_base.specs.Types.{Shape, Fields, simple, composed, no_field, field}
 use Rattle.bay_model.specs.declared.tables.MemberShape.{MemberShape}
 use Rattle.bay_model.specs.Attributes.{attributes}
-use Rattle.bay_rooms.specs.Kinds.{kind_of, is_kind, is_in_range}
+use Rattle.sv_base.specs.Kinds.{kind_of, is_kind, is_in_range}
 use Rattle.bay_model.specs.Generated.{Parameter, is_selected, parameters, selection}
 use Rattle.bay_model.specs.Lookups.{node_of}
 use Rattle.bay_model.specs.Named.{configured_model}

@@ -3,7 +3,7 @@
 -- groups.
 use Rattle.std.specs.Prelude.{◌≡◌, ◌≢◌, ◌<◌, ◌≤◌, ℕ, List, [], length, Some, slice_get}
 use Rattle.sv_base.specs.declared.config.Config.{Config}
-use Rattle.bay_rooms.specs.Rooms.{Filled}
+use Rattle.sv_base.specs.Filled.{Filled}
 use Rattle.object_model.specs.Nodes.{node_rows}
 use Rattle.data_sets.specs.Books.{Book, number_referred, set_at}
 use Rattle.data_sets.specs.Standing.{IsNamed, data_set}

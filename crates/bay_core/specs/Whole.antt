@@ -2,7 +2,7 @@
 -- each block has nothing due before the moment that the bay knows of it.
 use Rattle.std.specs.Prelude.{◌≡◌, ℕ, List, map, Option}
 use Rattle.sv_base.specs.declared.config.Config.{Config}
-use Rattle.bay_rooms.specs.Rooms.{Filled}
+use Rattle.sv_base.specs.Filled.{Filled}
 use Rattle.bay_model.specs.Configured.{control_defined}
 use Rattle.control_core.specs.Tables.{Table}
 use Rattle.bay_queues.specs.Queued.{configs}

@@ -1,7 +1,8 @@
 //! A bay.
 
-use bay_model::{Answer, Change, Fixed, Output, Report};
+use bay_model::{Answer, Change, Output, Report};
 use bay_queues::Queues;
+use bay_rooms::Fixed;
 use bay_values::Values;
 use block_reports::Rooms;
 use block_watch::{Dues, Watch};

@@ -15,8 +15,9 @@ ghost use Rattle.bay_core.specs.Opened.{seen, part_defined, queues_opened};
 
 use crate::bay::Bay;
 use crate::taking::MOST_MEMBERS;
-use bay_model::{Change, Fixed};
+use bay_model::Change;
 use bay_queues::Queues;
+use bay_rooms::Fixed;
 use bay_values::Values;
 use block_watch::{Dues, Watch};
 use data_sets::SetBook;

@@ -14,7 +14,8 @@ ghost use Rattle.block_watch.specs.Watched.{IsNoteOf, IsWatching, AreBlank, memb
 use crate::bay::Bay;
 use crate::source::Source;
 use bay_histories::StepFault;
-use bay_model::{Answer, Change, Fixed, Note, Sets};
+use bay_model::{Answer, Change, Note, Sets};
+use bay_rooms::Fixed;
 use block_watch::{Dues, Watch};
 use report_block::{EventRoom, ReportBlock};
 use sv_base::{ActorNo, Moment};

@@ -3,7 +3,7 @@
 
 ghost use Rattle.std.specs.Prelude.{◌≡◌, ◌≤◌, ◌<◌, ◌++◌, ◌∷◌, [], vec_len, vec_capacity, if◌then◌else◌};
 ghost use Rattle.bay_core.specs.Asked.{set_code};
-ghost use Rattle.bay_rooms.specs.Kinds.{is_kind, text};
+ghost use Rattle.sv_base.specs.Kinds.{is_kind, text};
 
 use crate::bay::Bay;
 use crate::setting::event_all;

@@ -6,7 +6,7 @@ ghost use Rattle.bay_core.specs.Timed.{arrived_all, arrived_part, AreQuietUntil,
 
 use crate::bay::Bay;
 use crate::source::Source;
-use bay_model::Fixed;
+use bay_rooms::Fixed;
 use block_watch::{Dues, has_come};
 use report_block::ReportBlock;
 use sv_base::Moment;

@@ -6,7 +6,7 @@ use Rattle.sv_base.specs.Tree.{Row}
 use Rattle.sv_base.specs.declared.value.Value.{Value}
 use Rattle.sv_base.specs.declared.value.Value.TheVariants as kinds
 use Rattle.bay_model.specs.Model.{Model, Node, Tree, Trees, Call, select, operate, cancel, attribute, withheld, leaf, structure, none, more, single, calling}
-use Rattle.bay_rooms.specs.Kinds.{truth, int, uint}
+use Rattle.sv_base.specs.Kinds.{truth, int, uint}
 use Rattle.bay_examples.specs.ExampleNodes.{domain, node, nodes, attr, attrs_with, power, attribute_node, within}
 use Rattle.bay_examples.specs.Example.{example}
 

@@ -6,7 +6,7 @@ use Rattle.sv_base.specs.declared.value.Value.TheVariants as kinds
 use Rattle.sv_base.specs.declared.components.Comp.{Comp}
 use Rattle.sv_base.specs.declared.components.Comp.TheVariants as comps
 use Rattle.bay_model.specs.Model.{Attr, Node, Tree, Trees, reported, attribute, component, leaf, structure, none, more, single, several}
-use Rattle.bay_rooms.specs.Kinds.{Kind, truth, int, bits, time}
+use Rattle.sv_base.specs.Kinds.{Kind, truth, int, bits, time}
 
 abbrev pub domain : List ℕ
 domain = codes "BAY1"

@@ -6,7 +6,7 @@ use Rattle.bay_model.specs.Model as model
 use Rattle.bay_model.specs.Model.{Model, Node, Attr, Access, Trees, attribute, setting, leaf, structure, none, more, single}
 use Rattle.sv_base.specs.declared.components.SettingComp.{SettingComp}
 use Rattle.sv_base.specs.declared.components.SettingComp.TheVariants.{NumOfSG, ActSG, EditSG, CnfEdit, LActTm}
-use Rattle.bay_rooms.specs.Kinds.{int}
+use Rattle.sv_base.specs.Kinds.{int}
 use Rattle.sv_base.specs.ComponentTable.{setting_components}
 use Rattle.bay_examples.specs.ExampleNodes.{domain, node, nodes, attrs_with, power, attribute_node, within}
 use Rattle.bay_examples.specs.Example.{example}

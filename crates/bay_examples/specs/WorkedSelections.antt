@@ -4,7 +4,7 @@ use Rattle.std.specs.Prelude.{ℕ, true, false, [], ◌∷◌, ◌++◌, codes}
 use Rattle.sv_base.specs.declared.value.Value.TheVariants as kinds
 use Rattle.bay_model.specs.declared.answer.Answer.TheVariants.{Asked, Went}
 use Rattle.bay_model.specs.Model.{Model, Node, leaf, withheld, selecting}
-use Rattle.bay_rooms.specs.Kinds.{truth}
+use Rattle.sv_base.specs.Kinds.{truth}
 use Rattle.bay_model.specs.Answers.{Turn}
 use Rattle.bay_examples.specs.Example.{example}
 use Rattle.bay_examples.specs.ExampleNodes.{domain, nodes}

@@ -8,7 +8,7 @@ use Rattle.sv_base.specs.declared.config.AttrDef.{AttrDef}
 use Rattle.sv_base.specs.declared.config.CtlDef.{CtlDef}
 use Rattle.bay_model.specs.Model as model
 use Rattle.bay_model.specs.Model.{Attr, Access}
-use Rattle.bay_rooms.specs.Kinds.{kind_of}
+use Rattle.sv_base.specs.Kinds.{kind_of}
 use Rattle.bay_model.specs.Generated.{Parameter, parameters}
 use Rattle.bay_model.specs.NamedLines.{is_setting, domain_number}
 

@@ -6,7 +6,7 @@ use Rattle.sv_base.specs.declared.value.Value.TheVariants as kinds
 use Rattle.sv_base.specs.declared.components.Comp.{Comp}
 use Rattle.sv_base.specs.declared.components.Comp.TheVariants as comps
 use Rattle.bay_model.specs.Model.{Model, DataSet, Parameters}
-use Rattle.bay_rooms.specs.Kinds.{is_kind, is_in_range}
+use Rattle.sv_base.specs.Kinds.{is_kind, is_in_range}
 use Rattle.bay_model.specs.ComponentTable.{comp_kind}
 use Rattle.bay_model.specs.Points.{wrote, Past}
 use Rattle.bay_model.specs.Parameters.{parameters_at, bit}

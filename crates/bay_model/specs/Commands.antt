@@ -9,7 +9,7 @@ use Rattle.sv_base.specs.Same.{is_same_seen, is_same_bit, value_of}
 use Rattle.sv_base.specs.declared.value.Value.{Value}
 use Rattle.sv_base.specs.declared.value.Value.TheVariants as kinds
 use Rattle.bay_model.specs.Model.{Kind, Call, select, operate, cancel}
-use Rattle.bay_rooms.specs.Kinds.{is_kind, is_in_range}
+use Rattle.sv_base.specs.Kinds.{is_kind, is_in_range}
 
 -- what the value of an SBOw, an Oper or a Cancel says: ctlVal, origin, ctlNum and Test; rest is what follows Test
 pub record Command : Type 0 where

@@ -2,7 +2,7 @@
 use Rattle.sv_base.specs.declared.components.Comp.{Comp}
 use Rattle.sv_base.specs.declared.components.SettingComp.{SettingComp}
 use Rattle.sv_base.specs.ComponentTable.{comp_type, setting_comp_type}
-use Rattle.bay_rooms.specs.Kinds.{Kind, kind_of}
+use Rattle.sv_base.specs.Kinds.{Kind, kind_of}
 
 abbrev pub comp_kind : Comp → Kind
 comp_kind comp = kind_of (comp_type comp)

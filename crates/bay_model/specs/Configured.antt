@@ -10,7 +10,7 @@ use Rattle.sv_base.specs.declared.config.LnDef.{LnDef}
 use Rattle.sv_base.specs.declared.config.BlockDef.{BlockDef}
 use Rattle.sv_base.specs.declared.config.CtlDef.{CtlDef}
 use Rattle.sv_base.specs.declared.config.SgDef.{SgDef}
-use Rattle.bay_rooms.specs.Kinds.{kind_of}
+use Rattle.sv_base.specs.Kinds.{kind_of}
 use Rattle.bay_model.specs.Model.{Model, Node, Attr, DataSet, Block, Control, Groups}
 use Rattle.bay_model.specs.Lookups.{reference_of}
 

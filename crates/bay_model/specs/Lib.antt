@@ -3,10 +3,6 @@
 -- point, before are the points before it, and past ends with the point that is spoken of.
 -- `f_after` says what one more deed makes of f.
 
--- room that was made before, and the kinds of values
-pub use Rattle.bay_rooms.specs.Rooms
-pub use Rattle.bay_rooms.specs.Kinds
-pub use Rattle.bay_rooms.specs.Slots
 -- what a bay is configured with
 pub mod Roles
 pub mod Model

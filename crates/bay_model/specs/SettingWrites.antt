@@ -6,7 +6,7 @@ use Rattle.sv_base.specs.declared.value.Value.TheVariants as kinds
 use Rattle.bay_model.specs.Model as model
 use Rattle.bay_model.specs.Model.{Model, Access, Kind, SettingComp, ActSG, EditSG, CnfEdit}
 use Rattle.bay_model.specs.Lookups.{attr_of, groups_of}
-use Rattle.bay_rooms.specs.Kinds.{is_kind, is_in_range}
+use Rattle.sv_base.specs.Kinds.{is_kind, is_in_range}
 use Rattle.bay_model.specs.ComponentTable.{setting_comp_kind}
 use Rattle.bay_model.specs.Points.{put, copied, activated, edited, confirmed, nothing, Past}
 use Rattle.bay_model.specs.Settings.{Edit, edit, is_held_by, is_held_by_another}

@@ -5,7 +5,7 @@ use Rattle.sv_base.specs.declared.value.Value.{Value}
 use Rattle.bay_model.specs.Model as model
 use Rattle.bay_model.specs.Model.{Model, Role, Call, single, selecting, calling, several, text}
 use Rattle.bay_model.specs.Lookups.{attr_of, node_of}
-use Rattle.bay_rooms.specs.Kinds.{is_kind}
+use Rattle.sv_base.specs.Kinds.{is_kind}
 use Rattle.bay_model.specs.Points.{called, Past}
 use Rattle.bay_model.specs.Calls.{Went, went, accepted, mistyped, barred}
 use Rattle.bay_model.specs.Outputs.{error_of}

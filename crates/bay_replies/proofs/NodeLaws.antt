@@ -15,7 +15,7 @@ use Rattle.sv_base.specs.declared.types.TypeOf.{TypeOf}
 use Rattle.sv_base.specs.declared.components.Comp.{Comp}
 use Rattle.sv_base.specs.declared.components.SettingComp.{SettingComp}
 use Rattle.bay_model.specs.Attributes.{attributes, attr_defined, attrs_defined, attrs_generated, twins}
-use Rattle.bay_rooms.specs.Kinds.{kind_of}
+use Rattle.sv_base.specs.Kinds.{kind_of}
 use Rattle.sv_base.specs.ComponentTable.{components, comp_name, setting_components, comp_type}
 use Rattle.bay_model.specs.Generated.{Named, Parameter, within, parameters, parameter_names, command_names, is_selected, sbo_names, sbow_names, oper_names, cancel_names, control_names, setting_named}
 use Rattle.bay_model.specs.Lookups.{node_of}

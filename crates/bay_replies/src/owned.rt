@@ -3,7 +3,7 @@
 ghost use Rattle.std.specs.Prelude.{◌≡◌, IfOk};
 ghost use Rattle.bay_rooms.specs.Slots.{lent};
 
-use bay_model::ValueRef;
+use bay_rooms::ValueRef;
 use std::alloc::{AllocError, Global};
 use sv_base::{Bits, Octs, Value};
 

@@ -1,5 +1,3 @@
--- octets and members
+-- octets and members, and values in room
 pub mod Rooms
--- the kinds of values, and values in room
-pub mod Kinds
 pub mod Slots

@@ -2,11 +2,6 @@
 use Rattle.std.specs.Prelude.{ℕ, zero, suc, slice_index_or, ◌≡◌, ◌≤◌, List, [], ◌∷◌, length}
 use Rattle.std.specs.List.{slice_range}
 
--- what is there, and how many have room
-pub record Filled (A : Type 0) : Type 0 where
-  pub items : List A
-  pub room : ℕ
-
 -- the octets of each member; how many members have room, and how many octets in all
 pub record FilledMembers : Type 0 where
   pub items : List (List ℕ)

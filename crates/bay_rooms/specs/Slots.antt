@@ -11,7 +11,7 @@ use Rattle.bay_rooms.specs.declared.slot.ValueRef.TheVariants as refs
 use Rattle.sv_base.specs.declared.types.TypeOf.{TypeOf}
 use Rattle.sv_base.specs.declared.types.TypeOf.TheVariants as types
 use Rattle.sv_base.specs.declared.value.Value.TheVariants as kinds
-use Rattle.bay_rooms.specs.Kinds.{Kind, truth, int, uint, bits, time, stamp, text, octets, is_kind, is_in_range}
+use Rattle.sv_base.specs.Kinds.{Kind, truth, int, uint, bits, time, stamp, text, octets, is_kind, is_in_range}
 
 -- the value, and the kind of what may be set
 pub record Held : Type 0 where

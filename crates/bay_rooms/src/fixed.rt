@@ -13,7 +13,7 @@ pub struct Fixed {
 
 impl Model for Fixed {
     ghost use Rattle.std.specs.Prelude.{◌≤◌, ℕ, take, vec_len, vec_capacity};
-    ghost use Rattle.bay_rooms.specs.Rooms.{Filled};
+    ghost use Rattle.sv_base.specs.Filled.{Filled};
 
     ghost Value = { Filled ℕ };
 

@@ -4,7 +4,7 @@ ghost use Rattle.std.specs.Prelude.{true, ◌≡◌, ◌<◌, ◌≤◌, ◌^◌
 ghost use Rattle.bay_rooms.specs.declared.slot.Misfit.TheVariants as misfits;
 ghost use Rattle.sv_base.specs.Same.{is_same, is_same_bits};
 ghost use Rattle.sv_base.specs.declared.value.Value.TheVariants as values;
-ghost use Rattle.bay_rooms.specs.Kinds.{truth, int, uint, bits as bit_kind, time as time_kind, stamp as stamp_kind, text, octets as octet_kind, is_kind, is_in_range, kind_of};
+ghost use Rattle.sv_base.specs.Kinds.{truth, int, uint, bits as bit_kind, time as time_kind, stamp as stamp_kind, text, octets as octet_kind, is_kind, is_in_range, kind_of};
 ghost use Rattle.bay_rooms.specs.Slots.{set_over, held_in, IsCell, IsSettable, IsWidth, type_width, type_most};
 
 use crate::fixed::Fixed;
@@ -477,7 +477,7 @@ impl Model for Slot {
 impl Slot {
     ghost use Rattle.std.specs.Prelude.{◌≡◌, OnOk, OnErr, IfOk, true, not};
     ghost use Rattle.sv_base.specs.Same.{is_same};
-    ghost use Rattle.bay_rooms.specs.Kinds.{kind_of, is_kind, is_in_range};
+    ghost use Rattle.sv_base.specs.Kinds.{kind_of, is_kind, is_in_range};
     ghost use Rattle.bay_rooms.specs.Slots.{set_over, IsSettable, lent};
 
     /// A slot of this type with this value, which is of the type and within its range.

@@ -1,6 +1,7 @@
 //! Room that is made, each kind once.
 
-use bay_model::{Fixed, MemberBytes, Note};
+use bay_model::Note;
+use bay_rooms::{Fixed, MemberBytes};
 use std::test::Fail;
 
 #[test]

@@ -6,11 +6,12 @@ ghost use Rattle.std.specs.Str.{bytes_eq};
 ghost use Rattle.sv_base.specs.declared.config.Config.{Config as ConfigSeen};
 ghost use Rattle.sv_base.specs.declared.config.CtlDef.{CtlDef};
 ghost use Rattle.sv_base.specs.declared.types.TypeOf.TheVariants as types;
-ghost use Rattle.bay_rooms.specs.Kinds.{kind_of, is_kind, is_in_range};
+ghost use Rattle.sv_base.specs.Kinds.{kind_of, is_kind, is_in_range};
 ghost use Rattle.bay_rooms.specs.Slots.{IsSettable};
 ghost use Rattle.value_store.specs.Opened.{HasValue, IsStorable, place_in};
 
-use bay_model::{AttrIds, Fixed, MemberShape, ValueRef};
+use bay_model::{AttrIds, MemberShape};
+use bay_rooms::{Fixed, ValueRef};
 use std::alloc::{AllocError, Global};
 use std::test::*;
 use sv_base::{

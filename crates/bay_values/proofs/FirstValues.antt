@@ -13,7 +13,7 @@ use Rattle.sv_base.specs.declared.config.CtlDef.{CtlDef}
 use Rattle.sv_base.specs.declared.types.TypeOf.{TypeOf}
 use Rattle.sv_base.specs.declared.types.TypeOf.TheVariants as types
 use Rattle.sv_base.specs.declared.value.Value.TheVariants as kinds
-use Rattle.bay_rooms.specs.Kinds.{int, uint, kind_of, is_kind, is_in_range}
+use Rattle.sv_base.specs.Kinds.{int, uint, kind_of, is_kind, is_in_range}
 use Rattle.bay_model.specs.Generated.{Parameter, parameters, selection, is_selected}
 use Rattle.bay_model.specs.Model.{Kind}
 use Rattle.bay_model.specs.NamedLines.{is_setting}

@@ -7,7 +7,7 @@ use Rattle.sv_base.specs.Same.{values_of}
 use Rattle.sv_base.specs.declared.config.Config.{Config}
 use Rattle.sv_base.specs.declared.config.AttrDef.{AttrDef}
 use Rattle.sv_base.specs.declared.value.Value.{Value}
-use Rattle.bay_rooms.specs.Kinds.{is_kind, is_in_range, kind_of}
+use Rattle.sv_base.specs.Kinds.{is_kind, is_in_range, kind_of}
 use Rattle.bay_rooms.specs.Slots.{Held}
 use Rattle.bay_model.specs.declared.step.Setting.{Setting}
 use Rattle.bay_model.specs.Attributes.{attributes}

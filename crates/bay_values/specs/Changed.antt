@@ -9,7 +9,7 @@ use Rattle.sv_base.specs.declared.value.Value.{Value}
 use Rattle.bay_model.specs.declared.flags.Change.{Change}
 use Rattle.bay_model.specs.declared.step.Setting.{Setting}
 use Rattle.bay_model.specs.Attributes.{attributes}
-use Rattle.bay_rooms.specs.Kinds.{kind_of, is_kind, is_in_range}
+use Rattle.sv_base.specs.Kinds.{kind_of, is_kind, is_in_range}
 use Rattle.bay_model.specs.Lookups.{attr_of}
 use Rattle.bay_model.specs.Named.{configured_model}
 use Rattle.bay_model.specs.Settings.{set_to}

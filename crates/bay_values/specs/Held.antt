@@ -1,7 +1,7 @@
 -- What is so of the values of a configuration's attributes between steps.
 use Rattle.std.specs.Prelude.{◌≡◌, ◌<◌, ℕ, true, List, length}
 use Rattle.sv_base.specs.declared.config.Config.{Config}
-use Rattle.bay_rooms.specs.Kinds.{kind_of, is_kind, is_in_range}
+use Rattle.sv_base.specs.Kinds.{kind_of, is_kind, is_in_range}
 use Rattle.bay_rooms.specs.Slots.{Held}
 use Rattle.bay_model.specs.Attributes.{attributes}
 use Rattle.bay_model.specs.Lookups.{attr_of}

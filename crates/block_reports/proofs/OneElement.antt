@@ -18,7 +18,7 @@ use Rattle.sv_base.specs.declared.value.Value.{Value}
 use Rattle.sv_base.specs.declared.value.Value.TheVariants as kinds
 use Rattle.bay_model.specs.Model as model
 use Rattle.bay_model.specs.Model.{Kind}
-use Rattle.bay_rooms.specs.Kinds.{kind_of, is_kind}
+use Rattle.sv_base.specs.Kinds.{kind_of, is_kind}
 use Rattle.bay_model.specs.Places.{largest}
 use Rattle.value_store.specs.Stored.{Stored, attribute}
 use Rattle.value_store.specs.Members.{value_with, values_at, member_octets}

@@ -3,7 +3,7 @@
 ghost use Rattle.std.specs.Prelude.{◌≡◌, ◌≤◌, not, length, IfOk};
 ghost use Rattle.sv_base.specs.Same.{is_same_bits};
 
-use bay_model::{Fixed, are_same, replace};
+use bay_rooms::{Fixed, are_same, replace};
 use std::alloc::{AllocError, Global};
 use std::marker::Model;
 use sv_base::BlockDef;

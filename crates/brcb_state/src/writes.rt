@@ -2,7 +2,7 @@
 
 ghost use Rattle.std.specs.Prelude.{◌≡◌, ℕ, not, if◌then◌else◌};
 ghost use Rattle.bay_model.specs.Model.{uint, stamp};
-ghost use Rattle.bay_rooms.specs.Kinds.{is_kind};
+ghost use Rattle.sv_base.specs.Kinds.{is_kind};
 ghost use Rattle.sv_base.specs.declared.value.Value.TheVariants as kinds;
 ghost use Rattle.bay_model.specs.Breaks.{is_empty as is_empty_list};
 ghost use Rattle.brcb_state.specs.declared.told.Effect.TheVariants as effects;

@@ -10,7 +10,7 @@ use Rattle.sv_base.specs.Same.{value_of}
 use Rattle.sv_base.specs.declared.value.Value.{Value}
 use Rattle.sv_base.specs.declared.value.Value.TheVariants as kinds
 use Rattle.bay_model.specs.Model.{operate, cancel, Kind, Call}
-use Rattle.bay_rooms.specs.Kinds.{is_kind, is_in_range}
+use Rattle.sv_base.specs.Kinds.{is_kind, is_in_range}
 use Rattle.bay_model.specs.Commands.{command_of, is_command, is_rest}
 use Rattle.control_core.specs.Commands.{Said, of_kind, is_limited, said_in, command_said, value_said, origin_row, parts_in, origin_in, uint_in, time_in, int_in, octets_in}
 

@@ -9,7 +9,7 @@ use Rattle.sv_base.specs.declared.value.Utc.{Utc}
 use Rattle.sv_base.specs.declared.value.Value.{Value}
 use Rattle.sv_base.specs.declared.value.Value.TheVariants as kinds
 use Rattle.bay_model.specs.Model.{Kind, select, operate, cancel, Call as Calling}
-use Rattle.bay_rooms.specs.Kinds.{is_kind, is_in_range}
+use Rattle.sv_base.specs.Kinds.{is_kind, is_in_range}
 use Rattle.bay_model.specs.Model as model
 use Rattle.bay_model.specs.Commands.{Command, is_rest}
 use Rattle.control_core.specs.declared.command.CtlKind.{CtlKind}

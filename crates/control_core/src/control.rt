@@ -1,7 +1,7 @@
 //! A control: who has selected it, which command it executes, and what a call comes to (IEC 61850-7-2, the control class model).
 
 ghost use Rattle.std.specs.Prelude.{◌≡◌, IfOk};
-ghost use Rattle.bay_rooms.specs.Kinds.{kind_of as kind_in_model};
+ghost use Rattle.sv_base.specs.Kinds.{kind_of as kind_in_model};
 ghost use Rattle.bay_model.specs.Configured.{control_defined};
 ghost use Rattle.control_core.specs.Commands.{kind_in};
 ghost use Rattle.control_core.specs.Opening.{IsCtlKind};

@@ -10,7 +10,7 @@ use Rattle.bay_model.specs.NamedLines.{is_setting}
 use Rattle.std.specs.Prelude.{codes, pos}
 use Rattle.sv_base.specs.declared.types.TypeOf.TheVariants as types
 use Rattle.sv_base.specs.declared.value.Value.TheVariants as kinds
-use Rattle.bay_model.specs.Slots.{IsSettable}
+use Rattle.bay_rooms.specs.Slots.{IsSettable}
 use Rattle.bay_model.specs.declared.tables.NodeRow.{NodeRow}
 use Rattle.bay_model.specs.declared.step.Step.{Step}
 use Rattle.object_names.specs.declared.attributes.AttrRow.{AttrRow}

@@ -46,7 +46,7 @@ impl std::marker::Model for Model {
     ghost use Rattle.object_names.specs.References.{block_references, control_references, attr_references};
     ghost use Rattle.std.specs.List.{All};
     ghost use Rattle.sv_base.specs.declared.config.AttrDef.{AttrDef};
-    ghost use Rattle.bay_model.specs.Slots.{IsSettable};
+    ghost use Rattle.bay_rooms.specs.Slots.{IsSettable};
     ghost use Rattle.object_names.specs.Attributes.{attr_rows};
     ghost use Rattle.object_model.specs.Tables.{IsTables};
 
@@ -100,7 +100,7 @@ impl Model {
     ghost use Rattle.bay_model.specs.Named.{configured_model, nodes as nodes_of};
     ghost use Rattle.std.specs.List.{All};
     ghost use Rattle.sv_base.specs.declared.config.AttrDef.{AttrDef as AttrLine};
-    ghost use Rattle.bay_model.specs.Slots.{IsSettable};
+    ghost use Rattle.bay_rooms.specs.Slots.{IsSettable};
     ghost use Rattle.object_model.specs.Fits.{fits as fits_in};
     ghost use Rattle.object_model.specs.Nodes.{node_rows};
     ghost use Rattle.object_model.specs.Sorting.{variables_after};

@@ -10,7 +10,7 @@ use Rattle.sv_base.specs.declared.components.SettingComp.TheVariants.{ActSG, Edi
 use Rattle.bay_model.specs.Model.{Model, Access, Role, Call, Tree, single, selecting, calling, several, select, operate, cancel}
 use Rattle.bay_model.specs.Lookups.{attr_of, node_of, control_of, groups_of}
 use Rattle.bay_model.specs.Points.{Deed, opened, lost, finished, wrote, put, copied, activated, edited, called, answered, took, terminated, nothing, confirmed, selected_control, Past}
-use Rattle.bay_rooms.specs.Kinds.{is_kind, is_in_range}
+use Rattle.sv_base.specs.Kinds.{is_kind, is_in_range}
 use Rattle.bay_model.specs.ComponentTable.{comp_kind}
 use Rattle.bay_model.specs.Parameters.{parameters_at}
 use Rattle.bay_model.specs.Settings.{edit}

@@ -15,9 +15,9 @@ use Rattle.sv_base.specs.declared.value.Value.{Value}
 use Rattle.sv_base.specs.declared.value.Value.TheVariants as values
 use Rattle.bay_model.specs.declared.step.Setting.{Setting}
 use Rattle.bay_model.specs.declared.step.Step.TheVariants as steps
-use Rattle.bay_rooms.specs.Kinds.{kind_of}
-use Rattle.bay_model.specs.Kinds.{is_in_range}
-use Rattle.bay_model.specs.Slots.{IsSettable}
+use Rattle.sv_base.specs.Kinds.{kind_of}
+use Rattle.sv_base.specs.Kinds.{is_in_range}
+use Rattle.bay_rooms.specs.Slots.{IsSettable}
 use Rattle.object_model.specs.Fits.{attr_types, is_typed, setting_fits, fits}
 use Rattle.text_words.specs.Numbers.{greatest}
 use Rattle.text_words.specs.Values.{value_at}

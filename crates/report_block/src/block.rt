@@ -4,7 +4,8 @@ ghost use Rattle.std.specs.Prelude.{◌≡◌};
 ghost use Rattle.report_block.specs.Writes.{moved as moved_down, set_after as set_number};
 
 use crate::entry_octets::put_note;
-use bay_model::{Comp, Fixed, Mention};
+use bay_model::{Comp, Mention};
+use bay_rooms::Fixed;
 use brcb_state::{Block, Effect, Retained};
 use entry_ring::Ring;
 use set_view::SetView;

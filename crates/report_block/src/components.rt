@@ -1,7 +1,8 @@
 //! Writes of any component of a report block, with what they bring about (IEC 61850-7-2, SetBRCBValues).
 
 use crate::block::{ReportBlock, set_after};
-use bay_model::{Comp, Fixed, Reasons};
+use bay_model::{Comp, Reasons};
+use bay_rooms::Fixed;
 use brcb_state::Effect;
 use set_view::SetView;
 use sv_base::{AssocNo, Moment, Value};

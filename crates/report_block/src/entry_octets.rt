@@ -7,7 +7,8 @@ ghost use Rattle.value_store.specs.Written.{adds};
 ghost use Rattle.report_block.specs.Alls.{all_from};
 ghost use Rattle.report_block.specs.EntryOctets.{kept_with, note_octets, weights, IsWritable, IsKeepable};
 
-use bay_model::{Fixed, MemberShape, Mention, Reasons};
+use bay_model::{MemberShape, Mention, Reasons};
+use bay_rooms::Fixed;
 use set_view::SetView;
 use sv_base::MemberNo;
 use value_store::Store;

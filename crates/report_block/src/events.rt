@@ -8,7 +8,8 @@ ghost use Rattle.report_block.specs.EntryOctets.{IsKeepable, kept_of};
 
 use crate::block::ReportBlock;
 use crate::entry_octets::put_mention;
-use bay_model::{Fixed, MemberBytes, Mention};
+use bay_model::Mention;
+use bay_rooms::{Fixed, MemberBytes};
 use set_view::SetView;
 use std::alloc::{AllocError, Global};
 use sv_base::Moment;

@@ -6,7 +6,8 @@ ghost use Rattle.report_block.specs.Due.{earliest as earliest_of};
 
 use crate::block::ReportBlock;
 use crate::entry_octets::put_all;
-use bay_model::{Fixed, Reasons};
+use bay_model::Reasons;
+use bay_rooms::Fixed;
 use set_view::SetView;
 use sv_base::Moment;
 use value_store::Store;

@@ -8,7 +8,7 @@ ghost use Rattle.bay_model.specs.NamedLines.{is_setting};
 ghost use Rattle.setting_groups.specs.Grouped.{setting_at};
 ghost use Rattle.setting_groups.specs.Opened.{HasValues, IsHeld};
 
-use bay_model::{Slot, ValueRef};
+use bay_rooms::{Slot, ValueRef};
 use setting_groups::Groups;
 use std::alloc::{AllocError, Global};
 use std::test::*;

@@ -14,7 +14,7 @@ use Rattle.sv_base.specs.declared.config.AttrDef.{AttrDef}
 use Rattle.sv_base.specs.declared.config.CtlDef.{CtlDef}
 use Rattle.sv_base.specs.declared.config.SgDef.{SgDef}
 use Rattle.sv_base.specs.declared.value.Value.TheVariants as kinds
-use Rattle.bay_rooms.specs.Kinds.{kind_of}
+use Rattle.sv_base.specs.Kinds.{kind_of}
 use Rattle.bay_rooms.specs.Slots.{Held}
 use Rattle.bay_model.specs.Attributes.{attributes, attrs_defined, attr_defined, attrs_generated, access_of, twins}
 use Rattle.bay_model.specs.Configured.{groups_defined}

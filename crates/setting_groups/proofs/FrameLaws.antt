@@ -7,7 +7,7 @@ use Rattle.std.proofs.lemmas.List.{length-set}
 use Rattle.std.proofs.lemmas.List.Elements.{All-head, All-tail, All-map, All-set}
 use Rattle.sv_base.specs.declared.config.Config.{Config}
 use Rattle.sv_base.specs.declared.value.Value.{Value}
-use Rattle.bay_rooms.specs.Kinds.{Kind, is_kind, is_in_range}
+use Rattle.sv_base.specs.Kinds.{Kind, is_kind, is_in_range}
 use Rattle.bay_rooms.specs.Slots.{Held}
 use Rattle.sv_base.specs.declared.components.SettingComp.{SettingComp}
 use Rattle.sv_base.specs.declared.components.SettingComp.TheVariants.{NumOfSG, ActSG, EditSG, CnfEdit, LActTm}

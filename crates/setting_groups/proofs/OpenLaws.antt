@@ -13,7 +13,7 @@ use Rattle.sv_base.specs.declared.config.SgDef.{SgDef}
 use Rattle.sv_base.specs.declared.types.TypeOf.{TypeOf}
 use Rattle.sv_base.specs.declared.value.Value.{Value}
 use Rattle.sv_base.specs.declared.value.Value.TheVariants as kinds
-use Rattle.bay_rooms.specs.Kinds.{kind_of}
+use Rattle.sv_base.specs.Kinds.{kind_of}
 use Rattle.bay_rooms.specs.Slots.{Held}
 use Rattle.bay_model.specs.Model as model
 use Rattle.bay_model.specs.Model.{Model, Access, Attr, Groups}

@@ -3,7 +3,7 @@
 use Rattle.std.specs.Prelude.{◌≡◌, ◌<◌, ℕ, true, List, map, length, Some, is_some}
 use Rattle.std.specs.List.{All}
 use Rattle.sv_base.specs.declared.config.Config.{Config}
-use Rattle.bay_rooms.specs.Kinds.{Kind, is_kind, is_in_range}
+use Rattle.sv_base.specs.Kinds.{Kind, is_kind, is_in_range}
 use Rattle.bay_rooms.specs.Slots.{Held}
 use Rattle.bay_model.specs.declared.step.Setting.{Setting}
 use Rattle.bay_model.specs.Lookups.{attr_of}

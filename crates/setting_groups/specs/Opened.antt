@@ -10,9 +10,9 @@ use Rattle.sv_base.specs.declared.config.SgDef.{SgDef}
 use Rattle.sv_base.specs.declared.types.TypeOf.{TypeOf}
 use Rattle.sv_base.specs.declared.value.Value.{Value}
 use Rattle.sv_base.specs.declared.value.Value.TheVariants as kinds
-use Rattle.bay_rooms.specs.Kinds.{kind_of}
+use Rattle.sv_base.specs.Kinds.{kind_of}
 use Rattle.bay_model.specs.Configured.{groups_defined}
-use Rattle.bay_rooms.specs.Kinds.{is_kind, is_in_range}
+use Rattle.sv_base.specs.Kinds.{is_kind, is_in_range}
 use Rattle.bay_model.specs.Model.{Groups}
 use Rattle.bay_model.specs.NamedLines.{is_setting, domains}
 use Rattle.bay_rooms.specs.Slots.{Held, IsSettable}

@@ -6,7 +6,7 @@ use Rattle.sv_base.specs.declared.value.Value.{Value}
 use Rattle.sv_base.specs.declared.value.Value.TheVariants as kinds
 use Rattle.sv_base.specs.declared.components.SettingComp.{SettingComp}
 use Rattle.sv_base.specs.declared.components.SettingComp.TheVariants.{NumOfSG, ActSG, EditSG, CnfEdit, LActTm}
-use Rattle.bay_rooms.specs.Kinds.{is_kind}
+use Rattle.sv_base.specs.Kinds.{is_kind}
 use Rattle.bay_model.specs.ComponentTable.{setting_comp_kind}
 use Rattle.bay_model.specs.Components.{utc_of, no_utc}
 use Rattle.bay_model.specs.Points.{Deed, activated, edited, confirmed, nothing}

@@ -5,7 +5,7 @@ ghost use Rattle.setting_groups.specs.Grouped.{loaded, stored_in, left_by};
 
 use crate::domain::{Domain, GroupNumbers};
 use crate::setting::Setting;
-use bay_model::Slot;
+use bay_rooms::Slot;
 use std::marker::Model;
 use sv_base::{AssocNo, AttrId, Moment, Value};
 
@@ -60,7 +60,7 @@ fn lose_all(domains: &mut [Domain], a: AssocNo)
 impl Groups {
     ghost use Rattle.std.specs.Prelude.{◌≡◌, ◌<◌, ◌==◌, OnOk, OnErr, length, true, if◌then◌else◌};
     ghost use Rattle.std.specs.Option.{option_map};
-    ghost use Rattle.bay_rooms.specs.Kinds.{is_kind, is_in_range};
+    ghost use Rattle.sv_base.specs.Kinds.{is_kind, is_in_range};
     ghost use Rattle.setting_groups.specs.Grouped.{domain_at, setting_at, act_answer, edit_answer, copy_answer, stored_answer, number_in, is_on, holds, edit_number, active_place, after_act, after_edit, after_copy, after_confirm, after_loss, after_put, active_of, copy_of, shown_of};
 
     /// These blocks and settings. It takes no memory.

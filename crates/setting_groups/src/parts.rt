@@ -4,11 +4,12 @@ ghost use Rattle.std.specs.Prelude.{◌≡◌, if◌then◌else◌};
 ghost use Rattle.std.specs.Option.{option_map_or};
 ghost use Rattle.bay_model.specs.ComponentTable.{setting_comp_kind};
 ghost use Rattle.bay_model.specs.Components.{utc_of as utc_at, no_utc};
-ghost use Rattle.bay_rooms.specs.Kinds.{is_kind};
+ghost use Rattle.sv_base.specs.Kinds.{is_kind};
 
 use crate::domain::Domain;
 use crate::groups::Groups;
-use bay_model::{SettingComp, Slot};
+use bay_model::SettingComp;
+use bay_rooms::Slot;
 use sv_base::{AssocNo, Moment, Utc, Value};
 
 /// A moment as LActTm has it (IEC 61850-7-2, TimeStamp): its seconds, the rest in units of 2^-24 seconds, and ten bits of accuracy.

@@ -1,6 +1,6 @@
 //! The values of an SG attribute: one for each group, and the edit copy.
 
-use bay_model::{Misfit, Slot};
+use bay_rooms::{Misfit, Slot};
 use std::marker::Model;
 use sv_base::{AttrId, Value};
 
@@ -34,7 +34,7 @@ impl Model for Setting {
 
 impl Setting {
     ghost use Rattle.std.specs.Prelude.{◌≡◌, ◌<◌, OnOk, OnErr, IfOk, length, true, slice_index_or};
-    ghost use Rattle.bay_rooms.specs.Kinds.{is_kind, is_in_range};
+    ghost use Rattle.sv_base.specs.Kinds.{is_kind, is_in_range};
     ghost use Rattle.bay_rooms.specs.Slots.{Held};
     ghost use Rattle.std.specs.List.{All};
     ghost use Rattle.setting_groups.specs.Grouped.{copy_answer, copied, loaded, stored_in, put_in};

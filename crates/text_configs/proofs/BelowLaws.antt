@@ -11,7 +11,7 @@ use Rattle.sv_base.specs.declared.config.SgDef.{SgDef}
 use Rattle.sv_base.specs.declared.types.TypeOf.{TypeOf}
 use Rattle.bay_model.specs.Attributes.{attributes, attrs_defined, attrs_generated, twins}
 use Rattle.bay_model.specs.Model.{attribute, reported}
-use Rattle.bay_rooms.specs.Kinds.{kind_of}
+use Rattle.sv_base.specs.Kinds.{kind_of}
 use Rattle.bay_model.specs.Generated.{Named, Parameter, parameters, end_named}
 use Rattle.sv_base.specs.ComponentTable.{comp_name, setting_comp_name}
 use Rattle.bay_model.specs.NamedLines.{path_item, domain_number}
@@ -20,7 +20,7 @@ use Rattle.bay_model.specs.NameTree.{first_name, rest_of, is_itself, below}
 use Rattle.text_words.specs.Names.{is_fc}
 use Rattle.cfg_lines.specs.Claims.{group_key}
 use Rattle.cfg_lines.specs.Sizes.{children}
-use Rattle.bay_model.specs.Slots.{IsSettable}
+use Rattle.bay_rooms.specs.Slots.{IsSettable}
 use Rattle.bay_config.specs.Servable.{attr_type}
 use Rattle.list_laws.proofs.Among.{Among, At, at-among, at-within, at-same, either, source, gathered, passed}
 use Rattle.text_configs.proofs.JoinedLaws.{ArePlain, joined, first, rest, first-joined, rest-joined, rest-alone, split-at, first-before, rest-before, joined-behind}

@@ -8,7 +8,7 @@ use Rattle.sv_base.specs.declared.value.Value.{Value}
 use Rattle.sv_base.specs.declared.value.Value.TheVariants as values
 use Rattle.sv_base.specs.declared.types.TypeOf.{TypeOf}
 use Rattle.sv_base.specs.declared.types.TypeOf.TheVariants as types
-use Rattle.bay_rooms.specs.Kinds.{kind_of, is_kind, is_in_range}
+use Rattle.sv_base.specs.Kinds.{kind_of, is_kind, is_in_range}
 use Rattle.object_model.specs.Fits.{is_sound, is_visible}
 use Rattle.text_words.specs.Values.{is_graphic}
 use Rattle.text_words.specs.Numbers.{greatest}

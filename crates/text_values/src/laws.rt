@@ -4,7 +4,7 @@ ghost use Rattle.std.specs.Prelude.{◌≡◌, true};
 ghost use Rattle.sv_base.specs.declared.types.TypeOf.{TypeOf};
 ghost use Rattle.sv_base.specs.declared.value.Value.{Value};
 ghost use Rattle.text_words.specs.Grammar.{IsType, IsOfType};
-ghost use Rattle.bay_rooms.specs.Kinds.{kind_of, is_kind, is_in_range};
+ghost use Rattle.sv_base.specs.Kinds.{kind_of, is_kind, is_in_range};
 ghost use Rattle.object_model.specs.Fits.{is_sound};
 
 /// A value of a type, as the texts of configurations and records have it, is of its kind, within its range, and sound.

@@ -16,7 +16,7 @@ use Rattle.std.proofs.lemmas.List.{drop_more}
 use Rattle.touch_index.specs.Spread.{of_attr, no_touch}
 use Rattle.std.specs.List.{All}
 use Rattle.std.proofs.lemmas.List.Elements.{filter-append}
-use Rattle.bay_rooms.specs.Rooms.{Filled}
+use Rattle.sv_base.specs.Filled.{Filled}
 use Rattle.touch_index.specs.Indexed.{touches_of, touches_from, touches_in, block_at, IsOwnedFrom}
 use Rattle.bay_model.specs.Mentions.{add}
 use Rattle.touch_index.specs.Gathered.{add_touches, add_change, add_changes, holds, AreOnce, noted_by, InRange, IsSetOf, NoneOf, AreApart}

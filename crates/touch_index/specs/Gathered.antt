@@ -9,7 +9,7 @@ use Rattle.bay_model.specs.Notes.{is_any}
 use Rattle.bay_model.specs.Mentions.{add}
 use Rattle.trigger_core.specs.Noted.{reasons_by, change_of}
 use Rattle.touch_index.specs.declared.touch.Touch.{Touch}
-use Rattle.bay_rooms.specs.Rooms.{Filled}
+use Rattle.sv_base.specs.Filled.{Filled}
 use Rattle.bay_model.specs.declared.tables.MemberShape.{MemberShape}
 use Rattle.touch_index.specs.Indexed.{block_at, touches_from}
 use Rattle.touch_index.specs.Spread.{of_attr}

@@ -2,7 +2,7 @@
 use Rattle.std.specs.Prelude.{◌≡◌, ℕ, suc, ◌+◌, ◌<◌, ◌≤◌, List, [], ◌∷◌, ◌++◌, map, max, length, slice_index_or, slice_set}
 use Rattle.std.specs.List.{flat_map, All}
 use Rattle.sv_base.specs.declared.numbers.AttrId.{AttrId}
-use Rattle.bay_rooms.specs.Rooms.{Filled}
+use Rattle.sv_base.specs.Filled.{Filled}
 use Rattle.bay_model.specs.declared.tables.MemberShape.{MemberShape}
 use Rattle.touch_index.specs.declared.touch.Touch.{Touch}
 use Rattle.touch_index.specs.declared.touch.Row.{Row}

@@ -1,7 +1,7 @@
 //! What is gathered from touches is what is noted. The functions run nothing: their contracts are laws.
 
 ghost use Rattle.std.specs.Prelude.{◌≡◌, ◌≢◌, ◌<◌, ℕ, List, [], length, slice_index_or};
-ghost use Rattle.bay_rooms.specs.Rooms.{Filled};
+ghost use Rattle.sv_base.specs.Filled.{Filled};
 ghost use Rattle.bay_model.specs.declared.flags.Change.{Change};
 ghost use Rattle.bay_model.specs.declared.flags.Trg.{Trg};
 ghost use Rattle.bay_model.specs.declared.tables.MemberShape.{MemberShape};

@@ -15,7 +15,7 @@ pub(crate) struct Touches {
 
 impl Model for Touches {
     ghost use Rattle.std.specs.Prelude.{◌≤◌, vec_len, vec_capacity};
-    ghost use Rattle.bay_rooms.specs.Rooms.{Filled};
+    ghost use Rattle.sv_base.specs.Filled.{Filled};
     ghost use Rattle.touch_index.specs.declared.touch.Touch.{Touch};
 
     ghost Value = { Filled Touch };

@@ -15,7 +15,7 @@ use Rattle.sv_base.specs.declared.types.TypeOf.TheVariants as types
 use Rattle.sv_base.specs.declared.value.Value.{Value}
 use Rattle.sv_base.specs.declared.value.Value.TheVariants as kinds
 use Rattle.sv_base.proofs.LengthLaws.{length-packed}
-use Rattle.bay_rooms.specs.Kinds.{kind_of, is_kind, is_in_range}
+use Rattle.sv_base.specs.Kinds.{kind_of, is_kind, is_in_range}
 use Rattle.bay_model.specs.Places.{largest, largest_kind, largest_shape, largest_fields}
 use Rattle.bay_rooms.specs.Slots.{IsSettable}
 use Rattle.value_store.specs.Stored.{Stored, attribute}

@@ -8,7 +8,7 @@ use Rattle.std.proofs.lemmas.Bool.{lt-ltb, leb-true, ltb-true, cond_both}
 use Rattle.sv_base.specs.Data.{shortest}
 use Rattle.sv_base.specs.declared.value.Value.TheVariants as kinds
 use Rattle.bay_model.specs.Model.{int, uint}
-use Rattle.bay_rooms.specs.Kinds.{is_in_range}
+use Rattle.sv_base.specs.Kinds.{is_in_range}
 use Rattle.bay_rooms.specs.Slots.{IsWidth}
 
 pub shortest_within : (octets : List ℕ) → length (shortest octets) ≤ length octets

@@ -15,7 +15,7 @@ use Rattle.bay_model.specs.Model as model
 use Rattle.bay_model.specs.Model.{Model, Access, Attr, Groups}
 use Rattle.bay_model.specs.Attributes.{attributes, attrs_defined, attr_defined, attrs_generated, twins, access_of}
 use Rattle.bay_model.specs.Configured.{groups_defined}
-use Rattle.bay_rooms.specs.Kinds.{kind_of}
+use Rattle.sv_base.specs.Kinds.{kind_of}
 use Rattle.bay_model.specs.Generated.{Parameter, parameters}
 use Rattle.bay_model.specs.Lookups.{attr_of, groups_of, no_attr}
 use Rattle.bay_model.specs.Named.{configured_model}

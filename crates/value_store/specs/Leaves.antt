@@ -5,7 +5,7 @@ use Rattle.sv_base.specs.Types.{Shape, simple, composed, Fields, no_field, field
 use Rattle.sv_base.specs.Fields.{shape_of}
 use Rattle.sv_base.specs.declared.numbers.AttrId.{AttrId}
 use Rattle.sv_base.specs.declared.types.TypeOf.{TypeOf}
-use Rattle.bay_rooms.specs.Kinds.{kind_of, is_kind, is_in_range}
+use Rattle.sv_base.specs.Kinds.{kind_of, is_kind, is_in_range}
 use Rattle.bay_rooms.specs.Slots.{IsSettable}
 use Rattle.value_store.specs.Stored.{Stored, attribute}
 

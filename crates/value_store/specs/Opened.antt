@@ -11,7 +11,7 @@ use Rattle.bay_model.specs.Model as model
 use Rattle.bay_model.specs.Model.{Access}
 use Rattle.bay_model.specs.Attributes.{access_of}
 use Rattle.bay_model.specs.Configured.{groups_defined}
-use Rattle.bay_rooms.specs.Kinds.{kind_of, is_kind, is_in_range}
+use Rattle.sv_base.specs.Kinds.{kind_of, is_kind, is_in_range}
 use Rattle.bay_model.specs.Generated.{Parameter, parameters}
 use Rattle.bay_model.specs.NamedLines.{is_setting, domains}
 use Rattle.std.specs.Str.{bytes_eq}

@@ -4,7 +4,7 @@ use Rattle.sv_base.specs.Same.{is_same}
 use Rattle.sv_base.specs.declared.value.Value.{Value}
 use Rattle.sv_base.specs.declared.value.Value.TheVariants as kinds
 use Rattle.bay_model.specs.Model.{truth}
-use Rattle.bay_rooms.specs.Kinds.{is_kind, is_in_range}
+use Rattle.sv_base.specs.Kinds.{is_kind, is_in_range}
 use Rattle.bay_rooms.specs.Slots.{Held}
 use Rattle.value_store.specs.declared.fault.SetFault.{SetFault}
 use Rattle.value_store.specs.declared.fault.SetFault.TheVariants as faults

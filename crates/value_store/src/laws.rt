@@ -12,7 +12,7 @@ ghost use Rattle.sv_base.specs.Data.{data_of};
 ghost use Rattle.sv_base.specs.Fields.{shape_of};
 ghost use Rattle.sv_base.specs.declared.numbers.AttrId.{AttrId};
 ghost use Rattle.sv_base.specs.declared.types.TypeOf.{TypeOf};
-ghost use Rattle.bay_rooms.specs.Kinds.{kind_of, is_kind, is_in_range};
+ghost use Rattle.sv_base.specs.Kinds.{kind_of, is_kind, is_in_range};
 ghost use Rattle.bay_model.specs.Model.{Model, Tree};
 ghost use Rattle.bay_model.specs.Places.{largest};
 ghost use Rattle.bay_rooms.specs.Slots.{IsSettable};

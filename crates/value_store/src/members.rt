@@ -10,7 +10,8 @@ ghost use Rattle.value_store.specs.Written.{adds};
 
 use crate::octets::{put_head, put_value};
 use crate::store::Store;
-use bay_model::{Fixed, MemberShape};
+use bay_model::MemberShape;
+use bay_rooms::Fixed;
 use sv_base::{AttrId, Part1, TypeOf};
 
 /// Adds the Data of an attribute.

@@ -8,7 +8,7 @@ ghost use Rattle.bay_rooms.specs.Slots.{lent};
 ghost use Rattle.value_store.specs.Written.{adds, IsShort};
 ghost use Rattle.sv_base.specs.declared.value.Value.TheVariants as values;
 
-use bay_model::{Fixed, ValueRef};
+use bay_rooms::{Fixed, ValueRef};
 use ber_write::{length_parts, unsigned};
 use mms_data::{stamp_octets, tags, time_octets};
 use sv_base::shortest;

@@ -6,14 +6,14 @@ ghost use Rattle.std.specs.List.{filter, All};
 ghost use Rattle.sv_base.specs.declared.config.CtlDef.{CtlDef};
 ghost use Rattle.bay_model.specs.Generated.{selection};
 ghost use Rattle.bay_model.specs.Configured.{groups_defined};
-ghost use Rattle.bay_rooms.specs.Kinds.{kind_of, is_kind, is_in_range};
+ghost use Rattle.sv_base.specs.Kinds.{kind_of, is_kind, is_in_range};
 ghost use Rattle.bay_model.specs.NamedLines.{is_setting as is_setting_line};
 ghost use Rattle.bay_rooms.specs.Slots.{IsSettable};
 ghost use Rattle.value_store.specs.Opened.{HasValue, is_written, place_in, stored_line, stored_parameter, stored_control, stored_twin};
 ghost use Rattle.value_store.specs.Stored.{stored};
 
 use crate::store::{Cell, Store};
-use bay_model::Slot;
+use bay_rooms::Slot;
 use std::alloc::{AllocError, Global};
 use sv_base::{AttrDef, Config, CtlDef, CtlParameter, SgDef, TypeOf, Value};
 

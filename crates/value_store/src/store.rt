@@ -1,7 +1,7 @@
 //! The attributes of a bay, with their values, and who may set them.
 
 use crate::fault::SetFault;
-use bay_model::{Misfit, Slot, ValueRef};
+use bay_rooms::{Misfit, Slot, ValueRef};
 use std::marker::Model;
 use sv_base::{AttrId, Value};
 

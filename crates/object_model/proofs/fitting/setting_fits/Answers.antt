@@ -4,7 +4,7 @@ use Rattle.std.specs.Option.{option_map}
 use Rattle.std.proofs.lemmas.Option.{slice_get-map}
 use Rattle.list_laws.proofs.Places.{all-at}
 use Rattle.sv_base.specs.declared.value.Value.{Value}
-use Rattle.bay_model.specs.Slots.{IsSettable}
+use Rattle.bay_rooms.specs.Slots.{IsSettable}
 use Rattle.object_names.specs.declared.attributes.AttrRow.{AttrRow}
 use Rattle.object_names.specs.Attributes.{types_of}
 use Rattle.object_model.specs.Fits.{is_typed, is_sound}

@@ -1,7 +1,7 @@
 -- why `entry_octets::put_all` answers as its contract says
 use Rattle.std.proofs.Common.{◌∙◌, ◌+◌, ℕ, ap, sym, subst, arith}
 use Rattle.std.proofs.lemmas.List.Elements.{All-get_or}
-use Rattle.bay_rooms.specs.Rooms.{Filled}
+use Rattle.sv_base.specs.Filled.{Filled}
 use Rattle.set_view.specs.Shapes.{no_shape}
 use Rattle.report_block.specs.EntryOctets.{IsWritable, kept_with}
 use Rattle.report_block.proofs.AllLaws.{all-more, put-few}

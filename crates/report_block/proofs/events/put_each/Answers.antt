@@ -1,7 +1,8 @@
 -- why `events::put_each` answers as its contract says
 use Rattle.std.proofs.Common.{◌≤◌, ◌∙◌, ◌+◌, ◌*◌, ℕ, List, length, ap, ap₂, sym, subst}
 use Rattle.std.specs.List.{concat}
-use Rattle.bay_rooms.specs.Rooms.{Filled, FilledMembers}
+use Rattle.sv_base.specs.Filled.{Filled}
+use Rattle.bay_rooms.specs.Rooms.{FilledMembers}
 use Rattle.report_block.proofs.AllLaws.{each-step}
 use Rattle.report_block.proofs.events.put_each.Goals as goal
 

@@ -1,6 +1,6 @@
 -- why `opening::setting_of` answers as its contract says
 use Rattle.std.proofs.Common.{rules, ◌≡◌, ◌∙◌, List, length, ap, sym, arith, slice_index_or}
-use Rattle.bay_rooms.specs.Kinds.{kind_of}
+use Rattle.sv_base.specs.Kinds.{kind_of}
 use Rattle.bay_rooms.specs.Slots.{Held}
 use Rattle.setting_groups.specs.Opened.{slots_of}
 use Rattle.setting_groups.proofs.OpenLaws.{kind_at}

@@ -10,7 +10,7 @@ use Rattle.mms_data.proofs.TypeLaws.{size-part-at}
 use Rattle.value_store.specs.Members.{leaves, leaves_in, row_with, value_with, values_at, member_octets}
 use Rattle.value_store.specs.Stored.{IsStored, AreStored}
 use Rattle.value_store.specs.Written.{adds}
-use Rattle.bay_rooms.specs.Rooms.{Filled}
+use Rattle.sv_base.specs.Filled.{Filled}
 use Rattle.value_store.proofs.MemberLaws.{inside, content_is_shorter, values_after, part_within, leaves_left, leaves_more, row_more}
 use Rattle.value_store.proofs.members.+put.Goals as goal
 

@@ -1,7 +1,7 @@
 -- why `slots::pour_spans` answers as its contract says
 use Rattle.std.proofs.Common.{◌≡◌, ◌∷◌, [], ◌++◌, ◌∙◌, ℕ, ap, sym, subst, length, drop, slice_index_or, None, arith, length-append, ◌+◌}
 use Rattle.std.proofs.lemmas.List.{drop_more}
-use Rattle.bay_rooms.specs.Rooms.{Filled}
+use Rattle.sv_base.specs.Filled.{Filled}
 use Rattle.window_core.specs.Pieces.{octets_of}
 use Rattle.window_core.specs.Slots.{listed, total, AreSpans}
 use Rattle.window_core.proofs.SlotLaws.{pour-more, spans-first, total-first, poured-length}

@@ -8,7 +8,7 @@ use Rattle.bay_model.specs.Attributes.{attributes}
 use Rattle.bay_model.specs.Lookups.{node_of}
 use Rattle.bay_model.specs.Model.{single, several, selecting, attribute, component, setting, withheld}
 use Rattle.bay_model.specs.Named.{configured_model}
-use Rattle.bay_rooms.specs.Kinds.{is_kind, text}
+use Rattle.sv_base.specs.Kinds.{is_kind, text}
 use Rattle.bay_model.specs.Writes.{write_node}
 use Rattle.bay_core.specs.Asked.{IsWrite}
 use Rattle.bay_core.specs.Commanded.{IsNoCommand}

@@ -1,6 +1,6 @@
 -- why `block::ReportBlock::keep_all` answers as its contract says
 use Rattle.std.proofs.Common.{◌∙◌, ℕ, List, ap, sym}
-use Rattle.bay_rooms.specs.Rooms.{Filled}
+use Rattle.sv_base.specs.Filled.{Filled}
 use Rattle.entry_ring.specs.Ringed.{Ringed, after_entry}
 use Rattle.report_block.specs.Alls.{all_from}
 use Rattle.report_block.proofs.PlainLaws.{octets-noted}

@@ -2,7 +2,7 @@
 use Rattle.std.proofs.Common.{rules, ◌≡◌, ◌++◌, ◌∷◌, [], arith}
 use Rattle.std.proofs.lemmas.List.{length-set}
 use Rattle.touch_index.proofs.NotesLaws.{covered_less, weighs_none}
-use Rattle.bay_rooms.specs.Rooms.{Filled}
+use Rattle.sv_base.specs.Filled.{Filled}
 use Rattle.bay_model.specs.declared.note.Mention.{Mention}
 use Rattle.std.proofs.Common.{ap}
 use Rattle.touch_index.proofs.notes.Notes.clear_last.Goals as goal

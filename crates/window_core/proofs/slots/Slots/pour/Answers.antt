@@ -1,6 +1,6 @@
 -- why `slots::Slots::pour` answers as its contract says
 use Rattle.std.proofs.Common.{ap, arith, length, ℕ}
-use Rattle.bay_rooms.specs.Rooms.{Filled}
+use Rattle.sv_base.specs.Filled.{Filled}
 use Rattle.window_core.specs.Slots.{Slotted, total}
 use Rattle.window_core.proofs.SlotLaws.{room-total}
 use Rattle.window_core.proofs.slots.Slots.pour.Goals as goal

@@ -1,7 +1,7 @@
 -- why `slots::Slots::put` answers as its contract says
 use Rattle.std.proofs.Common.{ℕ, length-append, ◌≡◌, ◌-◌, ◌+◌, ◌<◌, ◌∙◌, ap, ap₂, sym, length, None, Some, is_some, slice_index_or, slice_set, arith}
 use Rattle.std.proofs.lemmas.List.{length-set}
-use Rattle.bay_rooms.specs.Rooms.{Filled}
+use Rattle.sv_base.specs.Filled.{Filled}
 use Rattle.window_core.specs.Pieces.{is_there, insert}
 use Rattle.window_core.specs.Slots.{Slotted, listed}
 use Rattle.window_core.specs.declared.slots.Span.{Span}

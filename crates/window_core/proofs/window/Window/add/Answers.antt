@@ -2,7 +2,7 @@
 use Rattle.std.proofs.Common.{rules, ◌≡◌, ◌∙◌, ap, sym, ℕ, false, true, None, Some, inl, inr}
 use Rattle.std.proofs.lemmas.Bool.Decides.{eqb_tells}
 use Rattle.std.specs.Prelude.{◌==◌, if◌then◌else◌}
-use Rattle.bay_rooms.specs.Rooms.{Filled}
+use Rattle.sv_base.specs.Filled.{Filled}
 use Rattle.window_core.specs.Pieces.{pieces, insert_all, mentions, octets_of}
 use Rattle.window_core.specs.Slots.{Slotted}
 use Rattle.window_core.specs.Windows.{Windowed, joined, told, ends}
