@@ -1,4 +1,2 @@
--- The laws of a replay's pieces, and of a source that is read to its end.
+-- The laws of a replay's pieces.
 pub mod Judging
-pub mod ReadWhole
-pub mod TakenLaws

@@ -1,4 +1,3 @@
 -- What the program answers, and what a replay stands for.
 pub mod Tool
 pub mod Runs
-pub mod Checked

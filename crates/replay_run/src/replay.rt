@@ -10,12 +10,11 @@ ghost use Rattle.std.specs.Prelude.{suc};
 ghost use Rattle.record_outcome.specs.Moves.{Place};
 ghost use Rattle.std.specs.Prelude.{◌≢◌};
 
-use crate::pieces::read_piece;
 use record_outcome::limits::MOST_OCTETS;
 use record_outcome::status::Status;
 use record_session::reader::Reader;
 use std::alloc::{AllocError, Global};
-use sv_io::{Failed, Sink, Source};
+use sv_io::{Failed, Sink, Source, read_piece};
 
 /// Hands what was written to the sink.
 fn flush<K: Sink>(out: &mut Vec<u8>, sink: &mut K) -> Result<(), Failed>
@@ -103,7 +102,7 @@ impl Replay {
     ghost use Rattle.sv_io.specs.Causes.{Rose};
     ghost use Rattle.replay_run.specs.Runs.{IsReady, Run, Turns};
     ghost use Rattle.record_outcome.specs.Judgements.{IsJudgement, IsOfReplay, Answers};
-    ghost use Rattle.replay_run.specs.Tool.{TakesAtMost};
+    ghost use Rattle.sv_io.specs.Taken.{TakesAtMost};
     ghost use Rattle.record_outcome.specs.declared.status.Status.TheVariants as statuses;
 
     /// Nothing is read yet.

@@ -3,14 +3,15 @@
 ghost use Rattle.std.specs.Prelude.{◌≡◌, ◌≤◌, ◌<◌, ◌-◌, ◌↔◌, ℕ, List, Option, length, IfSome, IsTrue};
 ghost use Rattle.replay_run.specs.Runs.{IsReady, Run};
 ghost use Rattle.sv_io.specs.Causes.{Rose};
+ghost use Rattle.sv_io.specs.Taken.{TakesAtMost};
 ghost use Rattle.record_outcome.specs.Written.{WritesHistory};
-ghost use Rattle.replay_run.specs.Checked.{IsChecked, IsOfCheck, Checks};
-ghost use Rattle.replay_run.specs.Tool.{IsReplay, IsCheck, IsCommand, TakesAtMost};
+ghost use Rattle.config_check.specs.Checked.{IsChecked, IsOfCheck, Checks};
+ghost use Rattle.replay_run.specs.Tool.{IsReplay, IsCheck, IsCommand};
 ghost use Rattle.record_outcome.specs.Judgements.{IsJudgement, IsOfReplay, Answers};
 
-use crate::check::check;
 use crate::replay::Replay;
 use command_line::is_word;
+use config_check::check;
 use record_outcome::status::Status;
 use std::alloc::Global;
 use sv_io::{Sink, Source};

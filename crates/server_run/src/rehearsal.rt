@@ -5,7 +5,7 @@ ghost use Rattle.std.specs.List.{All};
 ghost use Rattle.bay_config.specs.Servable.{IsServable};
 ghost use Rattle.bay_core.specs.Standing.{StandsFor};
 ghost use Rattle.bay_model.specs.Answers.{History as TheHistory};
-ghost use Rattle.replay_run.specs.Tool.{TakesAtMost};
+ghost use Rattle.sv_io.specs.Taken.{TakesAtMost};
 ghost use Rattle.sv_io.specs.Causes.{Rose};
 ghost use Rattle.script_reading.specs.Inputs.{Outcome, outcome};
 ghost use Rattle.script_reading.specs.Plans.{Plan as ThePlan};
@@ -28,13 +28,12 @@ use object_model::Model;
 use race_records::{lacks_memory, lowest_full, write_answers, write_record};
 use record_outcome::limits::MOST_OCTETS;
 use record_outcome::status::Status;
-use replay_run::whole::{Unread, read_whole};
 use script_reading::{MOST_SCRIPTS, Plan, Script, StepLine, read_rehearsal};
 use script_threads::{Actor, Raced, race};
 use std::alloc::{AllocError, Global};
 use std::sync::Wait;
 use std::thread::Threads;
-use sv_io::{Failed, Gate, OpenGate, Sink, Source};
+use sv_io::{Failed, Gate, OpenGate, Sink, Source, Unread, read_whole};
 
 /// One octet more than an input may have.
 const MOST: usize = MOST_OCTETS + 1;

@@ -1,6 +1,6 @@
 -- why `tool::run` answers as its contract says
 use Rattle.std.proofs.Common.{arith, ◌-◌}
-use Rattle.replay_run.proofs.TakenLaws.{takes-none, takes-more}
+use Rattle.sv_io.proofs.TakenLaws.{takes-none, takes-more}
 use Rattle.replay_run.proofs.tool.run.Goals as goal
 
 pub returns-in-Some-clause-told : goal.returns-in-Some-clause-told

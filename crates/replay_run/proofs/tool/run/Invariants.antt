@@ -2,7 +2,7 @@
 use Rattle.std.proofs.Common.{◌≤◌, ◌<◌, ◌-◌, ℕ, List, length}
 use Rattle.std.specs.Prelude.{Option}
 use Rattle.replay_run.specs.Runs.{IsReady, Run}
-use Rattle.replay_run.specs.Tool.{TakesAtMost}
+use Rattle.sv_io.specs.Taken.{TakesAtMost}
 use Rattle.replay_run.proofs.tool.run.Given as goal
 
 abbrev pub invariant-loop-replay : goal.invariant-loop-replay

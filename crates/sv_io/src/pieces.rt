@@ -3,9 +3,9 @@
 ghost use Rattle.std.specs.Prelude.{◌≡◌, ◌≤◌, ◌<◌, length, take, IfOk};
 ghost use Rattle.std.specs.Io.KnownBytes.{Consumes, IsAtEnd};
 ghost use Rattle.sv_io.specs.Causes.{HasCause};
-ghost use Rattle.replay_run.specs.Tool.{TakesAtMost};
+ghost use Rattle.sv_io.specs.Taken.{TakesAtMost};
 
-use sv_io::{Failed, Source};
+use crate::traits::{Failed, Source};
 
 /// Reads at most so many octets to the front of the buffer; none where the source has ended.
 pub fn read_piece<S: Source>(source: &mut S, buf: &mut [u8], room: usize) -> Result<usize, Failed>

@@ -3,11 +3,11 @@
 ghost use Rattle.std.specs.Prelude.{◌≡◌, ◌≢◌, ◌≤◌, take, length, IfOk, Err};
 ghost use Rattle.std.specs.Prelude.{IfSome};
 ghost use Rattle.sv_io.specs.Causes.{Rose};
-ghost use Rattle.replay_run.specs.Tool.{TakesAtMost};
+ghost use Rattle.sv_io.specs.Taken.{TakesAtMost};
 
 use crate::pieces::read_piece;
 use std::alloc::{AllocError, Global};
-use sv_io::{Failed, Source};
+use crate::traits::{Failed, Source};
 
 /// Why a source isn't read to its end.
 #[derive(Clone, Copy, Debug, PartialEq, Eq)]

@@ -1,7 +1,7 @@
 -- why `whole::read_whole` answers as its contract says
 use Rattle.std.proofs.Common.{arith}
-use Rattle.replay_run.proofs.ReadWhole.{taken-more}
-use Rattle.replay_run.proofs.whole.read_whole.Goals as goal
+use Rattle.sv_io.proofs.ReadWhole.{taken-more}
+use Rattle.sv_io.proofs.whole.read_whole.Goals as goal
 
 pub returns-in-Err-clause-taken : goal.returns-in-Err-clause-taken
 returns-in-Err-clause-taken g c = taken-more (g.S.Source.left c.args.source.now) (g.S.Source.left c.loop-piece.source) (g.S.Source.left c.read_piece.new.source) c.loop-piece.octets.items c.args.most _

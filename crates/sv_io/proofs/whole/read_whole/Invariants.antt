@@ -1,11 +1,11 @@
 -- what the loops of `whole::read_whole` keep, and why they end
 use Rattle.std.proofs.Common.{◌≡◌, ◌≤◌, ◌-◌, length}
-use Rattle.replay_run.proofs.ReadWhole.{Reading}
-use Rattle.replay_run.proofs.whole.read_whole.Given as goal
+use Rattle.sv_io.proofs.ReadWhole.{ReadSoFar}
+use Rattle.sv_io.proofs.whole.read_whole.Given as goal
 
 abbrev pub invariant-loop-piece : goal.invariant-loop-piece
 invariant-loop-piece g l = record {
-  read : Reading (g.S.Source.left l.fn.source) (g.S.Source.left l.source) l.octets.items l.most;
+  read : ReadSoFar (g.S.Source.left l.fn.source) (g.S.Source.left l.source) l.octets.items l.most;
   piece : length l.piece ≡ 16384;
   later : g.S.Source.faults l.fn.source ≤ g.S.Source.faults l.source;
 }

@@ -2,7 +2,7 @@
 use Rattle.std.proofs.Common.{◌≤◌, ◌+◌, ℕ, List, [], ◌++◌, length-append, arith}
 use Rattle.std.specs.Prelude.{Option}
 use Rattle.std.proofs.KnownBytes.{Consumes-nil, Consumes-trans}
-use Rattle.replay_run.specs.Tool.{TakesAtMost}
+use Rattle.sv_io.specs.Taken.{TakesAtMost}
 
 pub takes-none : (most : ℕ) (o : Option (List ℕ)) → TakesAtMost most o o
 takes-none most o = ([], omega arith, Consumes-nil o)

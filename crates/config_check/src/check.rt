@@ -3,17 +3,16 @@
 ghost use Rattle.std.specs.Prelude.{◌≡◌, ◌≤◌, ◌++◌, IfOk, IfSome, OnOk};
 ghost use Rattle.std.specs.Io.KnownBytes.{Appends};
 ghost use Rattle.sv_io.specs.Causes.{Rose};
-ghost use Rattle.replay_run.specs.Tool.{TakesAtMost};
-ghost use Rattle.replay_run.specs.Checked.{count, counts, IsChecked, IsOfCheck, IsOfTelling, Checks};
+ghost use Rattle.sv_io.specs.Taken.{TakesAtMost};
+ghost use Rattle.config_check.specs.Checked.{count, counts, IsChecked, IsOfCheck, IsOfTelling, Checks};
 
-use crate::whole::{Unread, read_whole};
 use answer_text::push_number;
 use cfg_text::{CfgFault, read_config};
 use object_model::domains;
 use record_outcome::status::Status;
 use std::alloc::{AllocError, Global};
 use sv_base::Config;
-use sv_io::{Failed, Sink, Source};
+use sv_io::{Failed, Sink, Source, Unread, read_whole};
 
 /// The most octets that are read.
 const MOST: usize = 67108865;

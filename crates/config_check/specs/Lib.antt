@@ -1,0 +1,2 @@
+-- What is answered to a configuration.
+pub mod Checked
