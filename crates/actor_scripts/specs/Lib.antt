@@ -3,4 +3,5 @@ pub mod Scripts
 pub mod Merging
 -- where a script stops, and what came of all of them
 pub mod Stops
+pub mod Actors
 pub mod Raced

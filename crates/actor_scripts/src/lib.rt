@@ -14,4 +14,4 @@ mod merging;
 pub use made::Made;
 pub use merging::merge;
 pub use part::{Part, Reply};
-pub use script::{Script, TimedStep};
+pub use script::{Actor, Script, TimedStep};

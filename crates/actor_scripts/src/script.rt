@@ -17,3 +17,10 @@ pub struct Script {
     pub actor: u32,
     pub steps: Vec<TimedStep>,
 }
+
+/// An actor of a race: its script, and the gate that it passes before each turn.
+#[derive(Drop)]
+pub struct Actor<G: Drop> {
+    pub script: Script,
+    pub gate: G,
+}

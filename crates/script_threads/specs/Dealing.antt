@@ -1,22 +1,12 @@
 -- Passes that are dealt to actors.
 use Rattle.std.specs.Prelude.{◌≡◌, ◌+◌, ◌*◌, ◌<◌, ◌≤◌, ◌^◌, ℕ, List, [], ◌∷◌, length, Vec, vec_capacity}
 use Rattle.std.specs.declared.alloc.Global.{Global}
-use Rattle.sv_base.specs.declared.config.Config.{Config}
 use Rattle.history_lock.specs.Passes.{Site, Known}
 use Rattle.actor_scripts.specs.declared.script.Script.{Script}
 use Rattle.actor_scripts.specs.declared.part.Reply.{Reply}
 use Rattle.script_threads.specs.declared.job.Played.{Played}
 use Rattle.actor_scripts.specs.Stops.{AreFit}
 use Rattle.script_threads.specs.Playing.{IsOf, Went}
-
--- the numbers of actors fall, from below `high`; 0 is none
-abbrev pub AreFalling : ℕ → List ℕ → Type 0
-AreFalling high [] = Unit {0}
-AreFalling high (n ∷ ns) = (0 < n) × (n < high) × AreFalling n ns
-
--- a script of fewer steps than an actor has turns, which a bay of this configuration can be given
-abbrev pub CanPlay : Config → Script → Type 0
-CanPlay c s = AreFit c s.steps.items × (length s.steps.items ≤ 2 ^ 55)
 
 -- the caller's pass, which has the numbers below `above`, and turns for the actors of these
 abbrev pub IsRest : Site → ℕ → Known → Type 0

@@ -2,9 +2,11 @@
 
 ghost use Rattle.std.specs.Prelude.{◌≡◌, ◌+◌, ◌<◌, map, IfOk};
 ghost use Rattle.std.specs.List.{All};
-ghost use Rattle.script_threads.specs.Dealing.{AreFalling, CanPlay, IsReady, IsRest, IsFresh, Dealt};
+ghost use Rattle.actor_scripts.specs.Actors.{AreFalling, CanPlay};
+ghost use Rattle.script_threads.specs.Dealing.{IsReady, IsRest, IsFresh, Dealt};
 
-use crate::job::{Actor, Job};
+use crate::job::Job;
+use actor_scripts::Actor;
 use history_lock::{History, Pass};
 use std::alloc::{AllocError, Global};
 use sv_io::Gate;

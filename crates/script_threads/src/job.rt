@@ -1,14 +1,7 @@
-//! An actor of a race: what it is to do, and what it did.
+//! The part of an actor's thread in a race: what it is given, and what it gives back.
 
 use actor_scripts::{Part, Reply, Script};
 use history_lock::Pass;
-
-/// An actor of a race: its script, and the gate that it passes before each turn.
-#[derive(Drop)]
-pub struct Actor<G: Drop> {
-    pub script: Script,
-    pub gate: G,
-}
 
 /// What an actor's thread is given: its pass, and room for the replies to all steps of its script.
 #[derive(Drop)]

@@ -11,5 +11,4 @@ mod job;
 mod playing;
 mod racing;
 
-pub use job::Actor;
 pub use racing::{ACTORS, Raced, race};

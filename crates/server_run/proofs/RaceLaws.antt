@@ -15,7 +15,7 @@ use Rattle.actor_scripts.specs.Scripts.{turns_by, replies_of}
 use Rattle.actor_scripts.specs.declared.part.Part.{Part as Given}
 use Rattle.actor_scripts.specs.declared.script.Script.{Script as Part}
 use Rattle.actor_scripts.specs.declared.script.TimedStep.{TimedStep}
-use Rattle.server_run.specs.Casting.{turns_among, AreOfPlan}
+use Rattle.script_casting.specs.Casting.{turns_among, AreOfPlan}
 use Rattle.server_run.specs.Rehearsals.{IsMade}
 use Rattle.race_records.specs.Verdicts.{went, all_went}
 

@@ -7,7 +7,7 @@ use Rattle.bay_config.specs.Servable.{IsServable}
 use Rattle.bay_model.specs.Points.{least_moment}
 use Rattle.bay_model.specs.Answers.{History}
 use Rattle.record_outcome.proofs.StartLaws.{is_served}
-use Rattle.script_threads.specs.Dealing.{AreFalling, CanPlay}
+use Rattle.actor_scripts.specs.Actors.{AreFalling, CanPlay}
 use Rattle.actor_scripts.specs.Merging.{AreOf}
 use Rattle.actor_scripts.specs.Raced.{IsRaced}
 use Rattle.actor_scripts.specs.Scripts.{made_of}
@@ -23,10 +23,10 @@ use Rattle.race_records.proofs.OctetLaws.{merged_are_read_back}
 use Rattle.race_records.specs.Known.{AreScripts}
 use Rattle.race_records.specs.Verdicts.{lowest_full, lacks_memory}
 use Rattle.race_records.proofs.KnownLaws.{verdicts_are_known}
-use Rattle.server_run.specs.Casting.{AreOfPlan, IsCast}
+use Rattle.script_casting.specs.Casting.{AreOfPlan, IsCast}
 use Rattle.server_run.specs.Races.{IsOfPlan, IsOfRace}
 use Rattle.server_run.specs.Rehearsals.{IsMade, Goes, MeetsFull}
-use Rattle.server_run.proofs.CastLaws.{plan-roles, plan-turns, plan-falls, plan-plays}
+use Rattle.script_casting.proofs.CastLaws.{plan-roles, plan-turns, plan-falls, plan-plays}
 use Rattle.server_run.proofs.RaceLaws.{parts-of, made-whole}
 
 module _ (p : Plan) (c : Config) (text : List ℕ) (book : Book) (ss : List Part) (is : IsOfPlan p c text book ss) (r : Raced) (race : IsOfRace p.config ss r) where

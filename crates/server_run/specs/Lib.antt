@@ -1,4 +1,3 @@
 -- What a rehearsal comes to.
-pub mod Casting
 pub mod Races
 pub mod Rehearsals

@@ -3,7 +3,7 @@ use Rattle.std.specs.Prelude.{◌≡◌, ℕ, List, length, map}
 use Rattle.std.specs.List.{All}
 use Rattle.sv_base.specs.declared.config.Config.{Config}
 use Rattle.bay_model.specs.Answers.{History}
-use Rattle.script_threads.specs.Dealing.{AreFalling, CanPlay}
+use Rattle.actor_scripts.specs.Actors.{AreFalling, CanPlay}
 use Rattle.actor_scripts.specs.Raced.{IsRaced}
 use Rattle.script_threads.specs.declared.racing.Raced.{Raced}
 use Rattle.actor_scripts.specs.declared.script.Script.{Script as Part}
@@ -11,7 +11,7 @@ use Rattle.script_reading.specs.Plans.{Plan}
 use Rattle.script_reading.specs.Sound.{IsSound}
 use Rattle.race_records.specs.Merged.{Book, book_of}
 use Rattle.race_records.specs.Known.{AreScripts}
-use Rattle.server_run.specs.Casting.{AreOfPlan}
+use Rattle.script_casting.specs.Casting.{AreOfPlan}
 
 -- a sound plan of this configuration and text, whose scripts have these lines and are played so; the numbers of their actors fall
 pub record IsOfPlan (p : Plan) (c : Config) (text : List ℕ) (book : Book) (ss : List Part) : Type 0 where

@@ -1,9 +1,6 @@
 //! Rehearsals: scripts race over one bay, and what they made is written as a record with its answers.
 #![tactic(auto)]
 
-// the actors of a plan
-mod casting;
-
 // the whole
 mod rehearsal;
 

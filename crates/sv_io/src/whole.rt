@@ -6,8 +6,8 @@ ghost use Rattle.sv_io.specs.Causes.{Rose};
 ghost use Rattle.sv_io.specs.Taken.{TakesAtMost};
 
 use crate::pieces::read_piece;
-use std::alloc::{AllocError, Global};
 use crate::traits::{Failed, Source};
+use std::alloc::{AllocError, Global};
 
 /// Why a source isn't read to its end.
 #[derive(Clone, Copy, Debug, PartialEq, Eq)]

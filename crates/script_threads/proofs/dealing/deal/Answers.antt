@@ -4,9 +4,10 @@ use Rattle.std.specs.List.{All}
 use Rattle.std.proofs.lemmas.List.Elements.{All-push}
 use Rattle.history_lock.specs.Passes.{Site}
 use Rattle.actor_scripts.specs.declared.script.Script.{Script}
-use Rattle.script_threads.specs.declared.job.Actor.{Actor}
+use Rattle.actor_scripts.specs.declared.script.Actor.{Actor}
 use Rattle.script_threads.specs.declared.job.Job.{Job}
-use Rattle.script_threads.specs.Dealing.{AreFalling, CanPlay, IsReady, Dealt}
+use Rattle.actor_scripts.specs.Actors.{AreFalling, CanPlay}
+use Rattle.script_threads.specs.Dealing.{IsReady, Dealt}
 use Rattle.actor_scripts.proofs.Lists.{map_last}
 use Rattle.script_threads.proofs.Races.{dealt_more}
 use Rattle.script_threads.proofs.dealing.deal.Goals as goal

@@ -1,7 +1,8 @@
 -- what the loops of `dealing::deal` keep
 use Rattle.std.proofs.Common.{◌≡◌, ◌++◌, map}
 use Rattle.std.specs.List.{All}
-use Rattle.script_threads.specs.Dealing.{AreFalling, CanPlay, IsReady, IsRest, Dealt}
+use Rattle.actor_scripts.specs.Actors.{AreFalling, CanPlay}
+use Rattle.script_threads.specs.Dealing.{IsReady, IsRest, Dealt}
 use Rattle.script_threads.proofs.dealing.deal.Given as goal
 
 abbrev pub invariant-loop-actor : goal.invariant-loop-actor

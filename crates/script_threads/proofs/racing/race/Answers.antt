@@ -2,8 +2,8 @@
 use Rattle.std.proofs.Common.{sym, subst}
 use Rattle.std.specs.List.{All}
 use Rattle.sv_base.specs.declared.config.Config.{Config}
-use Rattle.script_threads.specs.declared.job.Actor.{Actor}
-use Rattle.script_threads.specs.Dealing.{CanPlay}
+use Rattle.actor_scripts.specs.declared.script.Actor.{Actor}
+use Rattle.actor_scripts.specs.Actors.{CanPlay}
 use Rattle.script_threads.proofs.racing.race.Goals as goal
 
 pub run-requires-clause-steps : goal.run-requires-clause-steps

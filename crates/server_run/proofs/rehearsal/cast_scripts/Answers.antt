@@ -1,6 +1,6 @@
 -- why `rehearsal::cast_scripts` answers as its contract says
 use Rattle.std.proofs.Common.{subst, sym}
-use Rattle.server_run.specs.Casting.{AreSeats}
+use Rattle.script_casting.specs.Casting.{AreSeats}
 use Rattle.server_run.proofs.rehearsal.cast_scripts.Goals as goal
 
 pub cast-requires-clause-seats : goal.cast-requires-clause-seats

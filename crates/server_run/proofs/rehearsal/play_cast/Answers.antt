@@ -1,10 +1,10 @@
 -- why `rehearsal::play_cast` answers as its contract says
 use Rattle.std.proofs.Common.{map, subst, sym}
 use Rattle.race_records.specs.Merged.{book_seen}
-use Rattle.script_threads.specs.Dealing.{AreFalling, CanPlay}
+use Rattle.actor_scripts.specs.Actors.{AreFalling, CanPlay}
 use Rattle.actor_scripts.specs.declared.script.Script.{Script}
 use Rattle.server_run.specs.Races.{IsOfRace}
-use Rattle.server_run.proofs.CastLaws.{numbers-of, of-scripts}
+use Rattle.script_casting.proofs.CastLaws.{numbers-of, of-scripts}
 use Rattle.server_run.proofs.SettleLaws.{served-plan}
 use Rattle.server_run.proofs.rehearsal.play_cast.Goals as goal
 

@@ -1,8 +1,8 @@
 -- why `rehearsal::race_over` answers as its contract says
 use Rattle.std.proofs.Common.{subst, sym}
 use Rattle.std.specs.List.{All}
-use Rattle.script_threads.specs.Dealing.{CanPlay}
-use Rattle.script_threads.specs.declared.job.Actor.{Actor}
+use Rattle.actor_scripts.specs.Actors.{CanPlay}
+use Rattle.actor_scripts.specs.declared.script.Actor.{Actor}
 use Rattle.server_run.proofs.rehearsal.race_over.Goals as goal
 
 pub race-requires-clause-steps : goal.race-requires-clause-steps

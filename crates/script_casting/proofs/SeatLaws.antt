@@ -4,8 +4,8 @@ use Rattle.std.specs.Prelude.{Option, None, Some, is_some, slice_set}
 use Rattle.actor_scripts.proofs.Lists.{map_last}
 use Rattle.script_reading.specs.Plans.{Script, Plan}
 use Rattle.script_reading.specs.Sound.{IsPlacedBelow, ArePlacedApart, IsSound}
-use Rattle.server_run.specs.Casting.{script_place, role_place, NoneIs, AreSeats, HasGate, HaveGates, without_gate}
-use Rattle.server_run.specs.declared.casting.Role.{Role}
+use Rattle.script_casting.specs.Casting.{script_place, role_place, NoneIs, AreSeats, HasGate, HaveGates, without_gate}
+use Rattle.script_casting.specs.declared.casting.Role.{Role}
 
 abbrev Seats : Type 0
 Seats = List (Option ℕ)

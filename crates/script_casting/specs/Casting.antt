@@ -5,7 +5,7 @@ use Rattle.script_reading.specs.Plans.{Script, Plan, turns_of}
 use Rattle.actor_scripts.specs.Scripts.{turns_by}
 use Rattle.actor_scripts.specs.declared.script.Script.{Script as Part}
 use Rattle.actor_scripts.specs.declared.script.TimedStep.{TimedStep}
-use Rattle.server_run.specs.declared.casting.Role.{Role}
+use Rattle.script_casting.specs.declared.casting.Role.{Role}
 
 -- what the actor of a script, and that of a role, is to do
 abbrev pub script_steps : Option Script → Option (List TimedStep)

@@ -2,8 +2,8 @@
 use Rattle.std.proofs.Common.{◌++◌, ◌∷◌, [], map, sym, ap, ◌∙◌, append_assoc, arith}
 use Rattle.std.specs.Prelude.{Some}
 use Rattle.actor_scripts.proofs.Lists.{map_last}
-use Rattle.server_run.proofs.SeatLaws.{every-yielded}
-use Rattle.server_run.proofs.casting.placed.Goals as goal
+use Rattle.script_casting.proofs.SeatLaws.{every-yielded}
+use Rattle.script_casting.proofs.casting.placed.Goals as goal
 
 pub loop-gate-preserved : goal.loop-gate-preserved
 loop-gate-preserved g c =

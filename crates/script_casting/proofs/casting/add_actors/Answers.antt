@@ -1,8 +1,8 @@
 -- why `casting::add_actors` answers as its contract says
 use Rattle.std.proofs.Common.{◌≡◌, ◌++◌, ◌∷◌, [], map, length, length-append, arith, ap}
-use Rattle.server_run.proofs.CastLaws.{cast-more}
-use Rattle.server_run.proofs.SeatLaws.{one-cast, last-gate}
-use Rattle.server_run.proofs.casting.add_actors.Goals as goal
+use Rattle.script_casting.proofs.CastLaws.{cast-more}
+use Rattle.script_casting.proofs.SeatLaws.{one-cast, last-gate}
+use Rattle.script_casting.proofs.casting.add_actors.Goals as goal
 
 pub add_actor-requires-clause-gates : goal.add_actor-requires-clause-gates
 add_actor-requires-clause-gates g c κs within = last-gate c.loop-role.gates.items c.loop-role.roles.items c.pop.new.self.items c.in-Some.role c.in-Some.ensures.items c.loop-role.invariant.3

@@ -2,11 +2,10 @@
 
 ghost use Rattle.std.specs.Prelude.{◌≡◌, ◌≤◌, ◌++◌, ◌∷◌, [], None, Some, map, length, slice_set, IfOk, OnOk};
 ghost use Rattle.race_records.specs.Merged.{lines_in, book_seen};
-ghost use Rattle.server_run.specs.Casting.{script_steps, role_steps, script_place, role_place, AreSeats, HasGate, HaveGates, without_gate, cast_one, cast_from};
+ghost use Rattle.script_casting.specs.Casting.{script_steps, role_steps, script_place, role_place, AreSeats, HasGate, HaveGates, without_gate, cast_one, cast_from};
 
-use actor_scripts::{Script as ActorScript, TimedStep};
+use actor_scripts::{Actor, Script as ActorScript, TimedStep};
 use script_reading::{Script, StepLine};
-use script_threads::Actor;
 use std::alloc::{AllocError, Global};
 use std::mem::replace;
 use sv_io::Gate;

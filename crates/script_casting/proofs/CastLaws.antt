@@ -9,15 +9,15 @@ use Rattle.sv_base.specs.declared.config.Config.{Config}
 use Rattle.bay_model.specs.Answers.{History}
 use Rattle.script_reading.specs.Plans.{Script, Plan, script_of, script_turns}
 use Rattle.script_reading.specs.Sound.{IsScriptOrNone, IsSound}
-use Rattle.script_threads.specs.Dealing.{AreFalling, CanPlay}
+use Rattle.actor_scripts.specs.Actors.{AreFalling, CanPlay}
 use Rattle.actor_scripts.specs.Stops.{AreFit}
 use Rattle.actor_scripts.specs.Scripts.{turns_by}
-use Rattle.script_threads.specs.declared.job.Actor.{Actor}
+use Rattle.actor_scripts.specs.declared.script.Actor.{Actor}
 use Rattle.actor_scripts.specs.declared.script.Script.{Script as Part}
 use Rattle.actor_scripts.specs.declared.script.TimedStep.{TimedStep}
 use Rattle.race_records.specs.Known.{Role as Known, role_of, roles_from, AreScripts}
-use Rattle.server_run.specs.Casting.{script_steps, role_steps, cast_one, cast_from, turns_among, AreOfPlan}
-use Rattle.server_run.specs.declared.casting.Role.{Role}
+use Rattle.script_casting.specs.Casting.{script_steps, role_steps, cast_one, cast_from, turns_among, AreOfPlan}
+use Rattle.script_casting.specs.declared.casting.Role.{Role}
 
 abbrev Roles : Type 0
 Roles = List (Option Role)

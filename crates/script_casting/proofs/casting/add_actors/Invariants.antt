@@ -1,7 +1,7 @@
 -- what the loops of `casting::add_actors` keep, and why they end
 use Rattle.std.proofs.Common.{◌≡◌, ◌≤◌, ◌++◌, length, map}
-use Rattle.server_run.specs.Casting.{cast_from, role_place, AreSeats, HaveGates}
-use Rattle.server_run.proofs.casting.add_actors.Given as goal
+use Rattle.script_casting.specs.Casting.{cast_from, role_place, AreSeats, HaveGates}
+use Rattle.script_casting.proofs.casting.add_actors.Given as goal
 
 abbrev pub invariant-loop-role : goal.invariant-loop-role
 invariant-loop-role g l =

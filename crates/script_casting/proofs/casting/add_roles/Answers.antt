@@ -4,9 +4,9 @@ use Rattle.std.specs.Prelude.{Option}
 use Rattle.script_reading.specs.Plans.{Script}
 use Rattle.race_records.specs.Merged.{lines_in}
 use Rattle.actor_scripts.proofs.Lists.{map_last}
-use Rattle.server_run.specs.Casting.{script_steps, script_place}
-use Rattle.server_run.proofs.CastLaws.{all-yielded}
-use Rattle.server_run.proofs.casting.add_roles.Goals as goal
+use Rattle.script_casting.specs.Casting.{script_steps, script_place}
+use Rattle.script_casting.proofs.CastLaws.{all-yielded}
+use Rattle.script_casting.proofs.casting.add_roles.Goals as goal
 
 pub loop-slot-preserved : goal.loop-slot-preserved
 loop-slot-preserved c =

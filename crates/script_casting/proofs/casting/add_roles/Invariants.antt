@@ -1,8 +1,8 @@
 -- what the loops of `casting::add_roles` keep
 use Rattle.std.proofs.Common.{◌≡◌, ◌++◌, map}
 use Rattle.race_records.specs.Merged.{lines_in, book_seen}
-use Rattle.server_run.specs.Casting.{script_steps, role_steps, script_place, role_place}
-use Rattle.server_run.proofs.casting.add_roles.Given as goal
+use Rattle.script_casting.specs.Casting.{script_steps, role_steps, script_place, role_place}
+use Rattle.script_casting.proofs.casting.add_roles.Given as goal
 
 abbrev pub invariant-loop-slot : goal.invariant-loop-slot
 invariant-loop-slot l =

@@ -1,0 +1,3 @@
+-- The laws of casting.
+pub mod CastLaws
+pub mod SeatLaws

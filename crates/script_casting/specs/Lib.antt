@@ -1,0 +1,2 @@
+-- The actors of a plan.
+pub mod Casting
