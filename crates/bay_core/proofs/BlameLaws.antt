@@ -5,9 +5,9 @@ use Rattle.std.proofs.lemmas.List.{get_or-set_other}
 use Rattle.list_laws.proofs.Options.{some_is}
 use Rattle.sv_base.specs.declared.config.Config.{Config}
 use Rattle.sv_base.specs.declared.value.Value.{Value}
-use Rattle.object_names.specs.declared.named.What.{What}
-use Rattle.object_names.specs.declared.named.What.TheVariants as whats
-use Rattle.object_names.specs.Seen.{role_seen}
+use Rattle.name_leaves.specs.declared.what.What.{What}
+use Rattle.name_leaves.specs.declared.what.What.TheVariants as whats
+use Rattle.name_leaves.specs.Seen.{role_seen}
 use Rattle.bay_model.specs.declared.control.ApplError.{ApplError}
 use Rattle.bay_model.specs.Configured.{control_defined}
 use Rattle.bay_model.specs.Lookups.{control_of, node_of}

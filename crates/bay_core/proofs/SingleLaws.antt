@@ -10,8 +10,8 @@ use Rattle.std.specs.List.{All}
 use Rattle.std.proofs.lemmas.List.Elements.{All-nil, All-cons, All-append, All-head, All-tail}
 use Rattle.list_laws.proofs.Options.{some_is}
 use Rattle.list_laws.proofs.Places.{at_own, same-number}
-use Rattle.object_names.specs.declared.named.What.{What}
-use Rattle.object_names.specs.Seen.{role_seen}
+use Rattle.name_leaves.specs.declared.what.What.{What}
+use Rattle.name_leaves.specs.Seen.{role_seen}
 use Rattle.sv_base.specs.declared.numbers.NodeId.{NodeId}
 use Rattle.bay_model.specs.declared.request.Write.{Write}
 use Rattle.sv_base.specs.declared.config.Config.{Config}

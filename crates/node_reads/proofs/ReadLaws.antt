@@ -14,8 +14,8 @@ use Rattle.bay_model.specs.Model as model
 use Rattle.bay_model.specs.Model.{Model, Tree, Trees, Leaf}
 use Rattle.bay_model.specs.Points.{Past}
 use Rattle.bay_model.specs.Reads.{read_tree, read_trees, read_leaf, joined, structured}
-use Rattle.object_names.specs.Leaves.{leaves, leaves_side, leaf_seen}
-use Rattle.object_names.specs.declared.leaves.Leaf.{Leaf as CodeLeaf}
+use Rattle.name_leaves.specs.Leaves.{leaves, leaves_side, leaf_seen}
+use Rattle.name_leaves.specs.declared.leaves.Leaf.{Leaf as CodeLeaf}
 use Rattle.value_store.specs.Members.{value_with, row_with}
 use Rattle.value_store.specs.Members as members
 use Rattle.node_reads.specs.Reading.{read_by, read_side, leaf_read, leaf_at, put_front, all_or_first, typed, HasShape, HaveShapes}

@@ -10,8 +10,8 @@ use Rattle.sv_base.specs.declared.value.Value.{Value}
 use Rattle.bay_model.specs.Model as model
 use Rattle.bay_model.specs.Model.{Tree, Trees, Leaf}
 use Rattle.bay_model.specs.Reads.{structured, joined}
-use Rattle.object_names.specs.Leaves.{leaf_seen}
-use Rattle.object_names.specs.declared.leaves.Leaf.{Leaf as CodeLeaf}
+use Rattle.name_leaves.specs.Leaves.{leaf_seen}
+use Rattle.name_leaves.specs.declared.leaves.Leaf.{Leaf as CodeLeaf}
 use Rattle.value_store.specs.Members.{value_with}
 
 -- a tree, by what each of its leaves reads as

@@ -7,7 +7,7 @@ ghost use Rattle.sv_base.specs.declared.value.Value.{Value};
 ghost use Rattle.bay_model.specs.Model.{Model, Leaf, Tree};
 ghost use Rattle.bay_model.specs.Points.{Past};
 ghost use Rattle.bay_model.specs.Reads.{read_tree, read_leaf};
-ghost use Rattle.object_names.specs.Leaves.{leaves};
+ghost use Rattle.name_leaves.specs.Leaves.{leaves};
 ghost use Rattle.node_reads.specs.Reading.{HasShape, read_by, leaf_read, all_or_first, typed};
 
 /// A node reads as its type has it with the values of its leaves, or the code of the first leaf that is refused, whatever the

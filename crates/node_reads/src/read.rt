@@ -5,7 +5,7 @@ ghost use Rattle.sv_base.specs.declared.value.Value.{Value as ModelValue};
 ghost use Rattle.bay_model.specs.Model.{Leaf as ModelLeaf};
 ghost use Rattle.bay_model.specs.Lookups.{node_of};
 ghost use Rattle.bay_model.specs.Named.{configured_model, nodes};
-ghost use Rattle.object_names.specs.Leaves.{leaf_seen};
+ghost use Rattle.name_leaves.specs.Leaves.{leaf_seen};
 ghost use Rattle.node_reads.specs.Reading.{read_by, leaf_read, leaf_at, all_or_first, typed};
 ghost use Rattle.node_reads.specs.Queues.{queued};
 

@@ -11,10 +11,10 @@ use Rattle.bay_model.specs.NameTree.{Forest, nothing, named}
 use Rattle.bay_model.specs.Places.{Place, place, places, attrs_in, attrs_of_role}
 use Rattle.bay_model.specs.Named.{places_in}
 use Rattle.bay_model.specs.declared.tables.NodeRow.{NodeRow}
-use Rattle.object_names.specs.Leaves.{what_code}
-use Rattle.object_names.proofs.LeafLaws.{role_there}
-use Rattle.object_model.specs.declared.growth.Spot.{Spot}
-use Rattle.object_model.specs.Grown.{items_of, spot}
+use Rattle.name_leaves.specs.Leaves.{what_code}
+use Rattle.name_leaves.proofs.LeafLaws.{role_there}
+use Rattle.name_growth.specs.declared.growth.Spot.{Spot}
+use Rattle.name_growth.specs.Grown.{items_of, spot}
 use Rattle.object_model.specs.Nodes.{spots_in, attr_id, row, rows_from}
 use Rattle.object_model.specs.Attrs.{own_attrs, attrs_in_spots, row_with, rows_with}
 

@@ -1,7 +1,7 @@
 -- What one more domain does to what is listed.
 use Rattle.std.proofs.Common.{◌≡◌, Option, ℕ, zero, suc, ◌+◌, ◌<◌, List, [], ◌∷◌, ◌++◌, flat_map, length, take, get_or, refl, sym, ap, ap₂, subst, ◌∙◌, arith, length-append, length-take, append_assoc, append-nil}
 use Rattle.std.specs.Option.{option_map}
-use Rattle.object_names.specs.Numbers.{number_in}
+use Rattle.name_leaves.specs.Numbers.{number_in}
 use Rattle.std.proofs.Math.Seq.{take-length}
 use Rattle.std.proofs.lemmas.List.{take_more, get_or_default, length-map}
 use Rattle.list_laws.proofs.Appended.{flat-more}
@@ -10,14 +10,14 @@ use Rattle.bay_model.specs.NameTree.{tree_of}
 use Rattle.bay_model.specs.Places.{Place}
 use Rattle.bay_model.specs.Named.{places_in}
 use Rattle.bay_model.specs.NamedLines.{Line, domains, lines, in_order, names_in}
-use Rattle.object_model.specs.declared.growth.Spot.{Spot}
+use Rattle.name_growth.specs.declared.growth.Spot.{Spot}
 use Rattle.object_model.specs.declared.listing.Directory.{Directory}
 use Rattle.object_model.specs.declared.nodes.NodeName.{NodeName}
 use Rattle.object_model.specs.declared.listing.Listing.{Listing}
 use Rattle.object_model.specs.Stands.{owns, stands_from, all_stands, all_leaves}
 use Rattle.object_model.proofs.StandLaws.{owns-append, stands-append}
 use Rattle.object_model.proofs.AttrLaws.{rows-append, rows-laid, spots-places}
-use Rattle.object_model.specs.Grown.{spot}
+use Rattle.name_growth.specs.Grown.{spot}
 use Rattle.object_model.specs.Nodes.{places_from, spots_in, rows_from, names_at, names_from, node_rows, node_names}
 use Rattle.object_model.specs.Listed.{items_of, first_of, IsDirectory, IsDirectoryOf, AllFrom, IsListed, IsOneMore}
 

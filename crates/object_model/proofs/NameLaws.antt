@@ -17,7 +17,7 @@ use Rattle.bay_model.specs.NamedLines.{domains, names_in}
 use Rattle.bay_model.specs.Named.{nodes, places_in, configured_model}
 use Rattle.bay_model.specs.Lookups.{node_of}
 use Rattle.object_model.specs.Tables.{node_named}
-use Rattle.object_model.proofs.GroupLaws.{distinct}
+use Rattle.name_growth.proofs.GroupLaws.{distinct}
 use Rattle.object_model.proofs.ResolveLaws.{distinct-domains}
 use Rattle.object_model.proofs.ApartLaws.{each-map, each-more, Unlike, Apart, apart-both, first_place}
 

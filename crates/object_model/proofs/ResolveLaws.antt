@@ -14,13 +14,13 @@ use Rattle.bay_model.specs.Configured.{with_domain, domains_after}
 use Rattle.bay_model.specs.NamedLines.{domains}
 use Rattle.bay_model.specs.Places.{Place, node_at}
 use Rattle.bay_model.specs.Named.{nodes, places_in}
-use Rattle.object_names.specs.Numbers.{number_in}
+use Rattle.name_leaves.specs.Numbers.{number_in}
 use Rattle.object_model.specs.Listed.{items_of, domain_at, first_of}
 use Rattle.object_model.specs.Tables.{node_named}
 use Rattle.list_laws.proofs.Options.{some_is, not_some}
 use Rattle.list_laws.proofs.Places.{place-cons, position-append}
 use Rattle.list_laws.proofs.Distinct.{octets_apart, Absent, Distinct}
-use Rattle.object_model.proofs.GroupLaws.{distinct-with}
+use Rattle.name_growth.proofs.GroupLaws.{distinct-with}
 
 pub distinct-domains : (ds : List (List ℕ)) (ns : List LnDef) → Distinct ds → Distinct (domains_after ds ns)
 distinct-domains ds [] d = d

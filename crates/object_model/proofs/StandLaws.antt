@@ -1,9 +1,9 @@
 -- The leaves of all nodes in one row.
 use Rattle.std.proofs.Common.{◌≡◌, ℕ, ◌+◌, ◌<◌, List, [], ◌∷◌, ◌++◌, length, take, get_or, refl, sym, ap, ◌∙◌, append_assoc, append-nil, arith, length-append}
 use Rattle.std.proofs.lemmas.List.{take_more}
-use Rattle.object_model.specs.declared.growth.Spot.{Spot}
+use Rattle.name_growth.specs.declared.growth.Spot.{Spot}
 use Rattle.object_model.specs.declared.stands.Stand.{Stand}
-use Rattle.object_names.specs.declared.leaves.Leaf.{Leaf}
+use Rattle.name_leaves.specs.declared.leaves.Leaf.{Leaf}
 use Rattle.object_model.specs.Stands.{option_list, owns, stands_from}
 
 pub owns-append : (as_ bs : List Spot) → owns (as_ ++ bs) ≡ owns as_ ++ owns bs

@@ -29,7 +29,7 @@ use Rattle.octet_rows.proofs.index.Index.TheSendSync as indexes
 use Rattle.object_model.specs.contracts.listing.Directory as Directory
 use Rattle.object_model.specs.contracts.nodes.NodeName as NodeName
 use Rattle.object_model.specs.contracts.stands.Stand as Stand
-use Rattle.object_names.specs.contracts.leaves.Leaf as Leaf
+use Rattle.name_leaves.specs.contracts.leaves.Leaf as Leaf
 use Rattle.object_model.specs.contracts.tables.Tables as Tables
 use Rattle.object_model.specs.contracts.model.Model as Model
 

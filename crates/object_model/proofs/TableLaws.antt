@@ -9,14 +9,14 @@ use Rattle.bay_model.specs.Model.{Node, several}
 use Rattle.bay_model.specs.declared.tables.NodeRow.{NodeRow}
 use Rattle.bay_model.specs.Lookups.{node_of}
 use Rattle.sv_base.specs.declared.numbers.AttrId.{AttrId}
-use Rattle.object_model.specs.declared.growth.Spot.{Spot}
+use Rattle.name_growth.specs.declared.growth.Spot.{Spot}
 use Rattle.object_model.proofs.ListingLaws.{length-rows, count-places}
 use Rattle.bay_model.specs.NameTree.{nothing}
 use Rattle.bay_model.specs.Places.{Place, place, node_at, may_be_member, largest}
 use Rattle.bay_model.specs.NamedLines.{domains}
 use Rattle.bay_model.specs.Named.{nodes, places_in, configured_model}
 use Rattle.object_model.specs.declared.nodes.NodeName.{NodeName}
-use Rattle.object_model.specs.Grown.{items_of, spot}
+use Rattle.name_growth.specs.Grown.{items_of, spot}
 use Rattle.object_model.specs.Nodes.{attr_id, spots_in, names_at, names_from, node_names, row, rows_from, node_rows}
 use Rattle.std.proofs.Common.{◌&&◌, nat_le, min}
 use Rattle.std.proofs.lemmas.Bool.Decides.{nat_tests}

@@ -6,9 +6,9 @@ use Rattle.sv_base.specs.declared.numbers.AttrId.{AttrId}
 use Rattle.bay_model.specs.declared.tables.NodeRow.{NodeRow}
 use Rattle.bay_model.specs.Places.{attrs_of_role, largest, constraint, member_constraints}
 use Rattle.name_order.specs.Sorting.{name_at}
-use Rattle.object_names.specs.declared.named.What.{What}
-use Rattle.object_names.specs.Seen.{role_seen}
-use Rattle.object_model.specs.declared.growth.Spot.{Spot}
+use Rattle.name_leaves.specs.declared.what.What.{What}
+use Rattle.name_leaves.specs.Seen.{role_seen}
+use Rattle.name_growth.specs.declared.growth.Spot.{Spot}
 use Rattle.object_model.specs.Nodes.{attr_id}
 
 -- the attribute that a name is itself, if it is one

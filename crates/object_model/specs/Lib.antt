@@ -1,9 +1,6 @@
 -- the nodes, attributes, blocks and controls of a configuration, by their numbers
-pub use Rattle.object_names.specs.Numbers
+pub use Rattle.name_leaves.specs.Numbers
 pub use Rattle.object_names.specs.References
-pub mod Groups
-pub mod Leaves
-pub mod Grown
 pub mod Nodes
 pub mod Runs
 pub mod Attrs

@@ -7,8 +7,8 @@ use Rattle.bay_model.specs.NamedLines.{domains}
 use Rattle.bay_model.specs.Named.{places_in}
 use Rattle.object_model.specs.declared.listing.Directory.{Directory}
 use Rattle.object_model.specs.declared.listing.Listing.{Listing}
-use Rattle.object_model.specs.Grown.{spot}
-pub use Rattle.object_model.specs.Grown.{items_of}
+use Rattle.name_growth.specs.Grown.{spot}
+pub use Rattle.name_growth.specs.Grown.{items_of}
 use Rattle.object_model.specs.Stands.{owns, stands_from}
 use Rattle.object_model.specs.Attrs.{attrs_in_spots, rows_with}
 use Rattle.object_model.specs.Nodes.{spots_in, rows_from, names_at, names_from}

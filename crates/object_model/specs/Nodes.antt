@@ -8,9 +8,9 @@ use Rattle.bay_model.specs.NameTree.{tree_of}
 use Rattle.bay_model.specs.Places.{Place, places, largest, may_be_member}
 use Rattle.bay_model.specs.NamedLines.{Line, domains}
 use Rattle.bay_model.specs.Named.{places_in}
-use Rattle.object_model.specs.declared.growth.Spot.{Spot}
+use Rattle.name_growth.specs.declared.growth.Spot.{Spot}
 use Rattle.object_model.specs.declared.nodes.NodeName.{NodeName}
-use Rattle.object_model.specs.Grown.{spot}
+use Rattle.name_growth.specs.Grown.{spot}
 
 -- the nodes that lines name in a domain
 abbrev pub places_from : List Line → List ℕ → List Place

@@ -3,9 +3,9 @@ use Rattle.std.specs.Prelude.{ℕ, ◌+◌, List, [], ◌∷◌, ◌++◌, lengt
 use Rattle.sv_base.specs.declared.config.Config.{Config}
 use Rattle.bay_model.specs.NamedLines.{domains}
 use Rattle.object_model.specs.Nodes.{spots_in}
-use Rattle.object_model.specs.declared.growth.Spot.{Spot}
+use Rattle.name_growth.specs.declared.growth.Spot.{Spot}
 use Rattle.object_model.specs.declared.stands.Stand.{Stand}
-use Rattle.object_names.specs.declared.leaves.Leaf.{Leaf}
+use Rattle.name_leaves.specs.declared.leaves.Leaf.{Leaf}
 
 abbrev pub option_list : {L : Type 0} → Option L → List L
 option_list None = []

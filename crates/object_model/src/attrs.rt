@@ -3,9 +3,9 @@
 ghost use Rattle.std.specs.Prelude.{◌≡◌, ◌++◌, length, IfOk, OnOk};
 ghost use Rattle.object_model.specs.Attrs.{own_attrs, attrs_in_spots};
 
-use crate::growth::Spot;
 use bay_model::AttrIds;
-use object_names::What;
+use name_growth::Spot;
+use name_leaves::What;
 use std::alloc::{AllocError, Global};
 use sv_base::AttrId;
 

@@ -9,7 +9,7 @@ ghost use Rattle.bay_model.specs.Lookups.{reference_of};
 ghost use Rattle.bay_model.specs.Named.{nodes as nodes_of, member_number};
 ghost use Rattle.bay_model.specs.NamedLines.{domains as domains_of};
 ghost use Rattle.name_order.specs.Sorting.{name_at as name_at_place};
-ghost use Rattle.object_names.specs.Numbers.{number_in};
+ghost use Rattle.name_leaves.specs.Numbers.{number_in};
 ghost use Rattle.object_model.specs.Listed.{items_at};
 ghost use Rattle.object_model.specs.Finding.{Finds, node_named, is_cut, least as least_of};
 

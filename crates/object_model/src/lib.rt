@@ -1,12 +1,6 @@
 //! The model of a configuration: its nodes, attributes, blocks and controls by their numbers, and what finds them.
 #![tactic(auto)]
 
-// the tree that the names of lines grow into
-mod grouping;
-mod growing;
-mod growth;
-mod largest;
-
 // its nodes, domain by domain, and what finds them
 mod attrs;
 mod finding;
@@ -23,4 +17,5 @@ mod model;
 
 pub use laws::{models_cross_threads, names_find_their_nodes, rows_are_the_nodes};
 pub use model::Model;
-pub use object_names::{Leaf, What, domains};
+pub use name_leaves::{Leaf, What};
+pub use object_names::domains;

@@ -10,14 +10,14 @@ ghost use Rattle.object_model.specs.Attrs.{attrs_in_spots, rows_with};
 ghost use Rattle.object_model.specs.Stands.{owns, stands_from};
 
 use crate::attrs::attrs_of;
-use crate::growth::Spot;
 use crate::nodes::{NodeName, growth_of, push_nodes, usual_nodes};
 use crate::runs::{Run, runs_of};
 use crate::stands::{Stand, push_stands};
 use bay_model::NodeRow;
+use name_growth::Spot;
+use name_leaves::{Leaf, count, plus};
 use name_order::places_in_order;
-use object_names::numbers::{count, plus};
-use object_names::{Leaf, Line};
+use object_names::Line;
 use octet_rows::Index;
 use std::alloc::{AllocError, Global};
 use sv_base::{Config, Octs};

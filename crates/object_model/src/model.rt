@@ -11,8 +11,9 @@ use crate::stands::between;
 use crate::tables::Tables;
 use bay_model::{Flags, Names, NodeTable, SetTable, Step};
 use config_copies::copy_config;
+use name_leaves::{Leaf, What};
 use name_order::name_at;
-use object_names::{AttrRow, Attributes, Leaf, What, block_references, control_references};
+use object_names::{AttrRow, Attributes, block_references, control_references};
 use octet_rows::Index;
 use std::alloc::{AllocError, Global};
 use sv_base::{AttrId, BlockNo, Config, CtlNo, NodeId, TypeOf};
@@ -105,9 +106,9 @@ impl Model {
     ghost use Rattle.object_model.specs.Nodes.{node_rows};
     ghost use Rattle.object_model.specs.Sorting.{variables_after};
     ghost use Rattle.object_model.specs.Tables.{node_named, node_type, set_rows, flags_of};
-    ghost use Rattle.object_names.specs.Seen.{role_seen};
-    ghost use Rattle.object_names.specs.Leaves.{leaves, leaf_seen};
-    ghost use Rattle.object_names.specs.Numbers.{number_in};
+    ghost use Rattle.name_leaves.specs.Seen.{role_seen};
+    ghost use Rattle.name_leaves.specs.Leaves.{leaves, leaf_seen};
+    ghost use Rattle.name_leaves.specs.Numbers.{number_in};
     ghost use Rattle.object_names.specs.References.{block_references as blocks_of, control_references as controls_of, attr_references as attrs_of};
 
     /// The model of a configuration, whose attributes are of the types that an `attr` line may have.

@@ -3,9 +3,8 @@
 ghost use Rattle.std.specs.Prelude.{◌≡◌, ◌≤◌, ◌+◌, ◌-◌, take, drop, ◌++◌, ◌∷◌, [], length, OnOk};
 ghost use Rattle.object_model.specs.Stands.{option_list, owns, stands_from};
 
-use crate::growth::Spot;
-use object_names::numbers::{count, plus};
-use object_names::{Leaf, What};
+use name_growth::Spot;
+use name_leaves::{Leaf, What, count, plus};
 use std::alloc::AllocError;
 
 /// What a node is, and where its leaves stand in the row of all leaves.

@@ -2,14 +2,8 @@
 //! with its attributes by their numbers.
 #![tactic(auto)]
 
-// numbers by name
-mod hashing;
-mod index;
-pub mod numbers;
-mod places;
-
 // what lines name
-mod leaves;
+mod index;
 mod lines;
 mod named;
 pub mod references;
@@ -19,8 +13,6 @@ mod attributes;
 
 pub use attributes::{AttrRow, Attributes};
 pub use index::index_of;
-pub use leaves::{Leaf, own_leaf};
 pub use lines::{Line, domains, ordered_lines};
-pub use named::{Item, Named, What};
-pub use places::Places;
+pub use named::{Item, Named};
 pub use references::{block_references, control_references};

@@ -14,8 +14,8 @@ ghost use Rattle.object_names.specs.References.{attr_references};
 use crate::named::{
     Item, Named, What, push_block, push_control, push_parameters, push_settings, structure,
 };
-use crate::numbers::{count, plus};
 use crate::references::{is_selected, is_setting, item_at};
+use name_leaves::{count, plus};
 use octet_rows::Index;
 use std::alloc::{AllocError, Global};
 use std::marker::Model;

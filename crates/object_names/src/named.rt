@@ -5,27 +5,14 @@ ghost use Rattle.sv_base.specs.Parameters.{parameter_name, parameter_kind};
 ghost use Rattle.sv_base.specs.CtlServices.{service_name, service_of};
 ghost use Rattle.bay_model.specs.Generated.{within, end_named, structure_named, block_names, setting_named, setting_names, part_named, command_names, sbo_names, sbow_names, cancel_names, control_names, parameters, selection, parameter_names};
 ghost use Rattle.bay_model.specs.Model.{attribute, withheld};
-ghost use Rattle.object_names.specs.Seen.{role_seen};
+ghost use Rattle.name_leaves.specs.Seen.{role_seen};
 
-use crate::numbers::plus;
 use crate::references::{is_selected, joined};
 use bay_model::{Comp, SettingComp};
+use name_leaves::{What, plus};
 use std::alloc::{AllocError, Global};
 use std::marker::Model;
 use sv_base::{Call, CallPart, CtlDef, CtlParameter, CtlService, Octs, Parts, TypeOf};
-
-/// What stands at a name: an attribute, a component of a report block or of a domain's setting group block, a part of a
-/// control's command, its SBO, one of its commands, or a structure.
-#[derive(Clone, Copy)]
-pub enum What {
-    Attribute(u32),
-    Component(u32, Comp),
-    Setting(u32, SettingComp),
-    Withheld,
-    Selecting(u32),
-    Calling(u32, Call),
-    Structure,
-}
 
 #[derive(Drop)]
 enum ItemOctets<'a> {
@@ -96,7 +83,7 @@ impl<'a> Model for Named<'a> {
 
     ghost coded = { Prim.hlevel (codes, fields_code) };
 
-    ghost use Rattle.object_names.specs.Seen.{role_seen};
+    ghost use Rattle.name_leaves.specs.Seen.{role_seen};
 
     ghost view = { λ n. record { item = n.item; role = role_seen n.what; kind = n.kind } };
 }

@@ -10,7 +10,7 @@ use Rattle.bay_model.specs.declared.step.Setting.{Setting}
 use Rattle.bay_model.specs.declared.step.Step.{Step}
 use Rattle.bay_model.specs.declared.step.Step.TheVariants as steps
 use Rattle.sv_base.specs.ComponentTable.{comp_named}
-use Rattle.object_model.specs.Numbers.{number_in}
+use Rattle.name_leaves.specs.Numbers.{number_in}
 use Rattle.object_model.specs.References.{block_references, control_references}
 use Rattle.text_words.specs.Values.{hex_at}
 use Rattle.run_record.specs.declared.line.OpenForm.{OpenForm}

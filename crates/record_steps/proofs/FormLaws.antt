@@ -5,7 +5,7 @@ use Rattle.sv_base.specs.declared.config.Config.{Config}
 use Rattle.sv_base.specs.declared.numbers.AssocNo.{AssocNo}
 use Rattle.sv_base.specs.declared.components.Comp.{Comp}
 use Rattle.sv_base.specs.ComponentTable.{comp_named}
-use Rattle.object_model.specs.Numbers.{number_in}
+use Rattle.name_leaves.specs.Numbers.{number_in}
 use Rattle.object_model.specs.References.{block_references}
 use Rattle.osi_stack.specs.Sides.{StandsFor}
 use Rattle.osi_stack.specs.declared.events.Event.{Event}

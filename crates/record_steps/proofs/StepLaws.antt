@@ -23,7 +23,7 @@ use Rattle.text_words.specs.Words.{behind}
 use Rattle.text_words.specs.Numbers.{number_at, int_at}
 use Rattle.text_words.specs.Values.{read_as, truth_at, is_graphic, is_binary, hex_at}
 use Rattle.object_model.specs.Fits.{fits, is_association, is_sound}
-use Rattle.object_model.specs.Numbers.{number_in}
+use Rattle.name_leaves.specs.Numbers.{number_in}
 use Rattle.object_model.specs.References.{block_references, control_references}
 use Rattle.run_record.specs.Grammar.{IsAssoc}
 use Rattle.record_steps.specs.Shapes.{is_bits, bits_of, signed_of, number_of, text_of, marked_at, truth_or, shape_at}

@@ -9,7 +9,7 @@ use Rattle.bay_model.specs.declared.step.Setting.{Setting}
 use Rattle.bay_model.specs.declared.step.Step.{Step}
 use Rattle.bay_model.specs.declared.step.Step.TheVariants as steps
 use Rattle.object_model.specs.Fits.{fits}
-use Rattle.object_model.specs.Numbers.{number_in}
+use Rattle.name_leaves.specs.Numbers.{number_in}
 use Rattle.object_model.specs.References.{block_references, control_references}
 use Rattle.run_record.specs.declared.line.OpenForm.{OpenForm}
 use Rattle.run_record.specs.declared.line.OpenForm.TheVariants as opens

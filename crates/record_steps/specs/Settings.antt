@@ -7,7 +7,7 @@ use Rattle.sv_base.specs.declared.config.AttrDef.{AttrDef}
 use Rattle.sv_base.specs.declared.value.Value.{Value}
 use Rattle.bay_model.specs.declared.step.Setting.{Setting}
 use Rattle.text_words.specs.Values.{value_at}
-use Rattle.object_model.specs.Numbers.{number_in}
+use Rattle.name_leaves.specs.Numbers.{number_in}
 use Rattle.object_model.specs.References.{attr_references}
 use Rattle.run_record.specs.declared.pairs.Pair.{Pair}
 

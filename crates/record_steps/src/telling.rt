@@ -6,7 +6,7 @@ ghost use Rattle.run_record.specs.Grammar.{IsAssoc, IsForm, IsLine};
 ghost use Rattle.text_words.specs.Values.{hex_at};
 ghost use Rattle.bay_answers.specs.Requests.{IsFitting};
 ghost use Rattle.run_record.specs.Seen.{line_seen, pairs_seen};
-ghost use Rattle.object_model.specs.Numbers.{number_in};
+ghost use Rattle.name_leaves.specs.Numbers.{number_in};
 ghost use Rattle.object_model.specs.References.{block_references, control_references};
 ghost use Rattle.sv_base.specs.ComponentTable.{comp_named};
 ghost use Rattle.record_steps.specs.Resolved.{opened_in, opened_as, written_as, lost_as, asked_as, spelled_as, sent_as, set_as, ended_as, blocked_as, turn_of, association_of, told_of};

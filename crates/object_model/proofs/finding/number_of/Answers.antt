@@ -1,6 +1,6 @@
 -- why `finding::number_of` answers as its contract says
 use Rattle.std.proofs.Common.{◌∙◌, ap, sym, refl}
-use Rattle.object_names.specs.Numbers.{number_in}
+use Rattle.name_leaves.specs.Numbers.{number_in}
 use Rattle.object_model.specs.Listed.{IsDirectory}
 use Rattle.object_model.proofs.ResolveLaws.{resolved, unresolved}
 use Rattle.object_model.proofs.ListingLaws.{directory-at, directory-finds}

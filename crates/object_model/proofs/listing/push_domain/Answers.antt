@@ -1,7 +1,7 @@
 -- why `listing::push_domain` answers as its contract says
 use Rattle.std.proofs.Common.{◌≡◌, List, [], ◌∷◌, ap, ◌∙◌, subst, ◌++◌, map, length}
 use Rattle.bay_model.specs.Places.{Place}
-use Rattle.object_model.specs.Grown.{items_of, spot}
+use Rattle.name_growth.specs.Grown.{items_of, spot}
 use Rattle.object_model.specs.Nodes.{names_at, places_from}
 use Rattle.object_model.specs.Runs.{lines_in}
 use Rattle.object_model.specs.Attrs.{attrs_in_spots, rows_with}

@@ -2,8 +2,8 @@
 use Rattle.std.proofs.Common.{◌++◌, List, ℕ, map, ap, ap₂, ◌∙◌}
 use Rattle.bay_model.specs.NameTree.{grown}
 use Rattle.bay_model.specs.Places.{places}
-use Rattle.object_model.specs.Grown.{items_of, spot}
-use Rattle.object_model.proofs.GrowLaws.{all-levels}
+use Rattle.name_growth.specs.Grown.{items_of, spot}
+use Rattle.name_growth.proofs.GrowLaws.{all-levels}
 use Rattle.object_model.proofs.nodes.growth_of.Goals as goal
 
 pub returns-clause-items : goal.returns-clause-items

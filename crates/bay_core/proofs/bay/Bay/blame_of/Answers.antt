@@ -2,9 +2,9 @@
 use Rattle.std.proofs.Common.{◌≡◌, ◌<◌, ◌∙◌, List, Option, Result, Ok, Err, map, length, ap, sym, subst, arith}
 use Rattle.std.specs.Prelude.{IfOk}
 use Rattle.std.proofs.lemmas.List.{length-map}
-use Rattle.object_names.specs.declared.named.What.{What}
-use Rattle.object_names.specs.declared.named.What.TheVariants as whats
-use Rattle.object_names.specs.Seen.{role_seen}
+use Rattle.name_leaves.specs.declared.what.What.{What}
+use Rattle.name_leaves.specs.declared.what.What.TheVariants as whats
+use Rattle.name_leaves.specs.Seen.{role_seen}
 use Rattle.bay_model.specs.declared.control.ApplError.{ApplError}
 use Rattle.bay_model.specs.Attributes.{attributes}
 use Rattle.bay_model.specs.Configured.{control_defined}

@@ -1,8 +1,8 @@
 -- why `bay::Bay::write_in_turn` answers as its contract says
 use Rattle.std.proofs.Common.{◌≡◌, ◌<◌, ◌∙◌, map, length, ap, sym, subst}
-use Rattle.object_names.specs.declared.named.What.{What}
-use Rattle.object_names.specs.declared.named.What.TheVariants as whats
-use Rattle.object_names.specs.Seen.{role_seen}
+use Rattle.name_leaves.specs.declared.what.What.{What}
+use Rattle.name_leaves.specs.declared.what.What.TheVariants as whats
+use Rattle.name_leaves.specs.Seen.{role_seen}
 use Rattle.bay_model.specs.Attributes.{attributes}
 use Rattle.bay_model.specs.Configured.{control_defined}
 use Rattle.bay_model.specs.Lookups.{node_of}

@@ -1,9 +1,9 @@
 -- why `bay::Bay::write_node` answers as its contract says
 use Rattle.std.proofs.Common.{◌≡◌, ◌<◌, ◌∙◌, ℕ, Err, length, ap, sym, subst, arith}
 use Rattle.std.specs.Prelude.{if◌then◌else◌}
-use Rattle.object_names.specs.declared.named.What.{What}
-use Rattle.object_names.specs.declared.named.What.TheVariants as whats
-use Rattle.object_names.specs.Seen.{role_seen}
+use Rattle.name_leaves.specs.declared.what.What.{What}
+use Rattle.name_leaves.specs.declared.what.What.TheVariants as whats
+use Rattle.name_leaves.specs.Seen.{role_seen}
 use Rattle.bay_model.specs.Attributes.{attributes}
 use Rattle.bay_model.specs.Lookups.{node_of}
 use Rattle.bay_model.specs.Model.{single, several, selecting, attribute, component, setting, withheld}

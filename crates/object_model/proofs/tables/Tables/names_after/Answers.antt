@@ -1,7 +1,7 @@
 -- why `tables::Tables::names_after` answers as its contract says
 use Rattle.std.proofs.Common.{◌∙◌, sym, ap, map}
 use Rattle.name_order.specs.Sorting.{name_at}
-use Rattle.object_names.specs.Numbers.{number_in}
+use Rattle.name_leaves.specs.Numbers.{number_in}
 use Rattle.object_model.specs.Listed.{IsDirectory, items_at}
 use Rattle.object_model.proofs.ResolveLaws.{variables, no_variables}
 use Rattle.object_model.proofs.ListingLaws.{directory-at}

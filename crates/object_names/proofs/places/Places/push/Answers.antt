@@ -1,6 +1,0 @@
--- why `places::Places::push` answers as its contract says
-use Rattle.object_names.proofs.NumberLaws.{place-push}
-use Rattle.object_names.proofs.places.Places.push.Goals as goal
-
-pub returns : goal.returns
-returns c = λ names h e other. place-push names c.args.place c.args.name.now other _ _ e (h other) (c.in_ok-add.ensures other)
