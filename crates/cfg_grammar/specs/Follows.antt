@@ -4,6 +4,8 @@ use Rattle.std.specs.Prelude.{◌≡◌, ◌≤◌, ◌<◌, ◌⊎◌, ℕ, ◌
 use Rattle.std.specs.List.{list_all, list_any, count_by}
 use Rattle.std.specs.Str.{bytes_eq}
 use Rattle.sv_base.specs.Same.{values_of}
+use Rattle.sv_base.specs.ComponentTable.{comp_name}
+use Rattle.sv_base.specs.declared.components.Comp.TheVariants as comps
 use Rattle.sv_base.specs.declared.config.LnDef.{LnDef}
 use Rattle.sv_base.specs.declared.config.AttrDef.{AttrDef}
 use Rattle.sv_base.specs.declared.config.SetDef.{SetDef}
@@ -96,7 +98,7 @@ pub record IsBlock (before : List Line) (block : BlockDef) : Type 0 where
   pub stands : IsInNode before
   pub few : blocks before < 32
   pub name : is_name block.name ≡ true
-  pub short : IsItem (node_of before) (codes "BR") (below block.name (codes "TimeofEntry"))
+  pub short : IsItem (node_of before) (codes "BR") (below block.name (comp_name comps.TimeofEntry))
   pub new : is_taken (claims before) (item_key (domain_of before) (node_of before) (codes "BR") block.name) ≡ false
   pub rpt_id : (length block.rpt_id ≤ 129) × (list_all is_graphic block.rpt_id ≡ true)
   pub dat_set : list_all is_graphic block.dat_set ≡ true

@@ -15,7 +15,7 @@ pub use line::{Line, Place};
 // references, and sets of them
 pub use keys::{Keys, Names};
 pub use references::{
-    below, control_keys, item_key, node_item, node_key, put_item_key, put_node_key,
+    below, control_keys, group_key, item_key, node_item, node_key, put_item_key, put_node_key,
 };
 
 // a node without parts

@@ -6,7 +6,7 @@ ghost use Rattle.sv_base.specs.Parameters.{parameter_name};
 ghost use Rattle.sv_base.specs.CtlServices.{service_name};
 ghost use Rattle.cfg_lines.specs.Keys.{octets_of};
 ghost use Rattle.cfg_lines.specs.Paths.{below as below_front, node_key as node_key_of, item_key as item_key_of};
-ghost use Rattle.cfg_lines.specs.Claims.{operations, settings, control_keys as control_keys_of};
+ghost use Rattle.cfg_lines.specs.Claims.{operations, settings, control_keys as control_keys_of, group_key as group_key_of};
 
 use std::alloc::{AllocError, Global};
 use sv_base::{CtlParameter, CtlService};
@@ -101,6 +101,13 @@ pub fn item_key(
     let mut key = Vec::with_capacity(alloc, octets.saturating_add(3))?;
     put_item_key(&mut key, domain, node, fc, path)?;
     Ok(key)
+}
+
+/// The reference of a domain's setting group control block (IEC 61850-7-2, SGCB; IEC 61850-8-1, its name).
+pub fn group_key(alloc: Global, domain: &[u8]) -> Result<Vec<u8>, AllocError>
+    ensures { IfOk result (λ v. v.items ≡ group_key_of domain.now (codes "LLN0")) }
+{
+    item_key(alloc, domain, b"LLN0", b"SP", b"SGCB")
 }
 
 fn push_below(

@@ -4,11 +4,11 @@ ghost use Rattle.std.specs.Prelude.{◌≡◌, ◌++◌, ◌∷◌, [], codes, m
 ghost use Rattle.sv_base.specs.CallParts.{part_name};
 ghost use Rattle.sv_base.specs.declared.ctl_services.CtlService.TheVariants as services;
 ghost use Rattle.sv_base.specs.CtlServices.{service_name};
-ghost use Rattle.cfg_lines.specs.Claims.{operations, group_key};
+ghost use Rattle.cfg_lines.specs.Claims.{operations, group_key as group_key_of};
 ghost use Rattle.cfg_lines.specs.Paths.{below as below_front, item_key as item_key_of};
 ghost use Rattle.cfg_lines.specs.Nodes.{all_below, with_parts, block_parts, group_parts, operation_parts, operations_below, twins, closed_by, closed as closed_before};
 
-use cfg_lines::{Line, below, item_key};
+use cfg_lines::{Line, below, group_key, item_key};
 use std::alloc::{AllocError, Global};
 use sv_base::{AttrDef, BlockDef, CallPart, Comp, CtlDef, CtlService, Octs, SettingComp, SgDef};
 use text_words::owned;
@@ -161,9 +161,9 @@ fn push_block(alloc: Global, names: &mut Vec<Octs>, block: &BlockDef) -> Result<
 }
 
 fn push_groups(alloc: Global, names: &mut Vec<Octs>, groups: &SgDef) -> Result<(), AllocError>
-    ensures { OnOk result (names.new.items ≡ names.old.items ++ with_parts (group_key groups.now.domain (codes "LLN0")) group_parts) }
+    ensures { OnOk result (names.new.items ≡ names.old.items ++ with_parts (group_key_of groups.now.domain (codes "LLN0")) group_parts) }
 {
-    let node = item_key(alloc, groups.domain.as_slice(), b"LLN0", b"SP", b"SGCB")?;
+    let node = group_key(alloc, groups.domain.as_slice())?;
     names.push(owned(alloc, &node)?)?;
     push_setting_components(alloc, names, &node)
 }

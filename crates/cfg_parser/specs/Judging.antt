@@ -21,7 +21,7 @@ use Rattle.text_words.specs.Octets.{is_printable, is_skipped}
 abbrev pub is_long_item : List Line → ℕ → Bool
 is_long_item before behind = nat_lt 0 (length (node_of before)) && nat_lt 63 (length (node_of before) + behind)
 
--- the octets of the longest item name of a control below its path: `$CO$` and `$Oper$origin$orIdent`, or `$Cancel$origin$orIdent` under models 2 and 4
+-- the octets of the longest item name of a control beside its path: `CO$` and `$Oper$origin$orIdent`, or `$Cancel$origin$orIdent` under models 2 and 4
 abbrev pub control_octets : List ℕ → ℕ
 control_octets model = if bytes_eq model (codes "2") || bytes_eq model (codes "4") then 25 else 23
 

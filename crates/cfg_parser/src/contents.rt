@@ -7,7 +7,7 @@ ghost use Rattle.cfg_parser.specs.Reader.{Gives};
 ghost use Rattle.cfg_parser.specs.Contents.{config_at, domain_at, node_at, set_at, member_at, typed_at, attribute_at, block_texts_at, block_options_at, block_triggers_at, block_fields_at, block_at, control_type_at, model_of as model_number, control_fields_at, control_at, group_fields_at, groups_at};
 
 use crate::fault::{Kind, LineFault};
-use cfg_lines::{Line, control_keys, item_key, node_item, node_key, put_item_key};
+use cfg_lines::{Line, control_keys, group_key, item_key, node_item, node_key, put_item_key};
 use cfg_reading::Reading;
 use std::alloc::{AllocError, Global};
 use sv_base::{
@@ -410,7 +410,7 @@ pub fn groups_line(
 ) -> Result<Line, LineFault>
     ensures { Gives result (groups_at before.now count.now active.now) }
 {
-    let key = item_key(alloc, before.domain(), b"LLN0", b"SP", b"SGCB")?;
+    let key = group_key(alloc, before.domain())?;
     if before.is_taken(&key) {
         return Err(LineFault::Refused(Kind::Duplicate));
     }

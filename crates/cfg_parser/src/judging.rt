@@ -13,6 +13,16 @@ use cfg_lines::Place;
 use cfg_reading::Reading;
 use text_words::{dollars, item_of};
 
+/// The octets of `CO$` and `$Oper$origin$orIdent`, between which a control's name stands in its longest item
+/// (IEC 61850-8-1, functional constraint CO).
+const OF_CONTROL: usize = 23;
+
+/// Those of `CO$` and `$Cancel$origin$orIdent`, for a control that is selected before it operates.
+const OF_SELECTED: usize = 25;
+
+/// Those of `BR$` and `$TimeofEntry`, for a report control block.
+const OF_BLOCK: usize = 15;
+
 /// A word is empty.
 pub fn has_empty(words: &[&[u8]]) -> bool
     ensures { result ≡ list_any (λ w. length w == 0) (texts words.now) }
@@ -40,9 +50,9 @@ fn control_octets(model: &[u8]) -> usize
     ensures few { result ≤ 25 }
 {
     if model == b"2".as_slice() || model == b"4".as_slice() {
-        25
+        OF_SELECTED
     } else {
-        23
+        OF_CONTROL
     }
 }
 
@@ -50,7 +60,7 @@ fn is_long_control(before: &Reading, words: &[&[u8]]) -> bool
     ensures { result ≡ long_control before.now (texts words.now) }
 {
     match words {
-        [path] => is_long_item(before, path.len() + 23),
+        [path] => is_long_item(before, path.len() + OF_CONTROL),
         [path, model, ..] => is_long_item(before, path.len() + control_octets(model)),
         [] => false,
     }
@@ -78,7 +88,7 @@ fn is_long_block(before: &Reading, words: &[&[u8]]) -> bool
     ensures { result ≡ long_block before.now (texts words.now) }
 {
     match words {
-        [name, ..] => is_long_item(before, name.len() + 15),
+        [name, ..] => is_long_item(before, name.len() + OF_BLOCK),
         [] => false,
     }
 }

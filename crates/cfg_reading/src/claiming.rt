@@ -4,9 +4,11 @@ ghost use Rattle.std.specs.Prelude.{◌≡◌, ◌||◌, List, ℕ, codes, OnOk}
 ghost use Rattle.std.specs.Str.{bytes_eq};
 ghost use Rattle.cfg_lines.specs.Keys.{is_among};
 ghost use Rattle.cfg_lines.specs.Paths.{below, node_key as node_key_of, item_key as item_key_of, clashes, is_taken};
-ghost use Rattle.cfg_lines.specs.Claims.{control_keys as control_keys_of, group_key};
+ghost use Rattle.cfg_lines.specs.Claims.{control_keys as control_keys_of, group_key as group_key_of};
 
-use cfg_lines::{Keys, Names, control_keys, item_key, node_item, node_key, put_item_key};
+use cfg_lines::{
+    Keys, Names, control_keys, group_key, item_key, node_item, node_key, put_item_key,
+};
 use std::alloc::{AllocError, Global};
 use sv_base::{AttrDef, BlockDef, CtlDef, LnDef, SetDef, SgDef};
 
@@ -80,8 +82,8 @@ pub fn add_control(alloc: Global, names: &mut Names, control: &CtlDef) -> Result
 
 /// Adds the path of a setting group control block.
 pub fn add_groups(alloc: Global, names: &mut Names, groups: &SgDef) -> Result<(), AllocError>
-    ensures { OnOk result ((q : List ℕ) → is_taken names.new q ≡ (clashes q (group_key groups.now.domain (codes "LLN0")) || is_taken names.old q)) }
+    ensures { OnOk result ((q : List ℕ) → is_taken names.new q ≡ (clashes q (group_key_of groups.now.domain (codes "LLN0")) || is_taken names.old q)) }
 {
-    let key = item_key(alloc, groups.domain.as_slice(), b"LLN0", b"SP", b"SGCB")?;
+    let key = group_key(alloc, groups.domain.as_slice())?;
     names.add(alloc, &key)
 }

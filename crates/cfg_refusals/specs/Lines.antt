@@ -4,6 +4,8 @@ use Rattle.std.specs.Prelude.{◌≡◌, ◌≤◌, ◌<◌, ◌⊎◌, ℕ, nat
 use Rattle.std.specs.List.{list_any, count_by}
 use Rattle.text_words.specs.Words.{words_of}
 use Rattle.text_words.specs.Names.{is_dollar, item_of}
+use Rattle.sv_base.specs.ComponentTable.{comp_name}
+use Rattle.sv_base.specs.declared.components.Comp.TheVariants as comps
 use Rattle.cfg_lines.specs.Paths.{below}
 use Rattle.cfg_lines.specs.Before.{place_of, node_of, groups_of, has_settings, domains, nodes, attributes, sets, blocks, controls, members}
 use Rattle.cfg_lines.specs.declared.line.Line.{Line}
@@ -35,7 +37,7 @@ IsLongMember (reference ∷ more) = (129 < length reference) ⊎ (64 < length (i
 IsLongMember _ = ⊥
 
 abbrev pub IsLongBlock : List Line → List (List ℕ) → Type 0
-IsLongBlock before (name ∷ more) = IsLongItem before (below (codes "BR") (below name (codes "TimeofEntry")))
+IsLongBlock before (name ∷ more) = IsLongItem before (below (codes "BR") (below name (comp_name comps.TimeofEntry)))
 IsLongBlock before _ = ⊥
 
 -- models 2 and 4 have a Cancel

@@ -9,8 +9,8 @@ ghost use Rattle.bay_model.specs.NamedLines.{is_setting as is_setting_line, path
 ghost use Rattle.object_names.specs.References.{attr_references};
 ghost use Rattle.object_names.specs.Attributes.{attr_at, attr_rows, line_attr, twin_attr, parameter_attr, control_attrs, line_flags, no_flags, references_of, rows_of};
 
-use crate::references::{is_selected, is_setting, write_reference};
-use bay_model::Flags;
+use crate::references::{is_selected, write_reference};
+use bay_model::{Flags, is_setting};
 use octet_rows::Index;
 use std::alloc::{AllocError, Global};
 use sv_base::{AttrDef, Config, CtlDef, CtlParameter, TypeOf};

@@ -14,7 +14,8 @@ ghost use Rattle.object_names.specs.References.{attr_references};
 use crate::named::{
     Item, Named, What, push_block, push_control, push_parameters, push_settings, structure,
 };
-use crate::references::{is_selected, is_setting, item_at};
+use crate::references::{is_selected, item_at};
+use bay_model::is_setting;
 use name_leaves::{count, plus};
 use octet_rows::Index;
 use std::alloc::{AllocError, Global};

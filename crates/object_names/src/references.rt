@@ -4,7 +4,7 @@ ghost use Rattle.std.specs.Prelude.{◌≡◌, ◌∷◌, ◌++◌, [], IfOk, On
 ghost use Rattle.bay_model.specs.Lookups.{reference_of};
 ghost use Rattle.bay_model.specs.Configured.{block_defined, control_defined};
 ghost use Rattle.bay_model.specs.Generated.{is_selected as is_selected_model};
-ghost use Rattle.bay_model.specs.NamedLines.{is_setting as is_setting_line, path_item};
+ghost use Rattle.bay_model.specs.NamedLines.{path_item};
 ghost use Rattle.object_names.specs.References.{block_references as blocks_of, control_references as controls_of};
 
 use octet_rows::Index;
@@ -66,13 +66,6 @@ pub fn write_reference(
     text.extend_from_slice(domain)?;
     text.push(b'/')?;
     extend_item(text, ln, fc, path)
-}
-
-/// Whether an attribute belongs to a setting group (IEC 61850-7-2, functional constraint SG).
-pub fn is_setting(attr: &AttrDef) -> bool
-    ensures { result ≡ is_setting_line attr.now }
-{
-    attr.fc.as_slice() == b"SG".as_slice()
 }
 
 /// Whether a control is selected before it operates (IEC 61850-7-2, ctlModel).

@@ -13,6 +13,7 @@ ghost use Rattle.value_store.specs.Opened.{HasValue, is_written, place_in, store
 ghost use Rattle.value_store.specs.Stored.{stored};
 
 use crate::store::{Cell, Store};
+use bay_model::is_setting;
 use bay_rooms::Slot;
 use std::alloc::{AllocError, Global};
 use sv_base::{AttrDef, Config, CtlDef, CtlParameter, SgDef, TypeOf, Value};
@@ -33,13 +34,6 @@ fn push(
     let slot = Slot::new(alloc, kind, value)?;
     cells.push(Cell { slot, is_writable })?;
     Ok(())
-}
-
-/// Whether an attribute belongs to a setting group (IEC 61850-7-2, functional constraint SG).
-fn is_setting(attr: &AttrDef) -> bool
-    ensures { result ≡ is_setting_line attr.now }
-{
-    attr.fc.as_slice() == b"SG".as_slice()
 }
 
 /// Whether clients may write an attribute, by its functional constraint (IEC 61850-7-2): under CF, DC, SP and SV.
