@@ -177,6 +177,14 @@ each-both P [] ys h k = k
 each-both P (x ∷ xs) ys h k = (h.0, each-both P xs ys h.1 k)
 
 -- no element at all
+pub each-filter : {X : Type 0} (P : X → Type 0) (p : X → Bool) (xs : List X) → Each P xs → Each P (filter p xs)
+each-filter P p [] h = tt
+each-filter P p (x ∷ xs) h = by (p x) (each-filter P p xs h.1)
+  where
+    by : (t : Bool) → Each P (filter p xs) → Each P (cond t (x ∷ filter p xs) (filter p xs))
+    by true go = (h.0, go)
+    by false go = go
+
 pub nil-of : {X : Type 0} (xs : List X) → ((x : X) → Among x xs → ⊥) → xs ≡ []
 nil-of [] h = refl
 nil-of (x ∷ xs) h = absurd (h x (inl refl))

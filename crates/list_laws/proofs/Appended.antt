@@ -1,6 +1,7 @@
 -- Lists that are added one after another, and how far a loop has come.
-use Rattle.std.proofs.Common.{◌≡◌, ℕ, ◌+◌, ◌<◌, List, [], ◌∷◌, ◌++◌, map, flat_map, take, length, get_or, refl, sym, ap, ◌∙◌, append_assoc, append-nil}
-use Rattle.std.proofs.lemmas.List.{take_more, map-append}
+use Rattle.std.proofs.Common.{◌≡◌, ◌≤◌, ℕ, ◌+◌, ◌-◌, ◌<◌, List, [], ◌∷◌, ◌++◌, map, flat_map, take, length, get_or, refl, sym, ap, ◌∙◌, append_assoc, append-nil, length-append, subst, arith}
+use Rattle.std.proofs.lemmas.List.{take_more, map-append, take-take}
+use Rattle.std.proofs.Math.Seq.{take-append_seam, take-append-add}
 
 pub two : {X : Type 0} (o a b x y : List X) → a ≡ o ++ x → b ≡ a ++ y → b ≡ o ++ (x ++ y)
 two o a b x y e f = f ∙ (ap (λ l. l ++ y) e ∙ append_assoc o x y)
@@ -22,3 +23,13 @@ map-map f g (x ∷ xs) = ap (λ l. f (g x) ∷ l) (map-map f g xs)
 pub some-left : {X : Type 0} (xs : List X) (x : X) → xs ++ x ∷ [] ≡ [] → ⊥
 some-left [] x e = cc
 some-left (y ∷ ys) x e = cc
+
+-- ---- fronts
+
+pub still-begins : (a b m x : List ℕ) → m ≡ a ++ b → take (length m) x ≡ m → take (length a) x ≡ a
+still-begins a b m x e h =
+    let same : take (length (a ++ b)) x ≡ a ++ b = subst (λ y. take (length y) x ≡ y) e h in
+    sym (take-take (length a) (length (a ++ b)) x (omega (arith, length-append a b))) ∙ ap (λ y. take (length a) y) same ∙ take-append_seam a b
+
+pub take-front : (n : ℕ) (xs ys : List ℕ) → length xs ≤ n → take n (xs ++ ys) ≡ xs ++ take (n - length xs) ys
+take-front n xs ys low = let same : n ≡ length xs + (n - length xs) = omega (arith, low) in ap (λ m. take m (xs ++ ys)) same ∙ take-append-add xs ys (n - length xs)

@@ -1,21 +1,27 @@
 -- Lists in which no element stands twice, by the octets of names and by equality.
-use Rattle.std.proofs.Common.{◌≡◌, ℕ, Bool, true, false, ◌||◌, inl, inr, List, [], ◌∷◌, ◌++◌, map, refl, sym, ap, subst, ◌∙◌, true≢false}
+use Rattle.std.proofs.Common.{◌≡◌, ℕ, true, false, inl, inr, List, [], ◌∷◌, ◌++◌, map, refl, sym, subst, ◌∙◌, true≢false}
 use Rattle.std.specs.List.{list_any}
 use Rattle.std.specs.Str.{bytes_eq}
 use Rattle.std.specs.Cmp.Lexicographic.{bytes_decides}
 use Rattle.list_laws.proofs.Among.{Among, source}
+use Rattle.list_laws.proofs.Truths.{or-left, or-right, both-ways}
 
 -- ---- octets that are the same, or are not
 
 pub octets_same : (a b : List ℕ) → bytes_eq a b ≡ true → a ≡ b
 octets_same a b h = (bytes_decides a b).0 h
 
+pub octets_equal : (a b : List ℕ) → a ≡ b → bytes_eq a b ≡ true
+octets_equal a b h = (bytes_decides a b).1 h
+
+pub octets_own : (a : List ℕ) → bytes_eq a a ≡ true
+octets_own a = octets_equal a a refl
+
+pub octets_turned : (a b : List ℕ) → bytes_eq a b ≡ bytes_eq b a
+octets_turned a b = both-ways (bytes_eq a b) (bytes_eq b a) (λ h. octets_equal b a (sym (octets_same a b h))) (λ h. octets_equal a b (sym (octets_same b a h)))
+
 pub octets_apart : (a b : List ℕ) → bytes_eq a b ≡ false → bytes_eq b a ≡ false
-octets_apart a b h = by (bytes_eq b a) refl
-  where
-    by : (r : Bool) → bytes_eq b a ≡ r → r ≡ false
-    by true e = absurd (true≢false (sym (ap (λ x. bytes_eq a x) (octets_same b a e) ∙ (bytes_decides a a).1 refl) ∙ h))
-    by false e = refl
+octets_apart a b h = octets_turned b a ∙ h
 
 -- ---- each name once
 
@@ -31,17 +37,9 @@ absent-more : (n f : List ℕ) (ns : List (List ℕ)) → Absent n ns → bytes_
 absent-more n f [] a h = (h, tt)
 absent-more n f (m ∷ ms) a h = (a.0, absent-more n f ms a.1 h)
 
-pub none_left : (a b : Bool) → a || b ≡ false → a ≡ false
-none_left true b h = h
-none_left false b h = refl
-
-pub none_right : (a b : Bool) → a || b ≡ false → b ≡ false
-none_right true b h = absurd (true≢false h)
-none_right false b h = h
-
 pub distinct-more : (f : List ℕ) (ns : List (List ℕ)) → Distinct ns → list_any (bytes_eq f) ns ≡ false → Distinct (ns ++ f ∷ [])
 distinct-more f [] d h = (tt, tt)
-distinct-more f (n ∷ ns) d h = (absent-more n f ns d.0 (none_left (bytes_eq f n) (list_any (bytes_eq f) ns) h), distinct-more f ns d.1 (none_right (bytes_eq f n) (list_any (bytes_eq f) ns) h))
+distinct-more f (n ∷ ns) d h = (absent-more n f ns d.0 (or-left (bytes_eq f n) (list_any (bytes_eq f) ns) h), distinct-more f ns d.1 (or-right (bytes_eq f n) (list_any (bytes_eq f) ns) h))
 
 -- ---- no element stands twice
 

@@ -7,6 +7,8 @@ pub mod EachLaws
 pub mod Sorting
 pub mod Distinct
 pub mod Sums
+-- truth values
+pub mod Truths
 -- steps that may fail, and what a map from names finds
 pub mod Options
 pub mod Indexed

@@ -1,12 +1,34 @@
 -- Steps that may give nothing or fail, and which way a test went.
 use Rattle.std.proofs.Common.{◌≡◌, true, false, Bool, cond, ◌⊎◌, inl, inr, Option, Some, None, is_some, Result, Ok, Err, refl}
 use Rattle.std.specs.Option.{option_map, option_and_then}
+use Rattle.std.specs.Prelude.{not, is_none, IfOk}
 
 pub some_is : {A : Type 0} (x y : A) → Some x ≡ Some y → x ≡ y
 some_is x y e = cc
 
 pub not_some : {A : Type 0} (x : A) → Some x ≡ None → ⊥
 not_some x e = cc
+
+pub none_some : {A : Type 0} (x : A) → None ≡ Some x → ⊥
+none_some x e = cc
+
+-- nothing that is there
+pub none_of : {A : Type 0} (o : Option A) → is_some o ≡ false → o ≡ None
+none_of None h = refl
+none_of (Some x) h = absurd cc
+
+pub none_is : {A : Type 0} (o : Option A) → is_none o ≡ not (is_some o)
+none_is None = refl
+none_is (Some x) = refl
+
+pub some_mapped : {A : Type 0} {B : Type 0} (f : A → B) (o : Option A) → is_some (option_map f o) ≡ is_some o
+some_mapped f None = refl
+some_mapped f (Some x) = refl
+
+-- what a value that was given is, it still is
+pub ok_map : {A E : Type 0} (r : Result A E) (P Q : A → Type 0) → ((v : A) → P v → Q v) → IfOk r P → IfOk r Q
+ok_map (Ok v) P Q f h = f v h
+ok_map (Err e) P Q f h = tt
 
 abbrev pub done : {A F : Type 0} → A → Result A F
 done x = Ok x

@@ -9,6 +9,7 @@ use Rattle.std.proofs.lemmas.List.{same_lists, length-map, get_or-map}
 use Rattle.std.proofs.lemmas.List.Elements.{All-head, All-tail}
 use Rattle.std.proofs.lemmas.Option.{slice_get-map}
 use Rattle.list_laws.proofs.Among.{heads, tails}
+use Rattle.list_laws.proofs.Truths.{not-false}
 
 -- ---- the first place, one further where the head does not pass
 
@@ -97,6 +98,11 @@ in-front (z ∷ xs) ys zero x is = is
 in-front (z ∷ xs) ys (suc i) x is = in-front xs ys i x is
 
 -- what holds of all holds of it
+pub get-within : {X : Type 0} (xs : List X) (n : ℕ) → n < length xs → (x : X) × (slice_get xs n ≡ Some x)
+get-within [] n h = absurd (omega (arith, h))
+get-within (x ∷ xs) zero h = (x, refl)
+get-within (x ∷ xs) (suc n) h = get-within xs n (omega (arith, h))
+
 pub all-at : {X : Type 0} (P : X → Type 0) (xs : List X) (n : ℕ) (x : X) → All P xs → slice_get xs n ≡ Some x → P x
 all-at P [] n x all is = cc
 all-at P (y ∷ ys) zero x all is = let same : y ≡ x = cc in subst P same (All-head P y ys all)
@@ -175,6 +181,12 @@ other-number b k h = grind (arith, nat_tests, h)
 
 pub equal-number : (a b : ℕ) → a ≡ b → (a == b) ≡ true
 equal-number a b e = grind (arith, nat_tests, e)
+
+pub same-of : (a b : ℕ) → (a == b) ≡ true → a ≡ b
+same-of a b h = grind (arith, nat_tests, h)
+
+pub same-unless : (a b : ℕ) → not (a == b) ≡ false → a ≡ b
+same-unless a b h = same-of a b (not-false (a == b) h)
 
 pub swap-number : (a b : ℕ) → (a == b) ≡ (b == a)
 swap-number a b = either (eqb_tells a b) (eqb_tells b a) where
