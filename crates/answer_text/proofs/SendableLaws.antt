@@ -1,5 +1,5 @@
 -- What the tests of an output tell.
-use Rattle.std.proofs.Common.{◌≡◌, ◌≤◌, ◌<◌, ◌-◌, ◌&&◌, ◌++◌, length-append, ℕ, zero, suc, Bool, true, false, true≢false, List, [], ◌∷◌, length, refl, sym, ap, subst, ◌∙◌, arith, max}
+use Rattle.std.proofs.Common.{◌≡◌, ◌≤◌, ◌<◌, ◌-◌, ◌++◌, length-append, ℕ, zero, suc, Bool, true, false, true≢false, List, [], ◌∷◌, length, refl, sym, ap, subst, ◌∙◌, arith, max}
 use Rattle.std.specs.Prelude.{Some, IfSome, Result, Ok, Err, is_ok, IsTrue, nat_lt, slice_get, codes}
 use Rattle.std.specs.List.{All, list_all, AllByRecursion}
 use Rattle.std.proofs.lemmas.Bool.Decides.{nat_tests}
@@ -32,10 +32,7 @@ use Rattle.bay_model.specs.declared.tables.NodeRow.{NodeRow}
 use Rattle.bay_answers.specs.ControlPdus.{HasShortName, IsShortError, IsShortTermination}
 use Rattle.bay_answers.specs.Replies.{IsWritable, IsNode, CanBeReplied}
 use Rattle.answer_text.specs.Sendable.{is_plain_writable, is_seen_writable, are_writable, is_result_writable, are_nodes}
-
-both : (a b : Bool) → (a && b) ≡ true → (a ≡ true) × (b ≡ true)
-both true b h = (refl, h)
-both false b h = absurd cc
+use Rattle.list_laws.proofs.Truths.{and-both as both}
 
 plain-tells : (p : Plain) → is_plain_writable p ≡ true → IsNotOther p × IsFraction p
 plain-tells (truth b) h = (tt, tt)

@@ -1,5 +1,5 @@
 -- The associations stand for the past, point by point.
-use Rattle.std.proofs.Common.{◌≡◌, ◌≢◌, ℕ, ◌-◌, true, false, List, [], ◌∷◌, ◌++◌, drop, map, replicate, refl, sym, ap, ◌∙◌, subst, arith, inl, inr, ◌==◌, append-nil}
+use Rattle.std.proofs.Common.{◌≡◌, ◌≢◌, ℕ, ◌-◌, false, List, [], ◌∷◌, ◌++◌, drop, map, replicate, refl, sym, ap, ◌∙◌, subst, arith, inl, inr, append-nil}
 use Rattle.std.specs.Prelude.{Option, Some}
 use Rattle.std.proofs.lemmas.Bool.Decides.{eqb_tells}
 use Rattle.std.proofs.lemmas.List.{get_or-set_same, get_or-set_other, get_or-replicate, length-set, length-replicate, drop-map, map-append}
@@ -16,12 +16,7 @@ use Rattle.assoc_table.specs.Tables as tables
 use Rattle.assoc_table.specs.Tables.{IsNumber, row_of, with_row}
 use Rattle.assoc_table.specs.Standing.{Stands, StandsAt, IsPlain, waiting_of}
 use Rattle.assoc_table.specs.Coming.{Coming, put_for, came, IsComing}
-
-same : (a : ℕ) → (a == a) ≡ true
-same a = elim (eqb_tells a a) [ inl t ↦ t.0 | inr t ↦ absurd (t.1 refl) ]
-
-apart : (a e : ℕ) → e ≢ a → (a == e) ≡ false
-apart a e h = elim (eqb_tells a e) [ inl t ↦ absurd (h (sym t.1)) | inr t ↦ t.0 ]
+use Rattle.list_laws.proofs.Places.{same-number as same, other-number as apart}
 
 -- one row is another, the others stand as before
 moved : (c : Model) (a : ℕ) (row : Row) (p : Point) (before : Past) (rows : List Row) → IsNumber a → Stands rows c before → StandsAt row c a (p ∷ before)

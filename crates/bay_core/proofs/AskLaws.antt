@@ -1,5 +1,5 @@
 -- A request is answered, and its reply waits with the terminations of its tests behind it.
-use Rattle.std.proofs.Common.{◌≡◌, ◌∙◌, ℕ, suc, true, false, List, [], ◌∷◌, ◌++◌, map, Option, None, Some, Result, Ok, Err, length, refl, ap, ap₂, sym, subst, arith, unwrap_or}
+use Rattle.std.proofs.Common.{◌≡◌, ◌∙◌, ℕ, suc, true, false, List, [], ◌∷◌, ◌++◌, map, Option, None, Some, length, refl, ap, ap₂, sym, subst, arith, unwrap_or}
 use Rattle.std.specs.Prelude.{◌==◌, nat_le, if◌then◌else◌}
 use Rattle.std.specs.Option.{option_map, option_map_or}
 use Rattle.std.specs.List.{All}
@@ -9,7 +9,6 @@ use Rattle.sv_base.specs.declared.config.Config.{Config}
 use Rattle.sv_base.specs.declared.numbers.ActorNo.{ActorNo}
 use Rattle.sv_base.specs.declared.numbers.AssocNo.{AssocNo}
 use Rattle.sv_base.specs.declared.numbers.CtlNo.{CtlNo}
-use Rattle.sv_base.specs.declared.value.Value.{Value}
 use Rattle.bay_model.specs.declared.answer.Answer.TheVariants as answers
 use Rattle.bay_model.specs.declared.answer.Output.{Output}
 use Rattle.bay_model.specs.declared.answer.Output.TheVariants as outputs
@@ -29,7 +28,7 @@ use Rattle.bay_model.specs.Model.{Model, DataSet, Role, Tree, single, several, s
 use Rattle.bay_model.specs.Named.{configured_model}
 use Rattle.bay_model.specs.Outcomes.{deed_of}
 use Rattle.bay_model.specs.Points.{Deed, Change, Past, nothing, answered, unchanged}
-use Rattle.bay_model.specs.Reads.{outcome_of_read, read_role, read_tree}
+use Rattle.bay_model.specs.Reads.{read_role, read_tree}
 use Rattle.bay_model.specs.Services.{singles_of, set_found, set_name, change_of}
 use Rattle.bay_model.specs.Sets.{is_named, sets}
 use Rattle.bay_model.specs.Singles.{Single, reads, writes, fails, arrival, outcome_of, outcome_at, outcomes, after_singles}
@@ -66,6 +65,7 @@ use Rattle.bay_core.proofs.PartLaws.{parts-left}
 use Rattle.bay_core.proofs.QueueLaws.{replies-told}
 use Rattle.bay_core.proofs.ShapeLaws.{all-served, found}
 use Rattle.bay_core.proofs.UncalledLaws.{member-plain, quiet-all, service-uncalled}
+use Rattle.bay_replies.proofs.PointLaws.{nothing-read}
 
 -- ---- single reads that select nothing
 
@@ -78,15 +78,11 @@ abbrev pub AreStill : Model → List Single → Type 0
 AreStill m [] = Unit {0}
 AreStill m (s ∷ ss) = IsStill m s × AreStill m ss
 
-still-value : (r : Result Value ℕ) → deed_of (outcome_of_read r) ≡ nothing
-still-value (Ok v) = refl
-still-value (Err code) = refl
-
 still-role : (m : Model) (a : ℕ) (r : Role) (t : Tree) (past : Past) → SelectsNothing r → deed_of (read_role m a r t past) ≡ nothing
-still-role m a (single l) t past is = still-value (read_tree m past t)
+still-role m a (single l) t past is = nothing-read (read_tree m past t)
 still-role m a (selecting k) t past is = absurd is
 still-role m a (calling k call) t past is = absurd is
-still-role m a several t past is = still-value (read_tree m past t)
+still-role m a several t past is = nothing-read (read_tree m past t)
 
 still-single : (m : Model) (a : ℕ) (s : Single) (past : Past) → IsStill m s → deed_of (outcome_of m a s past) ≡ nothing
 still-single m a (reads n) past is = still-role m a (node_of m n).role (node_of m n).tree past is

@@ -47,6 +47,8 @@ use Rattle.bay_core.specs.Whole.{IsWhole}
 use Rattle.control_core.specs.Tables.{Table}
 use Rattle.bay_core.proofs.BookLaws.{number-there}
 use Rattle.bay_core.proofs.RoomLaws.{indexed-defined, indexed-roomier}
+use Rattle.list_laws.proofs.Truths.{not-false}
+use Rattle.list_laws.proofs.Options.{none_of}
 
 -- ---- what is found as before
 
@@ -198,14 +200,6 @@ or-both : (x y : Bool) → (x || y) ≡ false → (x ≡ false) × (y ≡ false)
 or-both true y is = cc
 or-both false y is = (refl, is)
 
-not-false : (x : Bool) → not x ≡ false → x ≡ true
-not-false true is = refl
-not-false false is = cc
-
-none-some : {A : Type 0} (o : Option A) → is_some o ≡ false → o ≡ None
-none-some None is = refl
-none-some (Some x) is = cc
-
 -- the rows have the right of nodes to be members
 out-of-rows : (rows : List NodeRow) (n : ℕ) → length rows ≤ n → slice_index_or rows n no_row ≡ no_row
 out-of-rows [] n past = refl
@@ -265,7 +259,7 @@ module _ (c : Config) (served : IsServable c) where
       record {
         few = room;
         served = record { few = omega (arith, most, length-map (map node_in ts) (λ (n : NodeId). n.0), length-map ts node_in); members = members.0; short = members.1 };
-        name = none-some (number_named name book) tests.0;
+        name = none_of (number_named name book) tests.0;
         named = some-item name (sym is ∙ not-false named front.0);
         free = refl;
       }

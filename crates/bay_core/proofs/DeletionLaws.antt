@@ -1,10 +1,9 @@
 -- Deletions in turn: which data sets go, how many were there at their turn, and what the blocks stand for then.
-use Rattle.std.proofs.Common.{◌≡◌, ◌≢◌, ◌<◌, ◌≤◌, ◌+◌, ◌∙◌, ◌∷◌, ◌++◌, ℕ, suc, Bool, true, false, not, List, [], length, map, Option, None, Some, is_some, Result, Ok, Err, refl, ap, ap₂, sym, subst, arith, inl, inr, drop}
-use Rattle.std.specs.Prelude.{◌&&◌, ◌||◌, is_none, nat_lt, slice_get, slice_index_or, if◌then◌else◌}
+use Rattle.std.proofs.Common.{◌≡◌, ◌≢◌, ◌<◌, ◌≤◌, ◌+◌, ◌∙◌, ◌∷◌, ◌++◌, ℕ, suc, Bool, true, false, not, List, [], length, map, Option, None, Some, is_some, Result, Ok, Err, refl, ap, ap₂, sym, subst, arith}
+use Rattle.std.specs.Prelude.{◌&&◌, ◌||◌, nat_lt, slice_get, if◌then◌else◌}
 use Rattle.std.specs.List.{find, list_any}
-use Rattle.std.specs.Option.{option_map}
 use Rattle.std.specs.Str.{bytes_eq}
-use Rattle.std.proofs.lemmas.Bool.Decides.{leb_tells, nat_tests}
+use Rattle.std.proofs.lemmas.Bool.Decides.{nat_tests}
 use Rattle.list_laws.proofs.Places.{got-map}
 use Rattle.sv_base.specs.declared.config.Config.{Config}
 use Rattle.bay_model.specs.declared.request.SetName.{SetName}
@@ -18,11 +17,11 @@ use Rattle.bay_model.specs.Sets.{is_named, set_named, without, without_all}
 use Rattle.bay_model.specs.Singles.{arrival}
 use Rattle.data_sets.specs.declared.book.DeleteFault.{DeleteFault}
 use Rattle.data_sets.specs.declared.book.DeleteFault.TheVariants as faults
-use Rattle.data_sets.specs.Books.{Booked, deletion_of, is_name, number_named, place_of, set_at}
+use Rattle.data_sets.specs.Books.{deletion_of, is_name, number_named, set_at}
 use Rattle.data_sets.specs.Standing.{data_set}
 use Rattle.data_sets.specs.Turns.{is_going, is_there}
 use Rattle.data_sets.proofs.BookLaws.{IsPlace, is_place, removed_is}
-use Rattle.data_sets.proofs.DeleteLaws.{kept_front, some_there}
+use Rattle.data_sets.proofs.DeleteLaws.{is_below, in_front, kept_front, some_there}
 use Rattle.report_block.specs.declared.block.ReportBlock.{ReportBlock}
 use Rattle.report_block.specs.Standing.{Stands as BlockStands, BlocksStand}
 use Rattle.report_block.specs.Writes.{renumbered}
@@ -31,41 +30,7 @@ use Rattle.bay_core.specs.Deleted.{after_deletion, after_deletions, deleted_in, 
 use Rattle.bay_values.specs.Marked.{one_if}
 use Rattle.bay_core.specs.State.{State, IsBooked}
 use Rattle.bay_core.proofs.RemoveLaws.{booked-deleted, name-same, name-there}
-
--- ---- whether a set is among the configured ones
-
-abbrev is_below : Option ℕ → ℕ → Bool
-is_below None n = false
-is_below (Some k) n = nat_lt k n
-
-below-next : (o : Option ℕ) (n : ℕ) → is_below (option_map suc o) (suc n) ≡ is_below o n
-below-next None n = refl
-below-next (Some k) n = let same : nat_lt (suc k) (suc n) ≡ nat_lt k n = grind (arith, nat_tests) in same
-
-below-none : (o : Option ℕ) → false ≡ is_below o 0
-below-none None = refl
-below-none (Some k) = elim (leb_tells (suc k) 0) [ inl t ↦ absurd (omega (arith, t.1)) | inr t ↦ sym t.0 ]
-
-first-of : {A : Type 0} (x y : A) (xs ys : List A) → x ∷ xs ≡ y ∷ ys → x ≡ y
-first-of x y xs ys e = ap (λ l. slice_index_or l 0 x) e
-
-later-of : {A : Type 0} (x y : A) (xs ys : List A) → x ∷ xs ≡ y ∷ ys → xs ≡ ys
-later-of x y xs ys e = ap (λ l. drop 1 l) e
-
-in-front : (name : SetName) (bs : List Booked) (cs dyn : List DataSet) → map data_set bs ≡ cs ++ dyn → is_some (find (is_named name) cs) ≡ is_below (place_of (λ s. is_name name s.name) bs) (length cs)
-in-front name bs [] dyn e = below-none (place_of (λ s. is_name name s.name) bs)
-in-front name [] (d ∷ cs) dyn e = absurd (omega (arith, ap length e))
-in-front name (b ∷ bs) (d ∷ cs) dyn e = ap (λ x. is_some (if is_named name x then Some x else find (is_named name) cs)) (sym (first-of (data_set b) d (map data_set bs) (cs ++ dyn) e))
-    ∙ by (is_name name b.name) (in-front name bs cs dyn (later-of (data_set b) d (map data_set bs) (cs ++ dyn) e))
-  where
-    by : (t : Bool) → is_some (find (is_named name) cs) ≡ is_below (place_of (λ s. is_name name s.name) bs) (length cs)
-        → is_some (if t then Some (data_set b) else find (is_named name) cs) ≡ is_below (if t then Some 0 else option_map suc (place_of (λ s. is_name name s.name) bs)) (length (d ∷ cs))
-    by true later = sym (elim (leb_tells 1 (suc (length cs))) [ inl t ↦ t.0 | inr t ↦ absurd (omega (arith, t.1)) ])
-    by false later = later ∙ sym (below-next (place_of (λ s. is_name name s.name) bs) (length cs))
-
-none-is : {A : Type 0} (o : Option A) → is_none o ≡ not (is_some o)
-none-is None = refl
-none-is (Some x) = refl
+use Rattle.list_laws.proofs.Options.{none_is}
 
 -- ---- what is used by blocks
 
@@ -146,14 +111,14 @@ module _ (c : Config) (past : Past) (s : State) (all dyn : List DataSet) (before
   m = configured_model c
 
   front : is_some (find (is_named n) m.sets) ≡ is_below (number_named n s.book) (length m.sets)
-  front = in-front n s.book.sets m.sets dyn (before.sets ∙ before.split)
+  front = in_front n s.book.sets m.sets dyn (before.sets ∙ before.split)
 
   -- it goes where the model has it go
   goes-by : (o : Option ℕ) → number_named n s.book ≡ o → IsPlace (λ b. is_name n b.name) s.book.sets o → is_some (find (is_named n) m.sets) ≡ is_below o (length m.sets)
       → (is_some o && is_deletable m past n) ≡ is_going (unless_used (is_reported s.parts n) (deletion_of s.book o))
   goes-by None at place first = refl
   goes-by (Some k) at place first =
-      ap₂ (λ x y. x && not y) (none-is (set_named n m.sets) ∙ ap not (first ∙ ap (λ q. nat_lt k q) (sym before.configured))) (sym (before.uses n))
+      ap₂ (λ x y. x && not y) (none_is (set_named n m.sets) ∙ ap not (first ∙ ap (λ q. nat_lt k q) (sym before.configured))) (sym (before.uses n))
       ∙ (last (nat_lt k s.book.configured) (is_reported s.parts n) ∙ ap (λ h. is_going (unless_used (is_reported s.parts n) (if nat_lt k s.book.configured then Err faults.NotDeletable else (if nat_lt 0 h then Err faults.InUse else Ok k)))) (sym (before.booked.free k place.0)))
     where
       last : (x u : Bool) → (not x && not u) ≡ is_going (unless_used u (if x then Err faults.NotDeletable else (if nat_lt 0 0 then Err faults.InUse else Ok k)))

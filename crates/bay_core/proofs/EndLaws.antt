@@ -3,8 +3,8 @@ use Rattle.std.proofs.Common.{◌≡◌, ℕ, suc, true, false, List, ◌∷◌,
 use Rattle.std.specs.Prelude.{if◌then◌else◌, is_some, ◌==◌, ◌||◌}
 use Rattle.std.specs.Option.{option_map}
 use Rattle.std.proofs.lemmas.Bool.Decides.{nat_tests}
-use Rattle.list_laws.proofs.Options.{some_is}
-use Rattle.list_laws.proofs.Places.{got-map}
+use Rattle.list_laws.proofs.Options.{some_is, none_of}
+use Rattle.list_laws.proofs.Places.{got-map, equal-number}
 use Rattle.sv_base.specs.declared.config.Config.{Config}
 use Rattle.sv_base.specs.declared.numbers.AssocNo.{AssocNo}
 use Rattle.sv_base.specs.declared.numbers.ActorNo.{ActorNo}
@@ -30,10 +30,6 @@ use Rattle.bay_core.specs.Standing.{StandsAt}
 use Rattle.bay_core.proofs.MoveLaws.{groups-quiet, passed}
 
 -- ---- the ends of an association
-
-pub none-where : {A : Type 0} (o : Option A) → is_some o ≡ false → o ≡ None
-none-where None is = refl
-none-where (Some x) is = cc
 
 pub open-told : (m : Model) (rows : List Row) (past : Past) (a : ℕ) → AssociationsStand rows m past → IsNumber a → is_some (row_of rows a).ends ≡ is_some (ends a past)
 open-told m rows past a st number = by (row_of rows a).ends (ends a past) (st.each a number).ends where
@@ -94,6 +90,3 @@ opener-told m rows past a opener st number one = by (row_of rows a).ends (ends a
 
 pub opener-fault : (past : Past) (actor a : ℕ) (e : model.Ends) → ends a past ≡ Some e → (actor == e.opener) ≡ true → if_open (ends a past) a (λ f. actor == f.opener) None ≡ None
 opener-fault past actor a e is yours = rw (is, yours) refl
-
-pub same-number-told : (x y : ℕ) → x ≡ y → (x == y) ≡ true
-same-number-told x y is = grind (arith, nat_tests, is)

@@ -5,7 +5,6 @@ use Rattle.std.proofs.lemmas.List.{length-map}
 use Rattle.std.proofs.lemmas.List.Elements.{All-head, All-tail}
 use Rattle.sv_base.specs.declared.config.Config.{Config}
 use Rattle.sv_base.specs.declared.config.SetDef.{SetDef}
-use Rattle.bay_model.specs.declared.tables.SetRow.{SetRow}
 use Rattle.bay_model.specs.Generated.{within}
 use Rattle.bay_model.specs.Model.{DataSet, Node}
 use Rattle.bay_model.specs.Named.{configured_model, nodes, set_defined}
@@ -17,6 +16,8 @@ use Rattle.data_sets.specs.Standing.{IsNamed, data_set}
 use Rattle.bay_config.specs.Servable.{IsReferred, IsServable, IsServedSet}
 use Rattle.bay_core.specs.State.{IsBooked}
 use Rattle.bay_core.proofs.BookLaws.{known-booked}
+use Rattle.bay_replies.proofs.OpenedLaws.{same-sets, at-named}
+use Rattle.data_sets.proofs.OpenLaws.{opened_at}
 
 -- ---- its sets are those of the model
 
@@ -27,12 +28,8 @@ back (n ∷ ns) = ap (λ l. n ∷ l) (back ns)
 set-back : (s : DataSet) → data_set (booked (set_row s)) ≡ s
 set-back s = ap (λ l. record { domain = s.domain; item = s.item; nodes = l }) (back s.nodes)
 
-rows-back : (ss : List DataSet) → map data_set (map booked (map set_row ss)) ≡ ss
-rows-back [] = refl
-rows-back (s ∷ ss) = ap (λ d. d ∷ map data_set (map booked (map set_row ss))) (set-back s) ∙ ap (λ l. s ∷ l) (rows-back ss)
-
 pub sets-back : (c : Config) → map data_set (opened (set_rows c)).sets ≡ (configured_model c).sets
-sets-back c = rows-back (configured_model c).sets
+sets-back c = same-sets (configured_model c).sets
 
 pub count-back : (c : Config) → (opened (set_rows c)).configured ≡ length (configured_model c).sets
 count-back c = length-map (configured_model c).sets set_row
@@ -51,22 +48,12 @@ not-empty (x ∷ a) b is = cc
 named-one : (ns : List Node) (d : SetDef) → (booked (set_row (set_defined ns d))).name.item ≢ []
 named-one ns d = not-empty d.ln d.name
 
-named-at : (ns : List Node) (ds : List SetDef) (k : ℕ) → k < length (map booked (map set_row (map (set_defined ns) ds))) → (slice_index_or (map booked (map set_row (map (set_defined ns) ds))) k no_set).name.item ≢ []
-named-at ns [] k below = absurd (omega (arith, below))
-named-at ns (d ∷ ds) zero below = named-one ns d
-named-at ns (d ∷ ds) (suc k) below = named-at ns ds k (omega (arith, below))
-
-free-at : (rows : List SetRow) (k : ℕ) → (slice_index_or (map booked rows) k no_set).holds ≡ 0
-free-at [] k = refl
-free-at (r ∷ rows) zero = refl
-free-at (r ∷ rows) (suc k) = free-at rows k
-
 pub booked-first : (c : Config) → IsServable c → IsBooked c (opened (set_rows c))
 booked-first c served = record {
   served = λ k below. served-at c (configured_model c).sets k served.sets below;
-  named = λ k below. named-at (nodes c) c.sets k below;
+  named = λ k below. at-named (nodes c) c.sets k below;
   apart = λ j k first from below same. absurd (omega (arith, from, below, length-map (set_rows c) booked));
-  free = λ k below. free-at (set_rows c) k;
+  free = λ k below. opened_at (set_rows c) k;
 }
 
 -- ---- a DatSet

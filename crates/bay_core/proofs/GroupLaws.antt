@@ -62,6 +62,7 @@ use Rattle.bay_core.proofs.MoveLaws.{IsSilent, again, came-quiet, rows_after}
 use Rattle.bay_core.proofs.PartLaws.{parts-left}
 use Rattle.bay_core.proofs.SettingLaws.{IsSetting, set_at, stands-set}
 use Rattle.bay_core.proofs.SingleLaws.{by-outcome, refused-write}
+use Rattle.list_laws.proofs.Truths.{and-none}
 
 -- ---- deeds of setting groups
 
@@ -104,11 +105,6 @@ of-part m n t a d LActTm v past = of-nothing m n t past
 
 -- ---- a point that gives no attribute anything is no event
 
-nothing-on : (x y : Bool) → (x && y && false) ≡ false
-nothing-on true true = refl
-nothing-on true false = refl
-nothing-on false y = refl
-
 module _ (m : Model) (deed : Deed) (before : Past) (none : (x : ℕ) → gives m x deed before ≡ None) where
   reasons-none : (trg : List Bool) (x : ℕ) → reasons_of m trg deed before x ≡ no_reason
   reasons-none trg x =
@@ -120,9 +116,9 @@ module _ (m : Model) (deed : Deed) (before : Past) (none : (x : ℕ) → gives m
         intg = false;
         gi = false;
       }) (none x)
-      ∙ (ap (λ (b : Bool). record { dchg = b; qchg = a.qchg && bit 2 trg && false; dupd = a.dupd && bit 3 trg && false; intg = false; gi = false }) (nothing-on a.dchg (bit 1 trg))
-      ∙ (ap (λ (b : Bool). record { dchg = false; qchg = b; dupd = a.dupd && bit 3 trg && false; intg = false; gi = false }) (nothing-on a.qchg (bit 2 trg))
-      ∙ ap (λ (b : Bool). record { dchg = false; qchg = false; dupd = b; intg = false; gi = false }) (nothing-on a.dupd (bit 3 trg))))
+      ∙ (ap (λ (b : Bool). record { dchg = b; qchg = a.qchg && bit 2 trg && false; dupd = a.dupd && bit 3 trg && false; intg = false; gi = false }) (and-none a.dchg (bit 1 trg))
+      ∙ (ap (λ (b : Bool). record { dchg = false; qchg = b; dupd = a.dupd && bit 3 trg && false; intg = false; gi = false }) (and-none a.qchg (bit 2 trg))
+      ∙ ap (λ (b : Bool). record { dchg = false; qchg = false; dupd = b; intg = false; gi = false }) (and-none a.dupd (bit 3 trg))))
 
   unions-none : (trg : List Bool) (xs : List ℕ) → union_of m trg deed before xs ≡ no_reason
   unions-none trg [] = refl

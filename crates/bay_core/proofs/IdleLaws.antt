@@ -30,10 +30,6 @@ IsIdle _ = ⊥
 
 -- ---- reads of variables are so
 
-pub nothing-read : (r : Result Value ℕ) → deed_of (outcome_of_read r) ≡ nothing
-nothing-read (Ok v) = refl
-nothing-read (Err code) = refl
-
 idle-read : (r : Result Value ℕ) → IsIdle (deed_of (outcome_of_read r))
 idle-read (Ok v) = tt
 idle-read (Err code) = tt

@@ -1,10 +1,9 @@
 -- Names that a data set may have: the logical node is there.
-use Rattle.std.proofs.Common.{◌≡◌, ◌+◌, ◌∙◌, ◌∷◌, ℕ, Bool, true, false, List, [], Option, Some, is_some, refl, ap, ap₂, sym, arith}
+use Rattle.std.proofs.Common.{◌≡◌, ◌+◌, ◌∙◌, ◌∷◌, ℕ, Bool, true, false, List, [], Option, Some, is_some, refl, ap, ap₂, sym}
 use Rattle.std.specs.Prelude.{◌&&◌, ◌||◌, position, if◌then◌else◌}
 use Rattle.std.specs.Option.{option_map}
 use Rattle.std.specs.List.{list_any}
 use Rattle.std.specs.Str.{bytes_eq}
-use Rattle.std.proofs.lemmas.Slice.Eq.{bytes_eq-Decides}
 use Rattle.list_laws.proofs.Places.{place-cons}
 use Rattle.sv_base.specs.declared.config.Config.{Config}
 use Rattle.sv_base.specs.declared.numbers.NodeId.{NodeId}
@@ -13,14 +12,7 @@ use Rattle.bay_model.specs.Model.{Node}
 use Rattle.bay_model.specs.Named.{configured_model, nodes}
 use Rattle.object_model.specs.Tables.{node_named}
 use Rattle.bay_core.proofs.BookLaws.{some-mapped}
-
-turned : (a b : List ℕ) → bytes_eq a b ≡ bytes_eq b a
-turned a b = by (bytes_eq a b) (bytes_eq b a) refl refl where
-  by : (x y : Bool) → bytes_eq a b ≡ x → bytes_eq b a ≡ y → x ≡ y
-  by true true one two = refl
-  by false false one two = refl
-  by true false one two = let same : a ≡ b = grind (arith, bytes_eq-Decides a b, one) in grind (arith, bytes_eq-Decides b a, two, same)
-  by false true one two = let same : b ≡ a = grind (arith, bytes_eq-Decides b a, two) in grind (arith, bytes_eq-Decides a b, one, same)
+use Rattle.list_laws.proofs.Distinct.{octets_turned as turned}
 
 some-at : (p q : Node → Bool) → ((n : Node) → p n ≡ q n) → (ns : List Node) → is_some (position p ns) ≡ list_any q ns
 some-at p q same [] = refl

@@ -22,9 +22,10 @@ use Rattle.report_block.specs.EntryOctets.{IsKeepable}
 use Rattle.report_block.specs.Events.{after_noting, pieces_of}
 use Rattle.block_watch.specs.declared.watch.Watch.{Watch}
 use Rattle.block_watch.specs.Watched.{IsWatching, IsLent, IsNoteOf, members_in}
-use Rattle.block_watch.proofs.WatchLaws.{got-here, got-there, option-at, some-same}
+use Rattle.block_watch.proofs.WatchLaws.{got-here, got-there, option-at}
 use Rattle.bay_core.specs.Events.{mentions_of, IsReady}
 use Rattle.bay_core.proofs.MentionLaws.{noted-keepable, noted-order, length-noted}
+use Rattle.list_laws.proofs.Options.{some_is}
 
 module _ (rows : List NodeRow) (book : Book) where
   abbrev shapes : ReportBlock → List MemberShape
@@ -82,7 +83,7 @@ module _ (rows : List NodeRow) (book : Book) where
       by : (k ≡ b) ⊎ (k ≢ b) → Left (slice_set parts b after) (with_items b [] notes) k target
       by (inl e) =
           let none : (note_at (with_items b [] notes) k).items ≡ [] = ap (λ j. (note_at (with_items b [] notes) j).items) e ∙ ap (λ (f : Filled Mention). f.items) (get_or-set_same notes b (record { items = []; room = (note_at notes b).room }) no_note below) in
-          let same : part ≡ was.0 = some-same part was.0 (sym at ∙ (ap (slice_get parts) (sym e) ∙ was.1)) in
+          let same : part ≡ was.0 = some_is part was.0 (sym at ∙ (ap (slice_get parts) (sym e) ∙ was.1)) in
           let mine = subst (λ (p : ReportBlock). IsNoteOf rows book stored p (note_at notes k).items) (sym same) was.2 in
           let lent = lent-stays (note_at notes b).items part mine.lent in (
             after,

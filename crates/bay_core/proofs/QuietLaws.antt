@@ -10,11 +10,12 @@ use Rattle.value_store.specs.Stored.{Stored}
 use Rattle.report_block.specs.declared.block.ReportBlock.{ReportBlock}
 use Rattle.report_block.specs.Alls.{all_pieces, for_integrity}
 use Rattle.window_core.specs.Windows.{end_of}
-use Rattle.report_block.specs.Due.{due_at, earliest, next_integrity, IsBefore}
+use Rattle.report_block.specs.Due.{due_at, next_integrity, IsBefore}
 use Rattle.report_block.proofs.DueLaws.{idle-before, due-stays}
 use Rattle.block_watch.specs.Dues.{AreBefore}
 use Rattle.bay_core.specs.Timed.{arrived_part, arrived_all, IsQuietUntil, AreQuietUntil}
 use Rattle.block_watch.specs.Watched.{members_in}
+use Rattle.block_watch.proofs.DueLaws.{before-second}
 
 -- ---- a moment at which nothing is due
 
@@ -62,12 +63,6 @@ quiet-set at dues parts i due q own quiet = record {
     ]
   ];
 }
-
--- what isn't before the earlier of two isn't before either
-before-second : (now : ℕ) (x y : Option ℕ) → IsBefore now (earliest x y) → IsBefore now y
-before-second now None y h = h
-before-second now (Some m) None h = tt
-before-second now (Some m) (Some n) h = omega (arith, h)
 
 -- a block that gathers nothing, and counts the same periods
 pub quiet-idle : (at : ℕ) (dues : List (Option ℕ)) (parts : List ReportBlock) (i : ℕ) (p q : ReportBlock) → slice_get parts i ≡ Some p → q.window.gathered ≡ None → q.block ≡ p.block → q.origin ≡ p.origin → AreQuietUntil at dues parts

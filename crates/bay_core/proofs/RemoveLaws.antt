@@ -1,6 +1,6 @@
 -- A data set that goes from the book: what is found then, and the blocks with their numbers.
 use Rattle.std.proofs.Common.{◌≡◌, ◌≢◌, ◌<◌, ◌≤◌, ◌-◌, ◌∙◌, ◌∷◌, ◌++◌, ℕ, zero, suc, Bool, true, false, List, [], length, map, take, drop, Option, None, Some, is_some, refl, ap, ap₂, sym, subst, arith, inl, inr, true≢false}
-use Rattle.std.specs.Prelude.{◌&&◌, ◌||◌, nat_lt, slice_get, slice_index_or, if◌then◌else◌}
+use Rattle.std.specs.Prelude.{◌||◌, nat_lt, slice_get, slice_index_or, if◌then◌else◌}
 use Rattle.std.specs.List.{list_any}
 use Rattle.std.specs.Option.{option_map}
 use Rattle.std.specs.Str.{bytes_eq}
@@ -16,7 +16,7 @@ use Rattle.object_model.specs.Nodes.{node_rows}
 use Rattle.set_view.specs.Shapes.{shapes_of}
 use Rattle.data_sets.specs.Books.{Booked, Book, after_delete, is_name, no_set, nodes_in, number_named, number_referred, place_of, reference, set_at}
 use Rattle.data_sets.specs.Standing.{IsNamed, data_set}
-use Rattle.data_sets.proofs.BookLaws.{IsPlace, at_removed, is_place, old, old_below, same_octets}
+use Rattle.data_sets.proofs.BookLaws.{IsPlace, at_removed, is_place, old, old_below, old_one}
 use Rattle.brcb_state.specs.Components.{trg_of}
 use Rattle.value_store.specs.Stored.{Stored}
 use Rattle.setting_groups.specs.Grouped.{Grouped}
@@ -34,6 +34,9 @@ use Rattle.bay_core.specs.Whole.{IsWhole}
 use Rattle.control_core.specs.Tables.{Table}
 use Rattle.bay_core.proofs.BookLaws.{some-mapped}
 use Rattle.bay_core.proofs.QuietLaws.{quiet-map}
+use Rattle.data_sets.proofs.RoomLaws.{old_above}
+use Rattle.list_laws.proofs.Truths.{and-left, and-right}
+use Rattle.list_laws.proofs.Distinct.{octets_same}
 
 -- ---- the places before and after
 
@@ -46,18 +49,6 @@ old-high : (k i : ℕ) → k ≤ i → old k i ≡ suc i
 old-high zero i h = refl
 old-high (suc k) zero h = absurd (omega (arith, h))
 old-high (suc k) (suc i) h = ap suc (old-high k i (omega (arith, h)))
-
-old-least : (k i : ℕ) → i ≤ old k i
-old-least zero i = omega arith
-old-least (suc k) zero = omega arith
-old-least (suc k) (suc i) = omega (arith, old-least k i)
-
-old-one : (k i j : ℕ) → old k i ≡ old k j → i ≡ j
-old-one zero i j e = omega (arith, e)
-old-one (suc k) zero zero e = refl
-old-one (suc k) zero (suc j) e = absurd (omega (arith, e))
-old-one (suc k) (suc i) zero e = absurd (omega (arith, e))
-old-one (suc k) (suc i) (suc j) e = ap suc (old-one k i j (omega (arith, e)))
 
 -- a place that stays is found again
 old-moved : (k j : ℕ) → j ≢ k → old k (if nat_lt k j then j - 1 else j) ≡ j
@@ -101,16 +92,8 @@ nodes-moved book k (Some j) apart = ap (λ (s : Booked). s.nodes) (at_removed bo
 
 -- ---- the name of what goes
 
-and-left : (x y : Bool) → (x && y) ≡ true → x ≡ true
-and-left true y is = refl
-and-left false y is = cc
-
-and-right : (x y : Bool) → (x && y) ≡ true → y ≡ true
-and-right true y is = is
-and-right false y is = cc
-
 pub name-same : (n m : SetName) → is_name n m ≡ true → n ≡ m
-name-same n m is = ap₂ (λ (d i : List ℕ). record { domain = d; item = i }) (same_octets n.domain m.domain (and-left _ _ is)) (same_octets n.item m.item (and-right _ _ is))
+name-same n m is = ap₂ (λ (d i : List ℕ). record { domain = d; item = i }) (octets_same n.domain m.domain (and-left _ _ is)) (octets_same n.item m.item (and-right _ _ is))
 
 pub name-there : (book : Book) (n : SetName) (k : ℕ) → number_named n book ≡ Some k → (k < length book.sets) × (n ≡ (set_at book k).name)
 name-there book n k is =
@@ -143,7 +126,7 @@ module _ (c : Config) (book : Book) (k : ℕ) (was : IsBooked c book) (from : bo
   booked-deleted = record {
     served = each-left (λ s. IsServedSet c (data_set s)) was.served;
     named = each-left (λ s. s.name.item ≢ []) was.named;
-    apart = λ i j li first lj e. old-one k i j (was.apart (old k i) (old k j) (old_below book.sets k i li) (omega (arith, first, old-least k j)) (old_below book.sets k j lj)
+    apart = λ i j li first lj e. old_one k i j (was.apart (old k i) (old k j) (old_below book.sets k i li) (omega (arith, first, old_above k j)) (old_below book.sets k j lj)
         (ap (λ (s : Booked). s.name) (sym (at_removed book.sets k i)) ∙ (e ∙ ap (λ (s : Booked). s.name) (at_removed book.sets k j))));
     free = each-left (λ s. s.holds ≡ 0) was.free;
   }

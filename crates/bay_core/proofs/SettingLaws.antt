@@ -67,10 +67,7 @@ use Rattle.control_core.specs.Tables.{Table}
 use Rattle.bay_core.proofs.MoveLaws.{IsSilent, rows_after, came-quiet, counts, accepted-as}
 use Rattle.bay_core.proofs.ServedLaws.{served-few}
 use Rattle.bay_core.proofs.ShapeLaws.{AreServed, node_shapes, nodes_named, served_members, served-set, sets_in, members-named, are-shapes}
-
--- a point of which nothing is so
-off : {A : Type 0} → false ≡ true → A
-off h = cc
+use Rattle.list_laws.proofs.Truths.{never as off}
 
 -- The deed sets attributes, as these settings have it: it is an event of the blocks, and touches nothing else.
 pub record IsSetting (m : Model) (n t : ℕ) (d : Deed) (past : Past) (settings : List Setting) : Type 0 where

@@ -3,7 +3,7 @@ use Rattle.std.proofs.Common.{◌≡◌, ◌<◌, ◌∙◌, ℕ, zero, suc, Boo
 use Rattle.std.specs.Prelude.{slice_get, slice_set, ◌&&◌, ◌==◌, ◌||◌, codes}
 use Rattle.std.specs.Option.{option_map}
 use Rattle.std.specs.Str.{bytes_eq}
-use Rattle.std.proofs.lemmas.List.{length-map, length-set, map-append}
+use Rattle.std.proofs.lemmas.List.{length-set, map-append}
 use Rattle.std.proofs.Common.{append_assoc, length-append}
 use Rattle.std.proofs.lemmas.Bool.Decides.{eqb_tells}
 use Rattle.std.specs.List.{All}
@@ -26,10 +26,10 @@ use Rattle.sv_base.specs.declared.config.SgDef.{SgDef}
 use Rattle.setting_groups.specs.Opened.{IsGrouped}
 use Rattle.setting_groups.specs.Frames.{IsFramed}
 use Rattle.setting_groups.specs.Grouped.{Grouped}
-use Rattle.setting_groups.proofs.FirstLaws.{groups-there, settings-count}
+use Rattle.setting_groups.proofs.FirstLaws.{groups-there, settings-count, generated-count, lines-count}
 use Rattle.bay_replies.specs.Given.{copies_from}
 use Rattle.bay_replies.specs.Plain.{HasGroups, IsPlainRole}
-use Rattle.bay_replies.proofs.NodeLaws.{each-among, node-plain}
+use Rattle.bay_replies.proofs.NodeLaws.{node-plain}
 use Rattle.bay_model.specs.declared.flags.Change.{Change}
 use Rattle.bay_model.specs.declared.tables.NodeRow.{NodeRow}
 use Rattle.bay_model.specs.Attributes.{access_of, attributes, attr_defined, attrs_defined, attrs_generated, twins}
@@ -71,6 +71,7 @@ use Rattle.bay_core.proofs.ArriveLaws.{HaveMembers}
 use Rattle.bay_values.proofs.ChangeLaws.{IsThere, held-after}
 use Rattle.bay_core.proofs.WriteLaws.{component-wrote}
 use Rattle.bay_core.proofs.SettingLaws.{one_set, client-sets, set_at, stands-set}
+use Rattle.list_laws.proofs.Among.{each-of}
 
 -- ---- the attribute of a line or of a control doesn't stand under SE
 
@@ -102,14 +103,6 @@ own-parameters c k (p ∷ ps) = All-cons IsOwnAttr (generated_as c k p) (map (ge
 own-generated : (c : Config) (ks : List CtlDef) → All IsOwnAttr (flat_map (attrs_generated c) ks)
 own-generated c [] = All-nil IsOwnAttr
 own-generated c (k ∷ ks) = All-append IsOwnAttr (attrs_generated c k) (flat_map (attrs_generated c) ks) (own-parameters c k (parameters k)) (own-generated c ks)
-
-generated-count : (c : Config) (ks : List CtlDef) → length (flat_map (attrs_generated c) ks) ≡ length (flat_map parameters ks)
-generated-count c [] = refl
-generated-count c (k ∷ ks) = omega (arith, length-append (attrs_generated c k) (flat_map (attrs_generated c) ks), length-append (parameters k) (flat_map parameters ks), length-map (parameters k) (generated_as c k), generated-count c ks)
-
-lines-count : (c : Config) (y : ℕ) (ls : List AttrDef) → length (attrs_defined c y ls) ≡ length ls
-lines-count c y [] = refl
-lines-count c y (a ∷ ls) = ap suc (lines-count c (1 + y) ls)
 
 own-among : (xs ys : List Attr) (x : ℕ) → x < length xs → All IsOwnAttr xs → IsOwn (unwrap_or (slice_get (xs ++ ys) x) no_attr).access
 own-among [] ys x below all = absurd (omega (arith, below))
@@ -289,7 +282,7 @@ one-write-more z y u a ss s codes_ code before own = λ c n t past here.
 
 pub role-told : (c : Config) (n : ℕ) (w : What) → IsGrouped c → role_seen w ≡ (node_of (configured_model c) n).role → IsPlainRole (length (attributes c)) (length c.blocks) (length c.controls) (HasGroups c) (role_seen w)
 role-told c n w grouped is = subst (IsPlainRole (length (attributes c)) (length c.blocks) (length c.controls) (HasGroups c)) (sym is)
-    (node-plain c (HasGroups c) (each-among (λ (g : SgDef). HasGroups c (domain_number c g.domain)) c.groups (groups-there c grouped)) n).role
+    (node-plain c (HasGroups c) (each-of (λ (g : SgDef). HasGroups c (domain_number c g.domain)) c.groups (groups-there c grouped)) n).role
 
 -- ---- one member more
 

@@ -1,6 +1,6 @@
 -- Reads of variables in their turn come to what the definitions have.
 use Rattle.std.proofs.Common.{◌≡◌, ◌≤◌, ◌<◌, ◌∙◌, ◌+◌, ℕ, zero, suc, List, [], ◌∷◌, ◌++◌, map, length, take, drop, refl, sym, ap, ap₂, subst, arith, length-append}
-use Rattle.std.specs.Prelude.{Bool, true, false, if◌then◌else◌, nat_lt, Option, None, Some, Result, Ok, Err, slice_get, slice_set, unwrap_or}
+use Rattle.std.specs.Prelude.{Bool, true, false, if◌then◌else◌, nat_lt, Option, None, Some, Result, Ok, slice_get, slice_set, unwrap_or}
 use Rattle.std.specs.Int.{to_be_bytes, w32}
 use Rattle.std.specs.List.{flat_map}
 use Rattle.std.proofs.lemmas.Bool.{lt-ltb}
@@ -36,7 +36,8 @@ use Rattle.bay_replies.specs.Reading.{selecting_of, selecting_in, reference_read
 use Rattle.window_core.specs.Points.{at}
 use Rattle.bay_core.specs.Turned.{after_turn, after_turns, empty_text, in_turn, in_turns, reply_of, selects, with_turn}
 use Rattle.bay_core.proofs.ControlLaws.{configs-deed}
-use Rattle.bay_core.proofs.IdleLaws.{IsIdle, idle-target, nothing-read, tree-idle}
+use Rattle.bay_core.proofs.IdleLaws.{IsIdle, idle-target, tree-idle}
+use Rattle.bay_replies.proofs.PointLaws.{nothing-read, result-read}
 
 -- ---- the controls are configured as before
 pub turn-configs : (a : ℕ) (o : Option ℕ) (t : Table) → configs (after_turn a o t) ≡ configs t
@@ -135,10 +136,6 @@ field-long k = by (nat_lt k 128) where
 
 text-long : (s : List ℕ) → 2 ≤ length (access_result (Ok (kinds.Text s)))
 text-long s = omega (arith, field-long (length s), length-append (length_field (length s)) s)
-
-result-read : (r : Result Value ℕ) → result_of (outcome_of_read r) ≡ r
-result-read (Ok v) = refl
-result-read (Err code) = refl
 
 module _ (r : Replies) (a n t : ℕ) (there : (x k : ℕ) → selecting_of (node_of (configured_model r.model.now) x).role ≡ Some k → k < length r.model.now.controls) where
   abbrev own : Model

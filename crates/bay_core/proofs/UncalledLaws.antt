@@ -40,10 +40,11 @@ use Rattle.bay_model.specs.Writes.{write_role}
 use Rattle.bay_config.specs.Servable.{IsMember, IsServedSet}
 use Rattle.bay_queues.specs.Heard.{tests_in}
 use Rattle.bay_replies.specs.Plain.{SelectsNothing}
-use Rattle.bay_replies.proofs.NodeLaws.{each-among, node-plain}
+use Rattle.bay_replies.proofs.NodeLaws.{node-plain}
 use Rattle.bay_core.specs.Commanded.{CallsNothing, IsNoCommand}
 use Rattle.bay_core.proofs.HeardLaws.{AreQuiet, IsQuiet}
 use Rattle.bay_core.proofs.ShapeLaws.{found}
+use Rattle.list_laws.proofs.Among.{each-of}
 
 -- ---- one outcome
 
@@ -160,7 +161,7 @@ IsAny d = Unit {0}
 
 -- what may be a member selects nothing when it is read, and calls nothing when it is written
 pub member-plain : (c : Config) (n : ℕ) → (node_of (configured_model c) n).allowed ≡ true → SelectsNothing (node_of (configured_model c) n).role
-member-plain c n allowed = (node-plain c IsAny (each-among (λ (g : SgDef). IsAny (domain_number c g.domain)) c.groups (λ g i. tt)) n).member allowed
+member-plain c n allowed = (node-plain c IsAny (each-of (λ (g : SgDef). IsAny (domain_number c g.domain)) c.groups (λ g i. tt)) n).member allowed
 
 no-command : (r : Role) → SelectsNothing r → IsNoCommand r
 no-command (single l) is = tt

@@ -41,6 +41,7 @@ use Rattle.bay_config.specs.Servable.{IsServable, IsMember, attr_type}
 use Rattle.bay_values.specs.Held.{AreHeld}
 use Rattle.block_reports.proofs.OneElement.{member_is_one}
 use Rattle.bay_core.proofs.ShapeLaws.{IsShapeOf}
+use Rattle.object_model.proofs.KindLaws.{of_controls}
 
 -- ---- lists
 
@@ -66,15 +67,11 @@ parameters-plain k = by (is_selected k) where
   by true = All-cons IsSettable (types.Int 8) (types.Uint 32 ∷ types.Int 8 ∷ []) (inl refl) (All-cons IsSettable (types.Uint 32) (types.Int 8 ∷ []) (inr (inr (inl refl))) (All-cons IsSettable (types.Int 8) [] (inl refl) (All-nil IsSettable)))
   by false = All-cons IsSettable (types.Int 8) [] (inl refl) (All-nil IsSettable)
 
-controls-plain : (ks : List CtlDef) → All IsSettable (flat_map (λ (k : CtlDef). map (λ (p : Parameter). p.kind) (parameters k)) ks)
-controls-plain [] = All-nil IsSettable
-controls-plain (k ∷ ks) = All-append IsSettable (kinds-of k) (flat_map (λ (k : CtlDef). map (λ (p : Parameter). p.kind) (parameters k)) ks) (parameters-plain k) (controls-plain ks)
-
 pub types-settable : (c : Config) → IsServable c → All IsSettable (attr_types c)
 types-settable c served =
     let lines = lines-plain c served in
     All-append IsSettable (map (λ (a : AttrDef). a.kind) c.attrs) _ (All-map IsSettable (λ (a : AttrDef). a.kind) c.attrs lines)
-    (All-append IsSettable (flat_map (λ (k : CtlDef). map (λ (p : Parameter). p.kind) (parameters k)) c.controls) (map (λ (a : AttrDef). a.kind) (filter is_setting c.attrs)) (controls-plain c.controls)
+    (All-append IsSettable (flat_map (λ (k : CtlDef). map (λ (p : Parameter). p.kind) (parameters k)) c.controls) (map (λ (a : AttrDef). a.kind) (filter is_setting c.attrs)) (of_controls c.controls)
     (All-map IsSettable (λ (a : AttrDef). a.kind) (filter is_setting c.attrs) (All-filter is_setting HasPlainType c.attrs lines)))
 
 pub type-settable : (c : Config) (x : ℕ) → IsServable c → IsSettable (attr_type c x)

@@ -1,9 +1,9 @@
 -- A write of a component: the block that is written, the others, and the bay.
-use Rattle.std.proofs.Common.{rules, ◌≡◌, ◌≢◌, ◌<◌, ℕ, suc, max, Bool, true, false, List, [], ◌∷◌, Option, Some, None, is_some, Result, Ok, Err, refl, ap, ap₂, ◌∙◌, sym, subst, length, arith, inl, inr}
+use Rattle.std.proofs.Common.{rules, ◌≡◌, ◌≢◌, ℕ, suc, max, Bool, true, false, List, [], ◌∷◌, Option, Some, None, is_some, Result, Ok, Err, refl, ap, ap₂, ◌∙◌, sym, subst, length, inl, inr}
 use Rattle.std.specs.Prelude.{slice_get, slice_set, slice_index_or, ◌==◌, ◌&&◌, ◌||◌, not}
 use Rattle.std.proofs.lemmas.List.{set-get_or}
-use Rattle.std.proofs.lemmas.Option.{get_or_from_slice_get, slice_get-get_or, slice_get_cases}
-use Rattle.list_laws.proofs.Places.{got-set, other-number}
+use Rattle.std.proofs.lemmas.Option.{get_or_from_slice_get, slice_get-get_or}
+use Rattle.list_laws.proofs.Places.{got-set, other-number, get-within}
 use Rattle.sv_base.specs.declared.config.Config.{Config}
 use Rattle.sv_base.specs.declared.numbers.AssocNo.{AssocNo}
 use Rattle.sv_base.specs.declared.numbers.BlockNo.{BlockNo}
@@ -49,6 +49,7 @@ use Rattle.bay_core.proofs.BookLaws.{known-booked}
 use Rattle.bay_core.proofs.ShapeLaws.{sets_in}
 use Rattle.block_watch.proofs.WatchLaws.{KeepsSet}
 use Rattle.bay_core.proofs.MoveLaws.{came-of, counts, accepted-as, groups-quiet}
+use Rattle.list_laws.proofs.Truths.{or-right}
 
 -- the effect of an accepted write
 effect-told : (ts : List (Bool × ℕ)) (effect e : Effect) → first_of ts effect ≡ Ok e → e ≡ effect
@@ -65,10 +66,6 @@ all-passed : (ts : List (Bool × ℕ)) (effect e : Effect) → first_of ts effec
 all-passed [] effect e is = tt
 all-passed ((true, code) ∷ ts) effect e is = cc
 all-passed ((false, code) ∷ ts) effect e is = (refl, all-passed ts effect e is)
-
-or-second : (x y : Bool) → (x || y) ≡ false → y ≡ false
-or-second true y is = cc
-or-second false y is = is
 
 empty-is : (t : List ℕ) → is_empty t ≡ true → t ≡ []
 empty-is [] is = refl
@@ -249,7 +246,7 @@ module _ (now step : ℕ) (a : AssocNo) (comp : Comp) (v : Value) (named : Optio
     by : (comp : Comp) (v : Value) (named : Option ℕ) → named ≡ named_by comp v book → write_answer a comp v named part ≡ Ok e → IsNamed book (written a comp v part.ring.front part.block).options.dat_set
     by comps.DatSet (kinds.Text t) named is answer =
         let passed = all-passed (refusals a comps.DatSet (kinds.Text t) (names_nothing (retained_of part) (is_some named) comps.DatSet (kinds.Text t)) part.block) (effect_of comps.DatSet (kinds.Text t) part.block) e answer in
-        known-or-empty book t named is (or-second _ _ passed.1.1.1.1.0)
+        known-or-empty book t named is (or-right _ _ passed.1.1.1.1.0)
     by comps.DatSet _ named is answer = cc
     by comps.RptEna (kinds.Bool on) named is answer = has
     by comps.RptEna _ named is answer = has
@@ -274,10 +271,3 @@ module _ (now step : ℕ) (a : AssocNo) (comp : Comp) (v : Value) (named : Optio
     by : (t : Bool) → (window_after t now [] (written a comp v part.ring.front part.block).options.buf_tm part.window).members ≡ part.window.members
     by true = refl
     by false = refl
-
--- where a list is long enough there is an element
-pub is-at : {A : Type 0} (xs : List A) (i : ℕ) → i < length xs → (x : A) × (slice_get xs i ≡ Some x)
-is-at xs i below = elim ((slice_get_cases xs i).1) [
-  | inl here ↦ (here.0, here.2)
-  | inr past ↦ absurd (omega (arith, past.0))
-]

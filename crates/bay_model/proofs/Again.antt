@@ -10,16 +10,13 @@ use Rattle.bay_model.specs.Groups.{Event, is_over, is_broken, if_open, open_grou
 use Rattle.bay_model.specs.Entries.{selected, closed_entry}
 use Rattle.bay_model.specs.Singles.{arrival}
 use Rattle.bay_model.proofs.OpenGroup.{open_group-quiet, if_open-more}
+use Rattle.list_laws.proofs.Truths.{and-false}
 
 not-less : (x : ℕ) → nat_lt x x ≡ false
 not-less x = either (leb_tells (suc x) x) where
   either : ((nat_le (suc x) x ≡ true) × (suc x ≤ x)) ⊎ ((nat_le (suc x) x ≡ false) × (x < suc x)) → nat_lt x x ≡ false
   either (inl a) = absurd (omega (arith, a.1))
   either (inr a) = a.0
-
-and-false : (x : Bool) → (x && false) ≡ false
-and-false true = refl
-and-false false = refl
 
 module _ (c : Model) (b m n : ℕ) (q : Point) (before : Past) (same : m ≤ now (q ∷ before)) where
   now-again : now (arrival n m ∷ q ∷ before) ≡ now (q ∷ before)

@@ -12,6 +12,9 @@ use Rattle.bay_model.specs.SettingWrites.{holds_edit, is_edited_by_another}
 use Rattle.bay_model.specs.Answers.{History, points}
 use Rattle.bay_model.specs.SettingLaw.{HoldsSince, is_of_edit}
 use Rattle.bay_model.proofs.EveryPoint.{Every, OfPoints, every-point}
+use Rattle.list_laws.proofs.Places.{same-number as same, same-of as number}
+use Rattle.list_laws.proofs.Truths.{not-false, and-false}
+use Rattle.list_laws.proofs.Options.{none_some}
 
 -- EditSG is accepted where no other holds the edit, CnfEdit of who holds it
 abbrev IsAccepted : Deed → Past → Type 0
@@ -46,16 +49,6 @@ facts c = record {
   of_reported = λ n m past a b i next. tt;
   of_nothing = λ n m past. tt;
 }
-
-same : (a : ℕ) → (a == a) ≡ true
-same a = elim (eqb_tells a a) [ inl t ↦ t.0 | inr t ↦ absurd (t.1 refl) ]
-
-number : (a b : ℕ) → (a == b) ≡ true → a ≡ b
-number a b h = elim (eqb_tells a b) [ inl t ↦ t.1 | inr t ↦ absurd (true≢false (sym h ∙ t.0)) ]
-
-not-false : (b : Bool) → not b ≡ false → b ≡ true
-not-false true h = refl
-not-false false h = absurd (true≢false h)
 
 module _ (a d n : ℕ) where
   abbrev mine : Option Edit
@@ -108,13 +101,6 @@ holders_edit c h a d n s =
 abbrev Came : ℕ → Edit → Deed → Option Edit → Type 0
 Came d e p was = ((p ≡ edited e.holder d e.group) × (1 ≤ e.group)) ⊎ ((was ≡ Some e) × (is_of_edit e.holder d p ≡ false))
 
-and-false : (b : Bool) → (b && false) ≡ false
-and-false true = refl
-and-false false = refl
-
-none-some : {A : Type 0} (x : A) → None ≡ Some x → ⊥
-none-some x e = cc
-
 some-same : (x e : Edit) → Some x ≡ Some e → x ≡ e
 some-same x e is = ap (λ (o : Option Edit). unwrap_or o x) is
 
@@ -129,26 +115,26 @@ came d e (edited a x n) was is = by (eqb_tells x d) (eqb_tells n 0)
 
     by : ((x == d) ≡ true) × (x ≡ d) ⊎ ((x == d) ≡ false) × (x ≢ d) → ((n == 0) ≡ true) × (n ≡ 0) ⊎ ((n == 0) ≡ false) × (n ≢ 0) → Came d e (edited a x n) was
     by (inr t) u = inr (ap (λ b. after b (n == 0)) (sym t.0) ∙ is, ap (λ b. (a == e.holder) && b) t.0 ∙ and-false (a == e.holder))
-    by (inl t) (inl u) = absurd (none-some e (ap₂ after (sym t.0) (sym u.0) ∙ is))
+    by (inl t) (inl u) = absurd (none_some e (ap₂ after (sym t.0) (sym u.0) ∙ is))
     by (inl t) (inr u) =
         let own = some-same (record { holder = a; group = n }) e (ap₂ after (sym t.0) (sym u.0) ∙ is) in
         inl (ap (λ (q : Edit). edited q.holder x q.group) own ∙ ap (λ k. edited e.holder k e.group) t.1, omega (arith, u.1, ap (λ (q : Edit). q.group) own))
 came d e (confirmed a x) was is = by (eqb_tells x d)
   where
     by : ((x == d) ≡ true) × (x ≡ d) ⊎ ((x == d) ≡ false) × (x ≢ d) → Came d e (confirmed a x) was
-    by (inl t) = absurd (none-some e (ap (λ b. if b then None else was) (sym t.0) ∙ is))
+    by (inl t) = absurd (none_some e (ap (λ b. if b then None else was) (sym t.0) ∙ is))
     by (inr t) = inr (ap (λ b. if b then None else was) (sym t.0) ∙ is, ap (λ b. (a == e.holder) && b) t.0 ∙ and-false (a == e.holder))
 came d e (lost a) was is = by (option_map_or (λ (q : Edit). q.holder == a) was false) refl
   where
     by : (b : Bool) → option_map_or (λ (q : Edit). q.holder == a) was false ≡ b → Came d e (lost a) was
-    by true t = absurd (none-some e (ap (λ b. if b then None else was) (sym t) ∙ is))
+    by true t = absurd (none_some e (ap (λ b. if b then None else was) (sym t) ∙ is))
     by false t =
         let kept = ap (λ b. if b then None else was) (sym t) ∙ is in
         inr (kept, swap-false e.holder a (ap (λ (o : Option Edit). option_map_or (λ (q : Edit). q.holder == a) o false) (sym kept) ∙ t))
 came d e _ was is = inr (is, refl)
 
 since : (d : ℕ) (e : Edit) (past : Past) → edit d past ≡ Some e → HoldsSince e.holder d e.group past
-since d e [] is = absurd (none-some e is)
+since d e [] is = absurd (none_some e is)
 since d e (p ∷ before) is = by (came d e p.deed (edit d before) is) (since d e before)
   where
     by : Came d e p.deed (edit d before) → (edit d before ≡ Some e → HoldsSince e.holder d e.group before) → HoldsSince e.holder d e.group (p ∷ before)

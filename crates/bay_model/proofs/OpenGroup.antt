@@ -9,6 +9,7 @@ use Rattle.bay_model.specs.Notes.{note}
 use Rattle.bay_model.specs.Breaks.{breaks, is_empty}
 use Rattle.std.specs.List.{list_any}
 use Rattle.bay_model.specs.Groups.{Event, is_over, shares, continues, place, groups, events, event_of, is_broken, newest, if_open, open_group, first}
+use Rattle.list_laws.proofs.Truths.{or-all, or-none}
 
 -- an event goes into the group before it, or begins one
 abbrev pub joined : Event → List Event → List Event
@@ -23,14 +24,6 @@ newest-place q ((e ∷ es) ∷ gs) = either (continues q e es) where
   either true = refl
   either false = refl
 
-or-true : (x : Bool) → (x || true) ≡ true
-or-true true = refl
-or-true false = refl
-
-or-false : (x : Bool) → (x || false) ≡ x
-or-false true = refl
-or-false false = refl
-
 -- a test that passed at a moment passes later
 later : (d m n : ℕ) → m ≤ n → nat_le d m ≡ true → nat_le d n ≡ true
 later d m n h is = either (leb_tells d m) (leb_tells d n) where
@@ -41,12 +34,12 @@ later d m n h is = either (leb_tells d m) (leb_tells d n) where
 
 pub if_open-more : (x y : Bool) (m n : ℕ) (g : List Event) → m ≤ n → if_open (x || y) n g ≡ if_open x n (if_open y m g)
 if_open-more x y m n [] h = refl
-if_open-more x true m n (e ∷ es) h = rw (or-true x) refl
+if_open-more x true m n (e ∷ es) h = rw (or-all x) refl
 if_open-more x false m n (e ∷ es) h = either (is_over e es m) refl where
   either : (t : Bool) → is_over e es m ≡ t
       → (if (x || false) || is_over e es n then [] else e ∷ es) ≡ if_open x n (if t then [] else e ∷ es)
-  either true is = rw (or-false x, later ((first e es).moment + (first e es).buf_tm) m n h is, or-true x) refl
-  either false is = rw (or-false x) refl
+  either true is = rw (or-none x, later ((first e es).moment + (first e es).buf_tm) m n h is, or-all x) refl
+  either false is = rw (or-none x) refl
 
 module _ (c : Model) (b : ℕ) (p : Point) (before : Past) where
   -- a point without an event leaves the group or closes it
@@ -61,7 +54,7 @@ module _ (c : Model) (b : ℕ) (p : Point) (before : Past) where
     same (e ∷ es) = either (is_broken c b before) refl (is_over e es (now before)) refl where
       either : (x : Bool) → is_broken c b before ≡ x → (t : Bool) → is_over e es (now before) ≡ t
           → joined (event_of c b p before) (e ∷ es) ≡ joined (event_of c b p before) (if x || t then [] else e ∷ es)
-      either true is t it = rw (is, or-true (breaks c b p before)) refl
+      either true is t it = rw (is, or-all (breaks c b p before)) refl
       either false is true it = rw (later ((first e es).moment + (first e es).buf_tm) (now before) (now (p ∷ before)) (omega arith) it) (none (not (breaks c b p before || is_broken c b before))) where
         none : (x : Bool) → (if x && false && not (list_any (λ (f : Event). shares (note c b p before) f.note) (e ∷ es)) then event_of c b p before ∷ e ∷ es else event_of c b p before ∷ []) ≡ event_of c b p before ∷ []
         none true = refl

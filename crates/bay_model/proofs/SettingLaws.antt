@@ -21,6 +21,7 @@ use Rattle.bay_model.specs.Reports.{Offer, first_offer}
 use Rattle.bay_model.specs.Takes.{taken, given_by, given_report}
 use Rattle.bay_model.specs.Answers.{Turn, History, points, deed_at, singles_after}
 use Rattle.bay_model.proofs.Deeds.{OfSingles, outcome, component_}
+use Rattle.list_laws.proofs.Places.{swap-number as swap}
 
 -- a client's write is of an attribute that clients write
 abbrev IsWritable : Model → Deed → Type 0
@@ -29,14 +30,6 @@ IsWritable c _ = ⊤
 
 not-active : model.writable ≢ model.active
 not-active e = cc
-
-swap : (a b : ℕ) → (a == b) ≡ (b == a)
-swap a b = either (eqb_tells a b) (eqb_tells b a) where
-  either : ((a == b) ≡ true) × (a ≡ b) ⊎ ((a == b) ≡ false) × (a ≢ b) → ((b == a) ≡ true) × (b ≡ a) ⊎ ((b == a) ≡ false) × (b ≢ a) → (a == b) ≡ (b == a)
-  either (inl e) (inl f) = e.0 ∙ sym f.0
-  either (inl e) (inr f) = absurd (f.1 (sym e.1))
-  either (inr e) (inl f) = absurd (e.1 (sym f.1))
-  either (inr e) (inr f) = e.0 ∙ sym f.0
 
 choose : (t : Bool) (a b e : Value) → b ≡ e → unwrap_or (if t then Some a else None) b ≡ (if t then a else e)
 choose true a b e h = refl

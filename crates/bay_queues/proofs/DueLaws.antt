@@ -24,7 +24,7 @@ use Rattle.assoc_table.specs.Tables as tables
 use Rattle.assoc_table.specs.Tables.{IsNumber, row_of, with_row}
 use Rattle.control_core.specs.Controls as core
 use Rattle.control_core.specs.Controls.{ControlState, idle, done, due, lost_by, stopped, causes_at, went_at}
-use Rattle.control_core.proofs.TurnLaws.{no-cause}
+use Rattle.control_core.proofs.TurnLaws.{no-cause, none-runs}
 use Rattle.control_core.specs.Standing.{put_for}
 use Rattle.control_core.specs.Tables.{Table, no_control, control_at, changed, after_deed, opened_of}
 use Rattle.control_core.specs.TerminationsWait.{endings, due_for, one_for}
@@ -76,18 +76,13 @@ due-kept t k s below is e j = due-changed t k s e below (subst (λ x. due_for e 
 pub due-begun : (t : Table) (k : ℕ) (s : ControlState) → k < length t.controls → run t k ≡ None → (e j : ℕ) → due_for e (run t j) ≤ due_for e (run (changed t k s) j)
 due-begun t k s below none e j = due-changed t k s e below (subst (λ x. due_for e x ≤ due_for e s.execution) (sym none) (omega arith)) j
 
--- an accepted call finds a control that executes nothing
-nothing-runs : (x : Option Execution) → is_some x ≡ false → x ≡ None
-nothing-runs None h = refl
-nothing-runs (Some e) h = absurd cc
-
 typed-first : (now : ℕ) (call : Call) (a : ℕ) (v : Value) (s : ControlState) → is_command s.config.kind call (command_of v) ≡ true → accepted ≡ went_at now call a v s → went_by (first_cause (causes_at now call a (command_of v) s)) ≡ accepted
 typed-first now call a v s typed h = sym (h ∙ ap (λ b. if b then went_by (first_cause (causes_at now call a (command_of v) s)) else mistyped) typed)
 
 pub idle-at-call : (now : ℕ) (call : Call) (a : ℕ) (v : Value) (s : ControlState) → is_command s.config.kind call (command_of v) ≡ true → accepted ≡ went_at now call a v s → s.execution ≡ None
-idle-at-call now select a v s typed h = nothing-runs s.execution (no-cause (is_some s.execution, 12) (drop 1 (causes_at now select a (command_of v) s)) (typed-first now select a v s typed h)).0
-idle-at-call now cancel a v s typed h = nothing-runs s.execution (no-cause (is_some s.execution, 12) (drop 1 (causes_at now cancel a (command_of v) s)) (typed-first now cancel a v s typed h)).0
-idle-at-call now operate a v s typed h = nothing-runs s.execution (no-cause (is_some s.execution, 12) (drop 2 (causes_at now operate a (command_of v) s)) (no-cause (s.config.model == 0, 1) (drop 1 (causes_at now operate a (command_of v) s)) (typed-first now operate a v s typed h)).1).0
+idle-at-call now select a v s typed h = none-runs s.execution (no-cause (is_some s.execution, 12) (drop 1 (causes_at now select a (command_of v) s)) (typed-first now select a v s typed h)).0
+idle-at-call now cancel a v s typed h = none-runs s.execution (no-cause (is_some s.execution, 12) (drop 1 (causes_at now cancel a (command_of v) s)) (typed-first now cancel a v s typed h)).0
+idle-at-call now operate a v s typed h = none-runs s.execution (no-cause (is_some s.execution, 12) (drop 2 (causes_at now operate a (command_of v) s)) (no-cause (s.config.model == 0, 1) (drop 1 (causes_at now operate a (command_of v) s)) (typed-first now operate a v s typed h)).1).0
 
 -- ---- as they are opened
 

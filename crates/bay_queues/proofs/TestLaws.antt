@@ -5,7 +5,7 @@ use Rattle.std.specs.List.{list_any}
 use Rattle.std.proofs.lemmas.List.{length-set, set-set, set-get_or}
 use Rattle.list_laws.proofs.Among.{Among, all-of, of-all, ending as among-ending}
 use Rattle.list_laws.proofs.Distinct.{none_left, none_right}
-use Rattle.list_laws.proofs.Places.{same-number as same, other-number as apart, swap-number}
+use Rattle.list_laws.proofs.Places.{same-number as same, other-number as apart, swap-number, same-of}
 use Rattle.sv_base.specs.declared.numbers.CtlNo.{CtlNo}
 use Rattle.sv_base.specs.declared.value.Value.{Value}
 use Rattle.bay_model.specs.Commands.{is_test}
@@ -21,7 +21,6 @@ use Rattle.assoc_table.specs.Tables.{IsNumber, row_of}
 use Rattle.control_core.specs.Controls.{ControlState, is_enhanced, called_by, operated_by}
 use Rattle.control_core.specs.Tables.{control_at, changed, after_deed}
 use Rattle.control_core.specs.TerminationsWait.{endings, due_for}
-use Rattle.control_core.proofs.EndingLaws.{are_same}
 use Rattle.bay_queues.specs.Calling.{IsTest, AreTests, AreFree, enhanced_in}
 use Rattle.bay_queues.specs.Heard.{ctl_no, tests_in}
 use Rattle.bay_queues.specs.Queued.{Queued, ends_in, AreDue, IsQueued}
@@ -174,7 +173,7 @@ told-once q a [] h j low = omega (arith, low)
 told-once q a (k ∷ ks) h j low = by (k.0 == j) refl (told-once q a ks (record { apart = h.apart.1; each = λ i d below. h.each (suc i) d (omega (arith, below)) }) j low) where
   by : (b : Bool) → (k.0 == j) ≡ b → ends_in j (row_of q.rows a) + endings j (map waiting_of (map (λ k. Termination k true) ks)) ≤ due_for a (run q.table j)
       → ends_in j (row_of q.rows a) + (if b then suc (endings j (map waiting_of (map (λ k. Termination k true) ks))) else endings j (map waiting_of (map (λ k. Termination k true) ks))) ≤ due_for a (run q.table j)
-  by true e rest = subst (λ i. ends_in i (row_of q.rows a) + suc (endings i (map waiting_of (map (λ k. Termination k true) ks))) ≤ due_for a (run q.table i)) (are_same k.0 j e)
+  by true e rest = subst (λ i. ends_in i (row_of q.rows a) + suc (endings i (map waiting_of (map (λ k. Termination k true) ks))) ≤ due_for a (run q.table i)) (same-of k.0 j e)
       (omega (arith, (h.each 0 k (omega arith)).free, (h.each 0 k (omega arith)).due, told-ends ks k.0 h.apart.0))
   by false e rest = rest
 

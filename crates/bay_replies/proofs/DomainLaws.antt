@@ -8,7 +8,7 @@ use Rattle.sv_base.specs.declared.config.LnDef.{LnDef}
 use Rattle.bay_model.specs.Configured.{with_domain, domains_after}
 use Rattle.bay_model.specs.Named.{configured_model}
 use Rattle.bay_model.specs.Names.{is_domain}
-use Rattle.bay_replies.proofs.NameLaws.{same-octets}
+use Rattle.list_laws.proofs.Distinct.{octets_same}
 
 module _ (domain : List ℕ) where
   abbrev has : List (List ℕ) → Bool
@@ -38,7 +38,7 @@ module _ (domain : List ℕ) where
       there (e ∷ es) h same = either (bytes_eq d e) refl h (λ k. there es k same)
         where
           either : (t : Bool) → bytes_eq d e ≡ t → (t || list_any (bytes_eq d) es) ≡ true → (list_any (bytes_eq d) es ≡ true → has es ≡ true) → (bytes_eq e domain || has es) ≡ true
-          either true is h go = ap (λ x. bytes_eq x domain || has es) (sym (same-octets d e is)) ∙ ap (λ t. t || has es) same
+          either true is h go = ap (λ x. bytes_eq x domain || has es) (sym (octets_same d e is)) ∙ ap (λ t. t || has es) same
           either false is h go = last (bytes_eq e domain) (go h)
             where
               last : (t : Bool) → has es ≡ true → (t || has es) ≡ true

@@ -1,6 +1,6 @@
 -- What a request that fits asks for is there.
-use Rattle.std.proofs.Common.{◌≡◌, ◌<◌, ℕ, Bool, true, false, List, [], ◌∷◌, length, refl, sym, subst, true≢false}
-use Rattle.std.specs.Prelude.{◌&&◌, nat_lt}
+use Rattle.std.proofs.Common.{◌≡◌, ◌<◌, ℕ, Bool, true, List, [], ◌∷◌, length, subst}
+use Rattle.std.specs.Prelude.{nat_lt}
 use Rattle.std.specs.List.{All, list_all}
 use Rattle.std.proofs.lemmas.Bool.{ltb-true}
 use Rattle.std.proofs.lemmas.List.Elements.{All-nil, All-cons}
@@ -18,27 +18,20 @@ use Rattle.set_view.specs.Shapes.{AreThere}
 use Rattle.data_sets.specs.Books.{Book, set_at}
 use Rattle.bay_replies.specs.Asking.{IsFitting}
 use Rattle.bay_replies.specs.Reading.{IsTarget}
-
-left-of : (x y : Bool) → (x && y) ≡ true → x ≡ true
-left-of true y h = refl
-left-of false y h = absurd (true≢false (sym h))
-
-right-of : (x y : Bool) → (x && y) ≡ true → y ≡ true
-right-of true y h = h
-right-of false y h = absurd (true≢false (sym h))
+use Rattle.list_laws.proofs.Truths.{and-left, and-right}
 
 module _ (c : Config) where
   abbrev counts : Counts
   counts = record { nodes = length (node_rows c); blocks = length c.blocks; controls = length c.controls }
 
   target-there : (t : Target) → target_fits counts t ≡ true → IsTarget c t
-  target-there (targets.Node n name) h = subst (λ k. n.0 < k) (count-rows c) (ltb-true n.0 (length (node_rows c)) (left-of (nat_lt n.0 (length (node_rows c))) (name_fits name) h))
+  target-there (targets.Node n name) h = subst (λ k. n.0 < k) (count-rows c) (ltb-true n.0 (length (node_rows c)) (and-left (nat_lt n.0 (length (node_rows c))) (name_fits name) h))
   target-there (targets.Missing name) h = tt
   target-there (targets.Alternate name) h = tt
 
   all-there : (ts : List Target) → list_all (target_fits counts) ts ≡ true → All (IsTarget c) ts
   all-there [] h = All-nil (IsTarget c)
-  all-there (t ∷ ts) h = All-cons (IsTarget c) t ts (target-there t (left-of (target_fits counts t) (list_all (target_fits counts) ts) h)) (all-there ts (right-of (target_fits counts t) (list_all (target_fits counts) ts) h))
+  all-there (t ∷ ts) h = All-cons (IsTarget c) t ts (target-there t (and-left (target_fits counts t) (list_all (target_fits counts) ts) h)) (all-there ts (and-right (target_fits counts t) (list_all (target_fits counts) ts) h))
 
   -- the variables of a read
   pub targets-there : (s : Service) (ts : List Target) (spec : Bool) → s ≡ services.Read ts spec → IsFitting c s → All (IsTarget c) ts

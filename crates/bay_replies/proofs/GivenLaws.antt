@@ -24,11 +24,11 @@ use Rattle.bay_model.specs.Points.{Past}
 use Rattle.bay_model.specs.Reads.{read_attribute, read_leaf, read_tree, read_role, read_node, structured, joined, outcome_of_read}
 use Rattle.bay_model.specs.Singles.{arrival}
 use Rattle.bay_model.specs.Values.{value_at}
-use Rattle.list_laws.proofs.Among.{Each, each-both}
+use Rattle.list_laws.proofs.Among.{Each, each-both, each-of}
 use Rattle.setting_groups.specs.Grouped.{Grouped, copy_in, copy_of, domain_at, setting_at}
 use Rattle.setting_groups.specs.Opened.{IsGrouped}
 use Rattle.setting_groups.specs.Parts.{part_read}
-use Rattle.setting_groups.proofs.FirstLaws.{domain-within, groups-there, is-twin, settings-count, twin-edited}
+use Rattle.setting_groups.proofs.FirstLaws.{domain-within, groups-there, is-twin, settings-count, twin-edited, generated-count, lines-count}
 use Rattle.setting_groups.proofs.PartLaws.{copy-reads, reads}
 use Rattle.node_reads.specs.Reading.{read_by, read_side, leaf_read}
 use Rattle.node_reads.proofs.ReadLaws.{same-tree}
@@ -42,8 +42,9 @@ use Rattle.bay_replies.specs.Plain.{HasGroups, IsPlainLeaf, IsPlainTree, ArePlai
 use Rattle.bay_replies.specs.Points.{arrivals}
 use Rattle.bay_replies.specs.Reading.{selecting_of}
 use Rattle.bay_replies.specs.Standing.{IsServed, StandAt}
-use Rattle.bay_replies.proofs.NodeLaws.{count-generated, count-lines, each-among, node-plain}
+use Rattle.bay_replies.proofs.NodeLaws.{node-plain}
 use Rattle.bay_replies.proofs.PointLaws.{attribute-same, component-same}
+use Rattle.list_laws.proofs.Places.{get-within as there}
 
 -- ---- who holds an attribute
 
@@ -88,18 +89,13 @@ line-held c x below =
     let lines : List Attr = attrs_defined c 0 c.attrs in
     let more : List Attr = flat_map (attrs_generated c) c.controls in
     subst (λ (as_ : List Attr). IsHeldAttr (unwrap_or (slice_get as_ x) no_attr)) (append_assoc lines more (twins c 0 c.attrs))
-    (at-held (lines ++ more) (twins c 0 c.attrs) x (omega (arith, below, length-append lines more, count-lines c 0 c.attrs, count-generated c c.controls)) (each-both IsHeldAttr lines more (lines-held c 0 c.attrs) (generated-held c c.controls)))
+    (at-held (lines ++ more) (twins c 0 c.attrs) x (omega (arith, below, length-append lines more, lines-count c 0 c.attrs, generated-count c c.controls)) (each-both IsHeldAttr lines more (lines-held c 0 c.attrs) (generated-held c c.controls)))
 
 held-read : (c : Model) (access : Access) (x : ℕ) (past : Past) → IsHeld access → read_attribute c access x past ≡ Ok (value_at c x past)
 held-read c model.reported x past h = refl
 held-read c model.writable x past h = refl
 held-read c model.active x past h = refl
 held-read c model.edited x past h = absurd h
-
-there : {X : Type 0} (xs : List X) (n : ℕ) → n < length xs → (x : X) × (slice_get xs n ≡ Some x)
-there [] n h = absurd (omega (arith, h))
-there (x ∷ xs) zero h = (x, refl)
-there (x ∷ xs) (suc n) h = there xs n (omega (arith, h))
 
 -- ---- trees with the same leaves
 
@@ -115,7 +111,7 @@ module _ (attrs blocks : ℕ) (G : ℕ → Type 0) (f g : Leaf → Result Value 
 
 -- what stands at a node of a configuration that is grouped
 pub plain-at : (c : Config) → IsGrouped c → (x : ℕ) → IsPlainNode (length (attributes c)) (length c.blocks) (length c.controls) (HasGroups c) (node_of (configured_model c) x)
-plain-at c grouped x = node-plain c (HasGroups c) (each-among (λ (g : SgDef). HasGroups c (domain_number c g.domain)) c.groups (groups-there c grouped)) x
+plain-at c grouped x = node-plain c (HasGroups c) (each-of (λ (g : SgDef). HasGroups c (domain_number c g.domain)) c.groups (groups-there c grouped)) x
 
 -- ---- what is lent
 

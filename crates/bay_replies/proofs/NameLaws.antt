@@ -3,28 +3,13 @@ use Rattle.std.proofs.Common.{◌≡◌, ◌<◌, ℕ, zero, suc, ◌+◌, Bool,
 use Rattle.std.specs.Prelude.{if◌then◌else◌, slice_get, unwrap_or}
 use Rattle.std.specs.Option.{option_map}
 use Rattle.std.specs.Str.{bytes_eq}
-use Rattle.std.proofs.lemmas.Slice.Eq.{bytes_eq-Decides}
 use Rattle.list_laws.proofs.Places.{place-cons}
 use Rattle.bay_model.specs.Model.{Node}
 use Rattle.bay_model.specs.Names.{is_below, insert_name, sorted}
 use Rattle.name_order.specs.Sorting.{names_above}
 use Rattle.bay_replies.specs.Replied.{empty_if}
-
--- ---- octets
-
-pub same-octets : (d e : List ℕ) → bytes_eq d e ≡ true → d ≡ e
-same-octets d e is = grind (arith, bytes_eq-Decides d e, is)
-
-equal-octets : (d e : List ℕ) → d ≡ e → bytes_eq d e ≡ true
-equal-octets d e is = grind (arith, bytes_eq-Decides d e, is)
-
-pub turned : (d e : List ℕ) → bytes_eq d e ≡ bytes_eq e d
-turned d e = by (bytes_eq d e) (bytes_eq e d) refl refl
-  where
-    by : (x y : Bool) → bytes_eq d e ≡ x → bytes_eq e d ≡ y → bytes_eq d e ≡ bytes_eq e d
-    by true y h k = h ∙ sym (equal-octets e d (sym (same-octets d e h)))
-    by false true h k = equal-octets d e (sym (same-octets e d k)) ∙ sym k
-    by false false h k = h ∙ sym k
+use Rattle.list_laws.proofs.Distinct.{octets_turned as turned, octets_same, octets_equal}
+use Rattle.list_laws.proofs.Truths.{and-left, and-right}
 
 -- ---- names, of which so many are empty
 
@@ -152,14 +137,6 @@ nameless-found domain (n ∷ ns) h =
     by true is go = ap suc (none-nameless domain ns (λ k y there q. omega (arith, h 0 (suc k) n y refl there is q)))
     by false is go = go ∙ ap (λ t. if t then 1 else 0) (sym (next (position (has_name domain []) ns)))
 
-left-of : (x y : Bool) → (x && y) ≡ true → x ≡ true
-left-of true y h = refl
-left-of false y h = absurd (true≢false (sym h))
-
-right-of : (x y : Bool) → (x && y) ≡ true → y ≡ true
-right-of true y h = h
-right-of false y h = absurd (true≢false (sym h))
-
 got-below : {X : Type 0} (xs : List X) (n : ℕ) (x : X) → slice_get xs n ≡ Some x → n < length xs
 got-below [] n x is = absurd cc
 got-below (y ∷ ys) zero x is = omega arith
@@ -175,8 +152,8 @@ found-apart none domain ns h j k x y a b p q = cc (at j x a p, at k y b q)
     at : (n : ℕ) (z : Node) → slice_get ns n ≡ Some z → has_name domain [] z ≡ true → position (has_name domain []) ns ≡ Some n
     at n z is named =
         let same : unwrap_or (slice_get ns n) none ≡ z = ap (λ o. unwrap_or o none) is in
-        let d : domain ≡ z.domain = same-octets domain z.domain (left-of (bytes_eq domain z.domain) (bytes_eq [] z.item) named) in
-        let i : [] ≡ z.item = same-octets [] z.item (right-of (bytes_eq domain z.domain) (bytes_eq [] z.item) named) in
+        let d : domain ≡ z.domain = octets_same domain z.domain (and-left (bytes_eq domain z.domain) (bytes_eq [] z.item) named) in
+        let i : [] ≡ z.item = octets_same [] z.item (and-right (bytes_eq domain z.domain) (bytes_eq [] z.item) named) in
         ap (λ e. position (has_name e []) ns) d ∙ (ap (λ e. position (has_name z.domain e) ns) i ∙ (ap (λ (w : Node). position (has_name w.domain w.item) ns) (sym same) ∙ h n (got-below ns n z is)))
 
 pub empty-variables : (none : Node) (domain : List ℕ) (ns : List Node) → AreFound none ns

@@ -1,9 +1,8 @@
 -- The nodes of a configuration are plain.
-use Rattle.std.proofs.Common.{◌≡◌, ◌≤◌, ◌<◌, inl, inr, ℕ, zero, suc, ◌+◌, Bool, true, false, cond, not, ◌&&◌, List, [], ◌∷◌, ◌++◌, length, map, filter, flat_map, refl, ap, ◌∙◌, arith, length-append}
+use Rattle.std.proofs.Common.{◌≡◌, ◌≤◌, ◌<◌, ℕ, zero, suc, ◌+◌, Bool, true, false, cond, not, ◌&&◌, List, [], ◌∷◌, ◌++◌, length, map, filter, flat_map, refl, ap, ◌∙◌, arith, length-append}
 use Rattle.std.specs.Prelude.{if◌then◌else◌, codes, nat_le, ◌==◌, Some, unwrap_or, slice_get}
 use Rattle.std.specs.Option.{option_map}
 use Rattle.std.specs.List.{find, list_any}
-use Rattle.std.proofs.lemmas.List.{length-map}
 use Rattle.std.specs.Str.{bytes_eq}
 use Rattle.sv_base.specs.declared.config.Config.{Config}
 use Rattle.sv_base.specs.declared.config.LnDef.{LnDef}
@@ -24,26 +23,12 @@ use Rattle.bay_model.specs.Named.{configured_model, nodes, places_in}
 use Rattle.bay_model.specs.NamedLines.{Line, is_setting, path_item, attribute_lines, node_line, block_lines, control_lines, group_line, domains, domain_number, generated, lines, insert_line, in_order, names_in}
 use Rattle.bay_model.specs.NameTree.{Forest, nothing, named, rest_of, first_name, is_itself, below, first_names, role_of, own_type, side_by_side, grown, longest, tree_of}
 use Rattle.bay_model.specs.Places.{Place, places, node_at, trees, tree_with, is_data_role, are_data, constraint, member_constraints, largest}
-use Rattle.list_laws.proofs.Among.{Among, Each, each-both}
+use Rattle.list_laws.proofs.Among.{Each, each-both, each-of, each-filter}
 use Rattle.bay_replies.specs.Plain.{IsPlainTree, ArePlainTrees, IsPlainRole, IsPlainNode, SelectsNothing}
+use Rattle.setting_groups.proofs.FirstLaws.{generated-count, lines-count}
+use Rattle.node_reads.proofs.ShapeLaws.{each-flat}
 
 -- ---- lists
-
-pub each-among : {X : Type 0} (P : X → Type 0) (xs : List X) → ((x : X) → Among x xs → P x) → Each P xs
-each-among P [] h = tt
-each-among P (x ∷ xs) h = (h x (inl refl), each-among P xs (λ y i. h y (inr i)))
-
-each-filter : {X : Type 0} (P : X → Type 0) (p : X → Bool) (xs : List X) → Each P xs → Each P (filter p xs)
-each-filter P p [] h = tt
-each-filter P p (x ∷ xs) h = by (p x) (each-filter P p xs h.1)
-  where
-    by : (t : Bool) → Each P (filter p xs) → Each P (cond t (x ∷ filter p xs) (filter p xs))
-    by true go = (h.0, go)
-    by false go = go
-
-each-spread : {X Y : Type 0} (P : Y → Type 0) (f : X → List Y) (xs : List X) → Each (λ x. Each P (f x)) xs → Each P (flat_map f xs)
-each-spread P f [] h = tt
-each-spread P f (x ∷ xs) h = each-both P (f x) (flat_map f xs) h.0 (each-spread P f xs h.1)
 
 module _ (attrs blocks controls : ℕ) (G : ℕ → Type 0) where
   abbrev IsRole : Role → Type 0
@@ -189,10 +174,6 @@ module _ (attrs blocks controls : ℕ) (G : ℕ → Type 0) where
 
 -- ---- a configuration
 
-pub count-lines : (c : Config) (x : ℕ) (as_ : List AttrDef) → length (attrs_defined c x as_) ≡ length as_
-count-lines c x [] = refl
-count-lines c x (a ∷ rest) = ap suc (count-lines c (1 + x) rest)
-
 count-twins : (c : Config) (x : ℕ) (as_ : List AttrDef) → length (twins c x as_) ≡ length (filter is_setting as_)
 count-twins c x [] = refl
 count-twins c x (a ∷ rest) = by (is_setting a) (count-twins c (1 + x) rest)
@@ -205,17 +186,13 @@ count-twins c x (a ∷ rest) = by (is_setting a) (count-twins c (1 + x) rest)
 abbrev generated_of : Config → CtlDef → Parameter → Attr
 generated_of c k p = record { access = reported; kind = kind_of p.kind; dchg = false; qchg = false; dupd = false; initial = p.value ∷ []; domain = domain_number c k.domain; original = 0 }
 
-pub count-generated : (c : Config) (ks : List CtlDef) → length (flat_map (attrs_generated c) ks) ≡ length (flat_map parameters ks)
-count-generated c [] = refl
-count-generated c (k ∷ ks) = omega (arith, length-append (attrs_generated c k) (flat_map (attrs_generated c) ks), length-append (parameters k) (flat_map parameters ks), length-map (parameters k) (generated_of c k), count-generated c ks)
-
 module _ (c : Config) (G : ℕ → Type 0) (groups : Each (λ (g : SgDef). G (domain_number c g.domain)) c.groups) where
   abbrev pub counted : ℕ
   counted = length (attributes c)
 
   pub count-attributes : length (attributes c) ≡ length c.attrs + (length (generated c) + length (filter is_setting c.attrs))
   count-attributes = length-append (attrs_defined c 0 c.attrs) (flat_map (attrs_generated c) c.controls ++ twins c 0 c.attrs)
-      ∙ omega (arith, count-lines c 0 c.attrs, length-append (flat_map (attrs_generated c) c.controls) (twins c 0 c.attrs), count-generated c c.controls, count-twins c 0 c.attrs)
+      ∙ omega (arith, lines-count c 0 c.attrs, length-append (flat_map (attrs_generated c) c.controls) (twins c 0 c.attrs), generated-count c c.controls, count-twins c 0 c.attrs)
 
   abbrev IsOwnLine : Line → Type 0
   IsOwnLine = IsLine (length (attributes c)) (length c.blocks) (length c.controls) G
@@ -236,7 +213,7 @@ module _ (c : Config) (G : ℕ → Type 0) (groups : Each (λ (g : SgDef). G (do
 
   names-plain : (domain : List ℕ) → Each IsOwnName (names_in c domain)
   names-plain domain =
-      each-spread IsOwnName (λ (l : Line). l.names) (filter (λ (l : Line). bytes_eq l.domain domain) (in_order (lines c)))
+      each-flat IsOwnName (λ (l : Line). l.names) (filter (λ (l : Line). bytes_eq l.domain domain) (in_order (lines c)))
       (each-filter IsOwnLine (λ (l : Line). bytes_eq l.domain domain) (in_order (lines c)) (order-plain counted (length c.blocks) (length c.controls) G (lines c) lines-plain))
 
   abbrev IsNode : Node → Type 0
@@ -258,7 +235,7 @@ module _ (c : Config) (G : ℕ → Type 0) (groups : Each (λ (g : SgDef). G (do
   )
 
   nodes-plain : Each IsNode (nodes c)
-  nodes-plain = each-spread IsNode (λ domain. map (node_at domain) (places_in c domain)) (domains c) (in-domains (domains c))
+  nodes-plain = each-flat IsNode (λ domain. map (node_at domain) (places_in c domain)) (domains c) (in-domains (domains c))
     where
       in-domains : (ds : List (List ℕ)) → Each (λ domain. Each IsNode (map (node_at domain) (places_in c domain))) ds
       in-domains [] = tt

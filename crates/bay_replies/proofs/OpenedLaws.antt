@@ -18,7 +18,7 @@ numbers : (ns : List ℕ) → map (λ (n : NodeId). n.0) (map node_id ns) ≡ ns
 numbers [] = refl
 numbers (n ∷ ns) = ap (λ l. n ∷ l) (numbers ns)
 
-same-sets : (ss : List DataSet) → map data_set (map booked (map set_row ss)) ≡ ss
+pub same-sets : (ss : List DataSet) → map data_set (map booked (map set_row ss)) ≡ ss
 same-sets [] = refl
 same-sets (s ∷ ss) = ap₂ (λ (d : DataSet) (ds : List DataSet). d ∷ ds) (ap (λ l. record { domain = s.domain; item = s.item; nodes = l }) (numbers s.nodes)) (same-sets ss)
 
@@ -33,7 +33,7 @@ not-empty : (ln name : List ℕ) → ln ++ 36 ∷ name ≢ []
 not-empty [] name e = cc
 not-empty (o ∷ os) name e = cc
 
-at-named : (ns : List Node) (defs : List SetDef) (k : ℕ) → k < length (map booked (map set_row (map (set_defined ns) defs))) → (slice_index_or (map booked (map set_row (map (set_defined ns) defs))) k no_set).name.item ≢ []
+pub at-named : (ns : List Node) (defs : List SetDef) (k : ℕ) → k < length (map booked (map set_row (map (set_defined ns) defs))) → (slice_index_or (map booked (map set_row (map (set_defined ns) defs))) k no_set).name.item ≢ []
 at-named ns [] k below = absurd (omega (arith, below))
 at-named ns (d ∷ defs) zero below = not-empty d.ln d.name
 at-named ns (d ∷ defs) (suc k) below = at-named ns defs k (omega (arith, below))

@@ -73,7 +73,7 @@ pub nothing-read : (r : Result Value ℕ) → deed_of (outcome_of_read r) ≡ no
 nothing-read (Ok v) = refl
 nothing-read (Err code) = refl
 
-result-read : (r : Result Value ℕ) → result_of (outcome_of_read r) ≡ r
+pub result-read : (r : Result Value ℕ) → result_of (outcome_of_read r) ≡ r
 result-read (Ok v) = refl
 result-read (Err code) = refl
 

@@ -21,8 +21,9 @@ use Rattle.bay_model.specs.Singles.{Single, reads, writes, fails, outcome_at, af
 use Rattle.bay_replies.specs.Asking.{IsReading}
 use Rattle.bay_replies.specs.Plain.{SelectsNothing}
 use Rattle.bay_replies.specs.Points.{arrivals, AreAllowed}
-use Rattle.bay_replies.proofs.NodeLaws.{each-among, node-plain}
+use Rattle.bay_replies.proofs.NodeLaws.{node-plain}
 use Rattle.bay_replies.proofs.PointLaws.{ReadsOnly, nothing-read, rest-only}
+use Rattle.list_laws.proofs.Among.{each-of}
 
 -- whatever domain
 abbrev IsAny : ℕ → Type 0
@@ -67,7 +68,7 @@ module _ (c : Config) (a n m : ℕ) where
 
   nodes-only : (ns : List ℕ) → All IsAllowed ns → ReadsOnly IsQuiet (map reads ns)
   nodes-only [] h = tt
-  nodes-only (x ∷ ns) h = ((node-plain c IsAny (each-among (λ (g : SgDef). IsAny (domain_number c g.domain)) c.groups (λ g i. tt)) x).member (All-head IsAllowed x ns h), nodes-only ns (All-tail IsAllowed x ns h))
+  nodes-only (x ∷ ns) h = ((node-plain c IsAny (each-of (λ (g : SgDef). IsAny (domain_number c g.domain)) c.groups (λ g i. tt)) x).member (All-head IsAllowed x ns h), nodes-only ns (All-tail IsAllowed x ns h))
 
   set-only : (p : DataSet → Bool) (ss : List DataSet) → All (λ (s : DataSet). All IsAllowed s.nodes) ss → ReadsOnly IsQuiet (option_map_or (λ (s : DataSet). map reads s.nodes) (find p ss) [])
   set-only p [] h = tt

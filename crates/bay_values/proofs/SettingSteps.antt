@@ -6,7 +6,7 @@ use Rattle.std.proofs.lemmas.List.{length-set, length_push, get_or-set_other}
 use Rattle.std.proofs.lemmas.Grind.{get_or-set_at}
 use Rattle.std.proofs.lemmas.List.Folds.{find-append}
 use Rattle.std.proofs.lemmas.List.Sums.{sum_by-set, sum_by-le}
-use Rattle.list_laws.proofs.Places.{at_set}
+use Rattle.list_laws.proofs.Places.{at_set, same-of as same}
 use Rattle.sv_base.specs.Same.{is_same}
 use Rattle.sv_base.specs.declared.config.Config.{Config}
 use Rattle.sv_base.specs.declared.value.Value.{Value}
@@ -21,6 +21,7 @@ use Rattle.trigger_core.specs.Noted.{change_of}
 use Rattle.bay_values.specs.Changed.{given, change_from}
 use Rattle.bay_values.specs.Marked.{is_marked, one_if, marked_in, IsDone}
 use Rattle.bay_values.proofs.DistinctChanges.{distinct-push}
+use Rattle.setting_groups.proofs.LoadLaws.{left}
 
 -- ---- an attribute that a later setting names
 
@@ -28,19 +29,9 @@ or_some : (o d : Option Value) → is_some o ≡ true → option_or o d ≡ o
 or_some None d is = cc
 or_some (Some v) d is = refl
 
-or_none : (o : Option Value) → option_or o None ≡ o
-or_none None = refl
-or_none (Some v) = refl
-
 passed_by : (b : Bool) (o : Option Value) (v : Value) → (b ≡ true → is_some o ≡ true) → option_or o (if b then Some v else None) ≡ o
 passed_by true o v is = or_some o (Some v) (is refl)
-passed_by false o v is = or_none o
-
-same : (y x : ℕ) → (y == x) ≡ true → y ≡ x
-same y x is = by (eqb_tells y x) where
-  by : ((y == x) ≡ true) × (y ≡ x) ⊎ ((y == x) ≡ false) × (y ≢ x) → y ≡ x
-  by (inl e) = e.1
-  by (inr e) = cc
+passed_by false o v is = left o
 
 -- it counts for nothing
 pub passed : (x : ℕ) (s : Setting) (later : List Setting) → is_some (set_to s.attr.0 later) ≡ true → set_to x (s ∷ later) ≡ set_to x later
@@ -55,11 +46,11 @@ none_of (Some v) is = cc
 value_by : (b : Bool) (o : Option Value) (v : Value) (here there was : Stored) → (b ≡ true → o ≡ None) → (b ≡ true → here ≡ was) → there ≡ given o was
     → (if b then with_value v here else there) ≡ given (option_or o (if b then Some v else None)) was
 value_by true o v here there was none is are = rw (none refl, is refl) refl
-value_by false o v here there was none is are = are ∙ ap (λ p. given p was) (sym (or_none o))
+value_by false o v here there was none is are = are ∙ ap (λ p. given p was) (sym (left o))
 
 mark_by : (b : Bool) (o : Option Value) (v : Value) (was : Bool) → (b ≡ true → o ≡ None) → was ≡ is_some o → (if b then true else was) ≡ is_some (option_or o (if b then Some v else None))
 mark_by true o v was none is = rw (none refl) refl
-mark_by false o v was none is = is ∙ ap is_some (sym (or_none o))
+mark_by false o v was none is = is ∙ ap is_some (sym (left o))
 
 change_by : (b : Bool) (o : Option Value) (v : Value) (was : Option Change) (new : Change) (f : Value → Change) → (b ≡ true → o ≡ None) → (b ≡ true → new ≡ f v) → was ≡ option_map f o
     → option_or was (if b then Some new else None) ≡ option_map f (option_or o (if b then Some v else None))

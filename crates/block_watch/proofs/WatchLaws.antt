@@ -22,14 +22,12 @@ use Rattle.touch_index.specs.Gathering.{Gathered, no_note, no_trg, note_at, trg_
 use Rattle.report_block.specs.declared.block.ReportBlock.{ReportBlock}
 use Rattle.block_watch.specs.declared.watch.Watch.{Watch}
 use Rattle.block_watch.specs.Watched.{IsIndexed, IsWatching, AreBlank, index_after, members_in, options_in}
+use Rattle.list_laws.proofs.Options.{some_is}
 
 -- another component than DatSet leaves the number of the data set
 abbrev pub KeepsSet : Comp → Option ℕ → Option ℕ → Type 0
 KeepsSet comps.DatSet was now = Unit {0}
 KeepsSet _ was now = now ≡ was
-
-pub some-same : {A : Type 0} (x y : A) → Some x ≡ Some y → x ≡ y
-some-same x y e = cc
 
 -- ---- lists
 
@@ -52,7 +50,7 @@ pub mapped : {A : Type 0} (f : A → A) (xs ys : List A) → length ys ≡ lengt
 mapped f [] [] count at = refl
 mapped f [] (y ∷ ys) count at = absurd (omega (arith, count))
 mapped f (x ∷ xs) [] count at = absurd (omega (arith, count))
-mapped f (x ∷ xs) (y ∷ ys) count at = ap₂ (λ a rest. a ∷ rest) (some-same y (f x) (at 0 x refl)) (mapped f xs ys (omega (arith, count)) (λ i z h. at (suc i) z h))
+mapped f (x ∷ xs) (y ∷ ys) count at = ap₂ (λ a rest. a ∷ rest) (some_is y (f x) (at 0 x refl)) (mapped f xs ys (omega (arith, count)) (λ i z h. at (suc i) z h))
 
 pub part-there : (parts : List ReportBlock) (b : ℕ) → b < length parts → (part : ReportBlock) × (slice_get parts b ≡ Some part)
 part-there [] b below = absurd (omega (arith, below))
@@ -63,7 +61,7 @@ part-there (p ∷ parts) (suc b) below = part-there parts b (omega (arith, below
 
 pub option-at : (parts : List ReportBlock) (b : ℕ) (part : ReportBlock) → slice_get parts b ≡ Some part → trg_at (options_in parts) b ≡ trg_of part.block.options.trg_ops
 option-at [] b part at = cc
-option-at (p ∷ parts) zero part at = ap (λ (q : ReportBlock). trg_of q.block.options.trg_ops) (some-same p part at)
+option-at (p ∷ parts) zero part at = ap (λ (q : ReportBlock). trg_of q.block.options.trg_ops) (some_is p part at)
 option-at (p ∷ parts) (suc b) part at = option-at parts b part at
 
 -- ---- the index

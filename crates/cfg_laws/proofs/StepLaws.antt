@@ -7,6 +7,7 @@ use Rattle.cfg_parser.specs.declared.fault.Kind.TheVariants as kinds
 use Rattle.cfg_parser.specs.Kinds.{number_of}
 use Rattle.cfg_parser.specs.Reader.{◌>>=◌, given}
 use Rattle.cfg_refusals.specs.Words.{Else}
+use Rattle.list_laws.proofs.Options.{none_some}
 
 pub itself : {A : Type 0} → A ↔ A
 itself = (λ a. a, λ a. a)
@@ -85,14 +86,11 @@ if-wrong true r cause kind Right After is step = stops cause kind Right After (�
 abbrev pub Reads : {A : Type 0} → Option A → Type 0 → Type 0
 Reads {A} o Right = ((x : A) → o ≡ Some x → Right) × (Right → (x : A) × (o ≡ Some x))
 
-none-is : {A : Type 0} (x : A) → None ≡ Some x → ⊥
-none-is x e = absurd cc e
-
 pub given-right : {A B C : Type 0} (o : Option A) (f : A → Result B Kind) (on : Result B Kind → Result C Kind) (cause kind : Kind) (Right After : Type 0)
     → ((k : Kind) → on (Err k) ≡ err_of C k) → Reads o Right → ((x : A) → o ≡ Some x → (on (f x) ≡ err_of C kind) ↔ After)
     → (on (given cause o >>= f) ≡ err_of C kind) ↔ Else (number_of kind) (number_of cause) Right After
 given-right {A} {B} {C} None f on cause kind Right After keeps reads step =
-    let at = stops {A = C} cause kind Right After (λ right. let x = reads.1 right in none-is x.0 x.1) in
+    let at = stops {A = C} cause kind Right After (λ right. let x = reads.1 right in none_some x.0 x.1) in
     (λ e. at.0 (sym (keeps cause) ∙ e), λ w. keeps cause ∙ at.1 w)
 given-right {A} {B} {C} (Some x) f on cause kind Right After keeps reads step = goes (on (f x)) cause kind Right After (reads.0 x refl) (step x refl)
 

@@ -32,6 +32,7 @@ use Rattle.cfg_refusals.specs.Texts.{HasNoNewline, HasRefused, EndsEarly, IsLost
 use Rattle.cfg_laws.proofs.NameLaws.{none-is, among-is, node-is, member-is}
 use Rattle.cfg_laws.proofs.StepLaws.{same-kind}
 use Rattle.cfg_laws.proofs.LineLaws.{line-refused}
+use Rattle.cfg_parser.proofs.LookLaws.{more-refused}
 
 abbrev refused : (A : Type 0) → ℕ → Kind → Result A CfgFault
 refused A line kind = Err (faults.Refused line kind)
@@ -209,14 +210,10 @@ looked-lost all (one ∷ before) line kind e = by (looked_at all before) refl e 
         let l = go (is ∙ same) in
         record { later = one ∷ l.later; one = l.one; before = l.before; split = ap (λ (ls : List Line). one ∷ ls) l.split; found = l.found; number = l.number; cause = l.cause }
 
-later-lost : (all later before : List Line) (fault : CfgFault) → looked_at all before ≡ Err fault → looked_at all (later ++ before) ≡ Err fault
-later-lost all [] before fault is = is
-later-lost all (line ∷ later) before fault is = ap (λ r. r >>= λ found. look_at all (number_behind (later ++ before)) line) (later-lost all later before fault is)
-
 lost-looked : (all among : List Line) (line : ℕ) (kind : Kind) → Lost all among line (number_of kind) → looked_at all among ≡ refused (Unit {0}) line kind
 lost-looked all among line kind l =
     ap (looked_at all) l.split
-    ∙ later-lost all l.later (l.one ∷ l.before) (faults.Refused line kind)
+    ∙ more-refused all l.later (l.one ∷ l.before) (faults.Refused line kind)
     (ap (λ r. r >>= λ found. look_at all (number_behind l.before) l.one) (all-found-read all l.before l.found) ∙ is-lost all (number_behind l.before) l.one line kind l.number l.cause)
 
 -- the whole

@@ -3,15 +3,11 @@ use Rattle.std.proofs.Common.{◌≡◌, ℕ, ◌+◌, Bool, true, false, cond, 
 use Rattle.std.specs.Option.{option_map}
 use Rattle.std.specs.List.{list_any}
 use Rattle.std.specs.Str.{bytes_eq}
-use Rattle.std.proofs.lemmas.Bool.{cond_both}
+use Rattle.std.proofs.lemmas.Bool.{cond_both, or_right}
 use Rattle.std.proofs.lemmas.Slice.Eq.{bytes_eq-Decides}
 use Rattle.list_laws.proofs.Places.{place-cons}
 use Rattle.cfg_lines.specs.Keys.{is_among, added}
-
-pub turned : (a b c : Bool) → (a || (b || c)) ≡ (b || (a || c))
-turned true true c = refl
-turned true false c = refl
-turned false b c = refl
+use Rattle.list_laws.proofs.Truths.{or-turn as turned}
 
 pub any-last : {X : Type 0} (p : X → Bool) (xs : List X) (x : X) → list_any p (xs ++ x ∷ []) ≡ (p x || list_any p xs)
 any-last p [] x = refl
@@ -21,14 +17,10 @@ there : (b c : Bool) → (b ≡ true → c ≡ true) → c ≡ (b || c)
 there true c h = h refl
 there false c h = refl
 
-or-right : (a b : Bool) → b ≡ true → (a || b) ≡ true
-or-right true b e = refl
-or-right false b e = e
-
 among-side : (p : List ℕ → Bool) (k : List ℕ) (ks : List (List ℕ)) (key : List ℕ) (b : Bool) → bytes_eq key k ≡ b → (b || is_among ks key) ≡ true → p key ≡ true
     → (is_among ks key ≡ true → list_any p ks ≡ true) → (p k || list_any p ks) ≡ true
 among-side p k ks key true e h passes rest = ap (λ (x : Bool). x || list_any p ks) (ap p (sym ((bytes_eq-Decides key k).0 e)) ∙ passes)
-among-side p k ks key false e h passes rest = or-right (p k) (list_any p ks) (rest h)
+among-side p k ks key false e h passes rest = or_right (p k) (list_any p ks) (rest h)
 
 -- a test that a key passes is passed by one of those among which it is
 pub any-among : (p : List ℕ → Bool) (keys : List (List ℕ)) (key : List ℕ) → is_among keys key ≡ true → p key ≡ true → list_any p keys ≡ true

@@ -3,10 +3,10 @@ use Rattle.std.proofs.Common.{◌≡◌, ℕ, zero, suc, ◌<◌, Bool, true, fa
 use Rattle.std.specs.List.{list_any}
 use Rattle.std.specs.Str.{bytes_eq}
 use Rattle.std.proofs.lemmas.Bool.{cond_both, cases_eq, cond-true, eq-eqb, or_right}
-use Rattle.std.proofs.lemmas.Bool.Decides.{same_from_decides}
-use Rattle.std.proofs.lemmas.Slice.Eq.{bytes_eq-Decides}
 use Rattle.cfg_lines.specs.Keys.{is_among}
 use Rattle.cfg_lines.specs.Paths.{above_within, above, is_structure, is_taken}
+use Rattle.list_laws.proofs.Distinct.{octets_turned}
+use Rattle.list_laws.proofs.Truths.{or-pairs as shuffled}
 
 -- a structure above the path passes the test
 pub above-found : (p : List ℕ → Bool) (path : List ℕ) (n i : ℕ) → i < n → get_or path i 0 ≡ 36 → p (take i path) ≡ true → list_any p (above_within n path) ≡ true
@@ -18,12 +18,6 @@ above-found p path (suc n) i lt is passes = elim (cases_eq i n) [
       let rest = above-found p path n i (omega (arith, lt, ne)) is passes in
       cond_both _ (take n path ∷ above_within n path) (above_within n path) (λ fronts. list_any p fronts ≡ true) (λ e. or_right (p (take n path)) _ rest) (λ e. rest)
 ]
-
-shuffled : (a b c d : Bool) → ((a || b) || (c || d)) ≡ ((a || c) || (b || d))
-shuffled true b c d = refl
-shuffled false true true d = refl
-shuffled false true false d = refl
-shuffled false false c d = refl
 
 pub any-or : {X : Type 0} (p q : X → Bool) (xs : List X) → list_any (λ x. p x || q x) xs ≡ (list_any p xs || list_any q xs)
 any-or p q [] = refl
@@ -37,14 +31,11 @@ any-none : {X : Type 0} (xs : List X) → list_any (λ x. false) xs ≡ false
 any-none [] = refl
 any-none (x ∷ xs) = any-none xs
 
-pub bytes_eq-turned : (a b : List ℕ) → bytes_eq a b ≡ bytes_eq b a
-bytes_eq-turned a b = same_from_decides (bytes_eq a b) (bytes_eq b a) (bytes_eq-Decides a b) (λ e. sym ((bytes_eq-Decides b a).0 e), λ e. (bytes_eq-Decides b a).1 (sym e))
-
 -- one of those is among these, where one of these is among those
 pub any-turned : (xs ys : List (List ℕ)) → list_any (λ x. is_among ys x) xs ≡ list_any (λ y. is_among xs y) ys
 any-turned [] ys = sym (any-none ys)
 any-turned (x ∷ xs) ys = ap (λ b. is_among ys x || b) (any-turned xs ys)
-    ∙ (ap (λ b. b || list_any (λ y. is_among xs y) ys) (any-same (λ y. bytes_eq x y) (λ y. bytes_eq y x) ys (λ y. bytes_eq-turned x y))
+    ∙ (ap (λ b. b || list_any (λ y. is_among xs y) ys) (any-same (λ y. bytes_eq x y) (λ y. bytes_eq y x) ys (λ y. octets_turned x y))
     ∙ sym (any-or (λ y. bytes_eq y x) (λ y. is_among xs y) ys))
 
 pub taken-split : (others : List (List ℕ)) (path : List ℕ) → is_taken others path ≡ ((is_among others path || is_structure others path) || list_any (λ front. is_among others front) (above path))

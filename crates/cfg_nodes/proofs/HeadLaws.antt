@@ -10,6 +10,7 @@ use Rattle.cfg_lines.specs.Keys.{is_among, added}
 use Rattle.cfg_lines.specs.Paths.{above, above_within, below, node_key, item_key}
 use Rattle.cfg_lines.proofs.KeyLaws.{any-added}
 use Rattle.cfg_nodes.specs.Asked.{is_wanted, head, HasHeads, IsApart}
+use Rattle.list_laws.proofs.Truths.{fails-back as differs}
 
 abbrev Names : Type 0
 Names = List (List ℕ)
@@ -56,10 +57,6 @@ head-below front name = sym (head-front (below front name) (length front) (omega
     at : (xs : List ℕ) → get_or (xs ++ 36 ∷ name) (length xs) 0 ≡ 36
     at [] = refl
     at (x ∷ xs) = at xs
-
-differs : (a b : Bool) → (a ≡ true → b ≡ true) → b ≡ false → a ≡ false
-differs true b go off = sym (go refl) ∙ off
-differs false b go off = refl
 
 -- nothing of a logical node is wanted whose head isn't among the heads
 pub apart : (refs heads : Names) (domain node key : List ℕ) (may : Bool) → HasHeads refs heads → key ≡ node_key domain node → may ≡ is_among heads (head key) → may ≡ false → IsApart refs domain node

@@ -24,10 +24,6 @@ same-place structures node other place here there =
     (bytes_eq-Decides other (get_or structures place [])).0 (position-Some (bytes_eq other) structures place [] there).1
     ∙ sym ((bytes_eq-Decides node (get_or structures place [])).0 (position-Some (bytes_eq node) structures place [] here).1)
 
-pub assoc : (a b c : Bool) → ((a || b) || c) ≡ (a || (b || c))
-assoc true b c = refl
-assoc false b c = refl
-
 -- a name that has a place is among the structures already
 pub among-there : (structures : Names) (node : List ℕ) (place : ℕ) → place_in structures node ≡ Some place → (q : List ℕ) → (bytes_eq q node || is_among structures q) ≡ is_among structures q
 among-there structures node place is q = by (bytes_eq q node) refl

@@ -15,6 +15,7 @@ use Rattle.cfg_lines.specs.Nodes.{reaches}
 use Rattle.cfg_lines.proofs.KeyLaws.{any-among}
 use Rattle.cfg_lines.proofs.PathLaws.{above-found}
 use Rattle.cfg_nodes.specs.Asked.{is_wanted, wanted}
+use Rattle.list_laws.proofs.Truths.{or-right, fails-back as fails, or-left}
 
 abbrev Names : Type 0
 Names = List (List ℕ)
@@ -57,17 +58,6 @@ wanted-below refs node name is wants = or_right (is_among refs name) _ (by (or_c
     by (inr further) = above-further (λ front. is_among refs front) node name (length name) (omega arith) is further
 
 -- ---- what isn't wanted is nowhere above or at what is
-fails : (a b : Bool) → (a ≡ true → b ≡ true) → b ≡ false → a ≡ false
-fails true b go off = sym (go refl) ∙ off
-fails false b go off = refl
-
-left-fails : (a b : Bool) → (a || b) ≡ false → a ≡ false
-left-fails true b off = off
-left-fails false b off = refl
-
-right-fails : (a b : Bool) → (a || b) ≡ false → b ≡ false
-right-fails true b off = absurd cc
-right-fails false b off = off
 
 edges-apart : (node path : List ℕ) (n : ℕ) (part : List ℕ) (parts : Names) → is_among (above_within n path) node ≡ false → fold (with_edge node) parts (edges_within n part path) ≡ parts
 edges-apart node path zero part parts off = refl
@@ -77,8 +67,8 @@ edges-apart node path (suc n) part parts off = by (slice_index path n == 36) off
         → ((ps : Names) → is_among (above_within n path) node ≡ false → fold (with_edge node) ps (edges_within n (take n path) path) ≡ ps)
         → ((ps : Names) → is_among (above_within n path) node ≡ false → fold (with_edge node) ps (edges_within n part path) ≡ ps)
         → fold (with_edge node) parts (cond b ((take n path, part) ∷ edges_within n (take n path) path) (edges_within n part path)) ≡ parts
-    by true off here rest = ap (λ b. fold (with_edge node) (cond b (added parts part) parts) (edges_within n (take n path) path)) (left-fails (bytes_eq node (take n path)) _ off)
-        ∙ here parts (right-fails (bytes_eq node (take n path)) _ off)
+    by true off here rest = ap (λ b. fold (with_edge node) (cond b (added parts part) parts) (edges_within n (take n path) path)) (or-left (bytes_eq node (take n path)) _ off)
+        ∙ here parts (or-right (bytes_eq node (take n path)) _ off)
     by false off here rest = rest parts off
 
 module _ (refs : Names) (node : List ℕ) (wants : is_wanted refs node ≡ true) where

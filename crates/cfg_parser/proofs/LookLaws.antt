@@ -38,7 +38,7 @@ unfolding config_at
 config-read told found config text read looked is = ap (λ r. r >>= λ told. looked_at told told >>= λ found. Ok (config_of told)) read ∙ (ap (λ r. r >>= λ found. Ok (config_of told)) looked ∙ ap Ok (sym is))
 
 -- a refusal stays, whatever follows
-more-refused : (all more before : List Line) (fault : CfgFault) → looked_at all before ≡ Err fault → looked_at all (more ++ before) ≡ Err fault
+pub more-refused : (all more before : List Line) (fault : CfgFault) → looked_at all before ≡ Err fault → looked_at all (more ++ before) ≡ Err fault
 more-refused all [] before fault is = is
 more-refused all (line ∷ more) before fault is = ap (λ r. r >>= λ found. look_at all (number_of (more ++ before)) line) (more-refused all more before fault is)
 

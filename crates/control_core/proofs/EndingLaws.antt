@@ -1,9 +1,8 @@
 -- How many terminations are in queues that grow and shrink.
-use Rattle.std.proofs.Common.{◌≡◌, ◌≢◌, ℕ, suc, ◌+◌, ◌≤◌, Bool, true, false, List, [], ◌∷◌, ◌++◌, map, refl, sym, ap, ◌∙◌, subst, arith, inl, inr, ◌==◌}
+use Rattle.std.proofs.Common.{◌≡◌, ◌≢◌, ℕ, suc, ◌+◌, ◌≤◌, Bool, true, false, List, [], ◌∷◌, ◌++◌, map, refl, sym, ap, ◌∙◌, subst, arith, ◌==◌}
 use Rattle.std.specs.Prelude.{Option, None, Some, is_some, ◌&&◌, if◌then◌else◌}
 use Rattle.std.specs.Option.{option_and_then}
-use Rattle.std.proofs.lemmas.Bool.Decides.{eqb_tells}
-use Rattle.list_laws.proofs.Places.{same-number as same, other-number as apart}
+use Rattle.list_laws.proofs.Places.{same-number as same, other-number as apart, same-of}
 use Rattle.sv_base.specs.declared.value.Value.{Value}
 use Rattle.bay_model.specs.Points.{Past}
 use Rattle.bay_model.specs.Associations.{ends}
@@ -17,9 +16,6 @@ given t n = if t then n else 0
 
 pub false_true : false ≡ true → ⊥
 false_true e = cc
-
-pub are_same : (a b : ℕ) → (a == b) ≡ true → a ≡ b
-are_same a b h = elim (eqb_tells a b) [ inl t ↦ t.1 | inr t ↦ absurd (false_true (sym t.0 ∙ h)) ]
 
 pub endings-append : (k : ℕ) (ws vs : List Waiting) → endings k (ws ++ vs) ≡ endings k ws + endings k vs
 endings-append k [] vs = omega arith
@@ -100,7 +96,7 @@ loss-other a b (Some e) h = either (e.by == b) refl where
   gone d v orphaned i = refl
 
   either : (t : Bool) → (e.by == b) ≡ t → due_for a (if t then ends_by_loss e e.phase else Some e) ≡ one_for a e.by e.phase
-  either true i = gone e.by e.oper e.phase (subst (λ d. (d == a) ≡ false) (sym (are_same e.by b i)) h)
+  either true i = gone e.by e.oper e.phase (subst (λ d. (d == a) ≡ false) (sym (same-of e.by b i)) h)
   either false i = refl
 
 -- ---- whether the association of what runs is open
@@ -151,7 +147,7 @@ due-closed past a (Some e) closed h = by e.phase h where
   by ended h = either (e.by == a) refl where
     either : (t : Bool) → (e.by == a) ≡ t → given t 1 ≡ 0
     either false i = refl
-    either true i = absurd (false_true (sym (ap is_some closed) ∙ (ap (λ d. is_some (ends d past)) (sym (are_same e.by a i)) ∙ h)))
+    either true i = absurd (false_true (sym (ap is_some closed) ∙ (ap (λ d. is_some (ends d past)) (sym (same-of e.by a i)) ∙ h)))
   by orphaned h = refl
 
 -- what runs for one runs for no other
@@ -165,7 +161,7 @@ due-one a b (Some e) h not = by e.phase h where
     either : (t u : Bool) → (e.by == a) ≡ t → (e.by == b) ≡ u → 1 ≤ given t 1 → given u 1 ≡ 0
     either t false i j h = refl
     either false true i j h = absurd (omega (arith, h))
-    either true true i j h = absurd (not (sym (are_same e.by b j) ∙ are_same e.by a i))
+    either true true i j h = absurd (not (sym (same-of e.by b j) ∙ same-of e.by a i))
 
 pub due-few : (a : ℕ) (x : Option Execution) → due_for a x ≤ 1
 due-few a None = omega arith

@@ -24,10 +24,11 @@ use Rattle.bay_model.specs.Answers.{Turn, History, points, deed_at, singles_afte
 use Rattle.bay_model.specs.Acceptance.{IsHistory}
 use Rattle.control_core.specs.TerminationsWait.{endings, due_for, asked}
 use Rattle.control_core.specs.ExecutionsAre.{Operated, followed, last_oper, is_done, is_loss, gives, was_done, was_lost, lost_before, is_among, is_over, tests_in, executed, first_for, ends_by}
-use Rattle.list_laws.proofs.Places.{same-number as same}
-use Rattle.control_core.proofs.EndingLaws.{are_same, false_true}
+use Rattle.list_laws.proofs.Places.{same-number as same, same-of}
+use Rattle.control_core.proofs.EndingLaws.{false_true}
 use Rattle.control_core.proofs.SingleLaws.{IsQuiet, OfSingles, outcome, write-quiet}
 use Rattle.control_core.proofs.TurnLaws.{terminations_wait, fresh as fresh_tests}
+use Rattle.list_laws.proofs.Truths.{or-all}
 
 abbrev point : ℕ → ℕ → Deed → Point
 point n m d = record { moment = m; step = n; deed = d }
@@ -47,13 +48,9 @@ IsState told t s o l d v = ((t || s) ≡ true) × (o ≡ false) × (v ≡ false)
 IsState left t s o l d v = ((t || s) ≡ false) × (o ≡ true) × (l ≡ true) × (v ≡ false)
 IsState over t s o l d v = (v ≡ true) × ((t || (d || l)) ≡ true)
 
-or-true : (b : Bool) → (b || true) ≡ true
-or-true true = refl
-or-true false = refl
-
 deep-true : (b d : Bool) → (b || (d || true)) ≡ true
 deep-true true d = refl
-deep-true false d = or-true d
+deep-true false d = or-all d
 
 or-more : (t s x : Bool) → (t || s) ≡ true → (t || (x || s)) ≡ true
 or-more true s x h = refl
@@ -72,10 +69,10 @@ after_done left = over
 after_done over = over
 
 done-moves : (st : State) (t s o l d v : Bool) → IsState st t s o l d v → IsState (after_done st) t (not l || s) o l true (o || v)
-done-moves begun t s o l d v h = (rw (h.0, h.3) refl, h.2, rw (h.2, h.5) refl, or-true t)
-done-moves told t s o l d v h = (or-more t s (not l) h.0, h.1, rw (h.1, h.2) refl, or-true t)
-done-moves left t s o l d v h = (rw h.1 refl, or-true t)
-done-moves over t s o l d v h = (rw h.0 (or-true o), or-true t)
+done-moves begun t s o l d v h = (rw (h.0, h.3) refl, h.2, rw (h.2, h.5) refl, or-all t)
+done-moves told t s o l d v h = (or-more t s (not l) h.0, h.1, rw (h.1, h.2) refl, or-all t)
+done-moves left t s o l d v h = (rw h.1 refl, or-all t)
+done-moves over t s o l d v h = (rw h.0 (or-all o), or-all t)
 
 abbrev after_loss : State → State
 after_loss begun = left
@@ -87,7 +84,7 @@ loss-moves : (st : State) (t s o l d v : Bool) → IsState st t s o l d v → Is
 loss-moves begun t s o l d v h = (rw (h.0, h.1) refl, rw (h.0, h.1) refl, refl, rw (h.0, h.1, h.5) refl)
 loss-moves told t s o l d v h = (rw h.0 refl, deep-true t d)
 loss-moves left t s o l d v h = (h.0, rw h.0 refl, refl, rw (h.0, h.3) refl)
-loss-moves over t s o l d v h = (rw h.0 (or-true ((t || s) || false)), deep-true t d)
+loss-moves over t s o l d v h = (rw h.0 (or-all ((t || s) || false)), deep-true t d)
 
 abbrev state_run : ℕ → Value → State → Option Execution
 state_run a v begun = Some (record { by = a; oper = v; phase = underway })
@@ -146,7 +143,7 @@ abbrev without : ℕ → Option Execution → Option Execution
 without b x = option_and_then (λ (e : Execution). if e.by == b then ends_by_loss e e.phase else Some e) x
 
 turned-same : (a b : ℕ) → (a == b) ≡ true → (b == a) ≡ true
-turned-same a b h = subst (λ i. (i == a) ≡ true) (are_same a b h) (same a)
+turned-same a b h = subst (λ i. (i == a) ≡ true) (same-of a b h) (same a)
 
 loss-one : (k n m b : ℕ) (o : Operated) (x : Option Execution) → Reads k o x → Reads k (followed (point n m (lost b)) o) (without b x)
 loss-one k n m b o x h = either (b == o.by) refl where
@@ -258,7 +255,7 @@ module _ (c : Model) (k : ℕ) (enhanced : is_enhanced c k ≡ true) where
   terminates : (n m b j : ℕ) (before : Past) → Holds before → (1 ≤ endings j (waiting c b before)) → ((e : ℕ) → endings e (waiting c b before) ≡ due_for b (execution c e before)) → Holds (point n m (terminated b j) ∷ before)
   terminates n m b j before h some waits = either (j == k) refl where
     either : (t : Bool) → (j == k) ≡ t → ReadsLast k (option_map (followed (point n m (terminated b j))) (last_oper k before)) (if t then None else execution c k before)
-    either true e = given-last k n m b j (last_oper k before) (execution c k before) e h (omega (arith, subst (λ i. 1 ≤ endings i (waiting c b before)) (are_same j k e) some, waits k))
+    either true e = given-last k n m b j (last_oper k before) (execution c k before) e h (omega (arith, subst (λ i. 1 ≤ endings i (waiting c b before)) (same-of j k e) some, waits k))
     either false e = still_ n m (terminated b j) before refl (λ i. refl) (λ i. rw e (and-false (b == i))) h
 
   takes : (n m b : ℕ) (past : Past) → Holds past → ((e : ℕ) → endings e (waiting c b past) ≡ due_for b (execution c e past)) → Holds (point n m (taken c b (arrival n m ∷ past)).deed ∷ past)
@@ -411,7 +408,7 @@ rests k (Some o) x h none = ap finish h.runs ∙ (by h.state h.is_at none ∙ sy
   same_ told t s o_ l d v h none = refl
   same_ over t s o_ l d v h none = refl
   same_ begun t s o_ l d v h none = absurd (false_true (sym none ∙ rw (h.0, h.3, h.4) refl))
-  same_ left t s o_ l d v h none = absurd (false_true (sym none ∙ rw (h.1, h.3) (or-true (not t && not d && not l))))
+  same_ left t s o_ l d v h none = absurd (false_true (sym none ∙ rw (h.1, h.3) (or-all (not t && not d && not l))))
 
   by : (st : State) → IsAt k o st → ends_by k o ≡ false → finish (state_run o.by o.oper st) ≡ state_run o.by o.oper st
   by st is none = same_ st _ _ _ _ _ _ is none

@@ -23,8 +23,8 @@ use Rattle.bay_model.specs.Reports.{Offer, first_offer}
 use Rattle.bay_model.specs.Takes.{taken, given_by, given_report}
 use Rattle.bay_model.specs.Answers.{Turn, History, points, deed_at, singles_after}
 use Rattle.control_core.specs.SelectionsAre.{started, has_selected}
-use Rattle.list_laws.proofs.Places.{same-number as same}
-use Rattle.control_core.proofs.EndingLaws.{are_same, false_true}
+use Rattle.list_laws.proofs.Places.{same-number as same, same-of}
+use Rattle.control_core.proofs.EndingLaws.{false_true}
 use Rattle.control_core.proofs.SingleLaws.{IsBare, OfSingles, outcome, write-bare}
 use Rattle.control_core.proofs.TurnLaws.{no-cause}
 
@@ -94,9 +94,9 @@ agrees-ends a b here timeout None y h = by (b == a) where
 agrees-ends a b here timeout (Some s) y h = by (s.by == b) (s.by == a) (b == a) refl refl refl h where
   by : (t u w : Bool) → (s.by == b) ≡ t → (s.by == a) ≡ u → (b == a) ≡ w → AgreesBy here timeout s.since u y → Agrees a here timeout (if t then None else Some s) (if w then None else y)
   by true u true e f g h = tt
-  by true true false e f g h = absurd (false_true (sym g ∙ (ap (λ i. i == a) (sym (are_same s.by b e)) ∙ f)))
+  by true true false e f g h = absurd (false_true (sym g ∙ (ap (λ i. i == a) (sym (same-of s.by b e)) ∙ f)))
   by true false false e f g h = h
-  by false true true e f g h = absurd (false_true (sym e ∙ (ap (λ i. s.by == i) (are_same b a g ∙ sym (are_same s.by a f)) ∙ same s.by)))
+  by false true true e f g h = absurd (false_true (sym e ∙ (ap (λ i. s.by == i) (same-of b a g ∙ sym (same-of s.by a f)) ∙ same s.by)))
   by false false true e f g h = subst (λ i. AgreesBy here timeout s.since i None) (sym f) tt
   by false u false e f g h = subst (λ i. AgreesBy here timeout s.since i y) (sym f) h
 
@@ -114,8 +114,8 @@ agrees-renews a b here timeout (Some s) y mine h = by (s.by == b) (s.by == a) (b
   by false u w e f g mine h = absurd (false_true (sym e ∙ mine))
   by true true true e f g mine h = subst (λ i. AgreesBy here timeout here i (option_map (λ s. here) y)) (sym f) (ap (option_map (λ s. here)) h)
   by true false false e f g mine h = subst (λ i. AgreesBy here timeout here i y) (sym f) h
-  by true true false e f g mine h = absurd (false_true (sym g ∙ (ap (λ i. i == a) (sym (are_same s.by b e)) ∙ f)))
-  by true false true e f g mine h = absurd (false_true (sym f ∙ (ap (λ i. s.by == i) (sym (are_same b a g)) ∙ e)))
+  by true true false e f g mine h = absurd (false_true (sym g ∙ (ap (λ i. i == a) (sym (same-of s.by b e)) ∙ f)))
+  by true false true e f g mine h = absurd (false_true (sym f ∙ (ap (λ i. s.by == i) (sym (same-of b a g)) ∙ e)))
 
 module _ (c : Model) (k : ℕ) (selectable : is_selectable c k ≡ true) where
   abbrev timeout : ℕ
@@ -191,7 +191,7 @@ module _ (c : Model) (k : ℕ) (selectable : is_selectable c k ≡ true) where
     either : (t : Bool) → (j == k) ≡ t → Agrees a (now (arrival n m ∷ before)) timeout (if t then Some (record { by = b; since = now (arrival n m ∷ before); command = command_of v }) else selection c k before)
         (if t && (b == a) then Some (now (arrival n m ∷ before)) else started c k a before)
     either true e = agrees-selects a b (now (arrival n m ∷ before)) timeout (selection c k before) (started c k a before) (command_of v)
-        (unselected b v (arrival n m ∷ before) (subst (λ i. went c i select b v (arrival n m ∷ before) ≡ accepted) (are_same j k e) is)) (arrived n m before h a)
+        (unselected b v (arrival n m ∷ before) (subst (λ i. went c i select b v (arrival n m ∷ before) ≡ accepted) (same-of j k e) is)) (arrived n m before h a)
     either false e = arrived n m before h a
   calls n m b j cancel v before h is a = either (j == k) where
     either : (t : Bool) → Agrees a (now (arrival n m ∷ before)) timeout (if t then without_a b (selection c k before) else selection c k before) (if t && (b == a) then None else started c k a before)
@@ -206,7 +206,7 @@ module _ (c : Model) (k : ℕ) (selectable : is_selectable c k ≡ true) where
 
     either : (t : Bool) → (j == k) ≡ t → Agrees a (now (arrival n m ∷ before)) timeout (if t then operated c k b (now (arrival n m ∷ before)) (selection c k before) else selection c k before)
         (if t && (b == a) then (if (control_of c k).sbo_class == 0 then None else option_map (λ s. now (arrival n m ∷ before)) (started c k a before)) else started c k a before)
-    either true e = once ((control_of c k).sbo_class == 0) (own b v (arrival n m ∷ before) (subst (λ i. went c i operate b v (arrival n m ∷ before) ≡ accepted) (are_same j k e) is))
+    either true e = once ((control_of c k).sbo_class == 0) (own b v (arrival n m ∷ before) (subst (λ i. went c i operate b v (arrival n m ∷ before) ≡ accepted) (same-of j k e) is))
     either false e = arrived n m before h a
 
   selects : (n m b j : ℕ) (before : Past) → Holds before → can_select c j (arrival n m ∷ before) ≡ true → Holds (point n m (selected_control b j) ∷ before)
@@ -224,7 +224,7 @@ module _ (c : Model) (k : ℕ) (selectable : is_selectable c k ≡ true) where
         (if t && (b == a) then Some (now (arrival n m ∷ before)) else started c k a before)
     either true e = agrees-selects a b (now (arrival n m ∷ before)) timeout (selection c k before) (started c k a before) None
         (none_ (standing c k (arrival n m ∷ before)) (free (is_none (execution c k (arrival n m ∷ before))) (not (is_blocked k (arrival n m ∷ before))) (is_none (standing c k (arrival n m ∷ before)))
-        (subst (λ i. can_select c i (arrival n m ∷ before) ≡ true) (are_same j k e) is))) (arrived n m before h a)
+        (subst (λ i. can_select c i (arrival n m ∷ before) ≡ true) (same-of j k e) is))) (arrived n m before h a)
     either false e = arrived n m before h a
 
   of_singles : (n m b : ℕ) (past : Past) → Holds past → OfSingles c b (arrival n m ∷ past) (λ d. Holds (point n m d ∷ past))

@@ -25,8 +25,8 @@ use Rattle.bay_model.specs.Takes.{taken, given_by, given_report}
 use Rattle.bay_model.specs.Answers.{Turn, History, points, deed_at, singles_after}
 use Rattle.bay_model.specs.Acceptance.{IsHistory, fault_at, Fault, IsOpen, if_open}
 use Rattle.control_core.specs.TerminationsWait.{endings, due_for, IsOpenWhile, IsRunnerOpen, asked}
-use Rattle.list_laws.proofs.Places.{same-number as same, other-number as apart}
-use Rattle.control_core.proofs.EndingLaws.{given, are_same, false_true, endings-extended, told, told-append, done-puts, done-other, left, loss-own, loss-other, open-after, open-done, open-lost, due-closed, due-one, due-few}
+use Rattle.list_laws.proofs.Places.{same-number as same, other-number as apart, same-of}
+use Rattle.control_core.proofs.EndingLaws.{given, false_true, endings-extended, told, told-append, done-puts, done-other, left, loss-own, loss-other, open-after, open-done, open-lost, due-closed, due-one, due-few}
 use Rattle.control_core.proofs.SingleLaws.{IsQuiet, OfSingles, outcome, write-quiet}
 
 abbrev point : ℕ → ℕ → Deed → Point
@@ -118,7 +118,7 @@ not-running c k a v past h = either (is_command (control_of c k).kind operate (c
       (no-cause (is_some (execution c k past), 12) (further c k a (command_of v) past) one.1).0
   either false i = absurd (cc i)
 
-none-runs : (x : Option Execution) → is_some x ≡ false → x ≡ None
+pub none-runs : (x : Option Execution) → is_some x ≡ false → x ≡ None
 none-runs None h = refl
 none-runs (Some e) h = absurd (false_true (sym h))
 
@@ -170,7 +170,7 @@ operates c n m a k v past h idle = record {
   either : (b j : ℕ) (t : Bool) → (k == j) ≡ t → (endings j (waiting c b past) + pending a b j (tests c n past)) + pending a b j (tests_of c (called a k operate v))
       ≡ due_for b (execution_after c j (called a k operate v) (execution c j past))
   either b j false e = rw e (omega (arith, operated-other a b k j (is_enhanced c k && is_test v) e, h.waits b j))
-  either b j true e = subst (λ i. (endings i (waiting c b past) + pending a b i (tests c n past)) + pending a b i (tests_of c (called a k operate v)) ≡ due_for b (execution_after c i (called a k operate v) (execution c i past))) (are_same k j e)
+  either b j true e = subst (λ i. (endings i (waiting c b past) + pending a b i (tests c n past)) + pending a b i (tests_of c (called a k operate v)) ≡ due_for b (execution_after c i (called a k operate v) (execution c i past))) (same-of k j e)
       (let none = none-runs (execution c k past) idle in
       let zero_ : endings k (waiting c b past) + pending a b k (tests c n past) ≡ 0 = h.waits b k ∙ ap (due_for b) none in
       let add_ : (endings k (waiting c b past) + pending a b k (tests c n past)) + pending a b k (tests_of c (called a k operate v)) ≡ pending a b k (tests_of c (called a k operate v)) = omega (arith, zero_) in
@@ -239,7 +239,7 @@ dones c n m k good past h = record {
   either : (b j : ℕ) (t : Bool) → (k == j) ≡ t → endings j (waiting c b past) + endings j (ends_for b k good (execution c k past))
       ≡ due_for b (if k == j then option_and_then (λ (e : Execution). ends_by_done e e.phase) (execution c j past) else execution c j past)
   either b j false e = rw e (omega (arith, done-other b k j good (execution c k past) e, h.waits b j))
-  either b j true e = subst (λ i. endings i (waiting c b past) + endings i (ends_for b k good (execution c k past)) ≡ due_for b (if k == i then option_and_then (λ (e : Execution). ends_by_done e e.phase) (execution c i past) else execution c i past)) (are_same k j e)
+  either b j true e = subst (λ i. endings i (waiting c b past) + endings i (ends_for b k good (execution c k past)) ≡ due_for b (if k == i then option_and_then (λ (e : Execution). ends_by_done e e.phase) (execution c i past) else execution c i past)) (same-of k j e)
       (rw same (omega (arith, h.waits b k) ∙ done-puts b k k good (execution c k past) (same k)))
 
   opens : (j : ℕ) (t : Bool) → (k == j) ≡ t → IsRunnerOpen (point n m (finished k good) ∷ past) (if k == j then option_and_then (λ (e : Execution). ends_by_done e e.phase) (execution c j past) else execution c j past)
@@ -252,7 +252,7 @@ losses c n m a past h = record {
   open_ = λ j. open-lost past (point n m (lost a) ∷ past) a (execution c j past) (λ b e. rw e refl) (h.open_ j);
 } where
   either : (b j : ℕ) (t : Bool) → (a == b) ≡ t → endings j (waiting c b (point n m (lost a) ∷ past)) ≡ due_for b (left a (execution c j past))
-  either b j true e = rw e (subst (λ i. 0 ≡ due_for b (left i (execution c j past))) (sym (are_same a b e)) (sym (loss-own b (execution c j past))))
+  either b j true e = rw e (subst (λ i. 0 ≡ due_for b (left i (execution c j past))) (sym (same-of a b e)) (sym (loss-own b (execution c j past))))
   either b j false e = rw e (h.waits b j ∙ sym (loss-other b a (execution c j past) e))
 
 openings : (c : Model) (n m a o w size : ℕ) (past : Past) → Settled c past → ends a past ≡ None → Settled c (point n m (opened a o w size) ∷ past)
@@ -261,7 +261,7 @@ openings c n m a o w size past h closed = record {
   open_ = λ j. open-after past (point n m (opened a o w size) ∷ past) (execution c j past) (λ b i. opens b (a == b) i) (h.open_ j);
 } where
   either : (b j : ℕ) (t : Bool) → (a == b) ≡ t → endings j (waiting c b (point n m (opened a o w size) ∷ past)) ≡ due_for b (execution c j past)
-  either b j true e = rw e (sym (due-closed past b (execution c j past) (subst (λ i. ends i past ≡ None) (are_same a b e) closed) (h.open_ j)))
+  either b j true e = rw e (sym (due-closed past b (execution c j past) (subst (λ i. ends i past ≡ None) (same-of a b e) closed) (h.open_ j)))
   either b j false e = rw e (h.waits b j)
 
   opens : (b : ℕ) (t : Bool) → is_some (ends b past) ≡ true → is_some (if t then Some (record { opener = o; writer = w; size = size }) else ends b past) ≡ true
@@ -275,7 +275,7 @@ takes c n m a o ws past h first = record {
   open_ = λ j. open-same past (point n m (took a) ∷ past) (execution c j past) (λ b. refl) (h.open_ j);
 } where
   either : (b j : ℕ) (t : Bool) → (a == b) ≡ t → endings j (waiting c b (point n m (took a) ∷ past)) ≡ due_for b (execution c j past)
-  either b j true e = rw e (subst (λ i. endings j (drop 1 (waiting c i past)) ≡ due_for i (execution c j past)) (are_same a b e) (ap (λ l. endings j (drop 1 l)) first ∙ (ap (endings j) (sym first) ∙ h.waits a j)))
+  either b j true e = rw e (subst (λ i. endings j (drop 1 (waiting c i past)) ≡ due_for i (execution c j past)) (same-of a b e) (ap (λ l. endings j (drop 1 l)) first ∙ (ap (endings j) (sym first) ∙ h.waits a j)))
   either b j false e = rw e (h.waits b j)
 
 -- a Take that gives a termination
@@ -298,14 +298,14 @@ gives c n m a k good ws past h first = record {
   opens j false = open-same past (point n m (terminated a k) ∷ past) (execution c j past) (λ b. refl) (h.open_ j)
 
   either : (b j : ℕ) (t u : Bool) → (a == b) ≡ t → (k == j) ≡ u → endings j (waiting c b (point n m (terminated a k) ∷ past)) ≡ due_for b (if k == j then None else execution c j past)
-  either b j true true e f = subst (λ i. endings j (waiting c i (point n m (terminated a k) ∷ past)) ≡ due_for i (if k == j then None else execution c j past)) (are_same a b e)
-      (subst (λ i. endings i (waiting c a (point n m (terminated a k) ∷ past)) ≡ due_for a (if k == i then None else execution c i past)) (are_same k j f)
+  either b j true true e f = subst (λ i. endings j (waiting c i (point n m (terminated a k) ∷ past)) ≡ due_for i (if k == j then None else execution c j past)) (same-of a b e)
+      (subst (λ i. endings i (waiting c a (point n m (terminated a k) ∷ past)) ≡ due_for a (if k == i then None else execution c i past)) (same-of k j f)
       (rw (same a, same k) (rest k ∙ omega (arith, one, due-few a (execution c k past)))))
-  either b j true false e f = subst (λ i. endings j (waiting c i (point n m (terminated a k) ∷ past)) ≡ due_for i (if k == j then None else execution c j past)) (are_same a b e)
+  either b j true false e f = subst (λ i. endings j (waiting c i (point n m (terminated a k) ∷ past)) ≡ due_for i (if k == j then None else execution c j past)) (same-of a b e)
       (rw (same a, f) (rest j ∙ (counts ∙ (ap (endings j) (sym first) ∙ h.waits a j)))) where
         counts : endings j ws ≡ endings j (ending k good ∷ ws)
         counts = rw f refl
-  either b j false true e f = rw (e, f) (subst (λ i. endings i (waiting c b past) ≡ 0) (are_same k j f) (h.waits b k ∙ due-one a b (execution c k past) (omega (arith, one)) (λ s. false_true (sym e ∙ (ap (λ i. a == i) s ∙ same a)))))
+  either b j false true e f = rw (e, f) (subst (λ i. endings i (waiting c b past) ≡ 0) (same-of k j f) (h.waits b k ∙ due-one a b (execution c k past) (omega (arith, one)) (λ s. false_true (sym e ∙ (ap (λ i. a == i) s ∙ same a)))))
   either b j false false e f = rw (e, f) (h.waits b j)
 
 -- ---- a turn

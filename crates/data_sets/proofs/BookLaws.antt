@@ -6,7 +6,6 @@ use Rattle.std.specs.List.{list_any}
 use Rattle.std.specs.Str.{bytes_eq}
 use Rattle.std.proofs.lemmas.Bool.Decides.{eqb_tells, leb_tells}
 use Rattle.std.proofs.lemmas.List.{length-set, map-append}
-use Rattle.std.proofs.lemmas.Slice.Eq.{bytes_eq-Decides}
 use Rattle.bay_model.specs.declared.request.SetName.{SetName}
 use Rattle.bay_model.specs.declared.request.Target.{Target}
 use Rattle.bay_model.specs.Model.{DataSet}
@@ -17,29 +16,17 @@ use Rattle.data_sets.specs.declared.book.DeleteFault.{DeleteFault}
 use Rattle.data_sets.specs.declared.book.DeleteFault.TheVariants as faults
 use Rattle.data_sets.specs.Standing.{StandsFor, IsPlain, IsNamed, data_set, counted}
 use Rattle.list_laws.proofs.Places.{at_own, at_set}
+use Rattle.list_laws.proofs.Truths.{or-right, or-left}
+use Rattle.list_laws.proofs.Distinct.{octets_same, octets_equal}
 
 -- ---- octets
-
-pub same_octets : (d e : List ℕ) → bytes_eq d e ≡ true → d ≡ e
-same_octets d e is = grind (arith, bytes_eq-Decides d e, is)
-
-equal_octets : (d e : List ℕ) → d ≡ e → bytes_eq d e ≡ true
-equal_octets d e is = grind (arith, bytes_eq-Decides d e, is)
 
 tells : (d e : List ℕ) → ((bytes_eq d e ≡ true) × (d ≡ e)) ⊎ ((bytes_eq d e ≡ false) × (d ≢ e))
 tells d e = by (bytes_eq d e) refl
   where
     by : (b : Bool) → bytes_eq d e ≡ b → ((bytes_eq d e ≡ true) × (d ≡ e)) ⊎ ((bytes_eq d e ≡ false) × (d ≢ e))
-    by true is = inl (is, same_octets d e is)
-    by false is = inr (is, λ same. true≢false (sym (equal_octets d e same) ∙ is))
-
-or-left : (x y : Bool) → (x || y) ≡ false → x ≡ false
-or-left true y h = h
-or-left false y h = refl
-
-or-right : (x y : Bool) → (x || y) ≡ false → y ≡ false
-or-right true y h = absurd (true≢false h)
-or-right false y h = h
+    by true is = inl (is, octets_same d e is)
+    by false is = inr (is, λ same. true≢false (sym (octets_equal d e same) ∙ is))
 
 head-same : (o p : ℕ) (os ps : List ℕ) → o ∷ os ≡ p ∷ ps → o ≡ p
 head-same o p os ps e = ap (λ l. slice_index_or l 0 0) e
@@ -158,7 +145,7 @@ module _ (b : Book) (n : ℕ) (all : List DataSet) (used : List (List ℕ)) (h :
   -- a DatSet that is named is the reference of a set that is there
   names_one : (d : List ℕ) → (o : Option ℕ) → IsPlace (λ s. bytes_eq d (reference s)) b.sets o → is_some o ≡ true → (r : List ℕ) → d ≡ r → ((k : ℕ) → k < length b.sets → reference (set_at b k) ≢ r) → ⊥
   names_one d None is some r same other = true≢false (sym some)
-  names_one d (Some k) is some r same other = other k is.0 (sym (same_octets d (reference (set_at b k)) is.1) ∙ same)
+  names_one d (Some k) is some r same other = other k is.0 (sym (octets_same d (reference (set_at b k)) is.1) ∙ same)
 
   module _ (name : SetName) (ts : List Target) (none : number_named name b ≡ None) (plain : IsPlain name.domain) where
     not_named : (k : ℕ) → k < length b.sets → is_name name (set_at b k).name ≡ false
@@ -170,7 +157,7 @@ module _ (b : Book) (n : ℕ) (all : List DataSet) (used : List (List ℕ)) (h :
     new_apart : (k : ℕ) → k < length b.sets → reference (set_at b k) ≢ reference (defined_set name ts)
     new_apart k below same =
         let parts = parted (set_at b k).name.domain name.domain (set_at b k).name.item name.item (h.plain k below) plain same in
-        true≢false (sym (and_both _ _ (equal_octets name.domain (set_at b k).name.domain (sym parts.0)) (equal_octets name.item (set_at b k).name.item (sym parts.1))) ∙ not_named k below)
+        true≢false (sym (and_both _ _ (octets_equal name.domain (set_at b k).name.domain (sym parts.0)) (octets_equal name.item (set_at b k).name.item (sym parts.1))) ∙ not_named k below)
 
     fresh : (j : ℕ) → j < length used → bytes_eq (slice_index_or used j []) (reference (defined_set name ts)) ≡ false
     fresh j below = elim (h.named j below) [
@@ -237,7 +224,7 @@ old_not zero j e = absurd (omega (arith, e))
 old_not (suc k) zero e = absurd (omega (arith, e))
 old_not (suc k) (suc j) e = old_not k j (omega (arith, e))
 
-old_one : (k i j : ℕ) → old k i ≡ old k j → i ≡ j
+pub old_one : (k i j : ℕ) → old k i ≡ old k j → i ≡ j
 old_one zero i j e = omega (arith, e)
 old_one (suc k) zero zero e = refl
 old_one (suc k) zero (suc j) e = absurd (omega (arith, e))
@@ -322,7 +309,7 @@ module _ (b : Book) (n k : ℕ) (all : List DataSet) (used : List (List ℕ)) (n
   and_right false y e = absurd (true≢false (sym e))
 
   has_reference : (j : ℕ) → is_name name (set_at b j).name ≡ true → reference_of name.domain name.item ≡ reference (set_at b j)
-  has_reference j is = ap₂ reference_of (same_octets name.domain (set_at b j).name.domain (and_left _ _ is)) (same_octets name.item (set_at b j).name.item (and_right _ _ is))
+  has_reference j is = ap₂ reference_of (octets_same name.domain (set_at b j).name.domain (and_left _ _ is)) (octets_same name.item (set_at b j).name.item (and_right _ _ is))
 
   others : (j : ℕ) → j < length b.sets → j ≢ k → is_name name (set_at b j).name ≡ false
   others j below not = by (is_name name (set_at b j).name) refl
@@ -406,7 +393,7 @@ module _ (b : Book) (n : ℕ) (all : List DataSet) (used : List (List ℕ)) (h :
 
   other : (r : List ℕ) (k j : ℕ) → number_referred r b ≡ Some k → j < length b.sets → k ≢ j → bytes_eq r (reference (set_at b j)) ≡ false
   other r k j is lj not = elim (tells r (reference (set_at b j))) [
-    | inl t ↦ absurd (not (h.apart k j (referred r k is).0 lj (sym (same_octets r (reference (set_at b k)) (referred r k is).1) ∙ t.1)))
+    | inl t ↦ absurd (not (h.apart k j (referred r k is).0 lj (sym (octets_same r (reference (set_at b k)) (referred r k is).1) ∙ t.1)))
     | inr t ↦ t.0
   ]
 

@@ -1,5 +1,5 @@
 -- A reply that deletes several sets, and one that defines none.
-use Rattle.std.proofs.Common.{◌≡◌, ◌<◌, ◌+◌, ◌-◌, ℕ, suc, Bool, true, false, not, List, [], ◌∷◌, ◌++◌, length, map, drop, refl, sym, ap, ap₂, subst, ◌∙◌, arith, inl, inr, Option, None, Some, is_some, Result, Ok, Err, slice_index_or, length-append, true≢false}
+use Rattle.std.proofs.Common.{◌≡◌, ◌<◌, ◌+◌, ◌-◌, ℕ, suc, Bool, true, false, not, List, [], ◌∷◌, ◌++◌, length, map, refl, sym, ap, ap₂, subst, ◌∙◌, arith, inl, inr, Option, None, Some, is_some, Result, Ok, Err, length-append, true≢false}
 use Rattle.std.specs.Prelude.{◌&&◌, ◌||◌, nat_lt, nat_le, is_none, if◌then◌else◌}
 use Rattle.std.specs.Option.{option_map}
 use Rattle.std.specs.List.{find, list_all}
@@ -26,14 +26,13 @@ use Rattle.data_sets.specs.declared.book.DeleteFault.TheVariants as faults
 use Rattle.data_sets.specs.Books.{Booked, Book, is_name, reference, place_of, number_named, set_at, is_member, define_fault, deletion, deletion_of, after_delete}
 use Rattle.data_sets.specs.Standing.{Stands, StandsFor, data_set, dat_sets, dat_sets_from, counted, at}
 use Rattle.data_sets.specs.Turns.{is_going, is_there, after_one, after_deletes, going, there, error_of, AreRows}
-use Rattle.data_sets.proofs.BookLaws.{deletes, is_place, IsPlace, same_octets}
+use Rattle.data_sets.proofs.BookLaws.{deletes, is_place, IsPlace}
 use Rattle.data_sets.proofs.HistoryLaws.{found}
+use Rattle.list_laws.proofs.Among.{heads, tails}
+use Rattle.list_laws.proofs.Options.{none_is, some_mapped}
+use Rattle.list_laws.proofs.Distinct.{octets_same}
 
 -- ---- a definition
-
-some_mapped : {A : Type 0} {B : Type 0} (f : A → B) (o : Option A) → is_some (option_map f o) ≡ is_some o
-some_mapped f None = refl
-some_mapped f (Some x) = refl
 
 pub some_there : (b : Book) (all : List DataSet) (name : SetName) → map data_set b.sets ≡ all → is_some (set_named name all) ≡ is_some (number_named name b)
 some_there b all name same = ap is_some (sym (found (λ s. is_name name s.name) (is_named name) (λ s. refl) b.sets ∙ ap (find (is_named name)) same))
@@ -91,7 +90,7 @@ all_deleted (name ∷ ns) b n all used h = by (deletion b name) refl (λ b' all'
     by (Err f) is go = go b all h
 
 -- a set is among the first so many
-abbrev is_below : Option ℕ → ℕ → Bool
+abbrev pub is_below : Option ℕ → ℕ → Bool
 is_below None n = false
 is_below (Some k) n = nat_lt k n
 
@@ -106,17 +105,11 @@ below_none : (o : Option ℕ) → false ≡ is_below o 0
 below_none None = refl
 below_none (Some k) = elim (leb_tells (suc k) 0) [ inl t ↦ absurd (omega (arith, t.1)) | inr t ↦ sym t.0 ]
 
-first_of : {A : Type 0} (x y : A) (xs ys : List A) → x ∷ xs ≡ y ∷ ys → x ≡ y
-first_of x y xs ys e = ap (λ l. slice_index_or l 0 x) e
-
-later_of : {A : Type 0} (x y : A) (xs ys : List A) → x ∷ xs ≡ y ∷ ys → xs ≡ ys
-later_of x y xs ys e = ap (λ l. drop 1 l) e
-
 pub in_front : (name : SetName) (bs : List Booked) (cs dyn : List DataSet) → map data_set bs ≡ cs ++ dyn → is_some (find (is_named name) cs) ≡ is_below (place_of (λ s. is_name name s.name) bs) (length cs)
 in_front name bs [] dyn e = below_none (place_of (λ s. is_name name s.name) bs)
 in_front name [] (d ∷ cs) dyn e = absurd (omega (arith, ap length e))
-in_front name (b ∷ bs) (d ∷ cs) dyn e = ap (λ x. is_some (if is_named name x then Some x else find (is_named name) cs)) (sym (first_of (data_set b) d (map data_set bs) (cs ++ dyn) e))
-    ∙ by (is_name name b.name) (in_front name bs cs dyn (later_of (data_set b) d (map data_set bs) (cs ++ dyn) e))
+in_front name (b ∷ bs) (d ∷ cs) dyn e = ap (λ x. is_some (if is_named name x then Some x else find (is_named name) cs)) (sym (heads (data_set b) d (map data_set bs) (cs ++ dyn) e))
+    ∙ by (is_name name b.name) (in_front name bs cs dyn (tails (data_set b) d (map data_set bs) (cs ++ dyn) e))
   where
     by : (t : Bool) → is_some (find (is_named name) cs) ≡ is_below (place_of (λ s. is_name name s.name) bs) (length cs)
         → is_some (if t then Some (data_set b) else find (is_named name) cs) ≡ is_below (if t then Some 0 else option_map suc (place_of (λ s. is_name name s.name) bs)) (length (d ∷ cs))
@@ -134,10 +127,6 @@ used_counted c past r b (k ∷ ks) = by (bytes_eq (parameters_at c b past).dat_s
     by true later = sym (above_zero 1 (counted r (dat_sets_from c past (suc b) ks)) (omega arith))
     by false later = later ∙ ap (λ n. nat_lt 0 n) (omega arith)
 
-none_some : {A : Type 0} (o : Option A) → is_none o ≡ not (is_some o)
-none_some None = refl
-none_some (Some x) = refl
-
 module _ (c : Model) (past : Past) (name : SetName) (b : Book) (all dyn : List DataSet) (h : StandsFor b (length c.sets) all (dat_sets c past)) (split : all ≡ c.sets ++ dyn) where
   and_left : (x y : Bool) → (x && y) ≡ true → x ≡ true
   and_left true y e = refl
@@ -149,13 +138,13 @@ module _ (c : Model) (past : Past) (name : SetName) (b : Book) (all dyn : List D
 
   in_use : (k : ℕ) → k < length b.sets → is_name name (set_at b k).name ≡ true → in_use_from c past (reference_of name.domain name.item) 0 c.blocks ≡ nat_lt 0 (set_at b k).holds
   in_use k below is =
-      let same : reference_of name.domain name.item ≡ reference (set_at b k) = ap₂ reference_of (same_octets name.domain (set_at b k).name.domain (and_left _ _ is)) (same_octets name.item (set_at b k).name.item (and_right _ _ is)) in
+      let same : reference_of name.domain name.item ≡ reference (set_at b k) = ap₂ reference_of (octets_same name.domain (set_at b k).name.domain (and_left _ _ is)) (octets_same name.item (set_at b k).name.item (and_right _ _ is)) in
       used_counted c past (reference_of name.domain name.item) 0 c.blocks ∙ (ap (λ r. nat_lt 0 (counted r (dat_sets c past))) same ∙ ap (λ n. nat_lt 0 n) (sym (h.holds k below)))
 
   by_place : (o : Option ℕ) → number_named name b ≡ o → IsPlace (λ s. is_name name s.name) b.sets o → is_some (find (is_named name) c.sets) ≡ is_below o (length c.sets)
       → (is_some o && is_deletable c past name) ≡ is_going (deletion_of b o)
   by_place None is place front = refl
-  by_place (Some k) is place front = ap₂ (λ x y. x && not y) (none_some (set_named name c.sets) ∙ ap not (front ∙ ap (λ n. nat_lt k n) (sym h.count))) (in_use k place.0 place.1) ∙ last (nat_lt k b.configured) (nat_lt 0 (set_at b k).holds)
+  by_place (Some k) is place front = ap₂ (λ x y. x && not y) (none_is (set_named name c.sets) ∙ ap not (front ∙ ap (λ n. nat_lt k n) (sym h.count))) (in_use k place.0 place.1) ∙ last (nat_lt k b.configured) (nat_lt 0 (set_at b k).holds)
     where
       last : (x y : Bool) → (not x && not y) ≡ is_going (if x then Err faults.NotDeletable else (if y then Err faults.InUse else Ok k))
       last true y = refl

@@ -1,7 +1,6 @@
 -- The opened book stands for the empty history, once each configured DatSet names its set.
 use Rattle.std.proofs.Common.{◌≡◌, ◌<◌, ◌+◌, ℕ, zero, suc, List, [], ◌∷◌, ◌++◌, length, map, refl, sym, ap, subst, ◌∙◌, arith, inl, inr, Option, None, Some, is_some, slice_index_or, slice_set, true≢false, append_assoc, length-append}
 use Rattle.std.specs.Prelude.{unwrap_or, slice_get}
-use Rattle.std.specs.Option.{option_map}
 use Rattle.std.specs.List.{All, find}
 use Rattle.std.specs.Str.{bytes_eq}
 use Rattle.std.proofs.lemmas.List.{length-map}
@@ -18,6 +17,7 @@ use Rattle.data_sets.proofs.BookLaws.{holds_more, counted_none, no-reference}
 use Rattle.data_sets.proofs.HistoryLaws.{found, dat_at, dat_count}
 use Rattle.data_sets.proofs.PlaceLaws.{no_place}
 use Rattle.list_laws.proofs.Places.{at_any}
+use Rattle.list_laws.proofs.Options.{some_mapped}
 
 -- ---- no DatSet is written yet
 
@@ -29,7 +29,7 @@ blank_at [] j = refl
 blank_at (d ∷ ds) zero = refl
 blank_at (d ∷ ds) (suc j) = blank_at ds j
 
-opened_at : (rows : List SetRow) (k : ℕ) → (slice_index_or (map booked rows) k no_set).holds ≡ 0
+pub opened_at : (rows : List SetRow) (k : ℕ) → (slice_index_or (map booked rows) k no_set).holds ≡ 0
 opened_at [] k = refl
 opened_at (r ∷ rows) zero = refl
 opened_at (r ∷ rows) (suc k) = opened_at rows k
@@ -78,10 +78,6 @@ set_middle (f ∷ front) x y rest = ap (λ l. f ∷ l) (set_middle front x y res
 
 middle_below : (front : List (List ℕ)) (x : List ℕ) (rest : List (List ℕ)) → length front < length (front ++ x ∷ rest)
 middle_below front x rest = omega (arith, length-append front (x ∷ rest))
-
-some_mapped : {A : Type 0} {B : Type 0} (f : A → B) (o : Option A) → is_some (option_map f o) ≡ is_some o
-some_mapped f None = refl
-some_mapped f (Some x) = refl
 
 -- it names one in the book exactly where it names one of the sets
 pub some_referred : (b : Book) (n : ℕ) (all : List DataSet) (used : List (List ℕ)) (d : List ℕ) → StandsFor b n all used → is_some (number_referred d b) ≡ is_some (set_referred d all)

@@ -89,7 +89,7 @@ removed_length [] k below = absurd (omega (arith, below))
 removed_length (x ∷ xs) zero below = refl
 removed_length (x ∷ xs) (suc k) below = ap suc (removed_length xs k (omega (arith, below)))
 
-old_above : (k j : ℕ) → j ≤ old k j
+pub old_above : (k j : ℕ) → j ≤ old k j
 old_above zero j = omega arith
 old_above (suc k) zero = omega arith
 old_above (suc k) (suc j) = omega (arith, old_above k j)

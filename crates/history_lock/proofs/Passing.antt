@@ -26,6 +26,7 @@ use Rattle.history_lock.specs.Seats.{Took, at_rest, config_or, others_of}
 use Rattle.history_lock.specs.Passes.{Known, IsIn, InSome, HasNumber, OfOthers, Turned, later, own, is_process, Joined, told, placed}
 use Rattle.history_lock.proofs.Steps.{by-append, by_mine}
 use Rattle.history_lock.proofs.Parts.{inside_below, inside_within, inside_above}
+use Rattle.list_laws.proofs.Truths.{never-both}
 
 pub counted : (k : ℕ) (rs : List (ℕ × ℕ)) → InSome k rs → 0 < total (inside k) rs
 counted k [] h = absurd h
@@ -213,17 +214,12 @@ placed_ok p q moment a place step some t =
 pub placed_err : (p q : Known) (moment : ℕ) (f : StepFault) (step : Step) → 0 < p.count → Turned p moment step (Err (faults.Step f)) q → placed q ≡ placed p
 placed_err p q moment f step some t = ap placed t.3.0 ∙ places_skip p.first t.1 p.seen (mine_between p t.1 some t.2)
 
--- the process is not refused
-never_both : (b : Bool) → b ≡ true → b ≡ false → ⊥
-never_both true e f = cc f
-never_both false e f = cc e
-
 no_fault : (f : StepFault) (step : Step) → is_lean step ≡ true → KeepsLean step (Err f) → named f ≡ None → ⊥
 no_fault (stepfaults.IsOpen a) step l k e = cc e
 no_fault (stepfaults.NotOpen a) step l k e = cc e
 no_fault (stepfaults.NotYours a) step l k e = cc e
 no_fault (stepfaults.QueueFull a) step l k e = cc e
-no_fault stepfaults.Memory step l k e = never_both (is_lean step) l k
+no_fault stepfaults.Memory step l k e = never-both (is_lean step) l k
 
 pub process_goes : (c : Config) (h : History) (moment actor : ℕ) (step : Step) (f : StepFault) → KeepsLean step (Err f)
     → IsRefused c h (turn_of moment actor step) f → is_process step ≡ false

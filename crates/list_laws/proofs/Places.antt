@@ -1,5 +1,5 @@
 -- The first place at which a test passes, and the element at a place.
-use Rattle.std.proofs.Common.{◌≡◌, ◌≢◌, ℕ, zero, suc, ◌+◌, ◌<◌, ◌==◌, ◌⊎◌, inl, inr, Bool, true, false, cond, not, List, [], ◌∷◌, ◌++◌, map, drop, length, get_or, position, Option, None, Some, is_some, unwrap_or, slice_get, slice_set, slice_index_or, refl, sym, ap, subst, ◌∙◌, true≢false, nat_lt, arith, if◌then◌else◌}
+use Rattle.std.proofs.Common.{◌≡◌, ◌≢◌, ◌≤◌, ℕ, zero, suc, ◌+◌, ◌<◌, ◌==◌, ◌⊎◌, inl, inr, Bool, true, false, cond, not, List, [], ◌∷◌, ◌++◌, map, drop, length, get_or, position, Option, None, Some, is_some, unwrap_or, slice_get, slice_set, slice_index_or, refl, sym, ap, subst, ◌∙◌, true≢false, nat_lt, arith, if◌then◌else◌}
 use Rattle.std.specs.List.{All}
 use Rattle.std.specs.Option.{option_map, option_or}
 use Rattle.std.specs.Str.{bytes_eq}
@@ -181,6 +181,12 @@ other-number b k h = grind (arith, nat_tests, h)
 
 pub equal-number : (a b : ℕ) → a ≡ b → (a == b) ≡ true
 equal-number a b e = grind (arith, nat_tests, e)
+
+pub below-tells : (a b : ℕ) → a < b → nat_lt a b ≡ true
+below-tells a b h = grind (arith, nat_tests, h)
+
+pub not-below : (a b : ℕ) → b ≤ a → nat_lt a b ≡ false
+not-below a b h = grind (arith, nat_tests, h)
 
 pub same-of : (a b : ℕ) → (a == b) ≡ true → a ≡ b
 same-of a b h = grind (arith, nat_tests, h)

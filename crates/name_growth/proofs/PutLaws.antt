@@ -1,7 +1,6 @@
 -- The group of a name by its place.
 use Rattle.std.proofs.Common.{◌≡◌, ℕ, zero, suc, ◌+◌, ◌-◌, ◌<◌, take, take_all, length-append, length-take, Bool, true, false, cond, List, [], ◌∷◌, ◌++◌, map, length, get_or, set, Option, None, Some, refl, sym, ap, subst, ◌∙◌, arith, if◌then◌else◌}
 use Rattle.std.specs.Str.{bytes_eq}
-use Rattle.std.proofs.lemmas.Slice.Eq.{bytes_eq-Decides}
 use Rattle.std.specs.Option.{option_map, option_or}
 use Rattle.std.proofs.Math.Seq.{map-set_same, take-append_seam}
 use Rattle.bay_model.specs.Generated.{Named}
@@ -14,7 +13,7 @@ use Rattle.name_leaves.specs.declared.places.Places.{Places}
 use Rattle.std.proofs.lemmas.List.{map-append, length-map, take_more}
 use Rattle.list_laws.proofs.Options.{some_is, not_some}
 use Rattle.list_laws.proofs.Places.{place-cons, position-push}
-use Rattle.list_laws.proofs.Distinct.{Absent, Distinct, octets_same}
+use Rattle.list_laws.proofs.Distinct.{Absent, Distinct, octets_same, octets_equal}
 
 abbrev pub place_of : List Group → List ℕ → Option ℕ
 place_of gs name = number_in (map group_name gs) name
@@ -101,9 +100,6 @@ none-before gs last name are h e t = ap (number_in (front gs)) (octets_same name
 
 pub place-end : (gs : List Group) (last : Group) (name : List ℕ) → AreGroups gs → 0 < length gs → last ≡ get_or gs (length gs - 1) last → bytes_eq name last.name ≡ true → Some (length gs - 1) ≡ place_of gs name
 place-end gs last name are h e t = sym (place-split gs last name h e ∙ (ap (λ o. number_or o (bytes_eq name last.name) (length gs - 1)) (none-before gs last name are h e t) ∙ ap (λ b. if b then Some (length gs - 1) else None) t))
-
-pub octets_alike : (a b : List ℕ) → a ≡ b → bytes_eq a b ≡ true
-octets_alike a b e = (bytes_eq-Decides a b).1 e
 
 -- the place of another name is that among all but the last
 or-none : (o : Option ℕ) → o ≡ option_or o None

@@ -32,7 +32,6 @@ use Rattle.name_trees.specs.ByModel.{is_at, may_have}
 use Rattle.name_trees.proofs.FrontLaws.{IsFront, front-trans, behind, named-at}
 use Rattle.name_trees.proofs.ToldLaws.{told-in}
 use Rattle.name_trees.proofs.ItemLaws.{domain_in, items, leaf_items, closed_items, with_items, key, key-path}
-use Rattle.name_trees.proofs.SetLaws.{both-ways}
 use Rattle.name_trees.proofs.FormLaws.{IsLeafOf, IsClosedOf, HasForm}
 use Rattle.name_trees.proofs.NamedLaws.{IsLineName, leaf-named, told-named}
 use Rattle.name_trees.proofs.ClaimLaws.{lines-apart, leaf-claimed, leaves-same, leaves-apart}
@@ -41,6 +40,7 @@ use Rattle.name_trees.proofs.OctetLaws.{IsKnown, AreLeaves, counted-is}
 use Rattle.name_trees.proofs.NodeLaws as node_laws
 use Rattle.name_trees.proofs.NodeLaws.{reached, reach, IsKey, closed-key, leaf-key, key-closed}
 use Rattle.name_trees.proofs.MemberLaws.{constraint-of, with-front, closed_constraint, closed-under, IsLeafItem, leaf-item, typed-line}
+use Rattle.list_laws.proofs.Truths.{both-ways}
 
 -- an item of three names tells the functional constraint of what goes on from it
 front-constraint : (names : List (List ℕ)) (item i : List ℕ) → joined names ≡ item → ArePlain names → 3 ≤ length names → IsFront item i → constraint i ≡ constraint item

@@ -2,7 +2,7 @@
 use Rattle.std.proofs.Common.{◌≡◌, ℕ, ◌+◌, ◌⊎◌, inl, inr, List, [], ◌∷◌, ◌++◌, map, filter, length, refl, sym, ap, subst, ◌∙◌}
 use Rattle.std.specs.Prelude.{codes}
 use Rattle.std.specs.Str.{bytes_eq}
-use Rattle.list_laws.proofs.Distinct.{octets_same}
+use Rattle.list_laws.proofs.Distinct.{octets_same, octets_equal}
 use Rattle.sv_base.specs.declared.config.Config.{Config}
 use Rattle.sv_base.specs.declared.config.LnDef.{LnDef}
 use Rattle.sv_base.specs.declared.config.AttrDef.{AttrDef}
@@ -18,7 +18,6 @@ use Rattle.cfg_lines.specs.Nodes.{block_parts, group_parts}
 use Rattle.cfg_lines.specs.declared.line.Line.{Line}
 use Rattle.cfg_lines.specs.declared.line.Line.TheVariants as lines
 use Rattle.list_laws.proofs.Among.{Among, at-among, among-at, left, right, either, mapped, source, kept, passed, spread, gathered}
-use Rattle.text_configs.proofs.NamedLaws.{bytes-same}
 use Rattle.text_configs.proofs.OrderLaws.{ordered, from-ordered, IsAttributeLine, attribute-line, line-of, block-line}
 use Rattle.name_trees.proofs.FrontLaws.{IsFront}
 use Rattle.name_trees.proofs.ToldLaws.{attr-told, block-told, control-told, groups-told, attr-in, block-in, control-in, groups-in}
@@ -44,7 +43,7 @@ control-there-line (d ∷ cs) k x c (inr i) = let s = control-there-line cs (k +
 
 names-there : (c : Config) (l : named.Line) (n : Named) → Among l (model_lines c) → Among n l.names → Among n (names_in c l.domain)
 names-there c l n i j = spread (λ (m : named.Line). m.names) l n (filter (λ (m : named.Line). bytes_eq m.domain l.domain) (in_order (model_lines c)))
-    (kept (λ (m : named.Line). bytes_eq m.domain l.domain) l (in_order (model_lines c)) (ordered (model_lines c) l i) (bytes-same l.domain l.domain refl)) j
+    (kept (λ (m : named.Line). bytes_eq m.domain l.domain) l (in_order (model_lines c)) (ordered (model_lines c) l i) (octets_equal l.domain l.domain refl)) j
 
 module _ (told : List Line) where
   abbrev c : Config

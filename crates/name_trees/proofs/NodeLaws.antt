@@ -2,8 +2,8 @@
 use Rattle.std.proofs.Common.{◌≡◌, ℕ, suc, ◌<◌, ◌≤◌, ◌||◌, ◌⊎◌, inl, inr, Bool, true, false, List, [], ◌∷◌, ◌++◌, map, length, refl, sym, ap, subst, ◌∙◌, append_assoc, append-nil, arith}
 use Rattle.std.specs.Prelude.{codes}
 use Rattle.std.specs.Str.{bytes_eq}
-use Rattle.std.proofs.lemmas.Bool.{or_cases}
-use Rattle.list_laws.proofs.Distinct.{octets_same}
+use Rattle.std.proofs.lemmas.Bool.{or_cases, or_right}
+use Rattle.list_laws.proofs.Distinct.{octets_same, octets_equal}
 use Rattle.sv_base.specs.declared.config.Config.{Config}
 use Rattle.sv_base.specs.declared.config.LnDef.{LnDef}
 use Rattle.bay_model.specs.Model.{Node}
@@ -23,7 +23,6 @@ use Rattle.cfg_lines.specs.declared.line.Line.{Line}
 use Rattle.cfg_lines.specs.declared.line.Line.TheVariants as lines
 use Rattle.list_laws.proofs.Among.{Among, left, right, either, mapped, source, spread, gathered, some-passes, passes}
 use Rattle.text_configs.proofs.JoinedLaws.{NoDollar, ArePlain, joined, joined-behind, joined-longer}
-use Rattle.text_configs.proofs.NamedLaws.{bytes-same}
 use Rattle.text_configs.proofs.PlaceLaws.{exists, dollar-within}
 use Rattle.text_configs.proofs.OrderLaws.{within-longest}
 use Rattle.text_configs.proofs.ReachLaws.{above-has, above-back}
@@ -31,11 +30,11 @@ use Rattle.text_configs.proofs.FindLaws.{domain-there, domain-of}
 use Rattle.text_configs.proofs.StandLaws.{IsIn, nodes-read}
 use Rattle.text_configs.proofs.PathLaws.{NoSlash, name-plain, name-whole, same-reference, names_in, path-plain, path-joined, IsReference, reference-of}
 use Rattle.name_trees.specs.ByModel.{is_at, has_node}
-use Rattle.name_trees.proofs.SetLaws.{both-ways}
 use Rattle.name_trees.proofs.FrontLaws.{IsFront, front-trans, named-at}
 use Rattle.name_trees.proofs.ToldLaws.{told-of, told-in, IsHome, home}
 use Rattle.name_trees.proofs.ItemLaws.{domain_in, items, leaf_items, closed_items, key, leaf-keys, closed-keys}
 use Rattle.name_trees.proofs.NamedLaws.{IsHead, IsLineName, named-told, told-named}
+use Rattle.list_laws.proofs.Truths.{both-ways}
 
 -- ---- references that are reached
 
@@ -46,17 +45,13 @@ front-of k r h = by (or_cases (bytes_eq r k) (is_among (above k) r) h)
     by (inl e) = inl (sym (octets_same r k e))
     by (inr e) = let b = above-back k r e in inr (b.more, b.is)
 
-or-right : (a b : Bool) → b ≡ true → (a || b) ≡ true
-or-right true b h = refl
-or-right false b h = h
-
 or-left : (a b : Bool) → a ≡ true → (a || b) ≡ true
 or-left true b h = refl
 or-left false b h = absurd cc
 
 pub is-front : (k r : List ℕ) → IsFront r k → (bytes_eq r k || is_among (above k) r) ≡ true
-is-front k r (inl e) = or-left (bytes_eq r k) (is_among (above k) r) (bytes-same r k (sym e))
-is-front k r (inr h) = or-right (bytes_eq r k) (is_among (above k) r) (ap (λ l. is_among (above l) r) h.1 ∙ above-has r h.0)
+is-front k r (inl e) = or-left (bytes_eq r k) (is_among (above k) r) (octets_equal r k (sym e))
+is-front k r (inr h) = or_right (bytes_eq r k) (is_among (above k) r) (ap (λ l. is_among (above l) r) h.1 ∙ above-has r h.0)
 
 pub reached : (names : List (List ℕ)) (r : List ℕ) → reaches names r ≡ true → (k : List ℕ) × Among k names × IsFront r k
 reached names r h = let s = some-passes (λ k. bytes_eq r k || is_among (above k) r) names h in (s.0, s.1, front-of s.0 r s.2)
@@ -160,7 +155,7 @@ module _ (text : List ℕ) (told : List Line) (are : AreLines text told) where
         let p = place-there (domain_in line) s.item b.name (path-plain s.item s.path) (omega (arith, s.many)) b.there (front-trans s.item item b.name.item g.1 b.front) in
         passes (is_at r) (node_at (domain_in line) p.0) (nodes c)
         (spread (λ d. map (node_at d) (places_in c d)) (domain_in line) (node_at (domain_in line) p.0) (domains c) d.there (mapped (node_at (domain_in line)) p.0 (places_in c (domain_in line)) p.1))
-        (bytes-same r (key (domain_in line) p.0.item) (s.is ∙ (ap (λ x. x ++ 47 ∷ s.item) (sym g.0) ∙ ap (key (domain_in line)) (sym p.2))))
+        (octets_equal r (key (domain_in line) p.0.item) (s.is ∙ (ap (λ x. x ++ 47 ∷ s.item) (sym g.0) ∙ ap (key (domain_in line)) (sym p.2))))
 
     there : is_node told r ≡ true → has_node (configured_model c) r ≡ true
     there h = by (or_cases (reaches (leaf_names told) r) (reaches (closed told) r) h)
@@ -219,7 +214,7 @@ module _ (text : List ℕ) (told : List Line) (are : AreLines text told) where
 
         by : Among n.item (leaf_items l.line) ⊎ Among n.item (closed_items l.line) → is_node told r ≡ true
         by (inl j) = or-left (reaches (leaf_names told) r) (reaches (closed told) r) (reach (leaf_names told) r k (key-leaf told l.line n.item l.there j) front)
-        by (inr j) = or-right (reaches (leaf_names told) r) (reaches (closed told) r) (reach (closed told) r k (key-closed told l.line n.item l.there j) front)
+        by (inr j) = or_right (reaches (leaf_names told) r) (reaches (closed told) r) (reach (closed told) r k (key-closed told l.line n.item l.there j) front)
 
     back : has_node (configured_model c) r ≡ true → is_node told r ≡ true
     back h =

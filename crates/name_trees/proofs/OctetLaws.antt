@@ -1,12 +1,11 @@
 -- What is counted for a reference is the largest Data of what is named at it and below it.
-use Rattle.std.proofs.Common.{◌≡◌, ℕ, zero, suc, ◌<◌, ◌≤◌, ◌==◌, ◌⊎◌, inl, inr, Bool, true, false, List, [], ◌∷◌, ◌++◌, map, length, Option, Some, None, unwrap_or, refl, sym, ap, subst, ◌∙◌, append_assoc, arith, true≢false, if◌then◌else◌}
+use Rattle.std.proofs.Common.{◌≡◌, ℕ, zero, suc, ◌<◌, ◌≤◌, ◌==◌, ◌⊎◌, inl, inr, true, false, List, [], ◌∷◌, ◌++◌, map, length, Option, Some, unwrap_or, refl, sym, ap, subst, ◌∙◌, append_assoc, arith, true≢false, if◌then◌else◌}
 use Rattle.std.specs.List.{sum_by}
 use Rattle.std.specs.Option.{option_map}
-use Rattle.std.specs.Str.{bytes_eq}
 use Rattle.std.proofs.lemmas.List.{append_cancel_left}
 use Rattle.std.proofs.lemmas.List.Sums.{sum_by-cons}
 use Rattle.list_laws.proofs.Among.{Among, mapped, source, nil-of, tails}
-use Rattle.list_laws.proofs.Distinct.{octets_same, differ, differ-map}
+use Rattle.list_laws.proofs.Distinct.{differ, differ-map, octets_equal}
 use Rattle.list_laws.proofs.Sums.{sum-among}
 use Rattle.sv_base.specs.Types.{Fields, no_field, field}
 use Rattle.sv_base.specs.declared.types.TypeOf.{TypeOf}
@@ -18,31 +17,14 @@ use Rattle.name_growth.proofs.GroupLaws.{distinct}
 use Rattle.cfg_lines.specs.Sizes.{element_octets, leaf_octets, children, octets_of}
 use Rattle.cfg_lines.specs.declared.leaf.Leaf.{Leaf}
 use Rattle.text_configs.proofs.JoinedLaws.{NoDollar, IsPlain, ArePlain, joined, first, rest, first-joined, rest-joined, joined-some, first-alone, first-before, rest-before, rest-alone}
-use Rattle.text_configs.proofs.NamedLaws.{bytes-same, first-of, is-first, below-of, is-below}
+use Rattle.text_configs.proofs.NamedLaws.{first-of, is-first, below-of, is-below}
 use Rattle.text_configs.proofs.ReachLaws.{child-alone, child-more}
-use Rattle.text_configs.proofs.CountLaws.{octets-leaf, octets-node}
+use Rattle.text_configs.proofs.CountLaws.{octets-leaf, octets-node, lookup-found, lookup-none}
 use Rattle.name_trees.proofs.FrontLaws.{IsFront}
 use Rattle.name_trees.proofs.EdgeLaws.{child-of, distinct-children}
 use Rattle.name_trees.proofs.SubLaws.{not-empty, AreWithin, within-one, sub-one, IsEnd, IsOpen, ends-or-not}
 
 -- ---- the octets of a leaf, and that there is none
-
-leaf-there : (all : List Leaf) (a : Leaf) → Among a all → ((b : Leaf) → Among b all → a.name ≡ b.name → a.octets ≡ b.octets) → leaf_octets all a.name ≡ Some a.octets
-leaf-there [] a i same = absurd i
-leaf-there (b ∷ all) a i same = by (bytes_eq a.name b.name) refl i (λ j. leaf-there all a j (λ c k. same c (inr k)))
-  where
-    by : (t : Bool) → bytes_eq a.name b.name ≡ t → (a ≡ b) ⊎ Among a all → (Among a all → leaf_octets all a.name ≡ Some a.octets) → (if t then Some b.octets else leaf_octets all a.name) ≡ Some a.octets
-    by true e j go = ap Some (sym (same b (inl refl) (octets_same a.name b.name e)))
-    by false e (inl s) go = absurd (true≢false (sym (bytes-same a.name b.name (ap (λ (x : Leaf). x.name) s)) ∙ e))
-    by false e (inr j) go = go j
-
-leaf-none : (all : List Leaf) (node : List ℕ) → ((b : Leaf) → Among b all → node ≡ b.name → ⊥) → leaf_octets all node ≡ None
-leaf-none [] node h = refl
-leaf-none (b ∷ all) node h = by (bytes_eq node b.name) refl (leaf-none all node (λ c j. h c (inr j)))
-  where
-    by : (t : Bool) → bytes_eq node b.name ≡ t → leaf_octets all node ≡ None → (if t then Some b.octets else leaf_octets all node) ≡ None
-    by true e go = absurd (h b (inl refl) (octets_same node b.name e))
-    by false e go = go
 
 largest-composed : (fs : Fields) → largest (type_with (types.Struct no_field) fs) ≡ headed (largest_fields fs)
 largest-composed no_field = refl
@@ -212,7 +194,7 @@ module _ (all : List Leaf) (same : (a b : Leaf) → Among a all → Among b all 
           ap (λ f. largest (type_with (own_type sub) (fields f))) (nothing-grown l sub (nil-of (first_names sub) (λ f i. let n = first-leaf r depth sub f h i in
           apart k.leaf n.known.leaf (joined (f ∷ n.more)) k.there n.known.there (n.known.name ∙ (ap (reference r) n.path ∙ ap (λ x. x ++ 36 ∷ joined (f ∷ n.more)) (sym is))))))
           ∙ (ap (λ o. largest (own o)) e.found ∙ sym (octets-leaf depth (leaf_octets all) (children names) r (largest m.kind)
-          (ap (leaf_octets all) (sym is) ∙ (leaf-there all k.leaf k.there (λ b j. same k.leaf b k.there j) ∙ ap Some k.octets))))
+          (ap (leaf_octets all) (sym is) ∙ (lookup-found all k.leaf k.there (λ b j. same k.leaf b k.there j) ∙ ap Some k.octets))))
         where
           is : k.leaf.name ≡ r
           is = by_path k.path k.plain k.item k.name
@@ -225,7 +207,7 @@ module _ (all : List Leaf) (same : (a b : Leaf) → Among a all → Among b all 
       opened o =
           ap (λ n. largest (type_with (own n) (fields (grown l sub)))) o.found
           ∙ (largest-composed (fields (grown l sub)) ∙ (headed-is (largest_fields (fields (grown l sub))) (sum_by (counted depth) (children names r)) (go r depth sub h within)
-          ∙ sym (octets-node depth (leaf_octets all) (children names) r (leaf-none all r (λ b j e. let m = h.ends b j (sym e) in true≢false (ap (λ x. length x == 0) (sym m.2) ∙ o.longer m.0 m.1))))))
+          ∙ sym (octets-node depth (leaf_octets all) (children names) r (lookup-none all r (λ b j e. let m = h.ends b j (sym e) in true≢false (ap (λ x. length x == 0) (sym m.2) ∙ o.longer m.0 m.1))))))
 
       by : ((m : Named) × IsEnd sub m) ⊎ IsOpen sub → largest (type_at l sub) ≡ counted (suc depth) r
       by (inl m) = ended m.0 m.1 (h.known m.0 m.1.there)

@@ -1,5 +1,5 @@
 -- The data sets of the lines are those of the model.
-use Rattle.std.proofs.Common.{◌≡◌, ℕ, ◌||◌, ◌⊎◌, inl, inr, Bool, true, false, List, [], ◌∷◌, ◌++◌, map, refl, sym, ap, ap₂, subst, ◌∙◌}
+use Rattle.std.proofs.Common.{◌≡◌, ℕ, ◌||◌, ◌⊎◌, inl, inr, List, [], ◌∷◌, ◌++◌, map, refl, sym, ap, ap₂, subst, ◌∙◌}
 use Rattle.std.specs.List.{list_any}
 use Rattle.std.specs.Str.{bytes_eq}
 use Rattle.std.proofs.lemmas.List.{map-append}
@@ -15,11 +15,7 @@ use Rattle.cfg_lines.specs.declared.line.Line.TheVariants as lines
 use Rattle.list_laws.proofs.Among.{Among, left, right, ending, some-passes, passes}
 use Rattle.name_trees.specs.ByModel.{has_set}
 use Rattle.name_trees.proofs.ItemLaws.{key-within}
-
-pub both-ways : (a b : Bool) → (a ≡ true → b ≡ true) → (b ≡ true → a ≡ true) → a ≡ b
-both-ways true b h k = sym (h refl)
-both-ways false true h k = k refl
-both-ways false false h k = refl
+use Rattle.list_laws.proofs.Truths.{both-ways}
 
 abbrev key_of : SetDef → List ℕ
 key_of s = set_key s.domain s.ln s.name

@@ -14,16 +14,13 @@ use Rattle.text_configs.proofs.JoinedLaws.{NoDollar, ArePlain, joined, first, re
 use Rattle.text_configs.proofs.NamedLaws.{IsBelow, first-of, is-first, below-of, is-below, place_at, deeper, placed}
 use Rattle.text_configs.proofs.PlaceLaws.{first-without, dollar-within, item-behind, descend-one}
 use Rattle.name_trees.proofs.FrontLaws.{IsFront, Cut, cut, front-first, whole, behind}
+use Rattle.cfg_text.proofs.WholeLaws.{empty-is as empty}
 
 abbrev pub moved : List ℕ → Named → Named
 moved item n = record n { item = item }
 
 pub not-empty : (item : List ℕ) → 0 < length item → (length item == 0) ≡ false
 not-empty item h = grind (arith, nat_tests)
-
-pub empty : (item : List ℕ) → (length item == 0) ≡ true → item ≡ []
-empty [] h = refl
-empty (o ∷ item) h = absurd (true≢false (sym h ∙ not-empty (o ∷ item) (omega arith)))
 
 -- what is named at an item or below it comes from what is named
 pub record IsFrom (ns : List Named) (item : List ℕ) (m n : Named) : Type 0 where

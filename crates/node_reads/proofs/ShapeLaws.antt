@@ -5,7 +5,7 @@ use Rattle.std.specs.Option.{option_map}
 use Rattle.std.specs.List.{All, find}
 use Rattle.std.specs.Str.{bytes_eq}
 use Rattle.std.proofs.lemmas.List.Elements.{All-tail}
-use Rattle.list_laws.proofs.Among.{Each, each-both}
+use Rattle.list_laws.proofs.Among.{Each, each-both, each-filter}
 use Rattle.sv_base.specs.Types.{no_field}
 use Rattle.sv_base.specs.Fields.{shape_of}
 use Rattle.sv_base.specs.declared.config.Config.{Config}
@@ -35,15 +35,7 @@ use Rattle.node_reads.specs.Reading.{HasShape, HaveShapes}
 
 -- ---- what holds of each
 
-each-filter : {X : Type 0} (P : X → Type 0) (p : X → Bool) (xs : List X) → Each P xs → Each P (filter p xs)
-each-filter P p [] a = tt
-each-filter P p (x ∷ xs) a = by (p x) (each-filter P p xs a.1)
-  where
-    by : (b : Bool) → Each P (filter p xs) → Each P (cond b (x ∷ filter p xs) (filter p xs))
-    by true go = (a.0, go)
-    by false go = go
-
-each-flat : {X Y : Type 0} (P : Y → Type 0) (f : X → List Y) (xs : List X) → Each (λ x. Each P (f x)) xs → Each P (flat_map f xs)
+pub each-flat : {X Y : Type 0} (P : Y → Type 0) (f : X → List Y) (xs : List X) → Each (λ x. Each P (f x)) xs → Each P (flat_map f xs)
 each-flat P f [] a = tt
 each-flat P f (x ∷ xs) a = each-both P (f x) (flat_map f xs) a.0 (each-flat P f xs a.1)
 

@@ -1,13 +1,14 @@
 -- The first node of a reference is the least of those that are found where it may be cut into a domain and an item.
-use Rattle.std.proofs.Common.{◌≡◌, ℕ, zero, suc, ◌+◌, ◌<◌, ◌==◌, nat_lt, Bool, true, false, cond, ◌&&◌, ◌||◌, List, [], ◌∷◌, ◌++◌, length, take, drop, get_or, position, Option, None, Some, refl, sym, ap, ap₂, ◌∙◌, true≢false, arith, length-append}
+use Rattle.std.proofs.Common.{◌≡◌, ℕ, zero, suc, ◌+◌, ◌<◌, ◌==◌, nat_lt, Bool, true, false, cond, ◌&&◌, ◌||◌, List, [], ◌∷◌, ◌++◌, length, take, drop, get_or, position, Option, None, Some, refl, sym, ap, ap₂, ◌∙◌, arith, length-append}
 use Rattle.std.specs.Str.{bytes_eq}
 use Rattle.std.specs.Option.{option_map}
-use Rattle.std.specs.Cmp.Lexicographic.{bytes_decides}
 use Rattle.std.proofs.lemmas.Bool.Decides.{nat_tests}
-use Rattle.list_laws.proofs.Places.{place-cons}
+use Rattle.list_laws.proofs.Places.{place-cons, equal-number, same-of}
 use Rattle.bay_model.specs.Model.{Node}
 use Rattle.bay_model.specs.Lookups.{reference_of}
 use Rattle.object_model.specs.Finding.{node_named, is_cut, is_cut_below, least}
+use Rattle.list_laws.proofs.Truths.{and-both as both, both-ways}
+use Rattle.list_laws.proofs.Distinct.{octets_same, octets_equal}
 
 -- ---- the first place at which one of two tests passes
 
@@ -59,35 +60,14 @@ front-octets [] at h = absurd (omega (arith, h))
 front-octets (x ∷ r) zero h = refl
 front-octets (x ∷ r) (suc at) h = ap suc (front-octets r at (omega (arith, h)))
 
-both : (a b : Bool) → a && b ≡ true → (a ≡ true) × (b ≡ true)
-both true b h = (refl, h)
-both false b h = absurd (true≢false (sym h))
-
-same-truth : (a b : Bool) → (a ≡ true → b ≡ true) → (b ≡ true → a ≡ true) → a ≡ b
-same-truth true b f g = sym (f refl)
-same-truth false true f g = g refl
-same-truth false false f g = refl
-
-number-same : (a b : ℕ) → (a == b) ≡ true → a ≡ b
-number-same a b h = grind (arith, nat_tests, h)
-
-number-self : (a b : ℕ) → a ≡ b → (a == b) ≡ true
-number-self a b h = grind (arith, nat_tests, h)
-
-octets-same : (a b : List ℕ) → bytes_eq a b ≡ true → a ≡ b
-octets-same a b h = (bytes_decides a b).0 h
-
-octets-self : (a b : List ℕ) → a ≡ b → bytes_eq a b ≡ true
-octets-self a b h = (bytes_decides a b).1 h
-
 -- at a `/`: the node is of that domain and that item
 named-is-cut : (r : List ℕ) (at o : ℕ) → at < length r → get_or r at o ≡ 47 → (n : Node) → bytes_eq (take at r) n.domain && bytes_eq (drop (suc at) r) n.item ≡ is_cut r at n
-named-is-cut r at o h e n = same-truth _ _
-    (λ t. let w = both _ _ t in let d : take at r ≡ n.domain = octets-same _ _ w.0 in let i : drop (suc at) r ≡ n.item = octets-same _ _ w.1 in
-    ap₂ (λ a b. a && b) (number-self (length n.domain) at (ap length (sym d) ∙ front-octets r at h))
-    (octets-self r (reference_of n.domain n.item) (sym (joined-again r at o h) ∙ (ap (λ x. take at r ++ x ∷ drop (suc at) r) e ∙ ap₂ reference_of d i))))
-    (λ t. let w = both _ _ t in let l : length n.domain ≡ at = number-same _ _ w.0 in let is : r ≡ reference_of n.domain n.item = octets-same _ _ w.1 in
-    ap₂ (λ a b. a && b) (octets-self (take at r) n.domain (ap₂ take (sym l) is ∙ cut-front n.domain n.item)) (octets-self (drop (suc at) r) n.item (ap₂ (λ a x. drop (suc a) x) (sym l) is ∙ cut-behind n.domain n.item)))
+named-is-cut r at o h e n = both-ways _ _
+    (λ t. let w = both _ _ t in let d : take at r ≡ n.domain = octets_same _ _ w.0 in let i : drop (suc at) r ≡ n.item = octets_same _ _ w.1 in
+    ap₂ (λ a b. a && b) (equal-number (length n.domain) at (ap length (sym d) ∙ front-octets r at h))
+    (octets_equal r (reference_of n.domain n.item) (sym (joined-again r at o h) ∙ (ap (λ x. take at r ++ x ∷ drop (suc at) r) e ∙ ap₂ reference_of d i))))
+    (λ t. let w = both _ _ t in let l : length n.domain ≡ at = same-of _ _ w.0 in let is : r ≡ reference_of n.domain n.item = octets_same _ _ w.1 in
+    ap₂ (λ a b. a && b) (octets_equal (take at r) n.domain (ap₂ take (sym l) is ∙ cut-front n.domain n.item)) (octets_equal (drop (suc at) r) n.item (ap₂ (λ a x. drop (suc a) x) (sym l) is ∙ cut-behind n.domain n.item)))
 
 pub found-at-cut : (r : List ℕ) (at o : ℕ) (ns : List Node) → at < length r → get_or r at o ≡ 47 → node_named ns (take at r) (drop (suc at) r) ≡ position (is_cut r at) ns
 found-at-cut r at o ns h e = same-first (λ (n : Node). bytes_eq (take at r) n.domain && bytes_eq (drop (suc at) r) n.item) (is_cut r at) ns (named-is-cut r at o h e)
@@ -98,7 +78,7 @@ none-at-cut r at o ns h = none-first (is_cut r at) ns (λ n. by n (is_cut r at n
   where
     by : (n : Node) (b : Bool) → is_cut r at n ≡ b → b ≡ false
     by n false e = refl
-    by n true e = let w = both _ _ e in let l : length n.domain ≡ at = number-same _ _ w.0 in let is : r ≡ reference_of n.domain n.item = octets-same _ _ w.1 in
+    by n true e = let w = both _ _ e in let l : length n.domain ≡ at = same-of _ _ w.0 in let is : r ≡ reference_of n.domain n.item = octets_same _ _ w.1 in
         absurd (h (ap₂ (λ x k. get_or x k o) is (sym l) ∙ cut-octet n.domain n.item o))
 
 -- ---- cut at one place after the other
@@ -117,9 +97,9 @@ pub first-next : (r : List ℕ) (at : ℕ) (ns : List Node) → position (is_cut
 first-next r at ns = same-first (is_cut_below r (at + 1)) (λ (n : Node). is_cut_below r at n || is_cut r at n) ns (λ n. further (length n.domain) at (bytes_eq r (reference_of n.domain n.item))) ∙ either-first (is_cut_below r at) (is_cut r at) ns
 
 pub first-of-all : (r : List ℕ) (ns : List Node) → position (is_cut_below r (length r)) ns ≡ position (λ (n : Node). bytes_eq r (reference_of n.domain n.item)) ns
-first-of-all r ns = same-first (is_cut_below r (length r)) (λ (n : Node). bytes_eq r (reference_of n.domain n.item)) ns (λ n. same-truth _ _
+first-of-all r ns = same-first (is_cut_below r (length r)) (λ (n : Node). bytes_eq r (reference_of n.domain n.item)) ns (λ n. both-ways _ _
     (λ t. (both _ _ t).1)
-    (λ t. ap₂ (λ a b. a && b) (is-below (length n.domain) (length r) (omega (arith, ap length (octets-same r (reference_of n.domain n.item) t), length-append n.domain (47 ∷ n.item)))) t))
+    (λ t. ap₂ (λ a b. a && b) (is-below (length n.domain) (length r) (omega (arith, ap length (octets_same r (reference_of n.domain n.item) t), length-append n.domain (47 ∷ n.item)))) t))
   where
     is-below : (a b : ℕ) → a < b → nat_lt a b ≡ true
     is-below a b h = grind (arith, nat_tests, h)

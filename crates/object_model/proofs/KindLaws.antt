@@ -41,7 +41,7 @@ of_control k = by (is_selected k)
     by true = All-cons IsSettable (types.Int 8) (types.Uint 32 ∷ types.Int 8 ∷ []) (inl refl) (All-cons IsSettable (types.Uint 32) (types.Int 8 ∷ []) (inr (inr (inl refl))) (All-cons IsSettable (types.Int 8) [] (inl refl) (All-nil IsSettable)))
     by false = All-cons IsSettable (types.Int 8) [] (inl refl) (All-nil IsSettable)
 
-of_controls : (ks : List CtlDef) → All IsSettable (flat_map (λ (k : CtlDef). map (λ (p : Parameter). p.kind) (parameters k)) ks)
+pub of_controls : (ks : List CtlDef) → All IsSettable (flat_map (λ (k : CtlDef). map (λ (p : Parameter). p.kind) (parameters k)) ks)
 of_controls [] = All-nil IsSettable
 of_controls (k ∷ ks) = All-append IsSettable (map (λ (p : Parameter). p.kind) (parameters k)) (flat_map (λ (k : CtlDef). map (λ (p : Parameter). p.kind) (parameters k)) ks) (of_control k) (of_controls ks)
 

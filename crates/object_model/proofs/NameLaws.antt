@@ -20,6 +20,7 @@ use Rattle.object_model.specs.Tables.{node_named}
 use Rattle.name_growth.proofs.GroupLaws.{distinct}
 use Rattle.object_model.proofs.ResolveLaws.{distinct-domains}
 use Rattle.object_model.proofs.ApartLaws.{each-map, each-more, Unlike, Apart, apart-both, first_place}
+use Rattle.std.proofs.lemmas.Bool.{and_right}
 
 -- ---- names without `$`
 
@@ -156,15 +157,11 @@ items-apart before (named n r k parts others) s =
 abbrev same_name : Node → Node → Bool
 same_name a b = bytes_eq a.domain b.domain && bytes_eq a.item b.item
 
-and-false : (a b : Bool) → b ≡ false → a && b ≡ false
-and-false true b h = h
-and-false false b h = refl
-
 in-domain : (d : List ℕ) (ps : List Place) → Apart same_item ps → Apart same_name (map (node_at d) ps)
 in-domain d [] a = tt
 in-domain d (p ∷ ps) a = (
   each-map (λ (x : Node). same_name x (node_at d p) ≡ false) (node_at d) ps
-      (each-more (λ (q : Place). same_item q p ≡ false) (λ (q : Place). same_name (node_at d q) (node_at d p) ≡ false) ps (λ q h. and-false (bytes_eq d d) (bytes_eq q.item p.item) h) a.0),
+      (each-more (λ (q : Place). same_item q p ≡ false) (λ (q : Place). same_name (node_at d q) (node_at d p) ≡ false) ps (λ q h. and_right (bytes_eq d d) (bytes_eq q.item p.item) h) a.0),
   in-domain d ps a.1,
 )
 

@@ -14,6 +14,7 @@ use Rattle.bay_model.specs.Singles.{Single, arrival, after_single, after_singles
 use Rattle.bay_model.proofs.EveryPoint.{point}
 use Rattle.own_queues.proofs.SingleLaws.{IsStill, IsOne, one_if, opers_single, outcome}
 use Rattle.own_queues.proofs.SetLaws.{opers_singles}
+use Rattle.waiting_laws.proofs.ShortLaws.{replies-told}
 
 -- ---- how many replies and terminations there are
 
@@ -22,27 +23,14 @@ endings_in [] = 0
 endings_in (reply o ∷ ws) = endings_in ws
 endings_in (ending k good ∷ ws) = suc (endings_in ws)
 
-replies-append : (ws vs : List Waiting) → replies_in (ws ++ vs) ≡ replies_in ws + replies_in vs
-replies-append [] vs = omega arith
-replies-append (reply o ∷ ws) vs = omega (arith, replies-append ws vs)
-replies-append (ending k good ∷ ws) vs = replies-append ws vs
-
 endings-append : (ws vs : List Waiting) → endings_in (ws ++ vs) ≡ endings_in ws + endings_in vs
 endings-append [] vs = omega arith
 endings-append (reply o ∷ ws) vs = endings-append ws vs
 endings-append (ending k good ∷ ws) vs = omega (arith, endings-append ws vs)
 
-pub replies-extended : (ws vs : List Waiting) → replies_in (extended ws vs) ≡ replies_in ws + replies_in vs
-replies-extended ws [] = omega arith
-replies-extended ws (v ∷ vs) = replies-append ws (v ∷ vs)
-
 pub endings-extended : (ws vs : List Waiting) → endings_in (extended ws vs) ≡ endings_in ws + endings_in vs
 endings-extended ws [] = omega arith
 endings-extended ws (v ∷ vs) = endings-append ws (v ∷ vs)
-
-pub no-replies : (ks : List ℕ) → replies_in (map (λ k. ending k true) ks) ≡ 0
-no-replies [] = refl
-no-replies (k ∷ ks) = no-replies ks
 
 pub all-endings : (ks : List ℕ) → endings_in (map (λ k. ending k true) ks) ≡ length ks
 all-endings [] = refl

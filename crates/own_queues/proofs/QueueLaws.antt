@@ -25,7 +25,8 @@ use Rattle.own_queues.specs.Opers.{opers_of, AreApart}
 use Rattle.own_queues.specs.Queues.{open_behind, is_open, waits_behind, waits, opers_behind, opers, IsItsOwn, AreTheirOwn, IsInOrder, own_fault, OpenBySteps, WaitsBySteps, AcceptedBySteps, AskedWithRoom}
 use Rattle.own_queues.proofs.SingleLaws.{IsStill, IsOne, opers_single, outcome, component_}
 use Rattle.own_queues.proofs.SetLaws.{opers_singles, named-only}
-use Rattle.own_queues.proofs.OwedLaws.{endings_in, replies-extended, endings-extended, no-replies, all-endings, less, owed, done-level, still-owed, still-waiting, singles-waiting, singles-owe}
+use Rattle.own_queues.proofs.OwedLaws.{endings_in, endings-extended, all-endings, less, owed, done-level, still-owed, still-waiting, singles-waiting, singles-owe}
+use Rattle.waiting_laws.proofs.ShortLaws.{replies-extended, replies-told}
 
 -- ---- whether it is open
 
@@ -175,7 +176,7 @@ module _ (c : Model) (a : ℕ) where
         let ts : List ℕ = tests c n after in
         let put : List Waiting = reply out ∷ map (λ k. ending k true) ts in
         let same : waiting c a after ≡ ws = singles-waiting c a e n m ss past in
-        let r : replies_in (extended (waiting c a after) put) ≡ suc (replies_in ws) = omega (arith, replies-extended (waiting c a after) put, no-replies ts, ap replies_in same) in
+        let r : replies_in (extended (waiting c a after) put) ≡ suc (replies_in ws) = omega (arith, replies-extended (waiting c a after) put, replies-told ts, ap replies_in same) in
         let x : endings_in (extended (waiting c a after) put) ≡ endings_in ws + length ts = omega (arith, endings-extended (waiting c a after) put, all-endings ts, ap endings_in same) in
         let no : length (tests c n past) ≡ 0 = ap (λ (l : List ℕ). length l) none in
         subst (λ i. IsLevel i (endings_in (extended (waiting c a after) put)) (length (owed c a after)) (suc w) (o + q)) (sym r)

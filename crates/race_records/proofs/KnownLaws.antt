@@ -28,7 +28,7 @@ use Rattle.actor_scripts.specs.declared.script.TimedStep.{TimedStep}
 use Rattle.own_queues.specs.Opers.{AreApart}
 use Rattle.own_queues.specs.Queues.{open_behind, is_open, waits, opers, IsItsOwn, AreTheirOwn, IsInOrder, own_fault}
 use Rattle.own_queues.proofs.QueueLaws.{waits_by_steps, accepted_by_steps}
-use Rattle.record_outcome.proofs.StartLaws.{is_served}
+use Rattle.text_configs.proofs.Served.{served}
 use Rattle.script_reading.specs.Plans.{Script, Plan, script_of}
 use Rattle.script_reading.specs.Sound.{IsTold, AreTold, IsScriptOrNone, IsSound}
 use Rattle.script_reading.specs.declared.line.StepLine.{StepLine}
@@ -99,7 +99,7 @@ module _ (p : Plan) (sound : IsSound p) where
   model = configured_model c
 
   apart : AreApart model
-  apart = are-apart c (is_served p.text c sound.text.config)
+  apart = are-apart c (served p.text c sound.text.config)
 
   -- ---- the scripts that are played
 

@@ -1,5 +1,5 @@
 -- A whole record is read to its end.
-use Rattle.std.proofs.Common.{◌≡◌, ◌≤◌, ◌+◌, ◌-◌, ◌==◌, ℕ, suc, Bool, false, List, [], ◌∷◌, ◌++◌, length, take, refl, sym, ap, ◌∙◌, arith, append_assoc, append-nil, inl, inr}
+use Rattle.std.proofs.Common.{◌≡◌, ◌≤◌, ◌+◌, ◌-◌, ◌==◌, ℕ, suc, Bool, false, List, [], ◌∷◌, ◌++◌, length, take, refl, sym, ap, ◌∙◌, arith, append_assoc, append-nil}
 use Rattle.std.specs.Prelude.{Ok, codes, map, nat_lt, if◌then◌else◌}
 use Rattle.answer_text.specs.Texts as texts
 use Rattle.answer_text.specs.declared.shape.Shape.{Shape}
@@ -31,12 +31,12 @@ use Rattle.record_outcome.specs.Steps.{accepted, then_on, heard_on, played, told
 use Rattle.record_outcome.specs.Records.{Outcome, limit, most_lines, pieces, passed, lines_at, line_at, moved, run, outcome, NoNewline}
 use Rattle.record_outcome.specs.declared.status.Status.{Status}
 use Rattle.record_outcome.specs.declared.status.Status.TheVariants as statuses
-use Rattle.std.proofs.lemmas.Bool.Decides.{leb_tells}
 use Rattle.record_outcome.proofs.LineLaws.{run-line}
-use Rattle.std.proofs.Math.Seq.{take-append-add}
 use Rattle.std.proofs.lemmas.List.Elements.{All-from_recursion}
 use Rattle.record_laws.specs.Grammar.{AreDone, CanBeDone, IsStepLine, AreStepLines, IsRemark, IsInner, Each, record_octets, IsRecord}
 use Rattle.record_outcome.proofs.HistoryLaws.{standing, grown, onto-line, onto-behind, at, onwards}
+use Rattle.list_laws.proofs.Appended.{take-front}
+use Rattle.list_laws.proofs.Places.{not-below}
 
 -- the first of some lines
 line-first : (line : List ℕ) (ls : List (List ℕ)) (more : List ℕ) → octets_of (line ∷ ls) ++ more ≡ line ++ 10 ∷ (octets_of ls ++ more)
@@ -55,12 +55,9 @@ module _ (long : Bool) where
   line-stops count place line text more status none is =
       ap (λ (o : Outcome). o.status) (run-line long count place line more none ∙ ap (λ m. moved m (λ to. run long (suc count) to (pieces more))) is)
 
-below_limit : (number : ℕ) → number ≤ most_lines → nat_lt most_lines number ≡ false
-below_limit number h = elim (leb_tells (suc most_lines) number) [ inl t ↦ absurd (omega (arith, t.1, h)) | inr t ↦ t.0 ]
-
 within : (number : ℕ) (place : Place) (line : List ℕ) → number ≤ most_lines → line_at number place line ≡ lines_at number place line
 unfolding line_at
-within number place line low = ap (λ b. if b then stops (passed 1 number place) [] else lines_at number place line) (below_limit number low)
+within number place line low = ap (λ b. if b then stops (passed 1 number place) [] else lines_at number place line) (not-below most_lines number low)
 
 -- empty lines and remarks
 remark-goes : (number : ℕ) (line : List ℕ) → IsRemark line → opening_at number line ≡ goes opening []
@@ -183,9 +180,6 @@ record-ends long remarks inner steps rest c are-remarks are-inner whole are-step
     ∙ (steps-go long (suc m) c [] steps (codes "end" ++ 10 ∷ rest) are-steps (omega (arith, low))
     ∙ line-stops long k (playing c (standing c (onto [] steps))) (codes "end") (codes "end\n") rest statuses.Ok no-newline-end
     (within (suc k) (playing c (standing c (onto [] steps))) (codes "end") (omega (arith, low)) ∙ end-stops (suc k) c (standing c (onto [] steps)))))))
-
-take-front : (n : ℕ) (xs ys : List ℕ) → length xs ≤ n → take n (xs ++ ys) ≡ xs ++ take (n - length xs) ys
-take-front n xs ys low = let same : n ≡ length xs + (n - length xs) = omega (arith, low) in ap (λ m. take m (xs ++ ys)) same ∙ take-append-add xs ys (n - length xs)
 
 pub records-end : (octets : List ℕ) (c : Config) → IsRecord octets c → (outcome octets).status ≡ statuses.Ok
 unfolding outcome

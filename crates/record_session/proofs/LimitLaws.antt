@@ -1,8 +1,7 @@
 -- Where a limit is passed, or a line isn't there.
-use Rattle.std.proofs.Common.{Bool, ◌≡◌, ◌≤◌, ◌<◌, inl, inr, suc, arith, ℕ, true, false, List, [], sym, ap, subst, refl, ◌∙◌, append-nil}
+use Rattle.std.proofs.Common.{Bool, ◌≡◌, ◌≤◌, ◌<◌, ℕ, true, false, List, [], sym, ap, subst, refl, ◌∙◌, append-nil}
 use Rattle.std.specs.Prelude.{Option, Some, Vec, nat_lt, ◌&&◌, if◌then◌else◌}
 use Rattle.std.proofs.lemmas.Bool.{lt-ltb}
-use Rattle.std.proofs.lemmas.Bool.Decides.{leb_tells}
 use Rattle.std.specs.declared.alloc.Global.{Global}
 use Rattle.cfg_parser.specs.Looking.{config_at}
 use Rattle.record_outcome.specs.Moves.{Place, opening, configuring, playing, stops}
@@ -13,6 +12,7 @@ use Rattle.record_session.specs.declared.stage.Stage.{Stage}
 use Rattle.record_session.specs.declared.stage.Stage.TheVariants as stages
 use Rattle.record_outcome.specs.declared.status.Status.{Status}
 use Rattle.record_outcome.specs.declared.status.Status.TheVariants as statuses
+use Rattle.list_laws.proofs.Places.{not-below}
 
 -- a limit is passed
 pub passed-opening : (which number : ℕ) (old : Stage) → old ≡ stages.Opening → (place : Place) → IsAt old place → statuses.Limit which number ≡ passed which number place
@@ -67,14 +67,11 @@ unfolding line_at
 over-lines status old number line out lt told = λ place at.
     subst (λ b. Advances (Some status) old (if b then stops (passed 1 number place) [] else lines_at number place line) out out) (sym (lt-ltb most_lines number lt)) (told place at, sym (append-nil out))
 
-not_over : (number : ℕ) → number ≤ most_lines → nat_lt most_lines number ≡ false
-not_over number h = elim (leb_tells (suc most_lines) number) [ inl t ↦ absurd (omega (arith, t.1, h)) | inr t ↦ t.0 ]
-
 pub below-lines : (status : Option Status) (old new : Stage) (number : ℕ) (line before now : List ℕ) → number ≤ most_lines → AdvancesOn status old new (λ place. lines_at number place line) before now
     → AdvancesOn status old new (λ place. line_at number place line) before now
 unfolding line_at
 below-lines status old new number line before now le on = λ place at.
-    subst (λ b. Advances status new (if b then stops (passed 1 number place) [] else lines_at number place line) before now) (sym (not_over number le)) (on place at)
+    subst (λ b. Advances status new (if b then stops (passed 1 number place) [] else lines_at number place line) before now) (sym (not-below most_lines number le)) (on place at)
 
 -- behind the last newline
 pub ended-long : (status : Status) (long begun : Bool) (number next : ℕ) (place : Place) → long ≡ true → number ≡ next → status ≡ passed 3 number place → status ≡ ended long begun next place

@@ -1,5 +1,5 @@
 -- The settings that a line tells fit the configuration: each is of an attribute that is there, and of its type.
-use Rattle.std.proofs.Common.{◌≡◌, ℕ, zero, suc, ◌≤◌, inl, inr, true, List, [], ◌∷◌, ◌++◌, map, refl, sym, ap, subst, ◌∙◌, arith}
+use Rattle.std.proofs.Common.{◌≡◌, ℕ, ◌≤◌, inl, inr, true, List, [], ◌∷◌, ◌++◌, map, refl, sym, ap, subst, ◌∙◌, arith}
 use Rattle.std.specs.Prelude.{Option, None, Some, slice_get}
 use Rattle.std.specs.Option.{option_map, option_and_then}
 use Rattle.std.specs.List.{All, list_all}
@@ -27,6 +27,7 @@ use Rattle.text_words.proofs.ReadWordLaws.{value-tells}
 use Rattle.text_values.proofs.ValueLaws.{of-kind, sound, in-range}
 use Rattle.run_record.specs.declared.pairs.Pair.{Pair}
 use Rattle.record_steps.specs.Settings.{number_at, typed_at, setting, setting_of, setting_at, behind_those, settings_from, settings_at}
+use Rattle.list_laws.proofs.Places.{in-front}
 
 uint-64 : (n : ℕ) → n ≤ greatest 64 → is_in_range (kind_of (types.Uint 64)) (values.Uint n) ≡ true
 uint-64 n h = grind (arith, nat_tests)
@@ -44,11 +45,6 @@ in-reach types.Time (values.Time u) t h = refl
 in-reach (types.Text most) (values.Text o) t h = grind (arith, nat_tests)
 in-reach (types.Octets most) (values.Octets o) t h = grind (arith, nat_tests)
 in-reach _ _ t h = absurd h
-
-in-front : {X : Type 0} (xs ys : List X) (i : ℕ) (x : X) → slice_get xs i ≡ Some x → slice_get (xs ++ ys) i ≡ Some x
-in-front [] ys i x is = absurd cc
-in-front (z ∷ xs) ys zero x is = is
-in-front (z ∷ xs) ys (suc i) x is = in-front xs ys i x is
 
 module _ (c : Config) (settable : All (λ (a : AttrDef). IsSettable a.kind) c.attrs) where
   abbrev AreFit : List Setting → Type 0

@@ -1,5 +1,5 @@
 -- From what was read and written to the status.
-use Rattle.std.proofs.Common.{◌≡◌, ◌≤◌, ◌<◌, ◌+◌, ◌-◌, ℕ, zero, suc, List, [], ◌∷◌, ◌++◌, length, take, refl, sym, ap, ◌∙◌, arith, Bool, true, false, subst, inl, inr, append_assoc, append-nil, length-append}
+use Rattle.std.proofs.Common.{◌≡◌, ◌≤◌, ◌<◌, ◌+◌, ◌-◌, ℕ, suc, List, [], ◌++◌, length, take, refl, sym, ap, ◌∙◌, arith, Bool, true, false, subst, inl, inr, append_assoc, append-nil, length-append}
 use Rattle.std.specs.Prelude.{Option, None, Some, IfSome, nat_lt}
 use Rattle.std.specs.Io.KnownBytes.{Appends, Consumes, IsAtEnd}
 use Rattle.std.proofs.lemmas.Bool.{lt-ltb}
@@ -13,18 +13,14 @@ use Rattle.record_outcome.specs.Judgements.{Answers}
 use Rattle.record_session.specs.declared.reader.Reader.{Reader}
 use Rattle.record_outcome.specs.declared.status.Status.{Status}
 use Rattle.record_session.proofs.ReadingOn.{fed-ends}
+use Rattle.list_laws.proofs.Appended.{take-front}
+use Rattle.sv_io.proofs.Front.{append_twice}
 
 pub consumes-more : (old mid new : Option (List ℕ)) (xs ys : List ℕ) → Consumes old mid xs → Consumes mid new ys → Consumes old new (xs ++ ys)
 consumes-more None mid new xs ys h k = tt
 consumes-more (Some a) None new xs ys h k = absurd h
 consumes-more (Some a) (Some b) None xs ys h k = absurd k
 consumes-more (Some a) (Some b) (Some d) xs ys h k = h ∙ (ap (λ z. xs ++ z) k ∙ sym (append_assoc xs ys d))
-
-pub appends-more : (old mid new : Option (List ℕ)) (xs ys : List ℕ) → Appends old mid xs → Appends mid new ys → Appends old new (xs ++ ys)
-appends-more None mid new xs ys h k = tt
-appends-more (Some a) None new xs ys h k = absurd h
-appends-more (Some a) (Some b) None xs ys h k = absurd k
-appends-more (Some a) (Some b) (Some d) xs ys h k = k ∙ (ap (λ z. z ++ ys) h ∙ append_assoc a xs ys)
 
 pub appends-none : (o : Option (List ℕ)) → Appends o o []
 appends-none None = tt
@@ -36,11 +32,6 @@ consumes-none (Some a) = refl
 
 not_long : (b : List ℕ) → length b ≤ limit → nat_lt limit (length b) ≡ false
 not_long b h = elim (leb_tells (suc limit) (length b)) [ inl t ↦ absurd (omega (arith, t.1, h)) | inr t ↦ t.0 ]
-
-take-append-all : (n : ℕ) (xs ys : List ℕ) → length xs ≤ n → take n (xs ++ ys) ≡ xs ++ take (n - length xs) ys
-take-append-all n [] ys h = let same : n ≡ n - 0 = omega arith in ap (λ m. take m ys) same
-take-append-all zero (x ∷ xs) ys h = absurd (omega (arith, h))
-take-append-all (suc n) (x ∷ xs) ys h = let same : n - length xs ≡ suc n - suc (length xs) = omega arith in ap (λ l. x ∷ l) (take-append-all n xs ys (omega (arith, h)) ∙ ap (λ m. xs ++ take m ys) same)
 
 -- the octets up to the limit come to this
 answers-by : (b octets written : List ℕ) (long : Bool) (status : Status) (old new : Option (List ℕ)) → take limit b ≡ octets → run long 0 opening (pieces octets) ≡ record { status = status; text = written }
@@ -66,7 +57,7 @@ run-more old new left mid now taken told then count piece r eaten takes =
       octets = r.octets ++ piece;
       written = r.written ++ t.added;
       consumed = consumes-more left mid now r.octets piece r.consumed eaten;
-      took = appends-more taken told then r.written t.added r.took t.taken;
+      took = append_twice taken told then r.written t.added r.took t.taken;
       fed = t.on;
       counted = length-append r.octets piece ∙ ap (λ n. n + length piece) r.counted;
     }
@@ -77,14 +68,14 @@ pub run-stops : (old new : Reader) (left mid now taken told then : Option (List 
 run-stops old new None mid now taken told then count piece status r eaten takes low = tt
 run-stops old new (Some b) mid now taken told then count piece status r eaten takes low =
     let t = takes r.octets r.written r.fed in
-    stopped now t.added (consumes-more (Some b) mid now r.octets piece r.consumed eaten) (appends-more taken told then r.written t.added r.took t.taken) t.on
+    stopped now t.added (consumes-more (Some b) mid now r.octets piece r.consumed eaten) (append_twice taken told then r.written t.added r.took t.taken) t.on
   where
     stopped : (now : Option (List ℕ)) (added : List ℕ) → Consumes (Some b) now (r.octets ++ piece) → Appends taken then (r.written ++ added)
         → Stopped status (r.octets ++ piece) (r.written ++ added) → Answers b status taken then
     stopped None added eaten took goes = absurd eaten
     stopped (Some rest) added eaten took goes =
         let fits : length (r.octets ++ piece) ≤ limit = omega (arith, length-append r.octets piece, r.counted, low) in
-        let front : take limit b ≡ (r.octets ++ piece) ++ take (limit - length (r.octets ++ piece)) rest = ap (take limit) eaten ∙ take-append-all limit (r.octets ++ piece) rest fits in
+        let front : take limit b ≡ (r.octets ++ piece) ++ take (limit - length (r.octets ++ piece)) rest = ap (take limit) eaten ∙ take-front limit (r.octets ++ piece) rest fits in
         answers-by b _ _ (nat_lt limit (length b)) status taken then front (goes (nat_lt limit (length b)) (take (limit - length (r.octets ++ piece)) rest)) refl took
 
 -- the status is that of the line that isn't there

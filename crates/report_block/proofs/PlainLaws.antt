@@ -1,6 +1,6 @@
 -- What plain deeds make of a block: one that doesn't touch its entries, an event where BufTm is 0, and an accepted write.
-use Rattle.std.proofs.Common.{rules, ◌≡◌, ℕ, max, Bool, true, false, List, [], ◌∷◌, ◌++◌, refl, sym, subst, ap, ◌∙◌, None, Some, Ok}
-use Rattle.std.specs.Prelude.{◌==◌, ◌||◌, Option}
+use Rattle.std.proofs.Common.{rules, ◌≡◌, ℕ, max, true, false, List, [], ◌∷◌, ◌++◌, refl, sym, subst, ap, ◌∙◌, None, Some, Ok}
+use Rattle.std.specs.Prelude.{◌==◌, Option}
 use Rattle.std.proofs.lemmas.List.Elements.{All-nil}
 use Rattle.std.proofs.lemmas.Bool.{eq-eqb}
 use Rattle.sv_base.specs.declared.numbers.AssocNo.{AssocNo}
@@ -34,20 +34,10 @@ use Rattle.report_block.specs.Writes.{set_after}
 use Rattle.report_block.specs.Components.{after_writing, coming_by}
 use Rattle.report_block.proofs.PassLaws.{write-came}
 use Rattle.report_block.proofs.StandLaws.{deed-stands, before-arrival}
-
-or-left : (x y : Bool) → (x || y) ≡ false → x ≡ false
-or-left true y h = cc
-or-left false y h = refl
-
-or-right : (x y : Bool) → (x || y) ≡ false → y ≡ false
-or-right true y h = cc
-or-right false y h = h
+use Rattle.list_laws.proofs.Truths.{never as off, or-right, or-left}
 
 none-kept : AreOf [] []
 none-kept = record { are = refl; readable = All-nil IsMemberKept }
-
-off : {A : Type 0} → false ≡ true → A
-off h = cc
 
 module _ (c : Model) (b m n : ℕ) (before : Past) (part : ReportBlock) where
   -- what a deed doesn't touch it leaves as it is

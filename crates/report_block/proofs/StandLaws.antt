@@ -40,6 +40,8 @@ use Rattle.report_block.specs.declared.block.ReportBlock.{ReportBlock}
 use Rattle.report_block.specs.Standing.{IsMemberKept, IsReadable, IsReadableEvent, origin_of, Stands}
 use Rattle.report_block.specs.Coming.{after_bodies, purged_if, body_at, is_due, origin_after, arrived_if, arrived, Coming, closed_at, window_after, general_body, came, AreOf, IsComing}
 use Rattle.report_block.proofs.BodyLaws.{bodies-all, bodies-append, body-of-all, time_entries, time-selected, deed_entries, deed-selected, readable-appended, readable-if, closed-readable, then-readable, own-readable, group-left}
+use Rattle.list_laws.proofs.Truths.{or-left}
+use Rattle.list_laws.proofs.Places.{same-unless}
 
 -- ---- how it begins
 
@@ -169,20 +171,13 @@ module _ (c : Model) (b m n : ℕ) (before : Past) (s : Block) where
           (subst (λ u. AttributesStand (if u then written (record { 0 = a }) comp v (front c b (at n m (wrote a k comp v) ∷ before)) s else s) c b (at n m (wrote a k comp v) ∷ before)) t.0 other)
   attributes-stand d here is st = point-told c b (at n m d) before s (before-arrival st)
 
--- what is no purging change leaves the integrity period
-number-same : (x y : ℕ) → not (x == y) ≡ false → x ≡ y
-number-same x y h = either (eqb_tells x y) where
-  either : (((x == y) ≡ true) × (x ≡ y)) ⊎ (((x == y) ≡ false) × (x ≢ y)) → x ≡ y
-  either (inl t) = t.1
-  either (inr t) = cc (t.0, h)
-
 period-still : (comp : Comp) (v : Value) (was : Parameters) → is_changed_by comp v was ≡ false → (written_to comp v was).intg_pd ≡ was.intg_pd
 period-still comps.RptID (kinds.Text t) was h = refl
 period-still comps.DatSet (kinds.Text t) was h = refl
 period-still comps.OptFlds (kinds.Bits o) was h = refl
 period-still comps.BufTm (kinds.Uint k) was h = refl
 period-still comps.TrgOps (kinds.Bits o) was h = refl
-period-still comps.IntgPd (kinds.Uint k) was h = number-same k was.intg_pd h
+period-still comps.IntgPd (kinds.Uint k) was h = same-unless k was.intg_pd h
 period-still _ _ was h = refl
 
 module _ (c : Model) (b m n : ℕ) (before : Past) where
@@ -209,10 +204,6 @@ module _ (c : Model) (b m n : ℕ) (before : Past) where
       h (ap (λ k. k == 0) (sym (period-unchanged d (sym told))) ∙ on) ∙ ap (λ t. Some (if is_empty before || t then max m (now before) else origin c b before)) told
 
 -- ---- the deed: what is gathered, and the entries that come
-
-or-left : (x y : Bool) → (x || y) ≡ false → x ≡ false
-or-left true y h = cc
-or-left false y h = refl
 
 abbrev AllReadable : List Kept → Type 0
 AllReadable ks = All IsMemberKept ks

@@ -21,6 +21,7 @@ use Rattle.window_core.specs.Standing.{piece_of}
 use Rattle.window_core.proofs.PieceLaws.{pieces-inserted, shared}
 use Rattle.window_core.proofs.RowLaws.{new-among}
 use Rattle.report_block.specs.Standing.{IsMemberKept, AreKeptMembers}
+use Rattle.list_laws.proofs.Truths.{or-right, or-left}
 
 -- ---- numbers that ascend
 
@@ -34,14 +35,6 @@ KeptUp ks = AreUp 0 (map piece_of ks)
 
 abbrev pub IsUp : Entry → Type 0
 IsUp e = KeptUp e.members
-
-or-first : (x y : Bool) → (x || y) ≡ false → x ≡ false
-or-first true y h = cc
-or-first false y h = refl
-
-or-second : (x y : Bool) → (x || y) ≡ false → y ≡ false
-or-second true y h = cc
-or-second false y h = h
 
 lower : (a b : ℕ) (ps : List Piece) → a ≤ b → AreUp b ps → AreUp a ps
 lower a b [] h up = tt
@@ -62,15 +55,15 @@ insert-up a p (q ∷ qs) h new up = by (leb_tells (suc p.number) q.number) (eqb_
         → (((p.number == q.number) ≡ true) × (p.number ≡ q.number)) ⊎ (((p.number == q.number) ≡ false) × (p.number ≢ q.number))
         → (q.number < p.number → is_there p.number qs ≡ false → AreUp q.number qs → AreUp q.number (insert p qs)) → AreUp a (insert p (q ∷ qs))
     by (inl t) other later = subst (λ u. AreUp a (if u then p ∷ q ∷ qs else q ∷ insert p qs)) (sym t.0) (h, (t.1, up.1))
-    by (inr t) (inl same) later = cc (same.0, or-first (p.number == q.number) (is_there p.number qs) new)
+    by (inr t) (inl same) later = cc (same.0, or-left (p.number == q.number) (is_there p.number qs) new)
     by (inr t) (inr other) later = subst (λ u. AreUp a (if u then p ∷ q ∷ qs else q ∷ insert p qs)) (sym t.0)
-        (up.0, later (omega (arith, t.1, other.1)) (or-second (p.number == q.number) (is_there p.number qs) new) up.1)
+        (up.0, later (omega (arith, t.1, other.1)) (or-right (p.number == q.number) (is_there p.number qs) new) up.1)
 
 insert_all-up : (a : ℕ) (ps qs : List Piece) → AreUp a ps → AreUp a qs → share ps qs ≡ false → AreUp a (insert_all ps qs)
 insert_all-up a [] qs up other apart = other
 insert_all-up a (p ∷ ps) qs up other apart =
-    insert-up a p (insert_all ps qs) up.0 (new-among p.number ps qs (not-there p.number p.number ps (omega arith) up.1) (or-first (is_there p.number qs) (share ps qs) apart))
-    (insert_all-up a ps qs (lower a p.number ps (omega (arith, up.0)) up.1) other (or-second (is_there p.number qs) (share ps qs) apart))
+    insert-up a p (insert_all ps qs) up.0 (new-among p.number ps qs (not-there p.number p.number ps (omega arith) up.1) (or-left (is_there p.number qs) (share ps qs) apart))
+    (insert_all-up a ps qs (lower a p.number ps (omega (arith, up.0)) up.1) other (or-right (is_there p.number qs) (share ps qs) apart))
 
 -- ---- notes
 

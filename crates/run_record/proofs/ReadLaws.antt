@@ -2,15 +2,14 @@
 use Rattle.std.proofs.Common.{◌≡◌, ℕ, ◌+◌, ◌%◌, ◌<◌, ◌≤◌, inl, inr, Bool, true, false, not, List, [], ◌∷◌, length, ◌==◌, refl, sym, ap, subst, ◌∙◌, arith}
 use Rattle.std.specs.Prelude.{Some, Ok}
 use Rattle.std.specs.Fmt.{decimal}
-use Rattle.std.specs.List.{list_all, list_any, flat_map, join_with_byte}
+use Rattle.std.specs.List.{list_all, flat_map, join_with_byte}
 use Rattle.std.proofs.lemmas.Bool.{and_from, or_from, cond-true, cond-false, le-ltb, lt-ltb, eq-eqb}
-use Rattle.std.proofs.lemmas.Bool.Decides.{nat_tests}
 use Rattle.sv_base.specs.declared.numbers.AssocNo.{AssocNo}
 use Rattle.text_words.specs.Octets.{IsSkipped}
 use Rattle.text_words.specs.Octets.{is_printable}
 use Rattle.text_words.specs.Values.{truth_at}
 use Rattle.text_words.specs.Spelled.{truth_word}
-use Rattle.text_words.proofs.WordLaws.{AreWords, split-joined, joined-printable}
+use Rattle.text_words.proofs.WordLaws.{split-joined, joined-printable, none-empty}
 use Rattle.text_words.proofs.SpelledWordLaws.{number-within}
 use Rattle.run_record.specs.Spelled.{form_words, pair_words, words, spelled}
 use Rattle.run_record.specs.Grammar.{IsAssoc, IsForm, is_word, Spells}
@@ -24,10 +23,6 @@ use Rattle.run_record.specs.declared.line.OpenForm.TheVariants as forms
 use Rattle.run_record.specs.declared.line.RecLine.{RecLine}
 use Rattle.run_record.specs.declared.line.RecLine.TheVariants as lines
 use Rattle.run_record.proofs.WordLaws.{are-words, not-skipped}
-
-pub none-empty : (ws : List (List ℕ)) → AreWords ws → list_any (λ w. length w == 0) ws ≡ false
-none-empty [] are = refl
-none-empty (w ∷ ws) are = let some : (length w == 0) ≡ false = grind (arith, nat_tests, are.0.0) in or_from _ _ some (none-empty ws are.1)
 
 not-long : (text : List ℕ) → length text ≤ 140100 → list_all is_printable text ≡ true → is_long text ≡ false
 not-long text short all = or_from _ _ (le-ltb 140100 (length text) short) (ap not all)

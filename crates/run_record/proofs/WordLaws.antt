@@ -1,8 +1,6 @@
 -- The words of a line, and their text.
-use Rattle.std.proofs.Common.{◌≡◌, ℕ, true, false, List, [], ◌∷◌, ◌++◌, length, take, subst, arith, length-append, nat_le, ◌==◌, append-nil, append_assoc, refl, sym, ap, ◌∙◌}
+use Rattle.std.proofs.Common.{◌≡◌, ℕ, true, false, List, [], ◌∷◌, ◌++◌, length, nat_le, ◌==◌, append-nil, append_assoc, refl, sym, ap, ◌∙◌}
 use Rattle.std.specs.List.{list_all, flat_map, join_with_byte}
-use Rattle.std.proofs.lemmas.List.{take-take}
-use Rattle.std.proofs.Math.Seq.{take-append_seam}
 use Rattle.std.proofs.lemmas.Bool.{and_parts, and_from, leb-true, le-leb}
 use Rattle.text_words.specs.Octets.{is_skipped}
 use Rattle.text_words.specs.Spelled.{spaced}
@@ -32,9 +30,3 @@ all-words (w ∷ ws) are = and_from _ _ (and_from _ _ (le-leb 1 (length w) are.0
 -- what was added, a word and then the others
 pub pushed : (old a out word : List ℕ) (more : List (List ℕ)) → a ≡ old ++ word → out ≡ a ++ flat_map spaced more → out ≡ old ++ join_with_byte 32 (word ∷ more)
 pushed old a out word more first others = others ∙ (ap (λ l. l ++ flat_map spaced more) first ∙ (append_assoc old word (flat_map spaced more) ∙ ap (λ l. old ++ l) (sym (joined word more))))
-
--- what a text that was added to begins with it still begins with
-pub still-begins : (a b m x : List ℕ) → m ≡ a ++ b → take (length m) x ≡ m → take (length a) x ≡ a
-still-begins a b m x e h =
-    let same : take (length (a ++ b)) x ≡ a ++ b = subst (λ y. take (length y) x ≡ y) e h in
-    sym (take-take (length a) (length (a ++ b)) x (omega (arith, length-append a b))) ∙ ap (λ y. take (length a) y) same ∙ take-append_seam a b

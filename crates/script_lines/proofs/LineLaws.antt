@@ -1,5 +1,5 @@
 -- A line among scripts is read exactly where a text spells it.
-use Rattle.std.proofs.Common.{◌≡◌, ℕ, ◌≤◌, Bool, true, false, cond, not, List, [], ◌∷◌, ◌++◌, length, ◌==◌, refl, sym, ap, ap₂, subst, ◌∙◌, arith, take, drop, take-append-drop}
+use Rattle.std.proofs.Common.{◌≡◌, ℕ, ◌≤◌, Bool, true, false, cond, not, List, [], ◌∷◌, ◌++◌, length, ◌==◌, refl, ap, subst, ◌∙◌, arith}
 use Rattle.std.specs.Prelude.{Option, Some, None, Result, Ok, Err, codes}
 use Rattle.std.specs.Fmt.{decimal}
 use Rattle.std.specs.Str.{bytes_eq}
@@ -11,7 +11,7 @@ use Rattle.sv_base.specs.declared.numbers.AssocNo.{AssocNo}
 use Rattle.text_words.specs.Words.{behind}
 use Rattle.text_words.specs.Numbers.{number_within}
 use Rattle.text_words.proofs.WordLaws.{AreWords, split-joined, joined-printable, none-empty}
-use Rattle.text_words.proofs.ReadWordLaws.{number-tells}
+use Rattle.text_words.proofs.ReadWordLaws.{number-tells, behind-tells}
 use Rattle.text_words.proofs.SpelledWordLaws.{number-within, decimal-word}
 use Rattle.run_record.specs.Grammar.{IsAssoc, is_word, Spells}
 use Rattle.run_record.specs.Judging.{keyword_at, known_at, tell_at, is_long, line_at}
@@ -83,11 +83,6 @@ ok_is x line e = cc e
 some_is : {A : Type 0} (b : Bool) (x y : A) → cond b (Some x) None ≡ Some y → (b ≡ true) × (x ≡ y)
 some_is true x y e = (refl, cc e)
 some_is false x y e = absurd (cc e)
-
-behind-tells : (front text rest : List ℕ) → behind front text ≡ Some rest → text ≡ front ++ rest
-behind-tells front text rest is =
-    let parts = some_is (bytes_eq (take (length front) text) front) (drop (length front) text) rest is in
-    sym (take-append-drop (length front) text) ∙ ap₂ (λ a b. a ++ b) ((bytes_eq-Decides (take (length front) text) front).0 parts.0) parts.1
 
 numbered-told : (text word : List ℕ) (line : ScriptLine) (n : Option ℕ) → number_within 1 16 word ≡ n → text ≡ codes "script association " ++ word → numbered_as word n ≡ Ok line → SpellsScript text line
 numbered-told text word line (Some m) found is told =

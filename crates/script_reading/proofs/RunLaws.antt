@@ -1,14 +1,14 @@
 -- The lines of an input, one after another.
-use Rattle.std.proofs.Common.{◌≡◌, ◌≤◌, ◌<◌, ℕ, suc, Bool, true, false, List, [], ◌∷◌, ◌++◌, length, refl, sym, ap, ◌∙◌, arith, inl, inr}
+use Rattle.std.proofs.Common.{◌≡◌, ◌≤◌, ◌<◌, ℕ, suc, Bool, true, false, List, [], ◌∷◌, ◌++◌, length, refl, sym, ap, ◌∙◌, arith}
 use Rattle.std.specs.Prelude.{◌==◌, ◌&&◌, nat_lt, if◌then◌else◌}
 use Rattle.std.proofs.lemmas.Bool.{lt-ltb}
-use Rattle.std.proofs.lemmas.Bool.Decides.{leb_tells}
 use Rattle.std.proofs.lemmas.List.Splits.{slice_split_at, slice_split_none}
 use Rattle.record_outcome.specs.Records.{most_lines, NoNewline, pieces, has_begun}
 use Rattle.record_outcome.specs.declared.status.Status.{Status}
 use Rattle.record_outcome.proofs.LineLaws.{pieces-some}
 use Rattle.script_reading.specs.Moves.{Place, stops}
 use Rattle.script_reading.specs.Inputs.{passed, missing, unended, ended, lines_at, line_at, refused, moved, run}
+use Rattle.list_laws.proofs.Places.{not-below}
 
 run-on : (long : Bool) (count : ℕ) (place : Place) (line : List ℕ) (more : List (List ℕ)) → 0 < length more
     → run long count place (line ∷ more) ≡ moved (line_at (suc count) place line) (λ to. run long (suc count) to more)
@@ -30,12 +30,9 @@ pub over-lines : (status : Status) (number : ℕ) (place : Place) (line : List �
 unfolding line_at
 over-lines status number place line lt told = ap (λ b. if b then stops (passed 1 number place) else lines_at number place line) (lt-ltb most_lines number lt) ∙ ap stops (sym told)
 
-not_over : (number : ℕ) → number ≤ most_lines → nat_lt most_lines number ≡ false
-not_over number h = elim (leb_tells (suc most_lines) number) [ inl t ↦ absurd (omega (arith, t.1, h)) | inr t ↦ t.0 ]
-
 pub below-lines : (number : ℕ) (place : Place) (line : List ℕ) → number ≤ most_lines → line_at number place line ≡ lines_at number place line
 unfolding line_at
-below-lines number place line le = ap (λ b. if b then stops (passed 1 number place) else lines_at number place line) (not_over number le)
+below-lines number place line le = ap (λ b. if b then stops (passed 1 number place) else lines_at number place line) (not-below most_lines number le)
 
 -- behind the last newline
 pub ended-long : (status : Status) (long begun : Bool) (number : ℕ) (place : Place) → long ≡ true → status ≡ passed 3 number place → status ≡ ended long begun number place

@@ -1,5 +1,5 @@
 -- What the lines of scripts tell: whose a step is, and what a line makes of the associations.
-use Rattle.std.proofs.Common.{◌≡◌, ◌==◌, ◌&&◌, eq-eqb, ℕ, Bool, true, false, List, refl, sym, ap, subst, ◌∙◌}
+use Rattle.std.proofs.Common.{◌≡◌, ◌==◌, ◌&&◌, ℕ, Bool, true, false, List, refl, sym, ap, subst, ◌∙◌}
 use Rattle.std.specs.Prelude.{Option, None, Some, if◌then◌else◌}
 use Rattle.std.proofs.lemmas.Bool.{eqb-true}
 use Rattle.sv_base.specs.declared.config.Config.{Config}
@@ -36,6 +36,7 @@ use Rattle.script_lines.specs.declared.owner.Owner.TheVariants as owners
 use Rattle.written_histories.specs.Written.{actor_of}
 use Rattle.script_reading.specs.Forms.{form_in, opened_so, form_passed, IsFit}
 use Rattle.script_reading.specs.declared.form.ScriptForm.{ScriptForm}
+use Rattle.list_laws.proofs.Places.{same-number}
 
 -- ---- whose a step is
 
@@ -195,9 +196,6 @@ process-stays (lines.Done control well) a was may = refl
 process-stays (lines.Block control on) a was may = refl
 process-stays lines.Tick a was may = refl
 process-stays lines.End a was may = refl
-
-same-number : (n : ℕ) → (n == n) ≡ true
-same-number n = eq-eqb n n refl
 
 -- of its own what the script makes of it
 opened-in : (own : AssocNo) (a : AssocNo) (asked : OpenForm) (was : ScriptForm) → ((own.0 == a.0) && is_no_stream asked) ≡ true → form_in (form_passed (lines.Open a asked) was) ≡ form_behind a.0 (lines.Open a asked) (form_in was)

@@ -6,7 +6,7 @@ use Rattle.sv_base.specs.declared.config.Config.{Config}
 use Rattle.bay_config.specs.Servable.{IsServable}
 use Rattle.bay_model.specs.Points.{least_moment}
 use Rattle.bay_model.specs.Answers.{History}
-use Rattle.record_outcome.proofs.StartLaws.{is_served}
+use Rattle.text_configs.proofs.Served.{served}
 use Rattle.actor_scripts.specs.Actors.{AreFalling, CanPlay}
 use Rattle.actor_scripts.specs.Merging.{AreOf}
 use Rattle.actor_scripts.specs.Raced.{IsRaced}
@@ -80,7 +80,7 @@ module _ (p : Plan) (c : Config) (text : List ℕ) (book : Book) (ss : List Part
 -- ---- a plan's actors
 
 pub served-plan : (p : Plan) (c : Config) (text : List ℕ) (book : Book) (ss : List Part) → IsOfPlan p c text book ss → IsServable c
-served-plan p c text book ss is = subst IsServable is.config (is_served p.text p.config is.sound.text.config)
+served-plan p c text book ss is = subst IsServable is.config (served p.text p.config is.sound.text.config)
 
 -- actors that are cast of a sound plan's scripts are of the plan
 pub cast-plan : (p : Plan) (ss : List Part) (book : Book) → IsSound p → IsCast ss p.scripts → book ≡ map lines_in p.scripts → IsOfPlan p p.config p.text book ss

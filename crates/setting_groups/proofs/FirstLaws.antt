@@ -4,7 +4,6 @@ use Rattle.std.specs.Prelude.{◌==◌, ◌||◌, codes, nat_lt, if◌then◌els
 use Rattle.std.specs.List.{All, find}
 use Rattle.std.specs.Option.{option_map}
 use Rattle.std.specs.Str.{bytes_eq}
-use Rattle.std.specs.Cmp.Lexicographic.{bytes_decides}
 use Rattle.std.proofs.lemmas.Bool.{ltb-true, ltb-false}
 use Rattle.std.proofs.lemmas.List.{length-map}
 use Rattle.std.proofs.lemmas.List.Elements.{All-head, All-tail, All-nil, All-cons, All-append, All-map}
@@ -31,6 +30,7 @@ use Rattle.setting_groups.specs.Grouped.{Settled, Grouped, no_setting, setting_a
 use Rattle.setting_groups.specs.Opened.{block_defined, held_as, opened, place_in as place_of, setting_defined, settings_from, HasValues, IsGrouped}
 use Rattle.setting_groups.specs.Standing.{AreApart, IsTwin, Stands}
 use Rattle.setting_groups.proofs.OpenLaws.{opened_stands, place_is}
+use Rattle.list_laws.proofs.Distinct.{octets_own}
 
 -- ---- two with the same frames
 
@@ -114,7 +114,7 @@ twins-count c ds x y (a ∷ as_) = by (is_setting a) (twins-count c ds (1 + x) (
     by true h = ap suc h
     by false h = h
 
-lines-count : (c : Config) (x : ℕ) (as_ : List AttrDef) → length (attrs_defined c x as_) ≡ length as_
+pub lines-count : (c : Config) (x : ℕ) (as_ : List AttrDef) → length (attrs_defined c x as_) ≡ length as_
 lines-count c x [] = refl
 lines-count c x (a ∷ as_) = ap suc (lines-count c (1 + x) as_)
 
@@ -163,7 +163,7 @@ generated-report : (c : Config) (ks : List CtlDef) → All (λ (a : Attr). a.acc
 generated-report c [] = All-nil (λ (a : Attr). a.access ≢ model.active)
 generated-report c (k ∷ ks) = All-append (λ (a : Attr). a.access ≢ model.active) (attrs_generated c k) (flat_map (attrs_generated c) ks) (own-report c k (parameters k)) (generated-report c ks)
 
-generated-count : (c : Config) (ks : List CtlDef) → length (flat_map (attrs_generated c) ks) ≡ length (flat_map parameters ks)
+pub generated-count : (c : Config) (ks : List CtlDef) → length (flat_map (attrs_generated c) ks) ≡ length (flat_map parameters ks)
 generated-count c [] = refl
 generated-count c (k ∷ ks) = omega (arith, length-append (attrs_generated c k) (flat_map (attrs_generated c) ks), length-append (parameters k) (flat_map parameters ks), length-map (parameters k) (generated_of c k), generated-count c ks)
 
@@ -312,9 +312,6 @@ module _ (c : Config) (P : Held → Type 0) where
 
 -- ---- the domains of the blocks have groups
 
-bytes-own : (d : List ℕ) → bytes_eq d d ≡ true
-bytes-own d = (bytes_decides d d).1 refl
-
 some-count : (gs : List SgDef) (d : List ℕ) (g : SgDef) → All (λ (q : SgDef). (1 ≤ q.active) × (q.active ≤ q.count)) gs → Among g gs → bytes_eq d g.domain ≡ true → 0 < (groups_defined gs d).count
 some-count [] d g are i is = absurd i
 some-count (q ∷ gs) d g are i is = by (bytes_eq d q.domain) refl i (some-count gs d g (All-tail (λ (k : SgDef). (1 ≤ k.active) × (k.active ≤ k.count)) q gs are))
@@ -332,7 +329,7 @@ pub groups-there : (c : Config) → IsGrouped c → (g : SgDef) → Among g c.gr
 groups-there c h g i =
     let there : is_some (position (bytes_eq g.domain) (domains c)) ≡ true = among-all (λ (q : SgDef). is_some (position (bytes_eq q.domain) (domains c)) ≡ true) c.groups h.there g i in
     let same : groups_of (configured_model c) (domain_number c g.domain) ≡ groups_defined c.groups g.domain = at_position (groups_defined c.groups) (record { count = 0; active = 0 }) g.domain (domains c) there in
-    omega (arith, ap (λ (k : Groups). k.count) same, some-count c.groups g.domain g h.groups i (bytes-own g.domain))
+    omega (arith, ap (λ (k : Groups). k.count) same, some-count c.groups g.domain g h.groups i (octets_own g.domain))
   where
     among-all : {X : Type 0} (P : X → Type 0) (xs : List X) → All P xs → (x : X) → Among x xs → P x
     among-all P [] all x i = absurd i

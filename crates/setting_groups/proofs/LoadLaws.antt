@@ -23,6 +23,7 @@ use Rattle.setting_groups.specs.Parts.{told, part_answer, part_deed, after_part}
 use Rattle.setting_groups.specs.Standing.{Stands, StandsBlock, IsEdit}
 use Rattle.setting_groups.proofs.PartLaws.{act-range, confirm-held, edit-range}
 use Rattle.setting_groups.proofs.ValueLaws.{IsPlace, is_place}
+use Rattle.list_laws.proofs.Truths.{and-false}
 
 -- ---- what the settings of a domain are set to
 
@@ -36,7 +37,7 @@ differ-later t ts are = λ j k lj lk e. let one : suc j ≡ suc k = are (suc j) 
 abbrev value_if : ℕ → ℕ → Settled → Option Value
 value_if d i t = if t.domain == d then Some (loading i t).value else None
 
-left : (o : Option Value) → option_or o None ≡ o
+pub left : (o : Option Value) → option_or o None ≡ o
 left None = refl
 left (Some v) = refl
 
@@ -99,10 +100,6 @@ no-access model.reported other = refl
 no-access model.writable other = refl
 no-access model.active other = absurd (other refl)
 no-access model.edited other = refl
-
-and-false : (b : Bool) → (b && false) ≡ false
-and-false true = refl
-and-false false = refl
 
 module _ (c : Model) (before : Past) (s : Grouped) (h : Stands s c before) (complete : IsComplete c s) (d : ℕ) (there : d < length s.domains) (some : 0 < (groups_of c d).count) where
   block : StandsBlock (domain_at s d) c d before

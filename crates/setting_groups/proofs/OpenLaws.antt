@@ -25,6 +25,7 @@ use Rattle.bay_model.specs.NamedLines.{is_setting, domains, domain_number}
 use Rattle.setting_groups.specs.Grouped.{Domained, Settled, Grouped, domain_at, setting_at, no_domain, no_setting}
 use Rattle.setting_groups.specs.Standing.{Stands, StandsBlock, StandsSetting}
 use Rattle.setting_groups.specs.Opened.{slots_of, held_as, place_at, place_in, block_defined, setting_defined, settings_from, opened, IsGrouped, IsSetting}
+use Rattle.list_laws.proofs.Options.{none_some}
 
 pub kind_at : (t : TypeOf) (vs : List Value) (k : ℕ) (d : Held) → k < length (slots_of t vs) → (slice_index_or (slots_of t vs) k d).kind ≡ kind_of t
 kind_at t [] k d below = absurd (omega (arith, below))
@@ -132,16 +133,13 @@ apart_from ds x (a ∷ rest) j k lj lk e = by (is_setting a) (λ j k. apart_from
     by true later (suc j) (suc k) lj lk e = ap suc (later j k (omega (arith, lj)) (omega (arith, lk)) e)
     by false later j k lj lk e = later j k lj lk e
 
-none_there : {A : Type 0} (x : A) → None ≡ Some x → ⊥
-none_there x e = cc
-
 attr_at : (c : Config) (x : ℕ) (as_ : List AttrDef) (others : List Attr) (p : ℕ) (a : AttrDef) → slice_get as_ p ≡ Some a → slice_get (attrs_defined c x as_ ++ others) p ≡ Some (attr_defined c (x + p) a)
-attr_at c x [] others p a there = absurd (none_there a there)
+attr_at c x [] others p a there = absurd (none_some a there)
 attr_at c x (b ∷ bs) others zero a there = ap (λ (o : Option AttrDef). option_map (λ (q : AttrDef). attr_defined c x q) o) there ∙ ap (λ n. Some (attr_defined c n a)) (omega arith)
 attr_at c x (b ∷ bs) others (suc p) a there = attr_at c (1 + x) bs others p a there ∙ ap (λ n. Some (attr_defined c n a)) (omega arith)
 
 line_holds : (P : AttrDef → Type 0) (as_ : List AttrDef) (p : ℕ) (a : AttrDef) → All P as_ → slice_get as_ p ≡ Some a → P a
-line_holds P [] p a all there = absurd (none_there a there)
+line_holds P [] p a all there = absurd (none_some a there)
 line_holds P (b ∷ bs) zero a all there = subst (λ (o : Option AttrDef). P (unwrap_or o b)) there (All-head P b bs all)
 line_holds P (b ∷ bs) (suc p) a all there = line_holds P bs p a (All-tail P b bs all) there
 

@@ -26,7 +26,7 @@ pub whole : (octets : List ℕ) (start : ℕ) → take (length octets - start) (
 whole octets start = take_all (length octets - start) (drop start octets) (rw length-drop (omega arith))
 
 -- known octets that grew by one list and then by another
-append_twice : (first middle last : Option (List ℕ)) (xs ys : List ℕ) → Appends first middle xs → Appends middle last ys → Appends first last (xs ++ ys)
+pub append_twice : (first middle last : Option (List ℕ)) (xs ys : List ℕ) → Appends first middle xs → Appends middle last ys → Appends first last (xs ++ ys)
 append_twice None middle last xs ys p q = tt
 append_twice (Some old) None last xs ys p q = absurd p
 append_twice (Some old) (Some now) None xs ys p q = absurd q

@@ -18,9 +18,10 @@ use Rattle.cfg_grammar.specs.Texts.{AreLines}
 use Rattle.cfg_lines.specs.declared.line.Line.{Line}
 use Rattle.cfg_lines.specs.declared.line.Line.TheVariants as lines
 use Rattle.list_laws.proofs.Among.{Among, At, at-among, at-last, right, ending, passes}
-use Rattle.text_configs.proofs.NamedLaws.{bytes-same}
 use Rattle.text_configs.proofs.ReachLaws.{above-has}
 use Rattle.text_configs.proofs.StandLaws.{IsIn, in-more, in-node}
+use Rattle.list_laws.proofs.Truths.{or-right, or-left}
+use Rattle.list_laws.proofs.Distinct.{octets_equal}
 
 -- an attribute that was read
 pub record IsRead (nodes : List LnDef) (a : AttrDef) : Type 0 where
@@ -80,21 +81,13 @@ pub record AreBeside (p q : List ℕ) : Type 0 where
 pub beside-turned : (p q : List ℕ) → AreBeside p q → AreBeside q p
 beside-turned p q h = record { other = λ e. h.other (sym e); above = h.below; below = h.above }
 
-none-left : (a b : Bool) → (a || b) ≡ false → a ≡ false
-none-left true b h = absurd (true≢false h)
-none-left false b h = refl
-
-none-right : (a b : Bool) → (a || b) ≡ false → b ≡ false
-none-right true b h = absurd (true≢false h)
-none-right false b h = h
-
 pub beside : (p q : List ℕ) → clashes p q ≡ false → AreBeside p q
 beside p q h =
-    let first = none-left (bytes_eq p q || is_among (above q) p) (is_among (above p) q) h in
+    let first = or-left (bytes_eq p q || is_among (above q) p) (is_among (above p) q) h in
     record {
-      other = λ e. true≢false (sym (bytes-same p q e) ∙ none-left (bytes_eq p q) (is_among (above q) p) first);
-      above = λ more e. true≢false (sym (ap (λ l. is_among (above l) p) e ∙ above-has p more) ∙ none-right (bytes_eq p q) (is_among (above q) p) first);
-      below = λ more e. true≢false (sym (ap (λ l. is_among (above l) q) e ∙ above-has q more) ∙ none-right (bytes_eq p q || is_among (above q) p) (is_among (above p) q) h);
+      other = λ e. true≢false (sym (octets_equal p q e) ∙ or-left (bytes_eq p q) (is_among (above q) p) first);
+      above = λ more e. true≢false (sym (ap (λ l. is_among (above l) p) e ∙ above-has p more) ∙ or-right (bytes_eq p q) (is_among (above q) p) first);
+      below = λ more e. true≢false (sym (ap (λ l. is_among (above l) q) e ∙ above-has q more) ∙ or-right (bytes_eq p q || is_among (above q) p) (is_among (above p) q) h);
     }
 
 pub not-taken : (others : List (List ℕ)) (path other : List ℕ) → is_taken others path ≡ false → Among other others → clashes path other ≡ false

@@ -4,7 +4,7 @@ use Rattle.std.specs.List.{sum_by}
 use Rattle.std.specs.Str.{bytes_eq}
 use Rattle.std.proofs.lemmas.Bool.Decides.{eqb_tells}
 use Rattle.std.proofs.lemmas.List.{map-append}
-use Rattle.list_laws.proofs.Distinct.{octets_same}
+use Rattle.list_laws.proofs.Distinct.{octets_same, octets_equal}
 use Rattle.sv_base.specs.declared.config.Config.{Config}
 use Rattle.sv_base.specs.declared.config.AttrDef.{AttrDef}
 use Rattle.sv_base.specs.declared.config.CtlDef.{CtlDef}
@@ -20,7 +20,6 @@ use Rattle.bay_config.specs.Servable.{attr_type}
 use Rattle.list_laws.proofs.Appended.{map-map}
 use Rattle.list_laws.proofs.Among.{Among, At, of-each, at-among, among-at, at-same, at-map, at-left, at-index, mapped, right}
 use Rattle.text_configs.proofs.JoinedLaws.{NoDollar, IsPlain, joined, joined-behind}
-use Rattle.text_configs.proofs.NamedLaws.{bytes-same}
 use Rattle.text_configs.proofs.ReachLaws.{child-alone, child-more}
 use Rattle.text_configs.proofs.AttrLaws.{key_of}
 use Rattle.text_configs.proofs.ParameterLaws.{parameter_attr, parameter_attrs, all_attrs, leaf_of}
@@ -30,16 +29,16 @@ use Rattle.text_configs.proofs.ValueLaws.{largest-counted}
 use Rattle.text_configs.proofs.PathLaws.{name-plain, fc-plain, path-plain, reference_names, key-joined}
 
 -- the octets of a leaf, and that there is none
-lookup-found : (all : List Leaf) (l : Leaf) → Among l all → ((m : Leaf) → Among m all → l.name ≡ m.name → l.octets ≡ m.octets) → leaf_octets all l.name ≡ Some l.octets
+pub lookup-found : (all : List Leaf) (l : Leaf) → Among l all → ((m : Leaf) → Among m all → l.name ≡ m.name → l.octets ≡ m.octets) → leaf_octets all l.name ≡ Some l.octets
 lookup-found [] l i same = absurd i
 lookup-found (m ∷ all) l i same = by (bytes_eq l.name m.name) refl i (λ j. lookup-found all l j (λ n k. same n (inr k)))
   where
     by : (t : Bool) → bytes_eq l.name m.name ≡ t → (l ≡ m) ⊎ Among l all → (Among l all → leaf_octets all l.name ≡ Some l.octets) → (if t then Some m.octets else leaf_octets all l.name) ≡ Some l.octets
     by true e j go = ap Some (sym (same m (inl refl) (octets_same l.name m.name e)))
-    by false e (inl s) go = absurd (true≢false (sym (bytes-same l.name m.name (ap (λ (x : Leaf). x.name) s)) ∙ e))
+    by false e (inl s) go = absurd (true≢false (sym (octets_equal l.name m.name (ap (λ (x : Leaf). x.name) s)) ∙ e))
     by false e (inr j) go = go j
 
-lookup-none : (all : List Leaf) (node : List ℕ) → ((m : Leaf) → Among m all → node ≡ m.name → ⊥) → leaf_octets all node ≡ None
+pub lookup-none : (all : List Leaf) (node : List ℕ) → ((m : Leaf) → Among m all → node ≡ m.name → ⊥) → leaf_octets all node ≡ None
 lookup-none [] node h = refl
 lookup-none (m ∷ all) node h = by (bytes_eq node m.name) refl (lookup-none all node (λ n j. h n (inr j)))
   where

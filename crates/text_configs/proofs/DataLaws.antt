@@ -3,7 +3,7 @@ use Rattle.std.proofs.Common.{◌≡◌, ℕ, zero, suc, ◌+◌, ◌<◌, ◌�
 use Rattle.std.specs.Option.{option_map}
 use Rattle.std.specs.List.{find}
 use Rattle.std.specs.Str.{bytes_eq}
-use Rattle.std.proofs.lemmas.Bool.{and_parts}
+use Rattle.std.proofs.lemmas.Bool.{and_parts, and_right}
 use Rattle.list_laws.proofs.Distinct.{octets_same}
 use Rattle.bay_model.specs.Model.{Role, several}
 use Rattle.bay_model.specs.Generated.{Named}
@@ -73,10 +73,6 @@ and-first : (a b : Bool) → a ≡ false → (a && b) ≡ false
 and-first true b h = absurd (true≢false h)
 and-first false b h = refl
 
-and-second : (a b : Bool) → b ≡ false → (a && b) ≡ false
-and-second true b h = h
-and-second false b h = refl
-
 three-first : (a b c : Bool) → (a && b) ≡ false → (a && b && c) ≡ false
 three-first true true c h = absurd (true≢false h)
 three-first true false c h = refl
@@ -107,7 +103,7 @@ name-none (suc l) ns f n none within i longer is = by (role-told (below f ns) no
         → (AreNone (below (first_name (rest_of n)) (below f ns)) → AreWithin l (below f ns) → Among (rest_of n) (below f ns) → is_itself (rest_of n) ≡ false → first_name (rest_of n) ≡ first_name (rest_of n) → holds l (below f ns) (first_name (rest_of n)) ≡ false)
         → holds (suc l) ns f ≡ false
     by (inr e) go = and-first (is_data_role (role_of (below f ns))) (are_data (grown (suc l) (below f ns))) e
-    by (inl each) go = and-second (is_data_role (role_of (below f ns))) (are_data (grown (suc l) (below f ns)))
+    by (inl each) go = and_right (is_data_role (role_of (below f ns))) (are_data (grown (suc l) (below f ns)))
         (forest-none l (below f ns) (first_names (below f ns)) (first_name (rest_of n)) (is-first (below f ns) (rest_of n) there (each (rest_of n) there))
         (go (none-below (below f ns) (first_name (rest_of n)) (λ m j k. none m j)) (within-below l ns f within) there (each (rest_of n) there) refl))
 

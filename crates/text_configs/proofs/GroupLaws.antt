@@ -31,9 +31,9 @@ use Rattle.list_laws.proofs.Among.{Among, all-of, left, right, ending, passes}
 use Rattle.value_store.specs.Opened.{HasValue, place_in}
 use Rattle.setting_groups.specs.Opened.{HasValues, IsHeld, IsSetting, IsGrouped}
 use Rattle.text_configs.proofs.FindLaws.{found, domain-there}
-use Rattle.text_configs.proofs.NamedLaws.{bytes-same}
 use Rattle.text_configs.proofs.StandLaws.{IsIn, in-node, in-more}
 use Rattle.text_configs.proofs.ValueLaws.{settable}
+use Rattle.list_laws.proofs.Distinct.{octets_equal}
 
 -- ---- how many there are
 
@@ -85,7 +85,7 @@ group-claimed (lines.Ctl control ∷ before) g i = right (key g.domain) (claims_
 group-claimed (line ∷ before) g i = group-claimed before g i
 
 clash-own : (p : List ℕ) → clashes p p ≡ true
-clash-own p = rw (bytes-same p p refl) refl
+clash-own p = rw (octets_equal p p refl) refl
 
 none-of : (d : List ℕ) (gs : List SgDef) → ((g : SgDef) → Among g gs → is-of d g ≡ false) → find (is-of d) gs ≡ None
 none-of d [] h = refl
@@ -119,7 +119,7 @@ groups-here (lines.Ld name ∷ before) text h some = absurd (omega (arith, some)
 groups-here (lines.Sgcb groups ∷ before) text h some =
     let f = h.4.follows in
     let d : List ℕ = domain_of before in
-    let here : is-of d groups ≡ true = bytes-same d groups.domain (sym (ap (λ (g : SgDef). g.domain) f.here)) in (
+    let here : is-of d groups ≡ true = octets_equal d groups.domain (sym (ap (λ (g : SgDef). g.domain) f.here)) in (
       groups,
       find-append (is-of d) (config_of before).groups (groups ∷ [])
           ∙ (ap (λ o. option_or o (find (is-of d) (groups ∷ []))) (none-before before d f.new)
@@ -241,7 +241,7 @@ no_groups = record { count = 0; active = 0 }
 is-there : (c : Config) (d : List ℕ) → HasNode c d → is_some (position (bytes_eq d) (domains c)) ≡ true
 is-there c d h =
     let there : Among d (domains c) = subst (λ x. Among x (domains c)) h.2 (domain-there h.0 [] c.nodes h.1) in
-    ap is_some (found (bytes_eq d) d (domains c) there (bytes-same d d refl)).is
+    ap is_some (found (bytes_eq d) d (domains c) there (octets_equal d d refl)).is
 
 is-a-setting : (c : Config) (a : AttrDef) → IsValued c a → is_setting a ≡ true → IsSetting c a
 is-a-setting c a h is =

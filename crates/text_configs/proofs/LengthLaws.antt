@@ -2,8 +2,9 @@
 use Rattle.std.proofs.Common.{◌≡◌, ℕ, ◌+◌, ◌≤◌, ◌<◌, ◌==◌, Bool, true, false, List, [], ◌∷◌, length, refl, ap, ◌∙◌, arith, nat_lt, if◌then◌else◌}
 use Rattle.std.specs.Int.{to_be_bytes, byte_at, w32}
 use Rattle.std.proofs.lemmas.Bool.Decides.{nat_tests}
-use Rattle.std.proofs.lemmas.Bool.{cond-true, cond-false}
+use Rattle.std.proofs.lemmas.Bool.{cond-false}
 use Rattle.sv_base.specs.Data.{length_field, without_zeros}
+use Rattle.value_store.proofs.HeadLaws.{short_field}
 
 zero-off : (a : ℕ) (rest : List ℕ) → a ≡ 0 → without_zeros (a ∷ rest) ≡ without_zeros rest
 zero-off a rest e = ap (λ b. if b == 0 then without_zeros rest else b ∷ rest) e
@@ -16,9 +17,6 @@ one-octet a b c d e f g h = ap length (zero-off a (b ∷ c ∷ d ∷ []) e ∙ (
 
 two-octets : (a b c d : ℕ) → a ≡ 0 → b ≡ 0 → 0 < c → length (without_zeros (a ∷ b ∷ c ∷ d ∷ [])) ≡ 2
 two-octets a b c d e f g = ap length (zero-off a (b ∷ c ∷ d ∷ []) e ∙ (zero-off b (c ∷ d ∷ []) f ∙ stays c (d ∷ []) g))
-
-short-field : (n : ℕ) → n < 128 → length (length_field n) ≡ 1
-short-field n h = let is : nat_lt n 128 ≡ true = grind (arith, nat_tests) in ap length (cond-true _ _ _ is)
 
 long-field : (n k : ℕ) → 128 ≤ n → length (without_zeros (to_be_bytes w32 n)) ≡ k → length (length_field n) ≡ 1 + k
 long-field n k h e = let is : nat_lt n 128 ≡ false = grind (arith, nat_tests) in
@@ -37,7 +35,7 @@ width-is : (n : ℕ) → n ≤ 500 → length (length_field n) ≡ width n
 width-is n h = by (nat_lt n 128) refl (nat_lt n 256) refl
   where
     by : (a : Bool) → nat_lt n 128 ≡ a → (b : Bool) → nat_lt n 256 ≡ b → length (length_field n) ≡ (if a then 1 else if b then 2 else 3)
-    by true e b f = short-field n (grind (arith, nat_tests, e))
+    by true e b f = short_field n (grind (arith, nat_tests, e))
     by false e true f = middle-field n (grind (arith, nat_tests, e)) (grind (arith, nat_tests, f))
     by false e false f = large-field n (grind (arith, nat_tests, f)) h
 

@@ -32,3 +32,4 @@ pub mod MemberLaws
 pub mod ReferenceLaws
 pub mod AllowedLaws
 pub mod ServableLaws
+pub mod Served

@@ -1,21 +1,14 @@
 -- The first names of what is named, what stands below a name, and the places of the tree that grows of it.
-use Rattle.std.proofs.Common.{◌≡◌, ℕ, suc, Bool, true, false, not, ◌&&◌, ◌⊎◌, inl, inr, List, [], ◌∷◌, ◌++◌, map, filter, fold, refl, sym, ap, subst, true≢false, if◌then◌else◌}
+use Rattle.std.proofs.Common.{◌≡◌, ℕ, suc, Bool, true, false, not, ◌&&◌, ◌⊎◌, inl, inr, List, [], ◌∷◌, ◌++◌, map, filter, fold, refl, sym, ap, subst, if◌then◌else◌}
 use Rattle.std.specs.List.{list_any}
 use Rattle.std.specs.Str.{bytes_eq}
-use Rattle.std.specs.Cmp.Lexicographic.{bytes_decides}
 use Rattle.std.proofs.lemmas.Bool.{and_parts, and_from}
-use Rattle.list_laws.proofs.Distinct.{octets_same}
+use Rattle.list_laws.proofs.Distinct.{octets_same, octets_equal}
 use Rattle.bay_model.specs.Generated.{Named}
 use Rattle.bay_model.specs.NameTree.{Forest, named, first_name, rest_of, is_itself, below, with_name, first_names, role_of, own_type, side_by_side, grown}
 use Rattle.bay_model.specs.Places.{Place, place, places}
 use Rattle.list_laws.proofs.Among.{Among, left, right, either, mapped, source, kept, passed, some-passes}
-
-pub not-not : (b : Bool) → not b ≡ true → b ≡ false
-not-not true h = absurd (true≢false (sym h))
-not-not false h = refl
-
-pub bytes-same : (a b : List ℕ) → a ≡ b → bytes_eq a b ≡ true
-bytes-same a b h = (bytes_decides a b).1 h
+use Rattle.list_laws.proofs.Truths.{not-true}
 
 -- a name that is added where it isn't there
 pub with-back : (f : List ℕ) (acc : List (List ℕ)) (m : List ℕ) → Among f (with_name acc m) → Among f acc ⊎ (f ≡ m)
@@ -78,7 +71,7 @@ first-of ns f i = by (fold-back f [] (map first_name (filter (λ n. not (is_itse
     by (inl j) = absurd j
     by (inr j) = let s = source first_name f (filter (λ n. not (is_itself n)) ns) j in
         let p = passed (λ n. not (is_itself n)) s.0 ns s.1 in
-        (s.0, record { there = p.0; longer = not-not (is_itself s.0) p.1; is = s.2 })
+        (s.0, record { there = p.0; longer = not-true (is_itself s.0) p.1; is = s.2 })
 
 pub is-first : (ns : List Named) (n : Named) → Among n ns → is_itself n ≡ false → Among (first_name n) (first_names ns)
 is-first ns n i e = fold-new (first_name n) [] (map first_name (filter (λ n. not (is_itself n)) ns)) (mapped first_name n _ (kept (λ n. not (is_itself n)) n ns i (ap not e)))
@@ -95,10 +88,10 @@ below-of ns name m i =
     let s = source rest_of m (filter (λ n. not (is_itself n) && bytes_eq name (first_name n)) ns) i in
     let p = passed (λ n. not (is_itself n) && bytes_eq name (first_name n)) s.0 ns s.1 in
     let both = and_parts (not (is_itself s.0)) (bytes_eq name (first_name s.0)) p.1 in
-    (s.0, record { there = p.0; longer = not-not (is_itself s.0) both.0; is = octets_same name (first_name s.0) both.1; left = s.2 })
+    (s.0, record { there = p.0; longer = not-true (is_itself s.0) both.0; is = octets_same name (first_name s.0) both.1; left = s.2 })
 
 pub is-below : (ns : List Named) (name : List ℕ) (n : Named) → Among n ns → is_itself n ≡ false → name ≡ first_name n → Among (rest_of n) (below name ns)
-is-below ns name n i e is = mapped rest_of n _ (kept (λ n. not (is_itself n) && bytes_eq name (first_name n)) n ns i (and_from (not (is_itself n)) (bytes_eq name (first_name n)) (ap not e) (bytes-same name (first_name n) is)))
+is-below ns name n i e is = mapped rest_of n _ (kept (λ n. not (is_itself n) && bytes_eq name (first_name n)) n ns i (and_from (not (is_itself n)) (bytes_eq name (first_name n)) (ap not e) (octets_equal name (first_name n) is)))
 
 -- ---- the places of a tree
 

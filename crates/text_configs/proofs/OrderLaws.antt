@@ -3,7 +3,7 @@ use Rattle.std.proofs.Common.{◌≡◌, ℕ, zero, suc, ◌+◌, ◌≤◌, Boo
 use Rattle.std.specs.Prelude.{codes}
 use Rattle.std.specs.Str.{bytes_eq}
 use Rattle.std.proofs.lemmas.List.{length-map}
-use Rattle.list_laws.proofs.Distinct.{octets_same}
+use Rattle.list_laws.proofs.Distinct.{octets_same, octets_equal}
 use Rattle.sv_base.specs.declared.config.Config.{Config}
 use Rattle.sv_base.specs.declared.config.LnDef.{LnDef}
 use Rattle.sv_base.specs.declared.config.AttrDef.{AttrDef}
@@ -18,7 +18,6 @@ use Rattle.sv_base.specs.ComponentTable.{comp_name, components, setting_componen
 use Rattle.bay_model.specs.NamedLines.{Line, is_setting, path_item, attribute_names, attribute_line, attribute_lines, node_line, block_line, block_lines, control_line, control_lines, group_line, domain_number, generated, lines, insert_line, in_order, names_in}
 use Rattle.bay_model.specs.NameTree.{longest}
 use Rattle.list_laws.proofs.Among.{Among, At, at-among, at-left, at-map, left, right, either, source, kept, passed, spread, gathered}
-use Rattle.text_configs.proofs.NamedLaws.{bytes-same}
 use Rattle.text_configs.proofs.ParameterLaws.{parameter_attr, parameter_attrs, all_attrs, at-either, at-right, at-source}
 use Rattle.text_configs.proofs.CommandLaws.{IsWithin, command-within}
 
@@ -313,7 +312,7 @@ module _ (c : Config) where
 module _ (c : Config) (x : ℕ) (a : AttrDef) where
   line-named : IsNamedLine (lines c) x a → Among (attr_named x a) (names_in c a.domain)
   line-named h = spread (λ (l : Line). l.names) h.line (attr_named x a) (filter (λ (l : Line). bytes_eq l.domain a.domain) (in_order (lines c)))
-      (kept (λ (l : Line). bytes_eq l.domain a.domain) h.line (in_order (lines c)) (ordered (lines c) h.line h.there) (bytes-same h.line.domain a.domain h.domain_is)) h.name
+      (kept (λ (l : Line). bytes_eq l.domain a.domain) h.line (in_order (lines c)) (ordered (lines c) h.line h.there) (octets_equal h.line.domain a.domain h.domain_is)) h.name
 
   of-own : At x a c.attrs → IsNamedLine (lines c) x a
   of-own h = let s = line-of c.attrs 0 (length c.attrs + length (generated c)) x a h in record {

@@ -7,10 +7,10 @@ use Rattle.std.proofs.lemmas.List.{take_at}
 use Rattle.cfg_lines.specs.Keys.{is_among, added}
 use Rattle.cfg_lines.specs.Paths.{above_within, above}
 use Rattle.cfg_lines.specs.Sizes.{edges_within, edges, with_edge, with_name, children}
-use Rattle.list_laws.proofs.Distinct.{octets_same}
+use Rattle.list_laws.proofs.Distinct.{octets_same, octets_equal}
 use Rattle.list_laws.proofs.Among.{Among, some-passes, passes}
 use Rattle.text_configs.proofs.JoinedLaws.{NoDollar}
-use Rattle.text_configs.proofs.NamedLaws.{bytes-same, with-old, with-new}
+use Rattle.text_configs.proofs.NamedLaws.{with-old, with-new}
 
 pub index-at : (front : List ℕ) (o : ℕ) (more : List ℕ) → slice_index (front ++ o ∷ more) (length front) ≡ o
 index-at [] o more = refl
@@ -41,7 +41,7 @@ pub above-has : (front more : List ℕ) → is_among (above (front ++ 36 ∷ mor
 above-has front more =
     let i : Among (take (length front) (front ++ 36 ∷ more)) (above (front ++ 36 ∷ more)) =
     within-has (length (front ++ 36 ∷ more)) (front ++ 36 ∷ more) (length front) (omega (arith, length-append front (36 ∷ more))) (index-at front 36 more) in
-    passes (λ k. bytes_eq front k) front (above (front ++ 36 ∷ more)) (subst (λ l. Among l (above (front ++ 36 ∷ more))) (take_at front (36 ∷ more) (length front) refl) i) (bytes-same front front refl)
+    passes (λ k. bytes_eq front k) front (above (front ++ 36 ∷ more)) (subst (λ l. Among l (above (front ++ 36 ∷ more))) (take_at front (36 ∷ more) (length front) refl) i) (octets_equal front front refl)
 
 pub record IsAbove (path node : List ℕ) : Type 0 where
   pub more : List ℕ
@@ -150,7 +150,7 @@ edges-old node x (e ∷ es) parts i = edges-old node x es (with_edge node parts 
 edges-new : (node x : List ℕ) (es : List (List ℕ × List ℕ)) (parts : List (List ℕ)) → Among (node, x) es → Among x (fold (with_edge node) parts es)
 edges-new node x [] parts i = absurd i
 edges-new node x (e ∷ es) parts (inl is) = edges-old node x es (with_edge node parts e) (subst (λ (f : List ℕ × List ℕ). Among x (with_edge node parts f)) is
-    (subst (λ b. Among x (if b then added parts x else parts)) (sym (bytes-same node node refl)) (with-new parts x)))
+    (subst (λ b. Among x (if b then added parts x else parts)) (sym (octets_equal node node refl)) (with-new parts x)))
 edges-new node x (e ∷ es) parts (inr i) = edges-new node x es (with_edge node parts e) i
 
 names-old : (node x : List ℕ) (names parts : List (List ℕ)) → Among x parts → Among x (fold (with_name node) parts names)

@@ -3,7 +3,7 @@ use Rattle.std.proofs.Common.{◌≡◌, ℕ, suc, ◌<◌, ◌≤◌, ◌⊎◌
 use Rattle.std.specs.List.{list_any}
 use Rattle.std.specs.Str.{bytes_eq}
 use Rattle.std.proofs.lemmas.Bool.{or_cases}
-use Rattle.list_laws.proofs.Distinct.{octets_same}
+use Rattle.list_laws.proofs.Distinct.{octets_same, octets_equal}
 use Rattle.sv_base.specs.declared.config.Config.{Config}
 use Rattle.sv_base.specs.declared.config.AttrDef.{AttrDef}
 use Rattle.bay_model.specs.Model.{Node, attribute, structure, none, several}
@@ -26,7 +26,7 @@ use Rattle.cfg_lines.specs.Nodes.{reaches}
 use Rattle.bay_config.specs.Servable.{IsMember, attr_type}
 use Rattle.list_laws.proofs.Among.{Among, At, of-each, at-get, at-among, among-at, spread, mapped, source, some-passes, heads, tails}
 use Rattle.text_configs.proofs.JoinedLaws.{ArePlain, NoDollar, joined, first, rest, first-joined, rest-joined, joined-longer, same-joined}
-use Rattle.text_configs.proofs.NamedLaws.{bytes-same, first-of, placed}
+use Rattle.text_configs.proofs.NamedLaws.{first-of, placed}
 use Rattle.text_configs.proofs.EntryLaws.{named_of}
 use Rattle.text_configs.proofs.FormLaws.{IsFormed, places-formed}
 use Rattle.text_configs.proofs.TreeLaws.{grown-tree}
@@ -176,7 +176,7 @@ module _ (c : Config) (told : IsTold c) where
       let same : r ≡ s.domain ++ 47 ∷ p.0.item = s.is ∙ ap (λ l. s.domain ++ 47 ∷ l) (sym (path-joined s.item) ∙ sym p.2) in
       found (has r) (node_at s.domain p.0) (nodes c)
       (spread (λ d. map (node_at d) (places_in c d)) s.domain (node_at s.domain p.0) (named.domains c) (domain-is-there s.domain (names_in s.item) h) (mapped (node_at s.domain) p.0 (places_in c s.domain) p.1))
-      (bytes-same r (s.domain ++ 47 ∷ p.0.item) same)
+      (octets_equal r (s.domain ++ 47 ∷ p.0.item) same)
 
   -- each place with the reference is fit
   fit-at : (r : List ℕ) (s : IsReference r) → IsReached s.domain (names_in s.item) → counted c told 10 r ≤ 500 → (d : List ℕ) (p : Place) → Among d (named.domains c) → Among p (places_in c d) → r ≡ d ++ 47 ∷ p.item → IsFit c p

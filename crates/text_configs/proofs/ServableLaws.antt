@@ -25,13 +25,12 @@ use Rattle.sv_base.specs.declared.config.BlockDef.{BlockDef}
 use Rattle.bay_model.specs.Model.{Block}
 use Rattle.bay_model.specs.Sets.{set_referred}
 use Rattle.data_sets.specs.Opening.{AreNamed}
-use Rattle.text_sets.proofs.NamedLaws.{sets-named}
+use Rattle.text_sets.proofs.NamedLaws.{sets-named, few-told}
 use Rattle.bay_config.specs.Servable.{IsMember, IsReferred, IsServedSet, IsServedBlock, HasSoundValues, IsServable}
 use Rattle.list_laws.proofs.Among.{Among, all-of, mapped, source}
 use Rattle.text_configs.proofs.GroupLaws.{are-grouped, begins, first-value}
 use Rattle.text_configs.proofs.FindLaws.{found, domain-there}
-use Rattle.text_configs.proofs.NamedLaws.{bytes-same, not-not}
-use Rattle.text_configs.proofs.SetLaws.{few-blocks, sets-read, member-named, found-of}
+use Rattle.text_configs.proofs.SetLaws.{sets-read, member-named, found-of}
 use Rattle.text_values.proofs.ValueLaws.{all-sound}
 use Rattle.text_configs.proofs.PathLaws.{IsReference, reference-of}
 use Rattle.text_configs.proofs.ControlLaws.{are-ctl-kinds, are-in-range, are-timed, few-controls}
@@ -40,6 +39,8 @@ use Rattle.text_configs.proofs.ToldLaws.{IsTold, is-told, told-leaves}
 use Rattle.text_configs.proofs.CountLaws.{leaf_keys, counted}
 use Rattle.text_configs.proofs.AllowedLaws.{allowed-member}
 use Rattle.text_configs.proofs.ReferenceLaws.{member, member-reference}
+use Rattle.list_laws.proofs.Distinct.{octets_equal}
+use Rattle.list_laws.proofs.Truths.{not-true}
 
 all-among : {X : Type 0} (P : X → Type 0) (xs : List X) → All P xs → (x : X) → Among x xs → P x
 all-among P [] all x i = absurd i
@@ -66,10 +67,10 @@ module _ (told : List Line) (text : List ℕ) (are : AreLines text told) (found_
     apart = and_parts (not (reaches (closed told) r)) (not (nat_lt 500 (octets_of 10 (leaf_octets (leaves told)) (children (leaf_names told)) r))) line-found.1
 
     reach : reaches (leaf_keys (config_of told) facts) r ≡ true
-    reach = ap (λ ls. reaches (map (λ (l : Leaf). l.name) ls) r) (told-leaves told text are) ∙ or-second (reaches (leaf_names told) r) (reaches (closed told) r) line-found.0 (not-not (reaches (closed told) r) apart.0)
+    reach = ap (λ ls. reaches (map (λ (l : Leaf). l.name) ls) r) (told-leaves told text are) ∙ or-second (reaches (leaf_names told) r) (reaches (closed told) r) line-found.0 (not-true (reaches (closed told) r) apart.0)
 
     few : counted (config_of told) facts 10 r ≤ 500
-    few = subst (λ ls. octets_of 10 (leaf_octets ls) (children (map (λ (l : Leaf). l.name) ls)) r ≤ 500) (sym (told-leaves told text are)) (at-most (octets_of 10 (leaf_octets (leaves told)) (children (leaf_names told)) r) (not-not _ apart.1))
+    few = subst (λ ls. octets_of 10 (leaf_octets ls) (children (map (λ (l : Leaf). l.name) ls)) r ≤ 500) (sym (told-leaves told text are)) (at-most (octets_of 10 (leaf_octets (leaves told)) (children (leaf_names told)) r) (not-true _ apart.1))
 
     line-reference : IsReference r
     line-reference = reference-of r (member-named told text r are i).0
@@ -93,7 +94,7 @@ module _ (told : List Line) (text : List ℕ) (are : AreLines text told) (found_
   has-domain : (a : AttrDef) → Among a (config_of told).attrs → is_some (position (bytes_eq a.domain) (domains (config_of told))) ≡ true
   has-domain a i = let n = (facts.attrs a (own-attr (config_of told) a i)).node in
       let d : Among a.domain (domains (config_of told)) = subst (λ d. Among d (domains (config_of told))) n.domain_is (domain-there n.node [] (config_of told).nodes n.there) in
-      ap is_some (found (bytes_eq a.domain) a.domain (domains (config_of told)) d (bytes-same a.domain a.domain refl)).is
+      ap is_some (found (bytes_eq a.domain) a.domain (domains (config_of told)) d (octets_equal a.domain a.domain refl)).is
 
   pub served : AreNamed (configured_model (config_of told)) → IsServable (config_of told)
   served names = record {
@@ -109,7 +110,7 @@ module _ (told : List Line) (text : List ℕ) (are : AreLines text told) (found_
     sound = all-of HasSoundValues (config_of told).attrs (λ a i. all-sound a.kind _ (facts.attrs a (own-attr (config_of told) a i)).values);
     domains = all-of (λ (a : AttrDef). is_some (position (bytes_eq a.domain) (domains (config_of told))) ≡ true) (config_of told).attrs has-domain;
     blocks = all-of IsServedBlock (config_of told).blocks (λ b i. let h = facts.blocks b i in record { opt_flds = h.opt_flds; trg_ops = h.trg_ops });
-    few = let f = few-blocks told text are in omega (arith, f.0, f.1);
+    few = let f = few-told told text are in omega (arith, f.0, f.1);
     named = all-of (λ (b : BlockDef). IsReferred (config_of told) b.dat_set) (config_of told).blocks (λ b i.
         all-among (λ (k : Block). (k.initial.dat_set ≡ []) ⊎ (is_some (set_referred k.initial.dat_set (configured_model (config_of told)).sets) ≡ true)) (configured_model (config_of told)).blocks names.named (block_defined b) (mapped block_defined b (config_of told).blocks i));
     allowed = allowed-member (config_of told) facts;

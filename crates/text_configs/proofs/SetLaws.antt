@@ -11,6 +11,7 @@ use Rattle.cfg_lines.specs.declared.line.Line.{Line}
 use Rattle.cfg_lines.specs.declared.line.Line.TheVariants as lines
 use Rattle.list_laws.proofs.Among.{Among, ending}
 use Rattle.text_configs.proofs.StandLaws.{in-node}
+use Rattle.text_sets.proofs.NamedLaws.{few-told}
 
 -- ---- blocks
 
@@ -36,11 +37,6 @@ blocks-read (lines.Brcb block ∷ before) text h b i = by (ending b (config_of b
     by (inl j) go = go j
     by (inr e) go = subst IsReadBlock (sym e) new
 blocks-read (line ∷ before) text h b i = blocks-read before h.0 h.3 b i
-
-pub few-blocks : (told : List Line) (text : List ℕ) → AreLines text told → (length (config_of told).blocks ≡ blocks told) × (blocks told ≤ 32)
-few-blocks [] text h = (refl, omega arith)
-few-blocks (lines.Brcb block ∷ before) text h = let go = few-blocks before h.0 h.3 in (omega (arith, length-append (config_of before).blocks (block ∷ []), go.0), omega (arith, h.4.follows.few))
-few-blocks (line ∷ before) text h = few-blocks before h.0 h.3
 
 -- ---- data sets
 

@@ -3,7 +3,7 @@ use Rattle.std.proofs.Common.{◌≡◌, ℕ, zero, suc, ◌+◌, ◌<◌, ◌�
 use Rattle.std.specs.List.{sum_by}
 use Rattle.std.proofs.lemmas.List.{append_cancel_left}
 use Rattle.std.proofs.lemmas.List.Sums.{sum_by-cons}
-use Rattle.list_laws.proofs.Distinct.{differ, differ-map}
+use Rattle.list_laws.proofs.Distinct.{differ, differ-map, octets_equal}
 use Rattle.list_laws.proofs.Sums.{one-part, sum-among}
 use Rattle.sv_base.specs.Data.{length_field}
 use Rattle.sv_base.specs.Types.{Fields, no_field, field}
@@ -15,7 +15,7 @@ use Rattle.bay_model.specs.Places.{Place, places, type_with, fields, headed, lar
 use Rattle.name_growth.proofs.GroupLaws.{distinct}
 use Rattle.list_laws.proofs.Among.{Among, each-of, left, right, source, tails}
 use Rattle.text_configs.proofs.JoinedLaws.{joined, joined-behind}
-use Rattle.text_configs.proofs.NamedLaws.{bytes-same, place_at, deeper, IsPlaced, placed}
+use Rattle.text_configs.proofs.NamedLaws.{place_at, deeper, IsPlaced, placed}
 use Rattle.text_configs.proofs.EntryLaws.{Entry, entry, PlainEntry, named_of, under, below-under, under-of, cut}
 use Rattle.text_configs.proofs.TreeLaws.{AreEntries, entries-under, IsEnd, IsOpen, ends-or-not, head-of, nothing-below, type-ended, type-open}
 use Rattle.text_configs.proofs.LengthLaws.{field-grows}
@@ -38,7 +38,7 @@ is-under (d ∷ es) e name more (inl same) is = left (entry more e.number) (cut 
     (subst (λ (x : Entry). Among (entry more e.number) (cut name x.path x.number)) same (subst (λ path. Among (entry more e.number) (cut name path e.number)) (sym is) here))
   where
     here : Among (entry more e.number) (cut name (name ∷ more) e.number)
-    here = subst (λ b. Among (entry more e.number) (if b then entry more e.number ∷ [] else [])) (sym (bytes-same name name refl)) (inl refl)
+    here = subst (λ b. Among (entry more e.number) (if b then entry more e.number ∷ [] else [])) (sym (octets_equal name name refl)) (inl refl)
 is-under (d ∷ es) e name more (inr i) is = right (entry more e.number) (cut name d.path d.number) (under name es) (is-under es e name more i is)
 
 module _ (kind : ℕ → TypeOf) (n : ℕ) (Known : List (List ℕ) → ℕ → Type 0) (octets : ℕ → List ℕ → ℕ) (parts : List ℕ → List (List ℕ)) (count : IsCount kind Known octets parts) where

@@ -172,7 +172,7 @@ sets-named text c h =
           subst (λ (x : Block). IsReferred (configured_model c).sets x.initial.dat_set) (sym o.2) (is-referred c o.0.dat_set h.told h.makes (blocks-told h.told h.told h.found o.0 (subst (λ (x : Config). Among o.0 x.blocks) h.makes o.1))));
     }
 
-few-told : (told : List Line) (text : List ℕ) → AreLines text told → (length (config_of told).blocks ≡ blocks told) × (blocks told ≤ 32)
+pub few-told : (told : List Line) (text : List ℕ) → AreLines text told → (length (config_of told).blocks ≡ blocks told) × (blocks told ≤ 32)
 few-told [] text h = (refl, omega arith)
 few-told (lines.Brcb block ∷ before) text h = let go = few-told before h.0 h.3 in (omega (arith, length-append (config_of before).blocks (block ∷ []), go.0), omega (arith, h.4.follows.few))
 few-told (line ∷ before) text h = few-told before h.0 h.3

@@ -1,5 +1,5 @@
 -- The values that a text gives its attributes: of their kinds, within their ranges, and sound.
-use Rattle.std.proofs.Common.{◌≡◌, ℕ, ◌<◌, ◌≤◌, ◌==◌, inl, inr, true, ◌&&◌, List, [], ◌∷◌, length, pos, negsuc, ℤ, nat_le, nat_lt, refl, sym, subst, arith}
+use Rattle.std.proofs.Common.{◌≡◌, ℕ, ◌<◌, ◌≤◌, inl, inr, true, ◌&&◌, List, [], ◌∷◌, length, pos, negsuc, ℤ, nat_le, refl, sym, subst, arith}
 use Rattle.std.specs.List.{list_all, All}
 use Rattle.std.proofs.lemmas.Bool.{and_parts, and_from}
 use Rattle.std.proofs.lemmas.Bool.Decides.{nat_tests}
@@ -13,6 +13,7 @@ use Rattle.object_model.specs.Fits.{is_sound, is_visible}
 use Rattle.text_words.specs.Values.{is_graphic}
 use Rattle.text_words.specs.Numbers.{greatest}
 use Rattle.text_words.specs.Grammar.{IsType, FitsInt, IsOfType, AreOfType}
+use Rattle.list_laws.proofs.Places.{below-tells, equal-number}
 
 -- a number of so many bits
 int-8 : (z : ℤ) → FitsInt 8 z → is_in_range (kind_of (types.Int 8)) (values.Int z) ≡ true
@@ -49,9 +50,6 @@ uint-32 n h = grind (arith, nat_tests)
 within : (a b : ℕ) → a ≤ b → nat_le a b ≡ true
 within a b h = grind (arith, nat_tests)
 
-same-number : (a b : ℕ) → a ≡ b → (a == b) ≡ true
-same-number a b h = grind (arith, nat_tests)
-
 pub in-range : (k : TypeOf) (v : Value) → IsType k → IsOfType k v → is_in_range (kind_of k) v ≡ true
 in-range types.Bool (values.Bool b) t h = refl
 in-range (types.Int w) (values.Int z) (inl e) h = subst (IsIntOf z) (sym e) (int-8 z) h
@@ -71,7 +69,7 @@ pub of-kind : (k : TypeOf) (v : Value) → IsOfType k v → is_kind (kind_of k) 
 of-kind types.Bool (values.Bool b) h = refl
 of-kind (types.Int w) (values.Int z) h = refl
 of-kind (types.Uint w) (values.Uint n) h = refl
-of-kind (types.Bits n) (values.Bits b) h = same-number (length b) n h
+of-kind (types.Bits n) (values.Bits b) h = equal-number (length b) n h
 of-kind types.Time (values.Time u) h = refl
 of-kind (types.Text n) (values.Text o) h = refl
 of-kind (types.Octets n) (values.Octets o) h = refl
@@ -84,15 +82,12 @@ visible (o ∷ octets) h = and_from _ _ (one o (and_parts _ _ h).0) (visible oct
     one : (o : ℕ) → is_graphic o ≡ true → (nat_le 32 o && nat_le o 126) ≡ true
     one o e = grind (arith, nat_tests)
 
-below : (a b : ℕ) → a < b → nat_lt a b ≡ true
-below a b h = grind (arith, nat_tests)
-
 pub sound : (k : TypeOf) (v : Value) → IsOfType k v → is_sound v ≡ true
 sound types.Bool (values.Bool b) h = refl
 sound (types.Int w) (values.Int z) h = refl
 sound (types.Uint w) (values.Uint n) h = refl
 sound (types.Bits n) (values.Bits b) h = refl
-sound types.Time (values.Time u) h = below u.frac 16777216 h.1
+sound types.Time (values.Time u) h = below-tells u.frac 16777216 h.1
 sound (types.Text n) (values.Text o) h = visible o h.1
 sound (types.Octets n) (values.Octets o) h = refl
 sound _ _ h = absurd h

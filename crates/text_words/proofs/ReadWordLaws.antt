@@ -39,7 +39,7 @@ within-tells least most (Some m) n is =
 pub number-tells : (least most : ℕ) (word : List ℕ) (n : ℕ) → number_within least most word ≡ Some n → (word ≡ decimal n) × (least ≤ n) × (n ≤ most)
 number-tells least most word n is = let told = within-tells least most (number_at word) n is in (sym (number_at-tells word n told.0).1, told.1, told.2)
 
-behind-tells : (front word rest : List ℕ) → behind front word ≡ Some rest → word ≡ front ++ rest
+pub behind-tells : (front word rest : List ℕ) → behind front word ≡ Some rest → word ≡ front ++ rest
 behind-tells front word rest is =
     let parts = chosen _ (Some (drop (length front) word)) rest is in
     sym (take-append-drop (length front) word) ∙ ap₂ (λ a b. a ++ b) ((bytes_eq-Decides (take (length front) word) front).0 parts.0) (some_is (drop (length front) word) rest parts.1)

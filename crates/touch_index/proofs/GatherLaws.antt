@@ -20,11 +20,10 @@ use Rattle.sv_base.specs.Filled.{Filled}
 use Rattle.touch_index.specs.Indexed.{touches_of, touches_from, touches_in, block_at, IsOwnedFrom}
 use Rattle.bay_model.specs.Mentions.{add}
 use Rattle.touch_index.specs.Gathered.{add_touches, add_change, add_changes, holds, AreOnce, noted_by, InRange, IsSetOf, NoneOf, AreApart}
+use Rattle.list_laws.proofs.Truths.{or-none, or-group}
+use Rattle.trigger_core.proofs.ReasonLaws.{none_more, union_assoc}
 
 -- ---- reasons
-
-pub none_more : (r : Reasons) → union r no_reason ≡ r
-none_more r = grind arith
 
 pub more_none : (r : Reasons) → union no_reason r ≡ r
 more_none r = grind arith
@@ -34,9 +33,6 @@ union_same r s = grind arith
 
 pub union_self : (r : Reasons) → union r r ≡ r
 union_self r = grind arith
-
-pub union_assoc : (r s t : Reasons) → union (union r s) t ≡ union r (union s t)
-union_assoc r s t = grind arith
 
 or_comm : (a b : Bool) → (a || b) ≡ (b || a)
 or_comm true true = refl
@@ -289,13 +285,9 @@ noted_members chs trg i (m ∷ ms) = by (is_any (reasons_in chs trg m.attrs)) re
 
 -- ---- the touches of an attribute name the members that hold it
 
-or_assoc : (a b c : Bool) → ((a || b) || c) ≡ (a || (b || c))
-or_assoc true b c = refl
-or_assoc false b c = refl
-
 meets_append : (b j : ℕ) (xs ys : List Touch) → meets b j (xs ++ ys) ≡ (meets b j xs || meets b j ys)
 meets_append b j [] ys = refl
-meets_append b j (t ∷ ts) ys = ap (λ c. ((t.block.0 == b) && (t.member.0 == j)) || c) (meets_append b j ts ys) ∙ sym (or_assoc ((t.block.0 == b) && (t.member.0 == j)) (meets b j ts) (meets b j ys))
+meets_append b j (t ∷ ts) ys = ap (λ c. ((t.block.0 == b) && (t.member.0 == j)) || c) (meets_append b j ts ys) ∙ sym (or-group ((t.block.0 == b) && (t.member.0 == j)) (meets b j ts) (meets b j ys))
 
 meets_of : (b i j x : ℕ) (xs : List AttrId) → meets b j (of_attr x (touches_of b i xs)) ≡ (holds x xs && (j == i))
 meets_of b i j x [] = refl
@@ -349,15 +341,11 @@ all_apart b j k x [] h own = refl
 all_apart b j k x (f ∷ bs) h own = ap (meets b j) (filter-append (λ (t : Touch). t.attr.0 == x) f.items (touches_in bs))
     ∙ (meets_append b j (of_attr x f.items) (of_attr x (touches_in bs)) ∙ ap₂ (λ p q. p || q) (apart b j k x f.items (λ e. omega (arith, e, h)) own.0) (all_apart b j (suc k) x bs (omega (arith, h)) own.1))
 
-or_none : (p : Bool) → (p || false) ≡ p
-or_none true = refl
-or_none false = refl
-
 pub meets_block : (b k x j : ℕ) (bs : List (Filled Touch)) → IsOwnedFrom k bs → meets (k + b) j (of_attr x (touches_in bs)) ≡ meets (k + b) j (of_attr x (block_at bs b).items)
 meets_block b k x j [] own = refl
 meets_block zero k x j (f ∷ bs) own = ap (meets (k + 0) j) (filter-append (λ (t : Touch). t.attr.0 == x) f.items (touches_in bs))
     ∙ (meets_append (k + 0) j (of_attr x f.items) (of_attr x (touches_in bs))
-    ∙ (ap (λ q. meets (k + 0) j (of_attr x f.items) || q) (all_apart (k + 0) j (suc k) x bs (omega arith) own.1) ∙ or_none (meets (k + 0) j (of_attr x f.items))))
+    ∙ (ap (λ q. meets (k + 0) j (of_attr x f.items) || q) (all_apart (k + 0) j (suc k) x bs (omega arith) own.1) ∙ or-none (meets (k + 0) j (of_attr x f.items))))
 meets_block (suc b) k x j (f ∷ bs) own = ap (meets (k + suc b) j) (filter-append (λ (t : Touch). t.attr.0 == x) f.items (touches_in bs))
     ∙ (meets_append (k + suc b) j (of_attr x f.items) (of_attr x (touches_in bs))
     ∙ (ap (λ p. p || meets (k + suc b) j (of_attr x (touches_in bs))) (apart (k + suc b) j k x f.items (λ e. omega (arith, e)) own.0)

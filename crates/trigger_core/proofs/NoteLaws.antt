@@ -18,11 +18,7 @@ use Rattle.bay_model.specs.Values.{value_at, gives, whole}
 use Rattle.bay_model.specs.Notes.{no_reason, union, is_any, reasons_of, union_of, noted as noted_by, note, note_at, note_by, Kept}
 use Rattle.trigger_core.specs.Noted.{change_of, reasons_by, reasons_in, noted}
 use Rattle.trigger_core.specs.Points.{trg_of, change_to, AreChanges, AreShapes, mention}
-
-pub and_false : (a b : Bool) → (a && b && false) ≡ false
-and_false true true = refl
-and_false true false = refl
-and_false false b = refl
+use Rattle.list_laws.proofs.Truths.{and-none}
 
 pub and_true : (a b : Bool) → (a && b && true) ≡ (a && b)
 and_true true true = refl
@@ -41,7 +37,7 @@ pub reasons_by_value : (c : Model) (trg : List Bool) (x : ℕ) (before : Past) (
     → unwrap_or (option_map (reasons_by (trg_of trg)) (option_map (change_to c x before) given)) no_reason
     ≡ triggered ((attr_of c x).dchg && (trg_of trg).dchg && option_map_or (λ v. not (is_same v (value_at c x before))) given false)
     ((attr_of c x).qchg && (trg_of trg).qchg && option_map_or (λ v. not (is_same v (value_at c x before))) given false) ((attr_of c x).dupd && (trg_of trg).dupd && is_some given)
-reasons_by_value c trg x before None = same_triggers (sym (and_false (attr_of c x).dchg (trg_of trg).dchg)) (sym (and_false (attr_of c x).qchg (trg_of trg).qchg)) (sym (and_false (attr_of c x).dupd (trg_of trg).dupd))
+reasons_by_value c trg x before None = same_triggers (sym (and-none (attr_of c x).dchg (trg_of trg).dchg)) (sym (and-none (attr_of c x).qchg (trg_of trg).qchg)) (sym (and-none (attr_of c x).dupd (trg_of trg).dupd))
 reasons_by_value c trg x before (Some v) = same_triggers refl refl (sym (and_true (attr_of c x).dupd (trg_of trg).dupd))
 
 pub reasons_of_one : (c : Model) (trg : List Bool) (deed : Deed) (before : Past) (changes : List Change) (x : AttrId) → AreChanges c deed before changes
@@ -78,7 +74,7 @@ SetsNothing c deed before = (x : ℕ) → gives c x deed before ≡ None
 pub quiet_one : (c : Model) (trg : List Bool) (deed : Deed) (before : Past) (x : ℕ) → SetsNothing c deed before → reasons_of c trg deed before x ≡ no_reason
 quiet_one c trg deed before x quiet = ap (λ o. triggered ((attr_of c x).dchg && (trg_of trg).dchg && option_map_or (λ v. not (is_same v (value_at c x before))) o false)
     ((attr_of c x).qchg && (trg_of trg).qchg && option_map_or (λ v. not (is_same v (value_at c x before))) o false) ((attr_of c x).dupd && (trg_of trg).dupd && is_some o)) (quiet x)
-    ∙ same_triggers (and_false (attr_of c x).dchg (trg_of trg).dchg) (and_false (attr_of c x).qchg (trg_of trg).qchg) (and_false (attr_of c x).dupd (trg_of trg).dupd)
+    ∙ same_triggers (and-none (attr_of c x).dchg (trg_of trg).dchg) (and-none (attr_of c x).qchg (trg_of trg).qchg) (and-none (attr_of c x).dupd (trg_of trg).dupd)
 
 pub quiet_all : (c : Model) (trg : List Bool) (deed : Deed) (before : Past) (xs : List ℕ) → SetsNothing c deed before → union_of c trg deed before xs ≡ no_reason
 quiet_all c trg deed before [] quiet = refl

@@ -5,7 +5,7 @@ use Rattle.sv_base.specs.Data.{length_field, element}
 use Rattle.mms_data.proofs.ShortestLaws.{field_grows}
 use Rattle.bay_model.specs.Places.{headed}
 
-short_field : (n : ℕ) → n < 128 → length (length_field n) ≡ 1
+pub short_field : (n : ℕ) → n < 128 → length (length_field n) ≡ 1
 short_field n lt = rw (lt-ltb n 128 lt) refl
 
 pub element_within : (tag : ℕ) (content : List ℕ) (n : ℕ) → length content ≤ n → n < 2 ^ 32 → length (element tag content) ≤ headed n

@@ -1,8 +1,7 @@
 -- What waits is the rest of what was put, point by point.
-use Rattle.std.proofs.Common.{◌≡◌, ℕ, zero, suc, ◌≤◌, Bool, true, false, List, [], ◌∷◌, ◌++◌, length, drop, refl, sym, ap, ◌∙◌, subst, arith, inl, inr, ◌==◌, append-nil}
+use Rattle.std.proofs.Common.{◌≡◌, ℕ, zero, suc, ◌≤◌, Bool, true, false, List, [], ◌∷◌, ◌++◌, length, drop, refl, sym, ap, ◌∙◌, subst, arith, ◌==◌, append-nil}
 use Rattle.std.specs.Prelude.{Option, None, Some, is_some, is_none, slice_get, if◌then◌else◌}
-use Rattle.std.proofs.lemmas.Bool.Decides.{eqb_tells}
-use Rattle.list_laws.proofs.Places.{same-number}
+use Rattle.list_laws.proofs.Places.{same-number, same-of}
 use Rattle.sv_base.specs.declared.numbers.AssocNo.{AssocNo}
 use Rattle.bay_model.specs.declared.answer.Answer.TheVariants as answers
 use Rattle.bay_model.specs.declared.step.Step.{Step}
@@ -24,9 +23,6 @@ use Rattle.waiting_laws.specs.WaitsFor.{given_to, take_of}
 
 pub false_true : false ≡ true → ⊥
 false_true e = cc
-
-pub are_same : (a b : ℕ) → (a == b) ≡ true → a ≡ b
-are_same a b h = elim (eqb_tells a b) [ inl t ↦ t.1 | inr t ↦ absurd (false_true (sym t.0 ∙ h)) ]
 
 -- ---- queues
 
@@ -107,7 +103,7 @@ module _ (c : Model) where
       (h, outcome c (arrival n m ∷ past) (λ d. Gives c (point n m d) past) (of-singles n m past) a s)
 
   own : (a b : ℕ) (w : Waiting) (ws : List Waiting) (past : Past) → waiting c a past ≡ w ∷ ws → (a == b) ≡ true → 1 ≤ length (waiting c b past)
-  own a b w ws past first is = subst (λ x. 1 ≤ length (waiting c x past)) (are_same a b is) (omega (arith, ap length first))
+  own a b w ws past first is = subst (λ x. 1 ≤ length (waiting c x past)) (same-of a b is) (omega (arith, ap length first))
 
   takes : (a n m : ℕ) (past : Past) → Gives c (point n m (taken c a (arrival n m ∷ past)).deed) past
   takes a n m past = either (is_none (ends a past)) (waiting c a past) refl where

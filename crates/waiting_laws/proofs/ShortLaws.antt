@@ -20,16 +20,16 @@ use Rattle.bay_model.specs.Answers.{Turn, History, points, deed_at, singles_afte
 use Rattle.bay_model.specs.Acceptance.{IsHistory, QueueFull, fault_at, if_open, if_yours}
 use Rattle.bay_model.proofs.Deeds.{OfSingles, outcome, component_}
 use Rattle.bay_model.proofs.EveryPoint.{point}
-use Rattle.waiting_laws.proofs.RestLaws.{are_same}
+use Rattle.list_laws.proofs.Places.{same-of}
 
 -- ---- replies in queues
 
-replies-append : (ws vs : List Waiting) → replies_in (ws ++ vs) ≡ replies_in ws + replies_in vs
+pub replies-append : (ws vs : List Waiting) → replies_in (ws ++ vs) ≡ replies_in ws + replies_in vs
 replies-append [] vs = omega arith
 replies-append (reply o ∷ ws) vs = omega (arith, replies-append ws vs)
 replies-append (ending k good ∷ ws) vs = replies-append ws vs
 
-replies-extended : (ws vs : List Waiting) → replies_in (extended ws vs) ≡ replies_in ws + replies_in vs
+pub replies-extended : (ws vs : List Waiting) → replies_in (extended ws vs) ≡ replies_in ws + replies_in vs
 replies-extended ws [] = omega arith
 replies-extended ws (v ∷ vs) = replies-append ws (v ∷ vs)
 
@@ -38,7 +38,7 @@ replies-rest [] = omega arith
 replies-rest (reply o ∷ ws) = omega arith
 replies-rest (ending k good ∷ ws) = omega arith
 
-replies-told : (ks : List ℕ) → replies_in (map (λ k. ending k true) ks) ≡ 0
+pub replies-told : (ks : List ℕ) → replies_in (map (λ k. ending k true) ks) ≡ 0
 replies-told [] = refl
 replies-told (k ∷ ks) = replies-told ks
 
@@ -104,7 +104,7 @@ module _ (c : Model) where
   reply-for : (a e n : ℕ) (o : Output) (ch : Change) (past : Past) (few : ℕ) → (a ≡ e → suc few ≤ 16) → few ≤ 16 → few + replies_in (put_by c a n (answered e o ch) past) ≤ 16
   reply-for a e n o ch past few own any = either (e == a) refl where
     either : (b : Bool) → (e == a) ≡ b → few + replies_in (if b then reply o ∷ map (λ k. ending k true) (tests c n past) else []) ≤ 16
-    either true is = omega (arith, own (sym (are_same e a is)), replies-told (tests c n past))
+    either true is = omega (arith, own (sym (same-of e a is)), replies-told (tests c n past))
     either false is = omega (arith, any)
 
 -- an Ask is accepted where fewer than 16 replies wait

@@ -1,8 +1,7 @@
 -- Which deeds are events, which break a block, and which change what its events are gathered by.
-use Rattle.std.proofs.Common.{◌≡◌, ◌≢◌, ℕ, ◌⊎◌, inl, inr, Bool, true, false, not, List, [], ◌∷◌, refl, sym, ap₂, ◌∙◌}
-use Rattle.std.specs.Prelude.{if◌then◌else◌, ◌==◌, ◌||◌, ◌&&◌}
+use Rattle.std.proofs.Common.{◌≡◌, ℕ, Bool, true, false, not, List, [], ◌∷◌, refl, ap₂}
+use Rattle.std.specs.Prelude.{if◌then◌else◌, ◌==◌, ◌&&◌}
 use Rattle.std.specs.Str.{bytes_eq}
-use Rattle.std.proofs.lemmas.Bool.Decides.{eqb_tells}
 use Rattle.std.proofs.lemmas.Slice.Eq.{bytes_eq-Decides}
 use Rattle.sv_base.specs.Same.{is_same_bit, is_same_bits}
 use Rattle.sv_base.specs.declared.value.Value.{Value}
@@ -16,12 +15,9 @@ use Rattle.bay_model.specs.Notes.{Kept, note}
 use Rattle.bay_model.specs.Breaks.{cuts}
 use Rattle.window_core.specs.Points.{at}
 use Rattle.window_core.specs.Still.{AreStill}
-
-off : {A : Type 0} → false ≡ true → A
-off h = absurd (never h)
-  where
-    never : false ≡ true → ⊥
-    never h = cc
+use Rattle.list_laws.proofs.Truths.{and-both, not-false, never as off, or-right}
+use Rattle.std.proofs.lemmas.Bool.{or_right}
+use Rattle.list_laws.proofs.Places.{same-unless}
 
 none-some : {A : Type 0} (k : Kept) (ks : List Kept) → [] ≡ k ∷ ks → A
 none-some k ks h = absurd (never h)
@@ -29,33 +25,14 @@ none-some k ks h = absurd (never h)
     never : [] ≡ k ∷ ks → ⊥
     never h = cc
 
-or-right : (x y : Bool) → (x || y) ≡ false → y ≡ false
-or-right true y h = cc
-or-right false y h = h
-
-or-second : (x y : Bool) → y ≡ true → (x || y) ≡ true
-or-second true y h = refl
-or-second false y h = h
-
 and-true : (x : Bool) → (x && true) ≡ false → x ≡ false
 and-true true h = cc
 and-true false h = refl
-
-not-false : (x : Bool) → not x ≡ false → x ≡ true
-not-false true h = refl
-not-false false h = cc
 
 -- ---- what isn't changed is the same
 
 same-octets : (xs ys : List ℕ) → not (bytes_eq xs ys) ≡ false → xs ≡ ys
 same-octets xs ys h = (bytes_eq-Decides xs ys).0 (not-false (bytes_eq xs ys) h)
-
-same-number : (x y : ℕ) → not (x == y) ≡ false → x ≡ y
-same-number x y h = either (eqb_tells x y)
-  where
-    either : (((x == y) ≡ true) × (x ≡ y)) ⊎ (((x == y) ≡ false) × (x ≢ y)) → x ≡ y
-    either (inl t) = t.1
-    either (inr t) = off (sym t.0 ∙ not-false (x == y) h)
 
 same-flag : (a b : Bool) → is_same_bit a b ≡ true → a ≡ b
 same-flag true true h = refl
@@ -63,17 +40,12 @@ same-flag true false h = cc
 same-flag false true h = cc
 same-flag false false h = refl
 
-both-true : (x y : Bool) → (x && y) ≡ true → (x ≡ true) × (y ≡ true)
-both-true true true h = (refl, refl)
-both-true true false h = off h
-both-true false y h = off h
-
 same-flags : (xs ys : List Bool) → is_same_bits xs ys ≡ true → xs ≡ ys
 same-flags [] [] h = refl
 same-flags [] (y ∷ ys) h = off h
 same-flags (x ∷ xs) [] h = off h
 same-flags (x ∷ xs) (y ∷ ys) h =
-    let both = both-true (is_same_bit x y) (is_same_bits xs ys) h in
+    let both = and-both (is_same_bit x y) (is_same_bits xs ys) h in
     ap₂ (λ a as_. a ∷ as_) (same-flag x y both.0) (same-flags xs ys both.1)
 
 still : (was : Parameters) → AreStill was was
@@ -83,7 +55,7 @@ unchanged-still : (comp : Comp) (v : Value) (was : Parameters) → is_changed_by
 unchanged-still comps.RptID (kinds.Text t) was h = record { dat_set = refl; buf_tm = refl; trg_ops = refl }
 unchanged-still comps.DatSet (kinds.Text t) was h = record { dat_set = same-octets t was.dat_set h; buf_tm = refl; trg_ops = refl }
 unchanged-still comps.OptFlds (kinds.Bits b) was h = record { dat_set = refl; buf_tm = refl; trg_ops = refl }
-unchanged-still comps.BufTm (kinds.Uint n) was h = record { dat_set = refl; buf_tm = same-number n was.buf_tm h; trg_ops = refl }
+unchanged-still comps.BufTm (kinds.Uint n) was h = record { dat_set = refl; buf_tm = same-unless n was.buf_tm h; trg_ops = refl }
 unchanged-still comps.TrgOps (kinds.Bits b) was h = record { dat_set = refl; buf_tm = refl; trg_ops = same-flags b was.trg_ops (not-false (is_same_bits b was.trg_ops) h) }
 unchanged-still comps.IntgPd (kinds.Uint n) was h = record { dat_set = refl; buf_tm = refl; trg_ops = refl }
 unchanged-still _ _ was h = record { dat_set = refl; buf_tm = refl; trg_ops = refl }
@@ -115,7 +87,7 @@ module _ (c : Model) (b m n : ℕ) (before : Past) where
 
   -- a purging change breaks the block
   pub change-breaks : (d : Deed) → is_purging_change c b d before ≡ true → cuts c b d before ≡ true
-  change-breaks d h = or-second (is_interrogation b d) (purges c b d before) (or-second (is_purge b d) (is_purging_change c b d before) h)
+  change-breaks d h = or_right (is_interrogation b d) (purges c b d before) (or_right (is_purge b d) (is_purging_change c b d before) h)
 
   pub unbroken-unchanged : (d : Deed) → cuts c b d before ≡ false → is_purging_change c b d before ≡ false
   unbroken-unchanged d h = or-right (is_purge b d) (is_purging_change c b d before) (or-right (is_interrogation b d) (purges c b d before) h)

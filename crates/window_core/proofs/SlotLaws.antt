@@ -7,6 +7,7 @@ use Rattle.bay_rooms.proofs.RoomLaws.{range-before, range-behind, length-range}
 use Rattle.window_core.specs.declared.slots.Span.{Span}
 use Rattle.window_core.specs.Pieces.{Piece, insert, octets_of, is_there}
 use Rattle.window_core.specs.Slots.{octets_at, listed, total, AreSpans}
+use Rattle.list_laws.proofs.Places.{same-number}
 
 abbrev pub no_span : Option Span
 no_span = None
@@ -43,9 +44,6 @@ above : (n i : ℕ) (ss : List (Option Span)) (octets : List ℕ) → n < i → 
 above n i [] octets h = refl
 above n i (None ∷ ss) octets h = above n (suc i) ss octets (omega (arith, h))
 above n i (Some s ∷ ss) octets h = elim (eqb_tells n i) [ inl t ↦ absurd (omega (arith, t.1, h)) | inr t ↦ ap (λ x. x || is_there n (listed (suc i) ss octets)) t.0 ∙ above n (suc i) ss octets (omega (arith, h)) ]
-
-same-number : (n : ℕ) → (n == n) ≡ true
-same-number n = elim (eqb_tells n n) [ inl t ↦ t.0 | inr t ↦ absurd (t.1 refl) ]
 
 later-number : (n i : ℕ) → i < n → (n == i) ≡ false
 later-number n i h = elim (eqb_tells n i) [ inl t ↦ absurd (omega (arith, t.1, h)) | inr t ↦ t.0 ]

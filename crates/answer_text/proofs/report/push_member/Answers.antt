@@ -4,8 +4,9 @@ use Rattle.std.specs.Prelude.{ℕ, List, codes, decimal}
 use Rattle.answer_text.specs.Texts.{reason_letters}
 use Rattle.hex.specs.Hex.{encode_lower}
 use Rattle.std.proofs.lemmas.Result.{err_from_is_err_and}
-use Rattle.answer_text.proofs.PrefixLaws.{still-begins, added}
+use Rattle.answer_text.proofs.PrefixLaws.{added}
 use Rattle.answer_text.proofs.report.push_member.Goals as goal
+use Rattle.list_laws.proofs.Appended.{still-begins}
 
 pub returns-in_err-push_reasons-clause-err : goal.returns-in_err-push_reasons-clause-err
 returns-in_err-push_reasons-clause-err c =

@@ -1,7 +1,7 @@
 -- why `report::push_members` answers as its contract says
 use Rattle.std.proofs.lemmas.Result.{err_from_is_err_and}
-use Rattle.answer_text.proofs.PrefixLaws.{still-begins}
 use Rattle.answer_text.proofs.report.push_members.Goals as goal
+use Rattle.list_laws.proofs.Appended.{still-begins}
 
 pub returns-in_err-push_member-clause-err : goal.returns-in_err-push_member-clause-err
 returns-in_err-push_member-clause-err c =

@@ -16,8 +16,9 @@ use Rattle.set_view.specs.Shapes.{AreThere, shapes_of}
 use Rattle.data_sets.specs.Books.{IsSet, nodes_in}
 use Rattle.block_watch.specs.Watched.{IsLent, IsNoteOf}
 use Rattle.bay_core.proofs.NoteLaws.{Left, left-first, left-next, noting}
-use Rattle.block_watch.proofs.WatchLaws.{some-same, at-place}
+use Rattle.block_watch.proofs.WatchLaws.{at-place}
 use Rattle.bay_core.proofs.setting.keep_all.Goals as goal
+use Rattle.list_laws.proofs.Options.{some_is}
 
 pub loop-b-init : goal.loop-b-init
 loop-b-init c = record {
@@ -37,7 +38,7 @@ view-set-requires-clause-set c =
     let within : b < length c.loop-b.parts.items = omega (arith, c.in-Some.ensures.within, c.loop-b.invariant.count, c.requires.count, c.loop-b.invariant.parts) in
     let before : b < length c.args.parts.now.items = omega (arith, within, c.loop-b.invariant.parts) in
     let left = c.loop-b.invariant.left b (slice_index_or c.args.parts.now.items b part) (slice_get-get_or c.args.parts.now.items b part before) in
-    let same = some-same left.0 part (sym left.1 ∙ at-place c.loop-b.parts.items b part within c.index_mut-part.ensures.value) in
+    let same = some_is left.0 part (sym left.1 ∙ at-place c.loop-b.parts.items b part within c.index_mut-part.ensures.value) in
     subst (IsSet c.args.source.now.book.now) (sym c.set.ensures) (subst (IsLent c.args.source.now.rows.now c.args.source.now.book.now) same left.2.lent).set
 
 pub view-set-requires-clause-there : goal.view-set-requires-clause-there
@@ -47,7 +48,7 @@ view-set-requires-clause-there c =
     let within : b < length c.loop-b.parts.items = omega (arith, c.in-Some.ensures.within, c.loop-b.invariant.count, c.requires.count, c.loop-b.invariant.parts) in
     let before : b < length c.args.parts.now.items = omega (arith, within, c.loop-b.invariant.parts) in
     let left = c.loop-b.invariant.left b (slice_index_or c.args.parts.now.items b part) (slice_get-get_or c.args.parts.now.items b part before) in
-    let same = some-same left.0 part (sym left.1 ∙ at-place c.loop-b.parts.items b part within c.index_mut-part.ensures.value) in
+    let same = some_is left.0 part (sym left.1 ∙ at-place c.loop-b.parts.items b part within c.index_mut-part.ensures.value) in
     subst (λ o. AreThere (length c.args.source.now.rows.now) (nodes_in c.args.source.now.book.now o)) (sym c.set.ensures) (subst (IsLent c.args.source.now.rows.now c.args.source.now.book.now) same left.2.lent).there
 
 -- what is kept is a note of the part
@@ -57,7 +58,7 @@ is-note c =
     let within : b < length c.loop-b.parts.items = omega (arith, c.in-Some.ensures.within, c.loop-b.invariant.count, c.requires.count, c.loop-b.invariant.parts) in
     let before : b < length c.args.parts.now.items = omega (arith, within, c.loop-b.invariant.parts) in
     let left = c.loop-b.invariant.left b (slice_index_or c.args.parts.now.items b c.index_mut-part.result.now) (slice_get-get_or c.args.parts.now.items b c.index_mut-part.result.now before) in
-    let same = some-same left.0 c.index_mut-part.result.now (sym left.1 ∙ at-place c.loop-b.parts.items b c.index_mut-part.result.now within c.index_mut-part.ensures.value) in
+    let same = some_is left.0 c.index_mut-part.result.now (sym left.1 ∙ at-place c.loop-b.parts.items b c.index_mut-part.result.now within c.index_mut-part.ensures.value) in
     subst (λ (p : ReportBlock). IsNoteOf c.args.source.now.rows.now c.args.source.now.book.now c.args.source.now.store.now p c.as_slice-note.result.now) same (subst (IsNoteOf c.args.source.now.rows.now c.args.source.now.book.now c.args.source.now.store.now left.0) (sym (c.as_slice-note.ensures ∙ ap (λ (n : Filled Mention). n.items) c.note.ensures)) left.2)
 
 pub event-requires-clause-members : goal.event-requires-clause-members

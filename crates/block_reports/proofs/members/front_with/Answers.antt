@@ -1,11 +1,9 @@
 -- why `members::front_with` answers as its contract says
-use Rattle.std.proofs.Common.{◌≡◌, ◌∙◌, ◌+◌, ◌*◌, ℕ, length, Some, ap, arith}
+use Rattle.std.proofs.Common.{◌≡◌, ◌∙◌, ◌+◌, ◌*◌, length, Some, ap, arith}
 use Rattle.block_reports.specs.Again.{reasons_in}
 use Rattle.block_reports.proofs.AgainLaws.{reasons_back, member_back}
 use Rattle.block_reports.proofs.members.front_with.Goals as goal
-
-some_is : (a b : ℕ) → Some a ≡ Some b → a ≡ b
-some_is a b e = cc e
+use Rattle.list_laws.proofs.Options.{some_is}
 
 pub returns-in-Some-clause-exact : goal.returns-in-Some-clause-exact
 returns-in-Some-clause-exact c = λ k rest one high low weights is.

@@ -15,8 +15,9 @@ use Rattle.touch_index.specs.Indexed.{AreAmong, Indexed, bare, block_at, none, p
 use Rattle.touch_index.specs.Gathered.{IsSetOf}
 use Rattle.report_block.specs.declared.block.ReportBlock.{ReportBlock}
 use Rattle.block_watch.specs.Watched.{IsWatchable, members_at, members_in}
-use Rattle.block_watch.proofs.WatchLaws.{some-same, set-put, put-stays, put-count, put-room, at-place}
+use Rattle.block_watch.proofs.WatchLaws.{set-put, put-stays, put-count, put-room, at-place}
 use Rattle.block_watch.proofs.watch.filling_of.Goals as goal
+use Rattle.list_laws.proofs.Options.{some_is}
 
 -- the data set of the part that is put
 watchable : (rows : List NodeRow) (book : Book) (n i : ℕ) (parts : List ReportBlock) (part : ReportBlock) → All (IsWatchable rows book n) parts → i < length parts → part ≡ slice_index_or parts i part → IsWatchable rows book n part
@@ -68,7 +69,7 @@ loop-b-preserved c =
       count = ap (λ (x : Indexed). length x.blocks) put ∙ (put-count bs i ms ∙ c.loop-b.invariant.count);
       touches = λ k part h at. subst (λ (x : Indexed). IsSetOf x.blocks k (members_in rows book part)) (sym put) (elim (cases_eq k i) [
         | inl e ↦
-            let same = some-same part c.index-parts-b.result (sym at ∙ (ap (slice_get c.args.parts.now) e ∙ at-place c.args.parts.now i c.index-parts-b.result c.loop-b-test.true c.index-parts-b.is)) in
+            let same = some_is part c.index-parts-b.result (sym at ∙ (ap (slice_get c.args.parts.now) e ∙ at-place c.args.parts.now i c.index-parts-b.result c.loop-b-test.true c.index-parts-b.is)) in
             let mine = c.view-set.ensures ∙ (ap (λ o. shapes_of rows (nodes_in book o)) c.set.ensures ∙ ap (members_in rows book) (sym same)) in
             subst (λ j. IsSetOf (with_members i ms bs) j (members_in rows book part)) (sym e)
             (subst (λ (l : List MemberShape). IsSetOf (with_members i ms bs) i l) mine (set-put bs i ms below))

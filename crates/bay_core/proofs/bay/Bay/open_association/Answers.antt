@@ -10,12 +10,13 @@ use Rattle.assoc_table.specs.Tables.{row_of}
 use Rattle.bay_core.specs.State.{State}
 use Rattle.bay_core.specs.Timed.{at_arrival}
 use Rattle.bay_core.proofs.MoveLaws.{accepted-as}
-use Rattle.bay_core.proofs.EndLaws.{none-where, open-told, open-fault, opened-at}
+use Rattle.bay_core.proofs.EndLaws.{open-told, open-fault, opened-at}
 use Rattle.bay_core.proofs.bay.Bay.open_association.Goals as goal
+use Rattle.list_laws.proofs.Options.{none_of}
 
 pub start-requires-clause-closed : goal.start-requires-clause-closed
 start-requires-clause-closed c =
-    let none = none-where (row_of c.self.inside.associations.rows c.args.a.0).ends (sym c.is_open.ensures ∙ c.if-is_open.false) in
+    let none = none_of (row_of c.self.inside.associations.rows c.args.a.0).ends (sym c.is_open.ensures ∙ c.if-is_open.false) in
     ap (λ (s : State). (row_of s.rows c.args.a.0).ends) (c.arrive.ensures.state ∙ sym (ap (at_arrival c.args.moment) c.self.view_is)) ∙ none
 
 pub returns-clause-does : goal.returns-clause-does

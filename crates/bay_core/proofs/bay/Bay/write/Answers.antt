@@ -9,9 +9,10 @@ use Rattle.bay_core.specs.Standing.{StandsFor}
 use Rattle.bay_core.specs.State.{State}
 use Rattle.bay_core.specs.Written.{named_by}
 use Rattle.bay_core.proofs.ArriveLaws.{arrived-count}
-use Rattle.bay_core.proofs.EndLaws.{opener-told, opener-fault, same-number-told}
-use Rattle.bay_core.proofs.WriteLaws.{is-at, wrote-for}
+use Rattle.bay_core.proofs.EndLaws.{opener-told, opener-fault}
+use Rattle.bay_core.proofs.WriteLaws.{wrote-for}
 use Rattle.bay_core.proofs.bay.Bay.write.Goals as goal
+use Rattle.list_laws.proofs.Places.{equal-number, get-within}
 
 pub write_at_arrival-answer-requires : goal.write_at_arrival-answer-requires
 write_at_arrival-answer-requires c = omega (
@@ -39,9 +40,9 @@ returns-clause-does c = λ c' h was.
       c.self.invariant.furnished.count,
       subst (λ (s : State). b < length s.config.blocks) (sym c.self.view_is) c.requires.block,
     ) in
-    let part = is-at z.parts b below in
+    let part = get-within z.parts b below in
     let open_ = opener-told (configured_model c') c.self.inside.associations.rows past c.args.a.0 c.in-Some.opener st.1.associations c.requires.number (sym c.opener.ensures ∙ c.in-Some.is) in
-    let none = opener-fault past c.args.actor.0 c.args.a.0 open_.0 open_.1 (same-number-told c.args.actor.0 open_.0.opener (c.if-actor-opener.false ∙ sym open_.2)) in
+    let none = opener-fault past c.args.actor.0 c.args.a.0 open_.0 open_.1 (equal-number c.args.actor.0 open_.0.opener (c.if-actor-opener.false ∙ sym open_.2)) in
     let wrote = wrote-for c.args.self.now z c.count.new.self c' h c.args.moment c.args.actor.0 c.args.b c.args.a c.args.comp v (named_by c.args.comp v z.book) (general_at part.0 z) part.0
     refl part.1 (c.write_at_arrival-answer.ensures.general part.0 part.1 c' (length h) c.args.moment past here) here was none
     (c.count.ensures ∙ ap (λ (s : State). record s { steps = suc s.steps }) (c.write_at_arrival-answer.ensures.written part.0 part.1)) in

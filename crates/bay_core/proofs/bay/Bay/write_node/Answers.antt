@@ -15,8 +15,8 @@ use Rattle.bay_core.specs.Commanded.{IsNoCommand}
 use Rattle.bay_core.specs.State.{State}
 use Rattle.bay_replies.specs.Plain.{HasGroups, IsPlainRole}
 use Rattle.bay_core.proofs.SingleLaws.{by-role, component-write, refused-write, role-told}
-use Rattle.bay_core.proofs.WriteLaws.{is-at}
 use Rattle.bay_core.proofs.bay.Bay.write_node.Goals as goal
+use Rattle.list_laws.proofs.Places.{get-within}
 
 pub write_attribute-requires-clause-there : goal.write_attribute-requires-clause-there
 write_attribute-requires-clause-there c =
@@ -53,7 +53,7 @@ returns-in-Component-clause-kept c =
     let fit = c.self.invariant.furnished in
     let b = c.in-Component.b in
     let below : b < length s.model.blocks = subst (λ (w : What). IsPlainRole (length (attributes s.model)) (length s.model.blocks) (length s.model.controls) (HasGroups s.model) (role_seen w)) c.in-Component.is (role-told s.model c.args.node.0 c.role_of.result fit.servable.grouped c.role_of.ensures) in
-    let part = is-at c.args.self.now.parts b (subst (λ (t : State). b < length t.parts) c.self.view_is (omega (arith, below, fit.count))) in
+    let part = get-within c.args.self.now.parts b (subst (λ (t : State). b < length t.parts) c.self.view_is (omega (arith, below, fit.count))) in
     let wrote = c.write_at_arrival.ensures.written part.0 part.1 in
     record { config = ap (λ (t : State). t.config) wrote; steps = ap (λ (t : State). t.steps) wrote; rows = ap (λ (t : State). t.rows) wrote }
 
@@ -63,7 +63,7 @@ returns-in-Component-clause-controls c =
     let fit = c.self.invariant.furnished in
     let b = c.in-Component.b in
     let below : b < length s.model.blocks = subst (λ (w : What). IsPlainRole (length (attributes s.model)) (length s.model.blocks) (length s.model.controls) (HasGroups s.model) (role_seen w)) c.in-Component.is (role-told s.model c.args.node.0 c.role_of.result fit.servable.grouped c.role_of.ensures) in
-    let part = is-at c.args.self.now.parts b (subst (λ (t : State). b < length t.parts) c.self.view_is (omega (arith, below, fit.count))) in
+    let part = get-within c.args.self.now.parts b (subst (λ (t : State). b < length t.parts) c.self.view_is (omega (arith, below, fit.count))) in
     ap (λ (t : State). t.controls) (c.write_at_arrival.ensures.written part.0 part.1)
 
 pub returns-in-Component-clause-written : goal.returns-in-Component-clause-written
@@ -73,7 +73,7 @@ returns-in-Component-clause-written c =
     let fit = c.self.invariant.furnished in
     let b = c.in-Component.b in
     let below : b < length s.model.blocks = subst (λ (w : What). IsPlainRole (length (attributes s.model)) (length s.model.blocks) (length s.model.controls) (HasGroups s.model) (role_seen w)) c.in-Component.is (role-told s.model c.args.node.0 c.role_of.result fit.servable.grouped c.role_of.ensures) in
-    let part = is-at z.parts b (subst (λ (t : State). b < length t.parts) c.self.view_is (omega (arith, below, fit.count))) in
+    let part = get-within z.parts b (subst (λ (t : State). b < length t.parts) c.self.view_is (omega (arith, below, fit.count))) in
     let role : single (component b c.in-Component.comp) ≡ (node_of (configured_model z.config) c.args.node.0).role
     = ap role_seen (sym c.in-Component.is) ∙ (c.role_of.ensures ∙ ap (λ (t : State). (node_of (configured_model t.config) c.args.node.0).role) c.self.view_is) in
     by-role z c.write_at_arrival.new.self c.args.a.0 c.args.node.0 c.args.value.now (single (component b c.in-Component.comp)) c.write_at_arrival.result role

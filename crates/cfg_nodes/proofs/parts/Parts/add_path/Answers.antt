@@ -8,12 +8,12 @@ use Rattle.octet_rows.specs.Found.{place_in}
 use Rattle.std.specs.Str.{bytes_eq}
 use Rattle.cfg_lines.specs.Keys.{is_among}
 use Rattle.cfg_lines.specs.Paths.{above_within}
-use Rattle.cfg_nodes.proofs.PlaceLaws.{assoc}
 use Rattle.cfg_lines.specs.Sizes.{edges_within, with_edge}
 use Rattle.cfg_nodes.specs.Indexed.{parts_in, last_front, with_part, with_front, IsPlaced}
 use Rattle.cfg_nodes.proofs.PartLaws.{part-more, front-more}
 use Rattle.cfg_nodes.proofs.parts.Parts.add_path.Goals.{then-octet-eq36+in_ok-add_structure, else-octet-eq36}
 use Rattle.cfg_nodes.proofs.parts.Parts.add_path.Goals as goal
+use Rattle.list_laws.proofs.Truths.{or-group as assoc}
 
 pub loop-i-preserved : goal.loop-i-preserved
 loop-i-preserved c =
