@@ -18,6 +18,13 @@ IsJudgement (statuses.Config line kind) = Unit {0}
 IsJudgement (statuses.Limit which line) = Unit {0}
 IsJudgement _ = ⊥
 
+-- one with which something is refused
+abbrev pub IsRefusal : Status → Type 0
+IsRefusal (statuses.Record line kind) = Unit {0}
+IsRefusal (statuses.Config line kind) = Unit {0}
+IsRefusal (statuses.Limit which line) = Unit {0}
+IsRefusal _ = ⊥
+
 -- the status is that of the octets, and the sink took the answers to their lines up to where they end
 abbrev pub Answers : List ℕ → Status → Option (List ℕ) → Option (List ℕ) → Type 0
 Answers octets status old new = (status ≡ (outcome octets).status) × Appends old new (outcome octets).text

@@ -10,5 +10,8 @@ pub mod limits;
 // what stands before the steps: the lines up to `record 1`
 pub mod openings;
 
+// the lines of a configuration
+pub mod configuring;
+
 // what is answered to a record, by its history
 pub mod laws;

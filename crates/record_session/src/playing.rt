@@ -15,7 +15,7 @@ use bay_core::{Bay, StepFault};
 use bay_model::{Answer, Step};
 use record_outcome::status::Status;
 use record_steps::{Heard, Told, association};
-use run_record::{LineView, view_line};
+use run_record::{Kind, LineView, view_line};
 use std::alloc::{AllocError, Global};
 use sv_base::{ActorNo, AssocNo, Moment};
 
@@ -32,7 +32,7 @@ fn stop(number: u64, fault: StepFault) -> Option<Status>
         StepFault::IsOpen(_) | StepFault::NotOpen(_) | StepFault::NotYours(_) => {
             Some(Status::Record {
                 line: number,
-                kind: 5,
+                kind: Kind::State.number(),
             })
         }
         StepFault::Memory => None,

@@ -1,26 +1,14 @@
 //! The parts of a record, one after another.
 
-ghost use Rattle.std.specs.Prelude.{◌≡◌, ◌++◌, ◌∷◌, [], codes, IfOk, OnOk};
-ghost use Rattle.std.specs.Str.{bytes_eq};
-
 use crate::playing::Playing;
-use crate::starting::{Started, refused_before, start};
+use crate::starting::{Started, start};
 use bay_model::Step;
+use record_outcome::configuring::{ended_before, gather, refused_before};
 use record_outcome::openings::{Opened, open};
 use record_outcome::status::Status;
 use run_record::Kind;
 use std::alloc::{AllocError, Global};
 use std::mem::replace;
-
-/// Puts a line of the configuration behind those before it; gives whether it is the last one.
-fn gather(text: &mut Vec<u8>, line: &[u8]) -> Result<bool, AllocError>
-    ensures text { OnOk result (text.new.items ≡ text.old.items ++ (line.now ++ 10 ∷ [])) }
-    ensures end { IfOk result (λ b. b ≡ bytes_eq line.now (codes "end")) }
-{
-    text.extend_from_slice(line)?;
-    text.push(b'\n')?;
-    Ok(line == b"end".as_slice())
-}
 
 /// Where the reading of a record is.
 #[derive(Drop)]
@@ -182,13 +170,7 @@ impl Stage {
             kind: Kind::NoEnd.number(),
         };
         match self {
-            Stage::Configuring { before, text } => {
-                let whole = Status::Config {
-                    line: number,
-                    kind: 2,
-                };
-                refused_before(alloc, number, *before, text, whole)
-            }
+            Stage::Configuring { before, text } => { ended_before(alloc, number, *before, text) }
             Stage::Opening => Ok(status),
             Stage::Playing(_) => Ok(status),
         }

@@ -4,8 +4,6 @@ ghost use Rattle.std.specs.Prelude.{◌≡◌, ◌<◌, ◌^◌, IfOk};
 ghost use Rattle.cfg_parser.specs.Looking.{config_at};
 ghost use Rattle.record_outcome.specs.Openings.{started};
 ghost use Rattle.record_session.specs.Plays.{Starts, IsSound};
-ghost use Rattle.record_outcome.specs.Records.{refused_before as refused_before_number};
-ghost use Rattle.record_outcome.specs.Judgements.{IsJudgement};
 
 use crate::playing::Playing;
 use bay_core::Bay;
@@ -40,34 +38,4 @@ pub fn start(alloc: Global, before: u64, text: &[u8]) -> Result<Started, AllocEr
     let model = Model::build(alloc, config)?;
     let bay = Bay::open(alloc, model)?;
     Ok(Started::Plays(Playing::new(alloc, bay)?))
-}
-
-/// The status of a configuration that isn't whole before a line, behind so many lines: that of its first refused line, or else
-/// this one.
-pub fn refused_before(
-    alloc: Global,
-    number: u64,
-    before: u64,
-    text: &[u8],
-    status: Status,
-) -> Result<Status, AllocError>
-    requires few { before < 2 ^ 62 }
-    requires judged { IsJudgement status }
-    ensures status { IfOk result (λ s. s ≡ refused_before_number number before status (config_at text.now)) }
-    ensures judged { IfOk result IsJudgement }
-{
-    match read_config(alloc, text) {
-        Err(CfgFault::Refused { line, kind }) => {
-            let line = before + u64::from(line);
-            if line == number {
-                return Ok(status);
-            }
-            Ok(Status::Config {
-                line,
-                kind: kind.number(),
-            })
-        }
-        Err(CfgFault::Memory) => Err(AllocError),
-        Ok(_) => Ok(status),
-    }
 }

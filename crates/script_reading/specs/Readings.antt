@@ -8,6 +8,7 @@ use Rattle.run_record.specs.declared.fault.Kind.{Kind}
 use Rattle.record_steps.specs.declared.telling.Told.{Told}
 use Rattle.record_steps.specs.declared.telling.Told.TheVariants as tolds
 use Rattle.record_outcome.specs.Records.{NoNewline, pieces}
+use Rattle.record_outcome.specs.Judgements.{IsRefusal}
 use Rattle.record_outcome.specs.declared.status.Status.{Status}
 use Rattle.record_outcome.specs.declared.status.Status.TheVariants as statuses
 use Rattle.script_lines.specs.Grammar.{IsOwner}
@@ -62,13 +63,6 @@ Begins (Some o) owner p q = ((p.count == most_scripts || is_some (script_of p (a
 abbrev pub IsStepless : Told → Type 0
 IsStepless (tolds.Step actor) = ⊥
 IsStepless _ = Unit {0}
-
--- a status that the octets of an input decide
-abbrev pub IsRefusal : Status → Type 0
-IsRefusal (statuses.Record line kind) = Unit {0}
-IsRefusal (statuses.Config line kind) = Unit {0}
-IsRefusal (statuses.Limit which line) = Unit {0}
-IsRefusal _ = ⊥
 
 abbrev pub IsDecided : Next → Type 0
 IsDecided (nexts.Stop status) = IsRefusal status

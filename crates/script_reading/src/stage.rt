@@ -1,27 +1,15 @@
 //! The parts of a rehearsal's input, one after another.
 
-ghost use Rattle.std.specs.Prelude.{◌≡◌, ◌++◌, ◌∷◌, [], codes, IfOk, OnOk};
-ghost use Rattle.std.specs.Str.{bytes_eq};
-
 use crate::next::Next;
 use crate::openings::heading_fault;
 use crate::scripting::Scripts;
-use crate::starting::{Started, refused_before, start};
+use crate::starting::{Started, start};
+use record_outcome::configuring::{ended_before, gather, refused_before};
 use record_outcome::status::Status;
 use run_record::{Kind, is_long};
 use std::alloc::{AllocError, Global};
 use std::mem::replace;
 use text_words::{is_skipped, parts_of};
-
-/// Puts a line of the configuration behind those before it; gives whether it is the last one.
-fn gather(text: &mut Vec<u8>, line: &[u8]) -> Result<bool, AllocError>
-    ensures text { OnOk result (text.new.items ≡ text.old.items ++ (line.now ++ 10 ∷ [])) }
-    ensures end { IfOk result (λ b. b ≡ bytes_eq line.now (codes "end")) }
-{
-    text.extend_from_slice(line)?;
-    text.push(b'\n')?;
-    Ok(line == b"end".as_slice())
-}
 
 /// Where the reading of an input is.
 #[derive(Drop)]
@@ -39,7 +27,8 @@ impl Stage {
     ghost use Rattle.script_reading.specs.Moves.{Move};
     ghost use Rattle.script_reading.specs.Openings.{opening_at, started};
     ghost use Rattle.script_reading.specs.Inputs.{lines_at, passed as passed_at, missing as missing_at};
-    ghost use Rattle.script_reading.specs.Readings.{place_of, Moved, IsDecided, IsRefusal, IsWell, Starts, IsSoundStart};
+    ghost use Rattle.record_outcome.specs.Judgements.{IsRefusal};
+    ghost use Rattle.script_reading.specs.Readings.{place_of, Moved, IsDecided, IsWell, Starts, IsSoundStart};
     ghost use Rattle.script_reading.specs.declared.stage.Stage.TheVariants as stages;
 
     /// Goes on to another part.
@@ -148,13 +137,7 @@ impl Stage {
             kind: Kind::NoEnd.number(),
         };
         match self {
-            Stage::Configuring { before, text } => {
-                let whole = Status::Config {
-                    line: number,
-                    kind: 2,
-                };
-                refused_before(alloc, number, *before, text, whole)
-            }
+            Stage::Configuring { before, text } => { ended_before(alloc, number, *before, text) }
             Stage::Opening => Ok(status),
             Stage::Scripts(_) => Ok(status),
         }

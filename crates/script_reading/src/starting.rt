@@ -2,9 +2,8 @@
 
 ghost use Rattle.std.specs.Prelude.{◌≡◌, ◌<◌, ◌^◌, ℕ, None, replicate, IfOk};
 ghost use Rattle.cfg_parser.specs.Looking.{config_at};
-ghost use Rattle.record_outcome.specs.Records.{refused_before as refused_before_number};
 ghost use Rattle.script_reading.specs.Openings.{started};
-ghost use Rattle.script_reading.specs.Readings.{Starts, IsModelOf, IsSoundStart, IsRefusal};
+ghost use Rattle.script_reading.specs.Readings.{Starts, IsModelOf, IsSoundStart};
 
 use crate::plan::Plan;
 use crate::script::Script;
@@ -81,35 +80,5 @@ pub fn start(alloc: Global, before: u64, text: Vec<u8>) -> Result<Started, Alloc
             drop(text);
             Err(error)
         }
-    }
-}
-
-/// The status of a configuration that isn't whole before a line, behind so many lines: that of its first refused line, or else
-/// this one.
-pub fn refused_before(
-    alloc: Global,
-    number: u64,
-    before: u64,
-    text: &[u8],
-    status: Status,
-) -> Result<Status, AllocError>
-    requires few { before < 2 ^ 62 }
-    requires refusal { IsRefusal status }
-    ensures status { IfOk result (λ s. s ≡ refused_before_number number before status (config_at text.now)) }
-    ensures refusal { IfOk result IsRefusal }
-{
-    match read_config(alloc, text) {
-        Err(CfgFault::Refused { line, kind }) => {
-            let line = before + u64::from(line);
-            if line == number {
-                return Ok(status);
-            }
-            Ok(Status::Config {
-                line,
-                kind: kind.number(),
-            })
-        }
-        Err(CfgFault::Memory) => Err(AllocError),
-        Ok(_) => Ok(status),
     }
 }

@@ -8,7 +8,7 @@ use Rattle.record_outcome.specs.declared.status.Status.{Status}
 use Rattle.record_outcome.specs.declared.status.Status.TheVariants as statuses
 use Rattle.script_reading.specs.Plans.{Plan}
 use Rattle.script_reading.specs.Inputs.{Outcome, refused, ready}
-use Rattle.script_reading.specs.Readings.{IsRefusal}
+use Rattle.record_outcome.specs.Judgements.{IsRefusal}
 use Rattle.server_run.specs.Rehearsals.{Performs, PerformsInput, Rehearses, IsListed}
 
 -- ---- of an input

@@ -6,8 +6,8 @@ use Rattle.record_session.proofs.LimitLaws.{missing-opening, missing-playing, mi
 use Rattle.record_session.proofs.stage.Stage.missing.Goals as goal
 
 pub returns-in-Configuring-clause-status : goal.returns-in-Configuring-clause-status
-returns-in-Configuring-clause-status c = IfOk-weaker c.refused_before.result _ _
-    (λ s h. missing-configuring c.args.number c.in-Configuring.before c.in-Configuring.text c.deref.result.now s c.args.self.now c.in-Configuring.is c.deref.ensures.value h) c.refused_before.ensures.status
+returns-in-Configuring-clause-status c = IfOk-weaker c.ended_before.result _ _
+    (λ s h. missing-configuring c.args.number c.in-Configuring.before c.in-Configuring.text c.deref.result.now s c.args.self.now c.in-Configuring.is c.deref.ensures.value h) c.ended_before.ensures.status
 
 pub returns-in-Opening-clause-status : goal.returns-in-Opening-clause-status
 returns-in-Opening-clause-status c = λ place at. ap (statuses.Record c.args.number) c.number.ensures ∙ missing-opening c.args.number c.args.self.now c.in-Opening.is place at
