@@ -12,11 +12,11 @@ ghost use Rattle.object_names.specs.Items.{HasReference, AreReferenced};
 ghost use Rattle.object_names.specs.References.{attr_references};
 
 use crate::named::{
-    Item, Named, What, push_block, push_control, push_parameters, push_settings, structure,
+    Item, Named, push_block, push_control, push_parameters, push_settings, structure,
 };
 use crate::references::{is_selected, item_at};
 use bay_model::is_setting;
-use name_leaves::{count, plus};
+use name_leaves::{What, count, plus};
 use octet_rows::Index;
 use std::alloc::{AllocError, Global};
 use std::marker::Model;
