@@ -7,8 +7,7 @@ mod growing;
 
 // the nodes of the tree, and the longest value of a type
 mod growth;
-mod largest;
+pub mod largest;
 
 pub use growing::{Cut, behind, front};
 pub use growth::{Grown, Growth, Spot, grow};
-pub use largest::largest;

@@ -11,7 +11,7 @@ ghost use Rattle.record_outcome.specs.Judgements.{IsJudgement, IsOfReplay, Answe
 
 use crate::replay::Replay;
 use command_line::is_word;
-use config_check::check;
+use config_check::check::check;
 use record_outcome::status::Status;
 use std::alloc::Global;
 use sv_io::{Sink, Source};
