@@ -19,7 +19,6 @@ pub mod TurnLaws
 pub mod ReadLaws
 pub mod LentLaws
 -- names of data sets
-pub mod NameLaws
 pub mod AnswerLaws
 -- openings and losses
 pub mod EndLaws

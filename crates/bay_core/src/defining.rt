@@ -6,9 +6,9 @@ ghost use Rattle.bay_model.specs.declared.reply.Reply.TheVariants as replies;
 ghost use Rattle.data_sets.specs.Turns.{error_of};
 
 use crate::bay::Bay;
-use crate::set_names::is_set_name;
 use bay_model::{Reply, SetName, Targets};
 use data_sets::{DefineFault, Definition};
+use set_naming::is_set_name;
 use std::alloc::{AllocError, Global};
 use sv_base::{AssocNo, Moment, Octs};
 

@@ -1,11 +1,12 @@
 //! Names that a data set may have (IEC 61850-7-2, ObjectName and DATA-SET; IEC 61850-8-1, their MMS names).
 
-ghost use Rattle.std.specs.Prelude.{◌≡◌, ◌≤◌, ◌==◌, length};
-ghost use Rattle.std.specs.List.{list_all, position_or_len, before_first, after_first};
+ghost use Rattle.std.specs.Prelude.{◌≡◌};
+ghost use Rattle.std.specs.List.{list_all};
 ghost use Rattle.bay_model.specs.Definitions.{has_node as has_node_in, is_letter as is_letter_in, is_name as is_name_in, is_name_octet as is_octet_in, is_set_name as is_set_name_in};
 ghost use Rattle.bay_model.specs.Named.{configured_model};
 
 use bay_model::SetName;
+use name_growth::{behind, front};
 use object_model::Model;
 
 /// The most octets of a data set's name.
@@ -39,38 +40,6 @@ fn is_name(word: &[u8]) -> bool
     }
 }
 
-/// The place of the first `$`, and of the end where there is none.
-fn name_len(item: &[u8]) -> usize
-    ensures value { result ≡ position_or_len (λ o. o == 36) item.now }
-    ensures within { result ≤ length item.now }
-{
-    for (i, octet) in item.iter().enumerate() {
-        if *octet == b'$' {
-            return i;
-        }
-    }
-    item.len()
-}
-
-/// What stands before the first `$`.
-fn front(item: &[u8]) -> &[u8]
-    ensures { result.now ≡ before_first (λ o. o == 36) item.now }
-{
-    &item[..name_len(item)]
-}
-
-/// What stands behind the first `$`.
-fn behind(item: &[u8]) -> &[u8]
-    ensures { result.now ≡ after_first (λ o. o == 36) item.now }
-{
-    let len = name_len(item);
-    if len < item.len() {
-        &item[len + 1..]
-    } else {
-        &item[len..]
-    }
-}
-
 /// The domain has a logical node of this name.
 fn has_node(model: &Model, domain: &[u8], node: &[u8]) -> bool
     ensures { result ≡ has_node_in (configured_model model.now) domain.now node.now }
@@ -79,7 +48,7 @@ fn has_node(model: &Model, domain: &[u8], node: &[u8]) -> bool
 }
 
 /// A client may define a data set of this name: it is `LN$NAME` of a logical node that is there, in at most 64 octets.
-pub(crate) fn is_set_name(model: &Model, name: &SetName) -> bool
+pub fn is_set_name(model: &Model, name: &SetName) -> bool
     ensures { result ≡ is_set_name_in (configured_model model.now) name.now }
 {
     let item = name.item.as_slice();
