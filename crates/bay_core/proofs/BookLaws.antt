@@ -24,6 +24,7 @@ use Rattle.bay_config.specs.Servable.{IsMember}
 use Rattle.bay_core.specs.State.{AreServedSets}
 use Rattle.block_watch.specs.Watched.{AreLent, IsLent, members_in}
 use Rattle.bay_core.proofs.ShapeLaws.{nodes_named, served_members, sets_in}
+use Rattle.list_laws.proofs.Options.{some_mapped}
 
 -- ---- the data set of a reference
 
@@ -42,13 +43,8 @@ nodes-booked ref book = by (number_referred ref book) (set_referred ref (sets_in
     by None f is = ap (λ (g : Option DataSet). map node_id (unwrap_or (option_map (λ (s : DataSet). s.nodes) g) [])) is
     by (Some k) f is = sym (ids-back (set_at book k).nodes) ∙ ap (λ (g : Option DataSet). map node_id (unwrap_or (option_map (λ (s : DataSet). s.nodes) g) [])) is
 
--- a reference has a number in the book exactly where it names a set of the model
-pub some-mapped : {A B : Type 0} (f : A → B) (o : Option A) → is_some (option_map f o) ≡ is_some o
-some-mapped f None = refl
-some-mapped f (Some x) = refl
-
 pub known-booked : (ref : List ℕ) (book : Book) → is_some (number_referred ref book) ≡ is_some (set_referred ref (sets_in book))
-known-booked ref book = sym (some-mapped (λ k. data_set (set_at book k)) (number_referred ref book)) ∙ ap is_some (found-referred ref book)
+known-booked ref book = sym (some_mapped (λ k. data_set (set_at book k)) (number_referred ref book)) ∙ ap is_some (found-referred ref book)
 
 -- the number is that of a set
 pub number-there : (ref : List ℕ) (book : Book) → IsSet book (number_referred ref book)

@@ -32,11 +32,11 @@ use Rattle.bay_core.specs.State.{IsBooked, IsFurnished}
 use Rattle.block_watch.specs.Watched.{AreBlank, members_in, options_in}
 use Rattle.bay_core.specs.Whole.{IsWhole}
 use Rattle.control_core.specs.Tables.{Table}
-use Rattle.bay_core.proofs.BookLaws.{some-mapped}
 use Rattle.bay_core.proofs.QuietLaws.{quiet-map}
 use Rattle.data_sets.proofs.RoomLaws.{old_above}
 use Rattle.list_laws.proofs.Truths.{and-left, and-right}
 use Rattle.list_laws.proofs.Distinct.{octets_same}
+use Rattle.list_laws.proofs.Options.{some_mapped}
 
 -- ---- the places before and after
 
@@ -161,7 +161,7 @@ module _ (c : Config) (stored : List Stored) (book : Book) (parts : List ReportB
 
   still-named : (b : ℕ) (part : ReportBlock) → slice_get parts b ≡ Some part → IsNamed book part.block.options.dat_set → IsNamed (after_delete k book) part.block.options.dat_set
   still-named b part at (inl e) = inl e
-  still-named b part at (inr some) = inr (ap is_some (found b part at) ∙ (some-mapped (λ j. if nat_lt k j then j - 1 else j) (number_referred part.block.options.dat_set book) ∙ some))
+  still-named b part at (inr some) = inr (ap is_some (found b part at) ∙ (some_mapped (λ j. if nat_lt k j then j - 1 else j) (number_referred part.block.options.dat_set book) ∙ some))
 
   pub furnished-deleted : IsFurnished c stored (after_delete k book) after w octets room
   furnished-deleted = record {

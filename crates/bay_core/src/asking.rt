@@ -6,13 +6,12 @@ ghost use Rattle.bay_model.specs.declared.reply.Reply.TheVariants.{Wrote};
 ghost use Rattle.bay_core.specs.Asked.{members_of, set_members};
 
 use crate::bay::Bay;
-use crate::defining::set_name;
 use bay_histories::StepFault;
 use bay_model::{
     Act, Acts, Answer, ApplError, ApplErrors, Codes, Output, Reply, Request, Service, Writes,
 };
 use bay_queues::Heard;
-use bay_replies::Replies;
+use bay_replies::{Replies, set_name};
 use data_sets::SetBook;
 use std::alloc::{AllocError, Global};
 use sv_base::{ActorNo, AssocNo, CtlNo, Moment, NodeId, Octs, Value, Values};

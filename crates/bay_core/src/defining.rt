@@ -1,12 +1,12 @@
 //! Data sets that clients define (ISO 9506-2, DefineNamedVariableList; IEC 61850-7-2, CreateDataSet).
 
-ghost use Rattle.std.specs.Prelude.{◌≡◌, IfOk};
-ghost use Rattle.bay_model.specs.Services.{set_name as set_named};
+ghost use Rattle.std.specs.Prelude.{◌≡◌};
 ghost use Rattle.bay_model.specs.declared.reply.Reply.TheVariants as replies;
 ghost use Rattle.data_sets.specs.Turns.{error_of};
 
 use crate::bay::Bay;
-use bay_model::{Reply, SetName, Targets};
+use bay_model::{Reply, Targets};
+use bay_replies::set_name;
 use data_sets::{DefineFault, Definition};
 use set_naming::is_set_name;
 use std::alloc::{AllocError, Global};
@@ -22,16 +22,6 @@ fn refusal(fault: DefineFault) -> Reply
         DefineFault::NoSuchMember => Reply::Error { class: 7, code: 2 },
         DefineFault::Full => Reply::Error { class: 3, code: 0 },
     }
-}
-
-/// The name of a data set.
-pub(crate) fn set_name(alloc: Global, domain: &Octs, item: &Octs) -> Result<SetName, AllocError>
-    ensures { IfOk result (λ n. n ≡ set_named domain.now item.now) }
-{
-    Ok(SetName {
-        domain: domain.copy(alloc)?,
-        item: item.copy(alloc)?,
-    })
 }
 
 impl Bay {

@@ -44,7 +44,7 @@ pub(crate) fn copy_targets(alloc: Global, targets: &[Target]) -> Result<Targets,
 }
 
 /// The name of a data set.
-pub(crate) fn set_name(alloc: Global, domain: &Octs, item: &Octs) -> Result<SetName, AllocError>
+pub fn set_name(alloc: Global, domain: &Octs, item: &Octs) -> Result<SetName, AllocError>
     ensures { IfOk result (λ n. n ≡ set_named domain.now item.now) }
 {
     Ok(SetName {

@@ -19,6 +19,7 @@ mod owned;
 // laws
 mod laws;
 
+pub use copies::set_name;
 pub use laws::{nodes_are_plain, nothing_comes_of_reads, opened_books_are_served};
 pub use reads::Read;
 pub use replies::{Replies, asked_variables};

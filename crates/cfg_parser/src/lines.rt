@@ -1,7 +1,6 @@
 //! The lines of a text, one after another.
 
-ghost use Rattle.std.specs.Prelude.{◌≡◌, ◌∷◌, ◌++◌, ◌==◌, ◌<◌, false, length, MatchOption};
-ghost use Rattle.std.specs.List.{All};
+ghost use Rattle.std.specs.Prelude.{◌≡◌};
 ghost use Rattle.cfg_parser.specs.Reader.{GivesNew, GivesText};
 ghost use Rattle.cfg_parser.specs.Text.{lines_at, ended_at, next_at, fault_at};
 
@@ -9,20 +8,12 @@ use crate::fault::{CfgFault, Kind, LineFault};
 use crate::telling;
 use cfg_lines::Place;
 use cfg_reading::Reading;
-use memchr::memchr;
 use smallvec::SmallVec;
 use std::alloc::{AllocError, Global};
+use text_words::split_line;
 
 /// The most octets of a text for whose lines room is made beforehand.
 const MOST_ROOM: usize = 1 << 20;
-
-/// The octets before the first newline, and those after it.
-fn split_line(octets: &[u8]) -> Option<(&[u8], &[u8])>
-    ensures cut { MatchOption result (All (λ b. (b == 10) ≡ false) octets.now) (λ r. (octets.now ≡ r.0.now ++ 10 ∷ r.1.now) × All (λ b. (b == 10) ≡ false) r.0.now) }
-{
-    let at = memchr(b'\n', octets)?;
-    Some((&octets[..at], &octets[at + 1..]))
-}
 
 /// What is behind the last newline is nothing, and `end` was there.
 fn finish(reading: Reading, rest: &[u8]) -> Result<Reading, CfgFault>

@@ -3,7 +3,6 @@
 
 // what has been read: pieces, and the lines that end in them
 pub mod reader;
-mod scan;
 mod session;
 
 // the parts of a record, one after another: the first line, the configuration, the steps

@@ -4,10 +4,10 @@ ghost use Rattle.std.specs.Prelude.{◌<◌, ◌≤◌, ◌+◌, ◌^◌, length
 ghost use Rattle.record_session.specs.Sessions.{LinesRead, steps_in, IsEarly};
 ghost use Rattle.record_outcome.specs.Judgements.{IsJudgement};
 
-use crate::scan::split_line;
 use crate::session::Session;
 use record_outcome::status::Status;
 use std::alloc::{AllocError, Global};
+use text_words::split_line;
 
 /// Reads the whole lines at the front of these octets, up to one that stops the reading, and gives the rest.
 fn read_lines<'a>(

@@ -18,7 +18,6 @@ mod starting;
 
 // the whole input
 mod reading;
-mod scan;
 mod session;
 mod stage;
 

@@ -8,12 +8,12 @@ ghost use Rattle.script_reading.specs.Readings.{place_of, plan_seen, Reads, IsRe
 
 use crate::next::Next;
 use crate::plan::Plan;
-use crate::scan::split_line;
 use crate::session::Session;
 use crate::stage::Stage;
 use record_outcome::limits::MOST_OCTETS;
 use record_outcome::status::Status;
 use std::alloc::{AllocError, Global};
+use text_words::split_line;
 
 /// Reads the whole lines at the front of these octets, up to one with which the reading stops or ends, and gives the rest.
 fn read_lines<'a>(

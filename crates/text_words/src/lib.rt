@@ -1,6 +1,7 @@
 //! The words of a line and what they spell: numbers, names, types and values, as they stand in configurations and records.
 #![tactic(auto)]
 
+mod lines;
 mod names;
 mod numbers;
 mod octets;
@@ -9,7 +10,8 @@ mod types;
 mod values;
 mod words;
 
-// the octets of a line, and its words
+// a line, its octets and its words
+pub use lines::split_line;
 pub use octets::{are_printable, is_skipped};
 pub use words::{after_front, parts_of, put_parts};
 
