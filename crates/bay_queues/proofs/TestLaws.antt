@@ -4,7 +4,7 @@ use Rattle.std.specs.Prelude.{None, ◌&&◌, ◌||◌, if◌then◌else◌, sli
 use Rattle.std.specs.List.{list_any}
 use Rattle.std.proofs.lemmas.List.{length-set, set-set, set-get_or}
 use Rattle.list_laws.proofs.Among.{Among, all-of, of-all, ending as among-ending}
-use Rattle.list_laws.proofs.Distinct.{none_left, none_right}
+use Rattle.list_laws.proofs.Truths.{or-left, or-right}
 use Rattle.list_laws.proofs.Places.{same-number as same, other-number as apart, swap-number, same-of}
 use Rattle.sv_base.specs.declared.numbers.CtlNo.{CtlNo}
 use Rattle.sv_base.specs.declared.value.Value.{Value}
@@ -116,8 +116,8 @@ module _ (q : Queued) (a k : ℕ) (v : Value) (below : k < length q.table.contro
 
 any-at : (k : ℕ) (ks : List CtlNo) (i : ℕ) (d : CtlNo) → i < length ks → list_any (λ l. k == l) (map number ks) ≡ false → (k == (slice_index_or ks i d).0) ≡ false
 any-at k [] i d below h = absurd (omega (arith, below))
-any-at k (j ∷ js) zero d below h = none_left (k == j.0) (list_any (λ l. k == l) (map number js)) h
-any-at k (j ∷ js) (suc i) d below h = any-at k js i d (omega (arith, below)) (none_right (k == j.0) (list_any (λ l. k == l) (map number js)) h)
+any-at k (j ∷ js) zero d below h = or-left (k == j.0) (list_any (λ l. k == l) (map number js)) h
+any-at k (j ∷ js) (suc i) d below h = any-at k js i d (omega (arith, below)) (or-right (k == j.0) (list_any (λ l. k == l) (map number js)) h)
 
 one-other : (k : CtlNo) (j : ℕ) → (k.0 == j) ≡ false → endings j (map waiting_of (Termination k true ∷ [])) ≡ 0
 one-other k j h = rw h refl
@@ -166,7 +166,7 @@ free-tests q a ks output row is few h = subst (λ (r : Row). AreFree r.waiting k
 -- and stays so
 told-ends : (ks : List CtlNo) (j : ℕ) → list_any (λ l. j == l) (map number ks) ≡ false → endings j (map waiting_of (map (λ k. Termination k true) ks)) ≡ 0
 told-ends [] j h = refl
-told-ends (k ∷ ks) j h = rw (swap-number k.0 j ∙ none_left (j == k.0) (list_any (λ l. j == l) (map number ks)) h) (told-ends ks j (none_right (j == k.0) (list_any (λ l. j == l) (map number ks)) h))
+told-ends (k ∷ ks) j h = rw (swap-number k.0 j ∙ or-left (j == k.0) (list_any (λ l. j == l) (map number ks)) h) (told-ends ks j (or-right (j == k.0) (list_any (λ l. j == l) (map number ks)) h))
 
 told-once : (q : Queued) (a : ℕ) (ks : List CtlNo) → AreTests q a ks → (j : ℕ) → ends_in j (row_of q.rows a) ≤ due_for a (run q.table j) → ends_in j (row_of q.rows a) + endings j (map waiting_of (map (λ k. Termination k true) ks)) ≤ due_for a (run q.table j)
 told-once q a [] h j low = omega (arith, low)

@@ -5,7 +5,8 @@ use Rattle.std.specs.Str.{bytes_eq}
 use Rattle.std.specs.Cmp.Lexicographic.{bytes_decides}
 use Rattle.std.proofs.lemmas.List.{map-append, take_more}
 use Rattle.std.proofs.lemmas.List.Elements.{filter-append}
-use Rattle.list_laws.proofs.Distinct.{octets_same, octets_apart, Absent, Distinct, none_left, none_right, distinct-more}
+use Rattle.list_laws.proofs.Distinct.{octets_same, octets_apart, Absent, Distinct, distinct-more}
+use Rattle.list_laws.proofs.Truths.{or-left, or-right}
 use Rattle.bay_model.specs.Generated.{Named}
 use Rattle.std.proofs.lemmas.List.Folds.{list_any-append}
 use Rattle.name_growth.specs.Groups.{Group, group_at, groups, with_cut, put, with_named}
@@ -75,7 +76,7 @@ none-after f acc (m ∷ ms) h = let go = none-after f (with_name acc m) ms h in 
     by : (b : Bool) → list_any (bytes_eq m) acc ≡ b → list_any (bytes_eq f) (if b then acc else acc ++ m ∷ []) ≡ false → list_any (bytes_eq f) ms ≡ false → (list_any (bytes_eq f) acc ≡ false) × (bytes_eq f m || list_any (bytes_eq f) ms ≡ false)
     by true t n r = (n, ap (λ b. b || list_any (bytes_eq f) ms) (other t n (bytes_eq f m) refl) ∙ r)
     by false t n r = let both = sym (list_any-append (bytes_eq f) acc (m ∷ [])) ∙ n in
-        (none_left (list_any (bytes_eq f) acc) (bytes_eq f m || false) both, ap (λ b. b || list_any (bytes_eq f) ms) (none_left (bytes_eq f m) false (none_right (list_any (bytes_eq f) acc) (bytes_eq f m || false) both)) ∙ r)
+        (or-left (list_any (bytes_eq f) acc) (bytes_eq f m || false) both, ap (λ b. b || list_any (bytes_eq f) ms) (or-left (bytes_eq f m) false (or-right (list_any (bytes_eq f) acc) (bytes_eq f m || false) both)) ∙ r)
 
 none-below : (f : List ℕ) (ns : List Named) → list_any (bytes_eq f) (map first_name (filter kept ns)) ≡ false → below f ns ≡ []
 none-below f [] h = refl
@@ -83,8 +84,8 @@ none-below f (n ∷ ns) h = by (none-below f ns) (is_itself n) (bytes_eq f (firs
   where
     by : (list_any (bytes_eq f) (map first_name (filter kept ns)) ≡ false → below f ns ≡ []) → (a b : Bool) → bytes_eq f (first_name n) ≡ b → list_any (bytes_eq f) (map first_name (cond (not a) (n ∷ filter kept ns) (filter kept ns))) ≡ false → map rest_of (cond (not a && b) (n ∷ filter (stands f) ns) (filter (stands f) ns)) ≡ []
     by go true b e g = go g
-    by go false true e g = absurd (true≢false (sym e ∙ none_left (bytes_eq f (first_name n)) (list_any (bytes_eq f) (map first_name (filter kept ns))) g))
-    by go false false e g = go (none_right (bytes_eq f (first_name n)) (list_any (bytes_eq f) (map first_name (filter kept ns))) g)
+    by go false true e g = absurd (true≢false (sym e ∙ or-left (bytes_eq f (first_name n)) (list_any (bytes_eq f) (map first_name (filter kept ns))) g))
+    by go false false e g = go (or-right (bytes_eq f (first_name n)) (list_any (bytes_eq f) (map first_name (filter kept ns))) g)
 
 below-absent : (f : List ℕ) (ns : List Named) → list_any (bytes_eq f) (first_names ns) ≡ false → below f ns ≡ []
 below-absent f ns h = none-below f ns (none-after f [] (map first_name (filter kept ns)) h).1

@@ -6,7 +6,8 @@ use Rattle.std.specs.Cmp.Lexicographic.{bytes_decides}
 use Rattle.std.proofs.lemmas.Bool.Decides.{nat_tests}
 use Rattle.std.proofs.lemmas.List.{append_cancel_left}
 use Rattle.list_laws.proofs.Among.{Each, each-both, heads, tails}
-use Rattle.list_laws.proofs.Distinct.{Absent, Distinct, none_left, none_right}
+use Rattle.list_laws.proofs.Distinct.{Absent, Distinct}
+use Rattle.list_laws.proofs.Truths.{or-left, or-right}
 use Rattle.list_laws.proofs.Places.{get_at}
 use Rattle.sv_base.specs.declared.config.Config.{Config}
 use Rattle.bay_model.specs.Model.{Node}
@@ -83,7 +84,7 @@ abbrev Starts : List ℕ → List ℕ → List ℕ → Type 0
 Starts before n item = (t : List ℕ) × IsTail t × (item ≡ before ++ (n ++ t))
 
 marked : (o : ℕ) (b : Bool) → o ≡ 36 → (o == 36) || b ≡ false → ⊥
-marked o b e h = let is : (o == 36) ≡ true = grind (arith, nat_tests, e) in true≢false (sym is ∙ none_left (o == 36) b h)
+marked o b e h = let is : (o == 36) ≡ true = grind (arith, nat_tests, e) in true≢false (sym is ∙ or-left (o == 36) b h)
 
 stem : (m n s t : List ℕ) → IsPlain m → IsPlain n → IsTail s → IsTail t → m ++ s ≡ n ++ t → m ≡ n
 stem [] [] s t a b u v e = refl
@@ -92,7 +93,7 @@ stem [] (o ∷ os) (p ∷ s) t a b u v e = absurd (marked o (list_any (λ o. o =
 stem (o ∷ os) [] s [] a b u v e = absurd cc
 stem (o ∷ os) [] s (p ∷ t) a b u v e = absurd (marked o (list_any (λ o. o == 36) os) (heads o p (os ++ s) t e ∙ v) a)
 stem (o ∷ os) (p ∷ ps) s t a b u v e = ap₂ (λ x xs. x ∷ xs) (heads o p (os ++ s) (ps ++ t) e)
-    (stem os ps s t (none_right (o == 36) (list_any (λ o. o == 36) os) a) (none_right (p == 36) (list_any (λ o. o == 36) ps) b) u v (tails o p (os ++ s) (ps ++ t) e))
+    (stem os ps s t (or-right (o == 36) (list_any (λ o. o == 36) os) a) (or-right (p == 36) (list_any (λ o. o == 36) ps) b) u v (tails o p (os ++ s) (ps ++ t) e))
 
 other-items : (before m n x y : List ℕ) → IsPlain m → IsPlain n → bytes_eq m n ≡ false → Starts before m x → Starts before n y → bytes_eq x y ≡ false
 other-items before m n x y a b h s t = by (bytes_eq x y) refl
