@@ -6,12 +6,13 @@ use Rattle.std.proofs.lemmas.List.{length-append}
 use Rattle.ber_write.specs.Minimal.{octets_of, written, uint_octets, int_octets}
 use Rattle.ber_write.proofs.ElementLaws.{is_spelling}
 use Rattle.ber_write.proofs.NumberLaws.{length-uint_octets, length-int_octets}
+use Rattle.ber_write.proofs.LengthLaws.{octets_short}
+use Rattle.ber_write.proofs.WrittenLaws.{one_octet}
 use Rattle.sv_base.specs.Data.{data_of}
 use Rattle.sv_base.specs.declared.config.Config.{Config}
 use Rattle.sv_base.specs.declared.config.CtlDef.{CtlDef}
 use Rattle.mms_pdu.specs.AskingOctets.{domain_name}
 use Rattle.mms_pdu.specs.ReplyOctets.{report_octets, IsSpecificationElement}
-use Rattle.mms_pdu.proofs.WrittenLaws.{octets_short, one_octet}
 use Rattle.bay_model.specs.declared.control.ApplError.{ApplError}
 use Rattle.bay_model.specs.declared.control.Termination.{Termination}
 use Rattle.bay_answers.specs.RepliesVariables.{variable_octets}

@@ -5,13 +5,14 @@ use Rattle.std.proofs.lemmas.List.{length-append}
 use Rattle.ber_grammar.specs.Element.{Element, IsRow}
 use Rattle.ber_write.specs.Minimal.{octets_of, written, CanBeTag}
 use Rattle.ber_write.proofs.ElementLaws.{is_spelling}
+use Rattle.ber_write.proofs.LengthLaws.{octets_longer}
+use Rattle.ber_write.proofs.WrittenLaws.{written_more, written_last, one_octet}
 use Rattle.mms_pdu.specs.ObjectName.{Name, IsName, IsOnlyName}
 use Rattle.mms_pdu.specs.ObjectName as mms
 use Rattle.mms_pdu.specs.Variable.{IsVariable}
 use Rattle.mms_pdu.specs.Each.{Each}
 use Rattle.mms_pdu.specs.Access.{variables, named}
 use Rattle.mms_pdu.specs.AskingOctets.{AreVisible, domain_name}
-use Rattle.mms_pdu.proofs.WrittenLaws.{octets_longer, written_more, written_last, one_octet}
 use Rattle.bay_model.specs.declared.request.ObjName.{ObjName}
 use Rattle.bay_model.specs.declared.request.ObjName.TheVariants as names
 use Rattle.bay_model.specs.declared.request.Target.{Target}

@@ -5,10 +5,10 @@ use Rattle.std.specs.Prelude.{nat_le, if◌then◌else◌}
 use Rattle.std.proofs.lemmas.Bool.{le-leb, lt-leb, lt-ltb}
 use Rattle.std.proofs.lemmas.List.{length-append}
 use Rattle.ber_write.specs.Minimal.{tag_octets, length_octets, octets_of, head_octets, uint_octets}
+use Rattle.ber_write.proofs.LengthLaws.{length-octets_of, octets_longer}
 use Rattle.sv_base.specs.declared.value.Value.{Value}
 use Rattle.mms_pdu.specs.Tags.{read_tag}
 use Rattle.mms_pdu.specs.ReplyOctets.{answer_content, answer_octets, error_octets}
-use Rattle.mms_pdu.proofs.WrittenLaws.{length-octets_of, octets_longer}
 use Rattle.bay_model.specs.declared.reply.Asked.{Asked}
 use Rattle.report_cut.specs.Sizes.{element_size}
 use Rattle.bay_answers.specs.RepliesVariables.{asked_octets}

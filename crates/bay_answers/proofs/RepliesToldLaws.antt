@@ -5,6 +5,8 @@ use Rattle.std.proofs.lemmas.List.{length-append}
 use Rattle.ber_grammar.specs.Element.{Element, IsRow, Begins}
 use Rattle.ber_write.specs.Minimal.{octets_of, uint_octets, written, CanBeTag}
 use Rattle.ber_write.proofs.NumberLaws.{uint_octets-spell, length-uint_octets}
+use Rattle.ber_write.proofs.LengthLaws.{octets_longer}
+use Rattle.ber_write.proofs.WrittenLaws.{written_more, written_last, one_octet}
 use Rattle.sv_base.specs.Tree.{Seen, plain, structure, truth, int, uint, bits, time, stamp, text, octets, other}
 use Rattle.sv_base.specs.Seen.{seen_of}
 use Rattle.sv_base.specs.Data.{data_of}
@@ -19,7 +21,6 @@ use Rattle.mms_pdu.specs.Answer.{IsResult, IsWritten, IsAnswerBody}
 use Rattle.mms_pdu.specs.Reply.{answer, IsReply}
 use Rattle.mms_pdu.specs.ReplyOctets.{answer_content, answer_octets}
 use Rattle.mms_pdu.proofs.ReplyOctetsLaws.{answer_spelled}
-use Rattle.mms_pdu.proofs.WrittenLaws.{octets_longer, written_more, written_last, one_octet}
 use Rattle.mms_pdu.specs.Access.{Access}
 use Rattle.bay_model.specs.declared.reply.Asked.{Asked}
 use Rattle.bay_model.specs.declared.reply.Asked.TheVariants as asked

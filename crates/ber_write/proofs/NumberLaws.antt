@@ -85,6 +85,9 @@ pub length-uint_octets : (n : ℕ) → length (uint_octets n) ≤ 9
 unfolding uint_octets
 length-uint_octets n = length-strip_from 0 (to_be_bytes w64 n)
 
+pub uint_short : (n : ℕ) → length (uint_octets n) < 2 ^ 32
+uint_short n = omega (arith, length-uint_octets n)
+
 pub length-int_octets : (v : ℤ) → length (int_octets v) ≤ 9
 unfolding int_octets
 length-int_octets (pos n) = length-strip_from 0 (to_be_bytes w64 n)

@@ -5,6 +5,8 @@ use Rattle.std.proofs.lemmas.Bool.{ltb-true, eqb-false}
 use Rattle.std.proofs.lemmas.List.{length-append, append-nil}
 use Rattle.ber_write.specs.Minimal.{octets_of, uint_octets, CanBeTag}
 use Rattle.ber_write.proofs.NumberLaws.{length-uint_octets}
+use Rattle.ber_write.proofs.LengthLaws.{octets_short}
+use Rattle.ber_write.proofs.WrittenLaws.{one_octet}
 use Rattle.sv_base.specs.Depth.{depth, HasNoOther}
 use Rattle.sv_base.specs.Seen.{seen_of}
 use Rattle.sv_base.specs.Data.{data_of}
@@ -16,7 +18,6 @@ use Rattle.mms_pdu.specs.AskingOctets.{domain_name, confirmed_octets, read_reque
 use Rattle.mms_pdu.specs.ReplyOctets.{class_tag, reason_tag, reason_code, answer_octets, error_octets, reject_octets, report_octets, concluded_octets}
 use Rattle.mms_pdu.specs.Said.{Said, nothing, holds, counts, groups, carries, IsMinimal, shortest, CanBeSaid, initiate_says, variable_says, read_says, write_says, answer_says, error_says, reject_says, report_says}
 use Rattle.mms_pdu.specs.Tags.{initiate_request_tag, initiate_response_tag, conclude_request_tag, conclude_response_tag}
-use Rattle.mms_pdu.proofs.WrittenLaws.{octets_short, one_octet}
 use Rattle.mms_pdu.proofs.InitiateOctetsLaws.{content_short}
 use Rattle.mms_pdu.proofs.ReplyOctetsLaws.{class_can, reason_bounds, code_bound}
 use Rattle.mms_pdu.proofs.SaidLaws.{minimal}

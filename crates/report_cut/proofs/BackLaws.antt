@@ -13,7 +13,7 @@ use Rattle.ber_write.specs.BitString.{bit_octets}
 use Rattle.ber_write.proofs.ElementLaws.{is_spelling}
 use Rattle.ber_write.proofs.NumberLaws.{uint_octets-spell, length-uint_octets, big_endian-64}
 use Rattle.ber_write.proofs.BitLaws.{bit_octets-spell, length_of_bit_octets}
-use Rattle.mms_pdu.proofs.WrittenLaws.{one_octet, written_last}
+use Rattle.ber_write.proofs.WrittenLaws.{one_octet, written_last}
 use Rattle.bay_model.specs.Parameters.{bit}
 use Rattle.bay_model.specs.declared.report.Report.{Report}
 use Rattle.bay_model.specs.declared.report.Member.{Member}
