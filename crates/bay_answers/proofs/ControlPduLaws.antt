@@ -5,7 +5,7 @@ use Rattle.std.specs.Option.{option_map_or}
 use Rattle.std.proofs.lemmas.List.{length-append}
 use Rattle.ber_write.specs.Minimal.{octets_of, written, uint_octets, int_octets}
 use Rattle.ber_write.proofs.ElementLaws.{is_spelling}
-use Rattle.ber_write.proofs.NumberLaws.{length-uint_octets, length-int_octets}
+use Rattle.ber_write.proofs.NumberLaws.{length-uint_octets, length-int_octets, number_short}
 use Rattle.ber_write.proofs.LengthLaws.{octets_short}
 use Rattle.ber_write.proofs.WrittenLaws.{one_octet}
 use Rattle.sv_base.specs.Data.{data_of}
@@ -26,9 +26,6 @@ error-variable-short = omega (arith, variable-short (octets_of 0x80 (codes "Last
 
 int-short : (tag : ℕ) (z : ℤ) → length (octets_of tag (int_octets z)) ≤ 17
 int-short tag z = omega (arith, octets_short tag (int_octets z), length-int_octets z)
-
-uint-short : (tag n : ℕ) → length (octets_of tag (uint_octets n)) ≤ 17
-uint-short tag n = omega (arith, octets_short tag (uint_octets n), length-uint_octets n)
 
 origin-short : (e : ApplError) → IsShortError e → length (origin_octets e) ≤ 89
 origin-short e h = omega (arith, length-append (octets_of 0x85 (int_octets e.or_cat)) (octets_of 0x89 e.or_ident), int-short 0x85 e.or_cat, octets_short 0x89 e.or_ident, h.ident)
@@ -51,8 +48,8 @@ parts-short e h =
       int-short 0x85 (pos 1),
       octets_short 0xA2 (origin_octets e),
       origin-short e h,
-      uint-short 0x86 e.ctl_num,
-      uint-short 0x85 e.cause,
+      number_short 0x86 e.ctl_num,
+      number_short 0x85 e.cause,
     )
 
 pub error-data-short : (e : ApplError) → IsShortError e → length (error_data e) ≤ 293

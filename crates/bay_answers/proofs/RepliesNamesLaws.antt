@@ -6,13 +6,15 @@ use Rattle.std.proofs.lemmas.List.{length-append, append-nil, length-take-le, ta
 use Rattle.std.proofs.lemmas.List.Concat.{flat_map-append}
 use Rattle.ber_write.specs.Minimal.{octets_of, head_octets, uint_octets}
 use Rattle.ber_write.proofs.NumberLaws.{length-uint_octets}
+use Rattle.ber_write.proofs.LengthLaws.{headed}
 use Rattle.mms_pdu.specs.Tags.{get_name_list_tag}
 use Rattle.report_cut.specs.Fields.{truth}
 use Rattle.report_cut.specs.Sizes.{element_size}
 use Rattle.bay_answers.specs.RepliesContents.{identifiers, names_content}
 use Rattle.bay_answers.specs.RepliesSizes.{service_size, names_size, with_one}
 use Rattle.bay_answers.specs.Replies.{response, names_octets, names_fit, fitting, shown, names_response, IsFull, is_any, AreAsManyAsFit}
-use Rattle.bay_answers.proofs.RepliesSizeLaws.{length_of_element, length_of_answer, headed}
+use Rattle.bay_answers.proofs.RepliesSizeLaws.{length_of_answer, size_above}
+use Rattle.report_cut.proofs.SizeLaws.{length_of_element}
 
 -- ---- what fits of any list
 
@@ -66,19 +68,15 @@ one_identifier names n =
     ∙ length-append (identifiers names) (octets_of 0x1A n ++ [])
     ∙ ap (λ (k : ℕ). length (identifiers names) + k) (ap length (append-nil (octets_of 0x1A n)) ∙ length_of_element 0x1A n (omega arith))
 
-size_longer : (n : ℕ) → n ≤ element_size n
-unfolding element_size
-size_longer n = omega arith
-
 names_longer : (invoke n : ℕ) → n ≤ names_size invoke n
 unfolding names_size service_size
 names_longer invoke n =
-    omega (arith, size_longer n, size_longer (element_size n + 3), size_longer (element_size (length (uint_octets invoke)) + element_size (element_size n + 3)))
+    omega (arith, size_above n, size_above (element_size n + 3), size_above (element_size (length (uint_octets invoke)) + element_size (element_size n + 3)))
 
 -- a name that is longer than the size
 pub long_name : (size invoke n : ℕ) (name : List ℕ) → size < length name → with_one size invoke n name ≡ None
 long_name size invoke n name lt =
-    rw (lt-leb (names_size invoke (n + element_size (length name))) size (omega (arith, lt, size_longer (length name), names_longer invoke (n + element_size (length name))))) refl
+    rw (lt-leb (names_size invoke (n + element_size (length name))) size (omega (arith, lt, size_above (length name), names_longer invoke (n + element_size (length name))))) refl
 
 -- ---- the loop: one name more
 

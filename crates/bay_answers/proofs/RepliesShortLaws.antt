@@ -5,7 +5,7 @@ use Rattle.std.specs.List.{All, AllByRecursion}
 use Rattle.std.proofs.lemmas.Bool.{leb-true}
 use Rattle.std.proofs.lemmas.List.{length-append}
 use Rattle.ber_write.specs.Minimal.{octets_of, uint_octets}
-use Rattle.ber_write.proofs.NumberLaws.{length-uint_octets}
+use Rattle.ber_write.proofs.NumberLaws.{length-uint_octets, number_short}
 use Rattle.ber_write.proofs.LengthLaws.{octets_short}
 use Rattle.sv_base.specs.declared.config.Config.{Config}
 use Rattle.mms_pdu.specs.ReplyOctets.{answer_octets, class_tag, error_octets, invoke_octets, reason_tag, reason_code, reject_octets}
@@ -19,9 +19,6 @@ use Rattle.bay_answers.specs.ControlPdus.{error_pdu, IsShortError}
 use Rattle.bay_answers.proofs.ControlPduLaws.{error-short, termination-short}
 use Rattle.bay_answers.specs.Replies.{response, names_response, names_octets, shown, reply_octets, output_pdus, CanBeSent}
 use Rattle.bay_answers.proofs.RepliesNamesLaws.{as_long, shown_fit}
-
-number_short : (tag n : ℕ) → length (octets_of tag (uint_octets n)) ≤ 17
-number_short tag n = omega (arith, octets_short tag (uint_octets n), length-uint_octets n)
 
 error_short : (invoke class code : ℕ) → length (error_octets invoke class code) ≤ 100
 unfolding error_octets

@@ -5,7 +5,7 @@ use Rattle.std.specs.Prelude.{nat_le, if◌then◌else◌}
 use Rattle.std.proofs.lemmas.Bool.{le-leb, lt-leb, lt-ltb}
 use Rattle.std.proofs.lemmas.List.{length-append}
 use Rattle.ber_write.specs.Minimal.{tag_octets, length_octets, octets_of, head_octets, uint_octets}
-use Rattle.ber_write.proofs.LengthLaws.{length-octets_of, octets_longer}
+use Rattle.ber_write.proofs.LengthLaws.{length-octets_of, octets_longer, headed}
 use Rattle.sv_base.specs.declared.value.Value.{Value}
 use Rattle.mms_pdu.specs.Tags.{read_tag}
 use Rattle.mms_pdu.specs.ReplyOctets.{answer_content, answer_octets, error_octets}
@@ -15,14 +15,7 @@ use Rattle.bay_answers.specs.RepliesVariables.{asked_octets}
 use Rattle.bay_answers.specs.RepliesContents.{results_octets, read_content}
 use Rattle.bay_answers.specs.RepliesSizes.{service_size, begun}
 use Rattle.bay_answers.specs.Replies.{response}
-
-tag_of_one : (tag : ℕ) → tag < 256 → tag_octets tag ≡ tag ∷ []
-tag_of_one tag lt = rw (lt-ltb tag 256 lt) refl
-
--- an element whose tag is one octet
-pub length_of_element : (tag : ℕ) (c : List ℕ) → tag < 256 → length (octets_of tag c) ≡ element_size (length c)
-unfolding element_size
-length_of_element tag c lt = length-octets_of tag c ∙ ap (λ (t : List ℕ). length t + (length (length_octets (length c)) + length c)) (tag_of_one tag lt)
+use Rattle.report_cut.proofs.SizeLaws.{length_of_element}
 
 -- a DataAccessError
 pub length_of_failure : (code : ℕ) → length (octets_of 128 (uint_octets code)) ≡ element_size (length (uint_octets code))
@@ -40,10 +33,6 @@ pub length_of_answer : (invoke tag : ℕ) (c : List ℕ) → tag < 256 → lengt
 unfolding answer_octets
 length_of_answer invoke tag c lt = length_of_element 0xA1 (answer_content invoke tag c) (omega arith) ∙ ap element_size (length_of_content invoke tag c lt)
 
--- what stands before a content, and the content
-pub headed : (tag n : ℕ) (c : List ℕ) → length c ≡ n → head_octets tag n ++ c ≡ octets_of tag c
-headed tag n c e = subst (λ (k : ℕ). head_octets tag k ++ c ≡ octets_of tag c) e (append_assoc (tag_octets tag) (length_octets (length c)) c)
-
 around : (invoke tag : ℕ) (c : List ℕ) → tag < 256
     → ((head_octets 161 (service_size invoke (length c)) ++ octets_of 2 (uint_octets invoke)) ++ head_octets tag (length c)) ++ c ≡ answer_octets invoke tag c
 unfolding answer_octets
@@ -55,7 +44,7 @@ around invoke tag c lt =
 
 -- ---- what is begun
 
-size_above : (n : ℕ) → n ≤ element_size n
+pub size_above : (n : ℕ) → n ≤ element_size n
 unfolding element_size
 size_above n = omega arith
 

@@ -10,7 +10,7 @@ use Rattle.session_pres.specs.Plain.{Asked, cp_from}
 use Rattle.session_pres.specs.Written.{pdv_fields, pdv_list, user_octets, length_field, field}
 use Rattle.session_pres.specs.WrittenPpdu.{connect_parameters}
 use Rattle.session_pres.proofs.AnswerLaws.{fits_anyone}
-use Rattle.session_pres.proofs.FitLaws.{connect_short, user_few}
+use Rattle.session_pres.proofs.FitLaws.{connect_short, user_few, field_length_few}
 use Rattle.acse_apdu.specs.Written.{name_field, result_fields, external_content, information_content, aarq_content, aare_content, aarq_octets, aare_octets, release_octets}
 use Rattle.mms_pdu.specs.declared.initiate.Initiate.{Initiate}
 use Rattle.mms_pdu.specs.InitiateOctets.{initiate_content, answer_details, request_details, accepted, proposed, initiate_answer, initiate_request}
@@ -107,9 +107,6 @@ connect_fits size =
 
 -- ---- a release
 
-few_in_field : (n : ℕ) → length (length_field n) ≤ 3
-few_in_field n = grind (arith, nat_tests)
-
 release_few : (tag : ℕ) → length (release_octets tag) ≤ 16
 release_few tag = grind (arith, nat_tests)
 
@@ -117,4 +114,4 @@ pub release_fits : (context tag : ℕ) → length (field 193 (user_octets contex
 unfolding field
 release_fits context tag =
     let user = user_octets context (release_octets tag) in
-    omega (arith, user_few context (release_octets tag), few_in_field (length user), length-append (length_field (length user)) user, release_few tag)
+    omega (arith, user_few context (release_octets tag), field_length_few (length user), length-append (length_field (length user)) user, release_few tag)

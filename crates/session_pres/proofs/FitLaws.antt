@@ -10,12 +10,12 @@ use Rattle.session_pres.specs.declared.codes.TheConstants.{USER_DATA, NORMAL_MOD
 use Rattle.session_pres.specs.Written.{element_length, pdv_fields, pdv_list, user_octets, length_field, field, accept_item, accept_parameters, connect_item}
 use Rattle.session_pres.specs.WrittenPpdu.{set_content, ppdu, result_octets, cpa_parameters, cpa_octets, cp_head, cp_octets, connect_parameters}
 
-at_most_three : (n : ℕ) → length (length_field n) ≤ 3
-at_most_three n = grind (arith, nat_tests)
+pub field_length_few : (n : ℕ) → length (length_field n) ≤ 3
+field_length_few n = grind (arith, nat_tests)
 
 field_few : (code : ℕ) (value : List ℕ) → length (field code value) ≤ 4 + length value
 unfolding field
-field_few code value = omega (arith, length-append (length_field (length value)) value, at_most_three (length value))
+field_few code value = omega (arith, length-append (length_field (length value)) value, field_length_few (length value))
 
 fields_few : (context : ℕ) (value : List ℕ) → length (pdv_fields context value) ≤ 21 + length value
 unfolding pdv_fields
