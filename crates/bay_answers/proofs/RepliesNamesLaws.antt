@@ -7,7 +7,7 @@ use Rattle.std.proofs.lemmas.List.Concat.{flat_map-append}
 use Rattle.ber_write.specs.Minimal.{octets_of, head_octets, uint_octets}
 use Rattle.ber_write.proofs.NumberLaws.{length-uint_octets}
 use Rattle.ber_write.proofs.LengthLaws.{headed}
-use Rattle.mms_pdu.specs.Tags.{get_name_list_tag}
+use Rattle.mms_pdu.specs.declared.tags.TheConstants.{GET_NAME_LIST}
 use Rattle.report_cut.specs.Fields.{truth}
 use Rattle.report_cut.specs.Sizes.{element_size}
 use Rattle.bay_answers.specs.RepliesContents.{identifiers, names_content}
@@ -57,7 +57,7 @@ length_of_content names more =
 length_of_names : (invoke : ℕ) (names : List (List ℕ)) (more : Bool) → length (names_octets invoke names more) ≡ names_size invoke (length (identifiers names))
 unfolding names_size
 length_of_names invoke names more =
-    length_of_answer invoke get_name_list_tag (names_content names more) (omega arith) ∙ ap (λ (n : ℕ). element_size (service_size invoke n)) (length_of_content names more)
+    length_of_answer invoke GET_NAME_LIST (names_content names more) (omega arith) ∙ ap (λ (n : ℕ). element_size (service_size invoke n)) (length_of_content names more)
 
 pub fit_by_sums : (size invoke : ℕ) (names : List (List ℕ)) → names_fit size invoke names ≡ nat_le (names_size invoke (length (identifiers names))) size
 fit_by_sums size invoke names = ap (λ (n : ℕ). nat_le n size) (length_of_names invoke names true)
@@ -163,7 +163,7 @@ pub as_long : (invoke : ℕ) (names : List (List ℕ)) (a b : Bool) → length (
 as_long invoke names a b = length_of_names invoke names a ∙ sym (length_of_names invoke names b)
 
 -- what fits is no error
-pub names_answer : (size invoke : ℕ) (names : List (List ℕ)) (more : Bool) → names_fit size invoke names ≡ true → response size invoke get_name_list_tag (names_content names more) ≡ names_octets invoke names more
+pub names_answer : (size invoke : ℕ) (names : List (List ℕ)) (more : Bool) → names_fit size invoke names ≡ true → response size invoke GET_NAME_LIST (names_content names more) ≡ names_octets invoke names more
 names_answer size invoke names more fit = rw (ap (λ (n : ℕ). nat_le n size) (as_long invoke names more true) ∙ fit) refl
 
 pub answers : (size invoke count sum : ℕ) (names : List (List ℕ)) → 1024 ≤ size → count ≤ length names → take count names ≡ shown size invoke names → sum ≡ length (identifiers (take count names))

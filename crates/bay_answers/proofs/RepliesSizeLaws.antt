@@ -7,7 +7,7 @@ use Rattle.std.proofs.lemmas.List.{length-append}
 use Rattle.ber_write.specs.Minimal.{tag_octets, length_octets, octets_of, head_octets, uint_octets}
 use Rattle.ber_write.proofs.LengthLaws.{length-octets_of, octets_longer, headed}
 use Rattle.sv_base.specs.declared.value.Value.{Value}
-use Rattle.mms_pdu.specs.Tags.{read_tag}
+use Rattle.mms_pdu.specs.declared.tags.TheConstants.{READ}
 use Rattle.mms_pdu.specs.ReplyOctets.{answer_content, answer_octets, error_octets}
 use Rattle.bay_model.specs.declared.reply.Asked.{Asked}
 use Rattle.report_cut.specs.Sizes.{element_size}
@@ -96,9 +96,9 @@ long_refused size invoke tag c lt more = is_refused size invoke tag (length c) c
 
 pub reads_too_much : (size invoke len : ℕ) (asked : Asked) (results : List (Result Value ℕ))
     → len ≡ min (length (results_octets results)) 4294967295 → size < len
-    → response size invoke read_tag (read_content asked results) ≡ error_octets invoke 4 3
+    → response size invoke READ (read_content asked results) ≡ error_octets invoke 4 3
 reads_too_much size invoke len asked results e more =
-    long_refused size invoke read_tag (read_content asked results) (omega arith)
+    long_refused size invoke READ (read_content asked results) (omega arith)
     (omega (arith, e, more, length-append (asked_octets asked) (octets_of 0xA1 (results_octets results)), octets_longer 0xA1 (results_octets results)))
 
 pub read_around : (asked : List ℕ) (len : ℕ) (results : List (Result Value ℕ)) → len ≡ length (results_octets results)
@@ -114,13 +114,13 @@ read_length asked len results e =
     ∙ ap (λ (k : ℕ). length (asked_octets asked) + k) (length_of_element 0xA1 (results_octets results) (omega arith) ∙ ap element_size (sym e))
 
 pub read_answered : (size invoke len n : ℕ) (asked : Asked) (results : List (Result Value ℕ)) (h : List ℕ) → len ≡ length (results_octets results)
-    → n ≡ length (asked_octets asked) + element_size len → Some h ≡ begun size invoke read_tag n
-    → response size invoke read_tag (read_content asked results) ≡ h ++ (asked_octets asked ++ octets_of 161 (results_octets results))
+    → n ≡ length (asked_octets asked) + element_size len → Some h ≡ begun size invoke READ n
+    → response size invoke READ (read_content asked results) ≡ h ++ (asked_octets asked ++ octets_of 161 (results_octets results))
 read_answered size invoke len n asked results h e count is =
-    is_answered size invoke read_tag n (read_content asked results) h (omega arith) (read_length asked len results e ∙ sym count) is
+    is_answered size invoke READ n (read_content asked results) h (omega arith) (read_length asked len results e ∙ sym count) is
 
 pub read_refused : (size invoke len n : ℕ) (asked : Asked) (results : List (Result Value ℕ)) → len ≡ length (results_octets results)
-    → n ≡ length (asked_octets asked) + element_size len → None ≡ begun size invoke read_tag n
-    → response size invoke read_tag (read_content asked results) ≡ error_octets invoke 4 3
+    → n ≡ length (asked_octets asked) + element_size len → None ≡ begun size invoke READ n
+    → response size invoke READ (read_content asked results) ≡ error_octets invoke 4 3
 read_refused size invoke len n asked results e count is =
-    is_refused size invoke read_tag n (read_content asked results) (omega arith) (read_length asked len results e ∙ sym count) is
+    is_refused size invoke READ n (read_content asked results) (omega arith) (read_length asked len results e ∙ sym count) is
