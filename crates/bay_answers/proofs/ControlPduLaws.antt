@@ -19,7 +19,7 @@ use Rattle.bay_answers.specs.RepliesVariables.{variable_octets}
 use Rattle.bay_answers.specs.ControlPdus.{error_variable, origin_octets, error_parts, error_data, oper_item, oper_variable, report_of, error_pdu, termination_of, termination_pdu, IsShortError, HasShortName, IsShortTermination}
 
 variable-short : (name : List ℕ) → length (variable_octets name []) ≤ 16 + length name
-variable-short name = omega (arith, octets_short 0x30 (octets_of 0xA0 name ++ []), length-append (octets_of 0xA0 name) [], octets_short 0xA0 name)
+variable-short name = omega (arith, octets_short 0x30 (octets_of 0xa0 name ++ []), length-append (octets_of 0xa0 name) [], octets_short 0xa0 name)
 
 pub error-variable-short : length error_variable ≤ 37
 error-variable-short = omega (arith, variable-short (octets_of 0x80 (codes "LastApplError")), octets_short 0x80 (codes "LastApplError"))
@@ -34,19 +34,19 @@ parts-short : (e : ApplError) → IsShortError e → length (error_parts e) ≤ 
 parts-short e h =
     let cause = octets_of 0x85 (uint_octets e.cause) in
     let number = octets_of 0x86 (uint_octets e.ctl_num) in
-    let origin = octets_of 0xA2 (origin_octets e) in
+    let origin = octets_of 0xa2 (origin_octets e) in
     let one = octets_of 0x85 (int_octets (pos 1)) in
-    let object = octets_of 0x8A e.object in
+    let object = octets_of 0x8a e.object in
     omega (
       arith,
       length-append object (one ++ (origin ++ (number ++ cause))),
       length-append one (origin ++ (number ++ cause)),
       length-append origin (number ++ cause),
       length-append number cause,
-      octets_short 0x8A e.object,
+      octets_short 0x8a e.object,
       h.object,
       int-short 0x85 (pos 1),
-      octets_short 0xA2 (origin_octets e),
+      octets_short 0xa2 (origin_octets e),
       origin-short e h,
       number_short 0x86 e.ctl_num,
       number_short 0x85 e.cause,
@@ -54,19 +54,19 @@ parts-short e h =
 
 pub error-data-short : (e : ApplError) → IsShortError e → length (error_data e) ≤ 293
 unfolding error_data
-error-data-short e h = omega (arith, octets_short 0xA2 (error_parts e), parts-short e h)
+error-data-short e h = omega (arith, octets_short 0xa2 (error_parts e), parts-short e h)
 
 report-short : (variables values : List ℕ) → length (report_of variables values) ≤ 32 + (length variables + length values)
 unfolding report_octets
 report-short variables values =
-    let names = octets_of 0xA0 variables in
+    let names = octets_of 0xa0 variables in
     omega (
       arith,
-      octets_short 0xA3 (octets_of 0xA0 (names ++ octets_of 0xA0 values)),
-      octets_short 0xA0 (names ++ octets_of 0xA0 values),
-      length-append names (octets_of 0xA0 values),
-      octets_short 0xA0 variables,
-      octets_short 0xA0 values,
+      octets_short 0xa3 (octets_of 0xa0 (names ++ octets_of 0xa0 values)),
+      octets_short 0xa0 (names ++ octets_of 0xa0 values),
+      length-append names (octets_of 0xa0 values),
+      octets_short 0xa0 variables,
+      octets_short 0xa0 values,
     )
 
 pub error-short : (e : ApplError) → IsShortError e → length (error_pdu e) ≤ 1024
@@ -74,15 +74,15 @@ error-short e h = omega (arith, report-short error_variable (error_data e), erro
 
 pub oper-variable-short : (k : CtlDef) → HasShortName k → length (oper_variable k) ≤ 298
 oper-variable-short k h =
-    let domain = octets_of 0x1A k.domain in
-    let item = octets_of 0x1A (oper_item k) in
+    let domain = octets_of 0x1a k.domain in
+    let item = octets_of 0x1a (oper_item k) in
     omega (
       arith,
       variable-short (domain_name k.domain (oper_item k)),
-      octets_short 0xA1 (domain ++ item),
+      octets_short 0xa1 (domain ++ item),
       length-append domain item,
-      octets_short 0x1A k.domain,
-      octets_short 0x1A (oper_item k),
+      octets_short 0x1a k.domain,
+      octets_short 0x1a (oper_item k),
       h.domain,
       h.item,
     )
@@ -109,8 +109,8 @@ termination-short c t h = by (slice_get c.controls t.control.0) refl where
 
 -- ---- a list of variables is the element that a report wants
 
-pub is_list : (variables : List ℕ) → length variables < 2 ^ 32 → IsSpecificationElement (octets_of 0xA0 variables)
-is_list variables small = (written 0xA0 variables, is_spelling 0xA0 variables (one_octet 0xA0 (omega arith) (λ e. omega (arith, e))) small, omega arith, omega arith)
+pub is_list : (variables : List ℕ) → length variables < 2 ^ 32 → IsSpecificationElement (octets_of 0xa0 variables)
+is_list variables small = (written 0xa0 variables, is_spelling 0xa0 variables (one_octet 0xa0 (omega arith) (λ e. omega (arith, e))) small, omega arith, omega arith)
 
 -- ---- elements behind one another
 

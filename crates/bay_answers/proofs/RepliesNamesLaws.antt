@@ -52,7 +52,7 @@ module _ {A : Type 0} (fits : List A → Bool) where
 length_of_content : (names : List (List ℕ)) (more : Bool) → length (names_content names more) ≡ element_size (length (identifiers names)) + 3
 unfolding names_content
 length_of_content names more =
-    length-append (octets_of 0xA0 (identifiers names)) (octets_of 0x81 (truth more)) ∙ rw (length_of_element 0xA0 (identifiers names) (omega arith)) refl
+    length-append (octets_of 0xa0 (identifiers names)) (octets_of 0x81 (truth more)) ∙ rw (length_of_element 0xa0 (identifiers names) (omega arith)) refl
 
 length_of_names : (invoke : ℕ) (names : List (List ℕ)) (more : Bool) → length (names_octets invoke names more) ≡ names_size invoke (length (identifiers names))
 unfolding names_size
@@ -64,9 +64,9 @@ fit_by_sums size invoke names = ap (λ (n : ℕ). nat_le n size) (length_of_name
 
 pub one_identifier : (names : List (List ℕ)) (n : List ℕ) → length (identifiers (names ++ n ∷ [])) ≡ length (identifiers names) + element_size (length n)
 one_identifier names n =
-    ap length (flat_map-append (λ (m : List ℕ). octets_of 0x1A m) names (n ∷ []))
-    ∙ length-append (identifiers names) (octets_of 0x1A n ++ [])
-    ∙ ap (λ (k : ℕ). length (identifiers names) + k) (ap length (append-nil (octets_of 0x1A n)) ∙ length_of_element 0x1A n (omega arith))
+    ap length (flat_map-append (λ (m : List ℕ). octets_of 0x1a m) names (n ∷ []))
+    ∙ length-append (identifiers names) (octets_of 0x1a n ++ [])
+    ∙ ap (λ (k : ℕ). length (identifiers names) + k) (ap length (append-nil (octets_of 0x1a n)) ∙ length_of_element 0x1a n (omega arith))
 
 names_longer : (invoke n : ℕ) → n ≤ names_size invoke n
 unfolding names_size service_size

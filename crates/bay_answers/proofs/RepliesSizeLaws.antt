@@ -31,7 +31,7 @@ length_of_content invoke tag c lt =
 -- the PDU
 pub length_of_answer : (invoke tag : ℕ) (c : List ℕ) → tag < 256 → length (answer_octets invoke tag c) ≡ element_size (service_size invoke (length c))
 unfolding answer_octets
-length_of_answer invoke tag c lt = length_of_element 0xA1 (answer_content invoke tag c) (omega arith) ∙ ap element_size (length_of_content invoke tag c lt)
+length_of_answer invoke tag c lt = length_of_element 0xa1 (answer_content invoke tag c) (omega arith) ∙ ap element_size (length_of_content invoke tag c lt)
 
 around : (invoke tag : ℕ) (c : List ℕ) → tag < 256
     → ((head_octets 161 (service_size invoke (length c)) ++ octets_of 2 (uint_octets invoke)) ++ head_octets tag (length c)) ++ c ≡ answer_octets invoke tag c
@@ -99,7 +99,7 @@ pub reads_too_much : (size invoke len : ℕ) (asked : Asked) (results : List (Re
     → response size invoke READ (read_content asked results) ≡ error_octets invoke 4 3
 reads_too_much size invoke len asked results e more =
     long_refused size invoke READ (read_content asked results) (omega arith)
-    (omega (arith, e, more, length-append (asked_octets asked) (octets_of 0xA1 (results_octets results)), octets_longer 0xA1 (results_octets results)))
+    (omega (arith, e, more, length-append (asked_octets asked) (octets_of 0xa1 (results_octets results)), octets_longer 0xa1 (results_octets results)))
 
 pub read_around : (asked : List ℕ) (len : ℕ) (results : List (Result Value ℕ)) → len ≡ length (results_octets results)
     → (asked ++ head_octets 161 len) ++ results_octets results ≡ asked ++ octets_of 161 (results_octets results)
@@ -110,8 +110,8 @@ read_around asked len results e =
 read_length : (asked : Asked) (len : ℕ) (results : List (Result Value ℕ)) → len ≡ length (results_octets results)
     → length (read_content asked results) ≡ length (asked_octets asked) + element_size len
 read_length asked len results e =
-    length-append (asked_octets asked) (octets_of 0xA1 (results_octets results))
-    ∙ ap (λ (k : ℕ). length (asked_octets asked) + k) (length_of_element 0xA1 (results_octets results) (omega arith) ∙ ap element_size (sym e))
+    length-append (asked_octets asked) (octets_of 0xa1 (results_octets results))
+    ∙ ap (λ (k : ℕ). length (asked_octets asked) + k) (length_of_element 0xa1 (results_octets results) (omega arith) ∙ ap element_size (sym e))
 
 pub read_answered : (size invoke len n : ℕ) (asked : Asked) (results : List (Result Value ℕ)) (h : List ℕ) → len ≡ length (results_octets results)
     → n ≡ length (asked_octets asked) + element_size len → Some h ≡ begun size invoke READ n

@@ -85,7 +85,7 @@ are_results (e ∷ es) [] h = absurd h
 are_results (e ∷ es) (Ok v ∷ results) h = (inr (h.0.0, seen_of v, h.0.1), are_results es results h.1)
 are_results (e ∷ es) (Err code ∷ results) h = (inl (h.0.0, code, h.0.1, h.0.2), are_results es results h.1)
 
-tag_can : (tag : ℕ) → 0xA4 ≤ tag → tag ≤ 0xA5 → CanBeTag tag
+tag_can : (tag : ℕ) → 0xa4 ≤ tag → tag ≤ 0xa5 → CanBeTag tag
 tag_can tag least most = one_octet tag (omega (arith, most)) (λ e. omega (arith, e, least, most))
 
 within : (invoke tag : ℕ) (c : List ℕ) → length c ≤ length (answer_octets invoke tag c)
@@ -103,11 +103,11 @@ pub read_back : (invoke : ℕ) (results : List (Result Value ℕ)) → invoke < 
     → IsReply (answer_octets invoke READ (read_content asked.No results)) (answer invoke READ (read_content asked.No results)) × AreTold TellsResult (results_octets results) results
 unfolding asked_octets
 read_back invoke results small h lt =
-    let body : List ℕ = octets_of 0xA1 (results_octets results) in
-    let few : length (results_octets results) < 2 ^ 32 = omega (arith, lt, within invoke READ body, octets_longer 0xA1 (results_octets results)) in
+    let body : List ℕ = octets_of 0xa1 (results_octets results) in
+    let few : length (results_octets results) < 2 ^ 32 = omega (arith, lt, within invoke READ body, octets_longer 0xa1 (results_octets results)) in
     let t : AreTold TellsResult (results_octets results) results = results_told results h few in
     let form : IsAnswerBody READ body = record {
-      read = λ e. (written 0xA1 (results_octets results) ∷ [], written_last 0xA1 (results_octets results) (one_octet 0xA1 (omega arith) (λ e. omega (arith, e))) few, (refl, (t.0, t.1, are_results t.0 results t.2)));
+      read = λ e. (written 0xa1 (results_octets results) ∷ [], written_last 0xa1 (results_octets results) (one_octet 0xa1 (omega arith) (λ e. omega (arith, e))) few, (refl, (t.0, t.1, are_results t.0 results t.2)));
       written = λ e. absurd (omega (arith, e));
     } in
     (answer_spelled invoke READ body small (tag_can READ (omega arith) (omega arith)) form lt, t)
@@ -118,12 +118,12 @@ pub specified_back : (invoke : ℕ) (what : Asked) (access : Access (List ℕ)) 
     → IsReply (answer_octets invoke READ (read_content what results)) (answer invoke READ (read_content what results)) × AreTold TellsResult (results_octets results) results
 specified_back invoke what access results small a h lt =
     let body : List ℕ = read_content what results in
-    let second : List ℕ = octets_of 0xA1 (results_octets results) in
-    let few : length (results_octets results) < 2 ^ 32 = omega (arith, lt, within invoke READ body, length-append (asked_octets what) second, octets_longer 0xA1 (results_octets results)) in
+    let second : List ℕ = octets_of 0xa1 (results_octets results) in
+    let few : length (results_octets results) < 2 ^ 32 = omega (arith, lt, within invoke READ body, length-append (asked_octets what) second, octets_longer 0xa1 (results_octets results)) in
     let t : AreTold TellsResult (results_octets results) results = results_told results h few in
-    let last : IsRow second (written 0xA1 (results_octets results) ∷ []) = written_last 0xA1 (results_octets results) (one_octet 0xA1 (omega arith) (λ e. omega (arith, e))) few in
+    let last : IsRow second (written 0xa1 (results_octets results) ∷ []) = written_last 0xa1 (results_octets results) (one_octet 0xa1 (omega arith) (λ e. omega (arith, e))) few in
     let form : IsAnswerBody READ body = record {
-      read = λ e. (a.0 ∷ written 0xA1 (results_octets results) ∷ [], (asked_octets what, second, a.1, refl, last), ((a.2, a.3, a.4, access, a.5), (refl, (t.0, t.1, are_results t.0 results t.2))));
+      read = λ e. (a.0 ∷ written 0xa1 (results_octets results) ∷ [], (asked_octets what, second, a.1, refl, last), ((a.2, a.3, a.4, access, a.5), (refl, (t.0, t.1, are_results t.0 results t.2))));
       written = λ e. absurd (omega (arith, e));
     } in
     (answer_spelled invoke READ body small (tag_can READ (omega arith) (omega arith)) form lt, t)

@@ -20,6 +20,7 @@ use Rattle.report_cut.specs.Pdus.{pdus, CanBeCut}
 use Rattle.bay_answers.specs.ControlPdus.{error_pdu, termination_pdu, IsShortError, IsShortTermination}
 use Rattle.bay_answers.specs.RepliesContents.{status_content, identify_content, names_content, type_content}
 use Rattle.bay_answers.specs.RepliesContents.{read_content, written_content, set_content, deleted_content}
+use Rattle.bay_answers.specs.declared.tags.TheConstants.{DEFINE_LIST, IDENTIFY, STATUS}
 
 -- the response of the service with this tag; where it is longer than the size, the error class service, 4, with the code
 -- pdu-size, 3
@@ -56,14 +57,14 @@ rejected invoke n = reject_octets (if n == 2 || n == 3 then Some invoke else Non
 
 -- In the response, the tags of Status and Identify are those of structures, and Define is a NULL.
 abbrev pub reply_octets : Config → ℕ → ℕ → Reply → List ℕ
-reply_octets c size invoke replies.Status = response size invoke 0xA0 status_content
-reply_octets c size invoke replies.Identify = response size invoke 0xA2 (identify_content c)
+reply_octets c size invoke replies.Status = response size invoke STATUS status_content
+reply_octets c size invoke replies.Identify = response size invoke IDENTIFY (identify_content c)
 reply_octets c size invoke replies.Conclude = concluded_octets
 reply_octets c size invoke (replies.Names names) = names_response size invoke names
 reply_octets c size invoke (replies.TypeOfNode n) = response size invoke GET_ATTRIBUTES (type_content (node_type c n.0))
 reply_octets c size invoke (replies.Read asked results) = response size invoke READ (read_content asked results)
 reply_octets c size invoke (replies.Wrote codes) = response size invoke WRITE (written_content codes)
-reply_octets c size invoke replies.Defined = response size invoke 0x8B []
+reply_octets c size invoke replies.Defined = response size invoke DEFINE_LIST []
 reply_octets c size invoke (replies.SetOf deletable members) = response size invoke GET_LIST_ATTRIBUTES (set_content c deletable members)
 reply_octets c size invoke (replies.Deleted matched deleted) = response size invoke DELETE_LIST (deleted_content matched deleted)
 reply_octets c size invoke (replies.Error class code) = error_octets invoke class code

@@ -3,8 +3,9 @@
 ghost use Rattle.std.specs.Prelude.{◌≡◌, ◌≤◌, ◌++◌, length, min, OnOk, IfOk};
 ghost use Rattle.std.specs.List.{All};
 ghost use Rattle.ber_write.specs.Minimal.{octets_of, uint_octets};
-ghost use Rattle.mms_pdu.specs.declared.tags.TheConstants.{GET_ATTRIBUTES, READ, WRITE, GET_LIST_ATTRIBUTES, DELETE_LIST};
+ghost use Rattle.mms_pdu.specs.declared.tags.TheConstants.{GET_ATTRIBUTES, READ, WRITE, GET_LIST_ATTRIBUTES, DELETE_LIST, FAILURE, LIST_OF_RESULT};
 ghost use Rattle.object_model.specs.Tables.{node_type};
+ghost use Rattle.bay_answers.specs.declared.tags.TheConstants.{IDENTIFY};
 ghost use Rattle.bay_answers.specs.RepliesContents.{identify_content, type_content, result_octets, results_octets, read_content};
 ghost use Rattle.bay_answers.specs.RepliesContents.{written_octets, written_content, set_content, deleted_content};
 ghost use Rattle.bay_answers.specs.Replies.{IsWritable, IsNode, response};
@@ -28,7 +29,7 @@ pub(crate) fn identify(
     invoke: u32,
 ) -> Result<Octs, AllocError>
     requires { size ≤ 65000 }
-    ensures { IfOk result (λ o. o ≡ response size invoke 0xA2 (identify_content model.now)) }
+    ensures { IfOk result (λ o. o ≡ response size invoke IDENTIFY (identify_content model.now)) }
 {
     let config = model.config();
     let mut content = Vec::new(alloc);
@@ -67,7 +68,7 @@ pub(crate) fn type_of_node(
 /// How many octets a failure has.
 #[tactic(auto, using(crate::proofs::RepliesSizeLaws::length_of_failure))]
 fn failure_len(code: u8) -> u32
-    ensures value { result ≡ length (octets_of 0x80 (uint_octets code)) }
+    ensures value { result ≡ length (octets_of FAILURE (uint_octets code)) }
     ensures few { result ≤ 15 }
 {
     element_len(uint_len(u64::from(code)))
@@ -124,7 +125,7 @@ fn put_read(
 ) -> Result<(), AllocError>
     requires results { All IsWritable results.now }
     requires len { len ≡ length (results_octets results.now) }
-    ensures { OnOk result (out.new.items ≡ out.old.items ++ (asked.now ++ octets_of 0xA1 (results_octets results.now))) }
+    ensures { OnOk result (out.new.items ≡ out.old.items ++ (asked.now ++ octets_of LIST_OF_RESULT (results_octets results.now))) }
 {
     out.extend_from_slice(asked)?;
     put_head(out, pdu_tags::LIST_OF_RESULT, len)?;
