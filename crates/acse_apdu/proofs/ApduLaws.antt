@@ -1,10 +1,11 @@
 -- An APDU is read exactly where it is spelled, and refused exactly for its cause.
 use Rattle.std.proofs.Common.{◌≡◌, ℕ, Bool, true, false, cond, List, [], ◌∷◌, Option, Some, None, Result, Ok, Err, refl, sym, ap, subst, ◌∙◌}
 use Rattle.std.proofs.lemmas.Bool.{eq-eqb}
+use Rattle.list_laws.proofs.Options.{some_is, ok_is, err_is}
 use Rattle.ber_grammar.specs.Octets.{IsBytes}
 use Rattle.ber_grammar.specs.Place.{Piece, Spot, content_piece}
 use Rattle.ber_grammar.specs.Reader.{◌>>=◌, and_then, Gives, Reads}
-use Rattle.ber_grammar.proofs.ReaderLaws.{exact_from, reads_from, ok_is, err_is}
+use Rattle.ber_grammar.proofs.ReaderLaws.{exact_from, reads_from}
 use Rattle.acse_apdu.specs.declared.codes.TheConstants.{AARQ, AARE, USER_INFORMATION, EXTERNAL}
 use Rattle.acse_apdu.specs.declared.fault.AcFault.{AcFault}
 use Rattle.acse_apdu.specs.declared.fault.AcFault.TheVariants.{Apdu, ContextName, NoUserInformation}
@@ -13,7 +14,7 @@ use Rattle.acse_apdu.specs.Apdu.{with_fields, apdu_at}
 use Rattle.acse_apdu.specs.Contents.{names_mms, is_accepted, pdu_at}
 use Rattle.acse_apdu.specs.Reading.{association_at, aarq_at, aare_at, release_at}
 use Rattle.ber_grammar.proofs.OctetLaws.{Spells-bytes}
-use Rattle.ber_grammar.proofs.OptionLaws.{some_is, then_some}
+use Rattle.ber_grammar.proofs.OptionLaws.{then_some}
 use Rattle.ber_grammar.proofs.FieldLaws.{HoldOctets, fields_again, fields_found, fields-hold, field-holds, only-holds, with_tag-found, whole_again, whole_found}
 use Rattle.ber_grammar.specs.Element.{Element}
 use Rattle.ber_grammar.specs.Fields.{AreFields, spot_in, fields_in, with_tag, whole_at, whole_in}
@@ -222,10 +223,10 @@ pub one_aare : (input p q : Piece) → IsAare input p → IsAare input q → p �
 one_aare input p q h k = ok_is {F = AcFault} p q (sym (aare_again input p h) ∙ aare_again input q k)
 
 pub one_aarq_cause : (input : Piece) (f g : AcFault) → IsBytes input.octets → IsAarqRefused input f → IsAarqRefused input g → f ≡ g
-one_aarq_cause input f g fits h k = err_is {Y = Piece} f g (sym (aarq_refused input f fits h) ∙ aarq_refused input g fits k)
+one_aarq_cause input f g fits h k = err_is {A = Piece} f g (sym (aarq_refused input f fits h) ∙ aarq_refused input g fits k)
 
 pub one_aare_cause : (input : Piece) (f g : AcFault) → IsBytes input.octets → IsAareRefused input f → IsAareRefused input g → f ≡ g
-one_aare_cause input f g fits h k = err_is {Y = Piece} f g (sym (aare_refused input f fits h) ∙ aare_refused input g fits k)
+one_aare_cause input f g fits h k = err_is {A = Piece} f g (sym (aare_refused input f fits h) ∙ aare_refused input g fits k)
 
 pub aarq_not_both : (input p : Piece) (f : AcFault) → IsBytes input.octets → IsAarq input p → IsAarqRefused input f → ⊥
 aarq_not_both input p f fits h k = let one = aarq_again input p h in let two = aarq_refused input f fits k in cc

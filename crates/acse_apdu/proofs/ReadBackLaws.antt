@@ -11,6 +11,8 @@ use Rattle.ber_write.proofs.ElementLaws.{is_spelling}
 use Rattle.ber_write.proofs.NumberLaws.{unsigned_written, length-uint_octets}
 use Rattle.acse_apdu.specs.declared.codes.TheConstants.{AARQ, AARE, RLRQ, RLRE, APPLICATION_CONTEXT_NAME, RESULT, RESULT_SOURCE_DIAGNOSTIC, SERVICE_USER, USER_INFORMATION, REASON, EXTERNAL, SINGLE_ASN1_TYPE, INTEGER, OBJECT_IDENTIFIER}
 use Rattle.ber_grammar.specs.Fields.{AreFields, IsFirst, IsOnly}
+use Rattle.ber_write.proofs.WrittenLaws.{written_last, written_more}
+use Rattle.ber_write.proofs.LengthLaws.{octets_longer, octets_few}
 use Rattle.acse_apdu.specs.Grammar.{IsApdu, mms_context, NamesMms, IsAccepted, Carries, IsAarq, IsAare, IsRelease}
 use Rattle.acse_apdu.specs.Reading.{pdu_of_aarq, pdu_of_aare, rlrq_of, rlre_of}
 use Rattle.acse_apdu.specs.Plain.{HoldsName, HoldsResult, HoldsExternal, IsPlainAarq, IsPlainAare, IsPlainRelease}
@@ -19,15 +21,6 @@ use Rattle.acse_apdu.proofs.ApduLaws.{aarq_again, aare_again, release_again}
 
 -- ---- written elements in a row
 
-one : (tag : ℕ) (content : List ℕ) → CanBeTag tag → length content < 2 ^ 32 → IsRow (octets_of tag content) (written tag content ∷ [])
-one tag content is_tag small = (octets_of tag content, [], is_spelling tag content is_tag small, sym (append-nil (octets_of tag content)), refl)
-
-front : (tag : ℕ) (content rest : List ℕ) (es : List Element) → CanBeTag tag → length content < 2 ^ 32 → IsRow rest es → IsRow (octets_of tag content ++ rest) (written tag content ∷ es)
-front tag content rest es is_tag small row = (octets_of tag content, rest, is_spelling tag content is_tag small, refl, row)
-
-inner : (tag : ℕ) (content : List ℕ) → length content ≤ length (octets_of tag content)
-inner tag content = omega (arith, length-append (tag_octets tag) (length_octets (length content) ++ content), length-append (length_octets (length content)) content)
-
 -- ---- an association
 
 record Fits (context : ℕ) (pdu : List ℕ) : Type 0 where
@@ -35,20 +28,20 @@ record Fits (context : ℕ) (pdu : List ℕ) : Type 0 where
   information : length (information_content context pdu) < 2 ^ 32
 
 external_fits : (context : ℕ) (pdu : List ℕ) → Fits context pdu → length (external_content context pdu) < 2 ^ 32
-external_fits context pdu f = omega (arith, f.information, inner EXTERNAL (external_content context pdu))
+external_fits context pdu f = omega (arith, f.information, octets_longer EXTERNAL (external_content context pdu))
 
 pdu_fits : (context : ℕ) (pdu : List ℕ) → Fits context pdu → length pdu < 2 ^ 32
 pdu_fits context pdu f =
-    omega (arith, external_fits context pdu f, inner SINGLE_ASN1_TYPE pdu, length-append (octets_of OBJECT_IDENTIFIER (0x51 ∷ 0x01 ∷ [])) (octets_of INTEGER (uint_octets context) ++ octets_of SINGLE_ASN1_TYPE pdu), length-append (octets_of INTEGER (uint_octets context)) (octets_of SINGLE_ASN1_TYPE pdu))
+    omega (arith, external_fits context pdu f, octets_longer SINGLE_ASN1_TYPE pdu, length-append (octets_of OBJECT_IDENTIFIER (0x51 ∷ 0x01 ∷ [])) (octets_of INTEGER (uint_octets context) ++ octets_of SINGLE_ASN1_TYPE pdu), length-append (octets_of INTEGER (uint_octets context)) (octets_of SINGLE_ASN1_TYPE pdu))
 
 number_fits : (context : ℕ) (pdu : List ℕ) → Fits context pdu → length (uint_octets context) < 2 ^ 32
 number_fits context pdu f =
-    omega (arith, external_fits context pdu f, inner INTEGER (uint_octets context), length-append (octets_of OBJECT_IDENTIFIER (0x51 ∷ 0x01 ∷ [])) (octets_of INTEGER (uint_octets context) ++ octets_of SINGLE_ASN1_TYPE pdu), length-append (octets_of INTEGER (uint_octets context)) (octets_of SINGLE_ASN1_TYPE pdu))
+    omega (arith, external_fits context pdu f, octets_longer INTEGER (uint_octets context), length-append (octets_of OBJECT_IDENTIFIER (0x51 ∷ 0x01 ∷ [])) (octets_of INTEGER (uint_octets context) ++ octets_of SINGLE_ASN1_TYPE pdu), length-append (octets_of INTEGER (uint_octets context)) (octets_of SINGLE_ASN1_TYPE pdu))
 
 external_row : (context : ℕ) (pdu : List ℕ) → Fits context pdu → IsRow (external_content context pdu) (written OBJECT_IDENTIFIER (0x51 ∷ 0x01 ∷ []) ∷ written INTEGER (uint_octets context) ∷ written SINGLE_ASN1_TYPE pdu ∷ [])
 external_row context pdu f =
-    front OBJECT_IDENTIFIER (0x51 ∷ 0x01 ∷ []) (octets_of INTEGER (uint_octets context) ++ octets_of SINGLE_ASN1_TYPE pdu) (written INTEGER (uint_octets context) ∷ written SINGLE_ASN1_TYPE pdu ∷ []) (search rules) (omega arith)
-    (front INTEGER (uint_octets context) (octets_of SINGLE_ASN1_TYPE pdu) (written SINGLE_ASN1_TYPE pdu ∷ []) (search rules) (number_fits context pdu f) (one SINGLE_ASN1_TYPE pdu (search rules) (pdu_fits context pdu f)))
+    written_more OBJECT_IDENTIFIER (0x51 ∷ 0x01 ∷ []) (octets_of INTEGER (uint_octets context) ++ octets_of SINGLE_ASN1_TYPE pdu) (written INTEGER (uint_octets context) ∷ written SINGLE_ASN1_TYPE pdu ∷ []) (search rules) (omega arith)
+    (written_more INTEGER (uint_octets context) (octets_of SINGLE_ASN1_TYPE pdu) (written SINGLE_ASN1_TYPE pdu ∷ []) (search rules) (number_fits context pdu f) (written_last SINGLE_ASN1_TYPE pdu (search rules) (pdu_fits context pdu f)))
 
 -- the content of the first written element of a content
 abbrev at_front : Piece → ℕ → List ℕ → Piece
@@ -57,18 +50,18 @@ at_front content tag inside = content_piece (record { element = written tag insi
 only_written : (content : Piece) (tag : ℕ) (inside : List ℕ) → CanBeTag tag → length inside < 2 ^ 32 → content.octets ≡ octets_of tag inside → IsOnly tag content (at_front content tag inside)
 only_written content tag inside is_tag small e = (
   record { element = written tag inside; block = content.block; place = content.place + (written tag inside).head },
-  (written tag inside ∷ [], subst (λ (x : List ℕ). IsRow x (written tag inside ∷ [])) (sym e) (one tag inside is_tag small), refl),
+  (written tag inside ∷ [], subst (λ (x : List ℕ). IsRow x (written tag inside ∷ [])) (sym e) (written_last tag inside is_tag small), refl),
   refl,
   refl,
 )
 
 name_row : (rest : List ℕ) (es : List Element) → IsRow rest es → IsRow (name_field ++ rest) (written APPLICATION_CONTEXT_NAME (octets_of OBJECT_IDENTIFIER mms_context) ∷ es)
-name_row rest es row = front APPLICATION_CONTEXT_NAME (octets_of OBJECT_IDENTIFIER mms_context) rest es (search rules) (omega arith) row
+name_row rest es row = written_more APPLICATION_CONTEXT_NAME (octets_of OBJECT_IDENTIFIER mms_context) rest es (search rules) (omega arith) row
 
 result_row : (rest : List ℕ) (es : List Element) → IsRow rest es → IsRow (result_fields ++ rest) (written RESULT (octets_of INTEGER (0 ∷ [])) ∷ written RESULT_SOURCE_DIAGNOSTIC (octets_of SERVICE_USER (octets_of INTEGER (0 ∷ []))) ∷ es)
 result_row rest es row =
-    front RESULT (octets_of INTEGER (0 ∷ [])) (octets_of RESULT_SOURCE_DIAGNOSTIC (octets_of SERVICE_USER (octets_of INTEGER (0 ∷ []))) ++ rest) (written RESULT_SOURCE_DIAGNOSTIC (octets_of SERVICE_USER (octets_of INTEGER (0 ∷ []))) ∷ es) (search rules) (omega arith)
-    (front RESULT_SOURCE_DIAGNOSTIC (octets_of SERVICE_USER (octets_of INTEGER (0 ∷ []))) rest es (search rules) (omega arith) row)
+    written_more RESULT (octets_of INTEGER (0 ∷ [])) (octets_of RESULT_SOURCE_DIAGNOSTIC (octets_of SERVICE_USER (octets_of INTEGER (0 ∷ []))) ++ rest) (written RESULT_SOURCE_DIAGNOSTIC (octets_of SERVICE_USER (octets_of INTEGER (0 ∷ []))) ∷ es) (search rules) (omega arith)
+    (written_more RESULT_SOURCE_DIAGNOSTIC (octets_of SERVICE_USER (octets_of INTEGER (0 ∷ []))) rest es (search rules) (omega arith) row)
 
 -- a first field that names MMS
 names_written : (content : Piece) (es : List Element) → IsRow content.octets (written APPLICATION_CONTEXT_NAME (octets_of OBJECT_IDENTIFIER mms_context) ∷ es) → NamesMms content
@@ -122,9 +115,9 @@ apdu_written tag inside es input is_tag small row e =
 pub aarq_written : (input : Piece) (context : ℕ) (pdu : List ℕ) → context < 2 ^ 32 → length (aarq_content context pdu) < 2 ^ 32 → input.octets ≡ aarq_octets context pdu → (p : Piece) × IsAarq input p × (p.octets ≡ pdu)
 unfolding aarq_octets
 aarq_written input context pdu word small e =
-    let fits : Fits context pdu = record { word = word; information = omega (arith, small, length-append name_field (octets_of USER_INFORMATION (information_content context pdu)), inner USER_INFORMATION (information_content context pdu)) } in
+    let fits : Fits context pdu = record { word = word; information = omega (arith, small, length-append name_field (octets_of USER_INFORMATION (information_content context pdu)), octets_longer USER_INFORMATION (information_content context pdu)) } in
     let es = written APPLICATION_CONTEXT_NAME (octets_of OBJECT_IDENTIFIER mms_context) ∷ written USER_INFORMATION (information_content context pdu) ∷ [] in
-    let row : IsRow (aarq_content context pdu) es = name_row (octets_of USER_INFORMATION (information_content context pdu)) (written USER_INFORMATION (information_content context pdu) ∷ []) (one USER_INFORMATION (information_content context pdu) (search rules) fits.information) in
+    let row : IsRow (aarq_content context pdu) es = name_row (octets_of USER_INFORMATION (information_content context pdu)) (written USER_INFORMATION (information_content context pdu) ∷ []) (written_last USER_INFORMATION (information_content context pdu) (search rules) fits.information) in
     let content = at_front input AARQ (aarq_content context pdu) in
     let fields = placed (content.block, content.place) es in
     let place = content.place + ((written APPLICATION_CONTEXT_NAME (octets_of OBJECT_IDENTIFIER mms_context)).head + length (octets_of OBJECT_IDENTIFIER mms_context)) + (written USER_INFORMATION (information_content context pdu)).head in
@@ -146,9 +139,9 @@ accepted_written content es row =
 pub aare_written : (input : Piece) (context : ℕ) (pdu : List ℕ) → context < 2 ^ 32 → length (aare_content context pdu) < 2 ^ 32 → input.octets ≡ aare_octets context pdu → (p : Piece) × IsAare input p × (p.octets ≡ pdu)
 unfolding aare_octets
 aare_written input context pdu word small e =
-    let fits : Fits context pdu = record { word = word; information = omega (arith, small, length-append name_field (result_fields ++ octets_of USER_INFORMATION (information_content context pdu)), length-append result_fields (octets_of USER_INFORMATION (information_content context pdu)), inner USER_INFORMATION (information_content context pdu)) } in
+    let fits : Fits context pdu = record { word = word; information = omega (arith, small, length-append name_field (result_fields ++ octets_of USER_INFORMATION (information_content context pdu)), length-append result_fields (octets_of USER_INFORMATION (information_content context pdu)), octets_longer USER_INFORMATION (information_content context pdu)) } in
     let es = written APPLICATION_CONTEXT_NAME (octets_of OBJECT_IDENTIFIER mms_context) ∷ response_elements context pdu in
-    let last : IsRow (octets_of USER_INFORMATION (information_content context pdu)) (written USER_INFORMATION (information_content context pdu) ∷ []) = one USER_INFORMATION (information_content context pdu) (search rules) fits.information in
+    let last : IsRow (octets_of USER_INFORMATION (information_content context pdu)) (written USER_INFORMATION (information_content context pdu) ∷ []) = written_last USER_INFORMATION (information_content context pdu) (search rules) fits.information in
     let row : IsRow (aare_content context pdu) es =
     name_row (result_fields ++ octets_of USER_INFORMATION (information_content context pdu)) (response_elements context pdu) (result_row (octets_of USER_INFORMATION (information_content context pdu)) (written USER_INFORMATION (information_content context pdu) ∷ []) last) in
     let content = at_front input AARE (aare_content context pdu) in
@@ -182,7 +175,7 @@ aare_read_back context pdu word small =
 
 pub release_written : (tag : ℕ) (input : Piece) → CanBeTag tag → input.octets ≡ release_octets tag → IsRelease tag input
 release_written tag input is_tag e =
-    (at_front input tag (octets_of REASON (0 ∷ [])), apdu_written tag (octets_of REASON (0 ∷ [])) (written REASON (0 ∷ []) ∷ []) input is_tag (omega arith) (one REASON (0 ∷ []) (search rules) (omega arith)) e)
+    (at_front input tag (octets_of REASON (0 ∷ [])), apdu_written tag (octets_of REASON (0 ∷ [])) (written REASON (0 ∷ []) ∷ []) input is_tag (omega arith) (written_last REASON (0 ∷ []) (search rules) (omega arith)) e)
 
 pub rlrq_read_back : rlrq_of (release_octets RLRQ) ≡ Ok tt
 unfolding rlrq_of
@@ -194,20 +187,13 @@ rlre_read_back = release_again RLRE (anywhere (release_octets RLRE)) (release_wr
 
 -- ---- what fits
 
-few_in_length : (n : ℕ) → length (length_octets n) ≤ 5
-few_in_length n = grind (arith, nat_tests)
-
-few_in_head : (tag : ℕ) (content : List ℕ) → tag < 256 → length (octets_of tag content) ≤ 6 + length content
-few_in_head tag content lt =
-    rw (lt-ltb tag 256 lt) (omega (arith, few_in_length (length content), length-append (length_octets (length content)) content))
-
 -- ---- it has exactly the fields that are written
 
 name_plain : HoldsName (written APPLICATION_CONTEXT_NAME (octets_of OBJECT_IDENTIFIER mms_context))
-name_plain = (written OBJECT_IDENTIFIER mms_context, record { is_tag = refl; row = one OBJECT_IDENTIFIER mms_context (search rules) (omega arith) }, refl, refl)
+name_plain = (written OBJECT_IDENTIFIER mms_context, record { is_tag = refl; row = written_last OBJECT_IDENTIFIER mms_context (search rules) (omega arith) }, refl, refl)
 
 zero_plain : IsRow (octets_of INTEGER (0 ∷ [])) (written INTEGER (0 ∷ []) ∷ [])
-zero_plain = one INTEGER (0 ∷ []) (search rules) (omega arith)
+zero_plain = written_last INTEGER (0 ∷ []) (search rules) (omega arith)
 
 result_plain : HoldsResult (written RESULT (octets_of INTEGER (0 ∷ []))) (written RESULT_SOURCE_DIAGNOSTIC (octets_of SERVICE_USER (octets_of INTEGER (0 ∷ []))))
 result_plain =
@@ -216,7 +202,7 @@ result_plain =
       written SERVICE_USER (octets_of INTEGER (0 ∷ [])),
       written INTEGER (0 ∷ []),
       record { is_tag = refl; row = zero_plain },
-      record { is_tag = refl; row = one SERVICE_USER (octets_of INTEGER (0 ∷ [])) (search rules) (omega arith) },
+      record { is_tag = refl; row = written_last SERVICE_USER (octets_of INTEGER (0 ∷ [])) (search rules) (omega arith) },
       record { is_tag = refl; row = zero_plain },
       refl,
       zero,
@@ -230,7 +216,7 @@ external_plain context pdu f = (
   written OBJECT_IDENTIFIER (0x51 ∷ 0x01 ∷ []),
   written INTEGER (uint_octets context),
   written SINGLE_ASN1_TYPE pdu,
-  record { is_tag = refl; row = one EXTERNAL (external_content context pdu) (search rules) (external_fits context pdu f) },
+  record { is_tag = refl; row = written_last EXTERNAL (external_content context pdu) (search rules) (external_fits context pdu f) },
   record { is_tag = refl; row = external_row context pdu f },
   refl,
   refl,
@@ -243,21 +229,21 @@ external_plain context pdu f = (
 pub aarq_plain : (context : ℕ) (pdu : List ℕ) → context < 2 ^ 32 → length (aarq_content context pdu) < 2 ^ 32 → IsPlainAarq (aarq_octets context pdu) context pdu
 unfolding aarq_octets
 aarq_plain context pdu word small =
-    let fits : Fits context pdu = record { word = word; information = omega (arith, small, length-append name_field (octets_of USER_INFORMATION (information_content context pdu)), inner USER_INFORMATION (information_content context pdu)) } in
+    let fits : Fits context pdu = record { word = word; information = omega (arith, small, length-append name_field (octets_of USER_INFORMATION (information_content context pdu)), octets_longer USER_INFORMATION (information_content context pdu)) } in
     let name = written APPLICATION_CONTEXT_NAME (octets_of OBJECT_IDENTIFIER mms_context) in
     let information = written USER_INFORMATION (information_content context pdu) in
-    let row : IsRow (aarq_content context pdu) (name ∷ information ∷ []) = name_row (octets_of USER_INFORMATION (information_content context pdu)) (information ∷ []) (one USER_INFORMATION (information_content context pdu) (search rules) fits.information) in
+    let row : IsRow (aarq_content context pdu) (name ∷ information ∷ []) = name_row (octets_of USER_INFORMATION (information_content context pdu)) (information ∷ []) (written_last USER_INFORMATION (information_content context pdu) (search rules) fits.information) in
     (written AARQ (aarq_content context pdu), name, information, is_spelling AARQ (aarq_content context pdu) (search rules) small, record { is_tag = refl; row = row }, name_plain, external_plain context pdu fits)
 
 pub aare_plain : (context : ℕ) (pdu : List ℕ) → context < 2 ^ 32 → length (aare_content context pdu) < 2 ^ 32 → IsPlainAare (aare_octets context pdu) context pdu
 unfolding aare_octets
 aare_plain context pdu word small =
-    let fits : Fits context pdu = record { word = word; information = omega (arith, small, length-append name_field (result_fields ++ octets_of USER_INFORMATION (information_content context pdu)), length-append result_fields (octets_of USER_INFORMATION (information_content context pdu)), inner USER_INFORMATION (information_content context pdu)) } in
+    let fits : Fits context pdu = record { word = word; information = omega (arith, small, length-append name_field (result_fields ++ octets_of USER_INFORMATION (information_content context pdu)), length-append result_fields (octets_of USER_INFORMATION (information_content context pdu)), octets_longer USER_INFORMATION (information_content context pdu)) } in
     let name = written APPLICATION_CONTEXT_NAME (octets_of OBJECT_IDENTIFIER mms_context) in
     let result = written RESULT (octets_of INTEGER (0 ∷ [])) in
     let diagnostic = written RESULT_SOURCE_DIAGNOSTIC (octets_of SERVICE_USER (octets_of INTEGER (0 ∷ []))) in
     let information = written USER_INFORMATION (information_content context pdu) in
-    let last : IsRow (octets_of USER_INFORMATION (information_content context pdu)) (information ∷ []) = one USER_INFORMATION (information_content context pdu) (search rules) fits.information in
+    let last : IsRow (octets_of USER_INFORMATION (information_content context pdu)) (information ∷ []) = written_last USER_INFORMATION (information_content context pdu) (search rules) fits.information in
     let row : IsRow (aare_content context pdu) (name ∷ result ∷ diagnostic ∷ information ∷ []) =
     name_row (result_fields ++ octets_of USER_INFORMATION (information_content context pdu)) (result ∷ diagnostic ∷ information ∷ []) (result_row (octets_of USER_INFORMATION (information_content context pdu)) (information ∷ []) last) in
     (written AARE (aare_content context pdu), name, result, diagnostic, information, is_spelling AARE (aare_content context pdu) (search rules) small, record { is_tag = refl; row = row }, name_plain, result_plain, external_plain context pdu fits)
@@ -267,7 +253,7 @@ release_plain tag is_tag = (
   written tag (octets_of REASON (0 ∷ [])),
   written REASON (0 ∷ []),
   is_spelling tag (octets_of REASON (0 ∷ [])) is_tag (omega arith),
-  record { is_tag = refl; row = one REASON (0 ∷ []) (search rules) (omega arith) },
+  record { is_tag = refl; row = written_last REASON (0 ∷ []) (search rules) (omega arith) },
   refl,
   (omega arith, omega arith, refl, omega arith),
 )
@@ -284,10 +270,10 @@ information_short : (context : ℕ) (pdu : List ℕ) → length pdu ≤ 42949670
 information_short context pdu le =
     omega (
       arith,
-      few_in_head USER_INFORMATION (information_content context pdu) (omega arith),
-      few_in_head EXTERNAL (external_content context pdu) (omega arith),
-      few_in_head SINGLE_ASN1_TYPE pdu (omega arith),
-      few_in_head INTEGER (uint_octets context) (omega arith),
+      octets_few USER_INFORMATION (information_content context pdu) (omega arith),
+      octets_few EXTERNAL (external_content context pdu) (omega arith),
+      octets_few SINGLE_ASN1_TYPE pdu (omega arith),
+      octets_few INTEGER (uint_octets context) (omega arith),
       length-uint_octets context,
       length-append (octets_of OBJECT_IDENTIFIER (0x51 ∷ 0x01 ∷ [])) (octets_of INTEGER (uint_octets context) ++ octets_of SINGLE_ASN1_TYPE pdu),
       length-append (octets_of INTEGER (uint_octets context)) (octets_of SINGLE_ASN1_TYPE pdu),

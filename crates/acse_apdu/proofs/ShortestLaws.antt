@@ -9,6 +9,8 @@ use Rattle.ber_grammar.proofs.OctetLaws.{IsBytes-front, IsBytes-back, Spells-byt
 use Rattle.ber_write.specs.Minimal.{octets_of, tag_octets, length_octets, uint_octets}
 use Rattle.ber_write.proofs.ElementLaws.{is_minimal}
 use Rattle.ber_write.proofs.ShortestLaws.{uint_shortest}
+use Rattle.ber_write.proofs.LengthLaws.{octets_grow}
+use Rattle.ber_write.proofs.WrittenLaws.{row_least, element_least}
 use Rattle.acse_apdu.specs.declared.codes.TheConstants.{AARQ, AARE, APPLICATION_CONTEXT_NAME, RESULT, RESULT_SOURCE_DIAGNOSTIC, SERVICE_USER, USER_INFORMATION, REASON, EXTERNAL, SINGLE_ASN1_TYPE, INTEGER, OBJECT_IDENTIFIER}
 use Rattle.acse_apdu.specs.Grammar.{mms_context}
 use Rattle.acse_apdu.specs.Plain.{HoldsName, HoldsResult, HoldsExternal, IsPlainAarq, IsPlainAare, IsPlainRelease}
@@ -16,33 +18,9 @@ use Rattle.acse_apdu.specs.Written.{name_field, result_fields, external_content,
 
 -- ---- elements
 
-longer_length : (m n : ℕ) → m ≤ n → length (length_octets m) ≤ length (length_octets n)
-longer_length m n le = grind (arith, nat_tests)
-
-count : (tag : ℕ) (content : List ℕ) → length (octets_of tag content) ≡ length (tag_octets tag) + (length (length_octets (length content)) + length content)
-count tag content = length-append (tag_octets tag) (length_octets (length content) ++ content) ∙ rw (length-append (length_octets (length content)) content) refl
-
--- a shorter content makes a shorter element
-longer : (tag : ℕ) (short long : List ℕ) → length short ≤ length long → length (octets_of tag short) ≤ length (octets_of tag long)
-longer tag short long le = omega (arith, count tag short, count tag long, longer_length (length short) (length long) le)
-
-abbrev least : List Element → ℕ
-least [] = 0
-least (e ∷ es) = length (octets_of e.tag e.content) + least es
-
-row_least : (octets : List ℕ) (es : List Element) → IsBytes octets → IsRow octets es → least es ≤ length octets
-row_least octets [] fits row = omega arith
-row_least octets (e ∷ es) fits (front, rest, spelled, at, row) =
-    let whole : IsBytes (front ++ rest) = subst IsBytes at fits in
-    omega (arith, (is_minimal front e (IsBytes-front front rest whole) spelled).0, row_least rest es (IsBytes-back front rest whole) row, ap length at, length-append front rest)
-
-element_least : (tag : ℕ) (octets content : List ℕ) (e : Element) → IsBytes octets → Spells octets e → e.tag ≡ tag → length content ≤ length e.content → length (octets_of tag content) ≤ length octets
-element_least tag octets content e fits spelled is_tag le =
-    omega (arith, (is_minimal octets e fits spelled).0, ap (λ (t : ℕ). length (octets_of t e.content)) is_tag, longer tag content e.content le)
-
 -- the same of an element of a row
 field_least : (tag : ℕ) (content : List ℕ) (e : Element) → e.tag ≡ tag → length content ≤ length e.content → length (octets_of tag content) ≤ length (octets_of e.tag e.content)
-field_least tag content e is_tag le = omega (arith, ap (λ (t : ℕ). length (octets_of t e.content)) is_tag, longer tag content e.content le)
+field_least tag content e is_tag le = omega (arith, ap (λ (t : ℕ). length (octets_of t e.content)) is_tag, octets_grow tag content e.content le)
 
 one_least : (tag : ℕ) (octets content : List ℕ) (e : Element) → IsBytes octets → IsRow octets (e ∷ []) → e.tag ≡ tag → length content ≤ length e.content → length (octets_of tag content) ≤ length octets
 one_least tag octets content e fits row is_tag le = omega (arith, row_least octets (e ∷ []) fits row, field_least tag content e is_tag le)

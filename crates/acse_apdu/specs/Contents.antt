@@ -10,7 +10,7 @@ use Rattle.acse_apdu.specs.declared.codes.TheConstants.{APPLICATION_CONTEXT_NAME
 -- ---- the application context and the result
 
 abbrev pub is_mms : List ℕ → Bool
-is_mms (a ∷ b ∷ c ∷ d ∷ e ∷ []) = a == 0x28 && b == 0xCA && c == 0x22 && d == 0x02 && e == 0x03
+is_mms (a ∷ b ∷ c ∷ d ∷ e ∷ []) = a == 0x28 && b == 0xca && c == 0x22 && d == 0x02 && e == 0x03
 is_mms octets = false
 
 abbrev pub is_mms_name : Option Piece → Bool

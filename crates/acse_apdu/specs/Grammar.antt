@@ -16,7 +16,7 @@ IsApdu tag input content = (e : Element) × (fields : List Spot) × Spells input
 
 -- 1.0.9506.2.3, the application context of MMS (ISO 9506-2, IEC 61850-8-1): the octets of an OBJECT IDENTIFIER
 abbrev pub mms_context : List ℕ
-mms_context = 0x28 ∷ 0xCA ∷ 0x22 ∷ 0x02 ∷ 0x03 ∷ []
+mms_context = 0x28 ∷ 0xca ∷ 0x22 ∷ 0x02 ∷ 0x03 ∷ []
 
 -- application-context-name, [1]: an OBJECT IDENTIFIER, the universal tag 6
 abbrev pub NamesMms : Piece → Type 0

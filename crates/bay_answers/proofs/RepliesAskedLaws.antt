@@ -5,13 +5,14 @@ use Rattle.std.proofs.lemmas.List.{length-append}
 use Rattle.ber_grammar.specs.Element.{Element, IsRow}
 use Rattle.ber_write.specs.Minimal.{octets_of, written, CanBeTag}
 use Rattle.ber_write.proofs.ElementLaws.{is_spelling}
+use Rattle.ber_write.proofs.LengthLaws.{octets_longer, inside}
+use Rattle.ber_write.proofs.WrittenLaws.{written_more, written_last, one_octet, whole_last}
 use Rattle.mms_pdu.specs.ObjectName.{Name, IsName, IsOnlyName}
 use Rattle.mms_pdu.specs.ObjectName as mms
 use Rattle.mms_pdu.specs.Variable.{IsVariable}
 use Rattle.mms_pdu.specs.Each.{Each}
 use Rattle.mms_pdu.specs.Access.{variables, named}
 use Rattle.mms_pdu.specs.AskingOctets.{AreVisible, domain_name}
-use Rattle.mms_pdu.proofs.WrittenLaws.{octets_longer, written_more, written_last, one_octet}
 use Rattle.bay_model.specs.declared.request.ObjName.{ObjName}
 use Rattle.bay_model.specs.declared.request.ObjName.TheVariants as names
 use Rattle.bay_model.specs.declared.request.Target.{Target}
@@ -21,38 +22,28 @@ use Rattle.bay_model.specs.declared.reply.Asked.TheVariants as asked
 use Rattle.bay_answers.specs.RepliesVariables.{name_octets, target_octets, asked_octets}
 use Rattle.bay_answers.specs.RepliesTold.{name_told, target_told, IsVisibleName, IsVisibleTarget, TellsAsked}
 
--- an element under a tag that isn't longer than what is known
-can : (tag : ℕ) → tag < 256 → (tag % 32 ≡ 31 → ⊥) → CanBeTag tag
-can tag lt ne = one_octet tag lt ne
-
-last : (tag : ℕ) (content : List ℕ) → tag < 256 → (tag % 32 ≡ 31 → ⊥) → length (octets_of tag content) < 2 ^ 32 → IsRow (octets_of tag content) (written tag content ∷ [])
-last tag content lt ne small = written_last tag content (can tag lt ne) (omega (arith, small, octets_longer tag content))
-
-inside : (tag : ℕ) (content : List ℕ) → length (octets_of tag content) < 2 ^ 32 → length content < 2 ^ 32
-inside tag content small = omega (arith, small, octets_longer tag content)
-
 domain_told : (d i : List ℕ) → AreVisible d → AreVisible i → length (domain_name d i) < 2 ^ 32 → IsOnlyName (domain_name d i) (mms.domain d i)
 domain_told d i vd vi small =
     let both : List ℕ = octets_of 26 d ++ octets_of 26 i in
-    let inner : length both < 2 ^ 32 = inside 161 both small in
+    let inner : length both < 2 ^ 32 = inside 161 both (2 ^ 32) small in
     let first : length (octets_of 26 d) < 2 ^ 32 = omega (arith, inner, length-append (octets_of 26 d) (octets_of 26 i)) in
     let second : length (octets_of 26 i) < 2 ^ 32 = omega (arith, inner, length-append (octets_of 26 d) (octets_of 26 i)) in
     let row : IsRow both (written 26 d ∷ written 26 i ∷ []) =
-    written_more 26 d (octets_of 26 i) (written 26 i ∷ []) (can 26 (omega arith) (λ e. omega (arith, e))) (inside 26 d first) (last 26 i (omega arith) (λ e. omega (arith, e)) second) in
-    (written 161 both, last 161 both (omega arith) (λ e. omega (arith, e)) small, (refl, written 26 d, written 26 i, row, (refl, (refl, vd)), (refl, (refl, vi))))
+    written_more 26 d (octets_of 26 i) (written 26 i ∷ []) (one_octet 26 (omega arith) (λ e. omega (arith, e))) (inside 26 d (2 ^ 32) first) (whole_last 26 i (omega arith) (λ e. omega (arith, e)) second) in
+    (written 161 both, whole_last 161 both (omega arith) (λ e. omega (arith, e)) small, (refl, written 26 d, written 26 i, row, (refl, (refl, vd)), (refl, (refl, vi))))
 
 only_told : (n : ObjName) → IsVisibleName n → length (name_octets n) < 2 ^ 32 → IsOnlyName (name_octets n) (name_told n)
-only_told (names.Vmd o) v small = (written 128 o, last 128 o (omega arith) (λ e. omega (arith, e)) small, (refl, refl))
+only_told (names.Vmd o) v small = (written 128 o, whole_last 128 o (omega arith) (λ e. omega (arith, e)) small, (refl, refl))
 only_told (names.Domain d i) v small = domain_told d i v.0 v.1 small
-only_told (names.Assoc o) v small = (written 130 o, last 130 o (omega arith) (λ e. omega (arith, e)) small, (refl, refl))
+only_told (names.Assoc o) v small = (written 130 o, whole_last 130 o (omega arith) (λ e. omega (arith, e)) small, (refl, refl))
 
 -- an item without alternate access
 plain_told : (n : ObjName) → IsVisibleName n → length (octets_of 160 (name_octets n) ++ []) < 2 ^ 32
     → IsVariable (written 48 (octets_of 160 (name_octets n) ++ [])) (record { name = name_told n; alternate = false })
 plain_told n v small =
     let field : length (octets_of 160 (name_octets n)) < 2 ^ 32 = omega (arith, small, length-append (octets_of 160 (name_octets n)) []) in
-    let row : IsRow (octets_of 160 (name_octets n) ++ []) (written 160 (name_octets n) ∷ []) = written_more 160 (name_octets n) [] [] (can 160 (omega arith) (λ e. omega (arith, e))) (inside 160 (name_octets n) field) refl in
-    (refl, written 160 (name_octets n) ∷ [], row, (refl, only_told n v (inside 160 (name_octets n) field), refl))
+    let row : IsRow (octets_of 160 (name_octets n) ++ []) (written 160 (name_octets n) ∷ []) = written_more 160 (name_octets n) [] [] (one_octet 160 (omega arith) (λ e. omega (arith, e))) (inside 160 (name_octets n) (2 ^ 32) field) refl in
+    (refl, written 160 (name_octets n) ∷ [], row, (refl, only_told n v (inside 160 (name_octets n) (2 ^ 32) field), refl))
 
 -- and one with it
 alternate_told : (n : ObjName) → IsVisibleName n → length (octets_of 160 (name_octets n) ++ octets_of 165 []) < 2 ^ 32
@@ -60,8 +51,8 @@ alternate_told : (n : ObjName) → IsVisibleName n → length (octets_of 160 (na
 alternate_told n v small =
     let field : length (octets_of 160 (name_octets n)) < 2 ^ 32 = omega (arith, small, length-append (octets_of 160 (name_octets n)) (octets_of 165 [])) in
     let row : IsRow (octets_of 160 (name_octets n) ++ octets_of 165 []) (written 160 (name_octets n) ∷ written 165 [] ∷ []) =
-    written_more 160 (name_octets n) (octets_of 165 []) (written 165 [] ∷ []) (can 160 (omega arith) (λ e. omega (arith, e))) (inside 160 (name_octets n) field) (last 165 [] (omega arith) (λ e. omega (arith, e)) (omega arith)) in
-    (refl, written 160 (name_octets n) ∷ written 165 [] ∷ [], row, (refl, only_told n v (inside 160 (name_octets n) field), (refl, refl)))
+    written_more 160 (name_octets n) (octets_of 165 []) (written 165 [] ∷ []) (one_octet 160 (omega arith) (λ e. omega (arith, e))) (inside 160 (name_octets n) (2 ^ 32) field) (whole_last 165 [] (omega arith) (λ e. omega (arith, e)) (omega arith)) in
+    (refl, written 160 (name_octets n) ∷ written 165 [] ∷ [], row, (refl, only_told n v (inside 160 (name_octets n) (2 ^ 32) field), (refl, refl)))
 
 abbrev item : Target → List ℕ
 item (targets.Node n name) = octets_of 160 (name_octets name) ++ []
@@ -85,10 +76,10 @@ items_told (t ∷ ts) v small =
     let rest : List ℕ = flat_map target_octets ts in
     let first : length (target_octets t) < 2 ^ 32 = omega (arith, small, length-append (target_octets t) rest) in
     let one : length (octets_of 48 (item t)) < 2 ^ 32 = subst (λ (o : List ℕ). length o < 2 ^ 32) (itemised t) first in
-    let few : length (item t) < 2 ^ 32 = inside 48 (item t) one in
+    let few : length (item t) < 2 ^ 32 = inside 48 (item t) (2 ^ 32) one in
     let r : (es : List Element) × IsRow rest es × Each IsVariable es (map target_told ts) = items_told ts v.1 (omega (arith, small, length-append (target_octets t) rest)) in (
       written 48 (item t) ∷ r.0,
-      subst (λ (o : List ℕ). IsRow (o ++ rest) (written 48 (item t) ∷ r.0)) (sym (itemised t)) (written_more 48 (item t) rest r.0 (can 48 (omega arith) (λ e. omega (arith, e))) few r.1),
+      subst (λ (o : List ℕ). IsRow (o ++ rest) (written 48 (item t) ∷ r.0)) (sym (itemised t)) (written_more 48 (item t) rest r.0 (one_octet 48 (omega arith) (λ e. omega (arith, e))) few r.1),
       (item_told t v.0 few, r.2),
     )
 
@@ -96,13 +87,13 @@ pub variables_told : (ts : List Target) → AllByRecursion IsVisibleTarget ts �
 unfolding asked_octets
 variables_told ts v small =
     let list : List ℕ = flat_map target_octets ts in
-    let outer : length (octets_of 160 list) < 2 ^ 32 = inside 160 (octets_of 160 list) small in
-    let r : (es : List Element) × IsRow list es × Each IsVariable es (map target_told ts) = items_told ts v (inside 160 list outer) in (
+    let outer : length (octets_of 160 list) < 2 ^ 32 = inside 160 (octets_of 160 list) (2 ^ 32) small in
+    let r : (es : List Element) × IsRow list es × Each IsVariable es (map target_told ts) = items_told ts v (inside 160 list (2 ^ 32) outer) in (
       written 160 (octets_of 160 list),
-      is_spelling 160 (octets_of 160 list) (can 160 (omega arith) (λ e. omega (arith, e))) outer,
+      is_spelling 160 (octets_of 160 list) (one_octet 160 (omega arith) (λ e. omega (arith, e))) outer,
       refl,
       written 160 list,
-      last 160 list (omega arith) (λ e. omega (arith, e)) outer,
+      whole_last 160 list (omega arith) (λ e. omega (arith, e)) outer,
       (refl, (r.0, r.1, r.2)),
     )
 
@@ -110,11 +101,11 @@ pub set_told : (n : SetName) → AreVisible n.domain → AreVisible n.item → l
 unfolding asked_octets
 set_told n vd vi small =
     let name : List ℕ = domain_name n.domain n.item in
-    let outer : length (octets_of 161 name) < 2 ^ 32 = inside 160 (octets_of 161 name) small in (
+    let outer : length (octets_of 161 name) < 2 ^ 32 = inside 160 (octets_of 161 name) (2 ^ 32) small in (
       written 160 (octets_of 161 name),
-      is_spelling 160 (octets_of 161 name) (can 160 (omega arith) (λ e. omega (arith, e))) outer,
+      is_spelling 160 (octets_of 161 name) (one_octet 160 (omega arith) (λ e. omega (arith, e))) outer,
       refl,
       written 161 name,
-      last 161 name (omega arith) (λ e. omega (arith, e)) outer,
-      (refl, domain_told n.domain n.item vd vi (inside 161 name outer)),
+      whole_last 161 name (omega arith) (λ e. omega (arith, e)) outer,
+      (refl, domain_told n.domain n.item vd vi (inside 161 name (2 ^ 32) outer)),
     )

@@ -6,13 +6,15 @@ use Rattle.std.proofs.lemmas.List.{length-append, append-nil, length-take-le, ta
 use Rattle.std.proofs.lemmas.List.Concat.{flat_map-append}
 use Rattle.ber_write.specs.Minimal.{octets_of, head_octets, uint_octets}
 use Rattle.ber_write.proofs.NumberLaws.{length-uint_octets}
-use Rattle.mms_pdu.specs.Tags.{get_name_list_tag}
+use Rattle.ber_write.proofs.LengthLaws.{headed}
+use Rattle.mms_pdu.specs.declared.tags.TheConstants.{GET_NAME_LIST}
 use Rattle.report_cut.specs.Fields.{truth}
 use Rattle.report_cut.specs.Sizes.{element_size}
 use Rattle.bay_answers.specs.RepliesContents.{identifiers, names_content}
 use Rattle.bay_answers.specs.RepliesSizes.{service_size, names_size, with_one}
 use Rattle.bay_answers.specs.Replies.{response, names_octets, names_fit, fitting, shown, names_response, IsFull, is_any, AreAsManyAsFit}
-use Rattle.bay_answers.proofs.RepliesSizeLaws.{length_of_element, length_of_answer, headed}
+use Rattle.bay_answers.proofs.RepliesSizeLaws.{length_of_answer, size_above}
+use Rattle.report_cut.proofs.SizeLaws.{length_of_element}
 
 -- ---- what fits of any list
 
@@ -50,35 +52,31 @@ module _ {A : Type 0} (fits : List A → Bool) where
 length_of_content : (names : List (List ℕ)) (more : Bool) → length (names_content names more) ≡ element_size (length (identifiers names)) + 3
 unfolding names_content
 length_of_content names more =
-    length-append (octets_of 0xA0 (identifiers names)) (octets_of 0x81 (truth more)) ∙ rw (length_of_element 0xA0 (identifiers names) (omega arith)) refl
+    length-append (octets_of 0xa0 (identifiers names)) (octets_of 0x81 (truth more)) ∙ rw (length_of_element 0xa0 (identifiers names) (omega arith)) refl
 
 length_of_names : (invoke : ℕ) (names : List (List ℕ)) (more : Bool) → length (names_octets invoke names more) ≡ names_size invoke (length (identifiers names))
 unfolding names_size
 length_of_names invoke names more =
-    length_of_answer invoke get_name_list_tag (names_content names more) (omega arith) ∙ ap (λ (n : ℕ). element_size (service_size invoke n)) (length_of_content names more)
+    length_of_answer invoke GET_NAME_LIST (names_content names more) (omega arith) ∙ ap (λ (n : ℕ). element_size (service_size invoke n)) (length_of_content names more)
 
 pub fit_by_sums : (size invoke : ℕ) (names : List (List ℕ)) → names_fit size invoke names ≡ nat_le (names_size invoke (length (identifiers names))) size
 fit_by_sums size invoke names = ap (λ (n : ℕ). nat_le n size) (length_of_names invoke names true)
 
 pub one_identifier : (names : List (List ℕ)) (n : List ℕ) → length (identifiers (names ++ n ∷ [])) ≡ length (identifiers names) + element_size (length n)
 one_identifier names n =
-    ap length (flat_map-append (λ (m : List ℕ). octets_of 0x1A m) names (n ∷ []))
-    ∙ length-append (identifiers names) (octets_of 0x1A n ++ [])
-    ∙ ap (λ (k : ℕ). length (identifiers names) + k) (ap length (append-nil (octets_of 0x1A n)) ∙ length_of_element 0x1A n (omega arith))
-
-size_longer : (n : ℕ) → n ≤ element_size n
-unfolding element_size
-size_longer n = omega arith
+    ap length (flat_map-append (λ (m : List ℕ). octets_of 0x1a m) names (n ∷ []))
+    ∙ length-append (identifiers names) (octets_of 0x1a n ++ [])
+    ∙ ap (λ (k : ℕ). length (identifiers names) + k) (ap length (append-nil (octets_of 0x1a n)) ∙ length_of_element 0x1a n (omega arith))
 
 names_longer : (invoke n : ℕ) → n ≤ names_size invoke n
 unfolding names_size service_size
 names_longer invoke n =
-    omega (arith, size_longer n, size_longer (element_size n + 3), size_longer (element_size (length (uint_octets invoke)) + element_size (element_size n + 3)))
+    omega (arith, size_above n, size_above (element_size n + 3), size_above (element_size (length (uint_octets invoke)) + element_size (element_size n + 3)))
 
 -- a name that is longer than the size
 pub long_name : (size invoke n : ℕ) (name : List ℕ) → size < length name → with_one size invoke n name ≡ None
 long_name size invoke n name lt =
-    rw (lt-leb (names_size invoke (n + element_size (length name))) size (omega (arith, lt, size_longer (length name), names_longer invoke (n + element_size (length name))))) refl
+    rw (lt-leb (names_size invoke (n + element_size (length name))) size (omega (arith, lt, size_above (length name), names_longer invoke (n + element_size (length name))))) refl
 
 -- ---- the loop: one name more
 
@@ -165,7 +163,7 @@ pub as_long : (invoke : ℕ) (names : List (List ℕ)) (a b : Bool) → length (
 as_long invoke names a b = length_of_names invoke names a ∙ sym (length_of_names invoke names b)
 
 -- what fits is no error
-pub names_answer : (size invoke : ℕ) (names : List (List ℕ)) (more : Bool) → names_fit size invoke names ≡ true → response size invoke get_name_list_tag (names_content names more) ≡ names_octets invoke names more
+pub names_answer : (size invoke : ℕ) (names : List (List ℕ)) (more : Bool) → names_fit size invoke names ≡ true → response size invoke GET_NAME_LIST (names_content names more) ≡ names_octets invoke names more
 names_answer size invoke names more fit = rw (ap (λ (n : ℕ). nat_le n size) (as_long invoke names more true) ∙ fit) refl
 
 pub answers : (size invoke count sum : ℕ) (names : List (List ℕ)) → 1024 ≤ size → count ≤ length names → take count names ≡ shown size invoke names → sum ≡ length (identifiers (take count names))

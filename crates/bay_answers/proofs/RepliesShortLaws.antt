@@ -5,10 +5,10 @@ use Rattle.std.specs.List.{All, AllByRecursion}
 use Rattle.std.proofs.lemmas.Bool.{leb-true}
 use Rattle.std.proofs.lemmas.List.{length-append}
 use Rattle.ber_write.specs.Minimal.{octets_of, uint_octets}
-use Rattle.ber_write.proofs.NumberLaws.{length-uint_octets}
+use Rattle.ber_write.proofs.NumberLaws.{length-uint_octets, number_short}
+use Rattle.ber_write.proofs.LengthLaws.{octets_short}
 use Rattle.sv_base.specs.declared.config.Config.{Config}
 use Rattle.mms_pdu.specs.ReplyOctets.{answer_octets, class_tag, error_octets, invoke_octets, reason_tag, reason_code, reject_octets}
-use Rattle.mms_pdu.proofs.WrittenLaws.{octets_short}
 use Rattle.bay_model.specs.declared.reply.Reply.{Reply}
 use Rattle.bay_model.specs.declared.reply.Reply.TheVariants as replies
 use Rattle.bay_model.specs.declared.answer.Output.{Output}
@@ -20,21 +20,18 @@ use Rattle.bay_answers.proofs.ControlPduLaws.{error-short, termination-short}
 use Rattle.bay_answers.specs.Replies.{response, names_response, names_octets, shown, reply_octets, output_pdus, CanBeSent}
 use Rattle.bay_answers.proofs.RepliesNamesLaws.{as_long, shown_fit}
 
-number_short : (tag n : ℕ) → length (octets_of tag (uint_octets n)) ≤ 17
-number_short tag n = omega (arith, octets_short tag (uint_octets n), length-uint_octets n)
-
 error_short : (invoke class code : ℕ) → length (error_octets invoke class code) ≤ 100
 unfolding error_octets
 error_short invoke class code =
     let k : List ℕ = octets_of (class_tag class) (uint_octets code) in
-    let e : List ℕ = octets_of 0xA2 (octets_of 0xA0 k) in
+    let e : List ℕ = octets_of 0xa2 (octets_of 0xa0 k) in
     omega (
       arith,
-      octets_short 0xA2 (octets_of 0x80 (uint_octets invoke) ++ e),
+      octets_short 0xa2 (octets_of 0x80 (uint_octets invoke) ++ e),
       length-append (octets_of 0x80 (uint_octets invoke)) e,
       number_short 0x80 invoke,
-      octets_short 0xA2 (octets_of 0xA0 k),
-      octets_short 0xA0 k,
+      octets_short 0xa2 (octets_of 0xa0 k),
+      octets_short 0xa0 k,
       number_short (class_tag class) code,
     )
 
@@ -46,7 +43,7 @@ reject_short : (invoke : Option ℕ) (n : ℕ) → length (reject_octets invoke 
 unfolding reject_octets
 reject_short invoke n =
     let r : List ℕ = octets_of (reason_tag n) (uint_octets (reason_code n)) in
-    omega (arith, octets_short 0xA4 (invoke_octets invoke ++ r), length-append (invoke_octets invoke) r, invoke_short invoke, number_short (reason_tag n) (reason_code n))
+    omega (arith, octets_short 0xa4 (invoke_octets invoke ++ r), length-append (invoke_octets invoke) r, invoke_short invoke, number_short (reason_tag n) (reason_code n))
 
 response_short : (size invoke tag : ℕ) (c : List ℕ) → 1024 ≤ size → length (response size invoke tag c) ≤ size
 response_short size invoke tag c least = either (nat_le (length (answer_octets invoke tag c)) size) refl
@@ -61,14 +58,14 @@ names_short size invoke names least =
     subst (λ (n : ℕ). n ≤ size) (as_long invoke s true (nat_lt (length s) (length names))) (leb-true (length (names_octets invoke s true)) size (shown_fit size invoke names least))
 
 reply_short : (c : Config) (size invoke : ℕ) (r : Reply) → 1024 ≤ size → length (reply_octets c size invoke r) ≤ size
-reply_short c size invoke replies.Status least = response_short size invoke 0xA0 _ least
-reply_short c size invoke replies.Identify least = response_short size invoke 0xA2 _ least
+reply_short c size invoke replies.Status least = response_short size invoke 0xa0 _ least
+reply_short c size invoke replies.Identify least = response_short size invoke 0xa2 _ least
 reply_short c size invoke replies.Conclude least = omega (arith, least)
 reply_short c size invoke (replies.Names names) least = names_short size invoke names least
 reply_short c size invoke (replies.TypeOfNode n) least = response_short size invoke _ _ least
 reply_short c size invoke (replies.Read asked results) least = response_short size invoke _ _ least
 reply_short c size invoke (replies.Wrote codes) least = response_short size invoke _ _ least
-reply_short c size invoke replies.Defined least = response_short size invoke 0x8B [] least
+reply_short c size invoke replies.Defined least = response_short size invoke 0x8b [] least
 reply_short c size invoke (replies.SetOf deletable members) least = response_short size invoke _ _ least
 reply_short c size invoke (replies.Deleted matched deleted) least = response_short size invoke _ _ least
 reply_short c size invoke (replies.Error class code) least = omega (arith, least, error_short invoke class code)

@@ -5,24 +5,17 @@ use Rattle.std.specs.Prelude.{nat_le, if◌then◌else◌}
 use Rattle.std.proofs.lemmas.Bool.{le-leb, lt-leb, lt-ltb}
 use Rattle.std.proofs.lemmas.List.{length-append}
 use Rattle.ber_write.specs.Minimal.{tag_octets, length_octets, octets_of, head_octets, uint_octets}
+use Rattle.ber_write.proofs.LengthLaws.{length-octets_of, octets_longer, headed}
 use Rattle.sv_base.specs.declared.value.Value.{Value}
-use Rattle.mms_pdu.specs.Tags.{read_tag}
+use Rattle.mms_pdu.specs.declared.tags.TheConstants.{READ}
 use Rattle.mms_pdu.specs.ReplyOctets.{answer_content, answer_octets, error_octets}
-use Rattle.mms_pdu.proofs.WrittenLaws.{length-octets_of, octets_longer}
 use Rattle.bay_model.specs.declared.reply.Asked.{Asked}
 use Rattle.report_cut.specs.Sizes.{element_size}
 use Rattle.bay_answers.specs.RepliesVariables.{asked_octets}
 use Rattle.bay_answers.specs.RepliesContents.{results_octets, read_content}
 use Rattle.bay_answers.specs.RepliesSizes.{service_size, begun}
 use Rattle.bay_answers.specs.Replies.{response}
-
-tag_of_one : (tag : ℕ) → tag < 256 → tag_octets tag ≡ tag ∷ []
-tag_of_one tag lt = rw (lt-ltb tag 256 lt) refl
-
--- an element whose tag is one octet
-pub length_of_element : (tag : ℕ) (c : List ℕ) → tag < 256 → length (octets_of tag c) ≡ element_size (length c)
-unfolding element_size
-length_of_element tag c lt = length-octets_of tag c ∙ ap (λ (t : List ℕ). length t + (length (length_octets (length c)) + length c)) (tag_of_one tag lt)
+use Rattle.report_cut.proofs.SizeLaws.{length_of_element}
 
 -- a DataAccessError
 pub length_of_failure : (code : ℕ) → length (octets_of 128 (uint_octets code)) ≡ element_size (length (uint_octets code))
@@ -38,11 +31,7 @@ length_of_content invoke tag c lt =
 -- the PDU
 pub length_of_answer : (invoke tag : ℕ) (c : List ℕ) → tag < 256 → length (answer_octets invoke tag c) ≡ element_size (service_size invoke (length c))
 unfolding answer_octets
-length_of_answer invoke tag c lt = length_of_element 0xA1 (answer_content invoke tag c) (omega arith) ∙ ap element_size (length_of_content invoke tag c lt)
-
--- what stands before a content, and the content
-pub headed : (tag n : ℕ) (c : List ℕ) → length c ≡ n → head_octets tag n ++ c ≡ octets_of tag c
-headed tag n c e = subst (λ (k : ℕ). head_octets tag k ++ c ≡ octets_of tag c) e (append_assoc (tag_octets tag) (length_octets (length c)) c)
+length_of_answer invoke tag c lt = length_of_element 0xa1 (answer_content invoke tag c) (omega arith) ∙ ap element_size (length_of_content invoke tag c lt)
 
 around : (invoke tag : ℕ) (c : List ℕ) → tag < 256
     → ((head_octets 161 (service_size invoke (length c)) ++ octets_of 2 (uint_octets invoke)) ++ head_octets tag (length c)) ++ c ≡ answer_octets invoke tag c
@@ -55,7 +44,7 @@ around invoke tag c lt =
 
 -- ---- what is begun
 
-size_above : (n : ℕ) → n ≤ element_size n
+pub size_above : (n : ℕ) → n ≤ element_size n
 unfolding element_size
 size_above n = omega arith
 
@@ -107,10 +96,10 @@ long_refused size invoke tag c lt more = is_refused size invoke tag (length c) c
 
 pub reads_too_much : (size invoke len : ℕ) (asked : Asked) (results : List (Result Value ℕ))
     → len ≡ min (length (results_octets results)) 4294967295 → size < len
-    → response size invoke read_tag (read_content asked results) ≡ error_octets invoke 4 3
+    → response size invoke READ (read_content asked results) ≡ error_octets invoke 4 3
 reads_too_much size invoke len asked results e more =
-    long_refused size invoke read_tag (read_content asked results) (omega arith)
-    (omega (arith, e, more, length-append (asked_octets asked) (octets_of 0xA1 (results_octets results)), octets_longer 0xA1 (results_octets results)))
+    long_refused size invoke READ (read_content asked results) (omega arith)
+    (omega (arith, e, more, length-append (asked_octets asked) (octets_of 0xa1 (results_octets results)), octets_longer 0xa1 (results_octets results)))
 
 pub read_around : (asked : List ℕ) (len : ℕ) (results : List (Result Value ℕ)) → len ≡ length (results_octets results)
     → (asked ++ head_octets 161 len) ++ results_octets results ≡ asked ++ octets_of 161 (results_octets results)
@@ -121,17 +110,17 @@ read_around asked len results e =
 read_length : (asked : Asked) (len : ℕ) (results : List (Result Value ℕ)) → len ≡ length (results_octets results)
     → length (read_content asked results) ≡ length (asked_octets asked) + element_size len
 read_length asked len results e =
-    length-append (asked_octets asked) (octets_of 0xA1 (results_octets results))
-    ∙ ap (λ (k : ℕ). length (asked_octets asked) + k) (length_of_element 0xA1 (results_octets results) (omega arith) ∙ ap element_size (sym e))
+    length-append (asked_octets asked) (octets_of 0xa1 (results_octets results))
+    ∙ ap (λ (k : ℕ). length (asked_octets asked) + k) (length_of_element 0xa1 (results_octets results) (omega arith) ∙ ap element_size (sym e))
 
 pub read_answered : (size invoke len n : ℕ) (asked : Asked) (results : List (Result Value ℕ)) (h : List ℕ) → len ≡ length (results_octets results)
-    → n ≡ length (asked_octets asked) + element_size len → Some h ≡ begun size invoke read_tag n
-    → response size invoke read_tag (read_content asked results) ≡ h ++ (asked_octets asked ++ octets_of 161 (results_octets results))
+    → n ≡ length (asked_octets asked) + element_size len → Some h ≡ begun size invoke READ n
+    → response size invoke READ (read_content asked results) ≡ h ++ (asked_octets asked ++ octets_of 161 (results_octets results))
 read_answered size invoke len n asked results h e count is =
-    is_answered size invoke read_tag n (read_content asked results) h (omega arith) (read_length asked len results e ∙ sym count) is
+    is_answered size invoke READ n (read_content asked results) h (omega arith) (read_length asked len results e ∙ sym count) is
 
 pub read_refused : (size invoke len n : ℕ) (asked : Asked) (results : List (Result Value ℕ)) → len ≡ length (results_octets results)
-    → n ≡ length (asked_octets asked) + element_size len → None ≡ begun size invoke read_tag n
-    → response size invoke read_tag (read_content asked results) ≡ error_octets invoke 4 3
+    → n ≡ length (asked_octets asked) + element_size len → None ≡ begun size invoke READ n
+    → response size invoke READ (read_content asked results) ≡ error_octets invoke 4 3
 read_refused size invoke len n asked results e count is =
-    is_refused size invoke read_tag n (read_content asked results) (omega arith) (read_length asked len results e ∙ sym count) is
+    is_refused size invoke READ n (read_content asked results) (omega arith) (read_length asked len results e ∙ sym count) is

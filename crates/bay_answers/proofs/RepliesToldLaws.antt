@@ -5,6 +5,8 @@ use Rattle.std.proofs.lemmas.List.{length-append}
 use Rattle.ber_grammar.specs.Element.{Element, IsRow, Begins}
 use Rattle.ber_write.specs.Minimal.{octets_of, uint_octets, written, CanBeTag}
 use Rattle.ber_write.proofs.NumberLaws.{uint_octets-spell, length-uint_octets}
+use Rattle.ber_write.proofs.LengthLaws.{octets_longer}
+use Rattle.ber_write.proofs.WrittenLaws.{written_more, written_last, one_octet}
 use Rattle.sv_base.specs.Tree.{Seen, plain, structure, truth, int, uint, bits, time, stamp, text, octets, other}
 use Rattle.sv_base.specs.Seen.{seen_of}
 use Rattle.sv_base.specs.Data.{data_of}
@@ -14,12 +16,11 @@ use Rattle.mms_data.specs.Grammar.{IsData, IsWithin}
 use Rattle.mms_data.proofs.FitLaws.{seen_fits}
 use Rattle.mms_data.proofs.ReadBackLaws.{followed}
 use Rattle.mms_pdu.specs.Each.{Each}
-use Rattle.mms_pdu.specs.Tags.{read_tag, write_tag}
+use Rattle.mms_pdu.specs.declared.tags.TheConstants.{READ, WRITE}
 use Rattle.mms_pdu.specs.Answer.{IsResult, IsWritten, IsAnswerBody}
 use Rattle.mms_pdu.specs.Reply.{answer, IsReply}
 use Rattle.mms_pdu.specs.ReplyOctets.{answer_content, answer_octets}
 use Rattle.mms_pdu.proofs.ReplyOctetsLaws.{answer_spelled}
-use Rattle.mms_pdu.proofs.WrittenLaws.{octets_longer, written_more, written_last, one_octet}
 use Rattle.mms_pdu.specs.Access.{Access}
 use Rattle.bay_model.specs.declared.reply.Asked.{Asked}
 use Rattle.bay_model.specs.declared.reply.Asked.TheVariants as asked
@@ -84,45 +85,45 @@ are_results (e ∷ es) [] h = absurd h
 are_results (e ∷ es) (Ok v ∷ results) h = (inr (h.0.0, seen_of v, h.0.1), are_results es results h.1)
 are_results (e ∷ es) (Err code ∷ results) h = (inl (h.0.0, code, h.0.1, h.0.2), are_results es results h.1)
 
-tag_can : (tag : ℕ) → 0xA4 ≤ tag → tag ≤ 0xA5 → CanBeTag tag
+tag_can : (tag : ℕ) → 0xa4 ≤ tag → tag ≤ 0xa5 → CanBeTag tag
 tag_can tag least most = one_octet tag (omega (arith, most)) (λ e. omega (arith, e, least, most))
 
 within : (invoke tag : ℕ) (c : List ℕ) → length c ≤ length (answer_octets invoke tag c)
 unfolding answer_octets
 within invoke tag c = omega (arith, octets_longer 161 (answer_content invoke tag c), length-append (octets_of 2 (uint_octets invoke)) (octets_of tag c), octets_longer tag c)
 
-pub written_back : (invoke : ℕ) (codes : List (Result (Unit {0}) ℕ)) → invoke < 2 ^ 32 → AllByRecursion IsCode codes → length (answer_octets invoke write_tag (written_content codes)) < 2 ^ 32
-    → IsReply (answer_octets invoke write_tag (written_content codes)) (answer invoke write_tag (written_content codes)) × AreTold TellsCode (written_content codes) codes
+pub written_back : (invoke : ℕ) (codes : List (Result (Unit {0}) ℕ)) → invoke < 2 ^ 32 → AllByRecursion IsCode codes → length (answer_octets invoke WRITE (written_content codes)) < 2 ^ 32
+    → IsReply (answer_octets invoke WRITE (written_content codes)) (answer invoke WRITE (written_content codes)) × AreTold TellsCode (written_content codes) codes
 written_back invoke codes small h lt =
     let t : AreTold TellsCode (written_content codes) codes = codes_told codes h in
-    let form : IsAnswerBody write_tag (written_content codes) = record { read = λ e. absurd (omega (arith, e)); written = λ e. (t.0, t.1, are_written t.0 codes t.2) } in
-    (answer_spelled invoke write_tag (written_content codes) small (tag_can write_tag (omega arith) (omega arith)) form lt, t)
+    let form : IsAnswerBody WRITE (written_content codes) = record { read = λ e. absurd (omega (arith, e)); written = λ e. (t.0, t.1, are_written t.0 codes t.2) } in
+    (answer_spelled invoke WRITE (written_content codes) small (tag_can WRITE (omega arith) (omega arith)) form lt, t)
 
-pub read_back : (invoke : ℕ) (results : List (Result Value ℕ)) → invoke < 2 ^ 32 → AllByRecursion IsResultOfTypes results → length (answer_octets invoke read_tag (read_content asked.No results)) < 2 ^ 32
-    → IsReply (answer_octets invoke read_tag (read_content asked.No results)) (answer invoke read_tag (read_content asked.No results)) × AreTold TellsResult (results_octets results) results
+pub read_back : (invoke : ℕ) (results : List (Result Value ℕ)) → invoke < 2 ^ 32 → AllByRecursion IsResultOfTypes results → length (answer_octets invoke READ (read_content asked.No results)) < 2 ^ 32
+    → IsReply (answer_octets invoke READ (read_content asked.No results)) (answer invoke READ (read_content asked.No results)) × AreTold TellsResult (results_octets results) results
 unfolding asked_octets
 read_back invoke results small h lt =
-    let body : List ℕ = octets_of 0xA1 (results_octets results) in
-    let few : length (results_octets results) < 2 ^ 32 = omega (arith, lt, within invoke read_tag body, octets_longer 0xA1 (results_octets results)) in
+    let body : List ℕ = octets_of 0xa1 (results_octets results) in
+    let few : length (results_octets results) < 2 ^ 32 = omega (arith, lt, within invoke READ body, octets_longer 0xa1 (results_octets results)) in
     let t : AreTold TellsResult (results_octets results) results = results_told results h few in
-    let form : IsAnswerBody read_tag body = record {
-      read = λ e. (written 0xA1 (results_octets results) ∷ [], written_last 0xA1 (results_octets results) (one_octet 0xA1 (omega arith) (λ e. omega (arith, e))) few, (refl, (t.0, t.1, are_results t.0 results t.2)));
+    let form : IsAnswerBody READ body = record {
+      read = λ e. (written 0xa1 (results_octets results) ∷ [], written_last 0xa1 (results_octets results) (one_octet 0xa1 (omega arith) (λ e. omega (arith, e))) few, (refl, (t.0, t.1, are_results t.0 results t.2)));
       written = λ e. absurd (omega (arith, e));
     } in
-    (answer_spelled invoke read_tag body small (tag_can read_tag (omega arith) (omega arith)) form lt, t)
+    (answer_spelled invoke READ body small (tag_can READ (omega arith) (omega arith)) form lt, t)
 
 -- and where what was read is written back
 pub specified_back : (invoke : ℕ) (what : Asked) (access : Access (List ℕ)) (results : List (Result Value ℕ)) → invoke < 2 ^ 32 → TellsAsked (asked_octets what) access → AllByRecursion IsResultOfTypes results
-    → length (answer_octets invoke read_tag (read_content what results)) < 2 ^ 32
-    → IsReply (answer_octets invoke read_tag (read_content what results)) (answer invoke read_tag (read_content what results)) × AreTold TellsResult (results_octets results) results
+    → length (answer_octets invoke READ (read_content what results)) < 2 ^ 32
+    → IsReply (answer_octets invoke READ (read_content what results)) (answer invoke READ (read_content what results)) × AreTold TellsResult (results_octets results) results
 specified_back invoke what access results small a h lt =
     let body : List ℕ = read_content what results in
-    let second : List ℕ = octets_of 0xA1 (results_octets results) in
-    let few : length (results_octets results) < 2 ^ 32 = omega (arith, lt, within invoke read_tag body, length-append (asked_octets what) second, octets_longer 0xA1 (results_octets results)) in
+    let second : List ℕ = octets_of 0xa1 (results_octets results) in
+    let few : length (results_octets results) < 2 ^ 32 = omega (arith, lt, within invoke READ body, length-append (asked_octets what) second, octets_longer 0xa1 (results_octets results)) in
     let t : AreTold TellsResult (results_octets results) results = results_told results h few in
-    let last : IsRow second (written 0xA1 (results_octets results) ∷ []) = written_last 0xA1 (results_octets results) (one_octet 0xA1 (omega arith) (λ e. omega (arith, e))) few in
-    let form : IsAnswerBody read_tag body = record {
-      read = λ e. (a.0 ∷ written 0xA1 (results_octets results) ∷ [], (asked_octets what, second, a.1, refl, last), ((a.2, a.3, a.4, access, a.5), (refl, (t.0, t.1, are_results t.0 results t.2))));
+    let last : IsRow second (written 0xa1 (results_octets results) ∷ []) = written_last 0xa1 (results_octets results) (one_octet 0xa1 (omega arith) (λ e. omega (arith, e))) few in
+    let form : IsAnswerBody READ body = record {
+      read = λ e. (a.0 ∷ written 0xa1 (results_octets results) ∷ [], (asked_octets what, second, a.1, refl, last), ((a.2, a.3, a.4, access, a.5), (refl, (t.0, t.1, are_results t.0 results t.2))));
       written = λ e. absurd (omega (arith, e));
     } in
-    (answer_spelled invoke read_tag body small (tag_can read_tag (omega arith) (omega arith)) form lt, t)
+    (answer_spelled invoke READ body small (tag_can READ (omega arith) (omega arith)) form lt, t)

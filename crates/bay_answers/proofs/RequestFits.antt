@@ -8,6 +8,7 @@ use Rattle.std.specs.Str.{bytes_eq}
 use Rattle.std.proofs.lemmas.Bool.{and_from, le-leb, lt-ltb}
 use Rattle.std.proofs.lemmas.List.{length-take, length-drop, take-append-drop}
 use Rattle.std.proofs.lemmas.List.Quantifiers.{position-Some}
+use Rattle.list_laws.proofs.Options.{some_is}
 use Rattle.ber_grammar.specs.Octets.{IsBytes, big_endian}
 use Rattle.ber_grammar.specs.Content.{IsVisible, IsText}
 use Rattle.ber_grammar.specs.Element.{Element}
@@ -39,7 +40,6 @@ use Rattle.object_model.specs.Fits.{target_fits, write_fits, set_fits, set_name_
 use Rattle.object_model.specs.Tables.{node_id}
 use Rattle.object_model.specs.declared.fitting.Counts.{Counts}
 use Rattle.object_model.proofs.TableLaws.{count-rows}
-use Rattle.ber_grammar.proofs.OptionLaws.{some_is}
 use Rattle.mms_pdu.specs.declared.fault.PduFault.{PduFault}
 use Rattle.mms_pdu.specs.declared.fault.PduFault.TheVariants as faults
 use Rattle.bay_model.specs.declared.request.Service.TheVariants as services

@@ -8,27 +8,29 @@ use Rattle.sv_base.specs.CtlServices.{service_name}
 use Rattle.sv_base.specs.declared.config.Config.{Config}
 use Rattle.sv_base.specs.declared.config.CtlDef.{CtlDef}
 use Rattle.sv_base.specs.declared.ctl_services.CtlService.TheVariants.{Oper}
+use Rattle.mms_data.specs.declared.tags.TheConstants.{INTEGER, OCTET_STRING, STRUCTURE, UNSIGNED, VISIBLE_STRING}
 use Rattle.mms_pdu.specs.AskingOctets.{domain_name}
 use Rattle.mms_pdu.specs.ReplyOctets.{report_octets}
+use Rattle.mms_pdu.specs.declared.tags.TheConstants.{LIST_OF_VARIABLE, VMD_SPECIFIC}
 use Rattle.bay_model.specs.declared.control.ApplError.{ApplError}
 use Rattle.bay_model.specs.declared.control.Termination.{Termination}
 use Rattle.bay_answers.specs.RepliesVariables.{variable_octets}
 
--- the variable LastApplError, which is vmd-specific, 0x80
+-- the variable LastApplError, which is vmd-specific
 abbrev pub error_variable : List ℕ
-error_variable = variable_octets (octets_of 0x80 (codes "LastApplError")) []
+error_variable = variable_octets (octets_of VMD_SPECIFIC (codes "LastApplError")) []
 
--- Origin: orCat, 0x85, and orIdent, 0x89
+-- Origin: orCat, and orIdent
 abbrev pub origin_octets : ApplError → List ℕ
-origin_octets e = octets_of 0x85 (int_octets e.or_cat) ++ octets_of 0x89 e.or_ident
+origin_octets e = octets_of INTEGER (int_octets e.or_cat) ++ octets_of OCTET_STRING e.or_ident
 
--- CntrlObj, a visible string, 0x8A; Error, which is 1; Origin, a structure, 0xA2; ctlNum, 0x86; AddCause, an integer that isn't negative
+-- CntrlObj, a visible string; Error, which is 1; Origin, a structure; ctlNum; AddCause, an integer that isn't negative
 abbrev pub error_parts : ApplError → List ℕ
-error_parts e = octets_of 0x8A e.object ++ (octets_of 0x85 (int_octets (pos 1)) ++ (octets_of 0xA2 (origin_octets e) ++ (octets_of 0x86 (uint_octets e.ctl_num) ++ octets_of 0x85 (uint_octets e.cause))))
+error_parts e = octets_of VISIBLE_STRING e.object ++ (octets_of INTEGER (int_octets (pos 1)) ++ (octets_of STRUCTURE (origin_octets e) ++ (octets_of UNSIGNED (uint_octets e.ctl_num) ++ octets_of INTEGER (uint_octets e.cause))))
 
 -- its value, a structure
 unfoldable pub error_data : ApplError → List ℕ
-error_data e = octets_of 0xA2 (error_parts e)
+error_data e = octets_of STRUCTURE (error_parts e)
 
 -- the variable Oper of a control's line, `LN$CO$DO$Oper` of its domain
 abbrev pub oper_item : CtlDef → List ℕ
@@ -37,9 +39,9 @@ oper_item k = k.ln ++ (codes "$CO$" ++ (k.path ++ 36 ∷ service_name Oper))
 abbrev pub oper_variable : CtlDef → List ℕ
 oper_variable k = variable_octets (domain_name k.domain (oper_item k)) []
 
--- an information report of a list of variables, 0xA0, and their values
+-- an information report of a list of variables, and their values
 abbrev pub report_of : List ℕ → List ℕ → List ℕ
-report_of variables values = report_octets (octets_of 0xA0 variables) values
+report_of variables values = report_octets (octets_of LIST_OF_VARIABLE variables) values
 
 -- a LastApplError before a reply
 abbrev pub error_pdu : ApplError → List ℕ

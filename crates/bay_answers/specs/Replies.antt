@@ -8,7 +8,7 @@ use Rattle.sv_base.specs.declared.config.Config.{Config}
 use Rattle.sv_base.specs.declared.numbers.NodeId.{NodeId}
 use Rattle.sv_base.specs.declared.value.Value.{Value}
 use Rattle.mms_data.specs.Writable.{SeenHasFractions}
-use Rattle.mms_pdu.specs.Tags.{get_name_list_tag, read_tag, write_tag, get_attributes_tag, get_list_attributes_tag, delete_list_tag}
+use Rattle.mms_pdu.specs.declared.tags.TheConstants.{GET_NAME_LIST, READ, WRITE, GET_ATTRIBUTES, GET_LIST_ATTRIBUTES, DELETE_LIST}
 use Rattle.mms_pdu.specs.ReplyOctets.{answer_octets, error_octets, reject_octets, concluded_octets}
 use Rattle.bay_model.specs.Named.{nodes}
 use Rattle.bay_model.specs.declared.reply.Reply.{Reply}
@@ -20,6 +20,7 @@ use Rattle.report_cut.specs.Pdus.{pdus, CanBeCut}
 use Rattle.bay_answers.specs.ControlPdus.{error_pdu, termination_pdu, IsShortError, IsShortTermination}
 use Rattle.bay_answers.specs.RepliesContents.{status_content, identify_content, names_content, type_content}
 use Rattle.bay_answers.specs.RepliesContents.{read_content, written_content, set_content, deleted_content}
+use Rattle.bay_answers.specs.declared.tags.TheConstants.{DEFINE_LIST, IDENTIFY, STATUS}
 
 -- the response of the service with this tag; where it is longer than the size, the error class service, 4, with the code
 -- pdu-size, 3
@@ -29,7 +30,7 @@ response size invoke tag content = if nat_le (length (answer_octets invoke tag c
 -- ---- GetNameList
 
 abbrev pub names_octets : ℕ → List (List ℕ) → Bool → List ℕ
-names_octets invoke names more = answer_octets invoke get_name_list_tag (names_content names more)
+names_octets invoke names more = answer_octets invoke GET_NAME_LIST (names_content names more)
 
 -- moreFollows is as long either way
 abbrev pub names_fit : ℕ → ℕ → List (List ℕ) → Bool
@@ -56,16 +57,16 @@ rejected invoke n = reject_octets (if n == 2 || n == 3 then Some invoke else Non
 
 -- In the response, the tags of Status and Identify are those of structures, and Define is a NULL.
 abbrev pub reply_octets : Config → ℕ → ℕ → Reply → List ℕ
-reply_octets c size invoke replies.Status = response size invoke 0xA0 status_content
-reply_octets c size invoke replies.Identify = response size invoke 0xA2 (identify_content c)
+reply_octets c size invoke replies.Status = response size invoke STATUS status_content
+reply_octets c size invoke replies.Identify = response size invoke IDENTIFY (identify_content c)
 reply_octets c size invoke replies.Conclude = concluded_octets
 reply_octets c size invoke (replies.Names names) = names_response size invoke names
-reply_octets c size invoke (replies.TypeOfNode n) = response size invoke get_attributes_tag (type_content (node_type c n.0))
-reply_octets c size invoke (replies.Read asked results) = response size invoke read_tag (read_content asked results)
-reply_octets c size invoke (replies.Wrote codes) = response size invoke write_tag (written_content codes)
-reply_octets c size invoke replies.Defined = response size invoke 0x8B []
-reply_octets c size invoke (replies.SetOf deletable members) = response size invoke get_list_attributes_tag (set_content c deletable members)
-reply_octets c size invoke (replies.Deleted matched deleted) = response size invoke delete_list_tag (deleted_content matched deleted)
+reply_octets c size invoke (replies.TypeOfNode n) = response size invoke GET_ATTRIBUTES (type_content (node_type c n.0))
+reply_octets c size invoke (replies.Read asked results) = response size invoke READ (read_content asked results)
+reply_octets c size invoke (replies.Wrote codes) = response size invoke WRITE (written_content codes)
+reply_octets c size invoke replies.Defined = response size invoke DEFINE_LIST []
+reply_octets c size invoke (replies.SetOf deletable members) = response size invoke GET_LIST_ATTRIBUTES (set_content c deletable members)
+reply_octets c size invoke (replies.Deleted matched deleted) = response size invoke DELETE_LIST (deleted_content matched deleted)
 reply_octets c size invoke (replies.Error class code) = error_octets invoke class code
 reply_octets c size invoke (replies.Reject n) = rejected invoke n
 

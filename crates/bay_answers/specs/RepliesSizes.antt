@@ -1,6 +1,7 @@
 -- How long the PDU of a response is, by sums.
 use Rattle.std.specs.Prelude.{ℕ, ◌+◌, List, ◌++◌, length, Option, Some, None, nat_le, if◌then◌else◌}
 use Rattle.ber_write.specs.Minimal.{head_octets, octets_of, uint_octets}
+use Rattle.mms_pdu.specs.declared.tags.TheConstants.{CONFIRMED_RESPONSE, INVOKE_ID}
 use Rattle.report_cut.specs.Sizes.{element_size}
 
 -- the content of the PDU: the invoke number, and the service's element, whose content has n octets
@@ -12,7 +13,7 @@ service_size invoke n = element_size (length (uint_octets invoke)) + element_siz
 abbrev pub begun : ℕ → ℕ → ℕ → ℕ → Option (List ℕ)
 begun size invoke tag n =
     if nat_le (element_size (service_size invoke n)) size
-    then Some ((head_octets 0xA1 (service_size invoke n) ++ octets_of 0x02 (uint_octets invoke)) ++ head_octets tag n)
+    then Some ((head_octets CONFIRMED_RESPONSE (service_size invoke n) ++ octets_of INVOKE_ID (uint_octets invoke)) ++ head_octets tag n)
     else None
 
 -- the PDU of names whose identifiers have n octets

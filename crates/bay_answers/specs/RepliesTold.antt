@@ -14,23 +14,24 @@ use Rattle.mms_pdu.specs.Access.{Access, IsAccess}
 use Rattle.mms_pdu.specs.AskingOctets.{AreVisible}
 use Rattle.mms_pdu.specs.Reply.{answer, IsReply}
 use Rattle.mms_pdu.specs.ReplyOctets.{answer_octets}
+use Rattle.mms_pdu.specs.declared.tags.TheConstants.{FAILURE, SPECIFICATION_OF_RESULT, SUCCESS}
 use Rattle.bay_model.specs.declared.request.ObjName.{ObjName}
 use Rattle.bay_model.specs.declared.request.ObjName.TheVariants as names
 use Rattle.bay_model.specs.declared.request.Target.{Target}
 use Rattle.bay_model.specs.declared.request.Target.TheVariants as targets
 
--- a failure, 0x80, with this DataAccessError
+-- a failure with this DataAccessError
 abbrev pub TellsFailure : Element → ℕ → Type 0
-TellsFailure e code = (e.tag ≡ 0x80) × IsUint e.content code × (code < 256)
+TellsFailure e code = (e.tag ≡ FAILURE) × IsUint e.content code × (code < 256)
 
 -- of a variable that was read: its value, or why not
 abbrev pub TellsResult : Element → Result Value ℕ → Type 0
-TellsResult e (Ok v) = (e.tag ≢ 0x80) × IsWithin 10 e (seen_of v)
+TellsResult e (Ok v) = (e.tag ≢ FAILURE) × IsWithin 10 e (seen_of v)
 TellsResult e (Err code) = TellsFailure e code
 
--- of a variable that was written: success, 0x81, or why not
+-- of a variable that was written: success, or why not
 abbrev pub TellsCode : Element → Result (Unit {0}) ℕ → Type 0
-TellsCode e (Ok done) = (e.tag ≡ 0x81) × (e.content ≡ [])
+TellsCode e (Ok done) = (e.tag ≡ SUCCESS) × (e.content ≡ [])
 TellsCode e (Err code) = TellsFailure e code
 
 -- the octets are elements that tell these, one each and in order
@@ -69,9 +70,9 @@ IsVisibleTarget (targets.Node n name) = IsVisibleName name
 IsVisibleTarget (targets.Missing name) = IsVisibleName name
 IsVisibleTarget (targets.Alternate name) = IsVisibleName name
 
--- the octets are the element, 0xA0, of this specification
+-- the octets are the element of this specification
 abbrev pub TellsAsked : List ℕ → Access (List ℕ) → Type 0
-TellsAsked octets access = (e : Element) × Spells octets e × (e.tag ≡ 0xA0) × (k : Element) × IsRow e.content (k ∷ []) × IsAccess k access
+TellsAsked octets access = (e : Element) × Spells octets e × (e.tag ≡ SPECIFICATION_OF_RESULT) × (k : Element) × IsRow e.content (k ∷ []) × IsAccess k access
 
 -- ---- the PDU of a response
 

@@ -3,8 +3,9 @@
 ghost use Rattle.std.specs.Prelude.{◌≡◌, ◌≤◌, ◌++◌, length, min, OnOk, IfOk};
 ghost use Rattle.std.specs.List.{All};
 ghost use Rattle.ber_write.specs.Minimal.{octets_of, uint_octets};
-ghost use Rattle.mms_pdu.specs.Tags.{get_attributes_tag, read_tag, write_tag, get_list_attributes_tag, delete_list_tag};
+ghost use Rattle.mms_pdu.specs.declared.tags.TheConstants.{GET_ATTRIBUTES, READ, WRITE, GET_LIST_ATTRIBUTES, DELETE_LIST, FAILURE, LIST_OF_RESULT};
 ghost use Rattle.object_model.specs.Tables.{node_type};
+ghost use Rattle.bay_answers.specs.declared.tags.TheConstants.{IDENTIFY};
 ghost use Rattle.bay_answers.specs.RepliesContents.{identify_content, type_content, result_octets, results_octets, read_content};
 ghost use Rattle.bay_answers.specs.RepliesContents.{written_octets, written_content, set_content, deleted_content};
 ghost use Rattle.bay_answers.specs.Replies.{IsWritable, IsNode, response};
@@ -28,7 +29,7 @@ pub(crate) fn identify(
     invoke: u32,
 ) -> Result<Octs, AllocError>
     requires { size ≤ 65000 }
-    ensures { IfOk result (λ o. o ≡ response size invoke 0xA2 (identify_content model.now)) }
+    ensures { IfOk result (λ o. o ≡ response size invoke IDENTIFY (identify_content model.now)) }
 {
     let config = model.config();
     let mut content = Vec::new(alloc);
@@ -48,7 +49,7 @@ pub(crate) fn type_of_node(
 ) -> Result<Octs, AllocError>
     requires node { IsNode model.now node }
     requires most { size ≤ 65000 }
-    ensures { IfOk result (λ o. o ≡ response size invoke get_attributes_tag (type_content (node_type model.now node.0))) }
+    ensures { IfOk result (λ o. o ≡ response size invoke GET_ATTRIBUTES (type_content (node_type model.now node.0))) }
 {
     let mut kind = Vec::new(alloc);
     write_type(model.type_of(node), &mut kind)?;
@@ -67,7 +68,7 @@ pub(crate) fn type_of_node(
 /// How many octets a failure has.
 #[tactic(auto, using(crate::proofs::RepliesSizeLaws::length_of_failure))]
 fn failure_len(code: u8) -> u32
-    ensures value { result ≡ length (octets_of 0x80 (uint_octets code)) }
+    ensures value { result ≡ length (octets_of FAILURE (uint_octets code)) }
     ensures few { result ≤ 15 }
 {
     element_len(uint_len(u64::from(code)))
@@ -124,7 +125,7 @@ fn put_read(
 ) -> Result<(), AllocError>
     requires results { All IsWritable results.now }
     requires len { len ≡ length (results_octets results.now) }
-    ensures { OnOk result (out.new.items ≡ out.old.items ++ (asked.now ++ octets_of 0xA1 (results_octets results.now))) }
+    ensures { OnOk result (out.new.items ≡ out.old.items ++ (asked.now ++ octets_of LIST_OF_RESULT (results_octets results.now))) }
 {
     out.extend_from_slice(asked)?;
     put_head(out, pdu_tags::LIST_OF_RESULT, len)?;
@@ -142,7 +143,7 @@ pub(crate) fn read(
 ) -> Result<Octs, AllocError>
     requires results { All IsWritable results.now }
     requires most { size ≤ 65000 }
-    ensures { IfOk result (λ o. o ≡ response size invoke read_tag (read_content asked.now results.now)) }
+    ensures { IfOk result (λ o. o ≡ response size invoke READ (read_content asked.now results.now)) }
 {
     let len = results_len(results);
     if len > size {
@@ -181,7 +182,7 @@ pub(crate) fn wrote(
     codes: &[Result<(), u8>],
 ) -> Result<Octs, AllocError>
     requires { size ≤ 65000 }
-    ensures { IfOk result (λ o. o ≡ response size invoke write_tag (written_content codes.now)) }
+    ensures { IfOk result (λ o. o ≡ response size invoke WRITE (written_content codes.now)) }
 {
     let mut content = Vec::new(alloc);
     for code in codes {
@@ -201,7 +202,7 @@ pub(crate) fn members_of_set(
 ) -> Result<Octs, AllocError>
     requires members { All (IsNode model.now) members.now }
     requires most { size ≤ 65000 }
-    ensures { IfOk result (λ o. o ≡ response size invoke get_list_attributes_tag (set_content model.now deletable members.now)) }
+    ensures { IfOk result (λ o. o ≡ response size invoke GET_LIST_ATTRIBUTES (set_content model.now deletable members.now)) }
 {
     let mut list = Vec::new(alloc);
     add_nodes(alloc, &mut list, model, members)?;
@@ -226,7 +227,7 @@ pub(crate) fn deleted(
     deleted: u32,
 ) -> Result<Octs, AllocError>
     requires { size ≤ 65000 }
-    ensures { IfOk result (λ o. o ≡ response size invoke delete_list_tag (deleted_content matched deleted)) }
+    ensures { IfOk result (λ o. o ≡ response size invoke DELETE_LIST (deleted_content matched deleted)) }
 {
     let mut content = Vec::new(alloc);
     put_uint(&mut content, tags::NUMBER_MATCHED, u64::from(matched))?;

@@ -43,7 +43,7 @@ pub(crate) fn enclosed(alloc: Global, tag: u32, content: &[u8]) -> Result<Vec<u8
 }
 
 /// How many octets an element has whose content has so many.
-#[tactic(auto, unfolding(report_cut::specs::Sizes::element_size), using(report_cut::proofs::SizeLaws::length_short))]
+#[tactic(auto, unfolding(report_cut::specs::Sizes::element_size), using(ber_write::proofs::LengthLaws::at_most_five))]
 pub(crate) fn element_len(n: u32) -> u32
     requires { n < 2 ^ 24 }
     ensures value { result ≡ element_size n }

@@ -3,7 +3,7 @@
 ghost use Rattle.std.specs.Prelude.{◌≡◌, ℕ, ◌≤◌, ◌<◌, ◌^◌, List, length, map, Result};
 ghost use Rattle.std.specs.List.{AllByRecursion};
 ghost use Rattle.sv_base.specs.declared.value.Value.{Value};
-ghost use Rattle.mms_pdu.specs.Tags.{read_tag, write_tag};
+ghost use Rattle.mms_pdu.specs.declared.tags.TheConstants.{READ, WRITE};
 ghost use Rattle.mms_pdu.specs.ObjectName.{domain};
 ghost use Rattle.mms_pdu.specs.Access.{Access, variables, named};
 ghost use Rattle.mms_pdu.specs.AskingOctets.{AreVisible};
@@ -26,15 +26,15 @@ pub fn names_are_as_many_as_fit()
 /// The responses of Write and of Read are read by a client, and tell it of each variable, in order, what came of it. Where
 /// what was read is written back it is told as it was asked for, but for what alternate access was asked for.
 pub fn responses_are_read_back()
-    ensures read { (invoke : ℕ) (results : List (Result Value ℕ)) → IsShort invoke read_tag (read_content No results) → AllByRecursion IsResultOfTypes results
-        → IsReadBack invoke read_tag (read_content No results) × AreTold TellsResult (results_octets results) results }
+    ensures read { (invoke : ℕ) (results : List (Result Value ℕ)) → IsShort invoke READ (read_content No results) → AllByRecursion IsResultOfTypes results
+        → IsReadBack invoke READ (read_content No results) × AreTold TellsResult (results_octets results) results }
     ensures specified { (invoke : ℕ) (asked : Asked) (access : Access (List ℕ)) (results : List (Result Value ℕ))
-        → IsShort invoke read_tag (read_content asked results) → TellsAsked (asked_octets asked) access → AllByRecursion IsResultOfTypes results
-        → IsReadBack invoke read_tag (read_content asked results) × AreTold TellsResult (results_octets results) results }
+        → IsShort invoke READ (read_content asked results) → TellsAsked (asked_octets asked) access → AllByRecursion IsResultOfTypes results
+        → IsReadBack invoke READ (read_content asked results) × AreTold TellsResult (results_octets results) results }
     ensures variables { (targets : List Target) → AllByRecursion IsVisibleTarget targets → length (asked_octets (Vars targets)) < 2 ^ 32
         → TellsAsked (asked_octets (Vars targets)) (variables (map target_told targets)) }
     ensures set { (name : SetName) → AreVisible name.domain → AreVisible name.item → length (asked_octets (Set name)) < 2 ^ 32
         → TellsAsked (asked_octets (Set name)) (named (domain name.domain name.item)) }
-    ensures written { (invoke : ℕ) (codes : List (Result (Unit {0}) ℕ)) → IsShort invoke write_tag (written_content codes) → AllByRecursion IsCode codes
-        → IsReadBack invoke write_tag (written_content codes) × AreTold TellsCode (written_content codes) codes }
+    ensures written { (invoke : ℕ) (codes : List (Result (Unit {0}) ℕ)) → IsShort invoke WRITE (written_content codes) → AllByRecursion IsCode codes
+        → IsReadBack invoke WRITE (written_content codes) × AreTold TellsCode (written_content codes) codes }
 {}

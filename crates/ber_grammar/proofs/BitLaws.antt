@@ -1,12 +1,13 @@
 -- Bit strings.
-use Rattle.std.proofs.Common.{◌≡◌, ℕ, Bool, ◌&&◌, cond, eqb, ltb, List, [], ◌∷◌, length, Result, Ok, Err, refl, sym, ap, subst, inl, inr, arith}
+use Rattle.std.proofs.Common.{◌≡◌, ℕ, ◌*◌, Bool, ◌&&◌, cond, eqb, ltb, List, [], ◌∷◌, length, Result, Ok, Err, refl, sym, ap, subst, inl, inr, arith}
+use Rattle.std.specs.List.{flat_map}
 use Rattle.std.proofs.lemmas.Bool.{ltb-false, le-ltb, eqb-false, eq-eqb, ne_eqb, cond_both, and_cases, cases_eq}
 use Rattle.ber_grammar.specs.declared.fault.BerFault.{BerFault}
 use Rattle.ber_grammar.specs.declared.fault.BerFault.TheVariants.{BadNumber}
-use Rattle.ber_grammar.specs.Content.{IsBits, IsBitsRefused, bits_of}
+use Rattle.ber_grammar.specs.Content.{IsBits, IsBitsRefused, octet_bits, bits_of}
 use Rattle.ber_grammar.specs.Reading.{bits_at}
 use Rattle.ber_grammar.specs.Reader.{Gives, Reads}
-use Rattle.ber_grammar.proofs.ReaderLaws.{one_refusal, reads_from}
+use Rattle.ber_grammar.proofs.ReaderLaws.{one_refusal, reads_from, gives_itself, told_of}
 
 pub bits_again : (content : List ℕ) (bits : List Bool) → IsBits content bits → bits_at content ≡ Ok bits
 unfolding bits_at
@@ -37,3 +38,10 @@ bits_reads view r content g =
     (λ bits e. subst (λ (r : Result (List Bool) BerFault). BitsTell content r) e (bits_tell content))
     (bits_again content)
     (λ f e. subst (λ (r : Result (List Bool) BerFault). BitsTell content r) e (bits_tell content))) g
+
+pub bits_found : (content : List ℕ) (bits : List Bool) → bits_at content ≡ Ok bits → IsBits content bits
+bits_found content bits e = told_of (bits_at content) bits (IsBits content) (IsBitsRefused content) e (bits_reads (λ (x : List Bool). x) (bits_at content) content (gives_itself (bits_at content))).tells
+
+pub length-flat_bits : (octets : List ℕ) → length (flat_map octet_bits octets) ≡ 8 * length octets
+length-flat_bits [] = refl
+length-flat_bits (o ∷ octets) = omega (arith, length-flat_bits octets)

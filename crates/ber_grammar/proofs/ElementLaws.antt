@@ -3,6 +3,7 @@ use Rattle.std.proofs.Common.{◌≡◌, ℕ, ◌+◌, ◌-◌, ◌*◌, ◌%◌
 use Rattle.std.specs.Prelude.{IfOk}
 use Rattle.std.proofs.lemmas.Bool.{eqb-true, eqb-false, ltb-true, ltb-false, eq-eqb, ne_eqb, lt-ltb, le-ltb, cond_both}
 use Rattle.std.proofs.lemmas.List.{take_at, drop_at, take-append-drop, length-append, length-take, length-replicate, append-nil}
+use Rattle.list_laws.proofs.Options.{ok_is}
 use Rattle.ber_grammar.specs.declared.fault.BerFault.{BerFault}
 use Rattle.ber_grammar.specs.declared.fault.BerFault.TheVariants.{Short, LongLength, Indefinite, BadTag, BadNumber, BadText}
 use Rattle.ber_grammar.specs.Octets.{big_endian, IsAt, IsBytes}
@@ -10,7 +11,7 @@ use Rattle.ber_grammar.specs.Element.{Element, IsTag, IsLength, Spells, Begins, 
 use Rattle.ber_grammar.specs.Reader.{◌>>=◌, Gives, Reads}
 use Rattle.ber_grammar.specs.Reading.{third_at, second_at, tag_at, number_at, length_at, first_at}
 use Rattle.ber_grammar.proofs.OctetLaws.{Begins-below}
-use Rattle.ber_grammar.proofs.ReaderLaws.{exact_from, ok_is, reads_from}
+use Rattle.ber_grammar.proofs.ReaderLaws.{exact_from, reads_from}
 
 -- ---- what is spelled so is read
 

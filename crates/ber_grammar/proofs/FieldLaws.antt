@@ -1,7 +1,8 @@
 -- The fields of a content, one of them, and the one element that octets are.
-use Rattle.std.proofs.Common.{◌≡◌, ℕ, ◌+◌, cond, eqb, inl, inr, List, [], ◌∷◌, length, Some, None, Result, Ok, refl, sym, ap, subst, ◌∙◌}
+use Rattle.std.proofs.Common.{◌≡◌, ℕ, ◌+◌, cond, eqb, inl, inr, List, [], ◌∷◌, ◌++◌, length, Some, None, Result, Ok, refl, sym, ap, subst, ◌∙◌}
 use Rattle.std.proofs.lemmas.Bool.{eqb-true, eqb-false, eq-eqb, ne_eqb}
 use Rattle.std.proofs.lemmas.List.{nil_from_length, append-nil}
+use Rattle.list_laws.proofs.Options.{some_is, chosen, sides}
 use Rattle.ber_grammar.specs.declared.fault.BerFault.{BerFault}
 use Rattle.ber_grammar.specs.Octets.{IsBytes}
 use Rattle.ber_grammar.specs.Element.{Element, Spells, Begins, IsRow}
@@ -10,7 +11,7 @@ use Rattle.ber_grammar.specs.Reader.{kept}
 use Rattle.ber_grammar.specs.Reading.{first_at}
 use Rattle.ber_grammar.specs.Rows.{parts_at, single}
 use Rattle.ber_grammar.specs.Fields.{AreFields, IsFirst, IsField, IsOnly, spot_in, spots, fields_in, only_in, with_tag, only_with, first_with, field_with, whole_at, whole_in}
-use Rattle.ber_grammar.proofs.OptionLaws.{some_is, kept_some, then_some, chosen, sides}
+use Rattle.ber_grammar.proofs.OptionLaws.{kept_some, then_some}
 use Rattle.ber_grammar.proofs.OctetLaws.{IsRow-bytes, AllBytes}
 use Rattle.ber_grammar.proofs.ElementLaws.{FirstTells, first_tells, first_again}
 use Rattle.ber_grammar.proofs.PartsLaws.{PartsTells, parts_tells, parts_none, row_again}
@@ -131,6 +132,12 @@ field_with-found tag content inner h =
 
 pub begins_of : (octets : List ℕ) (x : Element × List ℕ) → first_at octets ≡ Ok x → Begins octets x.0 x.1
 begins_of octets x h = subst (λ (r : Result (Element × List ℕ) BerFault). FirstTells octets r) h (first_tells octets)
+
+pub row_spells : (octets : List ℕ) (e : Element) → IsRow octets (e ∷ []) → Spells octets e
+row_spells octets e (front, rest, s, p, none) = subst (λ (x : List ℕ). Spells x e) (sym (p ∙ ap (λ (x : List ℕ). front ++ x) none ∙ append-nil front)) s
+
+pub spells_row : (octets : List ℕ) (e : Element) → Spells octets e → IsRow octets (e ∷ [])
+spells_row octets e s = (octets, [], s, sym (append-nil octets), refl)
 
 pub first_whole : (input : List ℕ) (e : Element) → Spells input e → first_at input ≡ Ok (e, [])
 first_whole input e s = ap first_at (sym (append-nil input)) ∙ first_again input [] e s

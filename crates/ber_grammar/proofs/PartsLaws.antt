@@ -4,12 +4,13 @@ use Rattle.std.proofs.lemmas.List.{nil_from_length}
 use Rattle.std.proofs.Math.Nat.{pos_of_ne-zero}
 use Rattle.std.proofs.lemmas.Bool.{eqb-true, eqb-false}
 use Rattle.std.specs.Result.{result_unwrap_or}
+use Rattle.list_laws.proofs.Options.{ok_is}
 use Rattle.ber_grammar.specs.declared.fault.BerFault.{BerFault}
 use Rattle.ber_grammar.specs.Element.{Element, IsRefused, IsRow, IsRowRefused}
 use Rattle.ber_grammar.specs.Reader.{◌>>=◌, Gives, Reads}
 use Rattle.ber_grammar.specs.Reading.{first_at}
 use Rattle.ber_grammar.specs.Rows.{row_at, parts_at, row_of}
-use Rattle.ber_grammar.proofs.ReaderLaws.{exact_from, reads_from, ok_is}
+use Rattle.ber_grammar.proofs.ReaderLaws.{exact_from, reads_from}
 use Rattle.ber_grammar.proofs.ElementLaws.{FirstTells, first_tells, refused_again}
 use Rattle.ber_grammar.proofs.RowLaws as rows
 

@@ -1,24 +1,13 @@
 -- From what a function on lists reads to what the program's reader promises.
 use Rattle.std.proofs.Common.{◌≡◌, Option, Some, None, Result, Ok, Err, refl, sym, ap, ◌∙◌, subst}
 use Rattle.std.specs.Prelude.{MatchResult, IfSome}
+use Rattle.list_laws.proofs.Options.{failed}
 use Rattle.ber_grammar.specs.Reader.{◌>>=◌, Gives, Reads, GivesOrMemory, ReadsOrMemory}
 
 -- the value of a step that did not fail
 pub bind_ok : {A B F : Type 0} (r : Result A F) (f : A → Result B F) (y : B) → (r >>= f) ≡ Ok y → (x : A) × (r ≡ Ok x) × (f x ≡ Ok y)
 bind_ok (Ok x) f y e = (x, refl, e)
 bind_ok (Err d) f y e = absurd cc
-
-abbrev fault_is : {Y F : Type 0} → F → Result Y F
-fault_is f = Err f
-
-abbrev done : {A F : Type 0} → A → Result A F
-done x = Ok x
-
-pub ok_is : {A F : Type 0} (x y : A) → done {F = F} x ≡ done y → x ≡ y
-ok_is x y e = cc
-
-pub err_is : {Y F : Type 0} (f g : F) → fault_is {Y = Y} f ≡ fault_is g → f ≡ g
-err_is f g e = cc
 
 tells_at : {Y F : Type 0} (r : Result Y F) (S : Y → Type 0) (R : F → Type 0) (T : Result Y F → Type 0) → ((y : Y) → T (Ok y) → S y) → ((f : F) → T (Err f) → R f) → T r → MatchResult r S R
 tells_at (Ok y) S R T s e h = s y h
@@ -32,17 +21,21 @@ refuses_self : {Y F : Type 0} (r : Result Y F) (f : F) → r ≡ Err f → Gives
 refuses_self (Ok x) f e = sym e
 refuses_self (Err g) f e = sym e
 
+pub gives_itself : {Y F : Type 0} (r : Result Y F) → Gives (λ (y : Y). y) r r
+gives_itself (Ok y) = refl
+gives_itself (Err f) = refl
+
 pub exact_from : {Y F : Type 0} (r : Result Y F) (S : Y → Type 0) (R : F → Type 0) (T : Result Y F → Type 0) → ((y : Y) → T (Ok y) → S y) → ((f : F) → T (Err f) → R f) → T r
     → ((y : Y) → S y → r ≡ Ok y) → ((f : F) → R f → r ≡ Err f) → Reads (λ (y : Y). y) r S R
 exact_from r S R T s e h only refuses = record { tells = tells_at r S R T s e h; only = λ y p. gives_self r y (only y p); refuses = λ f p. refuses_self r f (refuses f p) }
 
-MatchResult_ok : {Y F : Type 0} (r : Result Y F) (y : Y) (S : Y → Type 0) (R : F → Type 0) → r ≡ Ok y → MatchResult r S R → S y
-MatchResult_ok (Ok x) y S R e h = subst S (cc) h
-MatchResult_ok (Err f) y S R e h = absurd cc
+pub told_of : {Y F : Type 0} (r : Result Y F) (y : Y) (S : Y → Type 0) (R : F → Type 0) → r ≡ Ok y → MatchResult r S R → S y
+told_of (Ok x) y S R e h = subst S (cc) h
+told_of (Err f) y S R e h = absurd cc
 
-MatchResult_err : {Y F : Type 0} (r : Result Y F) (f : F) (S : Y → Type 0) (R : F → Type 0) → r ≡ Err f → MatchResult r S R → R f
-MatchResult_err (Ok x) f S R e h = absurd cc
-MatchResult_err (Err g) f S R e h = subst R (cc) h
+refusal_of : {Y F : Type 0} (r : Result Y F) (f : F) (S : Y → Type 0) (R : F → Type 0) → r ≡ Err f → MatchResult r S R → R f
+refusal_of (Ok x) f S R e h = absurd cc
+refusal_of (Err g) f S R e h = subst R (cc) h
 
 pub gives_at : {Y F : Type 0} (r : Result Y F) (y : Y) → Gives (λ (z : Y). z) r (Ok y) → Ok y ≡ r
 gives_at (Ok x) y e = e
@@ -54,10 +47,10 @@ refuses_at (Err g) f e = e
 
 -- what is promised of a list's reader is promised of the program's that gives what it gives
 pub reads_from : {X Y F : Type 0} (view : X → Y) (r : Result X F) (read : Result Y F) (S : Y → Type 0) (R : F → Type 0) → Reads (λ (y : Y). y) read S R → Gives view r read → Reads view r S R
-reads_from view (Ok x) read S R h g = record { tells = MatchResult_ok read (view x) S R g h.tells; only = λ y p. gives_at read y (h.only y p) ∙ g; refuses = λ f p. refuses_at read f (h.refuses f p) ∙ g }
-reads_from view (Err d) read S R h g = record { tells = MatchResult_err read d S R g h.tells; only = λ y p. gives_at read y (h.only y p) ∙ g; refuses = λ f p. refuses_at read f (h.refuses f p) ∙ g }
+reads_from view (Ok x) read S R h g = record { tells = told_of read (view x) S R g h.tells; only = λ y p. gives_at read y (h.only y p) ∙ g; refuses = λ f p. refuses_at read f (h.refuses f p) ∙ g }
+reads_from view (Err d) read S R h g = record { tells = refusal_of read d S R g h.tells; only = λ y p. gives_at read y (h.only y p) ∙ g; refuses = λ f p. refuses_at read f (h.refuses f p) ∙ g }
 
-clash : {Y F : Type 0} (g : F) (y : Y) → fault_is {Y = Y} g ≡ Ok y → ⊥
+clash : {Y F : Type 0} (g : F) (y : Y) → failed {A = Y} g ≡ Ok y → ⊥
 clash g y e = cc
 
 -- a reader with one refusal, which comes where nothing is spelled
@@ -77,7 +70,7 @@ one_refusal (Err g) S fault found only same = record {
 -- ---- the same with memory
 
 fault_tells : {Y F : Type 0} (o : Option F) (read : Result Y F) (S : Y → Type 0) (R : F → Type 0) → Reads (λ (y : Y). y) read S R → IfSome o (λ f. read ≡ Err f) → IfSome o R
-fault_tells (Some f) read S R h g = MatchResult_err read f S R g h.tells
+fault_tells (Some f) read S R h g = refusal_of read f S R g h.tells
 fault_tells None read S R h g = g
 
 fault_is_not : {Y F : Type 0} (o : Option F) (read : Result Y F) (s : Result Y F) → s ≡ read → IfSome o (λ f. read ≡ Err f) → IfSome o (λ f. s ≡ Err f)
@@ -86,5 +79,5 @@ fault_is_not None read s e g = g
 
 -- what is promised of a list's reader is promised of the program's that gives what it gives, unless memory runs out
 pub reads_or_memory_from : {X Y E F : Type 0} (fault_of : E → Option F) (view : X → Y) (r : Result X E) (read : Result Y F) (S : Y → Type 0) (R : F → Type 0) → Reads (λ (y : Y). y) read S R → GivesOrMemory fault_of view r read → ReadsOrMemory fault_of view r S R
-reads_or_memory_from fault_of view (Ok x) read S R h g = record { tells = MatchResult_ok read (view x) S R g h.tells; only = λ y p. gives_at read y (h.only y p) ∙ g; refuses = λ f p. refuses_at read f (h.refuses f p) ∙ g }
+reads_or_memory_from fault_of view (Ok x) read S R h g = record { tells = told_of read (view x) S R g h.tells; only = λ y p. gives_at read y (h.only y p) ∙ g; refuses = λ f p. refuses_at read f (h.refuses f p) ∙ g }
 reads_or_memory_from fault_of view (Err e) read S R h g = record { tells = fault_tells (fault_of e) read S R h g; only = λ y p. fault_is_not (fault_of e) read (Ok y) (gives_at read y (h.only y p)) g; refuses = λ f p. fault_is_not (fault_of e) read (Err f) (refuses_at read f (h.refuses f p)) g }

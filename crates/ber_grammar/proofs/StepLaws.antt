@@ -1,9 +1,8 @@
 -- A reader whose steps are each exact is exact.
 use Rattle.std.proofs.Common.{◌≡◌, inl, inr, Option, Some, None, Result, Ok, Err, refl, sym, ap, subst, ◌∙◌}
 use Rattle.std.specs.Prelude.{MatchResult}
+use Rattle.list_laws.proofs.Options.{some_is, ok_is, err_is}
 use Rattle.ber_grammar.specs.Reader.{◌>>=◌, Gives, Reads}
-use Rattle.ber_grammar.proofs.ReaderLaws.{ok_is, err_is}
-use Rattle.ber_grammar.proofs.OptionLaws.{some_is}
 use Rattle.ber_grammar.specs.Steps.{Then, IsLacking, Or, Else, required}
 
 abbrev pub Exact : {Y F : Type 0} → Result Y F → (Y → Type 0) → (F → Type 0) → Type 0
@@ -19,7 +18,7 @@ refused_later {A = A} {F = F} g x S R T Q f h next (inl r) = absurd (let e = h.r
 refused_later {A = A} {F = F} g x S R T Q f h next (inr (z, s, q)) = let same : z ≡ x = ok_is {F = F} z x (h.only z s) in next.refuses f (subst (λ (a : A). Q a f) same q)
 
 refused_first : {A B F : Type 0} (d : F) (S : A → Type 0) (R : F → Type 0) (Q : A → F → Type 0) (f : F) → Exact (let e : Result A F = Err d in e) S R → Or R S Q f → (let e : Result B F = Err f in e) ≡ Err d
-refused_first {A = A} {F = F} d S R Q f h (inl r) = ap (λ (x : F). Err x) (err_is {Y = A} f d (h.refuses f r))
+refused_first {A = A} {F = F} d S R Q f h (inl r) = ap (λ (x : F). Err x) (err_is {A = A} f d (h.refuses f r))
 refused_first {A = A} {F = F} d S R Q f h (inr (z, s, q)) = absurd (let e = h.only z s in cc)
 
 pub then_exact : {A B F : Type 0} (r : Result A F) (g : A → Result B F) (S : A → Type 0) (R : F → Type 0) (T : A → B → Type 0) (Q : A → F → Type 0)
@@ -56,7 +55,7 @@ made_exact {A = A} {B = B} {F = F} (Ok x) make S R h = record {
 made_exact {A = A} {B = B} {F = F} (Err d) make S R h = record {
   tells = h.tells;
   only = λ y (z, s, t). absurd (let e = h.only z s in cc);
-  refuses = λ f q. ap (λ (x : F). let e : Result B F = Err x in e) (err_is {Y = A} f d (h.refuses f q));
+  refuses = λ f q. ap (λ (x : F). let e : Result B F = Err x in e) (err_is {A = A} f d (h.refuses f q));
 }
 
 -- a first step that only lacks something

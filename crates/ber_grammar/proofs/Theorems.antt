@@ -2,12 +2,12 @@
 use Rattle.std.proofs.Common.{◌≡◌, ℕ, List, [], ◌∷◌, ◌++◌, Result, Ok, Err, refl, sym, ap, ◌∙◌, ◌⊎◌, inl, inr, append_assoc}
 use Rattle.std.specs.Prelude.{ℤ, Bool}
 use Rattle.std.proofs.lemmas.List.{append-nil}
+use Rattle.list_laws.proofs.Options.{ok_is, err_is}
 use Rattle.ber_grammar.specs.declared.fault.BerFault.{BerFault}
 use Rattle.ber_grammar.specs.Octets.{IsBytes}
 use Rattle.ber_grammar.specs.Element.{Element, Spells, Begins, IsRefused, IsRow}
 use Rattle.ber_grammar.specs.Content.{IsBoolean, IsInt, IsUint, IsBits}
 use Rattle.ber_grammar.specs.Reading.{first_at}
-use Rattle.ber_grammar.proofs.ReaderLaws.{ok_is, err_is}
 use Rattle.ber_grammar.proofs.ElementLaws.{FirstTells, first_tells, first_again, refused_again}
 use Rattle.ber_grammar.proofs.PartsLaws.{row_again}
 use Rattle.ber_grammar.proofs.IntLaws.{int_again}
@@ -28,7 +28,7 @@ pub prefix_free : (front more : List ℕ) (d e : Element) → Spells front d →
 prefix_free front more d e s t = (one_element (front ++ more) d e more [] (front, s, refl) (front ++ more, t, sym (append-nil (front ++ more)))).1
 
 pub one_fault : (input : List ℕ) (f g : BerFault) → IsRefused input f → IsRefused input g → f ≡ g
-one_fault input f g p q = err_is {Y = Element × List ℕ} f g (sym (refused_again input f p) ∙ refused_again input g q)
+one_fault input f g p q = err_is {A = Element × List ℕ} f g (sym (refused_again input f p) ∙ refused_again input g q)
 
 pub not_both : (input : List ℕ) (e : Element) (rest : List ℕ) (f : BerFault) → Begins input e rest → IsRefused input f → ⊥
 not_both input e rest f p q = let one = begins_again input e rest p in let two = refused_again input f q in cc

@@ -16,6 +16,6 @@ pub enum BerFault {
     /// No octet, more than nine, a number out of its type's range (X.690, 8.3), or no bit string: no first octet,
     /// more than 7 unused bits, or unused bits without an octet (X.690, 8.6.2).
     BadNumber,
-    /// An octet outside 0x20 to 0x7E in a visible string (X.690, 8.23).
+    /// An octet outside 0x20 to 0x7e in a visible string (X.690, 8.23).
     BadText,
 }

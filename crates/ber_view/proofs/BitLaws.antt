@@ -8,10 +8,7 @@ use Rattle.std.proofs.lemmas.List.{get_or-take, length-take, length-take-le}
 use Rattle.std.proofs.lemmas.List.Concat.{get_or-flat_map}
 use Rattle.std.proofs.lemmas.Option.{slice_get-get_or, slice_get_past}
 use Rattle.ber_grammar.specs.Content.{octet_bits, bits_of}
-
-pub length-flat_bits : (octets : List ℕ) → length (flat_map octet_bits octets) ≡ 8 * length octets
-length-flat_bits [] = refl
-length-flat_bits (o ∷ octets) = omega (arith, length-flat_bits octets)
+use Rattle.ber_grammar.proofs.BitLaws.{length-flat_bits}
 
 pub length-bits_of : (unused : ℕ) (octets : List ℕ) → length (bits_of unused octets) ≡ 8 * length octets - unused
 unfolding bits_of

@@ -11,7 +11,7 @@ use ber_grammar::BerFault;
 
 /// The octets of a visible string (X.690, 8.23), which are `content` itself.
 ///
-/// Fails with `BadText` where an octet is outside 0x20 to 0x7E.
+/// Fails with `BadText` where an octet is outside 0x20 to 0x7e.
 #[tactic(auto, unfolding(ber_grammar::specs::Reading::text_at))]
 pub fn text(content: &[u8]) -> Result<&[u8], BerFault>
     ensures reads { Reads (λ x. x.now) result (IsText content.now) (IsTextRefused content.now) }

@@ -8,7 +8,7 @@ use Rattle.ber_grammar.specs.Octets.{IsBytes}
 use Rattle.ber_grammar.specs.Content.{octet_bits, bits_of, IsBits}
 use Rattle.ber_grammar.specs.Reading.{bits_at}
 use Rattle.ber_grammar.proofs.OctetLaws.{IsBytes-rest}
-use Rattle.ber_grammar.proofs.BitLaws.{bits_again}
+use Rattle.ber_grammar.proofs.BitLaws.{bits_again, length-flat_bits}
 use Rattle.ber_write.specs.BitString.{weigh, octet, packed, unused_of, bit_octets, first_octet, HasClearEnd}
 
 -- ---- a step of the loop
@@ -106,10 +106,6 @@ pub bits_spelled : (bits : List Bool) → IsBits (bit_octets bits) bits × HasCl
 bits_spelled bits = (bit_octets-spell bits, bit_octets-clear bits, bits_again (bit_octets bits) bits (bit_octets-spell bits))
 
 -- ---- all spellings are as long
-
-length-flat_bits : (octets : List ℕ) → length (flat_map octet_bits octets) ≡ 8 * length octets
-length-flat_bits [] = refl
-length-flat_bits (o ∷ octets) = omega (arith, length-flat_bits octets)
 
 pub length_of_bit_octets : (bits : List Bool) → length (bit_octets bits) ≡ (length bits + 7) / 8 + 1
 unfolding bit_octets

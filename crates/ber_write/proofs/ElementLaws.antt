@@ -9,6 +9,7 @@ use Rattle.ber_grammar.specs.Reading.{first_at}
 use Rattle.ber_grammar.proofs.OctetLaws.{IsBytes-front, IsBytes-back}
 use Rattle.ber_grammar.proofs.ElementLaws.{first_again}
 use Rattle.ber_write.specs.Minimal.{written, tag_octets, length_octets, octets_of, CanBeTag}
+use Rattle.ber_write.proofs.LengthLaws.{at_most_five, at_most_four, at_most_three, at_most_two, length-octets_of}
 
 -- a tag has at most three octets
 tag_below_at : (a b c t : ℕ) → a < 256 → b < 256 → c < 256 → t ≡ (a * 256 + b) * 256 + c → t < 2 ^ 24
@@ -96,18 +97,6 @@ five_at a b c d e n p hb hc hd he q =
     let low : n % 256 ≡ e = omega arith in
     rw (p, high, middle, third, low) refl
 
-at_most_five : (n : ℕ) → length (length_octets n) ≤ 5
-at_most_five n = grind (arith, nat_tests)
-
-at_most_four : (n : ℕ) → n < 16777216 → length (length_octets n) ≤ 4
-at_most_four n lt = rw (lt-ltb n 16777216 lt) (grind (arith, nat_tests))
-
-at_most_three : (n : ℕ) → n < 65536 → length (length_octets n) ≤ 3
-at_most_three n lt = rw (lt-ltb n 65536 lt) (grind (arith, nat_tests))
-
-at_most_two : (n : ℕ) → n < 256 → length (length_octets n) ≤ 2
-at_most_two n lt = rw (lt-ltb n 256 lt) (grind (arith, nat_tests))
-
 one_form : (l : List ℕ) (n : ℕ) → IsBytes l → IsLength l n → (l ≡ form (length l) n) × (length (length_octets n) ≤ length l)
 one_form [] n fits h = absurd h
 one_form (a ∷ []) n fits h = (rw (h.1) refl, rw (lt-ltb n 128 (omega (arith, h.0, h.1))) (omega arith))
@@ -142,7 +131,7 @@ is_minimal octets e fits s =
     let count : length octets ≡ length (tag_octets e.tag) + (length s.len + length e.content) =
     ap length s.whole ∙ length-append s.tag (s.len ++ e.content) ∙ rw (length-append s.len e.content, tag) refl in
     let least : length (octets_of e.tag e.content) ≡ length (tag_octets e.tag) + (length (length_octets (length e.content)) + length e.content) =
-    length-append (tag_octets e.tag) (length_octets (length e.content) ++ e.content) ∙ rw (length-append (length_octets (length e.content)) e.content) refl in (
+    length-octets_of e.tag e.content in (
       omega arith,
       λ same.
           let len = one_length s.len (length e.content) len_fits s.is_length (omega arith) in

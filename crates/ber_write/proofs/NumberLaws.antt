@@ -10,7 +10,8 @@ use Rattle.ber_grammar.proofs.OctetLaws.{IsBytes-rest, IsBytes-cons}
 use Rattle.ber_grammar.specs.Content.{IsUint, IsInt}
 use Rattle.ber_grammar.proofs.IntLaws.{behind_255, upto_255, int_again}
 use Rattle.ber_grammar.proofs.UintLaws.{uint_again}
-use Rattle.ber_write.specs.Minimal.{HasNoSpare, IsWord, is_spare, strip_from, uint_octets, nine_octets, int_octets}
+use Rattle.ber_write.specs.Minimal.{HasNoSpare, IsWord, is_spare, strip_from, uint_octets, nine_octets, int_octets, octets_of}
+use Rattle.ber_write.proofs.LengthLaws.{octets_short}
 
 pub big_endian-64 : (n : ℕ) → n < 2 ^ 64 → big_endian (to_be_bytes w64 n) ≡ n
 big_endian-64 n lt = omega (arith, from_be_bytes-to_be_bytes_8 n lt)
@@ -84,6 +85,12 @@ length-strip_from a (b ∷ rest) = cond_both (is_spare a b) (strip_from b rest) 
 pub length-uint_octets : (n : ℕ) → length (uint_octets n) ≤ 9
 unfolding uint_octets
 length-uint_octets n = length-strip_from 0 (to_be_bytes w64 n)
+
+pub uint_short : (n : ℕ) → length (uint_octets n) < 2 ^ 32
+uint_short n = omega (arith, length-uint_octets n)
+
+pub number_short : (tag n : ℕ) → length (octets_of tag (uint_octets n)) ≤ 17
+number_short tag n = omega (arith, octets_short tag (uint_octets n), length-uint_octets n)
 
 pub length-int_octets : (v : ℤ) → length (int_octets v) ≤ 9
 unfolding int_octets

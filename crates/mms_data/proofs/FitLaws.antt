@@ -2,6 +2,7 @@
 use Rattle.std.proofs.Common.{ℕ, ◌-◌, ◌%◌, ◌<◌, ◌^◌, List, ◌∷◌, ◌++◌, length, arith}
 use Rattle.std.proofs.lemmas.List.{length-append}
 use Rattle.ber_write.specs.Minimal.{tag_octets, length_octets, octets_of}
+use Rattle.ber_write.proofs.LengthLaws.{inside}
 use Rattle.sv_base.specs.Tree.{Plain, Seen, Row, plain, structure, none, more, truth, int, uint, bits, time, stamp, text, octets, other}
 use Rattle.sv_base.specs.Data.{element, length_field, packed, data_plain, data_seen, data_row}
 use Rattle.sv_base.proofs.LengthLaws.{length-packed}
@@ -37,9 +38,6 @@ mutual
       (seen_fits s (omega (arith, lt, both)) f.0, row_fits r (omega (arith, lt, both)) f.1)
 
 -- ---- types
-
-inside : (tag : ℕ) (content : List ℕ) (n : ℕ) → length (octets_of tag content) < n → length content < n
-inside tag content n lt = omega (arith, lt, length-append (tag_octets tag) (length_octets (length content) ++ content), length-append (length_octets (length content)) content)
 
 mutual
   pub shape_fits : (s : Shape) → length (shape_octets s) < 2 ^ 32 → FitsShape s

@@ -3,6 +3,7 @@ use Rattle.std.proofs.Common.{◌≡◌, ℕ, zero, suc, ◌≤◌, ◌-◌, Boo
 use Rattle.std.specs.Prelude.{MatchResult}
 use Rattle.std.proofs.lemmas.Bool.{eqb-true, eqb-false, eq-eqb, ne_eqb, cond_both, or_parts}
 use Rattle.std.proofs.lemmas.List.{append-nil, nil_from_length}
+use Rattle.list_laws.proofs.Options.{ok_is}
 use Rattle.ber_grammar.specs.declared.fault.BerFault.{BerFault}
 use Rattle.ber_grammar.specs.Octets.{IsBytes, big_endian}
 use Rattle.ber_grammar.specs.Element.{Element, Spells, Begins, IsRow, IsRefused}
@@ -10,15 +11,16 @@ use Rattle.ber_grammar.specs.Content.{IsBoolean, IsInt, IsUint, IsText, IsBits, 
 use Rattle.ber_grammar.specs.Reader.{◌>>=◌, with_fault, Gives, Reads}
 use Rattle.ber_grammar.specs.Reading.{first_at, boolean_at, int_at, uint_at, text_at, bits_at}
 use Rattle.ber_grammar.specs.Rows.{row_at}
-use Rattle.ber_grammar.proofs.ReaderLaws.{ok_is, exact_from}
+use Rattle.ber_grammar.proofs.ReaderLaws.{exact_from}
 use Rattle.ber_grammar.proofs.OctetLaws.{IsBytes-front, IsBytes-back, Begins-bytes}
 use Rattle.ber_grammar.proofs.ElementLaws.{FirstTells, first_tells, first_again, refused_again as element_refused}
 use Rattle.ber_grammar.proofs.UintLaws.{uint_again, uint_found}
 use Rattle.ber_grammar.proofs.IntLaws.{int_again, int_found}
 use Rattle.ber_grammar.proofs.TextLaws.{text_again, text_found}
-use Rattle.ber_grammar.proofs.BitLaws.{bits_again, bits_reads}
+use Rattle.ber_grammar.proofs.BitLaws.{bits_again, bits_reads, bits_found}
 use Rattle.ber_grammar.proofs.BooleanLaws.{boolean_again, boolean_found}
 use Rattle.ber_grammar.proofs.RowLaws.{AllRead, StopsAt, RowTells, row_tells, row_again, row_refused}
+use Rattle.ber_grammar.proofs.FieldLaws.{first_whole}
 use Rattle.sv_base.specs.Tree.{Plain, Seen, Row, plain, structure, none, more, truth, int, uint, bits, time, stamp, text, octets, other}
 use Rattle.sv_base.specs.Depth.{depth_seen, depth_row}
 use Rattle.mms_data.specs.declared.fault.DataFault.{DataFault}
@@ -55,17 +57,6 @@ then_made P make e (Err f) is h = h
 
 truth_tells : (e : Element) → e.tag ≡ 131 → PlainTells e (truth_at e.content)
 truth_tells e t = then_made (IsBoolean e.content) (λ b. truth b) e (boolean_at Length e.content) (λ b h. (t, h)) (boolean_tells e.content)
-
-gives_itself : {Y F : Type 0} (r : Result Y F) → Gives (λ (y : Y). y) r r
-gives_itself (Ok y) = refl
-gives_itself (Err f) = refl
-
-told_of : {Y F : Type 0} (r : Result Y F) (y : Y) (S : Y → Type 0) (R : F → Type 0) → r ≡ Ok y → MatchResult r S R → S y
-told_of (Ok x) y S R e h = subst S (cc) h
-told_of (Err f) y S R e h = absurd cc
-
-bits_found : (content : List ℕ) (bs : List Bool) → bits_at content ≡ Ok bs → IsBits content bs
-bits_found content bs is = told_of (bits_at content) bs (IsBits content) (IsBitsRefused content) is (bits_reads (λ (x : List Bool). x) (bits_at content) content (gives_itself (bits_at content))).tells
 
 bit_string_tells : (e : Element) → e.tag ≡ 132 → PlainTells e (bit_string_at e.content)
 bit_string_tells e t = then_made (IsBits e.content) (λ bs. bits bs) e (with_fault malformed (bits_at e.content)) (λ bs h. (t, h))
@@ -290,9 +281,6 @@ at_end : (input : List ℕ) (e : Element) (r : Result Seen DataFault) → Spells
 at_end input e (Ok s) spelled h = (e, spelled, h)
 at_end input e (Err f) spelled h = inr (e, spelled, h)
 
-spelled_first : (input : List ℕ) (e : Element) → Spells input e → first_at input ≡ Ok (e, [])
-spelled_first input e s = ap first_at (sym (append-nil input)) ∙ first_again input [] e s
-
 after_first : (input : List ℕ) (r : Result (Element × List ℕ) BerFault) → first_at input ≡ r → IsBytes input → FirstTells input r
     → ReadTells input (with_fault no_element r >>= λ first. cond (eqb (length first.1) 0) (data_at 10 first.0) (Err Tag))
 after_first input (Ok (e, rest)) first fits b =
@@ -303,11 +291,11 @@ after_first input (Ok (e, rest)) first fits b =
     (λ some. inl (
       refl,
       λ d s.
-          let two = spelled_first input d s in
+          let two = first_whole input d s in
           let same : rest ≡ [] = ap (λ (x : Element × List ℕ). x.1) (ok_is {F = BerFault} (e, rest) (d, []) (sym first ∙ two)) in
           eqb-false (length rest) 0 some (ap length same),
     ))
-after_first input (Err g) first fits b = inl (refl, λ d s. let two = spelled_first input d s in cc)
+after_first input (Err g) first fits b = inl (refl, λ d s. let two = first_whole input d s in cc)
 
 read_tells : (input : List ℕ) → IsBytes input → ReadTells input (read_at input)
 unfolding read_at
@@ -315,7 +303,7 @@ read_tells input fits = after_first input (first_at input) refl fits (first_tell
 
 pub read_again : (input : List ℕ) → IsBytes input → (s : Seen) → IsSpelled input s → read_at input ≡ Ok s
 unfolding read_at
-read_again input fits s (e, spelled, h) = rw (spelled_first input e spelled, data_again 10 e s (Begins-bytes input e [] fits (input, spelled, sym (append-nil input))).0 h) refl
+read_again input fits s (e, spelled, h) = rw (first_whole input e spelled, data_again 10 e s (Begins-bytes input e [] fits (input, spelled, sym (append-nil input))).0 h) refl
 
 not_spelled : (input : List ℕ) (r : Result Seen DataFault) → ReadTells input r → ((e : Element) → ¬ Spells input e) → r ≡ Err Tag
 not_spelled input (Ok s) h never = absurd (never h.0 h.1)
@@ -325,7 +313,7 @@ not_spelled input (Err f) (inr h) never = absurd (never h.0 h.1)
 read_refused : (input : List ℕ) → IsBytes input → (f : DataFault) → IsDataRefused input f → read_at input ≡ Err f
 unfolding read_at
 read_refused input fits f (inl (same, never)) = not_spelled input (read_at input) (read_tells input fits) never ∙ ap (λ (x : DataFault). Err x) (sym same)
-read_refused input fits f (inr (e, s, h)) = rw (spelled_first input e s, refused_again 10 e f (Begins-bytes input e [] fits (input, s, sym (append-nil input))).0 h) refl
+read_refused input fits f (inr (e, s, h)) = rw (first_whole input e s, refused_again 10 e f (Begins-bytes input e [] fits (input, s, sym (append-nil input))).0 h) refl
 
 pub read_exact : (input : List ℕ) → IsBytes input → Reads (λ (s : Seen). s) (read_at input) (IsSpelled input) (IsDataRefused input)
 read_exact input fits = exact_from (read_at input) (IsSpelled input) (IsDataRefused input) (ReadTells input) (λ s h. h) (λ f h. h) (read_tells input fits) (read_again input fits) (read_refused input fits)
@@ -335,4 +323,4 @@ data_exact n e fits = exact_from (data_at n e) (IsWithin n e) (IsRefusedData n e
 
 pub read_is_data : (input : List ℕ) (e : Element) → Spells input e → read_at input ≡ data_at 10 e
 unfolding read_at
-read_is_data input e s = rw (spelled_first input e s) refl
+read_is_data input e s = rw (first_whole input e s) refl

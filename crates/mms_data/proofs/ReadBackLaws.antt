@@ -3,10 +3,10 @@ use Rattle.std.proofs.Common.{◌≡◌, ℕ, ◌/◌, ◌%◌, ◌^◌, ◌<◌
 use Rattle.std.specs.Prelude.{if◌then◌else◌}
 use Rattle.std.specs.Int.{w16, w32, to_be_bytes}
 use Rattle.std.proofs.lemmas.Nat.{from_be_bytes-to_be_bytes_2, from_be_bytes-to_be_bytes_4}
+use Rattle.list_laws.proofs.Options.{ok_is}
 use Rattle.ber_grammar.specs.Octets.{IsBytes, big_endian}
 use Rattle.ber_grammar.specs.Element.{Element, Spells, Begins, IsRow}
 use Rattle.ber_grammar.specs.Content.{IsBoolean}
-use Rattle.ber_grammar.proofs.ReaderLaws.{ok_is}
 use Rattle.ber_write.specs.Minimal.{octets_of, written, CanBeTag, int_octets, uint_octets}
 use Rattle.ber_write.specs.BitString.{bit_octets}
 use Rattle.ber_write.proofs.ElementLaws.{is_spelling}

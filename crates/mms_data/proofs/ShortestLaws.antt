@@ -14,6 +14,7 @@ use Rattle.ber_write.proofs.ElementLaws.{is_minimal}
 use Rattle.ber_write.proofs.SameLaws.{length_is_field}
 use Rattle.ber_write.proofs.BitLaws.{bits_as_long, length_of_bit_octets}
 use Rattle.ber_write.proofs.ShortestLaws.{int_shortest, uint_shortest}
+use Rattle.ber_write.proofs.LengthLaws.{length_grows, octets_grow}
 use Rattle.sv_base.specs.Tree.{Plain, Seen, Row, plain, structure, none, more, truth, int, uint, bits, time, stamp, text, octets, other}
 use Rattle.sv_base.specs.Data.{length_field, data_plain, data_seen, data_row}
 use Rattle.sv_base.specs.Depth.{IsNotOther, SeenHasNoOther, RowHasNoOther}
@@ -22,56 +23,8 @@ use Rattle.mms_data.proofs.MinimalLaws.{octets-element, bits_written, word_writt
 
 -- ---- a shorter content makes a shorter element
 
--- how many octets a length has
-FieldIs : ℕ → ℕ → Type 0
-FieldIs n len = (n < 128 → len ≡ 1) × (n < 256 → len ≤ 2) × (n < 65536 → len ≤ 3) × (n < 16777216 → len ≤ 4) × (len ≤ 5) × (1 ≤ len) × (128 ≤ n → 2 ≤ len) × (256 ≤ n → 3 ≤ len) × (65536 ≤ n → 4 ≤ len) × (16777216 ≤ n → 5 ≤ len)
-
-field_is : (n : ℕ) → FieldIs n (length (length_octets n))
-unfolding FieldIs
-field_is n =
-    let last4 = cond (ltb n 16777216) (131 ∷ n / 65536 ∷ n / 256 % 256 ∷ n % 256 ∷ []) (132 ∷ n / 16777216 ∷ n / 65536 % 256 ∷ n / 256 % 256 ∷ n % 256 ∷ []) in
-    let last3 = cond (ltb n 65536) (130 ∷ n / 256 ∷ n % 256 ∷ []) last4 in
-    let last2 = cond (ltb n 256) (129 ∷ n ∷ []) last3 in
-    cond_both (ltb n 128) (n ∷ []) last2 (λ o. FieldIs n (length o))
-    (λ e. let lt = ltb-true n 128 e in ((λ h. omega arith), (λ h. omega arith), (λ h. omega arith), (λ h. omega arith), omega arith, omega arith, (λ h. omega (arith, lt, h)), (λ h. omega (arith, lt, h)), (λ h. omega (arith, lt, h)), (λ h. omega (arith, lt, h))))
-    (λ e. let over = ltb-false n 128 e in
-    cond_both (ltb n 256) (129 ∷ n ∷ []) last3 (λ o. FieldIs n (length o))
-    (λ e. let lt = ltb-true n 256 e in ((λ h. omega (arith, over, h)), (λ h. omega arith), (λ h. omega arith), (λ h. omega arith), omega arith, omega arith, (λ h. omega arith), (λ h. omega (arith, lt, h)), (λ h. omega (arith, lt, h)), (λ h. omega (arith, lt, h))))
-    (λ e. let over = ltb-false n 256 e in
-    cond_both (ltb n 65536) (130 ∷ n / 256 ∷ n % 256 ∷ []) last4 (λ o. FieldIs n (length o))
-    (λ e. let lt = ltb-true n 65536 e in ((λ h. omega (arith, over, h)), (λ h. omega (arith, over, h)), (λ h. omega arith), (λ h. omega arith), omega arith, omega arith, (λ h. omega arith), (λ h. omega arith), (λ h. omega (arith, lt, h)), (λ h. omega (arith, lt, h))))
-    (λ e. let over = ltb-false n 65536 e in
-    cond_both (ltb n 16777216) (131 ∷ n / 65536 ∷ n / 256 % 256 ∷ n % 256 ∷ []) (132 ∷ n / 16777216 ∷ n / 65536 % 256 ∷ n / 256 % 256 ∷ n % 256 ∷ []) (λ o. FieldIs n (length o))
-    (λ e. let lt = ltb-true n 16777216 e in ((λ h. omega (arith, over, h)), (λ h. omega (arith, over, h)), (λ h. omega (arith, over, h)), (λ h. omega arith), omega arith, omega arith, (λ h. omega arith), (λ h. omega arith), (λ h. omega arith), (λ h. omega (arith, lt, h))))
-    (λ e. let over = ltb-false n 16777216 e in ((λ h. omega (arith, over, h)), (λ h. omega (arith, over, h)), (λ h. omega (arith, over, h)), (λ h. omega (arith, over, h)), omega arith, omega arith, (λ h. omega arith), (λ h. omega arith), (λ h. omega arith), (λ h. omega arith))))))
-
-fields_grow : (m n : ℕ) → m ≤ n → length (length_octets m) ≤ length (length_octets n)
-unfolding FieldIs
-fields_grow m n le =
-    let a = field_is m in
-    let b = field_is n in
-    elim (cases_lt n 128) [
-      | inl lt ↦ (let p = a.0 (omega (arith, le, lt)) in omega (arith, p, b.5))
-      | inr over1 ↦ elim (cases_lt n 256) [
-        | inl lt ↦ (let p = a.1 (omega (arith, le, lt)) in let q = b.6 over1 in omega (arith, p, q))
-        | inr over2 ↦ elim (cases_lt n 65536) [
-          | inl lt ↦ (let p = a.2 (omega (arith, le, lt)) in let q = b.7 over2 in omega (arith, p, q))
-          | inr over3 ↦ elim (cases_lt n 16777216) [
-            | inl lt ↦ (let p = a.3 (omega (arith, le, lt)) in let q = b.8 over3 in omega (arith, p, q))
-            | inr over4 ↦ (let q = b.9 over4 in omega (arith, a.4, q))
-          ]
-        ]
-      ]
-    ]
-
 pub field_grows : (m n : ℕ) → m ≤ n → n < 2 ^ 32 → length (length_field m) ≤ length (length_field n)
-field_grows m n le small = omega (arith, ap (λ (o : List ℕ). length o) (length_is_field m (omega (arith, le, small))), ap (λ (o : List ℕ). length o) (length_is_field n small), fields_grow m n le)
-
-length-octets_of : (tag : ℕ) (content : List ℕ) → length (octets_of tag content) ≡ length (tag_octets tag) + (length (length_octets (length content)) + length content)
-length-octets_of tag content = length-append (tag_octets tag) (length_octets (length content) ++ content) ∙ ap (λ (n : ℕ). length (tag_octets tag) + n) (length-append (length_octets (length content)) content)
-
-pub octets_grow : (tag : ℕ) (a b : List ℕ) → length a ≤ length b → length (octets_of tag a) ≤ length (octets_of tag b)
-octets_grow tag a b le = omega (arith, length-octets_of tag a, length-octets_of tag b, fields_grow (length a) (length b) le, le)
+field_grows m n le small = omega (arith, ap (λ (o : List ℕ). length o) (length_is_field m (omega (arith, le, small))), ap (λ (o : List ℕ). length o) (length_is_field n small), length_grows m n le)
 
 -- the element that is written of a content that is no longer
 shorter : (tag : ℕ) (content made input : List ℕ) (e : Element) → IsBytes input → Spells input e → e.tag ≡ tag → octets_of tag content ≡ made → length content ≤ length e.content → length made ≤ length input

@@ -4,6 +4,7 @@ use denote.Param.Weighed.{most}
 use Rattle.std.proofs.lemmas.Bool.{lt-ltb, cases_lt}
 use Rattle.std.proofs.lemmas.List.{append-nil, length-append}
 use Rattle.ber_write.specs.Minimal.{length_octets, octets_of, int_octets}
+use Rattle.ber_write.proofs.LengthLaws.{length-one_octet}
 use Rattle.sv_base.specs.Types.{Fields, entry_id}
 use Rattle.sv_base.specs.Fields.{fields_of}
 use Rattle.sv_base.specs.declared.types.TypeOf.{TypeOf}
@@ -14,15 +15,12 @@ use Rattle.mms_data.specs.TypeOctets.{kind_octets, type_of, fields_octets, part_
 
 -- ---- how many octets
 
-length-octets_of : (tag : ℕ) (content : List ℕ) → tag < 256 → length (octets_of tag content) ≡ 1 + (length (length_octets (length content)) + length content)
-length-octets_of tag content one = rw (lt-ltb tag 256 one) (omega (arith, length-append (length_octets (length content)) content))
-
 -- a count that stops at 4294967295, of a content and of its element
 pub counted : (tag : ℕ) (content : List ℕ) (n k : ℕ) → tag < 256 → n ≡ min (length content) 4294967295 → k ≡ min (1 + (length (length_octets n) + n)) 4294967295 → k ≡ min (length (octets_of tag content)) 4294967295
 counted tag content n k one p q =
     elim (cases_lt (length content) 4294967295) [
-      | inl lt ↦ (let same : n ≡ length content = omega (arith, p, lt) in q ∙ ap (λ (m : ℕ). min (1 + (length (length_octets m) + m)) 4294967295) same ∙ ap (λ (m : ℕ). min m 4294967295) (sym (length-octets_of tag content one)))
-      | inr ge ↦ omega (arith, p, q, ge, length-octets_of tag content one)
+      | inl lt ↦ (let same : n ≡ length content = omega (arith, p, lt) in q ∙ ap (λ (m : ℕ). min (1 + (length (length_octets m) + m)) 4294967295) same ∙ ap (λ (m : ℕ). min m 4294967295) (sym (length-one_octet tag content one)))
+      | inr ge ↦ omega (arith, p, q, ge, length-one_octet tag content one)
     ]
 
 pub entry_id-count : 3 ≡ min (length (kind_octets entry_id)) 4294967295

@@ -4,6 +4,7 @@ use Rattle.std.specs.Prelude.{IsOk, MatchResult}
 use Rattle.std.proofs.Math.Nat.{pos_of_ne-zero}
 use Rattle.std.proofs.lemmas.Bool.{eqb-true, eqb-false}
 use Rattle.std.proofs.lemmas.List.{nil_from_length}
+use Rattle.list_laws.proofs.Options.{err_is}
 use Rattle.ber_grammar.specs.declared.fault.BerFault.{BerFault}
 use Rattle.ber_grammar.specs.Element.{Element}
 use Rattle.ber_grammar.specs.Octets.{IsBytes}
@@ -11,7 +12,7 @@ use Rattle.ber_grammar.specs.Place.{Spot}
 use Rattle.ber_grammar.specs.Reader.{◌>>=◌, Gives, Reads}
 use Rattle.ber_grammar.specs.Reading.{first_at}
 use Rattle.ber_grammar.specs.Rows.{row_at}
-use Rattle.ber_grammar.proofs.ReaderLaws.{exact_from, reads_from, gives_at, refuses_at, err_is}
+use Rattle.ber_grammar.proofs.ReaderLaws.{exact_from, reads_from, gives_at, refuses_at}
 use Rattle.ber_grammar.proofs.RowLaws.{row_none, row_step, row_stop}
 use Rattle.sv_base.specs.Tree.{Seen, structure}
 use Rattle.mms_data.specs.declared.fault.DataFault.{DataFault}
@@ -37,7 +38,7 @@ not_viewed s f h = kept_fault s f (data_at 10 s.element) h
   where
     kept_fault : (s : Spot) (f : DataFault) (r : Result Seen DataFault) → Err f ≡ checked r → Err f ≡ (r >>= λ value. Ok s)
     kept_fault s f (Ok x) h = absurd cc
-    kept_fault s f (Err g) h = ap (λ (x : DataFault). Err x) (err_is {Y = Unit {0}} f g h)
+    kept_fault s f (Err g) h = ap (λ (x : DataFault). Err x) (err_is {A = Unit {0}} f g h)
 
 pub viewed_is : (s : Spot) → Ok s ≡ view_at s → IsOk (data_at 10 s.element)
 unfolding view_at

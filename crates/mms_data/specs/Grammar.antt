@@ -8,7 +8,7 @@ use Rattle.sv_base.specs.Tree.{Plain, Seen, Row, plain, structure, none, more, t
 use Rattle.sv_base.specs.Depth.{depth_seen, depth_row}
 use Rattle.mms_data.specs.declared.fault.DataFault.{DataFault}
 use Rattle.mms_data.specs.declared.fault.DataFault.TheVariants.{Tag, Length, Depth}
-use Rattle.mms_data.specs.Tags.{binary_time_tag, bit_string_tag, boolean_tag, integer_tag, octet_string_tag, structure_tag, unsigned_tag, utc_time_tag, visible_string_tag}
+use Rattle.mms_data.specs.declared.tags.TheConstants.{BINARY_TIME, BIT_STRING, BOOLEAN, INTEGER, OCTET_STRING, STRUCTURE, UNSIGNED, UTC_TIME, VISIBLE_STRING}
 
 -- the first octet of a tag
 abbrev pub first_octet : ℕ → ℕ
@@ -20,7 +20,7 @@ is_context tag = first_octet tag / 64 == 2
 
 -- a tag of a kind of value
 abbrev pub is_kind : ℕ → Bool
-is_kind tag = tag == boolean_tag || tag == bit_string_tag || tag == integer_tag || tag == unsigned_tag || tag == octet_string_tag || tag == visible_string_tag || tag == binary_time_tag || tag == utc_time_tag || tag == structure_tag
+is_kind tag = tag == BOOLEAN || tag == BIT_STRING || tag == INTEGER || tag == UNSIGNED || tag == OCTET_STRING || tag == VISIBLE_STRING || tag == BINARY_TIME || tag == UTC_TIME || tag == STRUCTURE
 
 -- ISO 9506-2, TimeOfDay: milliseconds of the day in four octets, days since the beginning of 1984 in two
 abbrev pub IsStamp : List ℕ → ℕ → ℕ → Type 0
@@ -33,14 +33,14 @@ IsTime content secs frac quality = (length content ≡ 8) × (secs ≡ big_endia
 
 -- the choice of Data by its tag, and what the content spells
 abbrev pub IsPlain : Plain → Element → Type 0
-IsPlain (truth b) e = (e.tag ≡ boolean_tag) × IsBoolean e.content b
-IsPlain (bits bs) e = (e.tag ≡ bit_string_tag) × IsBits e.content bs
-IsPlain (int z) e = (e.tag ≡ integer_tag) × IsInt e.content z
-IsPlain (uint n) e = (e.tag ≡ unsigned_tag) × IsUint e.content n
-IsPlain (octets o) e = (e.tag ≡ octet_string_tag) × (o ≡ e.content)
-IsPlain (text t) e = (e.tag ≡ visible_string_tag) × IsText e.content t
-IsPlain (stamp ms days) e = (e.tag ≡ binary_time_tag) × IsStamp e.content ms days
-IsPlain (time secs frac quality) e = (e.tag ≡ utc_time_tag) × IsTime e.content secs frac quality
+IsPlain (truth b) e = (e.tag ≡ BOOLEAN) × IsBoolean e.content b
+IsPlain (bits bs) e = (e.tag ≡ BIT_STRING) × IsBits e.content bs
+IsPlain (int z) e = (e.tag ≡ INTEGER) × IsInt e.content z
+IsPlain (uint n) e = (e.tag ≡ UNSIGNED) × IsUint e.content n
+IsPlain (octets o) e = (e.tag ≡ OCTET_STRING) × (o ≡ e.content)
+IsPlain (text t) e = (e.tag ≡ VISIBLE_STRING) × IsText e.content t
+IsPlain (stamp ms days) e = (e.tag ≡ BINARY_TIME) × IsStamp e.content ms days
+IsPlain (time secs frac quality) e = (e.tag ≡ UTC_TIME) × IsTime e.content secs frac quality
 -- any other element of the class
 IsPlain other e = (is_context e.tag ≡ true) × (is_kind e.tag ≡ false)
 
@@ -48,7 +48,7 @@ IsPlain other e = (is_context e.tag ≡ true) × (is_kind e.tag ≡ false)
 abbrev mutual
   pub IsData : Seen → Element → Type 0
   IsData (plain p) e = IsPlain p e
-  IsData (structure r) e = (e.tag ≡ structure_tag) × (es : List Element) × IsRow e.content es × AreData r es
+  IsData (structure r) e = (e.tag ≡ STRUCTURE) × (es : List Element) × IsRow e.content es × AreData r es
 
   pub AreData : Row → List Element → Type 0
   AreData none [] = Unit {0}
@@ -69,7 +69,7 @@ IsRefusedRow IsRefusedPart n content f = (es : List Element) × (r : Row) × (fr
 abbrev pub IsRefusedData : ℕ → Element → DataFault → Type 0
 IsRefusedData zero e f = ((is_context e.tag ≡ false) × (f ≡ Tag)) ⊎ ((is_context e.tag ≡ true) × (f ≡ Depth))
 IsRefusedData (suc n) e f = ((is_context e.tag ≡ false) × (f ≡ Tag)) ⊎ ((is_context e.tag ≡ true)
-    × (((e.tag ≢ structure_tag) × (f ≡ Length) × ((s : Seen) → ¬ IsData s e)) ⊎ ((e.tag ≡ structure_tag) × IsRefusedRow (IsRefusedData n) n e.content f)))
+    × (((e.tag ≢ STRUCTURE) × (f ≡ Length) × ((s : Seen) → ¬ IsData s e)) ⊎ ((e.tag ≡ STRUCTURE) × IsRefusedRow (IsRefusedData n) n e.content f)))
 
 -- the octets are one element that is a value, at most ten deep
 abbrev pub IsSpelled : List ℕ → Seen → Type 0

@@ -1,5 +1,4 @@
 -- values and types as octets
-pub mod Tags
 pub mod Grammar
 pub mod Reading
 pub mod View

@@ -10,7 +10,7 @@ use Rattle.sv_base.specs.Tree.{Seen, Row, plain, structure, none, more, truth, i
 use Rattle.mms_data.specs.declared.fault.DataFault.{DataFault}
 use Rattle.mms_data.specs.declared.fault.DataFault.TheVariants.{Tag, Length, Depth, Memory}
 use Rattle.mms_data.specs.Grammar.{is_context}
-use Rattle.mms_data.specs.Tags.{binary_time_tag, bit_string_tag, boolean_tag, integer_tag, octet_string_tag, structure_tag, unsigned_tag, utc_time_tag, visible_string_tag}
+use Rattle.mms_data.specs.declared.tags.TheConstants.{BINARY_TIME, BIT_STRING, BOOLEAN, INTEGER, OCTET_STRING, STRUCTURE, UNSIGNED, UTC_TIME, VISIBLE_STRING}
 
 -- of want of memory nothing is said
 abbrev pub fault_of : DataFault → Option DataFault
@@ -50,14 +50,14 @@ time_at content = if length content == 8 then Ok (plain (time (big_endian (take 
 
 unfoldable pub plain_at : Element → Result Seen DataFault
 plain_at e =
-    if e.tag == boolean_tag then truth_at e.content
-    else if e.tag == bit_string_tag then bit_string_at e.content
-    else if e.tag == integer_tag then integer_at e.content
-    else if e.tag == unsigned_tag then unsigned_at e.content
-    else if e.tag == octet_string_tag then Ok (plain (octets e.content))
-    else if e.tag == visible_string_tag then string_at e.content
-    else if e.tag == binary_time_tag then stamp_at e.content
-    else if e.tag == utc_time_tag then time_at e.content
+    if e.tag == BOOLEAN then truth_at e.content
+    else if e.tag == BIT_STRING then bit_string_at e.content
+    else if e.tag == INTEGER then integer_at e.content
+    else if e.tag == UNSIGNED then unsigned_at e.content
+    else if e.tag == OCTET_STRING then Ok (plain (octets e.content))
+    else if e.tag == VISIBLE_STRING then string_at e.content
+    else if e.tag == BINARY_TIME then stamp_at e.content
+    else if e.tag == UTC_TIME then time_at e.content
     else Ok (plain other)
 
 -- the row of these
@@ -74,7 +74,7 @@ unfoldable pub data_at : ℕ → Element → Result Seen DataFault
 data_at zero e = if is_context e.tag then Err Depth else Err Tag
 data_at (suc n) e =
     if is_context e.tag
-    then (if e.tag == structure_tag then struct_at (data_at n) e.content else plain_at e)
+    then (if e.tag == STRUCTURE then struct_at (data_at n) e.content else plain_at e)
     else Err Tag
 
 -- all of the octets

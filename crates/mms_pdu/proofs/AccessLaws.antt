@@ -2,6 +2,7 @@
 use Rattle.std.proofs.Common.{◌≡◌, ℕ, Bool, true, false, cond, eqb, List, [], ◌∷◌, length, map, Some, None, refl, sym, ap, subst, ◌∙◌, arith}
 use Rattle.std.proofs.lemmas.Bool.{eqb-true, eq-eqb, ne_eqb}
 use Rattle.std.proofs.lemmas.List.{length-map}
+use Rattle.list_laws.proofs.Options.{some_is, chosen, either_way}
 use Rattle.ber_grammar.specs.Content.{IsBoolean}
 use Rattle.ber_grammar.specs.Element.{Element}
 use Rattle.ber_grammar.specs.Octets.{IsBytes}
@@ -10,7 +11,7 @@ use Rattle.ber_grammar.specs.Reader.{and_then}
 use Rattle.ber_grammar.specs.Reading.{boolean_at}
 use Rattle.ber_grammar.proofs.BooleanLaws.{boolean_again, boolean_found}
 use Rattle.ber_grammar.proofs.OctetLaws.{AllBytes}
-use Rattle.ber_grammar.proofs.OptionLaws.{some_is, kept_some, then_some, chosen, either_way}
+use Rattle.ber_grammar.proofs.OptionLaws.{kept_some, then_some}
 use Rattle.sv_base.specs.Tree.{Seen}
 use Rattle.ber_grammar.specs.Fields.{only_in, spot_in}
 use Rattle.mms_pdu.specs.Each.{each_in}

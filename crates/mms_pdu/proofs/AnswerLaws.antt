@@ -4,11 +4,12 @@ use Rattle.std.specs.Prelude.{is_some}
 use Rattle.std.specs.List.{AllByRecursion, list_all}
 use Rattle.std.proofs.lemmas.Bool.{eqb-true, eqb-false, eq-eqb, ne_eqb, and_parts, and_from, cond_both}
 use Rattle.std.proofs.lemmas.List.{nil_from_length}
+use Rattle.list_laws.proofs.Options.{either_way, some_of}
 use Rattle.ber_grammar.specs.Octets.{IsBytes}
 use Rattle.ber_grammar.specs.Element.{Element, IsRow}
 use Rattle.ber_grammar.specs.Place.{Spot, Piece, elements, content_piece}
 use Rattle.ber_grammar.specs.Reader.{and_then}
-use Rattle.ber_grammar.proofs.OptionLaws.{then_some, either_way}
+use Rattle.ber_grammar.proofs.OptionLaws.{then_some}
 use Rattle.ber_grammar.proofs.OctetLaws.{AllBytes, IsRow-bytes}
 use Rattle.ber_grammar.specs.Fields.{fields_in, only_in, spots, spot_in}
 use Rattle.mms_pdu.specs.Invoke.{below_at}
@@ -19,11 +20,6 @@ use Rattle.ber_grammar.proofs.FieldLaws.{elements_found, elements_again, in_plac
 use Rattle.mms_pdu.proofs.DatumLaws.{datum_found, datum_again}
 use Rattle.mms_pdu.proofs.AccessLaws.{access_octets, access_found, access_again}
 use Rattle.mms_pdu.proofs.TaggedLaws.{below_again, below_found}
-
--- a value that is there
-some_of : {A : Type 0} (o : Option A) → is_some o ≡ true → (x : A) × (o ≡ Some x)
-some_of (Some x) h = (x, refl)
-some_of None h = absurd cc
 
 holds_of : {A : Type 0} (test : A → Bool) (o : Option A) → holds test o ≡ true → (x : A) × (o ≡ Some x) × (test x ≡ true)
 holds_of test (Some x) h = (x, refl, h)

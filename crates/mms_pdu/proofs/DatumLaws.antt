@@ -2,10 +2,11 @@
 use Rattle.std.proofs.Common.{◌≡◌, List, map, Some, Result, Ok, refl, sym, ap, subst, ◌∙◌}
 use Rattle.std.specs.Prelude.{MatchResult}
 use Rattle.std.specs.Result.{result_unwrap_or}
+use Rattle.list_laws.proofs.Options.{ok_is}
 use Rattle.ber_grammar.specs.Octets.{IsBytes}
 use Rattle.ber_grammar.specs.Place.{Spot, Piece}
 use Rattle.ber_grammar.proofs.OptionLaws.{kept_some}
-use Rattle.ber_grammar.proofs.ReaderLaws.{bind_ok, ok_is}
+use Rattle.ber_grammar.proofs.ReaderLaws.{bind_ok}
 use Rattle.sv_base.specs.Tree.{Seen, plain, other}
 use Rattle.mms_data.specs.declared.fault.DataFault.{DataFault}
 use Rattle.mms_data.specs.Grammar.{IsWithin, IsRefusedData}

@@ -3,13 +3,14 @@ use Rattle.std.proofs.Common.{◌≡◌, ℕ, suc, Bool, true, List, [], ◌∷�
 use Rattle.std.specs.Prelude.{is_some}
 use Rattle.std.specs.List.{filter_map, cons_option}
 use Rattle.std.proofs.lemmas.Bool.{and_parts}
+use Rattle.list_laws.proofs.Options.{some_is, chosen}
 use Rattle.ber_grammar.specs.Element.{Element, IsRow}
 use Rattle.ber_grammar.specs.Fields.{fields_in, spots}
 use Rattle.ber_grammar.specs.Octets.{IsBytes}
 use Rattle.ber_grammar.specs.Place.{Spot, Piece, elements}
 use Rattle.ber_grammar.proofs.FieldLaws.{fields_none, elements_found, elements_again, in_place}
 use Rattle.ber_grammar.proofs.OctetLaws.{AllBytes, IsRow-bytes}
-use Rattle.ber_grammar.proofs.OptionLaws.{some_is, then_some, chosen}
+use Rattle.ber_grammar.proofs.OptionLaws.{then_some}
 use Rattle.mms_pdu.specs.Each.{Each, is_read, are_read, each_at, each_in}
 
 -- ---- no octet

@@ -2,13 +2,14 @@
 use Rattle.std.proofs.Common.{◌≡◌, ℕ, ◌<◌, ◌⊎◌, inl, inr, true, ◌&&◌, cond, ltb, eqb, ◌++◌, List, [], ◌∷◌, Option, Some, None, Result, Ok, Err, refl, sym, ap, subst, ◌∙◌, arith}
 use Rattle.std.specs.Prelude.{MatchResult}
 use Rattle.std.proofs.lemmas.Bool.{eqb-true, eq-eqb, ne_eqb, ltb-true, ltb-false, lt-ltb, le-ltb, and_parts, cond_both}
+use Rattle.list_laws.proofs.Options.{some_is, chosen, sides, err_is}
 use Rattle.ber_grammar.specs.Octets.{IsBytes}
 use Rattle.ber_grammar.specs.Element.{Element, IsRow}
 use Rattle.ber_grammar.specs.Reader.{Gives, Reads, and_then, kept}
 use Rattle.ber_grammar.specs.Rows.{parts_at}
-use Rattle.ber_grammar.proofs.OptionLaws.{some_is, then_some, chosen, sides}
+use Rattle.ber_grammar.proofs.OptionLaws.{then_some}
 use Rattle.ber_grammar.proofs.OctetLaws.{AllBytes, IsRow-bytes, Spells-bytes}
-use Rattle.ber_grammar.proofs.ReaderLaws.{exact_from, reads_from, err_is, refuses_at}
+use Rattle.ber_grammar.proofs.ReaderLaws.{exact_from, reads_from, refuses_at, gives_itself}
 use Rattle.mms_pdu.specs.declared.fault.PduFault.{PduFault}
 use Rattle.mms_pdu.specs.declared.fault.PduFault.TheVariants.{UnknownPdu, UnknownService, Argument, Invalid, SmallSize}
 use Rattle.mms_pdu.specs.declared.initiate.Initiate.{Initiate}
@@ -209,10 +210,6 @@ initiate_reads view r tag input fits g =
 
 -- ---- an initiate says one thing
 
-gives_itself : {Y F : Type 0} (r : Result Y F) → Gives (λ (y : Y). y) r r
-gives_itself (Ok y) = refl
-gives_itself (Err f) = refl
-
 pub initiate_exact : (tag : ℕ) (input : List ℕ) → IsBytes input → Reads (λ (i : Initiate). i) (initiate_at tag input) (IsAccepted tag input) (IsInitiateRefused tag input)
 initiate_exact tag input fits = initiate_reads (λ i. i) (initiate_at tag input) tag input fits (gives_itself (initiate_at tag input))
 
@@ -229,7 +226,7 @@ initiate_unique tag input i j a b = one_initiate tag input i j a.0 b.0
 pub initiate_one_cause : (tag : ℕ) (input : List ℕ) (f g : PduFault) → IsBytes input → IsInitiateRefused tag input f → IsInitiateRefused tag input g → f ≡ g
 initiate_one_cause tag input f g fits a b =
     let e = initiate_exact tag input fits in
-    err_is {Y = Initiate} f g (refuses_at (initiate_at tag input) f (e.refuses f a) ∙ sym (refuses_at (initiate_at tag input) g (e.refuses g b)))
+    err_is {A = Initiate} f g (refuses_at (initiate_at tag input) f (e.refuses f a) ∙ sym (refuses_at (initiate_at tag input) g (e.refuses g b)))
 
 pub initiate_not_both : (tag : ℕ) (input : List ℕ) (i : Initiate) (f : PduFault) → IsBytes input → IsAccepted tag input i → IsInitiateRefused tag input f → ⊥
 initiate_not_both tag input i f fits a b = let both = sym (accepted_again tag input i a) ∙ sym (refuses_at (initiate_at tag input) f ((initiate_exact tag input fits).refuses f b)) in cc

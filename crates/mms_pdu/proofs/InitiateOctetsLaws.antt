@@ -5,12 +5,13 @@ use Rattle.ber_grammar.specs.Element.{Element, IsRow}
 use Rattle.ber_write.specs.Minimal.{octets_of, written, uint_octets}
 use Rattle.ber_write.proofs.ElementLaws.{is_spelling}
 use Rattle.ber_write.proofs.NumberLaws.{uint_octets-spell, length-uint_octets}
+use Rattle.ber_write.proofs.LengthLaws.{octets_short}
+use Rattle.ber_write.proofs.WrittenLaws.{written_more, written_last, one_octet}
 use Rattle.mms_pdu.specs.declared.initiate.Initiate.{Initiate}
 use Rattle.mms_pdu.specs.Tagged.{IsNumber}
 use Rattle.mms_pdu.specs.Initiate.{AreFields, IsInitiate}
 use Rattle.mms_pdu.specs.InitiateReading.{initiate_at}
 use Rattle.mms_pdu.specs.InitiateOctets.{parameter_octets, details_with, answer_services, request_services, initiate_content, accepted, proposed, initiate_answer, initiate_request}
-use Rattle.mms_pdu.proofs.WrittenLaws.{octets_short, written_more, written_last, one_octet}
 use Rattle.mms_pdu.proofs.InitiateLaws.{accepted_again}
 
 -- ---- how long it is

@@ -9,7 +9,6 @@ pub mod VariableListLaws
 pub mod ServiceLaws
 pub mod RequestLaws
 pub mod TaggedLaws
-pub mod WrittenLaws
 pub mod InitiateLaws
 pub mod InitiateOctetsLaws
 pub mod AnswerLaws

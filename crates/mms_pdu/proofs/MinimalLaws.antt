@@ -5,6 +5,8 @@ use Rattle.std.proofs.lemmas.Bool.{ltb-true, eqb-false}
 use Rattle.std.proofs.lemmas.List.{length-append, append-nil}
 use Rattle.ber_write.specs.Minimal.{octets_of, uint_octets, CanBeTag}
 use Rattle.ber_write.proofs.NumberLaws.{length-uint_octets}
+use Rattle.ber_write.proofs.LengthLaws.{octets_short}
+use Rattle.ber_write.proofs.WrittenLaws.{one_octet}
 use Rattle.sv_base.specs.Depth.{depth, HasNoOther}
 use Rattle.sv_base.specs.Seen.{seen_of}
 use Rattle.sv_base.specs.Data.{data_of}
@@ -15,8 +17,7 @@ use Rattle.mms_pdu.specs.InitiateOctets.{accepted, proposed, answer_services, re
 use Rattle.mms_pdu.specs.AskingOctets.{domain_name, confirmed_octets, read_request, write_request, conclude_request}
 use Rattle.mms_pdu.specs.ReplyOctets.{class_tag, reason_tag, reason_code, answer_octets, error_octets, reject_octets, report_octets, concluded_octets}
 use Rattle.mms_pdu.specs.Said.{Said, nothing, holds, counts, groups, carries, IsMinimal, shortest, CanBeSaid, initiate_says, variable_says, read_says, write_says, answer_says, error_says, reject_says, report_says}
-use Rattle.mms_pdu.specs.Tags.{initiate_request_tag, initiate_response_tag, conclude_request_tag, conclude_response_tag}
-use Rattle.mms_pdu.proofs.WrittenLaws.{octets_short, one_octet}
+use Rattle.mms_pdu.specs.declared.tags.TheConstants.{INITIATE_REQUEST, INITIATE_RESPONSE, CONCLUDE_REQUEST, CONCLUDE_RESPONSE}
 use Rattle.mms_pdu.proofs.InitiateOctetsLaws.{content_short}
 use Rattle.mms_pdu.proofs.ReplyOctetsLaws.{class_can, reason_bounds, code_bound}
 use Rattle.mms_pdu.proofs.SaidLaws.{minimal}
@@ -77,19 +78,19 @@ initiate_is tag i services =
     last_groups tag _ _ (more_counts 128 i.size _ _ (more_counts 129 i.calling _ _ (more_counts 130 i.called _ _ (more_counts 131 i.nesting _ _
     (last_groups 164 _ _ (more_holds 128 (1 ∷ []) _ _ (more_holds 129 (5 ∷ 241 ∷ 0 ∷ []) _ _ (last_holds 130 services))))))))
 
-pub initiate_request_minimal : (size : ℕ) → size ≤ 65000 → IsMinimal (initiate_request size) (initiate_says initiate_request_tag (proposed size) request_services)
+pub initiate_request_minimal : (size : ℕ) → size ≤ 65000 → IsMinimal (initiate_request size) (initiate_says INITIATE_REQUEST (proposed size) request_services)
 unfolding initiate_request
 initiate_request_minimal size le =
-    fewest (initiate_request size) (initiate_says initiate_request_tag (proposed size) request_services) (initiate_is initiate_request_tag (proposed size) request_services)
-    (initiate_can initiate_request_tag (proposed size) request_services (can 168 refl) (omega (arith, le)) (omega arith) (omega arith) (omega arith))
-    (omega (arith, octets_short initiate_request_tag (initiate_content (proposed size) request_details), content_short (proposed size) request_details refl))
+    fewest (initiate_request size) (initiate_says INITIATE_REQUEST (proposed size) request_services) (initiate_is INITIATE_REQUEST (proposed size) request_services)
+    (initiate_can INITIATE_REQUEST (proposed size) request_services (can 168 refl) (omega (arith, le)) (omega arith) (omega arith) (omega arith))
+    (omega (arith, octets_short INITIATE_REQUEST (initiate_content (proposed size) request_details), content_short (proposed size) request_details refl))
 
-pub initiate_answer_minimal : (asked : Initiate) → IsMinimal (initiate_answer asked) (initiate_says initiate_response_tag (accepted asked) answer_services)
+pub initiate_answer_minimal : (asked : Initiate) → IsMinimal (initiate_answer asked) (initiate_says INITIATE_RESPONSE (accepted asked) answer_services)
 unfolding initiate_answer
 initiate_answer_minimal asked =
-    fewest (initiate_answer asked) (initiate_says initiate_response_tag (accepted asked) answer_services) (initiate_is initiate_response_tag (accepted asked) answer_services)
-    (initiate_can initiate_response_tag (accepted asked) answer_services (can 169 refl) (omega arith) (omega arith) (omega arith) (omega arith))
-    (omega (arith, octets_short initiate_response_tag (initiate_content (accepted asked) answer_details), content_short (accepted asked) answer_details refl))
+    fewest (initiate_answer asked) (initiate_says INITIATE_RESPONSE (accepted asked) answer_services) (initiate_is INITIATE_RESPONSE (accepted asked) answer_services)
+    (initiate_can INITIATE_RESPONSE (accepted asked) answer_services (can 169 refl) (omega arith) (omega arith) (omega arith) (omega arith))
+    (omega (arith, octets_short INITIATE_RESPONSE (initiate_content (accepted asked) answer_details), content_short (accepted asked) answer_details refl))
 
 -- ---- requests
 
@@ -114,8 +115,8 @@ write_minimal invoke d i v small known deep fractions types fits =
     fewest (write_request invoke d i v) (write_says invoke d i (seen_of v)) (confirmed_is invoke 165 _ _ (more_groups 160 _ _ _ _ (inner_is d i) (last_groups 160 _ _ (record { is = sym (append-nil (data_of v)) }))))
     (can 160 refl, (can 2 refl, omega (arith, small), (can 165 refl, variable_can d i (groups 160 (carries (seen_of v) nothing) nothing) (can 160 refl, (known, deep, fractions, types, tt), tt), tt)), tt) fits
 
-pub conclude_minimal : IsMinimal conclude_request (holds conclude_request_tag [] nothing)
-conclude_minimal = fewest conclude_request (holds conclude_request_tag [] nothing) (record { is = refl }) (can 139 refl, tt) (omega arith)
+pub conclude_minimal : IsMinimal conclude_request (holds CONCLUDE_REQUEST [] nothing)
+conclude_minimal = fewest conclude_request (holds CONCLUDE_REQUEST [] nothing) (record { is = refl }) (can 139 refl, tt) (omega arith)
 
 -- ---- what a server sends
 
@@ -172,5 +173,5 @@ pub report_minimal : (names results : List ℕ) → length (report_octets names 
 unfolding report_octets
 report_minimal names results fits = fewest (report_octets names results) (report_says names results) (last_groups 163 _ _ (last_groups 160 _ _ (record { is = ap (λ (x : List ℕ). names ++ x) (last_holds 160 results).is }))) (can 163 refl, (can 160 refl, (can 160 refl, tt), tt), tt) fits
 
-pub concluded_minimal : IsMinimal concluded_octets (holds conclude_response_tag [] nothing)
-concluded_minimal = fewest concluded_octets (holds conclude_response_tag [] nothing) (record { is = refl }) (can 140 refl, tt) (omega arith)
+pub concluded_minimal : IsMinimal concluded_octets (holds CONCLUDE_RESPONSE [] nothing)
+concluded_minimal = fewest concluded_octets (holds CONCLUDE_RESPONSE [] nothing) (record { is = refl }) (can 140 refl, tt) (omega arith)

@@ -3,6 +3,7 @@ use Rattle.std.proofs.Common.{◌≡◌, ℕ, ◌<◌, cond, eqb, ltb, List, [],
 use Rattle.std.specs.Option.{option_map}
 use Rattle.std.proofs.lemmas.Bool.{eqb-true, eq-eqb, ltb-true, lt-ltb}
 use Rattle.std.proofs.lemmas.List.{nil_from_length}
+use Rattle.list_laws.proofs.Options.{some_is, chosen, either_way}
 use Rattle.ber_grammar.specs.Content.{IsUint}
 use Rattle.ber_grammar.specs.Element.{Element, IsRow}
 use Rattle.ber_grammar.specs.Octets.{IsBytes}
@@ -10,7 +11,7 @@ use Rattle.ber_grammar.specs.Place.{Spot, Piece, content_piece, elements}
 use Rattle.ber_grammar.specs.Reader.{and_then, kept}
 use Rattle.ber_grammar.specs.Reading.{uint_at}
 use Rattle.ber_grammar.proofs.OctetLaws.{AllBytes}
-use Rattle.ber_grammar.proofs.OptionLaws.{some_is, kept_some, then_some, chosen, either_way}
+use Rattle.ber_grammar.proofs.OptionLaws.{kept_some, then_some}
 use Rattle.ber_grammar.proofs.UintLaws.{uint_again, uint_found}
 use Rattle.sv_base.specs.Tree.{Seen}
 use Rattle.ber_grammar.specs.Fields.{only_in, spot_in}
@@ -19,19 +20,9 @@ use Rattle.mms_pdu.specs.Service.{octets, Scope, of_vmd, of_domain, of_associati
 use Rattle.mms_pdu.specs.Service as services
 use Rattle.mms_pdu.specs.NameList.{IsClass, IsScope, IsAfter, IsNameList, octet_at, class_at, inner_scope_at, scope_at, after_at, name_list_at}
 use Rattle.ber_grammar.proofs.FieldLaws.{only_found, only_again, only_bytes}
+use Rattle.mms_pdu.proofs.TaggedLaws.{below_found, below_again}
 
 -- ---- numbers
-
-pub below_found : (bound : ℕ) (content : List ℕ) (n : ℕ) → IsBytes content → below_at bound content ≡ Some n → IsUint content n × (n < bound)
-unfolding below_at
-below_found bound content n fits h =
-    let a = then_some (kept (uint_at content)) (λ m. cond (ltb m bound) (Some m) None) n h in
-    let b = chosen (ltb a.0 bound) (Some a.0) n a.2 in
-    subst (λ (m : ℕ). IsUint content m × (m < bound)) (some_is a.0 n b.1) (uint_found content fits a.0 (kept_some (uint_at content) a.0 a.1), ltb-true a.0 bound b.0)
-
-pub below_again : (bound : ℕ) (content : List ℕ) (n : ℕ) → IsUint content n → n < bound → below_at bound content ≡ Some n
-unfolding below_at
-below_again bound content n is lt = rw (uint_again content n is, lt-ltb n bound lt) refl
 
 pub octet_found : (tag : ℕ) (s : Spot) (n : ℕ) → IsBytes s.element.content → octet_at tag s ≡ Some n → (s.element.tag ≡ tag) × IsUint s.element.content n × (n < 256)
 unfolding octet_at

@@ -1,12 +1,13 @@
 -- What is read of a name is what it spells, and what it spells is read.
 use Rattle.std.proofs.Common.{◌≡◌, ℕ, ◌+◌, cond, eqb, List, [], ◌∷◌, length, Some, None, refl, sym, ap, subst}
 use Rattle.std.proofs.lemmas.Bool.{eqb-true, eq-eqb}
+use Rattle.list_laws.proofs.Options.{some_is, chosen, either_way}
 use Rattle.ber_grammar.specs.Content.{IsText}
 use Rattle.ber_grammar.specs.Element.{Element, IsRow}
 use Rattle.ber_grammar.specs.Place.{Spot, Piece, content_piece, elements}
 use Rattle.ber_grammar.specs.Reader.{and_then, kept}
 use Rattle.ber_grammar.specs.Reading.{text_at}
-use Rattle.ber_grammar.proofs.OptionLaws.{some_is, kept_some, then_some, chosen, either_way}
+use Rattle.ber_grammar.proofs.OptionLaws.{kept_some, then_some}
 use Rattle.ber_grammar.proofs.TextLaws.{text_again, text_found}
 use Rattle.ber_grammar.specs.Fields.{fields_in}
 use Rattle.mms_pdu.specs.ObjectName.{Name, vmd, domain, association, name_octets, IsIdentifier, IsName, identifier_at, pair_at, name_at}

@@ -2,12 +2,13 @@
 use Rattle.std.proofs.Common.{◌≡◌, ◌≢◌, ℕ, ◌<◌, ◌⊎◌, ◌||◌, inl, inr, true, false, Bool, cond, eqb, List, [], ◌∷◌, length, Option, Some, None, Result, Ok, Err, refl, sym, ap, subst, ◌∙◌, arith}
 use Rattle.std.proofs.lemmas.Bool.{eq-eqb, ne_eqb}
 use Rattle.std.proofs.lemmas.List.{append-nil}
+use Rattle.list_laws.proofs.Options.{ok_is, err_is}
 use Rattle.ber_grammar.specs.Octets.{IsBytes}
 use Rattle.ber_grammar.specs.Element.{Element, Spells}
 use Rattle.ber_grammar.specs.Place.{Spot, Piece, content_piece}
 use Rattle.ber_grammar.specs.Reader.{Gives, Reads}
 use Rattle.ber_grammar.proofs.OctetLaws.{Spells-bytes}
-use Rattle.ber_grammar.proofs.ReaderLaws.{exact_from, reads_from, ok_is, err_is}
+use Rattle.ber_grammar.proofs.ReaderLaws.{exact_from, reads_from}
 use Rattle.ber_grammar.proofs.Theorems.{one_element}
 use Rattle.mms_pdu.specs.declared.fault.PduFault.{PduFault}
 use Rattle.mms_pdu.specs.declared.fault.PduFault.TheVariants.{UnknownPdu, UnknownService, Argument, Invalid, SmallSize}
@@ -272,7 +273,7 @@ pub one_reply : (input : List ℕ) (x y : Reply (List ℕ)) → IsBytes input �
 one_reply input x y fits p q = ok_is {F = PduFault} x y (sym (reply_again (somewhere input) x fits p) ∙ reply_again (somewhere input) y fits q)
 
 pub one_fault : (input : List ℕ) (f g : PduFault) → IsBytes input → IsReplyRefused input f → IsReplyRefused input g → f ≡ g
-one_fault input f g fits p q = err_is {Y = Reply (List ℕ)} f g (sym (refused_again (somewhere input) f fits p) ∙ refused_again (somewhere input) g fits q)
+one_fault input f g fits p q = err_is {A = Reply (List ℕ)} f g (sym (refused_again (somewhere input) f fits p) ∙ refused_again (somewhere input) g fits q)
 
 pub not_both : (input : List ℕ) (x : Reply (List ℕ)) (f : PduFault) → IsBytes input → IsReply input x → IsReplyRefused input f → ⊥
 not_both input x f fits p q = let one = reply_again (somewhere input) x fits p in let two = refused_again (somewhere input) f fits q in cc

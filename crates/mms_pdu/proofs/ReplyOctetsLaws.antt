@@ -6,17 +6,15 @@ use Rattle.std.proofs.lemmas.List.{length-append}
 use Rattle.ber_grammar.specs.Element.{Element, Spells, IsRow}
 use Rattle.ber_write.specs.Minimal.{octets_of, written, CanBeTag, uint_octets}
 use Rattle.ber_write.proofs.ElementLaws.{is_spelling}
-use Rattle.ber_write.proofs.NumberLaws.{uint_octets-spell, length-uint_octets}
+use Rattle.ber_write.proofs.NumberLaws.{uint_octets-spell, length-uint_octets, uint_short}
+use Rattle.ber_write.proofs.LengthLaws.{octets_short, octets_longer}
+use Rattle.ber_write.proofs.WrittenLaws.{written_last, one_octet}
 use Rattle.mms_pdu.specs.Tagged.{IsNumbered}
 use Rattle.mms_pdu.specs.Answer.{IsAnswerBody}
 use Rattle.mms_pdu.specs.Reply.{answer, error, reject, concluded, information, IsOctet, IsServiceError, IsReason, IsReply}
 use Rattle.mms_pdu.specs.ReplyOctets.{answer_content, answer_octets, class_tag, error_octets, reason_tag, reason_code, reject_octets, report_fields, report_octets, IsSpecificationElement, IsReport}
-use Rattle.mms_pdu.proofs.WrittenLaws.{octets_short, octets_longer, written_last, one_octet}
 
 -- ---- numbers
-
-uint_short : (n : ℕ) → length (uint_octets n) < 2 ^ 32
-uint_short n = omega (arith, length-uint_octets n)
 
 -- the number under a tag of one octet in front
 pub numbered_written : (tag n : ℕ) (rest : List ℕ) → tag < 256 → (tag % 32 ≡ 31 → ⊥) → n < 2 ^ 32 → IsNumbered tag (octets_of tag (uint_octets n) ++ rest) n rest

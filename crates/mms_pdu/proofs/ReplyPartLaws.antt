@@ -1,12 +1,13 @@
 -- What is read of the parts of what a server sends is what they spell, and what they spell is read.
 use Rattle.std.proofs.Common.{◌≡◌, ℕ, ◌+◌, ◌-◌, ◌<◌, ◌≤◌, ◌&&◌, inl, inr, true, cond, leb, eqb, List, [], ◌∷◌, Some, None, refl, sym, ap, subst, ◌∙◌, arith}
 use Rattle.std.proofs.lemmas.Bool.{eqb-true, eq-eqb, le-leb, leb-true, lt-ltb, le-ltb, and_parts}
+use Rattle.list_laws.proofs.Options.{some_is, chosen, sides}
 use Rattle.ber_grammar.specs.Octets.{IsBytes}
 use Rattle.ber_grammar.specs.Element.{Element, IsRow}
 use Rattle.ber_grammar.specs.Place.{Spot, Piece, placed, elements, content_piece}
 use Rattle.ber_grammar.specs.Reader.{and_then, kept}
 use Rattle.ber_grammar.specs.Rows.{parts_at, single}
-use Rattle.ber_grammar.proofs.OptionLaws.{some_is, then_some, chosen, sides}
+use Rattle.ber_grammar.proofs.OptionLaws.{then_some}
 use Rattle.ber_grammar.proofs.OctetLaws.{Spells-bytes, IsRow-bytes}
 use Rattle.ber_grammar.proofs.PlaceLaws.{elements-placed}
 use Rattle.ber_grammar.specs.Fields.{fields_in, only_in, spot_in, whole_at, whole_in}

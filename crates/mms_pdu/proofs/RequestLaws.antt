@@ -2,6 +2,7 @@
 use Rattle.std.proofs.Common.{◌≡◌, ℕ, ◌%◌, ◌^◌, ◌<◌, Bool, true, false, ◌||◌, cond, eqb, List, [], ◌∷◌, ◌++◌, length, Option, Some, None, Result, Ok, Err, inl, inr, ◌⊎◌, refl, sym, ap, subst, ◌∙◌, true≢false, arith}
 use Rattle.std.proofs.lemmas.Bool.{eqb-true, eqb-false, ne_eqb, or_cases}
 use Rattle.std.proofs.lemmas.List.{append-nil, nil_from_length, length-append}
+use Rattle.list_laws.proofs.Options.{some_is, chosen, ok_is, err_is}
 use Rattle.ber_grammar.specs.declared.fault.BerFault.{BerFault}
 use Rattle.ber_grammar.specs.Element.{Element, IsTag, Spells, Begins, IsRow}
 use Rattle.ber_grammar.specs.Octets.{IsBytes}
@@ -10,8 +11,8 @@ use Rattle.ber_grammar.specs.Reader.{and_then, kept, Gives, Reads}
 use Rattle.ber_grammar.specs.Reading.{first_at}
 use Rattle.ber_grammar.proofs.ElementLaws.{FirstTells, first_tells, first_again, IsTag-some}
 use Rattle.ber_grammar.proofs.OctetLaws.{Begins-bytes, Spells-bytes}
-use Rattle.ber_grammar.proofs.OptionLaws.{some_is, kept_some, then_some, chosen}
-use Rattle.ber_grammar.proofs.ReaderLaws.{exact_from, reads_from, gives_at, refuses_at, ok_is, err_is}
+use Rattle.ber_grammar.proofs.OptionLaws.{kept_some, then_some}
+use Rattle.ber_grammar.proofs.ReaderLaws.{exact_from, reads_from, gives_at, refuses_at}
 use Rattle.sv_base.specs.Tree.{Seen}
 use Rattle.mms_pdu.specs.declared.fault.PduFault.{PduFault}
 use Rattle.mms_pdu.specs.declared.fault.PduFault.TheVariants as faults
@@ -22,17 +23,11 @@ use Rattle.mms_pdu.specs.Service as services
 use Rattle.mms_pdu.specs.Services.{IsService, is_service, service_at}
 use Rattle.mms_pdu.specs.Request.{Request, confirmed, conclude, disregarded, request_octets, is_disregarded, is_pdu, IsRequest, MayBegin, IsOutOfPlace, IsRequestRefused, may_begin, or_fault}
 use Rattle.mms_pdu.specs.RequestReading.{behind, invoke_in, service_in, invoked, pdu_at, whole, request_in, without_places, request_at}
-use Rattle.ber_grammar.proofs.FieldLaws.{only_found, only_again, only_bytes}
-use Rattle.mms_pdu.proofs.NameListLaws.{below_found, below_again}
+use Rattle.ber_grammar.proofs.FieldLaws.{only_found, only_again, only_bytes, row_spells, spells_row}
 use Rattle.mms_pdu.proofs.ServiceLaws.{service_found, service_again}
+use Rattle.mms_pdu.proofs.TaggedLaws.{below_found, below_again}
 
 -- ---- one whole element
-
-row_spells : (octets : List ℕ) (e : Element) → IsRow octets (e ∷ []) → Spells octets e
-row_spells octets e (front, rest, s, p, none) = subst (λ (x : List ℕ). Spells x e) (sym (p ∙ ap (λ (x : List ℕ). front ++ x) none ∙ append-nil front)) s
-
-spells_row : (octets : List ℕ) (e : Element) → Spells octets e → IsRow octets (e ∷ [])
-spells_row octets e s = (octets, [], s, sym (append-nil octets), refl)
 
 abbrev OnlyTells : List ℕ → Option Spot → Type 0
 OnlyTells octets (Some s) = Spells octets s.element
@@ -335,7 +330,7 @@ pub one_request : (input : List ℕ) (x y : Request (List ℕ) Seen) → IsBytes
 one_request input x y fits p q = ok_is {F = PduFault} x y (sym (request_spelled input x fits p) ∙ request_spelled input y fits q)
 
 pub one_fault : (input : List ℕ) (f g : PduFault) → IsBytes input → IsRequestRefused input f → IsRequestRefused input g → f ≡ g
-one_fault input f g fits p q = err_is {Y = Request (List ℕ) Seen} f g (sym (request_fails input f fits p) ∙ request_fails input g fits q)
+one_fault input f g fits p q = err_is {A = Request (List ℕ) Seen} f g (sym (request_fails input f fits p) ∙ request_fails input g fits q)
 
 pub not_both : (input : List ℕ) (x : Request (List ℕ) Seen) (f : PduFault) → IsBytes input → IsRequest input x → IsRequestRefused input f → ⊥
 not_both input x f fits p q = let one = request_spelled input x fits p in let two = request_fails input f fits q in cc

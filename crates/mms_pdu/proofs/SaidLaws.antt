@@ -8,19 +8,15 @@ use Rattle.ber_write.specs.Minimal.{octets_of, uint_octets, written, CanBeTag}
 use Rattle.ber_write.proofs.ElementLaws.{is_minimal, is_spelling}
 use Rattle.ber_write.proofs.NumberLaws.{uint_octets-spell}
 use Rattle.ber_write.proofs.ShortestLaws.{uint_shortest}
+use Rattle.ber_write.proofs.LengthLaws.{octets_longer}
+use Rattle.ber_write.proofs.WrittenLaws.{element_least}
 use Rattle.sv_base.specs.Data.{data_seen}
 use Rattle.mms_data.proofs.FitLaws.{seen_fits}
 use Rattle.mms_data.proofs.ReadBackLaws.{followed}
-use Rattle.mms_data.proofs.ShortestLaws.{octets_grow, shortest as data_shortest}
+use Rattle.mms_data.proofs.ShortestLaws.{shortest as data_shortest}
 use Rattle.mms_pdu.specs.Said.{Said, nothing, holds, counts, groups, carries, copies, IsSaid, IsMinimal, shortest, CanBeSaid}
-use Rattle.mms_pdu.proofs.WrittenLaws.{octets_longer}
 
 -- ---- the fewest octets
-
--- an element is no shorter than it is written with a content that is no longer
-element_least : (tag : ℕ) (front content : List ℕ) (e : Element) → IsBytes front → Spells front e → e.tag ≡ tag → length content ≤ length e.content → length (octets_of tag content) ≤ length front
-element_least tag front content e fits spelled is_tag le =
-    omega (arith, (is_minimal front e fits spelled).0, ap (λ (t : ℕ). length (octets_of t e.content)) is_tag, octets_grow tag content e.content le)
 
 -- and then the others
 both_least : (front rest input one more : List ℕ) → input ≡ front ++ rest → length one ≤ length front → length more ≤ length rest → length (one ++ more) ≤ length input

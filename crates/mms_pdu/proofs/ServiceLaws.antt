@@ -2,12 +2,13 @@
 use Rattle.std.proofs.Common.{◌≡◌, ℕ, eqb, List, length, Option, Some, refl, subst}
 use Rattle.std.proofs.lemmas.Bool.{eqb-true}
 use Rattle.std.proofs.lemmas.List.{nil_from_length}
+use Rattle.list_laws.proofs.Options.{some_is, chosen, either_way}
 use Rattle.ber_grammar.specs.Element.{Element, IsRow}
 use Rattle.ber_grammar.specs.Octets.{IsBytes}
 use Rattle.ber_grammar.specs.Place.{Spot, Piece, content_piece, elements}
 use Rattle.ber_grammar.specs.Reader.{and_then}
 use Rattle.ber_grammar.proofs.OctetLaws.{AllBytes, IsRow-bytes}
-use Rattle.ber_grammar.proofs.OptionLaws.{some_is, then_some, chosen, either_way}
+use Rattle.ber_grammar.proofs.OptionLaws.{then_some}
 use Rattle.sv_base.specs.Tree.{Seen}
 use Rattle.ber_grammar.specs.Fields.{fields_in, only_in, spot_in, spots}
 use Rattle.mms_pdu.specs.ObjectName.{name_at}

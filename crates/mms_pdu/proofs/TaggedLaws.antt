@@ -2,6 +2,7 @@
 use Rattle.std.proofs.Common.{◌≡◌, ℕ, ◌^◌, ◌<◌, cond, ltb, eqb, List, [], ◌∷◌, ◌++◌, length, Some, None, arith, Result, Ok, refl, sym, ap, subst, ◌∙◌}
 use Rattle.std.proofs.lemmas.Bool.{eqb-true, eq-eqb, ltb-true, lt-ltb}
 use Rattle.std.proofs.lemmas.List.{nil_from_length, append-nil}
+use Rattle.list_laws.proofs.Options.{some_is, chosen}
 use Rattle.ber_grammar.specs.declared.fault.BerFault.{BerFault}
 use Rattle.ber_grammar.specs.Octets.{IsBytes}
 use Rattle.ber_grammar.specs.Element.{Element, IsTag, Spells, Begins, IsRow}
@@ -10,7 +11,7 @@ use Rattle.ber_grammar.specs.Place.{Spot, Piece}
 use Rattle.ber_grammar.specs.Reader.{and_then, kept}
 use Rattle.ber_grammar.specs.Reading.{first_at, uint_at}
 use Rattle.ber_grammar.specs.Rows.{parts_at}
-use Rattle.ber_grammar.proofs.OptionLaws.{some_is, kept_some, then_some, chosen}
+use Rattle.ber_grammar.proofs.OptionLaws.{kept_some, then_some}
 use Rattle.ber_grammar.proofs.OctetLaws.{Begins-bytes}
 use Rattle.ber_grammar.proofs.ElementLaws.{FirstTells, first_tells, first_again}
 use Rattle.ber_grammar.proofs.PartsLaws.{PartsTells, parts_tells, row_again}

@@ -1,11 +1,12 @@
 -- What is read of a variable is what it spells, and what it spells is read.
 use Rattle.std.proofs.Common.{◌≡◌, ℕ, Bool, true, false, eqb, List, [], ◌∷◌, map, Some, refl, sym, subst}
 use Rattle.std.proofs.lemmas.Bool.{eqb-true, eq-eqb}
+use Rattle.list_laws.proofs.Options.{some_is, chosen}
 use Rattle.ber_grammar.specs.Element.{Element, IsRow}
 use Rattle.ber_grammar.specs.Octets.{IsBytes}
 use Rattle.ber_grammar.specs.Place.{Spot, Piece, content_piece, elements}
 use Rattle.ber_grammar.specs.Reader.{and_then}
-use Rattle.ber_grammar.proofs.OptionLaws.{some_is, then_some, chosen}
+use Rattle.ber_grammar.proofs.OptionLaws.{then_some}
 use Rattle.mms_pdu.specs.Each.{Each, each_in}
 use Rattle.ber_grammar.specs.Fields.{fields_in, only_in, spot_in, spots}
 use Rattle.mms_pdu.specs.ObjectName.{Name, name_octets, IsName, IsOnlyName, name_at}

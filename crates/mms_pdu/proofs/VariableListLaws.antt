@@ -1,12 +1,13 @@
 -- Defining and deleting lists of variables: what is read is what is spelled, and what is spelled is read.
 use Rattle.std.proofs.Common.{◌≡◌, ℕ, eqb, List, [], ◌∷◌, map, Some, inl, inr, refl, sym, subst, arith}
 use Rattle.std.proofs.lemmas.Bool.{eqb-true, eq-eqb, ne_eqb}
+use Rattle.list_laws.proofs.Options.{some_is, chosen, either_way}
 use Rattle.ber_grammar.specs.Element.{Element}
 use Rattle.ber_grammar.specs.Octets.{IsBytes}
 use Rattle.ber_grammar.specs.Place.{Spot, Piece, content_piece, elements}
 use Rattle.ber_grammar.specs.Reader.{and_then}
 use Rattle.ber_grammar.proofs.OctetLaws.{AllBytes}
-use Rattle.ber_grammar.proofs.OptionLaws.{some_is, then_some, chosen, either_way}
+use Rattle.ber_grammar.proofs.OptionLaws.{then_some}
 use Rattle.sv_base.specs.Tree.{Seen}
 use Rattle.mms_pdu.specs.Each.{each_in}
 use Rattle.mms_pdu.specs.ObjectName.{Name, name_octets, name_at}

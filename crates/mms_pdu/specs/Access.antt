@@ -13,39 +13,40 @@ use Rattle.mms_pdu.specs.Variable.{Variable, AreVariables, variable_at, named_at
 use Rattle.mms_pdu.specs.Datum.{AreData, datum_at}
 use Rattle.mms_pdu.specs.Service.{Service}
 use Rattle.mms_pdu.specs.Service as services
+use Rattle.mms_pdu.specs.declared.tags.TheConstants.{ACCESS_SPECIFICATION, LIST_OF_DATA, LIST_OF_VARIABLE, SPECIFICATION_WITH_RESULT, VARIABLE_LIST_NAME}
 
 -- variables, or a named variable list
 pub data Access (N : Type 0) : Type 0 where
   variables : List (Variable N) → Access N
   named : Name N → Access N
 
--- 0xA0 is listOfVariable, 0xA1 variableListName
+-- listOfVariable, or variableListName
 abbrev pub IsAccess : Element → Access (List ℕ) → Type 0
-IsAccess e (variables vs) = (e.tag ≡ 0xA0) × AreVariables e.content vs
-IsAccess e (named n) = (e.tag ≡ 0xA1) × IsOnlyName e.content n
+IsAccess e (variables vs) = (e.tag ≡ LIST_OF_VARIABLE) × AreVariables e.content vs
+IsAccess e (named n) = (e.tag ≡ VARIABLE_LIST_NAME) × IsOnlyName e.content n
 
--- what a read names, 0xA1
+-- what a read names
 abbrev pub IsReadAccess : Element → Access (List ℕ) → Type 0
-IsReadAccess e access = (e.tag ≡ 0xA1) × (k : Element) × IsRow e.content (k ∷ []) × IsAccess k access
+IsReadAccess e access = (e.tag ≡ ACCESS_SPECIFICATION) × (k : Element) × IsRow e.content (k ∷ []) × IsAccess k access
 
--- specificationWithResult, 0x80, false where it is absent, and then what is to be read
+-- specificationWithResult, false where it is absent, and then what is to be read
 abbrev pub IsRead : List Element → Access (List ℕ) → Bool → Type 0
 IsRead [] access spec = ⊥
 IsRead (a ∷ []) access spec = (spec ≡ false) × IsReadAccess a access
-IsRead (b ∷ a ∷ []) access spec = (b.tag ≡ 0x80) × IsBoolean b.content spec × IsReadAccess a access
+IsRead (b ∷ a ∷ []) access spec = (b.tag ≡ SPECIFICATION_WITH_RESULT) × IsBoolean b.content spec × IsReadAccess a access
 IsRead (b ∷ a ∷ c ∷ es) access spec = ⊥
 
--- what is to be written, and listOfData, 0xA0
+-- what is to be written, and listOfData
 abbrev pub IsWrite : List Element → Access (List ℕ) → List Seen → Type 0
-IsWrite (a ∷ d ∷ []) access values = IsAccess a access × (d.tag ≡ 0xA0) × AreData d.content values
+IsWrite (a ∷ d ∷ []) access values = IsAccess a access × (d.tag ≡ LIST_OF_DATA) × AreData d.content values
 IsWrite es access values = ⊥
 
 -- ---- reading
 
 unfoldable pub access_at : Spot → Option (Access Piece)
 access_at s =
-    if s.element.tag == 0xA0 then and_then (each_in variable_at (content_piece s)) (λ vs. Some (variables vs))
-    else and_then (named_at 0xA1 s) (λ n. Some (named n))
+    if s.element.tag == LIST_OF_VARIABLE then and_then (each_in variable_at (content_piece s)) (λ vs. Some (variables vs))
+    else and_then (named_at VARIABLE_LIST_NAME s) (λ n. Some (named n))
 
 -- a boolean, where the octets are one
 abbrev pub truth_at : List ℕ → Option Bool
@@ -56,12 +57,12 @@ to_read spec (variables vs) = services.read vs spec
 to_read spec (named n) = services.read_set n spec
 
 unfoldable pub read_access_at : Bool → Spot → Option (Service Piece Spot)
-read_access_at spec s = if s.element.tag == 0xA1 then and_then (and_then (only_in (content_piece s)) access_at) (λ access. Some (to_read spec access)) else None
+read_access_at spec s = if s.element.tag == ACCESS_SPECIFICATION then and_then (and_then (only_in (content_piece s)) access_at) (λ access. Some (to_read spec access)) else None
 
 unfoldable pub read_at : List Spot → Option (Service Piece Spot)
 read_at [] = None
 read_at (s ∷ []) = read_access_at false s
-read_at (s ∷ t ∷ []) = if s.element.tag == 0x80 then and_then (truth_at s.element.content) (λ spec. read_access_at spec t) else None
+read_at (s ∷ t ∷ []) = if s.element.tag == SPECIFICATION_WITH_RESULT then and_then (truth_at s.element.content) (λ spec. read_access_at spec t) else None
 read_at (s ∷ t ∷ u ∷ more) = None
 
 -- whether two elements hold as many
@@ -74,7 +75,7 @@ to_write s t (variables vs) ds = and_then (counts_agree_at s t) (λ agree. if ag
 to_write s t (named n) ds = Some (services.write_set n ds)
 
 unfoldable pub data_list_at : Spot → Option (List Spot)
-data_list_at s = if s.element.tag == 0xA0 then each_in datum_at (content_piece s) else None
+data_list_at s = if s.element.tag == LIST_OF_DATA then each_in datum_at (content_piece s) else None
 
 unfoldable pub write_at : List Spot → Option (Service Piece Spot)
 write_at [] = None

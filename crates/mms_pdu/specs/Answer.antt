@@ -11,31 +11,31 @@ use Rattle.ber_grammar.specs.Fields.{fields_in, only_in}
 use Rattle.mms_pdu.specs.Invoke.{below_at}
 use Rattle.mms_pdu.specs.Access.{Access, IsAccess, access_at}
 use Rattle.mms_pdu.specs.Datum.{datum_at}
-use Rattle.mms_pdu.specs.Tags.{read_tag, write_tag}
+use Rattle.mms_pdu.specs.declared.tags.TheConstants.{FAILURE, LIST_OF_RESULT, READ, SPECIFICATION_OF_RESULT, SUCCESS, WRITE}
 
--- DataAccessError, a number of 8 bits under 0x80
+-- DataAccessError, a number of 8 bits
 abbrev pub IsFailed : Element → Type 0
-IsFailed e = (e.tag ≡ 0x80) × (code : ℕ) × IsUint e.content code × (code < 256)
+IsFailed e = (e.tag ≡ FAILURE) × (code : ℕ) × IsUint e.content code × (code < 256)
 
 -- AccessResult: a failure, or else Data, at most ten deep
 abbrev pub IsResult : Element → Type 0
-IsResult e = IsFailed e ⊎ ((e.tag ≢ 0x80) × (value : Seen) × IsWithin 10 e value)
+IsResult e = IsFailed e ⊎ ((e.tag ≢ FAILURE) × (value : Seen) × IsWithin 10 e value)
 
--- of a write: a failure, or success, 0x81, which has no content
+-- of a write: a failure, or success, which has no content
 abbrev pub IsWritten : Element → Type 0
-IsWritten e = IsFailed e ⊎ ((e.tag ≡ 0x81) × (e.content ≡ []))
+IsWritten e = IsFailed e ⊎ ((e.tag ≡ SUCCESS) × (e.content ≡ []))
 
 -- the content is such elements
 abbrev pub AreAll : (Element → Type 0) → List ℕ → Type 0
 AreAll Is content = (es : List Element) × IsRow content es × AllByRecursion Is es
 
--- what was read, 0xA0
+-- what was read
 abbrev pub IsSpecification : Element → Type 0
-IsSpecification e = (e.tag ≡ 0xA0) × (k : Element) × IsRow e.content (k ∷ []) × (access : Access (List ℕ)) × IsAccess k access
+IsSpecification e = (e.tag ≡ SPECIFICATION_OF_RESULT) × (k : Element) × IsRow e.content (k ∷ []) × (access : Access (List ℕ)) × IsAccess k access
 
--- listOfAccessResult, 0xA1
+-- listOfAccessResult
 abbrev pub AreResults : Element → Type 0
-AreResults e = (e.tag ≡ 0xA1) × AreAll IsResult e.content
+AreResults e = (e.tag ≡ LIST_OF_RESULT) × AreAll IsResult e.content
 
 -- the specification, which may be absent, and the results
 abbrev pub IsReadAnswer : List Element → Type 0
@@ -46,8 +46,8 @@ IsReadAnswer (s ∷ r ∷ e ∷ es) = ⊥
 
 -- The body of the answer to a read and to a write is of its form. Of other bodies nothing is said.
 pub record IsAnswerBody (tag : ℕ) (body : List ℕ) : Type 0 where
-  pub read : tag ≡ read_tag → (es : List Element) × IsRow body es × IsReadAnswer es
-  pub written : tag ≡ write_tag → AreAll IsWritten body
+  pub read : tag ≡ READ → (es : List Element) × IsRow body es × IsReadAnswer es
+  pub written : tag ≡ WRITE → AreAll IsWritten body
 
 -- ---- reading
 
@@ -59,16 +59,16 @@ abbrev pub is_failed : Spot → Bool
 is_failed s = is_some (below_at 256 s.element.content)
 
 unfoldable pub is_result : Spot → Bool
-is_result s = if s.element.tag == 0x80 then is_failed s else is_some (datum_at s)
+is_result s = if s.element.tag == FAILURE then is_failed s else is_some (datum_at s)
 
 unfoldable pub is_written : Spot → Bool
-is_written s = if s.element.tag == 0x80 then is_failed s else s.element.tag == 0x81 && length s.element.content == 0
+is_written s = if s.element.tag == FAILURE then is_failed s else s.element.tag == SUCCESS && length s.element.content == 0
 
 unfoldable pub is_specification : Spot → Bool
-is_specification s = s.element.tag == 0xA0 && is_some (and_then (only_in (content_piece s)) access_at)
+is_specification s = s.element.tag == SPECIFICATION_OF_RESULT && is_some (and_then (only_in (content_piece s)) access_at)
 
 unfoldable pub are_results : Spot → Bool
-are_results s = s.element.tag == 0xA1 && holds (list_all is_result) (fields_in (content_piece s))
+are_results s = s.element.tag == LIST_OF_RESULT && holds (list_all is_result) (fields_in (content_piece s))
 
 abbrev pub is_read_answer : List Spot → Bool
 is_read_answer [] = false
@@ -78,6 +78,6 @@ is_read_answer (s ∷ r ∷ t ∷ more) = false
 
 unfoldable pub is_answer_body : ℕ → Piece → Bool
 is_answer_body tag body =
-    if tag == read_tag then holds is_read_answer (fields_in body)
-    else if tag == write_tag then holds (list_all is_written) (fields_in body)
+    if tag == READ then holds is_read_answer (fields_in body)
+    else if tag == WRITE then holds (list_all is_written) (fields_in body)
     else true

@@ -7,33 +7,33 @@ use Rattle.sv_base.specs.Data.{data_of}
 use Rattle.sv_base.specs.declared.value.Value.{Value}
 use Rattle.mms_pdu.specs.ObjectName.{domain}
 use Rattle.mms_pdu.specs.Variable.{Variable}
-use Rattle.mms_pdu.specs.Tags.{conclude_request_tag, confirmed_request_tag, read_tag, write_tag}
+use Rattle.mms_pdu.specs.declared.tags.TheConstants.{ACCESS_SPECIFICATION, CONCLUDE_REQUEST, CONFIRMED_REQUEST, DOMAIN_SPECIFIC, IDENTIFIER, INVOKE_ID, LIST_OF_DATA, LIST_OF_VARIABLE, NAME, READ, VARIABLE, WRITE}
 
 -- the octets of an Identifier, a VisibleString
 abbrev pub AreVisible : List ℕ → Type 0
 AreVisible octets = (k : ℕ) → k < length octets → IsVisible (slice_index octets k)
 
--- a domain-specific name, 0xA1, of the domain's identifier and the item's
+-- a domain-specific name of the domain's identifier and the item's
 abbrev pub domain_name : List ℕ → List ℕ → List ℕ
-domain_name d i = octets_of 0xA1 (octets_of 0x1A d ++ octets_of 0x1A i)
+domain_name d i = octets_of DOMAIN_SPECIFIC (octets_of IDENTIFIER d ++ octets_of IDENTIFIER i)
 
--- listOfVariable, 0xA0, of the one variable of this name, a SEQUENCE, 0x30, without alternate access
+-- listOfVariable of the one variable of this name, without alternate access
 abbrev pub one_variable : List ℕ → List ℕ → List ℕ
-one_variable d i = octets_of 0xA0 (octets_of 0x30 (octets_of 0xA0 (domain_name d i)))
+one_variable d i = octets_of LIST_OF_VARIABLE (octets_of VARIABLE (octets_of NAME (domain_name d i)))
 
 -- a confirmed service under an invoke number
 abbrev pub confirmed_octets : ℕ → ℕ → List ℕ → List ℕ
-confirmed_octets invoke tag body = octets_of confirmed_request_tag (octets_of 2 (uint_octets invoke) ++ octets_of tag body)
+confirmed_octets invoke tag body = octets_of CONFIRMED_REQUEST (octets_of INVOKE_ID (uint_octets invoke) ++ octets_of tag body)
 
 unfoldable pub read_request : ℕ → List ℕ → List ℕ → List ℕ
-read_request invoke d i = confirmed_octets invoke read_tag (octets_of 0xA1 (one_variable d i))
+read_request invoke d i = confirmed_octets invoke READ (octets_of ACCESS_SPECIFICATION (one_variable d i))
 
 unfoldable pub write_request : ℕ → List ℕ → List ℕ → Value → List ℕ
-write_request invoke d i value = confirmed_octets invoke write_tag (one_variable d i ++ octets_of 0xA0 (data_of value))
+write_request invoke d i value = confirmed_octets invoke WRITE (one_variable d i ++ octets_of LIST_OF_DATA (data_of value))
 
 -- Conclude-RequestPDU, a NULL
 abbrev pub conclude_request : List ℕ
-conclude_request = conclude_request_tag ∷ 0 ∷ []
+conclude_request = CONCLUDE_REQUEST ∷ 0 ∷ []
 
 -- the variable that a request names
 abbrev pub named_variable : List ℕ → List ℕ → Variable (List ℕ)

@@ -5,6 +5,7 @@ use Rattle.mms_pdu.specs.declared.fault.PduFault.{PduFault}
 use Rattle.mms_pdu.specs.declared.fault.PduFault.TheVariants.{UnknownPdu, UnknownService, Argument, Invalid, SmallSize}
 use Rattle.mms_pdu.specs.declared.initiate.Initiate.{Initiate}
 use Rattle.mms_pdu.specs.Tagged.{IsNumber}
+use Rattle.mms_pdu.specs.declared.tags.TheConstants.{INIT_DETAIL, LOCAL_DETAIL, NESTING_LEVEL, OUTSTANDING_CALLED, OUTSTANDING_CALLING, PARAMETER_CBB, SERVICES_SUPPORTED, VERSION_NUMBER}
 
 -- a number that may be left out, and what it counts as then
 abbrev pub IsOptional : ℕ → ℕ → List Element → ℕ → Type 0
@@ -17,7 +18,7 @@ abbrev pub AreDetails : List Element → Type 0
 AreDetails [] = ⊥
 AreDetails (a ∷ []) = ⊥
 AreDetails (a ∷ b ∷ []) = ⊥
-AreDetails (a ∷ b ∷ c ∷ []) = (a.tag ≡ 0x80) × (b.tag ≡ 0x81) × (c.tag ≡ 0x82)
+AreDetails (a ∷ b ∷ c ∷ []) = (a.tag ≡ VERSION_NUMBER) × (b.tag ≡ PARAMETER_CBB) × (c.tag ≡ SERVICES_SUPPORTED)
 AreDetails (a ∷ b ∷ c ∷ d ∷ es) = ⊥
 
 -- the fields, in their order
@@ -29,11 +30,11 @@ pub record AreFields (es : List Element) (i : Initiate) : Type 0 where
   pub detail : Element
   pub details : List Element
   pub whole : es ≡ size ++ (calling ∷ called ∷ (nesting ++ detail ∷ []))
-  pub is_size : IsOptional 0x80 65000 size i.size
-  pub is_calling : IsNumber 0x81 calling i.calling
-  pub is_called : IsNumber 0x82 called i.called
-  pub is_nesting : IsOptional 0x83 10 nesting i.nesting
-  pub is_detail : detail.tag ≡ 0xA4
+  pub is_size : IsOptional LOCAL_DETAIL 65000 size i.size
+  pub is_calling : IsNumber OUTSTANDING_CALLING calling i.calling
+  pub is_called : IsNumber OUTSTANDING_CALLED called i.called
+  pub is_nesting : IsOptional NESTING_LEVEL 10 nesting i.nesting
+  pub is_detail : detail.tag ≡ INIT_DETAIL
   pub row : IsRow detail.content details
   pub are_details : AreDetails details
 

@@ -1,5 +1,4 @@
 -- what is in a PDU, and which elements spell it
-pub mod Tags
 pub mod Each
 pub mod ObjectName
 pub mod Invoke

@@ -6,6 +6,7 @@ use Rattle.ber_grammar.specs.Place.{Spot, Piece, content_piece}
 use Rattle.ber_grammar.specs.Reader.{and_then, kept}
 use Rattle.ber_grammar.specs.Reading.{text_at}
 use Rattle.ber_grammar.specs.Fields.{fields_in}
+use Rattle.mms_pdu.specs.declared.tags.TheConstants.{AA_SPECIFIC, DOMAIN_SPECIFIC, IDENTIFIER, VMD_SPECIFIC}
 
 -- a name, of octets or of pieces of the input
 pub data Name (N : Type 0) : Type 0 where
@@ -19,15 +20,15 @@ name_octets (vmd p) = vmd p.octets
 name_octets (domain d i) = domain d.octets i.octets
 name_octets (association p) = association p.octets
 
--- 0x1A is a VisibleString
+-- a VisibleString
 abbrev pub IsIdentifier : Element → List ℕ → Type 0
-IsIdentifier e o = (e.tag ≡ 0x1A) × IsText e.content o
+IsIdentifier e o = (e.tag ≡ IDENTIFIER) × IsText e.content o
 
--- 0x80 is vmd-specific, 0xA1 domain-specific with the domain's identifier and the item's, 0x82 aa-specific
+-- vmd-specific, domain-specific with the domain's identifier and the item's, or aa-specific
 abbrev pub IsName : Element → Name (List ℕ) → Type 0
-IsName e (vmd o) = (e.tag ≡ 0x80) × (o ≡ e.content)
-IsName e (domain d i) = (e.tag ≡ 0xA1) × (a b : Element) × IsRow e.content (a ∷ b ∷ []) × IsIdentifier a d × IsIdentifier b i
-IsName e (association o) = (e.tag ≡ 0x82) × (o ≡ e.content)
+IsName e (vmd o) = (e.tag ≡ VMD_SPECIFIC) × (o ≡ e.content)
+IsName e (domain d i) = (e.tag ≡ DOMAIN_SPECIFIC) × (a b : Element) × IsRow e.content (a ∷ b ∷ []) × IsIdentifier a d × IsIdentifier b i
+IsName e (association o) = (e.tag ≡ AA_SPECIFIC) × (o ≡ e.content)
 
 -- the content is one name
 abbrev pub IsOnlyName : List ℕ → Name (List ℕ) → Type 0
@@ -36,7 +37,7 @@ IsOnlyName content n = (e : Element) × IsRow content (e ∷ []) × IsName e n
 -- ---- reading
 
 unfoldable pub identifier_at : Spot → Option Piece
-identifier_at s = if s.element.tag == 0x1A then and_then (kept (text_at s.element.content)) (λ o. Some (content_piece s)) else None
+identifier_at s = if s.element.tag == IDENTIFIER then and_then (kept (text_at s.element.content)) (λ o. Some (content_piece s)) else None
 
 abbrev pub pair_at : List Spot → Option (Name Piece)
 pair_at [] = None
@@ -46,7 +47,7 @@ pair_at (a ∷ b ∷ c ∷ more) = None
 
 unfoldable pub name_at : Spot → Option (Name Piece)
 name_at s =
-    if s.element.tag == 0x80 then Some (vmd (content_piece s))
-    else if s.element.tag == 0xA1 then and_then (fields_in (content_piece s)) pair_at
-    else if s.element.tag == 0x82 then Some (association (content_piece s))
+    if s.element.tag == VMD_SPECIFIC then Some (vmd (content_piece s))
+    else if s.element.tag == DOMAIN_SPECIFIC then and_then (fields_in (content_piece s)) pair_at
+    else if s.element.tag == AA_SPECIFIC then Some (association (content_piece s))
     else None

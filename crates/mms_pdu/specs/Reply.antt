@@ -9,7 +9,7 @@ use Rattle.mms_pdu.specs.Request.{is_pdu, MayBegin}
 use Rattle.mms_pdu.specs.Tagged.{IsNumbered}
 use Rattle.mms_pdu.specs.Answer.{IsAnswerBody}
 use Rattle.mms_pdu.specs.ReplyOctets.{class_tag}
-use Rattle.mms_pdu.specs.Tags.{conclude_response_tag, confirmed_error_tag, confirmed_response_tag, reject_tag, unconfirmed_tag}
+use Rattle.mms_pdu.specs.declared.tags.TheConstants.{CONCLUDE_RESPONSE, CONFIRMED_ERROR, CONFIRMED_RESPONSE, ERROR_CLASS, INVOKE_ID, ORIGINAL_INVOKE_ID, REJECT, SERVICE_ERROR, UNCONFIRMED}
 
 -- P is what octets are, as they are or as a piece of the input.
 pub data Reply (P : Type 0) : Type 0 where
@@ -38,22 +38,22 @@ IsOctet content n = IsUint content n × (n < 256)
 abbrev pub IsService : List ℕ → ℕ → List ℕ → Type 0
 IsService octets tag body = (e : Element) × Spells octets e × (e.tag ≡ tag) × (e.content ≡ body) × IsAnswerBody tag body
 
--- ServiceError, 0xA2, whose errorClass, 0xA0, is a choice: the number of its tag is the class, what it holds the code
+-- ServiceError, whose errorClass is a choice: the number of its tag is the class, what it holds the code
 abbrev pub IsServiceError : List ℕ → ℕ → ℕ → Type 0
-IsServiceError octets class code = (e k f : Element) × Spells octets e × (e.tag ≡ 0xA2) × IsRow e.content (k ∷ []) × (k.tag ≡ 0xA0) × IsRow k.content (f ∷ []) × (class < 256) × (f.tag ≡ class_tag class) × IsOctet f.content code
+IsServiceError octets class code = (e k f : Element) × Spells octets e × (e.tag ≡ SERVICE_ERROR) × IsRow e.content (k ∷ []) × (k.tag ≡ ERROR_CLASS) × IsRow k.content (f ∷ []) × (class < 256) × (f.tag ≡ class_tag class) × IsOctet f.content code
 
--- rejectReason, a choice: 0x81 confirmed-requestPDU to 0x8B conclude-errorPDU
+-- rejectReason, a choice: 0x81 confirmed-requestPDU to 0x8b conclude-errorPDU
 abbrev pub IsReason : List ℕ → ℕ → Type 0
-IsReason octets code = (e : Element) × Spells octets e × (0x81 ≤ e.tag) × (e.tag ≤ 0x8B) × IsOctet e.content code
+IsReason octets code = (e : Element) × Spells octets e × (0x81 ≤ e.tag) × (e.tag ≤ 0x8b) × IsOctet e.content code
 
 -- what is sent, by the tag of its PDU; conclude-ResponsePDU is a NULL
 abbrev pub IsReplyOf : List ℕ → Element → Reply (List ℕ) → Type 0
-IsReplyOf input e (answer invoke tag body) = (e.tag ≡ confirmed_response_tag) × (rest : List ℕ) × IsNumbered 2 e.content invoke rest × IsService rest tag body
-IsReplyOf input e (error invoke class code) = (e.tag ≡ confirmed_error_tag) × (rest : List ℕ) × IsNumbered 0x80 e.content invoke rest × IsServiceError rest class code
-IsReplyOf input e (reject (Some invoke) code) = (e.tag ≡ reject_tag) × (rest : List ℕ) × IsNumbered 0x80 e.content invoke rest × IsReason rest code
-IsReplyOf input e (reject None code) = (e.tag ≡ reject_tag) × IsReason e.content code
-IsReplyOf input e concluded = (e.tag ≡ conclude_response_tag) × (e.content ≡ [])
-IsReplyOf input e (information pdu) = (e.tag ≡ unconfirmed_tag) × (pdu ≡ input)
+IsReplyOf input e (answer invoke tag body) = (e.tag ≡ CONFIRMED_RESPONSE) × (rest : List ℕ) × IsNumbered INVOKE_ID e.content invoke rest × IsService rest tag body
+IsReplyOf input e (error invoke class code) = (e.tag ≡ CONFIRMED_ERROR) × (rest : List ℕ) × IsNumbered ORIGINAL_INVOKE_ID e.content invoke rest × IsServiceError rest class code
+IsReplyOf input e (reject (Some invoke) code) = (e.tag ≡ REJECT) × (rest : List ℕ) × IsNumbered ORIGINAL_INVOKE_ID e.content invoke rest × IsReason rest code
+IsReplyOf input e (reject None code) = (e.tag ≡ REJECT) × IsReason e.content code
+IsReplyOf input e concluded = (e.tag ≡ CONCLUDE_RESPONSE) × (e.content ≡ [])
+IsReplyOf input e (information pdu) = (e.tag ≡ UNCONFIRMED) × (pdu ≡ input)
 
 -- the octets are one element, and that is the PDU
 abbrev pub IsReply : List ℕ → Reply (List ℕ) → Type 0
@@ -63,20 +63,20 @@ IsReply input r = (e : Element) × Spells input e × IsReplyOf input e r
 
 -- the tags of those
 abbrev pub is_sent : ℕ → Bool
-is_sent tag = tag == confirmed_response_tag || tag == confirmed_error_tag || tag == unconfirmed_tag || tag == reject_tag || tag == conclude_response_tag
+is_sent tag = tag == CONFIRMED_RESPONSE || tag == CONFIRMED_ERROR || tag == UNCONFIRMED || tag == REJECT || tag == CONCLUDE_RESPONSE
 
 -- behind the invoke number stands what is not of the form
 abbrev pub IsMalformed : Element → ℕ → Type 0
-IsMalformed e invoke = (rest : List ℕ) × (((e.tag ≡ confirmed_response_tag) × IsNumbered 2 e.content invoke rest × ((tag : ℕ) (body : List ℕ) → ¬ IsService rest tag body))
-    ⊎ ((e.tag ≡ confirmed_error_tag) × IsNumbered 0x80 e.content invoke rest × ((class code : ℕ) → ¬ IsServiceError rest class code))
-    ⊎ ((e.tag ≡ reject_tag) × IsNumbered 0x80 e.content invoke rest × ((code : ℕ) → ¬ IsReason rest code)))
+IsMalformed e invoke = (rest : List ℕ) × (((e.tag ≡ CONFIRMED_RESPONSE) × IsNumbered INVOKE_ID e.content invoke rest × ((tag : ℕ) (body : List ℕ) → ¬ IsService rest tag body))
+    ⊎ ((e.tag ≡ CONFIRMED_ERROR) × IsNumbered ORIGINAL_INVOKE_ID e.content invoke rest × ((class code : ℕ) → ¬ IsServiceError rest class code))
+    ⊎ ((e.tag ≡ REJECT) × IsNumbered ORIGINAL_INVOKE_ID e.content invoke rest × ((code : ℕ) → ¬ IsReason rest code)))
 
 -- there is no invoke number, nor a reason without one, or the PDU is none that a server sends
 abbrev pub IsUnusable : Element → Type 0
-IsUnusable e = ((e.tag ≡ confirmed_response_tag) × ((invoke : ℕ) (rest : List ℕ) → ¬ IsNumbered 2 e.content invoke rest))
-    ⊎ ((e.tag ≡ confirmed_error_tag) × ((invoke : ℕ) (rest : List ℕ) → ¬ IsNumbered 0x80 e.content invoke rest))
-    ⊎ ((e.tag ≡ reject_tag) × ((invoke : ℕ) (rest : List ℕ) → ¬ IsNumbered 0x80 e.content invoke rest) × ((code : ℕ) → ¬ IsReason e.content code))
-    ⊎ ((e.tag ≡ conclude_response_tag) × (e.content ≢ []))
+IsUnusable e = ((e.tag ≡ CONFIRMED_RESPONSE) × ((invoke : ℕ) (rest : List ℕ) → ¬ IsNumbered INVOKE_ID e.content invoke rest))
+    ⊎ ((e.tag ≡ CONFIRMED_ERROR) × ((invoke : ℕ) (rest : List ℕ) → ¬ IsNumbered ORIGINAL_INVOKE_ID e.content invoke rest))
+    ⊎ ((e.tag ≡ REJECT) × ((invoke : ℕ) (rest : List ℕ) → ¬ IsNumbered ORIGINAL_INVOKE_ID e.content invoke rest) × ((code : ℕ) → ¬ IsReason e.content code))
+    ⊎ ((e.tag ≡ CONCLUDE_RESPONSE) × (e.content ≢ []))
     ⊎ (is_sent e.tag ≡ false)
 
 abbrev pub IsReplyRefused : List ℕ → PduFault → Type 0

@@ -8,7 +8,7 @@ use Rattle.mms_pdu.specs.declared.fault.PduFault.TheVariants as faults
 use Rattle.mms_pdu.specs.Invoke.{IsInvoked}
 use Rattle.mms_pdu.specs.Service.{Service, service_octets}
 use Rattle.mms_pdu.specs.Services.{IsService, is_service}
-use Rattle.mms_pdu.specs.Tags.{conclude_request_tag, conclude_response_tag, confirmed_error_tag, confirmed_request_tag, confirmed_response_tag, initiate_request_tag, initiate_response_tag, reject_tag, unconfirmed_tag}
+use Rattle.mms_pdu.specs.declared.tags.TheConstants.{CONCLUDE_REQUEST, CONCLUDE_RESPONSE, CONFIRMED_ERROR, CONFIRMED_REQUEST, CONFIRMED_RESPONSE, INITIATE_REQUEST, INITIATE_RESPONSE, REJECT, UNCONFIRMED}
 
 pub data Request (N D : Type 0) : Type 0 where
   -- a confirmed service, by its invoke number
@@ -24,17 +24,17 @@ request_octets disregarded = disregarded
 
 -- a PDU with which a client asks nothing
 abbrev pub is_disregarded : ℕ → Bool
-is_disregarded tag = tag == confirmed_response_tag || tag == confirmed_error_tag || tag == unconfirmed_tag || tag == reject_tag || tag == initiate_response_tag || tag == conclude_response_tag
+is_disregarded tag = tag == CONFIRMED_RESPONSE || tag == CONFIRMED_ERROR || tag == UNCONFIRMED || tag == REJECT || tag == INITIATE_RESPONSE || tag == CONCLUDE_RESPONSE
 
 -- the first octet of a PDU: of those, and of the three with which a client asks something
 abbrev pub is_pdu : ℕ → Bool
-is_pdu a = is_disregarded a || a == confirmed_request_tag || a == conclude_request_tag || a == initiate_request_tag
+is_pdu a = is_disregarded a || a == CONFIRMED_REQUEST || a == CONCLUDE_REQUEST || a == INITIATE_REQUEST
 
 -- ---- the grammar
 
 abbrev pub IsRequest : List ℕ → Request (List ℕ) Seen → Type 0
-IsRequest input (confirmed invoke service) = (e : Element) × Spells input e × (e.tag ≡ confirmed_request_tag) × (rest : List ℕ) × IsInvoked e.content invoke rest × (s : Element) × Spells rest s × IsService s service
-IsRequest input conclude = (e : Element) × Spells input e × (e.tag ≡ conclude_request_tag) × (e.content ≡ [])
+IsRequest input (confirmed invoke service) = (e : Element) × Spells input e × (e.tag ≡ CONFIRMED_REQUEST) × (rest : List ℕ) × IsInvoked e.content invoke rest × (s : Element) × Spells rest s × IsService s service
+IsRequest input conclude = (e : Element) × Spells input e × (e.tag ≡ CONCLUDE_REQUEST) × (e.content ≡ [])
 IsRequest input disregarded = (e : Element) × Spells input e × (is_disregarded e.tag ≡ true)
 
 -- the octets begin with one for which this is true, or there is none
@@ -49,9 +49,9 @@ may_begin test (a ∷ rest) = test a
 
 -- the element is no PDU that may come here
 abbrev pub IsOutOfPlace : Element → Type 0
-IsOutOfPlace e = (e.tag ≡ initiate_request_tag) ⊎ ((e.tag ≡ conclude_request_tag) × (e.content ≢ []))
+IsOutOfPlace e = (e.tag ≡ INITIATE_REQUEST) ⊎ ((e.tag ≡ CONCLUDE_REQUEST) × (e.content ≢ []))
     -- no invoke number begins it
-    ⊎ ((e.tag ≡ confirmed_request_tag) × ((invoke : ℕ) (rest : List ℕ) → ¬ IsInvoked e.content invoke rest))
+    ⊎ ((e.tag ≡ CONFIRMED_REQUEST) × ((invoke : ℕ) (rest : List ℕ) → ¬ IsInvoked e.content invoke rest))
 
 -- What the input is where it is refused, by its first octet, its length, and the fields from the left.
 abbrev pub IsRequestRefused : List ℕ → PduFault → Type 0
@@ -59,9 +59,9 @@ IsRequestRefused input faults.UnknownPdu = (a : ℕ) × (rest : List ℕ) × (in
 -- it is not one whole element, or one that is out of place
 IsRequestRefused input faults.Invalid = MayBegin is_pdu input × (((e : Element) → ¬ Spells input e) ⊎ ((e : Element) × Spells input e × IsOutOfPlace e))
 -- behind the invoke number stands an octet of no service
-IsRequestRefused input (faults.UnknownService i) = (e : Element) × Spells input e × (e.tag ≡ confirmed_request_tag) × (a : ℕ) × (rest : List ℕ) × IsInvoked e.content i (a ∷ rest) × (is_service a ≡ false)
+IsRequestRefused input (faults.UnknownService i) = (e : Element) × Spells input e × (e.tag ≡ CONFIRMED_REQUEST) × (a : ℕ) × (rest : List ℕ) × IsInvoked e.content i (a ∷ rest) × (is_service a ≡ false)
 -- behind the invoke number stand octets that are not one service
-IsRequestRefused input (faults.Argument i) = (e : Element) × Spells input e × (e.tag ≡ confirmed_request_tag) × (rest : List ℕ) × IsInvoked e.content i rest × MayBegin is_service rest
+IsRequestRefused input (faults.Argument i) = (e : Element) × Spells input e × (e.tag ≡ CONFIRMED_REQUEST) × (rest : List ℕ) × IsInvoked e.content i rest × MayBegin is_service rest
     × ((s : Element) (service : Service (List ℕ) Seen) → Spells rest s → ¬ IsService s service)
 -- no other refusal is of a request
 IsRequestRefused input (faults.SmallSize n) = ⊥

@@ -10,7 +10,7 @@ use Rattle.ber_grammar.specs.Fields.{only_in}
 use Rattle.mms_pdu.specs.Invoke.{below_at}
 use Rattle.mms_pdu.specs.Services.{is_service, service_at}
 use Rattle.mms_pdu.specs.Request.{Request, confirmed, conclude, disregarded, request_octets, is_disregarded, is_pdu, may_begin, or_fault}
-use Rattle.mms_pdu.specs.Tags.{conclude_request_tag, confirmed_request_tag}
+use Rattle.mms_pdu.specs.declared.tags.TheConstants.{CONCLUDE_REQUEST, CONFIRMED_REQUEST, INVOKE_ID}
 
 -- the octets behind a piece's first element
 abbrev pub behind : Piece → List ℕ → Piece
@@ -18,7 +18,7 @@ behind p rest = record { octets = rest; block = p.block; place = p.place + (leng
 
 -- the invoke number, and the octets of the service
 unfoldable pub invoke_in : Piece → Option (ℕ × Piece)
-invoke_in p = and_then (kept (first_at p.octets)) (λ first. if first.0.tag == 2 then and_then (below_at (2 ^ 32) first.0.content) (λ invoke. Some (invoke, behind p first.1)) else None)
+invoke_in p = and_then (kept (first_at p.octets)) (λ first. if first.0.tag == INVOKE_ID then and_then (below_at (2 ^ 32) first.0.content) (λ invoke. Some (invoke, behind p first.1)) else None)
 
 unfoldable pub service_in : ℕ → Piece → Result (Request Piece Spot) PduFault
 service_in invoke p =
@@ -32,8 +32,8 @@ invoked None = Err faults.Invalid
 
 unfoldable pub pdu_at : Spot → Result (Request Piece Spot) PduFault
 pdu_at s =
-    if s.element.tag == confirmed_request_tag then invoked (invoke_in (content_piece s))
-    else if s.element.tag == conclude_request_tag then (if length s.element.content == 0 then Ok conclude else Err faults.Invalid)
+    if s.element.tag == CONFIRMED_REQUEST then invoked (invoke_in (content_piece s))
+    else if s.element.tag == CONCLUDE_REQUEST then (if length s.element.content == 0 then Ok conclude else Err faults.Invalid)
     else if is_disregarded s.element.tag then Ok disregarded
     else Err faults.Invalid
 

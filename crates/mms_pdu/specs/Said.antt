@@ -11,7 +11,7 @@ use Rattle.mms_data.specs.Grammar.{IsData}
 use Rattle.mms_data.specs.Writable.{SeenHasFractions, SeenIsOfTypes}
 use Rattle.mms_pdu.specs.declared.initiate.Initiate.{Initiate}
 use Rattle.mms_pdu.specs.ReplyOctets.{class_tag, reason_tag, reason_code}
-use Rattle.mms_pdu.specs.Tags.{confirmed_request_tag, confirmed_response_tag, confirmed_error_tag, unconfirmed_tag, reject_tag, read_tag, write_tag}
+use Rattle.mms_pdu.specs.declared.tags.TheConstants.{ACCESS_SPECIFICATION, CONFIRMED_ERROR, CONFIRMED_REQUEST, CONFIRMED_RESPONSE, DOMAIN_SPECIFIC, ERROR_CLASS, IDENTIFIER, INFORMATION_REPORT, INIT_DETAIL, INVOKE_ID, LIST_OF_DATA, LIST_OF_VARIABLE, LOCAL_DETAIL, NAME, NESTING_LEVEL, ORIGINAL_INVOKE_ID, OUTSTANDING_CALLED, OUTSTANDING_CALLING, PARAMETER_CBB, READ, REJECT, REPORT_RESULTS, SERVICES_SUPPORTED, SERVICE_ERROR, UNCONFIRMED, VARIABLE, VERSION_NUMBER, WRITE}
 
 -- Elements in a row: each has its tag, and a content of these octets, of this number, or of further elements; or it is the
 -- Data of a value; or octets stand there as they were given. Others follow.
@@ -61,32 +61,32 @@ CanBeSaid (copies given others) = CanBeSaid others
 -- an Initiate-RequestPDU or an Initiate-ResponsePDU with all of its fields: the numbers, and in the detail the version, the
 -- parameters and the services
 abbrev pub initiate_says : ℕ → Initiate → List ℕ → Said
-initiate_says tag i services = groups tag (counts 0x80 i.size (counts 0x81 i.calling (counts 0x82 i.called (counts 0x83 i.nesting
-    (groups 0xA4 (holds 0x80 (1 ∷ []) (holds 0x81 (5 ∷ 0xF1 ∷ 0 ∷ []) (holds 0x82 services nothing))) nothing))))) nothing
+initiate_says tag i services = groups tag (counts LOCAL_DETAIL i.size (counts OUTSTANDING_CALLING i.calling (counts OUTSTANDING_CALLED i.called (counts NESTING_LEVEL i.nesting
+    (groups INIT_DETAIL (holds VERSION_NUMBER (1 ∷ []) (holds PARAMETER_CBB (5 ∷ 0xf1 ∷ 0 ∷ []) (holds SERVICES_SUPPORTED services nothing))) nothing))))) nothing
 
 -- listOfVariable with one variable by its domain and its item, without alternate access, and then others
 abbrev pub variable_says : List ℕ → List ℕ → Said → Said
-variable_says d i others = groups 0xA0 (groups 0x30 (groups 0xA0 (groups 0xA1 (holds 0x1A d (holds 0x1A i nothing)) nothing) nothing) nothing) others
+variable_says d i others = groups LIST_OF_VARIABLE (groups VARIABLE (groups NAME (groups DOMAIN_SPECIFIC (holds IDENTIFIER d (holds IDENTIFIER i nothing)) nothing) nothing) nothing) others
 
 -- a Confirmed-RequestPDU that reads a variable, and one that writes it
 abbrev pub read_says : ℕ → List ℕ → List ℕ → Said
-read_says invoke d i = groups confirmed_request_tag (counts 2 invoke (groups read_tag (groups 0xA1 (variable_says d i nothing) nothing) nothing)) nothing
+read_says invoke d i = groups CONFIRMED_REQUEST (counts INVOKE_ID invoke (groups READ (groups ACCESS_SPECIFICATION (variable_says d i nothing) nothing) nothing)) nothing
 
 abbrev pub write_says : ℕ → List ℕ → List ℕ → Seen → Said
-write_says invoke d i value = groups confirmed_request_tag (counts 2 invoke (groups write_tag (variable_says d i (groups 0xA0 (carries value nothing) nothing)) nothing)) nothing
+write_says invoke d i value = groups CONFIRMED_REQUEST (counts INVOKE_ID invoke (groups WRITE (variable_says d i (groups LIST_OF_DATA (carries value nothing) nothing)) nothing)) nothing
 
 -- a Confirmed-ResponsePDU whose service has this body, as it was given
 abbrev pub answer_says : ℕ → ℕ → List ℕ → Said
-answer_says invoke tag body = groups confirmed_response_tag (counts 2 invoke (holds tag body nothing)) nothing
+answer_says invoke tag body = groups CONFIRMED_RESPONSE (counts INVOKE_ID invoke (holds tag body nothing)) nothing
 
 -- a Confirmed-ErrorPDU, and a RejectPDU with the invoke number that it may have
 abbrev pub error_says : ℕ → ℕ → ℕ → Said
-error_says invoke class code = groups confirmed_error_tag (counts 0x80 invoke (groups 0xA2 (groups 0xA0 (counts (class_tag class) code nothing) nothing) nothing)) nothing
+error_says invoke class code = groups CONFIRMED_ERROR (counts ORIGINAL_INVOKE_ID invoke (groups SERVICE_ERROR (groups ERROR_CLASS (counts (class_tag class) code nothing) nothing) nothing)) nothing
 
 abbrev pub reject_says : Option ℕ → ℕ → Said
-reject_says None refusal = groups reject_tag (counts (reason_tag refusal) (reason_code refusal) nothing) nothing
-reject_says (Some invoke) refusal = groups reject_tag (counts 0x80 invoke (counts (reason_tag refusal) (reason_code refusal) nothing)) nothing
+reject_says None refusal = groups REJECT (counts (reason_tag refusal) (reason_code refusal) nothing) nothing
+reject_says (Some invoke) refusal = groups REJECT (counts ORIGINAL_INVOKE_ID invoke (counts (reason_tag refusal) (reason_code refusal) nothing)) nothing
 
 -- an Unconfirmed-PDU that reports these variables and results, as they were given
 abbrev pub report_says : List ℕ → List ℕ → Said
-report_says names results = groups unconfirmed_tag (groups 0xA0 (copies names (holds 0xA0 results nothing)) nothing) nothing
+report_says names results = groups UNCONFIRMED (groups INFORMATION_REPORT (copies names (holds REPORT_RESULTS results nothing)) nothing) nothing

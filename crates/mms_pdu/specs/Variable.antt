@@ -6,6 +6,7 @@ use Rattle.ber_grammar.specs.Reader.{and_then}
 use Rattle.mms_pdu.specs.Each.{Each}
 use Rattle.ber_grammar.specs.Fields.{fields_in, only_in}
 use Rattle.mms_pdu.specs.ObjectName.{Name, name_octets, IsOnlyName, name_at}
+use Rattle.mms_pdu.specs.declared.tags.TheConstants.{ALTERNATE_ACCESS, NAME, VARIABLE}
 
 pub record Variable (N : Type 0) : Type 0 where
   pub name : Name N
@@ -14,20 +15,20 @@ pub record Variable (N : Type 0) : Type 0 where
 abbrev pub variable_octets : Variable Piece → Variable (List ℕ)
 variable_octets v = record { name = name_octets v.name; alternate = v.alternate }
 
--- Whether alternate access, 0xA5, is asked for: it is one whole element, whatever it holds.
+-- Whether alternate access is asked for: it is one whole element, whatever it holds.
 abbrev pub IsAlternate : List Element → Bool → Type 0
 IsAlternate [] b = b ≡ false
-IsAlternate (e ∷ []) b = (e.tag ≡ 0xA5) × (b ≡ true)
+IsAlternate (e ∷ []) b = (e.tag ≡ ALTERNATE_ACCESS) × (b ≡ true)
 IsAlternate (e ∷ d ∷ es) b = ⊥
 
--- 0xA0 holds the name
+-- the first field holds the name
 abbrev pub IsSpecified : List Element → Variable (List ℕ) → Type 0
 IsSpecified [] v = ⊥
-IsSpecified (e ∷ es) v = (e.tag ≡ 0xA0) × IsOnlyName e.content v.name × IsAlternate es v.alternate
+IsSpecified (e ∷ es) v = (e.tag ≡ NAME) × IsOnlyName e.content v.name × IsAlternate es v.alternate
 
--- 0x30 is a SEQUENCE
+-- a SEQUENCE
 abbrev pub IsVariable : Element → Variable (List ℕ) → Type 0
-IsVariable e v = (e.tag ≡ 0x30) × (es : List Element) × IsRow e.content es × IsSpecified es v
+IsVariable e v = (e.tag ≡ VARIABLE) × (es : List Element) × IsRow e.content es × IsSpecified es v
 
 -- the content is these variables
 abbrev pub AreVariables : List ℕ → List (Variable (List ℕ)) → Type 0
@@ -37,7 +38,7 @@ AreVariables content vs = (es : List Element) × IsRow content es × Each IsVari
 
 abbrev pub alternate_at : List Spot → Option Bool
 alternate_at [] = Some false
-alternate_at (s ∷ []) = if s.element.tag == 0xA5 then Some true else None
+alternate_at (s ∷ []) = if s.element.tag == ALTERNATE_ACCESS then Some true else None
 alternate_at (s ∷ t ∷ more) = None
 
 -- the name that an element of this tag holds
@@ -46,7 +47,7 @@ named_at tag s = if s.element.tag == tag then and_then (only_in (content_piece s
 
 unfoldable pub specified_at : List Spot → Option (Variable Piece)
 specified_at [] = None
-specified_at (s ∷ more) = and_then (named_at 0xA0 s) (λ name. and_then (alternate_at more) (λ alternate. Some (record { name = name; alternate = alternate })))
+specified_at (s ∷ more) = and_then (named_at NAME s) (λ name. and_then (alternate_at more) (λ alternate. Some (record { name = name; alternate = alternate })))
 
 unfoldable pub variable_at : Spot → Option (Variable Piece)
-variable_at s = if s.element.tag == 0x30 then and_then (fields_in (content_piece s)) specified_at else None
+variable_at s = if s.element.tag == VARIABLE then and_then (fields_in (content_piece s)) specified_at else None

@@ -10,19 +10,20 @@ use Rattle.mms_pdu.specs.NameList.{octet_at}
 use Rattle.mms_pdu.specs.Variable.{Variable, AreVariables, variable_at}
 use Rattle.mms_pdu.specs.Service.{Service}
 use Rattle.mms_pdu.specs.Service as services
+use Rattle.mms_pdu.specs.declared.tags.TheConstants.{LIST_OF_NAME, LIST_OF_VARIABLE, SCOPE_OF_DELETE}
 
--- the name, and listOfVariable, 0xA0
+-- the name, and listOfVariable
 abbrev pub IsDefine : List Element → Name (List ℕ) → List (Variable (List ℕ)) → Type 0
-IsDefine (a ∷ b ∷ []) n vs = IsName a n × (b.tag ≡ 0xA0) × AreVariables b.content vs
+IsDefine (a ∷ b ∷ []) n vs = IsName a n × (b.tag ≡ LIST_OF_VARIABLE) × AreVariables b.content vs
 IsDefine es n vs = ⊥
 
--- scopeOfDelete, 0x80, of one octet's range
+-- scopeOfDelete, of one octet's range
 abbrev pub IsDeleteScope : Element → ℕ → Type 0
-IsDeleteScope e scope = (e.tag ≡ 0x80) × IsUint e.content scope × (scope < 256)
+IsDeleteScope e scope = (e.tag ≡ SCOPE_OF_DELETE) × IsUint e.content scope × (scope < 256)
 
--- listOfVariableListName, 0xA1
+-- listOfVariableListName
 abbrev pub AreNames : Element → List (Name (List ℕ)) → Type 0
-AreNames e ns = (e.tag ≡ 0xA1) × (es : List Element) × IsRow e.content es × Each IsName es ns
+AreNames e ns = (e.tag ≡ LIST_OF_NAME) × (es : List Element) × IsRow e.content es × Each IsName es ns
 
 -- Each of the two may be absent: the scope is 0 then, and the names are none.
 abbrev pub IsDelete : List Element → ℕ → List (Name (List ℕ)) → Type 0
@@ -34,7 +35,7 @@ IsDelete (a ∷ b ∷ c ∷ es) scope ns = ⊥
 -- ---- reading
 
 unfoldable pub variable_list_at : Spot → Option (List (Variable Piece))
-variable_list_at s = if s.element.tag == 0xA0 then each_in variable_at (content_piece s) else None
+variable_list_at s = if s.element.tag == LIST_OF_VARIABLE then each_in variable_at (content_piece s) else None
 
 unfoldable pub define_at : List Spot → Option (Service Piece Spot)
 define_at [] = None
@@ -44,12 +45,12 @@ define_at (s ∷ t ∷ u ∷ more) = None
 
 unfoldable pub names_at : List Spot → Option (List (Name Piece))
 names_at [] = Some []
-names_at (s ∷ []) = if s.element.tag == 0xA1 then each_in name_at (content_piece s) else None
+names_at (s ∷ []) = if s.element.tag == LIST_OF_NAME then each_in name_at (content_piece s) else None
 names_at (s ∷ t ∷ more) = None
 
 unfoldable pub delete_at : List Spot → Option (Service Piece Spot)
 delete_at [] = Some (services.delete 0 [])
 delete_at (s ∷ more) =
-    if s.element.tag == 0x80
-    then and_then (octet_at 0x80 s) (λ scope. and_then (names_at more) (λ ns. Some (services.delete scope ns)))
+    if s.element.tag == SCOPE_OF_DELETE
+    then and_then (octet_at SCOPE_OF_DELETE s) (λ scope. and_then (names_at more) (λ ns. Some (services.delete scope ns)))
     else and_then (names_at (s ∷ more)) (λ ns. Some (services.delete 0 ns))

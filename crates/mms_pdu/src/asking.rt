@@ -40,7 +40,7 @@ fn confirmed(alloc: Global, invoke: u32, tag: u32, body: &[u8]) -> Result<Octs, 
 
 /// The request to read one variable of a domain (ISO 9506-2, Read-Request), without its specification in the answer.
 ///
-/// The octets of both identifiers are 0x20 to 0x7E.
+/// The octets of both identifiers are 0x20 to 0x7e.
 #[tactic(auto, unfolding(crate::specs::AskingOctets::read_request))]
 pub fn write_read_request(
     alloc: Global,
@@ -59,7 +59,7 @@ pub fn write_read_request(
 
 /// The request to write one variable of a domain (ISO 9506-2, Write-Request).
 ///
-/// The octets of both identifiers are 0x20 to 0x7E. The value has no `Other` in it, is at most ten deep, and a fraction of
+/// The octets of both identifiers are 0x20 to 0x7e. The value has no `Other` in it, is at most ten deep, and a fraction of
 /// a second in it is below 2^24.
 #[tactic(auto, unfolding(crate::specs::AskingOctets::write_request))]
 pub fn write_write_request(

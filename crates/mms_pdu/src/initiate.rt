@@ -6,6 +6,7 @@ ghost use Rattle.ber_grammar.specs.Reader.{Gives, Reads};
 ghost use Rattle.ber_view.specs.View.{element};
 ghost use Rattle.mms_pdu.specs.Initiate.{IsAccepted, IsInitiateRefused};
 ghost use Rattle.mms_pdu.specs.InitiateReading.{are_details, detail_at, nesting_at, calls_at, fields_at, proposal_at, judged, initiate_at};
+ghost use Rattle.mms_pdu.specs.declared.tags.TheConstants.{INITIATE_REQUEST, INITIATE_RESPONSE};
 
 use crate::fault::PduFault;
 use crate::number::number_of;
@@ -151,8 +152,8 @@ fn read_tagged(tag: u32, bytes: &[u8]) -> Result<Initiate, PduFault>
 /// this form.
 pub fn read_initiate(bytes: &[u8]) -> Result<Initiate, PduFault>
     // A proposal where the input spells it, else the refusal that the input earns.
-    ensures reads { Reads (λ x. x) result (IsAccepted 0xA8 bytes.now) (IsInitiateRefused 0xA8 bytes.now) }
-    ensures exact { Gives (λ x. x) result (initiate_at 0xA8 bytes.now) }
+    ensures reads { Reads (λ x. x) result (IsAccepted INITIATE_REQUEST bytes.now) (IsInitiateRefused INITIATE_REQUEST bytes.now) }
+    ensures exact { Gives (λ x. x) result (initiate_at INITIATE_REQUEST bytes.now) }
 {
     read_tagged(tags::INITIATE_REQUEST, bytes)
 }
@@ -160,8 +161,8 @@ pub fn read_initiate(bytes: &[u8]) -> Result<Initiate, PduFault>
 /// What the initiate answer that `bytes` are accepts (ISO 9506-2, Initiate-ResponsePDU, tag A9). The form and the
 /// refusals are those of [`read_initiate`].
 pub fn read_initiate_answer(bytes: &[u8]) -> Result<Initiate, PduFault>
-    ensures reads { Reads (λ x. x) result (IsAccepted 0xA9 bytes.now) (IsInitiateRefused 0xA9 bytes.now) }
-    ensures exact { Gives (λ x. x) result (initiate_at 0xA9 bytes.now) }
+    ensures reads { Reads (λ x. x) result (IsAccepted INITIATE_RESPONSE bytes.now) (IsInitiateRefused INITIATE_RESPONSE bytes.now) }
+    ensures exact { Gives (λ x. x) result (initiate_at INITIATE_RESPONSE bytes.now) }
 {
     read_tagged(tags::INITIATE_RESPONSE, bytes)
 }

@@ -16,7 +16,7 @@ use std::marker::Model;
 /// A name of an object (ISO 9506-2, ObjectName), in place.
 ///
 /// The octets of a vmd-specific and of an aa-specific name are any; those of the identifiers of a domain-specific name
-/// are 0x20 to 0x7E.
+/// are 0x20 to 0x7e.
 #[derive(Clone, Copy, Debug, PartialEq, Eq)]
 pub enum NameView<'a> {
     Vmd(&'a [u8]),

@@ -18,13 +18,14 @@ ghost use Rattle.mms_pdu.specs.AskingOctets.{AreVisible, named_variable, read_re
 ghost use Rattle.mms_pdu.specs.Answer.{IsAnswerBody};
 ghost use Rattle.mms_pdu.specs.Reply.{Reply, answer, error, reject, concluded, information, IsReply, IsReplyRefused};
 ghost use Rattle.mms_pdu.specs.ReplyOctets.{answer_octets, error_octets, reason_code, reject_octets, CanBeRejected, report_octets, IsSpecificationElement, IsReport};
+ghost use Rattle.mms_pdu.specs.declared.tags.TheConstants.{INITIATE_REQUEST, INITIATE_RESPONSE, CONCLUDE_RESPONSE};
 
 /// The initiate and its answer are read back by the other side, and an input spells one initiate.
 pub fn initiates_are_read_back()
-    ensures answer { (asked : Initiate) → 1024 ≤ asked.size → IsInitiate 0xA9 (initiate_answer asked) (accepted asked) }
-    ensures answer_again { (asked : Initiate) → 1024 ≤ asked.size → initiate_at 0xA9 (initiate_answer asked) ≡ Ok (accepted asked) }
-    ensures request { (size : ℕ) → 1024 ≤ size → size ≤ 65000 → IsInitiate 0xA8 (initiate_request size) (proposed size) }
-    ensures request_again { (size : ℕ) → 1024 ≤ size → size ≤ 65000 → initiate_at 0xA8 (initiate_request size) ≡ Ok (proposed size) }
+    ensures answer { (asked : Initiate) → 1024 ≤ asked.size → IsInitiate INITIATE_RESPONSE (initiate_answer asked) (accepted asked) }
+    ensures answer_again { (asked : Initiate) → 1024 ≤ asked.size → initiate_at INITIATE_RESPONSE (initiate_answer asked) ≡ Ok (accepted asked) }
+    ensures request { (size : ℕ) → 1024 ≤ size → size ≤ 65000 → IsInitiate INITIATE_REQUEST (initiate_request size) (proposed size) }
+    ensures request_again { (size : ℕ) → 1024 ≤ size → size ≤ 65000 → initiate_at INITIATE_REQUEST (initiate_request size) ≡ Ok (proposed size) }
     ensures one { (tag : ℕ) (input : List ℕ) (i j : Initiate) → IsInitiate tag input i → IsInitiate tag input j → i ≡ j }
 {}
 
@@ -45,7 +46,7 @@ pub fn replies_are_read_back()
     ensures reject { (invoke : Option ℕ) (refusal : ℕ) → IfSome invoke (λ n. n < 2 ^ 32) → CanBeRejected invoke refusal → IsReply (reject_octets invoke refusal) (reject invoke (reason_code refusal)) }
     ensures report { (names results : List ℕ) → IsSpecificationElement names → length (report_octets names results) < 2 ^ 32
         → IsReport (report_octets names results) names results × IsReply (report_octets names results) (information (report_octets names results)) }
-    ensures concluded { IsReply (0x8C ∷ 0 ∷ []) concluded }
+    ensures concluded { IsReply (CONCLUDE_RESPONSE ∷ 0 ∷ []) concluded }
 {}
 
 /// Each input is one thing that a server sends, or is refused for one cause, and never both.

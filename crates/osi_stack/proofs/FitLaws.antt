@@ -5,30 +5,25 @@ use Rattle.std.proofs.lemmas.Bool.Decides.{nat_tests}
 use Rattle.std.proofs.lemmas.List.{length-append}
 use Rattle.ber_write.specs.Minimal.{octets_of, length_octets, uint_octets}
 use Rattle.ber_write.proofs.NumberLaws.{length-uint_octets}
+use Rattle.ber_write.proofs.LengthLaws.{octets_few}
 use Rattle.session_pres.specs.Plain.{Asked, cp_from}
 use Rattle.session_pres.specs.Written.{pdv_fields, pdv_list, user_octets, length_field, field}
 use Rattle.session_pres.specs.WrittenPpdu.{connect_parameters}
 use Rattle.session_pres.proofs.AnswerLaws.{fits_anyone}
-use Rattle.session_pres.proofs.FitLaws.{connect_short, user_few}
+use Rattle.session_pres.proofs.FitLaws.{connect_short, user_few, field_length_few}
 use Rattle.acse_apdu.specs.Written.{name_field, result_fields, external_content, information_content, aarq_content, aare_content, aarq_octets, aare_octets, release_octets}
 use Rattle.mms_pdu.specs.declared.initiate.Initiate.{Initiate}
 use Rattle.mms_pdu.specs.InitiateOctets.{initiate_content, answer_details, request_details, accepted, proposed, initiate_answer, initiate_request}
 use Rattle.osi_stack.specs.Called.{CanBeAccepted, aare_for}
-
-few_in_length : (n : ℕ) → length (length_octets n) ≤ 5
-few_in_length n = grind (arith, nat_tests)
-
-few_in_head : (tag : ℕ) (content : List ℕ) → tag < 256 → length (octets_of tag content) ≤ 6 + length content
-few_in_head tag content lt = rw (lt-ltb tag 256 lt) (omega (arith, few_in_length (length content), length-append (length_octets (length content)) content))
 
 pub pdv_fits : (context : ℕ) (pdu : List ℕ) → length pdu ≤ 4294967000 → length (pdv_list context pdu) < 2 ^ 32
 unfolding pdv_list pdv_fields
 pdv_fits context pdu le =
     omega (
       arith,
-      few_in_head 48 (octets_of 2 (uint_octets context) ++ octets_of 160 pdu) (omega arith),
-      few_in_head 2 (uint_octets context) (omega arith),
-      few_in_head 160 pdu (omega arith),
+      octets_few 48 (octets_of 2 (uint_octets context) ++ octets_of 160 pdu) (omega arith),
+      octets_few 2 (uint_octets context) (omega arith),
+      octets_few 160 pdu (omega arith),
       length-uint_octets context,
       length-append (octets_of 2 (uint_octets context)) (octets_of 160 pdu),
     )
@@ -36,7 +31,7 @@ pdv_fits context pdu le =
 -- ---- an initiate
 
 number_few : (tag n : ℕ) → tag < 256 → length (octets_of tag (uint_octets n)) ≤ 15
-number_few tag n lt = omega (arith, few_in_head tag (uint_octets n) lt, length-uint_octets n)
+number_few tag n lt = omega (arith, octets_few tag (uint_octets n) lt, length-uint_octets n)
 
 initiate_few : (i : Initiate) (details : List ℕ) → length (initiate_content i details) ≤ 66 + length details
 initiate_few i details =
@@ -51,7 +46,7 @@ initiate_few i details =
       number_few 129 i.calling (omega arith),
       number_few 130 i.called (omega arith),
       number_few 131 i.nesting (omega arith),
-      few_in_head 164 details (omega arith),
+      octets_few 164 details (omega arith),
       length-append size (calling ++ (called ++ (nesting ++ detail))),
       length-append calling (called ++ (nesting ++ detail)),
       length-append called (nesting ++ detail),
@@ -60,11 +55,11 @@ initiate_few i details =
 
 answer_few : (asked : Initiate) → length (initiate_answer asked) ≤ 128
 unfolding initiate_answer
-answer_few asked = omega (arith, few_in_head 169 (initiate_content (accepted asked) answer_details) (omega arith), initiate_few (accepted asked) answer_details)
+answer_few asked = omega (arith, octets_few 169 (initiate_content (accepted asked) answer_details) (omega arith), initiate_few (accepted asked) answer_details)
 
 request_few : (size : ℕ) → length (initiate_request size) ≤ 128
 unfolding initiate_request
-request_few size = omega (arith, few_in_head 168 (initiate_content (proposed size) request_details) (omega arith), initiate_few (proposed size) request_details)
+request_few size = omega (arith, octets_few 168 (initiate_content (proposed size) request_details) (omega arith), initiate_few (proposed size) request_details)
 
 -- ---- an APDU that carries it
 
@@ -72,9 +67,9 @@ information_few : (context : ℕ) (pdu : List ℕ) → length (octets_of 190 (in
 information_few context pdu =
     omega (
       arith,
-      few_in_head 190 (information_content context pdu) (omega arith),
-      few_in_head 40 (external_content context pdu) (omega arith),
-      few_in_head 160 pdu (omega arith),
+      octets_few 190 (information_content context pdu) (omega arith),
+      octets_few 40 (external_content context pdu) (omega arith),
+      octets_few 160 pdu (omega arith),
       number_few 2 context (omega arith),
       length-append (octets_of 6 (81 ∷ 1 ∷ [])) (octets_of 2 (uint_octets context) ++ octets_of 160 pdu),
       length-append (octets_of 2 (uint_octets context)) (octets_of 160 pdu),
@@ -98,7 +93,7 @@ aarq_fits context size = omega (arith, aarq_few context (initiate_request size),
 
 pub aare_short : (context : ℕ) (asked : Initiate) → length (aare_octets context (initiate_answer asked)) ≤ 16384
 unfolding aare_octets
-aare_short context asked = omega (arith, few_in_head 97 (aare_content context (initiate_answer asked)) (omega arith), aare_few context (initiate_answer asked), answer_few asked)
+aare_short context asked = omega (arith, octets_few 97 (aare_content context (initiate_answer asked)) (omega arith), aare_few context (initiate_answer asked), answer_few asked)
 
 pub can_accept : (user : List ℕ) (cp : Asked) (asked : Initiate) → cp_from user ≡ Ok cp → length user ≤ 70000 → CanBeAccepted cp asked
 can_accept user cp asked e few =
@@ -108,12 +103,9 @@ can_accept user cp asked e few =
 pub connect_fits : (size : ℕ) → length (connect_parameters (aarq_octets 3 (initiate_request size))) ≤ 65535
 unfolding aarq_octets
 connect_fits size =
-    connect_short (octets_of 96 (aarq_content 3 (initiate_request size))) (omega (arith, few_in_head 96 (aarq_content 3 (initiate_request size)) (omega arith), aarq_few 3 (initiate_request size), request_few size))
+    connect_short (octets_of 96 (aarq_content 3 (initiate_request size))) (omega (arith, octets_few 96 (aarq_content 3 (initiate_request size)) (omega arith), aarq_few 3 (initiate_request size), request_few size))
 
 -- ---- a release
-
-few_in_field : (n : ℕ) → length (length_field n) ≤ 3
-few_in_field n = grind (arith, nat_tests)
 
 release_few : (tag : ℕ) → length (release_octets tag) ≤ 16
 release_few tag = grind (arith, nat_tests)
@@ -122,4 +114,4 @@ pub release_fits : (context tag : ℕ) → length (field 193 (user_octets contex
 unfolding field
 release_fits context tag =
     let user = user_octets context (release_octets tag) in
-    omega (arith, user_few context (release_octets tag), few_in_field (length user), length-append (length_field (length user)) user, release_few tag)
+    omega (arith, user_few context (release_octets tag), field_length_few (length user), length-append (length_field (length user)) user, release_few tag)

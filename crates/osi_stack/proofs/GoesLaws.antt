@@ -3,11 +3,12 @@ use Rattle.std.proofs.Common.{◌≡◌, ℕ, ◌+◌, ◌/◌, ◌%◌, List, [
 use Rattle.std.specs.Prelude.{MatchResult}
 use Rattle.std.specs.List.{flat_map, AllByRecursion}
 use Rattle.std.proofs.lemmas.List.Concat.{flat_map-cons}
+use Rattle.list_laws.proofs.Options.{ok_is}
 use Rattle.ber_grammar.specs.Octets.{IsBytes}
 use Rattle.ber_grammar.specs.Place.{Piece, anywhere}
 use Rattle.ber_grammar.specs.Reader.{with_fault}
 use Rattle.ber_grammar.proofs.OctetLaws.{IsBytes-rest, IsBytes-front, IsBytes-back, IsBytes-append}
-use Rattle.ber_grammar.proofs.ReaderLaws.{bind_ok, ok_is}
+use Rattle.ber_grammar.proofs.ReaderLaws.{bind_ok}
 use Rattle.tpkt_cotp.specs.declared.codes.TheConstants.{DT}
 use Rattle.tpkt_cotp.specs.declared.fault.TpFault.{TpFault}
 use Rattle.tpkt_cotp.specs.declared.state.State.{State}
@@ -35,6 +36,7 @@ use Rattle.osi_stack.specs.Stream.{Stand, called, calling, stand_of, gifts_at, g
 use Rattle.osi_stack.proofs.ConnectionLaws.{step_is}
 use Rattle.osi_stack.proofs.StreamLaws.{one_stream}
 use Rattle.osi_stack.proofs.TellsLaws.{tsdu_tells, tsdu_back}
+use Rattle.tpkt_cotp.proofs.KeptLaws.{of_packet, step_taken}
 
 -- ---- octets
 
@@ -56,19 +58,13 @@ taken_octets s t tpdu (Some (Data octets)) held fits (there, nr, more, whole, en
 taken_octets s t tpdu (Some Disconnect) held fits (li, code, rest, whole, header, is, same) = (open_octets t s same held, tt)
 taken_octets s t tpdu None held fits (there, nr, more, whole, low, few, same) = (open_octets t _ same (IsBytes-append s.tsdu more held (behind_nr tpdu more nr fits whole)), tt)
 
-pub packet_holds : (tpdu : List ℕ) → IsBytes (packet tpdu) → IsBytes tpdu
-packet_holds tpdu fits = let n : ℕ = length tpdu + 4 in IsBytes-back (3 ∷ 0 ∷ n / 256 ∷ n % 256 ∷ []) tpdu fits
-
 pub all_octets : (tpdus : List (List ℕ)) → IsBytes (flat_map packet tpdus) → AllByRecursion IsBytes tpdus
 all_octets [] fits = tt
 all_octets (p ∷ ps) fits =
     let all : IsBytes (packet p ++ flat_map packet ps) = subst IsBytes (flat_map-cons packet p ps) fits in
-    (packet_holds p (IsBytes-front (packet p) (flat_map packet ps) all), all_octets ps (IsBytes-back (packet p) (flat_map packet ps) all))
+    (of_packet p (IsBytes-front (packet p) (flat_map packet ps) all), all_octets ps (IsBytes-back (packet p) (flat_map packet ps) all))
 
 -- ---- one TPDU
-
-taken_of : (s t : State) (tpdu : List ℕ) (given : Option Tsdu) → tpdu_at s tpdu ≡ Ok (t, given) → IsTaken s tpdu t given
-taken_of s t tpdu given h = subst (λ (r : Result (State × Option Tsdu) TpFault). MatchResult r (λ x. IsTaken s tpdu x.0 x.1) (λ f. IsRefusedTpdu s tpdu f)) h (tpdu_matches s tpdu)
 
 gift_tells : (phase : Phase) (given : Option Tsdu) (x : Phase × Option Event) → GivesOctets given → gifts_at phase given ≡ Ok x → TellsGiven phase given x
 gift_tells phase None x fits h = sym (ok_is {F = Cause} (phase, None) x h)
@@ -84,7 +80,7 @@ next_of y = (y.0.phase, y.1)
 given_goes : (s t : Stand) (tpdu : List ℕ) (e : Option Event) (u : State) (given : Option Tsdu) → IsBytes s.transport.tsdu → IsBytes tpdu → tpdu_at s.transport tpdu ≡ Ok (u, given) → given_at s.phase (u, given) ≡ Ok (t, e)
     → Goes s tpdu t e × IsBytes t.transport.tsdu
 given_goes s t tpdu e u given held fits step h =
-    let taken = taken_of s.transport u tpdu given step in
+    let taken = step_taken s.transport u tpdu given step in
     let octets = taken_octets s.transport u tpdu given held fits taken in
     let b = bind_ok (gifts_at s.phase given) (λ x. let r : Result (Stand × Option Event) Cause = Ok (stand_of u x) in r) (t, e) h in
     let same : stand_of u b.0 ≡ (t, e) = ok_is {F = Cause} (stand_of u b.0) (t, e) b.2 in

@@ -2,11 +2,11 @@
 use Rattle.std.proofs.Common.{◌≡◌, ℕ, inl, inr, Bool, true, false, cond, eqb, List, Option, Some, None, Result, Ok, Err, refl, sym, ap, subst, ◌∙◌}
 use Rattle.std.specs.Option.{option_map}
 use Rattle.std.proofs.lemmas.Bool.{eqb-true, eqb-false}
+use Rattle.list_laws.proofs.Options.{ok_is, err_is}
 use Rattle.ber_grammar.specs.Octets.{IsBytes}
 use Rattle.ber_grammar.specs.Place.{Piece, anywhere}
 use Rattle.ber_grammar.specs.Reader.{◌>>=◌, with_fault, Reads}
 use Rattle.ber_grammar.specs.Steps.{Or, IsLacking, required}
-use Rattle.ber_grammar.proofs.ReaderLaws.{ok_is, err_is}
 use Rattle.tpkt_cotp.specs.declared.fault.TpFault.TheVariants as transport
 use Rattle.tpkt_cotp.specs.declared.tsdus.Tsdu.{Tsdu}
 use Rattle.tpkt_cotp.specs.declared.tsdus.Tsdu.TheVariants.{Connect, Data, Disconnect}
@@ -57,7 +57,7 @@ never : {W : Type 0} (w : W) (r : Result W Cause) (R : Cause → Type 0) → r �
 never w r R e none = record { tells = λ c h. absurd (let q = sym e ∙ h in cc); again = λ c h. absurd (none c h) }
 
 always : {W : Type 0} (d : Cause) (r : Result W Cause) → r ≡ Err d → Refuses r (λ c. c ≡ d)
-always {W = W} d r e = record { tells = λ c h. err_is {Y = W} c d (sym h ∙ e); again = λ c h. e ∙ ap (λ (x : Cause). let q : Result W Cause = Err x in q) (sym h) }
+always {W = W} d r e = record { tells = λ c h. err_is {A = W} c d (sym h ∙ e); again = λ c h. e ∙ ap (λ (x : Cause). let q : Result W Cause = Err x in q) (sym h) }
 
 -- a layer reads, and then comes another step
 behind : {Y Z W F : Type 0} (cause_of : F → Cause) (view : Y → Z) (r : Result Y F) (S : Y → Type 0) (R : F → Type 0) (g : Z → Result W Cause) (Q : Y → Cause → Type 0)
@@ -71,12 +71,12 @@ behind {F = F} cause_of view (Ok y) S R g Q reads later = let k = later y reads.
     refused c (inl (f, bad, same)) = absurd (let e = reads.refuses f bad in cc)
     refused c (inr (z, s, q)) = let is : z ≡ y = ok_is {F = F} z y (reads.only z s) in (later y reads.tells).again c (subst (λ (x : _). Q x c) is q)
 behind {Y = Y} {W = W} cause_of view (Err f) S R g Q reads later = record {
-  tells = λ c h. inl (f, reads.tells, sym (err_is {Y = W} (cause_of f) c h));
+  tells = λ c h. inl (f, reads.tells, sym (err_is {A = W} (cause_of f) c h));
   again = refused;
 }
   where
     refused : (c : Cause) → Or (In cause_of R) S Q c → (let x : Result W Cause = Err (cause_of f) in x) ≡ Err c
-    refused c (inl (d, bad, same)) = let is : d ≡ f = err_is {Y = Y} d f (reads.refuses d bad) in ap (λ (x : Cause). let q : Result W Cause = Err x in q) (ap cause_of (sym is) ∙ sym same)
+    refused c (inl (d, bad, same)) = let is : d ≡ f = err_is {A = Y} d f (reads.refuses d bad) in ap (λ (x : Cause). let q : Result W Cause = Err x in q) (ap cause_of (sym is) ∙ sym same)
     refused c (inr (z, s, q)) = absurd (let e = reads.only z s in cc)
 
 -- the same of a reader of octets alone
@@ -88,8 +88,8 @@ then_refuses cause_of view r read S R g Q reads e later = subst (λ (x : _). Ref
 last_refuses : {Y W F : Type 0} (cause_of : F → Cause) (r : Result Y F) (S : Y → Type 0) (R : F → Type 0) (make : Y → W) → Reads (λ (y : Y). y) r S R → Refuses (with_fault cause_of r >>= λ y. Ok (make y)) (In cause_of R)
 last_refuses {F = F} cause_of (Ok y) S R make reads = never (make y) (Ok (make y)) (In cause_of R) refl (λ c (f, bad, same). let e = reads.refuses f bad in cc)
 last_refuses {Y = Y} {W = W} cause_of (Err f) S R make reads = record {
-  tells = λ c h. (f, reads.tells, sym (err_is {Y = W} (cause_of f) c h));
-  again = λ c (d, bad, same). let is : d ≡ f = err_is {Y = Y} d f (reads.refuses d bad) in ap (λ (x : Cause). let q : Result W Cause = Err x in q) (ap cause_of (sym is) ∙ sym same);
+  tells = λ c h. (f, reads.tells, sym (err_is {A = W} (cause_of f) c h));
+  again = λ c (d, bad, same). let is : d ≡ f = err_is {A = Y} d f (reads.refuses d bad) in ap (λ (x : Cause). let q : Result W Cause = Err x in q) (ap cause_of (sym is) ∙ sym same);
 }
 
 -- ---- the association is made
@@ -128,14 +128,14 @@ asking_refuses exponent size octets fits =
 outside_of : (context n : ℕ) (user value : Piece) (b : Bool) → eqb n context ≡ b → IsUserData user (n, value) → Refuses (let r : Result (List ℕ) Cause = cond b (Ok value.octets) (Err (of_session session.Pdv)) in r) (IsOutside context user)
 outside_of context n user value true e is = never value.octets (Ok value.octets) (IsOutside context user) refl (λ c h. h.1 value (subst (λ (k : ℕ). IsUserData user (k, value)) (eqb-true n context e) is))
 outside_of context n user value false e is = record {
-  tells = λ c h. (sym (err_is {Y = List ℕ} (of_session session.Pdv) c h), λ other has. eqb-false n context e (ap (λ (x : ℕ × Piece). x.0) ((pdv_one user).one_value (n, value) (context, other) is has)));
+  tells = λ c h. (sym (err_is {A = List ℕ} (of_session session.Pdv) c h), λ other has. eqb-false n context e (ap (λ (x : ℕ × Piece). x.0) ((pdv_one user).one_value (n, value) (context, other) is has)));
   again = λ c h. ap (λ (x : Cause). let q : Result (List ℕ) Cause = Err x in q) (sym h.0);
 }
 
 outside_at : (context : ℕ) (user : Piece) (r : Result (ℕ × Piece) SpFault) → Reads (λ (y : ℕ × Piece). y) r (IsUserData user) (IsLacking session.Pdv (IsUserData user)) → Refuses (with_fault of_session (r >>= λ y. Ok (pdv_octets y)) >>= if_in context) (IsOutside context user)
 outside_at context user (Ok (n, value)) reads = outside_of context n user value (eqb n context) refl reads.tells
 outside_at context user (Err f) reads = record {
-  tells = λ c h. (sym (err_is {Y = List ℕ} (of_session f) c h) ∙ ap of_session reads.tells.0, λ value. reads.tells.1 (context, value));
+  tells = λ c h. (sym (err_is {A = List ℕ} (of_session f) c h) ∙ ap of_session reads.tells.0, λ value. reads.tells.1 (context, value));
   again = λ c h. ap (λ (x : Cause). let q : Result (List ℕ) Cause = Err x in q) (ap of_session reads.tells.0 ∙ sym h.0);
 }
 
@@ -147,8 +147,8 @@ context_refuses context user =
 kept : {Y W : Type 0} (r : Result Y Cause) (R : Cause → Type 0) (make : Y → W) → Refuses r R → Refuses (r >>= λ y. Ok (make y)) R
 kept {Y = Y} {W = W} (Ok y) R make k = never (make y) (Ok (make y)) R refl (λ c h. let e = k.again c h in cc)
 kept {Y = Y} {W = W} (Err d) R make k = record {
-  tells = λ c h. k.tells c (ap (λ (x : Cause). let q : Result Y Cause = Err x in q) (err_is {Y = W} d c h));
-  again = λ c h. ap (λ (x : Cause). let q : Result W Cause = Err x in q) (err_is {Y = Y} d c (k.again c h));
+  tells = λ c h. k.tells c (ap (λ (x : Cause). let q : Result Y Cause = Err x in q) (err_is {A = W} d c h));
+  again = λ c h. ap (λ (x : Cause). let q : Result W Cause = Err x in q) (err_is {A = Y} d c (k.again c h));
 }
 
 pdu_refuses : (phase : Phase) (line : Line) (user : Piece) → Refuses (pdu_in phase line user.octets) (IsOutside line.context user)
@@ -169,12 +169,12 @@ in_then context user (Ok v) g Q e k later = let f = context_found context user v
     refused c (inl h) = absurd (let q = k.again c h in cc)
     refused c (inr (apdu, is, q)) = let same : v ≡ apdu.octets = ok_is {F = Cause} v apdu.octets (sym e ∙ context_back context user apdu is) in subst (λ (x : List ℕ). g x ≡ Err c) (sym same) ((later apdu is).again c q)
 in_then context user (Err d) g Q e k later = record {
-  tells = λ c h. inl (k.tells c (ap (λ (x : Cause). let q : Result (List ℕ) Cause = Err x in q) (err_is {Y = Phase × Option Event} d c h)));
+  tells = λ c h. inl (k.tells c (ap (λ (x : Cause). let q : Result (List ℕ) Cause = Err x in q) (err_is {A = Phase × Option Event} d c h)));
   again = refused;
 }
   where
     refused : (c : Cause) → Or (IsOutside context user) (λ apdu. IsUserData user (context, apdu)) Q c → (let x : Outcome = Err d in x) ≡ Err c
-    refused c (inl h) = ap (λ (x : Cause). let q : Outcome = Err x in q) (err_is {Y = List ℕ} d c (k.again c h))
+    refused c (inl h) = ap (λ (x : Cause). let q : Outcome = Err x in q) (err_is {A = List ℕ} d c (k.again c h))
     refused c (inr (apdu, is, q)) = absurd (let p = sym e ∙ context_back context user apdu is in cc)
 
 release_refuses : (tag : ℕ) (apdu : Piece) (read : Result (Unit {0}) AcFault) (x : Phase × Option Event) → release_at tag apdu ≡ read → Refuses (with_fault of_association read >>= λ y. let r : Outcome = Ok x in r) (In of_association (IsReleaseRefused tag apdu))

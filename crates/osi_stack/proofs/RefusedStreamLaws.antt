@@ -2,10 +2,10 @@
 use Rattle.std.proofs.Common.{◌≡◌, ℕ, ◌⊎◌, inl, inr, List, [], ◌∷◌, ◌++◌, Option, Some, None, Result, Ok, Err, refl, sym, ap, subst, ◌∙◌}
 use Rattle.std.specs.Prelude.{MatchResult}
 use Rattle.std.specs.List.{flat_map, AllByRecursion}
+use Rattle.list_laws.proofs.Options.{err_is}
 use Rattle.ber_grammar.specs.Octets.{IsBytes}
 use Rattle.ber_grammar.specs.Reader.{◌>>=◌, with_fault}
 use Rattle.ber_grammar.proofs.OctetLaws.{IsBytes-front, IsBytes-back}
-use Rattle.ber_grammar.proofs.ReaderLaws.{err_is}
 use Rattle.tpkt_cotp.specs.declared.fault.TpFault.{TpFault}
 use Rattle.tpkt_cotp.specs.declared.state.State.{State}
 use Rattle.tpkt_cotp.specs.declared.tsdus.Tsdu.{Tsdu}
@@ -21,9 +21,10 @@ use Rattle.osi_stack.specs.Refusals.{In, IsTsduRefused, IsTpduRefused, SpellsRef
 use Rattle.osi_stack.specs.Spelled.{Tells, HasOctets, GoOn}
 use Rattle.osi_stack.specs.Stream.{Stand, stand_of, given_at, step_at, Stops, IsRefused}
 use Rattle.osi_stack.proofs.ConnectionLaws.{step_refused, step_fails}
-use Rattle.osi_stack.proofs.GoesLaws.{taken_octets, all_octets, packet_holds, runs_go, go_runs}
+use Rattle.osi_stack.proofs.GoesLaws.{taken_octets, all_octets, runs_go, go_runs}
 use Rattle.osi_stack.proofs.RefusalLaws.{tsdu_refuses}
 use Rattle.osi_stack.proofs.TellsLaws.{tsdu_tells, tsdu_back}
+use Rattle.tpkt_cotp.proofs.KeptLaws.{of_packet}
 
 -- ---- a TSDU: one of both
 
@@ -35,7 +36,7 @@ pub tsdu_answered : (phase : Phase) (tsdu : Tsdu) → HasOctets tsdu → ((x : P
 tsdu_answered phase tsdu fits = answered_at phase tsdu (tsdu_at phase tsdu) fits refl
 
 pub one_cause : (phase : Phase) (tsdu : Tsdu) (c d : Cause) → HasOctets tsdu → IsTsduRefused phase tsdu c → IsTsduRefused phase tsdu d → c ≡ d
-one_cause phase tsdu c d fits a b = let k = tsdu_refuses phase tsdu fits in err_is {Y = Phase × Option Event} c d (sym (k.again c a) ∙ k.again d b)
+one_cause phase tsdu c d fits a b = let k = tsdu_refuses phase tsdu fits in err_is {A = Phase × Option Event} c d (sym (k.again c a) ∙ k.again d b)
 
 pub not_both : (phase : Phase) (tsdu : Tsdu) (x : Phase × Option Event) (c : Cause) → HasOctets tsdu → Tells phase tsdu x → IsTsduRefused phase tsdu c → ⊥
 not_both phase tsdu x c fits a b = let both = sym (tsdu_back phase tsdu x a) ∙ (tsdu_refuses phase tsdu fits).again c b in cc
@@ -51,11 +52,11 @@ gift_refused s u tpdu (Some tsdu) c held fits taken h = inr (u, tsdu, taken, by_
   where
     by_result : (r : Result (Phase × Option Event) Cause) → tsdu_at s.phase tsdu ≡ r → (r >>= λ x. let y : Result (Stand × Option Event) Cause = Ok (stand_of u x) in y) ≡ Err c → IsTsduRefused s.phase tsdu c
     by_result (Ok x) e q = absurd cc
-    by_result (Err d) e q = (tsdu_refuses s.phase tsdu (taken_octets s.transport u tpdu (Some tsdu) held fits taken).1).tells c (e ∙ ap (λ (x : Cause). let y : Result (Phase × Option Event) Cause = Err x in y) (err_is {Y = Stand × Option Event} d c q))
+    by_result (Err d) e q = (tsdu_refuses s.phase tsdu (taken_octets s.transport u tpdu (Some tsdu) held fits taken).1).tells c (e ∙ ap (λ (x : Cause). let y : Result (Phase × Option Event) Cause = Err x in y) (err_is {A = Stand × Option Event} d c q))
 
 step_told : (s : Stand) (tpdu : List ℕ) (c : Cause) (r : Result (State × Option Tsdu) TpFault) → IsBytes s.transport.tsdu → IsBytes tpdu → Told s.transport tpdu r → (with_fault of_transport r >>= λ given. given_at s.phase given) ≡ Err c → IsTpduRefused s tpdu c
 step_told s tpdu c (Ok (u, given)) held fits told h = gift_refused s u tpdu given c held fits told h
-step_told s tpdu c (Err f) held fits told h = inl (f, told, sym (err_is {Y = Stand × Option Event} (of_transport f) c h))
+step_told s tpdu c (Err f) held fits told h = inl (f, told, sym (err_is {A = Stand × Option Event} (of_transport f) c h))
 
 step_tells : (s : Stand) (tpdu : List ℕ) (c : Cause) → IsBytes s.transport.tsdu → IsBytes tpdu → step_at s tpdu ≡ Err c → IsTpduRefused s tpdu c
 unfolding step_at
@@ -79,7 +80,7 @@ bad_octets octets bad tpdus fits whole =
     (all_octets tpdus (IsBytes-front (flat_map packet tpdus) bad all), IsBytes-back (flat_map packet tpdus) bad all)
 
 first_octets : (bad tpdu more : List ℕ) → IsBytes bad → bad ≡ packet tpdu ++ more → IsBytes tpdu
-first_octets bad tpdu more fits whole = packet_holds tpdu (IsBytes-front (packet tpdu) more (subst IsBytes whole fits))
+first_octets bad tpdu more fits whole = of_packet tpdu (IsBytes-front (packet tpdu) more (subst IsBytes whole fits))
 
 pub refusal_spells : (from : Stand) (octets : List ℕ) (es : List Event) (c : Cause) (n : ℕ) → IsBytes from.transport.tsdu → IsRefused from octets es c n → SpellsRefusal from octets es c n
 refusal_spells from octets es c n held a =

@@ -2,6 +2,7 @@
 use Rattle.std.proofs.Common.{◌≡◌, ℕ, ◌+◌, ◌%◌, ◌^◌, ◌<◌, ◌≤◌, true, List, [], ◌∷◌, length, Some, refl, sym, subst, arith}
 use Rattle.ber_grammar.specs.Place.{anywhere}
 use Rattle.ber_write.specs.Minimal.{octets_of, written}
+use Rattle.ber_write.proofs.WrittenLaws.{written_last, one_octet}
 use Rattle.session_pres.specs.declared.codes.TheConstants.{FINISH, DISCONNECT}
 use Rattle.session_pres.specs.Written.{accept_parameters, accept_spdu, release_spdu, IsOneElement}
 use Rattle.session_pres.specs.WrittenPpdu.{connect_spdu, cpa_octets}
@@ -18,7 +19,6 @@ use Rattle.mms_pdu.specs.declared.initiate.Initiate.{Initiate}
 use Rattle.mms_pdu.specs.Initiate.{IsAccepted}
 use Rattle.mms_pdu.specs.InitiateOctets.{accepted, proposed, initiate_answer, initiate_request}
 use Rattle.mms_pdu.proofs.InitiateOctetsLaws.{answer_spelled, request_spelled}
-use Rattle.mms_pdu.proofs.WrittenLaws.{written_last, one_octet}
 use Rattle.osi_stack.specs.Called.{acceptance}
 use Rattle.osi_stack.specs.Calling.{request_spdu}
 use Rattle.osi_stack.specs.Lines.{IsProposal}

@@ -1,11 +1,12 @@
 -- Each layer reads what its grammar spells, and the other way round, as octets alone.
 use Rattle.std.proofs.Common.{◌≡◌, ℕ, List, Option, Result, Ok, Err, sym, ap, subst, ◌∙◌}
 use Rattle.std.specs.Option.{option_map}
+use Rattle.list_laws.proofs.Options.{ok_is}
 use Rattle.ber_grammar.specs.Octets.{IsBytes}
 use Rattle.ber_grammar.specs.Place.{Piece, anywhere}
 use Rattle.ber_grammar.specs.Reader.{◌>>=◌, with_fault, Reads}
 use Rattle.ber_grammar.specs.Steps.{required}
-use Rattle.ber_grammar.proofs.ReaderLaws.{ok_is, gives_at}
+use Rattle.ber_grammar.proofs.ReaderLaws.{gives_at}
 use Rattle.session_pres.specs.declared.codes.TheConstants.{DISCONNECT}
 use Rattle.session_pres.specs.declared.fault.SpFault.TheVariants as session
 use Rattle.session_pres.specs.Units.{Seen, HasUser, IsUserRefused, IsSpdu, IsSpduRefused}

@@ -7,9 +7,10 @@ use Rattle.tpkt_cotp.specs.declared.state.State.{State}
 use Rattle.tpkt_cotp.specs.declared.transport.TransportIn.{TransportIn}
 use Rattle.tpkt_cotp.specs.declared.tsdus.Tsdu.{Tsdu}
 use Rattle.ber_grammar.specs.Octets.{IsBytes}
+use Rattle.ber_grammar.proofs.OctetLaws.{IsBytes-append}
 use Rattle.tpkt_cotp.specs.Packet.{packet, IsPartial}
 use Rattle.tpkt_cotp.specs.Stream.{start, StandsFor, Runs as TransportRuns}
-use Rattle.tpkt_cotp.proofs.StreamLaws.{IsBytes-append, partial_none}
+use Rattle.tpkt_cotp.proofs.StreamLaws.{partial_none}
 use Rattle.osi_stack.specs.declared.connection.Link.{Link}
 use Rattle.osi_stack.specs.declared.events.Event.{Event}
 use Rattle.osi_stack.specs.declared.fault.StackFault.{StackFault}

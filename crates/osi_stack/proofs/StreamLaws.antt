@@ -7,7 +7,7 @@ use Rattle.tpkt_cotp.specs.declared.fault.TpFault.{TpFault}
 use Rattle.ber_grammar.specs.Octets.{IsBytes}
 use Rattle.tpkt_cotp.specs.Packet.{packet, IsTpdu, IsPartial, packet_at}
 use Rattle.tpkt_cotp.proofs.PacketLaws.{packet_again, bad_again, partial_again, found_is}
-use Rattle.tpkt_cotp.proofs.StreamLaws.{after_fits}
+use Rattle.tpkt_cotp.proofs.StreamLaws.{after_fits, first_packet}
 use Rattle.osi_stack.specs.declared.events.Event.{Event}
 use Rattle.osi_stack.specs.declared.cause.Cause.{Cause}
 use Rattle.osi_stack.specs.Causes.{of_transport}
@@ -76,9 +76,6 @@ no_step s rest p after x (Some c) (on, inr (tpdu, others, a, stop)) still one st
     let same : tpdu ≡ p = ap (λ (x : List ℕ × List ℕ). x.0) (found_is (tpdu, others) (p, after) (sym a ∙ one)) in
     let both : step_at s p ≡ Err c = ap (λ (x : List ℕ). step_at s x) (sym same) ∙ stop in
     cc
-
-first_packet : (octets p : List ℕ) (ps : List (List ℕ)) (rest : List ℕ) → octets ≡ flat_map packet (p ∷ ps) ++ rest → IsTpdu p → packet_at octets ≡ Ok (Some (p, flat_map packet ps ++ rest))
-first_packet octets p ps rest w is = ap packet_at (w ∙ ap (λ (x : List ℕ). x ++ rest) (flat_map-cons packet p ps) ∙ append_assoc (packet p) (flat_map packet ps) rest) ∙ packet_again p (flat_map packet ps ++ rest) is
 
 pub one_end : (s t u : Stand) (octets rest other : List ℕ) (ps qs : List (List ℕ)) (es ds : List Event) (e g : Option Cause) → IsBytes octets → Ends t rest e → Ends u other g
     → octets ≡ flat_map packet ps ++ rest → AllByRecursion IsTpdu ps → Runs s ps es t → octets ≡ flat_map packet qs ++ other → AllByRecursion IsTpdu qs → Runs s qs ds u

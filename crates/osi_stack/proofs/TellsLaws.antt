@@ -2,10 +2,11 @@
 use Rattle.std.proofs.Common.{◌≡◌, ℕ, inl, inr, Bool, true, false, cond, eqb, List, Option, Some, None, Result, Ok, Err, refl, sym, ap, subst}
 use Rattle.std.specs.Option.{option_map}
 use Rattle.std.proofs.lemmas.Bool.{eqb-true, eq-eqb}
+use Rattle.list_laws.proofs.Options.{ok_is}
 use Rattle.ber_grammar.specs.Octets.{IsBytes}
 use Rattle.ber_grammar.specs.Place.{Piece, anywhere}
 use Rattle.ber_grammar.specs.Reader.{◌>>=◌, with_fault}
-use Rattle.ber_grammar.proofs.ReaderLaws.{bind_ok, ok_is}
+use Rattle.ber_grammar.proofs.ReaderLaws.{bind_ok}
 use Rattle.tpkt_cotp.specs.declared.tsdus.Tsdu.{Tsdu}
 use Rattle.tpkt_cotp.specs.declared.tsdus.Tsdu.TheVariants.{Connect, Data, Disconnect}
 use Rattle.session_pres.specs.declared.codes.TheConstants.{CONNECT, DISCONNECT}

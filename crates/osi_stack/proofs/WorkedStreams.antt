@@ -15,10 +15,10 @@ use Rattle.osi_stack.specs.Stream.{Stand, called, step_at}
 
 -- a CR with the TPDU size 2 ^ 13 and both selectors, and the CC that answers it
 abbrev cr : List ℕ
-cr = 3 ∷ 0 ∷ 0 ∷ 22 ∷ 17 ∷ 0xE0 ∷ 0 ∷ 0 ∷ 0 ∷ 1 ∷ 0 ∷ 0xC0 ∷ 1 ∷ 13 ∷ 0xC2 ∷ 2 ∷ 0 ∷ 1 ∷ 0xC1 ∷ 2 ∷ 0 ∷ 1 ∷ []
+cr = 3 ∷ 0 ∷ 0 ∷ 22 ∷ 17 ∷ 0xe0 ∷ 0 ∷ 0 ∷ 0 ∷ 1 ∷ 0 ∷ 0xc0 ∷ 1 ∷ 13 ∷ 0xc2 ∷ 2 ∷ 0 ∷ 1 ∷ 0xc1 ∷ 2 ∷ 0 ∷ 1 ∷ []
 
 abbrev cc_for_it : List ℕ
-cc_for_it = 3 ∷ 0 ∷ 0 ∷ 22 ∷ 17 ∷ 0xD0 ∷ 0 ∷ 1 ∷ 0 ∷ 1 ∷ 0 ∷ 0xC0 ∷ 1 ∷ 13 ∷ 0xC2 ∷ 2 ∷ 0 ∷ 1 ∷ 0xC1 ∷ 2 ∷ 0 ∷ 1 ∷ []
+cc_for_it = 3 ∷ 0 ∷ 0 ∷ 22 ∷ 17 ∷ 0xd0 ∷ 0 ∷ 1 ∷ 0 ∷ 1 ∷ 0 ∷ 0xc0 ∷ 1 ∷ 13 ∷ 0xc2 ∷ 2 ∷ 0 ∷ 1 ∷ 0xc1 ∷ 2 ∷ 0 ∷ 1 ∷ []
 
 -- a DR
 abbrev dr : List ℕ

@@ -13,6 +13,7 @@ use Rattle.acse_apdu.specs.Written.{aare_octets, release_octets}
 use Rattle.mms_pdu.specs.declared.initiate.Initiate.{Initiate}
 use Rattle.mms_pdu.specs.InitiateReading.{initiate_at}
 use Rattle.mms_pdu.specs.InitiateOctets.{initiate_answer}
+use Rattle.mms_pdu.specs.declared.tags.TheConstants.{INITIATE_REQUEST}
 use Rattle.osi_stack.specs.declared.events.Event.{Event}
 use Rattle.osi_stack.specs.declared.events.Event.TheVariants.{Connected, Pdu, Released, Aborted}
 use Rattle.osi_stack.specs.declared.events.Line.{Line}
@@ -50,7 +51,7 @@ unfoldable pub request_at : ℕ → List ℕ → Outcome
 request_at exponent user =
     with_fault of_session (cp_from user) >>= λ cp.
     with_fault of_association (pdu_of_aarq cp.user) >>= λ pdu.
-    with_fault of_initiate (initiate_at 0xA8 pdu) >>= λ asked. Ok (accepted exponent cp asked)
+    with_fault of_initiate (initiate_at INITIATE_REQUEST pdu) >>= λ asked. Ok (accepted exponent cp asked)
 
 abbrev pub first_spdu : ℕ → Told → Outcome
 first_spdu exponent (connects user) = request_at exponent user

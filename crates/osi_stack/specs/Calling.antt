@@ -11,6 +11,7 @@ use Rattle.acse_apdu.specs.Written.{aarq_octets}
 use Rattle.mms_pdu.specs.declared.initiate.Initiate.{Initiate}
 use Rattle.mms_pdu.specs.InitiateReading.{initiate_at}
 use Rattle.mms_pdu.specs.InitiateOctets.{initiate_request}
+use Rattle.mms_pdu.specs.declared.tags.TheConstants.{INITIATE_RESPONSE}
 use Rattle.osi_stack.specs.declared.events.Event.{Event}
 use Rattle.osi_stack.specs.declared.events.Event.TheVariants.{Connected, Released, Aborted}
 use Rattle.osi_stack.specs.declared.events.Line.{Line}
@@ -38,7 +39,7 @@ unfoldable pub asking_at : ℕ → ℕ → List ℕ → Outcome
 asking_at exponent size octets =
     with_fault of_session (ac_from octets) >>= λ apdu.
     with_fault of_association (pdu_of_aare apdu) >>= λ pdu.
-    with_fault of_initiate (initiate_at 0xA9 pdu) >>= λ said. Ok (joined exponent size said)
+    with_fault of_initiate (initiate_at INITIATE_RESPONSE pdu) >>= λ said. Ok (joined exponent size said)
 
 -- ---- the association is there
 

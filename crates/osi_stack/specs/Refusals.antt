@@ -18,7 +18,7 @@ use Rattle.session_pres.specs.Presentation.{IsCp, IsCpRefused, IsAc, IsAcRefused
 use Rattle.acse_apdu.specs.declared.codes.TheConstants.{RLRQ, RLRE}
 use Rattle.acse_apdu.specs.Grammar.{IsAarq, IsAarqRefused, IsAare, IsAareRefused, IsReleaseRefused}
 use Rattle.mms_pdu.specs.Initiate.{IsInitiateRefused}
-use Rattle.mms_pdu.specs.Tags.{initiate_request_tag, initiate_response_tag}
+use Rattle.mms_pdu.specs.declared.tags.TheConstants.{INITIATE_REQUEST, INITIATE_RESPONSE}
 use Rattle.osi_stack.specs.declared.cause.Cause.{Cause}
 use Rattle.osi_stack.specs.declared.events.Event.{Event}
 use Rattle.osi_stack.specs.declared.events.Line.{Line}
@@ -36,7 +36,7 @@ In cause_of IsRefused c = (f : _) × IsRefused f × (c ≡ cause_of f)
 
 -- the user data of a CONNECT: no CP, or no AARQ in it, or no initiate request in that
 abbrev pub IsRequestRefused : Piece → Cause → Type 0
-IsRequestRefused user = Or (In of_session (IsCpRefused user)) (IsCp user) (λ cp. Or (In of_association (IsAarqRefused cp.user)) (IsAarq cp.user) (λ pdu. In of_initiate (IsInitiateRefused initiate_request_tag pdu.octets)))
+IsRequestRefused user = Or (In of_session (IsCpRefused user)) (IsCp user) (λ cp. Or (In of_association (IsAarqRefused cp.user)) (IsAarq cp.user) (λ pdu. In of_initiate (IsInitiateRefused INITIATE_REQUEST pdu.octets)))
 
 -- an SPDU that is no CONNECT
 abbrev pub IsFirstRefused : Seen → Cause → Type 0
@@ -47,7 +47,7 @@ IsFirstRefused abort c = c ≡ of_session session.Spdu
 
 -- no ACCEPT with a CPA, or no AARE in it, or no initiate response in that
 abbrev pub IsResponseRefused : List ℕ → Cause → Type 0
-IsResponseRefused octets = Or (In of_session (IsAcRefused (anywhere octets))) (IsAc (anywhere octets)) (λ apdu. Or (In of_association (IsAareRefused apdu)) (IsAare apdu) (λ pdu. In of_initiate (IsInitiateRefused initiate_response_tag pdu.octets)))
+IsResponseRefused octets = Or (In of_session (IsAcRefused (anywhere octets))) (IsAc (anywhere octets)) (λ apdu. Or (In of_association (IsAareRefused apdu)) (IsAare apdu) (λ pdu. In of_initiate (IsInitiateRefused INITIATE_RESPONSE pdu.octets)))
 
 -- ---- the association is there
 

@@ -17,7 +17,7 @@ use Rattle.acse_apdu.specs.declared.codes.TheConstants.{RLRQ, RLRE}
 use Rattle.acse_apdu.specs.Grammar.{IsAarq, IsAare, IsRelease}
 use Rattle.mms_pdu.specs.declared.initiate.Initiate.{Initiate}
 use Rattle.mms_pdu.specs.Initiate.{IsAccepted}
-use Rattle.mms_pdu.specs.Tags.{initiate_request_tag, initiate_response_tag}
+use Rattle.mms_pdu.specs.declared.tags.TheConstants.{INITIATE_REQUEST, INITIATE_RESPONSE}
 use Rattle.osi_stack.specs.declared.events.Event.{Event}
 use Rattle.osi_stack.specs.declared.events.Event.TheVariants.{Pdu, Aborted}
 use Rattle.osi_stack.specs.declared.phase.Phase.{Phase}
@@ -37,7 +37,7 @@ pub record IsRequest (octets : List ℕ) (cp : Request) (initiate : Initiate) : 
   pub ppdu : IsCp user cp
   pub pdu : Piece
   pub apdu : IsAarq cp.user pdu
-  pub mms : IsAccepted initiate_request_tag pdu.octets initiate
+  pub mms : IsAccepted INITIATE_REQUEST pdu.octets initiate
 
 -- An ACCEPT SPDU; its user data are a CPA PPDU that accepts the contexts 1 and 3; the user data of this, in the context 1,
 -- are an AARE APDU that accepts; and its user information is an Initiate-ResponsePDU.
@@ -46,7 +46,7 @@ pub record IsResponse (octets : List ℕ) (initiate : Initiate) : Type 0 where
   pub spdu : IsAc (anywhere octets) user
   pub pdu : Piece
   pub apdu : IsAare user pdu
-  pub mms : IsAccepted initiate_response_tag pdu.octets initiate
+  pub mms : IsAccepted INITIATE_RESPONSE pdu.octets initiate
 
 -- GIVE TOKENS and DATA TRANSFER SPDUs, and user data of the presentation layer (ISO 8823-1, User-data): one value in this
 -- context

@@ -11,9 +11,9 @@ use Rattle.ber_grammar.specs.Content.{IsText, IsBits, IsBoolean}
 use Rattle.ber_write.specs.Minimal.{octets_of, written, uint_octets, CanBeTag}
 use Rattle.ber_write.specs.BitString.{bit_octets}
 use Rattle.ber_write.proofs.ElementLaws.{is_spelling}
-use Rattle.ber_write.proofs.NumberLaws.{uint_octets-spell, length-uint_octets, big_endian-64}
+use Rattle.ber_write.proofs.NumberLaws.{uint_octets-spell, length-uint_octets, big_endian-64, uint_short}
 use Rattle.ber_write.proofs.BitLaws.{bit_octets-spell, length_of_bit_octets}
-use Rattle.mms_pdu.proofs.WrittenLaws.{one_octet, written_last}
+use Rattle.ber_write.proofs.WrittenLaws.{one_octet, written_last}
 use Rattle.bay_model.specs.Parameters.{bit}
 use Rattle.bay_model.specs.declared.report.Report.{Report}
 use Rattle.bay_model.specs.declared.report.Member.{Member}
@@ -90,9 +90,6 @@ same_bits : (o : List Bool) (segment : Option Segment) → length o ≡ 10 → A
 same_bits (a ∷ b ∷ c ∷ d ∷ e ∷ f ∷ g ∷ h ∷ i ∷ j ∷ []) segment ten = ((refl, refl, refl, refl, refl, refl, refl, refl), refl)
 same_bits _ segment ten = absurd (omega (arith, ten))
 
-small_number : (n : ℕ) → length (uint_octets n) < 2 ^ 32
-small_number n = omega (arith, length-uint_octets n)
-
 three_before : (x y z rest : List ℕ) → (x ++ y ++ z) ++ rest ≡ x ++ (y ++ (z ++ rest))
 three_before x y z rest = append_assoc (x ++ y) z rest ∙ append_assoc x y (z ++ rest)
 
@@ -118,7 +115,7 @@ is_first r segment ms rest h k same =
       y ++ (z ++ rest),
       z ++ rest,
       subst (λ (o : List ℕ). Takes 134 (IsBelow 65536) (bit 1 f) 0 o (y ++ (z ++ rest)) (if bit 1 r.opt_flds then r.sq else 0)) (sym (three_before x y z rest))
-          (takes 134 (IsBelow 65536) (bit 1 f) (bit 1 r.opt_flds) 0 r.sq (uint_octets r.sq) (y ++ (z ++ rest)) same.0 tag_134 (small_number r.sq) (number_told 65536 r.sq k.sq (omega arith))),
+          (takes 134 (IsBelow 65536) (bit 1 f) (bit 1 r.opt_flds) 0 r.sq (uint_octets r.sq) (y ++ (z ++ rest)) same.0 tag_134 (uint_short r.sq) (number_told 65536 r.sq k.sq (omega arith))),
       takes 140 IsMoment (bit 2 f) (bit 2 r.opt_flds) 441763200000 r.time (time_octets r.time) (z ++ rest) same.1 tag_140 (omega arith) (time_told r.time k.first k.last),
       takes 138 IsText (bit 4 f) (bit 4 r.opt_flds) [] r.dat_set r.dat_set rest same.3 tag_138 (omega (arith, h.dat_set)) (text_told r.dat_set k.dat_set),
     )
@@ -135,7 +132,7 @@ is_further r segment ms rest k same =
       subst (λ (o : List ℕ). Takes 131 IsBoolean (bit 6 f) false o (y ++ (z ++ rest)) (if bit 6 r.opt_flds then r.ovfl else false)) (sym (three_before x y z rest))
           (takes 131 IsBoolean (bit 6 f) (bit 6 r.opt_flds) false r.ovfl (truth r.ovfl) (y ++ (z ++ rest)) same.5 tag_131 (omega arith) (truth_told r.ovfl)),
       takes 137 IsEntryId (bit 7 f) (bit 7 r.opt_flds) 0 r.id (to_be_bytes w64 r.id) (z ++ rest) same.6 tag_137 (omega arith) (id_told r.id k.id),
-      takes 134 (IsBelow (2 ^ 32)) (bit 8 f) (bit 8 r.opt_flds) 0 r.conf_rev (uint_octets r.conf_rev) rest same.7 tag_134 (small_number r.conf_rev) (number_told (2 ^ 32) r.conf_rev k.conf_rev (omega arith)),
+      takes 134 (IsBelow (2 ^ 32)) (bit 8 f) (bit 8 r.opt_flds) 0 r.conf_rev (uint_octets r.conf_rev) rest same.7 tag_134 (uint_short r.conf_rev) (number_told (2 ^ 32) r.conf_rev k.conf_rev (omega arith)),
     )
 
 abbrev PlaceIs : Option Segment → Bool → List ℕ → Type 0
@@ -149,7 +146,7 @@ is_place (Some s) true rest e lt =
     let z : List ℕ = octets_of 131 (truth s.more) in (
       z ++ rest,
       subst (λ (o : List ℕ). Takes 134 (IsBelow (2 ^ 32)) true 0 o (z ++ rest) s.sub) (sym (append_assoc (octets_of 134 (uint_octets s.sub)) z rest))
-          (takes 134 (IsBelow (2 ^ 32)) true true 0 s.sub (uint_octets s.sub) (z ++ rest) refl tag_134 (small_number s.sub) (number_told (2 ^ 32) s.sub lt (omega arith))),
+          (takes 134 (IsBelow (2 ^ 32)) true true 0 s.sub (uint_octets s.sub) (z ++ rest) refl tag_134 (uint_short s.sub) (number_told (2 ^ 32) s.sub lt (omega arith))),
       takes 131 IsBoolean true true false s.more (truth s.more) rest refl tag_131 (omega arith) (truth_told s.more),
     )
 

@@ -5,6 +5,7 @@ use Rattle.std.specs.Result.{is_ok}
 use Rattle.std.proofs.Math.Seq.{take-append_seam}
 use Rattle.std.proofs.lemmas.Bool.{lt-ltb, ltb-true, eqb-true, eq-eqb}
 use Rattle.std.proofs.lemmas.List.{length-append, append-nil}
+use Rattle.list_laws.proofs.Options.{some_is, chosen}
 use Rattle.ber_grammar.specs.declared.fault.BerFault.{BerFault}
 use Rattle.ber_grammar.specs.declared.fault.BerFault.TheVariants.{BadNumber}
 use Rattle.ber_grammar.specs.Octets.{IsBytes, big_endian}
@@ -13,12 +14,12 @@ use Rattle.ber_grammar.specs.Element.{Element, Begins}
 use Rattle.ber_grammar.specs.Content.{IsText, IsUint, IsBits, IsBitsRefused, IsBoolean}
 use Rattle.ber_grammar.specs.Reader.{◌>>=◌, kept, and_then, Gives, Reads}
 use Rattle.ber_grammar.specs.Reading.{first_at, text_at, bits_at, boolean_at}
-use Rattle.ber_grammar.proofs.OptionLaws.{kept_some, then_some, chosen, some_is}
+use Rattle.ber_grammar.proofs.OptionLaws.{kept_some, then_some}
 use Rattle.ber_grammar.proofs.ElementLaws.{first_again}
 use Rattle.ber_grammar.proofs.FieldLaws.{begins_of}
 use Rattle.ber_grammar.proofs.OctetLaws.{Begins-bytes}
 use Rattle.ber_grammar.proofs.TextLaws.{text_again, text_found}
-use Rattle.ber_grammar.proofs.BitLaws.{bits_again, bits_reads}
+use Rattle.ber_grammar.proofs.BitLaws.{bits_again, bits_reads, bits_found}
 use Rattle.ber_grammar.proofs.BooleanLaws.{boolean_again, boolean_found}
 use Rattle.sv_base.specs.Tree.{Seen}
 use Rattle.mms_data.specs.declared.fault.DataFault.{DataFault}
@@ -91,13 +92,6 @@ moment_comes c x (ms, days, (six, m, d), lt, same, le) =
     rw (eq-eqb (length c) 6 six) (ap (λ (n : ℕ). moment_of n (big_endian (drop 4 c))) (sym m) ∙ ap (λ (n : ℕ). moment_of ms n) (sym d) ∙ moment_tells ms days x lt same le)
 
 -- ---- bits
-
-self : {A F : Type 0} (r : Result A F) → Gives (λ (x : A). x) r r
-self (Ok x) = refl
-self (Err f) = refl
-
-bits_found : (c : List ℕ) (bits : List Bool) → bits_at c ≡ Ok bits → IsBits c bits
-bits_found c bits e = subst (λ (r : Result (List Bool) BerFault). MatchResult r (IsBits c) (IsBitsRefused c)) e (bits_reads (λ (x : List Bool). x) (bits_at c) c (self (bits_at c))).tells
 
 pub options_are : IsFound options_in IsOptFlds
 unfolding options_in

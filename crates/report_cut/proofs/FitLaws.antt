@@ -7,7 +7,8 @@ use Rattle.std.proofs.lemmas.Bool.{le-leb, leb-true, leb-false}
 use Rattle.std.proofs.lemmas.Bool.Decides.{nat_tests}
 use Rattle.std.proofs.lemmas.List.Sums.{sum_by-cons}
 use Rattle.ber_write.specs.Minimal.{uint_octets, length_octets}
-use Rattle.ber_write.proofs.NumberLaws.{length-strip_from}
+use Rattle.ber_write.proofs.NumberLaws.{length-uint_octets}
+use Rattle.ber_write.proofs.LengthLaws.{at_most_three, at_most_two}
 use Rattle.bay_model.specs.Parameters.{bit}
 use Rattle.bay_model.specs.declared.report.Report.{Report}
 use Rattle.bay_model.specs.declared.report.Member.{Member}
@@ -20,26 +21,16 @@ use Rattle.report_cut.proofs.SizeLaws.{length_of_pdu, length_of_front, length_of
 use Rattle.report_cut.proofs.CutLaws.{FitsAlone, fit_from, whole_from, full_from}
 use Rattle.report_cut.proofs.StepLaws.{as_long}
 
-uint_few : (n : ℕ) → length (uint_octets n) ≤ 9
-unfolding uint_octets
-uint_few n = omega (arith, length-strip_from 0 (to_be_bytes w64 n))
-
-length_field : (n : ℕ) → n < 65536 → length (length_octets n) ≤ 3
-length_field n lt = grind (arith, nat_tests, lt)
-
-length_field_small : (n : ℕ) → n < 256 → length (length_octets n) ≤ 2
-length_field_small n lt = grind (arith, nat_tests, lt)
-
 size_small : (n : ℕ) → n < 256 → element_size n ≤ n + 3
 unfolding element_size
-size_small n lt = omega (arith, length_field_small n lt)
+size_small n lt = omega (arith, at_most_two n lt)
 
 size_large : (n : ℕ) → n < 65536 → element_size n ≤ n + 4
 unfolding element_size
-size_large n lt = omega (arith, length_field n lt)
+size_large n lt = omega (arith, at_most_three n lt)
 
 size_uint : (n : ℕ) → element_size (length (uint_octets n)) ≤ 12
-size_uint n = omega (arith, uint_few n, size_small (length (uint_octets n)) (omega (arith, uint_few n)))
+size_uint n = omega (arith, length-uint_octets n, size_small (length (uint_octets n)) (omega (arith, length-uint_octets n)))
 
 framed_short : (n : ℕ) → n < 60000 → framed n ≤ n + 19
 unfolding framed

@@ -3,15 +3,17 @@ use Rattle.std.proofs.Common.{◌≡◌, ℕ, ◌^◌, ◌&&◌, cond, eqb, Bool
 use Rattle.std.specs.Prelude.{if◌then◌else◌}
 use Rattle.std.proofs.lemmas.Bool.{eqb-true, eq-eqb}
 use Rattle.std.proofs.lemmas.List.{append-nil}
+use Rattle.list_laws.proofs.Options.{some_is, chosen, ok_is}
 use Rattle.ber_grammar.specs.Octets.{IsBytes}
 use Rattle.ber_grammar.specs.Content.{IsText, IsBoolean}
 use Rattle.ber_grammar.specs.Element.{Element, Spells, Begins, IsRow}
 use Rattle.ber_grammar.specs.Reader.{and_then, Reads}
 use Rattle.ber_grammar.specs.Steps.{required}
-use Rattle.ber_grammar.proofs.OptionLaws.{then_some, chosen, some_is}
+use Rattle.ber_grammar.proofs.OptionLaws.{then_some}
 use Rattle.ber_grammar.proofs.OctetLaws.{Begins-bytes, Spells-bytes, IsBytes-front}
-use Rattle.ber_grammar.proofs.ReaderLaws.{one_refusal, ok_is}
+use Rattle.ber_grammar.proofs.ReaderLaws.{one_refusal}
 use Rattle.ber_grammar.proofs.Theorems.{one_element}
+use Rattle.ber_grammar.proofs.FieldLaws.{row_spells, spells_row}
 use Rattle.mms_pdu.specs.Invoke.{below_at}
 use Rattle.mms_pdu.specs.ReplyOctets.{IsReport}
 use Rattle.bay_model.specs.Parameters.{bit}
@@ -219,12 +221,6 @@ told_again results p fits (a, b, c, d, i, f, g, s, body) none =
 
 -- ---- the PDU
 
-row_one : (octets : List ℕ) (e : Element) → Spells octets e → IsRow octets (e ∷ [])
-row_one octets e s = (octets, [], s, sym (append-nil octets), refl)
-
-one_row : (octets : List ℕ) (e : Element) → IsRow octets (e ∷ []) → Spells octets e
-one_row octets e (front, rest, s, p, none) = subst (λ (o : List ℕ). Spells o e) (sym (p ∙ ap (λ (o : List ℕ). front ++ o) none ∙ append-nil front)) s
-
 abbrev rpt_name : List ℕ
 rpt_name = 82 ∷ 80 ∷ 84 ∷ []
 
@@ -271,28 +267,28 @@ results_found input results fits h =
         found.0,
         pdu.1,
         pdu.2,
-        subst (λ (o : List ℕ). IsRow o (service.0 ∷ [])) (sym pdu.3) (row_one i.0 service.0 service.1),
+        subst (λ (o : List ℕ). IsRow o (service.0 ∷ [])) (sym pdu.3) (spells_row i.0 service.0 service.1),
         service.2,
-        subst (λ (o : List ℕ). IsRow o (names.0 ∷ found.0 ∷ [])) (sym service.3) (begun.0, k.0.1, begun.1, begun.2, row_one k.0.1 found.0 found.1),
+        subst (λ (o : List ℕ). IsRow o (names.0 ∷ found.0 ∷ [])) (sym service.3) (begun.0, k.0.1, begun.1, begun.2, spells_row k.0.1 found.0 found.1),
         begun.1,
         found.2,
         found.3,
       ),
-      (names.0, name.0, begun.1, names.2, row_one names.0.content name.0 name.1, name.2, name.3 ∙ name_is l.0 m.0),
+      (names.0, name.0, begun.1, names.2, spells_row names.0.content name.0 name.1, name.2, name.3 ∙ name_is l.0 m.0),
       subst (λ (o : List ℕ). IsBytes o) found.3 (Spells-bytes k.0.1 found.0 k_fits found.1),
     )
 
 results_again : (input names results : List ℕ) → IsBytes input → IsReport input names results → IsListName names → (results_in input ≡ Some results) × IsBytes results
 unfolding results_in
 results_again input names results fits (e, k, v, r, s, e_tag, e_row, k_tag, (front, rest, v_spelled, p, r_row), v_names, r_tag, holds) (w, n, w_spelled, w_tag, w_row, n_tag, n_name) =
-    let k_spelled = one_row e.content k e_row in
-    let r_spelled = one_row rest r r_row in
+    let k_spelled = row_spells e.content k e_row in
+    let r_spelled = row_spells rest r r_row in
     let e_fits = Spells-bytes input e fits s in
     let k_fits = Spells-bytes e.content k e_fits k_spelled in
     let r_fits = (Begins-bytes k.content v rest k_fits (front, v_spelled, p)).1 in
     let same : v ≡ w = (one_element names v w [] [] (names, v_names, sym (append-nil names)) (names, w_spelled, sym (append-nil names))).0 in
     let v_tag : v.tag ≡ 161 = ap (λ (x : Element). x.tag) same ∙ w_tag in
-    let n_spelled : Spells v.content n = subst (λ (x : Element). Spells x.content n) (sym same) (one_row w.content n w_row) in (
+    let n_spelled : Spells v.content n = subst (λ (x : Element). Spells x.content n) (sym same) (row_spells w.content n w_row) in (
       rw (
         enclosed_again 163 input e.content e s e_tag refl,
         enclosed_again 160 e.content k.content k k_spelled k_tag refl,

@@ -1,12 +1,13 @@
 -- Fields in front are taken as the octets tell them.
 use Rattle.std.proofs.Common.{◌≡◌, ℕ, ◌^◌, cond, eqb, Bool, true, false, List, [], ◌∷◌, ◌++◌, refl, sym, ap, subst, ◌∙◌, Option, Some, None, Ok}
 use Rattle.std.proofs.lemmas.Bool.{eqb-true, eq-eqb}
+use Rattle.list_laws.proofs.Options.{some_is, chosen}
 use Rattle.ber_grammar.specs.Octets.{IsBytes}
 use Rattle.ber_grammar.specs.Element.{Element, Begins, Spells}
 use Rattle.ber_grammar.specs.Reader.{kept, and_then}
 use Rattle.ber_grammar.specs.Reading.{first_at}
 use Rattle.ber_grammar.specs.Fields.{whole_at}
-use Rattle.ber_grammar.proofs.OptionLaws.{kept_some, then_some, chosen, some_is}
+use Rattle.ber_grammar.proofs.OptionLaws.{kept_some, then_some}
 use Rattle.ber_grammar.proofs.ElementLaws.{first_again}
 use Rattle.ber_grammar.proofs.FieldLaws.{begins_of, whole_again, whole_found}
 use Rattle.ber_grammar.proofs.OctetLaws.{Begins-bytes}

@@ -2,12 +2,13 @@
 use Rattle.std.proofs.Common.{◌≡◌, ℕ, ◌+◌, ◌<◌, cond, ltb, eqb, Bool, true, false, List, [], ◌∷◌, ◌++◌, length, refl, sym, ap, subst, ◌∙◌, append_assoc, Option, Some, None, Ok}
 use Rattle.std.proofs.lemmas.Bool.{eqb-true, eq-eqb}
 use Rattle.std.proofs.lemmas.List.{nil_from_length, append-nil}
+use Rattle.list_laws.proofs.Options.{some_is, chosen}
 use Rattle.ber_grammar.specs.Octets.{IsBytes}
 use Rattle.ber_grammar.specs.Content.{IsText}
 use Rattle.ber_grammar.specs.Element.{Element, Begins}
 use Rattle.ber_grammar.specs.Reader.{kept, and_then}
 use Rattle.ber_grammar.specs.Reading.{first_at}
-use Rattle.ber_grammar.proofs.OptionLaws.{kept_some, then_some, chosen, some_is}
+use Rattle.ber_grammar.proofs.OptionLaws.{kept_some, then_some}
 use Rattle.ber_grammar.proofs.ElementLaws.{first_again}
 use Rattle.ber_grammar.proofs.FieldLaws.{begins_of}
 use Rattle.ber_grammar.proofs.OctetLaws.{Begins-bytes}

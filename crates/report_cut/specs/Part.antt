@@ -6,7 +6,9 @@ use Rattle.ber_grammar.specs.Element.{Element, Spells, Begins, IsRow}
 use Rattle.ber_grammar.specs.Content.{IsText, IsUint, IsBits, IsBoolean}
 use Rattle.sv_base.specs.Tree.{Seen}
 use Rattle.mms_data.specs.Grammar.{IsStamp, IsSpelled}
+use Rattle.mms_data.specs.declared.tags.TheConstants.{BINARY_TIME, BIT_STRING, BOOLEAN, OCTET_STRING, UNSIGNED, VISIBLE_STRING}
 use Rattle.mms_pdu.specs.ReplyOctets.{IsReport}
+use Rattle.mms_pdu.specs.declared.tags.TheConstants.{VARIABLE_LIST_NAME, VMD_SPECIFIC}
 use Rattle.bay_model.specs.Parameters.{bit}
 use Rattle.bay_model.specs.declared.report.Report.{Report}
 use Rattle.bay_model.specs.declared.report.Member.{Member}
@@ -49,25 +51,25 @@ no_reasons = record { dchg = false; qchg = false; dupd = false; intg = false; gi
 -- ---- in front of the members
 
 abbrev pub IsIdentity : List ℕ → List ℕ → Report → Type 0
-IsIdentity octets rest r = (a : List ℕ) × Takes 0x8A IsText true [] octets a r.rpt_id × Takes 0x84 IsOptFlds true [] a rest r.opt_flds
+IsIdentity octets rest r = (a : List ℕ) × Takes VISIBLE_STRING IsText true [] octets a r.rpt_id × Takes BIT_STRING IsOptFlds true [] a rest r.opt_flds
 
 abbrev pub IsFirst : List ℕ → List ℕ → Report → Type 0
 IsFirst octets rest r = (a b : List ℕ)
-    × Takes 0x86 (IsBelow 65536) (bit 1 r.opt_flds) 0 octets a r.sq
-    × Takes 0x8C IsMoment (bit 2 r.opt_flds) 441763200000 a b r.time
-    × Takes 0x8A IsText (bit 4 r.opt_flds) [] b rest r.dat_set
+    × Takes UNSIGNED (IsBelow 65536) (bit 1 r.opt_flds) 0 octets a r.sq
+    × Takes BINARY_TIME IsMoment (bit 2 r.opt_flds) 441763200000 a b r.time
+    × Takes VISIBLE_STRING IsText (bit 4 r.opt_flds) [] b rest r.dat_set
 
 abbrev pub IsFurther : List ℕ → List ℕ → Report → Type 0
 IsFurther octets rest r = (a b : List ℕ)
-    × Takes 0x83 IsBoolean (bit 6 r.opt_flds) false octets a r.ovfl
-    × Takes 0x89 IsEntryId (bit 7 r.opt_flds) 0 a b r.id
-    × Takes 0x86 (IsBelow (2 ^ 32)) (bit 8 r.opt_flds) 0 b rest r.conf_rev
+    × Takes BOOLEAN IsBoolean (bit 6 r.opt_flds) false octets a r.ovfl
+    × Takes OCTET_STRING IsEntryId (bit 7 r.opt_flds) 0 a b r.id
+    × Takes UNSIGNED (IsBelow (2 ^ 32)) (bit 8 r.opt_flds) 0 b rest r.conf_rev
 
 -- SubSqNum and MoreSegmentsFollow, where bit 9 says that the report goes in segments
 abbrev pub IsPlace : List ℕ → List ℕ → ReportPart → Type 0
 IsPlace octets rest p = (a : List ℕ)
-    × Takes 0x86 (IsBelow (2 ^ 32)) (bit 9 p.report.opt_flds) 0 octets a p.sub
-    × Takes 0x83 IsBoolean (bit 9 p.report.opt_flds) false a rest p.more
+    × Takes UNSIGNED (IsBelow (2 ^ 32)) (bit 9 p.report.opt_flds) 0 octets a p.sub
+    × Takes BOOLEAN IsBoolean (bit 9 p.report.opt_flds) false a rest p.more
 
 -- ---- the members
 
@@ -88,12 +90,12 @@ TakesData octets rest d = (octets ≡ d ++ rest) × (s : Seen) × IsSpelled d s
 abbrev pub AreTold : Bool → Bool → List ℕ → List ℕ → List ℕ → List ℕ → List ℕ → List ℕ → List Member → Type 0
 AreTold referred reasoned a x b y c z [] = (a ≡ x) × (b ≡ y) × (c ≡ z)
 AreTold referred reasoned a x b y c z (m ∷ ms) = (k l n : List ℕ)
-    × Takes 0x8A IsText referred [] a k m.reference × TakesData b l m.octets × Takes 0x84 IsReasons reasoned no_reasons c n m.reasons
+    × Takes VISIBLE_STRING IsText referred [] a k m.reference × TakesData b l m.octets × Takes BIT_STRING IsReasons reasoned no_reasons c n m.reasons
     × AreTold referred reasoned k x l y n z ms
 
 -- the inclusion bits, the references, the values and the reasons, to the end
 abbrev pub IsBody : List ℕ → Report → Type 0
-IsBody octets r = (bits : List Bool) × (a b c : List ℕ) × Takes 0x84 IsInclusion true [] octets a bits × (r.total ≡ length bits)
+IsBody octets r = (bits : List Bool) × (a b c : List ℕ) × Takes BIT_STRING IsInclusion true [] octets a bits × (r.total ≡ length bits)
     × AreMarked 1 bits r.members × AreTold (bit 5 r.opt_flds) (bit 3 r.opt_flds) a b b c c [] r.members
 
 -- ---- the PDU
@@ -103,7 +105,7 @@ IsResults octets p = (a b c d : List ℕ) × IsIdentity octets a p.report × IsF
 
 -- the list name RPT, in any spelling
 abbrev pub IsListName : List ℕ → Type 0
-IsListName names = (v k : Element) × Spells names v × (v.tag ≡ 0xA1) × IsRow v.content (k ∷ []) × (k.tag ≡ 0x80) × (k.content ≡ 0x52 ∷ 0x50 ∷ 0x54 ∷ [])
+IsListName names = (v k : Element) × Spells names v × (v.tag ≡ VARIABLE_LIST_NAME) × IsRow v.content (k ∷ []) × (k.tag ≡ VMD_SPECIFIC) × (k.content ≡ 0x52 ∷ 0x50 ∷ 0x54 ∷ [])
 
 -- The octets are the PDU of a report that tells this. The number of the block is not sent: it is 0.
 abbrev pub IsReportPart : List ℕ → ReportPart → Type 0

@@ -9,7 +9,9 @@ use Rattle.ber_grammar.specs.Reading.{first_at, boolean_at, text_at, bits_at}
 use Rattle.ber_grammar.specs.declared.fault.BerFault.TheVariants.{BadNumber}
 use Rattle.ber_grammar.specs.Steps.{required}
 use Rattle.mms_data.specs.Reading.{data_at}
+use Rattle.mms_data.specs.declared.tags.TheConstants.{BINARY_TIME, BIT_STRING, BOOLEAN, OCTET_STRING, UNSIGNED, VISIBLE_STRING}
 use Rattle.mms_pdu.specs.Invoke.{below_at}
+use Rattle.mms_pdu.specs.declared.tags.TheConstants.{INFORMATION_REPORT, REPORT_RESULTS, UNCONFIRMED, VARIABLE_LIST_NAME, VMD_SPECIFIC}
 use Rattle.bay_model.specs.Parameters.{bit}
 use Rattle.bay_model.specs.declared.report.Report.{Report}
 use Rattle.bay_model.specs.declared.report.Member.{Member}
@@ -75,25 +77,25 @@ reasons_in content = and_then (kept (bits_at content)) (λ bits. if length bits 
 
 unfoldable pub identity_at : List ℕ → Option (List ℕ × List Bool × List ℕ)
 identity_at octets =
-    and_then (taken_at 0x8A text_in true [] octets) (λ x.
-    and_then (taken_at 0x84 options_in true [] x.1) (λ y. Some (x.0, y.0, y.1)))
+    and_then (taken_at VISIBLE_STRING text_in true [] octets) (λ x.
+    and_then (taken_at BIT_STRING options_in true [] x.1) (λ y. Some (x.0, y.0, y.1)))
 
 unfoldable pub first_fields_at : List Bool → List ℕ → Option (ℕ × ℕ × List ℕ × List ℕ)
 first_fields_at opts octets =
-    and_then (taken_at 0x86 (below_at 65536) (bit 1 opts) 0 octets) (λ x.
-    and_then (taken_at 0x8C moment_in (bit 2 opts) 441763200000 x.1) (λ y.
-    and_then (taken_at 0x8A text_in (bit 4 opts) [] y.1) (λ z. Some (x.0, y.0, z.0, z.1))))
+    and_then (taken_at UNSIGNED (below_at 65536) (bit 1 opts) 0 octets) (λ x.
+    and_then (taken_at BINARY_TIME moment_in (bit 2 opts) 441763200000 x.1) (λ y.
+    and_then (taken_at VISIBLE_STRING text_in (bit 4 opts) [] y.1) (λ z. Some (x.0, y.0, z.0, z.1))))
 
 unfoldable pub further_fields_at : List Bool → List ℕ → Option (Bool × ℕ × ℕ × List ℕ)
 further_fields_at opts octets =
-    and_then (taken_at 0x83 truth_in (bit 6 opts) false octets) (λ x.
-    and_then (taken_at 0x89 id_in (bit 7 opts) 0 x.1) (λ y.
-    and_then (taken_at 0x86 (below_at (2 ^ 32)) (bit 8 opts) 0 y.1) (λ z. Some (x.0, y.0, z.0, z.1))))
+    and_then (taken_at BOOLEAN truth_in (bit 6 opts) false octets) (λ x.
+    and_then (taken_at OCTET_STRING id_in (bit 7 opts) 0 x.1) (λ y.
+    and_then (taken_at UNSIGNED (below_at (2 ^ 32)) (bit 8 opts) 0 y.1) (λ z. Some (x.0, y.0, z.0, z.1))))
 
 unfoldable pub place_at : Bool → List ℕ → Option (ℕ × Bool × List ℕ)
 place_at segmented octets =
-    and_then (taken_at 0x86 (below_at (2 ^ 32)) segmented 0 octets) (λ x.
-    and_then (taken_at 0x83 truth_in segmented false x.1) (λ y. Some (x.0, y.0, y.1)))
+    and_then (taken_at UNSIGNED (below_at (2 ^ 32)) segmented 0 octets) (λ x.
+    and_then (taken_at BOOLEAN truth_in segmented false x.1) (λ y. Some (x.0, y.0, y.1)))
 
 -- ---- the members
 
@@ -112,9 +114,9 @@ behind_each (true ∷ bits) octets = and_then (kept (first_at octets)) (λ x. be
 
 unfoldable pub member_at : Bool → Bool → ℕ → List ℕ → List ℕ → List ℕ → Option (Member × List ℕ × List ℕ × List ℕ)
 member_at referred reasoned n a b c =
-    and_then (taken_at 0x8A text_in referred [] a) (λ x.
+    and_then (taken_at VISIBLE_STRING text_in referred [] a) (λ x.
     and_then (data_in b) (λ y.
-    and_then (taken_at 0x84 reasons_in reasoned no_reasons c) (λ z.
+    and_then (taken_at BIT_STRING reasons_in reasoned no_reasons c) (λ z.
     Some (record { number = record { 0 = n }; reference = x.0; octets = y.0; reasons = z.0 }, x.1, y.1, z.1))))
 
 -- the members behind those so far, of the bits from a number on, whose references, Data and reasons begin in three places
@@ -125,7 +127,7 @@ members_at referred reasoned n (true ∷ bits) a b c so_far = and_then (member_a
 
 unfoldable pub body_at : Bool → Bool → List ℕ → Option (ℕ × List Member)
 body_at referred reasoned octets =
-    and_then (taken_at 0x84 inclusion_in true [] octets) (λ x.
+    and_then (taken_at BIT_STRING inclusion_in true [] octets) (λ x.
     and_then (if referred then behind_each x.0 x.1 else Some x.1) (λ b.
     and_then (behind_each x.0 b) (λ c.
     and_then (members_at referred reasoned 1 x.0 x.1 b c []) (λ ms. Some (length x.0, ms)))))
@@ -142,11 +144,11 @@ is_rpt (a ∷ b ∷ c ∷ d ∷ rest) = false
 -- the results of a report under the list name RPT
 unfoldable pub results_in : List ℕ → Option (List ℕ)
 results_in input =
-    and_then (enclosed_at 0xA3 input) (λ service.
-    and_then (enclosed_at 0xA0 service) (λ content.
-    and_then (field_at 0xA1 true content) (λ x.
-    and_then (said (enclosed_at 0x80) [] x.0) (λ name.
-    if is_rpt name then enclosed_at 0xA0 x.1 else None))))
+    and_then (enclosed_at UNCONFIRMED input) (λ service.
+    and_then (enclosed_at INFORMATION_REPORT service) (λ content.
+    and_then (field_at VARIABLE_LIST_NAME true content) (λ x.
+    and_then (said (enclosed_at VMD_SPECIFIC) [] x.0) (λ name.
+    if is_rpt name then enclosed_at REPORT_RESULTS x.1 else None))))
 
 unfoldable pub told_by : List ℕ → Option ReportPart
 told_by results =

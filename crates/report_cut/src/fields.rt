@@ -3,6 +3,7 @@
 ghost use Rattle.std.specs.Prelude.{◌≡◌, ◌++◌, ◌∷◌, List, [], ◌≤◌, length, OnOk, IfOk};
 ghost use Rattle.ber_write.specs.Minimal.{octets_of, uint_octets, CanBeTag};
 ghost use Rattle.ber_write.specs.BitString.{bit_octets};
+ghost use Rattle.mms_data.specs.declared.tags.TheConstants.{UNSIGNED};
 ghost use Rattle.report_cut.specs.Fields.{optional, truth as truth_of, flags as flags_of, identity, time_octets as time_octets_of, first_fields, further_fields, place, front};
 
 use crate::measure::bit;
@@ -35,7 +36,7 @@ fn add_if(out: &mut Vec<u8>, asked: bool, tag: u32, content: &[u8]) -> Result<()
 }
 
 fn add_uint_if(out: &mut Vec<u8>, asked: bool, value: u64) -> Result<(), AllocError>
-    ensures { OnOk result (out.new.items ≡ out.old.items ++ optional asked (octets_of 0x86 (uint_octets value))) }
+    ensures { OnOk result (out.new.items ≡ out.old.items ++ optional asked (octets_of UNSIGNED (uint_octets value))) }
 {
     if !asked {
         return Ok(());

@@ -19,7 +19,7 @@ pub(crate) fn bit(opts: &Bits, i: usize) -> bool
 }
 
 /// How many octets an element has whose content has so many.
-#[tactic(auto, unfolding(crate::specs::Sizes::element_size), using(crate::proofs::SizeLaws::length_short))]
+#[tactic(auto, unfolding(crate::specs::Sizes::element_size), using(ber_write::proofs::LengthLaws::at_most_five))]
 pub(crate) fn element_len(n: u32) -> u32
     requires { n < 2 ^ 24 }
     ensures value { result ≡ element_size n }

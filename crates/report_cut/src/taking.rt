@@ -3,6 +3,7 @@
 ghost use Rattle.std.specs.Prelude.{◌≡◌, ◌≤◌, [], List, true, false, ◌^◌, length, IfSome};
 ghost use Rattle.std.specs.Option.{option_map};
 ghost use Rattle.mms_pdu.specs.Invoke.{below_at};
+ghost use Rattle.mms_data.specs.declared.tags.TheConstants.{BINARY_TIME, BIT_STRING, BOOLEAN, OCTET_STRING, UNSIGNED, VISIBLE_STRING};
 ghost use Rattle.report_cut.specs.Part.{no_reasons};
 ghost use Rattle.report_cut.specs.PartReading.{enclosed_at, field_at, taken_at, text_in, truth_in, moment_in, id_in, options_in, inclusion_in, reasons_in};
 
@@ -44,7 +45,7 @@ pub(crate) fn field(tag: u32, asked: bool, octets: &[u8]) -> Option<(Option<&[u8
 /// A visible string; else it is empty.
 #[tactic(auto, unfolding(crate::specs::PartReading::taken_at))]
 pub(crate) fn take_text(asked: bool, octets: &[u8]) -> Option<(&[u8], &[u8])>
-    ensures { option_map (λ x. (x.0.now, x.1.now)) result ≡ taken_at 0x8A text_in asked [] octets.now }
+    ensures { option_map (λ x. (x.0.now, x.1.now)) result ≡ taken_at VISIBLE_STRING text_in asked [] octets.now }
 {
     let (content, rest) = field(tags::VISIBLE_STRING, asked, octets)?;
     match content {
@@ -56,7 +57,7 @@ pub(crate) fn take_text(asked: bool, octets: &[u8]) -> Option<(&[u8], &[u8])>
 /// A boolean; else it is false.
 #[tactic(auto, unfolding(crate::specs::PartReading::taken_at))]
 pub(crate) fn take_truth(asked: bool, octets: &[u8]) -> Option<(bool, &[u8])>
-    ensures { option_map (λ x. (x.0, x.1.now)) result ≡ taken_at 0x83 truth_in asked false octets.now }
+    ensures { option_map (λ x. (x.0, x.1.now)) result ≡ taken_at BOOLEAN truth_in asked false octets.now }
 {
     let (content, rest) = field(tags::BOOLEAN, asked, octets)?;
     match content {
@@ -68,7 +69,7 @@ pub(crate) fn take_truth(asked: bool, octets: &[u8]) -> Option<(bool, &[u8])>
 /// A number of 16 bits; else it is 0.
 #[tactic(auto, unfolding(crate::specs::PartReading::taken_at))]
 pub(crate) fn take_short(asked: bool, octets: &[u8]) -> Option<(u16, &[u8])>
-    ensures { option_map (λ x. (x.0, x.1.now)) result ≡ taken_at 0x86 (below_at 65536) asked 0 octets.now }
+    ensures { option_map (λ x. (x.0, x.1.now)) result ≡ taken_at UNSIGNED (below_at 65536) asked 0 octets.now }
 {
     let (content, rest) = field(tags::UNSIGNED, asked, octets)?;
     match content {
@@ -80,7 +81,7 @@ pub(crate) fn take_short(asked: bool, octets: &[u8]) -> Option<(u16, &[u8])>
 /// A number of 32 bits; else it is 0.
 #[tactic(auto, unfolding(crate::specs::PartReading::taken_at))]
 pub(crate) fn take_number(asked: bool, octets: &[u8]) -> Option<(u32, &[u8])>
-    ensures { option_map (λ x. (x.0, x.1.now)) result ≡ taken_at 0x86 (below_at (2 ^ 32)) asked 0 octets.now }
+    ensures { option_map (λ x. (x.0, x.1.now)) result ≡ taken_at UNSIGNED (below_at (2 ^ 32)) asked 0 octets.now }
 {
     let (content, rest) = field(tags::UNSIGNED, asked, octets)?;
     match content {
@@ -92,7 +93,7 @@ pub(crate) fn take_number(asked: bool, octets: &[u8]) -> Option<(u32, &[u8])>
 /// A binary time of a moment; else it is the least.
 #[tactic(auto, unfolding(crate::specs::PartReading::taken_at))]
 pub(crate) fn take_time(asked: bool, octets: &[u8]) -> Option<(Moment, &[u8])>
-    ensures { option_map (λ x. (x.0, x.1.now)) result ≡ taken_at 0x8C moment_in asked 441763200000 octets.now }
+    ensures { option_map (λ x. (x.0, x.1.now)) result ≡ taken_at BINARY_TIME moment_in asked 441763200000 octets.now }
 {
     let (content, rest) = field(tags::BINARY_TIME, asked, octets)?;
     match content {
@@ -104,7 +105,7 @@ pub(crate) fn take_time(asked: bool, octets: &[u8]) -> Option<(Moment, &[u8])>
 /// An EntryID; else it is 0.
 #[tactic(auto, unfolding(crate::specs::PartReading::taken_at))]
 pub(crate) fn take_id(asked: bool, octets: &[u8]) -> Option<(u64, &[u8])>
-    ensures { option_map (λ x. (x.0, x.1.now)) result ≡ taken_at 0x89 id_in asked 0 octets.now }
+    ensures { option_map (λ x. (x.0, x.1.now)) result ≡ taken_at OCTET_STRING id_in asked 0 octets.now }
 {
     let (content, rest) = field(tags::OCTET_STRING, asked, octets)?;
     match content {
@@ -124,7 +125,7 @@ const NO_REASON: Reasons = Reasons {
 /// ReasonForInclusion; else there is none.
 #[tactic(auto, unfolding(crate::specs::PartReading::taken_at))]
 pub(crate) fn take_reasons(asked: bool, octets: &[u8]) -> Option<(Reasons, &[u8])>
-    ensures { option_map (λ x. (x.0, x.1.now)) result ≡ taken_at 0x84 reasons_in asked no_reasons octets.now }
+    ensures { option_map (λ x. (x.0, x.1.now)) result ≡ taken_at BIT_STRING reasons_in asked no_reasons octets.now }
 {
     let (content, rest) = field(tags::BIT_STRING, asked, octets)?;
     match content {
@@ -136,7 +137,7 @@ pub(crate) fn take_reasons(asked: bool, octets: &[u8]) -> Option<(Reasons, &[u8]
 /// OptFlds.
 #[tactic(auto, unfolding(crate::specs::PartReading::taken_at, crate::specs::PartReading::field_at))]
 pub(crate) fn take_options(octets: &[u8]) -> Option<(BitView<'_>, &[u8])>
-    ensures { option_map (λ x. (x.0, x.1.now)) result ≡ taken_at 0x84 options_in true [] octets.now }
+    ensures { option_map (λ x. (x.0, x.1.now)) result ≡ taken_at BIT_STRING options_in true [] octets.now }
 {
     let (element, rest) = first(octets).ok()?;
     if element.tag != tags::BIT_STRING {
@@ -148,7 +149,7 @@ pub(crate) fn take_options(octets: &[u8]) -> Option<(BitView<'_>, &[u8])>
 /// The inclusion bits.
 #[tactic(auto, unfolding(crate::specs::PartReading::taken_at, crate::specs::PartReading::field_at))]
 pub(crate) fn take_inclusion(octets: &[u8]) -> Option<(BitView<'_>, &[u8])>
-    ensures value { option_map (λ x. (x.0, x.1.now)) result ≡ taken_at 0x84 inclusion_in true [] octets.now }
+    ensures value { option_map (λ x. (x.0, x.1.now)) result ≡ taken_at BIT_STRING inclusion_in true [] octets.now }
     ensures few { IfSome result (λ x. length x.0 ≤ 256) }
 {
     let (element, rest) = first(octets).ok()?;

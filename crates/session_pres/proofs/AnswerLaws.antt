@@ -20,12 +20,13 @@ use Rattle.session_pres.specs.Plain.{told, connects, Asked, asked, spdu_from, cp
 use Rattle.session_pres.specs.Written.{user_octets, accept_parameters}
 use Rattle.session_pres.specs.WrittenPpdu.{set_content, result_octets, cpa_parameters, cpa_octets}
 use Rattle.ber_grammar.specs.Reader.{first_of_two}
+use Rattle.ber_write.proofs.LengthLaws.{octets_few}
 use Rattle.session_pres.specs.Parameters.{Parameter, last_of, AreParameters}
 use Rattle.session_pres.specs.Units.{Seen, HasData, IsSpdu, IsSpduRefused, connect, transfer, finish, abort}
 use Rattle.session_pres.specs.UnitReading.{spdu_at}
 use Rattle.session_pres.proofs.UnitLaws.{spdu_exact}
 use Rattle.session_pres.proofs.PresentationLaws.{cp_exact}
-use Rattle.session_pres.proofs.FitLaws.{accept_short, element_few, user_few, set_few, ppdu_few}
+use Rattle.session_pres.proofs.FitLaws.{accept_short, user_few, set_few, ppdu_few}
 
 -- ---- how many octets elements take
 
@@ -108,7 +109,7 @@ answer_fits list context count aare few results short =
       few,
       results,
       short,
-      element_few CONTEXT_RESULT_LIST (flat_map result_octets list) (omega arith),
+      octets_few CONTEXT_RESULT_LIST (flat_map result_octets list) (omega arith),
       user_few context aare,
       length-append (octets_of CONTEXT_RESULT_LIST (flat_map result_octets list)) (user_octets context aare),
     ) in

@@ -3,6 +3,7 @@ use Rattle.std.proofs.Common.{◌≡◌, ℕ, ◌+◌, ◌/◌, ◌%◌, ◌<◌
 use Rattle.std.specs.List.{AllByRecursion}
 use Rattle.std.specs.Option.{option_map}
 use Rattle.std.proofs.lemmas.Bool.{ltb-true, ltb-false, lt-ltb, le-ltb, cond_both}
+use Rattle.list_laws.proofs.Options.{map_some}
 use Rattle.ber_grammar.specs.Octets.{IsBytes}
 use Rattle.ber_grammar.specs.Place.{Piece}
 use Rattle.session_pres.specs.declared.codes.TheConstants.{CONNECT_ACCEPT_ITEM, USER_DATA}
@@ -10,7 +11,6 @@ use Rattle.ber_grammar.specs.Reader.{first_of_two}
 use Rattle.session_pres.specs.Parameters.{IsLength, Parameter, BeginsWith, AreParameters, IsCut, IsUserOf, last_of}
 use Rattle.session_pres.specs.Units.{IsUnit}
 use Rattle.session_pres.specs.Written.{length_field, field}
-use Rattle.ber_grammar.proofs.OptionLaws.{map_some}
 
 length_field_is : (n : ℕ) → n ≤ 65535 → IsLength (length_field n) n
 length_field_is n le =
@@ -79,8 +79,8 @@ cut_all (p ∷ ps) h = (λ e. let inner = h.0 e in let are = are_fields inner.0 
 pub user_of_fields : (fs : List Field) (input : Piece) (v : List ℕ) → AllFit fs → AllCut fs → input.octets ≡ fields fs → last_field USER_DATA fs ≡ Some v → (user : Piece) × IsUserOf input (Some user) × (user.octets ≡ v)
 user_of_fields fs input v fit cut p last =
     let are = are_fields fs input fit p in
-    let found = map_some (last_of USER_DATA are.0) (λ q. q.octets) v (last_plain USER_DATA are.0 ∙ ap (last_field USER_DATA) are.2 ∙ last) in
-    (found.0, (are.0, are.1, cut_all are.0 (subst AllCut (sym are.2) cut), sym found.1), sym found.2)
+    let found = map_some (λ q. q.octets) (last_of USER_DATA are.0) v (last_plain USER_DATA are.0 ∙ ap (last_field USER_DATA) are.2 ∙ last) in
+    (found.0, (are.0, are.1, cut_all are.0 (subst AllCut (sym are.2) cut), sym found.1), found.2)
 
 -- an SPDU whose parameters are this body
 pub unit_of_field : (code : ℕ) (input : Piece) (body : List ℕ) → length body ≤ 65535 → input.octets ≡ field code body → (parameters : Piece) × IsUnit code input parameters × (parameters.octets ≡ body)

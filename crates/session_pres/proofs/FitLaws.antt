@@ -5,45 +5,38 @@ use Rattle.std.proofs.lemmas.Bool.Decides.{nat_tests}
 use Rattle.std.proofs.lemmas.List.{length-append}
 use Rattle.ber_write.specs.Minimal.{length_octets, octets_of, uint_octets}
 use Rattle.ber_write.proofs.NumberLaws.{length-uint_octets}
+use Rattle.ber_write.proofs.LengthLaws.{octets_few}
 use Rattle.session_pres.specs.declared.codes.TheConstants.{USER_DATA, NORMAL_MODE_PARAMETERS, CONTEXT_RESULT_LIST, FULLY_ENCODED_DATA, SINGLE_ASN1_TYPE, INTEGER, SEQUENCE, SET}
 use Rattle.session_pres.specs.Written.{element_length, pdv_fields, pdv_list, user_octets, length_field, field, accept_item, accept_parameters, connect_item}
 use Rattle.session_pres.specs.WrittenPpdu.{set_content, ppdu, result_octets, cpa_parameters, cpa_octets, cp_head, cp_octets, connect_parameters}
-use Rattle.session_pres.proofs.WritingLaws.{length-octets_of}
 
-at_most_five : (n : ℕ) → length (length_octets n) ≤ 5
-at_most_five n = grind (arith, nat_tests)
-
-at_most_three : (n : ℕ) → length (length_field n) ≤ 3
-at_most_three n = grind (arith, nat_tests)
-
-pub element_few : (tag : ℕ) (content : List ℕ) → tag < 256 → length (octets_of tag content) ≤ 6 + length content
-unfolding element_length
-element_few tag content lt = omega (arith, length-octets_of tag content lt, at_most_five (length content))
+pub field_length_few : (n : ℕ) → length (length_field n) ≤ 3
+field_length_few n = grind (arith, nat_tests)
 
 field_few : (code : ℕ) (value : List ℕ) → length (field code value) ≤ 4 + length value
 unfolding field
-field_few code value = omega (arith, length-append (length_field (length value)) value, at_most_three (length value))
+field_few code value = omega (arith, length-append (length_field (length value)) value, field_length_few (length value))
 
 fields_few : (context : ℕ) (value : List ℕ) → length (pdv_fields context value) ≤ 21 + length value
 unfolding pdv_fields
 fields_few context value =
-    omega (arith, length-uint_octets context, element_few INTEGER (uint_octets context) (omega arith), element_few SINGLE_ASN1_TYPE value (omega arith), length-append (octets_of INTEGER (uint_octets context)) (octets_of SINGLE_ASN1_TYPE value))
+    omega (arith, length-uint_octets context, octets_few INTEGER (uint_octets context) (omega arith), octets_few SINGLE_ASN1_TYPE value (omega arith), length-append (octets_of INTEGER (uint_octets context)) (octets_of SINGLE_ASN1_TYPE value))
 
 list_few : (context : ℕ) (value : List ℕ) → length (pdv_list context value) ≤ 27 + length value
 unfolding pdv_list
-list_few context value = omega (arith, fields_few context value, element_few SEQUENCE (pdv_fields context value) (omega arith))
+list_few context value = omega (arith, fields_few context value, octets_few SEQUENCE (pdv_fields context value) (omega arith))
 
 pub user_few : (context : ℕ) (value : List ℕ) → length (user_octets context value) ≤ 33 + length value
 unfolding user_octets
-user_few context value = omega (arith, list_few context value, element_few FULLY_ENCODED_DATA (pdv_list context value) (omega arith))
+user_few context value = omega (arith, list_few context value, octets_few FULLY_ENCODED_DATA (pdv_list context value) (omega arith))
 
 pub set_few : (parameters : List ℕ) → length (set_content parameters) ≤ 11 + length parameters
 unfolding set_content
-set_few parameters = omega (arith, element_few NORMAL_MODE_PARAMETERS parameters (omega arith))
+set_few parameters = omega (arith, octets_few NORMAL_MODE_PARAMETERS parameters (omega arith))
 
 pub ppdu_few : (parameters : List ℕ) → length (ppdu parameters) ≤ 17 + length parameters
 unfolding ppdu
-ppdu_few parameters = omega (arith, element_few SET (set_content parameters) (omega arith), set_few parameters)
+ppdu_few parameters = omega (arith, octets_few SET (set_content parameters) (omega arith), set_few parameters)
 
 results_few : (list : List Bool) → length (flat_map result_octets list) ≤ 9 * length list
 results_few [] = omega arith
@@ -53,7 +46,7 @@ results_few (false ∷ list) = omega (arith, results_few list)
 answer_few : (list : List Bool) (context : ℕ) (aare : List ℕ) → length (cpa_parameters list context aare) ≤ 39 + 9 * length list + length aare
 unfolding cpa_parameters
 answer_few list context aare =
-    omega (arith, results_few list, element_few CONTEXT_RESULT_LIST (flat_map result_octets list) (omega arith), user_few context aare, length-append (octets_of CONTEXT_RESULT_LIST (flat_map result_octets list)) (user_octets context aare))
+    omega (arith, results_few list, octets_few CONTEXT_RESULT_LIST (flat_map result_octets list) (omega arith), user_few context aare, length-append (octets_of CONTEXT_RESULT_LIST (flat_map result_octets list)) (user_octets context aare))
 
 -- ---- the conditions of the writers
 

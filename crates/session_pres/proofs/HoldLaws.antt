@@ -1,9 +1,9 @@
 -- The parts of octets that are read are octets.
 use Rattle.std.proofs.Common.{◌≡◌, ℕ, cond, eqb, inl, inr, List, [], ◌∷◌, ◌++◌, Some, None, sym, ap, subst, ◌∙◌}
+use Rattle.list_laws.proofs.Options.{some_is, chosen}
 use Rattle.ber_grammar.specs.Octets.{IsBytes}
 use Rattle.ber_grammar.specs.Place.{Spot, Piece}
 use Rattle.ber_grammar.proofs.OctetLaws.{IsBytes-rest, IsBytes-front, IsBytes-back}
-use Rattle.ber_grammar.proofs.OptionLaws.{some_is, chosen}
 use Rattle.ber_grammar.proofs.FieldLaws.{HoldOctets, first_with-found, fields-hold, first-holds, only-holds}
 use Rattle.session_pres.specs.declared.codes.TheConstants.{ACCEPT, USER_DATA, NORMAL_MODE_PARAMETERS, FULLY_ENCODED_DATA, SEQUENCE, SET}
 use Rattle.session_pres.specs.Parameters.{Parameter, AreParameters, last_of}

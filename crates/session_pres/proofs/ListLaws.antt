@@ -4,16 +4,16 @@ use Rattle.std.specs.Prelude.{bytes_eq}
 use Rattle.std.specs.Option.{option_map}
 use Rattle.std.proofs.lemmas.Bool.{eqb-true, eq-eqb, cond_both}
 use Rattle.std.proofs.lemmas.Slice.Eq.{bytes_eq-Decides}
+use Rattle.list_laws.proofs.Options.{some_is, chosen, sides, map_some}
 use Rattle.ber_grammar.specs.Place.{Spot, Piece, content_piece}
 use Rattle.ber_grammar.specs.Reader.{and_then}
-use Rattle.ber_grammar.proofs.OptionLaws.{then_some, some_is, chosen, sides}
+use Rattle.ber_grammar.proofs.OptionLaws.{then_some}
 use Rattle.session_pres.specs.declared.codes.TheConstants.{INTEGER, OBJECT_IDENTIFIER, SEQUENCE}
 use Rattle.ber_grammar.specs.Fields.{fields_in}
 use Rattle.session_pres.specs.UserData.{context_at}
 use Rattle.session_pres.specs.ContextList.{Context, Chosen, ber, HasBer, SaysBer, AreContextFields, IsDefinition, AreDefinitions, IsContextList, IsFirst, IsChosen}
 use Rattle.session_pres.specs.ContextReading.{has_ber, context_fields_at, definition_at, definitions_at, context_list_at, further, first_of, chosen_at}
 use Rattle.ber_grammar.proofs.FieldLaws.{fields_found, fields_again}
-use Rattle.ber_grammar.proofs.OptionLaws.{map_some}
 use Rattle.session_pres.proofs.UserDataLaws.{context_found, context_again}
 
 -- ---- the same octets
@@ -146,8 +146,8 @@ first_at : (syntax : List ℕ) (c : Context) (cs : List Context) (x : ℕ × Con
     → ((y : ℕ × Context) → first_of syntax cs ≡ Some y → IsFirst syntax cs y.0 y.1) → IsFirst syntax (c ∷ cs) x.0 x.1
 first_at syntax c cs x (inl (t, e)) ih = subst (λ (y : ℕ × Context). IsFirst syntax (c ∷ cs) y.0 y.1) (some_is (0, c) x e) (same_octets c.syntax syntax t, refl)
 first_at syntax c cs x (inr (t, e)) ih =
-    let z = map_some (first_of syntax cs) further x e in
-    subst (λ (y : ℕ × Context). IsFirst syntax (c ∷ cs) y.0 y.1) (sym z.2) (other_octets c.syntax syntax t, ih z.0 z.1)
+    let z = map_some further (first_of syntax cs) x e in
+    subst (λ (y : ℕ × Context). IsFirst syntax (c ∷ cs) y.0 y.1) z.2 (other_octets c.syntax syntax t, ih z.0 z.1)
 
 first_found : (syntax : List ℕ) (cs : List Context) (x : ℕ × Context) → first_of syntax cs ≡ Some x → IsFirst syntax cs x.0 x.1
 first_found syntax [] x h = absurd cc

@@ -1,8 +1,9 @@
 -- What is read is one thing, or refused for one cause, and never both.
 use Rattle.std.proofs.Common.{◌≡◌, ℕ, Result, Ok, Err, sym, ◌∙◌}
+use Rattle.list_laws.proofs.Options.{ok_is, err_is}
 use Rattle.ber_grammar.specs.Place.{Piece}
 use Rattle.ber_grammar.specs.Steps.{IsLacking, required}
-use Rattle.ber_grammar.proofs.ReaderLaws.{ok_is, err_is, gives_at, refuses_at}
+use Rattle.ber_grammar.proofs.ReaderLaws.{gives_at, refuses_at}
 use Rattle.ber_grammar.proofs.StepLaws.{Exact, required_exact}
 use Rattle.session_pres.specs.declared.codes.TheConstants.{DISCONNECT}
 use Rattle.session_pres.specs.declared.fault.SpFault.TheVariants as faults
@@ -23,7 +24,7 @@ not_both y f (Err g) e d = cc
 one_way : {Y F : Type 0} (r : Result Y F) (S : Y → Type 0) (R : F → Type 0) → Exact r S R → IsOneWay S R
 one_way {Y = Y} {F = F} r S R e = record {
   one_value = λ x y s t. ok_is {F = F} x y (gives_at r x (e.only x s) ∙ sym (gives_at r y (e.only y t)));
-  one_cause = λ f g p q. err_is {Y = Y} f g (refuses_at r f (e.refuses f p) ∙ sym (refuses_at r g (e.refuses g q)));
+  one_cause = λ f g p q. err_is {A = Y} f g (refuses_at r f (e.refuses f p) ∙ sym (refuses_at r g (e.refuses g q)));
   not_both = λ x f s p. not_both x f r (gives_at r x (e.only x s)) (refuses_at r f (e.refuses f p));
 }
 

@@ -5,9 +5,10 @@ use Rattle.std.specs.List.{AllByRecursion}
 use Rattle.std.specs.Option.{option_map}
 use Rattle.std.proofs.lemmas.Bool.{eqb-true, ltb-true, ltb-false, lt-ltb, le-ltb, eq-eqb, ne_eqb, cond_both}
 use Rattle.std.proofs.lemmas.List.{length-append, take_at, drop_at, length-take, take-append-drop, append-nil, nil_from_length}
+use Rattle.list_laws.proofs.Options.{some_is, chosen, some_of}
 use Rattle.ber_grammar.specs.Place.{Piece}
 use Rattle.ber_grammar.specs.Reader.{and_then}
-use Rattle.ber_grammar.proofs.OptionLaws.{then_some, some_is, chosen, first_none, first_first}
+use Rattle.ber_grammar.proofs.OptionLaws.{then_some, first_none, first_first}
 use Rattle.session_pres.specs.declared.codes.TheConstants.{CONNECT_ACCEPT_ITEM, USER_DATA}
 use Rattle.session_pres.specs.Places.{front, behind}
 use Rattle.session_pres.specs.Parameters.{IsLength, Parameter, BeginsWith, AreParameters, IsCut, IsUserOf, last_of}
@@ -196,14 +197,10 @@ parameters_again input (p ∷ ps) (rest, b, h) =
 
 -- ---- a group
 
-some_true : {A : Type 0} (o : Option A) → is_some o ≡ true → (x : A) × (o ≡ Some x)
-some_true (Some x) e = (x, refl)
-some_true None e = absurd cc
-
 pub cut_found : (p : Parameter) → is_cut p ≡ true → IsCut p
 cut_found p h e =
     let some : is_some (parameters_at p.value) ≡ true = sym (ap (λ (b : Bool). cond b (is_some (parameters_at p.value)) true) (eq-eqb p.code CONNECT_ACCEPT_ITEM e)) ∙ h in
-    let inner = some_true (parameters_at p.value) some in
+    let inner = some_of (parameters_at p.value) some in
     (inner.0, parameters_found p.value inner.0 inner.1)
 
 cut_at : (p : Parameter) (b : Bool) → eqb p.code CONNECT_ACCEPT_ITEM ≡ b → IsCut p → cond b (is_some (parameters_at p.value)) true ≡ true

@@ -9,28 +9,21 @@ use Rattle.ber_write.proofs.ElementLaws.{is_spelling}
 use Rattle.ber_write.proofs.NumberLaws.{uint_octets-spell}
 use Rattle.session_pres.specs.declared.codes.TheConstants.{USER_DATA, FULLY_ENCODED_DATA, SINGLE_ASN1_TYPE, INTEGER, SEQUENCE}
 use Rattle.ber_grammar.specs.Fields.{AreFields, IsOnly}
+use Rattle.ber_write.proofs.WrittenLaws.{one_octet, written_more, written_last}
+use Rattle.ber_write.proofs.LengthLaws.{octets_longer}
 use Rattle.session_pres.specs.Units.{HasUser, IsSpdu, transfer}
 use Rattle.session_pres.specs.UserData.{IsPdvList, IsUserData}
 use Rattle.session_pres.specs.Written.{pdv_fields, pdv_list, user_octets, field, data_spdu, release_spdu, IsOneElement}
-use Rattle.session_pres.proofs.WritingLaws.{within, field_fits, release_fits}
+use Rattle.session_pres.proofs.WritingLaws.{field_fits, release_fits}
 use Rattle.session_pres.proofs.FieldLaws.{Field, user_of_fields, unit_of_field}
 
 -- ---- elements
-
-pub plain_tag : (t : ℕ) → t < 256 → t % 32 ≢ 31 → CanBeTag t
-plain_tag t lt ne = rw (lt-ltb t 256 lt) (ne, refl)
-
-pub row_more : (tag : ℕ) (content rest : List ℕ) (es : List Element) → CanBeTag tag → length content < 2 ^ 32 → IsRow rest es → IsRow (octets_of tag content ++ rest) (written tag content ∷ es)
-row_more tag content rest es can small row = (octets_of tag content, rest, is_spelling tag content can small, refl, row)
-
-pub row_last : (tag : ℕ) (content : List ℕ) → CanBeTag tag → length content < 2 ^ 32 → IsRow (octets_of tag content) (written tag content ∷ [])
-row_last tag content can small = (octets_of tag content, [], is_spelling tag content can small, sym (append-nil (octets_of tag content)), refl)
 
 pub only_of : (input : Piece) (tag : ℕ) (content : List ℕ) → CanBeTag tag → length content < 2 ^ 32 → input.octets ≡ octets_of tag content → (part : Piece) × IsOnly tag input part × (part.octets ≡ content)
 only_of input tag content can small p =
     let e = written tag content in
     let s : Spot = record { element = e; block = input.block; place = input.place + e.head } in
-    (content_piece s, (s, (e ∷ [], subst (λ (x : List ℕ). IsRow x (e ∷ [])) (sym p) (row_last tag content can small), refl), refl, refl), refl)
+    (content_piece s, (s, (e ∷ [], subst (λ (x : List ℕ). IsRow x (e ∷ [])) (sym p) (written_last tag content can small), refl), refl, refl), refl)
 
 -- octets that are a row, with their places
 pub elements_of : (input : Piece) (octets : List ℕ) (es : List Element) → input.octets ≡ octets → IsRow octets es → AreFields input (placed (input.block, input.place) es)
@@ -44,14 +37,14 @@ unfolding pdv_list pdv_fields
 pdv_of values context value small (e, one) fits p =
     let number = octets_of INTEGER (uint_octets context) in
     let held = octets_of SINGLE_ASN1_TYPE value in
-    let list = within SEQUENCE (number ++ held) in
+    let list = octets_longer SEQUENCE (number ++ held) in
     let parts = length-append number held in
     let uint = uint_octets-spell context (omega (arith, small)) in
-    let only = only_of values SEQUENCE (number ++ held) (plain_tag SEQUENCE (omega arith) (λ q. omega (arith, q))) (omega (arith, fits, list)) p in
+    let only = only_of values SEQUENCE (number ++ held) (one_octet SEQUENCE (omega arith) (λ q. omega (arith, q))) (omega (arith, fits, list)) p in
     let es : List Element = written INTEGER (uint_octets context) ∷ written SINGLE_ASN1_TYPE value ∷ [] in
     let row : IsRow (number ++ held) es =
-    row_more INTEGER (uint_octets context) held (written SINGLE_ASN1_TYPE value ∷ []) (plain_tag INTEGER (omega arith) (λ q. omega (arith, q))) (omega (arith, fits, list, parts, within INTEGER (uint_octets context)))
-    (row_last SINGLE_ASN1_TYPE value (plain_tag SINGLE_ASN1_TYPE (omega arith) (λ q. omega (arith, q))) (omega (arith, fits, list, parts, within SINGLE_ASN1_TYPE value))) in
+    written_more INTEGER (uint_octets context) held (written SINGLE_ASN1_TYPE value ∷ []) (one_octet INTEGER (omega arith) (λ q. omega (arith, q))) (omega (arith, fits, list, parts, octets_longer INTEGER (uint_octets context)))
+    (written_last SINGLE_ASN1_TYPE value (one_octet SINGLE_ASN1_TYPE (omega arith) (λ q. omega (arith, q))) (omega (arith, fits, list, parts, octets_longer SINGLE_ASN1_TYPE value))) in
     let from : ℕ × ℕ = (only.0.block, only.0.place) in
     let head = (written INTEGER (uint_octets context)).head + length (uint_octets context) in
     let user : Piece = record { octets = value; block = only.0.block; place = only.0.place + head + (written SINGLE_ASN1_TYPE value).head } in
@@ -62,7 +55,7 @@ user_of : (input : Piece) (context : ℕ) (value : List ℕ) → context < 2 ^ 3
     → (user : Piece) × IsUserData input (context, user) × (user.octets ≡ value)
 unfolding user_octets
 user_of input context value small one fits p =
-    let only = only_of input FULLY_ENCODED_DATA (pdv_list context value) (plain_tag FULLY_ENCODED_DATA (omega arith) (λ q. omega (arith, q))) fits p in
+    let only = only_of input FULLY_ENCODED_DATA (pdv_list context value) (one_octet FULLY_ENCODED_DATA (omega arith) (λ q. omega (arith, q))) fits p in
     let pdv = pdv_of only.0 context value small one fits only.2 in
     (pdv.0, (only.0, only.1, pdv.1), pdv.2)
 

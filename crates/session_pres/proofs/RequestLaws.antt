@@ -3,6 +3,7 @@ use Rattle.std.proofs.Common.{◌≡◌, ℕ, ◌+◌, ◌<◌, ◌≤◌, ◌^�
 use Rattle.ber_grammar.specs.Element.{Element, IsRow}
 use Rattle.ber_grammar.specs.Place.{Spot, Piece, placed, content_piece}
 use Rattle.ber_write.specs.Minimal.{written, octets_of}
+use Rattle.ber_write.proofs.WrittenLaws.{one_octet, written_more, written_last}
 use Rattle.session_pres.specs.declared.codes.TheConstants.{CONNECT, CONNECT_ACCEPT_ITEM, USER_DATA, CONTEXT_DEFINITION_LIST, TRANSFER_SYNTAX, FULLY_ENCODED_DATA, INTEGER, OBJECT_IDENTIFIER, SEQUENCE}
 use Rattle.session_pres.specs.Units.{IsSpdu, connect}
 use Rattle.session_pres.specs.ContextList.{Context, Chosen, ber, acse, mms, IsDefinition, IsContextList, IsChosen}
@@ -11,7 +12,7 @@ use Rattle.session_pres.specs.Written.{pdv_list, user_octets, field, connect_ite
 use Rattle.session_pres.specs.WrittenPpdu.{set_content, ppdu, cp_head, cp_octets, connect_parameters, connect_spdu}
 use Rattle.session_pres.proofs.WritingLaws.{connect_fits}
 use Rattle.session_pres.proofs.FieldLaws.{Field, user_of_fields, unit_of_field}
-use Rattle.session_pres.proofs.ReadBackLaws.{plain_tag, row_more, row_last, elements_of, pdv_of}
+use Rattle.session_pres.proofs.ReadBackLaws.{elements_of, pdv_of}
 use Rattle.session_pres.proofs.PpduLaws.{parameters_of}
 
 -- ---- a definition
@@ -27,12 +28,12 @@ definition s n syntax small short t p =
     let transfer = octets_of SEQUENCE (octets_of OBJECT_IDENTIFIER ber) in
     let es : List Element = written INTEGER (n ∷ []) ∷ written OBJECT_IDENTIFIER syntax ∷ written SEQUENCE (octets_of OBJECT_IDENTIFIER ber) ∷ [] in
     let row : IsRow (offered_with n syntax) es =
-    row_more INTEGER (n ∷ []) (octets_of OBJECT_IDENTIFIER syntax ++ transfer) (written OBJECT_IDENTIFIER syntax ∷ written SEQUENCE (octets_of OBJECT_IDENTIFIER ber) ∷ []) (plain_tag INTEGER (omega arith) (λ q. omega (arith, q))) (omega arith)
-    (row_more OBJECT_IDENTIFIER syntax transfer (written SEQUENCE (octets_of OBJECT_IDENTIFIER ber) ∷ []) (plain_tag OBJECT_IDENTIFIER (omega arith) (λ q. omega (arith, q))) (omega (arith, short))
-    (row_last SEQUENCE (octets_of OBJECT_IDENTIFIER ber) (plain_tag SEQUENCE (omega arith) (λ q. omega (arith, q))) (omega arith))) in
+    written_more INTEGER (n ∷ []) (octets_of OBJECT_IDENTIFIER syntax ++ transfer) (written OBJECT_IDENTIFIER syntax ∷ written SEQUENCE (octets_of OBJECT_IDENTIFIER ber) ∷ []) (one_octet INTEGER (omega arith) (λ q. omega (arith, q))) (omega arith)
+    (written_more OBJECT_IDENTIFIER syntax transfer (written SEQUENCE (octets_of OBJECT_IDENTIFIER ber) ∷ []) (one_octet OBJECT_IDENTIFIER (omega arith) (λ q. omega (arith, q))) (omega (arith, short))
+    (written_last SEQUENCE (octets_of OBJECT_IDENTIFIER ber) (one_octet SEQUENCE (omega arith) (λ q. omega (arith, q))) (omega arith))) in
     let last : Piece = record { octets = octets_of OBJECT_IDENTIFIER ber; block = s.block; place = s.place + ((written INTEGER (n ∷ [])).head + 1) + ((written OBJECT_IDENTIFIER syntax).head + length syntax) + 2 } in
     let ts : List Element = written OBJECT_IDENTIFIER ber ∷ [] in
-    let rows : IsRow (octets_of OBJECT_IDENTIFIER ber) ts = row_last OBJECT_IDENTIFIER ber (plain_tag OBJECT_IDENTIFIER (omega arith) (λ q. omega (arith, q))) (omega arith) in (
+    let rows : IsRow (octets_of OBJECT_IDENTIFIER ber) ts = written_last OBJECT_IDENTIFIER ber (one_octet OBJECT_IDENTIFIER (omega arith) (λ q. omega (arith, q))) (omega arith) in (
       t,
       placed (s.block, s.place) es,
       elements_of (content_piece s) (offered_with n syntax) es p row,
@@ -49,8 +50,8 @@ list_back : (content : Piece) → content.octets ≡ two → IsContextList conte
 list_back content p =
     let es : List Element = written SEQUENCE (offered_with 1 acse) ∷ written SEQUENCE (offered_with 3 mms) ∷ [] in
     let row : IsRow two es =
-    row_more SEQUENCE (offered_with 1 acse) (octets_of SEQUENCE (offered_with 3 mms)) (written SEQUENCE (offered_with 3 mms) ∷ []) (plain_tag SEQUENCE (omega arith) (λ q. omega (arith, q))) (omega arith)
-    (row_last SEQUENCE (offered_with 3 mms) (plain_tag SEQUENCE (omega arith) (λ q. omega (arith, q))) (omega arith)) in
+    written_more SEQUENCE (offered_with 1 acse) (octets_of SEQUENCE (offered_with 3 mms)) (written SEQUENCE (offered_with 3 mms) ∷ []) (one_octet SEQUENCE (omega arith) (λ q. omega (arith, q))) (omega arith)
+    (written_last SEQUENCE (offered_with 3 mms) (one_octet SEQUENCE (omega arith) (λ q. omega (arith, q))) (omega arith)) in
     let first : Spot = record { element = written SEQUENCE (offered_with 1 acse); block = content.block; place = content.place + 2 } in
     let second : Spot = record { element = written SEQUENCE (offered_with 3 mms); block = content.block; place = content.place + (2 + 15) + 2 } in
     (placed (content.block, content.place) es, elements_of content two es p row, (definition first 1 acse (omega arith) (omega arith) refl refl, (definition second 3 mms (omega arith) (omega arith) refl refl, tt)))
@@ -84,10 +85,10 @@ cp_back input aarq one fits small p =
     let last = octets_of FULLY_ENCODED_DATA (pdv_list 1 aarq) in
     let es : List Element = written TRANSFER_SYNTAX selector ∷ written 130 selector ∷ written CONTEXT_DEFINITION_LIST two ∷ written FULLY_ENCODED_DATA (pdv_list 1 aarq) ∷ [] in
     let row : IsRow whole es =
-    row_more TRANSFER_SYNTAX selector (octets_of 130 selector ++ (octets_of CONTEXT_DEFINITION_LIST two ++ last)) (written 130 selector ∷ written CONTEXT_DEFINITION_LIST two ∷ written FULLY_ENCODED_DATA (pdv_list 1 aarq) ∷ []) (plain_tag TRANSFER_SYNTAX (omega arith) (λ q. omega (arith, q))) (omega arith)
-    (row_more 130 selector (octets_of CONTEXT_DEFINITION_LIST two ++ last) (written CONTEXT_DEFINITION_LIST two ∷ written FULLY_ENCODED_DATA (pdv_list 1 aarq) ∷ []) (plain_tag 130 (omega arith) (λ q. omega (arith, q))) (omega arith)
-    (row_more CONTEXT_DEFINITION_LIST two last (written FULLY_ENCODED_DATA (pdv_list 1 aarq) ∷ []) (plain_tag CONTEXT_DEFINITION_LIST (omega arith) (λ q. omega (arith, q))) (omega arith)
-    (row_last FULLY_ENCODED_DATA (pdv_list 1 aarq) (plain_tag FULLY_ENCODED_DATA (omega arith) (λ q. omega (arith, q))) small))) in
+    written_more TRANSFER_SYNTAX selector (octets_of 130 selector ++ (octets_of CONTEXT_DEFINITION_LIST two ++ last)) (written 130 selector ∷ written CONTEXT_DEFINITION_LIST two ∷ written FULLY_ENCODED_DATA (pdv_list 1 aarq) ∷ []) (one_octet TRANSFER_SYNTAX (omega arith) (λ q. omega (arith, q))) (omega arith)
+    (written_more 130 selector (octets_of CONTEXT_DEFINITION_LIST two ++ last) (written CONTEXT_DEFINITION_LIST two ∷ written FULLY_ENCODED_DATA (pdv_list 1 aarq) ∷ []) (one_octet 130 (omega arith) (λ q. omega (arith, q))) (omega arith)
+    (written_more CONTEXT_DEFINITION_LIST two last (written FULLY_ENCODED_DATA (pdv_list 1 aarq) ∷ []) (one_octet CONTEXT_DEFINITION_LIST (omega arith) (λ q. omega (arith, q))) (omega arith)
+    (written_last FULLY_ENCODED_DATA (pdv_list 1 aarq) (one_octet FULLY_ENCODED_DATA (omega arith) (λ q. omega (arith, q))) small))) in
     let at = parameters.0 in
     let content : Piece = record { octets = two; block = at.block; place = at.place + 6 + 6 + 2 } in
     let values : Piece = record { octets = pdv_list 1 aarq; block = at.block; place = at.place + 6 + 6 + 37 + (written FULLY_ENCODED_DATA (pdv_list 1 aarq)).head } in

@@ -12,30 +12,19 @@ use Rattle.ber_write.proofs.ElementLaws.{is_minimal}
 use Rattle.ber_write.proofs.ShortestLaws.{uint_shortest}
 use Rattle.session_pres.specs.declared.codes.TheConstants.{FULLY_ENCODED_DATA, SINGLE_ASN1_TYPE, INTEGER, SEQUENCE}
 use Rattle.ber_grammar.specs.Fields.{AreFields, IsOnly}
+use Rattle.ber_write.proofs.WrittenLaws.{least, row_least}
+use Rattle.ber_write.proofs.LengthLaws.{octets_grow}
 use Rattle.session_pres.specs.UserData.{IsPair, IsPdv, IsUserData}
 use Rattle.session_pres.specs.Written.{element_length, pdv_fields, pdv_list, user_octets}
-use Rattle.session_pres.proofs.WritingLaws.{length-octets_of}
-
--- the octets that the elements have at least
-abbrev total : List Element → ℕ
-total [] = 0
-total (e ∷ es) = length (octets_of e.tag e.content) + total es
-
-row_total : (octets : List ℕ) (es : List Element) → IsBytes octets → IsRow octets es → total es ≤ length octets
-row_total octets [] fits row = omega arith
-row_total octets (e ∷ es) fits (front, rest, s, p, row) =
-    let whole : IsBytes (front ++ rest) = subst IsBytes p fits in
-    let one = (is_minimal front e (IsBytes-front front rest whole) s).0 in
-    omega (arith, one, row_total rest es (IsBytes-back front rest whole) row, ap (λ (x : List ℕ). length x) p, length-append front rest)
 
 -- elements with their places
 abbrev Holds : Piece → List Spot → Type 0
-Holds content spots = (total (elements spots) ≤ length content.octets) × AllBytes (elements spots)
+Holds content spots = (least (elements spots) ≤ length content.octets) × AllBytes (elements spots)
 
 holds : (content : Piece) (spots : List Spot) → IsBytes content.octets → AreFields content spots → Holds content spots
 holds content spots fits (es, row, is) =
     let same : elements spots ≡ es = ap (λ (x : List Spot). elements x) is ∙ elements-placed (content.block, content.place) es in
-    (subst (λ (x : List Element). total x ≤ length content.octets) (sym same) (row_total content.octets es fits row), subst AllBytes (sym same) (IsRow-bytes content.octets es fits row))
+    (subst (λ (x : List Element). least x ≤ length content.octets) (sym same) (row_least content.octets es fits row), subst AllBytes (sym same) (IsRow-bytes content.octets es fits row))
 
 only_holds : (tag : ℕ) (whole content : Piece) → IsBytes whole.octets → IsOnly tag whole content → (length (octets_of tag content.octets) ≤ length whole.octets) × IsBytes content.octets
 only_holds tag whole content fits (s, are, t, is) =
@@ -44,22 +33,15 @@ only_holds tag whole content fits (s, are, t, is) =
     let same : octets_of tag content.octets ≡ octets_of s.element.tag s.element.content = rw (octets, sym t) refl in
     (omega (arith, h.0, ap (λ (x : List ℕ). length x) same), subst IsBytes (sym octets) h.1.0)
 
-length_grows : (m n : ℕ) → m ≤ n → length (length_octets m) ≤ length (length_octets n)
-length_grows m n le = grind (arith, nat_tests)
-
-grows : (tag : ℕ) (a b : List ℕ) → tag < 256 → length a ≤ length b → length (octets_of tag a) ≤ length (octets_of tag b)
-unfolding element_length
-grows tag a b lt le = omega (arith, length-octets_of tag a lt, length-octets_of tag b lt, length_grows (length a) (length b) le)
-
 pair_least : (a b : Spot) (pdv : ℕ × Piece) → IsBytes a.element.content → IsPair a b pdv → length (pdv_fields pdv.0 pdv.1.octets) ≤ length (octets_of a.element.tag a.element.content) + length (octets_of b.element.tag b.element.content)
 unfolding pdv_fields
 pair_least a b pdv fits (ta, n, tb, is, s, are) =
     let shortest = (uint_shortest a.element.content pdv.0 fits n.0).0 in
     let number : length (octets_of a.element.tag a.element.content) ≡ length (octets_of INTEGER a.element.content) = ap (λ (t : ℕ). length (octets_of t a.element.content)) ta in
     let value : length (octets_of b.element.tag b.element.content) ≡ length (octets_of SINGLE_ASN1_TYPE pdv.1.octets) = ap (λ (t : ℕ). length (octets_of t b.element.content)) tb ∙ sym (ap (λ (p : Piece). length (octets_of SINGLE_ASN1_TYPE p.octets)) is) in
-    omega (arith, number, value, grows INTEGER (uint_octets pdv.0) a.element.content (omega arith) shortest, length-append (octets_of INTEGER (uint_octets pdv.0)) (octets_of SINGLE_ASN1_TYPE pdv.1.octets))
+    omega (arith, number, value, octets_grow INTEGER (uint_octets pdv.0) a.element.content shortest, length-append (octets_of INTEGER (uint_octets pdv.0)) (octets_of SINGLE_ASN1_TYPE pdv.1.octets))
 
-fields_least : (fields : List Spot) (pdv : ℕ × Piece) → AllBytes (elements fields) → IsPdv fields pdv → length (pdv_fields pdv.0 pdv.1.octets) ≤ total (elements fields)
+fields_least : (fields : List Spot) (pdv : ℕ × Piece) → AllBytes (elements fields) → IsPdv fields pdv → length (pdv_fields pdv.0 pdv.1.octets) ≤ least (elements fields)
 fields_least [] pdv fits h = absurd h
 fields_least (a ∷ []) pdv fits h = absurd h
 fields_least (a ∷ b ∷ []) pdv fits h = omega (arith, pair_least a b pdv fits.0 h)
@@ -73,5 +55,5 @@ user_least input context user fits (values, outer, (value, inner, fields, are, p
     let b = only_holds SEQUENCE values value a.1 inner in
     let c = holds value fields b.1 are in
     let d = fields_least fields (context, user) c.1 pdv in
-    let e = grows SEQUENCE (pdv_fields context user.octets) value.octets (omega arith) (omega (arith, c.0, d)) in
-    omega (arith, a.0, grows FULLY_ENCODED_DATA (octets_of SEQUENCE (pdv_fields context user.octets)) values.octets (omega arith) (omega (arith, e, b.0)))
+    let e = octets_grow SEQUENCE (pdv_fields context user.octets) value.octets (omega (arith, c.0, d)) in
+    omega (arith, a.0, octets_grow FULLY_ENCODED_DATA (octets_of SEQUENCE (pdv_fields context user.octets)) values.octets (omega (arith, e, b.0)))

@@ -3,9 +3,10 @@ use Rattle.std.proofs.Common.{◌≡◌, ℕ, ◌+◌, true, false, cond, eqb, L
 use Rattle.std.specs.Prelude.{◌&&◌}
 use Rattle.std.proofs.lemmas.Bool.{eqb-true, eq-eqb, cond_both}
 use Rattle.std.proofs.lemmas.List.{length-append, drop_at}
+use Rattle.list_laws.proofs.Options.{some_is, chosen}
 use Rattle.ber_grammar.specs.Place.{Piece}
 use Rattle.ber_grammar.specs.Reader.{◌>>=◌, Gives, Reads}
-use Rattle.ber_grammar.proofs.OptionLaws.{then_some, some_is, chosen}
+use Rattle.ber_grammar.proofs.OptionLaws.{then_some}
 use Rattle.ber_grammar.proofs.ReaderLaws.{reads_from}
 use Rattle.session_pres.specs.declared.codes.TheConstants.{FINISH, CONNECT, ABORT}
 use Rattle.session_pres.specs.declared.fault.SpFault.{SpFault}

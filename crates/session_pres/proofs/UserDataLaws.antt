@@ -1,6 +1,7 @@
 -- User data of the presentation layer.
 use Rattle.std.proofs.Common.{◌≡◌, ℕ, zero, suc, ◌<◌, ◌^◌, cond, eqb, ltb, List, [], ◌∷◌, length, Some, None, Result, Ok, Err, refl, sym, subst, arith}
 use Rattle.std.proofs.lemmas.Bool.{eqb-true, eq-eqb, ltb-true, ltb-false, lt-ltb, cond_both}
+use Rattle.list_laws.proofs.Options.{some_is, chosen}
 use Rattle.ber_grammar.specs.declared.fault.BerFault.{BerFault}
 use Rattle.ber_grammar.specs.declared.fault.BerFault.TheVariants.{BadNumber}
 use Rattle.ber_grammar.specs.Octets.{big_endian}
@@ -8,7 +9,7 @@ use Rattle.ber_grammar.specs.Content.{IsUint}
 use Rattle.ber_grammar.specs.Place.{Spot, Piece, content_piece}
 use Rattle.ber_grammar.specs.Reader.{and_then, kept, Gives, Reads}
 use Rattle.ber_grammar.specs.Reading.{uint_at}
-use Rattle.ber_grammar.proofs.OptionLaws.{then_some, some_is, kept_some, chosen}
+use Rattle.ber_grammar.proofs.OptionLaws.{then_some, kept_some}
 use Rattle.ber_grammar.proofs.ReaderLaws.{reads_from}
 use Rattle.ber_grammar.proofs.UintLaws.{uint_again}
 use Rattle.session_pres.specs.declared.codes.TheConstants.{FULLY_ENCODED_DATA, SINGLE_ASN1_TYPE, INTEGER, OBJECT_IDENTIFIER, SEQUENCE}

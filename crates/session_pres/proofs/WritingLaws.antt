@@ -6,20 +6,14 @@ use Rattle.std.specs.declared.alloc.AllocError.{AllocError}
 use Rattle.std.proofs.lemmas.Bool.{lt-ltb}
 use Rattle.std.proofs.lemmas.List.{length-append}
 use Rattle.ber_write.specs.Minimal.{tag_octets, length_octets, head_octets, octets_of, uint_octets}
+use Rattle.ber_write.proofs.LengthLaws.{length-one_octet, octets_longer, headed}
 use Rattle.session_pres.specs.declared.codes.TheConstants.{USER_DATA, NORMAL_MODE_PARAMETERS, CONTEXT_RESULT_LIST, FULLY_ENCODED_DATA, SINGLE_ASN1_TYPE, INTEGER, SEQUENCE, SET}
 use Rattle.session_pres.specs.Written.{element_length, pdv_fields, pdv_list, user_octets, length_field, field, accept_item, accept_parameters, connect_item}
 use Rattle.session_pres.specs.WrittenPpdu.{normal_mode, set_content, ppdu, result_octets, cpa_parameters, cp_head, cp_octets, connect_parameters}
 
-pub length-octets_of : (tag : ℕ) (content : List ℕ) → tag < 256 → length (octets_of tag content) ≡ element_length (length content)
+pub length-element : (tag : ℕ) (content : List ℕ) → tag < 256 → length (octets_of tag content) ≡ element_length (length content)
 unfolding element_length
-length-octets_of tag content lt =
-    let one : tag_octets tag ≡ tag ∷ [] = rw (lt-ltb tag 256 lt) refl in
-    let count : length (tag_octets tag) ≡ 1 = ap (λ (x : List ℕ). length x) one in
-    omega (arith, count, length-append (tag_octets tag) (length_octets (length content) ++ content), length-append (length_octets (length content)) content)
-
--- an element is its head, and its content
-octets_of-head : (tag : ℕ) (content : List ℕ) → octets_of tag content ≡ head_octets tag (length content) ++ content
-octets_of-head tag content = sym (append_assoc (tag_octets tag) (length_octets (length content)) content)
+length-element tag content lt = omega (arith, length-one_octet tag content lt)
 
 regroup : (old a b c d : List ℕ) → (((old ++ a) ++ b) ++ c) ++ d ≡ old ++ (a ++ (b ++ (c ++ d)))
 regroup old a b c d = simp append_assoc
@@ -28,8 +22,8 @@ user_is : (context : ℕ) (value : List ℕ) (len total : ℕ) → len ≡ lengt
     → head_octets FULLY_ENCODED_DATA total ++ (head_octets SEQUENCE len ++ (octets_of INTEGER (uint_octets context) ++ octets_of SINGLE_ASN1_TYPE value)) ≡ user_octets context value
 unfolding user_octets pdv_list pdv_fields
 user_is context value len total p q =
-    let count : total ≡ length (pdv_list context value) = q ∙ ap element_length p ∙ sym (length-octets_of SEQUENCE (pdv_fields context value) (omega arith)) in
-    rw (count, p) (ap (λ (x : List ℕ). head_octets FULLY_ENCODED_DATA (length (pdv_list context value)) ++ x) (sym (octets_of-head SEQUENCE (pdv_fields context value))) ∙ sym (octets_of-head FULLY_ENCODED_DATA (pdv_list context value)))
+    let count : total ≡ length (pdv_list context value) = q ∙ ap element_length p ∙ sym (length-element SEQUENCE (pdv_fields context value) (omega arith)) in
+    rw (count, p) (ap (λ (x : List ℕ). head_octets FULLY_ENCODED_DATA (length (pdv_list context value)) ++ x) (headed SEQUENCE (length (pdv_fields context value)) (pdv_fields context value) refl) ∙ headed FULLY_ENCODED_DATA (length (pdv_list context value)) (pdv_list context value) refl)
 
 pub user_written : {A : Type 0} (r : Result A AllocError) (old a b c new value : List ℕ) (n context len total : ℕ) → a ≡ old ++ head_octets FULLY_ENCODED_DATA total → b ≡ a ++ head_octets SEQUENCE len → c ≡ b ++ octets_of INTEGER (uint_octets n)
     → n ≡ context → len ≡ length (pdv_fields context value) → total ≡ element_length len → OnOk r (new ≡ c ++ octets_of SINGLE_ASN1_TYPE value) → OnOk r (new ≡ old ++ user_octets context value)
@@ -46,16 +40,13 @@ flat-one_more (c ∷ bs) (suc i) lt = ap (λ (x : List ℕ). result_octets c ++ 
 
 -- ---- the parts fit where the whole does
 
-pub within : (tag : ℕ) (content : List ℕ) → length content ≤ length (octets_of tag content)
-within tag content = omega (arith, length-append (tag_octets tag) (length_octets (length content) ++ content), length-append (length_octets (length content)) content)
-
 pub field_within : (code : ℕ) (value : List ℕ) → length value ≤ length (field code value)
 unfolding field
 field_within code value = omega (arith, length-append (length_field (length value)) value)
 
 user_within : (context : ℕ) (value : List ℕ) → length (pdv_list context value) ≤ length (user_octets context value)
 unfolding user_octets
-user_within context value = within FULLY_ENCODED_DATA (pdv_list context value)
+user_within context value = octets_longer FULLY_ENCODED_DATA (pdv_list context value)
 
 pub field_fits : (code : ℕ) (value : List ℕ) → length (field code value) ≤ 65535 → length value ≤ 65535
 field_fits code value fits = omega (arith, field_within code value)
@@ -69,11 +60,11 @@ accept_fits cpa fits = omega (arith, length-append accept_item (field USER_DATA 
 
 ppdu_within : (parameters : List ℕ) → length (set_content parameters) ≤ length (ppdu parameters)
 unfolding ppdu
-ppdu_within parameters = within SET (set_content parameters)
+ppdu_within parameters = octets_longer SET (set_content parameters)
 
 set_within : (parameters : List ℕ) → length parameters ≤ length (set_content parameters)
 unfolding set_content
-set_within parameters = omega (arith, length-append normal_mode (octets_of NORMAL_MODE_PARAMETERS parameters), within NORMAL_MODE_PARAMETERS parameters)
+set_within parameters = omega (arith, length-append normal_mode (octets_of NORMAL_MODE_PARAMETERS parameters), octets_longer NORMAL_MODE_PARAMETERS parameters)
 
 pub connect_fits : (aarq : List ℕ) → length (connect_parameters aarq) ≤ 65535 → (length (ppdu (cp_head ++ user_octets 1 aarq)) ≤ 65535) × (length (set_content (cp_head ++ user_octets 1 aarq)) < 2 ^ 32) × (length (pdv_list 1 aarq) < 2 ^ 32) × (length (connect_item ++ field USER_DATA (ppdu (cp_head ++ user_octets 1 aarq))) ≤ 65535)
 unfolding connect_parameters cp_octets
@@ -87,15 +78,15 @@ unfolding cpa_parameters
 cpa_fits list context aare fits =
     let parts = length-append (octets_of CONTEXT_RESULT_LIST (flat_map result_octets list)) (user_octets context aare) in
     let whole = set_within (octets_of CONTEXT_RESULT_LIST (flat_map result_octets list) ++ user_octets context aare) in
-    (omega (arith, fits, whole, parts, within CONTEXT_RESULT_LIST (flat_map result_octets list)), omega (arith, fits, whole, parts, user_within context aare))
+    (omega (arith, fits, whole, parts, octets_longer CONTEXT_RESULT_LIST (flat_map result_octets list)), omega (arith, fits, whole, parts, user_within context aare))
 
 pub pdv_list-length : (context : ℕ) (value : List ℕ) → length (pdv_list context value) ≡ element_length (length (pdv_fields context value))
 unfolding pdv_list
-pdv_list-length context value = length-octets_of SEQUENCE (pdv_fields context value) (omega arith)
+pdv_list-length context value = length-element SEQUENCE (pdv_fields context value) (omega arith)
 
 pub value_fits : (context : ℕ) (value : List ℕ) → length (pdv_list context value) < 2 ^ 32 → length value < 2 ^ 32
 unfolding pdv_list pdv_fields
-value_fits context value fits = omega (arith, fits, within SEQUENCE (octets_of INTEGER (uint_octets context) ++ octets_of SINGLE_ASN1_TYPE value), length-append (octets_of INTEGER (uint_octets context)) (octets_of SINGLE_ASN1_TYPE value), within SINGLE_ASN1_TYPE value)
+value_fits context value fits = omega (arith, fits, octets_longer SEQUENCE (octets_of INTEGER (uint_octets context) ++ octets_of SINGLE_ASN1_TYPE value), length-append (octets_of INTEGER (uint_octets context)) (octets_of SINGLE_ASN1_TYPE value), octets_longer SINGLE_ASN1_TYPE value)
 
 -- the loop over the results
 pub results_more : (bs : List Bool) (i : ℕ) (found : Option Bool) (b : Bool) (before old new : List ℕ) (octets : List ℕ) → i < length bs → old ≡ before ++ flat_map result_octets (take i bs)

@@ -7,8 +7,8 @@ use Rattle.ber_grammar.specs.Octets.{IsBytes}
 use Rattle.ber_grammar.proofs.OctetLaws.{IsBytes-cons, IsBytes-append}
 use Rattle.ber_write.specs.Minimal.{length_octets, octets_of, uint_octets, int_octets}
 use Rattle.ber_write.proofs.NumberLaws.{int_octets-fit}
+use Rattle.ber_write.proofs.LengthLaws.{octets_longer}
 use Rattle.session_pres.specs.Written.{pdv_fields, pdv_list, user_octets, data_spdu}
-use Rattle.session_pres.proofs.WritingLaws.{within}
 
 none_fits : IsBytes []
 none_fits = λ i. omega arith
@@ -36,9 +36,9 @@ unfolding pdv_list pdv_fields
 fields_fit context pdu small fits =
     let number = octets_of 2 (uint_octets context) in
     let value = octets_of 160 pdu in
-    let all : length (number ++ value) < 2 ^ 32 = omega (arith, small, within 48 (number ++ value)) in
-    let inner : length pdu < 2 ^ 32 = omega (arith, all, length-append number value, within 160 pdu) in
-    let few : length (uint_octets context) < 2 ^ 32 = omega (arith, all, length-append number value, within 2 (uint_octets context)) in
+    let all : length (number ++ value) < 2 ^ 32 = omega (arith, small, octets_longer 48 (number ++ value)) in
+    let inner : length pdu < 2 ^ 32 = omega (arith, all, length-append number value, octets_longer 160 pdu) in
+    let few : length (uint_octets context) < 2 ^ 32 = omega (arith, all, length-append number value, octets_longer 2 (uint_octets context)) in
     (IsBytes-append number value (element_fits 2 (uint_octets context) (omega arith) few (number_fits context)) (element_fits 160 pdu (omega arith) inner fits), all)
 
 list_fits : (context : ℕ) (pdu : List ℕ) → length (pdv_list context pdu) < 2 ^ 32 → IsBytes pdu → IsBytes (pdv_list context pdu)

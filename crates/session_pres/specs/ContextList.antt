@@ -20,7 +20,7 @@ abbrev pub acse : List ℕ
 acse = 0x52 ∷ 0x01 ∷ 0x00 ∷ 0x01 ∷ []
 
 abbrev pub mms : List ℕ
-mms = 0x28 ∷ 0xCA ∷ 0x22 ∷ 0x02 ∷ 0x01 ∷ []
+mms = 0x28 ∷ 0xca ∷ 0x22 ∷ 0x02 ∷ 0x01 ∷ []
 
 -- one of them is the OBJECT IDENTIFIER of BER
 abbrev pub HasBer : List Spot → Type 0

@@ -13,7 +13,7 @@ use Rattle.tpkt_cotp.specs.declared.tsdus.Cr.{Cr}
 use Rattle.tpkt_cotp.specs.declared.tsdus.Tsdu.{Tsdu}
 use Rattle.tpkt_cotp.specs.declared.tsdus.Tsdu.TheVariants.{Connect, Data, Disconnect}
 use Rattle.ber_grammar.specs.Octets.{IsBytes}
-use Rattle.ber_grammar.proofs.OctetLaws.{IsBytes-front, IsBytes-back}
+use Rattle.ber_grammar.proofs.OctetLaws.{IsBytes-front, IsBytes-back, IsBytes-append}
 use Rattle.tpkt_cotp.specs.Packet.{packet, IsPartial}
 use Rattle.tpkt_cotp.specs.Parameters.{Parameter, spelled, IsAllowed, last_of, exponent_of, said}
 use Rattle.tpkt_cotp.specs.Tpdu.{IsConnection, IsTaken, tpdu_at}
@@ -23,7 +23,6 @@ use Rattle.tpkt_cotp.specs.Stream.{start, Runs, StandsAt, IsReady, StepsFrom, gi
 use Rattle.tpkt_cotp.specs.Written.{size_parameter, selector, parameters_for, IsCr, Fits}
 use Rattle.tpkt_cotp.proofs.ParameterLaws.{if_code}
 use Rattle.tpkt_cotp.proofs.TpduLaws.{TpduTells, tpdu_tells}
-use Rattle.tpkt_cotp.proofs.StreamLaws.{IsBytes-append}
 
 -- ---- what a CR says fits a CC
 
@@ -113,10 +112,10 @@ taken_few s t tpdu (Some (Data octets)) few (there, nr, more, whole, end, is, co
 taken_few s t tpdu (Some Disconnect) few (li, code, rest, whole, header, is, to) = rw to few
 taken_few s t tpdu None few (there, nr, more, whole, not_end, count, to) = rw to count
 
-step_taken : (s t : State) (tpdu : List ℕ) (e : Option Tsdu) → tpdu_at s tpdu ≡ Ok (t, e) → IsTaken s tpdu t e
+pub step_taken : (s t : State) (tpdu : List ℕ) (e : Option Tsdu) → tpdu_at s tpdu ≡ Ok (t, e) → IsTaken s tpdu t e
 step_taken s t tpdu e h = subst (λ r. TpduTells s tpdu r) h (tpdu_tells s tpdu)
 
-of_packet : (tpdu : List ℕ) → IsBytes (packet tpdu) → IsBytes tpdu
+pub of_packet : (tpdu : List ℕ) → IsBytes (packet tpdu) → IsBytes tpdu
 of_packet tpdu bytes i = bytes (suc (suc (suc (suc i))))
 
 all_both : (xs ys : List Tsdu) → AllByRecursion Fits xs → AllByRecursion Fits ys → AllByRecursion Fits (xs ++ ys)

@@ -9,13 +9,13 @@ use Rattle.tpkt_cotp.specs.declared.tsdus.Tsdu.{Tsdu}
 use Rattle.tpkt_cotp.specs.declared.tsdus.Tpkt.{Tpkt}
 use Rattle.tpkt_cotp.specs.declared.transport.TransportIn.{TransportIn}
 use Rattle.ber_grammar.specs.Octets.{IsBytes}
-use Rattle.ber_grammar.proofs.OctetLaws.{IsBytes-front}
+use Rattle.ber_grammar.proofs.OctetLaws.{IsBytes-front, IsBytes-append}
 use Rattle.tpkt_cotp.specs.Failing.{Fails}
 use Rattle.tpkt_cotp.specs.Packet.{packet, IsPartial, packet_at, Completes}
 use Rattle.tpkt_cotp.specs.Tpdu.{tpdu_at}
 use Rattle.tpkt_cotp.specs.Stream.{start, Takes, Stops, StandsAt, IsRefused, Took, StopsAt, Advances, FailsAt, gift, StepsFrom, StepsOn}
 use Rattle.tpkt_cotp.proofs.PacketLaws.{packet_whole, packet_partial, packet_bad, stays_bad, completes_all, completes_front, completes_none, completes_some}
-use Rattle.tpkt_cotp.proofs.StreamLaws.{IsBytes-append, Takes-then, Takes-one, Took-then, stops_bad, partial_none}
+use Rattle.tpkt_cotp.proofs.StreamLaws.{Takes-then, Takes-one, Took-then, stops_bad, partial_none}
 
 -- ---- a TPKT at the front of a piece
 

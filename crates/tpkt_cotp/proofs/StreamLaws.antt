@@ -5,7 +5,7 @@ use Rattle.std.specs.List.{flat_map, AllByRecursion}
 use Rattle.std.proofs.lemmas.List.{append-nil}
 use Rattle.std.proofs.lemmas.List.Concat.{flat_map-append, flat_map-cons}
 use Rattle.ber_grammar.specs.Octets.{IsBytes}
-use Rattle.ber_grammar.proofs.OctetLaws.{IsBytes-back}
+use Rattle.ber_grammar.proofs.OctetLaws.{IsBytes-back, IsBytes-append}
 use Rattle.tpkt_cotp.specs.declared.fault.TpFault.{TpFault}
 use Rattle.tpkt_cotp.specs.Packet.{packet, IsTpdu, IsPartial, packet_at}
 use Rattle.tpkt_cotp.specs.declared.state.State.{State}
@@ -14,11 +14,6 @@ use Rattle.tpkt_cotp.specs.Tpdu.{tpdu_at}
 use Rattle.tpkt_cotp.specs.Stream.{start, Runs, Takes, Took, TookAll, Stops, StopsAt, StandsAt, IsRefused, GoesOn, Refuses}
 use Rattle.tpkt_cotp.specs.declared.transport.TransportIn.{TransportIn}
 use Rattle.tpkt_cotp.proofs.PacketLaws.{packet_whole, packet_partial, packet_bad, packet_again, bad_again, stays_bad, partial_again, found_is}
-
-pub IsBytes-append : (xs ys : List ℕ) → IsBytes xs → IsBytes ys → IsBytes (xs ++ ys)
-IsBytes-append [] ys a b i = b i
-IsBytes-append (x ∷ xs) ys a b zero = a 0
-IsBytes-append (x ∷ xs) ys a b (suc i) = IsBytes-append xs ys (λ k. a (suc k)) b i
 
 pub Runs-append : (s t u : State) (ps qs : List (List ℕ)) (a b : List Tsdu) → Runs s ps a t → Runs t qs b u → Runs s (ps ++ qs) (a ++ b) u
 Runs-append s t u [] qs a b p q = rw (p.0) (subst (λ (x : State). Runs x qs b u) p.1 q)
@@ -100,7 +95,7 @@ stands_first dialled s held p q = record {
   partial = subst IsPartial (sym q) partial_none;
 }
 
-first_packet : (octets p : List ℕ) (ps : List (List ℕ)) (rest : List ℕ) → octets ≡ flat_map packet (p ∷ ps) ++ rest → IsTpdu p → packet_at octets ≡ Ok (Some (p, flat_map packet ps ++ rest))
+pub first_packet : (octets p : List ℕ) (ps : List (List ℕ)) (rest : List ℕ) → octets ≡ flat_map packet (p ∷ ps) ++ rest → IsTpdu p → packet_at octets ≡ Ok (Some (p, flat_map packet ps ++ rest))
 first_packet octets p ps rest w is = ap packet_at (w ∙ ap (λ (x : List ℕ). x ++ rest) (flat_map-cons packet p ps) ∙ append_assoc (packet p) (flat_map packet ps) rest) ∙ packet_again p (flat_map packet ps ++ rest) is
 
 -- ---- a stream gives one thing

@@ -6,6 +6,6 @@ use Rattle.bay_answers.proofs.replies_variables.asked_set.Goals as goal
 
 pub returns : goal.returns
 returns c =
-    subst (λ (o : List ℕ). IfOk c.specification.result (λ v. v.items ≡ octets_of 0xA0 (octets_of 0xA1 o)))
+    subst (λ (o : List ℕ). IfOk c.specification.result (λ v. v.items ≡ octets_of 0xa0 (octets_of 0xa1 o)))
     (c.as_slice-3.ensures.value ∙ (c.in_ok-name.ensures ∙ ap₂ domain_name c.as_slice.ensures c.as_slice-2.ensures))
     c.specification.ensures

@@ -1,6 +1,6 @@
 -- why `variable_lists::no_names` answers as its contract says
 use Rattle.std.proofs.Common.{refl, sym, ◌∙◌}
-use Rattle.ber_grammar.proofs.OptionLaws.{some_is}
+use Rattle.list_laws.proofs.Options.{some_is}
 use Rattle.mms_pdu.specs.ObjectName.{name_at}
 use Rattle.mms_pdu.proofs.EachLaws.{each_none}
 use Rattle.mms_pdu.proofs.variable_lists.no_names.Goals as goal

@@ -1,7 +1,7 @@
 -- why `pdu::replying::answers_are_written` answers as its contract says
 use Rattle.std.proofs.Common.{◌∷◌, [], inl, refl, arith}
 use Rattle.ber_write.specs.Minimal.{written, uint_octets}
-use Rattle.mms_pdu.proofs.WrittenLaws.{written_last, one_octet}
+use Rattle.ber_write.proofs.WrittenLaws.{written_last, one_octet}
 use Rattle.codec_tests.proofs.pdu.replying.answers_are_written.Goals as goal
 
 -- the body is one failure, 128, with the code 3

@@ -2,7 +2,7 @@
 use Rattle.std.proofs.Common.{◌∷◌, [], arith}
 use Rattle.ber_write.specs.Minimal.{written}
 use Rattle.ber_write.proofs.ElementLaws.{is_spelling}
-use Rattle.mms_pdu.proofs.WrittenLaws.{one_octet}
+use Rattle.ber_write.proofs.WrittenLaws.{one_octet}
 use Rattle.codec_tests.proofs.pdu.replying.reports_are_written.Goals as goal
 
 -- the variables are the name of a list, 161
