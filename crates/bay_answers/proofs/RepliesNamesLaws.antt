@@ -4,17 +4,15 @@ use Rattle.std.specs.Prelude.{if◌then◌else◌, nat_le, nat_lt}
 use Rattle.std.proofs.lemmas.Bool.{le-leb, leb-true, lt-leb, lt-ltb, le-ltb}
 use Rattle.std.proofs.lemmas.List.{length-append, append-nil, length-take-le, take_more, drop_more}
 use Rattle.std.proofs.lemmas.List.Concat.{flat_map-append}
-use Rattle.ber_write.specs.Minimal.{octets_of, head_octets, uint_octets}
+use Rattle.ber_write.specs.Minimal.{octets_of, head_octets, uint_octets, element_size}
 use Rattle.ber_write.proofs.NumberLaws.{length-uint_octets}
-use Rattle.ber_write.proofs.LengthLaws.{headed}
+use Rattle.ber_write.proofs.LengthLaws.{headed, length_of_element}
 use Rattle.mms_pdu.specs.declared.tags.TheConstants.{GET_NAME_LIST}
 use Rattle.report_cut.specs.Fields.{truth}
-use Rattle.report_cut.specs.Sizes.{element_size}
 use Rattle.bay_answers.specs.RepliesContents.{identifiers, names_content}
 use Rattle.bay_answers.specs.RepliesSizes.{service_size, names_size, with_one}
 use Rattle.bay_answers.specs.Replies.{response, names_octets, names_fit, fitting, shown, names_response, IsFull, is_any, AreAsManyAsFit}
 use Rattle.bay_answers.proofs.RepliesSizeLaws.{length_of_answer, size_above}
-use Rattle.report_cut.proofs.SizeLaws.{length_of_element}
 
 -- ---- what fits of any list
 

@@ -4,18 +4,16 @@ use Rattle.std.proofs.Common.{refl, sym, ap, subst, ◌∙◌, append_assoc, ari
 use Rattle.std.specs.Prelude.{nat_le, if◌then◌else◌}
 use Rattle.std.proofs.lemmas.Bool.{le-leb, lt-leb, lt-ltb}
 use Rattle.std.proofs.lemmas.List.{length-append}
-use Rattle.ber_write.specs.Minimal.{tag_octets, length_octets, octets_of, head_octets, uint_octets}
-use Rattle.ber_write.proofs.LengthLaws.{length-octets_of, octets_longer, headed}
+use Rattle.ber_write.specs.Minimal.{tag_octets, length_octets, octets_of, head_octets, uint_octets, element_size}
+use Rattle.ber_write.proofs.LengthLaws.{length-octets_of, octets_longer, headed, length_of_element}
 use Rattle.sv_base.specs.declared.value.Value.{Value}
 use Rattle.mms_pdu.specs.declared.tags.TheConstants.{READ}
 use Rattle.mms_pdu.specs.ReplyOctets.{answer_content, answer_octets, error_octets}
 use Rattle.bay_model.specs.declared.reply.Asked.{Asked}
-use Rattle.report_cut.specs.Sizes.{element_size}
 use Rattle.bay_answers.specs.RepliesVariables.{asked_octets}
 use Rattle.bay_answers.specs.RepliesContents.{results_octets, read_content}
 use Rattle.bay_answers.specs.RepliesSizes.{service_size, begun}
 use Rattle.bay_answers.specs.Replies.{response}
-use Rattle.report_cut.proofs.SizeLaws.{length_of_element}
 
 -- a DataAccessError
 pub length_of_failure : (code : ℕ) → length (octets_of 128 (uint_octets code)) ≡ element_size (length (uint_octets code))

@@ -47,7 +47,7 @@ results_octets results = flat_map result_octets results
 abbrev pub read_content : Asked → List (Result Value ℕ) → List ℕ
 read_content asked results = asked_octets asked ++ octets_of LIST_OF_RESULT (results_octets results)
 
--- Write: of each variable success, 0x81, or failure a DataAccessError
+-- Write: of each variable success, or failure, a DataAccessError
 abbrev pub written_octets : Result (Unit {0}) ℕ → List ℕ
 written_octets (Ok done) = octets_of SUCCESS []
 written_octets (Err code) = octets_of FAILURE (uint_octets code)

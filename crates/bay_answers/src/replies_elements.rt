@@ -2,9 +2,8 @@
 
 ghost use Rattle.std.specs.Prelude.{◌≡◌, ◌+◌, ◌<◌, ◌≤◌, ◌^◌, ◌++◌, length, OnOk, IfOk};
 ghost use Rattle.std.specs.Option.{option_map};
-ghost use Rattle.ber_write.specs.Minimal.{octets_of, CanBeTag};
+ghost use Rattle.ber_write.specs.Minimal.{octets_of, CanBeTag, element_size};
 ghost use Rattle.report_cut.specs.Fields.{truth};
-ghost use Rattle.report_cut.specs.Sizes.{element_size};
 ghost use Rattle.bay_answers.specs.Replies.{response as response_of};
 ghost use Rattle.bay_answers.specs.RepliesSizes.{service_size, begun};
 
@@ -43,7 +42,7 @@ pub(crate) fn enclosed(alloc: Global, tag: u32, content: &[u8]) -> Result<Vec<u8
 }
 
 /// How many octets an element has whose content has so many.
-#[tactic(auto, unfolding(report_cut::specs::Sizes::element_size), using(ber_write::proofs::LengthLaws::at_most_five))]
+#[tactic(auto, unfolding(ber_write::specs::Minimal::element_size), using(ber_write::proofs::LengthLaws::at_most_five))]
 pub(crate) fn element_len(n: u32) -> u32
     requires { n < 2 ^ 24 }
     ensures value { result ≡ element_size n }

@@ -1,7 +1,7 @@
 //! Names, as many as fit (ISO 9506-2, GetNameList-Response).
 
 ghost use Rattle.std.specs.Prelude.{◌≡◌, ◌+◌, ◌<◌, ◌≤◌, ◌++◌, length, take, OnOk, IfOk};
-ghost use Rattle.report_cut.specs.Sizes.{element_size};
+ghost use Rattle.ber_write.specs.Minimal.{element_size};
 ghost use Rattle.bay_answers.specs.RepliesContents.{identifiers};
 ghost use Rattle.bay_answers.specs.RepliesSizes.{names_size, with_one};
 ghost use Rattle.bay_answers.specs.Replies.{shown, names_response};

@@ -3,7 +3,7 @@ use Rattle.std.proofs.Common.{◌≡◌, ℕ, ◌+◌, ◌<◌, ◌≤◌, List,
 use Rattle.std.proofs.lemmas.Bool.{lt-ltb}
 use Rattle.std.proofs.lemmas.Bool.Decides.{nat_tests}
 use Rattle.std.proofs.lemmas.List.{length-append}
-use Rattle.ber_write.specs.Minimal.{tag_octets, length_octets, head_octets, octets_of}
+use Rattle.ber_write.specs.Minimal.{tag_octets, length_octets, head_octets, octets_of, element_size}
 
 -- ---- a tag
 
@@ -45,6 +45,10 @@ pub length-one_octet : (tag : ℕ) (content : List ℕ) → tag < 256
 length-one_octet tag content lt =
     length-octets_of tag content
     ∙ ap (λ (t : List ℕ). length t + (length (length_octets (length content)) + length content)) (tag_of_one tag lt)
+
+pub length_of_element : (tag : ℕ) (content : List ℕ) → tag < 256 → length (octets_of tag content) ≡ element_size (length content)
+unfolding element_size
+length_of_element tag content lt = length-one_octet tag content lt
 
 -- no fewer than its content
 pub octets_longer : (tag : ℕ) (content : List ℕ) → length content ≤ length (octets_of tag content)

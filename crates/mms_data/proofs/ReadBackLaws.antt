@@ -25,10 +25,10 @@ boolean_spells : (b : Bool) → IsBoolean ((if b then 255 else 0) ∷ []) b
 boolean_spells true = λ e. omega (arith, e)
 boolean_spells false = refl
 
-big_endian-32 : (n : ℕ) → n < 2 ^ 32 → n ≡ big_endian (to_be_bytes w32 n)
+pub big_endian-32 : (n : ℕ) → n < 2 ^ 32 → n ≡ big_endian (to_be_bytes w32 n)
 big_endian-32 n lt = omega (arith, from_be_bytes-to_be_bytes_4 n lt)
 
-big_endian-16 : (n : ℕ) → n < 2 ^ 16 → n ≡ big_endian (to_be_bytes w16 n)
+pub big_endian-16 : (n : ℕ) → n < 2 ^ 16 → n ≡ big_endian (to_be_bytes w16 n)
 big_endian-16 n lt = omega (arith, from_be_bytes-to_be_bytes_2 n lt)
 
 fraction : (n : ℕ) → n < 2 ^ 24 → n ≡ big_endian (n / 65536 ∷ n / 256 % 256 ∷ n % 256 ∷ [])

@@ -14,6 +14,7 @@ use Rattle.ber_write.proofs.ElementLaws.{is_spelling}
 use Rattle.ber_write.proofs.NumberLaws.{uint_octets-spell, length-uint_octets, big_endian-64, uint_short}
 use Rattle.ber_write.proofs.BitLaws.{bit_octets-spell, length_of_bit_octets}
 use Rattle.ber_write.proofs.WrittenLaws.{one_octet, written_last}
+use Rattle.mms_data.proofs.ReadBackLaws.{big_endian-32, big_endian-16}
 use Rattle.bay_model.specs.Parameters.{bit}
 use Rattle.bay_model.specs.declared.report.Report.{Report}
 use Rattle.bay_model.specs.declared.report.Member.{Member}
@@ -55,19 +56,13 @@ text_told o visible = (refl, visible)
 id_told : (id : ℕ) → id < 2 ^ 64 → IsEntryId (to_be_bytes w64 id) id
 id_told id lt = (refl, sym (big_endian-64 id lt))
 
-four : (n : ℕ) → n < 2 ^ 32 → n ≡ big_endian (to_be_bytes w32 n)
-four n lt = omega (arith, lt)
-
-two : (n : ℕ) → n < 2 ^ 16 → n ≡ big_endian (to_be_bytes w16 n)
-two n lt = omega (arith, lt)
-
 time_told : (t : ℕ) → 441763200000 ≤ t → t ≤ 4294967295999 → IsMoment (time_octets t) t
 time_told t ge le =
     let ms : (t - 441763200000) % 86400000 < 86400000 = omega arith in
     let days : (t - 441763200000) / 86400000 < 2 ^ 16 = omega (arith, ge, le) in (
       (t - 441763200000) % 86400000,
       (t - 441763200000) / 86400000,
-      (refl, four ((t - 441763200000) % 86400000) (omega (arith, ms)), two ((t - 441763200000) / 86400000) days),
+      (refl, big_endian-32 ((t - 441763200000) % 86400000) (omega (arith, ms)), big_endian-16 ((t - 441763200000) / 86400000) days),
       ms,
       omega (arith, ge),
       le,

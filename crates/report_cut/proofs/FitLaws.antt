@@ -6,7 +6,7 @@ use Rattle.std.specs.List.{AllByRecursion, sum_by}
 use Rattle.std.proofs.lemmas.Bool.{le-leb, leb-true, leb-false}
 use Rattle.std.proofs.lemmas.Bool.Decides.{nat_tests}
 use Rattle.std.proofs.lemmas.List.Sums.{sum_by-cons}
-use Rattle.ber_write.specs.Minimal.{uint_octets, length_octets}
+use Rattle.ber_write.specs.Minimal.{uint_octets, length_octets, element_size}
 use Rattle.ber_write.proofs.NumberLaws.{length-uint_octets}
 use Rattle.ber_write.proofs.LengthLaws.{at_most_three, at_most_two}
 use Rattle.bay_model.specs.Parameters.{bit}
@@ -14,7 +14,7 @@ use Rattle.bay_model.specs.declared.report.Report.{Report}
 use Rattle.bay_model.specs.declared.report.Member.{Member}
 use Rattle.report_cut.specs.declared.segment.Segment.{Segment}
 use Rattle.report_cut.specs.Fields.{identity, first_fields, further_fields, place, front, pdu}
-use Rattle.report_cut.specs.Sizes.{element_size, size_if, cost, inclusion_size, fixed_size, results_size, framed}
+use Rattle.report_cut.specs.Sizes.{size_if, cost, inclusion_size, fixed_size, results_size, framed}
 use Rattle.report_cut.specs.Cutting.{cut_from, AllFit}
 use Rattle.report_cut.specs.Pdus.{fits, spelled, pdus, IsShort, CanBeCut, AreSegments, IsCut}
 use Rattle.report_cut.proofs.SizeLaws.{length_of_pdu, length_of_front, length_of_place, length_of_identity, length_of_first_fields, length_of_further_fields}

@@ -1,7 +1,7 @@
 -- What is read of a PDU of a report is what it tells, and what it tells is read.
 use Rattle.std.proofs.Common.{◌≡◌, ℕ, ◌^◌, ◌&&◌, cond, eqb, Bool, true, false, List, [], ◌∷◌, ◌++◌, length, refl, sym, ap, subst, ◌∙◌, Option, Some, None, Result, Ok, Err}
 use Rattle.std.specs.Prelude.{if◌then◌else◌}
-use Rattle.std.proofs.lemmas.Bool.{eqb-true, eq-eqb}
+use Rattle.std.proofs.lemmas.Bool.{eqb-true, eq-eqb, and_parts}
 use Rattle.std.proofs.lemmas.List.{append-nil}
 use Rattle.list_laws.proofs.Options.{some_is, chosen, ok_is}
 use Rattle.ber_grammar.specs.Octets.{IsBytes}
@@ -224,17 +224,13 @@ told_again results p fits (a, b, c, d, i, f, g, s, body) none =
 abbrev rpt_name : List ℕ
 rpt_name = 82 ∷ 80 ∷ 84 ∷ []
 
-and_both : (a b : Bool) → (a && b) ≡ true → (a ≡ true) × (b ≡ true)
-and_both true b e = (refl, e)
-and_both false b e = absurd cc
-
 name_is : (name : List ℕ) → is_rpt name ≡ true → name ≡ rpt_name
 name_is [] h = absurd cc
 name_is (a ∷ []) h = absurd cc
 name_is (a ∷ b ∷ []) h = absurd cc
 name_is (a ∷ b ∷ c ∷ []) h =
-    let x = and_both (eqb a 82 && eqb b 80) (eqb c 84) h in
-    let y = and_both (eqb a 82) (eqb b 80) x.0 in
+    let x = and_parts (eqb a 82 && eqb b 80) (eqb c 84) h in
+    let y = and_parts (eqb a 82) (eqb b 80) x.0 in
     rw (eqb-true a 82 y.0, eqb-true b 80 y.1, eqb-true c 84 x.1) refl
 name_is (a ∷ b ∷ c ∷ d ∷ rest) h = absurd cc
 

@@ -2,9 +2,9 @@
 
 ghost use Rattle.std.specs.Prelude.{◌≡◌, ◌+◌, ◌≤◌, ◌<◌, ◌^◌, length};
 ghost use Rattle.bay_model.specs.Parameters.{bit as bit_at};
-ghost use Rattle.ber_write.specs.Minimal.{uint_octets};
+ghost use Rattle.ber_write.specs.Minimal.{uint_octets, element_size};
 ghost use Rattle.report_cut.specs.Fields.{identity, first_fields, further_fields, place, front};
-ghost use Rattle.report_cut.specs.Sizes.{element_size, size_if as if_asked, cost, inclusion_size, fixed_size, framed as framed_of};
+ghost use Rattle.report_cut.specs.Sizes.{size_if as if_asked, cost, inclusion_size, fixed_size, framed as framed_of};
 
 use crate::segment::Segment;
 use bay_model::{Member, Report};
@@ -19,7 +19,7 @@ pub(crate) fn bit(opts: &Bits, i: usize) -> bool
 }
 
 /// How many octets an element has whose content has so many.
-#[tactic(auto, unfolding(crate::specs::Sizes::element_size), using(ber_write::proofs::LengthLaws::at_most_five))]
+#[tactic(auto, unfolding(ber_write::specs::Minimal::element_size), using(ber_write::proofs::LengthLaws::at_most_five))]
 pub(crate) fn element_len(n: u32) -> u32
     requires { n < 2 ^ 24 }
     ensures value { result ≡ element_size n }

@@ -1,8 +1,9 @@
 //! One PDU of a report, written (ISO 9506-2, Unconfirmed-PDU with an InformationReport).
 
 ghost use Rattle.std.specs.Prelude.{◌≡◌, ◌++◌, ◌≤◌, ◌<◌, ◌^◌, List, length, OnOk, IfOk};
+ghost use Rattle.ber_write.specs.Minimal.{element_size};
 ghost use Rattle.report_cut.specs.Fields.{pdu, results};
-ghost use Rattle.report_cut.specs.Sizes.{results_size, element_size, framed as framed_of};
+ghost use Rattle.report_cut.specs.Sizes.{results_size, framed as framed_of};
 ghost use Rattle.report_cut.specs.Framed.{opening};
 
 use crate::fields::put_front;

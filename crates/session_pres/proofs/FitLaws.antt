@@ -7,7 +7,7 @@ use Rattle.ber_write.specs.Minimal.{length_octets, octets_of, uint_octets}
 use Rattle.ber_write.proofs.NumberLaws.{length-uint_octets}
 use Rattle.ber_write.proofs.LengthLaws.{octets_few}
 use Rattle.session_pres.specs.declared.codes.TheConstants.{USER_DATA, NORMAL_MODE_PARAMETERS, CONTEXT_RESULT_LIST, FULLY_ENCODED_DATA, SINGLE_ASN1_TYPE, INTEGER, SEQUENCE, SET}
-use Rattle.session_pres.specs.Written.{element_length, pdv_fields, pdv_list, user_octets, length_field, field, accept_item, accept_parameters, connect_item}
+use Rattle.session_pres.specs.Written.{pdv_fields, pdv_list, user_octets, length_field, field, accept_item, accept_parameters, connect_item}
 use Rattle.session_pres.specs.WrittenPpdu.{set_content, ppdu, result_octets, cpa_parameters, cpa_octets, cp_head, cp_octets, connect_parameters}
 
 pub field_length_few : (n : ℕ) → length (length_field n) ≤ 3

@@ -5,6 +5,7 @@ use Rattle.std.specs.Option.{option_map}
 use Rattle.std.proofs.lemmas.Bool.{eqb-true, eq-eqb, cond_both}
 use Rattle.std.proofs.lemmas.Slice.Eq.{bytes_eq-Decides}
 use Rattle.list_laws.proofs.Options.{some_is, chosen, sides, map_some}
+use Rattle.list_laws.proofs.Distinct.{octets_same}
 use Rattle.ber_grammar.specs.Place.{Spot, Piece, content_piece}
 use Rattle.ber_grammar.specs.Reader.{and_then}
 use Rattle.ber_grammar.proofs.OptionLaws.{then_some}
@@ -18,17 +19,14 @@ use Rattle.session_pres.proofs.UserDataLaws.{context_found, context_again}
 
 -- ---- the same octets
 
-pub same_octets : (xs ys : List ℕ) → bytes_eq xs ys ≡ true → xs ≡ ys
-same_octets xs ys e = let d = bytes_eq-Decides xs ys in d.0 e
-
-pub octets_same : (xs ys : List ℕ) → xs ≡ ys → bytes_eq xs ys ≡ true
-octets_same xs ys e = let d = bytes_eq-Decides xs ys in d.1 e
+pub equal_octets : (xs ys : List ℕ) → xs ≡ ys → bytes_eq xs ys ≡ true
+equal_octets xs ys e = let d = bytes_eq-Decides xs ys in d.1 e
 
 pub other_octets : (xs ys : List ℕ) → bytes_eq xs ys ≡ false → xs ≢ ys
-other_octets xs ys e same = let true_too = octets_same xs ys same in cc
+other_octets xs ys e same = let true_too = equal_octets xs ys same in cc
 
 not_same_at : (xs ys : List ℕ) (b : Bool) → bytes_eq xs ys ≡ b → xs ≢ ys → b ≡ false
-not_same_at xs ys true e other = absurd (other (same_octets xs ys e))
+not_same_at xs ys true e other = absurd (other (octets_same xs ys e))
 not_same_at xs ys false e other = refl
 
 pub octets_other : (xs ys : List ℕ) → xs ≢ ys → bytes_eq xs ys ≡ false
@@ -49,7 +47,7 @@ has_ber_tells [] = tt
 has_ber_tells (s ∷ ss) =
     cond_both (eqb s.element.tag OBJECT_IDENTIFIER) (cond (bytes_eq s.element.content ber) true (has_ber ss)) (has_ber ss) (λ b. BerTells (s ∷ ss) b)
     (λ t. cond_both (bytes_eq s.element.content ber) true (has_ber ss) (λ b. BerTells (s ∷ ss) b)
-    (λ e. inl (eqb-true s.element.tag OBJECT_IDENTIFIER t, same_octets s.element.content ber e))
+    (λ e. inl (eqb-true s.element.tag OBJECT_IDENTIFIER t, octets_same s.element.content ber e))
     (λ e. later_tells s ss (has_ber ss) (has_ber_tells ss)))
     (λ t. later_tells s ss (has_ber ss) (has_ber_tells ss))
 
@@ -60,7 +58,7 @@ either_way false b = refl
 
 has_ber_again : (ss : List Spot) → HasBer ss → has_ber ss ≡ true
 has_ber_again [] h = absurd h
-has_ber_again (s ∷ ss) (inl (t, e)) = rw (eq-eqb s.element.tag OBJECT_IDENTIFIER t, octets_same s.element.content ber e) refl
+has_ber_again (s ∷ ss) (inl (t, e)) = rw (eq-eqb s.element.tag OBJECT_IDENTIFIER t, equal_octets s.element.content ber e) refl
 has_ber_again (s ∷ ss) (inr h) = rw (has_ber_again ss h) (either_way (eqb s.element.tag OBJECT_IDENTIFIER) (bytes_eq s.element.content ber))
 
 says_found : (ss : List Spot) (b : Bool) → has_ber ss ≡ b → SaysBer b ss
@@ -144,7 +142,7 @@ context_list_again content contexts (spots, are, is) = rw (fields_again content 
 
 first_at : (syntax : List ℕ) (c : Context) (cs : List Context) (x : ℕ × Context) → ((bytes_eq c.syntax syntax ≡ true) × (Some (0, c) ≡ Some x)) ⊎ ((bytes_eq c.syntax syntax ≡ false) × (option_map further (first_of syntax cs) ≡ Some x))
     → ((y : ℕ × Context) → first_of syntax cs ≡ Some y → IsFirst syntax cs y.0 y.1) → IsFirst syntax (c ∷ cs) x.0 x.1
-first_at syntax c cs x (inl (t, e)) ih = subst (λ (y : ℕ × Context). IsFirst syntax (c ∷ cs) y.0 y.1) (some_is (0, c) x e) (same_octets c.syntax syntax t, refl)
+first_at syntax c cs x (inl (t, e)) ih = subst (λ (y : ℕ × Context). IsFirst syntax (c ∷ cs) y.0 y.1) (some_is (0, c) x e) (octets_same c.syntax syntax t, refl)
 first_at syntax c cs x (inr (t, e)) ih =
     let z = map_some further (first_of syntax cs) x e in
     subst (λ (y : ℕ × Context). IsFirst syntax (c ∷ cs) y.0 y.1) z.2 (other_octets c.syntax syntax t, ih z.0 z.1)
@@ -155,7 +153,7 @@ first_found syntax (c ∷ cs) x h = first_at syntax c cs x (sides (bytes_eq c.sy
 
 first_again : (syntax : List ℕ) (cs : List Context) (place : ℕ) (d : Context) → IsFirst syntax cs place d → first_of syntax cs ≡ Some (place, d)
 first_again syntax [] place d h = absurd h
-first_again syntax (c ∷ cs) zero d h = rw (octets_same c.syntax syntax h.0, h.1) refl
+first_again syntax (c ∷ cs) zero d h = rw (equal_octets c.syntax syntax h.0, h.1) refl
 first_again syntax (c ∷ cs) (suc n) d h = rw (octets_other c.syntax syntax h.0, first_again syntax cs n d h.1) refl
 
 pub chosen_found : (syntax : List ℕ) (contexts : List Context) (x : Chosen) → chosen_at syntax contexts ≡ Some x → IsChosen syntax contexts x

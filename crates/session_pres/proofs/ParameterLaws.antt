@@ -3,7 +3,7 @@ use Rattle.std.proofs.Common.{◌≡◌, ℕ, zero, suc, ◌+◌, ◌*◌, ◌<�
 use Rattle.std.specs.Prelude.{is_some, ◌&&◌}
 use Rattle.std.specs.List.{AllByRecursion}
 use Rattle.std.specs.Option.{option_map}
-use Rattle.std.proofs.lemmas.Bool.{eqb-true, ltb-true, ltb-false, lt-ltb, le-ltb, eq-eqb, ne_eqb, cond_both}
+use Rattle.std.proofs.lemmas.Bool.{eqb-true, ltb-true, ltb-false, lt-ltb, le-ltb, eq-eqb, ne_eqb, cond_both, and_parts}
 use Rattle.std.proofs.lemmas.List.{length-append, take_at, drop_at, length-take, take-append-drop, append-nil, nil_from_length}
 use Rattle.list_laws.proofs.Options.{some_is, chosen, some_of}
 use Rattle.ber_grammar.specs.Place.{Piece}
@@ -210,13 +210,9 @@ cut_at p true e h = let inner = h (eqb-true p.code CONNECT_ACCEPT_ITEM e) in rw 
 pub cut_again : (p : Parameter) → IsCut p → is_cut p ≡ true
 cut_again p h = cut_at p (eqb p.code CONNECT_ACCEPT_ITEM) refl h
 
-pub both_true : (a b : Bool) → (a && b) ≡ true → (a ≡ true) × (b ≡ true)
-both_true true b e = (refl, e)
-both_true false b e = absurd cc
-
 all_cut_found : (ps : List Parameter) → all_cut ps ≡ true → AllByRecursion IsCut ps
 all_cut_found [] h = tt
-all_cut_found (p ∷ ps) h = let b = both_true (is_cut p) (all_cut ps) h in (cut_found p b.0, all_cut_found ps b.1)
+all_cut_found (p ∷ ps) h = let b = and_parts (is_cut p) (all_cut ps) h in (cut_found p b.0, all_cut_found ps b.1)
 
 all_cut_again : (ps : List Parameter) → AllByRecursion IsCut ps → all_cut ps ≡ true
 all_cut_again [] h = refl
@@ -259,7 +255,7 @@ last_of-more (q ∷ ps) p = rw (last_of-more ps p) (sym (first_first (cond (eqb 
 
 all_cut-more : (ps : List Parameter) (p : Parameter) → all_cut ps ≡ true → is_cut p ≡ true → all_cut (ps ++ p ∷ []) ≡ true
 all_cut-more [] p h e = rw e refl
-all_cut-more (q ∷ ps) p h e = let b = both_true (is_cut q) (all_cut ps) h in rw (b.0, all_cut-more ps p b.1 e) refl
+all_cut-more (q ∷ ps) p h e = let b = and_parts (is_cut q) (all_cut ps) h in rw (b.0, all_cut-more ps p b.1 e) refl
 
 and_false : (b : Bool) → (b && false) ≡ false
 and_false true = refl

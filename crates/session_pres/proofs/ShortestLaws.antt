@@ -15,7 +15,7 @@ use Rattle.ber_grammar.specs.Fields.{AreFields, IsOnly}
 use Rattle.ber_write.proofs.WrittenLaws.{least, row_least}
 use Rattle.ber_write.proofs.LengthLaws.{octets_grow}
 use Rattle.session_pres.specs.UserData.{IsPair, IsPdv, IsUserData}
-use Rattle.session_pres.specs.Written.{element_length, pdv_fields, pdv_list, user_octets}
+use Rattle.session_pres.specs.Written.{pdv_fields, pdv_list, user_octets}
 
 -- elements with their places
 abbrev Holds : Piece → List Spot → Type 0

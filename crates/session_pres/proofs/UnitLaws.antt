@@ -1,7 +1,7 @@
 -- SPDUs are read as they are spelled.
 use Rattle.std.proofs.Common.{◌≡◌, ℕ, ◌+◌, true, false, cond, eqb, List, [], ◌∷◌, ◌++◌, length, drop, Option, Some, None, Result, Ok, Err, inl, inr, refl, sym, ap, subst, ◌∙◌, arith}
 use Rattle.std.specs.Prelude.{◌&&◌}
-use Rattle.std.proofs.lemmas.Bool.{eqb-true, eq-eqb, cond_both}
+use Rattle.std.proofs.lemmas.Bool.{eqb-true, eq-eqb, cond_both, and_parts}
 use Rattle.std.proofs.lemmas.List.{length-append, drop_at}
 use Rattle.list_laws.proofs.Options.{some_is, chosen}
 use Rattle.ber_grammar.specs.Place.{Piece}
@@ -17,7 +17,7 @@ use Rattle.session_pres.specs.Parameters.{IsLength, IsUserOf}
 use Rattle.session_pres.specs.ParameterReading.{length_at, user_at}
 use Rattle.session_pres.specs.Units.{IsUnit, HasUser, IsUserRefused, HasData, IsDataRefused, Seen, connect, transfer, finish, abort, IsTransfer, IsSpdu, begins, HasCode, IsSpduRefused}
 use Rattle.session_pres.specs.UnitReading.{counted_at, unit_at, user_of, data_of, is_transfer, transfer_at, spdu_at}
-use Rattle.session_pres.proofs.ParameterLaws.{LengthTells, length_tells, length_again, both_true, user_found, user_again, piece_is}
+use Rattle.session_pres.proofs.ParameterLaws.{LengthTells, length_tells, length_again, user_found, user_again, piece_is}
 use Rattle.ber_grammar.proofs.StepLaws.{Exact, then_exact, step_exact, required_exact, made_exact}
 
 -- ---- a code and a length
@@ -181,9 +181,9 @@ four_found (a ∷ []) h = absurd cc
 four_found (a ∷ b ∷ []) h = absurd cc
 four_found (a ∷ b ∷ c ∷ []) h = absurd cc
 four_found (a ∷ b ∷ c ∷ d ∷ rest) h =
-    let p = both_true (eqb a 1 && eqb b 0 && eqb c 1) (eqb d 0) h in
-    let q = both_true (eqb a 1 && eqb b 0) (eqb c 1) p.0 in
-    let r = both_true (eqb a 1) (eqb b 0) q.0 in
+    let p = and_parts (eqb a 1 && eqb b 0 && eqb c 1) (eqb d 0) h in
+    let q = and_parts (eqb a 1 && eqb b 0) (eqb c 1) p.0 in
+    let r = and_parts (eqb a 1) (eqb b 0) q.0 in
     rw (eqb-true a 1 r.0, eqb-true b 0 r.1, eqb-true c 1 q.1, eqb-true d 0 p.1) refl
 
 transfer_found : (input : Piece) (s : Seen) → transfer_at input ≡ Some s → IsSpdu input s

@@ -5,28 +5,24 @@ use Rattle.std.specs.List.{flat_map}
 use Rattle.std.specs.declared.alloc.AllocError.{AllocError}
 use Rattle.std.proofs.lemmas.Bool.{lt-ltb}
 use Rattle.std.proofs.lemmas.List.{length-append}
-use Rattle.ber_write.specs.Minimal.{tag_octets, length_octets, head_octets, octets_of, uint_octets}
-use Rattle.ber_write.proofs.LengthLaws.{length-one_octet, octets_longer, headed}
+use Rattle.ber_write.specs.Minimal.{tag_octets, length_octets, head_octets, octets_of, uint_octets, element_size}
+use Rattle.ber_write.proofs.LengthLaws.{octets_longer, headed, length_of_element}
 use Rattle.session_pres.specs.declared.codes.TheConstants.{USER_DATA, NORMAL_MODE_PARAMETERS, CONTEXT_RESULT_LIST, FULLY_ENCODED_DATA, SINGLE_ASN1_TYPE, INTEGER, SEQUENCE, SET}
-use Rattle.session_pres.specs.Written.{element_length, pdv_fields, pdv_list, user_octets, length_field, field, accept_item, accept_parameters, connect_item}
+use Rattle.session_pres.specs.Written.{pdv_fields, pdv_list, user_octets, length_field, field, accept_item, accept_parameters, connect_item}
 use Rattle.session_pres.specs.WrittenPpdu.{normal_mode, set_content, ppdu, result_octets, cpa_parameters, cp_head, cp_octets, connect_parameters}
-
-pub length-element : (tag : ℕ) (content : List ℕ) → tag < 256 → length (octets_of tag content) ≡ element_length (length content)
-unfolding element_length
-length-element tag content lt = omega (arith, length-one_octet tag content lt)
 
 regroup : (old a b c d : List ℕ) → (((old ++ a) ++ b) ++ c) ++ d ≡ old ++ (a ++ (b ++ (c ++ d)))
 regroup old a b c d = simp append_assoc
 
-user_is : (context : ℕ) (value : List ℕ) (len total : ℕ) → len ≡ length (pdv_fields context value) → total ≡ element_length len
+user_is : (context : ℕ) (value : List ℕ) (len total : ℕ) → len ≡ length (pdv_fields context value) → total ≡ element_size len
     → head_octets FULLY_ENCODED_DATA total ++ (head_octets SEQUENCE len ++ (octets_of INTEGER (uint_octets context) ++ octets_of SINGLE_ASN1_TYPE value)) ≡ user_octets context value
 unfolding user_octets pdv_list pdv_fields
 user_is context value len total p q =
-    let count : total ≡ length (pdv_list context value) = q ∙ ap element_length p ∙ sym (length-element SEQUENCE (pdv_fields context value) (omega arith)) in
+    let count : total ≡ length (pdv_list context value) = q ∙ ap element_size p ∙ sym (length_of_element SEQUENCE (pdv_fields context value) (omega arith)) in
     rw (count, p) (ap (λ (x : List ℕ). head_octets FULLY_ENCODED_DATA (length (pdv_list context value)) ++ x) (headed SEQUENCE (length (pdv_fields context value)) (pdv_fields context value) refl) ∙ headed FULLY_ENCODED_DATA (length (pdv_list context value)) (pdv_list context value) refl)
 
 pub user_written : {A : Type 0} (r : Result A AllocError) (old a b c new value : List ℕ) (n context len total : ℕ) → a ≡ old ++ head_octets FULLY_ENCODED_DATA total → b ≡ a ++ head_octets SEQUENCE len → c ≡ b ++ octets_of INTEGER (uint_octets n)
-    → n ≡ context → len ≡ length (pdv_fields context value) → total ≡ element_length len → OnOk r (new ≡ c ++ octets_of SINGLE_ASN1_TYPE value) → OnOk r (new ≡ old ++ user_octets context value)
+    → n ≡ context → len ≡ length (pdv_fields context value) → total ≡ element_size len → OnOk r (new ≡ c ++ octets_of SINGLE_ASN1_TYPE value) → OnOk r (new ≡ old ++ user_octets context value)
 user_written (Ok x) old a b c new value n context len total p q s same count all h =
     h ∙ rw (s, q, p, same) (regroup old (head_octets FULLY_ENCODED_DATA total) (head_octets SEQUENCE len) (octets_of INTEGER (uint_octets context)) (octets_of SINGLE_ASN1_TYPE value) ∙ ap (λ (x : List ℕ). old ++ x) (user_is context value len total count all))
 user_written (Err f) old a b c new value n context len total p q s same count all h = h
@@ -80,9 +76,9 @@ cpa_fits list context aare fits =
     let whole = set_within (octets_of CONTEXT_RESULT_LIST (flat_map result_octets list) ++ user_octets context aare) in
     (omega (arith, fits, whole, parts, octets_longer CONTEXT_RESULT_LIST (flat_map result_octets list)), omega (arith, fits, whole, parts, user_within context aare))
 
-pub pdv_list-length : (context : ℕ) (value : List ℕ) → length (pdv_list context value) ≡ element_length (length (pdv_fields context value))
+pub pdv_list-length : (context : ℕ) (value : List ℕ) → length (pdv_list context value) ≡ element_size (length (pdv_fields context value))
 unfolding pdv_list
-pdv_list-length context value = length-element SEQUENCE (pdv_fields context value) (omega arith)
+pdv_list-length context value = length_of_element SEQUENCE (pdv_fields context value) (omega arith)
 
 pub value_fits : (context : ℕ) (value : List ℕ) → length (pdv_list context value) < 2 ^ 32 → length value < 2 ^ 32
 unfolding pdv_list pdv_fields

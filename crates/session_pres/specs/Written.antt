@@ -16,10 +16,6 @@ pdv_list context value = octets_of SEQUENCE (pdv_fields context value)
 unfoldable pub user_octets : ℕ → List ℕ → List ℕ
 user_octets context value = octets_of FULLY_ENCODED_DATA (pdv_list context value)
 
--- how many octets an element with a tag of one octet has
-unfoldable pub element_length : ℕ → ℕ
-element_length n = 1 + length (length_octets n) + n
-
 -- ---- SPDUs (ISO 8327-1, "Structure of SPDUs")
 
 -- a length up to 254 in one octet, one up to 65535 in three

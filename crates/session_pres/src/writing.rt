@@ -2,8 +2,8 @@
 
 ghost use Rattle.std.specs.Prelude.{◌≡◌, ◌+◌, ◌<◌, ◌≤◌, ◌^◌, ◌++◌, length, OnOk, IfOk};
 ghost use Rattle.std.specs.List.{flat_map};
-ghost use Rattle.ber_write.specs.Minimal.{octets_of, uint_octets};
-ghost use Rattle.session_pres.specs.Written.{pdv_fields, pdv_list, user_octets, element_length, length_field, field, data_spdu, release_spdu, accept_parameters, accept_spdu, connect_item};
+ghost use Rattle.ber_write.specs.Minimal.{octets_of, uint_octets, element_size};
+ghost use Rattle.session_pres.specs.Written.{pdv_fields, pdv_list, user_octets, length_field, field, data_spdu, release_spdu, accept_parameters, accept_spdu, connect_item};
 ghost use Rattle.session_pres.specs.WrittenPpdu.{set_content, ppdu, result_octets, cpa_parameters, cpa_octets, cp_head, cp_octets, connect_parameters, connect_spdu};
 
 use crate::codes::{
@@ -17,16 +17,16 @@ use std::alloc::{AllocError, Global};
 use sv_base::Octs;
 
 /// How many octets an element has, whose tag has one octet.
-#[tactic(auto, unfolding(crate::specs::Written::element_length))]
+#[tactic(auto, unfolding(ber_write::specs::Minimal::element_size))]
 fn element_len(content: u32) -> u32
-    requires { element_length content < 2 ^ 32 }
-    ensures { result ≡ element_length content }
+    requires { element_size content < 2 ^ 32 }
+    ensures { result ≡ element_size content }
 {
     1 + length_of(content) + content
 }
 
 /// How many octets the fields of a PDV have.
-#[tactic(auto, unfolding(crate::specs::Written::pdv_list, crate::specs::Written::pdv_fields, crate::specs::Written::element_length))]
+#[tactic(auto, unfolding(crate::specs::Written::pdv_list, crate::specs::Written::pdv_fields, ber_write::specs::Minimal::element_size))]
 fn pdv_len(context: u32, value: &[u8]) -> u32
     requires { length (pdv_list context value.now) < 2 ^ 32 }
     ensures { result ≡ length (pdv_fields context value.now) }

@@ -1,11 +1,11 @@
 -- why `writing::put_user_data` answers as its contract says
 use Rattle.std.proofs.Common.{◌<◌, ◌^◌, ℕ, sym, ap, ◌∙◌, subst}
-use Rattle.session_pres.specs.Written.{element_length}
+use Rattle.ber_write.specs.Minimal.{element_size}
 use Rattle.session_pres.proofs.WritingLaws.{user_written, pdv_list-length, value_fits}
 use Rattle.session_pres.proofs.writing.put_user_data.Goals as goal
 
 pub element_len-requires : goal.element_len-requires
-element_len-requires c = subst (λ (n : ℕ). n < 2 ^ 32) (pdv_list-length c.args.context c.args.value.now ∙ sym (ap element_length c.pdv_len-len.ensures)) c.requires
+element_len-requires c = subst (λ (n : ℕ). n < 2 ^ 32) (pdv_list-length c.args.context c.args.value.now ∙ sym (ap element_size c.pdv_len-len.ensures)) c.requires
 
 pub put-requires-clause-len : goal.put-requires-clause-len
 put-requires-clause-len c = value_fits c.args.context c.args.value.now c.requires
