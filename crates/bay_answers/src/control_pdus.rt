@@ -8,10 +8,9 @@ ghost use Rattle.bay_answers.specs.ControlPdus.{termination_of, termination_pdu 
 ghost use Rattle.bay_answers.specs.Replies.{IsWritable};
 ghost use Rattle.std.specs.Prelude.{Ok};
 
-use crate::replies_elements::{add, enclosed};
 use crate::replies_variables::{add_variable, domain_octets};
 use bay_model::{ApplError, Termination};
-use ber_write::{put_int, put_uint};
+use ber_write::{add, enclosed, put_int, put_uint};
 use mms_data::{tags as data_tags, write_data};
 use mms_pdu::{tags as pdu_tags, write_report};
 use object_model::Model;

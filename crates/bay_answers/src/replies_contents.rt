@@ -10,11 +10,11 @@ ghost use Rattle.bay_answers.specs.RepliesContents.{identify_content, type_conte
 ghost use Rattle.bay_answers.specs.RepliesContents.{written_octets, written_content, set_content, deleted_content};
 ghost use Rattle.bay_answers.specs.Replies.{IsWritable, IsNode, response};
 
-use crate::replies_elements::{add, add_truth, begin, element_len, respond};
+use crate::replies_elements::{add_truth, begin, element_len, respond};
 use crate::replies_variables::{add_nodes, asked_octets};
 use crate::tags;
 use bay_model::Asked;
-use ber_write::{put_head, put_uint, uint_len};
+use ber_write::{add, put_head, put_uint, uint_len};
 use mms_data::{write_data, write_type};
 use mms_pdu::{tags as pdu_tags, write_error};
 use object_model::Model;

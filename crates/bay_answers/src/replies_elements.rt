@@ -12,33 +12,12 @@ use mms_pdu::{tags, write_error};
 use std::alloc::{AllocError, Global};
 use sv_base::Octs;
 
-/// Adds an element. Where the content is longer than a length field can say, it fails as it does without memory.
-pub(crate) fn add(out: &mut Vec<u8>, tag: u32, content: &[u8]) -> Result<(), AllocError>
-    requires { CanBeTag tag }
-    ensures { OnOk result (out.new.items ≡ out.old.items ++ octets_of tag content.now) }
-{
-    if content.len() > u32::MAX as usize {
-        return Err(AllocError);
-    }
-    put(out, tag, content)
-}
-
 /// Adds a boolean.
 pub(crate) fn add_truth(out: &mut Vec<u8>, tag: u32, value: bool) -> Result<(), AllocError>
     requires { CanBeTag tag }
     ensures { OnOk result (out.new.items ≡ out.old.items ++ octets_of tag (truth value)) }
 {
     put(out, tag, &[if value { 0xff } else { 0 }])
-}
-
-/// The element with this tag and this content.
-pub(crate) fn enclosed(alloc: Global, tag: u32, content: &[u8]) -> Result<Vec<u8>, AllocError>
-    requires { CanBeTag tag }
-    ensures { IfOk result (λ v. v.items ≡ octets_of tag content.now) }
-{
-    let mut out = Vec::new(alloc);
-    add(&mut out, tag, content)?;
-    Ok(out)
 }
 
 /// How many octets an element has whose content has so many.

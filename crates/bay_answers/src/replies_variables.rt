@@ -9,8 +9,8 @@ ghost use Rattle.bay_answers.specs.RepliesVariables.{name_octets, variable_octet
 ghost use Rattle.bay_answers.specs.RepliesVariables.{node_name as name_of_node, node_octets};
 ghost use Rattle.bay_answers.specs.Replies.{IsNode};
 
-use crate::replies_elements::{add, enclosed};
 use bay_model::{Asked, ObjName, SetName, Target};
+use ber_write::{add, enclosed};
 use mms_pdu::tags;
 use object_model::Model;
 use std::alloc::{AllocError, Global};

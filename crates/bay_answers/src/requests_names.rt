@@ -14,23 +14,16 @@ use object_model::Model;
 use std::alloc::{AllocError, Global};
 use sv_base::{NodeId, Octs};
 
-/// A copy of octets.
-pub(crate) fn octs(alloc: Global, octets: &[u8]) -> Result<Octs, AllocError>
-    ensures { IfOk result (λ o. o ≡ octets.now) }
-{
-    Ok(Octs::from_vec(Vec::from_slice(alloc, octets)?))
-}
-
 fn object_name(alloc: Global, name: &NameView<'_>) -> Result<ObjName, AllocError>
     ensures { IfOk result (λ n. n ≡ object_name_of (name_octets (name_seen name.now))) }
 {
     match *name {
-        NameView::Vmd(octets) => Ok(ObjName::Vmd(octs(alloc, octets)?)),
+        NameView::Vmd(octets) => Ok(ObjName::Vmd(Octs::copied(alloc, octets)?)),
         NameView::Domain { domain, item } => Ok(ObjName::Domain {
-            domain: octs(alloc, domain)?,
-            item: octs(alloc, item)?,
+            domain: Octs::copied(alloc, domain)?,
+            item: Octs::copied(alloc, item)?,
         }),
-        NameView::Association(octets) => Ok(ObjName::Assoc(octs(alloc, octets)?)),
+        NameView::Association(octets) => Ok(ObjName::Assoc(Octs::copied(alloc, octets)?)),
     }
 }
 
@@ -97,12 +90,12 @@ pub(crate) fn set_name(alloc: Global, name: &NameView<'_>) -> Result<SetName, Al
 {
     match *name {
         NameView::Domain { domain, item } => Ok(SetName {
-            domain: octs(alloc, domain)?,
-            item: octs(alloc, item)?,
+            domain: Octs::copied(alloc, domain)?,
+            item: Octs::copied(alloc, item)?,
         }),
         NameView::Vmd(item) | NameView::Association(item) => Ok(SetName {
             domain: Octs::from_vec(Vec::new(alloc)),
-            item: octs(alloc, item)?,
+            item: Octs::copied(alloc, item)?,
         }),
     }
 }

@@ -11,7 +11,7 @@ ghost use Rattle.mms_pdu.specs.Variable.{variable_octets};
 ghost use Rattle.mms_pdu.specs.View.{name as name_seen, service as service_seen, scope as scope_seen};
 ghost use Rattle.bay_answers.specs.Requests.{read_set, write_set, define, set_of, scope as scope_named, service as service_asked};
 
-use crate::requests_names::{octs, set_name, set_names, target_of, targets_of};
+use crate::requests_names::{set_name, set_names, target_of, targets_of};
 use crate::requests_values::{values_of, writes_of};
 use bay_model::{Scope, Service, SetNames, Targets, Writes};
 use mms_pdu::{DataList, NameView, ScopeView, ServiceView, VariableList};
@@ -24,7 +24,7 @@ fn scope_of(alloc: Global, scope: ScopeView<'_>) -> Result<Scope, AllocError>
 {
     match scope {
         ScopeView::Vmd => Ok(Scope::Vmd),
-        ScopeView::Domain(domain) => Ok(Scope::Domain(octs(alloc, domain)?)),
+        ScopeView::Domain(domain) => Ok(Scope::Domain(Octs::copied(alloc, domain)?)),
         ScopeView::Association => Ok(Scope::Assoc),
     }
 }
@@ -33,7 +33,7 @@ fn after_of(alloc: Global, after: Option<&[u8]>) -> Result<Option<Octs>, AllocEr
     ensures { IfOk result (λ o. o ≡ option_map octets_of (option_map piece after.entry)) }
 {
     match after {
-        Some(name) => Ok(Some(octs(alloc, name)?)),
+        Some(name) => Ok(Some(Octs::copied(alloc, name)?)),
         None => Ok(None),
     }
 }

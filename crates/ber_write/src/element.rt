@@ -1,11 +1,11 @@
 //! An element: its tag and its length in as few octets as can be, and its content.
 
-ghost use Rattle.std.specs.Prelude.{◌≡◌, ◌<◌, ◌≤◌, ◌^◌, ◌∷◌, ◌++◌, length, take, OnOk, OnErr};
+ghost use Rattle.std.specs.Prelude.{◌≡◌, ◌<◌, ◌≤◌, ◌^◌, ◌∷◌, ◌++◌, length, take, IfOk, OnOk, OnErr};
 ghost use Rattle.std.specs.Int.{to_be_bytes, w32};
 ghost use Rattle.sv_base.specs.Data.{length_field};
 ghost use Rattle.ber_write.specs.Minimal.{tag_octets, length_octets, head_octets, octets_of, CanBeTag};
 
-use std::alloc::AllocError;
+use std::alloc::{AllocError, Global};
 use sv_base::without_zeros;
 
 /// How the length of a content is spelled whose number has these four octets: the first octet, and those behind it, none to
@@ -113,4 +113,26 @@ pub fn put(out: &mut Vec<u8>, tag: u32, content: &[u8]) -> Result<(), AllocError
         out.truncate(before);
     }
     done
+}
+
+/// Adds the element with this tag and this content. Where the content is longer than a length field can say, it fails as it does
+/// without memory.
+pub fn add(out: &mut Vec<u8>, tag: u32, content: &[u8]) -> Result<(), AllocError>
+    requires { CanBeTag tag }
+    ensures { OnOk result (out.new.items ≡ out.old.items ++ octets_of tag content.now) }
+{
+    if content.len() > u32::MAX as usize {
+        return Err(AllocError);
+    }
+    put(out, tag, content)
+}
+
+/// The element with this tag and this content.
+pub fn enclosed(alloc: Global, tag: u32, content: &[u8]) -> Result<Vec<u8>, AllocError>
+    requires { CanBeTag tag }
+    ensures { IfOk result (λ v. v.items ≡ octets_of tag content.now) }
+{
+    let mut out = Vec::new(alloc);
+    add(&mut out, tag, content)?;
+    Ok(out)
 }

@@ -10,7 +10,7 @@ mod laws;
 mod number;
 
 // Elements.
-pub use element::{length_of, length_parts, put, put_head};
+pub use element::{add, enclosed, length_of, length_parts, put, put_head};
 
 // Elements of numbers and of bit strings.
 pub use bit_string::{bits_len, put_bits};

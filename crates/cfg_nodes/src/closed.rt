@@ -11,7 +11,6 @@ ghost use Rattle.cfg_lines.specs.Nodes.{all_below, with_parts, block_parts, grou
 use cfg_lines::{Line, below, group_key, item_key};
 use std::alloc::{AllocError, Global};
 use sv_base::{AttrDef, BlockDef, CallPart, Comp, CtlDef, CtlService, Octs, SettingComp, SgDef};
-use text_words::owned;
 
 fn push_below(
     alloc: Global,
@@ -72,7 +71,7 @@ fn push_operation(
     ensures { OnOk result (names.new.items ≡ names.old.items ++ with_parts (below_front front.now (service_name service)) (map part_name parts.now)) }
 {
     let node = below(alloc, front, service.name())?;
-    names.push(owned(alloc, &node)?)?;
+    names.push(Octs::copied(alloc, &node)?)?;
     push_parts(alloc, names, &node, parts)
 }
 
@@ -156,7 +155,7 @@ fn push_block(alloc: Global, names: &mut Vec<Octs>, block: &BlockDef) -> Result<
         b"BR",
         block.name.as_slice(),
     )?;
-    names.push(owned(alloc, &node)?)?;
+    names.push(Octs::copied(alloc, &node)?)?;
     push_components(alloc, names, &node)
 }
 
@@ -164,7 +163,7 @@ fn push_groups(alloc: Global, names: &mut Vec<Octs>, groups: &SgDef) -> Result<(
     ensures { OnOk result (names.new.items ≡ names.old.items ++ with_parts (group_key_of groups.now.domain (codes "LLN0")) group_parts) }
 {
     let node = group_key(alloc, groups.domain.as_slice())?;
-    names.push(owned(alloc, &node)?)?;
+    names.push(Octs::copied(alloc, &node)?)?;
     push_setting_components(alloc, names, &node)
 }
 

@@ -15,8 +15,7 @@ use sv_base::{
     ShortOcts, TypeOf, Value,
 };
 use text_words::{
-    bits, flags_of, is_fc, is_member, is_name, is_path, number_between, owned, text, type_of,
-    values_of,
+    bits, flags_of, is_fc, is_member, is_name, is_path, number_between, text, type_of, values_of,
 };
 
 /// The most octets of a line, and so of a text in it.
@@ -43,7 +42,7 @@ pub fn domain_line(alloc: Global, before: &Reading, name: &[u8]) -> Result<Line,
     if before.has_head(name) {
         return Err(LineFault::Refused(Kind::Duplicate));
     }
-    Ok(Line::Ld(owned(alloc, name)?))
+    Ok(Line::Ld(Octs::copied(alloc, name)?))
 }
 
 /// `ln` and the name of a logical node.
@@ -60,8 +59,8 @@ pub fn node_line(alloc: Global, before: &Reading, name: &[u8]) -> Result<Line, L
     }
     Ok(Line::Ln(LnDef {
         line: before.number(),
-        domain: owned(alloc, before.domain())?,
-        ln: owned(alloc, name)?,
+        domain: Octs::copied(alloc, before.domain())?,
+        ln: Octs::copied(alloc, name)?,
     }))
 }
 
@@ -79,9 +78,9 @@ pub fn set_line(alloc: Global, before: &Reading, name: &[u8]) -> Result<Line, Li
     }
     Ok(Line::Set(SetDef {
         line: before.number(),
-        domain: owned(alloc, before.domain())?,
-        ln: owned(alloc, before.node())?,
-        name: owned(alloc, name)?,
+        domain: Octs::copied(alloc, before.domain())?,
+        ln: Octs::copied(alloc, before.node())?,
+        name: Octs::copied(alloc, name)?,
         members: OctsList::from_vec(Vec::new(alloc)),
     }))
 }
@@ -93,7 +92,7 @@ pub fn member_line(alloc: Global, reference: &[u8]) -> Result<Line, LineFault>
     if !is_member(alloc, reference)? {
         return Err(LineFault::Refused(Kind::Name));
     }
-    Ok(Line::Member(owned(alloc, reference)?))
+    Ok(Line::Member(Octs::copied(alloc, reference)?))
 }
 
 /// The names of an attribute: its domain, its logical node, its functional constraint and its path.
@@ -267,9 +266,9 @@ fn block_fields(alloc: Global, before: &Reading, words: BlockWords<'_>) -> Resul
     )?;
     Ok(Line::Brcb(BlockDef {
         line: before.number(),
-        domain: owned(alloc, before.domain())?,
-        ln: owned(alloc, before.node())?,
-        name: owned(alloc, words.name)?,
+        domain: Octs::copied(alloc, before.domain())?,
+        ln: Octs::copied(alloc, before.node())?,
+        name: Octs::copied(alloc, words.name)?,
         rpt_id,
         dat_set,
         conf_rev,
@@ -343,9 +342,9 @@ fn control_fields(
     };
     Ok(Line::Ctl(CtlDef {
         line: before.number(),
-        domain: owned(alloc, before.domain())?,
-        ln: owned(alloc, before.node())?,
-        path: owned(alloc, path)?,
+        domain: Octs::copied(alloc, before.domain())?,
+        ln: Octs::copied(alloc, before.node())?,
+        path: Octs::copied(alloc, path)?,
         model: model as u8,
         timeout,
         class: class as u8,
@@ -394,7 +393,7 @@ fn group_fields(
     };
     Ok(Line::Sgcb(SgDef {
         line: before.number(),
-        domain: owned(alloc, before.domain())?,
+        domain: Octs::copied(alloc, before.domain())?,
         count: count as u8,
         active: active as u8,
     }))

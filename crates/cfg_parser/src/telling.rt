@@ -17,7 +17,8 @@ use cfg_lines::Line;
 use cfg_reading::Reading;
 use smallvec::SmallVec;
 use std::alloc::Global;
-use text_words::{are_printable, is_skipped, owned, put_parts};
+use sv_base::Octs;
+use text_words::{are_printable, is_skipped, put_parts};
 
 /// `server` and its words.
 fn server_line(
@@ -29,9 +30,9 @@ fn server_line(
     ensures { Gives result (Ok (Server vendor.now model.now revision.now)) }
 {
     Ok(Line::Server {
-        vendor: owned(alloc, vendor)?,
-        model: owned(alloc, model)?,
-        revision: owned(alloc, revision)?,
+        vendor: Octs::copied(alloc, vendor)?,
+        model: Octs::copied(alloc, model)?,
+        revision: Octs::copied(alloc, revision)?,
     })
 }
 

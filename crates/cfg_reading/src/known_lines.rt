@@ -7,7 +7,6 @@ use crate::claiming::{add_attribute, add_block, add_control, add_groups, add_nod
 use cfg_lines::{Keys, Line, Names, Place};
 use std::alloc::{AllocError, Global};
 use sv_base::{AttrDef, BlockDef, CtlDef, LnDef, Octs, SetDef, SgDef, SharedOcts};
-use text_words::owned;
 
 /// The functional constraint is SG, or there was one.
 fn is_settings(fc: &[u8], before: bool) -> bool
@@ -112,7 +111,7 @@ impl KnownLines {
         ensures noted { OnOk result (Noted (Ld name.now) self.old self.new) }
     {
         self.place = Place::InDomain;
-        self.domain = SharedOcts::new(alloc, owned(alloc, name.as_slice())?)?;
+        self.domain = SharedOcts::new(alloc, Octs::copied(alloc, name.as_slice())?)?;
         self.node = SharedOcts::empty();
         self.groups = 0;
         self.has_settings = false;
@@ -125,7 +124,7 @@ impl KnownLines {
         ensures noted { OnOk result (Noted (Ln node.now) self.old self.new) }
     {
         self.place = Place::InNode;
-        self.node = SharedOcts::new(alloc, owned(alloc, node.ln.as_slice())?)?;
+        self.node = SharedOcts::new(alloc, Octs::copied(alloc, node.ln.as_slice())?)?;
         self.counts.nodes += 1;
         add_node(alloc, &mut self.heads, node)
     }

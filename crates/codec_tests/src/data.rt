@@ -11,12 +11,6 @@ use std::alloc::{AllocError, Global};
 use std::test::*;
 use sv_base::{Bits, Octs, Part1, Parts, ShortOcts, Stamp, TypeOf, Utc, Value, Values};
 
-fn octs(alloc: Global, octets: &[u8]) -> Result<Octs, AllocError>
-    ensures { IfOk result (λ o. o ≡ octets.now) }
-{
-    Ok(Octs::from_vec(Vec::from_slice(alloc, octets)?))
-}
-
 fn bits(alloc: Global, bits: &[bool]) -> Result<Bits, AllocError>
     ensures { IfOk result (λ b. b ≡ bits.now) }
 {
@@ -262,8 +256,8 @@ fn plain_values_are_written(rt: HostRuntime) {
 #[test]
 fn strings_are_written(rt: HostRuntime) -> Result<(), AllocError> {
     let alloc = rt.alloc();
-    let text = Value::Text(octs(alloc, b"Ev1")?);
-    let octets = Value::Octets(octs(alloc, &[])?);
+    let text = Value::Text(Octs::copied(alloc, b"Ev1")?);
+    let octets = Value::Octets(Octs::copied(alloc, &[])?);
     let bits = Value::Bits(bits(alloc, &[false, false, true])?);
     let right = writes(alloc, text, &[0x8a, 3, 0x45, 0x76, 0x31])
         && writes(alloc, octets, &[0x89, 0])

@@ -12,7 +12,7 @@ ghost use Rattle.mms_data.specs.Writable.{Fits, FitsRow, SeenHasFractions};
 use crate::tags;
 use ber_write::{put, put_bits, put_head, put_int, put_uint};
 use std::alloc::AllocError;
-use sv_base::{Stamp, Utc, Value, data_len};
+use sv_base::{Stamp, Utc, Value, data_len, row_len};
 
 /// Adds an element whose tag is one octet.
 fn put_element(out: &mut Vec<u8>, tag: u32, content: &[u8]) -> Result<(), AllocError>
@@ -66,17 +66,6 @@ pub fn time_octets(time: Utc) -> [u8; 8]
     let middle = (time.frac / 256 % 256) as u8;
     let low = (time.frac % 256) as u8;
     [a, b, c, d, high, middle, low, time.quality]
-}
-
-/// How many octets the values have one after another, and 4294967295 where there are more.
-fn row_len(values: &[Value]) -> u32
-    ensures { result ≡ min (length (data_row (row_of values.now))) 4294967295 }
-{
-    let mut sum = 0u32;
-    for value in values {
-        sum = sum.saturating_add(data_len(value));
-    }
-    sum
 }
 
 #[cycle(put)]

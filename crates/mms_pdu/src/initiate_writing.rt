@@ -4,10 +4,9 @@ ghost use Rattle.std.specs.Prelude.{◌≡◌, ◌≤◌, min, max, IfOk};
 ghost use Rattle.ber_write.specs.Minimal.{octets_of, CanBeTag};
 ghost use Rattle.mms_pdu.specs.InitiateOctets.{initiate_content, answer_details, request_details, accepted, proposed, initiate_answer, initiate_request};
 
-use crate::element::{add, enclosed};
 use crate::initiate::Initiate;
 use crate::tags;
-use ber_write::put_uint;
+use ber_write::{add, enclosed, put_uint};
 use std::alloc::{AllocError, Global};
 use sv_base::Octs;
 

@@ -10,7 +10,6 @@ mod answer;
 mod asking;
 mod confirmed;
 mod data_list;
-mod element;
 mod error;
 mod fault;
 mod initiate;

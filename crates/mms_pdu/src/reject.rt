@@ -4,9 +4,8 @@ ghost use Rattle.std.specs.Prelude.{◌≡◌, ◌++◌, IfOk, OnOk};
 ghost use Rattle.ber_write.specs.Minimal.{octets_of, uint_octets};
 ghost use Rattle.mms_pdu.specs.ReplyOctets.{invoke_octets, reason_tag, reason_code, reject_octets, CanBeRejected};
 
-use crate::element::enclosed;
 use crate::tags;
-use ber_write::put_uint;
+use ber_write::{enclosed, put_uint};
 use std::alloc::{AllocError, Global};
 use sv_base::Octs;
 

@@ -3,8 +3,8 @@
 ghost use Rattle.std.specs.Prelude.{◌≡◌, IfOk};
 ghost use Rattle.mms_pdu.specs.ReplyOctets.{report_octets, IsSpecificationElement};
 
-use crate::element::{add, enclosed};
 use crate::tags;
+use ber_write::{add, enclosed};
 use std::alloc::{AllocError, Global};
 use sv_base::Octs;
 

@@ -7,7 +7,7 @@ ghost use Rattle.record_steps.specs.Shapes.{is_bits as is_bit_string, bits_of, n
 use bay_model::Comp;
 use std::alloc::{AllocError, Global};
 use sv_base::{Bits, Octs, TypeOf, Value};
-use text_words::{all_binary, all_graphic, hex_octets, owned, truth, truth_values};
+use text_words::{all_binary, all_graphic, hex_octets, truth, truth_values};
 
 /// The component is a bit string.
 fn is_bits(comp: Comp) -> bool
@@ -49,7 +49,7 @@ fn text(alloc: Global, octets: &[u8]) -> Result<Option<Value>, AllocError>
     ensures { IfOk result (λ r. r ≡ text_of octets.now) }
 {
     if all_graphic(octets) {
-        return Ok(Some(Value::Text(owned(alloc, octets)?)));
+        return Ok(Some(Value::Text(Octs::copied(alloc, octets)?)));
     }
     Ok(None)
 }

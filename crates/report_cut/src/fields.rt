@@ -9,21 +9,10 @@ ghost use Rattle.report_cut.specs.Fields.{optional, truth as truth_of, flags as 
 use crate::measure::bit;
 use crate::segment::Segment;
 use bay_model::Report;
-use ber_write::{put, put_bits, put_uint};
+use ber_write::{add, put_bits, put_uint};
 use mms_data::tags;
 use std::alloc::{AllocError, Global};
 use sv_base::{Bits, Moment};
-
-/// Adds an element. Where the content is longer than a length field can say, it fails as it does without memory.
-pub(crate) fn add(out: &mut Vec<u8>, tag: u32, content: &[u8]) -> Result<(), AllocError>
-    requires { CanBeTag tag }
-    ensures { OnOk result (out.new.items ≡ out.old.items ++ octets_of tag content.now) }
-{
-    if content.len() > u32::MAX as usize {
-        return Err(AllocError);
-    }
-    put(out, tag, content)
-}
 
 fn add_if(out: &mut Vec<u8>, asked: bool, tag: u32, content: &[u8]) -> Result<(), AllocError>
     requires { CanBeTag tag }

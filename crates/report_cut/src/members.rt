@@ -4,10 +4,9 @@ ghost use Rattle.std.specs.Prelude.{◌≡◌, ◌++◌, ◌≤◌, ◌<◌, Lis
 ghost use Rattle.ber_write.specs.BitString.{weigh as weigh_of};
 ghost use Rattle.report_cut.specs.Fields.{included as included_of, inclusion, references, values, reason_octet as reason_octet_of, reasons, optional, body};
 
-use crate::fields::add;
 use crate::measure::bit;
 use bay_model::{Member, Reasons, Report};
-use ber_write::put_bits;
+use ber_write::{add, put_bits};
 use mms_data::tags;
 use std::alloc::{AllocError, Global};
 

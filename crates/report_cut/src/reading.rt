@@ -16,12 +16,12 @@ use crate::taking::{
     enclosed, field, take_id, take_number, take_options, take_short, take_text, take_time,
     take_truth,
 };
-use crate::told::{octs, read_body};
+use crate::told::read_body;
 use bay_model::Report;
 use ber_view::BitView;
 use mms_pdu::tags;
 use std::alloc::Global;
-use sv_base::{Bits, BlockNo, Moment};
+use sv_base::{Bits, BlockNo, Moment, Octs};
 
 /// RptID and OptFlds.
 #[tactic(auto, unfolding(crate::specs::PartReading::identity_at))]
@@ -88,11 +88,11 @@ fn read_results(alloc: Global, results: &[u8]) -> Result<ReportPart, ReportFault
     let (total, members) = read_body(alloc, bit(&opts, 5), bit(&opts, 3), rest)?;
     let report = Report {
         block: BlockNo(0),
-        rpt_id: octs(alloc, rpt_id)?,
+        rpt_id: Octs::copied(alloc, rpt_id)?,
         opt_flds: opts,
         sq,
         time,
-        dat_set: octs(alloc, dat_set)?,
+        dat_set: Octs::copied(alloc, dat_set)?,
         ovfl,
         id,
         conf_rev,

@@ -18,13 +18,6 @@ use mms_data::view_data;
 use std::alloc::{AllocError, Global};
 use sv_base::{MemberNo, Octs};
 
-/// A copy of octets.
-pub(crate) fn octs(alloc: Global, octets: &[u8]) -> Result<Octs, AllocError>
-    ensures { IfOk result (λ o. o ≡ octets.now) }
-{
-    Ok(Octs::from_vec(Vec::from_slice(alloc, octets)?))
-}
-
 fn is_data(part: &Tlv<'_>) -> bool
     ensures { result ≡ is_data_of (element part.now) }
 {
@@ -91,8 +84,8 @@ fn read_member<'a>(
     };
     let member = Member {
         number: MemberNo(number),
-        reference: octs(alloc, reference)?,
-        octets: octs(alloc, octets)?,
+        reference: Octs::copied(alloc, reference)?,
+        octets: Octs::copied(alloc, octets)?,
         reasons: why,
     };
     Ok((

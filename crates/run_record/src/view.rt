@@ -7,8 +7,7 @@ use crate::line::{OpenForm, RecLine};
 use crate::pairs::{Pair, Pairs};
 use crate::words::Words;
 use std::alloc::{AllocError, Global};
-use sv_base::{AssocNo, Moment};
-use text_words::owned;
+use sv_base::{AssocNo, Moment, Octs};
 
 /// The reference of an attribute, and the value that it is set to, both as texts that are lent.
 #[derive(Clone, Copy, Debug)]
@@ -79,8 +78,8 @@ impl<'a> PairsView<'a> {
         let mut rest = *self;
         while let Some(pair) = rest.next() {
             pairs.push(Pair {
-                name: owned(alloc, pair.name)?,
-                value: owned(alloc, pair.value)?,
+                name: Octs::copied(alloc, pair.name)?,
+                value: Octs::copied(alloc, pair.value)?,
             })?;
         }
         Ok(Pairs::from_vec(pairs))
@@ -99,9 +98,9 @@ fn written(
 {
     Ok(RecLine::Write {
         a,
-        block: owned(alloc, block)?,
-        comp: owned(alloc, comp)?,
-        value: owned(alloc, value)?,
+        block: Octs::copied(alloc, block)?,
+        comp: Octs::copied(alloc, comp)?,
+        value: Octs::copied(alloc, value)?,
     })
 }
 
@@ -123,13 +122,13 @@ impl<'a> LineView<'a> {
                 comp,
                 value,
             } => written(alloc, a, block, comp, value),
-            LineView::Pdu(a, hex) => Ok(RecLine::Pdu(a, owned(alloc, hex)?)),
-            LineView::Piece(a, hex) => Ok(RecLine::Piece(a, owned(alloc, hex)?)),
+            LineView::Pdu(a, hex) => Ok(RecLine::Pdu(a, Octs::copied(alloc, hex)?)),
+            LineView::Piece(a, hex) => Ok(RecLine::Piece(a, Octs::copied(alloc, hex)?)),
             LineView::Take(a) => Ok(RecLine::Take(a)),
             LineView::Lost(a) => Ok(RecLine::Lost(a)),
             LineView::Set(pairs) => Ok(RecLine::Set(pairs.to_pairs(alloc)?)),
-            LineView::Done(control, well) => Ok(RecLine::Done(owned(alloc, control)?, well)),
-            LineView::Block(control, on) => Ok(RecLine::Block(owned(alloc, control)?, on)),
+            LineView::Done(control, well) => Ok(RecLine::Done(Octs::copied(alloc, control)?, well)),
+            LineView::Block(control, on) => Ok(RecLine::Block(Octs::copied(alloc, control)?, on)),
             LineView::Tick => Ok(RecLine::Tick),
             LineView::End => Ok(RecLine::End),
         }

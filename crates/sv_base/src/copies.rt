@@ -6,11 +6,18 @@ use crate::{Bits, Octs, TypeOf, Value, Values};
 use std::alloc::{AllocError, Global};
 
 impl Octs {
+    /// A copy of these octets.
+    pub fn copied(alloc: Global, octets: &[u8]) -> Result<Octs, AllocError>
+        ensures { IfOk result (λ o. o ≡ octets.now) }
+    {
+        Ok(Octs::from_vec(Vec::from_slice(alloc, octets)?))
+    }
+
     /// The same octets again.
     pub fn copy(&self, alloc: Global) -> Result<Octs, AllocError>
         ensures { IfOk result (λ o. o ≡ self.now) }
     {
-        Ok(Octs::from_vec(Vec::from_slice(alloc, self.as_slice())?))
+        Octs::copied(alloc, self.as_slice())
     }
 }
 

@@ -110,7 +110,7 @@ pub fn data_len(value: &Value) -> u32
 
 /// How many octets the values have one after another, and 4294967295 where there are more.
 #[cycle(len)]
-fn row_len(values: &[Value]) -> u32
+pub fn row_len(values: &[Value]) -> u32
     ensures { result ≡ min (length (data_row (row_of values.now))) 4294967295 }
 {
     let mut sum = 0u32;

@@ -26,8 +26,7 @@ pub use types::{Flags, flags_of, type_of};
 
 // values
 pub use values::{
-    all_binary, all_graphic, bits, empty, hex_octets, owned, text, truth, truth_values, value,
-    values_of,
+    all_binary, all_graphic, bits, empty, hex_octets, text, truth, truth_values, value, values_of,
 };
 
 // how each is spelled

@@ -12,13 +12,6 @@ use hex::FromHexError;
 use std::alloc::{AllocError, Global};
 use sv_base::{Bits, Few, Octs, TypeOf, Utc, Value};
 
-/// These octets, on the heap.
-pub fn owned(alloc: Global, octets: &[u8]) -> Result<Octs, AllocError>
-    ensures { IfOk result (λ o. o ≡ octets.now) }
-{
-    Ok(Octs::from_vec(Vec::from_slice(alloc, octets)?))
-}
-
 /// No octets.
 pub fn empty(alloc: Global) -> Octs
     ensures { result ≡ [] }
@@ -100,7 +93,7 @@ pub fn text(alloc: Global, word: &[u8], most: u16) -> Result<Option<Octs>, Alloc
 {
     match word {
         [b'\'', octets @ ..] if octets.len() <= usize::from(most) && all_graphic(octets) => {
-            Ok(Some(owned(alloc, octets)?))
+            Ok(Some(Octs::copied(alloc, octets)?))
         }
         _ => Ok(None),
     }

@@ -12,12 +12,6 @@ use crate::tsdus::Cr;
 use std::alloc::{AllocError, Global};
 use sv_base::Octs;
 
-fn owned(alloc: Global, octets: &[u8]) -> Result<Octs, AllocError>
-    ensures { IfOk result (λ o. o ≡ octets.now) }
-{
-    Ok(Octs::from_vec(Vec::from_slice(alloc, octets)?))
-}
-
 /// Takes one parameter of a CR or a CC: the TPDU size or a selector; others are skipped (ISO 8073, variable part of
 /// a CR).
 fn put_parameter(alloc: Global, cr: &mut Cr, code: u8, value: &[u8]) -> Result<(), TpFault>
@@ -28,8 +22,8 @@ fn put_parameter(alloc: Global, cr: &mut Cr, code: u8, value: &[u8]) -> Result<(
             [exponent] if *exponent >= 7 => cr.size = Some((*exponent).min(13)),
             _ => return Err(TpFault::Tpdu),
         },
-        CALLING => cr.calling = Some(owned(alloc, value)?),
-        CALLED => cr.called = Some(owned(alloc, value)?),
+        CALLING => cr.calling = Some(Octs::copied(alloc, value)?),
+        CALLED => cr.called = Some(Octs::copied(alloc, value)?),
         _ => (),
     }
     Ok(())
