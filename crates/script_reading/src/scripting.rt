@@ -23,8 +23,7 @@ use run_record::{Kind, LineView};
 use script_lines::{Owner, ScriptView, view_script_line};
 use std::alloc::{AllocError, Global};
 use std::mem::replace;
-use sv_base::Moment;
-use text_words::owned;
+use sv_base::{Moment, Octs};
 
 /// The most scripts of an input.
 pub const MOST_SCRIPTS: u32 = 16;
@@ -81,7 +80,7 @@ impl Opened {
         ensures { OnOk result (self.new ≡ taken self.old number text.now form step) }
     {
         let moment = self.moment;
-        let text = match owned(alloc, text) {
+        let text = match Octs::copied(alloc, text) {
             Ok(text) => text,
             Err(error) => {
                 drop(step);
