@@ -89,7 +89,7 @@ fn time_of(content: &[u8]) -> Result<Value, DataFault>
 }
 
 /// The bits of a view, on the heap.
-fn all_bits(alloc: Global, view: &BitView<'_>) -> Result<Vec<bool>, AllocError>
+pub fn all_bits(alloc: Global, view: &BitView<'_>) -> Result<Vec<bool>, AllocError>
     ensures { IfOk result (λ all. all.items ≡ view.now) }
 {
     let mut all = Vec::new(alloc);

@@ -15,6 +15,7 @@ mod type_writing;
 mod writing;
 
 // Data, read and in place.
+pub use content::all_bits;
 pub use data_view::{DataView, view_data};
 pub use fault::DataFault;
 pub use reading::read_data;

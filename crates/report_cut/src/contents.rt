@@ -1,6 +1,6 @@
 //! The contents of a report's fields, read (ITU-T X.690; ISO 9506-2, Data).
 
-ghost use Rattle.std.specs.Prelude.{◌≡◌, ◌==◌, ◌≤◌, ◌<◌, ◌^◌, List, length, IfOk, IfSome};
+ghost use Rattle.std.specs.Prelude.{◌≡◌, ◌==◌, ◌≤◌, ◌<◌, ◌^◌, List, length, IfSome};
 ghost use Rattle.std.specs.Option.{option_map};
 ghost use Rattle.ber_grammar.specs.Octets.{big_endian};
 ghost use Rattle.bay_model.specs.Parameters.{bit as bit_at};
@@ -9,7 +9,6 @@ ghost use Rattle.report_cut.specs.PartReading.{text_in, truth_in, moment_of, mom
 
 use bay_model::Reasons;
 use ber_view::{BitView, bits, text, uint};
-use std::alloc::{AllocError, Global};
 use sv_base::Moment;
 
 /// A visible string.
@@ -139,15 +138,4 @@ pub(crate) fn reasons_of(content: &[u8]) -> Option<Reasons>
         intg: flag(&view, 4),
         gi: flag(&view, 5),
     })
-}
-
-/// The bits of a view, on the heap.
-pub(crate) fn all_bits(alloc: Global, view: &BitView<'_>) -> Result<Vec<bool>, AllocError>
-    ensures { IfOk result (λ all. all.items ≡ view.now) }
-{
-    let mut all = Vec::new(alloc);
-    while let Some(bit) = view.get(all.len()) {
-        all.push(bit)?;
-    }
-    Ok(all)
 }

@@ -8,7 +8,6 @@ ghost use Rattle.report_cut.specs.declared.fault.ReportFault.TheVariants.{Invali
 ghost use Rattle.report_cut.specs.Part.{IsReportPart, IsPartRefused};
 ghost use Rattle.report_cut.specs.PartReading.{fault_of, is_rpt, identity_at, first_fields_at, further_fields_at, place_at, body_at, results_in, told_by, part_at};
 
-use crate::contents::all_bits;
 use crate::fault::ReportFault;
 use crate::measure::bit;
 use crate::part::ReportPart;
@@ -19,6 +18,7 @@ use crate::taking::{
 use crate::told::read_body;
 use bay_model::Report;
 use ber_view::BitView;
+use mms_data::all_bits;
 use mms_pdu::tags;
 use std::alloc::Global;
 use sv_base::{Bits, BlockNo, Moment, Octs};

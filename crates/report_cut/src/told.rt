@@ -9,12 +9,11 @@ ghost use Rattle.ber_view.specs.View.{element};
 ghost use Rattle.report_cut.specs.declared.fault.ReportFault.TheVariants.{Invalid};
 ghost use Rattle.report_cut.specs.PartReading.{fault_of, is_data as is_data_of, data_in, behind_each, member_at, members_at, body_at};
 
-use crate::contents::all_bits;
 use crate::fault::ReportFault;
 use crate::taking::{take_inclusion, take_reasons, take_text};
 use bay_model::{Member, Members};
 use ber_view::{Tlv, first};
-use mms_data::view_data;
+use mms_data::{all_bits, view_data};
 use std::alloc::{AllocError, Global};
 use sv_base::{MemberNo, Octs};
 
