@@ -1,13 +1,11 @@
 -- No spelling of the same fields is shorter than what is written.
-use Rattle.std.proofs.Common.{◌≡◌, ℕ, ◌+◌, ◌≤◌, List, [], ◌∷◌, ◌++◌, length, refl, ap, subst, ◌∙◌, arith}
+use Rattle.std.proofs.Common.{◌≡◌, ℕ, ◌+◌, ◌≤◌, List, [], ◌∷◌, ◌++◌, length, ap, arith}
 use Rattle.std.proofs.lemmas.List.{length-append}
-use Rattle.std.proofs.lemmas.Bool.Decides.{nat_tests}
 use Rattle.ber_grammar.specs.Octets.{IsBytes}
-use Rattle.ber_grammar.specs.Element.{Element, Spells, IsRow}
+use Rattle.ber_grammar.specs.Element.{Element, IsRow}
 use Rattle.ber_grammar.specs.Content.{IsUint}
-use Rattle.ber_grammar.proofs.OctetLaws.{IsBytes-front, IsBytes-back, Spells-bytes, IsRow-bytes}
-use Rattle.ber_write.specs.Minimal.{octets_of, tag_octets, length_octets, uint_octets}
-use Rattle.ber_write.proofs.ElementLaws.{is_minimal}
+use Rattle.ber_grammar.proofs.OctetLaws.{Spells-bytes, IsRow-bytes}
+use Rattle.ber_write.specs.Minimal.{octets_of, uint_octets}
 use Rattle.ber_write.proofs.ShortestLaws.{uint_shortest}
 use Rattle.ber_write.proofs.LengthLaws.{octets_grow}
 use Rattle.ber_write.proofs.WrittenLaws.{row_least, element_least}

@@ -5,7 +5,7 @@ use Rattle.std.specs.Option.{option_map_or}
 use Rattle.std.proofs.lemmas.List.{length-append}
 use Rattle.ber_write.specs.Minimal.{octets_of, written, uint_octets, int_octets}
 use Rattle.ber_write.proofs.ElementLaws.{is_spelling}
-use Rattle.ber_write.proofs.NumberLaws.{length-uint_octets, length-int_octets, number_short}
+use Rattle.ber_write.proofs.NumberLaws.{length-int_octets, number_short}
 use Rattle.ber_write.proofs.LengthLaws.{octets_short}
 use Rattle.ber_write.proofs.WrittenLaws.{one_octet}
 use Rattle.sv_base.specs.Data.{data_of}

@@ -1,12 +1,12 @@
 -- What was read, where it is written back, is told to the client as it was asked for.
-use Rattle.std.proofs.Common.{◌≡◌, ℕ, ◌%◌, ◌^◌, ◌<◌, true, false, List, [], ◌∷◌, ◌++◌, length, refl, sym, subst, arith, map}
+use Rattle.std.proofs.Common.{◌≡◌, ℕ, ◌^◌, ◌<◌, true, false, List, [], ◌∷◌, ◌++◌, length, refl, sym, subst, arith, map}
 use Rattle.std.specs.List.{AllByRecursion, flat_map}
 use Rattle.std.proofs.lemmas.List.{length-append}
 use Rattle.ber_grammar.specs.Element.{Element, IsRow}
-use Rattle.ber_write.specs.Minimal.{octets_of, written, CanBeTag}
+use Rattle.ber_write.specs.Minimal.{octets_of, written}
 use Rattle.ber_write.proofs.ElementLaws.{is_spelling}
-use Rattle.ber_write.proofs.LengthLaws.{octets_longer, inside}
-use Rattle.ber_write.proofs.WrittenLaws.{written_more, written_last, one_octet, whole_last}
+use Rattle.ber_write.proofs.LengthLaws.{inside}
+use Rattle.ber_write.proofs.WrittenLaws.{written_more, one_octet, whole_last}
 use Rattle.mms_pdu.specs.ObjectName.{Name, IsName, IsOnlyName}
 use Rattle.mms_pdu.specs.ObjectName as mms
 use Rattle.mms_pdu.specs.Variable.{IsVariable}

@@ -5,7 +5,7 @@ use Rattle.std.specs.List.{All, AllByRecursion}
 use Rattle.std.proofs.lemmas.Bool.{leb-true}
 use Rattle.std.proofs.lemmas.List.{length-append}
 use Rattle.ber_write.specs.Minimal.{octets_of, uint_octets}
-use Rattle.ber_write.proofs.NumberLaws.{length-uint_octets, number_short}
+use Rattle.ber_write.proofs.NumberLaws.{number_short}
 use Rattle.ber_write.proofs.LengthLaws.{octets_short}
 use Rattle.sv_base.specs.declared.config.Config.{Config}
 use Rattle.mms_pdu.specs.ReplyOctets.{answer_octets, class_tag, error_octets, invoke_octets, reason_tag, reason_code, reject_octets}

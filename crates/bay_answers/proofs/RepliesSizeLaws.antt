@@ -1,11 +1,11 @@
 -- How long the PDU of a response is, and when it is the error of one that is too long.
-use Rattle.std.proofs.Common.{◌≡◌, ℕ, ◌+◌, ◌<◌, ◌≤◌, Bool, true, false, List, [], ◌∷◌, ◌++◌, length, min, Option, Some, None, Result}
+use Rattle.std.proofs.Common.{◌≡◌, ℕ, ◌+◌, ◌<◌, ◌≤◌, Bool, true, false, List, ◌++◌, length, min, Option, Some, None, Result}
 use Rattle.std.proofs.Common.{refl, sym, ap, subst, ◌∙◌, append_assoc, arith}
 use Rattle.std.specs.Prelude.{nat_le, if◌then◌else◌}
-use Rattle.std.proofs.lemmas.Bool.{le-leb, lt-leb, lt-ltb}
+use Rattle.std.proofs.lemmas.Bool.{le-leb, lt-leb}
 use Rattle.std.proofs.lemmas.List.{length-append}
-use Rattle.ber_write.specs.Minimal.{tag_octets, length_octets, octets_of, head_octets, uint_octets, element_size}
-use Rattle.ber_write.proofs.LengthLaws.{length-octets_of, octets_longer, headed, length_of_element}
+use Rattle.ber_write.specs.Minimal.{octets_of, head_octets, uint_octets, element_size}
+use Rattle.ber_write.proofs.LengthLaws.{octets_longer, headed, length_of_element}
 use Rattle.sv_base.specs.declared.value.Value.{Value}
 use Rattle.mms_pdu.specs.declared.tags.TheConstants.{READ}
 use Rattle.mms_pdu.specs.ReplyOctets.{answer_content, answer_octets, error_octets}

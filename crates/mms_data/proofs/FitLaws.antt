@@ -1,7 +1,7 @@
 -- What is at most 4294967295 octets long in all has no longer content in it.
 use Rattle.std.proofs.Common.{ℕ, ◌-◌, ◌%◌, ◌<◌, ◌^◌, List, ◌∷◌, ◌++◌, length, arith}
 use Rattle.std.proofs.lemmas.List.{length-append}
-use Rattle.ber_write.specs.Minimal.{tag_octets, length_octets, octets_of}
+use Rattle.ber_write.specs.Minimal.{octets_of}
 use Rattle.ber_write.proofs.LengthLaws.{inside}
 use Rattle.sv_base.specs.Tree.{Plain, Seen, Row, plain, structure, none, more, truth, int, uint, bits, time, stamp, text, octets, other}
 use Rattle.sv_base.specs.Data.{element, length_field, packed, data_plain, data_seen, data_row}

@@ -1,14 +1,13 @@
 -- What is read is a value of the element, and each refusal is where no value goes on.
-use Rattle.std.proofs.Common.{◌≡◌, ℕ, zero, suc, ◌≤◌, ◌-◌, Bool, true, false, ◌||◌, cond, eqb, List, [], ◌∷◌, ◌++◌, length, take, drop, get_or, Result, Ok, Err, refl, sym, ap, subst, ◌∙◌, ◌⊎◌, inl, inr, arith}
-use Rattle.std.specs.Prelude.{MatchResult}
+use Rattle.std.proofs.Common.{◌≡◌, ℕ, zero, suc, ◌≤◌, ◌-◌, true, false, ◌||◌, cond, eqb, List, [], ◌∷◌, ◌++◌, length, take, drop, get_or, Result, Ok, Err, refl, sym, ap, subst, ◌∙◌, ◌⊎◌, inl, inr, arith}
 use Rattle.std.proofs.lemmas.Bool.{eqb-true, eqb-false, eq-eqb, ne_eqb, cond_both, or_parts}
 use Rattle.std.proofs.lemmas.List.{append-nil, nil_from_length}
 use Rattle.list_laws.proofs.Options.{ok_is}
 use Rattle.ber_grammar.specs.declared.fault.BerFault.{BerFault}
 use Rattle.ber_grammar.specs.Octets.{IsBytes, big_endian}
 use Rattle.ber_grammar.specs.Element.{Element, Spells, Begins, IsRow, IsRefused}
-use Rattle.ber_grammar.specs.Content.{IsBoolean, IsInt, IsUint, IsText, IsBits, IsBitsRefused}
-use Rattle.ber_grammar.specs.Reader.{◌>>=◌, with_fault, Gives, Reads}
+use Rattle.ber_grammar.specs.Content.{IsBoolean, IsInt, IsUint, IsText, IsBits}
+use Rattle.ber_grammar.specs.Reader.{◌>>=◌, with_fault, Reads}
 use Rattle.ber_grammar.specs.Reading.{first_at, boolean_at, int_at, uint_at, text_at, bits_at}
 use Rattle.ber_grammar.specs.Rows.{row_at}
 use Rattle.ber_grammar.proofs.ReaderLaws.{exact_from}
@@ -17,7 +16,7 @@ use Rattle.ber_grammar.proofs.ElementLaws.{FirstTells, first_tells, first_again,
 use Rattle.ber_grammar.proofs.UintLaws.{uint_again, uint_found}
 use Rattle.ber_grammar.proofs.IntLaws.{int_again, int_found}
 use Rattle.ber_grammar.proofs.TextLaws.{text_again, text_found}
-use Rattle.ber_grammar.proofs.BitLaws.{bits_again, bits_reads, bits_found}
+use Rattle.ber_grammar.proofs.BitLaws.{bits_again, bits_found}
 use Rattle.ber_grammar.proofs.BooleanLaws.{boolean_again, boolean_found}
 use Rattle.ber_grammar.proofs.RowLaws.{AllRead, StopsAt, RowTells, row_tells, row_again, row_refused}
 use Rattle.ber_grammar.proofs.FieldLaws.{first_whole}

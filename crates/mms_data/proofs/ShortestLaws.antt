@@ -1,14 +1,13 @@
 -- No spelling of a value is shorter than the one that is written.
-use Rattle.std.proofs.Common.{◌≡◌, ℕ, ◌+◌, ◌-◌, ◌*◌, ◌/◌, ◌%◌, ◌^◌, ◌<◌, ◌≤◌, cond, ltb, Bool, List, [], ◌∷◌, ◌++◌, length, ap, subst, ◌∙◌, inl, inr, arith}
+use Rattle.std.proofs.Common.{◌≡◌, ℕ, ◌-◌, ◌*◌, ◌/◌, ◌%◌, ◌^◌, ◌<◌, ◌≤◌, Bool, List, [], ◌∷◌, ◌++◌, length, ap, subst, arith}
 use Rattle.std.specs.Prelude.{ℤ, pos, negsuc, if◌then◌else◌}
 use Rattle.std.specs.Int.{w16, w32, to_be_bytes}
-use Rattle.std.proofs.lemmas.Bool.{ltb-true, ltb-false, cond_both, cases_lt}
 use Rattle.std.proofs.lemmas.List.{length-append}
 use Rattle.ber_grammar.specs.Octets.{IsBytes}
 use Rattle.ber_grammar.specs.Element.{Element, Spells, IsRow}
 use Rattle.ber_grammar.specs.Content.{IsBoolean, IsInt}
 use Rattle.ber_grammar.proofs.OctetLaws.{IsBytes-front, IsBytes-back, Spells-bytes, Spells-below}
-use Rattle.ber_write.specs.Minimal.{tag_octets, length_octets, octets_of, IsWord, int_octets, uint_octets}
+use Rattle.ber_write.specs.Minimal.{octets_of, IsWord, int_octets, uint_octets}
 use Rattle.ber_write.specs.BitString.{bit_octets}
 use Rattle.ber_write.proofs.ElementLaws.{is_minimal}
 use Rattle.ber_write.proofs.SameLaws.{length_is_field}

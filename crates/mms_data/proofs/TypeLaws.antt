@@ -1,7 +1,7 @@
 -- The octets of components, one component more at a time, and how many there are.
 use Rattle.std.proofs.Common.{◌≡◌, ℕ, ◌+◌, zero, suc, ◌<◌, ◌≤◌, min, List, [], ◌∷◌, ◌++◌, length, take, get_or, refl, sym, ap, subst, ◌∙◌, inl, inr, append_assoc, arith}
 use denote.Param.Weighed.{most}
-use Rattle.std.proofs.lemmas.Bool.{lt-ltb, cases_lt}
+use Rattle.std.proofs.lemmas.Bool.{cases_lt}
 use Rattle.std.proofs.lemmas.List.{append-nil, length-append}
 use Rattle.ber_write.specs.Minimal.{length_octets, octets_of, int_octets}
 use Rattle.ber_write.proofs.LengthLaws.{length-one_octet}

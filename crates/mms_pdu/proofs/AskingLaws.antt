@@ -4,8 +4,8 @@ use Rattle.std.proofs.lemmas.List.{length-append, append-nil}
 use Rattle.ber_grammar.specs.Element.{IsRow}
 use Rattle.ber_write.specs.Minimal.{octets_of, written, uint_octets}
 use Rattle.ber_write.proofs.ElementLaws.{is_spelling}
-use Rattle.ber_write.proofs.LengthLaws.{octets_longer, inside}
-use Rattle.ber_write.proofs.WrittenLaws.{written_more, written_last, one_octet, whole_last}
+use Rattle.ber_write.proofs.LengthLaws.{inside}
+use Rattle.ber_write.proofs.WrittenLaws.{written_more, one_octet, whole_last}
 use Rattle.sv_base.specs.Tree.{Seen}
 use Rattle.sv_base.specs.Seen.{seen_of}
 use Rattle.sv_base.specs.Data.{data_of}

@@ -1,18 +1,16 @@
 -- GetNameList-Request: what is read is what is spelled, and what is spelled is read.
-use Rattle.std.proofs.Common.{◌≡◌, ℕ, ◌<◌, cond, eqb, ltb, List, [], ◌∷◌, length, Option, Some, None, refl, sym, ap, subst}
+use Rattle.std.proofs.Common.{◌≡◌, ℕ, ◌<◌, cond, eqb, List, [], ◌∷◌, length, Option, Some, None, refl, sym, ap, subst}
 use Rattle.std.specs.Option.{option_map}
-use Rattle.std.proofs.lemmas.Bool.{eqb-true, eq-eqb, ltb-true, lt-ltb}
+use Rattle.std.proofs.lemmas.Bool.{eqb-true, eq-eqb}
 use Rattle.std.proofs.lemmas.List.{nil_from_length}
 use Rattle.list_laws.proofs.Options.{some_is, chosen, either_way}
 use Rattle.ber_grammar.specs.Content.{IsUint}
 use Rattle.ber_grammar.specs.Element.{Element, IsRow}
 use Rattle.ber_grammar.specs.Octets.{IsBytes}
 use Rattle.ber_grammar.specs.Place.{Spot, Piece, content_piece, elements}
-use Rattle.ber_grammar.specs.Reader.{and_then, kept}
-use Rattle.ber_grammar.specs.Reading.{uint_at}
+use Rattle.ber_grammar.specs.Reader.{and_then}
 use Rattle.ber_grammar.proofs.OctetLaws.{AllBytes}
-use Rattle.ber_grammar.proofs.OptionLaws.{kept_some, then_some}
-use Rattle.ber_grammar.proofs.UintLaws.{uint_again, uint_found}
+use Rattle.ber_grammar.proofs.OptionLaws.{then_some}
 use Rattle.sv_base.specs.Tree.{Seen}
 use Rattle.ber_grammar.specs.Fields.{only_in, spot_in}
 use Rattle.mms_pdu.specs.Invoke.{below_at}

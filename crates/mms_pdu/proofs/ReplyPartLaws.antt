@@ -4,13 +4,11 @@ use Rattle.std.proofs.lemmas.Bool.{eqb-true, eq-eqb, le-leb, leb-true, lt-ltb, l
 use Rattle.list_laws.proofs.Options.{some_is, chosen, sides}
 use Rattle.ber_grammar.specs.Octets.{IsBytes}
 use Rattle.ber_grammar.specs.Element.{Element, IsRow}
-use Rattle.ber_grammar.specs.Place.{Spot, Piece, placed, elements, content_piece}
-use Rattle.ber_grammar.specs.Reader.{and_then, kept}
-use Rattle.ber_grammar.specs.Rows.{parts_at, single}
+use Rattle.ber_grammar.specs.Place.{Spot, Piece, content_piece}
+use Rattle.ber_grammar.specs.Reader.{and_then}
 use Rattle.ber_grammar.proofs.OptionLaws.{then_some}
 use Rattle.ber_grammar.proofs.OctetLaws.{Spells-bytes, IsRow-bytes}
-use Rattle.ber_grammar.proofs.PlaceLaws.{elements-placed}
-use Rattle.ber_grammar.specs.Fields.{fields_in, only_in, spot_in, whole_at, whole_in}
+use Rattle.ber_grammar.specs.Fields.{only_in, spot_in, whole_at, whole_in}
 use Rattle.mms_pdu.specs.Invoke.{below_at}
 use Rattle.mms_pdu.specs.Answer.{IsAnswerBody, is_answer_body}
 use Rattle.mms_pdu.specs.Reply.{IsService, IsServiceError, IsReason}

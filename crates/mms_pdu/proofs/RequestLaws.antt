@@ -1,10 +1,10 @@
 -- A request: what is read is what is spelled, what is spelled is read, and each refusal is where no request goes on.
 use Rattle.std.proofs.Common.{◌≡◌, ℕ, ◌%◌, ◌^◌, ◌<◌, Bool, true, false, ◌||◌, cond, eqb, List, [], ◌∷◌, ◌++◌, length, Option, Some, None, Result, Ok, Err, inl, inr, ◌⊎◌, refl, sym, ap, subst, ◌∙◌, true≢false, arith}
 use Rattle.std.proofs.lemmas.Bool.{eqb-true, eqb-false, ne_eqb, or_cases}
-use Rattle.std.proofs.lemmas.List.{append-nil, nil_from_length, length-append}
+use Rattle.std.proofs.lemmas.List.{nil_from_length, length-append}
 use Rattle.list_laws.proofs.Options.{some_is, chosen, ok_is, err_is}
 use Rattle.ber_grammar.specs.declared.fault.BerFault.{BerFault}
-use Rattle.ber_grammar.specs.Element.{Element, IsTag, Spells, Begins, IsRow}
+use Rattle.ber_grammar.specs.Element.{Element, IsTag, Spells, Begins}
 use Rattle.ber_grammar.specs.Octets.{IsBytes}
 use Rattle.ber_grammar.specs.Place.{Spot, Piece, content_piece}
 use Rattle.ber_grammar.specs.Reader.{and_then, kept, Gives, Reads}
@@ -23,7 +23,7 @@ use Rattle.mms_pdu.specs.Service as services
 use Rattle.mms_pdu.specs.Services.{IsService, is_service, service_at}
 use Rattle.mms_pdu.specs.Request.{Request, confirmed, conclude, disregarded, request_octets, is_disregarded, is_pdu, IsRequest, MayBegin, IsOutOfPlace, IsRequestRefused, may_begin, or_fault}
 use Rattle.mms_pdu.specs.RequestReading.{behind, invoke_in, service_in, invoked, pdu_at, whole, request_in, without_places, request_at}
-use Rattle.ber_grammar.proofs.FieldLaws.{only_found, only_again, only_bytes, row_spells, spells_row}
+use Rattle.ber_grammar.proofs.FieldLaws.{only_found, only_again, row_spells, spells_row}
 use Rattle.mms_pdu.proofs.ServiceLaws.{service_found, service_again}
 use Rattle.mms_pdu.proofs.TaggedLaws.{below_found, below_again}
 

@@ -2,10 +2,10 @@
 use Rattle.std.proofs.Common.{◌≡◌, ℕ, ◌<◌, ◌≤◌, ◌^◌, List, ◌++◌, length, refl, sym, ap, subst, arith}
 use Rattle.std.proofs.lemmas.List.{length-append}
 use Rattle.ber_grammar.specs.Octets.{IsBytes}
-use Rattle.ber_grammar.specs.Element.{Element, Spells, Begins}
+use Rattle.ber_grammar.specs.Element.{Begins}
 use Rattle.ber_grammar.proofs.OctetLaws.{IsBytes-front, IsBytes-back, Spells-bytes}
 use Rattle.ber_write.specs.Minimal.{octets_of, uint_octets, written, CanBeTag}
-use Rattle.ber_write.proofs.ElementLaws.{is_minimal, is_spelling}
+use Rattle.ber_write.proofs.ElementLaws.{is_spelling}
 use Rattle.ber_write.proofs.NumberLaws.{uint_octets-spell}
 use Rattle.ber_write.proofs.ShortestLaws.{uint_shortest}
 use Rattle.ber_write.proofs.LengthLaws.{octets_longer}

@@ -1,20 +1,16 @@
 -- Numbers under a tag.
-use Rattle.std.proofs.Common.{◌≡◌, ℕ, ◌^◌, ◌<◌, cond, ltb, eqb, List, [], ◌∷◌, ◌++◌, length, Some, None, arith, Result, Ok, refl, sym, ap, subst, ◌∙◌}
+use Rattle.std.proofs.Common.{◌≡◌, ℕ, ◌^◌, ◌<◌, cond, ltb, eqb, List, [], ◌∷◌, ◌++◌, Some, None, arith, refl, sym, ap, subst, ◌∙◌}
 use Rattle.std.proofs.lemmas.Bool.{eqb-true, eq-eqb, ltb-true, lt-ltb}
-use Rattle.std.proofs.lemmas.List.{nil_from_length, append-nil}
 use Rattle.list_laws.proofs.Options.{some_is, chosen}
-use Rattle.ber_grammar.specs.declared.fault.BerFault.{BerFault}
 use Rattle.ber_grammar.specs.Octets.{IsBytes}
-use Rattle.ber_grammar.specs.Element.{Element, IsTag, Spells, Begins, IsRow}
+use Rattle.ber_grammar.specs.Element.{Element, IsTag, Spells, Begins}
 use Rattle.ber_grammar.specs.Content.{IsUint}
 use Rattle.ber_grammar.specs.Place.{Spot, Piece}
 use Rattle.ber_grammar.specs.Reader.{and_then, kept}
 use Rattle.ber_grammar.specs.Reading.{first_at, uint_at}
-use Rattle.ber_grammar.specs.Rows.{parts_at}
 use Rattle.ber_grammar.proofs.OptionLaws.{kept_some, then_some}
 use Rattle.ber_grammar.proofs.OctetLaws.{Begins-bytes}
-use Rattle.ber_grammar.proofs.ElementLaws.{FirstTells, first_tells, first_again}
-use Rattle.ber_grammar.proofs.PartsLaws.{PartsTells, parts_tells, row_again}
+use Rattle.ber_grammar.proofs.ElementLaws.{first_again}
 use Rattle.ber_grammar.proofs.UintLaws.{uint_again, uint_found}
 use Rattle.mms_pdu.specs.Invoke.{below_at}
 use Rattle.ber_grammar.specs.Fields.{spot_in}

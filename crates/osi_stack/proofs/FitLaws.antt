@@ -1,9 +1,8 @@
 -- What is written fits.
 use Rattle.std.proofs.Common.{◌≡◌, ℕ, ◌+◌, ◌^◌, ◌<◌, ◌≤◌, List, [], ◌∷◌, ◌++◌, length, Ok, arith}
-use Rattle.std.proofs.lemmas.Bool.{lt-ltb}
 use Rattle.std.proofs.lemmas.Bool.Decides.{nat_tests}
 use Rattle.std.proofs.lemmas.List.{length-append}
-use Rattle.ber_write.specs.Minimal.{octets_of, length_octets, uint_octets}
+use Rattle.ber_write.specs.Minimal.{octets_of, uint_octets}
 use Rattle.ber_write.proofs.NumberLaws.{length-uint_octets}
 use Rattle.ber_write.proofs.LengthLaws.{octets_few}
 use Rattle.session_pres.specs.Plain.{Asked, cp_from}

@@ -1,6 +1,5 @@
 -- A stream gives the events that its TPDUs tell, and the other way round.
-use Rattle.std.proofs.Common.{◌≡◌, ℕ, ◌+◌, ◌/◌, ◌%◌, List, [], ◌∷◌, ◌++◌, length, Option, Some, None, Result, Ok, Err, refl, sym, ap, subst, ◌∙◌, arith}
-use Rattle.std.specs.Prelude.{MatchResult}
+use Rattle.std.proofs.Common.{◌≡◌, ℕ, List, [], ◌∷◌, ◌++◌, Option, Some, None, Result, Ok, Err, refl, sym, ap, subst, ◌∙◌, arith}
 use Rattle.std.specs.List.{flat_map, AllByRecursion}
 use Rattle.std.proofs.lemmas.List.Concat.{flat_map-cons}
 use Rattle.list_laws.proofs.Options.{ok_is}
@@ -15,8 +14,8 @@ use Rattle.tpkt_cotp.specs.declared.state.State.{State}
 use Rattle.tpkt_cotp.specs.declared.tsdus.Tsdu.{Tsdu}
 use Rattle.tpkt_cotp.specs.declared.tsdus.Tsdu.TheVariants.{Connect, Data, Disconnect}
 use Rattle.tpkt_cotp.specs.Packet.{packet}
-use Rattle.tpkt_cotp.specs.Tpdu.{IsTaken, IsRefusedTpdu, tpdu_at}
-use Rattle.tpkt_cotp.proofs.TpduLaws.{taken_again, tpdu_matches}
+use Rattle.tpkt_cotp.specs.Tpdu.{IsTaken, tpdu_at}
+use Rattle.tpkt_cotp.proofs.TpduLaws.{taken_again}
 use Rattle.session_pres.specs.Units.{connect, transfer}
 use Rattle.session_pres.specs.Presentation.{Request}
 use Rattle.session_pres.proofs.OneWayLaws.{spdu_one, cp_one, ac_one, pdv_one}

@@ -1,17 +1,15 @@
 -- What is written of a report is read back.
-use Rattle.std.proofs.Common.{◌≡◌, ℕ, suc, ◌+◌, ◌-◌, ◌*◌, ◌/◌, ◌%◌, ◌^◌, ◌<◌, ◌≤◌, eqb, Bool, true, false, List, [], ◌∷◌, ◌++◌, length, map, get_or, refl, sym, ap, subst, ◌∙◌, append_assoc, Option, Some, None, arith}
+use Rattle.std.proofs.Common.{◌≡◌, ℕ, suc, ◌+◌, ◌-◌, ◌/◌, ◌%◌, ◌^◌, ◌<◌, ◌≤◌, Bool, true, false, List, [], ◌∷◌, ◌++◌, length, map, get_or, refl, sym, ap, subst, ◌∙◌, append_assoc, Option, Some, None, arith}
 use Rattle.std.specs.Prelude.{if◌then◌else◌, is_some, ◌==◌, ◌||◌, nat_le}
-use Rattle.std.specs.Int.{w64, w32, w16, to_be_bytes}
+use Rattle.std.specs.Int.{w64, to_be_bytes}
 use Rattle.std.specs.List.{AllByRecursion}
 use Rattle.std.proofs.lemmas.Bool.{eqb-true, eqb-false, ne_eqb}
 use Rattle.std.proofs.lemmas.List.{append-nil}
-use Rattle.ber_grammar.specs.Octets.{big_endian}
-use Rattle.ber_grammar.specs.Element.{Element, Spells, Begins, IsRow}
-use Rattle.ber_grammar.specs.Content.{IsText, IsBits, IsBoolean}
+use Rattle.ber_grammar.specs.Content.{IsText, IsBoolean}
 use Rattle.ber_write.specs.Minimal.{octets_of, written, uint_octets, CanBeTag}
 use Rattle.ber_write.specs.BitString.{bit_octets}
 use Rattle.ber_write.proofs.ElementLaws.{is_spelling}
-use Rattle.ber_write.proofs.NumberLaws.{uint_octets-spell, length-uint_octets, big_endian-64, uint_short}
+use Rattle.ber_write.proofs.NumberLaws.{uint_octets-spell, big_endian-64, uint_short}
 use Rattle.ber_write.proofs.BitLaws.{bit_octets-spell, length_of_bit_octets}
 use Rattle.ber_write.proofs.WrittenLaws.{one_octet, written_last}
 use Rattle.mms_data.proofs.ReadBackLaws.{big_endian-32, big_endian-16}
@@ -20,11 +18,10 @@ use Rattle.bay_model.specs.declared.report.Report.{Report}
 use Rattle.bay_model.specs.declared.report.Member.{Member}
 use Rattle.bay_model.specs.declared.report.Reasons.{Reasons}
 use Rattle.report_cut.specs.declared.segment.Segment.{Segment}
-use Rattle.report_cut.specs.declared.part.ReportPart.{ReportPart}
 use Rattle.report_cut.specs.Fields.{optional, truth, flags, time_octets, identity, first_fields, further_fields, place, included, inclusion, references, values, reasons, reasons_content, front, body, results, rpt, pdu, is_there}
 use Rattle.report_cut.specs.Cutting.{segments, cut_from, concat}
 use Rattle.report_cut.specs.Pdus.{Ascend, IsShort, HasData, CanBeCut, fits, spelled, pdus}
-use Rattle.report_cut.specs.Part.{Takes, IsBelow, IsMoment, IsEntryId, IsOptFlds, IsInclusion, IsReasons, no_reasons, IsIdentity, IsFirst, IsFurther, IsPlace, AreMarked, AreTold, IsBody, IsResults, IsListName, IsReportPart}
+use Rattle.report_cut.specs.Part.{Takes, IsBelow, IsMoment, IsEntryId, IsReasons, no_reasons, IsIdentity, IsFirst, IsFurther, AreMarked, AreTold, IsBody, IsResults, IsListName, IsReportPart}
 use Rattle.report_cut.specs.Told.{told_member, sub_of, more_of, told, parts_from, parts, AreParts, AreVisible, CanBeRead}
 use Rattle.report_cut.proofs.SizeLaws.{length_of_flags, length_of_included}
 use Rattle.report_cut.proofs.InclusionLaws.{tells}

@@ -1,25 +1,23 @@
 -- What the contents of a report's fields say, both ways.
-use Rattle.std.proofs.Common.{◌≡◌, ℕ, suc, ◌+◌, ◌-◌, ◌*◌, ◌^◌, ◌<◌, ◌≤◌, cond, ltb, eqb, Bool, true, false, List, [], ◌∷◌, ◌++◌, length, take, drop, refl, sym, ap, subst, ◌∙◌, Option, Some, None, Result, Ok, Err, arith}
+use Rattle.std.proofs.Common.{◌≡◌, ℕ, ◌+◌, ◌-◌, ◌*◌, ◌<◌, ◌≤◌, cond, ltb, eqb, Bool, true, false, List, [], ◌∷◌, ◌++◌, length, take, drop, refl, sym, ap, subst, ◌∙◌, Option, Some, None, Result, Ok, Err, arith}
 use Rattle.std.specs.Prelude.{MatchResult}
 use Rattle.std.specs.Result.{is_ok}
 use Rattle.std.proofs.Math.Seq.{take-append_seam}
 use Rattle.std.proofs.lemmas.Bool.{lt-ltb, ltb-true, eqb-true, eq-eqb}
-use Rattle.std.proofs.lemmas.List.{length-append, append-nil}
+use Rattle.std.proofs.lemmas.List.{length-append}
 use Rattle.list_laws.proofs.Options.{some_is, chosen}
-use Rattle.ber_grammar.specs.declared.fault.BerFault.{BerFault}
 use Rattle.ber_grammar.specs.declared.fault.BerFault.TheVariants.{BadNumber}
 use Rattle.ber_grammar.specs.Octets.{IsBytes, big_endian}
 use Rattle.ber_grammar.specs.Place.{Spot}
-use Rattle.ber_grammar.specs.Element.{Element, Begins}
-use Rattle.ber_grammar.specs.Content.{IsText, IsUint, IsBits, IsBitsRefused, IsBoolean}
-use Rattle.ber_grammar.specs.Reader.{◌>>=◌, kept, and_then, Gives, Reads}
+use Rattle.ber_grammar.specs.Content.{IsText, IsBits, IsBoolean}
+use Rattle.ber_grammar.specs.Reader.{◌>>=◌, kept}
 use Rattle.ber_grammar.specs.Reading.{first_at, text_at, bits_at, boolean_at}
 use Rattle.ber_grammar.proofs.OptionLaws.{kept_some, then_some}
 use Rattle.ber_grammar.proofs.ElementLaws.{first_again}
 use Rattle.ber_grammar.proofs.FieldLaws.{begins_of}
 use Rattle.ber_grammar.proofs.OctetLaws.{Begins-bytes}
 use Rattle.ber_grammar.proofs.TextLaws.{text_again, text_found}
-use Rattle.ber_grammar.proofs.BitLaws.{bits_again, bits_reads, bits_found}
+use Rattle.ber_grammar.proofs.BitLaws.{bits_again, bits_found}
 use Rattle.ber_grammar.proofs.BooleanLaws.{boolean_again, boolean_found}
 use Rattle.sv_base.specs.Tree.{Seen}
 use Rattle.mms_data.specs.declared.fault.DataFault.{DataFault}

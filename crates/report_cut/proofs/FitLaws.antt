@@ -1,19 +1,17 @@
 -- No PDU of a report is too long.
-use Rattle.std.proofs.Common.{◌≡◌, ℕ, suc, ◌+◌, ◌*◌, ◌/◌, ◌<◌, ◌≤◌, Bool, true, false, List, [], ◌∷◌, ◌++◌, length, refl, sym, ap, subst, ◌∙◌, Option, Some, None, arith, inl, inr}
+use Rattle.std.proofs.Common.{◌≡◌, ℕ, suc, ◌+◌, ◌/◌, ◌<◌, ◌≤◌, Bool, true, false, List, [], ◌∷◌, length, refl, sym, ap, subst, ◌∙◌, Some, None, arith, inl, inr}
 use Rattle.std.specs.Prelude.{if◌then◌else◌, nat_le}
-use Rattle.std.specs.Int.{w64, to_be_bytes}
 use Rattle.std.specs.List.{AllByRecursion, sum_by}
 use Rattle.std.proofs.lemmas.Bool.{le-leb, leb-true, leb-false}
-use Rattle.std.proofs.lemmas.Bool.Decides.{nat_tests}
 use Rattle.std.proofs.lemmas.List.Sums.{sum_by-cons}
-use Rattle.ber_write.specs.Minimal.{uint_octets, length_octets, element_size}
+use Rattle.ber_write.specs.Minimal.{uint_octets, element_size}
 use Rattle.ber_write.proofs.NumberLaws.{length-uint_octets}
 use Rattle.ber_write.proofs.LengthLaws.{at_most_three, at_most_two}
 use Rattle.bay_model.specs.Parameters.{bit}
 use Rattle.bay_model.specs.declared.report.Report.{Report}
 use Rattle.bay_model.specs.declared.report.Member.{Member}
 use Rattle.report_cut.specs.declared.segment.Segment.{Segment}
-use Rattle.report_cut.specs.Fields.{identity, first_fields, further_fields, place, front, pdu}
+use Rattle.report_cut.specs.Fields.{identity, first_fields, further_fields, place, pdu}
 use Rattle.report_cut.specs.Sizes.{size_if, cost, inclusion_size, fixed_size, results_size, framed}
 use Rattle.report_cut.specs.Cutting.{cut_from, AllFit}
 use Rattle.report_cut.specs.Pdus.{fits, spelled, pdus, IsShort, CanBeCut, AreSegments, IsCut}

@@ -1,16 +1,16 @@
 -- What is read of a PDU of a report is what it tells, and what it tells is read.
-use Rattle.std.proofs.Common.{◌≡◌, ℕ, ◌^◌, ◌&&◌, cond, eqb, Bool, true, false, List, [], ◌∷◌, ◌++◌, length, refl, sym, ap, subst, ◌∙◌, Option, Some, None, Result, Ok, Err}
+use Rattle.std.proofs.Common.{◌≡◌, ℕ, ◌^◌, ◌&&◌, cond, eqb, Bool, true, false, List, [], ◌∷◌, length, refl, sym, ap, subst, ◌∙◌, Option, Some, None, Ok, Err}
 use Rattle.std.specs.Prelude.{if◌then◌else◌}
-use Rattle.std.proofs.lemmas.Bool.{eqb-true, eq-eqb, and_parts}
+use Rattle.std.proofs.lemmas.Bool.{eqb-true, and_parts}
 use Rattle.std.proofs.lemmas.List.{append-nil}
 use Rattle.list_laws.proofs.Options.{some_is, chosen, ok_is}
 use Rattle.ber_grammar.specs.Octets.{IsBytes}
 use Rattle.ber_grammar.specs.Content.{IsText, IsBoolean}
-use Rattle.ber_grammar.specs.Element.{Element, Spells, Begins, IsRow}
+use Rattle.ber_grammar.specs.Element.{Element, Spells, IsRow}
 use Rattle.ber_grammar.specs.Reader.{and_then, Reads}
 use Rattle.ber_grammar.specs.Steps.{required}
 use Rattle.ber_grammar.proofs.OptionLaws.{then_some}
-use Rattle.ber_grammar.proofs.OctetLaws.{Begins-bytes, Spells-bytes, IsBytes-front}
+use Rattle.ber_grammar.proofs.OctetLaws.{Begins-bytes, Spells-bytes}
 use Rattle.ber_grammar.proofs.ReaderLaws.{one_refusal}
 use Rattle.ber_grammar.proofs.Theorems.{one_element}
 use Rattle.ber_grammar.proofs.FieldLaws.{row_spells, spells_row}
@@ -21,12 +21,12 @@ use Rattle.bay_model.specs.declared.report.Report.{Report}
 use Rattle.bay_model.specs.declared.report.Member.{Member}
 use Rattle.report_cut.specs.declared.part.ReportPart.{ReportPart}
 use Rattle.report_cut.specs.declared.fault.ReportFault.{ReportFault}
-use Rattle.report_cut.specs.declared.fault.ReportFault.TheVariants.{Invalid, Memory}
+use Rattle.report_cut.specs.declared.fault.ReportFault.TheVariants.{Invalid}
 use Rattle.report_cut.specs.Part.{Takes, IsBelow, IsMoment, IsEntryId, IsOptFlds, IsInclusion, AreMarked, AreTold, IsIdentity, IsFirst, IsFurther, IsPlace, IsBody, IsResults, IsListName, IsReportPart, IsPartRefused}
 use Rattle.report_cut.specs.PartReading.{enclosed_at, field_at, said, taken_at, text_in, truth_in, moment_in, id_in, options_in, inclusion_in, identity_at, first_fields_at, further_fields_at, place_at, behind_each, members_at, body_at, is_rpt, results_in, told_by, part_at}
 use Rattle.report_cut.proofs.ContentLaws.{text_is, text_comes, truth_is, truth_comes, number_is, number_comes, id_is, id_comes, moment_is, moment_comes, options_are, options_come, inclusion_is, inclusion_comes}
 use Rattle.report_cut.proofs.TakingLaws.{takes_found, takes_again, takes_bytes, enclosed_found, enclosed_again, field_found, field_again, said_some}
-use Rattle.report_cut.proofs.ToldLaws.{Told, members_found, members_again, references_end, none_end, values_end, behind_bytes}
+use Rattle.report_cut.proofs.ToldLaws.{members_found, members_again, references_end, none_end, values_end, behind_bytes}
 
 -- ---- groups of fields
 

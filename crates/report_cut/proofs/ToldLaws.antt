@@ -1,6 +1,6 @@
 -- The members that a PDU of a report tells, both ways.
-use Rattle.std.proofs.Common.{◌≡◌, ℕ, ◌+◌, ◌<◌, cond, ltb, eqb, Bool, true, false, List, [], ◌∷◌, ◌++◌, length, refl, sym, ap, subst, ◌∙◌, append_assoc, Option, Some, None, Ok}
-use Rattle.std.proofs.lemmas.Bool.{eqb-true, eq-eqb}
+use Rattle.std.proofs.Common.{◌≡◌, ℕ, ◌+◌, eqb, Bool, true, false, List, [], ◌∷◌, ◌++◌, length, refl, sym, ap, subst, ◌∙◌, append_assoc, Some, Ok}
+use Rattle.std.proofs.lemmas.Bool.{eqb-true}
 use Rattle.std.proofs.lemmas.List.{nil_from_length, append-nil}
 use Rattle.list_laws.proofs.Options.{some_is, chosen}
 use Rattle.ber_grammar.specs.Octets.{IsBytes}
@@ -16,7 +16,7 @@ use Rattle.bay_model.specs.declared.report.Member.{Member}
 use Rattle.report_cut.specs.Part.{Takes, TakesData, IsReasons, no_reasons, AreMarked, AreTold}
 use Rattle.report_cut.specs.PartReading.{taken_at, text_in, reasons_in, data_in, behind_each, member_at, members_at}
 use Rattle.report_cut.proofs.ContentLaws.{text_is, text_comes, reasons_are, reasons_come, data_are, data_come}
-use Rattle.report_cut.proofs.TakingLaws.{takes_found, takes_again, takes_bytes}
+use Rattle.report_cut.proofs.TakingLaws.{takes_found, takes_again}
 
 -- one member, with what follows its reference, its Data and its reasons
 abbrev pub IsOne : Bool → Bool → ℕ → List ℕ → List ℕ → List ℕ → Member × List ℕ × List ℕ × List ℕ → Type 0

@@ -1,5 +1,5 @@
 -- Reading a PDU of a report, from left to right.
-use Rattle.std.specs.Prelude.{ℕ, ◌+◌, ◌-◌, ◌*◌, ◌^◌, ◌==◌, ◌&&◌, not, nat_lt, Bool, true, false, List, [], ◌∷◌, ◌++◌, length, take, drop, Option, Some, None, Result, Ok, Err, if◌then◌else◌}
+use Rattle.std.specs.Prelude.{ℕ, ◌+◌, ◌-◌, ◌*◌, ◌^◌, ◌==◌, ◌&&◌, nat_lt, Bool, true, false, List, [], ◌∷◌, ◌++◌, length, take, drop, Option, Some, None, Result, if◌then◌else◌}
 use Rattle.std.specs.Result.{is_ok}
 use Rattle.ber_grammar.specs.Octets.{big_endian}
 use Rattle.ber_grammar.specs.Element.{Element}
@@ -13,7 +13,6 @@ use Rattle.mms_data.specs.declared.tags.TheConstants.{BINARY_TIME, BIT_STRING, B
 use Rattle.mms_pdu.specs.Invoke.{below_at}
 use Rattle.mms_pdu.specs.declared.tags.TheConstants.{INFORMATION_REPORT, REPORT_RESULTS, UNCONFIRMED, VARIABLE_LIST_NAME, VMD_SPECIFIC}
 use Rattle.bay_model.specs.Parameters.{bit}
-use Rattle.bay_model.specs.declared.report.Report.{Report}
 use Rattle.bay_model.specs.declared.report.Member.{Member}
 use Rattle.bay_model.specs.declared.report.Reasons.{Reasons}
 use Rattle.report_cut.specs.declared.part.ReportPart.{ReportPart}

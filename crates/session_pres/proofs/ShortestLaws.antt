@@ -1,14 +1,12 @@
 -- No user data are shorter than what is written.
-use Rattle.std.proofs.Common.{◌≡◌, ℕ, ◌+◌, ◌<◌, ◌≤◌, List, [], ◌∷◌, ◌++◌, length, refl, sym, ap, subst, ◌∙◌, arith}
-use Rattle.std.proofs.lemmas.Bool.Decides.{nat_tests}
+use Rattle.std.proofs.Common.{◌≡◌, ℕ, ◌+◌, ◌≤◌, List, [], ◌∷◌, length, refl, sym, ap, subst, ◌∙◌, arith}
 use Rattle.std.proofs.lemmas.List.{length-append}
 use Rattle.ber_grammar.specs.Octets.{IsBytes}
-use Rattle.ber_grammar.specs.Element.{Element, IsRow}
+use Rattle.ber_grammar.specs.Element.{Element}
 use Rattle.ber_grammar.specs.Place.{Spot, Piece, elements}
-use Rattle.ber_grammar.proofs.OctetLaws.{AllBytes, IsRow-bytes, IsBytes-front, IsBytes-back}
+use Rattle.ber_grammar.proofs.OctetLaws.{AllBytes, IsRow-bytes}
 use Rattle.ber_grammar.proofs.PlaceLaws.{elements-placed}
-use Rattle.ber_write.specs.Minimal.{length_octets, octets_of, uint_octets}
-use Rattle.ber_write.proofs.ElementLaws.{is_minimal}
+use Rattle.ber_write.specs.Minimal.{octets_of, uint_octets}
 use Rattle.ber_write.proofs.ShortestLaws.{uint_shortest}
 use Rattle.session_pres.specs.declared.codes.TheConstants.{FULLY_ENCODED_DATA, SINGLE_ASN1_TYPE, INTEGER, SEQUENCE}
 use Rattle.ber_grammar.specs.Fields.{AreFields, IsOnly}

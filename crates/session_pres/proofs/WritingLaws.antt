@@ -3,9 +3,8 @@ use Rattle.std.proofs.Common.{◌≡◌, ℕ, zero, suc, ◌+◌, ◌<◌, ◌�
 use Rattle.std.specs.Prelude.{OnOk, slice_get, unwrap_or}
 use Rattle.std.specs.List.{flat_map}
 use Rattle.std.specs.declared.alloc.AllocError.{AllocError}
-use Rattle.std.proofs.lemmas.Bool.{lt-ltb}
 use Rattle.std.proofs.lemmas.List.{length-append}
-use Rattle.ber_write.specs.Minimal.{tag_octets, length_octets, head_octets, octets_of, uint_octets, element_size}
+use Rattle.ber_write.specs.Minimal.{head_octets, octets_of, uint_octets, element_size}
 use Rattle.ber_write.proofs.LengthLaws.{octets_longer, headed, length_of_element}
 use Rattle.session_pres.specs.declared.codes.TheConstants.{USER_DATA, NORMAL_MODE_PARAMETERS, CONTEXT_RESULT_LIST, FULLY_ENCODED_DATA, SINGLE_ASN1_TYPE, INTEGER, SEQUENCE, SET}
 use Rattle.session_pres.specs.Written.{pdv_fields, pdv_list, user_octets, length_field, field, accept_item, accept_parameters, connect_item}

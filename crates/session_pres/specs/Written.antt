@@ -1,7 +1,7 @@
 -- What is written: each SPDU and PPDU in one form.
-use Rattle.std.specs.Prelude.{ℕ, ◌+◌, ◌/◌, ◌%◌, List, [], ◌∷◌, ◌++◌, length, nat_lt, if◌then◌else◌}
+use Rattle.std.specs.Prelude.{ℕ, ◌/◌, ◌%◌, List, [], ◌∷◌, ◌++◌, length, nat_lt, if◌then◌else◌}
 use Rattle.ber_grammar.specs.Element.{Element, IsRow}
-use Rattle.ber_write.specs.Minimal.{length_octets, octets_of, uint_octets}
+use Rattle.ber_write.specs.Minimal.{octets_of, uint_octets}
 use Rattle.session_pres.specs.declared.codes.TheConstants.{ACCEPT, GIVE_TOKENS, DATA_TRANSFER, USER_DATA, FULLY_ENCODED_DATA, SINGLE_ASN1_TYPE, INTEGER, SEQUENCE}
 
 -- ---- user data (ISO 8823-1, "User-data")
