@@ -40,7 +40,7 @@ use Rattle.assoc_table.specs.Standing.{Stands as AssociationsStand, ends_of}
 use Rattle.assoc_table.specs.Tables.{IsNumber, row_of, extended}
 use Rattle.control_core.specs.Standing.{Stands as ControlsStand}
 use Rattle.control_core.specs.Tables.{Table}
-use Rattle.control_core.proofs.TurnLaws.{fresh}
+use Rattle.bay_model.proofs.AskedLaws.{no-tests}
 use Rattle.bay_queues.specs.Standing.{reply_coming}
 use Rattle.bay_queues.specs.Taken.{reply_and}
 use Rattle.bay_queues.proofs.StandLaws as waits
@@ -248,7 +248,7 @@ module _ (s : State) (c : Config) (h : History) (t : ℕ) (actor : ActorNo) (a :
       let output = outputs.Reply x.before.items r.invoke x.reply in
       let same : output ≡ output_for m n t a.0 r past = ap₂ (λ (es : List ApplError) (p : Reply). outputs.Reply es r.invoke p) told.before told.reply in
       let w : State = put_after a.0 r.invoke x z in
-      let stands = counts w c n (at n t (answered a.0 output change) ∷ after_singles m a.0 n t ss past) (come.stands c n past output st.1 (fresh m h)) in
+      let stands = counts w c n (at n t (answered a.0 output change) ∷ after_singles m a.0 n t ss past) (come.stands c n past output st.1 (no-tests m h)) in
       let deed : answered a.0 output change ≡ answered a.0 (output_for m n t a.0 r past) change = ap (λ (o : Output). answered a.0 o change) same in (
         ap answers.Asked told.acts,
         accepted-as s u (record w { steps = suc w.steps }) c h turn st (fine-for room) behind

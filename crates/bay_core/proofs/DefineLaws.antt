@@ -4,7 +4,7 @@ use Rattle.std.specs.Prelude.{◌==◌, ◌&&◌, ◌||◌, unwrap_or, nat_le, n
 use Rattle.std.specs.List.{All, list_all, after_first}
 use Rattle.std.specs.Option.{option_map}
 use Rattle.std.specs.Str.{bytes_eq}
-use Rattle.std.proofs.lemmas.Bool.{and_parts}
+use Rattle.std.proofs.lemmas.Bool.{and_parts, or_parts}
 use Rattle.std.proofs.lemmas.Bool.Decides.{leb_tells, nat_tests}
 use Rattle.std.proofs.lemmas.List.{length-map}
 use Rattle.std.proofs.lemmas.List.Elements.{All-nil, All-cons}
@@ -196,10 +196,6 @@ no-fault false true t is = cc
 no-fault false false true is = cc
 no-fault false false false is = (refl, refl, refl)
 
-or-both : (x y : Bool) → (x || y) ≡ false → (x ≡ false) × (y ≡ false)
-or-both true y is = cc
-or-both false y is = (refl, is)
-
 -- the rows have the right of nodes to be members
 out-of-rows : (rows : List NodeRow) (n : ℕ) → length rows ≤ n → slice_index_or rows n no_row ≡ no_row
 out-of-rows [] n past = refl
@@ -250,9 +246,9 @@ module _ (c : Config) (served : IsServable c) where
   pub new-set : (book : Book) (name : SetName) (named : Bool) (ts : List Target) → named ≡ is_set_name (configured_model c) name → define_fault book name named (node_rows c) ts ≡ None → IsNewSet c book (defined_set name ts)
   new-set book name named ts is fine =
       let tests = no-fault (is_some (number_named name book)) (not named || is_empty ts || not (list_all (is_member (node_rows c)) ts)) (nat_lt 256 (length ts) || nat_le 64 (length book.sets - book.configured)) fine in
-      let fit = or-both (not named || is_empty ts) (not (list_all (is_member (node_rows c)) ts)) tests.1 in
-      let front = or-both (not named) (is_empty ts) fit.0 in
-      let few = or-both (nat_lt 256 (length ts)) (nat_le 64 (length book.sets - book.configured)) tests.2 in
+      let fit = or_parts (not named || is_empty ts) (not (list_all (is_member (node_rows c)) ts)) tests.1 in
+      let front = or_parts (not named) (is_empty ts) fit.0 in
+      let few = or_parts (nat_lt 256 (length ts)) (nat_le 64 (length book.sets - book.configured)) tests.2 in
       let members = members-of ts (not-false (list_all (is_member (node_rows c)) ts) fit.1) in
       let most : length ts ≤ 256 = grind (arith, nat_tests, few.0) in
       let room : length book.sets - book.configured < 64 = grind (arith, nat_tests, few.1) in

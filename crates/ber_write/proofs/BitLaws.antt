@@ -3,13 +3,14 @@ use Rattle.std.proofs.Common.{◌≡◌, ℕ, zero, suc, ◌+◌, ◌-◌, ◌*�
 use Rattle.std.specs.Prelude.{OnErr}
 use Rattle.std.specs.declared.alloc.AllocError.{AllocError}
 use Rattle.std.specs.List.{flat_map}
-use Rattle.std.proofs.lemmas.List.{take_at, length-take, take-append-drop, take-append-le}
+use Rattle.std.proofs.lemmas.List.{take_at, length-take, take-append-le}
 use Rattle.ber_grammar.specs.Octets.{IsBytes}
 use Rattle.ber_grammar.specs.Content.{octet_bits, bits_of, IsBits}
 use Rattle.ber_grammar.specs.Reading.{bits_at}
 use Rattle.ber_grammar.proofs.OctetLaws.{IsBytes-rest}
 use Rattle.ber_grammar.proofs.BitLaws.{bits_again, length-flat_bits}
 use Rattle.ber_write.specs.BitString.{weigh, octet, packed, unused_of, bit_octets, first_octet, HasClearEnd}
+use Rattle.list_laws.proofs.Appended.{still-begins}
 
 -- ---- a step of the loop
 
@@ -173,14 +174,9 @@ bits_only (unused ∷ octets) bits fits h clear =
 
 -- ---- what an error leaves
 
-pub kept_more : (old more mid new : List ℕ) → mid ≡ old ++ more → take (length mid) new ≡ mid → take (length old) new ≡ old
-kept_more old more mid new e h =
-    ap (take (length old)) (sym (take-append-drop (length mid) new) ∙ ap (λ (x : List ℕ). x ++ drop (length mid) new) (h ∙ e) ∙ append_assoc old more (drop (length mid) new))
-    ∙ take_at old (more ++ drop (length mid) new) (length old) refl
-
 pub kept_on : {A : Type 0} (r : Result A AllocError) (old more mid new : List ℕ) → mid ≡ old ++ more → OnErr r (take (length mid) new ≡ mid) → OnErr r (take (length old) new ≡ old)
 kept_on (Ok x) old more mid new e h = h
-kept_on (Err f) old more mid new e h = kept_more old more mid new e h
+kept_on (Err f) old more mid new e h = still-begins old more mid new e h
 
 pub kept_push : (old out grown : List ℕ) (o : ℕ) → take (length old) out ≡ old → grown ≡ out ++ o ∷ [] → take (length old) grown ≡ old
 kept_push old out grown o h e =

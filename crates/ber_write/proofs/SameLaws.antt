@@ -82,10 +82,10 @@ behind_0 a rest lt = rw (lt-ltb a 128 lt) refl
 behind_255 : (a : ℕ) (rest : List ℕ) → 128 ≤ a → strip (255 ∷ a ∷ rest) ≡ strip (a ∷ rest)
 behind_255 a rest le = rw (le-leb 128 a le) refl
 
-negative_word : (n : ℕ) → n < 2 ^ 63 → cast_unsigned w64 (negsuc n) ≡ 2 ^ 64 - 1 - n
+pub negative_word : (n : ℕ) → n < 2 ^ 63 → cast_unsigned w64 (negsuc n) ≡ 2 ^ 64 - 1 - n
 negative_word n small = omega (arith, small)
 
-positive_word : (n : ℕ) → n < 2 ^ 63 → cast_unsigned w64 (pos n) ≡ n
+pub positive_word : (n : ℕ) → n < 2 ^ 63 → cast_unsigned w64 (pos n) ≡ n
 positive_word n small = omega (arith, small)
 
 pub int_is_shortest : (v : ℤ) → IsWord v → int_octets v ≡ shortest (to_be_bytes w64 (cast_unsigned w64 v))

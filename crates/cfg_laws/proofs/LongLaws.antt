@@ -20,6 +20,7 @@ use Rattle.cfg_text.proofs.SpelledLineLaws.{below-length}
 use Rattle.cfg_text.proofs.ReadLineLaws.{key-is}
 use Rattle.cfg_refusals.specs.Lines.{IsLongItem, IsLongAttribute, IsLongSet, IsLongMember, IsLongBlock, HasCancel, IsLongControl, HasLong, IsLong}
 use Rattle.cfg_laws.proofs.StepLaws.{err_of}
+use Rattle.list_laws.proofs.Truths.{never as false-is}
 
 -- item names
 long-item : (before : List Line) (behind : ℕ) (item : List ℕ) → length item ≡ behind → (is_long_item before behind ≡ true) ↔ IsLongItem before item
@@ -32,9 +33,6 @@ long-item before behind item as_long = (there, back)
 
     back : IsLongItem before item → is_long_item before behind ≡ true
     back is = and_from _ _ (lt-ltb 0 _ is.0) (lt-ltb 63 _ (omega (arith, as_long, below-length (node_of before) item, is.1)))
-
-false-is : false ≡ true → ⊥
-false-is e = true≢false (sym e)
 
 long-attribute : (before : List Line) (ws : List (List ℕ)) → (is_long_attribute before ws ≡ true) ↔ IsLongAttribute before ws
 long-attribute before [] = (λ e. false-is e, λ a. absurd a)

@@ -23,8 +23,8 @@ use Rattle.bay_model.specs.Reports.{Offer, first_offer}
 use Rattle.bay_model.specs.Takes.{taken, given_by, given_report}
 use Rattle.bay_model.specs.Answers.{Turn, History, points, deed_at, singles_after}
 use Rattle.control_core.specs.CallsAccepted.{IsAccepted, AreAccepted, IsOf, IsNoCall, is_accepted, IsOper}
-use Rattle.control_core.proofs.EndingLaws.{false_true}
 use Rattle.control_core.proofs.SingleLaws.{IsBare, outcome, write-bare}
+use Rattle.list_laws.proofs.Truths.{never}
 
 -- what is bare is no call
 bare-none : (d : Deed) → IsBare d → IsNoCall d
@@ -161,7 +161,7 @@ opers_act c a k v past = by (went c k operate a v past) refl where
 
   reads : (x : Option Command) → is_command (control_of c k).kind operate x ≡ true
       → is_some {T = Act} (option_map_or (λ (m : Command). if m.test then None else Some (record { control = record { 0 = k }; value = value_of m.value; by = record { 0 = a } })) x None) ≡ not (option_map_or (λ (m : Command). m.test) x false)
-  reads None h = absurd (false_true h)
+  reads None h = absurd (never h)
   reads (Some m) h = test m.test where
     test : (b : Bool) → is_some {T = Act} (if b then None else Some (record { control = record { 0 = k }; value = value_of m.value; by = record { 0 = a } })) ≡ not b
     test true = refl

@@ -9,13 +9,11 @@ use Rattle.bay_model.specs.Associations.{ends}
 use Rattle.bay_model.specs.Controls.{Phase, Execution, underway, ended, orphaned, ends_by_done, ends_by_loss}
 use Rattle.bay_model.specs.Waiting.{Waiting, reply, ending, extended, is_underway, ends_for}
 use Rattle.control_core.specs.TerminationsWait.{endings, one_for, due_for, IsOpenWhile, IsRunnerOpen}
+use Rattle.list_laws.proofs.Truths.{never}
 
 -- a number, or none of it
 abbrev pub given : Bool → ℕ → ℕ
 given t n = if t then n else 0
-
-pub false_true : false ≡ true → ⊥
-false_true e = cc
 
 pub endings-append : (k : ℕ) (ws vs : List Waiting) → endings k (ws ++ vs) ≡ endings k ws + endings k vs
 endings-append k [] vs = omega arith
@@ -128,10 +126,10 @@ open-lost past p a (Some e) f h = either (e.by == a) refl where
   stays : (q : Phase) → (e.by == a) ≡ false → IsOpenWhile past e.by q → IsOpenWhile p e.by q
   stays underway i h = subst (λ o. is_some o ≡ true) (sym (f e.by (turned i))) h where
     turned : (e.by == a) ≡ false → (a == e.by) ≡ false
-    turned i = apart a e.by (λ s. false_true (sym i ∙ (ap (λ d. d == a) s ∙ same a)))
+    turned i = apart a e.by (λ s. never (sym i ∙ (ap (λ d. d == a) s ∙ same a)))
   stays ended i h = subst (λ o. is_some o ≡ true) (sym (f e.by (turned i))) h where
     turned : (e.by == a) ≡ false → (a == e.by) ≡ false
-    turned i = apart a e.by (λ s. false_true (sym i ∙ (ap (λ d. d == a) s ∙ same a)))
+    turned i = apart a e.by (λ s. never (sym i ∙ (ap (λ d. d == a) s ∙ same a)))
   stays orphaned i h = tt
 
   either : (t : Bool) → (e.by == a) ≡ t → IsRunnerOpen p (if t then ends_by_loss e e.phase else Some e)
@@ -147,7 +145,7 @@ due-closed past a (Some e) closed h = by e.phase h where
   by ended h = either (e.by == a) refl where
     either : (t : Bool) → (e.by == a) ≡ t → given t 1 ≡ 0
     either false i = refl
-    either true i = absurd (false_true (sym (ap is_some closed) ∙ (ap (λ d. is_some (ends d past)) (sym (same-of e.by a i)) ∙ h)))
+    either true i = absurd (never (sym (ap is_some closed) ∙ (ap (λ d. is_some (ends d past)) (sym (same-of e.by a i)) ∙ h)))
   by orphaned h = refl
 
 -- what runs for one runs for no other

@@ -25,10 +25,10 @@ use Rattle.bay_model.specs.Acceptance.{IsHistory}
 use Rattle.control_core.specs.TerminationsWait.{endings, due_for, asked}
 use Rattle.control_core.specs.ExecutionsAre.{Operated, followed, last_oper, is_done, is_loss, gives, was_done, was_lost, lost_before, is_among, is_over, tests_in, executed, first_for, ends_by}
 use Rattle.list_laws.proofs.Places.{same-number as same, same-of}
-use Rattle.control_core.proofs.EndingLaws.{false_true}
 use Rattle.control_core.proofs.SingleLaws.{IsQuiet, OfSingles, outcome, write-quiet}
-use Rattle.control_core.proofs.TurnLaws.{terminations_wait, fresh as fresh_tests}
-use Rattle.list_laws.proofs.Truths.{or-all}
+use Rattle.control_core.proofs.TurnLaws.{terminations_wait}
+use Rattle.list_laws.proofs.Truths.{or-all, never}
+use Rattle.bay_model.proofs.AskedLaws.{no-tests as fresh_tests}
 
 abbrev point : ℕ → ℕ → Deed → Point
 point n m d = record { moment = m; step = n; deed = d }
@@ -60,7 +60,7 @@ or-more false s false h = h
 or-wider : (t d l : Bool) → (t || d) ≡ true → (t || (d || l)) ≡ true
 or-wider true d l h = refl
 or-wider false true l h = refl
-or-wider false false l h = absurd (false_true h)
+or-wider false false l h = absurd (never h)
 
 abbrev after_done : State → State
 after_done begun = told
@@ -163,7 +163,7 @@ loss-one k n m b o x h = either (b == o.by) refl where
   apart e = by (o.by == b) refl where
     by : (u : Bool) → (o.by == b) ≡ u → u ≡ false
     by false f = refl
-    by true f = absurd (false_true (sym e ∙ turned-same o.by b f))
+    by true f = absurd (never (sym e ∙ turned-same o.by b f))
 
   either : (u : Bool) → (b == o.by) ≡ u → Reads k (followed (point n m (lost b)) o) (without b x)
   either true e = record {
@@ -374,7 +374,7 @@ puts k a good (Some o) x h = ap (ends_for a k good) h.runs ∙ by h.state h.is_a
     rest : (t d l : Bool) → (t || d) ≡ true → ((o.by == a) && false) ≡ ((o.by == a) && (not t && not d && not l))
     rest true d l h = refl
     rest false true l h = refl
-    rest false false l h = absurd (false_true h)
+    rest false false l h = absurd (never h)
   first left t s o_ l d v h = ap (put_if k good) (rest t d l h.2) where
     rest : (t d l : Bool) → l ≡ true → ((o.by == a) && false) ≡ ((o.by == a) && (not t && not d && not l))
     rest true d l h = refl
@@ -385,7 +385,7 @@ puts k a good (Some o) x h = ap (ends_for a k good) h.runs ∙ by h.state h.is_a
     rest true d l h = rw (and-false (o.by == a)) refl
     rest false true l h = rw (and-false (o.by == a)) refl
     rest false false true h = rw (and-false (o.by == a)) refl
-    rest false false false h = absurd (false_true h)
+    rest false false false h = absurd (never h)
 
   by : (st : State) → IsAt k o st → ends_for a k good (state_run o.by o.oper st) ≡ first_for a k good (Some o)
   by st is = first st _ _ _ _ _ _ is
@@ -407,8 +407,8 @@ rests k (Some o) x h none = ap finish h.runs ∙ (by h.state h.is_at none ∙ sy
   same_ : (st : State) (t s o_ l d v : Bool) → IsState st t s o_ l d v → ((not t && not d && not l) || (o_ && not v)) ≡ false → finish (state_run o.by o.oper st) ≡ state_run o.by o.oper st
   same_ told t s o_ l d v h none = refl
   same_ over t s o_ l d v h none = refl
-  same_ begun t s o_ l d v h none = absurd (false_true (sym none ∙ rw (h.0, h.3, h.4) refl))
-  same_ left t s o_ l d v h none = absurd (false_true (sym none ∙ rw (h.1, h.3) (or-all (not t && not d && not l))))
+  same_ begun t s o_ l d v h none = absurd (never (sym none ∙ rw (h.0, h.3, h.4) refl))
+  same_ left t s o_ l d v h none = absurd (never (sym none ∙ rw (h.1, h.3) (or-all (not t && not d && not l))))
 
   by : (st : State) → IsAt k o st → ends_by k o ≡ false → finish (state_run o.by o.oper st) ≡ state_run o.by o.oper st
   by st is none = same_ st _ _ _ _ _ _ is none

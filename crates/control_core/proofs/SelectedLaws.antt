@@ -24,9 +24,9 @@ use Rattle.bay_model.specs.Takes.{taken, given_by, given_report}
 use Rattle.bay_model.specs.Answers.{Turn, History, points, deed_at, singles_after}
 use Rattle.control_core.specs.SelectionsAre.{started, has_selected}
 use Rattle.list_laws.proofs.Places.{same-number as same, same-of}
-use Rattle.control_core.proofs.EndingLaws.{false_true}
 use Rattle.control_core.proofs.SingleLaws.{IsBare, OfSingles, outcome, write-bare}
 use Rattle.control_core.proofs.TurnLaws.{no-cause}
+use Rattle.list_laws.proofs.Truths.{never}
 
 abbrev point : ℕ → ℕ → Deed → Point
 point n m d = record { moment = m; step = n; deed = d }
@@ -69,7 +69,7 @@ over-all a here timeout None y none h = h
 over-all a here timeout (Some s) y none h = by (s.by == a) h where
   past_ : s.since + timeout ≤ here
   past_ = elim (nat_lt_tells here (s.since + timeout)) [
-    | inl t ↦ absurd (false_true (sym none ∙ ap (λ b. is_some (if b then Some s else None)) t.0))
+    | inl t ↦ absurd (never (sym none ∙ ap (λ b. is_some (if b then Some s else None)) t.0))
     | inr t ↦ t.1
   ]
 
@@ -94,28 +94,28 @@ agrees-ends a b here timeout None y h = by (b == a) where
 agrees-ends a b here timeout (Some s) y h = by (s.by == b) (s.by == a) (b == a) refl refl refl h where
   by : (t u w : Bool) → (s.by == b) ≡ t → (s.by == a) ≡ u → (b == a) ≡ w → AgreesBy here timeout s.since u y → Agrees a here timeout (if t then None else Some s) (if w then None else y)
   by true u true e f g h = tt
-  by true true false e f g h = absurd (false_true (sym g ∙ (ap (λ i. i == a) (sym (same-of s.by b e)) ∙ f)))
+  by true true false e f g h = absurd (never (sym g ∙ (ap (λ i. i == a) (sym (same-of s.by b e)) ∙ f)))
   by true false false e f g h = h
-  by false true true e f g h = absurd (false_true (sym e ∙ (ap (λ i. s.by == i) (same-of b a g ∙ sym (same-of s.by a f)) ∙ same s.by)))
+  by false true true e f g h = absurd (never (sym e ∙ (ap (λ i. s.by == i) (same-of b a g ∙ sym (same-of s.by a f)) ∙ same s.by)))
   by false false true e f g h = subst (λ i. AgreesBy here timeout s.since i None) (sym f) tt
   by false u false e f g h = subst (λ i. AgreesBy here timeout s.since i y) (sym f) h
 
 -- the time of b's selection, which stands, starts again
 agrees-renews : (a b here timeout : ℕ) (x : Option Selection) (y : Option ℕ) → is_by b (lasting here timeout x) ≡ true → Agrees a here timeout x y
     → Agrees a here timeout (option_and_then (λ (s : Selection). Some (if s.by == b then record s { since = here } else s)) x) (if b == a then option_map (λ s. here) y else y)
-agrees-renews a b here timeout None y mine h = absurd (false_true mine)
+agrees-renews a b here timeout None y mine h = absurd (never mine)
 agrees-renews a b here timeout (Some s) y mine h = by (s.by == b) (s.by == a) (b == a) refl refl refl (is_mine (nat_lt here (s.since + timeout)) mine) h where
   is_mine : (t : Bool) → is_by b (if t then Some s else None) ≡ true → (s.by == b) ≡ true
   is_mine true h = h
-  is_mine false h = absurd (false_true h)
+  is_mine false h = absurd (never h)
 
   by : (t u w : Bool) → (s.by == b) ≡ t → (s.by == a) ≡ u → (b == a) ≡ w → (s.by == b) ≡ true → AgreesBy here timeout s.since u y
       → Agrees a here timeout (Some (if t then record s { since = here } else s)) (if w then option_map (λ s. here) y else y)
-  by false u w e f g mine h = absurd (false_true (sym e ∙ mine))
+  by false u w e f g mine h = absurd (never (sym e ∙ mine))
   by true true true e f g mine h = subst (λ i. AgreesBy here timeout here i (option_map (λ s. here) y)) (sym f) (ap (option_map (λ s. here)) h)
   by true false false e f g mine h = subst (λ i. AgreesBy here timeout here i y) (sym f) h
-  by true true false e f g mine h = absurd (false_true (sym g ∙ (ap (λ i. i == a) (sym (same-of s.by b e)) ∙ f)))
-  by true false true e f g mine h = absurd (false_true (sym f ∙ (ap (λ i. s.by == i) (sym (same-of b a g)) ∙ e)))
+  by true true false e f g mine h = absurd (never (sym g ∙ (ap (λ i. i == a) (sym (same-of s.by b e)) ∙ f)))
+  by true false true e f g mine h = absurd (never (sym f ∙ (ap (λ i. s.by == i) (sym (same-of b a g)) ∙ e)))
 
 module _ (c : Model) (k : ℕ) (selectable : is_selectable c k ≡ true) where
   abbrev timeout : ℕ
@@ -183,8 +183,8 @@ module _ (c : Model) (k : ℕ) (selectable : is_selectable c k ≡ true) where
       yes (is_selectable c k) (is_by b (standing c k past)) selectable four.0 where
         yes : (s t : Bool) → s ≡ true → (s && not t) ≡ false → t ≡ true
         yes true true h i = refl
-        yes true false h i = absurd (false_true (sym i))
-        yes false t h i = absurd (false_true h)
+        yes true false h i = absurd (never (sym i))
+        yes false t h i = absurd (never h)
 
   calls : (n m b j : ℕ) (call : Call) (v : Value) (before : Past) → Holds before → went c j call b v (arrival n m ∷ before) ≡ accepted → Holds (point n m (called b j call v) ∷ before)
   calls n m b j select v before h is a = either (j == k) refl where
@@ -213,12 +213,12 @@ module _ (c : Model) (k : ℕ) (selectable : is_selectable c k ≡ true) where
   selects n m b j before h is a = either (j == k) refl where
     free : (x y z : Bool) → (x && y && z) ≡ true → z ≡ true
     free true true z h = h
-    free true false z h = absurd (false_true h)
-    free false y z h = absurd (false_true h)
+    free true false z h = absurd (never h)
+    free false y z h = absurd (never h)
 
     none_ : (x : Option Selection) → is_none x ≡ true → is_some x ≡ false
     none_ None h = refl
-    none_ (Some s) h = absurd (false_true h)
+    none_ (Some s) h = absurd (never h)
 
     either : (t : Bool) → (j == k) ≡ t → Agrees a (now (arrival n m ∷ before)) timeout (if t then Some (record { by = b; since = now (arrival n m ∷ before); command = None }) else selection c k before)
         (if t && (b == a) then Some (now (arrival n m ∷ before)) else started c k a before)

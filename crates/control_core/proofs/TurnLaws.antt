@@ -23,11 +23,13 @@ use Rattle.bay_model.specs.Services.{singles_of}
 use Rattle.bay_model.specs.Reports.{Offer, first_offer}
 use Rattle.bay_model.specs.Takes.{taken, given_by, given_report}
 use Rattle.bay_model.specs.Answers.{Turn, History, points, deed_at, singles_after}
-use Rattle.bay_model.specs.Acceptance.{IsHistory, fault_at, Fault, IsOpen, if_open}
+use Rattle.bay_model.specs.Acceptance.{IsHistory, fault_at, IsOpen}
 use Rattle.control_core.specs.TerminationsWait.{endings, due_for, IsOpenWhile, IsRunnerOpen, asked}
-use Rattle.list_laws.proofs.Places.{same-number as same, other-number as apart, same-of}
-use Rattle.control_core.proofs.EndingLaws.{given, false_true, endings-extended, told, told-append, done-puts, done-other, left, loss-own, loss-other, open-after, open-done, open-lost, due-closed, due-one, due-few}
+use Rattle.list_laws.proofs.Places.{same-number as same, same-of}
+use Rattle.control_core.proofs.EndingLaws.{given, endings-extended, told, told-append, done-puts, done-other, left, loss-own, loss-other, open-after, open-done, open-lost, due-closed, due-one, due-few}
 use Rattle.control_core.proofs.SingleLaws.{IsQuiet, OfSingles, outcome, write-quiet}
+use Rattle.list_laws.proofs.Truths.{never}
+use Rattle.bay_model.proofs.AskedLaws.{open-if, no-tests}
 
 abbrev point : ℕ → ℕ → Deed → Point
 point n m d = record { moment = m; step = n; deed = d }
@@ -120,7 +122,7 @@ not-running c k a v past h = either (is_command (control_of c k).kind operate (c
 
 pub none-runs : (x : Option Execution) → is_some x ≡ false → x ≡ None
 none-runs None h = refl
-none-runs (Some e) h = absurd (false_true (sym h))
+none-runs (Some e) h = absurd (never (sym h))
 
 -- what it adds to those that are pending, and to what runs
 operated-one : (a b k : ℕ) (v : Value) (enhanced test : Bool)
@@ -162,7 +164,7 @@ operates c n m a k v past h idle = record {
 } where
   now_ : (t : Bool) → t ≡ true → (if t then tests c n past ++ tests_of c (called a k operate v) else []) ≡ tests c n past ++ tests_of c (called a k operate v)
   now_ true h = refl
-  now_ false h = absurd (false_true h)
+  now_ false h = absurd (never h)
 
   tested : (b j : ℕ) → endings j (waiting c b (point n m (called a k operate v) ∷ past)) + pending a b j (tests c n (point n m (called a k operate v) ∷ past)) ≡ (endings j (waiting c b past) + pending a b j (tests c n past)) + pending a b j (tests_of c (called a k operate v))
   tested b j = ap (λ ks. endings j (waiting c b past) + pending a b j ks) (now_ (n == n) (same n)) ∙ omega (arith, pending-append a b j (tests c n past) (tests_of c (called a k operate v)))
@@ -213,13 +215,9 @@ replies c n m a o ch past h = record {
   either k true = refl
   either k false = refl
 
-pub fresh : (c : Model) (h : History) → tests c (length h) (points c h) ≡ []
-fresh c [] = refl
-fresh c (t ∷ h) = rw (apart (length h) (suc (length h)) (λ e. omega (arith, e))) refl
-
 begins : (c : Model) (h : History) (a : ℕ) → Settled c (points c h) → is_some (ends a (points c h)) ≡ true → Amid c (length h) a (points c h)
 begins c h a s open_ = record {
-  waits = λ b k. ap (λ ks. endings k (waiting c b (points c h)) + pending a b k ks) (fresh c h) ∙ (omega (arith, nothing_ b k) ∙ s.waits b k);
+  waits = λ b k. ap (λ ks. endings k (waiting c b (points c h)) + pending a b k ks) (no-tests c h) ∙ (omega (arith, nothing_ b k) ∙ s.waits b k);
   open_ = s.open_;
   asker = open_;
 } where
@@ -305,14 +303,10 @@ gives c n m a k good ws past h first = record {
       (rw (same a, f) (rest j ∙ (counts ∙ (ap (endings j) (sym first) ∙ h.waits a j)))) where
         counts : endings j ws ≡ endings j (ending k good ∷ ws)
         counts = rw f refl
-  either b j false true e f = rw (e, f) (subst (λ i. endings i (waiting c b past) ≡ 0) (same-of k j f) (h.waits b k ∙ due-one a b (execution c k past) (omega (arith, one)) (λ s. false_true (sym e ∙ (ap (λ i. a == i) s ∙ same a)))))
+  either b j false true e f = rw (e, f) (subst (λ i. endings i (waiting c b past) ≡ 0) (same-of k j f) (h.waits b k ∙ due-one a b (execution c k past) (omega (arith, one)) (λ s. never (sym e ∙ (ap (λ i. a == i) s ∙ same a)))))
   either b j false false e f = rw (e, f) (h.waits b j)
 
 -- ---- a turn
-
-open-if : (x : Option Ends) (a : ℕ) (f : Ends → Bool) (g : Option Fault) → if_open x a f g ≡ None → is_some x ≡ true
-open-if None a f g h = absurd (cc h)
-open-if (Some e) a f g h = refl
 
 closed-if : (x : Option Ends) (a : ℕ) → (if is_some x then Some (IsOpen a) else None) ≡ None → x ≡ None
 closed-if None a h = refl

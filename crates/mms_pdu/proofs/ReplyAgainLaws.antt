@@ -1,6 +1,6 @@
 -- What is spelled of what a server sends is read, and what is refused is refused so.
-use Rattle.std.proofs.Common.{◌≡◌, ◌≢◌, ℕ, ◌<◌, ◌⊎◌, ◌||◌, inl, inr, true, false, Bool, cond, eqb, List, [], ◌∷◌, length, Option, Some, None, Result, Ok, Err, refl, sym, ap, subst, ◌∙◌, arith}
-use Rattle.std.proofs.lemmas.Bool.{eq-eqb, ne_eqb}
+use Rattle.std.proofs.Common.{◌≡◌, ◌≢◌, ℕ, ◌<◌, ◌⊎◌, ◌||◌, inl, inr, true, false, cond, eqb, List, [], ◌∷◌, length, Option, Some, None, Result, Ok, Err, refl, sym, ap, subst, ◌∙◌, arith}
+use Rattle.std.proofs.lemmas.Bool.{eq-eqb, ne_eqb, or_parts}
 use Rattle.std.proofs.lemmas.List.{append-nil}
 use Rattle.list_laws.proofs.Options.{ok_is, err_is}
 use Rattle.ber_grammar.specs.Octets.{IsBytes}
@@ -185,10 +185,6 @@ error_unnumbered q fits none = rw (numbered_not 128 q fits none) refl
 reject_unnumbered : (q : Piece) → IsBytes q.octets → ((invoke : ℕ) (rest : List ℕ) → ¬ IsNumbered 128 q.octets invoke rest) → ((code : ℕ) → ¬ IsReason q.octets code) → plain (reject_in q) ≡ Err Invalid
 unfolding reject_in
 reject_unnumbered q fits none bare = rw (numbered_not 128 q fits none, no_reason q.octets fits bare) refl
-
-or_parts : (x y : Bool) → (x || y) ≡ false → (x ≡ false) × (y ≡ false)
-or_parts true y h = absurd cc
-or_parts false y h = (refl, h)
 
 sent_parts : (tag : ℕ) → is_sent tag ≡ false → (eqb tag 161 ≡ false) × (eqb tag 162 ≡ false) × (eqb tag 163 ≡ false) × (eqb tag 164 ≡ false) × (eqb tag 140 ≡ false)
 sent_parts tag h =

@@ -17,14 +17,12 @@ use Rattle.mms_pdu.specs.ReplyReading.{service_in, answer_in, service_error_in, 
 use Rattle.ber_grammar.proofs.FieldLaws.{whole_in_again, whole_in_found}
 use Rattle.mms_pdu.proofs.TaggedLaws.{numbered_found, numbered_none, numbered_bytes}
 use Rattle.mms_pdu.proofs.ReplyPartLaws.{service_again, service_found, service_error_again, service_error_found, reason_again, reason_found}
+use Rattle.list_laws.proofs.Options.{none_some as nothing}
 
 -- without where the octets lie
 abbrev pub plain : Result (Reply Piece) PduFault → Result (Reply (List ℕ)) PduFault
 plain (Ok r) = Ok (reply_octets r)
 plain (Err f) = Err f
-
-nothing : {A : Type 0} (x : A) → None ≡ Some x → ⊥
-nothing x e = cc
 
 -- ---- what is read
 

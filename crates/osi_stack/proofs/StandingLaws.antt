@@ -21,6 +21,7 @@ use Rattle.osi_stack.specs.Stream.{Stand, has_ended, Runs, Takes, count_of}
 use Rattle.osi_stack.specs.Going.{stand, IsUsable, counted, held_with, Went, WentAll, Why, Halts}
 use Rattle.osi_stack.specs.Standing.{Stands, IsRefusedAt, StopsAt}
 use Rattle.osi_stack.proofs.ConnectionLaws.{All-append, Takes-then, Takes-none, Takes-less}
+use Rattle.list_laws.proofs.Truths.{never-both}
 
 -- ---- nothing has come
 
@@ -106,9 +107,6 @@ goes_still from a b octets piece rest so_far before now fits s went all on = rec
 over_still : (a b : Link) → has_ended a.phase ≡ true → stand b ≡ stand a → has_ended b.phase ≡ true
 over_still a b over same = ap (λ (x : Stand). has_ended x.phase) same ∙ over
 
-not_both : (x : Bool) → x ≡ true → x ≡ false → ⊥
-not_both x over on = cc
-
 goes_nowhere : (from : Stand) (a b : Link) (octets piece rest : List ℕ) (so_far before now : List Event) → IsBytes piece → Stands from a octets so_far → (went : Went a b piece rest before now) → has_ended a.phase ≡ true → Stands from b (octets ++ piece) (so_far ++ went.given)
 goes_nowhere from a b octets piece rest so_far before now fits s went over =
     let o = over_with from (stand b) a octets piece (held_with b rest) so_far went.given s over went.takes in
@@ -116,8 +114,8 @@ goes_nowhere from a b octets piece rest so_far before now fits s went over =
     record {
       rest = s.rest ++ piece;
       at = record { fits = IsBytes-append octets piece s.at.fits fits; takes = o.1; left = inr end };
-      held = λ on. absurd (not_both (has_ended b.phase) end on);
-      count = λ on. absurd (not_both (has_ended b.phase) end on);
+      held = λ on. absurd (never-both (has_ended b.phase) end on);
+      count = λ on. absurd (never-both (has_ended b.phase) end on);
     }
 
 pub goes_on : (from : Stand) (a b : Link) (octets piece : List ℕ) (so_far before now : List Event) → IsBytes piece → Stands from a octets so_far → WentAll a b piece before now
@@ -145,7 +143,7 @@ refused_on (Refused layer code count) from t a octets piece bad so_far given s f
 
 refused_over : (f : StackFault) (from t : Stand) (a : Link) (octets bad : List ℕ) (events : List Event) (count : ℕ) → has_ended a.phase ≡ true → t ≡ stand a → Why f t bad count → IsRefusedAt f from octets events
 refused_over Memory from t a octets bad events count over same why = tt
-refused_over (Refused layer code told) from t a octets bad events count over same (still, stops, is) = absurd (not_both (has_ended t.phase) (ap (λ (x : Stand). has_ended x.phase) same ∙ over) still)
+refused_over (Refused layer code told) from t a octets bad events count over same (still, stops, is) = absurd (never-both (has_ended t.phase) (ap (λ (x : Stand). has_ended x.phase) same ∙ over) still)
 
 pub stops_at : (f : StackFault) (from : Stand) (a : Link) (octets piece : List ℕ) (so_far before now : List Event) → IsBytes piece → Stands from a octets so_far → Halts f a piece before now → StopsAt f from (octets ++ piece) so_far before now
 stops_at f from a octets piece so_far before now fits s h = by_phase (has_ended a.phase) refl

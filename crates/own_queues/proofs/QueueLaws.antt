@@ -4,7 +4,6 @@ use Rattle.std.specs.Prelude.{Option, None, Some, ◌||◌, is_none, is_some, na
 use Rattle.std.specs.Option.{option_map_or}
 use Rattle.std.proofs.lemmas.Bool.{eqb-true}
 use Rattle.std.proofs.lemmas.Bool.Decides.{nat_tests}
-use Rattle.list_laws.proofs.Places.{other-number}
 use Rattle.bay_model.specs.declared.answer.Output.{Output}
 use Rattle.bay_model.specs.declared.answer.Answer.TheVariants as answers
 use Rattle.bay_model.specs.declared.step.Step.{Step}
@@ -27,6 +26,7 @@ use Rattle.own_queues.proofs.SingleLaws.{IsStill, IsOne, opers_single, outcome, 
 use Rattle.own_queues.proofs.SetLaws.{opers_singles, named-only}
 use Rattle.own_queues.proofs.OwedLaws.{endings_in, endings-extended, all-endings, less, owed, done-level, still-owed, still-waiting, singles-waiting, singles-owe}
 use Rattle.waiting_laws.proofs.ShortLaws.{replies-extended, replies-told}
+use Rattle.bay_model.proofs.AskedLaws.{open-if, no-tests}
 
 -- ---- whether it is open
 
@@ -80,10 +80,6 @@ open_by_steps c (t ∷ h) a = opened-turn c a (length h) t t.step (points c h) �
 -- ---- an association that isn't open
 
 -- an Ask is accepted of an association that is open
-asked-open : (x : Option Ends) (a : ℕ) (f : Ends → Bool) (o : Option Fault) → if_open x a f o ≡ None → is_some x ≡ true
-asked-open None a f o h = absurd cc
-asked-open (Some x) a f o h = refl
-
 -- nothing waits for it, and it wrote nothing
 abbrev IsNothing : ℕ → ℕ → Type 0
 IsNothing n o = (n ≡ 0) × (o ≡ 0)
@@ -98,7 +94,7 @@ module _ (c : Model) (a : ℕ) where
   shut-turn h t (steps.Ask e r) goes zero is = either (e.0 == a) refl where
     either : (b : Bool) → (e.0 == a) ≡ b → IsNothing (if b then suc (waits a h) else waits a h) (if b then opers c a h + opers_of c r.service else opers c a h)
     either true same =
-        let asked : is_some (ends e.0 (points c h)) ≡ true = asked-open (ends e.0 (points c h)) e.0 (λ x. t.actor == x.opener) (if nat_le 16 (waiting_replies c e.0 (points c h)) then Some (QueueFull e.0) else None) goes in
+        let asked : is_some (ends e.0 (points c h)) ≡ true = open-if (ends e.0 (points c h)) e.0 (λ x. t.actor == x.opener) (if nat_le 16 (waiting_replies c e.0 (points c h)) then Some (QueueFull e.0) else None) goes in
         let clash : false ≡ true = sym is ∙ (sym (open_by_steps c h a) ∙ (ap (λ b. is_some (ends b (points c h))) (sym (eqb-true e.0 a same)) ∙ asked)) in
         absurd cc
     either false same = zero is
@@ -146,10 +142,6 @@ gave-none k n o l = (omega (arith, l.0), omega (arith, l.0, l.2), l.2)
 
 started : (r e k n o : ℕ) → IsLevel r e k n o → o ≡ 0 → IsLevel 0 0 k 0 0
 started r e k n o l none = (omega arith, omega (arith, l.2, none), omega (arith, l.2, none))
-
-fresh : (c : Model) (h : History) → tests c (length h) (points c h) ≡ []
-fresh c [] = refl
-fresh c (t ∷ h) = rw (other-number (length h) (suc (length h)) (λ e. omega (arith, e))) refl
 
 module _ (c : Model) (a : ℕ) where
   abbrev level : Past → ℕ → ℕ → Type 0
@@ -264,7 +256,7 @@ module _ (c : Model) (a : ℕ) where
         start-level (e.0 == a) (waits a h) (opers c a h) (waiting c a (points c h)) (owed c a (points c h)) l
         (λ is. (shut (ap (λ b. is_some (ends b (points c h))) (sym (eqb-true e.0 a is)) ∙ opens (is_some (ends e.0 (points c h))) e.0 goes)).1)
     level-turn h t (steps.Ask e r) goes shut l =
-        ask-level e.0 (length h) t.moment (waits a h) (opers c a h) (opers_of c r.service) _ (change_of c (points c h) r.service) (singles_of c (points c h) r.service) (points c h) (fresh c h) (named-only c apart h r.service) l
+        ask-level e.0 (length h) t.moment (waits a h) (opers c a h) (opers_of c r.service) _ (change_of c (points c h) r.service) (singles_of c (points c h) r.service) (points c h) (no-tests c h) (named-only c apart h r.service) l
     level-turn h t (steps.Write e b comp v) goes shut l = still-level (length h) t.moment (waits a h) (opers c a h) _ (points c h) (component_ c (arrival (length h) t.moment ∷ points c h) e.0 b.0 comp v) l
     level-turn h t (steps.Take e) goes shut l = take-level e.0 (length h) t.moment (waits a h) (opers c a h) (points c h) (λ is. (shut is).0) l
     level-turn h t (steps.Lost e) goes shut l = lost-level (e.0 == a) (waits a h) (opers c a h) (waiting c a (points c h)) (owed c a (points c h)) l

@@ -3,9 +3,8 @@ use Rattle.std.proofs.Common.{◌≡◌, ◌≢◌, ℕ, zero, suc, Bool, true, 
 use Rattle.std.specs.Prelude.{bytes_eq}
 use Rattle.std.specs.Option.{option_map}
 use Rattle.std.proofs.lemmas.Bool.{eqb-true, eq-eqb, cond_both}
-use Rattle.std.proofs.lemmas.Slice.Eq.{bytes_eq-Decides}
 use Rattle.list_laws.proofs.Options.{some_is, chosen, sides, map_some}
-use Rattle.list_laws.proofs.Distinct.{octets_same}
+use Rattle.list_laws.proofs.Distinct.{octets_same, octets_equal}
 use Rattle.ber_grammar.specs.Place.{Spot, Piece, content_piece}
 use Rattle.ber_grammar.specs.Reader.{and_then}
 use Rattle.ber_grammar.proofs.OptionLaws.{then_some}
@@ -19,11 +18,8 @@ use Rattle.session_pres.proofs.UserDataLaws.{context_found, context_again}
 
 -- ---- the same octets
 
-pub equal_octets : (xs ys : List ℕ) → xs ≡ ys → bytes_eq xs ys ≡ true
-equal_octets xs ys e = let d = bytes_eq-Decides xs ys in d.1 e
-
 pub other_octets : (xs ys : List ℕ) → bytes_eq xs ys ≡ false → xs ≢ ys
-other_octets xs ys e same = let true_too = equal_octets xs ys same in cc
+other_octets xs ys e same = let true_too = octets_equal xs ys same in cc
 
 not_same_at : (xs ys : List ℕ) (b : Bool) → bytes_eq xs ys ≡ b → xs ≢ ys → b ≡ false
 not_same_at xs ys true e other = absurd (other (octets_same xs ys e))
@@ -58,7 +54,7 @@ either_way false b = refl
 
 has_ber_again : (ss : List Spot) → HasBer ss → has_ber ss ≡ true
 has_ber_again [] h = absurd h
-has_ber_again (s ∷ ss) (inl (t, e)) = rw (eq-eqb s.element.tag OBJECT_IDENTIFIER t, equal_octets s.element.content ber e) refl
+has_ber_again (s ∷ ss) (inl (t, e)) = rw (eq-eqb s.element.tag OBJECT_IDENTIFIER t, octets_equal s.element.content ber e) refl
 has_ber_again (s ∷ ss) (inr h) = rw (has_ber_again ss h) (either_way (eqb s.element.tag OBJECT_IDENTIFIER) (bytes_eq s.element.content ber))
 
 says_found : (ss : List Spot) (b : Bool) → has_ber ss ≡ b → SaysBer b ss
@@ -153,7 +149,7 @@ first_found syntax (c ∷ cs) x h = first_at syntax c cs x (sides (bytes_eq c.sy
 
 first_again : (syntax : List ℕ) (cs : List Context) (place : ℕ) (d : Context) → IsFirst syntax cs place d → first_of syntax cs ≡ Some (place, d)
 first_again syntax [] place d h = absurd h
-first_again syntax (c ∷ cs) zero d h = rw (equal_octets c.syntax syntax h.0, h.1) refl
+first_again syntax (c ∷ cs) zero d h = rw (octets_equal c.syntax syntax h.0, h.1) refl
 first_again syntax (c ∷ cs) (suc n) d h = rw (octets_other c.syntax syntax h.0, first_again syntax cs n d h.1) refl
 
 pub chosen_found : (syntax : List ℕ) (contexts : List Context) (x : Chosen) → chosen_at syntax contexts ≡ Some x → IsChosen syntax contexts x

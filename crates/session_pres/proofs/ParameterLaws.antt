@@ -1,6 +1,6 @@
 -- The parameters of an SPDU, one after another.
 use Rattle.std.proofs.Common.{◌≡◌, ℕ, zero, suc, ◌+◌, ◌*◌, ◌<◌, ◌≤◌, Bool, true, false, cond, eqb, ltb, List, [], ◌∷◌, ◌++◌, length, take, drop, Option, Some, None, refl, sym, ap, subst, ◌∙◌, append_assoc, arith}
-use Rattle.std.specs.Prelude.{is_some, ◌&&◌}
+use Rattle.std.specs.Prelude.{is_some}
 use Rattle.std.specs.List.{AllByRecursion}
 use Rattle.std.specs.Option.{option_map}
 use Rattle.std.proofs.lemmas.Bool.{eqb-true, ltb-true, ltb-false, lt-ltb, le-ltb, eq-eqb, ne_eqb, cond_both, and_parts}
@@ -13,6 +13,7 @@ use Rattle.session_pres.specs.declared.codes.TheConstants.{CONNECT_ACCEPT_ITEM, 
 use Rattle.session_pres.specs.Places.{front, behind}
 use Rattle.session_pres.specs.Parameters.{IsLength, Parameter, BeginsWith, AreParameters, IsCut, IsUserOf, last_of}
 use Rattle.session_pres.specs.ParameterReading.{length_at, head_at, parameter_at, bounded_parameters, parameters_at, is_cut, all_cut, if_user, user_at}
+use Rattle.list_laws.proofs.Truths.{and-false}
 
 -- ---- a length
 
@@ -257,13 +258,9 @@ all_cut-more : (ps : List Parameter) (p : Parameter) → all_cut ps ≡ true →
 all_cut-more [] p h e = rw e refl
 all_cut-more (q ∷ ps) p h e = let b = and_parts (is_cut q) (all_cut ps) h in rw (b.0, all_cut-more ps p b.1 e) refl
 
-and_false : (b : Bool) → (b && false) ≡ false
-and_false true = refl
-and_false false = refl
-
 all_cut-uncut : (ps : List Parameter) (p : Parameter) (qs : List Parameter) → is_cut p ≡ false → all_cut (ps ++ (p ∷ qs)) ≡ false
 all_cut-uncut [] p qs e = rw e refl
-all_cut-uncut (q ∷ ps) p qs e = rw (all_cut-uncut ps p qs e) (and_false (is_cut q))
+all_cut-uncut (q ∷ ps) p qs e = rw (all_cut-uncut ps p qs e) (and-false (is_cut q))
 
 -- what was read before the rest
 abbrev pub UserGoes : Piece → Piece → Option Piece → Type 0

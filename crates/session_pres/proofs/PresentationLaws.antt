@@ -3,7 +3,7 @@ use Rattle.std.proofs.Common.{◌≡◌, ℕ, eqb, List, [], ◌∷◌, Option, 
 use Rattle.std.specs.Prelude.{bytes_eq}
 use Rattle.std.proofs.lemmas.Bool.{eqb-true, eq-eqb}
 use Rattle.list_laws.proofs.Options.{some_is, chosen}
-use Rattle.list_laws.proofs.Distinct.{octets_same}
+use Rattle.list_laws.proofs.Distinct.{octets_same, octets_equal}
 use Rattle.ber_grammar.specs.Place.{Spot, Piece, content_piece}
 use Rattle.ber_grammar.specs.Reader.{and_then, Gives, Reads}
 use Rattle.ber_grammar.proofs.OptionLaws.{then_some}
@@ -22,7 +22,7 @@ use Rattle.session_pres.specs.Presentation.{IsTagged, IsNormal, IsUser, Request,
 use Rattle.session_pres.specs.PresentationReading.{if_octets, normal_at, parameters_in, if_context, user_in, cp_at, accepted_at, cpa_at, ac_at}
 use Rattle.ber_grammar.proofs.FieldLaws.{fields_found, fields_again, only_with-found, only_with-again, field_with-found, field_with-again}
 use Rattle.session_pres.proofs.UserDataLaws.{pdv_list_found, pdv_list_again}
-use Rattle.session_pres.proofs.ListLaws.{equal_octets, context_list_found, context_list_again, chosen_found, chosen_again}
+use Rattle.session_pres.proofs.ListLaws.{context_list_found, context_list_again, chosen_found, chosen_again}
 use Rattle.session_pres.proofs.UnitLaws.{data_exact}
 use Rattle.ber_grammar.proofs.StepLaws.{Exact, then_exact, step_exact, required_exact, made_exact}
 
@@ -35,7 +35,7 @@ if_octets_found octets (Some p) part h =
     (c.1, subst (λ (x : Piece). x.octets ≡ octets) (some_is p part c.1) (octets_same p.octets octets c.0))
 
 if_octets_again : (octets : List ℕ) (o : Option Piece) (part : Piece) → o ≡ Some part → part.octets ≡ octets → if_octets octets o ≡ Some part
-if_octets_again octets o part p q = rw p (rw (equal_octets part.octets octets q) refl)
+if_octets_again octets o part p q = rw p (rw (octets_equal part.octets octets q) refl)
 
 normal_found : (fields : List Spot) (mode : Piece) → normal_at fields ≡ Some mode → IsNormal fields mode
 unfolding normal_at

@@ -10,6 +10,7 @@ use Rattle.sv_base.specs.declared.value.Value.TheVariants as kinds
 use Rattle.bay_model.specs.Model.{int, uint}
 use Rattle.sv_base.specs.Kinds.{is_in_range}
 use Rattle.bay_rooms.specs.Slots.{IsWidth}
+use Rattle.ber_write.proofs.SameLaws.{negative_word as negative, positive_word as positive}
 
 pub shortest_within : (octets : List ℕ) → length (shortest octets) ≤ length octets
 shortest_within [] = omega arith
@@ -84,12 +85,6 @@ high_4 n le lt = after_fulls (n / 256 ^ 7 % 256 ∷ n / 256 ^ 6 % 256 ∷ n / 25
     (omega (arith, le, lt), (omega (arith, le, lt), (omega (arith, le, lt), (omega (arith, le, lt), tt)))) (omega (arith, le, lt))
 
 -- ---- signed numbers of a type
-
-positive : (n : ℕ) → n < 2 ^ 63 → cast_unsigned w64 (pos n) ≡ n
-positive n small = omega (arith, small)
-
-negative : (n : ℕ) → n < 2 ^ 63 → cast_unsigned w64 (negsuc n) ≡ 2 ^ 64 - 1 - n
-negative n small = omega (arith, small)
 
 int_1 : (z : ℤ) → is_in_range (int 8) (kinds.Int z) ≡ true → length (shortest (to_be_bytes w64 (cast_unsigned w64 z))) ≤ 1
 int_1 (pos n) h = let lt = leb-true n 127 h in rw (positive n (omega (arith, lt))) (low_1 n (omega (arith, lt)))

@@ -20,9 +20,7 @@ use Rattle.bay_model.specs.Answers.{Turn, History, points, deed_at, singles_afte
 use Rattle.bay_model.proofs.Deeds.{OfSingles, outcome, component_}
 use Rattle.bay_model.proofs.EveryPoint.{Every, point}
 use Rattle.waiting_laws.specs.WaitsFor.{given_to, take_of}
-
-pub false_true : false ≡ true → ⊥
-false_true e = cc
+use Rattle.list_laws.proofs.Truths.{never}
 
 -- ---- queues
 
@@ -58,7 +56,7 @@ Gives c p before = (a : ℕ) → is_giving a p.deed ≡ true → 1 ≤ length (w
 giving-puts-nothing : (c : Model) (a n : ℕ) (d : Deed) (before : Past) → is_giving a d ≡ true → put_by c a n d before ≡ []
 giving-puts-nothing c a n (took e) before is = refl
 giving-puts-nothing c a n (terminated e k) before is = refl
-giving-puts-nothing c a n _ before is = absurd (false_true is)
+giving-puts-nothing c a n _ before is = absurd (never is)
 
 abbrev IsRest : List Waiting → ℕ → List Waiting → Type 0
 IsRest ws n all = (ws ≡ drop n all) × (n ≤ length all)
@@ -82,7 +80,7 @@ rest-of c (p ∷ before) every a = one (is_start a p.deed) (is_giving a p.deed) 
 
 module _ (c : Model) where
   quiet : (d : Deed) → ((a : ℕ) → is_giving a d ≡ false) → (n m : ℕ) (past : Past) → Gives c (point n m d) past
-  quiet d not n m past a is = absurd (false_true (sym (not a) ∙ is))
+  quiet d not n m past a is = absurd (never (sym (not a) ∙ is))
 
   of-singles : (n m : ℕ) (past : Past) → OfSingles c (arrival n m ∷ past) (λ d. Gives c (point n m d) past)
   of-singles n m past = record {
@@ -155,7 +153,7 @@ gives-first : (c : Model) (n m a : ℕ) (past : Past) (w : Waiting) (ws : List W
 gives-first c n m a past w ws is first = either (ends a past) is where
   either : (e : Option Ends) → is_some e ≡ true
       → (if is_none e then record { answer = answers.Closed; deed = nothing } else given_by c a (arrival n m ∷ past) (waiting c a past)) ≡ record { answer = answers.Taken (output_of c (arrival n m ∷ past) w); deed = deed_of_waiting a w }
-  either None o = absurd (false_true o)
+  either None o = absurd (never o)
   either (Some e) o = ap (given_by c a (arrival n m ∷ past)) first
 
 one-more : (n m a : ℕ) (past : Past) (w : Waiting) → given_to a (point n m (deed_of_waiting a w) ∷ past) ≡ suc (given_to a past)
