@@ -10,6 +10,7 @@ use Rattle.std.proofs.lemmas.List.Elements.{All-head, All-tail}
 use Rattle.std.proofs.lemmas.Option.{slice_get-map}
 use Rattle.list_laws.proofs.Among.{heads, tails}
 use Rattle.list_laws.proofs.Truths.{not-false}
+use Rattle.list_laws.proofs.Options.{map_some}
 
 -- ---- the first place, one further where the head does not pass
 
@@ -119,12 +120,8 @@ get-or P (x ∷ xs) zero d h all = All-head P x xs all
 get-or P (x ∷ xs) (suc n) d h all = get-or P xs n d h (All-tail P x xs all)
 
 -- of images
-image : {X Y : Type 0} (f : X → Y) (o : Option X) (y : Y) → option_map f o ≡ Some y → (x : X) × (o ≡ Some x) × (f x ≡ y)
-image f None y is = cc
-image f (Some x) y is = (x, refl, cc)
-
 pub got-map : {X Y : Type 0} (f : X → Y) (xs : List X) (i : ℕ) (y : Y) → slice_get (map f xs) i ≡ Some y → (x : X) × (slice_get xs i ≡ Some x) × (f x ≡ y)
-got-map f xs i y is = image f (slice_get xs i) y (sym (slice_get-map f xs i) ∙ is)
+got-map f xs i y is = map_some f (slice_get xs i) y (sym (slice_get-map f xs i) ∙ is)
 
 -- after one is set: the element that was set, or that from before
 pub got-set : {X : Type 0} (xs : List X) (i j : ℕ) (x z : X) → slice_get (slice_set xs i x) j ≡ Some z → ((j ≡ i) × (z ≡ x)) ⊎ ((j ≢ i) × (slice_get xs j ≡ Some z))
