@@ -11,6 +11,7 @@ use Rattle.actor_scripts.specs.declared.part.Reply.{Reply}
 use Rattle.actor_scripts.specs.declared.made.Made.{Made}
 use Rattle.actor_scripts.specs.Scripts.{turns_onto, reply_to, replies_of, made_from, made_of, made}
 use Rattle.actor_scripts.specs.Merging.{AreRight}
+use Rattle.list_laws.proofs.Options.{none_chosen, not_chosen}
 
 -- ---- elements of a list that one was added to
 
@@ -82,20 +83,11 @@ pub turns_more : (k : ℕ) (steps : List TimedStep) (s : TimedStep) (before : Hi
 turns_more k [] s before = refl
 turns_more k (x ∷ steps) s before = turns_more k steps s (turn_of x.moment k x.step ∷ before)
 
--- steps of others tell the actor nothing
-tail_none : (b : Bool) (e : Turn) (es : History) → cond b (e ∷ es) es ≡ [] → es ≡ []
-tail_none true e es h = absurd (cc h)
-tail_none false e es h = h
-
-not_told : (b : Bool) (e : Turn) (es : History) (xs ys : List Reply) → cond b (e ∷ es) es ≡ [] → cond b xs ys ≡ ys
-not_told true e es xs ys h = absurd (cc h)
-not_told false e es xs ys h = refl
-
 pub replies_skip : (c : Config) (k : ℕ) (between h : History) → by k between ≡ [] → replies_of c k (between ++ h) ≡ replies_of c k h
 replies_skip c k [] h none = refl
 replies_skip c k (e ∷ es) h none =
-    not_told (eqb e.actor k) e (by k es) (replies_of c k (es ++ h) ++ reply_to c (es ++ h) e ∷ []) (replies_of c k (es ++ h)) none
-    ∙ replies_skip c k es h (tail_none (eqb e.actor k) e (by k es) none)
+    not_chosen (eqb e.actor k) e (by k es) (replies_of c k (es ++ h) ++ reply_to c (es ++ h) e ∷ []) (replies_of c k (es ++ h)) none
+    ∙ replies_skip c k es h (none_chosen (eqb e.actor k) e (by k es) none)
 
 -- ---- places
 

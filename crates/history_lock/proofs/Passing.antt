@@ -27,6 +27,7 @@ use Rattle.history_lock.specs.Passes.{Known, IsIn, InSome, HasNumber, OfOthers, 
 use Rattle.history_lock.proofs.Steps.{by-append, by_mine}
 use Rattle.history_lock.proofs.Parts.{inside_below, inside_within, inside_above}
 use Rattle.list_laws.proofs.Truths.{never-both}
+use Rattle.list_laws.proofs.Options.{none_chosen, not_chosen}
 
 pub counted : (k : ℕ) (rs : List (ℕ × ℕ)) → InSome k rs → 0 < total (inside k) rs
 counted k [] h = absurd h
@@ -167,21 +168,12 @@ own_ok p q moment answer place step some t =
 pub own_err : (p q : Known) (moment : ℕ) (f : StepFault) (step : Step) → 0 < p.count → Turned p moment step (Err (faults.Step f)) q → own q ≡ own p
 own_err p q moment f step some t = ap own t.3.0 ∙ own_between p t.1 some t.2
 
--- where a step counts for nothing
-tail_empty : (b : Bool) (e : Turn) (es : History) → cond b (e ∷ es) es ≡ [] → es ≡ []
-tail_empty true e es h = absurd (cc h)
-tail_empty false e es h = h
-
-not_counted : {A : Type 0} (b : Bool) (e : Turn) (es : History) (xs ys : List A) → cond b (e ∷ es) es ≡ [] → cond b xs ys ≡ ys
-not_counted true e es xs ys h = absurd (cc h)
-not_counted false e es xs ys h = refl
-
 -- steps of others tell the actor nothing
 answers_skip : (c : Config) (k : ℕ) (between h : History) → by k between ≡ [] → answers_of c k (between ++ h) ≡ answers_of c k h
 answers_skip c k [] h none = refl
 answers_skip c k (e ∷ es) h none =
-    not_counted (eqb e.actor k) e (by k es) (answer (configured_model c) (es ++ h) e ∷ answers_of c k (es ++ h)) (answers_of c k (es ++ h)) none
-    ∙ answers_skip c k es h (tail_empty (eqb e.actor k) e (by k es) none)
+    not_chosen (eqb e.actor k) e (by k es) (answer (configured_model c) (es ++ h) e ∷ answers_of c k (es ++ h)) (answers_of c k (es ++ h)) none
+    ∙ answers_skip c k es h (none_chosen (eqb e.actor k) e (by k es) none)
 
 pub told_ok : (p q : Known) (moment : ℕ) (answer : Answer) (place : ℕ) (step : Step) → 0 < p.count → Turned p moment step (Ok (answer, place)) q
     → told q ≡ answer ∷ told p
@@ -199,8 +191,8 @@ told_err p q moment f step some t = ap told t.3.0 ∙ answers_skip p.config p.fi
 places_skip : (k : ℕ) (between h : History) → by k between ≡ [] → places_of k (between ++ h) ≡ places_of k h
 places_skip k [] h none = refl
 places_skip k (e ∷ es) h none =
-    not_counted (eqb e.actor k) e (by k es) (length (es ++ h) ∷ places_of k (es ++ h)) (places_of k (es ++ h)) none
-    ∙ places_skip k es h (tail_empty (eqb e.actor k) e (by k es) none)
+    not_chosen (eqb e.actor k) e (by k es) (length (es ++ h) ∷ places_of k (es ++ h)) (places_of k (es ++ h)) none
+    ∙ places_skip k es h (none_chosen (eqb e.actor k) e (by k es) none)
 
 pub placed_ok : (p q : Known) (moment : ℕ) (answer : Answer) (place : ℕ) (step : Step) → 0 < p.count → Turned p moment step (Ok (answer, place)) q
     → placed q ≡ place ∷ placed p

@@ -1,5 +1,5 @@
 -- Steps that may give nothing or fail, and which way a test went.
-use Rattle.std.proofs.Common.{◌≡◌, true, false, Bool, cond, ◌⊎◌, inl, inr, Option, Some, None, is_some, Result, Ok, Err, refl}
+use Rattle.std.proofs.Common.{◌≡◌, true, false, Bool, cond, List, [], ◌∷◌, ◌⊎◌, inl, inr, Option, Some, None, is_some, Result, Ok, Err, refl}
 use Rattle.std.specs.Option.{option_map, option_and_then}
 use Rattle.std.specs.Prelude.{not, is_none, IfOk}
 
@@ -69,3 +69,12 @@ sides false o p y e = inr (refl, e)
 pub either_way : {A P : Type 0} (b : Bool) (o p y : A) → cond b o p ≡ y → (b ≡ true → o ≡ y → P) → (b ≡ false → p ≡ y → P) → P
 either_way true o p y e f g = f refl e
 either_way false o p y e f g = g refl e
+
+-- what is nothing has nothing in front
+pub none_chosen : {X : Type 0} (b : Bool) (x : X) (xs : List X) → cond b (x ∷ xs) xs ≡ [] → xs ≡ []
+none_chosen true x xs h = absurd (cc h)
+none_chosen false x xs h = h
+
+pub not_chosen : {X Y : Type 0} (b : Bool) (x : X) (xs : List X) (u v : Y) → cond b (x ∷ xs) xs ≡ [] → cond b u v ≡ v
+not_chosen true x xs u v h = absurd (cc h)
+not_chosen false x xs u v h = refl

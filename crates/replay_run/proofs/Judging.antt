@@ -1,9 +1,8 @@
 -- From what was read and written to the status.
-use Rattle.std.proofs.Common.{◌≡◌, ◌≤◌, ◌<◌, ◌+◌, ◌-◌, ℕ, suc, List, [], ◌++◌, length, take, refl, sym, ap, ◌∙◌, arith, Bool, true, false, subst, inl, inr, append_assoc, append-nil, length-append}
+use Rattle.std.proofs.Common.{◌≡◌, ◌≤◌, ◌<◌, ◌+◌, ◌-◌, ℕ, suc, List, [], ◌++◌, length, take, refl, sym, ap, ◌∙◌, arith, Bool, true, false, subst, append_assoc, append-nil, length-append}
 use Rattle.std.specs.Prelude.{Option, None, Some, IfSome, nat_lt}
 use Rattle.std.specs.Io.KnownBytes.{Appends, Consumes, IsAtEnd}
 use Rattle.std.proofs.lemmas.Bool.{lt-ltb}
-use Rattle.std.proofs.lemmas.Bool.Decides.{leb_tells}
 use Rattle.std.proofs.lemmas.List.{take_all, take-append-le}
 use Rattle.record_outcome.specs.Moves.{Place, opening}
 use Rattle.record_outcome.specs.Records.{Outcome, limit, pieces, run, has_begun, ended, outcome, NoNewline}
@@ -14,24 +13,11 @@ use Rattle.record_session.specs.declared.reader.Reader.{Reader}
 use Rattle.record_outcome.specs.declared.status.Status.{Status}
 use Rattle.record_session.proofs.ReadingOn.{fed-ends}
 use Rattle.list_laws.proofs.Appended.{take-front}
-use Rattle.sv_io.proofs.Front.{append_twice}
-
-pub consumes-more : (old mid new : Option (List ℕ)) (xs ys : List ℕ) → Consumes old mid xs → Consumes mid new ys → Consumes old new (xs ++ ys)
-consumes-more None mid new xs ys h k = tt
-consumes-more (Some a) None new xs ys h k = absurd h
-consumes-more (Some a) (Some b) None xs ys h k = absurd k
-consumes-more (Some a) (Some b) (Some d) xs ys h k = h ∙ (ap (λ z. xs ++ z) k ∙ sym (append_assoc xs ys d))
-
-pub appends-none : (o : Option (List ℕ)) → Appends o o []
-appends-none None = tt
-appends-none (Some a) = sym (append-nil a)
-
-pub consumes-none : (o : Option (List ℕ)) → Consumes o o []
-consumes-none None = tt
-consumes-none (Some a) = refl
+use Rattle.std.proofs.KnownBytes.{Appends-trans, Appends-nil, Consumes-nil, Consumes-trans}
+use Rattle.list_laws.proofs.Places.{not-below}
 
 not_long : (b : List ℕ) → length b ≤ limit → nat_lt limit (length b) ≡ false
-not_long b h = elim (leb_tells (suc limit) (length b)) [ inl t ↦ absurd (omega (arith, t.1, h)) | inr t ↦ t.0 ]
+not_long b h = not-below limit (length b) h
 
 -- the octets up to the limit come to this
 answers-by : (b octets written : List ℕ) (long : Bool) (status : Status) (old new : Option (List ℕ)) → take limit b ≡ octets → run long 0 opening (pieces octets) ≡ record { status = status; text = written }
@@ -46,7 +32,7 @@ answers-by b octets written long status old new front mine is took = told (whole
     told e = (sym (ap (λ (o : Outcome). o.status) (e ∙ mine)), subst (Appends old new) (sym (ap (λ (o : Outcome). o.text) (e ∙ mine))) took)
 
 pub run-none : (reader : Reader) (left taken : Option (List ℕ)) → Fed reader [] [] → Run reader left left taken taken 0
-run-none reader left taken fed = record { octets = []; written = []; consumed = consumes-none left; took = appends-none taken; fed = fed; counted = refl }
+run-none reader left taken fed = record { octets = []; written = []; consumed = Consumes-nil left; took = Appends-nil taken; fed = fed; counted = refl }
 
 -- a piece more
 pub run-more : (old new : Reader) (left mid now taken told then : Option (List ℕ)) (count : ℕ) (piece : List ℕ) → Run old left mid taken told count → Consumes mid now piece → Takes None old new piece told then
@@ -56,8 +42,8 @@ run-more old new left mid now taken told then count piece r eaten takes =
     record {
       octets = r.octets ++ piece;
       written = r.written ++ t.added;
-      consumed = consumes-more left mid now r.octets piece r.consumed eaten;
-      took = append_twice taken told then r.written t.added r.took t.taken;
+      consumed = Consumes-trans left mid now r.octets piece r.consumed eaten;
+      took = Appends-trans taken told then r.written t.added r.took t.taken;
       fed = t.on;
       counted = length-append r.octets piece ∙ ap (λ n. n + length piece) r.counted;
     }
@@ -68,7 +54,7 @@ pub run-stops : (old new : Reader) (left mid now taken told then : Option (List 
 run-stops old new None mid now taken told then count piece status r eaten takes low = tt
 run-stops old new (Some b) mid now taken told then count piece status r eaten takes low =
     let t = takes r.octets r.written r.fed in
-    stopped now t.added (consumes-more (Some b) mid now r.octets piece r.consumed eaten) (append_twice taken told then r.written t.added r.took t.taken) t.on
+    stopped now t.added (Consumes-trans (Some b) mid now r.octets piece r.consumed eaten) (Appends-trans taken told then r.written t.added r.took t.taken) t.on
   where
     stopped : (now : Option (List ℕ)) (added : List ℕ) → Consumes (Some b) now (r.octets ++ piece) → Appends taken then (r.written ++ added)
         → Stopped status (r.octets ++ piece) (r.written ++ added) → Answers b status taken then
@@ -87,7 +73,7 @@ pub run-ends : (reader : Reader) (left mid now taken told : Option (List ℕ)) (
     → IsEnded status false reader → IfSome left (λ b. Answers b status taken told)
 run-ends reader None mid now taken told count status r eaten end part low by = tt
 run-ends reader (Some b) mid now taken told count status r eaten end part low by =
-    ended_ now (consumes-more (Some b) mid now r.octets [] r.consumed eaten) end
+    ended_ now (Consumes-trans (Some b) mid now r.octets [] r.consumed eaten) end
   where
     ended_ : (now : Option (List ℕ)) → Consumes (Some b) now (r.octets ++ []) → IsAtEnd now → Answers b status taken told
     ended_ None eaten end = absurd eaten
@@ -101,7 +87,7 @@ pub run-passes : (reader : Reader) (left mid now taken told : Option (List ℕ))
     → count ≡ limit → IsEnded status true reader → IfSome left (λ b. Answers b status taken told)
 run-passes reader None mid now taken told count more status r eaten some part full by = tt
 run-passes reader (Some b) mid now taken told count more status r eaten some part full by =
-    passed now (consumes-more (Some b) mid now r.octets more r.consumed eaten)
+    passed now (Consumes-trans (Some b) mid now r.octets more r.consumed eaten)
   where
     passed : (now : Option (List ℕ)) → Consumes (Some b) now (r.octets ++ more) → Answers b status taken told
     passed None eaten = absurd eaten

@@ -1,5 +1,5 @@
 -- What is written of an input, and with which status.
-use Rattle.std.proofs.Common.{◌≡◌, ℕ, List, [], sym, append-nil, inl, inr}
+use Rattle.std.proofs.Common.{◌≡◌, ℕ, List, inl, inr}
 use Rattle.std.specs.Prelude.{Vec, Option, None, Some, Result, Ok, Err, IfOk, IfSome}
 use Rattle.std.specs.Io.KnownBytes.{Appends}
 use Rattle.std.specs.declared.alloc.Global.{Global}
@@ -10,6 +10,7 @@ use Rattle.script_reading.specs.Plans.{Plan}
 use Rattle.script_reading.specs.Inputs.{Outcome, refused, ready}
 use Rattle.record_outcome.specs.Judgements.{IsRefusal}
 use Rattle.server_run.specs.Rehearsals.{Performs, PerformsInput, Rehearses, IsListed}
+use Rattle.std.proofs.KnownBytes.{Appends-nil}
 
 -- ---- of an input
 
@@ -37,10 +38,6 @@ refused-by o statuses.WriteFault is judged = absurd judged
 
 -- ---- of what is delivered
 
-pub appends-none : (old : Option (List ℕ)) → Appends old old []
-appends-none None = tt
-appends-none (Some xs) = sym (append-nil xs)
-
 pub record-delivered : (o : Outcome) (old new : Option (List ℕ)) (out : Vec ℕ Global) → PerformsInput o (Ok out) → Appends old new out.items → Rehearses o statuses.Ok old new
 record-delivered o old new out goes appends = (goes.0, out.items, goes.1, goes.2, appends)
 
@@ -48,9 +45,9 @@ pub front-delivered : (o : Outcome) (old new : Option (List ℕ)) (out : Vec ℕ
 front-delivered o old new out goes grows = (goes.0, out.items, goes.1, goes.2, grows)
 
 pub status-delivered : (o : Outcome) (status : Status) (old : Option (List ℕ)) → PerformsInput o (Err status) → Rehearses o status old old
-status-delivered o (statuses.Limit which line) old is = (is, appends-none old)
-status-delivered o (statuses.Record line kind) old is = (is, appends-none old)
-status-delivered o (statuses.Config line kind) old is = (is, appends-none old)
+status-delivered o (statuses.Limit which line) old is = (is, Appends-nil old)
+status-delivered o (statuses.Record line kind) old is = (is, Appends-nil old)
+status-delivered o (statuses.Config line kind) old is = (is, Appends-nil old)
 status-delivered o statuses.Ok old is = absurd is
 status-delivered o statuses.Words old is = absurd is
 status-delivered o statuses.Memory old is = absurd is

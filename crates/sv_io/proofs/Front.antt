@@ -1,9 +1,10 @@
 -- What is read from the front of octets in memory, and what is written piece by piece.
-use Rattle.std.proofs.Common.{◌≡◌, ◌≤◌, ◌<◌, ◌+◌, ◌-◌, ℕ, List, [], ◌++◌, length, take, drop, ap, sym, ◌∙◌, arith, length-take, length-drop, length-append, min, append_assoc, subst}
+use Rattle.std.proofs.Common.{◌≡◌, ◌≤◌, ◌<◌, ◌+◌, ◌-◌, ℕ, List, [], ◌++◌, length, take, drop, ap, sym, ◌∙◌, arith, length-take, length-drop, length-append, min, subst}
 use Rattle.std.proofs.lemmas.List.{drop-drop, take-append-drop, take_all, nil_from_length}
 use Rattle.std.proofs.Math.Seq.{take-append_seam, take-add}
 use Rattle.std.specs.Prelude.{Option, None, Some}
 use Rattle.std.specs.Io.KnownBytes.{Appends, Keeps}
+use Rattle.std.proofs.KnownBytes.{Appends-trans}
 
 pub reads : (octets buf copied : List ℕ) (start n : ℕ) → copied ≡ take n (drop start octets) → n ≤ length (drop start octets)
     → drop start octets ≡ take n (copied ++ buf) ++ drop (start + n) octets
@@ -25,13 +26,6 @@ ended octets start n room e h z = nil_from_length (drop (start + n) octets) (rw 
 pub whole : (octets : List ℕ) (start : ℕ) → take (length octets - start) (drop start octets) ≡ drop start octets
 whole octets start = take_all (length octets - start) (drop start octets) (rw length-drop (omega arith))
 
--- known octets that grew by one list and then by another
-pub append_twice : (first middle last : Option (List ℕ)) (xs ys : List ℕ) → Appends first middle xs → Appends middle last ys → Appends first last (xs ++ ys)
-append_twice None middle last xs ys p q = tt
-append_twice (Some old) None last xs ys p q = absurd p
-append_twice (Some old) (Some now) None xs ys p q = absurd q
-append_twice (Some old) (Some now) (Some new) xs ys p q = q ∙ (ap (λ z. z ++ ys) p ∙ append_assoc old xs ys)
-
 -- a front of the piece was appended, and this is the rest of it
 abbrev pub IsWritten : Option (List ℕ) → Option (List ℕ) → List ℕ → List ℕ → Type 0
 IsWritten old now piece rest = (n : ℕ) × (n ≤ length piece) × (rest ≡ drop n piece) × Appends old now (take n piece)
@@ -42,7 +36,7 @@ written_more first middle last piece rest k p h q = (
   p.0 + k,
   omega (arith, p.1, rw (p.2, length-drop) at h),
   whole rest k ∙ (ap (drop k) p.2 ∙ drop-drop k p.0 piece),
-  rw (take-add p.0 k piece) (append_twice first middle last (take p.0 piece) (take k (drop p.0 piece)) p.3 (subst (λ z. Appends middle last (take k z)) p.2 q)),
+  rw (take-add p.0 k piece) (Appends-trans first middle last (take p.0 piece) (take k (drop p.0 piece)) p.3 (subst (λ z. Appends middle last (take k z)) p.2 q)),
 )
 
 pub keeps_appended : (first middle last : Option (List ℕ)) (piece : List ℕ) → Appends first middle piece → Keeps middle last → Appends first last piece
