@@ -16,4 +16,4 @@ loop-line-preserved c = c.loop-line.invariant
 
 pub returns : goal.returns
 unfolding lines_at
-returns c = subst (λ r. GivesText c.finish.result r) (sym (c.loop-line.invariant ∙ told-rest c.loop-line.reading c.loop-line.rest.now c.in_default.ensures.cut)) c.finish.ensures
+returns c = subst (λ r. GivesText c.finish.result r) (sym (c.loop-line.invariant ∙ told-rest c.loop-line.reading c.loop-line.rest.now c.in_default.ensures)) c.finish.ensures
