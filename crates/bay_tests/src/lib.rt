@@ -1,4 +1,4 @@
-//! Tests of the bay's model and its parts: each public call with what it answers.
+//! Tests of the bay's model, of its parts and of the lock around it: each public call with what it answers.
 #![tactic(auto)]
 
 // plain types
@@ -19,8 +19,26 @@ mod associations;
 #[cfg(test)]
 mod blocks;
 #[cfg(test)]
+mod book;
+#[cfg(test)]
+mod controls;
+#[cfg(test)]
 mod entries;
+#[cfg(test)]
+mod groups;
+#[cfg(test)]
+mod touched;
 #[cfg(test)]
 mod triggers;
 #[cfg(test)]
 mod values;
+#[cfg(test)]
+mod windows;
+
+// the example bay behind a lock, steps of it, and its histories
+#[cfg(test)]
+mod example;
+#[cfg(test)]
+mod turns;
+#[cfg(test)]
+mod work;
