@@ -116,10 +116,11 @@ pub fn put(out: &mut Vec<u8>, tag: u32, content: &[u8]) -> Result<(), AllocError
 }
 
 /// Adds the element with this tag and this content. Where the content is longer than a length field can say, it fails as it does
-/// without memory.
+/// without memory; `out` is then as it was.
 pub fn add(out: &mut Vec<u8>, tag: u32, content: &[u8]) -> Result<(), AllocError>
     requires { CanBeTag tag }
-    ensures { OnOk result (out.new.items ≡ out.old.items ++ octets_of tag content.now) }
+    ensures ok { OnOk result (out.new.items ≡ out.old.items ++ octets_of tag content.now) }
+    ensures err { OnErr result (out.new.items ≡ out.old.items) }
 {
     if content.len() > u32::MAX as usize {
         return Err(AllocError);

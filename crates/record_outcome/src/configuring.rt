@@ -10,7 +10,8 @@ use crate::status::Status;
 use cfg_text::{CfgFault, Kind, read_config};
 use std::alloc::{AllocError, Global};
 
-/// Puts a line of the configuration behind those before it; gives whether it is the last one.
+/// Puts a line of the configuration behind those before it; gives whether it is the last one. Where memory is wanting, the text may
+/// end within the line.
 pub fn gather(text: &mut Vec<u8>, line: &[u8]) -> Result<bool, AllocError>
     ensures text { OnOk result (text.new.items ≡ text.old.items ++ (line.now ++ 10 ∷ [])) }
     ensures end { IfOk result (λ b. b ≡ bytes_eq line.now (codes "end")) }
