@@ -10,17 +10,15 @@ use Rattle.sv_base.proofs.numbers.CtlNo.TheSendSync as control
 use Rattle.sv_base.proofs.value.Values.TheLaws.TheKnot as data_values
 use Rattle.sv_base.specs.contracts.value.Value as Value
 use Rattle.sv_base.specs.contracts.value.Values as DataValues
+use Rattle.sv_base.proofs.list.List.TheSendSync as list
 use Rattle.bay_model.proofs.request.Scope.TheSendSync as scope
 use Rattle.bay_model.proofs.request.Target.TheSendSync as target
-use Rattle.bay_model.proofs.request.Targets.TheSendSync as targets
-use Rattle.bay_model.proofs.request.SetNames.TheSendSync as set_names
+use Rattle.bay_model.proofs.request.SetName.TheSendSync as set_name
 use Rattle.sv_base.proofs.components.Comp.TheSendSync as component
 use Rattle.bay_model.specs.contracts.request.Write as Write
-use Rattle.bay_model.specs.contracts.request.Writes as Writes
 use Rattle.bay_model.specs.contracts.request.Service as Service
 use Rattle.bay_model.specs.contracts.request.Request as Request
 use Rattle.bay_model.specs.contracts.step.Setting as Setting
-use Rattle.bay_model.specs.contracts.step.Sets as Sets
 use Rattle.bay_model.specs.contracts.step.Step as Step
 
 value_field_sync : IsSync Value.the_field.row
@@ -32,11 +30,8 @@ data_values_sync = search (crosses, data_values.crosses, sendable) depth 60
 write_sync : IsSync Write.the_row
 write_sync = search (target.the_field_sync, value_field_sync, sendable) depth 60
 
-writes_sync : IsSync Writes.the_row
-writes_sync = search (write_sync, crosses, sendable) depth 60
-
 service_field_sync : IsSync Service.the_field.row
-service_field_sync = search (octs.the_sync, scope.the_field_sync, target.the_field_sync, targets.the_sync, set_names.the_sync, writes_sync, data_values_sync, crosses, sendable) depth 60
+service_field_sync = search (octs.the_sync, scope.the_field_sync, target.the_sync, target.the_field_sync, set_name.the_sync, write_sync, list.the_sync, data_values_sync, crosses, sendable) depth 60
 
 request_field_sync : IsSync Request.the_field.row
 request_field_sync = search (service_field_sync, sendable) depth 60
@@ -44,11 +39,8 @@ request_field_sync = search (service_field_sync, sendable) depth 60
 setting_sync : IsSync Setting.the_row
 setting_sync = search (attr.the_field_sync, value_field_sync, sendable) depth 60
 
-sets_sync : IsSync Sets.the_row
-sets_sync = search (setting_sync, crosses, sendable) depth 60
-
 pub step_field_sync : IsSync Step.the_field.row
-step_field_sync = search (association.the_field_sync, actor.the_field_sync, request_field_sync, block_number.the_field_sync, component.the_field_sync, value_field_sync, sets_sync, control.the_field_sync, sendable) depth 60
+step_field_sync = search (association.the_field_sync, actor.the_field_sync, request_field_sync, block_number.the_field_sync, component.the_field_sync, value_field_sync, setting_sync, list.the_sync, control.the_field_sync, sendable) depth 60
 
 pub step_sync : IsSync Step.the_row
 step_sync = search (step_field_sync, sendable)

@@ -1,7 +1,6 @@
 //! Reports of a block's entries (IEC 61850-7-2, the Report service and its report format).
 
-use std::marker::Model;
-use sv_base::{Bits, BlockNo, MemberNo, Moment, Octs};
+use sv_base::{Bits, BlockNo, List, MemberNo, Moment, Octs};
 
 /// Why a member stands in a report (IEC 61850-7-2, ReasonForInclusion).
 #[derive(Clone, Copy, Debug)]
@@ -53,65 +52,7 @@ pub struct Member {
 }
 
 /// The members of a report, in the order of the data set.
-#[derive(Debug, Drop)]
-pub struct Members {
-    items: Vec<Member>,
-}
-
-impl Model for Members {
-    ghost use Rattle.std.specs.Prelude.{List};
-    ghost use Rattle.bay_model.specs.declared.report.Member.{Member};
-
-    ghost Value = { List Member };
-
-    ghost view = { λ l. l.items.items };
-}
-
-impl Members {
-    ghost use Rattle.std.specs.Prelude.{◌≡◌, ◌==◌, length, slice_get, option_copied};
-
-    /// The row of these members. It takes no memory.
-    pub fn from_vec(items: Vec<Member>) -> Self
-        ensures { result ≡ items.items }
-    {
-        Members { items }
-    }
-
-    /// The members. It takes no memory.
-    pub fn into_vec(self) -> Vec<Member>
-        ensures { result.items ≡ self }
-    {
-        self.items
-    }
-
-    /// How many members there are.
-    pub fn len(&self) -> usize
-        ensures { result ≡ length self.now }
-    {
-        self.items.len()
-    }
-
-    /// There is no member.
-    pub fn is_empty(&self) -> bool
-        ensures { result ≡ (length self.now == 0) }
-    {
-        self.items.is_empty()
-    }
-
-    /// The member at a place, counted from 0; none exactly where the row is no longer than that.
-    pub fn get(&self, i: usize) -> Option<&Member>
-        ensures { option_copied result ≡ slice_get self.now i }
-    {
-        self.items.get(i)
-    }
-
-    /// The members, borrowed.
-    pub fn as_slice(&self) -> &[Member]
-        ensures { result.now ≡ self.now }
-    {
-        &self.items
-    }
-}
+pub type Members = List<Member>;
 
 /// A report of one entry of a block (IEC 61850-7-2, the report format).
 #[derive(Debug, Drop)]

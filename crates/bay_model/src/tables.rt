@@ -4,7 +4,7 @@ use crate::{Nodes, SetName};
 use std::alloc::{AllocError, Global};
 use std::marker::Model;
 use std::sync::Arc;
-use sv_base::{AttrId, NodeId, TypeOf};
+use sv_base::{AttrId, List, NodeId, TypeOf};
 
 /// The attributes of a node, in the order of its type: a part of a row, which others may share.
 #[derive(Debug, Drop)]
@@ -129,70 +129,7 @@ pub struct NodeRow {
 }
 
 /// The nodes by their numbers.
-#[derive(Debug, Drop)]
-pub struct NodeTable {
-    items: Vec<NodeRow>,
-}
-
-impl Model for NodeTable {
-    ghost use Rattle.std.specs.Prelude.{List};
-    ghost use Rattle.bay_model.specs.declared.tables.NodeRow.{NodeRow};
-
-    ghost Value = { List NodeRow };
-
-    ghost use Rattle.std.specs.Coded.{codes};
-    ghost use Rattle.sv_base.specs.Types.{fields_code};
-
-    ghost coded = { Prim.hlevel (codes, fields_code) };
-
-    ghost view = { λ l. l.items.items };
-}
-
-impl NodeTable {
-    ghost use Rattle.std.specs.Prelude.{◌≡◌, ◌==◌, length, slice_get, option_copied};
-
-    /// The row of these nodes. It takes no memory.
-    pub fn from_vec(items: Vec<NodeRow>) -> Self
-        ensures { result ≡ items.items }
-    {
-        NodeTable { items }
-    }
-
-    /// The nodes. It takes no memory.
-    pub fn into_vec(self) -> Vec<NodeRow>
-        ensures { result.items ≡ self }
-    {
-        self.items
-    }
-
-    /// How many nodes there are.
-    pub fn len(&self) -> usize
-        ensures { result ≡ length self.now }
-    {
-        self.items.len()
-    }
-
-    /// There is no node.
-    pub fn is_empty(&self) -> bool
-        ensures { result ≡ (length self.now == 0) }
-    {
-        self.items.is_empty()
-    }
-
-    /// The node at a place, counted from 0; none exactly where the row is no longer than that.
-    pub fn get(&self, i: usize) -> Option<&NodeRow>
-        ensures { option_copied result ≡ slice_get self.now i }
-    {
-        self.items.get(i)
-    }
-
-    /// The nodes, borrowed.
-    pub fn as_slice(&self) -> &[NodeRow]
-        ensures { result.now ≡ self.now }
-    {
-        &self.items
-    }
-}
+pub type NodeTable = List<NodeRow>;
 
 /// A data set: its name and the nodes that are its members.
 #[derive(Debug, Drop)]
@@ -202,62 +139,4 @@ pub struct SetRow {
 }
 
 /// The configured data sets, in the order of the configuration.
-#[derive(Debug, Drop)]
-pub struct SetTable {
-    items: Vec<SetRow>,
-}
-
-impl Model for SetTable {
-    ghost use Rattle.std.specs.Prelude.{List};
-    ghost use Rattle.bay_model.specs.declared.tables.SetRow.{SetRow};
-
-    ghost Value = { List SetRow };
-
-    ghost view = { λ l. l.items.items };
-}
-
-impl SetTable {
-    ghost use Rattle.std.specs.Prelude.{◌≡◌, ◌==◌, length, slice_get, option_copied};
-
-    /// The row of these data sets. It takes no memory.
-    pub fn from_vec(items: Vec<SetRow>) -> Self
-        ensures { result ≡ items.items }
-    {
-        SetTable { items }
-    }
-
-    /// The data sets. It takes no memory.
-    pub fn into_vec(self) -> Vec<SetRow>
-        ensures { result.items ≡ self }
-    {
-        self.items
-    }
-
-    /// How many data sets there are.
-    pub fn len(&self) -> usize
-        ensures { result ≡ length self.now }
-    {
-        self.items.len()
-    }
-
-    /// There is no data set.
-    pub fn is_empty(&self) -> bool
-        ensures { result ≡ (length self.now == 0) }
-    {
-        self.items.is_empty()
-    }
-
-    /// The data set at a place, counted from 0; none exactly where the row is no longer than that.
-    pub fn get(&self, i: usize) -> Option<&SetRow>
-        ensures { option_copied result ≡ slice_get self.now i }
-    {
-        self.items.get(i)
-    }
-
-    /// The data sets, borrowed.
-    pub fn as_slice(&self) -> &[SetRow]
-        ensures { result.now ≡ self.now }
-    {
-        &self.items
-    }
-}
+pub type SetTable = List<SetRow>;

@@ -6,24 +6,22 @@ use Rattle.sv_base.proofs.value.Values.TheLaws.TheKnot as values
 use Rattle.sv_base.proofs.octs.Octs.TheSendSync as octs
 use Rattle.sv_base.proofs.short.ShortOcts.TheSendSync as short
 use Rattle.sv_base.proofs.shared.SharedOcts.TheSendSync as shared
-use Rattle.sv_base.proofs.lists.LnDefs.TheSendSync as nodes
-use Rattle.sv_base.proofs.lists.SetDefs.TheSendSync as sets
-use Rattle.sv_base.proofs.lists.BlockDefs.TheSendSync as blocks
-use Rattle.sv_base.proofs.lists.SgDefs.TheSendSync as groups
+use Rattle.sv_base.proofs.config.LnDef.TheSendSync as node_def
+use Rattle.sv_base.proofs.config.SetDef.TheSendSync as set_def
+use Rattle.sv_base.proofs.config.BlockDef.TheSendSync as block_def
+use Rattle.sv_base.proofs.config.SgDef.TheSendSync as group_def
 use Rattle.sv_base.specs.contracts.types.TypeOf as TypeOf
 use Rattle.sv_base.proofs.few.Few.TheSendSync as few
+use Rattle.sv_base.proofs.list.List.TheSendSync as list
 use Rattle.sv_base.specs.contracts.value.Value as Value
 use Rattle.sv_base.specs.contracts.first_values.FirstValues as FirstValues
 use Rattle.sv_base.specs.contracts.config.AttrDef as AttrDef
 use Rattle.sv_base.specs.contracts.config.CtlDef as CtlDef
 use Rattle.sv_base.specs.contracts.config.Config as Config
-use Rattle.sv_base.specs.contracts.lists.AttrDefs as AttrDefs
-use Rattle.sv_base.specs.contracts.lists.CtlDefs as CtlDefs
 use Rattle.bay_model.proofs.tables.AttrIds.TheSendSync as ids
-use Rattle.bay_model.proofs.tables.SetTable.TheSendSync as set_table
+use Rattle.bay_model.proofs.tables.SetRow.TheSendSync as set_row
 use Rattle.bay_model.specs.contracts.tables.MemberShape as MemberShape
 use Rattle.bay_model.specs.contracts.tables.NodeRow as NodeRow
-use Rattle.bay_model.specs.contracts.tables.NodeTable as NodeTable
 use Rattle.object_names.specs.contracts.attributes.AttrRow as AttrRow
 use Rattle.octet_rows.proofs.index.Index.TheSendSync as indexes
 use Rattle.object_model.specs.contracts.listing.Directory as Directory
@@ -52,17 +50,11 @@ attr_field_send = search (kind_field_send, values_send, short.the_send, shared.t
 attr_send : IsSend AttrDef.the_row
 attr_send = search (attr_field_send, sendable)
 
-attrs_send : IsSend AttrDefs.the_row
-attrs_send = search (attr_send, crosses, sendable) depth 60
-
 control_send : IsSend CtlDef.the_row
 control_send = search (kind_field_send, octs.the_send, sendable) depth 60
 
-controls_send : IsSend CtlDefs.the_row
-controls_send = search (control_send, crosses, sendable) depth 60
-
 config_field_send : IsSend Config.the_field.row
-config_field_send = search (attrs_send, controls_send, octs.the_send, nodes.the_send, sets.the_send, blocks.the_send, groups.the_send, sendable) depth 60
+config_field_send = search (list.the_send, attr_send, control_send, octs.the_send, node_def.the_send, set_def.the_send, block_def.the_send, group_def.the_send, sendable) depth 60
 
 pub config_send : IsSend Config.the_row
 config_send = search (config_field_send, sendable)
@@ -77,9 +69,6 @@ shape_send = search (shape_field_send, sendable)
 node_send : IsSend NodeRow.the_row
 node_send = search (shape_field_send, sendable) depth 60
 
-node_table_send : IsSend NodeTable.the_row
-node_table_send = search (node_send, crosses, sendable) depth 60
-
 directory_send : IsSend Directory.the_row
 directory_send = search (indexes.the_send, crosses, sendable) depth 60
 
@@ -93,7 +82,7 @@ leaf_send : IsSend Leaf.the_row
 leaf_send = search (sendable) depth 60
 
 tables_field_send : IsSend Tables.the_field.row
-tables_field_send = search (stand_send, leaf_send, node_table_send, indexes.the_send, directory_send, name_send, set_table.the_send, crosses, sendable) depth 60
+tables_field_send = search (list.the_send, stand_send, leaf_send, node_send, indexes.the_send, directory_send, name_send, set_row.the_send, crosses, sendable) depth 60
 
 attr_row_send : IsSend AttrRow.the_row
 attr_row_send = search (kind_field_send, sendable) depth 60

@@ -6,24 +6,22 @@ use Rattle.sv_base.proofs.value.Values.TheLaws.TheKnot as values
 use Rattle.sv_base.proofs.octs.Octs.TheSendSync as octs
 use Rattle.sv_base.proofs.short.ShortOcts.TheSendSync as short
 use Rattle.sv_base.proofs.shared.SharedOcts.TheSendSync as shared
-use Rattle.sv_base.proofs.lists.LnDefs.TheSendSync as nodes
-use Rattle.sv_base.proofs.lists.SetDefs.TheSendSync as sets
-use Rattle.sv_base.proofs.lists.BlockDefs.TheSendSync as blocks
-use Rattle.sv_base.proofs.lists.SgDefs.TheSendSync as groups
+use Rattle.sv_base.proofs.config.LnDef.TheSendSync as node_def
+use Rattle.sv_base.proofs.config.SetDef.TheSendSync as set_def
+use Rattle.sv_base.proofs.config.BlockDef.TheSendSync as block_def
+use Rattle.sv_base.proofs.config.SgDef.TheSendSync as group_def
 use Rattle.sv_base.specs.contracts.types.TypeOf as TypeOf
 use Rattle.sv_base.proofs.few.Few.TheSendSync as few
+use Rattle.sv_base.proofs.list.List.TheSendSync as list
 use Rattle.sv_base.specs.contracts.value.Value as Value
 use Rattle.sv_base.specs.contracts.first_values.FirstValues as FirstValues
 use Rattle.sv_base.specs.contracts.config.AttrDef as AttrDef
 use Rattle.sv_base.specs.contracts.config.CtlDef as CtlDef
 use Rattle.sv_base.specs.contracts.config.Config as Config
-use Rattle.sv_base.specs.contracts.lists.AttrDefs as AttrDefs
-use Rattle.sv_base.specs.contracts.lists.CtlDefs as CtlDefs
 use Rattle.bay_model.proofs.tables.AttrIds.TheSendSync as ids
-use Rattle.bay_model.proofs.tables.SetTable.TheSendSync as set_table
+use Rattle.bay_model.proofs.tables.SetRow.TheSendSync as set_row
 use Rattle.bay_model.specs.contracts.tables.MemberShape as MemberShape
 use Rattle.bay_model.specs.contracts.tables.NodeRow as NodeRow
-use Rattle.bay_model.specs.contracts.tables.NodeTable as NodeTable
 use Rattle.object_names.specs.contracts.attributes.AttrRow as AttrRow
 use Rattle.octet_rows.proofs.index.Index.TheSendSync as indexes
 use Rattle.object_model.specs.contracts.listing.Directory as Directory
@@ -52,17 +50,11 @@ attr_field_sync = search (kind_field_sync, values_sync, short.the_sync, shared.t
 attr_sync : IsSync AttrDef.the_row
 attr_sync = search (attr_field_sync, sendable)
 
-attrs_sync : IsSync AttrDefs.the_row
-attrs_sync = search (attr_sync, crosses, sendable) depth 60
-
 control_sync : IsSync CtlDef.the_row
 control_sync = search (kind_field_sync, octs.the_sync, sendable) depth 60
 
-controls_sync : IsSync CtlDefs.the_row
-controls_sync = search (control_sync, crosses, sendable) depth 60
-
 config_field_sync : IsSync Config.the_field.row
-config_field_sync = search (attrs_sync, controls_sync, octs.the_sync, nodes.the_sync, sets.the_sync, blocks.the_sync, groups.the_sync, sendable) depth 60
+config_field_sync = search (list.the_sync, attr_sync, control_sync, octs.the_sync, node_def.the_sync, set_def.the_sync, block_def.the_sync, group_def.the_sync, sendable) depth 60
 
 pub config_sync : IsSync Config.the_row
 config_sync = search (config_field_sync, sendable)
@@ -77,9 +69,6 @@ shape_sync = search (shape_field_sync, sendable)
 node_sync : IsSync NodeRow.the_row
 node_sync = search (shape_field_sync, sendable) depth 60
 
-node_table_sync : IsSync NodeTable.the_row
-node_table_sync = search (node_sync, crosses, sendable) depth 60
-
 directory_sync : IsSync Directory.the_row
 directory_sync = search (indexes.the_sync, crosses, sendable) depth 60
 
@@ -93,7 +82,7 @@ leaf_sync : IsSync Leaf.the_row
 leaf_sync = search (sendable) depth 60
 
 tables_field_sync : IsSync Tables.the_field.row
-tables_field_sync = search (stand_sync, leaf_sync, node_table_sync, indexes.the_sync, directory_sync, name_sync, set_table.the_sync, crosses, sendable) depth 60
+tables_field_sync = search (list.the_sync, stand_sync, leaf_sync, node_sync, indexes.the_sync, directory_sync, name_sync, set_row.the_sync, crosses, sendable) depth 60
 
 attr_row_sync : IsSync AttrRow.the_row
 attr_row_sync = search (kind_field_sync, sendable) depth 60

@@ -1,0 +1,89 @@
+//! Lists.
+
+use std::alloc::AllocError;
+use std::marker::Model;
+use std::ops::DerefSlice;
+
+/// A list, which contracts see as that of its items.
+#[derive(Debug, Drop)]
+pub struct List<T: Drop> {
+    items: Vec<T>,
+}
+
+impl<T: Drop> Model for List<T> {
+    ghost use Rattle.std.specs.Prelude.{List};
+
+    ghost Value = { List T };
+
+    ghost use Rattle.std.specs.Coded.{codes};
+
+    ghost coded = { Prim.hlevel (codes, T.code) };
+
+    ghost view = { λ l. l.items.items };
+}
+
+impl<T: Drop> List<T> {
+    ghost use Rattle.std.specs.Prelude.{◌≡◌, ◌==◌, ◌++◌, ◌∷◌, [], length, slice_get, option_copied, is_ok, if◌then◌else◌};
+
+    /// The list of these. It takes no memory.
+    pub fn from_vec(items: Vec<T>) -> Self
+        ensures { result ≡ items.items }
+    {
+        List { items }
+    }
+
+    /// What is in it. It takes no memory.
+    pub fn into_vec(self) -> Vec<T>
+        ensures { result.items ≡ self }
+    {
+        self.items
+    }
+
+    /// Puts one more at the end; without memory nothing changes.
+    pub fn push(&mut self, item: T) -> Result<(), AllocError>
+        ensures { self.new ≡ (if is_ok result then self.old ++ item ∷ [] else self.old) }
+    {
+        self.items.push(item)?;
+        Ok(())
+    }
+
+    /// How many there are.
+    pub fn len(&self) -> usize
+        ensures { result ≡ length self.now }
+    {
+        self.items.len()
+    }
+
+    /// There is none.
+    pub fn is_empty(&self) -> bool
+        ensures { result ≡ (length self.now == 0) }
+    {
+        self.items.is_empty()
+    }
+
+    /// The one at a place, counted from 0; none exactly where there are no more than that.
+    pub fn get(&self, i: usize) -> Option<&T>
+        ensures { option_copied result ≡ slice_get self.now i }
+    {
+        self.items.get(i)
+    }
+
+    /// What is in it, borrowed.
+    pub fn as_slice(&self) -> &[T]
+        ensures { result.now ≡ self.now }
+    {
+        &self.items
+    }
+}
+
+impl<T: Drop> DerefSlice for List<T> {
+    type Elem = T;
+
+    ghost use Rattle.std.specs.Prelude.{◌≡◌};
+
+    ghost deref_gives = { λ l items. items ≡ l };
+
+    fn deref(&self) -> &[T] {
+        self.as_slice()
+    }
+}
