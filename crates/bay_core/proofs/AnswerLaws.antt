@@ -42,10 +42,11 @@ use Rattle.bay_config.specs.Servable.{IsServedSet}
 use Rattle.bay_replies.specs.Asking.{IsFitting, IsReading}
 use Rattle.bay_core.specs.Asked.{AreFit, AreMembersFit, AreWrites, AreWritten, IsAnswered, IsFit, IsReplyAt, node_numbers, set_members}
 use Rattle.bay_core.specs.Standing.{StandsAt}
-use Rattle.bay_core.specs.State.{State, AreServedSets}
+use Rattle.block_events.specs.Served.{AreServedSets}
+use Rattle.bay_core.specs.State.{State}
 use Rattle.bay_core.specs.Commanded.{AreNoCommands, CallsNothing}
 use Rattle.bay_core.proofs.AskLaws.{reads-stand, served-sets}
-use Rattle.bay_core.proofs.ShapeLaws.{all-served, found, sets_in}
+use Rattle.block_events.proofs.ShapeLaws.{all-served, found, sets_in}
 use Rattle.bay_core.proofs.UncalledLaws.{IsPlainMember, members-plain}
 
 -- ---- a request that fits

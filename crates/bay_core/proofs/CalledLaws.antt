@@ -24,9 +24,9 @@ use Rattle.bay_core.specs.Asked.{IsKept, IsWrite}
 use Rattle.bay_core.specs.Commanded.{AreSingles, AreTestsOf, IsNoCommand, IsSingle}
 use Rattle.bay_core.specs.Standing.{StandsAt}
 use Rattle.bay_core.specs.State.{State}
-use Rattle.bay_core.proofs.HeardLaws.{IsQuiet, heard-same, quiet-heard}
+use Rattle.bay_queues.proofs.HeardLaws.{IsQuiet, heard-same, quiet-heard}
 use Rattle.bay_core.proofs.MoveLaws.{again, came-of, groups-quiet, queued, queues-stand}
-use Rattle.bay_core.proofs.PartLaws.{parts-left}
+use Rattle.block_events.proofs.PartLaws.{parts-left}
 use Rattle.bay_core.proofs.SingleLaws.{after-more, kept-on, outcomes-more, refused-write}
 use Rattle.bay_core.proofs.UncalledLaws.{quiet-refused, quiet-role}
 

@@ -37,12 +37,13 @@ use Rattle.bay_core.specs.Asked.{IsReplied, replied}
 use Rattle.bay_core.specs.Deleted.{after_deletions, deleted_in, matched_in}
 use Rattle.bay_core.specs.Standing.{StandsAt}
 use Rattle.bay_core.specs.State.{State, IsBooked}
-use Rattle.bay_core.specs.Timed.{arrived_all, arrived_part, at_arrival}
+use Rattle.block_events.specs.Timed.{arrived_all, arrived_part}
+use Rattle.bay_core.specs.Timed.{at_arrival}
 use Rattle.bay_core.proofs.ArriveLaws.{HasAll, arrived-count, arrives}
 use Rattle.bay_core.proofs.AskLaws.{answered-at, changed-at}
 use Rattle.bay_core.proofs.DefineLaws.{are-rows}
 use Rattle.bay_core.proofs.DeletionLaws.{AreGone, are-gone, going_in, uses-told}
-use Rattle.bay_core.proofs.RoomLaws.{members-kept}
+use Rattle.block_watch.proofs.RoomLaws.{members-kept}
 
 -- ---- a definition
 

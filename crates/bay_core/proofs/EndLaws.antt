@@ -24,7 +24,7 @@ use Rattle.window_core.specs.Points.{at}
 use Rattle.setting_groups.specs.Grouped.{after_loss}
 use Rattle.setting_groups.proofs.StandLaws.{arrived, loses}
 use Rattle.report_block.specs.Writes.{lost_by}
-use Rattle.bay_core.specs.Parting.{after_loss_all}
+use Rattle.block_events.specs.Parting.{after_loss_all}
 use Rattle.bay_core.specs.State.{State}
 use Rattle.bay_core.specs.Standing.{StandsAt}
 use Rattle.bay_core.proofs.MoveLaws.{groups-quiet, passed}

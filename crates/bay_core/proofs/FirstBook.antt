@@ -15,7 +15,7 @@ use Rattle.data_sets.specs.Books.{Book, booked, no_set, opened}
 use Rattle.data_sets.specs.Standing.{IsNamed, data_set}
 use Rattle.bay_config.specs.Servable.{IsReferred, IsServable, IsServedSet}
 use Rattle.bay_core.specs.State.{IsBooked}
-use Rattle.bay_core.proofs.BookLaws.{known-booked}
+use Rattle.block_events.proofs.BookLaws.{known-booked}
 use Rattle.bay_replies.proofs.OpenedLaws.{same-sets, at-named}
 use Rattle.data_sets.proofs.OpenLaws.{opened_at}
 

@@ -13,9 +13,9 @@ use Rattle.object_model.specs.Tables.{set_rows}
 use Rattle.data_sets.specs.Books.{Book, number_referred, opened as booked}
 use Rattle.bay_config.specs.Servable.{IsMember}
 use Rattle.touch_index.specs.Indexed.{AreAmong}
-use Rattle.bay_core.proofs.BookLaws.{part-lent, part-members}
-use Rattle.bay_core.proofs.ServedLaws.{served-few}
-use Rattle.bay_core.proofs.ShapeLaws.{node_shape, node_shapes, nodes_named, member-shape, served-set, sets_in}
+use Rattle.block_events.proofs.BookLaws.{part-lent, part-members}
+use Rattle.block_events.proofs.ServedLaws.{served-few}
+use Rattle.block_events.proofs.ShapeLaws.{node_shape, node_shapes, nodes_named, member-shape, served-set, sets_in}
 use Rattle.sv_base.specs.declared.config.Config.{Config}
 use Rattle.bay_model.specs.Named.{configured_model}
 use Rattle.bay_model.specs.Points.{now}
@@ -42,7 +42,8 @@ use Rattle.bay_core.specs.Opened.{seen, part_defined}
 use Rattle.bay_config.specs.Servable.{IsServable}
 use Rattle.bay_core.specs.Standing.{StandsFor}
 use Rattle.data_sets.specs.Standing.{data_set}
-use Rattle.bay_core.specs.State.{State, IsBooked, IsFurnished, AreServedSets}
+use Rattle.block_events.specs.Served.{AreServedSets}
+use Rattle.bay_core.specs.State.{State, IsBooked, IsFurnished}
 use Rattle.bay_values.specs.Held.{AreHeld}
 use Rattle.bay_values.proofs.FirstValues.{opened-held}
 use Rattle.bay_core.proofs.FirstBook.{booked-first, count-back, sets-back}

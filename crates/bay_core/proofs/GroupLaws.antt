@@ -54,12 +54,13 @@ use Rattle.bay_values.proofs.ChangeLaws.{IsThere, held-after}
 use Rattle.bay_values.proofs.GroupLaws.{active-typed, copy-sound}
 use Rattle.bay_core.specs.Asked.{IsWrite}
 use Rattle.bay_core.specs.Standing.{StandsAt}
-use Rattle.bay_core.specs.State.{State, AreServedSets}
+use Rattle.block_events.specs.Served.{AreServedSets}
+use Rattle.bay_core.specs.State.{State}
 use Rattle.bay_core.proofs.ArriveLaws.{HaveMembers}
 use Rattle.control_core.specs.Tables as tables
 use Rattle.control_core.specs.Tables.{Table}
 use Rattle.bay_core.proofs.MoveLaws.{IsSilent, again, came-quiet, rows_after}
-use Rattle.bay_core.proofs.PartLaws.{parts-left}
+use Rattle.block_events.proofs.PartLaws.{parts-left}
 use Rattle.bay_core.proofs.SettingLaws.{IsSetting, set_at, stands-set}
 use Rattle.bay_core.proofs.SingleLaws.{by-outcome, refused-write}
 use Rattle.list_laws.proofs.Truths.{and-none}

@@ -1,15 +1,8 @@
 -- the blocks, and the bay, at the arrival of a point and after a deed
-pub mod PartLaws
 pub mod MoveLaws
--- controls keep their configurations
-pub mod ControlLaws
--- all members of a data set, and the arrival of a point
-pub mod AllLaws
+-- the arrival of a point
 pub mod ArriveLaws
-pub mod QuietLaws
--- what waits for associations, and requests
-pub mod QueueLaws
-pub mod HeardLaws
+-- requests
 pub mod UncalledLaws
 pub mod AskLaws
 pub mod CameLaws
@@ -22,15 +15,8 @@ pub mod LentLaws
 pub mod AnswerLaws
 -- openings and losses
 pub mod EndLaws
-pub mod MentionLaws
-pub mod NoteLaws
 pub mod FurnishLaws
 -- settings: the values, the notes of the blocks, and the entries
-pub mod ShapeLaws
-pub mod ServedLaws
-pub mod BookLaws
-pub mod WritableLaws
-pub mod EventLaws
 pub mod SettingLaws
 -- writes
 pub mod WriteLaws
@@ -40,7 +26,6 @@ pub mod BlameLaws
 pub mod ProcessLaws
 pub mod GroupLaws
 -- reports
-pub mod TakeLaws
 pub mod TakenLaws
 pub mod SentLaws
 -- how a bay begins
@@ -50,7 +35,6 @@ pub mod OpenLaws
 -- the parts after a write
 pub mod WrittenLaws
 -- data sets that clients define and delete
-pub mod RoomLaws
 pub mod DefineLaws
 pub mod RemoveLaws
 pub mod DeletionLaws

@@ -29,7 +29,7 @@ use Rattle.bay_core.specs.State.{State}
 use Rattle.report_block.specs.Standing.{BlocksStand}
 use Rattle.report_block.proofs.StandLaws.{again-stands}
 use Rattle.bay_core.specs.Standing.{StandsAt, StandsFor}
-use Rattle.bay_core.proofs.PartLaws.{IsApart, AreLeft, parts-left}
+use Rattle.block_events.proofs.PartLaws.{IsApart, AreLeft, parts-left}
 
 -- a deed that puts nothing, and defines and deletes no data set
 pub record IsSilent (m : Model) (n t : ℕ) (d : Deed) (past : Past) : Type 0 where

@@ -21,7 +21,7 @@ use Rattle.bay_core.specs.Commanded.{after_end}
 use Rattle.bay_core.specs.Standing.{StandsAt}
 use Rattle.bay_core.specs.State.{State}
 use Rattle.bay_core.proofs.MoveLaws.{came-with, counts, groups-quiet, passed, queued, queues-stand}
-use Rattle.bay_core.proofs.PartLaws.{parts-left}
+use Rattle.block_events.proofs.PartLaws.{parts-left}
 
 rows-put : (o : Option ℕ) (k : CtlNo) (good : Bool) (rows : List Row) → came (finished k.0 good) (coming_of o k good) rows ≡ put_rows o k good rows
 rows-put None k good rows = refl

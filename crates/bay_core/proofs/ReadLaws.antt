@@ -41,7 +41,7 @@ use Rattle.bay_core.specs.Turned.{after_turn, after_turns, in_turns, reply_of, I
 use Rattle.bay_core.proofs.AskLaws.{size-told}
 use Rattle.bay_core.proofs.IdleLaws.{IsIdle, idle-target}
 use Rattle.bay_core.proofs.MoveLaws.{again, came-of, groups-quiet}
-use Rattle.bay_core.proofs.PartLaws.{parts-left}
+use Rattle.block_events.proofs.PartLaws.{parts-left}
 use Rattle.bay_core.proofs.TurnLaws.{reply-told, target-turn}
 
 -- ---- the controls that are selected are there

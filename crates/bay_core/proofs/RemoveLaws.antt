@@ -32,7 +32,7 @@ use Rattle.bay_core.specs.State.{IsBooked, IsFurnished}
 use Rattle.block_watch.specs.Watched.{AreBlank, members_in, options_in}
 use Rattle.bay_core.specs.Whole.{IsWhole}
 use Rattle.control_core.specs.Tables.{Table}
-use Rattle.bay_core.proofs.QuietLaws.{quiet-map}
+use Rattle.block_events.proofs.QuietLaws.{quiet-map}
 use Rattle.data_sets.proofs.RoomLaws.{old_above}
 use Rattle.list_laws.proofs.Truths.{and-left, and-right}
 use Rattle.list_laws.proofs.Distinct.{octets_same}

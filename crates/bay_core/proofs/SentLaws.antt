@@ -14,7 +14,7 @@ use Rattle.block_watch.specs.declared.watch.Watch.{Watch}
 use Rattle.bay_core.specs.Whole.{IsWhole}
 use Rattle.control_core.specs.Tables.{Table}
 use Rattle.bay_core.proofs.FurnishLaws.{furnished-set}
-use Rattle.bay_core.proofs.QuietLaws.{quiet-same}
+use Rattle.block_events.proofs.QuietLaws.{quiet-same}
 use Rattle.block_watch.proofs.WatchLaws.{watching-same}
 
 -- it is whole as before

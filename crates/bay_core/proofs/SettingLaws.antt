@@ -35,7 +35,7 @@ use Rattle.setting_groups.proofs.StandLaws.{arrived}
 use Rattle.setting_groups.proofs.ValueLaws.{values as values-put}
 use Rattle.report_block.specs.declared.block.ReportBlock.{ReportBlock}
 use Rattle.bay_values.specs.Changed.{last_set, AreMade, AreFit}
-use Rattle.bay_core.specs.Events.{mentions_of, after_event, after_events, IsReady, AreReady}
+use Rattle.block_events.specs.Events.{mentions_of, after_event, after_events, IsReady, AreReady}
 use Rattle.window_core.specs.Points.{at}
 use Rattle.window_core.specs.Standing.{piece_of}
 use Rattle.window_core.specs.Pieces.{Piece}
@@ -52,21 +52,22 @@ use Rattle.report_block.proofs.StandLaws.{deed-stands}
 use Rattle.report_block.specs.EntryOctets.{IsWritable}
 use Rattle.bay_config.specs.Servable.{IsServable}
 use Rattle.bay_core.specs.Standing.{StandsAt, StandsFor}
-use Rattle.bay_core.specs.State.{State, AreServedSets, IsFurnished}
+use Rattle.block_events.specs.Served.{AreServedSets}
+use Rattle.bay_core.specs.State.{State, IsFurnished}
 use Rattle.bay_values.specs.Held.{AreHeld}
 use Rattle.block_watch.specs.declared.watch.Watch.{Watch}
 use Rattle.block_watch.specs.Watched.{IsIndexed, IsLent, IsWatching, AreBlank, members_in}
 use Rattle.std.proofs.lemmas.List.{length-map}
-use Rattle.bay_core.proofs.BookLaws.{part-lent, part-members}
+use Rattle.block_events.proofs.BookLaws.{part-lent, part-members}
 use Rattle.bay_core.proofs.ArriveLaws.{HaveMembers}
 use Rattle.bay_values.proofs.ChangeLaws.{Sets, IsThere, values-stand, are-changes, settings-there, typed-settings, held-after}
-use Rattle.bay_core.proofs.EventLaws.{note-kept, note-readable, all-writable}
+use Rattle.block_events.proofs.EventLaws.{note-kept, note-readable, all-writable}
 use Rattle.bay_core.proofs.FurnishLaws.{furnished-map}
 use Rattle.control_core.specs.Tables as tables
 use Rattle.control_core.specs.Tables.{Table}
 use Rattle.bay_core.proofs.MoveLaws.{IsSilent, rows_after, came-quiet, counts, accepted-as}
-use Rattle.bay_core.proofs.ServedLaws.{served-few}
-use Rattle.bay_core.proofs.ShapeLaws.{AreServed, node_shapes, nodes_named, served_members, served-set, sets_in, members-named, are-shapes}
+use Rattle.block_events.proofs.ServedLaws.{served-few}
+use Rattle.block_events.proofs.ShapeLaws.{AreServed, node_shapes, nodes_named, served_members, served-set, sets_in, members-named, are-shapes}
 use Rattle.list_laws.proofs.Truths.{never as off}
 
 -- The deed sets attributes, as these settings have it: it is an event of the blocks, and touches nothing else.

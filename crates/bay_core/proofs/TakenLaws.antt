@@ -30,7 +30,7 @@ use Rattle.bay_model.specs.Takes.{Given, deed_of_waiting, taken}
 use Rattle.assoc_table.specs.declared.waiting.Ends.{Ends}
 use Rattle.assoc_table.specs.Seats.{Row}
 use Rattle.assoc_table.specs.Standing.{Stands as AssociationsStand, ends_of, waiting_of}
-use Rattle.bay_core.proofs.QueueLaws.{given-then, left-then, nothing-waits}
+use Rattle.bay_queues.proofs.QueueLaws.{given-then, left-then, nothing-waits}
 use Rattle.assoc_table.specs.declared.waiting.Waiting.{Waiting}
 use Rattle.control_core.specs.Tables.{Table}
 use Rattle.bay_queues.specs.Queued.{Queued, IsQueued}
@@ -48,13 +48,14 @@ use Rattle.brcb_state.specs.Changes.{after_report}
 use Rattle.block_reports.specs.Reporting.{report_by}
 use Rattle.bay_config.specs.Servable.{IsServable}
 use Rattle.bay_core.specs.Standing.{StandsAt, StandsFor}
-use Rattle.bay_core.specs.State.{State, AreServedSets}
+use Rattle.block_events.specs.Served.{AreServedSets}
+use Rattle.bay_core.specs.State.{State}
 use Rattle.bay_core.specs.Timed.{at_arrival}
 use Rattle.bay_core.proofs.MoveLaws.{queued, queues-stand, groups-quiet, passed, still, came-stand, counts, accepted-as}
-use Rattle.bay_core.proofs.PartLaws.{AreLeft, parts-left}
-use Rattle.bay_core.proofs.ServedLaws.{served-now}
-use Rattle.bay_core.proofs.ShapeLaws.{served_members}
-use Rattle.bay_core.proofs.TakeLaws.{none, given, closed}
+use Rattle.block_events.proofs.PartLaws.{AreLeft, parts-left}
+use Rattle.block_events.proofs.ServedLaws.{served-now}
+use Rattle.block_events.proofs.ShapeLaws.{served_members}
+use Rattle.block_events.proofs.TakeLaws.{none, given, closed}
 
 -- after the report of an entry of block b
 pub reported-at : (s : State) (c : Config) (n t a b id : ℕ) (part : ReportBlock) (past : Past) → slice_get s.parts b ≡ Some part → StandsAt s c n (arrival n t ∷ past)

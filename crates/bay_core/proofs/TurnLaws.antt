@@ -35,7 +35,7 @@ use Rattle.bay_replies.specs.Given.{node_read, target_read}
 use Rattle.bay_replies.specs.Reading.{selecting_of, selecting_in, reference_read, early_read, early_len, early_reads, least_len, IsReadBy}
 use Rattle.window_core.specs.Points.{at}
 use Rattle.bay_core.specs.Turned.{after_turn, after_turns, empty_text, in_turn, in_turns, reply_of, selects, with_turn}
-use Rattle.bay_core.proofs.ControlLaws.{configs-deed}
+use Rattle.bay_queues.proofs.ControlLaws.{configs-deed}
 use Rattle.bay_core.proofs.IdleLaws.{IsIdle, idle-target, tree-idle}
 use Rattle.bay_replies.proofs.PointLaws.{nothing-read, result-read}
 

@@ -45,8 +45,8 @@ use Rattle.data_sets.specs.Standing.{IsNamed}
 use Rattle.bay_core.specs.State.{State}
 use Rattle.bay_core.specs.Standing.{StandsAt, StandsFor}
 use Rattle.bay_core.specs.Written.{named_by}
-use Rattle.bay_core.proofs.BookLaws.{known-booked}
-use Rattle.bay_core.proofs.ShapeLaws.{sets_in}
+use Rattle.block_events.proofs.BookLaws.{known-booked}
+use Rattle.block_events.proofs.ShapeLaws.{sets_in}
 use Rattle.block_watch.proofs.WatchLaws.{KeepsSet}
 use Rattle.bay_core.proofs.MoveLaws.{came-of, counts, accepted-as, groups-quiet}
 use Rattle.list_laws.proofs.Truths.{or-right}

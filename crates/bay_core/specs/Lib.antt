@@ -7,8 +7,6 @@ pub mod Timed
 pub mod Whole
 -- how it begins
 pub mod Opened
--- what the process sets, and the entries that blocks get of it
-pub mod Events
 -- what a write makes of the data set that a block reports
 pub mod Written
 pub mod Put
@@ -19,5 +17,3 @@ pub mod Deleted
 -- calls of controls
 pub mod Commanded
 pub mod Came
--- losses
-pub mod Parting

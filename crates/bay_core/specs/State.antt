@@ -6,7 +6,7 @@ use Rattle.sv_base.specs.declared.config.Config.{Config}
 use Rattle.sv_base.specs.Filled.{Filled}
 use Rattle.object_model.specs.Nodes.{node_rows}
 use Rattle.data_sets.specs.Books.{Book, number_referred, set_at}
-use Rattle.data_sets.specs.Standing.{IsNamed, data_set}
+use Rattle.data_sets.specs.Standing.{IsNamed}
 use Rattle.value_store.specs.Stored.{Stored}
 use Rattle.setting_groups.specs.Grouped.{Grouped}
 use Rattle.bay_values.specs.Held.{AreHeld}
@@ -15,7 +15,8 @@ use Rattle.control_core.specs.Tables.{Table}
 use Rattle.report_block.specs.declared.block.ReportBlock.{ReportBlock}
 use Rattle.block_watch.specs.declared.watch.Watch.{Watch}
 use Rattle.block_watch.specs.Watched.{IsWatching}
-use Rattle.bay_config.specs.Servable.{IsServable, IsServedSet}
+use Rattle.bay_config.specs.Servable.{IsServable}
+use Rattle.block_events.specs.Served.{AreServedSets}
 
 pub record State : Type 0 where
   pub config : Config
@@ -27,10 +28,6 @@ pub record State : Type 0 where
   pub rows : List Row
   pub groups : Grouped
   pub controls : Table
-
--- each data set can be served
-abbrev pub AreServedSets : Config → Book → Type 0
-AreServedSets c book = (k : ℕ) → k < length book.sets → IsServedSet c (data_set (set_at book k))
 
 -- Each data set can be served and has a name, and one that a client defined has the name of no other. Which blocks name a set is asked
 -- of the blocks: the book counts none.

@@ -15,7 +15,7 @@ use Rattle.report_block.specs.Events.{HasRoom}
 use Rattle.block_watch.specs.declared.watch.Watch.{Watch}
 use Rattle.bay_core.specs.State.{IsFurnished}
 use Rattle.bay_values.specs.Held.{AreGrouped}
-use Rattle.bay_core.specs.Timed.{AreQuietUntil}
+use Rattle.block_events.specs.Timed.{AreQuietUntil}
 
 pub record IsWhole (c : Config) (stored : List Stored) (groups : Grouped) (book : Book) (parts : List ReportBlock) (w : Watch) (octets : Filled ℕ) (room : ℕ) (latest : ℕ) (dues : List (Option ℕ)) (events : EventRoom) (table : Table) : Type 0 where
   pub furnished : IsFurnished c stored book parts w octets room

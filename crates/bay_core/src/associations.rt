@@ -1,25 +1,11 @@
 //! The steps that open and end associations, and those that only pass time.
 
-ghost use Rattle.std.specs.Prelude.{◌≡◌};
-ghost use Rattle.bay_core.specs.Parting.{after_loss_all};
-
 use crate::bay::Bay;
 use assoc_table::Ends;
 use bay_histories::StepFault;
 use bay_model::Answer;
-use report_block::ReportBlock;
+use block_events::lose_all;
 use sv_base::{ActorNo, AssocNo, Moment};
-
-/// An association was lost: the blocks that it has enabled it enables no longer.
-fn lose_all(parts: &mut Vec<ReportBlock>, a: AssocNo)
-    ensures { parts.new.items ≡ after_loss_all a parts.old.items }
-{
-    let mut place = 0;
-    while place < parts.len() {
-        parts[place].lost(a);
-        place += 1;
-    }
-}
 
 impl Bay {
     ghost use Rattle.std.specs.Prelude.{◌≡◌, ◌<◌, ◌^◌, None};
@@ -28,7 +14,7 @@ impl Bay {
     ghost use Rattle.setting_groups.specs.Grouped.{after_loss};
     ghost use Rattle.bay_model.specs.Points.{lost as lost_deed};
     ghost use Rattle.control_core.specs.Tables.{after_deed};
-    ghost use Rattle.bay_core.specs.Parting.{after_loss_all};
+    ghost use Rattle.block_events.specs.Parting.{after_loss_all};
     ghost use Rattle.bay_core.specs.Turns.{Does, IsCounted, KeepsLean};
 
     /// An association begins.

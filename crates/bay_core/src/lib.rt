@@ -5,7 +5,6 @@
 // a bay, and how it begins
 mod bay;
 mod opening;
-mod source;
 
 // its steps
 mod asking;

@@ -1,9 +1,8 @@
 //! What clients make of setting groups (IEC 61850-7-2, SelectActiveSG, SelectEditSG, SetEditSGValue and ConfirmEditSGValues).
 
 use crate::bay::Bay;
-use crate::setting::event_all;
-use crate::source::Source;
 use bay_model::SettingComp;
+use block_events::{Source, event_all};
 use sv_base::{AssocNo, Value};
 
 impl Bay {

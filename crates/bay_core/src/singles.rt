@@ -6,10 +6,9 @@ ghost use Rattle.bay_core.specs.Asked.{set_code};
 ghost use Rattle.sv_base.specs.Kinds.{is_kind, text};
 
 use crate::bay::Bay;
-use crate::setting::event_all;
-use crate::source::Source;
 use bay_model::{ApplError, Target, Write};
 use bay_queues::Heard;
+use block_events::{Source, event_all};
 use object_model::What;
 use sv_base::{AssocNo, AttrId, BlockNo, NodeId, Value};
 use value_store::SetFault;

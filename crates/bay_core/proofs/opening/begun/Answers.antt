@@ -5,7 +5,7 @@ use Rattle.bay_queues.specs.Queued.{Queued, configs}
 use Rattle.bay_values.specs.Held.{AreGrouped}
 use Rattle.bay_values.proofs.GroupLaws.{grouped-first}
 use Rattle.bay_core.proofs.FirstState.{furnished-first, stands-first, configs-opened}
-use Rattle.bay_core.proofs.QuietLaws.{quiet-first}
+use Rattle.block_events.proofs.QuietLaws.{quiet-first}
 use Rattle.bay_core.proofs.opening.begun.Goals as goal
 
 pub invariant_of-result : goal.invariant_of-result

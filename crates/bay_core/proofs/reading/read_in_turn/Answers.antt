@@ -4,7 +4,7 @@ use Rattle.std.specs.Option.{option_map}
 use Rattle.std.proofs.lemmas.List.{length-map}
 use Rattle.sv_base.specs.declared.numbers.CtlNo.{CtlNo}
 use Rattle.bay_model.specs.Configured.{control_defined}
-use Rattle.bay_core.proofs.ControlLaws.{control-count}
+use Rattle.bay_queues.proofs.ControlLaws.{control-count}
 use Rattle.bay_core.proofs.ReadLaws.{target-there}
 use Rattle.bay_core.proofs.reading.read_in_turn.Goals as goal
 

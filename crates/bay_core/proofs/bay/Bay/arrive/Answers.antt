@@ -8,10 +8,11 @@ use Rattle.report_block.specs.declared.block.ReportBlock.{ReportBlock}
 use Rattle.bay_model.specs.Configured.{control_defined}
 use Rattle.control_core.specs.Tables.{at_moment}
 use Rattle.bay_queues.specs.Queued.{Queued, configs}
-use Rattle.bay_core.specs.Events.{AreReady}
+use Rattle.block_events.specs.Events.{AreReady}
 use Rattle.bay_core.specs.Standing.{StandsAt}
 use Rattle.bay_core.specs.State.{State, IsFurnished}
-use Rattle.bay_core.specs.Timed.{arrived_all, at_arrival}
+use Rattle.block_events.specs.Timed.{arrived_all}
+use Rattle.bay_core.specs.Timed.{at_arrival}
 use Rattle.bay_core.proofs.ArriveLaws.{HasAll, arrives, furnished-arrived}
 use Rattle.bay_core.proofs.SettingLaws.{are-ready, have-members}
 use Rattle.bay_core.proofs.bay.Bay.arrive.Goals as goal

@@ -16,7 +16,7 @@ use Rattle.bay_replies.specs.Plain.{HasGroups, IsPlainRole}
 use Rattle.bay_core.specs.Commanded.{blame_at}
 use Rattle.bay_core.specs.State.{State}
 use Rattle.bay_core.proofs.BlameLaws.{blame-told, no-blame, role-plain}
-use Rattle.bay_core.proofs.ControlLaws.{control-count}
+use Rattle.bay_queues.proofs.ControlLaws.{control-count}
 use Rattle.bay_core.proofs.SingleLaws.{role-told}
 use Rattle.bay_core.proofs.bay.Bay.blame_of.Goals as goal
 

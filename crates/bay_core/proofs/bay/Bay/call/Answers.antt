@@ -9,7 +9,7 @@ use Rattle.bay_queues.specs.Heard.{heard_with}
 use Rattle.bay_queues.specs.Queued.{Queued, configs}
 use Rattle.bay_core.specs.Commanded.{AreTestsOf, after_call}
 use Rattle.bay_core.specs.State.{State}
-use Rattle.bay_core.proofs.ControlLaws.{configs-deed, control-count}
+use Rattle.bay_queues.proofs.ControlLaws.{configs-deed, control-count}
 use Rattle.bay_core.proofs.bay.Bay.call.Goals as goal
 
 pub call-requires-clause-control : goal.call-requires-clause-control

@@ -10,11 +10,11 @@ use Rattle.report_block.specs.Writes.{lost_by}
 use Rattle.setting_groups.specs.Grouped.{Grouped, after_loss}
 use Rattle.setting_groups.proofs.FrameLaws.{fit-loss}
 use Rattle.bay_values.specs.Held.{AreGrouped, IsSoundCell}
-use Rattle.bay_core.specs.Parting.{after_loss_all}
+use Rattle.block_events.specs.Parting.{after_loss_all}
 use Rattle.bay_core.specs.State.{State, IsFurnished}
-use Rattle.bay_core.proofs.ControlLaws.{configs-deed}
+use Rattle.bay_queues.proofs.ControlLaws.{configs-deed}
 use Rattle.bay_core.proofs.FurnishLaws.{furnished-map}
-use Rattle.bay_core.proofs.QuietLaws.{quiet-map}
+use Rattle.block_events.proofs.QuietLaws.{quiet-map}
 use Rattle.bay_core.proofs.bay.Bay.end.Goals as goal
 
 pub invariant_of-self : goal.invariant_of-self

@@ -6,7 +6,7 @@ use Rattle.bay_model.specs.Points.{finished}
 use Rattle.bay_queues.specs.Queued.{Queued, configs}
 use Rattle.bay_core.specs.Commanded.{after_end}
 use Rattle.bay_core.specs.State.{State}
-use Rattle.bay_core.proofs.ControlLaws.{configs-deed, control-count}
+use Rattle.bay_queues.proofs.ControlLaws.{configs-deed, control-count}
 use Rattle.bay_core.proofs.bay.Bay.end_execution.Goals as goal
 
 pub done-requires : goal.done-requires

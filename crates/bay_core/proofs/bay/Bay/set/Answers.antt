@@ -13,7 +13,7 @@ use Rattle.bay_values.specs.Held.{AreGrouped, IsSoundCell}
 use Rattle.setting_groups.specs.Grouped.{Grouped, after_values}
 use Rattle.setting_groups.proofs.FrameLaws.{fit-values}
 use Rattle.touch_index.proofs.GatherLaws.{once_where_distinct}
-use Rattle.bay_core.specs.Events.{AreReady, after_events}
+use Rattle.block_events.specs.Events.{AreReady, after_events}
 use Rattle.bay_core.specs.State.{State, IsFurnished}
 use Rattle.block_watch.specs.Watched.{IsWatching}
 use Rattle.bay_model.specs.Answers.{points}

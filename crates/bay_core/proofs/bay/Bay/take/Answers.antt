@@ -15,8 +15,8 @@ use Rattle.bay_core.specs.State.{State}
 use Rattle.bay_core.specs.Timed.{at_arrival}
 use Rattle.bay_core.specs.Turns.{Does}
 use Rattle.bay_core.proofs.ArriveLaws.{HasAll, arrives}
-use Rattle.bay_core.proofs.ControlLaws.{configs-left}
-use Rattle.bay_core.proofs.QueueLaws.{left-none, none-waits}
+use Rattle.bay_queues.proofs.ControlLaws.{configs-left}
+use Rattle.bay_queues.proofs.QueueLaws.{left-none, none-waits}
 use Rattle.bay_core.proofs.SettingLaws.{have-members}
 use Rattle.bay_core.proofs.TakenLaws.{closed-for, took-for, take-fine}
 use Rattle.bay_core.proofs.bay.Bay.take.Goals as goal

@@ -6,7 +6,7 @@ use Rattle.control_core.specs.Tables.{at_moment}
 use Rattle.block_watch.specs.Dues.{AreBefore}
 use Rattle.bay_core.specs.State.{State}
 use Rattle.bay_core.specs.Timed.{at_arrival}
-use Rattle.bay_core.proofs.QuietLaws.{none-arrives}
+use Rattle.block_events.proofs.QuietLaws.{none-arrives}
 use Rattle.bay_core.proofs.bay.Bay.take_report.Goals as goal
 
 pub take_quiet-requires-clause-quiet : goal.take_quiet-requires-clause-quiet

@@ -7,7 +7,7 @@ use Rattle.bay_model.specs.declared.tables.MemberShape.{MemberShape}
 use Rattle.object_model.specs.Nodes.{node_rows}
 use Rattle.value_store.specs.Stored.{Stored}
 use Rattle.report_block.specs.EntryOctets.{IsWritable}
-use Rattle.bay_core.specs.Events.{IsReady}
+use Rattle.block_events.specs.Events.{IsReady}
 use Rattle.report_block.specs.declared.block.ReportBlock.{ReportBlock}
 use Rattle.report_block.specs.Alls.{all_pieces, for_general}
 use Rattle.report_block.specs.Components.{after_writing}
@@ -15,13 +15,13 @@ use Rattle.report_block.specs.Due.{IsBefore}
 use Rattle.report_block.specs.Writes.{without_effect, write_answer}
 use Rattle.bay_core.specs.Put.{answer_at, written_at}
 use Rattle.bay_core.specs.State.{State}
-use Rattle.bay_core.specs.Timed.{AreQuietUntil}
+use Rattle.block_events.specs.Timed.{AreQuietUntil}
 use Rattle.block_watch.specs.Watched.{members_in}
-use Rattle.bay_core.proofs.QuietLaws.{quiet-set}
+use Rattle.block_events.proofs.QuietLaws.{quiet-set}
 use Rattle.bay_core.proofs.TakenLaws.{same-part}
 use Rattle.bay_core.proofs.ArriveLaws.{HasAll, general-are}
 use Rattle.bay_core.proofs.WrittenLaws.{written-at}
-use Rattle.bay_core.proofs.BookLaws.{part-lent}
+use Rattle.block_events.proofs.BookLaws.{part-lent}
 use Rattle.bay_core.proofs.SettingLaws.{are-ready, have-members}
 use Rattle.block_watch.proofs.WatchLaws.{at-place}
 use Rattle.bay_core.proofs.bay.Bay.write_at_arrival.Goals as goal

@@ -8,7 +8,7 @@ use Rattle.value_store.specs.Stored.{Stored, attribute, with_value}
 use Rattle.report_block.specs.declared.block.ReportBlock.{ReportBlock}
 use Rattle.bay_replies.specs.Given.{copies_from}
 use Rattle.bay_core.specs.Asked.{IsWrite}
-use Rattle.bay_core.specs.Events.{AreReady, after_events}
+use Rattle.block_events.specs.Events.{AreReady, after_events}
 use Rattle.bay_core.specs.State.{State, IsFurnished}
 use Rattle.block_watch.specs.Watched.{IsWatching}
 use Rattle.bay_core.proofs.SettingLaws.{are-ready, furnished-all, have-members}

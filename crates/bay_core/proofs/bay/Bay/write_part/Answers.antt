@@ -16,7 +16,7 @@ use Rattle.bay_values.specs.Changed.{AreDistinct, AreMade, last_set}
 use Rattle.bay_values.specs.Held.{AreGrouped}
 use Rattle.bay_values.proofs.GroupLaws.{loadable}
 use Rattle.bay_core.specs.Asked.{IsWrite}
-use Rattle.bay_core.specs.Events.{AreReady, after_events}
+use Rattle.block_events.specs.Events.{AreReady, after_events}
 use Rattle.bay_core.specs.State.{State, IsFurnished}
 use Rattle.block_watch.specs.Watched.{IsWatching}
 use Rattle.bay_core.proofs.GroupLaws.{part-refused, part-quiet, part-set, fit-after, held-loaded}

@@ -1,6 +1,0 @@
--- why `setting::keep_due` answers as its contract says
-use Rattle.bay_core.proofs.QuietLaws.{quiet-idle}
-use Rattle.bay_core.proofs.setting.keep_due.Goals as goal
-
-pub returns-else-gathers : goal.returns-else-gathers
-returns-else-gathers c = λ parts was there. quiet-idle c.args.moment c.args.dues.now parts c.args.b was c.args.part.now there (c.gathers.ensures.none c.if-gathers.false)

@@ -1,0 +1,15 @@
+-- the members that are noted, and the notes of the blocks
+pub mod MentionLaws
+pub mod NoteLaws
+-- the data sets that are served: their members, and the values of these
+pub mod ShapeLaws
+pub mod ServedLaws
+pub mod BookLaws
+pub mod WritableLaws
+pub mod EventLaws
+pub mod AllLaws
+-- until when nothing is due, and what a take gives
+pub mod QuietLaws
+pub mod TakeLaws
+-- the blocks after a deed
+pub mod PartLaws
