@@ -5,11 +5,10 @@ ghost use Rattle.std.specs.List.{All};
 ghost use Rattle.sv_base.specs.declared.config.Config.{Config};
 ghost use Rattle.bay_answers.specs.Replies.{CanBeReplied, IsNode, IsWritable};
 
-use crate::plant::octs;
 use bay_model::{Asked, Codes, Names, Nodes, ObjName, Reply, Results, SetName, Target, Targets};
 use object_model::Model;
 use std::alloc::{AllocError, Global};
-use sv_base::{NodeId, Value};
+use sv_base::{NodeId, Octs, Value};
 
 /// What a variable was read as.
 #[derive(Clone, Copy)]
@@ -75,7 +74,7 @@ fn plain_of(plain: Plain) -> Reply
 fn names_of(alloc: Global, names: &[&[u8]]) -> Result<Names, AllocError> {
     let mut items = Vec::new(alloc);
     for name in names {
-        items.push(octs(alloc, name)?)?;
+        items.push(Octs::copied(alloc, name)?)?;
     }
     Ok(Names::from_vec(items))
 }
@@ -112,15 +111,15 @@ fn results_of(alloc: Global, found: &[Found]) -> Result<Results, AllocError>
 }
 
 fn power(alloc: Global) -> Result<Target, AllocError> {
-    let domain = octs(alloc, b"BAY1")?;
-    let item = octs(alloc, b"MMXU1$MX$TotW$mag$i")?;
+    let domain = Octs::copied(alloc, b"BAY1")?;
+    let item = Octs::copied(alloc, b"MMXU1$MX$TotW$mag$i")?;
     Ok(Target::Node(NodeId(4), ObjName::Domain { domain, item }))
 }
 
 fn variables(alloc: Global) -> Result<Targets, AllocError> {
     let first = power(alloc)?;
-    let second = Target::Missing(ObjName::Vmd(octs(alloc, b"x")?));
-    let third = Target::Missing(ObjName::Assoc(octs(alloc, b"y")?));
+    let second = Target::Missing(ObjName::Vmd(Octs::copied(alloc, b"x")?));
+    let third = Target::Missing(ObjName::Assoc(Octs::copied(alloc, b"y")?));
     Ok(Targets::from_vec(vec![in alloc; first, second, third]?))
 }
 
@@ -129,8 +128,8 @@ fn asked_of(alloc: Global, specified: Specified) -> Result<Asked, AllocError> {
         Specified::Nothing => Ok(Asked::No),
         Specified::Variables => Ok(Asked::Vars(variables(alloc)?)),
         Specified::Set => Ok(Asked::Set(SetName {
-            domain: octs(alloc, b"BAY1")?,
-            item: octs(alloc, b"LLN0$Events")?,
+            domain: Octs::copied(alloc, b"BAY1")?,
+            item: Octs::copied(alloc, b"LLN0$Events")?,
         })),
     }
 }

@@ -46,17 +46,13 @@ pub const CHANGED: [bool; 5] = [true, false, false, false, false];
 
 pub const ASKED: [bool; 5] = [false, false, false, false, true];
 
-fn octs(alloc: Global, octets: &[u8]) -> Result<Octs, AllocError> {
-    Ok(Octs::from_vec(Vec::from_slice(alloc, octets)?))
-}
-
 /// Adds a member.
 pub fn add(alloc: Global, members: &mut Vec<Member>, given: Given<'_>) -> Result<(), AllocError> {
     let (number, reference, octets, [dchg, qchg, dupd, intg, gi]) = given;
     members.push(Member {
         number: MemberNo(number),
-        reference: octs(alloc, reference)?,
-        octets: octs(alloc, octets)?,
+        reference: Octs::copied(alloc, reference)?,
+        octets: Octs::copied(alloc, octets)?,
         reasons: Reasons {
             dchg,
             qchg,
@@ -90,11 +86,11 @@ pub fn pdus_of(
 ) -> Result<Pdus, AllocError> {
     let report = Report {
         block: BlockNo(0),
-        rpt_id: octs(alloc, b"Ev1")?,
+        rpt_id: Octs::copied(alloc, b"Ev1")?,
         opt_flds: Bits::from_vec(Vec::from_slice(alloc, &head.opt_flds)?),
         sq: head.sq,
         time: Moment::new(head.ms.saturating_add(441763200000)).unwrap_or(Moment::first()),
-        dat_set: octs(alloc, head.dat_set)?,
+        dat_set: Octs::copied(alloc, head.dat_set)?,
         ovfl: head.ovfl,
         id: head.id,
         conf_rev: head.conf_rev,

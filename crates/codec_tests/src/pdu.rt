@@ -1,18 +1,6 @@
 //! MMS PDUs: what is read of octets, and what is written.
 
-mod asking;
-mod initiate;
-mod replies;
-mod replying;
+pub mod initiate;
+pub mod replies;
 mod requests;
-
-use std::alloc::AllocError;
-use sv_base::Octs;
-
-/// Whether there was memory, and these octets were written.
-fn is_written(written: Result<Octs, AllocError>, octets: &[u8]) -> bool {
-    match &written {
-        Ok(written) => written.as_slice() == octets,
-        Err(_) => false,
-    }
-}
+mod writing;

@@ -12,12 +12,8 @@ use sv_base::{
     SgDefs, SharedOcts, ShortOcts, TypeOf,
 };
 
-pub fn octs(alloc: Global, octets: &[u8]) -> Result<Octs, AllocError> {
-    Ok(Octs::from_vec(Vec::from_slice(alloc, octets)?))
-}
-
 fn shared(alloc: Global, octets: &[u8]) -> Result<SharedOcts, AllocError> {
-    SharedOcts::new(alloc, octs(alloc, octets)?)
+    SharedOcts::new(alloc, Octs::copied(alloc, octets)?)
 }
 
 fn attrs(alloc: Global) -> Result<AttrDefs, AllocError>
@@ -43,13 +39,13 @@ fn config(alloc: Global) -> Result<Config, AllocError>
 {
     let node = LnDef {
         line: 4,
-        domain: octs(alloc, b"BAY1")?,
-        ln: octs(alloc, b"MMXU1")?,
+        domain: Octs::copied(alloc, b"BAY1")?,
+        ln: Octs::copied(alloc, b"MMXU1")?,
     };
     Ok(Config {
-        vendor: octs(alloc, b"Demo")?,
-        model: octs(alloc, b"Bay")?,
-        revision: octs(alloc, b"1")?,
+        vendor: Octs::copied(alloc, b"Demo")?,
+        model: Octs::copied(alloc, b"Bay")?,
+        revision: Octs::copied(alloc, b"1")?,
         nodes: LnDefs::from_vec(vec![in alloc; node]?),
         attrs: attrs(alloc)?,
         sets: SetDefs::from_vec(Vec::new(alloc)),

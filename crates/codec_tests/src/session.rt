@@ -8,8 +8,7 @@ use sv_base::Octs;
 
 mod octets;
 mod presentation;
-mod refusals;
-mod spdus;
+mod reading;
 
 /// The mode, a context of ACSE and one of MMS with BER, user data with an AARQ and with an AARE, and a result that accepts.
 const PARTS: [Element; 6] = [
@@ -31,9 +30,18 @@ const PARTS: [Element; 6] = [
     (b'Y', &[0x30, 7, 0x80, 1, 0, 0x81, 2, 0x51, 1]),
 ];
 
-/// Whether a part is the last octets of the whole.
-fn ends(whole: &[u8], part: &[u8], len: usize) -> bool {
-    part.len() == len && whole.ends_with(part)
+/// Whether a CP chooses these contexts.
+fn chooses(cp: &Cp<'_>, acse: u32, mms: u32, list: &[bool]) -> bool {
+    for place in 0..list.len() {
+        if cp.list.get(place) != list.get(place).copied() {
+            return false;
+        }
+    }
+    cp.acse == acse
+        && cp.mms == mms
+        && cp.list.len() == list.len()
+        && cp.list.get(list.len()).is_none()
+        && !cp.list.is_empty()
 }
 
 /// The writers, for short octets.
@@ -83,12 +91,4 @@ fn disconnect(rt: &HostRuntime, context: u32, apdu: &[u8]) -> Result<Octs, Alloc
         return Err(AllocError);
     }
     write_dn(rt.alloc(), context, apdu)
-}
-
-#[test]
-fn ends_of_octets(rt: HostRuntime) {
-    let right = ends(&[1, 2, 3], &[2, 3], 2)
-        && !ends(&[1, 2, 3], &[2, 3], 3)
-        && !ends(&[1, 2, 3], &[1, 2], 2);
-    assert!(rt; right);
 }

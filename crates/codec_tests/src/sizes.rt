@@ -7,7 +7,7 @@ ghost use Rattle.std.specs.Prelude.{◌≤◌, IfOk};
 ghost use Rattle.sv_base.specs.declared.config.Config.{Config};
 ghost use Rattle.bay_answers.specs.Replies.{CanBeReplied};
 
-use crate::plant::{model, octs};
+use crate::plant::model;
 use bay_answers::to_bytes;
 use bay_model::{ApplErrors, Asked, Names, Output, Reply, Results};
 use object_model::Model;
@@ -111,9 +111,9 @@ fn is_sent(
 fn names(alloc: Global, last: &[u8]) -> Result<Names, AllocError> {
     let mut items = Vec::new(alloc);
     for _ in 0..44u32 {
-        items.push(octs(alloc, &[b'm'; 20])?)?;
+        items.push(Octs::copied(alloc, &[b'm'; 20])?)?;
     }
-    items.push(octs(alloc, last)?)?;
+    items.push(Octs::copied(alloc, last)?)?;
     Ok(Names::from_vec(items))
 }
 

@@ -1,6 +1,8 @@
-//! Octets written as text: two hexadecimal digits each, and capital letters that stand for whole parts.
+//! Octets written as text, two hexadecimal digits each and capital letters that stand for whole parts; and how octets
+//! and values are compared with what is wanted.
 
 use std::alloc::{AllocError, Global};
+use std::fmt::Debug;
 use std::test::*;
 use sv_base::Octs;
 
@@ -41,6 +43,15 @@ pub fn spelled(alloc: Global, text: &[u8], parts: &[Element<'_>]) -> Result<Vec<
     Ok(out)
 }
 
+/// Octets that begin so, and an octet so many times behind that.
+pub fn filled(alloc: Global, head: &[u8], octet: u8, len: usize) -> Result<Vec<u8>, AllocError> {
+    let mut out = Vec::from_slice(alloc, head)?;
+    for _ in 0..len {
+        out.push(octet)?;
+    }
+    Ok(out)
+}
+
 /// Whether there was memory, and these octets were written.
 pub fn is_written(written: Result<Octs, AllocError>, octets: &[u8]) -> bool {
     match &written {
@@ -49,10 +60,29 @@ pub fn is_written(written: Result<Octs, AllocError>, octets: &[u8]) -> bool {
     }
 }
 
-#[test]
-fn digits_and_letters(rt: HostRuntime) -> Result<(), AllocError> {
+/// Whether a part is the last octets of the whole.
+pub fn ends(whole: &[u8], part: &[u8], len: usize) -> bool {
+    part.len() == len && whole.ends_with(part)
+}
+
+/// Whether a value is printed so.
+pub fn is_printed<T: Debug>(alloc: Global, value: &T, wanted: &str) -> Result<bool, AllocError> {
+    let text = format!(in alloc; "{value:?}")?;
+    Ok(text.as_str() == wanted)
+}
+
+fn are_spelled(alloc: Global) -> Result<bool, AllocError> {
     let parts: [Element; 2] = [(b'A', &[1, 2]), (b'N', &[])];
-    let octets = spelled(rt.alloc(), b"09A9fNa0ffA", &parts)?;
-    assert!(rt; octets.as_slice() == [0x09, 1, 2, 0x9f, 0xa0, 0xff, 1, 2].as_slice());
+    let octets = spelled(alloc, b"09A9fNa0ffA", &parts)?;
+    Ok(octets.as_slice() == [0x09, 1, 2, 0x9f, 0xa0, 0xff, 1, 2].as_slice())
+}
+
+#[test]
+fn a_text_spells_octets_and_octets_end_with_a_part(rt: HostRuntime) -> Result<(), AllocError> {
+    let right = are_spelled(rt.alloc())?
+        && ends(&[1, 2, 3], &[2, 3], 2)
+        && !ends(&[1, 2, 3], &[2, 3], 3)
+        && !ends(&[1, 2, 3], &[1, 2], 2);
+    assert!(rt; right);
     Ok(())
 }

@@ -3,19 +3,13 @@
 ghost use Rattle.std.specs.Prelude.{◌≤◌, length};
 ghost use Rattle.tpkt_cotp.specs.Written.{IsExponent};
 
+use crate::pdu::replies::REPORT;
 use osi_stack::{Line, frames};
 use std::alloc::{AllocError, Global};
 use std::test::*;
 use sv_base::Octs;
 
 mod streams;
-
-/// A report of a buffered block: RptID, OptFlds, SqNum, TimeofEntry, BufOvfl, EntryID, ConfRev, inclusion, value, reason.
-const REPORT: [u8; 61] = [
-    0xa3, 0x3b, 0xa0, 0x39, 0xa1, 5, 0x80, 3, 0x52, 0x50, 0x54, 0xa0, 0x30, 0x8a, 3, 0x45, 0x76,
-    0x31, 0x84, 3, 6, 0x73, 0x80, 0x86, 1, 0, 0x8c, 6, 0, 0, 0, 10, 0, 0, 0x83, 1, 0, 0x89, 8, 0,
-    0, 0, 0, 0, 0, 0, 1, 0x86, 1, 1, 0x84, 2, 5, 0x20, 0x85, 1, 5, 0x84, 2, 1, 0x40,
-];
 
 #[tactic(auto, using(osi_stack::proofs::FitLaws::pdv_fits))]
 fn framed_on(alloc: Global, line: Line, pdu: &[u8]) -> Result<Octs, AllocError>
@@ -42,8 +36,7 @@ fn is_framed(
     Ok(octets.len() == len && octets.starts_with(front) && octets.ends_with(end))
 }
 
-#[test]
-fn a_report_in_one_tpkt(rt: HostRuntime) -> Result<(), AllocError> {
+fn a_report_is_framed(alloc: Global) -> Result<bool, AllocError> {
     let line = Line {
         context: 3,
         exponent: 13,
@@ -52,13 +45,11 @@ fn a_report_in_one_tpkt(rt: HostRuntime) -> Result<(), AllocError> {
     let front = [
         3, 0, 0, 0x51, 2, 0xf0, 0x80, 1, 0, 1, 0, 0x61, 0x44, 0x30, 0x42, 2, 1, 3, 0xa0, 0x3d,
     ];
-    assert!(rt; is_framed(rt.alloc(), line, &REPORT, 81, &front, &REPORT)?);
-    Ok(())
+    is_framed(alloc, line, &REPORT, 81, &front, &REPORT)
 }
 
-#[test]
-fn a_pdu_in_two_tpkts(rt: HostRuntime) -> Result<(), AllocError> {
-    // 128 octets a TPDU: 125 of data in the first DT, the other 15 in the last
+/// Whether a PDU is cut in two: of 128 octets a TPDU 125 are data in the first DT, the other 15 are in the last.
+fn a_pdu_is_cut(alloc: Global) -> Result<bool, AllocError> {
     let line = Line {
         context: 300,
         exponent: 7,
@@ -74,6 +65,12 @@ fn a_pdu_in_two_tpkts(rt: HostRuntime) -> Result<(), AllocError> {
     let last = [
         3, 0, 0, 22, 2, 0xf0, 0x80, 7, 7, 7, 7, 7, 7, 7, 7, 7, 7, 7, 7, 7, 7, 7,
     ];
-    assert!(rt; is_framed(rt.alloc(), line, &pdu, 154, &front, &last)?);
+    is_framed(alloc, line, &pdu, 154, &front, &last)
+}
+
+#[test]
+fn a_pdu_goes_in_one_tpkt_or_in_two(rt: HostRuntime) -> Result<(), AllocError> {
+    assert!(rt; a_report_is_framed(rt.alloc())?, "a report in one");
+    assert!(rt; a_pdu_is_cut(rt.alloc())?, "a PDU in two");
     Ok(())
 }

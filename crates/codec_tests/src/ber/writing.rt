@@ -32,121 +32,131 @@ fn is_element(alloc: Global, tag: u32, content: &[u8], head: &[u8]) -> Result<bo
     )
 }
 
-#[test]
-fn elements(rt: HostRuntime) -> Result<(), AllocError> {
-    let long = [7u8; 300];
-    // tag, content, the octets before the content
-    let table: [(u32, &[u8], &[u8]); 8] = [
-        (0x1a, b"BAY1", &[0x30, 0x1a, 4]),
-        (0x80, &[], &[0x30, 0x80, 0]),
-        (0xbf4d, &[1], &[0x30, 0xbf, 0x4d, 1]),
-        (0xbf8102, &[1], &[0x30, 0xbf, 0x81, 2, 1]),
-        (0xa4, &long[..127], &[0x30, 0xa4, 127]),
-        (0xa4, &long[..128], &[0x30, 0xa4, 0x81, 128]),
-        // X.690, 8.1.3.5: a length of 201 is 81 C9
-        (0xa4, &long[..201], &[0x30, 0xa4, 0x81, 0xc9]),
-        (0xa4, &long, &[0x30, 0xa4, 0x82, 1, 0x2c]),
-    ];
-    for (tag, content, head) in table {
-        assert!(rt; is_element(rt.alloc(), tag, content, head)?, "{head:?}");
-    }
-    Ok(())
+const LONG: [u8; 300] = [7; 300];
+
+/// Whether elements of many tags and lengths are written; in X.690, 8.1.3.5, a length of 201 is 81 C9.
+fn elements_are_written(alloc: Global) -> Result<bool, AllocError> {
+    Ok(
+        is_element(alloc, 0x1a, b"BAY1", &[0x30, 0x1a, 4])?
+            && is_element(alloc, 0x80, &[], &[0x30, 0x80, 0])?
+            && is_element(alloc, 0xbf4d, &[1], &[0x30, 0xbf, 0x4d, 1])?
+            && is_element(alloc, 0xbf8102, &[1], &[0x30, 0xbf, 0x81, 2, 1])?
+            && is_element(alloc, 0xa4, &LONG[..127], &[0x30, 0xa4, 127])?
+            && is_element(alloc, 0xa4, &LONG[..128], &[0x30, 0xa4, 0x81, 128])?
+            && is_element(alloc, 0xa4, &LONG[..201], &[0x30, 0xa4, 0x81, 0xc9])?
+            && is_element(alloc, 0xa4, &LONG, &[0x30, 0xa4, 0x82, 1, 0x2c])?,
+    )
 }
 
-const LENGTHS: [(u32, u32); 10] = [
-    (0, 1),
-    (127, 1),
-    (128, 2),
-    (255, 2),
-    (256, 3),
-    (65535, 3),
-    (65536, 4),
-    (16777215, 4),
-    (16777216, 5),
-    (u32::MAX, 5),
+/// What is written: the length of a content, or an element of a number or of bits.
+#[derive(Debug)]
+enum Content {
+    Length(u32),
+    Signed(i64),
+    Unsigned(u64),
+    Bits(&'static [bool]),
+}
+
+// the options of a server's report, and the parameters of an association
+const OPTIONS: [bool; 10] = [
+    false, true, true, true, false, false, true, true, true, false,
 ];
 
-#[test]
-fn lengths(rt: HostRuntime) {
-    for (n, octets) in &LENGTHS {
-        assert!(rt; length_of(*n) == *octets, "{n}");
-    }
-}
+const ELEVEN: [bool; 11] = [
+    true, true, true, true, false, false, false, true, false, false, false,
+];
 
-const SIGNED: [(i64, &[u8]); 9] = [
-    (0, &[0x30, 0x85, 1, 0]),
-    (127, &[0x30, 0x85, 1, 127]),
-    (128, &[0x30, 0x85, 2, 0, 128]),
-    (300, &[0x30, 0x85, 2, 1, 0x2c]),
-    (-1, &[0x30, 0x85, 1, 255]),
-    (-128, &[0x30, 0x85, 1, 128]),
-    (-129, &[0x30, 0x85, 2, 255, 127]),
+/// What is written, and its octets: a length and what comes behind a tag.
+const ROWS: [(Content, &[u8]); 28] = [
+    (Content::Length(0), &[0]),
+    (Content::Length(127), &[127]),
+    (Content::Length(128), &[0x81, 128]),
+    (Content::Length(255), &[0x81, 255]),
+    (Content::Length(256), &[0x82, 1, 0]),
+    (Content::Length(65535), &[0x82, 255, 255]),
+    (Content::Length(65536), &[0x83, 1, 0, 0]),
+    (Content::Length(16777215), &[0x83, 255, 255, 255]),
+    (Content::Length(16777216), &[0x84, 1, 0, 0, 0]),
+    (Content::Length(u32::MAX), &[0x84, 255, 255, 255, 255]),
+    (Content::Signed(0), &[1, 0]),
+    (Content::Signed(127), &[1, 127]),
+    (Content::Signed(128), &[2, 0, 128]),
+    (Content::Signed(300), &[2, 1, 0x2c]),
+    (Content::Signed(-1), &[1, 255]),
+    (Content::Signed(-128), &[1, 128]),
+    (Content::Signed(-129), &[2, 255, 127]),
     (
-        i64::MAX,
-        &[0x30, 0x85, 8, 127, 255, 255, 255, 255, 255, 255, 255],
+        Content::Signed(i64::MAX),
+        &[8, 127, 255, 255, 255, 255, 255, 255, 255],
     ),
-    (i64::MIN, &[0x30, 0x85, 8, 128, 0, 0, 0, 0, 0, 0, 0]),
+    (Content::Signed(i64::MIN), &[8, 128, 0, 0, 0, 0, 0, 0, 0]),
+    (Content::Unsigned(0), &[1, 0]),
+    (Content::Unsigned(255), &[2, 0, 255]),
+    (Content::Unsigned(65000), &[3, 0, 0xfd, 0xe8]),
+    (
+        Content::Unsigned(u64::MAX),
+        &[9, 0, 255, 255, 255, 255, 255, 255, 255, 255],
+    ),
+    (Content::Bits(&[]), &[1, 0]),
+    (Content::Bits(&[true, false]), &[2, 6, 0x80]),
+    (Content::Bits(&OPTIONS), &[3, 6, 0x73, 0x80]),
+    (Content::Bits(&ELEVEN), &[3, 5, 0xf1, 0]),
+    // the first eight options
+    (
+        Content::Bits(&[false, true, true, true, false, false, true, true]),
+        &[2, 0, 0x73],
+    ),
 ];
+
+/// Whether these octets stand behind the one that was there and a tag.
+fn is_behind(out: &[u8], tag: u8, octets: &[u8]) -> bool {
+    match out {
+        [0x30, found, rest @ ..] => *found == tag && rest == octets,
+        _ => false,
+    }
+}
+
+fn is_length(alloc: Global, len: u32, octets: &[u8]) -> Result<bool, AllocError> {
+    let mut out = begun(alloc)?;
+    put_head(&mut out, 0xa4, len)?;
+    Ok(is_behind(&out, 0xa4, octets) && length_of(len) as usize == octets.len())
+}
 
 fn is_signed(alloc: Global, value: i64, octets: &[u8]) -> Result<bool, AllocError> {
     let mut out = begun(alloc)?;
     put_int(&mut out, 0x85, value)?;
-    Ok(out.as_slice() == octets && int_len(value) as usize + 3 == octets.len())
+    Ok(is_behind(&out, 0x85, octets) && int_len(value) as usize + 1 == octets.len())
 }
-
-const UNSIGNED: [(u64, &[u8]); 4] = [
-    (0, &[0x30, 0x86, 1, 0]),
-    (255, &[0x30, 0x86, 2, 0, 255]),
-    (65000, &[0x30, 0x86, 3, 0, 0xfd, 0xe8]),
-    (
-        u64::MAX,
-        &[0x30, 0x86, 9, 0, 255, 255, 255, 255, 255, 255, 255, 255],
-    ),
-];
 
 fn is_unsigned(alloc: Global, value: u64, octets: &[u8]) -> Result<bool, AllocError> {
     let mut out = begun(alloc)?;
     put_uint(&mut out, 0x86, value)?;
-    Ok(out.as_slice() == octets && uint_len(value) as usize + 3 == octets.len())
+    Ok(is_behind(&out, 0x86, octets) && uint_len(value) as usize + 1 == octets.len())
 }
 
-#[test]
-fn numbers(rt: HostRuntime) -> Result<(), AllocError> {
-    for (value, octets) in &SIGNED {
-        assert!(rt; is_signed(rt.alloc(), *value, octets)?, "{value}");
+fn are_bits(alloc: Global, value: &[bool], octets: &[u8]) -> Result<bool, AllocError> {
+    if value.len() > 100 {
+        return Ok(false);
     }
-    for (value, octets) in &UNSIGNED {
-        assert!(rt; is_unsigned(rt.alloc(), *value, octets)?, "{value}");
-    }
-    Ok(())
-}
-
-fn is_bits(alloc: Global, value: &[bool], octets: &[u8]) -> Result<bool, AllocError>
-    requires { length value.now ≤ 100 }
-{
     let mut out = begun(alloc)?;
     put_bits(&mut out, 0x84, value)?;
-    Ok(out.as_slice() == octets && bits_len(value) + 3 == octets.len())
+    Ok(is_behind(&out, 0x84, octets) && bits_len(value) + 1 == octets.len())
+}
+
+fn is_written(alloc: Global, content: &Content, octets: &[u8]) -> Result<bool, AllocError> {
+    match content {
+        Content::Length(len) => is_length(alloc, *len, octets),
+        Content::Signed(value) => is_signed(alloc, *value, octets),
+        Content::Unsigned(value) => is_unsigned(alloc, *value, octets),
+        Content::Bits(value) => are_bits(alloc, value, octets),
+    }
 }
 
 #[test]
-fn bit_strings(rt: HostRuntime) -> Result<(), AllocError> {
-    // the options of a server's report, and the parameters of an association
-    let options = [
-        false, true, true, true, false, false, true, true, true, false,
-    ];
-    let eleven = [
-        true, true, true, true, false, false, false, true, false, false, false,
-    ];
-    let table: [(&[bool], &[u8]); 5] = [
-        (&[], &[0x30, 0x84, 1, 0]),
-        (&[true, false], &[0x30, 0x84, 2, 6, 0x80]),
-        (&options, &[0x30, 0x84, 3, 6, 0x73, 0x80]),
-        (&eleven, &[0x30, 0x84, 3, 5, 0xf1, 0]),
-        (&options[..8], &[0x30, 0x84, 2, 0, 0x73]),
-    ];
-    for (value, octets) in table {
-        assert!(rt; is_bits(rt.alloc(), value, octets)?, "{octets:?}");
+fn elements_numbers_and_bit_strings_are_written(rt: HostRuntime) -> Result<(), AllocError> {
+    assert!(rt; elements_are_written(rt.alloc())?, "elements");
+    for (content, octets) in &ROWS {
+        assert!(rt; is_written(rt.alloc(), content, octets)?, "{content:?}");
     }
     Ok(())
 }

@@ -1,6 +1,6 @@
 //! Initiates as clients and servers of IEC 61850-8-1 write them, and what each field may be.
 
-use crate::pdu::is_written;
+use crate::spelled::{is_printed, is_written};
 use mms_pdu::{
     Initiate, PduFault, read_initiate, read_initiate_answer, write_initiate_answer,
     write_initiate_request,
@@ -10,14 +10,14 @@ use std::test::*;
 use sv_base::Octs;
 
 /// The request of a client that asks for 65000 octets.
-const REQUEST: [u8; 40] = [
+pub const REQUEST: [u8; 40] = [
     0xa8, 0x26, 0x80, 0x03, 0x00, 0xfd, 0xe8, 0x81, 0x01, 0x05, 0x82, 0x01, 0x05, 0x83, 0x01, 0x0a,
     0xa4, 0x16, 0x80, 0x01, 0x01, 0x81, 0x03, 0x05, 0xf1, 0x00, 0x82, 0x0c, 0x03, 0xee, 0x1c, 0x00,
     0x00, 0x04, 0x08, 0x00, 0x00, 0x79, 0xef, 0x18,
 ];
 
 /// The answer that accepts it.
-const ANSWER: [u8; 40] = [
+pub const ANSWER: [u8; 40] = [
     0xa9, 0x26, 0x80, 0x03, 0x00, 0xfd, 0xe8, 0x81, 0x01, 0x05, 0x82, 0x01, 0x05, 0x83, 0x01, 0x0a,
     0xa4, 0x16, 0x80, 0x01, 0x01, 0x81, 0x03, 0x05, 0xf1, 0x00, 0x82, 0x0c, 0x03, 0xee, 0x1c, 0x00,
     0x00, 0x00, 0x00, 0x00, 0x00, 0x00, 0x01, 0x10,
@@ -169,22 +169,16 @@ const READINGS: [(&[u8], &str); 21] = [
     (&[], "Err(Invalid)"),
 ];
 
-fn is_read(alloc: Global, octets: &[u8], want: &str) -> Result<bool, AllocError> {
-    let read = read_initiate(octets);
-    let text = format!(in alloc; "{read:?}")?;
-    Ok(text.as_str() == want)
-}
-
 #[test]
-fn requests_are_read(rt: HostRuntime) -> Result<(), AllocError> {
+fn initiate_requests_are_read_or_refused(rt: HostRuntime) -> Result<(), AllocError> {
     for (octets, want) in &READINGS {
-        assert!(rt; is_read(rt.alloc(), octets, want)?, "{octets:?}");
+        let read = read_initiate(octets);
+        assert!(rt; is_printed(rt.alloc(), &read, want)?, "{octets:?}");
     }
     Ok(())
 }
 
-#[test]
-fn answers_are_read(rt: HostRuntime) {
+fn answers_are_read() -> bool {
     let accepted = Initiate {
         size: 65000,
         calling: 5,
@@ -194,10 +188,9 @@ fn answers_are_read(rt: HostRuntime) {
     let mut small = ANSWER;
     small[5] = 3;
     small[6] = 0xff;
-    let right = read_initiate_answer(&ANSWER) == Ok(accepted)
+    read_initiate_answer(&ANSWER) == Ok(accepted)
         && read_initiate_answer(&REQUEST) == Err(PduFault::Invalid)
-        && read_initiate_answer(&small) == Err(PduFault::SmallSize(1023));
-    assert!(rt; right);
+        && read_initiate_answer(&small) == Err(PduFault::SmallSize(1023))
 }
 
 /// The answer to a request of these numbers.
@@ -211,15 +204,7 @@ fn answered(alloc: Global, calls: u32, nesting: u32) -> Result<Octs, AllocError>
     write_initiate_answer(alloc, &asked)
 }
 
-#[test]
-fn both_are_written(rt: HostRuntime) {
-    let alloc = rt.alloc();
-    let right = is_written(write_initiate_request(alloc, 65000), &REQUEST)
-        && is_written(answered(alloc, 5, 10), &ANSWER);
-    assert!(rt; right);
-}
-
-/// Whether an answer of these calls and this nesting is written.
+/// Whether an answer to these calls and this nesting grants so many.
 fn grants(alloc: Global, calls: u32, nesting: u32, granted: u8, deep: u8) -> bool {
     let mut want = ANSWER;
     want[9] = granted;
@@ -229,12 +214,16 @@ fn grants(alloc: Global, calls: u32, nesting: u32, granted: u8, deep: u8) -> boo
 }
 
 #[test]
-fn an_answer_grants_no_more_than_there_is(rt: HostRuntime) {
-    // calls and nesting asked, calls and nesting granted
-    for (calls, nesting, granted, deep) in [(0, 0, 1, 1), (1, 11, 1, 10), (17, 9, 16, 9)] {
-        assert!(rt;
-            grants(rt.alloc(), calls, nesting, granted, deep),
-            "{calls} {nesting}"
-        );
-    }
+fn initiates_are_written_and_an_answer_grants_no_more_than_there_is(rt: HostRuntime) {
+    let alloc = rt.alloc();
+    assert!(rt; answers_are_read(), "answers are read");
+    assert!(rt;
+        is_written(write_initiate_request(alloc, 65000), &REQUEST),
+        "a request"
+    );
+    let granted = grants(alloc, 5, 10, 5, 10)
+        && grants(alloc, 0, 0, 1, 1)
+        && grants(alloc, 1, 11, 1, 10)
+        && grants(alloc, 17, 9, 16, 9);
+    assert!(rt; granted, "answers");
 }

@@ -1,7 +1,8 @@
 //! What a server sends, as standards and servers have it, and what is refused of it.
 
+use crate::spelled::is_printed;
 use mms_pdu::{PduFault, ReplyView, reply};
-use std::alloc::{AllocError, Global};
+use std::alloc::AllocError;
 use std::test::*;
 
 /// A report with one value, as a server of IEC 61850-8-1 sends it.
@@ -304,24 +305,18 @@ const REPLIES: [(&[u8], &str); 61] = [
     ),
 ];
 
-fn is_read(alloc: Global, octets: &[u8], want: &str) -> Result<bool, AllocError> {
-    let read = reply(octets);
-    let text = format!(in alloc; "{read:?}")?;
-    Ok(text.as_str() == want)
+fn reports_are_given_whole() -> bool {
+    reply(&REPORT) == Ok(ReplyView::Information(&REPORT))
+        && reply(&LAST_APPL_ERROR) == Ok(ReplyView::Information(&LAST_APPL_ERROR))
+        && reply(&REPORT[..60]) == Err(PduFault::Invalid)
 }
 
 #[test]
-fn replies(rt: HostRuntime) -> Result<(), AllocError> {
+fn what_a_server_sends_is_read_or_refused(rt: HostRuntime) -> Result<(), AllocError> {
+    assert!(rt; reports_are_given_whole(), "reports");
     for (octets, want) in &REPLIES {
-        assert!(rt; is_read(rt.alloc(), octets, want)?, "{octets:?}");
+        let read = reply(octets);
+        assert!(rt; is_printed(rt.alloc(), &read, want)?, "{octets:?}");
     }
     Ok(())
-}
-
-#[test]
-fn reports_are_given_whole(rt: HostRuntime) {
-    let right = reply(&REPORT) == Ok(ReplyView::Information(&REPORT))
-        && reply(&LAST_APPL_ERROR) == Ok(ReplyView::Information(&LAST_APPL_ERROR))
-        && reply(&REPORT[..60]) == Err(PduFault::Invalid);
-    assert!(rt; right);
 }

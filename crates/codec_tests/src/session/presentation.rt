@@ -1,10 +1,10 @@
-//! Connections, data and releases both ways, and the contexts that are chosen.
+//! Connections, data and releases both ways.
 
 use super::octets::{ACCEPT, CONNECT, DATA, OTHER_CONNECT};
-use super::{PARTS, ac, cn, cpa, disconnect, ends, finish, sent};
-use crate::spelled::{is_written, spelled};
-use session_pres::{Cp, SpFault, Spdu, read_ac, read_cp, read_data, read_dn, read_spdu};
-use std::alloc::{AllocError, Global};
+use super::{ac, chooses, cn, cpa, disconnect, finish, sent};
+use crate::spelled::{ends, filled, is_written};
+use session_pres::{SpFault, Spdu, read_ac, read_cp, read_data, read_dn, read_spdu};
+use std::alloc::AllocError;
 use std::test::*;
 use sv_base::Octs;
 
@@ -24,20 +24,6 @@ struct Wanted {
     mms: u32,
     list: &'static [bool],
     user: usize,
-}
-
-/// Whether a CP chooses these contexts.
-fn chooses(cp: &Cp<'_>, acse: u32, mms: u32, list: &[bool]) -> bool {
-    for place in 0..list.len() {
-        if cp.list.get(place) != list.get(place).copied() {
-            return false;
-        }
-    }
-    cp.acse == acse
-        && cp.mms == mms
-        && cp.list.len() == list.len()
-        && cp.list.get(list.len()).is_none()
-        && !cp.list.is_empty()
 }
 
 /// Whether the CONNECT is read so.
@@ -73,8 +59,7 @@ fn is_accept(spdu: &[u8], len: usize) -> bool {
     }
 }
 
-#[test]
-fn a_connection_of_one_client(rt: HostRuntime) {
+fn one_client_connects(rt: &HostRuntime) -> bool {
     let wanted = Wanted {
         cp: 132,
         acse: 1,
@@ -82,12 +67,11 @@ fn a_connection_of_one_client(rt: HostRuntime) {
         list: &[true, true],
         user: 64,
     };
-    let right = is_connect(&CONNECT, &wanted)
-        && is_written(cn(&rt, &CONNECT[92..]), &CONNECT)
-        && is_written(answered(&rt, &CONNECT, &ACCEPT[54..]), &ACCEPT[16..])
-        && is_written(ac(&rt, &ACCEPT[16..]), &ACCEPT)
-        && is_accept(&ACCEPT, 76);
-    assert!(rt; right);
+    is_connect(&CONNECT, &wanted)
+        && is_written(cn(rt, &CONNECT[92..]), &CONNECT)
+        && is_written(answered(rt, &CONNECT, &ACCEPT[54..]), &ACCEPT[16..])
+        && is_written(ac(rt, &ACCEPT[16..]), &ACCEPT)
+        && is_accept(&ACCEPT, 76)
 }
 
 // the answer names the client's number, and a result for each context in its place
@@ -97,8 +81,7 @@ const OTHER_ANSWER: [u8; 46] = [
     0xa0, 2, 0x61, 0,
 ];
 
-#[test]
-fn a_connection_of_another_client(rt: HostRuntime) {
+fn another_client_connects(rt: &HostRuntime) -> bool {
     let wanted = Wanted {
         cp: 142,
         acse: 257,
@@ -106,9 +89,8 @@ fn a_connection_of_another_client(rt: HostRuntime) {
         list: &[true, true, false],
         user: 40,
     };
-    let right = is_connect(&OTHER_CONNECT, &wanted)
-        && is_written(answered(&rt, &OTHER_CONNECT, &[0x61, 0]), &OTHER_ANSWER);
-    assert!(rt; right);
+    is_connect(&OTHER_CONNECT, &wanted)
+        && is_written(answered(rt, &OTHER_CONNECT, &[0x61, 0]), &OTHER_ANSWER)
 }
 
 /// Whether user data are a value of so many last octets in this context.
@@ -131,12 +113,10 @@ const OTHER_DATA: [u8; 20] = [
     0x61, 0x12, 0x30, 0x10, 6, 2, 0x51, 1, 2, 5, 0, 255, 255, 255, 255, 0xa0, 3, 0xa0, 1, 0,
 ];
 
-#[test]
-fn data_both_ways(rt: HostRuntime) {
-    let right = is_data_spdu(&DATA, 3, 61)
-        && is_written(sent(&rt, 3, &DATA[13..]), &DATA)
-        && is_data(&OTHER_DATA, &OTHER_DATA, u32::MAX, 3);
-    assert!(rt; right);
+fn data_go_both_ways(rt: &HostRuntime) -> bool {
+    is_data_spdu(&DATA, 3, 61)
+        && is_written(sent(rt, 3, &DATA[13..]), &DATA)
+        && is_data(&OTHER_DATA, &OTHER_DATA, u32::MAX, 3)
 }
 
 // a release that is asked for, and its answer
@@ -156,65 +136,33 @@ fn is_disconnect(spdu: &[u8], len: usize) -> bool {
     matches!(read_dn(spdu), Ok(Some(user)) if ends(spdu, user, len))
 }
 
-#[test]
-fn a_release_both_ways(rt: HostRuntime) {
-    let written = is_written(finish(&rt, 1, &[0x62, 3, 0x80, 1, 0]), &FINISH)
-        && is_written(disconnect(&rt, 1, &[0x63, 3, 0x80, 1, 0]), &DISCONNECT);
-    assert!(rt; written);
-    let read = is_finish(&FINISH, 14)
+fn a_release_goes_both_ways(rt: &HostRuntime) -> bool {
+    is_written(finish(rt, 1, &[0x62, 3, 0x80, 1, 0]), &FINISH)
+        && is_written(disconnect(rt, 1, &[0x63, 3, 0x80, 1, 0]), &DISCONNECT)
+        && is_finish(&FINISH, 14)
         && is_disconnect(&DISCONNECT, 14)
         && read_dn(&[10, 0]) == Ok(None)
         && read_dn(&FINISH) == Err(SpFault::Spdu)
-        && read_dn(&[10, 1, 0xc1]) == Err(SpFault::Parameter);
-    assert!(rt; read);
+        && read_dn(&[10, 1, 0xc1]) == Err(SpFault::Parameter)
 }
 
-/// Its name, a CP whose user data are its last two octets, and the contexts that are chosen.
-type Chosen = (&'static str, &'static [u8], u32, u32, &'static [bool]);
-
-const CHOSEN_CONTEXTS: [Chosen; 4] = [
-    (
-        "the mode in long lengths, behind another element",
-        b"313ca0810781010080810101a230a423AMU",
-        1,
-        3,
-        &[true, true],
-    ),
-    (
-        "the first of two contexts of MMS",
-        b"3149Sa242a435AM3010020105060528ca220201300406025101U",
-        1,
-        3,
-        &[true, true, false],
-    ),
-    (
-        "two contexts between",
-        b"3159Sa252a445300f02010706042a030405300406025103A300f02010906042a030405300406025101MU",
-        1,
-        3,
-        &[false, true, false, true],
-    ),
-    (
-        "a long length and a padded number",
-        b"313bSa283000031a424301002020001060452010001300406025101MU",
-        1,
-        3,
-        &[true, true],
-    ),
-];
-
-fn is_chosen(alloc: Global, row: &Chosen) -> Result<bool, AllocError> {
-    let octets = spelled(alloc, row.1, &PARTS)?;
-    Ok(match read_cp(&octets) {
-        Ok(cp) => chooses(&cp, row.2, row.3, row.4) && ends(&octets, cp.user, 2),
-        Err(_) => false,
-    })
+/// Whether an APDU of 300 octets is written with long lengths in both layers.
+fn is_long_written(rt: &HostRuntime) -> Result<bool, AllocError> {
+    let apdu = filled(rt.alloc(), &[0x62, 0x82, 1, 0x28], 7, 296)?;
+    let written = finish(rt, 1, &apdu)?;
+    let head = [
+        9, 255, 1, 63, 0xc1, 255, 1, 59, 0x61, 0x82, 1, 55, 0x30, 0x82, 1, 51, 2, 1, 1, 0xa0, 0x82,
+        1, 44,
+    ];
+    Ok(written.as_slice().starts_with(&head) && ends(written.as_slice(), &apdu, 300))
 }
 
 #[test]
-fn contexts_are_chosen(rt: HostRuntime) -> Result<(), AllocError> {
-    for row in &CHOSEN_CONTEXTS {
-        assert!(rt; is_chosen(rt.alloc(), row)?, "{}", row.0);
-    }
+fn connections_data_and_releases_go_both_ways(rt: HostRuntime) -> Result<(), AllocError> {
+    assert!(rt; one_client_connects(&rt), "a client");
+    assert!(rt; another_client_connects(&rt), "another client");
+    assert!(rt; data_go_both_ways(&rt), "data");
+    assert!(rt; a_release_goes_both_ways(&rt), "a release");
+    assert!(rt; is_long_written(&rt)?, "long lengths");
     Ok(())
 }

@@ -2,27 +2,13 @@
 
 ghost use Rattle.std.specs.Prelude.{◌≢◌};
 
-use super::{REPORT, framed_on};
+use super::framed_on;
+use crate::pdu::replies::REPORT;
 use crate::spelled::is_written;
+use crate::transport::{CC, CR};
 use osi_stack::{Caller, Event, Events, Line, StackFault, Upper};
 use std::alloc::{AllocError, Global};
 use std::test::*;
-
-/// A CR with the TPDU size 2 ^ 13 and both selectors.
-fn cr() -> &'static [u8] {
-    &[
-        0x03, 0x00, 0x00, 0x16, 0x11, 0xe0, 0x00, 0x00, 0x00, 0x01, 0x00, 0xc0, 0x01, 0x0d, 0xc2,
-        0x02, 0x00, 0x01, 0xc1, 0x02, 0x00, 0x01,
-    ]
-}
-
-/// The CC that answers it.
-fn cc() -> &'static [u8] {
-    &[
-        0x03, 0x00, 0x00, 0x16, 0x11, 0xd0, 0x00, 0x01, 0x00, 0x01, 0x00, 0xc0, 0x01, 0x0d, 0xc2,
-        0x02, 0x00, 0x01, 0xc1, 0x02, 0x00, 0x01,
-    ]
-}
 
 /// A CONNECT that proposes PDUs of 65000 octets, in a DT.
 fn cn() -> &'static [u8] {
@@ -233,121 +219,188 @@ fn is_called(alloc: Global, stream: &[u8], size: usize, wanted: &[u8]) -> Result
     Ok(told.as_slice() == wanted)
 }
 
-#[test]
-fn a_server_answers(rt: HostRuntime) -> Result<(), AllocError> {
-    let stream = joined(rt.alloc(), &[cr(), cn(), finish(), &[4, 4]])?;
-    let answers = joined(
-        rt.alloc(),
-        &[b"A", cc(), agreed(), ac(), b"R", disconnect()],
-    )?;
-    for size in [1, 7, 1000] {
-        assert!(rt;
-            is_served(rt.alloc(), &stream, size, &answers)?,
-            "pieces of {size}"
-        );
-    }
-    Ok(())
+/// Whether a server tells this of a whole connection that comes in pieces of so many octets.
+fn a_server_answers(alloc: Global, size: usize) -> Result<bool, AllocError>
+    requires { size ≢ 0 }
+{
+    let stream = joined(alloc, &[&CR, cn(), finish(), &[4, 4]])?;
+    let answers = joined(alloc, &[b"A", &CC, agreed(), ac(), b"R", disconnect()])?;
+    is_served(alloc, &stream, size, &answers)
 }
 
-/// These octets with the one at this place changed.
-fn changed(alloc: Global, octets: &[u8], place: usize, to: u8) -> Result<Vec<u8>, AllocError> {
-    let mut out = Vec::new(alloc);
-    for (i, octet) in octets.iter().enumerate() {
-        out.extend_from_slice(&[if i == place { to } else { *octet }])?;
-    }
-    Ok(out)
-}
-
-/// What is told, and then a refusal: layer, code, and octets below 256.
-fn refusal(alloc: Global, before: &[&[u8]], fault: [u8; 3]) -> Result<Vec<u8>, AllocError> {
-    let mut out = joined(alloc, before)?;
-    out.extend_from_slice(&[b'F', fault[0], fault[1], 0, 0, 0, 0, 0, 0, 0, fault[2]])?;
-    Ok(out)
-}
-
-/// Whether a called side refuses a stream of TPKTs, before which the CC and perhaps the ACCEPT are told.
-fn is_refused(alloc: Global, stream: &[&[u8]], fault: [u8; 3]) -> Result<bool, AllocError> {
-    let stream = joined(alloc, stream)?;
-    let wanted = match fault[2] {
-        0 => refusal(alloc, &[], fault)?,
-        22 => refusal(alloc, &[b"A", cc()], fault)?,
-        _ => refusal(alloc, &[b"A", cc(), agreed(), ac()], fault)?,
-    };
-    is_served(alloc, &stream, 1000, &wanted)
-}
-
-#[test]
-fn a_server_refuses(rt: HostRuntime) -> Result<(), AllocError> {
-    let alloc = rt.alloc();
-    let name = changed(alloc, cn(), NAME, 4)?;
-    let small = changed(alloc, cn(), SIZE, 3)?;
-    let small = changed(alloc, &small, SIZE + 1, 0xff)?;
-    let elsewhere = changed(alloc, finish(), CONTEXT, 3)?;
-    // TPKTs, the last of which is refused, and the refusal
-    let refused: [([&[u8]; 3], [u8; 3]); 7] = [
-        ([&[4], &[], &[]], [1, 1, 0]),
-        ([cn(), &[], &[]], [1, 5, 0]),
-        ([cr(), &name, &[]], [3, 2, 22]),
-        ([cr(), &small, &[]], [4, 5, 22]),
-        ([cr(), finish(), &[]], [2, 1, 22]),
-        ([cr(), cn(), cn()], [2, 1, 185]),
-        ([cr(), cn(), &elsewhere], [2, 6, 185]),
-    ];
-    for (stream, fault) in refused {
-        assert!(rt; is_refused(alloc, &stream, fault)?, "{fault:?}");
-    }
-    Ok(())
-}
-
-#[test]
-fn a_caller_writes(rt: HostRuntime) {
-    let alloc = rt.alloc();
-    let right = is_written(Caller::new(65000).opening(alloc), cr())
-        && is_written(Caller::release(alloc, LINE), finish());
-    assert!(rt; right);
-}
-
-#[test]
-fn a_caller_asks(rt: HostRuntime) -> Result<(), AllocError> {
-    let alloc = rt.alloc();
-    let stream = joined(alloc, &[cc(), ac(), disconnect(), &[4, 4]])?;
+/// Whether a client tells this of a whole connection that comes in pieces of so many octets.
+fn a_caller_asks(alloc: Global, size: usize) -> Result<bool, AllocError>
+    requires { size ≢ 0 }
+{
+    let stream = joined(alloc, &[&CC, ac(), disconnect(), &[4, 4]])?;
     let wanted = joined(alloc, &[b"A", cn(), agreed(), b"R"])?;
-    for size in [1, 7, 1000] {
-        assert!(rt;
-            is_called(alloc, &stream, size, &wanted)?,
-            "pieces of {size}"
-        );
-    }
-    Ok(())
+    is_called(alloc, &stream, size, &wanted)
 }
 
-/// Whether a calling side refuses an ACCEPT with this octet changed.
-fn is_refused_accept(
-    alloc: Global,
-    place: usize,
-    to: u8,
-    layer: u8,
-    code: u8,
-) -> Result<bool, AllocError> {
-    let accept = changed(alloc, ac(), place, to)?;
-    let stream = joined(alloc, &[cc(), &accept])?;
-    let wanted = refusal(alloc, &[b"A", cn()], [layer, code, 22])?;
-    is_called(alloc, &stream, 1000, &wanted)
+/// How far a connection is: no TPKT came, the call, the call and the CONNECT; or the caller's call was confirmed.
+enum Stage {
+    Begun,
+    Called,
+    Connected,
+    Confirmed,
+}
+
+/// The TPKT that is refused.
+enum Last {
+    OfVersion4,
+    Connect,
+    Accept,
+    Finish,
+}
+
+/// What comes, the octets that are others in it, each with its place, and the refusal: its layer, its code, and octets
+/// below 256.
+type Refusal = (&'static str, Stage, Last, &'static [(usize, u8)], [u8; 3]);
+
+const REFUSALS: [Refusal; 12] = [
+    (
+        "another version",
+        Stage::Begun,
+        Last::OfVersion4,
+        &[],
+        [1, 1, 0],
+    ),
+    (
+        "a CONNECT without a call",
+        Stage::Begun,
+        Last::Connect,
+        &[],
+        [1, 5, 0],
+    ),
+    (
+        "another application context",
+        Stage::Called,
+        Last::Connect,
+        &[(NAME, 4)],
+        [3, 2, 22],
+    ),
+    (
+        "a size of 1023",
+        Stage::Called,
+        Last::Connect,
+        &[(SIZE, 3), (SIZE + 1, 0xff)],
+        [4, 5, 22],
+    ),
+    (
+        "a FINISH without a CONNECT",
+        Stage::Called,
+        Last::Finish,
+        &[],
+        [2, 1, 22],
+    ),
+    (
+        "a second CONNECT",
+        Stage::Connected,
+        Last::Connect,
+        &[],
+        [2, 1, 185],
+    ),
+    (
+        "a FINISH in another context",
+        Stage::Connected,
+        Last::Finish,
+        &[(CONTEXT, 3)],
+        [2, 6, 185],
+    ),
+    (
+        "the context of ACSE refused",
+        Stage::Confirmed,
+        Last::Accept,
+        &[(FIRST, 1)],
+        [2, 4, 22],
+    ),
+    (
+        "the context of MMS refused",
+        Stage::Confirmed,
+        Last::Accept,
+        &[(SECOND, 1)],
+        [2, 5, 22],
+    ),
+    (
+        "the association refused",
+        Stage::Confirmed,
+        Last::Accept,
+        &[(RESULT, 1)],
+        [3, 1, 22],
+    ),
+    (
+        "an initiate request",
+        Stage::Confirmed,
+        Last::Accept,
+        &[(INITIATE, 0xa8)],
+        [4, 4, 22],
+    ),
+    (
+        "a size of 1000",
+        Stage::Confirmed,
+        Last::Accept,
+        &[(ACCEPTED, 3)],
+        [4, 5, 22],
+    ),
+];
+
+/// The octets that came.
+fn came(alloc: Global, stage: &Stage) -> Result<Vec<u8>, AllocError> {
+    match stage {
+        Stage::Begun => Ok(Vec::new(alloc)),
+        Stage::Called => joined(alloc, &[&CR]),
+        Stage::Connected => joined(alloc, &[&CR, cn()]),
+        Stage::Confirmed => joined(alloc, &[&CC]),
+    }
+}
+
+/// What was told of them.
+fn was_told(alloc: Global, stage: &Stage) -> Result<Vec<u8>, AllocError> {
+    match stage {
+        Stage::Begun => Ok(Vec::new(alloc)),
+        Stage::Called => joined(alloc, &[b"A", &CC]),
+        Stage::Connected => joined(alloc, &[b"A", &CC, agreed(), ac()]),
+        Stage::Confirmed => joined(alloc, &[b"A", cn()]),
+    }
+}
+
+fn octets_of(last: &Last) -> &'static [u8] {
+    match last {
+        Last::OfVersion4 => &[4],
+        Last::Connect => cn(),
+        Last::Accept => ac(),
+        Last::Finish => finish(),
+    }
+}
+
+/// Puts other octets at places behind this one.
+fn change(octets: &mut [u8], from: usize, changes: &[(usize, u8)]) {
+    for (place, to) in changes {
+        if let Some(octet) = octets.get_mut(from.saturating_add(*place)) {
+            *octet = *to;
+        }
+    }
+}
+
+/// Whether the side that is so far refuses the last TPKT so.
+fn is_refused(alloc: Global, row: &Refusal) -> Result<bool, AllocError> {
+    let (_, stage, last, changes, [layer, code, octets]) = row;
+    let mut stream = came(alloc, stage)?;
+    let place = stream.len();
+    stream.extend_from_slice(octets_of(last))?;
+    change(&mut stream, place, changes);
+    let mut wanted = was_told(alloc, stage)?;
+    wanted.extend_from_slice(&[b'F', *layer, *code, 0, 0, 0, 0, 0, 0, 0, *octets])?;
+    match stage {
+        Stage::Confirmed => is_called(alloc, &stream, 1000, &wanted),
+        _ => is_served(alloc, &stream, 1000, &wanted),
+    }
 }
 
 #[test]
-fn a_caller_refuses(rt: HostRuntime) -> Result<(), AllocError> {
-    for (place, to, layer, code) in [
-        (FIRST, 1, 2, 4),
-        (SECOND, 1, 2, 5),
-        (RESULT, 1, 3, 1),
-        (INITIATE, 0xa8, 4, 4),
-        (ACCEPTED, 3, 4, 5),
-    ] {
-        assert!(rt;
-            is_refused_accept(rt.alloc(), place, to, layer, code)?,
-            "{layer} {code}"
-        );
+fn each_side_refuses_what_the_other_may_not_send(rt: HostRuntime) -> Result<(), AllocError> {
+    for row in &REFUSALS {
+        assert!(rt; is_refused(rt.alloc(), row)?, "{}", row.0);
     }
     Ok(())
 }
@@ -440,7 +493,7 @@ fn talked(alloc: Global) -> Result<Vec<u8>, AllocError> {
         alloc,
         &[
             b"A",
-            cc(),
+            &CC,
             b"A",
             cn(),
             agreed(),
@@ -457,18 +510,37 @@ fn talked(alloc: Global) -> Result<Vec<u8>, AllocError> {
     )
 }
 
-fn is_talk(alloc: Global, size: usize, wanted: &[u8]) -> Result<bool, AllocError>
+fn both_sides_talk(alloc: Global, size: usize) -> Result<bool, AllocError>
     requires { size ≢ 0 }
 {
+    let wanted = talked(alloc)?;
     let log = talk(alloc, size)?;
-    Ok(log.as_slice() == wanted)
+    Ok(log.as_slice() == wanted.as_slice())
+}
+
+/// Whether each side alone, and both with each other, tell a whole connection in pieces of so many octets.
+fn is_told(alloc: Global, size: usize) -> Result<bool, AllocError>
+    requires { size ≢ 0 }
+{
+    Ok(
+        a_server_answers(alloc, size)?
+            && a_caller_asks(alloc, size)?
+            && both_sides_talk(alloc, size)?,
+    )
+}
+
+fn a_caller_writes(alloc: Global) -> bool {
+    is_written(Caller::new(65000).opening(alloc), &CR)
+        && is_written(Caller::release(alloc, LINE), finish())
 }
 
 #[test]
-fn both_sides_talk(rt: HostRuntime) -> Result<(), AllocError> {
-    let wanted = talked(rt.alloc())?;
+fn a_connection_is_told_in_pieces_of_every_size(rt: HostRuntime) -> Result<(), AllocError> {
+    let alloc = rt.alloc();
+    assert!(rt; a_caller_writes(alloc), "what a caller writes");
+    assert!(rt; is_told(alloc, 1000)?, "pieces of 1000");
     for size in 1..41 {
-        assert!(rt; is_talk(rt.alloc(), size, &wanted)?, "pieces of {size}");
+        assert!(rt; is_told(alloc, size)?, "pieces of {size}");
     }
     Ok(())
 }

@@ -1,8 +1,8 @@
--- why `pdu::replying::answers_are_written` answers as its contract says
+-- why `pdu::writing::answers_are_written` answers as its contract says
 use Rattle.std.proofs.Common.{◌∷◌, [], inl, refl, arith}
 use Rattle.ber_write.specs.Minimal.{written, uint_octets}
 use Rattle.ber_write.proofs.WrittenLaws.{written_last, one_octet}
-use Rattle.codec_tests.proofs.pdu.replying.answers_are_written.Goals as goal
+use Rattle.codec_tests.proofs.pdu.writing.answers_are_written.Goals as goal
 
 -- the body is one failure, 128, with the code 3
 pub write_answer-written-requires-clause-body : goal.write_answer-written-requires-clause-body

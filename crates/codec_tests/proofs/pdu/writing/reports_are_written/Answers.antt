@@ -1,9 +1,9 @@
--- why `pdu::replying::reports_are_written` answers as its contract says
+-- why `pdu::writing::reports_are_written` answers as its contract says
 use Rattle.std.proofs.Common.{◌∷◌, [], arith}
 use Rattle.ber_write.specs.Minimal.{written}
 use Rattle.ber_write.proofs.ElementLaws.{is_spelling}
 use Rattle.ber_write.proofs.WrittenLaws.{one_octet}
-use Rattle.codec_tests.proofs.pdu.replying.reports_are_written.Goals as goal
+use Rattle.codec_tests.proofs.pdu.writing.reports_are_written.Goals as goal
 
 -- the variables are the name of a list, 161
 pub write_report-report-requires : goal.write_report-report-requires
