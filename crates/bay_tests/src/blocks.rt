@@ -1,28 +1,24 @@
 //! What writes of a report block's components are answered, and which report is next.
 
+use crate::pieces::octs;
 use bay_model::Comp;
 use brcb_state::{Block, Effect, Next, Retained};
 use std::alloc::{AllocError, Global};
-use std::test::*;
-use sv_base::{AssocNo, Bits, BlockDef, Moment, Octs, Stamp, Value};
+use sv_base::{AssocNo, Bits, BlockDef, Moment, Stamp, Value};
 
 const ONE: AssocNo = AssocNo(1);
 
 const TWO: AssocNo = AssocNo(2);
 
-fn octets(alloc: Global, octets: &[u8]) -> Result<Octs, AllocError> {
-    Ok(Octs::from_vec(Vec::from_slice(alloc, octets)?))
-}
-
 /// A block with a data set, reports on data changes and general interrogations.
 fn block(alloc: Global) -> Result<Block, AllocError> {
     let def = BlockDef {
         line: 8,
-        domain: octets(alloc, b"BAY1")?,
-        ln: octets(alloc, b"LLN0")?,
-        name: octets(alloc, b"brcbEv01")?,
-        rpt_id: octets(alloc, b"")?,
-        dat_set: octets(alloc, b"BAY1/LLN0$Events")?,
+        domain: octs(alloc, b"BAY1")?,
+        ln: octs(alloc, b"LLN0")?,
+        name: octs(alloc, b"brcbEv01")?,
+        rpt_id: octs(alloc, b"")?,
+        dat_set: octs(alloc, b"BAY1/LLN0$Events")?,
         conf_rev: 1,
         opt_flds: Bits::from_vec(Vec::from_slice(
             alloc,
@@ -54,14 +50,16 @@ enum Given {
     Text(&'static [u8]),
     /// The eight octets of a number.
     Number(u64),
+    Stamp(Stamp),
 }
 
 fn value(alloc: Global, given: Given) -> Result<Value, AllocError> {
     match given {
         Given::Bool(is_true) => Ok(Value::Bool(is_true)),
         Given::Uint(number) => Ok(Value::Uint(number)),
-        Given::Text(text) => Ok(Value::Text(octets(alloc, text)?)),
-        Given::Number(number) => Ok(Value::Octets(octets(alloc, &number.to_be_bytes())?)),
+        Given::Text(text) => Ok(Value::Text(octs(alloc, text)?)),
+        Given::Number(number) => Ok(Value::Octets(octs(alloc, &number.to_be_bytes())?)),
+        Given::Stamp(stamp) => Ok(Value::Stamp(stamp)),
     }
 }
 
@@ -128,7 +126,7 @@ fn resumed(alloc: Global, row: &Resumption) -> Result<(bool, Option<Next>), Allo
 // What a client sets as EntryID, and the report that comes first then: by the entries that are there at its write, and
 // those at the report.
 #[test]
-fn reports_go_on_behind_an_entry(rt: HostRuntime) -> Result<(), Fail> {
+fn reports_go_on_behind_an_entry(rt: HostRuntime) -> Result<(), AllocError> {
     for row in &RESUMPTIONS {
         let first = match row.4 {
             Some((id, ovfl)) => next(id, ovfl, 0),
@@ -163,23 +161,24 @@ fn sent(block: &mut Block, id: u64) -> Option<Next> {
     next
 }
 
-// Two associations: the first has enabled the block, and is lost; the second resumes behind entry 1.
-#[test]
-fn an_enabled_block_is_held(rt: HostRuntime) -> Result<(), Fail> {
-    let mut block = block(rt.alloc())?;
-    let held = first_wrong(rt.alloc(), &mut block, kept(0, 3), &HELD)?;
-    block.sent(1);
-    block.lost(ONE);
-    let resumed = first_wrong(rt.alloc(), &mut block, kept(0, 3), &RESUMED)?;
+/// Whether the reports behind entry 1 are next, each once.
+fn are_sent(mut block: Block) -> bool {
     let reports = (
         sent(&mut block, 2),
         sent(&mut block, 3),
         block.next(TWO, kept(0, 3)),
     );
-    assert!(rt;
-        (held, resumed) == (None, None) && reports == (next(2, false, 0), next(3, false, 1), None)
-    );
-    Ok(())
+    reports == (next(2, false, 0), next(3, false, 1), None)
+}
+
+/// Two associations: the first has enabled the block, and is lost; the second resumes behind entry 1.
+fn an_enabled_block_is_held(alloc: Global) -> Result<bool, AllocError> {
+    let mut block = block(alloc)?;
+    let held = first_wrong(alloc, &mut block, kept(0, 3), &HELD)?;
+    block.sent(1);
+    block.lost(ONE);
+    let resumed = first_wrong(alloc, &mut block, kept(0, 3), &RESUMED)?;
+    Ok((held, resumed) == (None, None) && are_sent(block))
 }
 
 const CHANGES: [Trial; 7] = [
@@ -197,12 +196,17 @@ const CHANGES: [Trial; 7] = [
     ),
 ];
 
-// Interrogation, other types and sets, and changes, where nobody has enabled the block.
+/// Interrogation, other types and sets, and changes, where nobody has enabled the block.
+fn a_disabled_block_is_changed(alloc: Global) -> Result<bool, AllocError> {
+    let mut block = block(alloc)?;
+    let wrong = first_wrong(alloc, &mut block, kept(1, 1), &CHANGES)?;
+    Ok(wrong == None && block.period() == 1000)
+}
+
 #[test]
-fn writes_to_a_disabled_block(rt: HostRuntime) -> Result<(), Fail> {
-    let mut block = block(rt.alloc())?;
-    let wrong = first_wrong(rt.alloc(), &mut block, kept(1, 1), &CHANGES)?;
-    assert!(rt; wrong == None && block.period() == 1000);
+fn writes_are_answered_by_who_has_enabled_the_block(rt: HostRuntime) -> Result<(), AllocError> {
+    assert!(rt; an_enabled_block_is_held(rt.alloc())?, "enabled");
+    assert!(rt; a_disabled_block_is_changed(rt.alloc())?, "disabled");
     Ok(())
 }
 
@@ -211,51 +215,40 @@ fn is_named(block: &Block) -> bool {
     block.report_id() == b"BAY1/LLN0$BR$brcbEv01".as_slice() && trg.dchg && trg.gi && !trg.intg
 }
 
-/// What a component reads as, with entries 4 to 9 and this time of the last.
-fn read(
-    alloc: Global,
-    block: &Block,
-    comp: Comp,
-    time: Option<Moment>,
-) -> Result<Value, AllocError> {
-    block.read(alloc, comp, kept(3, 9), time)
+/// A component, the milliseconds of the last entry's moment, and what is read.
+type Reading = (Comp, Option<u64>, Given);
+
+const STAMP: Stamp = Stamp { ms: 10, days: 0 };
+
+const READINGS: [Reading; 3] = [
+    (Comp::DatSet, None, Given::Text(b"BAY1/LLN0$Events")),
+    (Comp::EntryID, None, Given::Number(9)),
+    (Comp::TimeofEntry, Some(441763200010), Given::Stamp(STAMP)),
+];
+
+fn is_given(value: &Value, given: Given) -> bool {
+    match (value, given) {
+        (Value::Text(text), Given::Text(wanted)) => text.as_slice() == wanted,
+        (Value::Octets(id), Given::Number(number)) => id.as_slice()
+            == number.to_be_bytes().as_slice(),
+        (Value::Stamp(stamp), Given::Stamp(wanted)) => *stamp == wanted,
+        _ => false,
+    }
+}
+
+/// A new block has its name, and a component of it reads so, with entries 4 to 9.
+fn reads(alloc: Global, reading: &Reading) -> Result<bool, AllocError> {
+    let (comp, ms, wanted) = *reading;
+    let block = block(alloc)?;
+    let value = block.read(alloc, comp, kept(3, 9), ms.and_then(Moment::new))?;
+    Ok(is_named(&block) && is_given(&value, wanted))
 }
 
 // What a report and a read tell.
 #[test]
-fn a_block_is_read(rt: HostRuntime) -> Result<(), Fail> {
-    let block = block(rt.alloc())?;
-    assert!(rt; is_named(&block));
-    assert!(rt;
-        match read(rt.alloc(), &block, Comp::DatSet, None)? {
-            Value::Text(text) => text.as_slice() == b"BAY1/LLN0$Events".as_slice(),
-            _ => false,
-        }
-    );
-    Ok(())
-}
-
-#[test]
-fn the_last_entry_is_read(rt: HostRuntime) -> Result<(), Fail> {
-    let block = block(rt.alloc())?;
-    assert!(rt;
-        match read(rt.alloc(), &block, Comp::EntryID, None)? {
-            Value::Octets(id) => id.as_slice() == [0, 0, 0, 0, 0, 0, 0, 9].as_slice(),
-            _ => false,
-        }
-    );
-    Ok(())
-}
-
-#[test]
-fn the_time_of_the_last_entry_is_read(rt: HostRuntime) -> Result<(), Fail> {
-    let block = block(rt.alloc())?;
-    let time = read(
-        rt.alloc(),
-        &block,
-        Comp::TimeofEntry,
-        Moment::new(441763200010),
-    )?;
-    assert!(rt; matches!(&time, Value::Stamp(Stamp { ms: 10, days: 0 })));
+fn a_block_is_read(rt: HostRuntime) -> Result<(), AllocError> {
+    for reading in &READINGS {
+        assert!(rt; reads(rt.alloc(), reading)?, "{:?}", reading.0);
+    }
     Ok(())
 }

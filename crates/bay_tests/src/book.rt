@@ -3,17 +3,13 @@
 ghost use Rattle.std.specs.Prelude.{◌≡◌, ◌<◌, length, IfOk};
 ghost use Rattle.data_sets.specs.Books.{AreTargets};
 
+use crate::pieces::octs;
 use bay_model::{
     AttrIds, MemberShape, NodeRow, NodeTable, Nodes, ObjName, SetName, SetRow, SetTable, Target,
 };
 use data_sets::{DefineFault, Definition, DeleteFault, SetBook};
 use std::alloc::{AllocError, Global};
-use std::test::*;
-use sv_base::{NodeId, Octs, TypeOf};
-
-fn octs(alloc: Global, octets: &[u8]) -> Result<Octs, AllocError> {
-    Ok(Octs::from_vec(octets.to_vec(alloc)?))
-}
+use sv_base::{NodeId, TypeOf};
 
 fn name(alloc: Global, domain: &[u8], item: &[u8]) -> Result<SetName, AllocError> {
     Ok(SetName {
@@ -77,7 +73,8 @@ fn member(alloc: Global, node: u32) -> Result<Vec<Target>, AllocError>
     Ok(vec![in alloc; Target::Node(NodeId(node), name)]?)
 }
 
-/// What is found, and what isn't.
+/// What is found, and what isn't: a data set `LN$NAME` belongs to its domain, and a DatSet names it as `LD/LN$NAME`
+/// (IEC 61850-8-1).
 fn finds(alloc: Global) -> Result<bool, AllocError> {
     let book = book(alloc)?;
     let named = name(alloc, b"BAY2", b"LLN0$Events")?;
@@ -93,23 +90,32 @@ fn finds(alloc: Global) -> Result<bool, AllocError> {
     )
 }
 
-/// Whether the fault of a definition of this item, of one node, is this one.
-fn faults(
-    alloc: Global,
-    item: &[u8],
-    is_named: bool,
-    node: u32,
-    wanted: Option<DefineFault>,
-) -> Result<bool, AllocError>
-    requires { node < 3 }
-{
+/// An item, whether its logical node is there, the one node of its definition, and the fault.
+type Row = (&'static [u8], bool, u32, Option<DefineFault>);
+
+// ISO 9506-2, DefineNamedVariableList: the name may not be there, and each variable must be.
+const DEFINITIONS: [Row; 5] = [
+    (b"LLN0$Events", false, 1, Some(DefineFault::Exists)),
+    (b"LLN1$Own", false, 0, Some(DefineFault::NoSuchMember)),
+    (b"LLN0$Own", true, 1, Some(DefineFault::NoSuchMember)),
+    (b"LLN0$Own", true, 2, Some(DefineFault::NoSuchMember)),
+    (b"LLN0$Own", true, 0, None),
+];
+
+/// Whether a definition has this fault, the first one.
+fn has_fault(alloc: Global, row: &Row) -> Result<bool, AllocError> {
+    let (item, is_named, node, wanted) = *row;
+    if 3 <= node {
+        return Ok(false);
+    }
     let book = book(alloc)?;
     let name = name(alloc, b"BAY1", item)?;
     let members = member(alloc, node)?;
     Ok(book.define_fault(&name, is_named, &members, &table(alloc)?) == wanted)
 }
 
-/// A set that a client defines: held, released, deleted.
+/// A set that a client defines: held, released, deleted. What a report block uses stays (ISO 9506-2,
+/// DeleteNamedVariableList).
 fn lives(alloc: Global) -> Result<bool, AllocError> {
     let mut book = book(alloc)?;
     let name = name(alloc, b"BAY1", b"LLN0$Own")?;
@@ -126,35 +132,12 @@ fn lives(alloc: Global) -> Result<bool, AllocError> {
     )
 }
 
-// IEC 61850-8-1: a data set `LN$NAME` belongs to its domain, and a DatSet names it as `LD/LN$NAME`.
 #[test]
-fn sets_are_found_by_name_and_by_reference(rt: HostRuntime) -> Result<(), Fail> {
-    assert!(rt; finds(rt.alloc())?);
-    Ok(())
-}
-
-// ISO 9506-2, DefineNamedVariableList: the name may not be there, and each variable must be.
-#[test]
-fn definitions_are_refused_for_the_first_fault(rt: HostRuntime) -> Result<(), Fail> {
-    let alloc = rt.alloc();
-    let are = faults(alloc, b"LLN0$Events", false, 1, Some(DefineFault::Exists))?
-        && faults(
-            alloc,
-            b"LLN1$Own",
-            false,
-            0,
-            Some(DefineFault::NoSuchMember),
-        )?
-        && faults(alloc, b"LLN0$Own", true, 1, Some(DefineFault::NoSuchMember))?
-        && faults(alloc, b"LLN0$Own", true, 2, Some(DefineFault::NoSuchMember))?
-        && faults(alloc, b"LLN0$Own", true, 0, None)?;
-    assert!(rt; are);
-    Ok(())
-}
-
-// ISO 9506-2, DeleteNamedVariableList: what a report block uses stays.
-#[test]
-fn a_set_in_use_stays_and_a_released_one_goes(rt: HostRuntime) -> Result<(), Fail> {
-    assert!(rt; lives(rt.alloc())?);
+fn sets_are_found_defined_and_kept_while_in_use(rt: HostRuntime) -> Result<(), AllocError> {
+    assert!(rt; finds(rt.alloc())?, "found");
+    for row in &DEFINITIONS {
+        assert!(rt; has_fault(rt.alloc(), row)?, "node {}: {:?}", row.2, row.3);
+    }
+    assert!(rt; lives(rt.alloc())?, "kept");
     Ok(())
 }

@@ -1,12 +1,13 @@
-//! What calls of a control are answered, by ctlModel: AddCauses, acts and terminations (IEC 61850-7-2, the control class model).
+//! What calls of a control are answered, by ctlModel: AddCauses, acts and terminations (IEC 61850-7-2, the control class
+//! model).
 
 ghost use Rattle.std.specs.Prelude.{IfOk};
 ghost use Rattle.control_core.specs.Opening.{IsCtlKind};
 
+use crate::pieces::octs;
 use bay_model::{ApplError, Termination};
 use control_core::{Controls, Went};
 use std::alloc::{AllocError, Global};
-use std::test::*;
 use sv_base::moment::FIRST_MS;
 use sv_base::{
     AssocNo, AttrDefs, Bits, BlockDefs, Call, Config, CtlDef, CtlDefs, CtlNo, LnDefs, Moment, Octs,
@@ -18,10 +19,6 @@ const POS: CtlNo = CtlNo(0);
 const ONE: AssocNo = AssocNo(1);
 
 const TWO: AssocNo = AssocNo(2);
-
-fn octets(alloc: Global, octets: &[u8]) -> Result<Octs, AllocError> {
-    Ok(Octs::from_vec(Vec::from_slice(alloc, octets)?))
-}
 
 /// So many milliseconds after the least moment.
 fn at(ms: u32) -> Moment {
@@ -48,9 +45,9 @@ fn control(alloc: Global, model: u8, class: u8, is_int: bool) -> Result<CtlDef, 
 {
     Ok(CtlDef {
         line: 5,
-        domain: octets(alloc, b"BAY1")?,
-        ln: octets(alloc, b"CSWI1")?,
-        path: octets(alloc, b"Pos")?,
+        domain: octs(alloc, b"BAY1")?,
+        ln: octs(alloc, b"CSWI1")?,
+        path: octs(alloc, b"Pos")?,
         model,
         timeout: 5000,
         class,
@@ -85,7 +82,7 @@ const TIME: Utc = Utc {
 fn origin(alloc: Global, ident: &[u8]) -> Result<Value, AllocError> {
     let mut parts = Vec::new(alloc);
     parts.push(Value::Int(2))?;
-    parts.push(Value::Octets(octets(alloc, ident)?))?;
+    parts.push(Value::Octets(octs(alloc, ident)?))?;
     Ok(Value::Struct(Values::from_vec(parts)))
 }
 
@@ -220,12 +217,6 @@ fn first_wrong(
     Ok(None)
 }
 
-/// A control of BOOLEAN, of this ctlModel and sboClass, is told what the trials say.
-fn is_told_so(alloc: Global, model: u8, class: u8, trials: &[Trial]) -> Result<bool, AllocError> {
-    let mut controls = controls(alloc, model, class, false)?;
-    Ok(first_wrong(alloc, &mut controls, trials)? == None)
-}
-
 const ACT: Told = Told::Went(Went::Act);
 
 const PLAIN: Told = Told::Went(Went::Plain);
@@ -268,13 +259,8 @@ const SELECTED_ENHANCED: [Trial; 34] = [
     (9999, TWO, Deed::Cancel(1), Told::Cause(18)),
 ];
 
-#[test]
-fn a_selected_control_with_enhanced_security_is_judged(rt: HostRuntime) -> Result<(), Fail> {
-    assert!(rt; is_told_so(rt.alloc(), 4, 0, &SELECTED_ENHANCED)?);
-    Ok(())
-}
-
-// IEC 61850-7-2, direct control with enhanced security: CommandTermination, and the loss of its association before and after.
+// IEC 61850-7-2, direct control with enhanced security: CommandTermination, and the loss of its association before and
+// after.
 const DIRECT_ENHANCED: [Trial; 13] = [
     (0, ONE, Deed::Done, Told::Due(None)),
     (0, ONE, Deed::Oper(1), ACT),
@@ -290,12 +276,6 @@ const DIRECT_ENHANCED: [Trial; 13] = [
     (0, TWO, Deed::Lost, Told::Nothing),
     (0, ONE, Deed::Oper(1), ACT),
 ];
-
-#[test]
-fn a_direct_control_with_enhanced_security_runs_until_its_end(rt: HostRuntime) -> Result<(), Fail> {
-    assert!(rt; is_told_so(rt.alloc(), 3, 0, &DIRECT_ENHANCED)?);
-    Ok(())
-}
 
 // IEC 61850-7-2, SBO control with normal security, sboClass operate-many: each Oper starts the time again.
 const SELECTED_NORMAL: [Trial; 14] = [
@@ -315,25 +295,11 @@ const SELECTED_NORMAL: [Trial; 14] = [
     (18998, ONE, Deed::Done, Told::Due(None)),
 ];
 
-#[test]
-fn a_selected_control_with_normal_security_is_operated_many_times(
-    rt: HostRuntime,
-) -> Result<(), Fail> {
-    assert!(rt; is_told_so(rt.alloc(), 2, 1, &SELECTED_NORMAL)?);
-    Ok(())
-}
-
 // IEC 61850-7-2, status-only.
 const STATUS_ONLY: [Trial; 2] = [
     (0, ONE, Deed::Block(true), Told::Nothing),
     (0, ONE, Deed::Oper(1), Told::Cause(1)),
 ];
-
-#[test]
-fn a_control_that_is_status_only_is_not_operated(rt: HostRuntime) -> Result<(), Fail> {
-    assert!(rt; is_told_so(rt.alloc(), 0, 0, &STATUS_ONLY)?);
-    Ok(())
-}
 
 // IEC 61850-7-2, direct control with normal security.
 const DIRECT: [Trial; 5] = [
@@ -344,9 +310,30 @@ const DIRECT: [Trial; 5] = [
     (0, TWO, Deed::Oper(1), Told::Cause(9)),
 ];
 
+/// Of a control of BOOLEAN the ctlModel, the sboClass, and what it is told.
+type Judged = (u8, u8, &'static [Trial]);
+
+const JUDGED: [Judged; 5] = [
+    (0, 0, &STATUS_ONLY),
+    (1, 0, &DIRECT),
+    (2, 1, &SELECTED_NORMAL),
+    (3, 0, &DIRECT_ENHANCED),
+    (4, 0, &SELECTED_ENHANCED),
+];
+
+/// The place of the first trial of a control that is told otherwise.
+fn told_otherwise(alloc: Global, judged: &Judged) -> Result<Option<usize>, AllocError> {
+    let (model, class, trials) = *judged;
+    let mut controls = controls(alloc, model, class, false)?;
+    first_wrong(alloc, &mut controls, trials)
+}
+
 #[test]
-fn a_direct_control_with_normal_security_is_judged(rt: HostRuntime) -> Result<(), Fail> {
-    assert!(rt; is_told_so(rt.alloc(), 1, 0, &DIRECT)?);
+fn controls_are_told_what_their_ctl_model_says(rt: HostRuntime) -> Result<(), AllocError> {
+    for row in &JUDGED {
+        let wrong = told_otherwise(rt.alloc(), row)?;
+        assert!(rt; wrong == None, "ctlModel {}, trial {wrong:?}", row.0);
+    }
     Ok(())
 }
 
@@ -431,23 +418,14 @@ fn say_what_was_written(controls: &Controls, alloc: Global) -> Result<bool, Allo
 }
 
 /// Nothing runs before the first Oper.
-fn rests(alloc: Global) -> Result<bool, AllocError> {
-    let controls = controls(alloc, 3, 0, false)?;
-    let rests = is_named(&controls) && controls.len() == 1 && !controls.is_running(POS);
-    drop(controls);
-    Ok(rests)
-}
-
-#[test]
-fn nothing_runs_at_first(rt: HostRuntime) -> Result<(), Fail> {
-    assert!(rt; rests(rt.alloc())?);
-    Ok(())
+fn rests(controls: &Controls) -> bool {
+    is_named(controls) && controls.len() == 1 && !controls.is_running(POS)
 }
 
 const OPER: [Trial; 1] = [(0, ONE, Deed::Oper(3), ACT)];
 
 fn oper_says_what_was_written(alloc: Global, controls: &mut Controls) -> Result<bool, AllocError> {
-    if first_wrong(alloc, controls, &OPER)? != None {
+    if !rests(controls) || first_wrong(alloc, controls, &OPER)? != None {
         return Ok(false);
     }
     say_what_was_written(controls, alloc)
@@ -462,7 +440,7 @@ fn running_says_what_was_written(alloc: Global) -> Result<bool, AllocError> {
 
 // IEC 61850-8-1, LastApplError and CommandTermination: the variable, origin, ctlNum and AddCause, 16 time-limit-over.
 #[test]
-fn errors_and_terminations_say_what_was_written(rt: HostRuntime) -> Result<(), Fail> {
+fn errors_and_terminations_say_what_was_written(rt: HostRuntime) -> Result<(), AllocError> {
     assert!(rt; running_says_what_was_written(rt.alloc())?);
     Ok(())
 }
@@ -476,7 +454,8 @@ fn number(value: &Value) -> Option<i64> {
     }
 }
 
-/// The ctlVal of an Oper with this value, as a control of INT32 or BOOLEAN tells it; none where the value isn't of its type.
+/// The ctlVal of an Oper with this value, as a control of INT32 or BOOLEAN tells it; none where the value isn't of its
+/// type.
 fn told_by(alloc: Global, is_int: bool, value: Value) -> Result<Option<i64>, AllocError> {
     let controls = controls(alloc, 1, 0, is_int)?;
     let oper = with_value(alloc, value, b"", Call::Operate, 255, false)?;
@@ -487,7 +466,7 @@ fn told_by(alloc: Global, is_int: bool, value: Value) -> Result<Option<i64>, All
 }
 
 /// What a ctlVal is made of: a BOOLEAN of 0 or 1, an INTEGER, an unsigned number.
-#[derive(Clone, Copy)]
+#[derive(Clone, Copy, Debug)]
 enum Given {
     Bool,
     Int,
@@ -516,9 +495,10 @@ const CTL_VALS: [(bool, Given, i64, Option<i64>); 8] = [
 
 // IEC 61850-7-3, ctlVal of SPC and DPC (BOOLEAN) and of INC (INT32).
 #[test]
-fn ctl_vals_are_of_their_type(rt: HostRuntime) -> Result<(), Fail> {
+fn ctl_vals_are_of_their_type(rt: HostRuntime) -> Result<(), AllocError> {
     for (is_int, given, number, wanted) in &CTL_VALS {
-        assert!(rt; told_by(rt.alloc(), *is_int, value(*given, *number))? == *wanted);
+        let told = told_by(rt.alloc(), *is_int, value(*given, *number))?;
+        assert!(rt; told == *wanted, "{given:?} {number}");
     }
     Ok(())
 }

@@ -1,29 +1,54 @@
 //! The entries that a report block retains.
 
 use entry_ring::Ring;
-use std::test::*;
+use std::alloc::AllocError;
 use sv_base::Moment;
 
-/// The number of the step and the octets of an entry; none where it isn't retained.
-fn shown(rt: &HostRuntime, ring: &Ring, n: u64) -> Result<Option<String>, Fail> {
-    let Some(entry) = ring.entry(n) else {
-        return Ok(None);
-    };
-    let mut text = format!(in rt.alloc(); "{}:", entry.step)?;
-    for octet in entry.first {
-        text.push_str(&format!(in rt.alloc(); " {octet}")?)?;
-    }
-    for octet in entry.second {
-        text.push_str(&format!(in rt.alloc(); " {octet}")?)?;
-    }
-    Ok(Some(text))
+/// The step and the octets of an entry; none where it isn't retained.
+type Shown = Option<(u64, &'static [u8])>;
+
+/// Two rows of octets are together this one.
+fn are_together(first: &[u8], second: &[u8], octets: &[u8]) -> bool {
+    let middle = first.len();
+    middle <= octets.len() && &octets[..middle] == first && &octets[middle..] == second
 }
 
-// Entries of 31 octets in a buffer of 200: of nine six are retained.
-#[test]
-fn the_newest_that_fit_are_retained(rt: HostRuntime) -> Result<(), Fail> {
-    let mut right = true;
-    let mut ring = Ring::open(rt.alloc(), 200)?;
+fn is_shown(ring: &Ring, n: u64, shown: Shown) -> bool {
+    match (ring.entry(n), shown) {
+        (Some(entry), Some((step, octets))) => {
+            entry.step == step && are_together(entry.first, entry.second, octets)
+        }
+        (None, None) => true,
+        _ => false,
+    }
+}
+
+const OF_NINE: [(u64, Shown); 5] = [
+    (0, None),
+    (3, None),
+    (4, Some((14, &[0, 3, 0, 64, 133, 1, 4]))),
+    (9, Some((19, &[0, 3, 0, 64, 133, 1, 9]))),
+    (10, None),
+];
+
+/// The number of the first entry of nine that is shown otherwise.
+fn shown_otherwise(ring: &Ring) -> Option<u64> {
+    for (n, shown) in &OF_NINE {
+        if !is_shown(ring, *n, *shown) {
+            return Some(*n);
+        }
+    }
+    None
+}
+
+/// How many entries there were, and how many of them went.
+fn counts(ring: &Ring) -> (u64, u64) {
+    (ring.len(), ring.front())
+}
+
+/// Nine entries come, of the steps 11 to 19, and all go: the first that is shown otherwise, and the counts before and
+/// after.
+fn nine(mut ring: Ring) -> (Option<u64>, (u64, u64), (u64, u64)) {
     for n in 1..=9u8 {
         ring.append(
             Moment::first(),
@@ -31,36 +56,31 @@ fn the_newest_that_fit_are_retained(rt: HostRuntime) -> Result<(), Fail> {
             &[0, 3, 0, 64, 133, 1, n],
         );
     }
-    right &= ring.len() == 9;
-    right &= ring.front() == 3;
-    for (n, wanted) in [
-        (0, None),
-        (3, None),
-        (4, Some("14: 0 3 0 64 133 1 4")),
-        (9, Some("19: 0 3 0 64 133 1 9")),
-        (10, None),
-    ] {
-        let found = shown(&rt, &ring, n)?;
-        assert!(rt; found.as_ref().map(String::as_str) == wanted, "entry {n}");
-    }
+    let wrong = shown_otherwise(&ring);
+    let kept = counts(&ring);
     ring.purge();
-    right &= ring.len() == 9;
-    right &= ring.front() == 9;
-    assert!(rt; right);
-    Ok(())
+    (wrong, kept, counts(&ring))
 }
 
-// An entry of 32 octets in a buffer of 31 takes a number and goes at once, the next one of 31 is retained.
-#[test]
-fn an_entry_larger_than_the_buffer_takes_a_number(rt: HostRuntime) -> Result<(), Fail> {
-    let mut right = true;
-    let mut ring = Ring::open(rt.alloc(), 31)?;
+/// An entry of 32 octets in a buffer of 31 takes a number and goes at once, the next one of 31 is retained.
+fn goes_at_once(mut ring: Ring) -> bool {
     ring.append(Moment::first(), 1, &[0, 3, 0, 64, 133, 2, 1, 44]);
-    right &= (ring.len(), ring.front()) == (1, 1);
+    let first = counts(&ring);
     ring.append(Moment::first(), 2, &[0, 3, 0, 64, 133, 1, 1]);
-    right &= (ring.len(), ring.front()) == (2, 1);
-    let found = shown(&rt, &ring, 2)?;
-    right &= found.as_ref().map(String::as_str) == Some("2: 0 3 0 64 133 1 1");
-    assert!(rt; right);
+    first == (1, 1)
+        && counts(&ring) == (2, 1)
+        && is_shown(&ring, 2, Some((2, &[0, 3, 0, 64, 133, 1, 1])))
+}
+
+// Entries of 31 octets in a buffer of 200: of nine six are retained.
+#[test]
+fn the_newest_that_fit_are_retained(rt: HostRuntime) -> Result<(), AllocError> {
+    let (wrong, kept, purged) = nine(Ring::open(rt.alloc(), 200)?);
+    assert!(rt;
+        (wrong, kept, purged) == (None, (9, 3), (9, 9)),
+        "entry {wrong:?}"
+    );
+    let is_gone = goes_at_once(Ring::open(rt.alloc(), 31)?);
+    assert!(rt; is_gone, "an entry of 32 octets");
     Ok(())
 }

@@ -8,26 +8,15 @@ ghost use Rattle.bay_model.specs.NamedLines.{is_setting};
 ghost use Rattle.setting_groups.specs.Grouped.{setting_at};
 ghost use Rattle.setting_groups.specs.Opened.{HasValues, IsHeld};
 
+use crate::pieces::{octs, shared};
 use bay_rooms::{Slot, ValueRef};
 use setting_groups::Groups;
 use std::alloc::{AllocError, Global};
 use std::test::*;
 use sv_base::{
     AssocNo, AttrDef, AttrDefs, AttrId, BlockDefs, Config, CtlDefs, Few, FirstValues, LnDefs,
-    Moment, Octs, SetDefs, SgDef, SgDefs, SharedOcts, ShortOcts, TypeOf, Value,
+    Moment, SetDefs, SgDef, SgDefs, ShortOcts, TypeOf, Value,
 };
-
-fn octs(alloc: Global, octets: &[u8]) -> Result<Octs, AllocError>
-    ensures { IfOk result (λ o. o ≡ octets.now) }
-{
-    Ok(Octs::from_vec(octets.to_vec(alloc)?))
-}
-
-fn shared(alloc: Global, octets: &[u8]) -> Result<SharedOcts, AllocError>
-    ensures { IfOk result (λ o. o ≡ octets.now) }
-{
-    SharedOcts::new(alloc, octs(alloc, octets)?)
-}
 
 /// The values of three groups.
 fn values(alloc: Global) -> Result<Vec<Value>, AllocError>

@@ -1,15 +1,19 @@
 //! Tests of the bay's model, of its parts and of the lock around it: each public call with what it answers.
 #![tactic(auto)]
 
-// plain types
+// what the others are made of
+#[cfg(test)]
+mod pieces;
+
+// plain types and lists
 #[cfg(test)]
 mod base;
+#[cfg(test)]
+mod lists;
 
 // what the parts are given, and fill
 #[cfg(test)]
 mod components;
-#[cfg(test)]
-mod lists;
 #[cfg(test)]
 mod rooms;
 

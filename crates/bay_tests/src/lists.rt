@@ -1,111 +1,11 @@
-//! Each list once: it keeps what it is given, in order.
+//! Lists keep what they are given, in order.
 
-use bay_model::{
-    Act, Acts, ApplError, ApplErrors, AttrIds, Codes, Member, MemberShape, Members, Names, NodeRow,
-    NodeTable, Nodes, ObjName, Reasons, Results, SetName, SetNames, SetRow, SetTable, Sets,
-    Setting, Target, Targets, Write, Writes,
-};
+use crate::pieces::{octs, one, with};
+use bay_model::{AttrIds, Names, Results};
 use std::alloc::{AllocError, Global};
-use std::test::Fail;
-use sv_base::{AssocNo, AttrId, CtlNo, MemberNo, NodeId, Octs, TypeOf, Value};
-
-fn octs(alloc: Global, octets: &[u8]) -> Result<Octs, AllocError> {
-    Ok(Octs::from_vec(octets.to_vec(alloc)?))
-}
-
-/// The list with one more item.
-fn with<T: Drop>(items: Vec<T>, item: T) -> Result<Vec<T>, AllocError> {
-    let mut items = items;
-    items.push(item)?;
-    Ok(items)
-}
-
-/// A list of one item.
-fn one<T: Drop>(alloc: Global, item: T) -> Result<Vec<T>, AllocError> {
-    with(Vec::new(alloc), item)
-}
-
-fn named(alloc: Global, item: &[u8]) -> Result<Target, AllocError> {
-    let name = ObjName::Domain {
-        domain: octs(alloc, b"BAY1")?,
-        item: octs(alloc, item)?,
-    };
-    Ok(Target::Node(NodeId(7), name))
-}
-
-fn member(alloc: Global) -> Result<Member, AllocError> {
-    Ok(Member {
-        number: MemberNo(3),
-        reference: octs(alloc, b"BAY1/MMXU1$MX$TotW$mag$i")?,
-        octets: octs(alloc, &[0x85, 1, 5])?,
-        reasons: Reasons {
-            dchg: true,
-            qchg: false,
-            dupd: false,
-            intg: false,
-            gi: false,
-        },
-    })
-}
-
-fn has_one_member(members: &Members) -> bool {
-    members.len() == 1
-        && !members.is_empty()
-        && members.get(0).map(|member| member.octets.len()) == Some(3)
-        && members.get(1).is_none()
-        && members.as_slice().len() == 1
-}
-
-#[test]
-fn members_keep_their_order(rt: HostRuntime) -> Result<(), Fail> {
-    let members = Members::from_vec(one(rt.alloc(), member(rt.alloc())?)?);
-    assert!(rt; has_one_member(&members) && members.into_vec().len() == 1);
-    Ok(())
-}
-
-fn error(alloc: Global) -> Result<ApplError, AllocError> {
-    Ok(ApplError {
-        object: octs(alloc, b"BAY1/CSWI1$CO$Pos$Oper")?,
-        or_cat: 2,
-        or_ident: octs(alloc, b"")?,
-        ctl_num: 1,
-        cause: 27,
-    })
-}
-
-fn has_one_error(errors: &ApplErrors) -> bool {
-    errors.len() == 1
-        && !errors.is_empty()
-        && errors.get(0).map(|error| error.cause) == Some(27)
-        && errors.as_slice().len() == 1
-}
-
-#[test]
-fn errors_keep_their_order(rt: HostRuntime) -> Result<(), Fail> {
-    let errors = ApplErrors::from_vec(one(rt.alloc(), error(rt.alloc())?)?);
-    assert!(rt; has_one_error(&errors) && errors.into_vec().len() == 1);
-    Ok(())
-}
-
-fn has_one_act(acts: &Acts) -> bool {
-    acts.len() == 1
-        && !acts.is_empty()
-        && acts.get(0).map(|act| act.by) == Some(AssocNo(1))
-        && acts.get(1).is_none()
-        && acts.as_slice().len() == 1
-}
-
-#[test]
-fn acts_keep_their_order(rt: HostRuntime) -> Result<(), Fail> {
-    let act = Act {
-        control: CtlNo(0),
-        value: Value::Bool(true),
-        by: AssocNo(1),
-    };
-    let acts = Acts::from_vec(one(rt.alloc(), act)?);
-    assert!(rt; has_one_act(&acts) && acts.into_vec().len() == 1);
-    Ok(())
-}
+use sv_base::{
+    AttrId, Few, FirstValues, List, Octs, Part1, Parts, ShortOcts, TypeOf, Value, Values, data_len,
+};
 
 fn has_two_names(names: &Names) -> bool {
     names.len() == 2
@@ -115,141 +15,85 @@ fn has_two_names(names: &Names) -> bool {
         && names.as_slice().len() == 2
 }
 
-#[test]
-fn names_keep_their_order(rt: HostRuntime) -> Result<(), Fail> {
-    let first = one(rt.alloc(), octs(rt.alloc(), b"LLN0")?)?;
-    let names = Names::from_vec(with(first, octs(rt.alloc(), b"MMXU1")?)?);
-    assert!(rt; has_two_names(&names) && names.into_vec().len() == 2);
-    Ok(())
+fn names_keep_their_order(alloc: Global) -> Result<bool, AllocError> {
+    let mut names = Names::from_vec(one(alloc, octs(alloc, b"LLN0")?)?);
+    names.push(octs(alloc, b"MMXU1")?)?;
+    Ok(has_two_names(&names) && names.into_vec().len() == 2)
 }
 
-fn has_two_results(results: &Results) -> bool {
-    results.len() == 2
-        && !results.is_empty()
-        && matches!(results.get(1), Some(Err(10)))
-        && matches!(results.as_slice(), [Ok(Value::Int(5)), Err(10)])
+fn results_keep_their_order(alloc: Global) -> Result<bool, AllocError> {
+    let results = Results::from_vec(with(one(alloc, Ok(Value::Int(5)))?, Err(10))?);
+    Ok(matches!(results.as_slice(), [Ok(Value::Int(5)), Err(10)]) && results.into_vec().len() == 2)
 }
 
-#[test]
-fn results_keep_their_order(rt: HostRuntime) -> Result<(), Fail> {
-    let first = one(rt.alloc(), Ok(Value::Int(5)))?;
-    let results = Results::from_vec(with(first, Err(10))?);
-    assert!(rt; has_two_results(&results) && results.into_vec().len() == 2);
-    Ok(())
+fn a_list_of_nothing_is_empty(alloc: Global) -> Result<bool, AllocError> {
+    let names = List::<Octs>::from_vec(Vec::new(alloc));
+    let attrs = AttrIds::from_vec(alloc, Vec::new(alloc))?;
+    Ok(names.is_empty() && attrs.is_empty())
 }
 
-fn has_two_codes(codes: &Codes) -> bool {
-    codes.len() == 2
-        && !codes.is_empty()
-        && matches!(codes.get(0), Some(Ok(())))
-        && matches!(codes.as_slice(), [Ok(()), Err(3)])
+fn has_two_values(values: &Values) -> bool {
+    values.len() == 2 && values.get(1).map(data_len) == Some(4) && values.get(2).is_none()
 }
 
-#[test]
-fn codes_keep_their_order(rt: HostRuntime) -> Result<(), Fail> {
-    let codes = Codes::from_vec(with(one(rt.alloc(), Ok(()))?, Err(3))?);
-    assert!(rt; has_two_codes(&codes) && codes.into_vec().len() == 2);
-    Ok(())
+fn values_keep_their_order(alloc: Global) -> Result<bool, AllocError> {
+    let values = Values::from_vec(with(one(alloc, Value::Int(1))?, Value::Int(300))?);
+    Ok(has_two_values(&values) && values.into_vec().len() == 2)
 }
 
-fn has_two_nodes(nodes: &Nodes) -> bool {
-    nodes.len() == 2
-        && !nodes.is_empty()
-        && nodes.get(1).copied() == Some(NodeId(24))
-        && nodes.as_slice().len() == 2
+fn first_values_keep_their_order(alloc: Global) -> Result<bool, AllocError> {
+    let mut few = Few::one(Value::Int(1));
+    few.push(alloc, Value::Int(300))?;
+    let values = FirstValues::new(few);
+    Ok(values.as_slice().len() == 2 && values.get(1).map(data_len) == Some(4))
 }
 
-#[test]
-fn nodes_keep_their_order(rt: HostRuntime) -> Result<(), Fail> {
-    let nodes = Nodes::from_vec(with(one(rt.alloc(), NodeId(18))?, NodeId(24))?);
-    assert!(rt; has_two_nodes(&nodes) && nodes.into_vec().len() == 2);
-    Ok(())
-}
-
-fn has_one_target(targets: &Targets) -> bool {
-    targets.len() == 1
-        && !targets.is_empty()
-        && matches!(targets.get(0), Some(Target::Node(NodeId(7), _)))
-        && targets.as_slice().len() == 1
-}
-
-#[test]
-fn targets_keep_their_order(rt: HostRuntime) -> Result<(), Fail> {
-    let target = named(rt.alloc(), b"MMXU1$MX$TotW$mag$i")?;
-    let targets = Targets::from_vec(one(rt.alloc(), target)?);
-    assert!(rt; has_one_target(&targets) && targets.into_vec().len() == 1);
-    Ok(())
-}
-
-fn has_one_write(writes: &Writes) -> bool {
-    writes.len() == 1
-        && !writes.is_empty()
-        && writes.get(1).is_none()
-        && writes.as_slice().len() == 1
-}
-
-#[test]
-fn writes_keep_their_order(rt: HostRuntime) -> Result<(), Fail> {
-    let write = Write {
-        target: named(rt.alloc(), b"LLN0$SP$x")?,
-        value: Value::Uint(2),
-    };
-    let writes = Writes::from_vec(one(rt.alloc(), write)?);
-    assert!(rt; has_one_write(&writes) && writes.into_vec().len() == 1);
-    Ok(())
-}
-
-/// BAY1/LLN0$Events.
-fn events(alloc: Global) -> Result<SetName, AllocError> {
-    Ok(SetName {
-        domain: octs(alloc, b"BAY1")?,
-        item: octs(alloc, b"LLN0$Events")?,
-    })
-}
-
-fn has_one_set_name(names: &SetNames) -> bool {
-    names.len() == 1
-        && !names.is_empty()
-        && names.get(0).map(|name| name.item.len()) == Some(11)
-        && names.as_slice().len() == 1
-}
-
-#[test]
-fn names_of_sets_keep_their_order(rt: HostRuntime) -> Result<(), Fail> {
-    let names = SetNames::from_vec(one(rt.alloc(), events(rt.alloc())?)?);
-    assert!(rt; has_one_set_name(&names) && names.into_vec().len() == 1);
-    Ok(())
-}
-
-fn has_two_settings(sets: &Sets) -> bool {
-    sets.len() == 2
-        && !sets.is_empty()
-        && sets.get(1).map(|setting| setting.attr) == Some(AttrId(3))
-        && sets.get(2).is_none()
-        && sets.as_slice().len() == 2
-}
-
-fn setting(attr: u32, value: Value) -> Setting {
-    Setting {
-        attr: AttrId(attr),
-        value,
+/// The bits of a bit string's type, and 0 of another's.
+fn bits_of(part: &Part1) -> u16 {
+    match &part.kind {
+        TypeOf::Bits(count) => *count,
+        _ => 0,
     }
 }
 
-#[test]
-fn settings_keep_their_order(rt: HostRuntime) -> Result<(), Fail> {
-    let first = one(rt.alloc(), setting(6, Value::Int(5)))?;
-    let sets = Sets::from_vec(with(first, setting(3, Value::Bool(true)))?);
-    assert!(rt; has_two_settings(&sets) && sets.into_vec().len() == 2);
-    Ok(())
+/// A part of a quality.
+fn quality(alloc: Global) -> Result<Part1, AllocError> {
+    Ok(Part1 {
+        name: ShortOcts::from_slice(alloc, b"q")?,
+        kind: TypeOf::Bits(13),
+    })
 }
 
-#[test]
-fn a_list_of_nothing_is_empty(rt: HostRuntime) -> Result<(), Fail> {
-    let sets = Sets::from_vec(Vec::new(rt.alloc()));
-    let attrs = AttrIds::from_vec(rt.alloc(), Vec::new(rt.alloc()))?;
-    assert!(rt; sets.is_empty() && attrs.is_empty());
-    Ok(())
+fn has_the_quality(parts: &Parts) -> bool {
+    parts.len() == 1 && parts.get(0).map(bits_of) == Some(13) && parts.as_slice().len() == 1
+}
+
+fn parts(alloc: Global) -> Result<Parts, AllocError> {
+    Parts::from_vec(alloc, one(alloc, quality(alloc)?)?)
+}
+
+/// The bits of the first part of a structure's type, if it is one.
+fn first_bits(kind: &TypeOf) -> Option<u16> {
+    match kind {
+        TypeOf::Struct(parts) => parts.get(0).map(bits_of),
+        _ => None,
+    }
+}
+
+fn types_keep_their_parts(alloc: Global) -> Result<bool, AllocError> {
+    let copy = TypeOf::Struct(parts(alloc)?).share()?;
+    Ok(has_the_quality(&parts(alloc)?) && first_bits(&copy) == Some(13))
+}
+
+fn stays(alloc: Global, octets: &[u8]) -> Result<bool, AllocError> {
+    let row = ShortOcts::from_slice(alloc, octets)?;
+    let copy = row.copy(alloc)?;
+    Ok(row.as_slice() == octets && copy.as_slice() == octets)
+}
+
+// Up to 30 octets take no memory.
+fn short_rows_keep_their_octets(alloc: Global) -> Result<bool, AllocError> {
+    Ok(stays(alloc, b"")? && stays(alloc, &[7; 30])? && stays(alloc, &[7; 31])?)
 }
 
 fn has_two_attributes(attrs: &AttrIds) -> bool {
@@ -264,67 +108,44 @@ fn two_attributes(alloc: Global) -> Result<AttrIds, AllocError> {
     AttrIds::from_vec(alloc, with(one(alloc, AttrId(4))?, AttrId(2))?)
 }
 
-#[test]
-fn numbers_of_attributes_keep_their_order(rt: HostRuntime) -> Result<(), Fail> {
-    let attrs = two_attributes(rt.alloc())?;
-    assert!(rt; has_two_attributes(&attrs) && has_two_attributes(&attrs.share()?));
-    Ok(())
+fn attributes_keep_their_order(alloc: Global) -> Result<bool, AllocError> {
+    let attrs = two_attributes(alloc)?;
+    Ok(has_two_attributes(&attrs) && has_two_attributes(&attrs.share()?))
 }
 
-#[test]
-fn a_part_of_attributes_ends_where_they_end(rt: HostRuntime) -> Result<(), Fail> {
-    let attrs = two_attributes(rt.alloc())?;
+fn a_part_of_attributes_ends_where_they_end(alloc: Global) -> Result<bool, AllocError> {
+    let attrs = two_attributes(alloc)?;
     let second = attrs.part(1, 7)?;
-    assert!(rt; second.len() == 1 && second.get(0) == Some(&AttrId(2)));
-    assert!(rt; second.part(1, 1)?.is_empty() && attrs.part(3, 1)?.is_empty());
-    Ok(())
+    let is_second = second.len() == 1 && second.get(0) == Some(&AttrId(2));
+    Ok(is_second && second.part(1, 1)?.is_empty() && attrs.part(3, 1)?.is_empty())
 }
 
-fn row(alloc: Global) -> Result<NodeRow, AllocError> {
-    Ok(NodeRow {
-        allowed: true,
-        octets: 6,
-        shape: MemberShape {
-            node: NodeId(9),
-            kind: TypeOf::Int(32),
-            attrs: two_attributes(alloc)?,
-        },
-    })
+fn lists_are_kept(alloc: Global) -> Result<bool, AllocError> {
+    Ok(
+        names_keep_their_order(alloc)?
+            && results_keep_their_order(alloc)?
+            && a_list_of_nothing_is_empty(alloc)?,
+    )
 }
 
-fn has_one_row(nodes: &NodeTable) -> bool {
-    nodes.len() == 1
-        && !nodes.is_empty()
-        && nodes.get(0).map(|row| row.octets) == Some(6)
-        && nodes.get(1).is_none()
-        && nodes.as_slice().len() == 1
+fn values_and_types_are_kept(alloc: Global) -> Result<bool, AllocError> {
+    Ok(
+        values_keep_their_order(alloc)?
+            && first_values_keep_their_order(alloc)?
+            && types_keep_their_parts(alloc)?
+            && short_rows_keep_their_octets(alloc)?,
+    )
 }
 
-#[test]
-fn rows_of_nodes_keep_their_order(rt: HostRuntime) -> Result<(), Fail> {
-    let nodes = NodeTable::from_vec(one(rt.alloc(), row(rt.alloc())?)?);
-    assert!(rt; has_one_row(&nodes) && nodes.into_vec().len() == 1);
-    Ok(())
-}
-
-fn set(alloc: Global) -> Result<SetRow, AllocError> {
-    Ok(SetRow {
-        name: events(alloc)?,
-        nodes: Nodes::from_vec(one(alloc, NodeId(9))?),
-    })
-}
-
-fn has_one_set(sets: &SetTable) -> bool {
-    sets.len() == 1
-        && !sets.is_empty()
-        && sets.get(0).map(|set| set.nodes.len()) == Some(1)
-        && sets.get(1).is_none()
-        && sets.as_slice().len() == 1
+fn attributes_are_kept(alloc: Global) -> Result<bool, AllocError> {
+    Ok(attributes_keep_their_order(alloc)? && a_part_of_attributes_ends_where_they_end(alloc)?)
 }
 
 #[test]
-fn rows_of_sets_keep_their_order(rt: HostRuntime) -> Result<(), Fail> {
-    let sets = SetTable::from_vec(one(rt.alloc(), set(rt.alloc())?)?);
-    assert!(rt; has_one_set(&sets) && sets.into_vec().len() == 1);
+fn lists_keep_their_order(rt: HostRuntime) -> Result<(), AllocError> {
+    let alloc = rt.alloc();
+    assert!(rt; lists_are_kept(alloc)?, "lists");
+    assert!(rt; values_and_types_are_kept(alloc)?, "values and types");
+    assert!(rt; attributes_are_kept(alloc)?, "attributes");
     Ok(())
 }

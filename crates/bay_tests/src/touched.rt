@@ -7,28 +7,12 @@ ghost use Rattle.bay_model.specs.declared.tables.MemberShape.{MemberShape as Sha
 ghost use Rattle.touch_index.specs.Indexed.{AreAmong, pairs};
 ghost use Rattle.touch_index.specs.Gathered.{AreOnce, IsSetOf};
 
+use crate::triggers::{ALL, UPDATES, told_by};
 use bay_model::{AttrIds, Change, Flags, MemberShape, NodeRow, Note, Trg};
 use set_view::SetView;
 use std::alloc::{AllocError, Global};
-use std::test::*;
 use sv_base::{AttrId, BlockNo, NodeId, TypeOf};
 use touch_index::{Index, Notes};
-
-const ALL: Trg = Trg {
-    dchg: true,
-    qchg: true,
-    dupd: true,
-    intg: true,
-    gi: true,
-};
-
-const UPDATE: Trg = Trg {
-    dchg: false,
-    qchg: false,
-    dupd: true,
-    intg: false,
-    gi: false,
-};
 
 /// The value of an attribute differs.
 fn differs(attr: u32, dchg: bool, qchg: bool) -> Change
@@ -125,19 +109,6 @@ fn all_touches(index: &Index) -> [u64; 4]
     ]
 }
 
-/// Of each member of a note its digit, and behind it 1 for data-change, 2 for quality-change, 4 for data-update, and their sums.
-fn told_by(note: &Note) -> u32 {
-    let mut told = 0u32;
-    for mention in note.as_slice() {
-        let reasons = u32::from(mention.reasons.dchg)
-            | u32::from(mention.reasons.qchg) << 1
-            | u32::from(mention.reasons.dupd) << 2;
-        let digits = mention.member.0.wrapping_mul(10).wrapping_add(reasons);
-        told = told.wrapping_mul(100).wrapping_add(digits);
-    }
-    told
-}
-
 /// The note of a block, told.
 fn noted(
     alloc: Global,
@@ -195,34 +166,42 @@ fn are_notes(
     *taken == [one, other, (None, 0)] || *taken == [other, one, (None, 0)]
 }
 
-// Attribute 1 is held by both members of the first block and by the one of the second; a block without members is touched by none.
-#[test]
-fn an_attribute_touches_the_members_that_hold_it(rt: HostRuntime) -> Result<(), AllocError> {
-    let alloc = rt.alloc();
-    let rows = [pair(alloc, 0, 1)?, pair(alloc, 2, 1)?, pair(alloc, 1, 3)?];
-    let first = SetView::new(&[NodeId(0), NodeId(1)], &rows);
-    let second = SetView::new(&[NodeId(2)], &rows);
-    let mut index = opened(alloc, &first, &second)?;
-    let both = all_touches(&index);
-    index.clear(BlockNo(0));
-    let one = all_touches(&index);
-    assert!(rt; both == [1, 101102111, 202, 311] && one == [0, 111, 0, 311]);
-    Ok(())
+/// Whether changes are noted where they touch: data-change of attribute 0, quality-change of attribute 1 and data-update
+/// of attribute 2, both ways to a note.
+fn are_noted(alloc: Global, index: &Index) -> Result<bool, AllocError>
+    requires attrs { index.now.attrs ≡ 4 }
+    requires count { length index.now.blocks ≡ 2 }
+    requires first { (members : List ShapeValue) × IsSetOf index.now.blocks 0 members × (length members ≤ 4) }
+    requires second { (members : List ShapeValue) × IsSetOf index.now.blocks 1 members × (length members ≤ 4) }
+{
+    let changes = [differs(0, true, false), differs(1, false, true), updated(2)];
+    let one = noted(alloc, index, 0, &changes, ALL)?;
+    let other = noted(alloc, index, 1, &changes, UPDATES)?;
+    let both = gathered(alloc, index, &changes, &[UPDATES, ALL])?;
+    Ok(are_notes(&both, (Some(0), 204), (Some(1), 102)) && (one, other) == (103206, 0))
 }
 
-// Data-change of attribute 0, quality-change of attribute 1 and data-update of attribute 2: both ways to a note.
+/// What the attributes touch before and after the first block is cleared.
+fn cleared(mut index: Index) -> ([u64; 4], [u64; 4])
+    requires attrs { index.attrs ≡ 4 }
+    requires count { length index.blocks ≡ 2 }
+{
+    let both = all_touches(&index);
+    index.clear(BlockNo(0));
+    (both, all_touches(&index))
+}
+
+// Attribute 1 is held by both members of the first block and by the one of the second; a block without members is touched
+// by none.
 #[test]
-fn changes_are_noted_where_they_touch(rt: HostRuntime) -> Result<(), AllocError> {
+fn changes_are_noted_where_attributes_touch_members(rt: HostRuntime) -> Result<(), AllocError> {
     let alloc = rt.alloc();
     let rows = [pair(alloc, 0, 1)?, pair(alloc, 2, 1)?, pair(alloc, 1, 3)?];
     let first = SetView::new(&[NodeId(0), NodeId(1)], &rows);
     let second = SetView::new(&[NodeId(2)], &rows);
     let index = opened(alloc, &first, &second)?;
-    let changes = [differs(0, true, false), differs(1, false, true), updated(2)];
-    let one = noted(alloc, &index, 0, &changes, ALL)?;
-    let other = noted(alloc, &index, 1, &changes, UPDATE)?;
-    let both = gathered(alloc, &index, &changes, &[UPDATE, ALL])?;
-    let right = are_notes(&both, (Some(0), 24), (Some(1), 12));
-    assert!(rt; right && (one, other) == (1326, 0));
+    let is_noted = are_noted(alloc, &index)?;
+    let touches = cleared(index);
+    assert!(rt; is_noted && touches == ([1, 101102111, 202, 311], [0, 111, 0, 311]));
     Ok(())
 }

@@ -1,8 +1,10 @@
 //! What is noted of the changes of a point (IEC 61850-7-2, TriggerConditions and ReasonForInclusion).
 
+ghost use Rattle.std.specs.Prelude.{◌≤◌, length};
+
 use bay_model::{AttrIds, Change, Flags, MemberShape, NodeRow, Note, Trg};
 use set_view::SetView;
-use std::test::*;
+use std::alloc::{AllocError, Global};
 use sv_base::{AttrId, NodeId, TypeOf};
 use trigger_core::note;
 
@@ -24,17 +26,71 @@ const UPDATE: Flags = Flags {
     dupd: true,
 };
 
-fn change(attr: u32, flags: Flags, differs: bool) -> Change {
-    Change {
-        attr: AttrId(attr),
-        flags,
-        differs,
-    }
-}
+/// All of a block's TrgOps.
+pub const ALL: Trg = Trg {
+    dchg: true,
+    qchg: true,
+    dupd: true,
+    intg: true,
+    gi: true,
+};
+
+/// Data-update alone.
+pub const UPDATES: Trg = Trg {
+    dchg: false,
+    qchg: false,
+    dupd: true,
+    intg: false,
+    gi: false,
+};
+
+const VALUE: Change = Change {
+    attr: AttrId(0),
+    flags: DATA,
+    differs: true,
+};
+
+const SAME_VALUE: Change = Change {
+    attr: AttrId(0),
+    flags: DATA,
+    differs: false,
+};
+
+const NEW_QUALITY: Change = Change {
+    attr: AttrId(1),
+    flags: QUALITY,
+    differs: true,
+};
+
+const UPDATED: Change = Change {
+    attr: AttrId(2),
+    flags: UPDATE,
+    differs: false,
+};
+
+/// An attribute of no member.
+const ELSEWHERE: Change = Change {
+    attr: AttrId(4),
+    flags: UPDATE,
+    differs: true,
+};
+
+/// The changes of a point, the TrgOps, and what is noted.
+type Noting = (&'static [Change], Trg, u32);
+
+const NOTINGS: [Noting; 7] = [
+    (&[], ALL, 0),
+    (&[VALUE], ALL, 101),
+    (&[SAME_VALUE], ALL, 0),
+    (&[VALUE], UPDATES, 0),
+    (&[VALUE, NEW_QUALITY], ALL, 103),
+    (&[UPDATED], UPDATES, 204304),
+    (&[ELSEWHERE], ALL, 0),
+];
 
 /// A node of these attributes.
-fn row(rt: &HostRuntime, attrs: &[u32]) -> Result<NodeRow, Fail> {
-    let mut items = Vec::new(rt.alloc());
+fn row(alloc: Global, attrs: &[u32]) -> Result<NodeRow, AllocError> {
+    let mut items = Vec::new(alloc);
     for attr in attrs {
         items.push(AttrId(*attr))?;
     }
@@ -44,70 +100,51 @@ fn row(rt: &HostRuntime, attrs: &[u32]) -> Result<NodeRow, Fail> {
         shape: MemberShape {
             node: NodeId(0),
             kind: TypeOf::Bool,
-            attrs: AttrIds::from_vec(rt.alloc(), items)?,
+            attrs: AttrIds::from_vec(alloc, items)?,
         },
     })
 }
 
-/// The reasons of a note, each member as its number and the letters d, q and u.
-fn told(rt: &HostRuntime, note: &Note) -> Result<String, Fail> {
-    let mut text = String::new(rt.alloc());
+/// Of each member of a note its number, and behind it two digits: 1 for data-change, 2 for quality-change, 4 for
+/// data-update, 8 for integrity, 16 for an interrogation, and their sums.
+pub fn told_by(note: &Note) -> u32 {
+    let mut told = 0u32;
     for mention in note.as_slice() {
         let reasons = mention.reasons;
-        text.push_str(&format!(in rt.alloc(); "{}", mention.member.0)?)?;
-        for (is_one, letter) in [
-            (reasons.dchg, 'd'),
-            (reasons.qchg, 'q'),
-            (reasons.dupd, 'u'),
-            (reasons.intg, 'i'),
-            (reasons.gi, 'g'),
-        ] {
-            if is_one {
-                text.push(letter)?;
-            }
-        }
-        text.push(' ')?;
+        let sum = u32::from(reasons.dchg)
+            | u32::from(reasons.qchg) << 1
+            | u32::from(reasons.dupd) << 2
+            | u32::from(reasons.intg) << 3
+            | u32::from(reasons.gi) << 4;
+        let digits = mention.member.0.wrapping_mul(100).wrapping_add(sum);
+        told = told.wrapping_mul(1000).wrapping_add(digits);
     }
-    Ok(text)
+    told
+}
+
+/// What is noted of a row's changes.
+fn noted(alloc: Global, set: &SetView<'_>, noting: &Noting) -> Result<u32, AllocError>
+    requires { length set.now ≤ 3 }
+{
+    let mut out = Note::new(alloc, 3)?;
+    note(noting.0, set, noting.1, &mut out);
+    Ok(told_by(&out))
 }
 
 // IEC 61850-7-2: data-change is a change of an attribute flagged dchg, quality-change one of an attribute flagged qchg,
 // data-update a setting of one flagged dupd, each where TrgOps has its bit.
 #[test]
-fn reasons_by_trigger(rt: HostRuntime) -> Result<(), Fail> {
-    let rows = [row(&rt, &[3, 2])?, row(&rt, &[0, 1])?, row(&rt, &[2])?];
-    let set = SetView::new(&[NodeId(1), NodeId(2), NodeId(0)], &rows);
-    let all = Trg {
-        dchg: true,
-        qchg: true,
-        dupd: true,
-        intg: true,
-        gi: true,
-    };
-    let update = Trg {
-        dchg: false,
-        qchg: false,
-        dupd: true,
-        intg: false,
-        gi: false,
-    };
-    let table: [(&[Change], Trg, &str); 7] = [
-        (&[], all, ""),
-        (&[change(0, DATA, true)], all, "1d "),
-        (&[change(0, DATA, false)], all, ""),
-        (&[change(0, DATA, true)], update, ""),
-        (
-            &[change(0, DATA, true), change(1, QUALITY, true)],
-            all,
-            "1dq ",
-        ),
-        (&[change(2, UPDATE, false)], update, "2u 3u "),
-        (&[change(4, UPDATE, true)], all, ""),
+fn members_are_noted_for_what_triggers(rt: HostRuntime) -> Result<(), AllocError> {
+    let alloc = rt.alloc();
+    let rows = [
+        row(alloc, &[3, 2])?,
+        row(alloc, &[0, 1])?,
+        row(alloc, &[2])?,
     ];
-    for (changes, trg, wanted) in table {
-        let mut out = Note::new(rt.alloc(), 3)?;
-        note(changes, &set, trg, &mut out);
-        assert!(rt; told(&rt, &out)?.as_str() == wanted, "note");
+    let set = SetView::new(&[NodeId(1), NodeId(2), NodeId(0)], &rows);
+    for noting in &NOTINGS {
+        let told = noted(alloc, &set, noting)?;
+        assert!(rt; told == noting.2, "{:?}: {told}", noting.0);
     }
     Ok(())
 }

@@ -10,7 +10,6 @@ use bay_model::{Answer, Step};
 use history_lock::{History, Pass, TurnFault};
 use std::alloc::{AllocError, Global};
 use std::sync::Wait;
-use std::test::*;
 use std::thread::{Threads, join};
 use sv_base::{AssocNo, Moment};
 
@@ -135,14 +134,8 @@ fn two<R: Threads + Wait + Sync + AllocGlobal>(rt: &R) -> Result<bool, AllocErro
     Ok(by_two(rt, history, pass))
 }
 
-#[test]
-fn two_threads_make_one_history(rt: HostRuntime) -> Result<(), Fail> {
-    assert!(rt; two(&rt)?);
-    Ok(())
-}
-
-/// Whether each accepted request has its reply, no write is refused and no read goes back, and the steps of all are those of the
-/// history.
+/// Whether each accepted request has its reply, no write is refused and no read goes back, and the steps of all are those
+/// of the history.
 fn are_answered(takes: Tally, writes: Tally, reads: Tally, all: u64) -> bool {
     let clients = u64::from(writes.accepted) + u64::from(reads.accepted);
     !takes.is_wrong
@@ -175,12 +168,6 @@ fn three<R: Threads + Wait + Sync + AllocGlobal>(rt: &R) -> Result<bool, AllocEr
     let bay = opened_bay(rt.alloc())?;
     let (history, pass) = History::new(rt.alloc(), bay, 4)?;
     Ok(by_three(rt, history, pass))
-}
-
-#[test]
-fn requests_of_three_threads_are_answered(rt: HostRuntime) -> Result<(), Fail> {
-    assert!(rt; three(&rt)?);
-    Ok(())
 }
 
 /// Why a turn made no step; none where it made one.
@@ -232,7 +219,9 @@ fn one<R: Wait>(rt: &R, alloc: Global) -> Result<bool, AllocError> {
 }
 
 #[test]
-fn a_refused_turn_adds_nothing(rt: HostRuntime) -> Result<(), Fail> {
-    assert!(rt; one(&rt, rt.alloc())?);
+fn turns_of_one_and_more_threads_make_one_history(rt: HostRuntime) -> Result<(), AllocError> {
+    assert!(rt; one(&rt, rt.alloc())?, "a refused turn adds nothing");
+    assert!(rt; two(&rt)?, "two threads make one history");
+    assert!(rt; three(&rt)?, "requests of three threads are answered");
     Ok(())
 }

@@ -10,27 +10,15 @@ ghost use Rattle.sv_base.specs.Kinds.{kind_of, is_kind, is_in_range};
 ghost use Rattle.bay_rooms.specs.Slots.{IsSettable};
 ghost use Rattle.value_store.specs.Opened.{HasValue, IsStorable, place_in};
 
+use crate::pieces::{octs, shared};
 use bay_model::{AttrIds, MemberShape};
 use bay_rooms::{Fixed, ValueRef};
 use std::alloc::{AllocError, Global};
-use std::test::*;
 use sv_base::{
     AttrDef, AttrDefs, AttrId, BlockDefs, Config, CtlDef, CtlDefs, Few, FirstValues, LnDefs,
-    NodeId, Octs, Part1, Parts, SetDefs, SgDefs, SharedOcts, ShortOcts, TypeOf, Value,
+    NodeId, Part1, Parts, SetDefs, SgDefs, ShortOcts, TypeOf, Value,
 };
 use value_store::{SetFault, Store};
-
-fn octs(alloc: Global, octets: &[u8]) -> Result<Octs, AllocError>
-    ensures { IfOk result (λ o. o ≡ octets.now) }
-{
-    Ok(Octs::from_vec(octets.to_vec(alloc)?))
-}
-
-fn shared(alloc: Global, octets: &[u8]) -> Result<SharedOcts, AllocError>
-    ensures { IfOk result (λ o. o ≡ octets.now) }
-{
-    SharedOcts::new(alloc, octs(alloc, octets)?)
-}
 
 /// An attribute under a functional constraint other than SG, with its first value.
 fn attr(alloc: Global, fc: &[u8], kind: TypeOf, value: Value) -> Result<AttrDef, AllocError>
@@ -147,7 +135,8 @@ fn number(store: &Store, attr: u32) -> i64 {
     }
 }
 
-/// An attribute, the value that it is set to, whether by a client, and what comes of it: whether the value differs, or a refusal.
+/// An attribute, the value that it is set to, whether by a client, and what comes of it: whether the value differs, or a
+/// refusal.
 type Setting = (u32, Kind, i64, bool, Result<bool, SetFault>);
 
 const SETTINGS: [Setting; 10] = [
@@ -164,7 +153,9 @@ const SETTINGS: [Setting; 10] = [
 ];
 
 /// The number of the attributes, and their numbers.
-fn numbers(store: &Store) -> (usize, [i64; 6]) {
+type Numbers = (usize, [i64; 6]);
+
+fn numbers(store: &Store) -> Numbers {
     let numbers = [
         number(store, 0),
         number(store, 1),
@@ -192,20 +183,26 @@ fn first_wrong(store: &mut Store) -> Option<usize> {
     None
 }
 
-// Of the control model sbo-with-enhanced-security (4), CF has ctlModel, sboTimeout and sboClass.
-#[test]
-fn a_store_begins_as_it_is_configured(rt: HostRuntime) -> Result<(), Fail> {
-    let store = Store::open(rt.alloc(), &config(rt.alloc())?)?;
-    assert!(rt; numbers(&store) == (6, [7, 1, 0, 4, 30000, 1]));
-    Ok(())
+/// What a store begins with, the place of the first setting that comes out otherwise, and what it ends with.
+fn played(mut store: Store) -> (Numbers, Option<usize>, Numbers) {
+    let begun = numbers(&store);
+    let wrong = first_wrong(&mut store);
+    (begun, wrong, numbers(&store))
 }
+
+// Of the control model sbo-with-enhanced-security (4), CF has ctlModel, sboTimeout and sboClass.
+const BEGUN: Numbers = (6, [7, 1, 0, 4, 30000, 1]);
+
+const ENDED: Numbers = (6, [8, 0, 0, 4, 30000, 1]);
 
 // IEC 61850-7-2: the functional constraints CF, DC, SP and SV are writable, MX and ST are not.
 #[test]
-fn sets_in_the_order_of_refusals(rt: HostRuntime) -> Result<(), Fail> {
-    let mut store = Store::open(rt.alloc(), &config(rt.alloc())?)?;
-    let wrong = first_wrong(&mut store);
-    assert!(rt; wrong == None && numbers(&store) == (6, [8, 0, 0, 4, 30000, 1]));
+fn a_store_is_set_in_the_order_of_refusals(rt: HostRuntime) -> Result<(), AllocError> {
+    let (begun, wrong, ended) = played(Store::open(rt.alloc(), &config(rt.alloc())?)?);
+    assert!(rt;
+        (begun, wrong, ended) == (BEGUN, None, ENDED),
+        "setting {wrong:?}"
+    );
     Ok(())
 }
 
@@ -218,23 +215,35 @@ fn part(alloc: Global, name: &[u8]) -> Result<Part1, AllocError>
     })
 }
 
-// ISO 9506-2, Data: a structure is `A2`, a boolean `83`.
-#[test]
-fn writes_members_in_the_order_of_their_type(rt: HostRuntime) -> Result<(), Fail> {
-    let alloc = rt.alloc();
-    let store = Store::open(alloc, &config(alloc)?)?;
-    assert!(rt; 2 < store.len());
-    assert!(rt; matches!(store.get(AttrId(1)), ValueRef::Bool(_)));
-    assert!(rt; matches!(store.get(AttrId(2)), ValueRef::Bool(_)));
+/// Whether the attributes 2 and 1 are written as a structure of two booleans.
+fn writes_a_structure(alloc: Global, store: &Store) -> Result<bool, AllocError> {
+    if store.len() <= 2 {
+        return Ok(false);
+    }
+    if !matches!(store.get(AttrId(1)), ValueRef::Bool(_)) {
+        return Ok(false);
+    }
+    if !matches!(store.get(AttrId(2)), ValueRef::Bool(_)) {
+        return Ok(false);
+    }
     let parts = vec![in alloc; part(alloc, b"general")?, part(alloc, b"phsA")?]?;
     let shape = MemberShape {
         node: NodeId(3),
-        kind: TypeOf::Struct(Parts::from_vec(rt.alloc(), parts)?),
+        kind: TypeOf::Struct(Parts::from_vec(alloc, parts)?),
         attrs: AttrIds::from_vec(alloc, vec![in alloc; AttrId(2), AttrId(1)]?)?,
     };
     let mut out = Fixed::new(alloc, 8)?;
     let count = store.member_bytes(&shape, &mut out);
     let wanted = [0xa2, 6, 0x83, 1, 0, 0x83, 1, 0xff];
-    assert!(rt; count == 8 && out.as_slice() == wanted.as_slice());
+    Ok(count == 8 && out.as_slice() == wanted.as_slice())
+}
+
+// ISO 9506-2, Data: a structure is `A2`, a boolean `83`.
+#[test]
+fn members_are_written_in_the_order_of_their_type(rt: HostRuntime) -> Result<(), AllocError> {
+    let store = Store::open(rt.alloc(), &config(rt.alloc())?)?;
+    let is_written = writes_a_structure(rt.alloc(), &store)?;
+    drop(store);
+    assert!(rt; is_written);
     Ok(())
 }

@@ -2,16 +2,17 @@
 
 ghost use Rattle.std.specs.Prelude.{IfOk};
 
+use crate::pieces::octs;
 use bay_model::{
     Answer, Asked, ObjName, Output, Reply, Request, Service, Sets, Setting, Step, Target, Targets,
     Write, Writes,
 };
 use object_model::Model;
 use std::alloc::{AllocError, Global};
-use sv_base::{ActorNo, AssocNo, AttrId, NodeId, Octs, Value};
+use sv_base::{ActorNo, AssocNo, AttrId, NodeId, Value};
 
-/// What a thread does: the process sets the measured power, time passes, a client opens an association and reads or writes the
-/// deadband of the power, or what waits for both is taken.
+/// What a thread does: the process sets the measured power, time passes, a client opens an association and reads or writes
+/// the deadband of the power, or what waits for both is taken.
 #[derive(Clone, Copy)]
 pub enum Work {
     Values,
@@ -19,10 +20,6 @@ pub enum Work {
     Reads,
     Writes,
     Takes,
-}
-
-fn octs(alloc: Global, octets: &[u8]) -> Result<Octs, AllocError> {
-    Ok(Octs::from_vec(Vec::from_slice(alloc, octets)?))
 }
 
 /// A step that sets the power.
@@ -103,8 +100,8 @@ pub fn step_of(alloc: Global, model: &Model, work: Work, n: u32) -> Result<Step,
     }
 }
 
-/// How many steps were accepted, how many replies were taken and the last number that was read; and whether a write was refused, or
-/// a read gave a number below one before it.
+/// How many steps were accepted, how many replies were taken and the last number that was read; and whether a write was
+/// refused, or a read gave a number below one before it.
 #[derive(Clone, Copy)]
 pub struct Tally {
     pub accepted: u32,
