@@ -1,11 +1,11 @@
 -- What is given to an actor's thread may go there, and what it gives back too.
 use denote.Param.Send.{IsSend, sendable}
 use Rattle.std.proofs.Crossing.{crosses}
+use Rattle.sv_base.proofs.list.List.TheSendSync as list
 use Rattle.sv_base.proofs.moment.Moment.TheSendSync as moment
 use Rattle.sv_base.proofs.numbers.AssocNo.TheSendSync as association
 use Rattle.sv_base.proofs.numbers.CtlNo.TheSendSync as control
 use Rattle.bay_model.specs.contracts.control.Act as Act
-use Rattle.bay_model.specs.contracts.control.Acts as Acts
 use Rattle.bay_model.specs.contracts.answer.Answer as Answer
 use Rattle.assoc_table.proofs.SendLaws.{value_field_send, output_field_send}
 use Rattle.bay_histories.specs.contracts.fault.StepFault as StepFault
@@ -26,11 +26,8 @@ script_field_send = search (timed_field_send, crosses, sendable) depth 60
 act_send : IsSend Act.the_row
 act_send = search (control.the_field_send, value_field_send, association.the_field_send, sendable) depth 60
 
-acts_send : IsSend Acts.the_row
-acts_send = search (act_send, crosses, sendable) depth 60
-
 answer_field_send : IsSend Answer.the_field.row
-answer_field_send = search (acts_send, output_field_send, crosses, sendable) depth 60
+answer_field_send = search (act_send, list.the_send, output_field_send, crosses, sendable) depth 60
 
 pub reply_field_send : IsSend Reply.the_field.row
 reply_field_send = search (answer_field_send, sendable) depth 60

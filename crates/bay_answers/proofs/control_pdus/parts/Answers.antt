@@ -23,6 +23,6 @@ returns c =
     c.new-out.ensures.items
     (c.in_ok-add.ensures.ok ∙ ap (λ x. c.new-out.result.items ++ octets_of 0x8a x) c.as_slice.ensures)
     c.in_ok-put_int.ensures.ok
-    (c.in_ok-add-2.ensures ∙ ap (λ x. c.put_int.new.out.items ++ octets_of 0xa2 x) (c.as_slice-2.ensures.value ∙ c.in_ok-origin.ensures))
+    (c.in_ok-add-2.ensures.ok ∙ ap (λ x. c.put_int.new.out.items ++ octets_of 0xa2 x) (c.as_slice-2.ensures.value ∙ c.in_ok-origin.ensures))
     (c.in_ok-put_uint.ensures.ok ∙ ap (λ x. c.add-2.new.out.items ++ octets_of 0x86 (uint_octets x)) c.from.ensures)
     (c.in_ok-put_uint-2.ensures.ok ∙ ap (λ x. c.put_uint.new.out.items ++ octets_of 0x85 (uint_octets x)) c.from-2.ensures)
