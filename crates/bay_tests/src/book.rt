@@ -75,19 +75,23 @@ fn member(alloc: Global, node: u32) -> Result<Vec<Target>, AllocError>
 
 /// What is found, and what isn't: a data set `LN$NAME` belongs to its domain, and a DatSet names it as `LD/LN$NAME`
 /// (IEC 61850-8-1).
-fn finds(alloc: Global) -> Result<bool, AllocError> {
+fn finds(book: &SetBook, named: &SetName, other: &SetName) -> bool
+    requires { length book.now.sets ≡ 2 }
+{
+    book.number_named(named) == Some(1)
+        && book.number_named(other).is_none()
+        && book.number_referred(b"BAY1/LLN0$Events") == Some(0)
+        && book.number_referred(b"BAY1LLN0$Events").is_none()
+        && book.number_referred(b"").is_none()
+        && book.nodes(1) == [NodeId(1)].as_slice()
+}
+
+fn are_found(alloc: Global) -> Result<bool, AllocError> {
     let book = book(alloc)?;
+    let after = book.names_after(alloc, b"BAY1", b"LLN0")?.len();
     let named = name(alloc, b"BAY2", b"LLN0$Events")?;
     let other = name(alloc, b"BAY2", b"LLN0$Event")?;
-    Ok(
-        book.number_named(&named) == Some(1)
-            && book.number_named(&other).is_none()
-            && book.number_referred(b"BAY1/LLN0$Events") == Some(0)
-            && book.number_referred(b"BAY1LLN0$Events").is_none()
-            && book.number_referred(b"").is_none()
-            && book.nodes(1) == [NodeId(1)].as_slice()
-            && book.names_after(alloc, b"BAY1", b"LLN0")?.len() == 1,
-    )
+    Ok(after == 1 && finds(&book, &named, &other))
 }
 
 /// An item, whether its logical node is there, the one node of its definition, and the fault.
@@ -134,7 +138,7 @@ fn lives(alloc: Global) -> Result<bool, AllocError> {
 
 #[test]
 fn sets_are_found_defined_and_kept_while_in_use(rt: HostRuntime) -> Result<(), AllocError> {
-    assert!(rt; finds(rt.alloc())?, "found");
+    assert!(rt; are_found(rt.alloc())?, "found");
     for row in &DEFINITIONS {
         assert!(rt; has_fault(rt.alloc(), row)?, "node {}: {:?}", row.2, row.3);
     }

@@ -57,7 +57,7 @@ fn control(alloc: Global, model: u8, class: u8, is_int: bool) -> Result<CtlDef, 
 
 /// The control of a configuration that has nothing else.
 fn controls(alloc: Global, model: u8, class: u8, is_int: bool) -> Result<Controls, AllocError> {
-    let control = control(alloc, model, class, is_int)?;
+    let controls = vec![in alloc; control(alloc, model, class, is_int)?]?;
     let config = Config {
         vendor: Octs::from_vec(Vec::new(alloc)),
         model: Octs::from_vec(Vec::new(alloc)),
@@ -66,7 +66,7 @@ fn controls(alloc: Global, model: u8, class: u8, is_int: bool) -> Result<Control
         attrs: AttrDefs::from_vec(Vec::new(alloc)),
         sets: SetDefs::from_vec(Vec::new(alloc)),
         blocks: BlockDefs::from_vec(Vec::new(alloc)),
-        controls: CtlDefs::from_vec(vec![in alloc; control]?),
+        controls: CtlDefs::from_vec(controls),
         groups: SgDefs::from_vec(Vec::new(alloc)),
     };
     Controls::open(alloc, &config)

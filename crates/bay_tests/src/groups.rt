@@ -4,6 +4,7 @@ ghost use Rattle.std.specs.Prelude.{◌≡◌, ◌<◌, true, length, IfOk};
 ghost use Rattle.std.specs.List.{All};
 ghost use Rattle.sv_base.specs.declared.config.AttrDef.{AttrDef};
 ghost use Rattle.sv_base.specs.declared.types.TypeOf.TheVariants as types;
+ghost use Rattle.bay_model.specs.Model.{int};
 ghost use Rattle.bay_model.specs.NamedLines.{is_setting};
 ghost use Rattle.setting_groups.specs.Grouped.{setting_at};
 ghost use Rattle.setting_groups.specs.Opened.{HasValues, IsHeld};
@@ -57,16 +58,18 @@ fn config(alloc: Global) -> Result<Config, AllocError>
         count: 3,
         active: 1,
     };
+    let attrs = vec![in alloc; attr(alloc)?]?;
+    let groups = vec![in alloc; block]?;
     Ok(Config {
         vendor: octs(alloc, b"V")?,
         model: octs(alloc, b"M")?,
         revision: octs(alloc, b"1")?,
         nodes: LnDefs::from_vec(Vec::new(alloc)),
-        attrs: AttrDefs::from_vec(vec![in alloc; attr(alloc)?]?),
+        attrs: AttrDefs::from_vec(attrs),
         sets: SetDefs::from_vec(Vec::new(alloc)),
         blocks: BlockDefs::from_vec(Vec::new(alloc)),
         controls: CtlDefs::from_vec(Vec::new(alloc)),
-        groups: SgDefs::from_vec(vec![in alloc; block]?),
+        groups: SgDefs::from_vec(groups),
     })
 }
 
@@ -79,13 +82,21 @@ fn has_setting(groups: &Groups) -> bool
     !groups.is_empty() && groups.domain(0) == 0
 }
 
-/// The groups, where the process has set the setting to 11 in the active one.
+/// The groups as they are configured.
 #[tactic(auto, using(crate::proofs::OpenedLaws::opened_kind))]
+fn configured(alloc: Global) -> Result<Groups, AllocError>
+    ensures domains { IfOk result (λ g. length g.domains ≡ 1) }
+    ensures kind { IfOk result (λ g. (setting_at g 0).copy.kind ≡ int 32) }
+{
+    let domains = vec![in alloc; octs(alloc, b"BAY1")?]?;
+    Groups::open(alloc, &config(alloc)?, &domains)
+}
+
+/// The groups, where the process has set the setting to 11 in the active one.
 fn opened(alloc: Global) -> Result<Groups, AllocError>
     ensures { IfOk result (λ g. length g.domains ≡ 1) }
 {
-    let domains = vec![in alloc; octs(alloc, b"BAY1")?]?;
-    let mut groups = Groups::open(alloc, &config(alloc)?, &domains)?;
+    let mut groups = configured(alloc)?;
     if has_setting(&groups) {
         groups.put(0, &Value::Int(11));
     }

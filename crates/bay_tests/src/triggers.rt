@@ -122,6 +122,14 @@ pub fn told_by(note: &Note) -> u32 {
     told
 }
 
+fn rows(alloc: Global) -> Result<[NodeRow; 3], AllocError> {
+    Ok([
+        row(alloc, &[3, 2])?,
+        row(alloc, &[0, 1])?,
+        row(alloc, &[2])?,
+    ])
+}
+
 /// What is noted of a row's changes.
 fn noted(alloc: Global, set: &SetView<'_>, noting: &Noting) -> Result<u32, AllocError>
     requires { length set.now ≤ 3 }
@@ -131,20 +139,25 @@ fn noted(alloc: Global, set: &SetView<'_>, noting: &Noting) -> Result<u32, Alloc
     Ok(told_by(&out))
 }
 
+/// The place of the first row that is noted otherwise.
+fn first_wrong(alloc: Global, set: &SetView<'_>) -> Result<Option<usize>, AllocError>
+    requires { length set.now ≤ 3 }
+{
+    for (i, noting) in NOTINGS.iter().enumerate() {
+        if noted(alloc, set, noting)? != noting.2 {
+            return Ok(Some(i));
+        }
+    }
+    Ok(None)
+}
+
 // IEC 61850-7-2: data-change is a change of an attribute flagged dchg, quality-change one of an attribute flagged qchg,
 // data-update a setting of one flagged dupd, each where TrgOps has its bit.
 #[test]
 fn members_are_noted_for_what_triggers(rt: HostRuntime) -> Result<(), AllocError> {
-    let alloc = rt.alloc();
-    let rows = [
-        row(alloc, &[3, 2])?,
-        row(alloc, &[0, 1])?,
-        row(alloc, &[2])?,
-    ];
+    let rows = rows(rt.alloc())?;
     let set = SetView::new(&[NodeId(1), NodeId(2), NodeId(0)], &rows);
-    for noting in &NOTINGS {
-        let told = noted(alloc, &set, noting)?;
-        assert!(rt; told == noting.2, "{:?}: {told}", noting.0);
-    }
+    let wrong = first_wrong(rt.alloc(), &set)?;
+    assert!(rt; wrong == None, "row {wrong:?}");
     Ok(())
 }

@@ -183,6 +183,10 @@ fn first_wrong(store: &mut Store) -> Option<usize> {
     None
 }
 
+fn opened(alloc: Global) -> Result<Store, AllocError> {
+    Store::open(alloc, &config(alloc)?)
+}
+
 /// What a store begins with, the place of the first setting that comes out otherwise, and what it ends with.
 fn played(mut store: Store) -> (Numbers, Option<usize>, Numbers) {
     let begun = numbers(&store);
@@ -198,7 +202,7 @@ const ENDED: Numbers = (6, [8, 0, 0, 4, 30000, 1]);
 // IEC 61850-7-2: the functional constraints CF, DC, SP and SV are writable, MX and ST are not.
 #[test]
 fn a_store_is_set_in_the_order_of_refusals(rt: HostRuntime) -> Result<(), AllocError> {
-    let (begun, wrong, ended) = played(Store::open(rt.alloc(), &config(rt.alloc())?)?);
+    let (begun, wrong, ended) = played(opened(rt.alloc())?);
     assert!(rt;
         (begun, wrong, ended) == (BEGUN, None, ENDED),
         "setting {wrong:?}"
@@ -241,7 +245,7 @@ fn writes_a_structure(alloc: Global, store: &Store) -> Result<bool, AllocError> 
 // ISO 9506-2, Data: a structure is `A2`, a boolean `83`.
 #[test]
 fn members_are_written_in_the_order_of_their_type(rt: HostRuntime) -> Result<(), AllocError> {
-    let store = Store::open(rt.alloc(), &config(rt.alloc())?)?;
+    let store = opened(rt.alloc())?;
     let is_written = writes_a_structure(rt.alloc(), &store)?;
     drop(store);
     assert!(rt; is_written);

@@ -14,14 +14,14 @@ use std::test::*;
 use sv_base::Octs;
 
 // the AARQ that asks for the context of MMS with REQUEST in context 3, and the AARE that accepts it with ANSWER
-const AARQ: [u8; 64] = [
+static AARQ: [u8; 64] = [
     0x60, 0x3e, 0xa1, 7, 6, 5, 0x28, 0xca, 0x22, 2, 3, 0xbe, 0x33, 0x28, 0x31, 6, 2, 0x51, 1, 2, 1,
     3, 0xa0, 0x28, 0xa8, 0x26, 0x80, 3, 0, 0xfd, 0xe8, 0x81, 1, 5, 0x82, 1, 5, 0x83, 1, 0x0a, 0xa4,
     0x16, 0x80, 1, 1, 0x81, 3, 5, 0xf1, 0, 0x82, 0x0c, 3, 0xee, 0x1c, 0, 0, 4, 8, 0, 0, 0x79, 0xef,
     0x18,
 ];
 
-const AARE: [u8; 76] = [
+static AARE: [u8; 76] = [
     0x61, 0x4a, 0xa1, 7, 6, 5, 0x28, 0xca, 0x22, 2, 3, 0xa2, 3, 2, 1, 0, 0xa3, 5, 0xa1, 3, 2, 1, 0,
     0xbe, 0x33, 0x28, 0x31, 6, 2, 0x51, 1, 2, 1, 3, 0xa0, 0x28, 0xa9, 0x26, 0x80, 3, 0, 0xfd, 0xe8,
     0x81, 1, 5, 0x82, 1, 5, 0x83, 1, 0x0a, 0xa4, 0x16, 0x80, 1, 1, 0x81, 3, 5, 0xf1, 0, 0x82, 0x0c,
@@ -33,7 +33,7 @@ const SHORT: [u8; 5] = [0xa8, 3, 0x80, 1, 0x64];
 
 // the name of the context, and the user information with SHORT, or its EXTERNAL or value alone; the result, and the
 // diagnostic of the service user
-const PARTS: [Element; 6] = [
+static PARTS: [Element; 6] = [
     (b'N', &[0xa1, 7, 6, 5, 0x28, 0xca, 0x22, 2, 3]),
     (
         b'I',
@@ -65,8 +65,8 @@ enum Told {
     NotReleased,
 }
 
-const ROWS: [(&str, &[u8], Told); 76] = [
-    // what is round the request, and the AARQ
+// what is round the request, and the AARQ
+static AARQS: [(&str, &[u8], Told); 48] = [
     (
         "version, titles and qualifiers of both sides, a password",
         b"604f80020780Na206060429018767a30302010ca60706052901876701a70302010c8a0207808b03520301ac0a800870617373776f7264I",
@@ -283,7 +283,10 @@ const ROWS: [(&str, &[u8], Told); 76] = [
         b"601dNbe00I",
         Told::NotAsked(AcFault::NoUserInformation),
     ),
-    // the AARE
+];
+
+// what is in the AARE, and releases
+static ANSWERS: [(&str, &[u8], Told); 28] = [
     (
         "the titles of the one that answers",
         b"613980020780NRDa40706052901876701a50302010cI",
@@ -429,8 +432,16 @@ fn row_is_told(alloc: Global, text: &[u8], told: &Told) -> Result<bool, AllocErr
 }
 
 #[test]
-fn apdus_of_an_association_are_read_or_refused(rt: HostRuntime) -> Result<(), AllocError> {
-    for (name, text, told) in &ROWS {
+fn an_aarq_is_read_or_refused(rt: HostRuntime) -> Result<(), AllocError> {
+    for (name, text, told) in &AARQS {
+        assert!(rt; row_is_told(rt.alloc(), text, told)?, "{name}");
+    }
+    Ok(())
+}
+
+#[test]
+fn an_aare_and_a_release_are_read_or_refused(rt: HostRuntime) -> Result<(), AllocError> {
+    for (name, text, told) in &ANSWERS {
         assert!(rt; row_is_told(rt.alloc(), text, told)?, "{name}");
     }
     Ok(())
@@ -451,7 +462,7 @@ fn answered_with(alloc: Global, context: u32, pdu: &[u8]) -> Result<Octs, AllocE
 }
 
 // a number of a context with its first bit set has a zero octet before it, and the lengths grow
-const WIDE: [u8; 33] = [
+static WIDE: [u8; 33] = [
     0x60, 0x1f, 0xa1, 7, 6, 5, 0x28, 0xca, 0x22, 2, 3, 0xbe, 0x14, 0x28, 0x12, 6, 2, 0x51, 1, 2, 5,
     0, 0x80, 0, 0, 0, 0xa0, 5, 0xa8, 3, 0x80, 1, 0x64,
 ];

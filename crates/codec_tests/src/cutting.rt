@@ -16,7 +16,7 @@ const POINT: &[u8] = &[
 ];
 
 /// The list name RPT, and the others.
-pub const PARTS: [Element; 4] = [
+pub static PARTS: [Element; 4] = [
     (b'L', &[0xa1, 5, 0x80, 3, 0x52, 0x50, 0x54]),
     (b'F', FURTHER),
     (b'P', POINT),
@@ -59,7 +59,7 @@ enum Reported {
 /// What a report is, its head, its members, and its PDUs at the size 1024.
 type Row = (&'static str, Headed, Reported, &'static [&'static [u8]]);
 
-const ROWS: [Row; 4] = [
+static ROWS: [Row; 4] = [
     (
         "an integer that changed",
         Headed::Usually(10, 3),
@@ -155,7 +155,7 @@ fn octet_string(alloc: Global, count: u16) -> Result<Vec<u8>, AllocError> {
 /// many PDUs there are, and how many octets the first, the last and all have.
 type Sized = (u32, u16, u16, u32, (usize, usize, usize, usize));
 
-const SIZED: [Sized; 4] = [
+static SIZED: [Sized; 4] = [
     // 500 octets and four of the reason, 97 before them, 98 where SubSqNum has two octets
     (256, 496, 496, 1024, (256, 601, 602, 128 * 601 + 128 * 602)),
     // 128 members of 504 octets, and 97 before them

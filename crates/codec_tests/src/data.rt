@@ -75,7 +75,7 @@ const UNIVERSAL_DEEP: [u8; 22] = [
 ];
 
 /// Octets, and how the value that is read of them is printed, or why they are refused.
-const ROWS: [(&[u8], Result<&str, DataFault>); 48] = [
+static ROWS: [(&[u8], Result<&str, DataFault>); 48] = [
     (&[0x83, 1, 0], Ok("Bool(false)")),
     (&[0x83, 1, 0xff], Ok("Bool(true)")),
     (&[0x83, 1, 0x01], Ok("Bool(true)")),

@@ -13,7 +13,7 @@ type Told = (u16, u64, u32, (u32, bool), usize, u32);
 /// What octets are, their text, and what is told of the PDU; nothing where they are refused.
 type Row = (&'static str, &'static [u8], Option<Told>);
 
-const ROWS: [Row; 22] = [
+static ROWS: [Row; 22] = [
     (
         "one member",
         b"a33ba039La0308a0345763184030673808601008c060000000a0000F8402052085010584020140",

@@ -19,7 +19,7 @@ type Row = (u32, Said, &'static [u8]);
 
 const FOUND: &[Found] = &[Found::Int(5), Found::Refused(10), Found::Bool(true)];
 
-const ROWS: [Row; 28] = [
+static ROWS: [Row; 28] = [
     (
         1,
         Said::Plain(Plain::Status),

@@ -53,7 +53,7 @@ const SECOND: &[Field] = &[
     Field::Plain(Plain::Bits(&[false, false])),
 ];
 
-const ROWS: [Row; 31] = [
+static ROWS: [Row; 31] = [
     // of the server: its state, what it is, its domains, and the end of the association
     (b"\xa0\x06\x02\x01\x01\x80\x01\x00", Some((1, Ask::Status))),
     (b"\xa0\x05\x02\x01\x64\x82\x00", Some((100, Ask::Identify))),

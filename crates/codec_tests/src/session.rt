@@ -11,7 +11,7 @@ mod presentation;
 mod reading;
 
 /// The mode, a context of ACSE and one of MMS with BER, user data with an AARQ and with an AARE, and a result that accepts.
-const PARTS: [Element; 6] = [
+static PARTS: [Element; 6] = [
     (b'S', &[0xa0, 3, 0x80, 1, 1]),
     (
         b'A',

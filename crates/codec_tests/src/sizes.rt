@@ -24,7 +24,7 @@ struct Shape {
 }
 
 /// A last name behind 44 of twenty octets, and the PDU of all at a size of 1024.
-const NAMES: [(&[u8], Shape); 2] = [
+static NAMES: [(&[u8], Shape); 2] = [
     (
         &[b'n'; 36],
         Shape {
@@ -44,7 +44,7 @@ const NAMES: [(&[u8], Shape); 2] = [
 ];
 
 /// The length of a text that is read, and the PDU of it at a size of 1024.
-const SHORT: [(usize, Shape); 2] = [
+static SHORT: [(usize, Shape); 2] = [
     (
         1005,
         Shape {
@@ -57,7 +57,7 @@ const SHORT: [(usize, Shape); 2] = [
 ];
 
 /// The same at a size of 65000.
-const LONG: [(usize, Shape); 2] = [
+static LONG: [(usize, Shape); 2] = [
     (
         64981,
         Shape {

@@ -10,24 +10,24 @@ use sv_base::Octs;
 use tpkt_cotp::{Cr, TpFault, Tpkt, TransportIn, Tsdu, Tsdus, call, confirm, tsdu};
 
 /// A CR with the TPDU size 2 ^ 13 and both selectors, as clients of IEC 61850-8-1 send it.
-pub const CR: [u8; 22] = [
+pub static CR: [u8; 22] = [
     0x03, 0x00, 0x00, 0x16, 0x11, 0xe0, 0x00, 0x00, 0x00, 0x01, 0x00, 0xc0, 0x01, 0x0d, 0xc2, 0x02,
     0x00, 0x01, 0xc1, 0x02, 0x00, 0x01,
 ];
 
 /// The CC that answers it.
-pub const CC: [u8; 22] = [
+pub static CC: [u8; 22] = [
     0x03, 0x00, 0x00, 0x16, 0x11, 0xd0, 0x00, 0x01, 0x00, 0x01, 0x00, 0xc0, 0x01, 0x0d, 0xc2, 0x02,
     0x00, 0x01, 0xc1, 0x02, 0x00, 0x01,
 ];
 
 // two DTs of one TSDU, then a DR
-const DTS: [u8; 24] = [
+static DTS: [u8; 24] = [
     3, 0, 0, 9, 2, 0xf0, 0, 1, 2, 3, 0, 0, 8, 2, 0xf0, 0x80, 3, 3, 0, 0, 7, 2, 0x80, 0,
 ];
 
 // the CR, and the two DTs
-const STREAM: [u8; 39] = [
+static STREAM: [u8; 39] = [
     3, 0, 0, 22, 0x11, 0xe0, 0, 0, 0, 1, 0, 0xc0, 1, 13, 0xc2, 2, 0, 1, 0xc1, 2, 0, 1, 3, 0, 0, 9,
     2, 0xf0, 0, 1, 2, 3, 0, 0, 8, 2, 0xf0, 0x80, 3,
 ];
@@ -164,7 +164,7 @@ fn a_stream_may_be_cut_at_every_place(rt: HostRuntime) -> Result<(), Fail> {
 }
 
 /// Streams, with the size and the calling selector's length of the CR that is read, or why they are refused.
-const ROWS: [(&[u8], Result<(Option<u8>, Option<usize>), TpFault>); 24] = [
+static ROWS: [(&[u8], Result<(Option<u8>, Option<usize>), TpFault>); 24] = [
     (&[3, 0, 0, 11, 6, 0xe0, 0, 0, 0, 1, 0x0f], Ok((None, None))),
     (
         &[3, 0, 0, 14, 9, 0xe0, 0, 0, 0, 1, 0, 0xc0, 1, 0x0e],
@@ -380,7 +380,7 @@ fn is_cut(alloc: Global, exponent: u8, len: usize, wanted: usize) -> Result<bool
 
 // ISO 8073: a DT's TPDU has three header octets; each TPKT has four more. So many octets take so many at each exponent;
 // 65528 octets fill the first DT of the longest TSDU
-const LENGTHS: [(u8, usize, usize); 9] = [
+static LENGTHS: [(u8, usize, usize); 9] = [
     (7, 20000, 21120),
     (8, 20000, 20560),
     (9, 20000, 20280),

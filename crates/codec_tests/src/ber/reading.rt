@@ -39,7 +39,7 @@ const NAME: [u8; 5] = [0x28, 0xca, 0x22, 2, 3];
 
 // The calls of the product's table of octets, then the examples of X.690: 8.3 (numbers), 8.6 (bit strings, the example
 // of its clause is 0A 3B 5F 29 1C D), 8.1.3 (lengths in long form), 8.1.2 (tags).
-const ROWS: [(&[u8], Told); 56] = [
+static ROWS: [(&[u8], Told); 56] = [
     (
         &[0x1a, 4, 0x42, 0x41, 0x59, 0x31, 5],
         Told::First(Ok((0x1a, 2, 4, 1))),

@@ -67,7 +67,7 @@ const ELEVEN: [bool; 11] = [
 ];
 
 /// What is written, and its octets: a length and what comes behind a tag.
-const ROWS: [(Content, &[u8]); 28] = [
+static ROWS: [(Content, &[u8]); 28] = [
     (Content::Length(0), &[0]),
     (Content::Length(127), &[127]),
     (Content::Length(128), &[0x81, 128]),

@@ -23,7 +23,7 @@ pub const ANSWER: [u8; 40] = [
     0x00, 0x00, 0x00, 0x00, 0x00, 0x00, 0x01, 0x10,
 ];
 
-const READINGS: [(&[u8], &str); 21] = [
+static READINGS: [(&[u8], &str); 21] = [
     // as clients of IEC 61850-8-1 send it
     (
         &REQUEST,

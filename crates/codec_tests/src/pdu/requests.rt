@@ -106,7 +106,7 @@ const DELETE_NAMED: [u8; 23] = [
 
 const DELETE_NOTHING: [u8; 7] = [0xa0, 5, 2, 1, 7, 0xad, 0];
 
-const ROWS: [(&[u8], Told); 76] = [
+static ROWS: [(&[u8], Told); 76] = [
     // no octet, and PDUs that are not known: a cancel request and a tag in two octets
     (&[], Told::Refused(PduFault::Invalid)),
     (&[0xb0, 0], Told::Refused(PduFault::UnknownPdu)),

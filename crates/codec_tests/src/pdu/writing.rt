@@ -11,12 +11,12 @@ use std::test::*;
 use sv_base::Value;
 
 // the variable `L` of the domain `D`, as it is read and as it is written
-const READ: [u8; 25] = [
+static READ: [u8; 25] = [
     0xa0, 23, 0x02, 1, 5, 0xa4, 18, 0xa1, 16, 0xa0, 14, 0x30, 12, 0xa0, 10, 0xa1, 8, 0x1a, 1, 0x44,
     0x1a, 3, 0x4c, 0x24, 0x53,
 ];
 
-const WRITTEN: [u8; 28] = [
+static WRITTEN: [u8; 28] = [
     0xa0, 26, 0x02, 1, 6, 0xa5, 21, 0xa0, 14, 0x30, 12, 0xa0, 10, 0xa1, 8, 0x1a, 1, 0x44, 0x1a, 3,
     0x4c, 0x24, 0x53, 0xa0, 3, 0x83, 1, 0xff,
 ];
@@ -79,7 +79,7 @@ fn reports_are_written(alloc: Global) -> bool {
 }
 
 /// An invoke number, a class and a code, and the octets of the error.
-const ERRORS: [(u32, u8, u8, &[u8]); 5] = [
+static ERRORS: [(u32, u8, u8, &[u8]); 5] = [
     // no such set; longer than the size; exists; full
     (
         5,

@@ -75,7 +75,7 @@ fn one_client_connects(rt: &HostRuntime) -> bool {
 }
 
 // the answer names the client's number, and a result for each context in its place
-const OTHER_ANSWER: [u8; 46] = [
+static OTHER_ANSWER: [u8; 46] = [
     0x31, 0x2c, 0xa0, 3, 0x80, 1, 1, 0xa2, 0x25, 0xa5, 0x17, 0x30, 7, 0x80, 1, 0, 0x81, 2, 0x51, 1,
     0x30, 7, 0x80, 1, 0, 0x81, 2, 0x51, 1, 0x30, 3, 0x80, 1, 1, 0x61, 0x0a, 0x30, 8, 2, 2, 1, 1,
     0xa0, 2, 0x61, 0,
@@ -109,7 +109,7 @@ fn is_data_spdu(spdu: &[u8], context: u32, len: usize) -> bool {
 }
 
 // a transfer syntax is skipped, and a context may have any number of 32 bits
-const OTHER_DATA: [u8; 20] = [
+static OTHER_DATA: [u8; 20] = [
     0x61, 0x12, 0x30, 0x10, 6, 2, 0x51, 1, 2, 5, 0, 255, 255, 255, 255, 0xa0, 3, 0xa0, 1, 0,
 ];
 
@@ -120,11 +120,11 @@ fn data_go_both_ways(rt: &HostRuntime) -> bool {
 }
 
 // a release that is asked for, and its answer
-const FINISH: [u8; 18] = [
+static FINISH: [u8; 18] = [
     9, 0x10, 0xc1, 0x0e, 0x61, 0x0c, 0x30, 0x0a, 2, 1, 1, 0xa0, 5, 0x62, 3, 0x80, 1, 0,
 ];
 
-const DISCONNECT: [u8; 18] = [
+static DISCONNECT: [u8; 18] = [
     10, 0x10, 0xc1, 0x0e, 0x61, 0x0c, 0x30, 0x0a, 2, 1, 1, 0xa0, 5, 0x63, 3, 0x80, 1, 0,
 ];
 

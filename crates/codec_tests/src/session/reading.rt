@@ -24,7 +24,7 @@ enum Told {
     NoSpdu(SpFault),
 }
 
-const ROWS: [(&str, &[u8], Told); 81] = [
+static PPDUS: [(&str, &[u8], Told); 51] = [
     // CPs
     (
         "the mode in long lengths, behind another element",
@@ -247,7 +247,10 @@ const ROWS: [(&str, &[u8], Told); 81] = [
     ),
     ("an octet string", b"6109300702010181026100", Told::NoData),
     ("no element in it", b"61073005020101a000", Told::NoData),
-    // SPDUs: of a parameter that is repeated the last holds
+];
+
+static SPDUS: [(&str, &[u8], Told); 30] = [
+    // of a parameter that is repeated the last holds
     (
         "a parameter twice",
         b"0906c101aac101bb",
@@ -391,10 +394,16 @@ fn row_is_told(alloc: Global, text: &[u8], told: &Told) -> Result<bool, AllocErr
 }
 
 #[test]
-fn octets_of_session_and_presentation_are_read_or_refused(
-    rt: HostRuntime,
-) -> Result<(), AllocError> {
-    for (name, text, told) in &ROWS {
+fn ppdus_are_read_or_refused(rt: HostRuntime) -> Result<(), AllocError> {
+    for (name, text, told) in &PPDUS {
+        assert!(rt; row_is_told(rt.alloc(), text, told)?, "{name}");
+    }
+    Ok(())
+}
+
+#[test]
+fn spdus_are_read_or_refused(rt: HostRuntime) -> Result<(), AllocError> {
+    for (name, text, told) in &SPDUS {
         assert!(rt; row_is_told(rt.alloc(), text, told)?, "{name}");
     }
     Ok(())

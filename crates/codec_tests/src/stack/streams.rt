@@ -257,7 +257,7 @@ enum Last {
 /// below 256.
 type Refusal = (&'static str, Stage, Last, &'static [(usize, u8)], [u8; 3]);
 
-const REFUSALS: [Refusal; 12] = [
+static REFUSALS: [Refusal; 12] = [
     (
         "another version",
         Stage::Begun,

@@ -2,5 +2,5 @@
 use Rattle.std.proofs.Common.{◌≡◌}
 use Rattle.bay_tests.proofs.windows.first_wrong.Given as goal
 
-abbrev pub invariant-loop-trial : goal.invariant-loop-trial
-invariant-loop-trial l = (l.window.members ≡ 3) × (l.out.room ≡ 1512)
+abbrev pub invariant-loop-i : goal.invariant-loop-i
+invariant-loop-i l = (l.window.members ≡ 3) × (l.out.room ≡ 1512)
