@@ -238,6 +238,7 @@ fn a_caller_asks(alloc: Global, size: usize) -> Result<bool, AllocError>
 }
 
 /// How far a connection is: no TPKT came, the call, the call and the CONNECT; or the caller's call was confirmed.
+#[derive(Clone, Copy)]
 enum Stage {
     Begun,
     Called,
@@ -246,6 +247,7 @@ enum Stage {
 }
 
 /// The TPKT that is refused.
+#[derive(Clone, Copy)]
 enum Last {
     OfVersion4,
     Connect,
@@ -345,7 +347,7 @@ static REFUSALS: [Refusal; 12] = [
 ];
 
 /// The octets that came.
-fn came(alloc: Global, stage: &Stage) -> Result<Vec<u8>, AllocError> {
+fn came(alloc: Global, stage: Stage) -> Result<Vec<u8>, AllocError> {
     match stage {
         Stage::Begun => Ok(Vec::new(alloc)),
         Stage::Called => joined(alloc, &[&CR]),
@@ -355,7 +357,7 @@ fn came(alloc: Global, stage: &Stage) -> Result<Vec<u8>, AllocError> {
 }
 
 /// What was told of them.
-fn was_told(alloc: Global, stage: &Stage) -> Result<Vec<u8>, AllocError> {
+fn was_told(alloc: Global, stage: Stage) -> Result<Vec<u8>, AllocError> {
     match stage {
         Stage::Begun => Ok(Vec::new(alloc)),
         Stage::Called => joined(alloc, &[b"A", &CC]),
@@ -364,7 +366,7 @@ fn was_told(alloc: Global, stage: &Stage) -> Result<Vec<u8>, AllocError> {
     }
 }
 
-fn octets_of(last: &Last) -> &'static [u8] {
+fn octets_of(last: Last) -> &'static [u8] {
     match last {
         Last::OfVersion4 => &[4],
         Last::Connect => cn(),
@@ -384,13 +386,13 @@ fn change(octets: &mut [u8], from: usize, changes: &[(usize, u8)]) {
 
 /// Whether the side that is so far refuses the last TPKT so.
 fn is_refused(alloc: Global, row: &Refusal) -> Result<bool, AllocError> {
-    let (_, stage, last, changes, [layer, code, octets]) = row;
+    let (_, stage, last, changes, [layer, code, octets]) = *row;
     let mut stream = came(alloc, stage)?;
     let place = stream.len();
     stream.extend_from_slice(octets_of(last))?;
     change(&mut stream, place, changes);
     let mut wanted = was_told(alloc, stage)?;
-    wanted.extend_from_slice(&[b'F', *layer, *code, 0, 0, 0, 0, 0, 0, 0, *octets])?;
+    wanted.extend_from_slice(&[b'F', layer, code, 0, 0, 0, 0, 0, 0, 0, octets])?;
     match stage {
         Stage::Confirmed => is_called(alloc, &stream, 1000, &wanted),
         _ => is_served(alloc, &stream, 1000, &wanted),
