@@ -2,7 +2,6 @@
 
 use std::alloc::AllocError;
 use std::marker::Model;
-use std::ops::DerefSlice;
 
 /// A list, which contracts see as that of its items.
 #[derive(Debug, Drop)]
@@ -73,17 +72,5 @@ impl<T: Drop> List<T> {
         ensures { result.now ≡ self.now }
     {
         &self.items
-    }
-}
-
-impl<T: Drop> DerefSlice for List<T> {
-    type Elem = T;
-
-    ghost use Rattle.std.specs.Prelude.{◌≡◌};
-
-    ghost deref_gives = { λ l items. items ≡ l };
-
-    fn deref(&self) -> &[T] {
-        self.as_slice()
     }
 }
