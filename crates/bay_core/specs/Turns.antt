@@ -1,41 +1,17 @@
 -- What a step is answered, and what it makes of the bay.
-use Rattle.std.specs.Prelude.{◌≡◌, suc, ◌∷◌, Bool, true, false, Result, Ok, Err}
-use Rattle.sv_base.specs.declared.config.Config.{Config}
+use Rattle.std.specs.Prelude.{◌≡◌, suc, Result, Ok, Err}
 use Rattle.bay_model.specs.declared.answer.Answer.{Answer}
-use Rattle.bay_model.specs.declared.step.Step.{Step}
-use Rattle.bay_model.specs.declared.step.Step.TheVariants as steps
-use Rattle.bay_model.specs.Named.{configured_model}
-use Rattle.bay_model.specs.Answers.{Turn, History, answer}
-use Rattle.bay_model.specs.Acceptance.{fault}
+use Rattle.bay_model.specs.Answers.{Turn}
 use Rattle.bay_histories.specs.declared.fault.StepFault.{StepFault}
-use Rattle.bay_histories.specs.declared.fault.StepFault.TheVariants as faults
-use Rattle.bay_histories.specs.Faults.{named}
+use Rattle.bay_histories.specs.Turns as turns
 use Rattle.bay_core.specs.State.{State}
 use Rattle.bay_core.specs.Standing.{StandsFor}
 
--- From old to new by a turn: an accepted one is answered as the definitions have it, and new stands for the longer history;
--- a refused one has the fault that the definitions name, or wants memory where they name none, and leaves all as it was.
+-- what a turn makes of a bay and is answered
 abbrev pub Does : State → State → Turn → Result Answer StepFault → Type 0
-Does old new t (Ok a) = (c : Config) (h : History) → StandsFor old c h → (a ≡ answer (configured_model c) h t) × StandsFor new c (t ∷ h)
-Does old new t (Err f) = (new ≡ old) × ((c : Config) (h : History) → StandsFor old c h → named f ≡ fault (configured_model c) h t)
+Does = turns.Does StandsFor
 
 -- one step more of the same bay
 abbrev pub IsCounted : State → State → Result Answer StepFault → Type 0
 IsCounted old new (Ok a) = (new.config ≡ old.config) × (new.steps ≡ suc old.steps)
 IsCounted old new (Err f) = Unit {0}
-
--- the steps that need no memory: a write of a component, a loss, what the process does, and time that passes
-abbrev pub is_lean : Step → Bool
-is_lean (steps.Write a b comp v) = true
-is_lean (steps.Lost a) = true
-is_lean (steps.Value settings) = true
-is_lean (steps.Done k good) = true
-is_lean (steps.Block k flag) = true
-is_lean steps.Tick = true
-is_lean _ = false
-
--- a step that needs no memory is not refused for want of it
-abbrev pub KeepsLean : Step → Result Answer StepFault → Type 0
-KeepsLean step (Ok a) = Unit {0}
-KeepsLean step (Err faults.Memory) = is_lean step ≡ false
-KeepsLean step (Err f) = Unit {0}

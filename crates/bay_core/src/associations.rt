@@ -15,7 +15,8 @@ impl Bay {
     ghost use Rattle.bay_model.specs.Points.{lost as lost_deed};
     ghost use Rattle.control_core.specs.Tables.{after_deed};
     ghost use Rattle.block_events.specs.Parting.{after_loss_all};
-    ghost use Rattle.bay_core.specs.Turns.{Does, IsCounted, KeepsLean};
+    ghost use Rattle.bay_histories.specs.Turns.{KeepsLean};
+    ghost use Rattle.bay_core.specs.Turns.{Does, IsCounted};
 
     /// An association begins.
     fn start(&mut self, a: AssocNo, ends: Ends)

@@ -29,7 +29,8 @@ impl Bay {
     ghost use Rattle.bay_queues.specs.Heard.{heard_with};
     ghost use Rattle.bay_queues.specs.Queued.{IsQueued};
     ghost use Rattle.bay_core.specs.Commanded.{after_block, after_call, after_end, blame_at, blame_to, AreTestsOf, IsSingle};
-    ghost use Rattle.bay_core.specs.Turns.{Does, IsCounted, KeepsLean};
+    ghost use Rattle.bay_histories.specs.Turns.{KeepsLean};
+    ghost use Rattle.bay_core.specs.Turns.{Does, IsCounted};
 
     /// The LastApplError that the write of a node would have, without its AddCause; none where it isn't a command, or the value isn't of
     /// its type.

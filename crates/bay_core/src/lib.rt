@@ -13,6 +13,7 @@ mod commands;
 mod defining;
 mod deleting;
 mod laws;
+mod machine;
 mod reading;
 mod setting;
 mod settings;

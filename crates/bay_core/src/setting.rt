@@ -10,7 +10,8 @@ impl Bay {
     ghost use Rattle.std.specs.Prelude.{◌≡◌, ◌<◌, ◌^◌, true};
     ghost use Rattle.bay_model.specs.declared.step.Step.TheVariants as steps;
     ghost use Rattle.object_model.specs.Fits.{fits as fits_in};
-    ghost use Rattle.bay_core.specs.Turns.{Does, IsCounted, KeepsLean};
+    ghost use Rattle.bay_histories.specs.Turns.{KeepsLean};
+    ghost use Rattle.bay_core.specs.Turns.{Does, IsCounted};
 
     /// The process sets attributes (IEC 61850-7-2, DataAttribute), and each block takes in its event. It takes no memory.
     pub(crate) fn set(

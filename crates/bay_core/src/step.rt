@@ -9,7 +9,8 @@ use sv_base::{ActorNo, Moment};
 impl Bay {
     ghost use Rattle.std.specs.Prelude.{◌≡◌, ◌<◌, ◌^◌, true};
     ghost use Rattle.object_model.specs.Fits.{fits as fits_in};
-    ghost use Rattle.bay_core.specs.Turns.{Does, IsCounted, KeepsLean};
+    ghost use Rattle.bay_histories.specs.Turns.{KeepsLean};
+    ghost use Rattle.bay_core.specs.Turns.{Does, IsCounted};
 
     /// Makes a step at a moment; one that lies below the newest moment so far is taken as that.
     ///

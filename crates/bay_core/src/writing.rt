@@ -28,7 +28,8 @@ impl Bay {
     ghost use Rattle.bay_core.specs.Put.{answer_at, written_at, AreGeneral};
     ghost use Rattle.bay_model.specs.declared.step.Step.TheVariants as steps;
     ghost use Rattle.assoc_table.specs.Tables.{IsNumber};
-    ghost use Rattle.bay_core.specs.Turns.{Does, IsCounted, KeepsLean};
+    ghost use Rattle.bay_histories.specs.Turns.{KeepsLean};
+    ghost use Rattle.bay_core.specs.Turns.{Does, IsCounted};
 
     /// An association writes a component of a block, at the moment that time has come to. It takes no memory.
     pub(crate) fn write_at_arrival(

@@ -1,3 +1,4 @@
--- Why a step is refused, and histories by those who made their steps.
+-- Why a step is refused, what a step is answered, and histories by those who made their steps.
 pub mod Faults
+pub mod Turns
 pub mod Histories

@@ -1,6 +1,8 @@
-//! Histories of a bay's accepted steps by those who made them, and why a step is refused.
+//! Histories of a bay's accepted steps by those who made them, what makes the steps, and why one is refused.
 #![tactic(auto)]
 
 mod fault;
+mod machine;
 
 pub use fault::StepFault;
+pub use machine::StateMachine;

@@ -5,7 +5,7 @@ ghost use Rattle.std.specs.Thread.{IsSync};
 
 use crate::example::opened_bay;
 use crate::work::{NOTHING, Tally, Work, step_of, with_answer};
-use bay_core::StepFault;
+use bay_core::{Bay, StepFault};
 use bay_model::{Answer, Step};
 use history_lock::{History, Pass, TurnFault};
 use std::alloc::{AllocError, Global};
@@ -14,7 +14,7 @@ use std::thread::{Threads, join};
 use sv_base::{AssocNo, Moment};
 
 /// The answer to a step; none where it is refused or doesn't fit the configuration.
-fn answered<R: Wait>(rt: &R, history: &History, pass: &mut Pass, step: &Step) -> Option<Answer>
+fn answered<R: Wait>(rt: &R, history: &History<Bay>, pass: &mut Pass<Bay>, step: &Step) -> Option<Answer>
     requires pass { (pass.old.table ≡ history.now.table) × (pass.old.config ≡ history.now.config) }
     ensures same { (pass.new.table ≡ pass.old.table) × (pass.new.config ≡ pass.old.config) }
 {
@@ -30,12 +30,12 @@ fn answered<R: Wait>(rt: &R, history: &History, pass: &mut Pass, step: &Step) ->
 /// So many turns of a work, and the tally with what came of them.
 fn worked<R: Wait + AllocGlobal>(
     rt: &R,
-    history: &History,
-    mut pass: Pass,
+    history: &History<Bay>,
+    mut pass: Pass<Bay>,
     work: Work,
     turns: u32,
     mut tally: Tally,
-) -> (Pass, Tally)
+) -> (Pass<Bay>, Tally)
     requires pass { (pass.table ≡ history.now.table) × (pass.config ≡ history.now.config) }
     ensures same { (result.0.table ≡ pass.table) × (result.0.config ≡ pass.config) }
 {
@@ -51,9 +51,9 @@ fn worked<R: Wait + AllocGlobal>(
 /// A thousand values in one thread, a thousand ticks in another.
 fn values_and_ticks<R: Threads + Wait + Sync + AllocGlobal>(
     rt: &R,
-    history: &History,
-    mut pass: Pass,
-) -> (Pass, (Tally, Tally))
+    history: &History<Bay>,
+    mut pass: Pass<Bay>,
+) -> (Pass<Bay>, (Tally, Tally))
     requires pass { (pass.table ≡ history.now.table) × (pass.config ≡ history.now.config) }
     requires portions { (1 < pass.count) × (1000 ≤ pass.left) }
     ensures same { (result.0.table ≡ pass.table) × (result.0.config ≡ pass.config) }
@@ -71,9 +71,9 @@ fn values_and_ticks<R: Threads + Wait + Sync + AllocGlobal>(
 /// A thousand takes in one thread, a client's opening and its writes in another.
 fn takes_and_writes<R: Threads + Wait + Sync + AllocGlobal>(
     rt: &R,
-    history: &History,
-    mut pass: Pass,
-) -> (Pass, (Tally, Tally))
+    history: &History<Bay>,
+    mut pass: Pass<Bay>,
+) -> (Pass<Bay>, (Tally, Tally))
     requires pass { (pass.table ≡ history.now.table) × (pass.config ≡ history.now.config) }
     requires portions { (1 < pass.count) × (1000 ≤ pass.left) }
     ensures same { (result.0.table ≡ pass.table) × (result.0.config ≡ pass.config) }
@@ -91,9 +91,9 @@ fn takes_and_writes<R: Threads + Wait + Sync + AllocGlobal>(
 /// The same, with another client's opening and its reads in a third thread.
 fn three_works<R: Threads + Wait + Sync + AllocGlobal>(
     rt: &R,
-    history: &History,
-    mut pass: Pass,
-) -> (Pass, (Tally, Tally), Tally)
+    history: &History<Bay>,
+    mut pass: Pass<Bay>,
+) -> (Pass<Bay>, (Tally, Tally), Tally)
     requires pass { (pass.table ≡ history.now.table) × (pass.config ≡ history.now.config) }
     requires portions { (2 < pass.count) × (2000 ≤ pass.left) }
     ensures same { (result.0.table ≡ pass.table) × (result.0.config ≡ pass.config) }
@@ -101,7 +101,7 @@ fn three_works<R: Threads + Wait + Sync + AllocGlobal>(
     let other = history.split(&mut pass, 1, 1000);
     let (one, other) = join(
         rt,
-        || -> (Pass, (Tally, Tally))
+        || -> (Pass<Bay>, (Tally, Tally))
             requires { IsSync R.row × (pass.table ≡ history.now.table) × (pass.config ≡ history.now.config) × (1 < pass.count) × (1000 ≤ pass.left) }
         { takes_and_writes(rt, history, pass) },
         || worked(rt, history, other, Work::Reads, 1000, NOTHING),
@@ -118,7 +118,7 @@ fn are_two_thousand(tallies: (Tally, Tally), seen: u64, all: u64) -> bool {
     values.accepted == 1000 && ticks.accepted == 1000 && seen == 2000 && all == 2000
 }
 
-fn by_two<R: Threads + Wait + Sync + AllocGlobal>(rt: &R, history: History, pass: Pass) -> bool
+fn by_two<R: Threads + Wait + Sync + AllocGlobal>(rt: &R, history: History<Bay>, pass: Pass<Bay>) -> bool
     requires pass { (pass.table ≡ history.table) × (pass.config ≡ history.config) }
     requires portions { (1 < pass.count) × (1000 ≤ pass.left) }
 {
@@ -149,8 +149,8 @@ fn are_answered(takes: Tally, writes: Tally, reads: Tally, all: u64) -> bool {
 /// Three threads share one history; what then waits, at most 16 replies of each client, is taken.
 fn by_three<R: Threads + Wait + Sync + AllocGlobal>(
     rt: &R,
-    history: History,
-    mut pass: Pass,
+    history: History<Bay>,
+    mut pass: Pass<Bay>,
 ) -> bool
     requires pass { (pass.table ≡ history.table) × (pass.config ≡ history.config) }
     requires portions { (3 < pass.count) × (4000 ≤ pass.left) }
@@ -190,7 +190,7 @@ fn are_refusals(first: Option<TurnFault>, second: Option<TurnFault>) -> bool {
 }
 
 /// Whether a loss of an association that isn't open is refused to a pass with one turn, and one more turn is too.
-fn is_refused<R: Wait>(rt: &R, history: &History, pass: &mut Pass) -> bool
+fn is_refused<R: Wait>(rt: &R, history: &History<Bay>, pass: &mut Pass<Bay>) -> bool
     requires pass { (pass.old.table ≡ history.now.table) × (pass.old.config ≡ history.now.config) }
     ensures same { (pass.new.table ≡ pass.old.table) × (pass.new.config ≡ pass.old.config) }
 {
@@ -201,7 +201,7 @@ fn is_refused<R: Wait>(rt: &R, history: &History, pass: &mut Pass) -> bool
 }
 
 /// Whether a pass with one turn is refused, and the history then has no step.
-fn by_one<R: Wait>(rt: &R, history: History, mut pass: Pass) -> bool
+fn by_one<R: Wait>(rt: &R, history: History<Bay>, mut pass: Pass<Bay>) -> bool
     requires pass { (pass.table ≡ history.table) × (pass.config ≡ history.config) }
     requires portions { (1 < pass.count) × (1 ≤ pass.left) }
 {

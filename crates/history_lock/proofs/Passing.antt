@@ -6,23 +6,21 @@ use Rattle.bay_model.specs.declared.step.Step.{Step}
 use Rattle.bay_model.specs.declared.answer.Answer.{Answer}
 use Rattle.bay_histories.specs.declared.fault.StepFault.{StepFault}
 use Rattle.bay_model.specs.Answers.{Turn, History}
-use Rattle.bay_core.specs.declared.bay.Bay.{Bay}
 use Rattle.sv_base.specs.declared.config.Config.{Config}
 use Rattle.bay_model.specs.Named.{configured_model}
 use Rattle.bay_model.specs.declared.step.Step.TheVariants as steps
 use Rattle.bay_histories.specs.declared.fault.StepFault.TheVariants as stepfaults
 use Rattle.bay_histories.specs.Faults.{named}
-use Rattle.bay_core.specs.Turns.{is_lean, KeepsLean}
+use Rattle.bay_histories.specs.Turns.{is_lean, KeepsLean}
 use Rattle.bay_model.specs.Answers.{answer}
 use Rattle.atomic_table.specs.declared.shared.Seat.{Seat}
 use Rattle.history_lock.specs.declared.fault.TurnFault.TheVariants as faults
 use Rattle.history_lock.specs.declared.history.Pass.TheInside.{Inside}
-use Rattle.history_lock.specs.contracts.history.Pass.{the_view}
 use Rattle.history_lock.specs.declared.view.View.{View}
 use Rattle.bay_histories.specs.Histories.{turn_of, by, IsRefused, answers_of, places_of}
 use Rattle.history_lock.specs.Views.{total, inside, mine}
 use Rattle.history_lock.specs.Plays.{Seated, Others, joined, settled, Agree}
-use Rattle.history_lock.specs.Seats.{Took, at_rest, config_or, others_of}
+use Rattle.history_lock.specs.Seats.{Took, at_rest, config_or, others_of, known}
 use Rattle.history_lock.specs.Passes.{Known, IsIn, InSome, HasNumber, OfOthers, Turned, later, own, is_process, Joined, told, placed}
 use Rattle.history_lock.proofs.Steps.{by-append, by_mine}
 use Rattle.history_lock.proofs.Parts.{inside_below, inside_within, inside_above}
@@ -39,62 +37,6 @@ found k (r ∷ rs) h = dite (dec_le r.0 k)
     (λ from. dite (dec_le (r.0 + r.1) k) (λ above. inr (found k rs (omega (arith, h, inside_above k r.0 r.1 above)))) (λ under. inl (from, omega arith)))
     (λ below. inr (found k rs (omega (arith, h, inside_below k r.0 r.1 (omega arith)))))
 
-abbrev pub IsRest : Inside → Type 0
-IsRest i = i.seat.me ≡ at_rest (config_or i.seat.me.0.config) i.first i.count (others_of i.seat.me.0.ranges) i.left i.seat.me.0.seen
-
-pub not_ours : (i : Inside) → IsRest i → (between : History) → Others i.seat.me.0 between → OfOthers (the_view i) between
-not_ours i rest between others k has = others k
-    (subst (λ (rs : List (ℕ × ℕ)). 0 < total (inside k) rs) (sym (ap (λ (m : Seated). m.0.ranges) rest))
-    (counted k ((i.first, i.count) ∷ others_of i.seat.me.0.ranges) has))
-
-abbrev after : Inside → Seat (Option Bay) View → ℕ → Inside
-after i s n = record { seat = s; first = i.first; count = i.count; left = i.left - 1; seen = n }
-
-came : (i : Inside) (s : Seat (Option Bay) View) (n : ℕ) (seen : History) → s.table_id ≡ i.seat.table_id → s.me.0.config ≡ i.seat.me.0.config
-    → s.me.0.ranges ≡ i.seat.me.0.ranges → s.me.0.seen ≡ seen → the_view (after i s n) ≡ later (the_view i) seen
-came i s n seen table config ranges is = λ j. record {
-  table = table j;
-  config = config_or (config j);
-  first = i.first;
-  count = i.count;
-  joined = others_of (ranges j);
-  left = i.left - 1;
-  seen = is j;
-}
-
-pub turned_ok : (i : Inside) (s : Seat (Option Bay) View) (n moment : ℕ) (answer : Answer) (place : ℕ) (step : Step) → IsRest i → i.left ≢ 0
-    → s.table_id ≡ i.seat.table_id
-    → Took (config_or i.seat.me.0.config) i.seat.me (turn_of moment i.first step) (Ok (answer, place)) s.me
-    → Turned (the_view i) moment step (Ok (answer, place)) (the_view (after i s n))
-turned_ok i s n moment answer place step rest some_left table t = (
-  omega arith,
-  t.0,
-  not_ours i rest t.0 t.2,
-  (
-    came i s n (turn_of moment i.first step ∷ t.0 ++ i.seat.me.0.seen) table (ap (λ (m : Seated). m.0.config) t.1) (ap (λ (m : Seated). m.0.ranges) t.1)
-        (ap (λ (m : Seated). m.0.seen) t.1),
-    t.3,
-    t.4,
-    t.6,
-  ),
-)
-
-pub turned_err : (i : Inside) (s : Seat (Option Bay) View) (n moment : ℕ) (f : StepFault) (count : ℕ) (step : Step) → IsRest i → i.left ≢ 0
-    → s.table_id ≡ i.seat.table_id
-    → Took (config_or i.seat.me.0.config) i.seat.me (turn_of moment i.first step) (Err (f, count)) s.me
-    → Turned (the_view i) moment step (Err (faults.Step f)) (the_view (after i s n))
-turned_err i s n moment f count step rest some_left table t = (
-  omega arith,
-  t.0,
-  not_ours i rest t.0 t.2,
-  (
-    came i s n (t.0 ++ i.seat.me.0.seen) table (ap (λ (m : Seated). m.0.config) t.1) (ap (λ (m : Seated). m.0.ranges) t.1)
-        (ap (λ (m : Seated). m.0.seen) t.1),
-    t.3,
-    t.5,
-  ),
-)
-
 longer_length : (b : Bool) (xs ys : History) → cond b (length ys) (length xs) ≡ length (cond b ys xs)
 longer_length true xs ys = refl
 longer_length false xs ys = refl
@@ -103,54 +45,115 @@ longer_one : (b : Bool) (xs ys : History) → (cond b ys xs ≡ xs) ⊎ (cond b 
 longer_one true xs ys = inr refl
 longer_one false xs ys = inl refl
 
--- the pass after a join
-abbrev both : Inside → Inside → Seat (Option Bay) View → ℕ → Inside
-both i o s n = record { seat = s; first = i.first; count = i.count; left = i.left + o.left; seen = n }
+module _ {M : Type 0} where
+  -- what a contract sees of the pass
+  abbrev pub known_of : Inside M → Known
+  known_of i = known i.seat.table_id i.seat.me i.first i.count i.left
 
-pub joined_rest : (i o : Inside) (s : Seat (Option Bay) View) (n : ℕ) → IsRest i → IsRest o → s.me ≡ (settled (joined i.seat.me.0 o.seat.me.0), [])
-    → IsRest (both i o s n)
-joined_rest i o s n rest rest' me =
-    let at : settled (joined i.seat.me.0 o.seat.me.0) ≡ settled
-    (joined (at_rest (config_or i.seat.me.0.config) i.first i.count (others_of i.seat.me.0.ranges) i.left i.seat.me.0.seen).0
-    (at_rest (config_or o.seat.me.0.config) o.first o.count (others_of o.seat.me.0.ranges) o.left o.seat.me.0.seen).0) =
-    λ j. settled (joined (rest j).0 (rest' j).0) in
-    let now : s.me ≡ (
-      settled (joined (at_rest (config_or i.seat.me.0.config) i.first i.count (others_of i.seat.me.0.ranges) i.left i.seat.me.0.seen).0
-          (at_rest (config_or o.seat.me.0.config) o.first o.count (others_of o.seat.me.0.ranges) o.left o.seat.me.0.seen).0),
-      [],
-    ) = me ∙ (λ j. (at j, [])) in
-    let G : Seated → Type 0 = λ m. m ≡ at_rest (config_or m.0.config) i.first i.count (others_of m.0.ranges) (i.left + o.left) m.0.seen in
-    subst G (sym now) refl
+  abbrev pub IsRest : Inside M → Type 0
+  IsRest i = i.seat.me ≡ at_rest (config_or i.seat.me.0.config) i.first i.count (others_of i.seat.me.0.ranges) i.left i.seat.me.0.seen
 
-pub joined_seen : (i o : Inside) (s : Seat (Option Bay) View) (n : ℕ) → i.seen ≡ length i.seat.me.0.seen → o.seen ≡ length o.seat.me.0.seen
-    → s.me ≡ (settled (joined i.seat.me.0 o.seat.me.0), []) → n ≡ cond (ltb i.seen o.seen) o.seen i.seen → n ≡ length s.me.0.seen
-joined_seen i o s n a b me is =
-    is ∙ ((λ j. cond (ltb (a j) (b j)) (b j) (a j))
-    ∙ (longer_length (ltb (length i.seat.me.0.seen) (length o.seat.me.0.seen)) i.seat.me.0.seen o.seat.me.0.seen
-    ∙ ap (λ (m : Seated). length m.0.seen) (sym me)))
+  pub not_ours : (i : Inside M) → IsRest i → (between : History) → Others i.seat.me.0 between → OfOthers (known_of i) between
+  not_ours i rest between others k has = others k
+      (subst (λ (rs : List (ℕ × ℕ)). 0 < total (inside k) rs) (sym (ap (λ (m : Seated M). m.0.ranges) rest))
+      (counted k ((i.first, i.count) ∷ others_of i.seat.me.0.ranges) has))
 
-pub joined_ok : (i o : Inside) (s : Seat (Option Bay) View) (n : ℕ) → IsRest i → IsRest o → s.table_id ≡ i.seat.table_id
-    → s.me ≡ (settled (joined i.seat.me.0 o.seat.me.0), []) → Agree (joined i.seat.me.0 o.seat.me.0) s.me.0.seen
-    → Joined (the_view i) (the_view o) (the_view (both i o s n))
-joined_ok i o s n rest rest' table me agree =
-    let ranges : i.seat.me.0.ranges ≡ (i.first, i.count) ∷ others_of i.seat.me.0.ranges = ap (λ (m : Seated). m.0.ranges) rest in
-    let ranges' : o.seat.me.0.ranges ≡ (o.first, o.count) ∷ others_of o.seat.me.0.ranges = ap (λ (m : Seated). m.0.ranges) rest' in record {
-      place = (table, ap (λ (m : Seated). config_or m.0.config) me, refl, refl);
-      ranges = ap (λ (m : Seated). others_of m.0.ranges) me ∙ ((λ j. others_of (ranges j ++ ranges' j)));
-      turns = refl;
-      longer = ⊎_elim (λ e. inl (ap (λ (m : Seated). m.0.seen) me ∙ e)) (λ e. inr (ap (λ (m : Seated). m.0.seen) me ∙ e))
-          (longer_one (ltb (length i.seat.me.0.seen) (length o.seat.me.0.seen)) i.seat.me.0.seen o.seat.me.0.seen);
-      this = agree.this;
-      that = agree.that;
-      ours = λ k has. agree.here k (subst (λ (rs : List (ℕ × ℕ)). 0 < total (inside k) rs) (sym ranges)
-          (counted k ((i.first, i.count) ∷ others_of i.seat.me.0.ranges) has));
-      theirs = λ k has. agree.there k (subst (λ (rs : List (ℕ × ℕ)). 0 < total (inside k) rs) (sym ranges')
-          (counted k ((o.first, o.count) ∷ others_of o.seat.me.0.ranges) has));
-    }
+  abbrev after : Inside M → Seat (Option M) View → ℕ → Inside M
+  after i s n = record { seat = s; first = i.first; count = i.count; left = i.left - 1; seen = n }
 
-pub all_of : (i : Inside) (actors : ℕ) → IsRest i → ((k : ℕ) → k < actors → HasNumber (the_view i) k) → (k : ℕ) → k < actors → 0 < mine k i.seat.me.0
-all_of i actors rest all k near = subst (λ (rs : List (ℕ × ℕ)). 0 < total (inside k) rs) (sym (ap (λ (m : Seated). m.0.ranges) rest))
-    (counted k ((i.first, i.count) ∷ others_of i.seat.me.0.ranges) (all k near))
+  came : (i : Inside M) (s : Seat (Option M) View) (n : ℕ) (seen : History) → s.table_id ≡ i.seat.table_id → s.me.0.config ≡ i.seat.me.0.config
+      → s.me.0.ranges ≡ i.seat.me.0.ranges → s.me.0.seen ≡ seen → known_of (after i s n) ≡ later (known_of i) seen
+  came i s n seen table config ranges is = λ j. record {
+    table = table j;
+    config = config_or (config j);
+    first = i.first;
+    count = i.count;
+    joined = others_of (ranges j);
+    left = i.left - 1;
+    seen = is j;
+  }
+
+  pub turned_ok : (i : Inside M) (s : Seat (Option M) View) (n moment : ℕ) (answer : Answer) (place : ℕ) (step : Step) → IsRest i → i.left ≢ 0
+      → s.table_id ≡ i.seat.table_id
+      → Took (config_or i.seat.me.0.config) i.seat.me (turn_of moment i.first step) (Ok (answer, place)) s.me
+      → Turned (known_of i) moment step (Ok (answer, place)) (known_of (after i s n))
+  turned_ok i s n moment answer place step rest some_left table t = (
+    omega arith,
+    t.0,
+    not_ours i rest t.0 t.2,
+    (
+      came i s n (turn_of moment i.first step ∷ t.0 ++ i.seat.me.0.seen) table (ap (λ (m : Seated M). m.0.config) t.1) (ap (λ (m : Seated M). m.0.ranges) t.1)
+          (ap (λ (m : Seated M). m.0.seen) t.1),
+      t.3,
+      t.4,
+      t.6,
+    ),
+  )
+
+  pub turned_err : (i : Inside M) (s : Seat (Option M) View) (n moment : ℕ) (f : StepFault) (count : ℕ) (step : Step) → IsRest i → i.left ≢ 0
+      → s.table_id ≡ i.seat.table_id
+      → Took (config_or i.seat.me.0.config) i.seat.me (turn_of moment i.first step) (Err (f, count)) s.me
+      → Turned (known_of i) moment step (Err (faults.Step f)) (known_of (after i s n))
+  turned_err i s n moment f count step rest some_left table t = (
+    omega arith,
+    t.0,
+    not_ours i rest t.0 t.2,
+    (
+      came i s n (t.0 ++ i.seat.me.0.seen) table (ap (λ (m : Seated M). m.0.config) t.1) (ap (λ (m : Seated M). m.0.ranges) t.1)
+          (ap (λ (m : Seated M). m.0.seen) t.1),
+      t.3,
+      t.5,
+    ),
+  )
+
+  -- the pass after a join
+  abbrev both : Inside M → Inside M → Seat (Option M) View → ℕ → Inside M
+  both i o s n = record { seat = s; first = i.first; count = i.count; left = i.left + o.left; seen = n }
+
+  pub joined_rest : (i o : Inside M) (s : Seat (Option M) View) (n : ℕ) → IsRest i → IsRest o → s.me ≡ (settled (joined i.seat.me.0 o.seat.me.0), [])
+      → IsRest (both i o s n)
+  joined_rest i o s n rest rest' me =
+      let at : settled (joined i.seat.me.0 o.seat.me.0) ≡ settled
+      (joined (at_rest {M = M} (config_or i.seat.me.0.config) i.first i.count (others_of i.seat.me.0.ranges) i.left i.seat.me.0.seen).0
+      (at_rest {M = M} (config_or o.seat.me.0.config) o.first o.count (others_of o.seat.me.0.ranges) o.left o.seat.me.0.seen).0) =
+      λ j. settled (joined (rest j).0 (rest' j).0) in
+      let now : s.me ≡ (
+        settled (joined (at_rest {M = M} (config_or i.seat.me.0.config) i.first i.count (others_of i.seat.me.0.ranges) i.left i.seat.me.0.seen).0
+            (at_rest {M = M} (config_or o.seat.me.0.config) o.first o.count (others_of o.seat.me.0.ranges) o.left o.seat.me.0.seen).0),
+        [],
+      ) = me ∙ (λ j. (at j, [])) in
+      let G : Seated M → Type 0 = λ m. m ≡ at_rest (config_or m.0.config) i.first i.count (others_of m.0.ranges) (i.left + o.left) m.0.seen in
+      subst G (sym now) refl
+
+  pub joined_seen : (i o : Inside M) (s : Seat (Option M) View) (n : ℕ) → i.seen ≡ length i.seat.me.0.seen → o.seen ≡ length o.seat.me.0.seen
+      → s.me ≡ (settled (joined i.seat.me.0 o.seat.me.0), []) → n ≡ cond (ltb i.seen o.seen) o.seen i.seen → n ≡ length s.me.0.seen
+  joined_seen i o s n a b me is =
+      is ∙ ((λ j. cond (ltb (a j) (b j)) (b j) (a j))
+      ∙ (longer_length (ltb (length i.seat.me.0.seen) (length o.seat.me.0.seen)) i.seat.me.0.seen o.seat.me.0.seen
+      ∙ ap (λ (m : Seated M). length m.0.seen) (sym me)))
+
+  pub joined_ok : (i o : Inside M) (s : Seat (Option M) View) (n : ℕ) → IsRest i → IsRest o → s.table_id ≡ i.seat.table_id
+      → s.me ≡ (settled (joined i.seat.me.0 o.seat.me.0), []) → Agree (joined i.seat.me.0 o.seat.me.0) s.me.0.seen
+      → Joined (known_of i) (known_of o) (known_of (both i o s n))
+  joined_ok i o s n rest rest' table me agree =
+      let ranges : i.seat.me.0.ranges ≡ (i.first, i.count) ∷ others_of i.seat.me.0.ranges = ap (λ (m : Seated M). m.0.ranges) rest in
+      let ranges' : o.seat.me.0.ranges ≡ (o.first, o.count) ∷ others_of o.seat.me.0.ranges = ap (λ (m : Seated M). m.0.ranges) rest' in record {
+        place = (table, ap (λ (m : Seated M). config_or m.0.config) me, refl, refl);
+        ranges = ap (λ (m : Seated M). others_of m.0.ranges) me ∙ ((λ j. others_of (ranges j ++ ranges' j)));
+        turns = refl;
+        longer = ⊎_elim (λ e. inl (ap (λ (m : Seated M). m.0.seen) me ∙ e)) (λ e. inr (ap (λ (m : Seated M). m.0.seen) me ∙ e))
+            (longer_one (ltb (length i.seat.me.0.seen) (length o.seat.me.0.seen)) i.seat.me.0.seen o.seat.me.0.seen);
+        this = agree.this;
+        that = agree.that;
+        ours = λ k has. agree.here k (subst (λ (rs : List (ℕ × ℕ)). 0 < total (inside k) rs) (sym ranges)
+            (counted k ((i.first, i.count) ∷ others_of i.seat.me.0.ranges) has));
+        theirs = λ k has. agree.there k (subst (λ (rs : List (ℕ × ℕ)). 0 < total (inside k) rs) (sym ranges')
+            (counted k ((o.first, o.count) ∷ others_of o.seat.me.0.ranges) has));
+      }
+
+  pub all_of : (i : Inside M) (actors : ℕ) → IsRest i → ((k : ℕ) → k < actors → HasNumber (known_of i) k) → (k : ℕ) → k < actors → 0 < mine k i.seat.me.0
+  all_of i actors rest all k near = subst (λ (rs : List (ℕ × ℕ)). 0 < total (inside k) rs) (sym (ap (λ (m : Seated M). m.0.ranges) rest))
+      (counted k ((i.first, i.count) ∷ others_of i.seat.me.0.ranges) (all k near))
 
 -- the own steps of a pass after a turn
 mine_between : (p : Known) (between : History) → 0 < p.count → OfOthers p between → by p.first between ≡ []

@@ -8,7 +8,7 @@ use Rattle.bay_model.specs.declared.step.Step.TheVariants as steps
 use Rattle.bay_model.specs.Named.{configured_model}
 use Rattle.bay_model.specs.Answers.{History, answer}
 use Rattle.bay_histories.specs.declared.fault.StepFault.TheVariants as stepfaults
-use Rattle.bay_core.specs.Turns.{is_lean}
+use Rattle.bay_histories.specs.Turns.{is_lean}
 use Rattle.history_lock.specs.declared.fault.TurnFault.{TurnFault}
 use Rattle.history_lock.specs.declared.fault.TurnFault.TheVariants as faults
 use Rattle.bay_histories.specs.Histories.{IsEarlier, turn_of, by, answers_of, places_of, IsLegal, IsRefused}

@@ -1,29 +1,27 @@
--- What each step tells: of the step, the seat before, the number found and the seat after.
+-- What each step tells: of the step, the seat before, the number found and the seat after. The machine stands for a history as its own definitions have it.
 use Rattle.std.specs.Prelude.{ℕ, ◌≡◌, ◌≢◌, ◌+◌, ◌-◌, ◌<◌, ◌≤◌, ◌^◌, List, [], ◌∷◌, ◌++◌, length, Option, Some, cond, nat_lt}
 use Rattle.atomic_table.specs.Table.{Me, Step, rest}
-use Rattle.bay_core.specs.declared.bay.Bay.{Bay}
 use Rattle.bay_model.specs.Answers.{Turn, History}
 use Rattle.sv_base.specs.declared.config.Config.{Config}
-use Rattle.bay_core.specs.Standing.{StandsFor}
 use Rattle.history_lock.specs.declared.view.View.{View}
 use Rattle.history_lock.specs.declared.view.Phase.TheVariants.{Idle, Drawn, Busy, Added}
 use Rattle.bay_histories.specs.Histories.{IsEarlier, by}
-use Rattle.history_lock.specs.Views.{view, moved_to, ticket_of, mine, aside_of}
+use Rattle.history_lock.specs.Views.{Stands, view, moved_to, ticket_of, mine, aside_of}
 
-abbrev pub Seated : Type 0
-Seated = Me (Option Bay) View
+abbrev pub Seated : Type 0 → Type 0
+Seated M = Me (Option M) View
 
-abbrev pub Play : Type 1
-Play = Step (Option Bay) → Seated → ℕ → Seated → Type 0
+abbrev pub Play : Type 0 → Type 1
+Play M = Step (Option M) → Seated M → ℕ → Seated M → Type 0
 
 -- a ticket is drawn
 abbrev pub drawn : View → ℕ → View
 drawn v t = moved_to v (v.left - 1) (Drawn t) v.seen
 
-abbrev pub draws : Play
+abbrev pub draws : {M : Type 0} → Play M
 draws st m r n = n ≡ (drawn m.0 r, m.1)
 
--- it is the seat's turn: it has seen the whole history, and has the bay
+-- it is the seat's turn: it has seen the whole history, and has the machine
 abbrev pub served : View → ℕ → History → View
 served v t between = moved_to v v.left (Busy t) (between ++ v.seen)
 
@@ -31,26 +29,26 @@ served v t between = moved_to v v.left (Busy t) (between ++ v.seen)
 abbrev pub Others : View → History → Type 0
 Others v between = (k : ℕ) → 0 < mine k v → by k between ≡ []
 
-abbrev pub Got : Seated → ℕ → Seated → Type 0
-Got m t n = (bay : Bay) × (between : History) × (n ≡ (served m.0 t between, (0, Some bay) ∷ m.1))
-    × ((config : Config) → m.0.config ≡ Some config → StandsFor bay config (between ++ m.0.seen)) × Others m.0 between
+abbrev pub Got : {M : Type 0} → Stands M → Seated M → ℕ → Seated M → Type 0
+Got {M} stands m t n = (machine : M) × (between : History) × (n ≡ (served m.0 t between, (0, Some machine) ∷ m.1))
+    × ((config : Config) → m.0.config ≡ Some config → stands machine config (between ++ m.0.seen)) × Others m.0 between
     × (length (between ++ m.0.seen) < 2 ^ 62)
 
-abbrev pub looks : Play
-looks st m r n = (r ≡ ticket_of m.0.phase → Got m r n) × (r ≢ ticket_of m.0.phase → n ≡ m)
+abbrev pub looks : {M : Type 0} → Stands M → Play M
+looks stands st m r n = (r ≡ ticket_of m.0.phase → Got stands m r n) × (r ≢ ticket_of m.0.phase → n ≡ m)
 
 -- the step is added to the history
 abbrev pub extended : View → ℕ → Turn → View
 extended v t e = moved_to v v.left (Added t) (e ∷ v.seen)
 
-abbrev pub appends : Turn → Play
+abbrev pub appends : {M : Type 0} → Turn → Play M
 appends e st m r n = (r ≡ length m.0.seen) × (n ≡ (extended m.0 (ticket_of m.0.phase) e, m.1))
 
--- the bay goes back, and the next ticket is served
+-- the machine goes back, and the next ticket is served
 abbrev pub resting : View → View
 resting v = moved_to v v.left Idle v.seen
 
-abbrev pub passes : Play
+abbrev pub passes : {M : Type 0} → Play M
 passes st m r n = n ≡ (resting m.0, rest m.1)
 
 -- the seat keeps the lower numbers of its first range
@@ -86,9 +84,9 @@ pub record Agree (v : View) (seen : History) : Type 0 where
   pub here : (k : ℕ) → 0 < mine k v → by k seen ≡ by k v.seen
   pub there : (k : ℕ) → 0 < aside_of k v → by k seen ≡ by k v.told
 
-abbrev pub compares : Play
+abbrev pub compares : {M : Type 0} → Play M
 compares st m r n = (n ≡ (settled m.0, m.1)) × Agree m.0 n.0.seen × (n.0.left ≤ 2 ^ 62)
 
--- a seat that has the bay reads how long the history is
-abbrev pub counts : Play
+-- a seat that has the machine reads how long the history is
+abbrev pub counts : {M : Type 0} → Play M
 counts st m r n = (n ≡ m) × (r ≡ length m.0.seen)

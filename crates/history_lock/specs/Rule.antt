@@ -1,17 +1,15 @@
--- The rule of the lock: of its words ticket, serving and count, of the bay where it is at home, and of what the seats know.
+-- The rule of the lock: of its words ticket, serving and count, of the machine where it is at home, and of what the seats know.
 use Rattle.std.specs.Prelude.{ℕ, ◌≡◌, ◌+◌, ◌<◌, ◌≤◌, ◌^◌, [], ◌∷◌, length, Option, Some, None}
 use mathlib.Core.Option.{some}
 use lib.ListN.{get_elem?}
 use Rattle.atomic_table.specs.Table.{State}
-use Rattle.bay_core.specs.declared.bay.Bay.{Bay}
 use Rattle.bay_model.specs.Answers.{History}
 use Rattle.sv_base.specs.declared.config.Config.{Config}
-use Rattle.bay_core.specs.Standing.{StandsFor}
 use Rattle.history_lock.specs.declared.view.View.{View}
 use Rattle.history_lock.specs.declared.view.Phase.{Phase}
 use Rattle.history_lock.specs.declared.view.Phase.TheVariants.{Idle, Drawn, Busy, Added}
 use Rattle.bay_histories.specs.Histories.{IsEarlier, by}
-use Rattle.history_lock.specs.Views.{view, total, has, busy, added, mine, aside_of, holds_number, left_of}
+use Rattle.history_lock.specs.Views.{Stands, view, total, has, busy, added, mine, aside_of, holds_number, left_of}
 
 -- the seat that is served has seen the whole history
 abbrev pub FitsPhase : ℕ → History → History → Phase → Type 0
@@ -30,13 +28,13 @@ pub record Fits (config : Config) (serving : ℕ) (log : History) (v : View) : T
   pub back : IsEarlier v.told log
   pub own_aside : (k : ℕ) → 0 < aside_of k v → by k log ≡ by k v.told
 
-abbrev pub Table : Type 0
-Table = State (Option Bay) View
+abbrev pub Table : Type 0 → Type 0
+Table M = State (Option M) View
 
-abbrev pub AtHome : Config → Table → History → Type 0
-AtHome config s log = (bay : Bay) × (get_elem? s.homes 0 ≡ some (some (Some bay))) × StandsFor bay config log
+abbrev pub AtHome : {M : Type 0} → Stands M → Config → Table M → History → Type 0
+AtHome {M} stands config s log = (machine : M) × (get_elem? s.homes 0 ≡ some (some (Some machine))) × stands machine config log
 
-pub record FollowsRule (actors : ℕ) (config : Config) (s : Table) : Type 0 where
+pub record FollowsRule {M : Type 0} (stands : Stands M) (actors : ℕ) (config : Config) (s : Table M) : Type 0 where
   pub ticket : ℕ
   pub serving : ℕ
   pub log : History
@@ -48,8 +46,8 @@ pub record FollowsRule (actors : ℕ) (config : Config) (s : Table) : Type 0 whe
   pub room : ticket + total left_of s.views ≤ 2 ^ 62
   pub order : serving ≤ ticket
   pub few : length log ≤ serving + total added s.views
-  -- where no seat has the bay, it is at home
-  pub home : total busy s.views ≡ 0 → AtHome config s log
+  -- where no seat has the machine, it is at home
+  pub home : total busy s.views ≡ 0 → AtHome stands config s log
   pub seats : (j : ℕ) (v : View) → get_elem? s.views j ≡ some v → Fits config serving log v
   -- a number is one seat's at most, and only those below actors are given
   pub apart : (k : ℕ) → total (holds_number k) s.views ≤ 1

@@ -1,5 +1,6 @@
 -- The seat of a pass: between its turns, and what a turn makes of it.
 use Rattle.std.specs.Prelude.{ℕ, ◌≡◌, ◌-◌, ◌<◌, ◌^◌, List, [], ◌∷◌, ◌++◌, length, Result, MatchResult, Ok, Err, Option, Some, None}
+use Rattle.atomic_table.specs.Seated.{TableId}
 use Rattle.sv_base.specs.declared.config.Config.{Config}
 use Rattle.bay_model.specs.declared.answer.Answer.{Answer}
 use Rattle.bay_model.specs.Named.{configured_model}
@@ -9,6 +10,7 @@ use Rattle.history_lock.specs.declared.view.Phase.TheVariants.{Idle}
 use Rattle.bay_histories.specs.Histories.{IsLegal, IsRefused}
 use Rattle.history_lock.specs.Views.{view, moved_to}
 use Rattle.history_lock.specs.Plays.{Seated, Others}
+use Rattle.history_lock.specs.Passes.{Known}
 
 -- a configuration with nothing in it
 abbrev pub bare : Config
@@ -24,11 +26,23 @@ others_of [] = []
 others_of (r ∷ rs) = rs
 
 -- what the seat of a pass knows between its turns
-abbrev pub at_rest : Config → ℕ → ℕ → List (ℕ × ℕ) → ℕ → History → Seated
+abbrev pub at_rest : {M : Type 0} → Config → ℕ → ℕ → List (ℕ × ℕ) → ℕ → History → Seated M
 at_rest config first count joined left seen = (view (Some config) ((first, count) ∷ joined) left Idle seen [] [], [])
 
+-- what a contract sees of a pass with this seat
+abbrev pub known : {M : Type 0} → TableId → Seated M → (first count left : ℕ) → Known
+known table m first count left = record {
+  table = table;
+  config = config_or m.0.config;
+  first = first;
+  count = count;
+  joined = others_of m.0.ranges;
+  left = left;
+  seen = m.0.seen;
+}
+
 -- the turn of a seat: others made the steps between, and then this seat made its own, or was refused it
-abbrev pub Took : Config → Seated → Turn → Result (Answer × ℕ) (StepFault × ℕ) → Seated → Type 0
+abbrev pub Took : {M : Type 0} → Config → Seated M → Turn → Result (Answer × ℕ) (StepFault × ℕ) → Seated M → Type 0
 Took config m t result n =
     MatchResult result
     (λ r. (between : History) × (n ≡ (moved_to m.0 (m.0.left - 1) Idle (t ∷ between ++ m.0.seen), [])) × Others m.0 between
@@ -37,7 +51,7 @@ Took config m t result n =
     (λ f. (between : History) × (n ≡ (moved_to m.0 (m.0.left - 1) Idle (between ++ m.0.seen), [])) × Others m.0 between
     × IsRefused config (between ++ m.0.seen) t f.0 × (f.1 ≡ length (between ++ m.0.seen)) × IsLegal config (between ++ m.0.seen))
 
--- what the bay answered
-abbrev pub bay_result : Result (Answer × ℕ) (StepFault × ℕ) → Result Answer StepFault
-bay_result (Ok r) = Ok r.0
-bay_result (Err f) = Err f.0
+-- what the machine answered
+abbrev pub step_result : Result (Answer × ℕ) (StepFault × ℕ) → Result Answer StepFault
+step_result (Ok r) = Ok r.0
+step_result (Err f) = Err f.0

@@ -6,6 +6,10 @@ use Rattle.history_lock.specs.declared.view.View.{View}
 use Rattle.history_lock.specs.declared.view.Phase.{Phase}
 use Rattle.history_lock.specs.declared.view.Phase.TheVariants.{Idle, Drawn, Busy, Added}
 
+-- what it is for a machine to stand for a history of accepted steps
+abbrev pub Stands : Type 0 → Type 1
+Stands M = M → Config → History → Type 0
+
 abbrev pub view : Option Config → List (ℕ × ℕ) → ℕ → Phase → History → List (ℕ × ℕ) → History → View
 view config ranges left phase seen aside told = record { config = config; ranges = ranges; left = left; phase = phase; seen = seen; aside = aside; told = told }
 
@@ -37,7 +41,7 @@ ticket_of (Drawn n) = n
 ticket_of (Busy n) = n
 ticket_of (Added n) = n
 
--- 1 where the seat has the bay
+-- 1 where the seat has the machine
 abbrev pub busy_phase : Phase → ℕ
 busy_phase Idle = 0
 busy_phase (Drawn n) = 0

@@ -7,6 +7,6 @@ use bay_histories::StepFault;
 pub enum TurnFault {
     /// The pass has no turn left.
     Ended,
-    /// The bay refused the step.
+    /// The machine refused the step.
     Step(StepFault),
 }

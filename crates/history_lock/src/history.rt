@@ -1,9 +1,8 @@
-//! A bay behind a lock, the history of its accepted steps, and the right to make them.
+//! A state machine behind a lock, the history of its accepted steps, and the right to make them.
 
 ghost use Rattle.std.specs.Prelude.{◌≡◌, ◌-◌, ◌+◌, ◌<◌, ◌≤◌, List, ◌∷◌, [], ◌++◌, length, IfOk, ℕ, cond, nat_lt, true};
 ghost use Rattle.object_model.specs.Fits.{fits as fits_in};
 ghost use Rattle.bay_model.specs.Answers.{History as TheHistory};
-ghost use Rattle.bay_core.specs.Standing.{StandsFor};
 ghost use Rattle.bay_histories.specs.Histories.{IsEarlier, by, IsShuffle};
 ghost use Rattle.history_lock.specs.Rule.{whole};
 ghost use Rattle.history_lock.specs.Passes.{HasNumber, IsSamePass, Joined, first_of, kept_of, new_of};
@@ -12,23 +11,23 @@ ghost use Rattle.history_lock.specs.Passes.{OwnGrew, ToldGrew, PlacedGrew, Turne
 use crate::fault::TurnFault;
 use crate::lock::{Lock, Seat};
 use crate::view::About;
-use bay_core::Bay;
+use bay_histories::StateMachine;
 use bay_model::{Answer, Step};
 use object_model::Model;
 use std::alloc::{AllocError, Global};
 use std::sync::Wait;
 use sv_base::{ActorNo, Moment};
 
-/// A bay behind a lock, and the history of its accepted steps. Threads share it by `&`, each with a pass of its own. Contracts
-/// see its configuration and how many actors it has.
+/// A state machine behind a lock, as a bay, and the history of its accepted steps. Threads share it by `&`, each with a pass of its
+/// own. Contracts see its configuration and how many actors it has.
 #[derive(Drop)]
-pub struct History {
-    lock: Lock,
+pub struct History<M: StateMachine> {
+    lock: Lock<M>,
     about: About,
     alloc: Global,
 }
 
-impl std::marker::Model for History {
+impl<M: StateMachine> std::marker::Model for History<M> {
     ghost use Rattle.std.specs.Prelude.{◌≡◌};
     ghost use Rattle.std.specs.Coded.{codes};
     ghost use Rattle.sv_base.specs.Tree.{row_code};
@@ -47,41 +46,33 @@ impl std::marker::Model for History {
 /// The right to make the steps of some actors, and so many turns. Contracts see its numbers, its turns left, and the history as
 /// far as it has seen it, the newest step first.
 #[derive(Drop)]
-pub struct Pass {
-    seat: Seat,
+pub struct Pass<M: StateMachine> {
+    seat: Seat<M>,
     first: u32,
     count: u32,
     left: u64,
     seen: u64,
 }
 
-impl std::marker::Model for Pass {
+impl<M: StateMachine> std::marker::Model for Pass<M> {
     ghost use Rattle.std.specs.Prelude.{◌≡◌, ◌+◌, ◌<◌, ◌^◌, length};
     ghost use Rattle.std.specs.Coded.{codes};
     ghost use Rattle.sv_base.specs.Tree.{row_code};
     ghost use Rattle.sv_base.specs.Types.{fields_code};
-    ghost use Rattle.history_lock.specs.Seats.{config_or, others_of, at_rest};
+    ghost use Rattle.history_lock.specs.Seats.{config_or, others_of, at_rest, known};
     ghost use Rattle.history_lock.specs.Passes.{Known};
 
     ghost Value = { Known };
 
     ghost coded = { Prim.hlevel (codes, row_code, fields_code) };
 
-    ghost view = { λ p. record {
-      table = p.seat.table_id;
-      config = config_or p.seat.me.0.config;
-      first = p.first;
-      count = p.count;
-      joined = others_of p.seat.me.0.ranges;
-      left = p.left;
-      seen = p.seat.me.0.seen;
-    } };
+    ghost view = { λ p. known p.seat.table_id p.seat.me p.first p.count p.left };
 
     ghost invariant = { λ p. (0 < p.count) × (p.first + p.count < 2 ^ 32) × (p.seen ≡ length p.seat.me.0.seen)
         × (p.seat.me ≡ at_rest (config_or p.seat.me.0.config) p.first p.count (others_of p.seat.me.0.ranges) p.left p.seat.me.0.seen) };
 }
 
-impl Pass {
+impl<M: StateMachine> Pass<M> {
     /// The lowest of its numbers, which is its own.
     pub fn actor(&self) -> ActorNo
         ensures { result.0 ≡ self.now.first }
@@ -104,23 +95,23 @@ impl Pass {
     }
 }
 
-impl History {
-    /// A bay that has made no step, behind a lock. The pass has the numbers of all actors, from 0, and 2^62 turns. Fails for
-    /// want of memory alone; the lock takes a copy of the bay's model.
-    pub fn new(alloc: Global, bay: Bay, actors: u32) -> Result<(History, Pass), AllocError>
+impl<M: StateMachine> History<M> {
+    /// A machine that has made no step, behind a lock. The pass has the numbers of all actors, from 0, and 2^62 turns. Fails for
+    /// want of memory alone; the lock takes a copy of the machine's model.
+    pub fn new(alloc: Global, machine: M, actors: u32) -> Result<(History<M>, Pass<M>), AllocError>
         requires actors { 0 < actors }
-        requires bay { StandsFor bay bay.config [] }
-        ensures history { IfOk result (λ r. (r.0.actors ≡ actors) × (r.0.config ≡ bay.config)) }
+        requires machine { M.stands machine (M.config machine) [] }
+        ensures history { IfOk result (λ r. (r.0.actors ≡ actors) × (r.0.config ≡ M.config machine)) }
         ensures pass { IfOk result (λ r. r.1 ≡ first_of r.0) }
     {
-        let about = match about_of(alloc, &bay, actors) {
+        let about = match about_of(alloc, &machine, actors) {
             Ok(about) => about,
             Err(error) => {
-                drop(bay);
+                drop(machine);
                 return Err(error);
             }
         };
-        match Lock::new(alloc, bay, &about) {
+        match Lock::new(alloc, machine, &about) {
             Ok((lock, seat)) => Ok(begun(alloc, lock, seat, about, actors)),
             Err(error) => {
                 drop(about);
@@ -131,7 +122,7 @@ impl History {
 
     /// Hands the last `numbers` of the pass's range, and so many turns, to a new pass that has seen the same. The pass keeps
     /// one number at least. It takes no memory.
-    pub fn split(&self, pass: &mut Pass, numbers: u32, turns: u64) -> Pass
+    pub fn split(&self, pass: &mut Pass<M>, numbers: u32, turns: u64) -> Pass<M>
         requires pass { pass.old.table ≡ self.now.table }
         requires numbers { (0 < numbers) × (numbers < pass.old.count) }
         requires turns { turns ≤ pass.old.left }
@@ -150,7 +141,7 @@ impl History {
         }
     }
 
-    /// A model equal to its bay's. It makes no turn and takes no memory.
+    /// A model equal to its machine's. It makes no turn and takes no memory.
     pub fn model(&self) -> &Model
         ensures { result.now ≡ self.now.config }
     {
@@ -158,14 +149,14 @@ impl History {
     }
 
     /// Makes one turn with a step that fits the model, as the pass's lowest actor: waits until the turns before it are made, and
-    /// gives the bay's answer and the step's place in the history, counted from 0.
+    /// gives the machine's answer and the step's place in the history, counted from 0.
     ///
-    /// `Ended` is answered exactly where the pass has no turn left, and then nothing is done. `Step` is the bay's refusal: it adds
+    /// `Ended` is answered exactly where the pass has no turn left, and then nothing is done. `Step` is the machine's refusal: it adds
     /// nothing to the history. Every turn but an ended one takes one of the pass's turns.
     pub fn turn<R: Wait>(
         &self,
         rt: &R,
-        pass: &mut Pass,
+        pass: &mut Pass<M>,
         moment: Moment,
         step: &Step,
     ) -> Result<(Answer, u64), TurnFault>
@@ -202,7 +193,7 @@ impl History {
 
     /// Takes in another pass of this history: the first has from now on the numbers and the turns of both, and has seen the longer
     /// of what they had seen. It takes no memory.
-    pub fn join(&self, pass: &mut Pass, other: Pass)
+    pub fn join(&self, pass: &mut Pass<M>, other: Pass<M>)
         requires { (pass.old.table ≡ self.now.table) × (other.table ≡ self.now.table) }
         ensures { Joined pass.old other pass.new }
     {
@@ -219,7 +210,7 @@ impl History {
     }
 
     /// How many steps were accepted. A pass with the numbers of all actors has seen them all.
-    pub fn close(self, pass: Pass) -> u64
+    pub fn close(self, pass: Pass<M>) -> u64
         requires { pass.table ≡ self.table }
         ensures seen { (log : TheHistory) × (result ≡ length log) × IsEarlier pass.seen log }
         ensures whole { ((k : ℕ) → k < self.actors → HasNumber pass k)
@@ -242,11 +233,11 @@ impl History {
     }
 }
 
-/// What the lock of a bay is told.
-fn about_of(alloc: Global, bay: &Bay, actors: u32) -> Result<About, AllocError>
-    ensures { IfOk result (λ a. (a.actors ≡ actors) × (a.model ≡ bay.now.config)) }
+/// What the lock of a machine is told.
+fn about_of<M: StateMachine>(alloc: Global, machine: &M, actors: u32) -> Result<About, AllocError>
+    ensures { IfOk result (λ a. (a.actors ≡ actors) × (a.model ≡ M.config machine.now)) }
 {
-    let model = bay.model().copy(alloc)?;
+    let model = machine.model().copy(alloc)?;
     Ok(About {
         actors: u64::from(actors),
         model,
@@ -254,7 +245,13 @@ fn about_of(alloc: Global, bay: &Bay, actors: u32) -> Result<About, AllocError>
 }
 
 /// A history of which no step was made, and the pass of all actors.
-fn begun(alloc: Global, lock: Lock, seat: Seat, about: About, actors: u32) -> (History, Pass)
+fn begun<M: StateMachine>(
+    alloc: Global,
+    lock: Lock<M>,
+    seat: Seat<M>,
+    about: About,
+    actors: u32,
+) -> (History<M>, Pass<M>)
     requires actors { (0 < actors) × (about.actors ≡ actors) }
     requires key { lock.table.shared.key ≡ about }
     requires seat { (seat.table_id ≡ lock.table.shared.table_id) × (seat.me ≡ (whole actors about.model, [])) }

@@ -1,11 +1,16 @@
 //! Passes and histories go to other threads.
 
-ghost use denote.Param.Send.{IsSend, IsSync};
-ghost use Rattle.history_lock.specs.contracts.history.Pass.{the_row as pass_row};
-ghost use Rattle.history_lock.specs.contracts.history.History.{the_row as history_row};
+use crate::history::{History, Pass};
+use bay_histories::StateMachine;
+
+/// Values of the type may go to another thread.
+fn may_go<T: Send>() {}
+
+/// Several threads may use one value of the type.
+fn may_be_shared<T: Sync>() {}
 
 /// A pass may go to another thread, and several threads may use one history.
-pub fn passes_cross_threads()
-    ensures pass { IsSend pass_row }
-    ensures history { IsSync history_row }
-{}
+pub fn passes_cross_threads<M: StateMachine>() {
+    may_go::<Pass<M>>();
+    may_be_shared::<History<M>>();
+}

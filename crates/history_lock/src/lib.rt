@@ -1,4 +1,4 @@
-//! One history of a bay's steps that several threads make: a bay behind a ticket lock.
+//! One history of the steps that several threads make: a state machine, as a bay, behind a ticket lock.
 #![tactic(auto)]
 
 // the history, and the right to make steps

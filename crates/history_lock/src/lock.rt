@@ -1,52 +1,54 @@
-//! A bay behind a ticket lock, one step of the lock after another.
+//! A state machine behind a ticket lock, one step of the lock after another.
 
 ghost use Rattle.std.specs.Prelude.{◌≡◌, ◌+◌, ◌^◌, ◌<◌, ◌≤◌, List, ◌∷◌, [], length, Some, IfOk, ℕ, true};
 ghost use Rattle.sv_base.specs.declared.config.Config.{Config};
 ghost use Rattle.object_model.specs.Fits.{fits as fits_in};
 ghost use Rattle.bay_model.specs.Answers.{History};
-ghost use Rattle.bay_core.specs.Turns.{KeepsLean};
-ghost use Rattle.bay_core.specs.Standing.{StandsFor};
-ghost use Rattle.bay_core.specs.declared.bay.Bay.{Bay as TheBay};
+ghost use Rattle.bay_histories.specs.Turns.{KeepsLean};
 ghost use Rattle.bay_histories.specs.Histories.{IsEarlier, by, turn_of};
 ghost use Rattle.history_lock.specs.Views.{mine, busy};
 ghost use Rattle.history_lock.specs.Rule.{whole};
 ghost use Rattle.history_lock.specs.Plays.{Got, drawn, extended, resting, kept_part, cut_part, joined, settled, Agree};
-ghost use Rattle.history_lock.specs.Seats.{Took, bay_result};
+ghost use Rattle.history_lock.specs.Seats.{Took, config_or, step_result};
 ghost use Rattle.history_lock.specs.declared.view.Phase.TheVariants.{Idle, Drawn, Busy, Added};
 
 use crate::rule::{Announced, Append, Both, Compare, Count, Cut, Draw, Law, Look, PassOn, Portion};
 use crate::view::{About, View};
 use atomic_table::{Refused, Table};
-use bay_core::{Bay, StepFault};
+use bay_histories::{StateMachine, StepFault};
 use bay_model::{Answer, Step};
 use std::alloc::{AllocError, Global};
 use std::marker::Brand;
 use std::sync::Wait;
 use sv_base::{ActorNo, Moment};
 
-pub(crate) type Seat = atomic_table::Seat<Option<Bay>, View>;
+pub(crate) type Seat<M> = atomic_table::Seat<Option<M>, View>;
 
-/// A bay behind a ticket lock.
+/// A state machine behind a ticket lock.
 #[derive(Drop)]
-pub(crate) struct Lock {
-    table: Table<Option<Bay>, View, About, Law, Global>,
+pub(crate) struct Lock<M: StateMachine> {
+    table: Table<Option<M>, View, About, Law<M>, Global>,
     ghost sized: { (table.shared.table_id.words ≡ 3) × (table.shared.table_id.slots ≡ 1) },
 }
 
-impl Lock {
-    pub(crate) fn new(alloc: Global, bay: Bay, about: &About) -> Result<(Lock, Seat), AllocError>
-        requires { StandsFor bay about.now.model [] }
+impl<M: StateMachine> Lock<M> {
+    pub(crate) fn new(
+        alloc: Global,
+        machine: M,
+        about: &About,
+    ) -> Result<(Lock<M>, Seat<M>), AllocError>
+        requires { M.stands machine about.now.model [] }
         ensures { IfOk result (λ r. (r.0.table.shared.key ≡ about.now) × (r.1.table_id ≡ r.0.table.shared.table_id)
             × (r.1.me ≡ (whole about.now.actors about.now.model, []))) }
     {
         let mut slots = match Vec::with_capacity(alloc, 1) {
             Ok(slots) => slots,
             Err(error) => {
-                drop(bay);
+                drop(machine);
                 return Err(error);
             }
         };
-        slots.push_reserved(Some(bay));
+        slots.push_reserved(Some(machine));
         match Table::new(alloc, &[0, 0, 0], slots, about) {
             Ok((table, seat)) => Ok((Lock { table }, seat)),
             Err(Refused { slots }) => {
@@ -57,7 +59,7 @@ impl Lock {
     }
 
     /// A new seat gets the last numbers of the first range, and turns.
-    fn cut<N: Portion>(&self, seat: &mut Seat, _numbers: u64, _turns: u64) -> Seat
+    fn cut<N: Portion>(&self, seat: &mut Seat<M>, _numbers: u64, _turns: u64) -> Seat<M>
         requires table { seat.old.table_id ≡ self.now.table.shared.table_id }
         requires numbers { (low : ℕ) × (count : ℕ) × (others : List (ℕ × ℕ)) × (seat.old.me.0.ranges ≡ (low, count) ∷ others) × (N.numbers ≤ count) }
         requires turns { N.turns ≤ seat.old.me.0.left }
@@ -68,7 +70,7 @@ impl Lock {
         self.table.shared.split_seat::<Cut<N>>(seat)
     }
 
-    pub(crate) fn split(&self, seat: &mut Seat, numbers: u64, turns: u64) -> Seat
+    pub(crate) fn split(&self, seat: &mut Seat<M>, numbers: u64, turns: u64) -> Seat<M>
         requires table { seat.old.table_id ≡ self.now.table.shared.table_id }
         requires numbers { (low : ℕ) × (count : ℕ) × (others : List (ℕ × ℕ)) × (seat.old.me.0.ranges ≡ (low, count) ∷ others) × (numbers ≤ count) }
         requires turns { turns ≤ seat.old.me.0.left }
@@ -80,7 +82,7 @@ impl Lock {
     }
 
     /// Takes in another seat, and compares what the two had seen.
-    pub(crate) fn join(&self, seat: &mut Seat, other: Seat)
+    pub(crate) fn join(&self, seat: &mut Seat<M>, other: Seat<M>)
         requires table { (seat.old.table_id ≡ self.now.table.shared.table_id) × (other.table_id ≡ self.now.table.shared.table_id) }
         requires idle { (seat.old.me.0.phase ≡ Idle) × (seat.old.me.1 ≡ []) × (seat.old.me.0.aside ≡ []) }
         requires other { (other.me.0.phase ≡ Idle) × (other.me.1 ≡ []) }
@@ -94,7 +96,7 @@ impl Lock {
     }
 
     /// The length of the history, which a seat with all numbers has seen whole.
-    pub(crate) fn close(self, seat: Seat) -> u64
+    pub(crate) fn close(self, seat: Seat<M>) -> u64
         requires table { seat.table_id ≡ self.table.shared.table_id }
         ensures { (log : History) × (result ≡ length log) × IsEarlier seat.me.0.seen log
             × (((k : ℕ) → k < self.table.shared.key.actors → 0 < mine k seat.me.0) → seat.me.0.seen ≡ log)
@@ -109,7 +111,7 @@ impl Lock {
     }
 
     /// Draws the next ticket.
-    fn draw(&self, seat: &mut Seat) -> u64
+    fn draw(&self, seat: &mut Seat<M>) -> u64
         requires table { seat.old.table_id ≡ self.now.table.shared.table_id }
         requires idle { seat.old.me.0.phase ≡ Idle }
         requires left { 0 < seat.old.me.0.left }
@@ -119,15 +121,15 @@ impl Lock {
         self.table.shared.fetch_add::<Draw>(seat, 0, 1)
     }
 
-    /// Waits until the ticket is served, and takes the bay.
-    fn wait_turn<R: Wait>(&self, rt: &R, seat: &mut Seat, ticket: u64)
+    /// Waits until the ticket is served, and takes the machine.
+    fn wait_turn<R: Wait>(&self, rt: &R, seat: &mut Seat<M>, ticket: u64)
         requires table { seat.old.table_id ≡ self.now.table.shared.table_id }
         requires drawn { seat.old.me.0.phase ≡ Drawn ticket }
         ensures table { seat.new.table_id ≡ seat.old.table_id }
-        ensures got { Got seat.old.me ticket seat.new.me }
+        ensures got { Got M.stands seat.old.me ticket seat.new.me }
     {
         for _ in rt.forever() {
-            let serving = self.table.shared.load::<Look>(seat, 1);
+            let serving = self.table.shared.load::<Look<M>>(seat, 1);
             if serving == ticket {
                 return;
             }
@@ -139,7 +141,7 @@ impl Lock {
     /// Adds a step to the history, and gives its place.
     fn append<E: Announced>(
         &self,
-        seat: &mut Seat,
+        seat: &mut Seat<M>,
         _moment: Moment,
         _actor: ActorNo,
         _step: &Step,
@@ -154,12 +156,12 @@ impl Lock {
         self.table.shared.fetch_add::<Append<E>>(seat, 2, 1)
     }
 
-    /// Gives the bay back, and serves the next ticket.
-    fn pass_on(&self, seat: &mut Seat)
+    /// Gives the machine back, and serves the next ticket.
+    fn pass_on(&self, seat: &mut Seat<M>)
         requires table { seat.old.table_id ≡ self.now.table.shared.table_id }
         requires busy { busy seat.old.me.0 ≡ 1 }
-        requires bay { (bay : TheBay) × (config : Config) × (seat.old.me.1 ≡ (0, Some bay) ∷ []) × (seat.old.me.0.config ≡ Some config)
-            × StandsFor bay config seat.old.me.0.seen }
+        requires machine { (machine : M) × (config : Config) × (seat.old.me.1 ≡ (0, Some machine) ∷ []) × (seat.old.me.0.config ≡ Some config)
+            × M.stands machine config seat.old.me.0.seen }
         ensures table { seat.new.table_id ≡ seat.old.table_id }
         ensures seat { seat.new.me ≡ (resting seat.old.me.0, []) }
     {
@@ -167,8 +169,8 @@ impl Lock {
         self.table.shared.wake_all(1);
     }
 
-    /// How long the history is, for a seat that has the bay.
-    fn count(&self, seat: &mut Seat) -> u64
+    /// How long the history is, for a seat that has the machine.
+    fn count(&self, seat: &mut Seat<M>) -> u64
         requires table { seat.old.table_id ≡ self.now.table.shared.table_id }
         requires busy { busy seat.old.me.0 ≡ 1 }
         ensures table { seat.new.table_id ≡ seat.old.table_id }
@@ -178,34 +180,33 @@ impl Lock {
         self.table.shared.load::<Count>(seat, 2)
     }
 
-    /// One turn of a seat: a ticket, the bay, a step, its place in the history where it was accepted, and the bay back.
+    /// One turn of a seat: a ticket, the machine, a step, its place in the history where it was accepted, and the machine back.
     /// A refused step comes with the length of the history.
     pub(crate) fn take_turn<R: Wait>(
         &self,
         rt: &R,
         alloc: Global,
-        seat: &mut Seat,
+        seat: &mut Seat<M>,
         moment: Moment,
         actor: ActorNo,
         step: &Step,
     ) -> Result<(Answer, u64), (StepFault, u64)>
-        ghost config: { Config }
         requires table { seat.old.table_id ≡ self.now.table.shared.table_id }
         requires idle { (seat.old.me.0.phase ≡ Idle) × (seat.old.me.1 ≡ []) }
         requires left { 0 < seat.old.me.0.left }
         requires mine { 0 < mine actor.0 seat.old.me.0 }
-        requires config { seat.old.me.0.config ≡ Some config }
-        requires fits { fits_in config step.now ≡ true }
+        requires config { seat.old.me.0.config ≡ Some (config_or seat.old.me.0.config) }
+        requires fits { fits_in (config_or seat.old.me.0.config) step.now ≡ true }
         ensures table { seat.new.table_id ≡ seat.old.table_id }
-        ensures lean { KeepsLean step.now (bay_result result) }
-        ensures turn { Took config seat.old.me (turn_of moment actor.0 step.now) result seat.new.me }
+        ensures lean { KeepsLean step.now (step_result result) }
+        ensures turn { Took (config_or seat.old.me.0.config) seat.old.me (turn_of moment actor.0 step.now) result seat.new.me }
     {
         let ticket = self.draw(seat);
         self.wait_turn(rt, seat, ticket);
         let shared = &self.table.shared;
-        let mut bay = shared.exchange(seat, 0, None).unwrap();
-        let result = bay.step(alloc, moment, actor, step);
-        drop(shared.exchange(seat, 0, Some(bay)));
+        let mut machine = shared.exchange(seat, 0, None).unwrap();
+        let result = machine.step(alloc, moment, actor, step);
+        drop(shared.exchange(seat, 0, Some(machine)));
         match result {
             Ok(answer) => {
                 let place = self.append::<Brand>(seat, moment, actor, step);

@@ -2,16 +2,18 @@
 
 use crate::view::{About, View};
 use atomic_table::{Join, Play, Split, TableRule};
-use bay_core::Bay;
+use bay_histories::StateMachine;
 use std::marker::{Brand, PhantomData};
 
-/// What always holds of the words, of the bay in its slot, and of what the seats know.
-pub struct Law;
+/// What always holds of the words, of the machine in its slot, and of what the seats know.
+pub struct Law<M: StateMachine> {
+    of: PhantomData<M>,
+}
 
-impl TableRule<Option<Bay>, View, About> for Law {
+impl<M: StateMachine> TableRule<Option<M>, View, About> for Law<M> {
     ghost use Rattle.history_lock.specs.Rule.{FollowsRule, whole};
 
-    ghost holds = { λ about s. FollowsRule about.actors about.model s };
+    ghost holds = { λ about s. FollowsRule M.stands about.actors about.model s };
 
     ghost first = { λ about. whole about.actors about.model };
 }
@@ -19,19 +21,21 @@ impl TableRule<Option<Bay>, View, About> for Law {
 /// A ticket is drawn.
 pub struct Draw;
 
-impl Play<Option<Bay>, View> for Draw {
+impl<M> Play<Option<M>, View> for Draw {
     ghost use Rattle.history_lock.specs.Plays.{draws};
 
     ghost then = { draws };
 }
 
 /// A look at the ticket that is served.
-pub struct Look;
+pub struct Look<M: StateMachine> {
+    of: PhantomData<M>,
+}
 
-impl Play<Option<Bay>, View> for Look {
+impl<M: StateMachine> Play<Option<M>, View> for Look<M> {
     ghost use Rattle.history_lock.specs.Plays.{looks};
 
-    ghost then = { looks };
+    ghost then = { looks M.stands };
 }
 
 /// The step that is added.
@@ -52,16 +56,16 @@ pub struct Append<E: Announced> {
     of: PhantomData<E>,
 }
 
-impl<E: Announced> Play<Option<Bay>, View> for Append<E> {
+impl<M, E: Announced> Play<Option<M>, View> for Append<E> {
     ghost use Rattle.history_lock.specs.Plays.{appends};
 
     ghost then = { appends E.turn };
 }
 
-/// The bay is given back, and the next ticket is served.
+/// The machine is given back, and the next ticket is served.
 pub struct PassOn;
 
-impl Play<Option<Bay>, View> for PassOn {
+impl<M> Play<Option<M>, View> for PassOn {
     ghost use Rattle.history_lock.specs.Plays.{passes};
 
     ghost then = { passes };
@@ -110,16 +114,16 @@ impl Join<View> for Both {
 /// After a join a seat compares what it had seen with what the other one had.
 pub struct Compare;
 
-impl Play<Option<Bay>, View> for Compare {
+impl<M> Play<Option<M>, View> for Compare {
     ghost use Rattle.history_lock.specs.Plays.{compares};
 
     ghost then = { compares };
 }
 
-/// A seat that has the bay reads how long the history is.
+/// A seat that has the machine reads how long the history is.
 pub struct Count;
 
-impl Play<Option<Bay>, View> for Count {
+impl<M> Play<Option<M>, View> for Count {
     ghost use Rattle.history_lock.specs.Plays.{counts};
 
     ghost then = { counts };

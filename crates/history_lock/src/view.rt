@@ -11,9 +11,9 @@ pub enum Phase {
     Idle,
     /// It drew this ticket, and waits.
     Drawn(u64),
-    /// It is its turn: it has the bay.
+    /// It is its turn: it has the machine.
     Busy(u64),
-    /// It has the bay, whose last step it added to the history.
+    /// It has the machine, whose last step it added to the history.
     Added(u64),
 }
 
@@ -60,6 +60,6 @@ pub struct View {
 pub struct About {
     /// How many actors there are.
     pub actors: u64,
-    /// The model of the bay.
+    /// The model of the machine.
     pub model: Model,
 }

@@ -2,3 +2,5 @@
 pub mod Formed
 pub mod Plays
 pub mod Sessions
+-- and of its octets, as a source gives them
+pub mod Runs

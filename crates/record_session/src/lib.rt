@@ -1,8 +1,11 @@
-//! The reading of a record: its octets in pieces, cut into lines, and a bay on which its steps are performed.
+//! The replay of a record: its octets are read in pieces and cut into lines, whose steps are performed on a bay.
 #![tactic(auto)]
 
+// all of it: pieces from a source, and the answers to a sink
+pub mod replay;
+
 // what has been read: pieces, and the lines that end in them
-pub mod reader;
+mod reader;
 mod session;
 
 // the parts of a record, one after another: the first line, the configuration, the steps

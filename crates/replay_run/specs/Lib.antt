@@ -1,3 +1,2 @@
--- What the program answers, and what a replay stands for.
+-- What the program answers.
 pub mod Tool
-pub mod Runs

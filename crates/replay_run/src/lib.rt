@@ -1,8 +1,4 @@
-//! The replay of a record, and all that the program does with its word.
+//! All that the program does with its word: a record is replayed, or a configuration checked.
 #![tactic(auto)]
 
-// all that the program does
 pub mod tool;
-
-// a record, piece by piece
-mod replay;

@@ -1,7 +1,6 @@
 //! All that the program does.
 
-ghost use Rattle.std.specs.Prelude.{◌≡◌, ◌≤◌, ◌<◌, ◌-◌, ◌↔◌, ℕ, List, Option, length, IfSome, IsTrue};
-ghost use Rattle.replay_run.specs.Runs.{IsReady, Run};
+ghost use Rattle.std.specs.Prelude.{◌≡◌, ◌≤◌, ◌↔◌, IfSome};
 ghost use Rattle.sv_io.specs.Causes.{Rose};
 ghost use Rattle.sv_io.specs.Taken.{TakesAtMost};
 ghost use Rattle.record_outcome.specs.Written.{WritesHistory};
@@ -9,54 +8,12 @@ ghost use Rattle.config_check.specs.Checked.{IsChecked, IsOfCheck, Checks};
 ghost use Rattle.replay_run.specs.Tool.{IsReplay, IsCheck, IsCommand};
 ghost use Rattle.record_outcome.specs.Judgements.{IsJudgement, IsOfReplay, Answers};
 
-use crate::replay::Replay;
 use command_line::is_word;
 use config_check::check::check;
 use record_outcome::status::Status;
+use record_session::replay::replay;
 use std::alloc::Global;
 use sv_io::{Sink, Source};
-
-/// Reads pieces of a record until its status is decided.
-fn run<S: Source, K: Sink>(
-    alloc: Global,
-    replay: &mut Replay,
-    source: &mut S,
-    sink: &mut K,
-    piece: &mut [u8],
-) -> Status
-    requires ready { IsReady replay.old }
-    requires some { 0 < length piece.old }
-    ensures told { (left taken : Option (List ℕ)) → Run replay.old.reader left (S.left source.old) taken (K.taken sink.old) replay.old.count → IsJudgement result → IfSome left (λ b. Answers b result taken (K.taken sink.new)) }
-    ensures listed { IsOfReplay result }
-    ensures taken { TakesAtMost (67108865 - replay.old.count) (S.left source.old) (S.left source.new) }
-    ensures read { result ≡ Status.ReadFault → Rose (S.faults source.old) (S.faults source.new) }
-    ensures write { result ≡ Status.WriteFault → Rose (K.faults sink.old) (K.faults sink.new) }
-    ensures later { (S.faults source.old ≤ S.faults source.new) × (K.faults sink.old ≤ K.faults sink.new) }
-{
-    while replay.has_room() {
-        if let Some(status) = replay.turn(alloc, source, sink, piece) {
-            return status;
-        }
-    }
-    replay.at_limit(alloc, source)
-}
-
-/// Replays a record: each line is answered before the next is judged.
-fn replay<S: Source, K: Sink>(alloc: Global, source: &mut S, sink: &mut K) -> Status
-    ensures told { IsJudgement result → IfSome (S.left source.old) (λ b. Answers b result (K.taken sink.old) (K.taken sink.new)) }
-    ensures history { IsJudgement result → IfSome (S.left source.old) (λ b. WritesHistory b result (K.taken sink.old) (K.taken sink.new)) }
-    ensures listed { IsOfReplay result }
-    ensures taken { TakesAtMost 67108865 (S.left source.old) (S.left source.new) }
-    ensures read { result ≡ Status.ReadFault → Rose (S.faults source.old) (S.faults source.new) }
-    ensures write { result ≡ Status.WriteFault → Rose (K.faults sink.old) (K.faults sink.new) }
-    ensures later { (S.faults source.old ≤ S.faults source.new) × (K.faults sink.old ≤ K.faults sink.new) }
-{
-    let mut replay = Replay::new(alloc);
-    let mut piece = [0u8; 16384];
-    let status = run(alloc, &mut replay, source, sink, &mut piece);
-    drop(replay);
-    status
-}
 
 /// Does all that the program does. With the word `replay` it reads a record from the source, and writes the answers to its
 /// lines to the sink; with the word `check` it reads a configuration, and writes what it counts in it.

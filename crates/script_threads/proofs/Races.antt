@@ -79,8 +79,8 @@ legal_joined config p q r j a b = ⊎_elim (λ (e : r.seen ≡ p.seen). subst (I
 abbrev pub scripts_of : List (Known × Script) → List Script
 scripts_of xs = map (λ (x : Known × Script). x.1) xs
 
-abbrev pub parts_of : List Played → List Part
-parts_of ds = map (λ (d : Played). d.part) ds
+abbrev pub parts_of : {M : Type 0} → List (Played M) → List Part
+parts_of {M} ds = map (λ (d : Played M). d.part) ds
 
 not_first : (s : Script) (p : Part) (ss : List Script) (ps : List Part) (k : ℕ) → s.actor ≢ k → beginnings (s ∷ ss) (p ∷ ps) k ≡ beginnings ss ps k
 not_first s p ss ps k ne = ap (λ b. cond b (turns_by k (take (length p.replies.items) s.steps.items)) (beginnings ss ps k)) (ne_eqb s.actor k ne)
@@ -104,7 +104,7 @@ none_below h low high (x ∷ xs) (p ∷ ps) k dealt lt =
     ∙ none_below h low x.0.first xs ps k dealt.2 lt
 
 -- the numbers of one actor's pass
-module _ (h : Site) (x : Known × Script) (d : Played) (q : Known) (fresh : IsFresh h x) (went : Went x.0 x.1 d) (gathered : Gathers d.pass q) where
+module _ {M : Type 0} (h : Site) (x : Known × Script) (d : Played M) (q : Known) (fresh : IsFresh h x) (went : Went x.0 x.1 d) (gathered : Gathers d.pass q) where
   pub number_held : (k : ℕ) → x.0.first ≤ k → k < x.0.first + x.0.count → HasNumber q k × (by k q.seen ≡ by k d.pass.seen)
   number_held k low near = gathered.numbers k (same_numbers x.0 d.pass went.plays.same k (inl (low, near)))
 
@@ -118,7 +118,7 @@ abbrev Held : Known → List Script → List Part → ℕ → Type 0
 Held q ss ps k = HasNumber q k × (by k q.seen ≡ beginnings ss ps k)
 
 -- each number that was dealt is held by q, with the beginning of its script
-pub dealt_held : (h : Site) (low high : ℕ) (xs : List (Known × Script)) (ds : List Played) (q : Known) → Dealt h low high xs → AllWent xs ds → AllGathered q ds
+pub dealt_held : {M : Type 0} (h : Site) (low high : ℕ) (xs : List (Known × Script)) (ds : List (Played M)) (q : Known) → Dealt h low high xs → AllWent xs ds → AllGathered q ds
     → (k : ℕ) → low ≤ k → k < high → Held q (scripts_of xs) (parts_of ds) k
 dealt_held h low high [] ds q dealt went gathered k le lt = absurd (omega (arith, dealt, le, lt))
 dealt_held h low high (x ∷ xs) [] q dealt went gathered k le lt = absurd went
@@ -152,7 +152,7 @@ dealt_held h low high (x ∷ xs) (d ∷ ds) q dealt went gathered k le lt =
         )
 
 -- so is every number below, of which there are no steps
-pub all_held : (h : Site) (p : Known) (high : ℕ) (xs : List (Known × Script)) (ds : List Played) (q : Known) → p.first ≡ 0 → p.seen ≡ [] → Dealt h p.count high xs → AllWent xs ds
+pub all_held : {M : Type 0} (h : Site) (p : Known) (high : ℕ) (xs : List (Known × Script)) (ds : List (Played M)) (q : Known) → p.first ≡ 0 → p.seen ≡ [] → Dealt h p.count high xs → AllWent xs ds
     → Gathers p q → AllGathered q ds → (k : ℕ) → k < high → Held q (scripts_of xs) (parts_of ds) k
 all_held h p high xs ds q first none dealt went own gathered k lt =
     dite (dec_lt k p.count)
@@ -166,7 +166,7 @@ no_more a b k earlier same c =
     let none : by k earlier.0 ≡ [] = nothing_more (by k a) (by k earlier.0) (sym (by-append k earlier.0 a) ∙ (ap (by k) earlier.1 ∙ same)) in
     ap (replies_of c k) (sym earlier.1) ∙ replies_skip c k earlier.0 a none
 
-a_part : (h : Site) (x : Known × Script) (d : Played) (q : Known) → IsFresh h x → Went x.0 x.1 d → Gathers d.pass q → IsPart h.config q.seen x.1 d.part
+a_part : {M : Type 0} (h : Site) (x : Known × Script) (d : Played M) (q : Known) → IsFresh h x → Went x.0 x.1 d → Gathers d.pass q → IsPart h.config q.seen x.1 d.part
 a_part h x d q fresh went gathered = record {
   actor = went.actor;
   few = went.plays.few;
@@ -190,43 +190,43 @@ a_part h x d q fresh went gathered = record {
         ∙ (sym (no_more d.pass.seen q.seen x.0.first gathered.earlier held x.0.config)
         ∙ (λ i. replies_of (fresh.0.1 i) (first i) q.seen))
 
-pub all_parts : (h : Site) (low high : ℕ) (xs : List (Known × Script)) (ds : List Played) (q : Known) → Dealt h low high xs → AllWent xs ds → AllGathered q ds
+pub all_parts : {M : Type 0} (h : Site) (low high : ℕ) (xs : List (Known × Script)) (ds : List (Played M)) (q : Known) → Dealt h low high xs → AllWent xs ds → AllGathered q ds
     → AreParts h.config q.seen (scripts_of xs) (parts_of ds)
 all_parts h low high [] [] q dealt went gathered = tt
 all_parts h low high [] (d ∷ ds) q dealt went gathered = went
 all_parts h low high (x ∷ xs) [] q dealt went gathered = went
 all_parts h low high (x ∷ xs) (d ∷ ds) q dealt went gathered = (a_part h x d q dealt.0 went.0 gathered.0, all_parts h low x.0.first xs ds q dealt.2 went.1 gathered.1)
 
-pub all_more : (p q : Known) (ds : List Played) (d : Played) → AllGathered p ds → Gathers p q → Gathers d.pass q → AllGathered q (ds ++ d ∷ [])
+pub all_more : {M : Type 0} (p q : Known) (ds : List (Played M)) (d : Played M) → AllGathered p ds → Gathers p q → Gathers d.pass q → AllGathered q (ds ++ d ∷ [])
 all_more p q [] d all ours theirs = (theirs, tt)
 all_more p q (x ∷ ds) d all ours theirs = (gathers_more x.pass p q all.0 ours, all_more p q ds d all.1 ours theirs)
 
 -- ---- the race
 
-pub went_all : (xs : List (Known × Script)) (ds : List Played) → length ds ≡ length xs
-    → ((i : ℕ) (x : Known × Script) (d : Played) → i < length xs → Went (get_or xs i x).0 (get_or xs i x).1 (get_or ds i d)) → AllWent xs ds
+pub went_all : {M : Type 0} (xs : List (Known × Script)) (ds : List (Played M)) → length ds ≡ length xs
+    → ((i : ℕ) (x : Known × Script) (d : Played M) → i < length xs → Went (get_or xs i x).0 (get_or xs i x).1 (get_or ds i d)) → AllWent xs ds
 went_all [] [] same each = tt
 went_all [] (d ∷ ds) same each = absurd (omega (arith, same))
 went_all (x ∷ xs) [] same each = absurd (omega (arith, same))
 went_all (x ∷ xs) (d ∷ ds) same each = (each 0 x d (omega arith), went_all xs ds (omega (arith, same)) (λ i y e near. each (suc i) y e (omega (arith, near))))
 
-fine : (h : Site) (x : Known × Script) (d : Played) → IsFresh h x → Went x.0 x.1 d → IsOf h d.pass × IsLegal h.config d.pass.seen
+fine : {M : Type 0} (h : Site) (x : Known × Script) (d : Played M) → IsFresh h x → Went x.0 x.1 d → IsOf h d.pass × IsLegal h.config d.pass.seen
 fine h x d fresh went =
     let same = went.plays.same in
     ((same.0 ∙ fresh.0.0, same.1 ∙ fresh.0.1), subst (λ (c : Config). IsLegal c d.pass.seen) fresh.0.1 (went.plays.legal (subst (IsLegal x.0.config) (sym fresh.3) tt)))
 
-pub all_fine : (h : Site) (low high : ℕ) (xs : List (Known × Script)) (ds : List Played) → Dealt h low high xs → AllWent xs ds
-    → All (λ (d : Played). IsOf h d.pass × IsLegal h.config d.pass.seen) ds
+pub all_fine : {M : Type 0} (h : Site) (low high : ℕ) (xs : List (Known × Script)) (ds : List (Played M)) → Dealt h low high xs → AllWent xs ds
+    → All (λ (d : Played M). IsOf h d.pass × IsLegal h.config d.pass.seen) ds
 all_fine h low high xs [] dealt went k e near = absurd (omega (arith, near))
 all_fine h low high [] (d ∷ ds) dealt went k e near = absurd went
 all_fine h low high (x ∷ xs) (d ∷ ds) dealt went zero e near = fine h x d dealt.0 went.0
 all_fine h low high (x ∷ xs) (d ∷ ds) dealt went (suc k) e near = all_fine h low x.0.first xs ds dealt.2 went.1 k e (omega (arith, near))
 
-pub scripts_paired : {X : Type 0} (jobs : List (Job X)) → scripts_of (map (λ (j : Job X). (j.pass, j.script)) jobs) ≡ map (λ (j : Job X). j.script) jobs
+pub scripts_paired : {M X : Type 0} (jobs : List (Job M X)) → scripts_of (map (λ (j : Job M X). (j.pass, j.script)) jobs) ≡ map (λ (j : Job M X). j.script) jobs
 scripts_paired [] = refl
 scripts_paired (j ∷ jobs) = ap (λ (l : List Script). j.script ∷ l) (scripts_paired jobs)
 
-pub raced : (h : Site) (p q : Known) (xs : List (Known × Script)) (ds : List Played) → IsRest h p.count p → Dealt h p.count 33 xs → AllWent xs ds → Gathers p q → AllGathered q ds
+pub raced : {M : Type 0} (h : Site) (p q : Known) (xs : List (Known × Script)) (ds : List (Played M)) → IsRest h p.count p → Dealt h p.count 33 xs → AllWent xs ds → Gathers p q → AllGathered q ds
     → IsLegal h.config q.seen → ((k : ℕ) → 33 ≤ k → by k q.seen ≡ []) → IsRaced h.config (scripts_of xs) (parts_of ds) q.seen
 raced h p q xs ds rest dealt went own gathered legal beyond = record {
   legal = legal;

@@ -27,7 +27,7 @@ Dealt h low high [] = low ≡ high
 Dealt h low high (x ∷ xs) = IsFresh h x × (x.0.first + x.0.count ≡ high) × Dealt h low x.0.first xs
 
 -- what came of each
-abbrev pub AllWent : List (Known × Script) → List Played → Type 0
+abbrev pub AllWent : {M : Type 0} → List (Known × Script) → List (Played M) → Type 0
 AllWent [] [] = Unit {0}
 AllWent (x ∷ xs) (d ∷ ds) = Went x.0 x.1 d × AllWent xs ds
 AllWent _ _ = ⊥

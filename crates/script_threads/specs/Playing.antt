@@ -23,7 +23,7 @@ pub record Plays (p : Known) (steps : List TimedStep) (replies : List Reply) (q 
   pub legal : IsLegal p.config p.seen → IsLegal p.config q.seen
 
 -- what came of a script that an actor played with the pass p
-pub record Went (p : Known) (script : Script) (played : Played) : Type 0 where
+pub record Went {M : Type 0} (p : Known) (script : Script) (played : Played M) : Type 0 where
   pub actor : played.part.actor ≡ script.actor
   pub plays : Plays p script.steps.items played.part.replies.items played.pass
   pub stops : StopsAt p.config p.first script.steps.items (length played.part.replies.items) played.part.fault played.pass.seen

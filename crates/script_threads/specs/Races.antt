@@ -16,6 +16,6 @@ pub record Gathers (p q : Known) : Type 0 where
   pub numbers : (k : ℕ) → HasNumber p k → HasNumber q k × (by k q.seen ≡ by k p.seen)
 
 -- all passes were joined to q
-abbrev pub AllGathered : Known → List Played → Type 0
+abbrev pub AllGathered : {M : Type 0} → Known → List (Played M) → Type 0
 AllGathered q [] = Unit {0}
 AllGathered q (d ∷ ds) = Gathers d.pass q × AllGathered q ds

@@ -7,6 +7,7 @@ ghost use Rattle.script_threads.specs.Dealing.{IsReady, IsRest, IsFresh, Dealt};
 
 use crate::job::Job;
 use actor_scripts::Actor;
+use bay_histories::StateMachine;
 use history_lock::{History, Pass};
 use std::alloc::{AllocError, Global};
 use sv_io::Gate;
@@ -15,13 +16,13 @@ use sv_io::Gate;
 const TURNS: u64 = 1 << 55;
 
 /// The job of an actor: the pass of the numbers from its own below `above`, and room for its replies.
-fn job_of<G: Gate>(
+fn job_of<M: StateMachine, G: Gate>(
     alloc: Global,
-    history: &History,
-    pass: &mut Pass,
+    history: &History<M>,
+    pass: &mut Pass<M>,
     above: u32,
     actor: Actor<G>,
-) -> Result<Job<G>, AllocError>
+) -> Result<Job<M, G>, AllocError>
     requires pass { IsRest history.now above pass.old }
     requires number { (0 < actor.script.actor) × (actor.script.actor < above) }
     requires steps { CanPlay history.now.config actor.script }
@@ -41,12 +42,12 @@ fn job_of<G: Gate>(
 }
 
 /// The jobs of actors, whose numbers fall from below 33.
-pub fn deal<G: Gate>(
+pub fn deal<M: StateMachine, G: Gate>(
     alloc: Global,
-    history: &History,
-    pass: &mut Pass,
+    history: &History<M>,
+    pass: &mut Pass<M>,
     actors: Vec<Actor<G>>,
-) -> Result<Vec<Job<G>>, AllocError>
+) -> Result<Vec<Job<M, G>>, AllocError>
     requires pass { IsRest history.now 33 pass.old }
     requires numbers { AreFalling 33 (map (λ a. a.script.actor) actors.items) }
     requires steps { All (λ a. CanPlay history.now.config a.script) actors.items }

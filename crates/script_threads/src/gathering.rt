@@ -8,11 +8,16 @@ ghost use Rattle.script_threads.specs.Races.{Gathers, AllGathered};
 
 use crate::job::Played;
 use actor_scripts::Part;
+use bay_histories::StateMachine;
 use history_lock::{History, Pass};
 use std::alloc::{AllocError, Global};
 
 /// Joins a pass, and gives what came of its actor's script.
-fn joined(history: &History, pass: &mut Pass, played: Played) -> Part
+fn joined<M: StateMachine>(
+    history: &History<M>,
+    pass: &mut Pass<M>,
+    played: Played<M>,
+) -> Part
     requires pass { IsOf history.now pass.old }
     requires played { IsOf history.now played.pass }
     ensures part { result ≡ played.part }
@@ -25,11 +30,11 @@ fn joined(history: &History, pass: &mut Pass, played: Played) -> Part
 }
 
 /// Joins the passes of all actors, and gives what came of their scripts.
-pub fn gather(
+pub fn gather<M: StateMachine>(
     alloc: Global,
-    history: &History,
-    pass: &mut Pass,
-    all: Vec<Played>,
+    history: &History<M>,
+    pass: &mut Pass<M>,
+    all: Vec<Played<M>>,
 ) -> Result<Vec<Part>, AllocError>
     requires pass { IsOf history.now pass.old × IsLegal history.now.config pass.old.seen }
     requires played { All (λ d. IsOf history.now d.pass × IsLegal history.now.config d.pass.seen) all.items }

@@ -1,4 +1,4 @@
-//! Scripts that race as threads over one bay, and the one history that they make.
+//! Scripts that race as threads over one state machine, as a bay, and the one history that they make.
 //!
 //! Each script is an actor's: its steps at their moments, in order. It knows no text: what a line of a script is, and how an answer
 //! is written, is a matter of the crates above.

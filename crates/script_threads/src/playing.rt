@@ -8,12 +8,12 @@ ghost use Rattle.script_threads.specs.Dealing.{IsReady};
 
 use crate::job::{Job, Played};
 use actor_scripts::{Part, Reply, TimedStep};
-use bay_histories::StepFault;
+use bay_histories::{StateMachine, StepFault};
 use history_lock::{History, Pass, TurnFault};
 use std::sync::Wait;
 use sv_io::Gate;
 
-/// The bay's refusal, where it is one.
+/// The machine's refusal, where it is one.
 fn step_fault(fault: TurnFault) -> StepFault
     requires { fault ≡ Ended → ⊥ }
     ensures { fault ≡ Step result }
@@ -26,10 +26,10 @@ fn step_fault(fault: TurnFault) -> StepFault
 
 /// Makes the turns of a script, one a step, until one is refused. Before each the actor passes its gate, with the count of its
 /// turns made. It takes no memory but that of the turns.
-pub fn play<R: Wait, G: Gate>(
+pub fn play<R: Wait, M: StateMachine, G: Gate>(
     rt: &R,
-    history: &History,
-    pass: &mut Pass,
+    history: &History<M>,
+    pass: &mut Pass<M>,
     gate: &mut G,
     steps: &[TimedStep],
     replies: &mut Vec<Reply>,
@@ -53,7 +53,11 @@ pub fn play<R: Wait, G: Gate>(
 }
 
 /// Plays the script of a job.
-pub fn play_job<R: Wait, G: Gate>(rt: &R, history: &History, job: Job<G>) -> Played
+pub fn play_job<R: Wait, M: StateMachine, G: Gate>(
+    rt: &R,
+    history: &History<M>,
+    job: Job<M, G>,
+) -> Played<M>
     requires { IsReady history.now job.pass job.script job.replies }
     ensures { Went job.pass job.script result }
 {

@@ -1,9 +1,8 @@
-//! Scripts race as threads over one bay.
+//! Scripts race as threads over one state machine.
 
 ghost use Rattle.std.specs.Prelude.{◌≡◌, ◌<◌, ℕ, [], map, length, IfOk, slice_index_or};
 ghost use Rattle.std.specs.List.{All};
 ghost use Rattle.bay_model.specs.Answers.{History as TheHistory};
-ghost use Rattle.bay_core.specs.Standing.{StandsFor};
 ghost use Rattle.history_lock.specs.Passes.{Known, HasNumber, first_of};
 ghost use Rattle.script_threads.specs.declared.job.Played.{Played as TheGiven};
 ghost use Rattle.actor_scripts.specs.declared.script.Script.{Script as TheScript};
@@ -18,7 +17,7 @@ use crate::gathering::gather;
 use crate::job::{Job, Played};
 use crate::playing::play_job;
 use actor_scripts::{Actor, Part};
-use bay_core::Bay;
+use bay_histories::StateMachine;
 use history_lock::{History, Pass};
 use std::alloc::{AllocError, Global};
 use std::sync::Wait;
@@ -38,20 +37,20 @@ pub struct Raced {
 }
 
 /// Each actor plays in a thread of its own.
-fn play_all<R: Threads + Wait + Sync, G: Gate>(
+fn play_all<R: Threads + Wait + Sync, M: StateMachine, G: Gate>(
     rt: &R,
-    history: &History,
-    jobs: Vec<Job<G>>,
-) -> Result<Vec<Played>, AllocError>
+    history: &History<M>,
+    jobs: Vec<Job<M, G>>,
+) -> Result<Vec<Played<M>>, AllocError>
     requires { All (λ j. IsReady history.now j.pass j.script j.replies) jobs.items }
     ensures len { IfOk result (λ v. length v.items ≡ length jobs.items) }
-    ensures each { IfOk result (λ v. (i : ℕ) (x : Known × TheScript) (d : TheGiven) → i < length jobs.items
+    ensures each { IfOk result (λ v. (i : ℕ) (x : Known × TheScript) (d : TheGiven M) → i < length jobs.items
         → Went (slice_index_or (map (λ j. (j.pass, j.script)) jobs.items) i x).0 (slice_index_or (map (λ j. (j.pass, j.script)) jobs.items) i x).1 (slice_index_or v.items i d)) }
 {
     map_vec(
         rt,
         jobs,
-        &|job: Job<G>| -> Played
+        &|job: Job<M, G>| -> Played<M>
             requires { IsReady history.now job.pass job.script job.replies }
             ensures { Went job.pass job.script result }
         { play_job(rt, history, job) },
@@ -60,11 +59,11 @@ fn play_all<R: Threads + Wait + Sync, G: Gate>(
 
 /// Deals the numbers of a history that has no step, lets each actor play in a thread of its own, and joins their passes: what came
 /// of the scripts.
-fn play_scripts<R: Threads + Wait + Sync, G: Gate>(
+fn play_scripts<R: Threads + Wait + Sync, M: StateMachine, G: Gate>(
     rt: &R,
     alloc: Global,
-    history: &History,
-    pass: &mut Pass,
+    history: &History<M>,
+    pass: &mut Pass<M>,
     actors: Vec<Actor<G>>,
 ) -> Result<Vec<Part>, AllocError>
     requires pass { IsRest history.now 33 pass.old }
@@ -79,11 +78,11 @@ fn play_scripts<R: Threads + Wait + Sync, G: Gate>(
 }
 
 /// Runs scripts over a history that has no step.
-fn run<R: Threads + Wait + Sync, G: Gate>(
+fn run<R: Threads + Wait + Sync, M: StateMachine, G: Gate>(
     rt: &R,
     alloc: Global,
-    history: History,
-    pass: Pass,
+    history: History<M>,
+    pass: Pass<M>,
     actors: Vec<Actor<G>>,
 ) -> Result<Raced, AllocError>
     requires actors { history.actors ≡ 33 }
@@ -105,21 +104,21 @@ fn run<R: Threads + Wait + Sync, G: Gate>(
     Ok(Raced { total, parts })
 }
 
-/// Runs scripts over a bay that has made no step, each actor in a thread of its own, one turn a step. An actor stops at its first
+/// Runs scripts over a machine that has made no step, each actor in a thread of its own, one turn a step. An actor stops at its first
 /// turn that is refused. The actors' numbers fall, from 32 or below; of what they do at once nothing is claimed.
 ///
 /// Fails for want of memory alone; want of it in a turn is that turn's fault.
-pub fn race<R: Threads + Wait + Sync, G: Gate>(
+pub fn race<R: Threads + Wait + Sync, M: StateMachine, G: Gate>(
     rt: &R,
     alloc: Global,
-    bay: Bay,
+    machine: M,
     actors: Vec<Actor<G>>,
 ) -> Result<Raced, AllocError>
-    requires bay { StandsFor bay bay.config [] }
+    requires machine { M.stands machine (M.config machine) [] }
     requires numbers { AreFalling 33 (map (λ a. a.script.actor) actors.items) }
-    requires steps { All (λ a. CanPlay bay.config a.script) actors.items }
-    ensures { IfOk result (λ r. (h : TheHistory) × (r.total ≡ length h) × IsRaced bay.config (map (λ a. a.script) actors.items) r.parts.items h) }
+    requires steps { All (λ a. CanPlay (M.config machine) a.script) actors.items }
+    ensures { IfOk result (λ r. (h : TheHistory) × (r.total ≡ length h) × IsRaced (M.config machine) (map (λ a. a.script) actors.items) r.parts.items h) }
 {
-    let (history, pass) = History::new(alloc, bay, ACTORS)?;
+    let (history, pass) = History::new(alloc, machine, ACTORS)?;
     run(rt, alloc, history, pass, actors)
 }

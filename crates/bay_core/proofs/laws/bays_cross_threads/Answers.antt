@@ -1,5 +1,6 @@
 -- why `laws::bays_cross_threads` answers as its contract says
-use Rattle.bay_core.proofs.SendLaws.{bay_send, step_send, answer_send}
+use Rattle.bay_histories.proofs.SendLaws.{step_send, answer_send}
+use Rattle.bay_core.proofs.SendLaws.{bay_send}
 use Rattle.bay_core.proofs.SyncLaws.{step_sync}
 use Rattle.bay_core.proofs.laws.bays_cross_threads.Goals as goal
 

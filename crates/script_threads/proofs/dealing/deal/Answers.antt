@@ -12,31 +12,32 @@ use Rattle.actor_scripts.proofs.Lists.{map_last}
 use Rattle.script_threads.proofs.Races.{dealt_more}
 use Rattle.script_threads.proofs.dealing.deal.Goals as goal
 
-module _ {X : Type 0} where
+module _ {M X : Type 0} where
   -- the scripts of jobs and of the actors that are left
-  scripts_more : (jobs after : List (Job X)) (job : Job X) (actor : Actor X) (left rest : List (Actor X)) (all : List Script) → after ≡ jobs ++ job ∷ [] → job.script ≡ actor.script
-      → left ≡ actor ∷ rest → map (λ (j : Job X). j.script) jobs ++ map (λ (a : Actor X). a.script) left ≡ all
-      → map (λ (j : Job X). j.script) after ++ map (λ (a : Actor X). a.script) rest ≡ all
+  scripts_more : (jobs after : List (Job M X)) (job : Job M X) (actor : Actor X) (left rest : List (Actor X)) (all : List Script) → after ≡ jobs ++ job ∷ [] → job.script ≡ actor.script
+      → left ≡ actor ∷ rest → map (λ (j : Job M X). j.script) jobs ++ map (λ (a : Actor X). a.script) left ≡ all
+      → map (λ (j : Job M X). j.script) after ++ map (λ (a : Actor X). a.script) rest ≡ all
   scripts_more jobs after job actor left rest all pushed same next is =
-      let scripts = map (λ (j : Job X). j.script) jobs in
+      let scripts = map (λ (j : Job M X). j.script) jobs in
       let others = map (λ (a : Actor X). a.script) rest in
-      ap (λ (l : List (Job X)). map (λ (j : Job X). j.script) l ++ others) pushed
-      ∙ (ap (λ (l : List Script). l ++ others) (map_last (λ (j : Job X). j.script) jobs job)
+      ap (λ (l : List (Job M X)). map (λ (j : Job M X). j.script) l ++ others) pushed
+      ∙ (ap (λ (l : List Script). l ++ others) (map_last (λ (j : Job M X). j.script) jobs job)
       ∙ (append_assoc scripts (job.script ∷ []) others
       ∙ (ap (λ (s : Script). scripts ++ s ∷ others) same
       ∙ (ap (λ (l : List (Actor X)). scripts ++ map (λ (a : Actor X). a.script) l) (sym next) ∙ is))))
 
-  dealt_all : (h : Site) (above n : ℕ) (jobs after : List (Job X)) (job : Job X) → after ≡ jobs ++ job ∷ [] → job.pass.first ≡ n
-      → Dealt h job.pass.first 33 (map (λ (j : Job X). (j.pass, j.script)) jobs ++ (job.pass, job.script) ∷ [])
-      → Dealt h n 33 (map (λ (j : Job X). (j.pass, j.script)) after)
+  dealt_all : (h : Site) (above n : ℕ) (jobs after : List (Job M X)) (job : Job M X) → after ≡ jobs ++ job ∷ [] → job.pass.first ≡ n
+      → Dealt h job.pass.first 33 (map (λ (j : Job M X). (j.pass, j.script)) jobs ++ (job.pass, job.script) ∷ [])
+      → Dealt h n 33 (map (λ (j : Job M X). (j.pass, j.script)) after)
   dealt_all h above n jobs after job pushed first dealt =
-      subst (λ (m : ℕ). Dealt h m 33 (map (λ (j : Job X). (j.pass, j.script)) after)) first
-      (subst (Dealt h job.pass.first 33) (sym (ap (map (λ (j : Job X). (j.pass, j.script))) pushed ∙ map_last (λ (j : Job X). (j.pass, j.script)) jobs job)) dealt)
+      subst (λ (m : ℕ). Dealt h m 33 (map (λ (j : Job M X). (j.pass, j.script)) after)) first
+      (subst (Dealt h job.pass.first 33) (sym (ap (map (λ (j : Job M X). (j.pass, j.script))) pushed ∙ map_last (λ (j : Job M X). (j.pass, j.script)) jobs job)) dealt)
 
-  ready_all : (h : Site) (jobs after : List (Job X)) (job : Job X) → after ≡ jobs ++ job ∷ [] → All (λ (j : Job X). IsReady h j.pass j.script j.replies) jobs
-      → IsReady h job.pass job.script job.replies → All (λ (j : Job X). IsReady h j.pass j.script j.replies) after
-  ready_all h jobs after job pushed all is = subst (All (λ (j : Job X). IsReady h j.pass j.script j.replies)) (sym pushed) (All-push (λ (j : Job X). IsReady h j.pass j.script j.replies) jobs job all is)
+  ready_all : (h : Site) (jobs after : List (Job M X)) (job : Job M X) → after ≡ jobs ++ job ∷ [] → All (λ (j : Job M X). IsReady h j.pass j.script j.replies) jobs
+      → IsReady h job.pass job.script job.replies → All (λ (j : Job M X). IsReady h j.pass j.script j.replies) after
+  ready_all h jobs after job pushed all is = subst (All (λ (j : Job M X). IsReady h j.pass j.script j.replies)) (sym pushed) (All-push (λ (j : Job M X). IsReady h j.pass j.script j.replies) jobs job all is)
 
+module _ {X : Type 0} where
   falls_on : (above : ℕ) (actor : Actor X) (left rest : List (Actor X)) → left ≡ actor ∷ rest → AreFalling above (map (λ (a : Actor X). a.script.actor) left)
       → AreFalling actor.script.actor (map (λ (a : Actor X). a.script.actor) rest)
   falls_on above actor left rest next falls = (subst (λ (l : List (Actor X)). AreFalling above (map (λ (a : Actor X). a.script.actor) l)) next falls).2

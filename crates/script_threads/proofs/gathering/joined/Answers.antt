@@ -5,7 +5,7 @@ use Rattle.script_threads.proofs.Races.{gathers_ours, gathers_theirs}
 use Rattle.script_threads.proofs.gathering.joined.Goals as goal
 
 pub returns-clause-pass : goal.returns-clause-pass
-returns-clause-pass c =
+returns-clause-pass g c =
     let j : Joined c.args.pass.now c.args.played.pass c.join.new.pass = c.join.ensures in (
       (j.place.0 ∙ c.requires.pass.0, j.place.1 ∙ c.requires.pass.1),
       gathers_ours c.args.pass.now c.args.played.pass c.join.new.pass j,

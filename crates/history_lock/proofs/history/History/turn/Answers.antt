@@ -1,15 +1,14 @@
 -- why `history::History::turn` answers as its contract says
 use Rattle.std.proofs.Common.{◌++◌, ◌+◌, ◌-◌, ◌<◌, Ok, Err, subst}
 use Rattle.history_lock.specs.declared.fault.TurnFault.TheVariants as faults
-use Rattle.history_lock.specs.contracts.history.Pass.{the_view}
 use Rattle.history_lock.specs.Passes.{Known, Turned}
-use Rattle.history_lock.proofs.Passing.{turned_ok, turned_err, own_ok, own_err, told_ok, told_err, placed_ok, placed_err, process_goes}
+use Rattle.history_lock.proofs.Passing.{known_of, turned_ok, turned_err, own_ok, own_err, told_ok, told_err, placed_ok, placed_err, process_goes}
 use Rattle.history_lock.proofs.history.History.turn.Goals as goal
 
 pub returns-in-Ok-clause-turn : goal.returns-in-Ok-clause-turn
 returns-in-Ok-clause-turn g c =
     subst (λ (p : Known). Turned p c.args.moment c.args.step.now (Ok (c.in-Ok.answer, c.in-Ok.place))
-    (the_view record {
+    (known_of record {
       seat = c.take_turn.new.seat;
       first = c.pass.inside.first;
       count = c.pass.inside.count;
@@ -22,7 +21,7 @@ returns-in-Ok-clause-turn g c =
 pub returns-in-Err-clause-turn : goal.returns-in-Err-clause-turn
 returns-in-Err-clause-turn g c =
     subst (λ (p : Known). Turned p c.args.moment c.args.step.now (Err (faults.Step c.in-Err.fault))
-    (the_view record {
+    (known_of record {
       seat = c.take_turn.new.seat;
       first = c.pass.inside.first;
       count = c.pass.inside.count;
@@ -34,7 +33,7 @@ returns-in-Err-clause-turn g c =
 
 pub returns-in-Ok-clause-own : goal.returns-in-Ok-clause-own
 returns-in-Ok-clause-own g c =
-    own_ok c.args.pass.now (the_view record {
+    own_ok c.args.pass.now (known_of record {
       seat = c.take_turn.new.seat;
       first = c.pass.inside.first;
       count = c.pass.inside.count;
@@ -45,7 +44,7 @@ returns-in-Ok-clause-own g c =
 
 pub returns-in-Err-clause-own : goal.returns-in-Err-clause-own
 returns-in-Err-clause-own g c =
-    own_err c.args.pass.now (the_view record {
+    own_err c.args.pass.now (known_of record {
       seat = c.take_turn.new.seat;
       first = c.pass.inside.first;
       count = c.pass.inside.count;
@@ -56,7 +55,7 @@ returns-in-Err-clause-own g c =
 
 pub returns-in-Ok-clause-told : goal.returns-in-Ok-clause-told
 returns-in-Ok-clause-told g c =
-    told_ok c.args.pass.now (the_view record {
+    told_ok c.args.pass.now (known_of record {
       seat = c.take_turn.new.seat;
       first = c.pass.inside.first;
       count = c.pass.inside.count;
@@ -67,7 +66,7 @@ returns-in-Ok-clause-told g c =
 
 pub returns-in-Err-clause-told : goal.returns-in-Err-clause-told
 returns-in-Err-clause-told g c =
-    told_err c.args.pass.now (the_view record {
+    told_err c.args.pass.now (known_of record {
       seat = c.take_turn.new.seat;
       first = c.pass.inside.first;
       count = c.pass.inside.count;
@@ -78,7 +77,7 @@ returns-in-Err-clause-told g c =
 
 pub returns-in-Ok-clause-placed : goal.returns-in-Ok-clause-placed
 returns-in-Ok-clause-placed g c =
-    placed_ok c.args.pass.now (the_view record {
+    placed_ok c.args.pass.now (known_of record {
       seat = c.take_turn.new.seat;
       first = c.pass.inside.first;
       count = c.pass.inside.count;
@@ -89,7 +88,7 @@ returns-in-Ok-clause-placed g c =
 
 pub returns-in-Err-clause-placed : goal.returns-in-Err-clause-placed
 returns-in-Err-clause-placed g c =
-    placed_err c.args.pass.now (the_view record {
+    placed_err c.args.pass.now (known_of record {
       seat = c.take_turn.new.seat;
       first = c.pass.inside.first;
       count = c.pass.inside.count;

@@ -1,18 +1,19 @@
-//! A replay: pieces of a record read, and the answers handed on.
+//! A replay: a record is read in pieces, and the answers are handed on.
 
-ghost use Rattle.std.specs.Prelude.{◌≡◌, ◌≤◌, ◌<◌, ◌+◌, ◌^◌, [], length, IfOk, IfSome, IfNone, OnOk};
+ghost use Rattle.std.specs.Prelude.{◌≡◌, ◌≢◌, ◌≤◌, ◌<◌, ◌+◌, ◌-◌, ◌^◌, ℕ, List, [], suc, length, Option, IfOk, IfSome, IfNone, OnOk};
 ghost use Rattle.std.specs.Io.KnownBytes.{Appends};
 ghost use Rattle.sv_io.specs.Causes.{HasCause, Rose};
 ghost use Rattle.record_outcome.specs.Records.{NoNewline, has_begun, ended};
 ghost use Rattle.record_session.specs.Sessions.{Takes, steps_in, IsEarly, IsAt};
-ghost use Rattle.record_outcome.specs.Judgements.{IsJudgement, IsOfReplay};
-ghost use Rattle.std.specs.Prelude.{suc};
+ghost use Rattle.sv_io.specs.Taken.{TakesAtMost};
+ghost use Rattle.record_outcome.specs.Judgements.{IsJudgement, IsOfReplay, Answers};
+ghost use Rattle.record_outcome.specs.Written.{WritesHistory};
+ghost use Rattle.record_session.specs.Runs.{IsReady, Run};
 ghost use Rattle.record_outcome.specs.Moves.{Place};
-ghost use Rattle.std.specs.Prelude.{◌≢◌};
 
+use crate::reader::Reader;
 use record_outcome::limits::MOST_OCTETS;
 use record_outcome::status::Status;
-use record_session::reader::Reader;
 use std::alloc::{AllocError, Global};
 use sv_io::{Failed, Sink, Source, read_piece};
 
@@ -100,7 +101,7 @@ impl Replay {
     ghost use Rattle.std.specs.Prelude.{◌≡◌, ◌≢◌, ◌≤◌, ◌<◌, ◌-◌, ℕ, List, Option, None, length, IfNone, IfSome};
     ghost use Rattle.std.specs.Bool.{MatchBool};
     ghost use Rattle.sv_io.specs.Causes.{Rose};
-    ghost use Rattle.replay_run.specs.Runs.{IsReady, Run, Turns};
+    ghost use Rattle.record_session.specs.Runs.{IsReady, Run, Turns};
     ghost use Rattle.record_outcome.specs.Judgements.{IsJudgement, IsOfReplay, Answers};
     ghost use Rattle.sv_io.specs.Taken.{TakesAtMost};
     ghost use Rattle.record_outcome.specs.declared.status.Status.TheVariants as statuses;
@@ -189,4 +190,46 @@ impl Replay {
             Err(Failed) => Status::ReadFault,
         }
     }
+}
+
+/// Reads pieces of a record until its status is decided.
+fn run<S: Source, K: Sink>(
+    alloc: Global,
+    replay: &mut Replay,
+    source: &mut S,
+    sink: &mut K,
+    piece: &mut [u8],
+) -> Status
+    requires ready { IsReady replay.old }
+    requires some { 0 < length piece.old }
+    ensures told { (left taken : Option (List ℕ)) → Run replay.old.reader left (S.left source.old) taken (K.taken sink.old) replay.old.count → IsJudgement result → IfSome left (λ b. Answers b result taken (K.taken sink.new)) }
+    ensures listed { IsOfReplay result }
+    ensures taken { TakesAtMost (67108865 - replay.old.count) (S.left source.old) (S.left source.new) }
+    ensures read { result ≡ Status.ReadFault → Rose (S.faults source.old) (S.faults source.new) }
+    ensures write { result ≡ Status.WriteFault → Rose (K.faults sink.old) (K.faults sink.new) }
+    ensures later { (S.faults source.old ≤ S.faults source.new) × (K.faults sink.old ≤ K.faults sink.new) }
+{
+    while replay.has_room() {
+        if let Some(status) = replay.turn(alloc, source, sink, piece) {
+            return status;
+        }
+    }
+    replay.at_limit(alloc, source)
+}
+
+/// Replays a record: each line is answered before the next is judged.
+pub fn replay<S: Source, K: Sink>(alloc: Global, source: &mut S, sink: &mut K) -> Status
+    ensures told { IsJudgement result → IfSome (S.left source.old) (λ b. Answers b result (K.taken sink.old) (K.taken sink.new)) }
+    ensures history { IsJudgement result → IfSome (S.left source.old) (λ b. WritesHistory b result (K.taken sink.old) (K.taken sink.new)) }
+    ensures listed { IsOfReplay result }
+    ensures taken { TakesAtMost 67108865 (S.left source.old) (S.left source.new) }
+    ensures read { result ≡ Status.ReadFault → Rose (S.faults source.old) (S.faults source.new) }
+    ensures write { result ≡ Status.WriteFault → Rose (K.faults sink.old) (K.faults sink.new) }
+    ensures later { (S.faults source.old ≤ S.faults source.new) × (K.faults sink.old ≤ K.faults sink.new) }
+{
+    let mut replay = Replay::new(alloc);
+    let mut piece = [0u8; 16384];
+    let status = run(alloc, &mut replay, source, sink, &mut piece);
+    drop(replay);
+    status
 }

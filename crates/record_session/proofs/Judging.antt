@@ -7,7 +7,7 @@ use Rattle.std.proofs.lemmas.List.{take_all, take-append-le}
 use Rattle.record_outcome.specs.Moves.{Place, opening}
 use Rattle.record_outcome.specs.Records.{Outcome, limit, pieces, run, has_begun, ended, outcome, NoNewline}
 use Rattle.record_session.specs.Sessions.{IsAt, Stopped, Fed, Takes}
-use Rattle.replay_run.specs.Runs.{Run}
+use Rattle.record_session.specs.Runs.{Run}
 use Rattle.record_outcome.specs.Judgements.{Answers}
 use Rattle.record_session.specs.declared.reader.Reader.{Reader}
 use Rattle.record_outcome.specs.declared.status.Status.{Status}

@@ -1,8 +1,8 @@
 -- why `replay::Replay::at_limit` answers as its contract says
 use Rattle.std.proofs.Common.{◌≡◌, ◌<◌, [], length, take, subst, arith, rules, length-take}
 use Rattle.std.specs.Io.KnownBytes.{Consumes}
-use Rattle.replay_run.proofs.Judging.{run-ends, run-passes}
-use Rattle.replay_run.proofs.replay.Replay.at_limit.Goals as goal
+use Rattle.record_session.proofs.Judging.{run-ends, run-passes}
+use Rattle.record_session.proofs.replay.Replay.at_limit.Goals as goal
 
 pub returns-in-Ok-eq0-clause-told : goal.returns-in-Ok-eq0-clause-told
 returns-in-Ok-eq0-clause-told g c = λ left taken told r j.

@@ -1,11 +1,11 @@
 -- why `replay::Replay::turn` answers as its contract says
 use Rattle.std.proofs.Common.{◌≡◌, ◌≤◌, ◌+◌, [], length, take, subst, arith, length-take}
 use Rattle.std.specs.Io.KnownBytes.{Consumes}
-use Rattle.replay_run.specs.Runs.{Run}
-use Rattle.replay_run.proofs.Judging.{run-more, run-stops, run-ends}
+use Rattle.record_session.specs.Runs.{Run}
+use Rattle.record_session.proofs.Judging.{run-more, run-stops, run-ends}
 use Rattle.record_outcome.specs.declared.status.Status.TheVariants as statuses
 use Rattle.record_outcome.proofs.StatusLaws.{judged_replay, judged_read, judged_write}
-use Rattle.replay_run.proofs.replay.Replay.turn.Goals as goal
+use Rattle.record_session.proofs.replay.Replay.turn.Goals as goal
 
 pub returns-then-length-eq0-clause-turns : goal.returns-then-length-eq0-clause-turns
 returns-then-length-eq0-clause-turns g c = λ left taken r j.

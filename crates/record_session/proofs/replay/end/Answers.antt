@@ -1,6 +1,6 @@
 -- why `replay::end` answers as its contract says
 use Rattle.record_outcome.proofs.StatusLaws.{judged_replay, judged_read, judged_write}
-use Rattle.replay_run.proofs.replay.end.Goals as goal
+use Rattle.record_session.proofs.replay.end.Goals as goal
 
 pub returns-in-Ok-clause-status : goal.returns-in-Ok-clause-status
 returns-in-Ok-clause-status c = λ j. c.in-Ok.ensures.status

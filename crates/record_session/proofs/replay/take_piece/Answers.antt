@@ -1,7 +1,7 @@
 -- why `replay::take_piece` answers as its contract says
 use Rattle.std.proofs.Common.{◌++◌, ap, subst, ◌∙◌}
 use Rattle.std.specs.Io.KnownBytes.{Appends}
-use Rattle.replay_run.proofs.replay.take_piece.Goals as goal
+use Rattle.record_session.proofs.replay.take_piece.Goals as goal
 
 pub returns-in-Ok-flush-clause-takes : goal.returns-in-Ok-flush-clause-takes
 returns-in-Ok-flush-clause-takes g c = λ so_far written f.

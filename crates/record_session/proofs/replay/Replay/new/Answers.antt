@@ -1,7 +1,7 @@
 -- why `replay::Replay::new` answers as its contract says
 use Rattle.std.proofs.Common.{arith}
-use Rattle.replay_run.proofs.Judging.{run-none}
-use Rattle.replay_run.proofs.replay.Replay.new.Goals as goal
+use Rattle.record_session.proofs.Judging.{run-none}
+use Rattle.record_session.proofs.replay.Replay.new.Goals as goal
 
 pub returns-clause-run : goal.returns-clause-run
 returns-clause-run c = λ left taken. run-none c.new.result left taken c.new.ensures.fed

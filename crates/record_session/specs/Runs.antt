@@ -5,7 +5,7 @@ use Rattle.record_outcome.specs.Records.{NoNewline, limit}
 use Rattle.record_session.specs.Sessions.{Fed, steps_in, IsEarly}
 use Rattle.record_outcome.specs.Judgements.{IsJudgement, Answers}
 use Rattle.record_session.specs.declared.reader.Reader.{Reader}
-use Rattle.replay_run.specs.declared.replay.Replay.{Replay}
+use Rattle.record_session.specs.declared.replay.Replay.{Replay}
 use Rattle.record_outcome.specs.declared.status.Status.{Status}
 
 -- between two pieces

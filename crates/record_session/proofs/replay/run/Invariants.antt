@@ -1,9 +1,9 @@
--- what the loops of `tool::run` keep, and why they end
+-- what the loops of `replay::run` keep, and why they end
 use Rattle.std.proofs.Common.{◌≤◌, ◌<◌, ◌-◌, ℕ, List, length}
 use Rattle.std.specs.Prelude.{Option}
-use Rattle.replay_run.specs.Runs.{IsReady, Run}
+use Rattle.record_session.specs.Runs.{IsReady, Run}
 use Rattle.sv_io.specs.Taken.{TakesAtMost}
-use Rattle.replay_run.proofs.tool.run.Given as goal
+use Rattle.record_session.proofs.replay.run.Given as goal
 
 abbrev pub invariant-loop-replay : goal.invariant-loop-replay
 invariant-loop-replay g l = record {

@@ -1,7 +1,7 @@
--- why `tool::run` answers as its contract says
+-- why `replay::run` answers as its contract says
 use Rattle.std.proofs.Common.{arith, ◌-◌}
 use Rattle.sv_io.proofs.TakenLaws.{takes-none, takes-more}
-use Rattle.replay_run.proofs.tool.run.Goals as goal
+use Rattle.record_session.proofs.replay.run.Goals as goal
 
 pub returns-in-Some-clause-told : goal.returns-in-Some-clause-told
 returns-in-Some-clause-told g c = λ left taken r j.

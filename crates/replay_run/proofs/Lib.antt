@@ -1,2 +1,0 @@
--- The laws of a replay's pieces.
-pub mod Judging
