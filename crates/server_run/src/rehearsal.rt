@@ -2,17 +2,12 @@
 
 ghost use Rattle.std.specs.Prelude.{◌≡◌, ◌≢◌, ◌≤◌, List, [], length, take, map, IfOk, IfSome};
 ghost use Rattle.std.specs.List.{All};
-ghost use Rattle.bay_config.specs.Servable.{IsServable};
-ghost use Rattle.bay_core.specs.Standing.{StandsFor};
-ghost use Rattle.bay_model.specs.Answers.{History as TheHistory};
 ghost use Rattle.sv_io.specs.Taken.{TakesAtMost};
 ghost use Rattle.sv_io.specs.Causes.{Rose};
 ghost use Rattle.script_reading.specs.Inputs.{Outcome, outcome};
 ghost use Rattle.script_reading.specs.Plans.{Plan as ThePlan};
 ghost use Rattle.script_reading.specs.Readings.{plan_seen};
 ghost use Rattle.script_reading.specs.Sound.{IsSound};
-ghost use Rattle.actor_scripts.specs.Actors.{AreFalling, CanPlay};
-ghost use Rattle.actor_scripts.specs.Raced.{IsRaced};
 ghost use Rattle.actor_scripts.specs.declared.script.Script.{Script as ThePart};
 ghost use Rattle.bay_model.specs.Points.{least_moment};
 ghost use Rattle.std.specs.Prelude.{◌++◌, codes};
@@ -22,14 +17,14 @@ ghost use Rattle.server_run.specs.Races.{IsOfPlan, IsOfRace};
 ghost use Rattle.server_run.specs.Rehearsals.{most, Performs, PerformsInput, Rehearses, IsListed};
 
 use actor_scripts::{Actor, Made, merge};
-use bay_core::Bay;
+use bay_races::race_over;
 use object_model::Model;
 use race_records::{lacks_memory, lowest_full, write_answers, write_record};
 use record_outcome::limits::MOST_OCTETS;
 use record_outcome::status::Status;
 use script_casting::{cast, part};
 use script_reading::{MOST_SCRIPTS, Plan, Script, StepLine, read_rehearsal};
-use script_threads::{Raced, race};
+use script_threads::Raced;
 use std::alloc::{AllocError, Global};
 use std::sync::Wait;
 use std::thread::Threads;
@@ -37,36 +32,6 @@ use sv_io::{Failed, Gate, OpenGate, Sink, Source, Unread, read_whole};
 
 /// One octet more than an input may have.
 const MOST: usize = MOST_OCTETS + 1;
-
-/// A bay of a model, which stays.
-fn open_bay(alloc: Global, model: &Model) -> Result<Bay, AllocError>
-    requires { IsServable model.now }
-    ensures { IfOk result (λ b. (b.config ≡ model.now) × StandsFor b b.config []) }
-{
-    let copy = model.copy(alloc)?;
-    Bay::open(alloc, copy)
-}
-
-/// Opens a bay of a model, and lets actors race over it.
-fn race_over<R: Threads + Wait + Sync, G: Gate>(
-    rt: &R,
-    alloc: Global,
-    model: &Model,
-    actors: Vec<Actor<G>>,
-) -> Result<Raced, AllocError>
-    requires model { IsServable model.now }
-    requires numbers { AreFalling 33 (map (λ a. a.script.actor) actors.items) }
-    requires steps { All (λ a. CanPlay model.now a.script) actors.items }
-    ensures { IfOk result (λ r. (h : TheHistory) × (r.total ≡ length h) × IsRaced model.now (map (λ a. a.script) actors.items) r.parts.items h) }
-{
-    match open_bay(alloc, model) {
-        Ok(bay) => race(rt, alloc, bay, actors),
-        Err(error) => {
-            drop(actors);
-            Err(error)
-        }
-    }
-}
 
 /// The record of steps that were made, and the answers to it.
 fn record_of(

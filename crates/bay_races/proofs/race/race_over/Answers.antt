@@ -1,9 +1,9 @@
--- why `rehearsal::race_over` answers as its contract says
+-- why `race::race_over` answers as its contract says
 use Rattle.std.proofs.Common.{subst, sym}
 use Rattle.std.specs.List.{All}
 use Rattle.actor_scripts.specs.Actors.{CanPlay}
 use Rattle.actor_scripts.specs.declared.script.Actor.{Actor}
-use Rattle.server_run.proofs.rehearsal.race_over.Goals as goal
+use Rattle.bay_races.proofs.race.race_over.Goals as goal
 
 pub race-requires-clause-steps : goal.race-requires-clause-steps
 race-requires-clause-steps g c κs within = subst (λ k. All (λ (a : Actor _). CanPlay k a.script) c.args.actors.items) (sym c.in-Ok.ensures.0) c.requires.steps

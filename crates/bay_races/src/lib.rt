@@ -1,0 +1,6 @@
+//! Scripts that race as threads over one bay.
+#![tactic(auto)]
+
+mod race;
+
+pub use race::race_over;
