@@ -12,8 +12,8 @@ ghost use Rattle.record_steps.specs.Own.{IsFittingPart};
 ghost use Rattle.record_steps.specs.Streams.{IsWired, wired_by, wired_through, lost_by, asked_heard, heard_by, heard_fault, heard_through};
 
 use answer_text::{push_aborted, push_fault, push_frame, push_released};
-use bay_answers::read_request;
 use bay_model::Step;
+use bay_requests::read_request;
 use object_model::Model;
 use osi_stack::{Event, Line, StackFault};
 use std::alloc::{AllocError, Global};
