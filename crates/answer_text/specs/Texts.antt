@@ -1,5 +1,5 @@
 -- The answer lines of an association, in its shape.
-use Rattle.std.specs.Prelude.{◌≤◌, ℕ, Bool, List, [], ◌∷◌, ◌++◌, codes, decimal, Option, None, Some, Ok, Err, slice_get, if◌then◌else◌}
+use Rattle.std.specs.Prelude.{ℕ, Bool, List, [], ◌∷◌, ◌++◌, codes, decimal, Option, None, Some, Ok, Err, slice_get, if◌then◌else◌}
 use Rattle.std.specs.List.{flat_map}
 use Rattle.hex.specs.Hex.{encode_lower}
 use Rattle.sv_base.specs.declared.config.Config.{Config}
@@ -17,12 +17,10 @@ use Rattle.bay_model.specs.declared.step.Step.TheVariants as steps
 use Rattle.bay_model.specs.declared.report.Member.{Member}
 use Rattle.bay_model.specs.declared.report.Report.{Report}
 use Rattle.bay_model.specs.declared.report.Reasons.{Reasons}
-use Rattle.osi_stack.specs.Framed.{framed}
-use Rattle.osi_stack.specs.Lines.{IsLine}
-use Rattle.osi_stack.specs.declared.events.Line.{Line}
 use Rattle.bay_answers.specs.Replies.{output_pdus}
-use Rattle.answer_text.specs.declared.shape.Shape.{Shape}
-use Rattle.answer_text.specs.declared.shape.Shape.TheVariants as shapes
+use Rattle.stream_lines.specs.Lines.{framed_line}
+use Rattle.stream_lines.specs.declared.shape.Shape.{Shape}
+use Rattle.stream_lines.specs.declared.shape.Shape.TheVariants as shapes
 
 abbrev pub letter_if : Bool → ℕ → List ℕ
 letter_if there letter = if there then letter ∷ [] else []
@@ -50,25 +48,6 @@ report_text c a r = report_head c a r ++ flat_map member_text r.members ++ codes
 -- a PDU, as a line
 abbrev pub pdu_line : ℕ → List ℕ → List ℕ
 pdu_line a octets = decimal a ++ codes " pdu " ++ encode_lower octets ++ codes "\n"
-
--- octets that are sent on the wire, as a line
-abbrev pub frame_line : ℕ → List ℕ → List ℕ
-frame_line a octets = decimal a ++ codes " frame " ++ encode_lower octets ++ codes "\n"
-
--- what the stack refuses: the layer, the number of its cause, and how many octets of the stream it took before
-abbrev pub fault_line : ℕ → ℕ → ℕ → ℕ → List ℕ
-fault_line a layer code octets = decimal a ++ codes " fault " ++ decimal layer ++ codes " " ++ decimal code ++ codes " at " ++ decimal octets ++ codes "\n"
-
--- how else a stream ends
-abbrev pub released_line : ℕ → List ℕ
-released_line a = decimal a ++ codes " released\n"
-
-abbrev pub aborted_line : ℕ → List ℕ
-aborted_line a = decimal a ++ codes " aborted\n"
-
--- a PDU on this line, in all its TPKTs
-abbrev pub framed_line : Line → ℕ → List ℕ → List ℕ
-framed_line line a pdu = frame_line a (framed line pdu)
 
 -- What association a took: a direct one tells reports, one of MMS each PDU, and one on the wire each in its frame. What else a direct
 -- association may take has no line: a reply or a termination is none of its own.
@@ -113,9 +92,3 @@ step_association _ = 0
 -- the text of one step's answer, in the shape of its association
 abbrev pub lines_of : Config → Shape → Step → Answer → List ℕ
 lines_of c shape step answer = answer_lines c shape (step_association step) answer
-
--- PDUs of an association have a size of 1024 to 65000 octets, and a line one that was agreed
-abbrev pub IsShape : Shape → Type 0
-IsShape shapes.Direct = Unit {0}
-IsShape (shapes.Mms size) = (1024 ≤ size) × (size ≤ 65000)
-IsShape (shapes.Wire line) = IsLine line

@@ -3,16 +3,16 @@
 ghost use Rattle.std.specs.Prelude.{◌≡◌, ◌≤◌, ◌++◌, decimal, length, take, OnOk, OnErr};
 ghost use Rattle.sv_base.specs.declared.config.Config.{Config};
 ghost use Rattle.bay_model.specs.declared.answer.Answer.TheVariants.{Wrote};
-ghost use Rattle.answer_text.specs.Texts.{step_association, output_lines, answer_lines, lines_of as text_of, IsShape};
+ghost use Rattle.stream_lines.specs.Shapes.{IsShape};
+ghost use Rattle.answer_text.specs.Texts.{step_association, output_lines, answer_lines, lines_of as text_of};
 
 use crate::acts::push_acts;
-use crate::number::push_number;
 use crate::pdus::{push_output, push_sent};
 use crate::report::push_report;
-use crate::shape::Shape;
 use bay_model::{Answer, Output, Step};
 use object_model::Model;
 use std::alloc::{AllocError, Global};
+use stream_lines::{Shape, push_number};
 use sv_base::AssocNo;
 
 /// Writes the outcome of a write.

@@ -4,17 +4,17 @@ ghost use Rattle.std.specs.Prelude.{◌≡◌, ◌≤◌, ◌++◌, length, take
 ghost use Rattle.std.specs.List.{flat_map, AllByRecursion};
 ghost use Rattle.bay_answers.specs.Replies.{output_pdus};
 ghost use Rattle.osi_stack.specs.Lines.{IsLine};
-ghost use Rattle.answer_text.specs.Texts.{pdu_line, framed_line};
+ghost use Rattle.stream_lines.specs.Lines.{framed_line};
+ghost use Rattle.answer_text.specs.Texts.{pdu_line};
 
-use crate::number::{push_hex, push_number};
 use crate::sendable::can_be_sent;
-use crate::stream::push_frame;
 use bay_answers::to_bytes;
 use bay_model::Output;
 use object_model::Model;
 use osi_stack::{Line, frames};
 use report_cut::Pdus;
 use std::alloc::{AllocError, Global};
+use stream_lines::{push_frame, push_hex, push_number};
 use sv_base::{AssocNo, Octs};
 
 /// Writes a PDU.

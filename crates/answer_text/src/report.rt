@@ -4,10 +4,10 @@ ghost use Rattle.std.specs.Prelude.{◌≡◌, ◌++◌, codes, length, take, On
 ghost use Rattle.std.specs.List.{flat_map};
 ghost use Rattle.answer_text.specs.Texts.{report_head, report_text, block_text, member_text, reason_letters, letter_if};
 
-use crate::number::{push_hex, push_number};
 use bay_model::{Member, Reasons, Report};
 use object_model::Model;
 use std::alloc::AllocError;
+use stream_lines::{push_hex, push_number};
 use sv_base::{AssocNo, BlockNo};
 
 /// Writes a letter where a reason is there.

@@ -1,6 +1,4 @@
 -- the laws of this crate, each file its own subject
-pub mod RequestLaws
-pub mod RequestFits
 pub mod RepliesSizeLaws
 pub mod RepliesContentsLaws
 pub mod RepliesNamesLaws

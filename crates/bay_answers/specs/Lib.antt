@@ -1,5 +1,3 @@
--- the bay's request of what a client asks
-pub mod Requests
 -- what the responses hold
 pub mod RepliesVariables
 pub mod RepliesContents

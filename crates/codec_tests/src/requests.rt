@@ -4,7 +4,7 @@
 
 use crate::asked::{Ask, Datum, Field, Plain, Set, Variable, Whose, asks};
 use crate::plant::model;
-use bay_answers::read_request;
+use bay_requests::read_request;
 use object_model::Model;
 use std::alloc::{AllocError, Global};
 use std::test::*;

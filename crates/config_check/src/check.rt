@@ -6,13 +6,13 @@ ghost use Rattle.sv_io.specs.Causes.{Rose};
 ghost use Rattle.sv_io.specs.Taken.{TakesAtMost};
 ghost use Rattle.config_check.specs.Checked.{count, counts, IsChecked, IsOfCheck, IsOfTelling, Checks};
 
-use answer_text::push_number;
 use cfg_text::{CfgFault, read_config};
 use object_model::domains;
 use record_outcome::status::Status;
 use std::alloc::{AllocError, Global};
 use sv_base::Config;
 use sv_io::{Failed, Sink, Source, Unread, read_whole};
+use text_words::push_number;
 
 /// The most octets that are read.
 const MOST: usize = 67108865;
@@ -21,7 +21,6 @@ const MOST: usize = 67108865;
 fn push_count(out: &mut Vec<u8>, n: usize) -> Result<(), AllocError>
     ensures { OnOk result (out.new.items ≡ out.old.items ++ count n) }
 {
-    out.push(b' ')?;
     push_number(out, n as u64)
 }
 

@@ -8,7 +8,7 @@ use Rattle.bay_model.specs.declared.step.Step.{Step}
 use Rattle.bay_model.specs.Points.{least_moment}
 use Rattle.bay_model.specs.Answers.{History}
 use Rattle.answer_text.specs.Texts.{lines_of}
-use Rattle.answer_text.specs.declared.shape.Shape.{Shape}
+use Rattle.stream_lines.specs.declared.shape.Shape.{Shape}
 use Rattle.run_record.specs.Judging.{line_at}
 use Rattle.run_record.specs.Spelled.{spelled}
 use Rattle.run_record.specs.declared.line.RecLine.TheVariants as lines

@@ -7,7 +7,7 @@ use Rattle.std.specs.Str.{bytes_eq}
 use Rattle.sv_base.specs.declared.config.Config.{Config}
 use Rattle.bay_model.specs.Points.{least_moment}
 use Rattle.bay_model.specs.Answers.{Turn}
-use Rattle.answer_text.specs.declared.shape.Shape.{Shape}
+use Rattle.stream_lines.specs.declared.shape.Shape.{Shape}
 use Rattle.text_words.specs.Octets.{is_skipped}
 use Rattle.cfg_parser.specs.Looking.{config_at}
 use Rattle.cfg_parser.specs.declared.fault.CfgFault.{CfgFault}

@@ -8,7 +8,7 @@ use Rattle.bay_model.specs.Named.{configured_model}
 use Rattle.bay_model.specs.Answers.{Turn, answer}
 use Rattle.bay_model.specs.Acceptance.{Fault, IsOpen, NotOpen, NotYours, QueueFull, fault, IsHistory}
 use Rattle.answer_text.specs.Texts as texts
-use Rattle.answer_text.specs.declared.shape.Shape.{Shape}
+use Rattle.stream_lines.specs.declared.shape.Shape.{Shape}
 use Rattle.text_words.specs.Octets.{is_skipped}
 use Rattle.text_words.specs.Words.{words_of}
 use Rattle.cfg_parser.specs.Kinds as cfg

@@ -11,7 +11,7 @@ use Rattle.record_outcome.specs.Played.{Played, turn_at, with_turn, at_moment, p
 use Rattle.record_steps.specs.Forms.{shape_of}
 use Rattle.record_steps.specs.Resolved.{association_of, told_of}
 use Rattle.answer_text.specs.Texts.{lines_of}
-use Rattle.answer_text.specs.declared.shape.Shape.{Shape}
+use Rattle.stream_lines.specs.declared.shape.Shape.{Shape}
 use Rattle.record_outcome.specs.Moves.{Move, goes, stops, playing}
 use Rattle.record_outcome.specs.declared.status.Status.{Status}
 use Rattle.record_outcome.specs.declared.status.Status.TheVariants as statuses

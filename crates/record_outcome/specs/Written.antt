@@ -3,7 +3,7 @@ use Rattle.std.specs.Prelude.{◌≡◌, ◌≤◌, ℕ, suc, ◌+◌, List, [],
 use Rattle.bay_model.specs.Named.{configured_model}
 use Rattle.bay_model.specs.Acceptance.{QueueFull, fault, IsHistory}
 use Rattle.bay_model.specs.Answers.{Turn}
-use Rattle.answer_text.specs.declared.shape.Shape.{Shape}
+use Rattle.stream_lines.specs.declared.shape.Shape.{Shape}
 use Rattle.std.specs.Io.KnownBytes.{Appends}
 use Rattle.record_history.specs.Histories.{Part, stepped, Recorded, lines_of, history_of}
 use Rattle.record_history.specs.Texts.{turns_in, record_text}

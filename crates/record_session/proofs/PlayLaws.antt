@@ -25,7 +25,7 @@ use Rattle.bay_histories.specs.Faults.{named}
 use Rattle.bay_core.specs.Turns.{Does}
 use Rattle.bay_histories.specs.declared.fault.StepFault.{StepFault}
 use Rattle.answer_text.specs.Texts.{lines_of}
-use Rattle.answer_text.specs.declared.shape.Shape.{Shape}
+use Rattle.stream_lines.specs.declared.shape.Shape.{Shape}
 use Rattle.record_steps.specs.Forms.{Form, is_shut, shape_of, plain, Stands, form_behind}
 use Rattle.record_steps.specs.Own.{IsFittingPart}
 use Rattle.record_steps.specs.Streams.{made}

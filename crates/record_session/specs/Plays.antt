@@ -8,7 +8,7 @@ use Rattle.bay_model.specs.declared.step.Step.{Step}
 use Rattle.run_record.specs.declared.line.RecLine.{RecLine}
 use Rattle.bay_core.specs.Standing.{StandsFor}
 use Rattle.object_model.specs.Fits.{fits}
-use Rattle.answer_text.specs.declared.shape.Shape.{Shape}
+use Rattle.stream_lines.specs.declared.shape.Shape.{Shape}
 use Rattle.record_steps.specs.Forms.{Stands}
 use Rattle.record_steps.specs.Streams.{made}
 use Rattle.record_steps.specs.Telling.{telling}

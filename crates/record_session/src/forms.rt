@@ -1,11 +1,11 @@
 //! What the associations of a record are, by their numbers.
 
-use answer_text::Shape;
 use bay_model::Step;
 use object_model::Model;
 use record_steps::{Form, Heard, Told, tell};
 use run_record::LineView;
 use std::alloc::{AllocError, Global};
+use stream_lines::Shape;
 use sv_base::AssocNo;
 
 /// One more than the greatest number of an association.

@@ -10,13 +10,14 @@ ghost use Rattle.record_outcome.specs.Steps.{stop_of};
 ghost use Rattle.record_outcome.specs.Judgements.{IsJudgement};
 
 use crate::forms::Forms;
-use answer_text::{Shape, lines_of};
+use answer_text::lines_of;
 use bay_core::{Bay, StepFault};
 use bay_model::{Answer, Step};
 use record_outcome::status::Status;
 use record_steps::{Heard, Told, association};
 use run_record::{Kind, LineView, view_line};
 use std::alloc::{AllocError, Global};
+use stream_lines::Shape;
 use sv_base::{ActorNo, AssocNo, Moment};
 
 /// The status of a line whose step is refused; none where memory is wanting.
@@ -77,7 +78,7 @@ impl Playing {
     ghost use Rattle.run_record.specs.Seen.{line_seen};
     ghost use Rattle.object_model.specs.Fits.{fits};
     ghost use Rattle.bay_core.specs.Standing.{StandsFor};
-    ghost use Rattle.answer_text.specs.Texts.{IsShape};
+    ghost use Rattle.stream_lines.specs.Shapes.{IsShape};
     ghost use Rattle.record_steps.specs.Streams.{made};
     ghost use Rattle.record_steps.specs.Telling.{most_steps};
     ghost use Rattle.record_outcome.specs.Played.{Played, start, turn_at};

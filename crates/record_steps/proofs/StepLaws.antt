@@ -16,7 +16,7 @@ use Rattle.sv_base.specs.declared.value.Value.{Value}
 use Rattle.sv_base.specs.declared.value.Value.TheVariants as values
 use Rattle.sv_base.specs.declared.components.Comp.{Comp}
 use Rattle.bay_model.specs.declared.request.Request.{Request}
-use Rattle.bay_answers.specs.Requests.{IsFitting}
+use Rattle.bay_requests.specs.Requests.{IsFitting}
 use Rattle.bay_model.specs.declared.step.Step.{Step}
 use Rattle.bay_model.specs.declared.step.Step.TheVariants as steps
 use Rattle.text_words.specs.Words.{behind}

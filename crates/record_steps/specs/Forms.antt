@@ -1,9 +1,9 @@
 -- What an association of a record is: shut, direct, of MMS with the size of its PDUs, or of a stream, with the octets of that since its
 -- `open` line. One of a stream dials until it is connected, and then is on the wire, on a line. The lines of the record tell it.
 use Rattle.std.specs.Prelude.{◌≡◌, ℕ, ◌==◌, Bool, true, false, List, [], ◌++◌, Option, None, Some, if◌then◌else◌}
-use Rattle.answer_text.specs.Texts.{IsShape}
-use Rattle.answer_text.specs.declared.shape.Shape.{Shape}
-use Rattle.answer_text.specs.declared.shape.Shape.TheVariants as shapes
+use Rattle.stream_lines.specs.Shapes.{IsShape}
+use Rattle.stream_lines.specs.declared.shape.Shape.{Shape}
+use Rattle.stream_lines.specs.declared.shape.Shape.TheVariants as shapes
 use Rattle.osi_stack.specs.Sides.{StandsFor}
 use Rattle.osi_stack.specs.declared.events.Event.{Event}
 use Rattle.osi_stack.specs.declared.events.Line.{Line}

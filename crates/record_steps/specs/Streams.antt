@@ -13,7 +13,7 @@ use Rattle.osi_stack.specs.declared.events.Event.TheVariants.{Answer, Connected,
 use Rattle.osi_stack.specs.declared.fault.StackFault.{StackFault}
 use Rattle.osi_stack.specs.declared.fault.StackFault.TheVariants as faults
 use Rattle.text_words.specs.Values.{hex_at}
-use Rattle.answer_text.specs.Texts.{frame_line, fault_line, released_line, aborted_line}
+use Rattle.stream_lines.specs.Lines.{frame_line, fault_line, released_line, aborted_line}
 use Rattle.record_steps.specs.Asks.{asked_by}
 use Rattle.record_steps.specs.declared.heard.Heard.{Heard}
 use Rattle.record_steps.specs.declared.heard.Heard.TheVariants.{Tells, Makes}

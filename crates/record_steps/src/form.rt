@@ -7,9 +7,9 @@ ghost use Rattle.record_steps.specs.Forms.{IsSized, Stands, opened_form, form_be
 ghost use Rattle.record_steps.specs.Resolved.{association_of};
 ghost use Rattle.record_steps.specs.Telling.{IsPlain};
 
-use answer_text::Shape;
 use osi_stack::{Line, Upper};
 use run_record::{LineView, OpenForm};
+use stream_lines::Shape;
 
 /// What an association of a record is.
 #[derive(Debug, Drop)]

@@ -5,18 +5,18 @@ ghost use Rattle.std.specs.List.{AllByRecursion};
 ghost use Rattle.bay_model.specs.declared.step.Step.TheVariants as steps;
 ghost use Rattle.run_record.specs.Grammar.{IsAssoc};
 ghost use Rattle.osi_stack.specs.Lines.{HasLine};
-ghost use Rattle.answer_text.specs.Texts.{frame_line, released_line, aborted_line};
+ghost use Rattle.stream_lines.specs.Lines.{frame_line, released_line, aborted_line};
 ghost use Rattle.record_steps.specs.declared.heard.Heard.TheVariants.{Tells, Makes};
 ghost use Rattle.record_steps.specs.Asks.{asked_by};
 ghost use Rattle.record_steps.specs.Own.{IsFittingPart};
 ghost use Rattle.record_steps.specs.Streams.{IsWired, wired_by, wired_through, lost_by, asked_heard, heard_by, heard_fault, heard_through};
 
-use answer_text::{push_aborted, push_fault, push_frame, push_released};
-use bay_answers::read_request;
 use bay_model::Step;
+use bay_requests::read_request;
 use object_model::Model;
 use osi_stack::{Event, Line, StackFault};
 use std::alloc::{AllocError, Global};
+use stream_lines::{push_aborted, push_fault, push_frame, push_released};
 use sv_base::{ActorNo, AssocNo, Octs};
 
 /// A part of what a piece of a stream comes to.

@@ -4,7 +4,7 @@ ghost use Rattle.std.specs.Prelude.{◌≡◌, ◌≤◌, [], IfOk, OnOk, IfSome
 ghost use Rattle.std.specs.List.{AllByRecursion};
 ghost use Rattle.run_record.specs.Grammar.{IsAssoc, IsForm, IsLine};
 ghost use Rattle.text_words.specs.Values.{hex_at};
-ghost use Rattle.bay_answers.specs.Requests.{IsFitting};
+ghost use Rattle.bay_requests.specs.Requests.{IsFitting};
 ghost use Rattle.run_record.specs.Seen.{line_seen, pairs_seen};
 ghost use Rattle.name_leaves.specs.Numbers.{number_in};
 ghost use Rattle.object_model.specs.References.{block_references, control_references};
@@ -22,8 +22,8 @@ use crate::heard::Heard;
 use crate::settings::{Found, settings_of};
 use crate::shapes::shape;
 use crate::stream::hear;
-use bay_answers::read_request;
 use bay_model::{Comp, Request, Sets, Setting, Step};
+use bay_requests::read_request;
 use object_model::Model;
 use run_record::{Kind, LineView, OpenForm, PairsView};
 use std::alloc::{AllocError, Global};

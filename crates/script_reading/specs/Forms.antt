@@ -1,5 +1,5 @@
 -- What the association of a script is, as of a record, and behind a line of its script.
-use Rattle.answer_text.specs.Texts.{IsShape}
+use Rattle.stream_lines.specs.Shapes.{IsShape}
 use Rattle.record_steps.specs.Forms.{Form, shut, direct, mms, shape_of}
 use Rattle.run_record.specs.declared.line.OpenForm.{OpenForm}
 use Rattle.run_record.specs.declared.line.OpenForm.TheVariants as opens

@@ -1,11 +1,11 @@
 //! What the association of a script is, and what its lines tell.
 
-use answer_text::Shape;
 use bay_model::Step;
 use object_model::Model;
 use record_steps::{Form, Told, tell};
 use run_record::{LineView, OpenForm};
 use std::alloc::{AllocError, Global};
+use stream_lines::Shape;
 
 /// What the association of a script is. It has no stream; and a script of the process has no association.
 #[derive(Clone, Copy, Debug, PartialEq, Eq)]

@@ -3,7 +3,7 @@ use Rattle.std.proofs.Common.{◌≤◌, ℕ, List, sym, subst, refl, ◌∙◌,
 use Rattle.std.proofs.lemmas.Result.{IfOk-weaker}
 use Rattle.run_record.specs.Seen.{line_seen}
 use Rattle.run_record.specs.declared.line.RecLine.{RecLine}
-use Rattle.answer_text.specs.Texts.{IsShape}
+use Rattle.stream_lines.specs.Shapes.{IsShape}
 use Rattle.record_steps.specs.declared.heard.Heard.{Heard}
 use Rattle.record_steps.specs.Streams.{made}
 use Rattle.record_steps.specs.Telling.{telling, most_steps}

@@ -43,8 +43,8 @@ use Rattle.object_model.proofs.TableLaws.{count-rows}
 use Rattle.mms_pdu.specs.declared.fault.PduFault.{PduFault}
 use Rattle.mms_pdu.specs.declared.fault.PduFault.TheVariants as faults
 use Rattle.bay_model.specs.declared.request.Service.TheVariants as services
-use Rattle.bay_answers.specs.Requests.{object_name, node_of, target, listed_target, set_name, write}
-use Rattle.bay_answers.specs.Requests.{service, request_of, request_told, rejected, rejection_of, IsSpelled, IsFitting}
+use Rattle.bay_requests.specs.Requests.{object_name, node_of, target, listed_target, set_name, write}
+use Rattle.bay_requests.specs.Requests.{service, request_of, request_told, rejected, rejection_of, IsSpelled, IsFitting}
 
 -- ---- texts and values
 

@@ -1,8 +1,8 @@
--- what the loops of `requests_values::values_of` keep
+-- what the loops of `values::values_of` keep
 use Rattle.std.proofs.Common.{◌≡◌, ◌++◌, map}
 use Rattle.sv_base.specs.Same.{value_of}
 use Rattle.mms_pdu.specs.Datum.{value_at}
-use Rattle.bay_answers.proofs.requests_values.values_of.Given as goal
+use Rattle.bay_requests.proofs.values.values_of.Given as goal
 
 abbrev pub invariant-loop-datum : goal.invariant-loop-datum
 invariant-loop-datum l = l.read.items ++ map value_of (map value_at l.datum-iterator)

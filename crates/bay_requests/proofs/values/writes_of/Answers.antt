@@ -1,12 +1,12 @@
--- why `requests_values::writes_of` answers as its contract says
+-- why `values::writes_of` answers as its contract says
 use Rattle.std.proofs.Common.{◌≡◌, [], map, arith}
 use Rattle.std.proofs.lemmas.Grind.{common_steps}
 use Rattle.std.specs.List.{zip}
 use Rattle.std.specs.Iterator.Adapters.{zip_first, zip_second}
 use Rattle.mms_pdu.specs.Datum.{value_at}
 use Rattle.mms_pdu.specs.Variable.{variable_octets}
-use Rattle.bay_answers.proofs.RequestLaws.{zip_ended}
-use Rattle.bay_answers.proofs.requests_values.writes_of.Goals as goal
+use Rattle.bay_requests.proofs.RequestLaws.{zip_ended}
+use Rattle.bay_requests.proofs.values.writes_of.Goals as goal
 
 pub returns : goal.returns
 returns c =

@@ -1,11 +1,11 @@
--- why `requests_values::values_of` answers as its contract says
+-- why `values::values_of` answers as its contract says
 use Rattle.std.proofs.Common.{◌≡◌, map, ap, ◌∙◌, arith}
 use Rattle.std.proofs.lemmas.Grind.{common_steps}
 use Rattle.sv_base.specs.Seen.{row_of}
 use Rattle.sv_base.specs.Same.{value_of}
 use Rattle.mms_pdu.specs.Datum.{value_at}
-use Rattle.bay_answers.proofs.RequestLaws.{row_of_values}
-use Rattle.bay_answers.proofs.requests_values.values_of.Goals as goal
+use Rattle.bay_requests.proofs.RequestLaws.{row_of_values}
+use Rattle.bay_requests.proofs.values.values_of.Goals as goal
 
 pub returns : goal.returns
 returns c =

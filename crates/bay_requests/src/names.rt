@@ -5,8 +5,8 @@ ghost use Rattle.std.specs.Option.{option_map};
 ghost use Rattle.mms_pdu.specs.ObjectName.{name_octets};
 ghost use Rattle.mms_pdu.specs.Variable.{variable_octets};
 ghost use Rattle.mms_pdu.specs.View.{name as name_seen, variable as variable_seen};
-ghost use Rattle.bay_answers.specs.Requests.{object_name as object_name_of, set_name as set_name_of};
-ghost use Rattle.bay_answers.specs.Requests.{node_of as node_named_by, target as target_named, listed_target};
+ghost use Rattle.bay_requests.specs.Requests.{object_name as object_name_of, set_name as set_name_of};
+ghost use Rattle.bay_requests.specs.Requests.{node_of as node_named_by, target as target_named, listed_target};
 
 use bay_model::{ObjName, SetName, Target};
 use mms_pdu::{NameList, NameView, VariableList, VariableView};

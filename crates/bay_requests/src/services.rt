@@ -9,10 +9,10 @@ ghost use Rattle.mms_pdu.specs.ObjectName.{name_octets};
 ghost use Rattle.mms_pdu.specs.Service.{service_octets, scope_octets, octets as octets_of};
 ghost use Rattle.mms_pdu.specs.Variable.{variable_octets};
 ghost use Rattle.mms_pdu.specs.View.{name as name_seen, service as service_seen, scope as scope_seen};
-ghost use Rattle.bay_answers.specs.Requests.{read_set, write_set, define, set_of, scope as scope_named, service as service_asked};
+ghost use Rattle.bay_requests.specs.Requests.{read_set, write_set, define, set_of, scope as scope_named, service as service_asked};
 
-use crate::requests_names::{set_name, set_names, target_of, targets_of};
-use crate::requests_values::{values_of, writes_of};
+use crate::names::{set_name, set_names, target_of, targets_of};
+use crate::values::{values_of, writes_of};
 use bay_model::{Scope, Service, SetNames, Targets, Writes};
 use mms_pdu::{DataList, NameView, ScopeView, ServiceView, VariableList};
 use object_model::Model;

@@ -1,11 +1,11 @@
--- what the loops of `requests_values::writes_of` keep
+-- what the loops of `values::writes_of` keep
 use Rattle.std.proofs.Common.{◌≡◌, ◌++◌, map}
 use Rattle.std.specs.List.{zip}
 use Rattle.std.specs.Iterator.Adapters.{zip_first, zip_second}
 use Rattle.mms_pdu.specs.Datum.{value_at}
 use Rattle.mms_pdu.specs.Variable.{variable_octets}
-use Rattle.bay_answers.specs.Requests.{write}
-use Rattle.bay_answers.proofs.requests_values.writes_of.Given as goal
+use Rattle.bay_requests.specs.Requests.{write}
+use Rattle.bay_requests.proofs.values.writes_of.Given as goal
 
 -- what is written, and what is left of the variables and of the values
 abbrev pub invariant-loop-variable : goal.invariant-loop-variable

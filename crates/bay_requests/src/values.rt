@@ -6,9 +6,9 @@ ghost use Rattle.sv_base.specs.Same.{value_of as value_of_seen};
 ghost use Rattle.mms_data.specs.Reading.{in_row};
 ghost use Rattle.mms_pdu.specs.Datum.{value_at};
 ghost use Rattle.mms_pdu.specs.Variable.{variable_octets};
-ghost use Rattle.bay_answers.specs.Requests.{write as write_of};
+ghost use Rattle.bay_requests.specs.Requests.{write as write_of};
 
-use crate::requests_names::listed_target_of;
+use crate::names::listed_target_of;
 use bay_model::Write;
 use mms_data::DataView;
 use mms_pdu::{DataList, VariableList};

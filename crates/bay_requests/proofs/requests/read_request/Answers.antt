@@ -1,7 +1,7 @@
 -- why `requests::read_request` answers as its contract says
 use Rattle.std.proofs.Common.{arith}
-use Rattle.bay_answers.proofs.RequestFits.{read-spelled, read-refused, read-fits}
-use Rattle.bay_answers.proofs.requests.read_request.Goals as goal
+use Rattle.bay_requests.proofs.RequestFits.{read-spelled, read-refused, read-fits}
+use Rattle.bay_requests.proofs.requests.read_request.Goals as goal
 
 pub returns-clause-spelled : goal.returns-clause-spelled
 returns-clause-spelled c x is =

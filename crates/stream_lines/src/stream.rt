@@ -1,7 +1,7 @@
 //! The lines that a stack answers of itself.
 
 ghost use Rattle.std.specs.Prelude.{◌≡◌, ◌++◌, length, take, OnOk, OnErr};
-ghost use Rattle.answer_text.specs.Texts.{frame_line, fault_line, released_line, aborted_line};
+ghost use Rattle.stream_lines.specs.Lines.{frame_line, fault_line, released_line, aborted_line};
 
 use crate::number::{push_hex, push_number};
 use std::alloc::AllocError;

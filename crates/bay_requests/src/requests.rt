@@ -7,9 +7,9 @@ ghost use Rattle.mms_pdu.specs.declared.fault.PduFault.{PduFault};
 ghost use Rattle.sv_base.specs.Tree.{Seen};
 ghost use Rattle.mms_pdu.specs.RequestReading.{request_at};
 ghost use Rattle.mms_pdu.specs.View.{asked as asked_seen};
-ghost use Rattle.bay_answers.specs.Requests.{IsSpelled, IsFitting, request_of, request_told, rejection_of};
+ghost use Rattle.bay_requests.specs.Requests.{IsSpelled, IsFitting, request_of, request_told, rejection_of};
 
-use crate::requests_services::service_of;
+use crate::services::service_of;
 use bay_model::{Request, Service};
 use mms_pdu::{PduFault, RequestView, request};
 use object_model::Model;

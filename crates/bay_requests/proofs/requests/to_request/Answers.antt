@@ -2,8 +2,8 @@
 use Rattle.std.proofs.Common.{sym, ◌∙◌}
 use Rattle.mms_pdu.specs.Request.{request_octets}
 use Rattle.mms_pdu.specs.View.{asked}
-use Rattle.bay_answers.proofs.RequestFits.{request-fits}
-use Rattle.bay_answers.proofs.requests.to_request.Goals as goal
+use Rattle.bay_requests.proofs.RequestFits.{request-fits}
+use Rattle.bay_requests.proofs.requests.to_request.Goals as goal
 
 pub returns-clause-fits : goal.returns-clause-fits
 returns-clause-fits c =

@@ -1,0 +1,2 @@
+-- the bay's request of what a client asks
+pub mod Requests
