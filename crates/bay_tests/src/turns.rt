@@ -1,11 +1,11 @@
 //! Turns of threads, and turns that are refused.
 
 ghost use Rattle.std.specs.Prelude.{◌≡◌, ◌<◌, ◌≤◌};
-ghost use Rattle.std.specs.Thread.{IsSync};
+ghost use Rattle.std.specs.Thread.{IsSend, IsSync};
 
 use crate::example::opened_bay;
 use crate::work::{NOTHING, Tally, Work, step_of, with_answer};
-use bay_core::{Bay, StepFault};
+use bay_histories::{StateMachine, StepFault};
 use bay_model::{Answer, Step};
 use history_lock::{History, Pass, TurnFault};
 use std::alloc::{AllocError, Global};
@@ -14,7 +14,12 @@ use std::thread::{Threads, join};
 use sv_base::{AssocNo, Moment};
 
 /// The answer to a step; none where it is refused or doesn't fit the configuration.
-fn answered<R: Wait>(rt: &R, history: &History<Bay>, pass: &mut Pass<Bay>, step: &Step) -> Option<Answer>
+fn answered<R: Wait, M: StateMachine>(
+    rt: &R,
+    history: &History<M>,
+    pass: &mut Pass<M>,
+    step: &Step,
+) -> Option<Answer>
     requires pass { (pass.old.table ≡ history.now.table) × (pass.old.config ≡ history.now.config) }
     ensures same { (pass.new.table ≡ pass.old.table) × (pass.new.config ≡ pass.old.config) }
 {
@@ -28,14 +33,14 @@ fn answered<R: Wait>(rt: &R, history: &History<Bay>, pass: &mut Pass<Bay>, step:
 }
 
 /// So many turns of a work, and the tally with what came of them.
-fn worked<R: Wait + AllocGlobal>(
+fn worked<R: Wait + AllocGlobal, M: StateMachine>(
     rt: &R,
-    history: &History<Bay>,
-    mut pass: Pass<Bay>,
+    history: &History<M>,
+    mut pass: Pass<M>,
     work: Work,
     turns: u32,
     mut tally: Tally,
-) -> (Pass<Bay>, Tally)
+) -> (Pass<M>, Tally)
     requires pass { (pass.table ≡ history.now.table) × (pass.config ≡ history.now.config) }
     ensures same { (result.0.table ≡ pass.table) × (result.0.config ≡ pass.config) }
 {
@@ -49,11 +54,11 @@ fn worked<R: Wait + AllocGlobal>(
 }
 
 /// A thousand values in one thread, a thousand ticks in another.
-fn values_and_ticks<R: Threads + Wait + Sync + AllocGlobal>(
+fn values_and_ticks<R: Threads + Wait + Sync + AllocGlobal, M: StateMachine>(
     rt: &R,
-    history: &History<Bay>,
-    mut pass: Pass<Bay>,
-) -> (Pass<Bay>, (Tally, Tally))
+    history: &History<M>,
+    mut pass: Pass<M>,
+) -> (Pass<M>, (Tally, Tally))
     requires pass { (pass.table ≡ history.now.table) × (pass.config ≡ history.now.config) }
     requires portions { (1 < pass.count) × (1000 ≤ pass.left) }
     ensures same { (result.0.table ≡ pass.table) × (result.0.config ≡ pass.config) }
@@ -69,11 +74,11 @@ fn values_and_ticks<R: Threads + Wait + Sync + AllocGlobal>(
 }
 
 /// A thousand takes in one thread, a client's opening and its writes in another.
-fn takes_and_writes<R: Threads + Wait + Sync + AllocGlobal>(
+fn takes_and_writes<R: Threads + Wait + Sync + AllocGlobal, M: StateMachine>(
     rt: &R,
-    history: &History<Bay>,
-    mut pass: Pass<Bay>,
-) -> (Pass<Bay>, (Tally, Tally))
+    history: &History<M>,
+    mut pass: Pass<M>,
+) -> (Pass<M>, (Tally, Tally))
     requires pass { (pass.table ≡ history.now.table) × (pass.config ≡ history.now.config) }
     requires portions { (1 < pass.count) × (1000 ≤ pass.left) }
     ensures same { (result.0.table ≡ pass.table) × (result.0.config ≡ pass.config) }
@@ -89,11 +94,11 @@ fn takes_and_writes<R: Threads + Wait + Sync + AllocGlobal>(
 }
 
 /// The same, with another client's opening and its reads in a third thread.
-fn three_works<R: Threads + Wait + Sync + AllocGlobal>(
+fn three_works<R: Threads + Wait + Sync + AllocGlobal, M: StateMachine>(
     rt: &R,
-    history: &History<Bay>,
-    mut pass: Pass<Bay>,
-) -> (Pass<Bay>, (Tally, Tally), Tally)
+    history: &History<M>,
+    mut pass: Pass<M>,
+) -> (Pass<M>, (Tally, Tally), Tally)
     requires pass { (pass.table ≡ history.now.table) × (pass.config ≡ history.now.config) }
     requires portions { (2 < pass.count) × (2000 ≤ pass.left) }
     ensures same { (result.0.table ≡ pass.table) × (result.0.config ≡ pass.config) }
@@ -101,8 +106,8 @@ fn three_works<R: Threads + Wait + Sync + AllocGlobal>(
     let other = history.split(&mut pass, 1, 1000);
     let (one, other) = join(
         rt,
-        || -> (Pass<Bay>, (Tally, Tally))
-            requires { IsSync R.row × (pass.table ≡ history.now.table) × (pass.config ≡ history.now.config) × (1 < pass.count) × (1000 ≤ pass.left) }
+        || -> (Pass<M>, (Tally, Tally))
+            requires { IsSync R.row × IsSend M.row × (pass.table ≡ history.now.table) × (pass.config ≡ history.now.config) × (1 < pass.count) × (1000 ≤ pass.left) }
         { takes_and_writes(rt, history, pass) },
         || worked(rt, history, other, Work::Reads, 1000, NOTHING),
     );
@@ -118,7 +123,11 @@ fn are_two_thousand(tallies: (Tally, Tally), seen: u64, all: u64) -> bool {
     values.accepted == 1000 && ticks.accepted == 1000 && seen == 2000 && all == 2000
 }
 
-fn by_two<R: Threads + Wait + Sync + AllocGlobal>(rt: &R, history: History<Bay>, pass: Pass<Bay>) -> bool
+fn by_two<R: Threads + Wait + Sync + AllocGlobal, M: StateMachine>(
+    rt: &R,
+    history: History<M>,
+    pass: Pass<M>,
+) -> bool
     requires pass { (pass.table ≡ history.table) × (pass.config ≡ history.config) }
     requires portions { (1 < pass.count) × (1000 ≤ pass.left) }
 {
@@ -147,10 +156,10 @@ fn are_answered(takes: Tally, writes: Tally, reads: Tally, all: u64) -> bool {
 }
 
 /// Three threads share one history; what then waits, at most 16 replies of each client, is taken.
-fn by_three<R: Threads + Wait + Sync + AllocGlobal>(
+fn by_three<R: Threads + Wait + Sync + AllocGlobal, M: StateMachine>(
     rt: &R,
-    history: History<Bay>,
-    mut pass: Pass<Bay>,
+    history: History<M>,
+    mut pass: Pass<M>,
 ) -> bool
     requires pass { (pass.table ≡ history.table) × (pass.config ≡ history.config) }
     requires portions { (3 < pass.count) × (4000 ≤ pass.left) }
@@ -190,7 +199,7 @@ fn are_refusals(first: Option<TurnFault>, second: Option<TurnFault>) -> bool {
 }
 
 /// Whether a loss of an association that isn't open is refused to a pass with one turn, and one more turn is too.
-fn is_refused<R: Wait>(rt: &R, history: &History<Bay>, pass: &mut Pass<Bay>) -> bool
+fn is_refused<R: Wait, M: StateMachine>(rt: &R, history: &History<M>, pass: &mut Pass<M>) -> bool
     requires pass { (pass.old.table ≡ history.now.table) × (pass.old.config ≡ history.now.config) }
     ensures same { (pass.new.table ≡ pass.old.table) × (pass.new.config ≡ pass.old.config) }
 {
@@ -201,7 +210,7 @@ fn is_refused<R: Wait>(rt: &R, history: &History<Bay>, pass: &mut Pass<Bay>) -> 
 }
 
 /// Whether a pass with one turn is refused, and the history then has no step.
-fn by_one<R: Wait>(rt: &R, history: History<Bay>, mut pass: Pass<Bay>) -> bool
+fn by_one<R: Wait, M: StateMachine>(rt: &R, history: History<M>, mut pass: Pass<M>) -> bool
     requires pass { (pass.table ≡ history.table) × (pass.config ≡ history.config) }
     requires portions { (1 < pass.count) × (1 ≤ pass.left) }
 {

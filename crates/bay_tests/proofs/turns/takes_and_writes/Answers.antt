@@ -7,7 +7,7 @@ use Rattle.bay_tests.proofs.Closures.{turns_send}
 use Rattle.bay_tests.proofs.turns.takes_and_writes.Goals as goal
 
 pub join-one-requires-send-F : goal.join-one-requires-send-F
-join-one-requires-send-F g c κs within = param_send _ _ (arg_send _ no _ (turns_send _ _ _ _ c.type_bounds.sync-R))
+join-one-requires-send-F g c κs within = param_send _ _ (arg_send _ no _ (turns_send _ _ _ g.M.StateMachine _ _ c.type_bounds.sync-R c.type_bounds.send-M))
 
 pub join-one-requires-send-A : goal.join-one-requires-send-A
-join-one-requires-send-A g c κs within = search (pass_send, crosses, sendable) depth 60
+join-one-requires-send-A g c κs within = search (pass_send, c.type_bounds.send-M, crosses, sendable) depth 60
