@@ -1,16 +1,13 @@
 //! Passes and histories go to other threads.
 
-use crate::history::{History, Pass};
+ghost use denote.Param.Send.{IsSend, IsSync};
+ghost use Rattle.history_lock.specs.contracts.history.Pass.{the_row as pass_row};
+ghost use Rattle.history_lock.specs.contracts.history.History.{the_row as history_row};
+
 use bay_histories::StateMachine;
 
-/// Values of the type may go to another thread.
-fn may_go<T: Send>() {}
-
-/// Several threads may use one value of the type.
-fn may_be_shared<T: Sync>() {}
-
-/// A pass may go to another thread, and several threads may use one history.
-pub fn passes_cross_threads<M: StateMachine>() {
-    may_go::<Pass<M>>();
-    may_be_shared::<History<M>>();
-}
+/// A pass may go to another thread, and several threads may use one history, of every machine.
+pub fn passes_cross_threads<M: StateMachine>()
+    ensures pass { IsSend (pass_row M.row M.StateMachine) }
+    ensures history { IsSync (history_row M.row M.StateMachine) }
+{}
