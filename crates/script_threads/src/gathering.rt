@@ -13,11 +13,7 @@ use history_lock::{History, Pass};
 use std::alloc::{AllocError, Global};
 
 /// Joins a pass, and gives what came of its actor's script.
-fn joined<M: StateMachine>(
-    history: &History<M>,
-    pass: &mut Pass<M>,
-    played: Played<M>,
-) -> Part
+fn joined<M: StateMachine>(history: &History<M>, pass: &mut Pass<M>, played: Played<M>) -> Part
     requires pass { IsOf history.now pass.old }
     requires played { IsOf history.now played.pass }
     ensures part { result ≡ played.part }
