@@ -10,7 +10,7 @@ use Rattle.name_leaves.specs.declared.what.What.TheVariants as whats
 use Rattle.name_leaves.specs.Seen.{role_seen}
 use Rattle.bay_model.specs.declared.control.ApplError.{ApplError}
 use Rattle.bay_model.specs.Configured.{control_defined}
-use Rattle.bay_model.specs.Lookups.{control_of, node_of}
+use Rattle.bay_model.specs.Lookups.{node_of}
 use Rattle.bay_model.specs.Model.{Call, Control, Role, single, selecting, calling, several}
 use Rattle.bay_model.specs.Named.{configured_model}
 use Rattle.control_core.specs.Tables.{no_control}

@@ -29,9 +29,7 @@ pub mod GroupLaws
 pub mod TakenLaws
 pub mod SentLaws
 -- how a bay begins
-pub mod FirstBook
 pub mod FirstState
-pub mod OpenLaws
 -- the parts after a write
 pub mod WrittenLaws
 -- data sets that clients define and delete

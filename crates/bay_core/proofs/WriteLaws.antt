@@ -1,9 +1,9 @@
 -- A write of a component: the block that is written, the others, and the bay.
 use Rattle.std.proofs.Common.{rules, ◌≡◌, ◌≢◌, ℕ, suc, max, Bool, true, false, List, [], ◌∷◌, Option, Some, None, is_some, Result, Ok, Err, refl, ap, ap₂, ◌∙◌, sym, subst, length, inl, inr}
-use Rattle.std.specs.Prelude.{slice_get, slice_set, slice_index_or, ◌==◌, ◌&&◌, ◌||◌, not}
+use Rattle.std.specs.Prelude.{slice_get, slice_set, ◌==◌, ◌&&◌, ◌||◌, not}
 use Rattle.std.proofs.lemmas.List.{set-get_or}
-use Rattle.std.proofs.lemmas.Option.{get_or_from_slice_get, slice_get-get_or}
-use Rattle.list_laws.proofs.Places.{got-set, other-number, get-within}
+use Rattle.std.proofs.lemmas.Option.{get_or_from_slice_get}
+use Rattle.list_laws.proofs.Places.{got-set, other-number}
 use Rattle.sv_base.specs.declared.config.Config.{Config}
 use Rattle.sv_base.specs.declared.numbers.AssocNo.{AssocNo}
 use Rattle.sv_base.specs.declared.numbers.BlockNo.{BlockNo}
@@ -45,8 +45,8 @@ use Rattle.data_sets.specs.Standing.{IsNamed}
 use Rattle.bay_core.specs.State.{State}
 use Rattle.bay_core.specs.Standing.{StandsAt, StandsFor}
 use Rattle.bay_core.specs.Written.{named_by}
-use Rattle.block_events.proofs.BookLaws.{known-booked}
-use Rattle.block_events.proofs.ShapeLaws.{sets_in}
+use Rattle.served_sets.proofs.BookLaws.{known-booked}
+use Rattle.served_sets.proofs.ShapeLaws.{sets_in}
 use Rattle.block_watch.proofs.WatchLaws.{KeepsSet}
 use Rattle.bay_core.proofs.MoveLaws.{came-of, counts, accepted-as, groups-quiet}
 use Rattle.list_laws.proofs.Truths.{or-right}

@@ -5,8 +5,6 @@ pub mod Turns
 -- time
 pub mod Timed
 pub mod Whole
--- how it begins
-pub mod Opened
 -- what a write makes of the data set that a block reports
 pub mod Written
 pub mod Put

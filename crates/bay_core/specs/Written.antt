@@ -1,5 +1,5 @@
 -- What a write makes of the data set that a block reports (IEC 61850-7-2, BRCB attribute DatSet).
-use Rattle.std.specs.Prelude.{ℕ, List, Option, None}
+use Rattle.std.specs.Prelude.{ℕ, Option, None}
 use Rattle.sv_base.specs.declared.value.Value.{Value}
 use Rattle.sv_base.specs.declared.value.Value.TheVariants as kinds
 use Rattle.sv_base.specs.declared.components.Comp.{Comp}

@@ -3,14 +3,12 @@
 use crate::bay::Bay;
 use bay_histories::StepFault;
 use bay_model::{Answer, Output};
+use bay_opening::MOST_MEMBERS;
 use block_reports::{Blank, Rooms, empty_report, longest_text, report_of};
 use block_watch::set_of;
 use report_block::first_offer;
 use std::alloc::{AllocError, Global};
 use sv_base::{ActorNo, AssocNo, Moment};
-
-/// How many members a data set, and so a report, has at most.
-pub(crate) const MOST_MEMBERS: u32 = 256;
 
 impl Bay {
     ghost use Rattle.std.specs.Prelude.{◌≡◌, ◌<◌, ◌^◌, [], suc, Some, max, IfOk};

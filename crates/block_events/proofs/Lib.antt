@@ -1,10 +1,8 @@
 -- the members that are noted, and the notes of the blocks
 pub mod MentionLaws
 pub mod NoteLaws
--- the data sets that are served: their members, and the values of these
-pub mod ShapeLaws
+-- the members of blocks, and their values
 pub mod ServedLaws
-pub mod BookLaws
 pub mod WritableLaws
 pub mod EventLaws
 pub mod AllLaws

@@ -1,7 +1,6 @@
 -- The data sets that a bay serves: the members of a block are there, and have the shapes of their nodes.
-use Rattle.std.proofs.Common.{◌≡◌, ◌≤◌, ◌<◌, ℕ, List, [], ◌∷◌, length, map, get_or, refl, sym, subst, ap, ◌∙◌, arith}
+use Rattle.std.proofs.Common.{◌≡◌, ◌<◌, ℕ, List, [], ◌∷◌, length, map, get_or, refl, sym, subst, ap, ◌∙◌, arith}
 use Rattle.std.specs.List.{All}
-use Rattle.std.proofs.lemmas.List.{length-map}
 use Rattle.std.proofs.lemmas.List.Elements.{All-nil, All-cons, All-head, All-tail, All-map}
 use Rattle.std.proofs.lemmas.Option.{slice_get-get_or}
 use Rattle.sv_base.specs.declared.config.Config.{Config}
@@ -20,8 +19,8 @@ use Rattle.data_sets.proofs.SetLaws.{numbers_of_shapes}
 use Rattle.block_reports.specs.Blanks.{AreShort, IsShortSet}
 use Rattle.block_reports.specs.Again.{AreNodes}
 use Rattle.bay_config.specs.Servable.{IsMember}
-use Rattle.block_events.specs.Served.{AreServedSets}
-use Rattle.block_events.proofs.ShapeLaws.{nodes_named, served_members, served-set, members-named, sets_in}
+use Rattle.served_sets.specs.Served.{AreServedSets}
+use Rattle.served_sets.proofs.ShapeLaws.{nodes_named, served_members, served-set, members-named, sets_in}
 
 all-of : {A : Type 0} (P Q : A → Type 0) → ((x : A) → P x → Q x) → (xs : List A) → All P xs → All Q xs
 all-of P Q f [] all = All-nil Q
@@ -48,9 +47,6 @@ module _ (c : Config) (book : Book) (are : AreServedSets c book) (reference : Li
   -- the shapes of the members have their nodes
   served-nodes : node_numbers (served_members c book reference) ≡ mine
   served-nodes = numbers_of_shapes (node_rows c) (map node_id mine) (All-map (HasNumber (node_rows c)) node_id mine (all-of IsThere (λ n. HasNumber (node_rows c) (node_id n)) row-number mine members-there)) ∙ ids-same mine
-
-  pub served-few : length (served_members c book reference) ≤ 256
-  served-few = omega (arith, length-map (map node_id mine) (shape_of (node_rows c)), length-map mine node_id, (served-set c book reference are).few)
 
   -- the references of the members are short
   pub shapes-short : IsShortSet (configured_model c) (served_members c book reference)

@@ -1,5 +1,3 @@
--- which data sets are served
-pub mod Served
 -- what changes make of the blocks, and the entries that they get of it
 pub mod Events
 -- time

@@ -1,16 +1,12 @@
 -- why `bay::Bay::write_in_turn` answers as its contract says
-use Rattle.std.proofs.Common.{◌≡◌, ◌<◌, ◌∙◌, map, length, ap, sym, subst}
+use Rattle.std.proofs.Common.{◌≡◌, ◌<◌, ◌∙◌, length, ap, sym, subst}
 use Rattle.name_leaves.specs.declared.what.What.{What}
 use Rattle.name_leaves.specs.declared.what.What.TheVariants as whats
 use Rattle.name_leaves.specs.Seen.{role_seen}
 use Rattle.bay_model.specs.Attributes.{attributes}
-use Rattle.bay_model.specs.Configured.{control_defined}
 use Rattle.bay_model.specs.Lookups.{node_of}
 use Rattle.bay_model.specs.Named.{configured_model}
-use Rattle.bay_queues.specs.Calling.{blame_in, enhanced_in, outcome_at}
-use Rattle.bay_queues.specs.Heard.{heard_with}
 use Rattle.bay_replies.specs.Plain.{HasGroups, IsPlainRole}
-use Rattle.bay_core.specs.Commanded.{after_call}
 use Rattle.bay_core.specs.State.{State}
 use Rattle.bay_core.proofs.BlameLaws.{blame-told, role-plain}
 use Rattle.bay_core.proofs.CalledLaws.{called-single, node-single}

@@ -1,15 +1,18 @@
--- How a bay begins: what each block stands for.
-use Rattle.std.proofs.Common.{◌≡◌, ℕ, List, [], map, Some, unwrap_or, ap, sym, subst, ◌∙◌}
+-- The blocks as they are opened: what each has, and what it stands for.
+use Rattle.std.proofs.Common.{◌≡◌, ℕ, List, [], length, map, get_or, Some, unwrap_or, ap, sym, subst, ◌∙◌}
 use Rattle.std.specs.Prelude.{slice_get}
+use Rattle.std.specs.List.{All}
 use Rattle.std.specs.Option.{option_map}
-use Rattle.std.proofs.lemmas.Option.{slice_get-map}
+use Rattle.std.proofs.lemmas.Option.{slice_get-get_or, slice_get-map}
 use Rattle.list_laws.proofs.Places.{all-at, got-map}
 use Rattle.sv_base.specs.declared.config.Config.{Config}
 use Rattle.sv_base.specs.declared.config.BlockDef.{BlockDef}
+use Rattle.bay_model.specs.Attributes.{attributes}
 use Rattle.bay_model.specs.Configured.{block_defined}
 use Rattle.bay_model.specs.Lookups.{block_of, no_parameters}
 use Rattle.bay_model.specs.Model.{Block}
 use Rattle.bay_model.specs.Named.{configured_model}
+use Rattle.object_model.specs.Nodes.{node_rows}
 use Rattle.object_model.specs.Tables.{set_rows}
 use Rattle.data_sets.specs.Books.{Book, number_referred, opened as booked}
 use Rattle.data_sets.specs.Standing.{IsNamed}
@@ -19,8 +22,11 @@ use Rattle.entry_ring.specs.Standing.{empty}
 use Rattle.window_core.specs.Windows.{Windowed, empty as empty_window}
 use Rattle.report_block.proofs.StandLaws.{opened}
 use Rattle.report_block.specs.declared.block.ReportBlock.{ReportBlock}
-use Rattle.bay_core.specs.Opened.{PartSeen, seen, part_defined}
-use Rattle.bay_core.proofs.FirstBook.{referred-first}
+use Rattle.block_watch.specs.Watched.{IsWatchable}
+use Rattle.served_sets.specs.Served.{AreServedSets}
+use Rattle.served_sets.proofs.IndexLaws.{watchable}
+use Rattle.bay_opening.specs.Opened.{PartSeen, seen, part_defined}
+use Rattle.bay_opening.proofs.FirstBook.{opened-served, referred-first}
 use Rattle.report_block.specs.Standing.{BlocksStand}
 
 -- ---- a block by its number
@@ -61,3 +67,10 @@ parts-stand c book parts are = λ b part at.
     opened (configured_model c) b part (ap (λ (s : PartSeen). s.block) (sym known.2) ∙ ap configured (sym is)) (ap (λ (s : PartSeen). s.ring) (sym known.2) ∙ ap (λ (k : Block). empty k.capacity) (sym is))
     (ap (λ (w : Windowed). record w { members = part.window.members }) (ap (λ (s : PartSeen). s.window) (sym known.2)) ∙ ap (λ (k : Block). empty_window part.window.members k.initial.buf_tm) (sym is))
     (ap (λ (s : PartSeen). s.origin) (sym known.2))
+
+-- an index can hold the data set of each
+pub watchable-first : (c : Config) (n : ℕ) (book : Book) (parts : List ReportBlock) → IsServable c → book ≡ booked (set_rows c) → map seen parts ≡ map (part_defined book) c.blocks → n ≡ length (attributes c)
+    → All (IsWatchable (node_rows c) book n) parts
+watchable-first c n book parts served is are count = λ b d below.
+    let part = get_or parts b d in
+    watchable c n book part (subst (AreServedSets c) (sym is) (opened-served c served)) (parts-sets c book parts are b part (slice_get-get_or parts b d below)) count

@@ -21,9 +21,9 @@ use Rattle.data_sets.proofs.PlaceLaws.{within}
 use Rattle.data_sets.proofs.HistoryLaws as history
 use Rattle.report_block.specs.declared.block.ReportBlock.{ReportBlock}
 use Rattle.bay_config.specs.Servable.{IsMember}
-use Rattle.block_events.specs.Served.{AreServedSets}
+use Rattle.served_sets.specs.Served.{AreServedSets}
 use Rattle.block_watch.specs.Watched.{AreLent, IsLent, members_in}
-use Rattle.block_events.proofs.ShapeLaws.{nodes_named, served_members, sets_in}
+use Rattle.served_sets.proofs.ShapeLaws.{nodes_named, served_members, sets_in}
 use Rattle.list_laws.proofs.Options.{some_mapped}
 
 -- ---- the data set of a reference

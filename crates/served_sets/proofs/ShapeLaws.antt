@@ -4,6 +4,7 @@ use Rattle.std.specs.Prelude.{min, nat_le}
 use Rattle.std.specs.List.{All, find}
 use Rattle.std.specs.Option.{option_map}
 use Rattle.std.proofs.lemmas.Bool.{and_parts, leb-true}
+use Rattle.std.proofs.lemmas.List.{length-map}
 use Rattle.std.proofs.lemmas.List.Elements.{All-nil, All-cons, All-head, All-tail, All-get_or}
 use Rattle.std.proofs.lemmas.Option.{slice_get-get_or}
 use Rattle.sv_base.specs.declared.config.Config.{Config}
@@ -27,7 +28,7 @@ use Rattle.object_model.proofs.TableLaws.{count-rows, rows-are-nodes}
 use Rattle.set_view.specs.Shapes.{no_row, shape_of, shapes_of}
 use Rattle.trigger_core.specs.Points.{AreShapes}
 use Rattle.bay_config.specs.Servable.{IsServedSet, IsMember}
-use Rattle.block_events.specs.Served.{AreServedSets}
+use Rattle.served_sets.specs.Served.{AreServedSets}
 
 -- ---- the nodes of a data set
 
@@ -110,6 +111,11 @@ member-shape c n member =
 -- the shapes of the members of the data set that a reference names
 abbrev pub served_members : Config → Book → List ℕ → List MemberShape
 served_members c book reference = node_shapes c (nodes_named (sets_in book) reference)
+
+pub served-few : (c : Config) (book : Book) → AreServedSets c book → (reference : List ℕ) → length (served_members c book reference) ≤ 256
+served-few c book are reference =
+    let ns = nodes_named (sets_in book) reference in
+    omega (arith, length-map (map node_id ns) (shape_of (node_rows c)), length-map ns node_id, (served-set c book reference are).few)
 
 pub are-shapes : (c : Config) (ns : List ℕ) → All (IsMember c) ns → AreShapes (configured_model c) ns (node_shapes c ns)
 are-shapes c [] are = tt

@@ -1,0 +1,4 @@
+-- the configured data sets
+pub mod FirstBook
+-- the blocks
+pub mod FirstParts

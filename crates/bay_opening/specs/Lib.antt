@@ -1,0 +1,2 @@
+-- the blocks and the associations with which a bay begins
+pub mod Opened

@@ -1,0 +1,2 @@
+-- which data sets are served
+pub mod Served
