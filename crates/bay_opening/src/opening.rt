@@ -32,6 +32,37 @@ fn groups_of(alloc: Global, model: &Model) -> Result<Groups, AllocError>
     Groups::open(alloc, config, domains.as_slice())
 }
 
+/// What the attributes and the setting groups of a bay hold at first, and how many attributes there are.
+#[derive(Drop)]
+struct Held {
+    values: Values,
+    groups: Groups,
+    attrs: u32,
+}
+
+/// The values of attributes and the setting groups, as they are configured.
+fn held_at_first(alloc: Global, model: &Model) -> Result<Held, AllocError>
+    requires { IsServable model.now }
+    ensures values { IfOk result (λ h. h.values ≡ opened model.now) }
+    ensures groups { IfOk result (λ h. h.groups ≡ grouped model.now (domains_of model.now)) }
+    ensures attrs { IfOk result (λ h. h.attrs ≡ length (opened model.now)) }
+{
+    let values = Values::open(alloc, model.config())?;
+    let Ok(attrs) = u32::try_from(values.store().len()) else {
+        drop(values);
+        return Err(AllocError);
+    };
+    let Ok(groups) = groups_of(alloc, model) else {
+        drop(values);
+        return Err(AllocError);
+    };
+    Ok(Held {
+        values,
+        groups,
+        attrs,
+    })
+}
+
 /// A model, and what a bay of it begins with.
 #[derive(Drop)]
 pub struct Made {
@@ -60,37 +91,25 @@ pub fn parts_made(alloc: Global, model: Model) -> Result<Made, AllocError>
     ensures octets { IfOk result (λ m. m.rooms.octets.room ≡ 129024) }
     ensures changes { IfOk result (λ m. length m.values ≤ vec_capacity m.rooms.changes) }
 {
-    let Ok(values) = Values::open(alloc, model.config()) else {
+    let Ok(held) = held_at_first(alloc, &model) else {
         drop(model);
         return Err(AllocError);
     };
-    let Ok(attrs) = u32::try_from(values.store().len()) else {
-        drop(values);
+    let Ok(blocks) = blocks_made(alloc, &model, held.attrs) else {
+        drop(held);
         drop(model);
         return Err(AllocError);
     };
-    let Ok(groups) = groups_of(alloc, &model) else {
-        drop(values);
-        drop(model);
-        return Err(AllocError);
-    };
-    let Ok(blocks) = blocks_made(alloc, &model, attrs) else {
-        drop(values);
-        drop(groups);
-        drop(model);
-        return Err(AllocError);
-    };
-    let Ok(rooms) = rooms_made(alloc, model.config(), blocks.parts.len(), attrs) else {
-        drop(values);
-        drop(groups);
+    let Ok(rooms) = rooms_made(alloc, model.config(), blocks.parts.len(), held.attrs) else {
+        drop(held);
         drop(blocks);
         drop(model);
         return Err(AllocError);
     };
     Ok(Made {
         model,
-        values,
-        groups,
+        values: held.values,
+        groups: held.groups,
         sets: blocks.sets,
         parts: blocks.parts,
         watch: blocks.watch,
