@@ -1,3 +1,2 @@
 -- the laws of this crate, each file its own subject
 pub mod OpenedLaws
-pub mod Closures

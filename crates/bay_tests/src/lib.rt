@@ -1,4 +1,4 @@
-//! Tests of the bay's model, of its parts and of the lock around it: each public call with what it answers.
+//! Tests of the bay's model and of its parts: each public call with what it answers.
 #![tactic(auto)]
 
 // what the others are made of
@@ -38,11 +38,3 @@ mod triggers;
 mod values;
 #[cfg(test)]
 mod windows;
-
-// the example bay behind a lock, steps of it, and its histories
-#[cfg(test)]
-mod example;
-#[cfg(test)]
-mod turns;
-#[cfg(test)]
-mod work;

@@ -2,14 +2,13 @@
 
 ghost use Rattle.std.specs.Prelude.{IfOk};
 
-use crate::pieces::octs;
 use bay_model::{
     Answer, Asked, ObjName, Output, Reply, Request, Service, Sets, Setting, Step, Target, Targets,
     Write, Writes,
 };
 use object_model::Model;
 use std::alloc::{AllocError, Global};
-use sv_base::{ActorNo, AssocNo, AttrId, NodeId, Value};
+use sv_base::{ActorNo, AssocNo, AttrId, NodeId, Octs, Value};
 
 /// What a thread does: the process sets the measured power, time passes, a client opens an association and reads or writes
 /// the deadband of the power, or what waits for both is taken.
@@ -43,8 +42,8 @@ fn opening(a: u32) -> Step {
 /// The deadband as a request names it.
 fn deadband(alloc: Global, node: NodeId) -> Result<Target, AllocError> {
     let name = ObjName::Domain {
-        domain: octs(alloc, b"BAY1")?,
-        item: octs(alloc, b"MMXU1$CF$TotW$db")?,
+        domain: Octs::copied(alloc, b"BAY1")?,
+        item: Octs::copied(alloc, b"MMXU1$CF$TotW$db")?,
     };
     Ok(Target::Node(node, name))
 }

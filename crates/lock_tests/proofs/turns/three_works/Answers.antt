@@ -1,10 +1,10 @@
--- why `turns::takes_and_writes` answers as its contract says
+-- why `turns::three_works` answers as its contract says
 use denote.Exit.{no}
 use denote.Param.Send.{param_send, arg_send, sendable}
 use Rattle.std.proofs.Crossing.{crosses}
 use Rattle.history_lock.proofs.SendLaws.{pass_send}
-use Rattle.bay_tests.proofs.Closures.{turns_send}
-use Rattle.bay_tests.proofs.turns.takes_and_writes.Goals as goal
+use Rattle.lock_tests.proofs.Closures.{turns_send}
+use Rattle.lock_tests.proofs.turns.three_works.Goals as goal
 
 pub join-one-requires-send-F : goal.join-one-requires-send-F
 join-one-requires-send-F g c κs within = param_send _ _ (arg_send _ no _ (turns_send _ _ _ g.M.StateMachine _ _ c.type_bounds.sync-R c.type_bounds.send-M))

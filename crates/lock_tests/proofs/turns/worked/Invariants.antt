@@ -1,6 +1,6 @@
 -- what the loops of `turns::worked` keep
 use Rattle.std.proofs.Common.{◌≡◌}
-use Rattle.bay_tests.proofs.turns.worked.Given as goal
+use Rattle.lock_tests.proofs.turns.worked.Given as goal
 
 abbrev pub invariant-loop-n : goal.invariant-loop-n
 invariant-loop-n g l = (l.pass.table ≡ l.initial.pass.table) × (l.pass.config ≡ l.initial.pass.config)
