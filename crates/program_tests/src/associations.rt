@@ -5,7 +5,7 @@ use record_outcome::status::Status;
 use std::test::*;
 
 /// Records whose associations send PDUs and take them.
-const ROWS: [Row; 19] = [
+static ROWS: [Row; 19] = [
     (
         "names, an unknown service and a conclude",
         "record 1\n[0 011001 0 200>open 1 mms 65000\npdu 1 a00e020101a109a003800109a1028000\ntake 1\npdu 1 a006020107bf4d00\n\

@@ -4,7 +4,7 @@ use crate::runs::{Row, all_end};
 use record_outcome::status::Status;
 use std::test::*;
 
-const COUNTED: [Row; 3] = [
+static COUNTED: [Row; 3] = [
     ("counts", "[0 011001 0 200>", Status::Ok, "ok 1 4 7 1 1 0\n"),
     (
         "no capacity",

@@ -6,7 +6,7 @@ use std::test::*;
 
 /// Records of one control of a model, with the answers to its commands: in a write the invoke number stands behind `a0480201`, then
 /// what is written (`53424f77`: SBOw, `4f706572`: Oper), the value, ctlNum, and Test.
-const ROWS: [Row; 4] = [
+static ROWS: [Row; 4] = [
     (
         "who has selected, with what, and for how long",
         "}4 5000 0 bool\nend\nopen 1 mms 65000\nopen 2 mms 65000\npdu 1 a048020101+53424f77_01ff`01,0084020600\ntake 1\n\

@@ -12,7 +12,7 @@ use sv_io::{Calls, MemSink, MemSource};
 /// A rehearsal: its name, its input, its status, and what it writes, both texts with marks.
 type Row = (&'static str, &'static str, Status, &'static str);
 
-const ROWS: [Row; 6] = [
+static ROWS: [Row; 6] = [
     (
         "one script is its record",
         "rehearse 1\n[0 011001 0 200>script association 1\nopen 1 direct\nat !10\nwrite 1 & RptEna T\ntake 1\nclose\nend\n",
@@ -57,7 +57,7 @@ const ROWS: [Row; 6] = [
 
 /// What stands behind the configuration of an input, and the line at which it is refused, with the number of the kind. The last line of
 /// the configuration has number 21.
-const REFUSED: [(&str, u64, u8); 20] = [
+static REFUSED: [(&str, u64, u8); 20] = [
     ("end\n", 22, 5),
     ("script association 17\n", 22, 2),
     ("script station\n", 22, 1),
@@ -81,7 +81,7 @@ const REFUSED: [(&str, u64, u8); 20] = [
 ];
 
 /// First lines that begin no rehearsal, with the numbers of the kinds.
-const MISBEGUN: [(&str, u8); 2] = [("record 1", 1), ("rehearse 2", 2)];
+static MISBEGUN: [(&str, u8); 2] = [("record 1", 1), ("rehearse 2", 2)];
 
 /// The second script's seventeenth request, behind a loss, finds 16 replies waiting; so does a line of the third one, below it.
 const FULL: &str =
@@ -91,9 +91,9 @@ const FULL: &str =
 #[test]
 fn a_script_that_goes_is_its_record(rt: HostRuntime) -> Result<(), Fail> {
     let alloc = rt.alloc();
-    for (name, text, wanted, written) in ROWS {
+    for (name, text, wanted, written) in &ROWS {
         let (status, output) = rehearsed(&rt, alloc, text)?;
-        assert_eq!(rt; status, wanted, "{name}");
+        assert_eq!(rt; status, *wanted, "{name}");
         assert_eq!(rt;
             output.octets(),
             unmarked(alloc, written)?.as_slice(),
@@ -106,10 +106,17 @@ fn a_script_that_goes_is_its_record(rt: HostRuntime) -> Result<(), Fail> {
 #[test]
 fn what_is_refused_writes_nothing(rt: HostRuntime) -> Result<(), Fail> {
     let alloc = rt.alloc();
-    for (rest, line, kind) in REFUSED {
+    for (rest, line, kind) in &REFUSED {
         let text = format!(in alloc; "rehearse 1\n[0 011001 0 200>{rest}")?;
         let (status, output) = rehearsed(&rt, alloc, &text)?;
-        assert_eq!(rt; status, Status::Record { line, kind }, "{rest}");
+        assert_eq!(rt;
+            status,
+            Status::Record {
+                line: *line,
+                kind: *kind
+            },
+            "{rest}"
+        );
         assert!(rt; output.octets().is_empty(), "{rest}");
     }
     Ok(())
@@ -118,10 +125,17 @@ fn what_is_refused_writes_nothing(rt: HostRuntime) -> Result<(), Fail> {
 #[test]
 fn another_first_line_is_refused(rt: HostRuntime) -> Result<(), Fail> {
     let alloc = rt.alloc();
-    for (first, kind) in MISBEGUN {
+    for (first, kind) in &MISBEGUN {
         let text = format!(in alloc; "{first}\n[0 011001 0 200>end\n")?;
         let (status, _) = rehearsed(&rt, alloc, &text)?;
-        assert_eq!(rt; status, Status::Record { line: 1, kind }, "{first}");
+        assert_eq!(rt;
+            status,
+            Status::Record {
+                line: 1,
+                kind: *kind
+            },
+            "{first}"
+        );
     }
     Ok(())
 }

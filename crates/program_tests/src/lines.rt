@@ -12,7 +12,7 @@ const TOO_MANY: Status = Status::Limit {
 };
 
 /// What follows a million empty lines, and the status.
-const ROWS: [(&str, Status); 3] = [
+static ROWS: [(&str, Status); 3] = [
     (
         "",
         Status::Record {

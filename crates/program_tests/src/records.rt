@@ -6,7 +6,7 @@ use std::test::*;
 
 /// Records of values, of gaps, of clients that go on behind an entry, of blocks that are held and purged, of writes of their
 /// components, and of buffer times, integrity periods and interrogations.
-const ANSWERED: [Row; 31] = [
+static ANSWERED: [Row; 31] = [
     (
         "nothing",
         "record 1\n[0 011001 0 200>open 1 direct\nend\n",
@@ -249,7 +249,7 @@ const ANSWERED: [Row; 31] = [
 ];
 
 /// Records that are refused at a line, or end there.
-const JUDGED: [Row; 41] = [
+static JUDGED: [Row; 41] = [
     // records that end, or don't
     (
         "records that end",

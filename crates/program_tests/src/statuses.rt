@@ -3,7 +3,7 @@ use record_outcome::status::Status;
 use std::test::Fail;
 
 /// A status, its exit number, and its words on standard error.
-const STATUSES: [(Status, u8, &str); 7] = [
+static STATUSES: [(Status, u8, &str); 7] = [
     (Status::Words, 1, "words"),
     (
         Status::Record { line: 23, kind: 7 },
@@ -23,10 +23,10 @@ const STATUSES: [(Status, u8, &str); 7] = [
 
 #[test]
 fn a_status_has_its_number_and_its_words(rt: HostRuntime) -> Result<(), Fail> {
-    for (status, number, words) in STATUSES {
-        assert_eq!(rt; status.number(), number, "{words}");
+    for (status, number, words) in &STATUSES {
+        assert_eq!(rt; status.number(), *number, "{words}");
         let text = format!(in rt.alloc(); "{status}")?;
-        assert_eq!(rt; text.as_str(), words);
+        assert_eq!(rt; text.as_str(), *words);
     }
     Ok(())
 }

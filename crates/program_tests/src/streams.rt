@@ -5,7 +5,7 @@ use record_outcome::status::Status;
 use std::test::*;
 
 /// Records whose associations send streams, and take frames.
-const ROWS: [Row; 15] = [
+static ROWS: [Row; 15] = [
     (
         "a stream, cut anywhere",
         "record 1\n[0 011001 0 200>open 1 wire\nin 1 03\nin 1 000016\nin 1 11e00000000100c0010dc2020001c1020001^0300001c02\nin \

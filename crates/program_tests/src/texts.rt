@@ -6,7 +6,7 @@ use std::test::Fail;
 use sv_io::{Calls, MemSink};
 
 /// The kinds of refused lines of a record, in the order of their numbers.
-const RECORD_KINDS: [run_record::Kind; 8] = [
+static RECORD_KINDS: [run_record::Kind; 8] = [
     run_record::Kind::Word,
     run_record::Kind::Number,
     run_record::Kind::Name,
@@ -18,7 +18,7 @@ const RECORD_KINDS: [run_record::Kind; 8] = [
 ];
 
 /// The kinds of refused lines of a configuration.
-const CONFIG_KINDS: [cfg_text::Kind; 12] = [
+static CONFIG_KINDS: [cfg_text::Kind; 12] = [
     cfg_text::Kind::Word,
     cfg_text::Kind::Order,
     cfg_text::Kind::Name,
@@ -35,11 +35,11 @@ const CONFIG_KINDS: [cfg_text::Kind; 12] = [
 
 #[test]
 fn each_kind_is_named(rt: HostRuntime) -> Result<(), Fail> {
-    for kind in RECORD_KINDS {
+    for kind in &RECORD_KINDS {
         let line = format!(in rt.alloc(); "\n  {}  {kind:?}: {kind}\n", kind.number())?;
         assert!(rt; BAY_TOOL.usage.contains(line.as_str()), "{line}");
     }
-    for kind in CONFIG_KINDS {
+    for kind in &CONFIG_KINDS {
         let line = format!(in rt.alloc(); "\n  {:>2}  {kind:?}: {kind}\n", kind.number())?;
         assert!(rt; BAY_TOOL.usage.contains(line.as_str()), "{line}");
     }
