@@ -218,7 +218,7 @@ fn run<S: Source, K: Sink>(
 }
 
 /// Replays a record: each line is answered before the next is judged.
-pub fn replay<S: Source, K: Sink>(alloc: Global, source: &mut S, sink: &mut K) -> Status
+pub fn replay_record<S: Source, K: Sink>(alloc: Global, source: &mut S, sink: &mut K) -> Status
     ensures told { IsJudgement result → IfSome (S.left source.old) (λ b. Answers b result (K.taken sink.old) (K.taken sink.new)) }
     ensures history { IsJudgement result → IfSome (S.left source.old) (λ b. WritesHistory b result (K.taken sink.old) (K.taken sink.new)) }
     ensures listed { IsOfReplay result }

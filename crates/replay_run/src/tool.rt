@@ -11,7 +11,7 @@ ghost use Rattle.record_outcome.specs.Judgements.{IsJudgement, IsOfReplay, Answe
 use command_line::is_word;
 use config_check::check::check;
 use record_outcome::status::Status;
-use record_session::replay::replay;
+use record_session::replay::replay_record;
 use std::alloc::Global;
 use sv_io::{Sink, Source};
 
@@ -47,7 +47,7 @@ pub fn tool<S: Source, K: Sink>(
     ensures later { (S.faults source.old ≤ S.faults source.new) × (K.faults sink.old ≤ K.faults sink.new) }
 {
     if is_word(words, "replay") {
-        return replay(alloc, source, sink);
+        return replay_record(alloc, source, sink);
     }
     if is_word(words, "check") {
         return check(alloc, source, sink);

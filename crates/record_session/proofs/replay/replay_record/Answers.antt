@@ -1,6 +1,6 @@
--- why `replay::replay` answers as its contract says
+-- why `replay::replay_record` answers as its contract says
 use Rattle.record_outcome.proofs.HistoryLaws.{writes-history}
-use Rattle.record_session.proofs.replay.replay.Goals as goal
+use Rattle.record_session.proofs.replay.replay_record.Goals as goal
 
 pub returns-clause-told : goal.returns-clause-told
 returns-clause-told g c = λ j. c.run-status.ensures.told (g.S.Source.left c.args.source.now) (g.K.Sink.taken c.args.sink.now) (c.new-replay.ensures.run (g.S.Source.left c.args.source.now) (g.K.Sink.taken c.args.sink.now)) j
