@@ -107,7 +107,8 @@ fn three_works<R: Threads + Wait + Sync + AllocGlobal, M: StateMachine>(
     let (one, other) = join(
         rt,
         || -> (Pass<M>, (Tally, Tally))
-            requires { IsSync R.row × IsSend M.row × (pass.table ≡ history.now.table) × (pass.config ≡ history.now.config) × (1 < pass.count) × (1000 ≤ pass.left) }
+            requires { IsSync R.row × IsSend M.row × (pass.table ≡ history.now.table) × (pass.config ≡ history.now.config)
+                × (1 < pass.count) × (1000 ≤ pass.left) }
         { takes_and_writes(rt, history, pass) },
         || worked(rt, history, other, Work::Reads, 1000, NOTHING),
     );
