@@ -1,2 +1,3 @@
--- what is given to threads
+-- what is given to threads, and what they give back
 pub mod Closures
+pub mod Tallies

@@ -66,8 +66,12 @@ fn values_and_ticks<R: Threads + Wait + Sync + AllocGlobal, M: StateMachine>(
     let other = history.split(&mut pass, 1, 1000);
     let ((mut one, values), (other, ticks)) = join(
         rt,
-        || worked(rt, history, pass, Work::Values, 1000, NOTHING),
-        || worked(rt, history, other, Work::Ticks, 1000, NOTHING),
+        || -> (Pass<M>, Tally)
+            requires { IsSend M.row × (pass.table ≡ history.now.table) × (pass.config ≡ history.now.config) }
+        { worked(rt, history, pass, Work::Values, 1000, NOTHING) },
+        || -> (Pass<M>, Tally)
+            requires { IsSend M.row × (other.table ≡ history.now.table) × (other.config ≡ history.now.config) }
+        { worked(rt, history, other, Work::Ticks, 1000, NOTHING) },
     );
     history.join(&mut one, other);
     (one, (values, ticks))
@@ -86,8 +90,12 @@ fn takes_and_writes<R: Threads + Wait + Sync + AllocGlobal, M: StateMachine>(
     let other = history.split(&mut pass, 1, 1000);
     let ((mut one, takes), (other, writes)) = join(
         rt,
-        || worked(rt, history, pass, Work::Takes, 1000, NOTHING),
-        || worked(rt, history, other, Work::Writes, 1000, NOTHING),
+        || -> (Pass<M>, Tally)
+            requires { IsSend M.row × (pass.table ≡ history.now.table) × (pass.config ≡ history.now.config) }
+        { worked(rt, history, pass, Work::Takes, 1000, NOTHING) },
+        || -> (Pass<M>, Tally)
+            requires { IsSend M.row × (other.table ≡ history.now.table) × (other.config ≡ history.now.config) }
+        { worked(rt, history, other, Work::Writes, 1000, NOTHING) },
     );
     history.join(&mut one, other);
     (one, (takes, writes))
@@ -110,7 +118,9 @@ fn three_works<R: Threads + Wait + Sync + AllocGlobal, M: StateMachine>(
             requires { IsSync R.row × IsSend M.row × (pass.table ≡ history.now.table) × (pass.config ≡ history.now.config)
                 × (1 < pass.count) × (1000 ≤ pass.left) }
         { takes_and_writes(rt, history, pass) },
-        || worked(rt, history, other, Work::Reads, 1000, NOTHING),
+        || -> (Pass<M>, Tally)
+            requires { IsSend M.row × (other.table ≡ history.now.table) × (other.config ≡ history.now.config) }
+        { worked(rt, history, other, Work::Reads, 1000, NOTHING) },
     );
     let (mut pass, both) = one;
     let (other, reads) = other;

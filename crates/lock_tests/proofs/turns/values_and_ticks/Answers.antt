@@ -1,13 +1,12 @@
 -- why `turns::values_and_ticks` answers as its contract says
 use denote.Exit.{no}
-use denote.Param.Send.{param_send, arg_send, sendable}
-use Rattle.std.proofs.Crossing.{crosses}
-use Rattle.history_lock.proofs.SendLaws.{pass_send}
+use denote.Param.Send.{param_send, arg_send}
 use Rattle.lock_tests.proofs.Closures.{turns_send}
+use Rattle.lock_tests.proofs.Tallies.{one_send}
 use Rattle.lock_tests.proofs.turns.values_and_ticks.Goals as goal
 
 pub join-one-requires-send-F : goal.join-one-requires-send-F
 join-one-requires-send-F g c κs within = param_send _ _ (arg_send _ no _ (turns_send _ _ _ g.M.StateMachine _ _ c.type_bounds.sync-R c.type_bounds.send-M))
 
 pub join-one-requires-send-A : goal.join-one-requires-send-A
-join-one-requires-send-A g c κs within = search (pass_send, c.type_bounds.send-M, crosses, sendable) depth 60
+join-one-requires-send-A g c κs within = param_send _ _ (arg_send _ no _ (one_send _ g.M.StateMachine c.type_bounds.send-M))
