@@ -1,3 +1,3 @@
 -- what is given to threads, and what they give back
 pub mod Closures
-pub mod Tallies
+pub mod Pairs
