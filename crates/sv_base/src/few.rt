@@ -9,18 +9,18 @@ use std::mem;
 use std::ops::DerefSlice;
 
 #[derive(Debug, Drop)]
-enum Items<T: Drop> {
+enum Items<T> {
     One([T; 1]),
     Many(Vec<T>),
 }
 
 /// A list that mostly has one, which takes no memory.
 #[derive(Debug, Drop)]
-pub struct Few<T: Drop> {
+pub struct Few<T> {
     items: Items<T>,
 }
 
-impl<T: Drop> Model for Few<T> {
+impl<T> Model for Few<T> {
     ghost use Rattle.std.specs.Prelude.{List};
 
     ghost Value = { List T };
@@ -44,8 +44,8 @@ fn into_vec<T: Drop>(alloc: Global, list: Items<T>) -> Result<Vec<T>, AllocError
     }
 }
 
-impl<T: Drop> Few<T> {
-    ghost use Rattle.std.specs.Prelude.{◌≡◌, ◌∷◌, ◌++◌, [], length, OnOk};
+impl<T> Few<T> {
+    ghost use Rattle.std.specs.Prelude.{◌≡◌, ◌∷◌, [], length};
 
     /// A list of one.
     pub fn one(item: T) -> Self
@@ -81,6 +81,10 @@ impl<T: Drop> Few<T> {
     {
         self.as_slice().len()
     }
+}
+
+impl<T: Drop> Few<T> {
+    ghost use Rattle.std.specs.Prelude.{◌≡◌, ◌∷◌, ◌++◌, [], OnOk};
 
     /// One more at the end; where there is no memory for it, the list may be empty afterwards.
     pub fn push(&mut self, alloc: Global, item: T) -> Result<(), AllocError>
@@ -98,7 +102,7 @@ impl<T: Drop> Few<T> {
     }
 }
 
-impl<T: Drop> DerefSlice for Few<T> {
+impl<T> DerefSlice for Few<T> {
     type Elem = T;
 
     ghost use Rattle.std.specs.Prelude.{◌≡◌};

@@ -5,11 +5,11 @@ use std::marker::Model;
 
 /// A list, which contracts see as that of its items.
 #[derive(Debug, Drop)]
-pub struct List<T: Drop> {
+pub struct List<T> {
     items: Vec<T>,
 }
 
-impl<T: Drop> Model for List<T> {
+impl<T> Model for List<T> {
     ghost use Rattle.std.specs.Prelude.{List};
 
     ghost Value = { List T };
@@ -21,8 +21,8 @@ impl<T: Drop> Model for List<T> {
     ghost view = { λ l. l.items.items };
 }
 
-impl<T: Drop> List<T> {
-    ghost use Rattle.std.specs.Prelude.{◌≡◌, ◌==◌, ◌++◌, ◌∷◌, [], length, slice_get, option_copied, is_ok, if◌then◌else◌};
+impl<T> List<T> {
+    ghost use Rattle.std.specs.Prelude.{◌≡◌, ◌==◌, length, slice_get, option_copied};
 
     /// The list of these. It takes no memory.
     pub fn from_vec(items: Vec<T>) -> Self
@@ -36,14 +36,6 @@ impl<T: Drop> List<T> {
         ensures { result.items ≡ self }
     {
         self.items
-    }
-
-    /// Puts one more at the end; without memory nothing changes.
-    pub fn push(&mut self, item: T) -> Result<(), AllocError>
-        ensures { self.new ≡ (if is_ok result then self.old ++ item ∷ [] else self.old) }
-    {
-        self.items.push(item)?;
-        Ok(())
     }
 
     /// How many there are.
@@ -72,5 +64,17 @@ impl<T: Drop> List<T> {
         ensures { result.now ≡ self.now }
     {
         &self.items
+    }
+}
+
+impl<T: Drop> List<T> {
+    ghost use Rattle.std.specs.Prelude.{◌≡◌, ◌++◌, ◌∷◌, [], is_ok, if◌then◌else◌};
+
+    /// Puts one more at the end; without memory nothing changes.
+    pub fn push(&mut self, item: T) -> Result<(), AllocError>
+        ensures { self.new ≡ (if is_ok result then self.old ++ item ∷ [] else self.old) }
+    {
+        self.items.push(item)?;
+        Ok(())
     }
 }
