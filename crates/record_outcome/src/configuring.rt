@@ -1,6 +1,6 @@
 //! The lines of a configuration, in a record or in a rehearsal's input.
 
-ghost use Rattle.std.specs.Prelude.{◌≡◌, ◌<◌, ◌^◌, ◌++◌, ◌∷◌, [], codes, IfOk, OnOk};
+ghost use Rattle.std.specs.Prelude.{◌≡◌, ◌<◌, ◌^◌, ◌++◌, ◌∷◌, [], codes, IfOk, OnOk, OnErr};
 ghost use Rattle.std.specs.Str.{bytes_eq};
 ghost use Rattle.cfg_parser.specs.Looking.{config_at};
 ghost use Rattle.record_outcome.specs.Records.{refused_before as refused_before_number};
@@ -10,14 +10,18 @@ use crate::status::Status;
 use cfg_text::{CfgFault, Kind, read_config};
 use std::alloc::{AllocError, Global};
 
-/// Puts a line of the configuration behind those before it; gives whether it is the last one. Where memory is wanting, the text may
-/// end within the line.
+/// Puts a line of the configuration behind those before it; gives whether it is the last one. Without memory nothing changes.
 pub fn gather(text: &mut Vec<u8>, line: &[u8]) -> Result<bool, AllocError>
     ensures text { OnOk result (text.new.items ≡ text.old.items ++ (line.now ++ 10 ∷ [])) }
     ensures end { IfOk result (λ b. b ≡ bytes_eq line.now (codes "end")) }
+    ensures err { OnErr result (text.new.items ≡ text.old.items) }
 {
+    let before = text.len();
     text.extend_from_slice(line)?;
-    text.push(b'\n')?;
+    if text.push(b'\n').is_err() {
+        text.truncate(before);
+        return Err(AllocError);
+    }
     Ok(line == b"end".as_slice())
 }
 
