@@ -12,9 +12,10 @@ ghost use Rattle.answer_text.specs.Sendable.{is_seen_writable, are_writable as a
 
 use bay_model::{ApplError, Member, Output, Reply, Report, Termination};
 use ber_view::whole;
+use data_lengths::data_len;
 use mms_data::view_data;
 use object_model::Model;
-use sv_base::{CtlDef, NodeId, Value, data_len};
+use sv_base::{CtlDef, NodeId, Value};
 
 /// Whether a value has a spelling as Data, at most so deep.
 #[cycle(writable)]

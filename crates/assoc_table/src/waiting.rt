@@ -5,7 +5,7 @@ use sv_base::{ActorNo, CtlNo};
 
 /// An output that waits to be taken: a reply with the errors before it, or the termination of a control, positive or
 /// negative.
-#[derive(Debug, Drop)]
+#[derive(Drop)]
 pub enum Waiting {
     Reply(Output),
     Termination(CtlNo, bool),

@@ -15,11 +15,12 @@ use crate::replies_variables::{add_nodes, asked_octets};
 use crate::tags;
 use bay_model::Asked;
 use ber_write::{add, put_head, put_uint, uint_len};
+use data_lengths::data_len;
 use mms_data::{write_data, write_type};
 use mms_pdu::{tags as pdu_tags, write_error};
 use object_model::Model;
 use std::alloc::{AllocError, Global};
-use sv_base::{NodeId, Octs, Value, data_len};
+use sv_base::{NodeId, Octs, Value};
 
 /// The response of Identify.
 pub(crate) fn identify(

@@ -31,8 +31,7 @@ use Rattle.bay_model.specs.Points.{Past}
 use Rattle.bay_model.specs.Services.{set_found, set_name, write_set_reply, written_set}
 use Rattle.bay_model.specs.Sets.{set_named, is_named}
 use Rattle.bay_model.specs.Singles.{Single, arrival, outcomes, after_singles, writes_of}
-use Rattle.object_model.specs.Fits.{is_association, is_sound_seen, are_sound, fits, is_sound, service_fits, set_fits, target_fits, write_fits, name_fits}
-use Rattle.object_model.specs.declared.fitting.Counts.{Counts}
+use Rattle.object_model.specs.Fits.{Counts, is_association, is_sound_seen, are_sound, fits, is_sound, service_fits, set_fits, target_fits, write_fits, name_fits}
 use Rattle.object_model.specs.Nodes.{node_rows}
 use Rattle.object_model.proofs.TableLaws.{count-rows}
 use Rattle.data_sets.specs.Books.{Booked, Book, is_name, number_named, set_at}

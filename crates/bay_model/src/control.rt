@@ -4,7 +4,7 @@ use sv_base::{AssocNo, CtlNo, List, Octs, Value};
 
 /// Why a command was refused (IEC 61850-8-1, LastApplError): the variable that was written, origin and ctlNum of the
 /// command, and the AddCause (IEC 61850-7-2).
-#[derive(Debug, Drop)]
+#[derive(Drop)]
 pub struct ApplError {
     pub object: Octs,
     pub or_cat: i64,
@@ -18,7 +18,7 @@ pub type ApplErrors = List<ApplError>;
 
 /// The end of a control with enhanced security (IEC 61850-7-2, CommandTermination): positive without an error, else
 /// negative.
-#[derive(Debug, Drop)]
+#[derive(Drop)]
 pub struct Termination {
     pub control: CtlNo,
     /// the value of the Oper that ended
@@ -27,7 +27,7 @@ pub struct Termination {
 }
 
 /// A control that acts: the ctlVal of its Oper, and who asked.
-#[derive(Debug, Drop)]
+#[derive(Drop)]
 pub struct Act {
     pub control: CtlNo,
     pub value: Value,

@@ -5,7 +5,7 @@ use crate::results::{Codes, Names, Nodes, Results};
 use sv_base::NodeId;
 
 /// The specification that is written back with what was read (ISO 9506-2, Read).
-#[derive(Debug, Drop)]
+#[derive(Drop)]
 pub enum Asked {
     No,
     Vars(Targets),
@@ -13,7 +13,7 @@ pub enum Asked {
 }
 
 /// The reply to a request (ISO 9506-2, the responses and errors of the confirmed services).
-#[derive(Debug, Drop)]
+#[derive(Drop)]
 pub enum Reply {
     Status,
     Identify,

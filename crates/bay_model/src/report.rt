@@ -43,7 +43,7 @@ impl Reasons {
 }
 
 /// A member of a report: its number in the data set, from 1, its reference, its MMS Data and its reasons.
-#[derive(Debug, Drop)]
+#[derive(Drop)]
 pub struct Member {
     pub number: MemberNo,
     pub reference: Octs,
@@ -55,7 +55,7 @@ pub struct Member {
 pub type Members = List<Member>;
 
 /// A report of one entry of a block (IEC 61850-7-2, the report format).
-#[derive(Debug, Drop)]
+#[derive(Drop)]
 pub struct Report {
     pub block: BlockNo,
     pub rpt_id: Octs,

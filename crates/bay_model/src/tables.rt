@@ -1,13 +1,20 @@
-//! The nodes and the data sets of a configuration, as the parts of a bay are given them.
+//! The attributes, the nodes and the data sets of a configuration, as the parts of a bay are given them.
 
-use crate::{Nodes, SetName};
+use crate::{Flags, Nodes, SetName};
 use std::alloc::{AllocError, Global};
 use std::marker::Model;
 use std::sync::Arc;
 use sv_base::{AttrId, List, NodeId, TypeOf};
 
+/// The type of an attribute and its trigger conditions (IEC 61850-7-2, DataAttribute).
+#[derive(Drop)]
+pub struct AttrRow {
+    pub kind: TypeOf,
+    pub flags: Flags,
+}
+
 /// The attributes of a node, in the order of its type: a part of a row, which others may share.
-#[derive(Debug, Drop)]
+#[derive(Drop)]
 pub struct AttrIds {
     row: Arc<Vec<AttrId>>,
     first: u32,
@@ -96,7 +103,7 @@ impl AttrIds {
 }
 
 /// What a member of a data set is: its node, the type of its Data, and the attributes that it is made of.
-#[derive(Debug, Drop)]
+#[derive(Drop)]
 pub struct MemberShape {
     pub node: NodeId,
     pub kind: TypeOf,
@@ -119,7 +126,7 @@ impl MemberShape {
 }
 
 /// A node of the tree of names.
-#[derive(Debug, Drop)]
+#[derive(Drop)]
 pub struct NodeRow {
     /// Whether it may be a member of a data set, however large its Data is (IEC 61850-7-2, DATA-SET).
     pub allowed: bool,
@@ -132,7 +139,7 @@ pub struct NodeRow {
 pub type NodeTable = List<NodeRow>;
 
 /// A data set: its name and the nodes that are its members.
-#[derive(Debug, Drop)]
+#[derive(Drop)]
 pub struct SetRow {
     pub name: SetName,
     pub nodes: Nodes,

@@ -10,9 +10,8 @@ use Rattle.bay_model.specs.declared.request.Service.TheVariants as services
 use Rattle.bay_model.specs.declared.request.Target.{Target}
 use Rattle.bay_model.specs.declared.request.Target.TheVariants as targets
 use Rattle.bay_model.specs.Named.{nodes}
-use Rattle.object_model.specs.Fits.{target_fits, name_fits}
+use Rattle.object_model.specs.Fits.{Counts, target_fits, name_fits}
 use Rattle.object_model.specs.Nodes.{node_rows}
-use Rattle.object_model.specs.declared.fitting.Counts.{Counts}
 use Rattle.object_model.proofs.TableLaws.{count-rows}
 use Rattle.set_view.specs.Shapes.{AreThere}
 use Rattle.data_sets.specs.Books.{Book, set_at}

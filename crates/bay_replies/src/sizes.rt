@@ -4,8 +4,9 @@ ghost use Rattle.std.specs.Prelude.{◌≡◌, ◌<◌, ℕ, length, min, take, 
 ghost use Rattle.bay_model.specs.Sizes.{access_result, are_too_long as are_too_long_in, identifier, within};
 ghost use Rattle.bay_replies.specs.Reading.{left_of};
 
+use data_lengths::{data_len, element_len};
 use std::alloc::AllocError;
-use sv_base::{Octs, Value, data_len, element_len};
+use sv_base::{Octs, Value};
 
 /// How many octets a result has, and 4294967295 where there are more.
 pub(crate) fn result_len(one: &Result<Value, u8>) -> u32

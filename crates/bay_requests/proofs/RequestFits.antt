@@ -35,10 +35,9 @@ use Rattle.bay_model.specs.Named.{nodes}
 use Rattle.bay_model.specs.declared.request.Target.TheVariants as targets
 use Rattle.bay_model.specs.declared.request.Request.{Request}
 use Rattle.object_model.specs.Nodes.{node_rows}
-use Rattle.object_model.specs.Fits.{is_visible, is_sound_plain, is_sound_seen, are_sound, name_fits}
+use Rattle.object_model.specs.Fits.{Counts, is_visible, is_sound_plain, is_sound_seen, are_sound, name_fits}
 use Rattle.object_model.specs.Fits.{target_fits, write_fits, set_fits, set_name_fits, service_fits}
 use Rattle.object_model.specs.Tables.{node_id}
-use Rattle.object_model.specs.declared.fitting.Counts.{Counts}
 use Rattle.object_model.proofs.TableLaws.{count-rows}
 use Rattle.mms_pdu.specs.declared.fault.PduFault.{PduFault}
 use Rattle.mms_pdu.specs.declared.fault.PduFault.TheVariants as faults

@@ -1,9 +1,11 @@
 //! Lengths from the octets of ISO 9506-2's Data and of X.690; the edges of a moment.
 
 use crate::pieces::{octs, one, with};
+use config_copies::copy_value;
+use data_lengths::data_len;
 use std::alloc::{AllocError, Global};
 use sv_base::moment::{FIRST_MS, LAST_MS};
-use sv_base::{Bits, Moment, Octs, Stamp, Utc, Value, Values, copy_value, data_len};
+use sv_base::{Bits, Moment, Octs, Stamp, Utc, Value, Values};
 
 fn bits(alloc: Global, count: usize) -> Result<Value, AllocError> {
     Ok(Value::Bits(Bits::from_vec(vec![in alloc; false; count]?)))

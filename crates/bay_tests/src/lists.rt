@@ -2,9 +2,10 @@
 
 use crate::pieces::{octs, one, with};
 use bay_model::{AttrIds, Names, Results};
+use data_lengths::data_len;
 use std::alloc::{AllocError, Global};
 use sv_base::{
-    AttrId, Few, FirstValues, List, Octs, Part1, Parts, ShortOcts, TypeOf, Value, Values, data_len,
+    AttrId, Few, FirstValues, List, Octs, Part1, Parts, ShortOcts, TypeOf, Value, Values,
 };
 
 fn has_two_names(names: &Names) -> bool {
@@ -32,8 +33,16 @@ fn a_list_of_nothing_is_empty(alloc: Global) -> Result<bool, AllocError> {
     Ok(names.is_empty() && attrs.is_empty())
 }
 
+/// It is there, and its Data has four octets.
+fn has_four_octets(value: Option<&Value>) -> bool {
+    match value {
+        Some(value) => data_len(value) == 4,
+        None => false,
+    }
+}
+
 fn has_two_values(values: &Values) -> bool {
-    values.len() == 2 && values.get(1).map(data_len) == Some(4) && values.get(2).is_none()
+    values.len() == 2 && has_four_octets(values.get(1)) && values.get(2).is_none()
 }
 
 fn values_keep_their_order(alloc: Global) -> Result<bool, AllocError> {
@@ -45,7 +54,7 @@ fn first_values_keep_their_order(alloc: Global) -> Result<bool, AllocError> {
     let mut few = Few::one(Value::Int(1));
     few.push(alloc, Value::Int(300))?;
     let values = FirstValues::new(few);
-    Ok(values.as_slice().len() == 2 && values.get(1).map(data_len) == Some(4))
+    Ok(values.as_slice().len() == 2 && has_four_octets(values.get(1)))
 }
 
 /// The bits of a bit string's type, and 0 of another's.

@@ -5,8 +5,8 @@ ghost use Rattle.std.specs.Int.{to_be_bytes, w32};
 ghost use Rattle.sv_base.specs.Data.{length_field};
 ghost use Rattle.ber_write.specs.Minimal.{tag_octets, length_octets, head_octets, octets_of, CanBeTag};
 
+use data_lengths::without_zeros;
 use std::alloc::{AllocError, Global};
-use sv_base::without_zeros;
 
 /// How the length of a content is spelled whose number has these four octets: the first octet, and those behind it, none to
 /// four (X.690, 8.1.3).

@@ -6,8 +6,8 @@ ghost use Rattle.sv_base.specs.Data.{shortest as shortest_of};
 ghost use Rattle.ber_write.specs.Minimal.{octets_of, CanBeTag, uint_octets, int_octets};
 
 use crate::element::put;
+use data_lengths::shortest;
 use std::alloc::AllocError;
-use sv_base::shortest;
 
 /// The octets of an unsigned number in two's complement.
 pub fn unsigned(value: u64) -> [u8; 9]

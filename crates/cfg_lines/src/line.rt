@@ -3,7 +3,7 @@
 use sv_base::{AttrDef, BlockDef, CtlDef, LnDef, Octs, SetDef, SgDef};
 
 /// What a line tells. What is made by it has its number, and the domain and logical node in which it stands.
-#[derive(Debug, Drop)]
+#[derive(Drop)]
 pub enum Line {
     /// It is empty, or a remark.
     Skip,

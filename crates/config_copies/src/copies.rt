@@ -2,10 +2,11 @@
 
 ghost use Rattle.std.specs.Prelude.{◌≡◌, IfOk};
 
+use crate::values::copy_value;
 use std::alloc::{AllocError, Global};
 use sv_base::{
     AttrDef, AttrDefs, BlockDef, BlockDefs, Config, CtlDef, CtlDefs, Few, FirstValues, LnDef,
-    LnDefs, Octs, OctsList, SetDef, SetDefs, SgDef, SgDefs, Value, copy_value,
+    LnDefs, Octs, OctsList, SetDef, SetDefs, SgDef, SgDefs, Value,
 };
 
 fn copy_octs(alloc: Global, list: &[Octs]) -> Result<Vec<Octs>, AllocError>

@@ -45,7 +45,7 @@ pub enum DeleteFault {
 }
 
 /// A data set: its name, the nodes that are its members, and how many report blocks name it.
-#[derive(Debug, Drop)]
+#[derive(Drop)]
 struct Entry {
     name: SetName,
     nodes: Vec<NodeId>,
@@ -53,7 +53,7 @@ struct Entry {
 }
 
 /// A set that a client defines, made ready for the book. Contracts see it as the book will have it.
-#[derive(Debug, Drop)]
+#[derive(Drop)]
 pub struct Definition {
     entry: Entry,
 }
@@ -68,7 +68,7 @@ impl Model for Definition {
 
 /// The data sets that are there: the configured ones, and those that clients defined, in the order of their definition. A
 /// set's number is its place. Contracts see the list of them.
-#[derive(Debug, Drop)]
+#[derive(Drop)]
 pub struct SetBook {
     configured: usize,
     entries: Vec<Entry>,

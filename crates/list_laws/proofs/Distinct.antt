@@ -1,5 +1,5 @@
 -- Lists in which no element stands twice, by the octets of names and by equality.
-use Rattle.std.proofs.Common.{◌≡◌, ℕ, true, false, inl, inr, List, [], ◌∷◌, ◌++◌, map, refl, sym, subst, ◌∙◌, true≢false}
+use Rattle.std.proofs.Common.{◌≡◌, ℕ, Bool, true, false, if◌then◌else◌, inl, inr, List, [], ◌∷◌, ◌++◌, map, refl, sym, subst, ◌∙◌, true≢false}
 use Rattle.std.specs.List.{list_any}
 use Rattle.std.specs.Str.{bytes_eq}
 use Rattle.std.specs.Cmp.Lexicographic.{bytes_decides}
@@ -40,6 +40,14 @@ absent-more n f (m ∷ ms) a h = (a.0, absent-more n f ms a.1 h)
 pub distinct-more : (f : List ℕ) (ns : List (List ℕ)) → Distinct ns → list_any (bytes_eq f) ns ≡ false → Distinct (ns ++ f ∷ [])
 distinct-more f [] d h = (tt, tt)
 distinct-more f (n ∷ ns) d h = (absent-more n f ns d.0 (or-left (bytes_eq f n) (list_any (bytes_eq f) ns) h), distinct-more f ns d.1 (or-right (bytes_eq f n) (list_any (bytes_eq f) ns) h))
+
+-- a name that isn't there is added
+pub distinct-new : (f : List ℕ) (ns : List (List ℕ)) → Distinct ns → Distinct (if list_any (bytes_eq f) ns then ns else ns ++ f ∷ [])
+distinct-new f ns d = by (list_any (bytes_eq f) ns) refl
+  where
+    by : (b : Bool) → list_any (bytes_eq f) ns ≡ b → Distinct (if b then ns else ns ++ f ∷ [])
+    by true e = d
+    by false e = distinct-more f ns d e
 
 -- ---- no element stands twice
 

@@ -11,8 +11,9 @@ ghost use Rattle.mms_data.specs.Writable.{Fits, FitsRow, SeenHasFractions};
 
 use crate::tags;
 use ber_write::{put, put_bits, put_head, put_int, put_uint};
+use data_lengths::{data_len, row_len};
 use std::alloc::AllocError;
-use sv_base::{Stamp, Utc, Value, data_len, row_len};
+use sv_base::{Stamp, Utc, Value};
 
 /// Adds an element whose tag is one octet.
 fn put_element(out: &mut Vec<u8>, tag: u32, content: &[u8]) -> Result<(), AllocError>

@@ -5,7 +5,7 @@ use Rattle.std.specs.Str.{bytes_eq}
 use Rattle.std.specs.Cmp.Lexicographic.{bytes_decides}
 use Rattle.std.proofs.lemmas.List.{map-append, take_more}
 use Rattle.std.proofs.lemmas.List.Elements.{filter-append}
-use Rattle.list_laws.proofs.Distinct.{octets_same, octets_apart, Absent, Distinct, distinct-more}
+use Rattle.list_laws.proofs.Distinct.{octets_same, octets_apart, Absent, Distinct, distinct-new}
 use Rattle.list_laws.proofs.Truths.{or-left, or-right}
 use Rattle.bay_model.specs.Generated.{Named}
 use Rattle.std.proofs.lemmas.List.Folds.{list_any-append}
@@ -51,11 +51,7 @@ below-same ns x h = below-append (first_name x) ns x ∙ (ap (λ b. below (first
 
 -- each name once
 pub distinct-with : (ns : List (List ℕ)) (f : List ℕ) → Distinct ns → Distinct (with_name ns f)
-distinct-with ns f d = by (list_any (bytes_eq f) ns) refl
-  where
-    by : (b : Bool) → list_any (bytes_eq f) ns ≡ b → Distinct (if b then ns else ns ++ f ∷ [])
-    by true e = d
-    by false e = distinct-more f ns d e
+distinct-with ns f d = distinct-new f ns d
 
 distinct-fold : (acc ns : List (List ℕ)) → Distinct acc → Distinct (fold with_name acc ns)
 distinct-fold acc [] d = d

@@ -1,8 +1,9 @@
 -- What grows out of what is named: the nodes of names side by side, and what these are as parts of a structure.
-use Rattle.std.specs.Prelude.{◌≡◌, ℕ, ◌+◌, List, [], ◌∷◌, ◌&&◌, Bool, false, None, map, length}
+use Rattle.std.specs.Prelude.{◌≡◌, ℕ, ◌+◌, List, [], ◌∷◌, ◌&&◌, Bool, false, None, length}
 use Rattle.std.specs.Option.{option_map}
 use Rattle.name_leaves.specs.declared.what.What.TheVariants as whats
 use Rattle.name_leaves.specs.Leaves.{leaves, leaves_side, leaf_code, what_code}
+pub use Rattle.name_leaves.specs.Items.{items_of}
 use Rattle.name_growth.specs.Leaves.{own, own_with, leaves_with}
 use Rattle.sv_base.specs.declared.types.TypeOf.TheVariants as types
 use Rattle.sv_base.specs.Types.{Fields}
@@ -12,9 +13,6 @@ use Rattle.bay_model.specs.Places.{Place, fields, attrs_in, are_data, type_with,
 use Rattle.name_growth.specs.Groups.{Group}
 use Rattle.name_growth.specs.declared.growth.Spot.{Spot}
 use Rattle.name_growth.specs.declared.growth.Grown.{Grown}
-
-abbrev pub items_of : List Place → List (List ℕ)
-items_of ps = map (λ (p : Place). p.item) ps
 
 -- a node as the code has it, but for its item
 abbrev pub spot : Place → Spot

@@ -4,7 +4,8 @@ ghost use Rattle.std.specs.Prelude.{◌≡◌, min};
 ghost use Rattle.sv_base.specs.Fields.{fields_of};
 ghost use Rattle.bay_model.specs.Places.{largest as largest_of, largest_fields};
 
-use sv_base::{Part1, TypeOf, element_len};
+use data_lengths::element_len;
+use sv_base::{Part1, TypeOf};
 
 /// How many octets the largest Data of a type has (ISO 9506-2, Data), and 4294967295 where there are more.
 #[cycle(largest)]

@@ -5,7 +5,6 @@ use Rattle.sv_base.specs.declared.config.Config.{Config}
 use Rattle.sv_base.specs.declared.config.AttrDef.{AttrDef}
 use Rattle.sv_base.specs.declared.config.CtlDef.{CtlDef}
 use Rattle.bay_model.specs.declared.flags.Flags.{Flags}
-use Rattle.bay_model.specs.Model.{Attr}
 use Rattle.bay_model.specs.Model as model
 use Rattle.sv_base.specs.Kinds.{kind_of}
 use Rattle.bay_model.specs.Lookups.{attr_of, no_attr}
@@ -15,8 +14,8 @@ use Rattle.bay_model.specs.Attributes.{attr_defined, attrs_defined, attrs_genera
 use Rattle.bay_model.specs.Named.{configured_model}
 use Rattle.object_model.specs.Tables.{flags_of, line_flags, no_flags, control_flags, attr_flags}
 use Rattle.object_model.specs.Fits.{attr_types}
-use Rattle.object_names.specs.declared.attributes.AttrRow.{AttrRow}
-use Rattle.object_names.specs.Attributes.{Attribute, line_attr, twin_attr, parameter_attr, control_attrs, attrs, rows_of, attr_rows, types_of}
+use Rattle.bay_model.specs.declared.tables.AttrRow.{AttrRow}
+use Rattle.name_leaves.specs.Attributes.{Attribute, line_attr, twin_attr, parameter_attr, control_attrs, attrs, rows_of, attr_rows, types_of}
 use Rattle.list_laws.proofs.Places.{same_at}
 
 of_lines : (c : Config) (x : ℕ) (as_ : List AttrDef) → map flags_of (attrs_defined c x as_) ≡ map line_flags as_

@@ -13,10 +13,10 @@ use Rattle.sv_base.specs.declared.value.Value.TheVariants as kinds
 use Rattle.bay_rooms.specs.Slots.{IsSettable}
 use Rattle.bay_model.specs.declared.tables.NodeRow.{NodeRow}
 use Rattle.bay_model.specs.declared.step.Step.{Step}
-use Rattle.object_names.specs.declared.attributes.AttrRow.{AttrRow}
-use Rattle.object_names.specs.Attributes.{attr_rows, types_of}
+use Rattle.bay_model.specs.declared.tables.AttrRow.{AttrRow}
+use Rattle.name_leaves.specs.Attributes.{attr_rows, types_of}
 use Rattle.object_model.proofs.AttributeLaws.{rows-types}
-use Rattle.object_model.specs.Nodes.{node_rows}
+use Rattle.node_rows.specs.Nodes.{node_rows}
 use Rattle.object_model.specs.Fits.{step_fits, fits}
 
 abbrev IsLine : AttrDef → Type 0

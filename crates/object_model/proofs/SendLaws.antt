@@ -22,11 +22,11 @@ use Rattle.bay_model.proofs.tables.AttrIds.TheSendSync as ids
 use Rattle.bay_model.proofs.tables.SetRow.TheSendSync as set_row
 use Rattle.bay_model.specs.contracts.tables.MemberShape as MemberShape
 use Rattle.bay_model.specs.contracts.tables.NodeRow as NodeRow
-use Rattle.object_names.specs.contracts.attributes.AttrRow as AttrRow
+use Rattle.bay_model.specs.contracts.tables.AttrRow as AttrRow
 use Rattle.octet_rows.proofs.index.Index.TheSendSync as indexes
-use Rattle.object_model.specs.contracts.listing.Directory as Directory
-use Rattle.object_model.specs.contracts.nodes.NodeName as NodeName
-use Rattle.object_model.specs.contracts.stands.Stand as Stand
+use Rattle.node_finding.specs.contracts.directories.Directory as Directory
+use Rattle.node_finding.specs.contracts.directories.NodeName as NodeName
+use Rattle.node_rows.specs.contracts.stands.Stand as Stand
 use Rattle.name_leaves.specs.contracts.leaves.Leaf as Leaf
 use Rattle.object_model.specs.contracts.tables.Tables as Tables
 use Rattle.object_model.specs.contracts.model.Model as Model

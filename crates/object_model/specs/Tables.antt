@@ -13,12 +13,12 @@ use Rattle.bay_model.specs.Generated.{Parameter, parameters}
 use Rattle.bay_model.specs.Places.{Place}
 use Rattle.bay_model.specs.NamedLines.{domains, is_setting}
 use Rattle.bay_model.specs.Named.{name_tree, places_in}
-pub use Rattle.object_names.specs.Attributes.{line_flags, no_flags}
+pub use Rattle.name_leaves.specs.Attributes.{line_flags, no_flags}
 use Rattle.object_model.specs.declared.tables.Tables.{Tables}
-use Rattle.object_model.specs.Nodes.{node_rows, node_names}
-use Rattle.object_model.specs.Stands.{all_stands, all_leaves}
-pub use Rattle.object_model.specs.Finding.{node_named}
-use Rattle.object_model.specs.Finding.{Finds}
+use Rattle.node_rows.specs.Nodes.{node_rows, node_names}
+use Rattle.node_rows.specs.Stands.{all_stands, all_leaves}
+pub use Rattle.node_finding.specs.Finding.{node_named}
+use Rattle.node_finding.specs.Finding.{Finds}
 
 -- the types of the nodes, by their numbers
 abbrev pub node_types : Config → List TypeOf

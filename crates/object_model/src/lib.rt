@@ -1,17 +1,13 @@
 //! The model of a configuration: its nodes, attributes, blocks and controls by their numbers, and what finds them.
 #![tactic(auto)]
 
-// its nodes, domain by domain, and what finds them
-mod attrs;
-mod finding;
+// its nodes, domain by domain, and its tables
+mod growing;
 mod listing;
-mod nodes;
 mod runs;
-mod stands;
 mod tables;
 
-// the model, and whether a step fits it
-mod fitting;
+// the model
 mod laws;
 mod model;
 

@@ -3,33 +3,23 @@
 ghost use Rattle.std.specs.Prelude.{◌≡◌, ◌++◌, ℕ, length, IfOk, OnOk};
 ghost use Rattle.sv_base.specs.declared.config.Config.{Config as ModelConfig};
 ghost use Rattle.bay_model.specs.NamedLines.{domains as domains_of, lines as lines_of, in_order as lines_in_order};
-ghost use Rattle.object_model.specs.Listed.{IsDirectoryOf, IsListed, IsOneMore};
-ghost use Rattle.object_model.specs.Nodes.{names_at, places_from};
+ghost use Rattle.object_model.specs.Listed.{IsListed, IsOneMore};
+ghost use Rattle.node_rows.specs.Nodes.{names_at, places_from};
 ghost use Rattle.object_model.specs.Runs.{AreRuns, lines_in};
-ghost use Rattle.object_model.specs.Attrs.{attrs_in_spots, rows_with};
-ghost use Rattle.object_model.specs.Stands.{owns, stands_from};
+ghost use Rattle.node_rows.specs.Attrs.{attrs_in_spots, rows_with};
+ghost use Rattle.node_rows.specs.Stands.{owns, stands_from};
 
-use crate::attrs::attrs_of;
-use crate::nodes::{NodeName, growth_of, push_nodes, usual_nodes};
+use crate::growing::{growth_of, usual_nodes};
 use crate::runs::{Run, runs_of};
-use crate::stands::{Stand, push_stands};
 use bay_model::NodeRow;
 use name_growth::Spot;
-use name_leaves::{Leaf, count, plus};
-use name_order::places_in_order;
+use name_leaves::{Leaf, count};
+use node_finding::{Directory, NodeName, directory_of};
+use node_rows::{Stand, attrs_of, push_nodes, push_stands};
 use object_names::Line;
 use octet_rows::Index;
 use std::alloc::{AllocError, Global};
 use sv_base::{Config, Octs};
-
-/// The names of a domain: the number of its first node, the items of its nodes, one after another, and their places in the
-/// ascending order of their octets.
-#[derive(Drop)]
-pub struct Directory {
-    pub first: u32,
-    pub items: Index,
-    pub ascending: Vec<u32>,
-}
 
 /// The nodes by their numbers: their rows, their names and what stands at them; the names of each domain; and the leaves of
 /// all nodes.
@@ -61,21 +51,6 @@ impl Listing {
             leaves: Vec::with_capacity(alloc, nodes)?,
         })
     }
-}
-
-/// The names of a domain whose nodes have these items, the first of them this number.
-fn directory_of(alloc: Global, first: u32, items: Index) -> Result<Directory, AllocError>
-    ensures { IfOk result (λ d. IsDirectoryOf first items d) }
-{
-    let mut items = items;
-    let _end = plus(first, count(items.len())?)?;
-    items.shrink_to_fit();
-    let ascending = places_in_order(alloc, &items)?;
-    Ok(Directory {
-        first,
-        items,
-        ascending,
-    })
 }
 
 /// Adds the nodes at these spots, which have these items, of the domain of this number.

@@ -1,21 +1,21 @@
 //! The model of a configuration.
 
 ghost use Rattle.std.specs.Prelude.{◌≡◌, IfOk};
-ghost use Rattle.object_names.specs.Attributes.{attr_rows};
-ghost use Rattle.object_names.specs.References.{block_references as blocks_of, control_references as controls_of, attr_references as attrs_of};
+ghost use Rattle.name_leaves.specs.Attributes.{attr_rows};
+ghost use Rattle.name_leaves.specs.References.{block_references as blocks_of, control_references as controls_of, attr_references as attrs_of};
 ghost use Rattle.object_model.specs.Tables.{IsTables};
 
-use crate::finding::item_at;
-use crate::fitting::{Counts, step_fits};
-use crate::stands::between;
 use crate::tables::Tables;
-use bay_model::{Flags, Names, NodeTable, SetTable, Step};
+use attribute_rows::{Attributes, block_references, control_references};
+use bay_model::{AttrRow, Flags, Names, NodeTable, SetTable, Step};
 use config_copies::copy_config;
 use name_leaves::{Leaf, What};
 use name_order::name_at;
-use object_names::{AttrRow, Attributes, block_references, control_references};
+use node_finding::item_at;
+use node_rows::between;
 use octet_rows::Index;
 use std::alloc::{AllocError, Global};
+use step_fitting::{Counts, step_fits};
 use sv_base::{AttrId, BlockNo, Config, CtlNo, NodeId, TypeOf};
 
 /// What a configuration names (IEC 61850-7-2, the information model), with its nodes, attributes, blocks and controls by
@@ -44,11 +44,11 @@ impl std::marker::Model for Model {
     ghost view = { λ m. m.config };
 
     ghost use Rattle.std.specs.Prelude.{◌≡◌};
-    ghost use Rattle.object_names.specs.References.{block_references, control_references, attr_references};
+    ghost use Rattle.name_leaves.specs.References.{block_references, control_references, attr_references};
     ghost use Rattle.std.specs.List.{All};
     ghost use Rattle.sv_base.specs.declared.config.AttrDef.{AttrDef};
     ghost use Rattle.bay_rooms.specs.Slots.{IsSettable};
-    ghost use Rattle.object_names.specs.Attributes.{attr_rows};
+    ghost use Rattle.name_leaves.specs.Attributes.{attr_rows};
     ghost use Rattle.object_model.specs.Tables.{IsTables};
 
     ghost invariant = { λ m. (m.blocks ≡ block_references m.config) × (m.controls ≡ control_references m.config) × (m.attrs ≡ attr_references m.config) × IsTables m.config m.tables × All (λ (a : AttrDef). IsSettable a.kind) m.config.attrs × (m.rows.items ≡ attr_rows m.config) };
@@ -103,13 +103,13 @@ impl Model {
     ghost use Rattle.sv_base.specs.declared.config.AttrDef.{AttrDef as AttrLine};
     ghost use Rattle.bay_rooms.specs.Slots.{IsSettable};
     ghost use Rattle.object_model.specs.Fits.{fits as fits_in};
-    ghost use Rattle.object_model.specs.Nodes.{node_rows};
-    ghost use Rattle.object_model.specs.Sorting.{variables_after};
+    ghost use Rattle.node_rows.specs.Nodes.{node_rows};
+    ghost use Rattle.node_finding.specs.Sorting.{variables_after};
     ghost use Rattle.object_model.specs.Tables.{node_named, node_type, set_rows, flags_of};
     ghost use Rattle.name_leaves.specs.Seen.{role_seen};
     ghost use Rattle.name_leaves.specs.Leaves.{leaves, leaf_seen};
     ghost use Rattle.name_leaves.specs.Numbers.{number_in};
-    ghost use Rattle.object_names.specs.References.{block_references as blocks_of, control_references as controls_of, attr_references as attrs_of};
+    ghost use Rattle.name_leaves.specs.References.{block_references as blocks_of, control_references as controls_of, attr_references as attrs_of};
 
     /// The model of a configuration, whose attributes are of the types that an `attr` line may have.
     pub fn build(alloc: Global, config: Config) -> Result<Self, AllocError>

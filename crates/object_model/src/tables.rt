@@ -3,19 +3,17 @@
 ghost use Rattle.std.specs.Prelude.{◌≡◌, map, IfOk};
 ghost use Rattle.sv_base.specs.declared.config.Config.{Config as ModelConfig};
 ghost use Rattle.bay_model.specs.Named.{set_defined, member_number, nodes as nodes_of};
-ghost use Rattle.object_model.specs.Finding.{Finds, node_named};
-ghost use Rattle.object_model.specs.Sorting.{variables_after};
+ghost use Rattle.node_finding.specs.Finding.{Finds, node_named};
+ghost use Rattle.node_finding.specs.Sorting.{variables_after};
 ghost use Rattle.object_model.specs.Tables.{IsTables, set_row, node_id};
-ghost use Rattle.object_names.specs.References.{attr_references};
+ghost use Rattle.name_leaves.specs.References.{attr_references};
 
-use crate::finding::{member_of, number_of};
-use crate::listing::{Directory, list};
-use crate::nodes::NodeName;
-use crate::stands::Stand;
+use crate::listing::list;
 use bay_model::{NodeTable, Nodes, SetName, SetRow, SetTable};
-use name_leaves::Leaf;
+use name_leaves::{Leaf, joined};
 use name_order::names_after_at;
-use object_names::references::joined;
+use node_finding::{Directory, NodeName, member_of, number_of};
+use node_rows::Stand;
 use object_names::{domains, index_of, ordered_lines};
 use octet_rows::Index;
 use std::alloc::{AllocError, Global};

@@ -10,8 +10,8 @@ use Rattle.sv_base.specs.declared.config.CtlDef.{CtlDef}
 use Rattle.bay_model.specs.Generated.{parameters}
 use Rattle.bay_model.specs.Lookups.{reference_of}
 use Rattle.bay_model.specs.NamedLines.{is_setting}
-use Rattle.object_names.specs.Attributes.{Attribute, line_attr, twin_attr, parameter_attr, control_attrs, references_of}
-use Rattle.object_names.specs.References.{attr_references}
+use Rattle.name_leaves.specs.Attributes.{Attribute, line_attr, twin_attr, parameter_attr, control_attrs, references_of}
+use Rattle.name_leaves.specs.References.{attr_references}
 use Rattle.object_names.specs.Items.{HasReference, AreReferenced}
 
 -- ---- the item of a reference

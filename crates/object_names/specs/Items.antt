@@ -4,7 +4,7 @@ use Rattle.sv_base.specs.declared.config.AttrDef.{AttrDef}
 use Rattle.bay_model.specs.NamedLines.{is_setting}
 use Rattle.object_names.specs.declared.named.ItemOctets.{ItemOctets}
 use Rattle.object_names.specs.declared.named.ItemOctets.TheVariants as items
-use Rattle.object_names.specs.Attributes.{attr_at}
+use Rattle.name_leaves.specs.Attributes.{attr_at}
 
 abbrev pub item_octets : ItemOctets → List ℕ
 item_octets (items.Lent octets) = octets.now

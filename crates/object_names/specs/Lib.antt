@@ -1,4 +1,2 @@
--- what the lines of a configuration name
-pub mod Attributes
-pub mod References
+-- the items that the lines of a configuration name
 pub mod Items

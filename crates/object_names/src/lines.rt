@@ -9,14 +9,13 @@ ghost use Rattle.bay_model.specs.NamedLines.{attribute_line, attribute_lines, bl
 ghost use Rattle.bay_model.specs.Model.{attribute};
 ghost use Rattle.bay_model.specs.Lookups.{reference_of};
 ghost use Rattle.object_names.specs.Items.{HasReference, AreReferenced};
-ghost use Rattle.object_names.specs.References.{attr_references};
+ghost use Rattle.name_leaves.specs.References.{attr_references};
 
 use crate::named::{
     Item, Named, push_block, push_control, push_parameters, push_settings, structure,
 };
-use crate::references::{is_selected, item_at};
 use bay_model::is_setting;
-use name_leaves::{What, count, plus};
+use name_leaves::{What, count, is_selected, item_at, plus};
 use octet_rows::Index;
 use std::alloc::{AllocError, Global};
 use std::marker::Model;

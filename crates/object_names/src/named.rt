@@ -7,9 +7,8 @@ ghost use Rattle.bay_model.specs.Generated.{within, end_named, structure_named, 
 ghost use Rattle.bay_model.specs.Model.{attribute, withheld};
 ghost use Rattle.name_leaves.specs.Seen.{role_seen};
 
-use crate::references::{is_selected, joined};
 use bay_model::{Comp, SettingComp};
-use name_leaves::{What, plus};
+use name_leaves::{What, is_selected, joined, plus};
 use std::alloc::{AllocError, Global};
 use std::marker::Model;
 use sv_base::{Call, CallPart, CtlDef, CtlParameter, CtlService, Octs, Parts, TypeOf};

@@ -1,10 +1,7 @@
--- Settings and steps that lines tell, and that they fit.
-pub mod SettingLaws
-pub mod FitLaws
+-- Steps that lines tell, and that they fit.
 pub mod StepLaws
 pub mod FormLaws
 pub mod StreamLaws
 pub mod FedLaws
 pub mod TellLaws
 pub mod ToldLaws
-mod WorkedLines

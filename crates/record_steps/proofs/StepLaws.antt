@@ -1,7 +1,7 @@
 -- The steps that lines tell fit the configuration: associations are 1 to 16, blocks are there, and values are sound.
-use Rattle.std.proofs.Common.{◌≡◌, ℕ, ◌<◌, ◌≤◌, Bool, true, false, cond, List, [], ◌∷◌, length, map, refl, sym, ap, ◌∙◌, arith}
-use Rattle.std.specs.Prelude.{Option, None, Some, codes, ◌==◌, nat_lt, if◌then◌else◌}
-use Rattle.std.specs.List.{list_all, position_or_len}
+use Rattle.std.proofs.Common.{◌≡◌, ℕ, ◌<◌, ◌≤◌, Bool, true, false, cond, List, length, refl, sym, ap, ◌∙◌, arith}
+use Rattle.std.specs.Prelude.{None, Some, nat_lt, if◌then◌else◌}
+use Rattle.std.specs.List.{position_or_len}
 use Rattle.std.specs.Str.{bytes_eq}
 use Rattle.std.proofs.lemmas.Bool.{and_from, le-leb}
 use Rattle.std.proofs.lemmas.List.{length-map}
@@ -11,25 +11,20 @@ use Rattle.sv_base.specs.declared.numbers.ActorNo.{ActorNo}
 use Rattle.sv_base.specs.declared.numbers.AssocNo.{AssocNo}
 use Rattle.sv_base.specs.declared.numbers.BlockNo.{BlockNo}
 use Rattle.sv_base.specs.declared.numbers.CtlNo.{CtlNo}
-use Rattle.sv_base.specs.declared.types.TypeOf.TheVariants as types
 use Rattle.sv_base.specs.declared.value.Value.{Value}
-use Rattle.sv_base.specs.declared.value.Value.TheVariants as values
 use Rattle.sv_base.specs.declared.components.Comp.{Comp}
 use Rattle.bay_model.specs.declared.request.Request.{Request}
 use Rattle.bay_requests.specs.Requests.{IsFitting}
 use Rattle.bay_model.specs.declared.step.Step.{Step}
 use Rattle.bay_model.specs.declared.step.Step.TheVariants as steps
-use Rattle.text_words.specs.Words.{behind}
-use Rattle.text_words.specs.Numbers.{number_at, int_at}
-use Rattle.text_words.specs.Values.{read_as, truth_at, is_graphic, is_binary, hex_at}
-use Rattle.object_model.specs.Fits.{fits, is_association, is_sound}
+use Rattle.object_model.specs.Fits.{fits, is_association}
 use Rattle.name_leaves.specs.Numbers.{number_in}
 use Rattle.object_model.specs.References.{block_references, control_references}
 use Rattle.run_record.specs.Grammar.{IsAssoc}
-use Rattle.record_steps.specs.Shapes.{is_bits, bits_of, signed_of, number_of, text_of, marked_at, truth_or, shape_at}
+use Rattle.record_values.specs.Shapes.{shape_at}
+use Rattle.record_values.proofs.ShapeLaws.{sound-shape}
 use Rattle.record_steps.specs.Resolved.{turn_of, ended_as, blocked_as}
 use Rattle.record_steps.specs.Told.{turn, refused}
-use Rattle.text_values.proofs.ValueLaws.{sound}
 
 -- the place of an element is one of the list's
 place-within : (m n i : ℕ) → cond (nat_lt m n) (Some m) None ≡ Some i → i < n
@@ -43,46 +38,6 @@ block-within c word b h = let low = place-within (position_or_len (bytes_eq word
 
 pub control-within : (c : Config) (word : List ℕ) (k : ℕ) → number_in (control_references c) word ≡ Some k → nat_lt k (length c.controls) ≡ true
 control-within c word k h = let low = place-within (position_or_len (bytes_eq word) (control_references c)) (length (control_references c)) k h in grind (arith, nat_tests, length-map)
-
--- a value that a text has by its shape is sound
-sound-read : {A : Type 0} (kind : A → Value) → ((a : A) → is_sound (kind a) ≡ true) → (o : Option A) (v : Value) → read_as kind o ≡ Some v → is_sound v ≡ true
-sound-read kind sound None v h = absurd cc
-sound-read kind sound (Some a) v h = let same : kind a ≡ v = cc in ap is_sound (sym same) ∙ sound a
-
-sound-bits : (word : List ℕ) (v : Value) → bits_of word ≡ Some v → is_sound v ≡ true
-sound-bits word v h = by (list_all is_binary word) h where
-  by : (b : Bool) → (if b then Some (values.Bits (map (λ octet. octet == 49) word)) else None) ≡ Some v → is_sound v ≡ true
-  by true h = let same : values.Bits (map (λ octet. octet == 49) word) ≡ v = cc in ap is_sound (sym same)
-  by false h = absurd cc
-
-sound-text : (octets : List ℕ) (v : Value) → text_of octets ≡ Some v → is_sound v ≡ true
-sound-text octets v h = by (list_all is_graphic octets) refl h where
-  by : (b : Bool) → list_all is_graphic octets ≡ b → (if b then Some (values.Text octets) else None) ≡ Some v → is_sound v ≡ true
-  by true e h = let same : values.Text octets ≡ v = cc in ap is_sound (sym same) ∙ sound (types.Text (length octets)) (values.Text octets) (omega arith, e)
-  by false e h = absurd cc
-
-sound-number : (word : List ℕ) (v : Value) → number_of word ≡ Some v → is_sound v ≡ true
-sound-number word v h = by (behind (codes "-") word) h where
-  by : (o : Option (List ℕ)) → signed_of word o ≡ Some v → is_sound v ≡ true
-  by None h = sound-read values.Uint (λ n. refl) (number_at word) v h
-  by (Some digits) h = sound-read values.Int (λ z. refl) (int_at 64 word) v h
-
-sound-marked : (comp : Comp) (word : List ℕ) (v : Value) → marked_at comp word ≡ Some v → is_sound v ≡ true
-unfolding marked_at
-sound-marked comp [] v h = absurd cc
-sound-marked comp (mark ∷ octets) v h = by (mark == 39) (mark == 120) (is_bits comp) h where
-  by : (a b c : Bool) → (if a then text_of octets else if b then read_as values.Octets (hex_at octets) else if c then bits_of (mark ∷ octets) else number_of (mark ∷ octets)) ≡ Some v → is_sound v ≡ true
-  by true b c h = sound-text octets v h
-  by false true c h = sound-read values.Octets (λ o. refl) (hex_at octets) v h
-  by false false true h = sound-bits (mark ∷ octets) v h
-  by false false false h = sound-number (mark ∷ octets) v h
-
-pub sound-shape : (comp : Comp) (word : List ℕ) (v : Value) → shape_at comp word ≡ Some v → is_sound v ≡ true
-unfolding shape_at
-sound-shape comp word v h = by (truth_at word) h where
-  by : (o : Option Bool) → truth_or o (marked_at comp word) ≡ Some v → is_sound v ≡ true
-  by None h = sound-marked comp word v h
-  by (Some b) h = let same : values.Bool b ≡ v = cc in ap is_sound (sym same)
 
 -- the steps
 is_numbered : (a : AssocNo) → IsAssoc a → is_association a.0 ≡ true

@@ -17,8 +17,8 @@ use Rattle.run_record.specs.declared.line.RecLine.{RecLine}
 use Rattle.run_record.specs.declared.line.RecLine.TheVariants as lines
 use Rattle.run_record.specs.declared.pairs.Pair.{Pair}
 use Rattle.sv_base.specs.ComponentTable.{comp_named}
-use Rattle.record_steps.specs.Shapes.{shape_at}
-use Rattle.record_steps.specs.Settings.{are_named, settings_at}
+use Rattle.record_values.specs.Shapes.{shape_at}
+use Rattle.record_values.specs.Settings.{are_named, settings_at}
 use Rattle.text_words.specs.Values.{hex_at}
 use Rattle.bay_model.specs.declared.request.Request.{Request}
 use Rattle.record_steps.specs.Forms.{Form, shut, direct, mms, dialling, wire, is_shut, is_direct}

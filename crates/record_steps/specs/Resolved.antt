@@ -20,10 +20,10 @@ use Rattle.run_record.specs.declared.line.RecLine.TheVariants as lines
 use Rattle.run_record.specs.declared.pairs.Pair.{Pair}
 use Rattle.sv_base.specs.ComponentTable.{comp_named}
 use Rattle.text_words.specs.Values.{hex_at}
-use Rattle.record_steps.specs.Shapes.{shape_at}
+use Rattle.record_values.specs.Shapes.{shape_at}
 use Rattle.record_steps.specs.Forms.{Form, shut, mms, dialling, wire, is_shut, is_direct}
 use Rattle.record_steps.specs.Asks.{asked_by}
-use Rattle.record_steps.specs.Settings.{are_named, settings_at}
+use Rattle.record_values.specs.Settings.{are_named, settings_at}
 use Rattle.record_steps.specs.Streams.{piece_at, events_behind, refusal_behind, heard_through}
 use Rattle.record_steps.specs.Told.{Told, skip, pass_to, turn, heard, refused, last}
 use Rattle.record_steps.specs.declared.heard.Wired.{Wired}

@@ -20,7 +20,7 @@ use stream_lines::{push_aborted, push_fault, push_frame, push_released};
 use sv_base::{ActorNo, AssocNo, Octs};
 
 /// A part of what a piece of a stream comes to.
-#[derive(Debug, Drop)]
+#[derive(Drop)]
 pub enum Heard {
     /// Lines of the stack's own: its answers, what it refuses, and how the association ends.
     Tells(Octs),

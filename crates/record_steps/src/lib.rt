@@ -16,7 +16,3 @@ mod heard;
 mod stream;
 
 pub use heard::Heard;
-
-// the values of lines
-mod settings;
-mod shapes;

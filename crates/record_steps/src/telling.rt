@@ -19,12 +19,11 @@ ghost use Rattle.bay_model.specs.declared.step.Step.TheVariants as steps;
 
 use crate::form::{Form, pass};
 use crate::heard::Heard;
-use crate::settings::{Found, settings_of};
-use crate::shapes::shape;
 use crate::stream::hear;
 use bay_model::{Comp, Request, Sets, Setting, Step};
 use bay_requests::read_request;
 use object_model::Model;
+use record_values::{Found, settings_of, shape};
 use run_record::{Kind, LineView, OpenForm, PairsView};
 use std::alloc::{AllocError, Global};
 use std::mem::replace;

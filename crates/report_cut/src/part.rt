@@ -4,7 +4,7 @@ use bay_model::Report;
 
 /// What one PDU of a report tells (IEC 61850-8-1, mapping of the Report service): its fields, and its own members. A field
 /// that OptFlds left out is 0, FALSE or empty, a left-out time the least moment, and the block is number 0.
-#[derive(Debug, Drop)]
+#[derive(Drop)]
 pub struct ReportPart {
     pub report: Report,
     /// SubSqNum; 0 where the report isn't segmented

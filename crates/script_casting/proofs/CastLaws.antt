@@ -15,8 +15,8 @@ use Rattle.actor_scripts.specs.Scripts.{turns_by}
 use Rattle.actor_scripts.specs.declared.script.Actor.{Actor}
 use Rattle.actor_scripts.specs.declared.script.Script.{Script as Part}
 use Rattle.actor_scripts.specs.declared.script.TimedStep.{TimedStep}
-use Rattle.race_records.specs.Known.{Role as Known, role_of, roles_from, AreScripts}
-use Rattle.script_casting.specs.Casting.{script_steps, role_steps, cast_one, cast_from, turns_among, AreOfPlan}
+use Rattle.race_records.specs.Known.{Role as Known, role_of, roles_from, AreScripts, turns_among, AreOfPlan}
+use Rattle.script_casting.specs.Casting.{script_steps, role_steps, cast_one, cast_from}
 use Rattle.script_casting.specs.declared.casting.Role.{Role}
 
 abbrev Roles : Type 0

@@ -1,8 +1,6 @@
 -- The actors of a plan.
-use Rattle.std.specs.Prelude.{◌≡◌, ◌≢◌, ◌<◌, ℕ, suc, true, is_some, slice_index_or, slice_set, ◌==◌, List, [], ◌∷◌, ◌++◌, map, cond, Option, None, Some}
-use Rattle.bay_model.specs.Answers.{History}
-use Rattle.script_reading.specs.Plans.{Script, Plan, turns_of}
-use Rattle.actor_scripts.specs.Scripts.{turns_by}
+use Rattle.std.specs.Prelude.{◌≡◌, ◌≢◌, ◌<◌, ℕ, suc, true, is_some, slice_index_or, slice_set, List, [], ◌∷◌, ◌++◌, map, Option, None, Some}
+use Rattle.script_reading.specs.Plans.{Script}
 use Rattle.actor_scripts.specs.declared.script.Script.{Script as Part}
 use Rattle.actor_scripts.specs.declared.script.TimedStep.{TimedStep}
 use Rattle.script_casting.specs.declared.casting.Role.{Role}
@@ -66,15 +64,6 @@ abbrev pub cast_from : ℕ → List (Option Role) → List Part
 cast_from n [] = []
 cast_from n (None ∷ rs) = cast_from (suc n) rs
 cast_from n (Some r ∷ rs) = cast_from (suc n) rs ++ record { actor = n; steps = r.steps } ∷ []
-
--- the turns of actor k, where one of the scripts is its
-abbrev pub turns_among : List Part → ℕ → History
-turns_among [] k = []
-turns_among (s ∷ ss) k = cond (s.actor == k) (turns_by k s.steps.items) (turns_among ss k)
-
--- the scripts are those of the plan
-abbrev pub AreOfPlan : Plan → List Part → Type 0
-AreOfPlan p ss = (k : ℕ) → turns_among ss k ≡ turns_of p k
 
 -- the actors are those of these scripts
 abbrev pub IsCast : List Part → List (Option Script) → Type 0

@@ -2,7 +2,7 @@
 
 ghost use Rattle.std.specs.Prelude.{◌≡◌, ◌≤◌, ◌++◌, ◌∷◌, [], None, Some, map, length, slice_set, IfOk, OnOk};
 ghost use Rattle.race_records.specs.Merged.{lines_in, book_seen};
-ghost use Rattle.script_casting.specs.Casting.{script_steps, role_steps, script_place, role_place, AreSeats, HasGate, HaveGates, without_gate, cast_one, cast_from};
+ghost use Rattle.script_casting.specs.Casting.{script_steps, role_steps, script_place, role_place, AreSeats, HasGate, HaveGates, without_gate, cast_one, cast_from, IsCast};
 
 use actor_scripts::{Actor, Script as ActorScript, TimedStep};
 use script_reading::{Script, StepLine};
@@ -12,7 +12,7 @@ use sv_io::Gate;
 
 /// What an actor is to do: its steps, and the place of its script in the input.
 #[derive(Drop)]
-pub struct Role {
+struct Role {
     place: u32,
     steps: Vec<TimedStep>,
 }
@@ -72,7 +72,7 @@ fn add_roles(
 }
 
 /// The roles of actors and the lines of their scripts, both by the actors' numbers.
-pub fn part(
+fn part(
     alloc: Global,
     slots: Vec<Option<Script>>,
 ) -> Result<(Vec<Option<Role>>, Vec<Vec<StepLine>>), AllocError>
@@ -156,7 +156,7 @@ fn add_actors<G: Gate>(
 }
 
 /// The actors of these roles, the one with the highest number first. The gate of a script is the one at its place.
-pub fn cast<G: Gate>(
+fn cast<G: Gate>(
     alloc: Global,
     roles: Vec<Option<Role>>,
     gates: Vec<G>,
@@ -182,6 +182,35 @@ pub fn cast<G: Gate>(
         Ok(()) => Ok(actors),
         Err(error) => {
             drop(actors);
+            Err(error)
+        }
+    }
+}
+
+/// The actors of scripts, the one with the highest number first, and the lines of the scripts, both by the actors' numbers. The gate
+/// of a script is the one at its place.
+pub fn cast_scripts<G: Gate>(
+    alloc: Global,
+    slots: Vec<Option<Script>>,
+    gates: Vec<G>,
+) -> Result<(Vec<Actor<G>>, Vec<Vec<StepLine>>), AllocError>
+    requires few { length slots.items ≤ 33 }
+    requires seats { AreSeats (map script_place slots.items) }
+    requires gates { length gates.items ≡ 16 }
+    ensures book { IfOk result (λ r. book_seen r.1.items ≡ map lines_in slots.items) }
+    ensures actors { IfOk result (λ r. IsCast (map (λ a. a.script) r.0.items) slots.items) }
+{
+    let (roles, book) = match part(alloc, slots) {
+        Ok(parts) => parts,
+        Err(error) => {
+            drop(gates);
+            return Err(error);
+        }
+    };
+    match cast(alloc, roles, gates) {
+        Ok(actors) => Ok((actors, book)),
+        Err(error) => {
+            drop(book);
             Err(error)
         }
     }

@@ -3,4 +3,4 @@
 
 mod casting;
 
-pub use casting::{Role, cast, part};
+pub use casting::cast_scripts;

@@ -9,7 +9,8 @@ use Rattle.record_outcome.specs.declared.status.Status.TheVariants as statuses
 use Rattle.script_reading.specs.Plans.{Plan}
 use Rattle.script_reading.specs.Inputs.{Outcome, refused, ready}
 use Rattle.record_outcome.specs.Judgements.{IsRefusal}
-use Rattle.server_run.specs.Rehearsals.{Performs, PerformsInput, Rehearses, IsListed}
+use Rattle.race_settling.specs.Settled.{Performs}
+use Rattle.server_run.specs.Rehearsals.{PerformsInput, Rehearses, IsListed}
 use Rattle.std.proofs.KnownBytes.{Appends-nil}
 
 -- ---- of an input

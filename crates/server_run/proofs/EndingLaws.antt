@@ -5,7 +5,8 @@ use Rattle.record_outcome.specs.declared.status.Status.TheVariants as statuses
 use Rattle.script_reading.specs.Plans.{Plan}
 use Rattle.script_reading.specs.Inputs.{Outcome, refused}
 use Rattle.race_records.proofs.BoundLaws.{none-of}
-use Rattle.server_run.specs.Rehearsals.{Goes, MeetsFull, ends_at, EndsAs, IsStatusOf, EndingsAreKnown}
+use Rattle.race_settling.specs.Settled.{Goes, MeetsFull}
+use Rattle.server_run.specs.Rehearsals.{ends_at, EndsAs, IsStatusOf, EndingsAreKnown}
 
 refused-so : (o : Outcome) (status : Status) → o ≡ refused status → IsStatusOf o status
 refused-so o status is = subst (λ x. IsStatusOf x status) (sym is) refl

@@ -1,5 +1,4 @@
 -- The laws of rehearsals.
-pub mod RaceLaws
-pub mod SettleLaws
+pub mod PlanLaws
 pub mod EndingLaws
 pub mod DeliveryLaws

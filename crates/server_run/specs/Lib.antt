@@ -1,3 +1,2 @@
 -- What a rehearsal comes to.
-pub mod Races
 pub mod Rehearsals

@@ -1,30 +1,25 @@
 //! A rehearsal.
 
-ghost use Rattle.std.specs.Prelude.{◌≡◌, ◌≢◌, ◌≤◌, List, [], length, take, map, IfOk, IfSome};
-ghost use Rattle.std.specs.List.{All};
+ghost use Rattle.std.specs.Prelude.{◌≡◌, ◌≢◌, ◌≤◌, length, take, map, IfOk, IfSome};
 ghost use Rattle.sv_io.specs.Taken.{TakesAtMost};
 ghost use Rattle.sv_io.specs.Causes.{Rose};
 ghost use Rattle.script_reading.specs.Inputs.{Outcome, outcome};
 ghost use Rattle.script_reading.specs.Plans.{Plan as ThePlan};
 ghost use Rattle.script_reading.specs.Readings.{plan_seen};
 ghost use Rattle.script_reading.specs.Sound.{IsSound};
-ghost use Rattle.actor_scripts.specs.declared.script.Script.{Script as ThePart};
-ghost use Rattle.bay_model.specs.Points.{least_moment};
-ghost use Rattle.std.specs.Prelude.{◌++◌, codes};
-ghost use Rattle.race_records.specs.Merged.{lines_in, book_seen, merged, record_with, answered, IsAnswerable};
-ghost use Rattle.script_casting.specs.Casting.{script_place, AreSeats, IsCast};
-ghost use Rattle.server_run.specs.Races.{IsOfPlan, IsOfRace};
-ghost use Rattle.server_run.specs.Rehearsals.{most, Performs, PerformsInput, Rehearses, IsListed};
+ghost use Rattle.race_records.specs.Merged.{book_seen};
+ghost use Rattle.race_settling.specs.Races.{IsOfPlan};
+ghost use Rattle.race_settling.specs.Settled.{Performs};
+ghost use Rattle.server_run.specs.Rehearsals.{most, PerformsInput, Rehearses, IsListed};
 
-use actor_scripts::{Actor, Made, merge};
+use actor_scripts::Actor;
 use bay_races::race_over;
 use object_model::Model;
-use race_records::{lacks_memory, lowest_full, write_answers, write_record};
+use race_settling::settle;
 use record_outcome::limits::MOST_OCTETS;
 use record_outcome::status::Status;
-use script_casting::{cast, part};
-use script_reading::{MOST_SCRIPTS, Plan, Script, StepLine, read_rehearsal};
-use script_threads::Raced;
+use script_casting::cast_scripts;
+use script_reading::{MOST_SCRIPTS, Plan, StepLine, read_rehearsal};
 use std::alloc::{AllocError, Global};
 use std::sync::Wait;
 use std::thread::Threads;
@@ -32,77 +27,6 @@ use sv_io::{Failed, Gate, OpenGate, Sink, Source, Unread, read_whole};
 
 /// One octet more than an input may have.
 const MOST: usize = MOST_OCTETS + 1;
-
-/// The record of steps that were made, and the answers to it.
-fn record_of(
-    alloc: Global,
-    model: &Model,
-    text: &[u8],
-    book: &[Vec<StepLine>],
-    made: &[Made],
-) -> Result<Vec<u8>, AllocError>
-    requires { All (IsAnswerable model.now (book_seen book.now)) made.now }
-    ensures { IfOk result (λ v. v.items ≡ record_with text.now (merged (book_seen book.now) least_moment made.now) ++ (answered model.now (book_seen book.now) made.now ++ codes "end\n")) }
-{
-    let mut out = Vec::new(alloc);
-    write_record(&mut out, text, book, made)?;
-    write_answers(alloc, &mut out, model, book, made)?;
-    out.extend_from_slice(b"end\n")?;
-    Ok(out)
-}
-
-/// What a race comes to: the record that the scripts made with its answers, or the status where a turn met a full queue.
-fn settle(
-    alloc: Global,
-    model: &Model,
-    text: &[u8],
-    book: &[Vec<StepLine>],
-    raced: Raced,
-) -> Result<Result<Vec<u8>, Status>, AllocError>
-    requires plan { (p : ThePlan) × (ss : List ThePart) × IsOfPlan p model.now text.now (book_seen book.now) ss × IsOfRace p.config ss raced }
-    ensures { (p : ThePlan) (ss : List ThePart) → IsOfPlan p model.now text.now (book_seen book.now) ss → IsOfRace p.config ss raced → IfOk result (Performs p) }
-{
-    let Raced { total, parts } = raced;
-    if lacks_memory(&parts) {
-        drop(parts);
-        return Err(AllocError);
-    }
-    if let Some(line) = lowest_full(book, &parts) {
-        drop(parts);
-        return Ok(Err(Status::Limit { which: 2, line }));
-    }
-    let made = merge(alloc, parts, total)?;
-    let out = record_of(alloc, model, text, book, &made)?;
-    Ok(Ok(out))
-}
-
-/// The actors of scripts, and the lines of these.
-fn cast_scripts<G: Gate>(
-    alloc: Global,
-    slots: Vec<Option<Script>>,
-    gates: Vec<G>,
-) -> Result<(Vec<Actor<G>>, Vec<Vec<StepLine>>), AllocError>
-    requires few { length slots.items ≤ 33 }
-    requires seats { AreSeats (map script_place slots.items) }
-    requires gates { length gates.items ≡ 16 }
-    ensures book { IfOk result (λ r. book_seen r.1.items ≡ map lines_in slots.items) }
-    ensures actors { IfOk result (λ r. IsCast (map (λ a. a.script) r.0.items) slots.items) }
-{
-    let (roles, book) = match part(alloc, slots) {
-        Ok(parts) => parts,
-        Err(error) => {
-            drop(gates);
-            return Err(error);
-        }
-    };
-    match cast(alloc, roles, gates) {
-        Ok(actors) => Ok((actors, book)),
-        Err(error) => {
-            drop(book);
-            Err(error)
-        }
-    }
-}
 
 /// Lets the scripts of a plan race whose actors are cast.
 fn play_cast<R: Threads + Wait + Sync, G: Gate>(

@@ -6,7 +6,7 @@ use sv_base::NodeId;
 
 /// The members of a data set that is there, lent: the numbers of its nodes, and the rows that these stand for. Contracts see
 /// the shapes of the members, in the order of the set.
-#[derive(Debug, Drop)]
+#[derive(Drop)]
 pub struct SetView<'a> {
     nodes: &'a [NodeId],
     rows: &'a [NodeRow],

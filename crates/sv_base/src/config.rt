@@ -7,7 +7,7 @@ use crate::{
 
 /// What a server is made of: the identity that it tells, and the objects of its domains (logical devices of IEC
 /// 61850-7-2). Each list is in the order of the configuration's lines.
-#[derive(Debug, Drop)]
+#[derive(Drop)]
 pub struct Config {
     /// What Identify answers (ISO 9506-2), 1 to 64 visible octets each.
     pub vendor: Octs,
@@ -22,7 +22,7 @@ pub struct Config {
 }
 
 /// A logical node (IEC 61850-7-2, LOGICAL-NODE).
-#[derive(Debug, Drop)]
+#[derive(Drop)]
 pub struct LnDef {
     /// The number of its line, counted from 1.
     pub line: u32,
@@ -33,7 +33,7 @@ pub struct LnDef {
 }
 
 /// An attribute (IEC 61850-7-2, DataAttribute).
-#[derive(Debug, Drop)]
+#[derive(Drop)]
 pub struct AttrDef {
     /// The number of its line, counted from 1.
     pub line: u32,
@@ -55,7 +55,7 @@ pub struct AttrDef {
 }
 
 /// A configured data set (IEC 61850-7-2, DATA-SET).
-#[derive(Debug, Drop)]
+#[derive(Drop)]
 pub struct SetDef {
     /// The number of its line, counted from 1.
     pub line: u32,
@@ -70,7 +70,7 @@ pub struct SetDef {
 }
 
 /// A buffered report control block (IEC 61850-7-2, BUFFERED-REPORT-CONTROL-BLOCK).
-#[derive(Debug, Drop)]
+#[derive(Drop)]
 pub struct BlockDef {
     /// The number of its line, counted from 1.
     pub line: u32,
@@ -99,7 +99,7 @@ pub struct BlockDef {
 }
 
 /// A control (IEC 61850-7-2, control class model).
-#[derive(Debug, Drop)]
+#[derive(Drop)]
 pub struct CtlDef {
     /// The number of its line, counted from 1.
     pub line: u32,
@@ -120,7 +120,7 @@ pub struct CtlDef {
 }
 
 /// A domain's setting group control block (IEC 61850-7-2, SETTING-GROUP-CONTROL-BLOCK).
-#[derive(Debug, Drop)]
+#[derive(Drop)]
 pub struct SgDef {
     /// The number of its line, counted from 1.
     pub line: u32,

@@ -8,14 +8,14 @@ use std::marker::Model;
 use std::mem;
 use std::ops::DerefSlice;
 
-#[derive(Debug, Drop)]
+#[derive(Drop)]
 enum Items<T> {
     One([T; 1]),
     Many(Vec<T>),
 }
 
 /// A list that mostly has one, which takes no memory.
-#[derive(Debug, Drop)]
+#[derive(Drop)]
 pub struct Few<T> {
     items: Items<T>,
 }

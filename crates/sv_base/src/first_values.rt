@@ -4,7 +4,7 @@ use crate::{Few, Value};
 use std::marker::Model;
 
 /// The first values of an attribute, mostly one, which takes no memory for itself. Contracts see them as `Values`.
-#[derive(Debug, Drop)]
+#[derive(Drop)]
 pub struct FirstValues {
     values: Few<Value>,
 }

@@ -6,7 +6,7 @@ use std::marker::Model;
 use std::sync::Arc;
 
 /// A row of octets that may be had several times, seen by contracts as the list of them. An empty one takes no memory.
-#[derive(Debug, Drop)]
+#[derive(Drop)]
 pub struct SharedOcts {
     octets: Option<Arc<Octs>>,
 }

@@ -29,7 +29,7 @@ fn meet(touched: &mut Vec<BlockNo>, b: BlockNo)
 
 /// The notes of a point, one for each block, in room that was made before. It knows which of them have a member, so that
 /// no other has to be looked at.
-#[derive(Debug, Drop)]
+#[derive(Drop)]
 pub struct Notes {
     notes: Vec<Note>,
     touched: Vec<BlockNo>,

@@ -10,8 +10,8 @@ ghost use Rattle.sv_base.specs.declared.value.Value.TheVariants as values;
 
 use bay_rooms::{Fixed, ValueRef};
 use ber_write::{length_parts, unsigned};
+use data_lengths::shortest;
 use mms_data::{stamp_octets, tags, time_octets};
-use sv_base::shortest;
 
 /// The octets of a length.
 fn put_length(out: &mut Fixed, content: u32)

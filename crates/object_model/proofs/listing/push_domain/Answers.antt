@@ -2,11 +2,11 @@
 use Rattle.std.proofs.Common.{◌≡◌, List, [], ◌∷◌, ap, ◌∙◌, subst, ◌++◌, map, length}
 use Rattle.bay_model.specs.Places.{Place}
 use Rattle.name_growth.specs.Grown.{items_of, spot}
-use Rattle.object_model.specs.Nodes.{names_at, places_from}
+use Rattle.node_rows.specs.Nodes.{names_at, places_from}
 use Rattle.object_model.specs.Runs.{lines_in}
-use Rattle.object_model.specs.Attrs.{attrs_in_spots, rows_with}
-use Rattle.object_model.specs.Listed.{IsDirectoryOf}
-use Rattle.object_model.specs.Stands.{owns, stands_from}
+use Rattle.node_rows.specs.Attrs.{attrs_in_spots, rows_with}
+use Rattle.node_finding.specs.Directories.{IsDirectoryOf}
+use Rattle.node_rows.specs.Stands.{owns, stands_from}
 use Rattle.object_model.proofs.listing.push_domain.Goals as goal
 
 pub returns : goal.returns

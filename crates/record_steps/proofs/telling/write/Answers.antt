@@ -3,7 +3,7 @@ use Rattle.std.proofs.Common.{◌≡◌, true, rules, sym, ap, ◌∙◌}
 use Rattle.std.specs.Option.{option_map}
 use Rattle.sv_base.specs.declared.numbers.BlockNo.{BlockNo}
 use Rattle.record_steps.specs.Forms.{is_direct, plain}
-use Rattle.record_steps.specs.Shapes.{shape_at}
+use Rattle.record_values.specs.Shapes.{shape_at}
 use Rattle.record_steps.specs.Told.{turn}
 use Rattle.record_steps.proofs.StepLaws.{write-told}
 use Rattle.record_steps.proofs.ToldLaws.{written-valued}

@@ -3,9 +3,9 @@ use Rattle.std.proofs.Common.{map, subst, sym}
 use Rattle.race_records.specs.Merged.{book_seen}
 use Rattle.actor_scripts.specs.Actors.{AreFalling, CanPlay}
 use Rattle.actor_scripts.specs.declared.script.Script.{Script}
-use Rattle.server_run.specs.Races.{IsOfRace}
+use Rattle.race_settling.specs.Races.{IsOfRace}
 use Rattle.script_casting.proofs.CastLaws.{numbers-of, of-scripts}
-use Rattle.server_run.proofs.SettleLaws.{served-plan}
+use Rattle.server_run.proofs.PlanLaws.{served-plan}
 use Rattle.server_run.proofs.rehearsal.play_cast.Goals as goal
 
 pub race_over-requires-clause-model : goal.race_over-requires-clause-model

@@ -14,8 +14,7 @@ use Rattle.bay_model.specs.declared.tables.NodeRow.{NodeRow}
 use Rattle.bay_model.specs.Definitions.{is_set_name}
 use Rattle.bay_model.specs.Named.{configured_model}
 use Rattle.bay_model.specs.Services.{set_name}
-use Rattle.object_model.specs.declared.fitting.Counts.{Counts}
-use Rattle.object_model.specs.Fits.{name_fits, set_fits, target_fits}
+use Rattle.object_model.specs.Fits.{Counts, name_fits, set_fits, target_fits}
 use Rattle.object_model.specs.Nodes.{node_rows}
 use Rattle.bay_config.specs.Servable.{IsServable}
 use Rattle.data_sets.specs.Books.{AreTargets, Booked, Book, IsSet, IsThere, define_fault, defined_set, with_set}

@@ -1,6 +1,6 @@
 -- why `model::Model::flags` answers as its contract says
 use Rattle.std.proofs.Common.{◌∙◌, ap, sym}
-use Rattle.object_names.specs.declared.attributes.AttrRow.{AttrRow}
+use Rattle.bay_model.specs.declared.tables.AttrRow.{AttrRow}
 use Rattle.object_model.proofs.AttributeLaws.{within-rows, flags-read}
 use Rattle.object_model.proofs.model.Model.flags.Goals as goal
 

@@ -1,6 +1,0 @@
--- what the loops of `nodes::push_names` keep
-use Rattle.std.proofs.Common.{◌≡◌, ◌++◌, take}
-use Rattle.object_model.proofs.nodes.push_names.Given as goal
-
-abbrev pub invariant-loop-named : goal.invariant-loop-named
-invariant-loop-named l = l.out.items ≡ l.initial.out.items ++ take l.named-index l.names

@@ -1,0 +1,3 @@
+-- The laws of races and of what they come to.
+pub mod RaceLaws
+pub mod SettleLaws

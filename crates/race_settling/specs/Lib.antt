@@ -1,0 +1,3 @@
+-- What a race comes to.
+pub mod Races
+pub mod Settled

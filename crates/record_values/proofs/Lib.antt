@@ -1,0 +1,5 @@
+-- Settings that lines tell, and that they fit.
+pub mod ShapeLaws
+pub mod SettingLaws
+pub mod FitLaws
+mod WorkedLines

@@ -1,7 +1,0 @@
--- why `rehearsal::record_of` answers as its contract says
-use Rattle.race_records.specs.Merged.{book_seen}
-use Rattle.race_records.proofs.BackLaws.{lines-there}
-use Rattle.server_run.proofs.rehearsal.record_of.Goals as goal
-
-pub write_record-requires : goal.write_record-requires
-write_record-requires c = lines-there c.args.model.now (book_seen c.args.book.now) c.args.made.now c.requires

@@ -1,0 +1,2 @@
+-- what fits a configuration
+pub mod Fits

@@ -1,6 +1,0 @@
--- what the loops of `copies::copy_values` keep
-use Rattle.std.proofs.Common.{◌≡◌, take}
-use Rattle.sv_base.proofs.copies.+copy_values.Given as goal
-
-abbrev pub invariant-copy_values-loop-value : goal.invariant-copy_values-loop-value
-invariant-copy_values-loop-value l = l.copies.items ≡ take l.value-index l.values
