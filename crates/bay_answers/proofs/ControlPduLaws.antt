@@ -12,7 +12,7 @@ use Rattle.sv_base.specs.Data.{data_of}
 use Rattle.sv_base.specs.declared.config.Config.{Config}
 use Rattle.sv_base.specs.declared.config.CtlDef.{CtlDef}
 use Rattle.mms_pdu.specs.AskingOctets.{domain_name}
-use Rattle.mms_pdu.specs.ReplyOctets.{report_octets, IsSpecificationElement}
+use Rattle.mms_elements.specs.Reports.{report_octets, IsSpecificationElement}
 use Rattle.bay_model.specs.declared.control.ApplError.{ApplError}
 use Rattle.bay_model.specs.declared.control.Termination.{Termination}
 use Rattle.bay_answers.specs.RepliesVariables.{variable_octets}

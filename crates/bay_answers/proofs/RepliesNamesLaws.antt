@@ -7,7 +7,7 @@ use Rattle.std.proofs.lemmas.List.Concat.{flat_map-append}
 use Rattle.ber_write.specs.Minimal.{octets_of, head_octets, uint_octets, element_size}
 use Rattle.ber_write.proofs.NumberLaws.{length-uint_octets}
 use Rattle.ber_write.proofs.LengthLaws.{headed, length_of_element}
-use Rattle.mms_pdu.specs.declared.tags.TheConstants.{GET_NAME_LIST}
+use Rattle.mms_elements.specs.declared.tags.TheConstants.{GET_NAME_LIST}
 use Rattle.report_cut.specs.Fields.{truth}
 use Rattle.bay_answers.specs.RepliesContents.{identifiers, names_content}
 use Rattle.bay_answers.specs.RepliesSizes.{service_size, names_size, with_one}

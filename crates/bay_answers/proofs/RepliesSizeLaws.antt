@@ -7,7 +7,7 @@ use Rattle.std.proofs.lemmas.List.{length-append}
 use Rattle.ber_write.specs.Minimal.{octets_of, head_octets, uint_octets, element_size}
 use Rattle.ber_write.proofs.LengthLaws.{octets_longer, headed, length_of_element}
 use Rattle.sv_base.specs.declared.value.Value.{Value}
-use Rattle.mms_pdu.specs.declared.tags.TheConstants.{READ}
+use Rattle.mms_elements.specs.declared.tags.TheConstants.{READ}
 use Rattle.mms_pdu.specs.ReplyOctets.{answer_content, answer_octets, error_octets}
 use Rattle.bay_model.specs.declared.reply.Asked.{Asked}
 use Rattle.bay_answers.specs.RepliesVariables.{asked_octets}

@@ -16,7 +16,7 @@ use Rattle.mms_data.specs.Grammar.{IsData, IsWithin}
 use Rattle.mms_data.proofs.FitLaws.{seen_fits}
 use Rattle.mms_data.proofs.ReadBackLaws.{followed}
 use Rattle.mms_pdu.specs.Each.{Each}
-use Rattle.mms_pdu.specs.declared.tags.TheConstants.{READ, WRITE}
+use Rattle.mms_elements.specs.declared.tags.TheConstants.{READ, WRITE}
 use Rattle.mms_pdu.specs.Answer.{IsResult, IsWritten, IsAnswerBody}
 use Rattle.mms_pdu.specs.Reply.{answer, IsReply}
 use Rattle.mms_pdu.specs.ReplyOctets.{answer_content, answer_octets}

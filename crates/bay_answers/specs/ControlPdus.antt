@@ -10,8 +10,8 @@ use Rattle.sv_base.specs.declared.config.CtlDef.{CtlDef}
 use Rattle.sv_base.specs.declared.ctl_services.CtlService.TheVariants.{Oper}
 use Rattle.mms_data.specs.declared.tags.TheConstants.{INTEGER, OCTET_STRING, STRUCTURE, UNSIGNED, VISIBLE_STRING}
 use Rattle.mms_pdu.specs.AskingOctets.{domain_name}
-use Rattle.mms_pdu.specs.ReplyOctets.{report_octets}
-use Rattle.mms_pdu.specs.declared.tags.TheConstants.{LIST_OF_VARIABLE, VMD_SPECIFIC}
+use Rattle.mms_elements.specs.Reports.{report_octets}
+use Rattle.mms_elements.specs.declared.tags.TheConstants.{LIST_OF_VARIABLE, VMD_SPECIFIC}
 use Rattle.bay_model.specs.declared.control.ApplError.{ApplError}
 use Rattle.bay_model.specs.declared.control.Termination.{Termination}
 use Rattle.bay_answers.specs.RepliesVariables.{variable_octets}

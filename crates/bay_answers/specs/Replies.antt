@@ -8,7 +8,7 @@ use Rattle.sv_base.specs.declared.config.Config.{Config}
 use Rattle.sv_base.specs.declared.numbers.NodeId.{NodeId}
 use Rattle.sv_base.specs.declared.value.Value.{Value}
 use Rattle.mms_data.specs.Writable.{SeenHasFractions}
-use Rattle.mms_pdu.specs.declared.tags.TheConstants.{GET_NAME_LIST, READ, WRITE, GET_ATTRIBUTES, GET_LIST_ATTRIBUTES, DELETE_LIST}
+use Rattle.mms_elements.specs.declared.tags.TheConstants.{GET_NAME_LIST, READ, WRITE, GET_ATTRIBUTES, GET_LIST_ATTRIBUTES, DELETE_LIST}
 use Rattle.mms_pdu.specs.ReplyOctets.{answer_octets, error_octets, reject_octets, concluded_octets}
 use Rattle.bay_model.specs.Named.{nodes}
 use Rattle.bay_model.specs.declared.reply.Reply.{Reply}

@@ -9,7 +9,7 @@ use Rattle.sv_base.specs.declared.numbers.NodeId.{NodeId}
 use Rattle.sv_base.specs.declared.types.TypeOf.{TypeOf}
 use Rattle.sv_base.specs.declared.value.Value.{Value}
 use Rattle.mms_data.specs.TypeOctets.{type_of}
-use Rattle.mms_pdu.specs.declared.tags.TheConstants.{FAILURE, IDENTIFIER, LIST_OF_RESULT, SUCCESS}
+use Rattle.mms_elements.specs.declared.tags.TheConstants.{FAILURE, IDENTIFIER, LIST_OF_RESULT, SUCCESS}
 use Rattle.bay_model.specs.declared.reply.Asked.{Asked}
 use Rattle.report_cut.specs.Fields.{truth}
 use Rattle.bay_answers.specs.RepliesVariables.{asked_octets, node_octets}

@@ -1,7 +1,7 @@
 -- How long the PDU of a response is, by sums.
 use Rattle.std.specs.Prelude.{ℕ, ◌+◌, List, ◌++◌, length, Option, Some, None, nat_le, if◌then◌else◌}
 use Rattle.ber_write.specs.Minimal.{head_octets, octets_of, uint_octets, element_size}
-use Rattle.mms_pdu.specs.declared.tags.TheConstants.{CONFIRMED_RESPONSE, INVOKE_ID}
+use Rattle.mms_elements.specs.declared.tags.TheConstants.{CONFIRMED_RESPONSE, INVOKE_ID}
 
 -- the content of the PDU: the invoke number, and the service's element, whose content has n octets
 unfoldable pub service_size : ℕ → ℕ → ℕ

@@ -14,7 +14,7 @@ use Rattle.mms_pdu.specs.Access.{Access, IsAccess}
 use Rattle.mms_pdu.specs.AskingOctets.{AreVisible}
 use Rattle.mms_pdu.specs.Reply.{answer, IsReply}
 use Rattle.mms_pdu.specs.ReplyOctets.{answer_octets}
-use Rattle.mms_pdu.specs.declared.tags.TheConstants.{FAILURE, SPECIFICATION_OF_RESULT, SUCCESS}
+use Rattle.mms_elements.specs.declared.tags.TheConstants.{FAILURE, SPECIFICATION_OF_RESULT, SUCCESS}
 use Rattle.bay_model.specs.declared.request.ObjName.{ObjName}
 use Rattle.bay_model.specs.declared.request.ObjName.TheVariants as names
 use Rattle.bay_model.specs.declared.request.Target.{Target}

@@ -5,7 +5,7 @@ use Rattle.ber_write.specs.Minimal.{octets_of}
 use Rattle.sv_base.specs.declared.config.Config.{Config}
 use Rattle.sv_base.specs.declared.numbers.NodeId.{NodeId}
 use Rattle.mms_pdu.specs.AskingOctets.{domain_name}
-use Rattle.mms_pdu.specs.declared.tags.TheConstants.{AA_SPECIFIC, ALTERNATE_ACCESS, LIST_OF_VARIABLE, NAME, SPECIFICATION_OF_RESULT, VARIABLE, VARIABLE_LIST_NAME, VMD_SPECIFIC}
+use Rattle.mms_elements.specs.declared.tags.TheConstants.{AA_SPECIFIC, ALTERNATE_ACCESS, LIST_OF_VARIABLE, NAME, SPECIFICATION_OF_RESULT, VARIABLE, VARIABLE_LIST_NAME, VMD_SPECIFIC}
 use Rattle.bay_model.specs.declared.request.ObjName.{ObjName}
 use Rattle.bay_model.specs.declared.request.ObjName.TheVariants as names
 use Rattle.bay_model.specs.declared.request.Target.{Target}

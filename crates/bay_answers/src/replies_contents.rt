@@ -3,7 +3,7 @@
 ghost use Rattle.std.specs.Prelude.{◌≡◌, ◌≤◌, ◌++◌, length, min, OnOk, IfOk};
 ghost use Rattle.std.specs.List.{All};
 ghost use Rattle.ber_write.specs.Minimal.{octets_of, uint_octets};
-ghost use Rattle.mms_pdu.specs.declared.tags.TheConstants.{GET_ATTRIBUTES, READ, WRITE, GET_LIST_ATTRIBUTES, DELETE_LIST, FAILURE, LIST_OF_RESULT};
+ghost use Rattle.mms_elements.specs.declared.tags.TheConstants.{GET_ATTRIBUTES, READ, WRITE, GET_LIST_ATTRIBUTES, DELETE_LIST, FAILURE, LIST_OF_RESULT};
 ghost use Rattle.object_model.specs.Tables.{node_type};
 ghost use Rattle.bay_answers.specs.declared.tags.TheConstants.{IDENTIFY};
 ghost use Rattle.bay_answers.specs.RepliesContents.{identify_content, type_content, result_octets, results_octets, read_content};
@@ -17,7 +17,8 @@ use bay_model::Asked;
 use ber_write::{add, put_head, put_uint, uint_len};
 use data_lengths::data_len;
 use mms_data::{write_data, write_type};
-use mms_pdu::{tags as pdu_tags, write_error};
+use mms_elements::tags as pdu_tags;
+use mms_pdu::write_error;
 use object_model::Model;
 use std::alloc::{AllocError, Global};
 use sv_base::{NodeId, Octs, Value};

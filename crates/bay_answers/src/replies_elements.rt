@@ -8,7 +8,8 @@ ghost use Rattle.bay_answers.specs.Replies.{response as response_of};
 ghost use Rattle.bay_answers.specs.RepliesSizes.{service_size, begun};
 
 use ber_write::{length_of, put, put_head, put_uint, uint_len};
-use mms_pdu::{tags, write_error};
+use mms_elements::tags;
+use mms_pdu::write_error;
 use std::alloc::{AllocError, Global};
 use sv_base::Octs;
 

@@ -3,7 +3,7 @@
 ghost use Rattle.std.specs.Prelude.{◌≡◌, ℕ, ◌≤◌, ◌<◌, ◌^◌, List, length, map, Result};
 ghost use Rattle.std.specs.List.{AllByRecursion};
 ghost use Rattle.sv_base.specs.declared.value.Value.{Value};
-ghost use Rattle.mms_pdu.specs.declared.tags.TheConstants.{READ, WRITE};
+ghost use Rattle.mms_elements.specs.declared.tags.TheConstants.{READ, WRITE};
 ghost use Rattle.mms_pdu.specs.ObjectName.{domain};
 ghost use Rattle.mms_pdu.specs.Access.{Access, variables, named};
 ghost use Rattle.mms_pdu.specs.AskingOctets.{AreVisible};

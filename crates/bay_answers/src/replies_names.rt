@@ -9,7 +9,7 @@ ghost use Rattle.bay_answers.specs.Replies.{shown, names_response};
 use crate::replies_elements::{add_truth, element_len, respond, service_len};
 use crate::tags;
 use ber_write::{add, put_head};
-use mms_pdu::tags as pdu_tags;
+use mms_elements::tags as pdu_tags;
 use std::alloc::{AllocError, Global};
 use sv_base::Octs;
 

@@ -4,14 +4,14 @@ ghost use Rattle.std.specs.Prelude.{◌≡◌, ◌<◌, ◌++◌, length, OnOk, 
 ghost use Rattle.ber_write.specs.Minimal.{octets_of, CanBeTag};
 ghost use Rattle.std.specs.List.{All, flat_map};
 ghost use Rattle.mms_pdu.specs.AskingOctets.{domain_name};
-ghost use Rattle.mms_pdu.specs.declared.tags.TheConstants.{LIST_OF_VARIABLE, SPECIFICATION_OF_RESULT, VARIABLE_LIST_NAME};
+ghost use Rattle.mms_elements.specs.declared.tags.TheConstants.{LIST_OF_VARIABLE, SPECIFICATION_OF_RESULT, VARIABLE_LIST_NAME};
 ghost use Rattle.bay_answers.specs.RepliesVariables.{name_octets, variable_octets, target_octets, asked_octets as asked_of};
 ghost use Rattle.bay_answers.specs.RepliesVariables.{node_name as name_of_node, node_octets};
 ghost use Rattle.bay_answers.specs.Replies.{IsNode};
 
 use bay_model::{Asked, ObjName, SetName, Target};
 use ber_write::{add, enclosed};
-use mms_pdu::tags;
+use mms_elements::tags;
 use object_model::Model;
 use std::alloc::{AllocError, Global};
 use sv_base::NodeId;

@@ -39,8 +39,8 @@ use Rattle.object_model.specs.Fits.{Counts, is_visible, is_sound_plain, is_sound
 use Rattle.object_model.specs.Fits.{target_fits, write_fits, set_fits, set_name_fits, service_fits}
 use Rattle.object_model.specs.Tables.{node_id}
 use Rattle.object_model.proofs.TableLaws.{count-rows}
-use Rattle.mms_pdu.specs.declared.fault.PduFault.{PduFault}
-use Rattle.mms_pdu.specs.declared.fault.PduFault.TheVariants as faults
+use Rattle.mms_elements.specs.declared.fault.PduFault.{PduFault}
+use Rattle.mms_elements.specs.declared.fault.PduFault.TheVariants as faults
 use Rattle.bay_model.specs.declared.request.Service.TheVariants as services
 use Rattle.bay_requests.specs.Requests.{object_name, node_of, target, listed_target, set_name, write}
 use Rattle.bay_requests.specs.Requests.{service, request_of, request_told, rejected, rejection_of, IsSpelled, IsFitting}

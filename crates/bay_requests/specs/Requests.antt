@@ -13,8 +13,8 @@ use Rattle.mms_pdu.specs.ObjectName as mms_names
 use Rattle.mms_pdu.specs.Variable.{Variable}
 use Rattle.mms_pdu.specs.Service as mms
 use Rattle.mms_pdu.specs.Request as pdus
-use Rattle.mms_pdu.specs.declared.fault.PduFault.{PduFault}
-use Rattle.mms_pdu.specs.declared.fault.PduFault.TheVariants as faults
+use Rattle.mms_elements.specs.declared.fault.PduFault.{PduFault}
+use Rattle.mms_elements.specs.declared.fault.PduFault.TheVariants as faults
 use Rattle.bay_model.specs.Named.{nodes}
 use Rattle.bay_model.specs.declared.request.ObjName.{ObjName}
 use Rattle.bay_model.specs.declared.request.ObjName.TheVariants as names

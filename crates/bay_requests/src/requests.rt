@@ -3,7 +3,7 @@
 ghost use Rattle.std.specs.Prelude.{◌≡◌, ◌≢◌, ℕ, List, IfOk, IfSome, IsSome, Some};
 ghost use Rattle.sv_base.specs.declared.config.Config.{Config};
 ghost use Rattle.mms_pdu.specs.Request.{Request as Asked, IsRequest, IsRequestRefused, request_octets, disregarded};
-ghost use Rattle.mms_pdu.specs.declared.fault.PduFault.{PduFault};
+ghost use Rattle.mms_elements.specs.declared.fault.PduFault.{PduFault};
 ghost use Rattle.sv_base.specs.Tree.{Seen};
 ghost use Rattle.mms_pdu.specs.RequestReading.{request_at};
 ghost use Rattle.mms_pdu.specs.View.{asked as asked_seen};

@@ -12,14 +12,14 @@ use Rattle.ber_grammar.specs.Reader.{and_then}
 use Rattle.ber_grammar.proofs.OptionLaws.{then_some}
 use Rattle.ber_grammar.proofs.OctetLaws.{AllBytes, IsRow-bytes}
 use Rattle.ber_grammar.specs.Fields.{fields_in, only_in, spots, spot_in}
-use Rattle.mms_pdu.specs.Invoke.{below_at}
+use Rattle.mms_elements.specs.Invoke.{below_at}
 use Rattle.mms_pdu.specs.Access.{access_at}
 use Rattle.mms_pdu.specs.Datum.{datum_at, value_at}
 use Rattle.mms_pdu.specs.Answer.{IsFailed, IsResult, IsWritten, AreAll, IsSpecification, AreResults, IsReadAnswer, IsAnswerBody, holds, is_failed, is_result, is_written, is_specification, are_results, is_read_answer, is_answer_body}
 use Rattle.ber_grammar.proofs.FieldLaws.{elements_found, elements_again, in_place, only_found, only_again, only_bytes}
 use Rattle.mms_pdu.proofs.DatumLaws.{datum_found, datum_again}
 use Rattle.mms_pdu.proofs.AccessLaws.{access_octets, access_found, access_again}
-use Rattle.mms_pdu.proofs.TaggedLaws.{below_again, below_found}
+use Rattle.mms_elements.proofs.TaggedLaws.{below_again, below_found}
 
 holds_of : {A : Type 0} (test : A → Bool) (o : Option A) → holds test o ≡ true → (x : A) × (o ≡ Some x) × (test x ≡ true)
 holds_of test (Some x) h = (x, refl, h)

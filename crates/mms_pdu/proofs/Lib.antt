@@ -8,9 +8,6 @@ pub mod AccessLaws
 pub mod VariableListLaws
 pub mod ServiceLaws
 pub mod RequestLaws
-pub mod TaggedLaws
-pub mod InitiateLaws
-pub mod InitiateOctetsLaws
 pub mod AnswerLaws
 pub mod ReplyPartLaws
 pub mod ReplyLaws
@@ -18,5 +15,3 @@ pub mod ReplyAgainLaws
 pub mod ReplyPlaceLaws
 pub mod ReplyOctetsLaws
 pub mod AskingLaws
-pub mod SaidLaws
-pub mod MinimalLaws

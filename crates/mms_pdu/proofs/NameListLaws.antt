@@ -13,12 +13,12 @@ use Rattle.ber_grammar.proofs.OctetLaws.{AllBytes}
 use Rattle.ber_grammar.proofs.OptionLaws.{then_some}
 use Rattle.sv_base.specs.Tree.{Seen}
 use Rattle.ber_grammar.specs.Fields.{only_in, spot_in}
-use Rattle.mms_pdu.specs.Invoke.{below_at}
+use Rattle.mms_elements.specs.Invoke.{below_at}
 use Rattle.mms_pdu.specs.Service.{octets, Scope, of_vmd, of_domain, of_association, scope_octets, Service, service_octets}
 use Rattle.mms_pdu.specs.Service as services
 use Rattle.mms_pdu.specs.NameList.{IsClass, IsScope, IsAfter, IsNameList, octet_at, class_at, inner_scope_at, scope_at, after_at, name_list_at}
 use Rattle.ber_grammar.proofs.FieldLaws.{only_found, only_again, only_bytes}
-use Rattle.mms_pdu.proofs.TaggedLaws.{below_found, below_again}
+use Rattle.mms_elements.proofs.TaggedLaws.{below_found, below_again}
 
 -- ---- numbers
 

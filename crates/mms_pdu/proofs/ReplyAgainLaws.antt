@@ -10,15 +10,15 @@ use Rattle.ber_grammar.specs.Reader.{Gives, Reads}
 use Rattle.ber_grammar.proofs.OctetLaws.{Spells-bytes}
 use Rattle.ber_grammar.proofs.ReaderLaws.{exact_from, reads_from}
 use Rattle.ber_grammar.proofs.Theorems.{one_element}
-use Rattle.mms_pdu.specs.declared.fault.PduFault.{PduFault}
-use Rattle.mms_pdu.specs.declared.fault.PduFault.TheVariants.{UnknownPdu, UnknownService, Argument, Invalid, SmallSize}
+use Rattle.mms_elements.specs.declared.fault.PduFault.{PduFault}
+use Rattle.mms_elements.specs.declared.fault.PduFault.TheVariants.{UnknownPdu, UnknownService, Argument, Invalid, SmallSize}
 use Rattle.mms_pdu.specs.Request.{is_pdu, MayBegin, may_begin}
 use Rattle.ber_grammar.specs.Fields.{spot_in, whole_in}
-use Rattle.mms_pdu.specs.Tagged.{IsNumbered, numbered_in}
+use Rattle.mms_elements.specs.Tagged.{IsNumbered, numbered_in}
 use Rattle.mms_pdu.specs.Reply.{Reply, answer, error, reject, concluded, information, reply_octets, IsService, IsServiceError, IsReason, IsReply, is_sent, IsMalformed, IsUnusable, IsReplyRefused}
 use Rattle.mms_pdu.specs.ReplyReading.{service_in, answer_in, service_error_in, error_in, reason_at, reject_in, pdu_in, reply_in}
 use Rattle.ber_grammar.proofs.FieldLaws.{whole_in_again, whole_in_found}
-use Rattle.mms_pdu.proofs.TaggedLaws.{numbered_again, numbered_found, numbered_bytes, first_octet}
+use Rattle.mms_elements.proofs.TaggedLaws.{numbered_again, numbered_found, numbered_bytes, first_octet}
 use Rattle.mms_pdu.proofs.ReplyLaws.{plain, Tells, reply_tells}
 use Rattle.mms_pdu.proofs.ReplyPartLaws.{service_again, service_found, service_error_again, service_error_found, reason_again, reason_found}
 

@@ -7,15 +7,15 @@ use Rattle.ber_grammar.specs.Element.{Spells}
 use Rattle.ber_grammar.specs.Place.{Spot, Piece, content_piece}
 use Rattle.ber_grammar.specs.Reader.{◌>>=◌}
 use Rattle.ber_grammar.proofs.OctetLaws.{Spells-bytes}
-use Rattle.mms_pdu.specs.declared.fault.PduFault.{PduFault}
-use Rattle.mms_pdu.specs.declared.fault.PduFault.TheVariants.{UnknownPdu, Argument, Invalid}
+use Rattle.mms_elements.specs.declared.fault.PduFault.{PduFault}
+use Rattle.mms_elements.specs.declared.fault.PduFault.TheVariants.{UnknownPdu, Argument, Invalid}
 use Rattle.mms_pdu.specs.Request.{is_pdu, MayBegin, may_begin, or_fault}
 use Rattle.ber_grammar.specs.Fields.{spot_in, whole_in}
-use Rattle.mms_pdu.specs.Tagged.{IsNumbered, numbered_in}
+use Rattle.mms_elements.specs.Tagged.{IsNumbered, numbered_in}
 use Rattle.mms_pdu.specs.Reply.{Reply, answer, error, reject, concluded, information, reply_octets, IsReply, is_sent, IsUnusable, IsReplyRefused}
 use Rattle.mms_pdu.specs.ReplyReading.{service_in, answer_in, service_error_in, error_in, reason_at, rejected, reject_in, pdu_in, reply_in}
 use Rattle.ber_grammar.proofs.FieldLaws.{whole_in_again, whole_in_found}
-use Rattle.mms_pdu.proofs.TaggedLaws.{numbered_found, numbered_none, numbered_bytes}
+use Rattle.mms_elements.proofs.TaggedLaws.{numbered_found, numbered_none, numbered_bytes}
 use Rattle.mms_pdu.proofs.ReplyPartLaws.{service_again, service_found, service_error_again, service_error_found, reason_again, reason_found}
 use Rattle.list_laws.proofs.Options.{none_some as nothing}
 

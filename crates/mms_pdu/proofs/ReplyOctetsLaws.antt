@@ -3,16 +3,16 @@ use Rattle.std.proofs.Common.{◌≡◌, ℕ, ◌+◌, ◌%◌, ◌^◌, ◌<◌
 use Rattle.std.specs.Prelude.{IfSome}
 use Rattle.std.proofs.lemmas.Bool.{lt-ltb, le-ltb, ltb-true, ltb-false, cond_both}
 use Rattle.std.proofs.lemmas.List.{length-append}
-use Rattle.ber_grammar.specs.Element.{Element, Spells, IsRow}
 use Rattle.ber_write.specs.Minimal.{octets_of, written, CanBeTag, uint_octets}
 use Rattle.ber_write.proofs.ElementLaws.{is_spelling}
 use Rattle.ber_write.proofs.NumberLaws.{uint_octets-spell, length-uint_octets, uint_short}
 use Rattle.ber_write.proofs.LengthLaws.{octets_short, octets_longer}
 use Rattle.ber_write.proofs.WrittenLaws.{written_last, one_octet}
-use Rattle.mms_pdu.specs.Tagged.{IsNumbered}
+use Rattle.mms_elements.specs.Tagged.{IsNumbered}
 use Rattle.mms_pdu.specs.Answer.{IsAnswerBody}
 use Rattle.mms_pdu.specs.Reply.{answer, error, reject, concluded, information, IsOctet, IsServiceError, IsReason, IsReply}
-use Rattle.mms_pdu.specs.ReplyOctets.{answer_content, answer_octets, class_tag, error_octets, reason_tag, reason_code, reject_octets, report_fields, report_octets, IsSpecificationElement, IsReport}
+use Rattle.mms_elements.specs.Reports.{IsReport}
+use Rattle.mms_pdu.specs.ReplyOctets.{answer_content, answer_octets, class_tag, error_octets, reason_tag, reason_code, reject_octets}
 
 -- ---- numbers
 
@@ -135,32 +135,5 @@ concluded_spelled = (written 140 [], is_spelling 140 [] (one_octet 140 (omega ar
 
 -- ---- a report
 
-fields_row : (names results : List ℕ) (v : Element) → Spells names v → length results < 2 ^ 32 → IsRow (report_fields names results) (v ∷ written 160 results ∷ [])
-fields_row names results v s small = (names, octets_of 160 results, s, refl, written_last 160 results (one_octet 160 (omega arith) (λ e. omega (arith, e))) small)
-
-pub report_spelled : (names results : List ℕ) → IsSpecificationElement names → length (report_octets names results) < 2 ^ 32
-    → IsReport (report_octets names results) names results × IsReply (report_octets names results) (information (report_octets names results))
-unfolding report_octets
-report_spelled names results (v, s, least, most) fits =
-    let fields : List ℕ = report_fields names results in
-    let content : List ℕ = octets_of 160 fields in
-    let all : length content < 2 ^ 32 = omega (arith, fits, octets_longer 163 content) in
-    let inner : length fields < 2 ^ 32 = omega (arith, all, octets_longer 160 fields) in
-    let last : length results < 2 ^ 32 = omega (arith, inner, length-append names (octets_of 160 results), octets_longer 160 results) in
-    let whole = is_spelling 163 content (one_octet 163 (omega arith) (λ e. omega (arith, e))) all in (
-      (
-        written 163 content,
-        written 160 fields,
-        v,
-        written 160 results,
-        whole,
-        refl,
-        written_last 160 fields (one_octet 160 (omega arith) (λ e. omega (arith, e))) inner,
-        refl,
-        fields_row names results v s last,
-        s,
-        refl,
-        refl,
-      ),
-      (written 163 content, whole, (refl, refl)),
-    )
+pub report_is_reply : (input names results : List ℕ) → IsReport input names results → IsReply input (information input)
+report_is_reply input names results (e, k, v, r, s, is_tag, more) = (e, s, (is_tag, refl))

@@ -9,13 +9,13 @@ use Rattle.ber_grammar.specs.Reader.{and_then}
 use Rattle.ber_grammar.proofs.OptionLaws.{then_some}
 use Rattle.ber_grammar.proofs.OctetLaws.{Spells-bytes, IsRow-bytes}
 use Rattle.ber_grammar.specs.Fields.{only_in, spot_in, whole_at, whole_in}
-use Rattle.mms_pdu.specs.Invoke.{below_at}
+use Rattle.mms_elements.specs.Invoke.{below_at}
 use Rattle.mms_pdu.specs.Answer.{IsAnswerBody, is_answer_body}
 use Rattle.mms_pdu.specs.Reply.{IsService, IsServiceError, IsReason}
 use Rattle.mms_pdu.specs.ReplyOctets.{class_tag}
 use Rattle.mms_pdu.specs.ReplyReading.{service_in, class_at, class_in, error_class_in, service_error_in, reason_at}
 use Rattle.ber_grammar.proofs.FieldLaws.{whole_again, whole_found, whole_in_again, whole_in_found, only_found, only_again}
-use Rattle.mms_pdu.proofs.TaggedLaws.{below_again, below_found}
+use Rattle.mms_elements.proofs.TaggedLaws.{below_again, below_found}
 use Rattle.mms_pdu.proofs.AnswerLaws.{body_found, body_again}
 
 -- ---- the element of a service

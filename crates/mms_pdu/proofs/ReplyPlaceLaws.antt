@@ -11,13 +11,13 @@ use Rattle.ber_grammar.specs.Reader.{◌>>=◌, Gives, and_then, kept}
 use Rattle.ber_grammar.specs.Reading.{first_at}
 use Rattle.ber_grammar.proofs.OptionLaws.{kept_some, then_some}
 use Rattle.ber_grammar.proofs.ElementLaws.{Begins-length}
-use Rattle.mms_pdu.specs.declared.fault.PduFault.{PduFault}
-use Rattle.mms_pdu.specs.declared.fault.PduFault.TheVariants.{UnknownPdu, Argument, Invalid}
+use Rattle.mms_elements.specs.declared.fault.PduFault.{PduFault}
+use Rattle.mms_elements.specs.declared.fault.PduFault.TheVariants.{UnknownPdu, Argument, Invalid}
 use Rattle.mms_pdu.specs.declared.reply_view.ReplyView.{ReplyView}
 use Rattle.mms_pdu.specs.declared.reply_view.ReplyView.TheVariants.{Answer, Error, Reject, Concluded, Information}
 use Rattle.mms_pdu.specs.Request.{is_pdu, may_begin, or_fault}
 use Rattle.ber_grammar.specs.Fields.{spot_in, whole_at, whole_in}
-use Rattle.mms_pdu.specs.Tagged.{number_at, behind, first_in, numbered_in}
+use Rattle.mms_elements.specs.Tagged.{number_at, behind, first_in, numbered_in}
 use Rattle.mms_pdu.specs.Answer.{is_answer_body}
 use Rattle.mms_pdu.specs.Reply.{Reply, answer, error, reject, concluded, information}
 use Rattle.mms_pdu.specs.ReplyReading.{service_in, answer_in, service_error_in, error_in, reason_at, rejected, reject_in, pdu_in, reply_in}

@@ -14,10 +14,10 @@ use Rattle.ber_grammar.proofs.OctetLaws.{Begins-bytes, Spells-bytes}
 use Rattle.ber_grammar.proofs.OptionLaws.{kept_some, then_some}
 use Rattle.ber_grammar.proofs.ReaderLaws.{exact_from, reads_from, gives_at, refuses_at}
 use Rattle.sv_base.specs.Tree.{Seen}
-use Rattle.mms_pdu.specs.declared.fault.PduFault.{PduFault}
-use Rattle.mms_pdu.specs.declared.fault.PduFault.TheVariants as faults
+use Rattle.mms_elements.specs.declared.fault.PduFault.{PduFault}
+use Rattle.mms_elements.specs.declared.fault.PduFault.TheVariants as faults
 use Rattle.ber_grammar.specs.Fields.{only_in, spot_in}
-use Rattle.mms_pdu.specs.Invoke.{IsInvoked, below_at}
+use Rattle.mms_elements.specs.Invoke.{IsInvoked, below_at}
 use Rattle.mms_pdu.specs.Service.{Service, service_octets}
 use Rattle.mms_pdu.specs.Service as services
 use Rattle.mms_pdu.specs.Services.{IsService, is_service, service_at}
@@ -25,7 +25,7 @@ use Rattle.mms_pdu.specs.Request.{Request, confirmed, conclude, disregarded, req
 use Rattle.mms_pdu.specs.RequestReading.{behind, invoke_in, service_in, invoked, pdu_at, whole, request_in, without_places, request_at}
 use Rattle.ber_grammar.proofs.FieldLaws.{only_found, only_again, row_spells, spells_row}
 use Rattle.mms_pdu.proofs.ServiceLaws.{service_found, service_again}
-use Rattle.mms_pdu.proofs.TaggedLaws.{below_found, below_again}
+use Rattle.mms_elements.proofs.TaggedLaws.{below_found, below_again}
 
 -- ---- one whole element
 

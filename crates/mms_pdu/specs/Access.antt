@@ -13,7 +13,7 @@ use Rattle.mms_pdu.specs.Variable.{Variable, AreVariables, variable_at, named_at
 use Rattle.mms_pdu.specs.Datum.{AreData, datum_at}
 use Rattle.mms_pdu.specs.Service.{Service}
 use Rattle.mms_pdu.specs.Service as services
-use Rattle.mms_pdu.specs.declared.tags.TheConstants.{ACCESS_SPECIFICATION, LIST_OF_DATA, LIST_OF_VARIABLE, SPECIFICATION_WITH_RESULT, VARIABLE_LIST_NAME}
+use Rattle.mms_elements.specs.declared.tags.TheConstants.{ACCESS_SPECIFICATION, LIST_OF_DATA, LIST_OF_VARIABLE, SPECIFICATION_WITH_RESULT, VARIABLE_LIST_NAME}
 
 -- variables, or a named variable list
 pub data Access (N : Type 0) : Type 0 where

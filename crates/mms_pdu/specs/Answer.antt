@@ -8,10 +8,10 @@ use Rattle.ber_grammar.specs.Reader.{and_then}
 use Rattle.sv_base.specs.Tree.{Seen}
 use Rattle.mms_data.specs.Grammar.{IsWithin}
 use Rattle.ber_grammar.specs.Fields.{fields_in, only_in}
-use Rattle.mms_pdu.specs.Invoke.{below_at}
+use Rattle.mms_elements.specs.Invoke.{below_at}
 use Rattle.mms_pdu.specs.Access.{Access, IsAccess, access_at}
 use Rattle.mms_pdu.specs.Datum.{datum_at}
-use Rattle.mms_pdu.specs.declared.tags.TheConstants.{FAILURE, LIST_OF_RESULT, READ, SPECIFICATION_OF_RESULT, SUCCESS, WRITE}
+use Rattle.mms_elements.specs.declared.tags.TheConstants.{FAILURE, LIST_OF_RESULT, READ, SPECIFICATION_OF_RESULT, SUCCESS, WRITE}
 
 -- DataAccessError, a number of 8 bits
 abbrev pub IsFailed : Element → Type 0

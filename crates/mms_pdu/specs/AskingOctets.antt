@@ -7,7 +7,7 @@ use Rattle.sv_base.specs.Data.{data_of}
 use Rattle.sv_base.specs.declared.value.Value.{Value}
 use Rattle.mms_pdu.specs.ObjectName.{domain}
 use Rattle.mms_pdu.specs.Variable.{Variable}
-use Rattle.mms_pdu.specs.declared.tags.TheConstants.{ACCESS_SPECIFICATION, CONCLUDE_REQUEST, CONFIRMED_REQUEST, DOMAIN_SPECIFIC, IDENTIFIER, INVOKE_ID, LIST_OF_DATA, LIST_OF_VARIABLE, NAME, READ, VARIABLE, WRITE}
+use Rattle.mms_elements.specs.declared.tags.TheConstants.{ACCESS_SPECIFICATION, CONCLUDE_REQUEST, CONFIRMED_REQUEST, DOMAIN_SPECIFIC, IDENTIFIER, INVOKE_ID, LIST_OF_DATA, LIST_OF_VARIABLE, NAME, READ, VARIABLE, WRITE}
 
 -- the octets of an Identifier, a VisibleString
 abbrev pub AreVisible : List ℕ → Type 0

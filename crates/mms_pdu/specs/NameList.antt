@@ -5,10 +5,10 @@ use Rattle.ber_grammar.specs.Element.{Element, IsRow}
 use Rattle.ber_grammar.specs.Place.{Spot, Piece, content_piece}
 use Rattle.ber_grammar.specs.Reader.{and_then}
 use Rattle.ber_grammar.specs.Fields.{only_in}
-use Rattle.mms_pdu.specs.Invoke.{below_at}
+use Rattle.mms_elements.specs.Invoke.{below_at}
 use Rattle.mms_pdu.specs.Service.{Scope, of_vmd, of_domain, of_association, Service}
 use Rattle.mms_pdu.specs.Service as services
-use Rattle.mms_pdu.specs.declared.tags.TheConstants.{AA_SCOPE, CONTINUE_AFTER, DOMAIN_SCOPE, EXTENDED_OBJECT_CLASS, OBJECT_CLASS, OBJECT_SCOPE, VMD_SCOPE}
+use Rattle.mms_elements.specs.declared.tags.TheConstants.{AA_SCOPE, CONTINUE_AFTER, DOMAIN_SCOPE, EXTENDED_OBJECT_CLASS, OBJECT_CLASS, OBJECT_SCOPE, VMD_SCOPE}
 
 -- objectClass holds basicObjectClass, of one octet's range
 abbrev pub IsClass : Element → ℕ → Type 0

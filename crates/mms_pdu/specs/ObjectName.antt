@@ -6,7 +6,7 @@ use Rattle.ber_grammar.specs.Place.{Spot, Piece, content_piece}
 use Rattle.ber_grammar.specs.Reader.{and_then, kept}
 use Rattle.ber_grammar.specs.Reading.{text_at}
 use Rattle.ber_grammar.specs.Fields.{fields_in}
-use Rattle.mms_pdu.specs.declared.tags.TheConstants.{AA_SPECIFIC, DOMAIN_SPECIFIC, IDENTIFIER, VMD_SPECIFIC}
+use Rattle.mms_elements.specs.declared.tags.TheConstants.{AA_SPECIFIC, DOMAIN_SPECIFIC, IDENTIFIER, VMD_SPECIFIC}
 
 -- a name, of octets or of pieces of the input
 pub data Name (N : Type 0) : Type 0 where

@@ -3,13 +3,13 @@ use Rattle.std.specs.Prelude.{◌≡◌, ◌≢◌, ℕ, ◌<◌, ◌≤◌, ◌
 use Rattle.ber_grammar.specs.Element.{Element, Spells, IsRow}
 use Rattle.ber_grammar.specs.Content.{IsUint}
 use Rattle.ber_grammar.specs.Place.{Piece}
-use Rattle.mms_pdu.specs.declared.fault.PduFault.{PduFault}
-use Rattle.mms_pdu.specs.declared.fault.PduFault.TheVariants.{UnknownPdu, UnknownService, Argument, Invalid, SmallSize}
+use Rattle.mms_elements.specs.declared.fault.PduFault.{PduFault}
+use Rattle.mms_elements.specs.declared.fault.PduFault.TheVariants.{UnknownPdu, UnknownService, Argument, Invalid, SmallSize}
 use Rattle.mms_pdu.specs.Request.{is_pdu, MayBegin}
-use Rattle.mms_pdu.specs.Tagged.{IsNumbered}
+use Rattle.mms_elements.specs.Tagged.{IsNumbered}
 use Rattle.mms_pdu.specs.Answer.{IsAnswerBody}
 use Rattle.mms_pdu.specs.ReplyOctets.{class_tag}
-use Rattle.mms_pdu.specs.declared.tags.TheConstants.{CONCLUDE_RESPONSE, CONFIRMED_ERROR, CONFIRMED_RESPONSE, ERROR_CLASS, INVOKE_ID, ORIGINAL_INVOKE_ID, REJECT, SERVICE_ERROR, UNCONFIRMED}
+use Rattle.mms_elements.specs.declared.tags.TheConstants.{CONCLUDE_RESPONSE, CONFIRMED_ERROR, CONFIRMED_RESPONSE, ERROR_CLASS, INVOKE_ID, ORIGINAL_INVOKE_ID, REJECT, SERVICE_ERROR, UNCONFIRMED}
 
 -- P is what octets are, as they are or as a piece of the input.
 pub data Reply (P : Type 0) : Type 0 where

@@ -1,8 +1,7 @@
 -- The octets of what a server sends, in the minimal spelling of each element (ISO 9506-2, MMSpdu).
 use Rattle.std.specs.Prelude.{◌≡◌, ℕ, ◌+◌, ◌≤◌, ◌==◌, ◌||◌, nat_lt, List, [], ◌∷◌, ◌++◌, Option, Some, None, is_some, if◌then◌else◌}
-use Rattle.ber_grammar.specs.Element.{Element, Spells, IsRow}
 use Rattle.ber_write.specs.Minimal.{octets_of, uint_octets}
-use Rattle.mms_pdu.specs.declared.tags.TheConstants.{CONCLUDE_RESPONSE, CONFIRMED_ERROR, CONFIRMED_RESPONSE, ERROR_CLASS, INFORMATION_REPORT, INVOKE_ID, LIST_OF_VARIABLE, ORIGINAL_INVOKE_ID, PDU_REJECTED, REJECT, REPORT_RESULTS, REQUEST_REJECTED, SERVICE_ERROR, UNCONFIRMED, VARIABLE_LIST_NAME}
+use Rattle.mms_elements.specs.declared.tags.TheConstants.{CONCLUDE_RESPONSE, CONFIRMED_ERROR, CONFIRMED_RESPONSE, ERROR_CLASS, INVOKE_ID, ORIGINAL_INVOKE_ID, PDU_REJECTED, REJECT, REQUEST_REJECTED, SERVICE_ERROR}
 
 -- Confirmed-ResponsePDU: the invoke number and the element of the service
 abbrev pub answer_content : ℕ → ℕ → List ℕ → List ℕ
@@ -42,21 +41,6 @@ pub record CanBeRejected (invoke : Option ℕ) (refusal : ℕ) : Type 0 where
   pub most : refusal ≤ 4
   pub numbered : is_some invoke ≡ (refusal == 2 || refusal == 3)
 
--- Unconfirmed-PDU with an informationReport: the variables, and the results
-abbrev pub report_fields : List ℕ → List ℕ → List ℕ
-report_fields names results = names ++ octets_of REPORT_RESULTS results
-
-unfoldable pub report_octets : List ℕ → List ℕ → List ℕ
-report_octets names results = octets_of UNCONFIRMED (octets_of INFORMATION_REPORT (report_fields names results))
-
--- the one element of the variables: a list of them, or the name of a list
-abbrev pub IsSpecificationElement : List ℕ → Type 0
-IsSpecificationElement names = (e : Element) × Spells names e × (LIST_OF_VARIABLE ≤ e.tag) × (e.tag ≤ VARIABLE_LIST_NAME)
-
 -- Conclude-ResponsePDU, a NULL
 abbrev pub concluded_octets : List ℕ
 concluded_octets = CONCLUDE_RESPONSE ∷ 0 ∷ []
-
--- the octets are an informationReport of these variables and these results
-abbrev pub IsReport : List ℕ → List ℕ → List ℕ → Type 0
-IsReport input names results = (e k v r : Element) × Spells input e × (e.tag ≡ UNCONFIRMED) × IsRow e.content (k ∷ []) × (k.tag ≡ INFORMATION_REPORT) × IsRow k.content (v ∷ r ∷ []) × Spells names v × (r.tag ≡ REPORT_RESULTS) × (r.content ≡ results)

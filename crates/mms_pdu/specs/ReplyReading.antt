@@ -2,15 +2,15 @@
 use Rattle.std.specs.Prelude.{ℕ, ◌-◌, ◌==◌, ◌&&◌, nat_le, List, length, Option, Some, None, Result, Ok, Err, if◌then◌else◌}
 use Rattle.ber_grammar.specs.Place.{Spot, Piece, content_piece}
 use Rattle.ber_grammar.specs.Reader.{◌>>=◌, and_then}
-use Rattle.mms_pdu.specs.declared.fault.PduFault.{PduFault}
-use Rattle.mms_pdu.specs.declared.fault.PduFault.TheVariants.{UnknownPdu, Argument, Invalid}
+use Rattle.mms_elements.specs.declared.fault.PduFault.{PduFault}
+use Rattle.mms_elements.specs.declared.fault.PduFault.TheVariants.{UnknownPdu, Argument, Invalid}
 use Rattle.ber_grammar.specs.Fields.{only_in, whole_at, whole_in}
-use Rattle.mms_pdu.specs.Invoke.{below_at}
+use Rattle.mms_elements.specs.Invoke.{below_at}
 use Rattle.mms_pdu.specs.Request.{is_pdu, may_begin, or_fault}
-use Rattle.mms_pdu.specs.Tagged.{numbered_in}
+use Rattle.mms_elements.specs.Tagged.{numbered_in}
 use Rattle.mms_pdu.specs.Answer.{is_answer_body}
 use Rattle.mms_pdu.specs.Reply.{Reply, answer, error, reject, concluded, information}
-use Rattle.mms_pdu.specs.declared.tags.TheConstants.{CONCLUDE_RESPONSE, CONFIRMED_ERROR, CONFIRMED_RESPONSE, ERROR_CLASS, INVOKE_ID, ORIGINAL_INVOKE_ID, REJECT, SERVICE_ERROR, UNCONFIRMED}
+use Rattle.mms_elements.specs.declared.tags.TheConstants.{CONCLUDE_RESPONSE, CONFIRMED_ERROR, CONFIRMED_RESPONSE, ERROR_CLASS, INVOKE_ID, ORIGINAL_INVOKE_ID, REJECT, SERVICE_ERROR, UNCONFIRMED}
 
 -- the tag and the content of the service's element
 unfoldable pub service_in : Piece → Option (ℕ × Piece)

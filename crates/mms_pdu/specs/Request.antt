@@ -3,12 +3,12 @@ use Rattle.std.specs.Prelude.{◌≡◌, ◌≢◌, ℕ, Bool, true, false, ◌|
 use Rattle.ber_grammar.specs.Element.{Element, Spells}
 use Rattle.ber_grammar.specs.Place.{Spot, Piece}
 use Rattle.sv_base.specs.Tree.{Seen}
-use Rattle.mms_pdu.specs.declared.fault.PduFault.{PduFault}
-use Rattle.mms_pdu.specs.declared.fault.PduFault.TheVariants as faults
-use Rattle.mms_pdu.specs.Invoke.{IsInvoked}
+use Rattle.mms_elements.specs.declared.fault.PduFault.{PduFault}
+use Rattle.mms_elements.specs.declared.fault.PduFault.TheVariants as faults
+use Rattle.mms_elements.specs.Invoke.{IsInvoked}
 use Rattle.mms_pdu.specs.Service.{Service, service_octets}
 use Rattle.mms_pdu.specs.Services.{IsService, is_service}
-use Rattle.mms_pdu.specs.declared.tags.TheConstants.{CONCLUDE_REQUEST, CONCLUDE_RESPONSE, CONFIRMED_ERROR, CONFIRMED_REQUEST, CONFIRMED_RESPONSE, INITIATE_REQUEST, INITIATE_RESPONSE, REJECT, UNCONFIRMED}
+use Rattle.mms_elements.specs.declared.tags.TheConstants.{CONCLUDE_REQUEST, CONCLUDE_RESPONSE, CONFIRMED_ERROR, CONFIRMED_REQUEST, CONFIRMED_RESPONSE, INITIATE_REQUEST, INITIATE_RESPONSE, REJECT, UNCONFIRMED}
 
 pub data Request (N D : Type 0) : Type 0 where
   -- a confirmed service, by its invoke number

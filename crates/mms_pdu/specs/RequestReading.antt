@@ -4,13 +4,13 @@ use Rattle.ber_grammar.specs.Place.{Spot, Piece, content_piece}
 use Rattle.ber_grammar.specs.Reader.{and_then, kept}
 use Rattle.ber_grammar.specs.Reading.{first_at}
 use Rattle.sv_base.specs.Tree.{Seen}
-use Rattle.mms_pdu.specs.declared.fault.PduFault.{PduFault}
-use Rattle.mms_pdu.specs.declared.fault.PduFault.TheVariants as faults
+use Rattle.mms_elements.specs.declared.fault.PduFault.{PduFault}
+use Rattle.mms_elements.specs.declared.fault.PduFault.TheVariants as faults
 use Rattle.ber_grammar.specs.Fields.{only_in}
-use Rattle.mms_pdu.specs.Invoke.{below_at}
+use Rattle.mms_elements.specs.Invoke.{below_at}
 use Rattle.mms_pdu.specs.Services.{is_service, service_at}
 use Rattle.mms_pdu.specs.Request.{Request, confirmed, conclude, disregarded, request_octets, is_disregarded, is_pdu, may_begin, or_fault}
-use Rattle.mms_pdu.specs.declared.tags.TheConstants.{CONCLUDE_REQUEST, CONFIRMED_REQUEST, INVOKE_ID}
+use Rattle.mms_elements.specs.declared.tags.TheConstants.{CONCLUDE_REQUEST, CONFIRMED_REQUEST, INVOKE_ID}
 
 -- the octets behind a piece's first element
 abbrev pub behind : Piece → List ℕ → Piece

@@ -13,7 +13,7 @@ use Rattle.mms_pdu.specs.Service as services
 use Rattle.mms_pdu.specs.NameList.{IsNameList, name_list_at}
 use Rattle.mms_pdu.specs.Access.{variables, named, IsRead, IsWrite, truth_at, read_at, write_at}
 use Rattle.mms_pdu.specs.VariableLists.{IsDefine, IsDelete, define_at, delete_at}
-use Rattle.mms_pdu.specs.declared.tags.TheConstants.{DEFINE_LIST, DELETE_LIST, GET_ATTRIBUTES, GET_LIST_ATTRIBUTES, GET_NAME_LIST, IDENTIFY, NAME, READ, STATUS, WRITE}
+use Rattle.mms_elements.specs.declared.tags.TheConstants.{DEFINE_LIST, DELETE_LIST, GET_ATTRIBUTES, GET_LIST_ATTRIBUTES, GET_NAME_LIST, IDENTIFY, NAME, READ, STATUS, WRITE}
 
 -- a service by its tag, and what the content asks
 abbrev pub IsService : Element → Service (List ℕ) Seen → Type 0

@@ -6,7 +6,7 @@ use Rattle.ber_grammar.specs.Reader.{and_then}
 use Rattle.mms_pdu.specs.Each.{Each}
 use Rattle.ber_grammar.specs.Fields.{fields_in, only_in}
 use Rattle.mms_pdu.specs.ObjectName.{Name, name_octets, IsOnlyName, name_at}
-use Rattle.mms_pdu.specs.declared.tags.TheConstants.{ALTERNATE_ACCESS, NAME, VARIABLE}
+use Rattle.mms_elements.specs.declared.tags.TheConstants.{ALTERNATE_ACCESS, NAME, VARIABLE}
 
 pub record Variable (N : Type 0) : Type 0 where
   pub name : Name N

@@ -10,7 +10,7 @@ use Rattle.mms_pdu.specs.NameList.{octet_at}
 use Rattle.mms_pdu.specs.Variable.{Variable, AreVariables, variable_at}
 use Rattle.mms_pdu.specs.Service.{Service}
 use Rattle.mms_pdu.specs.Service as services
-use Rattle.mms_pdu.specs.declared.tags.TheConstants.{LIST_OF_NAME, LIST_OF_VARIABLE, SCOPE_OF_DELETE}
+use Rattle.mms_elements.specs.declared.tags.TheConstants.{LIST_OF_NAME, LIST_OF_VARIABLE, SCOPE_OF_DELETE}
 
 -- the name, and listOfVariable
 abbrev pub IsDefine : List Element → Name (List ℕ) → List (Variable (List ℕ)) → Type 0

@@ -10,9 +10,9 @@ use crate::data_list::{DataList, data_of};
 use crate::number::truth_of;
 use crate::object_name::NameView;
 use crate::service::ServiceView;
-use crate::tags;
 use crate::variable::{VariableList, named_of, variables_of};
 use ber_view::{Elements, Tlv, fields, only};
+use mms_elements::tags;
 
 /// Variables, or the name of a list of them (ISO 9506-2, VariableAccessSpecification).
 #[derive(Debug, Drop)]

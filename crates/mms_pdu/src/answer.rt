@@ -12,11 +12,10 @@ ghost use Rattle.mms_pdu.specs.Answer.{IsAnswerBody, is_result, is_written, is_s
 ghost use Rattle.mms_pdu.specs.ReplyOctets.{answer_octets};
 
 use crate::access::access_of;
-use crate::number::octet_of;
-use crate::tags;
 use ber_view::{Elements, Tlv, fields, only};
 use ber_write::{add, enclosed, put_uint};
 use mms_data::view_data;
+use mms_elements::{octet_of, tags};
 use std::alloc::{AllocError, Global};
 use sv_base::Octs;
 

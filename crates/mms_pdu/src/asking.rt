@@ -7,9 +7,9 @@ ghost use Rattle.sv_base.specs.Seen.{seen_of};
 ghost use Rattle.mms_data.specs.Writable.{SeenHasFractions};
 ghost use Rattle.mms_pdu.specs.AskingOctets.{AreVisible, one_variable, confirmed_octets, read_request, write_request, conclude_request};
 
-use crate::tags;
 use ber_write::{add, enclosed, put_uint};
 use mms_data::write_data;
+use mms_elements::tags;
 use std::alloc::{AllocError, Global};
 use sv_base::{Octs, Value};
 

@@ -11,10 +11,10 @@ use crate::name_list::name_list_of;
 use crate::number::truth_of;
 use crate::object_name::name_of;
 use crate::service::ServiceView;
-use crate::tags;
 use crate::variable::named_of;
 use crate::variable_lists::{define_of, delete_of};
 use ber_view::{Tlv, fields, only};
+use mms_elements::tags;
 
 fn status_of<'a>(field: &Tlv<'a>) -> Option<ServiceView<'a>>
     ensures { option_map service result ≡ status_at (spot field.now) }

@@ -4,8 +4,8 @@ ghost use Rattle.std.specs.Prelude.{◌≡◌, ◌<◌, IfOk};
 ghost use Rattle.ber_write.specs.Minimal.{CanBeTag};
 ghost use Rattle.mms_pdu.specs.ReplyOctets.{class_tag, error_octets};
 
-use crate::tags;
 use ber_write::{add, enclosed, put_uint};
+use mms_elements::tags;
 use std::alloc::{AllocError, Global};
 use sv_base::Octs;
 

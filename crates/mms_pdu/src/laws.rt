@@ -1,11 +1,9 @@
-//! What is promised of what a client asks: each input asks one thing, and each initiate says one.
+//! What is promised of what a client asks: each input asks one thing.
 
 ghost use Rattle.std.specs.Prelude.{◌≡◌, ◌⊎◌, List, ℕ};
 ghost use Rattle.ber_grammar.specs.Octets.{IsBytes};
 ghost use Rattle.sv_base.specs.Tree.{Seen};
-ghost use Rattle.mms_pdu.specs.declared.fault.PduFault.{PduFault};
-ghost use Rattle.mms_pdu.specs.declared.initiate.Initiate.{Initiate};
-ghost use Rattle.mms_pdu.specs.Initiate.{IsAccepted, IsInitiateRefused};
+ghost use Rattle.mms_elements.specs.declared.fault.PduFault.{PduFault};
 ghost use Rattle.mms_pdu.specs.Request.{Request, IsRequest, IsRequestRefused};
 
 /// Each input asks one thing, or is refused for one cause, and never both.
@@ -14,12 +12,4 @@ pub fn each_input_asks_one_thing()
     ensures unique { (input : List ℕ) (x y : Request (List ℕ) Seen) → IsBytes input → IsRequest input x → IsRequest input y → x ≡ y }
     ensures one_cause { (input : List ℕ) (f g : PduFault) → IsBytes input → IsRequestRefused input f → IsRequestRefused input g → f ≡ g }
     ensures not_both { (input : List ℕ) (x : Request (List ℕ) Seen) (f : PduFault) → IsBytes input → IsRequest input x → IsRequestRefused input f → ⊥ }
-{}
-
-/// Each input says one initiate that is accepted, by the tag of its PDU, or is refused for one cause, and never both.
-pub fn each_initiate_says_one_thing()
-    ensures answered { (tag : ℕ) (input : List ℕ) → IsBytes input → ((i : Initiate) × IsAccepted tag input i) ⊎ ((f : PduFault) × IsInitiateRefused tag input f) }
-    ensures unique { (tag : ℕ) (input : List ℕ) (i j : Initiate) → IsAccepted tag input i → IsAccepted tag input j → i ≡ j }
-    ensures one_cause { (tag : ℕ) (input : List ℕ) (f g : PduFault) → IsBytes input → IsInitiateRefused tag input f → IsInitiateRefused tag input g → f ≡ g }
-    ensures not_both { (tag : ℕ) (input : List ℕ) (i : Initiate) (f : PduFault) → IsBytes input → IsAccepted tag input i → IsInitiateRefused tag input f → ⊥ }
 {}

@@ -1,8 +1,7 @@
 //! MMS PDUs (ISO 9506-2, MMSpdu; encoded by ITU-T X.690), read without copying and written.
 //!
-//! The server reads an initiate by [`read_initiate`] and accepts it by [`write_initiate_answer`]; then it reads what is
-//! asked by [`request`], and sends answers, errors, rejects and reports. The client asks by the other writers, and reads
-//! what comes by [`read_initiate_answer`] and [`reply`]. The laws are functions that run nothing.
+//! Behind the initiate (`mms_initiate`) the server reads what is asked by [`request`], and sends answers, errors, rejects and
+//! reports. The client asks by the other writers, and reads what comes by [`reply`]. The laws are functions that run nothing.
 #![tactic(auto)]
 
 mod access;
@@ -11,11 +10,7 @@ mod asking;
 mod confirmed;
 mod data_list;
 mod error;
-mod fault;
-mod initiate;
-mod initiate_writing;
 mod laws;
-mod minimal;
 mod name_list;
 mod number;
 mod object_name;
@@ -25,20 +20,15 @@ mod reject;
 mod reply_view;
 mod report;
 mod service;
-pub mod tags;
 mod variable;
 mod variable_lists;
 
-pub use fault::PduFault;
+pub use mms_elements::PduFault;
 
 // What is in a PDU.
 pub use data_list::DataList;
 pub use object_name::{NameList, NameView};
 pub use variable::{VariableList, VariableView};
-
-// How an association begins.
-pub use initiate::{Initiate, read_initiate, read_initiate_answer};
-pub use initiate_writing::{write_initiate_answer, write_initiate_request};
 
 // What a client asks.
 pub use asking::{write_conclude_request, write_read_request, write_write_request};
@@ -53,8 +43,5 @@ pub use reply_view::{ReplyView, reply};
 pub use report::write_report;
 
 // What is promised of all of it.
-pub use laws::{each_initiate_says_one_thing, each_input_asks_one_thing};
-pub use minimal::written_pdus_are_minimal;
-pub use read_back::{
-    each_input_is_one_reply, initiates_are_read_back, replies_are_read_back, requests_are_read_back,
-};
+pub use laws::each_input_asks_one_thing;
+pub use read_back::{each_input_is_one_reply, replies_are_read_back, requests_are_read_back};

@@ -9,8 +9,8 @@ ghost use Rattle.mms_pdu.specs.View.{scope, service};
 
 use crate::number::octet_with;
 use crate::service::{ScopeView, ServiceView};
-use crate::tags;
 use ber_view::{Elements, Tlv, only};
+use mms_elements::tags;
 
 #[tactic(auto, unfolding(crate::specs::NameList::class_at))]
 fn class_of(field: &Tlv<'_>) -> Option<u8>

@@ -9,8 +9,8 @@ ghost use Rattle.mms_pdu.specs.Each.{is_read, are_read, each_in};
 ghost use Rattle.mms_pdu.specs.ObjectName.{identifier_at, pair_at, name_at};
 ghost use Rattle.mms_pdu.specs.View.{name};
 
-use crate::tags;
 use ber_view::{Elements, Tlv, fields, text};
+use mms_elements::tags;
 use std::marker::Model;
 
 /// A name of an object (ISO 9506-2, ObjectName), in place.

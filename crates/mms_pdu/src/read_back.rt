@@ -1,33 +1,21 @@
 //! What is promised of what is written: it is read back.
 
-ghost use Rattle.std.specs.Prelude.{◌≡◌, ℕ, ◌<◌, ◌≤◌, ◌^◌, ◌⊎◌, false, List, [], ◌∷◌, length, Option, IfSome, Ok};
+ghost use Rattle.std.specs.Prelude.{◌≡◌, ℕ, ◌<◌, ◌≤◌, ◌^◌, ◌⊎◌, false, List, [], ◌∷◌, length, Option, IfSome};
 ghost use Rattle.ber_grammar.specs.Octets.{IsBytes};
 ghost use Rattle.ber_write.specs.Minimal.{CanBeTag};
 ghost use Rattle.sv_base.specs.Depth.{depth, HasNoOther};
 ghost use Rattle.sv_base.specs.Seen.{seen_of};
 ghost use Rattle.sv_base.specs.declared.value.Value.{Value};
 ghost use Rattle.mms_data.specs.Writable.{SeenHasFractions, SeenIsOfTypes};
-ghost use Rattle.mms_pdu.specs.declared.fault.PduFault.{PduFault};
-ghost use Rattle.mms_pdu.specs.declared.initiate.Initiate.{Initiate};
-ghost use Rattle.mms_pdu.specs.Initiate.{IsInitiate};
-ghost use Rattle.mms_pdu.specs.InitiateReading.{initiate_at};
-ghost use Rattle.mms_pdu.specs.InitiateOctets.{accepted, proposed, initiate_answer, initiate_request};
+ghost use Rattle.mms_elements.specs.declared.fault.PduFault.{PduFault};
 ghost use Rattle.mms_pdu.specs.Service.{read, write_vars};
 ghost use Rattle.mms_pdu.specs.Request.{confirmed, conclude, IsRequest};
 ghost use Rattle.mms_pdu.specs.AskingOctets.{AreVisible, named_variable, read_request, write_request, conclude_request};
 ghost use Rattle.mms_pdu.specs.Answer.{IsAnswerBody};
 ghost use Rattle.mms_pdu.specs.Reply.{Reply, answer, error, reject, concluded, information, IsReply, IsReplyRefused};
-ghost use Rattle.mms_pdu.specs.ReplyOctets.{answer_octets, error_octets, reason_code, reject_octets, CanBeRejected, report_octets, IsSpecificationElement, IsReport};
-ghost use Rattle.mms_pdu.specs.declared.tags.TheConstants.{INITIATE_REQUEST, INITIATE_RESPONSE, CONCLUDE_RESPONSE};
-
-/// The initiate and its answer are read back by the other side, and an input spells one initiate.
-pub fn initiates_are_read_back()
-    ensures answer { (asked : Initiate) → 1024 ≤ asked.size → IsInitiate INITIATE_RESPONSE (initiate_answer asked) (accepted asked) }
-    ensures answer_again { (asked : Initiate) → 1024 ≤ asked.size → initiate_at INITIATE_RESPONSE (initiate_answer asked) ≡ Ok (accepted asked) }
-    ensures request { (size : ℕ) → 1024 ≤ size → size ≤ 65000 → IsInitiate INITIATE_REQUEST (initiate_request size) (proposed size) }
-    ensures request_again { (size : ℕ) → 1024 ≤ size → size ≤ 65000 → initiate_at INITIATE_REQUEST (initiate_request size) ≡ Ok (proposed size) }
-    ensures one { (tag : ℕ) (input : List ℕ) (i j : Initiate) → IsInitiate tag input i → IsInitiate tag input j → i ≡ j }
-{}
+ghost use Rattle.mms_elements.specs.Reports.{report_octets, IsSpecificationElement, IsReport};
+ghost use Rattle.mms_pdu.specs.ReplyOctets.{answer_octets, error_octets, reason_code, reject_octets, CanBeRejected};
+ghost use Rattle.mms_elements.specs.declared.tags.TheConstants.{CONCLUDE_RESPONSE};
 
 /// What a client asks spells that request, which `request` gives back.
 pub fn requests_are_read_back()

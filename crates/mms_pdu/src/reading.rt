@@ -11,10 +11,9 @@ ghost use Rattle.mms_pdu.specs.Services.{is_service};
 ghost use Rattle.mms_pdu.specs.View.{asked};
 
 use crate::confirmed::service_of;
-use crate::fault::PduFault;
 use crate::service::ServiceView;
-use crate::tags;
 use ber_view::{Tlv, first, only, uint};
+use mms_elements::{PduFault, tags};
 
 /// A PDU that a client sent (ISO 9506-2, MMSpdu), with names and Data in place.
 #[derive(Debug, Drop)]
@@ -94,7 +93,7 @@ fn may_begin_service(bytes: &[u8]) -> bool
 }
 
 /// The invoke number, an INTEGER of 32 bits without sign, and the octets behind it.
-#[tactic(auto, unfolding(crate::specs::RequestReading::invoke_in, crate::specs::Invoke::below_at))]
+#[tactic(auto, unfolding(crate::specs::RequestReading::invoke_in, mms_elements::specs::Invoke::below_at))]
 fn invoke_of(content: &[u8]) -> Option<(u32, &[u8])>
     ensures { option_map (λ x. (x.0, piece x.1)) result ≡ invoke_in (piece content.entry) }
 {

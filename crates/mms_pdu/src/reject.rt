@@ -4,8 +4,8 @@ ghost use Rattle.std.specs.Prelude.{◌≡◌, ◌++◌, IfOk, OnOk};
 ghost use Rattle.ber_write.specs.Minimal.{octets_of, uint_octets};
 ghost use Rattle.mms_pdu.specs.ReplyOctets.{invoke_octets, reason_tag, reason_code, reject_octets, CanBeRejected};
 
-use crate::tags;
 use ber_write::{enclosed, put_uint};
+use mms_elements::tags;
 use std::alloc::{AllocError, Global};
 use sv_base::Octs;
 

@@ -10,11 +10,9 @@ ghost use Rattle.mms_pdu.specs.ReplyReading.{service_in, answer_in, class_at, cl
 ghost use Rattle.mms_pdu.specs.ReplyView.{reply_of, IsPlaced};
 
 use crate::answer::has_form;
-use crate::fault::PduFault;
-use crate::number::{numbered_of, octet_of};
 use crate::reading::may_begin_pdu;
-use crate::tags;
 use ber_view::{Tlv, only, whole};
+use mms_elements::{PduFault, numbered_of, octet_of, tags};
 
 /// What a server sends to a client that is connected.
 #[derive(Clone, Copy, Debug, PartialEq, Eq)]

@@ -10,8 +10,8 @@ ghost use Rattle.mms_pdu.specs.Variable.{alternate_at, named_at, specified_at, v
 ghost use Rattle.mms_pdu.specs.View.{name, variable};
 
 use crate::object_name::{NameView, name_of};
-use crate::tags;
 use ber_view::{Elements, Tlv, fields, only};
+use mms_elements::tags;
 use std::marker::Model;
 
 /// A variable of a list (ISO 9506-2, an item of listOfVariable), in place.

@@ -9,9 +9,9 @@ ghost use Rattle.mms_pdu.specs.View.{service};
 use crate::number::octet_with;
 use crate::object_name::{NameList, name_of, names_of};
 use crate::service::ServiceView;
-use crate::tags;
 use crate::variable::{VariableList, variables_of};
 use ber_view::{Elements, Tlv};
+use mms_elements::tags;
 
 #[tactic(auto, unfolding(crate::specs::VariableLists::variable_list_at))]
 fn variable_list_of<'a>(field: &Tlv<'a>) -> Option<VariableList<'a>>

@@ -11,8 +11,8 @@ use Rattle.session_pres.specs.WrittenPpdu.{connect_parameters}
 use Rattle.session_pres.proofs.AnswerLaws.{fits_anyone}
 use Rattle.session_pres.proofs.FitLaws.{connect_short, user_few, field_length_few}
 use Rattle.acse_apdu.specs.Written.{name_field, result_fields, external_content, information_content, aarq_content, aare_content, aarq_octets, aare_octets, release_octets}
-use Rattle.mms_pdu.specs.declared.initiate.Initiate.{Initiate}
-use Rattle.mms_pdu.specs.InitiateOctets.{initiate_content, answer_details, request_details, accepted, proposed, initiate_answer, initiate_request}
+use Rattle.mms_initiate.specs.declared.initiate.Initiate.{Initiate}
+use Rattle.mms_initiate.specs.InitiateOctets.{initiate_content, answer_details, request_details, accepted, proposed, initiate_answer, initiate_request}
 use Rattle.osi_stack.specs.Called.{CanBeAccepted, aare_for}
 
 pub pdv_fits : (context : ℕ) (pdu : List ℕ) → length pdu ≤ 4294967000 → length (pdv_list context pdu) < 2 ^ 32

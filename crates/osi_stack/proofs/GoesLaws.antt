@@ -20,9 +20,9 @@ use Rattle.session_pres.specs.Units.{connect, transfer}
 use Rattle.session_pres.specs.Presentation.{Request}
 use Rattle.session_pres.proofs.OneWayLaws.{spdu_one, cp_one, ac_one, pdv_one}
 use Rattle.acse_apdu.proofs.ApduLaws.{one_aarq, one_aare}
-use Rattle.mms_pdu.specs.declared.initiate.Initiate.{Initiate}
-use Rattle.mms_pdu.specs.Initiate.{IsInitiate}
-use Rattle.mms_pdu.proofs.InitiateLaws.{one_initiate}
+use Rattle.mms_initiate.specs.declared.initiate.Initiate.{Initiate}
+use Rattle.mms_initiate.specs.Initiate.{IsInitiate}
+use Rattle.mms_initiate.proofs.InitiateLaws.{one_initiate}
 use Rattle.osi_stack.specs.declared.caller.Caller.{Caller}
 use Rattle.osi_stack.specs.declared.cause.Cause.{Cause}
 use Rattle.osi_stack.specs.declared.events.Event.{Event}

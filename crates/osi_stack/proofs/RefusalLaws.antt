@@ -30,9 +30,9 @@ use Rattle.acse_apdu.specs.Grammar.{IsAarq, IsAarqRefused, IsAare, IsAareRefused
 use Rattle.acse_apdu.specs.Reading.{aarq_at, aare_at, release_at, pdu_of_aarq, pdu_of_aare, rlrq_of, rlre_of}
 use Rattle.acse_apdu.proofs.ApduLaws.{aarq_exact, aare_exact, release_exact, aarq_holds, aare_holds}
 use Rattle.acse_apdu.proofs.AnywhereLaws.{aarq-anywhere, aare-anywhere, rlrq-anywhere, rlre-anywhere}
-use Rattle.mms_pdu.specs.Initiate.{IsAccepted, IsInitiateRefused}
-use Rattle.mms_pdu.specs.InitiateReading.{initiate_at}
-use Rattle.mms_pdu.proofs.InitiateLaws.{initiate_exact}
+use Rattle.mms_initiate.specs.Initiate.{IsAccepted, IsInitiateRefused}
+use Rattle.mms_initiate.specs.InitiateReading.{initiate_at}
+use Rattle.mms_initiate.proofs.InitiateLaws.{initiate_exact}
 use Rattle.osi_stack.specs.declared.cause.Cause.{Cause}
 use Rattle.osi_stack.specs.declared.events.Event.{Event}
 use Rattle.osi_stack.specs.declared.events.Event.TheVariants.{Pdu, Aborted}

@@ -15,10 +15,10 @@ use Rattle.session_pres.proofs.ReadBackLaws.{release_back}
 use Rattle.acse_apdu.specs.declared.codes.TheConstants.{AARQ, AARE, REASON, RLRQ, RLRE}
 use Rattle.acse_apdu.specs.Written.{aarq_content, aare_content, aarq_octets, aare_octets, release_octets}
 use Rattle.acse_apdu.proofs.ReadBackLaws.{aarq_written, aare_written, release_written}
-use Rattle.mms_pdu.specs.declared.initiate.Initiate.{Initiate}
-use Rattle.mms_pdu.specs.Initiate.{IsAccepted}
-use Rattle.mms_pdu.specs.InitiateOctets.{accepted, proposed, initiate_answer, initiate_request}
-use Rattle.mms_pdu.proofs.InitiateOctetsLaws.{answer_spelled, request_spelled}
+use Rattle.mms_initiate.specs.declared.initiate.Initiate.{Initiate}
+use Rattle.mms_initiate.specs.Initiate.{IsAccepted}
+use Rattle.mms_initiate.specs.InitiateOctets.{accepted, proposed, initiate_answer, initiate_request}
+use Rattle.mms_initiate.proofs.InitiateOctetsLaws.{answer_spelled, request_spelled}
 use Rattle.osi_stack.specs.Called.{acceptance}
 use Rattle.osi_stack.specs.Calling.{request_spdu}
 use Rattle.osi_stack.specs.Lines.{IsProposal}

@@ -25,11 +25,11 @@ use Rattle.acse_apdu.specs.Grammar.{IsAarq, IsAare, IsRelease}
 use Rattle.acse_apdu.specs.Reading.{octets_in, aarq_at, aare_at, release_at, pdu_of_aarq, pdu_of_aare, rlrq_of, rlre_of}
 use Rattle.acse_apdu.proofs.ApduLaws.{aarq_exact, aare_exact, release_exact, aarq_again, aare_again, release_again}
 use Rattle.acse_apdu.proofs.AnywhereLaws.{aarq-anywhere, aare-anywhere, rlrq-anywhere, rlre-anywhere}
-use Rattle.mms_pdu.specs.declared.initiate.Initiate.{Initiate}
-use Rattle.mms_pdu.specs.declared.fault.PduFault.{PduFault}
-use Rattle.mms_pdu.specs.Initiate.{IsAccepted}
-use Rattle.mms_pdu.specs.InitiateReading.{initiate_at}
-use Rattle.mms_pdu.proofs.InitiateLaws.{initiate_exact}
+use Rattle.mms_initiate.specs.declared.initiate.Initiate.{Initiate}
+use Rattle.mms_elements.specs.declared.fault.PduFault.{PduFault}
+use Rattle.mms_initiate.specs.Initiate.{IsAccepted}
+use Rattle.mms_initiate.specs.InitiateReading.{initiate_at}
+use Rattle.mms_initiate.proofs.InitiateLaws.{initiate_exact}
 
 -- ---- from a reader to its relation, and back
 

@@ -19,9 +19,9 @@ use Rattle.session_pres.proofs.HoldLaws.{data_holds, cp_holds, ac_holds}
 use Rattle.acse_apdu.specs.declared.codes.TheConstants.{RLRQ, RLRE}
 use Rattle.acse_apdu.specs.Reading.{pdu_of_aarq, pdu_of_aare, rlrq_of, rlre_of}
 use Rattle.acse_apdu.proofs.ApduLaws.{aarq_holds, aare_holds}
-use Rattle.mms_pdu.specs.declared.initiate.Initiate.{Initiate}
-use Rattle.mms_pdu.specs.InitiateReading.{initiate_at}
-use Rattle.mms_pdu.proofs.InitiateLaws.{accepted_again}
+use Rattle.mms_initiate.specs.declared.initiate.Initiate.{Initiate}
+use Rattle.mms_initiate.specs.InitiateReading.{initiate_at}
+use Rattle.mms_initiate.proofs.InitiateLaws.{accepted_again}
 use Rattle.osi_stack.specs.declared.cause.Cause.{Cause}
 use Rattle.osi_stack.specs.declared.events.Event.{Event}
 use Rattle.osi_stack.specs.declared.events.Event.TheVariants.{Pdu, Aborted}

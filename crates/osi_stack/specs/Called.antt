@@ -10,10 +10,10 @@ use Rattle.session_pres.specs.Written.{accept_parameters, accept_spdu, release_s
 use Rattle.session_pres.specs.WrittenPpdu.{set_content, cpa_parameters, cpa_octets}
 use Rattle.acse_apdu.specs.Reading.{pdu_of_aarq, rlrq_of}
 use Rattle.acse_apdu.specs.Written.{aare_octets, release_octets}
-use Rattle.mms_pdu.specs.declared.initiate.Initiate.{Initiate}
-use Rattle.mms_pdu.specs.InitiateReading.{initiate_at}
-use Rattle.mms_pdu.specs.InitiateOctets.{initiate_answer}
-use Rattle.mms_pdu.specs.declared.tags.TheConstants.{INITIATE_REQUEST}
+use Rattle.mms_initiate.specs.declared.initiate.Initiate.{Initiate}
+use Rattle.mms_initiate.specs.InitiateReading.{initiate_at}
+use Rattle.mms_initiate.specs.InitiateOctets.{initiate_answer}
+use Rattle.mms_elements.specs.declared.tags.TheConstants.{INITIATE_REQUEST}
 use Rattle.osi_stack.specs.declared.events.Event.{Event}
 use Rattle.osi_stack.specs.declared.events.Event.TheVariants.{Connected, Pdu, Released, Aborted}
 use Rattle.osi_stack.specs.declared.events.Line.{Line}

@@ -8,10 +8,10 @@ use Rattle.session_pres.specs.Plain.{Told, connects, transfers, finishes, aborts
 use Rattle.session_pres.specs.WrittenPpdu.{connect_spdu}
 use Rattle.acse_apdu.specs.Reading.{pdu_of_aare, rlre_of}
 use Rattle.acse_apdu.specs.Written.{aarq_octets}
-use Rattle.mms_pdu.specs.declared.initiate.Initiate.{Initiate}
-use Rattle.mms_pdu.specs.InitiateReading.{initiate_at}
-use Rattle.mms_pdu.specs.InitiateOctets.{initiate_request}
-use Rattle.mms_pdu.specs.declared.tags.TheConstants.{INITIATE_RESPONSE}
+use Rattle.mms_initiate.specs.declared.initiate.Initiate.{Initiate}
+use Rattle.mms_initiate.specs.InitiateReading.{initiate_at}
+use Rattle.mms_initiate.specs.InitiateOctets.{initiate_request}
+use Rattle.mms_elements.specs.declared.tags.TheConstants.{INITIATE_RESPONSE}
 use Rattle.osi_stack.specs.declared.events.Event.{Event}
 use Rattle.osi_stack.specs.declared.events.Event.TheVariants.{Connected, Released, Aborted}
 use Rattle.osi_stack.specs.declared.events.Line.{Line}

@@ -6,8 +6,8 @@ use Rattle.session_pres.specs.declared.fault.SpFault.{SpFault}
 use Rattle.session_pres.specs.declared.fault.SpFault.TheVariants as session
 use Rattle.acse_apdu.specs.declared.fault.AcFault.{AcFault}
 use Rattle.acse_apdu.specs.declared.fault.AcFault.TheVariants as association
-use Rattle.mms_pdu.specs.declared.fault.PduFault.{PduFault}
-use Rattle.mms_pdu.specs.declared.fault.PduFault.TheVariants as pdu
+use Rattle.mms_elements.specs.declared.fault.PduFault.{PduFault}
+use Rattle.mms_elements.specs.declared.fault.PduFault.TheVariants as pdu
 use Rattle.osi_stack.specs.declared.cause.Cause.{Cause}
 use Rattle.osi_stack.specs.declared.cause.LayerFault.{LayerFault}
 use Rattle.osi_stack.specs.declared.cause.LayerFault.TheVariants.{Transport, Session, Association, Initiate}

@@ -17,8 +17,8 @@ use Rattle.session_pres.specs.UserData.{IsUserData}
 use Rattle.session_pres.specs.Presentation.{IsCp, IsCpRefused, IsAc, IsAcRefused}
 use Rattle.acse_apdu.specs.declared.codes.TheConstants.{RLRQ, RLRE}
 use Rattle.acse_apdu.specs.Grammar.{IsAarq, IsAarqRefused, IsAare, IsAareRefused, IsReleaseRefused}
-use Rattle.mms_pdu.specs.Initiate.{IsInitiateRefused}
-use Rattle.mms_pdu.specs.declared.tags.TheConstants.{INITIATE_REQUEST, INITIATE_RESPONSE}
+use Rattle.mms_initiate.specs.Initiate.{IsInitiateRefused}
+use Rattle.mms_elements.specs.declared.tags.TheConstants.{INITIATE_REQUEST, INITIATE_RESPONSE}
 use Rattle.osi_stack.specs.declared.cause.Cause.{Cause}
 use Rattle.osi_stack.specs.declared.events.Event.{Event}
 use Rattle.osi_stack.specs.declared.events.Line.{Line}

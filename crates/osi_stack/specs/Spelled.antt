@@ -15,9 +15,9 @@ use Rattle.session_pres.specs.Presentation.{Request, IsCp, IsAc}
 use Rattle.session_pres.specs.Plain.{asked}
 use Rattle.acse_apdu.specs.declared.codes.TheConstants.{RLRQ, RLRE}
 use Rattle.acse_apdu.specs.Grammar.{IsAarq, IsAare, IsRelease}
-use Rattle.mms_pdu.specs.declared.initiate.Initiate.{Initiate}
-use Rattle.mms_pdu.specs.Initiate.{IsAccepted}
-use Rattle.mms_pdu.specs.declared.tags.TheConstants.{INITIATE_REQUEST, INITIATE_RESPONSE}
+use Rattle.mms_initiate.specs.declared.initiate.Initiate.{Initiate}
+use Rattle.mms_initiate.specs.Initiate.{IsAccepted}
+use Rattle.mms_elements.specs.declared.tags.TheConstants.{INITIATE_REQUEST, INITIATE_RESPONSE}
 use Rattle.osi_stack.specs.declared.events.Event.{Event}
 use Rattle.osi_stack.specs.declared.events.Event.TheVariants.{Pdu, Aborted}
 use Rattle.osi_stack.specs.declared.phase.Phase.{Phase}

@@ -13,7 +13,7 @@ use crate::cause::Stop;
 use crate::events::{Event, Line};
 use crate::phase::{Phase, Transition};
 use acse_apdu::{read_aarq, read_rlrq, write_aare, write_rlre};
-use mms_pdu::{Initiate, read_initiate, write_initiate_answer};
+use mms_initiate::{Initiate, read_initiate, write_initiate_answer};
 use session_pres::{
     Cp, SpFault, Spdu, read_cp, read_data, read_spdu, write_ac, write_cpa, write_dn,
 };

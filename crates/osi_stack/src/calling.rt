@@ -12,7 +12,7 @@ use crate::cause::Stop;
 use crate::events::{Event, Line};
 use crate::phase::{Phase, Transition};
 use acse_apdu::{read_aare, read_rlre, write_aarq};
-use mms_pdu::{read_initiate_answer, write_initiate_request};
+use mms_initiate::{read_initiate_answer, write_initiate_request};
 use session_pres::codes::DISCONNECT;
 use session_pres::{SpFault, Spdu, read_ac, read_dn, read_spdu, write_cn};
 use std::alloc::{AllocError, Global};

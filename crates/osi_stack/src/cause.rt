@@ -5,7 +5,7 @@ ghost use Rattle.osi_stack.specs.declared.cause.Stop.TheVariants.{Memory, Refuse
 ghost use Rattle.osi_stack.specs.Causes.{number_at, layer_at, refused_at, of_session, of_association, of_initiate, transport_stop};
 
 use acse_apdu::AcFault;
-use mms_pdu::PduFault;
+use mms_elements::PduFault;
 use session_pres::SpFault;
 use std::alloc::AllocError;
 use tpkt_cotp::TpFault;

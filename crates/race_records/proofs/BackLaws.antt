@@ -35,13 +35,13 @@ use Rattle.actor_scripts.specs.declared.made.Made.{Made}
 use Rattle.actor_scripts.specs.declared.script.TimedStep.{TimedStep}
 use Rattle.written_histories.specs.Written.{actor_of, as_written, history_written}
 use Rattle.written_histories.proofs.WrittenLaws.{answer_written}
-use Rattle.script_reading.specs.Forms.{form_in}
-use Rattle.script_reading.specs.Plans as plans
-use Rattle.script_reading.specs.Plans.{Script, Plan, script_of, script_turns}
-use Rattle.script_reading.specs.Sound.{IsActor, IsTold, AreTold, IsScriptOrNone, IsSound}
-use Rattle.script_reading.specs.declared.line.StepLine.{StepLine}
-use Rattle.script_reading.proofs.SoundLaws.{texts, newest-push}
-use Rattle.script_reading.proofs.TellLaws.{association-made, process-made, others-stay, process-stays}
+use Rattle.script_plans.specs.Forms.{form_in}
+use Rattle.script_plans.specs.Plans as plans
+use Rattle.script_plans.specs.Plans.{Script, Plan, script_of, script_turns}
+use Rattle.script_plans.specs.Sound.{IsActor, IsTold, AreTold, IsScriptOrNone, IsSound}
+use Rattle.script_plans.specs.declared.line.StepLine.{StepLine}
+use Rattle.script_plans.proofs.SoundLaws.{texts, newest-push}
+use Rattle.script_plans.proofs.TellLaws.{association-made, process-made, others-stay, process-stays}
 use Rattle.race_records.specs.Merged.{Book, lines_in, book_of, line_of, at_lines, lines_behind, moment_behind, merged, lines_told, answer_to, answered, HasLine, IsAnswerable}
 use Rattle.race_records.proofs.Listed.{take-get, book-at, onto-append, length-turns, IsNewest, newest-turn, told-at, was_after, was-push, merged-push, answered-push}
 

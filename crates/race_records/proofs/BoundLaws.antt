@@ -12,8 +12,8 @@ use Rattle.actor_scripts.specs.Scripts.{turns_onto}
 use Rattle.actor_scripts.specs.declared.script.TimedStep.{TimedStep}
 use Rattle.own_queues.specs.Opers.{opers_by}
 use Rattle.own_queues.specs.Queues.{waits_behind, waits, opers_behind, opers}
-use Rattle.script_reading.specs.Plans.{Script, Plan, script_of}
-use Rattle.script_reading.specs.declared.line.StepLine.{StepLine}
+use Rattle.script_plans.specs.Plans.{Script, Plan, script_of}
+use Rattle.script_plans.specs.declared.line.StepLine.{StepLine}
 use Rattle.race_records.specs.Verdicts.{lesser}
 use Rattle.race_records.specs.Bounds.{is_beyond, first_beyond, beyond_in, lowest_from, lowest_beyond, IsBeyond, IsBeyondIn, IsBeyondOf, WriteNoOper}
 use Rattle.race_records.proofs.Owns.{NeverFull}

@@ -29,10 +29,10 @@ use Rattle.own_queues.specs.Opers.{AreApart}
 use Rattle.own_queues.specs.Queues.{open_behind, is_open, waits, opers, IsItsOwn, AreTheirOwn, IsInOrder, own_fault}
 use Rattle.own_queues.proofs.QueueLaws.{waits_by_steps, accepted_by_steps}
 use Rattle.text_configs.proofs.Served.{served}
-use Rattle.script_reading.specs.Plans.{Script, Plan, script_of}
-use Rattle.script_reading.specs.Sound.{IsTold, AreTold, IsScriptOrNone, IsSound}
-use Rattle.script_reading.specs.declared.line.StepLine.{StepLine}
-use Rattle.script_reading.proofs.SoundLaws.{texts}
+use Rattle.script_plans.specs.Plans.{Script, Plan, script_of}
+use Rattle.script_plans.specs.Sound.{IsTold, AreTold, IsScriptOrNone, IsSound}
+use Rattle.script_plans.specs.declared.line.StepLine.{StepLine}
+use Rattle.script_plans.proofs.SoundLaws.{texts}
 use Rattle.race_records.specs.Merged.{lines_in, book_of}
 use Rattle.race_records.proofs.BackLaws.{steps_in, steps_by, lines_by, IsWithin, newest, earlier, told}
 use Rattle.race_records.proofs.Listed.{book-at, length-turns, told-at}

@@ -9,10 +9,10 @@ use Rattle.actor_scripts.specs.Scripts.{turns_onto, turns_by}
 use Rattle.actor_scripts.specs.declared.made.Made.{Made}
 use Rattle.actor_scripts.specs.declared.script.TimedStep.{TimedStep}
 use Rattle.actor_scripts.proofs.Lists.{turns_more}
-use Rattle.script_reading.specs.Plans.{Script}
-use Rattle.script_reading.specs.Sound.{IsTold, AreTold}
-use Rattle.script_reading.specs.declared.line.StepLine.{StepLine}
-use Rattle.script_reading.proofs.SoundLaws.{texts}
+use Rattle.script_plans.specs.Plans.{Script}
+use Rattle.script_plans.specs.Sound.{IsTold, AreTold}
+use Rattle.script_plans.specs.declared.line.StepLine.{StepLine}
+use Rattle.script_plans.proofs.SoundLaws.{texts}
 use Rattle.race_records.specs.Merged.{Book, lines_in, line_of, lines_behind, moment_behind, merged, answer_to, answered}
 
 pub take-get : {A : Type 0} (xs : List A) (n : ℕ) (x : A) → slice_get xs n ≡ Some x → take (suc n) xs ≡ take n xs ++ x ∷ []

@@ -30,9 +30,9 @@ use Rattle.record_laws.specs.Grammar.{IsInner, Each}
 use Rattle.actor_scripts.specs.Scripts.{made_of}
 use Rattle.actor_scripts.specs.declared.made.Made.{Made}
 use Rattle.actor_scripts.specs.declared.script.TimedStep.{TimedStep}
-use Rattle.script_reading.specs.Plans.{Script, Plan, script_of}
-use Rattle.script_reading.specs.Sound.{IsTold, AreTold, IsScriptOrNone, IsText, IsSound}
-use Rattle.script_reading.specs.declared.line.StepLine.{StepLine}
+use Rattle.script_plans.specs.Plans.{Script, Plan, script_of}
+use Rattle.script_plans.specs.Sound.{IsTold, AreTold, IsScriptOrNone, IsText, IsSound}
+use Rattle.script_plans.specs.declared.line.StepLine.{StepLine}
 use Rattle.race_records.specs.Merged.{lines_in, book_of, line_of, at_lines, lines_behind, moment_behind, merged, record_with}
 use Rattle.race_records.specs.ReadBack.{MergedAreReadBack}
 use Rattle.race_records.proofs.Listed.{book-at, onto-append}

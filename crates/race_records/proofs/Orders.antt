@@ -37,10 +37,10 @@ use Rattle.script_lines.specs.declared.owner.Owner.TheVariants as owners
 use Rattle.actor_scripts.specs.declared.script.TimedStep.{TimedStep}
 use Rattle.written_histories.specs.Written.{actor_of}
 use Rattle.own_queues.specs.Queues.{open_behind, IsItsOwn, IsInOrder}
-use Rattle.script_reading.specs.Forms.{form_in}
-use Rattle.script_reading.specs.Sound.{IsActor, IsTold}
-use Rattle.script_reading.specs.declared.line.StepLine.{StepLine}
-use Rattle.script_reading.proofs.TellLaws.{made, association-made, process-made, process-stays}
+use Rattle.script_plans.specs.Forms.{form_in}
+use Rattle.script_plans.specs.Sound.{IsActor, IsTold}
+use Rattle.script_plans.specs.declared.line.StepLine.{StepLine}
+use Rattle.script_plans.proofs.TellLaws.{made, association-made, process-made, process-stays}
 
 -- ---- what a line that tells a step makes of an association
 

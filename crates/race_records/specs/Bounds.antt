@@ -9,8 +9,8 @@ use Rattle.bay_model.specs.Named.{configured_model}
 use Rattle.own_queues.specs.Opers.{opers_by}
 use Rattle.own_queues.specs.Queues.{waits_behind, opers_behind}
 use Rattle.actor_scripts.specs.declared.script.TimedStep.{TimedStep}
-use Rattle.script_reading.specs.Plans.{Script, Plan, script_of}
-use Rattle.script_reading.specs.declared.line.StepLine.{StepLine}
+use Rattle.script_plans.specs.Plans.{Script, Plan, script_of}
+use Rattle.script_plans.specs.declared.line.StepLine.{StepLine}
 use Rattle.race_records.specs.Verdicts.{lesser}
 
 -- a request for which there is no room

@@ -6,8 +6,8 @@ use Rattle.actor_scripts.specs.declared.part.Part.{Part}
 use Rattle.actor_scripts.specs.declared.script.Script.{Script as Played}
 use Rattle.actor_scripts.specs.declared.script.TimedStep.{TimedStep}
 use Rattle.actor_scripts.specs.Scripts.{turns_by}
-use Rattle.script_reading.specs.Plans.{Script, Plan, turns_of}
-use Rattle.script_reading.specs.Sound.{IsSound}
+use Rattle.script_plans.specs.Plans.{Script, Plan, turns_of}
+use Rattle.script_plans.specs.Sound.{IsSound}
 use Rattle.race_records.specs.Merged.{book_of}
 use Rattle.race_records.specs.Verdicts.{lowest_full, all_went, lacks_memory}
 use Rattle.race_records.specs.Bounds.{lowest_beyond, IsBeyondOf, IsWithoutOpers}

@@ -17,9 +17,9 @@ use Rattle.record_steps.specs.Told.{Told, turn}
 use Rattle.record_history.specs.Histories.{octets_of, said_in}
 use Rattle.actor_scripts.specs.Scripts.{made_of}
 use Rattle.actor_scripts.specs.declared.made.Made.{Made}
-use Rattle.script_reading.specs.Forms.{form_in, IsFit}
-use Rattle.script_reading.specs.Plans.{Script, Plan}
-use Rattle.script_reading.specs.declared.line.StepLine.{StepLine}
+use Rattle.script_plans.specs.Forms.{form_in, IsFit}
+use Rattle.script_plans.specs.Plans.{Script, Plan}
+use Rattle.script_plans.specs.declared.line.StepLine.{StepLine}
 
 -- the lines of all scripts, by the numbers of their actors
 abbrev pub Book : Type 0

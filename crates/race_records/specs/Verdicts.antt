@@ -3,7 +3,7 @@ use Rattle.std.specs.Prelude.{ℕ, min, Bool, true, false, List, [], ◌∷◌, 
 use Rattle.std.specs.Option.{option_map}
 use Rattle.bay_histories.specs.declared.fault.StepFault.{StepFault}
 use Rattle.bay_histories.specs.declared.fault.StepFault.TheVariants as faults
-use Rattle.script_reading.specs.declared.line.StepLine.{StepLine}
+use Rattle.script_plans.specs.declared.line.StepLine.{StepLine}
 use Rattle.actor_scripts.specs.declared.part.Part.{Part}
 use Rattle.race_records.specs.Merged.{Book}
 

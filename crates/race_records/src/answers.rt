@@ -11,7 +11,7 @@ use bay_model::{Answer, Step};
 use object_model::Model;
 use record_steps::Told;
 use run_record::view_line;
-use script_reading::StepLine;
+use script_plans::StepLine;
 use std::alloc::{AllocError, Global};
 
 /// Adds the answer to the step that a line tells.

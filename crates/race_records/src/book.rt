@@ -5,7 +5,7 @@ ghost use Rattle.std.specs.Option.{option_map};
 ghost use Rattle.race_records.specs.Merged.{line_of as line_there, book_seen, HasLine};
 
 use actor_scripts::Made;
-use script_reading::StepLine;
+use script_plans::StepLine;
 
 /// The line of a step that was made; none where no script has it.
 pub fn line_of<'a>(book: &'a [Vec<StepLine>], made: &Made) -> Option<&'a StepLine>

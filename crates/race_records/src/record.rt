@@ -9,7 +9,7 @@ ghost use Rattle.race_records.specs.Merged.{at_lines, lines_behind, merged, reco
 use crate::book::line_made;
 use actor_scripts::Made;
 use run_record::{RecLine, write_line};
-use script_reading::StepLine;
+use script_plans::StepLine;
 use std::alloc::AllocError;
 use sv_base::Moment;
 

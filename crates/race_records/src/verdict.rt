@@ -6,7 +6,7 @@ ghost use Rattle.race_records.specs.Verdicts.{number_at, full_line as full_line_
 
 use actor_scripts::Part;
 use bay_histories::StepFault;
-use script_reading::StepLine;
+use script_plans::StepLine;
 
 /// The number of an actor's line behind so many; none where it has no such line.
 fn number_of(book: &[Vec<StepLine>], actor: u32, index: usize) -> Option<u64>

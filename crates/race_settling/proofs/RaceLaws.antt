@@ -7,7 +7,7 @@ use Rattle.std.proofs.lemmas.List.Elements.{All-nil, All-cons}
 use Rattle.sv_base.specs.declared.config.Config.{Config}
 use Rattle.bay_model.specs.Answers.{History}
 use Rattle.bay_histories.specs.declared.fault.StepFault.{StepFault}
-use Rattle.script_reading.specs.Plans.{Plan}
+use Rattle.script_plans.specs.Plans.{Plan}
 use Rattle.actor_scripts.specs.Merging.{AreOf}
 use Rattle.actor_scripts.specs.Stops.{StopsAt}
 use Rattle.actor_scripts.specs.Raced.{beginnings, AreParts, IsRaced}

@@ -12,7 +12,7 @@ use Rattle.actor_scripts.specs.declared.made.Made.{Made}
 use Rattle.actor_scripts.specs.declared.part.Part.{Part as Given}
 use Rattle.script_threads.specs.declared.racing.Raced.{Raced}
 use Rattle.actor_scripts.specs.declared.script.Script.{Script as Part}
-use Rattle.script_reading.specs.Plans.{Plan}
+use Rattle.script_plans.specs.Plans.{Plan}
 use Rattle.race_records.specs.Merged.{Book, book_of, merged, record_with, answered, IsAnswerable}
 use Rattle.race_records.proofs.BackLaws.{made-answerable}
 use Rattle.race_records.proofs.OctetLaws.{merged_are_read_back}

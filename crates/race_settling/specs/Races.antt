@@ -7,8 +7,8 @@ use Rattle.actor_scripts.specs.Actors.{AreFalling, CanPlay}
 use Rattle.actor_scripts.specs.Raced.{IsRaced}
 use Rattle.script_threads.specs.declared.racing.Raced.{Raced}
 use Rattle.actor_scripts.specs.declared.script.Script.{Script as Part}
-use Rattle.script_reading.specs.Plans.{Plan}
-use Rattle.script_reading.specs.Sound.{IsSound}
+use Rattle.script_plans.specs.Plans.{Plan}
+use Rattle.script_plans.specs.Sound.{IsSound}
 use Rattle.race_records.specs.Merged.{Book, book_of}
 use Rattle.race_records.specs.Known.{AreScripts, AreOfPlan}
 

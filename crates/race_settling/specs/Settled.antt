@@ -6,7 +6,7 @@ use Rattle.bay_model.specs.Answers.{History}
 use Rattle.bay_histories.specs.Histories.{IsLegal, IsShuffle}
 use Rattle.record_outcome.specs.declared.status.Status.{Status}
 use Rattle.record_outcome.specs.declared.status.Status.TheVariants as statuses
-use Rattle.script_reading.specs.Plans.{Plan, turns_of}
+use Rattle.script_plans.specs.Plans.{Plan, turns_of}
 use Rattle.actor_scripts.specs.Raced.{actors, IsRaced}
 use Rattle.actor_scripts.specs.declared.part.Part.{Part}
 use Rattle.actor_scripts.specs.declared.script.Script.{Script as Part_}

@@ -2,7 +2,7 @@
 
 ghost use Rattle.std.specs.Prelude.{◌≡◌, List, IfOk};
 ghost use Rattle.std.specs.List.{All};
-ghost use Rattle.script_reading.specs.Plans.{Plan as ThePlan};
+ghost use Rattle.script_plans.specs.Plans.{Plan as ThePlan};
 ghost use Rattle.actor_scripts.specs.declared.script.Script.{Script as ThePart};
 ghost use Rattle.bay_model.specs.Points.{least_moment};
 ghost use Rattle.std.specs.Prelude.{◌++◌, codes};
@@ -14,7 +14,7 @@ use actor_scripts::{Made, merge};
 use object_model::Model;
 use race_records::{lacks_memory, lowest_full, write_answers, write_record};
 use record_outcome::status::Status;
-use script_reading::StepLine;
+use script_plans::StepLine;
 use script_threads::Raced;
 use std::alloc::{AllocError, Global};
 

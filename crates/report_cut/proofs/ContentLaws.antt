@@ -25,8 +25,8 @@ use Rattle.mms_data.specs.Grammar.{IsWithin, IsRefusedData}
 use Rattle.mms_data.specs.Reading.{data_at}
 use Rattle.mms_data.specs.View.{view_at}
 use Rattle.mms_data.proofs.GrammarLaws.{data_exact, data_again}
-use Rattle.mms_pdu.specs.Invoke.{below_at}
-use Rattle.mms_pdu.proofs.TaggedLaws.{below_again, below_found}
+use Rattle.mms_elements.specs.Invoke.{below_at}
+use Rattle.mms_elements.proofs.TaggedLaws.{below_again, below_found}
 use Rattle.bay_model.specs.Parameters.{bit}
 use Rattle.bay_model.specs.declared.report.Reasons.{Reasons}
 use Rattle.report_cut.specs.Part.{IsBelow, IsMoment, IsEntryId, IsOptFlds, IsInclusion, IsReasons, TakesData}

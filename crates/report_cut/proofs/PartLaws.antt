@@ -14,8 +14,8 @@ use Rattle.ber_grammar.proofs.OctetLaws.{Begins-bytes, Spells-bytes}
 use Rattle.ber_grammar.proofs.ReaderLaws.{one_refusal}
 use Rattle.ber_grammar.proofs.Theorems.{one_element}
 use Rattle.ber_grammar.proofs.FieldLaws.{row_spells, spells_row}
-use Rattle.mms_pdu.specs.Invoke.{below_at}
-use Rattle.mms_pdu.specs.ReplyOctets.{IsReport}
+use Rattle.mms_elements.specs.Invoke.{below_at}
+use Rattle.mms_elements.specs.Reports.{IsReport}
 use Rattle.bay_model.specs.Parameters.{bit}
 use Rattle.bay_model.specs.declared.report.Report.{Report}
 use Rattle.bay_model.specs.declared.report.Member.{Member}

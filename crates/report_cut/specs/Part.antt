@@ -7,8 +7,8 @@ use Rattle.ber_grammar.specs.Content.{IsText, IsUint, IsBits, IsBoolean}
 use Rattle.sv_base.specs.Tree.{Seen}
 use Rattle.mms_data.specs.Grammar.{IsStamp, IsSpelled}
 use Rattle.mms_data.specs.declared.tags.TheConstants.{BINARY_TIME, BIT_STRING, BOOLEAN, OCTET_STRING, UNSIGNED, VISIBLE_STRING}
-use Rattle.mms_pdu.specs.ReplyOctets.{IsReport}
-use Rattle.mms_pdu.specs.declared.tags.TheConstants.{VARIABLE_LIST_NAME, VMD_SPECIFIC}
+use Rattle.mms_elements.specs.Reports.{IsReport}
+use Rattle.mms_elements.specs.declared.tags.TheConstants.{VARIABLE_LIST_NAME, VMD_SPECIFIC}
 use Rattle.bay_model.specs.Parameters.{bit}
 use Rattle.bay_model.specs.declared.report.Report.{Report}
 use Rattle.bay_model.specs.declared.report.Member.{Member}

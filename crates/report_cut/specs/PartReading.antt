@@ -10,8 +10,8 @@ use Rattle.ber_grammar.specs.declared.fault.BerFault.TheVariants.{BadNumber}
 use Rattle.ber_grammar.specs.Steps.{required}
 use Rattle.mms_data.specs.Reading.{data_at}
 use Rattle.mms_data.specs.declared.tags.TheConstants.{BINARY_TIME, BIT_STRING, BOOLEAN, OCTET_STRING, UNSIGNED, VISIBLE_STRING}
-use Rattle.mms_pdu.specs.Invoke.{below_at}
-use Rattle.mms_pdu.specs.declared.tags.TheConstants.{INFORMATION_REPORT, REPORT_RESULTS, UNCONFIRMED, VARIABLE_LIST_NAME, VMD_SPECIFIC}
+use Rattle.mms_elements.specs.Invoke.{below_at}
+use Rattle.mms_elements.specs.declared.tags.TheConstants.{INFORMATION_REPORT, REPORT_RESULTS, UNCONFIRMED, VARIABLE_LIST_NAME, VMD_SPECIFIC}
 use Rattle.bay_model.specs.Parameters.{bit}
 use Rattle.bay_model.specs.declared.report.Member.{Member}
 use Rattle.bay_model.specs.declared.report.Reasons.{Reasons}

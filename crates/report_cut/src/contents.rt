@@ -4,7 +4,7 @@ ghost use Rattle.std.specs.Prelude.{◌≡◌, ◌==◌, ◌≤◌, ◌<◌, ◌
 ghost use Rattle.std.specs.Option.{option_map};
 ghost use Rattle.ber_grammar.specs.Octets.{big_endian};
 ghost use Rattle.bay_model.specs.Parameters.{bit as bit_at};
-ghost use Rattle.mms_pdu.specs.Invoke.{below_at};
+ghost use Rattle.mms_elements.specs.Invoke.{below_at};
 ghost use Rattle.report_cut.specs.PartReading.{text_in, truth_in, moment_of, moment_in, id_in, options_in, inclusion_in, reasons_in};
 
 use bay_model::Reasons;
@@ -29,7 +29,7 @@ pub(crate) fn truth_of(content: &[u8]) -> Option<bool>
 }
 
 /// A number of 16 bits.
-#[tactic(auto, unfolding(mms_pdu::specs::Invoke::below_at))]
+#[tactic(auto, unfolding(mms_elements::specs::Invoke::below_at))]
 pub(crate) fn short_of(content: &[u8]) -> Option<u16>
     ensures { result ≡ below_at 65536 content.now }
 {
@@ -38,7 +38,7 @@ pub(crate) fn short_of(content: &[u8]) -> Option<u16>
 }
 
 /// A number of 32 bits.
-#[tactic(auto, unfolding(mms_pdu::specs::Invoke::below_at))]
+#[tactic(auto, unfolding(mms_elements::specs::Invoke::below_at))]
 pub(crate) fn number_of(content: &[u8]) -> Option<u32>
     ensures { result ≡ below_at (2 ^ 32) content.now }
 {

@@ -6,7 +6,7 @@ ghost use Rattle.bay_model.specs.declared.report.Report.{Report};
 ghost use Rattle.report_cut.specs.Cutting.{cut_from};
 ghost use Rattle.bay_model.specs.declared.report.Member.{Member};
 ghost use Rattle.ber_grammar.specs.Element.{Element, IsRow};
-ghost use Rattle.mms_pdu.specs.ReplyOctets.{IsReport};
+ghost use Rattle.mms_elements.specs.Reports.{IsReport};
 ghost use Rattle.report_cut.specs.declared.segment.Segment.{Segment};
 ghost use Rattle.report_cut.specs.Fields.{pdu, rpt, results, included, is_there};
 ghost use Rattle.report_cut.specs.Rows.{AreSpelled, results_row};

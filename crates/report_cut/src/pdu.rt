@@ -12,7 +12,7 @@ use crate::members::put_body;
 use crate::segment::Segment;
 use bay_model::{Member, Report};
 use ber_write::put_head;
-use mms_pdu::tags;
+use mms_elements::tags;
 use std::alloc::{AllocError, Global};
 use sv_base::Octs;
 

@@ -19,7 +19,7 @@ use crate::told::read_body;
 use bay_model::Report;
 use ber_view::BitView;
 use mms_data::all_bits;
-use mms_pdu::tags;
+use mms_elements::tags;
 use std::alloc::Global;
 use sv_base::{Bits, BlockNo, Moment, Octs};
 

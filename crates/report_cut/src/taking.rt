@@ -2,7 +2,7 @@
 
 ghost use Rattle.std.specs.Prelude.{◌≡◌, ◌≤◌, [], List, true, false, ◌^◌, length, IfSome};
 ghost use Rattle.std.specs.Option.{option_map};
-ghost use Rattle.mms_pdu.specs.Invoke.{below_at};
+ghost use Rattle.mms_elements.specs.Invoke.{below_at};
 ghost use Rattle.mms_data.specs.declared.tags.TheConstants.{BINARY_TIME, BIT_STRING, BOOLEAN, OCTET_STRING, UNSIGNED, VISIBLE_STRING};
 ghost use Rattle.report_cut.specs.Part.{no_reasons};
 ghost use Rattle.report_cut.specs.PartReading.{enclosed_at, field_at, taken_at, text_in, truth_in, moment_in, id_in, options_in, inclusion_in, reasons_in};

@@ -7,8 +7,8 @@ use Rattle.std.proofs.lemmas.List.{length-map}
 use Rattle.std.proofs.lemmas.List.Elements.{All-nil, All-cons, All-push}
 use Rattle.sv_base.specs.declared.config.Config.{Config}
 use Rattle.bay_model.specs.Answers.{History}
-use Rattle.script_reading.specs.Plans.{Script, Plan, script_of, script_turns}
-use Rattle.script_reading.specs.Sound.{IsScriptOrNone, IsSound}
+use Rattle.script_plans.specs.Plans.{Script, Plan, script_of, script_turns}
+use Rattle.script_plans.specs.Sound.{IsScriptOrNone, IsSound}
 use Rattle.actor_scripts.specs.Actors.{AreFalling, CanPlay}
 use Rattle.actor_scripts.specs.Stops.{AreFit}
 use Rattle.actor_scripts.specs.Scripts.{turns_by}

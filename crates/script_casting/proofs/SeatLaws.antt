@@ -2,8 +2,8 @@
 use Rattle.std.proofs.Common.{◌≡◌, ◌≢◌, ◌<◌, ℕ, zero, suc, List, [], ◌∷◌, ◌++◌, length, map, get_or, refl, sym, ap, subst, ◌∙◌, arith, get_or-set_other, append-nil}
 use Rattle.std.specs.Prelude.{Option, None, Some, is_some, slice_set}
 use Rattle.actor_scripts.proofs.Lists.{map_last}
-use Rattle.script_reading.specs.Plans.{Script, Plan}
-use Rattle.script_reading.specs.Sound.{IsPlacedBelow, ArePlacedApart, IsSound}
+use Rattle.script_plans.specs.Plans.{Script, Plan}
+use Rattle.script_plans.specs.Sound.{IsPlacedBelow, ArePlacedApart, IsSound}
 use Rattle.script_casting.specs.Casting.{script_place, role_place, NoneIs, AreSeats, HasGate, HaveGates, without_gate}
 use Rattle.script_casting.specs.declared.casting.Role.{Role}
 

@@ -1,6 +1,6 @@
 -- The actors of a plan.
 use Rattle.std.specs.Prelude.{◌≡◌, ◌≢◌, ◌<◌, ℕ, suc, true, is_some, slice_index_or, slice_set, List, [], ◌∷◌, ◌++◌, map, Option, None, Some}
-use Rattle.script_reading.specs.Plans.{Script}
+use Rattle.script_plans.specs.Plans.{Script}
 use Rattle.actor_scripts.specs.declared.script.Script.{Script as Part}
 use Rattle.actor_scripts.specs.declared.script.TimedStep.{TimedStep}
 use Rattle.script_casting.specs.declared.casting.Role.{Role}

@@ -5,7 +5,7 @@ ghost use Rattle.race_records.specs.Merged.{lines_in, book_seen};
 ghost use Rattle.script_casting.specs.Casting.{script_steps, role_steps, script_place, role_place, AreSeats, HasGate, HaveGates, without_gate, cast_one, cast_from, IsCast};
 
 use actor_scripts::{Actor, Script as ActorScript, TimedStep};
-use script_reading::{Script, StepLine};
+use script_plans::{Script, StepLine};
 use std::alloc::{AllocError, Global};
 use std::mem::replace;
 use sv_io::Gate;

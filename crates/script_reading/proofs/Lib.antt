@@ -1,6 +1,4 @@
--- The laws of a rehearsal's input.
-pub mod TellLaws
+-- The laws of the reading of a rehearsal's input.
 pub mod RunLaws
 pub mod ReadingLaws
 pub mod StageLaws
-pub mod SoundLaws

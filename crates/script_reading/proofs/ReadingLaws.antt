@@ -6,8 +6,8 @@ use Rattle.std.proofs.lemmas.Bool.Decides.{leb_tells}
 use Rattle.std.proofs.lemmas.List.{take_all}
 use Rattle.record_outcome.specs.Records.{limit, NoNewline, pieces, has_begun}
 use Rattle.record_outcome.specs.declared.status.Status.{Status}
-use Rattle.script_reading.specs.Moves.{opening, Move, goes, stops, ends}
-use Rattle.script_reading.specs.Inputs.{line_at, Outcome, refused, ended, moved, run, outcome}
+use Rattle.script_plans.specs.Moves.{opening, Move, goes, stops, ends}
+use Rattle.script_plans.specs.Inputs.{line_at, Outcome, refused, ended, moved, run, outcome}
 use Rattle.script_reading.specs.Readings.{place_of, Moved, Reads, LinesRead, EndsBetween, Concludes}
 use Rattle.script_reading.specs.declared.plan.Plan.{Plan as Held}
 use Rattle.script_reading.specs.declared.next.Next.{Next}

@@ -6,8 +6,8 @@ use Rattle.std.proofs.lemmas.List.Splits.{slice_split_at, slice_split_none}
 use Rattle.record_outcome.specs.Records.{most_lines, NoNewline, pieces, has_begun}
 use Rattle.record_outcome.specs.declared.status.Status.{Status}
 use Rattle.record_outcome.proofs.LineLaws.{pieces-some}
-use Rattle.script_reading.specs.Moves.{Place, stops}
-use Rattle.script_reading.specs.Inputs.{passed, missing, unended, ended, lines_at, line_at, refused, moved, run}
+use Rattle.script_plans.specs.Moves.{Place, stops}
+use Rattle.script_plans.specs.Inputs.{passed, missing, unended, ended, lines_at, line_at, refused, moved, run}
 use Rattle.list_laws.proofs.Places.{not-below}
 
 run-on : (long : Bool) (count : ℕ) (place : Place) (line : List ℕ) (more : List (List ℕ)) → 0 < length more

@@ -14,13 +14,13 @@ use Rattle.script_lines.specs.Lines.{script_line_at}
 use Rattle.script_lines.specs.declared.line.ScriptLine.{ScriptLine}
 use Rattle.script_lines.specs.declared.line.ScriptLine.TheVariants as scripts
 use Rattle.script_lines.proofs.LineLaws.{line-told}
-use Rattle.script_reading.specs.Plans.{Plan}
-use Rattle.script_reading.specs.Moves.{Place, opening, configuring, Move, goes, stops}
-use Rattle.script_reading.specs.Openings.{headed, opening_at, started, configuring_at}
-use Rattle.script_reading.specs.Scripting.{between_as, between_at, inside_as, inside_at, among_line}
-use Rattle.script_reading.specs.Inputs.{lines_at}
+use Rattle.script_plans.specs.Plans.{Plan}
+use Rattle.script_plans.specs.Moves.{Place, opening, configuring, Move, goes, stops}
+use Rattle.script_plans.specs.Openings.{headed, opening_at, started, configuring_at}
+use Rattle.script_plans.specs.Scripting.{between_as, between_at, inside_as, inside_at, among_line}
+use Rattle.script_plans.specs.Inputs.{lines_at}
 use Rattle.script_reading.specs.Readings.{plan_seen, among, scripts_seen, place_of, IsView}
-use Rattle.script_reading.specs.declared.opened.Opened.{Opened}
+use Rattle.script_plans.specs.declared.opened.Opened.{Opened}
 use Rattle.script_reading.specs.declared.scripting.Scripts.{Scripts}
 use Rattle.script_reading.specs.declared.stage.Stage.{Stage}
 use Rattle.script_reading.specs.declared.stage.Stage.TheVariants as stages

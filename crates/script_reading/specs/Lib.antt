@@ -1,12 +1,2 @@
--- A rehearsal's input: its lines, what each does, and what they come to.
--- what an association is
-pub mod Forms
-pub mod Plans
-pub mod Moves
-pub mod Scripting
-pub mod Openings
-pub mod Inputs
 -- what the reading stands for
 pub mod Readings
--- what holds of every plan
-pub mod Sound

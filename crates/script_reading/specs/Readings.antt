@@ -15,14 +15,14 @@ use Rattle.script_lines.specs.Grammar.{IsOwner}
 use Rattle.script_lines.specs.declared.owner.Owner.{Owner}
 use Rattle.script_lines.specs.declared.line.ScriptLine.{ScriptLine}
 use Rattle.script_lines.specs.declared.line.ScriptLine.TheVariants as lines
-use Rattle.script_reading.specs.Forms.{IsFit}
-use Rattle.script_reading.specs.Plans.{Plan, script_of}
-use Rattle.script_reading.specs.Moves.{Place, opening, configuring, between, inside, Move, goes, stops, ends}
-use Rattle.script_reading.specs.Scripting.{most_scripts, actor_for, counted, opened}
-use Rattle.script_reading.specs.Openings.{started}
-use Rattle.script_reading.specs.Inputs.{Outcome, refused, ready, ended, run}
+use Rattle.script_plans.specs.Forms.{IsFit}
+use Rattle.script_plans.specs.Plans.{Plan, script_of}
+use Rattle.script_plans.specs.Moves.{Place, opening, configuring, between, inside, Move, goes, stops, ends}
+use Rattle.script_plans.specs.Scripting.{most_scripts, actor_for, counted, opened}
+use Rattle.script_plans.specs.Openings.{started}
+use Rattle.script_plans.specs.Inputs.{Outcome, refused, ready, ended, run}
 use Rattle.script_reading.specs.declared.plan.Plan.{Plan as Held}
-use Rattle.script_reading.specs.declared.opened.Opened.{Opened}
+use Rattle.script_plans.specs.declared.opened.Opened.{Opened}
 use Rattle.script_reading.specs.declared.next.Next.{Next}
 use Rattle.script_reading.specs.declared.next.Next.TheVariants as nexts
 use Rattle.script_reading.specs.declared.scripting.Scripts.{Scripts}

@@ -1,15 +1,11 @@
-//! The reading of a rehearsal's input: a configuration, and scripts that are told line by line, each by its own lines before.
+//! The reading of a rehearsal's input, line by line, to what it comes to.
 #![tactic(auto)]
 
 // what an input comes to
-mod form;
-mod line;
 mod plan;
-mod script;
 
 // the lines among scripts
 mod next;
-mod opened;
 mod scripting;
 
 // the lines before them
@@ -21,13 +17,6 @@ mod reading;
 mod session;
 mod stage;
 
-// what holds of every plan
-mod laws;
-
-pub use form::ScriptForm;
-pub use laws::plans_are_sound;
-pub use line::StepLine;
 pub use plan::Plan;
 pub use reading::read_rehearsal;
-pub use script::Script;
 pub use scripting::MOST_SCRIPTS;

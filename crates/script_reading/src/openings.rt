@@ -2,7 +2,7 @@
 
 ghost use Rattle.std.specs.Prelude.{◌≡◌, ℕ};
 ghost use Rattle.text_words.specs.Words.{texts};
-ghost use Rattle.script_reading.specs.Openings.{headed};
+ghost use Rattle.script_plans.specs.Openings.{headed};
 ghost use Rattle.script_reading.specs.Readings.{Heads};
 
 use run_record::Kind;

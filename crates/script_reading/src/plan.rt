@@ -1,7 +1,7 @@
 //! What a rehearsal's input comes to.
 
-use crate::script::Script;
 use object_model::Model;
+use script_plans::Script;
 
 /// A configuration, by its model and by its lines, and the scripts by the numbers of their actors: 1 to 16 are associations, and
 /// 17 to 32 scripts of the process in their order.

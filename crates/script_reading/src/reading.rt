@@ -1,9 +1,9 @@
 //! A whole input of a rehearsal.
 
 ghost use Rattle.std.specs.Prelude.{◌≡◌, ◌≤◌, ◌<◌, ◌+◌, ◌^◌, length, IfOk, OnOk};
-ghost use Rattle.script_reading.specs.Inputs.{outcome};
-ghost use Rattle.script_reading.specs.Plans.{Plan as ThePlan};
-ghost use Rattle.script_reading.specs.Moves.{between};
+ghost use Rattle.script_plans.specs.Inputs.{outcome};
+ghost use Rattle.script_plans.specs.Plans.{Plan as ThePlan};
+ghost use Rattle.script_plans.specs.Moves.{between};
 ghost use Rattle.script_reading.specs.Readings.{place_of, plan_seen, Reads, IsRefused, IsBetween, IsDecided, IsWell, LinesRead, EndsBetween, Concludes};
 
 use crate::next::Next;

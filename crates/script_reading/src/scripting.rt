@@ -1,19 +1,23 @@
 //! The lines among scripts.
 
-ghost use Rattle.std.specs.Prelude.{◌≡◌, IfOk};
+ghost use Rattle.std.specs.Prelude.{◌≡◌, IfOk, ℕ, List, OnOk};
 ghost use Rattle.run_record.specs.Grammar.{IsLine};
 ghost use Rattle.run_record.specs.Judging.{number_of};
 ghost use Rattle.run_record.specs.Seen.{line_seen};
-ghost use Rattle.script_reading.specs.Scripting.{strange as strange_kind};
-ghost use Rattle.script_reading.specs.Readings.{IsDecided};
+ghost use Rattle.script_plans.specs.Scripting.{strange as strange_kind, taken, told_in, inside_step};
+ghost use Rattle.script_reading.specs.Readings.{IsDecided, Moved, IsStepless, IsWellOpened};
 ghost use Rattle.record_outcome.specs.declared.status.Status.TheVariants.{Record};
+ghost use Rattle.bay_model.specs.declared.step.Step.{Step as TheStep};
+ghost use Rattle.run_record.specs.declared.line.RecLine.{RecLine};
+ghost use Rattle.record_steps.specs.Resolved.{told_of};
+ghost use Rattle.record_steps.specs.Telling.{telling};
+ghost use Rattle.record_steps.specs.declared.heard.Heard.{Heard as TheHeard};
+ghost use Rattle.script_plans.specs.Forms.{form_in};
+ghost use Rattle.script_plans.specs.Plans.{Plan as ThePlan};
+ghost use Rattle.script_plans.specs.Moves.{inside};
 
-use crate::form::ScriptForm;
-use crate::line::StepLine;
 use crate::next::Next;
-use crate::opened::Opened;
 use crate::plan::Plan;
-use crate::script::Script;
 use actor_scripts::TimedStep;
 use bay_model::Step;
 use object_model::Model;
@@ -21,6 +25,7 @@ use record_outcome::status::Status;
 use record_steps::Told;
 use run_record::{Kind, LineView};
 use script_lines::{Owner, ScriptView, view_script_line};
+use script_plans::{Opened, Script, ScriptForm, StepLine};
 use std::alloc::{AllocError, Global};
 use std::mem::replace;
 use sv_base::{Moment, Octs};
@@ -53,151 +58,135 @@ fn strange(alloc: Global, model: &Model, line: &LineView<'_>) -> Result<Kind, Al
     }
 }
 
-impl Opened {
-    ghost use Rattle.std.specs.Prelude.{◌≡◌, ℕ, List, IfOk, OnOk};
-    ghost use Rattle.bay_model.specs.declared.step.Step.{Step as TheStep};
-    ghost use Rattle.run_record.specs.Grammar.{IsLine};
-    ghost use Rattle.run_record.specs.Seen.{line_seen};
-    ghost use Rattle.run_record.specs.declared.line.RecLine.{RecLine};
-    ghost use Rattle.record_steps.specs.Resolved.{told_of};
-    ghost use Rattle.record_steps.specs.Telling.{telling};
-    ghost use Rattle.record_steps.specs.declared.heard.Heard.{Heard as TheHeard};
-    ghost use Rattle.script_reading.specs.Forms.{form_in};
-    ghost use Rattle.script_reading.specs.Plans.{Plan as ThePlan};
-    ghost use Rattle.script_reading.specs.Moves.{inside};
-    ghost use Rattle.script_reading.specs.Scripting.{taken, told_in, inside_step};
-    ghost use Rattle.script_reading.specs.Readings.{Moved, IsDecided, IsStepless, IsWellOpened};
+/// Takes a line with its step, behind which its association is of this form.
+fn take(
+    alloc: Global,
+    opened: &mut Opened,
+    number: u64,
+    text: &[u8],
+    form: ScriptForm,
+    step: Step,
+) -> Result<(), AllocError>
+    ensures { OnOk result (opened.new ≡ taken opened.old number text.now form step) }
+{
+    let moment = opened.moment;
+    let text = match Octs::copied(alloc, text) {
+        Ok(text) => text,
+        Err(error) => {
+            drop(step);
+            return Err(error);
+        }
+    };
+    let line = StepLine {
+        number,
+        text,
+        form: opened.form,
+        moment,
+    };
+    opened.form = form;
+    opened.script.push(line, TimedStep { moment, step })
+}
 
-    /// Takes a line with its step, behind which its association is of this form.
-    fn take(
-        &mut self,
-        alloc: Global,
-        number: u64,
-        text: &[u8],
-        form: ScriptForm,
-        step: Step,
-    ) -> Result<(), AllocError>
-        ensures { OnOk result (self.new ≡ taken self.old number text.now form step) }
-    {
-        let moment = self.moment;
-        let text = match Octs::copied(alloc, text) {
-            Ok(text) => text,
-            Err(error) => {
-                drop(step);
-                return Err(error);
-            }
-        };
-        let line = StepLine {
-            number,
-            text,
-            form: self.form,
-            moment,
-        };
-        self.form = form;
-        self.script.push(line, TimedStep { moment, step })
+/// Does what was told of a line that makes no step.
+fn pass(opened: &mut Opened, number: u64, told: Told) -> Next
+    requires none { IsStepless told }
+    requires well { IsWellOpened opened.old }
+    ensures moves { (p : ThePlan) (text : List ℕ) (line : RecLine) (step : TheStep) (heard : List TheHeard) → Moved result (inside p opened.new) (told_in number p opened.old text line (telling told step heard)) }
+    ensures decided { IsDecided result }
+    ensures well { IsWellOpened opened.new }
+{
+    match told {
+        Told::Nothing => Next::On,
+        Told::At(moment) => {
+            opened.moment = moment;
+            Next::On
+        }
+        Told::Refused(kind) => stop(number, kind),
+        Told::Step(_) | Told::Heard | Told::End => stop(number, Kind::State),
     }
+}
 
-    /// Does what was told of a line that makes no step.
-    fn pass(&mut self, number: u64, told: Told) -> Next
-        requires none { IsStepless told }
-        requires well { IsWellOpened self.old }
-        ensures moves { (p : ThePlan) (text : List ℕ) (line : RecLine) (step : TheStep) (heard : List TheHeard) → Moved result (inside p self.new) (told_in number p self.old text line (telling told step heard)) }
-        ensures decided { IsDecided result }
-        ensures well { IsWellOpened self.new }
-    {
-        match told {
-            Told::Nothing => Next::On,
-            Told::At(moment) => {
-                self.moment = moment;
-                Next::On
-            }
-            Told::Refused(kind) => stop(number, kind),
-            Told::Step(_) | Told::Heard | Told::End => stop(number, Kind::State),
+/// Does what was told of a line, whose step is in the slot.
+fn act(
+    alloc: Global,
+    opened: &mut Opened,
+    number: u64,
+    text: &[u8],
+    line: &LineView<'_>,
+    told: Told,
+    step: Step,
+) -> Result<Next, AllocError>
+    requires ranges { IsLine (line_seen line.now) }
+    requires well { IsWellOpened opened.old }
+    ensures moves { IfOk result (λ n. (p : ThePlan) (heard : List TheHeard) → Moved n (inside p opened.new) (told_in number p opened.old text.now (line_seen line.now) (telling told step heard))) }
+    ensures decided { IfOk result IsDecided }
+    ensures well { OnOk result (IsWellOpened opened.new) }
+{
+    match told {
+        Told::Step(_) => {
+            let form = opened.form.behind(line);
+            take(alloc, opened, number, text, form, step)?;
+            Ok(Next::On)
+        }
+        Told::Nothing | Told::At(_) | Told::Heard | Told::Refused(_) | Told::End => {
+            drop(step);
+            Ok(pass(opened, number, told))
         }
     }
+}
 
-    /// Does what was told of a line, whose step is in the slot.
-    fn act(
-        &mut self,
-        alloc: Global,
-        number: u64,
-        text: &[u8],
-        line: &LineView<'_>,
-        told: Told,
-        step: Step,
-    ) -> Result<Next, AllocError>
-        requires ranges { IsLine (line_seen line.now) }
-        requires well { IsWellOpened self.old }
-        ensures moves { IfOk result (λ n. (p : ThePlan) (heard : List TheHeard) → Moved n (inside p self.new) (told_in number p self.old text.now (line_seen line.now) (telling told step heard))) }
-        ensures decided { IfOk result IsDecided }
-        ensures well { OnOk result (IsWellOpened self.new) }
-    {
-        match told {
-            Told::Step(_) => {
-                let form = self.form.behind(line);
-                self.take(alloc, number, text, form, step)?;
-                Ok(Next::On)
-            }
-            Told::Nothing | Told::At(_) | Told::Heard | Told::Refused(_) | Told::End => {
-                drop(step);
-                Ok(self.pass(number, told))
-            }
+/// Reads a line of a record that the script may have.
+fn play(
+    alloc: Global,
+    opened: &mut Opened,
+    model: &Model,
+    number: u64,
+    text: &[u8],
+    line: &LineView<'_>,
+) -> Result<Next, AllocError>
+    requires ranges { IsLine (line_seen line.now) }
+    requires well { IsWellOpened opened.old }
+    ensures moves { IfOk result (λ n. (p : ThePlan) → p.config ≡ model.now → Moved n (inside p opened.new) (told_in number p opened.old text.now (line_seen line.now) (told_of model.now (form_in opened.old.form) (line_seen line.now)))) }
+    ensures decided { IfOk result IsDecided }
+    ensures well { OnOk result (IsWellOpened opened.new) }
+{
+    let mut step = Step::Tick;
+    match opened.form.tell(alloc, model, line, &mut step) {
+        Ok(told) => act(alloc, opened, number, text, line, told, step),
+        Err(error) => {
+            drop(step);
+            Err(error)
         }
     }
+}
 
-    /// Reads a line of a record that the script may have.
-    fn play(
-        &mut self,
-        alloc: Global,
-        model: &Model,
-        number: u64,
-        text: &[u8],
-        line: &LineView<'_>,
-    ) -> Result<Next, AllocError>
-        requires ranges { IsLine (line_seen line.now) }
-        requires well { IsWellOpened self.old }
-        ensures moves { IfOk result (λ n. (p : ThePlan) → p.config ≡ model.now → Moved n (inside p self.new) (told_in number p self.old text.now (line_seen line.now) (told_of model.now (form_in self.old.form) (line_seen line.now)))) }
-        ensures decided { IfOk result IsDecided }
-        ensures well { OnOk result (IsWellOpened self.new) }
-    {
-        let mut step = Step::Tick;
-        match self.form.tell(alloc, model, line, &mut step) {
-            Ok(told) => self.act(alloc, number, text, line, told, step),
-            Err(error) => {
-                drop(step);
-                Err(error)
-            }
-        }
+/// Reads a line of a record.
+fn read_opened(
+    alloc: Global,
+    opened: &mut Opened,
+    model: &Model,
+    number: u64,
+    text: &[u8],
+    line: &LineView<'_>,
+) -> Result<Next, AllocError>
+    requires ranges { IsLine (line_seen line.now) }
+    requires well { IsWellOpened opened.old }
+    ensures moves { IfOk result (λ n. (p : ThePlan) → p.config ≡ model.now → Moved n (inside p opened.new) (inside_step number p opened.old text.now (line_seen line.now))) }
+    ensures decided { IfOk result IsDecided }
+    ensures well { OnOk result (IsWellOpened opened.new) }
+{
+    if opened.owner.may_have(line) {
+        return play(alloc, opened, model, number, text, line);
     }
-
-    /// Reads a line of a record.
-    fn read(
-        &mut self,
-        alloc: Global,
-        model: &Model,
-        number: u64,
-        text: &[u8],
-        line: &LineView<'_>,
-    ) -> Result<Next, AllocError>
-        requires ranges { IsLine (line_seen line.now) }
-        requires well { IsWellOpened self.old }
-        ensures moves { IfOk result (λ n. (p : ThePlan) → p.config ≡ model.now → Moved n (inside p self.new) (inside_step number p self.old text.now (line_seen line.now))) }
-        ensures decided { IfOk result IsDecided }
-        ensures well { OnOk result (IsWellOpened self.new) }
-    {
-        if self.owner.may_have(line) {
-            return self.play(alloc, model, number, text, line);
-        }
-        let kind = strange(alloc, model, line)?;
-        Ok(stop(number, kind))
-    }
+    let kind = strange(alloc, model, line)?;
+    Ok(stop(number, kind))
 }
 
 impl Plan {
     ghost use Rattle.std.specs.Prelude.{◌≡◌, ◌<◌, ◌==◌, ◌||◌, is_some, IfSome};
     ghost use Rattle.script_lines.specs.Grammar.{IsOwner};
-    ghost use Rattle.script_reading.specs.Plans.{script_of, with_script};
-    ghost use Rattle.script_reading.specs.Scripting.{most_scripts, actor_for, counted};
+    ghost use Rattle.script_plans.specs.Plans.{script_of, with_script};
+    ghost use Rattle.script_plans.specs.Scripting.{most_scripts, actor_for, counted};
     ghost use Rattle.script_reading.specs.Readings.{plan_seen, Begins, IsRoomy, IsWellOpened};
 
     /// The number of the actor of the next script.
@@ -289,8 +278,8 @@ impl Scripts {
     ghost use Rattle.run_record.specs.Seen.{line_seen};
     ghost use Rattle.script_lines.specs.Grammar.{IsOwner};
     ghost use Rattle.script_lines.specs.Seen.{view_seen};
-    ghost use Rattle.script_reading.specs.Scripting.{begins, ended, between_line, inside_step, inside_line, among_line};
-    ghost use Rattle.script_reading.specs.Inputs.{lines_at};
+    ghost use Rattle.script_plans.specs.Scripting.{begins, ended, between_line, inside_step, inside_line, among_line};
+    ghost use Rattle.script_plans.specs.Inputs.{lines_at};
     ghost use Rattle.script_reading.specs.Readings.{plan_seen, scripts_seen, Moved, IsDecided, IsRoomy, IsWellOpened, IsWellScripts, IsView};
 
     /// No script is read yet.
@@ -385,7 +374,7 @@ impl Scripts {
         ensures well { OnOk result (IsWellScripts self.new) }
     {
         let mut opened = opened;
-        let next = opened.read(alloc, &self.plan.model, number, text, line)?;
+        let next = read_opened(alloc, &mut opened, &self.plan.model, number, text, line)?;
         self.current = Some(opened);
         Ok(next)
     }

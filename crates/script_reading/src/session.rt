@@ -15,7 +15,7 @@ pub struct Session {
 
 impl Session {
     ghost use Rattle.std.specs.Prelude.{◌≡◌, ◌<◌, ◌^◌, suc, IfOk, OnOk};
-    ghost use Rattle.script_reading.specs.Inputs.{line_at, unended as unended_at, ended as ended_at};
+    ghost use Rattle.script_plans.specs.Inputs.{line_at, unended as unended_at, ended as ended_at};
     ghost use Rattle.record_outcome.specs.Judgements.{IsRefusal};
     ghost use Rattle.script_reading.specs.Readings.{place_of, Moved, IsDecided, IsWell};
     ghost use Rattle.script_reading.specs.declared.stage.Stage.TheVariants as stages;

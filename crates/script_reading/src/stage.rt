@@ -24,9 +24,9 @@ pub enum Stage {
 
 impl Stage {
     ghost use Rattle.std.specs.Prelude.{◌≡◌, ◌<◌, ◌^◌, IfOk, OnOk};
-    ghost use Rattle.script_reading.specs.Moves.{Move};
-    ghost use Rattle.script_reading.specs.Openings.{opening_at, started};
-    ghost use Rattle.script_reading.specs.Inputs.{lines_at, passed as passed_at, missing as missing_at};
+    ghost use Rattle.script_plans.specs.Moves.{Move};
+    ghost use Rattle.script_plans.specs.Openings.{opening_at, started};
+    ghost use Rattle.script_plans.specs.Inputs.{lines_at, passed as passed_at, missing as missing_at};
     ghost use Rattle.record_outcome.specs.Judgements.{IsRefusal};
     ghost use Rattle.script_reading.specs.Readings.{place_of, Moved, IsDecided, IsWell, Starts, IsSoundStart};
     ghost use Rattle.script_reading.specs.declared.stage.Stage.TheVariants as stages;

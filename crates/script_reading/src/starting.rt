@@ -2,14 +2,14 @@
 
 ghost use Rattle.std.specs.Prelude.{◌≡◌, ◌<◌, ◌^◌, ℕ, None, replicate, IfOk};
 ghost use Rattle.cfg_parser.specs.Looking.{config_at};
-ghost use Rattle.script_reading.specs.Openings.{started};
+ghost use Rattle.script_plans.specs.Openings.{started};
 ghost use Rattle.script_reading.specs.Readings.{Starts, IsModelOf, IsSoundStart};
 
 use crate::plan::Plan;
-use crate::script::Script;
 use cfg_text::{CfgFault, read_config};
 use object_model::Model;
 use record_outcome::status::Status;
+use script_plans::Script;
 use std::alloc::{AllocError, Global};
 
 /// A place for each number of an actor.

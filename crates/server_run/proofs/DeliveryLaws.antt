@@ -6,8 +6,8 @@ use Rattle.std.specs.declared.alloc.Global.{Global}
 use Rattle.sv_io.specs.Causes.{GrowsByFront}
 use Rattle.record_outcome.specs.declared.status.Status.{Status}
 use Rattle.record_outcome.specs.declared.status.Status.TheVariants as statuses
-use Rattle.script_reading.specs.Plans.{Plan}
-use Rattle.script_reading.specs.Inputs.{Outcome, refused, ready}
+use Rattle.script_plans.specs.Plans.{Plan}
+use Rattle.script_plans.specs.Inputs.{Outcome, refused, ready}
 use Rattle.record_outcome.specs.Judgements.{IsRefusal}
 use Rattle.race_settling.specs.Settled.{Performs}
 use Rattle.server_run.specs.Rehearsals.{PerformsInput, Rehearses, IsListed}

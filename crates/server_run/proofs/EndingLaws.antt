@@ -2,8 +2,8 @@
 use Rattle.std.proofs.Common.{◌≡◌, ℕ, List, refl, sym, ap, subst, ◌∙◌, inl, inr}
 use Rattle.record_outcome.specs.declared.status.Status.{Status}
 use Rattle.record_outcome.specs.declared.status.Status.TheVariants as statuses
-use Rattle.script_reading.specs.Plans.{Plan}
-use Rattle.script_reading.specs.Inputs.{Outcome, refused}
+use Rattle.script_plans.specs.Plans.{Plan}
+use Rattle.script_plans.specs.Inputs.{Outcome, refused}
 use Rattle.race_records.proofs.BoundLaws.{none-of}
 use Rattle.race_settling.specs.Settled.{Goes, MeetsFull}
 use Rattle.server_run.specs.Rehearsals.{ends_at, EndsAs, IsStatusOf, EndingsAreKnown}

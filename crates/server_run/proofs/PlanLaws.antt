@@ -6,8 +6,8 @@ use Rattle.bay_config.specs.Servable.{IsServable}
 use Rattle.text_configs.proofs.Served.{served}
 use Rattle.actor_scripts.specs.Actors.{AreFalling, CanPlay}
 use Rattle.actor_scripts.specs.declared.script.Script.{Script as Part}
-use Rattle.script_reading.specs.Plans.{Plan}
-use Rattle.script_reading.specs.Sound.{IsSound}
+use Rattle.script_plans.specs.Plans.{Plan}
+use Rattle.script_plans.specs.Sound.{IsSound}
 use Rattle.race_records.specs.Merged.{Book, lines_in}
 use Rattle.race_records.specs.Known.{AreScripts, AreOfPlan}
 use Rattle.script_casting.specs.Casting.{IsCast}

@@ -1,9 +1,9 @@
 //! Initiates as clients and servers of IEC 61850-8-1 write them, and what each field may be.
 
 use crate::spelled::{is_printed, is_written};
-use mms_pdu::{
-    Initiate, PduFault, read_initiate, read_initiate_answer, write_initiate_answer,
-    write_initiate_request,
+use mms_elements::PduFault;
+use mms_initiate::{
+    Initiate, read_initiate, read_initiate_answer, write_initiate_answer, write_initiate_request,
 };
 use std::alloc::{AllocError, Global};
 use std::test::*;

@@ -1,6 +1,6 @@
 -- why `control_pdus::reported` answers as its contract says
 use Rattle.std.proofs.Common.{sym, subst, ◌∙◌}
-use Rattle.mms_pdu.specs.ReplyOctets.{IsSpecificationElement}
+use Rattle.mms_elements.specs.Reports.{IsSpecificationElement}
 use Rattle.bay_answers.proofs.ControlPduLaws.{is_list}
 use Rattle.bay_answers.proofs.control_pdus.reported.Goals as goal
 

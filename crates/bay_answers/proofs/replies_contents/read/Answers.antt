@@ -2,7 +2,7 @@
 use Rattle.std.proofs.Common.{◌≡◌, ℕ, ◌+◌, List, ◌++◌, length, Some, sym, ap, ◌∙◌, arith}
 use Rattle.std.specs.Option.{option_map}
 use Rattle.ber_write.specs.Minimal.{octets_of, element_size}
-use Rattle.mms_pdu.specs.declared.tags.TheConstants.{READ}
+use Rattle.mms_elements.specs.declared.tags.TheConstants.{READ}
 use Rattle.bay_answers.specs.RepliesContents.{results_octets}
 use Rattle.bay_answers.specs.RepliesSizes.{begun}
 use Rattle.bay_answers.specs.RepliesVariables.{asked_octets}

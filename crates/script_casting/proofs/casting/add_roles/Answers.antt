@@ -1,7 +1,7 @@
 -- why `casting::add_roles` answers as its contract says
 use Rattle.std.proofs.Common.{◌≡◌, ◌++◌, ◌∷◌, [], List, map, sym, ap, ◌∙◌, append_assoc, arith}
 use Rattle.std.specs.Prelude.{Option}
-use Rattle.script_reading.specs.Plans.{Script}
+use Rattle.script_plans.specs.Plans.{Script}
 use Rattle.race_records.specs.Merged.{lines_in}
 use Rattle.actor_scripts.proofs.Lists.{map_last}
 use Rattle.script_casting.specs.Casting.{script_steps, script_place}

@@ -1,6 +1,6 @@
 -- why `reading::read_lines` answers as its contract says
 use Rattle.std.proofs.Common.{◌≡◌, ◌++◌, ◌∷◌, length, arith, ap, subst, refl, suc, length-append}
-use Rattle.script_reading.specs.Inputs.{line_at}
+use Rattle.script_plans.specs.Inputs.{line_at}
 use Rattle.script_reading.specs.Readings.{place_of, Moved}
 use Rattle.script_reading.specs.declared.next.Next.TheVariants as nexts
 use Rattle.script_reading.proofs.ReadingLaws.{read-on, read-end}

@@ -1,7 +1,7 @@
 -- what the loops of `starting::no_scripts` keep
 use Rattle.std.proofs.Common.{◌≡◌, replicate}
 use Rattle.std.specs.Prelude.{Option, None}
-use Rattle.script_reading.specs.Plans.{Script}
+use Rattle.script_plans.specs.Plans.{Script}
 use Rattle.script_reading.proofs.starting.no_scripts.Given as goal
 
 abbrev nothing : Option Script

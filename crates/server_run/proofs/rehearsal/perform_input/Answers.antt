@@ -1,8 +1,8 @@
 -- why `rehearsal::perform_input` answers as its contract says
 use Rattle.std.proofs.Common.{subst, sym, ap, ◌∙◌}
-use Rattle.script_reading.specs.Inputs.{outcome}
+use Rattle.script_plans.specs.Inputs.{outcome}
 use Rattle.script_reading.specs.Readings.{plan_seen, Reads, IsRefused}
-use Rattle.script_reading.proofs.SoundLaws.{plans_are_sound}
+use Rattle.script_plans.proofs.SoundLaws.{plans_are_sound}
 use Rattle.server_run.proofs.DeliveryLaws.{performed-by, refused-by}
 use Rattle.server_run.proofs.rehearsal.perform_input.Goals as goal
 

@@ -1,6 +1,6 @@
 -- why `rehearsal::rehearse_gated` answers as its contract says
 use Rattle.std.proofs.Common.{◌≡◌, take, subst}
-use Rattle.script_reading.specs.Inputs.{outcome}
+use Rattle.script_plans.specs.Inputs.{outcome}
 use Rattle.server_run.specs.Rehearsals.{most, Rehearses}
 use Rattle.server_run.proofs.DeliveryLaws.{if-some}
 use Rattle.server_run.proofs.rehearsal.rehearse_gated.Goals as goal

@@ -2,7 +2,7 @@
 use Rattle.std.proofs.Common.{ap, ne_eqb}
 use Rattle.std.specs.Prelude.{if◌then◌else◌}
 use Rattle.record_outcome.specs.declared.status.Status.TheVariants as statuses
-use Rattle.script_reading.specs.Moves.{stops, ends}
+use Rattle.script_plans.specs.Moves.{stops, ends}
 use Rattle.script_reading.specs.Readings.{plan_seen, among}
 use Rattle.script_reading.proofs.scripting.Scripts.end.Goals as goal
 

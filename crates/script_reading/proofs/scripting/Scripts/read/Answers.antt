@@ -4,7 +4,7 @@ use Rattle.std.specs.Prelude.{Ok, Err}
 use Rattle.std.proofs.lemmas.Result.{IfOk-weaker}
 use Rattle.script_lines.specs.Lines.{script_line_at}
 use Rattle.script_lines.specs.Seen.{view_seen, script_seen}
-use Rattle.script_reading.specs.Inputs.{lines_at}
+use Rattle.script_plans.specs.Inputs.{lines_at}
 use Rattle.script_reading.specs.Readings.{scripts_seen, Moved}
 use Rattle.script_reading.proofs.StageLaws.{view-ranges, line-seen, fault-seen}
 use Rattle.script_reading.proofs.scripting.Scripts.read.Goals as goal

@@ -1,7 +1,7 @@
 -- why `session::Session::ended` answers as its contract says
 use Rattle.std.proofs.Common.{◌≡◌, ◌+◌, suc, arith, ap, ◌∙◌}
 use Rattle.std.proofs.lemmas.Result.{IfOk-weaker}
-use Rattle.script_reading.specs.Inputs.{passed, unended}
+use Rattle.script_plans.specs.Inputs.{passed, unended}
 use Rattle.script_reading.specs.Readings.{place_of}
 use Rattle.script_reading.proofs.RunLaws.{ended-long, ended-short}
 use Rattle.script_reading.proofs.session.Session.ended.Goals as goal

@@ -1,8 +1,8 @@
 -- why `stage::Stage::open` answers as its contract says
 use Rattle.std.proofs.Common.{sym, ap, subst, ◌∙◌}
 use Rattle.text_words.specs.Words.{texts}
-use Rattle.script_reading.specs.Openings.{headed}
-use Rattle.script_reading.specs.Moves.{goes, stops, configuring}
+use Rattle.script_plans.specs.Openings.{headed}
+use Rattle.script_plans.specs.Moves.{goes, stops, configuring}
 use Rattle.script_reading.specs.Readings.{place_of, Heads}
 use Rattle.record_outcome.specs.declared.status.Status.TheVariants as statuses
 use Rattle.script_reading.proofs.StageLaws.{open-long, open-skipped, open-headed}

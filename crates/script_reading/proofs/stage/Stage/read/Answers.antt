@@ -3,7 +3,7 @@ use Rattle.std.proofs.Common.{◌≡◌, true, false, sym, ap, subst, ◌∙◌,
 use Rattle.std.specs.Prelude.{codes}
 use Rattle.std.specs.Str.{bytes_eq}
 use Rattle.cfg_parser.specs.Looking.{config_at}
-use Rattle.script_reading.specs.Openings.{started}
+use Rattle.script_plans.specs.Openings.{started}
 use Rattle.script_reading.specs.Readings.{place_of, Moved}
 use Rattle.script_reading.proofs.StageLaws.{gathered, whole-text}
 use Rattle.script_reading.proofs.stage.Stage.read.Goals as goal

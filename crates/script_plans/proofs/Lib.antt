@@ -1,0 +1,3 @@
+-- The laws of a rehearsal's input.
+pub mod TellLaws
+pub mod SoundLaws
