@@ -136,4 +136,4 @@ concluded_spelled = (written 140 [], is_spelling 140 [] (one_octet 140 (omega ar
 -- ---- a report
 
 pub report_is_reply : (input names results : List ℕ) → IsReport input names results → IsReply input (information input)
-report_is_reply input names results (e, k, v, r, s, is_tag, more) = (e, s, (is_tag, refl))
+report_is_reply input names results h = (h.0, h.4, (h.5, refl))
