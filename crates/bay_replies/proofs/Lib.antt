@@ -9,7 +9,6 @@ pub mod GivenLaws
 -- the replies
 pub mod FitLaws
 pub mod OkLaws
-pub mod SizeLaws
 pub mod EarlyLaws
 pub mod ReplyLaws
 pub mod QuietLaws

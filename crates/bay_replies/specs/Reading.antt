@@ -1,5 +1,5 @@
 -- Results of reads, as far as a PDU can hold them (ISO 9506-2, Read).
-use Rattle.std.specs.Prelude.{◌≡◌, ◌<◌, ℕ, ◌+◌, ◌-◌, Bool, true, false, List, [], ◌∷◌, length, map, min, Option, None, Some, Result, Ok, Err, nat_le, slice_get, if◌then◌else◌}
+use Rattle.std.specs.Prelude.{◌≡◌, ◌<◌, ℕ, ◌+◌, Bool, true, false, List, [], ◌∷◌, length, map, min, Option, None, Some, Result, Ok, Err, slice_get}
 use Rattle.sv_base.specs.declared.config.Config.{Config}
 use Rattle.sv_base.specs.declared.value.Value.{Value}
 use Rattle.bay_model.specs.declared.request.Target.{Target}
@@ -8,20 +8,12 @@ use Rattle.bay_model.specs.Lookups.{node_of}
 use Rattle.bay_model.specs.Model.{Role, selecting}
 use Rattle.bay_model.specs.Configured.{control_defined}
 use Rattle.bay_model.specs.Named.{nodes, configured_model}
-use Rattle.bay_model.specs.Sizes.{access_result, are_too_long}
+use Rattle.bay_model.specs.Sizes.{access_result}
 use Rattle.sv_base.specs.declared.config.CtlDef.{CtlDef}
 use Rattle.sv_base.specs.declared.value.Value.TheVariants as kinds
 use Rattle.bay_replies.specs.Given.{target_read}
 use Rattle.bay_replies.specs.declared.reads.Read.{Read}
 use Rattle.bay_replies.specs.declared.replies.Replies.{Replies}
-
--- none where they are longer than the size
-abbrev pub held_within : ℕ → List (Result Value ℕ) → Option (List (Result Value ℕ))
-held_within size results = if are_too_long size results then None else Some results
-
--- what is left of some octets behind so many; none where these are more
-abbrev pub left_of : ℕ → ℕ → Option ℕ
-left_of left n = if nat_le n left then Some (left - n) else None
 
 -- the node of a target is there
 abbrev pub IsTarget : Config → Target → Type 0

@@ -9,18 +9,13 @@ mod replies;
 mod names;
 mod reads;
 mod sets;
-mod sizes;
 
-// what leaves read as, and copies of what is asked
-mod copies;
+// what leaves read as
 mod leaves;
-mod owned;
 
 // laws
 mod laws;
 
-pub use copies::set_name;
 pub use laws::{nodes_are_plain, nothing_comes_of_reads, opened_books_are_served};
 pub use reads::Read;
 pub use replies::{Replies, asked_variables};
-pub use sizes::are_too_long;

@@ -7,10 +7,10 @@ ghost use Rattle.sv_base.specs.declared.config.LnDef.{LnDef as LnLine};
 ghost use Rattle.bay_replies.specs.Replied.{empty_if};
 
 use crate::replies::Replies;
-use crate::sizes::names_within;
 use bay_model::{Names, Reply, Scope};
 use name_order::{in_order, names_after};
 use object_model::domains;
+use reply_parts::names_within;
 use std::alloc::{AllocError, Global};
 use sv_base::{LnDef, Octs};
 

@@ -1,5 +1,4 @@
 -- What the reading of a record stands for.
-pub mod Formed
 pub mod Plays
 pub mod Sessions
 -- and of its octets, as a source gives them

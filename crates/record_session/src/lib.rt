@@ -9,7 +9,6 @@ mod reader;
 mod session;
 
 // the parts of a record, one after another: the first line, the configuration, the steps
-mod forms;
 mod playing;
 mod stage;
 mod starting;

@@ -9,10 +9,10 @@ ghost use Rattle.bay_histories.specs.Faults.{named};
 ghost use Rattle.record_outcome.specs.Steps.{stop_of};
 ghost use Rattle.record_outcome.specs.Judgements.{IsJudgement};
 
-use crate::forms::Forms;
 use answer_text::lines_of;
 use bay_core::{Bay, StepFault};
 use bay_model::{Answer, Step};
+use record_forms::Forms;
 use record_outcome::status::Status;
 use record_steps::{Heard, Told, association};
 use run_record::{Kind, LineView, view_line};

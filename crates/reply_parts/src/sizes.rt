@@ -2,14 +2,14 @@
 
 ghost use Rattle.std.specs.Prelude.{◌≡◌, ◌<◌, ℕ, length, min, take, IfOk};
 ghost use Rattle.bay_model.specs.Sizes.{access_result, are_too_long as are_too_long_in, identifier, within};
-ghost use Rattle.bay_replies.specs.Reading.{left_of};
+ghost use Rattle.reply_parts.specs.Held.{left_of};
 
 use data_lengths::{data_len, element_len};
 use std::alloc::AllocError;
 use sv_base::{Octs, Value};
 
 /// How many octets a result has, and 4294967295 where there are more.
-pub(crate) fn result_len(one: &Result<Value, u8>) -> u32
+pub fn result_len(one: &Result<Value, u8>) -> u32
     ensures { result ≡ min (length (access_result one.now)) 4294967295 }
 {
     match one {
@@ -38,7 +38,7 @@ fn name_len(name: &[u8]) -> u32
 
 /// What is left of some octets behind as many as these, where 4294967295 stands for more; none where these are more. As many as
 /// 4294967295 want memory.
-pub(crate) fn left_behind(left: u32, len: u32) -> Result<Option<u32>, AllocError>
+pub fn left_behind(left: u32, len: u32) -> Result<Option<u32>, AllocError>
     ensures { (n : ℕ) → len ≡ min n 4294967295 → IfOk result (λ r. r ≡ left_of left n) }
 {
     if left < len {
@@ -68,7 +68,7 @@ fn count_within(size: u32, names: &[Octs]) -> Result<usize, AllocError>
 }
 
 /// Those of the names that a PDU of this size can hold, and the one after them.
-pub(crate) fn names_within(size: u32, names: Vec<Octs>) -> Result<Vec<Octs>, AllocError>
+pub fn names_within(size: u32, names: Vec<Octs>) -> Result<Vec<Octs>, AllocError>
     ensures { IfOk result (λ v. v.items ≡ within size names.items) }
 {
     let mut names = names;

@@ -41,7 +41,7 @@ impl Forms {
     ghost use Rattle.record_steps.specs.Resolved.{association_of, told_of};
     ghost use Rattle.record_steps.specs.Streams.{made};
     ghost use Rattle.record_steps.specs.Telling.{telling, most_steps};
-    ghost use Rattle.record_session.specs.Formed.{form_in};
+    ghost use Rattle.record_forms.specs.Formed.{form_in};
 
     /// None is open.
     pub fn new(alloc: Global) -> Result<Forms, AllocError>

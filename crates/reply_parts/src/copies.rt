@@ -33,7 +33,7 @@ fn copy_target(alloc: Global, target: &Target) -> Result<Target, AllocError>
 }
 
 /// The same variables again.
-pub(crate) fn copy_targets(alloc: Global, targets: &[Target]) -> Result<Targets, AllocError>
+pub fn copy_targets(alloc: Global, targets: &[Target]) -> Result<Targets, AllocError>
     ensures { IfOk result (λ ts. ts ≡ targets.now) }
 {
     let mut copies = Vec::with_capacity(alloc, targets.len())?;

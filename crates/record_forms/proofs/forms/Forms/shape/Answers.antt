@@ -3,8 +3,8 @@ use Rattle.std.proofs.Common.{◌<◌, length, ap, subst, ◌∙◌, arith}
 use Rattle.std.proofs.lemmas.List.{get_or_default}
 use Rattle.record_steps.specs.Forms.{IsSized, plain, shape_of}
 use Rattle.record_steps.specs.declared.form.Form.TheVariants.{Shut}
-use Rattle.record_session.specs.Formed.{form_in}
-use Rattle.record_session.proofs.forms.Forms.shape.Goals as goal
+use Rattle.record_forms.specs.Formed.{form_in}
+use Rattle.record_forms.proofs.forms.Forms.shape.Goals as goal
 
 pub returns-clause-shape : goal.returns-clause-shape
 returns-clause-shape c =

@@ -7,7 +7,7 @@ use Rattle.std.proofs.lemmas.Bool.Decides.{nat_tests}
 use Rattle.std.proofs.lemmas.List.{drop_all}
 use Rattle.sv_base.specs.declared.value.Value.{Value}
 use Rattle.bay_model.specs.Sizes.{access_result, identifier, within}
-use Rattle.bay_replies.specs.Reading.{left_of, held_within}
+use Rattle.reply_parts.specs.Held.{left_of, held_within}
 
 -- ---- what is left
 

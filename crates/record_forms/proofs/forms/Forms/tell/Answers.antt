@@ -8,8 +8,8 @@ use Rattle.record_steps.specs.Forms.{IsSized, Stands, form_behind}
 use Rattle.record_steps.specs.Resolved.{association_of}
 use Rattle.record_steps.specs.declared.form.Form.{Form}
 use Rattle.record_steps.specs.declared.form.Form.TheVariants.{Shut}
-use Rattle.record_session.specs.Formed.{form_in}
-use Rattle.record_session.proofs.forms.Forms.tell.Goals as goal
+use Rattle.record_forms.specs.Formed.{form_in}
+use Rattle.record_forms.proofs.forms.Forms.tell.Goals as goal
 
 -- what is lent is what the association is
 at-place : (items forms : List Form) (a : ℕ) (form : Form) → items ≡ forms → a < length items → form ≡ get_or items a form → form_in forms a ≡ form

@@ -8,7 +8,7 @@ use std::alloc::{AllocError, Global};
 use sv_base::{Bits, Octs, Value};
 
 /// The same value, of its own.
-pub(crate) fn owned(alloc: Global, value: ValueRef<'_>) -> Result<Value, AllocError>
+pub fn owned(alloc: Global, value: ValueRef<'_>) -> Result<Value, AllocError>
     ensures { IfOk result (λ v. v ≡ lent value.entry) }
 {
     match value {

@@ -1,7 +1,7 @@
 -- what the loops of `sizes::count_within` keep, and why they end
 use Rattle.std.proofs.Common.{◌≡◌, ◌≤◌, ◌-◌, ◌++◌, length, take, drop}
 use Rattle.bay_model.specs.Sizes.{within}
-use Rattle.bay_replies.proofs.sizes.count_within.Given as goal
+use Rattle.reply_parts.proofs.sizes.count_within.Given as goal
 
 abbrev pub invariant-loop-count : goal.invariant-loop-count
 invariant-loop-count l = record {

@@ -1,0 +1,2 @@
+-- what the associations are, by their numbers
+pub mod Formed

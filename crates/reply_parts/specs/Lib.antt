@@ -1,0 +1,2 @@
+-- results, as far as a PDU can hold them
+pub mod Held
